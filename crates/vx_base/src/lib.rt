@@ -1,0 +1,6 @@
+// What every layer of the compiler stands on: 32-bit arithmetic, how runs end and when two are the same,
+// lists that contracts see as lists, and the files and sinks of the outside.
+#![tactic(auto)]
+
+pub mod listed;
+pub mod outcome;
