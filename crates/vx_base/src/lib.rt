@@ -4,3 +4,4 @@
 
 pub mod listed;
 pub mod outcome;
+pub mod sink;
