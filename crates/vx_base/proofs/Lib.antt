@@ -1,1 +1,2 @@
+pub mod MemFiles
 pub mod PutSoFar

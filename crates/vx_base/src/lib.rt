@@ -2,6 +2,7 @@
 // lists that contracts see as lists, and the files and sinks of the outside.
 #![tactic(auto)]
 
+pub mod depot;
 pub mod listed;
 pub mod outcome;
 pub mod sink;
