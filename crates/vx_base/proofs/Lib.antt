@@ -1,2 +1,3 @@
+pub mod FileSoFar
 pub mod MemFiles
 pub mod PutSoFar

@@ -5,4 +5,5 @@
 pub mod depot;
 pub mod listed;
 pub mod outcome;
+pub mod reading;
 pub mod sink;
