@@ -3,6 +3,7 @@
 #![tactic(auto)]
 
 pub mod depot;
+pub mod lines;
 pub mod listed;
 pub mod outcome;
 pub mod reading;
