@@ -6,5 +6,6 @@ pub mod depot;
 pub mod lines;
 pub mod listed;
 pub mod outcome;
+pub mod real;
 pub mod reading;
 pub mod sink;
