@@ -1,5 +1,5 @@
 -- Finding and setting a file by its name in a list of files.
-use Rattle.std.proofs.Common.{◌≡◌, ◌<◌, ◌≤◌, ◌+◌, ◌-◌, min, take, drop, take-append-drop, ℕ, suc, zero, Bool, true, false, not, if◌then◌else◌, List, [], ◌∷◌, ◌++◌, length, get_or, set, Option, None, Some, Vec, refl, ap, sym, ◌∙◌, arith, inl, inr, one-add}
+use Rattle.std.proofs.Common.{◌≡◌, ◌<◌, ◌≤◌, ◌-◌, min, take, drop, take-append-drop, ℕ, Bool, true, false, not, if◌then◌else◌, List, [], ◌∷◌, ◌++◌, length, get_or, set, Option, None, Some, Vec, refl, ap, sym, ◌∙◌, arith, inl, inr, one-add}
 use Rattle.std.specs.Prelude.{String, string_bytes}
 use Rattle.std.specs.declared.alloc.Global.{Global}
 use Rattle.std.specs.List.{prefix_len}
@@ -7,7 +7,7 @@ use Rattle.std.specs.Str.{bytes_eq}
 use Rattle.std.proofs.lemmas.Bool.{cases_Bool, false≢true}
 use Rattle.std.proofs.lemmas.Slice.Eq.{bytes_eq-Decides}
 use Rattle.std.proofs.lemmas.List.Sums.{prefix_len_stops}
-use Rattle.vx_base.specs.Outside.{content_in, named_files, named_file, held_with, Files, ReadsAt}
+use Rattle.vx_base.specs.Outside.{content_in, named_files, held_with, Files, ReadsAt}
 
 abbrev pub Stored : Type 0
 Stored = String Global × Vec ℕ Global

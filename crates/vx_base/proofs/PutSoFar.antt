@@ -1,7 +1,6 @@
 -- How far the putting of a text has come: a front of it was put, and the rest is left.
-use Rattle.std.proofs.Common.{◌≡◌, ℕ, List, [], ◌∷◌, ◌++◌, ◌-◌, length, take, drop, take_all, length-drop, arith, Option, None, Some, refl, ap, sym, ◌∙◌, append_assoc, append-nil, take-append-drop}
+use Rattle.std.proofs.Common.{◌≡◌, ℕ, List, [], ◌++◌, ◌-◌, length, take, drop, take_all, length-drop, arith, Option, None, Some, refl, ap, sym, ◌∙◌, append_assoc, append-nil, take-append-drop}
 use Rattle.std.proofs.lemmas.List.{nil_from_length}
-use Rattle.vx_base.specs.Outcome.{Begins}
 use Rattle.vx_base.specs.Outside.{with_bytes, PutsFront}
 
 pub record PutSoFar (before after : Option (List ℕ)) (bytes rest : List ℕ) : Type 0 where

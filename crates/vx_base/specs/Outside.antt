@@ -1,5 +1,5 @@
 -- What a depot of files and a sink of bytes do in a call, as their contracts and those of their callers say it.
-use Rattle.std.specs.Prelude.{◌≡◌, ◌⊎◌, ◌<◌, ◌≤◌, ◌+◌, ◌-◌, ◌^◌, ◌==◌, ℕ, Bool, List, [], ◌∷◌, ◌++◌, length, take, drop, min, Option, None, Some, if◌then◌else◌, ◌||◌, ◌&&◌, not, map, String, string_bytes, Vec}
+use Rattle.std.specs.Prelude.{◌≡◌, ◌≢◌, ◌⊎◌, ◌<◌, ◌≤◌, ◌+◌, ◌-◌, ◌^◌, ◌==◌, ℕ, Bool, List, [], ◌∷◌, ◌++◌, length, take, drop, min, Option, None, Some, if◌then◌else◌, ◌||◌, ◌&&◌, not, map, String, string_bytes, Vec}
 use Rattle.std.specs.declared.alloc.Global.{Global}
 use Rattle.std.specs.Option.{option_map}
 use Rattle.std.specs.List.{list_any}
@@ -122,3 +122,21 @@ bytes_that_fit sink bytes = min (sink.room - length sink.bytes) (length bytes)
 -- the next put of these bytes fails: its number is listed, or there are bytes and none fits
 abbrev pub put_fails : SinkMemory → List ℕ → Bool
 put_fails sink bytes = is_listed (one_more sink.puts) sink.failing || (bytes_that_fit sink bytes == 0 && not (length bytes == 0))
+
+-- Laws, each the clause of a public function
+
+-- a file that was replaced holds its bytes
+abbrev pub ReplacedHolds : Type 0
+ReplacedHolds = (name bytes : List ℕ) (held : Files) → held_with name bytes held name ≡ Some bytes
+
+-- each other name holds what it held
+abbrev pub OthersStay : Type 0
+OthersStay = (name bytes : List ℕ) (held : Files) (other : List ℕ) → other ≢ name → held_with name bytes held other ≡ held other
+
+-- bytes put in two pieces are those put in one
+abbrev pub PiecesJoin : Type 0
+PiecesJoin = (told : Option (List ℕ)) (front back : List ℕ) → with_bytes (with_bytes told front) back ≡ with_bytes told (front ++ back)
+
+-- a count that never falls and rose in a call, rose over all calls
+abbrev pub RoseThroughout : Type 0
+RoseThroughout = (first before after last : ℕ) → first ≤ before → before ≤ after → after ≤ last → Rose before after → Rose first last

@@ -1,5 +1,5 @@
 -- What the reading of a whole file, up to a bound on its length, answers.
-use Rattle.std.specs.Prelude.{◌≡◌, ◌<◌, ◌≤◌, ℕ, List, length, Option, Some}
+use Rattle.std.specs.Prelude.{◌≡◌, ◌<◌, ◌≤◌, ℕ, List, length, Some}
 use Rattle.vx_base.specs.declared.reading.FileRead.{FileRead}
 use Rattle.vx_base.specs.declared.reading.FileRead.TheVariants.{Whole, TooLong}
 use Rattle.vx_base.specs.Outside.{Files}

@@ -6,6 +6,7 @@ pub mod depot;
 pub mod lines;
 pub mod listed;
 pub mod outcome;
-pub mod real;
+pub mod outside_laws;
 pub mod reading;
+pub mod real;
 pub mod sink;

@@ -1,4 +1,4 @@
-use Rattle.std.proofs.Common.{◌∙◌, sym, ap, ◌≡◌, ◌<◌, ◌≤◌, length, arith, Some, List, ℕ}
+use Rattle.std.proofs.Common.{◌∙◌, sym, ap, ◌<◌, ◌≤◌, length, arith, Some, List, ℕ}
 use Rattle.std.specs.List.{prefix_len}
 use Rattle.vx_base.proofs.MemFiles.{content-here, content-none, is_other}
 use Rattle.vx_base.proofs.depot.content_of.Goals as goal

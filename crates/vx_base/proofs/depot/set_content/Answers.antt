@@ -1,7 +1,6 @@
-use Rattle.std.proofs.Common.{◌≡◌, ◌<◌, ◌≤◌, ◌∙◌, List, ℕ, length, arith, sym, refl, ap, Vec}
+use Rattle.std.proofs.Common.{◌≡◌, ◌<◌, ◌≤◌, ◌∙◌, List, length, arith, ap}
 use Rattle.std.specs.List.{prefix_len}
-use Rattle.std.specs.Prelude.{String, string_bytes}
-use Rattle.std.specs.declared.alloc.Global.{Global}
+use Rattle.std.specs.Prelude.{string_bytes}
 use Rattle.std.proofs.Math.Path.{fun_ext}
 use Rattle.vx_base.proofs.MemFiles.{content-set, content-push, name-here, is_other, Stored}
 use Rattle.vx_base.proofs.depot.set_content.Goals as goal

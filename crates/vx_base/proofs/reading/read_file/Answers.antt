@@ -1,5 +1,5 @@
-use Rattle.std.proofs.Common.{◌≡◌, ◌<◌, ◌≤◌, ◌+◌, List, ℕ, ◌++◌, length, take, sym, refl, ◌∙◌, ap, arith, length-append, length-take-le}
-use Rattle.vx_base.proofs.FileSoFar.{FileSoFar-start, FileSoFar-more, ReadsFile-whole, ReadsFile-too_long, reads_along, FileSoFar}
+use Rattle.std.proofs.Common.{◌≡◌, ◌≤◌, List, ℕ, ◌++◌, length, take, refl, ◌∙◌, ap, arith, length-append, length-take-le}
+use Rattle.vx_base.proofs.FileSoFar.{FileSoFar-start, FileSoFar-more, ReadsFile-whole, ReadsFile-too_long, reads_along}
 use Rattle.vx_base.proofs.reading.read_file.Goals as goal
 
 pub pieces-init : goal.pieces-init

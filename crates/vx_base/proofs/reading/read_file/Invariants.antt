@@ -1,4 +1,4 @@
-use Rattle.std.proofs.Common.{◌≡◌, ◌≤◌, ◌+◌, ◌-◌, length}
+use Rattle.std.proofs.Common.{◌≡◌, ◌≤◌, ◌-◌, length}
 use Rattle.vx_base.proofs.FileSoFar.{FileSoFar}
 use Rattle.vx_base.proofs.reading.read_file.Given as goal
 
