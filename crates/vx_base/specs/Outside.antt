@@ -51,6 +51,11 @@ pub record HoldsFront (before after : Option Files) (name bytes : List ℕ) : Ty
 abbrev pub ReplacesPartly : Option Files → Option Files → List ℕ → List ℕ → Type 0
 ReplacesPartly before after name bytes = (after ≡ before) ⊎ HoldsFront before after name bytes
 
+-- the failures that a depot has counted
+pub record DepotCounts : Type 0 where
+  pub failed_reads : ℕ
+  pub failed_replaces : ℕ
+
 -- Files in memory
 
 pub record NamedFile : Type 0 where

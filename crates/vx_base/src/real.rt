@@ -1,10 +1,11 @@
 // The files and streams of the system, as a depot and as a sink. They tell no content, since no contract can say
-// what a file or a stream holds; each failure is counted.
-ghost use Rattle.std.specs.Prelude.{None, IfOk, length, ◌≤◌};
+// what a file or a stream holds; each failure is counted. In a contract each is its counts.
+ghost use Rattle.std.specs.Prelude.{None, ◌≡◌, IfOk, length, ◌≤◌};
 
 use crate::depot::{Depot, DepotFault};
 use crate::sink::{Sink, SinkFault};
 use std::io::{ErrorKind, Read, Seek, SeekFrom, Write};
+use std::marker::Model;
 use std::rt::Files;
 use std::{fs, io};
 
@@ -16,9 +17,19 @@ pub struct RealDepot<R> {
     failed_replaces: u64,
 }
 
+impl<R> Model for RealDepot<R> {
+    ghost use Rattle.vx_base.specs.Outside.{DepotCounts};
+
+    ghost Value = { DepotCounts };
+
+    ghost view = { λ a. record { failed_reads = a.failed_reads; failed_replaces = a.failed_replaces } };
+}
+
 impl<R: Files> RealDepot<R> {
     /// The files that a runtime reaches, with no failure counted.
-    pub fn make(rt: R) -> RealDepot<R> {
+    pub fn make(rt: R) -> RealDepot<R>
+        ensures { result ≡ record { failed_reads = 0; failed_replaces = 0 } }
+    {
         RealDepot {
             rt,
             failed_reads: 0,
@@ -75,9 +86,19 @@ pub struct RealSink<W> {
     faults: u64,
 }
 
+impl<W> Model for RealSink<W> {
+    ghost use Rattle.std.specs.Prelude.{ℕ};
+
+    ghost Value = { ℕ };
+
+    ghost view = { λ a. a.faults };
+}
+
 impl<W: Write> RealSink<W> {
     /// A sink that writes to this writer, with no fault counted.
-    pub fn make(to: W) -> RealSink<W> {
+    pub fn make(to: W) -> RealSink<W>
+        ensures { result ≡ 0 }
+    {
         RealSink { to, faults: 0 }
     }
 }
@@ -85,7 +106,7 @@ impl<W: Write> RealSink<W> {
 impl<W: Write> Sink for RealSink<W> {
     ghost told = { λ _. None };
 
-    ghost faults = { λ sink. sink.faults };
+    ghost faults = { λ sink. sink };
 
     fn put(&mut self, bytes: &[u8]) -> Result<usize, SinkFault> {
         match self.to.write(bytes) {
