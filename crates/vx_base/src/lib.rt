@@ -2,6 +2,8 @@
 // lists that contracts see as lists, and the files and sinks of the outside.
 #![tactic(auto)]
 
+pub mod arithmetic;
+pub mod laws;
 pub mod depot;
 pub mod lines;
 pub mod listed;

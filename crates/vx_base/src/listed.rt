@@ -1,23 +1,32 @@
 // A list that contracts see as a list. Public types hold their lists in it, so that a clause compares
 // what a list holds and not the memory that holds it.
 
-ghost use Rattle.std.specs.Prelude.{◌≡◌, ◌==◌, [], ◌∷◌, ◌++◌, length, IfOk, OnErr};
+ghost use Rattle.std.specs.Prelude.{◌≡◌, ◌==◌, ◌<◌, ◌^◌, [], ◌∷◌, ◌++◌, length, IfOk, OnErr};
 
 use std::alloc::{AllocError, Global};
 use std::marker::Model;
 
-/// A growable list. Its value in a contract is the list of its items, first item first.
+/// The most items of a list: places in it are `u32` numbers.
+pub const MOST_ITEMS: usize = 4294967295;
+
+/// A list of bytes.
+pub type Bytes = Listed<u8>;
+
+/// A growable list of at most 2^32 - 1 items. Its value in a contract is the list of its items, first item first.
+/// A growth past its room is want of memory.
 #[derive(Drop, Debug)]
 pub struct Listed<T: Drop> {
     items: Vec<T>,
 }
 
 impl<T: Drop> Model for Listed<T> {
-    ghost use Rattle.std.specs.Prelude.{List};
+    ghost use Rattle.std.specs.Prelude.{List, length, ◌<◌, ◌^◌};
 
     ghost Value = { List T };
 
     ghost view = { λ a. a.items.items };
+
+    ghost invariant = { λ a. length a.items.items < 2 ^ 32 };
 }
 
 impl<T: Drop> Listed<T> {
@@ -31,10 +40,13 @@ impl<T: Drop> Listed<T> {
     }
 
     /// The list of a vector.
-    pub fn from_vec(items: Vec<T>) -> Listed<T>
-        ensures { result ≡ items.items }
+    pub fn from_vec(items: Vec<T>) -> Result<Listed<T>, AllocError>
+        ensures { IfOk result (λ list. list ≡ items.items) }
     {
-        Listed { items }
+        if items.len() > MOST_ITEMS {
+            return Err(AllocError);
+        }
+        Ok(Listed { items })
     }
 
     /// The vector that holds the list.
@@ -53,7 +65,8 @@ impl<T: Drop> Listed<T> {
 
     /// How many items there are.
     pub fn len(&self) -> usize
-        ensures { result ≡ length self.now }
+        ensures len { result ≡ length self.now }
+        ensures few { result < 2 ^ 32 }
     {
         self.items.len()
     }
@@ -70,6 +83,9 @@ impl<T: Drop> Listed<T> {
         ensures ok { IfOk result (λ _. self.new ≡ self.old ++ item ∷ []) }
         ensures err { OnErr result (self.new ≡ self.old) }
     {
+        if self.items.len() >= MOST_ITEMS {
+            return Err(AllocError);
+        }
         match self.items.push(item) {
             Ok(()) => Ok(()),
             Err(_) => Err(AllocError),

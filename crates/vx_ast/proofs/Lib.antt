@@ -1,0 +1,3 @@
+pub mod Texts
+pub mod Lexing
+pub mod Rows

@@ -1,0 +1,5 @@
+pub mod Tree
+pub mod View
+pub mod Meaning
+pub mod Small
+pub mod SmallReader

@@ -1,0 +1,309 @@
+// The arithmetic of 32-bit numbers: the operations of the units alu and multiply, and the parts of them that the
+// meaning of the source names. Each result is exact, and nothing here takes memory. The bodies are wrapping machine
+// operations; the clauses say what whole numbers give, reduced once.
+
+ghost use Rattle.std.specs.Prelude.{◌≡◌};
+ghost use Rattle.vx_base.specs.Arithmetic.{and_of, compare_of, difference_of, mpyhs_of, mpylu_of, or_of, product_of, quotient_of, remainder_of, sh2add_of, shl_of, shr_of, shru_of, sum_of, value_of, xor_of, DivisionLaw, IndexCheck, ProductByHalves, ValueFits, WrapReduces, WrapsAlike};
+
+/// How two numbers are compared: signed, but for the last two, which read both without sign.
+#[derive(Clone, Copy, PartialEq, Eq, Debug)]
+pub enum Compare {
+    /// Equal.
+    Eq,
+    /// Not equal.
+    Ne,
+    /// Less.
+    Lt,
+    /// Less or equal.
+    Le,
+    /// Greater.
+    Gt,
+    /// Greater or equal.
+    Ge,
+    /// Less, without sign.
+    Ltu,
+    /// Greater or equal, without sign.
+    Geu,
+}
+
+/// An operation of the units alu and multiply on two numbers.
+#[derive(Clone, Copy, PartialEq, Eq, Debug)]
+pub enum Code {
+    /// The sum.
+    Add,
+    /// The difference.
+    Sub,
+    /// The bits set in both.
+    And,
+    /// The bits set in either.
+    Or,
+    /// The bits set in exactly one.
+    Xor,
+    /// Shifted left by the low five bits of the right operand.
+    Shl,
+    /// Shifted right so, copying the sign.
+    Shr,
+    /// Shifted right so, with zeros.
+    Shru,
+    /// Four times the left operand plus the right one.
+    Sh2add,
+    /// The greater, signed.
+    Max,
+    /// The lesser, signed.
+    Min,
+    /// The left operand. The right one is not read.
+    Mov,
+    /// 1 where the comparison holds, else 0, to a general register.
+    ToGeneral(Compare),
+    /// The same to a branch register.
+    ToBranch(Compare),
+    /// The left operand times the low half of the right one, unsigned.
+    Mpylu,
+    /// The left operand times the high half of the right one times 2 ^ 16, unsigned.
+    Mpyhs,
+    /// The quotient, rounded toward zero, and 0 by 0.
+    Div,
+    /// The remainder of that quotient, and 0 by 0.
+    Rem,
+}
+
+/// `a + b`, modulo 2 ^ 32.
+#[tactic(auto, using(std::proofs::lemmas::Int::wrapping_add_is), unfolding(crate::specs::Arithmetic::sum_of))]
+pub fn add32(a: i32, b: i32) -> i32
+    ensures { result ≡ sum_of a b }
+{
+    a.wrapping_add(b)
+}
+
+/// `a - b`, modulo 2 ^ 32.
+#[tactic(auto, using(std::proofs::lemmas::Int::wrapping_sub_is), unfolding(crate::specs::Arithmetic::difference_of))]
+pub fn sub32(a: i32, b: i32) -> i32
+    ensures { result ≡ difference_of a b }
+{
+    a.wrapping_sub(b)
+}
+
+/// `a * b`, modulo 2 ^ 32.
+#[tactic(auto, using(std::proofs::lemmas::Int::wrapping_mul_is), unfolding(crate::specs::Arithmetic::product_of))]
+pub fn mul32(a: i32, b: i32) -> i32
+    ensures { result ≡ product_of a b }
+{
+    a.wrapping_mul(b)
+}
+
+/// `a / b`, rounded toward zero, and 0 where `b` is 0. The least number divided by -1 is itself.
+#[tactic(auto, using(crate::proofs::ArithmeticSteps::machine))]
+pub fn div32(a: i32, b: i32) -> i32
+    ensures { result ≡ quotient_of a b }
+{
+    if b == 0 { 0 } else { a.wrapping_div(b) }
+}
+
+/// `a % b`, with the sign of `a`, and 0 where `b` is 0.
+#[tactic(auto, using(crate::proofs::ArithmeticSteps::machine))]
+pub fn rem32(a: i32, b: i32) -> i32
+    ensures { result ≡ remainder_of a b }
+{
+    if b == 0 { 0 } else { a.wrapping_rem(b) }
+}
+
+/// `a << b`, by the low five bits of `b`.
+#[tactic(auto, using(crate::proofs::ArithmeticSteps::machine))]
+pub fn shl32(a: i32, b: i32) -> i32
+    ensures { result ≡ shl_of a b }
+{
+    a.wrapping_shl(b.cast_unsigned())
+}
+
+/// `a >> b`, by the low five bits of `b`. The sign is copied.
+#[tactic(auto, using(crate::proofs::ArithmeticSteps::machine))]
+pub fn shr32(a: i32, b: i32) -> i32
+    ensures { result ≡ shr_of a b }
+{
+    a.wrapping_shr(b.cast_unsigned())
+}
+
+/// Whether `a` and `b` compare so.
+pub fn cmp32(code: Compare, a: i32, b: i32) -> bool
+    ensures { result ≡ compare_of code a b }
+{
+    match code {
+        Compare::Eq => a == b,
+        Compare::Ne => a != b,
+        Compare::Lt => a < b,
+        Compare::Le => a <= b,
+        Compare::Gt => a > b,
+        Compare::Ge => a >= b,
+        Compare::Ltu => a.cast_unsigned() < b.cast_unsigned(),
+        Compare::Geu => a.cast_unsigned() >= b.cast_unsigned(),
+    }
+}
+
+/// The bits set in both `a` and `b`.
+#[tactic(auto, using(crate::proofs::ArithmeticSteps::machine))]
+fn and32(a: i32, b: i32) -> i32
+    ensures { result ≡ and_of a b }
+{
+    (a.cast_unsigned() & b.cast_unsigned()).cast_signed()
+}
+
+/// The bits set in `a` or in `b`.
+#[tactic(auto, using(crate::proofs::ArithmeticSteps::machine))]
+fn or32(a: i32, b: i32) -> i32
+    ensures { result ≡ or_of a b }
+{
+    (a.cast_unsigned() | b.cast_unsigned()).cast_signed()
+}
+
+/// The bits set in exactly one of `a` and `b`.
+#[tactic(auto, using(crate::proofs::ArithmeticSteps::machine))]
+fn xor32(a: i32, b: i32) -> i32
+    ensures { result ≡ xor_of a b }
+{
+    (a.cast_unsigned() ^ b.cast_unsigned()).cast_signed()
+}
+
+/// `a` shifted right by the low five bits of `b`, with zeros.
+#[tactic(auto, using(crate::proofs::ArithmeticSteps::machine))]
+fn shru32(a: i32, b: i32) -> i32
+    ensures { result ≡ shru_of a b }
+{
+    a.cast_unsigned()
+        .wrapping_shr(b.cast_unsigned())
+        .cast_signed()
+}
+
+/// `4 * a + b`, modulo 2 ^ 32.
+#[tactic(auto, using(crate::proofs::ArithmeticSteps::machine))]
+fn sh2add32(a: i32, b: i32) -> i32
+    ensures { result ≡ sh2add_of a b }
+{
+    4i32.wrapping_mul(a).wrapping_add(b)
+}
+
+/// `a` times the low half of `b`, modulo 2 ^ 32.
+#[tactic(auto, using(crate::proofs::ArithmeticSteps::machine))]
+fn mpylu32(a: i32, b: i32) -> i32
+    ensures { result ≡ mpylu_of a b }
+{
+    let low = b.cast_unsigned() % 0x1_0000;
+    a.cast_unsigned().wrapping_mul(low).cast_signed()
+}
+
+/// `a` times the high half of `b` times 2 ^ 16, modulo 2 ^ 32.
+#[tactic(auto, using(crate::proofs::ArithmeticSteps::machine))]
+fn mpyhs32(a: i32, b: i32) -> i32
+    ensures { result ≡ mpyhs_of a b }
+{
+    let high = b.cast_unsigned() / 0x1_0000 * 0x1_0000;
+    a.cast_unsigned().wrapping_mul(high).cast_signed()
+}
+
+/// The result of an operation.
+pub fn value(code: Code, a: i32, b: i32) -> i32
+    ensures { result ≡ value_of code a b }
+{
+    match code {
+        Code::Add => add32(a, b),
+        Code::Sub => sub32(a, b),
+        Code::And => and32(a, b),
+        Code::Or => or32(a, b),
+        Code::Xor => xor32(a, b),
+        Code::Shl => shl32(a, b),
+        Code::Shr => shr32(a, b),
+        Code::Shru => shru32(a, b),
+        Code::Sh2add => sh2add32(a, b),
+        Code::Max => a.max(b),
+        Code::Min => a.min(b),
+        Code::Mov => a,
+        Code::ToGeneral(compare) => i32::from(cmp32(compare, a, b)),
+        Code::ToBranch(compare) => i32::from(cmp32(compare, a, b)),
+        Code::Mpylu => mpylu32(a, b),
+        Code::Mpyhs => mpyhs32(a, b),
+        Code::Div => div32(a, b),
+        Code::Rem => rem32(a, b),
+    }
+}
+
+/// A product is the sum of what the two half multiplications give.
+#[tactic(auto, using(crate::proofs::ArithmeticLaws::product_by_halves_law))]
+pub fn product_by_halves()
+    ensures { ProductByHalves }
+{}
+
+/// Every result is a number of 32 bits.
+#[tactic(auto, using(crate::proofs::ArithmeticLaws::value_fits_law))]
+pub fn value_fits()
+    ensures { ValueFits }
+{}
+
+/// A reduction gives the number of 32 bits that differs by a multiple of 2 ^ 32.
+pub fn wrap_reduces()
+    ensures { WrapReduces }
+{}
+
+/// Two numbers are reduced alike exactly where they differ by a multiple of 2 ^ 32.
+#[tactic(auto, using(crate::proofs::WrapLaws::wraps_alike_law))]
+pub fn wraps_alike()
+    ensures { WrapsAlike }
+{}
+
+/// Quotient times divisor plus remainder is the dividend, where the divisor is not 0.
+#[tactic(auto, using(crate::proofs::ArithmeticLaws::division_holds))]
+pub fn division_law()
+    ensures { DivisionLaw }
+{}
+
+/// One compare without sign with a size tells the indices from 0 below it.
+#[tactic(auto, using(crate::proofs::ArithmeticLaws::index_check_law))]
+pub fn index_check()
+    ensures { IndexCheck }
+{}
+
+#[cfg(test)]
+mod tests {
+    use super::*;
+
+    #[test]
+    fn the_parts_at_their_edges(rt: HostRuntime) {
+        assert_eq!(rt; add32(2147483647, 1), -2147483648);
+        assert_eq!(rt; sub32(-2147483648, 1), 2147483647);
+        assert_eq!(rt; mul32(100000, 100000), 1410065408);
+        assert_eq!(rt; div32(-2147483648, -1), -2147483648);
+        assert_eq!(rt; div32(-7, 2), -3);
+        assert_eq!(rt; div32(5, 0), 0);
+        assert_eq!(rt; rem32(-7, 2), -1);
+        assert_eq!(rt; rem32(5, 0), 0);
+        assert_eq!(rt; shl32(1, 33), 2);
+        assert_eq!(rt; shr32(-8, 33), -4);
+        assert!(rt; cmp32(Compare::Le, 3, 3));
+        assert!(rt; !cmp32(Compare::Ltu, -1, 0));
+    }
+
+    #[test]
+    fn the_value_of_each_code(rt: HostRuntime) {
+        for (code, a, b, want) in [
+            (Code::Add, 2147483647, 1, -2147483648),
+            (Code::Sub, -2147483648, 1, 2147483647),
+            (Code::And, -4, 7, 4),
+            (Code::Or, -8, 5, -3),
+            (Code::Xor, -1, 5, -6),
+            (Code::Shl, 1, 33, 2),
+            (Code::Shr, -8, 1, -4),
+            (Code::Shru, -1, 28, 15),
+            (Code::Sh2add, -1, 8, 4),
+            (Code::Max, -1, 0, 0),
+            (Code::Min, -1, 0, -1),
+            (Code::Mov, 7, 9, 7),
+            (Code::ToGeneral(Compare::Lt), -1, 0, 1),
+            (Code::ToBranch(Compare::Ltu), -1, 0, 0),
+            (Code::ToBranch(Compare::Geu), -1, 0, 1),
+            (Code::Mpylu, 100000, 100000, -848567296),
+            (Code::Mpyhs, 100000, 100000, -2036334592),
+            (Code::Div, -7, 2, -3),
+            (Code::Rem, -7, 2, -1),
+        ] {
+            assert_eq!(rt; value(code, a, b), want, "{code:?} of {a} and {b}");
+        }
+    }
+}

@@ -1,0 +1,2 @@
+// The compiler: from the bytes of a source to the bytes of its words.
+#![tactic(auto)]

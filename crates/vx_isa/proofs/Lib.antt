@@ -1,0 +1,3 @@
+mod MachineRows
+pub mod Lists
+pub mod FitsLaw

@@ -1,0 +1,6 @@
+pub mod Numbers
+pub mod Operations
+pub mod Fits
+pub mod Machine
+pub mod Strict
+pub mod Sound

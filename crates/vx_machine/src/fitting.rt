@@ -1,0 +1,201 @@
+// Whether a word fits a machine: slots, units and ports of each cluster, copy paths, the one control place and
+// the one observable operation. The clause is `fits` of vx_isa, and `fits_law` says it for every cluster.
+
+ghost use Rattle.std.specs.Prelude.{◌≡◌, ◌≤◌, ◌++◌, ◌&&◌, nat_lt, nat_le, true, length, count_by};
+ghost use Rattle.std.specs.List.{list_all};
+ghost use Rattle.vx_isa.specs.declared.operation.UnitKind.TheVariants.{Copies};
+ghost use Rattle.vx_isa.specs.Operations.{cluster_of, list_of, reads_of, destination_of, is_control, is_observable};
+ghost use Rattle.vx_isa.specs.Fits.{count_on, is_of, takes_read_port, takes_write_port, reads_on, writes_on, fits_cluster, is_in_file, operands, destinations, stands_on, all_below, fits};
+
+use crate::Machine;
+use vx_isa::operation::{Operation, Register, UnitKind};
+use vx_isa::program::Word;
+
+/// Whether the word fits the machine. It takes no memory.
+pub fn fits(machine: &Machine, word: &Word) -> bool
+    ensures { result ≡ fits machine.now word.now.ops }
+{
+    let ops = word.ops.as_slice();
+    machine.keeps_ranges();
+    stands_on(machine, ops) && fits_clusters(machine, ops) && fits_whole(machine, ops)
+}
+
+/// Whether the whole word has its copy paths, and at most one control and one observable operation.
+fn fits_whole(machine: &Machine, ops: &[Operation]) -> bool
+    ensures { result ≡ (nat_le (count_by (is_of Copies) ops.now) machine.now.copy_paths && nat_le (count_by is_control ops.now) 1 && nat_le (count_by is_observable ops.now) 1) }
+{
+    count_of(ops, UnitKind::Copies) <= machine.copy_paths() as usize
+        && count_of_control(ops) <= 1
+        && count_of_observable(ops) <= 1
+}
+
+/// Whether each operation and each register stands on a cluster that the machine has, and each register's number
+/// is below its file's size.
+fn stands_on(machine: &Machine, ops: &[Operation]) -> bool
+    ensures { result ≡ stands_on machine.now ops.now }
+{
+    has_clusters(machine, ops) && has_registers(machine, ops)
+}
+
+#[tactic(auto, using(vx_isa::proofs::FitsLaw::registers_pass))]
+fn has_registers(machine: &Machine, ops: &[Operation]) -> bool
+    ensures { result ≡ list_all (is_in_file machine.now) (operands ops.now ++ destinations ops.now) }
+{
+    has_operands(machine, ops) && has_destinations(machine, ops)
+}
+
+fn has_clusters(machine: &Machine, ops: &[Operation]) -> bool
+    ensures { result ≡ list_all (λ op. nat_lt (cluster_of op) machine.now.clusters) ops.now }
+{
+    ops.iter().all(|op| op.cluster() < machine.clusters())
+}
+
+fn has_operands(machine: &Machine, ops: &[Operation]) -> bool
+    ensures { result ≡ list_all (λ op. list_all (is_in_file machine.now) (reads_of op)) ops.now }
+{
+    ops.iter().all(|op| has_reads(machine, op))
+}
+
+fn has_destinations(machine: &Machine, ops: &[Operation]) -> bool
+    ensures { result ≡ list_all (λ op. list_all (is_in_file machine.now) (list_of (destination_of op))) ops.now }
+{
+    ops.iter().all(|op| has_named(machine, op.destination()))
+}
+
+fn has_reads(machine: &Machine, op: &Operation) -> bool
+    ensures { result ≡ list_all (is_in_file machine.now) (reads_of op.now) }
+{
+    let [first, second, third] = op.reads();
+    has_named(machine, first) && has_named(machine, second) && has_named(machine, third)
+}
+
+fn has_named(machine: &Machine, named: Option<Register>) -> bool
+    ensures { result ≡ list_all (is_in_file machine.now) (list_of named) }
+{
+    match named {
+        Some(Register::General(r)) => {
+            r.cluster < machine.clusters() && r.number < machine.registers()
+        }
+        Some(Register::Branch(r)) => {
+            r.cluster < machine.clusters() && r.number < machine.branch_registers()
+        }
+        Some(Register::Link) => true,
+        None => true,
+    }
+}
+
+fn fits_clusters(machine: &Machine, ops: &[Operation]) -> bool
+    ensures { result ≡ all_below machine.now.clusters (fits_cluster machine.now ops.now) }
+{
+    for cluster in 0..machine.clusters() {
+        if !fits_cluster(machine, ops, cluster) {
+            return false;
+        }
+    }
+    true
+}
+
+fn fits_cluster(machine: &Machine, ops: &[Operation], cluster: u32) -> bool
+    ensures { result ≡ fits_cluster machine.now ops.now cluster }
+{
+    count_on(ops, cluster) <= machine.issue() as usize
+        && count_of_on(ops, UnitKind::Alu, cluster) <= machine.alus() as usize
+        && count_of_on(ops, UnitKind::Multiply, cluster) <= machine.multipliers() as usize
+        && count_of_on(ops, UnitKind::Memory, cluster) <= machine.memory_units() as usize
+        && reads_fit(ops, cluster, machine.read_ports())
+        && writes_fit(ops, cluster, machine.write_ports())
+}
+
+fn count_on(ops: &[Operation], cluster: u32) -> usize
+    ensures { result ≡ count_on cluster (λ op. true) ops.now }
+{
+    ops.iter().filter(|op| op.cluster() == cluster).count()
+}
+
+fn count_of_on(ops: &[Operation], unit: UnitKind, cluster: u32) -> usize
+    ensures { result ≡ count_on cluster (is_of unit) ops.now }
+{
+    ops.iter()
+        .filter(|op| op.cluster() == cluster && is_of(unit, op))
+        .count()
+}
+
+fn count_of(ops: &[Operation], unit: UnitKind) -> usize
+    ensures { result ≡ count_by (is_of unit) ops.now }
+{
+    ops.iter().filter(|op| is_of(unit, op)).count()
+}
+
+fn count_of_control(ops: &[Operation]) -> usize
+    ensures { result ≡ count_by is_control ops.now }
+{
+    ops.iter().filter(|op| op.is_control()).count()
+}
+
+fn count_of_observable(ops: &[Operation]) -> usize
+    ensures { result ≡ count_by is_observable ops.now }
+{
+    ops.iter().filter(|op| op.is_observable()).count()
+}
+
+fn is_of(unit: UnitKind, op: &Operation) -> bool
+    ensures { result ≡ is_of unit op.now }
+{
+    op.unit() == unit
+}
+
+/// Whether so many read ports serve the cluster. Register 0 takes none.
+fn reads_fit(ops: &[Operation], cluster: u32, ports: u32) -> bool
+    ensures { result ≡ nat_le (reads_on cluster ops.now) ports }
+{
+    let mut left = ports;
+    for op in ops {
+        let count = reads_of_on(op, cluster);
+        if count > left {
+            return false;
+        }
+        left -= count;
+    }
+    true
+}
+
+/// Whether so many write ports serve the cluster. Register 0 takes one as any other.
+fn writes_fit(ops: &[Operation], cluster: u32, ports: u32) -> bool
+    ensures { result ≡ nat_le (writes_on cluster ops.now) ports }
+{
+    let mut left = ports;
+    for op in ops {
+        let count = writes_of_on(op, cluster);
+        if count > left {
+            return false;
+        }
+        left -= count;
+    }
+    true
+}
+
+fn reads_of_on(op: &Operation, cluster: u32) -> u32
+    ensures { result ≡ count_by (takes_read_port cluster) (reads_of op.now) }
+{
+    let [first, second, third] = op.reads();
+    read_ports_of(first, cluster) + read_ports_of(second, cluster) + read_ports_of(third, cluster)
+}
+
+fn read_ports_of(named: Option<Register>, cluster: u32) -> u32
+    ensures exact { result ≡ count_by (takes_read_port cluster) (list_of named) }
+    ensures one { result ≤ 1 }
+{
+    match named {
+        Some(r) => u32::from(r.cluster() == cluster && r.is_general() && !r.is_zero()),
+        None => 0,
+    }
+}
+
+fn writes_of_on(op: &Operation, cluster: u32) -> u32
+    ensures { result ≡ count_by (takes_write_port cluster) (list_of (destination_of op.now)) }
+{
+    match op.destination() {
+        Some(r) => u32::from(r.cluster() == cluster && r.is_general()),
+        None => 0,
+    }
+}

@@ -1,0 +1,4 @@
+pub mod Spelling
+pub mod Fields
+pub mod Forms
+pub mod Text

@@ -1,0 +1,177 @@
+// Writes the text of a program of words. specs/Spelling.antt says what that text is.
+
+ghost use Rattle.std.specs.Prelude.{◌≡◌, ℕ, ◌<◌, ◌≤◌, ◌/◌, ◌++◌, true, length, get_or, false, ◌||◌, vec_len, OnOk, IfOk};
+ghost use Rattle.std.specs.List.{flat_map, list_any};
+ghost use Rattle.vx_isa.specs.Sound.{is_sound};
+ghost use Rattle.vx_words.specs.Text.{Spells};
+ghost use Rattle.vx_words.specs.Spelling.{target_of, names, is_named, hexadecimal_digit, byte_text, text_line, start_line, word_lines, operation_line, label_line, words_from, header, spelling};
+
+use crate::operation_text::{
+    push_bytes, push_label, push_number, push_operation_line, push_signed,
+};
+use std::alloc::Global;
+use vx_base::outcome::NoMemory;
+use vx_isa::operation::Operation;
+use vx_base::listed::Bytes;
+use vx_isa::program::{Word, WordProgram};
+
+fn target_of_operation(operation: Operation) -> Option<u32>
+    ensures { result ≡ target_of operation }
+{
+    match operation {
+        Operation::Goto { target } => Some(target),
+        Operation::BranchOn {
+            test: _,
+            taken_at_one: _,
+            target,
+        } => Some(target),
+        Operation::Call { target } => Some(target),
+        _ => None,
+    }
+}
+
+/// Marks the places that a word's operations name, as far as the list of marks reaches.
+fn mark_named(named: &mut [bool], operations: &[Operation])
+    ensures { (p : ℕ) → p < length named.old →
+        get_or named.new p false ≡ (get_or named.old p false || list_any (names p) operations.now) }
+{
+    for operation in operations {
+        if let Some(place) = target_of_operation(*operation) {
+            let place = place as usize;
+            if place < named.len() {
+                named[place] = true;
+            }
+        }
+    }
+}
+
+/// For each place below the number of words whether an operation of the program names it.
+pub fn named_places(alloc: Global, words: &[Word]) -> Result<Vec<bool>, NoMemory>
+    ensures length { IfOk result (λ named. vec_len named ≡ length words.now) }
+    ensures named { IfOk result (λ named. (p : ℕ) → p < length words.now → get_or named.items p false ≡ is_named words.now p) }
+{
+    let mut named = vec![in alloc; false; words.len()]?;
+    for word in words {
+        mark_named(&mut named, word.ops.as_slice());
+    }
+    Ok(named)
+}
+
+fn hexadecimal(digit: u8) -> u8
+    requires { digit < 16 }
+    ensures { result ≡ hexadecimal_digit digit }
+{
+    if digit < 10 { 48 + digit } else { 87 + digit }
+}
+
+fn push_byte(out: &mut Vec<u8>, byte: u8) -> Result<(), NoMemory>
+    ensures { OnOk result (out.new.items ≡ out.old.items ++ byte_text byte) }
+{
+    if byte >= 32 && byte <= 126 && byte != b'"' && byte != b'\\' {
+        push_bytes(out, &[byte])
+    } else {
+        push_bytes(
+            out,
+            &[b'\\', b'x', hexadecimal(byte / 16), hexadecimal(byte % 16)],
+        )
+    }
+}
+
+fn push_text_line(out: &mut Vec<u8>, bytes: &[u8]) -> Result<(), NoMemory>
+    ensures { OnOk result (out.new.items ≡ out.old.items ++ text_line bytes.now) }
+{
+    push_bytes(out, b".text \"")?;
+    for byte in bytes {
+        push_byte(out, *byte)?;
+    }
+    push_bytes(out, b"\"\n")
+}
+
+fn push_text_lines(out: &mut Vec<u8>, texts: &[Bytes]) -> Result<(), NoMemory>
+    ensures { OnOk result (out.new.items ≡ out.old.items ++ flat_map text_line texts.now) }
+{
+    for text in texts {
+        push_text_line(out, text.as_slice())?;
+    }
+    Ok(())
+}
+
+fn push_start_line(out: &mut Vec<u8>, entry: (u32, i32)) -> Result<(), NoMemory>
+    ensures { OnOk result (out.new.items ≡ out.old.items ++ start_line entry) }
+{
+    push_bytes(out, b".word ")?;
+    push_number(out, entry.0 as usize)?;
+    push_bytes(out, b" = ")?;
+    push_signed(out, entry.1)?;
+    push_bytes(out, b"\n")
+}
+
+fn push_start_lines(out: &mut Vec<u8>, start: &[(u32, i32)]) -> Result<(), NoMemory>
+    ensures { OnOk result (out.new.items ≡ out.old.items ++ flat_map start_line start.now) }
+{
+    for entry in start {
+        push_start_line(out, *entry)?;
+    }
+    Ok(())
+}
+
+fn push_operation_lines(out: &mut Vec<u8>, operations: &[Operation]) -> Result<(), NoMemory>
+    ensures { OnOk result (out.new.items ≡ out.old.items ++ flat_map operation_line operations.now) }
+{
+    for operation in operations {
+        push_operation_line(out, *operation)?;
+    }
+    Ok(())
+}
+
+fn push_word(out: &mut Vec<u8>, word: &Word) -> Result<(), NoMemory>
+    ensures { OnOk result (out.new.items ≡ out.old.items ++ word_lines word.now) }
+{
+    if word.idle == 0 {
+        push_operation_lines(out, word.ops.as_slice())?;
+    } else {
+        push_bytes(out, b"xnop ")?;
+        push_number(out, word.idle as usize)?;
+        push_bytes(out, b"\n")?;
+    }
+    push_bytes(out, b";;\n")
+}
+
+fn push_label_line(out: &mut Vec<u8>, place: usize) -> Result<(), NoMemory>
+    ensures { OnOk result (out.new.items ≡ out.old.items ++ label_line place) }
+{
+    push_label(out, place)?;
+    push_bytes(out, b":\n")
+}
+
+fn push_words(out: &mut Vec<u8>, words: &[Word], named: &[bool]) -> Result<(), NoMemory>
+    requires length { length named.now ≡ length words.now }
+    requires named { (p : ℕ) → p < length words.now → get_or named.now p false ≡ is_named words.now p }
+    ensures { OnOk result (out.new.items ≡ out.old.items ++ words_from words.now 0 words.now) }
+{
+    for (place, word) in words.iter().enumerate() {
+        if named[place] {
+            push_label_line(out, place)?;
+        }
+        push_word(out, word)?;
+    }
+    Ok(())
+}
+
+/// The text of the program, which must be sound. `Err` comes only where memory runs out.
+pub fn write(alloc: Global, program: &WordProgram) -> Result<Vec<u8>, NoMemory>
+    requires { is_sound program.now ≡ true }
+    ensures { IfOk result (λ text. Spells text.items program.now) }
+{
+    let words = program.words.as_slice();
+    let named = named_places(alloc, words)?;
+    let mut out = Vec::new(alloc);
+    push_bytes(&mut out, b".vexwords 1\n.memory ")?;
+    push_number(&mut out, program.memory as usize)?;
+    push_bytes(&mut out, b"\n")?;
+    push_start_lines(&mut out, program.start.as_slice())?;
+    push_text_lines(&mut out, program.texts.as_slice())?;
+    push_words(&mut out, words, named.as_slice())?;
+    push_bytes(&mut out, b".end\n")?;
+    Ok(out)
+}
