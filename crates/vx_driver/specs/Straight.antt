@@ -1,5 +1,5 @@
 -- The words of a main of the small form, for a machine whose simple operations take so many cycles.
-use Rattle.std.specs.Prelude.{ℕ, ◌-◌, ℤ, pos, List, [], ◌∷◌, ◌++◌, replicate}
+use Rattle.std.specs.Prelude.{ℕ, ◌-◌, ◌≤◌, pos, List, [], ◌∷◌, ◌++◌, replicate, All}
 use Rattle.std.specs.List.{flat_map}
 use Rattle.vx_base.specs.declared.arithmetic.Code.{Code}
 use Rattle.vx_base.specs.declared.arithmetic.Code.TheVariants.{Add, Sub}
@@ -51,3 +51,12 @@ words_of_main latency main = record {
   texts = (10 ∷ []) ∷ [];
   words = flat_map (words_of_item latency) main.items ++ (words_of_sum latency main.last ++ alone (Halt (Held total)) ∷ []);
 }
+
+-- the numbers are those that a source can spell, which are numbers of the machine
+pub record SumFits (s : Sum) : Type 0 where
+  pub first : s.first ≤ 2147483647
+  pub others : All (λ t. t.number ≤ 2147483647) s.others
+
+pub record MainFits (main : SmallMain) : Type 0 where
+  pub items : All SumFits main.items
+  pub last : SumFits main.last

@@ -1,3 +1,4 @@
 mod MachineRows
 pub mod Lists
 pub mod FitsLaw
+pub mod Steady

@@ -4,3 +4,4 @@ pub mod Fits
 pub mod Machine
 pub mod Strict
 pub mod Sound
+pub mod Steady
