@@ -12,22 +12,22 @@ use vx_isa::operation::Operation;
 /// The numbers of a machine. All counts but `clusters` and `copy_paths` are per cluster.
 #[derive(Clone, Copy, PartialEq, Eq, Debug)]
 pub struct Machine {
-    clusters: u32,
-    issue: u32,
-    alus: u32,
-    multipliers: u32,
-    memory_units: u32,
-    registers: u32,
-    branch_registers: u32,
-    read_ports: u32,
-    write_ports: u32,
-    copy_paths: u32,
-    latency_alu: u32,
-    latency_compare: u32,
-    latency_multiply: u32,
-    latency_load: u32,
-    latency_divide: u32,
-    latency_copy: u32,
+    pub(crate) clusters: u32,
+    pub(crate) issue: u32,
+    pub(crate) alus: u32,
+    pub(crate) multipliers: u32,
+    pub(crate) memory_units: u32,
+    pub(crate) registers: u32,
+    pub(crate) branch_registers: u32,
+    pub(crate) read_ports: u32,
+    pub(crate) write_ports: u32,
+    pub(crate) copy_paths: u32,
+    pub(crate) latency_alu: u32,
+    pub(crate) latency_compare: u32,
+    pub(crate) latency_multiply: u32,
+    pub(crate) latency_load: u32,
+    pub(crate) latency_divide: u32,
+    pub(crate) latency_copy: u32,
 }
 
 impl Model for Machine {
@@ -36,60 +36,60 @@ impl Model for Machine {
     ghost Value = { Numbers };
 
     ghost view = { λ a. record {
-        clusters = a.clusters;
-        issue = a.issue;
-        alus = a.alus;
-        multipliers = a.multipliers;
-        memory_units = a.memory_units;
-        registers = a.registers;
-        branch_registers = a.branch_registers;
-        read_ports = a.read_ports;
-        write_ports = a.write_ports;
-        copy_paths = a.copy_paths;
-        latency_alu = a.latency_alu;
-        latency_compare = a.latency_compare;
-        latency_multiply = a.latency_multiply;
-        latency_load = a.latency_load;
-        latency_divide = a.latency_divide;
-        latency_copy = a.latency_copy;
+      clusters = a.clusters;
+      issue = a.issue;
+      alus = a.alus;
+      multipliers = a.multipliers;
+      memory_units = a.memory_units;
+      registers = a.registers;
+      branch_registers = a.branch_registers;
+      read_ports = a.read_ports;
+      write_ports = a.write_ports;
+      copy_paths = a.copy_paths;
+      latency_alu = a.latency_alu;
+      latency_compare = a.latency_compare;
+      latency_multiply = a.latency_multiply;
+      latency_load = a.latency_load;
+      latency_divide = a.latency_divide;
+      latency_copy = a.latency_copy;
     } };
 
     ghost invariant = { λ a. IsMachine (record {
-        clusters = a.clusters;
-        issue = a.issue;
-        alus = a.alus;
-        multipliers = a.multipliers;
-        memory_units = a.memory_units;
-        registers = a.registers;
-        branch_registers = a.branch_registers;
-        read_ports = a.read_ports;
-        write_ports = a.write_ports;
-        copy_paths = a.copy_paths;
-        latency_alu = a.latency_alu;
-        latency_compare = a.latency_compare;
-        latency_multiply = a.latency_multiply;
-        latency_load = a.latency_load;
-        latency_divide = a.latency_divide;
-        latency_copy = a.latency_copy;
+      clusters = a.clusters;
+      issue = a.issue;
+      alus = a.alus;
+      multipliers = a.multipliers;
+      memory_units = a.memory_units;
+      registers = a.registers;
+      branch_registers = a.branch_registers;
+      read_ports = a.read_ports;
+      write_ports = a.write_ports;
+      copy_paths = a.copy_paths;
+      latency_alu = a.latency_alu;
+      latency_compare = a.latency_compare;
+      latency_multiply = a.latency_multiply;
+      latency_load = a.latency_load;
+      latency_divide = a.latency_divide;
+      latency_copy = a.latency_copy;
     }) };
 
     ghost inverse = { λ m. record {
-        clusters = m.clusters;
-        issue = m.issue;
-        alus = m.alus;
-        multipliers = m.multipliers;
-        memory_units = m.memory_units;
-        registers = m.registers;
-        branch_registers = m.branch_registers;
-        read_ports = m.read_ports;
-        write_ports = m.write_ports;
-        copy_paths = m.copy_paths;
-        latency_alu = m.latency_alu;
-        latency_compare = m.latency_compare;
-        latency_multiply = m.latency_multiply;
-        latency_load = m.latency_load;
-        latency_divide = m.latency_divide;
-        latency_copy = m.latency_copy;
+      clusters = m.clusters;
+      issue = m.issue;
+      alus = m.alus;
+      multipliers = m.multipliers;
+      memory_units = m.memory_units;
+      registers = m.registers;
+      branch_registers = m.branch_registers;
+      read_ports = m.read_ports;
+      write_ports = m.write_ports;
+      copy_paths = m.copy_paths;
+      latency_alu = m.latency_alu;
+      latency_compare = m.latency_compare;
+      latency_multiply = m.latency_multiply;
+      latency_load = m.latency_load;
+      latency_divide = m.latency_divide;
+      latency_copy = m.latency_copy;
     } };
 }
 
