@@ -23,9 +23,18 @@ module _ {P R : Type 0} (Leads : P → P → Type 0) (cycles : P → ℕ) (Touch
   pub never_early : NeverEarly Leads cycles Touches Writes
   never_early p q r l c w a t = let h = along p r l w a in let z = cert.cold q r t in omega arith
 
--- and so for what touches fewer registers
-pub never_early_fewer : {P R : Type 0} → (Leads : P → P → Type 0) (cycles : P → ℕ) (Touches Fewer : P → R → Type 0) (Writes : P → R → ℕ → Type 0) → ((p : P) (r : R) → Fewer p r → Touches p r) → NeverEarly Leads cycles Touches Writes → NeverEarly Leads cycles Fewer Writes
-never_early_fewer Leads cycles Touches Fewer Writes le never p q r l c w a t = never p q r l c w a (le q r t)
+-- fewer paths, fewer registers touched, fewer writes
+module _ {P : Type 0} (Leads Fewer : P → P → Type 0) (cycles : P → ℕ) (less : (p q : P) → Fewer p q → Leads p q) where
+  fewer_path : {p : P} {c : ℕ} {q : P} → After Fewer cycles p c q → After Leads cycles p c q
+  fewer_path {p} {c} {q} (first e) = first (less p q e)
+  fewer_path (more {c} {q} {u} a e) = more (fewer_path a) (less q u e)
+
+  pub never_early_fewer : {R : Type 0} → (Touches Touched : P → R → Type 0) (Writes Written : P → R → ℕ → Type 0) → ((p : P) (r : R) → Touched p r → Touches p r) → ((p : P) (r : R) (l : ℕ) → Written p r l → Writes p r l) → NeverEarly Leads cycles Touches Writes → NeverEarly Fewer cycles Touched Written
+  never_early_fewer Touches Touched Writes Written touch write never p q r l c w a t = never p q r l c (write p r l w) (fewer_path a) (touch q r t)
+
+-- from everywhere, so from a start
+pub never_early_anywhere : {P R : Type 0} → (start : P) (Leads : P → P → Type 0) (cycles : P → ℕ) (Touches : P → R → Type 0) (Writes : P → R → ℕ → Type 0) → NeverEarly Leads cycles Touches Writes → NeverEarlyFrom start Leads cycles Touches Writes
+never_early_anywhere start Leads cycles Touches Writes never p q r l c at w a t = never p q r l c w a t
 
 -- a certificate for the places that are reached from a start is enough for the paths that begin there
 module _ {P R : Type 0} (start : P) (Leads : P → P → Type 0) (cycles : P → ℕ) (Touches : P → R → Type 0) (Writes : P → R → ℕ → Type 0) (hot : P → R → ℕ) where
