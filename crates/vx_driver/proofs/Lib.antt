@@ -1,3 +1,5 @@
+pub mod Appending
+pub mod Answering
 mod StraightRows
 pub mod StraightFits
 pub mod StraightWords

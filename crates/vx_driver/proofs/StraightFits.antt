@@ -8,7 +8,8 @@ use Rattle.vx_isa.specs.declared.operation.Source.TheVariants.{Held, Number}
 use Rattle.vx_isa.specs.declared.operation.Operation.{Operation}
 use Rattle.vx_isa.specs.declared.operation.Operation.TheVariants.{Compute, Move, OutText, OutDecimal, Halt}
 use Rattle.vx_isa.specs.Numbers.{Numbers, IsMachine, is_machine}
-use Rattle.vx_isa.specs.Operations.{Copies, is_control, is_observable}
+use Rattle.vx_isa.specs.declared.operation.UnitKind.TheVariants.{Copies}
+use Rattle.vx_isa.specs.Operations.{is_control, is_observable}
 use Rattle.vx_isa.specs.Fits.{is_bad_word, fits, fits_cluster, all_below, is_of, stands_on}
 use Rattle.vx_ast.specs.declared.tree.BinaryOperator.{BinaryOperator}
 use Rattle.vx_ast.specs.declared.tree.BinaryOperator.TheVariants.{Subtract}

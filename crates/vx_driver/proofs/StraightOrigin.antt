@@ -4,7 +4,10 @@ use Rattle.std.specs.List.{AllByRecursion, flat_map}
 use Rattle.vx_ast.specs.declared.small.Term.{Term}
 use Rattle.vx_ast.specs.declared.small.Sum.{Sum}
 use Rattle.vx_ast.specs.declared.small.SmallMain.{SmallMain}
-use Rattle.vx_ast.specs.Small.{Token, Word, Number, Format, Mark, Begins, word, number, format, mark, Lexes, end, blank, token, sign_token, tokens_of_sum, tokens_of_item, tokens_of_main, IsSource}
+use Rattle.vx_ast.specs.declared.small_tokens.Mark.TheVariants.{Close, CloseBrace, Semicolon}
+use Rattle.vx_ast.specs.declared.small_tokens.Token.{Token}
+use Rattle.vx_ast.specs.declared.small_tokens.Token.TheVariants.{Word, Number, Format, Mark}
+use Rattle.vx_ast.specs.Small.{Begins, Lexes, end, blank, token, tokens_of_term, tokens_of_sum, tokens_of_item, tokens_of_last, tokens_of_main, IsSource}
 use Rattle.vx_driver.specs.Straight.{SumFits, MainFits}
 
 abbrev Fits : Token → Type 0
@@ -13,16 +16,16 @@ Fits (Number n) = n ≤ 2147483647
 Fits Format = Unit {0}
 Fits (Mark b) = Unit {0}
 
-token_fits : {bs rest : List ℕ} {t : Token} → Begins bs t rest → Fits t
-token_fits (word a b) = tt
-token_fits (number digits a h b) = h
-token_fits format = tt
-token_fits (mark a b) = tt
+token_fits : (bs rest : List ℕ) (t : Token) → Begins bs t rest → Fits t
+token_fits bs rest (Word name) begins = tt
+token_fits bs rest (Number n) begins = begins.small
+token_fits bs rest Format begins = tt
+token_fits bs rest (Mark b) begins = tt
 
 tokens_fit : {bs : List ℕ} {ts : List Token} → Lexes bs ts → AllByRecursion Fits ts
 tokens_fit end = tt
 tokens_fit (blank a more) = tokens_fit more
-tokens_fit (token begins more) = (token_fits begins, tokens_fit more)
+tokens_fit (token {bs} {rest} {t} {ts} begins more) = (token_fits bs rest t begins, tokens_fit more)
 
 front : (xs ys : List Token) → AllByRecursion Fits (xs ++ ys) → AllByRecursion Fits xs
 front [] ys a = tt
@@ -32,10 +35,7 @@ back : (xs ys : List Token) → AllByRecursion Fits (xs ++ ys) → AllByRecursio
 back [] ys a = a
 back (x ∷ xs) ys a = back xs ys a.1
 
-abbrev term_tokens : Term → List Token
-term_tokens t = sign_token t.sign ∷ Number t.number ∷ []
-
-each_term : (ts : List Term) → AllByRecursion Fits (flat_map term_tokens ts) → (k : ℕ) (d : Term) → k < length ts → (get_or ts k d).number ≤ 2147483647
+each_term : (ts : List Term) → AllByRecursion Fits (flat_map tokens_of_term ts) → (k : ℕ) (d : Term) → k < length ts → (get_or ts k d).number ≤ 2147483647
 each_term [] a k d h = absurd (omega arith)
 each_term (t ∷ ts) a zero d h = a.1.0
 each_term (t ∷ ts) a (suc k) d h = each_term ts a.1.1 k d (omega arith)
@@ -44,7 +44,7 @@ sum_fits : (s : Sum) → AllByRecursion Fits (tokens_of_sum s) → SumFits s
 sum_fits s a = record { first = a.0; others = each_term s.others a.1 }
 
 item_fits : (s : Sum) → AllByRecursion Fits (tokens_of_item s) → SumFits s
-item_fits s a = sum_fits s (front (tokens_of_sum s) (Mark 41 ∷ Mark 59 ∷ []) a.1.1.1.1)
+item_fits s a = sum_fits s (front (tokens_of_sum s) (Mark Close ∷ Mark Semicolon ∷ []) a.1.1.1.1)
 
 each_item : (ss : List Sum) → AllByRecursion Fits (flat_map tokens_of_item ss) → (k : ℕ) (d : Sum) → k < length ss → SumFits (get_or ss k d)
 each_item [] a k d h = absurd (omega arith)
@@ -58,5 +58,5 @@ fits_of_source bytes main source =
     let rest = all.1.1.1.1.1.1 in
     record {
       items = each_item main.items (front items _ rest);
-      last = sum_fits main.last (front (tokens_of_sum main.last) (Mark 59 ∷ Mark 125 ∷ []) (back items _ rest).1);
+      last = sum_fits main.last (front (tokens_of_sum main.last) (Mark Semicolon ∷ Mark CloseBrace ∷ []) (back items _ rest).1);
     }
