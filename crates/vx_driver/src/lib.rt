@@ -5,3 +5,5 @@ mod compile;
 pub mod status;
 mod straight;
 pub mod top;
+#[cfg(test)]
+mod top_tests;
