@@ -42,6 +42,12 @@ reads_along told now name buffer place length count same at read =
     let Q : ℕ → Type 0 = λ from. IfSome now (λ held. ReadsAt held name from count buffer) in
     subst P same (subst Q at read)
 
+-- how long what was read is then
+pub length_read : (old new buffer : List ℕ) (count : ℕ) → new ≡ old ++ take count buffer → count ≤ length buffer → length new ≡ length old + count
+length_read old new buffer count is room =
+    let longer = ap (λ (xs : List ℕ). length xs) is in
+    omega (arith, longer, length-append old (take count buffer), length-take-le count buffer room)
+
 -- a read that gives nothing: the file is read
 pub ReadsFile-whole : (told : Option Files) (name buffer : List ℕ) (bytes : Vec ℕ Global) (count most : ℕ) → FileSoFar told name bytes.items → IfSome told (λ held. ReadsAt held name (length bytes.items) count buffer) → count ≡ 0 → 0 < length buffer → length bytes.items ≤ most → IfSome told (λ held. ReadsFile held name most (Whole bytes))
 ReadsFile-whole None name buffer bytes count most so_far read none room within = tt

@@ -3,8 +3,8 @@
 #![tactic(auto)]
 
 pub mod arithmetic;
-pub mod laws;
 pub mod depot;
+pub mod laws;
 pub mod lines;
 pub mod listed;
 pub mod outcome;

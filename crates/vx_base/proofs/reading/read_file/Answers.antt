@@ -1,5 +1,5 @@
-use Rattle.std.proofs.Common.{◌≡◌, ◌≤◌, List, ℕ, ◌++◌, length, take, refl, ◌∙◌, ap, arith, length-append, length-take-le}
-use Rattle.vx_base.proofs.FileSoFar.{FileSoFar-start, FileSoFar-more, ReadsFile-whole, ReadsFile-too_long, reads_along}
+use Rattle.std.proofs.Common.{◌≡◌, ◌≤◌, List, ℕ, length, refl, ◌∙◌, ap, arith}
+use Rattle.vx_base.proofs.FileSoFar.{FileSoFar-start, FileSoFar-more, ReadsFile-whole, ReadsFile-too_long, reads_along, length_read}
 use Rattle.vx_base.proofs.reading.read_file.Goals as goal
 
 pub pieces-init : goal.pieces-init
@@ -36,10 +36,10 @@ pieces-preserved g c =
     let piece = c.read_at.new.into in
     let count = c.in_ok-count.count in
     let room : count ≤ length piece = omega (arith, c.read_at.auto.into, c.in_ok-count.ensures.at_most_room) in
-    let longer : length c.extend_from_slice.new.self.items ≡ length (content ++ take count piece) = ap (λ (xs : List ℕ). length xs) c.in_ok-extend_from_slice.ensures.items in
+    let longer = length_read content _ piece count c.in_ok-extend_from_slice.ensures.items room in
     record {
       so_far = rw c.in_ok-extend_from_slice.ensures.items (FileSoFar-more told c.args.name.now c.pieces.content.items c.read_at.new.into c.in_ok-count.count c.pieces.invariant.so_far read);
-      within = omega (arith, c.if-len-count.false, c.len-in-pieces.ensures, longer, length-append content (take count piece), length-take-le count piece room);
+      within = omega (arith, c.if-len-count.false, c.len-in-pieces.ensures, longer);
       same = c.in_ok-count.ensures.same_files ∙ c.pieces.invariant.same;
       reads = omega (arith, c.pieces.invariant.reads, c.in_ok-count.ensures.reads_never_fall);
       replaces = omega (arith, c.pieces.invariant.replaces, c.in_ok-count.ensures.replaces_never_fall);
