@@ -1,4 +1,7 @@
 mod MachineRows
+mod FitsRows
+mod SoundRows
 pub mod Lists
 pub mod FitsLaw
 pub mod Steady
+pub mod SoundLaw

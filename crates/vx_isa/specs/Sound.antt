@@ -1,5 +1,5 @@
 -- When a program of words is sound: its words, texts and memory are those that the word text can spell.
-use Rattle.std.specs.Prelude.{◌≡◌, ℕ, zero, ◌+◌, ◌%◌, ℤ, pos, Bool, true, false, ◌&&◌, ◌||◌, ◌==◌, nat_lt, nat_le, List, [], ◌∷◌, length}
+use Rattle.std.specs.Prelude.{◌≡◌, ◌≢◌, ◌↔◌, ◌⊎◌, ◌<◌, ◌≤◌, All, slice_index_or, ℕ, zero, ◌+◌, ◌%◌, ℤ, pos, Bool, true, false, ◌&&◌, ◌||◌, ◌==◌, nat_lt, nat_le, List, [], ◌∷◌, length}
 use Rattle.std.specs.List.{list_all}
 use Rattle.vx_base.specs.declared.arithmetic.Code.{Code}
 use Rattle.vx_base.specs.declared.arithmetic.Code.TheVariants.{ToBranch, Mov}
@@ -75,3 +75,15 @@ abbrev pub is_sound : WordProgram → Bool
 is_sound w =
     (w.memory % 4 == 0) && nat_le w.memory 134217728 && is_start w.memory 0 w.start
     && list_all (is_sound_word (length w.words) (length w.texts)) w.words
+
+-- the same in words; that an operation has operands of its form stays the test above
+
+pub record IsSound (p : WordProgram) : Type 0 where
+  pub memory : (p.memory % 4 ≡ 0) × (p.memory ≤ 134217728)
+  pub start : All (λ s. (s.0 % 4 ≡ 0) × (s.0 < p.memory) × (s.1 ≢ pos 0)) p.start
+  pub ascending : (i j : ℕ) (d : ℕ × ℤ) → i < j → j < length p.start → (slice_index_or p.start i d).0 < (slice_index_or p.start j d).0
+  pub idle : All (λ w. (w.idle ≤ 255) × ((w.idle ≡ 0) ⊎ (w.ops ≡ []))) p.words
+  pub operations : All (λ w. All (λ op. is_sound_operation (length p.words) (length p.texts) op ≡ true) w.ops) p.words
+
+abbrev pub SoundInWords : Type 0
+SoundInWords = (p : WordProgram) → (is_sound p ≡ true) ↔ IsSound p

@@ -1,6 +1,7 @@
 // Laws of the definitions, each the clause of a function that does nothing.
 
 ghost use Rattle.vx_isa.specs.Fits.{FitsInWords};
+ghost use Rattle.vx_isa.specs.Sound.{SoundInWords};
 ghost use Rattle.vx_isa.specs.Steady.{WordsAreSteady};
 
 /// A word fits a machine exactly where each cluster has slots, units, ports and registers for its operations, the
@@ -8,6 +9,15 @@ ghost use Rattle.vx_isa.specs.Steady.{WordsAreSteady};
 #[tactic(auto, using(crate::proofs::FitsLaw::fits_in_words))]
 pub fn fits_law()
     ensures { FitsInWords }
+{
+}
+
+/// A program is sound exactly where its memory is a multiple of 4 and small enough, its start list ascends over
+/// words of the memory and holds no 0, an empty time is short and alone in its word, and each operation has
+/// operands of its form and names what is there.
+#[tactic(auto, using(crate::proofs::SoundLaw::sound_in_words))]
+pub fn sound_law()
+    ensures { SoundInWords }
 {
 }
 
