@@ -1,3 +1,5 @@
 pub mod Texts
 pub mod Lexing
 pub mod Rows
+pub mod Programs
+pub mod MeaningRows

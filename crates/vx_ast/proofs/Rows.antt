@@ -31,7 +31,7 @@ row_more good spell ts xs size x more a b =
     let front : flat_map spell xs ++ spell x ≡ flat_map spell (xs ++ x ∷ []) = sym (flat_map-append spell xs (x ∷ []) ∙ ap (λ l. flat_map spell xs ++ l) (append-nil (spell x))) in
     let back : drop size ts ≡ spell x ++ drop (size + more) ts = b.1.1 ∙ ap (λ l. spell x ++ l) (drop-drop more size ts) in
     let cut : ts ≡ flat_map spell (xs ++ x ∷ []) ++ drop (size + more) ts =
-        a.1.1 ∙ ap (λ l. flat_map spell xs ++ l) back ∙ sym (append_assoc (flat_map spell xs) (spell x) (drop (size + more) ts)) ∙ ap (λ l. l ++ drop (size + more) ts) front in
+    a.1.1 ∙ ap (λ l. flat_map spell xs ++ l) back ∙ sym (append_assoc (flat_map spell xs) (spell x) (drop (size + more) ts)) ∙ ap (λ l. l ++ drop (size + more) ts) front in
     let fits = b.1.0 in let fits_before = a.1.0 in
     (all, (omega (arith, length-drop size ts), cut))
 

@@ -8,7 +8,7 @@ ghost use Rattle.vx_ast.specs.Small.{is_sign, sign_token, is_term, is_sum, token
 ghost use Rattle.vx_ast.specs.SmallReader.{IsMain, NoneAhead, IsAhead, IsRowAhead, ends_sum};
 ghost use Rattle.vx_ast.specs.declared.small_tokens.Token.TheVariants.{Mark as AMark};
 
-use crate::small_tokens::{tokenize, Mark, Token, Word};
+use crate::small_tokens::{Mark, Token, Word, tokenize};
 use crate::tree::BinaryOperator;
 use std::alloc::Global;
 use vx_base::listed::Listed;
@@ -162,7 +162,12 @@ fn read_sum(alloc: Global, tokens: &[Token]) -> Result<Option<SumAhead>, NoMemor
 }
 
 /// The sum of at most 10 numbers that stands at the front of the tokens between `before` and `after`.
-fn read_between(alloc: Global, tokens: &[Token], before: &[Token], after: &[Token]) -> Result<Option<SumAhead>, NoMemory>
+fn read_between(
+    alloc: Global,
+    tokens: &[Token],
+    before: &[Token],
+    after: &[Token],
+) -> Result<Option<SumAhead>, NoMemory>
     requires { ends_sum after.now ≡ true }
     ensures { IfOk result (λ r. MatchOption r (NoneAhead is_sum (λ s. before.now ++ (tokens_of_sum s ++ after.now)) tokens.now) (λ a. (is_sum a.sum ≡ true) × IsAhead tokens.now (before.now ++ (tokens_of_sum a.sum ++ after.now)) a.size)) }
 {
@@ -192,7 +197,12 @@ fn read_between(alloc: Global, tokens: &[Token], before: &[Token], after: &[Toke
 fn read_item(alloc: Global, tokens: &[Token]) -> Result<Option<SumAhead>, NoMemory>
     ensures { IfOk result (λ r. MatchOption r (NoneAhead is_sum tokens_of_item tokens.now) (λ a. (is_sum a.sum ≡ true) × IsAhead tokens.now (tokens_of_item a.sum) a.size)) }
 {
-    let before = [Token::Word(Word::Printf), Token::Mark(Mark::Open), Token::Format, Token::Mark(Mark::Comma)];
+    let before = [
+        Token::Word(Word::Printf),
+        Token::Mark(Mark::Open),
+        Token::Format,
+        Token::Mark(Mark::Comma),
+    ];
     let after = [Token::Mark(Mark::Close), Token::Mark(Mark::Semicolon)];
     read_between(alloc, tokens, &before, &after)
 }
@@ -274,3 +284,141 @@ pub fn read_small(alloc: Global, bytes: &[u8]) -> Result<Option<SmallMain>, NoMe
 pub fn small_source_is_read_once()
     ensures { (bytes : List ℕ) (m n : SmallMain) → IsSource bytes m → IsSource bytes n → m ≡ n }
 {}
+
+#[cfg(test)]
+mod tests {
+    use super::*;
+    use std::test::Fail;
+
+    const PLUS_3: Term = Term {
+        sign: BinaryOperator::Add,
+        number: 3,
+    };
+
+    fn is_refused(rt: HostRuntime, text: &[u8]) -> Result<bool, NoMemory> {
+        match read_small(rt.alloc(), text)? {
+            Some(_) => Ok(false),
+            None => Ok(true),
+        }
+    }
+
+    fn is_sum(sum: &Sum, first: u32, others: &[Term]) -> bool {
+        sum.first == first && sum.others.as_slice() == others
+    }
+
+    /// Whether the text is the source that prints 2 + 3 and returns 0.
+    fn is_five(rt: HostRuntime, text: &[u8]) -> Result<bool, NoMemory> {
+        match read_small(rt.alloc(), text)? {
+            Some(main) => match main.items.as_slice() {
+                [item] => Ok(is_sum(item, 2, &[PLUS_3]) && is_sum(&main.last, 0, &[])),
+                _ => Ok(false),
+            },
+            None => Ok(false),
+        }
+    }
+
+    #[test]
+    fn reads_an_item(rt: HostRuntime) -> Result<(), Fail> {
+        assert!(rt;
+            is_five(
+                rt,
+                b"int main(void) { printf(\"%d\\n\", 2 + 3); return 0; }"
+            )?
+        );
+        assert!(rt; is_five(rt, b"int main(void){printf(\"%d\\n\",2+3);return 0;}")?);
+        assert!(rt;
+            is_five(
+                rt,
+                b"\n int\tmain\r\n(\x0bvoid\x0c)\n{ printf ( \"%d\\n\" , 2\n+\t3 ) ;\nreturn 0 ; } \r\n"
+            )?
+        );
+        Ok(())
+    }
+
+    #[test]
+    fn reads_sums(rt: HostRuntime) -> Result<(), Fail> {
+        let source = b"int main(void) { return 2147483647 - 10 + 3; }";
+        let main = read_small(rt.alloc(), source)?;
+        let found = match main {
+            Some(main) => {
+                let minus_10 = Term {
+                    sign: BinaryOperator::Subtract,
+                    number: 10,
+                };
+                main.items.is_empty() && is_sum(&main.last, 2147483647, &[minus_10, PLUS_3])
+            }
+            None => false,
+        };
+        assert!(rt; found);
+        assert!(rt; !is_refused(rt, b"int main(void) { return 1+2+3+4+5+6+7+8+9+10; }")?);
+        Ok(())
+    }
+
+    #[test]
+    fn refuses(rt: HostRuntime) -> Result<(), Fail> {
+        assert!(rt; is_refused(rt, b"")?);
+        assert!(rt; is_refused(rt, b" \n")?);
+        assert!(rt; is_refused(rt, b"int main(void) { return 2147483648; }")?);
+        assert!(rt; is_refused(rt, b"int main(void) { return 1+2+3+4+5+6+7+8+9+10+11; }")?);
+        assert!(rt; is_refused(rt, b"intmain(void) { return 0; }")?);
+        assert!(rt; is_refused(rt, b"int mainx(void) { return 0; }")?);
+        assert!(rt; is_refused(rt, b"int main(void) { return0; }")?);
+        assert!(rt; is_refused(rt, b"int main(void) { return 2++3; }")?);
+        assert!(rt; is_refused(rt, b"int main(void) { return 2+-3; }")?);
+        assert!(rt; is_refused(rt, b"int main(void) { return -3; }")?);
+        assert!(rt; is_refused(rt, b"int main(void) { return 01; }")?);
+        assert!(rt; is_refused(rt, b"int main(void) { return 0x1; }")?);
+        assert!(rt; is_refused(rt, b"int main(void) { return 1u; }")?);
+        assert!(rt; is_refused(rt, b"int main(void) { return 1_; }")?);
+        Ok(())
+    }
+
+    #[test]
+    fn refuses_other_forms(rt: HostRuntime) -> Result<(), Fail> {
+        assert!(rt; is_refused(rt, b"int main(void) { return 0;")?);
+        assert!(rt; is_refused(rt, b"int main(void) { return 0; } }")?);
+        assert!(rt; is_refused(rt, b"int main(void) { return 0; } /* end */")?);
+        assert!(rt; is_refused(rt, b"int main(void) { // begin\n return 0; }")?);
+        assert!(rt; is_refused(rt, b"#include <stdio.h>\nint main(void) { return 0; }")?);
+        assert!(rt; is_refused(rt, b"int main() { return 0; }")?);
+        assert!(rt; is_refused(rt, b"void main(void) { return 0; }")?);
+        assert!(rt; is_refused(rt, b"int main(void) { printf(\"%d\\n\", 1); }")?);
+        assert!(rt; is_refused(rt, b"int main(void) { return 0; printf(\"%d\\n\", 1); }")?);
+        assert!(rt; is_refused(rt, b"int main(void) { printf(\"%d \\n\", 1); return 0; }")?);
+        assert!(rt; is_refused(rt, b"int main(void) { printf(\"%d\n\", 1); return 0; }")?);
+        assert!(rt; is_refused(rt, b"int main(void) { printf(\"%d\\n\", 1, 2); return 0; }")?);
+        assert!(rt; is_refused(rt, b"int main(void) { return 2 * 3; }")?);
+        Ok(())
+    }
+
+    /// A source with so many items.
+    fn with_items(rt: HostRuntime, count: usize) -> Result<Vec<u8>, Fail> {
+        let mut text = Vec::new(rt.alloc());
+        text.extend_from_slice(b"int main(void) {")?;
+        for _ in 0..count {
+            text.extend_from_slice(b"printf(\"%d\\n\", 7);")?;
+        }
+        text.extend_from_slice(b"return 0;}")?;
+        Ok(text)
+    }
+
+    #[test]
+    fn counts_items(rt: HostRuntime) -> Result<(), Fail> {
+        assert!(rt; !is_refused(rt, with_items(rt, 100)?.as_slice())?);
+        assert!(rt; is_refused(rt, with_items(rt, 101)?.as_slice())?);
+        assert!(rt; is_refused(rt, with_items(rt, 50_000)?.as_slice())?);
+        Ok(())
+    }
+
+    #[test]
+    fn long_texts_end(rt: HostRuntime) -> Result<(), Fail> {
+        for byte in [b' ', b'(', b'a', b'9', b'+'] {
+            let mut text = Vec::new(rt.alloc());
+            for _ in 0..1_048_576 {
+                text.push(byte)?;
+            }
+            assert!(rt; is_refused(rt, text.as_slice())?);
+        }
+        Ok(())
+    }
+}
