@@ -1,6 +1,6 @@
 -- The test of a word and the words for it.
-use Rattle.std.proofs.Common.{◌≡◌, ◌↔◌, ℕ, zero, suc, ◌+◌, ◌<◌, ◌≤◌, Bool, ◌&&◌, ◌==◌, true, false, nat_lt, nat_le, cond, List, [], ◌∷◌, ◌++◌, length, All, sym, ◌∙◌, refl, inl, inr, count_by, arith}
-use Rattle.std.proofs.lemmas.Bool.{false≢true, cases_eq, and_parts, leb-true, le-leb, ltb-true, lt-ltb}
+use Rattle.std.proofs.Common.{◌≡◌, ℕ, zero, suc, ◌<◌, ◌≤◌, Bool, ◌&&◌, ◌==◌, true, false, nat_lt, nat_le, List, [], ◌∷◌, ◌++◌, sym, ◌∙◌, refl, inl, inr, count_by, arith}
+use Rattle.std.proofs.lemmas.Bool.{false≢true, cases_eq, and_parts, leb-true, le-leb, lt-ltb}
 use Rattle.std.proofs.lemmas.Bool.Decides.{nat_tests, leb_tells}
 use Rattle.std.specs.Cmp.Derive.{both_true}
 use Rattle.std.specs.List.{list_all}
@@ -12,7 +12,7 @@ use Rattle.vx_isa.specs.declared.operation.Register.TheVariants.{General, Branch
 use Rattle.vx_isa.specs.declared.operation.Operation.{Operation}
 use Rattle.vx_isa.specs.Numbers.{Numbers, is_machine}
 use Rattle.vx_isa.specs.Operations.{list_of, cluster_of, reads_of, destination_of, is_control, is_observable}
-use Rattle.vx_isa.specs.Fits.{operands, destinations, all_below, stands_on, fits_cluster, fits, FitsMachine, FitsInWords, is_of, count_on, reads_on, writes_on, has, is_in_file, IsInFile, takes_read_port, takes_write_port}
+use Rattle.vx_isa.specs.Fits.{operands, destinations, all_below, stands_on, fits_cluster, FitsMachine, FitsInWords, is_of, count_on, reads_on, writes_on, has, is_in_file, IsInFile, takes_read_port, takes_write_port}
 use Rattle.vx_isa.proofs.Lists.{list_all-flat_map, count_by-none, count_by-cons}
 
 -- the registers of a word pass where those of each operation do
@@ -157,13 +157,13 @@ by_test m ops f = record {
   one = f.ranges;
   two = both_true (stand m ops f.slots) (list_all-from_AllPass (is_in_file m) (operands ops ++ destinations ops) (λ k d h. in_file_back m _ (f.registers k d h)));
   three = all_below-holds (fits_cluster m ops) m.clusters (λ k below. six_together _ _ _ _ _ _ (record {
-      one = limit_at m k m.issue _ below (f.slots k);
-      two = limit_at m k m.alus _ below (f.alus k);
-      three = limit_at m k m.multipliers _ below (f.multipliers k);
-      four = limit_at m k m.memory_units _ below (f.memory_units k);
-      five = limit_at m k m.read_ports _ below (f.read_ports k);
-      six = limit_at m k m.write_ports _ below (f.write_ports k);
-    }));
+    one = limit_at m k m.issue _ below (f.slots k);
+    two = limit_at m k m.alus _ below (f.alus k);
+    three = limit_at m k m.multipliers _ below (f.multipliers k);
+    four = limit_at m k m.memory_units _ below (f.memory_units k);
+    five = limit_at m k m.read_ports _ below (f.read_ports k);
+    six = limit_at m k m.write_ports _ below (f.write_ports k);
+  }));
   four = le-leb _ _ f.copies;
   five = le-leb _ _ f.control;
   six = le-leb _ _ f.observable;

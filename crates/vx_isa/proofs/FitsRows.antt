@@ -1,15 +1,13 @@
 -- Words at the edge of what is well formed and what fits, by computation.
-use Rattle.std.proofs.Common.{◌≡◌, ℕ, ℤ, pos, true, false, List, [], ◌∷◌, map, refl}
-use Rattle.vx_base.specs.Outcome.{Outcome, Stuck}
+use Rattle.std.proofs.Common.{◌≡◌, ℕ, pos, true, false, List, [], ◌∷◌, map, refl}
+use Rattle.vx_base.specs.Outcome.{Stuck}
 use Rattle.vx_base.specs.declared.outcome.Reason.TheVariants.{Overfull}
 use Rattle.vx_base.specs.declared.arithmetic.Code.TheVariants.{Add, Mpylu}
 use Rattle.vx_isa.specs.declared.operation.GeneralRegister.{GeneralRegister}
 use Rattle.vx_isa.specs.declared.operation.Register.TheVariants.{General}
-use Rattle.vx_isa.specs.declared.operation.Source.{Source}
 use Rattle.vx_isa.specs.declared.operation.Source.TheVariants.{Held, Number}
 use Rattle.vx_isa.specs.declared.operation.Operation.{Operation}
 use Rattle.vx_isa.specs.declared.operation.Operation.TheVariants.{Compute, Move, OutDecimal, Goto, BranchOn, Call, ToLink}
-use Rattle.vx_isa.specs.declared.program.Word.{Word}
 use Rattle.vx_isa.specs.declared.program.WordProgram.{WordProgram}
 use Rattle.vx_isa.specs.Numbers.{vex, narrow}
 use Rattle.vx_isa.specs.Fits.{is_bad_word, fits}

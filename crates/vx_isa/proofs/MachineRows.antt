@@ -1,8 +1,8 @@
 -- Worked runs of the word machine, by computation.
-use Rattle.std.proofs.Common.{◌≡◌, ℕ, ℤ, pos, negsuc, List, [], ◌∷◌, Option, Some, None, refl}
+use Rattle.std.proofs.Common.{◌≡◌, pos, [], ◌∷◌, refl}
 use Rattle.std.specs.Int.{int_wrap}
 use Rattle.std.specs.Fmt.{digits}
-use Rattle.vx_base.specs.Outcome.{Outcome, Ends, Goes, Stuck}
+use Rattle.vx_base.specs.Outcome.{Ends, Goes}
 use Rattle.vx_base.specs.Arithmetic.{sum_of}
 use Rattle.vx_base.specs.declared.arithmetic.Code.TheVariants.{Add}
 use Rattle.vx_isa.specs.declared.operation.GeneralRegister.{GeneralRegister}

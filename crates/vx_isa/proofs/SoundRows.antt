@@ -1,14 +1,12 @@
 -- Programs at the edge of what is sound, by computation.
-use Rattle.std.proofs.Common.{◌≡◌, ℕ, ℤ, pos, negsuc, true, false, List, [], ◌∷◌, map, refl}
+use Rattle.std.proofs.Common.{◌≡◌, ℕ, pos, negsuc, true, false, List, [], ◌∷◌, refl}
 use Rattle.vx_base.specs.declared.arithmetic.Compare.TheVariants.{Lt}
-use Rattle.vx_base.specs.declared.arithmetic.Code.TheVariants.{Add, Mov, ToGeneral, ToBranch}
-use Rattle.vx_isa.specs.declared.operation.GeneralRegister.{GeneralRegister}
-use Rattle.vx_isa.specs.declared.operation.BranchRegister.{BranchRegister}
+use Rattle.vx_base.specs.declared.arithmetic.Code.TheVariants.{Add, ToBranch}
 use Rattle.vx_isa.specs.declared.operation.Register.{Register}
-use Rattle.vx_isa.specs.declared.operation.Register.TheVariants.{General, Branch, Link}
-use Rattle.vx_isa.specs.declared.operation.Source.TheVariants.{Held, Number}
+use Rattle.vx_isa.specs.declared.operation.Register.TheVariants.{General, Branch}
+use Rattle.vx_isa.specs.declared.operation.Source.TheVariants.{Number}
 use Rattle.vx_isa.specs.declared.operation.Operation.{Operation}
-use Rattle.vx_isa.specs.declared.operation.Operation.TheVariants.{Compute, Move, OutText, Goto, Halt}
+use Rattle.vx_isa.specs.declared.operation.Operation.TheVariants.{Compute, OutText, Goto, Halt}
 use Rattle.vx_isa.specs.declared.program.Word.{Word}
 use Rattle.vx_isa.specs.declared.program.WordProgram.{WordProgram}
 use Rattle.vx_isa.specs.Sound.{is_start, is_sound, is_sound_operation}

@@ -1,8 +1,8 @@
 -- No word exceeds the machine, and no register is read while a write to it is in flight, whenever within its
 -- latency each write lands.
-use Rattle.std.specs.Prelude.{◌≡◌, ◌≢◌, ℕ, zero, suc, ℤ, Bool, true, false, List, [], ◌∷◌, Option, Some, None, slice_get, All, Contains, FitsSigned}
+use Rattle.std.specs.Prelude.{◌≡◌, ◌≢◌, ℕ, zero, suc, ℤ, true, false, List, [], Some, slice_get, All, Contains, FitsSigned}
 use Rattle.std.specs.Int.{w32}
-use Rattle.vx_base.specs.Outcome.{Step, On, Over}
+use Rattle.vx_base.specs.Outcome.{On}
 use Rattle.vx_isa.specs.declared.operation.Register.{Register}
 use Rattle.vx_isa.specs.declared.program.Word.{Word}
 use Rattle.vx_isa.specs.declared.program.WordProgram.{WordProgram}

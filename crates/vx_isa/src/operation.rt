@@ -3,6 +3,7 @@
 
 ghost use Rattle.std.specs.Prelude.{◌≡◌};
 ghost use Rattle.std.specs.List.{flat_map};
+ghost use Rattle.vx_isa.specs.Fits.{keeps_to_cluster};
 ghost use Rattle.vx_isa.specs.Operations.{same, is_zero, is_general, cluster_of_register, cluster_of, list_of, read_of, reads_of, destination_of, comes_from, unit_of_code as unit_by_code, unit_of, is_observable, is_control};
 
 use vx_base::arithmetic::Code;
@@ -312,6 +313,54 @@ impl Operation {
             Operation::Call { .. } => Some(Register::Link),
             Operation::ToLink { .. } => Some(Register::Link),
             _ => None,
+        }
+    }
+
+    /// Whether each register that it names stands on a cluster that it may use: a move may read any cluster, every
+    /// other operation names its own cluster alone, and the link register.
+    pub fn keeps_to_cluster(&self) -> bool
+        ensures { result ≡ keeps_to_cluster self.now }
+    {
+        match self {
+            Operation::Compute {
+                cluster,
+                to,
+                left,
+                right,
+                ..
+            } => {
+                to.cluster() == *cluster && left.comes_from(*cluster) && right.comes_from(*cluster)
+            }
+            Operation::Move { cluster, to, .. } => to.cluster == *cluster,
+            Operation::Select {
+                cluster,
+                to,
+                test,
+                left,
+                right,
+            } => {
+                to.cluster == *cluster
+                    && test.cluster == *cluster
+                    && left.comes_from(*cluster)
+                    && right.comes_from(*cluster)
+            }
+            Operation::Load {
+                cluster, to, base, ..
+            } => to.cluster == *cluster && base.cluster == *cluster,
+            Operation::Store {
+                cluster,
+                base,
+                from,
+                ..
+            } => base.cluster == *cluster && from.comes_from(*cluster),
+            Operation::Input { to } => to.cluster == 0,
+            Operation::More { to } => to.cluster == 0,
+            Operation::FromLink { to } => to.cluster == 0,
+            Operation::OutDecimal { from } => from.comes_from(0),
+            Operation::OutByte { from } => from.comes_from(0),
+            Operation::ToLink { from } => from.comes_from(0),
+            Operation::Halt { from } => from.comes_from(0),
+            _ => true,
         }
     }
 

@@ -1,2 +1,5 @@
 mod Views
 mod Ranges
+mod ReadsLaw
+mod DescriptionRows
+mod MarksLaw

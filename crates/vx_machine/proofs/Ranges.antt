@@ -1,5 +1,5 @@
 -- A description without a fault gives numbers in their ranges.
-use Rattle.std.proofs.Common.{◌≡◌, ℕ, ◌+◌, ◌*◌, ◌<◌, ◌≤◌, ℤ, pos, negsuc, Bool, true, false, ◌&&◌, ◌||◌, ◌==◌, nat_le, if◌then◌else◌, List, [], ◌∷◌, Option, Some, None, option_and_then, map, drop, inl, inr, refl, arith}
+use Rattle.std.proofs.Common.{◌≡◌, ℕ, ◌*◌, ◌≤◌, ℤ, pos, negsuc, Bool, true, false, ◌&&◌, ◌==◌, nat_le, if◌then◌else◌, List, [], ◌∷◌, Option, Some, None, option_and_then, map, drop, inl, inr, refl, arith}
 use Rattle.std.proofs.lemmas.Bool.{and_parts, false≢true, cases_eq, leb-true, le-leb}
 use Rattle.std.proofs.lemmas.Bool.Decides.{nat_tests}
 use Rattle.std.specs.Cmp.Derive.{both_true}
@@ -23,11 +23,11 @@ no_fault f None h = cc
 no_fault f (Some d) h =
     elim (is_within f (as_integer d)) as (λ b. (if b then None else Some (Bad 3 f.number)) ≡ None → b ≡ true) [ true ↦ λ e. refl | false ↦ λ e. cc ] h
 
-first_none : (a b : Option MachineFault) → fault_or a b ≡ None → (a ≡ None) × (b ≡ None)
+pub first_none : (a b : Option MachineFault) → fault_or a b ≡ None → (a ≡ None) × (b ≡ None)
 first_none None b h = (refl, h)
 first_none (Some why) b h = cc
 
-abbrev passes : Members → Field → Bool
+abbrev pub passes : Members → Field → Bool
 passes t f = is_between f.least f.greatest (number_at t f.number)
 
 all_pass : (t : Members) (fs : List Field) → first_fault t fs ≡ None → list_all (passes t) fs ≡ true
@@ -37,7 +37,7 @@ all_pass t (f ∷ fs) h =
     let (here, more) = first_none (fault_of f o) (first_fault t fs) h in
     both_true (in_range f (option_and_then as_integer o) (no_fault f o here)) (all_pass t fs more)
 
-known : (t : Members) (b : Bool) (o : Option MachineFault) → (if b then Some (Bad 4 0) else o) ≡ None → o ≡ None
+pub known : (t : Members) (b : Bool) (o : Option MachineFault) → (if b then Some (Bad 4 0) else o) ≡ None → o ≡ None
 known t true o h = cc
 known t false o h = h
 
@@ -45,7 +45,7 @@ pub fields_pass : (t : Members) → machine_fault t ≡ None → list_all (passe
 fields_pass t h = all_pass t (fields (number_at t 2)) (known t (has_unknown t) _ h)
 
 -- the same tests, grouped to the left
-abbrev all_left : Bool → List Bool → Bool
+abbrev pub all_left : Bool → List Bool → Bool
 all_left a [] = a
 all_left a (b ∷ bs) = all_left (a && b) bs
 

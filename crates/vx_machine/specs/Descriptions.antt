@@ -1,13 +1,13 @@
 -- How a description of a machine is read: a TOML table with every field as an integer at its top level.
-use Rattle.std.specs.Prelude.{◌≡◌, ℕ, zero, suc, ◌+◌, ◌*◌, ℤ, pos, Bool, true, false, ◌&&◌, ◌||◌, not, ◌==◌, if◌then◌else◌, List, [], ◌∷◌, Option, Some, None, Result, Ok, Err, codes, option_and_then, slice_index, slice_index_or}
+use Rattle.std.specs.Prelude.{◌≡◌, ◌↔◌, Contains, ℕ, zero, suc, ◌+◌, ◌*◌, ℤ, pos, Bool, false, ◌&&◌, ◌||◌, not, ◌==◌, if◌then◌else◌, List, [], ◌∷◌, Option, Some, None, Result, Ok, Err, codes, option_and_then, slice_index, slice_index_or}
 use Rattle.std.specs.List.{list_any}
 use Rattle.std.specs.Str.{bytes_eq, is_utf8}
-use Rattle.toml.specs.Data.{Data, as_integer, Members, no_members, member, get_member}
+use Rattle.toml.specs.Data.{Data, integer, as_integer, Members, no_members, member, get_member}
 use Rattle.toml.specs.Parse.{parse_document}
-use Rattle.vx_isa.specs.Numbers.{Numbers, is_between}
+use Rattle.vx_isa.specs.Numbers.{Numbers, IsMachine, is_between}
 use Rattle.vx_machine.specs.declared.description.Field.{Field}
 use Rattle.vx_machine.specs.declared.description.MachineFault.{MachineFault}
-use Rattle.vx_machine.specs.declared.description.MachineFault.TheVariants.{Bad, NoMemory}
+use Rattle.vx_machine.specs.declared.description.MachineFault.TheVariants.{Bad}
 
 -- the fields, in the order of their numbers from 1
 
@@ -123,3 +123,29 @@ of_table (Some t) = numbers_unless (machine_fault t) (numbers_of t)
 
 abbrev pub reading : List ℕ → Result Numbers MachineFault
 reading bytes = of_table (table_of bytes)
+
+-- the same in words: at each field stands an integer of its range, and no other key is there
+
+pub record Describes (t : Members) (m : Numbers) : Type 0 where
+  pub clusters : get_member (codes "clusters") t ≡ Some (integer (pos m.clusters))
+  pub issue : get_member (codes "issue") t ≡ Some (integer (pos m.issue))
+  pub alus : get_member (codes "alus") t ≡ Some (integer (pos m.alus))
+  pub multipliers : get_member (codes "multipliers") t ≡ Some (integer (pos m.multipliers))
+  pub memory_units : get_member (codes "memory_units") t ≡ Some (integer (pos m.memory_units))
+  pub registers : get_member (codes "registers") t ≡ Some (integer (pos m.registers))
+  pub branch_registers : get_member (codes "branch_registers") t ≡ Some (integer (pos m.branch_registers))
+  pub read_ports : get_member (codes "read_ports") t ≡ Some (integer (pos m.read_ports))
+  pub write_ports : get_member (codes "write_ports") t ≡ Some (integer (pos m.write_ports))
+  pub copy_paths : get_member (codes "copy_paths") t ≡ Some (integer (pos m.copy_paths))
+  pub latency_alu : get_member (codes "latency_alu") t ≡ Some (integer (pos m.latency_alu))
+  pub latency_compare : get_member (codes "latency_compare") t ≡ Some (integer (pos m.latency_compare))
+  pub latency_multiply : get_member (codes "latency_multiply") t ≡ Some (integer (pos m.latency_multiply))
+  pub latency_load : get_member (codes "latency_load") t ≡ Some (integer (pos m.latency_load))
+  pub latency_divide : get_member (codes "latency_divide") t ≡ Some (integer (pos m.latency_divide))
+  pub latency_copy : get_member (codes "latency_copy") t ≡ Some (integer (pos m.latency_copy))
+  pub ranges : IsMachine m
+  pub keys : (key : List ℕ) (d : Data) → get_member key t ≡ Some d → Contains names key
+
+-- bytes are read as a machine exactly where they are a table that describes it
+abbrev pub ReadsInWords : Type 0
+ReadsInWords = (bytes : List ℕ) (m : Numbers) → (reading bytes ≡ Ok m) ↔ ((t : Members) × (table_of bytes ≡ Some t) × Describes t m)

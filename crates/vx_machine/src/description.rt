@@ -6,7 +6,7 @@ ghost use Rattle.std.specs.List.{list_any};
 ghost use Rattle.std.specs.Str.{bytes_eq};
 ghost use Rattle.std.specs.Map.{keys_of};
 ghost use Rattle.toml.specs.View.{view, table_view};
-ghost use Rattle.vx_machine.specs.Descriptions.{names, name_of, field, is_field, fields, has_mark, table_of, number_at, has_unknown, whole, is_within, fault_of, first_fault, machine_fault, numbers_of, reading};
+ghost use Rattle.vx_machine.specs.Descriptions.{names, name_of, field, is_field, fields, has_mark, table_of, number_at, has_unknown, whole, is_within, fault_of, first_fault, machine_fault, numbers_of, reading, ReadsInWords};
 ghost use Rattle.toml.specs.Data.{get_member};
 ghost use Rattle.toml.specs.Errors.{IsMemory};
 
@@ -43,6 +43,12 @@ pub fn from_toml(alloc: Global, bytes: &[u8]) -> Result<Machine, MachineFault>
         None => Ok(machine_of(&table)),
     }
 }
+
+/// Bytes are read as a machine exactly where they are a table that has the machine's number at each field and no
+/// other key.
+pub fn description_law()
+    ensures { ReadsInWords }
+{}
 
 /// The table that a description is.
 fn read_table(alloc: Global, bytes: &[u8]) -> Result<Table, MachineFault>

@@ -38,7 +38,7 @@ fn stands_on(machine: &Machine, ops: &[Operation]) -> bool
 }
 
 #[tactic(auto, using(vx_isa::proofs::FitsLaw::registers_pass))]
-fn has_registers(machine: &Machine, ops: &[Operation]) -> bool
+pub(crate) fn has_registers(machine: &Machine, ops: &[Operation]) -> bool
     ensures { result ≡ list_all (is_in_file machine.now) (operands ops.now ++ destinations ops.now) }
 {
     has_operands(machine, ops) && has_destinations(machine, ops)

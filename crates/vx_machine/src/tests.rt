@@ -82,3 +82,40 @@ fn four_moves_fit_and_five_do_not(rt: HostRuntime) {
         assert!(rt; does == want, "at {count}");
     }
 }
+
+#[test]
+fn a_word_that_writes_one_register_twice_is_bad(rt: HostRuntime) {
+    let alloc = rt.alloc();
+    let machine = Machine::vex(1);
+    let apart = match moves(alloc, 5) {
+        Ok(word) => !is_bad_word(&machine, &word),
+        Err(_) => false,
+    };
+    assert!(rt; apart);
+    let past_the_file = match moves(alloc, 65) {
+        Ok(word) => is_bad_word(&machine, &word),
+        Err(_) => false,
+    };
+    assert!(rt; past_the_file);
+    let twice = match moves_and_again(alloc) {
+        Ok(word) => is_bad_word(&machine, &word),
+        Err(_) => false,
+    };
+    assert!(rt; twice);
+}
+
+/// Two moves to register 3.
+fn moves_and_again(alloc: Global) -> Result<Word, NoMemory> {
+    let mut word = moves(alloc, 4)?;
+    let to = GeneralRegister {
+        cluster: 0,
+        number: 3,
+    };
+    let from = Source::Number(2);
+    word.ops.push(Operation::Move {
+        cluster: 0,
+        to,
+        from,
+    })?;
+    Ok(word)
+}
