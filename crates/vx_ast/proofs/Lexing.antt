@@ -1,5 +1,5 @@
 -- A text has one list of tokens.
-use Rattle.std.proofs.Common.{◌≡◌, ◌≤◌, ◌<◌, ◌+◌, ◌==◌, ℕ, zero, suc, Bool, true, false, ◌&&◌, ◌||◌, nat_lt, if◌then◌else◌, List, [], ◌∷◌, ◌++◌, length, take, drop, refl, sym, ◌∙◌, ap, subst, arith, append_assoc}
+use Rattle.std.proofs.Common.{◌≡◌, ◌≤◌, ◌<◌, ◌+◌, ◌==◌, ℕ, suc, Bool, true, false, ◌&&◌, ◌||◌, nat_lt, if◌then◌else◌, List, [], ◌∷◌, ◌++◌, length, drop, refl, sym, ◌∙◌, ap, subst, arith, append_assoc}
 use Rattle.std.specs.List.{prefix_len, list_all}
 use Rattle.std.proofs.lemmas.Bool.Decides.{nat_tests}
 use Rattle.vx_ast.specs.declared.small_tokens.Word.{Word}
@@ -8,7 +8,7 @@ use Rattle.vx_ast.specs.declared.small_tokens.Mark.{Mark}
 use Rattle.vx_ast.specs.declared.small_tokens.Mark.TheVariants.{Open, Close, OpenBrace, CloseBrace, Comma, Semicolon, Plus, Minus}
 use Rattle.vx_ast.specs.declared.small_tokens.Token.{Token}
 use Rattle.vx_ast.specs.declared.small_tokens.Token.TheVariants.{Word as AWord, Number as ANumber, Format, Mark as AMark}
-use Rattle.vx_ast.specs.Small.{is_blank, is_digit, is_letter, is_name_byte, is_number_text, value_of_digits, format_text, text_of, byte_of, Stops, BeginsNumber, Begins, Lexes, end, blank, token}
+use Rattle.vx_ast.specs.Small.{is_blank, is_digit, is_letter, is_name_byte, is_number_text, value_of_digits, format_text, text_of, byte_of, Stops, Begins, Lexes, end, blank, token}
 use Rattle.std.proofs.lemmas.List.{append_cancel_left, append-nil}
 use Rattle.vx_ast.proofs.Texts.{both_hold, behind, front, front_is, stops_there, number_in_name}
 

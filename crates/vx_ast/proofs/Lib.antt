@@ -2,4 +2,8 @@ pub mod Texts
 pub mod Lexing
 pub mod Rows
 pub mod Programs
+pub mod SmallRuns
+pub mod SmallRows
 pub mod MeaningRows
+pub mod LoopRows
+pub mod CallRows

@@ -1,14 +1,14 @@
 -- Worked runs of programs, by computation: operators, divisions, indices, input and scopes.
-use Rattle.std.proofs.Common.{◌≡◌, ℕ, ℤ, pos, negsuc, true, List, [], ◌∷◌, refl}
+use Rattle.std.proofs.Common.{◌≡◌, ℕ, pos, negsuc, true, [], ◌∷◌, refl}
 use Rattle.std.specs.Prelude.{codes}
 use Rattle.std.specs.Int.{int_wrap}
 use Rattle.std.specs.Fmt.{digits}
-use Rattle.vx_base.specs.Outcome.{Outcome, Ends, Traps}
+use Rattle.vx_base.specs.Outcome.{Ends, Traps}
 use Rattle.vx_base.specs.Arithmetic.{sum_of, quotient_of, remainder_of, shl_of}
 use Rattle.vx_base.specs.declared.outcome.Trap.TheVariants.{Divide as ByDivide, Index as ByIndex, Input as ByInput}
 use Rattle.vx_ast.specs.declared.tree.BinaryOperator.TheVariants.{Divide, Remainder, Add, ShiftLeft}
 use Rattle.vx_ast.specs.declared.tree.GlobalVariable.{GlobalVariable}
-use Rattle.vx_ast.specs.Tree.{Local, Element, Binary, ReadInt, InElement, Assign, Code, Block, Clear, Declare, Simply, Print, Program}
+use Rattle.vx_ast.specs.Tree.{Local, Element, Binary, ReadInt, InElement, Assign, Block, Clear, Declare, Simply, Print, Program}
 use Rattle.vx_ast.specs.Meaning.{source, deepest}
 use Rattle.vx_ast.proofs.Programs.{number, list_of, only, main_of, row, line, line_of_two, returns, sets}
 

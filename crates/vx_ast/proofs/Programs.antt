@@ -1,7 +1,6 @@
 -- Short words for the programs of the worked runs.
-use Rattle.std.proofs.Common.{ℕ, ℤ, pos, List, [], ◌∷◌, refl, ◌≡◌}
+use Rattle.std.proofs.Common.{ℕ, pos, List, [], ◌∷◌, refl, ◌≡◌}
 use Rattle.std.specs.Prelude.{codes}
-use Rattle.vx_ast.specs.declared.tree.Gives.{Gives}
 use Rattle.vx_ast.specs.declared.tree.Gives.TheVariants.{Int, Nothing as NoValue}
 use Rattle.vx_ast.specs.declared.tree.GlobalVariable.{GlobalVariable}
 use Rattle.vx_ast.specs.Tree.{One, Row, Tree, Literal, NoMore, Then, InLocal, Assign, Code, Nothing, Seq, Simply, Print, ReturnValue, Function, Program}

@@ -1,5 +1,5 @@
 -- The tokens of a main of the small form have one reading.
-use Rattle.std.proofs.Common.{◌≡◌, ◌≤◌, ◌<◌, ◌+◌, ◌-◌, ◌==◌, ℕ, zero, suc, Bool, true, false, ◌&&◌, ◌||◌, nat_le, nat_lt, List, [], ◌∷◌, ◌++◌, length, take, drop, refl, sym, ◌∙◌, ap, subst, arith, append_assoc, Option, Some, None, Result, Ok, Err}
+use Rattle.std.proofs.Common.{◌≡◌, ◌<◌, ◌+◌, ℕ, Bool, true, nat_le, List, [], ◌∷◌, ◌++◌, length, drop, refl, sym, ◌∙◌, ap, subst, arith, append_assoc, Option, Some, None, Result, Ok, Err}
 use Rattle.std.specs.Prelude.{MatchOption, IfOk, IfNone}
 use Rattle.std.specs.List.{list_all, flat_map}
 use Rattle.std.proofs.lemmas.Bool.Decides.{nat_tests}
@@ -7,17 +7,16 @@ use Rattle.std.proofs.lemmas.List.{append_cancel_left, append-nil, drop-drop, le
 use Rattle.std.proofs.lemmas.List.Folds.{list_all-append}
 use Rattle.std.proofs.lemmas.Grind.{flat_map-append}
 use Rattle.vx_ast.specs.declared.tree.BinaryOperator.{BinaryOperator}
-use Rattle.vx_ast.specs.declared.tree.BinaryOperator.TheVariants.{Multiply, Divide, Remainder, Add, Subtract, ShiftLeft, ShiftRight, Less, LessEqual, Greater, GreaterEqual, Equal, NotEqual, BitAnd, BitXor, BitOr}
-use Rattle.vx_ast.specs.declared.small_tokens.Word.{Word}
+use Rattle.vx_ast.specs.declared.tree.BinaryOperator.TheVariants.{Add, Subtract}
 use Rattle.vx_ast.specs.declared.small_tokens.Word.TheVariants.{Int as AnInt, Main as AMain, Void as AVoid, Return as AReturn, Printf as APrintf}
-use Rattle.vx_ast.specs.declared.small_tokens.Mark.{Mark}
-use Rattle.vx_ast.specs.declared.small_tokens.Mark.TheVariants.{Open, Close, OpenBrace, CloseBrace, Comma, Semicolon, Plus, Minus}
+use Rattle.vx_ast.specs.declared.small_tokens.Mark.TheVariants.{Open, Close, OpenBrace, CloseBrace, Comma, Semicolon, Minus}
 use Rattle.vx_ast.specs.declared.small_tokens.Token.{Token}
 use Rattle.vx_ast.specs.declared.small_tokens.Token.TheVariants.{Word as AWord, Number as ANumber, Format, Mark as AMark}
 use Rattle.vx_ast.specs.declared.small.Term.{Term}
 use Rattle.vx_ast.specs.declared.small.Sum.{Sum}
 use Rattle.vx_ast.specs.declared.small.SmallMain.{SmallMain}
-use Rattle.vx_ast.specs.Small.{is_sign, sign_token, is_term, is_sum, tokens_of_term, tokens_of_sum, tokens_of_item, tokens_of_last, tokens_of_main, IsSource, Lexes}
+use Rattle.vx_ast.specs.Tree.{Program}
+use Rattle.vx_ast.specs.Small.{is_sign, sign_token, is_term, is_sum, tokens_of_term, tokens_of_sum, tokens_of_item, tokens_of_last, tokens_of_main, program_of_main, IsSource, ReadsSmall, Lexes}
 use Rattle.vx_ast.specs.SmallReader.{IsMain, NoneAhead, IsAhead, IsRowAhead, ends_sum}
 use Rattle.vx_ast.proofs.Texts.{both_hold, both_and}
 use Rattle.vx_ast.proofs.Lexing.{lexes_once}
@@ -207,3 +206,7 @@ pub source_once : (bytes : List ℕ) (m n : SmallMain) → IsSource bytes m → 
 source_once bytes m n g h =
     let same : tokens_of_main m.items m.last ≡ tokens_of_main n.items n.last = lexes_once bytes (tokens_of_main m.items m.last) (tokens_of_main n.items n.last) g.tokens h.tokens in
     main_once (tokens_of_main m.items m.last) m n (record { spelled = refl; few = g.few; sums = g.sums }) (record { spelled = same; few = h.few; sums = h.sums })
+
+-- a source of the small form has one tree
+pub reads_once : (bytes : List ℕ) (p q : Program) → ReadsSmall bytes p → ReadsSmall bytes q → p ≡ q
+reads_once bytes p q g h = g.tree ∙ ap (λ m. program_of_main m.items m.last) (source_once bytes g.main h.main g.source h.source) ∙ sym h.tree

@@ -3,3 +3,4 @@ pub mod View
 pub mod Meaning
 pub mod Small
 pub mod SmallReader
+pub mod SmallMeaning

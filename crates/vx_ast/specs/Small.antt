@@ -1,6 +1,6 @@
 -- The small form of a source: a main that prints sums and returns one. Its tokens are those of the language,
 -- without comments, and its meaning is that of the language.
-use Rattle.std.specs.Prelude.{◌≡◌, ◌≤◌, ◌<◌, ◌+◌, ◌*◌, ◌-◌, ℕ, ℤ, pos, Bool, true, false, ◌&&◌, ◌||◌, ◌==◌, nat_le, nat_lt, List, [], ◌∷◌, ◌++◌, length, codes, fold}
+use Rattle.std.specs.Prelude.{◌≡◌, ◌≤◌, ◌+◌, ◌*◌, ◌-◌, ℕ, pos, Bool, true, false, ◌&&◌, ◌||◌, ◌==◌, nat_le, nat_lt, List, [], ◌∷◌, ◌++◌, length, codes, fold}
 use Rattle.std.specs.List.{list_all, flat_map}
 use Rattle.vx_ast.specs.declared.tree.BinaryOperator.{BinaryOperator}
 use Rattle.vx_ast.specs.declared.tree.BinaryOperator.TheVariants.{Add, Subtract}
@@ -14,7 +14,7 @@ use Rattle.vx_ast.specs.declared.small.Term.{Term}
 use Rattle.vx_ast.specs.declared.small.Sum.{Sum}
 use Rattle.vx_ast.specs.declared.small.SmallMain.{SmallMain}
 use Rattle.vx_ast.specs.declared.tree.Gives.TheVariants.{Int}
-use Rattle.vx_ast.specs.Tree.{One, Row, Tree, Literal, Binary, NoMore, Then, Code, Nothing, Seq, Print, ReturnValue, Program}
+use Rattle.vx_ast.specs.Tree.{One, Tree, Literal, Binary, NoMore, Then, Code, Nothing, Seq, Print, ReturnValue, Program}
 
 -- bytes
 

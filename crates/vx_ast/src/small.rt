@@ -2,10 +2,10 @@
 // What it is, and its tree, stand in specs/Small.antt. `read_small` reads it from bytes: its clauses say that what it
 // finds is the source's main, and that it refuses only what is no source of the form.
 
-ghost use Rattle.std.specs.Prelude.{◌≡◌, ◌≤◌, ◌+◌, ◌++◌, ◌∷◌, [], ℕ, Bool, true, false, List, length, drop, IfOk, IfSome, IfNone, MatchOption, MatchBool};
-ghost use Rattle.std.specs.List.{list_all, flat_map};
+ghost use Rattle.std.specs.Prelude.{◌≡◌, ◌≤◌, ◌++◌, ℕ, true, List, length, drop, IfOk, IfSome, IfNone, MatchOption, MatchBool};
 ghost use Rattle.vx_ast.specs.Small.{is_sign, sign_token, is_term, is_sum, tokens_of_term, tokens_of_sum, tokens_of_item, IsSource, tokens_of_last};
-ghost use Rattle.vx_ast.specs.SmallReader.{IsMain, NoneAhead, IsAhead, IsRowAhead, ends_sum};
+ghost use Rattle.vx_ast.specs.SmallMeaning.{OneTree, SmallRuns};
+ghost use Rattle.vx_ast.specs.SmallReader.{IsMain, NoneAhead, IsAhead, IsOneAhead, IsRowAhead, IsSumAhead, tokens_between, ends_sum};
 ghost use Rattle.vx_ast.specs.declared.small_tokens.Token.TheVariants.{Mark as AMark};
 
 use crate::small_tokens::{Mark, Token, Word, tokenize};
@@ -13,6 +13,12 @@ use crate::tree::BinaryOperator;
 use std::alloc::Global;
 use vx_base::listed::Listed;
 use vx_base::outcome::NoMemory;
+
+/// How many further numbers a sum may have.
+const MOST_OTHERS: usize = 9;
+
+/// How many items a main may have.
+const MOST_ITEMS: usize = 100;
 
 /// A further number of a sum.
 #[derive(Clone, Copy, PartialEq, Eq, Debug)]
@@ -111,7 +117,7 @@ fn sign_of(mark: Mark) -> Option<BinaryOperator>
 
 /// The sign and number at the front of the tokens.
 fn term_ahead(tokens: &[Token]) -> Option<Term>
-    ensures { MatchOption result (NoneAhead is_term tokens_of_term tokens.now) (λ t. (is_term t ≡ true) × IsAhead tokens.now (tokens_of_term t) 2) }
+    ensures { MatchOption result (NoneAhead is_term tokens_of_term tokens.now) (λ t. IsOneAhead is_term tokens_of_term tokens.now t 2) }
 {
     match tokens {
         [Token::Mark(mark), Token::Number(number), ..] => match sign_of(*mark) {
@@ -144,7 +150,7 @@ fn read_terms(alloc: Global, tokens: &[Token]) -> Result<TermsAhead, NoMemory>
 
 /// The sum at the front of the tokens, as long as it can be.
 fn read_sum(alloc: Global, tokens: &[Token]) -> Result<Option<SumAhead>, NoMemory>
-    ensures { IfOk result (λ r. MatchOption r ((s : Sum) (rest : List Token) → tokens.now ≡ tokens_of_sum s ++ rest → ⊥) (λ a. (list_all is_term a.sum.others ≡ true) × IsAhead tokens.now (tokens_of_sum a.sum) a.size × NoneAhead is_term tokens_of_term (drop a.size tokens.now))) }
+    ensures { IfOk result (λ r. MatchOption r ((s : Sum) (rest : List Token) → tokens.now ≡ tokens_of_sum s ++ rest → ⊥) (λ a. IsSumAhead tokens.now a.sum a.size)) }
 {
     match tokens {
         [Token::Number(first), ..] => {
@@ -169,7 +175,7 @@ fn read_between(
     after: &[Token],
 ) -> Result<Option<SumAhead>, NoMemory>
     requires { ends_sum after.now ≡ true }
-    ensures { IfOk result (λ r. MatchOption r (NoneAhead is_sum (λ s. before.now ++ (tokens_of_sum s ++ after.now)) tokens.now) (λ a. (is_sum a.sum ≡ true) × IsAhead tokens.now (before.now ++ (tokens_of_sum a.sum ++ after.now)) a.size)) }
+    ensures { IfOk result (λ r. MatchOption r (NoneAhead is_sum (tokens_between before.now after.now) tokens.now) (λ a. IsOneAhead is_sum (tokens_between before.now after.now) tokens.now a.sum a.size)) }
 {
     if !begins(tokens, before) {
         return Ok(None);
@@ -181,7 +187,7 @@ fn read_between(
             if !begins(rest, after) {
                 return Ok(None);
             }
-            if ahead.sum.others.len() > 9 {
+            if ahead.sum.others.len() > MOST_OTHERS {
                 return Ok(None);
             }
             Ok(Some(SumAhead {
@@ -195,7 +201,7 @@ fn read_between(
 
 /// The item at the front of the tokens.
 fn read_item(alloc: Global, tokens: &[Token]) -> Result<Option<SumAhead>, NoMemory>
-    ensures { IfOk result (λ r. MatchOption r (NoneAhead is_sum tokens_of_item tokens.now) (λ a. (is_sum a.sum ≡ true) × IsAhead tokens.now (tokens_of_item a.sum) a.size)) }
+    ensures { IfOk result (λ r. MatchOption r (NoneAhead is_sum tokens_of_item tokens.now) (λ a. IsOneAhead is_sum tokens_of_item tokens.now a.sum a.size)) }
 {
     let before = [
         Token::Word(Word::Printf),
@@ -209,7 +215,7 @@ fn read_item(alloc: Global, tokens: &[Token]) -> Result<Option<SumAhead>, NoMemo
 
 /// The return at the front of the tokens, with the brace behind it.
 fn read_last(alloc: Global, tokens: &[Token]) -> Result<Option<SumAhead>, NoMemory>
-    ensures { IfOk result (λ r. MatchOption r (NoneAhead is_sum tokens_of_last tokens.now) (λ a. (is_sum a.sum ≡ true) × IsAhead tokens.now (tokens_of_last a.sum) a.size)) }
+    ensures { IfOk result (λ r. MatchOption r (NoneAhead is_sum tokens_of_last tokens.now) (λ a. IsOneAhead is_sum tokens_of_last tokens.now a.sum a.size)) }
 {
     let before = [Token::Word(Word::Return)];
     let after = [Token::Mark(Mark::Semicolon), Token::Mark(Mark::CloseBrace)];
@@ -256,7 +262,7 @@ fn read_main(alloc: Global, tokens: &[Token]) -> Result<Option<SmallMain>, NoMem
             if last.size < rest.len() {
                 return Ok(None);
             }
-            if ahead.items.len() > 100 {
+            if ahead.items.len() > MOST_ITEMS {
                 return Ok(None);
             }
             Ok(Some(SmallMain {
@@ -283,6 +289,17 @@ pub fn read_small(alloc: Global, bytes: &[u8]) -> Result<Option<SmallMain>, NoMe
 #[tactic(auto, using(crate::proofs::Rows::source_once))]
 pub fn small_source_is_read_once()
     ensures { (bytes : List ℕ) (m n : SmallMain) → IsSource bytes m → IsSource bytes n → m ≡ n }
+{}
+
+/// Bytes are the source of one tree of the small form at most.
+pub fn small_source_has_one_tree()
+    ensures { OneTree }
+{}
+
+/// A main of the small form prints its sums, each on a line, and ends with its last one.
+#[tactic(auto, using(crate::proofs::SmallRuns::small_runs))]
+pub fn small_main_runs()
+    ensures { SmallRuns }
 {}
 
 #[cfg(test)]

@@ -1,14 +1,18 @@
 // The tokens of a source of the small form, read from its bytes in one pass. specs/Small.antt says what a token is;
-// the clauses of `small_tokens` say that these are the tokens of the bytes, or that the bytes have none.
+// the clauses of `tokenize` say that these are the tokens of the bytes, or that the bytes have none.
 
-ghost use Rattle.std.specs.Prelude.{◌≡◌, ◌≤◌, ◌<◌, ◌+◌, ◌==◌, ◌++◌, ◌∷◌, [], ℕ, ⊤, Bool, true, false, List, length, drop, IfOk, IfSome, IfNone, MatchOption, MatchBool};
+ghost use Rattle.std.specs.Prelude.{◌≡◌, ◌≤◌, ◌<◌, ℕ, List, length, drop, IfOk, IfSome, IfNone, MatchOption, MatchBool};
 ghost use Rattle.std.specs.List.{prefix_len, list_all};
 ghost use Rattle.vx_ast.specs.Small.{is_blank, is_digit, is_letter, is_name_byte, is_number_text, value_of_digits, text_of, byte_of, NoLongerMark, Begins, Lexes};
 ghost use Rattle.vx_ast.specs.declared.small_tokens.Token.TheVariants.{Word as AWord, Number as ANumber, Format as AFormat, Mark as AMark};
+ghost use Rattle.vx_ast.specs.SmallReader.{IsTokenAhead};
 
 use std::alloc::Global;
 use vx_base::listed::Listed;
 use vx_base::outcome::NoMemory;
+
+/// The greatest number of the language.
+const GREATEST: u64 = 2147483647;
 
 /// A name or keyword that the small form uses.
 #[derive(Clone, Copy, PartialEq, Eq, Debug)]
@@ -184,7 +188,7 @@ fn decimal(digits: &[u8]) -> Option<u32>
     let mut value: u32 = 0;
     for d in digits {
         let next = 10 * u64::from(value) + u64::from(d.saturating_sub(48));
-        if next > 2147483647 {
+        if next > GREATEST {
             return None;
         }
         value = next as u32;
@@ -194,7 +198,7 @@ fn decimal(digits: &[u8]) -> Option<u32>
 
 /// The word at the front of the text.
 fn word_front(bytes: &[u8]) -> Option<Front>
-    ensures { MatchOption result ((w : Word) (rest : List ℕ) → Begins bytes.now (AWord w) rest → ⊥) (λ f. (f.size ≤ length bytes.now) × Begins bytes.now f.token (drop f.size bytes.now)) }
+    ensures { MatchOption result ((w : Word) (rest : List ℕ) → Begins bytes.now (AWord w) rest → ⊥) (λ f. IsTokenAhead bytes.now f.token f.size) }
 {
     let size = name_size(bytes);
     match word_of(&bytes[..size]) {
@@ -208,7 +212,7 @@ fn word_front(bytes: &[u8]) -> Option<Front>
 
 /// The number at the front of the text.
 fn number_front(bytes: &[u8]) -> Option<Front>
-    ensures { MatchOption result ((n : ℕ) (rest : List ℕ) → Begins bytes.now (ANumber n) rest → ⊥) (λ f. (f.size ≤ length bytes.now) × Begins bytes.now f.token (drop f.size bytes.now)) }
+    ensures { MatchOption result ((n : ℕ) (rest : List ℕ) → Begins bytes.now (ANumber n) rest → ⊥) (λ f. IsTokenAhead bytes.now f.token f.size) }
 {
     let size = name_size(bytes);
     let digits = &bytes[..size];
@@ -226,7 +230,7 @@ fn number_front(bytes: &[u8]) -> Option<Front>
 
 /// The format at the front of the text.
 fn format_front(bytes: &[u8]) -> Option<Front>
-    ensures { MatchOption result ((rest : List ℕ) → Begins bytes.now AFormat rest → ⊥) (λ f. (f.size ≤ length bytes.now) × Begins bytes.now f.token (drop f.size bytes.now)) }
+    ensures { MatchOption result ((rest : List ℕ) → Begins bytes.now AFormat rest → ⊥) (λ f. IsTokenAhead bytes.now f.token f.size) }
 {
     match bytes {
         [b'"', b'%', b'd', b'\\', b'n', b'"', ..] => Some(Front {
@@ -249,7 +253,7 @@ fn longer(b: u8, rest: &[u8]) -> bool
 
 /// The mark at the front of the text.
 fn mark_front(bytes: &[u8]) -> Option<Front>
-    ensures { MatchOption result ((m : Mark) (rest : List ℕ) → Begins bytes.now (AMark m) rest → ⊥) (λ f. (f.size ≤ length bytes.now) × Begins bytes.now f.token (drop f.size bytes.now)) }
+    ensures { MatchOption result ((m : Mark) (rest : List ℕ) → Begins bytes.now (AMark m) rest → ⊥) (λ f. IsTokenAhead bytes.now f.token f.size) }
 {
     match bytes {
         [] => None,
@@ -271,7 +275,7 @@ fn mark_front(bytes: &[u8]) -> Option<Front>
 
 /// The token at the front of the text.
 fn next_token(bytes: &[u8]) -> Option<Front>
-    ensures { MatchOption result ((t : Token) (rest : List ℕ) → Begins bytes.now t rest → ⊥) (λ f. (f.size ≤ length bytes.now) × Begins bytes.now f.token (drop f.size bytes.now)) }
+    ensures { MatchOption result ((t : Token) (rest : List ℕ) → Begins bytes.now t rest → ⊥) (λ f. IsTokenAhead bytes.now f.token f.size) }
 {
     if let Some(front) = word_front(bytes) {
         return Some(front);

@@ -1,4 +1,4 @@
-use Rattle.std.proofs.Common.{List, length}
+use Rattle.std.proofs.Common.{length}
 use Rattle.vx_ast.proofs.Lexing.{Reached}
 use Rattle.vx_ast.proofs.small_tokens.tokenize.Given as goal
 
