@@ -1,1 +1,11 @@
 mod SpellingRows
+pub mod Counting
+pub mod LineLemmas
+mod TextRows
+pub mod Numbers
+pub mod Advance
+pub mod StepLemmas
+pub mod OperationLemmas
+pub mod ReadLemmas
+pub mod FieldsAgain
+pub mod OperationsAgain

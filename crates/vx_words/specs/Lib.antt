@@ -1,4 +1,7 @@
 pub mod Spelling
 pub mod Fields
 pub mod Forms
+pub mod Range
+pub mod Reading
+pub mod Steps
 pub mod Text

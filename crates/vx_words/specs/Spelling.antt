@@ -138,8 +138,11 @@ abbrev pub line : List ℕ → List ℕ
 line text = text ++ 10 ∷ []
 
 -- a word of the memory that does not start as 0
+abbrev pub start_text : ℕ × ℤ → List ℕ
+start_text entry = codes ".word " ++ decimal entry.0 ++ codes " = " ++ signed_decimal entry.1
+
 abbrev pub start_line : ℕ × ℤ → List ℕ
-start_line entry = line (codes ".word " ++ decimal entry.0 ++ codes " = " ++ signed_decimal entry.1)
+start_line entry = line (start_text entry)
 
 -- the printable bytes but the quote and the backslash stand for themselves
 abbrev pub is_plain : ℕ → Bool
@@ -151,16 +154,22 @@ hexadecimal_digit d = if nat_lt d 10 then 48 + d else 87 + d
 abbrev pub byte_text : ℕ → List ℕ
 byte_text b = if is_plain b then b ∷ [] else 92 ∷ 120 ∷ hexadecimal_digit (b / 16) ∷ hexadecimal_digit (b % 16) ∷ []
 
+abbrev pub quoted_text : List ℕ → List ℕ
+quoted_text bytes = codes ".text \"" ++ flat_map byte_text bytes ++ codes "\""
+
 abbrev pub text_line : List ℕ → List ℕ
-text_line bytes = line (codes ".text \"" ++ flat_map byte_text bytes ++ codes "\"")
+text_line bytes = line (quoted_text bytes)
 
 abbrev pub operation_line : Operation → List ℕ
 operation_line op = line (operation_text op)
 
+abbrev pub idle_text : ℕ → List ℕ
+idle_text n = codes "xnop " ++ decimal n
+
 -- a word's own lines, its label aside
 abbrev pub word_lines : Word → List ℕ
 word_lines w =
-    (if w.idle == 0 then flat_map operation_line w.ops else line (codes "xnop " ++ decimal w.idle)) ++ line (codes ";;")
+    (if w.idle == 0 then flat_map operation_line w.ops else line (idle_text w.idle)) ++ line (codes ";;")
 
 -- some operation of the words names the place
 abbrev pub names : ℕ → Operation → Bool
@@ -169,8 +178,11 @@ names p op = option_map_or (λ q. q == p) (target_of op) false
 abbrev pub is_named : List Word → ℕ → Bool
 is_named words p = list_any (λ w. list_any (names p) w.ops) words
 
+abbrev pub place_text : ℕ → List ℕ
+place_text p = label_text p ++ codes ":"
+
 abbrev pub label_line : ℕ → List ℕ
-label_line p = line (label_text p ++ codes ":")
+label_line p = line (place_text p)
 
 -- the words from place p on; a label line stands exactly where an operation of the whole program names the place
 abbrev pub words_from : List Word → ℕ → List Word → List ℕ

@@ -329,7 +329,7 @@ pub fn push_body(out: &mut Vec<u8>, operation: Operation) -> Result<(), NoMemory
     }
 }
 
-fn cluster_of_operation(operation: Operation) -> u32
+pub fn cluster_of_operation(operation: Operation) -> u32
     ensures { result ≡ cluster_of operation }
 {
     match operation {

@@ -4,7 +4,7 @@ ghost use Rattle.std.specs.Prelude.{◌≡◌, ℕ, ◌<◌, ◌≤◌, ◌/◌,
 ghost use Rattle.std.specs.List.{flat_map, list_any};
 ghost use Rattle.vx_isa.specs.Sound.{is_sound};
 ghost use Rattle.vx_words.specs.Text.{Spells};
-ghost use Rattle.vx_words.specs.Spelling.{target_of, names, is_named, hexadecimal_digit, byte_text, text_line, start_line, word_lines, operation_line, label_line, words_from, header, spelling};
+ghost use Rattle.vx_words.specs.Spelling.{target_of, names, is_named, hexadecimal_digit, byte_text, quoted_text, text_line, start_text, start_line, idle_text, word_lines, operation_line, place_text, label_line, words_from, header, spelling};
 
 use crate::operation_text::{
     push_bytes, push_label, push_number, push_operation_line, push_signed,
@@ -15,7 +15,7 @@ use vx_isa::operation::Operation;
 use vx_base::listed::Bytes;
 use vx_isa::program::{Word, WordProgram};
 
-fn target_of_operation(operation: Operation) -> Option<u32>
+pub fn target_of_operation(operation: Operation) -> Option<u32>
     ensures { result ≡ target_of operation }
 {
     match operation {
@@ -77,14 +77,22 @@ fn push_byte(out: &mut Vec<u8>, byte: u8) -> Result<(), NoMemory>
     }
 }
 
-fn push_text_line(out: &mut Vec<u8>, bytes: &[u8]) -> Result<(), NoMemory>
-    ensures { OnOk result (out.new.items ≡ out.old.items ++ text_line bytes.now) }
+/// Puts a text at the end, quoted and behind `.text`.
+pub fn push_quoted(out: &mut Vec<u8>, bytes: &[u8]) -> Result<(), NoMemory>
+    ensures { OnOk result (out.new.items ≡ out.old.items ++ quoted_text bytes.now) }
 {
     push_bytes(out, b".text \"")?;
     for byte in bytes {
         push_byte(out, *byte)?;
     }
-    push_bytes(out, b"\"\n")
+    push_bytes(out, b"\"")
+}
+
+fn push_text_line(out: &mut Vec<u8>, bytes: &[u8]) -> Result<(), NoMemory>
+    ensures { OnOk result (out.new.items ≡ out.old.items ++ text_line bytes.now) }
+{
+    push_quoted(out, bytes)?;
+    push_bytes(out, b"\n")
 }
 
 fn push_text_lines(out: &mut Vec<u8>, texts: &[Bytes]) -> Result<(), NoMemory>
@@ -96,13 +104,20 @@ fn push_text_lines(out: &mut Vec<u8>, texts: &[Bytes]) -> Result<(), NoMemory>
     Ok(())
 }
 
-fn push_start_line(out: &mut Vec<u8>, entry: (u32, i32)) -> Result<(), NoMemory>
-    ensures { OnOk result (out.new.items ≡ out.old.items ++ start_line entry) }
+/// Puts a word of the memory that does not start as 0 at the end, behind `.word`.
+pub fn push_start(out: &mut Vec<u8>, entry: (u32, i32)) -> Result<(), NoMemory>
+    ensures { OnOk result (out.new.items ≡ out.old.items ++ start_text entry) }
 {
     push_bytes(out, b".word ")?;
     push_number(out, entry.0 as usize)?;
     push_bytes(out, b" = ")?;
-    push_signed(out, entry.1)?;
+    push_signed(out, entry.1)
+}
+
+fn push_start_line(out: &mut Vec<u8>, entry: (u32, i32)) -> Result<(), NoMemory>
+    ensures { OnOk result (out.new.items ≡ out.old.items ++ start_line entry) }
+{
+    push_start(out, entry)?;
     push_bytes(out, b"\n")
 }
 
@@ -124,24 +139,39 @@ fn push_operation_lines(out: &mut Vec<u8>, operations: &[Operation]) -> Result<(
     Ok(())
 }
 
+/// Puts an empty time, `xnop n`, at the end.
+pub fn push_idle(out: &mut Vec<u8>, cycles: u32) -> Result<(), NoMemory>
+    ensures { OnOk result (out.new.items ≡ out.old.items ++ idle_text cycles) }
+{
+    push_bytes(out, b"xnop ")?;
+    push_number(out, cycles as usize)
+}
+
 fn push_word(out: &mut Vec<u8>, word: &Word) -> Result<(), NoMemory>
     ensures { OnOk result (out.new.items ≡ out.old.items ++ word_lines word.now) }
 {
     if word.idle == 0 {
         push_operation_lines(out, word.ops.as_slice())?;
     } else {
-        push_bytes(out, b"xnop ")?;
-        push_number(out, word.idle as usize)?;
+        push_idle(out, word.idle)?;
         push_bytes(out, b"\n")?;
     }
     push_bytes(out, b";;\n")
 }
 
+/// Puts a label, `Lp:`, at the end.
+pub fn push_place(out: &mut Vec<u8>, place: usize) -> Result<(), NoMemory>
+    ensures { OnOk result (out.new.items ≡ out.old.items ++ place_text place) }
+{
+    push_label(out, place)?;
+    push_bytes(out, b":")
+}
+
 fn push_label_line(out: &mut Vec<u8>, place: usize) -> Result<(), NoMemory>
     ensures { OnOk result (out.new.items ≡ out.old.items ++ label_line place) }
 {
-    push_label(out, place)?;
-    push_bytes(out, b":\n")
+    push_place(out, place)?;
+    push_bytes(out, b"\n")
 }
 
 fn push_words(out: &mut Vec<u8>, words: &[Word], named: &[bool]) -> Result<(), NoMemory>

@@ -1,0 +1,6 @@
+-- What is read is the text of the program.
+use Rattle.vx_words.proofs.ReadLemmas.{spells_if_read}
+use Rattle.vx_words.proofs.reader.read.Goals as goal
+
+pub returns-clause-spelled : goal.returns-clause-spelled
+returns-clause-spelled c = spells_if_read c.args.bytes.now c.read_text.result c.read_text.ensures.small c.read_text.ensures.exact
