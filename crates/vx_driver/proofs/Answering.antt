@@ -29,7 +29,7 @@ refuses_in source content (Some held) h never = record { content = content; hold
 
 -- a source that was read whole and has no text
 pub answers_unread : (source out content : List ℕ) (e : Effect) (status : Status) → IfSome e.before (λ held. HoldsSource held source content) → e.after ≡ e.before →
-  ((status ≡ NoMemory) ⊎ ((status ≡ Source 4 1 1) × ((program : Program) → ReadsSmall content program → ⊥))) → CompileAnswers source out e status
+    ((status ≡ NoMemory) ⊎ ((status ≡ Source 4 1 1) × ((program : Program) → ReadsSmall content program → ⊥))) → CompileAnswers source out e status
 answers_unread source out content e status h same (inl is) = subst (CompileAnswers source out e) (sym is) same
 answers_unread source out content e status h same (inr refused) =
     subst (CompileAnswers source out e) (sym refused.0) (refl, refl, refl, same, refuses_in source content e.before h refused.1)
@@ -47,7 +47,7 @@ partly_in source out content text (Some held) after h t is = record { text = tex
 
 -- a source that has a text, which was put under the output's name
 pub answers_written : (source out content text : List ℕ) (e : Effect) (status : Status) → IfSome e.before (λ held. HoldsSource held source content) → TextFrom content text →
-  WriteAnswers out text e status → CompileAnswers source out e status
+    WriteAnswers out text e status → CompileAnswers source out e status
 answers_written source out content text e Done h t is = writes_in source out content text e.before e.after h t is
 answers_written source out content text e Usage h t is = absurd is
 answers_written source out content text e (Source code line column) h t is = absurd is
@@ -73,7 +73,7 @@ pub data Ends (held : Files) (source : List ℕ) : Status → Type 0 where
   no_memory : Ends held source NoMemory
 
 told_ends : (source out : List ℕ) (held : Files) (e : Effect) (status : Status) → e.before ≡ Some held → (ReadsRose e → ⊥) → (ReplacesRose e → ⊥) →
-  (content : List ℕ) → held source ≡ Some content → CompileAnswers source out e status → Ends held source status
+    (content : List ℕ) → held source ≡ Some content → CompileAnswers source out e status → Ends held source status
 told_ends source out held e Done is quiet_reads quiet_replaces content holds a =
     let w : WritesWords held e.after source out = subst (λ b. IfSome b (λ h. WritesWords h e.after source out)) is a in
     done w.compiles.program w.compiles.content w.compiles.holds w.compiles.reads

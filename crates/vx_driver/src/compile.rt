@@ -8,8 +8,8 @@ ghost use Rattle.vx_ast.specs.Small.{ReadsSmall, program_of_main, is_sum};
 ghost use Rattle.vx_driver.specs.Straight.{MainFits};
 ghost use Rattle.vx_driver.specs.Answers.{effect_of, CompileAnswers, WriteAnswers, HoldsSource, TextOf, TextFrom};
 
-use crate::straight::small_code;
 use crate::status::{Role, Status};
+use crate::straight::small_code;
 use std::alloc::Global;
 use vx_ast::small::{SmallMain, read_small};
 use vx_base::depot::{Depot, DepotFault};

@@ -3,7 +3,7 @@
 ghost use Rattle.std.specs.Prelude.{◌≡◌, ◌≤◌};
 ghost use Rattle.vx_driver.specs.Status.{number_of, Appends};
 
-use vx_base::sink::{put_all, Sink, SinkFault};
+use vx_base::sink::{Sink, SinkFault, put_all};
 
 /// Which of the files that a command names is meant.
 #[derive(Clone, Copy, PartialEq, Eq, Debug)]

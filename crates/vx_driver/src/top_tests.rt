@@ -12,7 +12,8 @@ use vx_base::sink::MemSink;
 
 const FIVE: &str = "int main(void) { printf(\"%d\\n\", 2 + 3); return 0; }";
 
-const WORDS: &str = ".vexwords 1\n.memory 0\n.text \"\\x0a\"\nc0 mov $r0.3 = 2\n;;\nc0 add $r0.3 = $r0.3, 3\n;;\nc0 outd $r0.3\n;;\nc0 outs T0\n;;\nc0 mov $r0.3 = 0\n;;\nc0 halt $r0.3\n;;\n.end\n";
+const WORDS: &str =
+    ".vexwords 1\n.memory 0\n.text \"\\x0a\"\nc0 mov $r0.3 = 2\n;;\nc0 add $r0.3 = $r0.3, 3\n;;\nc0 outd $r0.3\n;;\nc0 outs T0\n;;\nc0 mov $r0.3 = 0\n;;\nc0 halt $r0.3\n;;\n.end\n";
 
 /// The one file of a test.
 fn source_file(alloc: Global, content: &str) -> Result<Vec<(String, Vec<u8>)>, AllocError>
@@ -43,7 +44,11 @@ fn call(
     failing: u64,
 ) -> Result<(Status, bool, MemSink), Fail> {
     let alloc = rt.alloc();
-    let mut depot = MemDepot::make(alloc, source_file(alloc, content)?, vec![in alloc; failing]?)?;
+    let mut depot = MemDepot::make(
+        alloc,
+        source_file(alloc, content)?,
+        vec![in alloc; failing]?,
+    )?;
     let mut out = MemSink::make(alloc, 0, Vec::new(alloc))?;
     let mut err = MemSink::make(alloc, 100, Vec::new(alloc))?;
     let words = command_line(alloc, command, source)?;
@@ -74,10 +79,38 @@ fn refusals(rt: HostRuntime) -> Result<(), Fail> {
     let rows: [(&str, &str, &str, u64, Status, &[u8]); 6] = [
         ("", "compile", "five.c", 0, other, b"source S4 at 1:1\n"),
         (FIVE, "compil", "five.c", 0, Status::Usage, b"no command\n"),
-        (FIVE, "compile", "six.c", 0, Status::NoFile(Role::Source), b"no file source\n"),
-        (FIVE, "compile", "five.c", 1, Status::ReadFault(Role::Source), b"read fault source\n"),
-        (FIVE, "compile", "five.c", 2, Status::ReadFault(Role::Source), b"read fault source\n"),
-        (FIVE, "compile", "five.c", 3, Status::WriteFault, b"write fault\n"),
+        (
+            FIVE,
+            "compile",
+            "six.c",
+            0,
+            Status::NoFile(Role::Source),
+            b"no file source\n",
+        ),
+        (
+            FIVE,
+            "compile",
+            "five.c",
+            1,
+            Status::ReadFault(Role::Source),
+            b"read fault source\n",
+        ),
+        (
+            FIVE,
+            "compile",
+            "five.c",
+            2,
+            Status::ReadFault(Role::Source),
+            b"read fault source\n",
+        ),
+        (
+            FIVE,
+            "compile",
+            "five.c",
+            3,
+            Status::WriteFault,
+            b"write fault\n",
+        ),
     ];
     for (content, command, source, failing, wanted, line) in rows {
         let (status, written, err) = call(&rt, content, command, source, failing)?;

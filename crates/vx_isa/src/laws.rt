@@ -9,8 +9,7 @@ ghost use Rattle.vx_isa.specs.Steady.{WordsAreSteady};
 #[tactic(auto, using(crate::proofs::FitsLaw::fits_in_words))]
 pub fn fits_law()
     ensures { FitsInWords }
-{
-}
+{}
 
 /// A program is sound exactly where its memory is a multiple of 4 and small enough, its start list ascends over
 /// words of the memory and holds no 0, an empty time is short and alone in its word, and each operation has
@@ -18,11 +17,9 @@ pub fn fits_law()
 #[tactic(auto, using(crate::proofs::SoundLaw::sound_in_words))]
 pub fn sound_law()
     ensures { SoundInWords }
-{
-}
+{}
 
 /// The run of a program of words is steady: with a larger bound, what does not go on stays, and the output only grows.
 pub fn words_run_is_steady()
     ensures { WordsAreSteady }
-{
-}
+{}

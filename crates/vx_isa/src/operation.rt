@@ -345,7 +345,10 @@ impl Operation {
                     && right.comes_from(*cluster)
             }
             Operation::Load {
-                cluster, to, base, ..
+                cluster,
+                to,
+                base,
+                ..
             } => to.cluster == *cluster && base.cluster == *cluster,
             Operation::Store {
                 cluster,

@@ -169,9 +169,8 @@ fn is_destination(code: Code, to: &Register) -> bool
 #[cfg(test)]
 mod tests {
     use super::*;
-    use vx_base::listed::Bytes;
     use std::alloc::Global;
-    use vx_base::listed::Listed;
+    use vx_base::listed::{Bytes, Listed};
     use vx_base::outcome::NoMemory;
 
     /// Prints text 0 and ends.

@@ -1,9 +1,8 @@
 // The program `vexc`: the files and streams of the system, handed to the top call.
 #![tactic(auto)]
 
-use std::env;
-use std::io;
 use std::process::ExitCode;
+use std::{env, io};
 use vx_base::real::{RealDepot, RealSink};
 use vx_driver::status::{Status, put_line};
 use vx_driver::top::vexc;

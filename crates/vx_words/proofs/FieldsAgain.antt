@@ -24,9 +24,9 @@ use Rattle.vx_words.proofs.Numbers.{own, both_true, IsNoDigitFirst, number_again
 pub first_digit : (n : ℕ) (rest : List ℕ) → n < 2 ^ 64 → is_digit (get_or (decimal n ++ rest) 0 0) ≡ true
 first_digit n rest small = first_of (decimal n) (digits_decimal own n small) (decimal_nonempty n small)
   where
-  first_of : (ds : List ℕ) → list_all is_digit ds ≡ true → 0 < length ds → is_digit (get_or (ds ++ rest) 0 0) ≡ true
-  first_of [] all some = absurd (omega arith)
-  first_of (c ∷ cs) all some = (both_true (is_digit c) (list_all is_digit cs) all).0
+    first_of : (ds : List ℕ) → list_all is_digit ds ≡ true → 0 < length ds → is_digit (get_or (ds ++ rest) 0 0) ≡ true
+    first_of [] all some = absurd (omega arith)
+    first_of (c ∷ cs) all some = (both_true (is_digit c) (list_all is_digit cs) all).0
 
 digit_is_not : (c d : ℕ) → is_digit c ≡ true → d < 48 → nat_eq c d ≡ false
 digit_is_not c d e lt = let b = both_true (nat_le 48 c) (nat_le c 57) e in let low : 48 ≤ c = leb-true _ _ b.0 in grind (arith, nat_tests)
@@ -49,7 +49,7 @@ numbers_read : (c k n : ℕ) (rest : List ℕ) → k ≤ 3 → n ≤ 63 → IsNo
 unfolding numbers_at
 numbers_read c k n rest ke ne stop =
     let regroup : ((decimal k ++ codes ".") ++ decimal n) ++ rest ≡ decimal k ++ (46 ∷ (decimal n ++ rest)) =
-        append_assoc (decimal k ++ codes ".") (decimal n) rest ∙ append_assoc (decimal k) (codes ".") (decimal n ++ rest) in
+    append_assoc (decimal k ++ codes ".") (decimal n) rest ∙ append_assoc (decimal k) (codes ".") (decimal n ++ rest) in
     let one : number_at (((decimal k ++ codes ".") ++ decimal n) ++ rest) ≡ (k, 46 ∷ (decimal n ++ rest)) = ap number_at regroup ∙ number_read k (46 ∷ (decimal n ++ rest)) (omega arith) refl in
     rw (one, number_read n rest (omega arith) stop) refl
 
@@ -88,9 +88,9 @@ source_read (Number z) rest e fits stop = rw (signed_first z rest fits, signed_r
 pub decimal_is_number : (n : ℕ) → n < 2 ^ 64 → is_number (decimal n) ≡ true
 decimal_is_number n small = is_number_of n small
   where
-  is_number_of : (n : ℕ) → n < 2 ^ 64 → is_number (decimal n) ≡ true
-  is_number_of zero small = rw (decimal_digit 0 (omega arith)) refl
-  is_number_of (suc n) small =
-      let first : 48 < get_or (decimal (suc n)) 0 0 = first_decimal (suc n) (omega arith) small in
-      let apart : nat_eq (get_or (decimal (suc n)) 0 0) 48 ≡ false = grind (arith, nat_tests) in
-      rw (digits_decimal own (suc n) small, lt-ltb _ _ (decimal_nonempty (suc n) small), apart) refl
+    is_number_of : (n : ℕ) → n < 2 ^ 64 → is_number (decimal n) ≡ true
+    is_number_of zero small = rw (decimal_digit 0 (omega arith)) refl
+    is_number_of (suc n) small =
+        let first : 48 < get_or (decimal (suc n)) 0 0 = first_decimal (suc n) (omega arith) small in
+        let apart : nat_eq (get_or (decimal (suc n)) 0 0) 48 ≡ false = grind (arith, nat_tests) in
+        rw (digits_decimal own (suc n) small, lt-ltb _ _ (decimal_nonempty (suc n) small), apart) refl

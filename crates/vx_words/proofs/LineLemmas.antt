@@ -52,7 +52,7 @@ marks_from_places_at p (suc n) [] ls len at = absurd (omega (arith, len))
 marks_from_places_at p (suc n) (m ∷ ms) ls len at =
     let here : m ≡ list_any (line_names p) ls = subst (λ q. m ≡ list_any (line_names q) ls) (add-zero p) (at 0 (omega arith)) in
     let there : (q : ℕ) → q < n → get_or ms q false ≡ list_any (line_names (p + 1 + q)) ls =
-        λ q lt. subst (λ k. get_or ms q false ≡ list_any (line_names k) ls) (let e : p + suc q ≡ p + 1 + q = omega arith in e) (at (suc q) (omega arith)) in
+    λ q lt. subst (λ k. get_or ms q false ≡ list_any (line_names k) ls) (let e : p + suc q ≡ p + 1 + q = omega arith in e) (at (suc q) (omega arith)) in
     let tail : ms ≡ marks_from (p + 1) n ls = marks_from_places_at (p + 1) n ms ls (omega (arith, len)) there in
     cc
 
@@ -86,13 +86,13 @@ pub field_then : (text : List ℕ) → 0 < length (drop (prefix_len is_field tex
 field_then [] some = absurd (omega arith)
 field_then (c ∷ cs) some = field_then_by c cs (nat_eq c 32) refl some (λ h. field_then cs h)
   where
-  field_then_by : (c : ℕ) (cs : List ℕ) (b : Bool) → nat_eq c 32 ≡ b → 0 < length (drop (prefix_len is_field (c ∷ cs) + 1) (c ∷ cs))
-      → (0 < length (drop (prefix_len is_field cs + 1) cs) → cs ≡ take (prefix_len is_field cs) cs ++ 32 ∷ drop (prefix_len is_field cs + 1) cs)
-      → c ∷ cs ≡ take (prefix_len is_field (c ∷ cs)) (c ∷ cs) ++ 32 ∷ drop (prefix_len is_field (c ∷ cs) + 1) (c ∷ cs)
-  field_then_by c cs true e some h = rw e (ap (λ k. k ∷ cs) (eqb-true c 32 e))
-  field_then_by c cs false e some h =
-      let n = prefix_len is_field cs in
-      let one : 1 + n ≡ suc n = omega arith in
-      let two : 1 + n + 1 ≡ suc (n + 1) = omega arith in
-      let some2 : 0 < length (drop (n + 1) cs) = subst (λ k. 0 < length (drop k (c ∷ cs))) two (rw e at some) in
-      rw (e, two, one) (ap (λ t. c ∷ t) (h some2))
+    field_then_by : (c : ℕ) (cs : List ℕ) (b : Bool) → nat_eq c 32 ≡ b → 0 < length (drop (prefix_len is_field (c ∷ cs) + 1) (c ∷ cs))
+        → (0 < length (drop (prefix_len is_field cs + 1) cs) → cs ≡ take (prefix_len is_field cs) cs ++ 32 ∷ drop (prefix_len is_field cs + 1) cs)
+        → c ∷ cs ≡ take (prefix_len is_field (c ∷ cs)) (c ∷ cs) ++ 32 ∷ drop (prefix_len is_field (c ∷ cs) + 1) (c ∷ cs)
+    field_then_by c cs true e some h = rw e (ap (λ k. k ∷ cs) (eqb-true c 32 e))
+    field_then_by c cs false e some h =
+        let n = prefix_len is_field cs in
+        let one : 1 + n ≡ suc n = omega arith in
+        let two : 1 + n + 1 ≡ suc (n + 1) = omega arith in
+        let some2 : 0 < length (drop (n + 1) cs) = subst (λ k. 0 < length (drop k (c ∷ cs))) two (rw e at some) in
+        rw (e, two, one) (ap (λ t. c ∷ t) (h some2))

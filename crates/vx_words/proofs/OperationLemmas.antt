@@ -45,13 +45,13 @@ goes_spelled : (text ds : List ℕ) → text ≡ codes "goto L" ++ ds → is_num
     → body_text (Goto (number_at (drop 1 (operands text))).0) ≡ text
 goes_spelled text ds e number lt =
     subst (λ x. (number_at (drop 1 (operands x))).0 < most → body_text (Goto (number_at (drop 1 (operands x))).0) ≡ x) (sym e)
-      (λ h. ap (λ d. codes "goto L" ++ d) (written_below ds number h)) lt
+    (λ h. ap (λ d. codes "goto L" ++ d) (written_below ds number h)) lt
 
 calls_spelled : (text ds : List ℕ) → text ≡ codes "call $l0.0 = L" ++ ds → is_number ds ≡ true → (number_at (drop 9 (operands text))).0 < most
     → body_text (Call (number_at (drop 9 (operands text))).0) ≡ text
 calls_spelled text ds e number lt =
     subst (λ x. (number_at (drop 9 (operands x))).0 < most → body_text (Call (number_at (drop 9 (operands x))).0) ≡ x) (sym e)
-      (λ h. ap (λ d. codes "call $l0.0 = L" ++ d) (written_below ds number h)) lt
+    (λ h. ap (λ d. codes "call $l0.0 = L" ++ d) (written_below ds number h)) lt
 
 branch_number : (t : ℕ) (ds : List ℕ) → t ≤ 7 → number_at ((decimal t ++ codes ", L") ++ ds) ≡ (t, codes ", L" ++ ds)
 unfolding number_at
@@ -67,16 +67,16 @@ branches_spelled : (at_one : Bool) (t : ℕ) (text ds : List ℕ) → text ≡ b
     → body_text (BranchOn t at_one (branch_target text)) ≡ text
 branches_spelled true t text ds e le number lt =
     subst (λ x. branch_target x < most → body_text (BranchOn t true (branch_target x)) ≡ x) (sym e)
-      (λ h. let n = branch_number t ds le in
-        let target : branch_target (branch_front t true ++ ds) ≡ (number_at ds).0 = ap (λ (x : ℕ × List ℕ). (number_at (drop 3 x.1)).0) n in
-        let below : (number_at ds).0 < most = subst (λ v. v < most) target h in
-        rw (target, written_below ds number below) (regroup_label (codes "br $b0." ++ decimal t) ds)) lt
+    (λ h. let n = branch_number t ds le in
+    let target : branch_target (branch_front t true ++ ds) ≡ (number_at ds).0 = ap (λ (x : ℕ × List ℕ). (number_at (drop 3 x.1)).0) n in
+    let below : (number_at ds).0 < most = subst (λ v. v < most) target h in
+    rw (target, written_below ds number below) (regroup_label (codes "br $b0." ++ decimal t) ds)) lt
 branches_spelled false t text ds e le number lt =
     subst (λ x. branch_target x < most → body_text (BranchOn t false (branch_target x)) ≡ x) (sym e)
-      (λ h. let n = branch_number t ds le in
-        let target : branch_target (branch_front t false ++ ds) ≡ (number_at ds).0 = ap (λ (x : ℕ × List ℕ). (number_at (drop 3 x.1)).0) n in
-        let below : (number_at ds).0 < most = subst (λ v. v < most) target h in
-        rw (target, written_below ds number below) (regroup_label (codes "brf $b0." ++ decimal t) ds)) lt
+    (λ h. let n = branch_number t ds le in
+    let target : branch_target (branch_front t false ++ ds) ≡ (number_at ds).0 = ap (λ (x : ℕ × List ℕ). (number_at (drop 3 x.1)).0) n in
+    let below : (number_at ds).0 < most = subst (λ v. v < most) target h in
+    rw (target, written_below ds number below) (regroup_label (codes "brf $b0." ++ decimal t) ds)) lt
 
 -- below the number of words, and so below the cap
 below_most : (total p : ℕ) → nat_le total p ≡ false → total ≤ most → p < most
@@ -132,7 +132,7 @@ body_by total k (Some form) text op e b le =
     let a = kept (has_form x text && has_operands x) x op e in
     let both = both_true (has_form x text) (has_operands x) a.0 in
     subst (λ y. is_beyond total y ≡ false → (body_text y ≡ text) × (has_operands y ≡ true)) a.1
-      (λ h. (form_spelled total k form text both.0 both.1 h le, both.1)) b
+    (λ h. (form_spelled total k form text both.0 both.1 h le, both.1)) b
 
 pub body_spelled : (total k : ℕ) (text : List ℕ) (op : Operation) → operation_of k text ≡ Ok op → is_beyond total op ≡ false → total ≤ 4294967295
     → (body_text op ≡ text) × (has_operands op ≡ true)
@@ -167,7 +167,7 @@ operation_spelled total text op e found same beyond le =
     let range = cluster_range text e in
     let cluster : cluster_of op ≡ line_cluster text = sym (eqb-true _ _ same) in
     let digit : decimal (line_cluster text) ≡ get_or text 1 0 ∷ [] =
-        decimal_digit (line_cluster text) (omega (arith, range.0, range.1)) ∙ ap (λ d. d ∷ []) (let h : 48 + (get_or text 1 0 - 48) ≡ get_or text 1 0 = omega (arith, range.0) in h) in
+    decimal_digit (line_cluster text) (omega (arith, range.0, range.1)) ∙ ap (λ d. d ∷ []) (let h : 48 + (get_or text 1 0 - 48) ≡ get_or text 1 0 = omega (arith, range.0) in h) in
     rw (cluster, digit, body) (sym (three_bytes text e))
 
 -- the operation is sound where its texts and its place are there

@@ -195,7 +195,7 @@ branch_on_can : (at_one : Bool) (t p : ℕ) → t ≤ 7 → p ≤ 4294967295 →
 unfolding branch_on_of
 branch_on_can at_one t p te pe =
     let one : number_at ((decimal t ++ codes ", ") ++ (codes "L" ++ decimal p)) ≡ (t, codes ", L" ++ decimal p) =
-        ap number_at (append_assoc (decimal t) (codes ", ") (codes "L" ++ decimal p)) ∙ number_read t (codes ", L" ++ decimal p) (omega arith) refl in
+    ap number_at (append_assoc (decimal t) (codes ", ") (codes "L" ++ decimal p)) ∙ number_read t (codes ", L" ++ decimal p) (omega arith) refl in
     rw (one, number_end p pe) refl
 
 -- a front and a number

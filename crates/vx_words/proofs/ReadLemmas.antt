@@ -68,7 +68,7 @@ from_ends marks total s text t plain ending same x = record {
   spelled = x.spelled ∙ ap (λ l. so_far marks s ++ line l) (sym same);
   good = x.good;
   names = λ p. rw (names_nothing p text plain, x.words, x.ops)
-    (or_nothing (is_named (s.words ++ record { ops = s.ops; idle = s.idle } ∷ []) p)
+      (or_nothing (is_named (s.words ++ record { ops = s.ops; idle = s.idle } ∷ []) p)
       ∙ list_any-append (λ w. list_any (names p) w.ops) s.words (record { ops = s.ops; idle = s.idle } ∷ [])
       ∙ ap (λ b. is_named s.words p || b) (or_nothing (list_any (names p) s.ops))
       ∙ sym (or_nothing (state_names p s)));
@@ -223,7 +223,7 @@ run_advances marks total (l ∷ ls) n s t good le h =
       good = rest.good;
       names = λ p. rest.names p ∙ ap (λ b. b || list_any (line_names p) ls) (one.names p) ∙ or_assoc (state_names p s) (line_names p l) (list_any (line_names p) ls);
       count = rest.count ∙ one_more (length a.0.words) (length s.words) (is_word_end l) (word_count ls) one.count
-        ∙ ap (λ k. length s.words + k) (sym (sum_by-cons (λ x. cond (is_word_end x) 1 0) l ls));
+          ∙ ap (λ k. length s.words + k) (sym (sum_by-cons (λ x. cond (is_word_end x) 1 0) l ls));
     }
 
 -- the words with labels by marks are the words with the labels that they name
@@ -234,7 +234,7 @@ words_same marks all p (w ∷ ws) same =
     let zero-is : p + 0 ≡ p = omega arith in
     let here : get_or marks p false ≡ is_named all p = subst (λ k. get_or marks k false ≡ is_named all k) zero-is (same 0 (omega arith)) in
     let rest : words_by marks (p + 1) ws ≡ words_from all (p + 1) ws = words_same marks all (p + 1) ws
-        (λ q lt. subst (λ k. get_or marks k false ≡ is_named all k) (let e : p + suc q ≡ p + 1 + q = omega arith in e) (same (suc q) (omega arith))) in
+    (λ q lt. subst (λ k. get_or marks k false ≡ is_named all k) (let e : p + suc q ≡ p + 1 + q = omega arith in e) (same (suc q) (omega arith))) in
     rw (here, rest) refl
 
 -- a mark says whether a line names its place
@@ -281,11 +281,11 @@ lines_spell ls front t joined between runs =
     let f = finished marks total t runs.good between in
     let count : total ≡ length t.words = let h = runs.count in omega (arith, h) in
     let named : (q : ℕ) → q < length t.words → get_or marks (0 + q) false ≡ is_named t.words (0 + q) =
-        λ q lt. mark_is_name ls total t q (omega (arith, count)) (runs.names (0 + q)) f.ops in
+    λ q lt. mark_is_name ls total t q (omega (arith, count)) (runs.names (0 + q)) f.ops in
     let words : words_by marks 0 t.words ≡ words_from t.words 0 t.words = words_same marks t.words 0 t.words named in
     let text : body marks t.memory t.start t.texts t.words ≡ front = sym f.spelled ∙ runs.spelled ∙ joined in
     let whole : header t.memory ++ flat_map start_line t.start ++ flat_map text_line t.texts ++ words_from t.words 0 t.words ≡ front =
-        ap (λ x. header t.memory ++ flat_map start_line t.start ++ flat_map text_line t.texts ++ x) (sym words) ∙ text in
+    ap (λ x. header t.memory ++ flat_map start_line t.start ++ flat_map text_line t.texts ++ x) (sym words) ∙ text in
     (sound_parts total t.memory t.least t.start t.texts t.words f.parts count, ap (λ x. x ++ line (codes ".end")) (sym whole))
 
 abbrev read : WordProgram → Result WordProgram Fault
@@ -297,9 +297,9 @@ not_read n t w b e = let h = rw b at e in cc
 end_of_run : (n : ℕ) (r : Result Before Fault) (w : WordProgram) → ended n r ≡ read w → (t : Before) × (r ≡ reached t) × (is_between_words t.stage ≡ true) × (program_of t ≡ w)
 end_of_run n (Ok t) w e = end_by (is_between_words t.stage) refl e
   where
-  end_by : (b : Bool) → is_between_words t.stage ≡ b → ended n (Ok t) ≡ read w → (u : Before) × (reached t ≡ reached u) × (is_between_words u.stage ≡ true) × (program_of u ≡ w)
-  end_by true b e = (t, refl, b, let h : read (program_of t) ≡ read w = rw b at e in cc)
-  end_by false b e = absurd (let h : ended n (Ok t) ≡ read w = e in not_read n t w b h)
+    end_by : (b : Bool) → is_between_words t.stage ≡ b → ended n (Ok t) ≡ read w → (u : Before) × (reached t ≡ reached u) × (is_between_words u.stage ≡ true) × (program_of u ≡ w)
+    end_by true b e = (t, refl, b, let h : read (program_of t) ≡ read w = rw b at e in cc)
+    end_by false b e = absurd (let h : ended n (Ok t) ≡ read w = e in not_read n t w b h)
 end_of_run n (Err f) w e = absurd cc
 
 tested_text : (b : Bool) (x y : Result WordProgram Fault) (w : WordProgram) → (if b then x else y) ≡ read w → y ≡ Err (record { code = 7; line = 0 }) → (b ≡ true) × (x ≡ read w)
@@ -319,7 +319,7 @@ ends_front bytes e =
     let long : length bytes ≡ length (xs ++ 10 ∷ []) + 5 = ap length regrouped ∙ length-append (xs ++ 10 ∷ []) (line (codes ".end")) in
     let five : length bytes - 5 ≡ length (xs ++ 10 ∷ []) = omega (arith, long) in
     let front : front_of bytes ≡ xs ++ 10 ∷ [] =
-        ap (λ n. take n bytes) five ∙ ap (take (length (xs ++ 10 ∷ []))) regrouped ∙ take_at (xs ++ 10 ∷ []) (line (codes ".end")) (length (xs ++ 10 ∷ [])) refl in
+    ap (λ n. take n bytes) five ∙ ap (take (length (xs ++ 10 ∷ []))) regrouped ∙ take_at (xs ++ 10 ∷ []) (line (codes ".end")) (length (xs ++ 10 ∷ [])) refl in
     (regrouped ∙ ap (λ x. x ++ line (codes ".end")) (sym front), ap (λ x. unlines (lines x)) front ∙ lines_joined xs ∙ sym front)
 
 pub reading_spells : (bytes : List ℕ) (w : WordProgram) → length bytes < 2 ^ 32 → reading bytes ≡ Ok w → Spells bytes w

@@ -75,8 +75,8 @@ pub version_extends : (marks : List Bool) (total : ℕ) (text : List ℕ) (t : B
 unfolding version_step
 version_extends marks total text t s = by_cases marks total (λ s. version_step s text ≡ Ok t → Extends marks total s text t) s (record {
   start = λ h.
-    let a = accepted_ok (bytes_eq text (codes ".vexwords 1")) (record beginning { stage = Version }) t h in
-    subst (Extends marks total beginning text) a.1 (record { spelled = ap line (sym (is_same_text text (codes ".vexwords 1") a.0)); good = at_version refl; words = refl; ops = refl });
+      let a = accepted_ok (bytes_eq text (codes ".vexwords 1")) (record beginning { stage = Version }) t h in
+      subst (Extends marks total beginning text) a.1 (record { spelled = ap line (sym (is_same_text text (codes ".vexwords 1") a.0)); good = at_version refl; words = refl; ops = refl });
   version = λ h. never 5 t h;
   memory = λ m l st parts h. never 5 t h;
   texts = λ m l st ts parts h. never 5 t h;
@@ -140,7 +140,7 @@ word_body : (marks : List Bool) (m : ℕ) (st : List (ℕ × ℤ)) (ts : List (L
 word_body marks m st ts ws w =
     let e : 0 + length ws ≡ length ws = omega arith in
     let more : words_by marks 0 (ws ++ w ∷ []) ≡ words_by marks 0 ws ++ (label_at marks (length ws) ++ word_lines w) =
-        words_more marks 0 ws w ∙ ap (λ k. words_by marks 0 ws ++ (label_at marks k ++ word_lines w)) e in
+    words_more marks 0 ws w ∙ ap (λ k. words_by marks 0 ws ++ (label_at marks k ++ word_lines w)) e in
     ap (λ C. header m ++ flat_map start_line st ++ flat_map text_line ts ++ C) more
     ∙ sym (append_assoc (header m ++ flat_map start_line st ++ flat_map text_line ts) (words_by marks 0 ws) (label_at marks (length ws) ++ word_lines w))
 
@@ -149,27 +149,27 @@ pub memory_extends : (marks : List Bool) (total : ℕ) (text : List ℕ) (t : Be
 unfolding memory_step
 memory_extends marks total text t s good field = by_cases marks total (λ s. memory_step s (drop 8 text) ≡ Ok t → Extends marks total s text t) s (record {
   start = λ h.
-    let digits = drop 8 text in
-    let a = two_tests (is_size digits && nat_lt 134217728 (value_from 0 digits)) (is_size digits && false) (record beginning { stage = Memory; memory = value_from 0 digits }) t h in
-    let b = both_true (is_size digits) false a.1 in
-    absurd (let no : false ≡ true = b.1 in cc);
+      let digits = drop 8 text in
+      let a = two_tests (is_size digits && nat_lt 134217728 (value_from 0 digits)) (is_size digits && false) (record beginning { stage = Memory; memory = value_from 0 digits }) t h in
+      let b = both_true (is_size digits) false a.1 in
+      absurd (let no : false ≡ true = b.1 in cc);
   version = λ h.
-    let digits = drop 8 text in
-    let a = two_tests (is_size digits && nat_lt 134217728 (value_from 0 digits)) (is_size digits && true) (shape Memory (value_from 0 digits) 0 [] [] [] [] 0) t h in
-    let size : is_size digits ≡ true = (both_true (is_size digits) true a.1).0 in
-    let whole : nat_eq (value_from 0 digits % 4) 0 ≡ true = (both_true (is_number digits) (nat_eq (value_from 0 digits % 4) 0) size).1 in
-    let near : nat_lt 134217728 (value_from 0 digits) ≡ false = rw size at a.0 in
-    let bound : value_from 0 digits ≤ 134217728 = ltb-false _ _ near in
-    let written : decimal (value_from 0 digits) ≡ digits = size_written digits size (omega arith) in
-    let some : 0 < length digits = is_number_some digits (both_true (is_number digits) (nat_eq (value_from 0 digits % 4) 0) size).0 in
-    let split : text ≡ codes ".memory" ++ 32 ∷ digits = seven_then text (codes ".memory") refl field some in
-    let parts : Parts total (value_from 0 digits) 0 [] [] [] = record { whole = whole; small = le-leb _ _ bound; start = refl; least = refl; words = refl } in
-    subst (Extends marks total (shape Version 0 0 [] [] [] [] 0) text) a.2 (record {
-      spelled = memory_text marks (value_from 0 digits) digits text written split;
-      good = at_memory (value_from 0 digits) 0 [] parts refl;
-      words = refl;
-      ops = refl;
-    });
+      let digits = drop 8 text in
+      let a = two_tests (is_size digits && nat_lt 134217728 (value_from 0 digits)) (is_size digits && true) (shape Memory (value_from 0 digits) 0 [] [] [] [] 0) t h in
+      let size : is_size digits ≡ true = (both_true (is_size digits) true a.1).0 in
+      let whole : nat_eq (value_from 0 digits % 4) 0 ≡ true = (both_true (is_number digits) (nat_eq (value_from 0 digits % 4) 0) size).1 in
+      let near : nat_lt 134217728 (value_from 0 digits) ≡ false = rw size at a.0 in
+      let bound : value_from 0 digits ≤ 134217728 = ltb-false _ _ near in
+      let written : decimal (value_from 0 digits) ≡ digits = size_written digits size (omega arith) in
+      let some : 0 < length digits = is_number_some digits (both_true (is_number digits) (nat_eq (value_from 0 digits % 4) 0) size).0 in
+      let split : text ≡ codes ".memory" ++ 32 ∷ digits = seven_then text (codes ".memory") refl field some in
+      let parts : Parts total (value_from 0 digits) 0 [] [] [] = record { whole = whole; small = le-leb _ _ bound; start = refl; least = refl; words = refl } in
+      subst (Extends marks total (shape Version 0 0 [] [] [] [] 0) text) a.2 (record {
+        spelled = memory_text marks (value_from 0 digits) digits text written split;
+        good = at_memory (value_from 0 digits) 0 [] parts refl;
+        words = refl;
+        ops = refl;
+      });
   memory = λ m l st parts h. never 5 t h;
   texts = λ m l st ts parts h. never 5 t h;
   word_end = λ m l st ts ws parts h. never 5 t h;
@@ -186,21 +186,21 @@ start_extends marks total text t s = by_cases marks total (λ s. start_step s te
   start = λ h. never 1 t h;
   version = λ h. never 1 t h;
   memory = λ m l st parts h.
-    let e = entry_at text in
-    let a = accepted_ok (nat_le l e.0 && nat_eq (e.0 % 4) 0 && nat_lt e.0 m && is_not_zero e.1 && bytes_eq (start_text e) text) (shape Memory m (e.0 + 1) (st ++ e ∷ []) [] [] [] 0) t h in
-    let b1 = both_true (nat_le l e.0 && nat_eq (e.0 % 4) 0 && nat_lt e.0 m && is_not_zero e.1) (bytes_eq (start_text e) text) a.0 in
-    let b2 = both_true (nat_le l e.0 && nat_eq (e.0 % 4) 0 && nat_lt e.0 m) (is_not_zero e.1) b1.0 in
-    let b3 = both_true (nat_le l e.0 && nat_eq (e.0 % 4) 0) (nat_lt e.0 m) b2.0 in
-    let b4 = both_true (nat_le l e.0) (nat_eq (e.0 % 4) 0) b3.0 in
-    let least : nat_le (least_behind 0 st) e.0 ≡ true = rw parts.least b4.0 in
-    let more : Parts total m (e.0 + 1) (st ++ e ∷ []) [] [] = record { whole = parts.whole; small = parts.small; start = start_more m 0 st e parts.start least b4.1 b3.1 b2.1; least = least_more 0 st e; words = refl } in
-    let same : start_text e ≡ text = is_same_text (start_text e) text b1.1 in
-    subst (Extends marks total (shape Memory m l st [] [] [] 0) text) a.1 (record {
-      spelled = subst (λ x. body marks m (st ++ e ∷ []) [] [] ≡ body marks m st [] [] ++ line x) same (start_body marks m st e);
-      good = at_memory m (e.0 + 1) (st ++ e ∷ []) more refl;
-      words = refl;
-      ops = refl;
-    });
+      let e = entry_at text in
+      let a = accepted_ok (nat_le l e.0 && nat_eq (e.0 % 4) 0 && nat_lt e.0 m && is_not_zero e.1 && bytes_eq (start_text e) text) (shape Memory m (e.0 + 1) (st ++ e ∷ []) [] [] [] 0) t h in
+      let b1 = both_true (nat_le l e.0 && nat_eq (e.0 % 4) 0 && nat_lt e.0 m && is_not_zero e.1) (bytes_eq (start_text e) text) a.0 in
+      let b2 = both_true (nat_le l e.0 && nat_eq (e.0 % 4) 0 && nat_lt e.0 m) (is_not_zero e.1) b1.0 in
+      let b3 = both_true (nat_le l e.0 && nat_eq (e.0 % 4) 0) (nat_lt e.0 m) b2.0 in
+      let b4 = both_true (nat_le l e.0) (nat_eq (e.0 % 4) 0) b3.0 in
+      let least : nat_le (least_behind 0 st) e.0 ≡ true = rw parts.least b4.0 in
+      let more : Parts total m (e.0 + 1) (st ++ e ∷ []) [] [] = record { whole = parts.whole; small = parts.small; start = start_more m 0 st e parts.start least b4.1 b3.1 b2.1; least = least_more 0 st e; words = refl } in
+      let same : start_text e ≡ text = is_same_text (start_text e) text b1.1 in
+      subst (Extends marks total (shape Memory m l st [] [] [] 0) text) a.1 (record {
+        spelled = subst (λ x. body marks m (st ++ e ∷ []) [] [] ≡ body marks m st [] [] ++ line x) same (start_body marks m st e);
+        good = at_memory m (e.0 + 1) (st ++ e ∷ []) more refl;
+        words = refl;
+        ops = refl;
+      });
   texts = λ m l st ts parts h. never 1 t h;
   word_end = λ m l st ts ws parts h. never 1 t h;
   label = λ m l st ts ws parts marked h. never 1 t h;
@@ -258,7 +258,7 @@ label_from marks total m l st ts ws p text stood s t parts words ops before same
     let here : p ≡ length ws = eqb-true _ _ b.0 in
     subst (Extends marks total s text) a.1 (record {
       spelled = subst (λ x. body marks m st ts ws ++ label_line (length ws) ≡ so_far marks s ++ line x) same
-        (rw before (ap (λ k. body marks m st ts ws ++ label_line k) (sym here)));
+          (rw before (ap (λ k. body marks m st ts ws ++ label_line k) (sym here)));
       good = at_label m l st ts ws parts b.1 refl;
       words = sym words;
       ops = sym ops;
@@ -296,9 +296,9 @@ marked_label marks p e = rw e refl
 unmarked_label : (marks : List Bool) (p : ℕ) → not (get_or marks p false) ≡ true → label_at marks p ≡ []
 unmarked_label marks p e = unmarked_by marks p (get_or marks p false) refl e
   where
-  unmarked_by : (marks : List Bool) (p : ℕ) (b : Bool) → get_or marks p false ≡ b → not b ≡ true → label_at marks p ≡ []
-  unmarked_by marks p true e h = absurd cc
-  unmarked_by marks p false e h = rw e refl
+    unmarked_by : (marks : List Bool) (p : ℕ) (b : Bool) → get_or marks p false ≡ b → not b ≡ true → label_at marks p ≡ []
+    unmarked_by marks p true e h = absurd cc
+    unmarked_by marks p false e h = rw e refl
 
 idle_from : (marks : List Bool) (total m l : ℕ) (st : List (ℕ × ℤ)) (ts : List (List ℕ)) (ws : List Word) (n : ℕ) (text : List ℕ) (begins : Bool) (s t : Before) → Parts total m l st ts ws
     → s.words ≡ ws → s.ops ≡ [] → (begins ≡ true → so_far marks s ≡ body marks m st ts ws ++ label_at marks (length ws))
@@ -312,7 +312,7 @@ idle_from marks total m l st ts ws n text begins s t parts words ops before h =
     let same : idle_text n ≡ text = is_same_text (idle_text n) text b1.1 in
     subst (Extends marks total s text) a.1 (record {
       spelled = subst (λ x. body marks m st ts ws ++ (label_at marks (length ws) ++ line (idle_text n)) ≡ so_far marks s ++ line x) same
-        (rw (before b3.0) (sym (append_assoc (body marks m st ts ws) (label_at marks (length ws)) (line (idle_text n)))));
+          (rw (before b3.0) (sym (append_assoc (body marks m st ts ws) (label_at marks (length ws)) (line (idle_text n)))));
       good = at_idle m l st ts ws n parts b3.1 b2.1 refl;
       words = sym words;
       ops = sym ops;
@@ -445,7 +445,7 @@ operation_from marks total m l st ts ws ops k op text begins s t parts all words
     let same : operation_text op ≡ text = read.spelled b.0 a.1 in
     subst (Adds marks total s op text) a.3 (record {
       spelled = subst (λ x. body marks m st ts ws ++ (label_at marks (length ws) ++ flat_map operation_line (ops ++ op ∷ [])) ≡ so_far marks s ++ line x) same
-        (operations_more (body marks m st ts ws) (label_at marks (length ws)) ops op ∙ ap (λ x. x ++ operation_line op) (before b.1));
+          (operations_more (body marks m st ts ws) (label_at marks (length ws)) ops op ∙ ap (λ x. x ++ operation_line op) (before b.1));
       good = at_operations m l st ts ws (ops ++ op ∷ []) parts (all_more (is_sound_operation total (length ts)) ops op all sound) refl;
       words = sym words;
       ops = rw same_ops refl;

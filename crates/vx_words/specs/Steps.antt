@@ -84,7 +84,7 @@ unfoldable pub memory_step : Before → List ℕ → Result Before ℕ
 memory_step s digits =
     if is_start_stage s.stage || is_version_stage s.stage
     then (if is_size digits && nat_lt 134217728 (value_from 0 digits) then Err 6
-          else accepted (is_size digits && is_version_stage s.stage) (record s { stage = Memory; memory = value_from 0 digits }))
+    else accepted (is_size digits && is_version_stage s.stage) (record s { stage = Memory; memory = value_from 0 digits }))
     else Err 5
 
 -- `.word A = V`
@@ -167,7 +167,7 @@ idle_step marks s text =
 unfoldable pub word_end_step : List Bool → Before → Result Before ℕ
 word_end_step marks s =
     accepted (begins_word marks s || is_operations_stage s.stage || is_idle_stage s.stage)
-      (record s { stage = WordEnd; words = s.words ++ record { ops = s.ops; idle = s.idle } ∷ []; ops = []; idle = 0 })
+    (record s { stage = WordEnd; words = s.words ++ record { ops = s.ops; idle = s.idle } ∷ []; ops = []; idle = 0 })
 
 -- the operation names a place that is no word of the text
 abbrev pub is_beyond : ℕ → Operation → Bool
@@ -177,8 +177,8 @@ unfoldable pub operation_by_stage : List Bool → ℕ → Before → ℕ → Ope
 operation_by_stage marks total s k op =
     if nat_lt (length s.texts) (texts_named op) then Err 3
     else (if is_beyond total op then Err 4
-      else accepted ((k == cluster_of op) && (begins_word marks s || is_operations_stage s.stage))
-        (record s { stage = Operations; ops = s.ops ++ op ∷ [] }))
+    else accepted ((k == cluster_of op) && (begins_word marks s || is_operations_stage s.stage))
+    (record s { stage = Operations; ops = s.ops ++ op ∷ [] }))
 
 abbrev pub operation_added : List Bool → ℕ → Before → ℕ → Result Operation ℕ → Result Before ℕ
 operation_added marks total s k (Ok op) = operation_by_stage marks total s k op

@@ -89,7 +89,7 @@ unfoldable pub reading : List ℕ → Result WordProgram Fault
 reading bytes =
     if ends_with nat_eq bytes end_bytes
     then (let ls = lines (take (length bytes - 5) bytes) in
-      ended (length ls + 1) (run_lines (marks_from 0 (word_count ls + 1) ls) (word_count ls) 1 beginning ls))
+    ended (length ls + 1) (run_lines (marks_from 0 (word_count ls + 1) ls) (word_count ls) 1 beginning ls))
     else Err (record { code = 7; line = 0 })
 
 abbrev pub fault_in : {X : Type 0} → Result X Fault → Option Fault

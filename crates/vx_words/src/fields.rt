@@ -10,7 +10,11 @@ use vx_isa::operation::{BranchRegister, GeneralRegister, Register, Source};
 pub fn skip(text: &[u8], count: usize) -> &[u8]
     ensures { result.now ≡ drop count text.now }
 {
-    if count <= text.len() { &text[count..] } else { &[] }
+    if count <= text.len() {
+        &text[count..]
+    } else {
+        &[]
+    }
 }
 
 /// The byte at a place, 0 behind the end.
@@ -49,7 +53,11 @@ fn negated(number: u32) -> i32
     requires { number ≤ 2147483648 }
     ensures { result ≡ negative number }
 {
-    if number == 0 { 0 } else { -1 - (number - 1) as i32 }
+    if number == 0 {
+        0
+    } else {
+        -1 - (number - 1) as i32
+    }
 }
 
 /// The signed number that begins a text, and what stands behind it.

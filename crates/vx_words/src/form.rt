@@ -5,7 +5,7 @@ ghost use Rattle.std.specs.Str.{bytes_eq};
 ghost use Rattle.vx_words.specs.Forms.{form_name, forms, code_to, trap_of, compute_of, move_of, select_of, load_of, store_of, branch_on_of, candidate, form_of};
 
 use crate::fields::{branch, general, number, register, signed, skip, source};
-use crate::operation_text::{name_of_code};
+use crate::operation_text::name_of_code;
 use vx_base::arithmetic::{Code, Compare};
 use vx_base::outcome::Trap;
 use vx_isa::operation::{Operation, Register};
@@ -70,7 +70,9 @@ pub const FORMS: [Form; 42] = [
     Form::PrintsByte,
     Form::Goes,
     Form::Branches { taken_at_one: true },
-    Form::Branches { taken_at_one: false },
+    Form::Branches {
+        taken_at_one: false,
+    },
     Form::Calls,
     Form::Returns,
     Form::FromLink,
@@ -109,7 +111,10 @@ fn name_of_form(form: Form) -> &'static [u8]
 pub fn form_named(name: &[u8]) -> Option<Form>
     ensures { result ≡ form_of name.now }
 {
-    FORMS.iter().copied().find(|form| name_of_form(*form) == name)
+    FORMS
+        .iter()
+        .copied()
+        .find(|form| name_of_form(*form) == name)
 }
 
 fn code_for(code: Code, to: Register) -> Code
@@ -142,7 +147,13 @@ fn compute(cluster: u32, code: Code, text: &[u8]) -> Operation
     let (to, rest) = register(text);
     let (left, rest) = source(skip(rest, 3));
     let (right, _) = source(skip(rest, 2));
-    Operation::Compute { cluster, code: code_for(code, to), to, left, right }
+    Operation::Compute {
+        cluster,
+        code: code_for(code, to),
+        to,
+        left,
+        right,
+    }
 }
 
 #[tactic(auto, unfolding(crate::specs::Forms::move_of))]
@@ -162,7 +173,13 @@ fn select(cluster: u32, text: &[u8]) -> Operation
     let (test, rest) = branch(skip(rest, 3));
     let (left, rest) = source(skip(rest, 2));
     let (right, _) = source(skip(rest, 2));
-    Operation::Select { cluster, to, test, left, right }
+    Operation::Select {
+        cluster,
+        to,
+        test,
+        left,
+        right,
+    }
 }
 
 #[tactic(auto, unfolding(crate::specs::Forms::load_of))]
@@ -172,7 +189,13 @@ fn load(cluster: u32, dismissible: bool, text: &[u8]) -> Operation
     let (to, rest) = general(text);
     let (offset, rest) = signed(skip(rest, 3));
     let (base, _) = general(skip(rest, 1));
-    Operation::Load { cluster, to, offset, base, dismissible }
+    Operation::Load {
+        cluster,
+        to,
+        offset,
+        base,
+        dismissible,
+    }
 }
 
 #[tactic(auto, unfolding(crate::specs::Forms::store_of))]
@@ -182,7 +205,12 @@ fn store(cluster: u32, text: &[u8]) -> Operation
     let (offset, rest) = signed(text);
     let (base, rest) = general(skip(rest, 1));
     let (from, _) = source(skip(rest, 4));
-    Operation::Store { cluster, offset, base, from }
+    Operation::Store {
+        cluster,
+        offset,
+        base,
+        from,
+    }
 }
 
 #[tactic(auto, unfolding(crate::specs::Forms::branch_on_of))]
@@ -191,7 +219,11 @@ fn branch_on(taken_at_one: bool, text: &[u8]) -> Operation
 {
     let (test, rest) = number(skip(text, 4));
     let (target, _) = number(skip(rest, 3));
-    Operation::BranchOn { test, taken_at_one, target }
+    Operation::BranchOn {
+        test,
+        taken_at_one,
+        target,
+    }
 }
 
 /// The one operation of a form that a text can be. It may be spelled otherwise.
@@ -205,18 +237,40 @@ pub fn candidate_of(cluster: u32, form: Form, text: &[u8]) -> Operation
         Form::Selects => select(cluster, text),
         Form::Loads { dismissible } => load(cluster, dismissible, text),
         Form::Stores => store(cluster, text),
-        Form::TakesInput => Operation::Input { to: general(text).0 },
-        Form::AsksInput => Operation::More { to: general(text).0 },
-        Form::PrintsText => Operation::OutText { text: number(skip(text, 1)).0 },
-        Form::PrintsDecimal => Operation::OutDecimal { from: source(text).0 },
-        Form::PrintsByte => Operation::OutByte { from: source(text).0 },
-        Form::Goes => Operation::Goto { target: number(skip(text, 1)).0 },
+        Form::TakesInput => Operation::Input {
+            to: general(text).0,
+        },
+        Form::AsksInput => Operation::More {
+            to: general(text).0,
+        },
+        Form::PrintsText => Operation::OutText {
+            text: number(skip(text, 1)).0,
+        },
+        Form::PrintsDecimal => Operation::OutDecimal {
+            from: source(text).0,
+        },
+        Form::PrintsByte => Operation::OutByte {
+            from: source(text).0,
+        },
+        Form::Goes => Operation::Goto {
+            target: number(skip(text, 1)).0,
+        },
         Form::Branches { taken_at_one } => branch_on(taken_at_one, text),
-        Form::Calls => Operation::Call { target: number(skip(text, 9)).0 },
+        Form::Calls => Operation::Call {
+            target: number(skip(text, 9)).0,
+        },
         Form::Returns => Operation::Return,
-        Form::FromLink => Operation::FromLink { to: general(text).0 },
-        Form::ToLink => Operation::ToLink { from: source(skip(text, 8)).0 },
-        Form::Traps => Operation::EndByTrap { trap: trap_numbered(number(text).0) },
-        Form::Halts => Operation::Halt { from: source(text).0 },
+        Form::FromLink => Operation::FromLink {
+            to: general(text).0,
+        },
+        Form::ToLink => Operation::ToLink {
+            from: source(skip(text, 8)).0,
+        },
+        Form::Traps => Operation::EndByTrap {
+            trap: trap_numbered(number(text).0),
+        },
+        Form::Halts => Operation::Halt {
+            from: source(text).0,
+        },
     }
 }

@@ -10,9 +10,9 @@ use crate::operation_text::{
     push_bytes, push_label, push_number, push_operation_line, push_signed,
 };
 use std::alloc::Global;
+use vx_base::listed::Bytes;
 use vx_base::outcome::NoMemory;
 use vx_isa::operation::Operation;
-use vx_base::listed::Bytes;
 use vx_isa::program::{Word, WordProgram};
 
 pub fn target_of_operation(operation: Operation) -> Option<u32>

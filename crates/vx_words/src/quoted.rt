@@ -25,14 +25,22 @@ pub enum Escape {
 fn value_of_digit(digit: u8) -> u8
     ensures { result ≡ hexadecimal_value digit }
 {
-    (if digit < 58 { digit.saturating_sub(48) } else { digit.saturating_sub(87) }) % 16
+    (if digit < 58 {
+        digit.saturating_sub(48)
+    } else {
+        digit.saturating_sub(87)
+    }) % 16
 }
 
 fn next(escape: Escape, byte: u8) -> Escape
     ensures { result ≡ next_escape escape byte }
 {
     match escape {
-        Escape::Plain => if byte == b'\\' { Escape::Backslash } else { Escape::Plain },
+        Escape::Plain => if byte == b'\\' {
+            Escape::Backslash
+        } else {
+            Escape::Plain
+        },
         Escape::Backslash => Escape::FirstDigit,
         Escape::FirstDigit => Escape::LastDigit(value_of_digit(byte)),
         Escape::LastDigit(_) => Escape::Plain,
@@ -74,6 +82,10 @@ pub fn text_of_line(alloc: Global, line: &[u8]) -> Result<Bytes, NoMemory>
     ensures { IfOk result (λ bytes. bytes ≡ unquoted line.now) }
 {
     let rest = skip(line, 7);
-    let inner = if rest.is_empty() { rest } else { &rest[..rest.len() - 1] };
+    let inner = if rest.is_empty() {
+        rest
+    } else {
+        &rest[..rest.len() - 1]
+    };
     Ok(Listed::from_vec(unquoted_bytes(alloc, inner)?))
 }

@@ -39,7 +39,11 @@ fn is_numbered_text(front: &[u8], text: &[u8]) -> bool
 fn push_branch_front(out: &mut Vec<u8>, test: u32, taken_at_one: bool) -> Result<(), NoMemory>
     ensures { OnOk result (out.new.items ≡ out.old.items ++ branch_front test taken_at_one) }
 {
-    let name: &[u8] = if taken_at_one { b"br $b0." } else { b"brf $b0." };
+    let name: &[u8] = if taken_at_one {
+        b"br $b0."
+    } else {
+        b"brf $b0."
+    };
     push_bytes(out, name)?;
     push_number(out, test as usize)?;
     push_bytes(out, b", L")
@@ -53,7 +57,11 @@ fn is_of_form(alloc: Global, operation: Operation, text: &[u8]) -> Result<bool, 
     match operation {
         Operation::Goto { .. } => Ok(is_numbered_text(b"goto L", text)),
         Operation::Call { .. } => Ok(is_numbered_text(b"call $l0.0 = L", text)),
-        Operation::BranchOn { test, taken_at_one, .. } => {
+        Operation::BranchOn {
+            test,
+            taken_at_one,
+            ..
+        } => {
             push_branch_front(&mut spelled, test, taken_at_one)?;
             Ok(is_numbered_text(spelled.as_slice(), text))
         },
@@ -105,15 +113,35 @@ fn is_sound_in(operation: Operation, words: usize, texts: usize) -> bool
     ensures { result ≡ is_sound_operation words texts operation }
 {
     match operation {
-        Operation::Compute { cluster, code, to, left, right } => {
-            cluster <= 3 && is_destination_of(code, to) && is_source(left) && is_source(right)
-        },
+        Operation::Compute {
+            cluster,
+            code,
+            to,
+            left,
+            right,
+        } => { cluster <= 3 && is_destination_of(code, to) && is_source(left) && is_source(right) },
         Operation::Move { cluster, to, from } => cluster <= 3 && is_general(to) && is_source(from),
-        Operation::Select { cluster, to, test, left, right } => {
+        Operation::Select {
+            cluster,
+            to,
+            test,
+            left,
+            right,
+        } => {
             cluster <= 3 && is_general(to) && is_branch(test) && is_source(left) && is_source(right)
         },
-        Operation::Load { cluster, to, base, .. } => cluster <= 3 && is_general(to) && is_general(base),
-        Operation::Store { cluster, base, from, .. } => cluster <= 3 && is_general(base) && is_source(from),
+        Operation::Load {
+            cluster,
+            to,
+            base,
+            ..
+        } => cluster <= 3 && is_general(to) && is_general(base),
+        Operation::Store {
+            cluster,
+            base,
+            from,
+            ..
+        } => cluster <= 3 && is_general(base) && is_source(from),
         Operation::Input { to } => is_general(to),
         Operation::More { to } => is_general(to),
         Operation::OutText { text } => (text as usize) < texts,

@@ -119,7 +119,11 @@ fn with_digit(value: u64, digit: u8) -> u64
     ensures counts { (x : ℕ) → Counts value x → Counts result (10 * x + digit) }
 {
     let longer = 10 * value + u64::from(digit);
-    if longer < 4294967296 { longer } else { 4294967296 + longer % 4 }
+    if longer < 4294967296 {
+        longer
+    } else {
+        4294967296 + longer % 4
+    }
 }
 
 #[tactic(auto, unfolding(crate::specs::Steps::memory_step))]
@@ -214,7 +218,9 @@ fn is_label_before(marks: &[bool], before: &Before, place: u32) -> bool
 {
     let place = place as usize;
     let here = before.words.len();
-    let begun = is_at_label(before.stage) || is_at_operations(before.stage) || is_at_idle(before.stage);
+    let begun = is_at_label(before.stage)
+        || is_at_operations(before.stage)
+        || is_at_idle(before.stage);
     mark_at(marks, place) && (place < here || (place == here && begun))
 }
 
@@ -242,7 +248,12 @@ fn is_place_text(alloc: Global, place: u32, text: &[u8]) -> Result<bool, NoMemor
 }
 
 #[tactic(auto, unfolding(crate::specs::Steps::label_step))]
-fn take_label(alloc: Global, marks: &[bool], before: Before, text: &[u8]) -> Result<Before, LineFault>
+fn take_label(
+    alloc: Global,
+    marks: &[bool],
+    before: Before,
+    text: &[u8],
+) -> Result<Before, LineFault>
     ensures { Gives (λ x. x) result (label_step marks.now before text.now) }
 {
     let (place, _) = number(skip(text, 1));
@@ -262,11 +273,20 @@ fn is_idle_text(alloc: Global, cycles: u32, text: &[u8]) -> Result<bool, NoMemor
 }
 
 #[tactic(auto, unfolding(crate::specs::Steps::idle_step))]
-fn take_idle(alloc: Global, marks: &[bool], mut before: Before, text: &[u8]) -> Result<Before, LineFault>
+fn take_idle(
+    alloc: Global,
+    marks: &[bool],
+    mut before: Before,
+    text: &[u8],
+) -> Result<Before, LineFault>
     ensures { Gives (λ x. x) result (idle_step marks.now before text.now) }
 {
     let (cycles, _) = number(skip(text, 5));
-    if !word_begins(marks, &before) || cycles < 1 || cycles > 255 || !is_idle_text(alloc, cycles, text)? {
+    if !word_begins(marks, &before)
+        || cycles < 1
+        || cycles > 255
+        || !is_idle_text(alloc, cycles, text)?
+    {
         return Err(LineFault::Code(1));
     }
     before.stage = Stage::Idle;
@@ -278,11 +298,17 @@ fn take_idle(alloc: Global, marks: &[bool], mut before: Before, text: &[u8]) -> 
 fn take_word_end(alloc: Global, marks: &[bool], mut before: Before) -> Result<Before, LineFault>
     ensures { Gives (λ x. x) result (word_end_step marks.now before) }
 {
-    if !word_begins(marks, &before) && !is_at_operations(before.stage) && !is_at_idle(before.stage) {
+    if !word_begins(marks, &before)
+        && !is_at_operations(before.stage)
+        && !is_at_idle(before.stage)
+    {
         return Err(LineFault::Code(1));
     }
     let ops = std::mem::replace(&mut before.ops, Listed::new(alloc));
-    before.words.push(Word { ops, idle: before.idle })?;
+    before.words.push(Word {
+        ops,
+        idle: before.idle,
+    })?;
     before.stage = Stage::WordEnd;
     before.idle = 0;
     Ok(before)

@@ -11,9 +11,9 @@ loop-digit-preserved c =
     let i = c.loop-digit.digit-index in
     let d = get_or ds i 0 in
     let longer : value_from 0 (take (i + 1) ds) ≡ 10 * value_from 0 (take i ds) + (d - 48) =
-        ap (value_from 0) (take_more ds i 0 c.loop-digit-test.true) ∙ value_from-append 0 (take i ds) d in
+    ap (value_from 0) (take_more ds i 0 c.loop-digit-test.true) ∙ value_from-append 0 (take i ds) d in
     let one : Counts c.with_digit-value.result (10 * value_from 0 (take i ds) + c.saturating_sub.result) =
-        c.with_digit-value.ensures.counts (value_from 0 (take i ds)) c.loop-digit.invariant in
+    c.with_digit-value.ensures.counts (value_from 0 (take i ds)) c.loop-digit.invariant in
     let two : Counts c.with_digit-value.result (10 * value_from 0 (take i ds) + (d - 48)) =
-        subst (λ k. Counts c.with_digit-value.result (10 * value_from 0 (take i ds) + k)) c.saturating_sub.ensures one in
+    subst (λ k. Counts c.with_digit-value.result (10 * value_from 0 (take i ds) + k)) c.saturating_sub.ensures one in
     subst (Counts c.with_digit-value.result) (sym longer) two
