@@ -4,9 +4,9 @@ ghost use Rattle.std.specs.Prelude.{◌≡◌};
 ghost use Rattle.vx_words.specs.Steps.{beginning};
 
 use std::alloc::Global;
-use vx_base::listed::Listed;
+use vx_base::listed::{Bytes, Listed};
 use vx_isa::operation::Operation;
-use vx_isa::program::{Bytes, Word};
+use vx_isa::program::Word;
 
 /// What stood last.
 #[derive(Clone, Copy, PartialEq, Eq, Debug)]

@@ -5,9 +5,8 @@ ghost use Rattle.vx_words.specs.Steps.{hexadecimal_value, next_escape, complete_
 
 use crate::fields::skip;
 use std::alloc::Global;
-use vx_base::listed::Listed;
+use vx_base::listed::{Bytes, Listed};
 use vx_base::outcome::NoMemory;
-use vx_isa::program::Bytes;
 
 /// What stood last in a quoted text.
 #[derive(Clone, Copy, PartialEq, Eq, Debug)]
@@ -87,5 +86,5 @@ pub fn text_of_line(alloc: Global, line: &[u8]) -> Result<Bytes, NoMemory>
     } else {
         &rest[..rest.len() - 1]
     };
-    Ok(Listed::from_vec(unquoted_bytes(alloc, inner)?))
+    Ok(Listed::from_vec(unquoted_bytes(alloc, inner)?)?)
 }

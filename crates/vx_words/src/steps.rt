@@ -16,10 +16,10 @@ use crate::program_text::{push_idle, push_place, push_quoted, push_start, target
 use crate::quoted::text_of_line;
 use crate::reading::{field_end, is_number_text, read_operation, texts_of};
 use std::alloc::Global;
-use vx_base::listed::Listed;
+use vx_base::listed::{Bytes, Listed};
 use vx_base::outcome::NoMemory;
 use vx_isa::operation::Operation;
-use vx_isa::program::{Bytes, Word};
+use vx_isa::program::Word;
 
 fn is_at_start(stage: Stage) -> bool
     ensures { result ≡ is_start_stage stage }
