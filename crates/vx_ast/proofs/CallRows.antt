@@ -7,6 +7,7 @@ use Rattle.vx_base.specs.Outcome.{Ends, Traps}
 use Rattle.vx_base.specs.Arithmetic.{sum_of, difference_of}
 use Rattle.vx_base.specs.declared.outcome.Trap.TheVariants.{Depth as ByDepth}
 use Rattle.vx_ast.specs.declared.tree.BinaryOperator.TheVariants.{Add, Subtract, LessEqual}
+use Rattle.vx_ast.specs.declared.tree.GlobalVariable.TheVariants.{Scalar as ScalarGlobal}
 use Rattle.vx_ast.specs.Tree.{Local, Global, Element, Binary, Apply, ReadInt, InGlobal, InElement, Evaluate, Assign, Compound, ClearArray, Simply, If, Return, ReturnValue, Program}
 use Rattle.vx_ast.specs.Meaning.{source, deepest}
 use Rattle.vx_ast.proofs.Programs.{number, with_functions, int_function, void_function, main_of, row, shows, line, line_of_two, returns, sets}
@@ -27,7 +28,7 @@ unfolding digits deepest
 no_return = refl
 
 -- int g; int f(int n) { g = n; return 1; } .. g = 5; g += f(20); printf("%d\n", g); the old value is read before the call
-read_before : source (with_functions (record { words = 1; is_array = false; first = pos 0 } ∷ []) (main_of 0 [] (Simply (Assign (InGlobal 0) (number 5)) ∷ Simply (Compound (InGlobal 0) Add (Apply 1 (row (number 20 ∷ [])))) ∷ line (Global 0) ∷ returns 0 ∷ [])) (int_function 1 1 [] (Simply (Assign (InGlobal 0) (Local 0)) ∷ returns 1 ∷ []) ∷ [])) [] 1 ≡ Ends (pos 0) (codes "6\n")
+read_before : source (with_functions (ScalarGlobal (pos 0) ∷ []) (main_of 0 [] (Simply (Assign (InGlobal 0) (number 5)) ∷ Simply (Compound (InGlobal 0) Add (Apply 1 (row (number 20 ∷ [])))) ∷ line (Global 0) ∷ returns 0 ∷ [])) (int_function 1 1 [] (Simply (Assign (InGlobal 0) (Local 0)) ∷ returns 1 ∷ []) ∷ [])) [] 1 ≡ Ends (pos 0) (codes "6\n")
 unfolding sum_of int_wrap digits deepest
 read_before = refl
 

@@ -8,6 +8,7 @@ use Rattle.vx_base.specs.Arithmetic.{sum_of, difference_of, product_of}
 use Rattle.vx_base.specs.declared.outcome.Trap.TheVariants.{Index as ByIndex}
 use Rattle.vx_ast.specs.declared.tree.BinaryOperator.TheVariants.{Add, Multiply, Less, Equal}
 use Rattle.vx_ast.specs.declared.tree.UnaryOperator.TheVariants.{Not}
+use Rattle.vx_ast.specs.declared.tree.GlobalVariable.TheVariants.{Scalar as ScalarGlobal}
 use Rattle.vx_ast.specs.Tree.{Local, Global, Element, Unary, Binary, Both, Either, Choice, ReadInt, MoreInput, InLocal, InGlobal, InElement, Assign, Compound, Increase, Decrease, Empty, Block, Declare, ClearArray, Simply, Head, Print, If, While, DoWhile, For, Break, Continue, Program}
 use Rattle.vx_ast.specs.Meaning.{source, deepest}
 use Rattle.vx_ast.proofs.Programs.{number, list_of, only, main_of, row, shows, line, line_of_two, returns}
@@ -79,6 +80,6 @@ unfolding digits deepest
 choice_rows = refl
 
 -- int g = 5; .. g *= 3; printf("%d %d\n", g, !g); return 0;
-global_start : source (only (record { words = 1; is_array = false; first = pos 5 } ∷ []) (main_of 0 [] (Simply (Compound (InGlobal 0) Multiply (number 3)) ∷ line_of_two (Global 0) (Unary Not (Global 0)) ∷ returns 0 ∷ []))) [] 1 ≡ Ends (pos 0) (codes "15 0\n")
+global_start : source (only (ScalarGlobal (pos 5) ∷ []) (main_of 0 [] (Simply (Compound (InGlobal 0) Multiply (number 3)) ∷ line_of_two (Global 0) (Unary Not (Global 0)) ∷ returns 0 ∷ []))) [] 1 ≡ Ends (pos 0) (codes "15 0\n")
 unfolding product_of int_wrap digits deepest
 global_start = refl

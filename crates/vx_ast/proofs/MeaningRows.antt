@@ -8,6 +8,7 @@ use Rattle.vx_base.specs.Arithmetic.{sum_of, quotient_of, remainder_of, shl_of}
 use Rattle.vx_base.specs.declared.outcome.Trap.TheVariants.{Divide as ByDivide, Index as ByIndex, Input as ByInput}
 use Rattle.vx_ast.specs.declared.tree.BinaryOperator.TheVariants.{Divide, Remainder, Add, ShiftLeft}
 use Rattle.vx_ast.specs.declared.tree.GlobalVariable.{GlobalVariable}
+use Rattle.vx_ast.specs.declared.tree.GlobalVariable.TheVariants.{Array as ArrayGlobal}
 use Rattle.vx_ast.specs.Tree.{Local, Element, Binary, ReadInt, InElement, Assign, Block, Clear, Declare, Simply, Print, Program}
 use Rattle.vx_ast.specs.Meaning.{source, deepest}
 use Rattle.vx_ast.proofs.Programs.{number, list_of, only, main_of, row, line, line_of_two, returns, sets}
@@ -49,7 +50,7 @@ unfolding deepest
 by_zero = refl
 
 abbrev array : ℕ → GlobalVariable
-array words = record { words = words; is_array = true; first = pos 0 }
+array words = ArrayGlobal words
 
 -- int a[10]; .. int i = read_int(); a[9] = 4; printf("%d\n", a[i]); return 0;
 abbrev indexed : Program

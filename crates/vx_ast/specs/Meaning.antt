@@ -12,6 +12,7 @@ use Rattle.vx_ast.specs.declared.tree.UnaryOperator.TheVariants.{Minus, Plus, No
 use Rattle.vx_ast.specs.declared.tree.BinaryOperator.{BinaryOperator}
 use Rattle.vx_ast.specs.declared.tree.BinaryOperator.TheVariants.{Multiply, Divide, Remainder, Add, Subtract, ShiftLeft, ShiftRight, Less, LessEqual, Greater, GreaterEqual, Equal, NotEqual, BitAnd, BitXor, BitOr}
 use Rattle.vx_ast.specs.declared.tree.GlobalVariable.{GlobalVariable}
+use Rattle.vx_ast.specs.declared.tree.GlobalVariable.TheVariants.{Scalar as ScalarGlobal, Array as ArrayGlobal}
 use Rattle.vx_ast.specs.Tree.{Shape, One, Row, Tree, Literal, Local, Global, Element, Unary, Binary, Both, Either, Choice, Apply, ReadInt, MoreInput, NoMore, Then, Place, InLocal, InGlobal, InElement, Action, Evaluate, Assign, Compound, Increase, Decrease, Code, Nothing, Seq, Empty, Block, Clear, Declare, ClearArray, Simply, Head, Print, If, IfElse, While, DoWhile, For, Break, Continue, Return, ReturnValue, Function, Program}
 
 pub record Store : Type 0 where
@@ -219,9 +220,9 @@ after_turn (Going out) f = Going out
 abbrev pub tests : Part ℤ → (Store → Part Leaves) → (Store → Part Leaves) → Part Leaves
 tests test yes_part no_part = and_then test (λ c t. unless_zero c (yes_part t) (no_part t))
 
--- at most n turns, each with its test before it
+-- at most n turns, each with its test before it; it goes on where it would take one more
 abbrev pub turns : ℕ → (Store → Part ℤ) → (Store → Part Leaves) → Store → Part Leaves
-turns zero test turn s = Going s.out
+turns zero test turn s = tests (test s) (λ t. Going t.out) (λ t. With Falls t)
 turns (suc n) test turn s = tests (test s) (λ t. after_turn (turn t) (turns n test turn)) (λ t. With Falls t)
 
 -- at most n turns, each with its test behind it
@@ -277,8 +278,9 @@ result_of caller (Going out) = Going out
 abbrev pub entered : Function → List ℤ → Store → Store
 entered f args s = record s { scalars = λ x. slice_index_or args x (pos 0); arrays = s.arrays ++ map (λ size. replicate size (pos 0)) f.arrays }
 
+-- a function that is not there, which no accepted program calls, never ends
 abbrev pub activate : (g : ℕ) → Option Function → Calls → ℕ → List ℤ → Store → Part ℤ
-activate g None calls n args s = Trapped ByDepth s.out
+activate g None calls n args s = Going s.out
 activate g (Some f) calls n args s = result_of s (does (spot_of g (length s.arrays)) calls n f.body (entered f args s))
 
 -- at most so many functions active from here on
@@ -291,7 +293,8 @@ unfoldable pub deepest : ℕ
 deepest = 512
 
 abbrev pub words_at_start : GlobalVariable → List ℤ
-words_at_start g = if g.is_array then replicate g.words (pos 0) else g.first ∷ []
+words_at_start (ScalarGlobal z) = z ∷ []
+words_at_start (ArrayGlobal words) = replicate words (pos 0)
 
 abbrev pub at_start : Program → List ℤ → Store
 at_start p input = record { scalars = λ x. pos 0; arrays = map words_at_start p.globals; input = input; out = [] }

@@ -198,13 +198,11 @@ pub struct Function {
 
 /// A global variable.
 #[derive(Clone, Copy, PartialEq, Eq, Debug)]
-pub struct GlobalVariable {
-    /// Its words, 1 for a scalar.
-    pub words: u32,
-    /// Whether it is an array.
-    pub is_array: bool,
-    /// The number at which a scalar starts. Every word of an array starts as 0.
-    pub first: i32,
+pub enum GlobalVariable {
+    /// A scalar, with the number at which it starts.
+    Scalar(i32),
+    /// An array of so many words, each of which starts as 0.
+    Array(u32),
 }
 
 /// A program.

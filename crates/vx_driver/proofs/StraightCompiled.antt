@@ -14,12 +14,12 @@ use Rattle.vx_ast.specs.Tree.{Program}
 use Rattle.vx_ast.specs.Meaning.{source}
 use Rattle.vx_ast.specs.Small.{is_sum, program_of_main}
 use Rattle.vx_driver.specs.Compiled.{Compiled}
-use Rattle.vx_driver.specs.Straight.{words_of_main}
+use Rattle.vx_driver.specs.Straight.{words_of_main, MainFits}
 use Rattle.vx_driver.proofs.StraightSource.{number_of_sum, lines_of, SignsIn, signs_in, source_main}
-use Rattle.vx_driver.proofs.StraightWords.{main_fits, main_is_sound}
+use Rattle.vx_driver.proofs.StraightWords.{main_fits, main_is_sound, main_is_in_range}
 use Rattle.vx_driver.proofs.StraightRun.{Good, main}
 
-module _ (m : Numbers) (is : IsMachine m) (of : SmallMain) (sums : list_all is_sum (of.last ∷ of.items) ≡ true) where
+module _ (m : Numbers) (is : IsMachine m) (of : SmallMain) (sums : list_all is_sum (of.last ∷ of.items) ≡ true) (small : MainFits of) where
   abbrev program : Program
   program = program_of_main of.items of.last
 
@@ -49,13 +49,14 @@ module _ (m : Numbers) (is : IsMachine m) (of : SmallMain) (sums : list_all is_s
       never_stuck = λ input times numbers some_times. (meets times input).1;
     };
     strict = record {
-      fit = λ p word at. main_fits m is m.latency_alu of p word at;
+      fit = λ p word at. main_fits m is m.latency_alu of small p word at;
       never_early = λ times input n s word r some_times numbers reach at reads nonzero pending.
           (good times input).never_early n s reach word r at reads nonzero pending;
     };
-    sound = main_is_sound m.latency_alu of;
+    sound = main_is_sound m.latency_alu of small;
+    in_range = main_is_in_range m.latency_alu of small;
   }
 
-pub small_compiled : (main : SmallMain) (latency : ℕ) (m : Numbers) → list_all is_sum (main.last ∷ main.items) ≡ true → IsMachine m → m.latency_alu ≡ latency →
+pub small_compiled : (main : SmallMain) (latency : ℕ) (m : Numbers) → list_all is_sum (main.last ∷ main.items) ≡ true → MainFits main → IsMachine m → m.latency_alu ≡ latency →
     Compiled (program_of_main main.items main.last) m (words_of_main latency main)
-small_compiled main latency m sums is e = subst (λ l. Compiled (program_of_main main.items main.last) m (words_of_main l main)) e (compiled m is main sums)
+small_compiled main latency m sums small is e = subst (λ l. Compiled (program_of_main main.items main.last) m (words_of_main l main)) e (compiled m is main sums small)

@@ -4,11 +4,14 @@ use Rattle.vx_isa.specs.declared.program.WordProgram.{WordProgram}
 use Rattle.vx_isa.specs.Numbers.{Numbers}
 use Rattle.vx_isa.specs.Sound.{is_sound}
 use Rattle.vx_isa.specs.Strict.{Strict}
+use Rattle.vx_words.specs.Range.{is_in_range}
 use Rattle.vx_ast.specs.Tree.{Program}
 use Rattle.vx_driver.specs.Faithful.{Faithful}
 
--- the words do what the program does, fit the machine, read no register early, and can be spelled
+-- the words do what the program does, fit the machine and read no register early, and are a program of words that
+-- the word text spells: sound, with numbers of 32 bits and texts of bytes
 pub record Compiled (p : Program) (m : Numbers) (w : WordProgram) : Type 0 where
   pub faithful : Faithful p m w
   pub strict : Strict m w
   pub sound : is_sound w ≡ true
+  pub in_range : is_in_range w ≡ true

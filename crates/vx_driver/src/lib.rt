@@ -5,5 +5,8 @@ mod compile;
 pub mod status;
 mod straight;
 pub mod top;
+
+pub use top::vexc;
+
 #[cfg(test)]
 mod top_tests;

@@ -1,7 +1,7 @@
 // What the top call answers, and the line that it puts for it.
 
 ghost use Rattle.std.specs.Prelude.{◌≡◌, ◌≤◌};
-ghost use Rattle.vx_driver.specs.Status.{number_of, Appends};
+ghost use Rattle.vx_driver.specs.Status.{number_of, role_name, Appends};
 
 use vx_base::sink::{Sink, SinkFault, put_all};
 
@@ -50,7 +50,9 @@ impl Status {
 
 impl Role {
     /// The role's word in a line.
-    pub fn name(self) -> &'static str {
+    pub fn name(self) -> &'static str
+        ensures { result.now ≡ role_name self }
+    {
         match self {
             Role::Source => "source",
         }

@@ -13,5 +13,5 @@ returns c =
     let latency = c.args.latency in
     IfOk-weaker c.straight_code.result (λ w. w ≡ words_of_main latency main)
     (λ w. (m : Numbers) → IsMachine m → m.latency_alu ≡ latency → Compiled (program_of_main main.items main.last) m w)
-    (λ w e m is l. subst (λ v. Compiled (program_of_main main.items main.last) m v) (sym e) (small_compiled main latency m c.requires.sums is l))
+    (λ w e m is l. subst (λ v. Compiled (program_of_main main.items main.last) m v) (sym e) (small_compiled main latency m c.requires.sums c.requires.numbers is l))
     c.straight_code.ensures
