@@ -1,6 +1,6 @@
 -- Marks find a register that is a destination twice.
-use Rattle.std.proofs.Common.{◌≡◌, ℕ, zero, suc, ◌+◌, ◌*◌, ◌<◌, ◌≤◌, Bool, true, false, ◌&&◌, ◌||◌, not, if◌then◌else◌, ◌==◌, nat_le, nat_lt, List, [], ◌∷◌, ◌++◌, length, replicate, get_or, set, refl, sym, ap, ◌∙◌, inl, inr, get_or-set_same, get_or-set_other, eq-eqb, arith}
-use Rattle.std.proofs.lemmas.Bool.{and_parts, false≢true, cases_eq, leb-true, ltb-true}
+use Rattle.std.proofs.Common.{◌≡◌, ℕ, ◌+◌, ◌<◌, ◌≤◌, Bool, true, false, ◌&&◌, ◌||◌, ◌==◌, nat_le, nat_lt, List, [], ◌∷◌, ◌++◌, length, replicate, get_or, set, refl, sym, ◌∙◌, inl, inr, get_or-set_same, get_or-set_other, eq-eqb, arith}
+use Rattle.std.proofs.lemmas.Bool.{and_parts, cases_eq, leb-true, ltb-true}
 use Rattle.std.proofs.lemmas.Bool.Decides.{nat_tests}
 use Rattle.std.proofs.lemmas.List.{length-set, length-replicate, get_or-replicate}
 use Rattle.std.proofs.lemmas.List.Folds.{list_all-append}
@@ -10,7 +10,7 @@ use Rattle.vx_isa.specs.declared.operation.Register.TheVariants.{General, Branch
 use Rattle.vx_isa.specs.declared.operation.Operation.{Operation}
 use Rattle.vx_isa.specs.Numbers.{Numbers, is_between, IsMachine}
 use Rattle.vx_isa.specs.Operations.{same}
-use Rattle.vx_isa.specs.Fits.{is_twice, is_in_file, keeps_to_cluster, operands, destinations, is_bad_word}
+use Rattle.vx_isa.specs.Fits.{is_twice, is_in_file, operands, destinations}
 use Rattle.vx_machine.specs.Marks.{mark_of, HasMark, is_marked_or_twice}
 
 mark_below : (r : Register) → HasMark r → mark_of r < 289

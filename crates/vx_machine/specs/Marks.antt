@@ -1,5 +1,5 @@
 -- A mark for each register that an operation of a word has written, by a number of its own.
-use Rattle.std.specs.Prelude.{◌≡◌, ℕ, ◌+◌, ◌*◌, ◌<◌, Bool, true, false, ◌||◌, List, [], ◌∷◌, slice_index_or, slice_set}
+use Rattle.std.specs.Prelude.{ℕ, ◌+◌, ◌*◌, ◌<◌, Bool, true, false, ◌||◌, List, [], ◌∷◌, slice_index_or, slice_set}
 use Rattle.vx_isa.specs.declared.operation.Register.{Register}
 use Rattle.vx_isa.specs.declared.operation.Register.TheVariants.{General, Branch, Link}
 

@@ -1,4 +1,4 @@
-use Rattle.std.proofs.Common.{◌≡◌, length, drop}
+use Rattle.std.proofs.Common.{◌≡◌, drop}
 use Rattle.std.specs.List.{AllByRecursion}
 use Rattle.vx_isa.specs.Fits.{destinations, is_twice}
 use Rattle.vx_machine.specs.Marks.{HasMark, is_marked_or_twice}
