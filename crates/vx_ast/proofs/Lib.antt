@@ -7,3 +7,6 @@ pub mod SmallRows
 pub mod MeaningRows
 pub mod LoopRows
 pub mod CallRows
+pub mod PieceLaws
+pub mod TokenLaws
+mod TokenRows

@@ -4,3 +4,4 @@ pub mod Meaning
 pub mod Small
 pub mod SmallReader
 pub mod SmallMeaning
+pub mod Tokens

@@ -1,6 +1,9 @@
-// The source language: the tree of a program, and what a program does.
+// The source language: the tokens and the tree of a program, and what a program does.
 #![tactic(auto)]
 
+pub mod fault;
 pub mod small;
 pub mod small_tokens;
+pub mod token;
+pub mod token_laws;
 pub mod tree;

@@ -1,0 +1,5 @@
+pub mod Bytes
+pub mod Counted
+pub mod Places
+pub mod Scan
+pub mod Steps
