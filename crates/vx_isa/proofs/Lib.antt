@@ -5,3 +5,5 @@ pub mod Lists
 pub mod FitsLaw
 pub mod Steady
 pub mod SoundLaw
+pub mod Alike
+pub mod AnyTiming

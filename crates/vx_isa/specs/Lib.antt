@@ -5,3 +5,4 @@ pub mod Machine
 pub mod Strict
 pub mod Sound
 pub mod Steady
+pub mod Paths

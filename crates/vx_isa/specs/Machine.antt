@@ -1,10 +1,12 @@
 -- What a program of words does: one word a step, writes that land within their latencies at times that a list
 -- of numbers picks, and the reasons for which a word cannot be issued.
-use Rattle.std.specs.Prelude.{◌≡◌, ℕ, zero, suc, ◌+◌, ◌%◌, ℤ, pos, negsuc, Bool, true, false, ◌&&◌, ◌||◌, not, ◌==◌, if◌then◌else◌, nat_lt, nat_le, min, max, List, [], ◌∷◌, ◌++◌, length, Option, Some, None, slice_get, slice_index, drop, count_by, is_some, unwrap_or}
+use Rattle.std.specs.Prelude.{ℕ, zero, suc, ◌+◌, ◌%◌, ℤ, pos, Bool, true, false, ◌&&◌, not, ◌==◌, if◌then◌else◌, nat_le, max, List, [], ◌∷◌, ◌++◌, Option, Some, None, slice_get, drop, count_by, is_some, unwrap_or}
 use Rattle.std.specs.List.{list_any, flat_map}
 use Rattle.std.specs.Fmt.{signed_decimal}
 use Rattle.vx_base.specs.Arithmetic.{value_of, sum_of, unsigned, wrap}
-use Rattle.vx_base.specs.Outcome.{Outcome, Ends, Traps, Goes, Stuck, Step, On, Over, run}
+pub use Rattle.vx_base.specs.Flight.{landing_time}
+use Rattle.vx_base.specs.Flight.{Write as InFlight, landed as lands_at, flying}
+use Rattle.vx_base.specs.Outcome.{Outcome, Ends, Traps, Stuck, Step, On, Over, run}
 use Rattle.vx_base.specs.declared.outcome.Trap.{Trap}
 use Rattle.vx_base.specs.declared.outcome.Reason.{Reason}
 use Rattle.vx_base.specs.declared.outcome.Reason.TheVariants.{BadTarget, BadWord, Overfull, BadAddress, NoInputLeft}
@@ -22,10 +24,8 @@ use Rattle.vx_isa.specs.Operations.{same, is_zero, destination_of, is_call, late
 use Rattle.vx_isa.specs.Fits.{is_bad_word, fits}
 
 -- a write in flight, and the cycles until it lands, at least 1
-pub record Write : Type 0 where
-  pub to : Register
-  pub number : ℤ
-  pub left : ℕ
+abbrev pub Write : Type 0
+Write = InFlight Register ℤ
 
 pub record State : Type 0 where
   pub place : ℕ
@@ -90,10 +90,6 @@ number_of size s op = pos 0
 
 -- writes, and when they land
 
--- the i-th number of a cyclic list, cut to 1 to the latency; the list is not empty
-abbrev pub landing_time : List ℕ → ℕ → ℕ → ℕ
-landing_time times i latency = min latency (max 1 (slice_index times (i % length times)))
-
 -- a landing time is asked for each operation that names a destination register, register 0 included, but for
 -- the link that a call writes, which is there at the next word
 abbrev pub is_asked : Operation → Bool
@@ -115,22 +111,12 @@ writes_of m times size s i [] = []
 writes_of m times size s i (op ∷ ops) =
     write_to (destination_of op) (number_of size s op) (time_of m times i op) ++ writes_of m times size s (if is_asked op then i + 1 else i) ops
 
-abbrev pub written : (Register → ℤ) → Register → ℤ → Register → ℤ
-written registers r z q = if same q r then z else registers q
-
 -- one cycle: the writes with one cycle left land in the order of their issue, the others have one less
-abbrev pub lands_or : {A : Type 0} → ℕ → A → (ℕ → A) → A
-lands_or zero now later = now
-lands_or (suc zero) now later = now
-lands_or (suc (suc n)) now later = later (suc n)
-
 abbrev pub landed : (Register → ℤ) → List Write → Register → ℤ
-landed registers [] = registers
-landed registers (w ∷ ws) = lands_or w.left (landed (written registers w.to w.number) ws) (λ n. landed registers ws)
+landed registers ws = lands_at same registers ws
 
 abbrev pub still_flying : List Write → List Write
-still_flying [] = []
-still_flying (w ∷ ws) = lands_or w.left (still_flying ws) (λ n. record { to = w.to; number = w.number; left = n } ∷ still_flying ws)
+still_flying ws = flying ws
 
 abbrev pub after_cycles : ℕ → State → State
 after_cycles zero s = s

@@ -3,6 +3,7 @@
 ghost use Rattle.vx_isa.specs.Fits.{FitsInWords};
 ghost use Rattle.vx_isa.specs.Sound.{SoundInWords};
 ghost use Rattle.vx_isa.specs.Steady.{WordsAreSteady};
+ghost use Rattle.vx_isa.specs.Paths.{AnyTimingLaw, PathStrictLaw};
 
 /// A word fits a machine exactly where each cluster has slots, units, ports and registers for its operations, the
 /// machine has the copy paths, and at most one control and one observable operation are there.
@@ -22,4 +23,17 @@ pub fn sound_law()
 /// The run of a program of words is steady: with a larger bound, what does not go on stays, and the output only grows.
 pub fn words_run_is_steady()
     ensures { WordsAreSteady }
+{}
+
+/// A program of words that fit, on whose static paths no word reads a register early, has no run in which a word reads
+/// a register in flight, whenever within its latency each write lands.
+#[tactic(auto, using(crate::proofs::AnyTiming::path_strict_law))]
+pub fn path_strict_law()
+    ensures { PathStrictLaw }
+{}
+
+/// Where on no static path a word reads or writes a register early, a program runs alike under every timing.
+#[tactic(auto, using(crate::proofs::AnyTiming::any_timing_law))]
+pub fn any_timing_law()
+    ensures { AnyTimingLaw }
 {}

@@ -1,0 +1,3 @@
+pub mod Times
+pub mod Counts
+pub mod Watch

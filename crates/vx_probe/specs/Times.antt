@@ -1,0 +1,27 @@
+-- A timing: a nonempty list of numbers and a place in it.
+use Rattle.std.specs.Prelude.{◌≡◌, refl, ℕ, zero, suc, ◌+◌, ◌%◌, List, [], ◌∷◌, length}
+
+pub record Times : Type 0 where
+  pub first : ℕ
+  pub others : List ℕ
+  -- the place of the number that comes next, from 0
+  pub place : ℕ
+
+abbrev pub list_of : Times → List ℕ
+list_of t = t.first ∷ t.others
+
+-- the next place, and the first one behind the last
+abbrev pub moved_on : Times → Times
+moved_on t = record t { place = (t.place + 1) % length (list_of t) }
+
+abbrev pub moved_by : ℕ → Times → Times
+moved_by zero t = t
+moved_by (suc n) t = moved_by n (moved_on t)
+
+-- the list of one number
+abbrev pub always : ℕ → Times
+always n = record { first = n; others = []; place = 0 }
+
+-- behind the last number comes the first again
+moves_round : (moved_by 3 (record { first = 4; others = 5 ∷ []; place = 1 })).place ≡ 0
+moves_round = refl

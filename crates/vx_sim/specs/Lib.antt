@@ -1,0 +1,5 @@
+pub mod Held
+pub mod Standing
+pub mod Passed
+pub mod Leads
+pub mod Ran
