@@ -1,15 +1,15 @@
 -- What stood before a line, as a text and as a part of a program; each line that is taken adds its text to it.
-use Rattle.std.proofs.Common.{◌≡◌, ℕ, zero, suc, ◌+◌, ◌-◌, ◌*◌, ◌%◌, ◌<◌, ◌≤◌, ℤ, Bool, true, false, ◌&&◌, ◌||◌, List, [], ◌∷◌, ◌++◌, length, get_or, take, drop, Option, Some, None, Result, Ok, Err, refl, sym, ap, subst, ◌∙◌, ◌⊎◌, inl, inr, append_assoc, arith, rules}
-use Rattle.std.specs.Prelude.{nat_eq, nat_lt, nat_le, codes, if◌then◌else◌, not}
-use Rattle.std.specs.List.{flat_map, list_all, list_any}
+use Rattle.std.proofs.Common.{◌≡◌, ℕ, ◌+◌, ◌%◌, ℤ, Bool, true, false, List, [], ◌∷◌, ◌++◌, length, get_or, Ok, refl, sym, subst}
+use Rattle.std.specs.Prelude.{nat_eq, nat_le, codes, if◌then◌else◌}
+use Rattle.std.specs.List.{flat_map, list_all}
 use Rattle.vx_isa.specs.declared.operation.Operation.{Operation}
 use Rattle.vx_isa.specs.declared.program.Word.{Word}
-use Rattle.vx_isa.specs.Sound.{is_start, is_sound_word, is_sound_operation, is_not_zero}
+use Rattle.vx_isa.specs.Sound.{is_start, is_sound_word, is_sound_operation}
 use Rattle.vx_words.specs.declared.before.Stage.{Stage}
 use Rattle.vx_words.specs.declared.before.Stage.TheVariants.{Start, Version, Memory, Texts, WordEnd, Label, Operations, Idle}
 use Rattle.vx_words.specs.declared.before.Before.{Before}
-use Rattle.vx_words.specs.Spelling.{line, header, start_line, text_line, word_lines, label_line, operation_line, idle_text, names}
-use Rattle.vx_words.specs.Steps.{beginning, accepted, step}
+use Rattle.vx_words.specs.Spelling.{line, header, start_line, text_line, word_lines, label_line, operation_line, idle_text}
+use Rattle.vx_words.specs.Steps.{beginning, accepted}
 
 -- the words from place p on, with labels where marks say so
 abbrev pub words_by : List Bool → ℕ → List Word → List ℕ

@@ -1,7 +1,5 @@
 -- The value of digits, one digit more.
-use Rattle.std.proofs.Common.{◌≡◌, ℕ, ◌+◌, ◌-◌, ◌*◌, ◌%◌, ◌<◌, ◌≤◌, ◌^◌, ◌⊎◌, inl, inr, List, [], ◌∷◌, ◌++◌, take, length, get_or, refl, ap, ◌∙◌, subst, arith, lit<}
-use Rattle.std.proofs.lemmas.List.{take-append-le}
-use Rattle.std.proofs.Math.Seq.{take-suc}
+use Rattle.std.proofs.Common.{◌≡◌, ℕ, ◌+◌, ◌-◌, ◌*◌, ◌%◌, ◌<◌, ◌≤◌, inl, inr, List, [], ◌∷◌, ◌++◌, refl, ap, arith}
 use Rattle.vx_words.specs.Steps.{Counts, value_from}
 
 pub value_from-append : (n : ℕ) (xs : List ℕ) (c : ℕ) → value_from n (xs ++ c ∷ []) ≡ 10 * value_from n xs + (c - 48)

@@ -1,21 +1,20 @@
 -- A field that is written is read again, whatever follows that is no digit.
-use Rattle.std.proofs.Common.{◌≡◌, ℕ, zero, suc, ◌+◌, ◌-◌, ◌*◌, ◌%◌, ◌^◌, ◌<◌, ◌≤◌, ℤ, pos, negsuc, Bool, true, false, cond, ◌&&◌, ◌||◌, List, [], ◌∷◌, ◌++◌, length, get_or, take, drop, refl, sym, ap, subst, ◌∙◌, append_assoc, arith, rules}
-use Rattle.std.specs.Prelude.{decimal, nat_eq, nat_lt, nat_le, codes, if◌then◌else◌, not}
+use Rattle.std.proofs.Common.{◌≡◌, ℕ, zero, suc, ◌^◌, ◌<◌, ◌≤◌, ℤ, pos, negsuc, true, false, List, [], ◌∷◌, ◌++◌, length, get_or, refl, ap, ◌∙◌, append_assoc, arith}
+use Rattle.std.specs.Prelude.{decimal, nat_eq, nat_le, codes}
 use Rattle.std.specs.Fmt.{signed_decimal}
 use Rattle.std.specs.List.{list_all}
-use Rattle.std.proofs.lemmas.Fmt.{digits_decimal, decimal_nonempty, first_decimal, decimal_digit, length-decimal-le}
+use Rattle.std.proofs.lemmas.Fmt.{digits_decimal, decimal_nonempty, first_decimal, decimal_digit}
 use Rattle.std.proofs.lemmas.Bool.Decides.{nat_tests}
-use Rattle.std.proofs.lemmas.Bool.{lt-ltb, le-leb, eq-eqb}
-use borrow.Author.Tests.{leb-true, ltb-true, eqb-true}
+use Rattle.std.proofs.lemmas.Bool.{lt-ltb}
+use borrow.Author.Tests.{leb-true}
 use Rattle.vx_isa.specs.declared.operation.GeneralRegister.{GeneralRegister}
 use Rattle.vx_isa.specs.declared.operation.BranchRegister.{BranchRegister}
-use Rattle.vx_isa.specs.declared.operation.Register.{Register}
-use Rattle.vx_isa.specs.declared.operation.Register.TheVariants.{General, Branch, Link}
+use Rattle.vx_isa.specs.declared.operation.Register.TheVariants.{General, Branch}
 use Rattle.vx_isa.specs.declared.operation.Source.{Source}
 use Rattle.vx_isa.specs.declared.operation.Source.TheVariants.{Held, Number}
-use Rattle.vx_isa.specs.Sound.{can_name, can_name_branch, can_name_cluster, can_spell}
+use Rattle.vx_isa.specs.Sound.{can_name, can_name_branch, can_spell}
 use Rattle.vx_words.specs.Spelling.{general_text, branch_text, source_text}
-use Rattle.vx_words.specs.Fields.{is_digit, number_from, number_at, negative, signed_at, numbers_at, general_at, branch_at, register_at, source_at}
+use Rattle.vx_words.specs.Fields.{is_digit, number_at, signed_at, numbers_at, general_at, branch_at, register_at, source_at}
 use Rattle.vx_words.specs.Range.{fits_signed, fits_source}
 use Rattle.vx_words.specs.Reading.{is_number}
 use Rattle.vx_words.proofs.Numbers.{own, both_true, IsNoDigitFirst, number_again}

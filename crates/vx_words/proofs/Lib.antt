@@ -9,3 +9,7 @@ pub mod OperationLemmas
 pub mod ReadLemmas
 pub mod FieldsAgain
 pub mod OperationsAgain
+pub mod LinesAgain
+pub mod ProgramAgain
+pub mod WordsAgain
+pub mod RoundTrip

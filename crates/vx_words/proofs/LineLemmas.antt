@@ -4,7 +4,6 @@ use borrow.Author.Tests.{eqb-true}
 use Rattle.std.specs.List.{flat_map}
 use Rattle.vx_words.specs.Spelling.{line}
 use Rattle.vx_words.specs.Reading.{is_field}
-use Rattle.std.specs.Prelude.{not}
 use Rattle.std.specs.List.{prefix_len, list_any}
 use Rattle.vx_words.specs.Text.{is_not_feed, lines, cons_first, marks_from, line_names}
 

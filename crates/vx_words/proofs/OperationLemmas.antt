@@ -1,6 +1,6 @@
 -- The line of an operation that is read is the text of that operation.
-use Rattle.std.proofs.Common.{◌≡◌, ℕ, zero, suc, ◌+◌, ◌-◌, ◌*◌, ◌%◌, ◌^◌, ◌<◌, ◌≤◌, ℤ, Bool, true, false, cond, ◌&&◌, ◌||◌, List, [], ◌∷◌, ◌++◌, length, get_or, take, drop, Option, Some, None, Result, Ok, Err, refl, sym, ap, subst, ◌∙◌, ◌⊎◌, inl, inr, append_assoc, arith, rules}
-use Rattle.std.specs.Prelude.{decimal, nat_eq, nat_lt, nat_le, codes, if◌then◌else◌, not}
+use Rattle.std.proofs.Common.{◌≡◌, ℕ, ◌+◌, ◌-◌, ◌<◌, ◌≤◌, Bool, true, false, ◌&&◌, List, [], ◌∷◌, ◌++◌, length, get_or, take, drop, Option, Some, None, Result, Ok, Err, refl, sym, ap, subst, ◌∙◌, append_assoc, arith}
+use Rattle.std.specs.Prelude.{decimal, nat_eq, nat_lt, nat_le, codes, if◌then◌else◌}
 use Rattle.std.specs.List.{starts_with, prefix_len}
 use Rattle.std.specs.Option.{option_map_or}
 use Rattle.std.specs.Str.{bytes_eq}
@@ -8,15 +8,15 @@ use Rattle.std.proofs.lemmas.Slice.Eq.{bytes_eq-Decides, starts_is}
 use Rattle.std.proofs.lemmas.Bool.Decides.{Decides-eqb}
 use Rattle.std.proofs.lemmas.Fmt.{decimal_digit}
 use Rattle.std.proofs.lemmas.Bool.{ltb-false, lt-ltb}
-use borrow.Author.Tests.{ltb-true, leb-true, leb-false, eqb-true}
+use borrow.Author.Tests.{leb-true, leb-false, eqb-true}
 use Rattle.vx_isa.specs.declared.operation.Operation.{Operation}
 use Rattle.vx_isa.specs.declared.operation.Operation.TheVariants.{Compute, Move, Select, Load, Store, Input, More, OutText, OutDecimal, OutByte, Goto, BranchOn, Call, Return, FromLink as ReadLink, ToLink as WriteLink, EndByTrap, Halt}
 use Rattle.vx_isa.specs.Operations.{cluster_of}
 use Rattle.vx_isa.specs.Sound.{is_sound_operation}
 use Rattle.vx_words.specs.declared.form.Form.{Form}
 use Rattle.vx_words.specs.declared.form.Form.TheVariants.{Computes, Moves, Selects, Loads, Stores, TakesInput, AsksInput, PrintsText, PrintsDecimal, PrintsByte, Goes, Branches, Calls, Returns, FromLink, ToLink, Traps, Halts}
-use Rattle.vx_words.specs.Spelling.{body_text, operation_text, target_of}
-use Rattle.vx_words.specs.Fields.{is_digit, number_from, number_at}
+use Rattle.vx_words.specs.Spelling.{body_text, operation_text}
+use Rattle.vx_words.specs.Fields.{number_from, number_at}
 use Rattle.vx_words.specs.Forms.{form_of, candidate, compute_of, move_of, select_of, load_of, store_of, branch_on_of}
 use Rattle.vx_words.specs.Reading.{is_number, is_numbered, branch_front, has_form, has_operands, texts_named, is_field, operation_by, operation_of}
 use Rattle.vx_words.specs.Steps.{is_beyond, is_operation_line, line_cluster}

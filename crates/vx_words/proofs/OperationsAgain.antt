@@ -1,19 +1,17 @@
 -- An operation that is written is read again.
-use Rattle.std.proofs.Common.{◌≡◌, ℕ, zero, suc, ◌+◌, ◌-◌, ◌*◌, ◌%◌, ◌^◌, ◌<◌, ◌≤◌, ℤ, pos, negsuc, Bool, true, false, cond, ◌&&◌, ◌||◌, List, [], ◌∷◌, ◌++◌, length, get_or, take, drop, Option, Some, None, Result, Ok, Err, refl, sym, ap, subst, ◌∙◌, ◌⊎◌, inl, inr, append_assoc, arith, rules}
-use Rattle.std.specs.Prelude.{decimal, nat_eq, nat_lt, nat_le, codes, if◌then◌else◌, not}
+use Rattle.std.proofs.Common.{◌≡◌, ℕ, ◌+◌, ◌≤◌, ℤ, Bool, true, false, ◌&&◌, List, [], ◌∷◌, ◌++◌, length, take, drop, Option, Some, Ok, refl, sym, ap, ◌∙◌, append_assoc, arith}
+use Rattle.std.specs.Prelude.{decimal, nat_eq, nat_lt, nat_le, codes}
 use Rattle.std.specs.Fmt.{signed_decimal}
-use Rattle.std.specs.List.{list_all, prefix_len, starts_with}
-use Rattle.std.specs.Option.{option_map_or}
+use Rattle.std.specs.List.{prefix_len, starts_with}
 use Rattle.std.specs.Str.{bytes_eq}
 use Rattle.std.proofs.lemmas.Slice.Eq.{bytes_eq-Decides, starts_is}
 use Rattle.std.proofs.lemmas.Bool.Decides.{Decides-eqb}
 use Rattle.std.proofs.lemmas.List.{append-nil, drop_at}
-use Rattle.std.proofs.lemmas.Bool.{lt-ltb, le-leb}
-use borrow.Author.Tests.{leb-true, ltb-true, eqb-true}
-use Rattle.vx_base.specs.declared.arithmetic.Compare.{Compare}
+use Rattle.std.proofs.lemmas.Bool.{lt-ltb}
+use borrow.Author.Tests.{leb-true}
 use Rattle.vx_base.specs.declared.arithmetic.Compare.TheVariants.{Eq, Ne, Lt, Le, Gt, Ge, Ltu, Geu}
 use Rattle.vx_base.specs.declared.arithmetic.Code.{Code}
-use Rattle.vx_base.specs.declared.arithmetic.Code.TheVariants.{Add, Sub, And, Or, Xor, Shl, Shr, Shru, Sh2add, Max, Min, Mov, ToGeneral, ToBranch, Mpylu, Mpyhs, Div, Rem}
+use Rattle.vx_base.specs.declared.arithmetic.Code.TheVariants.{Mov, ToGeneral, ToBranch}
 use Rattle.vx_base.specs.declared.outcome.Trap.{Trap}
 use Rattle.vx_base.specs.declared.outcome.Trap.TheVariants.{Divide, Index, Input as NoInput, Depth}
 use Rattle.vx_isa.specs.declared.operation.GeneralRegister.{GeneralRegister}
@@ -27,11 +25,11 @@ use Rattle.vx_isa.specs.Operations.{cluster_of}
 use Rattle.vx_isa.specs.Sound.{can_name, can_name_branch, can_name_cluster, can_spell, is_destination, is_sound_operation}
 use Rattle.vx_words.specs.declared.form.Form.{Form}
 use Rattle.vx_words.specs.declared.form.Form.TheVariants.{Computes, Moves, Selects, Loads, Stores, TakesInput, AsksInput, PrintsText, PrintsDecimal, PrintsByte, Goes, Branches, Calls, Returns, FromLink, ToLink, Traps, Halts}
-use Rattle.vx_words.specs.Spelling.{general_text, branch_text, register_text, source_text, address_text, code_name, trap_number, compute_text, body_text, operation_text}
-use Rattle.vx_words.specs.Fields.{is_digit, number_from, number_at, signed_at, general_at, branch_at, register_at, source_at}
+use Rattle.vx_words.specs.Spelling.{general_text, branch_text, register_text, source_text, address_text, code_name, trap_number, compute_text, body_text}
+use Rattle.vx_words.specs.Fields.{number_at, general_at, register_at, source_at}
 use Rattle.vx_words.specs.Forms.{form_of, code_to, trap_of, candidate, compute_of, move_of, select_of, load_of, store_of, branch_on_of}
 use Rattle.vx_words.specs.Range.{fits_signed, fits_unsigned, fits_source, fits_operation}
-use Rattle.vx_words.specs.Reading.{is_number, is_numbered, branch_front, has_form, has_operands, is_field, operation_by, operation_of}
+use Rattle.vx_words.specs.Reading.{is_numbered, branch_front, has_form, has_operands, is_field, operation_by, operation_of}
 use Rattle.vx_words.proofs.Numbers.{both_true, IsNoDigitFirst}
 use Rattle.vx_words.proofs.FieldsAgain.{number_read, signed_read, general_read, branch_read, register_general_read, register_branch_read, source_read, decimal_is_number}
 
@@ -222,3 +220,79 @@ trap_small Depth = omega arith
 
 trap_can : (k : Trap) → EndByTrap (trap_of (number_at (decimal (trap_number k))).0) ≡ EndByTrap k
 trap_can k = rw (number_end (trap_number k) (trap_small k)) (ap EndByTrap (trap_is k))
+
+unsigned_bound : (n : ℕ) → fits_unsigned n ≡ true → n ≤ 4294967295
+unsigned_bound n e = leb-true _ _ e
+
+pub operation_again : (total texts : ℕ) (op : Operation) → is_sound_operation total texts op ≡ true → fits_operation op ≡ true → operation_of (cluster_of op) (body_text op) ≡ Ok op
+unfolding candidate has_form form_of
+operation_again total texts (Compute k code to a b) e f =
+    let x = both_true (can_name_cluster k && is_destination code to && can_spell a) (can_spell b) e in
+    let y = both_true (can_name_cluster k && is_destination code to) (can_spell a) x.0 in
+    let z = both_true (can_name_cluster k) (is_destination code to) y.0 in
+    let g = both_true (fits_source a) (fits_source b) f in
+    let rest = register_text to ++ (codes " = " ++ (source_text a ++ (codes ", " ++ source_text b))) in
+    let text = compute_text code to a b in
+    let whole : text ≡ code_name code ++ (32 ∷ rest) = regroup_compute (code_name code) (register_text to) (source_text a) (source_text b) in
+    let name = name_found code to rest z.1 in
+    from_form k (Computes (general_code code)) text (Compute k code to a b)
+    (ap (λ t. form_of (field t)) whole ∙ name.0)
+    (ap (λ t. compute_of k (general_code code) (operands t)) whole ∙ ap (compute_of k (general_code code)) name.1 ∙ compute_again k code to a b z.1 y.1 x.1 g.0 g.1)
+    (same_text text) (operands_again total texts (Compute k code to a b) e)
+operation_again total texts (Move k to a) e f =
+    let x = both_true (can_name_cluster k && can_name to) (can_spell a) e in
+    let y = both_true (can_name_cluster k) (can_name to) x.0 in
+    from_form k Moves (body_text (Move k to a)) (Move k to a) refl (move_can k to a y.1 x.1 f) (same_text (body_text (Move k to a))) (operands_again total texts (Move k to a) e)
+operation_again total texts (Select k to t a b) e f =
+    let x = both_true (can_name_cluster k && can_name to && can_name_branch t && can_spell a) (can_spell b) e in
+    let y = both_true (can_name_cluster k && can_name to && can_name_branch t) (can_spell a) x.0 in
+    let z = both_true (can_name_cluster k && can_name to) (can_name_branch t) y.0 in
+    let v = both_true (can_name_cluster k) (can_name to) z.0 in
+    let g = both_true (fits_source a) (fits_source b) f in
+    from_form k Selects (body_text (Select k to t a b)) (Select k to t a b) refl (select_can k to t a b v.1 z.1 y.1 x.1 g.0 g.1) (same_text (body_text (Select k to t a b))) (operands_again total texts (Select k to t a b) e)
+operation_again total texts (Load k to o r true) e f =
+    let x = both_true (can_name_cluster k && can_name to) (can_name r) e in
+    let y = both_true (can_name_cluster k) (can_name to) x.0 in
+    from_form k (Loads true) (body_text (Load k to o r true)) (Load k to o r true) refl (load_can k to o r true y.1 x.1 f) (same_text (body_text (Load k to o r true))) (operands_again total texts (Load k to o r true) e)
+operation_again total texts (Load k to o r false) e f =
+    let x = both_true (can_name_cluster k && can_name to) (can_name r) e in
+    let y = both_true (can_name_cluster k) (can_name to) x.0 in
+    from_form k (Loads false) (body_text (Load k to o r false)) (Load k to o r false) refl (load_can k to o r false y.1 x.1 f) (same_text (body_text (Load k to o r false))) (operands_again total texts (Load k to o r false) e)
+operation_again total texts (Store k o r a) e f =
+    let x = both_true (can_name_cluster k && can_name r) (can_spell a) e in
+    let y = both_true (can_name_cluster k) (can_name r) x.0 in
+    let g = both_true (fits_signed o) (fits_source a) f in
+    from_form k Stores (body_text (Store k o r a)) (Store k o r a) refl (store_can k o r a y.1 x.1 g.0 g.1) (same_text (body_text (Store k o r a))) (operands_again total texts (Store k o r a) e)
+operation_again total texts (Input to) e f =
+    from_form 0 TakesInput (body_text (Input to)) (Input to) refl (ap (λ (x : GeneralRegister × List ℕ). Input x.0) (general_end to e)) (same_text (body_text (Input to))) (operands_again total texts (Input to) e)
+operation_again total texts (More to) e f =
+    from_form 0 AsksInput (body_text (More to)) (More to) refl (ap (λ (x : GeneralRegister × List ℕ). More x.0) (general_end to e)) (same_text (body_text (More to))) (operands_again total texts (More to) e)
+operation_again total texts (OutText n) e f =
+    from_form 0 PrintsText (body_text (OutText n)) (OutText n) refl (ap (λ (x : ℕ × List ℕ). OutText x.0) (number_end n (unsigned_bound n f))) (same_text (body_text (OutText n))) (operands_again total texts (OutText n) e)
+operation_again total texts (OutDecimal a) e f =
+    from_form 0 PrintsDecimal (body_text (OutDecimal a)) (OutDecimal a) refl (ap (λ (x : Source × List ℕ). OutDecimal x.0) (source_end a e f)) (same_text (body_text (OutDecimal a))) (operands_again total texts (OutDecimal a) e)
+operation_again total texts (OutByte a) e f =
+    from_form 0 PrintsByte (body_text (OutByte a)) (OutByte a) refl (ap (λ (x : Source × List ℕ). OutByte x.0) (source_end a e f)) (same_text (body_text (OutByte a))) (operands_again total texts (OutByte a) e)
+operation_again total texts (Goto p) e f =
+    from_form 0 Goes (body_text (Goto p)) (Goto p) refl (ap (λ (x : ℕ × List ℕ). Goto x.0) (number_end p (unsigned_bound p f)))
+    (numbered (codes "goto L") p (body_text (Goto p)) (unsigned_bound p f) refl) (operands_again total texts (Goto p) e)
+operation_again total texts (BranchOn t true p) e f =
+    let low : t ≤ 7 = leb-true _ _ (both_true (nat_le t 7) (nat_lt p total) e).0 in
+    from_form 0 (Branches true) (body_text (BranchOn t true p)) (BranchOn t true p) refl (branch_on_can true t p low (unsigned_bound p f))
+    (numbered (branch_front t true) p (body_text (BranchOn t true p)) (unsigned_bound p f) (regroup_front (codes "br $b0.") (decimal t) (decimal p))) (operands_again total texts (BranchOn t true p) e)
+operation_again total texts (BranchOn t false p) e f =
+    let low : t ≤ 7 = leb-true _ _ (both_true (nat_le t 7) (nat_lt p total) e).0 in
+    from_form 0 (Branches false) (body_text (BranchOn t false p)) (BranchOn t false p) refl (branch_on_can false t p low (unsigned_bound p f))
+    (numbered (branch_front t false) p (body_text (BranchOn t false p)) (unsigned_bound p f) (regroup_front (codes "brf $b0.") (decimal t) (decimal p))) (operands_again total texts (BranchOn t false p) e)
+operation_again total texts (Call p) e f =
+    from_form 0 Calls (body_text (Call p)) (Call p) refl (ap (λ (x : ℕ × List ℕ). Call x.0) (number_end p (unsigned_bound p f)))
+    (numbered (codes "call $l0.0 = L") p (body_text (Call p)) (unsigned_bound p f) refl) (operands_again total texts (Call p) e)
+operation_again total texts Return e f = from_form 0 Returns (body_text Return) Return refl refl refl (operands_again total texts Return e)
+operation_again total texts (ReadLink to) e f =
+    from_form 0 FromLink (body_text (ReadLink to)) (ReadLink to) refl (ap (λ (x : GeneralRegister × List ℕ). ReadLink x.0) (general_read to (codes " = $l0.0") e refl)) (same_text (body_text (ReadLink to))) (operands_again total texts (ReadLink to) e)
+operation_again total texts (WriteLink a) e f =
+    from_form 0 ToLink (body_text (WriteLink a)) (WriteLink a) refl (ap (λ (x : Source × List ℕ). WriteLink x.0) (source_end a e f)) (same_text (body_text (WriteLink a))) (operands_again total texts (WriteLink a) e)
+operation_again total texts (EndByTrap k) e f =
+    from_form 0 Traps (body_text (EndByTrap k)) (EndByTrap k) refl (trap_can k) (same_text (body_text (EndByTrap k))) (operands_again total texts (EndByTrap k) e)
+operation_again total texts (Halt a) e f =
+    from_form 0 Halts (body_text (Halt a)) (Halt a) refl (ap (λ (x : Source × List ℕ). Halt x.0) (source_end a e f)) (same_text (body_text (Halt a))) (operands_again total texts (Halt a) e)

@@ -1,31 +1,27 @@
 -- A text that is read is the text of the program that it gives.
-use Rattle.std.proofs.Common.{◌≡◌, ℕ, zero, suc, ◌+◌, ◌-◌, ◌*◌, ◌%◌, ◌^◌, ◌<◌, ◌≤◌, ℤ, Bool, true, false, cond, ◌&&◌, ◌||◌, List, [], ◌∷◌, ◌++◌, length, get_or, take, drop, Option, Some, None, Result, Ok, Err, refl, sym, ap, subst, ◌∙◌, ◌⊎◌, inl, inr, append_assoc, arith, rules}
-use Rattle.std.specs.Prelude.{count_by, nat_eq, nat_lt, nat_le, codes, if◌then◌else◌, not}
-use Rattle.std.specs.List.{flat_map, list_all, list_any, prefix_len, ends_with}
+use Rattle.std.proofs.Common.{◌≡◌, ℕ, zero, suc, ◌+◌, ◌-◌, ◌^◌, ◌<◌, ◌≤◌, ℤ, Bool, true, false, cond, ◌||◌, List, [], ◌∷◌, ◌++◌, length, get_or, take, drop, Option, Some, None, Result, Ok, Err, refl, sym, ap, subst, ◌∙◌, ◌⊎◌, inl, inr, append_assoc, arith}
+use Rattle.std.specs.Prelude.{nat_eq, codes, if◌then◌else◌}
+use Rattle.std.specs.List.{flat_map, list_any, prefix_len, ends_with}
 use Rattle.std.specs.Str.{bytes_eq}
 use Rattle.std.proofs.lemmas.Slice.Eq.{bytes_eq-Decides, ends_is}
 use Rattle.std.proofs.lemmas.Bool.Decides.{Decides-eqb}
-use Rattle.std.proofs.lemmas.List.{append-nil, length-append, length-take, length-drop, take-append-drop, take_at}
-use Rattle.std.proofs.lemmas.List.Folds.{list_all-append, list_any-append}
+use Rattle.std.proofs.lemmas.List.{append-nil, length-append, length-take, take_at}
+use Rattle.std.proofs.lemmas.List.Folds.{list_any-append}
 use Rattle.std.proofs.lemmas.List.Sums.{sum_by-cons, count_by-le-length}
-use borrow.Author.Tests.{eqb-true}
 use Rattle.vx_isa.specs.declared.operation.Operation.{Operation}
 use Rattle.vx_isa.specs.declared.program.Word.{Word}
 use Rattle.vx_isa.specs.declared.program.WordProgram.{WordProgram}
 use Rattle.vx_isa.specs.Operations.{cluster_of}
-use Rattle.vx_isa.specs.Sound.{is_start, is_sound_word, is_sound_operation, is_sound}
-use Rattle.vx_words.specs.declared.before.Stage.{Stage}
-use Rattle.vx_words.specs.declared.before.Stage.TheVariants.{Start, Version, Memory, Texts, WordEnd, Label, Operations, Idle}
+use Rattle.vx_isa.specs.Sound.{is_sound}
 use Rattle.vx_words.specs.declared.before.Before.{Before}
-use Rattle.vx_words.specs.Spelling.{line, header, start_line, text_line, word_lines, words_from, label_line, names, is_named, spelling}
+use Rattle.vx_words.specs.Spelling.{line, header, start_line, text_line, words_from, names, is_named}
 use Rattle.vx_words.specs.Reading.{is_field, operation_of}
 use Rattle.vx_words.specs.Steps.{beginning, is_between_words, is_operation_line, line_cluster, operation_step, word_end_step, version_step, memory_step, start_step, text_step, idle_step, label_step, step}
 use Rattle.std.specs.Prelude.{IfOk}
 use Rattle.vx_words.specs.declared.fault.WordsFault.{WordsFault}
-use Rattle.vx_words.specs.Text.{Reads, Fault, Spells, lines, is_word_end, word_count, on_its_cluster, line_operation, line_names, marks_from, followed, run_lines, program_of, ended, end_bytes, reading}
-use Rattle.vx_words.proofs.Numbers.{both_true}
+use Rattle.vx_words.specs.Text.{Reads, Fault, Spells, lines, is_word_end, word_count, line_operation, line_names, marks_from, followed, run_lines, program_of, ended, end_bytes, reading}
 use Rattle.vx_words.proofs.LineLemmas.{unlines, lines_joined, length_lines}
-use Rattle.vx_words.proofs.Advance.{words_by, label_at, body, so_far, Parts, shape, Good, at_start, Cases, by_cases, Extends}
+use Rattle.vx_words.proofs.Advance.{words_by, body, so_far, Parts, Good, at_start, by_cases, Extends}
 use Rattle.vx_words.proofs.OperationLemmas.{three_bytes}
 use Rattle.vx_words.proofs.StepLemmas.{Ends, Adds, version_extends, memory_extends, start_extends, text_extends, idle_extends, label_extends, word_end_extends, operation_adds}
 
@@ -39,11 +35,11 @@ pub record Advances (marks : List Bool) (total : ℕ) (s : Before) (text : List 
   pub names : (p : ℕ) → state_names p t ≡ (state_names p s || line_names p text)
   pub count : length t.words ≡ length s.words + (if is_word_end text then 1 else 0)
 
-or_nothing : (b : Bool) → (b || false) ≡ b
+pub or_nothing : (b : Bool) → (b || false) ≡ b
 or_nothing true = refl
 or_nothing false = refl
 
-or_assoc : (a b c : Bool) → ((a || b) || c) ≡ (a || (b || c))
+pub or_assoc : (a b c : Bool) → ((a || b) || c) ≡ (a || (b || c))
 or_assoc true b c = refl
 or_assoc false b c = refl
 
@@ -238,7 +234,7 @@ words_same marks all p (w ∷ ws) same =
     rw (here, rest) refl
 
 -- a mark says whether a line names its place
-marks_at : (p n : ℕ) (ls : List (List ℕ)) (q : ℕ) → q < n → get_or (marks_from p n ls) q false ≡ list_any (line_names (p + q)) ls
+pub marks_at : (p n : ℕ) (ls : List (List ℕ)) (q : ℕ) → q < n → get_or (marks_from p n ls) q false ≡ list_any (line_names (p + q)) ls
 marks_at p zero ls q lt = absurd (omega arith)
 marks_at p (suc n) ls zero lt = let e : p + 0 ≡ p = omega arith in rw e refl
 marks_at p (suc n) ls (suc q) lt = let e : p + suc q ≡ p + 1 + q = omega arith in rw e (marks_at (p + 1) n ls q (omega arith))
@@ -306,7 +302,7 @@ tested_text : (b : Bool) (x y : Result WordProgram Fault) (w : WordProgram) → 
 tested_text true x y w e f = (refl, e)
 tested_text false x y w e f = absurd cc
 
-abbrev front_of : List ℕ → List ℕ
+abbrev pub front_of : List ℕ → List ℕ
 front_of bytes = take (length bytes - 5) bytes
 
 -- the front of a text that ends with its last line

@@ -1,15 +1,13 @@
 -- Each kind of line that is taken adds its text to what stood before.
-use Rattle.std.proofs.Common.{◌≡◌, ℕ, zero, suc, ◌+◌, ◌-◌, ◌*◌, ◌%◌, ◌^◌, ◌<◌, ◌≤◌, ℤ, Bool, true, false, cond, ◌&&◌, ◌||◌, List, [], ◌∷◌, ◌++◌, length, get_or, take, drop, Option, Some, None, Result, Ok, Err, refl, sym, ap, subst, ◌∙◌, ◌⊎◌, inl, inr, append_assoc, arith, rules, add-one}
+use Rattle.std.proofs.Common.{◌≡◌, ℕ, suc, ◌+◌, ◌%◌, ◌^◌, ◌<◌, ◌≤◌, ℤ, Bool, true, false, ◌&&◌, ◌||◌, List, [], ◌∷◌, ◌++◌, length, get_or, take, drop, Result, Ok, Err, refl, sym, ap, subst, ◌∙◌, append_assoc, arith}
 use Rattle.std.specs.Prelude.{decimal, nat_eq, nat_lt, nat_le, codes, if◌then◌else◌, not}
-use Rattle.std.specs.List.{flat_map, list_all, list_any, prefix_len}
+use Rattle.std.specs.List.{flat_map, list_all, prefix_len}
 use Rattle.std.specs.Str.{bytes_eq}
 use Rattle.std.proofs.lemmas.Slice.Eq.{bytes_eq-Decides}
 use Rattle.std.proofs.lemmas.Grind.{flat_map-append}
 use Rattle.std.proofs.lemmas.List.{append-nil}
-use Rattle.std.proofs.lemmas.List.Folds.{list_all-append}
 use Rattle.std.proofs.lemmas.Fmt.{decimal-digits_value}
-use Rattle.std.proofs.lemmas.Bool.{eq-eqb}
-use borrow.Author.Tests.{ltb-true, leb-true, leb-false, eqb-true}
+use borrow.Author.Tests.{ltb-true, leb-true, eqb-true}
 use Rattle.std.proofs.lemmas.Bool.{ltb-false, le-leb}
 use Rattle.std.proofs.lemmas.Bool.Decides.{nat_tests}
 use Rattle.std.proofs.lemmas.List.{length-take, length-drop}
@@ -17,20 +15,19 @@ use Rattle.vx_words.specs.Fields.{is_digit}
 use Rattle.vx_isa.specs.declared.operation.Operation.{Operation}
 use Rattle.vx_isa.specs.declared.program.Word.{Word}
 use Rattle.vx_isa.specs.Sound.{is_start, is_sound_word, is_sound_operation, is_not_zero}
-use Rattle.vx_words.specs.declared.before.Stage.{Stage}
-use Rattle.vx_words.specs.declared.before.Stage.TheVariants.{Start, Version, Memory, Texts, WordEnd, Label, Operations, Idle}
+use Rattle.vx_words.specs.declared.before.Stage.TheVariants.{Version, Memory, Texts, WordEnd, Label, Operations, Idle}
 use Rattle.vx_words.specs.declared.before.Before.{Before}
-use Rattle.vx_words.specs.Spelling.{line, header, start_line, start_text, text_line, quoted_text, word_lines, label_line, place_text, operation_line, operation_text, idle_text, names}
+use Rattle.vx_words.specs.Spelling.{line, header, start_line, start_text, text_line, quoted_text, word_lines, label_line, place_text, operation_line, operation_text, idle_text}
 use Rattle.vx_words.specs.Fields.{number_at}
 use Rattle.vx_words.specs.Reading.{is_number, is_field}
 use Rattle.vx_isa.specs.Operations.{cluster_of}
 use Rattle.vx_words.specs.Reading.{has_operands, texts_named, operation_of}
 use Rattle.vx_words.proofs.OperationLemmas.{body_spelled, operation_spelled, sound_operation}
 use Rattle.vx_words.specs.Steps.{is_beyond, begins_word, is_operations_stage, operation_by_stage, operation_added, operation_step, is_operation_line, line_cluster}
-use Rattle.vx_words.specs.Steps.{beginning, accepted, value_from, is_size, entry_at, unquoted, version_step, memory_step, start_step, text_step, label_stood, label_by, label_step, idle_step, word_end_step, step}
+use Rattle.vx_words.specs.Steps.{beginning, accepted, value_from, is_size, entry_at, unquoted, version_step, memory_step, start_step, text_step, label_stood, label_by, label_step, idle_step, word_end_step}
 use Rattle.vx_words.proofs.Numbers.{own, both_true, is_number_digits}
 use Rattle.vx_words.proofs.LineLemmas.{field_then}
-use Rattle.vx_words.proofs.Advance.{words_by, label_at, body, so_far, least_behind, Parts, shape, Good, at_version, at_memory, at_texts, at_word_end, at_label, at_operations, at_idle, Cases, by_cases, Extends, accepted_ok}
+use Rattle.vx_words.proofs.Advance.{words_by, label_at, body, so_far, least_behind, Parts, shape, Good, at_version, at_memory, at_texts, at_word_end, at_label, at_operations, at_idle, by_cases, Extends, accepted_ok}
 
 abbrev refused : ℕ → Result Before ℕ
 refused code = Err code

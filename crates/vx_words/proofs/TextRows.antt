@@ -1,11 +1,11 @@
 -- Worked faults of texts, by computation.
-use Rattle.std.proofs.Common.{◌≡◌, Option, Some, None, codes, refl}
+use Rattle.std.proofs.Common.{◌≡◌, Some, None, codes, refl}
 use Rattle.std.specs.Fmt.{digits}
 use Rattle.vx_words.specs.Fields.{number_at, signed_at, numbers_at, general_at, branch_at, register_at, source_at}
 use Rattle.vx_words.specs.Forms.{form_of, candidate, compute_of, move_of, select_of, load_of, store_of, branch_on_of}
 use Rattle.vx_words.specs.Reading.{operation_of, operation_by, has_form, has_operands}
 use Rattle.vx_words.specs.Steps.{version_step, memory_step, start_step, entry_at, text_step, unquoted, label_step, label_by, idle_step, word_end_step, operation_by_stage, operation_step, step}
-use Rattle.vx_words.specs.Text.{Fault, line_operation, reading, text_fault}
+use Rattle.vx_words.specs.Text.{line_operation, reading, text_fault}
 
 -- row 17 without its last line
 no_end : text_fault (codes ".vexwords 1\n.memory 0\nc0 mov $r0.4 = 7\n;;\nc0 mpylu $r0.3 = $r0.4, 5\n;;\nc0 outd $r0.3\n;;\nc0 halt 0\n;;\n") ≡ Some (record { code = 7; line = 0 })

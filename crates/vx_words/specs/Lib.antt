@@ -5,3 +5,4 @@ pub mod Range
 pub mod Reading
 pub mod Steps
 pub mod Text
+pub mod Laws

@@ -1,5 +1,5 @@
 -- The numbers of a program fit the types that hold them. Every program of words in memory is so.
-use Rattle.std.specs.Prelude.{ℕ, ℤ, pos, negsuc, Bool, true, ◌&&◌, nat_le, nat_lt, List}
+use Rattle.std.specs.Prelude.{ℕ, ℤ, pos, negsuc, Bool, true, ◌&&◌, nat_le, nat_lt}
 use Rattle.std.specs.List.{list_all}
 use Rattle.vx_isa.specs.declared.operation.Source.{Source}
 use Rattle.vx_isa.specs.declared.operation.Source.TheVariants.{Held, Number}

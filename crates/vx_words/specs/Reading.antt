@@ -1,5 +1,5 @@
 -- The operation of a line: its name, and then its operands, which must be spelled as the operation spells them.
-use Rattle.std.specs.Prelude.{◌≡◌, ℕ, ◌+◌, Bool, true, false, ◌&&◌, ◌||◌, ◌==◌, nat_lt, slice_index, not, if◌then◌else◌, List, [], ◌∷◌, ◌++◌, length, take, drop, Option, Some, None, unwrap_or, Result, Ok, Err, codes, decimal}
+use Rattle.std.specs.Prelude.{◌≡◌, ℕ, ◌+◌, Bool, ◌&&◌, ◌||◌, ◌==◌, nat_lt, slice_index, not, if◌then◌else◌, List, ◌++◌, length, take, drop, Option, Some, None, unwrap_or, Result, Ok, Err, codes, decimal}
 use Rattle.std.specs.List.{list_all, starts_with, prefix_len}
 use Rattle.std.specs.Option.{option_map_or}
 use Rattle.std.specs.Prelude.{nat_eq}

@@ -1,11 +1,9 @@
 -- What a line adds to what stood before it, or the code of its fault. A line is given without its line feed.
-use Rattle.std.specs.Prelude.{◌≡◌, ℕ, ◌+◌, ◌-◌, ◌*◌, ◌/◌, ◌%◌, ◌^◌, ◌<◌, ◌≤◌, ◌⊎◌, ℤ, Bool, true, false, ◌&&◌, ◌||◌, ◌==◌, not, nat_lt, nat_le, slice_index, slice_index_or, slice_range, if◌then◌else◌, List, [], ◌∷◌, ◌++◌, length, take, drop, Option, Some, None, unwrap_or, Result, Ok, Err, codes}
-use Rattle.std.specs.List.{list_any, prefix_len}
+use Rattle.std.specs.Prelude.{◌≡◌, ℕ, ◌+◌, ◌-◌, ◌*◌, ◌%◌, ◌^◌, ◌<◌, ◌≤◌, ◌⊎◌, ℤ, Bool, true, false, ◌&&◌, ◌||◌, ◌==◌, not, nat_lt, nat_le, slice_index, slice_index_or, if◌then◌else◌, List, [], ◌∷◌, ◌++◌, length, take, drop, Result, Ok, Err, codes}
+use Rattle.std.specs.List.{prefix_len}
 use Rattle.std.specs.Option.{option_map_or}
 use Rattle.std.specs.Str.{bytes_eq}
 use Rattle.vx_isa.specs.declared.operation.Operation.{Operation}
-use Rattle.vx_isa.specs.declared.program.Word.{Word}
-use Rattle.vx_isa.specs.declared.program.WordProgram.{WordProgram}
 use Rattle.vx_isa.specs.Sound.{is_not_zero}
 use Rattle.vx_isa.specs.Operations.{cluster_of}
 use Rattle.vx_words.specs.declared.before.Stage.{Stage}
@@ -13,7 +11,7 @@ use Rattle.vx_words.specs.declared.before.Stage.TheVariants.{Start, Version, Mem
 use Rattle.vx_words.specs.declared.before.Before.{Before}
 use Rattle.vx_words.specs.declared.quoted.Escape.{Escape}
 use Rattle.vx_words.specs.declared.quoted.Escape.TheVariants.{Plain, Backslash, FirstDigit, LastDigit}
-use Rattle.vx_words.specs.Spelling.{target_of, names, place_text, start_text, quoted_text, idle_text}
+use Rattle.vx_words.specs.Spelling.{target_of, place_text, start_text, quoted_text, idle_text}
 use Rattle.vx_words.specs.Fields.{number_at, signed_at}
 use Rattle.vx_words.specs.Reading.{is_number, texts_named, is_field, operation_of}
 

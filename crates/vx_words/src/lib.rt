@@ -5,6 +5,7 @@ pub mod before;
 pub mod fault;
 pub mod fields;
 pub mod form;
+pub mod laws;
 pub mod operation_text;
 pub mod program_text;
 pub mod quoted;

@@ -3,7 +3,8 @@
 ghost use Rattle.std.specs.Prelude.{◌≡◌, ◌≢◌, ℕ, ◌+◌, ◌-◌, ◌<◌, ◌≤◌, ◌∷◌, ◌^◌, length, take, get_or, false, ◌||◌, ◌==◌, Ok, OnOk, IfOk};
 ghost use Rattle.std.specs.List.{list_any, prefix_len};
 ghost use Rattle.std.specs.Option.{option_map_or};
-ghost use Rattle.vx_words.specs.Spelling.{names};
+ghost use Rattle.vx_words.specs.Laws.{IsProgram};
+ghost use Rattle.vx_words.specs.Spelling.{names, spelling};
 ghost use Rattle.vx_words.specs.Steps.{beginning};
 ghost use Rattle.vx_words.specs.Text.{lines, is_not_feed, is_word_end, word_count, line_operation, line_names, marks_from, run_lines, program_of, ended, end_bytes, reading, Reads, Spells, Finds, text_fault};
 
@@ -194,6 +195,8 @@ fn read_text(alloc: Global, bytes: &[u8]) -> Result<WordProgram, WordsFault>
 pub fn read(alloc: Global, bytes: &[u8]) -> Result<WordProgram, WordsFault>
     // The program is sound, and the bytes are its text.
     ensures spelled { IfOk result (λ program. Spells bytes.now program) }
+    // What a sound program is spelled as is read as that program, unless memory runs out.
+    ensures only { (w : WordProgram) → IsProgram w → bytes.now ≡ spelling w → Reads (λ program. program) result (Ok w) }
     // `Bad` comes exactly where a line is faulty, with the first such line and its first code.
     ensures fault { Finds result (text_fault bytes.now) }
 {

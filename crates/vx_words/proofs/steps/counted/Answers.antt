@@ -1,5 +1,5 @@
 -- One digit more: the value of the digits so far is ten times as much and the digit.
-use Rattle.std.proofs.Common.{◌≡◌, ℕ, ◌+◌, ◌-◌, ◌*◌, ◌<◌, take, get_or, ◌++◌, ◌∷◌, [], ◌∙◌, ap, sym, subst, arith}
+use Rattle.std.proofs.Common.{◌≡◌, ◌+◌, ◌-◌, ◌*◌, take, get_or, ◌∙◌, ap, sym, subst}
 use Rattle.std.proofs.lemmas.List.{take_more}
 use Rattle.vx_words.specs.Steps.{Counts, value_from}
 use Rattle.vx_words.proofs.Counting.{value_from-append}

@@ -1,4 +1,4 @@
-use Rattle.std.proofs.Common.{◌≡◌, take}
+use Rattle.std.proofs.Common.{take}
 use Rattle.vx_words.specs.Steps.{Counts, value_from}
 use Rattle.vx_words.proofs.steps.counted.Given as goal
 
