@@ -1,5 +1,6 @@
 -- A source has tokens or a fault, in one way.
 use Rattle.std.proofs.Common.{◌≡◌, ◌≢◌, ◌≤◌, ◌<◌, ◌+◌, ◌-◌, ◌⊎◌, ℕ, zero, suc, List, [], ◌∷◌, length, refl, sym, ◌∙◌, ap, subst, inl, inr, arith}
+use Rattle.std.specs.List.{AllByRecursion}
 use Rattle.std.proofs.lemmas.Bool.{cases_lt}
 use Rattle.vx_ast.specs.declared.token.TokenKind.{TokenKind}
 use Rattle.vx_ast.specs.declared.token.TokenKind.TheVariants as kinds
@@ -8,7 +9,7 @@ use Rattle.vx_ast.specs.declared.token.Piece.{Piece}
 use Rattle.vx_ast.specs.declared.token.Piece.TheVariants.{Skipped, Spelled, Faulty}
 use Rattle.vx_ast.specs.declared.fault.SourceFault.{SourceFault}
 use Rattle.vx_ast.specs.declared.fault.SourceFault.TheVariants.{Bad}
-use Rattle.vx_ast.specs.Tokens.{piece_at, IsWithin, LexesFrom, RefusesFrom, Lexes, Refuses, token_at, line_at, column_at, ReadOrRefused, NeverBoth, OneReading, OneFault, InOrder, SpansInOrder}
+use Rattle.vx_ast.specs.Tokens.{piece_at, IsWithin, LexesFrom, RefusesFrom, Lexes, Refuses, token_at, line_at, column_at, ReadOrRefused, NeverBoth, OneReading, OneFault, InOrder, SpansInOrder, Stands, TextsAreSlices}
 use Rattle.vx_ast.proofs.PieceLaws.{at_within}
 
 abbrev Read : List ℕ → ℕ → Type 0
@@ -127,3 +128,16 @@ order bytes place ts (LexesFrom.token kind n {ts = us} h is d) =
 
 pub spans_in_order : SpansInOrder
 spans_in_order bytes ts d = order bytes 0 ts d
+
+-- texts
+
+stands_at : (bytes : List ℕ) (place count : ℕ) (kind : TokenKind) → piece_at bytes place ≡ Spelled kind count → Stands bytes (token_at bytes kind place count)
+stands_at bytes place count kind is = let e : place + count - place ≡ count = omega arith in ((λ _. rw e is), refl, refl)
+
+stands : (bytes : List ℕ) (place : ℕ) (ts : List Token) → LexesFrom bytes place ts → AllByRecursion (Stands bytes) ts
+stands bytes place ts (LexesFrom.end e) = (((λ ne. absurd (ne refl)), refl, refl), tt)
+stands bytes place ts (LexesFrom.skip n h is d) = stands bytes (place + n) ts d
+stands bytes place ts (LexesFrom.token kind n {ts = us} h is d) = (stands_at bytes place n kind is, stands bytes (place + n) us d)
+
+pub texts_are_slices : TextsAreSlices
+texts_are_slices bytes ts d = stands bytes 0 ts d

@@ -5,3 +5,4 @@ pub mod Small
 pub mod SmallReader
 pub mod SmallMeaning
 pub mod Tokens
+pub mod Phrases

@@ -1,6 +1,6 @@
 -- The tokens of a source, and the first fault of a source that has none.
 use Rattle.std.specs.Prelude.{◌≡◌, ◌≢◌, ◌<◌, ◌≤◌, ◌⊎◌, ◌+◌, ◌-◌, ◌*◌, ℕ, pos, Bool, true, false, not, ◌&&◌, ◌||◌, ◌==◌, nat_eq, nat_le, nat_lt, if◌then◌else◌, Option, None, Some, List, [], ◌∷◌, length, take, drop, codes, fold, find, count_by, slice_index, is_none, unwrap_or}
-use Rattle.std.specs.List.{list_all, prefix_len, suffix_len, starts_with}
+use Rattle.std.specs.List.{AllByRecursion, list_all, prefix_len, suffix_len, starts_with}
 use Rattle.std.specs.Cmp.Lexicographic.{pointwise}
 use Rattle.std.specs.Option.{option_map, option_map_or}
 use Rattle.vx_ast.specs.declared.token.Keyword.{Keyword}
@@ -275,3 +275,10 @@ InOrder bytes place (t ∷ u ∷ ts) = (t.kind ≢ kinds.End) × (place ≤ t.st
 
 abbrev pub SpansInOrder : Type 0
 SpansInOrder = (bytes : List ℕ) (ts : List Token) → Lexes bytes ts → InOrder bytes 0 ts
+
+-- a token's text is what stands at its span: there its kind is spelled, with as many bytes as the span has
+abbrev pub Stands : (bytes : List ℕ) → Token → Type 0
+Stands bytes t = (t.kind ≢ kinds.End → piece_at bytes t.start ≡ Spelled t.kind (t.end - t.start)) × (t.line ≡ line_at bytes t.start) × (t.column ≡ column_at bytes t.start)
+
+abbrev pub TextsAreSlices : Type 0
+TextsAreSlices = (bytes : List ℕ) (ts : List Token) → Lexes bytes ts → AllByRecursion (Stands bytes) ts

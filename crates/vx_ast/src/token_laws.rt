@@ -1,6 +1,6 @@
 // The laws of tokens: each function does nothing, and its clause is the law.
 
-ghost use Rattle.vx_ast.specs.Tokens.{NeverBoth, OneFault, OneReading, ReadOrRefused, SpansInOrder};
+ghost use Rattle.vx_ast.specs.Tokens.{NeverBoth, OneFault, OneReading, ReadOrRefused, SpansInOrder, TextsAreSlices};
 
 /// Every source has tokens or a fault.
 pub fn read_or_refused()
@@ -25,4 +25,9 @@ pub fn one_fault()
 /// The spans of tokens are in order, and the end token stands at the end of the source.
 pub fn spans_in_order()
     ensures { SpansInOrder }
+{}
+
+/// Each token's text is its slice of the source.
+pub fn texts_are_slices()
+    ensures { TextsAreSlices }
 {}
