@@ -1,0 +1,7 @@
+mod RunRows
+pub mod RunLaws
+pub mod Members
+pub mod IndexSteps
+pub mod LiveRoutes
+pub mod ClosingSteps
+pub mod WalkSteps

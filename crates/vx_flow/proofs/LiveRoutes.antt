@@ -1,0 +1,344 @@
+-- A path of blocks reads a value before writing it exactly where a path of the blocks' routes does.
+use Rattle.std.proofs.Common.{◌≡◌, ◌⊎◌, inl, inr, ◌↔◌, ℕ, zero, suc, ◌+◌, ◌<◌, ◌≤◌, Bool, true, false, ◌==◌, cond, map, take, List, [], ◌∷◌, ◌++◌, length, slice_get, get_or, Option, Some, None, refl, sym, ap, subst, ◌∙◌, arith, eqb-true, append_assoc}
+use Rattle.std.specs.List.{flat_map}
+use Rattle.std.proofs.lemmas.Bool.Decides.{eqb_tells}
+use Rattle.vx_base.specs.declared.arithmetic.Code.{Code}
+use Rattle.vx_base.specs.declared.arithmetic.Code.TheVariants.{Mov}
+use Rattle.vx_flow.specs.declared.graph.Operand.{Operand}
+use Rattle.vx_flow.specs.declared.graph.Operand.TheVariants.{Held, Number, Stack}
+use Rattle.vx_flow.specs.declared.graph.Op.{Op}
+use Rattle.vx_flow.specs.declared.graph.Op.TheVariants.{Compute, Select, Place, Load, Store, More, Input, Text, Decimal, Across}
+use Rattle.vx_flow.specs.declared.graph.Exit.{Exit}
+use Rattle.vx_flow.specs.declared.graph.Exit.TheVariants.{Goto, Split, Call, Return, Ends}
+use Rattle.vx_flow.specs.declared.graph.Block.{Block}
+use Rattle.vx_flow.specs.declared.graph.Graph.{Graph}
+use Rattle.vx_flow.specs.declared.routes.Touch.{Touch}
+use Rattle.vx_flow.specs.declared.routes.Route.{Route}
+use Rattle.vx_flow.specs.Effects.{IsIn, value_in, reads, writes}
+use Rattle.vx_flow.specs.Sound.{targets_of, results_of_exit}
+use Rattle.vx_flow.specs.Live.{IsLive, LiveOn, ReadsFirst, NeverWrites, reads_of_exit, first_touch, touch, operand_touches, touches_of, touches_of_exit, route_of, routes_from}
+use Rattle.vx_flow.specs.Closing.{BeginWithin, ReadersFound}
+use Rattle.vx_flow.specs.Rows.{is_marked, lives, row_at}
+use Rattle.vx_flow.proofs.ClosingSteps.{empty_list}
+use Rattle.vx_flow.proofs.IndexSteps.{get_below}
+
+-- blocks and routes by number
+
+pub routes_more : (b : ℕ) (blocks : List Block) (i : ℕ) (k : Block) → i < length blocks → k ≡ get_or blocks i k → routes_from b (take (suc i) blocks) ≡ routes_from b (take i blocks) ++ route_of (b + i) k ∷ []
+routes_more b [] i k h e = absurd (omega arith)
+routes_more b (x ∷ xs) zero k h e = let z : b ≡ b + 0 = omega arith in ap (λ y. route_of b y ∷ []) (sym e) ∙ ap (λ n. route_of n k ∷ []) z
+routes_more b (x ∷ xs) (suc i) k h e =
+    let z : b + 1 + i ≡ b + suc i = omega arith in
+    ap (λ l. route_of b x ∷ l) (routes_more (b + 1) xs i k (omega arith) e ∙ ap (λ n. routes_from (b + 1) (take i xs) ++ route_of n k ∷ []) z)
+
+routes_at : (n : ℕ) (blocks : List Block) (i : ℕ) (k : Block) → slice_get blocks i ≡ Some k → slice_get (routes_from n blocks) i ≡ Some (route_of (n + i) k)
+routes_at n [] i k e = absurd (cc)
+routes_at n (x ∷ xs) zero k e = let z : n ≡ n + 0 = omega arith in let q : x ≡ k = cc in ap (λ y. Some (route_of n y)) q ∙ ap (λ m. Some (route_of m k)) z
+routes_at n (x ∷ xs) (suc i) k e = let z : n + 1 + i ≡ n + suc i = omega arith in routes_at (n + 1) xs i k e ∙ ap (λ m. Some (route_of m k)) z
+
+routes_back : (n : ℕ) (blocks : List Block) (i : ℕ) (r : Route) → slice_get (routes_from n blocks) i ≡ Some r → (k : Block) × (slice_get blocks i ≡ Some k) × (r ≡ route_of (n + i) k)
+routes_back n [] i r e = absurd (cc)
+routes_back n (x ∷ xs) zero r e = let z : n ≡ n + 0 = omega arith in let q : route_of n x ≡ r = cc in (x, refl, sym q ∙ ap (λ m. route_of m x) z)
+routes_back n (x ∷ xs) (suc i) r e =
+    let z : n + 1 + i ≡ n + suc i = omega arith in
+    let w = routes_back (n + 1) xs i r e in (w.0, w.1, w.2 ∙ ap (λ m. route_of m w.0) z)
+
+pub routes_begin_within : (blocks : List Block) → BeginWithin (length blocks) (routes_from 0 blocks)
+routes_begin_within blocks i r e =
+    let w = routes_back 0 blocks i r e in
+    let h : i < length blocks = get_below blocks i w.0 w.1 in
+    let q : r.from ≡ 0 + i = ap (λ (x : Route). x.from) w.2 in
+    omega arith
+
+-- what operations and exits do to values
+
+touches_split : (op : Op) → touches_of op ≡ map (touch true) (reads op) ++ map (touch false) (writes op)
+touches_split (Compute Mov v (Held u) b) = refl
+touches_split (Compute Mov v (Number n) b) = refl
+touches_split (Compute Mov v Stack b) = refl
+touches_split (Compute code v (Held u) (Held w)) = refl
+touches_split (Compute code v (Held u) (Number n)) = refl
+touches_split (Compute code v (Held u) Stack) = refl
+touches_split (Compute code v (Number n) (Held w)) = refl
+touches_split (Compute code v (Number n) (Number m)) = refl
+touches_split (Compute code v (Number n) Stack) = refl
+touches_split (Compute code v Stack (Held w)) = refl
+touches_split (Compute code v Stack (Number m)) = refl
+touches_split (Compute code v Stack Stack) = refl
+touches_split (Select v p (Held u) (Held w)) = refl
+touches_split (Select v p (Held u) (Number n)) = refl
+touches_split (Select v p (Held u) Stack) = refl
+touches_split (Select v p (Number n) (Held w)) = refl
+touches_split (Select v p (Number n) (Number m)) = refl
+touches_split (Select v p (Number n) Stack) = refl
+touches_split (Select v p Stack (Held w)) = refl
+touches_split (Select v p Stack (Number m)) = refl
+touches_split (Select v p Stack Stack) = refl
+touches_split (Place v a (Held u)) = refl
+touches_split (Place v a (Number n)) = refl
+touches_split (Place v a Stack) = refl
+touches_split (Load v a (Held u) d) = refl
+touches_split (Load v a (Number n) d) = refl
+touches_split (Load v a Stack d) = refl
+touches_split (Store a (Held u) (Held w)) = refl
+touches_split (Store a (Held u) (Number n)) = refl
+touches_split (Store a (Held u) Stack) = refl
+touches_split (Store a (Number n) (Held w)) = refl
+touches_split (Store a (Number n) (Number m)) = refl
+touches_split (Store a (Number n) Stack) = refl
+touches_split (Store a Stack (Held w)) = refl
+touches_split (Store a Stack (Number m)) = refl
+touches_split (Store a Stack Stack) = refl
+touches_split (More v) = refl
+touches_split (Input v) = refl
+touches_split (Text n) = refl
+touches_split (Decimal (Held u)) = refl
+touches_split (Decimal (Number n)) = refl
+touches_split (Decimal Stack) = refl
+touches_split (Across v u) = refl
+
+arguments_split : (xs : List Operand) (rest : List Touch) → flat_map operand_touches xs ++ rest ≡ map (touch true) (flat_map value_in xs) ++ rest
+arguments_split [] rest = refl
+arguments_split (Held v ∷ xs) rest = ap (λ l. touch true v ∷ l) (arguments_split xs rest)
+arguments_split (Number n ∷ xs) rest = arguments_split xs rest
+arguments_split (Stack ∷ xs) rest = arguments_split xs rest
+
+exit_split : (exit : Exit) → touches_of_exit exit ≡ map (touch true) (reads_of_exit exit) ++ map (touch false) (results_of_exit exit)
+exit_split (Goto c) = refl
+exit_split (Split p c d) = refl
+exit_split (Call g arguments None next) = arguments_split arguments []
+exit_split (Call g arguments (Some v) next) = arguments_split arguments (touch false v ∷ [])
+exit_split (Return (Held v)) = refl
+exit_split (Return (Number n)) = refl
+exit_split (Return Stack) = refl
+exit_split (Ends k) = refl
+
+-- the first touch of some values, and then of the rest
+
+in_or_not : (v : ℕ) (vs : List ℕ) → IsIn v vs ⊎ (IsIn v vs → ⊥)
+in_or_not v [] = inr (λ h. h)
+in_or_not v (u ∷ vs) = elim (eqb_tells u v) [
+  | inl t ↦ inl (inl (sym t.1))
+  | inr t ↦ elim (in_or_not v vs) [ inl m ↦ inl (inr m) | inr n ↦ inr (λ h. elim h [ inl e ↦ t.1 (sym e) | inr m ↦ n m ]) ]
+]
+
+first_in : (k : Bool) (v : ℕ) (vs : List ℕ) (rest : List Touch) → IsIn v vs → first_touch v (map (touch k) vs ++ rest) ≡ Some k
+first_in k v [] rest h = absurd h
+first_in k v (u ∷ vs) rest h = elim (eqb_tells u v) [
+  | inl t ↦ ap (λ b. cond b (Some k) (first_touch v (map (touch k) vs ++ rest))) t.0
+  | inr t ↦ ap (λ b. cond b (Some k) (first_touch v (map (touch k) vs ++ rest))) t.0 ∙ elim h [ inl e ↦ absurd (t.1 (sym e)) | inr m ↦ first_in k v vs rest m ]
+]
+
+first_out : (k : Bool) (v : ℕ) (vs : List ℕ) (rest : List Touch) → (IsIn v vs → ⊥) → first_touch v (map (touch k) vs ++ rest) ≡ first_touch v rest
+first_out k v [] rest h = refl
+first_out k v (u ∷ vs) rest h = elim (eqb_tells u v) [
+  | inl t ↦ absurd (h (inl (sym t.1)))
+  | inr t ↦ ap (λ b. cond b (Some k) (first_touch v (map (touch k) vs ++ rest))) t.0 ∙ first_out k v vs rest (λ m. h (inr m))
+]
+
+-- reading and writing, and then the rest
+data Firsts (v : ℕ) (rs ws : List ℕ) (rest first : Option Bool) : Type 0 where
+  is_read : IsIn v rs → first ≡ Some true → Firsts v rs ws rest first
+  is_written : (IsIn v rs → ⊥) → IsIn v ws → first ≡ Some false → Firsts v rs ws rest first
+  is_left : (IsIn v rs → ⊥) → (IsIn v ws → ⊥) → first ≡ rest → Firsts v rs ws rest first
+
+firsts : (v : ℕ) (rs ws : List ℕ) (rest : List Touch) → Firsts v rs ws (first_touch v rest) (first_touch v (map (touch true) rs ++ (map (touch false) ws ++ rest)))
+firsts v rs ws rest = elim (in_or_not v rs) [
+  | inl m ↦ is_read m (first_in true v rs (map (touch false) ws ++ rest) m)
+  | inr n ↦ elim (in_or_not v ws) [
+    | inl m ↦ is_written n m (first_out true v rs (map (touch false) ws ++ rest) n ∙ first_in false v ws rest m)
+    | inr k ↦ is_left n k (first_out true v rs (map (touch false) ws ++ rest) n ∙ first_out false v ws rest k)
+  ]
+]
+
+op_firsts : (v : ℕ) (op : Op) (rest : List Touch) → Firsts v (reads op) (writes op) (first_touch v rest) (first_touch v (touches_of op ++ rest))
+op_firsts v op rest =
+    let e : touches_of op ++ rest ≡ map (touch true) (reads op) ++ (map (touch false) (writes op) ++ rest) = ap (λ l. l ++ rest) (touches_split op) ∙ append_assoc (map (touch true) (reads op)) (map (touch false) (writes op)) rest in
+    subst (λ l. Firsts v (reads op) (writes op) (first_touch v rest) (first_touch v l)) (sym e) (firsts v (reads op) (writes op) rest)
+
+append_none : (xs ys : List Touch) → xs ++ ys ≡ xs ++ (ys ++ [])
+append_none [] [] = refl
+append_none [] (y ∷ ys) = ap (λ l. y ∷ l) (append_none [] ys)
+append_none (x ∷ xs) ys = ap (λ l. x ∷ l) (append_none xs ys)
+
+exit_firsts : (v : ℕ) (exit : Exit) → Firsts v (reads_of_exit exit) (results_of_exit exit) None (first_touch v (touches_of_exit exit))
+exit_firsts v exit =
+    let e : touches_of_exit exit ≡ map (touch true) (reads_of_exit exit) ++ (map (touch false) (results_of_exit exit) ++ []) = exit_split exit ∙ append_none (map (touch true) (reads_of_exit exit)) (map (touch false) (results_of_exit exit)) in
+    subst (λ l. Firsts v (reads_of_exit exit) (results_of_exit exit) None (first_touch v l)) (sym e) (firsts v (reads_of_exit exit) (results_of_exit exit) [])
+
+touches : List Op → Exit → List Touch
+touches ops exit = flat_map touches_of ops ++ touches_of_exit exit
+
+cons_firsts : (v : ℕ) (op : Op) (ops : List Op) (exit : Exit) → Firsts v (reads op) (writes op) (first_touch v (flat_map touches_of ops ++ touches_of_exit exit)) (first_touch v (flat_map touches_of (op ∷ ops) ++ touches_of_exit exit))
+cons_firsts v op ops exit =
+    subst (λ l. Firsts v (reads op) (writes op) (first_touch v (flat_map touches_of ops ++ touches_of_exit exit)) (first_touch v l)) (sym (append_assoc (touches_of op) (flat_map touches_of ops) (touches_of_exit exit)))
+    (op_firsts v op (flat_map touches_of ops ++ touches_of_exit exit))
+
+-- a block reads a value first exactly where its route does
+
+reads_first_exit : (v : ℕ) (exit : Exit) (first : Option Bool) → Firsts v (reads_of_exit exit) (results_of_exit exit) None first → IsIn v (reads_of_exit exit) → first ≡ Some true
+reads_first_exit v exit first (is_read m e) h = e
+reads_first_exit v exit first (is_written n m e) h = absurd (n h)
+reads_first_exit v exit first (is_left n k e) h = absurd (n h)
+
+reads_first_op : (v : ℕ) (op : Op) (rest first : Option Bool) (Later : Type 0) → Firsts v (reads op) (writes op) rest first → (Later → rest ≡ Some true) → IsIn v (reads op) ⊎ ((IsIn v (writes op) → ⊥) × Later) → first ≡ Some true
+reads_first_op v op rest first Later (is_read m e) f h = e
+reads_first_op v op rest first Later (is_written n m e) f (inl a) = absurd (n a)
+reads_first_op v op rest first Later (is_written n m e) f (inr b) = absurd (b.0 m)
+reads_first_op v op rest first Later (is_left n k e) f (inl a) = absurd (n a)
+reads_first_op v op rest first Later (is_left n k e) f (inr b) = e ∙ f b.1
+
+reads_first : (v : ℕ) (ops : List Op) (exit : Exit) → ReadsFirst ops exit v → first_touch v (flat_map touches_of ops ++ touches_of_exit exit) ≡ Some true
+reads_first v [] exit h = reads_first_exit v exit (first_touch v (touches_of_exit exit)) (exit_firsts v exit) h
+reads_first v (op ∷ ops) exit h = reads_first_op v op (first_touch v (flat_map touches_of ops ++ touches_of_exit exit)) (first_touch v (flat_map touches_of (op ∷ ops) ++ touches_of_exit exit)) (ReadsFirst ops exit v) (cons_firsts v op ops exit) (reads_first v ops exit) h
+
+back_exit : (v : ℕ) (exit : Exit) (first : Option Bool) → Firsts v (reads_of_exit exit) (results_of_exit exit) None first → first ≡ Some true → IsIn v (reads_of_exit exit)
+back_exit v exit first (is_read m e) h = m
+back_exit v exit first (is_written n m e) h = absurd (cc)
+back_exit v exit first (is_left n k e) h = absurd (cc)
+
+back_op : (v : ℕ) (op : Op) (rest first : Option Bool) (Later : Type 0) → Firsts v (reads op) (writes op) rest first → (rest ≡ Some true → Later) → first ≡ Some true → IsIn v (reads op) ⊎ ((IsIn v (writes op) → ⊥) × Later)
+back_op v op rest first Later (is_read m e) f h = inl m
+back_op v op rest first Later (is_written n m e) f h = absurd (cc)
+back_op v op rest first Later (is_left n k e) f h = inr (k, f (sym e ∙ h))
+
+back_reads : (v : ℕ) (ops : List Op) (exit : Exit) → first_touch v (flat_map touches_of ops ++ touches_of_exit exit) ≡ Some true → ReadsFirst ops exit v
+back_reads v [] exit h = back_exit v exit (first_touch v (touches_of_exit exit)) (exit_firsts v exit) h
+back_reads v (op ∷ ops) exit h = back_op v op (first_touch v (flat_map touches_of ops ++ touches_of_exit exit)) (first_touch v (flat_map touches_of (op ∷ ops) ++ touches_of_exit exit)) (ReadsFirst ops exit v) (cons_firsts v op ops exit) (back_reads v ops exit) h
+
+-- it does not write one where the route reads it first or does nothing to it
+
+kept_exit : (v : ℕ) (exit : Exit) (first : Option Bool) → Firsts v (reads_of_exit exit) (results_of_exit exit) None first → (IsIn v (results_of_exit exit) → ⊥) → (first ≡ Some true) ⊎ (first ≡ None)
+kept_exit v exit first (is_read m e) h = inl e
+kept_exit v exit first (is_written n m e) h = absurd (h m)
+kept_exit v exit first (is_left n k e) h = inr e
+
+kept_op : (v : ℕ) (op : Op) (rest first : Option Bool) → Firsts v (reads op) (writes op) rest first → (IsIn v (writes op) → ⊥) → (rest ≡ Some true) ⊎ (rest ≡ None) → (first ≡ Some true) ⊎ (first ≡ None)
+kept_op v op rest first (is_read m e) h f = inl e
+kept_op v op rest first (is_written n m e) h f = absurd (h m)
+kept_op v op rest first (is_left n k e) h (inl a) = inl (e ∙ a)
+kept_op v op rest first (is_left n k e) h (inr a) = inr (e ∙ a)
+
+kept : (v : ℕ) (ops : List Op) (exit : Exit) → NeverWrites ops exit v → (first_touch v (flat_map touches_of ops ++ touches_of_exit exit) ≡ Some true) ⊎ (first_touch v (flat_map touches_of ops ++ touches_of_exit exit) ≡ None)
+kept v [] exit h = kept_exit v exit (first_touch v (touches_of_exit exit)) (exit_firsts v exit) h
+kept v (op ∷ ops) exit h = kept_op v op (first_touch v (flat_map touches_of ops ++ touches_of_exit exit)) (first_touch v (flat_map touches_of (op ∷ ops) ++ touches_of_exit exit)) (cons_firsts v op ops exit) h.0 (kept v ops exit h.1)
+
+unwritten_exit : (v : ℕ) (exit : Exit) (first : Option Bool) → Firsts v (reads_of_exit exit) (results_of_exit exit) None first → first ≡ None → IsIn v (results_of_exit exit) → ⊥
+unwritten_exit v exit first (is_read m e) h w = absurd (cc)
+unwritten_exit v exit first (is_written n m e) h w = absurd (cc)
+unwritten_exit v exit first (is_left n k e) h w = k w
+
+unwritten_op : (v : ℕ) (op : Op) (rest first : Option Bool) (Later : Type 0) → Firsts v (reads op) (writes op) rest first → (rest ≡ None → Later) → first ≡ None → (IsIn v (writes op) → ⊥) × Later
+unwritten_op v op rest first Later (is_read m e) f h = absurd (cc)
+unwritten_op v op rest first Later (is_written n m e) f h = absurd (cc)
+unwritten_op v op rest first Later (is_left n k e) f h = (k, f (sym e ∙ h))
+
+unwritten : (v : ℕ) (ops : List Op) (exit : Exit) → first_touch v (flat_map touches_of ops ++ touches_of_exit exit) ≡ None → NeverWrites ops exit v
+unwritten v [] exit h = unwritten_exit v exit (first_touch v (touches_of_exit exit)) (exit_firsts v exit) h
+unwritten v (op ∷ ops) exit h = unwritten_op v op (first_touch v (flat_map touches_of ops ++ touches_of_exit exit)) (first_touch v (flat_map touches_of (op ∷ ops) ++ touches_of_exit exit)) (NeverWrites ops exit v) (cons_firsts v op ops exit) (unwritten v ops exit) h
+
+-- paths
+
+module _ (g : Graph) where
+  to_route : (b v : ℕ) → IsLive g b v → LiveOn (routes_from 0 g.blocks) b v
+  to_route b v (IsLive.here {block = k} e r) = let z : b ≡ 0 + b = omega arith in LiveOn.here b (routes_at 0 g.blocks b k e) z (reads_first v k.ops k.exit r)
+  to_route b v (IsLive.beyond {c = c} {block = k} e w t l) =
+      let z : b ≡ 0 + b = omega arith in
+      elim (kept v k.ops k.exit w) [
+        | inl h ↦ LiveOn.here b (routes_at 0 g.blocks b k e) z h
+        | inr h ↦ LiveOn.beyond b (routes_at 0 g.blocks b k e) z h t (to_route c v l)
+      ]
+
+  from_route : (b v : ℕ) → LiveOn (routes_from 0 g.blocks) b v → IsLive g b v
+  from_route b v (LiveOn.here {r = r} i e q f) =
+      let w = routes_back 0 g.blocks i r e in
+      let s : first_touch v (flat_map touches_of w.0.ops ++ touches_of_exit w.0.exit) ≡ Some true = subst (λ (x : Route). first_touch v x.touches ≡ Some true) w.2 f in
+      let z : r.from ≡ 0 + i = ap (λ (x : Route). x.from) w.2 in
+      let y : b ≡ i = omega arith in
+      IsLive.here (subst (λ j. slice_get g.blocks j ≡ Some w.0) (sym y) w.1) (back_reads v w.0.ops w.0.exit s)
+  from_route b v (LiveOn.beyond {c = c} {r = r} i e q f t l) =
+      let w = routes_back 0 g.blocks i r e in
+      let s : first_touch v (flat_map touches_of w.0.ops ++ touches_of_exit w.0.exit) ≡ None = subst (λ (x : Route). first_touch v x.touches ≡ None) w.2 f in
+      let z : r.from ≡ 0 + i = ap (λ (x : Route). x.from) w.2 in
+      let y : b ≡ i = omega arith in
+      let n : IsIn c (targets_of w.0.exit) = subst (λ (x : Route). IsIn c x.to) w.2 t in
+      IsLive.beyond (subst (λ j. slice_get g.blocks j ≡ Some w.0) (sym y) w.1) (unwritten v w.0.ops w.0.exit s) n (from_route c v l)
+
+  pub live_by_routes : (b v : ℕ) → LiveOn (routes_from 0 g.blocks) b v ↔ IsLive g b v
+  live_by_routes b v = (from_route b v, to_route b v)
+
+-- rows of live values
+
+unmarked_empty : (b : ℕ) → is_marked [] b ≡ true → ⊥
+unmarked_empty b h = absurd (cc)
+
+length_more : {A : Type 0} (xs : List A) (x : A) → length (xs ++ x ∷ []) ≡ length xs + 1
+length_more [] x = refl
+length_more (y ∷ xs) x = let h = length_more xs x in omega arith
+
+none_live : (routes : List Route) (v : ℕ) → ((i : ℕ) (r : Route) → slice_get routes i ≡ Some r → first_touch v r.touches ≡ Some true → ⊥) → (b u : ℕ) → u ≡ v → LiveOn routes b u → ⊥
+none_live routes v n b u w (LiveOn.here {r = r} i e q f) = n i r e (subst (λ x. first_touch x r.touches ≡ Some true) w f)
+none_live routes v n b u w (LiveOn.beyond {c = c} i e q f t l) = none_live routes v n c u w l
+
+-- no route reads the value
+pub empty_row : (routes : List Route) (v : ℕ) (readers : List ℕ) → length readers ≡ 0 → ((i : ℕ) (r : Route) → slice_get routes i ≡ Some r → first_touch v r.touches ≡ Some true → IsIn i readers) → (row : List Bool) → row ≡ [] → (b : ℕ) → (is_marked row b ≡ true) ↔ LiveOn routes b v
+empty_row routes v readers z h row e b =
+    let k : readers ≡ [] = empty_list readers z in (
+      λ m. absurd (unmarked_empty b (subst (λ r. is_marked r b ≡ true) e m)),
+      λ l. absurd (none_live routes v (λ i r s f. subst (IsIn i) k (h i r s f)) b v refl l),
+    )
+
+row_beyond : {A : Type 0} (rows : List (List A)) (p : ℕ) → length rows ≤ p → row_at rows p ≡ []
+row_beyond [] p h = refl
+row_beyond (r ∷ rows) zero h = absurd (omega arith)
+row_beyond (r ∷ rows) (suc p) h = row_beyond rows p (omega arith)
+
+row_last : {A : Type 0} (rows : List (List A)) (row : List A) → row_at (rows ++ row ∷ []) (length rows) ≡ row
+row_last [] row = refl
+row_last (r ∷ rows) row = row_last rows row
+
+row_before : {A : Type 0} (rows : List (List A)) (row : List A) (p : ℕ) → p < length rows → row_at (rows ++ row ∷ []) p ≡ row_at rows p
+row_before [] row p h = absurd (omega arith)
+row_before (r ∷ rows) row zero h = refl
+row_before (r ∷ rows) row (suc p) h = row_before rows row p (omega arith)
+
+-- the rows of the values below n
+pub record RowsBelow (routes : List Route) (rows : List (List Bool)) (n : ℕ) : Type 0 where
+  pub len : length rows ≡ n
+  pub exact : (b v : ℕ) → v < n → (lives rows b v ≡ true) ↔ LiveOn routes b v
+
+below_or_last : (v n : ℕ) → v < n + 1 → (v < n) ⊎ (v ≡ n)
+below_or_last zero zero h = inr refl
+below_or_last zero (suc n) h = inl (omega arith)
+below_or_last (suc v) zero h = absurd (omega arith)
+below_or_last (suc v) (suc n) h = elim (below_or_last v n (omega arith)) [ inl k ↦ inl (omega arith) | inr e ↦ inr (ap suc e) ]
+
+pub rows_more : (routes : List Route) (rows after : List (List Bool)) (row : List Bool) (n : ℕ) → RowsBelow routes rows n → ((b : ℕ) → (is_marked row b ≡ true) ↔ LiveOn routes b n) → after ≡ rows ++ row ∷ [] → RowsBelow routes after (n + 1)
+rows_more routes rows after row n s h e = record {
+  len = ap length e ∙ length_more rows row ∙ ap (λ k. k + 1) s.len;
+  exact = λ b v k. elim (below_or_last v n k) [
+    | inl w ↦ let q : v < length rows = subst (λ m. v < m) (sym s.len) w in subst (λ r. (is_marked r b ≡ true) ↔ LiveOn routes b v) (sym (ap (λ l. row_at l v) e ∙ row_before rows row v q)) (s.exact b v w)
+    | inr w ↦ let q : v ≡ length rows = w ∙ sym s.len in
+        subst (λ r. (is_marked r b ≡ true) ↔ LiveOn routes b v) (sym (ap (λ l. row_at l v) e ∙ ap (row_at (rows ++ row ∷ [])) q ∙ row_last rows row)) (subst (λ x. (is_marked row b ≡ true) ↔ LiveOn routes b x) (sym w) (h b))
+  ];
+}
+
+pub rows_none : (routes : List Route) → RowsBelow routes [] 0
+rows_none routes = record { len = refl; exact = λ b v h. absurd (omega arith) }
+
+below_or_not : (v n : ℕ) → (v < n) ⊎ (n ≤ v)
+below_or_not v zero = inr (omega arith)
+below_or_not zero (suc n) = inl (omega arith)
+below_or_not (suc v) (suc n) = elim (below_or_not v n) [ inl h ↦ inl (omega arith) | inr h ↦ inr (omega arith) ]
+
+-- the rows of all values that are read
+pub rows_all : (routes : List Route) (readers : List (List ℕ)) (rows : List (List Bool)) (n : ℕ) → ReadersFound routes readers → length readers ≡ n → RowsBelow routes rows n → (b v : ℕ) → (lives rows b v ≡ true) ↔ LiveOn routes b v
+rows_all routes readers rows n f z s b v = elim (below_or_not v n) [
+  | inl h ↦ s.exact b v h
+  | inr h ↦
+      let p : length rows ≤ v = subst (λ m. m ≤ v) (sym s.len) h in
+      let q : length readers ≤ v = subst (λ m. m ≤ v) (sym z) h in (
+        λ m. absurd (unmarked_empty b (subst (λ r. is_marked r b ≡ true) (row_beyond rows v p) m)),
+        λ l. absurd (none_live routes v (λ i r e g. subst (IsIn i) (row_beyond readers v q) (f i v r e g)) b v refl l),
+      )
+]

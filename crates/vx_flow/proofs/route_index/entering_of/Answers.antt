@@ -1,0 +1,11 @@
+use Rattle.std.proofs.Common.{◌≡◌, true, Some, subst, sym, inl, inr, arith, ◌<◌, ◌≤◌, length}
+use Rattle.vx_flow.specs.Effects.{IsIn}
+use Rattle.vx_flow.specs.Live.{first_touch}
+use Rattle.vx_flow.proofs.IndexSteps.{entered_below, get_some, get_below}
+use Rattle.vx_flow.proofs.route_index.entering_of.Goals as goal
+
+pub loop-index-preserved : goal.loop-index-preserved
+loop-index-preserved c = entered_below c.args.routes.now c.loop-index.rows c.enter.new.rows c.loop-index.index c.index-routes-index.result c.loop-index.invariant (get_some c.args.routes.now c.loop-index.index c.index-routes-index.result c.loop-index-test.true c.index-routes-index.is) c.in_ok-enter.ensures.keeps (λ v m. c.in_ok-enter.ensures.has v (subst (IsIn v) (sym c.as_slice.ensures) m))
+
+pub returns : goal.returns
+returns c = λ i k r e m. elim (c.loop-index.invariant.found i k r e m) [ inl a ↦ a | inr b ↦ let h : i < length c.args.routes.now = get_below c.args.routes.now i r e in absurd (omega arith) ]

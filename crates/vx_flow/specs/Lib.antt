@@ -1,0 +1,9 @@
+pub mod Effects
+pub mod Meaning
+pub mod Sound
+pub mod Live
+pub mod Rows
+pub mod Closing
+pub mod Laws
+pub mod Walk
+pub mod Walking

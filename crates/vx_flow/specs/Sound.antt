@@ -1,0 +1,307 @@
+-- When a graph is sound, and when the graphs of a program are: first the test, then the same in words.
+use Rattle.std.specs.Prelude.{◌≡◌, ◌↔◌, ◌<◌, ◌⊎◌, ℕ, zero, ℤ, pos, Bool, true, false, ◌&&◌, ◌||◌, not, ◌==◌, nat_lt, IsTrue, List, [], ◌∷◌, ◌++◌, length, Option, Some, None, slice_get}
+use Rattle.std.specs.List.{list_all, list_any}
+use Rattle.vx_base.specs.declared.arithmetic.Code.{Code}
+use Rattle.vx_base.specs.declared.arithmetic.Code.TheVariants.{Mov, ToBranch}
+use Rattle.vx_flow.specs.declared.graph.Operand.{Operand}
+use Rattle.vx_flow.specs.declared.graph.Operand.TheVariants.{Held, Number, Stack}
+use Rattle.vx_flow.specs.declared.graph.Bank.{Bank}
+use Rattle.vx_flow.specs.declared.graph.Bank.TheVariants.{General, Branch}
+use Rattle.vx_flow.specs.declared.graph.Op.{Op}
+use Rattle.vx_flow.specs.declared.graph.Op.TheVariants.{Compute, Select, Place, Load, Store, More, Input, Text, Decimal, Across}
+use Rattle.vx_flow.specs.declared.graph.Exit.{Exit}
+use Rattle.vx_flow.specs.declared.graph.Exit.TheVariants.{Goto, Split, Call, Return, Ends}
+use Rattle.vx_flow.specs.declared.graph.Block.{Block}
+use Rattle.vx_flow.specs.declared.graph.Array.{Array}
+use Rattle.vx_flow.specs.declared.graph.Graph.{Graph}
+use Rattle.vx_flow.specs.declared.graph.Global.{Global}
+use Rattle.vx_flow.specs.declared.graph.Flow.{Flow}
+use Rattle.vx_flow.specs.Effects.{IsIn, value_in, reads, writes}
+
+-- values, operands, arrays
+
+abbrev pub is_bank : Bank → Option Bank → Bool
+is_bank General (Some General) = true
+is_bank Branch (Some Branch) = true
+is_bank bank found = false
+
+abbrev pub is_general : List Bank → ℕ → Bool
+is_general banks v = is_bank General (slice_get banks v)
+
+abbrev pub is_branch : List Bank → ℕ → Bool
+is_branch banks v = is_bank Branch (slice_get banks v)
+
+-- a number, or a general value that is there
+abbrev pub is_operand : List Bank → Operand → Bool
+is_operand banks (Held v) = is_general banks v
+is_operand banks (Number n) = true
+is_operand banks Stack = false
+
+abbrev pub is_zero : Operand → Bool
+is_zero (Number (pos zero)) = true
+is_zero x = false
+
+-- what stands as the right operand of a move is no operand
+abbrev pub is_right : List Bank → Code → Operand → Bool
+is_right banks Mov x = is_zero x
+is_right banks code x = is_operand banks x
+
+-- a compare to a branch value writes one, every other code a general value
+abbrev pub is_written : List Bank → Code → ℕ → Bool
+is_written banks (ToBranch compare) v = is_branch banks v
+is_written banks code v = is_general banks v
+
+abbrev pub is_own : Option Array → Bool
+is_own None = false
+is_own (Some array) = not array.global
+
+-- the array is a local one of the function
+abbrev pub is_local : List Array → ℕ → Bool
+is_local arrays a = is_own (slice_get arrays a)
+
+-- what an operation and an exit name is there and of its kind
+
+abbrev pub is_sound_operation : List Bank → (arrays : ℕ) → Op → Bool
+is_sound_operation banks arrays (Compute code v a b) = is_written banks code v && is_operand banks a && is_right banks code b
+is_sound_operation banks arrays (Select v p a b) = is_general banks v && is_branch banks p && is_operand banks a && is_operand banks b
+is_sound_operation banks arrays (Place v a i) = is_general banks v && nat_lt a arrays && is_operand banks i
+is_sound_operation banks arrays (Load v a p dismissible) = is_general banks v && nat_lt a arrays && is_operand banks p
+is_sound_operation banks arrays (Store a p x) = nat_lt a arrays && is_operand banks p && is_operand banks x
+is_sound_operation banks arrays (More v) = is_general banks v
+is_sound_operation banks arrays (Input v) = is_general banks v
+is_sound_operation banks arrays (Text n) = true
+is_sound_operation banks arrays (Decimal x) = is_operand banks x
+is_sound_operation banks arrays (Across v u) = false
+
+abbrev pub is_general_or_none : List Bank → Option ℕ → Bool
+is_general_or_none banks None = true
+is_general_or_none banks (Some v) = is_general banks v
+
+abbrev pub is_sound_exit : List Bank → (blocks : ℕ) → Exit → Bool
+is_sound_exit banks blocks (Goto c) = nat_lt c blocks
+is_sound_exit banks blocks (Split p c d) = is_branch banks p && nat_lt c blocks && nat_lt d blocks
+is_sound_exit banks blocks (Call g arguments result next) = list_all (is_operand banks) arguments && is_general_or_none banks result && nat_lt next blocks
+is_sound_exit banks blocks (Return x) = is_operand banks x
+is_sound_exit banks blocks (Ends k) = true
+
+-- places of local arrays
+
+abbrev pub is_value : ℕ → Operand → Bool
+is_value v (Held u) = u == v
+is_value v (Number n) = false
+is_value v Stack = false
+
+abbrev pub is_right_value : ℕ → Code → Operand → Bool
+is_right_value v Mov x = false
+is_right_value v code x = is_value v x
+
+-- the operation leaves value v to the places of array a: it writes v only as a place of a, and reads it only as the place
+-- of a load or store of a
+abbrev pub keeps_place : (v a : ℕ) → Op → Bool
+keeps_place v a (Compute code u x y) = not (u == v) && not (is_value v x) && not (is_right_value v code y)
+keeps_place v a (Select u p x y) = not (u == v) && not (p == v) && not (is_value v x) && not (is_value v y)
+keeps_place v a (Place u b i) = (not (u == v) || (b == a)) && not (is_value v i)
+keeps_place v a (Load u b p dismissible) = not (u == v) && (not (is_value v p) || (b == a))
+keeps_place v a (Store b p x) = (not (is_value v p) || (b == a)) && not (is_value v x)
+keeps_place v a (More u) = not (u == v)
+keeps_place v a (Input u) = not (u == v)
+keeps_place v a (Text n) = true
+keeps_place v a (Decimal x) = not (is_value v x)
+keeps_place v a (Across u w) = not (u == v) && not (w == v)
+
+abbrev pub is_result : ℕ → Option ℕ → Bool
+is_result v None = false
+is_result v (Some u) = u == v
+
+-- the exit neither reads nor writes v
+abbrev pub leaves_alone : ℕ → Exit → Bool
+leaves_alone v (Goto c) = true
+leaves_alone v (Split p c d) = not (p == v)
+leaves_alone v (Call g arguments result next) = list_all (λ x. not (is_value v x)) arguments && not (is_result v result)
+leaves_alone v (Return x) = not (is_value v x)
+leaves_alone v (Ends k) = true
+
+abbrev pub block_keeps : (v a : ℕ) → Block → Bool
+block_keeps v a block = list_all (keeps_place v a) block.ops && leaves_alone v block.exit
+
+-- where the operation is a place of a local array, its value is only that
+abbrev pub is_kept : Graph → Op → Bool
+is_kept g (Place v a i) = not (is_local g.arrays a) || (list_all (λ p. not (p == v)) g.parameters && list_all (block_keeps v a) g.blocks)
+is_kept g op = true
+
+abbrev pub is_place_in : (v a : ℕ) → Op → Bool
+is_place_in v a (Place u b i) = (u == v) && (b == a)
+is_place_in v a op = false
+
+abbrev pub has_place_in : (v a : ℕ) → Block → Bool
+has_place_in v a block = list_any (is_place_in v a) block.ops
+
+-- a number, or a value that a place of the array writes
+abbrev pub is_placed : Graph → ℕ → Operand → Bool
+is_placed g a (Held v) = list_any (has_place_in v a) g.blocks
+is_placed g a (Number n) = true
+is_placed g a Stack = false
+
+-- where the operation is an access to a local array, its place is such a number or value
+abbrev pub is_access_placed : Graph → Op → Bool
+is_access_placed g (Load v a p dismissible) = not (is_local g.arrays a) || is_placed g a p
+is_access_placed g (Store a p x) = not (is_local g.arrays a) || is_placed g a p
+is_access_placed g op = true
+
+-- graphs
+
+abbrev pub is_sound_in : Graph → Op → Bool
+is_sound_in g op = is_sound_operation g.banks (length g.arrays) op && is_kept g op && is_access_placed g op
+
+abbrev pub is_sound_block : Graph → Block → Bool
+is_sound_block g block = list_all (is_sound_in g) block.ops && is_sound_exit g.banks (length g.blocks) block.exit
+
+abbrev pub is_sound : Graph → Bool
+is_sound g = list_all (is_general g.banks) g.parameters && list_all (is_sound_block g) g.blocks
+
+-- programs
+
+abbrev pub are_distinct : List ℕ → Bool
+are_distinct [] = true
+are_distinct (v ∷ vs) = list_all (λ u. not (u == v)) vs && are_distinct vs
+
+abbrev pub is_global : ℕ → Array → Bool
+is_global words array = array.global && (array.words == words)
+
+-- the globals in their order, with their words, and then local arrays
+abbrev pub begins_with : List Global → List Array → Bool
+begins_with [] arrays = list_all (λ array. not array.global) arrays
+begins_with (g ∷ gs) [] = false
+begins_with (g ∷ gs) (array ∷ arrays) = is_global g.words array && begins_with gs arrays
+
+abbrev pub has_parameters : ℕ → Option Graph → Bool
+has_parameters n None = false
+has_parameters n (Some g) = length g.parameters == n
+
+abbrev pub is_text_there : Flow → Op → Bool
+is_text_there flow (Text n) = nat_lt n (length flow.texts)
+is_text_there flow op = true
+
+-- the function that is called is there, with one parameter for each argument
+abbrev pub is_call_there : Flow → Exit → Bool
+is_call_there flow (Call g arguments result next) = has_parameters (length arguments) (slice_get flow.functions g)
+is_call_there flow exit = true
+
+abbrev pub is_block_there : Flow → Block → Bool
+is_block_there flow block = list_all (is_text_there flow) block.ops && is_call_there flow block.exit
+
+abbrev pub is_sound_function : Flow → Graph → Bool
+is_sound_function flow g =
+    is_sound g && not (length g.blocks == 0) && are_distinct g.parameters && begins_with flow.globals g.arrays && list_all (is_block_there flow) g.blocks
+
+abbrev pub is_sound_flow : Flow → Bool
+is_sound_flow flow = has_parameters 0 (slice_get flow.functions flow.main) && list_all (is_sound_function flow) flow.functions
+
+-- The same in words
+
+pub record HasOperation (g : Graph) (op : Op) : Type 0 where
+  pub block : Block
+  pub has : IsIn block g.blocks
+  pub stands : IsIn op block.ops
+
+pub record HasExit (g : Graph) (exit : Exit) : Type 0 where
+  pub block : Block
+  pub has : IsIn block g.blocks
+  pub ends : exit ≡ block.exit
+
+abbrev pub operands_of : Op → List Operand
+operands_of (Compute Mov v a b) = a ∷ []
+operands_of (Compute code v a b) = a ∷ b ∷ []
+operands_of (Select v p a b) = a ∷ b ∷ []
+operands_of (Place v a i) = i ∷ []
+operands_of (Load v a p dismissible) = p ∷ []
+operands_of (Store a p x) = p ∷ x ∷ []
+operands_of (More v) = []
+operands_of (Input v) = []
+operands_of (Text n) = []
+operands_of (Decimal x) = x ∷ []
+operands_of (Across v u) = []
+
+abbrev pub operands_of_exit : Exit → List Operand
+operands_of_exit (Goto c) = []
+operands_of_exit (Split p c d) = []
+operands_of_exit (Call g arguments result next) = arguments
+operands_of_exit (Return x) = x ∷ []
+operands_of_exit (Ends k) = []
+
+-- a value that an operand holds is a general one
+abbrev pub tests_of : Op → List ℕ
+tests_of (Select v p a b) = p ∷ []
+tests_of op = []
+
+abbrev pub tests_of_exit : Exit → List ℕ
+tests_of_exit (Split p c d) = p ∷ []
+tests_of_exit exit = []
+
+abbrev pub bank_written : Op → Bank
+bank_written (Compute (ToBranch compare) v a b) = Branch
+bank_written op = General
+
+abbrev pub results_of_exit : Exit → List ℕ
+results_of_exit (Call g arguments (Some v) next) = v ∷ []
+results_of_exit exit = []
+
+abbrev pub targets_of : Exit → List ℕ
+targets_of (Goto c) = c ∷ []
+targets_of (Split p c d) = c ∷ d ∷ []
+targets_of (Call g arguments result next) = next ∷ []
+targets_of (Return x) = []
+targets_of (Ends k) = []
+
+abbrev pub arrays_of : Op → List ℕ
+arrays_of (Place v a i) = a ∷ []
+arrays_of (Load v a p dismissible) = a ∷ []
+arrays_of (Store a p x) = a ∷ []
+arrays_of op = []
+
+-- a load or store of array a at a place
+pub data IsAccess (a : ℕ) (p : Operand) : Op → Type 0 where
+  loads : {v : ℕ} {dismissible : Bool} → IsAccess a p (Load v a p dismissible)
+  stores : {x : Operand} → IsAccess a p (Store a p x)
+
+-- the bank of a value that is there
+abbrev pub Has : Graph → ℕ → Bank → Type 0
+Has g v bank = slice_get g.banks v ≡ Some bank
+
+-- an operand of a graph: a number, or a general value that is there
+abbrev pub IsOperandOf : Graph → Operand → Type 0
+IsOperandOf g (Held v) = Has g v General
+IsOperandOf g (Number n) = Unit {0}
+IsOperandOf g Stack = ⊥
+
+-- value v is a place of the function's own array a
+pub record IsPlace (g : Graph) (v a : ℕ) : Type 0 where
+  pub index : Operand
+  pub made : HasOperation g (Place v a index)
+  pub own : is_local g.arrays a ≡ true
+
+-- such a value is read by an operation only as the place of a load or store of a, and that is not stored
+pub record ReadAsPlace (v a : ℕ) (op : Op) : Type 0 where
+  pub access : IsAccess a (Held v) op
+  pub unstored : (x : Operand) → op ≡ Store a (Held v) x → x ≡ Held v → ⊥
+
+pub record Sound (g : Graph) : Type 0 where
+  -- what is named is there, and kinds agree
+  pub parameters : (v : ℕ) → IsIn v g.parameters → Has g v General
+  pub operands : (op : Op) (x : Operand) → HasOperation g op → IsIn x (operands_of op) → IsOperandOf g x
+  pub results : (op : Op) (v : ℕ) → HasOperation g op → IsIn v (writes op) → Has g v (bank_written op)
+  pub tests : (op : Op) (v : ℕ) → HasOperation g op → IsIn v (tests_of op) → Has g v Branch
+  pub arrays : (op : Op) (a : ℕ) → HasOperation g op → IsIn a (arrays_of op) → a < length g.arrays
+  pub exit_operands : (exit : Exit) (x : Operand) → HasExit g exit → IsIn x (operands_of_exit exit) → IsOperandOf g x
+  pub exit_results : (exit : Exit) (v : ℕ) → HasExit g exit → IsIn v (results_of_exit exit) → Has g v General
+  pub exit_tests : (exit : Exit) (v : ℕ) → HasExit g exit → IsIn v (tests_of_exit exit) → Has g v Branch
+  pub targets : (exit : Exit) (c : ℕ) → HasExit g exit → IsIn c (targets_of exit) → c < length g.blocks
+  pub no_across : (v u : ℕ) → HasOperation g (Across v u) → ⊥
+  -- a place of a local array is nothing else
+  pub place_written : (v a : ℕ) (op : Op) → IsPlace g v a → HasOperation g op → IsIn v (writes op) → (i : Operand) × (op ≡ Place v a i)
+  pub place_read : (v a : ℕ) (op : Op) → IsPlace g v a → HasOperation g op → IsIn v (reads op) → ReadAsPlace v a op
+  pub place_parameter : (v a : ℕ) → IsPlace g v a → IsIn v g.parameters → ⊥
+  pub place_exit : (v a : ℕ) (exit : Exit) → IsPlace g v a → HasExit g exit → IsIn (Held v) (operands_of_exit exit) ⊎ IsIn v (results_of_exit exit) → ⊥
+  -- a local array is accessed at its places and at numbers alone
+  pub placed : (a : ℕ) (p : Operand) (op : Op) → HasOperation g op → IsAccess a p op → is_local g.arrays a ≡ true → ((n : ℤ) × (p ≡ Number n)) ⊎ ((v : ℕ) × (p ≡ Held v) × IsPlace g v a)
+  pub moves : (v : ℕ) (a b : Operand) → HasOperation g (Compute Mov v a b) → b ≡ Number (pos 0)

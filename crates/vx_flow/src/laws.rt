@@ -1,0 +1,9 @@
+// Laws of the definitions, each the clause of a function that does nothing.
+
+ghost use Rattle.vx_flow.specs.Laws.{GraphRunIsSteady};
+
+/// The run of a flow is steady: with a larger bound what does not go on stays, and the output only grows.
+#[tactic(auto, using(crate::proofs::RunLaws::graph_run_steady))]
+pub fn graph_run_is_steady()
+    ensures { GraphRunIsSteady }
+{}

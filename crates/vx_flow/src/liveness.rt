@@ -1,0 +1,234 @@
+// Which values are live at the start of each node of a graph. The solver goes over routes, so that it serves blocks and
+// regions alike; `live` is for the blocks of a graph.
+
+ghost use Rattle.std.specs.Prelude.{◌≡◌, ◌↔◌, ℕ, true, length, ◌<◌, ◌^◌, ◌++◌, ◌∷◌, [], IfOk, IsTrue, Some, slice_get};
+ghost use Rattle.std.specs.List.{flat_map};
+ghost use Rattle.vx_flow.specs.declared.routes.Route.{Route};
+ghost use Rattle.vx_flow.specs.Effects.{IsIn};
+ghost use Rattle.vx_flow.specs.Sound.{targets_of};
+ghost use Rattle.vx_flow.specs.Live.{IsLive, LiveOn, first_touch, operand_touches, right_touches, route_of, routes_from, touch, touches_of, touches_of_exit};
+ghost use Rattle.vx_flow.specs.Rows.{is_marked, lives, row_at};
+ghost use Rattle.vx_flow.specs.Closing.{BeginWithin, EnteringFound};
+
+use crate::closing::live_nodes;
+use crate::graph::{Block, BlockId, Exit, Graph, Op, Operand, Value};
+use crate::live_rows::Live;
+use crate::route_index::{entering_of, readers_of};
+use crate::routes::{Route, Touch};
+use crate::rows::Rows;
+use std::alloc::Global;
+use vx_base::arithmetic::Code;
+use vx_base::listed::Listed;
+use vx_base::outcome::NoMemory;
+
+/// The values that are live at the start of each block of a graph.
+pub fn live(alloc: Global, graph: &Graph) -> Result<Live, NoMemory>
+    ensures exact { IfOk result (λ live. (b : ℕ) (v : ℕ) → IsTrue (lives live b v) ↔ IsLive graph.now b v) }
+{
+    let nodes = graph.blocks.len();
+    let routes = routes_of(alloc, graph.blocks.as_slice())?;
+    let live = live_on(alloc, nodes, &routes)?;
+    Ok(live)
+}
+
+/// The values that are live at the start of each node, where the ways from node to node are these routes. Each begins at
+/// one of so many nodes.
+pub fn live_on(alloc: Global, nodes: usize, routes: &Listed<Route>) -> Result<Live, NoMemory>
+    requires { BeginWithin nodes routes.now }
+    ensures exact { IfOk result (λ live. (b : ℕ) (v : ℕ) → IsTrue (lives live b v) ↔ LiveOn routes.now b v) }
+{
+    let _count = routes.len();
+    let entering = entering_of(alloc, routes.as_slice())?;
+    let readers = readers_of(alloc, routes.as_slice())?;
+    let values = match u32::try_from(readers.len()) {
+        Ok(values) => values,
+        Err(_) => return Err(NoMemory),
+    };
+    let mut live = Live::nowhere(alloc);
+    for value in 0..values {
+        let read_by = readers.of(value as usize);
+        let row = live_row(alloc, nodes, routes.as_slice(), &entering, read_by, value)?;
+        live.push(row)?;
+    }
+    Ok(live)
+}
+
+/// The nodes where a value is live; the row is empty where no route reads it.
+fn live_row(
+    alloc: Global,
+    nodes: usize,
+    routes: &[Route],
+    entering: &Rows,
+    readers: &[u32],
+    value: Value,
+) -> Result<Listed<bool>, NoMemory>
+    requires within { BeginWithin nodes routes.now }
+    requires entering { EnteringFound routes.now entering.now }
+    requires readers { (i : ℕ) (r : Route) → slice_get routes.now i ≡ Some r → first_touch value r.touches ≡ Some true → IsIn i readers.now }
+    ensures exact { IfOk result (λ row. (b : ℕ) → (is_marked row b ≡ true) ↔ LiveOn routes.now b value) }
+{
+    if readers.is_empty() {
+        return Ok(Listed::new(alloc));
+    }
+    live_nodes(alloc, nodes, routes, entering, readers, value)
+}
+
+/// The blocks as routes.
+fn routes_of(alloc: Global, blocks: &[Block]) -> Result<Listed<Route>, NoMemory>
+    requires { length blocks.now < 2 ^ 32 }
+    ensures { IfOk result (λ routes. routes ≡ routes_from 0 blocks.now) }
+{
+    let mut routes = Listed::new(alloc);
+    for (index, block) in blocks.iter().enumerate() {
+        let route = route_of(alloc, index as u32, block)?;
+        routes.push(route)?;
+    }
+    Ok(routes)
+}
+
+/// A block as a route.
+fn route_of(alloc: Global, from: BlockId, block: &Block) -> Result<Route, NoMemory>
+    ensures { IfOk result (λ route. route ≡ route_of from block.now) }
+{
+    let to = targets_of(alloc, &block.exit)?;
+    let mut touches = Listed::new(alloc);
+    push_ops(&mut touches, block.ops.as_slice())?;
+    push_exit(&mut touches, &block.exit)?;
+    Ok(Route { from, to, touches })
+}
+
+/// The blocks to which an exit leads.
+fn targets_of(alloc: Global, exit: &Exit) -> Result<Listed<BlockId>, NoMemory>
+    ensures { IfOk result (λ targets. targets ≡ targets_of exit.now) }
+{
+    let mut targets = Listed::new(alloc);
+    match exit {
+        Exit::Goto(to) => targets.push(*to)?,
+        Exit::Split { yes, no, .. } => {
+            targets.push(*yes)?;
+            targets.push(*no)?;
+        }
+        Exit::Call { next, .. } => targets.push(*next)?,
+        Exit::Return(_) => {}
+        Exit::Ends(_) => {}
+    }
+    Ok(targets)
+}
+
+/// What operations do to values, in order.
+fn push_ops(touches: &mut Listed<Touch>, ops: &[Op]) -> Result<(), NoMemory>
+    ensures { IfOk result (λ _. touches.new ≡ touches.old ++ flat_map touches_of ops.now) }
+{
+    for op in ops {
+        push_op(touches, op)?;
+    }
+    Ok(())
+}
+
+/// What an operation does to values: it reads, and then writes.
+fn push_op(touches: &mut Listed<Touch>, op: &Op) -> Result<(), NoMemory>
+    ensures { IfOk result (λ _. touches.new ≡ touches.old ++ touches_of op.now) }
+{
+    match op {
+        Op::Compute {
+            code,
+            to,
+            left,
+            right,
+        } => {
+            push_operand(touches, left)?;
+            push_right(touches, *code, right)?;
+            push_touch(touches, false, *to)
+        }
+        Op::Select {
+            to,
+            test,
+            left,
+            right,
+        } => {
+            push_touch(touches, true, *test)?;
+            push_operand(touches, left)?;
+            push_operand(touches, right)?;
+            push_touch(touches, false, *to)
+        }
+        Op::Place { to, index, .. } => {
+            push_operand(touches, index)?;
+            push_touch(touches, false, *to)
+        }
+        Op::Load { to, place, .. } => {
+            push_operand(touches, place)?;
+            push_touch(touches, false, *to)
+        }
+        Op::Store { place, from, .. } => {
+            push_operand(touches, place)?;
+            push_operand(touches, from)
+        }
+        Op::More { to } => push_touch(touches, false, *to),
+        Op::Input { to } => push_touch(touches, false, *to),
+        Op::Text { .. } => Ok(()),
+        Op::Decimal { from } => push_operand(touches, from),
+        Op::Across { to, from } => {
+            push_touch(touches, true, *from)?;
+            push_touch(touches, false, *to)
+        }
+    }
+}
+
+/// What an exit does to values: it reads, and a call then writes its result.
+fn push_exit(touches: &mut Listed<Touch>, exit: &Exit) -> Result<(), NoMemory>
+    ensures { IfOk result (λ _. touches.new ≡ touches.old ++ touches_of_exit exit.now) }
+{
+    match exit {
+        Exit::Goto(_) => Ok(()),
+        Exit::Split { test, .. } => push_touch(touches, true, *test),
+        Exit::Call {
+            arguments,
+            result,
+            ..
+        } => {
+            push_operands(touches, arguments.as_slice())?;
+            match result {
+                Some(written) => push_touch(touches, false, *written),
+                None => Ok(()),
+            }
+        }
+        Exit::Return(operand) => push_operand(touches, operand),
+        Exit::Ends(_) => Ok(()),
+    }
+}
+
+fn push_operands(touches: &mut Listed<Touch>, operands: &[Operand]) -> Result<(), NoMemory>
+    ensures { IfOk result (λ _. touches.new ≡ touches.old ++ flat_map operand_touches operands.now) }
+{
+    for operand in operands {
+        push_operand(touches, operand)?;
+    }
+    Ok(())
+}
+
+/// The right operand of a move is not read.
+fn push_right(touches: &mut Listed<Touch>, code: Code, operand: &Operand) -> Result<(), NoMemory>
+    ensures { IfOk result (λ _. touches.new ≡ touches.old ++ right_touches code operand.now) }
+{
+    match code {
+        Code::Mov => Ok(()),
+        _ => push_operand(touches, operand),
+    }
+}
+
+fn push_operand(touches: &mut Listed<Touch>, operand: &Operand) -> Result<(), NoMemory>
+    ensures { IfOk result (λ _. touches.new ≡ touches.old ++ operand_touches operand.now) }
+{
+    match operand {
+        Operand::Held(value) => push_touch(touches, true, *value),
+        Operand::Number(_) => Ok(()),
+        Operand::Stack => Ok(()),
+    }
+}
+
+fn push_touch(touches: &mut Listed<Touch>, reads: bool, value: Value) -> Result<(), NoMemory>
+    ensures { IfOk result (λ _. touches.new ≡ touches.old ++ touch reads value ∷ []) }
+{
+    touches.push(Touch { value, reads })?;
+    Ok(())
+}
