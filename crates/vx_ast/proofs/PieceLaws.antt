@@ -42,7 +42,7 @@ abbrev Fit : List ℕ → List ℕ × Mark → Type 0
 Fit text m = (kinds.Mark m.1 ≢ kinds.End) × (0 < length m.0) × (length m.0 ≤ length text)
 
 one_more : (text : List ℕ) (m : List ℕ × Mark) (rest : Option (List ℕ × Mark)) (t : Bool) → starts_with nat_eq text m.0 ≡ t → nat_lt 0 (length m.0) ≡ true → IfSome rest (Fit text)
-  → IfSome (cond t (Some m) rest) (Fit text)
+    → IfSome (cond t (Some m) rest) (Fit text)
 one_more text m rest true is some h = ((λ (e : kinds.Mark m.1 ≡ kinds.End). cc), ltb-true 0 (length m.0) some, needle_fits m.0 text is)
 one_more text m rest false is some h = h
 
@@ -73,10 +73,10 @@ number_within text count value some h =
     let holds : 0 < length text = omega arith in
     let small : Piece = cond (nat_lt 2147483647 value) (Faulty 3 0) (Spelled (kinds.Number (pos value)) count) in
     choose (length text) (is_name_byte (get_or text count 0)) (Faulty 1 count) small (λ is. behind_within text count is (cases_lt _ _))
-      (λ _. choose (length text) (nat_lt 2147483647 value) (Faulty 3 0) (Spelled (kinds.Number (pos value)) count) (λ _. holds) (λ _. ((λ (e : kinds.Number (pos value) ≡ kinds.End). cc), some, h)))
+    (λ _. choose (length text) (nat_lt 2147483647 value) (Faulty 3 0) (Spelled (kinds.Number (pos value)) count) (λ _. holds) (λ _. ((λ (e : kinds.Number (pos value) ≡ kinds.End). cc), some, h)))
 
 decimal_count : (text : List ℕ) (zero_first : Bool) → 0 < length text → is_digit (get_or text 0 0) ≡ true
-  → (0 < length (cond zero_first (codes "0") (front is_digit text))) × (length (cond zero_first (codes "0") (front is_digit text)) ≤ length text)
+    → (0 < length (cond zero_first (codes "0") (front is_digit text))) × (length (cond zero_first (codes "0") (front is_digit text)) ≤ length text)
 decimal_count text true h is = (omega arith, omega arith)
 decimal_count text false h is = rw (length-prefix_len is_digit text) (front_within is_digit text is h)
 
@@ -98,8 +98,8 @@ hex_within text is =
     let long = hex_long text (either_holds _ _ is) in
     let digits : length (front is_hex_digit (drop 2 text)) ≤ length text - 2 = omega (arith, length-prefix_len is_hex_digit (drop 2 text), prefix_len-le-length is_hex_digit (drop 2 text), length-drop 2 text) in
     choose (length text) (nat_eq (length (front is_hex_digit (drop 2 text))) 0) (Faulty 1 (cond (nat_lt 2 (length text)) 2 1))
-      (number_of text (2 + length (front is_hex_digit (drop 2 text))) (value_of_digits 16 (front is_hex_digit (drop 2 text))))
-      (λ _. offset (nat_lt 2 (length text)) refl long) (λ some. number_within text _ _ (omega arith) (omega arith))
+    (number_of text (2 + length (front is_hex_digit (drop 2 text))) (value_of_digits 16 (front is_hex_digit (drop 2 text))))
+    (λ _. offset (nat_lt 2 (length text)) refl long) (λ some. number_within text _ _ (omega arith) (omega arith))
   where
     offset : (t : Bool) → nat_lt 2 (length text) ≡ t → 2 ≤ length text → cond t 2 1 < length text
     offset true e h = ltb-true 2 (length text) e
@@ -205,5 +205,5 @@ at_within bytes place h =
     let left : length text ≡ length bytes - place = length-drop place bytes in
     let some : 0 < length text = omega arith in
     rw (← left) (choose (length text) (nat_eq (column_at bytes place) 1 && is_include_line line) (Skipped (length line)) (first_piece text)
-      (λ is. (include_some line (both_hold _ _ is).1, omega (arith, length-prefix_len is_in_line text, prefix_len-le-length is_in_line text)))
-      (λ _. first_within text some))
+    (λ is. (include_some line (both_hold _ _ is).1, omega (arith, length-prefix_len is_in_line text, prefix_len-le-length is_in_line text)))
+    (λ _. first_within text some))

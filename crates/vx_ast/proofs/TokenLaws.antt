@@ -24,7 +24,7 @@ spelled bytes place count kind h is (inl (ts, d)) = inl (token_at bytes kind pla
 spelled bytes place count kind h is (inr (f, d)) = inr (f, RefusesFrom.token kind count h is d)
 
 by_piece : (bytes : List ℕ) (place : ℕ) (p : Piece) → place < length bytes → piece_at bytes place ≡ p → IsWithin p (length bytes - place)
-  → ((count : ℕ) → 0 < count → place + count ≤ length bytes → Read bytes (place + count)) → Read bytes place
+    → ((count : ℕ) → 0 < count → place + count ≤ length bytes → Read bytes (place + count)) → Read bytes place
 by_piece bytes place (Skipped count) h is fits more = skipped bytes place count h is (more count fits.0 (omega (arith, fits.1)))
 by_piece bytes place (Spelled kind count) h is fits more = spelled bytes place count kind h is (more count fits.1 (omega (arith, fits.2)))
 by_piece bytes place (Faulty code offset) h is fits more = inr (Bad code (line_at bytes (place + offset)) (column_at bytes (place + offset)), RefusesFrom.fault code offset h is)

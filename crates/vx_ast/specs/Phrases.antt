@@ -206,9 +206,9 @@ pub data Derivation : Shape → Type 0 where
 pub data Is : List Part → List Token → Derivation Row → List Token → Type 0 where
   nothing : {rest : List Token} → Is [] rest NoMore rest
   token : {part : Part} {parts : List Part} {t : Token} {ts rest : List Token} {d : Derivation Row} → Fits part t.kind → Is parts ts d rest
-    → Is (part ∷ parts) (t ∷ ts) (Then (Leaf t) d) rest
+      → Is (part ∷ parts) (t ∷ ts) (Then (Leaf t) d) rest
   phrase : (p : Phrase) (inner : List Part) {parts : List Part} {t : Token} {ts mid rest : List Token} {d e : Derivation Row} → parts_of p t.kind ≡ Some inner
-    → Is inner (t ∷ ts) d mid → Is parts mid e rest → Is (A p ∷ parts) (t ∷ ts) (Then (Node p d) e) rest
+      → Is inner (t ∷ ts) d mid → Is parts mid e rest → Is (A p ∷ parts) (t ∷ ts) (Then (Node p d) e) rest
 
 -- the tokens up to the rest are the front of such parts, and with the next one no such parts go on
 pub data Stuck : List Part → List Token → List Token → Type 0 where
@@ -216,9 +216,9 @@ pub data Stuck : List Part → List Token → List Token → Type 0 where
   behind : {part : Part} {parts : List Part} {t : Token} {ts rest : List Token} → Fits part t.kind → Stuck parts ts rest → Stuck (part ∷ parts) (t ∷ ts) rest
   no_phrase : (p : Phrase) {parts : List Part} {t : Token} {ts : List Token} → parts_of p t.kind ≡ None → Stuck (A p ∷ parts) (t ∷ ts) (t ∷ ts)
   inside : (p : Phrase) (inner : List Part) {parts : List Part} {t : Token} {ts rest : List Token} → parts_of p t.kind ≡ Some inner → Stuck inner (t ∷ ts) rest
-    → Stuck (A p ∷ parts) (t ∷ ts) rest
+      → Stuck (A p ∷ parts) (t ∷ ts) rest
   after : (p : Phrase) (inner : List Part) {parts : List Part} {t : Token} {ts mid rest : List Token} {d : Derivation Row} → parts_of p t.kind ≡ Some inner
-    → Is inner (t ∷ ts) d mid → Stuck parts mid rest → Stuck (A p ∷ parts) (t ∷ ts) rest
+      → Is inner (t ∷ ts) d mid → Stuck parts mid rest → Stuck (A p ∷ parts) (t ∷ ts) rest
 
 -- a program with its derivation; the end token is left
 pub record IsProgram (ts : List Token) : Type 0 where
