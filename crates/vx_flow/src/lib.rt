@@ -15,3 +15,6 @@ mod walk;
 
 pub use liveness::{live, live_on};
 pub use walk::back_edges;
+
+#[cfg(test)]
+mod tests;
