@@ -1,116 +1,193 @@
 -- The answers of a command from those of its steps.
-use Rattle.std.proofs.Common.{◌≡◌, ◌⊎◌, inl, inr, ℕ, List, Option, Some, None, Result, Ok, Err, IfSome, IfOk, MatchOption, refl, sym, subst, ap, ◌∙◌, arith}
+use Rattle.std.proofs.Common.{◌≡◌, ◌⊎◌, inl, inr, ℕ, List, Option, Some, None, is_some, true, Result, Ok, Err, IfSome, IfOk, MatchOption, refl, sym, subst, ap, ◌∙◌, arith}
 use Rattle.std.specs.Prelude.{Vec, ◌≤◌, ◌<◌, ◌^◌, ◌-◌}
 use Rattle.std.specs.declared.alloc.Global.{Global}
 use Rattle.vx_base.specs.declared.outcome.NoMemory.{NoMemory as NoRoom}
 use Rattle.vx_base.specs.Outside.{Files, Rose, held_with, with_file, ReplacesPartly}
 use Rattle.vx_isa.specs.declared.program.WordProgram.{WordProgram}
-use Rattle.vx_isa.specs.Numbers.{vex}
+use Rattle.vx_isa.specs.Numbers.{Numbers}
+use Rattle.vx_machine.specs.declared.description.MachineFault.TheVariants.{Bad}
 use Rattle.vx_ast.specs.Tree.{Program}
 use Rattle.vx_ast.specs.Small.{ReadsSmall}
+use Rattle.vx_driver.specs.declared.status.Role.{Role}
+use Rattle.vx_driver.specs.declared.status.Role.TheVariants.{Source as TheSource, Machine as TheMachine}
 use Rattle.vx_driver.specs.declared.status.Status.{Status}
-use Rattle.vx_driver.specs.declared.status.Status.TheVariants.{Done, Usage, Source, NoFile, ReadFault, WriteFault, NoMemory}
-use Rattle.vx_driver.specs.Command.{Command, Compile}
+use Rattle.vx_driver.specs.declared.status.Status.TheVariants.{Done, Usage, Source, Limit, Machine, NoFile, ReadFault, WriteFault, NoMemory}
 use Rattle.vx_driver.specs.Compiled.{Compiled}
 use Rattle.vx_words.specs.Text.{Spells}
-use Rattle.vx_driver.specs.Answers.{Reads, HoldsSource, TextOf, TextFrom, Compiles, WritesWords, WritesPartly, Refuses, Effect, ReadsRose, ReplacesRose, CompileAnswers, WriteAnswers, Answers, CompileEnds, Completes}
+use Rattle.vx_driver.specs.Answers.{Reads, HoldsSource, HoldsProgram, Accepts, Refuses, MachineFound, Is, Refused, TooLong, Missing, machine_found, TextOf, Compiles, WritesWords, WritesPartly, Effect, ReadsRose, ReplacesRose, SameFiles, SourceAnswers, MachineAnswers, StopsAtMachine, CompileAnswers, WriteAnswers, PutsText, NoMachine, ForMachine, ProgramAnswers}
 
-pub text_of_words : (p : Program) (w : WordProgram) (r : Result (Vec ℕ Global) NoRoom) → Compiled p (vex 1) w → IfOk r (λ text. Spells text.items w) → IfOk r (λ text. TextOf p text.items)
-text_of_words p w (Ok text) c e = record { words = w; compiled = c; spells = e }
-text_of_words p w (Err e) c h = tt
+pub text_of_words : (p : Program) (m : Numbers) (w : WordProgram) (r : Result (Vec ℕ Global) NoRoom) → Compiled p m w → IfOk r (λ text. Spells text.items w) → IfOk r (λ text. TextOf p m text.items)
+text_of_words p m w (Ok text) c e = record { words = w; compiled = c; spells = e }
+text_of_words p m w (Err e) c h = tt
 
 pub rose_since : (before mid after : ℕ) → before ≤ mid → Rose mid after → Rose before after
 rose_since before mid after le (inl more) = inl (omega arith)
 rose_since before mid after le (inr most) = inr most
 
-refuses_in : (source content : List ℕ) (b : Option Files) → IfSome b (λ held. HoldsSource held source content) → ((program : Program) → ReadsSmall content program → ⊥) → IfSome b (λ held. Refuses held source)
+-- the same call, looked at from an earlier moment from which on no file has changed
+pub record Since (e f : Effect) : Type 0 where
+  pub before : f.before ≡ e.before
+  pub after : f.after ≡ e.after
+  pub reads : f.reads_before ≤ e.reads_before
+  pub reads_after : f.reads_after ≡ e.reads_after
+  pub replaces : f.replaces_before ≤ e.replaces_before
+  pub replaces_after : f.replaces_after ≡ e.replaces_after
+
+same_since : (e f : Effect) → Since e f → SameFiles e → SameFiles f
+same_since e f s same = s.after ∙ same ∙ sym s.before
+
+reads_since : (e f : Effect) → Since e f → ReadsRose e → ReadsRose f
+reads_since e f s rose = rose_since f.reads_before e.reads_before f.reads_after s.reads (subst (λ n. Rose e.reads_before n) (sym s.reads_after) rose)
+
+replaces_since : (e f : Effect) → Since e f → ReplacesRose e → ReplacesRose f
+replaces_since e f s rose = rose_since f.replaces_before e.replaces_before f.replaces_after s.replaces (subst (λ n. Rose e.replaces_before n) (sym s.replaces_after) rose)
+
+told_since : (e f : Effect) (P : Files → Type 0) → Since e f → IfSome e.before P → IfSome f.before P
+told_since e f P s h = subst (λ b. IfSome b P) (sym s.before) h
+
+missing_since : (e f : Effect) (P : Files → Type 0) (b : Option Files) → Since e f → MatchOption b (ReadsRose e) P → MatchOption b (ReadsRose f) P
+missing_since e f P None s h = reads_since e f s h
+missing_since e f P (Some held) s h = h
+
+machine_since : (machine : Option (List ℕ)) (e f : Effect) (status : Status) → Since e f → MachineAnswers machine e status → MachineAnswers machine f status
+machine_since machine e f Done s a = absurd a
+machine_since machine e f Usage s a = absurd a
+machine_since machine e f (Source code line column) s a = absurd a
+machine_since machine e f (Limit number count) s a = (a.0, a.1, same_since e f s a.2, told_since e f (λ held. machine_found held machine ≡ TooLong) s a.3)
+machine_since machine e f (Machine code field) s a = (same_since e f s a.0, told_since e f (λ held. machine_found held machine ≡ Refused (Bad code field)) s a.1)
+machine_since machine e f (NoFile role) s a =
+    let P : Files → Type 0 = λ held. machine_found held machine ≡ Missing in
+    (a.0, same_since e f s a.1, subst (λ b. MatchOption b (ReadsRose f) P) (sym s.before) (missing_since e f P e.before s a.2))
+machine_since machine e f (ReadFault role) s a = (a.0, same_since e f s a.1, reads_since e f s a.2)
+machine_since machine e f WriteFault s a = absurd a
+machine_since machine e f NoMemory s a = same_since e f s a
+
+-- a source that could not be read through
+
+pub refuses_in : (source content : List ℕ) (b : Option Files) → IfSome b (λ held. HoldsSource held source content) → ((program : Program) → ReadsSmall content program → ⊥) → IfSome b (λ held. Refuses held source)
 refuses_in source content None h never = tt
 refuses_in source content (Some held) h never = record { content = content; holds = h.holds; refused = λ p reads. never p reads.small }
 
--- a source that was read whole and has no text
-pub answers_unread : (source out content : List ℕ) (e : Effect) (status : Status) → IfSome e.before (λ held. HoldsSource held source content) → e.after ≡ e.before →
-    ((status ≡ NoMemory) ⊎ ((status ≡ Source 4 1 1) × ((program : Program) → ReadsSmall content program → ⊥))) → CompileAnswers source out e status
-answers_unread source out content e status h same (inl is) = subst (CompileAnswers source out e) (sym is) same
-answers_unread source out content e status h same (inr refused) =
-    subst (CompileAnswers source out e) (sym refused.0) (refl, refl, refl, same, refuses_in source content e.before h refused.1)
+pub holds_in : (source content : List ℕ) (program : Program) (b : Option Files) → IfSome b (λ held. HoldsSource held source content) → ReadsSmall content program → IfSome b (λ held. HoldsProgram held source program)
+holds_in source content program None h reads = tt
+holds_in source content program (Some held) h reads = record { content = content; holds = h.holds; reads = record { short = h.short; small = reads } }
 
-compiles_of : (source content text : List ℕ) (held : Files) → HoldsSource held source content → TextFrom content text → Compiles held source text
-compiles_of source content text held h t = record { content = content; program = t.program; holds = h.holds; reads = record { short = h.short; small = t.reads }; text_of = t.text_of }
+pub unread : (source content : List ℕ) (e : Effect) (status : Status) → IfSome e.before (λ held. HoldsSource held source content) → SameFiles e →
+    ((status ≡ NoMemory) ⊎ ((status ≡ Source 4 1 1) × ((program : Program) → ReadsSmall content program → ⊥))) → SourceAnswers source e status
+unread source content e status h same (inl is) = subst (SourceAnswers source e) (sym is) same
+unread source content e status h same (inr refused) =
+    subst (SourceAnswers source e) (sym refused.0) (refl, refl, refl, same, refuses_in source content e.before h refused.1)
 
-writes_in : (source out content text : List ℕ) (b after : Option Files) → IfSome b (λ held. HoldsSource held source content) → TextFrom content text → after ≡ with_file b out text → IfSome b (λ held. WritesWords held after source out)
-writes_in source out content text None after h t is = tt
-writes_in source out content text (Some held) after h t is = record { text = text; compiles = compiles_of source content text held h t; written = is }
+pub stops_at_source : (source out : List ℕ) (machine : Option (List ℕ)) (e : Effect) (status : Status) → SourceAnswers source e status → CompileAnswers source out machine e status
+stops_at_source source out machine e Done a = absurd a
+stops_at_source source out machine e Usage a = absurd a
+stops_at_source source out machine e (Source code line column) a = a
+stops_at_source source out machine e (Limit number count) a = absurd a
+stops_at_source source out machine e (Machine code field) a = absurd a
+stops_at_source source out machine e (NoFile TheSource) a = a
+stops_at_source source out machine e (NoFile TheMachine) a = let is = a.0 in cc
+stops_at_source source out machine e (ReadFault TheSource) a = a
+stops_at_source source out machine e (ReadFault TheMachine) a = let is = a.0 in cc
+stops_at_source source out machine e WriteFault a = absurd a
+stops_at_source source out machine e NoMemory a = a
 
-partly_in : (source out content text : List ℕ) (b after : Option Files) → IfSome b (λ held. HoldsSource held source content) → TextFrom content text → ReplacesPartly b after out text → IfSome b (λ held. WritesPartly held after source out)
-partly_in source out content text None after h t is = tt
-partly_in source out content text (Some held) after h t is = record { text = text; compiles = compiles_of source content text held h t; partly = is }
+-- an accepted source, and no machine
 
--- a source that has a text, which was put under the output's name
-pub answers_written : (source out content text : List ℕ) (e : Effect) (status : Status) → IfSome e.before (λ held. HoldsSource held source content) → TextFrom content text →
-    WriteAnswers out text e status → CompileAnswers source out e status
-answers_written source out content text e Done h t is = writes_in source out content text e.before e.after h t is
-answers_written source out content text e Usage h t is = absurd is
-answers_written source out content text e (Source code line column) h t is = absurd is
-answers_written source out content text e (NoFile role) h t is = absurd is
-answers_written source out content text e (ReadFault role) h t is = absurd is
-answers_written source out content text e WriteFault h t is = (is.0, partly_in source out content text e.before e.after h t is.1)
-answers_written source out content text e NoMemory h t is = is
+accepts_in : (source : List ℕ) (program : Program) (b : Option Files) → IfSome b (λ held. HoldsProgram held source program) → IfSome b (λ held. Accepts held source)
+accepts_in source program None h = tt
+accepts_in source program (Some held) h = record { program = program; is = h }
 
--- completeness: what an answer excludes where nothing fails and the source is held
+stops : (source out : List ℕ) (machine : Option (List ℕ)) (e : Effect) (status : Status) → StopsAtMachine source machine e status → CompileAnswers source out machine e status
+stops source out machine e Done a = absurd a.answers
+stops source out machine e Usage a = absurd a.answers
+stops source out machine e (Source code line column) a = absurd a.answers
+stops source out machine e (Limit number count) a = a
+stops source out machine e (Machine code field) a = a
+stops source out machine e (NoFile TheSource) a = let is = a.answers.0 in cc
+stops source out machine e (NoFile TheMachine) a = a
+stops source out machine e (ReadFault TheSource) a = let is = a.answers.0 in cc
+stops source out machine e (ReadFault TheMachine) a = a
+stops source out machine e WriteFault a = absurd a.answers
+stops source out machine e NoMemory a = a.answers
 
-absurd_content : (held : Files) (source content other : List ℕ) → held source ≡ Some content → held source ≡ Some other → content ≡ other
-absurd_content held source content other a b = cc
+pub stops_at_machine : (source out : List ℕ) (machine : Option (List ℕ)) (program : Program) (e f : Effect) (status : Status) → Since e f → is_some machine ≡ true →
+    IfSome f.before (λ held. HoldsProgram held source program) → MachineAnswers machine e status → CompileAnswers source out machine f status
+stops_at_machine source out machine program e f status s named h a = stops source out machine f status (record {
+  named = named;
+  accepted = accepts_in source program f.before h;
+  answers = machine_since machine e f status s a;
+})
 
--- a source that is refused is not accepted
-not_both : (held : Files) (source content : List ℕ) (program : Program) → held source ≡ Some content → Reads content program → Refuses held source → ⊥
-not_both held source content program is reads refused =
-    refused.refused program (subst (λ bytes. Reads bytes program) (absurd_content held source content refused.content is refused.holds) reads)
+-- an accepted source and a machine: a text was to be put under the output's name
 
--- an answer of a source that is held, where nothing failed
-pub data Ends (held : Files) (source : List ℕ) : Status → Type 0 where
-  done : (program : Program) (content : List ℕ) → held source ≡ Some content → Reads content program → Ends held source Done
-  refused : Refuses held source → Ends held source (Source 4 1 1)
-  no_memory : Ends held source NoMemory
-
-told_ends : (source out : List ℕ) (held : Files) (e : Effect) (status : Status) → e.before ≡ Some held → (ReadsRose e → ⊥) → (ReplacesRose e → ⊥) →
-    (content : List ℕ) → held source ≡ Some content → CompileAnswers source out e status → Ends held source status
-told_ends source out held e Done is quiet_reads quiet_replaces content holds a =
-    let w : WritesWords held e.after source out = subst (λ b. IfSome b (λ h. WritesWords h e.after source out)) is a in
-    done w.compiles.program w.compiles.content w.compiles.holds w.compiles.reads
-told_ends source out held e Usage is quiet_reads quiet_replaces content holds a = absurd a
-told_ends source out held e (Source code line column) is quiet_reads quiet_replaces content holds a =
-    let r : Refuses held source = subst (λ b. IfSome b (λ h. Refuses h source)) is a.4 in
-    subst (Ends held source) (same_place code line column a.0 a.1 a.2) (refused r)
-  where
-    same_place : (code line column : ℕ) → code ≡ 4 → line ≡ 1 → column ≡ 1 → Source 4 1 1 ≡ Source code line column
-    same_place code line column a b c = cc
-told_ends source out held e (NoFile role) is quiet_reads quiet_replaces content holds a =
-    let missing : held source ≡ None = subst (λ b. MatchOption b (ReadsRose e) (λ h. h source ≡ None)) is a.2 in
-    absurd (some_or_none (held source) content holds missing)
-  where
-    some_or_none : (o : Option (List ℕ)) (content : List ℕ) → o ≡ Some content → o ≡ None → ⊥
-    some_or_none o content a b = cc
-told_ends source out held e (ReadFault role) is quiet_reads quiet_replaces content holds a = absurd (quiet_reads a.2)
-told_ends source out held e WriteFault is quiet_reads quiet_replaces content holds a = absurd (quiet_replaces a.0)
-told_ends source out held e NoMemory is quiet_reads quiet_replaces content holds a = no_memory
-
-accepted_ends : (held : Files) (source : List ℕ) (status : Status) (content : List ℕ) (program : Program) → held source ≡ Some content → Reads content program → Ends held source status → (status ≡ Done) ⊎ (status ≡ NoMemory)
-accepted_ends held source status content program is reads (done p c holds r) = inl refl
-accepted_ends held source status content program is reads (refused r) = absurd (not_both held source content program is reads r)
-accepted_ends held source status content program is reads no_memory = inr refl
-
-refused_ends : (held : Files) (source : List ℕ) (status : Status) → Refuses held source → Ends held source status → (status ≡ Source 4 1 1) ⊎ (status ≡ NoMemory)
-refused_ends held source status r (done p c holds reads) = absurd (not_both held source c p holds reads r)
-refused_ends held source status r (refused other) = inl refl
-refused_ends held source status r no_memory = inr refl
-
-complete_in : (source out : List ℕ) (e : Effect) (status : Status) (b : Option Files) → e.before ≡ b → (ReadsRose e → ⊥) → (ReplacesRose e → ⊥) → CompileAnswers source out e status → IfSome b (λ held. CompileEnds source held status)
-complete_in source out e status None is quiet_reads quiet_replaces a = tt
-complete_in source out e status (Some held) is quiet_reads quiet_replaces a = record {
-  accepted = λ content program holds reads. accepted_ends held source status content program holds reads (told_ends source out held e status is quiet_reads quiet_replaces content holds a);
-  refused = λ r. refused_ends held source status r (told_ends source out held e status is quiet_reads quiet_replaces r.content r.holds a);
+writes_in : (source out text : List ℕ) (machine : Option (List ℕ)) (program : Program) (numbers : Numbers) (b after : Option Files) →
+    IfSome b (λ held. HoldsProgram held source program) → IfSome b (λ held. machine_found held machine ≡ Is numbers) → TextOf program numbers text → after ≡ with_file b out text →
+    IfSome b (λ held. WritesWords held after source out machine)
+writes_in source out text machine program numbers None after h m t is = tt
+writes_in source out text machine program numbers (Some held) after h m t is = record {
+  text = text;
+  compiles = record { program = program; holds = h; numbers = numbers; machine_is = m; text_of = t };
+  written = is;
 }
 
-pub completes : (command : Option Command) (e : Effect) (status : Status) → Answers command e status → Completes command e status
-completes None e status a = tt
-completes (Some (Compile source out)) e status a = λ quiet_reads quiet_replaces. complete_in source out e status e.before refl quiet_reads quiet_replaces a
+partly_in : (source out text : List ℕ) (machine : Option (List ℕ)) (program : Program) (numbers : Numbers) (b after : Option Files) →
+    IfSome b (λ held. HoldsProgram held source program) → IfSome b (λ held. machine_found held machine ≡ Is numbers) → TextOf program numbers text → ReplacesPartly b after out text →
+    IfSome b (λ held. WritesPartly held after source out machine)
+partly_in source out text machine program numbers None after h m t is = tt
+partly_in source out text machine program numbers (Some held) after h m t is = record {
+  text = text;
+  compiles = record { program = program; holds = h; numbers = numbers; machine_is = m; text_of = t };
+  partly = is;
+}
+
+written : (source out text : List ℕ) (machine : Option (List ℕ)) (program : Program) (numbers : Numbers) (e : Effect) (status : Status) →
+    IfSome e.before (λ held. HoldsProgram held source program) → IfSome e.before (λ held. machine_found held machine ≡ Is numbers) → TextOf program numbers text →
+    WriteAnswers out text e status → CompileAnswers source out machine e status
+written source out text machine program numbers e Done h m t is = writes_in source out text machine program numbers e.before e.after h m t is
+written source out text machine program numbers e Usage h m t is = absurd is
+written source out text machine program numbers e (Source code line column) h m t is = absurd is
+written source out text machine program numbers e (Limit number count) h m t is = absurd is
+written source out text machine program numbers e (Machine code field) h m t is = absurd is
+written source out text machine program numbers e (NoFile role) h m t is = absurd is
+written source out text machine program numbers e (ReadFault role) h m t is = absurd is
+written source out text machine program numbers e WriteFault h m t is = (is.0, partly_in source out text machine program numbers e.before e.after h m t is.1)
+written source out text machine program numbers e NoMemory h m t is = is
+
+write_since : (out text : List ℕ) (e f : Effect) (status : Status) → Since e f → WriteAnswers out text e status → WriteAnswers out text f status
+write_since out text e f Done s is = s.after ∙ is ∙ ap (λ b. with_file b out text) (sym s.before)
+write_since out text e f Usage s is = absurd is
+write_since out text e f (Source code line column) s is = absurd is
+write_since out text e f (Limit number count) s is = absurd is
+write_since out text e f (Machine code field) s is = absurd is
+write_since out text e f (NoFile role) s is = absurd is
+write_since out text e f (ReadFault role) s is = absurd is
+write_since out text e f WriteFault s is =
+    (replaces_since e f s is.0, subst (λ b. ReplacesPartly b f.after out text) (sym s.before) (subst (λ a. ReplacesPartly e.before a out text) (sym s.after) is.1))
+write_since out text e f NoMemory s is = same_since e f s is
+
+puts_since : (program : Program) (numbers : Numbers) (out : List ℕ) (e f : Effect) (status : Status) → Since e f →
+    (((status ≡ NoMemory) × SameFiles e) ⊎ PutsText program numbers out e status) → ((status ≡ NoMemory) × SameFiles f) ⊎ PutsText program numbers out f status
+puts_since program numbers out e f status s (inl is) = inl (is.0, same_since e f s is.1)
+puts_since program numbers out e f status s (inr put) = inr (record { text = put.text; text_of = put.text_of; answers = write_since out put.text e f status s put.answers })
+
+pub for_machine : (program : Program) (numbers : Numbers) (out : List ℕ) (machine : Option (List ℕ)) (e f : Effect) (status : Status) → Since e f →
+    IfSome f.before (λ held. machine_found held machine ≡ Is numbers) → (((status ≡ NoMemory) × SameFiles e) ⊎ PutsText program numbers out e status) → ProgramAnswers program out machine f status
+for_machine program numbers out machine e f status s m a = inr (record { numbers = numbers; machine_is = m; answers = puts_since program numbers out e f status s a })
+
+answers_words : (source out : List ℕ) (machine : Option (List ℕ)) (program : Program) (numbers : Numbers) (e : Effect) (status : Status) →
+    IfSome e.before (λ held. HoldsProgram held source program) → IfSome e.before (λ held. machine_found held machine ≡ Is numbers) →
+    (((status ≡ NoMemory) × SameFiles e) ⊎ PutsText program numbers out e status) → CompileAnswers source out machine e status
+answers_words source out machine program numbers e status h m (inl is) = subst (CompileAnswers source out machine e) (sym is.0) is.1
+answers_words source out machine program numbers e status h m (inr put) = written source out put.text machine program numbers e status h m put.text_of put.answers
+
+machine_told : (machine : Option (List ℕ)) (numbers : Numbers) (e f : Effect) → Since e f → IfSome e.before (λ held. machine_found held machine ≡ Is numbers) →
+    IfSome f.before (λ held. machine_found held machine ≡ Is numbers)
+machine_told machine numbers e f s h = told_since e f (λ held. machine_found held machine ≡ Is numbers) s h
+
+pub compiled_answers : (source out : List ℕ) (machine : Option (List ℕ)) (program : Program) (e f : Effect) (status : Status) → Since e f →
+    IfSome f.before (λ held. HoldsProgram held source program) → ProgramAnswers program out machine e status → CompileAnswers source out machine f status
+compiled_answers source out machine program e f status s h (inl none) = stops_at_machine source out machine program e f status s none.named h none.answers
+compiled_answers source out machine program e f status s h (inr for) =
+    answers_words source out machine program for.numbers f status h (machine_told machine for.numbers e f s for.machine_is)
+    (puts_since program for.numbers out e f status s for.answers)

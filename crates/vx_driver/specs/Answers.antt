@@ -1,14 +1,17 @@
 -- What each answer of the top call says of the words, the files and the counts of faults, before the call and after it.
-use Rattle.std.specs.Prelude.{◌≡◌, ◌≤◌, ◌⊎◌, ℕ, List, length, Option, Some, None, IfSome, MatchOption}
+use Rattle.std.specs.Prelude.{◌≡◌, ◌≤◌, ◌⊎◌, ℕ, List, length, true, nat_le, if◌then◌else◌, is_some, Option, Some, None, IfSome, MatchOption, Result, Ok, Err}
 use Rattle.vx_base.specs.Outside.{Files, Rose, held_with, with_file, ReplacesPartly}
 use Rattle.vx_isa.specs.declared.program.WordProgram.{WordProgram}
-use Rattle.vx_isa.specs.Numbers.{vex}
+use Rattle.vx_isa.specs.Numbers.{Numbers, vex}
+use Rattle.vx_machine.specs.declared.description.MachineFault.{MachineFault}
+use Rattle.vx_machine.specs.declared.description.MachineFault.TheVariants.{Bad}
+use Rattle.vx_machine.specs.Descriptions.{reading}
 use Rattle.vx_ast.specs.Tree.{Program}
 use Rattle.vx_ast.specs.Small.{ReadsSmall}
 use Rattle.vx_driver.specs.declared.status.Role.{Role}
-use Rattle.vx_driver.specs.declared.status.Role.TheVariants.{Source as TheSource}
+use Rattle.vx_driver.specs.declared.status.Role.TheVariants.{Source as TheSource, Machine as TheMachine}
 use Rattle.vx_driver.specs.declared.status.Status.{Status}
-use Rattle.vx_driver.specs.declared.status.Status.TheVariants.{Done, Usage, Source, NoFile, ReadFault, WriteFault, NoMemory}
+use Rattle.vx_driver.specs.declared.status.Status.TheVariants.{Done, Usage, Source, Limit, Machine, NoFile, ReadFault, WriteFault, NoMemory}
 use Rattle.vx_driver.specs.Command.{Command, Compile, command_of}
 use Rattle.vx_driver.specs.Compiled.{Compiled}
 use Rattle.vx_words.specs.Text.{Spells}
@@ -16,6 +19,10 @@ use Rattle.vx_words.specs.Text.{Spells}
 -- the most bytes of a source
 abbrev pub most_source_bytes : ℕ
 most_source_bytes = 1048576
+
+-- the most bytes of a description of a machine
+abbrev pub most_description_bytes : ℕ
+most_description_bytes = 65536
 
 -- the bytes are an accepted source, and the program is its reading
 pub record Reads (content : List ℕ) (program : Program) : Type 0 where
@@ -27,43 +34,70 @@ pub record HoldsSource (held : Files) (source content : List ℕ) : Type 0 where
   pub holds : held source ≡ Some content
   pub short : length content ≤ most_source_bytes
 
--- the text spells words that are compiled from the program
-pub record TextOf (program : Program) (text : List ℕ) : Type 0 where
-  pub words : WordProgram
-  pub compiled : Compiled program (vex 1) words
-  pub spells : Spells text words
-
--- the text is that of what the bytes read as
-pub record TextFrom (content text : List ℕ) : Type 0 where
-  pub program : Program
-  pub reads : ReadsSmall content program
-  pub text_of : TextOf program text
-
--- the new text of a compiled file: it spells words that are compiled from what the source's file reads as
-pub record Compiles (held : Files) (source text : List ℕ) : Type 0 where
+-- the source's file holds an accepted source, and the program is its reading
+pub record HoldsProgram (held : Files) (source : List ℕ) (program : Program) : Type 0 where
   pub content : List ℕ
-  pub program : Program
   pub holds : held source ≡ Some content
   pub reads : Reads content program
-  pub text_of : TextOf program text
 
--- the output's file holds such a text, and every other file is as before
-pub record WritesWords (held : Files) (after : Option Files) (source out : List ℕ) : Type 0 where
-  pub text : List ℕ
-  pub compiles : Compiles held source text
-  pub written : after ≡ Some (held_with out text held)
-
--- the output's file holds what it held before, or a front of such a text, and every other file is as before
-pub record WritesPartly (held : Files) (after : Option Files) (source out : List ℕ) : Type 0 where
-  pub text : List ℕ
-  pub compiles : Compiles held source text
-  pub partly : ReplacesPartly (Some held) after out text
+-- the source's file holds an accepted source
+pub record Accepts (held : Files) (source : List ℕ) : Type 0 where
+  pub program : Program
+  pub is : HoldsProgram held source program
 
 -- the source's file is no accepted source
 pub record Refuses (held : Files) (source : List ℕ) : Type 0 where
   pub content : List ℕ
   pub holds : held source ≡ Some content
   pub refused : (program : Program) → Reads content program → ⊥
+
+-- what the machine of a command comes to: its numbers, the fault of its description, a description that is too
+-- long, or none
+pub data MachineFound : Type 0 where
+  Is : (machine : Numbers) → MachineFound
+  Refused : (why : MachineFault) → MachineFound
+  TooLong : MachineFound
+  Missing : MachineFound
+
+abbrev pub found_by : Result Numbers MachineFault → MachineFound
+found_by (Ok machine) = Is machine
+found_by (Err why) = Refused why
+
+abbrev pub found_in : Option (List ℕ) → MachineFound
+found_in None = Missing
+found_in (Some content) = if nat_le (length content) most_description_bytes then found_by (reading content) else TooLong
+
+-- the machine that the named file describes; where none is named, the default machine
+abbrev pub machine_found : Files → Option (List ℕ) → MachineFound
+machine_found held None = Is (vex 1)
+machine_found held (Some name) = found_in (held name)
+
+-- the text spells words that are compiled from the program for the machine
+pub record TextOf (program : Program) (machine : Numbers) (text : List ℕ) : Type 0 where
+  pub words : WordProgram
+  pub compiled : Compiled program machine words
+  pub spells : Spells text words
+
+-- the new text of a compiled file: it spells words that are compiled from what the source's file reads as, for the
+-- machine of the command
+pub record Compiles (held : Files) (source : List ℕ) (machine : Option (List ℕ)) (text : List ℕ) : Type 0 where
+  pub program : Program
+  pub holds : HoldsProgram held source program
+  pub numbers : Numbers
+  pub machine_is : machine_found held machine ≡ Is numbers
+  pub text_of : TextOf program numbers text
+
+-- the output's file holds such a text, and every other file is as before
+pub record WritesWords (held : Files) (after : Option Files) (source out : List ℕ) (machine : Option (List ℕ)) : Type 0 where
+  pub text : List ℕ
+  pub compiles : Compiles held source machine text
+  pub written : after ≡ Some (held_with out text held)
+
+-- the output's file holds what it held before, or a front of such a text, and every other file is as before
+pub record WritesPartly (held : Files) (after : Option Files) (source out : List ℕ) (machine : Option (List ℕ)) : Type 0 where
+  pub text : List ℕ
+  pub compiles : Compiles held source machine text
+  pub partly : ReplacesPartly (Some held) after out text
 
 -- what a call was given and left: the files that the depot tells, and its counts of failed reads and replacings
 pub record Effect : Type 0 where
@@ -90,34 +124,99 @@ ReadsRose e = Rose e.reads_before e.reads_after
 abbrev pub ReplacesRose : Effect → Type 0
 ReplacesRose e = Rose e.replaces_before e.replaces_after
 
+-- no file has changed
+abbrev pub SameFiles : Effect → Type 0
+SameFiles e = e.after ≡ e.before
+
 -- each status says what it says, of the files that the depot tells; where it tells none, only the counts speak
-abbrev pub CompileAnswers : (source out : List ℕ) → Effect → Status → Type 0
-CompileAnswers source out e Done = IfSome e.before (λ held. WritesWords held e.after source out)
-CompileAnswers source out e Usage = ⊥
-CompileAnswers source out e (Source code line column) =
-    (code ≡ 4) × (line ≡ 1) × (column ≡ 1) × (e.after ≡ e.before) × IfSome e.before (λ held. Refuses held source)
-CompileAnswers source out e (NoFile role) =
-    (role ≡ TheSource) × (e.after ≡ e.before) × MatchOption e.before (ReadsRose e) (λ held. held source ≡ None)
-CompileAnswers source out e (ReadFault role) = (role ≡ TheSource) × (e.after ≡ e.before) × ReadsRose e
-CompileAnswers source out e WriteFault = ReplacesRose e × IfSome e.before (λ held. WritesPartly held e.after source out)
-CompileAnswers source out e NoMemory = e.after ≡ e.before
+
+-- of a status that comes from the source
+abbrev pub SourceAnswers : (source : List ℕ) → Effect → Status → Type 0
+SourceAnswers source e (Source code line column) = (code ≡ 4) × (line ≡ 1) × (column ≡ 1) × SameFiles e × IfSome e.before (λ held. Refuses held source)
+SourceAnswers source e (NoFile role) = (role ≡ TheSource) × SameFiles e × MatchOption e.before (ReadsRose e) (λ held. held source ≡ None)
+SourceAnswers source e (ReadFault role) = (role ≡ TheSource) × SameFiles e × ReadsRose e
+SourceAnswers source e NoMemory = SameFiles e
+SourceAnswers source e status = ⊥
+
+-- of a status that comes from the machine of the command
+abbrev pub MachineAnswers : (machine : Option (List ℕ)) → Effect → Status → Type 0
+MachineAnswers machine e (Limit number count) = (number ≡ 11) × (count ≡ 65537) × SameFiles e × IfSome e.before (λ held. machine_found held machine ≡ TooLong)
+MachineAnswers machine e (Machine code field) = SameFiles e × IfSome e.before (λ held. machine_found held machine ≡ Refused (Bad code field))
+MachineAnswers machine e (NoFile role) = (role ≡ TheMachine) × SameFiles e × MatchOption e.before (ReadsRose e) (λ held. machine_found held machine ≡ Missing)
+MachineAnswers machine e (ReadFault role) = (role ≡ TheMachine) × SameFiles e × ReadsRose e
+MachineAnswers machine e NoMemory = SameFiles e
+MachineAnswers machine e status = ⊥
+
+-- the machine of a command is looked at only where one is named and the source is accepted
+pub record StopsAtMachine (source : List ℕ) (machine : Option (List ℕ)) (e : Effect) (status : Status) : Type 0 where
+  pub named : is_some machine ≡ true
+  pub accepted : IfSome e.before (λ held. Accepts held source)
+  pub answers : MachineAnswers machine e status
+
+-- a file that is missing or cannot be read is the source's, or the machine's once the source is accepted
+abbrev pub FileAnswers : Role → (source : List ℕ) → (machine : Option (List ℕ)) → Effect → Status → Type 0
+FileAnswers TheSource source machine e status = SourceAnswers source e status
+FileAnswers TheMachine source machine e status = StopsAtMachine source machine e status
+
+abbrev pub CompileAnswers : (source out : List ℕ) → (machine : Option (List ℕ)) → Effect → Status → Type 0
+CompileAnswers source out machine e Done = IfSome e.before (λ held. WritesWords held e.after source out machine)
+CompileAnswers source out machine e Usage = ⊥
+CompileAnswers source out machine e (Source code line column) = SourceAnswers source e (Source code line column)
+CompileAnswers source out machine e (Limit number count) = StopsAtMachine source machine e (Limit number count)
+CompileAnswers source out machine e (Machine code field) = StopsAtMachine source machine e (Machine code field)
+CompileAnswers source out machine e (NoFile role) = FileAnswers role source machine e (NoFile role)
+CompileAnswers source out machine e (ReadFault role) = FileAnswers role source machine e (ReadFault role)
+CompileAnswers source out machine e WriteFault = ReplacesRose e × IfSome e.before (λ held. WritesPartly held e.after source out machine)
+CompileAnswers source out machine e NoMemory = SameFiles e
+
+-- why a description gives no machine
+abbrev pub RefusesDescription : (content : List ℕ) → Status → Type 0
+RefusesDescription content (Machine code field) = reading content ≡ Err (Bad code field)
+RefusesDescription content NoMemory = Unit {0}
+RefusesDescription content status = ⊥
 
 -- what the replacing of the output's file by a text says
 abbrev pub WriteAnswers : (out text : List ℕ) → Effect → Status → Type 0
 WriteAnswers out text e Done = e.after ≡ with_file e.before out text
 WriteAnswers out text e WriteFault = ReplacesRose e × ReplacesPartly e.before e.after out text
-WriteAnswers out text e NoMemory = e.after ≡ e.before
+WriteAnswers out text e NoMemory = SameFiles e
 WriteAnswers out text e status = ⊥
 
-abbrev pub Answers : Option Command → Effect → Status → Type 0
-Answers None e status = (status ≡ Usage) × (e.after ≡ e.before)
-Answers (Some (Compile source out)) e status = CompileAnswers source out e status
+-- a text of a program's words for a machine was to replace the output's file
+pub record PutsText (program : Program) (machine : Numbers) (out : List ℕ) (e : Effect) (status : Status) : Type 0 where
+  pub text : List ℕ
+  pub text_of : TextOf program machine text
+  pub answers : WriteAnswers out text e status
 
--- which statuses can come where nothing fails and the source's file is held: want of memory is the one free answer
-pub record CompileEnds (source : List ℕ) (held : Files) (status : Status) : Type 0 where
-  pub accepted : (content : List ℕ) (program : Program) → held source ≡ Some content → Reads content program → (status ≡ Done) ⊎ (status ≡ NoMemory)
+-- no machine stands, and the status says why
+pub record NoMachine (machine : Option (List ℕ)) (e : Effect) (status : Status) : Type 0 where
+  pub named : is_some machine ≡ true
+  pub answers : MachineAnswers machine e status
+
+-- a machine stands, and a text of the program's words for it was to replace the output's file, or memory was wanted
+pub record ForMachine (program : Program) (out : List ℕ) (machine : Option (List ℕ)) (e : Effect) (status : Status) : Type 0 where
+  pub numbers : Numbers
+  pub machine_is : IfSome e.before (λ held. machine_found held machine ≡ Is numbers)
+  pub answers : ((status ≡ NoMemory) × SameFiles e) ⊎ PutsText program numbers out e status
+
+-- what the writing of a program's words says
+abbrev pub ProgramAnswers : Program → (out : List ℕ) → (machine : Option (List ℕ)) → Effect → Status → Type 0
+ProgramAnswers program out machine e status = NoMachine machine e status ⊎ ForMachine program out machine e status
+
+-- words that are no command are answered Usage, unless memory is wanted
+abbrev pub Answers : Option Command → Effect → Status → Type 0
+Answers None e status = ((status ≡ Usage) ⊎ (status ≡ NoMemory)) × SameFiles e
+Answers (Some (Compile source out machine)) e status = CompileAnswers source out machine e status
+
+-- which statuses can come where nothing fails: want of memory is the one free answer
+pub record CompileEnds (source : List ℕ) (machine : Option (List ℕ)) (held : Files) (status : Status) : Type 0 where
+  pub accepted : Accepts held source → (numbers : Numbers) → machine_found held machine ≡ Is numbers → (status ≡ Done) ⊎ (status ≡ NoMemory)
   pub refused : Refuses held source → (status ≡ Source 4 1 1) ⊎ (status ≡ NoMemory)
+  pub missing : held source ≡ None → (status ≡ NoFile TheSource) ⊎ (status ≡ NoMemory)
+  pub machine_refused : Accepts held source → (code field : ℕ) → machine_found held machine ≡ Refused (Bad code field) → (status ≡ Machine code field) ⊎ (status ≡ NoMemory)
+  pub machine_too_long : Accepts held source → machine_found held machine ≡ TooLong → (status ≡ Limit 11 65537) ⊎ (status ≡ NoMemory)
+  pub machine_missing : Accepts held source → machine_found held machine ≡ Missing → (status ≡ NoFile TheMachine) ⊎ (status ≡ NoMemory)
 
 abbrev pub Completes : Option Command → Effect → Status → Type 0
 Completes None e status = Unit {0}
-Completes (Some (Compile source out)) e status = (ReadsRose e → ⊥) → (ReplacesRose e → ⊥) → IfSome e.before (λ held. CompileEnds source held status)
+Completes (Some (Compile source out machine)) e status = (ReadsRose e → ⊥) → (ReplacesRose e → ⊥) → IfSome e.before (λ held. CompileEnds source machine held status)

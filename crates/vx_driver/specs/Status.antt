@@ -1,22 +1,25 @@
 -- The numbers of the statuses, and what the lines of the program put.
 use Rattle.std.specs.Prelude.{◌≡◌, ℕ, List, Option, codes}
 use Rattle.vx_base.specs.Outside.{with_bytes}
-use Rattle.vx_driver.specs.declared.status.Status.{Status}
 use Rattle.vx_driver.specs.declared.status.Role.{Role}
-use Rattle.vx_driver.specs.declared.status.Role.TheVariants.{Source}
-use Rattle.vx_driver.specs.declared.status.Status.TheVariants.{Done, Usage, Source as SourceFault, NoFile, ReadFault, WriteFault, NoMemory}
+use Rattle.vx_driver.specs.declared.status.Role.TheVariants.{Source as TheSource, Machine as TheMachine}
+use Rattle.vx_driver.specs.declared.status.Status.{Status}
+use Rattle.vx_driver.specs.declared.status.Status.TheVariants.{Done, Usage, Source, Limit, Machine, NoFile, ReadFault, WriteFault, NoMemory}
 
 abbrev pub number_of : Status → ℕ
 number_of Done = 0
 number_of Usage = 2
-number_of (SourceFault code line column) = 3
+number_of (Source code line column) = 3
+number_of (Limit number count) = 4
+number_of (Machine code field) = 7
 number_of (NoFile role) = 8
 number_of (ReadFault role) = 9
 number_of WriteFault = 10
 number_of NoMemory = 14
 
 abbrev pub role_name : Role → List ℕ
-role_name Source = codes "source"
+role_name TheSource = codes "source"
+role_name TheMachine = codes "machine"
 
 -- a sink tells some bytes more
 pub record Appends (before after : Option (List ℕ)) : Type 0 where

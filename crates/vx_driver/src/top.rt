@@ -1,15 +1,44 @@
 // The top call: from the words of a command line to its answer.
 
-ghost use Rattle.std.specs.Prelude.{◌≡◌, ◌≤◌, map, string_bytes};
+ghost use Rattle.std.specs.Prelude.{◌≡◌, ◌≤◌, ◌∷◌, map, string_bytes, IfOk};
 ghost use Rattle.vx_driver.specs.Status.{Appends};
-ghost use Rattle.vx_driver.specs.Command.{command_of};
+ghost use Rattle.vx_driver.specs.Command.{command_of, compile_of};
 ghost use Rattle.vx_driver.specs.Answers.{effect_of, Answers, Completes};
 
+use crate::command::asked_of;
 use crate::compile::compile;
 use crate::status::{Status, put_line};
-use std::alloc::Global;
+use std::alloc::{AllocError, Global};
 use vx_base::depot::Depot;
 use vx_base::sink::Sink;
+
+/// The words that clap is handed: all but the second.
+fn without_name<'a>(
+    alloc: Global,
+    program: &'a String,
+    others: &'a [String],
+) -> Result<Vec<&'a str>, AllocError>
+    ensures { IfOk result (λ words. map (λ w. w.now) words.items ≡ string_bytes program.now ∷ map string_bytes others.now) }
+{
+    let mut words = Vec::new(alloc);
+    words.push(program.as_str())?;
+    for other in others {
+        words.push(other.as_str())?;
+    }
+    Ok(words)
+}
+
+/// Does what the words of `compile` ask for, the program's name first.
+fn perform_compile<D: Depot>(alloc: Global, words: &[&str], depot: &mut D) -> Status
+    ensures answers { Answers (compile_of (map (λ w. w.now) words.now)) (effect_of D.files D.failed_reads D.failed_replaces depot.old depot.new) result }
+    ensures reads_never_fall { D.failed_reads depot.old ≤ D.failed_reads depot.new }
+    ensures replaces_never_fall { D.failed_replaces depot.old ≤ D.failed_replaces depot.new }
+{
+    match asked_of(alloc, words) {
+        Ok(asked) => compile(alloc, depot, asked.source, asked.out, asked.machine),
+        Err(status) => status,
+    }
+}
 
 /// Does what the words ask for, and answers how it ended.
 fn perform<D: Depot>(alloc: Global, words: &[String], depot: &mut D) -> Status
@@ -18,11 +47,13 @@ fn perform<D: Depot>(alloc: Global, words: &[String], depot: &mut D) -> Status
     ensures replaces_never_fall { D.failed_replaces depot.old ≤ D.failed_replaces depot.new }
 {
     match words {
-        [_, name, source, out] => {
-            if name.as_str() == "compile" {
-                compile(alloc, depot, source.as_str(), out.as_str())
-            } else {
-                Status::Usage
+        [program, name, others @ ..] => {
+            if name.as_str() != "compile" {
+                return Status::Usage;
+            }
+            match without_name(alloc, program, others) {
+                Ok(words) => perform_compile(alloc, words.as_slice(), depot),
+                Err(_) => Status::NoMemory,
             }
         }
         _ => Status::Usage,

@@ -15,107 +15,241 @@ const FIVE: &str = "int main(void) { printf(\"%d\\n\", 2 + 3); return 0; }";
 const WORDS: &str =
     ".vexwords 1\n.memory 0\n.text \"\\x0a\"\nc0 mov $r0.3 = 2\n;;\nc0 add $r0.3 = $r0.3, 3\n;;\nc0 outd $r0.3\n;;\nc0 outs T0\n;;\nc0 mov $r0.3 = 0\n;;\nc0 halt $r0.3\n;;\n.end\n";
 
-/// The one file of a test.
-fn source_file(alloc: Global, content: &str) -> Result<Vec<(String, Vec<u8>)>, AllocError>
+/// The same words on a machine whose simple operations take three cycles: two empty words behind each result.
+const SLOW_WORDS: &str =
+    ".vexwords 1\n.memory 0\n.text \"\\x0a\"\nc0 mov $r0.3 = 2\n;;\n;;\n;;\nc0 add $r0.3 = $r0.3, 3\n;;\n;;\n;;\nc0 outd $r0.3\n;;\nc0 outs T0\n;;\nc0 mov $r0.3 = 0\n;;\n;;\n;;\nc0 halt $r0.3\n;;\n.end\n";
+
+const PLAIN: [&str; 4] = ["vexc", "compile", "five.c", "five.vex"];
+
+const MACHINE: [&str; 6] = [
+    "vexc",
+    "compile",
+    "five.c",
+    "five.vex",
+    "--machine",
+    "m.toml",
+];
+
+/// The description of the default machine with 4 clusters, with these in the places of `issue` and `latency_alu`.
+fn description(alloc: Global, issue: &str, alu: &str) -> Result<String, AllocError> {
+    let mut text = String::new(alloc);
+    text.push_str("clusters = 4\nissue = ")?;
+    text.push_str(issue)?;
+    text.push_str("\nalus = 4\nmultipliers = 2\nmemory_units = 1\nregisters = 64\n")?;
+    text.push_str(
+        "branch_registers = 8\nread_ports = 8\nwrite_ports = 4\ncopy_paths = 2\nlatency_alu = ",
+    )?;
+    text.push_str(alu)?;
+    text.push_str("\nlatency_compare = 2\nlatency_multiply = 2\nlatency_load = 3\n")?;
+    text.push_str("latency_divide = 8\nlatency_copy = 1\n")?;
+    Ok(text)
+}
+
+/// The two files of a test.
+fn test_files(
+    alloc: Global,
+    source: &[u8],
+    machine: &[u8],
+) -> Result<Vec<(String, Vec<u8>)>, AllocError>
     ensures { IfOk result (λ files. NamesDiffer (named_files files.items)) }
 {
     let mut files = Vec::new(alloc);
-    let name = String::from_str(alloc, "five.c")?;
-    let bytes = Vec::from_slice(alloc, content.as_bytes())?;
-    files.push((name, bytes))?;
+    files.push((
+        String::from_str(alloc, "five.c")?,
+        Vec::from_slice(alloc, source)?,
+    ))?;
+    files.push((
+        String::from_str(alloc, "m.toml")?,
+        Vec::from_slice(alloc, machine)?,
+    ))?;
     Ok(files)
 }
 
-/// The words of a command line.
-fn command_line(alloc: Global, command: &str, source: &str) -> Result<Vec<String>, AllocError> {
-    let mut words = Vec::new(alloc);
-    for word in ["vexc", command, source, "five.vex"] {
-        words.push(String::from_str(alloc, word)?)?;
-    }
-    Ok(words)
-}
-
-/// One call, and what it left: its status, whether the words stand under the output's name, and the line.
+/// One call, and what it left: its status, the text under the output's name, and the line.
 fn call(
     rt: &HostRuntime,
-    content: &str,
-    command: &str,
-    source: &str,
+    source: &[u8],
+    machine: &[u8],
+    words: &[&str],
     failing: u64,
-) -> Result<(Status, bool, MemSink), Fail> {
+) -> Result<(Status, Vec<u8>, MemSink), Fail> {
     let alloc = rt.alloc();
-    let mut depot = MemDepot::make(
-        alloc,
-        source_file(alloc, content)?,
-        vec![in alloc; failing]?,
-    )?;
+    let files = test_files(alloc, source, machine)?;
+    let mut depot = MemDepot::make(alloc, files, vec![in alloc; failing]?)?;
     let mut out = MemSink::make(alloc, 0, Vec::new(alloc))?;
     let mut err = MemSink::make(alloc, 100, Vec::new(alloc))?;
-    let words = command_line(alloc, command, source)?;
-    let status = vexc(alloc, words.as_slice(), &mut depot, &mut out, &mut err);
-    let written = match depot.file("five.vex") {
-        Some(bytes) => bytes == WORDS.as_bytes(),
-        None => false,
+    let mut line = Vec::new(alloc);
+    for word in words {
+        line.push(String::from_str(alloc, word)?)?;
+    }
+    let status = vexc(alloc, line.as_slice(), &mut depot, &mut out, &mut err);
+    let text = match depot.file("five.vex") {
+        Some(bytes) => Vec::from_slice(alloc, bytes)?,
+        None => Vec::new(alloc),
     };
-    Ok((status, written, err))
+    Ok((status, text, err))
 }
 
 #[test]
 fn words_of_two_and_three(rt: HostRuntime) -> Result<(), Fail> {
-    let (status, written, err) = call(&rt, FIVE, "compile", "five.c", 0)?;
+    let alloc = rt.alloc();
+    let (status, text, err) = call(&rt, FIVE.as_bytes(), b"", &PLAIN, 0)?;
     assert!(rt; status == Status::Done);
-    assert!(rt; written);
+    assert!(rt; text.as_slice() == WORDS.as_bytes());
     assert!(rt; err.bytes().is_empty());
+    for (alu, wanted) in [("1", WORDS), ("3", SLOW_WORDS)] {
+        let machine = description(alloc, "4", alu)?;
+        let (status, text, err) = call(&rt, FIVE.as_bytes(), machine.as_bytes(), &MACHINE, 0)?;
+        assert!(rt; status == Status::Done);
+        assert!(rt; text.as_slice() == wanted.as_bytes());
+        assert!(rt; err.bytes().is_empty());
+    }
     Ok(())
 }
 
 #[test]
-fn refusals(rt: HostRuntime) -> Result<(), Fail> {
+fn refused_words(rt: HostRuntime) -> Result<(), Fail> {
+    let rows: [&[&str]; 8] = [
+        &["vexc"],
+        &["vexc", "compil", "five.c", "five.vex"],
+        &["vexc", "compile", "five.c"],
+        &["vexc", "compile", "five.c", "five.vex", "more"],
+        &["vexc", "compile", "five.c", "five.vex", "--speed", "1"],
+        &["vexc", "compile", "five.c", "five.vex", "--machine"],
+        &[
+            "vexc",
+            "compile",
+            "--machine",
+            "m.toml",
+            "five.c",
+            "five.vex",
+            "--machine",
+            "m.toml",
+        ],
+        &["vexc", "compile", "five.c", "five.vex", "--help"],
+    ];
+    for words in rows {
+        let (status, text, err) = call(&rt, FIVE.as_bytes(), b"", words, 0)?;
+        assert!(rt; status == Status::Usage);
+        assert!(rt; text.is_empty());
+        assert!(rt; err.bytes() == b"no command\n".as_slice());
+    }
+    Ok(())
+}
+
+#[test]
+fn refused_files(rt: HostRuntime) -> Result<(), Fail> {
+    let alloc = rt.alloc();
     let other = Status::Source {
         code: 4,
         line: 1,
         column: 1,
     };
-    let rows: [(&str, &str, &str, u64, Status, &[u8]); 6] = [
-        ("", "compile", "five.c", 0, other, b"source S4 at 1:1\n"),
-        (FIVE, "compil", "five.c", 0, Status::Usage, b"no command\n"),
+    let wide = description(alloc, "5", "1")?;
+    let fine = description(alloc, "4", "1")?;
+    let long = vec![in alloc; 35u8; 65537]?;
+    let most = vec![in alloc; 35u8; 65536]?;
+    let six: [&str; 4] = ["vexc", "compile", "six.c", "five.vex"];
+    let none: [&str; 6] = [
+        "vexc",
+        "compile",
+        "five.c",
+        "--machine=n.toml",
+        "--",
+        "five.vex",
+    ];
+    let five = FIVE.as_bytes();
+    let rows: [(&[u8], &[u8], &[&str], u64, Status, &[u8]); 12] = [
+        (b"", b"", &MACHINE, 0, other, b"source S4 at 1:1\n"),
         (
-            FIVE,
-            "compile",
-            "six.c",
+            five,
+            b"",
+            &six,
             0,
             Status::NoFile(Role::Source),
             b"no file source\n",
         ),
         (
-            FIVE,
-            "compile",
-            "five.c",
+            five,
+            b"",
+            &PLAIN,
             1,
             Status::ReadFault(Role::Source),
             b"read fault source\n",
         ),
+        (five, b"", &PLAIN, 3, Status::WriteFault, b"write fault\n"),
         (
-            FIVE,
-            "compile",
-            "five.c",
-            2,
-            Status::ReadFault(Role::Source),
-            b"read fault source\n",
+            five,
+            b"",
+            &MACHINE,
+            0,
+            Status::Machine { code: 2, field: 1 },
+            b"machine M2 clusters\n",
         ),
         (
-            FIVE,
-            "compile",
-            "five.c",
+            five,
+            b"a =",
+            &MACHINE,
+            0,
+            Status::Machine { code: 1, field: 0 },
+            b"machine M1\n",
+        ),
+        (
+            five,
+            wide.as_bytes(),
+            &MACHINE,
+            0,
+            Status::Machine { code: 3, field: 2 },
+            b"machine M3 issue\n",
+        ),
+        (
+            five,
+            long.as_slice(),
+            &MACHINE,
+            0,
+            Status::Limit {
+                number: 11,
+                count: 65537,
+            },
+            b"limit L11 at 65537\n",
+        ),
+        (
+            five,
+            most.as_slice(),
+            &MACHINE,
+            0,
+            Status::Machine { code: 2, field: 1 },
+            b"machine M2 clusters\n",
+        ),
+        (
+            five,
+            b"",
+            &none,
+            0,
+            Status::NoFile(Role::Machine),
+            b"no file machine\n",
+        ),
+        (
+            five,
+            fine.as_bytes(),
+            &MACHINE,
             3,
+            Status::ReadFault(Role::Machine),
+            b"read fault machine\n",
+        ),
+        (
+            five,
+            fine.as_bytes(),
+            &MACHINE,
+            5,
             Status::WriteFault,
             b"write fault\n",
         ),
     ];
-    for (content, command, source, failing, wanted, line) in rows {
-        let (status, written, err) = call(&rt, content, command, source, failing)?;
+    for (source, machine, words, failing, wanted, line) in rows {
+        let (status, text, err) = call(&rt, source, machine, words, failing)?;
         assert!(rt; status == wanted);
-        assert!(rt; !written);
+        assert!(rt; text.is_empty());
         assert!(rt; err.bytes() == line);
     }
     Ok(())

@@ -1,13 +1,27 @@
--- A source that cannot be read, and one that has no text.
+-- The source was read through before all else, and that changed no file.
+use Rattle.std.proofs.Common.{refl, sym}
+use Rattle.vx_ast.specs.Small.{program_of_main}
 use Rattle.vx_driver.specs.Answers.{effect_of}
-use Rattle.vx_driver.proofs.Answering.{answers_unread}
+use Rattle.vx_driver.proofs.Answering.{compiled_answers, stops_at_source}
 use Rattle.vx_driver.proofs.compile.compile.Goals as goal
 
 pub returns-in-Ok-clause-answers : goal.returns-in-Ok-clause-answers
 returns-in-Ok-clause-answers g c =
-    answers_unread c.args.source.now c.args.out.now c.in-Ok.bytes.items
-    (effect_of g.D.Depot.files g.D.Depot.failed_reads g.D.Depot.failed_replaces c.args.depot.now c.read_source.new.depot) c.in-Err-text_of_source.status
-    c.in-Ok.ensures.content c.in-Ok.ensures.same_files (rw c.as_slice.ensures.value at c.in-Err-text_of_source.ensures.refused)
+    let depot = g.D.Depot in
+    let main = c.in-Ok.main in
+    compiled_answers c.args.source.now c.args.out.now _ (program_of_main main.items main.last)
+    (effect_of depot.files depot.failed_reads depot.failed_replaces c.read_through.new.depot c.compile_read.new.depot)
+    (effect_of depot.files depot.failed_reads depot.failed_replaces c.args.depot.now c.compile_read.new.depot)
+    c.compile_read.result
+    (record {
+      before = sym c.in-Ok.ensures.same_files;
+      after = refl;
+      reads = c.in-Ok.ensures.reads_never_fall;
+      reads_after = refl;
+      replaces = c.in-Ok.ensures.replaces_never_fall;
+      replaces_after = refl;
+    })
+    c.in-Ok.ensures.program c.compile_read.ensures.answers
 
-pub returns-clause-answers : goal.returns-clause-answers
-returns-clause-answers g c = c.in-Err.ensures.answers c.args.out.now
+pub returns-in-Err-clause-answers : goal.returns-in-Err-clause-answers
+returns-in-Err-clause-answers g c = stops_at_source _ _ _ _ _ c.in-Err.ensures.answers

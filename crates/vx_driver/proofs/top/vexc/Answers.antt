@@ -1,5 +1,5 @@
 -- The answer excludes all others where nothing fails.
-use Rattle.vx_driver.proofs.Answering.{completes}
+use Rattle.vx_driver.proofs.Completing.{completes}
 use Rattle.vx_driver.proofs.top.vexc.Goals as goal
 
 pub returns-clause-complete : goal.returns-clause-complete

@@ -1,0 +1,43 @@
+-- What words ask for, worked out by hand.
+use Rattle.std.proofs.Common.{◌≡◌, refl, [], ◌∷◌, Some, None, codes}
+use Rattle.clap.proofs.OnLiterals.{clap_on_literals}
+use Rattle.vx_driver.specs.Command.{Compile, compile_app, compile_of, command_of}
+
+plain : command_of (codes "vexc" ∷ codes "compile" ∷ codes "a.c" ∷ codes "b" ∷ []) ≡ Some (Compile (codes "a.c") (codes "b") None)
+unfolding clap_on_literals compile_app compile_of
+plain = refl
+
+with_machine : command_of (codes "vexc" ∷ codes "compile" ∷ codes "--machine" ∷ codes "m" ∷ codes "a.c" ∷ codes "b" ∷ []) ≡ Some (Compile (codes "a.c") (codes "b") (Some (codes "m")))
+unfolding clap_on_literals compile_app compile_of
+with_machine = refl
+
+attached : command_of (codes "vexc" ∷ codes "compile" ∷ codes "a.c" ∷ codes "--machine=m" ∷ codes "b" ∷ []) ≡ Some (Compile (codes "a.c") (codes "b") (Some (codes "m")))
+unfolding clap_on_literals compile_app compile_of
+attached = refl
+
+twice : command_of (codes "vexc" ∷ codes "compile" ∷ codes "--machine=m" ∷ codes "a.c" ∷ codes "b" ∷ codes "--machine=m" ∷ []) ≡ None
+unfolding clap_on_literals compile_app compile_of
+twice = refl
+
+no_out : command_of (codes "vexc" ∷ codes "compile" ∷ codes "a.c" ∷ []) ≡ None
+unfolding clap_on_literals compile_app compile_of
+no_out = refl
+
+too_many : command_of (codes "vexc" ∷ codes "compile" ∷ codes "a.c" ∷ codes "b" ∷ codes "c" ∷ []) ≡ None
+unfolding clap_on_literals compile_app compile_of
+too_many = refl
+
+help : command_of (codes "vexc" ∷ codes "compile" ∷ codes "a.c" ∷ codes "b" ∷ codes "--help" ∷ []) ≡ None
+unfolding clap_on_literals compile_app compile_of
+help = refl
+
+unknown : command_of (codes "vexc" ∷ codes "compile" ∷ codes "a.c" ∷ codes "b" ∷ codes "--growth" ∷ codes "1" ∷ []) ≡ None
+unfolding clap_on_literals compile_app compile_of
+unknown = refl
+
+no_machine : command_of (codes "vexc" ∷ codes "compile" ∷ codes "a.c" ∷ codes "b" ∷ codes "--machine" ∷ []) ≡ None
+unfolding clap_on_literals compile_app compile_of
+no_machine = refl
+
+another : command_of (codes "vexc" ∷ codes "run" ∷ codes "a.c" ∷ codes "b" ∷ []) ≡ None
+another = refl

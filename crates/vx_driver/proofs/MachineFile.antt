@@ -1,0 +1,61 @@
+-- What the reading of a description's file says of the machine that it describes.
+use Rattle.std.proofs.Common.{◌≡◌, ◌∙◌, ℕ, Bool, true, false, nat_le, List, length, Option, Some, None, Result, Ok, Err, IfSome, MatchOption, refl, sym, ap, arith}
+use Rattle.std.specs.Prelude.{Vec, ◌≤◌, ◌<◌}
+use Rattle.std.specs.declared.alloc.Global.{Global}
+use Rattle.std.proofs.lemmas.Bool.{leb-true, le-leb}
+use Rattle.vx_base.specs.Outside.{Files}
+use Rattle.vx_base.specs.Reading.{ReadsFile}
+use Rattle.vx_base.specs.declared.reading.FileRead.TheVariants.{Whole, TooLong as FileTooLong}
+use Rattle.vx_isa.specs.Numbers.{Numbers, vex}
+use Rattle.vx_machine.specs.declared.description.MachineFault.TheVariants.{Bad}
+use Rattle.vx_machine.specs.Descriptions.{reading}
+use Rattle.vx_driver.specs.declared.status.Status.{Status}
+use Rattle.vx_driver.specs.declared.status.Status.TheVariants.{Done, Usage, Source, Limit, Machine, NoFile, ReadFault, WriteFault, NoMemory}
+use Rattle.vx_driver.specs.Answers.{most_description_bytes, MachineFound, Is, Refused, TooLong, Missing, found_by, found_in, machine_found, Effect, SameFiles, MachineAnswers, RefusesDescription}
+
+short_found : (content : List ℕ) (found : MachineFound) → length content ≤ most_description_bytes → found_by (reading content) ≡ found → found_in (Some content) ≡ found
+short_found content found le is = rw (le-leb (length content) most_description_bytes le) is
+
+long_found : (content : List ℕ) → most_description_bytes < length content → found_in (Some content) ≡ TooLong
+long_found content more = by (nat_le (length content) most_description_bytes) refl
+  where
+    by : (b : Bool) → nat_le (length content) most_description_bytes ≡ b → found_in (Some content) ≡ TooLong
+    by true is = let le = leb-true (length content) most_description_bytes is in absurd (omega arith)
+    by false is = rw is refl
+
+whole_found : (held : Files) (name : List ℕ) (bytes : Vec ℕ Global) (found : MachineFound) → ReadsFile held name most_description_bytes (Whole bytes) → found_by (reading bytes.items) ≡ found →
+    machine_found held (Some name) ≡ found
+whole_found held name bytes found h is = ap found_in h.holds ∙ short_found h.content found h.answers.1 (ap (λ b. found_by (reading b)) (sym h.answers.0) ∙ is)
+
+found_whole : (b : Option Files) (name : List ℕ) (bytes : Vec ℕ Global) (found : MachineFound) → IfSome b (λ held. ReadsFile held name most_description_bytes (Whole bytes)) →
+    found_by (reading bytes.items) ≡ found → IfSome b (λ held. machine_found held (Some name) ≡ found)
+found_whole None name bytes found h is = tt
+found_whole (Some held) name bytes found h is = whole_found held name bytes found h is
+
+pub described : (b : Option Files) (name : List ℕ) (bytes : Vec ℕ Global) (machine : Numbers) → IfSome b (λ held. ReadsFile held name most_description_bytes (Whole bytes)) →
+    reading bytes.items ≡ Ok machine → IfSome b (λ held. machine_found held (Some name) ≡ Is machine)
+described b name bytes machine h is = found_whole b name bytes (Is machine) h (ap found_by is)
+
+pub undescribed : (name : List ℕ) (bytes : Vec ℕ Global) (e : Effect) (status : Status) → IfSome e.before (λ held. ReadsFile held name most_description_bytes (Whole bytes)) → SameFiles e →
+    RefusesDescription bytes.items status → MachineAnswers (Some name) e status
+undescribed name bytes e Done h same r = absurd r
+undescribed name bytes e Usage h same r = absurd r
+undescribed name bytes e (Source code line column) h same r = absurd r
+undescribed name bytes e (Limit number count) h same r = absurd r
+undescribed name bytes e (Machine code field) h same r = (same, found_whole e.before name bytes (Refused (Bad code field)) h (ap found_by r))
+undescribed name bytes e (NoFile role) h same r = absurd r
+undescribed name bytes e (ReadFault role) h same r = absurd r
+undescribed name bytes e WriteFault h same r = absurd r
+undescribed name bytes e NoMemory h same r = same
+
+pub too_long : (b : Option Files) (name : List ℕ) → IfSome b (λ held. ReadsFile held name most_description_bytes FileTooLong) → IfSome b (λ held. machine_found held (Some name) ≡ TooLong)
+too_long None name h = tt
+too_long (Some held) name h = ap found_in h.holds ∙ long_found h.content h.answers
+
+pub no_description : (b : Option Files) (name : List ℕ) (Rises : Type 0) → MatchOption b Rises (λ held. held name ≡ None) → MatchOption b Rises (λ held. machine_found held (Some name) ≡ Missing)
+no_description None name Rises h = h
+no_description (Some held) name Rises h = ap found_in h
+
+pub default_machine : (b : Option Files) (machine : Numbers) → machine ≡ vex 1 → IfSome b (λ held. machine_found held None ≡ Is machine)
+default_machine None machine is = tt
+default_machine (Some held) machine is = ap Is (sym is)

@@ -1,0 +1,84 @@
+// The words of a command line: the second names the command, and clap reads the others.
+
+ghost use Rattle.std.specs.Prelude.{◌≡◌, ◌≢◌, ◌⊎◌, [], unwrap_or, Some, None, map, option_map, IfOk, IfErr};
+ghost use Rattle.clap.specs.Words.{app_of, first_value, found_of, kind_of};
+ghost use Rattle.clap.specs.declared.error.kind.ErrorKind.TheVariants.{OutOfMemory};
+ghost use Rattle.vx_driver.specs.Command.{Compile, compile_app, compile_of};
+
+use crate::status::Status;
+use clap::error::ErrorKind;
+use clap::{Arg, ArgAction, ArgMatches, Command, Error};
+use std::alloc::{AllocError, Global};
+
+/// The words of `compile`.
+#[derive(Drop)]
+pub(crate) struct CompileWords<'a> {
+    /// The name of the source's file.
+    pub(crate) source: &'a str,
+    /// The name of the output's file.
+    pub(crate) out: &'a str,
+    /// The name of the file with the description of the machine.
+    pub(crate) machine: Option<&'a str>,
+}
+
+/// `compile SRC OUT [--machine M]`.
+fn compile_command<'a>(alloc: Global) -> Result<Command<'a>, AllocError>
+    ensures { IfOk result (λ command. app_of command ≡ compile_app) }
+{
+    let source = Arg::new(alloc, "SRC").action(ArgAction::Set).required(true);
+    let out = Arg::new(alloc, "OUT").action(ArgAction::Set).required(true);
+    let machine = Arg::new(alloc, "machine")
+        .long("machine")
+        .action(ArgAction::Set);
+    Command::new(alloc, "compile")
+        .arg(source)?
+        .arg(out)?
+        .arg(machine)
+}
+
+/// The text at a word that has to be there.
+fn text_at<'a>(found: &ArgMatches<'a>, name: &str) -> &'a str
+    ensures { result.now ≡ unwrap_or (first_value (found_of found.now) name.now) [] }
+{
+    match found.get_str(name) {
+        Some(text) => text,
+        None => "",
+    }
+}
+
+/// What clap finds in the words of `compile`, or the status of its refusal.
+fn read_words<'a>(command: Command<'a>, words: &'a [&'a str]) -> Result<CompileWords<'a>, Status>
+    requires { app_of command ≡ compile_app }
+    ensures asked { IfOk result (λ asked. compile_of (map (λ w. w.now) words.now) ≡ Some (Compile asked.source.now asked.out.now (option_map (λ s. s.now) asked.machine))) }
+    ensures refused { IfErr result (λ status. (status ≡ Status.NoMemory) ⊎ ((status ≡ Status.Usage) × (compile_of (map (λ w. w.now) words.now) ≡ None))) }
+{
+    match command.try_get_matches_from(words) {
+        Ok(found) => Ok(CompileWords {
+            source: text_at(&found, "SRC"),
+            out: text_at(&found, "OUT"),
+            machine: found.get_str("machine"),
+        }),
+        Err(error) => Err(status_of(&error)),
+    }
+}
+
+/// The status of a refusal.
+fn status_of(error: &Error) -> Status
+    ensures { ((kind_of error.now ≡ OutOfMemory) × (result ≡ Status.NoMemory)) ⊎ ((kind_of error.now ≢ OutOfMemory) × (result ≡ Status.Usage)) }
+{
+    match error.kind() {
+        ErrorKind::OutOfMemory => Status::NoMemory,
+        _ => Status::Usage,
+    }
+}
+
+/// What the words of `compile` ask for, the program's name first, or the status of their refusal.
+pub(crate) fn asked_of<'a>(alloc: Global, words: &'a [&'a str]) -> Result<CompileWords<'a>, Status>
+    ensures asked { IfOk result (λ asked. compile_of (map (λ w. w.now) words.now) ≡ Some (Compile asked.source.now asked.out.now (option_map (λ s. s.now) asked.machine))) }
+    ensures refused { IfErr result (λ status. (status ≡ Status.NoMemory) ⊎ ((status ≡ Status.Usage) × (compile_of (map (λ w. w.now) words.now) ≡ None))) }
+{
+    match compile_command(alloc) {
+        Ok(command) => read_words(command, words),
+        Err(_) => Err(Status::NoMemory),
+    }
+}
