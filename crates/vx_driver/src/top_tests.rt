@@ -137,120 +137,106 @@ fn refused_words(rt: HostRuntime) -> Result<(), Fail> {
     Ok(())
 }
 
+/// Whether one call changes no file and answers this status and this line.
+fn is_refused(
+    rt: &HostRuntime,
+    source: &[u8],
+    machine: &[u8],
+    words: &[&str],
+    failing: u64,
+    wanted: Status,
+    line: &[u8],
+) -> Result<bool, Fail> {
+    let (status, text, err) = call(rt, source, machine, words, failing)?;
+    Ok(status == wanted && text.is_empty() && err.bytes() == line)
+}
+
+const SIX: [&str; 4] = ["vexc", "compile", "six.c", "five.vex"];
+
+const NO_MACHINE: [&str; 6] = [
+    "vexc",
+    "compile",
+    "five.c",
+    "--machine=n.toml",
+    "--",
+    "five.vex",
+];
+
 #[test]
-fn refused_files(rt: HostRuntime) -> Result<(), Fail> {
-    let alloc = rt.alloc();
+fn refused_sources(rt: HostRuntime) -> Result<(), Fail> {
+    let five = FIVE.as_bytes();
     let other = Status::Source {
         code: 4,
         line: 1,
         column: 1,
     };
-    let wide = description(alloc, "5", "1")?;
-    let fine = description(alloc, "4", "1")?;
-    let long = vec![in alloc; 35u8; 65537]?;
-    let most = vec![in alloc; 35u8; 65536]?;
-    let six: [&str; 4] = ["vexc", "compile", "six.c", "five.vex"];
-    let none: [&str; 6] = [
-        "vexc",
-        "compile",
-        "five.c",
-        "--machine=n.toml",
-        "--",
-        "five.vex",
-    ];
+    assert!(rt; is_refused(&rt, b"", b"", &MACHINE, 0, other, b"source S4 at 1:1\n")?);
+    let missing = Status::NoFile(Role::Source);
+    assert!(rt; is_refused(&rt, five, b"", &SIX, 0, missing, b"no file source\n")?);
+    let fault = Status::ReadFault(Role::Source);
+    assert!(rt; is_refused(&rt, five, b"", &PLAIN, 1, fault, b"read fault source\n")?);
+    assert!(rt; is_refused(&rt, five, b"", &PLAIN, 2, fault, b"read fault source\n")?);
+    let write = Status::WriteFault;
+    assert!(rt; is_refused(&rt, five, b"", &PLAIN, 3, write, b"write fault\n")?);
+    Ok(())
+}
+
+#[test]
+fn refused_descriptions(rt: HostRuntime) -> Result<(), Fail> {
+    let alloc = rt.alloc();
     let five = FIVE.as_bytes();
-    let rows: [(&[u8], &[u8], &[&str], u64, Status, &[u8]); 12] = [
-        (b"", b"", &MACHINE, 0, other, b"source S4 at 1:1\n"),
-        (
+    let m2 = Status::Machine { code: 2, field: 1 };
+    assert!(rt; is_refused(&rt, five, b"", &MACHINE, 0, m2, b"machine M2 clusters\n")?);
+    let m1 = Status::Machine { code: 1, field: 0 };
+    assert!(rt; is_refused(&rt, five, b"a =", &MACHINE, 0, m1, b"machine M1\n")?);
+    let wide = description(alloc, "5", "1")?;
+    let m3 = Status::Machine { code: 3, field: 2 };
+    let line = b"machine M3 issue\n";
+    assert!(rt; is_refused(&rt, five, wide.as_bytes(), &MACHINE, 0, m3, line)?);
+    let long = vec![in alloc; 35u8; 65537]?;
+    let limit = Status::Limit {
+        number: 11,
+        count: 65537,
+    };
+    let line = b"limit L11 at 65537\n";
+    assert!(rt; is_refused(&rt, five, long.as_slice(), &MACHINE, 0, limit, line)?);
+    let most = vec![in alloc; 35u8; 65536]?;
+    let line = b"machine M2 clusters\n";
+    assert!(rt; is_refused(&rt, five, most.as_slice(), &MACHINE, 0, m2, line)?);
+    Ok(())
+}
+
+#[test]
+fn machine_files(rt: HostRuntime) -> Result<(), Fail> {
+    let alloc = rt.alloc();
+    let five = FIVE.as_bytes();
+    let missing = Status::NoFile(Role::Machine);
+    assert!(rt;
+        is_refused(
+            &rt,
             five,
             b"",
-            &six,
+            &NO_MACHINE,
             0,
-            Status::NoFile(Role::Source),
-            b"no file source\n",
-        ),
-        (
-            five,
-            b"",
-            &PLAIN,
-            1,
-            Status::ReadFault(Role::Source),
-            b"read fault source\n",
-        ),
-        (five, b"", &PLAIN, 3, Status::WriteFault, b"write fault\n"),
-        (
-            five,
-            b"",
-            &MACHINE,
-            0,
-            Status::Machine { code: 2, field: 1 },
-            b"machine M2 clusters\n",
-        ),
-        (
-            five,
-            b"a =",
-            &MACHINE,
-            0,
-            Status::Machine { code: 1, field: 0 },
-            b"machine M1\n",
-        ),
-        (
-            five,
-            wide.as_bytes(),
-            &MACHINE,
-            0,
-            Status::Machine { code: 3, field: 2 },
-            b"machine M3 issue\n",
-        ),
-        (
-            five,
-            long.as_slice(),
-            &MACHINE,
-            0,
-            Status::Limit {
-                number: 11,
-                count: 65537,
-            },
-            b"limit L11 at 65537\n",
-        ),
-        (
-            five,
-            most.as_slice(),
-            &MACHINE,
-            0,
-            Status::Machine { code: 2, field: 1 },
-            b"machine M2 clusters\n",
-        ),
-        (
-            five,
-            b"",
-            &none,
-            0,
-            Status::NoFile(Role::Machine),
-            b"no file machine\n",
-        ),
-        (
-            five,
-            fine.as_bytes(),
-            &MACHINE,
-            3,
-            Status::ReadFault(Role::Machine),
-            b"read fault machine\n",
-        ),
-        (
+            missing,
+            b"no file machine\n"
+        )?
+    );
+    let fine = description(alloc, "4", "1")?;
+    let fault = Status::ReadFault(Role::Machine);
+    let line = b"read fault machine\n";
+    assert!(rt; is_refused(&rt, five, fine.as_bytes(), &MACHINE, 3, fault, line)?);
+    let line = b"write fault\n";
+    assert!(rt;
+        is_refused(
+            &rt,
             five,
             fine.as_bytes(),
             &MACHINE,
             5,
             Status::WriteFault,
-            b"write fault\n",
-        ),
-    ];
-    for (source, machine, words, failing, wanted, line) in rows {
-        let (status, text, err) = call(&rt, source, machine, words, failing)?;
-        assert!(rt; status == wanted);
-        assert!(rt; text.is_empty());
-        assert!(rt; err.bytes() == line);
-    }
+            line
+        )?
+    );
     Ok(())
 }
