@@ -5,3 +5,5 @@ pub mod IndexSteps
 pub mod LiveRoutes
 pub mod ClosingSteps
 pub mod WalkSteps
+pub mod HeaderSteps
+pub mod SoundLeads

@@ -1,9 +1,16 @@
 -- Laws of the definitions, each the clause of a public function.
-use Rattle.std.specs.Prelude.{ℕ, ℤ, List}
+use Rattle.std.specs.Prelude.{◌≡◌, ℕ, ℤ, true, List}
 use Rattle.vx_base.specs.Outcome.{Steady}
 use Rattle.vx_flow.specs.declared.graph.Flow.{Flow}
+use Rattle.vx_flow.specs.declared.graph.Graph.{Graph}
 use Rattle.vx_flow.specs.Meaning.{graph_run}
+use Rattle.vx_flow.specs.Sound.{is_sound}
+use Rattle.vx_flow.specs.Walking.{LeadWithin}
 
 -- with a larger bound what does not go on stays, and the output only grows
 abbrev pub GraphRunIsSteady : Type 0
 GraphRunIsSteady = (flow : Flow) (input : List ℤ) → Steady (graph_run flow input)
+
+-- the exits of a sound graph lead to blocks of it
+abbrev pub SoundLeadsWithin : Type 0
+SoundLeadsWithin = (g : Graph) → is_sound g ≡ true → LeadWithin g

@@ -1,6 +1,7 @@
 -- How the depth-first walk is done without recursion: the path is a list of places, each a block of the path and how many
 -- of its successors were taken.
-use Rattle.std.specs.Prelude.{◌≡◌, ◌↔◌, ◌<◌, ◌+◌, ◌-◌, ℕ, Bool, true, false, if◌then◌else◌, List, [], ◌∷◌, ◌++◌, length, drop, Option, Some, None, slice_set}
+use Rattle.std.specs.Prelude.{◌≡◌, ◌↔◌, ◌==◌, ◌<◌, ◌+◌, ◌-◌, ℕ, Bool, true, false, if◌then◌else◌, List, [], ◌∷◌, ◌++◌, length, drop, Option, Some, None, slice_set}
+use Rattle.std.specs.List.{list_any}
 use Rattle.vx_flow.specs.declared.graph.Graph.{Graph}
 use Rattle.vx_flow.specs.declared.graph.Edge.{Edge}
 use Rattle.vx_flow.specs.declared.walk.Place.{Place}
@@ -69,3 +70,7 @@ pub record Walking (g : Graph) (root : ℕ) (seen on_path : List Bool) (places :
   pub path_seen : (b : ℕ) → IsIn b (path_of [] places) → IsIn b visited
   pub distinct : Distinct (path_of [] places)
   pub completes : (after : List ℕ) (later : List Edge) → Rest g [] (numbers root (length g.blocks - root)) places visited after later → Walks g [] (numbers 0 (length g.blocks)) [] after (back ++ later)
+
+-- the marks are of the blocks, so many, to which edges lead
+abbrev pub MarksTargets : List Bool → List Edge → (blocks : ℕ) → Type 0
+MarksTargets marks edges blocks = (b : ℕ) → b < blocks → is_marked marks b ≡ list_any (λ e. e.to == b) edges

@@ -1,8 +1,9 @@
-// Graphs of blocks: what a graph is, when it is sound, what it does, which values are live in it, and its back edges.
+// Graphs of blocks: what a graph is, when it is sound, what it does, which values are live in it, and its back edges and headers.
 #![tactic(auto)]
 
 mod closing;
 pub mod graph;
+mod header_blocks;
 pub mod laws;
 pub mod live_rows;
 mod liveness;
@@ -13,6 +14,7 @@ mod soundness;
 pub mod trace;
 mod walk;
 
+pub use header_blocks::headers;
 pub use liveness::{live, live_on};
 pub use walk::back_edges;
 

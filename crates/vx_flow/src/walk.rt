@@ -1,4 +1,4 @@
-// The depth-first walk of a graph, without recursion: its back edges and headers. The time is that of the blocks and
+// The depth-first walk of a graph, without recursion: its back edges. The time is that of the blocks and
 // edges. The clauses are those of specs/Walk.antt; specs/Walking.antt says what holds on the way.
 
 ghost use Rattle.std.specs.Prelude.{◌≡◌, ◌<◌, ℕ, true, false, [], ◌∷◌, ◌++◌, if◌then◌else◌, IfOk, IfSome, Some, length, slice_get, slice_set};
