@@ -6,3 +6,6 @@ pub mod SmallReader
 pub mod SmallMeaning
 pub mod Tokens
 pub mod Phrases
+pub mod Syntax
+pub mod SyntaxView
+pub mod Accepted

@@ -4,6 +4,8 @@
 pub mod fault;
 pub mod small;
 pub mod small_tokens;
+pub mod syntax;
 pub mod token;
 pub mod token_laws;
 pub mod tree;
+pub mod typed;
