@@ -1,0 +1,4 @@
+pub mod Forms
+pub mod Linear
+pub mod Followed
+pub mod Steps
