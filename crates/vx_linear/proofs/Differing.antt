@@ -115,8 +115,10 @@ reached {a} {b} {from} {g} (left {t} {ts} {us} {step} {next} f h n more) oa ob =
   where
     all_us : is_before_all t.symbol us ≡ true
     all_us = first_all t.symbol us ob h
+
     l : (k : ℤ) × (pos (unsigned t.factor) ≡ t.factor +ℤ k *ℤ pos (2 ^ 32))
     l = like_unsigned t.factor f
+
     on : g ≡ next → (next ≡ from) ⊎ OddMultiple next (unsigned t.factor) → (g ≡ from) ⊎ Reached (t ∷ ts) us g
     on e (inl k) = inl (e ∙ k)
     on e (inr o) = inr (record {
@@ -125,6 +127,7 @@ reached {a} {b} {from} {g} (left {t} {ts} {us} {step} {next} f h n more) oa ob =
       apart = λ x i j. before_apart x t.symbol (first-true _ _ i);
       gives = λ m. (m, pos 0 -ℤ l.0 *ℤ m, odd_left t.factor (only t.symbol m t.symbol) (sum_at (only t.symbol m) ts) (sum_at (only t.symbol m) us) (pos ((2 * o.0 + 1) * g)) l.0 m (odd_of e o ∙ l.1) (only_self t.symbol m) (no_sum t.symbol m ts (ordered_first t ts oa)) (no_sum t.symbol m us all_us));
     })
+
     by : (g ≡ next) ⊎ Reached ts us g → (g ≡ from) ⊎ Reached (t ∷ ts) us g
     by (inl e) = on e (same_or_odd n)
     by (inr r) = inr (record {
@@ -137,8 +140,10 @@ reached {a} {b} {from} {g} (right {u} {ts} {us} {step} {next} f h n more) oa ob 
   where
     all_ts : is_before_all u.symbol ts ≡ true
     all_ts = first_all u.symbol ts oa h
+
     l : (k : ℤ) × (pos (unsigned u.factor) ≡ u.factor +ℤ k *ℤ pos (2 ^ 32))
     l = like_unsigned u.factor f
+
     on : g ≡ next → (next ≡ from) ⊎ OddMultiple next (unsigned u.factor) → (g ≡ from) ⊎ Reached ts (u ∷ us) g
     on e (inl k) = inl (e ∙ k)
     on e (inr o) = inr (record {
@@ -147,6 +152,7 @@ reached {a} {b} {from} {g} (right {u} {ts} {us} {step} {next} f h n more) oa ob 
       apart = λ x i j. before_apart x u.symbol (first-true _ _ j);
       gives = λ m. (pos 0 -ℤ m, pos 0 -ℤ l.0 *ℤ m, odd_right u.factor (only u.symbol (pos 0 -ℤ m) u.symbol) (sum_at (only u.symbol (pos 0 -ℤ m)) ts) (sum_at (only u.symbol (pos 0 -ℤ m)) us) (pos ((2 * o.0 + 1) * g)) l.0 m (odd_of e o ∙ l.1) (only_self u.symbol (pos 0 -ℤ m)) (no_sum u.symbol (pos 0 -ℤ m) ts all_ts) (no_sum u.symbol (pos 0 -ℤ m) us (ordered_first u us ob)));
     })
+
     by : (g ≡ next) ⊎ Reached ts us g → (g ≡ from) ⊎ Reached ts (u ∷ us) g
     by (inl e) = on e (same_or_odd n)
     by (inr r) = inr (record {
@@ -159,19 +165,27 @@ reached {a} {b} {from} {g} (both {t} {u} {ts} {us} {step} {next} h n more) oa ob
   where
     l : (k : ℤ) × (pos (unsigned (difference_of t.factor u.factor)) ≡ (t.factor -ℤ u.factor) +ℤ k *ℤ pos (2 ^ 32))
     l = like_difference t.factor u.factor
+
     all_us : is_before_all t.symbol us ≡ true
     all_us = same_before_all t.symbol u.symbol us h (ordered_first u us ob)
+
     same_at : (s : Symbol → ℤ) → s t.symbol ≡ s u.symbol
     same_at s = ap s (same_is t.symbol u.symbol h)
+
     on : g ≡ next → (next ≡ from) ⊎ OddMultiple next (unsigned (difference_of t.factor u.factor)) → (g ≡ from) ⊎ Reached (t ∷ ts) (u ∷ us) g
     on e (inl k) = inl (e ∙ k)
     on e (inr o) = inr (record {
       symbol = t.symbol;
       odd = o.0;
       apart = λ x i j. before_apart x t.symbol (first-true _ _ i);
-      gives = λ m. (m, pos 0 -ℤ l.0 *ℤ m, odd_both t.factor u.factor (only t.symbol m t.symbol) (sum_at (only t.symbol m) ts) (sum_at (only t.symbol m) us) (pos ((2 * o.0 + 1) * g)) l.0 m (odd_of e o ∙ l.1) (only_self t.symbol m) (no_sum t.symbol m ts (ordered_first t ts oa)) (no_sum t.symbol m us all_us)
-        ∙ ap (λ x. (u.factor *ℤ x +ℤ sum_at (only t.symbol m) us) +ℤ pos ((2 * o.0 + 1) * g) *ℤ m +ℤ (pos 0 -ℤ l.0 *ℤ m) *ℤ pos (2 ^ 32)) (same_at (only t.symbol m)));
+      gives = λ m. (
+        m,
+        pos 0 -ℤ l.0 *ℤ m,
+        odd_both t.factor u.factor (only t.symbol m t.symbol) (sum_at (only t.symbol m) ts) (sum_at (only t.symbol m) us) (pos ((2 * o.0 + 1) * g)) l.0 m (odd_of e o ∙ l.1) (only_self t.symbol m) (no_sum t.symbol m ts (ordered_first t ts oa)) (no_sum t.symbol m us all_us)
+            ∙ ap (λ x. (u.factor *ℤ x +ℤ sum_at (only t.symbol m) us) +ℤ pos ((2 * o.0 + 1) * g) *ℤ m +ℤ (pos 0 -ℤ l.0 *ℤ m) *ℤ pos (2 ^ 32)) (same_at (only t.symbol m)),
+      );
     })
+
     by : (g ≡ next) ⊎ Reached ts us g → (g ≡ from) ⊎ Reached (t ∷ ts) (u ∷ us) g
     by (inl e) = on e (same_or_odd n)
     by (inr r) = inr (record {
@@ -179,5 +193,5 @@ reached {a} {b} {from} {g} (both {t} {u} {ts} {us} {step} {next} h n more) oa ob
       odd = r.odd;
       apart = λ x i j. r.apart x (second-true _ _ i) (second-true _ _ j);
       gives = λ m. let e = r.gives m in let zero_there = only_other r.symbol t.symbol e.0 (r.apart t.symbol (ordered_first t ts oa) all_us) in
-        (e.0, e.1, none_both t.factor u.factor (only r.symbol e.0 t.symbol) (only r.symbol e.0 u.symbol) (sum_at (only r.symbol e.0) ts) (sum_at (only r.symbol e.0) us) (pos ((2 * r.odd + 1) * g) *ℤ m) (e.1 *ℤ pos (2 ^ 32)) zero_there (sym (same_at (only r.symbol e.0)) ∙ zero_there) e.2);
+          (e.0, e.1, none_both t.factor u.factor (only r.symbol e.0 t.symbol) (only r.symbol e.0 u.symbol) (sum_at (only r.symbol e.0) ts) (sum_at (only r.symbol e.0) us) (pos ((2 * r.odd + 1) * g) *ℤ m) (e.1 *ℤ pos (2 ^ 32)) zero_there (sym (same_at (only r.symbol e.0)) ∙ zero_there) e.2);
     })

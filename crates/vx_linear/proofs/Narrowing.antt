@@ -30,6 +30,7 @@ same_or_odd {n} {step} {g} (halves h s e more) = by (same_or_odd more)
         let all : n ≡ p * step = d ∙ ap (λ x. x * g) twice ∙ omega arith ∙ ap (λ x. p * (2 * x)) k ∙ ap (λ x. p * x) (sym s) in
         absurd (e (ap (λ x. x % step) all ∙ mul-mod_left p step))
     on q d k (inr (p, odd)) = inr (p, d ∙ ap (λ x. x * g) odd)
+
     by : (g ≡ h) ⊎ OddMultiple g n → (g ≡ step) ⊎ OddMultiple g n
     by (inl k) = let d = divides_number more in on d.0 d.1 k (even_or_odd d.0)
     by (inr odd) = inr odd

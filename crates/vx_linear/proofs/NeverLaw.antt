@@ -43,9 +43,9 @@ module _ (a b : Form) (g : ℕ) (steps : Steps a.terms b.terms (2 ^ 30) g) where
 
   pub never_by : (apart % g ≡ 0 → ⊥) → NeverSame a b
   never_by no_multiple = inr (λ s m.
-    let l = like_difference a.constant b.constant in
-    let k = sums_differ steps whole_word s in
-    no_multiple (no_remainder apart g ((m.multiple +ℤ l.0 *ℤ pos 4) *ℤ pos whole.0 -ℤ k.0)
+      let l = like_difference a.constant b.constant in
+      let k = sums_differ steps whole_word s in
+      no_multiple (no_remainder apart g ((m.multiple +ℤ l.0 *ℤ pos 4) *ℤ pos whole.0 -ℤ k.0)
       (meets_at_multiple a.constant b.constant (sum_at s a.terms) (sum_at s b.terms) k.0 m.multiple l.0 (pos g) (pos whole.0) (pos apart) l.1 k.1 m.equal (ap pos whole.1 ∙ sym (pos-*ℤ-pos whole.0 g)))))
 
   -- no symbol is needed where the power of 2 is 2 ^ 30
@@ -64,21 +64,25 @@ module _ (a b : Form) (g : ℕ) (steps : Steps a.terms b.terms (2 ^ 30) g) where
     where
       l : (k : ℤ) × (pos apart ≡ (a.constant -ℤ b.constant) +ℤ k *ℤ pos (2 ^ 32))
       l = like_difference a.constant b.constant
+
       q : ℕ
       q = apart / g
+
       on : Inverse (2 * r.odd + 1) 30 → (s : Symbol → ℤ) × Meet s a b
       on i =
-        let m = pos 0 -ℤ pos (q * i.inverse) in
-        let e = r.gives m in
-        let parts : apart ≡ q * g = omega (arith, div-add-mod' apart g, h) in
-        let big : ((2 * r.odd + 1) * g) * (q * i.inverse) ≡ apart + (q * g * i.rest) * 2 ^ 30 =
+          let m = pos 0 -ℤ pos (q * i.inverse) in
+          let e = r.gives m in
+          let parts : apart ≡ q * g = omega (arith, div-add-mod' apart g, h) in
+          let big : ((2 * r.odd + 1) * g) * (q * i.inverse) ≡ apart + (q * g * i.rest) * 2 ^ 30 =
           omega (arith, parts, ap (λ x. q * g * x) i.is) in
-        let product : pos ((2 * r.odd + 1) * g) *ℤ m ≡ pos 0 -ℤ pos (apart + (q * g * i.rest) * 2 ^ 30) =
-          omega (arith, ints, *ℤ_comm (pos ((2 * r.odd + 1) * g)) m, subtract_times (pos 0) (pos (q * i.inverse)) (pos ((2 * r.odd + 1) * g)), pos-*ℤ-pos (q * i.inverse) ((2 * r.odd + 1) * g), big) in
-        (only r.symbol e.0, record {
-          multiple = (e.1 -ℤ l.0) *ℤ pos 4 -ℤ pos (q * g * i.rest);
-          equal = made_up a.constant b.constant (sum_at (only r.symbol e.0) a.terms) (sum_at (only r.symbol e.0) b.terms) l.0 e.1 (pos ((2 * r.odd + 1) * g) *ℤ m) apart (q * g * i.rest) l.1 e.2 product;
-        })
+          let product : pos ((2 * r.odd + 1) * g) *ℤ m ≡ pos 0 -ℤ pos (apart + (q * g * i.rest) * 2 ^ 30) =
+          omega (arith, ints, *ℤ_comm (pos ((2 * r.odd + 1) * g)) m, subtract_times (pos 0) (pos (q * i.inverse)) (pos ((2 * r.odd + 1) * g)), pos-*ℤ-pos (q * i.inverse) ((2 * r.odd + 1) * g), big) in (
+            only r.symbol e.0,
+            record {
+              multiple = (e.1 -ℤ l.0) *ℤ pos 4 -ℤ pos (q * g * i.rest);
+              equal = made_up a.constant b.constant (sum_at (only r.symbol e.0) a.terms) (sum_at (only r.symbol e.0) b.terms) l.0 e.1 (pos ((2 * r.odd + 1) * g) *ℤ m) apart (q * g * i.rest) l.1 e.2 product;
+            },
+          )
 
   pub not_never_by : is_ordered a.terms ≡ true → is_ordered b.terms ≡ true → a.array.named ≡ b.array.named → apart % g ≡ 0 → NeverSame a b → ⊥
   not_never_by oa ob same h (inl two) = two same

@@ -48,7 +48,8 @@ impl Symbol {
     pub fn is_before(&self, other: &Symbol) -> bool
         ensures { result ≡ is_before self.now other.now }
     {
-        self.kind() < other.kind() || (self.kind() == other.kind() && self.number() < other.number())
+        self.kind() < other.kind()
+            || (self.kind() == other.kind() && self.number() < other.number())
     }
 
     /// Whether it is the same.

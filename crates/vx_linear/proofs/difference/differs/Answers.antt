@@ -1,7 +1,7 @@
 use Rattle.std.proofs.Common.{◌≡◌, ◌%◌, sym, ◌∙◌, ap}
 use Rattle.std.proofs.lemmas.Bool.{true≢false}
 use Rattle.vx_linear.proofs.Equal.{equal_never, equal_always, divided_never, divided_always, left_never, left_always, steps_of, nat_is, nat_self}
-use Rattle.vx_linear.proofs.differs.differs.Goals as goal
+use Rattle.vx_linear.proofs.difference.differs.Goals as goal
 
 pub returns-then-are_equal-clause-never : goal.returns-then-are_equal-clause-never
 returns-then-are_equal-clause-never c = equal_never c.args.left.now c.args.right.now c.if-left-right.false (sym c.are_equal.ensures ∙ c.if-are_equal.true)

@@ -1,7 +1,7 @@
 use Rattle.std.proofs.Common.{rules, ◌≡◌, ◌/◌, ◌%◌, ◌*◌, ◌<◌, arith, sym, ◌∙◌, subst, ap}
 use Rattle.vx_linear.specs.Steps.{IsStep, Narrows, stays, halves}
 use Rattle.vx_linear.proofs.Narrowing.{HasHalf, has_half, half_is, step_above}
-use Rattle.vx_linear.proofs.differs.+narrowed.Goals as goal
+use Rattle.vx_linear.proofs.difference.+narrowed.Goals as goal
 
 pub narrowed-requires : goal.narrowed-requires
 narrowed-requires t c =

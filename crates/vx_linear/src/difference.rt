@@ -39,7 +39,8 @@ pub fn differs(left: &Form, right: &Form) -> Answer
 fn are_equal(left: &Form, right: &Form) -> bool
     ensures { result ≡ (int_eq left.now.constant right.now.constant && same_terms left.now.terms right.now.terms) }
 {
-    left.constant == right.constant && have_equal_terms(left.terms.as_slice(), right.terms.as_slice())
+    left.constant == right.constant
+        && have_equal_terms(left.terms.as_slice(), right.terms.as_slice())
 }
 
 fn have_equal_terms(left: &[Term], right: &[Term]) -> bool

@@ -1,7 +1,7 @@
 use Rattle.std.proofs.Common.{rules, ◌≡◌, sym, ◌∙◌, List, ◌∷◌, length}
 use Rattle.vx_linear.specs.declared.form.Term.{Term}
 use Rattle.vx_linear.proofs.Merging.{first_step, at_left, at_right, at_both, at_end, before_none, before_one, before_back, empty_of}
-use Rattle.vx_linear.proofs.differs.step_between.Goals as goal
+use Rattle.vx_linear.proofs.difference.step_between.Goals as goal
 
 pub merge-init : goal.merge-init
 merge-init c = (first_step, λ g s. s)
