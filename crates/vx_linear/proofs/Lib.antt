@@ -6,3 +6,4 @@ pub mod Differing
 pub mod NeverLaw
 pub mod Equal
 pub mod Merging
+pub mod Writing

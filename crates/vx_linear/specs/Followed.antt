@@ -4,7 +4,7 @@
 use Rattle.std.specs.Prelude.{ℕ, zero, suc, ℤ, pos, ◌+◌, ◌*◌, ◌/◌, ◌%◌, ◌^◌, Bool, true, false, ◌&&◌, not, nat_eq, if◌then◌else◌, Option, Some, None, List, [], ◌∷◌, ◌++◌, map, length, slice_get}
 use Rattle.std.specs.List.{list_any}
 use Rattle.std.specs.Ordering.{int_eq}
-use Rattle.vx_base.specs.Arithmetic.{wrap, unsigned, shift_by, quotient_of}
+use Rattle.vx_base.specs.Arithmetic.{quotient_of, value_of}
 use Rattle.vx_base.specs.declared.arithmetic.Code.{Code}
 use Rattle.vx_base.specs.declared.arithmetic.Code.TheVariants.{Add, Sub, Shl, Mov, Mpylu, Mpyhs}
 use Rattle.vx_flow.specs.declared.graph.Operand.{Operand}
@@ -19,7 +19,11 @@ use Rattle.vx_flow.specs.Effects.{writes}
 use Rattle.vx_linear.specs.declared.form.Symbol.{Symbol}
 use Rattle.vx_linear.specs.declared.form.Symbol.TheVariants.{Entry, Made, EntryPlace, MadePlace}
 use Rattle.vx_linear.specs.declared.form.Form.{Form}
-use Rattle.vx_linear.specs.Linear.{Linear, constant, symbol, plus, minus, times, same}
+use Rattle.vx_linear.specs.declared.linear.Linear.{Linear}
+use Rattle.vx_linear.specs.declared.follow.Factor.{Factor}
+use Rattle.vx_linear.specs.declared.follow.Half.{Half}
+use Rattle.vx_linear.specs.declared.follow.Known.{Known}
+use Rattle.vx_linear.specs.Linear.{constant, symbol, plus, minus, times, same}
 
 -- what stands above a place of a trace, the nearest first: operations with their places, and joins
 pub data Above : Type 0 where
@@ -42,22 +46,6 @@ abbrev pub made_or_entry_place : List Above → ℕ → Symbol
 made_or_entry_place [] v = EntryPlace v
 made_or_entry_place (Joined ∷ above) v = made_or_entry_place above v
 made_or_entry_place (At i op ∷ above) v = if writes_it v op then MadePlace i else made_or_entry_place above v
-
--- an operand of a half multiplication: its form, and the number that it is, if it is one
-pub record Factor : Type 0 where
-  pub number : Option ℤ
-  pub linear : Linear
-
--- a half multiplication, by the high or the low half of its right operand
-pub record Half : Type 0 where
-  pub is_high : Bool
-  pub left : Factor
-  pub right : Factor
-
--- what is known of a value: its form, and the half multiplication that made it, if one did
-pub record Known : Type 0 where
-  pub linear : Linear
-  pub half : Option Half
 
 abbrev pub plain : Linear → Known
 plain a = record { linear = a; half = None }
@@ -93,41 +81,33 @@ product_or (Some h) None sum = sum
 product_or (Some h) (Some k) sum =
     if are_halves h k then by_number (common h.left.number k.left.number) (common h.right.number k.right.number) h sum else sum
 
-abbrev pub times_or : Option ℤ → (ℤ → ℤ) → Linear → Linear → Linear
-times_or None by a other = other
-times_or (Some n) by a other = times (by n) a
+-- by a number: times what the operation makes of 1 and the number
+abbrev pub times_or : Option ℤ → Code → Linear → Linear → Linear
+times_or None code a other = other
+times_or (Some n) code a other = times (value_of code (pos 1) n) a
 
-abbrev pub low_half : ℤ → ℤ
-low_half n = pos (unsigned n % 2 ^ 16)
-
-abbrev pub high_half : ℤ → ℤ
-high_half n = wrap (pos (unsigned n / 2 ^ 16 * 2 ^ 16))
-
-abbrev pub power_of : ℤ → ℤ
-power_of n = wrap (pos (2 ^ shift_by n))
-
-abbrev pub half : Bool → (ℤ → ℤ) → ℕ → (Operand → Known) → Operand → Operand → Known
-half is_high by i known a b = record {
-  linear = times_or (number_in b) by (known a).linear (symbol (Made i));
+abbrev pub by_half : Bool → ℕ → Code → Operand → Operand → Known → Known → Known
+by_half is_high i code a b x y = record {
+  linear = times_or (number_in b) code x.linear (symbol (Made i));
   half = Some (record {
     is_high = is_high;
-    left = record { number = number_in a; linear = (known a).linear };
-    right = record { number = number_in b; linear = (known b).linear };
+    left = record { number = number_in a; linear = x.linear };
+    right = record { number = number_in b; linear = y.linear };
   });
 }
 
--- the value that the operation at place i makes, by what is known of its operands
-abbrev pub computed : ℕ → Code → (Operand → Known) → Operand → Operand → Known
-computed i Add known a b = plain (product_or (known a).half (known b).half (plus (known a).linear (known b).linear))
-computed i Sub known a b = plain (minus (known a).linear (known b).linear)
-computed i Mov known a b = plain (known a).linear
-computed i Shl known a b = plain (times_or (number_in b) power_of (known a).linear (symbol (Made i)))
-computed i Mpylu known a b = half false low_half i known a b
-computed i Mpyhs known a b = half true high_half i known a b
-computed i code known a b = plain (symbol (Made i))
+-- the value that the operation at place i makes of two operands, by what is known of them
+abbrev pub computed : ℕ → Code → Operand → Operand → Known → Known → Known
+computed i Add a b x y = plain (product_or x.half y.half (plus x.linear y.linear))
+computed i Sub a b x y = plain (minus x.linear y.linear)
+computed i Mov a b x y = plain x.linear
+computed i Shl a b x y = plain (times_or (number_in b) Shl x.linear (symbol (Made i)))
+computed i Mpylu a b x y = by_half false i Mpylu a b x y
+computed i Mpyhs a b x y = by_half true i Mpyhs a b x y
+computed i code a b x y = plain (symbol (Made i))
 
 abbrev pub made : ℕ → TraceOp → (Operand → Known) → Known
-made i (Plain (Compute code v a b)) known = computed i code known a b
+made i (Plain (Compute code v a b)) known = computed i code a b (known a) (known b)
 made i op known = plain (symbol (Made i))
 
 -- what is known of an operand below what stands above. No graph has the stack pointer as an operand
@@ -170,16 +150,20 @@ above_of t zero = join_at (is_join t 0) []
 above_of t (suc i) = join_at (is_join t (suc i)) (at_place i (slice_get t.ops i) (above_of t i))
 
 -- the array of an access is told apart by its number in the function
-abbrev pub array_of : Trace → ℕ → Option Array → Array
-array_of t a None = record { words = 0; global = false; named = a }
-array_of t a (Some array) = record array { named = a }
+abbrev pub array_of : ℕ → Option Array → Array
+array_of a None = record { words = 0; global = false; named = a }
+array_of a (Some array) = record { words = array.words; global = array.global; named = a }
 
 abbrev pub form_with : Array → Linear → Form
 form_with array a = record { array = array; constant = a.constant; terms = a.terms }
 
+-- of the operation at place i, which names the array at p
+abbrev pub access_form : Trace → ℕ → ℕ → Operand → Form
+access_form t i a p = form_with (array_of a (slice_get t.arrays a)) (index_of (above_of t i) p)
+
 abbrev pub form_at : Trace → ℕ → TraceOp → Option Form
-form_at t i (Plain (Load v a p dismissible)) = Some (form_with (array_of t a (slice_get t.arrays a)) (index_of (above_of t i) p))
-form_at t i (Plain (Store a p x)) = Some (form_with (array_of t a (slice_get t.arrays a)) (index_of (above_of t i) p))
+form_at t i (Plain (Load v a p dismissible)) = Some (access_form t i a p)
+form_at t i (Plain (Store a p x)) = Some (access_form t i a p)
 form_at t i op = None
 
 -- the forms of the loads and stores, by their places

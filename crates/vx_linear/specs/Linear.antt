@@ -1,14 +1,11 @@
 -- Sums of symbols with factors, modulo 2 ^ 32.
-use Rattle.std.specs.Prelude.{ℕ, ℤ, pos, ◌^◌, ◌+◌, ◌*◌, ◌+ℤ◌, ◌*ℤ◌, Bool, true, false, ◌&&◌, not, nat_lt, nat_eq, if◌then◌else◌, List, [], ◌∷◌}
+use Rattle.std.specs.Prelude.{ℕ, ℤ, pos, negsuc, ◌^◌, ◌+◌, ◌*◌, ◌+ℤ◌, ◌*ℤ◌, Bool, true, false, ◌&&◌, not, nat_lt, nat_eq, if◌then◌else◌, List, [], ◌∷◌}
 use Rattle.std.specs.Ordering.{int_eq}
-use Rattle.vx_base.specs.Arithmetic.{sum_of, difference_of, product_of}
+use Rattle.vx_base.specs.Arithmetic.{sum_of, product_of}
 use Rattle.vx_linear.specs.declared.form.Symbol.{Symbol}
 use Rattle.vx_linear.specs.declared.form.Term.{Term}
+use Rattle.vx_linear.specs.declared.linear.Linear.{Linear}
 use Rattle.vx_linear.specs.Forms.{is_before, is_same}
-
-pub record Linear : Type 0 where
-  pub constant : ℤ
-  pub terms : List Term
 
 abbrev pub constant : ℤ → Linear
 constant n = record { constant = n; terms = [] }
@@ -31,7 +28,7 @@ with_term t (u ∷ us) =
 
 abbrev pub with_terms : List Term → List Term → List Term
 with_terms [] us = us
-with_terms (t ∷ ts) us = with_term t (with_terms ts us)
+with_terms (t ∷ ts) us = with_terms ts (with_term t us)
 
 -- each factor times a number; those that become 0 are left out
 abbrev pub scaled : ℤ → List Term → List Term
@@ -45,7 +42,7 @@ abbrev pub times : ℤ → Linear → Linear
 times n a = record { constant = product_of n a.constant; terms = scaled n a.terms }
 
 abbrev pub minus : Linear → Linear → Linear
-minus a b = plus a (times (difference_of (pos 0) (pos 1)) b)
+minus a b = plus a (times (negsuc 0) b)
 
 -- whether two are equal
 

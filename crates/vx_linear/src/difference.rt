@@ -5,11 +5,12 @@
 ghost use Rattle.std.specs.Prelude.{◌≡◌, ◌↔◌, ◌^◌, ◌%◌, ◌&&◌, true, nat_eq};
 ghost use Rattle.std.specs.Ordering.{int_eq};
 ghost use Rattle.vx_base.specs.Arithmetic.{IsNumber, unsigned, difference_of};
-ghost use Rattle.vx_linear.specs.Forms.{NeverSame, AlwaysSame, is_ordered, is_same};
+ghost use Rattle.vx_linear.specs.Forms.{NeverSame, AlwaysSame, is_ordered};
 ghost use Rattle.vx_linear.specs.Linear.{same_terms};
 ghost use Rattle.vx_linear.specs.Steps.{IsStep, Narrows, Steps};
 
 use crate::form::{Answer, Form, Term};
+use crate::linear::have_equal_terms;
 use vx_base::arithmetic::sub32;
 
 /// Whether two accesses name one word: never, exactly where their arrays are two or no numbers of the symbols make both
@@ -41,32 +42,6 @@ fn are_equal(left: &Form, right: &Form) -> bool
 {
     left.constant == right.constant
         && have_equal_terms(left.terms.as_slice(), right.terms.as_slice())
-}
-
-fn have_equal_terms(left: &[Term], right: &[Term]) -> bool
-    ensures { result ≡ same_terms left.now right.now }
-{
-    let mut to_left = left;
-    let mut to_right = right;
-    'compare: loop {
-        match (to_left.split_first(), to_right.split_first()) {
-            (None, None) => return true,
-            (Some((first, left_rest)), Some((second, right_rest))) => {
-                if !is_equal(first, second) {
-                    return false;
-                }
-                to_left = left_rest;
-                to_right = right_rest;
-            }
-            _ => return false,
-        }
-    }
-}
-
-fn is_equal(first: &Term, second: &Term) -> bool
-    ensures { result ≡ (is_same first.now.symbol second.now.symbol && int_eq first.now.factor second.now.factor) }
-{
-    first.symbol.is_same(&second.symbol) && first.factor == second.factor
 }
 
 /// The greatest power of 2 that divides 2^30 and each factor of the difference of two rows of terms.

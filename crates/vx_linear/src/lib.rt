@@ -3,9 +3,15 @@
 #![tactic(auto)]
 
 mod difference;
+mod follow;
+mod following;
 pub mod form;
+mod linear;
 
 pub use difference::differs;
+pub use following::forms;
 
+#[cfg(test)]
+mod form_tests;
 #[cfg(test)]
 mod tests;
