@@ -85,13 +85,19 @@ fn ops() -> [Op; 7] {
     ]
 }
 
-fn is_form(form: &Option<Form>, constant: i32, symbol: Symbol, factor: i32) -> bool {
-    match form {
-        Some(form) => {
+fn is_form(
+    forms: &[Option<Form>],
+    place: usize,
+    constant: i32,
+    symbol: Symbol,
+    factor: i32,
+) -> bool {
+    match forms.get(place) {
+        Some(Some(form)) => {
             form.constant == constant
                 && form.terms.as_slice() == [Term { symbol, factor }].as_slice()
         }
-        None => false,
+        _ => false,
     }
 }
 
@@ -102,8 +108,11 @@ fn follows_what_is_above(rt: HostRuntime) -> Result<(), Fail> {
     let trace = trace(alloc, &ops(), None)?;
     let forms = forms(alloc, &trace)?;
     assert_eq!(rt; forms.len(), 7);
-    assert!(rt; forms.as_slice()[5].is_none());
-    assert!(rt; is_form(&forms.as_slice()[6], 40, Symbol::Entry(1), 40));
+    match forms.as_slice().get(5) {
+        Some(None) => (),
+        _ => assert!(rt; false),
+    }
+    assert!(rt; is_form(forms.as_slice(), 6, 40, Symbol::Entry(1), 40));
     Ok(())
 }
 
@@ -113,10 +122,10 @@ fn stops_at_joins(rt: HostRuntime) -> Result<(), Fail> {
     let alloc = rt.alloc();
     let above = trace(alloc, &ops(), Some(1))?;
     let forms_below = forms(alloc, &above)?;
-    assert!(rt; is_form(&forms_below.as_slice()[6], 0, Symbol::Made(0), 40));
+    assert!(rt; is_form(forms_below.as_slice(), 6, 0, Symbol::Made(0), 40));
     let last = trace(alloc, &ops(), Some(6))?;
     let forms_last = forms(alloc, &last)?;
-    assert!(rt; is_form(&forms_last.as_slice()[6], 0, Symbol::MadePlace(5), 1));
+    assert!(rt; is_form(forms_last.as_slice(), 6, 0, Symbol::MadePlace(5), 1));
     Ok(())
 }
 
@@ -131,13 +140,13 @@ fn places_from_outside(rt: HostRuntime) -> Result<(), Fail> {
     };
     let trace = trace(alloc, &[load(5, 3), store], None)?;
     let forms = forms(alloc, &trace)?;
-    assert!(rt; is_form(&forms.as_slice()[0], 0, Symbol::EntryPlace(3), 1));
-    match &forms.as_slice()[1] {
-        Some(form) => {
+    assert!(rt; is_form(forms.as_slice(), 0, 0, Symbol::EntryPlace(3), 1));
+    match forms.as_slice().get(1) {
+        Some(Some(form)) => {
             assert_eq!(rt; form.constant, 6);
             assert!(rt; form.terms.is_empty());
         }
-        None => assert!(rt; false),
+        _ => assert!(rt; false),
     }
     Ok(())
 }
