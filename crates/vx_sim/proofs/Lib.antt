@@ -1,0 +1,14 @@
+pub mod Inputs
+pub mod Flying
+pub mod Issuing
+pub mod Starting
+pub mod Elsewhere
+pub mod Passing
+pub mod Running
+pub mod Links
+pub mod Operations
+pub mod Printing
+pub mod Naming
+pub mod Taking
+pub mod SoFar
+pub mod Showing

@@ -1,0 +1,158 @@
+-- What a sound program says of one of its words.
+use Rattle.std.proofs.Common.{◌≡◌, ℕ, zero, suc, ◌≤◌, ◌<◌, Bool, true, false, ◌&&◌, not, if◌then◌else◌, Some, None, List, [], ◌∷◌, length, slice_get, get_or, refl, sym, ap, ◌∙◌, arith}
+use Rattle.std.specs.List.{list_all, list_any}
+use Rattle.vx_base.specs.declared.arithmetic.Code.{Code}
+use Rattle.vx_base.specs.declared.arithmetic.Code.TheVariants.{Add, Sub, And, Or, Xor, Shl, Shr, Shru, Sh2add, Max, Min, Mov, ToGeneral, ToBranch, Mpylu, Mpyhs, Div, Rem}
+use Rattle.vx_base.specs.declared.outcome.Reason.TheVariants.{BadWord, Overfull, BadAddress, NoInputLeft}
+use Rattle.vx_isa.specs.declared.operation.Register.{Register}
+use Rattle.vx_isa.specs.declared.operation.Register.TheVariants.{General, Branch, Link}
+use Rattle.vx_isa.specs.declared.operation.Operation.{Operation}
+use Rattle.vx_isa.specs.declared.operation.Operation.TheVariants.{Compute, Move, Select, Load, Store, Input, More, OutText, OutDecimal, OutByte, Goto, BranchOn, Call, Return, FromLink, ToLink, EndByTrap, Halt}
+use Rattle.vx_isa.specs.declared.program.Word.{Word}
+use Rattle.vx_isa.specs.declared.program.WordProgram.{WordProgram}
+use Rattle.vx_isa.specs.Numbers.{Numbers}
+use Rattle.vx_isa.specs.Fits.{is_bad_word, fits}
+use Rattle.vx_isa.specs.Sound.{can_name, can_name_branch, can_spell, is_destination, is_sound_operation, is_sound_word, is_sound}
+use Rattle.vx_isa.specs.Machine.{State, has_bad_address, takes_input, is_left, stuck_by}
+use Rattle.vx_sim.specs.Named.{is_register, names_register}
+use Rattle.vx_sim.specs.Room.{widest}
+
+and_left : (a b : Bool) → (a && b) ≡ true → a ≡ true
+and_left true b e = refl
+and_left false b e = e
+
+and_right : (a b : Bool) → (a && b) ≡ true → b ≡ true
+and_right true b e = e
+and_right false b e = absurd (cc)
+
+and_true : (a : Bool) → a ≡ true → (a && true) ≡ true
+and_true a e = ap (λ b. b && true) e
+
+-- the destination of a sound computation
+named_by : (code : Code) (to : Register) → is_destination code to ≡ true → is_register to ≡ true
+named_by Mov to e = absurd (cc)
+named_by (ToBranch c) (General r) e = absurd (cc)
+named_by (ToBranch c) (Branch r) e = e
+named_by (ToBranch c) Link e = absurd (cc)
+named_by Add (General r) e = e
+named_by Add (Branch r) e = absurd (cc)
+named_by Add Link e = absurd (cc)
+named_by Sub (General r) e = e
+named_by Sub (Branch r) e = absurd (cc)
+named_by Sub Link e = absurd (cc)
+named_by And (General r) e = e
+named_by And (Branch r) e = absurd (cc)
+named_by And Link e = absurd (cc)
+named_by Or (General r) e = e
+named_by Or (Branch r) e = absurd (cc)
+named_by Or Link e = absurd (cc)
+named_by Xor (General r) e = e
+named_by Xor (Branch r) e = absurd (cc)
+named_by Xor Link e = absurd (cc)
+named_by Shl (General r) e = e
+named_by Shl (Branch r) e = absurd (cc)
+named_by Shl Link e = absurd (cc)
+named_by Shr (General r) e = e
+named_by Shr (Branch r) e = absurd (cc)
+named_by Shr Link e = absurd (cc)
+named_by Shru (General r) e = e
+named_by Shru (Branch r) e = absurd (cc)
+named_by Shru Link e = absurd (cc)
+named_by Sh2add (General r) e = e
+named_by Sh2add (Branch r) e = absurd (cc)
+named_by Sh2add Link e = absurd (cc)
+named_by Max (General r) e = e
+named_by Max (Branch r) e = absurd (cc)
+named_by Max Link e = absurd (cc)
+named_by Min (General r) e = e
+named_by Min (Branch r) e = absurd (cc)
+named_by Min Link e = absurd (cc)
+named_by (ToGeneral c) (General r) e = e
+named_by (ToGeneral c) (Branch r) e = absurd (cc)
+named_by (ToGeneral c) Link e = absurd (cc)
+named_by Mpylu (General r) e = e
+named_by Mpylu (Branch r) e = absurd (cc)
+named_by Mpylu Link e = absurd (cc)
+named_by Mpyhs (General r) e = e
+named_by Mpyhs (Branch r) e = absurd (cc)
+named_by Mpyhs Link e = absurd (cc)
+named_by Div (General r) e = e
+named_by Div (Branch r) e = absurd (cc)
+named_by Div Link e = absurd (cc)
+named_by Rem (General r) e = e
+named_by Rem (Branch r) e = absurd (cc)
+named_by Rem Link e = absurd (cc)
+
+-- a sound operation writes a register that a text can name
+names_it : (n t : ℕ) (op : Operation) → is_sound_operation n t op ≡ true → names_register op ≡ true
+names_it n t (Compute k code to a b) e =
+    let e1 = and_left _ (can_spell b) e in
+    let e2 = and_left _ (can_spell a) e1 in
+    and_true (is_register to) (named_by code to (and_right _ _ e2))
+names_it n t (Move k to a) e = let e1 = and_left _ (can_spell a) e in and_true (can_name to) (and_right _ _ e1)
+names_it n t (Select k to u a b) e =
+    let e1 = and_left _ (can_spell b) e in
+    let e2 = and_left _ (can_spell a) e1 in
+    let e3 = and_left _ (can_name_branch u) e2 in
+    and_true (can_name to) (and_right _ _ e3)
+names_it n t (Load k to o r d) e = let e1 = and_left _ (can_name r) e in and_true (can_name to) (and_right _ _ e1)
+names_it n t (Store k o r a) e = refl
+names_it n t (Input to) e = and_true (can_name to) e
+names_it n t (More to) e = and_true (can_name to) e
+names_it n t (OutText k) e = refl
+names_it n t (OutDecimal a) e = refl
+names_it n t (OutByte a) e = refl
+names_it n t (Goto p) e = refl
+names_it n t (BranchOn u w p) e = refl
+names_it n t (Call p) e = refl
+names_it n t Return e = refl
+names_it n t (FromLink to) e = and_true (can_name to) e
+names_it n t (ToLink a) e = refl
+names_it n t (EndByTrap k) e = refl
+names_it n t (Halt a) e = refl
+
+names_all : (n t : ℕ) (ops : List Operation) → list_all (is_sound_operation n t) ops ≡ true → list_all names_register ops ≡ true
+names_all n t [] e = refl
+names_all n t (op ∷ ops) e =
+    let a = names_it n t op (and_left _ (list_all (is_sound_operation n t) ops) e) in
+    let b = names_all n t ops (and_right (is_sound_operation n t op) _ e) in
+    ap (λ x. x && list_all names_register ops) a ∙ b
+
+word_in : (p : Word → Bool) (ws : List Word) (i : ℕ) (word : Word) → list_all p ws ≡ true → slice_get ws i ≡ Some word → p word ≡ true
+word_in p [] i word all e = absurd (cc)
+word_in p (w ∷ ws) zero word all e = let h : w ≡ word = cc in sym (ap p h) ∙ and_left (p w) (list_all p ws) all
+word_in p (w ∷ ws) (suc i) word all e = word_in p ws i word (and_right (p w) _ all) e
+
+-- each word of a sound program writes registers that a text can name
+pub names_at : (w : WordProgram) (i : ℕ) (word : Word) → is_sound w ≡ true → slice_get w.words i ≡ Some word → list_all names_register word.ops ≡ true
+names_at w i word sound e =
+    let all = and_right _ (list_all (is_sound_word (length w.words) (length w.texts)) w.words) sound in
+    let one = word_in (is_sound_word (length w.words) (length w.texts)) w.words i word all e in
+    names_all (length w.words) (length w.texts) word.ops (and_right _ (list_all (is_sound_operation (length w.words) (length w.texts)) word.ops) one)
+
+-- no word is wider than the widest
+pub widest_at : (ws : List Word) (i : ℕ) (word : Word) → slice_get ws i ≡ Some word → length word.ops ≤ widest ws
+widest_at [] i word e = absurd (cc)
+widest_at (w ∷ ws) zero word e = let h : w ≡ word = cc in let l : length w.ops ≡ length word.ops = ap (λ (x : Word). length x.ops) h in omega (arith, l)
+widest_at (w ∷ ws) (suc i) word e = let l = widest_at ws i word e in omega (arith, l)
+
+pub place_below : (ws : List Word) (i : ℕ) (word : Word) → slice_get ws i ≡ Some word → i < length ws
+place_below [] i word e = absurd (cc)
+place_below (w ∷ ws) zero word e = omega arith
+place_below (w ∷ ws) (suc i) word e = let l = place_below ws i word e in omega (arith, l)
+
+-- a word that is not stuck has no bad address
+good_when : (a b c d : Bool) → (if a then Some BadWord else if b then Some Overfull else if c then Some BadAddress else if d then Some NoInputLeft else None) ≡ None → c ≡ false
+good_when true b c d e = absurd (cc)
+good_when false true c d e = absurd (cc)
+good_when false false true d e = absurd (cc)
+good_when false false false d e = refl
+
+pub has_good_addresses : (m : Numbers) (w : WordProgram) (s : State) (ops : List Operation) → stuck_by m w s ops ≡ None → list_any (has_bad_address w.memory s) ops ≡ false
+has_good_addresses m w s ops e = good_when (is_bad_word m ops) (not (fits m ops)) (list_any (has_bad_address w.memory s) ops) (list_any takes_input ops && not (is_left s.input)) e
+
+-- the word at a place
+pub word_at : (ws : List Word) (i : ℕ) (d : Word) → i < length ws → slice_get ws i ≡ Some (get_or ws i d)
+word_at [] i d lt = absurd (omega arith)
+word_at (w ∷ ws) zero d lt = refl
+word_at (w ∷ ws) (suc i) d lt = word_at ws i d (omega arith)

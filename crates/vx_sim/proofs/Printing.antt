@@ -1,0 +1,44 @@
+-- How far the texts of the operations of a word are put.
+use Rattle.std.proofs.Common.{◌≡◌, ℕ, ◌+◌, ◌<◌, List, ◌++◌, length, drop, Option, Result, Ok, Err, OnErr, get_or, sym, ap, subst, ◌∙◌, append_assoc}
+use Rattle.std.specs.List.{flat_map}
+use Rattle.vx_isa.specs.declared.operation.Operation.{Operation}
+use Rattle.vx_sim.proofs.Operations.{operation_here}
+use Rattle.vx_base.specs.Outside.{with_bytes, PutsFront}
+use Rattle.vx_base.proofs.OutsideLaws.{pieces_join}
+use Rattle.vx_base.proofs.PutSoFar.{PutSoFar}
+
+pub put_more : (before middle after : Option (List ℕ)) (bytes piece later : List ℕ) → PutSoFar before middle bytes (piece ++ later) → after ≡ with_bytes middle piece → PutSoFar before after bytes later
+put_more before middle after bytes piece later so_far put = record {
+  front = so_far.front ++ piece;
+  is = so_far.is ∙ sym (append_assoc so_far.front piece later);
+  put = put ∙ ap (λ (told : Option (List ℕ)). with_bytes told piece) so_far.put ∙ pieces_join before so_far.front piece;
+}
+
+pub put_front : (before middle after : Option (List ℕ)) (bytes piece later : List ℕ) → PutSoFar before middle bytes (piece ++ later) → PutsFront middle after piece → PutsFront before after bytes
+put_front before middle after bytes piece later so_far last = record {
+  front = so_far.front ++ last.front;
+  begins = record {
+    rest = last.begins.rest ++ later;
+    is = so_far.is ∙ ap (λ (xs : List ℕ). so_far.front ++ (xs ++ later)) last.begins.is ∙ ap (λ (xs : List ℕ). so_far.front ++ xs) (append_assoc last.front last.begins.rest later) ∙ sym (append_assoc so_far.front last.front (last.begins.rest ++ later));
+  };
+  put = last.put ∙ ap (λ (told : Option (List ℕ)). with_bytes told last.front) so_far.put ∙ pieces_join before so_far.front last.front;
+}
+
+-- one operation more
+
+pub text_here : (text : Operation → List ℕ) (ops : List Operation) (i : ℕ) (d : Operation) → i < length ops → flat_map text (drop i ops) ≡ text (get_or ops i d) ++ flat_map text (drop (i + 1) ops)
+text_here text ops i d lt = ap (flat_map text) (operation_here ops i d lt)
+
+pub put_operation : (before middle after : Option (List ℕ)) (text : Operation → List ℕ) (ops : List Operation) (i : ℕ) (d : Operation) → i < length ops → PutSoFar before middle (flat_map text ops) (flat_map text (drop i ops))
+    → after ≡ with_bytes middle (text (get_or ops i d)) → PutSoFar before after (flat_map text ops) (flat_map text (drop (i + 1) ops))
+put_operation before middle after text ops i d lt so_far put =
+    put_more before middle after (flat_map text ops) (text (get_or ops i d)) (flat_map text (drop (i + 1) ops)) (subst (PutSoFar before middle (flat_map text ops)) (text_here text ops i d lt) so_far) put
+
+pub put_operation_front : (before middle after : Option (List ℕ)) (text : Operation → List ℕ) (ops : List Operation) (i : ℕ) (d : Operation) → i < length ops → PutSoFar before middle (flat_map text ops) (flat_map text (drop i ops))
+    → PutsFront middle after (text (get_or ops i d)) → PutsFront before after (flat_map text ops)
+put_operation_front before middle after text ops i d lt so_far put =
+    put_front before middle after (flat_map text ops) (text (get_or ops i d)) (flat_map text (drop (i + 1) ops)) (subst (PutSoFar before middle (flat_map text ops)) (text_here text ops i d lt) so_far) put
+
+pub on_err : {A E : Type 0} (P : Type 0) (r : Result A E) → P → OnErr r P
+on_err P (Ok x) p = tt
+on_err P (Err e) p = p

@@ -1,0 +1,52 @@
+use Rattle.std.proofs.Common.{◌≡◌, ◌∙◌, [], List, map, Some, None, slice_get, refl, sym, ap, subst, ltb-true}
+use Rattle.std.specs.List.{flat_map}
+use Rattle.vx_base.specs.Outside.{with_bytes, PutsFront}
+use Rattle.vx_isa.specs.declared.operation.Operation.{Operation}
+use Rattle.vx_isa.specs.declared.program.Word.{Word}
+use Rattle.vx_isa.specs.Machine.{print_of, stuck_by}
+use Rattle.vx_probe.specs.Times.{list_of}
+use Rattle.vx_sim.specs.Held.{write_of}
+use Rattle.vx_sim.specs.Standing.{state_of}
+use Rattle.vx_sim.proofs.Elsewhere.{elsewhere}
+use Rattle.vx_sim.proofs.Naming.{word_at}
+use Rattle.vx_sim.proofs.Passing.{taken_at}
+use Rattle.vx_sim.proofs.Taking.{stepped_as, text_of, takes_it}
+use Rattle.vx_sim.proofs.steps.step.Goals as goal
+
+pub returns-in-Ok-clause-stepped : goal.returns-in-Ok-clause-stepped
+returns-in-Ok-clause-stepped g c =
+    let m = c.args.machine.now in
+    let w = c.args.program.now in
+    let b = state_of c.args.now.now [] in
+    let t = (goal.Timing-dyn g (c.args.timing.now.vtable, c.args.timing.now.value)).times c.args.timing.now.value in
+    let word = c.in-Some.word.now in
+    let l = c.in-Some.ensures.lookup in
+    let at : slice_get w.words c.args.now.now.place ≡ Some word =
+    ap (λ (ws : List Word). slice_get ws c.args.now.now.place) (sym c.as_slice.ensures) ∙ word_at c.as_slice.result.now c.args.now.now.place word (ltb-true _ _ (sym l.0)) ∙ ap (λ (x : Word). Some x) (sym l.1) in
+    let free : stuck_by m w b word.ops ≡ None = sym c.stuck_by.ensures ∙ c.in_default.is in
+    let took = c.pass.ensures.took in
+    let earlier = g.K.Sink.told c.args.out.now in
+    stepped_as earlier (g.K.Sink.told c.print.new.out) c.pass.result c.ended_by.result c.ended_by.ensures took
+    (c.in-Ok.ensures.all ∙ ap (λ (ops : List Operation). with_bytes earlier (flat_map (print_of w b) ops)) c.as_slice-2.ensures
+    ∙ ap (with_bytes earlier) (sym (text_of m w (list_of t) b (map write_of c.args.flights.now.items) t.place word took.word at free took.is)))
+
+pub returns-in-Err-clause-stepped : goal.returns-in-Err-clause-stepped
+returns-in-Err-clause-stepped g c =
+    let m = c.args.machine.now in
+    let w = c.args.program.now in
+    let b = state_of c.args.now.now [] in
+    let t = (goal.Timing-dyn g (c.args.timing.now.vtable, c.args.timing.now.value)).times c.args.timing.now.value in
+    let ws = map write_of c.args.flights.now.items in
+    let word = c.in-Some.word.now in
+    let l = c.in-Some.ensures.lookup in
+    let at : slice_get w.words c.args.now.now.place ≡ Some word =
+    ap (λ (xs : List Word). slice_get xs c.args.now.now.place) (sym c.as_slice.ensures) ∙ word_at c.as_slice.result.now c.args.now.now.place word (ltb-true _ _ (sym l.0)) ∙ ap (λ (x : Word). Some x) (sym l.1) in
+    let free : stuck_by m w b word.ops ≡ None = sym c.stuck_by.ensures ∙ c.in_default.is in
+    let it = takes_it m w (list_of t) b ws t.place word at free in
+    record {
+      stayed = record { state = refl; timing = refl; seen = refl; counts = refl };
+      word = taken_at m (list_of t) w (elsewhere b b.cycle ws [] t.place) word;
+      is = it;
+      front = subst (PutsFront (g.K.Sink.told c.args.out.now) (g.K.Sink.told c.print.new.out))
+          (ap (flat_map (print_of w b)) c.as_slice-2.ensures ∙ sym (text_of m w (list_of t) b ws t.place word (taken_at m (list_of t) w (elsewhere b b.cycle ws [] t.place) word) at free it)) c.in-Err.ensures.front;
+    }

@@ -1,0 +1,9 @@
+pub mod Named
+pub mod Held
+pub mod Room
+pub mod Moved
+pub mod Standing
+pub mod Passed
+pub mod Leads
+pub mod Stepped
+pub mod Ran

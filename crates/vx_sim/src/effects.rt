@@ -1,0 +1,202 @@
+// What a word does, once it is not stuck and its text is put: its writes are issued, its stores are made, its number of
+// the input is taken, and its cycles pass.
+
+ghost use Rattle.std.specs.Prelude.{◌≡◌, ◌≤◌, ◌<◌, ◌+◌, ◌*◌, ◌++◌, ◌∷◌, ℕ, [], true, false, Some, length, map, drop, is_some, count_by, vec_len};
+ghost use Rattle.std.specs.List.{list_all, list_any};
+ghost use Rattle.std.specs.Vec.{vec_capacity};
+ghost use Rattle.vx_base.specs.Flight.{landing_time, landed_in, flying_in};
+ghost use Rattle.vx_isa.specs.Operations.{same, destination_of, is_call, latency_of};
+ghost use Rattle.vx_isa.specs.Machine.{writes_of, write_to, number_of, is_asked, time_of, asked_by, memory_after, has_bad_address, takes_input, cycles_of};
+ghost use Rattle.vx_probe.specs.Times.{list_of, moved_on, moved_by};
+ghost use Rattle.vx_sim.specs.Moved.{moved_if};
+ghost use Rattle.vx_sim.specs.Held.{held_by, write_of, word_of};
+ghost use Rattle.vx_sim.specs.Named.{is_register, names_register};
+ghost use Rattle.vx_sim.specs.Passed.{counted};
+ghost use Rattle.vx_sim.specs.Room.{HasRoom};
+ghost use Rattle.vx_sim.specs.Standing.{state_of};
+
+use crate::flight::Flight;
+use crate::flights::pass_cycles;
+use crate::memory::store;
+use crate::standing::Standing;
+use crate::stuck::takes_input;
+use vx_isa::operation::{Operation, Register};
+use vx_isa::program::Word;
+use vx_machine::Machine;
+use vx_probe::Timing;
+
+/// Everything but the place and the text.
+pub(crate) fn take_effect(
+    machine: &Machine,
+    size: u32,
+    now: &mut Standing,
+    flights: &mut Vec<Flight>,
+    word: &Word,
+    timing: &mut Box<dyn Timing>,
+)
+    requires named { list_all names_register word.now.ops ≡ true }
+    requires good { list_any (has_bad_address size (state_of now.old [])) word.now.ops ≡ false }
+    requires size { size ≡ 4 * length now.old.memory.items }
+    requires room { vec_len flights.old + length word.now.ops ≤ vec_capacity flights.old }
+    ensures lands { held_by now.new.registers ≡ landed_in same (cycles_of word.now) (held_by now.old.registers) (map write_of flights.old.items ++ writes_of machine.now (list_of (times timing.old)) size (state_of now.old []) (times timing.old).place word.now.ops) }
+    ensures flies { map write_of flights.new.items ≡ flying_in (cycles_of word.now) (map write_of flights.old.items ++ writes_of machine.now (list_of (times timing.old)) size (state_of now.old []) (times timing.old).place word.now.ops) }
+    ensures stores { word_of now.new.memory.items ≡ memory_after (state_of now.old []) word.now.ops (word_of now.old.memory.items) }
+    ensures takes { drop now.new.taken now.new.input.items ≡ drop (count_by takes_input word.now.ops) (drop now.old.taken now.old.input.items) }
+    ensures cycle { now.new.cycle ≡ counted (now.old.cycle + cycles_of word.now) }
+    ensures place { now.new.place ≡ now.old.place }
+    ensures timing { times timing.new ≡ moved_by (asked_by word.now.ops) (times timing.old) }
+    ensures memory { length now.new.memory.items ≡ length now.old.memory.items }
+    ensures capacity { vec_capacity flights.old ≤ vec_capacity flights.new }
+    ensures has_room { (widest : ℕ) → length word.now.ops ≤ widest → HasRoom widest 0 flights.old.items → HasRoom widest 0 flights.new.items }
+{
+    let ops = word.ops.as_slice();
+    issue_writes(machine, size, now, ops, flights, timing);
+    make_stores(size, now, ops);
+    now.taken = now.taken.saturating_add(count_of_input(ops));
+    now.cycle = pass_cycles(cycles_of(word), now.cycle, &mut now.registers, flights);
+}
+
+/// How many cycles the word takes.
+fn cycles_of(word: &Word) -> u32
+    ensures exact { result ≡ cycles_of word.now }
+    ensures some { 1 ≤ result }
+{
+    word.idle.max(1)
+}
+
+fn count_of_input(ops: &[Operation]) -> usize
+    ensures { result ≡ count_by takes_input ops.now }
+{
+    ops.iter().filter(|op| takes_input(op)).count()
+}
+
+/// The writes of the word, each with the landing time that the timing tells, behind those in flight.
+fn issue_writes(
+    machine: &Machine,
+    size: u32,
+    now: &Standing,
+    ops: &[Operation],
+    flights: &mut Vec<Flight>,
+    timing: &mut Box<dyn Timing>,
+)
+    requires named { list_all names_register ops.now ≡ true }
+    requires room { vec_len flights.old + length ops.now ≤ vec_capacity flights.old }
+    ensures writes { map write_of flights.new.items ≡ map write_of flights.old.items ++ writes_of machine.now (list_of (times timing.old)) size (state_of now.now []) (times timing.old).place ops.now }
+    ensures timing { times timing.new ≡ moved_by (asked_by ops.now) (times timing.old) }
+    ensures capacity { vec_capacity flights.old ≤ vec_capacity flights.new }
+    ensures has_room { (widest : ℕ) → HasRoom widest 0 flights.old.items → HasRoom widest (length ops.now) flights.new.items }
+{
+    for op in ops {
+        issue(machine, size, now, op, flights, timing);
+    }
+}
+
+/// The write of an operation, if it has one.
+fn issue(
+    machine: &Machine,
+    size: u32,
+    now: &Standing,
+    op: &Operation,
+    flights: &mut Vec<Flight>,
+    timing: &mut Box<dyn Timing>,
+)
+    requires named { names_register op.now ≡ true }
+    requires room { vec_len flights.old < vec_capacity flights.old }
+    ensures write { map write_of flights.new.items ≡ map write_of flights.old.items ++ write_to (destination_of op.now) (number_of size (state_of now.now []) op.now) (time_of machine.now (list_of (times timing.old)) (times timing.old).place op.now) }
+    ensures timing { times timing.new ≡ moved_if (is_asked op.now) (times timing.old) }
+    ensures capacity { vec_capacity flights.old ≤ vec_capacity flights.new }
+    ensures len { vec_len flights.new ≤ vec_len flights.old + 1 }
+    ensures has_room { (widest here : ℕ) → HasRoom widest here flights.old.items → HasRoom widest (here + 1) flights.new.items }
+{
+    if let Some(to) = op.destination() {
+        let number = now.number_of(size, op);
+        let left = landing_time(machine, op, timing);
+        issue_write(to, number, left, flights);
+    }
+}
+
+/// The link that a call writes is there at the next word, and the timing is not asked for it.
+fn landing_time(machine: &Machine, op: &Operation, timing: &mut Box<dyn Timing>) -> u32
+    requires { is_some (destination_of op.now) ≡ true }
+    ensures time { result ≡ time_of machine.now (list_of (times timing.old)) (times timing.old).place op.now }
+    ensures in_time { result ≤ 16 }
+    ensures timing { times timing.new ≡ moved_if (is_asked op.now) (times timing.old) }
+{
+    match op {
+        Operation::Call { .. } => 1,
+        _ => lands(timing, latency(machine, op)),
+    }
+}
+
+/// The latency of an operation that writes a register and is no call.
+fn latency(machine: &Machine, op: &Operation) -> u32
+    requires written { is_some (destination_of op.now) ≡ true }
+    requires no_call { is_call op.now ≡ false }
+    ensures latency { result ≡ latency_of machine.now op.now }
+    ensures some { 1 ≤ result }
+    ensures few { result ≤ 16 }
+{
+    machine.keeps_ranges();
+    machine.latency(op)
+}
+
+fn lands(timing: &mut Box<dyn Timing>, latency: u32) -> u32
+    requires { 1 ≤ latency }
+    ensures time { result ≡ landing_time (list_of (times timing.old)) (times timing.old).place latency }
+    ensures in_time { result ≤ latency }
+    ensures timing { times timing.new ≡ moved_on (times timing.old) }
+{
+    timing.lands(latency)
+}
+
+/// A write to register 0 is lost.
+fn issue_write(to: Register, number: i32, left: u32, flights: &mut Vec<Flight>)
+    requires named { is_register to ≡ true }
+    requires room { vec_len flights.old < vec_capacity flights.old }
+    requires in_time { left ≤ 16 }
+    ensures writes { map write_of flights.new.items ≡ map write_of flights.old.items ++ write_to (Some to) number left }
+    ensures capacity { vec_capacity flights.old ≤ vec_capacity flights.new }
+    ensures len { vec_len flights.new ≤ vec_len flights.old + 1 }
+    ensures has_room { (widest here : ℕ) → HasRoom widest here flights.old.items → HasRoom widest (here + 1) flights.new.items }
+{
+    if to.is_zero() {
+        return;
+    }
+    let appended = flights.push(Flight { to, number, left });
+    let is_appended = appended.is_ok();
+    prove!(is_appended);
+}
+
+/// The stores of the word, in the order of the list.
+fn make_stores(size: u32, now: &mut Standing, ops: &[Operation])
+    requires good { list_any (has_bad_address size (state_of now.old [])) ops.now ≡ false }
+    requires size { size ≡ 4 * length now.old.memory.items }
+    ensures stores { word_of now.new.memory.items ≡ memory_after (state_of now.old []) ops.now (word_of now.old.memory.items) }
+    ensures rest { now.new ≡ record now.old { memory = now.new.memory } }
+    ensures len { length now.new.memory.items ≡ length now.old.memory.items }
+{
+    for op in ops {
+        make_store(size, now, op);
+    }
+}
+
+/// The store of an operation, if it is one.
+fn make_store(size: u32, now: &mut Standing, op: &Operation)
+    requires good { has_bad_address size (state_of now.old []) op.now ≡ false }
+    requires size { size ≡ 4 * length now.old.memory.items }
+    ensures stores { word_of now.new.memory.items ≡ memory_after (state_of now.old []) (op.now ∷ []) (word_of now.old.memory.items) }
+    ensures rest { now.new ≡ record now.old { memory = now.new.memory } }
+    ensures len { length now.new.memory.items ≡ length now.old.memory.items }
+{
+    if let Operation::Store {
+        offset,
+        base,
+        from,
+        ..
+    } = op
+    {
+        let address = now.address(base, *offset);
+        let number = now.source(from);
+        store(&mut now.memory, address, number);
+    }
+}

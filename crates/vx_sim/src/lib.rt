@@ -1,0 +1,22 @@
+// The simulator of the word machine, with the boxes that its caller hands in: a timing, which tells when results
+// land, and probes, which are shown each word that took effect.
+#![tactic(auto)]
+
+mod effects;
+mod ended;
+mod flight;
+mod flights;
+mod leads;
+mod memory;
+mod prints;
+mod registers;
+mod sim;
+mod standing;
+mod steps;
+mod stuck;
+
+pub use ended::Ended;
+pub use sim::Sim;
+
+#[cfg(test)]
+mod tests;

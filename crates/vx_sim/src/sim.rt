@@ -1,0 +1,133 @@
+// The simulator: it stands at a state of the word machine and issues words.
+
+ghost use Rattle.std.specs.Prelude.{◌≡◌, ◌≤◌, ◌*◌, true, length};
+ghost use Rattle.std.specs.Vec.{vec_capacity};
+ghost use Rattle.vx_isa.specs.Sound.{is_sound};
+ghost use Rattle.vx_sim.specs.Passed.{counted};
+ghost use Rattle.vx_sim.specs.Room.{HasRoom, widest};
+
+use crate::ended::Ended;
+use crate::flight::Flight;
+use crate::memory::{memory_of, room_for};
+use crate::registers::Registers;
+use crate::standing::Standing;
+use crate::steps::step;
+use std::alloc::Global;
+use vx_base::outcome::NoMemory;
+use vx_base::sink::Sink;
+use vx_isa::program::WordProgram;
+use vx_machine::Machine;
+use vx_probe::{Probe, Timing};
+
+/// A simulator of a program of words on a machine.
+#[derive(Drop, Debug)]
+pub struct Sim {
+    program: WordProgram,
+    machine: Machine,
+    standing: Standing,
+    flights: Vec<Flight>,
+    issued: u64,
+    ended: bool,
+    ghost sound: { is_sound program ≡ true },
+    ghost size: { program.memory ≡ 4 * length standing.memory.items },
+    ghost room: { HasRoom (widest program.words) 0 flights.items },
+    ghost capacity: { 17 * widest program.words ≤ vec_capacity flights },
+}
+
+impl Sim {
+    ghost use Rattle.std.specs.Prelude.{false, map, IfOk};
+    ghost use Rattle.vx_base.specs.Outside.{Rose};
+    ghost use Rattle.vx_isa.specs.Machine.{start};
+    ghost use Rattle.vx_sim.specs.Ran.{stands, Ran, is_fault};
+
+    /// A simulator at the start of the program. It takes all memory that the run needs.
+    pub fn start(
+        alloc: Global,
+        program: WordProgram,
+        machine: Machine,
+        input: Vec<i32>,
+    ) -> Result<Sim, NoMemory>
+        requires { is_sound program ≡ true }
+        ensures stands { IfOk result (λ sim. stands sim ≡ start program input.items) }
+        ensures program { IfOk result (λ sim. sim.program ≡ program) }
+        ensures machine { IfOk result (λ sim. sim.machine ≡ machine) }
+        ensures fresh { IfOk result (λ sim. (sim.issued ≡ 0) × (sim.ended ≡ false)) }
+    {
+        let memory = memory_of(alloc, &program)?;
+        let flights = room_for(alloc, &program)?;
+        Ok(Sim {
+            program,
+            machine,
+            standing: Standing {
+                place: 0,
+                cycle: 0,
+                registers: Registers::zeros(),
+                memory,
+                input,
+                taken: 0,
+            },
+            flights,
+            issued: 0,
+            ended: false,
+        })
+    }
+
+    /// Whether the program has ended, is stuck, or the sink failed.
+    pub fn ended(&self) -> bool
+        ensures { result ≡ self.now.ended }
+    {
+        self.ended
+    }
+
+    /// How many words took effect since the start. It stays at the greatest `u64`.
+    pub fn issued(&self) -> u64
+        ensures { result ≡ self.now.issued }
+    {
+        self.issued
+    }
+
+    /// Issues at most so many words. It takes no memory.
+    pub fn run<K: Sink>(
+        &mut self,
+        words: u64,
+        out: &mut K,
+        timing: &mut Box<dyn Timing>,
+        probes: &mut Vec<Box<dyn Probe>>,
+    ) -> Ended
+        requires { self.old.ended ≡ false }
+
+        // What the word machine does from where the simulator stands, with the timing's list from its place on.
+        ensures ran { Ran words self.old self.new (times timing.old) (times timing.new) (map (λ b. watch b) probes.old.items) (map (λ b. watch b) probes.new.items) (K.told out.old) (K.told out.new) result }
+
+        // The sink fails only by a fault that is counted.
+        ensures failed { is_fault result ≡ true → Rose (K.faults out.old) (K.faults out.new) }
+        ensures faults_never_fall { K.faults out.old ≤ K.faults out.new }
+    {
+        keeps_count(&self.standing.cycle);
+        keeps_count(&self.issued);
+        'words: for passed in 0..words {
+            let ended = step(
+                &self.program,
+                &self.machine,
+                &mut self.standing,
+                &mut self.flights,
+                &mut self.issued,
+                out,
+                timing,
+                probes,
+            );
+            if let Some(ended) = ended {
+                self.ended = true;
+                return ended;
+            }
+        }
+        Ended::Stopped
+    }
+}
+
+/// A count of 64 bits stays below 2 ^ 64.
+fn keeps_count(count: &u64)
+    ensures { counted count.now ≡ count.now }
+{
+    let _count = *count;
+}

@@ -1,0 +1,118 @@
+// One step of the simulator: one word is issued, or it is told why none was. The clause is the step of the word machine.
+
+ghost use Rattle.std.specs.Prelude.{◌≡◌, ◌≤◌, ◌<◌, ◌+◌, ◌*◌, ◌^◌, [], Some, None, true, false, map, length, vec_len, slice_get, OnOk, OnErr};
+ghost use Rattle.std.specs.Vec.{vec_capacity};
+ghost use Rattle.vx_base.specs.Outside.{Rose};
+ghost use Rattle.vx_isa.specs.Machine.{stuck_by};
+ghost use Rattle.vx_isa.specs.Sound.{is_sound};
+ghost use Rattle.vx_probe.specs.Times.{list_of};
+ghost use Rattle.vx_probe.specs.Watch.{shown};
+ghost use Rattle.vx_sim.specs.Room.{HasRoom, widest};
+ghost use Rattle.vx_sim.specs.Standing.{state_of, standing_at};
+ghost use Rattle.vx_sim.specs.Stepped.{Stepped, Took, leads_by, ended_as, is_fault_of};
+
+use crate::effects::take_effect;
+use crate::ended::Ended;
+use crate::flight::Flight;
+use crate::leads::{Lead, event_of, following, lead_of, place_behind};
+use crate::prints::print;
+use crate::standing::Standing;
+use crate::stuck::stuck_by;
+use vx_base::outcome::Reason;
+use vx_base::sink::Sink;
+use vx_isa::program::{Word, WordProgram};
+use vx_machine::Machine;
+use vx_probe::{Event, Probe, Timing};
+
+/// Issues the word at which the simulator stands, and answers how the program ended if it did.
+pub(crate) fn step<K: Sink>(
+    program: &WordProgram,
+    machine: &Machine,
+    now: &mut Standing,
+    flights: &mut Vec<Flight>,
+    issued: &mut u64,
+    out: &mut K,
+    timing: &mut Box<dyn Timing>,
+    probes: &mut Vec<Box<dyn Probe>>,
+) -> Option<Ended>
+    requires sound { is_sound program.now ≡ true }
+    requires size { program.now.memory ≡ 4 * length now.old.memory.items }
+    requires room { HasRoom (widest program.now.words) 0 flights.old.items }
+    requires capacity { 17 * widest program.now.words ≤ vec_capacity flights.old }
+    ensures stepped { Stepped machine.now program.now (standing_at now.old flights.old.items (times timing.old)) (state_of now.new flights.new.items) (times timing.old) (times timing.new) (map (λ b. watch b) probes.old.items) (map (λ b. watch b) probes.new.items) issued.old issued.new (K.told out.old) (K.told out.new) result }
+    ensures failed { is_fault_of result ≡ true → Rose (K.faults out.old) (K.faults out.new) }
+    ensures faults_never_fall { K.faults out.old ≤ K.faults out.new }
+    ensures size_stays { length now.new.memory.items ≡ length now.old.memory.items }
+    ensures has_room { HasRoom (widest program.now.words) 0 flights.new.items }
+    ensures has_capacity { vec_capacity flights.old ≤ vec_capacity flights.new }
+{
+    let place = now.place;
+    let word = match program.words.as_slice().get(place as usize) {
+        Some(word) => word,
+        None => return Some(Ended::Stuck(Reason::BadTarget, place)),
+    };
+    if let Some(reason) = stuck_by(machine, program, now, word) {
+        return Some(Ended::Stuck(reason, place));
+    }
+    match print(program, now, word.ops.as_slice(), out) {
+        Ok(()) => ended_by(pass(program, machine, now, flights, issued, word, timing, probes)),
+        Err(_) => Some(Ended::SinkFault),
+    }
+}
+
+/// How the program ended with a word that leads so, if it did.
+fn ended_by(lead: Lead) -> Option<Ended>
+    ensures { result ≡ ended_as lead }
+{
+    match lead {
+        Lead::To(_) => None,
+        Lead::Halts(result) => Some(Ended::Halted(result)),
+        Lead::TrapsBy(trap) => Some(Ended::Trapped(trap)),
+    }
+}
+
+/// A word that is not stuck and whose text is put takes effect, and is shown to each probe.
+fn pass(
+    program: &WordProgram,
+    machine: &Machine,
+    now: &mut Standing,
+    flights: &mut Vec<Flight>,
+    issued: &mut u64,
+    word: &Word,
+    timing: &mut Box<dyn Timing>,
+    probes: &mut Vec<Box<dyn Probe>>,
+) -> Lead
+    requires sound { is_sound program.now ≡ true }
+    requires size { program.now.memory ≡ 4 * length now.old.memory.items }
+    requires room { HasRoom (widest program.now.words) 0 flights.old.items }
+    requires capacity { 17 * widest program.now.words ≤ vec_capacity flights.old }
+    requires word { slice_get program.now.words now.old.place ≡ Some word.now }
+    requires free { stuck_by machine.now program.now (state_of now.old []) word.now.ops ≡ None }
+    ensures took { Took machine.now program.now (standing_at now.old flights.old.items (times timing.old)) (state_of now.new flights.new.items) (times timing.old) (times timing.new) (map (λ b. watch b) probes.old.items) (map (λ b. watch b) probes.new.items) issued.old issued.new (leads_by result) }
+    ensures size_stays { length now.new.memory.items ≡ length now.old.memory.items }
+    ensures has_room { HasRoom (widest program.now.words) 0 flights.new.items }
+    ensures has_capacity { vec_capacity flights.old ≤ vec_capacity flights.new }
+{
+    let lead = lead_of(now, following(program, now.place), word.ops.as_slice());
+    let event = event_of(now, word, lead);
+    take_effect(machine, program.memory, now, flights, word, timing);
+    show(probes, &event);
+    *issued = issued.saturating_add(1);
+    now.place = place_behind(lead, now.place);
+    lead
+}
+
+/// Shows an event to each probe, in the order of the list.
+fn show(probes: &mut Vec<Box<dyn Probe>>, event: &Event)
+    ensures { map (λ b. watch b) probes.new.items ≡ map (λ w. shown w event.now) (map (λ b. watch b) probes.old.items) }
+{
+    for probe in probes.iter_mut() {
+        see(probe, event);
+    }
+}
+
+fn see(probe: &mut Box<dyn Probe>, event: &Event)
+    ensures { watch probe.new ≡ shown (watch probe.old) event.now }
+{
+    probe.see(event);
+}
