@@ -1,10 +1,9 @@
 -- What one more route does to the nodes that are marked, and what is marked in the end.
-use Rattle.std.proofs.Common.{◌≡◌, ◌⊎◌, inl, inr, ◌↔◌, ℕ, zero, suc, ◌+◌, ◌<◌, ◌≤◌, Bool, true, false, ◌==◌, ◌&&◌, ◌||◌, cond, List, [], ◌∷◌, ◌++◌, length, slice_get, slice_set, Option, Some, None, refl, sym, ap, subst, ◌∙◌, arith, eq-eqb, eqb-true, drop, drop-cons, get_or}
+use Rattle.std.proofs.Common.{◌≡◌, ◌⊎◌, inl, inr, ◌↔◌, ℕ, zero, suc, ◌+◌, ◌<◌, Bool, true, false, ◌==◌, ◌&&◌, ◌||◌, cond, List, [], ◌∷◌, ◌++◌, length, slice_get, slice_set, Option, Some, None, refl, sym, ap, subst, arith, eq-eqb, eqb-true, drop, drop-cons, get_or}
 use Rattle.std.specs.List.{list_any}
-use Rattle.vx_flow.specs.declared.routes.Touch.{Touch}
 use Rattle.vx_flow.specs.declared.routes.Route.{Route}
 use Rattle.vx_flow.specs.Effects.{IsIn}
-use Rattle.vx_flow.specs.Live.{first_touch, LiveOn, here, beyond}
+use Rattle.vx_flow.specs.Live.{first_touch, LiveOn}
 use Rattle.vx_flow.specs.Rows.{is_marked}
 use Rattle.vx_flow.specs.Closing.{BeginWithin, Closing, Starting, is_read, is_untouched, marked_pending, marked_row, passes, pending_passed, pending_started, row_passed, row_started, starts}
 use Rattle.vx_flow.proofs.Members.{in_left, in_last, in_front_or_last}

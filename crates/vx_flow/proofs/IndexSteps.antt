@@ -1,5 +1,5 @@
 -- One more route in an index of routes.
-use Rattle.std.proofs.Common.{◌≡◌, ◌⊎◌, inl, inr, ℕ, zero, suc, ◌+◌, ◌<◌, ◌≤◌, Bool, true, false, ◌==◌, cond, List, [], ◌∷◌, ◌++◌, length, drop, drop-cons, get_or, slice_get, Option, Some, None, refl, sym, ap, subst, ◌∙◌, arith, eqb-true}
+use Rattle.std.proofs.Common.{◌≡◌, ◌⊎◌, inl, inr, ℕ, zero, suc, ◌+◌, ◌<◌, ◌≤◌, Bool, true, false, ◌==◌, cond, List, [], ◌∷◌, length, drop, drop-cons, get_or, slice_get, Some, refl, sym, ap, subst, arith, eqb-true}
 use Rattle.vx_flow.specs.declared.routes.Touch.{Touch}
 use Rattle.vx_flow.specs.declared.routes.Route.{Route}
 use Rattle.vx_flow.specs.Effects.{IsIn}

@@ -7,3 +7,10 @@ pub mod ClosingSteps
 pub mod WalkSteps
 pub mod HeaderSteps
 pub mod SoundLeads
+pub mod SoundLists
+pub mod SoundNames
+pub mod SoundPlaces
+pub mod SoundLaw
+pub mod SoundFlowLaw
+pub mod EffectsAlike
+pub mod HopsAlike

@@ -1,10 +1,9 @@
 -- The output of a run only grows.
-use Rattle.std.proofs.Common.{◌≡◌, ℕ, ℤ, zero, suc, pos, negsuc, Bool, true, false, cond, nat_le, List, [], ◌∷◌, ◌++◌, length, map, slice_get, slice_index_or, Option, Some, None, refl, sym, ap, subst, ◌∙◌, ◌+◌}
+use Rattle.std.proofs.Common.{◌≡◌, ℕ, ℤ, Bool, true, false, cond, nat_le, List, [], ◌∷◌, ◌++◌, length, map, slice_get, Option, Some, None, refl, subst, ◌+◌}
 use Rattle.std.specs.Option.{option_map}
-use Rattle.vx_base.specs.Outcome.{Outcome, Begins, Steady, Step, On, Over, output_of, run}
+use Rattle.vx_base.specs.Outcome.{Outcome, Begins, Steady, Step, On, Over, output_of}
 use Rattle.vx_base.proofs.Same.{begins_self, begins_on}
 use Rattle.vx_base.proofs.Runs.{Grows, run_steady}
-use Rattle.vx_flow.specs.declared.graph.Operand.{Operand}
 use Rattle.vx_flow.specs.declared.graph.Op.{Op}
 use Rattle.vx_flow.specs.declared.graph.Op.TheVariants.{Compute, Select, Place, Load, Store, More, Input, Text, Decimal, Across}
 use Rattle.vx_flow.specs.declared.graph.Exit.{Exit}

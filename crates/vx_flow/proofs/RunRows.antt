@@ -1,25 +1,23 @@
 -- Worked runs of graphs, by computation.
-use Rattle.std.proofs.Common.{◌≡◌, ℕ, ℤ, pos, negsuc, Bool, true, false, List, [], ◌∷◌, Option, Some, None, refl}
+use Rattle.std.proofs.Common.{◌≡◌, ℤ, pos, negsuc, Bool, true, false, List, [], ◌∷◌, Some, None, refl}
 use Rattle.std.specs.Int.{int_wrap}
 use Rattle.std.specs.Fmt.{digits}
 use Rattle.vx_base.specs.Arithmetic.{sum_of, difference_of, product_of, quotient_of, mpylu_of}
 use Rattle.vx_base.specs.Outcome.{Outcome, Ends as EndsWith, Traps, Goes}
 use Rattle.vx_base.specs.declared.arithmetic.Code.TheVariants.{Add, Sub, Mov, Mpylu, Div, ToBranch}
-use Rattle.vx_base.specs.declared.arithmetic.Compare.TheVariants.{Lt, Ltu, Eq}
-use Rattle.vx_base.specs.declared.outcome.Trap.TheVariants.{Divide, Depth, Index}
+use Rattle.vx_base.specs.declared.arithmetic.Compare.TheVariants.{Lt, Eq}
+use Rattle.vx_base.specs.declared.outcome.Trap.TheVariants.{Divide, Depth}
 use Rattle.vx_flow.specs.declared.graph.Operand.TheVariants.{Held, Number}
-use Rattle.vx_flow.specs.declared.graph.Bank.{Bank}
 use Rattle.vx_flow.specs.declared.graph.Bank.TheVariants.{General, Branch}
 use Rattle.vx_flow.specs.declared.graph.Op.{Op}
-use Rattle.vx_flow.specs.declared.graph.Op.TheVariants.{Compute, Select, Place, Load, Store, More, Input, Text, Decimal, Across}
+use Rattle.vx_flow.specs.declared.graph.Op.TheVariants.{Compute, Place, Load, Store, Input, Text, Decimal}
 use Rattle.vx_flow.specs.declared.graph.Exit.{Exit}
 use Rattle.vx_flow.specs.declared.graph.Exit.TheVariants.{Goto, Split, Call, Return, Ends}
 use Rattle.vx_flow.specs.declared.graph.Block.{Block}
-use Rattle.vx_flow.specs.declared.graph.Array.{Array}
 use Rattle.vx_flow.specs.declared.graph.Graph.{Graph}
 use Rattle.vx_flow.specs.declared.graph.Flow.{Flow}
-use Rattle.vx_flow.specs.Meaning.{deepest, graph_run, graph_path, Visit, AtBlock, AlongEdge}
-use Rattle.vx_flow.specs.Sound.{is_sound, is_sound_flow}
+use Rattle.vx_flow.specs.Meaning.{deepest, graph_run, graph_path, AtBlock, AlongEdge}
+use Rattle.vx_flow.specs.Sound.{is_sound_flow}
 
 abbrev block : List Op → Exit → Block
 block ops exit = record { ops = ops; exit = exit }

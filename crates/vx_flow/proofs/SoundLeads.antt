@@ -9,7 +9,7 @@ use Rattle.vx_flow.specs.declared.graph.Block.{Block}
 use Rattle.vx_flow.specs.declared.graph.Graph.{Graph}
 use Rattle.vx_flow.specs.Effects.{IsIn}
 use Rattle.vx_flow.specs.Sound.{is_sound, is_sound_block, is_sound_exit, is_sound_in, is_general, is_branch, is_operand, is_general_or_none}
-use Rattle.vx_flow.specs.Walk.{successors, successors_in, successors_of}
+use Rattle.vx_flow.specs.Walk.{successors_in, successors_of}
 use Rattle.vx_flow.specs.Walking.{LeadWithin}
 
 and_one : (a b : Bool) → (a && b) ≡ true → a ≡ true

@@ -4,6 +4,7 @@ pub mod Sound
 pub mod Live
 pub mod Rows
 pub mod Closing
+pub mod Agree
 pub mod Laws
 pub mod Walk
 pub mod Walking

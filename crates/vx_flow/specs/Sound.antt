@@ -1,5 +1,5 @@
 -- When a graph is sound, and when the graphs of a program are: first the test, then the same in words.
-use Rattle.std.specs.Prelude.{◌≡◌, ◌↔◌, ◌<◌, ◌⊎◌, ℕ, zero, ℤ, pos, Bool, true, false, ◌&&◌, ◌||◌, not, ◌==◌, nat_lt, IsTrue, List, [], ◌∷◌, ◌++◌, length, Option, Some, None, slice_get}
+use Rattle.std.specs.Prelude.{◌≡◌, ◌<◌, ◌≤◌, ◌⊎◌, ℕ, zero, ℤ, pos, Bool, true, false, ◌&&◌, ◌||◌, not, ◌==◌, nat_lt, List, [], ◌∷◌, length, Option, Some, None, slice_get}
 use Rattle.std.specs.List.{list_all, list_any}
 use Rattle.vx_base.specs.declared.arithmetic.Code.{Code}
 use Rattle.vx_base.specs.declared.arithmetic.Code.TheVariants.{Mov, ToBranch}
@@ -16,7 +16,7 @@ use Rattle.vx_flow.specs.declared.graph.Array.{Array}
 use Rattle.vx_flow.specs.declared.graph.Graph.{Graph}
 use Rattle.vx_flow.specs.declared.graph.Global.{Global}
 use Rattle.vx_flow.specs.declared.graph.Flow.{Flow}
-use Rattle.vx_flow.specs.Effects.{IsIn, value_in, reads, writes}
+use Rattle.vx_flow.specs.Effects.{IsIn, reads, writes}
 
 -- values, operands, arrays
 
@@ -305,3 +305,29 @@ pub record Sound (g : Graph) : Type 0 where
   -- a local array is accessed at its places and at numbers alone
   pub placed : (a : ℕ) (p : Operand) (op : Op) → HasOperation g op → IsAccess a p op → is_local g.arrays a ≡ true → ((n : ℤ) × (p ≡ Number n)) ⊎ ((v : ℕ) × (p ≡ Held v) × IsPlace g v a)
   pub moves : (v : ℕ) (a b : Operand) → HasOperation g (Compute Mov v a b) → b ≡ Number (pos 0)
+
+-- function f is there, with so many parameters
+pub record Callable (flow : Flow) (f count : ℕ) : Type 0 where
+  pub graph : Graph
+  pub is : slice_get flow.functions f ≡ Some graph
+  pub parameters : length graph.parameters ≡ count
+
+-- array i is there, and is a global of so many words
+pub record HasGlobal (arrays : List Array) (i words : ℕ) : Type 0 where
+  pub array : Array
+  pub is : slice_get arrays i ≡ Some array
+  pub global : array.global ≡ true
+  pub size : array.words ≡ words
+
+pub record SoundFlow (flow : Flow) : Type 0 where
+  -- every graph is sound, has a block, and has no parameter twice
+  pub graphs : (g : Graph) → IsIn g flow.functions → Sound g
+  pub blocks : (g : Graph) → IsIn g flow.functions → 0 < length g.blocks
+  pub parameters : (g : Graph) (i j v : ℕ) → IsIn g flow.functions → i < j → slice_get g.parameters i ≡ Some v → slice_get g.parameters j ≡ Some v → ⊥
+  -- what is called and printed is there; main has no parameter, and a call has an argument for each
+  pub main : Callable flow flow.main 0
+  pub calls : (g : Graph) (f next : ℕ) (arguments : List Operand) (result : Option ℕ) → IsIn g flow.functions → HasExit g (Call f arguments result next) → Callable flow f (length arguments)
+  pub texts : (g : Graph) (n : ℕ) → IsIn g flow.functions → HasOperation g (Text n) → n < length flow.texts
+  -- the arrays of a graph begin with the globals in their order, with their words, and no later one is global
+  pub globals : (g : Graph) (i : ℕ) (x : Global) → IsIn g flow.functions → slice_get flow.globals i ≡ Some x → HasGlobal g.arrays i x.words
+  pub own : (g : Graph) (i : ℕ) (array : Array) → IsIn g flow.functions → slice_get g.arrays i ≡ Some array → length flow.globals ≤ i → array.global ≡ false

@@ -19,4 +19,12 @@ pub use liveness::{live, live_on};
 pub use walk::back_edges;
 
 #[cfg(test)]
-mod tests;
+mod fixtures;
+#[cfg(test)]
+mod flow_tests;
+#[cfg(test)]
+mod live_tests;
+#[cfg(test)]
+mod sound_tests;
+#[cfg(test)]
+mod walk_tests;

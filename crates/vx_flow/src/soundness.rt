@@ -1,10 +1,10 @@
-// Whether graphs are ones that the calls on graphs and flows ask for. The clauses are `is_sound` and `is_sound_flow` of
-// specs/Sound.antt. Nothing here takes memory: each operation is tested once with what it names, and each place of, and
+// Whether graphs are ones that the calls on graphs and flows ask for. The clauses are `Sound` and `SoundFlow` of
+// specs/Sound.antt, and the tests there. Nothing here takes memory: each operation is tested once with what it names, and each place of, and
 // each access to, a local array by at most one pass over the operations of its graph.
 
-ghost use Rattle.std.specs.Prelude.{◌≡◌, ◌==◌, not, length, slice_get};
+ghost use Rattle.std.specs.Prelude.{◌≡◌, ◌↔◌, ◌==◌, true, not, length, slice_get};
 ghost use Rattle.std.specs.List.{list_all, list_any};
-ghost use Rattle.vx_flow.specs.Sound.{are_distinct, begins_with, block_keeps, has_parameters, has_place_in, is_access_placed, is_block_there, is_branch, is_call_there, is_general, is_general_or_none, is_global, is_kept, is_local, is_operand, is_place_in, is_placed, is_result, is_right, is_right_value, is_sound, is_sound_block, is_sound_exit, is_sound_flow, is_sound_function, is_sound_in, is_sound_operation, is_text_there, is_value, is_written, is_zero, keeps_place, leaves_alone};
+ghost use Rattle.vx_flow.specs.Sound.{are_distinct, begins_with, block_keeps, has_parameters, has_place_in, is_access_placed, is_block_there, is_branch, is_call_there, is_general, is_general_or_none, is_global, is_kept, is_local, is_operand, is_place_in, is_placed, is_result, is_right, is_right_value, is_sound, is_sound_block, is_sound_exit, is_sound_flow, is_sound_function, is_sound_in, is_sound_operation, is_text_there, is_value, is_written, is_zero, keeps_place, leaves_alone, Sound, SoundFlow};
 
 use crate::graph::{Array, Bank, Block, Exit, Flow, Global, Graph, Op, Operand, Value};
 use vx_base::arithmetic::Code;
@@ -23,10 +23,10 @@ impl Graph {
     /// It takes no memory. The time is that of one pass over the graph, and of one more for each place of, and each
     /// access to, a local array.
     pub fn sound(&self) -> bool
-        ensures { result ≡ is_sound self.now }
+        ensures test { result ≡ is_sound self.now }
+        ensures words { (result ≡ true) ↔ Sound self.now }
     {
-        are_general(self.banks.as_slice(), self.parameters.as_slice())
-            && are_sound_blocks(self, self.blocks.as_slice())
+        is_sound_graph(self)
     }
 }
 
@@ -41,11 +41,25 @@ impl Flow {
     ///
     /// It takes no memory.
     pub fn sound(&self) -> bool
-        ensures { result ≡ is_sound_flow self.now }
+        ensures test { result ≡ is_sound_flow self.now }
+        ensures words { (result ≡ true) ↔ SoundFlow self.now }
     {
-        has_parameters(0, self.functions.as_slice(), self.main)
-            && are_sound_functions(self, self.functions.as_slice())
+        is_sound_flow(self)
     }
+}
+
+fn is_sound_graph(graph: &Graph) -> bool
+    ensures { result ≡ is_sound graph.now }
+{
+    are_general(graph.banks.as_slice(), graph.parameters.as_slice())
+        && are_sound_blocks(graph, graph.blocks.as_slice())
+}
+
+fn is_sound_flow(flow: &Flow) -> bool
+    ensures { result ≡ is_sound_flow flow.now }
+{
+    has_parameters(0, flow.functions.as_slice(), flow.main)
+        && are_sound_functions(flow, flow.functions.as_slice())
 }
 
 /// Each operation with what it names, and the exit.
@@ -388,7 +402,7 @@ fn is_placed(graph: &Graph, array: u32, place: &Operand) -> bool
     match place {
         Operand::Held(value) => have_place_in(*value, array, graph.blocks.as_slice()),
         Operand::Number(_) => true,
-        Operand::Stack => false,
+        _ => false,
     }
 }
 

@@ -1,8 +1,8 @@
-use Rattle.std.proofs.Common.{◌≡◌, ◌↔◌, ℕ, true, [], List, length, subst, sym, ◌∙◌, arith}
+use Rattle.std.proofs.Common.{◌≡◌, ◌↔◌, true, [], subst, sym, arith}
 use Rattle.vx_flow.specs.Live.{LiveOn}
 use Rattle.vx_flow.specs.Rows.{is_marked, row_at}
 use Rattle.vx_flow.specs.Closing.{Closing}
-use Rattle.vx_flow.proofs.ClosingSteps.{closing_next, closing_exact, closing_any, closing_first, empty_list}
+use Rattle.vx_flow.proofs.ClosingSteps.{closing_next, closing_exact, empty_list}
 use Rattle.vx_flow.proofs.closing.live_nodes.Goals as goal
 
 pub follow_all-requires-clause-closing : goal.follow_all-requires-clause-closing

@@ -1,4 +1,4 @@
-use Rattle.std.proofs.Common.{◌≡◌, [], length}
+use Rattle.std.proofs.Common.{[], length}
 use Rattle.vx_flow.specs.Closing.{BeginWithin, Closing}
 use Rattle.vx_flow.proofs.closing.live_nodes.Given as goal
 

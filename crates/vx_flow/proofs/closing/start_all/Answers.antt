@@ -1,4 +1,4 @@
-use Rattle.std.proofs.Common.{◌≡◌, subst, sym, ◌∙◌}
+use Rattle.std.proofs.Common.{subst, sym, ◌∙◌}
 use Rattle.vx_flow.specs.Closing.{BeginWithin}
 use Rattle.vx_flow.proofs.ClosingSteps.{starting_along}
 use Rattle.vx_flow.proofs.closing.start_all.Goals as goal

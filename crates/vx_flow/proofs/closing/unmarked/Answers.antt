@@ -1,5 +1,5 @@
 use Rattle.vx_flow.proofs.ClosingSteps.{unmarked_more}
-use Rattle.std.proofs.Common.{length-append, add-one, arith, ◌≡◌, ◌+◌, length, subst, ap, sym, ◌∙◌, [], ◌∷◌, ◌++◌, false, true}
+use Rattle.std.proofs.Common.{length-append, arith, ◌≡◌, ◌+◌, length, subst, ap, ◌∙◌, [], ◌∷◌, ◌++◌, false, true}
 use Rattle.vx_flow.specs.Rows.{is_marked}
 use Rattle.vx_flow.proofs.closing.unmarked.Goals as goal
 

@@ -1,5 +1,5 @@
-use Rattle.std.proofs.Common.{◌≡◌, ◌↔◌, length, subst, sym, ap, ◌∙◌, true}
-use Rattle.vx_flow.specs.Live.{IsLive, LiveOn, routes_from}
+use Rattle.std.proofs.Common.{◌≡◌, ◌↔◌, subst, sym, ap, ◌∙◌, true}
+use Rattle.vx_flow.specs.Live.{LiveOn, routes_from}
 use Rattle.vx_flow.specs.Rows.{lives}
 use Rattle.vx_flow.specs.Closing.{BeginWithin}
 use Rattle.vx_flow.proofs.LiveRoutes.{routes_begin_within, live_by_routes}

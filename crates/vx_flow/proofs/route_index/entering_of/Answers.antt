@@ -1,6 +1,5 @@
-use Rattle.std.proofs.Common.{◌≡◌, true, Some, subst, sym, inl, inr, arith, ◌<◌, ◌≤◌, length}
+use Rattle.std.proofs.Common.{subst, sym, inl, inr, arith, ◌<◌, length}
 use Rattle.vx_flow.specs.Effects.{IsIn}
-use Rattle.vx_flow.specs.Live.{first_touch}
 use Rattle.vx_flow.proofs.IndexSteps.{entered_below, get_some, get_below}
 use Rattle.vx_flow.proofs.route_index.entering_of.Goals as goal
 

@@ -1,5 +1,4 @@
-use Rattle.std.proofs.Common.{◌≡◌, true, Some, subst, sym, inl, inr, arith, ◌<◌, ◌≤◌, length}
-use Rattle.vx_flow.specs.Effects.{IsIn}
+use Rattle.std.proofs.Common.{◌≡◌, true, Some, subst, sym, inl, inr, arith, ◌<◌, length}
 use Rattle.vx_flow.specs.Live.{first_touch}
 use Rattle.vx_flow.proofs.IndexSteps.{read_below, get_some, get_below}
 use Rattle.vx_flow.proofs.route_index.readers_of.Goals as goal

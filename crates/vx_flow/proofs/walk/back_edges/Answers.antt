@@ -1,8 +1,5 @@
-use Rattle.std.proofs.Common.{◌≡◌, ◌∙◌, ◌+◌, ◌<◌, ◌≤◌, [], List, length, refl, sym, subst, arith, Bool}
-use Rattle.vx_flow.specs.declared.graph.Edge.{Edge}
-use Rattle.vx_flow.specs.declared.walk.Place.{Place}
-use Rattle.vx_flow.specs.Walk.{BackEdges, successors}
-use Rattle.vx_flow.specs.Walking.{Walking, back_after, path_after, path_begun, places_after, places_begun, seen_after, seen_begun}
+use Rattle.std.proofs.Common.{◌≡◌, ◌∙◌, ◌+◌, ◌<◌, ◌≤◌, [], length, refl, sym, subst, arith}
+use Rattle.vx_flow.specs.Walking.{back_after, path_after, path_begun, places_after, places_begun, seen_after, seen_begun}
 use Rattle.vx_flow.proofs.ClosingSteps.{empty_list}
 use Rattle.vx_flow.proofs.WalkSteps.{walking_first, walking_step, walking_begin, walking_last, walking_same, last_below, next_below}
 use Rattle.vx_flow.proofs.walk.back_edges.Goals as goal

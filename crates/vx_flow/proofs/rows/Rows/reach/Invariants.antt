@@ -1,4 +1,4 @@
-use Rattle.std.proofs.Common.{◌≡◌, ℕ, ◌+◌, ◌-◌, length, vec_len}
+use Rattle.std.proofs.Common.{◌≡◌, ℕ, ◌+◌, ◌-◌, vec_len}
 use Rattle.vx_flow.specs.Rows.{row_at}
 use Rattle.vx_flow.proofs.rows.Rows.reach.Given as goal
 

@@ -1,0 +1,10 @@
+use Rattle.std.proofs.Common.{◌≡◌, ◌↔◌, true, sym, subst}
+use Rattle.vx_base.specs.Outcome.{IsOver}
+use Rattle.vx_flow.specs.Meaning.{graph_run}
+use Rattle.vx_profile.proofs.Counting.{over_is}
+use Rattle.vx_profile.proofs.plain.count.Goals as goal
+
+pub returns-clause-complete : goal.returns-clause-complete
+returns-clause-complete c =
+    let o = graph_run c.args.flow.now c.args.input.now c.args.blocks in
+    subst (λ b. (b ≡ true) ↔ IsOver o) (sym c.has_ended-complete.ensures) (over_is c.in_ok-run.run'.ending c.in_ok-run.run'.machine.storage.out.items o c.in_ok-run.ensures.outcome)

@@ -1,0 +1,18 @@
+// The plain run of the graphs of a program, block by block, as their meaning says: how it ends, what it prints, and how often
+// each block and each edge is passed.
+#![tactic(auto)]
+
+mod blocks;
+mod calls;
+mod cells;
+pub mod counts;
+mod ending;
+mod operations;
+mod plain;
+mod storage;
+
+pub use ending::{Ending, Ran};
+pub use plain::{Counted, count, run_plain};
+
+#[cfg(test)]
+mod tests;
