@@ -33,7 +33,7 @@ all_below-fails p (suc n) k h fails =
       | inr other ↦ rw (all_below-fails p n k (omega arith) fails)
     ]
 
-all_below-at : (p : ℕ → Bool) (n k : ℕ) → all_below n p ≡ true → k < n → p k ≡ true
+pub all_below-at : (p : ℕ → Bool) (n k : ℕ) → all_below n p ≡ true → k < n → p k ≡ true
 all_below-at p zero k all h = absurd (omega arith)
 all_below-at p (suc n) k all h =
     let (before, last) = and_parts (all_below n p) (p n) all in
@@ -42,29 +42,29 @@ all_below-at p (suc n) k all h =
       | inr other ↦ all_below-at p n k before (omega arith)
     ]
 
-all_below-holds : (p : ℕ → Bool) (n : ℕ) → ((k : ℕ) → k < n → p k ≡ true) → all_below n p ≡ true
+pub all_below-holds : (p : ℕ → Bool) (n : ℕ) → ((k : ℕ) → k < n → p k ≡ true) → all_below n p ≡ true
 all_below-holds p zero each = refl
 all_below-holds p (suc n) each = both_true (all_below-holds p n (λ k h. each k (omega arith))) (each n (omega arith))
 
 -- what a cluster has
 
-has_there : (m : Numbers) (k n : ℕ) → k < m.clusters → has m k n ≡ n
+pub has_there : (m : Numbers) (k n : ℕ) → k < m.clusters → has m k n ≡ n
 has_there m k n h = rw (lt-ltb k m.clusters h)
 
 has_none : (m : Numbers) (k n : ℕ) → m.clusters ≤ k → has m k n ≡ 0
 has_none m k n h = grind (arith, nat_tests)
 
-is_there : (m : Numbers) (k n : ℕ) → 0 < has m k n → k < m.clusters
+pub is_there : (m : Numbers) (k n : ℕ) → 0 < has m k n → k < m.clusters
 is_there m k n h = grind (arith, nat_tests)
 
-limit : (m : Numbers) (k n c : ℕ) → (k < m.clusters → nat_le c n ≡ true) → (m.clusters ≤ k → c ≡ 0) → c ≤ has m k n
+pub limit : (m : Numbers) (k n c : ℕ) → (k < m.clusters → nat_le c n ≡ true) → (m.clusters ≤ k → c ≡ 0) → c ≤ has m k n
 limit m k n c there absent =
     elim (leb_tells (suc k) m.clusters) [
       | inl present ↦ let le = leb-true c n (there (omega arith)) in rw (has_there m k n (omega arith)) le
       | inr not_there ↦ rw (absent (omega arith)) (omega arith)
     ]
 
-limit_at : (m : Numbers) (k n c : ℕ) → k < m.clusters → c ≤ has m k n → nat_le c n ≡ true
+pub limit_at : (m : Numbers) (k n c : ℕ) → k < m.clusters → c ≤ has m k n → nat_le c n ≡ true
 limit_at m k n c there le = let e = has_there m k n there in le-leb c n (omega arith)
 
 in_file : (m : Numbers) (r : Register) → is_in_file m r ≡ true → IsInFile m r
@@ -103,19 +103,19 @@ stand m (op ∷ ops) slots =
 
 -- a test of six parts
 
-record Six (a b c d e f : Bool) : Type 0 where
-  one : a ≡ true
-  two : b ≡ true
-  three : c ≡ true
-  four : d ≡ true
-  five : e ≡ true
-  six : f ≡ true
+pub record Six (a b c d e f : Bool) : Type 0 where
+  pub one : a ≡ true
+  pub two : b ≡ true
+  pub three : c ≡ true
+  pub four : d ≡ true
+  pub five : e ≡ true
+  pub six : f ≡ true
 
-six_parts : (a b c d e f : Bool) → (a && b && c && d && e && f) ≡ true → Six a b c d e f
+pub six_parts : (a b c d e f : Bool) → (a && b && c && d && e && f) ≡ true → Six a b c d e f
 six_parts true true true true true true h = record { one = refl; two = refl; three = refl; four = refl; five = refl; six = refl }
 six_parts a b c d e f h = absurd (false≢true h)
 
-six_together : (a b c d e f : Bool) → Six a b c d e f → (a && b && c && d && e && f) ≡ true
+pub six_together : (a b c d e f : Bool) → Six a b c d e f → (a && b && c && d && e && f) ≡ true
 six_together a b c d e f s = both_true (both_true (both_true (both_true (both_true s.one s.two) s.three) s.four) s.five) s.six
 
 -- both directions

@@ -4,5 +4,6 @@ pub mod Fits
 pub mod Machine
 pub mod Strict
 pub mod Sound
+pub mod Range
 pub mod Steady
 pub mod Paths

@@ -6,4 +6,4 @@ pub mod operation;
 pub mod program;
 mod soundness;
 
-pub use soundness::sound;
+pub use soundness::{is_sound_operation, sound};

@@ -62,8 +62,9 @@ fn are_sound_operations(ops: &[Operation], words: usize, texts: usize) -> bool
     ops.iter().all(|op| is_sound_operation(op, words, texts))
 }
 
-/// Whether the operands are of the operation's form, and the place or text that it names is there.
-fn is_sound_operation(op: &Operation, words: usize, texts: usize) -> bool
+/// Whether the operands are of the operation's form, and the place or text that it names is there, where there are so
+/// many words and texts. It takes no memory.
+pub fn is_sound_operation(op: &Operation, words: usize, texts: usize) -> bool
     ensures { result ≡ is_sound_operation words texts op.now }
 {
     match op {

@@ -3,3 +3,8 @@ mod Ranges
 mod ReadsLaw
 mod DescriptionRows
 mod MarksLaw
+mod RoomSteps
+mod RoomLaw
+mod RoomAlone
+mod FitsByRoom
+mod RoomRows

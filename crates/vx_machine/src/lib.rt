@@ -4,12 +4,18 @@
 mod bad_word;
 mod description;
 mod fitting;
+pub mod items;
+mod left;
 mod machine_model;
+mod room;
 
 pub use bad_word::is_bad_word;
 pub use description::{MachineFault, description_law, field_name, from_toml};
 pub use fitting::fits;
 pub use machine_model::Machine;
+pub use room::{fits_by_room_law, has_room, home_of, room_alone_law, room_law, room_shrinks_law};
 
+#[cfg(test)]
+mod description_rows;
 #[cfg(test)]
 mod tests;

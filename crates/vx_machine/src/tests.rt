@@ -1,61 +1,15 @@
-// Descriptions that are read and refused, and words at the edge of what fits.
+// Words at the edge of what fits, and items at the edge of room.
 
+use crate::items::{ClusteredItem, Item};
 use crate::*;
 use std::alloc::{AllocError, Global};
+use vx_base::arithmetic::Code;
 use vx_base::listed::Listed;
 use vx_base::outcome::NoMemory;
+use vx_flow::graph::{Op, Operand};
+use vx_flow::trace::Homes;
 use vx_isa::operation::{GeneralRegister, Operation, Source};
 use vx_isa::program::Word;
-
-/// The default machine with 4 clusters, with this line in the place of `issue = 4`, and a last line.
-fn described(
-    alloc: Global,
-    issue: &str,
-    last: &str,
-) -> Result<Result<Machine, MachineFault>, AllocError> {
-    let mut text = String::new(alloc);
-    text.push_str("clusters = 4\n")?;
-    text.push_str(issue)?;
-    text.push_str("\nalus = 4\nmultipliers = 2\nmemory_units = 1\nregisters = 64\n")?;
-    text.push_str("branch_registers = 8\nread_ports = 8\nwrite_ports = 4\ncopy_paths = 2\n")?;
-    text.push_str("latency_alu = 1\nlatency_compare = 2\nlatency_multiply = 2\n")?;
-    text.push_str("latency_load = 3\nlatency_divide = 8\nlatency_copy = 1\n")?;
-    text.push_str(last)?;
-    Ok(from_toml(alloc, text.as_bytes()))
-}
-
-fn is_fault(alloc: Global, issue: &str, last: &str, code: u32, field: u32) -> bool {
-    match described(alloc, issue, last) {
-        Ok(Err(why)) => why == MachineFault::Bad { code, field },
-        _ => false,
-    }
-}
-
-#[test]
-fn reads_the_default_machine(rt: HostRuntime) {
-    let is_default = match described(rt.alloc(), "issue = 4", "") {
-        Ok(Ok(machine)) => machine == Machine::vex(4),
-        _ => false,
-    };
-    assert!(rt; is_default);
-}
-
-#[test]
-fn names_the_first_fault(rt: HostRuntime) {
-    assert!(rt; is_fault(rt.alloc(), "issue = 5", "", 3, 2));
-    assert!(rt; is_fault(rt.alloc(), "issue = \"4\"", "", 3, 2));
-    assert!(rt; is_fault(rt.alloc(), "", "", 2, 2));
-    assert!(rt; is_fault(rt.alloc(), "issue = 4", "speed = 1\n", 4, 0));
-    assert!(rt; is_fault(rt.alloc(), "issue = 5", "speed = 1\n", 4, 0));
-    assert!(rt; is_fault(rt.alloc(), "issue = 99999999999999999999", "", 1, 0));
-    let empty = from_toml(rt.alloc(), b"");
-    assert!(rt; empty == Err(MachineFault::Bad { code: 2, field: 1 }));
-    let broken = from_toml(rt.alloc(), b"a =");
-    assert!(rt; broken == Err(MachineFault::Bad { code: 1, field: 0 }));
-    let marked = from_toml(rt.alloc(), b"\xEF\xBB\xBFclusters = 4\n");
-    assert!(rt; marked == Err(MachineFault::Bad { code: 1, field: 0 }));
-    assert!(rt; field_name(2) == "issue");
-}
 
 /// A word with so many moves of 1 to registers of cluster 0.
 fn moves(alloc: Global, count: u32) -> Result<Word, NoMemory> {
@@ -118,4 +72,44 @@ fn moves_and_again(alloc: Global) -> Result<Word, NoMemory> {
         from,
     })?;
     Ok(word)
+}
+
+/// The sum of value 0 and this operand, on a cluster.
+fn sum(cluster: u32, right: Operand) -> ClusteredItem {
+    ClusteredItem {
+        cluster,
+        item: Item::Plain(Op::Compute {
+            code: Code::Add,
+            to: 3,
+            left: Operand::Held(0),
+            right,
+        }),
+    }
+}
+
+#[test]
+fn items_have_room_or_none(rt: HostRuntime) -> Result<(), AllocError> {
+    let homes = Homes {
+        clusters: Listed::from_vec(vec![in rt.alloc(); Some(0)]?)?,
+    };
+    let one = sum(0, Operand::Number(1));
+    let far = sum(1, Operand::Held(2));
+    let copy = ClusteredItem {
+        cluster: 1,
+        item: Item::Plain(Op::Across { to: 4, from: 0 }),
+    };
+    let split = ClusteredItem {
+        cluster: 0,
+        item: Item::Split { test: 5 },
+    };
+    let narrow = Machine::vex(1);
+    let wide = Machine::vex(2);
+    assert!(rt; has_room(&narrow, &homes, &[one, one, one, one]));
+    assert!(rt; !has_room(&narrow, &homes, &[one, one, one, one, one]));
+    assert!(rt; has_room(&wide, &homes, &[one, one, one, split, far, copy, copy]));
+    assert!(rt; !has_room(&wide, &homes, &[one, one, split, split]));
+    assert!(rt; !has_room(&narrow, &homes, &[copy]));
+    assert!(rt; wide.latency_of_item(&one.item) == 1 && wide.latency_of_item(&split.item) == 0);
+    assert!(rt; home_of(&homes, 0) == Some(0) && home_of(&homes, 1) == None);
+    Ok(())
 }

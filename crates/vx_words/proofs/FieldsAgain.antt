@@ -15,7 +15,7 @@ use Rattle.vx_isa.specs.declared.operation.Source.TheVariants.{Held, Number}
 use Rattle.vx_isa.specs.Sound.{can_name, can_name_branch, can_spell}
 use Rattle.vx_words.specs.Spelling.{general_text, branch_text, source_text}
 use Rattle.vx_words.specs.Fields.{is_digit, number_at, signed_at, numbers_at, general_at, branch_at, register_at, source_at}
-use Rattle.vx_words.specs.Range.{fits_signed, fits_source}
+use Rattle.vx_isa.specs.Range.{fits_signed, fits_source}
 use Rattle.vx_words.specs.Reading.{is_number}
 use Rattle.vx_words.proofs.Numbers.{own, both_true, IsNoDigitFirst, number_again}
 

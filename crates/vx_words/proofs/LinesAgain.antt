@@ -27,7 +27,7 @@ use Rattle.vx_isa.specs.Sound.{can_name, can_name_branch, can_name_cluster, can_
 use Rattle.vx_words.specs.declared.quoted.Escape.TheVariants.{Plain}
 use Rattle.vx_words.specs.Spelling.{general_text, branch_text, register_text, source_text, address_text, code_name, trap_number, body_text, operation_text, is_plain, hexadecimal_digit, byte_text, quoted_text, start_text, place_text, idle_text}
 use Rattle.vx_words.specs.Fields.{is_digit}
-use Rattle.vx_words.specs.Range.{fits_signed, fits_source, fits_operation}
+use Rattle.vx_isa.specs.Range.{fits_signed, fits_source, fits_operation}
 use Rattle.vx_words.specs.Steps.{hexadecimal_value, unquoted_from, unquoted}
 use Rattle.vx_words.specs.Text.{lines, cons_first, is_not_feed}
 use Rattle.vx_words.proofs.Numbers.{own, both_true}

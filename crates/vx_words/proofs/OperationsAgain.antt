@@ -28,7 +28,7 @@ use Rattle.vx_words.specs.declared.form.Form.TheVariants.{Computes, Moves, Selec
 use Rattle.vx_words.specs.Spelling.{general_text, branch_text, register_text, source_text, address_text, code_name, trap_number, compute_text, body_text}
 use Rattle.vx_words.specs.Fields.{number_at, general_at, register_at, source_at}
 use Rattle.vx_words.specs.Forms.{form_of, code_to, trap_of, candidate, compute_of, move_of, select_of, load_of, store_of, branch_on_of}
-use Rattle.vx_words.specs.Range.{fits_signed, fits_unsigned, fits_source, fits_operation}
+use Rattle.vx_isa.specs.Range.{fits_signed, fits_unsigned, fits_source, fits_operation}
 use Rattle.vx_words.specs.Reading.{is_numbered, branch_front, has_form, has_operands, is_field, operation_by, operation_of}
 use Rattle.vx_words.proofs.Numbers.{both_true, IsNoDigitFirst}
 use Rattle.vx_words.proofs.FieldsAgain.{number_read, signed_read, general_read, branch_read, register_general_read, register_branch_read, source_read, decimal_is_number}

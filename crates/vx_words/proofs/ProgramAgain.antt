@@ -13,7 +13,7 @@ use Rattle.vx_words.specs.declared.before.Stage.TheVariants.{Version, Memory, Te
 use Rattle.vx_words.specs.declared.before.Before.{Before}
 use Rattle.vx_words.specs.Spelling.{start_text, quoted_text}
 use Rattle.vx_words.specs.Fields.{number_at, signed_at}
-use Rattle.vx_words.specs.Range.{fits_signed}
+use Rattle.vx_isa.specs.Range.{fits_signed}
 use Rattle.vx_words.specs.Steps.{beginning, value_from, is_size, entry_at, is_text_stage, version_step, memory_step, start_step, text_step, step}
 use Rattle.vx_words.specs.Text.{run_lines}
 use Rattle.vx_words.proofs.Numbers.{own, both_true}

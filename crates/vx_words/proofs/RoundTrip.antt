@@ -20,7 +20,7 @@ use Rattle.vx_isa.specs.Sound.{is_start, is_not_zero, is_sound_word, is_sound_op
 use Rattle.vx_words.specs.declared.before.Stage.TheVariants.{Version, Memory, WordEnd, Label}
 use Rattle.vx_words.specs.declared.before.Before.{Before}
 use Rattle.vx_words.specs.Spelling.{line, start_line, start_text, text_line, quoted_text, word_lines, words_from, label_line, place_text, idle_text, operation_text, body_text, names, is_named, spelling}
-use Rattle.vx_words.specs.Range.{fits_signed, fits_operation, is_in_range}
+use Rattle.vx_isa.specs.Range.{fits_signed, fits_operation, is_in_range}
 use Rattle.vx_words.specs.Steps.{beginning}
 use Rattle.vx_words.specs.declared.fault.WordsFault.{WordsFault}
 use Rattle.vx_words.specs.Text.{Reads, Spells, text_fault, fault_in, Fault, lines, is_not_feed, is_word_end, word_count, line_operation, line_names, marks_from, run_lines, ended, end_bytes, reading}

@@ -17,7 +17,7 @@ use Rattle.vx_words.specs.declared.before.Stage.TheVariants.{WordEnd, Label, Ope
 use Rattle.vx_words.specs.declared.before.Before.{Before}
 use Rattle.vx_words.specs.Spelling.{place_text, idle_text, operation_text, body_text}
 use Rattle.vx_words.specs.Fields.{number_at}
-use Rattle.vx_words.specs.Range.{fits_operation}
+use Rattle.vx_isa.specs.Range.{fits_operation}
 use Rattle.vx_words.specs.Reading.{is_field, texts_named}
 use Rattle.vx_words.specs.Steps.{begins_word, is_between_words, is_operations_stage, is_idle_stage, is_label_stage, is_beyond, is_operation_line, operation_by_stage, operation_step, word_end_step, idle_step, label_by, label_step, step}
 use Rattle.vx_words.proofs.Numbers.{both_true}

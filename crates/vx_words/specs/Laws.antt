@@ -3,7 +3,7 @@ use Rattle.std.specs.Prelude.{◌≡◌, ℕ, ◌^◌, ◌<◌, true, List, leng
 use Rattle.vx_isa.specs.declared.program.WordProgram.{WordProgram}
 use Rattle.vx_isa.specs.Sound.{is_sound}
 use Rattle.vx_words.specs.Spelling.{spelling}
-use Rattle.vx_words.specs.Range.{is_in_range}
+use Rattle.vx_isa.specs.Range.{is_in_range}
 use Rattle.vx_words.specs.Text.{Spells, text_fault}
 
 -- the program is sound, and its numbers fit their types

@@ -34,7 +34,7 @@ pub enum Form {
 }
 
 /// Every form, by the name that stands for it. A compare has one name for both kinds of result.
-pub const FORMS: [Form; 42] = [
+const FORMS: [Form; 42] = [
     Form::Computes(Code::Add),
     Form::Computes(Code::Sub),
     Form::Computes(Code::And),
@@ -106,8 +106,8 @@ fn name_of_form(form: Form) -> &'static [u8]
     }
 }
 
-#[tactic(auto, unfolding(crate::specs::Forms::form_of))]
 /// The form that a name stands for, if it is the name of one.
+#[tactic(auto, unfolding(crate::specs::Forms::form_of))]
 pub fn form_named(name: &[u8]) -> Option<Form>
     ensures { result ≡ form_of name.now }
 {

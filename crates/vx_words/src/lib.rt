@@ -1,17 +1,17 @@
 // The word text: how a program of words is spelled as a text, and how a text is read back.
 #![tactic(auto)]
 
-pub mod before;
-pub mod fault;
-pub mod fields;
-pub mod form;
+mod before;
+mod fault;
+mod fields;
+mod form;
 pub mod laws;
-pub mod operation_text;
-pub mod program_text;
-pub mod quoted;
-pub mod reader;
-pub mod reading;
-pub mod steps;
+mod operation_reader;
+mod operation_text;
+mod program_text;
+mod quoted;
+mod reader;
+mod steps;
 
 pub use fault::WordsFault;
 pub use program_text::write;
@@ -19,3 +19,5 @@ pub use reader::read;
 
 #[cfg(test)]
 mod tests;
+#[cfg(test)]
+mod text_rows;

@@ -2,7 +2,6 @@
 
 ghost use Rattle.std.specs.Prelude.{◌≡◌, ◌++◌, ◌∷◌, [], decimal, OnOk};
 ghost use Rattle.std.specs.Fmt.{signed_decimal};
-ghost use Rattle.vx_isa.specs.Operations.{cluster_of};
 ghost use Rattle.vx_words.specs.Spelling.{general_text, branch_text, register_text, source_text, label_text, address_text, compare_name, code_name, trap_number, compute_text, select_text, load_text, store_text, branch_on_text, body_text, operation_text, operation_line};
 
 use itoa::Buffer;
@@ -329,24 +328,11 @@ pub fn push_body(out: &mut Vec<u8>, operation: Operation) -> Result<(), NoMemory
     }
 }
 
-pub fn cluster_of_operation(operation: Operation) -> u32
-    ensures { result ≡ cluster_of operation }
-{
-    match operation {
-        Operation::Compute { cluster, .. } => cluster,
-        Operation::Move { cluster, .. } => cluster,
-        Operation::Select { cluster, .. } => cluster,
-        Operation::Load { cluster, .. } => cluster,
-        Operation::Store { cluster, .. } => cluster,
-        _ => 0,
-    }
-}
-
 /// Puts the text of an operation at the end.
-pub fn push_operation(out: &mut Vec<u8>, operation: Operation) -> Result<(), NoMemory>
+fn push_operation(out: &mut Vec<u8>, operation: Operation) -> Result<(), NoMemory>
     ensures { OnOk result (out.new.items ≡ out.old.items ++ operation_text operation) }
 {
-    push_named_number(out, b"c", cluster_of_operation(operation))?;
+    push_named_number(out, b"c", operation.cluster())?;
     push_bytes(out, b" ")?;
     push_body(out, operation)
 }

@@ -15,6 +15,7 @@ use vx_base::outcome::NoMemory;
 use vx_isa::operation::Operation;
 use vx_isa::program::{Word, WordProgram};
 
+/// The place that an operation names, if it names one.
 pub fn target_of_operation(operation: Operation) -> Option<u32>
     ensures { result ≡ target_of operation }
 {
@@ -46,7 +47,7 @@ fn mark_named(named: &mut [bool], operations: &[Operation])
 }
 
 /// For each place below the number of words whether an operation of the program names it.
-pub fn named_places(alloc: Global, words: &[Word]) -> Result<Vec<bool>, NoMemory>
+fn named_places(alloc: Global, words: &[Word]) -> Result<Vec<bool>, NoMemory>
     ensures length { IfOk result (λ named. vec_len named ≡ length words.now) }
     ensures named { IfOk result (λ named. (p : ℕ) → p < length words.now → get_or named.items p false ≡ is_named words.now p) }
 {

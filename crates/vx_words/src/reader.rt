@@ -11,9 +11,8 @@ ghost use Rattle.vx_words.specs.Text.{lines, is_not_feed, is_word_end, word_coun
 use crate::before::{Before, Stage};
 use crate::fault::{LineFault, WordsFault};
 use crate::fields::skip;
-use crate::operation_text::cluster_of_operation;
+use crate::operation_reader::read_operation;
 use crate::program_text::target_of_operation;
-use crate::reading::read_operation;
 use crate::steps::{cluster_of_line, is_between, is_same, take_line};
 use std::alloc::Global;
 use vx_base::listed::Listed;
@@ -66,7 +65,7 @@ fn operation_of_line(alloc: Global, line: &[u8]) -> Result<Option<Operation>, No
         None => Ok(None),
         Some(cluster) => match read_operation(alloc, cluster, skip(line, 3)) {
             Ok(operation) => {
-                let stands = cluster == cluster_of_operation(operation);
+                let stands = cluster == operation.cluster();
                 Ok(if stands { Some(operation) } else { None })
             },
             Err(LineFault::Code(_)) => Ok(None),

@@ -11,10 +11,9 @@ ghost use Rattle.vx_words.specs.Steps.{is_start_stage, is_version_stage, is_memo
 use crate::before::{Before, Stage};
 use crate::fault::LineFault;
 use crate::fields::{byte_at, number, signed, skip};
-use crate::operation_text::cluster_of_operation;
+use crate::operation_reader::{field_end, is_number_text, read_operation, texts_of};
 use crate::program_text::{push_idle, push_place, push_quoted, push_start, target_of_operation};
 use crate::quoted::text_of_line;
-use crate::reading::{field_end, is_number_text, read_operation, texts_of};
 use std::alloc::Global;
 use vx_base::listed::{Bytes, Listed};
 use vx_base::outcome::NoMemory;
@@ -339,7 +338,7 @@ fn add_operation(
     if is_beyond_words(total, operation) {
         return Err(LineFault::Code(4));
     }
-    if cluster != cluster_of_operation(operation)
+    if cluster != operation.cluster()
         || !(word_begins(marks, &before) || is_at_operations(before.stage))
     {
         return Err(LineFault::Code(1));

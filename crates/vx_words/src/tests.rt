@@ -3,7 +3,7 @@
 ghost use Rattle.std.specs.Prelude.{◌≡◌, true, [], ◌∷◌, IfOk};
 ghost use Rattle.vx_isa.specs.Sound.{is_sound};
 
-use crate::{WordsFault, read, write};
+use crate::write;
 use std::alloc::Global;
 use vx_base::arithmetic::Code;
 use vx_base::listed::{Bytes, Listed};
@@ -87,48 +87,4 @@ fn sum_is_spelled(rt: HostRuntime) -> Result<(), NoMemory> {
         b".vexwords 1\n.memory 0\n.text \"\\x0a\"\nc0 mov $r0.3 = 2\n;;\nc0 add $r0.3 = $r0.3, 3\n;;\nc0 outd $r0.3\n;;\nc0 outs T0\n;;\nc0 mov $r0.3 = 0\n;;\nc0 halt $r0.3\n;;\n.end\n";
     assert_eq!(rt; text.as_slice(), by_hand.as_slice());
     Ok(())
-}
-
-// The text of a program that prints 7 * 5.
-const PRODUCT: &[u8] =
-    b".vexwords 1\n.memory 0\nc0 mov $r0.4 = 7\n;;\nc0 mpylu $r0.3 = $r0.4, 5\n;;\nc0 outd $r0.3\n;;\nc0 halt 0\n;;\n.end\n";
-
-#[test]
-fn product_is_read_and_written_again(rt: HostRuntime) -> Result<(), WordsFault> {
-    let program = read(rt.alloc(), PRODUCT)?;
-    assert_eq!(rt; program.words.len(), 4);
-    let text = write(rt.alloc(), &program)?;
-    assert_eq!(rt; text.as_slice(), PRODUCT);
-    Ok(())
-}
-
-fn fault(alloc: Global, text: &[u8]) -> Option<WordsFault> {
-    match read(alloc, text) {
-        Ok(_) => None,
-        Err(fault) => Some(fault),
-    }
-}
-
-#[test]
-fn faults_are_found(rt: HostRuntime) {
-    let leading_zero = b".vexwords 1\n.memory 0\nc0 mov $r00.3 = 1\n;;\n.end\n";
-    assert_eq!(rt;
-        fault(rt.alloc(), leading_zero),
-        Some(WordsFault::Bad { code: 3, line: 3 })
-    );
-    let without_end = &PRODUCT[..PRODUCT.len() - 5];
-    assert_eq!(rt;
-        fault(rt.alloc(), without_end),
-        Some(WordsFault::Bad { code: 7, line: 0 })
-    );
-    let large = b".vexwords 1\n.memory 134217732\n.end\n";
-    assert_eq!(rt;
-        fault(rt.alloc(), large),
-        Some(WordsFault::Bad { code: 6, line: 2 })
-    );
-    let unnamed = b".vexwords 1\n.memory 0\n;;\nc0 goto L1\n;;\nL1:\n;;\n.end\n";
-    assert_eq!(rt;
-        fault(rt.alloc(), unnamed),
-        Some(WordsFault::Bad { code: 1, line: 4 })
-    );
 }

@@ -2,7 +2,6 @@
 
 ghost use Rattle.std.specs.Prelude.{◌≡◌, ◌+◌, ◌≤◌, length, IfOk, OnOk, ◌++◌};
 ghost use Rattle.std.specs.List.{list_all, prefix_len};
-ghost use Rattle.vx_isa.specs.Sound.{can_name_cluster, can_name, can_name_branch, can_spell, is_destination, is_sound_operation};
 ghost use Rattle.vx_words.specs.Fields.{is_digit};
 ghost use Rattle.vx_words.specs.Reading.{Gives, is_number, is_numbered, branch_front, has_form, texts_named, has_operands, is_field, operation_of};
 ghost use Rattle.vx_words.specs.Spelling.{target_of};
@@ -13,9 +12,9 @@ use crate::form::{candidate_of, form_named};
 use crate::operation_text::{push_body, push_bytes, push_number};
 use crate::program_text::target_of_operation;
 use std::alloc::Global;
-use vx_base::arithmetic::Code;
 use vx_base::outcome::NoMemory;
-use vx_isa::operation::{BranchRegister, GeneralRegister, Operation, Register, Source};
+use vx_isa::is_sound_operation;
+use vx_isa::operation::Operation;
 
 fn are_digits(text: &[u8]) -> bool
     ensures { result ≡ list_all is_digit text.now }
@@ -72,92 +71,6 @@ fn is_of_form(alloc: Global, operation: Operation, text: &[u8]) -> Result<bool, 
     }
 }
 
-fn is_general(register: GeneralRegister) -> bool
-    ensures { result ≡ can_name register }
-{
-    register.cluster <= 3 && register.number <= 63
-}
-
-fn is_branch(register: BranchRegister) -> bool
-    ensures { result ≡ can_name_branch register }
-{
-    register.cluster <= 3 && register.number <= 7
-}
-
-fn is_source(source: Source) -> bool
-    ensures { result ≡ can_spell source }
-{
-    match source {
-        Source::Held(register) => is_general(register),
-        Source::Number(_) => true,
-    }
-}
-
-fn is_destination_of(code: Code, to: Register) -> bool
-    ensures { result ≡ is_destination code to }
-{
-    match code {
-        Code::Mov => false,
-        Code::ToBranch(_) => match to {
-            Register::Branch(register) => is_branch(register),
-            _ => false,
-        },
-        _ => match to {
-            Register::General(register) => is_general(register),
-            _ => false,
-        },
-    }
-}
-
-fn is_sound_in(operation: Operation, words: usize, texts: usize) -> bool
-    ensures { result ≡ is_sound_operation words texts operation }
-{
-    match operation {
-        Operation::Compute {
-            cluster,
-            code,
-            to,
-            left,
-            right,
-        } => { cluster <= 3 && is_destination_of(code, to) && is_source(left) && is_source(right) },
-        Operation::Move { cluster, to, from } => cluster <= 3 && is_general(to) && is_source(from),
-        Operation::Select {
-            cluster,
-            to,
-            test,
-            left,
-            right,
-        } => {
-            cluster <= 3 && is_general(to) && is_branch(test) && is_source(left) && is_source(right)
-        },
-        Operation::Load {
-            cluster,
-            to,
-            base,
-            ..
-        } => cluster <= 3 && is_general(to) && is_general(base),
-        Operation::Store {
-            cluster,
-            base,
-            from,
-            ..
-        } => cluster <= 3 && is_general(base) && is_source(from),
-        Operation::Input { to } => is_general(to),
-        Operation::More { to } => is_general(to),
-        Operation::OutText { text } => (text as usize) < texts,
-        Operation::OutDecimal { from } => is_source(from),
-        Operation::OutByte { from } => is_source(from),
-        Operation::Goto { target } => (target as usize) < words,
-        Operation::BranchOn { test, target, .. } => test <= 7 && (target as usize) < words,
-        Operation::Call { target } => (target as usize) < words,
-        Operation::Return => true,
-        Operation::FromLink { to } => is_general(to),
-        Operation::ToLink { from } => is_source(from),
-        Operation::EndByTrap { .. } => true,
-        Operation::Halt { from } => is_source(from),
-    }
-}
-
 /// How many texts there are at least where an operation's text is there.
 pub fn texts_of(operation: Operation) -> usize
     ensures { result ≡ texts_named operation }
@@ -173,7 +86,7 @@ fn operands_are_named(operation: Operation) -> bool
     ensures { result ≡ has_operands operation }
 {
     let target = target_of_operation(operation).unwrap_or(0);
-    is_sound_in(operation, target as usize + 1, texts_of(operation))
+    is_sound_operation(&operation, target as usize + 1, texts_of(operation))
 }
 
 /// How many bytes stand before the first blank.
