@@ -10,3 +10,8 @@ pub mod CallRows
 pub mod PieceLaws
 pub mod TokenLaws
 mod TokenRows
+pub mod MoreTurns
+pub mod Ranges
+pub mod KeptSteps
+pub mod InterpreterSteps
+pub mod InterpreterLoops

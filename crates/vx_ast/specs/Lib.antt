@@ -9,3 +9,7 @@ pub mod Phrases
 pub mod Syntax
 pub mod SyntaxView
 pub mod Accepted
+pub mod SourceLaws
+pub mod Range
+pub mod Kept
+pub mod Interpreting
