@@ -7,6 +7,7 @@ pub mod SmallRows
 pub mod MeaningRows
 pub mod LoopRows
 pub mod CallRows
+mod AcceptedRows
 pub mod PieceLaws
 pub mod TokenLaws
 mod TokenRows

@@ -6,7 +6,7 @@ use Rattle.vx_ast.specs.declared.tree.Gives.{Gives}
 use Rattle.vx_ast.specs.declared.tree.Gives.TheVariants.{Int as GivesInt, Nothing as GivesNothing}
 use Rattle.vx_ast.specs.declared.tree.GlobalVariable.{GlobalVariable}
 use Rattle.vx_ast.specs.declared.tree.GlobalVariable.TheVariants.{Scalar as ScalarGlobal, Array as ArrayGlobal}
-use Rattle.vx_ast.specs.Tree.{Shape, One, Row, Tree, Literal, Local, Global, Element, Unary, Binary, Both, Either, Choice, Apply, ReadInt, MoreInput, NoMore, Then, Place, InLocal, InGlobal, InElement, Action, Evaluate, Assign, Compound, Increase, Decrease, Code, Nothing, Seq, Empty, Block, Clear, Declare, ClearArray, Simply, Head, Print, If, IfElse, While, DoWhile, For, Break, Continue, Return, ReturnValue, Function, Program}
+use Rattle.vx_ast.specs.Tree.{Shape, One, Tree, Literal, Local, Global, Element, Unary, Binary, Both, Either, Choice, Apply, ReadInt, MoreInput, NoMore, Then, Place, InLocal, InGlobal, InElement, Action, Evaluate, Assign, Compound, Increase, Decrease, Code, Nothing, Seq, Empty, Block, Clear, Declare, ClearArray, Simply, Head, Print, If, IfElse, While, DoWhile, For, Break, Continue, Return, ReturnValue, Function, Program}
 use Rattle.vx_ast.specs.Meaning.{Piece, AByte, ANumber, pieces_of}
 
 -- small tests
@@ -22,10 +22,10 @@ abbrev pub below : ℕ → List ℕ
 below zero = []
 below (suc n) = n ∷ below n
 
--- a number of 32 bits that is not negative
-abbrev pub is_literal : ℤ → Bool
-is_literal (pos n) = nat_lt n (2 ^ 31)
-is_literal (negsuc n) = false
+-- a number of 32 bits
+abbrev pub is_word : ℤ → Bool
+is_word (pos n) = nat_lt n (2 ^ 31)
+is_word (negsuc n) = nat_lt n (2 ^ 31)
 
 abbrev pub gives_int : Gives → Bool
 gives_int GivesInt = true
@@ -65,7 +65,7 @@ can_call wanted n (Some f) = wanted f.gives && nat_eq n f.parameters
 -- expressions, each of which is used as a number
 
 abbrev pub suits : {k : Shape} → Program → Scope → Tree k → Bool
-suits p sc (Literal z) = is_literal z
+suits p sc (Literal z) = is_word z
 suits p sc (Local x) = is_in x sc.scalars
 suits p sc (Global a) = is_scalar (slice_get p.globals a)
 suits p sc (Element a i) = names_array p sc a && suits p sc i
@@ -203,8 +203,7 @@ suits_function p f =
         && (are_all_from (length p.globals) (length f.arrays) (arrays_of f.body) && list_all (nat_lt 0) f.arrays))
 
 abbrev pub suits_global : GlobalVariable → Bool
-suits_global (ScalarGlobal (pos n)) = nat_lt n (2 ^ 31)
-suits_global (ScalarGlobal (negsuc n)) = nat_lt (suc n) (2 ^ 31)
+suits_global (ScalarGlobal z) = is_word z
 suits_global (ArrayGlobal n) = nat_lt 0 n
 
 -- an `int` function without parameters

@@ -13,3 +13,6 @@ pub mod SourceLaws
 pub mod Range
 pub mod Kept
 pub mod Interpreting
+pub mod Scopes
+pub mod Faults
+pub mod Resolved

@@ -9,6 +9,7 @@ pub mod interpreter;
 mod loop_tests;
 #[cfg(test)]
 mod program_steps;
+pub mod names;
 pub mod small;
 pub mod small_tokens;
 pub mod source_laws;

@@ -1,0 +1,15 @@
+pub mod Lookups
+pub mod Agreeing
+pub mod Leasts
+pub mod Scoping
+pub mod Views
+pub mod Rows
+pub mod Declarations
+pub mod Lists
+pub mod Suits
+pub mod Numbered
+pub mod SuitsCode
+pub mod Passing
+pub mod SuitsProgram
+pub mod Wholes
+mod FaultRows

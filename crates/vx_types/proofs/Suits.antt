@@ -1,0 +1,267 @@
+-- Expressions without faults suit what is known of their names.
+use Rattle.std.proofs.Common.{◌≡◌, ℕ, zero, suc, ◌+◌, ◌<◌, ◌≤◌, Bool, true, false, ◌&&◌, if◌then◌else◌, not, nat_eq, nat_lt, List, [], ◌∷◌, ◌++◌, length, refl, ap, sym, ◌∙◌, subst, Option, Some, None, arith, add-one}
+use Rattle.std.specs.Prelude.{slice_get}
+use Rattle.std.specs.List.{list_any}
+use Rattle.vx_ast.specs.declared.tree.Gives.{Gives}
+use Rattle.vx_ast.specs.declared.syntax.Place.{Place}
+use Rattle.vx_ast.specs.declared.syntax.Name.{Name}
+use Rattle.vx_ast.specs.declared.names.Named.{Named}
+use Rattle.vx_ast.specs.declared.names.Named.TheVariants.{Scalar as AScalar, Global as AGlobal, Array as AnArray, Function as AFunctionNamed, ReadInt as Reads, MoreInput as AsksMore, Print as Prints}
+use Rattle.vx_ast.specs.declared.names.Meant.{Meant}
+use Rattle.vx_ast.specs.declared.names.Fault.{Fault}
+use Rattle.vx_ast.specs.Tree as tree
+use Rattle.vx_ast.specs.Tree.{Shape, One, Row, Tree}
+use Rattle.vx_ast.specs.Accepted as accepted
+use Rattle.vx_ast.specs.Accepted.{gives_int, is_scalar, is_in, names_array, can_call, suits, suits_place, suits_whole, suits_action, suits_test}
+use Rattle.vx_ast.specs.Syntax.{Phrase, Number, Use, Element, Call, Unary, Binary, Both, Either, Choice, NoMore, Then, Target, Action, Evaluate, Assign, Compound, Increase, Decrease}
+use Rattle.vx_ast.specs.Scopes.{Environment, Known, find, look, named, named_in, same_name, file_in}
+use Rattle.vx_ast.specs.Faults.{fault_if, used, indexed, called, changed, row_length, phrase_faults, whole_faults, target_faults, action_faults, test_faults}
+use Rattle.vx_ast.specs.Resolved.{number_named, array_named, call_named, place_named, tree_in, target_in, action_in, test_in}
+use Rattle.vx_types.specs.Words.{tree_words, place_words, action_words, test_words}
+
+-- small facts
+
+pub and_both : (a b : Bool) → a ≡ true → b ≡ true → (a && b) ≡ true
+and_both a b p q = ap (λ (z : Bool). z && b) p ∙ q
+
+pub and_left : (a b : Bool) → (a && b) ≡ true → a ≡ true
+and_left true b e = refl
+and_left false b e = e
+
+pub and_right : (a b : Bool) → (a && b) ≡ true → b ≡ true
+and_right true b e = e
+and_right false b e = absurd (apart e)
+  where
+    apart : false ≡ true → ⊥
+    apart h = cc
+
+pub none_left : (xs ys : List Fault) → xs ++ ys ≡ [] → xs ≡ []
+none_left [] ys e = refl
+none_left (x ∷ xs) ys e = cc
+
+pub none_right : (xs ys : List Fault) → xs ++ ys ≡ [] → ys ≡ []
+none_right [] ys e = e
+none_right (x ∷ xs) ys e = cc
+
+pub no_fault : (test : Bool) (code : ℕ) (place : Place) → fault_if test code place ≡ [] → test ≡ false
+no_fault true code place e = cc
+no_fault false code place e = refl
+
+pub not_false : (b : Bool) → not b ≡ false → b ≡ true
+not_false true e = refl
+not_false false e = sym e
+
+-- what a name stands for is there in the program, and in force
+
+abbrev pub Fits : tree.Program → accepted.Scope → Named → Type 0
+Fits P sc (AScalar n) = is_in n sc.scalars ≡ true
+Fits P sc (AGlobal a) = is_scalar (slice_get P.globals a) ≡ true
+Fits P sc (AnArray a) = names_array P sc a ≡ true
+Fits P sc (AFunctionNamed f gives count) = (t : tree.Function) × (slice_get P.functions f ≡ Some t) × (t.gives ≡ gives) × (t.parameters ≡ count)
+Fits P sc Reads = Unit {0}
+Fits P sc AsksMore = Unit {0}
+Fits P sc Prints = Unit {0}
+
+abbrev pub AllFit : tree.Program → accepted.Scope → List Known → Type 0
+AllFit P sc [] = Unit {0}
+AllFit P sc (k ∷ ks) = Fits P sc k.meant.named × AllFit P sc ks
+
+abbrev pub KnownFit : tree.Program → accepted.Scope → Environment → Type 0
+KnownFit P sc env = AllFit P sc (env.locals ++ file_in env)
+
+module _ (P : tree.Program) (sc : accepted.Scope) where
+  find_fits : (x : List ℕ) (ks : List Known) (m : Meant) → AllFit P sc ks → find x ks ≡ Some m → Fits P sc m.named
+  find_fits x [] m a e = cc
+  find_fits x (k ∷ ks) m a e =
+      let by : (b : Bool) → (if b then Some k.meant else find x ks) ≡ Some m → Fits P sc m.named
+      = λ b. elim b as (λ v. (if v then Some k.meant else find x ks) ≡ Some m → Fits P sc m.named) [
+        | true ↦ λ (h : Some k.meant ≡ Some m). (let q : k.meant ≡ m = cc in subst (λ (z : Meant). Fits P sc z.named) q a.0)
+        | false ↦ λ h. find_fits x ks m a.1 h
+      ] in
+      by (same_name x k.name) e
+
+  named_fits : (x : List ℕ) (env : Environment) (n : Named) → KnownFit P sc env → named x env ≡ Some n → Fits P sc n
+  unfolding look
+  named_fits x env n a e =
+      let by : (o : Option Meant) → find x (env.locals ++ file_in env) ≡ o → named_in o ≡ Some n → Fits P sc n
+      = λ o. elim o as (λ o. find x (env.locals ++ file_in env) ≡ o → named_in o ≡ Some n → Fits P sc n) [
+        | None ↦ λ h (q : None ≡ Some n). cc
+        | Some m ↦ λ h (q : Some m.named ≡ Some n). (let w : m.named ≡ n = cc in subst (λ (z : Named). Fits P sc z) w (find_fits x (env.locals ++ file_in env) m a h))
+      ] in
+      by (find x (env.locals ++ file_in env)) refl e
+
+  -- names
+
+  used_suits : (x : Name) (o : Option Named) → ((n : Named) → o ≡ Some n → Fits P sc n) → used x o ≡ [] → suits P sc (number_named o) ≡ true
+  used_suits x None f e = cc
+  used_suits x (Some (AScalar n)) f e = f (AScalar n) refl
+  used_suits x (Some (AGlobal a)) f e = f (AGlobal a) refl
+  used_suits x (Some (AnArray a)) f e = cc
+  used_suits x (Some (AFunctionNamed g gives count)) f e = cc
+  used_suits x (Some Reads) f e = cc
+  used_suits x (Some AsksMore) f e = cc
+  used_suits x (Some Prints) f e = cc
+
+  indexed_suits : (x : Name) (o : Option Named) → ((n : Named) → o ≡ Some n → Fits P sc n) → indexed x o ≡ [] → names_array P sc (array_named o) ≡ true
+  indexed_suits x None f e = cc
+  indexed_suits x (Some (AScalar n)) f e = cc
+  indexed_suits x (Some (AGlobal a)) f e = cc
+  indexed_suits x (Some (AnArray a)) f e = f (AnArray a) refl
+  indexed_suits x (Some (AFunctionNamed g gives count)) f e = cc
+  indexed_suits x (Some Reads) f e = cc
+  indexed_suits x (Some AsksMore) f e = cc
+  indexed_suits x (Some Prints) f e = cc
+
+  changed_suits : (at : Place) (x : Name) (o : Option Named) → ((n : Named) → o ≡ Some n → Fits P sc n) → changed at x o ≡ [] → suits_place P sc (place_named o) ≡ true
+  changed_suits at x None f e = cc
+  changed_suits at x (Some (AScalar n)) f e = f (AScalar n) refl
+  changed_suits at x (Some (AGlobal a)) f e = f (AGlobal a) refl
+  changed_suits at x (Some (AnArray a)) f e = cc
+  changed_suits at x (Some (AFunctionNamed g gives count)) f e = cc
+  changed_suits at x (Some Reads) f e = cc
+  changed_suits at x (Some AsksMore) f e = cc
+  changed_suits at x (Some Prints) f e = cc
+
+  -- a call of a function that is there
+  can_call_it : (wanted : Gives → Bool) (n : ℕ) (o : Option tree.Function) (t : tree.Function) → o ≡ Some t → wanted t.gives ≡ true → nat_eq n t.parameters ≡ true → can_call wanted n o ≡ true
+  can_call_it wanted n o t e w c = ap (λ (z : Option tree.Function). can_call wanted n z) e ∙ and_both (wanted t.gives) (nat_eq n t.parameters) w c
+
+  called_suits : (x : Name) (n : ℕ) (row : Tree Row) (o : Option Named) → ((n : Named) → o ≡ Some n → Fits P sc n) → n ≡ accepted.row_length row → (tree_words row ≡ true → suits P sc row ≡ true) → tree_words (call_named o row) ≡ true → called false n x o ≡ [] → suits P sc (call_named o row) ≡ true
+  called_suits x n row None f l r w e = cc
+  called_suits x n row (Some (AScalar m)) f l r w e = cc
+  called_suits x n row (Some (AGlobal a)) f l r w e = cc
+  called_suits x n row (Some (AnArray a)) f l r w e = cc
+  called_suits x n row (Some (AFunctionNamed g gives count)) f l r w e =
+      let t = f (AFunctionNamed g gives count) refl in
+      let a : gives_int gives ≡ true = not_false (gives_int gives) (no_fault (not (gives_int gives)) 7 x.place (none_left (fault_if (not (gives_int gives)) 7 x.place) (fault_if (not (nat_eq n count)) 8 x.place) e)) in
+      let b : nat_eq n count ≡ true = not_false (nat_eq n count) (no_fault (not (nat_eq n count)) 8 x.place (none_right (fault_if (not (gives_int gives)) 7 x.place) (fault_if (not (nat_eq n count)) 8 x.place) e)) in
+      and_both (can_call gives_int (accepted.row_length row) (slice_get P.functions g)) (suits P sc row)
+      (can_call_it gives_int (accepted.row_length row) (slice_get P.functions g) t.0 t.1 (ap gives_int t.2 ∙ a) (ap (λ (z : ℕ). nat_eq z t.0.parameters) (sym l) ∙ ap (λ (z : ℕ). nat_eq n z) t.3 ∙ b)) (r w)
+  called_suits x n row (Some Reads) f l r w e = refl
+  called_suits x n row (Some AsksMore) f l r w e = refl
+  called_suits x n row (Some Prints) f l r w e = cc
+
+  whole_suits : (x : Name) (n : ℕ) (row : Tree Row) (o : Option Named) → ((n : Named) → o ≡ Some n → Fits P sc n) → n ≡ accepted.row_length row → (tree_words row ≡ true → suits P sc row ≡ true) → tree_words (call_named o row) ≡ true → called true n x o ≡ [] → suits_whole P sc (call_named o row) ≡ true
+  whole_suits x n row None f l r w e = cc
+  whole_suits x n row (Some (AScalar m)) f l r w e = cc
+  whole_suits x n row (Some (AGlobal a)) f l r w e = cc
+  whole_suits x n row (Some (AnArray a)) f l r w e = cc
+  whole_suits x n row (Some (AFunctionNamed g gives count)) f l r w e =
+      let t = f (AFunctionNamed g gives count) refl in
+      let b : nat_eq n count ≡ true = not_false (nat_eq n count) (no_fault (not (nat_eq n count)) 8 x.place e) in
+      and_both (can_call (λ gives. true) (accepted.row_length row) (slice_get P.functions g)) (suits P sc row)
+      (can_call_it (λ gives. true) (accepted.row_length row) (slice_get P.functions g) t.0 t.1 refl (ap (λ (z : ℕ). nat_eq z t.0.parameters) (sym l) ∙ ap (λ (z : ℕ). nat_eq n z) t.3 ∙ b)) (r w)
+  whole_suits x n row (Some Reads) f l r w e = refl
+  whole_suits x n row (Some AsksMore) f l r w e = refl
+  whole_suits x n row (Some Prints) f l r w e = cc
+
+  -- what suits as a number suits as the whole of a statement
+  any_call : (n : ℕ) (o : Option tree.Function) → can_call gives_int n o ≡ true → can_call (λ gives. true) n o ≡ true
+  any_call n None e = e
+  any_call n (Some t) e = and_right (gives_int t.gives) (nat_eq n t.parameters) e
+
+  as_whole : (t : Tree One) → suits P sc t ≡ true → suits_whole P sc t ≡ true
+  as_whole (tree.Literal z) e = e
+  as_whole (tree.Local x) e = e
+  as_whole (tree.Global a) e = e
+  as_whole (tree.Element a i) e = e
+  as_whole (tree.Unary operator a) e = e
+  as_whole (tree.Binary operator a b) e = e
+  as_whole (tree.Both a b) e = e
+  as_whole (tree.Either a b) e = e
+  as_whole (tree.Choice c a b) e = e
+  as_whole (tree.Apply g row) e =
+      and_both (can_call (λ gives. true) (accepted.row_length row) (slice_get P.functions g)) (suits P sc row)
+      (any_call (accepted.row_length row) (slice_get P.functions g) (and_left (can_call gives_int (accepted.row_length row) (slice_get P.functions g)) (suits P sc row) e))
+      (and_right (can_call gives_int (accepted.row_length row) (slice_get P.functions g)) (suits P sc row) e)
+  as_whole tree.ReadInt e = e
+  as_whole tree.MoreInput e = e
+
+  -- expressions
+
+  pub lengths : (env : Environment) (row : Phrase Row) → row_length row ≡ accepted.row_length (tree_in env row)
+  lengths env NoMore = refl
+  lengths env (Then a rest) = add-one (row_length rest) ∙ ap suc (lengths env rest)
+
+  pub phrase_suits : {k : Shape} (env : Environment) (e : Phrase k) → KnownFit P sc env → tree_words (tree_in env e) ≡ true → phrase_faults env e ≡ [] → suits P sc (tree_in env e) ≡ true
+  phrase_suits env (Number z) fit w e = w
+  phrase_suits env (Use x) fit w e = used_suits x (named x.bytes env) (λ n h. named_fits x.bytes env n fit h) e
+  phrase_suits env (Element a i) fit w e =
+      and_both (names_array P sc (array_named (named a.bytes env))) (suits P sc (tree_in env i))
+      (indexed_suits a (named a.bytes env) (λ n h. named_fits a.bytes env n fit h) (none_left (indexed a (named a.bytes env)) (phrase_faults env i) e))
+      (phrase_suits env i fit w (none_right (indexed a (named a.bytes env)) (phrase_faults env i) e))
+  phrase_suits env (Call f row) fit w e =
+      called_suits f (row_length row) (tree_in env row) (named f.bytes env) (λ n h. named_fits f.bytes env n fit h) (lengths env row)
+      (λ v. phrase_suits env row fit v (none_right (called false (row_length row) f (named f.bytes env)) (phrase_faults env row) e)) w
+      (none_left (called false (row_length row) f (named f.bytes env)) (phrase_faults env row) e)
+  phrase_suits env (Unary operator a) fit w e = phrase_suits env a fit w e
+  phrase_suits env (Binary operator a b) fit w e =
+      and_both (suits P sc (tree_in env a)) (suits P sc (tree_in env b))
+      (phrase_suits env a fit (and_left (tree_words (tree_in env a)) (tree_words (tree_in env b)) w) (none_left (phrase_faults env a) (phrase_faults env b) e))
+      (phrase_suits env b fit (and_right (tree_words (tree_in env a)) (tree_words (tree_in env b)) w) (none_right (phrase_faults env a) (phrase_faults env b) e))
+  phrase_suits env (Both a b) fit w e =
+      and_both (suits P sc (tree_in env a)) (suits P sc (tree_in env b))
+      (phrase_suits env a fit (and_left (tree_words (tree_in env a)) (tree_words (tree_in env b)) w) (none_left (phrase_faults env a) (phrase_faults env b) e))
+      (phrase_suits env b fit (and_right (tree_words (tree_in env a)) (tree_words (tree_in env b)) w) (none_right (phrase_faults env a) (phrase_faults env b) e))
+  phrase_suits env (Either a b) fit w e =
+      and_both (suits P sc (tree_in env a)) (suits P sc (tree_in env b))
+      (phrase_suits env a fit (and_left (tree_words (tree_in env a)) (tree_words (tree_in env b)) w) (none_left (phrase_faults env a) (phrase_faults env b) e))
+      (phrase_suits env b fit (and_right (tree_words (tree_in env a)) (tree_words (tree_in env b)) w) (none_right (phrase_faults env a) (phrase_faults env b) e))
+  phrase_suits env (Choice c a b) fit w e =
+      let wr = and_right (tree_words (tree_in env c)) (tree_words (tree_in env a) && tree_words (tree_in env b)) w in
+      let er = none_right (phrase_faults env c) (phrase_faults env a ++ phrase_faults env b) e in
+      and_both (suits P sc (tree_in env c)) (suits P sc (tree_in env a) && suits P sc (tree_in env b))
+      (phrase_suits env c fit (and_left (tree_words (tree_in env c)) (tree_words (tree_in env a) && tree_words (tree_in env b)) w) (none_left (phrase_faults env c) (phrase_faults env a ++ phrase_faults env b) e))
+      (and_both (suits P sc (tree_in env a)) (suits P sc (tree_in env b))
+      (phrase_suits env a fit (and_left (tree_words (tree_in env a)) (tree_words (tree_in env b)) wr) (none_left (phrase_faults env a) (phrase_faults env b) er))
+      (phrase_suits env b fit (and_right (tree_words (tree_in env a)) (tree_words (tree_in env b)) wr) (none_right (phrase_faults env a) (phrase_faults env b) er)))
+  phrase_suits env NoMore fit w e = refl
+  phrase_suits env (Then a rest) fit w e =
+      and_both (suits P sc (tree_in env a)) (suits P sc (tree_in env rest))
+      (phrase_suits env a fit (and_left (tree_words (tree_in env a)) (tree_words (tree_in env rest)) w) (none_left (phrase_faults env a) (phrase_faults env rest) e))
+      (phrase_suits env rest fit (and_right (tree_words (tree_in env a)) (tree_words (tree_in env rest)) w) (none_right (phrase_faults env a) (phrase_faults env rest) e))
+
+  whole_phrase_suits : (env : Environment) (e : Phrase One) → KnownFit P sc env → tree_words (tree_in env e) ≡ true → whole_faults env e ≡ [] → suits_whole P sc (tree_in env e) ≡ true
+  whole_phrase_suits env (Number z) fit w e = as_whole (tree_in env (Number z)) (phrase_suits env (Number z) fit w e)
+  whole_phrase_suits env (Use x) fit w e = as_whole (tree_in env (Use x)) (phrase_suits env (Use x) fit w e)
+  whole_phrase_suits env (Element a i) fit w e = as_whole (tree_in env (Element a i)) (phrase_suits env (Element a i) fit w e)
+  whole_phrase_suits env (Call f row) fit w e =
+      whole_suits f (row_length row) (tree_in env row) (named f.bytes env) (λ n h. named_fits f.bytes env n fit h) (lengths env row)
+      (λ v. phrase_suits env row fit v (none_right (called true (row_length row) f (named f.bytes env)) (phrase_faults env row) e)) w
+      (none_left (called true (row_length row) f (named f.bytes env)) (phrase_faults env row) e)
+  whole_phrase_suits env (Unary operator a) fit w e = as_whole (tree_in env (Unary operator a)) (phrase_suits env (Unary operator a) fit w e)
+  whole_phrase_suits env (Binary operator a b) fit w e = as_whole (tree_in env (Binary operator a b)) (phrase_suits env (Binary operator a b) fit w e)
+  whole_phrase_suits env (Both a b) fit w e = as_whole (tree_in env (Both a b)) (phrase_suits env (Both a b) fit w e)
+  whole_phrase_suits env (Either a b) fit w e = as_whole (tree_in env (Either a b)) (phrase_suits env (Either a b) fit w e)
+  whole_phrase_suits env (Choice c a b) fit w e = as_whole (tree_in env (Choice c a b)) (phrase_suits env (Choice c a b) fit w e)
+
+  target_suits : (env : Environment) (at : Place) (e : Phrase One) → KnownFit P sc env → place_words (target_in env e) ≡ true → target_faults env at e ≡ [] → suits_place P sc (target_in env e) ≡ true
+  target_suits env at (Use x) fit w e = changed_suits at x (named x.bytes env) (λ n h. named_fits x.bytes env n fit h) e
+  target_suits env at (Element a i) fit w e =
+      and_both (names_array P sc (array_named (named a.bytes env))) (suits P sc (tree_in env i))
+      (indexed_suits a (named a.bytes env) (λ n h. named_fits a.bytes env n fit h) (none_left (indexed a (named a.bytes env)) (phrase_faults env i) e))
+      (phrase_suits env i fit w (none_right (indexed a (named a.bytes env)) (phrase_faults env i) e))
+  target_suits env at (Number z) fit w e = cc
+  target_suits env at (Call f row) fit w e = cc
+  target_suits env at (Unary operator a) fit w e = cc
+  target_suits env at (Binary operator a b) fit w e = cc
+  target_suits env at (Both a b) fit w e = cc
+  target_suits env at (Either a b) fit w e = cc
+  target_suits env at (Choice c a b) fit w e = cc
+
+  pub action_suits : (env : Environment) (a : Action) → KnownFit P sc env → action_words (action_in env a) ≡ true → action_faults env a ≡ [] → suits_action P sc (action_in env a) ≡ true
+  action_suits env (Evaluate e) fit w h = whole_phrase_suits env e fit w h
+  action_suits env (Assign t e) fit w h =
+      and_both (suits_place P sc (target_in env t.phrase)) (suits P sc (tree_in env e))
+      (target_suits env t.place t.phrase fit (and_left (place_words (target_in env t.phrase)) (tree_words (tree_in env e)) w) (none_left (target_faults env t.place t.phrase) (phrase_faults env e) h))
+      (phrase_suits env e fit (and_right (place_words (target_in env t.phrase)) (tree_words (tree_in env e)) w) (none_right (target_faults env t.place t.phrase) (phrase_faults env e) h))
+  action_suits env (Compound t operator e) fit w h =
+      and_both (suits_place P sc (target_in env t.phrase)) (suits P sc (tree_in env e))
+      (target_suits env t.place t.phrase fit (and_left (place_words (target_in env t.phrase)) (tree_words (tree_in env e)) w) (none_left (target_faults env t.place t.phrase) (phrase_faults env e) h))
+      (phrase_suits env e fit (and_right (place_words (target_in env t.phrase)) (tree_words (tree_in env e)) w) (none_right (target_faults env t.place t.phrase) (phrase_faults env e) h))
+  action_suits env (Increase t) fit w h = target_suits env t.place t.phrase fit w h
+  action_suits env (Decrease t) fit w h = target_suits env t.place t.phrase fit w h
+
+  pub test_suits : (env : Environment) (o : Option (Phrase One)) → KnownFit P sc env → test_words (test_in env o) ≡ true → test_faults env o ≡ [] → suits_test P sc (test_in env o) ≡ true
+  test_suits env None fit w h = refl
+  test_suits env (Some e) fit w h = phrase_suits env e fit w h

@@ -1,0 +1,6 @@
+pub mod Entries
+pub mod Agrees
+pub mod Onto
+pub mod Words
+pub mod Whole
+pub mod Laws

@@ -1,0 +1,190 @@
+// Expressions whose names stand with their declarations.
+
+ghost use Rattle.std.specs.Prelude.{◌≡◌, IfOk};
+ghost use Rattle.vx_ast.specs.Resolved.{array_named, call_named, number_named, place_named, target_in, tree_in};
+ghost use Rattle.vx_ast.specs.SyntaxView.{phrase_of, row_in};
+ghost use Rattle.vx_ast.specs.View.{place_of, tree_of};
+ghost use Rattle.vx_ast.specs.View as view;
+
+use crate::names::Names;
+use std::alloc::Global;
+use vx_ast::names::Named;
+use vx_ast::syntax;
+use vx_ast::tree::{Expression, Target};
+use vx_base::outcome::NoMemory;
+
+// A name that is used as a number.
+fn number_named(named: Option<Named>) -> Expression
+    ensures { tree_of result ≡ number_named named }
+{
+    match named {
+        None => Expression::Number(0),
+        Some(named) => match named {
+            Named::Scalar(number) => Expression::Scalar(number),
+            Named::Global(array) => Expression::Global(array),
+            Named::Array(_) => Expression::Number(0),
+            Named::Function(_, _, _) => Expression::Number(0),
+            Named::ReadInt => Expression::Number(0),
+            Named::MoreInput => Expression::Number(0),
+            Named::Print => Expression::Number(0),
+        },
+    }
+}
+
+// A name with an index.
+fn array_named(named: Option<Named>) -> u32
+    ensures { result ≡ array_named named }
+{
+    match named {
+        None => 0,
+        Some(named) => match named {
+            Named::Scalar(_) => 0,
+            Named::Global(_) => 0,
+            Named::Array(array) => array,
+            Named::Function(_, _, _) => 0,
+            Named::ReadInt => 0,
+            Named::MoreInput => 0,
+            Named::Print => 0,
+        },
+    }
+}
+
+// A name with arguments.
+#[tactic(auto, using(crate::proofs::Views::call_view))]
+fn call_named(named: Option<Named>, row: Vec<Expression>) -> Expression
+    ensures { tree_of result ≡ call_named named (view.row_in row.items) }
+{
+    match named {
+        None => Expression::Number(0),
+        Some(named) => match named {
+            Named::Scalar(_) => Expression::Number(0),
+            Named::Global(_) => Expression::Number(0),
+            Named::Array(_) => Expression::Number(0),
+            Named::Function(function, _, _) => Expression::Call(function, row),
+            Named::ReadInt => Expression::ReadInt,
+            Named::MoreInput => Expression::MoreInput,
+            Named::Print => Expression::Number(0),
+        },
+    }
+}
+
+// A name as a target.
+fn place_named(named: Option<Named>) -> Target
+    ensures { place_of result ≡ place_named named }
+{
+    match named {
+        None => Target::Scalar(0),
+        Some(named) => match named {
+            Named::Scalar(number) => Target::Scalar(number),
+            Named::Global(array) => Target::Global(array),
+            Named::Array(_) => Target::Scalar(0),
+            Named::Function(_, _, _) => Target::Scalar(0),
+            Named::ReadInt => Target::Scalar(0),
+            Named::MoreInput => Target::Scalar(0),
+            Named::Print => Target::Scalar(0),
+        },
+    }
+}
+
+/// An expression with what its names stand for.
+#[cycle(resolved)]
+#[tactic(auto, using(crate::proofs::Views::call_written))]
+pub fn resolve(
+    alloc: Global,
+    names: &Names,
+    expression: &syntax::Expression,
+) -> Result<Expression, NoMemory>
+    ensures { IfOk result (λ made. tree_of made ≡ tree_in names.now (phrase_of expression.now)) }
+{
+    match expression {
+        syntax::Expression::Number(number) => Ok(Expression::Number(*number)),
+        syntax::Expression::Name(name) => Ok(number_named(names.named(name.bytes.as_slice()))),
+        syntax::Expression::Element(name, index) => {
+            let index = resolve_boxed(alloc, names, index)?;
+            Ok(Expression::Element(array_named(names.named(name.bytes.as_slice())), index))
+        }
+        syntax::Expression::Call(name, row) => {
+            let row = resolve_row(alloc, names, row.as_slice())?;
+            Ok(call_named(names.named(name.bytes.as_slice()), row))
+        }
+        syntax::Expression::Unary(operator, operand) => {
+            let operand = resolve_boxed(alloc, names, operand)?;
+            Ok(Expression::Unary(*operator, operand))
+        }
+        syntax::Expression::Binary(operator, left, right) => {
+            let left = resolve_boxed(alloc, names, left)?;
+            let right = resolve_boxed(alloc, names, right)?;
+            Ok(Expression::Binary(*operator, left, right))
+        }
+        syntax::Expression::Both(left, right) => {
+            let left = resolve_boxed(alloc, names, left)?;
+            let right = resolve_boxed(alloc, names, right)?;
+            Ok(Expression::Both(left, right))
+        }
+        syntax::Expression::Either(left, right) => {
+            let left = resolve_boxed(alloc, names, left)?;
+            let right = resolve_boxed(alloc, names, right)?;
+            Ok(Expression::Either(left, right))
+        }
+        syntax::Expression::Choice(test, left, right) => {
+            let test = resolve_boxed(alloc, names, test)?;
+            let left = resolve_boxed(alloc, names, left)?;
+            let right = resolve_boxed(alloc, names, right)?;
+            Ok(Expression::Choice(test, left, right))
+        }
+    }
+}
+
+#[cycle(resolved)]
+fn resolve_boxed(
+    alloc: Global,
+    names: &Names,
+    expression: &syntax::Expression,
+) -> Result<Box<Expression>, NoMemory>
+    ensures { IfOk result (λ made. tree_of made.value ≡ tree_in names.now (phrase_of expression.now)) }
+{
+    let made = resolve(alloc, names, expression)?;
+    let boxed = Box::new(alloc, made)?;
+    Ok(boxed)
+}
+
+/// A row of arguments with what their names stand for.
+#[cycle(resolved)]
+pub fn resolve_row(
+    alloc: Global,
+    names: &Names,
+    row: &[syntax::Expression],
+) -> Result<Vec<Expression>, NoMemory>
+    ensures { IfOk result (λ made. view.row_in made.items ≡ tree_in names.now (row_in row.now)) }
+{
+    let mut made = Vec::new(alloc);
+    for argument in row {
+        let one = resolve(alloc, names, argument)?;
+        made.push(one)?;
+    }
+    Ok(made)
+}
+
+/// A target with what its names stand for.
+pub fn resolve_target(
+    alloc: Global,
+    names: &Names,
+    expression: &syntax::Expression,
+) -> Result<Target, NoMemory>
+    ensures { IfOk result (λ made. place_of made ≡ target_in names.now (phrase_of expression.now)) }
+{
+    match expression {
+        syntax::Expression::Name(name) => Ok(place_named(names.named(name.bytes.as_slice()))),
+        syntax::Expression::Element(name, index) => {
+            let index = resolve(alloc, names, index)?;
+            Ok(Target::Element(array_named(names.named(name.bytes.as_slice())), index))
+        }
+        syntax::Expression::Number(_) => Ok(Target::Scalar(0)),
+        syntax::Expression::Call(_, _) => Ok(Target::Scalar(0)),
+        syntax::Expression::Unary(_, _) => Ok(Target::Scalar(0)),
+        syntax::Expression::Binary(_, _, _) => Ok(Target::Scalar(0)),
+        syntax::Expression::Both(_, _) => Ok(Target::Scalar(0)),
+        syntax::Expression::Either(_, _) => Ok(Target::Scalar(0)),
+        syntax::Expression::Choice(_, _, _) => Ok(Target::Scalar(0)),
+    }
+}
