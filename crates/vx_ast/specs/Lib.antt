@@ -7,6 +7,7 @@ pub mod SmallMeaning
 pub mod Tokens
 pub mod Phrases
 pub mod Syntax
+pub mod Derivations
 pub mod SyntaxView
 pub mod Accepted
 pub mod SourceLaws

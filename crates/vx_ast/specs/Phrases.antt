@@ -9,6 +9,7 @@ use Rattle.vx_ast.specs.declared.token.Mark.TheVariants.{PlusPlus, MinusMinus, P
 use Rattle.vx_ast.specs.declared.token.TokenKind.{TokenKind}
 use Rattle.vx_ast.specs.declared.token.TokenKind.TheVariants as kinds
 use Rattle.vx_ast.specs.declared.token.Token.{Token}
+use Rattle.vx_ast.specs.Tree.{Shape, One, Row}
 
 pub data Phrase : Type 0 where
   -- { global | function }
@@ -191,11 +192,7 @@ Fits ANumber t = (value : ℤ) × (t ≡ kinds.Number value)
 Fits AString t = (bytes : List ℕ) × (t ≡ kinds.Text bytes)
 Fits (A p) t = ⊥
 
--- derivations: one part, or a row of parts
-pub data Shape : Type 0 where
-  One : Shape
-  Row : Shape
-
+-- derivations: of one part, or of a row of parts
 pub data Derivation : Shape → Type 0 where
   Leaf : Token → Derivation One
   Node : Phrase → Derivation Row → Derivation One
@@ -210,15 +207,28 @@ pub data Is : List Part → List Token → Derivation Row → List Token → Typ
   phrase : (p : Phrase) (inner : List Part) {parts : List Part} {t : Token} {ts mid rest : List Token} {d e : Derivation Row} → parts_of p t.kind ≡ Some inner
       → Is inner (t ∷ ts) d mid → Is parts mid e rest → Is (A p ∷ parts) (t ∷ ts) (Then (Node p d) e) rest
 
--- the tokens up to the rest are the front of such parts, and with the next one no such parts go on
-pub data Stuck : List Part → List Token → List Token → Type 0 where
-  unfit : {part : Part} {parts : List Part} {t : Token} {ts : List Token} → ((p : Phrase) → part ≡ A p → ⊥) → (Fits part t.kind → ⊥) → Stuck (part ∷ parts) (t ∷ ts) (t ∷ ts)
-  behind : {part : Part} {parts : List Part} {t : Token} {ts rest : List Token} → Fits part t.kind → Stuck parts ts rest → Stuck (part ∷ parts) (t ∷ ts) rest
-  no_phrase : (p : Phrase) {parts : List Part} {t : Token} {ts : List Token} → parts_of p t.kind ≡ None → Stuck (A p ∷ parts) (t ∷ ts) (t ∷ ts)
-  inside : (p : Phrase) (inner : List Part) {parts : List Part} {t : Token} {ts rest : List Token} → parts_of p t.kind ≡ Some inner → Stuck inner (t ∷ ts) rest
-      → Stuck (A p ∷ parts) (t ∷ ts) rest
-  after : (p : Phrase) (inner : List Part) {parts : List Part} {t : Token} {ts mid rest : List Token} {d : Derivation Row} → parts_of p t.kind ≡ Some inner
-      → Is inner (t ∷ ts) d mid → Stuck parts mid rest → Stuck (A p ∷ parts) (t ∷ ts) rest
+-- the tokens up to the rest are the front of such parts, derived so as far as they go, and with the next one no such
+-- parts go on
+pub data Stuck : List Part → List Token → Derivation Row → List Token → Type 0 where
+  unfit : {part : Part} {parts : List Part} {t : Token} {ts : List Token} → ((p : Phrase) → part ≡ A p → ⊥) → (Fits part t.kind → ⊥)
+      → Stuck (part ∷ parts) (t ∷ ts) NoMore (t ∷ ts)
+  behind : {part : Part} {parts : List Part} {t : Token} {ts rest : List Token} {d : Derivation Row} → Fits part t.kind → Stuck parts ts d rest
+      → Stuck (part ∷ parts) (t ∷ ts) (Then (Leaf t) d) rest
+  no_phrase : (p : Phrase) {parts : List Part} {t : Token} {ts : List Token} → parts_of p t.kind ≡ None → Stuck (A p ∷ parts) (t ∷ ts) NoMore (t ∷ ts)
+  inside : (p : Phrase) (inner : List Part) {parts : List Part} {t : Token} {ts rest : List Token} {d : Derivation Row} → parts_of p t.kind ≡ Some inner
+      → Stuck inner (t ∷ ts) d rest → Stuck (A p ∷ parts) (t ∷ ts) (Then (Node p d) NoMore) rest
+  after : (p : Phrase) (inner : List Part) {parts : List Part} {t : Token} {ts mid rest : List Token} {d e : Derivation Row} → parts_of p t.kind ≡ Some inner
+      → Is inner (t ∷ ts) d mid → Stuck parts mid e rest → Stuck (A p ∷ parts) (t ∷ ts) (Then (Node p d) e) rest
+
+-- the tokens up to the rest begin such parts, derived so as far as they go
+pub data Begins : List Part → List Token → Derivation Row → List Token → Type 0 where
+  reached : {parts : List Part} {rest : List Token} → Begins parts rest NoMore rest
+  reached_behind : {part : Part} {parts : List Part} {t : Token} {ts rest : List Token} {d : Derivation Row} → Fits part t.kind → Begins parts ts d rest
+      → Begins (part ∷ parts) (t ∷ ts) (Then (Leaf t) d) rest
+  reached_inside : (p : Phrase) (inner : List Part) {parts : List Part} {t : Token} {ts rest : List Token} {d : Derivation Row} → parts_of p t.kind ≡ Some inner
+      → Begins inner (t ∷ ts) d rest → Begins (A p ∷ parts) (t ∷ ts) (Then (Node p d) NoMore) rest
+  reached_after : (p : Phrase) (inner : List Part) {parts : List Part} {t : Token} {ts mid rest : List Token} {d e : Derivation Row} → parts_of p t.kind ≡ Some inner
+      → Is inner (t ∷ ts) d mid → Begins parts mid e rest → Begins (A p ∷ parts) (t ∷ ts) (Then (Node p d) e) rest
 
 -- a program with its derivation; the end token is left
 pub record IsProgram (ts : List Token) : Type 0 where
