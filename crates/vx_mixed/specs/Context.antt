@@ -1,0 +1,73 @@
+-- Programs in which graphs were replaced by graphs of the same meaning, and programs of graphs without regions.
+use Rattle.std.specs.Prelude.{◌≡◌, ◌≢◌, ℕ, ℤ, Bool, Option, Some, None, List, [], map, slice_get}
+use Rattle.vx_base.specs.Outcome.{Same, NeverFails}
+use Rattle.vx_flow.specs.declared.graph.Op.{Op}
+use Rattle.vx_flow.specs.declared.graph.Graph.{Graph}
+use Rattle.vx_flow.specs.declared.graph.Flow.{Flow}
+use Rattle.vx_flow.specs.Effects.{State, Setting}
+use Rattle.vx_flow.specs.Meaning.{hop_of, graph_run}
+use Rattle.vx_mixed.specs.declared.region.Node.TheVariants.{Unused}
+use Rattle.vx_mixed.specs.declared.mixed.MixedGraph.{MixedGraph}
+use Rattle.vx_mixed.specs.Meaning.{hop}
+use Rattle.vx_mixed.specs.Agree.{SameMeaning}
+use Rattle.vx_mixed.specs.Program.{mixed_run}
+
+-- the same graph, or one of the same function that has the same meaning
+pub data Becomes (latency : Op → ℕ) (m m' : MixedGraph) : Type 0 where
+  Remains : m' ≡ m → Becomes latency m m'
+  Changes : m'.parameters ≡ m.parameters → m'.arrays ≡ m.arrays → (meet_old meet_new pairs : ℕ → ℕ → Bool) → SameMeaning latency m m' meet_old meet_new pairs → Becomes latency m m'
+
+abbrev pub Both : (Op → ℕ) → Option MixedGraph → Option MixedGraph → Type 0
+Both latency None None = Unit {0}
+Both latency (Some m) (Some m') = Becomes latency m m'
+Both latency None (Some m') = ⊥
+Both latency (Some m) None = ⊥
+
+-- function by function
+abbrev pub AllBecome : (Op → ℕ) → List MixedGraph → List MixedGraph → Type 0
+AllBecome latency ms ms' = (f : ℕ) → Both latency (slice_get ms f) (slice_get ms' f)
+
+-- where no run of the one fails, the other runs the same, and never fails
+abbrev pub SameRuns : Flow → List ℕ → (Op → ℕ) → List MixedGraph → List MixedGraph → List ℤ → Type 0
+SameRuns flow times latency ms ms' input =
+    NeverFails (mixed_run flow times latency ms input) →
+    Same (mixed_run flow times latency ms input) (mixed_run flow times latency ms' input) × NeverFails (mixed_run flow times latency ms' input)
+
+-- A graph of the same meaning may stand in place of a graph of any function of a program.
+abbrev pub InContext : Type 0
+InContext = (flow : Flow) (times : List ℕ) (latency : Op → ℕ) (ms ms' : List MixedGraph) (input : List ℤ) → times ≢ [] → AllBecome latency ms ms' → SameRuns flow times latency ms ms' input
+
+-- any number of replacements, one after the other
+pub data Chain (latency : Op → ℕ) : List MixedGraph → List MixedGraph → Type 0 where
+  Done : {ms : List MixedGraph} → Chain latency ms ms
+  Then : {ms ns os : List MixedGraph} → AllBecome latency ms ns → Chain latency ns os → Chain latency ms os
+
+abbrev pub ChainLaw : Type 0
+ChainLaw = (flow : Flow) (times : List ℕ) (latency : Op → ℕ) (ms ms' : List MixedGraph) (input : List ℤ) → times ≢ [] → Chain latency ms ms' → SameRuns flow times latency ms ms' input
+
+-- The mixed graph of a function's graph: its blocks, and no regions.
+
+pub record OfGraph (graph : Graph) (m : MixedGraph) : Type 0 where
+  pub nodes : m.nodes ≡ map Unused graph.blocks
+  pub regions : m.regions ≡ []
+  pub banks : m.banks ≡ graph.banks
+  pub parameters : m.parameters ≡ graph.parameters
+  pub arrays : m.arrays ≡ graph.arrays
+
+-- it does block by block what the graph does
+abbrev pub MeansTheGraph : Type 0
+MeansTheGraph =
+    (graph : Graph) (m : MixedGraph) → OfGraph graph m →
+    (setting : Setting) (times : List ℕ) (latency : Op → ℕ) (b : ℕ) (s : State) → hop setting times latency m b s ≡ hop_of setting b (slice_get graph.blocks b) s
+
+abbrev pub EachOfGraph : Option Graph → Option MixedGraph → Type 0
+EachOfGraph None None = Unit {0}
+EachOfGraph (Some graph) (Some m) = OfGraph graph m
+EachOfGraph None (Some m) = ⊥
+EachOfGraph (Some graph) None = ⊥
+
+-- so does a program of such graphs, at every bound
+abbrev pub MeansTheFlow : Type 0
+MeansTheFlow =
+    (flow : Flow) (ms : List MixedGraph) → ((f : ℕ) → EachOfGraph (slice_get flow.functions f) (slice_get ms f)) →
+    (times : List ℕ) (latency : Op → ℕ) (input : List ℤ) (n : ℕ) → mixed_run flow times latency ms input n ≡ graph_run flow input n

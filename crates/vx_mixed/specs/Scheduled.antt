@@ -1,0 +1,79 @@
+-- One replacement by a placement that meets the delays, with the copies, marks and empty cycles of compensation.
+use Rattle.std.specs.Prelude.{◌≡◌, ◌<◌, ◌≤◌, ◌⊎◌, ◌+◌, ◌-◌, ℕ, Bool, true, Some, List, length, drop, slice_get, nat_lt}
+use Rattle.vx_flow.specs.declared.graph.Edge.{Edge}
+use Rattle.vx_flow.specs.Effects.{Setting, IsIn}
+use Rattle.vx_flow.specs.Sound.{targets_of}
+use Rattle.vx_flow.specs.declared.graph.Op.{Op}
+use Rattle.vx_flow.specs.declared.graph.Exit.{Exit}
+use Rattle.vx_mixed.specs.declared.region.Item.{Item}
+use Rattle.vx_mixed.specs.declared.region.Item.TheVariants.{Split}
+use Rattle.vx_mixed.specs.declared.region.Region.{Region}
+use Rattle.vx_mixed.specs.declared.mixed.MixedGraph.{MixedGraph}
+use Rattle.vx_mixed.specs.Agree.{ArraysApart, SameMeaning}
+use Rattle.vx_mixed.specs.Settled.{InTime}
+use Rattle.vx_mixed.specs.Trace.{nth}
+use Rattle.vx_mixed.specs.Path.{Path}
+use Rattle.vx_mixed.specs.Facts.{row, words_from, copies}
+use Rattle.vx_mixed.specs.Alive.{AfterOf}
+use Rattle.vx_mixed.specs.Way.{item_latency, Clustered, Renamed, LeadsIn, LeadsOut}
+use Rattle.vx_mixed.specs.Drains.{Drained, LoadsAlike}
+use Rattle.vx_mixed.specs.Unchanged.{Outside, LiveWithin, KeepsTidy}
+use Rattle.vx_mixed.specs.Rows.{Meets, NeverApart, Placed}
+
+-- block j, at place q of the trace, is reached by an edge from outside, which goes to j' in the new graph; the rejoin word
+-- is the first one after all that stands above the join
+pub record JoinEdge (old new : MixedGraph) (meet_old meet_new : ℕ → ℕ → Bool) (items : List Item) (end : ℕ) (exit : Exit) (word : ℕ → ℕ) (mark : ℕ → Item) (n : ℕ) (joins : ℕ → Bool) (j j' : ℕ) : Type 0 where
+  pub place : ℕ
+  pub inside : place ≤ length items
+  pub is_join : joins place ≡ true
+  pub plain : List Item
+  pub path : Path old meet_old j plain end exit
+  pub clustered : (setting : Setting) → ArraysApart setting → Clustered setting old plain (drop place items) end exit
+  pub rejoin : ℕ
+  pub above : (k : ℕ) → k < place → word k < rejoin
+  pub least : (rejoin ≡ 0) ⊎ ((i : ℕ) × (i < place) × (rejoin ≡ word i + 1))
+  pub enters : LeadsIn new meet_new n rejoin (copies (λ k. nat_lt (word k) rejoin) mark place (length items - place)) j'
+
+pub record Scheduled (latency : Op → ℕ) (old new : MixedGraph) (meet_old meet_new : ℕ → ℕ → Bool) (pairs : ℕ → ℕ → Bool) : Type 0 where
+  -- the functions begin alike
+  pub begins : pairs 0 0 ≡ true
+  -- the trace, its joins, and which accesses never touch one word
+  pub start : ℕ
+  pub items : List Item
+  pub end : ℕ
+  pub exit : Exit
+  pub plain : List Item
+  pub path : Path old meet_old start plain end exit
+  pub clustered : (setting : Setting) → ArraysApart setting → Clustered setting old plain items end exit
+  pub joins : ℕ → Bool
+  pub never : ℕ → ℕ → Bool
+  pub apart : (setting : Setting) → ArraysApart setting → (q : ℕ) → ((q ≡ 0) ⊎ (joins q ≡ true)) → NeverApart setting items never q
+  -- its words
+  pub word : ℕ → ℕ
+  pub mark : ℕ → Item
+  pub n : ℕ
+  pub reg : Region
+  pub is_region : slice_get new.regions n ≡ Some reg
+  pub words : reg.words ≡ words_from (row word mark 0 (length items)) 0 (length reg.words)
+  pub placed : Placed items (item_latency latency) word mark (length reg.words)
+  pub meets : Meets items (item_latency latency) (AfterOf old items) never joins word
+  pub drained : Drained items word mark (item_latency latency) reg
+  pub loads : LoadsAlike latency
+  -- its edges
+  pub leaves : (e p d g : ℕ) (y : Bool) (edge edge' : Edge) → nth items e ≡ Split p y edge d → mark e ≡ Split p y edge' g → LeadsOut new meet_new pairs (copies (λ k. nat_lt (word e) (word k)) (nth items) 0 e) edge'.from edge'.to edge.to
+  pub last_exit : Renamed pairs exit reg.last
+  pub last_meets : (c : ℕ) → IsIn c (targets_of reg.last) → meet_new reg.from c ≡ true
+  pub entrances : (b b' : ℕ) → (pairs b b' ≡ true) → ((b ≡ start) × LeadsIn new meet_new n 0 (copies (λ k. nat_lt (word k) 0) mark 0 (length items)) b') ⊎ (JoinEdge old new meet_old meet_new items end exit word mark n joins b b' ⊎ Outside latency old new meet_old meet_new pairs b b')
+
+-- what a replacement keeps
+pub record Keeps (latency : Op → ℕ) (old new : MixedGraph) (meet_old meet_new : ℕ → ℕ → Bool) (pairs : ℕ → ℕ → Bool) (reg : Region) : Type 0 where
+  pub meaning : SameMeaning latency old new meet_old meet_new pairs
+  pub settled : InTime latency reg
+  pub live : LiveWithin old new pairs
+  pub tidy : KeepsTidy old new pairs
+
+-- Motion past branches keeps the meaning, and leaves a settled region and no copy live at an entrance.
+abbrev pub MotionLaw : Type 0
+MotionLaw =
+    (latency : Op → ℕ) (old new : MixedGraph) (meet_old meet_new pairs : ℕ → ℕ → Bool) →
+    (r : Scheduled latency old new meet_old meet_new pairs) → Keeps latency old new meet_old meet_new pairs r.reg

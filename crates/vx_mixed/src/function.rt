@@ -1,0 +1,146 @@
+// The graph of a function of which some blocks are words already, as callers hold it: with the list of its edges, which is
+// kept beside it so that it can be given without memory.
+
+ghost use Rattle.std.specs.Prelude.{◌≡◌, ◌==◌, ◌<◌, ℕ, true, IfOk, length, slice_get};
+ghost use Rattle.std.specs.List.{list_any};
+ghost use Rattle.std.specs.Option.{option_map};
+ghost use Rattle.vx_flow.specs.Sound.{is_sound};
+ghost use Rattle.vx_mixed.specs.Edges.{EdgesOf};
+ghost use Rattle.vx_mixed.specs.FromGraph.{FromGraph, origin_edge, same_edge, unused_in};
+
+use crate::copying::{
+    block_edges, copied_arrays, copied_banks, copied_values, no_origins, start_homes, unused_nodes,
+};
+use crate::mixed::MixedGraph;
+use crate::region::Node;
+use std::alloc::Global;
+use std::marker::Model;
+use vx_base::listed::Listed;
+use vx_base::outcome::NoMemory;
+use vx_flow::graph::{Block, BlockId, Edge, Graph};
+use vx_flow::laws::sound_graph_leads_within;
+use vx_flow::trace::Homes;
+use vx_flow::{back_edges, headers};
+
+/// The graph of a function of which some blocks are words already and others are blocks still. In a contract it is the
+/// graph alone.
+#[derive(Drop)]
+pub struct Mixed {
+    graph: MixedGraph,
+    edges: Listed<Edge>,
+}
+
+impl Model for Mixed {
+    ghost use Rattle.vx_mixed.specs.declared.mixed.MixedGraph.{MixedGraph};
+    ghost use Rattle.vx_mixed.specs.Edges.{EdgesOf};
+
+    ghost Value = { MixedGraph };
+
+    ghost view = { λ m. m.graph };
+
+    ghost invariant = { λ m. EdgesOf m.graph m.edges };
+}
+
+impl Mixed {
+    /// The blocks of a sound graph, and no regions, as function 0. Of the values those stand on cluster 0 that a choice by
+    /// a branch value writes, or that come from the input.
+    pub fn from_graph(alloc: Global, graph: &Graph) -> Result<Mixed, NoMemory>
+        requires { is_sound graph.now ≡ true }
+        ensures { IfOk result (λ mixed. FromGraph graph.now mixed) }
+    {
+        sound_graph_leads_within();
+        let back = Listed::from_vec(back_edges(alloc, graph)?)?;
+        let headers = Listed::from_vec(headers(alloc, graph)?)?;
+        let nodes = unused_nodes(alloc, graph.blocks.as_slice())?;
+        let edges = block_edges(alloc, graph.blocks.as_slice())?;
+        let origins = no_origins(alloc, graph.blocks.len())?;
+        let clusters = start_homes(alloc, graph.banks.len(), graph.blocks.as_slice())?;
+        let banks = copied_banks(alloc, graph.banks.as_slice())?;
+        let parameters = copied_values(alloc, graph.parameters.as_slice())?;
+        let arrays = copied_arrays(alloc, graph.arrays.as_slice())?;
+        let graph = MixedGraph {
+            function: 0,
+            nodes,
+            regions: Listed::new(alloc),
+            origins,
+            headers,
+            back,
+            banks,
+            parameters,
+            arrays,
+            homes: Homes { clusters },
+        };
+        Ok(Mixed { graph, edges })
+    }
+
+    /// How many blocks there are, the made ones included. It takes no memory, as none of the calls below does.
+    pub fn blocks(&self) -> u32
+        ensures { result ≡ length self.now.nodes }
+    {
+        self.graph.nodes.len() as u32
+    }
+
+    /// The block, where it is in no region; `None` where it is in one.
+    pub fn unused(&self, block: BlockId) -> Option<&Block>
+        requires { block < length self.now.nodes }
+        ensures { option_map (λ found. found.now) result ≡ unused_in (slice_get self.now.nodes block) }
+    {
+        match self.graph.nodes.as_slice().get(block as usize) {
+            Some(Node::Unused(block)) => Some(block),
+            Some(_) => None,
+            None => None,
+        }
+    }
+
+    /// Every edge, those that leave regions included, ascending by their numbers.
+    pub fn edges(&self) -> &[Edge]
+        ensures { EdgesOf self.now result.now }
+    {
+        self.edges.as_slice()
+    }
+
+    /// The edge on which a block was made; `None` where it is a block of the function's graph.
+    pub fn made_on(&self, block: BlockId) -> Option<Edge>
+        requires { block < length self.now.nodes }
+        ensures { result ≡ origin_edge (slice_get self.now.origins block) }
+    {
+        match self.graph.origins.as_slice().get(block as usize) {
+            Some(Some(origin)) => Some(origin.edge),
+            Some(None) => None,
+            None => None,
+        }
+    }
+
+    /// Whether the block is a header of the function's graph.
+    pub fn is_header(&self, block: BlockId) -> bool
+        requires { block < length self.now.nodes }
+        ensures { result ≡ list_any (λ header. header == block) self.now.headers }
+    {
+        self.graph
+            .headers
+            .as_slice()
+            .iter()
+            .any(|header| *header == block)
+    }
+
+    /// Whether the edge is a back edge of the function's graph.
+    pub fn is_back(&self, edge: Edge) -> bool
+        ensures { result ≡ list_any (λ back. same_edge back edge) self.now.back }
+    {
+        self.graph.back.as_slice().iter().any(|back| *back == edge)
+    }
+
+    /// The clusters on which values stand so far.
+    pub fn homes(&self) -> &Homes
+        ensures { result.now ≡ self.now.homes }
+    {
+        &self.graph.homes
+    }
+
+    /// Gives the function its number in the program.
+    pub fn set_function(&mut self, function: u32)
+        ensures { self.new ≡ record self.old { function = function } }
+    {
+        self.graph.function = function;
+    }
+}

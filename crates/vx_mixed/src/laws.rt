@@ -1,0 +1,76 @@
+// Laws of the definitions, each the clause of a function that does nothing.
+
+ghost use Rattle.vx_mixed.specs.Begins.{BeginsSettled, BeginsTidy};
+ghost use Rattle.vx_mixed.specs.Context.{ChainLaw, InContext, MeansTheFlow, MeansTheGraph};
+ghost use Rattle.vx_mixed.specs.LayoutExample.{IsLaidOut};
+ghost use Rattle.vx_mixed.specs.Laws.{AnyTiming, ParallelWords, RegionAnyTiming};
+ghost use Rattle.vx_mixed.specs.Replaced.{LivenessKept, RegionSettled, ReplacementLaw};
+ghost use Rattle.vx_mixed.specs.Sinking.{RefusedWithoutCopy, SumSinks};
+ghost use Rattle.vx_mixed.specs.Scheduled.{MotionLaw};
+ghost use Rattle.vx_mixed.specs.Example.{FailsWithoutCopy, Works};
+ghost use Rattle.vx_mixed.specs.NextExample.{NextIsNew};
+
+/// An `if` without `else` as a region does what its blocks do, from its start and from the edge that joins; without the
+/// copy on that edge it does not. It is what the replacement of its trace gives,
+/// and is laid out with the blocks that are left.
+#[tactic(auto, using(crate::proofs::Example::works, crate::proofs::Example::fails_without_copy, crate::proofs::Example::next_is_new, crate::proofs::Example::is_laid_out))]
+pub fn example_works()
+    ensures with_copy { Works }
+    ensures without { FailsWithoutCopy }
+    ensures next { NextIsNew }
+    ensures layout { IsLaidOut }
+{}
+
+/// A settled graph does the same whenever writes land: what it does where each lands at the next word. So does each region
+/// from each of its words.
+#[tactic(auto, using(crate::proofs::AnyTiming::any_timing, crate::proofs::AnyTiming::region_any_timing))]
+pub fn settled_graph_is_steady()
+    ensures graph { AnyTiming }
+    ensures region { RegionAnyTiming }
+{}
+
+/// A trace that was replaced by a region, with made blocks for the copies, keeps the meaning of the graph, and its region
+/// is settled, where the words meet the delays of the trace. What is live in the new graph is live in the old one.
+pub fn replacement_keeps_the_meaning()
+    ensures meaning { ReplacementLaw }
+    ensures settled { RegionSettled }
+    ensures live { LivenessKept }
+{}
+
+/// A placement that meets the delays, with the copies on the edges and the empty cycles that they ask for, is such a
+/// replacement.
+pub fn placement_keeps_the_meaning()
+    ensures { MotionLaw }
+{}
+
+/// The operations of a word, side by side, do what each of them does in trace order, where each reads what it reads there.
+#[tactic(auto, using(crate::proofs::ParallelWords::parallel_words))]
+pub fn words_keep_trace_order()
+    ensures { ParallelWords }
+{}
+
+/// A mixed graph without regions means what its graph means, and a program of such graphs what the flow means.
+#[tactic(auto, using(crate::proofs::FromGraphs::means_the_graph, crate::proofs::FromGraphs::means_the_flow))]
+pub fn blocks_mean_the_graph()
+    ensures graph { MeansTheGraph }
+    ensures flow { MeansTheFlow }
+{}
+
+/// Graphs of the same meaning may stand in place of those of a program: where no run of the one fails, the other runs the
+/// same and never fails. So they may after any number of replacements.
+pub fn replaced_programs_run_the_same()
+    ensures one { InContext }
+    ensures chain { ChainLaw }
+{}
+
+/// What a sound graph begins as is tidy and settled.
+pub fn graphs_begin_tidy_and_settled()
+    ensures tidy { BeginsTidy }
+    ensures settled { BeginsSettled }
+{}
+
+/// A sum sinks below a split: with its copy on the edge that leaves the meaning is kept, and without it it is not.
+pub fn a_sum_sinks()
+    ensures with_copy { SumSinks }
+    ensures without { RefusedWithoutCopy }
+{}
