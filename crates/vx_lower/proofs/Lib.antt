@@ -1,0 +1,16 @@
+pub mod Base
+pub mod Steps
+pub mod Ties
+pub mod Values
+pub mod Exprs
+pub mod Zeros
+pub mod Actions
+pub mod Statements
+pub mod Facts
+pub mod Alike
+pub mod Calls
+pub mod Whole
+pub mod Places
+pub mod Building
+pub mod PieceMaking
+pub mod Emitting

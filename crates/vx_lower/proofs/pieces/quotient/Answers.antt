@@ -1,0 +1,5 @@
+use Rattle.vx_lower.proofs.PieceMaking.{quotient_of}
+use Rattle.vx_lower.proofs.pieces.quotient.Goals as goal
+
+pub returns : goal.returns
+returns c = quotient_of c.args.operator c.args.code c.args.left c.args.right c.args.dest c.in_ok-t.t c.in_ok-c.c c.args.b.now c.fresh.new.self c.guard.new.self c.compute.new.b c.in_ok-c.ensures c.in_ok-guard.ensures c.in_ok-t.ensures

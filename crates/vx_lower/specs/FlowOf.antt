@@ -1,0 +1,66 @@
+-- The graphs of a program: they do what it does, on every input, and have the shape that the later layers ask for.
+use Rattle.std.specs.Prelude.{◌≡◌, ◌<◌, ◌≤◌, ◌*◌, ℕ, ℤ, Bool, true, false, List, [], ◌∷◌, ◌++◌, length, map, count_by, Option, Some, None, slice_get}
+use Rattle.vx_base.specs.Arithmetic.{IsNumber}
+use Rattle.vx_base.specs.Outcome.{Same, NeverFails}
+use Rattle.vx_base.specs.declared.outcome.Trap.{Trap}
+use Rattle.vx_ast.specs.Tree.{Function, Program}
+use Rattle.vx_ast.specs.Meaning.{source}
+use Rattle.vx_ast.specs.Accepted.{function_nodes, global_words}
+use Rattle.vx_flow.specs.declared.graph.Bank.{Bank}
+use Rattle.vx_flow.specs.declared.graph.Bank.TheVariants.{General, Branch}
+use Rattle.vx_flow.specs.declared.graph.Exit.TheVariants.{Split, Ends}
+use Rattle.vx_flow.specs.declared.graph.Block.{Block}
+use Rattle.vx_flow.specs.declared.graph.Graph.{Graph}
+use Rattle.vx_flow.specs.declared.graph.Flow.{Flow}
+use Rattle.vx_flow.specs.Effects.{IsIn}
+use Rattle.vx_flow.specs.Meaning.{graph_run}
+use Rattle.vx_flow.specs.Sound.{targets_of, is_sound_flow}
+
+-- numbers of 32 bits
+abbrev pub AreNumbers : List ℤ → Type 0
+AreNumbers ns = (n : ℤ) → IsIn n ns → IsNumber n
+
+-- block b ends by this trap
+pub record EndsBy (g : Graph) (b : ℕ) (trap : Trap) : Type 0 where
+  pub block : Block
+  pub has : slice_get g.blocks b ≡ Some block
+  pub ends : block.exit ≡ Ends trap
+
+-- an edge from block b to block c
+pub record IsEdge (g : Graph) (b c : ℕ) : Type 0 where
+  pub block : Block
+  pub has : slice_get g.blocks b ≡ Some block
+  pub leads : IsIn c (targets_of block.exit)
+
+abbrev pub is_general : Bank → Bool
+is_general General = true
+is_general Branch = false
+
+abbrev pub is_branch : Bank → Bool
+is_branch General = false
+is_branch Branch = true
+
+-- the shape of the graph of a function of the program
+pub record GraphOf (p : Program) (f : Function) (g : Graph) : Type 0 where
+  pub parameters : length g.parameters ≡ f.parameters
+  -- one array for each global and one for each array of the function, with the words that are declared
+  pub arrays : map (λ array. array.words) g.arrays ≡ map global_words p.globals ++ f.arrays
+  -- a trap block is empty, is the only one of its kind, and only trap blocks come behind it
+  pub trap_empty : (b : ℕ) (k : Trap) → (e : EndsBy g b k) → e.block.ops ≡ []
+  pub trap_alone : (b c : ℕ) (k : Trap) → EndsBy g b k → EndsBy g c k → b ≡ c
+  pub traps_last : (b c : ℕ) (k : Trap) → EndsBy g b k → b < c → c < length g.blocks → (j : Trap) × EndsBy g c j
+  pub short : (b : ℕ) (block : Block) → slice_get g.blocks b ≡ Some block → length block.ops ≤ 512
+  pub apart : (b : ℕ) (block : Block) (test yes no : ℕ) → slice_get g.blocks b ≡ Some block → block.exit ≡ Split test yes no → yes ≡ no → ⊥
+  -- where two edges leave a block and one of them leads to d, no other block has an edge to d
+  pub uncritical : (b c d e : ℕ) → IsEdge g b c → IsEdge g b d → (c ≡ d → ⊥) → IsEdge g e d → e ≡ b
+  pub entry : (b : ℕ) → IsEdge g b 0 → ⊥
+  pub general_values : count_by is_general g.banks ≤ 3 * function_nodes f
+  pub branch_values : count_by is_branch g.banks ≤ 2 * function_nodes f
+
+pub record FlowOf (p : Program) (flow : Flow) : Type 0 where
+  pub sound : is_sound_flow flow ≡ true
+  pub count : length flow.functions ≡ length p.functions
+  pub graphs : (f : ℕ) (function : Function) (graph : Graph) → slice_get p.functions f ≡ Some function → slice_get flow.functions f ≡ Some graph → GraphOf p function graph
+  pub globals : map (λ global. global.words) flow.globals ≡ map global_words p.globals
+  pub same : (input : List ℤ) → AreNumbers input → Same (source p input) (graph_run flow input)
+  pub never_wrong : (input : List ℤ) → AreNumbers input → NeverFails (graph_run flow input)

@@ -1,0 +1,6 @@
+pub mod FlowOf
+pub mod Holds
+pub mod Does
+pub mod Lowered
+pub mod Builds
+pub mod Emits

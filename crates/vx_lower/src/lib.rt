@@ -1,0 +1,7 @@
+// From an accepted program to the graphs of its functions, which do what the program does (specs/FlowOf.antt).
+#![tactic(auto)]
+
+pub mod builder;
+pub mod laws;
+pub mod pieces;
+pub mod slots;
