@@ -22,7 +22,7 @@ use Rattle.vx_ast.specs.declared.tree.Gives.{Gives}
 use Rattle.vx_ast.specs.declared.tree.Gives.TheVariants.{Int as GivesInt, Nothing as GivesNothing}
 use Rattle.vx_ast.specs.declared.tree.GlobalVariable.{GlobalVariable}
 use Rattle.vx_ast.specs.declared.tree.GlobalVariable.TheVariants.{Scalar as ScalarGlobal, Array as ArrayGlobal}
-use Rattle.vx_ast.specs.Accepted.{in_force_at_start, at_most, are_all_from, scalars_of, arrays_of, is_format, numbers_of, suits_global, is_suited, is_none, limit_of, is_main, is_accepted, Scope, is_literal, row_length, can_call, gives_int, names_array, suits, suits_place, suits_whole, suits_action, suits_test, suits_code, scope_after, suits_function}
+use Rattle.vx_ast.specs.Accepted.{in_force_at_start, at_most, are_all_from, scalars_of, arrays_of, is_format, numbers_of, suits_global, is_suited, is_none, limit_of, is_main, is_accepted, Scope, is_word, row_length, can_call, gives_int, names_array, suits, suits_place, suits_whole, suits_action, suits_test, suits_code, scope_after, suits_function}
 use Rattle.vx_ast.specs.Range.{InRange, PartInRange, ValueInRange, LeavesInRange, ResultInRange, SourceStaysInRange}
 use Rattle.vx_ast.proofs.Texts.{both_hold}
 
@@ -35,9 +35,9 @@ one_fits = record { sfits = lit< tt }
 least_fits : IsNumber (negsuc 0)
 least_fits = record { sfits = lit< tt }
 
-pub literal_fits : (z : ℤ) → is_literal z ≡ true → IsNumber z
+pub literal_fits : (z : ℤ) → is_word z ≡ true → IsNumber z
 literal_fits (pos n) h = let k : n < 2 ^ 31 = ltb-true n (2 ^ 31) h in record { sfits = omega arith }
-literal_fits (negsuc n) h = cc
+literal_fits (negsuc n) h = let k : n < 2 ^ 31 = ltb-true n (2 ^ 31) h in record { sfits = omega arith }
 
 -- operators
 
@@ -351,8 +351,7 @@ active_fits p (suc depth) n h f args s i r = activate_fits p (slice_get p.functi
 -- programs
 
 global_fits : (g : GlobalVariable) → suits_global g ≡ true → All IsNumber (words_at_start g)
-global_fits (ScalarGlobal (pos m)) h = let k : m < 2 ^ 31 = ltb-true m (2 ^ 31) h in All-cons IsNumber (pos m) [] (record { sfits = omega arith }) (All-nil IsNumber)
-global_fits (ScalarGlobal (negsuc m)) h = let k : suc m < 2 ^ 31 = ltb-true (suc m) (2 ^ 31) h in All-cons IsNumber (negsuc m) [] (record { sfits = omega arith }) (All-nil IsNumber)
+global_fits (ScalarGlobal z) h = All-cons IsNumber z [] (literal_fits z h) (All-nil IsNumber)
 global_fits (ArrayGlobal words) h = All-replicate IsNumber words (pos 0) zero_fits
 
 globals_fit : (gs : List GlobalVariable) → list_all suits_global gs ≡ true → All (All IsNumber) (map words_at_start gs)

@@ -148,7 +148,7 @@ suits_code p gives loops sc (While e a) = suits p sc e && suits_code p gives tru
 suits_code p gives loops sc (DoWhile a e) = suits_code p gives true sc a && suits p sc e
 suits_code p gives loops sc (For first test step a) =
     suits_code p gives loops sc first && (suits_test p (scope_after first sc) test
-      && (suits_code p gives loops (scope_after first sc) step && suits_code p gives true (scope_after first sc) a))
+    && (suits_code p gives loops (scope_after first sc) step && suits_code p gives true (scope_after first sc) a))
 suits_code p gives loops sc Break = loops
 suits_code p gives loops sc Continue = loops
 suits_code p GivesInt loops sc Return = false
@@ -199,8 +199,8 @@ in_force_at_start f = record { scalars = below f.parameters; arrays = [] }
 abbrev pub suits_function : Program → Function → Bool
 suits_function p f =
     (suits_code p f.gives false (in_force_at_start f) f.body && at_most f.parameters f.scalars)
-      && (are_all_from f.parameters (f.scalars - f.parameters) (scalars_of f.body)
-        && (are_all_from (length p.globals) (length f.arrays) (arrays_of f.body) && list_all (nat_lt 0) f.arrays))
+    && (are_all_from f.parameters (f.scalars - f.parameters) (scalars_of f.body)
+    && (are_all_from (length p.globals) (length f.arrays) (arrays_of f.body) && list_all (nat_lt 0) f.arrays))
 
 abbrev pub suits_global : GlobalVariable → Bool
 suits_global (ScalarGlobal z) = is_word z
@@ -308,11 +308,11 @@ or_else None other = other
 abbrev pub limit_of : Program → Option Over
 limit_of p =
     or_else (over 3 256 (length p.functions ∷ []))
-      (or_else (over 4 8 (map (λ f. f.parameters) p.functions))
-        (or_else (over 5 4000 (map function_nodes p.functions))
-          (or_else (over 6 8192 (map (λ f. sum f.arrays) p.functions))
-            (or_else (over 7 262144 (sum (map global_words p.globals) ∷ []))
-              (over 8 4096 (flat_map (λ f. map (λ format. length format) (formats_of f.body)) p.functions))))))
+    (or_else (over 4 8 (map (λ f. f.parameters) p.functions))
+    (or_else (over 5 4000 (map function_nodes p.functions))
+    (or_else (over 6 8192 (map (λ f. sum f.arrays) p.functions))
+    (or_else (over 7 262144 (sum (map global_words p.globals) ∷ []))
+    (over 8 4096 (flat_map (λ f. map (λ format. length format) (formats_of f.body)) p.functions))))))
 
 abbrev pub is_none : Option Over → Bool
 is_none None = true

@@ -139,8 +139,8 @@ code_faults gives loops env (While e a) = phrase_faults env e ++ code_faults giv
 code_faults gives loops env (DoWhile a e) = phrase_faults env e ++ code_faults gives true (inside env) a
 code_faults gives loops env (For first test step a) =
     code_faults gives loops (inside env) first
-      ++ (test_faults (behind first (inside env)) test
-        ++ (code_faults gives loops (behind first (inside env)) step ++ code_faults gives true (inside (behind first (inside env))) a))
+    ++ (test_faults (behind first (inside env)) test
+    ++ (code_faults gives loops (behind first (inside env)) step ++ code_faults gives true (inside (behind first (inside env))) a))
 code_faults gives loops env (Break at) = fault_if (not loops) 11 at
 code_faults gives loops env (Continue at) = fault_if (not loops) 11 at
 code_faults gives loops env (Return at) = fault_if (gives_int gives) 7 at

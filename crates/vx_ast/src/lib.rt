@@ -7,9 +7,9 @@ pub mod fault;
 pub mod interpreter;
 #[cfg(test)]
 mod loop_tests;
+pub mod names;
 #[cfg(test)]
 mod program_steps;
-pub mod names;
 pub mod small;
 pub mod small_tokens;
 pub mod source_laws;

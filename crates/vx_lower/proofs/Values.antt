@@ -17,7 +17,7 @@ use Rattle.vx_ast.specs.declared.tree.BinaryOperator.{BinaryOperator}
 use Rattle.vx_ast.specs.declared.tree.BinaryOperator.TheVariants.{Multiply, Divide, Remainder, Add as Adds, Subtract, ShiftLeft, ShiftRight, Less, LessEqual, Greater, GreaterEqual, Equal, NotEqual, BitAnd, BitXor, BitOr}
 use Rattle.vx_ast.specs.Tree.{Shape, One, Row, Tree, Function, Program as TreeProgram}
 use Rattle.vx_ast.specs.Meaning.{Store, Part, With, Trapped, Going, Calls, Result, unless_zero, unary_value, binary_value, divides, combined, array_at, at_index, index_in}
-use Rattle.vx_ast.specs.Accepted.{Scope, is_in, is_literal, is_scalar, names_array, can_call}
+use Rattle.vx_ast.specs.Accepted.{Scope, is_in, is_word, is_scalar, names_array, can_call}
 use Rattle.vx_flow.specs.declared.graph.Operand.{Operand}
 use Rattle.vx_flow.specs.declared.graph.Operand.TheVariants.{Held, Number, Stack}
 use Rattle.vx_flow.specs.declared.graph.Op.{Op}
@@ -48,9 +48,9 @@ head_of (v ∷ vs) = v
 pub some_is : {A : Type 0} {x y : A} → Some x ≡ Some y → x ≡ y
 some_is e = cc
 
-pub literal_fits : (z : ℤ) → is_literal z ≡ true → IsNumber z
+pub literal_fits : (z : ℤ) → is_word z ≡ true → IsNumber z
 literal_fits (pos n) e = let h : n < 2 ^ 31 = ltb-true n (2 ^ 31) e in fits_signed_from_abs w32 (pos n) (omega arith)
-literal_fits (negsuc n) e = absurd (cc)
+literal_fits (negsuc n) e = let h : n < 2 ^ 31 = ltb-true n (2 ^ 31) e in record { sfits = omega arith }
 
 pub zero_fits : IsNumber (pos 0)
 zero_fits = fits_signed_from_abs w32 (pos 0) (omega arith)

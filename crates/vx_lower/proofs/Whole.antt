@@ -60,7 +60,7 @@ known_shape (x ∷ xs) = ap (λ n. n ∷ map (λ z. length z) (map (map Some) xs
 
 word_fits : (v : GlobalVariable) → suits_global v ≡ true → (j : ℕ) → IsNumber (slice_index_or (source_words v) j (pos 0))
 word_fits (ScalarGlobal (pos n)) e zero = let h : n < 2 ^ 31 = ltb-true n (2 ^ 31) e in fits_signed_from_abs w32 (pos n) (omega arith)
-word_fits (ScalarGlobal (negsuc n)) e zero = let h : suc n < 2 ^ 31 = ltb-true (suc n) (2 ^ 31) e in fits_signed_from_abs w32 (negsuc n) (omega arith)
+word_fits (ScalarGlobal (negsuc n)) e zero = let h : n < 2 ^ 31 = ltb-true n (2 ^ 31) e in record { sfits = omega arith }
 word_fits (ScalarGlobal z) e (suc j) = zero_fits
 word_fits (ArrayGlobal n) e j = zeros_fit n j
 
