@@ -1,8 +1,8 @@
 -- The laws of the arithmetic that later layers rest on.
-use Rattle.std.proofs.Common.{◌≡◌, ℕ, zero, suc, ◌+◌, ◌-◌, ◌*◌, ◌/◌, ◌%◌, ◌^◌, ◌<◌, Bool, true, false, cond, ℤ, pos, negsuc, ◌+ℤ◌, ◌-ℤ◌, ◌*ℤ◌, refl, sym, ◌∙◌, ap, arith, bit_and, bit_or, bit_xor, int_div, int_rem, int_lt, lit<, int_le, not, leb, ltb, ltb-true, ltb-false, le-leb, lt-ltb}
+use Rattle.std.proofs.Common.{◌≡◌, ℕ, zero, suc, ◌+◌, ◌-◌, ◌*◌, ◌/◌, ◌%◌, ◌^◌, ◌<◌, Bool, true, false, cond, IsTrue, ◌↔◌, ◌≤ℤ◌, ◌<ℤ◌, subst, ℤ, pos, negsuc, ◌+ℤ◌, ◌-ℤ◌, ◌*ℤ◌, refl, sym, ◌∙◌, ap, arith, bit_and, bit_or, bit_xor, int_div, int_rem, int_lt, lit<, int_le, not, leb, ltb, ltb-true, ltb-false, le-leb, lt-ltb}
 use lib.Signed.{mag_rem, mag_shr}
 use Rattle.vx_base.specs.declared.arithmetic.Code.TheVariants.{Add, Sub, And, Or, Xor, Shl, Shr, Shru, Sh2add, Max, Min, Mov, ToGeneral, ToBranch, Mpylu, Mpyhs, Div, Rem}
-use Rattle.std.specs.Int.{w32}
+use Rattle.std.specs.Int.{w32, cast_unsigned}
 use Rattle.std.proofs.lemmas.Int.{ints, int_wrap_fits, int_wrap-add_left, int_wrap-add_right, int_wrap-mul_left, int_wrap-add_same, quot-rem}
 use Rattle.std.proofs.lemmas.Nat.{div-add-mod'}
 use Rattle.vx_base.specs.Arithmetic.{IsNumber, wrap, unsigned, shift_by, unless_zero, one_if, sum_of, difference_of, product_of, quotient_of, remainder_of, shl_of, shr_of, shru_of, and_of, or_of, xor_of, sh2add_of, mpylu_of, mpyhs_of, compare_of, ProductByHalves, ValueFits, DivisionLaw, IndexCheck}
@@ -11,7 +11,7 @@ use Rattle.vx_base.specs.declared.arithmetic.Compare.{Compare}
 use borrow.Author.Tests.{lt-leb}
 use Rattle.std.specs.Cmp.{signed_Decides}
 use mathlib.Core.Bool.{true≢false}
-use Rattle.vx_base.proofs.WrapLaws.{wrap_fits, wrap-unsigned_product}
+use Rattle.vx_base.proofs.WrapLaws.{unsigned_number, wrap_fits, wrap-unsigned_product}
 
 halves : (x y m : ℕ) → x * (y % m) + x * (y / m) * m ≡ x * y
 halves x y m = let e = div-add-mod' y m in omega (arith, ap (λ n. x * n) e)
@@ -22,7 +22,7 @@ product_by_halves_law a b f g =
     let low = unsigned a * (unsigned b % 2 ^ 16) in
     let high = unsigned a * (unsigned b / 2 ^ 16) * 2 ^ 16 in
     int_wrap-add_left w32 (pos low) (wrap (pos high)) ∙ int_wrap-add_right w32 (pos low) (pos high)
-    ∙ ap (λ n. wrap (pos n)) (halves (unsigned a) (unsigned b) (2 ^ 16)) ∙ wrap-unsigned_product a b f g
+    ∙ ap (λ n. wrap (pos n)) (halves (unsigned a) (unsigned b) (2 ^ 16)) ∙ wrap-unsigned_product a b
 
 cond_fits : (t : Bool) (a b : ℤ) → IsNumber a → IsNumber b → IsNumber (cond t a b)
 cond_fits true a b f g = f
@@ -130,12 +130,17 @@ pub one_if-zero : (t : Bool) → one_if t ≡ pos 0 → t ≡ false
 one_if-zero true e = cc
 one_if-zero false e = refl
 
-pub index_check_law : IndexCheck
-index_check_law (pos n) size f s = (
+bits_check : (index : ℤ) (size : ℕ) → IsNumber index → size < 2 ^ 31 → IsTrue (ltb (cast_unsigned w32 index) size) ↔ ((pos 0 ≤ℤ index) × (index <ℤ pos size))
+bits_check (pos n) size f s = (
   λ t. let h : n < size = ltb-true n size t in (omega (arith, ints), omega (arith, ints)),
   λ h. let b : n < size = omega (arith, ints, h.1) in lt-ltb n size b,
 )
-index_check_law (negsuc n) size f s = (
+bits_check (negsuc n) size f s = (
   λ t. let h : 2 ^ 32 - suc n < size = ltb-true (2 ^ 32 - suc n) size t in absurd (omega (arith, f.sfits)),
   λ h. absurd (omega (arith, ints, h.0)),
 )
+
+pub index_check_law : IndexCheck
+index_check_law index size f s =
+    let fits : IsNumber (pos size) = record { sfits = omega arith } in
+    subst (λ b. IsTrue b ↔ ((pos 0 ≤ℤ index) × (index <ℤ pos size))) (sym (λ i. ltb (unsigned_number index f i) (unsigned_number (pos size) fits i))) (bits_check index size f s)

@@ -14,7 +14,9 @@ unfolding int_wrap
 reductions = (refl, refl, refl, refl, refl)
 
 readings : (unsigned (pos 7) ≡ 7) × (unsigned (minus 1) ≡ 4294967295) × (unsigned (minus 2147483648) ≡ 2147483648)
-readings = (refl, refl, refl)
+    × (unsigned (pos 4294967301) ≡ 5) × (unsigned (minus 4294967297) ≡ 4294967295)
+unfolding int_wrap
+readings = (refl, refl, refl, refl, refl)
 
 sums : (value_of Add (pos 2147483647) (pos 1) ≡ minus 2147483648) × (value_of Add (minus 2147483648) (minus 1) ≡ pos 2147483647)
     × (value_of Add (pos 2) (minus 5) ≡ minus 3)
@@ -58,7 +60,7 @@ left_shifts = (refl, refl, refl, refl)
 
 right_shifts : (value_of Shr (minus 8) (pos 1) ≡ minus 4) × (value_of Shr (minus 7) (pos 1) ≡ minus 4)
     × (value_of Shr (minus 1) (pos 31) ≡ minus 1) × (value_of Shr (pos 8) (pos 33) ≡ pos 4)
-unfolding shr_of
+unfolding shr_of int_wrap
 right_shifts = (refl, refl, refl, refl)
 
 unsigned_right_shifts : (value_of Shru (minus 1) (pos 28) ≡ pos 15) × (value_of Shru (minus 8) (pos 1) ≡ pos 2147483644)
@@ -93,8 +95,10 @@ signed_compares = (refl, refl, refl, refl, refl, refl, refl, refl, refl, refl, r
 unsigned_compares : (compare_of Ltu (minus 1) (pos 0) ≡ false) × (compare_of Ltu (pos 0) (minus 1) ≡ true)
     × (compare_of Ltu (pos 3) (pos 3) ≡ false) × (compare_of Geu (minus 1) (pos 0) ≡ true)
     × (compare_of Geu (pos 2147483647) (minus 2147483648) ≡ false) × (compare_of Geu (pos 3) (pos 3) ≡ true)
+unfolding int_wrap
 unsigned_compares = (refl, refl, refl, refl, refl, refl)
 
 compare_results : (value_of (ToGeneral Lt) (minus 1) (pos 0) ≡ pos 1) × (value_of (ToGeneral Ltu) (minus 1) (pos 0) ≡ pos 0)
     × (value_of (ToBranch Ge) (pos 5) (pos 5) ≡ pos 1) × (value_of (ToBranch Ne) (pos 5) (pos 5) ≡ pos 0)
+unfolding int_wrap
 compare_results = (refl, refl, refl, refl)

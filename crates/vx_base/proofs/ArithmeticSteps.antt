@@ -6,7 +6,7 @@ use Rattle.std.proofs.lemmas.Int.{ints, to_z-of_z, of_z-to_z, int_wrap_fits, wra
 use Rattle.std.proofs.Math.Nat.{div-le_self, mul_comm, mul_assoc}
 use Rattle.std.proofs.lemmas.Nat.{mod_below, and_le_l, or_of_32, xor_of_32, shr_le}
 use Rattle.vx_base.specs.Arithmetic.{IsNumber, wrap, unsigned, shift_by, unless_zero, quotient_of, remainder_of, shl_of, shr_of, shru_of, and_of, or_of, xor_of, sh2add_of, mpylu_of, mpyhs_of}
-use Rattle.vx_base.proofs.WrapLaws.{unsigned_below, wrap-pos, wrap-below, wrap-unsigned_times, wrap-bits}
+use Rattle.vx_base.proofs.WrapLaws.{unsigned_number, unsigned_below, wrap-pos, wrap-below, wrap-unsigned_times, wrap-bits}
 use Rattle.vx_base.proofs.ArithmeticLaws.{unless_zero_other}
 
 number_size : (a : ℤ) → IsNumber a → unsigned_abs a ≤ 2 ^ 31
@@ -50,34 +50,37 @@ remainder_by_other a b n = sym (unless_zero_other b (int_rem a b) (not_zero b n)
 
 pub shl_is : (a b : ℤ) → IsNumber a → int_shl w32 a (unsigned b % 32) ≡ shl_of a b
 unfolding shl_of
-shl_is a b f = sym (wrap-pos (unsigned a * 2 ^ shift_by b)) ∙ wrap-unsigned_times a (2 ^ shift_by b) f
+shl_is a b f =
+    ap (λ n. cast_signed w32 (n * 2 ^ shift_by b % 2 ^ 32)) (sym (unsigned_number a f)) ∙ sym (wrap-pos (unsigned a * 2 ^ shift_by b))
+    ∙ wrap-unsigned_times a (2 ^ shift_by b)
 
 pub shr_is : (a b : ℤ) → int_shr a (unsigned b % 32) ≡ shr_of a b
 unfolding shr_of
 shr_is a b = refl
 
-pub shru_is : (a b : ℤ) → IsNumber a → cast_signed w32 (unsigned a / 2 ^ (unsigned b % 32)) ≡ shru_of a b
+pub shru_is : (a b : ℤ) → cast_signed w32 (unsigned a / 2 ^ (unsigned b % 32)) ≡ shru_of a b
 unfolding shru_of
-shru_is a b f = sym (wrap-below (unsigned a / 2 ^ shift_by b) (omega (arith, shr_le (unsigned a) (shift_by b), unsigned_below a f)))
+shru_is a b = sym (wrap-below (unsigned a / 2 ^ shift_by b) (omega (arith, shr_le (unsigned a) (shift_by b), unsigned_below a)))
 
-pub and_is : (a b : ℤ) → IsNumber a → cast_signed w32 (bit_and (unsigned a) (unsigned b)) ≡ and_of a b
+pub and_is : (a b : ℤ) → cast_signed w32 (bit_and (unsigned a) (unsigned b)) ≡ and_of a b
 unfolding and_of
-and_is a b f = sym (wrap-below (bit_and (unsigned a) (unsigned b)) (omega (arith, and_le_l (unsigned a) (unsigned b), unsigned_below a f)))
+and_is a b = sym (wrap-below (bit_and (unsigned a) (unsigned b)) (omega (arith, and_le_l (unsigned a) (unsigned b), unsigned_below a)))
 
-pub or_is : (a b : ℤ) → IsNumber a → IsNumber b → cast_signed w32 (bit_or (unsigned a) (unsigned b)) ≡ or_of a b
+pub or_is : (a b : ℤ) → cast_signed w32 (bit_or (unsigned a) (unsigned b)) ≡ or_of a b
 unfolding or_of
-or_is a b f g = sym (wrap-below (bit_or (unsigned a) (unsigned b)) (or_of_32 (unsigned a) (unsigned b) (unsigned_below a f) (unsigned_below b g)))
+or_is a b = sym (wrap-below (bit_or (unsigned a) (unsigned b)) (or_of_32 (unsigned a) (unsigned b) (unsigned_below a) (unsigned_below b)))
 
-pub xor_is : (a b : ℤ) → IsNumber a → IsNumber b → cast_signed w32 (bit_xor (unsigned a) (unsigned b)) ≡ xor_of a b
+pub xor_is : (a b : ℤ) → cast_signed w32 (bit_xor (unsigned a) (unsigned b)) ≡ xor_of a b
 unfolding xor_of
-xor_is a b f g = sym (wrap-below (bit_xor (unsigned a) (unsigned b)) (xor_of_32 (unsigned a) (unsigned b) (unsigned_below a f) (unsigned_below b g)))
+xor_is a b = sym (wrap-below (bit_xor (unsigned a) (unsigned b)) (xor_of_32 (unsigned a) (unsigned b) (unsigned_below a) (unsigned_below b)))
 
-pub sh2add_is : (a b : ℤ) → IsNumber a → IsNumber b → cast_signed w32 ((4 * unsigned a % 2 ^ 32 + unsigned b) % 2 ^ 32) ≡ sh2add_of a b
+pub sh2add_is : (a b : ℤ) → IsNumber a → IsNumber b → cast_signed w32 ((4 * cast_unsigned w32 a % 2 ^ 32 + cast_unsigned w32 b) % 2 ^ 32) ≡ sh2add_of a b
 unfolding sh2add_of
 sh2add_is a b f g =
     let four : wrap (pos (4 * unsigned a)) ≡ wrap (pos 4 *ℤ a) =
-    ap (λ n. wrap (pos n)) (mul_comm 4 (unsigned a)) ∙ wrap-unsigned_times a 4 f ∙ ap wrap (*ℤ_comm a (pos 4)) in
-    wrapping_add_onto w32 (4 * unsigned a % 2 ^ 32) b (mod_below (4 * unsigned a) (2 ^ 32) (lit< tt)) g
+    ap (λ n. wrap (pos n)) (mul_comm 4 (unsigned a)) ∙ wrap-unsigned_times a 4 ∙ ap wrap (*ℤ_comm a (pos 4)) in
+    ap (λ n. cast_signed w32 ((4 * n % 2 ^ 32 + cast_unsigned w32 b) % 2 ^ 32)) (sym (unsigned_number a f))
+    ∙ wrapping_add_onto w32 (4 * unsigned a % 2 ^ 32) b (mod_below (4 * unsigned a) (2 ^ 32) (lit< tt)) g
     ∙ ap (λ z. wrap (z +ℤ b)) (sym (wrap-pos (4 * unsigned a))) ∙ int_wrap-add_left w32 (pos (4 * unsigned a)) b
     ∙ int_wrap-add_same w32 (pos (4 * unsigned a)) (pos 4 *ℤ a) b four
 

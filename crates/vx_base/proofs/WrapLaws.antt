@@ -8,10 +8,20 @@ use Rattle.std.proofs.Math.Nat.{mod-eq_of_lt}
 use Rattle.std.proofs.lemmas.Nat.{div-add-mod', mod_below}
 use Rattle.vx_base.specs.Arithmetic.{IsNumber, wrap, unsigned, shift_by, sum_of, difference_of, product_of, shl_of, sh2add_of, WrapReduces, WrapsAlike}
 
+-- of a number of 32 bits it is the machine's reading without sign
+pub unsigned_number : (a : ℤ) → IsNumber a → unsigned a ≡ cast_unsigned w32 a
+unsigned_number a f = ap (cast_unsigned w32) (int_wrap_fits w32 a f)
+
+pub bits_are : (a : ℤ) → IsNumber a → cast_unsigned w32 a ≡ unsigned a
+bits_are a f = sym (unsigned_number a f)
+
+bits_below : (a : ℤ) → IsNumber a → cast_unsigned w32 a < 2 ^ 32
+bits_below (pos n) f = omega (arith, f.sfits)
+bits_below (negsuc n) f = omega (arith, f.sfits)
+
 -- a reading without sign is below 2 ^ 32
-pub unsigned_below : (a : ℤ) → IsNumber a → unsigned a < 2 ^ 32
-unsigned_below (pos n) f = omega (arith, f.sfits)
-unsigned_below (negsuc n) f = omega (arith, f.sfits)
+pub unsigned_below : (a : ℤ) → unsigned a < 2 ^ 32
+unsigned_below a = bits_below (wrap a) (SFits-int_wrap w32 a)
 
 -- a natural is reduced by its remainder, whose bits are read with their sign
 pub wrap-pos : (n : ℕ) → wrap (pos n) ≡ cast_signed w32 (n % 2 ^ 32)
@@ -22,15 +32,20 @@ pub wrap-below : (n : ℕ) → n < 2 ^ 32 → wrap (pos n) ≡ cast_signed w32 n
 wrap-below n h = wrap-pos n ∙ ap (cast_signed w32) (mod-eq_of_lt h)
 
 -- the reading without sign is the number itself up to multiples of 2 ^ 32
+pub wrap-unsigned_any : (a : ℤ) → wrap (pos (unsigned a)) ≡ wrap a
+wrap-unsigned_any a = wrap-below (unsigned a) (unsigned_below a) ∙ to_z-of_z w32 (wrap a) (SFits-int_wrap w32 a)
+
 pub wrap-unsigned : (a : ℤ) → IsNumber a → wrap (pos (unsigned a)) ≡ a
-wrap-unsigned a f = wrap-below (unsigned a) (unsigned_below a f) ∙ to_z-of_z w32 a f
+wrap-unsigned a f = wrap-unsigned_any a ∙ int_wrap_fits w32 a f
 
 -- a sum and a product of readings without sign
-pub wrap-unsigned_times : (a : ℤ) (n : ℕ) → IsNumber a → wrap (pos (unsigned a * n)) ≡ wrap (a *ℤ pos n)
-wrap-unsigned_times a n f = sym (int_wrap-mul_left w32 (pos (unsigned a)) (pos n)) ∙ ap (λ z. wrap (z *ℤ pos n)) (wrap-unsigned a f)
+pub wrap-unsigned_times : (a : ℤ) (n : ℕ) → wrap (pos (unsigned a * n)) ≡ wrap (a *ℤ pos n)
+wrap-unsigned_times a n =
+    sym (int_wrap-mul_left w32 (pos (unsigned a)) (pos n)) ∙ ap (λ z. wrap (z *ℤ pos n)) (wrap-unsigned_any a) ∙ int_wrap-mul_left w32 a (pos n)
 
-pub wrap-unsigned_product : (a b : ℤ) → IsNumber a → IsNumber b → wrap (pos (unsigned a * unsigned b)) ≡ wrap (a *ℤ b)
-wrap-unsigned_product a b f g = wrap-unsigned_times a (unsigned b) f ∙ sym (int_wrap-mul_right w32 a (pos (unsigned b))) ∙ ap (λ z. wrap (a *ℤ z)) (wrap-unsigned b g)
+pub wrap-unsigned_product : (a b : ℤ) → wrap (pos (unsigned a * unsigned b)) ≡ wrap (a *ℤ b)
+wrap-unsigned_product a b =
+    wrap-unsigned_times a (unsigned b) ∙ sym (int_wrap-mul_right w32 a (pos (unsigned b))) ∙ ap (λ z. wrap (a *ℤ z)) (wrap-unsigned_any b) ∙ int_wrap-mul_right w32 a b
 
 -- the bits of a number at most 2 ^ 31 away from 0, read with their sign
 pub wrap-bits : (z : ℤ) → unsigned_abs z ≤ 2 ^ 31 → cast_signed w32 (cast_unsigned w32 z) ≡ wrap z
@@ -127,14 +142,20 @@ sh2add_of-exact a b f = int_wrap_fits w32 (pos 4 *ℤ a +ℤ b) f
 
 -- ---- readings without sign
 
-pub unsigned-wrap : (n : ℕ) → unsigned (wrap (pos n)) ≡ n % 2 ^ 32
-unsigned-wrap n = ap unsigned (wrap-pos n) ∙ of_z-to_z w32 (n % 2 ^ 32) (mod_below n (2 ^ 32) (lit< tt))
+pub unsigned-pos : (n : ℕ) → unsigned (pos n) ≡ n % 2 ^ 32
+unsigned-pos n = ap (cast_unsigned w32) (wrap-pos n) ∙ of_z-to_z w32 (n % 2 ^ 32) (mod_below n (2 ^ 32) (lit< tt))
+
+-- numbers that are reduced alike have the same bits
+pub unsigned-wrap : (a : ℤ) → unsigned (wrap a) ≡ unsigned a
+unsigned-wrap a = ap (cast_unsigned w32) (int_wrap_fits w32 (wrap a) (SFits-int_wrap w32 a))
 
 pub unsigned-same : (a b : ℤ) → IsNumber a → IsNumber b → unsigned a ≡ unsigned b → a ≡ b
-unsigned-same a b f g e = sym (to_z-of_z w32 a f) ∙ ap (cast_signed w32) e ∙ to_z-of_z w32 b g
+unsigned-same a b f g e = sym (wrap-unsigned a f) ∙ ap (λ n. wrap (pos n)) e ∙ wrap-unsigned b g
 
 -- a sum of two addresses, as the machine reads it
 pub unsigned-sum_of : (a b : ℤ) → IsNumber a → IsNumber b → unsigned (sum_of a b) ≡ (unsigned a + unsigned b) % 2 ^ 32
 unfolding sum_of
 unsigned-sum_of a b f g =
-    ap unsigned (sym (wrapping_add_is w32 a b f g)) ∙ of_z-to_z w32 ((unsigned a + unsigned b) % 2 ^ 32) (mod_below (unsigned a + unsigned b) (2 ^ 32) (lit< tt))
+    unsigned-wrap (a +ℤ b) ∙ ap (cast_unsigned w32) (sym (wrapping_add_is w32 a b f g))
+    ∙ ap (λ n. cast_unsigned w32 (cast_signed w32 (n % 2 ^ 32))) (sym (λ i. unsigned_number a f i + unsigned_number b g i))
+    ∙ of_z-to_z w32 ((unsigned a + unsigned b) % 2 ^ 32) (mod_below (unsigned a + unsigned b) (2 ^ 32) (lit< tt))

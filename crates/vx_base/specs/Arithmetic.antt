@@ -23,7 +23,7 @@ wrap z = int_wrap w32 z
 
 -- the same 32 bits read without sign: 2 ^ 32 is added to a number below 0
 abbrev pub unsigned : ℤ → ℕ
-unsigned z = cast_unsigned w32 z
+unsigned z = cast_unsigned w32 (wrap z)
 
 -- how far a shift goes: the low five bits of its right operand
 abbrev pub shift_by : ℤ → ℕ

@@ -3,7 +3,7 @@
 // operations; the clauses say what whole numbers give, reduced once.
 
 ghost use Rattle.std.specs.Prelude.{◌≡◌};
-ghost use Rattle.vx_base.specs.Arithmetic.{and_of, compare_of, difference_of, mpyhs_of, mpylu_of, or_of, product_of, quotient_of, remainder_of, sh2add_of, shl_of, shr_of, shru_of, sum_of, value_of, xor_of, DivisionLaw, IndexCheck, ProductByHalves, ValueFits, WrapReduces, WrapsAlike};
+ghost use Rattle.vx_base.specs.Arithmetic.{and_of, compare_of, difference_of, mpyhs_of, mpylu_of, or_of, product_of, quotient_of, remainder_of, sh2add_of, shl_of, shr_of, shru_of, sum_of, unsigned, value_of, xor_of, DivisionLaw, IndexCheck, ProductByHalves, ValueFits, WrapReduces, WrapsAlike};
 
 /// How two numbers are compared: signed, but for the last two, which read both without sign.
 #[derive(Clone, Copy, PartialEq, Eq, Debug)]
@@ -107,12 +107,20 @@ pub fn rem32(a: i32, b: i32) -> i32
     if b == 0 { 0 } else { a.wrapping_rem(b) }
 }
 
+/// The same 32 bits read without sign.
+#[tactic(auto, using(crate::proofs::WrapLaws::bits_are))]
+pub fn unsigned32(a: i32) -> u32
+    ensures { result ≡ unsigned a }
+{
+    a.cast_unsigned()
+}
+
 /// `a << b`, by the low five bits of `b`.
 #[tactic(auto, using(crate::proofs::ArithmeticSteps::machine))]
 pub fn shl32(a: i32, b: i32) -> i32
     ensures { result ≡ shl_of a b }
 {
-    a.wrapping_shl(b.cast_unsigned())
+    a.wrapping_shl(unsigned32(b))
 }
 
 /// `a >> b`, by the low five bits of `b`. The sign is copied.
@@ -120,7 +128,7 @@ pub fn shl32(a: i32, b: i32) -> i32
 pub fn shr32(a: i32, b: i32) -> i32
     ensures { result ≡ shr_of a b }
 {
-    a.wrapping_shr(b.cast_unsigned())
+    a.wrapping_shr(unsigned32(b))
 }
 
 /// Whether `a` and `b` compare so.
@@ -134,8 +142,8 @@ pub fn cmp32(code: Compare, a: i32, b: i32) -> bool
         Compare::Le => a <= b,
         Compare::Gt => a > b,
         Compare::Ge => a >= b,
-        Compare::Ltu => a.cast_unsigned() < b.cast_unsigned(),
-        Compare::Geu => a.cast_unsigned() >= b.cast_unsigned(),
+        Compare::Ltu => unsigned32(a) < unsigned32(b),
+        Compare::Geu => unsigned32(a) >= unsigned32(b),
     }
 }
 
@@ -144,7 +152,7 @@ pub fn cmp32(code: Compare, a: i32, b: i32) -> bool
 fn and32(a: i32, b: i32) -> i32
     ensures { result ≡ and_of a b }
 {
-    (a.cast_unsigned() & b.cast_unsigned()).cast_signed()
+    (unsigned32(a) & unsigned32(b)).cast_signed()
 }
 
 /// The bits set in `a` or in `b`.
@@ -152,7 +160,7 @@ fn and32(a: i32, b: i32) -> i32
 fn or32(a: i32, b: i32) -> i32
     ensures { result ≡ or_of a b }
 {
-    (a.cast_unsigned() | b.cast_unsigned()).cast_signed()
+    (unsigned32(a) | unsigned32(b)).cast_signed()
 }
 
 /// The bits set in exactly one of `a` and `b`.
@@ -160,7 +168,7 @@ fn or32(a: i32, b: i32) -> i32
 fn xor32(a: i32, b: i32) -> i32
     ensures { result ≡ xor_of a b }
 {
-    (a.cast_unsigned() ^ b.cast_unsigned()).cast_signed()
+    (unsigned32(a) ^ unsigned32(b)).cast_signed()
 }
 
 /// `a` shifted right by the low five bits of `b`, with zeros.
@@ -168,9 +176,7 @@ fn xor32(a: i32, b: i32) -> i32
 fn shru32(a: i32, b: i32) -> i32
     ensures { result ≡ shru_of a b }
 {
-    a.cast_unsigned()
-        .wrapping_shr(b.cast_unsigned())
-        .cast_signed()
+    unsigned32(a).wrapping_shr(unsigned32(b)).cast_signed()
 }
 
 /// `4 * a + b`, modulo 2 ^ 32.
@@ -186,8 +192,8 @@ fn sh2add32(a: i32, b: i32) -> i32
 fn mpylu32(a: i32, b: i32) -> i32
     ensures { result ≡ mpylu_of a b }
 {
-    let low = b.cast_unsigned() % 0x1_0000;
-    a.cast_unsigned().wrapping_mul(low).cast_signed()
+    let low = unsigned32(b) % 0x1_0000;
+    unsigned32(a).wrapping_mul(low).cast_signed()
 }
 
 /// `a` times the high half of `b` times 2 ^ 16, modulo 2 ^ 32.
@@ -195,8 +201,8 @@ fn mpylu32(a: i32, b: i32) -> i32
 fn mpyhs32(a: i32, b: i32) -> i32
     ensures { result ≡ mpyhs_of a b }
 {
-    let high = b.cast_unsigned() / 0x1_0000 * 0x1_0000;
-    a.cast_unsigned().wrapping_mul(high).cast_signed()
+    let high = unsigned32(b) / 0x1_0000 * 0x1_0000;
+    unsigned32(a).wrapping_mul(high).cast_signed()
 }
 
 /// The result of an operation.

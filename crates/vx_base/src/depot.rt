@@ -58,9 +58,8 @@ pub trait Depot {
         ensures same_files { files self.new ≡ files self.old }
         ensures at_most_room { IfOk result (λ count. count ≤ length into.old) }
 
-        // Of a depot that tells its files, what is read is known, and the rest of the buffer stays as it was.
+        // Of a depot that tells its files, what is read is known.
         ensures bytes { IfOk result (λ count. IfSome (files self.old) (λ held. ReadsAt held name.now place count into.new)) }
-        ensures rest_of_buffer { IfSome (files self.old) (λ _. drop (result_unwrap_or result 0) into.new ≡ drop (result_unwrap_or result 0) into.old) }
 
         // A failure is counted. A missing file is one only where the depot does not tell its files.
         ensures failed { IsErrOf result DepotFault.Failed → Rose (failed_reads self.old) (failed_reads self.new) }

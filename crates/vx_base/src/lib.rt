@@ -2,6 +2,7 @@
 // lists that contracts see as lists, and the files and sinks of the outside.
 #![tactic(auto)]
 
+pub mod answer;
 pub mod arithmetic;
 pub mod depot;
 pub mod laws;
@@ -11,4 +12,5 @@ pub mod outcome;
 pub mod outside_laws;
 pub mod reading;
 pub mod real;
+pub mod role;
 pub mod sink;

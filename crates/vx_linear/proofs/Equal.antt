@@ -8,8 +8,8 @@ use Rattle.vx_base.specs.Arithmetic.{unsigned, difference_of}
 use Rattle.vx_linear.specs.declared.form.Symbol.{Symbol}
 use Rattle.vx_linear.specs.declared.form.Term.{Term}
 use Rattle.vx_linear.specs.declared.form.Form.{Form}
-use Rattle.vx_linear.specs.declared.form.Answer.{Answer}
-use Rattle.vx_linear.specs.declared.form.Answer.TheVariants.{Never, Always, Maybe}
+use Rattle.vx_base.specs.declared.answer.Answer.{Answer}
+use Rattle.vx_base.specs.declared.answer.Answer.TheVariants.{Never, Always, Maybe}
 use Rattle.vx_linear.specs.Forms.{sum_at, value_at, Meet, NeverSame, AlwaysSame, is_same, is_ordered}
 use Rattle.vx_linear.specs.Linear.{same_terms}
 use Rattle.vx_linear.specs.Steps.{Steps}

@@ -9,9 +9,10 @@ ghost use Rattle.vx_linear.specs.Forms.{NeverSame, AlwaysSame, is_ordered};
 ghost use Rattle.vx_linear.specs.Linear.{same_terms};
 ghost use Rattle.vx_linear.specs.Steps.{IsStep, Narrows, Steps};
 
-use crate::form::{Answer, Form, Term};
+use crate::form::{Form, Term};
 use crate::linear::have_equal_terms;
-use vx_base::arithmetic::sub32;
+use vx_base::answer::Answer;
+use vx_base::arithmetic::{sub32, unsigned32};
 
 /// Whether two accesses name one word: never, exactly where their arrays are two or no numbers of the symbols make both
 /// places equal; always, exactly where the array is one and the forms are equal. The terms of both must ascend by their
@@ -94,7 +95,7 @@ fn narrowed_by(step: u32, term: &Term) -> u32
     ensures step { IsStep result }
     ensures fits { IsNumber term.now.factor }
 {
-    narrowed(step, unsigned_of(term.factor))
+    narrowed(step, unsigned32(term.factor))
 }
 
 fn narrowed_by_difference(step: u32, first: &Term, second: &Term) -> u32
@@ -105,18 +106,11 @@ fn narrowed_by_difference(step: u32, first: &Term, second: &Term) -> u32
     narrowed(step, difference(first.factor, second.factor))
 }
 
-/// The same 32 bits read without sign.
-fn unsigned_of(number: i32) -> u32
-    ensures { result ≡ unsigned number }
-{
-    number.cast_unsigned()
-}
-
 /// The difference modulo 2^32, read without sign.
 fn difference(left: i32, right: i32) -> u32
     ensures { result ≡ unsigned (difference_of left right) }
 {
-    unsigned_of(sub32(left, right))
+    unsigned32(sub32(left, right))
 }
 
 /// The greatest power of 2 that divides a power of 2 and a number.

@@ -79,14 +79,3 @@ pub struct Form {
     /// The symbols with their factors.
     pub terms: Listed<Term>,
 }
-
-/// Whether two accesses name one word.
-#[derive(Clone, Copy, PartialEq, Eq, Debug)]
-pub enum Answer {
-    /// They never do.
-    Never,
-    /// They always do.
-    Always,
-    /// They may.
-    Maybe,
-}

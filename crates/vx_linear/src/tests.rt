@@ -4,9 +4,10 @@ ghost use Rattle.std.specs.Prelude.{◌≡◌, true, IfOk};
 ghost use Rattle.vx_linear.specs.Forms.{is_before_all, is_ordered};
 
 use crate::differs;
-use crate::form::{Answer, Form, Symbol, Term};
+use crate::form::{Form, Symbol, Term};
 use std::alloc::{AllocError, Global};
 use std::test::Fail;
+use vx_base::answer::Answer;
 use vx_base::listed::Listed;
 use vx_flow::graph::Array;
 

@@ -10,6 +10,7 @@ ghost use Rattle.vx_sim.specs.Passed.{counted, event_of, leads_away};
 ghost use Rattle.vx_sim.specs.Standing.{state_of};
 
 use crate::standing::Standing;
+use vx_base::arithmetic::unsigned32;
 use vx_base::outcome::Trap;
 use vx_isa::operation::{BranchRegister, Operation, UnitKind};
 use vx_isa::program::{Word, WordProgram};
@@ -69,7 +70,7 @@ fn lead_by(now: &Standing, op: &Operation) -> Option<Lead>
             target,
         } => is_taken(now, *test, *taken_at_one).then_some(Lead::To(*target)),
         Operation::Call { target } => Some(Lead::To(*target)),
-        Operation::Return => Some(Lead::To(now.link().cast_unsigned())),
+        Operation::Return => Some(Lead::To(unsigned32(now.link()))),
         Operation::EndByTrap { trap } => Some(Lead::TrapsBy(*trap)),
         Operation::Halt { from } => Some(Lead::Halts(now.source(from))),
         _ => None,

@@ -8,6 +8,7 @@ ghost use Rattle.vx_sim.specs.Standing.{state_of};
 
 use crate::standing::Standing;
 use itoa::Buffer;
+use vx_base::arithmetic::unsigned32;
 use vx_base::sink::{Sink, SinkFault, put_all};
 use vx_isa::operation::Operation;
 use vx_isa::program::WordProgram;
@@ -51,7 +52,7 @@ fn print_one<K: Sink>(
             put_all(out, buffer.format(now.source(from)).as_bytes())
         }
         Operation::OutByte { from } => {
-            let byte = (now.source(from).cast_unsigned() % 256) as u8;
+            let byte = (unsigned32(now.source(from)) % 256) as u8;
             put_all(out, &[byte])
         }
         _ => put_all(out, &[]),

@@ -5,7 +5,7 @@ ghost use Rattle.vx_isa.specs.Machine.{source, register, address, is_word_of, lo
 ghost use Rattle.vx_sim.specs.Standing.{state_of};
 
 use crate::registers::Registers;
-use vx_base::arithmetic::{add32, value};
+use vx_base::arithmetic::{add32, unsigned32, value};
 use vx_isa::operation::{BranchRegister, GeneralRegister, Operation, Register, Source};
 
 /// All that words read and change, but for the writes in flight.
@@ -66,7 +66,7 @@ impl Standing {
     pub(crate) fn address(&self, base: &GeneralRegister, offset: i32) -> u32
         ensures { result ≡ address (state_of self.now []) base.now offset }
     {
-        add32(self.general(base), offset).cast_unsigned()
+        unsigned32(add32(self.general(base), offset))
     }
 
     fn loaded(&self, size: u32, address: u32) -> i32
