@@ -17,3 +17,4 @@ pub mod Interpreting
 pub mod Scopes
 pub mod Faults
 pub mod Resolved
+pub mod Reads
