@@ -1,2 +1,9 @@
 pub mod Unique
+pub mod Telling
+pub mod Written
+pub mod Applying
+pub mod Nowhere
+pub mod Standing
+pub mod Highest
+pub mod Kept
 mod CopyRows

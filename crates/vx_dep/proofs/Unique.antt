@@ -1,9 +1,9 @@
 -- A pair has one delay, an operation one height.
-use Rattle.std.proofs.Common.{◌≡◌, ◌<◌, ◌≤◌, ◌⊎◌, inl, inr, ◌+◌, ◌-◌, ℕ, zero, suc, refl, sym, ◌∙◌, ap, arith, Option, Some, None, length, slice_get, List, [], ◌∷◌}
+use Rattle.std.proofs.Common.{◌≡◌, ◌<◌, ◌≤◌, ◌⊎◌, inl, inr, ◌+◌, ℕ, zero, suc, refl, ap, arith, Some, None, length, slice_get, List, [], ◌∷◌}
 use Rattle.vx_flow.specs.declared.trace.Trace.{Trace}
 use Rattle.vx_isa.specs.Numbers.{Numbers}
 use Rattle.vx_dep.specs.declared.mode.Mode.{Mode}
-use Rattle.vx_dep.specs.Delays.{Applies, IsDelay, IsHeight, AreHeights, OneDelay, OneHeight}
+use Rattle.vx_dep.specs.Delays.{Applies, AreHeights, OneDelay, OneHeight}
 
 pub one_delay : OneDelay
 one_delay m mode t i j None None d e = refl

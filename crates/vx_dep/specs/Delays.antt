@@ -1,7 +1,6 @@
 -- How many words an operation of a trace has to stand behind an earlier one, and how long the way is from an operation to
 -- the end of the trace. In mode Free operations pass splits and joins; in mode Barred they do not.
 use Rattle.std.specs.Prelude.{◌≡◌, ◌<◌, ◌≤◌, ◌⊎◌, ◌+◌, ℕ, Bool, true, false, Option, Some, None, List, [], ◌∷◌, length, slice_get}
-use Rattle.vx_flow.specs.declared.graph.Op.{Op}
 use Rattle.vx_flow.specs.declared.graph.Op.TheVariants.{Load, Store}
 use Rattle.vx_flow.specs.declared.trace.TraceOp.{TraceOp}
 use Rattle.vx_flow.specs.declared.trace.TraceOp.TheVariants.{Plain, Split}

@@ -1,2 +1,7 @@
 pub mod Delays
 pub mod Compensation
+pub mod Tables
+pub mod Rows
+pub mod Sights
+pub mod Heights
+pub mod Deps

@@ -2,5 +2,18 @@
 #![tactic(auto)]
 
 pub mod copies;
+mod deps;
+mod heights;
+mod kinds;
 pub mod laws;
 pub mod mode;
+mod rows;
+mod sights;
+mod tables;
+
+pub use deps::{Deps, pairs};
+
+#[cfg(test)]
+mod fixtures;
+#[cfg(test)]
+mod tests;

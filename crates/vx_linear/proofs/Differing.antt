@@ -1,16 +1,16 @@
 -- The merged steps give the greatest power of 2 that divides every difference of the two sums.
-use Rattle.std.proofs.Common.{◌≡◌, ◌⊎◌, inl, inr, ℕ, zero, suc, ◌+◌, ◌*◌, ◌^◌, refl, sym, ◌∙◌, ap, arith, Bool, true, false, List, [], ◌∷◌, ℤ, pos, negsuc, ◌+ℤ◌, ◌-ℤ◌, ◌*ℤ◌, subst}
+use Rattle.std.proofs.Common.{◌≡◌, ◌⊎◌, inl, inr, ℕ, ◌+◌, ◌*◌, ◌^◌, refl, sym, ◌∙◌, ap, arith, true, false, List, ◌∷◌, ℤ, pos, ◌+ℤ◌, ◌-ℤ◌, ◌*ℤ◌}
 use Rattle.std.proofs.lemmas.Int.{ints}
 use Rattle.std.proofs.Math.IntN.{pos-*ℤ-pos, zero-*ℤ, *ℤ-zero, *ℤ_comm}
 use Rattle.vx_base.specs.Arithmetic.{IsNumber, wrap, unsigned, difference_of}
 use Rattle.vx_base.proofs.WrapLaws.{wrap-unsigned, wrap-and_multiple, wrap_fits}
 use Rattle.vx_linear.specs.declared.form.Symbol.{Symbol}
 use Rattle.vx_linear.specs.declared.form.Term.{Term}
-use Rattle.vx_linear.specs.Forms.{sum_at, is_before, is_same, is_before_all, is_ordered}
-use Rattle.vx_linear.specs.Steps.{Narrows, Steps, none, left, right, both, is_before_first}
+use Rattle.vx_linear.specs.Forms.{sum_at, is_same, is_before_all, is_ordered}
+use Rattle.vx_linear.specs.Steps.{Narrows, Steps, none, left, right, both}
 use Rattle.vx_linear.proofs.Products.{add_times, subtract_times, times_times, times_swap}
 use Rattle.vx_linear.proofs.Narrowing.{Multiple, OddMultiple, divides_number, divides_step, same_or_odd}
-use Rattle.vx_linear.proofs.Symbols.{only, only_self, only_other, only_same, no_sum, before_apart, before_apart_back, same_before, same_before_all, first_all, ordered_rest, ordered_first, first-true, second-true, same_is}
+use Rattle.vx_linear.proofs.Symbols.{only, only_self, only_other, no_sum, before_apart, same_before_all, first_all, ordered_rest, ordered_first, first-true, second-true, same_is}
 
 -- a number read without sign, up to multiples of 2 ^ 32
 pub like_unsigned : (z : ℤ) → IsNumber z → (k : ℤ) × (pos (unsigned z) ≡ z +ℤ k *ℤ pos (2 ^ 32))

@@ -1,22 +1,21 @@
 -- Forms that are equal, and answers that are not.
-use Rattle.std.proofs.Common.{◌≡◌, ◌↔◌, ◌⊎◌, inl, inr, ℕ, ◌^◌, refl, sym, ◌∙◌, ap, arith, Bool, true, false, ◌&&◌, ◌%◌, nat_eq, List, [], ◌∷◌, ℤ, pos, ◌+ℤ◌, ◌*ℤ◌, subst}
+use Rattle.std.proofs.Common.{◌≡◌, ◌↔◌, inl, inr, ℕ, ◌^◌, refl, sym, ◌∙◌, ap, arith, Bool, true, false, ◌&&◌, ◌%◌, nat_eq, List, [], ◌∷◌, ℤ, pos, ◌+ℤ◌, ◌*ℤ◌, subst}
 use Rattle.std.proofs.lemmas.Int.{ints}
 use Rattle.std.proofs.lemmas.Bool.Decides.{nat_tests}
 use Rattle.std.proofs.lemmas.Bool.{false≢true, true≢false}
 use Rattle.std.specs.Ordering.{int_eq}
 use Rattle.vx_base.specs.Arithmetic.{unsigned, difference_of}
-use Rattle.vx_linear.specs.declared.form.Symbol.{Symbol}
 use Rattle.vx_linear.specs.declared.form.Term.{Term}
 use Rattle.vx_linear.specs.declared.form.Form.{Form}
 use Rattle.vx_base.specs.declared.answer.Answer.{Answer}
 use Rattle.vx_base.specs.declared.answer.Answer.TheVariants.{Never, Always, Maybe}
-use Rattle.vx_linear.specs.Forms.{sum_at, value_at, Meet, NeverSame, AlwaysSame, is_same, is_ordered}
+use Rattle.vx_linear.specs.Forms.{sum_at, value_at, NeverSame, AlwaysSame, is_ordered}
 use Rattle.vx_linear.specs.Linear.{same_terms}
 use Rattle.vx_linear.specs.Steps.{Steps}
 use Rattle.vx_linear.proofs.Symbols.{same_is, same_self, first-true, second-true, true-both}
-use Rattle.vx_linear.proofs.NeverLaw.{apart, never_by, not_never_by}
+use Rattle.vx_linear.proofs.NeverLaw.{never_by, not_never_by}
 
-int_is : (x y : ℤ) → int_eq x y ≡ true → x ≡ y
+pub int_is : (x y : ℤ) → int_eq x y ≡ true → x ≡ y
 int_is x y h = grind (arith, nat_tests)
 
 int_self : (x : ℤ) → int_eq x x ≡ true

@@ -5,5 +5,15 @@ pub mod Products
 pub mod Differing
 pub mod NeverLaw
 pub mod Equal
+pub mod Reduced
+pub mod ByNumber
+pub mod Told
+pub mod InOrder
+pub mod Stands
+pub mod Indices
+pub mod Apart
+pub mod ApartRows
 pub mod Merging
 pub mod Writing
+pub mod Passing
+pub mod Ordered

@@ -1,5 +1,5 @@
 -- One step of the merge: what is left then comes to the same power as the whole.
-use Rattle.std.proofs.Common.{◌≡◌, ℕ, ◌^◌, ◌*◌, refl, sym, ◌∙◌, ap, arith, Bool, true, false, List, [], ◌∷◌, length, subst}
+use Rattle.std.proofs.Common.{◌≡◌, ℕ, ◌^◌, refl, sym, ◌∙◌, ap, arith, true, false, List, [], ◌∷◌, length, subst}
 use Rattle.std.proofs.lemmas.Bool.Decides.{nat_tests}
 use Rattle.vx_base.specs.Arithmetic.{IsNumber, unsigned, difference_of}
 use Rattle.vx_linear.specs.declared.form.Symbol.{Symbol}

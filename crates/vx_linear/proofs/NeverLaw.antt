@@ -1,17 +1,16 @@
 -- Two forms of one array name no common word exactly where the power of 2 does not divide their constants' difference.
-use Rattle.std.proofs.Common.{◌≡◌, ◌⊎◌, inl, inr, ℕ, zero, suc, ◌+◌, ◌*◌, ◌/◌, ◌%◌, ◌^◌, refl, sym, ◌∙◌, ap, arith, true, List, ℤ, pos, negsuc, ◌+ℤ◌, ◌-ℤ◌, ◌*ℤ◌}
+use Rattle.std.proofs.Common.{◌≡◌, ◌⊎◌, inl, inr, ℕ, ◌+◌, ◌*◌, ◌/◌, ◌%◌, ◌^◌, sym, ◌∙◌, ap, arith, true, ℤ, pos, negsuc, ◌+ℤ◌, ◌-ℤ◌, ◌*ℤ◌}
 use Rattle.std.proofs.lemmas.Int.{ints}
 use Rattle.std.proofs.lemmas.Nat.{div-add-mod'}
-use Rattle.std.proofs.Math.IntN.{pos-*ℤ-pos, negsuc-*ℤ-pos, *ℤ-zero, *ℤ_comm}
+use Rattle.std.proofs.Math.IntN.{pos-*ℤ-pos, negsuc-*ℤ-pos, *ℤ_comm}
 use Rattle.std.proofs.Math.Nat.{mul-mod_left}
 use Rattle.vx_base.specs.Arithmetic.{unsigned, difference_of}
 use Rattle.vx_linear.specs.declared.form.Symbol.{Symbol}
-use Rattle.vx_linear.specs.declared.form.Term.{Term}
 use Rattle.vx_linear.specs.declared.form.Form.{Form}
-use Rattle.vx_linear.specs.Forms.{sum_at, value_at, Meet, NeverSame, is_ordered}
+use Rattle.vx_linear.specs.Forms.{sum_at, Meet, NeverSame, is_ordered}
 use Rattle.vx_linear.specs.Steps.{Steps}
 use Rattle.vx_linear.proofs.Odd.{Inverse, odd_inverse}
-use Rattle.vx_linear.proofs.Products.{add_times, subtract_times, times_times, times_swap}
+use Rattle.vx_linear.proofs.Products.{subtract_times, times_times}
 use Rattle.vx_linear.proofs.Narrowing.{Multiple}
 use Rattle.vx_linear.proofs.Symbols.{only, zero_sum}
 use Rattle.vx_linear.proofs.Differing.{like_difference, steps_divide, sums_differ, reached, Reached}

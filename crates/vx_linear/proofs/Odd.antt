@@ -1,5 +1,5 @@
 -- Odd numbers have an inverse modulo each power of 2.
-use Rattle.std.proofs.Common.{◌≡◌, ◌⊎◌, inl, inr, ℕ, zero, suc, ◌+◌, ◌*◌, ◌/◌, ◌%◌, ◌^◌, ◌<◌, refl, sym, ◌∙◌, ap, arith, lit<}
+use Rattle.std.proofs.Common.{◌≡◌, ◌⊎◌, inl, inr, ℕ, zero, suc, ◌+◌, ◌*◌, ◌/◌, ◌%◌, ◌^◌, refl, ◌∙◌, ap, arith, lit<}
 use Rattle.std.proofs.lemmas.Nat.{div-add-mod', mod_below}
 
 -- a number is even or odd

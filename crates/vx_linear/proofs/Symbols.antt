@@ -1,13 +1,12 @@
 -- The order of symbols, and sums in which one symbol alone is not 0.
-use Rattle.std.proofs.Common.{◌≡◌, ◌⊎◌, inl, inr, ℕ, zero, suc, ◌+◌, ◌<◌, refl, sym, ◌∙◌, ap, arith, Bool, true, false, ◌&&◌, ◌||◌, nat_lt, nat_eq, if◌then◌else◌, List, [], ◌∷◌, ℤ, pos, ◌+ℤ◌, ◌*ℤ◌, subst}
+use Rattle.std.proofs.Common.{◌≡◌, ℕ, refl, ◌∙◌, ap, arith, Bool, true, false, ◌&&◌, nat_eq, if◌then◌else◌, List, [], ◌∷◌, ℤ, pos, ◌+ℤ◌, ◌*ℤ◌}
 use Rattle.std.proofs.lemmas.Int.{ints}
 use Rattle.std.proofs.lemmas.Bool.Decides.{nat_tests}
 use Rattle.std.proofs.lemmas.Bool.{false≢true}
-use Rattle.std.specs.List.{list_all}
 use Rattle.vx_linear.specs.declared.form.Symbol.{Symbol}
 use Rattle.vx_linear.specs.declared.form.Symbol.TheVariants.{Entry, Made, EntryPlace, MadePlace}
 use Rattle.vx_linear.specs.declared.form.Term.{Term}
-use Rattle.vx_linear.specs.Forms.{sum_at, kind_of, number_of, is_before, is_same, is_before_all, is_ordered}
+use Rattle.vx_linear.specs.Forms.{sum_at, is_before, is_same, is_before_all, is_ordered}
 use Rattle.vx_linear.specs.Steps.{is_before_first}
 
 abbrev pub only : Symbol → ℤ → Symbol → ℤ

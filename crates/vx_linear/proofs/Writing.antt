@@ -1,23 +1,20 @@
 -- What is known of a value is told by its last writer, and by whether a join stands below it.
-use Rattle.std.proofs.Common.{◌≡◌, ◌⊎◌, inl, inr, ◌-◌, ◌<◌, ◌≤◌, ℕ, zero, suc, refl, sym, ◌∙◌, ap, arith, Bool, true, false, ◌&&◌, ◌||◌, nat_lt, nat_eq, if◌then◌else◌, Option, Some, None, List, [], ◌∷◌, ◌++◌, ◌+◌, length, drop, get_or, subst, slice_get}
+use Rattle.std.proofs.Common.{◌≡◌, ◌⊎◌, inl, inr, ◌<◌, ◌≤◌, ℕ, zero, suc, refl, sym, ◌∙◌, ap, arith, Bool, true, false, ◌&&◌, ◌||◌, nat_lt, nat_eq, if◌then◌else◌, Option, Some, None, List, [], ◌∷◌, ◌++◌, ◌+◌, length, drop, get_or, slice_get}
 use Rattle.std.proofs.lemmas.Bool.Decides.{nat_tests}
 use Rattle.std.proofs.lemmas.Bool.{false≢true, true≢false}
 use Rattle.std.proofs.Math.Seq.{drop-cons}
-use Rattle.std.proofs.lemmas.List.{length-drop, length-append, append_assoc}
+use Rattle.std.proofs.lemmas.List.{length-drop}
 use Rattle.std.proofs.lemmas.Option.{slice_get-get_or}
 use Rattle.std.specs.List.{list_any}
 use Rattle.vx_flow.specs.declared.graph.Operand.TheVariants.{Held}
 use Rattle.vx_flow.specs.declared.trace.TraceOp.{TraceOp}
 use Rattle.vx_flow.specs.declared.trace.Join.{Join}
 use Rattle.vx_flow.specs.declared.trace.Trace.{Trace}
-use Rattle.vx_linear.specs.declared.form.Form.{Form}
 use Rattle.vx_linear.specs.declared.form.Symbol.{Symbol}
 use Rattle.vx_linear.specs.declared.form.Symbol.TheVariants.{Entry, Made, EntryPlace, MadePlace}
-use Rattle.vx_linear.specs.declared.linear.Linear.{Linear}
-use Rattle.vx_linear.specs.declared.follow.Known.{Known}
 use Rattle.vx_linear.specs.Linear.{symbol}
-use Rattle.vx_linear.specs.Followed.{Above, At, Joined, writes_it, made_or_entry, made_or_entry_place, plain, made, known, index_made, index_of, is_join, join_at, at_place, above_of, form_at, forms_from, forms_of}
-use Rattle.vx_linear.specs.Writers.{writes_there, writer, is_between, has_join, made_there, made_at, index_there, known_by, index_by, AreMade, IsFollowed}
+use Rattle.vx_linear.specs.Followed.{Above, At, writes_it, made_or_entry, made_or_entry_place, plain, made, known, index_made, index_of, is_join, join_at, at_place, above_of, forms_from, forms_of}
+use Rattle.vx_linear.specs.Writers.{writes_there, writer, is_between, has_join, made_there, made_at, index_there, known_by, index_by}
 
 -- joins
 
@@ -202,14 +199,6 @@ pub all_forms : (t : Trace) → forms_from t 0 t.ops ≡ forms_of t
 unfolding forms_of
 all_forms t = refl
 
--- one step of the search for a writer
-pub writer_step : (ops : List TraceOp) (i v : ℕ) → 0 < i → writer ops i v ≡ (if writes_there v (slice_get ops (i - 1)) then Some (i - 1) else writer ops (i - 1) v)
-writer_step ops zero v h = absurd (omega arith)
-writer_step ops (suc i) v h = let e : i ≡ suc i - 1 = omega arith in ap (λ n. if writes_there v (slice_get ops n) then Some n else writer ops n v) e
-
-pub writer_passed : (ops : List TraceOp) (i v : ℕ) → 0 < i → writes_there v (slice_get ops (i - 1)) ≡ false → writer ops i v ≡ writer ops (i - 1) v
-writer_passed ops i v h e = writer_step ops i v h ∙ ap (λ b. if b then Some (i - 1) else writer ops (i - 1) v) e
-
 -- what is known, by the answer of the search
 
 pub known_none : (t : Trace) (i v : ℕ) (w : Option ℕ) → w ≡ writer t.ops i v → w ≡ None → plain (symbol (Entry v)) ≡ known (above_of t i) (Held v)
@@ -232,9 +221,6 @@ index_found t i v j w e h k = ap (λ b. if b then symbol (MadePlace j) else inde
 
 pub found_below : (ops : List TraceOp) (i v j : ℕ) (w : Option ℕ) → w ≡ writer ops i v → w ≡ Some j → j < i
 found_below ops i v j w e h = writer_below ops i v j (sym e ∙ h)
-
-pub there_of : (t : Trace) (knowns : List Known) (i j : ℕ) → AreMade t knowns i → j ≤ i → AreMade t knowns j
-there_of t knowns i j m h = record { made = m.made; all = let a = m.all in omega (arith, a); there = m.there }
 
 -- from operation to operation
 
@@ -267,35 +253,3 @@ of_longer (x ∷ xs) y (suc j) k e = by (of_longer xs y j k e)
     by : (slice_get xs j ≡ Some k) ⊎ ((j ≡ length xs) × (k ≡ y)) → (slice_get xs j ≡ Some k) ⊎ ((suc j ≡ suc (length xs)) × (k ≡ y))
     by (inl h) = inl h
     by (inr (h, i)) = inr (ap suc h, i)
-
-pub none_followed : (t : Trace) (knowns : List Known) (found : List (Option Form)) (left : List TraceOp) → knowns ≡ [] → found ≡ [] → left ≡ t.ops → IsFollowed t knowns found left
-none_followed t knowns found left e f g = subst (λ ks. IsFollowed t ks found left) (sym e) (subst (λ fs. IsFollowed t [] fs left) (sym f) (subst (λ ops. IsFollowed t [] [] ops) (sym g) begin))
-  where
-    begin : IsFollowed t [] [] t.ops
-    begin = record { made = record { made = λ j k h. (let w : ⊥ = cc in absurd w); all = omega arith; there = omega arith }; forms = all_forms t; rest = refl }
-
-pub one_more : (t : Trace) (knowns : List Known) (found : List (Option Form)) (left others : List TraceOp) (op : TraceOp) (form : Option Form) (known' : Known) →
-    IsFollowed t knowns found left → left ≡ op ∷ others → form ≡ form_at t (length knowns) op → known' ≡ made (length knowns) op (known (above_of t (length knowns))) →
-    IsFollowed t (knowns ++ known' ∷ []) (found ++ form ∷ []) others
-one_more t knowns found left others op form known' f e g h =
-    let place = at_drop t.ops others (length knowns) op (f.rest ∙ e) in
-    let longer : length (knowns ++ known' ∷ []) ≡ length knowns + 1 = omega (arith, length-append knowns (known' ∷ [])) in
-    let next : suc (length knowns) ≡ length (knowns ++ known' ∷ []) = omega (arith, longer) in
-    record {
-      made = record {
-        made = λ j k q. by place j k (of_longer knowns known' j k q);
-        all = omega arith;
-        there = let b = place.below in omega (arith, longer, b);
-      };
-      forms =
-          append_assoc found (form ∷ []) (forms_from t (length (knowns ++ known' ∷ [])) others)
-          ∙ ap (λ n. found ++ form ∷ forms_from t n others) (sym next)
-          ∙ ap (λ x. found ++ x ∷ forms_from t (suc (length knowns)) others) g
-          ∙ ap (λ ops. found ++ forms_from t (length knowns) ops) (sym e)
-          ∙ f.forms;
-      rest = ap (λ n. drop n t.ops) longer ∙ place.rest;
-    }
-  where
-    by : AtDrop t.ops others (length knowns) op → (j : ℕ) (k : Known) → (slice_get knowns j ≡ Some k) ⊎ ((j ≡ length knowns) × (k ≡ known')) → k ≡ made_at t j
-    by place j k (inl q) = f.made.made j k q
-    by place j k (inr (at, q)) = q ∙ h ∙ ap (made_there t (length knowns)) (sym place.get) ∙ ap (made_at t) (sym at)

@@ -1,7 +1,7 @@
 -- The index form of each access of a trace. A form follows sums, differences, moves, shifts by a number and
 -- multiplications by a number, each only where no join of the trace stands between the operation that reads a value and
 -- the last one above that wrote it; every other value is a symbol.
-use Rattle.std.specs.Prelude.{ℕ, zero, suc, ℤ, pos, ◌+◌, ◌*◌, ◌/◌, ◌%◌, ◌^◌, Bool, true, false, ◌&&◌, not, nat_eq, if◌then◌else◌, Option, Some, None, List, [], ◌∷◌, ◌++◌, map, length, slice_get}
+use Rattle.std.specs.Prelude.{ℕ, zero, suc, ℤ, pos, Bool, true, false, ◌&&◌, not, nat_eq, if◌then◌else◌, Option, Some, None, List, [], ◌∷◌, slice_get}
 use Rattle.std.specs.List.{list_any}
 use Rattle.std.specs.Ordering.{int_eq}
 use Rattle.vx_base.specs.Arithmetic.{quotient_of, value_of}
@@ -9,7 +9,6 @@ use Rattle.vx_base.specs.declared.arithmetic.Code.{Code}
 use Rattle.vx_base.specs.declared.arithmetic.Code.TheVariants.{Add, Sub, Shl, Mov, Mpylu, Mpyhs}
 use Rattle.vx_flow.specs.declared.graph.Operand.{Operand}
 use Rattle.vx_flow.specs.declared.graph.Operand.TheVariants.{Held, Number, Stack}
-use Rattle.vx_flow.specs.declared.graph.Op.{Op}
 use Rattle.vx_flow.specs.declared.graph.Op.TheVariants.{Compute, Place, Load, Store}
 use Rattle.vx_flow.specs.declared.graph.Array.{Array}
 use Rattle.vx_flow.specs.declared.trace.TraceOp.{TraceOp}
@@ -20,7 +19,6 @@ use Rattle.vx_linear.specs.declared.form.Symbol.{Symbol}
 use Rattle.vx_linear.specs.declared.form.Symbol.TheVariants.{Entry, Made, EntryPlace, MadePlace}
 use Rattle.vx_linear.specs.declared.form.Form.{Form}
 use Rattle.vx_linear.specs.declared.linear.Linear.{Linear}
-use Rattle.vx_linear.specs.declared.follow.Factor.{Factor}
 use Rattle.vx_linear.specs.declared.follow.Half.{Half}
 use Rattle.vx_linear.specs.declared.follow.Known.{Known}
 use Rattle.vx_linear.specs.Linear.{constant, symbol, plus, minus, times, same}

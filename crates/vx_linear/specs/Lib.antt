@@ -3,3 +3,5 @@ pub mod Linear
 pub mod Followed
 pub mod Steps
 pub mod Writers
+pub mod Passed
+pub mod InOrder

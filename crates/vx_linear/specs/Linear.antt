@@ -1,5 +1,5 @@
 -- Sums of symbols with factors, modulo 2 ^ 32.
-use Rattle.std.specs.Prelude.{ℕ, ℤ, pos, negsuc, ◌^◌, ◌+◌, ◌*◌, ◌+ℤ◌, ◌*ℤ◌, Bool, true, false, ◌&&◌, not, nat_lt, nat_eq, if◌then◌else◌, List, [], ◌∷◌}
+use Rattle.std.specs.Prelude.{ℤ, pos, negsuc, Bool, true, false, ◌&&◌, if◌then◌else◌, List, [], ◌∷◌}
 use Rattle.std.specs.Ordering.{int_eq}
 use Rattle.vx_base.specs.Arithmetic.{sum_of, product_of}
 use Rattle.vx_linear.specs.declared.form.Symbol.{Symbol}

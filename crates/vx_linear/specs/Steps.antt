@@ -1,5 +1,5 @@
 -- The greatest power of 2 that divides a power of 2 and each factor of the difference of two rows of terms.
-use Rattle.std.specs.Prelude.{◌≡◌, ℕ, zero, suc, ◌*◌, ◌%◌, ◌^◌, ◌≤◌, Bool, true, List, [], ◌∷◌}
+use Rattle.std.specs.Prelude.{◌≡◌, ℕ, ◌*◌, ◌%◌, ◌^◌, ◌≤◌, Bool, true, List, [], ◌∷◌}
 use Rattle.vx_base.specs.Arithmetic.{IsNumber, unsigned, difference_of}
 use Rattle.vx_linear.specs.declared.form.Symbol.{Symbol}
 use Rattle.vx_linear.specs.declared.form.Term.{Term}

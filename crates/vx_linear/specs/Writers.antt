@@ -1,16 +1,14 @@
 -- The last operation above a place that writes a value, and what it made.
-use Rattle.std.specs.Prelude.{◌≡◌, ◌<◌, ◌≤◌, ◌^◌, ℕ, zero, suc, Bool, true, false, ◌&&◌, nat_lt, if◌then◌else◌, Option, Some, None, List, [], ◌∷◌, ◌++◌, length, drop, slice_get}
+use Rattle.std.specs.Prelude.{ℕ, zero, suc, Bool, false, ◌&&◌, nat_lt, if◌then◌else◌, Option, Some, None, List, slice_get}
 use Rattle.std.specs.List.{list_any}
-use Rattle.vx_flow.specs.declared.graph.Operand.TheVariants.{Held}
 use Rattle.vx_flow.specs.declared.trace.TraceOp.{TraceOp}
 use Rattle.vx_flow.specs.declared.trace.Join.{Join}
 use Rattle.vx_flow.specs.declared.trace.Trace.{Trace}
 use Rattle.vx_linear.specs.declared.form.Symbol.TheVariants.{Entry, Made, EntryPlace, MadePlace}
-use Rattle.vx_linear.specs.declared.form.Form.{Form}
 use Rattle.vx_linear.specs.declared.linear.Linear.{Linear}
 use Rattle.vx_linear.specs.declared.follow.Known.{Known}
 use Rattle.vx_linear.specs.Linear.{symbol}
-use Rattle.vx_linear.specs.Followed.{writes_it, plain, made, known, index_made, above_of, forms_from, forms_of}
+use Rattle.vx_linear.specs.Followed.{writes_it, plain, made, known, index_made, above_of}
 
 abbrev pub writes_there : ℕ → Option TraceOp → Bool
 writes_there v None = false
@@ -48,15 +46,3 @@ known_by t i v (Some j) = if has_join t.joins j i then plain (symbol (Made j)) e
 abbrev pub index_by : Trace → ℕ → ℕ → Option ℕ → Linear
 index_by t i v None = symbol (EntryPlace v)
 index_by t i v (Some j) = if has_join t.joins j i then symbol (MadePlace j) else index_there t j (slice_get t.ops j)
-
--- the entries are what the first operations make, those above place i among them
-pub record AreMade (t : Trace) (knowns : List Known) (i : ℕ) : Type 0 where
-  pub made : (j : ℕ) (k : Known) → slice_get knowns j ≡ Some k → k ≡ made_at t j
-  pub all : i ≤ length knowns
-  pub there : length knowns ≤ length t.ops
-
--- so many operations are followed: what they make, their forms, and the operations behind them
-pub record IsFollowed (t : Trace) (knowns : List Known) (found : List (Option Form)) (left : List TraceOp) : Type 0 where
-  pub made : AreMade t knowns (length knowns)
-  pub forms : found ++ forms_from t (length knowns) left ≡ forms_of t
-  pub rest : drop (length knowns) t.ops ≡ left

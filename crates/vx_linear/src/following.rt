@@ -1,20 +1,20 @@
 // The index forms of a trace: what each operation makes is found once, in trace order, from what those above it make.
 
-ghost use Rattle.std.specs.Prelude.{◌≡◌, ◌+◌, ◌^◌, ◌<◌, ℕ, Some, nat_eq, IfOk, slice_get};
-ghost use Rattle.std.specs.List.{list_any};
-ghost use Rattle.vx_flow.specs.Effects.{writes};
-ghost use Rattle.vx_linear.specs.Followed.{writes_it, made, known, index_of, index_made, array_of, access_form, form_at, above_of, forms_of};
-ghost use Rattle.vx_linear.specs.Writers.{writes_there, writer, is_between, has_join, made_at, index_there, AreMade};
+ghost use Rattle.std.specs.Prelude.{◌≡◌, ◌+◌, ◌^◌, ◌<◌, ◌≤◌, ℕ, Some, IfOk, slice_get};
+ghost use Rattle.vx_linear.specs.Followed.{made, known, index_of, index_made, array_of, access_form, form_at, above_of, forms_of};
+ghost use Rattle.vx_linear.specs.Writers.{writer, has_join, made_at, index_there};
+ghost use Rattle.vx_linear.specs.Passed.{Passes};
 
 use crate::follow::{Known, Read, computed, copy_known, made_at, plain};
 use crate::form::{Form, Symbol};
-use crate::linear::{Linear, constant, symbol};
+use crate::linear::{Linear, constant, copy, symbol};
+use crate::passed::{Passed, join_places, none_passed, pass};
 use std::alloc::{AllocError, Global};
 use vx_base::arithmetic::div32;
 use vx_base::listed::Listed;
 use vx_base::outcome::NoMemory;
 use vx_flow::graph::{Array, ArrayId, Op, Operand, Value};
-use vx_flow::trace::{Join, Trace, TraceOp};
+use vx_flow::trace::{Trace, TraceOp};
 
 /// The index forms of the loads and stores of a trace, by the places of its operations; None exactly for the other
 /// operations. A form follows sums, differences, moves, shifts by a number and multiplications by a number, as far as no
@@ -22,154 +22,93 @@ use vx_flow::trace::{Join, Trace, TraceOp};
 pub fn forms(alloc: Global, trace: &Trace) -> Result<Listed<Option<Form>>, NoMemory>
     ensures { IfOk result (λ forms. forms ≡ forms_of trace.now) }
 {
-    let mut knowns = Listed::new(alloc);
+    let joins = join_places(alloc, trace.joins.as_slice())?;
+    let mut passed = none_passed(alloc);
     let mut forms = Listed::new(alloc);
     let mut rest = trace.ops.as_slice();
     'follow: loop {
         match rest.split_first() {
             None => return Ok(forms),
             Some((op, others)) => {
-                let place = knowns.len();
-                let form = form_at(alloc, trace, knowns.as_slice(), place, op)?;
-                let known = made(alloc, trace, knowns.as_slice(), place, op)?;
+                let place = forms.len();
+                let form = form_at(alloc, trace, &passed, place, op)?;
+                let known = made(alloc, trace, &passed, place, op)?;
+                let index = index_made(alloc, trace, &passed, place, op)?;
                 forms.push(form)?;
-                knowns.push(known)?;
+                pass(&mut passed, trace, &joins, place, op, known, index)?;
                 rest = others;
             }
         }
     }
 }
 
-/// Whether the operation writes the value.
-fn writes(op: &Op, value: Value) -> bool
-    ensures { result ≡ list_any (nat_eq value) (writes op.now) }
-{
-    match op {
-        Op::Compute { to, .. }
-        | Op::Select { to, .. }
-        | Op::Place { to, .. }
-        | Op::Load { to, .. }
-        | Op::More { to }
-        | Op::Input { to }
-        | Op::Across { to, .. } => value == *to,
-        Op::Store { .. } | Op::Text { .. } | Op::Decimal { .. } => false,
-    }
-}
-
-fn writes_it(op: &TraceOp, value: Value) -> bool
-    ensures { result ≡ writes_it value op.now }
-{
-    match op {
-        TraceOp::Plain(op) => writes(op, value),
-        TraceOp::Split { .. } => false,
-    }
-}
-
-/// Whether the operation at a place is there and writes the value.
-fn writes_at(ops: &[TraceOp], place: usize, value: Value) -> bool
-    ensures { result ≡ writes_there value (slice_get ops.now place) }
-{
-    match ops.get(place) {
-        Some(op) => writes_it(op, value),
-        None => false,
-    }
-}
-
 /// The last operation above the place that writes the value.
-fn search(ops: &[TraceOp], place: usize, value: Value) -> Option<usize>
-    ensures { result ≡ writer ops.now place value }
-{
-    let mut above = place;
-    'search: loop {
-        if above == 0 {
-            return None;
-        }
-        above -= 1;
-        if writes_at(ops, above, value) {
-            return Some(above);
-        }
-    }
-}
-
-/// The last operation above the place that writes the value.
-#[tactic(auto, using(crate::proofs::Writing::writer_below))]
-fn last_writer(trace: &Trace, place: usize, value: Value) -> Option<usize>
+fn last_writer(trace: &Trace, passed: &Passed, place: usize, value: Value) -> Option<usize>
+    requires passed { Passes trace.now place passed.now }
     ensures writer { result ≡ writer trace.now.ops place value }
     ensures below { (j : ℕ) → result ≡ Some j → j < place }
 {
-    search(trace.ops.as_slice(), place, value)
+    passed.writers.look(value)
 }
 
 /// Whether a join stands below one place, and not below the other.
-fn has_join(trace: &Trace, above: usize, below: usize) -> bool
+fn has_join(trace: &Trace, passed: &Passed, above: usize, below: usize) -> bool
+    requires passed { Passes trace.now below passed.now }
+    requires above { above ≤ below }
     ensures { result ≡ has_join trace.now.joins above below }
 {
-    has_join_in(trace.joins.as_slice(), above, below)
+    above < passed.join
 }
 
-fn has_join_in(joins: &[Join], above: usize, below: usize) -> bool
-    ensures { result ≡ has_join joins.now above below }
-{
-    joins.iter().any(|join| is_between(join, above, below))
-}
-
-fn is_between(join: &Join, above: usize, below: usize) -> bool
-    ensures { result ≡ is_between above below join.now }
-{
-    let place = join.place as usize;
-    above < place && place <= below
-}
-
-/// What the operation at a place made.
+/// What the operation at a place above made.
 fn copy_made(
     alloc: Global,
     trace: &Trace,
-    knowns: &[Known],
+    passed: &Passed,
     place: usize,
+    above: usize,
 ) -> Result<Known, AllocError>
-    requires made { AreMade trace.now knowns.now (place + 1) }
-    requires few { place < 2 ^ 32 }
-    ensures { IfOk result (λ found. found ≡ made_at trace.now place) }
+    requires passed { Passes trace.now place passed.now }
+    requires above { above < place }
+    ensures { IfOk result (λ found. found ≡ made_at trace.now above) }
 {
-    copy_known(alloc, &knowns[place])
+    copy_known(alloc, &passed.knowns.as_slice()[above])
 }
 
-/// The index of the place that the operation at a place made.
-fn index_there(
+/// The index of the place that the operation at a place above made.
+fn copy_index(
     alloc: Global,
     trace: &Trace,
-    knowns: &[Known],
+    passed: &Passed,
     place: usize,
+    above: usize,
 ) -> Result<Linear, AllocError>
-    requires made { AreMade trace.now knowns.now (place + 1) }
-    requires few { place < 2 ^ 32 }
-    ensures { IfOk result (λ index. index ≡ index_there trace.now place (slice_get trace.now.ops place)) }
+    requires passed { Passes trace.now place passed.now }
+    requires above { above < place }
+    ensures { IfOk result (λ index. index ≡ index_there trace.now above (slice_get trace.now.ops above)) }
 {
-    match trace.ops.as_slice().get(place) {
-        Some(op) => index_made(alloc, trace, knowns, place, op),
-        None => symbol(alloc, Symbol::MadePlace(place as u32)),
-    }
+    copy(alloc, &passed.indices.as_slice()[above])
 }
 
 /// What is known of a value at a place.
 fn known_value(
     alloc: Global,
     trace: &Trace,
-    knowns: &[Known],
+    passed: &Passed,
     place: usize,
     value: Value,
 ) -> Result<Known, AllocError>
-    requires made { AreMade trace.now knowns.now place }
+    requires passed { Passes trace.now place passed.now }
     requires few { place < 2 ^ 32 }
     ensures { IfOk result (λ found. found ≡ known (above_of trace.now place) (Operand.Held value)) }
 {
-    match last_writer(trace, place, value) {
+    match last_writer(trace, passed, place, value) {
         None => Ok(plain(symbol(alloc, Symbol::Entry(value))?)),
         Some(writer) => {
-            if has_join(trace, writer, place) {
+            if has_join(trace, passed, writer, place) {
                 made_at(alloc, writer as u32)
             } else {
-                copy_made(alloc, trace, knowns, writer)
+                copy_made(alloc, trace, passed, place, writer)
             }
         }
     }
@@ -179,18 +118,18 @@ fn known_value(
 fn known(
     alloc: Global,
     trace: &Trace,
-    knowns: &[Known],
+    passed: &Passed,
     place: usize,
     operand: &Operand,
 ) -> Result<Known, AllocError>
-    requires made { AreMade trace.now knowns.now place }
+    requires passed { Passes trace.now place passed.now }
     requires few { place < 2 ^ 32 }
     ensures { IfOk result (λ found. found ≡ known (above_of trace.now place) operand.now) }
 {
     match operand {
         Operand::Number(number) => Ok(plain(constant(alloc, *number))),
         Operand::Stack => Ok(plain(constant(alloc, 0))),
-        Operand::Held(value) => known_value(alloc, trace, knowns, place, *value),
+        Operand::Held(value) => known_value(alloc, trace, passed, place, *value),
     }
 }
 
@@ -198,11 +137,11 @@ fn known(
 fn made(
     alloc: Global,
     trace: &Trace,
-    knowns: &[Known],
+    passed: &Passed,
     place: usize,
     op: &TraceOp,
 ) -> Result<Known, AllocError>
-    requires made { AreMade trace.now knowns.now place }
+    requires passed { Passes trace.now place passed.now }
     requires few { place < 2 ^ 32 }
     ensures { IfOk result (λ found. found ≡ made place op.now (known (above_of trace.now place))) }
 {
@@ -215,8 +154,8 @@ fn made(
                 ..
             },
         ) => {
-            let first = known(alloc, trace, knowns, place, left)?;
-            let second = known(alloc, trace, knowns, place, right)?;
+            let first = known(alloc, trace, passed, place, left)?;
+            let second = known(alloc, trace, passed, place, right)?;
             let left = Read {
                 operand: *left,
                 known: first,
@@ -235,17 +174,17 @@ fn made(
 fn index_made(
     alloc: Global,
     trace: &Trace,
-    knowns: &[Known],
+    passed: &Passed,
     place: usize,
     op: &TraceOp,
 ) -> Result<Linear, AllocError>
-    requires made { AreMade trace.now knowns.now place }
+    requires passed { Passes trace.now place passed.now }
     requires few { place < 2 ^ 32 }
     ensures { IfOk result (λ index. index ≡ index_made place op.now (above_of trace.now place)) }
 {
     match op {
         TraceOp::Plain(Op::Place { index, .. }) => {
-            Ok(known(alloc, trace, knowns, place, index)?.linear)
+            Ok(known(alloc, trace, passed, place, index)?.linear)
         }
         _ => symbol(alloc, Symbol::MadePlace(place as u32)),
     }
@@ -255,21 +194,21 @@ fn index_made(
 fn index_value(
     alloc: Global,
     trace: &Trace,
-    knowns: &[Known],
+    passed: &Passed,
     place: usize,
     value: Value,
 ) -> Result<Linear, AllocError>
-    requires made { AreMade trace.now knowns.now place }
+    requires passed { Passes trace.now place passed.now }
     requires few { place < 2 ^ 32 }
     ensures { IfOk result (λ index. index ≡ index_of (above_of trace.now place) (Operand.Held value)) }
 {
-    match last_writer(trace, place, value) {
+    match last_writer(trace, passed, place, value) {
         None => symbol(alloc, Symbol::EntryPlace(value)),
         Some(writer) => {
-            if has_join(trace, writer, place) {
+            if has_join(trace, passed, writer, place) {
                 symbol(alloc, Symbol::MadePlace(writer as u32))
             } else {
-                index_there(alloc, trace, knowns, writer)
+                copy_index(alloc, trace, passed, place, writer)
             }
         }
     }
@@ -279,18 +218,18 @@ fn index_value(
 fn index(
     alloc: Global,
     trace: &Trace,
-    knowns: &[Known],
+    passed: &Passed,
     place: usize,
     operand: &Operand,
 ) -> Result<Linear, AllocError>
-    requires made { AreMade trace.now knowns.now place }
+    requires passed { Passes trace.now place passed.now }
     requires few { place < 2 ^ 32 }
     ensures { IfOk result (λ index. index ≡ index_of (above_of trace.now place) operand.now) }
 {
     match operand {
         Operand::Number(number) => Ok(constant(alloc, div32(*number, 4))),
         Operand::Stack => Ok(constant(alloc, 0)),
-        Operand::Held(value) => index_value(alloc, trace, knowns, place, *value),
+        Operand::Held(value) => index_value(alloc, trace, passed, place, *value),
     }
 }
 
@@ -316,16 +255,16 @@ fn array_of(arrays: &[Array], array: ArrayId) -> Array
 fn form(
     alloc: Global,
     trace: &Trace,
-    knowns: &[Known],
+    passed: &Passed,
     place: usize,
     access: (ArrayId, Operand),
 ) -> Result<Form, AllocError>
-    requires made { AreMade trace.now knowns.now place }
+    requires passed { Passes trace.now place passed.now }
     requires few { place < 2 ^ 32 }
     ensures { IfOk result (λ form. form ≡ access_form trace.now place access.0 access.1) }
 {
     let (array, operand) = access;
-    let index = index(alloc, trace, knowns, place, &operand)?;
+    let index = index(alloc, trace, passed, place, &operand)?;
     Ok(Form {
         array: array_of(trace.arrays.as_slice(), array),
         constant: index.constant,
@@ -337,11 +276,11 @@ fn form(
 fn form_at(
     alloc: Global,
     trace: &Trace,
-    knowns: &[Known],
+    passed: &Passed,
     place: usize,
     op: &TraceOp,
 ) -> Result<Option<Form>, AllocError>
-    requires made { AreMade trace.now knowns.now place }
+    requires passed { Passes trace.now place passed.now }
     requires few { place < 2 ^ 32 }
     ensures { IfOk result (λ form. form ≡ form_at trace.now place op.now) }
 {
@@ -352,14 +291,14 @@ fn form_at(
                 place: at,
                 ..
             },
-        ) => Ok(Some(form(alloc, trace, knowns, place, (*array, *at))?)),
+        ) => Ok(Some(form(alloc, trace, passed, place, (*array, *at))?)),
         TraceOp::Plain(
             Op::Store {
                 array,
                 place: at,
                 ..
             },
-        ) => Ok(Some(form(alloc, trace, knowns, place, (*array, *at))?)),
+        ) => Ok(Some(form(alloc, trace, passed, place, (*array, *at))?)),
         _ => Ok(None),
     }
 }

@@ -6,7 +6,10 @@ mod difference;
 mod follow;
 mod following;
 pub mod form;
+pub mod laws;
 mod linear;
+mod passed;
+mod places;
 
 pub use difference::differs;
 pub use following::forms;

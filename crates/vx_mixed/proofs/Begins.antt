@@ -31,14 +31,14 @@ use Rattle.vx_mixed.specs.Begins.{BeginsTidy, BeginsSettled}
 use Rattle.vx_mixed.proofs.Alive.{in_whole}
 
 -- a value that has a bank is one of the graph's
-bank_below : (banks : List Bank) (v : ℕ) (bank : Bank) → is_bank bank (slice_get banks v) ≡ true → v < length banks
+pub bank_below : (banks : List Bank) (v : ℕ) (bank : Bank) → is_bank bank (slice_get banks v) ≡ true → v < length banks
 bank_below [] v General h = absurd (cc)
 bank_below [] v Branch h = absurd (cc)
 bank_below (b ∷ banks) zero bank h = omega arith
 bank_below (b ∷ banks) (suc v) bank h = let r = bank_below banks v bank h in omega arith
 
 module _ (banks : List Bank) where
-  abbrev Below : List ℕ → Type 0
+  abbrev pub Below : List ℕ → Type 0
   Below vs = (v : ℕ) → IsIn v vs → v < length banks
 
   operand_below : (x : Operand) → is_operand banks x ≡ true → Below (value_in x)
@@ -47,7 +47,7 @@ module _ (banks : List Bank) where
   operand_below (Number n) h v q = absurd q
   operand_below Stack h v q = absurd q
 
-  both_below : (xs ys : List ℕ) → Below xs → Below ys → Below (xs ++ ys)
+  pub both_below : (xs ys : List ℕ) → Below xs → Below ys → Below (xs ++ ys)
   both_below xs ys f g v h = ⊎_elim (λ a. f v a) (λ a. g v a) (in_either v xs ys h)
 
   right_below : (code : Code) (a b : Operand) → Below (value_in a) → is_right banks code b ≡ true → Below (if is_unary code then value_in a else value_in a ++ value_in b)
@@ -74,7 +74,7 @@ module _ (banks : List Bank) where
   branch_below p h v (inl e) = subst (λ z. z < length banks) (sym e) (bank_below banks p Branch h)
   branch_below p h v (inr q) = absurd q
 
-  op_below : (arrays : ℕ) (op : Op) → is_sound_operation banks arrays op ≡ true → Below (reads op)
+  pub op_below : (arrays : ℕ) (op : Op) → is_sound_operation banks arrays op ≡ true → Below (reads op)
   op_below n (Compute code v a b) h =
       let x = and_parts (is_written banks code v && is_operand banks a) (is_right banks code b) h in
       let y = and_parts (is_written banks code v) (is_operand banks a) x.0 in
@@ -100,7 +100,7 @@ module _ (banks : List Bank) where
   operands_below [] h = λ v q. absurd q
   operands_below (x ∷ xs) h = let y = and_parts (is_operand banks x) (list_all (is_operand banks) xs) h in both_below (value_in x) (flat_map value_in xs) (operand_below x y.0) (operands_below xs y.1)
 
-  exit_below : (blocks : ℕ) (x : Exit) → is_sound_exit banks blocks x ≡ true → Below (reads_of_exit x)
+  pub exit_below : (blocks : ℕ) (x : Exit) → is_sound_exit banks blocks x ≡ true → Below (reads_of_exit x)
   exit_below n (Goto c) h = λ v q. absurd q
   exit_below n (Branches p c d) h = branch_below p (and_parts (is_branch banks p) (nat_lt c n) (and_parts (is_branch banks p && nat_lt c n) (nat_lt d n) h).0).0
   exit_below n (Call g arguments result next) h =
@@ -108,7 +108,7 @@ module _ (banks : List Bank) where
   exit_below n (Return x) h = operand_below x h
   exit_below n (Ends k) h = λ v q. absurd q
 
-all_in : {A : Type 0} (p : A → Bool) (xs : List A) (x : A) → list_all p xs ≡ true → IsIn x xs → p x ≡ true
+pub all_in : {A : Type 0} (p : A → Bool) (xs : List A) (x : A) → list_all p xs ≡ true → IsIn x xs → p x ≡ true
 all_in p [] x h q = absurd q
 all_in p (y ∷ ys) x h (inl e) = ap p e ∙ (and_parts (p y) (list_all p ys) h).0
 all_in p (y ∷ ys) x h (inr q) = all_in p ys x (and_parts (p y) (list_all p ys) h).1 q
@@ -122,20 +122,20 @@ block_below graph (op ∷ ops) x all last v h =
     let w = and_parts (is_sound_operation graph.banks (length graph.arrays) op) (is_kept graph op) z.0 in
     ⊎_elim (λ a. op_below graph.banks (length graph.arrays) op w.0 v (in_whole v (reads op) a)) (λ a. block_below graph ops x y.1 last v a.1) h
 
-get_in : {A : Type 0} (p : A → Bool) (xs : List A) (i : ℕ) (x : A) → list_all p xs ≡ true → slice_get xs i ≡ Some x → p x ≡ true
+pub get_in : {A : Type 0} (p : A → Bool) (xs : List A) (i : ℕ) (x : A) → list_all p xs ≡ true → slice_get xs i ≡ Some x → p x ≡ true
 get_in p [] i x h e = absurd (cc)
 get_in p (y ∷ ys) zero x h e = let q : y ≡ x = cc in subst (λ z. p z ≡ true) q (and_parts (p y) (list_all p ys) h).0
 get_in p (y ∷ ys) (suc i) x h e = get_in p ys i x (and_parts (p y) (list_all p ys) h).1 e
 
 module _ (graph : Graph) (m : MixedGraph) (sound : is_sound graph ≡ true) (is : OfGraph graph m) where
-  node_is : (b : ℕ) → slice_get m.nodes b ≡ option_map Unused (slice_get graph.blocks b)
+  pub node_is : (b : ℕ) → slice_get m.nodes b ≡ option_map Unused (slice_get graph.blocks b)
   node_is b = ap (λ z. slice_get z b) is.nodes ∙ slice_get-map Unused graph.blocks b
 
-  is_block : (o : Option Block) (k : Block) → option_map Unused o ≡ Some (Unused k) → o ≡ Some k
+  pub is_block : (o : Option Block) (k : Block) → option_map Unused o ≡ Some (Unused k) → o ≡ Some k
   is_block None k e = absurd (cc)
   is_block (Some b) k e = let q : b ≡ k = cc in ap Some q
 
-  no_entry : (o : Option Block) (r w : ℕ) → option_map Unused o ≡ Some (Enters r w) → ⊥
+  pub no_entry : (o : Option Block) (r w : ℕ) → option_map Unused o ≡ Some (Enters r w) → ⊥
   no_entry None r w e = cc
   no_entry (Some b) r w e = cc
 
@@ -158,7 +158,7 @@ begins_tidy graph m sound is b v start made copy live =
     let no : is_copy (length m.banks) v ≡ false = ap (λ z. if z then false else true) (lt-ltb v (length m.banks) below) in
     absurd (let q : true ≡ false = sym copy ∙ no in cc)
 
-no_region : {A : Type 0} (graph : Graph) (m : MixedGraph) → OfGraph graph m → (r : ℕ) (g : Region) → slice_get m.regions r ≡ Some g → A
+pub no_region : {A : Type 0} (graph : Graph) (m : MixedGraph) → OfGraph graph m → (r : ℕ) (g : Region) → slice_get m.regions r ≡ Some g → A
 no_region graph m is r g e = absurd (let q : None ≡ Some g = sym (ap (λ z. slice_get z r) is.regions) ∙ e in cc)
 
 pub begins_settled : BeginsSettled

@@ -101,7 +101,7 @@ of_edges b (x ∷ blocks) e h =
     (λ a. let r = of_edges (b + 1) blocks e a in (suc r.0, r.1, r.2, (let q = r.3 in omega arith), r.4))
     (in_either e (map (edge b) (successors_of x.exit)) (edges_from (b + 1) blocks) h)
 
-to_edges : (b : ℕ) (blocks : List Block) (i c : ℕ) (block : Block) → slice_get blocks i ≡ Some block → IsIn c (successors_of block.exit) → IsIn (edge (b + i) c) (edges_from b blocks)
+pub to_edges : (b : ℕ) (blocks : List Block) (i c : ℕ) (block : Block) → slice_get blocks i ≡ Some block → IsIn c (successors_of block.exit) → IsIn (edge (b + i) c) (edges_from b blocks)
 to_edges b [] i c block e h = absurd (cc)
 to_edges b (x ∷ blocks) zero c block e h =
     let same : block ≡ x = cc in

@@ -15,11 +15,12 @@ use Rattle.vx_mixed.specs.Meaning.{into, node_hop, timed_from_start, hop, leaves
 use Rattle.vx_mixed.specs.Agree.{Segment, last, on, EndsAt}
 use Rattle.vx_mixed.specs.Items.{calm}
 use Rattle.vx_mixed.specs.Trace.{nth, order}
-use Rattle.vx_mixed.specs.Path.{trace_hop, Path, ends, jumps, on_yes, on_no, Passes, LeavesBy, LeavesAt, RunsOut}
+use Rattle.vx_mixed.specs.Path.{trace_hop, Path, ends, jumps, on_yes, on_no}
 use Rattle.vx_flow.specs.Sound.{targets_of}
 use Rattle.vx_flow.specs.Walk.{edge}
 use Rattle.vx_mixed.specs.Live.{plain}
 use Rattle.vx_mixed.proofs.Effect.{none_is}
+use Rattle.vx_mixed.proofs.Passing.{Passes, LeavesBy, LeavesAt, RunsOut}
 
 abbrev run_ops : Setting → List Op → State → Option State
 run_ops setting [] s = Some s

@@ -17,7 +17,7 @@ use Rattle.vx_flow.specs.Meaning.{Hop, Arrives, Calls, Leaves, Stops, Wrong, Bod
 use Rattle.vx_mixed.specs.declared.mixed.MixedGraph.{MixedGraph}
 use Rattle.vx_mixed.specs.Meaning.{hop}
 use Rattle.vx_mixed.specs.Live.{Live}
-use Rattle.vx_mixed.specs.Agree.{Segment, last, on, SameWorld, Agree, Alike, SameMeaning, not_the_result}
+use Rattle.vx_mixed.specs.Agree.{Apart, Segment, last, on, SameWorld, Agree, Alike, SameMeaning, not_the_result}
 use Rattle.vx_mixed.specs.Program.{body_of, program_of}
 use Rattle.vx_mixed.specs.Context.{Becomes, Remains, Changes, Both, AllBecome, SameRuns, InContext}
 use Rattle.vx_mixed.proofs.Keeps.{Good, HopGood, hop_good}
@@ -26,8 +26,8 @@ same_world : (s : State) → SameWorld s s
 same_world s = record { arrays = refl; input = refl; out = refl }
 
 -- different arrays stand at different places, where the own ones stand behind the globals
-apart : (globals base : ℕ) → globals ≤ base → (a b : ℕ) → spot_of globals base a ≡ spot_of globals base b → a ≡ b
-apart globals base le a b e =
+spots_differ : (globals base : ℕ) → globals ≤ base → (a b : ℕ) → spot_of globals base a ≡ spot_of globals base b → a ≡ b
+spots_differ globals base le a b e =
     ⊎_elim
     (λ la. ⊎_elim
     (λ lb. sym (low a la) ∙ e ∙ low b lb)
@@ -44,6 +44,12 @@ apart globals base le a b e =
 
     high : (c : ℕ) → globals ≤ c → spot_of globals base c ≡ base + (c - globals)
     high c h = ap (λ z. if z then c else base + (c - globals)) (le-ltb c globals h)
+
+one_name : (arrays : List Array) (a b : ℕ) (x y : Array) → slice_get arrays a ≡ Some x → slice_get arrays b ≡ Some y → a ≡ b → x.named ≡ y.named
+one_name arrays a b x y e f same = let g : slice_get arrays a ≡ slice_get arrays b = ap (slice_get arrays) same in let h : x ≡ y = cc in ap (λ (z : Array). z.named) h
+
+apart : (arrays : List Array) (globals base : ℕ) (texts : List (List ℕ)) → globals ≤ base → Apart arrays (record { spot = spot_of globals base; texts = texts })
+apart arrays globals base texts le a b x y e f differ same = differ (one_name arrays a b x y e f (spots_differ globals base le a b same))
 
 wrong_or : (h : Hop) → (h ≡ Wrong) ⊎ (h ≢ Wrong)
 wrong_or (Arrives b c s) = inr (λ (e : Arrives b c s ≡ Wrong). cc)
@@ -485,7 +491,7 @@ module _ (flow : Flow) (times : List ℕ) (latency : Op → ℕ) (some : times �
         exits = IsWrong;
       } in w)
       (λ right.
-      let new = c.leads setting times times n.block m.block n.state m.state old.0 (apart Globals n.base lo) some some near.0 near.1 old.1 right in
+      let new = c.leads setting times times n.block m.block n.state m.state old.0 (apart f.arrays Globals n.base flow.texts lo) some some near.0 near.1 old.1 right in
       let b = inside flow times latency ns m f' meet' m.block m.state new.0 (ap (slice_get ns) ef ∙ e') (subst (λ x. Segment (hop (setting_of A x) times latency f') meet' m.block m.state new.0) (sym eb) new.1) in
       record {
         count = a.count;

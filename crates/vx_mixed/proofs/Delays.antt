@@ -10,10 +10,10 @@ use Rattle.vx_mixed.specs.Live.{item_reads, item_writes}
 use Rattle.vx_base.specs.Schedule.{Delayed}
 use Rattle.vx_mixed.specs.Items.{item_takes, item_gives, Reads, Writes, Marked, as_it_is, dismissible, split, Safe}
 use Rattle.vx_mixed.specs.Trace.{nth, order}
-use Rattle.vx_mixed.specs.Path.{Passes}
 use Rattle.vx_mixed.specs.Facts.{RowFacts, IsSplit, IsFirm, Harmless}
 use Rattle.vx_mixed.proofs.Effect.{cell_named}
 use Rattle.vx_mixed.proofs.Shape.{inert_reads, inert_writes}
+use Rattle.vx_mixed.proofs.Passing.{Passes}
 
 pub IsValue : Location → Type 0
 IsValue l = (v : ℕ) × (l ≡ Of v)

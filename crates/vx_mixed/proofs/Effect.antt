@@ -9,7 +9,8 @@ use Rattle.vx_flow.specs.declared.graph.Op.TheVariants.{Compute}
 use Rattle.vx_flow.specs.Effects.{reads, Content, State, Setting, is_unary, computed, is_one, place_of, IsCell, Left, Printed, both, held, chosen, cell_in, row_of, with_value, with_cell, loaded, stored, next_input, printed, value_in, IsIn, Location, Of, Cell, TheInput, TheOutput, Holds, at}
 use Rattle.vx_flow.specs.declared.graph.Operand.{Operand}
 use Rattle.vx_flow.specs.declared.graph.Operand.TheVariants.{Held, Number, Stack}
-use Rattle.vx_mixed.specs.Items.{Fine, SameShape, Does}
+use Rattle.vx_mixed.specs.Items.{Fine, SameShape}
+use Rattle.vx_mixed.proofs.Does.{Does}
 
 abbrev pub Grows : Content → Content → Type 0
 Grows x y = (n : ℤ) → x ≡ Some n → y ≡ Some n

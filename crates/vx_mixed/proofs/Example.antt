@@ -3,7 +3,8 @@ use Rattle.std.proofs.Common.{refl}
 use Rattle.std.specs.Int.{int_wrap}
 use Rattle.vx_base.specs.Arithmetic.{sum_of, mpylu_of}
 use Rattle.vx_mixed.specs.Example.{Works, FailsWithoutCopy}
-use Rattle.vx_mixed.specs.NextExample.{NextIsNew}
+use Rattle.vx_mixed.specs.NextExample.{NextIsNew, SharesEntrances}
+use Rattle.vx_mixed.specs.TraceExample.{IsItsTrace}
 use Rattle.vx_mixed.specs.LayoutExample.{IsLaidOut}
 
 pub works : Works
@@ -27,5 +28,25 @@ fails_without_copy = record { soon_too = refl; late_too = refl }
 pub next_is_new : NextIsNew
 next_is_new = record { nodes = refl; regions = refl }
 
+pub shares_entrances : SharesEntrances
+shares_entrances = record {
+  start = refl;
+  outside = refl;
+  join = refl;
+  inside = refl;
+  not_at_once = refl;
+  made = refl;
+  on = refl;
+  on_too = refl;
+  leaves = refl;
+  joins = refl;
+  leaves_new = refl;
+  joins_new = refl;
+  behind = refl;
+}
+
 pub is_laid_out : IsLaidOut
 is_laid_out = refl
+
+pub its_trace : IsItsTrace
+its_trace = record { ops = refl; fixed = refl; joins = refl }

@@ -15,12 +15,13 @@ use Rattle.vx_base.specs.Schedule.{through}
 use Rattle.vx_base.proofs.Leaving.{exactly_through}
 use Rattle.vx_mixed.specs.Items.{Fine, SameShape, Reads, Writes, Marked, as_it_is, dismissible, split, Safe}
 use Rattle.vx_mixed.specs.Trace.{nth, order}
-use Rattle.vx_mixed.specs.Path.{Passes}
-use Rattle.vx_mixed.specs.Facts.{RowFacts, IsSplit, row, words_from, copies, at_time, form}
+use Rattle.vx_mixed.specs.Facts.{RowFacts, IsSplit, row, words_from, copies}
 use Rattle.vx_mixed.proofs.Times.{ways}
 use Rattle.vx_mixed.proofs.Delays.{delayed, in_trace, harmless_is_safe, split_is_safe}
 use Rattle.vx_mixed.proofs.InWords.{holds}
 use Rattle.vx_mixed.proofs.Entered.{U, quiet, table, word_on, test, to_word, to_rejoin, split_copies, join_copies, first_out, leaves_grow, Quiet}
+use Rattle.vx_mixed.proofs.Passing.{Passes}
+use Rattle.vx_mixed.proofs.AtTimes.{at_time, form}
 
 -- the split as it is placed
 split_form : (i i' : Item) (p : ℕ) (edge : Edge) (d : ℕ) (y : Bool) → Marked i i' → i ≡ Split p y edge d → (other : Edge) × (g : ℕ) × (i' ≡ Split p y other g)

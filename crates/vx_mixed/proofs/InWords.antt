@@ -7,10 +7,11 @@ use Rattle.vx_mixed.specs.declared.region.Item.{Item}
 use Rattle.vx_mixed.specs.Meaning.{word_effect}
 use Rattle.vx_base.specs.Schedule.{InOrder, WordDoes, ReadsWell, InWords, Exactly}
 use Rattle.vx_mixed.specs.Items.{Fine, SameShape, Reads, Writes, Marked, Safe}
-use Rattle.vx_mixed.specs.Trace.{nth, order, in_words, laid, Timetable}
+use Rattle.vx_mixed.specs.Trace.{nth, order}
 use Rattle.vx_mixed.proofs.Shape.{shape_trans, shape_sym, order_shape, words_shape, order_next, calm_frame}
 use Rattle.vx_mixed.proofs.Word.{Good, Ran, run, writer_in}
 use Rattle.vx_base.proofs.Schedule.{upto, reads_well}
+use Rattle.vx_mixed.proofs.Timetable.{in_words, laid, Timetable}
 
 module _ (setting : Setting) (is : List Item) (old new : State) (put : ℕ → ℕ → Item) (members : ℕ → List ℕ) (when : ℕ → ℕ) (end : ℕ) (table : Timetable setting is old put members when end) (same : SameShape old new) (Wanted : Location → Type 0) where
   abbrev pub B : ℕ → State

@@ -1,14 +1,15 @@
 -- The part of a trace below a join, with its words and copies.
-use Rattle.std.proofs.Common.{◌≡◌, ℕ, zero, suc, ◌+◌, ◌-◌, ◌<◌, ◌≤◌, Bool, true, false, List, [], ◌∷◌, ◌++◌, cond, length, drop, refl, sym, ap, ◌∙◌, subst, inl, inr, ⊎_elim, arith, map, length-drop}
+use Rattle.std.proofs.Common.{◌≡◌, ℕ, zero, suc, ◌+◌, ◌-◌, ◌<◌, ◌≤◌, Bool, true, false, List, [], ◌∷◌, ◌++◌, cond, length, drop, refl, sym, ap, ◌∙◌, subst, inl, inr, ⊎_elim, arith, map, length-drop, slice_get}
 use Rattle.std.specs.Prelude.{◌⊎◌, nat_eq, nat_lt}
 use Rattle.std.proofs.lemmas.Bool.{ne_eqb, le-ltb}
+use Rattle.vx_flow.specs.declared.graph.Array.{Array}
 use Rattle.vx_flow.specs.declared.graph.Op.{Op}
 use Rattle.vx_mixed.specs.declared.region.Item.{Item}
 use Rattle.vx_mixed.specs.declared.region.Item.TheVariants.{Split}
 use Rattle.vx_mixed.specs.declared.mixed.MixedGraph.{MixedGraph}
 use Rattle.vx_flow.specs.Effects.{State, Setting, IsIn}
 use Rattle.vx_mixed.specs.Live.{item_reads, item_writes}
-use Rattle.vx_mixed.specs.Agree.{ArraysApart, Segment}
+use Rattle.vx_mixed.specs.Agree.{Apart, Segment}
 use Rattle.vx_mixed.specs.Settled.{InTime}
 use Rattle.vx_flow.specs.Meaning.{Hop}
 use Rattle.vx_mixed.specs.Meaning.{hop}
@@ -17,13 +18,14 @@ use Rattle.vx_mixed.specs.Trace.{nth}
 use Rattle.vx_mixed.specs.Path.{Path}
 use Rattle.vx_mixed.specs.Facts.{RowFacts, IsSplit, IsFirm, places, row, words_from, ops_of, copies}
 use Rattle.vx_mixed.specs.Alive.{AfterOf, AfterItem}
-use Rattle.vx_mixed.specs.Way.{Way, item_latency, LeadsIn, LeadsOut}
+use Rattle.vx_mixed.specs.Way.{item_latency, LeadsIn, LeadsOut}
 use Rattle.vx_mixed.specs.Replaced.{CellFacts, Join, Replaced, ReplacementLaw, RegionSettled}
 use Rattle.vx_mixed.proofs.Way.{from_here}
 use Rattle.vx_mixed.proofs.Waits.{settled}
 use Rattle.vx_mixed.proofs.Unchanged.{unchanged, outside_ends}
 use Rattle.vx_mixed.proofs.PathEnds.{path_ends}
 use Rattle.vx_mixed.specs.Unchanged.{Outside}
+use Rattle.vx_mixed.proofs.OneWay.{Way}
 
 pub nth_drop : (is : List Item) (q k : ℕ) → nth (drop q is) k ≡ nth is (q + k)
 nth_drop is zero k = let z : k ≡ 0 + k = omega arith in ap (nth is) z
@@ -107,7 +109,7 @@ module _ (setting : Setting) (is : List Item) (word : ℕ → ℕ) (mark : ℕ �
     early = λ e k lt a le. facts.early (q + e) (q + k) (omega arith) (at IsSplit e a) le;
   }
 
-module _ (latency : Op → ℕ) (old new : MixedGraph) (meet_old meet_new pairs : ℕ → ℕ → Bool) (r : Replaced latency old new meet_old meet_new pairs) (setting : Setting) (apart : ArraysApart setting) where
+module _ (latency : Op → ℕ) (old new : MixedGraph) (meet_old meet_new pairs : ℕ → ℕ → Bool) (r : Replaced latency old new meet_old meet_new pairs) (setting : Setting) (apart : Apart old.arrays setting) where
   abbrev Ways : ℕ → ℕ → Type 0
   Ways b b' = Way setting latency old new meet_old meet_new pairs r.n r.reg b b'
 
@@ -253,5 +255,8 @@ replacement_law latency old new meet_old meet_new pairs r = record {
 abbrev pub in_order : Setting
 in_order = record { spot = λ a. a; texts = [] }
 
+pub in_order_apart : (m : MixedGraph) → Apart m.arrays in_order
+in_order_apart m a b x y e f differ same = differ (let g : slice_get m.arrays a ≡ slice_get m.arrays b = ap (slice_get m.arrays) same in let h : x ≡ y = cc in ap (λ (z : Array). z.named) h)
+
 pub region_is_settled : RegionSettled
-region_is_settled latency old new meet_old meet_new pairs r = region_settled latency old new meet_old meet_new pairs r in_order (λ a b e. e)
+region_is_settled latency old new meet_old meet_new pairs r = region_settled latency old new meet_old meet_new pairs r in_order (in_order_apart old)

@@ -1,3 +1,9 @@
+pub mod AtTimes
+pub mod Does
+pub mod Passing
+pub mod Timetable
+pub mod AliveWords
+pub mod OneWay
 pub mod Example
 pub mod Effect
 pub mod Alike
@@ -26,7 +32,14 @@ pub mod First
 pub mod LiveBack
 pub mod Kept
 pub mod Rows
+pub mod SettledAfter
+pub mod PathOf
+pub mod PlacedWords
+pub mod NewNodes
+pub mod TraceFacts
+pub mod Linked
 pub mod Scheduled
+pub mod Compensated
 pub mod FromGraphs
 pub mod Context
 pub mod Chains
@@ -34,5 +47,8 @@ pub mod ParallelWords
 pub mod BlockEdges
 pub mod StartHomes
 pub mod Begins
+pub mod StartsValid
+pub mod Renumbered
 pub mod Sinking
 pub mod SinkingRefused
+pub mod Counting

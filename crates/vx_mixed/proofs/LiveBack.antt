@@ -19,7 +19,7 @@ use Rattle.vx_mixed.specs.Items.{Marked, as_it_is, dismissible, split}
 use Rattle.vx_mixed.specs.Trace.{nth}
 use Rattle.vx_mixed.specs.Facts.{row, words_from, copies, places}
 use Rattle.vx_mixed.specs.Alive.{Alive, AfterItem, AtEnd}
-use Rattle.vx_mixed.specs.Way.{Way, LeadsIn, LeadsOut, at_once, by_made, Renamed, goto, branch, call, return, stop}
+use Rattle.vx_mixed.specs.Way.{LeadsIn, LeadsOut, at_once, by_made, Renamed, goto, branch, call, return, stop}
 use Rattle.vx_mixed.specs.Unchanged.{rename, Outside, block, region, LiveWithin}
 use Rattle.vx_mixed.proofs.Alive.{live_start, alive_read, alive_edge, alive_end}
 use Rattle.vx_mixed.proofs.Unchanged.{got}
@@ -28,6 +28,7 @@ use Rattle.vx_mixed.proofs.Waits.{word_at, of_mapped, reads_same, writes_same}
 use Rattle.vx_mixed.proofs.Times.{in_places}
 use Rattle.vx_mixed.proofs.Delays.{nth_past}
 use Rattle.vx_mixed.proofs.First.{take_words, first_in_words, untouched_words, none_copied, first_in_copies, untouched_copies, NoWriter, NoCopy}
+use Rattle.vx_mixed.proofs.OneWay.{Way}
 
 split_back : (i i' : Item) (p : ℕ) (other : Edge) (g : ℕ) (y : Bool) → Marked i i' → i' ≡ Split p y other g → (edge : Edge) × (d : ℕ) × (i ≡ Split p y edge d)
 split_back i i' p other g y as_it_is e = (other, g, absurd (cc))

@@ -64,7 +64,7 @@ old_split to (Split q u other z ∷ is) p d edge y (inl h) =
     (other, inl (ap (λ k. Split k y other d) ep ∙ ap (λ k. Split q k other d) eu ∙ ap (λ k. Split q u other k) ed), ap (λ (k : Edge). k.from) ee, ap (λ (k : Edge). k.to) ee)
 old_split to (Split q u other z ∷ is) p d edge y (inr h) = let r = old_split to is p d edge y h in (r.0, inr r.1, r.2, r.3)
 
-old_op : (to : ℕ → ℕ → ℕ) (word : List Item) (op : Op) (cluster : ℕ) → IsIn (Plain op cluster) (map (rename to) word) → IsIn (Plain op cluster) word
+pub old_op : (to : ℕ → ℕ → ℕ) (word : List Item) (op : Op) (cluster : ℕ) → IsIn (Plain op cluster) (map (rename to) word) → IsIn (Plain op cluster) word
 old_op to [] op cluster h = absurd h
 old_op to (Plain o k ∷ is) op cluster (inl h) = inl h
 old_op to (Plain o k ∷ is) op cluster (inr h) = inr (old_op to is op cluster h)

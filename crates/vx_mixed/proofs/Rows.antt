@@ -191,7 +191,7 @@ module _ (setting : Setting) (is : List Item) (latency : Item → ℕ) (live : �
     cell_flow = cells.flow;
     cell_anti = cells.anti;
     cell_output = cells.output;
-    splits = λ i k lt a b. let h = meets i k 1 lt (split_in_trace k b) (two_splits a b) in omega arith;
+    splits = λ i k lt a b. let h = meets i k 0 lt (split_in_trace k b) (two_splits a b) in omega arith;
     held = held;
     kept = λ e k v lt s l w. let h = meets e k 1 lt (writes_in k v w) (split_live v s l w) in omega arith;
     early = early;

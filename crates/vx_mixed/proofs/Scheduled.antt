@@ -2,14 +2,20 @@
 use Rattle.std.proofs.Common.{◌≡◌, ℕ, ◌+◌, ◌<◌, ◌≤◌, Bool, true, [], length, drop, refl, subst, ⊎_elim, inl, inr, arith}
 use Rattle.std.specs.Prelude.{◌⊎◌}
 use Rattle.vx_flow.specs.Effects.{Setting}
-use Rattle.vx_mixed.specs.Agree.{ArraysApart}
+use Rattle.vx_mixed.specs.Agree.{Apart}
 use Rattle.vx_flow.specs.declared.graph.Op.{Op}
 use Rattle.vx_mixed.specs.declared.mixed.MixedGraph.{MixedGraph}
 use Rattle.vx_mixed.specs.Alive.{AfterOf}
 use Rattle.vx_mixed.specs.Way.{item_latency}
 use Rattle.vx_mixed.specs.Replaced.{CellFacts, Join, Replaced}
 use Rattle.vx_mixed.specs.Rows.{below_join}
-use Rattle.vx_mixed.specs.Scheduled.{JoinEdge, Scheduled, Keeps, MotionLaw}
+use Rattle.vx_mixed.specs.Scheduled.{JoinEdge, Scheduled, HomesStay, Keeps, MotionLaw}
+use Rattle.vx_mixed.specs.Settled.{InTime}
+use Rattle.vx_mixed.specs.Unchanged.{LiveWithin}
+use Rattle.vx_mixed.specs.Next.{Replacement, next_mixed}
+use Rattle.vx_mixed.specs.Entrances.{meet_old, meet_new, pairs}
+use Rattle.vx_mixed.specs.Valid.{Valid}
+use Rattle.vx_mixed.proofs.SettledAfter.{settled_after, the_region}
 use Rattle.vx_mixed.proofs.Rows.{cell_facts, row_facts, split_in_trace}
 use Rattle.vx_mixed.proofs.Joins.{replacement_law, region_is_settled}
 use Rattle.vx_mixed.proofs.Kept.{liveness_kept}
@@ -19,10 +25,10 @@ abbrev anywhere : Setting
 anywhere = record { spot = λ a. a; texts = [] }
 
 module _ (latency : Op → ℕ) (old new : MixedGraph) (meet_old meet_new pairs : ℕ → ℕ → Bool) (r : Scheduled latency old new meet_old meet_new pairs) where
-  cells : (setting : Setting) → ArraysApart setting → (q : ℕ) → q ≤ length r.items → ((q ≡ 0) ⊎ (r.joins q ≡ true)) → CellFacts setting (drop q r.items) (λ k. r.word (q + k))
+  cells : (setting : Setting) → Apart old.arrays setting → (q : ℕ) → q ≤ length r.items → ((q ≡ 0) ⊎ (r.joins q ≡ true)) → CellFacts setting (drop q r.items) (λ k. r.word (q + k))
   cells setting apart q le h = cell_facts setting r.items (item_latency latency) (AfterOf old r.items) r.never r.joins r.word r.mark (length r.reg.words) r.meets r.placed q le (r.apart setting apart q h)
 
-  all_cells : (setting : Setting) → ArraysApart setting → CellFacts setting r.items r.word
+  all_cells : (setting : Setting) → Apart old.arrays setting → CellFacts setting r.items r.word
   all_cells setting apart =
       let c = cells setting apart 0 (omega arith) (inl refl) in
       record {
@@ -75,16 +81,25 @@ module _ (latency : Op → ℕ) (old new : MixedGraph) (meet_old meet_new pairs 
     entrances = λ b b' pair. ⊎_elim (λ x. inl x) (λ y. inr (⊎_elim (λ e. inl (join b b' e)) (λ o. inr o) y)) (r.entrances b b' pair);
   }
 
-  pub motion : Keeps latency old new meet_old meet_new pairs r.reg
+-- a replacement keeps all of it
+module _ (latency : Op → ℕ) (old : MixedGraph) (r : Replacement) (valid : Valid old) (stay : HomesStay old.homes.clusters r.homes.clusters) (s : Scheduled latency old (next_mixed old r) (meet_old r) (meet_new old r) (pairs old r)) where
+  abbrev New : MixedGraph
+  New = next_mixed old r
+
+  kept : LiveWithin old New (pairs old r)
+  kept = (liveness_kept latency old New (meet_old r) (meet_new old r) (pairs old r) (replaced latency old New (meet_old r) (meet_new old r) (pairs old r) s)).0
+
+  in_time : InTime latency s.reg
   unfolding replaced
-  motion =
-      let kept = liveness_kept latency old new meet_old meet_new pairs replaced in
-      record {
-        meaning = replacement_law latency old new meet_old meet_new pairs replaced;
-        settled = region_is_settled latency old new meet_old meet_new pairs replaced;
-        live = kept.0;
-        tidy = kept.1;
-      }
+  in_time = region_is_settled latency old New (meet_old r) (meet_new old r) (pairs old r) (replaced latency old New (meet_old r) (meet_new old r) (pairs old r) s)
+
+  pub motion : Keeps latency old r
+  motion = record {
+    meaning = replacement_law latency old New (meet_old r) (meet_new old r) (pairs old r) (replaced latency old New (meet_old r) (meet_new old r) (pairs old r) s);
+    live = kept;
+    tidy = λ tidy b v start made copy live. let b' = s.starts b start made in tidy b'.0 v b'.2 b'.3 copy (kept b'.0 b v b'.1 live);
+    settled = λ room is_room settled stand. settled_after latency old r valid stay room is_room settled stand (subst (InTime latency) (the_region old r s.n s.reg s.is_last s.is_region) in_time);
+  }
 
 pub motion_law : MotionLaw
-motion_law latency old new meet_old meet_new pairs r = motion latency old new meet_old meet_new pairs r
+motion_law latency old r valid stay s = motion latency old r valid stay s

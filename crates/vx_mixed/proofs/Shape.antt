@@ -9,9 +9,10 @@ use Rattle.vx_mixed.specs.declared.region.Item.{Item}
 use Rattle.vx_mixed.specs.declared.region.Item.TheVariants.{Plain, Split}
 use Rattle.vx_mixed.specs.Meaning.{word_effect, into}
 use Rattle.vx_mixed.specs.Items.{Fine, SameShape, item_effect, calm, Reads, Writes, Marked, as_it_is, dismissible}
-use Rattle.vx_mixed.specs.Trace.{inert, nth, order, in_words}
+use Rattle.vx_mixed.specs.Trace.{inert, nth, order}
 use Rattle.vx_mixed.proofs.Effect.{same_shape, none_is, value_else}
 use Rattle.vx_mixed.proofs.Step.{step}
+use Rattle.vx_mixed.proofs.Timetable.{in_words}
 
 pub shape_trans : (s t u : State) → SameShape s t → SameShape t u → SameShape s u
 shape_trans s t u h k = record { arrays = k.arrays ∙ h.arrays; rows = λ a. k.rows a ∙ h.rows a }

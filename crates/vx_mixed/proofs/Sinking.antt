@@ -24,7 +24,7 @@ use Rattle.vx_mixed.proofs.Hops.{alike_same}
 use Rattle.vx_mixed.proofs.Joins.{replacement_law}
 
 items : List Item
-items = Plain sum 0 ∷ Split 0 false (edge 0 2) 0 ∷ []
+items = Plain sum 0 ∷ Split 6 false (edge 0 2) 0 ∷ []
 
 abbrev word : ℕ → ℕ
 word zero = 1
@@ -33,7 +33,7 @@ word (suc (suc k)) = 3
 
 abbrev mark : ℕ → Item
 mark zero = Plain sum 0
-mark (suc zero) = Split 0 false (edge 0 3) 0
+mark (suc zero) = Split 6 false (edge 0 3) 0
 mark (suc (suc k)) = inert
 
 the_facts : (setting : Setting) → RowFacts setting items word mark (item_latency latency) 2 (AfterOf old items)
@@ -65,22 +65,22 @@ the_facts setting = record {
     beyond (suc zero) h = absurd (omega arith)
     beyond (suc (suc k)) h = omega arith
 
-    marked : (k : ℕ) → Marked (nth (Plain sum 0 ∷ Split 0 false (edge 0 2) 0 ∷ []) k) (mark k)
+    marked : (k : ℕ) → Marked (nth (Plain sum 0 ∷ Split 6 false (edge 0 2) 0 ∷ []) k) (mark k)
     marked zero = as_it_is
     marked (suc zero) = split
     marked (suc (suc k)) = as_it_is
 
-    time : (i v : ℕ) → IsIn v (item_writes (nth (Plain sum 0 ∷ Split 0 false (edge 0 2) 0 ∷ []) i)) → 1 ≤ item_latency latency (nth (Plain sum 0 ∷ Split 0 false (edge 0 2) 0 ∷ []) i)
+    time : (i v : ℕ) → IsIn v (item_writes (nth (Plain sum 0 ∷ Split 6 false (edge 0 2) 0 ∷ []) i)) → 1 ≤ item_latency latency (nth (Plain sum 0 ∷ Split 6 false (edge 0 2) 0 ∷ []) i)
     time zero v h = omega arith
     time (suc zero) v h = absurd h
     time (suc (suc k)) v h = absurd h
 
-    gives : (s : State) (k : ℕ) (l : Location) → item_gives setting (order setting (Plain sum 0 ∷ Split 0 false (edge 0 2) 0 ∷ []) s k) (nth (Plain sum 0 ∷ Split 0 false (edge 0 2) 0 ∷ []) k) l → ⊥
+    gives : (s : State) (k : ℕ) (l : Location) → item_gives setting (order setting (Plain sum 0 ∷ Split 6 false (edge 0 2) 0 ∷ []) s k) (nth (Plain sum 0 ∷ Split 6 false (edge 0 2) 0 ∷ []) k) l → ⊥
     gives s zero l h = h
     gives s (suc zero) l h = h
-    gives s (suc (suc k)) l h = inert_writes setting (order setting (Plain sum 0 ∷ Split 0 false (edge 0 2) 0 ∷ []) s (suc (suc k))) l (inr h)
+    gives s (suc (suc k)) l h = inert_writes setting (order setting (Plain sum 0 ∷ Split 6 false (edge 0 2) 0 ∷ []) s (suc (suc k))) l (inr h)
 
-    flow : (i o v : ℕ) → i < o → IsIn v (item_writes (nth (Plain sum 0 ∷ Split 0 false (edge 0 2) 0 ∷ []) i)) → IsIn v (item_reads (nth (Plain sum 0 ∷ Split 0 false (edge 0 2) 0 ∷ []) o)) → word i + item_latency latency (nth (Plain sum 0 ∷ Split 0 false (edge 0 2) 0 ∷ []) i) ≤ word o
+    flow : (i o v : ℕ) → i < o → IsIn v (item_writes (nth (Plain sum 0 ∷ Split 6 false (edge 0 2) 0 ∷ []) i)) → IsIn v (item_reads (nth (Plain sum 0 ∷ Split 6 false (edge 0 2) 0 ∷ []) o)) → word i + item_latency latency (nth (Plain sum 0 ∷ Split 6 false (edge 0 2) 0 ∷ []) i) ≤ word o
     flow zero zero v lt w r = absurd (omega arith)
     flow zero (suc zero) v lt (inl w) (inl r) = absurd (omega arith)
     flow zero (suc zero) v lt (inl w) (inr r) = absurd r
@@ -89,34 +89,34 @@ the_facts setting = record {
     flow (suc zero) o v lt w r = absurd w
     flow (suc (suc k)) o v lt w r = absurd w
 
-    anti : (o k v : ℕ) → o < k → IsIn v (item_reads (nth (Plain sum 0 ∷ Split 0 false (edge 0 2) 0 ∷ []) o)) → IsIn v (item_writes (nth (Plain sum 0 ∷ Split 0 false (edge 0 2) 0 ∷ []) k)) → word o ≤ word k
+    anti : (o k v : ℕ) → o < k → IsIn v (item_reads (nth (Plain sum 0 ∷ Split 6 false (edge 0 2) 0 ∷ []) o)) → IsIn v (item_writes (nth (Plain sum 0 ∷ Split 6 false (edge 0 2) 0 ∷ []) k)) → word o ≤ word k
     anti o zero v lt r w = absurd (omega arith)
     anti o (suc zero) v lt r w = absurd w
     anti o (suc (suc k)) v lt r w = absurd w
 
-    output : (i k v : ℕ) → i < k → IsIn v (item_writes (nth (Plain sum 0 ∷ Split 0 false (edge 0 2) 0 ∷ []) i)) → IsIn v (item_writes (nth (Plain sum 0 ∷ Split 0 false (edge 0 2) 0 ∷ []) k)) → word i + item_latency latency (nth (Plain sum 0 ∷ Split 0 false (edge 0 2) 0 ∷ []) i) ≤ word k
+    output : (i k v : ℕ) → i < k → IsIn v (item_writes (nth (Plain sum 0 ∷ Split 6 false (edge 0 2) 0 ∷ []) i)) → IsIn v (item_writes (nth (Plain sum 0 ∷ Split 6 false (edge 0 2) 0 ∷ []) k)) → word i + item_latency latency (nth (Plain sum 0 ∷ Split 6 false (edge 0 2) 0 ∷ []) i) ≤ word k
     output i zero v lt a b = absurd (omega arith)
     output i (suc zero) v lt a b = absurd b
     output i (suc (suc k)) v lt a b = absurd b
 
-    split_order : (i k : ℕ) → i < k → IsSplit (nth (Plain sum 0 ∷ Split 0 false (edge 0 2) 0 ∷ []) i) → IsSplit (nth (Plain sum 0 ∷ Split 0 false (edge 0 2) 0 ∷ []) k) → word i ≤ word k
+    split_order : (i k : ℕ) → i < k → IsSplit (nth (Plain sum 0 ∷ Split 6 false (edge 0 2) 0 ∷ []) i) → IsSplit (nth (Plain sum 0 ∷ Split 6 false (edge 0 2) 0 ∷ []) k) → word i ≤ word k
     split_order zero k lt a b = absurd a
     split_order (suc zero) k lt a b = omega arith
     split_order (suc (suc i)) k lt a b = absurd a
 
-    held : (e k : ℕ) → e < k → IsSplit (nth (Plain sum 0 ∷ Split 0 false (edge 0 2) 0 ∷ []) e) → IsFirm (nth (Plain sum 0 ∷ Split 0 false (edge 0 2) 0 ∷ []) k) → word e < word k
+    held : (e k : ℕ) → e < k → IsSplit (nth (Plain sum 0 ∷ Split 6 false (edge 0 2) 0 ∷ []) e) → IsFirm (nth (Plain sum 0 ∷ Split 6 false (edge 0 2) 0 ∷ []) k) → word e < word k
     held zero k lt a b = absurd a
     held (suc zero) zero lt a b = absurd b
     held (suc zero) (suc zero) lt a b = absurd b
     held (suc zero) (suc (suc k)) lt a b = omega arith
     held (suc (suc e)) k lt a b = absurd a
 
-    kept : (e k v : ℕ) → e < k → IsSplit (nth (Plain sum 0 ∷ Split 0 false (edge 0 2) 0 ∷ []) e) → AfterOf old (Plain sum 0 ∷ Split 0 false (edge 0 2) 0 ∷ []) e v → IsIn v (item_writes (nth (Plain sum 0 ∷ Split 0 false (edge 0 2) 0 ∷ []) k)) → word e < word k
+    kept : (e k v : ℕ) → e < k → IsSplit (nth (Plain sum 0 ∷ Split 6 false (edge 0 2) 0 ∷ []) e) → AfterOf old (Plain sum 0 ∷ Split 6 false (edge 0 2) 0 ∷ []) e v → IsIn v (item_writes (nth (Plain sum 0 ∷ Split 6 false (edge 0 2) 0 ∷ []) k)) → word e < word k
     kept e zero v lt a l b = absurd (omega arith)
     kept e (suc zero) v lt a l b = absurd b
     kept e (suc (suc k)) v lt a l b = absurd b
 
-    early : (e k : ℕ) → e < k → IsSplit (nth (Plain sum 0 ∷ Split 0 false (edge 0 2) 0 ∷ []) e) → word k ≤ word e → Harmless (mark k)
+    early : (e k : ℕ) → e < k → IsSplit (nth (Plain sum 0 ∷ Split 6 false (edge 0 2) 0 ∷ []) e) → word k ≤ word e → Harmless (mark k)
     early zero k lt a h = absurd a
     early (suc zero) zero lt a h = tt
     early (suc zero) (suc zero) lt a h = tt
@@ -137,7 +137,7 @@ replaced = record {
   exit = Return (Held 1);
   plain = items;
   clustered = λ setting apart. as_it_stands setting;
-  path = on_yes 0 1 2 (sum ∷ []) [] refl refl refl refl (ends [] refl refl refl (λ c l. absurd l));
+  path = on_yes 6 1 2 (sum ∷ []) [] refl refl refl refl (ends [] refl refl refl (λ c l. absurd l));
   word = word;
   mark = mark;
   n = 0;
@@ -153,7 +153,7 @@ replaced = record {
   entrances = entrances;
 }
   where
-    drains : (k e p d : ℕ) (off : Edge) (y : Bool) → mark e ≡ Split p y off d → word k ≤ word e → word k + item_latency latency (nth (Plain sum 0 ∷ Split 0 false (edge 0 2) 0 ∷ []) k) ≤ word e + 1 + d
+    drains : (k e p d : ℕ) (off : Edge) (y : Bool) → mark e ≡ Split p y off d → word k ≤ word e → word k + item_latency latency (nth (Plain sum 0 ∷ Split 6 false (edge 0 2) 0 ∷ []) k) ≤ word e + 1 + d
     drains zero zero p d off y m h = absurd (cc)
     drains zero (suc zero) p d off y m h = absurd (omega arith)
     drains zero (suc (suc e)) p d off y m h = absurd (cc)
@@ -164,12 +164,12 @@ replaced = record {
     drains (suc (suc k)) (suc zero) p d off y m h = absurd (omega arith)
     drains (suc (suc k)) (suc (suc e)) p d off y m h = absurd (cc)
 
-    lasts : (k : ℕ) → k < 2 → word k + item_latency latency (nth (Plain sum 0 ∷ Split 0 false (edge 0 2) 0 ∷ []) k) ≤ 2 + 2
+    lasts : (k : ℕ) → k < 2 → word k + item_latency latency (nth (Plain sum 0 ∷ Split 6 false (edge 0 2) 0 ∷ []) k) ≤ 2 + 2
     lasts zero h = omega arith
     lasts (suc zero) h = omega arith
     lasts (suc (suc k)) h = absurd (omega arith)
 
-    leaves : (e p d g : ℕ) (y : Bool) (off off' : Edge) → nth (Plain sum 0 ∷ Split 0 false (edge 0 2) 0 ∷ []) e ≡ Split p y off d → mark e ≡ Split p y off' g → LeadsOut new meet_new pairs (copies (λ k. nat_lt (word e) (word k)) (nth (Plain sum 0 ∷ Split 0 false (edge 0 2) 0 ∷ [])) 0 e) off'.from off'.to off.to
+    leaves : (e p d g : ℕ) (y : Bool) (off off' : Edge) → nth (Plain sum 0 ∷ Split 6 false (edge 0 2) 0 ∷ []) e ≡ Split p y off d → mark e ≡ Split p y off' g → LeadsOut new meet_new pairs (copies (λ k. nat_lt (word e) (word k)) (nth (Plain sum 0 ∷ Split 6 false (edge 0 2) 0 ∷ [])) 0 e) off'.from off'.to off.to
     leaves zero p d g y off off' at_e m = absurd (cc)
     leaves (suc (suc e)) p d g y off off' at_e m = absurd (cc)
     leaves (suc zero) p d g y off off' at_e m =
@@ -178,7 +178,7 @@ replaced = record {
         let there : LeadsOut new meet_new pairs (sum ∷ []) 0 3 2 = by_made 2 refl refl refl refl in
         subst (λ (z : Edge). LeadsOut new meet_new pairs (sum ∷ []) z.from z.to off.to) en (subst (λ (z : Edge). LeadsOut new meet_new pairs (sum ∷ []) 0 3 z.to) eo there)
 
-    entrances : (b b' : ℕ) → pairs b b' ≡ true → ((b ≡ 0) × LeadsIn new meet_new 0 0 (copies (λ k. nat_lt (word k) 0) mark 0 2) b') ⊎ (Join latency old new meet_old meet_new (Plain sum 0 ∷ Split 0 false (edge 0 2) 0 ∷ []) 1 (Return (Held 1)) word mark 0 region b b' ⊎ Outside latency old new meet_old meet_new pairs b b')
+    entrances : (b b' : ℕ) → pairs b b' ≡ true → ((b ≡ 0) × LeadsIn new meet_new 0 0 (copies (λ k. nat_lt (word k) 0) mark 0 2) b') ⊎ (Join latency old new meet_old meet_new (Plain sum 0 ∷ Split 6 false (edge 0 2) 0 ∷ []) 1 (Return (Held 1)) word mark 0 region b b' ⊎ Outside latency old new meet_old meet_new pairs b b')
     entrances b b' e =
         let q = and_parts (nat_eq b b') (nat_eq b 0 || nat_eq b 2) e in
         let same : b ≡ b' = eqb-true b b' q.0 in

@@ -5,7 +5,8 @@ use Rattle.std.proofs.lemmas.Bool.{cases_lt, cases_eq, lt-ltb, le-ltb, le-leb, l
 use Rattle.vx_flow.specs.Effects.{IsIn}
 use Rattle.vx_base.specs.Schedule.{leaving, through}
 use Rattle.vx_base.proofs.Leaving.{when_leaving, when_through, in_word, copied}
-use Rattle.vx_mixed.specs.Facts.{places, one_if, later, at_time}
+use Rattle.vx_mixed.specs.Facts.{places}
+use Rattle.vx_mixed.proofs.AtTimes.{one_if, later, at_time}
 
 pub in_places : (word : ℕ → ℕ) (w k m j : ℕ) → IsIn j (places word w k m) → (word j ≡ w) × (j < k + m)
 in_places word w k zero j h = absurd h

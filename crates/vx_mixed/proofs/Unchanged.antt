@@ -19,7 +19,7 @@ use Rattle.vx_mixed.specs.Live.{word_reads, word_writes, plain, Live, here, beyo
 use Rattle.vx_mixed.specs.Alive.{AtEnd, Alive}
 use Rattle.vx_mixed.specs.Path.{Path, ends}
 use Rattle.vx_mixed.specs.Way.{Renamed}
-use Rattle.vx_mixed.specs.Unchanged.{rename, OffEdge, AliveWords, SameRegion, Outside, block, region}
+use Rattle.vx_mixed.specs.Unchanged.{rename, SameRegion, Outside, block, region}
 use Rattle.vx_mixed.proofs.Effect.{Grows, in_append}
 use Rattle.vx_mixed.proofs.Alike.{Both, Follow, op_follows, word_follows, in_or}
 use Rattle.vx_mixed.proofs.Alive.{live_start}
@@ -28,6 +28,7 @@ use Rattle.vx_mixed.proofs.Entered.{leaves_grow}
 use Rattle.vx_mixed.proofs.Hops.{leave_alike, exit_ends}
 use Rattle.vx_mixed.proofs.Blocks.{is_whole}
 use Rattle.vx_mixed.proofs.Renames.{settled_renamed, drop_map, old_word, old_split}
+use Rattle.vx_mixed.proofs.AliveWords.{OffEdge, AliveWords}
 
 -- blocks
 block_alike : (setting : Setting) (old : MixedGraph) (pairs : ℕ → ℕ → Bool) (b b' : ℕ) (ops : List Op) (x x' : Exit) → Renamed pairs x x' → (s t : State) → SameWorld s t → ((v : ℕ) → Alive old (map plain ops) v (AtEnd old x v) → Grows (s.values v) (t.values v)) → Alike old pairs (block_hop setting b ops x s) (block_hop setting b' ops x' t)
@@ -151,7 +152,7 @@ got zero xs k = let q : k ≡ 0 + k = omega arith in ap (slice_get xs) q
 got (suc w) [] k = refl
 got (suc w) (x ∷ xs) k = let q : suc (w + k) ≡ suc w + k = omega arith in got w xs k ∙ ap (slice_get (x ∷ xs)) q
 
-live_region : (m : MixedGraph) (b r w : ℕ) (g : Region) → slice_get m.nodes b ≡ Some (Enters r w) → slice_get m.regions r ≡ Some g → (v : ℕ) → AliveWords m (drop w g.words) g.last v → Live m b v
+pub live_region : (m : MixedGraph) (b r w : ℕ) (g : Region) → slice_get m.nodes b ≡ Some (Enters r w) → slice_get m.regions r ≡ Some g → (v : ℕ) → AliveWords m (drop w g.words) g.last v → Live m b v
 live_region m b r w g node reg v h =
     ⊎_elim
     (λ a. here (to_the_end node reg) a)

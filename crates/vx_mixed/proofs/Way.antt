@@ -18,11 +18,11 @@ use Rattle.vx_mixed.specs.Agree.{Segment, last, on, Agree, Alike}
 use Rattle.vx_mixed.specs.Live.{item_reads, item_writes, Live}
 use Rattle.vx_mixed.specs.Settled.{InTime}
 use Rattle.vx_mixed.specs.Items.{Fine, SameShape, Reads, Writes}
-use Rattle.vx_mixed.specs.Trace.{nth, order, laid}
-use Rattle.vx_mixed.specs.Path.{LeavesBy, LeavesAt, RunsOut, trace_hop}
-use Rattle.vx_mixed.specs.Facts.{IsSplit, row, words_from, copies, form, at_time}
+use Rattle.vx_mixed.specs.Trace.{nth, order}
+use Rattle.vx_mixed.specs.Path.{trace_hop}
+use Rattle.vx_mixed.specs.Facts.{IsSplit, row, words_from, copies}
 use Rattle.vx_mixed.specs.Alive.{AfterOf, AfterItem, AtEnd, Alive}
-use Rattle.vx_mixed.specs.Way.{Way, item_latency, LeadsIn, LeadsOut, at_once, by_made}
+use Rattle.vx_mixed.specs.Way.{item_latency, LeadsIn, LeadsOut, at_once, by_made}
 use Rattle.vx_mixed.proofs.Shape.{shape_trans, shape_sym, order_shape, words_shape}
 use Rattle.vx_mixed.proofs.Blocks.{path_hop, how_it_ends}
 use Rattle.vx_mixed.proofs.Delays.{takes_no_value, gives_no_value, gives_firm}
@@ -31,6 +31,10 @@ use Rattle.vx_mixed.proofs.Alive.{live_start, alive_read, alive_edge, alive_end}
 use Rattle.vx_mixed.proofs.Timed.{timed_is_early}
 use Rattle.vx_mixed.proofs.States.{shape_of_world, fine_of_agree, agree_of_fine}
 use Rattle.vx_mixed.proofs.Hops.{alike_trans, leave_alike, exit_ends, not_wrong}
+use Rattle.vx_mixed.proofs.Timetable.{laid}
+use Rattle.vx_mixed.proofs.Passing.{LeavesBy, LeavesAt, RunsOut}
+use Rattle.vx_mixed.proofs.AtTimes.{form, at_time}
+use Rattle.vx_mixed.proofs.OneWay.{Way}
 
 split_at : (i : Item) (s : State) (h : Hop) → LeavesBy s i h → (p : ℕ) × (edge : Edge) × (d : ℕ) × (y : Bool) × (i ≡ Split p y edge d) × (leaves_on (s.values p) y ≡ Some true) × (h ≡ Arrives edge.from edge.to s)
 split_at (Plain op cluster) s h x = absurd x

@@ -1,5 +1,5 @@
 -- A trace placed in words, what met delays give, and the copies on its edges.
-use Rattle.std.specs.Prelude.{◌≡◌, ◌<◌, ◌≤◌, ◌+◌, ◌-◌, ℕ, zero, suc, Bool, true, List, [], ◌∷◌, ◌++◌, map, length, cond, nat_eq, nat_lt, nat_le, ◌&&◌}
+use Rattle.std.specs.Prelude.{◌≡◌, ◌<◌, ◌≤◌, ◌+◌, ℕ, zero, suc, Bool, true, List, [], ◌∷◌, ◌++◌, map, length, cond, nat_eq}
 use Rattle.vx_flow.specs.declared.graph.Op.{Op}
 use Rattle.vx_flow.specs.declared.graph.Op.TheVariants.{Compute, Select, Place, Load, Store, More, Input, Text, Decimal, Across}
 use Rattle.vx_flow.specs.Effects.{State, Setting, IsIn, Location}
@@ -80,18 +80,3 @@ ops_of (Split p y edge d) = []
 abbrev pub copies : (ℕ → Bool) → (ℕ → Item) → ℕ → ℕ → List Op
 copies chosen put k zero = []
 copies chosen put k (suc m) = cond (chosen k) (ops_of (put k)) [] ++ copies chosen put (suc k) m
-
-abbrev pub one_if : Bool → ℕ → List ℕ
-one_if b k = cond b (k ∷ []) []
-
--- what is done at a time: the copies at a join (n times), the words of the region up to w, the copies on the edge of the
--- split at place e (r is the rejoin word)
-abbrev pub later : (ℕ → ℕ) → ℕ → ℕ → ℕ → ℕ → ℕ → List ℕ
-later word n r w e j = cond (nat_le j w) (cond (nat_lt j r) [] (places word j 0 n)) (one_if (nat_lt w (word (j - (w + 1))) && nat_lt (j - (w + 1)) e) (j - (w + 1)))
-
-abbrev pub at_time : (ℕ → ℕ) → ℕ → ℕ → ℕ → ℕ → ℕ → List ℕ
-at_time word n r w e t = cond (nat_lt t n) (one_if (nat_lt (word t) r) t) (later word n r w e (t - n))
-
--- in the form of the region, but as in the trace on the edge of a split
-abbrev pub form : List Item → (ℕ → Item) → ℕ → ℕ → ℕ → ℕ → Item
-form is mark n w t k = cond (nat_le (n + (w + 1)) t) (nth is k) (mark k)

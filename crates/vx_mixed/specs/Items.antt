@@ -4,7 +4,7 @@ use Rattle.vx_flow.specs.declared.graph.Op.{Op}
 use Rattle.vx_flow.specs.declared.graph.Op.TheVariants.{Load}
 use Rattle.vx_flow.specs.declared.graph.Operand.{Operand}
 use Rattle.vx_flow.specs.declared.graph.Edge.{Edge}
-use Rattle.vx_flow.specs.Effects.{State, Setting, effect, calm_effect, row_of, Location, Of, Cell, TheInput, TheOutput, Datum, Holds, at, IsOf, ReadsBesides, WritesBesides}
+use Rattle.vx_flow.specs.Effects.{State, Setting, effect, calm_effect, row_of, Location, Of, Cell, TheInput, TheOutput, Datum, Holds, IsOf, ReadsBesides, WritesBesides}
 use Rattle.vx_mixed.specs.declared.region.Item.{Item}
 use Rattle.vx_mixed.specs.declared.region.Item.TheVariants.{Plain, Split}
 use Rattle.vx_mixed.specs.Live.{item_reads, item_writes}
@@ -53,9 +53,3 @@ pub data Marked : Item → Item → Type 0 where
 -- it has a meaning where it stands in trace order
 abbrev pub Safe : Setting → State → Item → Type 0
 Safe setting s i = (t : State) × (item_effect setting s i s ≡ Some t)
-
--- u' is u with what the operation does in trace order, where s becomes t
-pub record Does (writes : Location → Type 0) (t u u' : State) : Type 0 where
-  pub written : (l : Location) → writes l → Fine l (at t l) (at u' l)
-  pub other : (l : Location) → (writes l → ⊥) → at u' l ≡ at u l
-  pub shape : SameShape u u'

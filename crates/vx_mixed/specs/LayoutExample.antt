@@ -5,11 +5,11 @@ use Rattle.vx_flow.specs.declared.trace.TraceOp.TheVariants.{Plain as TracePlain
 use Rattle.vx_mixed.specs.declared.layout.Laid.TheVariants.{Plain as LaidPlain, Split as LaidSplit}
 use Rattle.vx_mixed.specs.declared.layout.VirtualWord.TheVariants.{Planned, Drain, Transfer, Return}
 use Rattle.vx_mixed.specs.Example.{new, sum, test, step, product, total}
-use Rattle.vx_mixed.specs.Next.{Plan, next_mixed}
+use Rattle.vx_mixed.specs.Next.{Replacement, next_mixed}
 use Rattle.vx_mixed.specs.Layout.{layout_of}
 
 -- block 3 and the block of copies behind it
-abbrev pub rest : Plan
+abbrev pub rest : Replacement
 rest = record {
   trace = record { function = 0; blocks = 3 ∷ 4 ∷ []; ops = TracePlain product ∷ []; fixed = Some 0 ∷ []; joins = []; values = 7; arrays = [] };
   clusters = 0 ∷ [];

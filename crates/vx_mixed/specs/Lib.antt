@@ -15,6 +15,8 @@ pub mod Drains
 pub mod Unchanged
 pub mod Replaced
 pub mod Rows
+pub mod Entrances
+pub mod Compensation
 pub mod Scheduled
 pub mod Context
 pub mod Edges
@@ -25,3 +27,7 @@ pub mod Begins
 pub mod Layout
 pub mod LayoutExample
 pub mod Sinking
+pub mod TraceOf
+pub mod TraceExample
+pub mod Valid
+pub mod CountingExample

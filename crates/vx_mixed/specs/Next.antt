@@ -26,7 +26,7 @@ use Rattle.vx_mixed.specs.Unchanged.{rename}
 
 -- what a replacement is made of: the trace, the cluster and the word of each of its operations, the empty cycles after each
 -- of its splits and after the last word, the word behind each of its joins, the blocks that are made, and the homes by then
-pub record Plan : Type 0 where
+pub record Replacement : Type 0 where
   pub trace : Trace
   pub clusters : List ℕ
   pub words : List ℕ
@@ -95,16 +95,16 @@ abbrev pub exit_in : Option Node → Exit
 exit_in (Some (Unused block)) = block.exit
 exit_in _ = Goto 0
 
-abbrev pub new_region : MixedGraph → Plan → Region
-new_region m plan =
-    let to = new_end m plan.made in
-    let from = last_of plan.trace.blocks in
+abbrev pub new_region : MixedGraph → Replacement → Region
+new_region m replacement =
+    let to = new_end m replacement.made in
+    let from = last_of replacement.trace.blocks in
     record {
-      blocks = plan.trace.blocks;
-      words = map (in_word (placed to plan.trace.ops plan.clusters plan.words plan.drains [])) (numbers 0 plan.length);
+      blocks = replacement.trace.blocks;
+      words = map (in_word (placed to replacement.trace.ops replacement.clusters replacement.words replacement.drains [])) (numbers 0 replacement.length);
       from = from;
       last = renamed_exit (to from) (exit_in (slice_get m.nodes from));
-      drain = plan.last_drain;
+      drain = replacement.last_drain;
     }
 
 -- The blocks: those of the trace are in the region, which is entered at its start and behind its joins
@@ -120,16 +120,16 @@ entered_at region None = Inner
 entered_at region (Some w) = Enters region w
 
 -- where the blocks of a trace are entered
-abbrev pub trace_node : MixedGraph → Plan → List ℕ → ℕ → Node → Node
-trace_node m plan [] b node = renamed_node (new_end m plan.made) b node
-trace_node m plan (first ∷ others) b node =
+abbrev pub trace_node : MixedGraph → Replacement → List ℕ → ℕ → Node → Node
+trace_node m replacement [] b node = renamed_node (new_end m replacement.made) b node
+trace_node m replacement (first ∷ others) b node =
     if first == b then Enters (length m.regions) 0
-    else if list_any (λ c. c == b) others then entered_at (length m.regions) (rejoin_at plan.trace.joins plan.rejoins b)
-    else renamed_node (new_end m plan.made) b node
+    else if list_any (λ c. c == b) others then entered_at (length m.regions) (rejoin_at replacement.trace.joins replacement.rejoins b)
+    else renamed_node (new_end m replacement.made) b node
 
-abbrev pub nodes_from : MixedGraph → Plan → ℕ → List Node → List Node
-nodes_from m plan b [] = []
-nodes_from m plan b (node ∷ nodes) = trace_node m plan plan.trace.blocks b node ∷ nodes_from m plan (b + 1) nodes
+abbrev pub nodes_from : MixedGraph → Replacement → ℕ → List Node → List Node
+nodes_from m replacement b [] = []
+nodes_from m replacement b (node ∷ nodes) = trace_node m replacement replacement.trace.blocks b node ∷ nodes_from m replacement (b + 1) nodes
 
 -- a block is made of copies, and goes on where its edge went
 abbrev pub made_node : Made → Node
@@ -143,10 +143,10 @@ is_split_edge (TraceSplit p y f live ∷ ops) e = if same_edge f e then true els
 abbrev pub made_origin : List TraceOp → Made → Option Origin
 made_origin ops made = Some (record { edge = made.edge; leaves = is_split_edge ops made.edge; clusters = made.clusters })
 
-abbrev pub next_mixed : MixedGraph → Plan → MixedGraph
-next_mixed m plan = record m {
-  nodes = nodes_from m plan 0 m.nodes ++ map made_node plan.made;
-  regions = map (renamed_region (new_end m plan.made)) m.regions ++ new_region m plan ∷ [];
-  origins = m.origins ++ map (made_origin plan.trace.ops) plan.made;
-  homes = plan.homes;
+abbrev pub next_mixed : MixedGraph → Replacement → MixedGraph
+next_mixed m replacement = record m {
+  nodes = nodes_from m replacement 0 m.nodes ++ map made_node replacement.made;
+  regions = map (renamed_region (new_end m replacement.made)) m.regions ++ new_region m replacement ∷ [];
+  origins = m.origins ++ map (made_origin replacement.trace.ops) replacement.made;
+  homes = replacement.homes;
 }

@@ -1,5 +1,5 @@
 -- A trace cut from a path of blocks, and what it does in trace order.
-use Rattle.std.specs.Prelude.{◌≡◌, ◌<◌, ℕ, Bool, true, false, Some, List, [], ◌∷◌, ◌++◌, map, slice_get, length}
+use Rattle.std.specs.Prelude.{◌≡◌, ℕ, Bool, true, false, Some, List, [], ◌∷◌, ◌++◌, map, slice_get}
 use Rattle.vx_flow.specs.Effects.{State, Setting, effect, IsIn}
 use Rattle.vx_flow.specs.declared.graph.Op.{Op}
 use Rattle.vx_flow.specs.declared.graph.Exit.{Exit}
@@ -13,7 +13,6 @@ use Rattle.vx_flow.specs.Sound.{targets_of}
 use Rattle.vx_flow.specs.Walk.{edge}
 use Rattle.vx_mixed.specs.Live.{plain}
 use Rattle.vx_mixed.specs.Meaning.{leaves_on, picked}
-use Rattle.vx_mixed.specs.Trace.{nth, order}
 
 -- the trace in trace order, up to the first split that leaves
 abbrev pub trace_hop : Setting → List Item → ℕ → Exit → State → Hop
@@ -27,22 +26,3 @@ pub data Path (m : MixedGraph) (meet : ℕ → ℕ → Bool) : ℕ → List Item
   jumps : {b l : ℕ} {is : List Item} {x : Exit} (c : ℕ) (ops : List Op) (rest : List Item) → slice_get m.nodes b ≡ Some (Unused (record { ops = ops; exit = Goto c })) → meet b c ≡ false → is ≡ map plain ops ++ rest → Path m meet c rest l x → Path m meet b is l x
   on_yes : {b l : ℕ} {is : List Item} {x : Exit} (p c d : ℕ) (ops : List Op) (rest : List Item) → slice_get m.nodes b ≡ Some (Unused (record { ops = ops; exit = Branch p c d })) → meet b c ≡ false → meet b d ≡ true → is ≡ map plain ops ++ (Split p false (edge b d) 0 ∷ rest) → Path m meet c rest l x → Path m meet b is l x
   on_no : {b l : ℕ} {is : List Item} {x : Exit} (p c d : ℕ) (ops : List Op) (rest : List Item) → slice_get m.nodes b ≡ Some (Unused (record { ops = ops; exit = Branch p c d })) → meet b d ≡ false → meet b c ≡ true → is ≡ map plain ops ++ (Split p true (edge b c) 0 ∷ rest) → Path m meet d rest l x → Path m meet b is l x
-
--- in trace order place k is passed: nothing wrong, no way out
-abbrev pub Passes : Setting → State → Item → Type 0
-Passes setting s (Plain op cluster) = (t : State) × (effect setting s op s ≡ Some t)
-Passes setting s (Split p y edge d) = leaves_on (s.values p) y ≡ Some false
-
-abbrev pub LeavesBy : State → Item → Hop → Type 0
-LeavesBy s (Plain op cluster) h = ⊥
-LeavesBy s (Split p y edge d) h = (leaves_on (s.values p) y ≡ Some true) × (h ≡ Arrives edge.from edge.to s)
-
--- the first split that leaves stands at place e
-pub record LeavesAt (setting : Setting) (is : List Item) (s : State) (h : Hop) (e : ℕ) : Type 0 where
-  pub inside : e < length is
-  pub passes : (k : ℕ) → k < e → Passes setting (order setting is s k) (nth is k)
-  pub leaves : LeavesBy (order setting is s e) (nth is e) h
-
-pub record RunsOut (setting : Setting) (is : List Item) (s : State) (h : Hop) (l : ℕ) (x : Exit) : Type 0 where
-  pub passes : (k : ℕ) → k < length is → Passes setting (order setting is s k) (nth is k)
-  pub leaves : h ≡ leave l x (order setting is s (length is))

@@ -58,7 +58,7 @@ pub data Row (is : List Item) (latency : Item → ℕ) (live : ℕ → ℕ → T
   store_access : IsStore (nth is i) → (IsLoad (nth is j) ⊎ IsStore (nth is j)) → never i j ≡ false → Row is latency live never joins i j 1
   load_store : IsLoad (nth is i) → IsStore (nth is j) → never i j ≡ false → Row is latency live never joins i j 0
   observables : IsObservable (nth is i) → IsObservable (nth is j) → Row is latency live never joins i j 1
-  two_splits : IsSplit (nth is i) → IsSplit (nth is j) → Row is latency live never joins i j 1
+  two_splits : IsSplit (nth is i) → IsSplit (nth is j) → Row is latency live never joins i j 0
   split_held : IsSplit (nth is i) → (IsStore (nth is j) ⊎ IsObservable (nth is j)) → Row is latency live never joins i j 1
   below_join : (q : ℕ) → joins q ≡ true → i < q → q ≤ j → (IsSplit (nth is j) ⊎ IsObservable (nth is j)) → Row is latency live never joins i j 1
   split_live : (v : ℕ) → IsSplit (nth is i) → live i v → IsIn v (item_writes (nth is j)) → Row is latency live never joins i j 1

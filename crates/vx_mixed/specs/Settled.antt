@@ -71,7 +71,8 @@ read_there op = reads op
 pub record OnClusters (m : MixedGraph) (g : Region) : Type 0 where
   pub reads : (i v cluster : ℕ) (op : Op) (word : List Item) → slice_get g.words i ≡ Some word → IsIn (Plain op cluster) word → IsIn v (read_there op) → StandsOn m v cluster
   pub writes : (i v cluster : ℕ) (op : Op) (word : List Item) → slice_get g.words i ≡ Some word → IsIn (Plain op cluster) word → IsIn v (writes op) → StandsOn m v cluster
-  pub tests : (i p d : ℕ) (e : Edge) (y : Bool) (word : List Item) → slice_get g.words i ≡ Some word → IsIn (Split p y e d) word → StandsOn m p 0
+  -- a split tests a branch value
+  pub tests : (i p d : ℕ) (e : Edge) (y : Bool) (word : List Item) → slice_get g.words i ≡ Some word → IsIn (Split p y e d) word → bank_of m p ≡ Some Branch
 
 -- the graph is settled for a machine with these latencies, where `room` tells which words the machine has room for
 pub record Settled (room : List (Option ℕ) → List Item → Bool) (latency : Op → ℕ) (m : MixedGraph) : Type 0 where

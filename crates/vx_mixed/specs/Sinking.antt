@@ -17,12 +17,12 @@ use Rattle.vx_mixed.specs.Example.{block, graph_with}
 abbrev pub sum : Op
 sum = Compute Add 1 (Held 2) (Number (pos 5))
 
--- block 0: the sum, then by v0 to 1 or 2; both return v1
+-- block 0: the sum, then by v6 to 1 or 2; both return v1
 abbrev pub old : MixedGraph
-old = graph_with (block (sum ∷ []) (Branches 0 1 2) ∷ block [] (Return (Held 1)) ∷ block [] (Return (Held 1)) ∷ []) []
+old = graph_with (block (sum ∷ []) (Branches 6 1 2) ∷ block [] (Return (Held 1)) ∷ block [] (Return (Held 1)) ∷ []) []
 
 abbrev pub region : Region
-region = record { blocks = 0 ∷ 1 ∷ []; words = (Split 0 false (edge 0 3) 0 ∷ []) ∷ (Plain sum 0 ∷ []) ∷ []; from = 1; last = Return (Held 1); drain = 2 }
+region = record { blocks = 0 ∷ 1 ∷ []; words = (Split 6 false (edge 0 3) 0 ∷ []) ∷ (Plain sum 0 ∷ []) ∷ []; from = 1; last = Return (Held 1); drain = 2 }
 
 abbrev pub new : MixedGraph
 new = graph_with (Enters 0 0 ∷ Inner ∷ block [] (Return (Held 1)) ∷ block (sum ∷ []) (Goto 2) ∷ []) (region ∷ [])

@@ -1,5 +1,5 @@
 -- Nodes that a replacement leaves as they are, but for the names of blocks that their edges go to.
-use Rattle.std.specs.Prelude.{◌≡◌, ◌⊎◌, ℕ, Bool, true, Some, List, [], ◌∷◌, map, slice_get}
+use Rattle.std.specs.Prelude.{◌≡◌, ℕ, Bool, true, Some, List, map, slice_get}
 use Rattle.vx_flow.specs.declared.graph.Edge.{Edge}
 use Rattle.vx_flow.specs.declared.graph.Exit.{Exit}
 use Rattle.vx_flow.specs.declared.graph.Op.{Op}
@@ -10,25 +10,14 @@ use Rattle.vx_mixed.specs.declared.region.Item.TheVariants.{Plain, Split}
 use Rattle.vx_mixed.specs.declared.region.Region.{Region}
 use Rattle.vx_mixed.specs.declared.region.Node.TheVariants.{Unused, Enters}
 use Rattle.vx_mixed.specs.declared.mixed.MixedGraph.{MixedGraph}
-use Rattle.vx_mixed.specs.Live.{word_reads, word_writes, Live}
+use Rattle.vx_mixed.specs.Live.{Live}
 use Rattle.vx_mixed.specs.Settled.{InTime}
-use Rattle.vx_mixed.specs.Alive.{AtEnd}
 use Rattle.vx_mixed.specs.Way.{Renamed}
 
 -- the edge from b to c goes to (to b c)
 abbrev pub rename : (ℕ → ℕ → ℕ) → Item → Item
 rename to (Plain op cluster) = Plain op cluster
 rename to (Split p y edge d) = Split p y (record edge { to = to edge.from edge.to }) d
-
-abbrev pub OffEdge : MixedGraph → List Item → ℕ → Type 0
-OffEdge m [] v = ⊥
-OffEdge m (Plain op cluster ∷ is) v = OffEdge m is v
-OffEdge m (Split p y edge d ∷ is) v = Live m edge.to v ⊎ OffEdge m is v
-
--- read, or live on an edge that leaves, before it is written, from these words of a region on
-abbrev pub AliveWords : MixedGraph → List (List Item) → Exit → ℕ → Type 0
-AliveWords m [] x v = AtEnd m x v
-AliveWords m (word ∷ words) x v = IsIn v (word_reads word) ⊎ ((IsIn v (word_writes word) → ⊥) × (OffEdge m word v ⊎ AliveWords m words x v))
 
 pub record SameRegion (latency : Op → ℕ) (old new : MixedGraph) (meet_old meet_new pairs : ℕ → ℕ → Bool) (g g' : Region) : Type 0 where
   pub to : ℕ → ℕ → ℕ

@@ -7,6 +7,7 @@ ghost use Rattle.std.specs.Option.{option_map};
 ghost use Rattle.vx_flow.specs.Sound.{is_sound};
 ghost use Rattle.vx_mixed.specs.Edges.{EdgesOf};
 ghost use Rattle.vx_mixed.specs.FromGraph.{FromGraph, origin_edge, same_edge, unused_in};
+ghost use Rattle.vx_mixed.specs.Valid.{CanBegin};
 
 use crate::copying::{
     block_edges, copied_arrays, copied_banks, copied_values, no_origins, start_homes, unused_nodes,
@@ -33,19 +34,22 @@ pub struct Mixed {
 impl Model for Mixed {
     ghost use Rattle.vx_mixed.specs.declared.mixed.MixedGraph.{MixedGraph};
     ghost use Rattle.vx_mixed.specs.Edges.{EdgesOf};
+    ghost use Rattle.vx_mixed.specs.Valid.{Valid};
 
     ghost Value = { MixedGraph };
 
     ghost view = { λ m. m.graph };
 
-    ghost invariant = { λ m. EdgesOf m.graph m.edges };
+    ghost invariant = { λ m. EdgesOf m.graph m.edges × Valid m.graph };
 }
 
 impl Mixed {
     /// The blocks of a sound graph, and no regions, as function 0. Of the values those stand on cluster 0 that a choice by
-    /// a branch value writes, or that come from the input.
+    /// a branch value writes, or that come from the input. No edge of the graph may go to block 0, the targets of a split
+    /// differ, and no edge goes from a block with two successors to one with two predecessors.
     pub fn from_graph(alloc: Global, graph: &Graph) -> Result<Mixed, NoMemory>
-        requires { is_sound graph.now ≡ true }
+        requires sound { is_sound graph.now ≡ true }
+        requires begins { CanBegin graph.now }
         ensures { IfOk result (λ mixed. FromGraph graph.now mixed) }
     {
         sound_graph_leads_within();

@@ -1,23 +1,28 @@
 // Laws of the definitions, each the clause of a function that does nothing.
 
 ghost use Rattle.vx_mixed.specs.Begins.{BeginsSettled, BeginsTidy};
+ghost use Rattle.vx_mixed.specs.Compensation.{CompensationLaw};
 ghost use Rattle.vx_mixed.specs.Context.{ChainLaw, InContext, MeansTheFlow, MeansTheGraph};
 ghost use Rattle.vx_mixed.specs.LayoutExample.{IsLaidOut};
 ghost use Rattle.vx_mixed.specs.Laws.{AnyTiming, ParallelWords, RegionAnyTiming};
 ghost use Rattle.vx_mixed.specs.Replaced.{LivenessKept, RegionSettled, ReplacementLaw};
 ghost use Rattle.vx_mixed.specs.Sinking.{RefusedWithoutCopy, SumSinks};
 ghost use Rattle.vx_mixed.specs.Scheduled.{MotionLaw};
+ghost use Rattle.vx_mixed.specs.CountingExample.{CountingBegins};
 ghost use Rattle.vx_mixed.specs.Example.{FailsWithoutCopy, Works};
-ghost use Rattle.vx_mixed.specs.NextExample.{NextIsNew};
+ghost use Rattle.vx_mixed.specs.NextExample.{NextIsNew, SharesEntrances};
+ghost use Rattle.vx_mixed.specs.TraceExample.{IsItsTrace};
 
 /// An `if` without `else` as a region does what its blocks do, from its start and from the edge that joins; without the
 /// copy on that edge it does not. It is what the replacement of its trace gives,
 /// and is laid out with the blocks that are left.
-#[tactic(auto, using(crate::proofs::Example::works, crate::proofs::Example::fails_without_copy, crate::proofs::Example::next_is_new, crate::proofs::Example::is_laid_out))]
+#[tactic(auto, using(crate::proofs::Example::works, crate::proofs::Example::fails_without_copy, crate::proofs::Example::next_is_new, crate::proofs::Example::shares_entrances, crate::proofs::Example::is_laid_out, crate::proofs::Example::its_trace))]
 pub fn example_works()
     ensures with_copy { Works }
     ensures without { FailsWithoutCopy }
+    ensures trace { IsItsTrace }
     ensures next { NextIsNew }
+    ensures entrances { SharesEntrances }
     ensures layout { IsLaidOut }
 {}
 
@@ -37,10 +42,17 @@ pub fn replacement_keeps_the_meaning()
     ensures live { LivenessKept }
 {}
 
-/// A placement that meets the delays, with the copies on the edges and the empty cycles that they ask for, is such a
-/// replacement.
+/// A placement that meets the delays, with the copies on the edges and the empty cycles that they ask for, keeps the meaning
+/// from every entrance that the two graphs share; and where the graph was tidy and settled, it is afterwards.
 pub fn placement_keeps_the_meaning()
     ensures { MotionLaw }
+{}
+
+/// A replacement whose operations were placed in words that meet the delays of its trace, with the copies, the dismissible
+/// loads and the empty cycles of compensation, keeps the meaning from every entrance that the graphs share; and where the
+/// graph was tidy and settled, it is afterwards.
+pub fn compensation_keeps_the_meaning()
+    ensures { CompensationLaw }
 {}
 
 /// The operations of a word, side by side, do what each of them does in trace order, where each reads what it reads there.
@@ -67,6 +79,12 @@ pub fn replaced_programs_run_the_same()
 pub fn graphs_begin_tidy_and_settled()
     ensures tidy { BeginsTidy }
     ensures settled { BeginsSettled }
+{}
+
+/// A graph that counts may begin as a graph of blocks and regions.
+#[tactic(auto, using(crate::proofs::Counting::counting_begins_so))]
+pub fn a_graph_that_counts_begins()
+    ensures { CountingBegins }
 {}
 
 /// A sum sinks below a split: with its copy on the edge that leaves the meaning is kept, and without it it is not.

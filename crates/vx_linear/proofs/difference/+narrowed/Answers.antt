@@ -1,6 +1,6 @@
-use Rattle.std.proofs.Common.{rules, ◌≡◌, ◌/◌, ◌%◌, ◌*◌, ◌<◌, arith, sym, ◌∙◌, subst, ap}
-use Rattle.vx_linear.specs.Steps.{IsStep, Narrows, stays, halves}
-use Rattle.vx_linear.proofs.Narrowing.{HasHalf, has_half, half_is, step_above}
+use Rattle.std.proofs.Common.{◌/◌, ◌*◌, arith, sym, ◌∙◌, subst, ap}
+use Rattle.vx_linear.specs.Steps.{IsStep, stays, halves}
+use Rattle.vx_linear.proofs.Narrowing.{has_half, half_is, step_above}
 use Rattle.vx_linear.proofs.difference.+narrowed.Goals as goal
 
 pub narrowed-requires : goal.narrowed-requires

@@ -1,4 +1,4 @@
-use Rattle.std.proofs.Common.{◌≡◌, ◌%◌, sym, ◌∙◌, ap}
+use Rattle.std.proofs.Common.{sym, ◌∙◌}
 use Rattle.std.proofs.lemmas.Bool.{true≢false}
 use Rattle.vx_linear.proofs.Equal.{equal_never, equal_always, divided_never, divided_always, left_never, left_always, steps_of, nat_is, nat_self}
 use Rattle.vx_linear.proofs.difference.differs.Goals as goal

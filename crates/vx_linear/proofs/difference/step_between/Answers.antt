@@ -1,5 +1,4 @@
-use Rattle.std.proofs.Common.{rules, ◌≡◌, sym, ◌∙◌, List, ◌∷◌, length}
-use Rattle.vx_linear.specs.declared.form.Term.{Term}
+use Rattle.std.proofs.Common.{rules, ◌≡◌, sym, ◌∙◌, ◌∷◌, length}
 use Rattle.vx_linear.proofs.Merging.{first_step, at_left, at_right, at_both, at_end, before_none, before_one, before_back, empty_of}
 use Rattle.vx_linear.proofs.difference.step_between.Goals as goal
 

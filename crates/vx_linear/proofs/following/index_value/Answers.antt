@@ -1,4 +1,4 @@
-use Rattle.std.proofs.Common.{rules, ◌≡◌, IfOk, sym, ◌∙◌, subst, ap}
+use Rattle.std.proofs.Common.{◌≡◌, IfOk, sym, ◌∙◌, subst}
 use Rattle.vx_linear.proofs.Writing.{index_none, index_symbol, index_found}
 use Rattle.vx_linear.proofs.following.index_value.Goals as goal
 
@@ -15,4 +15,4 @@ returns-then-has_join c =
 pub returns-else-has_join : goal.returns-else-has_join
 returns-else-has_join c =
     let law = index_found c.args.trace.now c.args.place c.args.value c.in-Some.writer c.last_writer.result c.last_writer.ensures.writer c.in-Some.is (sym c.has_join.ensures ∙ c.if-has_join.false) in
-    subst (λ k. IfOk c.index_there.result (λ found. found ≡ k)) law c.index_there.ensures
+    subst (λ k. IfOk c.copy_index.result (λ found. found ≡ k)) law c.copy_index.ensures

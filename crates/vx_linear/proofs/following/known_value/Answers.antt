@@ -1,5 +1,5 @@
-use Rattle.std.proofs.Common.{rules, ◌≡◌, IfOk, sym, ◌∙◌, subst, ap}
-use Rattle.vx_linear.specs.Followed.{plain, known, above_of}
+use Rattle.std.proofs.Common.{◌≡◌, IfOk, sym, ◌∙◌, subst, ap}
+use Rattle.vx_linear.specs.Followed.{plain}
 use Rattle.vx_linear.proofs.Writing.{known_none, known_symbol, known_made}
 use Rattle.vx_linear.proofs.following.known_value.Goals as goal
 

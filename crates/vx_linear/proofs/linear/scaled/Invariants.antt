@@ -1,6 +1,6 @@
 -- what is left to do gives the rest of the whole
 use Rattle.std.proofs.Common.{◌≡◌, ◌++◌, length}
-use Rattle.vx_linear.specs.Linear.{with_term, with_terms, scaled}
+use Rattle.vx_linear.specs.Linear.{scaled}
 use Rattle.vx_linear.proofs.linear.scaled.Given as goal
 
 abbrev pub invariant-scale : goal.invariant-scale

@@ -1,6 +1,6 @@
 -- what is left to do gives the rest of the whole
 use Rattle.std.proofs.Common.{◌≡◌, ◌++◌, length}
-use Rattle.vx_linear.specs.Linear.{with_term, with_terms, scaled}
+use Rattle.vx_linear.specs.Linear.{with_term}
 use Rattle.vx_linear.proofs.linear.with_term.Given as goal
 
 abbrev pub invariant-insert : goal.invariant-insert

@@ -1,6 +1,6 @@
 -- what is left to do gives the rest of the whole
-use Rattle.std.proofs.Common.{◌≡◌, ◌++◌, length}
-use Rattle.vx_linear.specs.Linear.{with_term, with_terms, scaled}
+use Rattle.std.proofs.Common.{◌≡◌, length}
+use Rattle.vx_linear.specs.Linear.{with_terms}
 use Rattle.vx_linear.proofs.linear.with_terms.Given as goal
 
 abbrev pub invariant-merge : goal.invariant-merge

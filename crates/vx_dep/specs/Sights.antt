@@ -1,0 +1,23 @@
+-- What the tables of a trace tell of a pair of places.
+use Rattle.std.specs.Prelude.{◌≡◌, ◌-◌, ℕ, Bool, true, false, nat_lt, nat_le, Option, Some, None, List, slice_get, slice_index_or}
+use Rattle.vx_linear.specs.declared.form.Form.{Form}
+use Rattle.vx_linear.specs.Forms.{is_ordered}
+use Rattle.vx_dep.specs.declared.tables.Standing.{Standing}
+
+-- the symbols of each form ascend
+abbrev pub AreOrdered : List (Option Form) → Type 0
+AreOrdered forms = (i : ℕ) (form : Form) → slice_get forms i ≡ Some (Some form) → is_ordered form.terms ≡ true
+
+-- from place i down to place j nothing writes what the operation at i writes
+abbrev pub reaches : Option Standing → (i j : ℕ) → Bool
+reaches None i j = false
+reaches (Some standing) i j = nat_le (j - i - 1) standing.kept
+
+-- a join stands below place i, down to the place whose entry is given
+abbrev pub has_join : Option Standing → ℕ → Bool
+has_join None i = false
+has_join (Some standing) i = nat_lt i standing.joined
+
+abbrev pub is_live : Option Standing → (i j : ℕ) → Bool
+is_live None i j = false
+is_live (Some standing) i j = slice_index_or standing.live (j - i - 1) false
