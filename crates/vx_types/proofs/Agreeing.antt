@@ -1,13 +1,13 @@
 -- A table goes on to agree with what is known, as names are declared and as scopes are left.
-use Rattle.std.proofs.Common.{◌≡◌, ℕ, suc, Bool, true, false, if◌then◌else◌, List, [], ◌∷◌, ◌++◌, length, drop, refl, ap, sym, ◌∙◌, Option, Some, None, subst}
+use Rattle.std.proofs.Common.{◌≡◌, ℕ, suc, Bool, true, false, if◌then◌else◌, List, [], ◌∷◌, ◌++◌, length, drop, refl, ap, sym, ◌∙◌, Option, Some, subst}
 use Rattle.std.specs.Prelude.{reverse}
 use Rattle.std.proofs.lemmas.List.{reverse-append, length-reverse}
 use Rattle.vx_ast.specs.declared.names.Meant.{Meant}
 use Rattle.vx_ast.specs.Scopes.{same_name, Known, find}
 use Rattle.vx_types.specs.declared.local.Local.{Local}
 use Rattle.vx_ast.specs.declared.names.FileName.{FileName}
-use Rattle.vx_types.specs.Agrees.{Agrees, Remember, Sees, known_in}
-use Rattle.vx_types.proofs.Lookups.{same_name-Decides, same_name-itself}
+use Rattle.vx_types.specs.Agrees.{Agrees, Sees, known_in}
+use Rattle.vx_types.proofs.Lookups.{same_name-Decides}
 
 pub agrees_taken : (says next : List ℕ → Option Meant) (l : Local) (latest : List Local) (file : List Known) → Agrees says latest file → l.before ≡ find l.name (known_in latest ++ file) → ((x : List ℕ) → next x ≡ (if same_name x l.name then Some l.meant else says x)) → Agrees next (l ∷ latest) file
 agrees_taken says next l latest file a b n = record {

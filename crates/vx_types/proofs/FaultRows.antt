@@ -1,5 +1,5 @@
 -- Faults of worked sources and what they resolve to, by computation. Each source stands in its comment, on one line.
-use Rattle.std.proofs.Common.{◌≡◌, ℕ, pos, List, [], ◌∷◌, refl, Option, Some, None, codes}
+use Rattle.std.proofs.Common.{◌≡◌, ℕ, pos, List, [], ◌∷◌, refl, Option, Some, None, codes, inl, inr, arith}
 use Rattle.vx_ast.specs.declared.tree.Gives.{Gives}
 use Rattle.vx_ast.specs.declared.tree.Gives.TheVariants.{Int, Nothing as NoValue}
 use Rattle.vx_ast.specs.declared.tree.BinaryOperator.TheVariants.{Add}
@@ -9,10 +9,11 @@ use Rattle.vx_ast.specs.declared.syntax.Name.{Name}
 use Rattle.vx_ast.specs.declared.names.Fault.{Fault}
 use Rattle.vx_ast.specs.Tree as tree
 use Rattle.vx_ast.specs.Tree.{One, Row}
-use Rattle.vx_ast.specs.Syntax.{Phrase, Number, Use, Element, Call, Binary, NoMore, Then, Target, Evaluate, Assign, Increase, Code, Nothing, Seq, Empty, Block, Scalar, ScalarWith, Array, Simply, Head, Print, If, While, For, Break, Return, ReturnValue, Function, Definition, GlobalScalar, GlobalArray, AFunction, Program}
+use Rattle.vx_ast.specs.Syntax.{Phrase, Number, Use, Element, Call, Binary, NoMore, Then, Target, Evaluate, Assign, Increase, Code, Nothing, Seq, Empty, Block, Scalar, ScalarWith, Array, Simply, Head, Print, While, For, Break, Return, ReturnValue, Definition, GlobalScalar, AFunction, Program}
 use Rattle.vx_ast.specs.Scopes.{predeclared, look, declared}
-use Rattle.vx_ast.specs.Faults.{first_fault, faults_of}
+use Rattle.vx_ast.specs.Faults.{first_fault}
 use Rattle.vx_ast.specs.Resolved.{resolved}
+use Rattle.vx_types.specs.Laws.{Before}
 
 -- short words
 
@@ -158,3 +159,13 @@ hides : resolved (record { definitions = GlobalScalar (a 5) (pos 7) ∷ main (Sc
     }
 unfolding predeclared look declared
 hides = refl
+
+-- `(a) = 1;` at column 18: S12 at the parenthesis stands before S5 at the name; at one place the lower code stands first
+by_column : Before (fault 12 18) (fault 5 19)
+by_column = inr (refl, inl (omega arith))
+
+by_code : Before (fault 5 18) (fault 12 18)
+by_code = inr (refl, inr (refl, omega arith))
+
+by_line : Before (record { code = 13; place = record { line = 1; column = 60 } }) (record { code = 5; place = record { line = 2; column = 1 } })
+by_line = inl (omega arith)

@@ -1,5 +1,5 @@
 -- The first of faults, some after others.
-use Rattle.std.proofs.Common.{◌≡◌, ℕ, zero, suc, ◌+◌, ◌<◌, ◌≤◌, ◌-◌, length, drop, take, get_or, List, [], ◌∷◌, ◌++◌, refl, ap, sym, ◌∙◌, Option, arith, add-one, append_assoc}
+use Rattle.std.proofs.Common.{◌≡◌, ℕ, zero, suc, ◌+◌, ◌<◌, ◌≤◌, ◌-◌, length, drop, take, get_or, List, [], ◌∷◌, ◌++◌, refl, ap, sym, ◌∙◌, Option, arith}
 use Rattle.std.proofs.Math.Seq.{drop-cons, take-length}
 use Rattle.vx_ast.specs.declared.names.Fault.{Fault}
 use Rattle.vx_ast.specs.Faults.{earlier, least}

@@ -1,7 +1,6 @@
 -- A list of statements, one by one.
-use Rattle.std.proofs.Common.{◌≡◌, ℕ, suc, ◌+◌, ◌<◌, ◌≤◌, Bool, false, List, [], ◌∷◌, ◌++◌, drop, length, refl, ap, sym, ◌∙◌, Option, None, Some}
+use Rattle.std.proofs.Common.{◌≡◌, Bool, List, [], ◌∷◌, ◌++◌, refl, ap, sym, ◌∙◌, Option}
 use Rattle.vx_ast.specs.declared.tree.Gives.{Gives}
-use Rattle.vx_ast.specs.declared.tree.Gives.TheVariants.{Int}
 use Rattle.vx_ast.specs.declared.tree.Statement.{Statement as Made}
 use Rattle.vx_ast.specs.declared.syntax.Statement.{Statement as Written}
 use Rattle.vx_ast.specs.declared.names.Fault.{Fault}

@@ -1,5 +1,5 @@
 -- What a table says of a name, before and after a name is put into it.
-use Rattle.std.proofs.Common.{◌≡◌, ℕ, Bool, true, false, if◌then◌else◌, List, [], ◌∷◌, ◌++◌, refl, sym, ap, ◌∙◌, Option, Some, None, nat_eq, arith, subst}
+use Rattle.std.proofs.Common.{◌≡◌, ℕ, Bool, true, false, if◌then◌else◌, List, [], ◌∷◌, refl, sym, ap, ◌∙◌, Option, Some, None, nat_eq, subst}
 use Rattle.std.specs.Prelude.{Vec}
 use Rattle.std.specs.Map.{lookup}
 use Rattle.std.specs.Bool.{Decides}
@@ -8,7 +8,7 @@ use Rattle.std.proofs.lemmas.Slice.Eq.{slice_eq-Decides}
 use lib.Pointwise.{pointwise}
 use Rattle.indexmap.specs.IndexMap.{insert_entry}
 use Rattle.vx_ast.specs.declared.names.Meant.{Meant}
-use Rattle.vx_ast.specs.Scopes.{same_name, Known, find}
+use Rattle.vx_ast.specs.Scopes.{same_name}
 use Rattle.vx_types.specs.Entries.{entry_of}
 
 -- names are the same exactly where their bytes are

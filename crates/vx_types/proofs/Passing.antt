@@ -1,5 +1,5 @@
 -- The names of the file, as its definitions are passed one by one.
-use Rattle.std.proofs.Common.{◌≡◌, ℕ, zero, suc, ◌+◌, ◌<◌, ◌≤◌, Bool, true, false, if◌then◌else◌, ◌||◌, List, [], ◌∷◌, ◌++◌, length, take, drop, get_or, map, refl, ap, sym, ◌∙◌, subst, Option, Some, None, arith, append_assoc, append-nil}
+use Rattle.std.proofs.Common.{◌≡◌, ℕ, zero, suc, ◌+◌, ◌<◌, Bool, true, false, if◌then◌else◌, ◌||◌, List, [], ◌∷◌, ◌++◌, length, take, drop, get_or, refl, ap, sym, ◌∙◌, Option, Some, None, append_assoc, append-nil}
 use Rattle.std.specs.Option.{is_some}
 use Rattle.std.specs.List.{list_any}
 use Rattle.vx_ast.specs.declared.names.Meant.{Meant}
@@ -8,8 +8,8 @@ use Rattle.vx_ast.specs.Scopes.{Known, find, same_name, in_file, known_of, prede
 use Rattle.vx_ast.specs.Faults.{is_repeated}
 use Rattle.vx_types.specs.Agrees.{Sees}
 use Rattle.vx_types.specs.Entries.{unless_said, started}
-use Rattle.vx_types.proofs.Lookups.{same_name-Decides, same_name-itself}
-use Rattle.vx_types.proofs.Leasts.{drop_next, drop_whole, take_more}
+use Rattle.vx_types.proofs.Lookups.{same_name-Decides}
+use Rattle.vx_types.proofs.Leasts.{drop_next, take_more}
 
 abbrev pub entry : FileName → Known
 entry n = in_file n.name n.named

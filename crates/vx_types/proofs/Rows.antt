@@ -1,12 +1,10 @@
 -- Rows of arguments and calls: how many they are, their faults, and what they become.
-use Rattle.std.proofs.Common.{◌≡◌, ℕ, suc, ◌+◌, ◌<◌, Bool, length, drop, get_or, List, [], ◌∷◌, ◌++◌, refl, ap, sym, ◌∙◌, add-one, Option, Vec, Global}
+use Rattle.std.proofs.Common.{◌≡◌, ℕ, ◌+◌, ◌<◌, Bool, length, drop, get_or, List, [], ◌∷◌, ◌++◌, refl, ap, sym, ◌∙◌, add-one, Option}
 use Rattle.vx_ast.specs.declared.syntax.Name.{Name}
 use Rattle.vx_ast.specs.declared.syntax.Expression.{Expression}
 use Rattle.vx_ast.specs.declared.tree.Expression.{Expression as Made}
 use Rattle.vx_ast.specs.declared.names.Named.{Named}
 use Rattle.vx_ast.specs.declared.names.Fault.{Fault}
-use Rattle.vx_ast.specs.Syntax as syntax
-use Rattle.vx_ast.specs.Syntax.{Phrase}
 use Rattle.vx_ast.specs.Tree as tree
 use Rattle.vx_ast.specs.Tree.{Tree, One, Row}
 use Rattle.vx_ast.specs.Faults.{row_length, called, least, phrase_faults}
@@ -15,7 +13,7 @@ use Rattle.vx_ast.specs.Scopes.{Environment, named}
 use Rattle.vx_ast.specs.SyntaxView.{phrase_of, row_in}
 use Rattle.vx_ast.specs.View as view
 use Rattle.vx_types.specs.Onto.{row_onto}
-use Rattle.vx_types.proofs.Leasts.{least_append, drop_next, drop_whole}
+use Rattle.vx_types.proofs.Leasts.{least_append, drop_next}
 use Rattle.vx_types.proofs.Views.{row_onto_push, row_onto_end}
 
 pub row_count : (row : List Expression) → row_length (row_in row) ≡ length row

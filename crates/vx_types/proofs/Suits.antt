@@ -1,7 +1,6 @@
 -- Expressions without faults suit what is known of their names.
-use Rattle.std.proofs.Common.{◌≡◌, ℕ, zero, suc, ◌+◌, ◌<◌, ◌≤◌, Bool, true, false, ◌&&◌, if◌then◌else◌, not, nat_eq, nat_lt, List, [], ◌∷◌, ◌++◌, length, refl, ap, sym, ◌∙◌, subst, Option, Some, None, arith, add-one}
+use Rattle.std.proofs.Common.{◌≡◌, ℕ, suc, Bool, true, false, ◌&&◌, if◌then◌else◌, not, nat_eq, List, [], ◌∷◌, ◌++◌, refl, ap, sym, ◌∙◌, subst, Option, Some, None, add-one}
 use Rattle.std.specs.Prelude.{slice_get}
-use Rattle.std.specs.List.{list_any}
 use Rattle.vx_ast.specs.declared.tree.Gives.{Gives}
 use Rattle.vx_ast.specs.declared.syntax.Place.{Place}
 use Rattle.vx_ast.specs.declared.syntax.Name.{Name}
@@ -13,7 +12,7 @@ use Rattle.vx_ast.specs.Tree as tree
 use Rattle.vx_ast.specs.Tree.{Shape, One, Row, Tree}
 use Rattle.vx_ast.specs.Accepted as accepted
 use Rattle.vx_ast.specs.Accepted.{gives_int, is_scalar, is_in, names_array, can_call, suits, suits_place, suits_whole, suits_action, suits_test}
-use Rattle.vx_ast.specs.Syntax.{Phrase, Number, Use, Element, Call, Unary, Binary, Both, Either, Choice, NoMore, Then, Target, Action, Evaluate, Assign, Compound, Increase, Decrease}
+use Rattle.vx_ast.specs.Syntax.{Phrase, Number, Use, Element, Call, Unary, Binary, Both, Either, Choice, NoMore, Then, Action, Evaluate, Assign, Compound, Increase, Decrease}
 use Rattle.vx_ast.specs.Scopes.{Environment, Known, find, look, named, named_in, same_name, file_in}
 use Rattle.vx_ast.specs.Faults.{fault_if, used, indexed, called, changed, row_length, phrase_faults, whole_faults, target_faults, action_faults, test_faults}
 use Rattle.vx_ast.specs.Resolved.{number_named, array_named, call_named, place_named, tree_in, target_in, action_in, test_in}

@@ -1,29 +1,27 @@
 -- Statements without faults suit what is known where they stand.
-use Rattle.std.proofs.Common.{◌≡◌, ℕ, zero, suc, ◌+◌, ◌-◌, ◌<◌, ◌≤◌, Bool, true, false, ◌&&◌, if◌then◌else◌, not, nat_eq, nat_lt, List, [], ◌∷◌, ◌++◌, length, refl, ap, sym, ◌∙◌, subst, Option, Some, None, arith, append_assoc, append-nil, length-append}
+use Rattle.std.proofs.Common.{◌≡◌, ℕ, zero, suc, ◌+◌, ◌≤◌, Bool, true, false, ◌&&◌, if◌then◌else◌, not, nat_eq, nat_lt, List, [], ◌∷◌, ◌++◌, length, refl, ap, sym, ◌∙◌, subst, arith, append_assoc, append-nil, length-append}
 use Rattle.std.specs.Prelude.{slice_get}
 use Rattle.std.specs.List.{list_all}
 use Rattle.std.proofs.lemmas.List.Folds.{list_all-append}
 use Rattle.std.proofs.lemmas.Bool.{eq-eqb, eqb-true}
 use Rattle.vx_ast.specs.declared.tree.Gives.{Gives}
 use Rattle.vx_ast.specs.declared.tree.Gives.TheVariants.{Int as GivesInt, Nothing as GivesNothing}
-use Rattle.vx_ast.specs.declared.syntax.Place.{Place}
 use Rattle.vx_ast.specs.declared.syntax.Name.{Name}
 use Rattle.vx_ast.specs.declared.syntax.Size.{Size}
 use Rattle.vx_ast.specs.declared.names.Named.{Named}
 use Rattle.vx_ast.specs.declared.names.Named.TheVariants.{Scalar as AScalar, Global as AGlobal, Array as AnArray, Function as AFunctionNamed, ReadInt as Reads, MoreInput as AsksMore, Print as Prints}
 use Rattle.vx_ast.specs.declared.names.FileName.{FileName}
-use Rattle.vx_ast.specs.declared.names.Fault.{Fault}
 use Rattle.vx_ast.specs.Tree as tree
 use Rattle.vx_ast.specs.Tree.{One}
 use Rattle.vx_ast.specs.Accepted as accepted
 use Rattle.vx_ast.specs.Accepted.{gives_int, is_array, is_in, is_format, numbers_of, names_array, suits, suits_action, suits_test, suits_code, scope_after, scalars_of, arrays_of}
-use Rattle.vx_ast.specs.Syntax.{Phrase, Code, Nothing, Seq, Empty, Block, Scalar, ScalarWith, Array, Simply, Head, Print, If, IfElse, While, DoWhile, For, Break, Continue, Return, ReturnValue}
+use Rattle.vx_ast.specs.Syntax.{Code, Nothing, Seq, Empty, Block, Scalar, ScalarWith, Array, Simply, Head, Print, If, IfElse, While, DoWhile, For, Break, Continue, Return, ReturnValue}
 use Rattle.vx_ast.specs.Scopes.{Environment, Known, is_at, look, declared, with_scalar, with_array, inside, outside, behind, predeclared, known_of, file_in}
-use Rattle.vx_ast.specs.Faults.{fault_if, declares, sizes_faults, prints, row_length, phrase_faults, action_faults, test_faults, code_faults}
-use Rattle.vx_ast.specs.Resolved.{tree_in, action_in, test_in, code_in}
-use Rattle.vx_types.specs.Words.{tree_words, action_words, test_words, code_words}
-use Rattle.vx_types.proofs.Scoping.{Keeps, behind_keeps, declared_counts}
-use Rattle.vx_types.proofs.Numbered.{in_front, in_more, lt_true, lt_false, apart_false, Numbers, numbers_none, numbers_one, numbers_on, numbers_rise}
+use Rattle.vx_ast.specs.Faults.{fault_if, declares, sizes_faults, prints, row_length, phrase_faults, test_faults, code_faults}
+use Rattle.vx_ast.specs.Resolved.{tree_in, test_in, code_in}
+use Rattle.vx_types.specs.Words.{tree_words, test_words, code_words}
+use Rattle.vx_types.proofs.Scoping.{behind_keeps, declared_counts}
+use Rattle.vx_types.proofs.Numbered.{in_front, in_more, lt_true, lt_false, Numbers, numbers_none, numbers_one, numbers_on, numbers_rise}
 use Rattle.vx_types.proofs.Suits.{and_both, and_left, and_right, none_left, none_right, no_fault, not_false, Fits, AllFit, KnownFit, phrase_suits, action_suits, test_suits, lengths}
 
 -- the numbers of scalars and arrays

@@ -1,5 +1,5 @@
 -- The trees of a call and of a block, and of lists that are made item by item.
-use Rattle.std.proofs.Common.{◌≡◌, ℕ, List, [], ◌∷◌, ◌++◌, refl, ap, sym, ◌∙◌, rules, Vec, Global}
+use Rattle.std.proofs.Common.{◌≡◌, ℕ, List, [], ◌∷◌, ◌++◌, refl, ap, rules, Vec, Global}
 use Rattle.vx_ast.specs.declared.syntax.Name.{Name}
 use Rattle.vx_ast.specs.declared.syntax.Expression.{Expression as Written, Row_of-Expression as RowWritten, end_of-Expression as end_written, more_of-Expression as more_written, items-the_row-Expression as items_written, the_lemmas as written_lemmas, Call as CallWritten}
 use Rattle.vx_ast.specs.declared.syntax.Statement.{Statement as WrittenStatement, Row_of-Statement as RowWrittenStatement, end_of-Statement as end_statement, more_of-Statement as more_statement, items-the_row-Statement as items_statement, the_lemmas as statement_lemmas, Block as BlockWritten}

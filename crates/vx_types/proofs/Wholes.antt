@@ -1,9 +1,7 @@
 -- Programs, definition by definition.
-use Rattle.std.proofs.Common.{◌≡◌, ℕ, zero, suc, ◌+◌, ◌-◌, ◌<◌, ◌≤◌, Bool, true, false, ◌&&◌, if◌then◌else◌, List, [], ◌∷◌, ◌++◌, length, take, drop, map, get_or, refl, ap, sym, ◌∙◌, subst, Option, Some, None, arith, append_assoc, append-nil, codes}
-use Rattle.std.specs.List.{list_any}
+use Rattle.std.proofs.Common.{◌≡◌, ℕ, suc, ◌+◌, ◌<◌, Bool, true, if◌then◌else◌, List, [], ◌∷◌, ◌++◌, length, take, drop, map, get_or, refl, ap, sym, ◌∙◌, Option, None, append_assoc, append-nil}
 use Rattle.vx_ast.specs.declared.syntax.Name.{Name}
 use Rattle.vx_ast.specs.declared.syntax.Definition.{Definition as Written}
-use Rattle.vx_ast.specs.declared.tree.Function.{Function as Made}
 use Rattle.vx_ast.specs.declared.names.FileName.{FileName}
 use Rattle.vx_ast.specs.declared.names.Fault.{Fault}
 use Rattle.vx_ast.specs.Tree as tree
@@ -11,8 +9,7 @@ use Rattle.vx_ast.specs.Syntax.{Definition, GlobalScalar, GlobalArray, AFunction
 use Rattle.vx_ast.specs.Scopes.{Environment, with_scalar, with_parameters, names_from, names_of, globals_of, at_function}
 use Rattle.vx_ast.specs.Faults.{declares, parameter_faults, is_main, definition_faults, definitions_faults, least, fault_if, function_faults, is_repeated}
 use Rattle.vx_ast.specs.Resolved.{function_in, functions_from, main_from, resolved}
-use Rattle.vx_ast.specs.SyntaxView.{definition_of, program_of}
-use Rattle.vx_ast.specs.View as view
+use Rattle.vx_ast.specs.SyntaxView.{definition_of}
 use Rattle.vx_types.specs.Whole.{at_start, own_faults, own_functions}
 use Rattle.vx_types.proofs.Leasts.{least_append, drop_next}
 

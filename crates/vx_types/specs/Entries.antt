@@ -1,5 +1,5 @@
 -- The entry of a name in the entries of a map.
-use Rattle.std.specs.Prelude.{ℕ, List, [], ◌∷◌, Option, Some, None, Bool, if◌then◌else◌}
+use Rattle.std.specs.Prelude.{ℕ, List, [], ◌∷◌, Option, Some, None, if◌then◌else◌}
 use Rattle.std.specs.declared.vec.Vec.{Vec}
 use Rattle.vx_ast.specs.declared.names.Meant.{Meant}
 use Rattle.vx_ast.specs.declared.names.FileName.{FileName}

@@ -1,13 +1,29 @@
 // Kinds and names: the faults S5 to S13 of a parsed source, its limits L3 to L8, and the program that it is.
 #![tactic(auto)]
 
-pub mod expressions;
-pub mod formats;
-pub mod items;
-pub mod kinds;
+mod checker;
+mod expressions;
+mod formats;
+mod items;
+#[cfg(test)]
+mod kind_tests;
+mod kinds;
 pub mod laws;
-pub mod local;
-pub mod names;
-pub mod program;
-pub mod statements;
-pub mod table;
+#[cfg(test)]
+mod limit_tests;
+mod limits;
+mod local;
+#[cfg(test)]
+mod name_tests;
+mod names;
+mod node_counts;
+#[cfg(test)]
+mod place_tests;
+mod program;
+#[cfg(test)]
+mod source_steps;
+mod statements;
+mod table;
+
+pub use checker::check;
+pub use node_counts::nodes;

@@ -1,4 +1,4 @@
-use Rattle.std.proofs.Common.{◌≡◌, ap, sym, ◌∙◌, drop}
+use Rattle.std.proofs.Common.{ap, sym, ◌∙◌, drop}
 use Rattle.vx_ast.specs.Resolved.{tree_in}
 use Rattle.vx_ast.specs.Syntax.{Phrase}
 use Rattle.vx_ast.specs.Tree.{One}

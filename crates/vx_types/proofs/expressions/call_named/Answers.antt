@@ -1,4 +1,4 @@
-use Rattle.std.proofs.Common.{◌≡◌, ap, sym, ◌∙◌, Option, Some}
+use Rattle.std.proofs.Common.{ap, sym, ◌∙◌, Option, Some}
 use Rattle.vx_ast.specs.declared.names.Named.{Named}
 use Rattle.vx_ast.specs.Resolved.{call_named}
 use Rattle.vx_ast.specs.View as view

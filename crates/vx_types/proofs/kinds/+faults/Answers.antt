@@ -1,4 +1,4 @@
-use Rattle.std.proofs.Common.{◌≡◌, false, ap, sym, ◌∙◌}
+use Rattle.std.proofs.Common.{false, ap, sym, ◌∙◌}
 use Rattle.vx_ast.specs.Faults.{least, phrase_faults}
 use Rattle.vx_ast.specs.Syntax.{Phrase}
 use Rattle.vx_ast.specs.Tree.{One}

@@ -1,4 +1,4 @@
-use Rattle.std.proofs.Common.{◌≡◌, ap, sym, ◌∙◌, if◌then◌else◌, List, ℕ, Option, Some, None}
+use Rattle.std.proofs.Common.{ap, sym, ◌∙◌, if◌then◌else◌, List, ℕ, Some}
 use Rattle.vx_ast.specs.Scopes.{same_name}
 use Rattle.vx_types.specs.Entries.{entry_of}
 use Rattle.vx_types.proofs.Passing.{entry, known_repeated, known_new, sees_still, sees_one_more}

@@ -1,4 +1,4 @@
-use Rattle.std.proofs.Common.{◌≡◌, ◌++◌, ◌∙◌, ◌+◌, ap, sym, drop, map, List}
+use Rattle.std.proofs.Common.{◌++◌, ◌∙◌, ◌+◌, ap, sym, drop, map, List}
 use Rattle.vx_ast.specs.Syntax.{Definition}
 use Rattle.vx_ast.specs.Scopes.{names_from}
 use Rattle.vx_ast.specs.SyntaxView.{definition_of}

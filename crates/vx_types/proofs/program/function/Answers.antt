@@ -1,4 +1,4 @@
-use Rattle.std.proofs.Common.{◌≡◌, ap, ◌∙◌, List}
+use Rattle.std.proofs.Common.{ap, ◌∙◌}
 use Rattle.vx_ast.specs.Scopes.{Environment}
 use Rattle.vx_ast.specs.SyntaxView.{all_in}
 use Rattle.vx_types.proofs.Scoping.{behind_keeps, parameters_keep}

@@ -1,4 +1,4 @@
-use Rattle.std.proofs.Common.{◌≡◌, ap, sym, ◌∙◌, ◌+◌, ◌<◌, drop, map, length, List, arith, get_or, subst}
+use Rattle.std.proofs.Common.{◌≡◌, ap, ◌∙◌, ◌+◌, ◌<◌, drop, map, length, List, arith, get_or, subst}
 use Rattle.vx_ast.specs.declared.syntax.Definition.{Definition as Written}
 use Rattle.vx_ast.specs.declared.names.FileName.{FileName}
 use Rattle.vx_ast.specs.SyntaxView.{definition_of, program_of}

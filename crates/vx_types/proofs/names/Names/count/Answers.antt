@@ -1,4 +1,4 @@
-use Rattle.std.proofs.Common.{◌≡◌, length, ap, sym, ◌∙◌, List}
+use Rattle.std.proofs.Common.{length, ap, sym, ◌∙◌, List}
 use Rattle.vx_ast.specs.Scopes.{Environment}
 use Rattle.vx_types.specs.declared.local.Local.{Local}
 use Rattle.vx_types.proofs.Agreeing.{known_count}

@@ -1,8 +1,6 @@
-use Rattle.std.proofs.Common.{ap, sym, ◌∙◌, ◌≡◌, ◌++◌, ◌∷◌, [], ◌-◌, ◌<◌, if◌then◌else◌, List, ℕ, Option, Some, reverse, length, arith, get_or}
+use Rattle.std.proofs.Common.{ap, ◌∙◌, ◌≡◌, ◌++◌, ◌∷◌, [], ◌-◌, ◌<◌, if◌then◌else◌, List, ℕ, length, arith}
 use Rattle.std.specs.Vec.{vec_len}
-use Rattle.vx_ast.specs.Scopes.{Environment, look, find, same_name, predeclared, known_of}
-use Rattle.vx_types.specs.declared.local.Local.{Local}
-use Rattle.vx_types.specs.Agrees.{known_in}
+use Rattle.vx_ast.specs.Scopes.{Environment, same_name}
 use Rattle.vx_types.specs.Entries.{entry_of}
 use Rattle.vx_types.proofs.Agreeing.{agrees_popped, known_count}
 use Rattle.vx_types.proofs.Leasts.{last_item}

@@ -1,4 +1,4 @@
-use Rattle.std.proofs.Common.{◌≡◌, ◌<◌, length, arith}
+use Rattle.std.proofs.Common.{◌<◌, length, arith}
 use Rattle.vx_types.proofs.Scoping.{removed_more}
 use Rattle.vx_types.proofs.names.Names.leave.Goals as goal
 

@@ -1,4 +1,4 @@
-use Rattle.std.proofs.Common.{◌≡◌, ap, ◌∙◌, ◌++◌, List}
+use Rattle.std.proofs.Common.{ap, ◌∙◌, ◌++◌, List}
 use Rattle.vx_ast.specs.declared.names.FileName.{FileName}
 use Rattle.vx_ast.specs.Scopes.{find, predeclared, known_of}
 use Rattle.vx_types.proofs.Agreeing.{agrees_empty}

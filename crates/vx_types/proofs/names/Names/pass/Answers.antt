@@ -1,7 +1,6 @@
-use Rattle.std.proofs.Common.{◌≡◌, ◌+◌, ap, sym, ◌∙◌, ◌++◌, List, ℕ, subst, arith, take}
+use Rattle.std.proofs.Common.{◌≡◌, ◌+◌, ap, sym, ◌∙◌, ◌++◌, List, ℕ, arith, take}
 use Rattle.vx_ast.specs.declared.names.FileName.{FileName}
 use Rattle.vx_ast.specs.Scopes.{Environment, find, predeclared, known_of}
-use Rattle.vx_types.specs.Agrees.{Sees}
 use Rattle.vx_types.proofs.Agreeing.{agrees_alone, sees_along}
 use Rattle.vx_types.proofs.names.Names.pass.Goals as goal
 

@@ -1,4 +1,4 @@
-use Rattle.std.proofs.Common.{ap, sym, ◌∙◌, ◌≡◌, ◌++◌, if◌then◌else◌, List, ℕ, Option, Some, reverse}
+use Rattle.std.proofs.Common.{ap, sym, ◌∙◌, ◌≡◌, ◌++◌, if◌then◌else◌, List, ℕ, Some, reverse}
 use Rattle.vx_ast.specs.Scopes.{Environment, look, find, same_name, predeclared, known_of}
 use Rattle.vx_types.specs.Agrees.{known_in}
 use Rattle.vx_types.specs.Entries.{entry_of}

@@ -1,4 +1,4 @@
-use Rattle.std.proofs.Common.{ap, ◌∙◌, ◌≡◌, if◌then◌else◌, subst, ℕ, List}
+use Rattle.std.proofs.Common.{ap, ◌∙◌, if◌then◌else◌}
 use Rattle.vx_ast.specs.Scopes.{same_name}
 use Rattle.vx_types.specs.Entries.{entry_of}
 use Rattle.vx_types.proofs.Lookups.{put_entry}

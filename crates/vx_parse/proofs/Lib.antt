@@ -1,0 +1,22 @@
+pub mod Ways
+pub mod Fills
+pub mod Fronts
+mod TreeRows
+pub mod Tokens
+pub mod Depths
+pub mod Steps
+pub mod Rows
+pub mod Views
+pub mod Expressions
+pub mod Arguments
+pub mod Parts
+pub mod Loops
+pub mod Simples
+pub mod Begun
+pub mod Statements
+pub mod Blocks
+pub mod Unders
+pub mod Wholes
+pub mod Definitions
+pub mod Programs
+pub mod Ends

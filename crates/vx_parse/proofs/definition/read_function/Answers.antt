@@ -1,0 +1,40 @@
+use Rattle.std.proofs.Common.{drop, refl, rules}
+use Rattle.vx_parse.specs.Reading.{Stops}
+use Rattle.vx_parse.specs.Definitions.{Heading}
+use Rattle.vx_parse.proofs.Parts.{past_token, past_phrase, within_phrase, misfit}
+use Rattle.vx_parse.proofs.Definitions.{heading_start, function_is}
+use Rattle.vx_parse.proofs.definition.read_function.Goals as goal
+
+pub returns-in_err-inner-clause-stop : goal.returns-in_err-inner-clause-stop
+returns-in_err-inner-clause-stop c =
+    let b0 = heading_start c.args.tokens.now c.args.place c.requires.within in
+    let h : Stops (Heading) (drop c.args.place c.args.tokens.now) c.args.tokens.now 0 0 c.in_err-inner.field-0.0 = misfit b0 c.in_err-inner.field-0.0 c.in_err-inner.ensures.stop in
+    search rules
+
+pub returns-in_err-parameters-clause-stop : goal.returns-in_err-parameters-clause-stop
+returns-in_err-parameters-clause-stop c =
+    let b0 = heading_start c.args.tokens.now c.args.place c.requires.within in
+    let b1 = past_token b0 c.in_ok-inner.ensures.ok in
+    let h : Stops (Heading) (drop c.args.place c.args.tokens.now) c.args.tokens.now 0 0 c.in_err-parameters.field-0.0 = within_phrase b1 c.in_err-parameters.field-0.0 c.in_err-parameters.ensures.stop in
+    search rules
+
+pub returns-in_err-body_place-clause-stop : goal.returns-in_err-body_place-clause-stop
+returns-in_err-body_place-clause-stop c =
+    let b0 = heading_start c.args.tokens.now c.args.place c.requires.within in
+    let b1 = past_token b0 c.in_ok-inner.ensures.ok in
+    let b2 = past_phrase b1 c.in_ok-parameters.ensures.ok.parted in
+    let h : Stops (Heading) (drop c.args.place c.args.tokens.now) c.args.tokens.now 0 0 c.in_err-body_place.field-0.0 = misfit b2 c.in_err-body_place.field-0.0 c.in_err-body_place.ensures.stop in
+    search rules
+
+pub returns-in_err-body-clause-stop : goal.returns-in_err-body-clause-stop
+returns-in_err-body-clause-stop c =
+    let b0 = heading_start c.args.tokens.now c.args.place c.requires.within in
+    let b1 = past_token b0 c.in_ok-inner.ensures.ok in
+    let b2 = past_phrase b1 c.in_ok-parameters.ensures.ok.parted in
+    let b3 = past_token b2 c.in_ok-body_place.ensures.ok in
+    let h : Stops (Heading) (drop c.args.place c.args.tokens.now) c.args.tokens.now 0 0 c.in_err-body.field-0.0 = within_phrase b3 c.in_err-body.field-0.0 c.in_err-body.ensures.stop in
+    search rules
+
+pub returns-clause-ok : goal.returns-clause-ok
+returns-clause-ok c =
+    function_is c.args.tokens.now c.args.place _ _ c.args.name c.args.gives c.in_ok-parameters.parameters c.in_ok-body.body.statements.items _ c.requires.within c.in_ok-inner.ensures.ok c.in_ok-parameters.ensures.ok c.in_ok-body_place.ensures.ok c.in_ok-body.ensures.ok refl

@@ -1,0 +1,66 @@
+use Rattle.std.proofs.Common.{◌≡◌, pos, [], ◌∷◌, drop, refl, sym, ap, ◌∙◌, rules, w32, FitsSigned, to_z, of_z}
+use Rattle.vx_ast.specs.Syntax as syntax
+use Rattle.std.proofs.lemmas.Int.{to_z-of_z}
+use Rattle.vx_ast.specs.declared.token.Mark.TheVariants as marks
+use Rattle.vx_ast.specs.declared.token.TokenKind.TheVariants as kinds
+use Rattle.vx_ast.specs.declared.syntax.Definition.TheVariants as definitions
+use Rattle.vx_ast.specs.Phrases.{GlobalValue, A}
+use Rattle.vx_parse.specs.Reading.{next_kind, Stops}
+use Rattle.vx_parse.proofs.Tokens.{passes_mark}
+use Rattle.vx_parse.proofs.Parts.{past_token, within_phrase, misfit, misfit_number}
+use Rattle.vx_parse.proofs.Definitions.{equal_before, bracket_before, scalar_is, array_is, zero_is}
+use Rattle.vx_parse.proofs.definition.read_global.Goals as goal
+
+pub read_signed-requires-clause-within : goal.read_signed-requires-clause-within
+read_signed-requires-clause-within c =
+    let e : next_kind (drop c.args.place c.args.tokens.now) ≡ kinds.Mark marks.Equal = sym c.kind_at-kind.ensures ∙ c.is_mark.ensures.yes c.if-is_mark.true in
+    (passes_mark c.args.tokens.now c.args.place marks.Equal c.requires.ended c.requires.within e).within
+
+pub returns-in_err-number-clause-stop : goal.returns-in_err-number-clause-stop
+returns-in_err-number-clause-stop c =
+    let e : next_kind (drop c.args.place c.args.tokens.now) ≡ kinds.Mark marks.Equal = sym c.kind_at-kind.ensures ∙ c.is_mark.ensures.yes c.if-is_mark.true in
+    let p = passes_mark c.args.tokens.now c.args.place marks.Equal c.requires.ended c.requires.within e in
+    let b = equal_before c.args.tokens.now c.args.place p c.requires.within e in
+    let h : Stops (A GlobalValue ∷ []) (drop c.args.place c.args.tokens.now) c.args.tokens.now 0 0 c.in_err-number.field-0.0 = within_phrase b c.in_err-number.field-0.0 c.in_err-number.ensures.stop in
+    search rules
+
+pub returns-then-is_mark-clause-ok : goal.returns-then-is_mark-clause-ok
+returns-then-is_mark-clause-ok c =
+    let e : next_kind (drop c.args.place c.args.tokens.now) ≡ kinds.Mark marks.Equal = sym c.kind_at-kind.ensures ∙ c.is_mark.ensures.yes c.if-is_mark.true in
+    let p = passes_mark c.args.tokens.now c.args.place marks.Equal c.requires.ended c.requires.within e in
+    let z : FitsSigned w32 c.in_ok-number.number.value = search rules in
+    scalar_is c.args.tokens.now c.args.place _ c.args.name c.in_ok-number.number.value (definitions.Scalar c.args.name (to_z w32 (of_z w32 c.in_ok-number.number.value))) p c.requires.within e c.in_ok-number.ensures.ok (ap (syntax.GlobalScalar c.args.name) (to_z-of_z w32 c.in_ok-number.number.value z))
+
+pub read_size-requires-clause-within : goal.read_size-requires-clause-within
+read_size-requires-clause-within c =
+    let e : next_kind (drop c.args.place c.args.tokens.now) ≡ kinds.Mark marks.OpenBracket = sym c.kind_at-kind.ensures ∙ c.is_mark-2.ensures.yes c.if-is_mark-2.true in
+    (passes_mark c.args.tokens.now c.args.place marks.OpenBracket c.requires.ended c.requires.within e).within
+
+pub returns-in_err-size-clause-stop : goal.returns-in_err-size-clause-stop
+returns-in_err-size-clause-stop c =
+    let e : next_kind (drop c.args.place c.args.tokens.now) ≡ kinds.Mark marks.OpenBracket = sym c.kind_at-kind.ensures ∙ c.is_mark-2.ensures.yes c.if-is_mark-2.true in
+    let p = passes_mark c.args.tokens.now c.args.place marks.OpenBracket c.requires.ended c.requires.within e in
+    let b = bracket_before c.args.tokens.now c.args.place p c.requires.within e in
+    let h : Stops (A GlobalValue ∷ []) (drop c.args.place c.args.tokens.now) c.args.tokens.now 0 0 c.in_err-size.field-0.0 = misfit_number b c.in_err-size.field-0.0 c.in_err-size.ensures.stop in
+    search rules
+
+pub returns-in_err-next-clause-stop : goal.returns-in_err-next-clause-stop
+returns-in_err-next-clause-stop c =
+    let e : next_kind (drop c.args.place c.args.tokens.now) ≡ kinds.Mark marks.OpenBracket = sym c.kind_at-kind.ensures ∙ c.is_mark-2.ensures.yes c.if-is_mark-2.true in
+    let p = passes_mark c.args.tokens.now c.args.place marks.OpenBracket c.requires.ended c.requires.within e in
+    let b = bracket_before c.args.tokens.now c.args.place p c.requires.within e in
+    let b1 = past_token b c.in_ok-size.ensures.ok.passed in
+    let h : Stops (A GlobalValue ∷ []) (drop c.args.place c.args.tokens.now) c.args.tokens.now 0 0 c.in_err-next.field-0.0 = misfit b1 c.in_err-next.field-0.0 c.in_err-next.ensures.stop in
+    search rules
+
+pub returns-then-is_mark-2-clause-ok : goal.returns-then-is_mark-2-clause-ok
+returns-then-is_mark-2-clause-ok c =
+    let e : next_kind (drop c.args.place c.args.tokens.now) ≡ kinds.Mark marks.OpenBracket = sym c.kind_at-kind.ensures ∙ c.is_mark-2.ensures.yes c.if-is_mark-2.true in
+    let p = passes_mark c.args.tokens.now c.args.place marks.OpenBracket c.requires.ended c.requires.within e in
+    array_is c.args.tokens.now c.args.place _ c.args.name c.in_ok-size.size (definitions.Array c.args.name c.in_ok-size.size.size) p c.requires.within e c.in_ok-size.ensures.ok c.in_ok-next.ensures.ok refl
+
+pub returns-clause-ok : goal.returns-clause-ok
+returns-clause-ok c =
+    let n1 : next_kind (drop c.args.place c.args.tokens.now) ≡ kinds.Mark marks.Equal → ⊥ = λ e. c.is_mark.ensures.no c.if-is_mark.false (c.kind_at-kind.ensures ∙ e) in
+    let n2 : next_kind (drop c.args.place c.args.tokens.now) ≡ kinds.Mark marks.OpenBracket → ⊥ = λ e. c.is_mark-2.ensures.no c.if-is_mark-2.false (c.kind_at-kind.ensures ∙ e) in
+    zero_is c.args.tokens.now c.args.place c.args.name (definitions.Scalar c.args.name (pos 0)) c.requires.within n1 n2 refl

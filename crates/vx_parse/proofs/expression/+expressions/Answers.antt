@@ -1,0 +1,356 @@
+use Rattle.std.proofs.Common.{◌≡◌, ◌≤◌, ◌<◌, ◌+◌, ◌-◌, suc, max, [], ◌∷◌, ◌++◌, length, drop, Some, refl, sym, ap, ◌∙◌, subst, arith, rules, w32, FitsSigned}
+use Rattle.std.proofs.lemmas.Int.{to_z-of_z}
+use Rattle.vx_ast.specs.declared.token.Mark.TheVariants as marks
+use Rattle.vx_ast.specs.declared.token.TokenKind.TheVariants as kinds
+use Rattle.vx_ast.specs.Syntax as syntax
+use Rattle.vx_ast.specs.SyntaxView.{phrase_of}
+use Rattle.vx_ast.specs.Phrases as phrases
+use Rattle.vx_ast.specs.Phrases.{Level, LevelRest, Primary, NameRest, Arguments, MoreExpressions, ChoiceRest, A, parts_of, strength}
+use Rattle.vx_ast.specs.Tree.{One}
+use Rattle.vx_ast.specs.declared.tree.UnaryOperator.{UnaryOperator}
+use Rattle.vx_ast.specs.Derivations.{unary_of, joined}
+use Rattle.vx_parse.specs.declared.expression.Operand.{Operand}
+use Rattle.vx_parse.specs.Reading.{next_kind, Stops, IsOperand}
+use Rattle.vx_parse.proofs.Views.{view-Call}
+use Rattle.vx_parse.proofs.Expressions.{map_ok, map_err, enclosed_inner, enclosed_end, bracket_opens, call_opens, nested_opens, unary_opens, nested_is, element_is, call_is, use_is, no_rest, number_is, name_is, name_stops, no_primary, unary_is, primary_is, primary_stops, operates, rest_is_none, rest_too_deep, right_stops, more_is, more_stops, level_is, level_first, level_then, test_is, test_stops, asks, choice_too_deep, chosen_stops, colon_stops, other_stops, choice_is}
+use Rattle.vx_parse.proofs.Steps.{stops_no_phrase, too_deep, stops_opened}
+use Rattle.vx_parse.proofs.Arguments.{no_arguments, first_stops, others_stop, arguments_are, gathered, comma_opens, next_stops, gathers_more}
+use Rattle.vx_parse.proofs.expression.+expressions.Goals as goal
+
+three : {a b c x y z : syntax.Phrase One} → a ≡ x → b ≡ y → c ≡ z → syntax.Choice a b c ≡ syntax.Choice x y z
+three p q r = cc
+
+two : {a x : UnaryOperator} {b y : syntax.Phrase One} → a ≡ x → b ≡ y → syntax.Unary a b ≡ syntax.Unary x y
+two p q = cc
+
+pub read_arguments-returns-then-is_mark-clause-ok : goal.read_arguments-returns-then-is_mark-clause-ok
+read_arguments-returns-then-is_mark-clause-ok t c =
+    let k : next_kind (drop c.args.place c.args.tokens.now) ≡ kinds.Mark marks.CloseParenthesis = sym c.kind_at.ensures ∙ c.is_mark.ensures.yes c.if-is_mark.true in
+    no_arguments c.args.tokens.now c.args.place c.args.depth _ c.requires.within c.requires.depth k c.new-expressions.ensures.items refl refl
+
+pub read_arguments-returns-in_err-first-clause-stop : goal.read_arguments-returns-in_err-first-clause-stop
+read_arguments-returns-in_err-first-clause-stop t c =
+    let n : next_kind (drop c.args.place c.args.tokens.now) ≡ kinds.Mark marks.CloseParenthesis → ⊥ = λ e. c.is_mark.ensures.no c.if-is_mark.false (c.kind_at.ensures ∙ e) in
+    let h : Stops (A Arguments ∷ []) (drop c.args.place c.args.tokens.now) c.args.tokens.now c.args.depth 0 c.in_err-first.field-0.0 = first_stops c.args.tokens.now c.args.place c.args.depth _ c.requires.within n c.in_err-first.ensures.stop in
+    search rules
+
+pub read_arguments-returns-clause-ok : goal.read_arguments-returns-clause-ok
+read_arguments-returns-clause-ok t c =
+    let n : next_kind (drop c.args.place c.args.tokens.now) ≡ kinds.Mark marks.CloseParenthesis → ⊥ = λ e. c.is_mark.ensures.no c.if-is_mark.false (c.kind_at.ensures ∙ e) in
+    let items : c.push.new.self.items ≡ c.in_ok-first.first.expression ∷ [] = c.in_ok-push.ensures.items ∙ ap (λ l. l ++ (c.in_ok-first.first.expression ∷ [])) c.new-expressions.ensures.items in
+    map_ok c.read_more.result (λ r. arguments_are c.args.tokens.now c.args.place c.args.depth c.in_ok-first.first _ r c.requires.within n c.in_ok-first.ensures.ok items refl refl) c.read_more.ensures.ok
+
+pub read_arguments-returns-clause-stop : goal.read_arguments-returns-clause-stop
+read_arguments-returns-clause-stop t c =
+    let n : next_kind (drop c.args.place c.args.tokens.now) ≡ kinds.Mark marks.CloseParenthesis → ⊥ = λ e. c.is_mark.ensures.no c.if-is_mark.false (c.kind_at.ensures ∙ e) in
+    map_err c.read_more.result (λ s. others_stop c.args.tokens.now c.args.place c.args.depth c.in_ok-first.first s c.requires.within n c.in_ok-first.ensures.ok) c.read_more.ensures.stop
+
+pub read_behind-returns-then-strength-level-clause-ok : goal.read_behind-returns-then-strength-level-clause-ok
+read_behind-returns-then-strength-level-clause-ok t c =
+    let e : strength (next_kind (drop c.args.left.next c.args.tokens.now)) ≡ c.strength.result = sym (c.strength.ensures ∙ ap strength c.kind_at-kind.ensures) in
+    rest_is_none c.args.level c.args.tokens.now c.args.depth c.args.left c.requires.within c.requires.shallow (λ q. c.if-strength-level.true (sym e ∙ q))
+
+pub read_behind-returns-then-depth-left-ge-DEEPEST-clause-stop : goal.read_behind-returns-then-depth-left-ge-DEEPEST-clause-stop
+read_behind-returns-then-depth-left-ge-DEEPEST-clause-stop t c =
+    let e : strength (next_kind (drop c.args.left.next c.args.tokens.now)) ≡ c.strength.result = sym (c.strength.ensures ∙ ap strength c.kind_at-kind.ensures) in
+    let o = operates c.args.level c.args.tokens.now c.args.left.next c.requires.ended c.requires.within c.requires.level (e ∙ c.if-strength-level.false) in
+    rest_too_deep c.args.level c.args.tokens.now c.args.left.next c.args.depth c.args.left.height o (omega arith)
+
+pub read_behind-read_level-requires : goal.read_behind-read_level-requires
+read_behind-read_level-requires t c =
+    let e : strength (next_kind (drop c.args.left.next c.args.tokens.now)) ≡ c.strength.result = sym (c.strength.ensures ∙ ap strength c.kind_at-kind.ensures) in
+    let o = operates c.args.level c.args.tokens.now c.args.left.next c.requires.ended c.requires.within c.requires.level (e ∙ c.if-strength-level.false) in
+    let w : c.args.left.next + 1 < length c.args.tokens.now = o.passed.within in
+    search rules
+
+pub read_behind-returns-in_err-right-clause-stop : goal.read_behind-returns-in_err-right-clause-stop
+read_behind-returns-in_err-right-clause-stop t c =
+    let e : strength (next_kind (drop c.args.left.next c.args.tokens.now)) ≡ c.strength.result = sym (c.strength.ensures ∙ ap strength c.kind_at-kind.ensures) in
+    let o = operates c.args.level c.args.tokens.now c.args.left.next c.requires.ended c.requires.within c.requires.level (e ∙ c.if-strength-level.false) in
+    let b : c.args.depth + c.args.left.height < 200 = omega arith in
+    let h : Stops (A (LevelRest c.args.level) ∷ []) (drop c.args.left.next c.args.tokens.now) c.args.tokens.now c.args.depth c.args.left.height c.in_err-right.field-0.0 = right_stops c.args.level c.args.tokens.now c.args.left.next c.args.depth c.args.left.height _ o b c.in_err-right.ensures.stop in
+    search rules
+
+pub read_behind-returns-clause-ok : goal.read_behind-returns-clause-ok
+read_behind-returns-clause-ok t c =
+    let e : strength (next_kind (drop c.args.left.next c.args.tokens.now)) ≡ c.strength.result = sym (c.strength.ensures ∙ ap strength c.kind_at-kind.ensures) in
+    let o = operates c.args.level c.args.tokens.now c.args.left.next c.requires.ended c.requires.within c.requires.level (e ∙ c.if-strength-level.false) in
+    let both : Operand = record { expression = c.in_ok-join.field-0; height = 1 + c.max.result; next = c.in_ok-right.right.next } in
+    let kind : phrase_of c.in_ok-join.field-0 ≡ joined (next_kind (drop c.args.left.next c.args.tokens.now)) (phrase_of c.args.left.expression) (phrase_of c.in_ok-right.right.expression) = subst (λ z. phrase_of c.in_ok-join.field-0 ≡ joined z (phrase_of c.args.left.expression) (phrase_of c.in_ok-right.right.expression)) c.kind_at-kind.ensures c.in_ok-join.ensures.ok in
+    let high : 1 + c.max.result ≡ 1 + max c.args.left.height c.in_ok-right.right.height = let x = c.max.ensures in omega arith in
+    map_ok c.read_behind.result (λ r. more_is c.args.level c.args.tokens.now c.args.left.next c.args.depth (phrase_of c.args.left.expression) c.args.left.height c.in_ok-right.right both r o c.in_ok-right.ensures.ok kind high refl) c.read_behind.ensures.ok
+
+pub read_behind-returns-clause-stop : goal.read_behind-returns-clause-stop
+read_behind-returns-clause-stop t c =
+    let e : strength (next_kind (drop c.args.left.next c.args.tokens.now)) ≡ c.strength.result = sym (c.strength.ensures ∙ ap strength c.kind_at-kind.ensures) in
+    let o = operates c.args.level c.args.tokens.now c.args.left.next c.requires.ended c.requires.within c.requires.level (e ∙ c.if-strength-level.false) in
+    let both : Operand = record { expression = c.in_ok-join.field-0; height = 1 + c.max.result; next = c.in_ok-right.right.next } in
+    let kind : phrase_of c.in_ok-join.field-0 ≡ joined (next_kind (drop c.args.left.next c.args.tokens.now)) (phrase_of c.args.left.expression) (phrase_of c.in_ok-right.right.expression) = subst (λ z. phrase_of c.in_ok-join.field-0 ≡ joined z (phrase_of c.args.left.expression) (phrase_of c.in_ok-right.right.expression)) c.kind_at-kind.ensures c.in_ok-join.ensures.ok in
+    let high : 1 + c.max.result ≡ 1 + max c.args.left.height c.in_ok-right.right.height = let x = c.max.ensures in omega arith in
+    map_err c.read_behind.result (λ s. more_stops c.args.level c.args.tokens.now c.args.left.next c.args.depth c.args.left.height c.in_ok-right.right both s o c.in_ok-right.ensures.ok high refl) c.read_behind.ensures.stop
+
+pub read_expression-returns-in_err-test-clause-stop : goal.read_expression-returns-in_err-test-clause-stop
+read_expression-returns-in_err-test-clause-stop t c =
+    let h : Stops (A phrases.Expression ∷ []) (drop c.args.place c.args.tokens.now) c.args.tokens.now c.args.depth 0 c.in_err-test.field-0.0 = test_stops c.args.tokens.now c.args.place c.args.depth _ c.requires.within c.in_err-test.ensures.stop in
+    search rules
+
+pub read_expression-returns-then-not-is_mark-clause-ok : goal.read_expression-returns-then-not-is_mark-clause-ok
+read_expression-returns-then-not-is_mark-clause-ok t c =
+    let n : next_kind (drop c.in_ok-test.test.next c.args.tokens.now) ≡ kinds.Mark marks.Question → ⊥ = λ e. c.is_mark.ensures.no c.if-not-is_mark.true (c.kind_at.ensures ∙ e) in
+    test_is c.args.tokens.now c.args.place c.args.depth c.in_ok-test.test c.requires.within n c.in_ok-test.ensures.ok
+
+pub read_expression-returns-then-depth-test-ge-DEEPEST-clause-stop : goal.read_expression-returns-then-depth-test-ge-DEEPEST-clause-stop
+read_expression-returns-then-depth-test-ge-DEEPEST-clause-stop t c =
+    let q : next_kind (drop c.in_ok-test.test.next c.args.tokens.now) ≡ kinds.Mark marks.Question = sym c.kind_at.ensures ∙ c.is_mark.ensures.yes c.if-not-is_mark.false in
+    let a = asks c.args.tokens.now c.args.place c.args.depth c.in_ok-test.test c.requires.ended c.requires.within c.in_ok-test.ensures.ok q in
+    choice_too_deep c.args.tokens.now c.args.place c.args.depth c.in_ok-test.test a (omega arith)
+
+pub read_expression-read_expression-requires : goal.read_expression-read_expression-requires
+read_expression-read_expression-requires t c =
+    let q : next_kind (drop c.in_ok-test.test.next c.args.tokens.now) ≡ kinds.Mark marks.Question = sym c.kind_at.ensures ∙ c.is_mark.ensures.yes c.if-not-is_mark.false in
+    let a = asks c.args.tokens.now c.args.place c.args.depth c.in_ok-test.test c.requires.ended c.requires.within c.in_ok-test.ensures.ok q in
+    let w : c.in_ok-test.test.next + 1 < length c.args.tokens.now = a.passed.within in
+    let v : c.args.place < c.in_ok-test.test.next = a.is.further in
+    search rules
+
+pub read_expression-returns-in_err-chosen-clause-stop : goal.read_expression-returns-in_err-chosen-clause-stop
+read_expression-returns-in_err-chosen-clause-stop t c =
+    let q : next_kind (drop c.in_ok-test.test.next c.args.tokens.now) ≡ kinds.Mark marks.Question = sym c.kind_at.ensures ∙ c.is_mark.ensures.yes c.if-not-is_mark.false in
+    let a = asks c.args.tokens.now c.args.place c.args.depth c.in_ok-test.test c.requires.ended c.requires.within c.in_ok-test.ensures.ok q in
+    let b : c.args.depth + c.in_ok-test.test.height < 200 = omega arith in
+    let h : Stops (A phrases.Expression ∷ []) (drop c.args.place c.args.tokens.now) c.args.tokens.now c.args.depth 0 c.in_err-chosen.field-0.0 = chosen_stops c.args.tokens.now c.args.place c.args.depth c.in_ok-test.test _ a b c.in_err-chosen.ensures.stop in
+    search rules
+
+pub read_expression-returns-in_err-other_place-clause-stop : goal.read_expression-returns-in_err-other_place-clause-stop
+read_expression-returns-in_err-other_place-clause-stop t c =
+    let q : next_kind (drop c.in_ok-test.test.next c.args.tokens.now) ≡ kinds.Mark marks.Question = sym c.kind_at.ensures ∙ c.is_mark.ensures.yes c.if-not-is_mark.false in
+    let a = asks c.args.tokens.now c.args.place c.args.depth c.in_ok-test.test c.requires.ended c.requires.within c.in_ok-test.ensures.ok q in
+    let b : c.args.depth + c.in_ok-test.test.height < 200 = omega arith in
+    let h : Stops (A phrases.Expression ∷ []) (drop c.args.place c.args.tokens.now) c.args.tokens.now c.args.depth 0 c.in_err-other_place.field-0.0 = colon_stops c.args.tokens.now c.args.place c.args.depth c.in_ok-test.test c.in_ok-chosen.chosen _ a b c.in_ok-chosen.ensures.ok c.in_err-other_place.ensures.stop in
+    search rules
+
+pub read_expression-returns-in_err-other-clause-stop : goal.read_expression-returns-in_err-other-clause-stop
+read_expression-returns-in_err-other-clause-stop t c =
+    let q : next_kind (drop c.in_ok-test.test.next c.args.tokens.now) ≡ kinds.Mark marks.Question = sym c.kind_at.ensures ∙ c.is_mark.ensures.yes c.if-not-is_mark.false in
+    let a = asks c.args.tokens.now c.args.place c.args.depth c.in_ok-test.test c.requires.ended c.requires.within c.in_ok-test.ensures.ok q in
+    let b : c.args.depth + c.in_ok-test.test.height < 200 = omega arith in
+    let h : Stops (A phrases.Expression ∷ []) (drop c.args.place c.args.tokens.now) c.args.tokens.now c.args.depth 0 c.in_err-other.field-0.0 = other_stops c.args.tokens.now c.args.place c.args.depth c.in_ok-other_place.other_place c.in_ok-test.test c.in_ok-chosen.chosen _ a b c.in_ok-chosen.ensures.ok c.in_ok-other_place.ensures.ok c.in_err-other.ensures.stop in
+    search rules
+
+pub read_expression-returns-clause-ok : goal.read_expression-returns-clause-ok
+read_expression-returns-clause-ok t c =
+    let q : next_kind (drop c.in_ok-test.test.next c.args.tokens.now) ≡ kinds.Mark marks.Question = sym c.kind_at.ensures ∙ c.is_mark.ensures.yes c.if-not-is_mark.false in
+    let a = asks c.args.tokens.now c.args.place c.args.depth c.in_ok-test.test c.requires.ended c.requires.within c.in_ok-test.ensures.ok q in
+    let b : c.args.depth + c.in_ok-test.test.height < 200 = omega arith in
+    let e : syntax.Choice (phrase_of c.in_ok-new.field-0.value) (phrase_of c.in_ok-new-2.field-0.value) (phrase_of c.in_ok-new-3.field-0.value) ≡ syntax.Choice (phrase_of c.in_ok-test.test.expression) (phrase_of c.in_ok-chosen.chosen.expression) (phrase_of c.in_ok-other.other.expression) = three (ap phrase_of c.in_ok-new.ensures.ok) (ap phrase_of c.in_ok-new-2.ensures.ok) (ap phrase_of c.in_ok-new-3.ensures.ok) in
+    choice_is c.args.tokens.now c.args.place c.args.depth c.in_ok-other_place.other_place c.in_ok-test.test c.in_ok-chosen.chosen c.in_ok-other.other _ a b c.in_ok-chosen.ensures.ok c.in_ok-other_place.ensures.ok c.in_ok-other.ensures.ok e (let x = c.max.ensures in let y = c.max-2.ensures in omega arith) refl
+
+pub read_level-returns-in_err-left-clause-stop : goal.read_level-returns-in_err-left-clause-stop
+read_level-returns-in_err-left-clause-stop t c =
+    let m = c.args.level - 1 in
+    let e : suc m ≡ c.args.level = let h = c.if-level-eq0.false in omega arith in
+    let h : Stops (A (Level c.args.level) ∷ []) (drop c.args.place c.args.tokens.now) c.args.tokens.now c.args.depth 0 c.in_err-left.field-0.0 = subst (λ n. Stops (A (Level n) ∷ []) (drop c.args.place c.args.tokens.now) c.args.tokens.now c.args.depth 0 c.in_err-left.field-0.0) e (level_first m c.args.tokens.now c.args.place c.args.depth _ c.requires.within c.in_err-left.ensures.stop) in
+    search rules
+
+pub read_level-returns-clause-ok : goal.read_level-returns-clause-ok
+read_level-returns-clause-ok t c =
+    let m = c.args.level - 1 in
+    let e : suc m ≡ c.args.level = let h = c.if-level-eq0.false in omega arith in
+    map_ok c.read_behind.result (λ r b. subst (λ n. IsOperand (Level n) c.args.tokens.now c.args.place c.args.depth r) e (level_is m c.args.tokens.now c.args.place c.args.depth c.in_ok-left.left r c.requires.within c.in_ok-left.ensures.ok b)) c.read_behind.ensures.ok
+
+pub read_level-returns-clause-stop : goal.read_level-returns-clause-stop
+read_level-returns-clause-stop t c =
+    let m = c.args.level - 1 in
+    let e : suc m ≡ c.args.level = let h = c.if-level-eq0.false in omega arith in
+    map_err c.read_behind.result (λ s w. subst (λ n. Stops (A (Level n) ∷ []) (drop c.args.place c.args.tokens.now) c.args.tokens.now c.args.depth 0 s) e (level_then m c.args.tokens.now c.args.place c.args.depth c.in_ok-left.left s c.requires.within c.in_ok-left.ensures.ok w)) c.read_behind.ensures.stop
+
+pub read_more-returns-then-not-is_mark-clause-ok : goal.read_more-returns-then-not-is_mark-clause-ok
+read_more-returns-then-not-is_mark-clause-ok t c =
+    gathered c.args.before c.args.tokens.now c.args.depth c.more.all c.more.invariant (λ e. c.is_mark.ensures.no c.if-not-is_mark.true (c.kind_at.ensures ∙ e))
+
+pub read_more-read_expression-requires : goal.read_more-read_expression-requires
+read_more-read_expression-requires t c =
+    let q : next_kind (drop c.more.all.next c.args.tokens.now) ≡ kinds.Mark marks.Comma = sym c.kind_at.ensures ∙ c.is_mark.ensures.yes c.if-not-is_mark.false in
+    let o = comma_opens c.args.tokens.now c.more.all.next c.requires.ended c.more.invariant.within q in
+    let w : c.more.all.next + 1 < length c.args.tokens.now = o.passed.within in
+    let v : c.args.before.next ≤ c.more.all.next = c.more.invariant.further in
+    search rules
+
+pub read_more-returns-in_err-next-clause-stop : goal.read_more-returns-in_err-next-clause-stop
+read_more-returns-in_err-next-clause-stop t c =
+    let q : next_kind (drop c.more.all.next c.args.tokens.now) ≡ kinds.Mark marks.Comma = sym c.kind_at.ensures ∙ c.is_mark.ensures.yes c.if-not-is_mark.false in
+    let o = comma_opens c.args.tokens.now c.more.all.next c.requires.ended c.more.invariant.within q in
+    let h : Stops (A MoreExpressions ∷ []) (drop c.args.before.next c.args.tokens.now) c.args.tokens.now c.args.depth 0 c.in_err-next.field-0.0 = c.more.invariant.stops _ (next_stops c.args.tokens.now c.more.all.next c.args.depth _ o c.in_err-next.ensures.stop) in
+    search rules
+
+pub read_more-more-preserved : goal.read_more-more-preserved
+read_more-more-preserved t c =
+    let q : next_kind (drop c.more.all.next c.args.tokens.now) ≡ kinds.Mark marks.Comma = sym c.kind_at.ensures ∙ c.is_mark.ensures.yes c.if-not-is_mark.false in
+    let o = comma_opens c.args.tokens.now c.more.all.next c.requires.ended c.more.invariant.within q in
+    gathers_more c.args.before c.args.tokens.now c.args.depth c.more.all _ c.in_ok-next.next c.requires.ended c.more.invariant q c.in_ok-next.ensures.ok c.in_ok-push.ensures.items c.max.ensures refl
+
+pub read_named-returns-then-depth-ge-DEEPEST-clause-stop : goal.read_named-returns-then-depth-ge-DEEPEST-clause-stop
+read_named-returns-then-depth-ge-DEEPEST-clause-stop t c =
+    let k : next_kind (drop c.args.place c.args.tokens.now) ≡ kinds.Mark marks.OpenBracket = sym c.kind_at-kind.ensures ∙ c.is_mark.ensures.yes c.if-is_mark.true in
+    let o = bracket_opens c.args.tokens.now c.args.place c.requires.ended c.requires.within k in
+    too_deep c.args.depth o (let h = c.if-depth-ge-DEEPEST.true in omega arith)
+
+pub read_named-read_expression-requires : goal.read_named-read_expression-requires
+read_named-read_expression-requires t c =
+    let k : next_kind (drop c.args.place c.args.tokens.now) ≡ kinds.Mark marks.OpenBracket = sym c.kind_at-kind.ensures ∙ c.is_mark.ensures.yes c.if-is_mark.true in
+    let o = bracket_opens c.args.tokens.now c.args.place c.requires.ended c.requires.within k in
+    let w : c.args.place + 1 < length c.args.tokens.now = o.passed.within in
+    search rules
+
+pub read_named-returns-in_err-index-clause-stop : goal.read_named-returns-in_err-index-clause-stop
+read_named-returns-in_err-index-clause-stop t c =
+    let k : next_kind (drop c.args.place c.args.tokens.now) ≡ kinds.Mark marks.OpenBracket = sym c.kind_at-kind.ensures ∙ c.is_mark.ensures.yes c.if-is_mark.true in
+    let o = bracket_opens c.args.tokens.now c.args.place c.requires.ended c.requires.within k in
+    let h : Stops (A NameRest ∷ []) (drop c.args.place c.args.tokens.now) c.args.tokens.now c.args.depth 0 c.in_err-index.field-0.0 = enclosed_inner c.args.depth _ o c.in_err-index.ensures.stop in
+    search rules
+
+pub read_named-returns-in_err-read_mark-clause-stop : goal.read_named-returns-in_err-read_mark-clause-stop
+read_named-returns-in_err-read_mark-clause-stop t c =
+    let k : next_kind (drop c.args.place c.args.tokens.now) ≡ kinds.Mark marks.OpenBracket = sym c.kind_at-kind.ensures ∙ c.is_mark.ensures.yes c.if-is_mark.true in
+    let o = bracket_opens c.args.tokens.now c.args.place c.requires.ended c.requires.within k in
+    let a = c.in_ok-index.ensures.ok in
+    let b = a.height in let d = a.shallow in
+    let h : Stops (A NameRest ∷ []) (drop c.args.place c.args.tokens.now) c.args.tokens.now c.args.depth 0 c.in_err-read_mark.field-0.0 = enclosed_end c.args.depth _ o a.is (omega arith) a.within c.in_err-read_mark.ensures.stop in
+    search rules
+
+pub read_named-returns-then-is_mark-clause-ok : goal.read_named-returns-then-is_mark-clause-ok
+read_named-returns-then-is_mark-clause-ok t c =
+    let k : next_kind (drop c.args.place c.args.tokens.now) ≡ kinds.Mark marks.OpenBracket = sym c.kind_at-kind.ensures ∙ c.is_mark.ensures.yes c.if-is_mark.true in
+    let o = bracket_opens c.args.tokens.now c.args.place c.requires.ended c.requires.within k in
+    element_is c.args.tokens.now c.args.place c.args.depth c.args.name c.in_ok-index.index _ o c.in_ok-index.ensures.ok c.in_ok-read_mark.ensures.ok (ap (λ z. syntax.Element c.args.name (phrase_of z)) c.in_ok-new.ensures.ok) refl
+
+pub read_named-returns-then-depth-ge-DEEPEST-2-clause-stop : goal.read_named-returns-then-depth-ge-DEEPEST-2-clause-stop
+read_named-returns-then-depth-ge-DEEPEST-2-clause-stop t c =
+    let k : next_kind (drop c.args.place c.args.tokens.now) ≡ kinds.Mark marks.OpenParenthesis = sym c.kind_at-kind.ensures ∙ c.is_mark-2.ensures.yes c.if-is_mark-2.true in
+    let o = call_opens c.args.tokens.now c.args.place c.requires.ended c.requires.within k in
+    too_deep c.args.depth o (let h = c.if-depth-ge-DEEPEST-2.true in omega arith)
+
+pub read_named-read_arguments-requires : goal.read_named-read_arguments-requires
+read_named-read_arguments-requires t c =
+    let k : next_kind (drop c.args.place c.args.tokens.now) ≡ kinds.Mark marks.OpenParenthesis = sym c.kind_at-kind.ensures ∙ c.is_mark-2.ensures.yes c.if-is_mark-2.true in
+    let o = call_opens c.args.tokens.now c.args.place c.requires.ended c.requires.within k in
+    let w : c.args.place + 1 < length c.args.tokens.now = o.passed.within in
+    search rules
+
+pub read_named-returns-in_err-arguments-clause-stop : goal.read_named-returns-in_err-arguments-clause-stop
+read_named-returns-in_err-arguments-clause-stop t c =
+    let k : next_kind (drop c.args.place c.args.tokens.now) ≡ kinds.Mark marks.OpenParenthesis = sym c.kind_at-kind.ensures ∙ c.is_mark-2.ensures.yes c.if-is_mark-2.true in
+    let o = call_opens c.args.tokens.now c.args.place c.requires.ended c.requires.within k in
+    let h : Stops (A NameRest ∷ []) (drop c.args.place c.args.tokens.now) c.args.tokens.now c.args.depth 0 c.in_err-arguments.field-0.0 = enclosed_inner c.args.depth _ o c.in_err-arguments.ensures.stop in
+    search rules
+
+pub read_named-returns-in_err-read_mark-2-clause-stop : goal.read_named-returns-in_err-read_mark-2-clause-stop
+read_named-returns-in_err-read_mark-2-clause-stop t c =
+    let k : next_kind (drop c.args.place c.args.tokens.now) ≡ kinds.Mark marks.OpenParenthesis = sym c.kind_at-kind.ensures ∙ c.is_mark-2.ensures.yes c.if-is_mark-2.true in
+    let o = call_opens c.args.tokens.now c.args.place c.requires.ended c.requires.within k in
+    let a = c.in_ok-arguments.ensures.ok in
+    let b = a.height in let d = a.shallow in
+    let h : Stops (A NameRest ∷ []) (drop c.args.place c.args.tokens.now) c.args.tokens.now c.args.depth 0 c.in_err-read_mark-2.field-0.0 = enclosed_end c.args.depth _ o a.is (omega arith) a.within c.in_err-read_mark-2.ensures.stop in
+    search rules
+
+pub read_named-returns-then-is_mark-2-clause-ok : goal.read_named-returns-then-is_mark-2-clause-ok
+read_named-returns-then-is_mark-2-clause-ok t c =
+    let k : next_kind (drop c.args.place c.args.tokens.now) ≡ kinds.Mark marks.OpenParenthesis = sym c.kind_at-kind.ensures ∙ c.is_mark-2.ensures.yes c.if-is_mark-2.true in
+    let o = call_opens c.args.tokens.now c.args.place c.requires.ended c.requires.within k in
+    call_is c.args.tokens.now c.args.place c.args.depth c.args.name c.in_ok-arguments.arguments _ o c.in_ok-arguments.ensures.ok c.in_ok-read_mark-2.ensures.ok (view-Call c.args.name c.in_ok-arguments.arguments.expressions) refl
+
+pub read_named-returns-clause-ok : goal.read_named-returns-clause-ok
+read_named-returns-clause-ok t c =
+    let n1 : next_kind (drop c.args.place c.args.tokens.now) ≡ kinds.Mark marks.OpenBracket → ⊥ = λ e. c.is_mark.ensures.no c.if-is_mark.false (c.kind_at-kind.ensures ∙ e) in
+    let n2 : next_kind (drop c.args.place c.args.tokens.now) ≡ kinds.Mark marks.OpenParenthesis → ⊥ = λ e. c.is_mark-2.ensures.no c.if-is_mark-2.false (c.kind_at-kind.ensures ∙ e) in
+    use_is c.args.tokens.now c.args.place c.args.depth c.args.name _ c.requires.within c.requires.depth (no_rest (next_kind (drop c.args.place c.args.tokens.now)) n1 n2) refl refl refl
+
+pub read_primary-returns-then-depth-ge-DEEPEST-clause-stop : goal.read_primary-returns-then-depth-ge-DEEPEST-clause-stop
+read_primary-returns-then-depth-ge-DEEPEST-clause-stop t c =
+    let k : next_kind (drop c.args.place c.args.tokens.now) ≡ kinds.Mark marks.OpenParenthesis = sym c.kind_at-kind.ensures ∙ c.is_mark.ensures.yes c.if-is_mark.true in
+    let o = nested_opens c.args.tokens.now c.args.place c.requires.ended c.requires.within k in
+    too_deep c.args.depth o (omega arith)
+
+pub read_primary-read_expression-requires : goal.read_primary-read_expression-requires
+read_primary-read_expression-requires t c =
+    let k : next_kind (drop c.args.place c.args.tokens.now) ≡ kinds.Mark marks.OpenParenthesis = sym c.kind_at-kind.ensures ∙ c.is_mark.ensures.yes c.if-is_mark.true in
+    let o = nested_opens c.args.tokens.now c.args.place c.requires.ended c.requires.within k in
+    let w : c.args.place + 1 < length c.args.tokens.now = o.passed.within in
+    search rules
+
+pub read_primary-returns-in_err-inner-clause-stop : goal.read_primary-returns-in_err-inner-clause-stop
+read_primary-returns-in_err-inner-clause-stop t c =
+    let k : next_kind (drop c.args.place c.args.tokens.now) ≡ kinds.Mark marks.OpenParenthesis = sym c.kind_at-kind.ensures ∙ c.is_mark.ensures.yes c.if-is_mark.true in
+    let o = nested_opens c.args.tokens.now c.args.place c.requires.ended c.requires.within k in
+    let h : Stops (A Primary ∷ []) (drop c.args.place c.args.tokens.now) c.args.tokens.now c.args.depth 0 c.in_err-inner.field-0.0 = enclosed_inner c.args.depth _ o c.in_err-inner.ensures.stop in
+    search rules
+
+pub read_primary-returns-in_err-read_mark-clause-stop : goal.read_primary-returns-in_err-read_mark-clause-stop
+read_primary-returns-in_err-read_mark-clause-stop t c =
+    let k : next_kind (drop c.args.place c.args.tokens.now) ≡ kinds.Mark marks.OpenParenthesis = sym c.kind_at-kind.ensures ∙ c.is_mark.ensures.yes c.if-is_mark.true in
+    let o = nested_opens c.args.tokens.now c.args.place c.requires.ended c.requires.within k in
+    let a = c.in_ok-inner.ensures.ok in
+    let b = a.height in let d = a.shallow in
+    let h : Stops (A Primary ∷ []) (drop c.args.place c.args.tokens.now) c.args.tokens.now c.args.depth 0 c.in_err-read_mark.field-0.0 = enclosed_end c.args.depth _ o a.is (omega arith) a.within c.in_err-read_mark.ensures.stop in
+    search rules
+
+pub read_primary-returns-then-is_mark-clause-ok : goal.read_primary-returns-then-is_mark-clause-ok
+read_primary-returns-then-is_mark-clause-ok t c =
+    let k : next_kind (drop c.args.place c.args.tokens.now) ≡ kinds.Mark marks.OpenParenthesis = sym c.kind_at-kind.ensures ∙ c.is_mark.ensures.yes c.if-is_mark.true in
+    let o = nested_opens c.args.tokens.now c.args.place c.requires.ended c.requires.within k in
+    nested_is c.args.tokens.now c.args.place c.args.depth 0 0 c.in_ok-inner.inner _ o c.in_ok-inner.ensures.ok c.in_ok-read_mark.ensures.ok refl refl
+
+pub read_primary-returns-in-Number-clause-ok : goal.read_primary-returns-in-Number-clause-ok
+read_primary-returns-in-Number-clause-ok t c =
+    let f : FitsSigned w32 c.in-Number.value = search rules in
+    number_is c.args.tokens.now c.args.place c.args.depth c.in-Number.value _ c.requires.ended c.requires.within c.requires.depth (sym c.kind_at-kind.ensures ∙ c.in-Number.is) (ap syntax.Number (to_z-of_z w32 c.in-Number.value f)) refl refl
+
+pub read_primary-returns-in_ok-name-in-Name-clause-ok : goal.read_primary-returns-in_ok-name-in-Name-clause-ok
+read_primary-returns-in_ok-name-in-Name-clause-ok t c =
+    map_ok c.read_named.result (λ r. name_is c.args.tokens.now c.args.place c.args.depth c.in_ok-name-in-Name.name r c.requires.within c.in_ok-name-in-Name.ensures.ok) c.read_named.ensures.ok
+
+pub read_primary-returns-in_ok-name-in-Name-clause-stop : goal.read_primary-returns-in_ok-name-in-Name-clause-stop
+read_primary-returns-in_ok-name-in-Name-clause-stop t c =
+    map_err c.read_named.result (λ s. name_stops c.args.tokens.now c.args.place c.args.depth c.in_ok-name-in-Name.name s c.requires.within c.in_ok-name-in-Name.ensures.ok) c.read_named.ensures.stop
+
+pub read_primary-returns-in_default-clause-stop : goal.read_primary-returns-in_default-clause-stop
+read_primary-returns-in_default-clause-stop t c =
+    stops_no_phrase Primary c.args.tokens.now c.args.place c.args.depth c.requires.within c.requires.depth (no_primary (next_kind (drop c.args.place c.args.tokens.now)) (λ m e f. c.is_mark.ensures.no c.if-is_mark.false (c.kind_at-kind.ensures ∙ e ∙ ap kinds.Mark f)) (λ z e. c.in_default.not-Number z (c.kind_at-kind.ensures ∙ e)) (λ x e. c.in_default.not-Name x (c.kind_at-kind.ensures ∙ e)))
+
+pub read_unary-returns-then-depth-ge-DEEPEST-clause-stop : goal.read_unary-returns-then-depth-ge-DEEPEST-clause-stop
+read_unary-returns-then-depth-ge-DEEPEST-clause-stop t c =
+    let p : parts_of (Level 0) (next_kind (drop c.args.place c.args.tokens.now)) ≡ Some (phrases.The (next_kind (drop c.args.place c.args.tokens.now)) ∷ A (Level 0) ∷ []) = subst (λ z. parts_of (Level 0) z ≡ Some (phrases.The z ∷ A (Level 0) ∷ [])) c.kind_at.ensures c.in-Some.ensures.operator.1 in
+    let o = unary_opens c.args.tokens.now c.args.place c.requires.ended c.requires.within p in
+    too_deep c.args.depth o (omega arith)
+
+pub read_unary-read_unary-requires : goal.read_unary-read_unary-requires
+read_unary-read_unary-requires t c =
+    let p : parts_of (Level 0) (next_kind (drop c.args.place c.args.tokens.now)) ≡ Some (phrases.The (next_kind (drop c.args.place c.args.tokens.now)) ∷ A (Level 0) ∷ []) = subst (λ z. parts_of (Level 0) z ≡ Some (phrases.The z ∷ A (Level 0) ∷ [])) c.kind_at.ensures c.in-Some.ensures.operator.1 in
+    let o = unary_opens c.args.tokens.now c.args.place c.requires.ended c.requires.within p in
+    let w : c.args.place + 1 < length c.args.tokens.now = o.passed.within in
+    search rules
+
+pub read_unary-returns-in_err-operand-in-Some-clause-stop : goal.read_unary-returns-in_err-operand-in-Some-clause-stop
+read_unary-returns-in_err-operand-in-Some-clause-stop t c =
+    let p : parts_of (Level 0) (next_kind (drop c.args.place c.args.tokens.now)) ≡ Some (phrases.The (next_kind (drop c.args.place c.args.tokens.now)) ∷ A (Level 0) ∷ []) = subst (λ z. parts_of (Level 0) z ≡ Some (phrases.The z ∷ A (Level 0) ∷ [])) c.kind_at.ensures c.in-Some.ensures.operator.1 in
+    let o = unary_opens c.args.tokens.now c.args.place c.requires.ended c.requires.within p in
+    let h : Stops (A (Level 0) ∷ []) (drop c.args.place c.args.tokens.now) c.args.tokens.now c.args.depth 0 c.in_err-operand-in-Some.field-0.0 = stops_opened c.args.depth _ o c.in_err-operand-in-Some.ensures.stop in
+    search rules
+
+pub read_unary-returns-in_ok-new-in-Some-clause-ok : goal.read_unary-returns-in_ok-new-in-Some-clause-ok
+read_unary-returns-in_ok-new-in-Some-clause-ok t c =
+    let p : parts_of (Level 0) (next_kind (drop c.args.place c.args.tokens.now)) ≡ Some (phrases.The (next_kind (drop c.args.place c.args.tokens.now)) ∷ A (Level 0) ∷ []) = subst (λ z. parts_of (Level 0) z ≡ Some (phrases.The z ∷ A (Level 0) ∷ [])) c.kind_at.ensures c.in-Some.ensures.operator.1 in
+    let o = unary_opens c.args.tokens.now c.args.place c.requires.ended c.requires.within p in
+    let e : c.in-Some.operator ≡ unary_of (next_kind (drop c.args.place c.args.tokens.now)) = c.in-Some.ensures.operator.0 ∙ ap unary_of c.kind_at.ensures in
+    let f : syntax.Unary c.in-Some.operator (phrase_of c.in_ok-new-in-Some.field-0.value) ≡ syntax.Unary (unary_of (next_kind (drop c.args.place c.args.tokens.now))) (phrase_of c.in_ok-operand-in-Some.operand.expression) = two e (ap phrase_of c.in_ok-new-in-Some.ensures.ok) in
+    unary_is c.args.tokens.now c.args.place c.args.depth c.in_ok-operand-in-Some.operand _ o c.in_ok-operand-in-Some.ensures.ok f refl refl
+
+pub read_unary-returns-in-None-clause-ok : goal.read_unary-returns-in-None-clause-ok
+read_unary-returns-in-None-clause-ok t c =
+    let p : parts_of (Level 0) (next_kind (drop c.args.place c.args.tokens.now)) ≡ Some (A Primary ∷ []) = subst (λ z. parts_of (Level 0) z ≡ Some (A Primary ∷ [])) c.kind_at.ensures c.in-None.ensures.primary in
+    map_ok c.read_primary.result (λ r. primary_is c.args.tokens.now c.args.place c.args.depth r c.requires.within p) c.read_primary.ensures.ok
+
+pub read_unary-returns-in-None-clause-stop : goal.read_unary-returns-in-None-clause-stop
+read_unary-returns-in-None-clause-stop t c =
+    let p : parts_of (Level 0) (next_kind (drop c.args.place c.args.tokens.now)) ≡ Some (A Primary ∷ []) = subst (λ z. parts_of (Level 0) z ≡ Some (A Primary ∷ [])) c.kind_at.ensures c.in-None.ensures.primary in
+    map_err c.read_primary.result (λ s. primary_stops c.args.tokens.now c.args.place c.args.depth s c.requires.within p) c.read_primary.ensures.stop

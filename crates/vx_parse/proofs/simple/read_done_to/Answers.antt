@@ -1,0 +1,45 @@
+use Rattle.std.proofs.Common.{◌≡◌, [], ◌∷◌, drop, refl, subst, rules}
+use Rattle.vx_ast.specs.declared.syntax.Simple.TheVariants as simples
+use Rattle.vx_ast.specs.Phrases as phrases
+use Rattle.vx_ast.specs.Phrases.{SimpleRest, ItemValue, MoreItems, Level, The, A, mark, simple_rest, parts_of}
+use Rattle.vx_parse.specs.Choices.{FollowedBy}
+use Rattle.vx_parse.specs.declared.choice.Following.TheVariants as following
+use Rattle.vx_parse.specs.Reading.{next_kind, Stops}
+use Rattle.vx_parse.proofs.Parts.{within_phrase}
+use Rattle.vx_parse.proofs.Simples.{rest_passed, value_rest, step_behind, value_behind, nothing_behind}
+use Rattle.vx_parse.proofs.simple.read_done_to.Goals as goal
+
+pub read_expression-requires-clause-within : goal.read_expression-requires-clause-within
+read_expression-requires-clause-within c =
+    let w : FollowedBy following.Value c.kind_at-kind.result.now = subst (λ z. FollowedBy z c.kind_at-kind.result.now) c.in-Value.is c.what_follows.ensures in
+    let s : simple_rest (next_kind (drop c.args.place c.args.tokens.now)) ≡ The (next_kind (drop c.args.place c.args.tokens.now)) ∷ A phrases.Expression ∷ [] = subst (λ z. FollowedBy following.Value z) c.kind_at-kind.ensures w in
+    (rest_passed c.args.tokens.now c.args.place (A phrases.Expression ∷ []) c.requires.ended c.requires.within s).within
+
+pub returns-in_err-value-in-Value-clause-stop : goal.returns-in_err-value-in-Value-clause-stop
+returns-in_err-value-in-Value-clause-stop c =
+    let w : FollowedBy following.Value c.kind_at-kind.result.now = subst (λ z. FollowedBy z c.kind_at-kind.result.now) c.in-Value.is c.what_follows.ensures in
+    let s : simple_rest (next_kind (drop c.args.place c.args.tokens.now)) ≡ The (next_kind (drop c.args.place c.args.tokens.now)) ∷ A phrases.Expression ∷ [] = subst (λ z. FollowedBy following.Value z) c.kind_at-kind.ensures w in
+    let p = rest_passed c.args.tokens.now c.args.place (A phrases.Expression ∷ []) c.requires.ended c.requires.within s in
+    let b = value_rest c.args.tokens.now c.args.place c.args.depth p c.requires.within c.requires.depth s in
+    let h : Stops (A SimpleRest ∷ []) (drop c.args.place c.args.tokens.now) c.args.tokens.now c.args.depth 0 c.in_err-value-in-Value.field-0.0 = within_phrase b c.in_err-value-in-Value.field-0.0 c.in_err-value-in-Value.ensures.stop in
+    search rules
+
+pub returns-in-Step-clause-ok : goal.returns-in-Step-clause-ok
+returns-in-Step-clause-ok c =
+    let w : FollowedBy following.Step c.kind_at-kind.result.now = subst (λ z. FollowedBy z c.kind_at-kind.result.now) c.in-Step.is c.what_follows.ensures in
+    let s : simple_rest (next_kind (drop c.args.place c.args.tokens.now)) ≡ The (next_kind (drop c.args.place c.args.tokens.now)) ∷ [] = subst (λ z. FollowedBy following.Step z) c.kind_at-kind.ensures w in
+    let p = rest_passed c.args.tokens.now c.args.place [] c.requires.ended c.requires.within s in
+    step_behind c.args.tokens.now c.args.place c.args.depth _ _ _ p c.requires.within c.requires.depth s c.kind_at-kind.ensures c.step.ensures
+
+pub returns-in_ok-value-in-Value-clause-ok : goal.returns-in_ok-value-in-Value-clause-ok
+returns-in_ok-value-in-Value-clause-ok c =
+    let w : FollowedBy following.Value c.kind_at-kind.result.now = subst (λ z. FollowedBy z c.kind_at-kind.result.now) c.in-Value.is c.what_follows.ensures in
+    let s : simple_rest (next_kind (drop c.args.place c.args.tokens.now)) ≡ The (next_kind (drop c.args.place c.args.tokens.now)) ∷ A phrases.Expression ∷ [] = subst (λ z. FollowedBy following.Value z) c.kind_at-kind.ensures w in
+    let p = rest_passed c.args.tokens.now c.args.place (A phrases.Expression ∷ []) c.requires.ended c.requires.within s in
+    value_behind c.args.tokens.now c.args.place c.args.depth c.in_ok-value-in-Value.value _ _ _ p c.requires.within c.requires.depth s c.in_ok-value-in-Value.ensures.ok c.kind_at-kind.ensures c.assign.ensures
+
+pub returns-in-Nothing-clause-ok : goal.returns-in-Nothing-clause-ok
+returns-in-Nothing-clause-ok c =
+    let w : FollowedBy following.Nothing c.kind_at-kind.result.now = subst (λ z. FollowedBy z c.kind_at-kind.result.now) c.in-Nothing.is c.what_follows.ensures in
+    let s : simple_rest (next_kind (drop c.args.place c.args.tokens.now)) ≡ [] = subst (λ z. FollowedBy following.Nothing z) c.kind_at-kind.ensures w in
+    nothing_behind c.args.tokens.now c.args.place c.args.depth _ (simples.Evaluate c.args.target.expression) c.requires.within c.requires.depth s refl

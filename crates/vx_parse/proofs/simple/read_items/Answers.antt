@@ -1,0 +1,24 @@
+use Rattle.std.proofs.Common.{◌≡◌, [], ◌∷◌, ◌++◌, drop, refl, ap, ◌∙◌, rules}
+use Rattle.vx_ast.specs.Phrases as phrases
+use Rattle.vx_ast.specs.Phrases.{SimpleRest, ItemValue, MoreItems, Level, The, A, mark, simple_rest, parts_of}
+use Rattle.vx_parse.specs.Reading.{Stops}
+use Rattle.vx_parse.proofs.Expressions.{map_ok, map_err}
+use Rattle.vx_parse.proofs.Parts.{past_phrase, within_phrase}
+use Rattle.vx_parse.proofs.Simples.{items_start, items_are}
+use Rattle.vx_parse.proofs.simple.read_items.Goals as goal
+
+pub returns-in_err-first-clause-stop : goal.returns-in_err-first-clause-stop
+returns-in_err-first-clause-stop c =
+    let b = items_start c.args.tokens.now c.args.place c.args.depth c.requires.within c.requires.depth in
+    let h : Stops (A phrases.Item ∷ A MoreItems ∷ []) (drop c.args.place c.args.tokens.now) c.args.tokens.now c.args.depth 0 c.in_err-first.field-0.0 = within_phrase b c.in_err-first.field-0.0 c.in_err-first.ensures.stop in
+    search rules
+
+pub returns-clause-ok : goal.returns-clause-ok
+returns-clause-ok c =
+    let items : c.push.new.self.items ≡ c.in_ok-first.first.item ∷ [] = c.in_ok-push.ensures.items ∙ ap (λ l. l ++ (c.in_ok-first.first.item ∷ [])) c.new-items.ensures.items in
+    map_ok c.read_more_items.result (λ r w. items_are c.args.tokens.now c.args.place c.args.depth c.in_ok-first.first _ r c.requires.within c.requires.depth c.in_ok-first.ensures.ok items refl w) c.read_more_items.ensures.ok
+
+pub returns-clause-stop : goal.returns-clause-stop
+returns-clause-stop c =
+    let b = past_phrase (items_start c.args.tokens.now c.args.place c.args.depth c.requires.within c.requires.depth) c.in_ok-first.ensures.ok.parted in
+    map_err c.read_more_items.result (λ s w. within_phrase b s w) c.read_more_items.ensures.stop

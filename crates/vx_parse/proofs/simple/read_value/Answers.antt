@@ -1,0 +1,62 @@
+use Rattle.std.proofs.Common.{◌≡◌, [], ◌∷◌, drop, refl, sym, ◌∙◌, rules}
+use Rattle.vx_ast.specs.declared.token.Mark.TheVariants as marks
+use Rattle.vx_ast.specs.declared.token.TokenKind.TheVariants as kinds
+use Rattle.vx_ast.specs.declared.syntax.Item.TheVariants as items
+use Rattle.vx_ast.specs.Phrases.{ItemValue, A}
+use Rattle.vx_parse.specs.Reading.{next_kind, Stops}
+use Rattle.vx_parse.proofs.Tokens.{passes_mark}
+use Rattle.vx_parse.proofs.Parts.{past_token, within_phrase, misfit, misfit_number}
+use Rattle.vx_parse.proofs.Simples.{no_value_parts, equal_before, bracket_before, valued_is, sized_is, scalar_is}
+use Rattle.vx_parse.proofs.simple.read_value.Goals as goal
+
+pub read_expression-requires-clause-within : goal.read_expression-requires-clause-within
+read_expression-requires-clause-within c =
+    let e : next_kind (drop c.args.place c.args.tokens.now) ≡ kinds.Mark marks.Equal = sym c.kind_at-kind.ensures ∙ c.is_mark.ensures.yes c.if-is_mark.true in
+    (passes_mark c.args.tokens.now c.args.place marks.Equal c.requires.ended c.requires.within e).within
+
+pub returns-in_err-value-clause-stop : goal.returns-in_err-value-clause-stop
+returns-in_err-value-clause-stop c =
+    let e : next_kind (drop c.args.place c.args.tokens.now) ≡ kinds.Mark marks.Equal = sym c.kind_at-kind.ensures ∙ c.is_mark.ensures.yes c.if-is_mark.true in
+    let p = passes_mark c.args.tokens.now c.args.place marks.Equal c.requires.ended c.requires.within e in
+    let b = equal_before c.args.tokens.now c.args.place c.args.depth p c.requires.within c.requires.depth e in
+    let h : Stops (A ItemValue ∷ []) (drop c.args.place c.args.tokens.now) c.args.tokens.now c.args.depth 0 c.in_err-value.field-0.0 = within_phrase b c.in_err-value.field-0.0 c.in_err-value.ensures.stop in
+    search rules
+
+pub returns-then-is_mark-clause-ok : goal.returns-then-is_mark-clause-ok
+returns-then-is_mark-clause-ok c =
+    let e : next_kind (drop c.args.place c.args.tokens.now) ≡ kinds.Mark marks.Equal = sym c.kind_at-kind.ensures ∙ c.is_mark.ensures.yes c.if-is_mark.true in
+    let p = passes_mark c.args.tokens.now c.args.place marks.Equal c.requires.ended c.requires.within e in
+    valued_is c.args.tokens.now c.args.place c.args.depth c.args.name c.in_ok-value.value (items.ScalarWith c.args.name c.in_ok-value.value.expression) p c.requires.within c.requires.depth e c.in_ok-value.ensures.ok refl
+
+pub read_size-requires-clause-within : goal.read_size-requires-clause-within
+read_size-requires-clause-within c =
+    let e : next_kind (drop c.args.place c.args.tokens.now) ≡ kinds.Mark marks.OpenBracket = sym c.kind_at-kind.ensures ∙ c.is_mark-2.ensures.yes c.if-is_mark-2.true in
+    (passes_mark c.args.tokens.now c.args.place marks.OpenBracket c.requires.ended c.requires.within e).within
+
+pub returns-in_err-size-clause-stop : goal.returns-in_err-size-clause-stop
+returns-in_err-size-clause-stop c =
+    let e : next_kind (drop c.args.place c.args.tokens.now) ≡ kinds.Mark marks.OpenBracket = sym c.kind_at-kind.ensures ∙ c.is_mark-2.ensures.yes c.if-is_mark-2.true in
+    let p = passes_mark c.args.tokens.now c.args.place marks.OpenBracket c.requires.ended c.requires.within e in
+    let b = bracket_before c.args.tokens.now c.args.place c.args.depth p c.requires.within c.requires.depth e in
+    let h : Stops (A ItemValue ∷ []) (drop c.args.place c.args.tokens.now) c.args.tokens.now c.args.depth 0 c.in_err-size.field-0.0 = misfit_number b c.in_err-size.field-0.0 c.in_err-size.ensures.stop in
+    search rules
+
+pub returns-in_err-read_mark-clause-stop : goal.returns-in_err-read_mark-clause-stop
+returns-in_err-read_mark-clause-stop c =
+    let e : next_kind (drop c.args.place c.args.tokens.now) ≡ kinds.Mark marks.OpenBracket = sym c.kind_at-kind.ensures ∙ c.is_mark-2.ensures.yes c.if-is_mark-2.true in
+    let p = passes_mark c.args.tokens.now c.args.place marks.OpenBracket c.requires.ended c.requires.within e in
+    let b = past_token (bracket_before c.args.tokens.now c.args.place c.args.depth p c.requires.within c.requires.depth e) c.in_ok-size.ensures.ok.passed in
+    let h : Stops (A ItemValue ∷ []) (drop c.args.place c.args.tokens.now) c.args.tokens.now c.args.depth 0 c.in_err-read_mark.field-0.0 = misfit b c.in_err-read_mark.field-0.0 c.in_err-read_mark.ensures.stop in
+    search rules
+
+pub returns-then-is_mark-2-clause-ok : goal.returns-then-is_mark-2-clause-ok
+returns-then-is_mark-2-clause-ok c =
+    let e : next_kind (drop c.args.place c.args.tokens.now) ≡ kinds.Mark marks.OpenBracket = sym c.kind_at-kind.ensures ∙ c.is_mark-2.ensures.yes c.if-is_mark-2.true in
+    let p = passes_mark c.args.tokens.now c.args.place marks.OpenBracket c.requires.ended c.requires.within e in
+    sized_is c.args.tokens.now c.args.place c.args.depth _ c.args.name c.in_ok-size.size (items.Array c.args.name c.in_ok-size.size.size) p c.requires.within c.requires.depth e c.in_ok-size.ensures.ok c.in_ok-read_mark.ensures.ok refl
+
+pub returns-clause-ok : goal.returns-clause-ok
+returns-clause-ok c =
+    let n1 : next_kind (drop c.args.place c.args.tokens.now) ≡ kinds.Mark marks.Equal → ⊥ = λ e. c.is_mark.ensures.no c.if-is_mark.false (c.kind_at-kind.ensures ∙ e) in
+    let n2 : next_kind (drop c.args.place c.args.tokens.now) ≡ kinds.Mark marks.OpenBracket → ⊥ = λ e. c.is_mark-2.ensures.no c.if-is_mark-2.false (c.kind_at-kind.ensures ∙ e) in
+    scalar_is c.args.tokens.now c.args.place c.args.depth c.args.name (items.Scalar c.args.name) c.requires.within c.requires.depth (no_value_parts (next_kind (drop c.args.place c.args.tokens.now)) n1 n2) refl

@@ -1,0 +1,288 @@
+use Rattle.std.proofs.Common.{◌≡◌, ◌<◌, ◌+◌, ◌++◌, false, [], ◌∷◌, length, drop, Some, refl, sym, ap, ◌∙◌, subst, arith, rules}
+use Rattle.vx_ast.specs.Syntax as syntax
+use Rattle.vx_ast.specs.declared.token.Keyword.TheVariants as words
+use Rattle.vx_ast.specs.declared.token.Mark.TheVariants as marks
+use Rattle.vx_ast.specs.declared.token.TokenKind.TheVariants as kinds
+use Rattle.vx_ast.specs.declared.syntax.Statement as statements
+use Rattle.vx_ast.specs.SyntaxView as view
+use Rattle.vx_ast.specs.Phrases as phrases
+use Rattle.vx_ast.specs.Phrases.{ElsePart, MoreItems, OptionalExpression, OptionalSimple, Print, Block, Items, The, A, AName, mark, word, parts_of}
+use Rattle.vx_parse.specs.Choices.{begins_simple}
+use Rattle.vx_parse.specs.Reading.{next_kind, Stops}
+use Rattle.vx_parse.specs.Statements.{Test, Head, MeansAll, if_with}
+use Rattle.vx_parse.proofs.Tokens.{passes_word}
+use Rattle.vx_parse.proofs.Steps.{too_deep}
+use Rattle.vx_parse.proofs.Expressions.{map_ok, map_err}
+use Rattle.vx_parse.proofs.Parts.{past_token, past_phrase, past_row, within_phrase, within_row, misfit}
+use Rattle.vx_parse.proofs.Loops.{continues_end, Gathers, gathers_none, gathers_next}
+use Rattle.vx_parse.proofs.Views.{view-Block}
+use Rattle.vx_parse.proofs.Begun.{no_statement}
+use Rattle.vx_parse.proofs.Statements.{statement_before, word_opens, if_word, while_word, do_word, for_word, while_is, if_is, do_is, for_is, for_from}
+use Rattle.vx_parse.proofs.Blocks.{else_before, else_is, no_else, block_stops, block_is, block_misfit, block_opens, block_before, braces_are, entry_before, entry_is, no_entries}
+use Rattle.vx_parse.proofs.statement.+statements.Goals as goal
+
+pub read_inner_block-returns-in_err-block-clause-stop : goal.read_inner_block-returns-in_err-block-clause-stop
+read_inner_block-returns-in_err-block-clause-stop t c =
+    let h : Stops (A phrases.Statement ∷ []) (drop c.args.place c.args.tokens.now) c.args.tokens.now c.args.depth 0 c.in_err-block.field-0.0 = block_stops c.args.tokens.now c.args.place c.args.depth c.in_err-block.field-0.0 c.requires.within c.requires.here c.in_err-block.ensures.stop in
+    search rules
+
+pub read_inner_block-returns-clause-ok : goal.read_inner_block-returns-clause-ok
+read_inner_block-returns-clause-ok t c =
+    block_is c.args.tokens.now c.args.place c.args.depth _ c.in_ok-block.block.statements.items (statements.Block c.in_ok-block.block.statements) c.requires.within c.requires.here c.in_ok-block.ensures.ok (view-Block c.in_ok-block.block.statements)
+
+pub read_body-returns-clause-ok : goal.read_body-returns-clause-ok
+read_body-returns-clause-ok t c =
+    let a = c.in_ok-statement.ensures.ok in
+    record { derivation = a.derivation; parted = a.parted; means = a.means ∙ ap view.code_of (sym c.in_ok-boxed.ensures.ok); further = a.further }
+
+pub read_else-returns-then-not-is_word-clause-ok : goal.read_else-returns-then-not-is_word-clause-ok
+read_else-returns-then-not-is_word-clause-ok t c =
+    no_else c.args.tokens.now c.args.place c.args.depth c.requires.within c.requires.depth (λ e. c.is_word.ensures.no c.if-not-is_word.true (c.kind_at.ensures ∙ e))
+
+pub read_else-read_body-requires : goal.read_else-read_body-requires
+read_else-read_body-requires t c =
+    let e : next_kind (drop c.args.place c.args.tokens.now) ≡ kinds.Keyword words.Else = sym c.kind_at.ensures ∙ c.is_word.ensures.yes c.if-not-is_word.false in
+    let w : c.args.place + 1 < length c.args.tokens.now = (passes_word c.args.tokens.now c.args.place words.Else c.requires.ended c.requires.within e).within in
+    search rules
+
+pub read_else-returns-in_err-other-clause-stop : goal.read_else-returns-in_err-other-clause-stop
+read_else-returns-in_err-other-clause-stop t c =
+    let e : next_kind (drop c.args.place c.args.tokens.now) ≡ kinds.Keyword words.Else = sym c.kind_at.ensures ∙ c.is_word.ensures.yes c.if-not-is_word.false in
+    let p = passes_word c.args.tokens.now c.args.place words.Else c.requires.ended c.requires.within e in
+    let b = else_before c.args.tokens.now c.args.place c.args.depth p c.requires.within c.requires.depth e in
+    let h : Stops (A ElsePart ∷ []) (drop c.args.place c.args.tokens.now) c.args.tokens.now c.args.depth 0 c.in_err-other.field-0.0 = within_phrase b c.in_err-other.field-0.0 c.in_err-other.ensures.stop in
+    search rules
+
+pub read_else-returns-clause-ok : goal.read_else-returns-clause-ok
+read_else-returns-clause-ok t c =
+    let e : next_kind (drop c.args.place c.args.tokens.now) ≡ kinds.Keyword words.Else = sym c.kind_at.ensures ∙ c.is_word.ensures.yes c.if-not-is_word.false in
+    let p = passes_word c.args.tokens.now c.args.place words.Else c.requires.ended c.requires.within e in
+    else_is c.args.tokens.now c.args.place c.args.depth _ c.in_ok-other.other p c.requires.within c.requires.depth e c.in_ok-other.ensures.ok
+
+pub read_if-returns-then-depth-ge-DEEPEST-clause-stop : goal.read_if-returns-then-depth-ge-DEEPEST-clause-stop
+read_if-returns-then-depth-ge-DEEPEST-clause-stop t c =
+    let o = word_opens words.If (Test ++ (A phrases.Statement ∷ A ElsePart ∷ [])) c.args.tokens.now c.args.place if_word c.requires.ended c.requires.within c.requires.here in
+    too_deep c.args.depth o (let x = c.if-depth-ge-DEEPEST.true in omega arith)
+
+pub read_if-read_test-requires-clause-within : goal.read_if-read_test-requires-clause-within
+read_if-read_test-requires-clause-within t c =
+    (passes_word c.args.tokens.now c.args.place words.If c.requires.ended c.requires.within c.requires.here).within
+
+pub read_if-returns-in_err-test-clause-stop : goal.read_if-returns-in_err-test-clause-stop
+read_if-returns-in_err-test-clause-stop t c =
+    let l : c.args.depth < 200 = let x = c.if-depth-ge-DEEPEST.false in omega arith in
+    let o = word_opens words.If (Test ++ (A phrases.Statement ∷ A ElsePart ∷ [])) c.args.tokens.now c.args.place if_word c.requires.ended c.requires.within c.requires.here in
+    let b0 = statement_before c.args.depth o refl l in
+    let h : Stops (A phrases.Statement ∷ []) (drop c.args.place c.args.tokens.now) c.args.tokens.now c.args.depth 0 c.in_err-test.field-0.0 = within_row Test (A phrases.Statement ∷ A ElsePart ∷ []) b0 c.in_err-test.field-0.0 c.in_err-test.ensures.stop in
+    search rules
+
+pub read_if-returns-in_err-chosen-clause-stop : goal.read_if-returns-in_err-chosen-clause-stop
+read_if-returns-in_err-chosen-clause-stop t c =
+    let l : c.args.depth < 200 = let x = c.if-depth-ge-DEEPEST.false in omega arith in
+    let o = word_opens words.If (Test ++ (A phrases.Statement ∷ A ElsePart ∷ [])) c.args.tokens.now c.args.place if_word c.requires.ended c.requires.within c.requires.here in
+    let b0 = statement_before c.args.depth o refl l in
+    let b1 = past_row Test (A phrases.Statement ∷ A ElsePart ∷ []) refl b0 c.in_ok-test.ensures.ok.parted in
+    let h : Stops (A phrases.Statement ∷ []) (drop c.args.place c.args.tokens.now) c.args.tokens.now c.args.depth 0 c.in_err-chosen.field-0.0 = within_phrase b1 c.in_err-chosen.field-0.0 c.in_err-chosen.ensures.stop in
+    search rules
+
+pub read_if-returns-in_err-other-clause-stop : goal.read_if-returns-in_err-other-clause-stop
+read_if-returns-in_err-other-clause-stop t c =
+    let l : c.args.depth < 200 = let x = c.if-depth-ge-DEEPEST.false in omega arith in
+    let o = word_opens words.If (Test ++ (A phrases.Statement ∷ A ElsePart ∷ [])) c.args.tokens.now c.args.place if_word c.requires.ended c.requires.within c.requires.here in
+    let b0 = statement_before c.args.depth o refl l in
+    let b1 = past_row Test (A phrases.Statement ∷ A ElsePart ∷ []) refl b0 c.in_ok-test.ensures.ok.parted in
+    let b2 = past_phrase b1 c.in_ok-chosen.ensures.ok.parted in
+    let h : Stops (A phrases.Statement ∷ []) (drop c.args.place c.args.tokens.now) c.args.tokens.now c.args.depth 0 c.in_err-other.field-0.0 = within_phrase b2 c.in_err-other.field-0.0 c.in_err-other.ensures.stop in
+    search rules
+
+pub read_if-returns-clause-ok : goal.read_if-returns-clause-ok
+read_if-returns-clause-ok t c =
+    let l : c.args.depth < 200 = let x = c.if-depth-ge-DEEPEST.false in omega arith in
+    let o = word_opens words.If (Test ++ (A phrases.Statement ∷ A ElsePart ∷ [])) c.args.tokens.now c.args.place if_word c.requires.ended c.requires.within c.requires.here in
+    if_is c.args.tokens.now c.args.place c.args.depth _ _ c.in_ok-test.test c.in_ok-chosen.chosen.body.value c.in_ok-other.other.other c.if_of.result o l c.in_ok-test.ensures.ok c.in_ok-chosen.ensures.ok c.in_ok-other.ensures.ok (c.if_of.ensures ∙ ap (λ z. if_with (view.phrase_of z) (view.code_of c.in_ok-chosen.chosen.body.value) c.in_ok-other.other.other) c.into_inner.ensures)
+
+pub read_while-returns-then-depth-ge-DEEPEST-clause-stop : goal.read_while-returns-then-depth-ge-DEEPEST-clause-stop
+read_while-returns-then-depth-ge-DEEPEST-clause-stop t c =
+    let o = word_opens words.While (Test ++ (A phrases.Statement ∷ [])) c.args.tokens.now c.args.place while_word c.requires.ended c.requires.within c.requires.here in
+    too_deep c.args.depth o (let x = c.if-depth-ge-DEEPEST.true in omega arith)
+
+pub read_while-read_test-requires-clause-within : goal.read_while-read_test-requires-clause-within
+read_while-read_test-requires-clause-within t c =
+    (passes_word c.args.tokens.now c.args.place words.While c.requires.ended c.requires.within c.requires.here).within
+
+pub read_while-returns-in_err-test-clause-stop : goal.read_while-returns-in_err-test-clause-stop
+read_while-returns-in_err-test-clause-stop t c =
+    let l : c.args.depth < 200 = let x = c.if-depth-ge-DEEPEST.false in omega arith in
+    let o = word_opens words.While (Test ++ (A phrases.Statement ∷ [])) c.args.tokens.now c.args.place while_word c.requires.ended c.requires.within c.requires.here in
+    let b0 = statement_before c.args.depth o refl l in
+    let h : Stops (A phrases.Statement ∷ []) (drop c.args.place c.args.tokens.now) c.args.tokens.now c.args.depth 0 c.in_err-test.field-0.0 = within_row Test (A phrases.Statement ∷ []) b0 c.in_err-test.field-0.0 c.in_err-test.ensures.stop in
+    search rules
+
+pub read_while-returns-in_err-body-clause-stop : goal.read_while-returns-in_err-body-clause-stop
+read_while-returns-in_err-body-clause-stop t c =
+    let l : c.args.depth < 200 = let x = c.if-depth-ge-DEEPEST.false in omega arith in
+    let o = word_opens words.While (Test ++ (A phrases.Statement ∷ [])) c.args.tokens.now c.args.place while_word c.requires.ended c.requires.within c.requires.here in
+    let b0 = statement_before c.args.depth o refl l in
+    let b1 = past_row Test (A phrases.Statement ∷ []) refl b0 c.in_ok-test.ensures.ok.parted in
+    let h : Stops (A phrases.Statement ∷ []) (drop c.args.place c.args.tokens.now) c.args.tokens.now c.args.depth 0 c.in_err-body.field-0.0 = within_phrase b1 c.in_err-body.field-0.0 c.in_err-body.ensures.stop in
+    search rules
+
+pub read_while-returns-clause-ok : goal.read_while-returns-clause-ok
+read_while-returns-clause-ok t c =
+    let l : c.args.depth < 200 = let x = c.if-depth-ge-DEEPEST.false in omega arith in
+    let o = word_opens words.While (Test ++ (A phrases.Statement ∷ [])) c.args.tokens.now c.args.place while_word c.requires.ended c.requires.within c.requires.here in
+    while_is c.args.tokens.now c.args.place c.args.depth _ c.in_ok-test.test c.in_ok-body.body.body.value (statements.While c.into_inner.result c.in_ok-body.body.body) o l c.in_ok-test.ensures.ok c.in_ok-body.ensures.ok (ap (λ z. syntax.While (view.phrase_of z) (view.code_of c.in_ok-body.body.body.value)) c.into_inner.ensures)
+
+pub read_do-returns-then-depth-ge-DEEPEST-clause-stop : goal.read_do-returns-then-depth-ge-DEEPEST-clause-stop
+read_do-returns-then-depth-ge-DEEPEST-clause-stop t c =
+    let o = word_opens words.Do (A phrases.Statement ∷ word words.While ∷ (Test ++ (mark marks.Semicolon ∷ []))) c.args.tokens.now c.args.place do_word c.requires.ended c.requires.within c.requires.here in
+    too_deep c.args.depth o (let x = c.if-depth-ge-DEEPEST.true in omega arith)
+
+pub read_do-read_body-requires : goal.read_do-read_body-requires
+read_do-read_body-requires t c =
+    let w : c.args.place + 1 < length c.args.tokens.now = (passes_word c.args.tokens.now c.args.place words.Do c.requires.ended c.requires.within c.requires.here).within in
+    let x = c.if-depth-ge-DEEPEST.false in
+    search rules
+
+pub read_do-returns-in_err-body-clause-stop : goal.read_do-returns-in_err-body-clause-stop
+read_do-returns-in_err-body-clause-stop t c =
+    let l : c.args.depth < 200 = let x = c.if-depth-ge-DEEPEST.false in omega arith in
+    let o = word_opens words.Do (A phrases.Statement ∷ word words.While ∷ (Test ++ (mark marks.Semicolon ∷ []))) c.args.tokens.now c.args.place do_word c.requires.ended c.requires.within c.requires.here in
+    let b0 = statement_before c.args.depth o refl l in
+    let h : Stops (A phrases.Statement ∷ []) (drop c.args.place c.args.tokens.now) c.args.tokens.now c.args.depth 0 c.in_err-body.field-0.0 = within_phrase b0 c.in_err-body.field-0.0 c.in_err-body.ensures.stop in
+    search rules
+
+pub read_do-returns-in_err-test_place-clause-stop : goal.read_do-returns-in_err-test_place-clause-stop
+read_do-returns-in_err-test_place-clause-stop t c =
+    let l : c.args.depth < 200 = let x = c.if-depth-ge-DEEPEST.false in omega arith in
+    let o = word_opens words.Do (A phrases.Statement ∷ word words.While ∷ (Test ++ (mark marks.Semicolon ∷ []))) c.args.tokens.now c.args.place do_word c.requires.ended c.requires.within c.requires.here in
+    let b0 = statement_before c.args.depth o refl l in
+    let b1 = past_phrase b0 c.in_ok-body.ensures.ok.parted in
+    let h : Stops (A phrases.Statement ∷ []) (drop c.args.place c.args.tokens.now) c.args.tokens.now c.args.depth 0 c.in_err-test_place.field-0.0 = misfit b1 c.in_err-test_place.field-0.0 c.in_err-test_place.ensures.stop in
+    search rules
+
+pub read_do-returns-in_err-test-clause-stop : goal.read_do-returns-in_err-test-clause-stop
+read_do-returns-in_err-test-clause-stop t c =
+    let l : c.args.depth < 200 = let x = c.if-depth-ge-DEEPEST.false in omega arith in
+    let o = word_opens words.Do (A phrases.Statement ∷ word words.While ∷ (Test ++ (mark marks.Semicolon ∷ []))) c.args.tokens.now c.args.place do_word c.requires.ended c.requires.within c.requires.here in
+    let b0 = statement_before c.args.depth o refl l in
+    let b1 = past_phrase b0 c.in_ok-body.ensures.ok.parted in
+    let b2 = past_token b1 c.in_ok-test_place.ensures.ok in
+    let h : Stops (A phrases.Statement ∷ []) (drop c.args.place c.args.tokens.now) c.args.tokens.now c.args.depth 0 c.in_err-test.field-0.0 = within_row Test (mark marks.Semicolon ∷ []) b2 c.in_err-test.field-0.0 c.in_err-test.ensures.stop in
+    search rules
+
+pub read_do-returns-in_err-next-clause-stop : goal.read_do-returns-in_err-next-clause-stop
+read_do-returns-in_err-next-clause-stop t c =
+    let l : c.args.depth < 200 = let x = c.if-depth-ge-DEEPEST.false in omega arith in
+    let o = word_opens words.Do (A phrases.Statement ∷ word words.While ∷ (Test ++ (mark marks.Semicolon ∷ []))) c.args.tokens.now c.args.place do_word c.requires.ended c.requires.within c.requires.here in
+    let b0 = statement_before c.args.depth o refl l in
+    let b1 = past_phrase b0 c.in_ok-body.ensures.ok.parted in
+    let b2 = past_token b1 c.in_ok-test_place.ensures.ok in
+    let b3 = past_row Test (mark marks.Semicolon ∷ []) refl b2 c.in_ok-test.ensures.ok.parted in
+    let h : Stops (A phrases.Statement ∷ []) (drop c.args.place c.args.tokens.now) c.args.tokens.now c.args.depth 0 c.in_err-next.field-0.0 = misfit b3 c.in_err-next.field-0.0 c.in_err-next.ensures.stop in
+    search rules
+
+pub read_do-returns-clause-ok : goal.read_do-returns-clause-ok
+read_do-returns-clause-ok t c =
+    let l : c.args.depth < 200 = let x = c.if-depth-ge-DEEPEST.false in omega arith in
+    let o = word_opens words.Do (A phrases.Statement ∷ word words.While ∷ (Test ++ (mark marks.Semicolon ∷ []))) c.args.tokens.now c.args.place do_word c.requires.ended c.requires.within c.requires.here in
+    do_is c.args.tokens.now c.args.place c.args.depth _ _ _ c.in_ok-body.body.body.value c.in_ok-test.test (statements.DoWhile c.in_ok-body.body.body c.into_inner.result) o l c.in_ok-body.ensures.ok c.in_ok-test_place.ensures.ok c.in_ok-test.ensures.ok c.in_ok-next.ensures.ok (ap (λ z. syntax.DoWhile (view.code_of c.in_ok-body.body.body.value) (view.phrase_of z)) c.into_inner.ensures)
+
+pub read_for-returns-then-depth-ge-DEEPEST-clause-stop : goal.read_for-returns-then-depth-ge-DEEPEST-clause-stop
+read_for-returns-then-depth-ge-DEEPEST-clause-stop t c =
+    let o = word_opens words.For (Head ++ (A phrases.Statement ∷ [])) c.args.tokens.now c.args.place for_word c.requires.ended c.requires.within c.requires.here in
+    too_deep c.args.depth o (let x = c.if-depth-ge-DEEPEST.true in omega arith)
+
+pub read_for-read_head-requires-clause-within : goal.read_for-read_head-requires-clause-within
+read_for-read_head-requires-clause-within t c =
+    (passes_word c.args.tokens.now c.args.place words.For c.requires.ended c.requires.within c.requires.here).within
+
+pub read_for-returns-in_err-head-clause-stop : goal.read_for-returns-in_err-head-clause-stop
+read_for-returns-in_err-head-clause-stop t c =
+    let l : c.args.depth < 200 = let x = c.if-depth-ge-DEEPEST.false in omega arith in
+    let o = word_opens words.For (Head ++ (A phrases.Statement ∷ [])) c.args.tokens.now c.args.place for_word c.requires.ended c.requires.within c.requires.here in
+    let b0 = statement_before c.args.depth o refl l in
+    let h : Stops (A phrases.Statement ∷ []) (drop c.args.place c.args.tokens.now) c.args.tokens.now c.args.depth 0 c.in_err-head.field-0.0 = within_row Head (A phrases.Statement ∷ []) b0 c.in_err-head.field-0.0 c.in_err-head.ensures.stop in
+    search rules
+
+pub read_for-returns-in_err-body-clause-stop : goal.read_for-returns-in_err-body-clause-stop
+read_for-returns-in_err-body-clause-stop t c =
+    let l : c.args.depth < 200 = let x = c.if-depth-ge-DEEPEST.false in omega arith in
+    let o = word_opens words.For (Head ++ (A phrases.Statement ∷ [])) c.args.tokens.now c.args.place for_word c.requires.ended c.requires.within c.requires.here in
+    let b0 = statement_before c.args.depth o refl l in
+    let b1 = past_row Head (A phrases.Statement ∷ []) refl b0 c.in_ok-head.ensures.ok.parted in
+    let h : Stops (A phrases.Statement ∷ []) (drop c.args.place c.args.tokens.now) c.args.tokens.now c.args.depth 0 c.in_err-body.field-0.0 = within_phrase b1 c.in_err-body.field-0.0 c.in_err-body.ensures.stop in
+    search rules
+
+pub read_for-returns-clause-ok : goal.read_for-returns-clause-ok
+read_for-returns-clause-ok t c =
+    let l : c.args.depth < 200 = let x = c.if-depth-ge-DEEPEST.false in omega arith in
+    let o = word_opens words.For (Head ++ (A phrases.Statement ∷ [])) c.args.tokens.now c.args.place for_word c.requires.ended c.requires.within c.requires.here in
+    for_is c.args.tokens.now c.args.place c.args.depth _ c.in_ok-head.head c.in_ok-body.body.body.value (statements.For c.into_inner.result c.into_inner-2.result c.into_inner-3.result c.in_ok-body.body.body) o l c.in_ok-head.ensures.ok c.in_ok-body.ensures.ok (for_from c.into_inner.ensures c.into_inner-2.ensures c.into_inner-3.ensures)
+
+pub read_entry-returns-clause-ok : goal.read_entry-returns-clause-ok
+read_entry-returns-clause-ok t c =
+    let n : next_kind (drop c.args.place c.args.tokens.now) ≡ kinds.Keyword words.Int → ⊥ = λ e. c.is_word.ensures.no c.if-is_word.false (c.kind_at.ensures ∙ e) in
+    map_ok c.read_statement.result (λ r w. entry_is c.args.tokens.now c.args.place c.args.depth r.next r.statement c.requires.within c.requires.depth c.requires.more n w) c.read_statement.ensures.ok
+
+pub read_entry-returns-clause-stop : goal.read_entry-returns-clause-stop
+read_entry-returns-clause-stop t c =
+    let n : next_kind (drop c.args.place c.args.tokens.now) ≡ kinds.Keyword words.Int → ⊥ = λ e. c.is_word.ensures.no c.if-is_word.false (c.kind_at.ensures ∙ e) in
+    let b = entry_before c.args.tokens.now c.args.place c.args.depth c.requires.within c.requires.depth c.requires.more n in
+    map_err c.read_statement.result (λ s w. within_phrase b s w) c.read_statement.ensures.stop
+
+pub read_entry-returns-clause-further : goal.read_entry-returns-clause-further
+read_entry-returns-clause-further t c =
+    map_ok c.read_statement.result (λ r w. let f = w.further in omega arith) c.read_statement.ensures.ok
+
+pub read_entries-returns-then-is_mark-clause-ok : goal.read_entries-returns-then-is_mark-clause-ok
+read_entries-returns-then-is_mark-clause-ok t c =
+    let g = c.entries.invariant in
+    let w = no_entries c.args.tokens.now c.entries.all.next c.args.depth g.continues.within c.requires.depth (sym c.kind_at.ensures ∙ c.is_mark.ensures.yes c.if-is_mark.true) in
+    let v = continues_end g.continues w.derivation w.parted w.means in
+    record { derivation = v.derivation; parted = v.parted; means = subst (λ z. MeansAll z v.derivation) (sym g.joined) v.means; further = v.further }
+
+pub read_entries-entries-init : goal.read_entries-entries-init
+read_entries-entries-init t c =
+    subst (λ z. Gathers Items c.args.tokens.now c.args.place c.args.depth MeansAll [] c.args.place z) (sym c.new.ensures.items) (gathers_none Items c.args.tokens.now c.args.place c.args.depth MeansAll [] c.requires.within)
+
+pub read_entries-entries-preserved : goal.read_entries-entries-preserved
+read_entries-entries-preserved t c =
+    gathers_next c.in_ok-entry.entry.statement c.entries.invariant c.in_ok-entry.ensures.ok c.in_ok-push.ensures.items
+
+pub read_block-returns-in_err-inner-clause-stop : goal.read_block-returns-in_err-inner-clause-stop
+read_block-returns-in_err-inner-clause-stop t c =
+    let h : Stops (A Block ∷ []) (drop c.args.place c.args.tokens.now) c.args.tokens.now c.args.depth 0 c.in_err-inner.field-0.0 = block_misfit c.args.tokens.now c.args.place c.args.depth c.in_err-inner.field-0.0 c.requires.within c.requires.depth c.in_err-inner.ensures.stop in
+    search rules
+
+pub read_block-returns-then-depth-ge-DEEPEST-clause-stop : goal.read_block-returns-then-depth-ge-DEEPEST-clause-stop
+read_block-returns-then-depth-ge-DEEPEST-clause-stop t c =
+    let o = block_opens c.args.tokens.now c.args.place _ c.requires.within c.in_ok-inner.ensures.ok in
+    too_deep c.args.depth o (let x = c.if-depth-ge-DEEPEST.true in omega arith)
+
+pub read_block-returns-in_err-entries-clause-stop : goal.read_block-returns-in_err-entries-clause-stop
+read_block-returns-in_err-entries-clause-stop t c =
+    let l : c.args.depth < 200 = let x = c.if-depth-ge-DEEPEST.false in omega arith in
+    let o = block_opens c.args.tokens.now c.args.place _ c.requires.within c.in_ok-inner.ensures.ok in
+    let b0 = block_before c.args.depth o l in
+    let h : Stops (A Block ∷ []) (drop c.args.place c.args.tokens.now) c.args.tokens.now c.args.depth 0 c.in_err-entries.field-0.0 = within_phrase b0 c.in_err-entries.field-0.0 c.in_err-entries.ensures.stop in
+    search rules
+
+pub read_block-returns-in_err-read_mark-clause-stop : goal.read_block-returns-in_err-read_mark-clause-stop
+read_block-returns-in_err-read_mark-clause-stop t c =
+    let l : c.args.depth < 200 = let x = c.if-depth-ge-DEEPEST.false in omega arith in
+    let o = block_opens c.args.tokens.now c.args.place _ c.requires.within c.in_ok-inner.ensures.ok in
+    let b0 = block_before c.args.depth o l in
+    let b1 = past_phrase b0 c.in_ok-entries.ensures.ok.parted in
+    let h : Stops (A Block ∷ []) (drop c.args.place c.args.tokens.now) c.args.tokens.now c.args.depth 0 c.in_err-read_mark.field-0.0 = misfit b1 c.in_err-read_mark.field-0.0 c.in_err-read_mark.ensures.stop in
+    search rules
+
+pub read_block-returns-clause-ok : goal.read_block-returns-clause-ok
+read_block-returns-clause-ok t c =
+    let l : c.args.depth < 200 = let x = c.if-depth-ge-DEEPEST.false in omega arith in
+    let o = block_opens c.args.tokens.now c.args.place _ c.requires.within c.in_ok-inner.ensures.ok in
+    braces_are c.args.tokens.now c.args.place _ c.args.depth _ _ c.in_ok-entries.entries.statements.items o l c.in_ok-entries.ensures.ok c.in_ok-read_mark.ensures.ok
+
+pub read_statement-returns-in-Nothing-clause-stop : goal.read_statement-returns-in-Nothing-clause-stop
+read_statement-returns-in-Nothing-clause-stop t c =
+    no_statement c.args.tokens.now c.args.place c.args.depth c.requires.within c.requires.depth (subst (λ z. begins_simple z ≡ false) c.kind_at.ensures c.in-Nothing.ensures.0) (subst (λ z. parts_of phrases.Statement z ≡ Some (A phrases.Simple ∷ mark marks.Semicolon ∷ [])) c.kind_at.ensures c.in-Nothing.ensures.1)

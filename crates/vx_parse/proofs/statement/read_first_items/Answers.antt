@@ -1,0 +1,26 @@
+use Rattle.std.proofs.Common.{[], ◌∷◌, drop, ap, rules}
+use Rattle.vx_ast.specs.declared.token.Keyword.TheVariants as words
+use Rattle.vx_ast.specs.SyntaxView as view
+use Rattle.vx_ast.specs.Phrases as phrases
+use Rattle.vx_ast.specs.Phrases.{ElsePart, MoreItems, OptionalExpression, OptionalSimple, Print, Block, Items, The, A, AName, mark, word, parts_of}
+use Rattle.vx_parse.specs.Reading.{Stops}
+use Rattle.vx_parse.proofs.Tokens.{passes_word}
+use Rattle.vx_parse.proofs.Parts.{within_row}
+use Rattle.vx_parse.proofs.Statements.{int_before, first_items_are}
+use Rattle.vx_parse.proofs.statement.read_first_items.Goals as goal
+
+pub read_items-requires-clause-within : goal.read_items-requires-clause-within
+read_items-requires-clause-within c =
+    (passes_word c.args.tokens.now c.args.place words.Int c.requires.ended c.requires.within c.requires.here).within
+
+pub returns-in_err-items-clause-stop : goal.returns-in_err-items-clause-stop
+returns-in_err-items-clause-stop c =
+    let p = passes_word c.args.tokens.now c.args.place words.Int c.requires.ended c.requires.within c.requires.here in
+    let b = int_before c.args.tokens.now c.args.place c.args.depth p c.requires.within c.requires.depth c.requires.here in
+    let h : Stops (A phrases.First ∷ []) (drop c.args.place c.args.tokens.now) c.args.tokens.now c.args.depth 0 c.in_err-items.field-0.0 = within_row (A phrases.Item ∷ A MoreItems ∷ []) [] b c.in_err-items.field-0.0 c.in_err-items.ensures.stop in
+    search rules
+
+pub returns-clause-ok : goal.returns-clause-ok
+returns-clause-ok c =
+    let p = passes_word c.args.tokens.now c.args.place words.Int c.requires.ended c.requires.within c.requires.here in
+    first_items_are c.args.tokens.now c.args.place c.args.depth c.in_ok-items.items c.in_ok-new.field-0.value p c.requires.within c.requires.depth c.requires.here c.in_ok-items.ensures.ok (ap view.first_of c.in_ok-new.ensures.ok)

@@ -1,0 +1,33 @@
+use Rattle.std.proofs.Common.{◌<◌, [], ◌∷◌, drop, refl, arith, rules}
+use Rattle.vx_ast.specs.declared.syntax.Statement as statements
+use Rattle.vx_ast.specs.Phrases as phrases
+use Rattle.vx_ast.specs.Phrases.{ElsePart, MoreItems, OptionalExpression, OptionalSimple, Print, Block, Items, The, A, AName, mark, word, parts_of}
+use Rattle.vx_parse.specs.Reading.{Stops}
+use Rattle.vx_parse.proofs.Parts.{past_phrase, within_phrase, misfit}
+use Rattle.vx_parse.proofs.Begun.{print_statement, print_too_deep}
+use Rattle.vx_parse.proofs.Statements.{print_is}
+use Rattle.vx_parse.proofs.statement.read_print.Goals as goal
+
+pub returns-then-depth-ge-DEEPEST-clause-stop : goal.returns-then-depth-ge-DEEPEST-clause-stop
+returns-then-depth-ge-DEEPEST-clause-stop c =
+    print_too_deep c.args.tokens.now c.args.place c.args.depth c.requires.within (let x = c.if-depth-ge-DEEPEST.true in omega arith) c.requires.name c.requires.here
+
+pub returns-in_err-print-clause-stop : goal.returns-in_err-print-clause-stop
+returns-in_err-print-clause-stop c =
+    let l : c.args.depth < 200 = let x = c.if-depth-ge-DEEPEST.false in omega arith in
+    let b0 = print_statement c.args.tokens.now c.args.place c.args.depth c.requires.within l c.requires.here in
+    let h : Stops (A phrases.Statement ∷ []) (drop c.args.place c.args.tokens.now) c.args.tokens.now c.args.depth 0 c.in_err-print.field-0.0 = within_phrase b0 c.in_err-print.field-0.0 c.in_err-print.ensures.stop in
+    search rules
+
+pub returns-in_err-next-clause-stop : goal.returns-in_err-next-clause-stop
+returns-in_err-next-clause-stop c =
+    let l : c.args.depth < 200 = let x = c.if-depth-ge-DEEPEST.false in omega arith in
+    let b0 = print_statement c.args.tokens.now c.args.place c.args.depth c.requires.within l c.requires.here in
+    let b1 = past_phrase b0 c.in_ok-print.ensures.ok.parted in
+    let h : Stops (A phrases.Statement ∷ []) (drop c.args.place c.args.tokens.now) c.args.tokens.now c.args.depth 0 c.in_err-next.field-0.0 = misfit b1 c.in_err-next.field-0.0 c.in_err-next.ensures.stop in
+    search rules
+
+pub returns-clause-ok : goal.returns-clause-ok
+returns-clause-ok c =
+    let l : c.args.depth < 200 = let x = c.if-depth-ge-DEEPEST.false in omega arith in
+    print_is c.args.tokens.now c.args.place c.args.depth _ _ c.in_ok-print.print (statements.Print c.in_ok-print.print.place c.in_ok-print.print.format_place c.in_ok-print.print.format c.in_ok-print.print.arguments) c.requires.within l c.requires.here c.in_ok-print.ensures.ok c.in_ok-next.ensures.ok refl
