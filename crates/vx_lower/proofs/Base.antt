@@ -10,7 +10,7 @@ use Rattle.std.specs.Int.{w32}
 use Rattle.vx_base.specs.Arithmetic.{IsNumber, one_if, compare_of, product_of, sum_of}
 use Rattle.vx_base.specs.declared.arithmetic.Compare.TheVariants.{Eq, Ne, Ltu, Lt}
 use Rattle.vx_base.proofs.ArithmeticLaws.{index_check_law, equal-true}
-use Rattle.vx_base.proofs.WrapLaws.{product_of-exact, sum_of-exact}
+use Rattle.vx_base.proofs.WrapLaws.{product_of-exact, sum_of-exact, unsigned_number}
 use Rattle.vx_ast.specs.Meaning.{unless_zero, index_in}
 use Rattle.vx_flow.specs.Effects.{Content, cell_in}
 
@@ -59,7 +59,9 @@ is_index size (negsuc n) = false
 is_index size (pos i) = nat_lt i size
 
 pub index_test : (v : ℤ) (size : ℕ) → IsNumber v → size < 2 ^ 31 → compare_of Ltu v (pos size) ≡ is_index size v
-index_test (pos n) size f s = refl
+index_test (pos n) size f s =
+    let fits : IsNumber (pos size) = record { sfits = omega arith } in
+    λ i. nat_lt (unsigned_number (pos n) f i) (unsigned_number (pos size) fits i)
 index_test (negsuc n) size f s = by (compare_of Ltu (negsuc n) (pos size)) refl
   where
     by : (t : Bool) → compare_of Ltu (negsuc n) (pos size) ≡ t → compare_of Ltu (negsuc n) (pos size) ≡ false

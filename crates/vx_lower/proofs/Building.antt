@@ -14,6 +14,7 @@ use Rattle.vx_flow.specs.declared.graph.Bank.{Bank}
 use Rattle.vx_base.specs.declared.outcome.Trap.{Trap}
 use Rattle.vx_lower.specs.declared.builder.Builder.{Builder}
 use Rattle.vx_lower.specs.Builds.{reserved, closed, filled, with_value, with_op, Ready, Limited, Grows, Stands, Finishes, Opens, From, Puts, Branches, Guards}
+use Rattle.vx_lower.specs.Emits.{Spare}
 use Rattle.vx_lower.proofs.Places.{get_front, get_last, length_more, set_same, set_other, set_length}
 
 pub current_within : (b : Builder) → Ready b → b.current < length b.blocks
@@ -172,6 +173,8 @@ branches a b op c r x =
       other = set_other (reserved (reserved b)).blocks b.current n (Some (record { ops = b.ops; exit = Split c y n })) (λ e. omega arith) ∙ get_last (reserved b).blocks None;
       apart = λ e. omega arith;
       late = omega arith;
+      moved = l;
+      empty = refl;
       step = λ B one two f o at.
           let f1 = before_closed B (reserved (reserved b)) (Split c y n) y g2.ready f in
           let f2 = finishes_back B b (reserved (reserved b)) x.grows.ready (grows_on b (reserved b) (reserved (reserved b)) x.grows.ready g1 g2) f1 in
@@ -182,6 +185,35 @@ branches a b op c r x =
             holds = record { test = ends (Split c y n); y = y; n = n; goes = s.holds; splits = same refl; at_yes = o.is; at_no = at };
           };
     }
+
+-- a block that was reserved since is finished
+pub grows_filled : (a b : Builder) (n : ℕ) (block : Block) → Ready a → Grows a b → Spare b n → length a.blocks ≤ n → length block.ops ≤ 512 → Grows a (filled b n block)
+grows_filled a b n block r x s late short = let v = x.values in let l = x.longer in let e = set_length b.blocks n (Some block) in record {
+  ready = record { is = set_other b.blocks n b.current (Some block) (λ e. s.apart (sym e)) ∙ x.ready.is };
+  kept = λ i h m. set_other b.blocks n i (Some block) (λ e. omega arith) ∙ x.kept i h m;
+  longer = omega arith;
+  current = x.current;
+  values = omega arith;
+  banks = x.banks;
+  limited = λ m. let w = x.limited m in record { opened = w.opened; blocks = λ i other q. one i other q (eqb_tells i n) w };
+}
+  where
+    one : (i : ℕ) (other : Block) → slice_get (slice_set b.blocks n (Some block)) i ≡ Some (Some other) → ((nat_eq i n ≡ true) × (i ≡ n)) ⊎ ((nat_eq i n ≡ false) × (i ≡ n → ⊥)) → Limited b → length other.ops ≤ 512
+    one i other q (inl t) m =
+        let w = slice_get_within b.blocks n None s.free in
+        let same_block : Some (Some block) ≡ Some (Some other) = sym (set_same b.blocks n (Some block) w) ∙ ap (slice_get (slice_set b.blocks n (Some block))) (sym t.1) ∙ q in
+        let is : block.ops ≡ other.ops = ap ops_in same_block in
+        subst (λ z. length z ≤ 512) is short
+    one i other q (inr t) m = m.blocks i other (sym (set_other b.blocks n i (Some block) t.1) ∙ q)
+
+pub before_filled : (B : List Block) (b : Builder) (n : ℕ) (block : Block) → Spare b n → Finishes B (filled b n block) → Finishes B b
+before_filled B b n block s f = record { stands = λ m other e. f.stands m other (set_other b.blocks n m (Some block) (λ d. clash m other e d) ∙ e) }
+  where
+    clash : (m : ℕ) (other : Block) → slice_get b.blocks m ≡ Some (Some other) → m ≡ n → ⊥
+    clash m other e d = let q : Some (Some other) ≡ Some None = sym e ∙ ap (slice_get b.blocks) d ∙ s.free in cc
+
+pub filled_stands : (B : List Block) (b : Builder) (n j : ℕ) → Spare b n → Finishes B (filled b n (jump j)) → slice_get B n ≡ Some (jump j)
+filled_stands B b n j s f = f.stands n (jump j) (set_same b.blocks n (Some (jump j)) (slice_get_within b.blocks n None s.free))
 
 pub guards : (a b : Builder) (op : Op) (c : ℕ) (k : Trap) (n : ℕ) → Ready a → Branches op c n a b → Guards op c k a (filled b n (ends (Ends k)))
 guards a b op c k n r x =

@@ -26,8 +26,8 @@ use Rattle.vx_lower.proofs.Base.{SameRow, is_below, and_two}
 use Rattle.vx_lower.proofs.Steps.{Here, Entry, HasBlocks, active_at, rest_run, Comes, comes_self, comes_on, comes_goes, Gives, shift, arrival}
 use Rattle.vx_lower.proofs.Ties.{InRange, InForce, Tied}
 use Rattle.vx_lower.proofs.Values.{Numbers, Above, Fitting, CallsMeet, Came_back, zero_fits}
-use Rattle.vx_lower.proofs.Actions.{Reaches}
-use Rattle.vx_lower.proofs.Statements.{Comes_out, Left, stmt_runs}
+use Rattle.vx_lower.proofs.ActionLaws.{Reaches}
+use Rattle.vx_lower.proofs.StatementLaws.{Comes_out, Left, stmt_runs}
 use Rattle.vx_lower.proofs.Alike.{alike_self, run_alike}
 use Rattle.vx_lower.proofs.Facts.{body_suits, small_words, scalar_word, scalar_global, named_in_force, in_below, entry_at, take_past, take_within, front_item, back_item, map_append, take_all, drop_all, map_drop, map_take, rows_append, rows_take, rows_zero, lengths_replicate}
 

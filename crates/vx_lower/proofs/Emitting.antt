@@ -3,13 +3,16 @@ use Rattle.std.proofs.Common.{◌≡◌, ◌⊎◌, ℕ, zero, suc, ◌+◌, ◌
 use Rattle.std.specs.Prelude.{slice_get, slice_set}
 use Rattle.std.proofs.lemmas.Option.{slice_get_within}
 use Rattle.vx_base.specs.declared.arithmetic.Code.TheVariants.{Mov, ToGeneral, ToBranch}
+use Rattle.vx_base.specs.declared.arithmetic.Compare.{Compare}
 use Rattle.vx_base.specs.declared.arithmetic.Compare.TheVariants.{Ne}
 use Rattle.vx_base.specs.declared.outcome.Trap.TheVariants.{Input as ByInput}
 use Rattle.vx_ast.specs.declared.tree.UnaryOperator.{UnaryOperator}
+use Rattle.vx_ast.specs.declared.tree.UnaryOperator.TheVariants.{Not}
 use Rattle.vx_ast.specs.declared.tree.BinaryOperator.{BinaryOperator}
 use Rattle.vx_ast.specs.declared.tree.Expression.{Expression}
-use Rattle.vx_ast.specs.Tree.{One, Row, Tree, Literal, Local, Global, Element, Unary, Binary, Both, Either, Choice, Apply, ReadInt, MoreInput, NoMore, Then}
+use Rattle.vx_ast.specs.Tree.{Shape, One, Row, Tree, Literal, Local, Global, Element, Unary, Binary, Both, Either, Choice, Apply, ReadInt, MoreInput, NoMore, Then}
 use Rattle.vx_ast.specs.View.{tree_of, row_in}
+use Rattle.vx_ast.specs.Accepted.{row_length}
 use Rattle.vx_flow.specs.declared.graph.Bank.TheVariants.{General, Branch}
 use Rattle.vx_flow.specs.declared.graph.Operand.{Operand}
 use Rattle.vx_flow.specs.declared.graph.Operand.TheVariants.{Held, Number, Stack}
@@ -18,13 +21,13 @@ use Rattle.vx_flow.specs.declared.graph.Op.TheVariants.{Compute, Load, More, Inp
 use Rattle.vx_flow.specs.declared.graph.Exit.{Exit}
 use Rattle.vx_flow.specs.declared.graph.Exit.TheVariants.{Goto, Call, Ends}
 use Rattle.vx_flow.specs.declared.graph.Block.{Block}
-use Rattle.vx_lower.specs.Holds.{IsBelow, Goes, same, on, Tests, Way, To, Into, Lands, fresh, into, Holds, literal, local, global, element, unary, binary, both, either, choice, apply, read_int, more_input, copied, tested, no_more, then, unary_op, then_op, ends, jump}
-use Rattle.vx_lower.specs.Builds.{reserved, closed, with_value, Ready, Grows, Finishes, Opens, From, Puts, Branches, Guards}
-use Rattle.vx_lower.specs.Emits.{way_of, Aimed, Lasts, IsMoved, Delivers, Checked, Combined, Emits, EmitsRow, EmitsFront, row_with, Spare, Truth}
+use Rattle.vx_lower.specs.Holds.{IsBelow, Goes, same, on, Tests, Way, To, Into, Lands, fresh, into, Holds, literal, local, global, element, unary, binary, both, either, choice, apply, read_int, more_input, copied, tested, compared, turned, both_tested, either_tested, no_more, then, comparison_of, Tested, unary_op, then_op, ends, jump}
+use Rattle.vx_lower.specs.Builds.{reserved, closed, filled, turned_to, with_value, Ready, Grows, Finishes, Opens, From, Puts, Branches, Guards}
+use Rattle.vx_lower.specs.Emits.{way_of, Aimed, Lasts, IsMoved, Delivers, Checked, Combined, IsWithin, AreWithin, Emits, EmitsTest, EmitsRow, EmitsFront, row_with, Spare, Asked, Truth}
 use Rattle.vx_lower.specs.declared.builder.Builder.{Builder}
 use Rattle.vx_lower.proofs.Ties.{below_on}
-use Rattle.vx_lower.proofs.Places.{get_last, length_more, set_other}
-use Rattle.vx_lower.proofs.Building.{current_within, grows_self, grows_on, grows_value, grows_reserved, grows_closed, finishes_back, before_closed, closed_stands, opens_closed}
+use Rattle.vx_lower.proofs.Places.{get_last, length_more, set_same, set_other, set_length}
+use Rattle.vx_lower.proofs.Building.{current_within, grows_self, grows_on, grows_value, grows_reserved, grows_closed, grows_filled, finishes_back, before_closed, before_filled, closed_stands, filled_stands, opens_closed}
 use Rattle.vx_lower.proofs.PieceMaking.{lands_on, value_next, sets_of, guarded_of, branched_of}
 
 -- blocks that wait
@@ -40,6 +43,9 @@ spare_on a b n g s =
 
 pub spare_closed : (b : Builder) (exit : Exit) (m n : ℕ) → Spare b n → (n ≡ m → ⊥) → Spare (closed b exit m) n
 spare_closed b exit m n s d = record { free = set_other b.blocks b.current n (Some (record { ops = b.ops; exit = exit })) s.apart ∙ s.free; apart = d }
+
+pub spare_filled : (b : Builder) (n m : ℕ) (block : Block) → Spare b m → (m ≡ n → ⊥) → Spare (filled b n block) m
+spare_filled b n m block s d = record { free = set_other b.blocks n m (Some block) d ∙ s.free; apart = s.apart }
 
 pub spare_reserved : (b : Builder) → Ready b → Spare (reserved b) (length b.blocks)
 spare_reserved b r = let w = current_within b r in record { free = get_last b.blocks None; apart = λ e. omega arith }
@@ -106,50 +112,67 @@ aim_of (Some d) t b b1 e r = record {
   back = λ B q o. subst (λ z. Opens B z q) e.1 o;
 }
 
-pub truth_of : (o : Operand) (c n : ℕ) (b b1 b2 : Builder) → (c ≡ length b.banks) × (b1 ≡ with_value b Branch) → (Ready b1 → Branches (Compute (ToBranch Ne) c o (Number (pos 0))) c n b1 b2) → Ready b → Truth o n b b2
-truth_of o c n b b1 b2 e p r =
-    let x = branched_of b b1 b2 c n Branch (Compute (ToBranch Ne) c o (Number (pos 0))) e p r in let f = x.fresh in
-    record { c = c; above = omega arith; grows = x.grows; spare = x.spare; late = x.late; step = x.step }
+pub asked_of : (compare : Compare) (o u : Operand) (c n : ℕ) (b b1 b2 : Builder) → (c ≡ length b.banks) × (b1 ≡ with_value b Branch) → (Ready b1 → Branches (Compute (ToBranch compare) c o u) c n b1 b2) → Ready b → Asked compare o u n b b2
+asked_of compare o u c n b b1 b2 e p r =
+    let x = branched_of b b1 b2 c n Branch (Compute (ToBranch compare) c o u) e p r in let f = x.fresh in
+    record { c = c; above = omega arith; grows = x.grows; spare = x.spare; late = x.late; moved = x.moved; empty = x.empty; step = x.step }
 
 -- an operand that is delivered
 holds_moved : (B : List Block) (words : List ℕ) (e : Tree One) (dest : Option ℕ) (o r : Operand) (p q : Block) (lo : ℕ) → ((m : Block) → Holds B words One e m (To (o ∷ []) m) lo) → IsMoved B dest o r p q → Holds B words One e p (way_of dest r q) lo
 holds_moved B words e None o r p q lo h m = subst (λ z. Holds B words One e p (To (z ∷ []) q) lo) (sym m.0) (subst (λ z. Holds B words One e p (To (o ∷ []) z) lo) m.1 (h p))
 holds_moved B words e (Some t) o r p q lo h m = copied (h p) m.1
 
+-- what is within n is within what is more
+pub within_on : {k : Shape} (m n : ℕ) (t : Tree k) → m ≤ n → IsWithin m t → IsWithin n t
+within_on m n (Literal z) le h = h
+within_on m n (Local x) le h = omega arith
+within_on m n (Global a) le h = h
+within_on m n (Element a i) le h = within_on m n i le h
+within_on m n (Unary operator a) le h = within_on m n a le h
+within_on m n (Binary operator a b) le h = (within_on m n a le h.0, within_on m n b le h.1)
+within_on m n (Both a b) le h = (within_on m n a le h.0, within_on m n b le h.1)
+within_on m n (Either a b) le h = (within_on m n a le h.0, within_on m n b le h.1)
+within_on m n (Choice c a b) le h = (within_on m n c le h.0, within_on m n a le h.1, within_on m n b le h.2)
+within_on m n (Apply f row) le h = within_on m n row le h
+within_on m n ReadInt le h = h
+within_on m n MoreInput le h = h
+within_on m n NoMore le h = h
+within_on m n (Then a rest) le h = (within_on m n a le h.0, within_on m n rest le h.1)
+
 module _ (words : List ℕ) where
-  pub emits_operand : (e : Tree One) (dest : Option ℕ) (o r : Operand) (b b1 : Builder) → ((B : List Block) (m : Block) → Holds B words One e m (To (o ∷ []) m) (length b.banks)) → IsBelow (length b.banks) o → (Ready b → Delivers dest o r b b1) → Ready b → Emits words e dest r b b1
+  pub emits_operand : (e : Tree One) (dest : Option ℕ) (o r : Operand) (b b1 : Builder) → ((B : List Block) (m : Block) → Holds B words One e m (To (o ∷ []) m) (length b.banks)) → (IsWithin (length b.banks) e → IsBelow (length b.banks) o) → (Ready b → Delivers dest o r b b1) → Ready b → Emits words e dest r b b1
   emits_operand e dest o r b b1 h below d ready =
       let x = d ready in
       record {
         grows = x.grows;
-        below = λ n. subst (IsBelow (length b1.banks)) (sym (x.kept n)) (below_on (length b.banks) (length b1.banks) o x.grows.values below);
-        code = λ B q f w. let s = x.step B q f w in record { start = s.start; opens = s.opens; holds = holds_moved B words e dest o r s.start q (length b.banks) (h B) s.holds };
+        below = λ n is. subst (IsBelow (length b1.banks)) (sym (x.kept n)) (below_on (length b.banks) (length b1.banks) o x.grows.values (below is));
+        code = λ is B q f w. let s = x.step B q f w in record { start = s.start; opens = s.opens; holds = holds_moved B words e dest o r s.start q (length b.banks) (h B) s.holds };
       }
 
   pub emits_global : (a t : ℕ) (dest : Option ℕ) (b b1 : Builder) → (Ready b → Lasts (Load t a (Number (pos 0)) false) dest t b b1) → Ready b → Emits words (Global a) dest (Held t) b b1
   emits_global a t dest b b1 p r =
       let x = p r in
-      record { grows = x.grows; below = x.below; code = λ B q f w. let s = x.step B q f w in record { start = s.start; opens = s.opens; holds = global s.holds (x.lands q) } }
+      record { grows = x.grows; below = λ d is. x.below d; code = λ is B q f w. let s = x.step B q f w in record { start = s.start; opens = s.opens; holds = global s.holds (x.lands q) } }
 
   pub emits_more : (t : ℕ) (dest : Option ℕ) (b b1 : Builder) → (Ready b → Lasts (More t) dest t b b1) → Ready b → Emits words MoreInput dest (Held t) b b1
   emits_more t dest b b1 p r =
       let x = p r in
-      record { grows = x.grows; below = x.below; code = λ B q f w. let s = x.step B q f w in record { start = s.start; opens = s.opens; holds = more_input s.holds (x.lands q) } }
+      record { grows = x.grows; below = λ d is. x.below d; code = λ is B q f w. let s = x.step B q f w in record { start = s.start; opens = s.opens; holds = more_input s.holds (x.lands q) } }
 
-  pub emits_element : (a t place : ℕ) (dest : Option ℕ) (i : Tree One) (index : Operand) (b0 b1 b2 b3 : Builder) → (Ready b0 → Emits words i None index b0 b1) → (Ready b1 → IsBelow (length b1.banks) index → Checked words a index place b1 b2) → (Ready b2 → Lasts (Load t a (Held place) false) dest t b2 b3) → Ready b0 → Emits words (Element a i) dest (Held t) b0 b3
+  pub emits_element : (a t place : ℕ) (dest : Option ℕ) (i : Tree One) (index : Operand) (b0 b1 b2 b3 : Builder) → (Ready b0 → Emits words i None index b0 b1) → (Ready b1 → Checked words a index place b1 b2) → (Ready b2 → Lasts (Load t a (Held place) false) dest t b2 b3) → Ready b0 → Emits words (Element a i) dest (Held t) b0 b3
   emits_element a t place dest i index b0 b1 b2 b3 ei ck pl r =
       let x = ei r in
-      let k = ck x.grows.ready (x.below refl) in
+      let k = ck x.grows.ready in
       let z = pl k.grows.ready in
       let v1 = x.grows.values in let v2 = k.grows.values in
       record {
         grows = grows_on b0 b1 b3 r x.grows (grows_on b1 b2 b3 x.grows.ready k.grows z.grows);
-        below = z.below;
-        code = λ B q f w.
+        below = λ d is. z.below d;
+        code = λ is B q f w.
             let s3 = z.step B q f w in
             let f2 = finishes_back B b2 b3 k.grows.ready z.grows f in
-            let s2 = k.step B s3.start f2 s3.opens in
-            let s1 = x.code B s2.start (finishes_back B b1 b2 x.grows.ready k.grows f2) s2.opens in
+            let s2 = k.step (x.below refl is) B s3.start f2 s3.opens in
+            let s1 = x.code is B s2.start (finishes_back B b1 b2 x.grows.ready k.grows f2) s2.opens in
             let c = s2.holds in
             let lo = c.fresh in
             record { start = s1.start; opens = s1.opens; holds = element s1.holds (record { place = c.place; no = c.no; c = c.c; goes = c.goes; tests = c.tests; stops = c.stops; free = c.free; above = c.above; fresh = omega arith }) s3.holds (lands_on (length b0.banks) (length b2.banks) (way_of dest (Held t) q) t q (omega arith) (z.lands q)) };
@@ -160,10 +183,10 @@ module _ (words : List ℕ) where
       let x = ea r in let z = p x.grows.ready in let v = x.grows.values in
       record {
         grows = grows_on b0 b1 b2 r x.grows z.grows;
-        below = z.below;
-        code = λ B q f w.
+        below = λ d is. z.below d;
+        code = λ is B q f w.
             let s2 = z.step B q f w in
-            let s1 = x.code B s2.start (finishes_back B b1 b2 x.grows.ready z.grows f) s2.opens in
+            let s1 = x.code is B s2.start (finishes_back B b1 b2 x.grows.ready z.grows f) s2.opens in
             record { start = s1.start; opens = s1.opens; holds = unary s1.holds s2.holds (lands_on (length b0.banks) (length b1.banks) (way_of dest (Held t) q) t q v (z.lands q)) };
       }
 
@@ -173,13 +196,14 @@ module _ (words : List ℕ) where
       let v1 = hx.grows.values in let v2 = hy.grows.values in
       record {
         grows = grows_on b0 b2 b3 r (grows_on b0 b1 b2 r hx.grows hy.grows) z.grows;
-        below = z.below;
-        code = λ B q f w.
+        below = λ d is. z.below d;
+        code = λ is B q f w.
+            let iy = within_on (length b0.banks) (length b1.banks) y v1 is.1 in
             let s3 = z.step B q f w in
             let f2 = finishes_back B b2 b3 hy.grows.ready z.grows f in
-            let s2 = hy.code B s3.start f2 s3.opens in
-            let s1 = hx.code B s2.start (finishes_back B b1 b2 hx.grows.ready hy.grows f2) s2.opens in
-            record { start = s1.start; opens = s1.opens; holds = binary s1.holds v1 (hx.below refl) s2.holds v2 (hy.below refl) s3.holds (lands_on (length b0.banks) (length b2.banks) (way_of dest (Held t) q) t q (omega arith) (z.lands q)) };
+            let s2 = hy.code iy B s3.start f2 s3.opens in
+            let s1 = hx.code is.0 B s2.start (finishes_back B b1 b2 hx.grows.ready hy.grows f2) s2.opens in
+            record { start = s1.start; opens = s1.opens; holds = binary s1.holds v1 (hx.below refl is.0) s2.holds v2 (hy.below refl iy) s3.holds (lands_on (length b0.banks) (length b2.banks) (way_of dest (Held t) q) t q (omega arith) (z.lands q)) };
       }
 
   pub emits_read : (v c t : ℕ) (dest : Option ℕ) (b0 b1 b2 b3 b4 b5 : Builder) → (v ≡ length b0.banks) × (b1 ≡ with_value b0 General) → (Ready b1 → Puts (More v) b1 b2) → (c ≡ length b2.banks) × (b3 ≡ with_value b2 Branch) → (Ready b3 → Guards (Compute (ToBranch Ne) c (Held v) (Number (pos 0))) c ByInput b3 b4) → (Ready b4 → Lasts (Input t) dest t b4 b5) → Ready b0 → Emits words ReadInt dest (Held t) b0 b5
@@ -190,8 +214,8 @@ module _ (words : List ℕ) where
       let fv = x.fresh in let fc = k.fresh in let v1 = x.grows.values in let v2 = k.grows.values in
       record {
         grows = grows_on b0 b2 b5 r x.grows (grows_on b2 b4 b5 x.grows.ready k.grows z.grows);
-        below = z.below;
-        code = λ B q f w.
+        below = λ d is. z.below d;
+        code = λ is B q f w.
             let s3 = z.step B q f w in
             let f4 = finishes_back B b4 b5 k.grows.ready z.grows f in
             let s2 = k.step B s3.start f4 s3.opens in
@@ -200,49 +224,46 @@ module _ (words : List ℕ) where
       }
 
   -- `&&`: where the left operand is not 0 the right one is evaluated, elsewhere the result is 0
-  pub emits_both : (t n j : ℕ) (dest : Option ℕ) (x y : Tree One) (ox oy : Operand) (b0 b1 b2 b3 b4 b5 b6 b7 b8 : Builder) → (Ready b0 → Emits words x None ox b0 b1) → (Ready b1 → Truth ox n b1 b2) → Aimed dest t b2 b3 → (Ready b3 → Emits words y None oy b3 b4) → (Ready b4 → Puts (Compute (ToGeneral Ne) t oy (Number (pos 0))) b4 b5) → (j ≡ length b5.blocks) × (b6 ≡ closed (reserved b5) (Goto j) n) → (Ready b6 → Puts (Compute Mov t (Number (pos 0)) (Number (pos 0))) b6 b7) → b8 ≡ closed b7 (Goto j) j → Ready b0 → Emits words (Both x y) dest (Held t) b0 b8
-  emits_both t n j dest x y ox oy b0 b1 b2 b3 b4 b5 b6 b7 b8 ex tr ai ey pf ej pn e8 r =
+  pub emits_both : (t n j : ℕ) (dest : Option ℕ) (x y : Tree One) (oy : Operand) (b0 b2 b3 b4 b5 b6 b7 b8 : Builder) → (Ready b0 → EmitsTest words x n b0 b2) → Aimed dest t b2 b3 → (Ready b3 → Emits words y None oy b3 b4) → (Ready b4 → Puts (Compute (ToGeneral Ne) t oy (Number (pos 0))) b4 b5) → (j ≡ length b5.blocks) × (b6 ≡ closed (reserved b5) (Goto j) n) → (Ready b6 → Puts (Compute Mov t (Number (pos 0)) (Number (pos 0))) b6 b7) → b8 ≡ closed b7 (Goto j) j → Ready b0 → Emits words (Both x y) dest (Held t) b0 b8
+  emits_both t n j dest x y oy b0 b2 b3 b4 b5 b6 b7 b8 ex ai ey pf ej pn e8 r =
       let jj = length b5.blocks in
       let c6 : b6 ≡ closed (reserved b5) (Goto jj) n = ej.1 ∙ ap (λ m. closed (reserved b5) (Goto m) n) ej.0 in
       let c8 : b8 ≡ closed b7 (Goto jj) jj = e8 ∙ ap (λ m. closed b7 (Goto m) m) ej.0 in
-      let hx = ex r in
-      let k = tr hx.grows.ready in
+      let k = ex r in
       let a = aim_of dest t b2 b3 ai k.grows.ready in
       let hy = ey a.grows.ready in
       let s = pf hy.grows.ready in
       let g25 = grows_on b2 b4 b5 k.grows.ready (grows_on b2 b3 b4 k.grows.ready a.grows hy.grows) s.grows in
       let pn6 = subst (λ z. Ready z → Puts (Compute Mov t (Number (pos 0)) (Number (pos 0))) z b7) c6 pn in
-      let w = joined b1 b2 b5 b7 n hx.grows.ready k.grows k.grows.ready g25 k.spare k.late (λ r6. (pn6 r6).grows) in
+      let w = joined b0 b2 b5 b7 n r k.grows k.grows.ready g25 k.spare k.late (λ r6. (pn6 r6).grows) in
       let r6 = ready_closed (reserved b5) (Goto jj) n (spare_on b2 (reserved b5) n (grows_on b2 b5 (reserved b5) k.grows.ready g25 (grows_reserved b5 s.grows.ready)) k.spare) in
       let arm = pn6 r6 in
-      let v1 = hx.grows.values in let v2 = k.grows.values in let v3 = a.grows.values in let l1 = k.above in let v4 = hy.grows.values in let v5 = s.grows.values in let v7 = arm.grows.values in
+      let v2 = k.grows.values in let v3 = a.grows.values in let v4 = hy.grows.values in let v5 = s.grows.values in let v7 = arm.grows.values in
       let same_banks : length b8.banks ≡ length b7.banks = ap (λ z. length z.banks) c8 in
       record {
-        grows = subst (Grows b0) (sym c8) (grows_on b0 b1 (closed b7 (Goto jj) jj) r hx.grows w.grows);
-        below = λ d. let h = a.below d in omega arith;
-        code = λ B q f0 o0.
+        grows = subst (Grows b0) (sym c8) w.grows;
+        below = λ d is. let h = a.below d in omega arith;
+        code = λ is B q f0 o0.
             let f = subst (Finishes B) c8 f0 in
             let o = subst (λ z. Opens B z q) c8 o0 in
             let s5 = s.step B (jump jj) (w.first B f) (w.first_opens B f) in
             let f4 = finishes_back B b4 b5 hy.grows.ready s.grows (w.first B f) in
-            let s4 = hy.code B s5.start f4 s5.opens in
+            let s4 = hy.code (within_on (length b0.banks) (length b3.banks) y (omega arith) is.1) B s5.start f4 s5.opens in
             let f3 = finishes_back B b3 b4 a.grows.ready hy.grows f4 in
             let f2 = finishes_back B b2 b3 k.grows.ready a.grows f3 in
             let s7 = arm.step B (jump jj) (w.second B f) (w.second_opens B f) in
-            let s2 = k.step B s4.start s7.start f2 (a.back B s4.start s4.opens) s7.opens.is in
-            let s1 = hx.code B s2.start (finishes_back B b1 b2 hx.grows.ready k.grows f2) s2.opens in
-            record { start = s1.start; opens = s1.opens; holds = both (tested s1.holds (omega arith) s2.holds) (omega arith) s4.holds s5.holds (on jj q refl o.is (same refl)) s7.holds (on jj q refl o.is (same refl)) (lands_on (length b0.banks) (length b2.banks) (way_of dest (Held t) q) t q (omega arith) (a.lands q)) };
+            let s2 = k.code is.0 B s4.start s7.start f2 (a.back B s4.start s4.opens) s7.opens.is in
+            record { start = s2.start; opens = s2.opens; holds = both s2.holds (omega arith) s4.holds s5.holds (on jj q refl o.is (same refl)) s7.holds (on jj q refl o.is (same refl)) (lands_on (length b0.banks) (length b2.banks) (way_of dest (Held t) q) t q (omega arith) (a.lands q)) };
       }
 
   -- `||`: where the left operand is not 0 the result is 1, elsewhere the right one is evaluated
-  pub emits_either : (t n j : ℕ) (dest : Option ℕ) (x y : Tree One) (ox oy : Operand) (b0 b1 b2 b3 b4 b5 b6 b7 b8 : Builder) → (Ready b0 → Emits words x None ox b0 b1) → (Ready b1 → Truth ox n b1 b2) → Aimed dest t b2 b3 → (Ready b3 → Puts (Compute Mov t (Number (pos 1)) (Number (pos 0))) b3 b4) → (j ≡ length b4.blocks) × (b5 ≡ closed (reserved b4) (Goto j) n) → (Ready b5 → Emits words y None oy b5 b6) → (Ready b6 → Puts (Compute (ToGeneral Ne) t oy (Number (pos 0))) b6 b7) → b8 ≡ closed b7 (Goto j) j → Ready b0 → Emits words (Either x y) dest (Held t) b0 b8
-  emits_either t n j dest x y ox oy b0 b1 b2 b3 b4 b5 b6 b7 b8 ex tr ai po ej ey pf e8 r =
+  pub emits_either : (t n j : ℕ) (dest : Option ℕ) (x y : Tree One) (oy : Operand) (b0 b2 b3 b4 b5 b6 b7 b8 : Builder) → (Ready b0 → EmitsTest words x n b0 b2) → Aimed dest t b2 b3 → (Ready b3 → Puts (Compute Mov t (Number (pos 1)) (Number (pos 0))) b3 b4) → (j ≡ length b4.blocks) × (b5 ≡ closed (reserved b4) (Goto j) n) → (Ready b5 → Emits words y None oy b5 b6) → (Ready b6 → Puts (Compute (ToGeneral Ne) t oy (Number (pos 0))) b6 b7) → b8 ≡ closed b7 (Goto j) j → Ready b0 → Emits words (Either x y) dest (Held t) b0 b8
+  emits_either t n j dest x y oy b0 b2 b3 b4 b5 b6 b7 b8 ex ai po ej ey pf e8 r =
       let jj = length b4.blocks in
       let b5c = closed (reserved b4) (Goto jj) n in
       let c5 : b5 ≡ closed (reserved b4) (Goto jj) n = ej.1 ∙ ap (λ m. closed (reserved b4) (Goto m) n) ej.0 in
       let c8 : b8 ≡ closed b7 (Goto jj) jj = e8 ∙ ap (λ m. closed b7 (Goto m) m) ej.0 in
-      let hx = ex r in
-      let k = tr hx.grows.ready in
+      let k = ex r in
       let a = aim_of dest t b2 b3 ai k.grows.ready in
       let s = po a.grows.ready in
       let g24 = grows_on b2 b3 b4 k.grows.ready a.grows s.grows in
@@ -250,72 +271,221 @@ module _ (words : List ℕ) where
       let ey5 = subst (λ z. Ready z → Emits words y None oy z b6) c5 ey in
       let hy = ey5 r5 in
       let z = pf hy.grows.ready in
-      let w = joined b1 b2 b4 b7 n hx.grows.ready k.grows k.grows.ready g24 k.spare k.late (λ q5. grows_on b5c b6 b7 q5 (ey5 q5).grows (pf (ey5 q5).grows.ready).grows) in
-      let v1 = hx.grows.values in let v2 = k.grows.values in let v3 = a.grows.values in let l1 = k.above in let v4 = s.grows.values in let v5 = hy.grows.values in let v6 = z.grows.values in
+      let w = joined b0 b2 b4 b7 n r k.grows k.grows.ready g24 k.spare k.late (λ q5. grows_on b5c b6 b7 q5 (ey5 q5).grows (pf (ey5 q5).grows.ready).grows) in
+      let v2 = k.grows.values in let v3 = a.grows.values in let v4 = s.grows.values in let v5 = hy.grows.values in let v6 = z.grows.values in
       let same_banks : length b8.banks ≡ length b7.banks = ap (λ z. length z.banks) c8 in
       record {
-        grows = subst (Grows b0) (sym c8) (grows_on b0 b1 (closed b7 (Goto jj) jj) r hx.grows w.grows);
-        below = λ d. let h = a.below d in omega arith;
-        code = λ B q f0 o0.
+        grows = subst (Grows b0) (sym c8) w.grows;
+        below = λ d is. let h = a.below d in omega arith;
+        code = λ is B q f0 o0.
             let f = subst (Finishes B) c8 f0 in
             let o = subst (λ z. Opens B z q) c8 o0 in
             let s4 = s.step B (jump jj) (w.first B f) (w.first_opens B f) in
             let f3 = finishes_back B b3 b4 a.grows.ready s.grows (w.first B f) in
             let f2 = finishes_back B b2 b3 k.grows.ready a.grows f3 in
             let s7 = z.step B (jump jj) (w.second B f) (w.second_opens B f) in
-            let s6 = hy.code B s7.start (finishes_back B b6 b7 hy.grows.ready z.grows (w.second B f)) s7.opens in
-            let s2 = k.step B s4.start s6.start f2 (a.back B s4.start s4.opens) s6.opens.is in
-            let s1 = hx.code B s2.start (finishes_back B b1 b2 hx.grows.ready k.grows f2) s2.opens in
-            record { start = s1.start; opens = s1.opens; holds = either (tested s1.holds (omega arith) s2.holds) (omega arith) s6.holds s7.holds (on jj q refl o.is (same refl)) s4.holds (on jj q refl o.is (same refl)) (lands_on (length b0.banks) (length b2.banks) (way_of dest (Held t) q) t q (omega arith) (a.lands q)) };
+            let s6 = hy.code (within_on (length b0.banks) (length b5c.banks) y (omega arith) is.1) B s7.start (finishes_back B b6 b7 hy.grows.ready z.grows (w.second B f)) s7.opens in
+            let s2 = k.code is.0 B s4.start s6.start f2 (a.back B s4.start s4.opens) s6.opens.is in
+            record { start = s2.start; opens = s2.opens; holds = either s2.holds (omega arith) s6.holds s7.holds (on jj q refl o.is (same refl)) s4.holds (on jj q refl o.is (same refl)) (lands_on (length b0.banks) (length b2.banks) (way_of dest (Held t) q) t q (omega arith) (a.lands q)) };
       }
 
   -- `?:`: either operand comes into the same value
-  pub emits_choice : (t n j : ℕ) (dest : Option ℕ) (c x y : Tree One) (oc ox oy : Operand) (b0 b1 b2 b3 b4 b5 b6 b7 : Builder) → (Ready b0 → Emits words c None oc b0 b1) → (Ready b1 → Truth oc n b1 b2) → Aimed dest t b2 b3 → (Ready b3 → Emits words x (Some t) ox b3 b4) → (j ≡ length b4.blocks) × (b5 ≡ closed (reserved b4) (Goto j) n) → (Ready b5 → Emits words y (Some t) oy b5 b6) → b7 ≡ closed b6 (Goto j) j → Ready b0 → Emits words (Choice c x y) dest (Held t) b0 b7
-  emits_choice t n j dest c x y oc ox oy b0 b1 b2 b3 b4 b5 b6 b7 ec tr ai ex ej ey e7 r =
+  pub emits_choice : (t n j : ℕ) (dest : Option ℕ) (c x y : Tree One) (ox oy : Operand) (b0 b2 b3 b4 b5 b6 b7 : Builder) → (Ready b0 → EmitsTest words c n b0 b2) → Aimed dest t b2 b3 → (Ready b3 → Emits words x (Some t) ox b3 b4) → (j ≡ length b4.blocks) × (b5 ≡ closed (reserved b4) (Goto j) n) → (Ready b5 → Emits words y (Some t) oy b5 b6) → b7 ≡ closed b6 (Goto j) j → Ready b0 → Emits words (Choice c x y) dest (Held t) b0 b7
+  emits_choice t n j dest c x y ox oy b0 b2 b3 b4 b5 b6 b7 ec ai ex ej ey e7 r =
       let jj = length b4.blocks in
+      let b5c = closed (reserved b4) (Goto jj) n in
       let c5 : b5 ≡ closed (reserved b4) (Goto jj) n = ej.1 ∙ ap (λ m. closed (reserved b4) (Goto m) n) ej.0 in
       let c7 : b7 ≡ closed b6 (Goto jj) jj = e7 ∙ ap (λ m. closed b6 (Goto m) m) ej.0 in
-      let hc = ec r in
-      let k = tr hc.grows.ready in
+      let k = ec r in
       let a = aim_of dest t b2 b3 ai k.grows.ready in
       let hx = ex a.grows.ready in
       let g24 = grows_on b2 b3 b4 k.grows.ready a.grows hx.grows in
       let r5 = ready_closed (reserved b4) (Goto jj) n (spare_on b2 (reserved b4) n (grows_on b2 b4 (reserved b4) k.grows.ready g24 (grows_reserved b4 hx.grows.ready)) k.spare) in
       let ey5 = subst (λ z. Ready z → Emits words y (Some t) oy z b6) c5 ey in
       let hy = ey5 r5 in
-      let w = joined b1 b2 b4 b6 n hc.grows.ready k.grows k.grows.ready g24 k.spare k.late (λ q5. (ey5 q5).grows) in
-      let v1 = hc.grows.values in let v2 = k.grows.values in let v3 = a.grows.values in let l1 = k.above in let v4 = hx.grows.values in let v5 = hy.grows.values in
+      let w = joined b0 b2 b4 b6 n r k.grows k.grows.ready g24 k.spare k.late (λ q5. (ey5 q5).grows) in
+      let v2 = k.grows.values in let v3 = a.grows.values in let v4 = hx.grows.values in let v5 = hy.grows.values in
       let same_banks : length b7.banks ≡ length b6.banks = ap (λ z. length z.banks) c7 in
       record {
-        grows = subst (Grows b0) (sym c7) (grows_on b0 b1 (closed b6 (Goto jj) jj) r hc.grows w.grows);
-        below = λ d. let h = a.below d in omega arith;
-        code = λ B q f0 o0.
+        grows = subst (Grows b0) (sym c7) w.grows;
+        below = λ d is. let h = a.below d in omega arith;
+        code = λ is B q f0 o0.
             let f = subst (Finishes B) c7 f0 in
             let o = subst (λ z. Opens B z q) c7 o0 in
-            let s4 = hx.code B (jump jj) (w.first B f) (w.first_opens B f) in
+            let s4 = hx.code (within_on (length b0.banks) (length b3.banks) x (omega arith) is.1) B (jump jj) (w.first B f) (w.first_opens B f) in
             let f3 = finishes_back B b3 b4 a.grows.ready hx.grows (w.first B f) in
             let f2 = finishes_back B b2 b3 k.grows.ready a.grows f3 in
-            let s6 = hy.code B (jump jj) (w.second B f) (w.second_opens B f) in
-            let s2 = k.step B s4.start s6.start f2 (a.back B s4.start s4.opens) s6.opens.is in
-            let s1 = hc.code B s2.start (finishes_back B b1 b2 hc.grows.ready k.grows f2) s2.opens in
-            record { start = s1.start; opens = s1.opens; holds = choice (tested s1.holds (omega arith) s2.holds) (omega arith) s4.holds (on jj q refl o.is (same refl)) (omega arith) s6.holds (on jj q refl o.is (same refl)) (lands_on (length b0.banks) (length b2.banks) (way_of dest (Held t) q) t q (omega arith) (a.lands q)) };
+            let s6 = hy.code (within_on (length b0.banks) (length b5c.banks) y (omega arith) is.2) B (jump jj) (w.second B f) (w.second_opens B f) in
+            let s2 = k.code is.0 B s4.start s6.start f2 (a.back B s4.start s4.opens) s6.opens.is in
+            record { start = s2.start; opens = s2.opens; holds = choice s2.holds (omega arith) s4.holds (on jj q refl o.is (same refl)) (omega arith) s6.holds (on jj q refl o.is (same refl)) (lands_on (length b0.banks) (length b2.banks) (way_of dest (Held t) q) t q (omega arith) (a.lands q)) };
+      }
+
+  -- tests
+
+  pub tests_value : (n : ℕ) (x : Tree One) (o : Operand) (b0 b1 b2 : Builder) → (Ready b0 → Emits words x None o b0 b1) → (Ready b1 → Truth o n b1 b2) → Ready b0 → EmitsTest words x n b0 b2
+  tests_value n x o b0 b1 b2 ex tr r =
+      let hx = ex r in let k = tr hx.grows.ready in
+      let v1 = hx.grows.values in let l1 = hx.grows.longer in let l2 = k.late in let l3 = k.moved in let c1 = k.above in
+      record {
+        grows = grows_on b0 b1 b2 r hx.grows k.grows;
+        spare = k.spare;
+        late = omega arith;
+        moved = omega arith;
+        empty = k.empty;
+        code = λ is B one two f w at.
+            let s2 = k.step B one two f w at in
+            let s1 = hx.code is B s2.start (finishes_back B b1 b2 hx.grows.ready k.grows f) s2.opens in
+            record { start = s1.start; opens = s1.opens; holds = tested s1.holds (omega arith) s2.holds };
+      }
+
+  pub tests_compare : (operator : BinaryOperator) (compare : Compare) (n : ℕ) (x y : Tree One) (ox oy : Operand) (b0 b1 b2 b3 : Builder) → comparison_of operator ≡ Some compare → (Ready b0 → Emits words x None ox b0 b1) → (Ready b1 → Emits words y None oy b1 b2) → (Ready b2 → Asked compare ox oy n b2 b3) → Ready b0 → EmitsTest words (Binary operator x y) n b0 b3
+  tests_compare operator compare n x y ox oy b0 b1 b2 b3 e ex ey asks r =
+      let hx = ex r in let hy = ey hx.grows.ready in let k = asks hy.grows.ready in
+      let v1 = hx.grows.values in let v2 = hy.grows.values in let l1 = hx.grows.longer in let l2 = hy.grows.longer in let l3 = k.late in let l4 = k.moved in let c1 = k.above in
+      record {
+        grows = grows_on b0 b2 b3 r (grows_on b0 b1 b2 r hx.grows hy.grows) k.grows;
+        spare = k.spare;
+        late = omega arith;
+        moved = omega arith;
+        empty = k.empty;
+        code = λ is B one two f w at.
+            let s3 = k.step B one two f w at in
+            let f2 = finishes_back B b2 b3 hy.grows.ready k.grows f in
+            let s2 = hy.code (within_on (length b0.banks) (length b1.banks) y v1 is.1) B s3.start f2 s3.opens in
+            let s1 = hx.code is.0 B s2.start (finishes_back B b1 b2 hx.grows.ready hy.grows f2) s2.opens in
+            record { start = s1.start; opens = s1.opens; holds = compared compare e s1.holds v1 (hx.below refl is.0) s2.holds (omega arith) s3.holds };
+      }
+
+  -- `!`: the two ways are exchanged
+  pub tests_not : (n y : ℕ) (x : Tree One) (b0 b1 b2 : Builder) → (Ready b0 → EmitsTest words x n b0 b1) → (y ≡ b1.current) × (b2 ≡ turned_to b1 n) → Ready b0 → EmitsTest words (Unary Not x) y b0 b2
+  tests_not n y x b0 b1 b2 ex e r =
+      let hx = ex r in
+      let m = e.0 in let l = hx.late in let h = hx.moved in
+      let at : b2.current ≡ n = ap (λ z. z.current) e.1 in
+      let g : Grows b0 (turned_to b1 n) = record {
+        ready = record { is = hx.spare.free };
+        kept = hx.grows.kept;
+        longer = hx.grows.longer;
+        current = inr l;
+        values = hx.grows.values;
+        banks = hx.grows.banks;
+        limited = λ k. let w = hx.grows.limited k in record { opened = w.opened; blocks = w.blocks };
+      } in
+      let ap2 : y ≡ n → ⊥ = λ d. hx.spare.apart (sym d ∙ m) in
+      record {
+        grows = subst (Grows b0) (sym e.1) g;
+        spare = subst (λ z. Spare z y) (sym e.1) (record { free = ap (slice_get b1.blocks) m ∙ hx.grows.ready.is; apart = ap2 });
+        late = omega arith;
+        moved = omega arith;
+        empty = ap (λ z. z.ops) e.1 ∙ hx.empty;
+        code = λ is B one two f0 w0 at2.
+            let f = subst (Finishes B) e.1 f0 in
+            let w = subst (λ z. Opens B z one) e.1 w0 in
+            let at_n : slice_get B n ≡ Some one = w.is ∙ ap (λ ops. let p : Block = record { ops = ops ++ one.ops; exit = one.exit } in Some p) hx.empty in
+            let at_y : slice_get B b1.current ≡ Some (record { ops = b1.ops ++ two.ops; exit = two.exit }) = ap (slice_get B) (sym m) ∙ at2 ∙ ap (λ ops. let p : Block = record { ops = ops ++ two.ops; exit = two.exit } in Some p) (sym hx.empty) in
+            let s = hx.code is B two one (record { stands = f.stands }) (record { is = at_y }) at_n in
+            record { start = s.start; opens = s.opens; holds = turned s.holds };
+      }
+
+  -- `&&`: the right operand is tested where the left one holds; where either does not hold the code goes to one block
+  pub tests_both : (n m j : ℕ) (x y : Tree One) (b0 b1 b2 b3 : Builder) → (Ready b0 → EmitsTest words x n b0 b1) → (Ready b1 → EmitsTest words y m b1 b2) → (j ≡ length b2.blocks) × (b3 ≡ filled (filled (reserved b2) n (jump j)) m (jump j)) → Ready b0 → EmitsTest words (Both x y) j b0 b3
+  tests_both n m j x y b0 b1 b2 b3 ex ey e r =
+      let hx = ex r in let hy = ey hx.grows.ready in
+      let g12 = hy.grows in
+      let g02 = grows_on b0 b1 b2 r hx.grows g12 in
+      let l1 = hx.grows.longer in let l2 = g12.longer in let l3 = hx.late in let l4 = hy.late in let l5 = hy.moved in let jl = e.0 in let v1 = hx.grows.values in
+      let sn = spare_on b1 b2 n g12 hx.spare in
+      let wn = slice_get_within b1.blocks n None hx.spare.free in
+      let wm = slice_get_within b2.blocks m None hy.spare.free in
+      let gr = grows_reserved b2 g12.ready in
+      let b4 = reserved b2 in
+      let sn4 = spare_on b2 b4 n gr sn in
+      let sm4 = spare_on b2 b4 m gr hy.spare in
+      let sj4 = spare_reserved b2 g12.ready in
+      let g04 = grows_on b0 b2 b4 r g02 gr in
+      let g05 = grows_filled b0 b4 n (jump j) r g04 sn4 (omega arith) (omega arith) in
+      let nm : m ≡ n → ⊥ = λ d. omega arith in
+      let b5 = filled b4 n (jump j) in
+      let sm5 = spare_filled b4 n m (jump j) sm4 nm in
+      let sj5 = spare_filled b4 n (length b2.blocks) (jump j) sj4 (λ d. omega arith) in
+      let b6 = filled b5 m (jump j) in
+      let g06 = grows_filled b0 b5 m (jump j) r g05 sm5 (omega arith) (omega arith) in
+      let sj6 = spare_filled b5 m (length b2.blocks) (jump j) sj5 (λ d. omega arith) in
+      let at_current : b3.current ≡ b2.current = ap (λ z. z.current) e.1 in
+      record {
+        grows = subst (Grows b0) (sym e.1) g06;
+        spare = subst (λ z. Spare z j) (sym e.1) (subst (Spare b6) (sym jl) sj6);
+        late = omega arith;
+        moved = omega arith;
+        empty = ap (λ z. z.ops) e.1 ∙ hy.empty;
+        code = λ is B one two f0 w0 at.
+            let f6 : Finishes B b6 = subst (Finishes B) e.1 f0 in
+            let w6 = subst (λ z. Opens B z one) e.1 w0 in
+            let f5 = before_filled B b5 m (jump j) sm5 f6 in
+            let f4 = before_filled B b4 n (jump j) sn4 f5 in
+            let f2 = finishes_back B b2 b4 g12.ready gr f4 in
+            let at_n : slice_get B n ≡ Some (jump j) = filled_stands B b4 n j sn4 f5 in
+            let at_m : slice_get B m ≡ Some (jump j) = filled_stands B b5 m j sm5 f6 in
+            let s2 = hy.code (within_on (length b0.banks) (length b1.banks) y v1 is.1) B one (jump j) f2 (record { is = w6.is }) at_m in
+            let s1 = hx.code is.0 B s2.start (jump j) (finishes_back B b1 b2 hx.grows.ready g12 f2) s2.opens at_n in
+            record { start = s1.start; opens = s1.opens; holds = both_tested s1.holds (on j two refl at (same refl)) v1 s2.holds (same refl) (on j two refl at (same refl)) };
+      }
+
+  -- `||`: the right operand is tested where the left one does not hold
+  pub tests_either : (n m j : ℕ) (x y : Tree One) (b0 b1 b2 b3 b4 : Builder) → (Ready b0 → EmitsTest words x n b0 b1) → (j ≡ length b1.blocks) × (b2 ≡ closed (reserved b1) (Goto j) n) → (Ready b2 → EmitsTest words y m b2 b3) → b4 ≡ closed b3 (Goto j) j → Ready b0 → EmitsTest words (Either x y) m b0 b4
+  tests_either n m j x y b0 b1 b2 b3 b4 ex ej ey e4 r =
+      let jj = length b1.blocks in
+      let b2c = closed (reserved b1) (Goto jj) n in
+      let c2 : b2 ≡ b2c = ej.1 ∙ ap (λ m. closed (reserved b1) (Goto m) n) ej.0 in
+      let c4 : b4 ≡ closed b3 (Goto jj) jj = e4 ∙ ap (λ m. closed b3 (Goto m) m) ej.0 in
+      let hx = ex r in
+      let gr = grows_reserved b1 hx.grows.ready in
+      let sn = spare_on b1 (reserved b1) n gr hx.spare in
+      let r2 = ready_closed (reserved b1) (Goto jj) n sn in
+      let ey2 = subst (λ z. Ready z → EmitsTest words y m z b3) c2 ey in
+      let hy = ey2 r2 in
+      let w = joined b0 b1 b1 b3 n r hx.grows hx.grows.ready (grows_self b1 hx.grows.ready) hx.spare hx.late (λ q. (ey2 q).grows) in
+      let l1 = hx.grows.longer in let l2 = hy.late in let v1 = hx.grows.values in
+      let wn = slice_get_within b1.blocks n None hx.spare.free in
+      let lr : length b2c.blocks ≡ length b1.blocks + 1 = set_length (reserved b1).blocks b1.current (Some (record { ops = b1.ops; exit = Goto jj })) ∙ length_more b1.blocks None in
+      let mj : m ≡ jj → ⊥ = λ d. omega arith in
+      let at_current : b4.current ≡ jj = ap (λ z. z.current) c4 in
+      record {
+        grows = subst (Grows b0) (sym c4) w.grows;
+        spare = subst (λ z. Spare z m) (sym c4) (spare_closed b3 (Goto jj) jj m hy.spare mj);
+        late = omega arith;
+        moved = omega arith;
+        empty = ap (λ z. z.ops) c4;
+        code = λ is B one two f0 o0 at.
+            let f = subst (Finishes B) c4 f0 in
+            let o = subst (λ z. Opens B z one) c4 o0 in
+            let s3 = hy.code (within_on (length b0.banks) (length b2c.banks) y v1 is.1) B (jump jj) two (w.second B f) (w.second_opens B f) at in
+            let s1 = hx.code is.0 B (jump jj) s3.start (w.first B f) (w.first_opens B f) s3.opens.is in
+            record { start = s1.start; opens = s1.opens; holds = either_tested s1.holds (on jj one refl o.is (same refl)) v1 s3.holds (on jj one refl o.is (same refl)) (same refl) };
       }
 
   -- the front of a row: whatever row comes behind it makes a whole one
   pub no_front : (b : Builder) → Ready b → EmitsFront words [] [] b b
-  no_front b r = record { grows = grows_self b r; code = λ B m f o. record { start = m; opens = o; holds = λ rest ros q h. h } }
+  no_front b r = record { grows = grows_self b r; count = refl; code = λ is B m f o. record { start = m; opens = o; holds = λ rest ros q h. h } }
 
   pub more_front : (xs : List Expression) (e : Expression) (os os2 : List Operand) (o : Operand) (b0 b1 b2 : Builder) → (Ready b0 → EmitsFront words xs os b0 b1) → (Ready b1 → Emits words (tree_of e) None o b1 b2) → os2 ≡ os ++ o ∷ [] → Ready b0 → EmitsFront words (xs ++ e ∷ []) os2 b0 b2
   more_front xs e os os2 o b0 b1 b2 row ex is r =
       let hr = row r in let hx = ex hr.grows.ready in
       record {
         grows = grows_on b0 b1 b2 r hr.grows hx.grows;
-        code = λ B m f w.
-            let s2 = hx.code B m f w in
-            let s1 = hr.code B s2.start (finishes_back B b1 b2 hr.grows.ready hx.grows f) s2.opens in
-            record { start = s1.start; opens = s1.opens; holds = λ rest ros q h. front_is B rest ros q s1.start (s1.holds (Then (tree_of e) rest) (o ∷ ros) q (then s2.holds hx.grows.values (hx.below refl) h)) };
+        count = let k = hr.count in let n = length_more os o in let m = length_more xs e in ap length is ∙ omega arith;
+        code = λ within B m f w.
+            let w2 = within_both (length b0.banks) xs within in
+            let ie = within_on (length b0.banks) (length b1.banks) (tree_of e) hr.grows.values w2.1 in
+            let s2 = hx.code ie B m f w in
+            let s1 = hr.code w2.0 B s2.start (finishes_back B b1 b2 hr.grows.ready hx.grows f) s2.opens in
+            record { start = s1.start; opens = s1.opens; holds = λ rest ros q h. front_is B rest ros q s1.start (s1.holds (Then (tree_of e) rest) (o ∷ ros) q (then s2.holds hx.grows.values (hx.below refl ie) h)) };
       }
     where
+      within_both : (n : ℕ) (xs : List Expression) → AreWithin n (xs ++ e ∷ []) → AreWithin n xs × IsWithin n (tree_of e)
+      within_both n [] h = (tt, h.0)
+      within_both n (x ∷ xs) h = let w = within_both n xs h.1 in ((h.0, w.0), w.1)
+
       rows : (xs : List Expression) (rest : Tree Row) → row_with xs (Then (tree_of e) rest) ≡ row_with (xs ++ e ∷ []) rest
       rows [] rest = refl
       rows (x ∷ xs) rest = ap (Then (tree_of x)) (rows xs rest)
@@ -330,11 +500,20 @@ module _ (words : List ℕ) where
       let hr = front r in
       record {
         grows = hr.grows;
-        code = λ B q f w.
-            let s = hr.code B q f w in
+        count = hr.count ∙ row_count xs;
+        code = λ is B q f w.
+            let s = hr.code (all_within (length b0.banks) xs is) B q f w in
             record { start = s.start; opens = s.opens; holds = whole B q s.start (s.holds NoMore [] q no_more) };
       }
     where
+      row_count : (xs : List Expression) → length xs ≡ row_length (row_in xs)
+      row_count [] = refl
+      row_count (x ∷ xs) = ap suc (row_count xs)
+
+      all_within : (n : ℕ) (xs : List Expression) → IsWithin n (row_in xs) → AreWithin n xs
+      all_within n [] h = tt
+      all_within n (x ∷ xs) h = (h.0, all_within n xs h.1)
+
       rows : (xs : List Expression) → row_with xs NoMore ≡ row_in xs
       rows [] = refl
       rows (x ∷ xs) = ap (Then (tree_of x)) (rows xs)
@@ -356,17 +535,20 @@ module _ (words : List ℕ) where
       let same_banks : length b4.banks ≡ length b2.banks = ap (λ z. length z.banks) c4 in
       record {
         grows = subst (Grows b0) (sym c4) g4;
-        below = λ d. let h = a.below d in omega arith;
-        code = λ B q fin op.
+        below = λ d is. let h = a.below d in omega arith;
+        code = λ is B q fin op.
             let f4 = subst (Finishes B) c4 fin in
             let o4 = subst (λ z. Opens B z q) c4 op in
             let f3 = before_closed B (reserved b2) (Call f os (Some t) nn) nn gr.ready f4 in
             let o3 = opens_closed B (reserved b2) (Call f os (Some t) nn) (closed_stands B (reserved b2) (Call f os (Some t) nn) nn gr.ready f4) in
             let o2 : Opens B b2 (ends (Call f os (Some t) nn)) = record { is = o3.is } in
             let f1 = finishes_back B b1 (reserved b2) hx.grows.ready (grows_on b1 b2 (reserved b2) hx.grows.ready a.grows gr) f3 in
-            let s = hx.code B (ends (Call f os (Some t) nn)) f1 (a.back B (ends (Call f os (Some t) nn)) o2) in
+            let s = hx.code is B (ends (Call f os (Some t) nn)) f1 (a.back B (ends (Call f os (Some t) nn)) o2) in
             record { start = s.start; opens = s.opens; holds = apply s.holds (same refl) o4.is (lands_on (length b0.banks) (length b1.banks) (way_of dest (Held t) q) t q v1 (a.lands q)) };
       }
 
 pub emits_as : (words : List ℕ) (dest : Option ℕ) (o : Operand) (a b : Builder) (x y : Tree One) → x ≡ y → (Ready a → Emits words x dest o a b) → Ready a → Emits words y dest o a b
 emits_as words dest o a b x y e f r = subst (λ z. Emits words z dest o a b) e (f r)
+
+pub tests_as : (words : List ℕ) (n : ℕ) (a b : Builder) (x y : Tree One) → x ≡ y → (Ready a → EmitsTest words x n a b) → Ready a → EmitsTest words y n a b
+tests_as words n a b x y e f r = subst (λ z. EmitsTest words z n a b) e (f r)

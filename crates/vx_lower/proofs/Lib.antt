@@ -4,8 +4,8 @@ pub mod Ties
 pub mod Values
 pub mod Exprs
 pub mod Zeros
-pub mod Actions
-pub mod Statements
+pub mod ActionLaws
+pub mod StatementLaws
 pub mod Facts
 pub mod Alike
 pub mod Calls
@@ -14,3 +14,5 @@ pub mod Places
 pub mod Building
 pub mod PieceMaking
 pub mod Emitting
+pub mod TreeViews
+pub mod ActionMaking

@@ -77,13 +77,15 @@ pub record Branched (op : Op) (c n : ℕ) (old new : Builder) : Type 0 where
   pub below : c < length new.banks
   pub spare : Spare new n
   pub late : length old.blocks ≤ n
+  pub moved : length old.blocks ≤ new.current
+  pub empty : new.ops ≡ []
   pub step : (B : List Block) (one two : Block) → Finishes B new → Opens B new one → slice_get B n ≡ Some two → From B old (λ p. Tests B op c p one two)
 
 pub branched_of : (b b1 b2 : Builder) (c n : ℕ) (bank : Bank) (op : Op) → (c ≡ length b.banks) × (b1 ≡ with_value b bank) → (Ready b1 → Branches op c n b1 b2) → Ready b → Branched op c n b b2
 branched_of b b1 b2 c n bank op e p r =
     let g = value_is b b1 bank e.1 r in let m = value_next b b1 bank e.1 in let w = e.0 in let l = g.longer in
-    let x = p g.ready in let v = x.grows.values in let k = x.late in
-    record { grows = grows_on b b1 b2 r g x.grows; fresh = w; below = omega arith; spare = record { free = x.other; apart = x.apart }; late = omega arith; step = λ B one two f o at. from_value B b b1 bank e.1 (λ p. Tests B op c p one two) (x.step B one two f o at) }
+    let x = p g.ready in let v = x.grows.values in let k = x.late in let h = x.moved in
+    record { grows = grows_on b b1 b2 r g x.grows; fresh = w; below = omega arith; spare = record { free = x.other; apart = x.apart }; late = omega arith; moved = omega arith; empty = x.empty; step = λ B one two f o at. from_value B b b1 bank e.1 (λ p. Tests B op c p one two) (x.step B one two f o at) }
 
 -- a last operation
 pub lasts_of : (dest : Option ℕ) (t : ℕ) (op : Op) (b b1 b2 : Builder) → Aimed dest t b b1 → (Ready b1 → Puts op b1 b2) → Ready b → Lasts op dest t b b2
@@ -102,15 +104,15 @@ delivers_moved t o b b1 p r =
     let x = p r in
     record { grows = x.grows; kept = λ n. absurd (cc); step = λ B q f w. let s = x.step B q f w in record { start = s.start; opens = s.opens; holds = (refl, s.holds) } }
 
-pub checked_of : (words : List ℕ) (a : ℕ) (o : Operand) (t c : ℕ) (size : ℤ) (b0 b1 b2 b3 b4 : Builder) → size ≡ pos (slice_index_or words a 0) → (t ≡ length b0.banks) × (b1 ≡ with_value b0 General) → (Ready b1 → Puts (Place t a o) b1 b2) → (c ≡ length b2.banks) × (b3 ≡ with_value b2 Branch) → (Ready b3 → Guards (Compute (ToBranch Ltu) c o (Number size)) c ByIndex b3 b4) → Ready b0 → IsBelow (length b0.banks) o → Checked words a o t b0 b4
-checked_of words a o t c size b0 b1 b2 b3 b4 es et pt ec pc r below =
+pub checked_of : (words : List ℕ) (a : ℕ) (o : Operand) (t c : ℕ) (size : ℤ) (b0 b1 b2 b3 b4 : Builder) → size ≡ pos (slice_index_or words a 0) → (t ≡ length b0.banks) × (b1 ≡ with_value b0 General) → (Ready b1 → Puts (Place t a o) b1 b2) → (c ≡ length b2.banks) × (b3 ≡ with_value b2 Branch) → (Ready b3 → Guards (Compute (ToBranch Ltu) c o (Number size)) c ByIndex b3 b4) → Ready b0 → Checked words a o t b0 b4
+checked_of words a o t c size b0 b1 b2 b3 b4 es et pt ec pc r =
     let s = sets_of b0 b1 b2 t General (Place t a o) et pt r in
     let k = guarded_of b2 b3 b4 c ByIndex Branch (Compute (ToBranch Ltu) c o (Number (pos (slice_index_or words a 0)))) ec (subst (λ z. Ready b3 → Guards (Compute (ToBranch Ltu) c o (Number z)) c ByIndex b3 b4) es pc) s.grows.ready in
     let f = s.fresh in let l = s.below in let fc = k.fresh in let v = k.grows.values in
     record {
       grows = grows_on b0 b2 b4 r s.grows k.grows;
       below = omega arith;
-      step = λ B q fin w.
+      step = λ below B q fin w.
           let s2 = k.step B q fin w in
           let s1 = s.step B s2.start (finishes_back B b2 b4 s.grows.ready k.grows fin) s2.opens in
           record { start = s1.start; opens = s1.opens; holds = record { place = s2.start; no = s2.holds.0; c = c; goes = s1.holds; tests = s2.holds.1; stops = s2.holds.2; free = below_on (length b0.banks) t o (omega arith) below; above = omega arith; fresh = omega arith } };

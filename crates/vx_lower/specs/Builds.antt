@@ -19,6 +19,9 @@ reserved b = record b { blocks = b.blocks ++ None ∷ [] }
 abbrev pub closed : Builder → Exit → ℕ → Builder
 closed b exit n = record b { blocks = slice_set b.blocks b.current (Some (record { ops = b.ops; exit = exit })); current = n; ops = [] }
 
+abbrev pub turned_to : Builder → ℕ → Builder
+turned_to b n = record b { current = n }
+
 abbrev pub filled : Builder → ℕ → Block → Builder
 filled b n block = record b { blocks = slice_set b.blocks n (Some block) }
 
@@ -84,6 +87,8 @@ pub record Branches (op : Op) (c n : ℕ) (old new : Builder) : Type 0 where
   pub other : slice_get new.blocks n ≡ Some None
   pub apart : n ≡ new.current → ⊥
   pub late : length old.blocks ≤ n
+  pub moved : length old.blocks ≤ new.current
+  pub empty : new.ops ≡ []
   pub step : (B : List Block) (one two : Block) → Finishes B new → Opens B new one → slice_get B n ≡ Some two → From B old (λ p. Tests B op c p one two)
 
 -- a test was added that ends the program by a trap where it does not hold

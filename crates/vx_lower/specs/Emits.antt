@@ -1,11 +1,14 @@
 -- What the code that was added to a graph that is being made says of each graph that finishes it.
-use Rattle.std.specs.Prelude.{◌≡◌, ℕ, ◌<◌, ◌≤◌, ℤ, pos, Bool, true, false, Option, Some, None, List, [], ◌∷◌, ◌++◌, length, slice_get}
+use Rattle.std.specs.List.{list_all}
+use Rattle.std.specs.Prelude.{◌≡◌, ℕ, ◌<◌, ◌≤◌, ◌^◌, nat_lt, ℤ, pos, Bool, true, false, Option, Some, None, List, [], ◌∷◌, ◌++◌, length, slice_get}
 use Rattle.vx_ast.specs.declared.tree.BinaryOperator.{BinaryOperator}
 use Rattle.vx_ast.specs.declared.tree.Expression.{Expression}
 use Rattle.vx_ast.specs.View.{tree_of}
-use Rattle.vx_ast.specs.Tree.{Shape, One, Row, Tree, Then}
+use Rattle.vx_ast.specs.Accepted.{row_length}
+use Rattle.vx_ast.specs.Tree.{Shape, One, Row, Tree, Literal, Local, Global, Element, Unary, Binary, Both, Either, Choice, Apply, ReadInt, MoreInput, NoMore, Then}
 use Rattle.vx_flow.specs.declared.graph.Bank.TheVariants.{General}
 use Rattle.vx_base.specs.declared.arithmetic.Code.TheVariants.{Mov, ToBranch}
+use Rattle.vx_base.specs.declared.arithmetic.Compare.{Compare}
 use Rattle.vx_base.specs.declared.arithmetic.Compare.TheVariants.{Ne}
 use Rattle.vx_flow.specs.declared.graph.Operand.{Operand}
 use Rattle.vx_flow.specs.declared.graph.Operand.TheVariants.{Held, Number}
@@ -15,6 +18,27 @@ use Rattle.vx_flow.specs.declared.graph.Block.{Block}
 use Rattle.vx_lower.specs.Holds.{IsBelow, Goes, Tests, Checks, Combines, Way, To, Into, Tested, Lands, Holds, then_op}
 use Rattle.vx_lower.specs.Builds.{Ready, Grows, Finishes, Opens, From, with_value}
 use Rattle.vx_lower.specs.declared.builder.Builder.{Builder}
+
+-- each number of words is below 2^31
+abbrev pub are_small : List ℕ → Bool
+are_small words = list_all (λ n. nat_lt n (2 ^ 31)) words
+
+-- each scalar that the tree names is below n
+abbrev pub IsWithin : {k : Shape} → ℕ → Tree k → Type 0
+IsWithin n (Literal z) = Unit {0}
+IsWithin n (Local x) = x < n
+IsWithin n (Global a) = Unit {0}
+IsWithin n (Element a i) = IsWithin n i
+IsWithin n (Unary operator a) = IsWithin n a
+IsWithin n (Binary operator a b) = IsWithin n a × IsWithin n b
+IsWithin n (Both a b) = IsWithin n a × IsWithin n b
+IsWithin n (Either a b) = IsWithin n a × IsWithin n b
+IsWithin n (Choice c a b) = IsWithin n c × IsWithin n a × IsWithin n b
+IsWithin n (Apply f row) = IsWithin n row
+IsWithin n ReadInt = Unit {0}
+IsWithin n MoreInput = Unit {0}
+IsWithin n NoMore = Unit {0}
+IsWithin n (Then a rest) = IsWithin n a × IsWithin n rest
 
 -- where a result is wanted: in any operand, or in a value that is named
 abbrev pub way_of : Option ℕ → Operand → Block → Way One
@@ -47,7 +71,7 @@ pub record Delivers (dest : Option ℕ) (o r : Operand) (old new : Builder) : Ty
 pub record Checked (words : List ℕ) (a : ℕ) (o : Operand) (t : ℕ) (old new : Builder) : Type 0 where
   pub grows : Grows old new
   pub below : t < length new.banks
-  pub step : (B : List Block) (q : Block) → Finishes B new → Opens B new q → From B old (λ p. Checks B words a (length old.banks) t o p q)
+  pub step : IsBelow (length old.banks) o → (B : List Block) (q : Block) → Finishes B new → Opens B new q → From B old (λ p. Checks B words a (length old.banks) t o p q)
 
 -- an operator done to two operands, whose result is in t
 pub record Combined (operator : BinaryOperator) (a b : Operand) (dest : Option ℕ) (t : ℕ) (old new : Builder) : Type 0 where
@@ -59,8 +83,8 @@ pub record Combined (operator : BinaryOperator) (a b : Operand) (dest : Option �
 -- the code of an expression
 pub record Emits (words : List ℕ) (e : Tree One) (dest : Option ℕ) (o : Operand) (old new : Builder) : Type 0 where
   pub grows : Grows old new
-  pub below : dest ≡ None → IsBelow (length new.banks) o
-  pub code : (B : List Block) (q : Block) → Finishes B new → Opens B new q → From B old (λ p. Holds B words One e p (way_of dest o q) (length old.banks))
+  pub below : dest ≡ None → IsWithin (length old.banks) e → IsBelow (length new.banks) o
+  pub code : IsWithin (length old.banks) e → (B : List Block) (q : Block) → Finishes B new → Opens B new q → From B old (λ p. Holds B words One e p (way_of dest o q) (length old.banks))
 
 -- a block that was reserved and is not open
 pub record Spare (b : Builder) (n : ℕ) : Type 0 where
@@ -72,21 +96,35 @@ pub record EmitsTest (words : List ℕ) (e : Tree One) (n : ℕ) (old new : Buil
   pub grows : Grows old new
   pub spare : Spare new n
   pub late : length old.blocks ≤ n
-  pub code : (B : List Block) (one two : Block) → Finishes B new → Opens B new one → slice_get B n ≡ Some two → From B old (λ p. Holds B words One e p (Tested one two) (length old.banks))
+  -- the open block is a later one and has no operation yet
+  pub moved : length old.blocks ≤ new.current
+  pub empty : new.ops ≡ []
+  pub code : IsWithin (length old.banks) e → (B : List Block) (one two : Block) → Finishes B new → Opens B new one → slice_get B n ≡ Some two → From B old (λ p. Holds B words One e p (Tested one two) (length old.banks))
 
 -- the code of a row of arguments
 pub record EmitsRow (words : List ℕ) (row : Tree Row) (os : List Operand) (old new : Builder) : Type 0 where
   pub grows : Grows old new
-  pub code : (B : List Block) (q : Block) → Finishes B new → Opens B new q → From B old (λ p. Holds B words Row row p (To os q) (length old.banks))
+  pub count : length os ≡ row_length row
+  pub code : IsWithin (length old.banks) row → (B : List Block) (q : Block) → Finishes B new → Opens B new q → From B old (λ p. Holds B words Row row p (To os q) (length old.banks))
 
--- a number is tested: the open block is where it is not 0, and n where it is
-pub record Truth (o : Operand) (n : ℕ) (old new : Builder) : Type 0 where
+-- a compare is tested: the open block is where it holds, and n where it does not
+pub record Asked (compare : Compare) (a b : Operand) (n : ℕ) (old new : Builder) : Type 0 where
   pub c : ℕ
   pub above : length old.banks ≤ c
   pub grows : Grows old new
   pub spare : Spare new n
   pub late : length old.blocks ≤ n
-  pub step : (B : List Block) (one two : Block) → Finishes B new → Opens B new one → slice_get B n ≡ Some two → From B old (λ p. Tests B (Compute (ToBranch Ne) c o (Number (pos 0))) c p one two)
+  pub moved : length old.blocks ≤ new.current
+  pub empty : new.ops ≡ []
+  pub step : (B : List Block) (one two : Block) → Finishes B new → Opens B new one → slice_get B n ≡ Some two → From B old (λ p. Tests B (Compute (ToBranch compare) c a b) c p one two)
+
+-- a number is tested: the open block is where it is not 0, and n where it is
+abbrev pub Truth : Operand → ℕ → Builder → Builder → Type 0
+Truth o n old new = Asked Ne o (Number (pos 0)) n old new
+
+abbrev pub AreWithin : ℕ → List Expression → Type 0
+AreWithin n [] = Unit {0}
+AreWithin n (e ∷ es) = IsWithin n (tree_of e) × AreWithin n es
 
 -- the code of the front of a row, whatever row comes behind it
 abbrev pub row_with : List Expression → Tree Row → Tree Row
@@ -95,4 +133,5 @@ row_with (e ∷ es) rest = Then (tree_of e) (row_with es rest)
 
 pub record EmitsFront (words : List ℕ) (es : List Expression) (os : List Operand) (old new : Builder) : Type 0 where
   pub grows : Grows old new
-  pub code : (B : List Block) (m : Block) → Finishes B new → Opens B new m → From B old (λ p. (rest : Tree Row) (ros : List Operand) (q : Block) → Holds B words Row rest m (To ros q) (length new.banks) → Holds B words Row (row_with es rest) p (To (os ++ ros) q) (length old.banks))
+  pub count : length os ≡ length es
+  pub code : AreWithin (length old.banks) es → (B : List Block) (m : Block) → Finishes B new → Opens B new m → From B old (λ p. (rest : Tree Row) (ros : List Operand) (q : Block) → Holds B words Row rest m (To ros q) (length new.banks) → Holds B words Row (row_with es rest) p (To (os ++ ros) q) (length old.banks))

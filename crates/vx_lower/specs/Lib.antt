@@ -4,3 +4,4 @@ pub mod Does
 pub mod Lowered
 pub mod Builds
 pub mod Emits
+pub mod Makes

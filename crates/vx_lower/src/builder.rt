@@ -2,7 +2,7 @@
 // of memory leaves what was made unfinished, to be dropped. specs/Builds.antt says what each step keeps.
 
 ghost use Rattle.std.specs.Prelude.{◌≡◌, ℕ, ◌+◌, ◌<◌, List, [], ◌∷◌, ◌++◌, length, IfOk, OnOk, Option, Some, None};
-ghost use Rattle.vx_lower.specs.Builds.{closed, reserved, with_op, with_value, filled, Ready, Puts, Branches, Guards};
+ghost use Rattle.vx_lower.specs.Builds.{closed, reserved, turned_to, with_op, with_value, filled, Ready, Puts, Branches, Guards};
 
 use crate::slots::Slots;
 use std::alloc::Global;
@@ -41,28 +41,27 @@ impl Builder {
     }
 
     /// The open block ends, and another one is open.
-    pub fn close(&mut self, alloc: Global, exit: Exit, then: BlockId) -> Result<(), NoMemory>
-        ensures { OnOk result (self.new ≡ closed self.old exit then) }
+    pub fn close(&mut self, alloc: Global, exit: Exit, then: BlockId)
+        ensures { self.new ≡ closed self.old exit then }
     {
-        let place = self.current as usize;
-        if place >= self.blocks.len() {
-            return Err(NoMemory);
-        }
         let ops = mem::replace(&mut self.ops, Listed::new(alloc));
-        self.blocks.set(place, Some(Block { ops, exit }));
+        self.blocks
+            .set(self.current as usize, Some(Block { ops, exit }));
         self.current = then;
-        Ok(())
     }
 
     /// A reserved block is finished at once.
-    pub fn fill(&mut self, place: BlockId, block: Block) -> Result<(), NoMemory>
-        ensures { OnOk result (self.new ≡ filled self.old place block) }
+    pub fn fill(&mut self, place: BlockId, block: Block)
+        ensures { self.new ≡ filled self.old place block }
     {
-        if place as usize >= self.blocks.len() {
-            return Err(NoMemory);
-        }
         self.blocks.set(place as usize, Some(block));
-        Ok(())
+    }
+
+    /// A block that has no operation yet waits, and another one is open.
+    pub fn turn(&mut self, to: BlockId) -> BlockId
+        ensures { (result ≡ self.old.current) × (self.new ≡ turned_to self.old to) }
+    {
+        mem::replace(&mut self.current, to)
     }
 
     /// A value of its own.
@@ -96,7 +95,7 @@ impl Builder {
         ensures { OnOk result (Ready self.old → Puts op self.old self.new) }
     {
         let next = self.reserve()?;
-        self.close(alloc, Exit::Goto(next), next)?;
+        self.close(alloc, Exit::Goto(next), next);
         self.push(op)?;
         Ok(())
     }
@@ -108,7 +107,7 @@ impl Builder {
         self.put(alloc, op)?;
         let yes = self.reserve()?;
         let no = self.reserve()?;
-        self.close(alloc, Exit::Split { test, yes, no }, yes)?;
+        self.close(alloc, Exit::Split { test, yes, no }, yes);
         Ok(no)
     }
 
@@ -123,7 +122,7 @@ impl Builder {
                 ops: Listed::new(alloc),
                 exit: Exit::Ends(trap),
             },
-        )?;
+        );
         Ok(())
     }
 }

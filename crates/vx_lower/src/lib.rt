@@ -1,7 +1,10 @@
 // From an accepted program to the graphs of its functions, which do what the program does (specs/FlowOf.antt).
 #![tactic(auto)]
 
+pub mod actions;
 pub mod builder;
+pub mod expressions;
 pub mod laws;
 pub mod pieces;
+pub mod sizes;
 pub mod slots;

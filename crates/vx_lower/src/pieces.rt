@@ -1,14 +1,15 @@
 // The pieces that the code of expressions is made of: a last operation, a move, the check of an index, an operator.
 
-ghost use Rattle.std.specs.Prelude.{◌≡◌, ℕ, pos, true, false, Some, length, slice_index_or, IfOk};
+ghost use Rattle.std.specs.Prelude.{◌≡◌, true, false, Some, IfOk};
 ghost use Rattle.vx_ast.specs.Meaning.{divides};
 ghost use Rattle.vx_ast.specs.declared.tree.BinaryOperator.TheVariants.{Multiply};
-ghost use Rattle.vx_lower.specs.Holds.{IsBelow, operation_of, comparison_of};
+ghost use Rattle.vx_lower.specs.Holds.{operation_of, comparison_of};
 ghost use Rattle.vx_lower.specs.Builds.{Ready};
 ghost use Rattle.vx_lower.specs.Emits.{Aimed, Lasts, Delivers, Checked, Combined};
 ghost use Rattle.vx_flow.specs.declared.graph.Op.TheVariants.{Compute, Load, More, Input};
 
 use crate::builder::Builder;
+use crate::sizes::Sizes;
 use std::alloc::Global;
 use vx_ast::tree::BinaryOperator;
 use vx_base::arithmetic::{Code, Compare};
@@ -116,32 +117,17 @@ pub fn deliver(
     }
 }
 
-/// How many words an array has, as a number of the graph.
-pub fn size_of(words: &[u32], array: ArrayId) -> Result<i32, NoMemory>
-    ensures { IfOk result (λ n. n ≡ pos (slice_index_or words.now array 0)) }
-{
-    let place = array as usize;
-    if place >= words.len() {
-        return Err(NoMemory);
-    }
-    let size = words[place];
-    if size > 1_000_000 {
-        return Err(NoMemory);
-    }
-    Ok(size as i32)
-}
-
 /// The check of an index: its place is in the value.
 pub fn check(
     b: &mut Builder,
     alloc: Global,
-    words: &[u32],
+    words: &Sizes,
     array: ArrayId,
     index: Operand,
 ) -> Result<Value, NoMemory>
-    ensures { IfOk result (λ t. Ready b.old → IsBelow (length b.old.banks) index → Checked words.now array index t b.old b.new) }
+    ensures { IfOk result (λ t. Ready b.old → Checked words.now array index t b.old b.new) }
 {
-    let size = size_of(words, array)?;
+    let size = words.of(array);
     let t = b.fresh(Bank::General)?;
     b.put(
         alloc,

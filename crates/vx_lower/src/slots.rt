@@ -43,12 +43,13 @@ impl<T: Drop> Slots<T> {
         self.items.len()
     }
 
-    /// Another item at a place.
+    /// Another item at a place, where there is one.
     pub fn set(&mut self, place: usize, item: T)
-        requires { place < length self.old }
         ensures { self.new ≡ slice_set self.old place item }
     {
-        self.items[place] = item;
+        if place < self.items.len() {
+            self.items[place] = item;
+        }
     }
 
     /// Puts an item at the end.

@@ -5,5 +5,5 @@ use Rattle.vx_lower.proofs.pieces.check.Goals as goal
 
 pub returns : goal.returns
 returns c =
-    let f : FitsSigned w32 c.in_ok-size.size = search rules in
-    checked_of c.args.words.now c.args.array c.args.index c.in_ok-t.t c.in_ok-c.c (to_z w32 (of_z w32 c.in_ok-size.size)) c.args.b.now c.fresh.new.self c.put.new.self c.fresh-2.new.self c.guard.new.self (to_z-of_z w32 c.in_ok-size.size f ∙ c.in_ok-size.ensures) c.in_ok-t.ensures c.in_ok-put.ensures c.in_ok-c.ensures c.in_ok-guard.ensures
+    let f : FitsSigned w32 c.of-size.result = search rules in
+    checked_of c.args.words.now c.args.array c.args.index c.in_ok-t.t c.in_ok-c.c (to_z w32 (of_z w32 c.of-size.result)) c.args.b.now c.fresh.new.self c.put.new.self c.fresh-2.new.self c.guard.new.self (to_z-of_z w32 c.of-size.result f ∙ c.of-size.ensures) c.in_ok-t.ensures c.in_ok-put.ensures c.in_ok-c.ensures c.in_ok-guard.ensures

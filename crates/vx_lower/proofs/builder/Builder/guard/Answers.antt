@@ -6,4 +6,4 @@ use Rattle.vx_lower.proofs.Building.{guards_is}
 use Rattle.vx_lower.proofs.builder.Builder.guard.Goals as goal
 
 pub returns : goal.returns
-returns c = guards_is c.args.self.now c.branch-self.new.self c.fill.new.self c.args.op c.args.test c.args.trap c.in_ok-no.no c.in_ok-no.ensures (c.in_ok-fill.ensures ∙ ap (λ ops. let o : Block = record { ops = ops; exit = Ends c.args.trap } in filled c.branch-self.new.self c.in_ok-no.no o) c.new.ensures)
+returns c = guards_is c.args.self.now c.branch-self.new.self c.fill.new.self c.args.op c.args.test c.args.trap c.in_ok-no.no c.in_ok-no.ensures (c.fill.ensures ∙ ap (λ ops. let o : Block = record { ops = ops; exit = Ends c.args.trap } in filled c.branch-self.new.self c.in_ok-no.no o) c.new.ensures)

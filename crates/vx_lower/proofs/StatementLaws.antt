@@ -24,7 +24,7 @@ use Rattle.vx_lower.proofs.Steps.{Here, Entry, HasBlocks, Comes, Later, Passes, 
 use Rattle.vx_lower.proofs.Ties.{Tied, tied_scalar, row_length as words_of_row}
 use Rattle.vx_lower.proofs.Values.{head_of, zero_fits, Above, Fitting, Gained, Landed, Chosen, Good, CallsMeet, choose as choose_way}
 use Rattle.vx_lower.proofs.Zeros.{Wiped, zeroes_run, tied_zeroed}
-use Rattle.vx_lower.proofs.Actions.{BothScopes, in_more, one_more_scalar, tied_narrow, Reaches, Stays, value_runs, sets, acts_run, shows_run}
+use Rattle.vx_lower.proofs.ActionLaws.{BothScopes, in_more, one_more_scalar, tied_narrow, Reaches, Stays, value_runs, sets, acts_run, shows_run}
 
 -- a statement leaves more in force
 pub after_wider : (st : Code) (sc : Scope) → BothScopes (scope_after st sc) sc

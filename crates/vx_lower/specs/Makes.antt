@@ -1,0 +1,113 @@
+-- What the code of statements that was added to a graph that is being made says of each graph that finishes it.
+use Rattle.std.specs.Prelude.{◌≡◌, ℕ, suc, ◌<◌, ◌≤◌, ℤ, pos, Bool, true, false, Option, Some, None, List, [], ◌∷◌, ◌++◌, length, slice_get}
+use Rattle.vx_ast.specs.declared.tree.BinaryOperator.{BinaryOperator}
+use Rattle.vx_ast.specs.Tree.{Shape, One, Row, Tree, Place, InLocal, InGlobal, InElement, Action, Evaluate, Assign, Compound, Increase, Decrease, Code, Nothing, Seq, Empty, Block as Braces, Clear, Declare, ClearArray, Simply, Head, Print, If, IfElse, While, DoWhile, For, Break, Continue, Return, ReturnValue}
+use Rattle.vx_ast.specs.Meaning.{Piece, AByte, ANumber, pieces_of}
+use Rattle.vx_ast.specs.Accepted.{row_length}
+use Rattle.vx_flow.specs.declared.graph.Operand.{Operand}
+use Rattle.vx_flow.specs.declared.graph.Operand.TheVariants.{Held, Number}
+use Rattle.vx_flow.specs.declared.graph.Exit.{Exit}
+use Rattle.vx_flow.specs.declared.graph.Exit.TheVariants.{Goto, Return as Returns}
+use Rattle.vx_flow.specs.declared.graph.Block.{Block}
+use Rattle.vx_lower.specs.Holds.{IsBelow, Lands, ends}
+use Rattle.vx_lower.specs.Does.{Change, By, Up, Down, Changes, Acts, Asks, Does}
+use Rattle.vx_lower.specs.Builds.{Ready, Grows, Finishes, Opens, From}
+use Rattle.vx_lower.specs.Emits.{IsWithin, Spare, way_of}
+use Rattle.vx_lower.specs.declared.builder.Builder.{Builder}
+
+-- how many numbers there are among pieces
+abbrev pub numbers_in : List Piece → ℕ
+numbers_in [] = 0
+numbers_in (AByte b ∷ pieces) = numbers_in pieces
+numbers_in (ANumber ∷ pieces) = suc (numbers_in pieces)
+
+-- each scalar that is named is below vars, and a print has an argument for each number
+
+abbrev pub PlaceWithin : ℕ → Place → Type 0
+PlaceWithin vars (InLocal x) = x < vars
+PlaceWithin vars (InGlobal a) = Unit {0}
+PlaceWithin vars (InElement a i) = IsWithin vars i
+
+abbrev pub ChangeWithin : ℕ → Change → Type 0
+ChangeWithin vars (By operator e) = IsWithin vars e
+ChangeWithin vars Up = Unit {0}
+ChangeWithin vars Down = Unit {0}
+
+abbrev pub ActionWithin : ℕ → Action → Type 0
+ActionWithin vars (Evaluate e) = IsWithin vars e
+ActionWithin vars (Assign t e) = PlaceWithin vars t × IsWithin vars e
+ActionWithin vars (Compound t operator e) = PlaceWithin vars t × IsWithin vars e
+ActionWithin vars (Increase t) = PlaceWithin vars t
+ActionWithin vars (Decrease t) = PlaceWithin vars t
+
+abbrev pub TestWithin : ℕ → Option (Tree One) → Type 0
+TestWithin vars None = Unit {0}
+TestWithin vars (Some e) = IsWithin vars e
+
+abbrev pub CodeWithin : ℕ → Code → Type 0
+CodeWithin vars Nothing = Unit {0}
+CodeWithin vars (Seq a b) = CodeWithin vars a × CodeWithin vars b
+CodeWithin vars Empty = Unit {0}
+CodeWithin vars (Braces a) = CodeWithin vars a
+CodeWithin vars (Clear x) = x < vars
+CodeWithin vars (Declare x e) = (x < vars) × IsWithin vars e
+CodeWithin vars (ClearArray a) = Unit {0}
+CodeWithin vars (Simply a) = ActionWithin vars a
+CodeWithin vars (Head a) = ActionWithin vars a
+CodeWithin vars (Print format row) = (numbers_in (pieces_of format) ≤ row_length row) × IsWithin vars row
+CodeWithin vars (If e a) = IsWithin vars e × CodeWithin vars a
+CodeWithin vars (IfElse e a b) = IsWithin vars e × CodeWithin vars a × CodeWithin vars b
+CodeWithin vars (While e a) = IsWithin vars e × CodeWithin vars a
+CodeWithin vars (DoWhile a e) = CodeWithin vars a × IsWithin vars e
+CodeWithin vars (For first test step a) = CodeWithin vars first × TestWithin vars test × CodeWithin vars step × CodeWithin vars a
+CodeWithin vars Break = Unit {0}
+CodeWithin vars Continue = Unit {0}
+CodeWithin vars Return = Unit {0}
+CodeWithin vars (ReturnValue e) = IsWithin vars e
+
+-- simple statements
+
+abbrev pub step_change : Bool → Change
+step_change true = Up
+step_change false = Down
+
+-- the new value is made of the old one, and is in t
+pub record Alters (words : List ℕ) (c : Change) (from : Operand) (dest : Option ℕ) (t : ℕ) (old new : Builder) : Type 0 where
+  pub grows : Grows old new
+  pub below : dest ≡ None → t < length new.banks
+  pub lands : (q : Block) → Lands (length old.banks) (way_of dest (Held t) q) t q
+  pub code : ChangeWithin (length old.banks) c → IsBelow (length old.banks) from → (B : List Block) (q : Block) → Finishes B new → Opens B new q → From B old (λ p. Changes B words (length old.banks) from c p t q)
+
+pub record Acted (words : List ℕ) (a : Action) (old new : Builder) : Type 0 where
+  pub grows : Grows old new
+  pub code : (vars : ℕ) → ActionWithin vars a → vars ≤ length old.banks → (B : List Block) (q : Block) → Finishes B new → Opens B new q → From B old (λ p. Acts B words vars a p q)
+
+-- statements
+
+-- where a break or a continue leads; outside of every loop the function returns
+abbrev pub way_exit : Option ℕ → Exit
+way_exit None = Returns (Number (pos 0))
+way_exit (Some block) = Goto block
+
+-- the texts begin with these
+pub record Begins (front whole : List (List ℕ)) : Type 0 where
+  pub more : List (List ℕ)
+  pub is : whole ≡ front ++ more
+
+-- the code of what neither prints nor is left but at its end
+pub record MakesPlain (words : List ℕ) (s : Code) (old new : Builder) : Type 0 where
+  pub grows : Grows old new
+  pub code : (vars : ℕ) → CodeWithin vars s → vars ≤ length old.banks → (B : List Block) (texts : List (List ℕ)) (q out more : Block) → Finishes B new → Opens B new q → From B old (λ p. Does B words texts vars s p q out more)
+
+-- the code of a statement; leaves and again tell where a break and a continue lead
+pub record Makes (words : List ℕ) (s : Code) (leaves again : Option ℕ) (old new : Builder) (before after : List (List ℕ)) : Type 0 where
+  pub grows : Grows old new
+  pub texts : Begins before after
+  pub code : (vars : ℕ) → CodeWithin vars s → vars ≤ length old.banks → (B : List Block) (texts : List (List ℕ)) (q : Block) → Begins after texts → Finishes B new → Opens B new q → From B old (λ p. Does B words texts vars s p q (ends (way_exit leaves)) (ends (way_exit again)))
+
+-- the test of a loop: the open block is where it holds, and n where it does not
+pub record MakesTest (words : List ℕ) (test : Option (Tree One)) (n : ℕ) (old new : Builder) : Type 0 where
+  pub grows : Grows old new
+  pub spare : Spare new n
+  pub late : length old.blocks ≤ n
+  pub code : (vars : ℕ) → TestWithin vars test → vars ≤ length old.banks → (B : List Block) (one two : Block) → Finishes B new → Opens B new one → slice_get B n ≡ Some two → From B old (λ p. Asks B words vars test p one two)

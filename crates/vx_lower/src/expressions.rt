@@ -1,0 +1,342 @@
+// The code of expressions and of rows of arguments. The left operand comes first; an operand is evaluated only where it
+// is needed.
+
+ghost use Rattle.std.specs.Prelude.{◌≡◌, length, IfOk};
+ghost use Rattle.vx_ast.specs.View.{tree_of, row_in};
+ghost use Rattle.vx_lower.specs.Holds.{jump, unary_op};
+ghost use Rattle.vx_lower.specs.Builds.{Ready, closed, filled, reserved};
+ghost use Rattle.vx_lower.specs.Emits.{Asked, Emits, EmitsRow, EmitsTest, Lasts, Truth};
+ghost use Rattle.vx_flow.specs.declared.graph.Exit.TheVariants.{Goto};
+ghost use Rattle.vx_ast.specs.Tree.{ReadInt};
+
+use crate::builder::Builder;
+use crate::pieces::{check, combine, comparison, compute, deliver, input, load, more, target};
+use crate::sizes::Sizes;
+use std::alloc::Global;
+use vx_ast::tree::{BinaryOperator, Expression, UnaryOperator};
+use vx_base::arithmetic::{Code, Compare};
+use vx_base::listed::Listed;
+use vx_base::outcome::{NoMemory, Trap};
+use vx_flow::graph::{Bank, Block, BlockId, Exit, Op, Operand, Value};
+
+/// The last operation of an operator with one operand.
+fn unary(
+    b: &mut Builder,
+    alloc: Global,
+    operator: UnaryOperator,
+    o: Operand,
+    dest: Option<Value>,
+) -> Result<Value, NoMemory>
+    ensures { IfOk result (λ t. Ready b.old → Lasts (unary_op operator t o) dest t b.old b.new) }
+{
+    match operator {
+        UnaryOperator::Minus => compute(b, alloc, Code::Sub, Operand::Number(0), o, dest),
+        UnaryOperator::Plus => compute(b, alloc, Code::Mov, o, Operand::Number(0), dest),
+        UnaryOperator::Not => compute(
+            b,
+            alloc,
+            Code::ToGeneral(Compare::Eq),
+            o,
+            Operand::Number(0),
+            dest,
+        ),
+        UnaryOperator::Complement => compute(b, alloc, Code::Xor, o, Operand::Number(-1), dest),
+    }
+}
+
+/// The test of a compare. The open block then is where it holds, and the result is where it does not.
+fn compared(
+    b: &mut Builder,
+    alloc: Global,
+    compare: Compare,
+    left: Operand,
+    right: Operand,
+) -> Result<BlockId, NoMemory>
+    ensures { IfOk result (λ n. Ready b.old → Asked compare left right n b.old b.new) }
+{
+    let c = b.fresh(Bank::Branch)?;
+    let no = b.branch(
+        alloc,
+        Op::Compute {
+            code: Code::ToBranch(compare),
+            to: c,
+            left,
+            right,
+        },
+        c,
+    )?;
+    Ok(no)
+}
+
+/// The test of a number. The open block then is where it is not 0, and the result is where it is.
+fn truth(b: &mut Builder, alloc: Global, o: Operand) -> Result<BlockId, NoMemory>
+    ensures { IfOk result (λ n. Ready b.old → Truth o n b.old b.new) }
+{
+    compared(b, alloc, Compare::Ne, o, Operand::Number(0))
+}
+
+/// Two blocks that wait go to one that is reserved.
+fn meet(
+    b: &mut Builder,
+    alloc: Global,
+    first: BlockId,
+    second: BlockId,
+) -> Result<BlockId, NoMemory>
+    ensures { IfOk result (λ j. (j ≡ length b.old.blocks) × (b.new ≡ filled (filled (reserved b.old) first (jump j)) second (jump j))) }
+{
+    let both = b.reserve()?;
+    b.fill(
+        first,
+        Block {
+            ops: Listed::new(alloc),
+            exit: Exit::Goto(both),
+        },
+    );
+    b.fill(
+        second,
+        Block {
+            ops: Listed::new(alloc),
+            exit: Exit::Goto(both),
+        },
+    );
+    Ok(both)
+}
+
+/// The open block goes to one that is reserved for both ways, and the other way is open.
+pub fn join(b: &mut Builder, alloc: Global, other: BlockId) -> Result<BlockId, NoMemory>
+    ensures { IfOk result (λ j. (j ≡ length b.old.blocks) × (b.new ≡ closed (reserved b.old) (Goto j) other)) }
+{
+    let both = b.reserve()?;
+    b.close(alloc, Exit::Goto(both), other);
+    Ok(both)
+}
+
+fn read(
+    b: &mut Builder,
+    alloc: Global,
+    words: &Sizes,
+    dest: Option<Value>,
+) -> Result<Operand, NoMemory>
+    ensures { IfOk result (λ o. Ready b.old → Emits words.now ReadInt dest o b.old b.new) }
+{
+    let v = b.fresh(Bank::General)?;
+    b.put(alloc, Op::More { to: v })?;
+    let c = b.fresh(Bank::Branch)?;
+    b.guard(
+        alloc,
+        Op::Compute {
+            code: Code::ToBranch(Compare::Ne),
+            to: c,
+            left: Operand::Held(v),
+            right: Operand::Number(0),
+        },
+        c,
+        Trap::Input,
+    )?;
+    let t = input(b, alloc, dest)?;
+    Ok(Operand::Held(t))
+}
+
+/// The code of an expression, and where its value is: in any operand, or in the value that is wanted.
+#[cycle(values)]
+pub fn emit_value(
+    b: &mut Builder,
+    alloc: Global,
+    words: &Sizes,
+    e: &Expression,
+    dest: Option<Value>,
+) -> Result<Operand, NoMemory>
+    ensures { IfOk result (λ o. Ready b.old → Emits words.now (tree_of e.now) dest o b.old b.new) }
+{
+    match e {
+        Expression::Number(n) => {
+            let r = deliver(b, alloc, Operand::Number(*n), dest)?;
+            Ok(r)
+        }
+        Expression::Scalar(x) => {
+            let r = deliver(b, alloc, Operand::Held(*x), dest)?;
+            Ok(r)
+        }
+        Expression::Global(array) => {
+            let t = load(b, alloc, *array, Operand::Number(0), dest)?;
+            Ok(Operand::Held(t))
+        }
+        Expression::Element(array, i) => {
+            let a = *array;
+            let index = emit_value(b, alloc, words, i, None)?;
+            let place = check(b, alloc, words, a, index)?;
+            let t = load(b, alloc, a, Operand::Held(place), dest)?;
+            Ok(Operand::Held(t))
+        }
+        Expression::Unary(operator, x) => {
+            let o = emit_value(b, alloc, words, x, None)?;
+            let t = unary(b, alloc, *operator, o, dest)?;
+            Ok(Operand::Held(t))
+        }
+        Expression::Binary(operator, x, y) => {
+            let left = emit_value(b, alloc, words, x, None)?;
+            let right = emit_value(b, alloc, words, y, None)?;
+            let t = combine(b, alloc, *operator, left, right, dest)?;
+            Ok(Operand::Held(t))
+        }
+        Expression::Both(x, y) => {
+            let no = emit_test(b, alloc, words, x)?;
+            let t = target(b, dest)?;
+            let right = emit_value(b, alloc, words, y, None)?;
+            b.put(
+                alloc,
+                Op::Compute {
+                    code: Code::ToGeneral(Compare::Ne),
+                    to: t,
+                    left: right,
+                    right: Operand::Number(0),
+                },
+            )?;
+            let j = join(b, alloc, no)?;
+            b.put(
+                alloc,
+                Op::Compute {
+                    code: Code::Mov,
+                    to: t,
+                    left: Operand::Number(0),
+                    right: Operand::Number(0),
+                },
+            )?;
+            b.close(alloc, Exit::Goto(j), j);
+            Ok(Operand::Held(t))
+        }
+        Expression::Either(x, y) => {
+            let no = emit_test(b, alloc, words, x)?;
+            let t = target(b, dest)?;
+            b.put(
+                alloc,
+                Op::Compute {
+                    code: Code::Mov,
+                    to: t,
+                    left: Operand::Number(1),
+                    right: Operand::Number(0),
+                },
+            )?;
+            let j = join(b, alloc, no)?;
+            let right = emit_value(b, alloc, words, y, None)?;
+            b.put(
+                alloc,
+                Op::Compute {
+                    code: Code::ToGeneral(Compare::Ne),
+                    to: t,
+                    left: right,
+                    right: Operand::Number(0),
+                },
+            )?;
+            b.close(alloc, Exit::Goto(j), j);
+            Ok(Operand::Held(t))
+        }
+        Expression::Choice(c, x, y) => {
+            let no = emit_test(b, alloc, words, c)?;
+            let t = target(b, dest)?;
+            let first = emit_value(b, alloc, words, x, Some(t))?;
+            let j = join(b, alloc, no)?;
+            let second = emit_value(b, alloc, words, y, Some(t))?;
+            b.close(alloc, Exit::Goto(j), j);
+            Ok(Operand::Held(t))
+        }
+        Expression::Call(function, all) => {
+            let f = *function;
+            let arguments = emit_row(b, alloc, words, all.as_slice())?;
+            let t = target(b, dest)?;
+            let next = b.reserve()?;
+            b.close(
+                alloc,
+                Exit::Call {
+                    function: f,
+                    arguments,
+                    result: Some(t),
+                    next,
+                },
+                next,
+            );
+            Ok(Operand::Held(t))
+        }
+        Expression::ReadInt => read(b, alloc, words, dest),
+        Expression::MoreInput => {
+            let t = more(b, alloc, dest)?;
+            Ok(Operand::Held(t))
+        }
+    }
+}
+
+/// The code of a test, straight into a branch value where a compare is tested. The open block then is where the
+/// expression is not 0, and the result is where it is.
+#[cycle(values)]
+pub fn emit_test(
+    b: &mut Builder,
+    alloc: Global,
+    words: &Sizes,
+    e: &Expression,
+) -> Result<BlockId, NoMemory>
+    ensures { IfOk result (λ n. Ready b.old → EmitsTest words.now (tree_of e.now) n b.old b.new) }
+{
+    match e {
+        Expression::Unary(operator, x) => match *operator {
+            UnaryOperator::Not => {
+                let no = emit_test(b, alloc, words, x)?;
+                let yes = b.turn(no);
+                Ok(yes)
+            }
+            _ => {
+                let o = emit_value(b, alloc, words, e, None)?;
+                let no = truth(b, alloc, o)?;
+                Ok(no)
+            }
+        },
+        Expression::Binary(operator, x, y) => match comparison(*operator) {
+            Some(compare) => {
+                let left = emit_value(b, alloc, words, x, None)?;
+                let right = emit_value(b, alloc, words, y, None)?;
+                let no = compared(b, alloc, compare, left, right)?;
+                Ok(no)
+            }
+            None => {
+                let o = emit_value(b, alloc, words, e, None)?;
+                let no = truth(b, alloc, o)?;
+                Ok(no)
+            }
+        },
+        Expression::Both(x, y) => {
+            let first = emit_test(b, alloc, words, x)?;
+            let second = emit_test(b, alloc, words, y)?;
+            let no = meet(b, alloc, first, second)?;
+            Ok(no)
+        }
+        Expression::Either(x, y) => {
+            let first = emit_test(b, alloc, words, x)?;
+            let yes = join(b, alloc, first)?;
+            let no = emit_test(b, alloc, words, y)?;
+            b.close(alloc, Exit::Goto(yes), yes);
+            Ok(no)
+        }
+        _ => {
+            let o = emit_value(b, alloc, words, e, None)?;
+            let no = truth(b, alloc, o)?;
+            Ok(no)
+        }
+    }
+}
+
+/// The code of a row of arguments, and where their values are.
+#[cycle(values)]
+pub fn emit_row(
+    b: &mut Builder,
+    alloc: Global,
+    words: &Sizes,
+    all: &[Expression],
+) -> Result<Listed<Operand>, NoMemory>
+    ensures { IfOk result (λ os. Ready b.old → EmitsRow words.now (row_in all.now) os b.old b.new) }
+{
+    let mut arguments = Listed::new(alloc);
+    for e in all {
+        let value = emit_value(b, alloc, words, e, None)?;
+        arguments.push(value)?;
+    }
+    Ok(arguments)
+}
