@@ -8,14 +8,16 @@ use Rattle.vx_isa.specs.declared.program.WordProgram.{WordProgram}
 use Rattle.vx_isa.specs.Numbers.{Numbers}
 use Rattle.vx_machine.specs.declared.description.MachineFault.TheVariants.{Bad}
 use Rattle.vx_ast.specs.Tree.{Program}
-use Rattle.vx_ast.specs.Small.{ReadsSmall}
-use Rattle.vx_driver.specs.declared.status.Role.{Role}
-use Rattle.vx_driver.specs.declared.status.Role.TheVariants.{Source as TheSource, Machine as TheMachine}
+use Rattle.vx_base.specs.declared.role.Role.{Role}
+use Rattle.vx_base.specs.declared.role.Role.TheVariants.{Source as TheSource, Words as TheWords, Profile as TheProfile, Machine as TheMachine, Input as TheInput}
+use Rattle.vx_ast.specs.Reads.{most_bytes, Refusal, too_long}
+use Rattle.vx_base.specs.Reading.{ReadsFile}
+use Rattle.vx_base.specs.declared.reading.FileRead.TheVariants.{TooLong as FileTooLong}
 use Rattle.vx_driver.specs.declared.status.Status.{Status}
-use Rattle.vx_driver.specs.declared.status.Status.TheVariants.{Done, Usage, Source, Limit, Machine, NoFile, ReadFault, WriteFault, NoMemory}
+use Rattle.vx_driver.specs.declared.status.Status.TheVariants.{Done, Trapped, Usage, Source, Limit, Words, Machine, NoFile, ReadFault, WriteFault, Stopped, Input, Stuck, NoMemory}
 use Rattle.vx_driver.specs.Compiled.{Compiled}
 use Rattle.vx_words.specs.Text.{Spells}
-use Rattle.vx_driver.specs.Answers.{Reads, HoldsSource, HoldsProgram, Accepts, Refuses, MachineFound, Is, Refused, TooLong, Missing, machine_found, TextOf, Compiles, WritesWords, WritesPartly, Effect, ReadsRose, ReplacesRose, SameFiles, SourceAnswers, MachineAnswers, StopsAtMachine, CompileAnswers, WriteAnswers, PutsText, NoMachine, ForMachine, ProgramAnswers}
+use Rattle.vx_driver.specs.Answers.{ReadsForWords, HoldsSource, HoldsProgram, Accepts, RefusesSource, Refuses, MachineFound, Is, Refused, TooLong, Missing, machine_found, TextOf, Compiles, WritesWords, WritesPartly, Effect, ReadsRose, ReplacesRose, SameFiles, SourceAnswers, MachineAnswers, StopsAtMachine, CompileAnswers, WriteAnswers, PutsText, NoMachine, ForMachine, ProgramAnswers}
 
 pub text_of_words : (p : Program) (m : Numbers) (w : WordProgram) (r : Result (Vec ℕ Global) NoRoom) → Compiled p m w → IfOk r (λ text. Spells text.items w) → IfOk r (λ text. TextOf p m text.items)
 text_of_words p m w (Ok text) c e = record { words = w; compiled = c; spells = e }
@@ -53,6 +55,11 @@ missing_since e f P (Some held) s h = h
 machine_since : (machine : Option (List ℕ)) (e f : Effect) (status : Status) → Since e f → MachineAnswers machine e status → MachineAnswers machine f status
 machine_since machine e f Done s a = absurd a
 machine_since machine e f Usage s a = absurd a
+machine_since machine e f (Trapped trap) s a = absurd a
+machine_since machine e f (Words code line) s a = absurd a
+machine_since machine e f Stopped s a = absurd a
+machine_since machine e f (Input place) s a = absurd a
+machine_since machine e f (Stuck reason place) s a = absurd a
 machine_since machine e f (Source code line column) s a = absurd a
 machine_since machine e f (Limit number count) s a = (a.0, a.1, same_since e f s a.2, told_since e f (λ held. machine_found held machine ≡ TooLong) s a.3)
 machine_since machine e f (Machine code field) s a = (same_since e f s a.0, told_since e f (λ held. machine_found held machine ≡ Refused (Bad code field)) s a.1)
@@ -65,30 +72,52 @@ machine_since machine e f NoMemory s a = same_since e f s a
 
 -- a source that could not be read through
 
-pub refuses_in : (source content : List ℕ) (b : Option Files) → IfSome b (λ held. HoldsSource held source content) → ((program : Program) → ReadsSmall content program → ⊥) → IfSome b (λ held. Refuses held source)
-refuses_in source content None h never = tt
-refuses_in source content (Some held) h never = record { content = content; holds = h.holds; refused = λ p reads. never p reads.small }
+refuses_in : (source content : List ℕ) (status : Status) (b : Option Files) → IfSome b (λ held. HoldsSource held source content) → RefusesSource content status → IfSome b (λ held. Refuses held source status)
+refuses_in source content status None h r = tt
+refuses_in source content status (Some held) h r = record { content = content; holds = h.holds; refused = r }
 
-pub holds_in : (source content : List ℕ) (program : Program) (b : Option Files) → IfSome b (λ held. HoldsSource held source content) → ReadsSmall content program → IfSome b (λ held. HoldsProgram held source program)
+pub holds_in : (source content : List ℕ) (program : Program) (b : Option Files) → IfSome b (λ held. HoldsSource held source content) → ReadsForWords content program → IfSome b (λ held. HoldsProgram held source program)
 holds_in source content program None h reads = tt
-holds_in source content program (Some held) h reads = record { content = content; holds = h.holds; reads = record { short = h.short; small = reads } }
+holds_in source content program (Some held) h reads = record { content = content; holds = h.holds; reads = reads }
+
+refused : (source content : List ℕ) (e : Effect) (status : Status) → IfSome e.before (λ held. HoldsSource held source content) → SameFiles e → RefusesSource content status → SourceAnswers source e status
+refused source content e (Source code line column) h same r = (same, refuses_in source content (Source code line column) e.before h r)
+refused source content e (Limit number count) h same r = (same, refuses_in source content (Limit number count) e.before h r)
+refused source content e status h same r = absurd r
 
 pub unread : (source content : List ℕ) (e : Effect) (status : Status) → IfSome e.before (λ held. HoldsSource held source content) → SameFiles e →
-    ((status ≡ NoMemory) ⊎ ((status ≡ Source 4 1 1) × ((program : Program) → ReadsSmall content program → ⊥))) → SourceAnswers source e status
+    ((status ≡ NoMemory) ⊎ RefusesSource content status) → SourceAnswers source e status
 unread source content e status h same (inl is) = subst (SourceAnswers source e) (sym is) same
-unread source content e status h same (inr refused) =
-    subst (SourceAnswers source e) (sym refused.0) (refl, refl, refl, same, refuses_in source content e.before h refused.1)
+unread source content e status h same (inr why) = refused source content e status h same why
+
+long_in : (source : List ℕ) (b : Option Files) → IfSome b (λ held. ReadsFile held source most_bytes FileTooLong) → IfSome b (λ held. Refuses held source (Limit 1 1048577))
+long_in source None h = tt
+long_in source (Some held) h = record { content = h.content; holds = h.holds; refused = too_long h.answers }
+
+pub long_source : (source : List ℕ) (e : Effect) → IfSome e.before (λ held. ReadsFile held source most_bytes FileTooLong) → SameFiles e → SourceAnswers source e (Limit 1 1048577)
+long_source source e h same = (same, long_in source e.before h)
 
 pub stops_at_source : (source out : List ℕ) (machine : Option (List ℕ)) (e : Effect) (status : Status) → SourceAnswers source e status → CompileAnswers source out machine e status
 stops_at_source source out machine e Done a = absurd a
 stops_at_source source out machine e Usage a = absurd a
+stops_at_source source out machine e (Trapped trap) a = absurd a
+stops_at_source source out machine e (Words code line) a = absurd a
+stops_at_source source out machine e Stopped a = absurd a
+stops_at_source source out machine e (Input place) a = absurd a
+stops_at_source source out machine e (Stuck reason place) a = absurd a
 stops_at_source source out machine e (Source code line column) a = a
-stops_at_source source out machine e (Limit number count) a = absurd a
+stops_at_source source out machine e (Limit number count) a = inl a
 stops_at_source source out machine e (Machine code field) a = absurd a
 stops_at_source source out machine e (NoFile TheSource) a = a
 stops_at_source source out machine e (NoFile TheMachine) a = let is = a.0 in cc
+stops_at_source source out machine e (NoFile TheWords) a = let is = a.0 in cc
+stops_at_source source out machine e (NoFile TheProfile) a = let is = a.0 in cc
+stops_at_source source out machine e (NoFile TheInput) a = let is = a.0 in cc
 stops_at_source source out machine e (ReadFault TheSource) a = a
 stops_at_source source out machine e (ReadFault TheMachine) a = let is = a.0 in cc
+stops_at_source source out machine e (ReadFault TheWords) a = let is = a.0 in cc
+stops_at_source source out machine e (ReadFault TheProfile) a = let is = a.0 in cc
+stops_at_source source out machine e (ReadFault TheInput) a = let is = a.0 in cc
 stops_at_source source out machine e WriteFault a = absurd a
 stops_at_source source out machine e NoMemory a = a
 
@@ -101,12 +130,23 @@ accepts_in source program (Some held) h = record { program = program; is = h }
 stops : (source out : List ℕ) (machine : Option (List ℕ)) (e : Effect) (status : Status) → StopsAtMachine source machine e status → CompileAnswers source out machine e status
 stops source out machine e Done a = absurd a.answers
 stops source out machine e Usage a = absurd a.answers
+stops source out machine e (Trapped trap) a = absurd a.answers
+stops source out machine e (Words code line) a = absurd a.answers
+stops source out machine e Stopped a = absurd a.answers
+stops source out machine e (Input place) a = absurd a.answers
+stops source out machine e (Stuck reason place) a = absurd a.answers
 stops source out machine e (Source code line column) a = absurd a.answers
-stops source out machine e (Limit number count) a = a
+stops source out machine e (Limit number count) a = inr a
 stops source out machine e (Machine code field) a = a
 stops source out machine e (NoFile TheSource) a = let is = a.answers.0 in cc
+stops source out machine e (NoFile TheWords) a = let is = a.answers.0 in cc
+stops source out machine e (NoFile TheProfile) a = let is = a.answers.0 in cc
+stops source out machine e (NoFile TheInput) a = let is = a.answers.0 in cc
 stops source out machine e (NoFile TheMachine) a = a
 stops source out machine e (ReadFault TheSource) a = let is = a.answers.0 in cc
+stops source out machine e (ReadFault TheWords) a = let is = a.answers.0 in cc
+stops source out machine e (ReadFault TheProfile) a = let is = a.answers.0 in cc
+stops source out machine e (ReadFault TheInput) a = let is = a.answers.0 in cc
 stops source out machine e (ReadFault TheMachine) a = a
 stops source out machine e WriteFault a = absurd a.answers
 stops source out machine e NoMemory a = a.answers
@@ -146,6 +186,11 @@ written : (source out text : List ℕ) (machine : Option (List ℕ)) (program : 
     WriteAnswers out text e status → CompileAnswers source out machine e status
 written source out text machine program numbers e Done h m t is = writes_in source out text machine program numbers e.before e.after h m t is
 written source out text machine program numbers e Usage h m t is = absurd is
+written source out text machine program numbers e (Trapped trap) h m t is = absurd is
+written source out text machine program numbers e (Words code line) h m t is = absurd is
+written source out text machine program numbers e Stopped h m t is = absurd is
+written source out text machine program numbers e (Input place) h m t is = absurd is
+written source out text machine program numbers e (Stuck reason place) h m t is = absurd is
 written source out text machine program numbers e (Source code line column) h m t is = absurd is
 written source out text machine program numbers e (Limit number count) h m t is = absurd is
 written source out text machine program numbers e (Machine code field) h m t is = absurd is
@@ -157,6 +202,11 @@ written source out text machine program numbers e NoMemory h m t is = is
 write_since : (out text : List ℕ) (e f : Effect) (status : Status) → Since e f → WriteAnswers out text e status → WriteAnswers out text f status
 write_since out text e f Done s is = s.after ∙ is ∙ ap (λ b. with_file b out text) (sym s.before)
 write_since out text e f Usage s is = absurd is
+write_since out text e f (Trapped trap) s is = absurd is
+write_since out text e f (Words code line) s is = absurd is
+write_since out text e f Stopped s is = absurd is
+write_since out text e f (Input place) s is = absurd is
+write_since out text e f (Stuck reason place) s is = absurd is
 write_since out text e f (Source code line column) s is = absurd is
 write_since out text e f (Limit number count) s is = absurd is
 write_since out text e f (Machine code field) s is = absurd is

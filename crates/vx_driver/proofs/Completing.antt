@@ -1,22 +1,23 @@
 -- What the answer of a command excludes where nothing fails.
-use Rattle.std.proofs.Common.{◌≡◌, ◌⊎◌, inl, inr, ℕ, List, Option, Some, None, IfSome, MatchOption, refl, sym, subst}
+use Rattle.std.proofs.Common.{◌≡◌, ◌⊎◌, inl, inr, ℕ, List, Option, Some, None, IfSome, MatchOption, refl, sym, subst, ap}
 use Rattle.vx_base.specs.Outside.{Files}
 use Rattle.vx_isa.specs.Numbers.{Numbers}
 use Rattle.vx_machine.specs.declared.description.MachineFault.TheVariants.{Bad}
+use Rattle.vx_ast.specs.declared.fault.SourceFault.{SourceFault}
+use Rattle.vx_ast.specs.declared.fault.SourceFault.TheVariants.{Bad as BadSource, Limit as OverLimit}
 use Rattle.vx_ast.specs.Tree.{Program}
-use Rattle.vx_driver.specs.declared.status.Role.TheVariants.{Source as TheSource, Machine as TheMachine}
+use Rattle.vx_base.specs.declared.role.Role.TheVariants.{Source as TheSource, Words as TheWords, Profile as TheProfile, Machine as TheMachine, Input as TheInput}
 use Rattle.vx_driver.specs.declared.status.Status.{Status}
-use Rattle.vx_driver.specs.declared.status.Status.TheVariants.{Done, Usage, Source, Limit, Machine, NoFile, ReadFault, WriteFault, NoMemory}
-use Rattle.vx_driver.specs.Command.{Command, Compile}
-use Rattle.vx_driver.specs.Answers.{Reads, HoldsProgram, Accepts, Refuses, MachineFound, Is, Refused, TooLong, Missing, machine_found, WritesWords, Effect, ReadsRose, ReplacesRose, StopsAtMachine, CompileAnswers, Answers, CompileEnds, Completes}
+use Rattle.vx_driver.specs.declared.status.Status.TheVariants.{Done, Trapped, Usage, Source, Limit, Words, Machine, NoFile, ReadFault, WriteFault, Stopped, Input, Stuck, NoMemory}
+use Rattle.vx_ast.specs.Small.{ReadsSmall}
+use Rattle.vx_ast.specs.Reads.{Reads, Refusal}
+use Rattle.vx_driver.proofs.SourceLaws.{never_both, one_refusal}
+use Rattle.vx_driver.specs.Answers.{ReadsForWords, HasNoWords, HoldsProgram, Accepts, status_of, no_words, RefusesSource, Refuses, MachineFound, Is, Refused, TooLong, Missing, machine_found, WritesWords, Effect, ReadsRose, ReplacesRose, StopsAtMachine, CompileAnswers, CompileEnds}
 
 -- a source's file is one of accepted, refused and missing
 
 same_content : (o : Option (List ℕ)) (content other : List ℕ) → o ≡ Some content → o ≡ Some other → content ≡ other
 same_content o content other a b = cc
-
-not_both : (held : Files) (source : List ℕ) → Accepts held source → Refuses held source → ⊥
-not_both held source a r = r.refused a.program (subst (λ bytes. Reads bytes a.program) (same_content (held source) a.is.content r.content a.is.holds r.holds) a.is.reads)
 
 not_missing : (o : Option (List ℕ)) (content : List ℕ) → o ≡ Some content → o ≡ None → ⊥
 not_missing o content a b = cc
@@ -24,7 +25,7 @@ not_missing o content a b = cc
 -- an answer, where nothing failed
 pub data Ends (held : Files) (source : List ℕ) (machine : Option (List ℕ)) : Status → Type 0 where
   done : (numbers : Numbers) → Accepts held source → machine_found held machine ≡ Is numbers → Ends held source machine Done
-  refused : Refuses held source → Ends held source machine (Source 4 1 1)
+  refused : {status : Status} → Refuses held source status → Ends held source machine status
   no_source : held source ≡ None → Ends held source machine (NoFile TheSource)
   bad_machine : (code field : ℕ) → Accepts held source → machine_found held machine ≡ Refused (Bad code field) → Ends held source machine (Machine code field)
   long_machine : Accepts held source → machine_found held machine ≡ TooLong → Ends held source machine (Limit 11 65537)
@@ -43,13 +44,16 @@ told_ends source out machine held e Done is quiet_reads quiet_replaces a =
     let w : WritesWords held e.after source out machine = told (λ h. WritesWords h e.after source out machine) e.before held is a in
     done w.compiles.numbers (record { program = w.compiles.program; is = w.compiles.holds }) w.compiles.machine_is
 told_ends source out machine held e Usage is quiet_reads quiet_replaces a = absurd a
+told_ends source out machine held e (Trapped trap) is quiet_reads quiet_replaces a = absurd a
+told_ends source out machine held e (Words code line) is quiet_reads quiet_replaces a = absurd a
+told_ends source out machine held e Stopped is quiet_reads quiet_replaces a = absurd a
+told_ends source out machine held e (Input place) is quiet_reads quiet_replaces a = absurd a
+told_ends source out machine held e (Stuck reason place) is quiet_reads quiet_replaces a = absurd a
 told_ends source out machine held e (Source code line column) is quiet_reads quiet_replaces a =
-    let r : Refuses held source = told (λ h. Refuses h source) e.before held is a.4 in
-    subst (Ends held source machine) (same_place code line column a.0 a.1 a.2) (refused r)
-  where
-    same_place : (code line column : ℕ) → code ≡ 4 → line ≡ 1 → column ≡ 1 → Source 4 1 1 ≡ Source code line column
-    same_place code line column a b c = cc
-told_ends source out machine held e (Limit number count) is quiet_reads quiet_replaces a =
+    refused (told (λ h. Refuses h source (Source code line column)) e.before held is a.1)
+told_ends source out machine held e (Limit number count) is quiet_reads quiet_replaces (inl a) =
+    refused (told (λ h. Refuses h source (Limit number count)) e.before held is a.1)
+told_ends source out machine held e (Limit number count) is quiet_reads quiet_replaces (inr a) =
     let s : Accepts held source = told (λ h. Accepts h source) e.before held is a.accepted in
     let long : machine_found held machine ≡ TooLong = told (λ h. machine_found h machine ≡ TooLong) e.before held is a.answers.3 in
     subst (Ends held source machine) (same_limit number count a.answers.0 a.answers.1) (long_machine s long)
@@ -59,25 +63,20 @@ told_ends source out machine held e (Limit number count) is quiet_reads quiet_re
 told_ends source out machine held e (Machine code field) is quiet_reads quiet_replaces a =
     bad_machine code field (told (λ h. Accepts h source) e.before held is a.accepted)
     (told (λ h. machine_found h machine ≡ Refused (Bad code field)) e.before held is a.answers.1)
+told_ends source out machine held e (NoFile TheWords) is quiet_reads quiet_replaces a = absurd a
+told_ends source out machine held e (NoFile TheProfile) is quiet_reads quiet_replaces a = absurd a
+told_ends source out machine held e (NoFile TheInput) is quiet_reads quiet_replaces a = absurd a
 told_ends source out machine held e (NoFile TheSource) is quiet_reads quiet_replaces a = no_source (told_or (ReadsRose e) (λ h. h source ≡ None) e.before held is a.2)
 told_ends source out machine held e (NoFile TheMachine) is quiet_reads quiet_replaces a =
     no_machine (told (λ h. Accepts h source) e.before held is a.accepted)
     (told_or (ReadsRose e) (λ h. machine_found h machine ≡ Missing) e.before held is a.answers.2)
+told_ends source out machine held e (ReadFault TheWords) is quiet_reads quiet_replaces a = absurd a
+told_ends source out machine held e (ReadFault TheProfile) is quiet_reads quiet_replaces a = absurd a
+told_ends source out machine held e (ReadFault TheInput) is quiet_reads quiet_replaces a = absurd a
 told_ends source out machine held e (ReadFault TheSource) is quiet_reads quiet_replaces a = absurd (quiet_reads a.2)
 told_ends source out machine held e (ReadFault TheMachine) is quiet_reads quiet_replaces a = absurd (quiet_reads a.answers.2)
 told_ends source out machine held e WriteFault is quiet_reads quiet_replaces a = absurd (quiet_replaces a.0)
 told_ends source out machine held e NoMemory is quiet_reads quiet_replaces a = no_memory
-
--- each end by its cause
-
-refused_ends : (held : Files) (source : List ℕ) (machine : Option (List ℕ)) (status : Status) → Refuses held source → Ends held source machine status → (status ≡ Source 4 1 1) ⊎ (status ≡ NoMemory)
-refused_ends held source machine status r (done numbers s is) = absurd (not_both held source s r)
-refused_ends held source machine status r (refused other) = inl refl
-refused_ends held source machine status r (no_source none) = absurd (not_missing (held source) r.content r.holds none)
-refused_ends held source machine status r (bad_machine code field s is) = absurd (not_both held source s r)
-refused_ends held source machine status r (long_machine s is) = absurd (not_both held source s r)
-refused_ends held source machine status r (no_machine s is) = absurd (not_both held source s r)
-refused_ends held source machine status r no_memory = inr refl
 
 missing_ends : (held : Files) (source : List ℕ) (machine : Option (List ℕ)) (status : Status) → held source ≡ None → Ends held source machine status → (status ≡ NoFile TheSource) ⊎ (status ≡ NoMemory)
 missing_ends held source machine status none (done numbers s is) = absurd (not_missing (held source) s.is.content s.is.holds none)
@@ -96,9 +95,67 @@ due (Refused why) status = ⊥
 due TooLong status = status ≡ Limit 11 65537
 due Missing status = status ≡ NoFile TheMachine
 
+never_refused : (content : List ℕ) (program : Program) (status : Status) → ReadsForWords content program → RefusesSource content status → ⊥
+never_refused content program (Source code line column) reads (inl fault) = never_both content program (BadSource code line column) reads.reads fault
+never_refused content program (Source code line column) reads (inr none) = none.1.other program reads.small
+never_refused content program (Limit number count) reads r = never_both content program (OverLimit number count) reads.reads r
+never_refused content program status reads r = r
+
+not_both : (held : Files) (source : List ℕ) (status : Status) → Accepts held source → Refuses held source status → ⊥
+not_both held source status a r =
+    never_refused r.content a.program status (subst (λ bytes. ReadsForWords bytes a.program) (same_content (held source) a.is.content r.content a.is.holds r.holds) a.is.reads) r.refused
+
+-- a source with a fault or over a limit
+
+one_status : (content : List ℕ) (fault : SourceFault) (status : Status) → Refusal content fault → RefusesSource content status → status ≡ status_of fault
+one_status content fault (Source code line column) f (inl g) = ap status_of (one_refusal content (BadSource code line column) fault g f)
+one_status content fault (Source code line column) f (inr none) = absurd (never_both content none.1.accepted.program fault none.1.accepted.reads f)
+one_status content fault (Limit number count) f r = ap status_of (one_refusal content (OverLimit number count) fault r f)
+one_status content fault status f r = absurd r
+
+not_faulty : (held : Files) (source content : List ℕ) (fault : SourceFault) → held source ≡ Some content → Refusal content fault → Accepts held source → ⊥
+not_faulty held source content fault holds f a =
+    never_both content a.program fault (subst (λ bytes. Reads bytes a.program) (same_content (held source) a.is.content content a.is.holds holds) a.is.reads.reads) f
+
+refused_ends : (held : Files) (source : List ℕ) (machine : Option (List ℕ)) (status : Status) (content : List ℕ) (fault : SourceFault) → held source ≡ Some content → Refusal content fault → Ends held source machine status →
+    (status ≡ status_of fault) ⊎ (status ≡ NoMemory)
+refused_ends held source machine status content fault holds f (done numbers s is) = absurd (not_faulty held source content fault holds f s)
+refused_ends held source machine status content fault holds f (refused r) =
+    inl (one_status content fault status f (subst (λ bytes. RefusesSource bytes status) (same_content (held source) r.content content r.holds holds) r.refused))
+refused_ends held source machine status content fault holds f (no_source none) = absurd (not_missing (held source) content holds none)
+refused_ends held source machine status content fault holds f (bad_machine code field s is) = absurd (not_faulty held source content fault holds f s)
+refused_ends held source machine status content fault holds f (long_machine s is) = absurd (not_faulty held source content fault holds f s)
+refused_ends held source machine status content fault holds f (no_machine s is) = absurd (not_faulty held source content fault holds f s)
+refused_ends held source machine status content fault holds f no_memory = inr refl
+
+-- a source without words
+
+wordless_status : (content : List ℕ) (status : Status) → HasNoWords content → RefusesSource content status → status ≡ no_words
+wordless_status content (Source code line column) n (inl g) = absurd (never_both content n.accepted.program (BadSource code line column) n.accepted.reads g)
+wordless_status content (Source code line column) n (inr none) = none.0
+wordless_status content (Limit number count) n r = absurd (never_both content n.accepted.program (OverLimit number count) n.accepted.reads r)
+wordless_status content status n r = absurd r
+
+not_small : (held : Files) (source content : List ℕ) → held source ≡ Some content → HasNoWords content → Accepts held source → ⊥
+not_small held source content holds n a =
+    n.other a.program (subst (λ bytes. ReadsSmall bytes a.program) (same_content (held source) a.is.content content a.is.holds holds) a.is.reads.small)
+
+wordless_ends : (held : Files) (source : List ℕ) (machine : Option (List ℕ)) (status : Status) (content : List ℕ) → held source ≡ Some content → HasNoWords content → Ends held source machine status →
+    (status ≡ no_words) ⊎ (status ≡ NoMemory)
+wordless_ends held source machine status content holds n (done numbers s is) = absurd (not_small held source content holds n s)
+wordless_ends held source machine status content holds n (refused r) =
+    inl (wordless_status content status n (subst (λ bytes. RefusesSource bytes status) (same_content (held source) r.content content r.holds holds) r.refused))
+wordless_ends held source machine status content holds n (no_source none) = absurd (not_missing (held source) content holds none)
+wordless_ends held source machine status content holds n (bad_machine code field s is) = absurd (not_small held source content holds n s)
+wordless_ends held source machine status content holds n (long_machine s is) = absurd (not_small held source content holds n s)
+wordless_ends held source machine status content holds n (no_machine s is) = absurd (not_small held source content holds n s)
+wordless_ends held source machine status content holds n no_memory = inr refl
+
+-- a source of the form that has words
+
 accepted_ends : (held : Files) (source : List ℕ) (machine : Option (List ℕ)) (status : Status) → Accepts held source → Ends held source machine status → due (machine_found held machine) status ⊎ (status ≡ NoMemory)
 accepted_ends held source machine status s (done numbers t is) = inl (subst (λ f. due f Done) (sym is) refl)
-accepted_ends held source machine status s (refused r) = absurd (not_both held source s r)
+accepted_ends held source machine status s (refused r) = absurd (not_both held source status s r)
 accepted_ends held source machine status s (no_source none) = absurd (not_missing (held source) s.is.content s.is.holds none)
 accepted_ends held source machine status s (bad_machine code field t is) = inl (subst (λ f. due f (Machine code field)) (sym is) refl)
 accepted_ends held source machine status s (long_machine t is) = inl (subst (λ f. due f (Limit 11 65537)) (sym is) refl)
@@ -112,19 +169,16 @@ at_machine held source machine status found end s is = subst (λ f. due f status
 ends_in : (source : List ℕ) (machine : Option (List ℕ)) (held : Files) (status : Status) → Ends held source machine status → CompileEnds source machine held status
 ends_in source machine held status end = record {
   accepted = λ s numbers is. at_machine held source machine status (Is numbers) end s is;
-  refused = λ r. refused_ends held source machine status r end;
+  refused = λ content fault holds f. refused_ends held source machine status content fault holds f end;
+  without_words = λ content holds n. wordless_ends held source machine status content holds n end;
   missing = λ none. missing_ends held source machine status none end;
   machine_refused = λ s code field is. at_machine held source machine status (Refused (Bad code field)) end s is;
   machine_too_long = λ s is. at_machine held source machine status TooLong end s is;
   machine_missing = λ s is. at_machine held source machine status Missing end s is;
 }
 
-complete_in : (source out : List ℕ) (machine : Option (List ℕ)) (e : Effect) (status : Status) (b : Option Files) → e.before ≡ b → (ReadsRose e → ⊥) → (ReplacesRose e → ⊥) →
+pub complete_in : (source out : List ℕ) (machine : Option (List ℕ)) (e : Effect) (status : Status) (b : Option Files) → e.before ≡ b → (ReadsRose e → ⊥) → (ReplacesRose e → ⊥) →
     CompileAnswers source out machine e status → IfSome b (λ held. CompileEnds source machine held status)
 complete_in source out machine e status None is quiet_reads quiet_replaces a = tt
 complete_in source out machine e status (Some held) is quiet_reads quiet_replaces a =
     ends_in source machine held status (told_ends source out machine held e status is quiet_reads quiet_replaces a)
-
-pub completes : (command : Option Command) (e : Effect) (status : Status) → Answers command e status → Completes command e status
-completes None e status a = tt
-completes (Some (Compile source out machine)) e status a = λ quiet_reads quiet_replaces. complete_in source out machine e status e.before refl quiet_reads quiet_replaces a

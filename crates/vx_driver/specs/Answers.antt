@@ -8,48 +8,72 @@ use Rattle.vx_machine.specs.declared.description.MachineFault.TheVariants.{Bad}
 use Rattle.vx_machine.specs.Descriptions.{reading}
 use Rattle.vx_ast.specs.Tree.{Program}
 use Rattle.vx_ast.specs.Small.{ReadsSmall}
-use Rattle.vx_driver.specs.declared.status.Role.{Role}
-use Rattle.vx_driver.specs.declared.status.Role.TheVariants.{Source as TheSource, Machine as TheMachine}
+use Rattle.vx_base.specs.declared.role.Role.{Role}
+use Rattle.vx_base.specs.declared.role.Role.TheVariants.{Source as TheSource, Words as TheWords, Profile as TheProfile, Machine as TheMachine, Input as TheInput}
+use Rattle.vx_ast.specs.Reads.{most_bytes, Reads, Refusal}
+use Rattle.vx_ast.specs.declared.fault.SourceFault.{SourceFault}
+use Rattle.vx_ast.specs.declared.fault.SourceFault.TheVariants.{Bad as BadSource, Limit as OverLimit, NoMemory as NoRoom}
 use Rattle.vx_driver.specs.declared.status.Status.{Status}
-use Rattle.vx_driver.specs.declared.status.Status.TheVariants.{Done, Usage, Source, Limit, Machine, NoFile, ReadFault, WriteFault, NoMemory}
-use Rattle.vx_driver.specs.Command.{Command, Compile, command_of}
+use Rattle.vx_driver.specs.declared.status.Status.TheVariants.{Done, Trapped, Usage, Source, Limit, Words, Machine, NoFile, ReadFault, WriteFault, Stopped, Input, Stuck, NoMemory}
 use Rattle.vx_driver.specs.Compiled.{Compiled}
 use Rattle.vx_words.specs.Text.{Spells}
-
--- the most bytes of a source
-abbrev pub most_source_bytes : ℕ
-most_source_bytes = 1048576
 
 -- the most bytes of a description of a machine
 abbrev pub most_description_bytes : ℕ
 most_description_bytes = 65536
 
--- the bytes are an accepted source, and the program is its reading
-pub record Reads (content : List ℕ) (program : Program) : Type 0 where
-  pub short : length content ≤ most_source_bytes
+-- the bytes are an accepted source
+pub record IsAccepted (content : List ℕ) : Type 0 where
+  pub program : Program
+  pub reads : Reads content program
+
+-- the bytes are an accepted source of the form that has words, and the program is its reading
+pub record ReadsForWords (content : List ℕ) (program : Program) : Type 0 where
+  pub reads : Reads content program
   pub small : ReadsSmall content program
+
+-- the bytes are an accepted source of a form that has no words yet
+pub record HasNoWords (content : List ℕ) : Type 0 where
+  pub accepted : IsAccepted content
+  pub other : (program : Program) → ReadsSmall content program → ⊥
 
 -- the file holds these bytes, which are few enough for a source
 pub record HoldsSource (held : Files) (source content : List ℕ) : Type 0 where
   pub holds : held source ≡ Some content
-  pub short : length content ≤ most_source_bytes
+  pub short : length content ≤ most_bytes
 
--- the source's file holds an accepted source, and the program is its reading
+-- the source's file holds an accepted source of the form that has words, and the program is its reading
 pub record HoldsProgram (held : Files) (source : List ℕ) (program : Program) : Type 0 where
   pub content : List ℕ
   pub holds : held source ≡ Some content
-  pub reads : Reads content program
+  pub reads : ReadsForWords content program
 
--- the source's file holds an accepted source
+-- the source's file holds an accepted source of the form that has words
 pub record Accepts (held : Files) (source : List ℕ) : Type 0 where
   pub program : Program
   pub is : HoldsProgram held source program
 
--- the source's file is no accepted source
-pub record Refuses (held : Files) (source : List ℕ) : Type 0 where
+-- the status of a fault or limit of a source
+abbrev pub status_of : SourceFault → Status
+status_of (BadSource code line column) = Source code line column
+status_of (OverLimit number count) = Limit number count
+status_of NoRoom = NoMemory
+
+-- the status of a source that is accepted and has no words yet
+abbrev pub no_words : Status
+no_words = Source 14 1 1
+
+-- why bytes give no words: the one fault or limit of the source, or an accepted source of a form that has none yet
+abbrev pub RefusesSource : (content : List ℕ) → Status → Type 0
+RefusesSource content (Source code line column) = Refusal content (BadSource code line column) ⊎ ((Source code line column ≡ no_words) × HasNoWords content)
+RefusesSource content (Limit number count) = Refusal content (OverLimit number count)
+RefusesSource content status = ⊥
+
+-- the bytes of the source's file give no words, and the status says why
+pub record Refuses (held : Files) (source : List ℕ) (status : Status) : Type 0 where
   pub content : List ℕ
   pub holds : held source ≡ Some content
-  pub refused : (program : Program) → Reads content program → ⊥
+  pub refused : RefusesSource content status
 
 -- what the machine of a command comes to: its numbers, the fault of its description, a description that is too
 -- long, or none
@@ -132,7 +156,8 @@ SameFiles e = e.after ≡ e.before
 
 -- of a status that comes from the source
 abbrev pub SourceAnswers : (source : List ℕ) → Effect → Status → Type 0
-SourceAnswers source e (Source code line column) = (code ≡ 4) × (line ≡ 1) × (column ≡ 1) × SameFiles e × IfSome e.before (λ held. Refuses held source)
+SourceAnswers source e (Source code line column) = SameFiles e × IfSome e.before (λ held. Refuses held source (Source code line column))
+SourceAnswers source e (Limit number count) = SameFiles e × IfSome e.before (λ held. Refuses held source (Limit number count))
 SourceAnswers source e (NoFile role) = (role ≡ TheSource) × SameFiles e × MatchOption e.before (ReadsRose e) (λ held. held source ≡ None)
 SourceAnswers source e (ReadFault role) = (role ≡ TheSource) × SameFiles e × ReadsRose e
 SourceAnswers source e NoMemory = SameFiles e
@@ -157,16 +182,22 @@ pub record StopsAtMachine (source : List ℕ) (machine : Option (List ℕ)) (e :
 abbrev pub FileAnswers : Role → (source : List ℕ) → (machine : Option (List ℕ)) → Effect → Status → Type 0
 FileAnswers TheSource source machine e status = SourceAnswers source e status
 FileAnswers TheMachine source machine e status = StopsAtMachine source machine e status
+FileAnswers role source machine e status = ⊥
 
 abbrev pub CompileAnswers : (source out : List ℕ) → (machine : Option (List ℕ)) → Effect → Status → Type 0
 CompileAnswers source out machine e Done = IfSome e.before (λ held. WritesWords held e.after source out machine)
+CompileAnswers source out machine e (Trapped trap) = ⊥
 CompileAnswers source out machine e Usage = ⊥
 CompileAnswers source out machine e (Source code line column) = SourceAnswers source e (Source code line column)
-CompileAnswers source out machine e (Limit number count) = StopsAtMachine source machine e (Limit number count)
+CompileAnswers source out machine e (Limit number count) = SourceAnswers source e (Limit number count) ⊎ StopsAtMachine source machine e (Limit number count)
+CompileAnswers source out machine e (Words code line) = ⊥
 CompileAnswers source out machine e (Machine code field) = StopsAtMachine source machine e (Machine code field)
 CompileAnswers source out machine e (NoFile role) = FileAnswers role source machine e (NoFile role)
 CompileAnswers source out machine e (ReadFault role) = FileAnswers role source machine e (ReadFault role)
 CompileAnswers source out machine e WriteFault = ReplacesRose e × IfSome e.before (λ held. WritesPartly held e.after source out machine)
+CompileAnswers source out machine e Stopped = ⊥
+CompileAnswers source out machine e (Input place) = ⊥
+CompileAnswers source out machine e (Stuck reason place) = ⊥
 CompileAnswers source out machine e NoMemory = SameFiles e
 
 -- why a description gives no machine
@@ -203,20 +234,12 @@ pub record ForMachine (program : Program) (out : List ℕ) (machine : Option (Li
 abbrev pub ProgramAnswers : Program → (out : List ℕ) → (machine : Option (List ℕ)) → Effect → Status → Type 0
 ProgramAnswers program out machine e status = NoMachine machine e status ⊎ ForMachine program out machine e status
 
--- words that are no command are answered Usage, unless memory is wanted
-abbrev pub Answers : Option Command → Effect → Status → Type 0
-Answers None e status = ((status ≡ Usage) ⊎ (status ≡ NoMemory)) × SameFiles e
-Answers (Some (Compile source out machine)) e status = CompileAnswers source out machine e status
-
 -- which statuses can come where nothing fails: want of memory is the one free answer
 pub record CompileEnds (source : List ℕ) (machine : Option (List ℕ)) (held : Files) (status : Status) : Type 0 where
   pub accepted : Accepts held source → (numbers : Numbers) → machine_found held machine ≡ Is numbers → (status ≡ Done) ⊎ (status ≡ NoMemory)
-  pub refused : Refuses held source → (status ≡ Source 4 1 1) ⊎ (status ≡ NoMemory)
+  pub refused : (content : List ℕ) (fault : SourceFault) → held source ≡ Some content → Refusal content fault → (status ≡ status_of fault) ⊎ (status ≡ NoMemory)
+  pub without_words : (content : List ℕ) → held source ≡ Some content → HasNoWords content → (status ≡ no_words) ⊎ (status ≡ NoMemory)
   pub missing : held source ≡ None → (status ≡ NoFile TheSource) ⊎ (status ≡ NoMemory)
   pub machine_refused : Accepts held source → (code field : ℕ) → machine_found held machine ≡ Refused (Bad code field) → (status ≡ Machine code field) ⊎ (status ≡ NoMemory)
   pub machine_too_long : Accepts held source → machine_found held machine ≡ TooLong → (status ≡ Limit 11 65537) ⊎ (status ≡ NoMemory)
   pub machine_missing : Accepts held source → machine_found held machine ≡ Missing → (status ≡ NoFile TheMachine) ⊎ (status ≡ NoMemory)
-
-abbrev pub Completes : Option Command → Effect → Status → Type 0
-Completes None e status = Unit {0}
-Completes (Some (Compile source out machine)) e status = (ReadsRose e → ⊥) → (ReplacesRose e → ⊥) → IfSome e.before (λ held. CompileEnds source machine held status)

@@ -1,16 +1,34 @@
 -- What the words of a command line ask for. The second word names the command; the other words are those of one
 -- simple command of clap, and what it finds there is what is meant.
-use Rattle.std.specs.Prelude.{ℕ, List, [], ◌∷◌, Option, Some, None, true, codes, unwrap_or, if◌then◌else◌}
+use Rattle.std.specs.Prelude.{ℕ, List, [], ◌∷◌, Option, Some, None, true, codes, unwrap_or, option_map, if◌then◌else◌}
 use Rattle.std.specs.Str.{bytes_eq}
+use Rattle.std.specs.Str.Parse.{digits_value, without_leading_plus}
 use Rattle.clap.specs.Walk.{Rule, Row, first_of}
 use Rattle.clap.specs.Simple.{App, new_app, new_rule, with_rule, matches_of}
 use Rattle.clap.specs.Faults.{fault_of}
 use Rattle.clap.specs.Kinds.{Kinds}
+use Rattle.clap.specs.ValueTests.{is_unsigned_in}
 use Rattle.clap.specs.declared.builder.action.ArgAction.TheVariants.{Set}
+use Rattle.clap.specs.declared.builder.value_parser.ValueParser.TheVariants.{Unsigned}
+
+-- what a simulation is asked for
+pub record Simulation : Type 0 where
+  -- the file of the words
+  pub words : List ℕ
+  -- the files of the machine's description and of the input
+  pub machine : Option (List ℕ)
+  pub input : Option (List ℕ)
+  -- the most words that are issued
+  pub budget : ℕ
+  -- the names of the timing and of the probe
+  pub timing : List ℕ
+  pub probe : Option (List ℕ)
 
 pub data Command : Type 0 where
   -- the words of the source go to a file; they are for the machine that a file describes, or the default one
   Compile : (source out : List ℕ) (machine : Option (List ℕ)) → Command
+  -- the words of a file are run
+  Simulate : Simulation → Command
 
 -- a word that has to be there
 abbrev pub required_word : List ℕ → Rule
@@ -38,6 +56,43 @@ unless_refused (kind ∷ kinds) command = None
 unfoldable pub compile_of : List (List ℕ) → Option Command
 compile_of words = unless_refused (fault_of compile_app words) (compile_found (matches_of compile_app words))
 
+-- `--name N`, N from low to high, which is given once or not at all
+abbrev pub number_word : List ℕ → (low high : ℕ) → Rule
+number_word name low high = record (option_word name) { parser = Some (Unsigned low high) }
+
+-- `sim WORDS [--machine M] [--input I] [--words N] [--timing T] [--probe B]`
+unfoldable pub sim_app : App
+sim_app =
+    with_rule (with_rule (with_rule (with_rule (with_rule (with_rule (new_app (codes "sim")) (required_word (codes "WORDS")))
+    (option_word (codes "machine"))) (option_word (codes "input"))) (number_word (codes "words") 1 1000000000000))
+    (option_word (codes "timing"))) (option_word (codes "probe"))
+
+-- how many words are issued at most
+abbrev pub budget_of : Option (List ℕ) → Option ℕ
+budget_of None = Some 1000000000
+budget_of (Some text) = if is_unsigned_in 1 1000000000000 text then Some (digits_value 10 (without_leading_plus text)) else None
+
+abbrev pub sim_within : List Row → ℕ → Command
+sim_within rows budget = Simulate (record {
+  words = unwrap_or (first_of (codes "WORDS") rows) [];
+  machine = first_of (codes "machine") rows;
+  input = first_of (codes "input") rows;
+  budget = budget;
+  timing = unwrap_or (first_of (codes "timing") rows) (codes "late");
+  probe = first_of (codes "probe") rows;
+})
+
+abbrev pub sim_unless : Kinds → List Row → Option Command
+sim_unless [] rows = option_map (sim_within rows) (budget_of (first_of (codes "words") rows))
+sim_unless (kind ∷ kinds) rows = None
+
+-- what the words of `sim` ask for
+unfoldable pub sim_of : List (List ℕ) → Option Command
+sim_of words = sim_unless (fault_of sim_app words) (matches_of sim_app words)
+
+abbrev pub command_named : List ℕ → List (List ℕ) → Option Command
+command_named name words = if bytes_eq name (codes "compile") then compile_of words else if bytes_eq name (codes "sim") then sim_of words else None
+
 abbrev pub command_of : List (List ℕ) → Option Command
-command_of (program ∷ name ∷ words) = if bytes_eq name (codes "compile") then compile_of (program ∷ words) else None
+command_of (program ∷ name ∷ words) = command_named name (program ∷ words)
 command_of words = None

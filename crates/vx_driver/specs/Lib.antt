@@ -3,4 +3,11 @@ pub mod Compiled
 pub mod Straight
 pub mod Status
 pub mod Command
+pub mod Asked
+pub mod InputText
+pub mod Boxes
 pub mod Answers
+pub mod Simulated
+pub mod Ending
+pub mod Commands
+pub mod Laws

@@ -3,12 +3,14 @@
 ghost use Rattle.std.specs.Prelude.{◌≡◌, ◌≢◌, ◌⊎◌, [], unwrap_or, Some, None, map, option_map, IfOk, IfErr};
 ghost use Rattle.clap.specs.Words.{app_of, first_value, found_of, kind_of};
 ghost use Rattle.clap.specs.declared.error.kind.ErrorKind.TheVariants.{OutOfMemory};
+ghost use Rattle.vx_driver.specs.Status.{Adds};
 ghost use Rattle.vx_driver.specs.Command.{Compile, compile_app, compile_of};
 
-use crate::status::Status;
+use crate::status::{Status, put, put_line};
 use clap::error::ErrorKind;
 use clap::{Arg, ArgAction, ArgMatches, Command, Error};
 use std::alloc::{AllocError, Global};
+use vx_base::sink::{Sink, SinkFault};
 
 /// The words of `compile`.
 #[derive(Drop)]
@@ -37,7 +39,7 @@ fn compile_command<'a>(alloc: Global) -> Result<Command<'a>, AllocError>
 }
 
 /// The text at a word that has to be there.
-fn text_at<'a>(found: &ArgMatches<'a>, name: &str) -> &'a str
+pub(crate) fn text_at<'a>(found: &ArgMatches<'a>, name: &str) -> &'a str
     ensures { result.now ≡ unwrap_or (first_value (found_of found.now) name.now) [] }
 {
     match found.get_str(name) {
@@ -46,11 +48,43 @@ fn text_at<'a>(found: &ArgMatches<'a>, name: &str) -> &'a str
     }
 }
 
-/// What clap finds in the words of `compile`, or the status of its refusal.
-fn read_words<'a>(command: Command<'a>, words: &'a [&'a str]) -> Result<CompileWords<'a>, Status>
+/// Why words are refused: the status, and the text that clap gives, where there is one and memory for it.
+#[derive(Drop)]
+pub(crate) struct Refused {
+    pub(crate) status: Status,
+    pub(crate) text: Option<String>,
+}
+
+/// A refusal without a text of clap's.
+pub(crate) fn without_text(status: Status) -> Refused
+    ensures { result.status ≡ status }
+{
+    Refused { status, text: None }
+}
+
+/// The text that clap gives for its refusal.
+fn text_of(alloc: Global, error: &Error) -> Option<String> {
+    error.to_string(alloc).ok()
+}
+
+/// The refusal of clap.
+pub(crate) fn refusal_of(alloc: Global, error: &Error) -> Refused
+    ensures { ((kind_of error.now ≡ OutOfMemory) × (result.status ≡ Status.NoMemory)) ⊎ ((kind_of error.now ≢ OutOfMemory) × (result.status ≡ Status.Usage)) }
+{
+    let status = status_of(error);
+    let text = text_of(alloc, error);
+    Refused { status, text }
+}
+
+/// What clap finds in the words of `compile`, or its refusal.
+fn read_words<'a>(
+    alloc: Global,
+    command: Command<'a>,
+    words: &'a [&'a str],
+) -> Result<CompileWords<'a>, Refused>
     requires { app_of command ≡ compile_app }
     ensures asked { IfOk result (λ asked. compile_of (map (λ w. w.now) words.now) ≡ Some (Compile asked.source.now asked.out.now (option_map (λ s. s.now) asked.machine))) }
-    ensures refused { IfErr result (λ status. (status ≡ Status.NoMemory) ⊎ ((status ≡ Status.Usage) × (compile_of (map (λ w. w.now) words.now) ≡ None))) }
+    ensures refused { IfErr result (λ refused. (refused.status ≡ Status.NoMemory) ⊎ ((refused.status ≡ Status.Usage) × (compile_of (map (λ w. w.now) words.now) ≡ None))) }
 {
     match command.try_get_matches_from(words) {
         Ok(found) => Ok(CompileWords {
@@ -58,7 +92,7 @@ fn read_words<'a>(command: Command<'a>, words: &'a [&'a str]) -> Result<CompileW
             out: text_at(&found, "OUT"),
             machine: found.get_str("machine"),
         }),
-        Err(error) => Err(status_of(&error)),
+        Err(error) => Err(refusal_of(alloc, &error)),
     }
 }
 
@@ -72,13 +106,32 @@ fn status_of(error: &Error) -> Status
     }
 }
 
-/// What the words of `compile` ask for, the program's name first, or the status of their refusal.
-pub(crate) fn asked_of<'a>(alloc: Global, words: &'a [&'a str]) -> Result<CompileWords<'a>, Status>
+/// What the words of `compile` ask for, the program's name first, or their refusal.
+pub(crate) fn asked_of<'a>(alloc: Global, words: &'a [&'a str]) -> Result<CompileWords<'a>, Refused>
     ensures asked { IfOk result (λ asked. compile_of (map (λ w. w.now) words.now) ≡ Some (Compile asked.source.now asked.out.now (option_map (λ s. s.now) asked.machine))) }
-    ensures refused { IfErr result (λ status. (status ≡ Status.NoMemory) ⊎ ((status ≡ Status.Usage) × (compile_of (map (λ w. w.now) words.now) ≡ None))) }
+    ensures refused { IfErr result (λ refused. (refused.status ≡ Status.NoMemory) ⊎ ((refused.status ≡ Status.Usage) × (compile_of (map (λ w. w.now) words.now) ≡ None))) }
 {
     match compile_command(alloc) {
-        Ok(command) => read_words(command, words),
-        Err(_) => Err(Status::NoMemory),
+        Ok(command) => read_words(alloc, command, words),
+        Err(_) => Err(without_text(Status::NoMemory)),
     }
+}
+
+/// Puts the text of a refusal, or the line of its status where clap gave none.
+pub(crate) fn put_refusal<E: Sink>(err: &mut E, refused: &Refused) -> Result<(), SinkFault>
+    ensures { Adds (E.told err.old) (E.told err.new) (E.faults err.old) (E.faults err.new) }
+{
+    match &refused.text {
+        Some(text) => put(err, text.as_bytes()),
+        None => put_line(err, refused.status),
+    }
+}
+
+/// Puts the text of a refusal or its line, and answers its status whether it could be put or not.
+pub(crate) fn refuse<E: Sink>(err: &mut E, refused: &Refused) -> Status
+    ensures same { result ≡ refused.now.status }
+    ensures adds { Adds (E.told err.old) (E.told err.new) (E.faults err.old) (E.faults err.new) }
+{
+    let _ = put_refusal(err, refused);
+    refused.status
 }

@@ -1,21 +1,21 @@
 // The command `compile SRC OUT`.
 
-ghost use Rattle.std.specs.Prelude.{◌≡◌, ◌≤◌, ◌⊎◌, ◌∷◌, ℕ, List, Option, Some, Ok, true, is_some, option_map, IfOk, IfErr, IfSome};
+ghost use Rattle.std.specs.Prelude.{◌≡◌, ◌≤◌, ◌⊎◌, ◌∷◌, ℕ, List, Option, Some, Ok, true, length, is_some, option_map, IfOk, IfErr, IfSome};
 ghost use Rattle.std.specs.List.{list_all};
-ghost use Rattle.vx_driver.specs.declared.status.Status.TheVariants.{Source as SourceFault};
-ghost use Rattle.vx_ast.specs.Tree.{Program};
-ghost use Rattle.vx_ast.specs.Small.{ReadsSmall, program_of_main, is_sum};
+ghost use Rattle.vx_ast.specs.Small.{program_of_main, is_sum};
 ghost use Rattle.vx_driver.specs.Straight.{MainFits};
 ghost use Rattle.vx_driver.specs.Answers.{effect_of, SourceAnswers, MachineAnswers, CompileAnswers, WriteAnswers, HoldsSource, HoldsProgram, TextOf, machine_found, Is, RefusesDescription, PutsText, ProgramAnswers};
 ghost use Rattle.vx_machine.specs.Descriptions.{reading};
 
-use crate::status::{Role, Status};
+use crate::reading::main_of;
+use crate::status::Status;
 use crate::straight::small_code;
 use std::alloc::Global;
-use vx_ast::small::{SmallMain, read_small};
+use vx_ast::small::SmallMain;
 use vx_base::depot::{Depot, DepotFault};
 use vx_base::outcome::NoMemory;
 use vx_base::reading::{FileRead, read_file};
+use vx_base::role::Role;
 use vx_machine::{Machine, MachineFault, from_toml};
 use vx_words::write;
 
@@ -25,11 +25,10 @@ pub const MOST_SOURCE_BYTES: u64 = 1048576;
 /// The most bytes of a description of a machine.
 pub const MOST_DESCRIPTION_BYTES: u64 = 65536;
 
-/// What a source of another form is answered.
-const OTHER_FORM: Status = Status::Source {
-    code: 4,
-    line: 1,
-    column: 1,
+/// What a source that is too long is answered.
+const LONG_SOURCE: Status = Status::Limit {
+    number: 1,
+    count: MOST_SOURCE_BYTES + 1,
 };
 
 /// What a description that is too long is answered.
@@ -42,30 +41,17 @@ const LONG_DESCRIPTION: Status = Status::Limit {
 fn read_source<D: Depot>(alloc: Global, depot: &mut D, source: &str) -> Result<Vec<u8>, Status>
     ensures same_files { D.files depot.new ≡ D.files depot.old }
     ensures content { IfOk result (λ bytes. IfSome (D.files depot.old) (λ held. HoldsSource held source.now bytes.items)) }
+    ensures short { IfOk result (λ bytes. length bytes.items ≤ 1048576) }
     ensures answers { IfErr result (SourceAnswers source.now (effect_of D.files D.failed_reads D.failed_replaces depot.old depot.new)) }
     ensures reads_never_fall { D.failed_reads depot.old ≤ D.failed_reads depot.new }
     ensures replaces_never_fall { D.failed_replaces depot.old ≤ D.failed_replaces depot.new }
 {
     match read_file(alloc, depot, source, MOST_SOURCE_BYTES) {
         Ok(FileRead::Whole(bytes)) => Ok(bytes),
-        Ok(FileRead::TooLong) => Err(OTHER_FORM),
+        Ok(FileRead::TooLong) => Err(LONG_SOURCE),
         Err(DepotFault::Failed) => Err(Status::ReadFault(Role::Source)),
         Err(DepotFault::NoFile) => Err(Status::NoFile(Role::Source)),
         Err(DepotFault::NoMemory) => Err(Status::NoMemory),
-    }
-}
-
-/// The main that bytes are the source of.
-fn main_of(alloc: Global, bytes: &[u8]) -> Result<SmallMain, Status>
-    ensures reads { IfOk result (λ main. ReadsSmall bytes.now (program_of_main main.items main.last)) }
-    ensures numbers { IfOk result (λ main. MainFits main) }
-    ensures sums { IfOk result (λ main. list_all is_sum (main.last ∷ main.items) ≡ true) }
-    ensures refused { IfErr result (λ status. (status ≡ Status.NoMemory) ⊎ ((status ≡ SourceFault 4 1 1) × ((program : Program) → ReadsSmall bytes.now program → ⊥))) }
-{
-    match read_small(alloc, bytes) {
-        Ok(Some(main)) => Ok(main),
-        Ok(None) => Err(OTHER_FORM),
-        Err(_) => Err(Status::NoMemory),
     }
 }
 
@@ -115,7 +101,7 @@ fn read_machine<D: Depot>(alloc: Global, depot: &mut D, name: &str) -> Result<Ma
 }
 
 /// The machine that the command names a description of, or the default one.
-fn machine_for<D: Depot>(
+pub(crate) fn machine_for<D: Depot>(
     alloc: Global,
     depot: &mut D,
     name: Option<&str>,

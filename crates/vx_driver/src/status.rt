@@ -1,32 +1,30 @@
 // What the top call answers, and the line that it puts for it.
 
-ghost use Rattle.std.specs.Prelude.{◌≡◌, ◌≤◌};
-ghost use Rattle.vx_driver.specs.Status.{number_of, role_name, Appends};
+ghost use Rattle.std.specs.Prelude.{◌≡◌, ◌≤◌, OnOk, OnErr};
+ghost use Rattle.vx_base.specs.Outside.{Rose, with_bytes};
+ghost use Rattle.vx_driver.specs.Status.{number_of, role_name, Adds};
 
+use vx_base::outcome::{Reason, Trap};
+use vx_base::role::Role;
 use vx_base::sink::{Sink, SinkFault, put_all};
 use vx_machine::field_name;
-
-/// Which of the files that a command names is meant.
-#[derive(Clone, Copy, PartialEq, Eq, Debug)]
-pub enum Role {
-    /// The source.
-    Source,
-    /// The description of the machine.
-    Machine,
-}
 
 /// How a command ended. docs/PROMISES.md says when each comes.
 #[derive(Clone, Copy, PartialEq, Eq, Debug)]
 pub enum Status {
     /// The command's work is done.
     Done,
-    /// The words are no command line.
+    /// The run ended with this trap.
+    Trapped(Trap),
+    /// The words are no command line, or no box has a name that they ask for.
     Usage,
     /// The source has this fault at this line and column, both counted from 1, the column in bytes.
     Source { code: u32, line: u32, column: u32 },
-    /// The counted quantity is over the limit of this number; the count is one past it. Limit 11 is that of the
-    /// bytes of a description.
+    /// The counted quantity is over the limit of this number; the count is one past it. Limit 9 is that of the bytes
+    /// of a text of words, limit 11 of a description, limit 12 of an input.
     Limit { number: u32, count: u64 },
+    /// The text of words has this fault at this line, from 1; line 0 is the whole text.
+    Words { code: u32, line: u32 },
     /// The description of the machine has this fault at the field of this number in the table, from 1; codes 1 and 4
     /// have the field 0.
     Machine { code: u32, field: u32 },
@@ -36,6 +34,12 @@ pub enum Status {
     ReadFault(Role),
     /// A file or an output cannot be written.
     WriteFault,
+    /// Exactly the words that were asked for were issued, and none ended the program.
+    Stopped,
+    /// The word of the input's text that begins at this byte, from 0, is no decimal number of 32 bits.
+    Input(u32),
+    /// The word at this place is stuck for this reason.
+    Stuck(Reason, u32),
     /// Memory is wanted and not there.
     NoMemory,
 }
@@ -47,40 +51,55 @@ impl Status {
     {
         match self {
             Status::Done => 0,
+            Status::Trapped(_) => 1,
             Status::Usage => 2,
             Status::Source { .. } => 3,
             Status::Limit { .. } => 4,
+            Status::Words { .. } => 5,
             Status::Machine { .. } => 7,
             Status::NoFile(_) => 8,
             Status::ReadFault(_) => 9,
             Status::WriteFault => 10,
+            Status::Stopped => 11,
+            Status::Input(_) => 12,
+            Status::Stuck(_, _) => 13,
             Status::NoMemory => 14,
         }
     }
 }
 
-impl Role {
-    /// The role's word in a line.
-    pub fn name(self) -> &'static str
-        ensures { result.now ≡ role_name self }
-    {
-        match self {
-            Role::Source => "source",
-            Role::Machine => "machine",
-        }
+/// The word of a role in a line.
+fn role_name(role: Role) -> &'static str
+    ensures { result.now ≡ role_name role }
+{
+    match role {
+        Role::Source => "source",
+        Role::Words => "words",
+        Role::Profile => "profile",
+        Role::Machine => "machine",
+        Role::Input => "input",
     }
 }
 
 /// Puts bytes.
-fn put<E: Sink>(err: &mut E, bytes: &[u8]) -> Result<(), SinkFault>
-    ensures { Appends (E.told err.old) (E.told err.new) }
+pub(crate) fn put<E: Sink>(err: &mut E, bytes: &[u8]) -> Result<(), SinkFault>
+    ensures { Adds (E.told err.old) (E.told err.new) (E.faults err.old) (E.faults err.new) }
+{
+    put_whole(err, bytes)
+}
+
+/// Puts bytes, all of them where the sink does not fail.
+pub(crate) fn put_whole<E: Sink>(err: &mut E, bytes: &[u8]) -> Result<(), SinkFault>
+    ensures all { OnOk result (E.told err.new ≡ with_bytes (E.told err.old) bytes.now) }
+    ensures adds { Adds (E.told err.old) (E.told err.new) (E.faults err.old) (E.faults err.new) }
+    ensures failed { OnErr result (Rose (E.faults err.old) (E.faults err.new)) }
 {
     put_all(err, bytes)
 }
 
 /// Puts a number in decimal.
 fn put_number<E: Sink>(err: &mut E, number: u64) -> Result<(), SinkFault>
-    ensures { Appends (E.told err.old) (E.told err.new) }
+    ensures { Adds (E.told err.old) (E.told err.new) (E.faults err.old) (E.faults err.new) }
 {
     let mut buffer = itoa::Buffer::new();
     put(err, buffer.format(number).as_bytes())
@@ -88,7 +107,7 @@ fn put_number<E: Sink>(err: &mut E, number: u64) -> Result<(), SinkFault>
 
 /// Puts the place and the code of a fault of the source.
 fn put_source_line<E: Sink>(err: &mut E, code: u32, line: u32, column: u32) -> Result<(), SinkFault>
-    ensures { Appends (E.told err.old) (E.told err.new) }
+    ensures { Adds (E.told err.old) (E.told err.new) (E.faults err.old) (E.faults err.new) }
 {
     put(err, b"source S")?;
     put_number(err, u64::from(code))?;
@@ -101,7 +120,7 @@ fn put_source_line<E: Sink>(err: &mut E, code: u32, line: u32, column: u32) -> R
 
 /// Puts the number of a limit and the count that is over it.
 fn put_limit_line<E: Sink>(err: &mut E, number: u32, count: u64) -> Result<(), SinkFault>
-    ensures { Appends (E.told err.old) (E.told err.new) }
+    ensures { Adds (E.told err.old) (E.told err.new) (E.faults err.old) (E.faults err.new) }
 {
     put(err, b"limit L")?;
     put_number(err, u64::from(number))?;
@@ -112,7 +131,7 @@ fn put_limit_line<E: Sink>(err: &mut E, number: u32, count: u64) -> Result<(), S
 
 /// Puts a blank and the name of a field, where there is a field.
 fn put_field<E: Sink>(err: &mut E, field: u32) -> Result<(), SinkFault>
-    ensures { Appends (E.told err.old) (E.told err.new) }
+    ensures { Adds (E.told err.old) (E.told err.new) (E.faults err.old) (E.faults err.new) }
 {
     if field == 0 {
         return Ok(());
@@ -123,7 +142,7 @@ fn put_field<E: Sink>(err: &mut E, field: u32) -> Result<(), SinkFault>
 
 /// Puts the code of a fault of a description, and the name of its field where it has one.
 fn put_machine_line<E: Sink>(err: &mut E, code: u32, field: u32) -> Result<(), SinkFault>
-    ensures { Appends (E.told err.old) (E.told err.new) }
+    ensures { Adds (E.told err.old) (E.told err.new) (E.faults err.old) (E.faults err.new) }
 {
     put(err, b"machine M")?;
     put_number(err, u64::from(code))?;
@@ -133,26 +152,94 @@ fn put_machine_line<E: Sink>(err: &mut E, code: u32, field: u32) -> Result<(), S
 
 /// Puts some words, the name of a role, and a line feed.
 fn put_role_line<E: Sink>(err: &mut E, words: &[u8], role: Role) -> Result<(), SinkFault>
-    ensures { Appends (E.told err.old) (E.told err.new) }
+    ensures { Adds (E.told err.old) (E.told err.new) (E.faults err.old) (E.faults err.new) }
 {
     put(err, words)?;
-    put(err, role.name().as_bytes())?;
+    put(err, role_name(role).as_bytes())?;
     put(err, b"\n")
 }
 
-/// Puts the line of a status. A command that is done has none.
+/// Puts the number and the word of a trap.
+fn put_trap_line<E: Sink>(err: &mut E, trap: Trap) -> Result<(), SinkFault>
+    ensures { Adds (E.told err.old) (E.told err.new) (E.faults err.old) (E.faults err.new) }
+{
+    match trap {
+        Trap::Divide => put(err, b"trap 1 divide\n"),
+        Trap::Index => put(err, b"trap 2 index\n"),
+        Trap::Input => put(err, b"trap 3 input\n"),
+        Trap::Depth => put(err, b"trap 4 depth\n"),
+    }
+}
+
+/// Puts the code of a fault of a text of words, and its line.
+fn put_words_line<E: Sink>(err: &mut E, code: u32, line: u32) -> Result<(), SinkFault>
+    ensures { Adds (E.told err.old) (E.told err.new) (E.faults err.old) (E.faults err.new) }
+{
+    put(err, b"words V")?;
+    put_number(err, u64::from(code))?;
+    put(err, b" at line ")?;
+    put_number(err, u64::from(line))?;
+    put(err, b"\n")
+}
+
+/// Puts the place of a bad word of an input's text.
+fn put_input_line<E: Sink>(err: &mut E, place: u32) -> Result<(), SinkFault>
+    ensures { Adds (E.told err.old) (E.told err.new) (E.faults err.old) (E.faults err.new) }
+{
+    put(err, b"input at ")?;
+    put_number(err, u64::from(place))?;
+    put(err, b"\n")
+}
+
+/// The words of a reason in a line.
+fn reason_name(reason: Reason) -> &'static str {
+    match reason {
+        Reason::BadTarget => "bad target",
+        Reason::BadWord => "bad word",
+        Reason::Overfull => "overfull",
+        Reason::BadAddress => "bad address",
+        Reason::NoInputLeft => "no input left",
+    }
+}
+
+/// Puts why a word is stuck, and its place.
+fn put_stuck_line<E: Sink>(err: &mut E, reason: Reason, place: u32) -> Result<(), SinkFault>
+    ensures { Adds (E.told err.old) (E.told err.new) (E.faults err.old) (E.faults err.new) }
+{
+    put(err, b"stuck ")?;
+    put(err, reason_name(reason).as_bytes())?;
+    put(err, b" at word ")?;
+    put_number(err, u64::from(place))?;
+    put(err, b"\n")
+}
+
+/// Puts the line of a status. A command that is done has none here: what it puts is its own.
 pub fn put_line<E: Sink>(err: &mut E, status: Status) -> Result<(), SinkFault>
-    ensures { Appends (E.told err.old) (E.told err.new) }
+    ensures { Adds (E.told err.old) (E.told err.new) (E.faults err.old) (E.faults err.new) }
 {
     match status {
         Status::Done => Ok(()),
+        Status::Trapped(trap) => put_trap_line(err, trap),
         Status::Usage => put(err, b"no command\n"),
         Status::Source { code, line, column } => put_source_line(err, code, line, column),
         Status::Limit { number, count } => put_limit_line(err, number, count),
+        Status::Words { code, line } => put_words_line(err, code, line),
         Status::Machine { code, field } => put_machine_line(err, code, field),
         Status::NoFile(role) => put_role_line(err, b"no file ", role),
         Status::ReadFault(role) => put_role_line(err, b"read fault ", role),
         Status::WriteFault => put(err, b"write fault\n"),
+        Status::Stopped => put(err, b"stopped\n"),
+        Status::Input(place) => put_input_line(err, place),
+        Status::Stuck(reason, place) => put_stuck_line(err, reason, place),
         Status::NoMemory => put(err, b"no memory\n"),
     }
+}
+
+/// Puts the line of a status, and answers the status whether the line could be put or not.
+pub fn tell<E: Sink>(err: &mut E, status: Status) -> Status
+    ensures same { result ≡ status }
+    ensures adds { Adds (E.told err.old) (E.told err.new) (E.faults err.old) (E.faults err.new) }
+{
+    let _ = put_line(err, status);
+    status
 }

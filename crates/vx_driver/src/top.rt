@@ -1,16 +1,22 @@
 // The top call: from the words of a command line to its answer.
 
-ghost use Rattle.std.specs.Prelude.{◌≡◌, ◌≤◌, ◌∷◌, map, string_bytes, IfOk};
-ghost use Rattle.vx_driver.specs.Status.{Appends};
-ghost use Rattle.vx_driver.specs.Command.{command_of, compile_of};
-ghost use Rattle.vx_driver.specs.Answers.{effect_of, Answers, Completes};
+ghost use Rattle.std.specs.Prelude.{◌≡◌, ◌≤◌, ◌∷◌, false, map, string_bytes, IfOk};
+ghost use Rattle.vx_driver.specs.Status.{Appends, Adds};
+ghost use Rattle.vx_driver.specs.Command.{command_of, command_named, compile_of, sim_of};
+ghost use Rattle.vx_driver.specs.Answers.{effect_of};
+ghost use Rattle.vx_driver.specs.Simulated.{Streams, streams_of};
+ghost use Rattle.vx_driver.specs.Boxes.{Boxes};
+ghost use Rattle.vx_driver.specs.Commands.{Answers, Completes, puts_output};
 
-use crate::command::asked_of;
+use crate::command::{asked_of, refuse};
 use crate::compile::compile;
-use crate::status::{Status, put_line};
+use crate::sim::simulate_with;
+use crate::sim_words::sim_asked;
+use crate::status::{Status, tell};
 use std::alloc::{AllocError, Global};
 use vx_base::depot::Depot;
 use vx_base::sink::Sink;
+use vx_probe::{Probe, Timing};
 
 /// The words that clap is handed: all but the second.
 fn without_name<'a>(
@@ -28,59 +34,133 @@ fn without_name<'a>(
     Ok(words)
 }
 
-/// Does what the words of `compile` ask for, the program's name first.
-fn perform_compile<D: Depot>(alloc: Global, words: &[&str], depot: &mut D) -> Status
-    ensures answers { Answers (compile_of (map (λ w. w.now) words.now)) (effect_of D.files D.failed_reads D.failed_replaces depot.old depot.new) result }
+/// Does what the words of `compile` ask for, the program's name first, and puts the line of its answer.
+fn perform_compile<D: Depot, E: Sink>(
+    alloc: Global,
+    words: &[&str],
+    depot: &mut D,
+    err: &mut E,
+) -> Status
+    ensures answers { ((boxes : Boxes) (streams : Streams) → Answers (compile_of (map (λ w. w.now) words.now)) boxes (effect_of D.files D.failed_reads D.failed_replaces depot.old depot.new) streams result) }
+    ensures adds { Adds (E.told err.old) (E.told err.new) (E.faults err.old) (E.faults err.new) }
     ensures reads_never_fall { D.failed_reads depot.old ≤ D.failed_reads depot.new }
     ensures replaces_never_fall { D.failed_replaces depot.old ≤ D.failed_replaces depot.new }
 {
     match asked_of(alloc, words) {
-        Ok(asked) => compile(alloc, depot, asked.source, asked.out, asked.machine),
-        Err(status) => status,
+        Ok(asked) => {
+            let status = compile(alloc, depot, asked.source, asked.out, asked.machine);
+            tell(err, status)
+        }
+        Err(refused) => refuse(err, &refused),
+    }
+}
+
+/// Does what the words of `sim` ask for, the program's name first, and puts its output and its lines.
+fn perform_sim<D: Depot, K: Sink, E: Sink>(
+    alloc: Global,
+    words: &[&str],
+    depot: &mut D,
+    out: &mut K,
+    err: &mut E,
+    probes: Vec<Box<dyn Probe>>,
+    timings: Vec<Box<dyn Timing>>,
+) -> Status
+    ensures answers { Answers (sim_of (map (λ w. w.now) words.now)) (record { probes = map (λ b. record { name = (⟦<dyn Probe as Probe>⟧ b.vtable).called b.value; watch = watch b }) probes.items; timings = map (λ b. record { name = (⟦<dyn Timing as Timing>⟧ b.vtable).called b.value; times = times b }) timings.items }) (effect_of D.files D.failed_reads D.failed_replaces depot.old depot.new) (streams_of K.told K.faults E.told E.faults out.old out.new err.old err.new) result }
+    ensures adds { Adds (E.told err.old) (E.told err.new) (E.faults err.old) (E.faults err.new) }
+    ensures nothing { puts_output (sim_of (map (λ w. w.now) words.now)) result ≡ false → K.told out.new ≡ K.told out.old }
+    ensures reads_never_fall { D.failed_reads depot.old ≤ D.failed_reads depot.new }
+    ensures replaces_never_fall { D.failed_replaces depot.old ≤ D.failed_replaces depot.new }
+{
+    match sim_asked(alloc, words) {
+        Ok(asked) => simulate_with(alloc, depot, out, err, &asked, probes, timings),
+        Err(refused) => refuse(err, &refused),
+    }
+}
+
+/// Does what a command's words ask for, the program's name first.
+fn perform_named<D: Depot, K: Sink, E: Sink>(
+    alloc: Global,
+    name: &str,
+    words: &[&str],
+    depot: &mut D,
+    out: &mut K,
+    err: &mut E,
+    probes: Vec<Box<dyn Probe>>,
+    timings: Vec<Box<dyn Timing>>,
+) -> Status
+    ensures answers { Answers (command_named name.now (map (λ w. w.now) words.now)) (record { probes = map (λ b. record { name = (⟦<dyn Probe as Probe>⟧ b.vtable).called b.value; watch = watch b }) probes.items; timings = map (λ b. record { name = (⟦<dyn Timing as Timing>⟧ b.vtable).called b.value; times = times b }) timings.items }) (effect_of D.files D.failed_reads D.failed_replaces depot.old depot.new) (streams_of K.told K.faults E.told E.faults out.old out.new err.old err.new) result }
+    ensures adds { Adds (E.told err.old) (E.told err.new) (E.faults err.old) (E.faults err.new) }
+    ensures nothing { puts_output (command_named name.now (map (λ w. w.now) words.now)) result ≡ false → K.told out.new ≡ K.told out.old }
+    ensures reads_never_fall { D.failed_reads depot.old ≤ D.failed_reads depot.new }
+    ensures replaces_never_fall { D.failed_replaces depot.old ≤ D.failed_replaces depot.new }
+{
+    if name == "compile" {
+        perform_compile(alloc, words, depot, err)
+    } else if name == "sim" {
+        perform_sim(alloc, words, depot, out, err, probes, timings)
+    } else {
+        tell(err, Status::Usage)
     }
 }
 
 /// Does what the words ask for, and answers how it ended.
-fn perform<D: Depot>(alloc: Global, words: &[String], depot: &mut D) -> Status
-    ensures answers { Answers (command_of (map string_bytes words.now)) (effect_of D.files D.failed_reads D.failed_replaces depot.old depot.new) result }
+fn perform<D: Depot, K: Sink, E: Sink>(
+    alloc: Global,
+    words: &[String],
+    depot: &mut D,
+    out: &mut K,
+    err: &mut E,
+    probes: Vec<Box<dyn Probe>>,
+    timings: Vec<Box<dyn Timing>>,
+) -> Status
+    ensures answers { Answers (command_of (map string_bytes words.now)) (record { probes = map (λ b. record { name = (⟦<dyn Probe as Probe>⟧ b.vtable).called b.value; watch = watch b }) probes.items; timings = map (λ b. record { name = (⟦<dyn Timing as Timing>⟧ b.vtable).called b.value; times = times b }) timings.items }) (effect_of D.files D.failed_reads D.failed_replaces depot.old depot.new) (streams_of K.told K.faults E.told E.faults out.old out.new err.old err.new) result }
+
+    ensures nothing_on_out { puts_output (command_of (map string_bytes words.now)) result ≡ false → K.told out.new ≡ K.told out.old }
+    ensures adds { Adds (E.told err.old) (E.told err.new) (E.faults err.old) (E.faults err.new) }
     ensures reads_never_fall { D.failed_reads depot.old ≤ D.failed_reads depot.new }
     ensures replaces_never_fall { D.failed_replaces depot.old ≤ D.failed_replaces depot.new }
 {
     match words {
-        [program, name, others @ ..] => {
-            if name.as_str() != "compile" {
-                return Status::Usage;
-            }
-            match without_name(alloc, program, others) {
-                Ok(words) => perform_compile(alloc, words.as_slice(), depot),
-                Err(_) => Status::NoMemory,
-            }
-        }
-        _ => Status::Usage,
+        [program, name, others @ ..] => match without_name(alloc, program, others) {
+            Ok(words) => perform_named(
+                alloc,
+                name.as_str(),
+                words.as_slice(),
+                depot,
+                out,
+                err,
+                probes,
+                timings,
+            ),
+            Err(_) => tell(err, Status::NoMemory),
+        },
+        _ => tell(err, Status::Usage),
     }
 }
 
-/// Does what the words of a command line ask for over the files of a depot, puts its text on `out` and its line on
-/// `err`, and answers how it ended. The first word is the program's name.
+/// Does what the words of a command line ask for over the files of a depot, puts its text on `out` and its lines on
+/// `err`, and answers how it ended. The first word is the program's name. The boxes that the words name are used, the
+/// others dropped.
 pub fn vexc<D: Depot, K: Sink, E: Sink>(
     alloc: Global,
     words: &[String],
     depot: &mut D,
     out: &mut K,
     err: &mut E,
+    probes: Vec<Box<dyn Probe>>,
+    timings: Vec<Box<dyn Timing>>,
 ) -> Status
     // Each status has its cause, and says what stands after it.
-    ensures answers { Answers (command_of (map string_bytes words.now)) (effect_of D.files D.failed_reads D.failed_replaces depot.old depot.new) result }
+    ensures answers { Answers (command_of (map string_bytes words.now)) (record { probes = map (λ b. record { name = (⟦<dyn Probe as Probe>⟧ b.vtable).called b.value; watch = watch b }) probes.items; timings = map (λ b. record { name = (⟦<dyn Timing as Timing>⟧ b.vtable).called b.value; times = times b }) timings.items }) (effect_of D.files D.failed_reads D.failed_replaces depot.old depot.new) (streams_of K.told K.faults E.told E.faults out.old out.new err.old err.new) result }
 
     // Where nothing fails, the command does its work, unless memory is wanted.
-    ensures complete { Completes (command_of (map string_bytes words.now)) (effect_of D.files D.failed_reads D.failed_replaces depot.old depot.new) result }
+    ensures complete { Completes (command_of (map string_bytes words.now)) (record { probes = map (λ b. record { name = (⟦<dyn Probe as Probe>⟧ b.vtable).called b.value; watch = watch b }) probes.items; timings = map (λ b. record { name = (⟦<dyn Timing as Timing>⟧ b.vtable).called b.value; times = times b }) timings.items }) (effect_of D.files D.failed_reads D.failed_replaces depot.old depot.new) (streams_of K.told K.faults E.told E.faults out.old out.new err.old err.new) result }
 
-    ensures nothing_on_out { K.told out.new ≡ K.told out.old }
+    // Only a run puts anything on `out`.
+    ensures nothing_on_out { puts_output (command_of (map string_bytes words.now)) result ≡ false → K.told out.new ≡ K.told out.old }
     ensures line_on_err { Appends (E.told err.old) (E.told err.new) }
     ensures reads_never_fall { D.failed_reads depot.old ≤ D.failed_reads depot.new }
     ensures replaces_never_fall { D.failed_replaces depot.old ≤ D.failed_replaces depot.new }
 {
-    let status = perform(alloc, words, depot);
-    let _ = put_line(err, status);
-    status
+    perform(alloc, words, depot, out, err, probes, timings)
 }

@@ -3,11 +3,12 @@
 ghost use Rattle.std.specs.Prelude.{◌≡◌, IfOk};
 ghost use Rattle.vx_base.specs.Outside.{NamesDiffer, named_files};
 
-use crate::status::{Role, Status};
+use crate::status::Status;
 use crate::top::vexc;
 use std::alloc::{AllocError, Global};
 use std::test::Fail;
 use vx_base::depot::MemDepot;
+use vx_base::role::Role;
 use vx_base::sink::MemSink;
 
 const FIVE: &str = "int main(void) { printf(\"%d\\n\", 2 + 3); return 0; }";
@@ -77,12 +78,20 @@ fn call(
     let files = test_files(alloc, source, machine)?;
     let mut depot = MemDepot::make(alloc, files, vec![in alloc; failing]?)?;
     let mut out = MemSink::make(alloc, 0, Vec::new(alloc))?;
-    let mut err = MemSink::make(alloc, 100, Vec::new(alloc))?;
+    let mut err = MemSink::make(alloc, 1000, Vec::new(alloc))?;
     let mut line = Vec::new(alloc);
     for word in words {
         line.push(String::from_str(alloc, word)?)?;
     }
-    let status = vexc(alloc, line.as_slice(), &mut depot, &mut out, &mut err);
+    let status = vexc(
+        alloc,
+        line.as_slice(),
+        &mut depot,
+        &mut out,
+        &mut err,
+        Vec::new(alloc),
+        Vec::new(alloc),
+    );
     let text = match depot.file("five.vex") {
         Some(bytes) => Vec::from_slice(alloc, bytes)?,
         None => Vec::new(alloc),
@@ -108,31 +117,60 @@ fn words_of_two_and_three(rt: HostRuntime) -> Result<(), Fail> {
 }
 
 #[test]
-fn refused_words(rt: HostRuntime) -> Result<(), Fail> {
-    let rows: [&[&str]; 8] = [
-        &["vexc"],
-        &["vexc", "compil", "five.c", "five.vex"],
-        &["vexc", "compile", "five.c"],
-        &["vexc", "compile", "five.c", "five.vex", "more"],
-        &["vexc", "compile", "five.c", "five.vex", "--speed", "1"],
-        &["vexc", "compile", "five.c", "five.vex", "--machine"],
-        &[
-            "vexc",
-            "compile",
-            "--machine",
-            "m.toml",
-            "five.c",
-            "five.vex",
-            "--machine",
-            "m.toml",
-        ],
-        &["vexc", "compile", "five.c", "five.vex", "--help"],
-    ];
+fn unknown_commands(rt: HostRuntime) -> Result<(), Fail> {
+    let rows: [&[&str]; 2] = [&["vexc"], &["vexc", "compil", "five.c", "five.vex"]];
     for words in rows {
         let (status, text, err) = call(&rt, FIVE.as_bytes(), b"", words, 0)?;
         assert!(rt; status == Status::Usage);
         assert!(rt; text.is_empty());
         assert!(rt; err.bytes() == b"no command\n".as_slice());
+    }
+    Ok(())
+}
+
+#[test]
+fn refused_words(rt: HostRuntime) -> Result<(), Fail> {
+    let rows: [(&[&str], &str); 6] = [
+        (
+            &["vexc", "compile", "five.c"],
+            "error: the following required arguments were not provided:\n",
+        ),
+        (
+            &["vexc", "compile", "five.c", "five.vex", "more"],
+            "error: unexpected argument 'more' found\n",
+        ),
+        (
+            &["vexc", "compile", "five.c", "five.vex", "--speed", "1"],
+            "error: unexpected argument '--speed' found\n",
+        ),
+        (
+            &["vexc", "compile", "five.c", "five.vex", "--machine"],
+            "error: a value is required for '--machine <machine>' but none was supplied\n",
+        ),
+        (
+            &[
+                "vexc",
+                "compile",
+                "--machine",
+                "m.toml",
+                "five.c",
+                "five.vex",
+                "--machine",
+                "m.toml",
+            ],
+            "error: the argument '--machine <machine>' cannot be used multiple times\n",
+        ),
+        (
+            &["vexc", "compile", "five.c", "five.vex", "--help"],
+            "Usage: ",
+        ),
+    ];
+    for (words, front) in rows {
+        let (status, text, err) = call(&rt, FIVE.as_bytes(), b"", words, 0)?;
+        assert!(rt; status == Status::Usage);
+        assert!(rt; text.is_empty());
+        assert!(rt; err.bytes().starts_with(front.as_bytes()));
+        assert!(rt; err.bytes().ends_with(b"\n"));
     }
     Ok(())
 }
@@ -165,12 +203,12 @@ const NO_MACHINE: [&str; 6] = [
 #[test]
 fn refused_sources(rt: HostRuntime) -> Result<(), Fail> {
     let five = FIVE.as_bytes();
-    let other = Status::Source {
-        code: 4,
+    let empty = Status::Source {
+        code: 10,
         line: 1,
         column: 1,
     };
-    assert!(rt; is_refused(&rt, b"", b"", &MACHINE, 0, other, b"source S4 at 1:1\n")?);
+    assert!(rt; is_refused(&rt, b"", b"", &MACHINE, 0, empty, b"source S10 at 1:1\n")?);
     let missing = Status::NoFile(Role::Source);
     assert!(rt; is_refused(&rt, five, b"", &SIX, 0, missing, b"no file source\n")?);
     let fault = Status::ReadFault(Role::Source);

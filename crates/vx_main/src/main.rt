@@ -1,11 +1,14 @@
 // The program `vexc`: the files and streams of the system, handed to the top call.
 #![tactic(auto)]
 
+use std::alloc::AllocError;
 use std::process::ExitCode;
 use std::{env, io};
 use vx_base::real::{RealDepot, RealSink};
-use vx_driver::status::{Status, put_line};
+use vx_base::sink::Sink;
+use vx_driver::status::{Status, tell};
 use vx_driver::top::vexc;
+use vx_probe::{Early, Late, Probe, Timing, WordCount};
 
 /// The words of the command line, the program's name first. A word that is no UTF-8 makes no command line.
 fn words_of(rt: &HostRuntime) -> Result<Vec<String>, Status> {
@@ -18,18 +21,35 @@ fn words_of(rt: &HostRuntime) -> Result<Vec<String>, Status> {
     }
 }
 
+/// Calls the compiler with the boxes that a command may ask for: the timings `late` and `early`, and the probe `words`.
+fn call<K: Sink, E: Sink>(
+    rt: &HostRuntime,
+    words: &[String],
+    out: &mut K,
+    err: &mut E,
+) -> Result<Status, AllocError> {
+    let alloc = rt.alloc();
+    let late: Box<dyn Timing> = Box::new(alloc, Late::make())?;
+    let early: Box<dyn Timing> = Box::new(alloc, Early::make())?;
+    let count: Box<dyn Probe> = Box::new(alloc, WordCount::make())?;
+    let mut timings = Vec::new(alloc);
+    timings.push(late)?;
+    timings.push(early)?;
+    let mut probes = Vec::new(alloc);
+    probes.push(count)?;
+    let mut depot = RealDepot::make(rt);
+    Ok(vexc(alloc, words, &mut depot, out, err, probes, timings))
+}
+
 fn main(rt: HostRuntime) -> ExitCode {
     let mut out = RealSink::make(rt.stdout());
     let mut err = RealSink::make(rt.stderr());
     let status = match words_of(&rt) {
-        Ok(words) => {
-            let mut depot = RealDepot::make(&rt);
-            vexc(rt.alloc(), words.as_slice(), &mut depot, &mut out, &mut err)
-        }
-        Err(status) => {
-            let _ = put_line(&mut err, status);
-            status
-        }
+        Ok(words) => match call(&rt, words.as_slice(), &mut out, &mut err) {
+            Ok(status) => status,
+            Err(_) => tell(&mut err, Status::NoMemory),
+        },
+        Err(status) => tell(&mut err, status),
     };
     ExitCode::from(status.number())
 }

@@ -198,6 +198,8 @@ pub fn read(alloc: Global, bytes: &[u8]) -> Result<WordProgram, WordsFault>
     ensures only { (w : WordProgram) → IsProgram w → bytes.now ≡ spelling w → Reads (λ program. program) result (Ok w) }
     // `Bad` comes exactly where a line is faulty, with the first such line and its first code.
     ensures fault { Finds result (text_fault bytes.now) }
+    // The reading of the bytes, as a function of them: the program or the first faulty line.
+    ensures reads { Reads (λ program. program) result (reading bytes.now) }
 {
     read_text(alloc, bytes)
 }

@@ -20,7 +20,7 @@ returns-in-Err-clause-refused c =
     let words : List (List ℕ) = map (λ w. w.now) c.args.words.now in
     let app = c.requires in
     let kind = kind_of c.in-Err.error in
-    elim c.status_of.ensures [
+    elim c.refusal_of.ensures [
       | inl memory ↦ inl memory.1
       | inr other ↦ elim (c.in-Err.ensures.kinds (ap is_simple_and_free app ∙ compile_is_free)) [
         | inl memory ↦ absurd (other.0 memory)

@@ -1,24 +1,23 @@
 -- The file's bytes are a source, or they are not.
 use Rattle.std.proofs.Common.{ℕ, List, ◌⊎◌, ◌≡◌}
 use Rattle.std.proofs.lemmas.Result.{IfErr-weaker, IfOk-weaker}
-use Rattle.vx_ast.specs.Tree.{Program}
-use Rattle.vx_ast.specs.Small.{ReadsSmall, program_of_main}
-use Rattle.vx_driver.specs.declared.status.Status.TheVariants.{Source, NoMemory}
-use Rattle.vx_driver.specs.Answers.{effect_of}
+use Rattle.vx_ast.specs.Small.{program_of_main}
+use Rattle.vx_driver.specs.declared.status.Status.TheVariants.{NoMemory}
+use Rattle.vx_driver.specs.Answers.{effect_of, ReadsForWords, RefusesSource}
 use Rattle.vx_driver.proofs.Answering.{holds_in, unread}
 use Rattle.vx_driver.proofs.compile.read_through.Goals as goal
 
 pub returns-in-Ok-clause-program : goal.returns-in-Ok-clause-program
 returns-in-Ok-clause-program g c =
     let content : List ℕ = c.in-Ok.bytes.items in
-    IfOk-weaker c.main_of.result (λ main. ReadsSmall content (program_of_main main.items main.last)) _
+    IfOk-weaker c.main_of.result (λ main. ReadsForWords content (program_of_main main.items main.last)) _
     (λ main reads. holds_in c.args.source.now content (program_of_main main.items main.last) (g.D.Depot.files c.args.depot.now) c.in-Ok.ensures.content reads)
     (rw c.as_slice.ensures.value at c.main_of.ensures.reads)
 
 pub returns-in-Ok-clause-answers : goal.returns-in-Ok-clause-answers
 returns-in-Ok-clause-answers g c =
     let content : List ℕ = c.in-Ok.bytes.items in
-    IfErr-weaker c.main_of.result (λ status. (status ≡ NoMemory) ⊎ ((status ≡ Source 4 1 1) × ((program : Program) → ReadsSmall content program → ⊥))) _
+    IfErr-weaker c.main_of.result (λ status. (status ≡ NoMemory) ⊎ RefusesSource content status) _
     (λ status why. unread c.args.source.now content
     (effect_of g.D.Depot.files g.D.Depot.failed_reads g.D.Depot.failed_replaces c.args.depot.now c.read_source.new.depot) status c.in-Ok.ensures.content c.in-Ok.ensures.same_files why)
     (rw c.as_slice.ensures.value at c.main_of.ensures.refused)

@@ -1,0 +1,110 @@
+-- The answers of `sim` from those of its steps, and what they exclude where nothing fails.
+use Rattle.std.proofs.Common.{◌≡◌, ◌∙◌, ◌⊎◌, inl, inr, ℕ, ℤ, List, Option, Some, None, is_some, true, false, Bool, Result, Ok, Err, IfSome, MatchOption, refl, sym, subst, ap}
+use Rattle.std.specs.Prelude.{◌≤◌, ◌<◌}
+use Rattle.vx_base.specs.Outside.{Files, Rose}
+use Rattle.vx_base.specs.declared.role.Role.{Role}
+use Rattle.vx_base.specs.declared.role.Role.TheVariants.{Source as TheSource, Words as TheWords, Profile as TheProfile, Machine as TheMachine, Input as TheInput}
+use Rattle.vx_isa.specs.declared.program.WordProgram.{WordProgram}
+use Rattle.vx_isa.specs.Numbers.{Numbers}
+use Rattle.vx_machine.specs.declared.description.MachineFault.TheVariants.{Bad}
+use Rattle.vx_probe.specs.Times.{Times}
+use Rattle.vx_driver.specs.declared.status.Status.{Status}
+use Rattle.vx_driver.specs.declared.status.Status.TheVariants.{Done, Trapped, Usage, Source, Limit, Words, Machine, NoFile, ReadFault, WriteFault, Stopped, Input, Stuck, NoMemory}
+use Rattle.vx_driver.specs.Command.{Simulation}
+use Rattle.vx_driver.specs.Boxes.{Boxes, Chosen, chosen}
+use Rattle.vx_driver.specs.Answers.{MachineFound, Is, Refused, TooLong, Missing, machine_found, Effect, ReadsRose, SameFiles, MachineAnswers}
+use Rattle.vx_driver.specs.Simulated.{and_then, words_in, machine_as, input_found, Loaded, loading_input, loading_machine, loading, is_named, Stops, Streams, OutRose, ErrRose, Loads, RunEnds, RunCut, RunAnswers, BoxAnswers, SimAnswers, Due, RunCompletes, SimCompletes, IsStatusOf, outcome_within}
+use Rattle.vx_driver.proofs.Answering.{rose_since, Since}
+
+-- where nothing fails
+
+told : (P : Files → Type 0) (b : Option Files) (held : Files) → b ≡ Some held → IfSome b P → P held
+told P b held is h = subst (λ o. IfSome o P) is h
+
+told_or : (Q : Type 0) (P : Files → Type 0) (b : Option Files) (held : Files) → b ≡ Some held → MatchOption b Q P → P held
+told_or Q P b held is h = subst (λ o. MatchOption o Q P) is h
+
+due_stop : (asked : Simulation) (times : Times) (held : Files) (status : Status) → loading held asked.words asked.machine asked.input ≡ Err status →
+    Due asked times (loading held asked.words asked.machine asked.input) status
+due_stop asked times held status is = subst (λ r. Due asked times r status) (sym is) refl
+
+due_run : (asked : Simulation) (boxes : Chosen) (e : Effect) (s : Streams) (held : Files) (status : Status) → e.before ≡ Some held → RunEnds asked boxes e s status →
+    Due asked boxes.times (loading held asked.words asked.machine asked.input) status
+due_run asked boxes e s held status is r =
+    let l : Loads held asked r.loaded = told (λ h. Loads h asked r.loaded) e.before held is r.loads in
+    subst (λ x. Due asked boxes.times x status) (sym l.is) r.status_is
+
+not_cut : (asked : Simulation) (boxes : Chosen) (e : Effect) (s : Streams) → (OutRose s → ⊥) → (ErrRose s → ⊥) → RunCut asked boxes e s → ⊥
+not_cut asked boxes e s quiet_out quiet_err r = elim r.cut [ inl cut ↦ quiet_out cut.rose | inr cut ↦ quiet_err cut.rose ]
+
+module _ (asked : Simulation) (boxes : Chosen) (e : Effect) (s : Streams) (held : Files) (is : e.before ≡ Some held) (quiet_reads : ReadsRose e → ⊥) (quiet_out : OutRose s → ⊥) (quiet_err : ErrRose s → ⊥) where
+  abbrev Dues : Status → Type 0
+  Dues status = Due asked boxes.times (loading held asked.words asked.machine asked.input) status ⊎ (status ≡ NoMemory)
+
+  stop : (status : Status) → IfSome e.before (λ h. loading h asked.words asked.machine asked.input ≡ Err status) → Dues status
+  stop status a = inl (due_stop asked boxes.times held status (told (λ h. loading h asked.words asked.machine asked.input ≡ Err status) e.before held is a))
+
+  dues : (status : Status) → RunAnswers asked boxes e s status → Dues status
+  dues Done a = inl (due_run asked boxes e s held Done is a)
+  dues (Trapped trap) a = inl (due_run asked boxes e s held (Trapped trap) is a)
+  dues Usage a = absurd a
+  dues (Source code line column) a = absurd a
+  dues (Limit number count) a = stop (Limit number count) a
+  dues (Words code line) a = stop (Words code line) a
+  dues (Machine code field) a = stop (Machine code field) a
+  dues (NoFile role) a = inl (due_stop asked boxes.times held (NoFile role) (told_or (ReadsRose e) (λ h. loading h asked.words asked.machine asked.input ≡ Err (NoFile role)) e.before held is a.1))
+  dues (ReadFault role) a = absurd (quiet_reads a.1)
+  dues WriteFault a = absurd (not_cut asked boxes e s quiet_out quiet_err a)
+  dues Stopped a = inl (due_run asked boxes e s held Stopped is a)
+  dues (Input place) a = stop (Input place) a
+  dues (Stuck reason place) a = inl (due_run asked boxes e s held (Stuck reason place) is a)
+  dues NoMemory a = inr refl
+
+run_completes : (asked : Simulation) (boxes : Chosen) (e : Effect) (s : Streams) (status : Status) (b : Option Files) → e.before ≡ b → (ReadsRose e → ⊥) → (OutRose s → ⊥) → (ErrRose s → ⊥) →
+    RunAnswers asked boxes e s status → IfSome b (λ held. Due asked boxes.times (loading held asked.words asked.machine asked.input) status ⊎ (status ≡ NoMemory))
+run_completes asked boxes e s status None is quiet_reads quiet_out quiet_err a = tt
+run_completes asked boxes e s status (Some held) is quiet_reads quiet_out quiet_err a = dues asked boxes e s held is quiet_reads quiet_out quiet_err status a
+
+box_completes : (asked : Simulation) (boxes : Option Chosen) (e : Effect) (s : Streams) (status : Status) → (ReadsRose e → ⊥) → (OutRose s → ⊥) → (ErrRose s → ⊥) →
+    BoxAnswers asked boxes e s status → RunCompletes asked boxes e status
+box_completes asked None e s status quiet_reads quiet_out quiet_err a = a
+box_completes asked (Some boxes) e s status quiet_reads quiet_out quiet_err a = run_completes asked boxes e s status e.before refl quiet_reads quiet_out quiet_err a
+
+pub sim_completes : (asked : Simulation) (boxes : Boxes) (e : Effect) (s : Streams) (status : Status) → SimAnswers asked boxes e s status → SimCompletes asked boxes e s status
+sim_completes asked boxes e s status a = λ quiet_reads quiet_out quiet_err. box_completes asked (chosen asked.timing asked.probe boxes) e s status quiet_reads quiet_out quiet_err a.1
+
+-- the reading of files that stops
+
+module _ {A B : Type 0} (named named' : Role → Bool) (found : Files → Result A Status) (found' : Files → Result B Status) (e f : Effect)
+    (names : (role : Role) → named role ≡ true → named' role ≡ true) (since : Since e f)
+    (stops : (held : Files) → f.before ≡ Some held → (status : Status) → found held ≡ Err status → found' held ≡ Err status) where
+  told_on : (status : Status) (b : Option Files) → f.before ≡ b → IfSome b (λ held. found held ≡ Err status) → IfSome b (λ held. found' held ≡ Err status)
+  told_on status None is h = tt
+  told_on status (Some held) is h = stops held is status h
+
+  on : (status : Status) → IfSome e.before (λ held. found held ≡ Err status) → IfSome f.before (λ held. found' held ≡ Err status)
+  on status h = told_on status f.before refl (subst (λ b. IfSome b (λ held. found held ≡ Err status)) (sym since.before) h)
+
+  rose_on : ReadsRose e → ReadsRose f
+  rose_on rose = rose_since f.reads_before e.reads_before f.reads_after since.reads (subst (λ n. Rose e.reads_before n) (sym since.reads_after) rose)
+
+  missing_on : (status : Status) (b : Option Files) → f.before ≡ b → MatchOption b (ReadsRose e) (λ held. found held ≡ Err status) → MatchOption b (ReadsRose f) (λ held. found' held ≡ Err status)
+  missing_on status None is h = rose_on h
+  missing_on status (Some held) is h = stops held is status h
+
+  pub stops_on : (status : Status) → Stops named found e status → Stops named' found' f status
+  stops_on Done a = absurd a
+  stops_on (Trapped trap) a = absurd a
+  stops_on Usage a = absurd a
+  stops_on (Source code line column) a = absurd a
+  stops_on (Limit number count) a = on (Limit number count) a
+  stops_on (Words code line) a = on (Words code line) a
+  stops_on (Machine code field) a = on (Machine code field) a
+  stops_on (NoFile role) a =
+      (names role a.0, missing_on (NoFile role) f.before refl (subst (λ b. MatchOption b (ReadsRose e) (λ held. found held ≡ Err (NoFile role))) (sym since.before) a.1))
+  stops_on (ReadFault role) a = (names role a.0, rose_on a.1)
+  stops_on WriteFault a = absurd a
+  stops_on Stopped a = absurd a
+  stops_on (Input place) a = on (Input place) a
+  stops_on (Stuck reason place) a = absurd a
+  stops_on NoMemory a = tt

@@ -1,0 +1,12 @@
+-- What the words ask for is done, or they are refused.
+use Rattle.std.proofs.Common.{refl, sym, subst, map}
+use Rattle.vx_driver.specs.Answers.{effect_of}
+use Rattle.vx_driver.specs.Commands.{Answers}
+use Rattle.vx_driver.proofs.Runs.{refused_answers}
+use Rattle.vx_driver.proofs.top.perform_compile.Goals as goal
+
+pub returns-in-Ok-clause-answers : goal.returns-in-Ok-clause-answers
+returns-in-Ok-clause-answers g c = λ boxes streams. rw (c.in-Ok.ensures.asked, c.tell.ensures.same) c.compile-status.ensures.answers
+
+pub returns-in-Err-clause-answers : goal.returns-in-Err-clause-answers
+returns-in-Err-clause-answers g c = λ boxes streams. refused_answers _ boxes _ streams _ refl (rw c.refuse.ensures.same c.in-Err.ensures.refused)

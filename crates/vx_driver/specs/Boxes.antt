@@ -1,0 +1,46 @@
+-- The boxes that a caller hands in, and those that a command asks for: the first one with the name.
+use Rattle.std.specs.Prelude.{ℕ, List, [], ◌∷◌, ◌++◌, find, Option, Some, None, option_map}
+use Rattle.std.specs.Str.{bytes_eq}
+use Rattle.vx_probe.specs.Times.{Times}
+use Rattle.vx_probe.specs.Watch.{Watch, report_of}
+
+pub record TimingBox : Type 0 where
+  pub name : List ℕ
+  pub times : Times
+
+pub record ProbeBox : Type 0 where
+  pub name : List ℕ
+  pub watch : Watch
+
+pub record Boxes : Type 0 where
+  pub probes : List ProbeBox
+  pub timings : List TimingBox
+
+-- those of a run
+pub record Chosen : Type 0 where
+  pub times : Times
+  pub watches : List Watch
+
+abbrev pub timing_named : List ℕ → List TimingBox → Option Times
+timing_named name boxes = option_map (λ box. box.times) (find (λ box. bytes_eq box.name name) boxes)
+
+abbrev pub probe_named : List ℕ → List ProbeBox → Option Watch
+probe_named name boxes = option_map (λ box. box.watch) (find (λ box. bytes_eq box.name name) boxes)
+
+-- no probe where none is asked for
+abbrev pub probes_named : Option (List ℕ) → List ProbeBox → Option (List Watch)
+probes_named None boxes = Some []
+probes_named (Some name) boxes = option_map (λ watch. watch ∷ []) (probe_named name boxes)
+
+abbrev pub chosen_of : Option Times → Option (List Watch) → Option Chosen
+chosen_of None watches = None
+chosen_of (Some times) None = None
+chosen_of (Some times) (Some watches) = Some (record { times = times; watches = watches })
+
+-- the boxes that are asked for, where they are there
+abbrev pub chosen : List ℕ → Option (List ℕ) → Boxes → Option Chosen
+chosen timing probe boxes = chosen_of (timing_named timing boxes.timings) (probes_named probe boxes.probes)
+
+-- the line of a probe's report
+abbrev pub report_line : Watch → List ℕ
+report_line watch = report_of watch ++ 10 ∷ []

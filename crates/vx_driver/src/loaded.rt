@@ -1,0 +1,16 @@
+// What was read for a run.
+
+ghost use Rattle.std.specs.Prelude.{◌≡◌, true};
+ghost use Rattle.vx_isa.specs.Sound.{is_sound};
+
+use vx_isa::program::WordProgram;
+use vx_machine::Machine;
+
+/// What a run needs.
+#[derive(Drop)]
+pub(crate) struct LoadedFiles {
+    pub(crate) program: WordProgram,
+    pub(crate) machine: Machine,
+    pub(crate) input: Vec<i32>,
+    ghost sound: { is_sound program ≡ true },
+}
