@@ -57,10 +57,15 @@ pub record GraphOf (p : Program) (f : Function) (g : Graph) : Type 0 where
   pub general_values : count_by is_general g.banks ≤ 3 * function_nodes f
   pub branch_values : count_by is_branch g.banks ≤ 2 * function_nodes f
 
+-- the graphs do what the program does, on every input, and never what has no meaning
+pub record RunsAs (p : Program) (flow : Flow) : Type 0 where
+  pub same : (input : List ℤ) → AreNumbers input → Same (source p input) (graph_run flow input)
+  pub never_wrong : (input : List ℤ) → AreNumbers input → NeverFails (graph_run flow input)
+
 pub record FlowOf (p : Program) (flow : Flow) : Type 0 where
   pub sound : is_sound_flow flow ≡ true
   pub count : length flow.functions ≡ length p.functions
   pub graphs : (f : ℕ) (function : Function) (graph : Graph) → slice_get p.functions f ≡ Some function → slice_get flow.functions f ≡ Some graph → GraphOf p function graph
   pub globals : map (λ global. global.words) flow.globals ≡ map global_words p.globals
-  pub same : (input : List ℤ) → AreNumbers input → Same (source p input) (graph_run flow input)
-  pub never_wrong : (input : List ℤ) → AreNumbers input → NeverFails (graph_run flow input)
+  pub main : flow.main ≡ p.main
+  pub runs : RunsAs p flow

@@ -5,3 +5,11 @@ pub mod Lowered
 pub mod Builds
 pub mod Emits
 pub mod Makes
+pub mod Adds
+pub mod Named
+pub mod Fits
+pub mod Shape
+pub mod StatementFits
+pub mod Finished
+pub mod Graphs
+pub mod FunctionShape

@@ -1,19 +1,22 @@
 -- What the code of statements that was added to a graph that is being made says of each graph that finishes it.
-use Rattle.std.specs.Prelude.{◌≡◌, ℕ, suc, ◌<◌, ◌≤◌, ℤ, pos, Bool, true, false, Option, Some, None, List, [], ◌∷◌, ◌++◌, length, slice_get}
+use Rattle.std.specs.Prelude.{◌≡◌, ℕ, suc, ◌<◌, ◌≤◌, ℤ, pos, Bool, true, false, Option, Some, None, List, [], ◌∷◌, ◌++◌, length, map, slice_get}
+use Rattle.vx_base.specs.declared.arithmetic.Code.TheVariants.{Add}
 use Rattle.vx_ast.specs.declared.tree.BinaryOperator.{BinaryOperator}
 use Rattle.vx_ast.specs.Tree.{Shape, One, Row, Tree, Place, InLocal, InGlobal, InElement, Action, Evaluate, Assign, Compound, Increase, Decrease, Code, Nothing, Seq, Empty, Block as Braces, Clear, Declare, ClearArray, Simply, Head, Print, If, IfElse, While, DoWhile, For, Break, Continue, Return, ReturnValue}
-use Rattle.vx_ast.specs.Meaning.{Piece, AByte, ANumber, pieces_of}
+use Rattle.vx_ast.specs.Meaning.{Piece, AByte, ANumber, pieces_of, directive_of}
 use Rattle.vx_ast.specs.Accepted.{row_length}
 use Rattle.vx_flow.specs.declared.graph.Operand.{Operand}
 use Rattle.vx_flow.specs.declared.graph.Operand.TheVariants.{Held, Number}
+use Rattle.vx_flow.specs.declared.graph.Op.TheVariants.{Compute, Place as Places, Store}
 use Rattle.vx_flow.specs.declared.graph.Exit.{Exit}
 use Rattle.vx_flow.specs.declared.graph.Exit.TheVariants.{Goto, Return as Returns}
 use Rattle.vx_flow.specs.declared.graph.Block.{Block}
-use Rattle.vx_lower.specs.Holds.{IsBelow, Lands, ends}
-use Rattle.vx_lower.specs.Does.{Change, By, Up, Down, Changes, Acts, Asks, Does}
+use Rattle.vx_lower.specs.Holds.{IsBelow, Goes, Lands, then_op, ends}
+use Rattle.vx_lower.specs.Does.{Change, By, Up, Down, Changes, Acts, Shows, Asks, Does}
 use Rattle.vx_lower.specs.Builds.{Ready, Grows, Finishes, Opens, From}
 use Rattle.vx_lower.specs.Emits.{IsWithin, Spare, way_of}
 use Rattle.vx_lower.specs.declared.builder.Builder.{Builder}
+use Rattle.vx_lower.specs.declared.printing.Format.{Format}
 
 -- how many numbers there are among pieces
 abbrev pub numbers_in : List Piece → ℕ
@@ -111,3 +114,43 @@ pub record MakesTest (words : List ℕ) (test : Option (Tree One)) (n : ℕ) (ol
   pub spare : Spare new n
   pub late : length old.blocks ≤ n
   pub code : (vars : ℕ) → TestWithin vars test → vars ≤ length old.banks → (B : List Block) (one two : Block) → Finishes B new → Opens B new one → slice_get B n ≡ Some two → From B old (λ p. Asks B words vars test p one two)
+
+-- the word of array a at the place in i is set to 0, and i is one more then
+pub record WordCleared (B : List Block) (a i t : ℕ) (p q : Block) : Type 0 where
+  pub store : Block
+  pub step : Block
+  pub places : Goes B (then_op (Places t a (Held i)) store) p
+  pub stores : Goes B (then_op (Store a (Held t) (Number (pos 0))) step) store
+  pub steps : Goes B (then_op (Compute Add i (Held i) (Number (pos 1))) q) step
+
+pub record ClearsWord (a i : ℕ) (old new : Builder) : Type 0 where
+  pub grows : Grows old new
+  pub t : ℕ
+  pub fresh : length old.banks ≤ t
+  pub code : (B : List Block) (q : Block) → Finishes B new → Opens B new q → From B old (λ p. WordCleared B a i t p q)
+
+-- formats
+
+abbrev pub bytes_of : List ℕ → List Piece
+bytes_of text = map AByte text
+
+-- what bytes come to, behind the first byte of a directive or not
+abbrev pub left_of : Bool → List ℕ → List Piece
+left_of true bs = directive_of bs
+left_of false bs = pieces_of bs
+
+-- what is still to be shown before these bytes and of them
+abbrev pub to_show : Format → List ℕ → List Piece
+to_show format bs = bytes_of format.text ++ left_of format.directive bs
+
+-- the code that was added shows the first pieces, up to where others are still to be shown
+pub record Shifts (pieces : List Piece) (os : List Operand) (still : List Piece) (left : List Operand) (old new : Builder) (before after : List (List ℕ)) : Type 0 where
+  pub grows : Grows old new
+  pub texts : Begins before after
+  pub enough : numbers_in pieces ≤ length os → numbers_in still ≤ length left
+  pub code : numbers_in pieces ≤ length os → (B : List Block) (texts : List (List ℕ)) (m : Block) → Begins after texts → Finishes B new → Opens B new m → From B old (λ p. (q : Block) → Shows B texts still left m q → Shows B texts pieces os p q)
+
+pub record Showed (pieces : List Piece) (os : List Operand) (old new : Builder) (before after : List (List ℕ)) : Type 0 where
+  pub grows : Grows old new
+  pub texts : Begins before after
+  pub code : numbers_in pieces ≤ length os → (B : List Block) (texts : List (List ℕ)) (q : Block) → Begins after texts → Finishes B new → Opens B new q → From B old (λ p. Shows B texts pieces os p q)

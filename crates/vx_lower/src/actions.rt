@@ -4,8 +4,10 @@ ghost use Rattle.std.specs.Prelude.{◌≡◌, ℕ, List, true, false, IfOk, OnO
 ghost use Rattle.vx_ast.specs.Tree.{Apply, Assign, Compound, Evaluate};
 ghost use Rattle.vx_ast.specs.View.{action_of, place_of, row_in, tree_of};
 ghost use Rattle.vx_flow.specs.declared.graph.Op.TheVariants.{Store};
+ghost use Rattle.vx_lower.specs.Adds.{Added};
 ghost use Rattle.vx_lower.specs.Builds.{Puts, Ready};
 ghost use Rattle.vx_lower.specs.Does.{By, action_of as change_of};
+ghost use Rattle.vx_lower.specs.Fits.{ActsWell, AltersWell};
 ghost use Rattle.vx_lower.specs.Makes.{Acted, Alters, step_change};
 
 use crate::builder::Builder;
@@ -25,7 +27,8 @@ fn store(
     place: Operand,
     from: Operand,
 ) -> Result<(), NoMemory>
-    ensures { OnOk result (Ready b.old → Puts (Store array place from) b.old b.new) }
+    ensures code { OnOk result (Ready b.old → Puts (Store array place from) b.old b.new) }
+    ensures steps { OnOk result (Added (Store array place from) b.old b.new) }
 {
     b.put(alloc, Op::Store { array, place, from })
 }
@@ -38,7 +41,8 @@ fn emit_call(
     function: u32,
     all: &[Expression],
 ) -> Result<(), NoMemory>
-    ensures { OnOk result (Ready b.old → Acted words.now (Evaluate (Apply function (row_in all.now))) b.old b.new) }
+    ensures code { OnOk result (Ready b.old → Acted words.now (Evaluate (Apply function (row_in all.now))) b.old b.new) }
+    ensures fits { OnOk result (ActsWell (Evaluate (Apply function (row_in all.now))) b.old b.new) }
 {
     let arguments = emit_row(b, alloc, words, all)?;
     let next = b.reserve()?;
@@ -57,7 +61,8 @@ fn emit_call(
 
 /// An expression, for what it does.
 fn evaluate(b: &mut Builder, alloc: Global, words: &Sizes, e: &Expression) -> Result<(), NoMemory>
-    ensures { OnOk result (Ready b.old → Acted words.now (Evaluate (tree_of e.now)) b.old b.new) }
+    ensures code { OnOk result (Ready b.old → Acted words.now (Evaluate (tree_of e.now)) b.old b.new) }
+    ensures fits { OnOk result (ActsWell (Evaluate (tree_of e.now)) b.old b.new) }
 {
     match e {
         Expression::Call(function, all) => {
@@ -89,7 +94,8 @@ fn assign(
     target: &Target,
     e: &Expression,
 ) -> Result<(), NoMemory>
-    ensures { OnOk result (Ready b.old → Acted words.now (Assign (place_of target.now) (tree_of e.now)) b.old b.new) }
+    ensures code { OnOk result (Ready b.old → Acted words.now (Assign (place_of target.now) (tree_of e.now)) b.old b.new) }
+    ensures fits { OnOk result (ActsWell (Assign (place_of target.now) (tree_of e.now)) b.old b.new) }
 {
     match target {
         Target::Scalar(x) => {
@@ -121,7 +127,8 @@ fn combined(
     e: &Expression,
     dest: Option<Value>,
 ) -> Result<Value, NoMemory>
-    ensures { IfOk result (λ t. Ready b.old → Alters words.now (By operator (tree_of e.now)) old dest t b.old b.new) }
+    ensures code { IfOk result (λ t. Ready b.old → Alters words.now (By operator (tree_of e.now)) old dest t b.old b.new) }
+    ensures fits { IfOk result (λ t. AltersWell (By operator (tree_of e.now)) old dest t b.old b.new) }
 {
     let right = emit_value(b, alloc, words, e, None)?;
     let t = combine(b, alloc, operator, old, right, dest)?;
@@ -137,7 +144,8 @@ fn compound(
     operator: BinaryOperator,
     e: &Expression,
 ) -> Result<(), NoMemory>
-    ensures { OnOk result (Ready b.old → Acted words.now (Compound (place_of target.now) operator (tree_of e.now)) b.old b.new) }
+    ensures code { OnOk result (Ready b.old → Acted words.now (Compound (place_of target.now) operator (tree_of e.now)) b.old b.new) }
+    ensures fits { OnOk result (ActsWell (Compound (place_of target.now) operator (tree_of e.now)) b.old b.new) }
 {
     match target {
         Target::Scalar(x) => {
@@ -169,7 +177,8 @@ fn stepped(
     up: bool,
     dest: Option<Value>,
 ) -> Result<Value, NoMemory>
-    ensures { IfOk result (λ t. (words : List ℕ) → Ready b.old → Alters words (step_change up) old dest t b.old b.new) }
+    ensures code { IfOk result (λ t. (words : List ℕ) → Ready b.old → Alters words (step_change up) old dest t b.old b.new) }
+    ensures fits { IfOk result (λ t. AltersWell (step_change up) old dest t b.old b.new) }
 {
     let code = if up { Code::Add } else { Code::Sub };
     let t = compute(b, alloc, code, old, Operand::Number(1), dest)?;
@@ -184,7 +193,8 @@ fn step(
     target: &Target,
     up: bool,
 ) -> Result<(), NoMemory>
-    ensures { OnOk result (Ready b.old → Acted words.now (change_of (place_of target.now) (step_change up)) b.old b.new) }
+    ensures code { OnOk result (Ready b.old → Acted words.now (change_of (place_of target.now) (step_change up)) b.old b.new) }
+    ensures fits { OnOk result (ActsWell (change_of (place_of target.now) (step_change up)) b.old b.new) }
 {
     match target {
         Target::Scalar(x) => {
@@ -215,7 +225,8 @@ pub fn emit_action(
     words: &Sizes,
     action: &Simple,
 ) -> Result<(), NoMemory>
-    ensures { OnOk result (Ready b.old → Acted words.now (action_of action.now) b.old b.new) }
+    ensures code { OnOk result (Ready b.old → Acted words.now (action_of action.now) b.old b.new) }
+    ensures fits { OnOk result (ActsWell (action_of action.now) b.old b.new) }
 {
     match action {
         Simple::Evaluate(e) => evaluate(b, alloc, words, e),

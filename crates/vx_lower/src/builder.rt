@@ -2,6 +2,7 @@
 // of memory leaves what was made unfinished, to be dropped. specs/Builds.antt says what each step keeps.
 
 ghost use Rattle.std.specs.Prelude.{◌≡◌, ℕ, ◌+◌, ◌<◌, List, [], ◌∷◌, ◌++◌, length, IfOk, OnOk, Option, Some, None};
+ghost use Rattle.vx_lower.specs.Adds.{Added, Forked, Trapped};
 ghost use Rattle.vx_lower.specs.Builds.{closed, reserved, turned_to, with_op, with_value, filled, Ready, Puts, Branches, Guards};
 
 use crate::slots::Slots;
@@ -82,7 +83,8 @@ impl Builder {
 
     /// One more operation, in a block of its own where the open one is full.
     pub fn put(&mut self, alloc: Global, op: Op) -> Result<(), NoMemory>
-        ensures { OnOk result (Ready self.old → Puts op self.old self.new) }
+        ensures code { OnOk result (Ready self.old → Puts op self.old self.new) }
+        ensures steps { OnOk result (Added op self.old self.new) }
     {
         if self.ops.len() >= MOST_OPERATIONS {
             return self.put_in_next(alloc, op);
@@ -92,7 +94,8 @@ impl Builder {
     }
 
     fn put_in_next(&mut self, alloc: Global, op: Op) -> Result<(), NoMemory>
-        ensures { OnOk result (Ready self.old → Puts op self.old self.new) }
+        ensures code { OnOk result (Ready self.old → Puts op self.old self.new) }
+        ensures steps { OnOk result (Added op self.old self.new) }
     {
         let next = self.reserve()?;
         self.close(alloc, Exit::Goto(next), next);
@@ -102,7 +105,8 @@ impl Builder {
 
     /// The open block ends with a test. The open one then is where it holds, and the result is where it does not.
     pub fn branch(&mut self, alloc: Global, op: Op, test: Value) -> Result<BlockId, NoMemory>
-        ensures { IfOk result (λ n. Ready self.old → Branches op test n self.old self.new) }
+        ensures code { IfOk result (λ n. Ready self.old → Branches op test n self.old self.new) }
+        ensures steps { IfOk result (λ n. Forked op test n self.old self.new) }
     {
         self.put(alloc, op)?;
         let yes = self.reserve()?;
@@ -113,7 +117,8 @@ impl Builder {
 
     /// The open block ends with a test that ends the program by a trap where it does not hold.
     pub fn guard(&mut self, alloc: Global, op: Op, test: Value, trap: Trap) -> Result<(), NoMemory>
-        ensures { OnOk result (Ready self.old → Guards op test trap self.old self.new) }
+        ensures code { OnOk result (Ready self.old → Guards op test trap self.old self.new) }
+        ensures steps { OnOk result (Trapped op test trap self.old self.new) }
     {
         let no = self.branch(alloc, op, test)?;
         self.fill(

@@ -1,12 +1,16 @@
 // The code of expressions and of rows of arguments. The left operand comes first; an operand is evaluated only where it
 // is needed.
 
-ghost use Rattle.std.specs.Prelude.{◌≡◌, length, IfOk};
+ghost use Rattle.std.specs.Prelude.{◌≡◌, pos, length, IfOk};
+ghost use Rattle.vx_base.specs.declared.arithmetic.Compare.TheVariants.{Ne};
 ghost use Rattle.vx_ast.specs.View.{tree_of, row_in};
 ghost use Rattle.vx_lower.specs.Holds.{jump, unary_op};
+ghost use Rattle.vx_lower.specs.Adds.{Compared, Last};
 ghost use Rattle.vx_lower.specs.Builds.{Ready, closed, filled, reserved};
 ghost use Rattle.vx_lower.specs.Emits.{Asked, Emits, EmitsRow, EmitsTest, Lasts, Truth};
+ghost use Rattle.vx_lower.specs.Fits.{EmitsWell, RowsWell, TestsWell};
 ghost use Rattle.vx_flow.specs.declared.graph.Exit.TheVariants.{Goto};
+ghost use Rattle.vx_flow.specs.declared.graph.Operand.TheVariants.{Number};
 ghost use Rattle.vx_ast.specs.Tree.{ReadInt};
 
 use crate::builder::Builder;
@@ -27,7 +31,8 @@ fn unary(
     o: Operand,
     dest: Option<Value>,
 ) -> Result<Value, NoMemory>
-    ensures { IfOk result (λ t. Ready b.old → Lasts (unary_op operator t o) dest t b.old b.new) }
+    ensures code { IfOk result (λ t. Ready b.old → Lasts (unary_op operator t o) dest t b.old b.new) }
+    ensures steps { IfOk result (λ t. Last (unary_op operator t o) dest t b.old b.new) }
 {
     match operator {
         UnaryOperator::Minus => compute(b, alloc, Code::Sub, Operand::Number(0), o, dest),
@@ -52,7 +57,8 @@ fn compared(
     left: Operand,
     right: Operand,
 ) -> Result<BlockId, NoMemory>
-    ensures { IfOk result (λ n. Ready b.old → Asked compare left right n b.old b.new) }
+    ensures code { IfOk result (λ n. Ready b.old → Asked compare left right n b.old b.new) }
+    ensures steps { IfOk result (λ n. Compared compare left right n b.old b.new) }
 {
     let c = b.fresh(Bank::Branch)?;
     let no = b.branch(
@@ -70,7 +76,8 @@ fn compared(
 
 /// The test of a number. The open block then is where it is not 0, and the result is where it is.
 fn truth(b: &mut Builder, alloc: Global, o: Operand) -> Result<BlockId, NoMemory>
-    ensures { IfOk result (λ n. Ready b.old → Truth o n b.old b.new) }
+    ensures code { IfOk result (λ n. Ready b.old → Truth o n b.old b.new) }
+    ensures steps { IfOk result (λ n. Compared Ne o (Number (pos 0)) n b.old b.new) }
 {
     compared(b, alloc, Compare::Ne, o, Operand::Number(0))
 }
@@ -117,7 +124,8 @@ fn read(
     words: &Sizes,
     dest: Option<Value>,
 ) -> Result<Operand, NoMemory>
-    ensures { IfOk result (λ o. Ready b.old → Emits words.now ReadInt dest o b.old b.new) }
+    ensures code { IfOk result (λ o. Ready b.old → Emits words.now ReadInt dest o b.old b.new) }
+    ensures fits { IfOk result (λ o. EmitsWell ReadInt dest o b.old b.new) }
 {
     let v = b.fresh(Bank::General)?;
     b.put(alloc, Op::More { to: v })?;
@@ -146,7 +154,8 @@ pub fn emit_value(
     e: &Expression,
     dest: Option<Value>,
 ) -> Result<Operand, NoMemory>
-    ensures { IfOk result (λ o. Ready b.old → Emits words.now (tree_of e.now) dest o b.old b.new) }
+    ensures code { IfOk result (λ o. Ready b.old → Emits words.now (tree_of e.now) dest o b.old b.new) }
+    ensures fits { IfOk result (λ o. EmitsWell (tree_of e.now) dest o b.old b.new) }
 {
     match e {
         Expression::Number(n) => {
@@ -274,7 +283,8 @@ pub fn emit_test(
     words: &Sizes,
     e: &Expression,
 ) -> Result<BlockId, NoMemory>
-    ensures { IfOk result (λ n. Ready b.old → EmitsTest words.now (tree_of e.now) n b.old b.new) }
+    ensures code { IfOk result (λ n. Ready b.old → EmitsTest words.now (tree_of e.now) n b.old b.new) }
+    ensures fits { IfOk result (λ n. TestsWell (tree_of e.now) n b.old b.new) }
 {
     match e {
         Expression::Unary(operator, x) => match *operator {
@@ -331,7 +341,8 @@ pub fn emit_row(
     words: &Sizes,
     all: &[Expression],
 ) -> Result<Listed<Operand>, NoMemory>
-    ensures { IfOk result (λ os. Ready b.old → EmitsRow words.now (row_in all.now) os b.old b.new) }
+    ensures code { IfOk result (λ os. Ready b.old → EmitsRow words.now (row_in all.now) os b.old b.new) }
+    ensures fits { IfOk result (λ os. RowsWell (row_in all.now) os b.old b.new) }
 {
     let mut arguments = Listed::new(alloc);
     for e in all {

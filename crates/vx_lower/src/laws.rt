@@ -1,9 +1,16 @@
-// The law of the definitions, the clause of a function that does nothing.
+// Laws of the definitions, each the clause of a function that does nothing.
 
 ghost use Rattle.vx_lower.specs.Lowered.{LoweringLaw};
+ghost use Rattle.vx_lower.specs.Shape.{ShapeLaw};
 
 /// Graphs that have the code of an accepted program do what the program does, on every input of 32-bit numbers, and
 /// never what has no meaning.
 pub fn lowering_law()
     ensures { LoweringLaw }
+{}
+
+/// A graph whose blocks are those of a well shaped one that was being made, with trap blocks behind them, is sound; its
+/// splits lead two ways, no edge goes from a block with two successors to one with two predecessors, and none to block 0.
+pub fn shape_law()
+    ensures { ShapeLaw }
 {}

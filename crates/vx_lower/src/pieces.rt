@@ -4,8 +4,10 @@ ghost use Rattle.std.specs.Prelude.{◌≡◌, true, false, Some, IfOk};
 ghost use Rattle.vx_ast.specs.Meaning.{divides};
 ghost use Rattle.vx_ast.specs.declared.tree.BinaryOperator.TheVariants.{Multiply};
 ghost use Rattle.vx_lower.specs.Holds.{operation_of, comparison_of};
+ghost use Rattle.vx_lower.specs.Adds.{Delivered, Last};
 ghost use Rattle.vx_lower.specs.Builds.{Ready};
 ghost use Rattle.vx_lower.specs.Emits.{Aimed, Lasts, Delivers, Checked, Combined};
+ghost use Rattle.vx_lower.specs.Fits.{ChecksWell, CombinesWell};
 ghost use Rattle.vx_flow.specs.declared.graph.Op.TheVariants.{Compute, Load, More, Input};
 
 use crate::builder::Builder;
@@ -35,7 +37,8 @@ pub fn compute(
     right: Operand,
     dest: Option<Value>,
 ) -> Result<Value, NoMemory>
-    ensures { IfOk result (λ t. Ready b.old → Lasts (Compute code t left right) dest t b.old b.new) }
+    ensures code { IfOk result (λ t. Ready b.old → Lasts (Compute code t left right) dest t b.old b.new) }
+    ensures steps { IfOk result (λ t. Last (Compute code t left right) dest t b.old b.new) }
 {
     let to = target(b, dest)?;
     b.put(
@@ -58,7 +61,8 @@ pub fn load(
     place: Operand,
     dest: Option<Value>,
 ) -> Result<Value, NoMemory>
-    ensures { IfOk result (λ t. Ready b.old → Lasts (Load t array place false) dest t b.old b.new) }
+    ensures code { IfOk result (λ t. Ready b.old → Lasts (Load t array place false) dest t b.old b.new) }
+    ensures steps { IfOk result (λ t. Last (Load t array place false) dest t b.old b.new) }
 {
     let to = target(b, dest)?;
     b.put(
@@ -75,7 +79,8 @@ pub fn load(
 
 /// A last operation that asks whether the input has a number left.
 pub fn more(b: &mut Builder, alloc: Global, dest: Option<Value>) -> Result<Value, NoMemory>
-    ensures { IfOk result (λ t. Ready b.old → Lasts (More t) dest t b.old b.new) }
+    ensures code { IfOk result (λ t. Ready b.old → Lasts (More t) dest t b.old b.new) }
+    ensures steps { IfOk result (λ t. Last (More t) dest t b.old b.new) }
 {
     let to = target(b, dest)?;
     b.put(alloc, Op::More { to })?;
@@ -84,7 +89,8 @@ pub fn more(b: &mut Builder, alloc: Global, dest: Option<Value>) -> Result<Value
 
 /// A last operation that reads a number.
 pub fn input(b: &mut Builder, alloc: Global, dest: Option<Value>) -> Result<Value, NoMemory>
-    ensures { IfOk result (λ t. Ready b.old → Lasts (Input t) dest t b.old b.new) }
+    ensures code { IfOk result (λ t. Ready b.old → Lasts (Input t) dest t b.old b.new) }
+    ensures steps { IfOk result (λ t. Last (Input t) dest t b.old b.new) }
 {
     let to = target(b, dest)?;
     b.put(alloc, Op::Input { to })?;
@@ -98,7 +104,8 @@ pub fn deliver(
     from: Operand,
     dest: Option<Value>,
 ) -> Result<Operand, NoMemory>
-    ensures { IfOk result (λ r. Ready b.old → Delivers dest from r b.old b.new) }
+    ensures code { IfOk result (λ r. Ready b.old → Delivers dest from r b.old b.new) }
+    ensures steps { IfOk result (λ r. Delivered dest from r b.old b.new) }
 {
     match dest {
         None => Ok(from),
@@ -125,7 +132,8 @@ pub fn check(
     array: ArrayId,
     index: Operand,
 ) -> Result<Value, NoMemory>
-    ensures { IfOk result (λ t. Ready b.old → Checked words.now array index t b.old b.new) }
+    ensures code { IfOk result (λ t. Ready b.old → Checked words.now array index t b.old b.new) }
+    ensures fits { IfOk result (λ t. ChecksWell array index t b.old b.new) }
 {
     let size = words.of(array);
     let t = b.fresh(Bank::General)?;
@@ -209,7 +217,8 @@ fn product(
     right: Operand,
     dest: Option<Value>,
 ) -> Result<Value, NoMemory>
-    ensures { IfOk result (λ t. Ready b.old → Combined Multiply left right dest t b.old b.new) }
+    ensures code { IfOk result (λ t. Ready b.old → Combined Multiply left right dest t b.old b.new) }
+    ensures fits { IfOk result (λ t. CombinesWell left right dest t b.old b.new) }
 {
     let u = b.fresh(Bank::General)?;
     b.put(
@@ -251,7 +260,8 @@ fn quotient(
     right: Operand,
     dest: Option<Value>,
 ) -> Result<Value, NoMemory>
-    ensures { IfOk result (λ t. Ready b.old → operation_of operator ≡ Some code → divides operator ≡ true → Combined operator left right dest t b.old b.new) }
+    ensures code { IfOk result (λ t. Ready b.old → operation_of operator ≡ Some code → divides operator ≡ true → Combined operator left right dest t b.old b.new) }
+    ensures fits { IfOk result (λ t. operation_of operator ≡ Some code → CombinesWell left right dest t b.old b.new) }
 {
     let c = b.fresh(Bank::Branch)?;
     b.guard(
@@ -278,7 +288,8 @@ fn single(
     right: Operand,
     dest: Option<Value>,
 ) -> Result<Value, NoMemory>
-    ensures { IfOk result (λ t. Ready b.old → operation_of operator ≡ Some code → divides operator ≡ false → Combined operator left right dest t b.old b.new) }
+    ensures code { IfOk result (λ t. Ready b.old → operation_of operator ≡ Some code → divides operator ≡ false → Combined operator left right dest t b.old b.new) }
+    ensures fits { IfOk result (λ t. operation_of operator ≡ Some code → CombinesWell left right dest t b.old b.new) }
 {
     let t = compute(b, alloc, code, left, right, dest)?;
     Ok(t)
@@ -293,7 +304,8 @@ pub fn combine(
     right: Operand,
     dest: Option<Value>,
 ) -> Result<Value, NoMemory>
-    ensures { IfOk result (λ t. Ready b.old → Combined operator left right dest t b.old b.new) }
+    ensures code { IfOk result (λ t. Ready b.old → Combined operator left right dest t b.old b.new) }
+    ensures fits { IfOk result (λ t. CombinesWell left right dest t b.old b.new) }
 {
     match operation(operator) {
         None => product(b, alloc, left, right, dest),

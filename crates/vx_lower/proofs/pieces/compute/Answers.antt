@@ -1,7 +1,6 @@
-use Rattle.std.proofs.Common.{false}
 use Rattle.vx_flow.specs.declared.graph.Op.TheVariants.{Compute}
 use Rattle.vx_lower.proofs.PieceMaking.{lasts_of}
 use Rattle.vx_lower.proofs.pieces.compute.Goals as goal
 
-pub returns : goal.returns
-returns c = lasts_of c.args.dest c.in_ok-to.to (Compute c.args.code c.in_ok-to.to c.args.left c.args.right) c.args.b.now c.target.new.b c.put.new.self c.in_ok-to.ensures c.in_ok-put.ensures
+pub returns-clause-code : goal.returns-clause-code
+returns-clause-code c = lasts_of c.args.dest c.in_ok-to.to (Compute c.args.code c.in_ok-to.to c.args.left c.args.right) c.args.b.now c.target.new.b c.put.new.self c.in_ok-to.ensures c.in_ok-put.ensures.code

@@ -1,0 +1,105 @@
+-- The code of loops and of lists of statements keeps a graph well shaped.
+use Rattle.std.proofs.Common.{◌≡◌, ℕ, ◌+◌, List, [], ◌∷◌, ◌++◌, length, Option, Some, None, refl, arith}
+use Rattle.std.proofs.lemmas.List.{length-append}
+use Rattle.std.proofs.lemmas.Option.{slice_get_within}
+use Rattle.vx_ast.specs.declared.tree.Statement.{Statement}
+use Rattle.vx_ast.specs.View.{code_of, all_in}
+use Rattle.vx_ast.specs.Accepted.{nodes_of, code_nodes, scalars_of, test_nodes}
+use Rattle.vx_ast.specs.Tree.{One, Tree, Code, Nothing, While, DoWhile, For}
+use Rattle.vx_flow.specs.declared.graph.Exit.TheVariants.{Goto}
+use Rattle.vx_lower.specs.Builds.{reserved, closed}
+use Rattle.vx_lower.specs.Named.{Known, CodeNamed}
+use Rattle.vx_lower.specs.Fits.{TestsWell}
+use Rattle.vx_lower.specs.StatementFits.{PlainWell, StatementWell, LoopTestWell}
+use Rattle.vx_lower.specs.declared.builder.Builder.{Builder}
+use Rattle.vx_lower.proofs.Keeping.{keeps_self, keeps_on}
+use Rattle.vx_lower.proofs.FittingStatements.{made_by, enters_well, reserves_well, turned_well, way_on}
+
+pub while_well : (leaves again : Option ℕ) (h n x : ℕ) (e : Tree One) (body : Code) (b0 b1 b2 b3 b4 b5 b6 : Builder) (t0 t1 : List (List ℕ)) → (h ≡ length b0.blocks) × (b1 ≡ closed (reserved b0) (Goto h) h) → TestsWell e n b1 b2 → (x ≡ length b2.blocks) × (b3 ≡ reserved b2) → StatementWell body (Some x) (Some h) b3 b4 t0 t1 → b5 ≡ closed b4 (Goto h) n → b6 ≡ closed b5 (Goto x) x → StatementWell (While e body) leaves again b0 b6 t0 t1
+while_well leaves again h n x e body b0 b1 b2 b3 b4 b5 b6 t0 t1 eh et en eb e5 e6 k roles s is wl wa =
+    let a = enters_well h b0 b1 eh s in
+    let t = et k (length t0) roles a.keeps.shaped is.0 in
+    let r = reserves_well x b2 b3 en t.keeps.shaped in
+    let u = eb k t.later r.keeps.shaped is.1 r.free (r.keeps.free h (t.keeps.free h a.free)) in
+    let all = keeps_on a.keeps (keeps_on t.keeps (keeps_on r.keeps u.keeps)) in
+    let wn = slice_get_within b2.blocks n None t.waits.free in
+    let l1 = a.keeps.longer in let l2 = t.late in let l3 = t.keeps.longer in let at = r.at in
+    let one = turned_well h n b0 b4 b5 e5 all (u.keeps.spare n (r.keeps.spare n t.waits)) (omega arith) (u.keeps.free h (r.keeps.free h (t.keeps.free h a.free))) in
+    let two = turned_well x x b0 b5 b6 e6 one.keeps (one.spare x (u.keeps.spare x r.spare) (λ d. omega arith)) (omega arith) (one.free x (u.keeps.free x r.free)) in
+    let p1 = t.few_generals in let q1 = t.few_branches in let p2 = u.few_generals in let q2 = u.few_branches in
+    let nodes : code_nodes (While e body) ≡ 1 + nodes_of e + code_nodes body = refl in let m : length (scalars_of (While e body)) ≡ length (scalars_of body) = refl in
+    made_by (While e body) two.keeps (omega arith) (omega arith)
+
+pub do_while_well : (leaves again : Option ℕ) (h n x c : ℕ) (body : Code) (e : Tree One) (b0 b1 b2 b3 b4 b5 b6 b7 b8 : Builder) (t0 t1 : List (List ℕ)) → (h ≡ length b0.blocks) × (b1 ≡ closed (reserved b0) (Goto h) h) → (x ≡ length b1.blocks) × (b2 ≡ reserved b1) → (c ≡ length b2.blocks) × (b3 ≡ reserved b2) → StatementWell body (Some x) (Some c) b3 b4 t0 t1 → b5 ≡ closed b4 (Goto c) c → TestsWell e n b5 b6 → b7 ≡ closed b6 (Goto h) n → b8 ≡ closed b7 (Goto x) x → StatementWell (DoWhile body e) leaves again b0 b8 t0 t1
+do_while_well leaves again h n x c body e b0 b1 b2 b3 b4 b5 b6 b7 b8 t0 t1 eh ex ec eb e5 et e7 e8 k roles s is wl wa =
+    let a = enters_well h b0 b1 eh s in
+    let rx = reserves_well x b1 b2 ex a.keeps.shaped in
+    let rc = reserves_well c b2 b3 ec rx.keeps.shaped in
+    let free_x = rc.keeps.free x rx.free in
+    let free_h = rc.keeps.free h (rx.keeps.free h a.free) in
+    let spare_x = rc.keeps.spare x rx.spare in
+    let u = eb k roles rc.keeps.shaped is.0 free_x rc.free in
+    let all = keeps_on a.keeps (keeps_on rx.keeps (keeps_on rc.keeps u.keeps)) in
+    let l1 = a.keeps.longer in let at1 = rx.at in let more1 = rx.more in let at2 = rc.at in let more2 = rc.more in let l4 = u.keeps.longer in
+    let one = turned_well c c b0 b4 b5 e5 all (u.keeps.spare c rc.spare) (omega arith) (u.keeps.free c rc.free) in
+    let t = et k (length t1) u.later one.keeps.shaped is.1 in
+    let spare5 = one.spare x (u.keeps.spare x spare_x) (λ d. omega arith) in
+    let free5 = one.free x (u.keeps.free x free_x) in
+    let lb = one.blocks in let l6 = t.late in
+    let two = turned_well h n b0 b6 b7 e7 (keeps_on one.keeps t.keeps) t.waits (omega arith) (t.keeps.free h (one.free h (u.keeps.free h free_h))) in
+    let three = turned_well x x b0 b7 b8 e8 two.keeps (two.spare x (t.keeps.spare x spare5) (λ d. omega arith)) (omega arith) (two.free x (t.keeps.free x free5)) in
+    let p1 = t.few_generals in let q1 = t.few_branches in let p2 = u.few_generals in let q2 = u.few_branches in
+    let nodes : code_nodes (DoWhile body e) ≡ 1 + code_nodes body + nodes_of e = refl in let m : length (scalars_of (DoWhile body e)) ≡ length (scalars_of body) = refl in
+    made_by (DoWhile body e) three.keeps (omega arith) (omega arith)
+
+pub for_well : (leaves again : Option ℕ) (h n x c : ℕ) (first step body : Code) (test : Option (Tree One)) (b0 b1 b2 b3 b4 b5 b6 b7 b8 b9 b10 : Builder) (t0 t1 : List (List ℕ)) → PlainWell first b0 b1 → (h ≡ length b1.blocks) × (b2 ≡ closed (reserved b1) (Goto h) h) → LoopTestWell test n b2 b3 → (x ≡ length b3.blocks) × (b4 ≡ reserved b3) → (c ≡ length b4.blocks) × (b5 ≡ reserved b4) → StatementWell body (Some x) (Some c) b5 b6 t0 t1 → b7 ≡ closed b6 (Goto c) c → PlainWell step b7 b8 → b9 ≡ closed b8 (Goto h) n → b10 ≡ closed b9 (Goto x) x → StatementWell (For first test step body) leaves again b0 b10 t0 t1
+for_well leaves again h n x c first step body test b0 b1 b2 b3 b4 b5 b6 b7 b8 b9 b10 t0 t1 ef eh et ex ec eb e7 es e9 e10 k roles s is wl wa =
+    let f = ef k (length t0) roles s is.0 in
+    let a = enters_well h b1 b2 eh f.keeps.shaped in
+    let t = et k (length t0) f.later a.keeps.shaped is.1 in
+    let rx = reserves_well x b3 b4 ex t.keeps.shaped in
+    let rc = reserves_well c b4 b5 ec rx.keeps.shaped in
+    let free_x = rc.keeps.free x rx.free in
+    let free_h = rc.keeps.free h (rx.keeps.free h (t.keeps.free h a.free)) in
+    let spare_x = rc.keeps.spare x rx.spare in
+    let spare_n = rc.keeps.spare n (rx.keeps.spare n t.waits) in
+    let u = eb k t.later rc.keeps.shaped is.3 free_x rc.free in
+    let all = keeps_on f.keeps (keeps_on a.keeps (keeps_on t.keeps (keeps_on rx.keeps (keeps_on rc.keeps u.keeps)))) in
+    let wn = slice_get_within b3.blocks n None t.waits.free in
+    let l0 = f.keeps.longer in let l1 = a.keeps.longer in let l2 = t.late in let l3 = t.keeps.longer in let at1 = rx.at in let more1 = rx.more in let at2 = rc.at in let more2 = rc.more in
+    let one = turned_well c c b0 b6 b7 e7 all (u.keeps.spare c rc.spare) (omega arith) (u.keeps.free c rc.free) in
+    let v = es k (length t1) u.later one.keeps.shaped is.2 in
+    let spare7 = one.spare n (u.keeps.spare n spare_n) (λ d. omega arith) in
+    let spare7x = one.spare x (u.keeps.spare x spare_x) (λ d. omega arith) in
+    let two = turned_well h n b0 b8 b9 e9 (keeps_on one.keeps v.keeps) (v.keeps.spare n spare7) (omega arith) (v.keeps.free h (one.free h (u.keeps.free h free_h))) in
+    let three = turned_well x x b0 b9 b10 e10 two.keeps (two.spare x (v.keeps.spare x spare7x) (λ d. omega arith)) (omega arith) (two.free x (v.keeps.free x (one.free x (u.keeps.free x free_x)))) in
+    let p0 = f.few_generals in let q0 = f.few_branches in let p1 = t.few_generals in let q1 = t.few_branches in let p2 = u.few_generals in let q2 = u.few_branches in let p3 = v.few_generals in let q3 = v.few_branches in
+    let nodes : code_nodes (For first test step body) ≡ 1 + code_nodes first + test_nodes test + code_nodes step + code_nodes body = refl in
+    let m : length (scalars_of (For first test step body)) ≡ length (scalars_of first) + length (scalars_of body) = length-append (scalars_of first) (scalars_of body) in
+    made_by (For first test step body) three.keeps (omega arith) (omega arith)
+
+-- lists of statements
+
+pub nothing_well : (leaves again : Option ℕ) (b : Builder) (ts : List (List ℕ)) → StatementWell Nothing leaves again b b ts ts
+nothing_well leaves again b ts k roles s is wl wa = made_by Nothing (keeps_self s) (omega arith) (omega arith)
+
+all_nodes : (xs : List Statement) (x : Statement) → code_nodes (all_in (xs ++ x ∷ [])) ≡ code_nodes (all_in xs) + code_nodes (code_of x)
+all_nodes [] x = let e : code_nodes (all_in (x ∷ [])) ≡ code_nodes (code_of x) + 0 = refl in let z : code_nodes (all_in []) ≡ 0 = refl in omega arith
+all_nodes (y ∷ xs) x = let h = all_nodes xs x in let e : code_nodes (all_in (y ∷ (xs ++ x ∷ []))) ≡ code_nodes (code_of y) + code_nodes (all_in (xs ++ x ∷ [])) = refl in let z : code_nodes (all_in (y ∷ xs)) ≡ code_nodes (code_of y) + code_nodes (all_in xs) = refl in omega arith
+
+all_scalars : (xs : List Statement) (x : Statement) → length (scalars_of (all_in (xs ++ x ∷ []))) ≡ length (scalars_of (all_in xs)) + length (scalars_of (code_of x))
+all_scalars [] x = let e = length-append (scalars_of (code_of x)) (scalars_of (all_in [])) in let z : length (scalars_of (all_in [])) ≡ 0 = refl in let q : length (scalars_of (all_in (x ∷ []))) ≡ length (scalars_of (code_of x) ++ scalars_of (all_in [])) = refl in omega arith
+all_scalars (y ∷ xs) x = let h = all_scalars xs x in let e = length-append (scalars_of (code_of y)) (scalars_of (all_in (xs ++ x ∷ []))) in let z = length-append (scalars_of (code_of y)) (scalars_of (all_in xs)) in let q : length (scalars_of (all_in (y ∷ (xs ++ x ∷ [])))) ≡ length (scalars_of (code_of y) ++ scalars_of (all_in (xs ++ x ∷ []))) = refl in let r : length (scalars_of (all_in (y ∷ xs))) ≡ length (scalars_of (code_of y) ++ scalars_of (all_in xs)) = refl in omega arith
+
+all_named : (k : Known) (xs : List Statement) (x : Statement) → CodeNamed k (all_in (xs ++ x ∷ [])) → CodeNamed k (all_in xs) × CodeNamed k (code_of x)
+all_named k [] x h = (tt, h.0)
+all_named k (y ∷ xs) x h = let w = all_named k xs x h.1 in ((h.0, w.0), w.1)
+
+pub more_well : (leaves again : Option ℕ) (xs : List Statement) (x : Statement) (b0 b1 b2 : Builder) (t0 t1 t2 : List (List ℕ)) → StatementWell (all_in xs) leaves again b0 b1 t0 t1 → StatementWell (code_of x) leaves again b1 b2 t1 t2 → StatementWell (all_in (xs ++ x ∷ [])) leaves again b0 b2 t0 t2
+more_well leaves again xs x b0 b1 b2 t0 t1 t2 f g k roles s is wl wa =
+    let n = all_named k xs x is in
+    let u = f k roles s n.0 wl wa in
+    let v = g k u.later u.keeps.shaped n.1 (way_on leaves u.keeps wl) (way_on again u.keeps wa) in
+    let nodes = all_nodes xs x in let scalars = all_scalars xs x in
+    let p1 = u.few_generals in let q1 = u.few_branches in let p2 = v.few_generals in let q2 = v.few_branches in
+    made_by (all_in (xs ++ x ∷ [])) (keeps_on u.keeps v.keeps) (omega arith) (omega arith)

@@ -1,0 +1,48 @@
+-- The shape of the graph of a function of an accepted program, and how many values it has.
+use Rattle.std.specs.Prelude.{◌≡◌, ℕ, ◌+◌, ◌*◌, ◌≤◌, true, List, length, map, count_by, Some, slice_get}
+use Rattle.vx_ast.specs.Accepted.{code_nodes, function_nodes, scalars_of}
+use Rattle.vx_ast.specs.Tree.{Function, Program}
+use Rattle.vx_flow.specs.declared.graph.Graph.{Graph}
+use Rattle.vx_flow.specs.Sound.{are_distinct, begins_with}
+use Rattle.vx_lower.specs.FlowOf.{is_general, is_branch}
+use Rattle.vx_lower.specs.Lowered.{global_of}
+use Rattle.vx_lower.specs.Named.{Known, CodeNamed}
+use Rattle.vx_lower.specs.Fits.{Role, Shaped}
+use Rattle.vx_lower.specs.Shape.{finally, WellShaped}
+use Rattle.vx_lower.specs.declared.builder.Builder.{Builder}
+
+-- what a function of a program knows
+abbrev pub known_of : Program → Function → Known
+known_of p f = record { scalars = f.scalars; arrays = length p.globals + length f.arrays; parameters = map (λ g. g.parameters) p.functions }
+
+-- what a function's body names is there, and its scalars are its parameters and those that it declares
+pub record FunctionNamed (p : Program) (f : Function) : Type 0 where
+  pub named : CodeNamed (known_of p f) f.body
+  pub scalars : f.scalars ≡ f.parameters + length (scalars_of f.body)
+
+-- a whole body, whose last block returns
+pub record BodyShape (k : Known) (f : Function) (texts : ℕ) (b : Builder) : Type 0 where
+  pub roles : List Role
+  pub last : Builder
+  pub shaped : Shaped k texts roles last
+  pub is : b ≡ finally last
+  pub general_values : count_by is_general b.banks + length (scalars_of f.body) ≤ f.scalars + 3 * code_nodes f.body
+  pub branch_values : count_by is_branch b.banks ≤ 2 * code_nodes f.body
+
+abbrev pub BodyWell : Function → Builder → (after : List (List ℕ)) → Type 0
+BodyWell f b after = (k : Known) → k.scalars ≡ f.scalars → CodeNamed k f.body → BodyShape k f (length after) b
+
+-- the graph of a function
+pub record GraphShape (p : Program) (f : Function) (g : Graph) (texts : ℕ) : Type 0 where
+  pub shape : WellShaped (known_of p f) texts g
+  pub general_values : count_by is_general g.banks ≤ 3 * function_nodes f
+  pub branch_values : count_by is_branch g.banks ≤ 2 * function_nodes f
+  pub distinct : are_distinct g.parameters ≡ true
+  pub globals : begins_with (map global_of p.globals) g.arrays ≡ true
+
+abbrev pub GraphWell : Program → Function → Graph → (after : List (List ℕ)) → Type 0
+GraphWell p f g after = FunctionNamed p f → GraphShape p f g (length after)
+
+-- the graphs of functions
+abbrev pub GraphsWell : Program → List Function → List Graph → (after : List (List ℕ)) → Type 0
+GraphsWell p fs gs after = (i : ℕ) (f : Function) (g : Graph) → slice_get fs i ≡ Some f → slice_get gs i ≡ Some g → GraphWell p f g after
