@@ -48,7 +48,7 @@ use Rattle.vx_mixed.proofs.PathOf.{Ways, ways_behind, path_of}
 use Rattle.vx_mixed.proofs.PlacedWords.{length_items, row_is, words_are, numbers_many, marked_at, freed_at, split_at, split_placed}
 use Rattle.vx_mixed.proofs.NewNodes.{made_none, made_some, made_here, node_old, node_new, origin_old, origin_made, front_get, map_get}
 use Rattle.vx_mixed.proofs.TraceFacts.{is_split, last_none, last_among}
-use Rattle.vx_mixed.proofs.Linked.{some_blocks, in_index, index_in, in_edge, New, N, To, MeetOld, MeetNew, Pairs, InnerEdge, can, meets_not, meets, pair_stays, pair_joined, unused, no_region, edge_block, in_plain, off_trace, Joins, joins, some_edge, at_end, leads_out, first_node, leads_in, exit_renamed, from_outside, arrives}
+use Rattle.vx_mixed.proofs.Linked.{Linkable, some_blocks, in_index, index_in, in_edge, New, N, To, MeetOld, MeetNew, Pairs, InnerEdge, can, meets_not, meets, pair_stays, pair_joined, unused, no_region, edge_block, in_plain, off_trace, Joins, joins, some_edge, at_end, leads_out, first_node, leads_in, exit_renamed, from_outside, arrives}
 use Rattle.vx_mixed.proofs.Scheduled.{motion}
 
 there : (xs : List ℕ) (k d : ℕ) → k < length xs → (w : ℕ) × (slice_get xs k ≡ Some w) × (slice_index_or xs k d ≡ w)
@@ -95,9 +95,20 @@ rejoin_of (j ∷ js) (v ∷ ws) b w h =
     (λ f. let x = rejoin_of js ws b w (sym (ap (λ z. if z then Some v else rejoin_at js ws b) f) ∙ h) in (suc x.0, x.1, x.2, x.3, x.4))
     (cases_Bool (j.block == b))
 
+abbrev linkable : {latency : Op → ℕ} {m : MixedGraph} {r : Replacement} → Compensated latency m r → Linkable m r
+linkable c = record {
+  can = c.can;
+  plain = c.plain;
+  is_trace = c.is_trace;
+  splits = c.splits;
+  join_blocks = c.join_blocks;
+  join_edges = c.join_edges;
+  made_where = c.made_where;
+}
+
 module _ (latency : Op → ℕ) (m : MixedGraph) (r : Replacement) (valid : Valid m) (in_time : (q : ℕ) (g : Region) → slice_get m.regions q ≡ Some g → InTime latency g) (c : Compensated latency m r) (first : ℕ) (others : List ℕ) (blocks_are : r.trace.blocks ≡ first ∷ others) where
   abbrev NewM : MixedGraph
-  NewM = New latency m r valid c first others blocks_are
+  NewM = New m r valid (linkable c) first others blocks_are
 
   abbrev I : List Item
   I = items r
@@ -112,16 +123,16 @@ module _ (latency : Op → ℕ) (m : MixedGraph) (r : Replacement) (valid : Vali
   Reg = new_region m r
 
   abbrev To_ : ℕ → ℕ → ℕ
-  To_ = To latency m r valid c first others blocks_are
+  To_ = To m r valid (linkable c) first others blocks_are
 
   abbrev Old : ℕ → ℕ → Bool
-  Old = MeetOld latency m r valid c first others blocks_are
+  Old = MeetOld m r valid (linkable c) first others blocks_are
 
   abbrev Now : ℕ → ℕ → Bool
-  Now = MeetNew latency m r valid c first others blocks_are
+  Now = MeetNew m r valid (linkable c) first others blocks_are
 
   abbrev Pair : ℕ → ℕ → Bool
-  Pair = Pairs latency m r valid c first others blocks_are
+  Pair = Pairs m r valid (linkable c) first others blocks_are
 
   abbrev L : ℕ → List ℕ
   L = c.is_trace.live
@@ -180,7 +191,7 @@ module _ (latency : Op → ℕ) (m : MixedGraph) (r : Replacement) (valid : Vali
       by (Plain op cluster) q a = absurd a
       by (Split p y off d) q a =
           let s = split_at r.trace.ops r.clusters e p d y off q in
-          let i = in_plain latency m r valid c first others blocks_are p y off s.0 (index_in r.trace.ops e (TraceSplit p y off s.0) s.1) in
+          let i = in_plain m r valid (linkable c) first others blocks_are p y off s.0 (index_in r.trace.ops e (TraceSplit p y off s.0) s.1) in
           subst (λ z. IsIn v (live_of z)) (sym s.1) ((c.is_trace.lives p v y off s.0 i).1 a)
 
   is_met : Meets I (item_latency latency) (AfterOf m I) c.never (is_join_place r.trace.joins) W
@@ -190,15 +201,15 @@ module _ (latency : Op → ℕ) (m : MixedGraph) (r : Replacement) (valid : Vali
 
   ways : Ways m Old L (first ∷ others)
   ways =
-      let k = can latency m r valid c first others blocks_are in
+      let k = can m r valid (linkable c) first others blocks_are in
       record {
         unused = k.unused;
         parts = λ b x at. (valid.block_parts b x at).0;
         once = k.once;
-        follow = λ a b x h at. edge_block latency m r valid c first others blocks_are a b x (k.follow (edge a b) h) at;
+        follow = λ a b x h at. edge_block m r valid (linkable c) first others blocks_are a b x (k.follow (edge a b) h) at;
         no_call = λ a b x h at. k.no_call (edge a b) x h at;
-        inner = meets_not latency m r valid c first others blocks_are;
-        outer = λ a b x h at t n. meets latency m r valid c first others blocks_are a b n;
+        inner = meets_not m r valid (linkable c) first others blocks_are;
+        outer = λ a b x h at t n. meets m r valid (linkable c) first others blocks_are a b n;
       }
 
   path_from : (b0 : ℕ) (bs : List ℕ) (b : ℕ) → Ways m Old L (b0 ∷ bs) → IsIn b (b0 ∷ bs) → Path m Old b (plain_items (trace_ops m L (blocks_from b (b0 ∷ bs)))) (last_of (b0 ∷ bs)) (exit_in (slice_get m.nodes (last_of (b0 ∷ bs))))
@@ -228,21 +239,21 @@ module _ (latency : Op → ℕ) (m : MixedGraph) (r : Replacement) (valid : Vali
       let t = is_split r.trace.ops p y off s.0 (index_in r.trace.ops e (TraceSplit p y off s.0) s.1) in
       let q = split_placed To_ r.trace.ops r.clusters r.words r.drains [] e p d g y off off' c.clusters_fit c.words_fit at_e at_m in
       subst (λ z. LeadsOut NewM Now Pair z off'.from off'.to off.to) (c.at_splits e p d y off at_e)
-      (subst (λ (z : Edge). LeadsOut NewM Now Pair (on_edge r.made off) z.from z.to off.to) (sym q) (leads_out latency m r valid c first others blocks_are off.from off.to t))
+      (subst (λ (z : Edge). LeadsOut NewM Now Pair (on_edge r.made off) z.from z.to off.to) (sym q) (leads_out m r valid (linkable c) first others blocks_are off.from off.to t))
 
   last_exit : Renamed Pair (exit_of m r) Reg.last × ((d : ℕ) → IsIn d (targets_of Reg.last) → Now Reg.from d ≡ true)
-  last_exit = exit_renamed latency m r valid c first others blocks_are (last_of r.trace.blocks) (exit_of m r) each
+  last_exit = exit_renamed m r valid (linkable c) first others blocks_are (last_of r.trace.blocks) (exit_of m r) each
     where
       q : last_of r.trace.blocks ≡ last_of (first ∷ others)
       q = ap last_of blocks_are
 
-      each : (b : ℕ) → IsIn b (targets_of (exit_of m r)) → IsEdge m (edge (last_of r.trace.blocks) b) × (InnerEdge latency m r valid c first others blocks_are (last_of r.trace.blocks) b → ⊥) × (is_split_edge r.trace.ops (edge (last_of r.trace.blocks) b) ≡ false)
+      each : (b : ℕ) → IsIn b (targets_of (exit_of m r)) → IsEdge m (edge (last_of r.trace.blocks) b) × (InnerEdge m r valid (linkable c) first others blocks_are (last_of r.trace.blocks) b → ⊥) × (is_split_edge r.trace.ops (edge (last_of r.trace.blocks) b) ≡ false)
       each b t =
-          let u = unused latency m r valid c first others blocks_are (last_of (first ∷ others)) (last_among first others) in
+          let u = unused m r valid (linkable c) first others blocks_are (last_of (first ∷ others)) (last_among first others) in
           let at : slice_get m.nodes (last_of r.trace.blocks) ≡ Some (Unused u.0) = ap (slice_get m.nodes) q ∙ u.1 in (
             of_block {block = u.0} at (subst (λ x. IsIn b (targets_of x)) (ap exit_in at) t),
-            (λ h. last_none first others b (can latency m r valid c first others blocks_are).once (subst (λ z. IsIn (edge z b) (inner_edges (first ∷ others))) q h)),
-            ⊎_elim (λ s. absurd ((off_trace latency m r valid c first others blocks_are (last_of r.trace.blocks) b s).not_last q)) (λ f. f) (cases_Bool (is_split_edge r.trace.ops (edge (last_of r.trace.blocks) b))),
+            (λ h. last_none first others b (can m r valid (linkable c) first others blocks_are).once (subst (λ z. IsIn (edge z b) (inner_edges (first ∷ others))) q h)),
+            ⊎_elim (λ s. absurd ((off_trace m r valid (linkable c) first others blocks_are (last_of r.trace.blocks) b s).not_last q)) (λ f. f) (cases_Bool (is_split_edge r.trace.ops (edge (last_of r.trace.blocks) b))),
           )
 
   -- outside of the trace
@@ -254,24 +265,24 @@ module _ (latency : Op → ℕ) (m : MixedGraph) (r : Replacement) (valid : Vali
       ∙ ap (λ t. if t then entered_at (length m.regions) (rejoin_at r.trace.joins r.rejoins b) else renamed_node To_ b k) (none_any b others (λ h. n (inr h)))
 
   not_inside : (b : ℕ) → is_in_region (slice_get m.nodes b) ≡ true → IsIn b (first ∷ others) → ⊥
-  not_inside b t h = no_region latency m r valid c first others blocks_are b h t
+  not_inside b t h = no_region m r valid (linkable c) first others blocks_are b h t
 
   outside : (b : ℕ) → (IsIn b (first ∷ others) → ⊥) → is_entrance (slice_get m.nodes b) ≡ true → Outside latency m NewM Old Now Pair b b
   outside b n e = by (slice_get m.nodes b) refl e
     where
-      away : (a d : ℕ) → (IsIn a (first ∷ others) → ⊥) → (InnerEdge latency m r valid c first others blocks_are a d → ⊥) × (is_split_edge r.trace.ops (edge a d) ≡ false)
-      away a d f = from_outside latency m r valid c first others blocks_are a d f
+      away : (a d : ℕ) → (IsIn a (first ∷ others) → ⊥) → (InnerEdge m r valid (linkable c) first others blocks_are a d → ⊥) × (is_split_edge r.trace.ops (edge a d) ≡ false)
+      away a d f = from_outside m r valid (linkable c) first others blocks_are a d f
 
       by : (o : Option Node) → slice_get m.nodes b ≡ o → is_entrance o ≡ true → Outside latency m NewM Old Now Pair b b
       by None at t = absurd (cc)
       by (Some Inner) at t = absurd (cc)
       by (Some (Unused k)) at t =
-          let x = exit_renamed latency m r valid c first others blocks_are b k.exit (λ d h. (of_block {block = k} at h, (away b d n).0, (away b d n).1)) in
-          as_block k.ops k.exit (renamed_exit (To_ b) k.exit) at (node_old m r b (Unused k) at ∙ ap Some (other_node b (Unused k) n)) x.0 (λ d h. meets latency m r valid c first others blocks_are b d (away b d n).0) x.1
+          let x = exit_renamed m r valid (linkable c) first others blocks_are b k.exit (λ d h. (of_block {block = k} at h, (away b d n).0, (away b d n).1)) in
+          as_block k.ops k.exit (renamed_exit (To_ b) k.exit) at (node_old m r b (Unused k) at ∙ ap Some (other_node b (Unused k) n)) x.0 (λ d h. meets m r valid (linkable c) first others blocks_are b d (away b d n).0) x.1
       by (Some (Enters q w)) at t =
           let g = valid.enters b q w at in
           let last_away = not_inside g.0.from (valid.last_from q g.0 g.1) in
-          let x = exit_renamed latency m r valid c first others blocks_are g.0.from g.0.last (λ d h. (of_last q g.0 g.1 refl h, (away g.0.from d last_away).0, (away g.0.from d last_away).1)) in
+          let x = exit_renamed m r valid (linkable c) first others blocks_are g.0.from g.0.last (λ d h. (of_last q g.0 g.1 refl h, (away g.0.from d last_away).0, (away g.0.from d last_away).1)) in
           as_region q q w g.0 (renamed_region To_ g.0) at g.1 (node_old m r b (Enters q w) at ∙ ap Some (other_node b (Enters q w) n))
           (front_get (map (renamed_region To_) m.regions) (Reg ∷ []) q (renamed_region To_ g.0) (map_get (renamed_region To_) m.regions q g.0 g.1))
           (record {
@@ -280,9 +291,9 @@ module _ (latency : Op → ℕ) (m : MixedGraph) (r : Replacement) (valid : Vali
             last = x.0;
             edges = λ j p d off y wd at_j h.
                 let f = away off.from off.to (not_inside off.from (valid.splits_from q j p d y off g.0 wd g.1 at_j h)) in
-                let a = arrives latency m r valid c first others blocks_are off.from off.to (of_split q j p d y g.0 wd g.1 at_j h) f.0 f.1 in
-                (a.0, meets latency m r valid c first others blocks_are off.from off.to f.0, a.1);
-            last_old = λ d h. meets latency m r valid c first others blocks_are g.0.from d (away g.0.from d last_away).0;
+                let a = arrives m r valid (linkable c) first others blocks_are off.from off.to (of_split q j p d y g.0 wd g.1 at_j h) f.0 f.1 in
+                (a.0, meets m r valid (linkable c) first others blocks_are off.from off.to f.0, a.1);
+            last_old = λ d h. meets m r valid (linkable c) first others blocks_are g.0.from d (away g.0.from d last_away).0;
             last_new = x.1;
             settled_old = in_time q g.0 g.1;
             drain = refl;
@@ -294,7 +305,7 @@ module _ (latency : Op → ℕ) (m : MixedGraph) (r : Replacement) (valid : Vali
   join_edge i j a b b' h same on goes =
       let there = index_in r.trace.joins i j h in
       let w = c.rejoins i j h in
-      let J = joins latency m r valid c first others blocks_are j a b there on in
+      let J = joins m r valid (linkable c) first others blocks_are j a b there on in
       record {
         place = j.place;
         inside = let s = size in let p = c.join_places j there in omega arith;
@@ -305,7 +316,7 @@ module _ (latency : Op → ℕ) (m : MixedGraph) (r : Replacement) (valid : Vali
         rejoin = w.0;
         above = w.2.0;
         least = w.2.1;
-        enters = subst (λ z. LeadsIn NewM Now (length m.regions) w.0 z b') (c.at_joins i w.0 j (edge a b) h w.1 on) (subst (LeadsIn NewM Now (length m.regions) w.0 (on_edge r.made (edge a b))) goes (leads_in latency m r valid c first others blocks_are i w.0 a b j h w.1 on));
+        enters = subst (λ z. LeadsIn NewM Now (length m.regions) w.0 z b') (c.at_joins i w.0 j (edge a b) h w.1 on) (subst (LeadsIn NewM Now (length m.regions) w.0 (on_edge r.made (edge a b))) goes (leads_in m r valid (linkable c) first others blocks_are i w.0 a b j h w.1 on));
       }
 
   abbrev Entrance : ℕ → ℕ → Type 0
@@ -317,7 +328,7 @@ module _ (latency : Op → ℕ) (m : MixedGraph) (r : Replacement) (valid : Vali
       let s = and_parts (is_entrance (slice_get m.nodes b)) (not (list_any (λ x. x == b) (drop 1 r.trace.blocks))) p.0 in
       let same : b ≡ b' = eqb-true b b' p.1 in
       ⊎_elim
-      (λ e. inl (e, at_once (no_copies (λ k. nat_lt (W k) 0) M (λ k. le-ltb (W k) 0 (omega arith)) (length I) 0) (ap (slice_get NewM.nodes) (sym same ∙ e) ∙ first_node latency m r valid c first others blocks_are)))
+      (λ e. inl (e, at_once (no_copies (λ k. nat_lt (W k) 0) M (λ k. le-ltb (W k) 0 (omega arith)) (length I) 0) (ap (slice_get NewM.nodes) (sym same ∙ e) ∙ first_node m r valid (linkable c) first others blocks_are)))
       (λ n. inr (inr (subst (Outside latency m NewM Old Now Pair b) same (outside b (not_in n s.1) s.0))))
       (cases_eq b first)
     where
@@ -332,7 +343,7 @@ module _ (latency : Op → ℕ) (m : MixedGraph) (r : Replacement) (valid : Vali
       let g = any_in (λ (e : Edge). To_ e.from e.to == b') f.item.edges p.1 in
       let i = in_index r.trace.joins f.item f.has in
       let same : f.item.block ≡ b = eqb-true f.item.block b p.0 in
-      let J = joins latency m r valid c first others blocks_are f.item g.item.from g.item.to f.has g.has in
+      let J = joins m r valid (linkable c) first others blocks_are f.item g.item.from g.item.to f.has g.has in
       let to : g.item.to ≡ b = J.block ∙ same in
       inr (inl (join_edge i.0 f.item g.item.from b b' i.1 same (subst (λ z. IsIn (edge g.item.from z) f.item.edges) to g.has) (subst (λ z. To_ g.item.from z ≡ b') to (eqb-true (To_ g.item.from g.item.to) b' g.holds))))
 
@@ -349,29 +360,29 @@ module _ (latency : Op → ℕ) (m : MixedGraph) (r : Replacement) (valid : Vali
 
   begin_first : (b : ℕ) → b ≡ first → made_at_split (slice_get m.origins b) ≡ false → Begins b
   begin_first b e made =
-      let u = unused latency m r valid c first others blocks_are b (inl e) in
-      (b, pair_stays latency m r valid c first others blocks_are b (is_unused b u.0 u.1) (λ h. (can latency m r valid c first others blocks_are).once.0 (subst (λ z. IsIn z others) e h)), block u.1, made)
+      let u = unused m r valid (linkable c) first others blocks_are b (inl e) in
+      (b, pair_stays m r valid (linkable c) first others blocks_are b (is_unused b u.0 u.1) (λ h. (can m r valid (linkable c) first others blocks_are).once.0 (subst (λ z. IsIn z others) e h)), block u.1, made)
 
   begin_join : (b : ℕ) → IsIn b others → rejoin_at r.trace.joins r.rejoins b ≡ Some 0 → made_at_split (slice_get m.origins b) ≡ false → Begins b
   begin_join b h w made =
       let x = rejoin_of r.trace.joins r.rejoins b 0 w in
       let j = x.1 in
       let i = index_in r.trace.joins x.0 j x.2 in
-      let e = some_edge latency m r valid c first others blocks_are j i in
-      let J = joins latency m r valid c first others blocks_are j e.0 e.1 i e.2 in
+      let e = some_edge m r valid (linkable c) first others blocks_are j i in
+      let J = joins m r valid (linkable c) first others blocks_are j e.0 e.1 i e.2 in
       let to : e.1 ≡ b = J.block ∙ x.4 in
       let on : IsIn (edge e.0 b) j.edges = subst (λ z. IsIn (edge e.0 z) j.edges) to e.2 in
       let none : on_edge r.made (edge e.0 b) ≡ [] = c.at_joins x.0 0 j (edge e.0 b) x.2 x.3 on ∙ no_copies (λ k. nat_lt (W k) 0) M (λ k. le-ltb (W k) 0 (omega arith)) (length I - j.place) j.place in
-      let u = unused latency m r valid c first others blocks_are b (inr h) in
-      (b, pair_joined latency m r valid c first others blocks_are j e.0 b b i x.4 on (by e.0 none (made_on (length m.nodes) r.made (edge e.0 b)) refl), block u.1, made)
+      let u = unused m r valid (linkable c) first others blocks_are b (inr h) in
+      (b, pair_joined m r valid (linkable c) first others blocks_are j e.0 b b i x.4 on (by e.0 none (made_on (length m.nodes) r.made (edge e.0 b)) refl), block u.1, made)
     where
       by : (a : ℕ) → on_edge r.made (edge a b) ≡ [] → (o : Option ℕ) → made_on (length m.nodes) r.made (edge a b) ≡ o → To_ a b ≡ b
-      by a none None q = at_end latency m r valid c first others blocks_are a b None q
+      by a none None q = at_end m r valid (linkable c) first others blocks_are a b None q
       by a none (Some d) q = let s = made_some (length m.nodes) r.made (edge a b) d q in absurd (c.made_some s.item (index_in r.made s.index s.item s.has) (sym s.ops ∙ none))
 
   begin_outside : (b : ℕ) → (IsIn b (first ∷ others) → ⊥) → IsStart m b → made_at_split (slice_get m.origins b) ≡ false → Begins b
-  begin_outside b n (block {k = k} at) made = (b, pair_stays latency m r valid c first others blocks_are b (ap is_entrance at) (λ h. n (inr h)), block at, made)
-  begin_outside b n (region {r = q} at) made = (b, pair_stays latency m r valid c first others blocks_are b (ap is_entrance at) (λ h. n (inr h)), region at, made)
+  begin_outside b n (block {k = k} at) made = (b, pair_stays m r valid (linkable c) first others blocks_are b (ap is_entrance at) (λ h. n (inr h)), block at, made)
+  begin_outside b n (region {r = q} at) made = (b, pair_stays m r valid (linkable c) first others blocks_are b (ap is_entrance at) (λ h. n (inr h)), region at, made)
 
   -- a node that was there
   begin_old : (b : ℕ) (o : Node) → slice_get m.nodes b ≡ Some o → made_at_split (slice_get m.origins b) ≡ false → IsStart NewM b → Begins b
@@ -387,7 +398,7 @@ module _ (latency : Op → ℕ) (m : MixedGraph) (r : Replacement) (valid : Vali
       inner_node : IsIn b others → trace_node m r r.trace.blocks b o ≡ entered_at (length m.regions) (rejoin_at r.trace.joins r.rejoins b)
       inner_node i =
           ap (λ z. trace_node m r z b o) blocks_are
-          ∙ ap (λ t. if t then Enters (length m.regions) 0 else if list_any (λ x. x == b) others then entered_at (length m.regions) (rejoin_at r.trace.joins r.rejoins b) else renamed_node To_ b o) (ne_eqb first b (λ e. (can latency m r valid c first others blocks_are).once.0 (subst (λ z. IsIn z others) (sym e) i)))
+          ∙ ap (λ t. if t then Enters (length m.regions) 0 else if list_any (λ x. x == b) others then entered_at (length m.regions) (rejoin_at r.trace.joins r.rejoins b) else renamed_node To_ b o) (ne_eqb first b (λ e. (can m r valid (linkable c) first others blocks_are).once.0 (subst (λ z. IsIn z others) (sym e) i)))
           ∙ ap (λ t. if t then entered_at (length m.regions) (rejoin_at r.trace.joins r.rejoins b) else renamed_node To_ b o) (any_of (λ x. x == b) others b i (eq-eqb b b refl))
 
       entered : (w : Option ℕ) → IsIn b others → rejoin_at r.trace.joins r.rejoins b ≡ w → IsStart NewM b → Begins b
@@ -419,21 +430,21 @@ module _ (latency : Op → ℕ) (m : MixedGraph) (r : Replacement) (valid : Vali
       (λ t. absurd (let z : true ≡ false = sym t ∙ no_split in cc))
       (λ h.
       let j = h.0 in
-      let J = joins latency m r valid c first others blocks_are j x.edge.from x.edge.to h.1 h.2 in
+      let J = joins m r valid (linkable c) first others blocks_are j x.edge.from x.edge.to h.1 h.2 in
       let d = made_here (length m.nodes) r.made i x has in
       let s = made_some (length m.nodes) r.made x.edge d.0 d.1 in
       let same : s.index ≡ i = c.made_once s.index i s.item x s.has has s.where_ in
       let number : d.0 ≡ length m.nodes + i = let z = s.number in omega arith in
-      let u = unused latency m r valid c first others blocks_are x.edge.to (inr J.behind) in
-      (x.edge.to, pair_joined latency m r valid c first others blocks_are j x.edge.from x.edge.to (length m.nodes + i) h.1 (sym J.block) h.2 (at_end latency m r valid c first others blocks_are x.edge.from x.edge.to (Some d.0) d.1 ∙ number), block u.1, not_split J))
+      let u = unused m r valid (linkable c) first others blocks_are x.edge.to (inr J.behind) in
+      (x.edge.to, pair_joined m r valid (linkable c) first others blocks_are j x.edge.from x.edge.to (length m.nodes + i) h.1 (sym J.block) h.2 (at_end m r valid (linkable c) first others blocks_are x.edge.from x.edge.to (Some d.0) d.1 ∙ number), block u.1, not_split J))
       (c.made_where x (index_in r.made i x has))
     where
-      not_split : {j : Join} → Joins latency m r valid c first others blocks_are j x.edge.from x.edge.to → made_at_split (slice_get m.origins x.edge.to) ≡ false
+      not_split : {j : Join} → Joins m r valid (linkable c) first others blocks_are j x.edge.from x.edge.to → made_at_split (slice_get m.origins x.edge.to) ≡ false
       not_split J =
           ⊎_elim
           (λ t. let o = split_origin (slice_get m.origins x.edge.to) t in
           let f = in_edge first x.edge.to others J.behind in
-          let q : edge f.0 x.edge.to ≡ x.edge = valid.one_way x.edge (edge f.0 x.edge.to) J.is_edge ((can latency m r valid c first others blocks_are).follow (edge f.0 x.edge.to) f.1) o refl in
+          let q : edge f.0 x.edge.to ≡ x.edge = valid.one_way x.edge (edge f.0 x.edge.to) J.is_edge ((can m r valid (linkable c) first others blocks_are).follow (edge f.0 x.edge.to) f.1) o refl in
           absurd (J.outer (subst (λ z. IsIn z (inner_edges (first ∷ others))) q f.1)))
           (λ n. n)
           (cases_Bool (made_at_split (slice_get m.origins x.edge.to)))
@@ -455,10 +466,10 @@ module _ (latency : Op → ℕ) (m : MixedGraph) (r : Replacement) (valid : Vali
 
   begins : Pair 0 0 ≡ true
   begins =
-      let u = unused latency m r valid c first others blocks_are first (inl refl) in
+      let u = unused m r valid (linkable c) first others blocks_are first (inl refl) in
       let lt = get_below m.nodes first (Unused u.0) u.1 in
-      pair_stays latency m r valid c first others blocks_are 0 (entered (slice_get m.nodes 0) refl (some_node m.nodes (omega arith)))
-      (λ h. let f = in_edge first 0 others h in valid.entry (edge f.0 0) ((can latency m r valid c first others blocks_are).follow (edge f.0 0) f.1) refl)
+      pair_stays m r valid (linkable c) first others blocks_are 0 (entered (slice_get m.nodes 0) refl (some_node m.nodes (omega arith)))
+      (λ h. let f = in_edge first 0 others h in valid.entry (edge f.0 0) ((can m r valid (linkable c) first others blocks_are).follow (edge f.0 0) f.1) refl)
     where
       some_node : (ns : List Node) → 0 < length ns → (k : Node) × (slice_get ns 0 ≡ Some k)
       some_node [] lt = absurd (omega arith)

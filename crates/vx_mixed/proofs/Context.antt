@@ -3,23 +3,23 @@ use Rattle.std.proofs.Common.{◌≡◌, ◌≢◌, ℕ, zero, suc, ◌+◌, ◌
 use Rattle.std.specs.Prelude.{◌⊎◌, ◌==◌, if◌then◌else◌, nat_le}
 use Rattle.std.specs.Option.{option_map}
 use Rattle.std.proofs.lemmas.Bool.{cases_lt, lt-ltb, le-ltb, eq-eqb}
-use Rattle.vx_base.specs.Outcome.{Outcome, Ends as EndsWith, Traps, Begins, IsOver, IsFailure, NeverFails, Step, On, Over, step_then, output_of, run}
+use Rattle.vx_base.specs.Outcome.{Outcome, Ends as EndsWith, Traps, IsOver, IsFailure, NeverFails, On, Over, step_then, run}
 use Rattle.vx_base.specs.declared.outcome.Trap.{Trap}
 use Rattle.vx_base.specs.declared.outcome.Trap.TheVariants.{Depth}
 use Rattle.vx_base.proofs.Runs.{Grows, Reach, run_reach, reach_on, safe_after}
-use Rattle.vx_base.proofs.Same.{begins_self}
 use Rattle.vx_base.proofs.Meeting.{Meets, Again, Ended, same_from_meeting}
 use Rattle.vx_flow.specs.declared.graph.Op.{Op}
 use Rattle.vx_flow.specs.declared.graph.Array.{Array}
 use Rattle.vx_flow.specs.declared.graph.Flow.{Flow}
 use Rattle.vx_flow.specs.Effects.{Content, State}
-use Rattle.vx_flow.specs.Meaning.{Hop, Arrives, Calls, Leaves, Stops, Wrong, Body, Program, Frame, Active, deepest, spot_of, setting_of, at_entry, undefined, entered, enters, with_result, returned, waits, after_hop, body_hop, hop as active_hop, next, words_at_start, globals_at_start, entered_or, at_start}
+use Rattle.vx_flow.specs.Meaning.{Hop, Arrives, Calls, Leaves, Stops, Wrong, Program, Frame, Active, deepest, spot_of, setting_of, at_entry, undefined, entered, enters, with_result, returned, waits, after_hop, body_hop, next, words_at_start, globals_at_start, entered_or, at_start}
 use Rattle.vx_mixed.specs.declared.mixed.MixedGraph.{MixedGraph}
 use Rattle.vx_mixed.specs.Meaning.{hop}
 use Rattle.vx_mixed.specs.Live.{Live}
 use Rattle.vx_mixed.specs.Agree.{Apart, Segment, last, on, SameWorld, Agree, Alike, SameMeaning, not_the_result}
 use Rattle.vx_mixed.specs.Program.{body_of, program_of}
 use Rattle.vx_mixed.specs.Context.{Becomes, Remains, Changes, Both, AllBecome, SameRuns, InContext}
+use Rattle.vx_mixed.proofs.ProgramGrows.{program_grows}
 use Rattle.vx_mixed.proofs.Keeps.{Good, HopGood, hop_good}
 
 same_world : (s : State) → SameWorld s s
@@ -131,10 +131,6 @@ module _ (flow : Flow) (times : List ℕ) (latency : Op → ℕ) (ms : List Mixe
   abbrev pub out_of : Active → List ℕ
   out_of r = r.state.out
 
-  abbrev StepGrown : List ℕ → Step Active → Type 0
-  StepGrown xs (On r) = Begins xs r.state.out
-  StepGrown xs (Over o) = Begins xs (output_of o)
-
   abbrev at_hop : Active → Option MixedGraph → Hop
   at_hop r o = body_hop P r (option_map (body_of G times latency) o)
 
@@ -142,30 +138,8 @@ module _ (flow : Flow) (times : List ℕ) (latency : Op → ℕ) (ms : List Mixe
   hop_grown r None = tt
   hop_grown r (Some m) = hop_good (setting_of P r.base) times latency m r.block r.state
 
-  enters_grown : (xs : List ℕ) (g : ℕ) (o : Option Body) (args : List ℤ) (s : State) (fs : List Frame) → Begins xs s.out → StepGrown xs (enters g o args s fs)
-  enters_grown xs g None args s fs k = k
-  enters_grown xs g (Some body) args s fs k = k
-
-  returned_grown : (xs : List ℕ) (n : ℤ) (s : State) (base : ℕ) (fs : List Frame) → Begins xs s.out → StepGrown xs (returned n s base fs)
-  returned_grown xs n s base [] k = k
-  returned_grown xs n s base (f ∷ fs) k = k
-
-  call_grown : (xs : List ℕ) (deep : Bool) (g : ℕ) (args : List ℤ) (s : State) (fs : List Frame) → Begins xs s.out → StepGrown xs (if deep then Over (Traps Depth s.out) else enters g (P.body g) args s fs)
-  call_grown xs true g args s fs k = k
-  call_grown xs false g args s fs k = enters_grown xs g (P.body g) args s fs k
-
-  after_grown : (r : Active) (n : ℕ) (h : Hop) → HopGood r.state.out n h → StepGrown r.state.out (after_hop P r h)
-  after_grown r n (Arrives b c s) k = k.0
-  after_grown r n (Calls g args result from to s) k = call_grown r.state.out (nat_le deepest (length r.waiting + 1)) g args s (waits r result from to s ∷ r.waiting) k.0
-  after_grown r n (Leaves m s) k = returned_grown r.state.out m s r.base r.waiting k.0
-  after_grown r n (Stops t s) k = k.0
-  after_grown r n Wrong k = begins_self r.state.out
-
-  next_grown : (r : Active) → StepGrown r.state.out (next P r)
-  next_grown r = after_grown r (length r.state.arrays) (active_hop P r) (hop_grown r (slice_get ms r.function))
-
   pub grows : Grows (next P) out_of
-  grows = record { on = λ s t e. subst (StepGrown s.state.out) e (next_grown s); over = λ s o e. subst (StepGrown s.state.out) e (next_grown s) }
+  grows = program_grows P (λ r. hop_grown r (slice_get ms r.function))
 
   -- the active function at another place
   abbrev pub moved : Active → ℕ → State → Active

@@ -21,7 +21,7 @@ use Rattle.vx_mixed.specs.declared.mixed.MixedGraph.{MixedGraph}
 use Rattle.vx_mixed.specs.Meaning.{into, word_effect, Taken, Stays, Takes, Unsure, taken, InFlight, waited, quiet, given_by, after_timed, issued, timed_words, timed_from_start, in_region, node_hop, hop}
 use Rattle.vx_mixed.proofs.Shape.{Kept, effect_kept, word_kept}
 
-abbrev Grown : List ℕ → Option State → Type 0
+abbrev pub Grown : List ℕ → Option State → Type 0
 Grown xs None = Unit {0}
 Grown xs (Some t) = Begins xs t.out
 
@@ -29,7 +29,7 @@ Grown xs (Some t) = Begins xs t.out
 abbrev pub Good : List ℕ → ℕ → State → Type 0
 Good xs n t = Begins xs t.out × (length t.arrays ≡ n)
 
-abbrev GoodOr : List ℕ → ℕ → Option State → Type 0
+abbrev pub GoodOr : List ℕ → ℕ → Option State → Type 0
 GoodOr xs n None = Unit {0}
 GoodOr xs n (Some t) = Good xs n t
 
@@ -71,11 +71,11 @@ module _ (xs : List ℕ) (n : ℕ) where
   effect_grows setting s (Decimal x) t k h = printed_grows s t (held s x) k
   effect_grows setting s (Across v u) t k h = h
 
-  both_parts : (t : State) (o : Option State) → Grown xs o → Kept t o → length t.arrays ≡ n → GoodOr xs n o
+  pub both_parts : (t : State) (o : Option State) → Grown xs o → Kept t o → length t.arrays ≡ n → GoodOr xs n o
   both_parts t None g k e = tt
   both_parts t (Some u) g k e = (g, k.arrays ∙ e)
 
-  test_good : (x : Content) (a b : Hop) → HopGood xs n a → HopGood xs n b → HopGood xs n (by_test x a b)
+  pub test_good : (x : Content) (a b : Hop) → HopGood xs n a → HopGood xs n b → HopGood xs n (by_test x a b)
   test_good None a b h k = tt
   test_good (Some z) a b h k = by (is_one z)
     where
@@ -83,11 +83,11 @@ module _ (xs : List ℕ) (n : ℕ) where
       by true = h
       by false = k
 
-  calls_good : (g : ℕ) (ns : Option (List ℤ)) (result : Option ℕ) (from to : ℕ) (s : State) → Good xs n s → HopGood xs n (calls g ns result from to s)
+  pub calls_good : (g : ℕ) (ns : Option (List ℤ)) (result : Option ℕ) (from to : ℕ) (s : State) → Good xs n s → HopGood xs n (calls g ns result from to s)
   calls_good g None result from to s h = tt
   calls_good g (Some ns) result from to s h = h
 
-  leaves_good : (x : Content) (s : State) → Good xs n s → HopGood xs n (leaves x s)
+  pub leaves_good : (x : Content) (s : State) → Good xs n s → HopGood xs n (leaves x s)
   leaves_good None s h = tt
   leaves_good (Some r) s h = h
 
@@ -98,7 +98,7 @@ module _ (xs : List ℕ) (n : ℕ) where
   leave_good b (Return x) s h = leaves_good (held s x) s h
   leave_good b (Ends k) s h = h
 
-  then_good : (o : Option State) (f : State → Hop) → GoodOr xs n o → ((t : State) → Good xs n t → HopGood xs n (f t)) → HopGood xs n (and_then o f)
+  pub then_good : (o : Option State) (f : State → Hop) → GoodOr xs n o → ((t : State) → Good xs n t → HopGood xs n (f t)) → HopGood xs n (and_then o f)
   then_good None f h k = tt
   then_good (Some t) f h k = k t h
 
@@ -111,7 +111,7 @@ module _ (xs : List ℕ) (n : ℕ) where
   into_grows None f h k = tt
   into_grows (Some t) f h k = k t h
 
-  word_grows : (setting : Setting) (s : State) (items : List Item) (t : State) → Begins xs s.out → Begins xs t.out → Grown xs (word_effect setting s items t)
+  pub word_grows : (setting : Setting) (s : State) (items : List Item) (t : State) → Begins xs s.out → Begins xs t.out → Grown xs (word_effect setting s items t)
   word_grows setting s [] t k h = h
   word_grows setting s (Plain op cluster ∷ items) t k h = into_grows (effect setting s op t) (word_effect setting s items) (effect_grows setting s op t k h) (λ u. word_grows setting s items u k)
   word_grows setting s (Split p y edge d ∷ items) t k h = word_grows setting s items t k h

@@ -11,6 +11,7 @@ use Rattle.vx_flow.specs.declared.graph.Op.{Op}
 use Rattle.vx_flow.specs.declared.trace.TraceOp.{TraceOp}
 use Rattle.vx_flow.specs.declared.trace.TraceOp.TheVariants.{Split as TraceSplit}
 use Rattle.vx_flow.specs.declared.trace.Join.{Join}
+use Rattle.vx_flow.specs.declared.trace.Trace.{Trace}
 use Rattle.vx_flow.specs.Effects.{IsIn}
 use Rattle.vx_flow.specs.Sound.{targets_of}
 use Rattle.vx_flow.specs.Walk.{edge}
@@ -32,7 +33,7 @@ use Rattle.vx_mixed.specs.Next.{Replacement, made_on, block_or, new_end, renamed
 use Rattle.vx_mixed.specs.TraceOf.{CanTrace, IsTraceOf, block_at, block_or_none, block_ops, inner_edges, trace_ops, trace_joins, joins_behind}
 use Rattle.vx_mixed.specs.Valid.{Valid, PartsWays, is_entrance, is_in_region}
 use Rattle.vx_mixed.specs.Entrances.{meet_old, edge_of_made, at_split, at_join, meet_new, stays, joined_at, pairs}
-use Rattle.vx_mixed.specs.Compensation.{items, word, mark, on_edge, Compensated}
+use Rattle.vx_mixed.specs.Compensation.{on_edge, splits_of}
 use Rattle.vx_mixed.proofs.Alike.{in_or}
 use Rattle.vx_mixed.proofs.PathOf.{from_inside, to_inside}
 use Rattle.vx_mixed.proofs.NewNodes.{and_both, same_is, is_same_edge, MadeOn, made_none, made_some, edge_made, edge_old, node_old, node_made}
@@ -59,7 +60,7 @@ same_image f (z ∷ xs) [] i x e h = absurd (cc)
 same_image f (z ∷ xs) (y ∷ ys) zero x e h = let q : z ≡ x = cc in let g : f z ≡ f y = cc in (y, refl, sym g ∙ ap f q)
 same_image f (z ∷ xs) (y ∷ ys) (suc i) x e h = let g : map f xs ≡ map f ys = cc in same_image f xs ys i x g h
 
-some_same : {A : Type 0} (o : Option A) (x y : A) → o ≡ Some x → o ≡ Some y → x ≡ y
+pub some_same : {A : Type 0} (o : Option A) (x y : A) → o ≡ Some x → o ≡ Some y → x ≡ y
 some_same o x y p q = let h : Some x ≡ Some y = sym p ∙ q in cc
 
 pub in_edge : (a b : ℕ) (bs : List ℕ) → IsIn b bs → (c : ℕ) × IsIn (edge c b) (inner_edges (a ∷ bs))
@@ -76,7 +77,7 @@ renamed_by pairs f (Call g arguments result next) h = call (h next (inl refl))
 renamed_by pairs f (Return x) h = return
 renamed_by pairs f (Ends k) h = stop
 
-targets_renamed : (f : ℕ → ℕ) (x : Exit) (c : ℕ) → IsIn c (targets_of (renamed_exit f x)) → (d : ℕ) × IsIn d (targets_of x) × (c ≡ f d)
+pub targets_renamed : (f : ℕ → ℕ) (x : Exit) (c : ℕ) → IsIn c (targets_of (renamed_exit f x)) → (d : ℕ) × IsIn d (targets_of x) × (c ≡ f d)
 targets_renamed f (Goto d) c (inl e) = (d, inl refl, e)
 targets_renamed f (Goto d) c (inr h) = absurd h
 targets_renamed f (Branches p d e) c (inl q) = (d, inl refl, q)
@@ -100,15 +101,25 @@ rejoin_there (x ∷ js) (v ∷ ws) (suc i) w j once h k =
     named (y ∷ js) zero h = let q : y ≡ j = cc in inl (ap (λ (z : Join). z.block) (sym q))
     named (y ∷ js) (suc i) h = inr (named js i h)
 
-entrance_there : (o : Option Node) → is_entrance o ≡ true → (k : Node) × (o ≡ Some k)
+pub entrance_there : (o : Option Node) → is_entrance o ≡ true → (k : Node) × (o ≡ Some k)
 entrance_there None h = absurd (cc)
 entrance_there (Some k) h = (k, refl)
 
-region_there : (o : Option Node) → is_in_region o ≡ true → (k : Node) × (o ≡ Some k)
+pub region_there : (o : Option Node) → is_in_region o ≡ true → (k : Node) × (o ≡ Some k)
 region_there None h = absurd (cc)
 region_there (Some k) h = (k, refl)
 
-module _ (latency : Op → ℕ) (m : MixedGraph) (r : Replacement) (valid : Valid m) (c : Compensated latency m r) (first : ℕ) (others : List ℕ) (blocks_are : r.trace.blocks ≡ first ∷ others) where
+-- what links the edges of the graph and the one after the replacement
+pub record Linkable (m : MixedGraph) (r : Replacement) : Type 0 where
+  pub can : CanTrace m r.trace.blocks
+  pub plain : Trace
+  pub is_trace : IsTraceOf m r.trace.blocks plain
+  pub splits : splits_of r.trace.ops ≡ splits_of plain.ops
+  pub join_blocks : map (λ (j : Join). j.block) r.trace.joins ≡ map (λ (j : Join). j.block) plain.joins
+  pub join_edges : map (λ (j : Join). j.edges) r.trace.joins ≡ map (λ (j : Join). j.edges) plain.joins
+  pub made_where : (x : Made) → IsIn x r.made → (is_split_edge r.trace.ops x.edge ≡ true) ⊎ ((j : Join) × IsIn j r.trace.joins × IsIn x.edge j.edges)
+
+module _ (m : MixedGraph) (r : Replacement) (valid : Valid m) (c : Linkable m r) (first : ℕ) (others : List ℕ) (blocks_are : r.trace.blocks ≡ first ∷ others) where
   abbrev pub New : MixedGraph
   New = next_mixed m r
 
@@ -284,7 +295,7 @@ module _ (latency : Op → ℕ) (m : MixedGraph) (r : Replacement) (valid : Vali
 
   -- edges of the new graph
 
-  made_at : (a b d : ℕ) → made_on N r.made (edge a b) ≡ Some d → edge_of_made N r.made d ≡ Some (edge a b)
+  pub made_at : (a b d : ℕ) → made_on N r.made (edge a b) ≡ Some d → edge_of_made N r.made d ≡ Some (edge a b)
   made_at a b d e = let x = made_some N r.made (edge a b) d e in ap (edge_of_made N r.made) x.number ∙ edge_made N r.made x.index x.item x.has ∙ ap Some x.where_
 
   pub at_end : (a b : ℕ) (o : Option ℕ) → made_on N r.made (edge a b) ≡ o → To a b ≡ block_or o b
@@ -316,14 +327,14 @@ module _ (latency : Op → ℕ) (m : MixedGraph) (r : Replacement) (valid : Vali
                 ∙ ap (λ o. true && not (at_join r.trace.ops o)) (edge_old N r.made a (from_below a b e))),
           )
 
-  made_block : (a b d : ℕ) → made_on N r.made (edge a b) ≡ Some d → slice_get New.nodes d ≡ Some (Unused (record { ops = on_edge r.made (edge a b); exit = Goto b }))
+  pub made_block : (a b d : ℕ) → made_on N r.made (edge a b) ≡ Some d → slice_get New.nodes d ≡ Some (Unused (record { ops = on_edge r.made (edge a b); exit = Goto b }))
   made_block a b d q =
       let x = made_some N r.made (edge a b) d q in
       ap (slice_get New.nodes) x.number ∙ node_made m r x.index x.item x.has
       ∙ ap (λ z. Some (Unused (record { ops = z; exit = Goto x.item.edge.to }))) (sym x.ops)
       ∙ ap (λ (z : Edge). Some (Unused (record { ops = on_edge r.made (edge a b); exit = Goto z.to }))) x.where_
 
-  made_number : (a b d : ℕ) → made_on N r.made (edge a b) ≡ Some d → N ≤ d
+  pub made_number : (a b d : ℕ) → made_on N r.made (edge a b) ≡ Some d → N ≤ d
   made_number a b d q = let x = made_some N r.made (edge a b) d q in let z = x.number in omega arith
 
   -- a split leads on by its copies

@@ -92,11 +92,11 @@ front_get [] ys b x h = absurd (cc)
 front_get (y ∷ xs) ys zero x h = h
 front_get (y ∷ xs) ys (suc b) x h = front_get xs ys b x h
 
-back_get : {A : Type 0} (xs ys : List A) (i : ℕ) → slice_get (xs ++ ys) (length xs + i) ≡ slice_get ys i
+pub back_get : {A : Type 0} (xs ys : List A) (i : ℕ) → slice_get (xs ++ ys) (length xs + i) ≡ slice_get ys i
 back_get [] ys i = let z : 0 + i ≡ i = omega arith in ap (slice_get ys) z
 back_get (x ∷ xs) ys i = let z : suc (length xs) + i ≡ suc (length xs + i) = omega arith in ap (slice_get (x ∷ (xs ++ ys))) z ∙ back_get xs ys i
 
-front_or_back : {A : Type 0} (xs ys : List A) (b : ℕ) (x : A) → slice_get (xs ++ ys) b ≡ Some x → (slice_get xs b ≡ Some x) ⊎ ((i : ℕ) × (b ≡ length xs + i) × (slice_get ys i ≡ Some x))
+pub front_or_back : {A : Type 0} (xs ys : List A) (b : ℕ) (x : A) → slice_get (xs ++ ys) b ≡ Some x → (slice_get xs b ≡ Some x) ⊎ ((i : ℕ) × (b ≡ length xs + i) × (slice_get ys i ≡ Some x))
 front_or_back [] ys b x h = let z : b ≡ 0 + b = omega arith in inr (b, z, h)
 front_or_back (y ∷ xs) ys zero x h = inl h
 front_or_back (y ∷ xs) ys (suc b) x h = ⊎_elim (λ a. inl a) (λ a. let e = a.1 in inr (a.0, (let z : suc b ≡ suc (length xs) + a.0 = omega arith in z), a.2)) (front_or_back xs ys b x h)
@@ -106,14 +106,14 @@ map_get f [] i x h = absurd (cc)
 map_get f (y ∷ xs) zero x h = let q : y ≡ x = cc in ap (λ z. Some (f z)) q
 map_get f (y ∷ xs) (suc i) x h = map_get f xs i x h
 
-map_back : {A B : Type 0} (f : A → B) (xs : List A) (i : ℕ) (y : B) → slice_get (map f xs) i ≡ Some y → (x : A) × (slice_get xs i ≡ Some x) × (y ≡ f x)
+pub map_back : {A B : Type 0} (f : A → B) (xs : List A) (i : ℕ) (y : B) → slice_get (map f xs) i ≡ Some y → (x : A) × (slice_get xs i ≡ Some x) × (y ≡ f x)
 map_back f [] i y h = absurd (cc)
 map_back f (x ∷ xs) zero y h = (x, refl, cc)
 map_back f (x ∷ xs) (suc i) y h = map_back f xs i y h
 
 -- nodes
 
-nodes_length : (m : MixedGraph) (r : Replacement) (b : ℕ) (nodes : List Node) → length (nodes_from m r b nodes) ≡ length nodes
+pub nodes_length : (m : MixedGraph) (r : Replacement) (b : ℕ) (nodes : List Node) → length (nodes_from m r b nodes) ≡ length nodes
 nodes_length m r b [] = refl
 nodes_length m r b (k ∷ nodes) = ap suc (nodes_length m r (b + 1) nodes)
 

@@ -44,5 +44,6 @@ module _ (m : MixedGraph) (function : ℕ) where
     one_way = λ e f a b. v.one_way e f (edge_back e a) (edge_back f b);
     enters = v.enters;
     names = v.names;
+    copied = λ x u h. v.copied x u (op_back _ h);
     away = λ x u h. v.away x u (op_back _ h);
   }

@@ -18,7 +18,7 @@ use Rattle.vx_mixed.specs.Scheduled.{IsRoom, HomesStay, WordsStand}
 use Rattle.vx_mixed.proofs.Renames.{old_word, old_op, old_split, settled_renamed}
 
 -- one of the old regions, or the last one
-of_regions : (f : Region → Region) (gs : List Region) (g g' : Region) (q : ℕ) → slice_get (map f gs ++ g ∷ []) q ≡ Some g' → ((o : Region) × (slice_get gs q ≡ Some o) × (g' ≡ f o)) ⊎ (g' ≡ g)
+pub of_regions : (f : Region → Region) (gs : List Region) (g g' : Region) (q : ℕ) → slice_get (map f gs ++ g ∷ []) q ≡ Some g' → ((o : Region) × (slice_get gs q ≡ Some o) × (g' ≡ f o)) ⊎ (g' ≡ g)
 of_regions f [] g g' zero e = inr cc
 of_regions f [] g g' (suc q) e = absurd (cc)
 of_regions f (o ∷ gs) g g' zero e = inl (o, refl, cc)

@@ -189,5 +189,6 @@ module _ (graph : Graph) (m : MixedGraph) (sound : is_sound graph ≡ true) (can
     one_way = λ e f a b made. absurd (no_origin e.to made.0 made.1);
     enters = λ b r w e. absurd (no_entry graph m sound from.blocks (slice_get graph.blocks b) r w (sym (node_is graph m sound from.blocks b) ∙ e));
     names = λ b v k at none n. subst (λ z. v < length z) (sym banks) (names_below b v k (here b k at) n);
+    copied = λ v u h. absurd (no_across v u h);
     away = λ v u h. absurd (no_across v u h);
   }

@@ -31,3 +31,14 @@ pub mod TraceOf
 pub mod TraceExample
 pub mod Valid
 pub mod CountingExample
+pub mod Laid
+pub mod LaidSettled
+pub mod Origins
+pub mod LayoutLaws
+pub mod Laying
+pub mod Routes
+pub mod TraceLists
+pub mod CanReplace
+pub mod NextEdges
+pub mod MovedEdges
+pub mod Placing

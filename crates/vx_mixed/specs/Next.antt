@@ -21,21 +21,9 @@ use Rattle.vx_mixed.specs.declared.region.Node.TheVariants.{Unused, Enters, Inne
 use Rattle.vx_mixed.specs.declared.region.Origin.{Origin}
 use Rattle.vx_mixed.specs.declared.region.Made.{Made}
 use Rattle.vx_mixed.specs.declared.mixed.MixedGraph.{MixedGraph}
+pub use Rattle.vx_mixed.specs.declared.replacement.Replacement.{Replacement}
 use Rattle.vx_mixed.specs.FromGraph.{same_edge}
 use Rattle.vx_mixed.specs.Unchanged.{rename}
-
--- what a replacement is made of: the trace, the cluster and the word of each of its operations, the empty cycles after each
--- of its splits and after the last word, the word behind each of its joins, the blocks that are made, and the homes by then
-pub record Replacement : Type 0 where
-  pub trace : Trace
-  pub clusters : List ℕ
-  pub words : List ℕ
-  pub length : ℕ
-  pub drains : List ℕ
-  pub last_drain : ℕ
-  pub rejoins : List ℕ
-  pub made : List Made
-  pub homes : Homes
 
 -- the number of the block that is made on an edge, where those from b on are made
 abbrev pub made_on : ℕ → List Made → Edge → Option ℕ

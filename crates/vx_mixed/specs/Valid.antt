@@ -91,8 +91,9 @@ pub record Valid (m : MixedGraph) : Type 0 where
   pub one_way : (e f : Edge) → IsEdge m e → IsEdge m f → IsMade m e.to → f.to ≡ e.to → f ≡ e
   -- a region is entered at a word of its own, or behind its last
   pub enters : (b r w : ℕ) → slice_get m.nodes b ≡ Some (Enters r w) → (g : Region) × (slice_get m.regions r ≡ Some g) × (w ≤ length g.words)
-  -- made blocks alone name copies of values; what is copied is a value of the graph, to another cluster than its home
+  -- made blocks alone name copies of values; what is copied is a value of the graph, to a copy on another cluster than its home
   pub names : (b v : ℕ) (block : Block) → slice_get m.nodes b ≡ Some (Unused block) → slice_get m.origins b ≡ Some None → Names block v → v < length m.banks
+  pub copied : (v u : ℕ) → IsOp m (Across v u) → length m.banks ≤ v
   pub away : (v u : ℕ) → IsOp m (Across v u) → (u < length m.banks) × (k : ℕ) × (has_home m.homes.clusters u ≡ Some k) × (home_of m v ≢ Some k)
 
 -- an edge of a graph of blocks

@@ -12,6 +12,7 @@ use std::alloc::Global;
 use vx_base::listed::Listed;
 use vx_base::outcome::NoMemory;
 use vx_flow::graph::{Array, Bank, Block, BlockId, Edge, Exit, Op, Operand, Value};
+use vx_flow::trace::Homes;
 
 pub(crate) fn copied_banks(alloc: Global, banks: &[Bank]) -> Result<Listed<Bank>, NoMemory>
     ensures { IfOk result (λ list. list ≡ banks.now) }
@@ -31,13 +32,16 @@ pub(crate) fn copied_arrays(alloc: Global, arrays: &[Array]) -> Result<Listed<Ar
     Ok(Listed::from_vec(arrays.to_vec(alloc)?)?)
 }
 
-fn copied_ops(alloc: Global, ops: &[Op]) -> Result<Listed<Op>, NoMemory>
+pub(crate) fn copied_ops(alloc: Global, ops: &[Op]) -> Result<Listed<Op>, NoMemory>
     ensures { IfOk result (λ list. list ≡ ops.now) }
 {
     Ok(Listed::from_vec(ops.to_vec(alloc)?)?)
 }
 
-fn copied_operands(alloc: Global, operands: &[Operand]) -> Result<Listed<Operand>, NoMemory>
+pub(crate) fn copied_operands(
+    alloc: Global,
+    operands: &[Operand],
+) -> Result<Listed<Operand>, NoMemory>
     ensures { IfOk result (λ list. list ≡ operands.now) }
 {
     Ok(Listed::from_vec(operands.to_vec(alloc)?)?)
@@ -206,4 +210,11 @@ fn bind(homes: &mut Vec<Option<u32>>, value: Option<Value>)
             homes[value as usize] = Some(0);
         }
     }
+}
+
+pub(crate) fn copied_homes(alloc: Global, homes: &Homes) -> Result<Homes, NoMemory>
+    ensures { IfOk result (λ copy. copy ≡ homes.now) }
+{
+    let clusters = Listed::from_vec(homes.clusters.as_slice().to_vec(alloc)?)?;
+    Ok(Homes { clusters })
 }

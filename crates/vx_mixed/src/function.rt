@@ -1,26 +1,37 @@
 // The graph of a function of which some blocks are words already, as callers hold it: with the list of its edges, which is
 // kept beside it so that it can be given without memory.
 
-ghost use Rattle.std.specs.Prelude.{◌≡◌, ◌==◌, ◌<◌, ℕ, true, IfOk, length, slice_get};
+ghost use Rattle.std.specs.Prelude.{◌≡◌, ◌==◌, ◌<◌, ℕ, true, IfOk, OnErr, OnOk, length, slice_get};
 ghost use Rattle.std.specs.List.{list_any};
 ghost use Rattle.std.specs.Option.{option_map};
 ghost use Rattle.vx_flow.specs.Sound.{is_sound};
+ghost use Rattle.vx_mixed.specs.CanReplace.{AwayFits, HomesFit, IsFormed, ListsFit, MadeFits, MadeStands, NamesFit, TraceFits, WordsFit};
 ghost use Rattle.vx_mixed.specs.Edges.{EdgesOf};
 ghost use Rattle.vx_mixed.specs.FromGraph.{FromGraph, origin_edge, same_edge, unused_in};
+ghost use Rattle.vx_mixed.specs.TraceOf.{CanTrace, IsTraceOf};
+ghost use Rattle.vx_mixed.specs.Layout.{layout_of};
+ghost use Rattle.vx_mixed.specs.LayoutLaws.{IsDone};
+ghost use Rattle.vx_mixed.specs.Next.{next_mixed};
 ghost use Rattle.vx_mixed.specs.Valid.{CanBegin};
 
 use crate::copying::{
     block_edges, copied_arrays, copied_banks, copied_values, no_origins, start_homes, unused_nodes,
 };
+use crate::edging::edges_after;
+use crate::laying::laid_out;
+use crate::layout::VWords;
 use crate::mixed::MixedGraph;
 use crate::region::Node;
+use crate::replacement::Replacement;
+use crate::replacing::parts_after;
+use crate::tracing::trace_of;
 use std::alloc::Global;
 use std::marker::Model;
 use vx_base::listed::Listed;
 use vx_base::outcome::NoMemory;
 use vx_flow::graph::{Block, BlockId, Edge, Graph};
 use vx_flow::laws::sound_graph_leads_within;
-use vx_flow::trace::Homes;
+use vx_flow::trace::{Homes, Trace};
 use vx_flow::{back_edges, headers};
 
 /// The graph of a function of which some blocks are words already and others are blocks still. In a contract it is the
@@ -141,10 +152,59 @@ impl Mixed {
         &self.graph.homes
     }
 
+    /// The trace of these blocks: their operations in order, each split with the values that are live where it leaves, the
+    /// clusters of copies, and the joins. There must be at least one block; each must be in no region and stand once; they
+    /// must follow each other along edges that are no calls; and any other edge between them must go to the first.
+    pub fn trace(&self, alloc: Global, blocks: &[BlockId]) -> Result<Trace, NoMemory>
+        requires { CanTrace self.now blocks.now }
+        ensures { IfOk result (λ trace. IsTraceOf self.now blocks.now trace) }
+    {
+        trace_of(alloc, &self.graph, self.edges.as_slice(), blocks)
+    }
+
+    /// A trace becomes a region, and blocks are made of the copies on its edges. The trace must be that of its blocks, but for
+    /// copies of values between clusters; specs/CanReplace.antt says what is asked of the rest. Without memory, or where there
+    /// would be 2^32 blocks or more, the graph stays as it was.
+    pub fn replace(&mut self, alloc: Global, replacement: Replacement) -> Result<(), NoMemory>
+        requires trace { TraceFits self.old replacement }
+        requires formed { IsFormed replacement.trace }
+        requires names { NamesFit self.old replacement }
+        requires lists { ListsFit replacement }
+        requires words { WordsFit replacement }
+        requires made { MadeFits replacement }
+        requires stand { MadeStands self.old replacement }
+        requires homes { HomesFit self.old replacement }
+        requires away { AwayFits self.old replacement }
+        ensures next { OnOk result (self.new ≡ next_mixed self.old replacement) }
+        ensures unchanged { OnErr result (self.new ≡ self.old) }
+    {
+        let blocks = self.graph.nodes.len() as u64 + replacement.made.len() as u64;
+        if blocks > u64::from(u32::MAX) {
+            return Err(NoMemory);
+        }
+        let parts = parts_after(alloc, &self.graph, &replacement)?;
+        let edges = edges_after(alloc, &self.graph, self.edges.as_slice(), &replacement)?;
+        self.graph.nodes = parts.nodes;
+        self.graph.regions = parts.regions;
+        self.graph.origins = parts.origins;
+        self.graph.homes = replacement.homes;
+        self.edges = edges;
+        Ok(())
+    }
+
     /// Gives the function its number in the program.
     pub fn set_function(&mut self, function: u32)
         ensures { self.new ≡ record self.old { function = function } }
     {
         self.graph.function = function;
+    }
+
+    /// The layout of a graph of which no block is left: its regions as words, in the order in which they were made. One that
+    /// takes 2^32 words or more is want of memory.
+    pub fn lay_out(&self, alloc: Global) -> Result<VWords, NoMemory>
+        requires { IsDone self.now }
+        ensures { IfOk result (λ words. words ≡ layout_of self.now) }
+    {
+        laid_out(alloc, &self.graph)
     }
 }

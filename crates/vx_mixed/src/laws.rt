@@ -1,17 +1,20 @@
 // Laws of the definitions, each the clause of a function that does nothing.
 
 ghost use Rattle.vx_mixed.specs.Begins.{BeginsSettled, BeginsTidy};
+ghost use Rattle.vx_mixed.specs.CanReplace.{StaysValid};
 ghost use Rattle.vx_mixed.specs.Compensation.{CompensationLaw};
 ghost use Rattle.vx_mixed.specs.Context.{ChainLaw, InContext, MeansTheFlow, MeansTheGraph};
 ghost use Rattle.vx_mixed.specs.LayoutExample.{IsLaidOut};
+ghost use Rattle.vx_mixed.specs.LayoutLaws.{LayoutComesFromGraph, LayoutRuns, LayoutSettles};
 ghost use Rattle.vx_mixed.specs.Laws.{AnyTiming, ParallelWords, RegionAnyTiming};
 ghost use Rattle.vx_mixed.specs.Replaced.{LivenessKept, RegionSettled, ReplacementLaw};
 ghost use Rattle.vx_mixed.specs.Sinking.{RefusedWithoutCopy, SumSinks};
 ghost use Rattle.vx_mixed.specs.Scheduled.{MotionLaw};
 ghost use Rattle.vx_mixed.specs.CountingExample.{CountingBegins};
 ghost use Rattle.vx_mixed.specs.Example.{FailsWithoutCopy, Works};
+ghost use Rattle.vx_mixed.specs.NextEdges.{EdgesAfter};
 ghost use Rattle.vx_mixed.specs.NextExample.{NextIsNew, SharesEntrances};
-ghost use Rattle.vx_mixed.specs.TraceExample.{IsItsTrace};
+ghost use Rattle.vx_mixed.specs.TraceExample.{IfIsTraced, IsItsTrace};
 
 /// An `if` without `else` as a region does what its blocks do, from its start and from the edge that joins; without the
 /// copy on that edge it does not. It is what the replacement of its trace gives,
@@ -87,8 +90,29 @@ pub fn a_graph_that_counts_begins()
     ensures { CountingBegins }
 {}
 
+/// The worked `if` without `else` may begin as a graph of blocks and regions, and its blocks be traced.
+#[tactic(auto, using(crate::proofs::Traced::if_is_traced))]
+pub fn an_if_is_traced()
+    ensures { IfIsTraced }
+{}
+
+/// A graph after a replacement whose arguments fit is valid where it was, and its edges are the old ones that were not
+/// inside the trace, each to its new end, and one from each block that was made.
+pub fn replacement_stays_valid()
+    ensures valid { StaysValid }
+    ensures edges { EdgesAfter }
+{}
+
 /// A sum sinks below a split: with its copy on the edge that leaves the meaning is kept, and without it it is not.
 pub fn a_sum_sinks()
     ensures with_copy { SumSinks }
     ensures without { RefusedWithoutCopy }
+{}
+
+/// A program of settled graphs of which no block is left runs as its layouts do, and the layouts never fail where it does not.
+/// The layout of a settled graph is settled, and has the code of the function's graph.
+pub fn layouts_keep_the_meaning()
+    ensures runs { LayoutRuns }
+    ensures settles { LayoutSettles }
+    ensures code { LayoutComesFromGraph }
 {}

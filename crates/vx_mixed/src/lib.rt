@@ -3,13 +3,28 @@
 #![tactic(auto)]
 
 mod copying;
+mod edging;
 pub mod function;
+mod joining;
 pub mod laws;
+mod laying;
 pub mod layout;
 pub mod mixed;
+mod origins;
+mod placing;
 pub mod region;
+mod renaming;
+pub mod replacement;
+mod replacing;
+mod routing;
+mod touching;
+mod tracing;
 
 pub use function::Mixed;
 
 #[cfg(test)]
+mod layout_tests;
+#[cfg(test)]
 mod tests;
+#[cfg(test)]
+mod trace_tests;

@@ -1,0 +1,10 @@
+use Rattle.std.proofs.Common.{◌∙◌, subst, sym}
+use Rattle.vx_mixed.specs.TraceLists.{Entering}
+use Rattle.vx_mixed.proofs.TraceSteps.{joins_at_first}
+use Rattle.vx_mixed.proofs.joining.joins_of.Goals as goal
+
+pub returns-in_ok-joins-in-len1-up : goal.returns-in_ok-joins-in-len1-up
+returns-in_ok-joins-in-len1-up c = λ live.
+    let rows = subst (Entering c.args.edges.now) (sym c.as_slice.ensures.value) c.in_ok-entering-in-len1-up.ensures in
+    c.in_ok-joins-in-len1-up.ensures live c.args.edges.now rows
+    ∙ joins_at_first c.args.graph.now live c.args.edges.now c.args.blocks.now c.in_ok-place-in-len1-up.place c.in-len1-up.len_at_least (c.in_ok-place-in-len1-up.ensures live)

@@ -1,0 +1,24 @@
+use Rattle.std.proofs.Common.{◌≡◌, ℕ, List, ap, ◌∙◌}
+use Rattle.vx_flow.specs.declared.graph.Bank.{Bank}
+use Rattle.vx_flow.specs.declared.trace.Homes.{Homes}
+use Rattle.vx_mixed.specs.declared.layout.VirtualWord.{VirtualWord}
+use Rattle.vx_mixed.specs.declared.layout.VWords.{VWords}
+use Rattle.vx_mixed.specs.Layout.{place_of, all_words}
+use Rattle.vx_mixed.specs.Laying.{place_in}
+use Rattle.vx_mixed.proofs.LayingSteps.{places_are}
+use Rattle.vx_mixed.proofs.laying.laid_out.Goals as goal
+
+abbrev make : List Bank → Homes → List VirtualWord → ℕ → VWords
+make banks homes words entry = record { banks = banks; homes = homes; words = words; entry = entry }
+
+same : (b b' : List Bank) (h h' : Homes) (w w' : List VirtualWord) (e e' : ℕ) → b ≡ b' → h ≡ h' → w ≡ w' → e ≡ e' → make b h w e ≡ make b' h' w' e'
+same b b' h h' w w' e e' eb eh ew ee = ap (λ z. make z h w e) eb ∙ ap (λ z. make b' z w e) eh ∙ ap (λ z. make b' h' z e) ew ∙ ap (make b' h' w') ee
+
+pub graph_words-requires : goal.graph_words-requires
+graph_words-requires c = λ b. ap (λ z. place_in z b) (c.deref.ensures.value ∙ c.in_ok-places.ensures) ∙ places_are c.args.graph.now b
+
+pub returns : goal.returns
+returns c =
+    let m = c.args.graph.now in
+    same c.in_ok-banks.banks m.banks c.in_ok-homes.homes m.homes c.in_ok-words.words (all_words m 0 0 m.regions) c.place_at.result (place_of m 0) (c.in_ok-banks.ensures ∙ c.as_slice.ensures) c.in_ok-homes.ensures c.in_ok-words.ensures
+    (c.place_at.ensures ∙ ap (λ z. place_in z 0) (c.deref-2.ensures.value ∙ c.in_ok-places.ensures) ∙ places_are m 0)

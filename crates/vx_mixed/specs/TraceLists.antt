@@ -1,0 +1,15 @@
+-- How the lists of a trace are put together: block by block, with the edges that lead to each block.
+use Rattle.std.specs.Prelude.{◌≡◌, ◌==◌, ℕ, Bool, Option, None, List, ◌++◌, length, replicate, slice_get}
+use Rattle.std.specs.List.{filter}
+use Rattle.vx_flow.specs.declared.graph.Edge.{Edge}
+use Rattle.vx_flow.specs.Rows.{row_at}
+use Rattle.vx_mixed.specs.declared.mixed.MixedGraph.{MixedGraph}
+use Rattle.vx_mixed.specs.TraceOf.{block_at, clusters_of, split_behind}
+
+-- the clusters of the operations of a block, where these blocks follow
+abbrev pub block_fixed : MixedGraph → (ℕ → List ℕ) → ℕ → List ℕ → List (Option ℕ)
+block_fixed m live b blocks = clusters_of (length (block_at m b).ops) (slice_get m.origins b) ++ replicate (length (split_behind live b (block_at m b).exit blocks)) None
+
+-- each row has the edges that lead to its block, in their order
+abbrev pub Entering : List Edge → List (List Edge) → Type 0
+Entering edges rows = (c : ℕ) → row_at rows c ≡ filter (λ (e : Edge). e.to == c) edges

@@ -1,0 +1,116 @@
+// The edges of a graph after a replacement: those that were not inside the trace, each to its new end, and one from each block
+// that is made, sorted by their numbers. The clause of `edges_after` carries the promise.
+
+ghost use Rattle.std.specs.Prelude.{◌≡◌, ◌+◌, ◌<◌, ◌^◌, ◌++◌, ◌∷◌, IfOk, length};
+ghost use Rattle.std.specs.List.{list_any};
+ghost use Rattle.std.specs.List.Sorted.{IsNonDecreasingBy, IsPermutation};
+ghost use Rattle.vx_mixed.specs.CanReplace.{CanReplace};
+ghost use Rattle.vx_mixed.specs.Edges.{EdgesOf};
+ghost use Rattle.vx_mixed.specs.FromGraph.{same_edge};
+ghost use Rattle.vx_mixed.specs.MovedEdges.{edge_key, is_inner, kept_edges, made_edges, moved};
+ghost use Rattle.vx_mixed.specs.Next.{next_mixed};
+ghost use Rattle.vx_mixed.specs.TraceOf.{inner_edges};
+ghost use Rattle.vx_mixed.specs.Valid.{Valid};
+
+use crate::mixed::MixedGraph;
+use crate::region::Made;
+use crate::renaming::new_end;
+use crate::replacement::Replacement;
+use std::alloc::Global;
+use vx_base::listed::Listed;
+use vx_base::outcome::NoMemory;
+use vx_flow::graph::{BlockId, Edge};
+
+/// The edges after a replacement, ascending, of a graph that has these edges.
+pub(crate) fn edges_after(
+    alloc: Global,
+    graph: &MixedGraph,
+    edges: &[Edge],
+    replacement: &Replacement,
+) -> Result<Listed<Edge>, NoMemory>
+    requires few { length graph.now.nodes + length replacement.now.made < 2 ^ 32 }
+    requires valid { Valid graph.now }
+    requires edges { EdgesOf graph.now edges.now }
+    requires can { CanReplace graph.now replacement.now }
+    ensures { IfOk result (λ after. EdgesOf (next_mixed graph.now replacement.now) after) }
+{
+    let mut after = kept_edges(alloc, graph, edges, replacement)?;
+    let first = graph.nodes.len() as u32;
+    push_made_edges(&mut after, first, replacement.made.as_slice())?;
+    sort_edges(&mut after);
+    Ok(Listed::from_vec(after)?)
+}
+
+/// The edges that are not inside the trace, each to its new end.
+fn kept_edges(
+    alloc: Global,
+    graph: &MixedGraph,
+    edges: &[Edge],
+    replacement: &Replacement,
+) -> Result<Vec<Edge>, NoMemory>
+    requires { length graph.now.nodes + length replacement.now.made < 2 ^ 32 }
+    ensures { IfOk result (λ kept. kept.items ≡ kept_edges graph.now replacement.now edges.now) }
+{
+    let mut kept = Vec::new(alloc);
+    for edge in edges {
+        if !is_inner(replacement.trace.blocks.as_slice(), *edge) {
+            kept.push(moved(graph, replacement, *edge))?;
+        }
+    }
+    Ok(kept)
+}
+
+/// The edge to its new end.
+fn moved(graph: &MixedGraph, replacement: &Replacement, edge: Edge) -> Edge
+    requires { length graph.now.nodes + length replacement.now.made < 2 ^ 32 }
+    ensures { result ≡ moved graph.now replacement.now.made edge }
+{
+    Edge {
+        from: edge.from,
+        to: new_end(graph, replacement, edge.from, edge.to),
+    }
+}
+
+/// Whether the edge goes from a block of the trace to the next one.
+fn is_inner(blocks: &[BlockId], edge: Edge) -> bool
+    ensures { result ≡ is_inner blocks.now edge }
+{
+    match blocks {
+        [] => false,
+        [first, others @ ..] => is_inner_behind(*first, others, edge),
+    }
+}
+
+fn is_inner_behind(first: BlockId, blocks: &[BlockId], edge: Edge) -> bool
+    ensures { result ≡ is_inner (first ∷ blocks.now) edge }
+{
+    let mut before = first;
+    for block in blocks {
+        if before == edge.from && *block == edge.to {
+            return true;
+        }
+        before = *block;
+    }
+    false
+}
+
+/// The edges from the blocks that are made, where those from `first` on are made.
+fn push_made_edges(edges: &mut Vec<Edge>, first: u32, made: &[Made]) -> Result<(), NoMemory>
+    requires { first + length made.now < 2 ^ 32 }
+    ensures { IfOk result (λ _. edges.new.items ≡ edges.old.items ++ made_edges first made.now) }
+{
+    for (index, block) in made.iter().enumerate() {
+        edges.push(Edge {
+            from: first + index as u32,
+            to: block.edge.to,
+        })?;
+    }
+    Ok(())
+}
+
+fn sort_edges(edges: &mut Vec<Edge>)
+    ensures sorted { IsNonDecreasingBy edge_key edges.new.items }
+    ensures same { IsPermutation edges.old.items edges.new.items }
+{
+    edges.sort_unstable_by_key(|edge| u64::from(edge.from) * 4294967296 + u64::from(edge.to));
+}
