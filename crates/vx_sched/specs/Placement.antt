@@ -12,6 +12,8 @@ use Rattle.vx_machine.specs.declared.items.ClusteredItem.{ClusteredItem}
 use Rattle.vx_machine.specs.Items.{item_of}
 use Rattle.vx_machine.specs.Room.{has_room}
 use Rattle.vx_dep.specs.declared.mode.Mode.{Mode}
+use Rattle.vx_dep.specs.declared.deps.Deps.{Deps}
+use Rattle.vx_dep.specs.Deps.{IsDeps}
 use Rattle.vx_dep.specs.Delays.{Applies, AreHeights}
 use Rattle.vx_dep.specs.Compensation.{word_at, greatest}
 
@@ -52,6 +54,20 @@ pub record PlacedBy (c : Clustered) (m : Numbers) (homes : Homes) (mode : Mode) 
 -- the greatest word plus 1, 0 where there is no operation
 abbrev pub length_of : List ℕ → ℕ
 length_of words = greatest (map suc words)
+
+-- what a call of `schedule` is given
+
+-- the mode for which the delays were found
+abbrev pub mode_in : Deps → Mode
+mode_in deps = deps.sight.mode
+
+-- the delays and heights are those of the trace on the machine, in their mode
+abbrev pub AreDeps : Numbers → Trace → Deps → Type 0
+AreDeps m t deps = IsDeps m (mode_in deps) t deps
+
+-- each operation has room by itself
+abbrev pub HaveRoomAlone : Numbers → Homes → Clustered → Type 0
+HaveRoomAlone m homes c = (i : ℕ) → i < length c.trace.ops → has_room m homes (items_at c (i ∷ [])) ≡ true
 
 -- laws, each the clause of a public function
 

@@ -1,5 +1,15 @@
 // Where the operations of a clustered trace are placed.
 #![tactic(auto)]
 
-pub mod copying;
+mod copying;
 pub mod laws;
+mod placing;
+mod ready;
+mod rows;
+
+pub use placing::schedule;
+
+#[cfg(test)]
+mod fixtures;
+#[cfg(test)]
+mod tests;

@@ -1,5 +1,5 @@
-use Rattle.vx_sched.proofs.Parts.{tight}
+use Rattle.vx_sched.proofs.Unique.{no_earlier}
 use Rattle.vx_sched.proofs.laws.tight.Goals as goal
 
 pub returns : goal.returns
-returns c = tight
+returns c = no_earlier
