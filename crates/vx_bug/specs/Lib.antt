@@ -1,0 +1,10 @@
+pub mod Clusters
+pub mod Copies
+pub mod Assigned
+pub mod Naming
+pub mod Ledgers
+pub mod Choices
+pub mod Laying
+pub mod CanAssign
+pub mod Further
+pub mod ClustersExample

@@ -1,0 +1,176 @@
+// The turn of an operation: its estimate on a cluster, and what stands after it has taken one. specs/Clusters.antt says the
+// same.
+
+ghost use Rattle.std.specs.Prelude.{◌≡◌, ◌++◌, ◌+◌, IfOk, OnOk, Some, map, if◌then◌else◌};
+ghost use Rattle.vx_dep.specs.Compensation.{greatest};
+ghost use Rattle.vx_dep.specs.Delays.{reads_of};
+ghost use Rattle.vx_bug.specs.Clusters.{some_of, general_reads, general_writes, is_across, way_from, written_at, available, cycle_of, estimate_of, with_homes, after_turn};
+ghost use Rattle.vx_bug.specs.Ledgers.{homes_in, books_of};
+
+use crate::bookings::{Booking, estimate_in, free_cycle};
+use crate::homes::{give_home, home_in};
+use crate::ledger::Ledger;
+use crate::naming::{general_result, is_across, values_read, writer};
+use std::alloc::Global;
+use vx_base::outcome::NoMemory;
+use vx_flow::graph::Value;
+use vx_flow::trace::{Trace, TraceOp};
+use vx_machine::Machine;
+use vx_machine::items::Item;
+
+/// An operation of a trace whose turn it is.
+#[derive(Drop)]
+pub(crate) struct Turn<'a> {
+    pub(crate) machine: Machine,
+    pub(crate) trace: &'a Trace,
+    pub(crate) place: u32,
+    pub(crate) op: &'a TraceOp,
+}
+
+/// How many cycles later an operand that stands on another cluster is there.
+fn way_from(machine: &Machine, home: Option<u32>, cluster: u32) -> u32
+    ensures { result ≡ way_from machine.now home cluster }
+{
+    match home {
+        None => 0,
+        Some(home) => {
+            if home == cluster {
+                0
+            } else {
+                machine.latency_copy()
+            }
+        }
+    }
+}
+
+fn written_at(bookings: &[Booking], above: Option<u32>) -> u32
+    ensures { result ≡ written_at bookings.now above }
+{
+    match above {
+        None => 0,
+        Some(above) => estimate_in(bookings, above),
+    }
+}
+
+/// The way of a value to a cluster; a copy across reads where its operand stands.
+fn way(turn: &Turn, ledger: &Ledger, cluster: u32, value: Value) -> u32
+    ensures { result ≡ (if is_across turn.now.op.now then 0 else way_from turn.now.machine (homes_in ledger.now.homes.items value) cluster) }
+{
+    if is_across(turn.op) {
+        0
+    } else {
+        way_from(
+            &turn.machine,
+            home_in(ledger.homes.as_slice(), value),
+            cluster,
+        )
+    }
+}
+
+/// The cycle from which a value is there on a cluster.
+fn available(turn: &Turn, ledger: &Ledger, cluster: u32, value: Value) -> u64
+    ensures { result ≡ available turn.now.machine turn.now.trace.now (books_of ledger.now) turn.now.place turn.now.op.now cluster value }
+{
+    let above = writer(turn.trace.ops.as_slice(), turn.place, value);
+    let written = written_at(ledger.bookings.as_slice(), above);
+    u64::from(written) + u64::from(way(turn, ledger, cluster, value))
+}
+
+/// The same for an operand; 0 where it is no value.
+fn available_if(turn: &Turn, ledger: &Ledger, cluster: u32, value: Option<Value>) -> u64
+    ensures { result ≡ greatest (map (available turn.now.machine turn.now.trace.now (books_of ledger.now) turn.now.place turn.now.op.now cluster) (some_of value)) }
+{
+    match value {
+        None => 0,
+        Some(value) => available(turn, ledger, cluster, value),
+    }
+}
+
+/// The first cycle in which all operands are there on a cluster.
+#[tactic(auto, using(crate::proofs::Latest::of_three))]
+fn earliest(turn: &Turn, ledger: &Ledger, cluster: u32) -> u64
+    ensures { result ≡ greatest (map (available turn.now.machine turn.now.trace.now (books_of ledger.now) turn.now.place turn.now.op.now cluster) (reads_of turn.now.op.now)) }
+{
+    let read = values_read(turn.op);
+    let test = available_if(turn, ledger, cluster, read.test);
+    let left = available_if(turn, ledger, cluster, read.left);
+    let right = available_if(turn, ledger, cluster, read.right);
+    test.max(left).max(right)
+}
+
+/// The cycle in which the operation would be issued on a cluster.
+pub(crate) fn cycle_of(
+    alloc: Global,
+    turn: &Turn,
+    ledger: &Ledger,
+    cluster: u32,
+) -> Result<u64, NoMemory>
+    ensures { IfOk result (λ cycle. cycle ≡ cycle_of turn.now.machine turn.now.trace.now (books_of ledger.now) turn.now.place turn.now.op.now cluster) }
+{
+    let from = earliest(turn, ledger, cluster);
+    let unit = Item::of_trace(turn.op).unit();
+    free_cycle(
+        alloc,
+        &turn.machine,
+        ledger.bookings.as_slice(),
+        cluster,
+        unit,
+        from,
+    )
+}
+
+/// The operation takes a cluster in a cycle: it is booked, and each general value that it names and that has no home gets
+/// the cluster as its home. The result is its estimate. One past `u32` is want of memory.
+pub(crate) fn take(
+    turn: &Turn,
+    ledger: &mut Ledger,
+    cluster: u32,
+    cycle: u64,
+) -> Result<u32, NoMemory>
+    requires { cycle ≡ cycle_of turn.now.machine turn.now.trace.now (books_of ledger.old) turn.now.place turn.now.op.now cluster }
+    ensures books { OnOk result (books_of ledger.new ≡ after_turn turn.now.machine turn.now.trace.now (books_of ledger.old) turn.now.place (Some turn.now.op.now) cluster) }
+    ensures estimate { IfOk result (λ estimate. estimate ≡ estimate_of turn.now.machine turn.now.trace.now (books_of ledger.old) turn.now.place turn.now.op.now cluster) }
+{
+    let item = Item::of_trace(turn.op);
+    let issued = narrowed(cycle)?;
+    let estimate = later(issued, turn.machine.latency_of_item(&item))?;
+    let booking = Booking {
+        place: turn.place,
+        cluster,
+        unit: item.unit(),
+        cycle: issued,
+        estimate,
+    };
+    ledger.bookings.insert(0, booking)?;
+    give_homes(&mut ledger.homes, turn.op, cluster)?;
+    Ok(estimate)
+}
+
+fn narrowed(cycle: u64) -> Result<u32, NoMemory>
+    ensures { IfOk result (λ narrowed. narrowed ≡ cycle) }
+{
+    match u32::try_from(cycle) {
+        Ok(narrowed) => Ok(narrowed),
+        Err(_) => Err(NoMemory),
+    }
+}
+
+fn later(cycle: u32, latency: u32) -> Result<u32, NoMemory>
+    ensures { IfOk result (λ later. later ≡ cycle + latency) }
+{
+    match cycle.checked_add(latency) {
+        Some(later) => Ok(later),
+        None => Err(NoMemory),
+    }
+}
+
+/// A home for each general value that an operation names.
+#[tactic(auto, using(crate::proofs::Latest::three_homes))]
+fn give_homes(homes: &mut Vec<Option<u32>>, op: &TraceOp, cluster: u32) -> Result<(), NoMemory>
+    ensures { OnOk result (homes_in homes.new.items ≡ with_homes cluster (homes_in homes.old.items) (general_reads op.now ++ general_writes op.now)) }
+{
+    let read = values_read(op);
+    give_home(homes, read.left, cluster)?;
+    give_home(homes, read.right, cluster)?;
+    give_home(homes, general_result(op), cluster)
+}
