@@ -1,0 +1,295 @@
+-- At the start of a function the link is stored in the frame, and parameters come to their registers.
+use Rattle.std.proofs.Common.{◌≡◌, ◌≢◌, ◌<◌, ◌≤◌, inr, ⊎_elim, ◌+◌, ◌*◌, ◌^◌, ℕ, zero, suc, ℤ, pos, Bool, true, false, Some, List, [], ◌∷◌, ◌++◌, length, refl, sym, ap, ◌∙◌, subst, arith}
+use Rattle.std.specs.Prelude.{if◌then◌else◌, slice_get}
+use Rattle.std.proofs.lemmas.Bool.{false_from_ne_true}
+use Rattle.vx_base.specs.Outcome.{On}
+use Rattle.vx_base.proofs.Runs.{run_reach, safe_after, reach_one}
+use Rattle.vx_flow.specs.declared.graph.Bank.{Bank}
+use Rattle.vx_flow.specs.declared.graph.Bank.TheVariants.{General as GeneralBank}
+use Rattle.vx_flow.specs.declared.graph.Flow.{Flow}
+use Rattle.vx_flow.specs.Effects.{IsIn}
+use Rattle.vx_flow.specs.Meaning.{Active, setting_of, body_hop, after_hop, next}
+use Rattle.vx_flow.specs.Sound.{Sound, SoundFlow, is_sound_flow, IsPlace}
+use Rattle.vx_flow.proofs.SoundFlowLaw.{told}
+use Rattle.vx_isa.specs.declared.operation.Register.TheVariants.{General, Link}
+use Rattle.vx_isa.specs.declared.operation.Source.TheVariants.{Held}
+use Rattle.vx_isa.specs.declared.operation.Operation.TheVariants.{FromLink, Store, Goto}
+use Rattle.vx_isa.specs.declared.program.Word.{Word}
+use Rattle.vx_isa.specs.declared.program.WordProgram.{WordProgram}
+use Rattle.vx_isa.specs.Machine.{State, register, step}
+use Rattle.vx_mixed.specs.declared.layout.VWords.{VWords}
+use Rattle.vx_mixed.specs.Laid.{laid_hop, laid_body, laid_program}
+use Rattle.vx_mixed.specs.LaidSettled.{bank_in}
+use Rattle.vx_regs.specs.Intervals.{IsLive, is_live}
+use Rattle.vx_regs.specs.declared.map.Kept.{Kept}
+use Rattle.vx_regs.specs.declared.map.Kept.TheVariants.{InRegister}
+use Rattle.vx_frame.specs.Target.{Target, general, stack_on, kept, is_slotted, is_branch, parameters_of, holds_branch, register_of, one, waited, reload_words, entry_words, memory_words}
+use Rattle.vx_frame.specs.Tied.{Tied, AtEntry, Arrays, Below, begins_at, Shows, holds, is_place, moved, word_at}
+use Rattle.vx_frame.specs.Carried.{Carries, IsFunctionOf, is_passed, Arrives}
+use Rattle.vx_frame.specs.Planned.{CarriesOn, EntryLaw}
+use Rattle.vx_frame.proofs.Calm.{seen, AllFit}
+use Rattle.vx_frame.proofs.FromGraph.{place_made, whole_bank, has_whole, whole_is}
+use Rattle.vx_frame.proofs.Names.{in_register, apart_registers, not_zero, not_general}
+use Rattle.vx_frame.proofs.Live.{live_bank}
+use Rattle.vx_frame.proofs.Enough.{some_cluster}
+use Rattle.vx_frame.proofs.Frames.{get_below, get_in, frame_room, link_free, global_row, below_keep}
+use Rattle.vx_frame.proofs.Steps.{Stands, stands_left, stands_right, Quiet, quiet_on, Forth, comes_on, forth_on, forth_comes, Set, set_step, Passed, wait_step, goto_step, Kept as Kept_word, store_step}
+use Rattle.vx_frame.proofs.Slots.{Usable, Loaded, before_case, as_read, number_in, stack_no_answer}
+use Rattle.vx_frame.proofs.Stands.{entry_stands}
+use Rattle.vx_frame.proofs.Word.{own_name}
+
+not_slotted : (k : Kept) (n : ℕ) → k ≡ InRegister n → is_slotted k ≡ false
+not_slotted k n e = ap is_slotted e
+
+three_one : suc (suc (suc zero)) ≡ suc zero → ⊥
+three_one q = omega arith
+
+scratch_no_stack : (k : ℕ) → General (stack_on k) ≢ General (general 0 3)
+scratch_no_stack k e = three_one (sym (ap number_in e))
+
+module _ (T : Target) (flow : Flow) (ls : List VWords) (w : WordProgram) (sound : SoundFlow flow) (carries : Carries T flow ls w) (fit : AllFit T.machine w) (r : Active) (u : State) (tied : Tied T flow ls r u) (block : r.block ≡ 0) where
+  abbrev F : ℕ
+  F = r.function
+
+  abbrev Sp : ℕ
+  Sp = tied.sp
+
+  below : F < length flow.functions
+  below = get_below flow.functions F (T.graph F) tied.is.graph
+
+  of : IsFunctionOf T flow ls F
+  of = carries.functions F below
+
+  graph_sound : Sound (T.graph F)
+  graph_sound = sound.graphs (T.graph F) (get_in flow.functions F (T.graph F) tied.is.graph)
+
+  abbrev Any : ℕ → Type 0
+  Any a = Unit {0}
+
+  at_entry : AtEntry T Sp r u
+  at_entry = ⊎_elim (λ a. a) (λ a. absurd (let z : suc a.0 ≡ 0 = sym a.1.block ∙ block in omega arith)) tied.at
+
+  small : 4 * memory_words T < 2 ^ 32
+  small = let c = carries.small in omega arith
+
+  some : 0 < T.machine.clusters
+  some = some_cluster T.machine carries.machine
+
+  abbrev Entry : ℕ
+  Entry = (T.layout F).entry
+
+  abbrev Brought : List ℕ
+  Brought = T.brought F
+
+  room : Sp + T.frame ≤ memory_words T
+  room = frame_room T flow carries.some_frame carries.globals sound Sp (length r.waiting) tied.deep
+
+  -- parameters are general values and no places
+  plain : (v : ℕ) → IsIn v (parameters_of T F) → (is_place T F v ≡ false) × (holds_branch T F v ≡ false)
+  plain v i =
+      let h = sound_general v i in
+      let w = whole_is T F Any graph_sound of.mapped.code (λ a lt. tt) v GeneralBank h in (
+        false_from_ne_true (is_place T F v) (λ e. let m = place_made T F Any graph_sound of.mapped.code v e in graph_sound.place_parameter v m.0 (subst (λ x. IsPlace (T.graph F) x m.0) w m.1) i),
+        ap is_branch (whole_bank T F Any graph_sound of.mapped.code v GeneralBank (has_whole T F Any graph_sound of.mapped.code (λ a lt. tt) v GeneralBank h)),
+      )
+    where
+      sound_general : (x : ℕ) → IsIn x (parameters_of T F) → slice_get (T.graph F).banks x ≡ Some GeneralBank
+      sound_general x j = graph_sound.parameters x j
+
+  passed_inside : (v : ℕ) → IsIn v (parameters_of T F) → Sp + T.slot F v < memory_words T
+  passed_inside v i = let a = of.framed.slot_to v (is_passed i) in let b = room in omega arith
+
+  bank : (v : ℕ) → IsLive (T.layout F) Entry v → (b : Bank) × (bank_in (T.layout F) v ≡ Some b)
+  bank v l = live_bank T F of.mapped graph_sound Entry v l
+
+  arrives : (v : ℕ) → IsIn v Brought → Arrives T F v
+  arrives v i = of.saved.brought v i
+
+  usable : (v : ℕ) → IsIn v Brought → Usable T.machine w fit T F Sp carries.memory small some Brought v
+  usable v i = let a = arrives v i in record {
+    cluster = of.mapped.homes Entry v (is_live a.live);
+    not_zero = not_zero T F of.mapped Brought v (bank v a.live);
+    not_answer = not_general T F of.mapped Brought v 0 2 (bank v a.live) (omega arith);
+    not_stack = λ k. not_general T F of.mapped Brought v k 1 (bank v a.live) (omega arith);
+  }
+
+  apart_brought : (x y : ℕ) → IsIn x Brought → IsIn y Brought → x ≢ y → register_of T F Brought x ≢ register_of T F Brought y
+  apart_brought x y i j ne =
+      let a = arrives x i in
+      let b = arrives y j in
+      apart_registers T F of.mapped Entry Brought Brought x y (bank x a.live) (bank y b.live) (is_live a.live) (is_live b.live) ne (not_slotted (kept T F x) a.number a.register) (not_slotted (kept T F y) b.number b.register)
+
+  -- the words
+
+  abbrev Tail : List Word
+  Tail = reload_words T F Brought ++ one (Goto (T.starts F Entry)) ∷ []
+
+  stands : Stands w.words u.place (entry_words T F)
+  stands = subst (λ q. Stands w.words q (entry_words T F)) (sym at_entry.place) (entry_stands T flow.main (length flow.functions) w.words carries.placed F below)
+
+  -- where each word leaves the state
+  pub record Done : Type 0 where
+    pub to : State
+    pub forth : Forth T.machine w fit u to
+    pub place : to.place ≡ T.starts F Entry
+    pub quiet : Quiet u to
+    pub stack : (k : ℕ) → k < T.machine.clusters → register to (General (stack_on k)) ≡ pos (4 * Sp)
+    pub brought : (v : ℕ) → IsIn v Brought → seen to.registers (register_of T F Brought v) ≡ as_read (holds_branch T F v) (word_at to.memory (Sp + T.slot F v))
+    pub link : word_at to.memory Sp ≡ u.registers Link
+    pub elsewhere : (x : ℕ) → (x ≢ Sp) → word_at to.memory x ≡ word_at u.memory x
+
+  linked : Set T.machine w fit u (General (general 0 3)) (u.registers Link)
+  linked = set_step T.machine w fit u (FromLink (general 0 3)) (General (general 0 3)) (u.registers Link) tied.calm stands.0 (record { bad = refl; takes = refl; prints = refl; stores = λ m. refl; leads = λ ops. refl }) refl refl refl
+
+  abbrev A : State
+  A = linked.to
+
+  paused : Passed T.machine w fit A (A.place + 1)
+  paused = wait_step T.machine w fit A T.pause linked.quiet.calm (subst (λ q. slice_get w.words q ≡ Some (waited T)) (sym linked.place) stands.1.0)
+
+  abbrev B : State
+  B = paused.to
+
+  place_b : B.place ≡ (u.place + 1) + 1
+  place_b = let x = paused.place in let y = linked.place in omega arith
+
+  stack_b : (k : ℕ) → k < T.machine.clusters → register B (General (stack_on k)) ≡ pos (4 * Sp)
+  stack_b k lt = ap (λ g. seen g (General (stack_on k))) paused.registers ∙ linked.others (General (stack_on k)) (scratch_no_stack k) ∙ tied.stack k lt
+
+  abbrev Keep : Word
+  Keep = one (Store 0 (pos 0) (stack_on 0) (Held (general 0 3)))
+
+  first_inside : Sp + 0 < memory_words T
+  first_inside = let x = room in let y = carries.some_frame in omega arith
+
+  put_link : Kept_word T.machine w fit (memory_words T) carries.memory small B (Sp + 0) (register B (General (general 0 3)))
+  put_link = store_step T.machine w fit (memory_words T) carries.memory small B 0 (stack_on 0) (Held (general 0 3)) Sp 0 paused.quiet.calm (subst (λ q. slice_get w.words q ≡ Some Keep) (sym place_b) stands.1.1.0) (stack_b 0 some) first_inside
+
+  abbrev C : State
+  C = put_link.to
+
+  place_c : C.place ≡ ((u.place + 1) + 1) + 1
+  place_c = let x = put_link.place in let y = place_b in omega arith
+
+  stack_c : (k : ℕ) → k < T.machine.clusters → register C (General (stack_on k)) ≡ pos (4 * Sp)
+  stack_c k lt = ap (λ g. seen g (General (stack_on k))) put_link.registers ∙ stack_b k lt
+
+  abbrev Loads : List Word
+  Loads = reload_words T F Brought
+
+  abbrev Jump : Word
+  Jump = one (Goto (T.starts F Entry))
+
+  tail : Stands w.words C.place (Loads ++ Jump ∷ [])
+  tail = subst (λ q. Stands w.words q (Loads ++ Jump ∷ [])) (sym place_c) stands.1.1.1
+
+  loaded : Loaded T.machine w fit T F Sp carries.memory small some Brought C Brought (length Loads)
+  loaded = before_case T.machine w fit T F Sp carries.memory small some Brought Brought C put_link.quiet.calm (stands_left w.words C.place Loads (Jump ∷ []) tail) stack_c usable (λ v i. passed_inside v (arrives v i).passed) apart_brought
+
+  abbrev D : State
+  D = loaded.to
+
+  jumped : Passed T.machine w fit D (T.starts F Entry)
+  jumped = goto_step T.machine w fit D (T.starts F Entry) loaded.quiet.calm (subst (λ q. slice_get w.words q ≡ Some Jump) (sym loaded.place) (stands_right w.words C.place Loads (Jump ∷ []) tail).0)
+
+  abbrev G : State
+  G = jumped.to
+
+  same_memory : G.memory ≡ C.memory
+  same_memory = jumped.memory ∙ loaded.memory
+
+  same_registers : G.registers ≡ D.registers
+  same_registers = jumped.registers
+
+  forth_all : Forth T.machine w fit u G
+  forth_all = forth_on T.machine w fit u A G linked.forth (comes_on T.machine w fit A B G (forth_comes T.machine w fit A B paused.forth) (comes_on T.machine w fit B C G (forth_comes T.machine w fit B C put_link.forth)
+      (comes_on T.machine w fit C D G loaded.comes (forth_comes T.machine w fit D G jumped.forth))))
+
+  quiet_all : Quiet u G
+  quiet_all = quiet_on u A G linked.quiet (quiet_on A B G paused.quiet (quiet_on B C G put_link.quiet (quiet_on C D G loaded.quiet jumped.quiet)))
+
+  stack_all : (k : ℕ) → k < T.machine.clusters → register G (General (stack_on k)) ≡ pos (4 * Sp)
+  stack_all k lt = ap (λ x. seen x (General (stack_on k))) same_registers ∙ loaded.others (General (stack_on k)) (λ v i q. (usable v i).not_stack k (sym q)) (stack_no_answer k) ∙ stack_c k lt
+
+  brought_all : (v : ℕ) → IsIn v Brought → seen G.registers (register_of T F Brought v) ≡ as_read (holds_branch T F v) (word_at G.memory (Sp + T.slot F v))
+  brought_all v i = ap (λ x. seen x (register_of T F Brought v)) same_registers ∙ loaded.at v i ∙ ap (λ x. as_read (holds_branch T F v) (word_at x (Sp + T.slot F v))) (sym same_memory)
+
+  zero_up : Sp + 0 ≡ Sp
+  zero_up = omega arith
+
+  link_all : word_at G.memory Sp ≡ u.registers Link
+  link_all = ap (λ x. word_at x Sp) same_memory ∙ put_link.at Sp (sym zero_up) ∙ ap (λ x. seen x (General (general 0 3))) paused.registers ∙ linked.at
+
+  elsewhere_all : (x : ℕ) → (x ≢ Sp) → word_at G.memory x ≡ word_at u.memory x
+  elsewhere_all x ne = ap (λ y. word_at y x) same_memory ∙ put_link.elsewhere x (λ q. ne (q ∙ zero_up)) ∙ ap (λ y. word_at y x) (paused.memory ∙ linked.memory)
+
+  done : Done
+  done = record { to = G; forth = forth_all; place = jumped.place; quiet = quiet_all; stack = stack_all; brought = brought_all; link = link_all; elsewhere = elsewhere_all }
+
+  -- the step over values
+
+  abbrev After : Active
+  After = record r { block = suc Entry }
+
+  steps : next (laid_program flow ls) r ≡ On After
+  steps =
+      ap (after_hop (laid_program flow ls) r)
+      (ap (body_hop (laid_program flow ls) r) (ap (λ g. laid_body (length flow.globals) g (slice_get ls F)) tied.is.graph ∙ ap (λ l. laid_body (length flow.globals) (Some (T.graph F)) l) tied.is.layout)
+      ∙ ap (λ b. laid_hop (setting_of (laid_program flow ls) r.base) (T.layout F) b r.state) block)
+
+  same_slot : (v : ℕ) → IsIn v (parameters_of T F) → word_at done.to.memory (Sp + T.slot F v) ≡ word_at u.memory (Sp + T.slot F v)
+  same_slot v i = done.elsewhere (Sp + T.slot F v) (λ e. let z = of.framed.slot_from v (is_passed i) in omega arith)
+
+  values : (v : ℕ) (n : ℤ) → IsLive (T.layout F) Entry v → r.state.values v ≡ Some n → Shows T Sp F v n (holds T done.to Sp F v)
+  values v n live e =
+      let k = at_entry.values v n e in
+      let p = plain v k.0 in
+      record { answer = λ b. absurd (let z : true ≡ false = sym b ∙ p.1 in cc); is = by k.0 k.1 p (is_slotted (kept T F v)) refl }
+    where
+      by : IsIn v (parameters_of T F) → word_at u.memory (Sp + T.slot F v) ≡ n → (is_place T F v ≡ false) × (holds_branch T F v ≡ false) → (b : Bool) → is_slotted (kept T F v) ≡ b → (if b then word_at done.to.memory (Sp + T.slot F v) else register done.to (register_of T F (v ∷ []) v)) ≡ moved Sp (is_place T F v) n
+      by i m p true h = same_slot v i ∙ m ∙ ap (λ c. moved Sp c n) (sym p.0)
+      by i m p false h =
+          let number = in_register (kept T F v) h in
+          let there = of.saved.brings v (record { passed = i; live = live; number = number.0; register = number.1 }) in
+          ap (register done.to) (own_name T F v (v ∷ []) Brought h) ∙ done.brought v there ∙ ap (λ c. as_read c (word_at done.to.memory (Sp + T.slot F v))) p.1 ∙ same_slot v i ∙ m ∙ ap (λ c. moved Sp c n) (sym p.0)
+
+  -- memory: only the first word of the frame has changed
+
+  arrays : Arrays T (length flow.globals) done.to.memory Sp r.base F r.state.arrays
+  arrays = record { row = λ a array has. let x = tied.arrays.row a array has in record {
+    size = x.size;
+    is = λ i n lt e. done.elsewhere (begins_at T Sp F a + i) (λ q. link_free T flow carries.some_frame carries.globals sound F ls tied.is of.framed Sp (length r.waiting) tied.deep a i array has lt (sym q)) ∙ x.is i n lt e;
+  } }
+
+  waiting : Below T flow ls r.state.arrays done.to.memory Sp r.base r.waiting
+  waiting = below_keep T flow carries.some_frame carries.globals sound ls (λ f is. (carries.functions f (get_below flow.functions f (T.graph f) is.graph)).framed) r.waiting r.state.arrays r.state.arrays u.memory done.to.memory Sp r.base
+      (λ a x e. global_row T flow carries.some_frame carries.globals sound F ls tied.is of.framed done.to.memory Sp r.base r.state.arrays arrays a x e)
+      (λ j from lt. refl)
+      (λ x le. done.elsewhere x (λ q. let y = carries.some_frame in omega arith)) tied.below
+
+  entered_on : CarriesOn T flow ls w r u
+  entered_on = record {
+    after = After;
+    to = done.to;
+    words = done.forth.0;
+    over_values = steps;
+    over_registers = λ n. run_reach (step T.machine (1 ∷ []) w) (λ x. x.out) (suc done.forth.0) n u done.to done.forth.1;
+    tied = record {
+      sp = Sp;
+      is = tied.is;
+      calm = done.quiet.calm;
+      deep = tied.deep;
+      stack = done.stack;
+      at = inr (Entry, record { block = refl; place = done.place; values = values; link = done.link ∙ at_entry.link });
+      arrays = arrays;
+      first = tied.first;
+      last = tied.last;
+      below = waiting;
+      input = done.quiet.input ∙ tied.input;
+      out = done.quiet.out ∙ tied.out;
+      safe = safe_after (next (laid_program flow ls)) (λ x. x.state.out) 1 r After (reach_one (next (laid_program flow ls)) r After steps) tied.safe;
+    };
+  }
+
+pub entry_law : EntryLaw
+entry_law T flow ls w sound carries fit r u tied block = entered_on T flow ls w ((told flow (is_sound_flow flow) refl).0 sound) carries fit r u tied block

@@ -1,0 +1,89 @@
+-- Planned words over values and over registers: from tied states both come to tied states.
+use Rattle.std.specs.Prelude.{◌≡◌, ◌⊎◌, ◌+◌, ℕ, suc, ℤ, Option, true, false, Some, List, [], ◌∷◌, slice_get}
+use Rattle.vx_base.specs.Outcome.{Outcome, IsOver, NeverFails, On, Over}
+use Rattle.vx_flow.specs.declared.graph.Flow.{Flow}
+use Rattle.vx_flow.specs.declared.graph.Operand.{Operand}
+use Rattle.vx_flow.specs.Meaning.{Active, next, at_start, globals_at_start}
+use Rattle.vx_flow.specs.Sound.{is_sound_flow}
+use Rattle.vx_isa.specs.declared.program.Word.{Word}
+use Rattle.vx_isa.specs.declared.program.WordProgram.{WordProgram}
+use Rattle.vx_isa.specs.Fits.{is_bad_word, fits}
+use Rattle.vx_isa.specs.Machine.{State, words_from, start}
+use Rattle.vx_isa.specs.Numbers.{Numbers}
+use Rattle.vx_isa.specs.Paths.{WordAt}
+use Rattle.vx_mixed.specs.declared.layout.Laid.{Laid}
+use Rattle.vx_mixed.specs.declared.layout.VWords.{VWords}
+use Rattle.vx_mixed.specs.declared.layout.VirtualWord.{VirtualWord}
+use Rattle.vx_mixed.specs.declared.layout.VirtualWord.TheVariants.{Planned, Drain, Transfer, Choice, Call, Return, Ends}
+use Rattle.vx_mixed.specs.Laid.{laid_program, laid_run}
+use Rattle.vx_frame.specs.Target.{Target}
+use Rattle.vx_frame.specs.Tied.{Tied}
+use Rattle.vx_frame.specs.Carried.{Carries}
+
+-- every word is well formed and fits
+abbrev pub WordsFit : Numbers → WordProgram → Type 0
+WordsFit m w = (p : ℕ) (word : Word) → WordAt w p word → (is_bad_word m word.ops ≡ false) × (fits m word.ops ≡ true)
+
+-- one step over values, and one word or more over registers, to tied states
+pub record CarriesOn (T : Target) (flow : Flow) (ls : List VWords) (w : WordProgram) (r : Active) (u : State) : Type 0 where
+  pub after : Active
+  pub to : State
+  pub words : ℕ
+  pub over_values : next (laid_program flow ls) r ≡ On after
+  pub over_registers : (n : ℕ) → words_from T.machine (1 ∷ []) w (suc words + n) u ≡ words_from T.machine (1 ∷ []) w n to
+  pub tied : Tied T flow ls after to
+
+-- where the words fit, each planned word of a layout is carried: all its operations on values, in the registers or slots where
+-- these are kept, and its splits
+abbrev pub PlannedLaw : Type 0
+PlannedLaw =
+    (T : Target) (flow : Flow) (ls : List VWords) (w : WordProgram) → is_sound_flow flow ≡ true → Carries T flow ls w → WordsFit T.machine w →
+    (r : Active) (u : State) → Tied T flow ls r u → (p region word : ℕ) (items : List Laid) → r.block ≡ suc p → slice_get (T.layout r.function).words p ≡ Some (Planned region word items) → CarriesOn T flow ls w r u
+
+-- drains, transfers, choices and ends: all words of a layout but planned ones, calls and returns
+abbrev pub Simple : VirtualWord → Type 0
+Simple (Drain n) = Unit {0}
+Simple (Transfer q) = Unit {0}
+Simple (Choice test q) = Unit {0}
+Simple (Ends k) = Unit {0}
+Simple (Planned region word items) = ⊥
+Simple (Call g arguments result) = ⊥
+Simple (Return x) = ⊥
+
+-- both runs end, and alike
+pub record EndsAlike (T : Target) (flow : Flow) (ls : List VWords) (w : WordProgram) (r : Active) (u : State) : Type 0 where
+  pub outcome : Outcome
+  pub over : IsOver outcome
+  pub words : ℕ
+  pub over_values : next (laid_program flow ls) r ≡ Over outcome
+  pub over_registers : words_from T.machine (1 ∷ []) w words u ≡ outcome
+
+-- so are these carried
+abbrev pub SimpleLaw : Type 0
+SimpleLaw =
+    (T : Target) (flow : Flow) (ls : List VWords) (w : WordProgram) → is_sound_flow flow ≡ true → Carries T flow ls w → WordsFit T.machine w →
+    (r : Active) (u : State) → Tied T flow ls r u → (p : ℕ) (word : VirtualWord) → r.block ≡ suc p → slice_get (T.layout r.function).words p ≡ Some word → Simple word → CarriesOn T flow ls w r u ⊎ EndsAlike T flow ls w r u
+
+-- and so is the start of a function: the link is stored in its frame, and parameters come to their registers
+abbrev pub EntryLaw : Type 0
+EntryLaw =
+    (T : Target) (flow : Flow) (ls : List VWords) (w : WordProgram) → is_sound_flow flow ≡ true → Carries T flow ls w → WordsFit T.machine w →
+    (r : Active) (u : State) → Tied T flow ls r u → r.block ≡ 0 → CarriesOn T flow ls w r u
+
+-- at the start the first words set the stack pointers and call the first function, and come to a state tied to the start over values
+pub record StartsTied (T : Target) (flow : Flow) (ls : List VWords) (w : WordProgram) (input : List ℤ) : Type 0 where
+  pub to : State
+  pub words : ℕ
+  pub over_registers : (n : ℕ) → words_from T.machine (1 ∷ []) w (suc words + n) (start w input) ≡ words_from T.machine (1 ∷ []) w n to
+  pub tied : Tied T flow ls (at_start (laid_program flow ls) flow.main (globals_at_start flow input)) to
+
+abbrev pub StartLaw : Type 0
+StartLaw =
+    (T : Target) (flow : Flow) (ls : List VWords) (w : WordProgram) → is_sound_flow flow ≡ true → Carries T flow ls w → WordsFit T.machine w →
+    (input : List ℤ) → NeverFails (laid_run flow ls input) → StartsTied T flow ls w input
+
+-- and so is a call: what is live behind it is saved, and its arguments are passed; one too deep ends both runs by the trap
+abbrev pub CallLaw : Type 0
+CallLaw =
+    (T : Target) (flow : Flow) (ls : List VWords) (w : WordProgram) → is_sound_flow flow ≡ true → Carries T flow ls w → WordsFit T.machine w →
+    (r : Active) (u : State) → Tied T flow ls r u → (p g : ℕ) (arguments : List Operand) (result : Option ℕ) → r.block ≡ suc p → slice_get (T.layout r.function).words p ≡ Some (Call g arguments result) → CarriesOn T flow ls w r u ⊎ EndsAlike T flow ls w r u

@@ -1,0 +1,351 @@
+-- Where the values, frames and words of a program are, and the words that carry a laid-out word.
+use Rattle.std.specs.Prelude.{ℕ, suc, ◌+◌, ◌-◌, ◌*◌, ◌==◌, ◌&&◌, ℤ, pos, neg_ℤ, Bool, true, false, if◌then◌else◌, Option, Some, None, List, [], ◌∷◌, ◌++◌, map}
+use Rattle.std.specs.List.{filter}
+use Rattle.vx_base.specs.Arithmetic.{sum_of}
+use Rattle.vx_base.specs.declared.arithmetic.Code.{Code}
+use Rattle.vx_base.specs.declared.arithmetic.Code.TheVariants.{Add, Sh2add, Mov, ToBranch}
+use Rattle.vx_base.specs.declared.arithmetic.Compare.TheVariants.{Ltu, Ne}
+use Rattle.vx_flow.specs.declared.graph.Bank.{Bank}
+use Rattle.vx_flow.specs.declared.graph.Bank.TheVariants.{General, Branch}
+use Rattle.vx_flow.specs.declared.graph.Operand.{Operand}
+use Rattle.vx_flow.specs.declared.graph.Operand.TheVariants.{Held as HeldValue, Number as AsNumber, Stack}
+use Rattle.vx_flow.specs.declared.graph.Op.{Op}
+use Rattle.vx_flow.specs.declared.graph.Op.TheVariants.{Compute as Computes, Select as Selects, Place, Load as Loads, Store as Stores, More as Asks, Input as Takes, Text, Decimal, Across}
+use Rattle.vx_flow.specs.declared.graph.Graph.{Graph}
+use Rattle.vx_flow.specs.Meaning.{deepest}
+use Rattle.vx_flow.specs.Sound.{is_local}
+use Rattle.vx_flow.specs.Walk.{numbers}
+use Rattle.vx_isa.specs.Numbers.{Numbers}
+use Rattle.vx_isa.specs.declared.operation.GeneralRegister.{GeneralRegister}
+use Rattle.vx_isa.specs.declared.operation.Register.{Register}
+use Rattle.vx_isa.specs.declared.operation.Register.TheVariants.{General as InGeneral, Branch as InBranch}
+use Rattle.vx_isa.specs.declared.operation.Source.{Source}
+use Rattle.vx_isa.specs.declared.operation.Source.TheVariants.{Held, Number}
+use Rattle.vx_isa.specs.declared.operation.Operation.{Operation}
+use Rattle.vx_isa.specs.declared.operation.Operation.TheVariants.{Compute, Move, Select, Load, Store, Input, More, OutText, OutDecimal, Goto, BranchOn, Call, Return, FromLink, ToLink, EndByTrap, Halt}
+use Rattle.vx_isa.specs.declared.program.Word.{Word}
+use Rattle.vx_mixed.specs.declared.layout.Laid.{Laid}
+use Rattle.vx_mixed.specs.declared.layout.Laid.TheVariants.{Plain, Split}
+use Rattle.vx_mixed.specs.declared.layout.VirtualWord.{VirtualWord}
+use Rattle.vx_mixed.specs.declared.layout.VirtualWord.TheVariants.{Planned, Drain, Transfer, Choice, Call as Calls, Return as Returns, Ends}
+use Rattle.vx_mixed.specs.declared.layout.VWords.{VWords}
+use Rattle.vx_mixed.specs.LaidSettled.{laid_reads, laid_writes, home_in, bank_in}
+use Rattle.vx_regs.specs.declared.map.Kept.{Kept}
+use Rattle.vx_regs.specs.declared.map.Kept.TheVariants.{InRegister, InSlot, Nowhere}
+use Rattle.vx_regs.specs.declared.map.RegMap.{RegMap}
+use Rattle.vx_regs.specs.Mapped.{kept_of}
+
+-- what a target fixes for each function, by its number: its graph, the layout, where its values are kept; in its frame the
+-- offsets of the slots of its values and of its own arrays; what is saved round the call at a place, and which parameters
+-- are brought to their registers at the entry; and the places of the words. Memory is counted in words of 4 bytes
+pub record Target : Type 0 where
+  pub machine : Numbers
+  pub graph : ℕ → Graph
+  pub layout : ℕ → VWords
+  pub maps : ℕ → RegMap
+  -- words of all globals, and of a frame
+  pub globals : ℕ
+  pub frame : ℕ
+  pub slot : (function value : ℕ) → ℕ
+  -- the offset of a local array in the frame, the address of a global one
+  pub array_at : (function array : ℕ) → ℕ
+  pub saved : (function place : ℕ) → List ℕ
+  pub brought : ℕ → List ℕ
+  pub entry : ℕ → ℕ
+  pub starts : (function place : ℕ) → ℕ
+  pub landing : (function place to : ℕ) → ℕ
+  pub back : (function place : ℕ) → ℕ
+  pub depth_trap : ℕ
+  -- empty cycles after which all has landed
+  pub pause : ℕ
+
+abbrev pub parameters_of : Target → ℕ → List ℕ
+parameters_of T f = (T.graph f).parameters
+
+-- the array is one of the function's own, and stands in its frame
+abbrev pub is_own : Target → (function array : ℕ) → Bool
+is_own T f a = is_local (T.graph f).arrays a
+
+-- the bytes of so many words
+abbrev pub bytes : ℕ → ℤ
+bytes n = pos (4 * n)
+
+-- registers with a use of their own
+
+abbrev pub general : (cluster number : ℕ) → GeneralRegister
+general k n = record { cluster = k; number = n }
+
+abbrev pub zero_on : ℕ → GeneralRegister
+zero_on k = general k 0
+
+abbrev pub stack_on : ℕ → GeneralRegister
+stack_on k = general k 1
+
+abbrev pub answer : GeneralRegister
+answer = general 0 2
+
+-- where values are kept
+
+abbrev pub kept : Target → (function value : ℕ) → Kept
+kept T f v = kept_of (T.maps f) v
+
+abbrev pub is_slotted : Kept → Bool
+is_slotted (InRegister n) = false
+is_slotted (InSlot k) = true
+is_slotted Nowhere = true
+
+abbrev pub is_branch : Option Bank → Bool
+is_branch None = false
+is_branch (Some General) = false
+is_branch (Some Branch) = true
+
+abbrev pub holds_branch : Target → (function value : ℕ) → Bool
+holds_branch T f v = is_branch (bank_in (T.layout f) v)
+
+abbrev pub home : Target → (function value : ℕ) → ℕ
+home T f v = home_in (T.layout f) v
+
+abbrev pub same_bool : Bool → Bool → Bool
+same_bool true b = b
+same_bool false true = false
+same_bool false false = true
+
+-- both have their registers in one file
+abbrev pub same_file : Target → ℕ → (u v : ℕ) → Bool
+same_file T f u v = same_bool (holds_branch T f u) (holds_branch T f v) && (if holds_branch T f u then true else home T f u == home T f v)
+
+-- those of some values that are not in registers
+abbrev pub slotted : Target → ℕ → List ℕ → List ℕ
+slotted T f vs = filter (λ v. is_slotted (kept T f v)) vs
+
+abbrev pub index_of : ℕ → List ℕ → ℕ
+index_of v [] = 0
+index_of v (u ∷ us) = if u == v then 0 else suc (index_of v us)
+
+-- the number of the scratch register of v among these values
+abbrev pub scratch : Target → ℕ → List ℕ → ℕ → ℕ
+scratch T f vs v = index_of v (filter (λ u. same_file T f u v) (slotted T f vs))
+
+-- the number of the register by which a word names a general value, or a branch value
+abbrev pub number_by : Kept → ℕ → ℕ
+number_by (InRegister n) other = n
+number_by (InSlot k) other = other
+number_by Nowhere other = other
+
+-- the general and the branch register by which a word that names these values names v
+abbrev pub general_of : Target → ℕ → List ℕ → ℕ → GeneralRegister
+general_of T f vs v = general (home T f v) (number_by (kept T f v) (3 + scratch T f vs v))
+
+abbrev pub branch_of : Target → ℕ → List ℕ → ℕ → ℕ
+branch_of T f vs v = number_by (kept T f v) (scratch T f vs v)
+
+abbrev pub register_of : Target → ℕ → List ℕ → ℕ → Register
+register_of T f vs v = if holds_branch T f v then InBranch (record { cluster = 0; number = branch_of T f vs v }) else InGeneral (general_of T f vs v)
+
+-- planned words
+
+abbrev pub source_of : (ℕ → GeneralRegister) → Operand → Source
+source_of names (HeldValue v) = Held (names v)
+source_of names (AsNumber n) = Number n
+source_of names Stack = Number (pos 0)
+
+-- a place of a local array has the stack pointer added
+abbrev pub base_of : Target → ℕ → (cluster array : ℕ) → GeneralRegister
+base_of T f k a = if is_own T f a then stack_on k else zero_on k
+
+-- an access is at the array's offset from a place, or at a number from its base
+abbrev pub access_base : Target → ℕ → (ℕ → GeneralRegister) → (cluster array : ℕ) → Operand → GeneralRegister
+access_base T f names k a (HeldValue v) = names v
+access_base T f names k a (AsNumber n) = base_of T f k a
+access_base T f names k a Stack = base_of T f k a
+
+abbrev pub access_offset : Target → ℕ → (array : ℕ) → Operand → ℤ
+access_offset T f a (HeldValue v) = bytes (T.array_at f a)
+access_offset T f a (AsNumber n) = sum_of (bytes (T.array_at f a)) n
+access_offset T f a Stack = bytes (T.array_at f a)
+
+-- a code that moves has its own form
+abbrev pub computes : (cluster : ℕ) → Code → Register → GeneralRegister → Source → Source → Operation
+computes k Mov to general a b = Move k general a
+computes k code to general a b = Compute k code to a b
+
+-- the operation that carries one on a cluster, where a word reads these values and writes those
+abbrev pub carried : Target → ℕ → (reads writes : List ℕ) → (cluster : ℕ) → Op → Operation
+carried T f rs ws k (Computes code v a b) = computes k code (register_of T f ws v) (general_of T f ws v) (source_of (general_of T f rs) a) (source_of (general_of T f rs) b)
+carried T f rs ws k (Selects v p a b) = Select k (general_of T f ws v) (record { cluster = 0; number = branch_of T f rs p }) (source_of (general_of T f rs) a) (source_of (general_of T f rs) b)
+carried T f rs ws k (Place v a i) = Compute k Sh2add (InGeneral (general_of T f ws v)) (source_of (general_of T f rs) i) (if is_own T f a then Held (stack_on k) else Number (pos 0))
+carried T f rs ws k (Loads v a p dismissible) = Load k (general_of T f ws v) (access_offset T f a p) (access_base T f (general_of T f rs) k a p) dismissible
+carried T f rs ws k (Stores a p x) = Store k (access_offset T f a p) (access_base T f (general_of T f rs) k a p) (source_of (general_of T f rs) x)
+carried T f rs ws k (Asks v) = More (general_of T f ws v)
+carried T f rs ws k (Takes v) = Input (general_of T f ws v)
+carried T f rs ws k (Text n) = OutText n
+carried T f rs ws k (Decimal x) = OutDecimal (source_of (general_of T f rs) x)
+carried T f rs ws k (Across v u) = Move k (general_of T f ws v) (Held (general_of T f rs u))
+
+-- a word that leaves results in scratch registers goes to a landing, where they are stored
+abbrev pub leads : Target → (function place : ℕ) → (writes : List ℕ) → ℕ → ℕ
+leads T f p [] q = T.starts f q
+leads T f p (v ∷ vs) q = T.landing f p q
+
+abbrev pub carried_items : Target → (function place : ℕ) → (reads writes : List ℕ) → List Laid → List Operation
+carried_items T f p rs ws [] = []
+carried_items T f p rs ws (Plain op k ∷ items) = carried T f rs ws k op ∷ carried_items T f p rs ws items
+carried_items T f p rs ws (Split test y q ∷ items) = BranchOn (branch_of T f rs test) y (leads T f p (slotted T f ws) q) ∷ carried_items T f p rs ws items
+
+abbrev pub plan_word : Target → (function place : ℕ) → List Laid → Word
+plan_word T f p items = record { ops = carried_items T f p (laid_reads items) (laid_writes items) items; idle = 0 }
+
+-- slots
+
+abbrev pub one : Operation → Word
+one op = record { ops = op ∷ []; idle = 0 }
+
+abbrev pub waits : ℕ → Word
+waits n = record { ops = []; idle = n }
+
+abbrev pub waited : Target → Word
+waited T = waits T.pause
+
+-- the slot of a value, so many words above the frame, to a general register, or to a branch register by way of the answer's
+abbrev pub load_slot : Target → ℕ → (up : ℕ) → (value : ℕ) → (to : GeneralRegister) → (branch : ℕ) → List Word
+load_slot T f up v to branch =
+    if holds_branch T f v
+    then one (Load 0 answer (bytes (up + T.slot f v)) (stack_on 0) false) ∷ waited T ∷ one (Compute 0 (ToBranch Ne) (InBranch (record { cluster = 0; number = branch })) (Held answer) (Number (pos 0))) ∷ []
+    else one (Load to.cluster to (bytes (up + T.slot f v)) (stack_on to.cluster) false) ∷ []
+
+abbrev pub store_slot : Target → ℕ → (value : ℕ) → (from : GeneralRegister) → (branch : ℕ) → List Word
+store_slot T f v from branch =
+    if holds_branch T f v
+    then one (Select 0 answer (record { cluster = 0; number = branch }) (Number (pos 1)) (Number (pos 0))) ∷ waited T ∷ one (Store 0 (bytes (T.slot f v)) (stack_on 0) (Held answer)) ∷ []
+    else one (Store from.cluster (bytes (T.slot f v)) (stack_on from.cluster) (Held from)) ∷ []
+
+-- some of the values that a word names, each to or from the register by which the word names it
+abbrev pub load_slots : Target → ℕ → (names : List ℕ) → List ℕ → List Word
+load_slots T f names [] = []
+load_slots T f names (v ∷ vs) = load_slot T f 0 v (general_of T f names v) (branch_of T f names v) ++ load_slots T f names vs
+
+abbrev pub store_slots : Target → ℕ → (names : List ℕ) → List ℕ → List Word
+store_slots T f names [] = []
+store_slots T f names (v ∷ vs) = store_slot T f v (general_of T f names v) (branch_of T f names v) ++ store_slots T f names vs
+
+abbrev pub if_some : List ℕ → List Word → List Word
+if_some [] words = []
+if_some (v ∷ vs) words = words
+
+abbrev pub before : Target → ℕ → (reads : List ℕ) → List Word
+before T f rs = if_some (slotted T f rs) (load_slots T f rs (slotted T f rs) ++ waited T ∷ [])
+
+abbrev pub behind : Target → ℕ → (writes : List ℕ) → List Word
+behind T f ws = if_some (slotted T f ws) (waited T ∷ store_slots T f ws (slotted T f ws))
+
+abbrev pub plan_words : Target → (function place : ℕ) → List Laid → List Word
+plan_words T f p items = before T f (laid_reads items) ++ plan_word T f p items ∷ behind T f (laid_writes items)
+
+-- where a taken split of a word arrives: what the word left in scratch registers is stored there
+abbrev pub landing_words : Target → ℕ → List Laid → (to : ℕ) → List Word
+landing_words T f items q = behind T f (laid_writes items) ++ one (Goto (T.starts f q)) ∷ []
+
+-- the other words
+
+-- an operation on each cluster
+abbrev pub clusters : ℕ → List ℕ
+clusters n = numbers 0 n
+
+abbrev pub on_clusters : ℕ → (ℕ → Operation) → List Operation
+on_clusters n op = map op (clusters n)
+
+-- the stack pointer of every cluster so many bytes up or down
+abbrev pub move_stack : Target → ℤ → List Word
+move_stack T z = record { ops = on_clusters T.machine.clusters (λ k. Compute k Add (InGeneral (stack_on k)) (Held (stack_on k)) (Number z)); idle = 0 } ∷ waited T ∷ []
+
+-- saved and reloaded by their own registers
+abbrev pub save_words : Target → ℕ → List ℕ → List Word
+save_words T f vs = store_slots T f vs vs
+
+abbrev pub reload_words : Target → ℕ → List ℕ → List Word
+reload_words T f vs = if_some vs (load_slots T f vs vs ++ waited T ∷ [])
+
+-- an operand of a call or return as a source: a value in a slot is brought to the first scratch register of its cluster, from a
+-- frame so many words above the stack pointer
+abbrev pub fetch_words : Target → ℕ → (up : ℕ) → Operand → List Word
+fetch_words T f up (HeldValue v) = if is_slotted (kept T f v) then load_slot T f up v (general_of T f (v ∷ []) v) (branch_of T f (v ∷ []) v) ++ waited T ∷ [] else []
+fetch_words T f up (AsNumber n) = []
+fetch_words T f up Stack = []
+
+abbrev pub fetched : Target → ℕ → Operand → Source
+fetched T f (HeldValue v) = Held (general_of T f (v ∷ []) v)
+fetched T f (AsNumber n) = Number n
+fetched T f Stack = Number (pos 0)
+
+-- the cluster on which an operand is read
+abbrev pub cluster_of_operand : Target → ℕ → Operand → ℕ
+cluster_of_operand T f (HeldValue v) = home T f v
+cluster_of_operand T f (AsNumber n) = 0
+cluster_of_operand T f Stack = 0
+
+-- each argument into the slot of its parameter in the frame of the function that is called, which begins at the stack pointer
+abbrev pub argument_words : Target → (function called : ℕ) → (parameters : List ℕ) → List Operand → List Word
+argument_words T f g [] arguments = []
+argument_words T f g (v ∷ vs) [] = []
+argument_words T f g (v ∷ vs) (a ∷ arguments) =
+    fetch_words T f T.frame a ++ one (Store (cluster_of_operand T f a) (bytes (T.slot g v)) (stack_on (cluster_of_operand T f a)) (fetched T f a)) ∷ argument_words T f g vs arguments
+
+-- the result to where it is kept; a result on another cluster goes across first
+abbrev pub result_words : Target → ℕ → Option ℕ → List Word
+result_words T f None = []
+result_words T f (Some v) =
+    if is_slotted (kept T f v)
+    then one (Store 0 (bytes (T.slot f v)) (stack_on 0) (Held answer)) ∷ []
+    else one (Move (home T f v) (general_of T f (v ∷ []) v) (Held answer)) ∷ waited T ∷ []
+
+-- a frame that would begin below the end of the globals is one too many
+abbrev pub call_words : Target → (function place called : ℕ) → List Operand → List Word
+call_words T f p g arguments =
+    save_words T f (T.saved f p)
+    ++ (one (Compute 0 (ToBranch Ltu) (InBranch (record { cluster = 0; number = 0 })) (Held (stack_on 0)) (Number (bytes (T.globals + T.frame)))) ∷ waited T ∷ one (BranchOn 0 true T.depth_trap)
+    ∷ (move_stack T (neg_ℤ (bytes T.frame)) ++ (argument_words T f g (parameters_of T g) arguments ++ one (Call (T.entry g)) ∷ [])))
+
+-- the result is taken first, since a branch value comes back by way of the answer's register
+abbrev pub back_words : Target → (function place : ℕ) → Option ℕ → List Word
+back_words T f p result = move_stack T (bytes T.frame) ++ (result_words T f result ++ reload_words T f (T.saved f p))
+
+abbrev pub return_words : Target → ℕ → Operand → List Word
+return_words T f x =
+    fetch_words T f 0 x
+    ++ (one (Move 0 answer (fetched T f x)) ∷ one (Load 0 (general 0 3) (pos 0) (stack_on 0) false) ∷ waited T ∷ one (ToLink (Held (general 0 3))) ∷ waited T ∷ one Return ∷ [])
+
+-- at the entry the link is stored at the begin of the frame, and parameters are brought to their registers
+abbrev pub entry_words : Target → ℕ → List Word
+entry_words T g =
+    one (FromLink (general 0 3)) ∷ waited T ∷ one (Store 0 (pos 0) (stack_on 0) (Held (general 0 3)))
+    ∷ (reload_words T g (T.brought g) ++ one (Goto (T.starts g (T.layout g).entry)) ∷ [])
+
+abbrev pub choice_words : Target → ℕ → (test to : ℕ) → List Word
+choice_words T f test q = before T f (test ∷ []) ++ one (BranchOn (branch_of T f (test ∷ []) test) true (T.starts f q)) ∷ []
+
+abbrev pub word_words : Target → (function place : ℕ) → VirtualWord → List Word
+word_words T f p (Planned r w items) = plan_words T f p items
+word_words T f p (Drain n) = waits n ∷ []
+word_words T f p (Transfer q) = one (Goto (T.starts f q)) ∷ []
+word_words T f p (Choice test q) = choice_words T f test q
+word_words T f p (Calls g arguments result) = call_words T f p g arguments ++ back_words T f p result
+word_words T f p (Returns x) = return_words T f x
+word_words T f p (Ends k) = one (EndByTrap k) ∷ []
+
+-- memory: the globals, and a frame for each function that may be active. The frame of the n-th active function ends n - 1 frames
+-- below the end
+
+abbrev pub memory_words : Target → ℕ
+memory_words T = T.globals + T.frame * deepest
+
+abbrev pub first_frame : Target → ℕ
+first_frame T = T.globals + T.frame * (deepest - 1)
+
+-- the first words of a program; behind the call stands its end
+abbrev pub start_words : Target → (main : ℕ) → List Word
+start_words T main =
+    record { ops = on_clusters T.machine.clusters (λ k. Move k (stack_on k) (Number (bytes (first_frame T)))); idle = 0 } ∷ waited T
+    ∷ one (Call (T.entry main)) ∷ one (Halt (Held answer)) ∷ []
+
+abbrev pub halt_place : ℕ
+halt_place = 3
