@@ -1,0 +1,16 @@
+pub mod Waited
+pub mod PlainItems
+pub mod Table
+pub mod Touching
+pub mod NeverMeeting
+pub mod TableMet
+pub mod InOrderAlike
+pub mod TakesTime
+pub mod Greatest
+pub mod MadeCopies
+pub mod Copying
+pub mod SplitCopies
+pub mod JoinCopies
+pub mod ExitWaits
+pub mod Planning
+pub mod Pushing

@@ -1,0 +1,110 @@
+// The empty cycles behind the exits of a placed trace: as many as a result that was issued before can still take.
+
+ghost use Rattle.std.specs.Prelude.{◌≡◌, ◌+◌, ◌++◌, ◌-◌, map, max, IfOk};
+ghost use Rattle.vx_dep.specs.declared.copies.EdgeCopies.{EdgeCopies};
+ghost use Rattle.vx_dep.specs.Compensation.{word_at, greatest, left_at, all_left_at, drain_at};
+
+use std::alloc::Global;
+use vx_base::listed::Listed;
+use vx_base::outcome::NoMemory;
+use vx_dep::copies::EdgeCopies;
+use vx_flow::trace::{Placed, TraceOp};
+use vx_machine::Machine;
+use vx_machine::items::Item;
+
+/// The empty cycles behind each split.
+pub(crate) fn drains(
+    alloc: Global,
+    machine: &Machine,
+    placed: &Placed,
+    splits: &[EdgeCopies],
+) -> Result<Listed<u32>, NoMemory>
+    ensures { IfOk result (λ list. list ≡ map (λ (x : EdgeCopies). drain_at machine.now placed.now (word_at placed.now.words x.split + 1)) splits.now) }
+{
+    let mut drains = Listed::new(alloc);
+    let mut rest = splits;
+    'drain: loop {
+        match rest.split_first() {
+            None => return Ok(drains),
+            Some((split, others)) => {
+                drains.push(split_drain(machine, placed, split))?;
+                rest = others;
+            }
+        }
+    }
+}
+
+fn split_drain(machine: &Machine, placed: &Placed, split: &EdgeCopies) -> u32
+    ensures { result ≡ drain_at machine.now placed.now (word_at placed.now.words split.now.split + 1) }
+{
+    let end = word_at(placed.words.as_slice(), split.split) as u64 + 1;
+    drain_at(machine, placed, end)
+}
+
+/// The empty cycles behind an exit at the start of a word.
+pub(crate) fn drain_at(machine: &Machine, placed: &Placed, end: u64) -> u32
+    ensures { result ≡ drain_at machine.now placed.now end }
+{
+    let words = placed.words.as_slice();
+    drain_of(machine, end, words, placed.clustered.trace.ops.as_slice())
+}
+
+fn drain_of(machine: &Machine, end: u64, words: &[u32], ops: &[TraceOp]) -> u32
+    ensures { result ≡ greatest (all_left_at machine.now end words.now ops.now) }
+{
+    let mut drain = 0;
+    let mut words_left = words;
+    let mut ops_left = ops;
+    'count: loop {
+        match ops_left.split_first() {
+            None => return drain,
+            Some((op, ops_behind)) => match words_left.split_first() {
+                None => return drain,
+                Some((word, words_behind)) => {
+                    drain = greater(drain, left_at(machine, end, *word, op));
+                    words_left = words_behind;
+                    ops_left = ops_behind;
+                }
+            },
+        }
+    }
+}
+
+fn greater(a: u32, b: u32) -> u32
+    ensures { result ≡ max a b }
+{
+    a.max(b)
+}
+
+/// How many cycles behind its word the result of an operation still takes at the start of a word.
+fn left_at(machine: &Machine, end: u64, word: u32, op: &TraceOp) -> u32
+    ensures { result ≡ left_at machine.now end word op.now }
+{
+    let latency = machine.latency_of_item(&Item::of_trace(op));
+    if (word as u64) < end {
+        left_behind(latency, end - word as u64)
+    } else {
+        0
+    }
+}
+
+/// What is left of a latency after some cycles.
+fn left_behind(latency: u32, passed: u64) -> u32
+    ensures { result ≡ latency - passed }
+{
+    if passed < latency as u64 {
+        latency - passed as u32
+    } else {
+        0
+    }
+}
+
+/// The word of the operation at a place.
+pub(crate) fn word_at(words: &[u32], place: u32) -> u32
+    ensures { result ≡ word_at words.now place }
+{
+    match words.get(place as usize) {
+        Some(word) => *word,
+        None => 0,
+    }
+}
