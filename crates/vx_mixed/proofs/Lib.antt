@@ -77,4 +77,5 @@ pub mod EdgesAfter
 pub mod SortedEdges
 pub mod MovedEdges
 pub mod Replaces
+pub mod IfReplaced
 pub mod PlacingSteps

@@ -1,7 +1,7 @@
 -- The kept edges and those of made blocks, sorted, are the edges after a replacement.
-use Rattle.std.proofs.Common.{◌≡◌, ◌≢◌, ℕ, zero, suc, ◌+◌, ◌^◌, ◌<◌, ◌≤◌, Bool, true, false, Option, Some, None, List, [], ◌∷◌, ◌++◌, length, map, slice_get, refl, sym, ap, ◌∙◌, subst, ⊎_elim, inl, inr, arith}
-use Rattle.std.specs.Prelude.{◌⊎◌, ◌↔◌, not, if◌then◌else◌}
-use Rattle.std.specs.List.{filter, list_any}
+use Rattle.std.proofs.Common.{◌≡◌, ℕ, zero, suc, ◌+◌, ◌^◌, ◌<◌, Bool, true, false, Option, Some, None, List, [], ◌∷◌, ◌++◌, length, map, slice_get, refl, sym, ap, ◌∙◌, subst, ⊎_elim, inl, inr, arith}
+use Rattle.std.specs.Prelude.{◌⊎◌, not, if◌then◌else◌}
+use Rattle.std.specs.List.{filter}
 use Rattle.std.specs.List.Sorted.{IsNonDecreasingBy, IsPermutation}
 use Rattle.std.proofs.lemmas.Bool.{not-true, cases_Bool}
 use Rattle.vx_flow.specs.declared.graph.Edge.{Edge}
@@ -62,7 +62,7 @@ once_append : (xs ys : List Edge) → Once xs → Once ys → ((e : Edge) → Is
 once_append [] ys a b apart = b
 once_append (x ∷ xs) ys a b apart = ((λ h. ⊎_elim a.0 (apart x (inl refl)) (in_either x xs ys h)), once_append xs ys a.1 b (λ e p q. apart e (inr p) q))
 
-not_before : (e f : Edge) → e.from ≡ f.from → e.to ≡ f.to → Before e f → ⊥
+pub not_before : (e f : Edge) → e.from ≡ f.from → e.to ≡ f.to → Before e f → ⊥
 not_before e f p q (inl l) = absurd (omega arith)
 not_before e f p q (inr l) = let k = l.1 in absurd (omega arith)
 

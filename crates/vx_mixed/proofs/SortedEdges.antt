@@ -1,9 +1,9 @@
 -- Edges that stand once and are sorted by their numbers ascend.
-use Rattle.std.proofs.Common.{◌≡◌, ◌≢◌, ℕ, zero, suc, ◌+◌, ◌*◌, ◌^◌, ◌<◌, ◌≤◌, Bool, true, false, List, [], ◌∷◌, length, slice_index_or, refl, sym, ap, ◌∙◌, subst, ⊎_elim, inl, inr, arith}
+use Rattle.std.proofs.Common.{◌≡◌, ◌≢◌, ℕ, suc, ◌+◌, ◌^◌, ◌<◌, ◌≤◌, Bool, false, List, [], ◌∷◌, length, slice_index_or, refl, sym, ap, ◌∙◌, subst, ⊎_elim, inl, inr, arith}
 use Rattle.std.specs.Prelude.{◌⊎◌, if◌then◌else◌}
 use Rattle.std.specs.List.{sum_by}
 use Rattle.std.specs.List.Sorted.{IsNonDecreasingBy, IsPermutation}
-use Rattle.std.proofs.lemmas.Bool.{cases_lt, cases_eq}
+use Rattle.std.proofs.lemmas.Bool.{cases_lt}
 use Rattle.std.proofs.lemmas.List.Sums.{sum_by-cons}
 use Rattle.std.proofs.lemmas.List.Sorted.{IsNonDecreasingBy-drop, sum_by-IsPermutation}
 use Rattle.vx_flow.specs.declared.graph.Edge.{Edge}
@@ -88,9 +88,9 @@ before e f key apart low low' = ⊎_elim (λ l. inl l) (λ g. by (one_from g)) (
 ascend : (es : List Edge) → IsNonDecreasingBy edge_key es → ((x : Edge) → times x es ≤ 1) → ((x : Edge) → IsIn x es → x.to < 2 ^ 32) → Ascending es
 ascend [] sorted once low = tt
 ascend (e ∷ es) sorted once low = (
-    (λ f h. before e f (key f h) (apart f h) (low e (inl refl)) (low f (inr h))),
-    ascend es (IsNonDecreasingBy-drop edge_key 1 (e ∷ es) sorted) (λ x. let a = times_more x e es in let b = once x in omega arith) (λ x h. low x (inr h)),
-  )
+  (λ f h. before e f (key f h) (apart f h) (low e (inl refl)) (low f (inr h))),
+  ascend es (IsNonDecreasingBy-drop edge_key 1 (e ∷ es) sorted) (λ x. let a = times_more x e es in let b = once x in omega arith) (λ x h. low x (inr h)),
+)
   where
     key : (f : Edge) → IsIn f es → edge_key e ≤ edge_key f
     key f h = let r = there es f e h in let low = r.1 in subst (λ z. edge_key e ≤ edge_key z) r.2 (sorted 0 (suc r.0) e (omega arith) (omega arith))

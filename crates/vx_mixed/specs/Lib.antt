@@ -41,4 +41,5 @@ pub mod TraceLists
 pub mod CanReplace
 pub mod NextEdges
 pub mod MovedEdges
+pub mod ReplaceExample
 pub mod Placing

@@ -2,14 +2,11 @@
 // that is made, sorted by their numbers. The clause of `edges_after` carries the promise.
 
 ghost use Rattle.std.specs.Prelude.{◌≡◌, ◌+◌, ◌<◌, ◌^◌, ◌++◌, ◌∷◌, IfOk, length};
-ghost use Rattle.std.specs.List.{list_any};
 ghost use Rattle.std.specs.List.Sorted.{IsNonDecreasingBy, IsPermutation};
 ghost use Rattle.vx_mixed.specs.CanReplace.{CanReplace};
 ghost use Rattle.vx_mixed.specs.Edges.{EdgesOf};
-ghost use Rattle.vx_mixed.specs.FromGraph.{same_edge};
 ghost use Rattle.vx_mixed.specs.MovedEdges.{edge_key, is_inner, kept_edges, made_edges, moved};
 ghost use Rattle.vx_mixed.specs.Next.{next_mixed};
-ghost use Rattle.vx_mixed.specs.TraceOf.{inner_edges};
 ghost use Rattle.vx_mixed.specs.Valid.{Valid};
 
 use crate::mixed::MixedGraph;

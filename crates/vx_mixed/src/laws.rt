@@ -14,6 +14,7 @@ ghost use Rattle.vx_mixed.specs.CountingExample.{CountingBegins};
 ghost use Rattle.vx_mixed.specs.Example.{FailsWithoutCopy, Works};
 ghost use Rattle.vx_mixed.specs.NextEdges.{EdgesAfter};
 ghost use Rattle.vx_mixed.specs.NextExample.{NextIsNew, SharesEntrances};
+ghost use Rattle.vx_mixed.specs.ReplaceExample.{IfIsReplaced};
 ghost use Rattle.vx_mixed.specs.TraceExample.{IfIsTraced, IsItsTrace};
 
 /// An `if` without `else` as a region does what its blocks do, from its start and from the edge that joins; without the
@@ -94,6 +95,11 @@ pub fn a_graph_that_counts_begins()
 #[tactic(auto, using(crate::proofs::Traced::if_is_traced))]
 pub fn an_if_is_traced()
     ensures { IfIsTraced }
+{}
+
+/// And the trace of its three blocks can be replaced, with the numbers of the worked region.
+pub fn an_if_is_replaced()
+    ensures { IfIsReplaced }
 {}
 
 /// A graph after a replacement whose arguments fit is valid where it was, and its edges are the old ones that were not

@@ -37,7 +37,7 @@ fn banks(alloc: Global) -> Result<Listed<Bank>, NoMemory>
 }
 
 // v3 = v1 + 5; if (v1 < 10) v2 = v2 + 1; return v2 + v3 * v1, with the test in value 6.
-fn without_else(alloc: Global) -> Result<Graph, NoMemory>
+pub(crate) fn without_else(alloc: Global) -> Result<Graph, NoMemory>
     ensures blocks { IfOk result (λ graph. graph.blocks ≡ if_blocks) }
     ensures banks { IfOk result (λ graph. graph.banks ≡ if_banks) }
 {

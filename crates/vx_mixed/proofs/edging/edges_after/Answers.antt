@@ -12,10 +12,10 @@ returns c =
     let r = c.args.replacement.now in
     let first : c.len-first.result ≡ length m.nodes = c.len-first.ensures.len in
     let all : c.push_made_edges.new.edges.items ≡ kept_edges m r c.args.edges.now ++ made_edges (length m.nodes) r.made =
-        c.in_ok-push_made_edges.ensures
-        ∙ ap (λ l. l ++ made_edges c.len-first.result c.as_slice.result.now) c.in_ok-after.ensures
-        ∙ ap (λ n. kept_edges m r c.args.edges.now ++ made_edges n c.as_slice.result.now) first
-        ∙ ap (λ xs. kept_edges m r c.args.edges.now ++ made_edges (length m.nodes) xs) c.as_slice.ensures in
+    c.in_ok-push_made_edges.ensures
+    ∙ ap (λ l. l ++ made_edges c.len-first.result c.as_slice.result.now) c.in_ok-after.ensures
+    ∙ ap (λ n. kept_edges m r c.args.edges.now ++ made_edges n c.as_slice.result.now) first
+    ∙ ap (λ xs. kept_edges m r c.args.edges.now ++ made_edges (length m.nodes) xs) c.as_slice.ensures in
     subst (EdgesOf (next_mixed m r)) (sym c.in_ok-from_vec.ensures)
     (sorted_edges_are m r c.args.edges.now c.sort_edges.new.edges.items c.requires.valid c.requires.can c.requires.edges c.requires.few
     (subst (λ l. IsPermutation l c.sort_edges.new.edges.items) all c.sort_edges.ensures.same) c.sort_edges.ensures.sorted)
