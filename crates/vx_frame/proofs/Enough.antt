@@ -164,7 +164,7 @@ some_issue m h =
     let p = (and_parts _ _ (and_parts _ _ a2).1).0 in
     leb-true 1 m.issue p
 
-operands_code : (code : Code) (v : ℕ) (a b : Operand) → operands_of (Compute code v a b) ≡ (if is_unary code then a ∷ [] else a ∷ b ∷ [])
+pub operands_code : (code : Code) (v : ℕ) (a b : Operand) → operands_of (Compute code v a b) ≡ (if is_unary code then a ∷ [] else a ∷ b ∷ [])
 operands_code Add v a b = refl
 operands_code Sub v a b = refl
 operands_code And v a b = refl
@@ -191,11 +191,11 @@ compute_ports t code v a b = subst (λ ys. count_by t (reads (Compute code v a b
     by true = operand_port t a
     by false = two_ports t a b
 
-in_all_of : {A B : Type 0} (g : A → List B) (x : A) (y : B) (xs : List A) → IsIn x xs → IsIn y (g x) → IsIn y (flat_map g xs)
+pub in_all_of : {A B : Type 0} (g : A → List B) (x : A) (y : B) (xs : List A) → IsIn x xs → IsIn y (g x) → IsIn y (flat_map g xs)
 in_all_of g x y [] i j = absurd i
 in_all_of g x y (z ∷ zs) i j = ⊎_elim (λ e. in_left y (g z) (flat_map g zs) (subst (λ w. IsIn y (g w)) e j)) (λ k. in_right y (g z) (flat_map g zs) (in_all_of g x y zs k j)) i
 
-in_map : {A B : Type 0} (g : A → B) (x : A) (xs : List A) → IsIn x xs → IsIn (g x) (map g xs)
+pub in_map : {A B : Type 0} (g : A → B) (x : A) (xs : List A) → IsIn x xs → IsIn (g x) (map g xs)
 in_map g x [] i = absurd i
 in_map g x (y ∷ ys) i = ⊎_elim (λ e. inl (ap g e)) (λ j. inr (in_map g x ys j)) i
 
@@ -386,7 +386,7 @@ module _ (T : Target) (f : ℕ) (mapped : IsMapped T f) (sound : Sound (T.graph 
       let s = same_general v u e same in
       ap (λ c. Some c) (general_cluster u k (bank u (inl (in_all item_reads (Plain op k) u items i j))) s.0 st ∙ s.1)
 
-  across_source : (v x y k u : ℕ) → holds_branch T f v ≡ false → IsIn (Plain (Across x y) k) items → u ≡ y → Same v u ≡ true → home_of TheHomes y ≡ Some (home T f v)
+  pub across_source : (v x y k u : ℕ) → holds_branch T f v ≡ false → IsIn (Plain (Across x y) k) items → u ≡ y → Same v u ≡ true → home_of TheHomes y ≡ Some (home T f v)
   across_source v x y k u e i q same =
       let s = same_general v u e same in
       let sources = (and_parts _ _ room_parts.two).1 in

@@ -256,10 +256,12 @@ module _ (T : Target) (flow : Flow) (ls : List VWords) (w : WordProgram) (sound 
   -- memory: only the first word of the frame has changed
 
   arrays : Arrays T (length flow.globals) done.to.memory Sp r.base F r.state.arrays
-  arrays = record { row = λ a array has. let x = tied.arrays.row a array has in record {
-    size = x.size;
-    is = λ i n lt e. done.elsewhere (begins_at T Sp F a + i) (λ q. link_free T flow carries.some_frame carries.globals sound F ls tied.is of.framed Sp (length r.waiting) tied.deep a i array has lt (sym q)) ∙ x.is i n lt e;
-  } }
+  arrays = record {
+    row = λ a array has. let x = tied.arrays.row a array has in record {
+      size = x.size;
+      is = λ i n lt e. done.elsewhere (begins_at T Sp F a + i) (λ q. link_free T flow carries.some_frame carries.globals sound F ls tied.is of.framed Sp (length r.waiting) tied.deep a i array has lt (sym q)) ∙ x.is i n lt e;
+    };
+  }
 
   waiting : Below T flow ls r.state.arrays done.to.memory Sp r.base r.waiting
   waiting = below_keep T flow carries.some_frame carries.globals sound ls (λ f is. (carries.functions f (get_below flow.functions f (T.graph f) is.graph)).framed) r.waiting r.state.arrays r.state.arrays u.memory done.to.memory Sp r.base

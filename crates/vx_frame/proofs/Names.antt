@@ -116,10 +116,10 @@ module _ (T : Target) (f : ℕ) (mapped : IsMapped T f) where
   bank_is v true h e = h.1 ∙ ap (λ x. Some x) (branch_bank h.0 (ap is_branch (sym h.1) ∙ e))
   bank_is v false h e = h.1 ∙ ap (λ x. Some x) (general_bank h.0 (ap is_branch (sym h.1) ∙ e))
 
-  file_branch : (v : ℕ) → HasBank v → holds_branch T f v ≡ true → InFile (T.layout f) v BranchBank 0
+  pub file_branch : (v : ℕ) → HasBank v → holds_branch T f v ≡ true → InFile (T.layout f) v BranchBank 0
   file_branch v h e = record { bank_is = bank_is v true h e; cluster_is = refl }
 
-  file_general : (v : ℕ) → HasBank v → holds_branch T f v ≡ false → InFile (T.layout f) v GeneralBank (home T f v)
+  pub file_general : (v : ℕ) → HasBank v → holds_branch T f v ≡ false → InFile (T.layout f) v GeneralBank (home T f v)
   file_general v h e = record { bank_is = bank_is v false h e; cluster_is = refl }
 
   within : (p v : ℕ) → Busy p v → Within (latency_of_op T.machine) (T.layout f) v p
@@ -198,7 +198,7 @@ module _ (T : Target) (f : ℕ) (mapped : IsMapped T f) where
   bools_same true = refl
   bools_same false = refl
 
-  file_self : (v : ℕ) → same_file T f v v ≡ true
+  pub file_self : (v : ℕ) → same_file T f v v ≡ true
   file_self v = by (holds_branch T f v)
     where
       by : (b : Bool) → (same_bool b b && (if b then true else eqb (home T f v) (home T f v))) ≡ true

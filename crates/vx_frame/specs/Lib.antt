@@ -3,4 +3,7 @@ pub mod Tied
 pub mod Placed
 pub mod Carried
 pub mod Planned
+pub mod Fitted
 pub mod Moved
+pub mod Returned
+pub mod Whole

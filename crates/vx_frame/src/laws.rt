@@ -1,7 +1,12 @@
 // Laws of the definitions, each the clause of a function that does nothing.
 
+ghost use Rattle.vx_frame.specs.Fitted.{FitLaw};
 ghost use Rattle.vx_frame.specs.Moved.{StackLaw};
 ghost use Rattle.vx_frame.specs.Planned.{CallLaw, EntryLaw, PlannedLaw, SimpleLaw, StartLaw};
+ghost use Rattle.vx_frame.specs.Returned.{ReturnLaw};
+ghost use Rattle.vx_frame.specs.Whole.{WholeLaw};
+
+use vx_machine::fits_by_room_law;
 
 /// Where the words of a program fit and stand where its target says, each planned word of a layout is carried by its words: all
 /// operations on values, in the registers or slots where these are kept, and the splits with their landings. From tied states
@@ -36,3 +41,22 @@ pub fn stack_pointers_move()
 pub fn calls_are_carried()
     ensures { CallLaw }
 {}
+
+/// And so is a return: the result comes to where the caller keeps it, and what was saved is back. With no function waiting both
+/// runs end with the result.
+pub fn returns_are_carried()
+    ensures { ReturnLaw }
+{}
+
+/// Together: with every input with which the laid-out words never fail, the words of the program end as they do and print what they
+/// print, and are never stuck.
+pub fn programs_do_the_same()
+    ensures { WholeLaw }
+{}
+/// Every word of a program that carries a flow is well formed and fits its machine, where each copy across comes from another
+/// cluster: planned words, since their items have room, and all others, since they hold one operation, or one on each cluster.
+pub fn words_fit()
+    ensures { FitLaw }
+{
+    fits_by_room_law();
+}

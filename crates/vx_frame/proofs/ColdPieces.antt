@@ -1,0 +1,167 @@
+-- Words of calls, returns and entries that begin with nothing in flight meet nothing in flight.
+use Rattle.std.proofs.Common.{◌≡◌, ◌≢◌, ◌<◌, ◌≤◌, ◌⊎◌, inl, inr, ⊎_elim, ◌+◌, ◌-◌, ℕ, zero, suc, ℤ, pos, neg_ℤ, Bool, true, false, ◌||◌, cond, Option, Some, None, List, [], ◌∷◌, ◌++◌, append_assoc, map, refl, sym, ap, ◌∙◌, subst, arith}
+use Rattle.std.specs.Prelude.{if◌then◌else◌, max}
+use Rattle.std.specs.List.{list_any}
+use Rattle.vx_base.specs.declared.arithmetic.Code.TheVariants.{Add, ToBranch}
+use Rattle.vx_base.specs.declared.arithmetic.Compare.TheVariants.{Ltu, Ne}
+use Rattle.vx_base.specs.declared.outcome.Trap.{Trap}
+use Rattle.vx_base.proofs.Pieces.{cold, fine_less}
+use Rattle.vx_flow.specs.declared.graph.Operand.{Operand}
+use Rattle.vx_flow.specs.declared.graph.Operand.TheVariants.{Held as HeldValue, Number as AsNumber, Stack}
+use Rattle.vx_flow.specs.Walk.{numbers}
+use Rattle.vx_isa.specs.declared.operation.Register.{Register}
+use Rattle.vx_isa.specs.declared.operation.Register.TheVariants.{General as InGeneral, Branch as InBranch}
+use Rattle.vx_isa.specs.declared.operation.Source.{Source}
+use Rattle.vx_isa.specs.declared.operation.Source.TheVariants.{Held, Number}
+use Rattle.vx_isa.specs.declared.operation.GeneralRegister.{GeneralRegister}
+use Rattle.vx_isa.specs.declared.operation.Operation.{Operation}
+use Rattle.vx_isa.specs.declared.operation.Operation.TheVariants.{Compute, Move, Select, Load, Store, Goto, BranchOn, Call, Return, FromLink, ToLink, EndByTrap, Halt}
+use Rattle.vx_isa.specs.declared.program.Word.{Word}
+use Rattle.vx_isa.specs.Operations.{latency_of}
+use Rattle.vx_isa.specs.Fits.{destinations}
+use Rattle.vx_frame.specs.Target.{Target, answer, general, general_of, branch_of, stack_on, home, holds_branch, is_slotted, kept, parameters_of, one, waited, load_slot, store_slot, store_slots, on_clusters, move_stack, save_words, fetch_words, fetched, cluster_of_operand, argument_words, result_words, call_words, return_words, start_words, bytes, first_frame}
+use Rattle.vx_frame.proofs.Early.{falls, Jumps, Touches}
+use Rattle.vx_frame.proofs.Heats.{lift, FineWords, word_fine, wait_fine, stop_fine, lift_fewer, lift_off}
+
+module _ (T : Target) (heat : ℕ → Register → ℕ) (short : (op : Operation) → latency_of T.machine op ≤ T.pause + 1) where
+  abbrev pub Fine : (Register → ℕ) → List Word → (Register → ℕ) → Type 0
+  Fine h ws e = FineWords T.machine heat T.pause short h ws e
+
+  -- a word that waits until its results have landed
+  pub settle : (ops : List Operation) (rest : List Word) (e : Register → ℕ) → falls ops ≡ true → ((q : ℕ) → Jumps ops q → ⊥) → Fine cold rest e → Fine cold (record { ops = ops; idle = 0 } ∷ waited T ∷ rest) e
+  settle ops rest e fall none f = word_fine T.machine heat T.pause short cold [] ops (waited T ∷ rest) e fall (λ q r j. absurd (none q j)) (λ r t. refl) (wait_fine T.machine heat T.pause short cold (destinations ops ++ []) rest e f)
+
+  -- a word without results
+  pass : (op : Operation) (rest : List Word) (e : Register → ℕ) → destinations (op ∷ []) ≡ [] → falls (op ∷ []) ≡ true → ((q : ℕ) → Jumps (op ∷ []) q → ⊥) → Fine cold rest e → Fine cold (one op ∷ rest) e
+  pass op rest e no_ fall none f = word_fine T.machine heat T.pause short cold [] (op ∷ []) rest e fall (λ q r j. absurd (none q j)) (λ r t. refl) (subst (λ ds. Fine (lift T.pause cold (ds ++ [])) rest e) (sym no_) f)
+
+  -- the branch of a call to its trap
+  branch_fine : (t q : ℕ) (y : Bool) (rest : List Word) (e : Register → ℕ) → Fine cold rest e → Fine cold (one (BranchOn t y q) ∷ rest) e
+  branch_fine t q y rest e f = word_fine T.machine heat T.pause short cold [] (BranchOn t y q ∷ []) rest e refl (λ p r j. omega arith) (λ r t. refl) f
+
+  pub jump_fine : (q : ℕ) (rest : List Word) (e : Register → ℕ) → Fine cold rest e → Fine cold (one (Goto q) ∷ rest) e
+  jump_fine q rest e f = stop_fine T.machine heat T.pause short cold (Goto q ∷ []) rest e refl (λ p r j. omega arith) refl (λ r t. refl) f
+
+  call_fine : (q : ℕ) (rest : List Word) (e : Register → ℕ) → Fine cold rest e → Fine cold (one (Call q) ∷ rest) e
+  call_fine q rest e f = stop_fine T.machine heat T.pause short cold (Call q ∷ []) rest e refl (λ p r j. omega arith) refl (λ r t. refl) f
+
+  go_back_fine : (rest : List Word) (e : Register → ℕ) → Fine cold rest e → Fine cold (one Return ∷ rest) e
+  go_back_fine rest e f = stop_fine T.machine heat T.pause short cold (Return ∷ []) rest e refl (λ p r j. omega arith) refl (λ r t. refl) f
+
+  pub ends_fine : (k : Trap) (rest : List Word) (e : Register → ℕ) → Fine cold rest e → Fine cold (one (EndByTrap k) ∷ rest) e
+  ends_fine k rest e f = stop_fine T.machine heat T.pause short cold (EndByTrap k ∷ []) rest e refl (λ p r j. absurd j) refl (λ r t. refl) f
+
+  halt_fine : (a : Source) (rest : List Word) (e : Register → ℕ) → Fine cold rest e → Fine cold (one (Halt a) ∷ rest) e
+  halt_fine a rest e f = stop_fine T.machine heat T.pause short cold (Halt a ∷ []) rest e refl (λ p r j. absurd j) refl (λ r t. refl) f
+
+  pub nothing_fine : (e : Register → ℕ) → Fine cold [] e
+  nothing_fine e = λ r. omega arith
+
+  pub store_fine : (k : ℕ) (o : ℤ) (r : GeneralRegister) (a : Source) (rest : List Word) (e : Register → ℕ) → Fine cold rest e → Fine cold (one (Store k o r a) ∷ rest) e
+  store_fine k o r a rest e f = pass (Store k o r a) rest e refl refl (λ q j. j) f
+
+  -- saving
+
+  save_one : (f v : ℕ) (names : List ℕ) (rest : List Word) (e : Register → ℕ) → Fine cold rest e → Fine cold (store_slot T f v (general_of T f names v) (branch_of T f names v) ++ rest) e
+  save_one f v names rest e more = by (holds_branch T f v)
+    where
+      by : (b : Bool) → Fine cold ((if b
+          then one (Select 0 answer (record { cluster = 0; number = branch_of T f names v }) (Number (pos 1)) (Number (pos 0))) ∷ waited T ∷ one (Store 0 (bytes (T.slot f v)) (stack_on 0) (Held answer)) ∷ []
+          else one (Store (home T f v) (bytes (T.slot f v)) (stack_on (home T f v)) (Held (general_of T f names v))) ∷ []) ++ rest) e
+      by true = settle (Select 0 answer (record { cluster = 0; number = branch_of T f names v }) (Number (pos 1)) (Number (pos 0)) ∷ []) (one (Store 0 (bytes (T.slot f v)) (stack_on 0) (Held answer)) ∷ rest) e refl (λ q j. j) (store_fine 0 (bytes (T.slot f v)) (stack_on 0) (Held answer) rest e more)
+      by false = store_fine (home T f v) (bytes (T.slot f v)) (stack_on (home T f v)) (Held (general_of T f names v)) rest e more
+
+  pub save_fine : (f : ℕ) (names vs : List ℕ) (rest : List Word) (e : Register → ℕ) → Fine cold rest e → Fine cold (store_slots T f names vs ++ rest) e
+  save_fine f names [] rest e more = more
+  save_fine f names (v ∷ vs) rest e more = subst (λ ws. Fine cold ws e) (sym (append_assoc (store_slot T f v (general_of T f names v) (branch_of T f names v)) (store_slots T f names vs) rest))
+      (save_one f v names (store_slots T f names vs ++ rest) e (save_fine f names vs rest e more))
+
+  -- operands
+
+  fetch_one : (f up v : ℕ) (names : List ℕ) (rest : List Word) (e : Register → ℕ) → Fine cold rest e → Fine cold (load_slot T f up v (general_of T f names v) (branch_of T f names v) ++ (waited T ∷ rest)) e
+  fetch_one f up v names rest e more = by (holds_branch T f v)
+    where
+      by : (b : Bool) → Fine cold ((if b
+          then one (Load 0 answer (bytes (up + T.slot f v)) (stack_on 0) false) ∷ waited T ∷ one (Compute 0 (ToBranch Ne) (InBranch (record { cluster = 0; number = branch_of T f names v })) (Held answer) (Number (pos 0))) ∷ []
+          else one (Load (home T f v) (general_of T f names v) (bytes (up + T.slot f v)) (stack_on (home T f v)) false) ∷ []) ++ (waited T ∷ rest)) e
+      by true = settle (Load 0 answer (bytes (up + T.slot f v)) (stack_on 0) false ∷ []) (one (Compute 0 (ToBranch Ne) (InBranch (record { cluster = 0; number = branch_of T f names v })) (Held answer) (Number (pos 0))) ∷ waited T ∷ rest) e refl (λ q j. j)
+          (settle (Compute 0 (ToBranch Ne) (InBranch (record { cluster = 0; number = branch_of T f names v })) (Held answer) (Number (pos 0)) ∷ []) rest e refl (λ q j. j) more)
+      by false = settle (Load (home T f v) (general_of T f names v) (bytes (up + T.slot f v)) (stack_on (home T f v)) false ∷ []) rest e refl (λ q j. j) more
+
+  pub fetch_fine : (f up : ℕ) (x : Operand) (rest : List Word) (e : Register → ℕ) → Fine cold rest e → Fine cold (fetch_words T f up x ++ rest) e
+  fetch_fine f up (HeldValue v) rest e more = by (is_slotted (kept T f v))
+    where
+      by : (b : Bool) → Fine cold ((if b then load_slot T f up v (general_of T f (v ∷ []) v) (branch_of T f (v ∷ []) v) ++ waited T ∷ [] else []) ++ rest) e
+      by true = subst (λ ws. Fine cold ws e) (sym (append_assoc (load_slot T f up v (general_of T f (v ∷ []) v) (branch_of T f (v ∷ []) v)) (waited T ∷ []) rest)) (fetch_one f up v (v ∷ []) rest e more)
+      by false = more
+  fetch_fine f up (AsNumber n) rest e more = more
+  fetch_fine f up Stack rest e more = more
+
+  pub arguments_fine : (f g : ℕ) (vs : List ℕ) (xs : List Operand) (rest : List Word) (e : Register → ℕ) → Fine cold rest e → Fine cold (argument_words T f g vs xs ++ rest) e
+  arguments_fine f g [] xs rest e more = more
+  arguments_fine f g (v ∷ vs) [] rest e more = more
+  arguments_fine f g (v ∷ vs) (x ∷ xs) rest e more =
+      let last : Word = one (Store (cluster_of_operand T f x) (bytes (T.slot g v)) (stack_on (cluster_of_operand T f x)) (fetched T f x)) in
+      subst (λ ws. Fine cold ws e) (sym (append_assoc (fetch_words T f T.frame x) (last ∷ argument_words T f g vs xs) rest))
+      (fetch_fine f T.frame x (last ∷ (argument_words T f g vs xs ++ rest)) e (store_fine (cluster_of_operand T f x) (bytes (T.slot g v)) (stack_on (cluster_of_operand T f x)) (fetched T f x) (argument_words T f g vs xs ++ rest) e (arguments_fine f g vs xs rest e more)))
+
+  pub result_fine : (f : ℕ) (result : Option ℕ) (rest : List Word) (e : Register → ℕ) → Fine cold rest e → Fine cold (result_words T f result ++ rest) e
+  result_fine f None rest e more = more
+  result_fine f (Some v) rest e more = by (is_slotted (kept T f v))
+    where
+      by : (b : Bool) → Fine cold ((if b then one (Store 0 (bytes (T.slot f v)) (stack_on 0) (Held answer)) ∷ [] else one (Move (home T f v) (general_of T f (v ∷ []) v) (Held answer)) ∷ waited T ∷ []) ++ rest) e
+      by true = store_fine 0 (bytes (T.slot f v)) (stack_on 0) (Held answer) rest e more
+      by false = settle (Move (home T f v) (general_of T f (v ∷ []) v) (Held answer) ∷ []) rest e refl (λ q j. j) more
+
+  -- the words that move the stack pointers
+
+  spread_falls : (g : ℕ → Operation) → ((k : ℕ) (ops : List Operation) → falls (g k ∷ ops) ≡ falls ops) → (j n : ℕ) → falls (map g (numbers j n)) ≡ true
+  spread_falls g h j zero = refl
+  spread_falls g h j (suc n) = h j (map g (numbers (j + 1) n)) ∙ spread_falls g h (j + 1) n
+
+  spread_jumps : (g : ℕ → Operation) → ((k q : ℕ) (ops : List Operation) → Jumps (g k ∷ ops) q → Jumps ops q) → (j n q : ℕ) → Jumps (map g (numbers j n)) q → ⊥
+  spread_jumps g h j zero q x = x
+  spread_jumps g h j (suc n) q x = spread_jumps g h (j + 1) n q (h j q (map g (numbers (j + 1) n)) x)
+
+  pub move_fine : (z : ℤ) (rest : List Word) (e : Register → ℕ) → Fine cold rest e → Fine cold (move_stack T z ++ rest) e
+  move_fine z rest e more =
+      let g : ℕ → Operation = λ k. Compute k Add (InGeneral (stack_on k)) (Held (stack_on k)) (Number z) in
+      settle (on_clusters T.machine.clusters g) rest e (spread_falls g (λ k ops. refl) 0 T.machine.clusters) (λ q j. spread_jumps g (λ k q ops x. x) 0 T.machine.clusters q j) more
+
+  -- pieces
+
+  pub start_fine : (main : ℕ) (e : Register → ℕ) → Fine cold (start_words T main) e
+  start_fine main e =
+      let g : ℕ → Operation = λ k. Move k (stack_on k) (Number (bytes (first_frame T))) in
+      let rest : List Word = one (Call (T.entry main)) ∷ one (Halt (Held answer)) ∷ [] in
+      settle (on_clusters T.machine.clusters g) rest e (spread_falls g (λ k ops. refl) 0 T.machine.clusters) (λ q j. spread_jumps g (λ k q ops x. x) 0 T.machine.clusters q j)
+      (call_fine (T.entry main) (one (Halt (Held answer)) ∷ []) e (halt_fine (Held answer) [] e (nothing_fine e)))
+
+  pub call_words_fine : (f p g : ℕ) (xs : List Operand) (e : Register → ℕ) → Fine cold (call_words T f p g xs) e
+  call_words_fine f p g xs e =
+      let w3 : List Word = argument_words T f g (parameters_of T g) xs ++ one (Call (T.entry g)) ∷ [] in
+      let w2 : List Word = move_stack T (neg_ℤ (bytes T.frame)) ++ w3 in
+      let w1 : List Word = one (BranchOn 0 true T.depth_trap) ∷ w2 in
+      let test : Operation = Compute 0 (ToBranch Ltu) (InBranch (record { cluster = 0; number = 0 })) (Held (stack_on 0)) (Number (bytes (T.globals + T.frame))) in
+      save_fine f (T.saved f p) (T.saved f p) (one test ∷ waited T ∷ w1) e
+      (settle (test ∷ []) w1 e refl (λ q j. j)
+      (branch_fine 0 T.depth_trap true w2 e
+      (move_fine (neg_ℤ (bytes T.frame)) w3 e
+      (arguments_fine f g (parameters_of T g) xs (one (Call (T.entry g)) ∷ []) e (call_fine (T.entry g) [] e (nothing_fine e))))))
+
+  -- the link is loaded while the answer may be in flight
+  pub return_fine : (f : ℕ) (x : Operand) (e : Register → ℕ) → Fine cold (return_words T f x) e
+  return_fine f x e =
+      let w3 : List Word = one Return ∷ [] in
+      let w2 : List Word = one (ToLink (Held (general 0 3))) ∷ waited T ∷ w3 in
+      let load : Operation = Load 0 (general 0 3) (pos 0) (stack_on 0) false in
+      let move : Operation = Move 0 answer (fetched T f x) in
+      let answered : List Register = InGeneral answer ∷ [] in
+      let off : (r : Register) → Touches (load ∷ []) r → lift T.pause cold answered r ≡ 0 = λ r t. ⊎_elim
+      (λ i. ⊎_elim (λ q. subst (λ y. lift T.pause cold answered y ≡ 0) (sym q) refl) (λ z. absurd z) i)
+      (λ i. ⊎_elim (λ q. subst (λ y. lift T.pause cold answered y ≡ 0) (sym q) refl) (λ z. absurd z) i) t.0 in
+      fetch_fine f 0 x (one move ∷ one load ∷ waited T ∷ w2) e
+      (word_fine T.machine heat T.pause short cold [] (move ∷ []) (one load ∷ waited T ∷ w2) e refl (λ q r j. absurd j) (λ r t. refl)
+      (word_fine T.machine heat T.pause short cold answered (load ∷ []) (waited T ∷ w2) e refl (λ q r j. absurd j) off
+      (wait_fine T.machine heat T.pause short cold (InGeneral (general 0 3) ∷ answered) w2 e
+      (settle (ToLink (Held (general 0 3)) ∷ []) w3 e refl (λ q j. j) (go_back_fine [] e (nothing_fine e))))))
