@@ -14,3 +14,5 @@ pub mod JoinCopies
 pub mod ExitWaits
 pub mod Planning
 pub mod Pushing
+pub mod PlanFits
+pub mod Alone

@@ -1,3 +1,4 @@
 pub mod Planned
 pub mod Meets
 pub mod PlanLaws
+pub mod RegionPlans

@@ -250,9 +250,7 @@ fn is_freed_by(words: &[u32], splits: &[EdgeCopies], place: u32) -> bool
     ensures { result ≡ list_any (λ (s : EdgeCopies). nat_lt s.split place && nat_le (word_at words.now place) (word_at words.now s.split)) splits.now }
 {
     let word = word_at(words, place);
-    splits
-        .iter()
-        .any(|split| split.split < place && word <= word_at(words, split.split))
+    splits.iter().any(|split| split.split < place && word <= word_at(words, split.split))
 }
 
 fn dismissed_if(freed: bool, op: Op) -> Op
@@ -267,7 +265,10 @@ fn dismissed(op: Op) -> Op
 {
     match op {
         Op::Load {
-            to, array, place, ..
+            to,
+            array,
+            place,
+            ..
         } => Op::Load {
             to,
             array,
