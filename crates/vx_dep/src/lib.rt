@@ -16,4 +16,6 @@ pub use deps::{Deps, pairs};
 #[cfg(test)]
 mod fixtures;
 #[cfg(test)]
+mod judge_tests;
+#[cfg(test)]
 mod tests;

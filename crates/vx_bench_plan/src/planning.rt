@@ -1,0 +1,95 @@
+// The calls of planning on one trace: clusters, delays, words, copies at splits and at joins.
+
+ghost use Rattle.std.specs.Prelude.{◌≡◌, true, [], length, IfOk};
+ghost use Rattle.vx_bug.specs.Further.{RoomForEach};
+ghost use Rattle.vx_bench_plan.specs.Plannable.{is_plannable};
+
+use crate::plannable::is_plannable;
+use std::alloc::Global;
+use vx_base::listed::Listed;
+use vx_base::outcome::NoMemory;
+use vx_bug::assign;
+use vx_bug::clusters::Clusters;
+use vx_dep::mode::Mode;
+use vx_dep::pairs;
+use vx_flow::trace::{Homes, Placed, Trace};
+use vx_join::at_joins;
+use vx_machine::Machine;
+use vx_sched::schedule;
+use vx_split::at_splits;
+
+/// What is planned for a trace.
+#[derive(Clone, Copy)]
+pub(crate) struct Lengths {
+    /// How many words it has where operations pass splits and joins.
+    pub(crate) free: u32,
+    /// How many it has where they do not.
+    pub(crate) barred: u32,
+}
+
+/// The lengths of a trace in words. None where a condition of a call does not hold.
+pub(crate) fn plan(
+    alloc: Global,
+    trace: &Trace,
+    machine: &Machine,
+) -> Result<Option<Lengths>, NoMemory> {
+    if !is_plannable(trace) {
+        return Ok(None);
+    }
+    let clusters = clusters_of(alloc, trace, machine)?;
+    if clusters.clustered.clusters.len() != clusters.clustered.trace.ops.len() {
+        return Ok(None);
+    }
+    Ok(Some(Lengths {
+        free: length_in(alloc, &clusters, machine, Mode::Free)?,
+        barred: length_in(alloc, &clusters, machine, Mode::Barred)?,
+    }))
+}
+
+/// The clusters of a trace where no value has a home yet.
+#[tactic(auto, using(crate::proofs::Conditions::bound_at_home, crate::proofs::Conditions::fixed_at_home, crate::proofs::Conditions::fixed_reads_here, crate::proofs::Conditions::clusters_are_there, crate::proofs::Conditions::values_are_there, crate::proofs::Conditions::copies_have_numbers, crate::proofs::Conditions::is_well_formed))]
+fn clusters_of(alloc: Global, trace: &Trace, machine: &Machine) -> Result<Clusters, NoMemory>
+    requires { is_plannable trace.now ≡ true }
+    ensures { IfOk result (λ r. RoomForEach machine.now r) }
+{
+    let homes = no_homes(alloc);
+    assign(alloc, trace, machine, &homes)
+}
+
+fn no_homes(alloc: Global) -> Homes
+    ensures { result.clusters ≡ [] }
+{
+    Homes {
+        clusters: Listed::new(alloc),
+    }
+}
+
+/// The length of a trace in one mode, its copies at splits and joins found too.
+fn length_in(
+    alloc: Global,
+    clusters: &Clusters,
+    machine: &Machine,
+    mode: Mode,
+) -> Result<u32, NoMemory>
+    requires each { length clusters.now.clustered.clusters ≡ length clusters.now.clustered.trace.ops }
+    requires room { RoomForEach machine.now clusters.now }
+{
+    let placed = placed(alloc, clusters, machine, mode)?;
+    let _edges = at_splits(alloc, &placed)?;
+    let _rejoins = at_joins(alloc, &placed)?;
+    Ok(placed.length)
+}
+
+#[tactic(auto, using(crate::proofs::Conditions::own_mode, crate::proofs::Conditions::alone))]
+fn placed(
+    alloc: Global,
+    clusters: &Clusters,
+    machine: &Machine,
+    mode: Mode,
+) -> Result<Placed, NoMemory>
+    requires each { length clusters.now.clustered.clusters ≡ length clusters.now.clustered.trace.ops }
+    requires room { RoomForEach machine.now clusters.now }
+{
+    let deps = pairs(alloc, &clusters.clustered.trace, machine, mode)?;
+    schedule(alloc, &clusters.clustered, &clusters.homes, &deps, machine)
+}
