@@ -1,11 +1,11 @@
 -- What one more route does to the nodes that are marked, and what is marked in the end.
-use Rattle.std.proofs.Common.{◌≡◌, ◌⊎◌, inl, inr, ◌↔◌, ℕ, zero, suc, ◌+◌, ◌<◌, Bool, true, false, ◌==◌, ◌&&◌, ◌||◌, cond, List, [], ◌∷◌, ◌++◌, length, slice_get, slice_set, Option, Some, None, refl, sym, ap, subst, arith, eq-eqb, eqb-true, drop, drop-cons, get_or}
+use Rattle.std.proofs.Common.{◌≡◌, ◌⊎◌, inl, inr, ◌↔◌, ℕ, zero, suc, ◌+◌, ◌<◌, Bool, true, false, ◌==◌, ◌&&◌, ◌||◌, cond, List, [], ◌∷◌, ◌++◌, length, slice_get, slice_set, Option, Some, None, refl, sym, ap, subst, ◌∙◌, arith, eq-eqb, eqb-true, drop, drop-cons, get_or}
 use Rattle.std.specs.List.{list_any}
 use Rattle.vx_flow.specs.declared.routes.Route.{Route}
 use Rattle.vx_flow.specs.Effects.{IsIn}
 use Rattle.vx_flow.specs.Live.{first_touch, LiveOn}
-use Rattle.vx_flow.specs.Rows.{is_marked}
-use Rattle.vx_flow.specs.Closing.{BeginWithin, Closing, Starting, is_read, is_untouched, marked_pending, marked_row, passes, pending_passed, pending_started, row_passed, row_started, starts}
+use Rattle.vx_flow.specs.Rows.{Added, is_marked, row_at}
+use Rattle.vx_flow.specs.Closing.{BeginWithin, Closing, PutUnder, Spreads, Starting, cleared_row, is_read, is_untouched, marked_pending, marked_row, passes, pending_passed, pending_started, row_passed, row_started, starts}
 use Rattle.vx_flow.proofs.Members.{in_left, in_last, in_front_or_last}
 
 -- marks
@@ -270,3 +270,153 @@ unmarked_more (x ∷ row) (suc b) h = unmarked_more row b h
 pub empty_list : {A : Type 0} (xs : List A) → length xs ≡ 0 → xs ≡ []
 empty_list [] h = refl
 empty_list (x ∷ xs) h = absurd (omega arith)
+
+-- what following does to marks, and to what pends
+
+spreads_none : (row : List Bool) (pending : List ℕ) → Spreads row row pending pending
+spreads_none row pending = record { keeps = λ b m. m; anew = λ b m. inl m; pends = λ b m. m }
+
+spreads_by : (row : List Bool) (pending : List ℕ) (n : ℕ) → n < length row → (t : Bool) → Spreads row (cond t (marked_row row n) row) pending (cond t (marked_pending row pending n) pending)
+spreads_by row pending n h true =
+    let m = marks row pending n h in
+    record { keeps = m.keeps; anew = λ b k. elim (m.only b k) [ inl a ↦ inl a | inr q ↦ inr q.1 ]; pends = m.pending_keeps }
+spreads_by row pending n h false = spreads_none row pending
+
+spreads_on : (routes : List Route) (v node i : ℕ) (o : Option Route) (row : List Bool) (pending : List ℕ) → BeginWithin (length row) routes → slice_get routes i ≡ o → Spreads row (row_passed o v node row) pending (pending_passed o v node row pending)
+spreads_on routes v node i None row pending w e = spreads_none row pending
+spreads_on routes v node i (Some r) row pending w e = spreads_by row pending r.from (w i r e) (passes r v node)
+
+spreads_then : (a b c : List Bool) (p q r : List ℕ) → Spreads a b p q → Spreads b c q r → Spreads a c p r
+spreads_then a b c p q r s t = record {
+  keeps = λ n m. t.keeps n (s.keeps n m);
+  anew = λ n m. elim (t.anew n m) [ inl k ↦ elim (s.anew n k) [ inl x ↦ inl x | inr y ↦ inr (t.pends n y) ] | inr k ↦ inr k ];
+  pends = λ n m. t.pends n (s.pends n m);
+}
+
+pub spreads_along : (routes : List Route) (v node i : ℕ) (first row after : List Bool) (begun pending later : List ℕ) → BeginWithin (length row) routes → Spreads first row begun pending →
+    after ≡ row_passed (slice_get routes i) v node row → later ≡ pending_passed (slice_get routes i) v node row pending → Spreads first after begun later
+spreads_along routes v node i first row after begun pending later w s e f =
+    spreads_then first row after begun pending later s (subst (λ r. Spreads row r pending later) (sym e) (subst (λ p. Spreads row (row_passed (slice_get routes i) v node row) pending p) (sym f) (spreads_on routes v node i (slice_get routes i) row pending w refl)))
+
+-- each marked node pends or has been found
+pub record Tracked (row : List Bool) (pending found : List ℕ) : Type 0 where
+  pub each : (b : ℕ) → is_marked row b ≡ true → IsIn b pending ⊎ IsIn b found
+  pub marked : (b : ℕ) → IsIn b found → is_marked row b ≡ true
+
+pub tracked_first : (row : List Bool) (pending : List ℕ) → ((b : ℕ) → is_marked row b ≡ true → IsIn b pending) → Tracked row pending []
+tracked_first row pending h = record { each = λ b m. inl (h b m); marked = λ b m. absurd m }
+
+-- a pending node is found, and nodes that are marked from it pend
+pub tracked_next : (row after : List Bool) (pending rest later found more : List ℕ) (node : ℕ) → Tracked row pending found → is_marked row node ≡ true → pending ≡ rest ++ node ∷ [] → more ≡ found ++ node ∷ [] → Spreads row after rest later → Tracked after later more
+tracked_next row after pending rest later found more node t m e f s = record {
+  each = λ b k. elim (s.anew b k) [
+    | inl a ↦ elim (t.each b a) [
+      | inl p ↦ elim (in_front_or_last b node rest (subst (IsIn b) e p)) [
+        | inl x ↦ inl (s.pends b x)
+        | inr q ↦ inr (subst (IsIn b) (sym f) (subst (λ x. IsIn x (found ++ node ∷ [])) (sym q) (in_last node found)))
+      ]
+      | inr p ↦ inr (subst (IsIn b) (sym f) (in_left b found (node ∷ []) p))
+    ]
+    | inr a ↦ inl a
+  ];
+  marked = λ b k. elim (in_front_or_last b node found (subst (IsIn b) f k)) [
+    | inl p ↦ s.keeps b (t.marked b p)
+    | inr q ↦ s.keeps b (subst (λ x. is_marked row x ≡ true) (sym q) m)
+  ];
+}
+
+pub tracked_all : (row : List Bool) (found : List ℕ) → Tracked row [] found → (b : ℕ) → (is_marked row b ≡ true) ↔ IsIn b found
+tracked_all row found t b = (λ m. elim (t.each b m) [ inl p ↦ absurd p | inr p ↦ p ], t.marked b)
+
+-- marks are taken away
+
+pub marked_below : (row : List Bool) (b : ℕ) → is_marked row b ≡ true → b < length row
+marked_below [] b h = absurd (cc)
+marked_below (x ∷ row) zero h = omega arith
+marked_below (x ∷ row) (suc b) h = let k = marked_below row b h in omega arith
+
+clear_only : (row : List Bool) (p b : ℕ) → is_marked (slice_set row p false) b ≡ true → (is_marked row b ≡ true) × (b ≡ p → ⊥)
+clear_only [] p b h = absurd (cc)
+clear_only (x ∷ row) zero zero h = absurd (cc)
+clear_only (x ∷ row) zero (suc b) h = (h, λ e. absurd (omega (arith, e)))
+clear_only (x ∷ row) (suc p) zero h = (h, λ e. absurd (omega (arith, e)))
+clear_only (x ∷ row) (suc p) (suc b) h = let k = clear_only row p b h in (k.0, λ e. k.1 (omega (arith, e)))
+
+clear_rest : (row : List Bool) (p b : ℕ) → is_marked (slice_set row p false) b ≡ false → (is_marked row b ≡ false) ⊎ (b ≡ p)
+clear_rest [] p b h = inl h
+clear_rest (x ∷ row) zero zero h = inr refl
+clear_rest (x ∷ row) zero (suc b) h = inl h
+clear_rest (x ∷ row) (suc p) zero h = inl h
+clear_rest (x ∷ row) (suc p) (suc b) h = elim (clear_rest row p b h) [ inl m ↦ inl m | inr e ↦ inr (ap suc e) ]
+
+both_ways : (t : Bool) → t ≡ true → t ≡ false → ⊥
+both_ways true e f = absurd (cc)
+both_ways false e f = absurd (cc)
+
+-- so far: the value is under each node whose mark is away, and the nodes that are still marked are to come
+pub record Putting (value : ℕ) (first marks : List Bool) (before now : List (List ℕ)) (todo : List ℕ) : Type 0 where
+  pub comes : (b : ℕ) → is_marked marks b ≡ true → IsIn b todo
+  pub was : (b : ℕ) → is_marked marks b ≡ true → is_marked first b ≡ true
+  pub still : (b : ℕ) → is_marked marks b ≡ true → row_at now b ≡ row_at before b
+  pub put : (b : ℕ) → is_marked first b ≡ true → is_marked marks b ≡ false → row_at now b ≡ row_at before b ++ value ∷ []
+  pub other : (b : ℕ) → is_marked first b ≡ false → row_at now b ≡ row_at before b
+
+pub putting_first : (value : ℕ) (marks : List Bool) (rows : List (List ℕ)) (todo : List ℕ) → ((b : ℕ) → is_marked marks b ≡ true → IsIn b todo) → Putting value marks marks rows rows todo
+putting_first value marks rows todo h = record {
+  comes = h;
+  was = λ b m. m;
+  still = λ b m. refl;
+  put = λ b m n. absurd (both_ways (is_marked marks b) m n);
+  other = λ b m. refl;
+}
+
+putting_by : (value : ℕ) (first row : List Bool) (before now after : List (List ℕ)) (node : ℕ) (todo : List ℕ) → Putting value first row before now (node ∷ todo) → (t : Bool) → is_marked row node ≡ t →
+    (is_marked row node ≡ true → Added node value now after) → (is_marked row node ≡ false → after ≡ now) → Putting value first (cond t (slice_set row node false) row) before after todo
+putting_by value first row before now after node todo s true e a n =
+    let d = a e in
+    record {
+      comes = λ b m. let k = clear_only row node b m in elim (s.comes b k.0) [ inl q ↦ absurd (k.1 q) | inr q ↦ q ];
+      was = λ b m. s.was b (clear_only row node b m).0;
+      still = λ b m. let k = clear_only row node b m in d.elsewhere b k.1 ∙ s.still b k.0;
+      put = λ b m z. at_node b (is_marked row b) refl m z d;
+      other = λ b m. d.elsewhere b (λ q. both_ways (is_marked first b) (subst (λ x. is_marked first x ≡ true) (sym q) (s.was node e)) m) ∙ s.other b m;
+    }
+  where
+    at_node : (b : ℕ) (u : Bool) → is_marked row b ≡ u → is_marked first b ≡ true → is_marked (slice_set row node false) b ≡ false → Added node value now after → row_at after b ≡ row_at before b ++ value ∷ []
+    at_node b false u m z d = d.elsewhere b (λ q. both_ways (is_marked row b) (subst (λ x. is_marked row x ≡ true) (sym q) e) u) ∙ s.put b m u
+    at_node b true u m z d = elim (clear_rest row node b z) [
+      | inl k ↦ absurd (both_ways (is_marked row b) u k)
+      | inr q ↦ subst (λ x. row_at after x ≡ row_at before x ++ value ∷ []) (sym q) (d.there ∙ ap (λ l. l ++ value ∷ []) (s.still node e))
+    ]
+putting_by value first row before now after node todo s false e a n =
+    subst (λ rows. Putting value first row before rows todo) (sym (n e)) (record {
+      comes = λ b m. elim (s.comes b m) [ inl q ↦ absurd (both_ways (is_marked row node) (subst (λ x. is_marked row x ≡ true) q m) e) | inr q ↦ q ];
+      was = s.was;
+      still = s.still;
+      put = s.put;
+      other = s.other;
+    })
+
+pub putting_along : (value : ℕ) (first marks later : List Bool) (before now after : List (List ℕ)) (found : List ℕ) (i : ℕ) → i < length found → Putting value first marks before now (drop i found) → later ≡ cleared_row marks (get_or found i 0) →
+    (is_marked marks (get_or found i 0) ≡ true → Added (get_or found i 0) value now after) → (is_marked marks (get_or found i 0) ≡ false → after ≡ now) → Putting value first later before after (drop (i + 1) found)
+putting_along value first marks later before now after found i h s e a n =
+    let node = get_or found i 0 in
+    let k : suc i ≡ i + 1 = omega arith in
+    subst (λ j. Putting value first later before after (drop j found)) k
+    (subst (λ m. Putting value first m before after (drop (suc i) found)) (sym e)
+    (putting_by value first marks before now after node (drop (suc i) found) (subst (λ l. Putting value first marks before now l) (drop-cons found i 0 h) s) (is_marked marks node) refl a n))
+
+true_or_false : (t : Bool) → (t ≡ true) ⊎ (t ≡ false)
+true_or_false true = inl refl
+true_or_false false = inr refl
+
+pub putting_ends : (value : ℕ) (first marks : List Bool) (before now : List (List ℕ)) → Putting value first marks before now [] → PutUnder value first before now
+putting_ends value first marks before now s = record {
+  marked = λ b m. elim (true_or_false (is_marked marks b)) [ inl k ↦ absurd (s.comes b k) | inr k ↦ s.put b m k ];
+  unmarked = s.other;
+}
+
+pub in_along : (found : List ℕ) (i : ℕ) → i < length found → IsIn (get_or found i 0) found
+in_along [] i h = absurd (omega arith)
+in_along (x ∷ xs) zero h = inl refl
+in_along (x ∷ xs) (suc i) h = inr (in_along xs i (omega arith))

@@ -52,7 +52,7 @@ listing_step touches index before now after t rest s k n = record {
 
 -- the routes before number n are listed
 
-at_or_after : (n i : ℕ) → n ≤ i → (n ≡ i) ⊎ (n + 1 ≤ i)
+pub at_or_after : (n i : ℕ) → n ≤ i → (n ≡ i) ⊎ (n + 1 ≤ i)
 at_or_after zero zero h = inl refl
 at_or_after zero (suc i) h = inr (omega arith)
 at_or_after (suc n) zero h = absurd (omega arith)

@@ -4,6 +4,7 @@ pub mod Members
 pub mod IndexSteps
 pub mod LiveRoutes
 pub mod ClosingSteps
+pub mod Ascending
 pub mod WalkSteps
 pub mod HeaderSteps
 pub mod SoundLeads

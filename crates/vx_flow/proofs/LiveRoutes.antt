@@ -16,9 +16,10 @@ use Rattle.vx_flow.specs.declared.routes.Route.{Route}
 use Rattle.vx_flow.specs.Effects.{IsIn, value_in, reads, writes}
 use Rattle.vx_flow.specs.Sound.{targets_of, results_of_exit}
 use Rattle.vx_flow.specs.Live.{IsLive, LiveOn, ReadsFirst, NeverWrites, reads_of_exit, first_touch, touch, operand_touches, touches_of, touches_of_exit, route_of, routes_from}
-use Rattle.vx_flow.specs.Closing.{BeginWithin, ReadersFound}
-use Rattle.vx_flow.specs.Rows.{is_marked, lives, row_at}
-use Rattle.vx_flow.proofs.ClosingSteps.{empty_list}
+use Rattle.vx_flow.specs.Closing.{BeginWithin, PutUnder, ReadersFound}
+use Rattle.vx_flow.specs.Rows.{Rising, is_marked, lives, row_at}
+use Rattle.vx_flow.proofs.ClosingSteps.{any_in, in_any}
+use Rattle.vx_flow.proofs.Members.{in_front_or_last, in_last, in_left}
 use Rattle.vx_flow.proofs.IndexSteps.{get_below}
 
 -- blocks and routes by number
@@ -268,43 +269,48 @@ module _ (g : Graph) where
 
 -- rows of live values
 
-unmarked_empty : (b : ℕ) → is_marked [] b ≡ true → ⊥
-unmarked_empty b h = absurd (cc)
-
-length_more : {A : Type 0} (xs : List A) (x : A) → length (xs ++ x ∷ []) ≡ length xs + 1
-length_more [] x = refl
-length_more (y ∷ xs) x = let h = length_more xs x in omega arith
-
 none_live : (routes : List Route) (v : ℕ) → ((i : ℕ) (r : Route) → slice_get routes i ≡ Some r → first_touch v r.touches ≡ Some true → ⊥) → (b u : ℕ) → u ≡ v → LiveOn routes b u → ⊥
 none_live routes v n b u w (LiveOn.here {r = r} i e q f) = n i r e (subst (λ x. first_touch x r.touches ≡ Some true) w f)
 none_live routes v n b u w (LiveOn.beyond {c = c} i e q f t l) = none_live routes v n c u w l
-
--- no route reads the value
-pub empty_row : (routes : List Route) (v : ℕ) (readers : List ℕ) → length readers ≡ 0 → ((i : ℕ) (r : Route) → slice_get routes i ≡ Some r → first_touch v r.touches ≡ Some true → IsIn i readers) → (row : List Bool) → row ≡ [] → (b : ℕ) → (is_marked row b ≡ true) ↔ LiveOn routes b v
-empty_row routes v readers z h row e b =
-    let k : readers ≡ [] = empty_list readers z in (
-      λ m. absurd (unmarked_empty b (subst (λ r. is_marked r b ≡ true) e m)),
-      λ l. absurd (none_live routes v (λ i r s f. subst (IsIn i) k (h i r s f)) b v refl l),
-    )
 
 row_beyond : {A : Type 0} (rows : List (List A)) (p : ℕ) → length rows ≤ p → row_at rows p ≡ []
 row_beyond [] p h = refl
 row_beyond (r ∷ rows) zero h = absurd (omega arith)
 row_beyond (r ∷ rows) (suc p) h = row_beyond rows p (omega arith)
 
-row_last : {A : Type 0} (rows : List (List A)) (row : List A) → row_at (rows ++ row ∷ []) (length rows) ≡ row
-row_last [] row = refl
-row_last (r ∷ rows) row = row_last rows row
+-- ascending lists
 
-row_before : {A : Type 0} (rows : List (List A)) (row : List A) (p : ℕ) → p < length rows → row_at (rows ++ row ∷ []) p ≡ row_at rows p
-row_before [] row p h = absurd (omega arith)
-row_before (r ∷ rows) row zero h = refl
-row_before (r ∷ rows) row (suc p) h = row_before rows row p (omega arith)
+got_is_in : (xs : List ℕ) (i x : ℕ) → slice_get xs i ≡ Some x → IsIn x xs
+got_is_in [] i x e = absurd (cc)
+got_is_in (y ∷ xs) zero x e = let q : y ≡ x = cc in inl (sym q)
+got_is_in (y ∷ xs) (suc i) x e = inr (got_is_in xs i x e)
 
--- the rows of the values below n
-pub record RowsBelow (routes : List Route) (rows : List (List Bool)) (n : ℕ) : Type 0 where
-  pub len : length rows ≡ n
-  pub exact : (b v : ℕ) → v < n → (lives rows b v ≡ true) ↔ LiveOn routes b v
+got_or_last : (xs : List ℕ) (n i x : ℕ) → slice_get (xs ++ n ∷ []) i ≡ Some x → (slice_get xs i ≡ Some x) ⊎ ((i ≡ length xs) × (x ≡ n))
+got_or_last [] n zero x e = let q : n ≡ x = cc in inr (refl, sym q)
+got_or_last [] n (suc i) x e = absurd (cc)
+got_or_last (y ∷ xs) n zero x e = inl e
+got_or_last (y ∷ xs) n (suc i) x e = elim (got_or_last xs n i x e) [ inl k ↦ inl k | inr q ↦ inr (ap suc q.0, q.1) ]
+
+rising_none : Rising []
+rising_none i j x y h e f = absurd (cc)
+
+rising_more : (xs : List ℕ) (n : ℕ) → Rising xs → ((x : ℕ) → IsIn x xs → x < n) → Rising (xs ++ n ∷ [])
+rising_more xs n s k i j x y h e f = elim (got_or_last xs n i x e) [
+  | inl a ↦ elim (got_or_last xs n j y f) [
+    | inl b ↦ s i j x y h a b
+    | inr q ↦ let z : x < n = k x (got_is_in xs i x a) in let w : y ≡ n = q.1 in omega (arith, z, w)
+  ]
+  | inr p ↦ elim (got_or_last xs n j y f) [
+    | inl b ↦ let z : j < length xs = get_below xs j y b in let w : i ≡ length xs = p.0 in absurd (omega (arith, z, w, h))
+    | inr q ↦ let z : i ≡ length xs = p.0 in let w : j ≡ length xs = q.0 in absurd (omega (arith, z, w, h))
+  ]
+]
+
+-- the rows of the values below n are exact
+pub record RowsBelow (routes : List Route) (rows : List (List ℕ)) (n : ℕ) : Type 0 where
+  pub exact : (b v : ℕ) → v < n → IsIn v (row_at rows b) ↔ LiveOn routes b v
+  pub below : (b v : ℕ) → IsIn v (row_at rows b) → v < n
+  pub rising : (b : ℕ) → Rising (row_at rows b)
 
 below_or_last : (v n : ℕ) → v < n + 1 → (v < n) ⊎ (v ≡ n)
 below_or_last zero zero h = inr refl
@@ -312,32 +318,70 @@ below_or_last zero (suc n) h = inl (omega arith)
 below_or_last (suc v) zero h = absurd (omega arith)
 below_or_last (suc v) (suc n) h = elim (below_or_last v n (omega arith)) [ inl k ↦ inl (omega arith) | inr e ↦ inr (ap suc e) ]
 
-pub rows_more : (routes : List Route) (rows after : List (List Bool)) (row : List Bool) (n : ℕ) → RowsBelow routes rows n → ((b : ℕ) → (is_marked row b ≡ true) ↔ LiveOn routes b n) → after ≡ rows ++ row ∷ [] → RowsBelow routes after (n + 1)
-rows_more routes rows after row n s h e = record {
-  len = ap length e ∙ length_more rows row ∙ ap (λ k. k + 1) s.len;
-  exact = λ b v k. elim (below_or_last v n k) [
-    | inl w ↦ let q : v < length rows = subst (λ m. v < m) (sym s.len) w in subst (λ r. (is_marked r b ≡ true) ↔ LiveOn routes b v) (sym (ap (λ l. row_at l v) e ∙ row_before rows row v q)) (s.exact b v w)
-    | inr w ↦ let q : v ≡ length rows = w ∙ sym s.len in
-        subst (λ r. (is_marked r b ≡ true) ↔ LiveOn routes b v) (sym (ap (λ l. row_at l v) e ∙ ap (row_at (rows ++ row ∷ [])) q ∙ row_last rows row)) (subst (λ x. (is_marked row b ≡ true) ↔ LiveOn routes b x) (sym w) (h b))
+-- what one row holds once value n is done
+record RowDone (routes : List Route) (row : List ℕ) (b n : ℕ) : Type 0 where
+  exact : (v : ℕ) → v < n → IsIn v row ↔ LiveOn routes b v
+  below : (v : ℕ) → IsIn v row → v < n
+  rising : Rising row
+
+row_with : (routes : List Route) (row : List ℕ) (b n : ℕ) → RowDone routes row b n → LiveOn routes b n → RowDone routes (row ++ n ∷ []) b (n + 1)
+row_with routes row b n s l = record {
+  exact = λ v k. elim (below_or_last v n k) [
+    | inl w ↦ let e = s.exact v w in (
+      λ m. elim (in_front_or_last v n row m) [ inl a ↦ e.0 a | inr q ↦ absurd (omega (arith, w, q)) ],
+      λ m. in_left v row (n ∷ []) (e.1 m),
+    )
+    | inr w ↦ (λ m. subst (LiveOn routes b) (sym w) l, λ m. subst (λ x. IsIn x (row ++ n ∷ [])) (sym w) (in_last n row))
   ];
+  below = λ v m. elim (in_front_or_last v n row m) [ inl a ↦ let h : v < n = s.below v a in omega (arith, h) | inr q ↦ let h : v ≡ n = q in omega (arith, h) ];
+  rising = rising_more row n s.rising s.below;
+}
+
+row_without : (routes : List Route) (row : List ℕ) (b n : ℕ) → RowDone routes row b n → (LiveOn routes b n → ⊥) → RowDone routes row b (n + 1)
+row_without routes row b n s l = record {
+  exact = λ v k. elim (below_or_last v n k) [
+    | inl w ↦ s.exact v w
+    | inr w ↦ (
+      λ m. let h : v < n = s.below v m in absurd (omega (arith, h, w)),
+      λ m. absurd (l (subst (LiveOn routes b) w m)),
+    )
+  ];
+  below = λ v m. let h : v < n = s.below v m in omega (arith, h);
+  rising = s.rising;
+}
+
+row_done : (routes : List Route) (rows after : List (List ℕ)) (marks : List Bool) (n b : ℕ) → RowsBelow routes rows n → ((is_marked marks b ≡ true) ↔ LiveOn routes b n) → PutUnder n marks rows after → (t : Bool) → is_marked marks b ≡ t → RowDone routes (row_at after b) b (n + 1)
+row_done routes rows after marks n b s h p true e =
+    subst (λ row. RowDone routes row b (n + 1)) (sym (p.marked b e)) (row_with routes (row_at rows b) b n (record { exact = s.exact b; below = s.below b; rising = s.rising b }) (h.0 e))
+row_done routes rows after marks n b s h p false e =
+    subst (λ row. RowDone routes row b (n + 1)) (sym (p.unmarked b e)) (row_without routes (row_at rows b) b n (record { exact = s.exact b; below = s.below b; rising = s.rising b }) (λ l. let w : true ≡ false = sym (h.1 l) ∙ e in absurd (cc)))
+
+pub rows_more : (routes : List Route) (rows after : List (List ℕ)) (marks : List Bool) (n : ℕ) → RowsBelow routes rows n → ((b : ℕ) → (is_marked marks b ≡ true) ↔ LiveOn routes b n) → PutUnder n marks rows after → RowsBelow routes after (n + 1)
+rows_more routes rows after marks n s h p = record {
+  exact = λ b. (row_done routes rows after marks n b s (h b) p (is_marked marks b) refl).exact;
+  below = λ b. (row_done routes rows after marks n b s (h b) p (is_marked marks b) refl).below;
+  rising = λ b. (row_done routes rows after marks n b s (h b) p (is_marked marks b) refl).rising;
 }
 
 pub rows_none : (routes : List Route) → RowsBelow routes [] 0
-rows_none routes = record { len = refl; exact = λ b v h. absurd (omega arith) }
+rows_none routes = record { exact = λ b v h. absurd (omega arith); below = λ b v m. absurd m; rising = λ b. rising_none }
 
 below_or_not : (v n : ℕ) → (v < n) ⊎ (n ≤ v)
 below_or_not v zero = inr (omega arith)
 below_or_not zero (suc n) = inl (omega arith)
 below_or_not (suc v) (suc n) = elim (below_or_not v n) [ inl h ↦ inl (omega arith) | inr h ↦ inr (omega arith) ]
 
--- the rows of all values that are read
-pub rows_all : (routes : List Route) (readers : List (List ℕ)) (rows : List (List Bool)) (n : ℕ) → ReadersFound routes readers → length readers ≡ n → RowsBelow routes rows n → (b v : ℕ) → (lives rows b v ≡ true) ↔ LiveOn routes b v
-rows_all routes readers rows n f z s b v = elim (below_or_not v n) [
+rows_in : (routes : List Route) (readers rows : List (List ℕ)) (n : ℕ) → ReadersFound routes readers → length readers ≡ n → RowsBelow routes rows n → (b v : ℕ) → IsIn v (row_at rows b) ↔ LiveOn routes b v
+rows_in routes readers rows n f z s b v = elim (below_or_not v n) [
   | inl h ↦ s.exact b v h
-  | inr h ↦
-      let p : length rows ≤ v = subst (λ m. m ≤ v) (sym s.len) h in
-      let q : length readers ≤ v = subst (λ m. m ≤ v) (sym z) h in (
-        λ m. absurd (unmarked_empty b (subst (λ r. is_marked r b ≡ true) (row_beyond rows v p) m)),
-        λ l. absurd (none_live routes v (λ i r e g. subst (IsIn i) (row_beyond readers v q) (f i v r e g)) b v refl l),
-      )
+  | inr h ↦ let q : length readers ≤ v = subst (λ m. m ≤ v) (sym z) h in (
+    λ m. let k : v < n = s.below b v m in absurd (omega (arith, h, k)),
+    λ l. absurd (none_live routes v (λ i r e g. subst (IsIn i) (row_beyond readers v q) (f i v r e g)) b v refl l),
+  )
 ]
+
+-- the rows of all values that are read
+pub rows_all : (routes : List Route) (readers rows : List (List ℕ)) (n : ℕ) → ReadersFound routes readers → length readers ≡ n → RowsBelow routes rows n → (b v : ℕ) → (lives rows b v ≡ true) ↔ LiveOn routes b v
+rows_all routes readers rows n f z s b v =
+    let e = rows_in routes readers rows n f z s b v in
+    (λ m. e.0 (any_in v (row_at rows b) m), λ l. in_any v (row_at rows b) (e.1 l))

@@ -1,7 +1,7 @@
 -- What is in a list, and in the rows of a table.
-use Rattle.std.proofs.Common.{◌≡◌, ◌⊎◌, inl, inr, ℕ, zero, suc, ◌<◌, List, [], ◌∷◌, ◌++◌, length, slice_index_or, slice_set, refl, sym, subst, ◌∙◌, arith}
+use Rattle.std.proofs.Common.{◌≡◌, ◌⊎◌, inl, inr, ℕ, zero, suc, ◌<◌, List, [], ◌∷◌, ◌++◌, length, slice_index_or, slice_set, refl, sym, ap, subst, ◌∙◌, arith}
 use Rattle.vx_flow.specs.Effects.{IsIn}
-use Rattle.vx_flow.specs.Rows.{row_at}
+use Rattle.vx_flow.specs.Rows.{Added, row_at}
 
 pub in_left : {A : Type 0} (x : A) (xs ys : List A) → IsIn x xs → IsIn x (xs ++ ys)
 in_left x [] ys h = absurd h
@@ -51,3 +51,19 @@ added_keeps old reached rows p row new x v h same e n q o m =
 
 pub added_has : {A : Type 0} (reached rows : List (List A)) (p : ℕ) (row new : List A) (x : A) → reached ≡ rows → p < length reached → new ≡ row ++ x ∷ [] → IsIn x (row_at (slice_set rows p new) p)
 added_has reached rows p row new x v h n = subst (IsIn x) (sym (set_there rows p new (subst (λ l. p < length l) v h) ∙ n)) (in_last x row)
+
+pub set_elsewhere : {A : Type 0} (rows : List (List A)) (p : ℕ) (x : List A) (q : ℕ) → (q ≡ p → ⊥) → row_at (slice_set rows p x) q ≡ row_at rows q
+set_elsewhere [] p x q n = refl
+set_elsewhere (r ∷ rows) zero x zero n = absurd (n refl)
+set_elsewhere (r ∷ rows) zero x (suc q) n = refl
+set_elsewhere (r ∷ rows) (suc p) x zero n = refl
+set_elsewhere (r ∷ rows) (suc p) x (suc q) n = set_elsewhere rows p x q (λ e. n (ap suc e))
+
+pub added_exact : (old reached rows : List (List ℕ)) (p : ℕ) (row new : List ℕ) (x : ℕ) → reached ≡ rows → p < length reached → ((q : ℕ) → row_at reached q ≡ row_at old q) → row ≡ slice_index_or rows p row → new ≡ row ++ x ∷ [] → Added p x old (slice_set rows p new)
+added_exact old reached rows p row new x v h same e n =
+    let k : p < length rows = subst (λ l. p < length l) v h in
+    let o : (q : ℕ) → row_at rows q ≡ row_at old q = λ q. ap (λ l. row_at l q) (sym v) ∙ same q in
+    record {
+      there = set_there rows p new k ∙ n ∙ ap (λ l. l ++ x ∷ []) (sym (row_is rows p row k e) ∙ o p);
+      elsewhere = λ q w. set_elsewhere rows p new q w ∙ o q;
+    }

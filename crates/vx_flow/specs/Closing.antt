@@ -75,3 +75,17 @@ pub record Closing (routes : List Route) (v : ℕ) (node : ℕ) (todo : List ℕ
   pub started : (i : ℕ) (r : Route) → slice_get routes i ≡ Some r → first_touch v r.touches ≡ Some true → is_marked row r.from ≡ true
   pub closed : (i c : ℕ) (r : Route) → slice_get routes i ≡ Some r → IsIn c r.to → first_touch v r.touches ≡ None → is_marked row c ≡ true →
       (is_marked row r.from ≡ true) ⊎ (IsIn c pending ⊎ ((c ≡ node) × IsIn i todo))
+
+-- no mark is taken away, what pends goes on pending, and what is marked anew pends
+pub record Spreads (row after : List Bool) (pending later : List ℕ) : Type 0 where
+  pub keeps : (b : ℕ) → is_marked row b ≡ true → is_marked after b ≡ true
+  pub anew : (b : ℕ) → is_marked after b ≡ true → (is_marked row b ≡ true) ⊎ IsIn b later
+  pub pends : (b : ℕ) → IsIn b pending → IsIn b later
+
+-- a value is put at the end of the row of each marked node, and the rows of all others are as they were
+pub record PutUnder (value : ℕ) (marks : List Bool) (before after : List (List ℕ)) : Type 0 where
+  pub marked : (b : ℕ) → is_marked marks b ≡ true → row_at after b ≡ row_at before b ++ value ∷ []
+  pub unmarked : (b : ℕ) → is_marked marks b ≡ false → row_at after b ≡ row_at before b
+
+abbrev pub cleared_row : List Bool → ℕ → List Bool
+cleared_row row node = if is_marked row node then slice_set row node false else row

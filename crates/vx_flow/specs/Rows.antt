@@ -1,5 +1,6 @@
 -- Rows of growing tables. A row that is not there is empty.
-use Rattle.std.specs.Prelude.{ℕ, Bool, false, List, [], slice_index_or}
+use Rattle.std.specs.Prelude.{◌≡◌, ◌==◌, ◌<◌, ◌∷◌, ◌++◌, ℕ, Bool, false, List, [], Some, slice_get, slice_index_or}
+use Rattle.std.specs.List.{list_any}
 use Rattle.vx_flow.specs.Effects.{IsIn}
 
 abbrev pub row_at : {A : Type 0} → List (List A) → ℕ → List A
@@ -13,6 +14,15 @@ is_marked row place = slice_index_or row place false
 abbrev pub RowsKept : List (List ℕ) → List (List ℕ) → Type 0
 RowsKept before after = (row other : ℕ) → IsIn other (row_at before row) → IsIn other (row_at after row)
 
--- value v is marked at block b
-abbrev pub lives : List (List Bool) → ℕ → ℕ → Bool
-lives rows b v = is_marked (row_at rows v) b
+-- an item is put at the end of one row, and all others are as they were
+pub record Added (place item : ℕ) (before after : List (List ℕ)) : Type 0 where
+  pub there : row_at after place ≡ row_at before place ++ item ∷ []
+  pub elsewhere : (row : ℕ) → (row ≡ place → ⊥) → row_at after row ≡ row_at before row
+
+-- value v is listed at block b
+abbrev pub lives : List (List ℕ) → ℕ → ℕ → Bool
+lives rows b v = list_any (λ u. u == v) (row_at rows b)
+
+-- each number is greater than those before it
+abbrev pub Rising : List ℕ → Type 0
+Rising xs = (i j x y : ℕ) → i < j → slice_get xs i ≡ Some x → slice_get xs j ≡ Some y → x < y

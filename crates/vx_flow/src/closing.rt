@@ -1,13 +1,14 @@
 // Where a value is live: nodes are marked from the routes that read it on, against the routes. specs/Closing.antt says
-// what holds meanwhile. The time is that of looking at the routes into the nodes that are marked.
+// what holds meanwhile. Then the value is listed under them, and no node is marked again. The time is that of looking at the
+// routes into the nodes that are marked.
 
-ghost use Rattle.std.specs.Prelude.{◌≡◌, ◌↔◌, ◌==◌, ◌<◌, ℕ, true, [], IfOk, Some, None, length, slice_get};
+ghost use Rattle.std.specs.Prelude.{◌≡◌, ◌↔◌, ◌==◌, ◌<◌, ℕ, true, false, [], IfOk, Some, None, length, slice_get};
 ghost use Rattle.vx_flow.specs.declared.routes.Route.{Route};
 ghost use Rattle.vx_flow.specs.Effects.{IsIn};
 ghost use Rattle.std.specs.List.{list_any};
 ghost use Rattle.vx_flow.specs.Live.{first_touch, LiveOn};
-ghost use Rattle.vx_flow.specs.Rows.{is_marked, row_at};
-ghost use Rattle.vx_flow.specs.Closing.{BeginWithin, Closing, EnteringFound, ReadersFound, Starting, marked_pending, marked_row, passes, pending_passed, pending_started, row_passed, row_started, starts};
+ghost use Rattle.vx_flow.specs.Rows.{Added, is_marked, row_at};
+ghost use Rattle.vx_flow.specs.Closing.{BeginWithin, Closing, EnteringFound, PutUnder, Spreads, Starting, cleared_row, marked_pending, marked_row, passes, pending_passed, pending_started, row_passed, row_started, starts};
 
 use crate::graph::{BlockId, Value};
 use crate::routes::{Route, Touch};
@@ -149,6 +150,7 @@ fn follow_all(
     requires within { BeginWithin (length row.old.items) routes.now }
     requires closing { Closing routes.now value node entering.now row.old.items pending.old.items }
     ensures closed { IfOk result (λ _. Closing routes.now value node [] row.new.items pending.new.items) }
+    ensures spreads { IfOk result (λ _. Spreads row.old.items row.new.items pending.old.items pending.new.items) }
     ensures len { length row.new.items ≡ length row.old.items }
 {
     for index in entering {
@@ -169,31 +171,75 @@ pub fn unmarked(alloc: Global, nodes: usize) -> Result<Vec<bool>, NoMemory>
     Ok(row)
 }
 
-/// Marks the nodes where a value is live. Each node pends once, so the bound of the loop is never met.
+/// Marks the nodes where a value is live, and gives them. Each node pends once, so the bound of the loop is never met.
 pub fn live_nodes(
     alloc: Global,
-    nodes: usize,
     routes: &[Route],
     entering: &Rows,
     readers: &[u32],
     value: Value,
-) -> Result<Listed<bool>, NoMemory>
-    requires within { BeginWithin nodes routes.now }
+    row: &mut Vec<bool>,
+) -> Result<Vec<BlockId>, NoMemory>
+    requires within { BeginWithin (length row.old.items) routes.now }
+    requires none { (b : ℕ) → is_marked row.old.items b ≡ true → ⊥ }
     requires entering { EnteringFound routes.now entering.now }
     requires readers { (i : ℕ) (r : Route) → slice_get routes.now i ≡ Some r → first_touch value r.touches ≡ Some true → IsIn i readers.now }
-    ensures exact { IfOk result (λ row. (b : ℕ) → (is_marked row b ≡ true) ↔ LiveOn routes.now b value) }
+    ensures exact { IfOk result (λ _. (b : ℕ) → (is_marked row.new.items b ≡ true) ↔ LiveOn routes.now b value) }
+    ensures found { IfOk result (λ found. (b : ℕ) → (is_marked row.new.items b ≡ true) ↔ IsIn b found.items) }
+    ensures len { IfOk result (λ _. length row.new.items ≡ length row.old.items) }
 {
-    let mut row = unmarked(alloc, nodes)?;
+    let mut found = Vec::new(alloc);
     let mut pending = Vec::new(alloc);
-    start_all(routes, readers, value, &mut row, &mut pending)?;
+    start_all(routes, readers, value, row, &mut pending)?;
     'pending: for _ in 0..u64::MAX {
         match pending.pop() {
             Some(node) => {
                 let routes_in = entering.of(node as usize);
-                follow_all(routes, routes_in, value, node, &mut row, &mut pending)?;
+                found.push(node)?;
+                follow_all(routes, routes_in, value, node, row, &mut pending)?;
             }
-            None => return Ok(Listed::from_vec(row)?),
+            None => return Ok(found),
         }
     }
     Err(NoMemory)
+}
+
+/// Takes the mark of a node away, and puts the value at the end of its row; a node that is not marked is let be.
+fn list_node(
+    rows: &mut Rows,
+    marks: &mut Vec<bool>,
+    node: BlockId,
+    value: Value,
+) -> Result<(), NoMemory>
+    requires { node < length marks.old.items }
+    ensures marks { IfOk result (λ _. marks.new.items ≡ cleared_row marks.old.items node) }
+    ensures added { IfOk result (λ _. is_marked marks.old.items node ≡ true → Added node value rows.old rows.new) }
+    ensures same { IfOk result (λ _. is_marked marks.old.items node ≡ false → rows.new ≡ rows.old) }
+    ensures len { length marks.new.items ≡ length marks.old.items }
+{
+    if marks[node as usize] {
+        marks[node as usize] = false;
+        rows.add(node as usize, value)?;
+    }
+    Ok(())
+}
+
+/// Puts the value at the end of the row of each marked node, of which each is among the nodes found, and takes the marks
+/// away.
+pub fn list_found(
+    rows: &mut Rows,
+    marks: &mut Vec<bool>,
+    found: &[BlockId],
+    value: Value,
+) -> Result<(), NoMemory>
+    requires within { (b : ℕ) → IsIn b found.now → b < length marks.old.items }
+    requires found { (b : ℕ) → is_marked marks.old.items b ≡ true → IsIn b found.now }
+    ensures listed { IfOk result (λ _. PutUnder value marks.old.items rows.old rows.new) }
+    ensures none { IfOk result (λ _. (b : ℕ) → is_marked marks.new.items b ≡ true → ⊥) }
+    ensures len { length marks.new.items ≡ length marks.old.items }
+{
+    for node in found {
+        list_node(rows, marks, *node, value)?;
+    }
+    Ok(())
 }

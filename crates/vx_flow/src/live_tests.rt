@@ -75,6 +75,19 @@ fn what_is_live(rt: HostRuntime) -> Result<(), Fail> {
     Ok(())
 }
 
+#[test]
+fn what_is_listed(rt: HostRuntime) -> Result<(), Fail> {
+    let graph = without_else(rt.alloc())?;
+    assert!(rt; graph.sound());
+    let live = live(rt.alloc(), &graph)?;
+    assert!(rt; live.values_at(0) == [1, 2].as_slice());
+    assert!(rt; live.values_at(1) == [1, 2, 3].as_slice());
+    assert!(rt; live.values_at(2) == [1, 2, 3].as_slice());
+    assert!(rt; live.values_at(3) == [1, 2, 3].as_slice());
+    assert!(rt; live.values_at(4).is_empty());
+    Ok(())
+}
+
 // Puts a route that touches one value at the end.
 fn add(
     alloc: Global,

@@ -1,16 +1,14 @@
 // Which values are live at the start of each node of a graph. The solver goes over routes, so that it serves blocks and
 // regions alike; `live` is for the blocks of a graph.
 
-ghost use Rattle.std.specs.Prelude.{◌≡◌, ◌↔◌, ℕ, true, length, ◌<◌, ◌^◌, ◌++◌, ◌∷◌, [], IfOk, IsTrue, Some, slice_get};
+ghost use Rattle.std.specs.Prelude.{◌≡◌, ◌↔◌, ℕ, length, ◌<◌, ◌^◌, ◌++◌, ◌∷◌, [], IfOk, IsTrue};
 ghost use Rattle.std.specs.List.{flat_map};
-ghost use Rattle.vx_flow.specs.declared.routes.Route.{Route};
-ghost use Rattle.vx_flow.specs.Effects.{IsIn};
 ghost use Rattle.vx_flow.specs.Sound.{targets_of};
-ghost use Rattle.vx_flow.specs.Live.{IsLive, LiveOn, first_touch, operand_touches, right_touches, route_of, routes_from, touch, touches_of, touches_of_exit};
-ghost use Rattle.vx_flow.specs.Rows.{is_marked, lives, row_at};
-ghost use Rattle.vx_flow.specs.Closing.{BeginWithin, EnteringFound};
+ghost use Rattle.vx_flow.specs.Live.{IsLive, LiveOn, operand_touches, right_touches, route_of, routes_from, touch, touches_of, touches_of_exit};
+ghost use Rattle.vx_flow.specs.Rows.{lives};
+ghost use Rattle.vx_flow.specs.Closing.{BeginWithin};
 
-use crate::closing::live_nodes;
+use crate::closing::{list_found, live_nodes, unmarked};
 use crate::graph::{Block, BlockId, Exit, Graph, Op, Operand, Value};
 use crate::live_rows::Live;
 use crate::route_index::{entering_of, readers_of};
@@ -32,7 +30,8 @@ pub fn live(alloc: Global, graph: &Graph) -> Result<Live, NoMemory>
 }
 
 /// The values that are live at the start of each node, where the ways from node to node are these routes. Each begins at
-/// one of so many nodes.
+/// one of so many nodes. Value after value, the nodes where it is live are marked, and then the value is listed under them
+/// and their marks are taken away: the time is that of what is live, not that of all nodes for each value.
 pub fn live_on(alloc: Global, nodes: usize, routes: &Listed<Route>) -> Result<Live, NoMemory>
     requires { BeginWithin nodes routes.now }
     ensures exact { IfOk result (λ live. (b : ℕ) (v : ℕ) → IsTrue (lives live b v) ↔ LiveOn routes.now b v) }
@@ -44,33 +43,21 @@ pub fn live_on(alloc: Global, nodes: usize, routes: &Listed<Route>) -> Result<Li
         Ok(values) => values,
         Err(_) => return Err(NoMemory),
     };
-    let mut live = Live::nowhere(alloc);
+    let mut rows = Rows::new(alloc);
+    let mut marks = unmarked(alloc, nodes)?;
     for value in 0..values {
         let read_by = readers.of(value as usize);
-        let row = live_row(alloc, nodes, routes.as_slice(), &entering, read_by, value)?;
-        live.push(row)?;
+        let found = live_nodes(
+            alloc,
+            routes.as_slice(),
+            &entering,
+            read_by,
+            value,
+            &mut marks,
+        )?;
+        list_found(&mut rows, &mut marks, found.as_slice(), value)?;
     }
-    Ok(live)
-}
-
-/// The nodes where a value is live; the row is empty where no route reads it.
-fn live_row(
-    alloc: Global,
-    nodes: usize,
-    routes: &[Route],
-    entering: &Rows,
-    readers: &[u32],
-    value: Value,
-) -> Result<Listed<bool>, NoMemory>
-    requires within { BeginWithin nodes routes.now }
-    requires entering { EnteringFound routes.now entering.now }
-    requires readers { (i : ℕ) (r : Route) → slice_get routes.now i ≡ Some r → first_touch value r.touches ≡ Some true → IsIn i readers.now }
-    ensures exact { IfOk result (λ row. (b : ℕ) → (is_marked row b ≡ true) ↔ LiveOn routes.now b value) }
-{
-    if readers.is_empty() {
-        return Ok(Listed::new(alloc));
-    }
-    live_nodes(alloc, nodes, routes, entering, readers, value)
+    Ok(Live::from_rows(rows))
 }
 
 /// The blocks as routes.

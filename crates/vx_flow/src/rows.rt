@@ -2,7 +2,7 @@
 
 ghost use Rattle.std.specs.Prelude.{◌≡◌, ◌<◌, ℕ, [], IfOk, length};
 ghost use Rattle.vx_flow.specs.Effects.{IsIn};
-ghost use Rattle.vx_flow.specs.Rows.{row_at, RowsKept};
+ghost use Rattle.vx_flow.specs.Rows.{row_at, Added, RowsKept};
 
 use std::alloc::Global;
 use std::marker::Model;
@@ -56,6 +56,7 @@ impl Rows {
     pub fn add(&mut self, place: usize, item: u32) -> Result<(), NoMemory>
         ensures keeps { IfOk result (λ _. RowsKept self.old self.new) }
         ensures has { IfOk result (λ _. IsIn item (row_at self.new place)) }
+        ensures exact { IfOk result (λ _. Added place item self.old self.new) }
     {
         self.reach(place)?;
         let row = &mut self.rows[place];

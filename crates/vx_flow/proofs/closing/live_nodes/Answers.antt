@@ -1,8 +1,9 @@
-use Rattle.std.proofs.Common.{◌≡◌, ◌↔◌, true, [], subst, sym, arith}
-use Rattle.vx_flow.specs.Live.{LiveOn}
+use Rattle.std.proofs.Common.{◌≡◌, true, [], subst, sym, ◌∙◌, arith}
+use Rattle.vx_flow.specs.Effects.{IsIn}
 use Rattle.vx_flow.specs.Rows.{is_marked, row_at}
-use Rattle.vx_flow.specs.Closing.{Closing}
-use Rattle.vx_flow.proofs.ClosingSteps.{closing_next, closing_exact, empty_list}
+use Rattle.vx_flow.specs.Closing.{BeginWithin, Closing}
+use Rattle.vx_flow.proofs.ClosingSteps.{closing_any, closing_exact, closing_next, empty_list, tracked_next}
+use Rattle.vx_flow.proofs.Members.{in_last}
 use Rattle.vx_flow.proofs.closing.live_nodes.Goals as goal
 
 pub follow_all-requires-clause-closing : goal.follow_all-requires-clause-closing
@@ -11,9 +12,22 @@ follow_all-requires-clause-closing c =
     (closing_next c.args.routes.now c.args.value 0 c.in-Some.node (row_at c.args.entering.now c.in-Some.node) c.pending.row.items c.pending.pending.items c.pop.new.self.items c.pending.invariant.so_far c.in-Some.ensures.items
     (λ i r q k. c.requires.entering i c.in-Some.node r q k))
 
-pub returns-in-None : goal.returns-in-None
-returns-in-None c =
+pub returns-in-None-clause-exact : goal.returns-in-None-clause-exact
+returns-in-None-clause-exact c =
     let h = c.in-None.ensures.cases in
     let e : c.pending.pending.items ≡ [] = empty_list c.pending.pending.items (omega arith) in
     let s : Closing c.args.routes.now c.args.value 0 [] c.pending.row.items [] = subst (λ p. Closing c.args.routes.now c.args.value 0 [] c.pending.row.items p) e c.pending.invariant.so_far in
-    record { exact = λ b. subst (λ r. (is_marked r b ≡ true) ↔ LiveOn c.args.routes.now b c.args.value) (sym c.in_ok-from_vec-in-None.ensures) (closing_exact c.args.routes.now c.args.value 0 c.pending.row.items s b) }
+    closing_exact c.args.routes.now c.args.value 0 c.pending.row.items s
+
+pub pending-preserved : goal.pending-preserved
+pending-preserved c =
+    let e = c.in-Some.ensures.items in
+    let node = c.in-Some.node in
+    let rest = c.pop.new.self.items in
+    let m : is_marked c.pending.row.items node ≡ true = c.pending.invariant.so_far.marked node (subst (IsIn node) (sym e) (in_last node rest)) in
+    record {
+      within = subst (λ n. BeginWithin n c.args.routes.now) (sym c.follow_all.ensures.len) c.pending.invariant.within;
+      so_far = closing_any c.args.routes.now c.args.value node 0 c.follow_all.new.row.items c.follow_all.new.pending.items c.in_ok-follow_all-in-Some.ensures.closed;
+      tracked = tracked_next c.pending.row.items c.follow_all.new.row.items c.pending.pending.items rest c.follow_all.new.pending.items c.pending.found.items c.push.new.self.items node c.pending.invariant.tracked m e c.in_ok-push-in-Some.ensures.items c.in_ok-follow_all-in-Some.ensures.spreads;
+      len = c.follow_all.ensures.len ∙ c.pending.invariant.len;
+    }
