@@ -45,11 +45,8 @@ spots_differ globals base le a b e =
     high : (c : ℕ) → globals ≤ c → spot_of globals base c ≡ base + (c - globals)
     high c h = ap (λ z. if z then c else base + (c - globals)) (le-ltb c globals h)
 
-one_name : (arrays : List Array) (a b : ℕ) (x y : Array) → slice_get arrays a ≡ Some x → slice_get arrays b ≡ Some y → a ≡ b → x.named ≡ y.named
-one_name arrays a b x y e f same = let g : slice_get arrays a ≡ slice_get arrays b = ap (slice_get arrays) same in let h : x ≡ y = cc in ap (λ (z : Array). z.named) h
-
-apart : (arrays : List Array) (globals base : ℕ) (texts : List (List ℕ)) → globals ≤ base → Apart arrays (record { spot = spot_of globals base; texts = texts })
-apart arrays globals base texts le a b x y e f differ same = differ (one_name arrays a b x y e f (spots_differ globals base le a b same))
+apart : (globals base : ℕ) (texts : List (List ℕ)) → globals ≤ base → Apart (record { spot = spot_of globals base; texts = texts })
+apart globals base texts le a b same = spots_differ globals base le a b same
 
 wrong_or : (h : Hop) → (h ≡ Wrong) ⊎ (h ≢ Wrong)
 wrong_or (Arrives b c s) = inr (λ (e : Arrives b c s ≡ Wrong). cc)
@@ -465,7 +462,7 @@ module _ (flow : Flow) (times : List ℕ) (latency : Op → ℕ) (some : times �
         exits = IsWrong;
       } in w)
       (λ right.
-      let new = c.leads setting times times n.block m.block n.state m.state old.0 (apart f.arrays Globals n.base flow.texts lo) some some near.0 near.1 old.1 right in
+      let new = c.leads setting times times n.block m.block n.state m.state old.0 (apart Globals n.base flow.texts lo) some some near.0 near.1 old.1 right in
       let b = inside flow times latency ns m f' meet' m.block m.state new.0 (ap (slice_get ns) ef ∙ e') (subst (λ x. Segment (hop (setting_of A x) times latency f') meet' m.block m.state new.0) (sym eb) new.1) in
       record {
         count = a.count;

@@ -43,7 +43,7 @@ no_turn e f (inr a) (inr b) = let k = a.1 in let l = b.1 in absurd (omega arith)
 off_itself : (e f : Edge) → e ≡ f → Before f e → ⊥
 off_itself e f q up = not_before f e (ap (λ (z : Edge). z.from) (sym q)) (ap (λ (z : Edge). z.to) (sym q)) up
 
-same_lists : (xs ys : List Edge) → Ascending xs → Ascending ys → ((e : Edge) → IsIn e xs → IsIn e ys) → ((e : Edge) → IsIn e ys → IsIn e xs) → xs ≡ ys
+pub same_lists : (xs ys : List Edge) → Ascending xs → Ascending ys → ((e : Edge) → IsIn e xs → IsIn e ys) → ((e : Edge) → IsIn e ys → IsIn e xs) → xs ≡ ys
 same_lists [] [] a b there back = refl
 same_lists [] (y ∷ ys) a b there back = absurd (back y (inl refl))
 same_lists (x ∷ xs) [] a b there back = absurd (there x (inl refl))
@@ -58,16 +58,16 @@ same_lists (x ∷ xs) (y ∷ ys) a b there back = ap (λ z. z ∷ xs) head ∙ a
     off : (e : Edge) → IsIn e ys → IsIn e xs
     off e h = ⊎_elim (λ q. absurd (off_itself e y (q ∙ head) (b.0 e h))) (λ p. p) (back e (inr h))
 
-beyond : (xs : List (Option ℕ)) (v : ℕ) → length xs ≤ v → slice_index_or xs v None ≡ None
+pub beyond : (xs : List (Option ℕ)) (v : ℕ) → length xs ≤ v → slice_index_or xs v None ≡ None
 beyond [] v h = refl
 beyond (x ∷ xs) zero h = absurd (omega arith)
 beyond (x ∷ xs) (suc v) h = beyond xs v (omega arith)
 
-abbrev Below : ℕ → List ℕ → Type 0
+abbrev pub Below : ℕ → List ℕ → Type 0
 Below n [] = Unit {0}
 Below n (v ∷ vs) = (v < n) × Below n vs
 
-below : (n : ℕ) (vs : List ℕ) (v : ℕ) → Below n vs → IsIn v vs → v < n
+pub below : (n : ℕ) (vs : List ℕ) (v : ℕ) → Below n vs → IsIn v vs → v < n
 below n [] v b h = absurd h
 below n (x ∷ vs) v b (inl q) = let l = b.0 in omega arith
 below n (x ∷ vs) v b (inr h) = below n vs v b.1 h

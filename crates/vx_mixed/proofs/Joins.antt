@@ -2,7 +2,6 @@
 use Rattle.std.proofs.Common.{◌≡◌, ℕ, zero, suc, ◌+◌, ◌-◌, ◌<◌, ◌≤◌, Bool, true, false, List, [], ◌∷◌, ◌++◌, cond, length, drop, refl, sym, ap, ◌∙◌, subst, inl, inr, ⊎_elim, arith, map, length-drop, slice_get}
 use Rattle.std.specs.Prelude.{◌⊎◌, nat_eq, nat_lt}
 use Rattle.std.proofs.lemmas.Bool.{ne_eqb, le-ltb}
-use Rattle.vx_flow.specs.declared.graph.Array.{Array}
 use Rattle.vx_flow.specs.declared.graph.Op.{Op}
 use Rattle.vx_mixed.specs.declared.region.Item.{Item}
 use Rattle.vx_mixed.specs.declared.region.Item.TheVariants.{Split}
@@ -109,7 +108,7 @@ module _ (setting : Setting) (is : List Item) (word : ℕ → ℕ) (mark : ℕ �
     early = λ e k lt a le. facts.early (q + e) (q + k) (omega arith) (at IsSplit e a) le;
   }
 
-module _ (latency : Op → ℕ) (old new : MixedGraph) (meet_old meet_new pairs : ℕ → ℕ → Bool) (r : Replaced latency old new meet_old meet_new pairs) (setting : Setting) (apart : Apart old.arrays setting) where
+module _ (latency : Op → ℕ) (old new : MixedGraph) (meet_old meet_new pairs : ℕ → ℕ → Bool) (r : Replaced latency old new meet_old meet_new pairs) (setting : Setting) (apart : Apart setting) where
   abbrev Ways : ℕ → ℕ → Type 0
   Ways b b' = Way setting latency old new meet_old meet_new pairs r.n r.reg b b'
 
@@ -255,8 +254,8 @@ replacement_law latency old new meet_old meet_new pairs r = record {
 abbrev pub in_order : Setting
 in_order = record { spot = λ a. a; texts = [] }
 
-pub in_order_apart : (m : MixedGraph) → Apart m.arrays in_order
-in_order_apart m a b x y e f differ same = differ (let g : slice_get m.arrays a ≡ slice_get m.arrays b = ap (slice_get m.arrays) same in let h : x ≡ y = cc in ap (λ (z : Array). z.named) h)
+pub in_order_apart : Apart in_order
+in_order_apart a b same = same
 
 pub region_is_settled : RegionSettled
-region_is_settled latency old new meet_old meet_new pairs r = region_settled latency old new meet_old meet_new pairs r in_order (in_order_apart old)
+region_is_settled latency old new meet_old meet_new pairs r = region_settled latency old new meet_old meet_new pairs r in_order in_order_apart

@@ -8,4 +8,4 @@ pub liveness_kept : LivenessKept
 liveness_kept latency old new meet_old meet_new pairs r = (within, λ is_copy b b' pair tidy v c live. tidy v c (within b b' v pair live))
   where
     within : LiveWithin old new pairs
-    within = live_within in_order latency old new meet_old meet_new pairs r.n r.reg r.is_region (ways latency old new meet_old meet_new pairs r in_order (in_order_apart old))
+    within = live_within in_order latency old new meet_old meet_new pairs r.n r.reg r.is_region (ways latency old new meet_old meet_new pairs r in_order in_order_apart)

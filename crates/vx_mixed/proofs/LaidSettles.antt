@@ -1,9 +1,10 @@
 -- The layout of a settled graph is settled.
 use Rattle.std.proofs.Common.{◌≡◌, ℕ, zero, suc, ◌+◌, ◌-◌, ◌/◌, ◌<◌, ◌≤◌, max, Bool, true, false, Option, Some, None, List, [], ◌∷◌, ◌++◌, length, map, slice_get, refl, sym, ap, ◌∙◌, subst, ⊎_elim, inl, inr, arith}
 use Rattle.std.specs.Prelude.{◌⊎◌, nat_lt, if◌then◌else◌}
-use Rattle.std.proofs.lemmas.Bool.{cases_lt}
+use Rattle.std.proofs.lemmas.Bool.{cases_lt, lt-ltb}
 use Rattle.std.proofs.lemmas.Option.{slice_get_within}
 use Rattle.vx_flow.specs.declared.graph.Op.{Op}
+use Rattle.vx_flow.specs.declared.graph.Op.TheVariants.{Across}
 use Rattle.vx_flow.specs.declared.graph.Bank.{Bank}
 use Rattle.vx_flow.specs.declared.graph.Bank.TheVariants.{General, Branch}
 use Rattle.vx_flow.specs.declared.graph.Edge.{Edge}
@@ -23,7 +24,7 @@ use Rattle.vx_mixed.specs.declared.mixed.MixedGraph.{MixedGraph}
 use Rattle.vx_mixed.specs.Edges.{IsEdge, of_last}
 use Rattle.vx_mixed.specs.Live.{word_reads, word_writes}
 use Rattle.vx_mixed.specs.Settled.{NoTwice, Settled, has_home, home_of, bank_of, stands_for, StandsOn}
-use Rattle.vx_mixed.specs.Valid.{Valid, is_entrance}
+use Rattle.vx_mixed.specs.Valid.{Valid, is_entrance, region_op}
 use Rattle.vx_mixed.specs.Layout.{leave_words, laid, place_of_node, place_of, layout_of}
 use Rattle.vx_mixed.specs.LaidSettled.{laid_reads, laid_writes, or_zero, home_in, bank_in, LeadsTo, cycles_of, LeavesCold, Plans, Pends, written, later, SettledLayout}
 use Rattle.vx_mixed.specs.LayoutLaws.{IsDone, AreItems, SameRoom, LayoutSettles}
@@ -333,6 +334,16 @@ module _ (latency : Op → ℕ) (m : MixedGraph) (valid : Valid m) (done : IsDon
     home_there v cluster s =
         named_there (bank_of m v) (home_of m v) (home_in L v) cluster (home_is (nat_lt v (length m.banks)) (has_home m.homes.clusters v) (v / length m.banks - 1) cluster) s
 
+    comes_across : (p v u cluster : ℕ) (items : List Laid) → Plans L p items → IsIn (Plain (Across v u) cluster) items → bank_in L v ≡ Some General → home_in L u ≡ cluster → ⊥
+    comes_across p v u cluster items h i bank same =
+        let x = plan_of latency m p items h in
+        let from = plain_from x.stands.at x.word (Across v u) cluster (subst (IsIn (Plain (Across v u) cluster)) x.is i) in
+        let s = (settled.clusters x.region x.g x.has_region).writes x.number v cluster (Across v u) x.word x.has_word from (inl refl) in
+        let home : home_of m v ≡ Some cluster = subst (λ z. stands_for z (home_of m v) cluster) bank s in
+        let a = valid.away v u (region_op x.region x.number cluster x.g x.word x.has_region x.has_word from) in
+        let at : home_in L u ≡ a.1 = ap (λ b. if b then or_zero (has_home m.homes.clusters u) else (u / length m.banks - 1)) (lt-ltb u (length m.banks) a.0) ∙ ap or_zero a.2 in
+        a.3 (home ∙ ap Some (sym same ∙ at))
+
     fresh_left : (p q v r w cluster : ℕ) (op : Op) (items : List Laid) → slice_get L.words p ≡ Some (Planned r w items) → LeadsTo p (Planned r w items) q → IsIn (Plain op cluster) items → IsIn v (writes op) → latency op ≤ left q v + 1
     fresh_left p q v r w cluster op items e leads i wr =
         let x = plan_of latency m p items (r, w, e) in
@@ -354,6 +365,7 @@ module _ (latency : Op → ℕ) (m : MixedGraph) (valid : Valid m) (done : IsDon
       once = λ p items h. let x = plan_of latency m p items h in subst NoTwice (sym (ap laid_writes x.is ∙ same_writes x.stands.at x.word)) ((settled.times x.region x.g x.has_region).once x.number x.word x.has_word);
       reads_home = λ p v cluster op items h i r. let x = plan_of latency m p items h in home_there v cluster ((settled.clusters x.region x.g x.has_region).reads x.number v cluster op x.word x.has_word (plain_from x.stands.at x.word op cluster (subst (IsIn (Plain op cluster)) x.is i)) r);
       writes_home = λ p v cluster op items h i r. let x = plan_of latency m p items h in home_there v cluster ((settled.clusters x.region x.g x.has_region).writes x.number v cluster op x.word x.has_word (plain_from x.stands.at x.word op cluster (subst (IsIn (Plain op cluster)) x.is i)) r);
+      across = comes_across;
       tests = λ p test q y items h i. let x = plan_of latency m p items h in let s = split_from x.stands.at x.word test q y (subst (IsIn (Split test y q)) x.is i) in (settled.clusters x.region x.g x.has_region).tests x.number test s.1 s.0 y x.word x.has_word s.2;
       reads_none = reads_left;
       writes_none = writes_left;

@@ -79,3 +79,11 @@ pub mod MovedEdges
 pub mod Replaces
 pub mod IfReplaced
 pub mod PlacingSteps
+pub mod CodeBegins
+pub mod CodeStays
+pub mod StayBrief
+pub mod PutSteps
+pub mod OuterEdges
+pub mod Exchanges
+pub mod BlockReplaced
+pub mod PairReplaced

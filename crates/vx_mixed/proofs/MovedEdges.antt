@@ -30,16 +30,16 @@ use Rattle.vx_mixed.proofs.TraceFacts.{in_filter, filter_has}
 
 -- inside the trace
 
-inner_in : (blocks : List ℕ) (e : Edge) → IsIn e (inner_edges blocks) → is_inner blocks e ≡ true
+pub inner_in : (blocks : List ℕ) (e : Edge) → IsIn e (inner_edges blocks) → is_inner blocks e ≡ true
 inner_in blocks e h = any_of (λ f. same_edge f e) (inner_edges blocks) e h (is_same_edge e e refl)
 
-inner_of : (blocks : List ℕ) (e : Edge) → is_inner blocks e ≡ true → IsIn e (inner_edges blocks)
+pub inner_of : (blocks : List ℕ) (e : Edge) → is_inner blocks e ≡ true → IsIn e (inner_edges blocks)
 inner_of blocks e h = let f = any_in (λ f. same_edge f e) (inner_edges blocks) h in subst (λ z. IsIn z (inner_edges blocks)) (same_is f.item e f.holds) f.has
 
-outer_of : (blocks : List ℕ) (e : Edge) → not (is_inner blocks e) ≡ true → IsIn e (inner_edges blocks) → ⊥
+pub outer_of : (blocks : List ℕ) (e : Edge) → not (is_inner blocks e) ≡ true → IsIn e (inner_edges blocks) → ⊥
 outer_of blocks e h i = let a = inner_in blocks e i in let b = not-true (is_inner blocks e) h in absurd (let z : true ≡ false = sym a ∙ b in cc)
 
-outer_in : (blocks : List ℕ) (e : Edge) → (IsIn e (inner_edges blocks) → ⊥) → not (is_inner blocks e) ≡ true
+pub outer_in : (blocks : List ℕ) (e : Edge) → (IsIn e (inner_edges blocks) → ⊥) → not (is_inner blocks e) ≡ true
 outer_in blocks e n = ⊎_elim (λ t. absurd (n (inner_of blocks e t))) (λ f. ap not f) (cases_Bool (is_inner blocks e))
 
 -- edges of made blocks

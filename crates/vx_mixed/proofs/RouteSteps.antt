@@ -1,24 +1,14 @@
 -- One more item of a list that is put together piece by piece, and the routes by their numbers.
-use Rattle.std.proofs.Common.{◌≡◌, ℕ, zero, suc, ◌+◌, ◌<◌, ◌≤◌, Bool, true, false, Option, Some, None, List, [], ◌∷◌, ◌++◌, length, drop, slice_get, get_or, refl, sym, ap, ◌∙◌, subst, ⊎_elim, inl, inr, arith, append_assoc, append-nil, cond, drop-cons}
-use Rattle.std.specs.Prelude.{◌⊎◌, ◌==◌, if◌then◌else◌}
-use Rattle.std.proofs.lemmas.Bool.{cases_eq, eqb-true}
-use Rattle.std.specs.List.{filter}
-use Rattle.vx_flow.specs.Walk.{numbers}
-use Rattle.vx_flow.proofs.HeaderSteps.{filter_more}
+use Rattle.std.proofs.Common.{◌≡◌, ℕ, zero, suc, ◌+◌, ◌<◌, ◌≤◌, Some, List, [], ◌∷◌, ◌++◌, length, drop, slice_get, get_or, refl, sym, ap, ◌∙◌, subst, arith, append_assoc, drop-cons}
 use Rattle.vx_flow.specs.declared.graph.Exit.{Exit}
 use Rattle.vx_flow.specs.declared.routes.Route.{Route}
-use Rattle.vx_flow.specs.declared.routes.Touch.{Touch}
 use Rattle.vx_flow.specs.Closing.{BeginWithin}
-use Rattle.vx_flow.specs.Effects.{IsIn}
-use Rattle.vx_flow.specs.Live.{LiveOn, first_touch}
-use Rattle.vx_flow.specs.Live.{here as route_here, beyond as route_beyond}
 use Rattle.vx_mixed.specs.declared.region.Item.{Item}
 use Rattle.vx_mixed.specs.declared.region.Node.{Node}
 use Rattle.vx_mixed.specs.declared.region.Node.TheVariants.{Unused, Enters, Inner}
 use Rattle.vx_mixed.specs.declared.region.Region.{Region}
 use Rattle.vx_mixed.specs.declared.mixed.MixedGraph.{MixedGraph}
 use Rattle.vx_mixed.specs.Routes.{word_routes, behind, region_routes, region_starts, node_route, node_routes, routes}
-use Rattle.vx_mixed.proofs.Linked.{index_in}
 
 -- a piece more: what is there and what is still to come are all of it
 pub one_more : {A : Type 0} (now next part left rest all : List A) → now ++ left ≡ all → left ≡ part ++ rest → next ≡ now ++ part → next ++ rest ≡ all
@@ -36,9 +26,6 @@ none_left [] zero h = refl
 none_left [] (suc i) h = refl
 none_left (x ∷ xs) zero h = absurd (omega arith)
 none_left (x ∷ xs) (suc i) h = none_left xs i (omega arith)
-
-pub nothing_left : {A : Type 0} (xs : List A) (i : ℕ) (x : A) → length xs ≤ i → IsIn x (drop i xs) → ⊥
-nothing_left xs i x h m = subst (IsIn x) (none_left xs i h) m
 
 -- each route begins at the node of its number
 
@@ -88,56 +75,3 @@ number_is n (x ∷ rs) h (suc i) r e = let s = number_is (n + 1) rs h.1 i r e in
 
 pub begin_within : (m : MixedGraph) → BeginWithin (length (routes m)) (routes m)
 begin_within m i r e = let s = number_is 0 (routes m) (all_numbered m) i r e in let a = s.0 in let b = s.1 in omega arith
-
--- the values below a number that pass, one more
-
-pub passes : (p : ℕ → Bool) (now next : List ℕ) (n : ℕ) → now ≡ filter p (numbers 0 n) → p n ≡ true → next ≡ now ++ n ∷ [] → next ≡ filter p (numbers 0 (n + 1))
-passes p now next n h e q = q ∙ ap (λ l. l ++ n ∷ []) h ∙ ap (λ b. filter p (numbers 0 n) ++ cond b (n ∷ []) []) (sym e) ∙ sym (filter_more p n)
-
-pub fails : (p : ℕ → Bool) (now next : List ℕ) (n : ℕ) → now ≡ filter p (numbers 0 n) → p n ≡ false → next ≡ now → next ≡ filter p (numbers 0 (n + 1))
-fails p now next n h e q = q ∙ h ∙ sym (append-nil (filter p (numbers 0 n))) ∙ ap (λ b. filter p (numbers 0 n) ++ cond b (n ∷ []) []) (sym e) ∙ sym (filter_more p n)
-
--- a value that is live is touched
-
-first_touched : (v : ℕ) (ts : List Touch) → first_touch v ts ≡ Some true → (t : Touch) × IsIn t ts × (t.value ≡ v)
-first_touched v [] h = absurd (cc)
-first_touched v (t ∷ ts) h = by (t.value == v) refl h (first_touched v ts)
-  where
-    by : (b : Bool) → (t.value == v) ≡ b → (if b then Some t.reads else first_touch v ts) ≡ Some true → (first_touch v ts ≡ Some true → (t : Touch) × IsIn t ts × (t.value ≡ v)) → (s : Touch) × IsIn s (t ∷ ts) × (s.value ≡ v)
-    by true e f go = (t, inl refl, eqb-true t.value v e)
-    by false e f go = let r = go f in (r.0, inr r.1, r.2)
-
-abbrev pub AboveAll : List Route → ℕ → Type 0
-AboveAll rs bound = (r : Route) (t : Touch) → IsIn r rs → IsIn t r.touches → t.value < bound
-
-pub live_below : (rs : List Route) (bound : ℕ) → AboveAll rs bound → {b v : ℕ} → LiveOn rs b v → v < bound
-live_below rs bound above {b} {v} (route_here {r = r} i at e f) = let t = first_touched v r.touches f in subst (λ n. n < bound) t.2 (above r t.0 (index_in rs i r at) t.1)
-live_below rs bound above (route_beyond i at e f t l) = live_below rs bound above l
-
--- what is touched so far is below the bound
-
-abbrev pub AboveSome : List Touch → List Touch → ℕ → Type 0
-AboveSome ts todo bound = (t : Touch) → IsIn t ts → (t.value < bound) ⊎ IsIn t todo
-
-pub above_more : (ts : List Touch) (i bound next : ℕ) (d : Touch) → i < length ts → AboveSome ts (drop i ts) bound → bound ≤ next → (get_or ts i d).value < next → AboveSome ts (drop (i + 1) ts) next
-above_more ts i bound next d h so_far le lt t m =
-    ⊎_elim
-    (λ a. inl (omega arith))
-    (λ a. ⊎_elim (λ q. inl (subst (λ n. n < next) (ap (λ (y : Touch). y.value) (sym q)) lt)) (λ q. inr q) (subst (IsIn t) (left_from ts i d h) a))
-    (so_far t m)
-
-pub all_above : (ts : List Touch) (i bound : ℕ) → length ts ≤ i → AboveSome ts (drop i ts) bound → (t : Touch) → IsIn t ts → t.value < bound
-all_above ts i bound h so_far t m = ⊎_elim (λ a. a) (λ a. absurd (nothing_left ts i t h a)) (so_far t m)
-
-abbrev pub AboveRoutes : List Route → List Route → ℕ → Type 0
-AboveRoutes rs todo bound = (r : Route) (t : Touch) → IsIn r rs → IsIn t r.touches → (t.value < bound) ⊎ IsIn r todo
-
-pub routes_more : (rs : List Route) (i bound next : ℕ) (x : Route) → i < length rs → x ≡ get_or rs i x → AboveRoutes rs (drop i rs) bound → bound ≤ next → ((t : Touch) → IsIn t x.touches → t.value < next) → AboveRoutes rs (drop (i + 1) rs) next
-routes_more rs i bound next x h e so_far le above r t m k =
-    ⊎_elim
-    (λ a. inl (omega arith))
-    (λ a. ⊎_elim (λ q. inl (above t (subst (λ (y : Route). IsIn t y.touches) q k))) (λ q. inr q) (subst (IsIn r) (left_at rs i x h e) a))
-    (so_far r t m k)
-
-pub all_routes : (rs : List Route) (i bound : ℕ) → length rs ≤ i → AboveRoutes rs (drop i rs) bound → AboveAll rs bound
-all_routes rs i bound h so_far r t m k = ⊎_elim (λ a. a) (λ a. absurd (nothing_left rs i r h a)) (so_far r t m k)

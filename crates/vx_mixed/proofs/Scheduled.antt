@@ -25,10 +25,10 @@ abbrev anywhere : Setting
 anywhere = record { spot = λ a. a; texts = [] }
 
 module _ (latency : Op → ℕ) (old new : MixedGraph) (meet_old meet_new pairs : ℕ → ℕ → Bool) (r : Scheduled latency old new meet_old meet_new pairs) where
-  cells : (setting : Setting) → Apart old.arrays setting → (q : ℕ) → q ≤ length r.items → ((q ≡ 0) ⊎ (r.joins q ≡ true)) → CellFacts setting (drop q r.items) (λ k. r.word (q + k))
+  cells : (setting : Setting) → Apart setting → (q : ℕ) → q ≤ length r.items → ((q ≡ 0) ⊎ (r.joins q ≡ true)) → CellFacts setting (drop q r.items) (λ k. r.word (q + k))
   cells setting apart q le h = cell_facts setting r.items (item_latency latency) (AfterOf old r.items) r.never r.joins r.word r.mark (length r.reg.words) r.meets r.placed q le (r.apart setting apart q h)
 
-  all_cells : (setting : Setting) → Apart old.arrays setting → CellFacts setting r.items r.word
+  all_cells : (setting : Setting) → Apart setting → CellFacts setting r.items r.word
   all_cells setting apart =
       let c = cells setting apart 0 (omega arith) (inl refl) in
       record {

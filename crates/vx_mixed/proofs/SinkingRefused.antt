@@ -55,5 +55,5 @@ from_zero u h e (on {from = p} {to = q} {t = t} r inner rest) a =
 pub refused : RefusedWithoutCopy
 refused same =
     let agree : Agree (Live old 0) s s = record { world = record { arrays = refl; input = refl; out = refl }; values = λ v n l e. e } in
-    let r = same.leads setting (1 ∷ []) (1 ∷ []) 0 0 s s (Arrives 0 2 (with_value s 1 (Some six))) (λ a b x y e f d same. absurd (cc)) (λ e. let z : 1 ∷ [] ≡ [] = e in cc) (λ e. let z : 1 ∷ [] ≡ [] = e in cc) refl agree (last refl refl) (λ (e : Arrives 0 2 (with_value s 1 (Some six)) ≡ Wrong). cc) in
+    let r = same.leads setting (1 ∷ []) (1 ∷ []) 0 0 s s (Arrives 0 2 (with_value s 1 (Some six))) (λ a b same. same) (λ e. let z : 1 ∷ [] ≡ [] = e in cc) (λ e. let z : 1 ∷ [] ≡ [] = e in cc) refl agree (last refl refl) (λ (e : Arrives 0 2 (with_value s 1 (Some six)) ≡ Wrong). cc) in
     from_zero s r.0 refl r.1 r.2

@@ -20,7 +20,7 @@ use Rattle.vx_mixed.proofs.Begins.{no_region}
 use Rattle.vx_mixed.proofs.BlockEdges.{to_edges, successor_is}
 use Rattle.vx_mixed.proofs.Counting.{no_critical}
 
-abbrev if_edges : List Edge
+abbrev pub if_edges : List Edge
 if_edges = edge 0 1 ∷ edge 0 3 ∷ edge 1 2 ∷ edge 3 2 ∷ []
 
 abbrev Fits : Option Block → Type 0
@@ -37,7 +37,7 @@ each_fits (suc (suc zero)) = tt
 each_fits (suc (suc (suc zero))) = tt
 each_fits (suc (suc (suc (suc b)))) = tt
 
-abbrev Calls : Option Node → Type 0
+abbrev pub Calls : Option Node → Type 0
 Calls (Some (Unused block)) = EndsWithCall block.exit
 Calls o = ⊥
 
@@ -46,7 +46,7 @@ of_unused None k e = absurd (cc)
 of_unused (Some b) k e = let q : b ≡ k = cc in ap Some q
 
 module _ (graph : Graph) (blocks : graph.blocks ≡ if_blocks) where
-  listed : (e : Edge) → IsGraphEdge graph e → IsIn e if_edges
+  pub listed : (e : Edge) → IsGraphEdge graph e → IsIn e if_edges
   listed e h =
       let at : slice_get if_blocks e.from ≡ Some h.block = ap (λ z. slice_get z e.from) (sym blocks) ∙ h.has in
       let z : 0 + e.from ≡ e.from = omega arith in
@@ -71,10 +71,10 @@ module _ (graph : Graph) (blocks : graph.blocks ≡ if_blocks) where
     nodes : m.nodes ≡ map Unused if_blocks
     nodes = from.blocks.nodes ∙ ap (map Unused) blocks
 
-    at : (b : ℕ) → slice_get m.nodes b ≡ slice_get (map Unused if_blocks) b
+    pub at : (b : ℕ) → slice_get m.nodes b ≡ slice_get (map Unused if_blocks) b
     at b = ap (λ z. slice_get z b) nodes
 
-    graph_edge : (e : Edge) → IsEdge m e → IsGraphEdge graph e
+    pub graph_edge : (e : Edge) → IsEdge m e → IsGraphEdge graph e
     graph_edge e (of_block {block = k} there t) = record { block = k; has = of_unused (slice_get graph.blocks e.from) k (sym (slice_get-map Unused graph.blocks e.from) ∙ ap (λ z. slice_get z e.from) (sym from.blocks.nodes) ∙ there); leads = t }
     graph_edge e (of_split r j p d y g word there in_word h) = no_region graph m from.blocks r g there
     graph_edge e (of_last r g there f t) = no_region graph m from.blocks r g there

@@ -1,7 +1,6 @@
 -- When two states agree, and when two graphs of one function have the same meaning: from each entrance that they share, to
 -- the next one.
-use Rattle.std.specs.Prelude.{◌≡◌, ◌≢◌, ℕ, ℤ, Bool, true, false, Option, Some, None, List, [], slice_get}
-use Rattle.vx_flow.specs.declared.graph.Array.{Array}
+use Rattle.std.specs.Prelude.{◌≡◌, ◌≢◌, ℕ, ℤ, Bool, true, false, Option, Some, None, List, []}
 use Rattle.vx_flow.specs.declared.graph.Op.{Op}
 use Rattle.vx_flow.specs.Effects.{State, Setting}
 use Rattle.vx_flow.specs.Meaning.{Hop, Arrives, Calls, Leaves, Stops, Wrong}
@@ -51,9 +50,9 @@ Alike old pairs (Calls g arguments result from next s) h = ⊥
 Alike old pairs (Leaves n s) h = ⊥
 Alike old pairs (Stops k s) h = ⊥
 
--- arrays of a function that are told apart stand at different places
-abbrev pub Apart : List Array → Setting → Type 0
-Apart arrays setting = (a b : ℕ) (x y : Array) → slice_get arrays a ≡ Some x → slice_get arrays b ≡ Some y → x.named ≢ y.named → setting.spot a ≢ setting.spot b
+-- different arrays of a function stand at different places
+abbrev pub Apart : Setting → Type 0
+Apart setting = (a b : ℕ) → setting.spot a ≡ setting.spot b → a ≡ b
 
 -- The entrances that two graphs share come in pairs, with the edges where each arrives at one. From each pair, wherever the
 -- arrays stand and whenever the writes of each land, new does what old does where that has a meaning.
@@ -62,5 +61,5 @@ pub record SameMeaning (latency : Op → ℕ) (old new : MixedGraph) (meet_old m
   -- from each shared entrance old comes to the next one
   pub ends : (setting : Setting) (times : List ℕ) (b b' : ℕ) (s : State) → pairs b b' ≡ true → (h : Hop) × Segment (hop setting times latency old) meet_old b s h
   pub leads : (setting : Setting) (times times' : List ℕ) (b b' : ℕ) (s t : State) (h : Hop) →
-      Apart old.arrays setting → times ≢ [] → times' ≢ [] → pairs b b' ≡ true → Agree (Live old b) s t → Segment (hop setting times latency old) meet_old b s h → h ≢ Wrong →
+      Apart setting → times ≢ [] → times' ≢ [] → pairs b b' ≡ true → Agree (Live old b) s t → Segment (hop setting times latency old) meet_old b s h → h ≢ Wrong →
       (h' : Hop) × Segment (hop setting times' latency new) meet_new b' t h' × Alike old pairs h h'

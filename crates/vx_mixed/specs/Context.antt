@@ -45,6 +45,24 @@ pub data Chain (latency : Op → ℕ) : List MixedGraph → List MixedGraph → 
 abbrev pub ChainLaw : Type 0
 ChainLaw = (flow : Flow) (times : List ℕ) (latency : Op → ℕ) (ms ms' : List MixedGraph) (input : List ℤ) → times ≢ [] → Chain latency ms ms' → SameRuns flow times latency ms ms' input
 
+-- a graph after any number of replacements
+pub data Steps (latency : Op → ℕ) : MixedGraph → MixedGraph → Type 0 where
+  Stays : {m : MixedGraph} → Steps latency m m
+  Goes : {m n o : MixedGraph} → Becomes latency m n → Steps latency n o → Steps latency m o
+
+abbrev pub BothStep : (Op → ℕ) → Option MixedGraph → Option MixedGraph → Type 0
+BothStep latency None None = Unit {0}
+BothStep latency (Some m) (Some m') = Steps latency m m'
+BothStep latency None (Some m') = ⊥
+BothStep latency (Some m) None = ⊥
+
+abbrev pub AllStep : (Op → ℕ) → List MixedGraph → List MixedGraph → Type 0
+AllStep latency ms ms' = (f : ℕ) → BothStep latency (slice_get ms f) (slice_get ms' f)
+
+-- Each graph of a program may have been replaced any number of times.
+abbrev pub StepsLaw : Type 0
+StepsLaw = (flow : Flow) (times : List ℕ) (latency : Op → ℕ) (ms ms' : List MixedGraph) (input : List ℤ) → times ≢ [] → AllStep latency ms ms' → SameRuns flow times latency ms ms' input
+
 -- The mixed graph of a function's graph: its blocks, and no regions.
 
 pub record OfGraph (graph : Graph) (m : MixedGraph) : Type 0 where

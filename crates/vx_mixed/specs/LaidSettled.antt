@@ -1,9 +1,10 @@
 -- When a layout is settled: each of its words can be issued by the machine, and none meets a write that is in flight.
-use Rattle.std.specs.Prelude.{◌≡◌, ◌⊎◌, ◌<◌, ◌≤◌, ◌+◌, ◌-◌, ◌/◌, ◌%◌, nat_lt, if◌then◌else◌, ℕ, suc, Bool, true, Option, Some, None, List, [], ◌∷◌, length, slice_get}
+use Rattle.std.specs.Prelude.{◌≡◌, ◌≢◌, ◌⊎◌, ◌<◌, ◌≤◌, ◌+◌, ◌-◌, ◌/◌, ◌%◌, nat_lt, if◌then◌else◌, ℕ, suc, Bool, true, Option, Some, None, List, [], ◌∷◌, length, slice_get}
 use Rattle.std.specs.List.{flat_map}
 use Rattle.vx_flow.specs.declared.graph.Bank.{Bank}
-use Rattle.vx_flow.specs.declared.graph.Bank.TheVariants.{Branch}
+use Rattle.vx_flow.specs.declared.graph.Bank.TheVariants.{General, Branch}
 use Rattle.vx_flow.specs.declared.graph.Op.{Op}
+use Rattle.vx_flow.specs.declared.graph.Op.TheVariants.{Across}
 use Rattle.vx_flow.specs.Effects.{IsIn, reads, writes}
 use Rattle.vx_mixed.specs.declared.layout.Laid.{Laid}
 use Rattle.vx_mixed.specs.declared.layout.Laid.TheVariants.{Plain, Split}
@@ -86,6 +87,8 @@ pub record SettledLayout (room : List (Option ℕ) → List Laid → Bool) (late
   -- each operation names values of its own cluster, but for the operand of a copy across; a split tests a branch value
   pub reads_home : (p v cluster : ℕ) (op : Op) (items : List Laid) → Plans l p items → IsIn (Plain op cluster) items → IsIn v (read_there op) → stands_for (bank_in l v) (Some (home_in l v)) cluster
   pub writes_home : (p v cluster : ℕ) (op : Op) (items : List Laid) → Plans l p items → IsIn (Plain op cluster) items → IsIn v (writes op) → stands_for (bank_in l v) (Some (home_in l v)) cluster
+  -- a copy across comes from another cluster
+  pub across : (p v u cluster : ℕ) (items : List Laid) → Plans l p items → IsIn (Plain (Across v u) cluster) items → bank_in l v ≡ Some General → home_in l u ≢ cluster
   pub tests : (p test q : ℕ) (y : Bool) (items : List Laid) → Plans l p items → IsIn (Split test y q) items → bank_in l test ≡ Some Branch
   -- no word reads or writes a value that is in flight
   pub reads_none : (p v : ℕ) (items : List Laid) → Plans l p items → IsIn v (laid_reads items) → left p v ≡ 0

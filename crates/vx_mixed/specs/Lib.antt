@@ -43,3 +43,7 @@ pub mod NextEdges
 pub mod MovedEdges
 pub mod ReplaceExample
 pub mod Placing
+pub mod Brief
+pub mod OriginLaws
+pub mod Exchanged
+pub mod AloneExample

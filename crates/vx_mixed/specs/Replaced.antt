@@ -34,10 +34,10 @@ pub record Join (latency : Op → ℕ) (old new : MixedGraph) (meet_old meet_new
   pub low : rejoin ≤ length reg.words
   pub plain : List Item
   pub path : Path old meet_old j plain end exit
-  pub clustered : (setting : Setting) → Apart old.arrays setting → Clustered setting old plain (drop place items) end exit
+  pub clustered : (setting : Setting) → Apart setting → Clustered setting old plain (drop place items) end exit
   pub above : (k : ℕ) → k < place → word k < rejoin
   pub splits_below : (k : ℕ) → place ≤ k → IsSplit (nth items k) → rejoin ≤ word k
-  pub cells : (setting : Setting) → Apart old.arrays setting → CellFacts setting (drop place items) (λ k. word (place + k))
+  pub cells : (setting : Setting) → Apart setting → CellFacts setting (drop place items) (λ k. word (place + k))
   pub enters : LeadsIn new meet_new n rejoin (copies (λ k. nat_lt (word k) rejoin) mark place (length items - place)) j'
 
 pub record Replaced (latency : Op → ℕ) (old new : MixedGraph) (meet_old meet_new : ℕ → ℕ → Bool) (pairs : ℕ → ℕ → Bool) : Type 0 where
@@ -50,7 +50,7 @@ pub record Replaced (latency : Op → ℕ) (old new : MixedGraph) (meet_old meet
   pub exit : Exit
   pub plain : List Item
   pub path : Path old meet_old start plain end exit
-  pub clustered : (setting : Setting) → Apart old.arrays setting → Clustered setting old plain items end exit
+  pub clustered : (setting : Setting) → Apart setting → Clustered setting old plain items end exit
   -- its words
   pub word : ℕ → ℕ
   pub mark : ℕ → Item
@@ -58,7 +58,7 @@ pub record Replaced (latency : Op → ℕ) (old new : MixedGraph) (meet_old meet
   pub reg : Region
   pub is_region : slice_get new.regions n ≡ Some reg
   pub words : reg.words ≡ words_from (row word mark 0 (length items)) 0 (length reg.words)
-  pub facts : (setting : Setting) → Apart old.arrays setting → RowFacts setting items word mark (item_latency latency) (length reg.words) (AfterOf old items)
+  pub facts : (setting : Setting) → Apart setting → RowFacts setting items word mark (item_latency latency) (length reg.words) (AfterOf old items)
   pub drained : Drained items word mark (item_latency latency) reg
   pub loads : LoadsAlike latency
   -- its edges

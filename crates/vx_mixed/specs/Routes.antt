@@ -1,15 +1,14 @@
 -- The ways through a graph of blocks and regions as routes between nodes, for the solver of liveness: a block is a route, and
 -- so is each word of a region. The nodes are the blocks' numbers, and behind them one for each word and each exit of a region.
-use Rattle.std.specs.Prelude.{◌+◌, ℕ, Bool, true, false, List, [], ◌∷◌, ◌++◌, length, map, slice_index_or}
-use Rattle.std.specs.List.{flat_map, filter}
+use Rattle.std.specs.Prelude.{◌+◌, ℕ, true, false, List, [], ◌∷◌, ◌++◌, length, map, slice_index_or}
+use Rattle.std.specs.List.{flat_map}
 use Rattle.vx_flow.specs.declared.graph.Exit.{Exit}
 use Rattle.vx_flow.specs.declared.graph.Op.{Op}
 use Rattle.vx_flow.specs.declared.routes.Route.{Route}
 use Rattle.vx_flow.specs.declared.routes.Touch.{Touch}
 use Rattle.vx_flow.specs.Live.{touch, reads_of_exit}
-use Rattle.vx_flow.specs.Rows.{lives}
+use Rattle.vx_flow.specs.Rows.{row_at}
 use Rattle.vx_flow.specs.Sound.{targets_of, results_of_exit}
-use Rattle.vx_flow.specs.Walk.{numbers}
 use Rattle.vx_mixed.specs.declared.region.Item.{Item}
 use Rattle.vx_mixed.specs.declared.region.Item.TheVariants.{Plain, Split}
 use Rattle.vx_mixed.specs.declared.region.Node.{Node}
@@ -93,6 +92,6 @@ node_routes starts b (node ∷ nodes) = node_route starts b node ∷ node_routes
 abbrev pub routes : MixedGraph → List Route
 routes m = node_routes (region_starts (length m.nodes) m.regions) 0 m.nodes ++ region_routes (length m.nodes) m.regions
 
--- of the values below a bound those that are live at a block, ascending
-abbrev pub live_values : List (List Bool) → (bound : ℕ) → ℕ → List ℕ
-live_values rows bound b = filter (λ v. lives rows b v) (numbers 0 bound)
+-- the values that are live at a block, ascending
+abbrev pub live_values : List (List ℕ) → ℕ → List ℕ
+live_values rows b = row_at rows b

@@ -32,7 +32,7 @@ pub record JoinEdge (old new : MixedGraph) (meet_old meet_new : ℕ → ℕ → 
   pub is_join : joins place ≡ true
   pub plain : List Item
   pub path : Path old meet_old j plain end exit
-  pub clustered : (setting : Setting) → Apart old.arrays setting → Clustered setting old plain (drop place items) end exit
+  pub clustered : (setting : Setting) → Apart setting → Clustered setting old plain (drop place items) end exit
   pub rejoin : ℕ
   pub above : (k : ℕ) → k < place → word k < rejoin
   pub least : (rejoin ≡ 0) ⊎ ((i : ℕ) × (i < place) × (rejoin ≡ word i + 1))
@@ -48,10 +48,10 @@ pub record Scheduled (latency : Op → ℕ) (old new : MixedGraph) (meet_old mee
   pub exit : Exit
   pub plain : List Item
   pub path : Path old meet_old start plain end exit
-  pub clustered : (setting : Setting) → Apart old.arrays setting → Clustered setting old plain items end exit
+  pub clustered : (setting : Setting) → Apart setting → Clustered setting old plain items end exit
   pub joins : ℕ → Bool
   pub never : ℕ → ℕ → Bool
-  pub apart : (setting : Setting) → Apart old.arrays setting → (q : ℕ) → ((q ≡ 0) ⊎ (joins q ≡ true)) → NeverApart setting items never q
+  pub apart : (setting : Setting) → Apart setting → (q : ℕ) → ((q ≡ 0) ⊎ (joins q ≡ true)) → NeverApart setting items never q
   -- its words
   pub word : ℕ → ℕ
   pub mark : ℕ → Item

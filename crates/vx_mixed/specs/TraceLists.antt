@@ -1,10 +1,13 @@
 -- How the lists of a trace are put together: block by block, with the edges that lead to each block.
-use Rattle.std.specs.Prelude.{◌≡◌, ◌==◌, ℕ, Bool, Option, None, List, ◌++◌, length, replicate, slice_get}
+use Rattle.std.specs.Prelude.{◌≡◌, ◌↔◌, ◌==◌, ℕ, Bool, true, false, if◌then◌else◌, Option, None, List, [], ◌∷◌, ◌++◌, length, replicate, slice_get}
 use Rattle.std.specs.List.{filter}
 use Rattle.vx_flow.specs.declared.graph.Edge.{Edge}
+use Rattle.vx_flow.specs.declared.trace.TraceOp.TheVariants.{Split}
+use Rattle.vx_flow.specs.Effects.{IsIn}
 use Rattle.vx_flow.specs.Rows.{row_at}
 use Rattle.vx_mixed.specs.declared.mixed.MixedGraph.{MixedGraph}
-use Rattle.vx_mixed.specs.TraceOf.{block_at, clusters_of, split_behind}
+use Rattle.vx_mixed.specs.Live.{Live}
+use Rattle.vx_mixed.specs.TraceOf.{block_at, clusters_of, split_behind, trace_ops}
 
 -- the clusters of the operations of a block, where these blocks follow
 abbrev pub block_fixed : MixedGraph → (ℕ → List ℕ) → ℕ → List ℕ → List (Option ℕ)
@@ -13,3 +16,12 @@ block_fixed m live b blocks = clusters_of (length (block_at m b).ops) (slice_get
 -- each row has the edges that lead to its block, in their order
 abbrev pub Entering : List Edge → List (List Edge) → Type 0
 Entering edges rows = (c : ℕ) → row_at rows c ≡ filter (λ (e : Edge). e.to == c) edges
+
+-- whether one of the blocks has a split in their trace
+abbrev pub has_split : MixedGraph → List ℕ → Bool
+has_split m [] = false
+has_split m (b ∷ blocks) = if length (split_behind (λ c. []) b (block_at m b).exit blocks) == 0 then has_split m blocks else true
+
+-- `live` tells what is live where the splits of the trace leave
+abbrev pub LiveAtSplits : MixedGraph → List ℕ → (ℕ → List ℕ) → Type 0
+LiveAtSplits m blocks live = (p v : ℕ) (y : Bool) (e : Edge) (vs : List ℕ) → IsIn (Split p y e vs) (trace_ops m live blocks) → (IsIn v vs ↔ Live m e.to v)

@@ -7,6 +7,7 @@ ghost use Rattle.vx_mixed.specs.declared.region.Node.TheVariants.{Unused};
 ghost use Rattle.vx_mixed.specs.Edges.{edges_from};
 ghost use Rattle.vx_mixed.specs.FromGraph.{binds, bound_by, bound_in, bound_to};
 
+use crate::nodes::Nodes;
 use crate::region::{Node, Origin};
 use std::alloc::Global;
 use vx_base::listed::Listed;
@@ -87,10 +88,10 @@ fn copied_block(alloc: Global, block: &Block) -> Result<Block, NoMemory>
 }
 
 /// The blocks, each in no region.
-pub(crate) fn unused_nodes(alloc: Global, blocks: &[Block]) -> Result<Listed<Node>, NoMemory>
+pub(crate) fn unused_nodes(alloc: Global, blocks: &[Block]) -> Result<Nodes, NoMemory>
     ensures { IfOk result (λ nodes. nodes ≡ map Unused blocks.now) }
 {
-    let mut nodes = Listed::new(alloc);
+    let mut nodes = Nodes::new(alloc);
     for block in blocks {
         let copy = copied_block(alloc, block)?;
         nodes.push(Node::Unused(copy))?;
@@ -159,19 +160,20 @@ pub(crate) fn start_homes(
 ) -> Result<Listed<Option<u32>>, NoMemory>
     ensures { IfOk result (λ homes. homes ≡ bound_by blocks.now (replicate banks None)) }
 {
-    let mut homes = no_homes(alloc, banks)?;
+    let mut homes = no_numbers(alloc, banks)?;
     bind_blocks(&mut homes, blocks);
     Ok(Listed::from_vec(homes)?)
 }
 
-fn no_homes(alloc: Global, banks: usize) -> Result<Vec<Option<u32>>, NoMemory>
-    ensures { IfOk result (λ homes. homes.items ≡ replicate banks None) }
+/// No number, so many times.
+pub(crate) fn no_numbers(alloc: Global, count: usize) -> Result<Vec<Option<u32>>, NoMemory>
+    ensures { IfOk result (λ numbers. numbers.items ≡ replicate count None) }
 {
-    let mut homes = Vec::new(alloc);
-    for _value in 0..banks {
-        homes.push(None)?;
+    let mut numbers = Vec::new(alloc);
+    for _number in 0..count {
+        numbers.push(None)?;
     }
-    Ok(homes)
+    Ok(numbers)
 }
 
 fn bind_blocks(homes: &mut Vec<Option<u32>>, blocks: &[Block])

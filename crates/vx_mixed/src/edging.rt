@@ -1,14 +1,18 @@
 // The edges of a graph after a replacement: those that were not inside the trace, each to its new end, and one from each block
 // that is made, sorted by their numbers. The clause of `edges_after` carries the promise.
 
-ghost use Rattle.std.specs.Prelude.{◌≡◌, ◌+◌, ◌<◌, ◌^◌, ◌++◌, ◌∷◌, IfOk, length};
+ghost use Rattle.std.specs.Prelude.{◌≡◌, ◌+◌, ◌<◌, ◌^◌, ◌++◌, ◌∷◌, ℕ, None, not, IfOk, length, replicate};
+ghost use Rattle.std.specs.List.{filter};
 ghost use Rattle.std.specs.List.Sorted.{IsNonDecreasingBy, IsPermutation};
+ghost use Rattle.vx_flow.specs.Effects.{IsIn};
 ghost use Rattle.vx_mixed.specs.CanReplace.{CanReplace};
 ghost use Rattle.vx_mixed.specs.Edges.{EdgesOf};
-ghost use Rattle.vx_mixed.specs.MovedEdges.{edge_key, is_inner, kept_edges, made_edges, moved};
+ghost use Rattle.vx_mixed.specs.MovedEdges.{before_each, edge_key, follows, is_inner, kept_edges, made_edges, moved, with_before};
 ghost use Rattle.vx_mixed.specs.Next.{next_mixed};
+ghost use Rattle.vx_mixed.specs.Settled.{NoTwice};
 ghost use Rattle.vx_mixed.specs.Valid.{Valid};
 
+use crate::copying::no_numbers;
 use crate::mixed::MixedGraph;
 use crate::region::Made;
 use crate::renaming::new_end;
@@ -55,6 +59,78 @@ fn kept_edges(
         }
     }
     Ok(kept)
+}
+
+/// The edges that are not inside the trace of these blocks, in their order: one pass over them. Each block has a number below
+/// `nodes`.
+pub(crate) fn outer_edges(
+    alloc: Global,
+    nodes: usize,
+    edges: &[Edge],
+    blocks: &[BlockId],
+) -> Result<Listed<Edge>, NoMemory>
+    requires once { NoTwice blocks.now }
+    requires there { (b : ℕ) → IsIn b blocks.now → b < nodes }
+    ensures { IfOk result (λ outer. outer ≡ filter (λ e. not (is_inner blocks.now e)) edges.now) }
+{
+    let before = blocks_before(alloc, nodes, blocks)?;
+    let outer = edges_beside(alloc, edges, before.as_slice())?;
+    Ok(outer)
+}
+
+/// For each number the block that stands before that block in the trace.
+fn blocks_before(
+    alloc: Global,
+    nodes: usize,
+    blocks: &[BlockId],
+) -> Result<Vec<Option<u32>>, NoMemory>
+    requires { (b : ℕ) → IsIn b blocks.now → b < nodes }
+    ensures { IfOk result (λ before. before.items ≡ before_each blocks.now (replicate nodes None)) }
+{
+    let mut before = no_numbers(alloc, nodes)?;
+    if let [first, others @ ..] = blocks {
+        put_before(&mut before, *first, others);
+    }
+    Ok(before)
+}
+
+fn put_before(before: &mut Vec<Option<u32>>, first: BlockId, others: &[BlockId])
+    requires { (b : ℕ) → IsIn b others.now → b < length before.old.items }
+    ensures { before.new.items ≡ with_before first others.now before.old.items }
+{
+    let mut last = first;
+    for block in others {
+        before[*block as usize] = Some(last);
+        last = *block;
+    }
+}
+
+/// The edges that do not go from the block that stands before.
+fn edges_beside(
+    alloc: Global,
+    edges: &[Edge],
+    before: &[Option<u32>],
+) -> Result<Listed<Edge>, NoMemory>
+    ensures { IfOk result (λ beside. beside ≡ filter (λ e. not (follows before.now e)) edges.now) }
+{
+    let mut beside = Listed::new(alloc);
+    for edge in edges {
+        if !follows(before, *edge) {
+            beside.push(*edge)?;
+        }
+    }
+    Ok(beside)
+}
+
+/// Whether the edge goes from the block that stands before the one to which it goes.
+fn follows(before: &[Option<u32>], edge: Edge) -> bool
+    ensures { result ≡ follows before.now edge }
+{
+    match before.get(edge.to as usize) {
+        Some(Some(from)) => *from == edge.from,
+        Some(None) => false,
+        None => false,
+    }
 }
 
 /// The edge to its new end.

@@ -1,23 +1,24 @@
 // The graph of a function of which some blocks are words already, as callers hold it: with the list of its edges, which is
 // kept beside it so that it can be given without memory.
 
-ghost use Rattle.std.specs.Prelude.{◌≡◌, ◌==◌, ◌<◌, ℕ, true, IfOk, OnErr, OnOk, length, slice_get};
+ghost use Rattle.std.specs.Prelude.{◌≡◌, ◌==◌, ◌+◌, ◌<◌, ◌^◌, [], ℕ, true, IfOk, OnErr, OnOk, length, slice_get};
 ghost use Rattle.std.specs.List.{list_any};
 ghost use Rattle.std.specs.Option.{option_map};
 ghost use Rattle.vx_flow.specs.Sound.{is_sound};
-ghost use Rattle.vx_mixed.specs.CanReplace.{AwayFits, HomesFit, IsFormed, ListsFit, MadeFits, MadeStands, NamesFit, TraceFits, WordsFit};
+ghost use Rattle.vx_mixed.specs.CanReplace.{AwayFits, CanReplace, HomesFit, IsFormed, ListsFit, MadeFits, MadeStands, NamesFit, TraceFits, WordsFit};
 ghost use Rattle.vx_mixed.specs.Edges.{EdgesOf};
 ghost use Rattle.vx_mixed.specs.FromGraph.{FromGraph, origin_edge, same_edge, unused_in};
 ghost use Rattle.vx_mixed.specs.TraceOf.{CanTrace, IsTraceOf};
 ghost use Rattle.vx_mixed.specs.Layout.{layout_of};
 ghost use Rattle.vx_mixed.specs.LayoutLaws.{IsDone};
 ghost use Rattle.vx_mixed.specs.Next.{next_mixed};
-ghost use Rattle.vx_mixed.specs.Valid.{CanBegin};
+ghost use Rattle.vx_mixed.specs.Valid.{CanBegin, Valid};
 
 use crate::copying::{
     block_edges, copied_arrays, copied_banks, copied_values, no_origins, start_homes, unused_nodes,
 };
-use crate::edging::edges_after;
+use crate::edging::{edges_after, outer_edges};
+use crate::exchanging::put_region;
 use crate::laying::laid_out;
 use crate::layout::VWords;
 use crate::mixed::MixedGraph;
@@ -88,7 +89,21 @@ impl Mixed {
         Ok(Mixed { graph, edges })
     }
 
-    /// How many blocks there are, the made ones included. It takes no memory, as none of the calls below does.
+    /// What holds of such a graph at all times. It does nothing.
+    pub fn keeps_valid(&self)
+        ensures { Valid self.now }
+    {
+        let _function = self.graph.function;
+    }
+
+    /// The number of the function in the program. It takes no memory, as none of the calls up to `homes` does.
+    pub fn function(&self) -> u32
+        ensures { result ≡ self.now.function }
+    {
+        self.graph.function
+    }
+
+    /// How many blocks there are, the made ones included.
     pub fn blocks(&self) -> u32
         ensures { result ≡ length self.now.nodes }
     {
@@ -182,6 +197,9 @@ impl Mixed {
         if blocks > u64::from(u32::MAX) {
             return Err(NoMemory);
         }
+        if replacement.made.is_empty() {
+            return self.put(alloc, replacement);
+        }
         let parts = parts_after(alloc, &self.graph, &replacement)?;
         let edges = edges_after(alloc, &self.graph, self.edges.as_slice(), &replacement)?;
         self.graph.nodes = parts.nodes;
@@ -189,6 +207,26 @@ impl Mixed {
         self.graph.origins = parts.origins;
         self.graph.homes = replacement.homes;
         self.edges = edges;
+        Ok(())
+    }
+
+    /// A trace becomes a region where no block is made, in the graph itself: the work is that of the trace, and of one pass over
+    /// the edges where the trace has more than one block. Without memory the graph stays as it was.
+    fn put(&mut self, alloc: Global, replacement: Replacement) -> Result<(), NoMemory>
+        requires few { length self.old.nodes + length replacement.made < 2 ^ 32 }
+        requires can { CanReplace self.old replacement }
+        requires none { replacement.made ≡ [] }
+        ensures next { OnOk result (self.new ≡ next_mixed self.old replacement) }
+        ensures unchanged { OnErr result (self.new ≡ self.old) }
+    {
+        if replacement.trace.blocks.len() < 2 {
+            return put_region(alloc, &mut self.graph, replacement);
+        }
+        let nodes = self.graph.nodes.len();
+        let blocks = replacement.trace.blocks.as_slice();
+        let kept = outer_edges(alloc, nodes, self.edges.as_slice(), blocks)?;
+        put_region(alloc, &mut self.graph, replacement)?;
+        self.edges = kept;
         Ok(())
     }
 

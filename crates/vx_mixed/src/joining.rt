@@ -29,6 +29,7 @@ pub(crate) fn joins_of(
 {
     match blocks {
         [] => Ok(Listed::new(alloc)),
+        [_] => Ok(Listed::new(alloc)),
         [first, others @ ..] => {
             let entering = entering_of(alloc, edges)?;
             let place = place_behind(graph, 0, *first, others)?;

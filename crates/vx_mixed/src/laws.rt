@@ -1,9 +1,11 @@
 // Laws of the definitions, each the clause of a function that does nothing.
 
+ghost use Rattle.vx_mixed.specs.AloneExample.{BlockIsReplaced, BlockIsTraced, PairIsReplaced, PairIsTraced};
 ghost use Rattle.vx_mixed.specs.Begins.{BeginsSettled, BeginsTidy};
+ghost use Rattle.vx_mixed.specs.Brief.{BriefStays, LayoutIsBrief};
 ghost use Rattle.vx_mixed.specs.CanReplace.{StaysValid};
 ghost use Rattle.vx_mixed.specs.Compensation.{CompensationLaw};
-ghost use Rattle.vx_mixed.specs.Context.{ChainLaw, InContext, MeansTheFlow, MeansTheGraph};
+ghost use Rattle.vx_mixed.specs.Context.{ChainLaw, InContext, MeansTheFlow, MeansTheGraph, StepsLaw};
 ghost use Rattle.vx_mixed.specs.LayoutExample.{IsLaidOut};
 ghost use Rattle.vx_mixed.specs.LayoutLaws.{LayoutComesFromGraph, LayoutRuns, LayoutSettles};
 ghost use Rattle.vx_mixed.specs.Laws.{AnyTiming, ParallelWords, RegionAnyTiming};
@@ -14,6 +16,7 @@ ghost use Rattle.vx_mixed.specs.CountingExample.{CountingBegins};
 ghost use Rattle.vx_mixed.specs.Example.{FailsWithoutCopy, Works};
 ghost use Rattle.vx_mixed.specs.NextEdges.{EdgesAfter};
 ghost use Rattle.vx_mixed.specs.NextExample.{NextIsNew, SharesEntrances};
+ghost use Rattle.vx_mixed.specs.OriginLaws.{BeginsWithCode, CodeStays};
 ghost use Rattle.vx_mixed.specs.ReplaceExample.{IfIsReplaced};
 ghost use Rattle.vx_mixed.specs.TraceExample.{IfIsTraced, IsItsTrace};
 
@@ -77,6 +80,7 @@ pub fn blocks_mean_the_graph()
 pub fn replaced_programs_run_the_same()
     ensures one { InContext }
     ensures chain { ChainLaw }
+    ensures steps { StepsLaw }
 {}
 
 /// What a sound graph begins as is tidy and settled.
@@ -102,6 +106,14 @@ pub fn an_if_is_replaced()
     ensures { IfIsReplaced }
 {}
 
+/// One of its blocks can be traced by itself, and replaced; so can two of them.
+pub fn blocks_are_replaced()
+    ensures traced { BlockIsTraced }
+    ensures replaced { BlockIsReplaced }
+    ensures traced_two { PairIsTraced }
+    ensures replaced_two { PairIsReplaced }
+{}
+
 /// A graph after a replacement whose arguments fit is valid where it was, and its edges are the old ones that were not
 /// inside the trace, each to its new end, and one from each block that was made.
 pub fn replacement_stays_valid()
@@ -121,4 +133,17 @@ pub fn layouts_keep_the_meaning()
     ensures runs { LayoutRuns }
     ensures settles { LayoutSettles }
     ensures code { LayoutComesFromGraph }
+{}
+
+/// A graph of blocks and regions begins with the code of a function's graph, and keeps it whatever is replaced: operations come
+/// from the graph, with copies of values in place of values.
+pub fn graphs_keep_their_code()
+    ensures begins { BeginsWithCode }
+    ensures stays { CodeStays }
+{}
+
+/// Where each replacement has few empty cycles, the layout has.
+pub fn drains_stay_brief()
+    ensures stays { BriefStays }
+    ensures layout { LayoutIsBrief }
 {}

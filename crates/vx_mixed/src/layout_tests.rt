@@ -4,6 +4,7 @@
 use crate::laying::laid_out;
 use crate::layout::{Laid, VirtualWord};
 use crate::mixed::MixedGraph;
+use crate::nodes::Nodes;
 use crate::region::{Item, Node, Origin, Region};
 use std::alloc::Global;
 use std::test::Fail;
@@ -77,8 +78,8 @@ fn regions(alloc: Global) -> Result<Listed<Region>, NoMemory> {
     Ok(regions)
 }
 
-fn nodes(alloc: Global) -> Result<Listed<Node>, NoMemory> {
-    let mut nodes = Listed::new(alloc);
+fn worked_nodes(alloc: Global) -> Result<Nodes, NoMemory> {
+    let mut nodes = Nodes::new(alloc);
     nodes.push(Node::Enters { region: 0, word: 0 })?;
     nodes.push(Node::Inner)?;
     nodes.push(Node::Enters { region: 0, word: 4 })?;
@@ -95,7 +96,7 @@ fn graph(alloc: Global) -> Result<MixedGraph, NoMemory> {
     let arrays: Listed<Array> = Listed::new(alloc);
     Ok(MixedGraph {
         function: 0,
-        nodes: nodes(alloc)?,
+        nodes: worked_nodes(alloc)?,
         regions: regions(alloc)?,
         origins,
         headers,

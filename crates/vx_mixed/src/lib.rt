@@ -4,12 +4,14 @@
 
 mod copying;
 mod edging;
+mod exchanging;
 pub mod function;
 mod joining;
 pub mod laws;
 mod laying;
 pub mod layout;
 pub mod mixed;
+pub mod nodes;
 mod origins;
 mod placing;
 pub mod region;

@@ -1,7 +1,8 @@
 // The graph of a function of which some blocks are words already and others are blocks still. An edge goes to a block's
 // number, whatever stands there by then. What such a graph does is defined in specs/Meaning.antt.
 
-use crate::region::{Node, Origin, Region};
+use crate::nodes::Nodes;
+use crate::region::{Origin, Region};
 use vx_base::listed::Listed;
 use vx_flow::graph::{Array, Bank, BlockId, Edge, Value};
 use vx_flow::trace::Homes;
@@ -12,7 +13,7 @@ pub struct MixedGraph {
     /// The number of the function.
     pub function: u32,
     /// What stands at each block's number.
-    pub nodes: Listed<Node>,
+    pub nodes: Nodes,
     /// The regions, in the order in which they were made.
     pub regions: Listed<Region>,
     /// For each block where it was made, if it is none of the function's graph.

@@ -9,6 +9,7 @@ ghost use Rattle.vx_mixed.specs.Unchanged.{rename};
 
 use crate::copying::{copied_operands, copied_ops, copied_values};
 use crate::mixed::MixedGraph;
+use crate::nodes::Nodes;
 use crate::region::{Item, Made, Node, Region};
 use crate::replacement::Replacement;
 use std::alloc::Global;
@@ -20,7 +21,7 @@ use vx_flow::trace::Join;
 /// What stands at each block's number: the blocks so far, and then those that are made.
 pub(crate) fn push_nodes_after(
     alloc: Global,
-    nodes: &mut Listed<Node>,
+    nodes: &mut Nodes,
     graph: &MixedGraph,
     replacement: &Replacement,
 ) -> Result<(), NoMemory>
@@ -33,7 +34,7 @@ pub(crate) fn push_nodes_after(
 
 fn push_old_nodes(
     alloc: Global,
-    nodes: &mut Listed<Node>,
+    nodes: &mut Nodes,
     graph: &MixedGraph,
     replacement: &Replacement,
 ) -> Result<(), NoMemory>
@@ -48,7 +49,7 @@ fn push_old_nodes(
     Ok(())
 }
 
-fn push_made_nodes(alloc: Global, nodes: &mut Listed<Node>, made: &[Made]) -> Result<(), NoMemory>
+fn push_made_nodes(alloc: Global, nodes: &mut Nodes, made: &[Made]) -> Result<(), NoMemory>
     ensures { IfOk result (λ _. nodes.new ≡ nodes.old ++ map made_node made.now) }
 {
     for block in made {

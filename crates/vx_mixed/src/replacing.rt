@@ -6,9 +6,10 @@ ghost use Rattle.vx_mixed.specs.CanReplace.{ListsFit, WordsFit};
 ghost use Rattle.vx_mixed.specs.Next.{next_mixed};
 
 use crate::mixed::MixedGraph;
+use crate::nodes::Nodes;
 use crate::origins::origins_after;
 use crate::placing::region_of;
-use crate::region::{Node, Origin, Region};
+use crate::region::{Origin, Region};
 use crate::renaming::{push_nodes_after, push_old_regions};
 use crate::replacement::Replacement;
 use std::alloc::Global;
@@ -18,7 +19,7 @@ use vx_base::outcome::NoMemory;
 /// What a replacement changes.
 #[derive(Drop)]
 pub(crate) struct Parts {
-    pub(crate) nodes: Listed<Node>,
+    pub(crate) nodes: Nodes,
     pub(crate) regions: Listed<Region>,
     pub(crate) origins: Listed<Option<Origin>>,
 }
@@ -36,7 +37,7 @@ pub(crate) fn parts_after(
     ensures regions { IfOk result (λ parts. parts.regions ≡ (next_mixed graph.now replacement.now).regions) }
     ensures origins { IfOk result (λ parts. parts.origins ≡ (next_mixed graph.now replacement.now).origins) }
 {
-    let mut nodes = Listed::new(alloc);
+    let mut nodes = Nodes::new(alloc);
     push_nodes_after(alloc, &mut nodes, graph, replacement)?;
     let mut regions = Listed::new(alloc);
     push_old_regions(alloc, &mut regions, graph, replacement)?;

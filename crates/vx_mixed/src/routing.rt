@@ -1,11 +1,10 @@
 // Which values are live at the blocks of a graph of blocks and regions: its ways as routes, and one solver over them.
 // specs/Routes.antt says which routes these are; the clause of `live_at_blocks` carries the promise.
 
-ghost use Rattle.std.specs.Prelude.{◌≡◌, ◌↔◌, ◌+◌, ◌<◌, ◌≤◌, ◌^◌, ◌++◌, ◌∷◌, [], ℕ, IfOk, length, slice_index_or};
+ghost use Rattle.std.specs.Prelude.{◌≡◌, ◌↔◌, ◌+◌, ◌<◌, ◌^◌, ◌++◌, ◌∷◌, [], ℕ, IfOk, length, slice_index_or};
 ghost use Rattle.std.specs.List.{flat_map};
 ghost use Rattle.vx_flow.specs.declared.graph.Exit.{Exit};
 ghost use Rattle.vx_flow.specs.declared.routes.Route.{Route};
-ghost use Rattle.vx_flow.specs.declared.routes.Touch.{Touch};
 ghost use Rattle.vx_flow.specs.Effects.{IsIn};
 ghost use Rattle.vx_flow.specs.Sound.{targets_of};
 ghost use Rattle.vx_mixed.specs.declared.region.Node.TheVariants.{Unused};
@@ -13,6 +12,7 @@ ghost use Rattle.vx_mixed.specs.Live.{Live as IsLive};
 ghost use Rattle.vx_mixed.specs.Routes.{behind, exit_route, live_values, node_route, node_routes, off_end, off_ends, region_routes, region_starts, routes, word_route, word_routes};
 ghost use Rattle.vx_mixed.specs.Valid.{Valid};
 
+use crate::copying::copied_values;
 use crate::mixed::MixedGraph;
 use crate::region::{Item, Node, Region};
 use crate::touching::{push_exit, push_ops, push_word};
@@ -22,78 +22,27 @@ use vx_base::outcome::NoMemory;
 use vx_flow::graph::{Block, BlockId, Exit, Value};
 use vx_flow::live_on;
 use vx_flow::live_rows::Live;
-use vx_flow::routes::{Route, Touch};
-
-/// The values that are live at the blocks of a graph.
-#[derive(Drop)]
-pub(crate) struct LiveValues {
-    /// Which are live at which nodes of the routes.
-    pub(crate) rows: Live,
-    /// A number above all that are.
-    pub(crate) bound: u32,
-}
+use vx_flow::routes::Route;
 
 /// The values that are live at each block: on some way from there the value is read before it is written.
-pub(crate) fn live_at_blocks(alloc: Global, graph: &MixedGraph) -> Result<LiveValues, NoMemory>
+pub(crate) fn live_at_blocks(alloc: Global, graph: &MixedGraph) -> Result<Live, NoMemory>
     requires { Valid graph.now }
-    ensures { IfOk result (λ live. (b : ℕ) (v : ℕ) → b < length graph.now.nodes → (IsIn v (live_values live.rows live.bound b) ↔ IsLive graph.now b v)) }
+    ensures { IfOk result (λ live. (b : ℕ) (v : ℕ) → b < length graph.now.nodes → (IsIn v (live_values live b) ↔ IsLive graph.now b v)) }
 {
     let routes = routes_of(alloc, graph)?;
-    let bound = bound_of(routes.as_slice())?;
     let rows = live_on(alloc, routes.len(), &routes)?;
-    Ok(LiveValues { rows, bound })
+    Ok(rows)
 }
 
 /// The values that are live at a block, ascending.
 pub(crate) fn values_at(
     alloc: Global,
-    live: &LiveValues,
+    live: &Live,
     block: BlockId,
 ) -> Result<Listed<Value>, NoMemory>
-    ensures { IfOk result (λ values. values ≡ live_values live.now.rows live.now.bound block) }
+    ensures { IfOk result (λ values. values ≡ live_values live.now block) }
 {
-    let mut values = Listed::new(alloc);
-    for value in 0..live.bound {
-        if live.rows.at(block, value) {
-            values.push(value)?;
-        }
-    }
-    Ok(values)
-}
-
-/// A number above every value that the routes touch.
-fn bound_of(routes: &[Route]) -> Result<u32, NoMemory>
-    ensures { IfOk result (λ bound. (r : Route) (t : Touch) → IsIn r routes.now → IsIn t r.touches → t.value < bound) }
-{
-    let mut bound = 0;
-    for route in routes {
-        bound = raised(bound, route.touches.as_slice())?;
-    }
-    Ok(bound)
-}
-
-fn raised(bound: u32, touches: &[Touch]) -> Result<u32, NoMemory>
-    ensures keeps { IfOk result (λ raised. bound ≤ raised) }
-    ensures above { IfOk result (λ raised. (t : Touch) → IsIn t touches.now → t.value < raised) }
-{
-    let mut raised = bound;
-    for touch in touches {
-        raised = above(raised, touch.value)?;
-    }
-    Ok(raised)
-}
-
-fn above(bound: u32, value: Value) -> Result<u32, NoMemory>
-    ensures keeps { IfOk result (λ raised. bound ≤ raised) }
-    ensures above { IfOk result (λ raised. value < raised) }
-{
-    if value < bound {
-        return Ok(bound);
-    }
-    match value.checked_add(1) {
-        Some(raised) => Ok(raised),
-        None => Err(NoMemory),
-    }
+    copied_values(alloc, live.values_at(block))
 }
 
 fn routes_of(alloc: Global, graph: &MixedGraph) -> Result<Listed<Route>, NoMemory>

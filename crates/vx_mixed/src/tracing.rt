@@ -7,7 +7,7 @@ ghost use Rattle.vx_flow.specs.declared.trace.TraceOp.TheVariants.{Plain};
 ghost use Rattle.vx_mixed.specs.Edges.{EdgesOf};
 ghost use Rattle.vx_mixed.specs.FromGraph.{unused_in};
 ghost use Rattle.vx_mixed.specs.Routes.{live_values};
-ghost use Rattle.vx_mixed.specs.TraceLists.{block_fixed};
+ghost use Rattle.vx_mixed.specs.TraceLists.{LiveAtSplits, block_fixed, has_split};
 ghost use Rattle.vx_mixed.specs.TraceOf.{CanTrace, IsTraceOf, block_at, block_ops, clusters_of, split_behind, trace_fixed, trace_ops};
 ghost use Rattle.vx_mixed.specs.Valid.{Valid};
 
@@ -15,11 +15,12 @@ use crate::copying::{copied_arrays, copied_values};
 use crate::joining::joins_of;
 use crate::mixed::MixedGraph;
 use crate::region::{Node, Origin};
-use crate::routing::{LiveValues, live_at_blocks, values_at};
+use crate::routing::{live_at_blocks, values_at};
 use std::alloc::Global;
 use vx_base::listed::Listed;
 use vx_base::outcome::NoMemory;
 use vx_flow::graph::{Block, BlockId, Edge, Exit, Op};
+use vx_flow::live_rows::Live;
 use vx_flow::trace::{Trace, TraceOp};
 
 /// The trace of these blocks, where these are the graph's edges.
@@ -34,7 +35,7 @@ pub(crate) fn trace_of(
     requires can { CanTrace graph.now blocks.now }
     ensures { IfOk result (λ trace. IsTraceOf graph.now blocks.now trace) }
 {
-    let live = live_at_blocks(alloc, graph)?;
+    let live = live_at_splits(alloc, graph, blocks)?;
     let ops = ops_of(alloc, graph, &live, blocks)?;
     let fixed = fixed_of(alloc, graph, blocks)?;
     let joins = joins_of(alloc, graph, edges, blocks)?;
@@ -49,6 +50,32 @@ pub(crate) fn trace_of(
         values: graph.banks.len() as u32,
         arrays,
     })
+}
+
+/// The values that are live where the splits of the trace leave; a trace without splits needs none.
+fn live_at_splits(alloc: Global, graph: &MixedGraph, blocks: &[BlockId]) -> Result<Live, NoMemory>
+    requires valid { Valid graph.now }
+    requires can { CanTrace graph.now blocks.now }
+    ensures { IfOk result (λ live. LiveAtSplits graph.now blocks.now (live_values live)) }
+{
+    if has_split(graph, blocks) {
+        let live = live_at_blocks(alloc, graph)?;
+        return Ok(live);
+    }
+    Ok(Live::nowhere(alloc))
+}
+
+/// Whether a block of the trace other than the last has two ways out.
+fn has_split(graph: &MixedGraph, blocks: &[BlockId]) -> bool
+    ensures { result ≡ has_split graph.now blocks.now }
+{
+    for index in 0..blocks.len() {
+        let rest = rest_of(blocks, index + 1);
+        if splits_in(graph, blocks[index], rest) > 0 {
+            return true;
+        }
+    }
+    false
 }
 
 /// A block that is in no region.
@@ -74,10 +101,10 @@ pub(crate) fn rest_of(blocks: &[BlockId], place: usize) -> &[BlockId]
 fn ops_of(
     alloc: Global,
     graph: &MixedGraph,
-    live: &LiveValues,
+    live: &Live,
     blocks: &[BlockId],
 ) -> Result<Listed<TraceOp>, NoMemory>
-    ensures { IfOk result (λ ops. ops ≡ trace_ops graph.now (live_values live.now.rows live.now.bound) blocks.now) }
+    ensures { IfOk result (λ ops. ops ≡ trace_ops graph.now (live_values live.now) blocks.now) }
 {
     let mut ops = Listed::new(alloc);
     for index in 0..blocks.len() {
@@ -92,11 +119,11 @@ fn push_block(
     alloc: Global,
     ops: &mut Listed<TraceOp>,
     graph: &MixedGraph,
-    live: &LiveValues,
+    live: &Live,
     block: BlockId,
     rest: &[BlockId],
 ) -> Result<(), NoMemory>
-    ensures { IfOk result (λ _. ops.new ≡ ops.old ++ block_ops graph.now (live_values live.now.rows live.now.bound) block rest.now) }
+    ensures { IfOk result (λ _. ops.new ≡ ops.old ++ block_ops graph.now (live_values live.now) block rest.now) }
 {
     match unused_at(graph, block) {
         Some(unused) => {
@@ -120,12 +147,12 @@ fn push_plain(ops: &mut Listed<TraceOp>, plain: &[Op]) -> Result<(), NoMemory>
 fn push_split(
     alloc: Global,
     ops: &mut Listed<TraceOp>,
-    live: &LiveValues,
+    live: &Live,
     from: BlockId,
     exit: &Exit,
     rest: &[BlockId],
 ) -> Result<(), NoMemory>
-    ensures { IfOk result (λ _. ops.new ≡ ops.old ++ split_behind (live_values live.now.rows live.now.bound) from exit.now rest.now) }
+    ensures { IfOk result (λ _. ops.new ≡ ops.old ++ split_behind (live_values live.now) from exit.now rest.now) }
 {
     if let ([next, ..], Exit::Split { test, yes, no }) = (rest, exit) {
         let leaves_when = *yes != *next;

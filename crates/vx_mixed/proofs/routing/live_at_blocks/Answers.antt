@@ -5,7 +5,7 @@ use Rattle.vx_flow.specs.Live.{LiveOn}
 use Rattle.vx_flow.specs.Rows.{lives}
 use Rattle.vx_mixed.specs.Routes.{routes}
 use Rattle.vx_mixed.proofs.LiveLists.{live_lists}
-use Rattle.vx_mixed.proofs.RouteSteps.{AboveAll, begin_within}
+use Rattle.vx_mixed.proofs.RouteSteps.{begin_within}
 use Rattle.vx_mixed.proofs.routing.live_at_blocks.Goals as goal
 
 pub live_on-requires : goal.live_on-requires
@@ -14,8 +14,4 @@ live_on-requires c =
     subst (λ n. BeginWithin n c.in_ok-routes.routes) many (subst (λ rs. BeginWithin (length (routes c.args.graph.now)) rs) (sym c.in_ok-routes.ensures) (begin_within c.args.graph.now))
 
 pub returns : goal.returns
-returns c =
-    let above = subst (λ rs. AboveAll rs c.in_ok-bound.bound) c.as_slice.ensures c.in_ok-bound.ensures in
-    live_lists c.args.graph.now c.requires c.in_ok-rows.rows c.in_ok-bound.bound
-    (λ b v. subst (λ rs. (lives c.in_ok-rows.rows b v ≡ true) ↔ LiveOn rs b v) c.in_ok-routes.ensures (c.in_ok-rows.ensures.exact b v))
-    (subst (λ rs. AboveAll rs c.in_ok-bound.bound) c.in_ok-routes.ensures above)
+returns c = live_lists c.args.graph.now c.requires c.in_ok-rows.rows (λ b v. subst (λ rs. (lives c.in_ok-rows.rows b v ≡ true) ↔ LiveOn rs b v) c.in_ok-routes.ensures (c.in_ok-rows.ensures.exact b v))

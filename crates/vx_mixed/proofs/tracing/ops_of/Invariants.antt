@@ -4,4 +4,4 @@ use Rattle.vx_mixed.specs.TraceOf.{trace_ops}
 use Rattle.vx_mixed.proofs.tracing.ops_of.Given as goal
 
 abbrev pub invariant-loop-index : goal.invariant-loop-index
-invariant-loop-index l = l.ops ++ trace_ops l.graph (live_values l.live.rows l.live.bound) (drop l.index l.blocks) ≡ trace_ops l.graph (live_values l.live.rows l.live.bound) l.blocks
+invariant-loop-index l = l.ops ++ trace_ops l.graph (live_values l.live) (drop l.index l.blocks) ≡ trace_ops l.graph (live_values l.live) l.blocks

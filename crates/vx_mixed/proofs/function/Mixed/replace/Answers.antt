@@ -1,4 +1,4 @@
-use Rattle.std.proofs.Common.{◌∙◌, sym, ap, subst}
+use Rattle.std.proofs.Common.{◌∙◌, refl, sym, ap, subst}
 use Rattle.vx_mixed.specs.Edges.{EdgesOf}
 use Rattle.vx_mixed.specs.Next.{next_mixed}
 use Rattle.vx_mixed.proofs.Replaces.{can_at, parts_make, parts_hold}
@@ -21,3 +21,7 @@ pub returns-clause-next : goal.returns-clause-next
 returns-clause-next c =
     parts_make c.self.inside.graph c.args.replacement c.in_ok-parts.parts.nodes c.in_ok-parts.parts.regions c.in_ok-parts.parts.origins c.in_ok-parts.ensures.nodes c.in_ok-parts.ensures.regions c.in_ok-parts.ensures.origins
     ∙ ap (λ m. next_mixed m c.args.replacement) c.self.view_is
+
+pub put-requires-clause-can : goal.put-requires-clause-can
+put-requires-clause-can c =
+    can_at c.args.self.now c.args.self.now c.args.replacement refl c.requires.trace c.requires.formed c.requires.names c.requires.lists c.requires.words c.requires.made c.requires.stand c.requires.homes c.requires.away

@@ -1,0 +1,77 @@
+// A trace that becomes a region where no block is made: no edge goes elsewhere, so that the nodes of its blocks alone change,
+// in the graph itself. The clause of `put_region` carries the promise.
+
+ghost use Rattle.std.specs.Prelude.{◌≡◌, ◌+◌, ◌<◌, ◌^◌, [], ℕ, OnErr, OnOk, length};
+ghost use Rattle.vx_flow.specs.declared.trace.Join.{Join};
+ghost use Rattle.vx_flow.specs.Effects.{IsIn};
+ghost use Rattle.vx_mixed.specs.CanReplace.{CanReplace};
+ghost use Rattle.vx_mixed.specs.Exchanged.{exchanged, with_inner, with_rejoins};
+ghost use Rattle.vx_mixed.specs.Next.{next_mixed};
+ghost use Rattle.vx_mixed.specs.Valid.{Valid};
+
+use crate::mixed::MixedGraph;
+use crate::nodes::Nodes;
+use crate::placing::region_of;
+use crate::region::Node;
+use crate::replacement::Replacement;
+use std::alloc::Global;
+use vx_base::outcome::NoMemory;
+use vx_flow::graph::BlockId;
+use vx_flow::trace::Join;
+
+/// Puts a trace into the graph as a region, where no block is made. All memory is taken before the first change.
+pub(crate) fn put_region(
+    alloc: Global,
+    graph: &mut MixedGraph,
+    replacement: Replacement,
+) -> Result<(), NoMemory>
+    requires few { length graph.old.nodes + length replacement.made < 2 ^ 32 }
+    requires valid { Valid graph.old }
+    requires can { CanReplace graph.old replacement }
+    requires none { replacement.made ≡ [] }
+    ensures next { OnOk result (graph.new ≡ next_mixed graph.old replacement) }
+    ensures unchanged { OnErr result (graph.new ≡ graph.old) }
+{
+    let number = graph.regions.len() as u32;
+    let region = region_of(alloc, graph, &replacement)?;
+    graph.regions.push(region)?;
+    exchange(&mut graph.nodes, number, &replacement);
+    graph.homes = replacement.homes;
+    Ok(())
+}
+
+/// The trace's blocks are entered at the first word of the region of this number and behind their joins.
+fn exchange(nodes: &mut Nodes, region: u32, replacement: &Replacement)
+    requires blocks { (b : ℕ) → IsIn b replacement.now.trace.blocks → b < length nodes.old }
+    requires joins { (j : Join) → IsIn j replacement.now.trace.joins → j.block < length nodes.old }
+    requires rejoins { length replacement.now.rejoins ≡ length replacement.now.trace.joins }
+    ensures { nodes.new ≡ exchanged region replacement.now nodes.old }
+{
+    if let [first, others @ ..] = replacement.trace.blocks.as_slice() {
+        nodes.set(*first as usize, Node::Enters { region, word: 0 });
+        put_inner(nodes, others);
+        let joins = replacement.trace.joins.as_slice();
+        put_rejoins(nodes, region, joins, replacement.rejoins.as_slice());
+    }
+}
+
+fn put_inner(nodes: &mut Nodes, blocks: &[BlockId])
+    requires { (b : ℕ) → IsIn b blocks.now → b < length nodes.old }
+    ensures exact { nodes.new ≡ with_inner blocks.now nodes.old }
+    ensures many { length nodes.new ≡ length nodes.old }
+{
+    for block in blocks {
+        nodes.set(*block as usize, Node::Inner);
+    }
+}
+
+fn put_rejoins(nodes: &mut Nodes, region: u32, joins: &[Join], rejoins: &[u32])
+    requires joins { (j : Join) → IsIn j joins.now → j.block < length nodes.old }
+    requires many { length rejoins.now ≡ length joins.now }
+    ensures { nodes.new ≡ with_rejoins region joins.now rejoins.now nodes.old }
+{
+    for (index, join) in joins.iter().enumerate() {
+        let word = rejoins[index];
+        nodes.set(join.block as usize, Node::Enters { region, word });
+    }
+}
