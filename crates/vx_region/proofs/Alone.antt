@@ -1,7 +1,7 @@
 -- On one cluster each operation has room by itself, on every machine.
-use Rattle.std.proofs.Common.{◌≡◌, ◌⊎◌, inl, inr, ℕ, zero, suc, ◌+◌, ◌<◌, ◌≤◌, Bool, true, false, ◌&&◌, Option, Some, None, List, [], ◌∷◌, ◌++◌, length, map, slice_get, slice_index_or, refl, sym, ap, ◌∙◌, subst, arith}
-use Rattle.std.specs.Prelude.{◌==◌, ◌||◌, nat_lt, nat_le, replicate, if◌then◌else◌}
-use Rattle.std.specs.List.{list_all, flat_map, filter}
+use Rattle.std.proofs.Common.{◌≡◌, ◌⊎◌, inl, inr, ℕ, zero, suc, Bool, true, false, ◌&&◌, Option, Some, List, [], ◌∷◌, ◌++◌, length, map, slice_get, slice_index_or, refl, ap, ◌∙◌, subst, arith}
+use Rattle.std.specs.Prelude.{◌==◌, nat_lt, nat_le, replicate, if◌then◌else◌}
+use Rattle.std.specs.List.{list_all, filter}
 use Rattle.std.specs.Cmp.Derive.{both_true}
 use Rattle.std.proofs.lemmas.Bool.{and_parts, leb-true, lt-ltb}
 use Rattle.vx_flow.specs.declared.graph.Block.{Block}
@@ -17,14 +17,12 @@ use Rattle.vx_flow.specs.Effects.{IsIn}
 use Rattle.vx_flow.specs.Walk.{edge}
 use Rattle.vx_flow.proofs.Members.{in_either}
 use Rattle.vx_isa.specs.Numbers.{Numbers, is_machine, is_between}
-use Rattle.vx_machine.specs.declared.items.ClusteredItem.{ClusteredItem}
 use Rattle.vx_machine.specs.Items.{item_of, general_reads, takes_port}
-use Rattle.vx_machine.specs.Room.{source_by, read_clusters, is_cluster, stands_well, stand_well, has_room, RoomAlone}
-use Rattle.vx_mixed.specs.declared.region.Node.TheVariants.{Unused}
+use Rattle.vx_machine.specs.Room.{source_by, is_cluster, has_room, RoomAlone}
 use Rattle.vx_mixed.specs.declared.mixed.MixedGraph.{MixedGraph}
 use Rattle.vx_mixed.specs.TraceOf.{CanTrace, IsTraceOf, block_at, block_or_none, split_between, split_behind, block_ops, trace_ops}
 use Rattle.vx_mixed.proofs.Linked.{index_in}
-use Rattle.vx_sched.specs.Placement.{item_there, items_at, HaveRoomAlone}
+use Rattle.vx_sched.specs.Placement.{item_there, HaveRoomAlone}
 use Rattle.vx_region.specs.RegionPlans.{on_one, OnOneCluster}
 use Rattle.vx_region.proofs.PlainItems.{some_at}
 
@@ -106,7 +104,7 @@ module _ (room_alone : RoomAlone) (m : Numbers) (homes : Homes) (one : is_machin
       room_alone m homes (record { cluster = 0; item = item_of op }) one
       (both_true (both_true (both_true some refl) refl) (all_there m (source_by homes 0 (item_of op)) (filter takes_port (general_reads (item_of op))) (ap (is_cluster m) (reads_here homes op n) ∙ some)))
 
-same_there : (n i z : ℕ) → slice_index_or (replicate n z) i z ≡ z
+pub same_there : (n i z : ℕ) → slice_index_or (replicate n z) i z ≡ z
 same_there zero i z = refl
 same_there (suc n) zero z = refl
 same_there (suc n) (suc i) z = same_there n i z

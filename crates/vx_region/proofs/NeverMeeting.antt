@@ -1,14 +1,11 @@
 -- Accesses that stand in words that do not meet their delay never touch one word: their forms never name one.
-use Rattle.std.proofs.Common.{◌≡◌, ◌⊎◌, inl, inr, ℕ, zero, suc, ◌+◌, ◌<◌, ◌≤◌, true, ◌&&◌, Option, Some, None, List, [], ◌∷◌, length, drop, slice_get, refl, ap, ◌∙◌, subst, arith}
+use Rattle.std.proofs.Common.{◌≡◌, ◌⊎◌, inl, inr, ℕ, zero, suc, ◌+◌, ◌<◌, ◌≤◌, true, ◌&&◌, Option, Some, None, List, [], ◌∷◌, drop, slice_get, refl, ap, ◌∙◌, subst, arith}
 use Rattle.std.specs.Prelude.{◌||◌, nat_lt}
-use Rattle.std.proofs.lemmas.Bool.{false≢true, ltb-true, and_parts, cases_eq}
-use Rattle.vx_flow.specs.declared.graph.Array.{Array}
-use Rattle.vx_flow.specs.declared.graph.Op.{Op}
+use Rattle.std.proofs.lemmas.Bool.{false≢true, ltb-true, and_parts}
 use Rattle.vx_flow.specs.declared.trace.TraceOp.{TraceOp}
 use Rattle.vx_flow.specs.declared.trace.TraceOp.TheVariants.{Plain, Split}
 use Rattle.vx_flow.specs.declared.trace.Trace.{Trace}
-use Rattle.vx_flow.specs.Effects.{State, Setting, IsIn, Location, Cell}
-use Rattle.vx_flow.specs.Sound.{arrays_of}
+use Rattle.vx_flow.specs.Effects.{State, Setting, Location, Cell}
 use Rattle.vx_flow.proofs.SoundLists.{or_parts}
 use Rattle.vx_isa.specs.Numbers.{Numbers}
 use Rattle.vx_linear.specs.InOrder.{in_order, state_before, Touches}
@@ -22,10 +19,8 @@ use Rattle.vx_mixed.proofs.Shape.{inert_reads, inert_writes}
 use Rattle.vx_dep.specs.declared.mode.Mode.{Mode}
 use Rattle.vx_dep.specs.Delays.{is_load, is_store, Applies, NeverMeet, access_behind_store, store_behind_load}
 use Rattle.vx_dep.specs.Compensation.{word_at}
-use Rattle.vx_sched.proofs.Unique.{bound_below}
-use Rattle.vx_region.proofs.PlainItems.{drop_plain, some_at}
+use Rattle.vx_region.proofs.PlainItems.{drop_plain}
 use Rattle.vx_region.proofs.Table.{never_of, never_at}
-use Rattle.vx_region.proofs.Touching.{moved, Within, state_kept, touches_kept, all_apart}
 
 -- runs in order
 
@@ -48,11 +43,6 @@ touches_at setting s [] k l (inl h) = absurd (inert_reads setting s l (inr h))
 touches_at setting s [] k l (inr h) = absurd (inert_writes setting s l (inr h))
 touches_at setting s (op ∷ ops) zero l h = touched setting s op l h
 touches_at setting s (op ∷ ops) (suc k) l h = touches_at setting s ops k l h
-
-in_dropped : {A : Type 0} (q : ℕ) (xs : List A) (x : A) → IsIn x (drop q xs) → IsIn x xs
-in_dropped zero xs x h = h
-in_dropped (suc q) [] x h = h
-in_dropped (suc q) (y ∷ xs) x h = inr (in_dropped q xs x h)
 
 -- what the test says
 
@@ -94,36 +84,18 @@ module _ (m : Numbers) (mode : Mode) (t : Trace) (words : List ℕ) (met : (i j 
           let k = met i j 0 (record { one = u.one; two = u.two; in_order = lt; stands_one = u.is_one; stands_two = u.is_two; row = store_behind_load x y not }) in
           omega (arith, less, k)
 
-  module _ (arrays : List Array) (one_name : (a b : ℕ) (x y : Array) → slice_get arrays a ≡ Some x → slice_get arrays b ≡ Some y → x.named ≡ y.named → a ≡ b) (inside : (op : Op) (a : ℕ) → IsIn (Plain op) t.ops → IsIn a (arrays_of op) → a < length arrays) where
-    pub never_apart : (setting : Setting) → Apart arrays setting → (q : ℕ) → ((q ≡ 0) ⊎ (is_join_place t.joins q ≡ true)) → NeverApart setting (plain_items t.ops) (never_at t.ops words) q
-    never_apart setting far q enters s i j a c lt never at_i at_j = never_meets (q + i) (q + j) (omega (arith, lt)) never meets
-      where
-        n : ℕ
-        n = length arrays
+  pub never_apart : (setting : Setting) → Apart setting → (q : ℕ) → ((q ≡ 0) ⊎ (is_join_place t.joins q ≡ true)) → NeverApart setting (plain_items t.ops) (never_at t.ops words) q
+  never_apart setting far q enters s i j a c lt never at_i at_j = never_meets (q + i) (q + j) (omega (arith, lt)) never meets
+    where
+      part : List TraceOp
+      part = drop q t.ops
 
-        most : (top : ℕ) × ((a : ℕ) → a < n → setting.spot a ≤ top)
-        most = bound_below setting.spot n
+      touch : (k : ℕ) → item_takes setting (order setting (drop q (plain_items t.ops)) s k) (nth (drop q (plain_items t.ops)) k) (Cell a c) ⊎ item_gives setting (order setting (drop q (plain_items t.ops)) s k) (nth (drop q (plain_items t.ops)) k) (Cell a c) →
+          Touches setting (state_before setting part s k) (slice_get part k) (Cell a c)
+      touch k h =
+          let first = subst (λ z. item_takes setting (order setting z s k) (nth z k) (Cell a c) ⊎ item_gives setting (order setting z s k) (nth z k) (Cell a c)) (drop_plain q t.ops) h in
+          let second = touches_at setting (order setting (plain_items part) s k) part k (Cell a c) first in
+          subst (λ z. Touches setting z (slice_get part k) (Cell a c)) (order_is setting part s k) second
 
-        part : List TraceOp
-        part = drop q t.ops
-
-        part_within : Within n most.0 setting part
-        part_within op b h i = inside op b (in_dropped q t.ops (Plain op) h) i
-
-        apart : (a b : ℕ) → a < n → b < n → setting.spot a ≡ setting.spot b → a ≡ b
-        apart a b x y e = let u = some_at arrays a x in let v = some_at arrays b y in by u.0 v.0 u.1 v.1 (cases_eq u.0.named v.0.named)
-          where
-            by : (x y : Array) → slice_get arrays a ≡ Some x → slice_get arrays b ≡ Some y → (x.named ≡ y.named) ⊎ (x.named ≡ y.named → ⊥) → a ≡ b
-            by x y f g (inl same) = one_name a b x y f g same
-            by x y f g (inr other) = absurd (far a b x y f g other e)
-
-        touch : (k : ℕ) → item_takes setting (order setting (drop q (plain_items t.ops)) s k) (nth (drop q (plain_items t.ops)) k) (Cell a c) ⊎ item_gives setting (order setting (drop q (plain_items t.ops)) s k) (nth (drop q (plain_items t.ops)) k) (Cell a c) →
-            Touches (moved n most.0 setting) (state_before (moved n most.0 setting) part s k) (slice_get part k) (Cell a c)
-        touch k h =
-            let first = subst (λ z. item_takes setting (order setting z s k) (nth z k) (Cell a c) ⊎ item_gives setting (order setting z s k) (nth z k) (Cell a c)) (drop_plain q t.ops) h in
-            let second = touches_at setting (order setting (plain_items part) s k) part k (Cell a c) first in
-            let third = subst (λ z. Touches setting z (slice_get part k) (Cell a c)) (order_is setting part s k ∙ state_kept n most.0 setting part s k part_within) second in
-            touches_kept n most.0 setting (state_before (moved n most.0 setting) part s k) part k (Cell a c) part_within third
-
-        meets : NeverMeet t (q + i) (q + j) → ⊥
-        meets x = never_law t (moved n most.0 setting) q s i j x.one x.two (all_apart n most.0 setting most.1 apart) enters x.form_one x.form_two x.never a c (touch i at_i) (touch j at_j)
+      meets : NeverMeet t (q + i) (q + j) → ⊥
+      meets x = never_law t setting q s i j x.one x.two far enters x.form_one x.form_two x.never a c (touch i at_i) (touch j at_j)

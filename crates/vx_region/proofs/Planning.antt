@@ -43,7 +43,7 @@ use Rattle.vx_dep.specs.declared.copies.Rejoin.{Rejoin}
 use Rattle.vx_dep.specs.Delays.{AreHeights, latency_of}
 use Rattle.vx_dep.specs.Compensation.{word_at, greatest, splits_from, copies_at_split, rejoin_word, rejoin_of, at_splits_of, at_joins_of, is_freed, all_left_at, drain_at}
 use Rattle.vx_sched.specs.Placement.{PlacedBy, length_of}
-use Rattle.vx_region.specs.Meets.{ArraysAre, MeetsTable}
+use Rattle.vx_region.specs.Meets.{MeetsTable}
 use Rattle.vx_region.specs.Planned.{placed_in, op_of, ops_at, dismissed_if, made_at_joins, replacement_of}
 use Rattle.vx_region.specs.PlanLaws.{PlanLaw, PlanKeeps}
 use Rattle.vx_region.proofs.PlainItems.{plain_is, plain_many, drop_plain, nth_at, some_at}
@@ -52,7 +52,7 @@ use Rattle.vx_region.proofs.InOrderAlike.{clustered_itself, Below, below_join}
 use Rattle.vx_region.proofs.TakesTime.{takes_time}
 use Rattle.vx_region.proofs.Greatest.{all_below, first_below, reached, drained}
 use Rattle.vx_region.proofs.MadeCopies.{Copy, made_all, Distinct, made_append, distinct_append, on_edge_is, OfCopy, of_copy, made_once}
-use Rattle.vx_region.proofs.Copying.{copies_are, op_at, freed_by, marked_op}
+use Rattle.vx_region.proofs.CopiedPlaces.{copies_are, op_at, freed_by, marked_op}
 use Rattle.vx_region.proofs.SplitCopies.{Once, split_copies, made_splits, has_split, of_split, distinct_splits, once_blocks}
 use Rattle.vx_region.proofs.JoinCopies.{ascending_once, join_ops_at, join_copies, made_joins, has_join, of_join, distinct_joins, trace_joins_once}
 use Rattle.vx_region.proofs.ExitWaits.{drain_there, takes_at_most}
@@ -77,7 +77,7 @@ zeros zero = refl
 zeros (suc n) = ap suc (zeros n)
 
 module _ (m : MixedGraph) (machine : Numbers) (mode : Mode) (homes : Homes) (t : Trace) (words : List ℕ) (height : ℕ → ℕ) (one : is_machine machine ≡ true) (is : IsTraceOf m t.blocks t) (heights : AreHeights machine mode t height)
-    (placed_by : PlacedBy (record { trace = t; clusters = replicate (length t.ops) 0 }) machine homes mode height words) (valid : Valid m) (can : CanTrace m t.blocks) (arrays : ArraysAre m.arrays t) (first : ℕ) (others : List ℕ) (are : t.blocks ≡ first ∷ others) where
+    (placed_by : PlacedBy (record { trace = t; clusters = replicate (length t.ops) 0 }) machine homes mode height words) (valid : Valid m) (can : CanTrace m t.blocks) (first : ℕ) (others : List ℕ) (are : t.blocks ≡ first ∷ others) where
   abbrev P : Placed
   P = placed_in t words
 
@@ -112,8 +112,8 @@ module _ (m : MixedGraph) (machine : Numbers) (mode : Mode) (homes : Homes) (t :
 
   -- the table, and the joins
 
-  table : MeetsTable machine m.arrays t words
-  table = the_table_is_met (record { trace = t; clusters = Zeros }) machine homes mode height words m.arrays arrays heights placed_by
+  table : MeetsTable machine t words
+  table = the_table_is_met (record { trace = t; clusters = Zeros }) machine homes mode height words heights placed_by
 
   below : (j : Join) → IsIn j t.joins → Below m is.live is.edges 0 t.blocks j
   below j h = below_join m is.live is.edges t.blocks j can.once (subst (IsIn j) is.joins h)
@@ -345,7 +345,7 @@ module _ (m : MixedGraph) (machine : Numbers) (mode : Mode) (homes : Homes) (t :
 
 -- a plan is such a replacement
 
-own_blocks : (m : MixedGraph) (blocks : List ℕ) (t : Trace) → IsTraceOf m blocks t → IsTraceOf m t.blocks t
+pub own_blocks : (m : MixedGraph) (blocks : List ℕ) (t : Trace) → IsTraceOf m blocks t → IsTraceOf m t.blocks t
 own_blocks m blocks t is = record {
   edges = is.edges;
   all_edges = is.all_edges;
@@ -361,17 +361,16 @@ own_blocks m blocks t is = record {
 }
 
 pub plan_law : PlanLaw
-plan_law m blocks machine mode homes r valid can arrays p =
+plan_law m blocks machine mode homes r valid can p =
     let t = p.trace in
     let own = subst (CanTrace m) (sym p.is_trace.blocks_are) can in
     let b = some_blocks p.trace.blocks own.some in
     let r_is : r ≡ replacement_of machine homes (placed_in p.trace p.words) (at_splits_of (placed_in p.trace p.words)) (at_joins_of (placed_in p.trace p.words)) =
     p.replacement ∙ ap (λ z. replacement_of machine homes (placed_in p.trace p.words) z p.rejoins) p.at_splits ∙ ap (replacement_of machine homes (placed_in p.trace p.words) (at_splits_of (placed_in p.trace p.words))) p.at_joins in
-    let of_trace = subst (λ (z : Replacement). ArraysAre m.arrays z.trace) r_is arrays in
     subst (Compensated (latency_of_op machine) m) (sym r_is)
-    (compensated m machine mode homes p.trace p.words p.height p.is_a_machine (own_blocks m blocks p.trace p.is_trace) p.heights p.placed valid own of_trace b.0 b.1 b.2)
+    (compensated m machine mode homes p.trace p.words p.height p.is_a_machine (own_blocks m blocks p.trace p.is_trace) p.heights p.placed valid own b.0 b.1 b.2)
 
 pub plan_keeps : PlanKeeps
-plan_keeps m blocks machine mode homes r valid can arrays in_time stay p =
+plan_keeps m blocks machine mode homes r valid can in_time stay p =
     let same : r.homes ≡ homes = ap (λ (z : Replacement). z.homes) p.replacement in
-    compensation_law (latency_of_op machine) m r valid in_time (λ v k h. ap (λ (z : Homes). slice_index_or z.clusters v None) same ∙ stay v k h) (plan_law m blocks machine mode homes r valid can arrays p)
+    compensation_law (latency_of_op machine) m r valid in_time (λ v k h. ap (λ (z : Homes). slice_index_or z.clusters v None) same ∙ stay v k h) (plan_law m blocks machine mode homes r valid can p)

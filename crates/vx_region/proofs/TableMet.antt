@@ -5,8 +5,8 @@ use Rattle.vx_region.proofs.Table.{never_at, table_met}
 use Rattle.vx_region.proofs.NeverMeeting.{never_apart}
 
 pub the_table_is_met : TableMet
-the_table_is_met c m homes mode height words arrays are heights placed = record {
+the_table_is_met c m homes mode height words heights placed = record {
   never = never_at c.trace.ops words;
   meets = table_met m mode c.trace words (met c m homes mode height words heights placed);
-  apart = never_apart m mode c.trace words (met c m homes mode height words heights placed) arrays are.apart are.inside;
+  apart = never_apart m mode c.trace words (met c m homes mode height words heights placed);
 }

@@ -2,3 +2,8 @@ pub mod Planned
 pub mod Meets
 pub mod PlanLaws
 pub mod RegionPlans
+pub mod Regions
+pub mod Giving
+pub mod Sweeping
+pub mod Stepping
+pub mod TwoBlocks

@@ -1,13 +1,9 @@
 -- Words that a placement gives meet the delays of the trace, and so the table under which every operation may move.
-use Rattle.std.specs.Prelude.{◌≡◌, ◌<◌, ◌≤◌, ◌⊎◌, ◌+◌, ℕ, Bool, true, Some, List, length, slice_get}
-use Rattle.vx_flow.specs.declared.graph.Array.{Array}
-use Rattle.vx_flow.specs.declared.graph.Op.{Op}
-use Rattle.vx_flow.specs.declared.trace.TraceOp.TheVariants.{Plain}
+use Rattle.std.specs.Prelude.{◌≡◌, ◌<◌, ◌≤◌, ◌⊎◌, ◌+◌, ℕ, Bool, true, List, length, slice_get}
 use Rattle.vx_flow.specs.declared.trace.Trace.{Trace}
 use Rattle.vx_flow.specs.declared.trace.Clustered.{Clustered}
 use Rattle.vx_flow.specs.declared.trace.Homes.{Homes}
 use Rattle.vx_flow.specs.Effects.{Setting, IsIn}
-use Rattle.vx_flow.specs.Sound.{arrays_of}
 use Rattle.vx_isa.specs.Numbers.{Numbers}
 use Rattle.vx_machine.specs.Items.{latency_of_op}
 use Rattle.vx_mixed.specs.Agree.{Apart}
@@ -25,20 +21,15 @@ DelaysMet =
     (c : Clustered) (m : Numbers) (homes : Homes) (mode : Mode) (height : ℕ → ℕ) (words : List ℕ) (i j delay : ℕ)
     → AreHeights m mode c.trace height → PlacedBy c m homes mode height words → Applies m mode c.trace i j delay → word_at words i + delay ≤ word_at words j
 
--- two arrays with one name are one, and the operations access these arrays alone
-pub record ArraysAre (arrays : List Array) (t : Trace) : Type 0 where
-  pub apart : (a b : ℕ) (x y : Array) → slice_get arrays a ≡ Some x → slice_get arrays b ≡ Some y → x.named ≡ y.named → a ≡ b
-  pub inside : (op : Op) (a : ℕ) → IsIn (Plain op) t.ops → IsIn a (arrays_of op) → a < length arrays
-
 -- the words meet the table, with some test of accesses: those for which it says so touch no word in common in any run that
 -- enters the trace at its start or at a join
-pub record MeetsTable (m : Numbers) (arrays : List Array) (t : Trace) (words : List ℕ) : Type 0 where
+pub record MeetsTable (m : Numbers) (t : Trace) (words : List ℕ) : Type 0 where
   pub never : ℕ → ℕ → Bool
   pub meets : (word : ℕ → ℕ) → ((k : ℕ) → k < length t.ops → word k ≡ word_at words k) →
       Meets (plain_items t.ops) (item_latency (latency_of_op m)) (λ e v. IsIn v (live_of (slice_get t.ops e))) never (is_join_place t.joins) word
-  pub apart : (setting : Setting) → Apart arrays setting → (q : ℕ) → ((q ≡ 0) ⊎ (is_join_place t.joins q ≡ true)) → NeverApart setting (plain_items t.ops) never q
+  pub apart : (setting : Setting) → Apart setting → (q : ℕ) → ((q ≡ 0) ⊎ (is_join_place t.joins q ≡ true)) → NeverApart setting (plain_items t.ops) never q
 
 abbrev pub TableMet : Type 0
 TableMet =
-    (c : Clustered) (m : Numbers) (homes : Homes) (mode : Mode) (height : ℕ → ℕ) (words : List ℕ) (arrays : List Array)
-    → ArraysAre arrays c.trace → AreHeights m mode c.trace height → PlacedBy c m homes mode height words → MeetsTable m arrays c.trace words
+    (c : Clustered) (m : Numbers) (homes : Homes) (mode : Mode) (height : ℕ → ℕ) (words : List ℕ)
+    → AreHeights m mode c.trace height → PlacedBy c m homes mode height words → MeetsTable m c.trace words

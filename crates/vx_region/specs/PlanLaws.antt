@@ -12,19 +12,17 @@ use Rattle.vx_mixed.specs.Settled.{InTime}
 use Rattle.vx_mixed.specs.TraceOf.{CanTrace}
 use Rattle.vx_mixed.specs.Valid.{Valid}
 use Rattle.vx_dep.specs.declared.mode.Mode.{Mode}
-use Rattle.vx_region.specs.Meets.{ArraysAre}
 use Rattle.vx_region.specs.Planned.{Planned}
 
--- The arrays of the graph are told apart by their names, and the trace accesses these alone: a graph of blocks and regions
--- does not say so by itself.
+-- On one cluster, what planning gives is compensated.
 abbrev pub PlanLaw : Type 0
 PlanLaw =
-    (m : MixedGraph) (blocks : List ℕ) (machine : Numbers) (mode : Mode) (homes : Homes) (r : Replacement) → Valid m → CanTrace m blocks → ArraysAre m.arrays r.trace →
+    (m : MixedGraph) (blocks : List ℕ) (machine : Numbers) (mode : Mode) (homes : Homes) (r : Replacement) → Valid m → CanTrace m blocks →
     Planned m blocks machine mode homes r → Compensated (latency_of_op machine) m r
 
 -- So it keeps the meaning.
 abbrev pub PlanKeeps : Type 0
 PlanKeeps =
-    (m : MixedGraph) (blocks : List ℕ) (machine : Numbers) (mode : Mode) (homes : Homes) (r : Replacement) → Valid m → CanTrace m blocks → ArraysAre m.arrays r.trace →
+    (m : MixedGraph) (blocks : List ℕ) (machine : Numbers) (mode : Mode) (homes : Homes) (r : Replacement) → Valid m → CanTrace m blocks →
     ((q : ℕ) (g : Region) → slice_get m.regions q ≡ Some g → InTime (latency_of_op machine) g) → HomesStay m.homes.clusters homes.clusters →
     Planned m blocks machine mode homes r → Keeps (latency_of_op machine) m r

@@ -11,6 +11,7 @@ use Rattle.vx_isa.specs.Numbers.{Numbers}
 use Rattle.vx_mixed.specs.declared.region.Node.TheVariants.{Unused}
 use Rattle.vx_mixed.specs.declared.mixed.MixedGraph.{MixedGraph}
 use Rattle.vx_mixed.specs.declared.replacement.Replacement.{Replacement}
+use Rattle.vx_mixed.specs.TraceOf.{IsTraceOf}
 use Rattle.vx_dep.specs.declared.mode.Mode.{Mode}
 use Rattle.vx_dep.specs.declared.copies.EdgeCopies.{EdgeCopies}
 use Rattle.vx_dep.specs.declared.copies.Rejoin.{Rejoin}
@@ -40,6 +41,12 @@ pub record IsPlan (t : Trace) (machine : Numbers) (homes : Homes) (mode : Mode) 
   pub last_drain : plan.last_drain ≡ drain_at machine plan.placed plan.placed.length
   pub starts : plan.starts ≡ map (λ (x : Rejoin). x.word) plan.rejoins
   pub made : plan.made ≡ made_at_splits plan.placed plan.splits ++ made_at_joins plan.placed plan.placed.clustered.trace.joins plan.rejoins
+
+-- the plan of the trace of these blocks
+pub record HasPlan (m : MixedGraph) (blocks : List ℕ) (machine : Numbers) (homes : Homes) (mode : Mode) (plan : RegionPlan) : Type 0 where
+  pub trace : Trace
+  pub is_trace : IsTraceOf m blocks trace
+  pub is : IsPlan trace machine homes mode plan
 
 -- what a replacement is made of by it
 abbrev pub replacement_in : Homes → RegionPlan → Replacement

@@ -6,7 +6,7 @@ ghost use Rattle.vx_mixed.specs.TraceOf.{CanTrace};
 ghost use Rattle.vx_dep.specs.declared.copies.Rejoin.{Rejoin};
 ghost use Rattle.vx_sched.specs.Placement.{HaveRoomAlone};
 ghost use Rattle.vx_region.specs.Planned.{Planned};
-ghost use Rattle.vx_region.specs.RegionPlans.{on_one, OnOneCluster, IsPlaced, IsPlan, replacement_in};
+ghost use Rattle.vx_region.specs.RegionPlans.{on_one, HasPlan, OnOneCluster, IsPlaced, IsPlan, replacement_in};
 
 use crate::made::{made_blocks, zeros};
 use crate::waits::{drain_at, drains};
@@ -56,7 +56,8 @@ pub fn plan(
 ) -> Result<RegionPlan, NoMemory>
     requires can { CanTrace mixed.now blocks.now }
     requires one_cluster { OnOneCluster mixed.now blocks.now }
-    ensures { IfOk result (λ plan. Planned mixed.now blocks.now machine.now mode homes.now (replacement_in homes.now plan)) }
+    ensures planned { IfOk result (λ plan. Planned mixed.now blocks.now machine.now mode homes.now (replacement_in homes.now plan)) }
+    ensures has_plan { IfOk result (λ plan. HasPlan mixed.now blocks.now machine.now homes.now mode plan) }
 {
     machine.keeps_ranges();
     room_alone_law();
