@@ -1,2 +1,12 @@
+pub mod Holding
+pub mod BusyHulls
+pub mod BusyNotes
+pub mod HullNotes
+pub mod Insides
 pub mod Marking
-pub mod Slotted
+pub mod Scans
+pub mod Allocated
+pub mod SortedSpans
+pub mod NodeMarks
+pub mod WaySteps
+pub mod WayLives

@@ -1,3 +1,9 @@
+pub mod BusyPlaces
+pub mod Filed
+pub mod Held
+pub mod Hulls
 pub mod Intervals
 pub mod Mapped
 pub mod Marks
+pub mod Spans
+pub mod Ways

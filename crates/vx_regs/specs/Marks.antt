@@ -1,10 +1,8 @@
--- Values that are marked: which of them a word names, and a slot for each that is.
-use Rattle.std.specs.Prelude.{◌≡◌, ◌⊎◌, ℕ, suc, Bool, true, false, List, [], ◌∷◌, ◌++◌, slice_index_or}
+-- Values that are marked: which of them a word names.
+use Rattle.std.specs.Prelude.{◌≡◌, ◌⊎◌, ℕ, Bool, true, false, List, ◌++◌, slice_index_or}
 use Rattle.std.specs.List.{flat_map}
 use Rattle.vx_flow.specs.Effects.{IsIn}
 use Rattle.vx_mixed.specs.declared.layout.VirtualWord.{VirtualWord}
-use Rattle.vx_regs.specs.declared.map.Kept.{Kept}
-use Rattle.vx_regs.specs.declared.map.Kept.TheVariants.{InSlot, Nowhere}
 use Rattle.vx_regs.specs.Intervals.{word_reads, word_writes}
 
 abbrev pub is_marked : List Bool → ℕ → Bool
@@ -24,9 +22,3 @@ names_of_words words = flat_map names_of_word words
 -- each value that the words name is marked, or is named by one of those that are left
 abbrev pub Naming : (words left : List VirtualWord) → List Bool → Type 0
 Naming words left marks = (v : ℕ) → IsIn v (names_of_words words) → (is_marked marks v ≡ true) ⊎ IsIn v (names_of_words left)
-
--- the marked ones have slots from a number on
-abbrev pub slots_from : ℕ → List Bool → List Kept
-slots_from n [] = []
-slots_from n (true ∷ marks) = InSlot n ∷ slots_from (suc n) marks
-slots_from n (false ∷ marks) = Nowhere ∷ slots_from n marks
