@@ -1,11 +1,10 @@
 -- Words of calls, returns and entries that begin with nothing in flight meet nothing in flight.
-use Rattle.std.proofs.Common.{◌≡◌, ◌≢◌, ◌<◌, ◌≤◌, ◌⊎◌, inl, inr, ⊎_elim, ◌+◌, ◌-◌, ℕ, zero, suc, ℤ, pos, neg_ℤ, Bool, true, false, ◌||◌, cond, Option, Some, None, List, [], ◌∷◌, ◌++◌, append_assoc, map, refl, sym, ap, ◌∙◌, subst, arith}
-use Rattle.std.specs.Prelude.{if◌then◌else◌, max}
-use Rattle.std.specs.List.{list_any}
+use Rattle.std.proofs.Common.{◌≡◌, ◌≤◌, ◌⊎◌, ⊎_elim, ◌+◌, ◌-◌, ℕ, zero, suc, ℤ, pos, neg_ℤ, Bool, true, false, Option, Some, None, List, [], ◌∷◌, ◌++◌, append_assoc, map, refl, sym, ◌∙◌, subst, arith}
+use Rattle.std.specs.Prelude.{if◌then◌else◌}
 use Rattle.vx_base.specs.declared.arithmetic.Code.TheVariants.{Add, ToBranch}
 use Rattle.vx_base.specs.declared.arithmetic.Compare.TheVariants.{Ltu, Ne}
 use Rattle.vx_base.specs.declared.outcome.Trap.{Trap}
-use Rattle.vx_base.proofs.Pieces.{cold, fine_less}
+use Rattle.vx_base.proofs.Pieces.{cold}
 use Rattle.vx_flow.specs.declared.graph.Operand.{Operand}
 use Rattle.vx_flow.specs.declared.graph.Operand.TheVariants.{Held as HeldValue, Number as AsNumber, Stack}
 use Rattle.vx_flow.specs.Walk.{numbers}
@@ -15,13 +14,13 @@ use Rattle.vx_isa.specs.declared.operation.Source.{Source}
 use Rattle.vx_isa.specs.declared.operation.Source.TheVariants.{Held, Number}
 use Rattle.vx_isa.specs.declared.operation.GeneralRegister.{GeneralRegister}
 use Rattle.vx_isa.specs.declared.operation.Operation.{Operation}
-use Rattle.vx_isa.specs.declared.operation.Operation.TheVariants.{Compute, Move, Select, Load, Store, Goto, BranchOn, Call, Return, FromLink, ToLink, EndByTrap, Halt}
+use Rattle.vx_isa.specs.declared.operation.Operation.TheVariants.{Compute, Move, Select, Load, Store, Goto, BranchOn, Call, Return, ToLink, EndByTrap, Halt}
 use Rattle.vx_isa.specs.declared.program.Word.{Word}
 use Rattle.vx_isa.specs.Operations.{latency_of}
 use Rattle.vx_isa.specs.Fits.{destinations}
-use Rattle.vx_frame.specs.Target.{Target, answer, general, general_of, branch_of, stack_on, home, holds_branch, is_slotted, kept, parameters_of, one, waited, load_slot, store_slot, store_slots, on_clusters, move_stack, save_words, fetch_words, fetched, cluster_of_operand, argument_words, result_words, call_words, return_words, start_words, bytes, first_frame}
+use Rattle.vx_frame.specs.Target.{Target, answer, general, general_of, branch_of, stack_on, home, holds_branch, is_slotted, kept, parameters_of, one, waited, load_slot, store_slot, store_slots, on_clusters, move_stack, fetch_words, fetched, cluster_of_operand, argument_words, result_words, call_words, return_words, start_words, bytes, first_frame}
 use Rattle.vx_frame.proofs.Early.{falls, Jumps, Touches}
-use Rattle.vx_frame.proofs.Heats.{lift, FineWords, word_fine, wait_fine, stop_fine, lift_fewer, lift_off}
+use Rattle.vx_frame.proofs.Heats.{lift, FineWords, word_fine, wait_fine, stop_fine}
 
 module _ (T : Target) (heat : ℕ → Register → ℕ) (short : (op : Operation) → latency_of T.machine op ≤ T.pause + 1) where
   abbrev pub Fine : (Register → ℕ) → List Word → (Register → ℕ) → Type 0

@@ -1,6 +1,6 @@
 -- A program of pieces, each with what may be in flight at its start, reads and writes no register early on any path.
-use Rattle.std.proofs.Common.{◌≡◌, ◌<◌, ◌≤◌, ◌⊎◌, inl, inr, ⊎_elim, ◌+◌, ◌-◌, ℕ, zero, suc, Bool, true, false, cond, Option, Some, None, List, [], ◌∷◌, ◌++◌, length, refl, sym, ap, ◌∙◌, subst, arith}
-use Rattle.std.specs.Prelude.{slice_get, max}
+use Rattle.std.proofs.Common.{◌≡◌, ◌⊎◌, inl, inr, ⊎_elim, ◌+◌, ◌-◌, ℕ, Bool, true, false, cond, Option, Some, None, List, [], ◌∷◌, ◌++◌, refl, sym, subst, arith}
+use Rattle.std.specs.Prelude.{slice_get}
 use Rattle.vx_base.proofs.Pieces.{Kind, Cools, Piece, words_of, heats_of, look_up, Joined, Hit, HitsWith, cooled_by, hits_more, hits_kept, hits_fresh, pieces_certificate}
 use Rattle.vx_base.proofs.Certificate.{IsCertificate, never_early, never_early_anywhere}
 use Rattle.vx_isa.specs.declared.operation.Register.{Register}
@@ -9,10 +9,10 @@ use Rattle.vx_isa.specs.declared.operation.Operation.TheVariants.{Compute, Move,
 use Rattle.vx_isa.specs.declared.program.Word.{Word}
 use Rattle.vx_isa.specs.declared.program.WordProgram.{WordProgram}
 use Rattle.vx_isa.specs.Numbers.{Numbers}
-use Rattle.vx_isa.specs.Operations.{same, is_zero, list_of, destination_of, is_call, latency_of}
+use Rattle.vx_isa.specs.Operations.{same, is_zero, destination_of, is_call, latency_of}
 use Rattle.vx_isa.specs.Fits.{operands, destinations}
 use Rattle.vx_isa.specs.Machine.{cycles_of}
-use Rattle.vx_isa.specs.Paths.{LeadsTo, Leads, WordAt, cycles_of_some, cycles_at, Among, ReadsAt, WritesAt, NamesAt, NeverReadsEarly, NeverWritesEarly}
+use Rattle.vx_isa.specs.Paths.{LeadsTo, Leads, cycles_of_some, cycles_at, Among, ReadsAt, WritesAt, NamesAt, NeverReadsEarly, NeverWritesEarly}
 use Rattle.vx_isa.proofs.AnyTiming.{tells}
 use Rattle.vx_base.proofs.Pieces as pieces
 

@@ -1,6 +1,5 @@
 -- The words at the start of a function and behind a call reload values while nothing else is in flight.
-use Rattle.std.proofs.Common.{◌≡◌, ◌≢◌, ◌<◌, ◌≤◌, ◌⊎◌, inl, inr, ⊎_elim, ◌+◌, ℕ, suc, ℤ, pos, Bool, true, false, Option, Some, None, List, [], ◌∷◌, ◌++◌, append_assoc, map, refl, sym, ap, ◌∙◌, subst, arith}
-use Rattle.std.specs.Prelude.{slice_get}
+use Rattle.std.proofs.Common.{◌≡◌, ◌≤◌, ◌+◌, ℕ, suc, pos, false, Option, Some, List, [], ◌∷◌, ◌++◌, append_assoc, refl, sym, ap, subst, arith}
 use Rattle.std.proofs.lemmas.List.{append-nil}
 use Rattle.vx_base.proofs.Pieces.{cold, fine_append}
 use Rattle.vx_flow.specs.declared.graph.Bank.{Bank}
@@ -17,7 +16,7 @@ use Rattle.vx_machine.specs.Items.{latency_of_op}
 use Rattle.vx_mixed.specs.LaidSettled.{bank_in}
 use Rattle.vx_mixed.specs.Settled.{NoTwice}
 use Rattle.vx_regs.specs.Intervals.{IsBusy, is_live}
-use Rattle.vx_frame.specs.Target.{Target, general, kept, is_slotted, stack_on, one, waited, load_slots, move_stack, reload_words, result_words, entry_words, call_words, back_words, bytes}
+use Rattle.vx_frame.specs.Target.{Target, general, kept, is_slotted, stack_on, one, waited, load_slots, reload_words, result_words, entry_words, call_words, back_words, bytes}
 use Rattle.vx_frame.specs.Carried.{IsMapped, IsSaved, CallsAt}
 use Rattle.vx_frame.proofs.Names.{not_general, apart_registers}
 use Rattle.vx_frame.proofs.Live.{live_bank}

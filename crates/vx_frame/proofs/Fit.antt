@@ -44,10 +44,10 @@ use Rattle.vx_mixed.specs.declared.layout.VWords.{VWords}
 use Rattle.vx_mixed.specs.LaidSettled.{bank_in, laid_reads, laid_writes, Plans}
 use Rattle.vx_regs.specs.Intervals.{IsBusy, is_live, is_named, word_reads, word_writes}
 use Rattle.vx_regs.specs.declared.map.Kept.TheVariants.{InRegister}
-use Rattle.vx_frame.specs.Target.{Target, answer, general, general_of, branch_of, stack_on, zero_on, home, holds_branch, is_branch, is_slotted, kept, slotted, parameters_of, one, waited, waits, load_slot, store_slot, load_slots, store_slots, if_some, before, behind, plan_word, plan_words, landing_words, on_clusters, move_stack, save_words, reload_words, fetch_words, fetched, cluster_of_operand, argument_words, result_words, call_words, back_words, return_words, entry_words, choice_words, word_words, start_words, bytes, first_frame}
+use Rattle.vx_frame.specs.Target.{Target, answer, general, general_of, branch_of, stack_on, zero_on, home, holds_branch, is_branch, is_slotted, kept, slotted, parameters_of, one, waited, waits, load_slot, store_slot, load_slots, store_slots, if_some, once, before, behind, plan_word, plan_words, landing_words, on_clusters, move_stack, save_words, reload_words, fetch_words, fetched, cluster_of_operand, argument_words, result_words, call_words, back_words, return_words, entry_words, choice_words, word_words, start_words, bytes, first_frame}
 use Rattle.vx_frame.specs.Placed.{Start, Entry, At, Landing, Depth, Labelled, laid_pieces, landing_of, item_landings, word_landings, landing_pieces, function_pieces, functions_pieces, all_pieces, words_of}
 use Rattle.vx_frame.specs.Carried.{Carries, IsFunctionOf, IsMapped, item_of_laid}
-use Rattle.vx_frame.specs.Fitted.{CopiesGoAcross, FitLaw}
+use Rattle.vx_frame.specs.Fitted.{FitLaw}
 use Rattle.vx_frame.specs.Planned.{WordsFit}
 use Rattle.vx_frame.proofs.Frames.{get_some, get_in}
 use Rattle.vx_frame.proofs.FromGraph.{whole_bank, has_whole, op_proper, test_proper}
@@ -55,6 +55,7 @@ use Rattle.vx_frame.proofs.Proper.{ProperItems}
 use Rattle.vx_frame.proofs.Names.{Few}
 use Rattle.vx_frame.proofs.Live.{reads_bank, writes_bank, live_bank}
 use Rattle.vx_frame.proofs.Enough.{few_reads, few_writes, named_busy, in_all_of, in_map}
+use Rattle.vx_frame.proofs.Once.{once_in}
 use Rattle.vx_frame.proofs.Word.{slotted_from}
 use Rattle.vx_frame.proofs.Limits.{Limits, limits, Good, empty_good, one_good, spread_good, count_single, count_none}
 use Rattle.vx_frame.proofs.Filed.{few_single, few_kept, general_filed, branch_filed}
@@ -96,7 +97,7 @@ module _ (m : Numbers) where
   some_good [] ws g = tt
   some_good (v ∷ vs) ws g = g
 
-module _ (T : Target) (flow : Flow) (ls : List VWords) (w : WordProgram) (sound : SoundFlow flow) (carries : Carries T flow ls w) (away : CopiesGoAcross T flow) (by_room : FitsByRoom) where
+module _ (T : Target) (flow : Flow) (ls : List VWords) (w : WordProgram) (sound : SoundFlow flow) (carries : Carries T flow ls w) (by_room : FitsByRoom) where
   abbrev M : Numbers
   M = T.machine
 
@@ -168,7 +169,7 @@ module _ (T : Target) (flow : Flow) (ls : List VWords) (w : WordProgram) (sound 
   store_slots_good f names (v ∷ vs) h = good_append M (store_slot T f v (general_of T f names v) (branch_of T f names v)) (store_slots T f names vs) (store_slot_good f v names (h v (inl refl))) (store_slots_good f names vs (λ x i. h x (inr i)))
 
   before_good : (f : ℕ) (names : List ℕ) → ((v : ℕ) → IsIn v names → Named f names v) → Words (before T f names)
-  before_good f names h = some_good M (slotted T f names) (load_slots T f names (slotted T f names) ++ waited T ∷ []) (good_append M (load_slots T f names (slotted T f names)) (waited T ∷ []) (load_slots_good f names (slotted T f names) (λ v i. h v (slotted_from T f v names i).0)) (wait_good T.pause))
+  before_good f names h = some_good M (slotted T f names) (load_slots T f names (once (slotted T f names)) ++ waited T ∷ []) (good_append M (load_slots T f names (once (slotted T f names))) (waited T ∷ []) (load_slots_good f names (once (slotted T f names)) (λ v i. h v (slotted_from T f v names (once_in v (slotted T f names) i)).0)) (wait_good T.pause))
 
   behind_good : (f : ℕ) (names : List ℕ) → ((v : ℕ) → IsIn v names → Named f names v) → Words (behind T f names)
   behind_good f names h = some_good M (slotted T f names) (waited T ∷ store_slots T f names (slotted T f names)) (idle, store_slots_good f names (slotted T f names) (λ v i. h v (slotted_from T f v names i).0))
@@ -370,7 +371,7 @@ module _ (T : Target) (flow : Flow) (ls : List VWords) (w : WordProgram) (sound 
 
       planned_good : Words (plan_words T f p items)
       planned_good = good_append M (before T f (laid_reads items)) (plan_word T f p items ∷ behind T f (laid_writes items)) (before_good f (laid_reads items) read_named)
-          (plan_good T f mapped graph_sound IsArray p items plans proper banks (λ v u k i. away f p v u k items lt plans i) l by_room, behind_good f (laid_writes items) write_named)
+          (plan_good T f mapped graph_sound IsArray p items plans proper banks l by_room, behind_good f (laid_writes items) write_named)
 
       landing_good : (q : ℕ) → Words (landing_words T f items q)
       landing_good q = good_append M (behind T f (laid_writes items)) (one (Goto (T.starts f q)) ∷ []) (behind_good f (laid_writes items) write_named) (goto_good (T.starts f q), tt)
@@ -470,4 +471,4 @@ module _ (T : Target) (flow : Flow) (ls : List VWords) (w : WordProgram) (sound 
   words_fit p word at = good_at M w.words p word all_good at
 
 pub fit_law : FitsByRoom → FitLaw
-fit_law by_room T flow ls w sound carries away = words_fit T flow ls w ((told flow (is_sound_flow flow) refl).0 sound) carries away by_room
+fit_law by_room T flow ls w sound carries = words_fit T flow ls w ((told flow (is_sound_flow flow) refl).0 sound) carries by_room

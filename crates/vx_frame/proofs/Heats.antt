@@ -1,7 +1,7 @@
 -- Words after which some registers may be in flight, and words that wait until all has landed.
-use Rattle.std.proofs.Common.{◌≡◌, ◌≢◌, ◌<◌, ◌≤◌, ◌⊎◌, inl, inr, ⊎_elim, ◌+◌, ◌-◌, ℕ, zero, suc, Bool, true, false, ◌||◌, cond, Option, Some, None, List, [], ◌∷◌, ◌++◌, refl, sym, ap, ◌∙◌, subst, arith}
+use Rattle.std.proofs.Common.{◌≡◌, ◌≤◌, ◌⊎◌, inl, inr, ⊎_elim, ◌+◌, ◌-◌, ℕ, Bool, true, false, ◌||◌, cond, Option, Some, None, List, [], ◌∷◌, ◌++◌, refl, sym, ap, ◌∙◌, arith}
 use Rattle.std.specs.Prelude.{max}
-use Rattle.std.specs.List.{list_any, flat_map}
+use Rattle.std.specs.List.{list_any}
 use Rattle.vx_base.proofs.Pieces.{Hit, raised, cold, Fine, fine_less}
 use Rattle.vx_isa.specs.declared.operation.Register.{Register}
 use Rattle.vx_isa.specs.declared.operation.Operation.{Operation}
@@ -70,7 +70,7 @@ lift_more n b xs rs r = by (list_any (same r) rs) refl
 pub lift_off : (n : ℕ) (b : Register → ℕ) (rs : List Register) (r : Register) → b r ≡ 0 → list_any (same r) rs ≡ false → lift n b rs r ≡ 0
 lift_off n b rs r z e = ap (λ t. cond t (max (b r) n) (b r)) e ∙ z
 
-abbrev HitIn : Hit Register → List (Hit Register) → Type 0
+abbrev pub HitIn : Hit Register → List (Hit Register) → Type 0
 HitIn x [] = ⊥
 HitIn x (y ∷ ys) = (x ≡ y) ⊎ HitIn x ys
 
@@ -95,7 +95,7 @@ hit_in m n short op (Some r) x i = by (is_call op) i
     by true j = absurd j
     by false j = ⊎_elim (λ e. (inl (ap (λ h. h.to) e), let k : x.latency ≡ latency_of m op = ap (λ h. h.latency) e in let s = short op in omega arith)) (λ k. absurd k) j
 
-hit_either : (x : Hit Register) (xs ys : List (Hit Register)) → HitIn x (xs ++ ys) → HitIn x xs ⊎ HitIn x ys
+pub hit_either : (x : Hit Register) (xs ys : List (Hit Register)) → HitIn x (xs ++ ys) → HitIn x xs ⊎ HitIn x ys
 hit_either x [] ys i = inr i
 hit_either x (y ∷ xs) ys i = ⊎_elim (λ e. inl (inl e)) (λ k. ⊎_elim (λ a. inl (inr a)) (λ b. inr b) (hit_either x xs ys k)) i
 

@@ -9,6 +9,7 @@ use Rattle.std.proofs.lemmas.List.Folds.{list_all-append}
 use Rattle.vx_base.specs.declared.arithmetic.Code.{Code}
 use Rattle.vx_base.specs.declared.arithmetic.Code.TheVariants.{Add, Sub, And, Or, Xor, Shl, Shr, Shru, Sh2add, Max, Min, Mov, ToGeneral, ToBranch, Mpylu, Mpyhs, Div, Rem}
 use Rattle.vx_flow.specs.declared.graph.Bank.{Bank}
+use Rattle.vx_flow.specs.declared.graph.Bank.TheVariants.{General as GeneralBank, Branch as BranchBank}
 use Rattle.vx_flow.specs.declared.graph.Operand.{Operand}
 use Rattle.vx_flow.specs.declared.graph.Operand.TheVariants.{Held as HeldValue, Number as AsNumber, Stack}
 use Rattle.vx_flow.specs.declared.graph.Op.{Op}
@@ -37,7 +38,7 @@ use Rattle.vx_mixed.specs.declared.layout.Laid.{Laid}
 use Rattle.vx_mixed.specs.declared.layout.Laid.TheVariants.{Plain, Split}
 use Rattle.vx_mixed.specs.Settled.{read_there}
 use Rattle.vx_mixed.specs.LaidSettled.{bank_in, item_reads, item_writes, laid_reads, laid_writes, Plans}
-use Rattle.vx_frame.specs.Target.{Target, home, holds_branch, general, general_of, branch_of, register_of, source_of, access_base, access_offset, base_of, is_own, stack_on, zero_on, computes, carried}
+use Rattle.vx_frame.specs.Target.{Target, home, is_branch, holds_branch, general, general_of, branch_of, register_of, source_of, access_base, access_offset, base_of, is_own, stack_on, zero_on, computes, carried}
 use Rattle.vx_frame.specs.Carried.{IsMapped, item_of_laid}
 use Rattle.vx_frame.proofs.Forms.{to_branch}
 use Rattle.vx_frame.proofs.Proper.{PlainOperand, PlaceIn, ProperOp, ProperItems}
@@ -167,7 +168,7 @@ no_register c n = let q : count_by (takes_write_port c) [] ≡ 0 = refl in omega
 
 module _ (T : Target) (f : ℕ) (mapped : IsMapped T f) (sound : Sound (T.graph f)) (IsArray : ℕ → Type 0) (p : ℕ) (items : List Laid) (plans : Plans (T.layout f) p items) (proper : ProperItems T f IsArray items)
     (bank : (v : ℕ) → IsIn v (laid_reads items) ⊎ IsIn v (laid_writes items) → (b : Bank) × (bank_in (T.layout f) v ≡ Some b))
-    (away : (v u k : ℕ) → IsIn (Plain (Across v u) k) items → home T f u ≢ k) (l : Limits T.machine) (well_placed : (x : Laid) → IsIn x items → stands_well T.machine (item_of_laid x) ≡ true) where
+    (l : Limits T.machine) (well_placed : (x : Laid) → IsIn x items → stands_well T.machine (item_of_laid x) ≡ true) where
   abbrev Rs : List ℕ
   Rs = laid_reads items
 
@@ -220,6 +221,13 @@ module _ (T : Target) (f : ℕ) (mapped : IsMapped T f) (sound : Sound (T.graph 
   proper_test test q y [] h i = absurd i
   proper_test test q y (Plain o j ∷ xs) h i = ⊎_elim (λ e. absurd (cc)) (λ m. proper_test test q y xs h.1 m) i
   proper_test test q y (Split t z r ∷ xs) h i = ⊎_elim (λ e. let a : test ≡ t = cc in ap (holds_branch T f) a ∙ h.0.1) (λ m. proper_test test q y xs h.1 m) i
+
+  as_general : (v : ℕ) → (b : Bank) × (bank_in (T.layout f) v ≡ Some b) → holds_branch T f v ≡ false → bank_in (T.layout f) v ≡ Some GeneralBank
+  as_general v b e = by b.0 b.1
+    where
+      by : (c : Bank) → bank_in (T.layout f) v ≡ Some c → bank_in (T.layout f) v ≡ Some GeneralBank
+      by GeneralBank q = q
+      by BranchBank q = absurd (let z : true ≡ false = sym (ap is_branch q) ∙ e in cc)
 
   -- registers that are read on a cluster
 
@@ -531,7 +539,7 @@ module _ (T : Target) (f : ℕ) (mapped : IsMapped T f) (sound : Sound (T.graph 
       let m : IsIn u Rs = in_reads (Across v u) k u i (inl refl) in
       let to = result_there (Across v u) k v i (inl refl) h.1 in
       let src = across_source T f mapped sound IsArray p items plans proper bank u v u k u h.2 i refl (file_self T f mapped u) in
-      general_result (Across v u) k v (carried T f Rs Ws k (Across v u)) i (inl refl) h.1 refl refl (ap (λ b. if b then Alu else Copies) (ne_eqb (home T f u) k (away v u k i))) refl refl refl
+      general_result (Across v u) k v (carried T f Rs Ws k (Across v u)) i (inl refl) h.1 refl refl (ap (λ b. if b then Alu else Copies) (ne_eqb (home T f u) k (mapped.settled.across p v u k items plans i (as_general v (bank v (inr (in_writes (Across v u) k v i (inl refl)))) h.1)))) refl refl refl
       (λ c. needs_across c u (home_of TheHomes u) src) (both_true (general_filed T f mapped l Rs u few_r m (bank u (inl m)) (home_lt u (inl m)) h.2) refl) (same_eqb (home T f v) k to.0)
 
   pub split_carries : (test q to : ℕ) (y : Bool) → IsIn (Split test y q) items → Carrying (item_of_laid (Split test y q)) (Operation.BranchOn (branch_of T f Rs test) y to) []

@@ -1,5 +1,5 @@
 -- What may be in flight to registers at a word of a layout: what is left of the writes to the values that live in them.
-use Rattle.std.proofs.Common.{◌≡◌, ◌≢◌, ◌<◌, ◌≤◌, ◌⊎◌, inl, inr, ⊎_elim, ◌+◌, ◌-◌, ℕ, zero, suc, Bool, true, false, cond, Option, Some, None, List, [], ◌∷◌, ◌++◌, refl, sym, ap, ◌∙◌, subst, arith}
+use Rattle.std.proofs.Common.{◌≡◌, ◌≢◌, ◌<◌, ◌≤◌, ◌⊎◌, ⊎_elim, ◌+◌, ◌-◌, ℕ, zero, suc, Bool, true, false, cond, Some, List, [], ◌∷◌, refl, sym, ap, ◌∙◌, subst, arith}
 use Rattle.std.specs.Prelude.{if◌then◌else◌, max, slice_get}
 use Rattle.std.specs.List.{flat_map}
 use Rattle.vx_flow.specs.declared.graph.Bank.{Bank}
@@ -10,7 +10,6 @@ use Rattle.vx_isa.specs.declared.operation.Register.TheVariants.{General}
 use Rattle.vx_isa.specs.Operations.{same}
 use Rattle.vx_isa.proofs.AnyTiming.{tells}
 use Rattle.vx_machine.specs.Items.{latency_of_op}
-use Rattle.vx_mixed.specs.declared.layout.Laid.{Laid}
 use Rattle.vx_mixed.specs.declared.layout.Laid.TheVariants.{Plain}
 use Rattle.vx_mixed.specs.declared.layout.VirtualWord.{VirtualWord}
 use Rattle.vx_mixed.specs.LaidSettled.{bank_in, item_writes, LeadsTo, cycles_of, Pends, written, later}
@@ -18,6 +17,8 @@ use Rattle.vx_regs.specs.Intervals.{IsBusy, is_pending, word_writes}
 use Rattle.vx_frame.specs.Target.{Target, general, kept, is_slotted, register_of}
 use Rattle.vx_frame.specs.Carried.{IsMapped}
 use Rattle.vx_frame.proofs.Names.{Few, not_general, apart_registers, apart_mixed}
+use Rattle.vx_frame.proofs.Word.{own_name as one_name}
+use Rattle.vx_frame.proofs.Frames.{get_in}
 use Rattle.vx_frame.proofs.Enough.{in_all_of}
 use Rattle.vx_frame.proofs.Live.{writes_bank}
 
@@ -107,3 +108,16 @@ module _ (T : Target) (f : ℕ) (mapped : IsMapped T f) (sound : Sound (T.graph 
       by : (b : Bool) → is_slotted (kept T f x) ≡ b → pend p (register_of T f names x) ≡ 0
       by true s = pend_scratch p x names few i s
       by false s = pend_value p x names bank busy none s
+
+  -- what a word writes counts
+
+  pub written_there : (p v : ℕ) (word : VirtualWord) → slice_get (T.layout f).words p ≡ Some word → IsIn v (word_writes word) → IsIn v (flat_map word_writes (T.layout f).words)
+  written_there p v word e i = in_all_of word_writes word v (T.layout f).words (get_in (T.layout f).words p word e) i
+
+  pub left_pends : (q v : ℕ) (names : List ℕ) → is_slotted (kept T f v) ≡ false → IsIn v (flat_map word_writes (T.layout f).words) → Left q v ≤ pend q (register_of T f names v)
+  left_pends q v names e i =
+      let a = left_in q v (register_of T f names v) (flat_map word_writes (T.layout f).words) i in
+      let r : own_name v ≡ register_of T f names v = one_name T f v (v ∷ []) names e in
+      let t : same (own_name v) (register_of T f names v) ≡ true = ap (same (own_name v)) (sym r) ∙ tells.itself (own_name v) in
+      let b : left_of q (register_of T f names v) v ≡ Left q v = ap (λ s. if s then 0 else cond (same (own_name v) (register_of T f names v)) (Left q v) 0) e ∙ ap (λ s. cond s (Left q v) 0) t in
+      omega arith

@@ -7,7 +7,6 @@ use Rattle.std.proofs.lemmas.Bool.{and_parts}
 use Rattle.std.proofs.lemmas.Bool.Decides.{nat_tests}
 use Rattle.std.proofs.lemmas.List.Sums.{AllPass-from_list_all}
 use Rattle.vx_flow.specs.declared.graph.Bank.{Bank}
-use Rattle.vx_flow.specs.declared.graph.Op.TheVariants.{Across}
 use Rattle.vx_flow.specs.declared.trace.Homes.{Homes}
 use Rattle.vx_flow.specs.Effects.{IsIn, writes}
 use Rattle.vx_flow.specs.Sound.{Sound}
@@ -27,7 +26,7 @@ use Rattle.vx_mixed.specs.declared.layout.Laid.{Laid}
 use Rattle.vx_mixed.specs.declared.layout.Laid.TheVariants.{Plain, Split}
 use Rattle.vx_mixed.specs.Settled.{NoTwice}
 use Rattle.vx_mixed.specs.LaidSettled.{bank_in, item_writes, laid_reads, laid_writes, Plans}
-use Rattle.vx_frame.specs.Target.{Target, home, branch_of, register_of, slotted, leads, carried, carried_items}
+use Rattle.vx_frame.specs.Target.{Target, branch_of, register_of, slotted, leads, carried, carried_items}
 use Rattle.vx_frame.specs.Carried.{IsMapped, item_of_laid}
 use Rattle.vx_frame.proofs.Proper.{ProperItems}
 use Rattle.vx_frame.proofs.Names.{apart_all}
@@ -53,7 +52,7 @@ differ r s ne = by (same r s) refl
 
 module _ (T : Target) (f : ℕ) (mapped : IsMapped T f) (sound : Sound (T.graph f)) (IsArray : ℕ → Type 0) (p : ℕ) (items : List Laid) (plans : Plans (T.layout f) p items) (proper : ProperItems T f IsArray items)
     (bank : (v : ℕ) → IsIn v (laid_reads items) ⊎ IsIn v (laid_writes items) → (b : Bank) × (bank_in (T.layout f) v ≡ Some b))
-    (away : (v u k : ℕ) → IsIn (Plain (Across v u) k) items → home T f u ≢ k) (l : Limits T.machine) where
+    (l : Limits T.machine) where
   abbrev Rs : List ℕ
   Rs = laid_reads items
 
@@ -81,9 +80,9 @@ module _ (T : Target) (f : ℕ) (mapped : IsMapped T f) (sound : Sound (T.graph 
   item_op (Plain op k) = carried T f Rs Ws k op
   item_op (Split test y q) = BranchOn (branch_of T f Rs test) y (leads T f p (slotted T f Ws) q)
 
-  item_carries : (x : Laid) → IsIn x items → Carrying T f mapped sound IsArray p items plans proper bank away l well_placed (item_of_laid x) (item_op x) (item_writes x)
-  item_carries (Plain op k) i = op_carries T f mapped sound IsArray p items plans proper bank away l well_placed op k i
-  item_carries (Split test y q) i = split_carries T f mapped sound IsArray p items plans proper bank away l well_placed test q (leads T f p (slotted T f Ws) q) y i
+  item_carries : (x : Laid) → IsIn x items → Carrying T f mapped sound IsArray p items plans proper bank l well_placed (item_of_laid x) (item_op x) (item_writes x)
+  item_carries (Plain op k) i = op_carries T f mapped sound IsArray p items plans proper bank l well_placed op k i
+  item_carries (Split test y q) i = split_carries T f mapped sound IsArray p items plans proper bank l well_placed test q (leads T f p (slotted T f Ws) q) y i
 
   needs_each : (xs : List Laid) → Among xs → NeedsEach TheHomes (map item_of_laid xs) (Ops xs)
   needs_each [] h = tt

@@ -1,28 +1,37 @@
 -- Words that begin with writes to values in flight: loads of slots in front of a word, drains, transfers and choices.
-use Rattle.std.proofs.Common.{◌≡◌, ◌≢◌, ◌<◌, ◌≤◌, ◌⊎◌, inl, inr, ⊎_elim, ◌+◌, ◌-◌, ℕ, suc, Bool, true, false, cond, Option, Some, None, List, [], ◌∷◌, ◌++◌, append_assoc, refl, sym, ap, ◌∙◌, subst, arith}
-use Rattle.std.specs.Prelude.{slice_get, max}
+use Rattle.std.proofs.Common.{◌≡◌, ◌≤◌, ◌⊎◌, inl, inr, ⊎_elim, ◌+◌, ◌-◌, ℕ, suc, true, Some, List, [], ◌∷◌, ◌++◌, refl, sym, ap, ◌∙◌, subst, arith}
+use Rattle.std.specs.Prelude.{if◌then◌else◌, slice_get}
 use Rattle.vx_base.proofs.Pieces.{cold, fine_append}
-use Rattle.vx_flow.specs.declared.graph.Bank.{Bank}
 use Rattle.vx_flow.specs.declared.graph.Bank.TheVariants.{Branch as BranchBank}
 use Rattle.vx_flow.specs.declared.graph.Exit.TheVariants.{Split as Branches}
 use Rattle.vx_flow.specs.Effects.{IsIn}
 use Rattle.vx_flow.specs.Sound.{Has, Sound}
 use Rattle.vx_isa.specs.declared.operation.Register.{Register}
+use Rattle.vx_isa.specs.declared.operation.Register.TheVariants.{General as InGeneral, Branch as InBranch}
 use Rattle.vx_isa.specs.declared.operation.Operation.{Operation}
 use Rattle.vx_isa.specs.declared.operation.Operation.TheVariants.{Goto, BranchOn}
 use Rattle.vx_isa.specs.declared.program.Word.{Word}
 use Rattle.vx_isa.specs.Operations.{latency_of}
 use Rattle.vx_mixed.specs.declared.layout.VirtualWord.{VirtualWord}
 use Rattle.vx_mixed.specs.declared.layout.VirtualWord.TheVariants.{Drain, Transfer, Choice}
+use Rattle.vx_mixed.specs.LaidSettled.{bank_in}
 use Rattle.vx_mixed.specs.Settled.{NoTwice}
-use Rattle.vx_frame.specs.Target.{Target, slotted, if_some, before, one, waits, waited, load_slots}
+use Rattle.vx_regs.specs.Intervals.{is_live, here}
+use Rattle.vx_frame.specs.Target.{Target, is_branch, general_of, branch_of, register_of, slotted, if_some, once, before, choice_words, one, waits, waited, load_slots}
 use Rattle.vx_frame.specs.Carried.{IsMapped}
 use Rattle.vx_frame.proofs.Names.{Few, not_general, apart_all}
+use Rattle.vx_frame.proofs.FromGraph.{whole_bank, has_whole}
+use Rattle.vx_frame.proofs.Limits.{Limits}
+use Rattle.vx_frame.proofs.Filed.{few_single}
+use Rattle.vx_frame.proofs.Once.{once_in, no_twice}
 use Rattle.vx_frame.proofs.Word.{slotted_from}
-use Rattle.vx_frame.proofs.Early.{words_kind, words_cool}
+use Rattle.vx_frame.proofs.Early.{Touches, words_kind, words_cool}
 use Rattle.vx_frame.proofs.Loads.{Names, loads_fine}
 use Rattle.vx_frame.proofs.ColdPieces.{Fine}
 use Rattle.vx_frame.proofs.Pending.{Banked, Busy, Left, pend, pend_kept, pend_own, pend_name}
+
+abbrev Any : ℕ → Type 0
+Any a = Unit {0}
 
 module _ (T : Target) (heat : ℕ → Register → ℕ) (short : (op : Operation) → latency_of T.machine op ≤ T.pause + 1) (f : ℕ) (mapped : IsMapped T f) (sound : Sound (T.graph f)) where
   abbrev F : (Register → ℕ) → List Word → (Register → ℕ) → Type 0
@@ -32,7 +41,7 @@ module _ (T : Target) (heat : ℕ → Register → ℕ) (short : (op : Operation
   Heat p = pend T f mapped sound p
 
   -- what a word names at a place, with nothing left of it
-  abbrev Settles : ℕ → ℕ → Type 0
+  abbrev pub Settles : ℕ → ℕ → Type 0
   Settles p v = Banked T f mapped sound v × Busy T f mapped sound p v × (Left T f mapped sound p v ≡ 0)
 
   names_at : (p : ℕ) (names : List ℕ) → Few T f mapped names → ((v : ℕ) → IsIn v names → Settles p v) → Names T heat short f names (Heat p)
@@ -45,20 +54,13 @@ module _ (T : Target) (heat : ℕ → Register → ℕ) (short : (op : Operation
     apart = λ x y i j ne. apart_all T f mapped p names x y (λ v k. ((h v k).0, (h v k).1)) few i j ne;
   }
 
-  -- slots are loaded in front of a word that names no value of a slot twice
-  pub before_fine : (p : ℕ) (names : List ℕ) → Few T f mapped names → ((v : ℕ) → IsIn v names → Settles p v) → NoTwice (slotted T f names) → F (Heat p) (before T f names) (Heat p)
-  before_fine p names few h once = by (slotted T f names) refl
-    where
-      by : (vs : List ℕ) → slotted T f names ≡ vs → F (Heat p) (before T f names) (Heat p)
-      by [] e = subst (λ ws. F (Heat p) ws (Heat p)) (sym (ap loaded e)) (λ r. omega arith)
-        where
-          loaded : List ℕ → List Word
-          loaded vs = if_some vs (load_slots T f names vs ++ waited T ∷ [])
-      by (v ∷ vs) e = subst (λ ws. F (Heat p) ws (Heat p)) (sym (ap loaded e))
-          (loads_fine T heat short f names (Heat p) (names_at p names few h) [] (v ∷ vs) [] (Heat p) (λ u i. absurd i) (λ u i. (slotted_from T f u names (subst (IsIn u) (sym e) i)).0) (λ u i j. j) (subst NoTwice e once) (λ r. omega arith))
-        where
-          loaded : List ℕ → List Word
-          loaded vs = if_some vs (load_slots T f names vs ++ waited T ∷ [])
+  loads_case : (p : ℕ) (names : List ℕ) → Few T f mapped names → ((v : ℕ) → IsIn v names → Settles p v) → (vs us : List ℕ) → ((v : ℕ) → IsIn v us → IsIn v names) → NoTwice us → F (Heat p) (if_some vs (load_slots T f names us ++ waited T ∷ [])) (Heat p)
+  loads_case p names few h [] us sub n = λ r. omega arith
+  loads_case p names few h (v ∷ vs) us sub n = loads_fine T heat short f names (Heat p) (names_at p names few h) [] us [] (Heat p) (λ u i. absurd i) sub (λ u i j. j) n (λ r. omega arith)
+
+  -- slots are loaded in front of a word, each once
+  pub before_fine : (p : ℕ) (names : List ℕ) → Few T f mapped names → ((v : ℕ) → IsIn v names → Settles p v) → F (Heat p) (before T f names) (Heat p)
+  before_fine p names few h = loads_case p names few h (slotted T f names) (once (slotted T f names)) (λ v i. (slotted_from T f v names (once_in v (slotted T f names) i)).0) (no_twice (slotted T f names))
 
   abbrev At : ℕ → VirtualWord → Type 0
   At p word = slice_get (T.layout f).words p ≡ Some word
@@ -72,3 +74,36 @@ module _ (T : Target) (heat : ℕ → Register → ℕ) (short : (op : Operation
     (λ t r j. (let a = pend_kept T f mapped sound p q r (Transfer q) at refl in let b = there r in let c = ap (λ x. heat x r) j in omega arith)),
     λ r. omega arith,
   )
+
+  -- a choice tests a branch value of which nothing is left
+  module _ (l : Limits T.machine) (p test q : ℕ) (at : At p (Choice test q)) (there : (r : Register) → Heat q r ≤ heat (T.starts f q) r) where
+    tested : bank_in (T.layout f) test ≡ Some BranchBank
+    tested =
+        let parts = mapped.code.choices p test q at in
+        let has : Has (T.graph f) test BranchBank = sound.exit_tests (Branches test parts.yes parts.no) test parts.has (inl refl) in
+        whole_bank T f Any sound mapped.code test BranchBank (has_whole T f Any sound mapped.code (λ a z. tt) test BranchBank has)
+
+    settles : Settles p test
+    settles = ((BranchBank, tested), is_live (here at (inl refl)), mapped.settled.choices p test q at)
+
+    each_settles : (v : ℕ) → IsIn v (test ∷ []) → Settles p v
+    each_settles v i = ⊎_elim (λ e. subst (λ z. Settles p z) (sym e) settles) (λ j. absurd j) i
+
+    few : Few T f mapped (test ∷ [])
+    few = few_single T f mapped l test
+
+    branch_name : InBranch (record { cluster = 0; number = branch_of T f (test ∷ []) test }) ≡ register_of T f (test ∷ []) test
+    branch_name = sym (ap (λ b. if b then InBranch (record { cluster = 0; number = branch_of T f (test ∷ []) test }) else InGeneral (general_of T f (test ∷ []) test)) (ap is_branch tested))
+
+    meets : (r : Register) → Touches (BranchOn (branch_of T f (test ∷ []) test) true (T.starts f q) ∷ []) r → Heat p r ≡ 0
+    meets r t = ⊎_elim
+        (λ i. ⊎_elim (λ e. ap (Heat p) (e ∙ branch_name) ∙ pend_name T f mapped sound p test (test ∷ []) few (inl refl) settles.0 settles.1 settles.2) (λ j. absurd j) i)
+        (λ i. absurd i) t.0
+
+    pub choice_fine : F (Heat p) (choice_words T f test q) (Heat (suc p))
+    choice_fine = fine_append (words_kind T.machine) (words_cool T.machine) heat (Heat p) (Heat p) (Heat (suc p)) (before T f (test ∷ [])) (one (BranchOn (branch_of T f (test ∷ []) test) true (T.starts f q)) ∷ [])
+        (before_fine p (test ∷ []) few each_settles) (
+          meets,
+          (λ t r j. ⊎_elim (λ e. (let a = pend_kept T f mapped sound p q r (Choice test q) at (inl refl) in let b = there r in let c = ap (λ x. heat x r) e in omega arith)) (λ k. absurd k) j),
+          λ r. (let a = pend_kept T f mapped sound p (suc p) r (Choice test q) at (inr refl) in omega arith),
+        )

@@ -35,7 +35,7 @@ use Rattle.vx_frame.proofs.Live.{live_bank}
 use Rattle.vx_frame.proofs.Enough.{some_cluster, some_issue}
 use Rattle.vx_frame.proofs.Frames.{get_below, get_in, frame_room}
 use Rattle.vx_frame.proofs.Steps.{Stands, stands_left, stands_right, Quiet, Forth, then_forth, word_step, Passed, wait_step, goto_step}
-use Rattle.vx_frame.proofs.Slots.{Usable, Loaded, before_case, stack_no_answer}
+use Rattle.vx_frame.proofs.Slots.{Usable, Loaded, once_case, stack_no_answer}
 use Rattle.vx_frame.proofs.Stands.{word_stands, word_next}
 use Rattle.vx_frame.proofs.Word.{slotted_from, slotted_in, read_shows}
 
@@ -229,7 +229,7 @@ module _ (T : Target) (flow : Flow) (ls : List VWords) (w : WordProgram) (sound 
   word_at_it = stands T flow ls w sound carries fit r u tied p (Choice test q) block plan
 
   got : Loaded T.machine w fit T Fn tied.sp carries.memory small some Name u (slotted T Fn Name) (length (before T Fn Name))
-  got = before_case T.machine w fit T Fn tied.sp carries.memory small some Name (slotted T Fn Name) u tied.calm (stands_left w.words u.place (before T Fn Name) (one (BranchOn (branch_of T Fn Name test) true (T.starts Fn q)) ∷ []) word_at_it) tied.stack
+  got = once_case T.machine w fit T Fn tied.sp carries.memory small some Name (slotted T Fn Name) u tied.calm (stands_left w.words u.place (before T Fn Name) (one (BranchOn (branch_of T Fn Name test) true (T.starts Fn q)) ∷ []) word_at_it) tied.stack
       (λ v i. let e = is_test v (slotted_from T Fn v Name i).0 in subst (Usable T.machine w fit T Fn tied.sp carries.memory small some Name) (sym e) test_usable)
       (λ v i. let k = slotted_from T Fn v Name i in let e = is_test v k.0 in subst (λ x. tied.sp + T.slot Fn x < memory_words T) (sym e) (slot_inside (ap (λ x. is_slotted (kept T Fn x)) (sym e) ∙ k.1)))
       (λ x y i j ne. absurd (ne (is_test x (slotted_from T Fn x Name i).0 ∙ sym (is_test y (slotted_from T Fn y Name j).0))))

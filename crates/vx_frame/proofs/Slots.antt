@@ -14,9 +14,10 @@ use Rattle.vx_isa.specs.declared.program.WordProgram.{WordProgram}
 use Rattle.vx_isa.specs.Numbers.{Numbers}
 use Rattle.vx_isa.specs.Operations.{is_zero}
 use Rattle.vx_isa.specs.Machine.{State, register, is_one}
-use Rattle.vx_frame.specs.Target.{Target, answer, stack_on, general_of, branch_of, register_of, holds_branch, home, one, waited, bytes, load_slot, store_slot, load_slots, store_slots, if_some, memory_words}
+use Rattle.vx_frame.specs.Target.{Target, answer, stack_on, general_of, branch_of, register_of, holds_branch, home, one, waited, bytes, load_slot, store_slot, load_slots, store_slots, if_some, once, memory_words}
 use Rattle.vx_frame.specs.Tied.{IsAnswer, word_at}
 use Rattle.vx_frame.proofs.Calm.{seen, AllFit}
+use Rattle.vx_frame.proofs.Once.{in_once, once_in}
 use Rattle.vx_frame.proofs.Op.{same_or_not}
 use Rattle.vx_frame.proofs.Steps.{Stands, stands_left, stands_right, Quiet, quiet_on, Comes, stay, comes_on, forth_comes, set_step, wait_step, load_step, store_step}
 
@@ -251,7 +252,19 @@ module _ (m : Numbers) (w : WordProgram) (fit : AllFit m w) (T : Target) (f sp :
         others = λ q h na. ap (λ g. seen g q) b.registers ∙ a.others q h na;
       }
 
-  -- the words before a plan word
+  -- what was loaded for some values was so for others, where they are the same but for their number
+  all_loaded : (u : State) (ls vs : List ℕ) (taken : ℕ) → ((v : ℕ) → IsIn v ls → IsIn v vs) → ((v : ℕ) → IsIn v vs → IsIn v ls) → Loaded u ls taken → Loaded u vs taken
+  all_loaded u ls vs taken forth back a = record {
+    to = a.to;
+    comes = a.comes;
+    place = a.place;
+    quiet = a.quiet;
+    memory = a.memory;
+    at = λ v i. a.at v (back v i);
+    others = λ q h na. a.others q (λ v i. h v (forth v i)) na;
+  }
+
+  -- values that are reloaded
   pub before_case : (vs : List ℕ) (u : State) → u.flying ≡ [] → Stands w.words u.place (if_some vs (load_slots T f names vs ++ waited T ∷ [])) → StackAt u → AllUsable vs → AllInside vs → NamedApart vs → Loaded u vs (length (if_some vs (load_slots T f names vs ++ waited T ∷ [])))
   before_case [] u calm st stack usable inside apart = load_list [] u calm tt stack usable inside apart
   before_case (v ∷ vs) u calm st stack usable inside apart =
@@ -259,6 +272,14 @@ module _ (m : Numbers) (w : WordProgram) (fit : AllFit m w) (T : Target) (f sp :
       let last = (stands_right w.words u.place (load_slots T f names (v ∷ vs)) (waited T ∷ []) st).0 in
       let len : length (load_slots T f names (v ∷ vs) ++ waited T ∷ []) ≡ length (load_slots T f names (v ∷ vs)) + 1 = length-append (load_slots T f names (v ∷ vs)) (waited T ∷ []) in
       subst (Loaded u (v ∷ vs)) (sym len) (wait_after u (v ∷ vs) (length (load_slots T f names (v ∷ vs))) a (subst (λ q. slice_get w.words q ≡ Some (waited T)) (sym a.place) last))
+
+  -- the words before a planned word
+  pub once_case : (vs : List ℕ) (u : State) → u.flying ≡ [] → Stands w.words u.place (if_some vs (load_slots T f names (once vs) ++ waited T ∷ [])) → StackAt u → AllUsable vs → AllInside vs → NamedApart vs → Loaded u vs (length (if_some vs (load_slots T f names (once vs) ++ waited T ∷ [])))
+  once_case [] u calm st stack usable inside apart = load_list [] u calm tt stack usable inside apart
+  once_case (v ∷ vs) u calm st stack usable inside apart =
+      let forth : (x : ℕ) → IsIn x (once (v ∷ vs)) → IsIn x (v ∷ vs) = λ x. once_in x (v ∷ vs) in
+      all_loaded u (once (v ∷ vs)) (v ∷ vs) (length (load_slots T f names (once (v ∷ vs)) ++ waited T ∷ [])) forth (λ x. in_once x (v ∷ vs))
+      (before_case (once (v ∷ vs)) u calm st stack (λ x i. usable x (forth x i)) (λ x i. inside x (forth x i)) (λ x y i j. apart x y (forth x i) (forth y j)))
 
   -- and behind it
   pub behind_case : (vs : List ℕ) (u : State) → u.flying ≡ [] → Stands w.words u.place (if_some vs (waited T ∷ store_slots T f names vs)) → StackAt u → AllUsable vs → AllInside vs → SlotsApart vs → Stored u vs (length (if_some vs (waited T ∷ store_slots T f names vs)))

@@ -45,10 +45,10 @@ module _ (T : Target) where
   at_right o [] ys p = (o, p)
   at_right o (x ∷ xs) ys p = at_right (o + length x.words) xs ys p.1
 
-  abbrev piece_at : ℕ → ℕ → VirtualWord → Labelled
+  abbrev pub piece_at : ℕ → ℕ → VirtualWord → Labelled
   piece_at f p word = record { label = At f p; words = word_words T f p word }
 
-  in_laid : (f p i : ℕ) (words : List VirtualWord) (word : VirtualWord) → slice_get words i ≡ Some word → IsIn (piece_at f (p + i) word) (laid_pieces T f p words)
+  pub in_laid : (f p i : ℕ) (words : List VirtualWord) (word : VirtualWord) → slice_get words i ≡ Some word → IsIn (piece_at f (p + i) word) (laid_pieces T f p words)
   in_laid f p i [] word e = absurd (cc)
   in_laid f p zero (x ∷ words) word e = let q : p + 0 ≡ p = omega arith in let s : word ≡ x = cc in inl (ap (λ n. piece_at f n word) q ∙ ap (piece_at f p) s)
   in_laid f p (suc i) (x ∷ words) word e = let q : suc p + i ≡ p + suc i = omega arith in inr (subst (λ n. IsIn (piece_at f n word) (laid_pieces T f (suc p) words)) q (in_laid f (suc p) i words word e))
@@ -68,7 +68,7 @@ module _ (T : Target) where
       let q : suc p + i ≡ p + suc i = omega arith in
       subst (λ n. T.starts f (suc n) ≡ T.starts f n + length (word_words T f n word)) q (laid_next f (o + length (word_words T f p x)) (suc p) i words word a.1 e)
 
-  abbrev landing_at : ℕ → ℕ → ℕ → List Laid → Labelled
+  abbrev pub landing_at : ℕ → ℕ → ℕ → List Laid → Labelled
   landing_at f p q items = record { label = Landing f p q; words = landing_words T f items q }
 
   in_landing : (f p : ℕ) (items : List Laid) (xs : List ℕ) (q v : ℕ) (vs : List ℕ) → xs ≡ v ∷ vs → IsIn (landing_at f p q items) (landing_of T f p items xs q)
@@ -82,7 +82,7 @@ module _ (T : Target) where
       (λ k. in_right (landing_at f p q items) (landing_of T f p items (slotted T f (laid_writes items)) r) (item_landings T f p items rest) (in_items f p q test y items rest v vs s k))
       i
 
-  in_landings : (f p i q test rg wd : ℕ) (y : Bool) (words : List VirtualWord) (items : List Laid) (v : ℕ) (vs : List ℕ) → slice_get words i ≡ Some (Planned rg wd items) → slotted T f (laid_writes items) ≡ v ∷ vs → IsIn (Split test y q) items → IsIn (landing_at f (p + i) q items) (landing_pieces T f p words)
+  pub in_landings : (f p i q test rg wd : ℕ) (y : Bool) (words : List VirtualWord) (items : List Laid) (v : ℕ) (vs : List ℕ) → slice_get words i ≡ Some (Planned rg wd items) → slotted T f (laid_writes items) ≡ v ∷ vs → IsIn (Split test y q) items → IsIn (landing_at f (p + i) q items) (landing_pieces T f p words)
   in_landings f p i q test rg wd y [] items v vs e s m = absurd (cc)
   in_landings f p zero q test rg wd y (x ∷ words) items v vs e s m =
       let k : Planned rg wd items ≡ x = cc in
@@ -113,7 +113,7 @@ module _ (T : Target) where
     depth_list : List Labelled
     depth_list = record { label = Depth; words = one (EndByTrap ByDepth) ∷ [] } ∷ []
 
-    of_function : (f : ℕ) (x : Labelled) → f < count → IsIn x (function_pieces T f) → IsIn x (all_pieces T main count)
+    pub of_function : (f : ℕ) (x : Labelled) → f < count → IsIn x (function_pieces T f) → IsIn x (all_pieces T main count)
     of_function f x lt i = let z : 0 + f ≡ f = omega arith in
         inr (in_left x (functions_pieces T 0 count) (record { label = Depth; words = one (EndByTrap ByDepth) ∷ [] } ∷ []) (in_functions x 0 f count lt (subst (λ m. IsIn x (function_pieces T m)) (sym z) i)))
 

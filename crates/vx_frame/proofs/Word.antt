@@ -24,7 +24,7 @@ use Rattle.vx_frame.proofs.Reading.{Right}
 use Rattle.vx_frame.proofs.Op.{Ready}
 use Rattle.vx_frame.proofs.Items.{Ran, ran_items, rows_items, elsewhere_items, bad_items, takes_items, stays_items, values_items, Met, met_items}
 use Rattle.vx_frame.proofs.Steps.{Stands, stands_left, stands_right, Quiet, Comes, Forth, comes_on, forth_on, then_forth, word_step}
-use Rattle.vx_frame.proofs.Slots.{Usable, Loaded, before_case, Stored, as_read, as_kept, read_answer, kept_answer, stack_no_answer}
+use Rattle.vx_frame.proofs.Slots.{Usable, Loaded, once_case, Stored, as_read, as_kept, read_answer, kept_answer, stack_no_answer}
 
 -- values in slots among some
 
@@ -142,7 +142,7 @@ module _ (m : Numbers) (w : WordProgram) (fit : AllFit m w) (T : Target) (f sp p
     slot_reads = slotted T f Reads
 
     pub loaded : Loaded m w fit T f sp size small some Reads u (slotted T f Reads) (length (before T f Reads))
-    loaded = before_case m w fit T f sp size small some Reads (slotted T f Reads) u h.calm (stands_left w.words u.place (before T f Reads) (plan_word T f p items ∷ behind T f Writes) h.stands) h.stack
+    loaded = once_case m w fit T f sp size small some Reads (slotted T f Reads) u h.calm (stands_left w.words u.place (before T f Reads) (plan_word T f p items ∷ behind T f Writes) h.stands) h.stack
         (λ v i. h.reads_usable v (slotted_from T f v Reads i).0) h.reads_inside (λ x y i j ne. h.reads_apart x y (slotted_from T f x Reads i).0 (slotted_from T f y Reads j).0 ne)
 
     -- the state before the word itself

@@ -23,6 +23,7 @@ use Rattle.vx_mixed.specs.declared.layout.Laid.{Laid}
 use Rattle.vx_mixed.specs.declared.layout.Laid.TheVariants.{Plain, Split}
 use Rattle.vx_mixed.specs.declared.layout.VirtualWord.TheVariants.{Call}
 use Rattle.vx_mixed.specs.declared.layout.VWords.{VWords}
+use Rattle.vx_mixed.specs.Brief.{IsBriefLayout}
 use Rattle.vx_mixed.specs.Laid.{laid_run}
 use Rattle.vx_mixed.specs.LaidSettled.{SettledLayout, home_in}
 use Rattle.vx_mixed.specs.Origins.{LaidFromGraph}
@@ -45,9 +46,10 @@ room_of m clusters items = has_room m (record { clusters = clusters }) (map item
 
 -- values of a function
 
--- the layout is settled and has the code of the graph, and the map keeps its values apart
+-- the layout is settled, with few empty cycles, and has the code of the graph, and the map keeps its values apart
 pub record IsMapped (T : Target) (f : ℕ) : Type 0 where
   pub settled : SettledLayout (room_of T.machine) (latency_of_op T.machine) (T.layout f)
+  pub brief : IsBriefLayout (T.layout f)
   pub code : LaidFromGraph (T.graph f) (T.layout f)
   pub apart : KeepsApart T.machine (latency_of_op T.machine) (T.layout f) (T.maps f)
   pub homes : (p v : ℕ) → IsBusy (latency_of_op T.machine) (T.layout f) p v → home_in (T.layout f) v < T.machine.clusters
@@ -125,6 +127,7 @@ pub record Carries (T : Target) (flow : Flow) (ls : List VWords) (w : WordProgra
   pub machine : IsMachine T.machine
   -- after a pause all has landed
   pub some_pause : 1 ≤ T.pause
+  pub most_pause : T.pause ≤ 15
   pub pause : (op : Operation) → latency_of T.machine op ≤ T.pause + 1
   pub functions : (f : ℕ) → f < length flow.functions → IsFunctionOf T flow ls f
   -- memory

@@ -4,6 +4,15 @@ pub mod Placed
 pub mod Carried
 pub mod Planned
 pub mod Fitted
+pub mod Finish
 pub mod Moved
 pub mod Returned
 pub mod Whole
+pub mod Framing
+pub mod Seen
+pub mod Saves
+pub mod LoopExample
+pub mod Placing
+pub mod Globals
+pub mod Slots
+pub mod Found

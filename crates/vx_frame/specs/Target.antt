@@ -1,5 +1,5 @@
 -- Where the values, frames and words of a program are, and the words that carry a laid-out word.
-use Rattle.std.specs.Prelude.{ℕ, suc, ◌+◌, ◌-◌, ◌*◌, ◌==◌, ◌&&◌, ℤ, pos, neg_ℤ, Bool, true, false, if◌then◌else◌, Option, Some, None, List, [], ◌∷◌, ◌++◌, map}
+use Rattle.std.specs.Prelude.{not, ℕ, suc, ◌+◌, ◌-◌, ◌*◌, ◌==◌, ◌&&◌, ℤ, pos, neg_ℤ, Bool, true, false, if◌then◌else◌, Option, Some, None, List, [], ◌∷◌, ◌++◌, map}
 use Rattle.std.specs.List.{filter}
 use Rattle.vx_base.specs.Arithmetic.{sum_of}
 use Rattle.vx_base.specs.declared.arithmetic.Code.{Code}
@@ -232,8 +232,14 @@ abbrev pub if_some : List ℕ → List Word → List Word
 if_some [] words = []
 if_some (v ∷ vs) words = words
 
+-- each of some values once, where it stands first
+abbrev pub once : List ℕ → List ℕ
+once [] = []
+once (v ∷ vs) = v ∷ filter (λ u. not (u == v)) (once vs)
+
+-- each value in a slot that a word reads is loaded once
 abbrev pub before : Target → ℕ → (reads : List ℕ) → List Word
-before T f rs = if_some (slotted T f rs) (load_slots T f rs (slotted T f rs) ++ waited T ∷ [])
+before T f rs = if_some (slotted T f rs) (load_slots T f rs (once (slotted T f rs)) ++ waited T ∷ [])
 
 abbrev pub behind : Target → ℕ → (writes : List ℕ) → List Word
 behind T f ws = if_some (slotted T f ws) (waited T ∷ store_slots T f ws (slotted T f ws))

@@ -1,5 +1,7 @@
 // Laws of the definitions, each the clause of a function that does nothing.
 
+ghost use Rattle.vx_frame.specs.Carried.{FrameLaw};
+ghost use Rattle.vx_frame.specs.Finish.{SoundLaw};
 ghost use Rattle.vx_frame.specs.Fitted.{FitLaw};
 ghost use Rattle.vx_frame.specs.Moved.{StackLaw};
 ghost use Rattle.vx_frame.specs.Planned.{CallLaw, EntryLaw, PlannedLaw, SimpleLaw, StartLaw};
@@ -53,10 +55,29 @@ pub fn returns_are_carried()
 pub fn programs_do_the_same()
     ensures { WholeLaw }
 {}
-/// Every word of a program that carries a flow is well formed and fits its machine, where each copy across comes from another
-/// cluster: planned words, since their items have room, and all others, since they hold one operation, or one on each cluster.
+
+/// Every word of a program that carries a flow is well formed and fits its machine: planned words, since their items have room, and
+/// all others, since they hold one operation, or one on each cluster.
 pub fn words_fit()
     ensures { FitLaw }
 {
     fits_by_room_law();
+}
+
+/// Such a program can be spelled as a word text, where those of memory that do not start as 0 are as they should be: its operations
+/// are of their form, its pauses are short, and the places, functions and texts that it names are there.
+pub fn words_are_sound()
+    ensures { SoundLaw }
+{
+    fits_by_room_law();
+}
+
+/// A program that carries a flow keeps to its machine: every word fits, and on no path of its words, with every branch either way and
+/// a return to everywhere, is a register read or written while an earlier write of it may be in flight. With every input with which
+/// the laid-out words never fail, its words do the same.
+pub fn frames_keep_to_the_machine()
+    ensures { FrameLaw }
+{
+    words_fit();
+    programs_do_the_same();
 }

@@ -1,4 +1,27 @@
 // From functions that are laid out as words over values to a program of words over registers: slots, saves, frames, calls.
 #![tactic(auto)]
 
+mod addressing;
+mod calling;
+mod carrying;
+mod finishing;
+mod framing;
+mod gathering;
 pub mod laws;
+mod naming;
+mod placing;
+mod planning;
+mod saving;
+mod slotting;
+mod word_plan;
+
+pub use finishing::{Finished, TracePlaces, finish};
+
+#[cfg(test)]
+mod frame_tests;
+#[cfg(test)]
+mod runner;
+#[cfg(test)]
+mod saving_tests;
+#[cfg(test)]
+mod tests;

@@ -1,0 +1,320 @@
+-- Every piece of a program that carries a flow fits: what may be in flight at a word of a layout is what is left there of writes
+-- to the values that live in registers; elsewhere nothing is, but results in slots at a landing.
+use Rattle.std.proofs.Common.{◌≡◌, ◌<◌, ◌≤◌, ◌⊎◌, inl, inr, ⊎_elim, ◌+◌, ℕ, zero, suc, pos, neg_ℤ, Bool, true, false, cond, Option, Some, None, List, [], ◌∷◌, ◌++◌, length, map, refl, ap, ◌∙◌, subst, arith}
+use Rattle.std.specs.Prelude.{slice_get, max}
+use Rattle.std.specs.List.{list_any}
+use Rattle.std.proofs.lemmas.Bool.{cases_lt}
+use Rattle.vx_base.specs.declared.arithmetic.Code.TheVariants.{ToBranch}
+use Rattle.vx_base.specs.declared.arithmetic.Compare.TheVariants.{Ltu}
+use Rattle.vx_base.specs.declared.outcome.Trap.TheVariants.{Depth as ByDepth}
+use Rattle.vx_base.proofs.Pieces.{cold, fine_less, fine_end}
+use Rattle.vx_flow.specs.declared.graph.Flow.{Flow}
+use Rattle.vx_flow.specs.declared.graph.Operand.{Operand}
+use Rattle.vx_flow.specs.Effects.{IsIn}
+use Rattle.vx_flow.specs.Sound.{Sound, SoundFlow, is_sound_flow}
+use Rattle.vx_flow.proofs.Members.{in_left, in_right}
+use Rattle.vx_flow.proofs.SoundFlowLaw.{told}
+use Rattle.vx_isa.specs.declared.operation.Register.{Register}
+use Rattle.vx_isa.specs.declared.operation.Register.TheVariants.{Branch as InBranch}
+use Rattle.vx_isa.specs.declared.operation.Source.TheVariants.{Held, Number}
+use Rattle.vx_isa.specs.declared.operation.Operation.TheVariants.{Compute, Move, Load, Goto, BranchOn, Call, Return, ToLink, EndByTrap}
+use Rattle.vx_isa.specs.declared.program.Word.{Word}
+use Rattle.vx_isa.specs.declared.program.WordProgram.{WordProgram}
+use Rattle.vx_isa.specs.Operations.{same as same_register}
+use Rattle.vx_isa.specs.Paths.{NeverReadsEarly, NeverWritesEarly}
+use Rattle.vx_mixed.specs.declared.layout.Laid.{Laid}
+use Rattle.vx_mixed.specs.declared.layout.Laid.TheVariants.{Plain, Split}
+use Rattle.vx_mixed.specs.declared.layout.VirtualWord.{VirtualWord}
+use Rattle.vx_mixed.specs.declared.layout.VirtualWord.TheVariants.{Planned, Drain, Transfer, Choice, Call as Calls, Return as Returns, Ends}
+use Rattle.vx_mixed.specs.declared.layout.VWords.{VWords}
+use Rattle.vx_mixed.specs.LaidSettled.{laid_reads, laid_writes, LeadsTo, LeavesCold}
+use Rattle.vx_regs.specs.Intervals.{word_writes}
+use Rattle.vx_frame.specs.Target.{Target, slotted, register_of, branch_of, stack_on, general, answer, fetched, bytes, parameters_of, leads, before, behind, plan_word, plan_words, landing_words, choice_words, save_words, move_stack, argument_words, call_words, back_words, return_words, fetch_words, entry_words, start_words, word_words, one, waits, waited}
+use Rattle.vx_frame.specs.Placed.{Label, Start, Entry, At, Landing, Depth, Labelled, laid_pieces, landing_of, item_landings, word_landings, landing_pieces, function_pieces, functions_pieces, all_pieces}
+use Rattle.vx_frame.specs.Carried.{Carries, IsMapped, FrameLaw}
+use Rattle.vx_frame.specs.Fitted.{FitLaw}
+use Rattle.vx_frame.specs.Whole.{WholeLaw}
+use Rattle.vx_frame.proofs.Frames.{get_some, get_in}
+use Rattle.vx_frame.proofs.Limits.{Limits, limits}
+use Rattle.vx_frame.proofs.Stands.{piece_at, landing_at, in_laid, in_landings, of_function, word_next}
+use Rattle.vx_frame.proofs.Early.{words_kind, words_cool}
+use Rattle.vx_frame.proofs.Heats.{lift, stop_fine}
+use Rattle.vx_frame.proofs.ColdPieces.{Fine, start_fine, return_fine, ends_fine}
+use Rattle.vx_frame.proofs.Pending.{pend, pend_free}
+use Rattle.vx_frame.proofs.EntryHeats.{entry_fine, call_fine}
+use Rattle.vx_frame.proofs.PlanHeats.{drain_fine, transfer_fine, choice_fine}
+use Rattle.vx_frame.proofs.WordHeats.{plan_fine, landing_fine}
+use Rattle.vx_frame.proofs.Built.{Fits, AllFit, fit_append, heat_at, heat_of, built_late}
+
+-- words of a layout have a first word
+
+abbrev HasFirst : List Word → Type 0
+HasFirst ws = (x : Word) × (xs : List Word) × (ws ≡ x ∷ xs)
+
+first_behind : (xs : List Word) (y : Word) (ys : List Word) → HasFirst (xs ++ (y ∷ ys))
+first_behind [] y ys = (y, ys, refl)
+first_behind (x ∷ xs) y ys = (x, xs ++ (y ∷ ys), refl)
+
+first_before : (xs ys : List Word) → HasFirst xs → HasFirst (xs ++ ys)
+first_before [] ys h = absurd (let e = h.2 in cc)
+first_before (x ∷ xs) ys h = (x, xs ++ ys, refl)
+
+some_call : (T : Target) (f p g : ℕ) (arguments : List Operand) → HasFirst (call_words T f p g arguments)
+some_call T f p g arguments = first_behind (save_words T f (T.saved f p)) (one (Compute 0 (ToBranch Ltu) (InBranch (record { cluster = 0; number = 0 })) (Held (stack_on 0)) (Number (bytes (T.globals + T.frame)))))
+    (waited T ∷ one (BranchOn 0 true T.depth_trap) ∷ (move_stack T (neg_ℤ (bytes T.frame)) ++ (argument_words T f g (parameters_of T g) arguments ++ one (Call (T.entry g)) ∷ [])))
+
+some_word : (T : Target) (f p : ℕ) (word : VirtualWord) → HasFirst (word_words T f p word)
+some_word T f p (Planned rg wd items) = first_behind (before T f (laid_reads items)) (plan_word T f p items) (behind T f (laid_writes items))
+some_word T f p (Drain n) = (waits n, [], refl)
+some_word T f p (Transfer q) = (one (Goto (T.starts f q)), [], refl)
+some_word T f p (Choice test q) = first_behind (before T f (test ∷ [])) (one (BranchOn (branch_of T f (test ∷ []) test) true (T.starts f q))) []
+some_word T f p (Calls g arguments result) = first_before (call_words T f p g arguments) (back_words T f p result) (some_call T f p g arguments)
+some_word T f p (Returns x) = first_behind (fetch_words T f 0 x) (one (Move 0 answer (fetched T f x))) (one (Load 0 (general 0 3) (pos 0) (stack_on 0) false) ∷ waited T ∷ one (ToLink (Held (general 0 3))) ∷ waited T ∷ one Return ∷ [])
+some_word T f p (Ends k) = (one (EndByTrap k), [], refl)
+
+get_beyond : {A : Type 0} (xs : List A) (i : ℕ) → length xs ≤ i → slice_get xs i ≡ None
+get_beyond [] i le = refl
+get_beyond (x ∷ xs) zero le = absurd (omega arith)
+get_beyond (x ∷ xs) (suc i) le = get_beyond xs i (omega arith)
+
+module _ (T : Target) (flow : Flow) (ls : List VWords) (w : WordProgram) (sound : SoundFlow flow) (carries : Carries T flow ls w) where
+  abbrev Count : ℕ
+  Count = length flow.functions
+
+  abbrev Known : ℕ → Type 0
+  Known f = (f < Count) ⊎ (Count ≤ f)
+
+  mapped_of : (f : ℕ) → f < Count → IsMapped T f
+  mapped_of f lt = (carries.functions f lt).mapped
+
+  sound_of : (f : ℕ) → f < Count → Sound (T.graph f)
+  sound_of f lt = sound.graphs (T.graph f) (get_in flow.functions f (T.graph f) (carries.functions f lt).is.graph)
+
+  -- what is left of writes at a word of a function; the program has no others
+  abbrev pend_by : (f : ℕ) → Known f → ℕ → Register → ℕ
+  pend_by f (inl lt) p = pend T f (mapped_of f lt) (sound_of f lt) p
+  pend_by f (inr ge) p = cold
+
+  known : (f : ℕ) → Known f
+  known f = cases_lt f Count
+
+  abbrev Pend : ℕ → ℕ → Register → ℕ
+  Pend f p = pend_by f (known f) p
+
+  record Inside (f : ℕ) : Type 0 where
+    lt : f < Count
+    same : (p : ℕ) (r : Register) → Pend f p r ≡ pend T f (mapped_of f lt) (sound_of f lt) p r
+
+  inside : (f : ℕ) → f < Count → Inside f
+  inside f below = by (known f) refl
+    where
+      by : (k : Known f) → known f ≡ k → Inside f
+      by (inl lt) e = record { lt = lt; same = λ p r. ap (λ k. pend_by f k p r) e }
+      by (inr ge) e = absurd (omega arith)
+
+  -- what may be in flight at the start of a piece
+
+  abbrev at_word : Option VirtualWord → (Register → ℕ) → Register → ℕ
+  at_word None h = cold
+  at_word (Some word) h = h
+
+  abbrev left_by : ℕ → Option VirtualWord → List Register
+  left_by f None = []
+  left_by f (Some word) = map (register_of T f (word_writes word)) (slotted T f (word_writes word))
+
+  abbrev start : Label → Register → ℕ
+  start Start = cold
+  start (Entry f) = cold
+  start (At f p) = at_word (slice_get (T.layout f).words p) (Pend f p)
+  start (Landing f p q) = lift T.pause (Pend f q) (left_by f (slice_get (T.layout f).words p))
+  start Depth = cold
+
+  abbrev heat : ℕ → Register → ℕ
+  heat = heat_at T start flow.main Count w carries.placed
+
+  abbrev Good : Labelled → Type 0
+  Good x = Fits T start heat x
+
+  abbrev AllGood : List Labelled → Type 0
+  AllGood xs = AllFit T start heat xs
+
+  abbrev FineFrom : (Register → ℕ) → List Word → (Register → ℕ) → Type 0
+  FineFrom h ws e = Fine T heat carries.pause h ws e
+
+  l : Limits T.machine
+  l = limits T.machine carries.machine
+
+  less : (g h e : Register → ℕ) (ws : List Word) → ((r : Register) → g r ≤ h r) → FineFrom h ws e → FineFrom g ws e
+  less g h e ws le a = fine_less (words_kind T.machine) (words_cool T.machine) heat g h e ws le a
+
+  ends : (h e d : Register → ℕ) (ws : List Word) → ((r : Register) → e r ≤ d r) → FineFrom h ws e → FineFrom h ws d
+  ends h e d ws le a = fine_end (words_kind T.machine) (words_cool T.machine) heat h e d ws le a
+
+  -- at the places of the pieces of a function
+
+  abbrev WordAt : ℕ → ℕ → VirtualWord → Type 0
+  WordAt f p word = slice_get (T.layout f).words p ≡ Some word
+
+  in_function : (f : ℕ) (x : Labelled) → f < Count → IsIn x (function_pieces T f) → IsIn x (all_pieces T flow.main Count)
+  in_function f x lt i = of_function T flow.main Count w.words carries.placed f x lt i
+
+  at_place : (f p : ℕ) (word : VirtualWord) → f < Count → WordAt f p word → heat (T.starts f p) ≡ Pend f p
+  at_place f p word lt e =
+      let s = some_word T f p word in
+      let z : 0 + p ≡ p = omega arith in
+      let i = in_function f (piece_at T f p word) lt (inr (in_left (piece_at T f p word) (laid_pieces T f 0 (T.layout f).words) (landing_pieces T f 0 (T.layout f).words) (subst (λ n. IsIn (piece_at T f n word) (laid_pieces T f 0 (T.layout f).words)) z (in_laid T f 0 p (T.layout f).words word e)))) in
+      heat_of T start flow.main Count w carries.placed (piece_at T f p word) s.0 s.1 i s.2 ∙ ap (λ o. at_word o (Pend f p)) e
+
+  at_landing : (f p q test rg wd : ℕ) (y : Bool) (items : List Laid) (v : ℕ) (vs : List ℕ) → f < Count → WordAt f p (Planned rg wd items) → slotted T f (laid_writes items) ≡ v ∷ vs → IsIn (Split test y q) items → heat (T.landing f p q) ≡ lift T.pause (Pend f q) (map (register_of T f (laid_writes items)) (slotted T f (laid_writes items)))
+  at_landing f p q test rg wd y items v vs lt e s m =
+      let k = first_behind (behind T f (laid_writes items)) (one (Goto (T.starts f q))) [] in
+      let z : 0 + p ≡ p = omega arith in
+      let i = in_function f (landing_at T f p q items) lt (inr (in_right (landing_at T f p q items) (laid_pieces T f 0 (T.layout f).words) (landing_pieces T f 0 (T.layout f).words) (subst (λ n. IsIn (landing_at T f n q items) (landing_pieces T f 0 (T.layout f).words)) z (in_landings T f 0 p q test rg wd y (T.layout f).words items v vs e s m)))) in
+      heat_of T start flow.main Count w carries.placed (landing_at T f p q items) k.0 k.1 i k.2 ∙ ap (λ o. lift T.pause (Pend f q) (left_by f o)) e
+
+  lift_same : (b c : Register → ℕ) (rs : List Register) (r : Register) → b r ≡ c r → lift T.pause b rs r ≡ lift T.pause c rs r
+  lift_same b c rs r e = ap (λ n. cond (list_any (same_register r) rs) (max n T.pause) n) e
+
+  module _ (f : ℕ) (below : f < Count) where
+    k : Inside f
+    k = inside f below
+
+    abbrev M : IsMapped T f
+    M = mapped_of f k.lt
+
+    abbrev S : Sound (T.graph f)
+    S = sound_of f k.lt
+
+    abbrev H : ℕ → Register → ℕ
+    H p = pend T f M S p
+
+    there : (q : ℕ) (word : VirtualWord) → WordAt f q word → (r : Register) → H q r ≤ heat (T.starts f q) r
+    there q word e r = let a = ap (λ h. h r) (at_place f q word k.lt e) in let b = k.same q r in omega arith
+
+    leads_there : (p q : ℕ) (word : VirtualWord) → WordAt f p word → LeadsTo p word q → (r : Register) → H q r ≤ heat (T.starts f q) r
+    leads_there p q word e leads_to r = let x = get_some (T.layout f).words q (M.settled.inside p q word e leads_to) in there q x.0 x.1 r
+
+    next_there : (p : ℕ) (word : VirtualWord) → WordAt f p word → LeadsTo p word (suc p) → (r : Register) → H (suc p) r ≤ heat (T.starts f p + length (word_words T f p word)) r
+    next_there p word e leads_to r =
+        let a = leads_there p (suc p) word e leads_to r in
+        let b = ap (λ n. heat n r) (word_next T flow.main Count w.words carries.placed f p word k.lt e) in omega arith
+
+    begins : (p : ℕ) (word : VirtualWord) → WordAt f p word → (r : Register) → start (At f p) r ≤ H p r
+    begins p word e r = let a : start (At f p) r ≡ Pend f p r = ap (λ o. at_word o (Pend f p) r) e in let b = k.same p r in omega arith
+
+    cold_here : (p : ℕ) (word : VirtualWord) → WordAt f p word → LeavesCold word → (r : Register) → H p r ≤ 0
+    cold_here p word e leaves r = let a = pend_free T f M S p r (λ v n s z q. let c = M.settled.cold p v word e leaves in absurd (omega arith)) in omega arith
+
+    abbrev Behind : ℕ → VirtualWord → Register → ℕ
+    Behind p word = heat (T.starts f p + length (word_words T f p word))
+
+    -- a split of a planned word leads to where no less may be in flight
+    split_there : (p rg wd : ℕ) (items : List Laid) → WordAt f p (Planned rg wd items) → (test to : ℕ) (y : Bool) → IsIn (Split test y to) items → (r : Register) → lift T.pause (H to) (map (register_of T f (laid_writes items)) (slotted T f (laid_writes items))) r ≤ heat (leads T f p (slotted T f (laid_writes items)) to) r
+    split_there p rg wd items e test to y i r = by (slotted T f (laid_writes items)) refl
+      where
+        by : (vs : List ℕ) → slotted T f (laid_writes items) ≡ vs → lift T.pause (H to) (map (register_of T f (laid_writes items)) vs) r ≤ heat (leads T f p vs to) r
+        by [] s = leads_there p to (Planned rg wd items) e (inr (test, y, i)) r
+        by (v ∷ vs) s =
+            let a = ap (λ h. h r) (at_landing f p to test rg wd y items v vs k.lt e s i) in
+            let b = lift_same (Pend f to) (H to) (map (register_of T f (laid_writes items)) (slotted T f (laid_writes items))) r (k.same to r) in
+            let c : lift T.pause (H to) (map (register_of T f (laid_writes items)) (slotted T f (laid_writes items))) r ≡ lift T.pause (H to) (map (register_of T f (laid_writes items)) (v ∷ vs)) r = ap (λ us. lift T.pause (H to) (map (register_of T f (laid_writes items)) us) r) s in omega arith
+
+    inner : (p : ℕ) (word : VirtualWord) → WordAt f p word → FineFrom (H p) (word_words T f p word) (Behind p word)
+    inner p (Planned rg wd items) e = ends (H p) (H (suc p)) (Behind p (Planned rg wd items)) (plan_words T f p items) (next_there p (Planned rg wd items) e (inl refl)) (plan_fine T heat carries.pause f M S l p rg wd items e (split_there p rg wd items e))
+    inner p (Drain n) e = ends (H p) (H (suc p)) (Behind p (Drain n)) (waits n ∷ []) (next_there p (Drain n) e refl) (drain_fine T heat carries.pause f M S p n e)
+    inner p (Transfer q) e = transfer_fine T heat carries.pause f M S p q (Behind p (Transfer q)) e (leads_there p q (Transfer q) e refl)
+    inner p (Choice test q) e = ends (H p) (H (suc p)) (Behind p (Choice test q)) (choice_words T f test q) (next_there p (Choice test q) e (inr refl)) (choice_fine T heat carries.pause f M S l p test q e (leads_there p q (Choice test q) e (inl refl)))
+    inner p (Calls g arguments result) e = less (H p) cold (Behind p (Calls g arguments result)) (word_words T f p (Calls g arguments result)) (cold_here p (Calls g arguments result) e tt) (call_fine T heat carries.pause f M S (carries.functions f k.lt).saved p g arguments result (Behind p (Calls g arguments result)) e)
+    inner p (Returns x) e = less (H p) cold (Behind p (Returns x)) (return_words T f x) (cold_here p (Returns x) e tt) (return_fine T heat carries.pause f x (Behind p (Returns x)))
+    inner p (Ends j) e = stop_fine T.machine heat T.pause carries.pause (H p) (EndByTrap j ∷ []) [] (Behind p (Ends j)) refl (λ q r i. absurd i) refl (λ r t. ⊎_elim (λ i. absurd i) (λ i. absurd i) t.0) (λ r. omega arith)
+
+    good_word : (p : ℕ) (word : VirtualWord) → WordAt f p word → Good (record { label = At f p; words = word_words T f p word })
+    good_word p word e = less (start (At f p)) (H p) (Behind p word) (word_words T f p word) (begins p word e) (inner p word e)
+
+    -- landings
+
+    good_landing : (p rg wd : ℕ) (items : List Laid) → WordAt f p (Planned rg wd items) → (test q : ℕ) (y : Bool) → IsIn (Split test y q) items → Good (record { label = Landing f p q; words = landing_words T f items q })
+    good_landing p rg wd items e test q y i =
+        let there_q = leads_there p q (Planned rg wd items) e (inr (test, y, i)) in
+        less (start (Landing f p q)) (lift T.pause (H q) (map (register_of T f (laid_writes items)) (slotted T f (laid_writes items)))) (heat (T.landing f p q + length (landing_words T f items q))) (landing_words T f items q)
+        (λ r. (let a : start (Landing f p q) r ≡ lift T.pause (Pend f q) (map (register_of T f (laid_writes items)) (slotted T f (laid_writes items))) r = ap (λ o. lift T.pause (Pend f q) (left_by f o) r) e in
+        let b = lift_same (Pend f q) (H q) (map (register_of T f (laid_writes items)) (slotted T f (laid_writes items))) r (k.same q r) in omega arith))
+        (landing_fine T heat carries.pause f M S l p rg wd items e q (heat (T.landing f p q + length (landing_words T f items q))) there_q)
+
+    landing_of_good : (p rg wd : ℕ) (items : List Laid) (vs : List ℕ) (q : ℕ) → Good (record { label = Landing f p q; words = landing_words T f items q }) → AllGood (landing_of T f p items vs q)
+    landing_of_good p rg wd items [] q g = tt
+    landing_of_good p rg wd items (v ∷ vs) q g = (g, tt)
+
+    landings_good : (p rg wd : ℕ) (items : List Laid) → WordAt f p (Planned rg wd items) → (xs : List Laid) → ((x : Laid) → IsIn x xs → IsIn x items) → AllGood (item_landings T f p items xs)
+    landings_good p rg wd items e [] sub = tt
+    landings_good p rg wd items e (Plain op c ∷ xs) sub = landings_good p rg wd items e xs (λ x i. sub x (inr i))
+    landings_good p rg wd items e (Split test y q ∷ xs) sub = fit_append T start heat (landing_of T f p items (slotted T f (laid_writes items)) q) (item_landings T f p items xs)
+        (landing_of_good p rg wd items (slotted T f (laid_writes items)) q (good_landing p rg wd items e test q y (sub (Split test y q) (inl refl))))
+        (landings_good p rg wd items e xs (λ x i. sub x (inr i)))
+
+    word_landings_good : (p : ℕ) (word : VirtualWord) → WordAt f p word → AllGood (word_landings T f p word)
+    word_landings_good p (Planned rg wd items) e = landings_good p rg wd items e items (λ x i. i)
+    word_landings_good p (Drain n) e = tt
+    word_landings_good p (Transfer q) e = tt
+    word_landings_good p (Choice test q) e = tt
+    word_landings_good p (Calls g arguments result) e = tt
+    word_landings_good p (Returns x) e = tt
+    word_landings_good p (Ends j) e = tt
+
+    -- all words of the layout from a place on
+
+    record Stand (p : ℕ) (words : List VirtualWord) : Type 0 where
+      each : (i : ℕ) (word : VirtualWord) → slice_get words i ≡ Some word → WordAt f (p + i) word
+      whole : p + length words ≡ length (T.layout f).words
+
+    stand_here : (p : ℕ) (word : VirtualWord) (words : List VirtualWord) → Stand p (word ∷ words) → WordAt f p word
+    stand_here p word words h = let z : p + 0 ≡ p = omega arith in subst (λ n. WordAt f n word) z (h.each 0 word refl)
+
+    stand_on : (p : ℕ) (word : VirtualWord) (words : List VirtualWord) → Stand p (word ∷ words) → Stand (suc p) words
+    stand_on p word words h = record {
+      each = λ i x e. (let z : p + suc i ≡ suc p + i = omega arith in subst (λ n. WordAt f n x) z (h.each (suc i) x e));
+      whole = (let a = h.whole in omega arith);
+    }
+
+    laid_good : (p : ℕ) (words : List VirtualWord) → Stand p words → AllGood (laid_pieces T f p words)
+    laid_good p [] h = ((λ r. (let a : start (At f p) r ≡ 0 = ap (λ o. at_word o (Pend f p) r) (get_beyond (T.layout f).words p (let b = h.whole in omega arith)) in omega arith)), tt)
+    laid_good p (word ∷ words) h = (good_word p word (stand_here p word words h), laid_good (suc p) words (stand_on p word words h))
+
+    laid_landings : (p : ℕ) (words : List VirtualWord) → Stand p words → AllGood (landing_pieces T f p words)
+    laid_landings p [] h = tt
+    laid_landings p (word ∷ words) h = fit_append T start heat (word_landings T f p word) (landing_pieces T f (suc p) words) (word_landings_good p word (stand_here p word words h)) (laid_landings (suc p) words (stand_on p word words h))
+
+    all_stand : Stand 0 (T.layout f).words
+    all_stand = record { each = λ i word e. (let z : i ≡ 0 + i = omega arith in subst (λ n. WordAt f n word) z e); whole = omega arith }
+
+    function_good : AllGood (function_pieces T f)
+    function_good = (
+      entry_fine T heat carries.pause f M S (carries.functions f k.lt).saved (heat (T.entry f + length (entry_words T f))),
+      fit_append T start heat (laid_pieces T f 0 (T.layout f).words) (landing_pieces T f 0 (T.layout f).words) (laid_good 0 (T.layout f).words all_stand) (laid_landings 0 (T.layout f).words all_stand),
+    )
+
+  functions_good : (f n : ℕ) → f + n ≤ Count → AllGood (functions_pieces T f n)
+  functions_good f zero h = tt
+  functions_good f (suc n) h = fit_append T start heat (function_pieces T f) (functions_pieces T (suc f) n) (function_good f (omega arith)) (functions_good (suc f) n (omega arith))
+
+  depth_good : AllGood (record { label = Depth; words = one (EndByTrap ByDepth) ∷ [] } ∷ [])
+  depth_good = (ends_fine T heat carries.pause ByDepth [] (heat (T.depth_trap + 1)) (λ r. omega arith), tt)
+
+  all_good : AllGood (all_pieces T flow.main Count)
+  all_good = (
+    start_fine T heat carries.pause flow.main (heat (0 + length (start_words T flow.main))),
+    fit_append T start heat (functions_pieces T 0 Count) (record { label = Depth; words = one (EndByTrap ByDepth) ∷ [] } ∷ []) (functions_good 0 Count (omega arith)) depth_good,
+  )
+
+  -- no word of the program reads or writes a register early
+  pub words_late : NeverReadsEarly T.machine w × NeverWritesEarly T.machine w
+  words_late = built_late T start flow.main Count w carries.placed all_good
+
+-- with the laws that words fit, and that whole runs are alike
+pub frame_law : FitLaw → WholeLaw → FrameLaw
+frame_law fit whole T flow ls w sound carries =
+    let fits = fit T flow ls w sound carries in
+    let late = words_late T flow ls w ((told flow (is_sound_flow flow) refl).0 sound) carries in (
+      record { fit = λ p word at. (fits p word at).1; never_reads_early = late.0; never_writes_early = late.1 },
+      λ input safe. whole T flow ls w sound carries fits input safe,
+    )

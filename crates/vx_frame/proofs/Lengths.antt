@@ -1,0 +1,134 @@
+-- How many words carry a word does not depend on places.
+use Rattle.std.proofs.Common.{◌≡◌, ℕ, zero, suc, ◌+◌, true, false, if◌then◌else◌, Option, Some, None, List, [], ◌∷◌, ◌++◌, length, refl, sym, ap, ◌∙◌, arith, length-append}
+use Rattle.vx_flow.specs.declared.graph.Operand.{Operand}
+use Rattle.vx_flow.specs.declared.graph.Operand.TheVariants.{Held as HeldValue, Number as AsNumber, Stack}
+use Rattle.std.specs.Prelude.{neg_ℤ}
+use Rattle.vx_base.specs.declared.arithmetic.Code.TheVariants.{ToBranch}
+use Rattle.vx_base.specs.declared.arithmetic.Compare.TheVariants.{Ltu}
+use Rattle.vx_isa.specs.declared.operation.Operation.TheVariants.{BranchOn, Call, Compute, Goto, Store}
+use Rattle.vx_isa.specs.declared.operation.Register.TheVariants.{Branch as InBranch}
+use Rattle.vx_isa.specs.declared.operation.Source.TheVariants.{Held, Number}
+use Rattle.vx_isa.specs.declared.program.Word.{Word}
+use Rattle.vx_mixed.specs.declared.layout.Laid.{Laid}
+use Rattle.vx_mixed.specs.declared.layout.Laid.TheVariants.{Plain, Split}
+use Rattle.vx_mixed.specs.declared.layout.VirtualWord.{VirtualWord}
+use Rattle.vx_mixed.specs.declared.layout.VirtualWord.TheVariants.{Planned, Drain, Transfer, Choice, Call as Calls, Return as Returns, Ends}
+use Rattle.vx_mixed.specs.LaidSettled.{laid_reads, laid_writes}
+use Rattle.vx_frame.specs.Target.{Target, bytes, one, stack_on, move_stack, parameters_of, slotted, general_of, branch_of, load_slot, store_slot, load_slots, store_slots, if_some, once, waited, before, behind, plan_word, plan_words, landing_words, choice_words, fetch_words, fetched, cluster_of_operand, argument_words, result_words, save_words, reload_words, call_words, back_words, return_words, entry_words, word_words}
+use Rattle.vx_frame.specs.Placed.{landing_of, item_landings, word_landings, words_of}
+use Rattle.vx_frame.specs.Placing.{Spots, at_spots}
+use Rattle.vx_frame.proofs.Emitting.{words_of_append}
+
+-- lists
+
+len_behind : {A : Type 0} (xs ys zs : List A) → length ys ≡ length zs → length (xs ++ ys) ≡ length (xs ++ zs)
+len_behind [] ys zs h = h
+len_behind (x ∷ xs) ys zs h = ap suc (len_behind xs ys zs h)
+
+len_both : {A : Type 0} (xs ys us vs : List A) → length xs ≡ length us → length ys ≡ length vs → length (xs ++ ys) ≡ length (us ++ vs)
+len_both xs ys us vs h k = let a = length-append xs ys in let b = length-append us vs in omega arith
+
+-- words that do not depend on places
+
+load_slots_same : (T : Target) (s : Spots) (f : ℕ) (names vs : List ℕ) → load_slots (at_spots T s) f names vs ≡ load_slots T f names vs
+load_slots_same T s f names [] = refl
+load_slots_same T s f names (v ∷ vs) = ap (λ z. load_slot T f 0 v (general_of T f names v) (branch_of T f names v) ++ z) (load_slots_same T s f names vs)
+
+store_slots_same : (T : Target) (s : Spots) (f : ℕ) (names vs : List ℕ) → store_slots (at_spots T s) f names vs ≡ store_slots T f names vs
+store_slots_same T s f names [] = refl
+store_slots_same T s f names (v ∷ vs) = ap (λ z. store_slot T f v (general_of T f names v) (branch_of T f names v) ++ z) (store_slots_same T s f names vs)
+
+before_same : (T : Target) (s : Spots) (f : ℕ) (rs : List ℕ) → before (at_spots T s) f rs ≡ before T f rs
+before_same T s f rs = ap (λ z. if_some (slotted T f rs) (z ++ waited T ∷ [])) (load_slots_same T s f rs (once (slotted T f rs)))
+
+behind_same : (T : Target) (s : Spots) (f : ℕ) (ws : List ℕ) → behind (at_spots T s) f ws ≡ behind T f ws
+behind_same T s f ws = ap (λ z. if_some (slotted T f ws) (waited T ∷ z)) (store_slots_same T s f ws (slotted T f ws))
+
+abbrev passed : Target → (f g v : ℕ) → Operand → List Word → List Word
+passed T f g v x rest = fetch_words T f T.frame x ++ one (Store (cluster_of_operand T f x) (bytes (T.slot g v)) (stack_on (cluster_of_operand T f x)) (fetched T f x)) ∷ rest
+
+passed_same : (T : Target) (s : Spots) (f g v : ℕ) (x : Operand) (rest : List Word) → passed (at_spots T s) f g v x rest ≡ passed T f g v x rest
+passed_same T s f g v (HeldValue u) rest = refl
+passed_same T s f g v (AsNumber n) rest = refl
+passed_same T s f g v Stack rest = refl
+
+argument_same : (T : Target) (s : Spots) (f g : ℕ) (vs : List ℕ) (arguments : List Operand) → argument_words (at_spots T s) f g vs arguments ≡ argument_words T f g vs arguments
+argument_same T s f g [] arguments = refl
+argument_same T s f g (v ∷ vs) [] = refl
+argument_same T s f g (v ∷ vs) (x ∷ arguments) = passed_same T s f g v x (argument_words (at_spots T s) f g vs arguments) ∙ ap (passed T f g v x) (argument_same T s f g vs arguments)
+
+result_same : (T : Target) (s : Spots) (f : ℕ) (result : Option ℕ) → result_words (at_spots T s) f result ≡ result_words T f result
+result_same T s f None = refl
+result_same T s f (Some v) = refl
+
+return_same : (T : Target) (s : Spots) (f : ℕ) (x : Operand) → return_words (at_spots T s) f x ≡ return_words T f x
+return_same T s f (HeldValue v) = refl
+return_same T s f (AsNumber n) = refl
+return_same T s f Stack = refl
+
+reload_same : (T : Target) (s : Spots) (f : ℕ) (vs : List ℕ) → reload_words (at_spots T s) f vs ≡ reload_words T f vs
+reload_same T s f vs = ap (λ z. if_some vs (z ++ waited T ∷ [])) (load_slots_same T s f vs vs)
+
+back_same : (T : Target) (s : Spots) (f p : ℕ) (result : Option ℕ) → length (back_words (at_spots T s) f p result) ≡ length (back_words T f p result)
+back_same T s f p result =
+    ap length (ap (λ z. move_stack T (bytes T.frame) ++ (z ++ reload_words (at_spots T s) f (T.saved f p))) (result_same T s f result) ∙ ap (λ z. move_stack T (bytes T.frame) ++ (result_words T f result ++ z)) (reload_same T s f (T.saved f p)))
+
+-- words that do
+
+other_word : (xs ys : List Word) (w v : Word) → length (xs ++ w ∷ ys) ≡ length (xs ++ v ∷ ys)
+other_word xs ys w v = len_behind xs (w ∷ ys) (v ∷ ys) refl
+
+pub plan_length : (T : Target) (s : Spots) (f p : ℕ) (items : List Laid) → length (plan_words (at_spots T s) f p items) ≡ length (plan_words T f p items)
+plan_length T s f p items =
+    let w = plan_word (at_spots T s) f p items in
+    ap length (ap (λ z. z ++ w ∷ behind (at_spots T s) f (laid_writes items)) (before_same T s f (laid_reads items)) ∙ ap (λ z. before T f (laid_reads items) ++ w ∷ z) (behind_same T s f (laid_writes items)))
+    ∙ other_word (before T f (laid_reads items)) (behind T f (laid_writes items)) w (plan_word T f p items)
+
+pub call_length : (T : Target) (s : Spots) (f p g : ℕ) (arguments : List Operand) → length (call_words (at_spots T s) f p g arguments) ≡ length (call_words T f p g arguments)
+call_length T s f p g arguments =
+    let U = at_spots T s in
+    let tail_of : Target → List Word = λ V. argument_words V f g (parameters_of V g) arguments ++ one (Call (V.entry g)) ∷ [] in
+    let tails : length (tail_of U) ≡ length (tail_of T) = len_both (argument_words U f g (parameters_of T g) arguments) (one (Call (s.entry g)) ∷ []) (argument_words T f g (parameters_of T g) arguments) (one (Call (T.entry g)) ∷ []) (ap length (argument_same T s f g (parameters_of T g) arguments)) refl in
+    let moves : length (move_stack T (neg_ℤ (bytes T.frame)) ++ tail_of U) ≡ length (move_stack T (neg_ℤ (bytes T.frame)) ++ tail_of T) = len_behind (move_stack T (neg_ℤ (bytes T.frame))) (tail_of U) (tail_of T) tails in
+    len_both (save_words U f (T.saved f p)) (depth_word T ∷ waited T ∷ one (BranchOn 0 true s.depth_trap) ∷ (move_stack T (neg_ℤ (bytes T.frame)) ++ tail_of U)) (save_words T f (T.saved f p)) (depth_word T ∷ waited T ∷ one (BranchOn 0 true T.depth_trap) ∷ (move_stack T (neg_ℤ (bytes T.frame)) ++ tail_of T)) (ap length (store_slots_same T s f (T.saved f p) (T.saved f p))) (ap (λ n. suc (suc (suc n))) moves)
+  where
+    depth_word : Target → Word
+    depth_word V = one (Compute 0 (ToBranch Ltu) (InBranch (record { cluster = 0; number = 0 })) (Held (stack_on 0)) (Number (bytes (V.globals + V.frame))))
+
+pub entry_length : (T : Target) (s : Spots) (g : ℕ) → length (entry_words (at_spots T s) g) ≡ length (entry_words T g)
+entry_length T s g = ap (λ n. suc (suc (suc n))) (len_both (reload_words (at_spots T s) g (T.brought g)) (one (Goto (s.starts g (T.layout g).entry)) ∷ []) (reload_words T g (T.brought g)) (one (Goto (T.starts g (T.layout g).entry)) ∷ []) (ap length (reload_same T s g (T.brought g))) refl)
+
+pub word_length : (T : Target) (s : Spots) (f p : ℕ) (word : VirtualWord) → length (word_words (at_spots T s) f p word) ≡ length (word_words T f p word)
+word_length T s f p (Planned r w items) = plan_length T s f p items
+word_length T s f p (Drain n) = refl
+word_length T s f p (Transfer q) = refl
+word_length T s f p (Choice test q) = len_both (before (at_spots T s) f (test ∷ [])) (one (BranchOn (branch_of T f (test ∷ []) test) true (s.starts f q)) ∷ []) (before T f (test ∷ [])) (one (BranchOn (branch_of T f (test ∷ []) test) true (T.starts f q)) ∷ []) (ap length (before_same T s f (test ∷ []))) refl
+word_length T s f p (Calls g arguments result) = len_both (call_words (at_spots T s) f p g arguments) (back_words (at_spots T s) f p result) (call_words T f p g arguments) (back_words T f p result) (call_length T s f p g arguments) (back_same T s f p result)
+word_length T s f p (Returns x) = ap length (return_same T s f x)
+word_length T s f p (Ends k) = refl
+
+landing_length : (T : Target) (s : Spots) (f : ℕ) (items : List Laid) (q : ℕ) → length (landing_words (at_spots T s) f items q) ≡ length (landing_words T f items q)
+landing_length T s f items q = len_both (behind (at_spots T s) f (laid_writes items)) (one (Goto (s.starts f q)) ∷ []) (behind T f (laid_writes items)) (one (Goto (T.starts f q)) ∷ []) (ap length (behind_same T s f (laid_writes items))) refl
+
+landing_of_length : (T : Target) (s : Spots) (f p : ℕ) (items : List Laid) (scratch : List ℕ) (q : ℕ) → length (words_of (landing_of (at_spots T s) f p items scratch q)) ≡ length (words_of (landing_of T f p items scratch q))
+landing_of_length T s f p items [] q = refl
+landing_of_length T s f p items (v ∷ vs) q = len_both (landing_words (at_spots T s) f items q) [] (landing_words T f items q) [] (landing_length T s f items q) refl
+
+item_landings_length : (T : Target) (s : Spots) (f p : ℕ) (items rest : List Laid) → length (words_of (item_landings (at_spots T s) f p items rest)) ≡ length (words_of (item_landings T f p items rest))
+item_landings_length T s f p items [] = refl
+item_landings_length T s f p items (Plain op cluster ∷ rest) = item_landings_length T s f p items rest
+item_landings_length T s f p items (Split test y q ∷ rest) =
+    let U = at_spots T s in
+    let vs = slotted T f (laid_writes items) in
+    ap length (words_of_append (landing_of U f p items vs q) (item_landings U f p items rest))
+    ∙ len_both (words_of (landing_of U f p items vs q)) (words_of (item_landings U f p items rest)) (words_of (landing_of T f p items vs q)) (words_of (item_landings T f p items rest)) (landing_of_length T s f p items vs q) (item_landings_length T s f p items rest)
+    ∙ sym (ap length (words_of_append (landing_of T f p items vs q) (item_landings T f p items rest)))
+
+pub word_landings_length : (T : Target) (s : Spots) (f p : ℕ) (word : VirtualWord) → length (words_of (word_landings (at_spots T s) f p word)) ≡ length (words_of (word_landings T f p word))
+word_landings_length T s f p (Planned r w items) = item_landings_length T s f p items items
+word_landings_length T s f p (Drain n) = refl
+word_landings_length T s f p (Transfer q) = refl
+word_landings_length T s f p (Choice test q) = refl
+word_landings_length T s f p (Calls g arguments result) = refl
+word_landings_length T s f p (Returns x) = refl
+word_landings_length T s f p (Ends k) = refl

@@ -1,0 +1,423 @@
+// The words of calls, returns, entries and of a program's start.
+
+ghost use Rattle.std.specs.Prelude.{◌≡◌, ◌++◌, ◌∷◌, ◌+◌, [], neg_ℤ, true, IfOk};
+ghost use Rattle.vx_base.specs.declared.arithmetic.Code.TheVariants.{Add, ToBranch};
+ghost use Rattle.vx_base.specs.declared.arithmetic.Compare.TheVariants.{Ltu};
+ghost use Rattle.vx_isa.specs.declared.operation.Operation.TheVariants.{BranchOn, Compute, Move};
+ghost use Rattle.vx_isa.specs.declared.operation.Register.TheVariants.{Branch as InBranch, General as InGeneral};
+ghost use Rattle.vx_isa.specs.declared.operation.Source.TheVariants.{Held, Number};
+ghost use Rattle.vx_frame.specs.Target.{bytes, general, one, waited, stack_on, on_clusters, parameters_of, first_frame, fetch_words, fetched, cluster_of_operand, argument_words, result_words, save_words, reload_words, move_stack, call_words, back_words, return_words, entry_words, start_words};
+ghost use Rattle.vx_frame.specs.Seen.{seen};
+
+use crate::carrying::{bytes, stack_on};
+use crate::gathering::{Whole, brought, entered_at, entry, parameters, saved, slot, start};
+use crate::naming::{general, general_of, home, is_slotted};
+use crate::slotting::{
+    answer, load_slot, load_slots, named_by, push_one, push_wait, store_slots, sum,
+};
+use std::alloc::Global;
+use vx_base::arithmetic::{Code, Compare};
+use vx_base::listed::Listed;
+use vx_base::outcome::NoMemory;
+use vx_flow::graph::{Operand, Value};
+use vx_isa::operation::{BranchRegister, GeneralRegister, Operation, Register, Source};
+use vx_isa::program::Word;
+
+/// How many functions may be active at a time.
+pub(crate) const DEEPEST: u32 = 512;
+
+/// The register by which the link goes to and from its frame.
+fn link_scratch() -> GeneralRegister
+    ensures { result ≡ general 0 3 }
+{
+    general(0, 3)
+}
+
+/// The stack pointer of a cluster, so many bytes on.
+fn stack_step(cluster: u32, step: i32) -> Operation
+    ensures { result ≡ Compute cluster Add (InGeneral (stack_on cluster)) (Held (stack_on cluster)) (Number step) }
+{
+    Operation::Compute {
+        cluster,
+        code: Code::Add,
+        to: Register::General(stack_on(cluster)),
+        left: Source::Held(stack_on(cluster)),
+        right: Source::Number(step),
+    }
+}
+
+/// The operations that move the stack pointer of every cluster by so many bytes.
+#[tactic(auto, using(crate::proofs::Emitting::clusters_none, crate::proofs::Emitting::clusters_more))]
+fn stack_steps(alloc: Global, clusters: u32, step: i32) -> Result<Listed<Operation>, NoMemory>
+    ensures { IfOk result (λ ops. ops ≡ on_clusters clusters (λ k. Compute k Add (InGeneral (stack_on k)) (Held (stack_on k)) (Number step))) }
+{
+    let mut ops = Listed::new(alloc);
+    for cluster in 0..clusters {
+        ops.push(stack_step(cluster, step))?;
+    }
+    Ok(ops)
+}
+
+/// Moves the stack pointer of every cluster by so many bytes.
+fn move_stack(
+    alloc: Global,
+    whole: &Whole,
+    step: i32,
+    words: &mut Listed<Word>,
+) -> Result<(), NoMemory>
+    ensures { IfOk result (λ _. words.new ≡ words.old ++ move_stack (seen whole.now) step) }
+{
+    let ops = stack_steps(alloc, whole.machine.clusters(), step)?;
+    words.push(Word { ops, idle: 0 })?;
+    push_wait(alloc, whole, words)
+}
+
+/// Saves values in their slots, from their own registers.
+fn save(
+    alloc: Global,
+    whole: &Whole,
+    function: u32,
+    values: &[Value],
+    words: &mut Listed<Word>,
+) -> Result<(), NoMemory>
+    ensures { IfOk result (λ _. words.new ≡ words.old ++ save_words (seen whole.now) function values.now) }
+{
+    store_slots(alloc, whole, function, values, values, words)
+}
+
+/// Brings values back from their slots to their own registers.
+fn reload(
+    alloc: Global,
+    whole: &Whole,
+    function: u32,
+    values: &[Value],
+    words: &mut Listed<Word>,
+) -> Result<(), NoMemory>
+    ensures { IfOk result (λ _. words.new ≡ words.old ++ reload_words (seen whole.now) function values.now) }
+{
+    if values.is_empty() {
+        return Ok(());
+    }
+    load_slots(alloc, whole, function, values, values, words)?;
+    push_wait(alloc, whole, words)
+}
+
+/// Brings a value that is in a slot to a scratch register, from a frame so many words above the stack pointer.
+fn fetch(
+    alloc: Global,
+    whole: &Whole,
+    function: u32,
+    up: u32,
+    operand: Operand,
+    words: &mut Listed<Word>,
+) -> Result<(), NoMemory>
+    ensures { IfOk result (λ _. words.new ≡ words.old ++ fetch_words (seen whole.now) function up operand) }
+{
+    match operand {
+        Operand::Held(value) => {
+            if is_slotted(whole, function, value) {
+                let names = [value];
+                let to = named_by(whole, function, &names, value)?;
+                load_slot(alloc, whole, function, up, value, to, words)?;
+                push_wait(alloc, whole, words)
+            } else {
+                Ok(())
+            }
+        }
+        Operand::Number(_) => Ok(()),
+        Operand::Stack => Ok(()),
+    }
+}
+
+/// What was fetched, as a source.
+fn fetched(whole: &Whole, function: u32, operand: Operand) -> Source
+    ensures { result ≡ fetched (seen whole.now) function operand }
+{
+    match operand {
+        Operand::Held(value) => {
+            let names = [value];
+            Source::Held(general_of(whole, function, &names, value))
+        }
+        Operand::Number(number) => Source::Number(number),
+        Operand::Stack => Source::Number(0),
+    }
+}
+
+/// The cluster on which an operand is read.
+fn cluster_of(whole: &Whole, function: u32, operand: Operand) -> u32
+    ensures { result ≡ cluster_of_operand (seen whole.now) function operand }
+{
+    match operand {
+        Operand::Held(value) => home(whole, function, value),
+        Operand::Number(_) => 0,
+        Operand::Stack => 0,
+    }
+}
+
+/// An argument into the slot of its parameter.
+fn pass(
+    alloc: Global,
+    whole: &Whole,
+    function: u32,
+    called: u32,
+    parameter: Value,
+    argument: Operand,
+    words: &mut Listed<Word>,
+) -> Result<(), NoMemory>
+    ensures { IfOk result (λ _. words.new ≡ words.old ++ argument_words (seen whole.now) function called (parameter ∷ []) (argument ∷ [])) }
+{
+    fetch(alloc, whole, function, whole.sizes.frame, argument, words)?;
+    let cluster = cluster_of(whole, function, argument);
+    let store = Operation::Store {
+        cluster,
+        offset: bytes(slot(whole, called, parameter))?,
+        base: stack_on(cluster),
+        from: fetched(whole, function, argument),
+    };
+    push_one(alloc, store, words)
+}
+
+/// Each argument into the slot of its parameter, in the frame of the function that is called.
+fn pass_all(
+    alloc: Global,
+    whole: &Whole,
+    function: u32,
+    called: u32,
+    parameters: &[Value],
+    arguments: &[Operand],
+    words: &mut Listed<Word>,
+) -> Result<(), NoMemory>
+    ensures { IfOk result (λ _. words.new ≡ words.old ++ argument_words (seen whole.now) function called parameters.now arguments.now) }
+{
+    match parameters.split_first() {
+        None => Ok(()),
+        Some((parameter, parameters)) => match arguments.split_first() {
+            None => Ok(()),
+            Some((argument, arguments)) => {
+                pass(alloc, whole, function, called, *parameter, *argument, words)?;
+                pass_all(alloc, whole, function, called, parameters, arguments, words)
+            }
+        },
+    }
+}
+
+/// The result of a call to where it is kept; one on another cluster goes across first.
+fn take_result(
+    alloc: Global,
+    whole: &Whole,
+    function: u32,
+    taken: Option<Value>,
+    words: &mut Listed<Word>,
+) -> Result<(), NoMemory>
+    ensures { IfOk result (λ _. words.new ≡ words.old ++ result_words (seen whole.now) function taken) }
+{
+    let Some(value) = taken else {
+        return Ok(());
+    };
+    if is_slotted(whole, function, value) {
+        let store = Operation::Store {
+            cluster: 0,
+            offset: bytes(slot(whole, function, value))?,
+            base: stack_on(0),
+            from: Source::Held(answer()),
+        };
+        return push_one(alloc, store, words);
+    }
+    let names = [value];
+    let copy = Operation::Move {
+        cluster: home(whole, function, value),
+        to: general_of(whole, function, &names, value),
+        from: Source::Held(answer()),
+    };
+    push_one(alloc, copy, words)?;
+    push_wait(alloc, whole, words)
+}
+
+/// The test by which a stack pointer that is one frame too low is told.
+fn depth_test(least: i32) -> Operation
+    ensures { result ≡ Compute 0 (ToBranch Ltu) (InBranch (record { cluster = 0; number = 0 })) (Held (stack_on 0)) (Number least) }
+{
+    Operation::Compute {
+        cluster: 0,
+        code: Code::ToBranch(Compare::Ltu),
+        to: Register::Branch(BranchRegister {
+            cluster: 0,
+            number: 0,
+        }),
+        left: Source::Held(stack_on(0)),
+        right: Source::Number(least),
+    }
+}
+
+/// Tests that the frame of a function that is called does not begin below the end of the globals, else goes to the trap.
+fn test_depth(alloc: Global, whole: &Whole, words: &mut Listed<Word>) -> Result<(), NoMemory>
+    ensures { IfOk result (λ _. words.new ≡ words.old ++ (one (Compute 0 (ToBranch Ltu) (InBranch (record { cluster = 0; number = 0 })) (Held (stack_on 0)) (Number (bytes ((seen whole.now).globals + (seen whole.now).frame)))) ∷ waited (seen whole.now) ∷ one (BranchOn 0 true (seen whole.now).depth_trap) ∷ [])) }
+{
+    let least = bytes(sum(whole.sizes.globals, whole.sizes.frame)?)?;
+    push_one(alloc, depth_test(least), words)?;
+    push_wait(alloc, whole, words)?;
+    let leave = Operation::BranchOn {
+        test: 0,
+        taken_at_one: true,
+        target: whole.sizes.depth_trap,
+    };
+    push_one(alloc, leave, words)
+}
+
+/// Moves the stack pointer of every cluster down by a frame.
+fn move_down(alloc: Global, whole: &Whole, words: &mut Listed<Word>) -> Result<(), NoMemory>
+    ensures { IfOk result (λ _. words.new ≡ words.old ++ move_stack (seen whole.now) (neg_ℤ (bytes (seen whole.now).frame))) }
+{
+    let step = bytes(whole.sizes.frame)?;
+    move_stack(alloc, whole, -step, words)
+}
+
+/// The words up to a call: values are saved, the depth is tested, the stack pointers go down, and arguments are passed.
+pub(crate) fn push_call(
+    alloc: Global,
+    whole: &Whole,
+    function: u32,
+    place: u32,
+    called: u32,
+    arguments: &[Operand],
+    words: &mut Listed<Word>,
+) -> Result<(), NoMemory>
+    ensures { IfOk result (λ _. words.new ≡ words.old ++ call_words (seen whole.now) function place called arguments.now) }
+{
+    save(alloc, whole, function, saved(whole, function, place), words)?;
+    test_depth(alloc, whole, words)?;
+    move_down(alloc, whole, words)?;
+    let passed = parameters(whole, called);
+    pass_all(alloc, whole, function, called, passed, arguments, words)?;
+    let target = entry(whole, called);
+    push_one(alloc, Operation::Call { target }, words)
+}
+
+/// The words behind a call: the stack pointers go up, the result is taken, and saved values come back.
+pub(crate) fn push_back(
+    alloc: Global,
+    whole: &Whole,
+    function: u32,
+    place: u32,
+    taken: Option<Value>,
+    words: &mut Listed<Word>,
+) -> Result<(), NoMemory>
+    ensures { IfOk result (λ _. words.new ≡ words.old ++ back_words (seen whole.now) function place taken) }
+{
+    let step = bytes(whole.sizes.frame)?;
+    move_stack(alloc, whole, step, words)?;
+    take_result(alloc, whole, function, taken, words)?;
+    reload(alloc, whole, function, saved(whole, function, place), words)
+}
+
+/// The words of a return: the result goes to its register, and the link comes from the frame.
+pub(crate) fn push_return(
+    alloc: Global,
+    whole: &Whole,
+    function: u32,
+    operand: Operand,
+    words: &mut Listed<Word>,
+) -> Result<(), NoMemory>
+    ensures { IfOk result (λ _. words.new ≡ words.old ++ return_words (seen whole.now) function operand) }
+{
+    fetch(alloc, whole, function, 0, operand, words)?;
+    let give = Operation::Move {
+        cluster: 0,
+        to: answer(),
+        from: fetched(whole, function, operand),
+    };
+    push_one(alloc, give, words)?;
+    let load = Operation::Load {
+        cluster: 0,
+        to: link_scratch(),
+        offset: 0,
+        base: stack_on(0),
+        dismissible: false,
+    };
+    push_one(alloc, load, words)?;
+    push_wait(alloc, whole, words)?;
+    let link = Operation::ToLink {
+        from: Source::Held(link_scratch()),
+    };
+    push_one(alloc, link, words)?;
+    push_wait(alloc, whole, words)?;
+    push_one(alloc, Operation::Return, words)
+}
+
+/// The words at the entry of a function: the link is stored in its frame, and parameters come to their registers.
+pub(crate) fn push_entry(
+    alloc: Global,
+    whole: &Whole,
+    function: u32,
+    words: &mut Listed<Word>,
+) -> Result<(), NoMemory>
+    ensures { IfOk result (λ _. words.new ≡ words.old ++ entry_words (seen whole.now) function) }
+{
+    push_one(alloc, Operation::FromLink { to: link_scratch() }, words)?;
+    push_wait(alloc, whole, words)?;
+    let store = Operation::Store {
+        cluster: 0,
+        offset: 0,
+        base: stack_on(0),
+        from: Source::Held(link_scratch()),
+    };
+    push_one(alloc, store, words)?;
+    reload(alloc, whole, function, brought(whole, function), words)?;
+    let target = start(whole, function, entered_at(whole, function));
+    push_one(alloc, Operation::Goto { target }, words)
+}
+
+/// Where the frame of the function that is active first begins, in words.
+#[tactic(auto, unfolding(vx_flow::specs::Meaning::deepest))]
+fn first_frame(whole: &Whole) -> Result<u32, NoMemory>
+    ensures { IfOk result (λ begin. begin ≡ first_frame (seen whole.now)) }
+{
+    match whole.sizes.frame.checked_mul(DEEPEST - 1) {
+        Some(words) => sum(whole.sizes.globals, words),
+        None => Err(NoMemory),
+    }
+}
+
+/// The stack pointer of a cluster at an address.
+fn stack_at(cluster: u32, address: i32) -> Operation
+    ensures { result ≡ Move cluster (stack_on cluster) (Number address) }
+{
+    Operation::Move {
+        cluster,
+        to: stack_on(cluster),
+        from: Source::Number(address),
+    }
+}
+
+/// The operations that set the stack pointer of every cluster.
+#[tactic(auto, using(crate::proofs::Emitting::clusters_none, crate::proofs::Emitting::clusters_more))]
+fn stacks_at(alloc: Global, clusters: u32, address: i32) -> Result<Listed<Operation>, NoMemory>
+    ensures { IfOk result (λ ops. ops ≡ on_clusters clusters (λ k. Move k (stack_on k) (Number address))) }
+{
+    let mut ops = Listed::new(alloc);
+    for cluster in 0..clusters {
+        ops.push(stack_at(cluster, address))?;
+    }
+    Ok(ops)
+}
+
+/// The first words of a program: the stack pointers, the call of the first function, and the end behind it.
+pub(crate) fn push_start(
+    alloc: Global,
+    whole: &Whole,
+    main: u32,
+    words: &mut Listed<Word>,
+) -> Result<(), NoMemory>
+    ensures { IfOk result (λ _. words.new ≡ words.old ++ start_words (seen whole.now) main) }
+{
+    let begin = bytes(first_frame(whole)?)?;
+    let ops = stacks_at(alloc, whole.machine.clusters(), begin)?;
+    words.push(Word { ops, idle: 0 })?;
+    push_wait(alloc, whole, words)?;
+    let target = entry(whole, main);
+    push_one(alloc, Operation::Call { target }, words)?;
+    let end = Operation::Halt {
+        from: Source::Held(answer()),
+    };
+    push_one(alloc, end, words)
+}

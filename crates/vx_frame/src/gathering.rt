@@ -1,0 +1,191 @@
+// A whole program while it is finished: the functions with their layouts and maps, what stands in their frames, and the
+// places of their words. specs/Seen.antt has the target that it makes.
+
+ghost use Rattle.std.specs.Prelude.{◌≡◌, slice_index_or};
+ghost use Rattle.vx_frame.specs.Target.{parameters_of, is_own};
+ghost use Rattle.vx_frame.specs.Seen.{places_of, seen};
+
+use vx_base::listed::Listed;
+use vx_flow::graph::{ArrayId, Graph, Value};
+use vx_machine::Machine;
+use vx_mixed::layout::{VWords, VirtualWord};
+use vx_regs::map::RegMap;
+
+/// What stands in the frame of a function, and which of its values are brought to their registers from there.
+#[derive(Drop, Debug)]
+pub(crate) struct FunctionFrame {
+    /// For each value the word of the frame that is its slot; 0 where it has none.
+    pub(crate) slots: Listed<u32>,
+    /// For each array where it begins, in words: a global one in memory, the function's own in the frame.
+    pub(crate) arrays: Listed<u32>,
+    /// For each place of the layout the values that are saved round a call there.
+    pub(crate) saved: Listed<Listed<Value>>,
+    /// The parameters that are brought to their registers at the entry.
+    pub(crate) brought: Listed<Value>,
+    /// The words of the frame.
+    pub(crate) words: u32,
+}
+
+/// The places of the words of a function.
+#[derive(Drop, Debug)]
+pub(crate) struct FunctionPlaces {
+    /// Where it is entered.
+    pub(crate) entry: u32,
+    /// For each place of the layout, and the one behind the last, where its words begin.
+    pub(crate) starts: Listed<u32>,
+    /// For each place of the layout where a taken split of its word lands.
+    pub(crate) landings: Listed<u32>,
+    /// For each place of the layout where a call there returns, or where the operations of a planned word there stand.
+    pub(crate) marks: Listed<u32>,
+}
+
+/// Numbers of the whole program.
+#[derive(Clone, Copy, Debug)]
+pub(crate) struct Sizes {
+    /// The words of all globals.
+    pub(crate) globals: u32,
+    /// The words of a frame.
+    pub(crate) frame: u32,
+    /// Empty cycles after which all has landed.
+    pub(crate) pause: u32,
+    /// The place of the trap by which a call that is one too many ends.
+    pub(crate) depth_trap: u32,
+}
+
+/// The whole program.
+#[derive(Clone, Copy)]
+pub(crate) struct Whole<'a, 'p> {
+    pub(crate) machine: &'a Machine,
+    pub(crate) graphs: &'a [Graph],
+    pub(crate) layouts: &'a [VWords],
+    pub(crate) maps: &'a [RegMap],
+    pub(crate) frames: &'a [FunctionFrame],
+    pub(crate) places: &'p [FunctionPlaces],
+    pub(crate) sizes: Sizes,
+}
+
+/// The number at a place of a list, and 0 behind it.
+pub(crate) fn number_at(numbers: &[u32], place: u32) -> u32
+    ensures { result ≡ slice_index_or numbers.now place 0 }
+{
+    match numbers.get(place as usize) {
+        Some(number) => *number,
+        None => 0,
+    }
+}
+
+/// The slot of a value, as a word of its function's frame.
+pub(crate) fn slot(whole: &Whole, function: u32, value: Value) -> u32
+    ensures { result ≡ (seen whole.now).slot function value }
+{
+    match whole.frames.get(function as usize) {
+        Some(frame) => number_at(frame.slots.as_slice(), value),
+        None => 0,
+    }
+}
+
+/// Where an array that a function sees begins, in words.
+pub(crate) fn array_at(whole: &Whole, function: u32, array: ArrayId) -> u32
+    ensures { result ≡ (seen whole.now).array_at function array }
+{
+    match whole.frames.get(function as usize) {
+        Some(frame) => number_at(frame.arrays.as_slice(), array),
+        None => 0,
+    }
+}
+
+/// The values that are saved round the call at a place.
+pub(crate) fn saved<'a>(whole: &Whole<'a, '_>, function: u32, place: u32) -> &'a [Value]
+    ensures { result.now ≡ (seen whole.now).saved function place }
+{
+    match whole.frames.get(function as usize) {
+        Some(frame) => match frame.saved.as_slice().get(place as usize) {
+            Some(values) => values.as_slice(),
+            None => &[],
+        },
+        None => &[],
+    }
+}
+
+/// The parameters that are brought to their registers at the entry of a function.
+pub(crate) fn brought<'a>(whole: &Whole<'a, '_>, function: u32) -> &'a [Value]
+    ensures { result.now ≡ (seen whole.now).brought function }
+{
+    match whole.frames.get(function as usize) {
+        Some(frame) => frame.brought.as_slice(),
+        None => &[],
+    }
+}
+
+/// Where a function is entered.
+pub(crate) fn entry(whole: &Whole, function: u32) -> u32
+    ensures { result ≡ (seen whole.now).entry function }
+{
+    match whole.places.get(function as usize) {
+        Some(places) => places.entry,
+        None => 0,
+    }
+}
+
+/// Where the words of a place of a layout begin.
+pub(crate) fn start(whole: &Whole, function: u32, place: u32) -> u32
+    ensures { result ≡ (seen whole.now).starts function place }
+{
+    match whole.places.get(function as usize) {
+        Some(places) => number_at(places.starts.as_slice(), place),
+        None => 0,
+    }
+}
+
+/// Where a taken split of the word at a place lands.
+pub(crate) fn landing(whole: &Whole, function: u32, place: u32) -> u32
+    ensures { result ≡ slice_index_or (places_of whole.now function).landings place 0 }
+{
+    match whole.places.get(function as usize) {
+        Some(places) => number_at(places.landings.as_slice(), place),
+        None => 0,
+    }
+}
+
+/// The parameters of a function.
+pub(crate) fn parameters<'a>(whole: &Whole<'a, '_>, function: u32) -> &'a [Value]
+    ensures { result.now ≡ parameters_of (seen whole.now) function }
+{
+    match whole.graphs.get(function as usize) {
+        Some(graph) => graph.parameters.as_slice(),
+        None => &[],
+    }
+}
+
+/// Whether an array is one of the function's own.
+pub(crate) fn is_own(whole: &Whole, function: u32, array: ArrayId) -> bool
+    ensures { result ≡ is_own (seen whole.now) function array }
+{
+    match whole.graphs.get(function as usize) {
+        Some(graph) => match graph.arrays.as_slice().get(array as usize) {
+            Some(array) => !array.global,
+            None => false,
+        },
+        None => false,
+    }
+}
+
+/// The words of a function's layout.
+pub(crate) fn words_of<'a>(whole: &Whole<'a, '_>, function: u32) -> &'a [VirtualWord]
+    ensures { result.now ≡ ((seen whole.now).layout function).words }
+{
+    match whole.layouts.get(function as usize) {
+        Some(layout) => layout.words.as_slice(),
+        None => &[],
+    }
+}
+
+/// The place at which a function's layout is entered.
+pub(crate) fn entered_at(whole: &Whole, function: u32) -> u32
+    ensures { result ≡ ((seen whole.now).layout function).entry }
+{
+    match whole.layouts.get(function as usize) {
+        Some(layout) => layout.entry,
+        None => 0,
+    }
+}

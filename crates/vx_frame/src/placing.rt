@@ -1,0 +1,300 @@
+// The words of a whole program, one piece after the other, and where each piece begins. How many words a piece has does not
+// depend on places, so a first pass finds the places and a second one makes the words. specs/Placing.antt has the places.
+
+ghost use Rattle.std.specs.Prelude.{◌≡◌, ◌<◌, ◌≤◌, ◌++◌, ℕ, [], IfOk, length};
+ghost use Rattle.vx_frame.specs.Target.{word_words, start_words};
+ghost use Rattle.vx_frame.specs.Placed.{laid_pieces, word_landings, landing_pieces, function_pieces, functions_pieces, all_pieces, words_of, IsPlaced};
+ghost use Rattle.vx_frame.specs.Placing.{starts_from, landings_from, mark_of, marks_from, places_at, all_places, functions_end, at_spots, spots_of, standing, OneSplit};
+ghost use Rattle.vx_frame.specs.Seen.{seen};
+
+use crate::calling::{push_back, push_call, push_entry, push_return, push_start};
+use crate::gathering::{FunctionPlaces, Sizes, Whole, start, words_of};
+use crate::planning::{plan_of, push_choice, push_item_landings, push_plan};
+use crate::slotting::{push_idle, push_one, sum};
+use std::alloc::Global;
+use vx_base::listed::Listed;
+use vx_base::outcome::{NoMemory, Trap};
+use vx_isa::operation::Operation;
+use vx_isa::program::Word;
+use vx_mixed::layout::VirtualWord;
+
+/// The words of a program, and where they stand.
+#[derive(Drop)]
+pub(crate) struct Pieces {
+    pub(crate) words: Listed<Word>,
+    pub(crate) places: Listed<FunctionPlaces>,
+    /// The place of the trap by which a call that is one too many ends.
+    pub(crate) depth_trap: u32,
+}
+
+/// The places of the words of a layout.
+#[derive(Drop)]
+struct LaidPlaces {
+    starts: Listed<u32>,
+    marks: Listed<u32>,
+}
+
+/// The words that carry one of a layout; gives the place of a planned word's operations, or of the return of a call.
+fn push_word(
+    alloc: Global,
+    whole: &Whole,
+    function: u32,
+    place: u32,
+    word: &VirtualWord,
+    words: &mut Listed<Word>,
+) -> Result<u32, NoMemory>
+    ensures words { IfOk result (λ _. words.new ≡ words.old ++ word_words (seen whole.now) function place word.now) }
+    ensures mark { IfOk result (λ mark. mark ≡ mark_of (seen whole.now) function (length words.old) place word.now) }
+{
+    match word {
+        VirtualWord::Planned { items, .. } => {
+            let plan = plan_of(alloc, whole, function, place, items.as_slice())?;
+            push_plan(alloc, whole, &plan, words)
+        }
+        VirtualWord::Drain(cycles) => {
+            push_idle(alloc, *cycles, words)?;
+            Ok(0)
+        }
+        VirtualWord::Transfer(to) => {
+            let target = start(whole, function, *to);
+            push_one(alloc, Operation::Goto { target }, words)?;
+            Ok(0)
+        }
+        VirtualWord::Choice { test, place: to } => {
+            push_choice(alloc, whole, function, *test, *to, words)?;
+            Ok(0)
+        }
+        VirtualWord::Call {
+            function: called,
+            arguments,
+            result: taken,
+        } => {
+            push_call(
+                alloc,
+                whole,
+                function,
+                place,
+                *called,
+                arguments.as_slice(),
+                words,
+            )?;
+            let back = words.len() as u32;
+            push_back(alloc, whole, function, place, *taken, words)?;
+            Ok(back)
+        }
+        VirtualWord::Return(operand) => {
+            push_return(alloc, whole, function, *operand, words)?;
+            Ok(0)
+        }
+        VirtualWord::Ends(trap) => {
+            push_one(alloc, Operation::EndByTrap { trap: *trap }, words)?;
+            Ok(0)
+        }
+    }
+}
+
+/// The words of a layout, one after the other.
+#[tactic(auto, using(crate::proofs::Emitting::emits_first, crate::proofs::Emitting::emits_next, crate::proofs::Emitting::emits_words, crate::proofs::Emitting::emits_starts, crate::proofs::Emitting::emits_marks))]
+fn push_laid(
+    alloc: Global,
+    whole: &Whole,
+    function: u32,
+    laid: &[VirtualWord],
+    words: &mut Listed<Word>,
+) -> Result<LaidPlaces, NoMemory>
+    ensures words { IfOk result (λ _. words.new ≡ words.old ++ words_of (laid_pieces (seen whole.now) function 0 laid.now)) }
+    ensures starts { IfOk result (λ places. places.starts ≡ starts_from (seen whole.now) function (length words.old) 0 laid.now) }
+    ensures marks { IfOk result (λ places. places.marks ≡ marks_from (seen whole.now) function (length words.old) 0 laid.now) }
+{
+    let mut starts = Listed::new(alloc);
+    let mut marks = Listed::new(alloc);
+    let mut place = 0;
+    let mut rest = laid;
+    'laid: loop {
+        let begin = words.len() as u32;
+        match rest.split_first() {
+            None => {
+                starts.push(begin)?;
+                return Ok(LaidPlaces { starts, marks });
+            }
+            Some((word, others)) => {
+                let mark = push_word(alloc, whole, function, place, word, words)?;
+                starts.push(begin)?;
+                marks.push(mark)?;
+                place = sum(place, 1)?;
+                rest = others;
+            }
+        }
+    }
+}
+
+/// The landings of a word of a layout.
+fn push_word_landings(
+    alloc: Global,
+    whole: &Whole,
+    function: u32,
+    place: u32,
+    word: &VirtualWord,
+    words: &mut Listed<Word>,
+) -> Result<(), NoMemory>
+    ensures { IfOk result (λ _. words.new ≡ words.old ++ words_of (word_landings (seen whole.now) function place word.now)) }
+{
+    match word {
+        VirtualWord::Planned { items, .. } => {
+            let plan = plan_of(alloc, whole, function, place, items.as_slice())?;
+            push_item_landings(alloc, whole, &plan, items.as_slice(), words)
+        }
+        VirtualWord::Drain(_) => Ok(()),
+        VirtualWord::Transfer(_) => Ok(()),
+        VirtualWord::Choice { .. } => Ok(()),
+        VirtualWord::Call { .. } => Ok(()),
+        VirtualWord::Return(_) => Ok(()),
+        VirtualWord::Ends(_) => Ok(()),
+    }
+}
+
+/// The landings of a layout, one after the other; gives where those of each word begin.
+#[tactic(auto, using(crate::proofs::Emitting::lands_first, crate::proofs::Emitting::lands_next, crate::proofs::Emitting::lands_words, crate::proofs::Emitting::lands_landings))]
+fn push_landings(
+    alloc: Global,
+    whole: &Whole,
+    function: u32,
+    laid: &[VirtualWord],
+    words: &mut Listed<Word>,
+) -> Result<Listed<u32>, NoMemory>
+    ensures words { IfOk result (λ _. words.new ≡ words.old ++ words_of (landing_pieces (seen whole.now) function 0 laid.now)) }
+    ensures landings { IfOk result (λ landings. landings ≡ landings_from (seen whole.now) function (length words.old) 0 laid.now) }
+{
+    let mut landings = Listed::new(alloc);
+    let mut place = 0;
+    let mut rest = laid;
+    'landings: loop {
+        match rest.split_first() {
+            None => return Ok(landings),
+            Some((word, others)) => {
+                let begin = words.len() as u32;
+                push_word_landings(alloc, whole, function, place, word, words)?;
+                landings.push(begin)?;
+                place = sum(place, 1)?;
+                rest = others;
+            }
+        }
+    }
+}
+
+/// The words of a function: its entry, its layout and its landings.
+#[tactic(auto, using(crate::proofs::Emitting::function_words, crate::proofs::Emitting::places_are_at))]
+fn push_function(
+    alloc: Global,
+    whole: &Whole,
+    function: u32,
+    words: &mut Listed<Word>,
+) -> Result<FunctionPlaces, NoMemory>
+    ensures words { IfOk result (λ _. words.new ≡ words.old ++ words_of (function_pieces (seen whole.now) function)) }
+    ensures places { IfOk result (λ places. places ≡ places_at (seen whole.now) function (length words.old)) }
+{
+    let entry = words.len() as u32;
+    push_entry(alloc, whole, function, words)?;
+    let laid = words_of(whole, function);
+    let LaidPlaces { starts, marks } = push_laid(alloc, whole, function, laid, words)?;
+    let landings = push_landings(alloc, whole, function, laid, words)?;
+    Ok(FunctionPlaces {
+        entry,
+        starts,
+        landings,
+        marks,
+    })
+}
+
+/// The words of so many functions, one after the other.
+#[tactic(auto, using(crate::proofs::Emitting::gives_first, crate::proofs::Emitting::gives_turn, crate::proofs::Emitting::gives_words, crate::proofs::Emitting::gives_places))]
+fn push_functions(
+    alloc: Global,
+    whole: &Whole,
+    count: u32,
+    words: &mut Listed<Word>,
+) -> Result<Listed<FunctionPlaces>, NoMemory>
+    ensures words { IfOk result (λ _. words.new ≡ words.old ++ words_of (functions_pieces (seen whole.now) 0 count)) }
+    ensures places { IfOk result (λ places. places ≡ all_places (seen whole.now) (length words.old) 0 count) }
+{
+    let mut places = Listed::new(alloc);
+    let mut function = 0;
+    let mut left = count;
+    'functions: while left > 0 {
+        let found = push_function(alloc, whole, function, words)?;
+        places.push(found)?;
+        function = sum(function, 1)?;
+        left -= 1;
+    }
+    Ok(places)
+}
+
+/// The words of a program of so many functions.
+#[tactic(auto, using(crate::proofs::Emitting::program_words, crate::proofs::Emitting::trap_is))]
+pub(crate) fn pieces_of(
+    alloc: Global,
+    whole: &Whole,
+    main: u32,
+    functions: u32,
+) -> Result<Pieces, NoMemory>
+    ensures words { IfOk result (λ pieces. pieces.words ≡ words_of (all_pieces (seen whole.now) main functions)) }
+    ensures places { IfOk result (λ pieces. pieces.places ≡ all_places (seen whole.now) (length (start_words (seen whole.now) main)) 0 functions) }
+    ensures trap { IfOk result (λ pieces. pieces.depth_trap ≡ functions_end (seen whole.now) main functions) }
+{
+    let mut words = Listed::new(alloc);
+    push_start(alloc, whole, main, &mut words)?;
+    let places = push_functions(alloc, whole, functions, &mut words)?;
+    let depth_trap = words.len() as u32;
+    push_one(
+        alloc,
+        Operation::EndByTrap { trap: Trap::Depth },
+        &mut words,
+    )?;
+    Ok(Pieces {
+        words,
+        places,
+        depth_trap,
+    })
+}
+
+/// The same program with words that stand at these places.
+pub(crate) fn with_places<'a, 'p>(
+    whole: &Whole<'a, '_>,
+    places: &'p [FunctionPlaces],
+    depth_trap: u32,
+) -> Whole<'a, 'p>
+    ensures { seen result ≡ at_spots (seen whole.now) (spots_of places.now depth_trap) }
+{
+    Whole {
+        machine: whole.machine,
+        graphs: whole.graphs,
+        layouts: whole.layouts,
+        maps: whole.maps,
+        frames: whole.frames,
+        places,
+        sizes: Sizes {
+            globals: whole.sizes.globals,
+            frame: whole.sizes.frame,
+            pause: whole.sizes.pause,
+            depth_trap,
+        },
+    }
+}
+
+/// The words of a program, of which all but the places are found, where no word has more than one split.
+#[tactic(auto, using(crate::proofs::Standing::second_pass))]
+pub(crate) fn pieces_that_stand(
+    alloc: Global,
+    whole: &Whole,
+    main: u32,
+    functions: u32,
+) -> Result<Pieces, NoMemory>
+    requires one_split { (f : ℕ) → f < functions → OneSplit ((seen whole.now).layout f).words }
+    requires no_more { (f : ℕ) → functions ≤ f → ((seen whole.now).layout f).words ≡ [] }
+    ensures placed { IfOk result (λ pieces. IsPlaced (standing (seen whole.now) main functions) main functions pieces.words) }
+{
+    let draft = pieces_of(alloc, whole, main, functions)?;
+    let standing = with_places(whole, draft.places.as_slice(), draft.depth_trap);
+    let made = pieces_of(alloc, &standing, main, functions)?;
+    Ok(made)
+}

@@ -1,0 +1,248 @@
+// The words that bring values from their slots to registers, and from registers to their slots. A branch value goes by way
+// of the answer's register.
+
+ghost use Rattle.std.specs.Prelude.{◌≡◌, ◌++◌, ◌∷◌, [], ◌+◌, pos, false, IfOk};
+ghost use Rattle.vx_base.specs.declared.arithmetic.Code.TheVariants.{ToBranch};
+ghost use Rattle.vx_base.specs.declared.arithmetic.Compare.TheVariants.{Ne};
+ghost use Rattle.vx_isa.specs.declared.operation.Operation.TheVariants.{Compute, Select, Load, Store};
+ghost use Rattle.vx_isa.specs.declared.operation.Register.TheVariants.{Branch as InBranch};
+ghost use Rattle.vx_isa.specs.declared.operation.Source.TheVariants.{Held, Number};
+ghost use Rattle.vx_frame.specs.Target.{answer, stack_on, general_of, branch_of, one, waits, waited, load_slot, store_slot, load_slots, store_slots};
+ghost use Rattle.vx_frame.specs.Seen.{seen};
+
+use crate::carrying::{bytes, stack_on};
+use crate::gathering::{Whole, slot};
+use crate::naming::{branch_of, general, general_of, holds_branch};
+use crate::word_plan::MOST_NAMES;
+use std::alloc::Global;
+use vx_base::arithmetic::{Code, Compare};
+use vx_base::listed::Listed;
+use vx_base::outcome::NoMemory;
+use vx_flow::graph::Value;
+use vx_isa::operation::{BranchRegister, GeneralRegister, Operation, Register, Source};
+use vx_isa::program::Word;
+
+/// A sum that is want of memory where no number holds it.
+pub(crate) fn sum(left: u32, right: u32) -> Result<u32, NoMemory>
+    ensures { IfOk result (λ sum. sum ≡ left + right) }
+{
+    match left.checked_add(right) {
+        Some(sum) => Ok(sum),
+        None => Err(NoMemory),
+    }
+}
+
+/// A number of places as a place; one past all places is want of memory.
+pub(crate) fn number_of(count: usize) -> Result<u32, NoMemory>
+    ensures { IfOk result (λ number. number ≡ count) }
+{
+    match u32::try_from(count) {
+        Ok(number) => Ok(number),
+        Err(_) => Err(NoMemory),
+    }
+}
+
+/// The register of results, on cluster 0.
+pub(crate) fn answer() -> GeneralRegister
+    ensures { result ≡ answer }
+{
+    general(0, 2)
+}
+
+/// Adds a word of one operation.
+pub(crate) fn push_one(
+    alloc: Global,
+    operation: Operation,
+    words: &mut Listed<Word>,
+) -> Result<(), NoMemory>
+    ensures { IfOk result (λ _. words.new ≡ words.old ++ one operation ∷ []) }
+{
+    let mut ops = Listed::new(alloc);
+    ops.push(operation)?;
+    words.push(Word { ops, idle: 0 })?;
+    Ok(())
+}
+
+/// Adds so many empty cycles.
+pub(crate) fn push_idle(alloc: Global, idle: u32, words: &mut Listed<Word>) -> Result<(), NoMemory>
+    ensures { IfOk result (λ _. words.new ≡ words.old ++ waits idle ∷ []) }
+{
+    words.push(Word {
+        ops: Listed::new(alloc),
+        idle,
+    })?;
+    Ok(())
+}
+
+/// Adds a pause, after which all has landed.
+pub(crate) fn push_wait(
+    alloc: Global,
+    whole: &Whole,
+    words: &mut Listed<Word>,
+) -> Result<(), NoMemory>
+    ensures { IfOk result (λ _. words.new ≡ words.old ++ waited (seen whole.now) ∷ []) }
+{
+    push_idle(alloc, whole.sizes.pause, words)
+}
+
+/// A load of the word of a frame, on the cluster of the register to which it goes.
+fn frame_load(to: GeneralRegister, offset: i32) -> Operation
+    ensures { result ≡ Load to.cluster to offset (stack_on to.cluster) false }
+{
+    Operation::Load {
+        cluster: to.cluster,
+        to,
+        offset,
+        base: stack_on(to.cluster),
+        dismissible: false,
+    }
+}
+
+/// A store to the word of a frame, on the cluster of the register from which it comes.
+fn frame_store(from: GeneralRegister, offset: i32) -> Operation
+    ensures { result ≡ Store from.cluster offset (stack_on from.cluster) (Held from) }
+{
+    Operation::Store {
+        cluster: from.cluster,
+        offset,
+        base: stack_on(from.cluster),
+        from: Source::Held(from),
+    }
+}
+
+/// Sets a branch register where the answer's register is not 0.
+fn to_branch(number: u32) -> Operation
+    ensures { result ≡ Compute 0 (ToBranch Ne) (InBranch (record { cluster = 0; number = number })) (Held answer) (Number (pos 0)) }
+{
+    Operation::Compute {
+        cluster: 0,
+        code: Code::ToBranch(Compare::Ne),
+        to: Register::Branch(BranchRegister { cluster: 0, number }),
+        left: Source::Held(answer()),
+        right: Source::Number(0),
+    }
+}
+
+/// Brings a branch register to the answer's register, as 1 or 0.
+fn from_branch(number: u32) -> Operation
+    ensures { result ≡ Select 0 answer (record { cluster = 0; number = number }) (Number (pos 1)) (Number (pos 0)) }
+{
+    Operation::Select {
+        cluster: 0,
+        to: answer(),
+        test: BranchRegister { cluster: 0, number },
+        left: Source::Number(1),
+        right: Source::Number(0),
+    }
+}
+
+/// The registers by which a word names a value: which of both is meant, the value's bank says.
+#[derive(Clone, Copy)]
+pub(crate) struct Named {
+    pub(crate) general: GeneralRegister,
+    pub(crate) branch: u32,
+}
+
+/// The registers by which a word that names these values names one.
+pub(crate) fn named_by(
+    whole: &Whole,
+    function: u32,
+    names: &[Value],
+    value: Value,
+) -> Result<Named, NoMemory>
+    ensures general { IfOk result (λ named. named.general ≡ general_of (seen whole.now) function names.now value) }
+    ensures branch { IfOk result (λ named. named.branch ≡ branch_of (seen whole.now) function names.now value) }
+{
+    if names.len() > MOST_NAMES {
+        return Err(NoMemory);
+    }
+    Ok(Named {
+        general: general_of(whole, function, names, value),
+        branch: branch_of(whole, function, names, value),
+    })
+}
+
+/// Brings the slot of a value, in a frame so many words above the stack pointer, to a register.
+pub(crate) fn load_slot(
+    alloc: Global,
+    whole: &Whole,
+    function: u32,
+    up: u32,
+    value: Value,
+    to: Named,
+    words: &mut Listed<Word>,
+) -> Result<(), NoMemory>
+    ensures { IfOk result (λ _. words.new ≡ words.old ++ load_slot (seen whole.now) function up value to.general to.branch) }
+{
+    let offset = bytes(sum(up, slot(whole, function, value))?)?;
+    if holds_branch(whole, function, value) {
+        push_one(alloc, frame_load(answer(), offset), words)?;
+        push_wait(alloc, whole, words)?;
+        push_one(alloc, to_branch(to.branch), words)
+    } else {
+        push_one(alloc, frame_load(to.general, offset), words)
+    }
+}
+
+/// Brings a register to the slot of a value.
+fn store_slot(
+    alloc: Global,
+    whole: &Whole,
+    function: u32,
+    value: Value,
+    from: Named,
+    words: &mut Listed<Word>,
+) -> Result<(), NoMemory>
+    ensures { IfOk result (λ _. words.new ≡ words.old ++ store_slot (seen whole.now) function value from.general from.branch) }
+{
+    let offset = bytes(slot(whole, function, value))?;
+    if holds_branch(whole, function, value) {
+        push_one(alloc, from_branch(from.branch), words)?;
+        push_wait(alloc, whole, words)?;
+        push_one(alloc, frame_store(answer(), offset), words)
+    } else {
+        push_one(alloc, frame_store(from.general, offset), words)
+    }
+}
+
+/// Brings some of the values that a word names from their slots.
+pub(crate) fn load_slots(
+    alloc: Global,
+    whole: &Whole,
+    function: u32,
+    names: &[Value],
+    values: &[Value],
+    words: &mut Listed<Word>,
+) -> Result<(), NoMemory>
+    ensures { IfOk result (λ _. words.new ≡ words.old ++ load_slots (seen whole.now) function names.now values.now) }
+{
+    match values.split_first() {
+        None => Ok(()),
+        Some((value, rest)) => {
+            let to = named_by(whole, function, names, *value)?;
+            load_slot(alloc, whole, function, 0, *value, to, words)?;
+            load_slots(alloc, whole, function, names, rest, words)
+        }
+    }
+}
+
+/// Brings some of the values that a word names to their slots.
+pub(crate) fn store_slots(
+    alloc: Global,
+    whole: &Whole,
+    function: u32,
+    names: &[Value],
+    values: &[Value],
+    words: &mut Listed<Word>,
+) -> Result<(), NoMemory>
+    ensures { IfOk result (λ _. words.new ≡ words.old ++ store_slots (seen whole.now) function names.now values.now) }
+{
+    match values.split_first() {
+        None => Ok(()),
+        Some((value, rest)) => {
+            let from = named_by(whole, function, names, *value)?;
+            store_slot(alloc, whole, function, *value, from, words)?;
+            store_slots(alloc, whole, function, names, rest, words)
+        }
+    }
+}
