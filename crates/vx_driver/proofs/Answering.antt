@@ -10,14 +10,14 @@ use Rattle.vx_machine.specs.declared.description.MachineFault.TheVariants.{Bad}
 use Rattle.vx_ast.specs.Tree.{Program}
 use Rattle.vx_base.specs.declared.role.Role.{Role}
 use Rattle.vx_base.specs.declared.role.Role.TheVariants.{Source as TheSource, Words as TheWords, Profile as TheProfile, Machine as TheMachine, Input as TheInput}
-use Rattle.vx_ast.specs.Reads.{most_bytes, Refusal, too_long}
+use Rattle.vx_ast.specs.Reads.{most_bytes, Reads, Refusal, too_long}
 use Rattle.vx_base.specs.Reading.{ReadsFile}
 use Rattle.vx_base.specs.declared.reading.FileRead.TheVariants.{TooLong as FileTooLong}
 use Rattle.vx_driver.specs.declared.status.Status.{Status}
 use Rattle.vx_driver.specs.declared.status.Status.TheVariants.{Done, Trapped, Usage, Source, Limit, Words, Machine, NoFile, ReadFault, WriteFault, Stopped, Input, Stuck, NoMemory}
 use Rattle.vx_driver.specs.Compiled.{Compiled}
 use Rattle.vx_words.specs.Text.{Spells}
-use Rattle.vx_driver.specs.Answers.{ReadsForWords, HoldsSource, HoldsProgram, Accepts, RefusesSource, Refuses, MachineFound, Is, Refused, TooLong, Missing, machine_found, TextOf, Compiles, WritesWords, WritesPartly, Effect, ReadsRose, ReplacesRose, SameFiles, SourceAnswers, MachineAnswers, StopsAtMachine, CompileAnswers, WriteAnswers, PutsText, NoMachine, ForMachine, ProgramAnswers}
+use Rattle.vx_driver.specs.Answers.{HoldsSource, HoldsProgram, Accepts, RefusesSource, Refuses, MachineFound, Is, Refused, TooLong, Missing, machine_found, TextOf, Compiles, WritesWords, WritesPartly, Effect, ReadsRose, ReplacesRose, SameFiles, SourceAnswers, MachineAnswers, StopsAtMachine, CompileAnswers, WriteAnswers, PutsText, NoMachine, ForMachine, ProgramAnswers}
 
 pub text_of_words : (p : Program) (m : Numbers) (w : WordProgram) (r : Result (Vec ℕ Global) NoRoom) → Compiled p m w → IfOk r (λ text. Spells text.items w) → IfOk r (λ text. TextOf p m text.items)
 text_of_words p m w (Ok text) c e = record { words = w; compiled = c; spells = e }
@@ -36,23 +36,23 @@ pub record Since (e f : Effect) : Type 0 where
   pub replaces : f.replaces_before ≤ e.replaces_before
   pub replaces_after : f.replaces_after ≡ e.replaces_after
 
-same_since : (e f : Effect) → Since e f → SameFiles e → SameFiles f
+pub same_since : (e f : Effect) → Since e f → SameFiles e → SameFiles f
 same_since e f s same = s.after ∙ same ∙ sym s.before
 
-reads_since : (e f : Effect) → Since e f → ReadsRose e → ReadsRose f
+pub reads_since : (e f : Effect) → Since e f → ReadsRose e → ReadsRose f
 reads_since e f s rose = rose_since f.reads_before e.reads_before f.reads_after s.reads (subst (λ n. Rose e.reads_before n) (sym s.reads_after) rose)
 
 replaces_since : (e f : Effect) → Since e f → ReplacesRose e → ReplacesRose f
 replaces_since e f s rose = rose_since f.replaces_before e.replaces_before f.replaces_after s.replaces (subst (λ n. Rose e.replaces_before n) (sym s.replaces_after) rose)
 
-told_since : (e f : Effect) (P : Files → Type 0) → Since e f → IfSome e.before P → IfSome f.before P
+pub told_since : (e f : Effect) (P : Files → Type 0) → Since e f → IfSome e.before P → IfSome f.before P
 told_since e f P s h = subst (λ b. IfSome b P) (sym s.before) h
 
-missing_since : (e f : Effect) (P : Files → Type 0) (b : Option Files) → Since e f → MatchOption b (ReadsRose e) P → MatchOption b (ReadsRose f) P
+pub missing_since : (e f : Effect) (P : Files → Type 0) (b : Option Files) → Since e f → MatchOption b (ReadsRose e) P → MatchOption b (ReadsRose f) P
 missing_since e f P None s h = reads_since e f s h
 missing_since e f P (Some held) s h = h
 
-machine_since : (machine : Option (List ℕ)) (e f : Effect) (status : Status) → Since e f → MachineAnswers machine e status → MachineAnswers machine f status
+pub machine_since : (machine : Option (List ℕ)) (e f : Effect) (status : Status) → Since e f → MachineAnswers machine e status → MachineAnswers machine f status
 machine_since machine e f Done s a = absurd a
 machine_since machine e f Usage s a = absurd a
 machine_since machine e f (Trapped trap) s a = absurd a
@@ -76,7 +76,7 @@ refuses_in : (source content : List ℕ) (status : Status) (b : Option Files) �
 refuses_in source content status None h r = tt
 refuses_in source content status (Some held) h r = record { content = content; holds = h.holds; refused = r }
 
-pub holds_in : (source content : List ℕ) (program : Program) (b : Option Files) → IfSome b (λ held. HoldsSource held source content) → ReadsForWords content program → IfSome b (λ held. HoldsProgram held source program)
+pub holds_in : (source content : List ℕ) (program : Program) (b : Option Files) → IfSome b (λ held. HoldsSource held source content) → Reads content program → IfSome b (λ held. HoldsProgram held source program)
 holds_in source content program None h reads = tt
 holds_in source content program (Some held) h reads = record { content = content; holds = h.holds; reads = reads }
 
@@ -123,7 +123,7 @@ stops_at_source source out machine e NoMemory a = a
 
 -- an accepted source, and no machine
 
-accepts_in : (source : List ℕ) (program : Program) (b : Option Files) → IfSome b (λ held. HoldsProgram held source program) → IfSome b (λ held. Accepts held source)
+pub accepts_in : (source : List ℕ) (program : Program) (b : Option Files) → IfSome b (λ held. HoldsProgram held source program) → IfSome b (λ held. Accepts held source)
 accepts_in source program None h = tt
 accepts_in source program (Some held) h = record { program = program; is = h }
 

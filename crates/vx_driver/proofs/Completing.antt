@@ -9,17 +9,16 @@ use Rattle.vx_ast.specs.Tree.{Program}
 use Rattle.vx_base.specs.declared.role.Role.TheVariants.{Source as TheSource, Words as TheWords, Profile as TheProfile, Machine as TheMachine, Input as TheInput}
 use Rattle.vx_driver.specs.declared.status.Status.{Status}
 use Rattle.vx_driver.specs.declared.status.Status.TheVariants.{Done, Trapped, Usage, Source, Limit, Words, Machine, NoFile, ReadFault, WriteFault, Stopped, Input, Stuck, NoMemory}
-use Rattle.vx_ast.specs.Small.{ReadsSmall}
 use Rattle.vx_ast.specs.Reads.{Reads, Refusal}
 use Rattle.vx_driver.proofs.SourceLaws.{never_both, one_refusal}
-use Rattle.vx_driver.specs.Answers.{ReadsForWords, HasNoWords, HoldsProgram, Accepts, status_of, no_words, RefusesSource, Refuses, MachineFound, Is, Refused, TooLong, Missing, machine_found, WritesWords, Effect, ReadsRose, ReplacesRose, StopsAtMachine, CompileAnswers, CompileEnds}
+use Rattle.vx_driver.specs.Answers.{HoldsProgram, Accepts, status_of, RefusesSource, Refuses, MachineFound, Is, Refused, TooLong, Missing, machine_found, WritesWords, Effect, ReadsRose, ReplacesRose, StopsAtMachine, CompileAnswers, CompileEnds}
 
 -- a source's file is one of accepted, refused and missing
 
-same_content : (o : Option (List ℕ)) (content other : List ℕ) → o ≡ Some content → o ≡ Some other → content ≡ other
+pub same_content : (o : Option (List ℕ)) (content other : List ℕ) → o ≡ Some content → o ≡ Some other → content ≡ other
 same_content o content other a b = cc
 
-not_missing : (o : Option (List ℕ)) (content : List ℕ) → o ≡ Some content → o ≡ None → ⊥
+pub not_missing : (o : Option (List ℕ)) (content : List ℕ) → o ≡ Some content → o ≡ None → ⊥
 not_missing o content a b = cc
 
 -- an answer, where nothing failed
@@ -32,10 +31,10 @@ pub data Ends (held : Files) (source : List ℕ) (machine : Option (List ℕ)) :
   no_machine : Accepts held source → machine_found held machine ≡ Missing → Ends held source machine (NoFile TheMachine)
   no_memory : Ends held source machine NoMemory
 
-told : (P : Files → Type 0) (b : Option Files) (held : Files) → b ≡ Some held → IfSome b P → P held
+pub told : (P : Files → Type 0) (b : Option Files) (held : Files) → b ≡ Some held → IfSome b P → P held
 told P b held is h = subst (λ o. IfSome o P) is h
 
-told_or : (Q : Type 0) (P : Files → Type 0) (b : Option Files) (held : Files) → b ≡ Some held → MatchOption b Q P → P held
+pub told_or : (Q : Type 0) (P : Files → Type 0) (b : Option Files) (held : Files) → b ≡ Some held → MatchOption b Q P → P held
 told_or Q P b held is h = subst (λ o. MatchOption o Q P) is h
 
 told_ends : (source out : List ℕ) (machine : Option (List ℕ)) (held : Files) (e : Effect) (status : Status) → e.before ≡ Some held → (ReadsRose e → ⊥) → (ReplacesRose e → ⊥) →
@@ -95,27 +94,25 @@ due (Refused why) status = ⊥
 due TooLong status = status ≡ Limit 11 65537
 due Missing status = status ≡ NoFile TheMachine
 
-never_refused : (content : List ℕ) (program : Program) (status : Status) → ReadsForWords content program → RefusesSource content status → ⊥
-never_refused content program (Source code line column) reads (inl fault) = never_both content program (BadSource code line column) reads.reads fault
-never_refused content program (Source code line column) reads (inr none) = none.1.other program reads.small
-never_refused content program (Limit number count) reads r = never_both content program (OverLimit number count) reads.reads r
+pub never_refused : (content : List ℕ) (program : Program) (status : Status) → Reads content program → RefusesSource content status → ⊥
+never_refused content program (Source code line column) reads r = never_both content program (BadSource code line column) reads r
+never_refused content program (Limit number count) reads r = never_both content program (OverLimit number count) reads r
 never_refused content program status reads r = r
 
-not_both : (held : Files) (source : List ℕ) (status : Status) → Accepts held source → Refuses held source status → ⊥
+pub not_both : (held : Files) (source : List ℕ) (status : Status) → Accepts held source → Refuses held source status → ⊥
 not_both held source status a r =
-    never_refused r.content a.program status (subst (λ bytes. ReadsForWords bytes a.program) (same_content (held source) a.is.content r.content a.is.holds r.holds) a.is.reads) r.refused
+    never_refused r.content a.program status (subst (λ bytes. Reads bytes a.program) (same_content (held source) a.is.content r.content a.is.holds r.holds) a.is.reads) r.refused
 
 -- a source with a fault or over a limit
 
-one_status : (content : List ℕ) (fault : SourceFault) (status : Status) → Refusal content fault → RefusesSource content status → status ≡ status_of fault
-one_status content fault (Source code line column) f (inl g) = ap status_of (one_refusal content (BadSource code line column) fault g f)
-one_status content fault (Source code line column) f (inr none) = absurd (never_both content none.1.accepted.program fault none.1.accepted.reads f)
+pub one_status : (content : List ℕ) (fault : SourceFault) (status : Status) → Refusal content fault → RefusesSource content status → status ≡ status_of fault
+one_status content fault (Source code line column) f r = ap status_of (one_refusal content (BadSource code line column) fault r f)
 one_status content fault (Limit number count) f r = ap status_of (one_refusal content (OverLimit number count) fault r f)
 one_status content fault status f r = absurd r
 
-not_faulty : (held : Files) (source content : List ℕ) (fault : SourceFault) → held source ≡ Some content → Refusal content fault → Accepts held source → ⊥
+pub not_faulty : (held : Files) (source content : List ℕ) (fault : SourceFault) → held source ≡ Some content → Refusal content fault → Accepts held source → ⊥
 not_faulty held source content fault holds f a =
-    never_both content a.program fault (subst (λ bytes. Reads bytes a.program) (same_content (held source) a.is.content content a.is.holds holds) a.is.reads.reads) f
+    never_both content a.program fault (subst (λ bytes. Reads bytes a.program) (same_content (held source) a.is.content content a.is.holds holds) a.is.reads) f
 
 refused_ends : (held : Files) (source : List ℕ) (machine : Option (List ℕ)) (status : Status) (content : List ℕ) (fault : SourceFault) → held source ≡ Some content → Refusal content fault → Ends held source machine status →
     (status ≡ status_of fault) ⊎ (status ≡ NoMemory)
@@ -128,30 +125,7 @@ refused_ends held source machine status content fault holds f (long_machine s is
 refused_ends held source machine status content fault holds f (no_machine s is) = absurd (not_faulty held source content fault holds f s)
 refused_ends held source machine status content fault holds f no_memory = inr refl
 
--- a source without words
-
-wordless_status : (content : List ℕ) (status : Status) → HasNoWords content → RefusesSource content status → status ≡ no_words
-wordless_status content (Source code line column) n (inl g) = absurd (never_both content n.accepted.program (BadSource code line column) n.accepted.reads g)
-wordless_status content (Source code line column) n (inr none) = none.0
-wordless_status content (Limit number count) n r = absurd (never_both content n.accepted.program (OverLimit number count) n.accepted.reads r)
-wordless_status content status n r = absurd r
-
-not_small : (held : Files) (source content : List ℕ) → held source ≡ Some content → HasNoWords content → Accepts held source → ⊥
-not_small held source content holds n a =
-    n.other a.program (subst (λ bytes. ReadsSmall bytes a.program) (same_content (held source) a.is.content content a.is.holds holds) a.is.reads.small)
-
-wordless_ends : (held : Files) (source : List ℕ) (machine : Option (List ℕ)) (status : Status) (content : List ℕ) → held source ≡ Some content → HasNoWords content → Ends held source machine status →
-    (status ≡ no_words) ⊎ (status ≡ NoMemory)
-wordless_ends held source machine status content holds n (done numbers s is) = absurd (not_small held source content holds n s)
-wordless_ends held source machine status content holds n (refused r) =
-    inl (wordless_status content status n (subst (λ bytes. RefusesSource bytes status) (same_content (held source) r.content content r.holds holds) r.refused))
-wordless_ends held source machine status content holds n (no_source none) = absurd (not_missing (held source) content holds none)
-wordless_ends held source machine status content holds n (bad_machine code field s is) = absurd (not_small held source content holds n s)
-wordless_ends held source machine status content holds n (long_machine s is) = absurd (not_small held source content holds n s)
-wordless_ends held source machine status content holds n (no_machine s is) = absurd (not_small held source content holds n s)
-wordless_ends held source machine status content holds n no_memory = inr refl
-
--- a source of the form that has words
+-- an accepted source
 
 accepted_ends : (held : Files) (source : List ℕ) (machine : Option (List ℕ)) (status : Status) → Accepts held source → Ends held source machine status → due (machine_found held machine) status ⊎ (status ≡ NoMemory)
 accepted_ends held source machine status s (done numbers t is) = inl (subst (λ f. due f Done) (sym is) refl)
@@ -170,7 +144,6 @@ ends_in : (source : List ℕ) (machine : Option (List ℕ)) (held : Files) (stat
 ends_in source machine held status end = record {
   accepted = λ s numbers is. at_machine held source machine status (Is numbers) end s is;
   refused = λ content fault holds f. refused_ends held source machine status content fault holds f end;
-  without_words = λ content holds n. wordless_ends held source machine status content holds n end;
   missing = λ none. missing_ends held source machine status none end;
   machine_refused = λ s code field is. at_machine held source machine status (Refused (Bad code field)) end s is;
   machine_too_long = λ s is. at_machine held source machine status TooLong end s is;

@@ -1,25 +1,28 @@
 -- How a run ends, and what its lines put.
-use Rattle.std.proofs.Common.{◌≡◌, ◌∙◌, ◌⊎◌, inl, inr, ℕ, ◌+◌, Bool, true, false, List, [], ◌∷◌, ◌++◌, length, map, is_some, Option, Some, None, option_map, Result, Ok, Err, OnOk, IfSome, refl, sym, subst, ap, arith}
-use Rattle.std.specs.Prelude.{◌≤◌, ◌<◌, suc}
+use Rattle.std.proofs.Common.{◌≡◌, ◌∙◌, inl, inr, ℕ, ℤ, ◌+◌, Bool, true, false, List, [], ◌∷◌, ◌++◌, length, map, Option, Some, None, Result, Ok, Err, OnOk, refl, sym, subst, ap, arith, append-nil}
+use Rattle.std.specs.Prelude.{◌≤◌, ◌<◌, ◌-◌, ◌^◌, min, suc, OnErr}
 use Rattle.std.specs.List.{flat_map}
-use Rattle.vx_base.specs.Outcome.{Outcome, Ends, Traps, Goes, Stuck as StuckWith, Wrong, Begins, output_of}
-use Rattle.vx_base.specs.Outside.{Rose, Files, with_bytes}
+use Rattle.vx_base.specs.Outcome.{Outcome, Begins, output_of}
+use Rattle.vx_base.specs.Outside.{Rose, with_bytes}
 use Rattle.vx_isa.specs.Machine.{State, start, words_from}
 use Rattle.vx_probe.specs.Times.{Times, list_of}
 use Rattle.vx_probe.specs.Watch.{Watch, shown_all}
 use Rattle.vx_probe.specs.declared.event.Event.{Event}
-use Rattle.vx_sim.specs.Passed.{events_from}
+use Rattle.vx_sim.specs.Passed.{counted, events_from}
 use Rattle.vx_sim.specs.Ran.{Ran, begun as sim_begun, stands, is_fault, outcome_of, outcome_at, events_at}
 use Rattle.vx_sim.specs.declared.sim.Sim.{Sim}
+use Rattle.vx_base.specs.declared.outcome.Trap.{Trap}
 use Rattle.vx_sim.specs.declared.ended.Ended.{Ended}
 use Rattle.vx_sim.specs.declared.ended.Ended.TheVariants.{Halted, Trapped as TrappedBy, Stopped as StoppedAt, Stuck as StuckAt, SinkFault}
 use Rattle.vx_driver.specs.declared.status.Status.{Status}
-use Rattle.vx_driver.specs.declared.status.Status.TheVariants.{Done, Trapped, Usage, Source, Limit, Words, Machine, NoFile, ReadFault, WriteFault, Stopped, Input, Stuck, NoMemory}
+use Rattle.vx_driver.specs.declared.status.Status.TheVariants.{Done, Trapped, WriteFault, Stopped, Stuck}
 use Rattle.vx_driver.specs.Status.{Appends, Adds}
 use Rattle.vx_driver.specs.Boxes.{report_line}
-use Rattle.vx_driver.specs.Simulated.{Loaded, begun, outcome_within, events_within, EndsWith, result_line, Streams, OutRose, ErrRose, OutputCut, IsEnd, IsStatusOf, Shows, reports_of, is_of_run}
-use Rattle.vx_driver.specs.Ending.{status_as, ShowsLine, ShowsEnd, IsHalted, RanWhole, RanPartly, RunOf, Finishes, IsRunOf, UnputLines, LoadedAnswers}
+use Rattle.vx_driver.specs.Simulated.{Loaded, begun, outcome_within, events_within, EndsWith, result_line, Streams, OutRose, IsEnd, IsStatusOf, reports_of, is_of_run}
+use Rattle.vx_driver.specs.Executed.{issued_line}
+use Rattle.vx_driver.specs.Ending.{status_as, told_line, ShowsLine, ShowsIssued, ShowsEnd, ShowsOf, IsHalted, RanWhole, RanPartly, RunOf, Finishes, IsRunOf, LoadedAnswers}
 use Rattle.vx_driver.proofs.Appending.{with_both}
+use Rattle.vx_driver.proofs.Issued.{few_events}
 use Rattle.vx_base.proofs.OutsideLaws.{rose_throughout}
 
 -- the simulator's run is that of the definition
@@ -64,21 +67,80 @@ module _ (before : Sim) (x : Loaded) (times : Times) (stands_at : stands before 
     pub run_of : RunOf x times words watches watches' told told' ended
     run_of = record { whole = ran_whole; partly = ran_partly }
 
+    pub issued_of : before.issued ≡ 0 → words < 2 ^ 64 → is_fault ended ≡ false → after.issued ≡ length (events_within x times words)
+    issued_of fresh few no_fault =
+        let most : length (events_within x times words) ≤ words = few_events x.machine (list_of times) x.program words (begun x times) in
+        let bound : r.bound ≡ words = (r.whole no_fault).bound_is in
+        let seen : length (events_at before times r.bound) ≡ length (events_within x times words) = ap (λ n. length (events_at before times n)) bound ∙ ap length (same_events words) in
+        let none : 0 + length (events_within x times words) ≡ length (events_within x times words) = omega arith in
+        let small : min (length (events_within x times words)) (2 ^ 64 - 1) ≡ length (events_within x times words) = omega arith in
+        r.issued ∙ ap (λ n. counted (n + length (events_at before times r.bound))) fresh ∙ ap (λ n. counted (0 + n)) seen ∙ ap counted none ∙ small
+
 -- the lines of an end
 
 ends_with : (a b c : Option (List ℕ)) (reports : List ℕ) → Appends a b → c ≡ with_bytes b reports → EndsWith a c reports
 ends_with a b c reports x is = record { more = x.more; is = is ∙ ap (λ told. with_bytes told reports) x.is ∙ with_both a x.more reports }
 
-shows_ok : (ended : Ended) (a b c : Option (List ℕ)) (reports : List ℕ) → ShowsLine ended a b → c ≡ with_bytes b reports → ShowsEnd ended reports a c
-shows_ok (Halted z) a b c reports line is = is ∙ ap (λ told. with_bytes told reports) line ∙ with_both a (result_line z) reports
-shows_ok (TrappedBy trap) a b c reports line is = ends_with a b c reports line is
-shows_ok StoppedAt a b c reports line is = ends_with a b c reports line is
-shows_ok (StuckAt reason place) a b c reports line is = ends_with a b c reports line is
-shows_ok SinkFault a b c reports line is = ends_with a b c reports line is
+with_none : (told : Option (List ℕ)) → told ≡ with_bytes told []
+with_none None = refl
+with_none (Some bytes) = ap Some (sym (append-nil bytes))
 
-pub shows_on : {T E : Type 0} (r : Result T E) (ended : Ended) (a b c : Option (List ℕ)) (reports : List ℕ) → ShowsLine ended a b → OnOk r (c ≡ with_bytes b reports) → OnOk r (ShowsEnd ended reports a c)
-shows_on (Ok x) ended a b c reports line is = shows_ok ended a b c reports line is
-shows_on (Err e) ended a b c reports line is = tt
+-- the line of the words
+
+pub nothing_told : (ended : Ended) (issued faults : ℕ) (a : Option (List ℕ)) → ShowsIssued ended (told_line false issued) a a faults faults
+nothing_told (Halted z) issued faults a = with_none a
+nothing_told (TrappedBy trap) issued faults a = (record { more = []; is = with_none a }, λ quiet. with_none a)
+nothing_told StoppedAt issued faults a = record { more = []; is = with_none a }
+nothing_told (StuckAt reason place) issued faults a = record { more = []; is = with_none a }
+nothing_told SinkFault issued faults a = record { more = []; is = with_none a }
+
+pub told_by : (tells : Bool) (ended : Ended) (issued : ℕ) (a b : Option (List ℕ)) (f g : ℕ) → tells ≡ true → ShowsIssued ended (issued_line issued) a b f g → ShowsIssued ended (told_line tells issued) a b f g
+told_by true ended issued a b f g is h = h
+told_by false ended issued a b f g is h = absurd cc
+
+pub no_line : (ended : Ended) (line : List ℕ) (a : Option (List ℕ)) (f : ℕ) → ((z : ℤ) → ended ≡ Halted z → ⊥) → ((trap : Trap) → ended ≡ TrappedBy trap → ⊥) → ShowsIssued ended line a a f f
+no_line (Halted z) line a f not_halted not_trapped = absurd (not_halted z refl)
+no_line (TrappedBy trap) line a f not_halted not_trapped = absurd (not_trapped trap refl)
+no_line StoppedAt line a f not_halted not_trapped = record { more = []; is = with_none a }
+no_line (StuckAt reason place) line a f not_halted not_trapped = record { more = []; is = with_none a }
+no_line SinkFault line a f not_halted not_trapped = record { more = []; is = with_none a }
+
+pub trap_line : {T E : Type 0} (r : Result T E) (line : List ℕ) (a b : Option (List ℕ)) (f g : ℕ) → OnOk r (b ≡ with_bytes a line) → OnErr r (Rose f g) → Adds a b f g →
+    Appends a b × ((Rose f g → ⊥) → b ≡ with_bytes a line)
+trap_line (Ok x) line a b f g put failed adds = (record { more = adds.more; is = adds.is }, λ quiet. put)
+trap_line (Err e) line a b f g put failed adds = (record { more = adds.more; is = adds.is }, λ quiet. absurd (quiet failed))
+
+-- the line of an end, that of the words and the reports
+
+behind : (a b c : Option (List ℕ)) → Appends a b → Appends b c → Appends a c
+behind a b c x y = record { more = x.more ++ y.more; is = y.is ∙ ap (λ told. with_bytes told y.more) x.is ∙ with_both a x.more y.more }
+
+appended : (ended : Ended) (line : List ℕ) (a b : Option (List ℕ)) (f g : ℕ) → ShowsIssued ended line a b f g → Appends a b
+appended (Halted z) line a b f g h = record { more = line; is = h }
+appended (TrappedBy trap) line a b f g h = h.0
+appended StoppedAt line a b f g h = h
+appended (StuckAt reason place) line a b f g h = h
+appended SinkFault line a b f g h = h
+
+ends_behind : (a b c d : Option (List ℕ)) (reports : List ℕ) → Appends a b → Appends b c → d ≡ with_bytes c reports → EndsWith a d reports
+ends_behind a b c d reports x y is = ends_with a c d reports (behind a b c x y) is
+
+ends_with_line : (a b c d : Option (List ℕ)) (line reports : List ℕ) → Appends a b → c ≡ with_bytes b line → d ≡ with_bytes c reports → EndsWith a d (line ++ reports)
+ends_with_line a b c d line reports x put is = ends_with a b d (line ++ reports) x (is ∙ ap (λ told. with_bytes told reports) put ∙ with_both b line reports)
+
+shows_ok : (ended : Ended) (a b c d : Option (List ℕ)) (line reports : List ℕ) (f g h i : ℕ) → (Rose g h → Rose f i) → ShowsLine ended a b → ShowsIssued ended line b c g h → d ≡ with_bytes c reports → ShowsEnd ended line reports a d f i
+shows_ok (Halted z) a b c d line reports f g h i later first second is =
+    is ∙ ap (λ told. with_bytes told reports) (second ∙ ap (λ told. with_bytes told line) first ∙ with_both a (result_line z) line) ∙ with_both a (result_line z ++ line) reports
+shows_ok (TrappedBy trap) a b c d line reports f g h i later first second is =
+    (ends_behind a b c d reports first second.0 is, λ quiet. ends_with_line a b c d line reports first (second.1 (λ rose. quiet (later rose))) is)
+shows_ok StoppedAt a b c d line reports f g h i later first second is = ends_behind a b c d reports first second is
+shows_ok (StuckAt reason place) a b c d line reports f g h i later first second is = ends_behind a b c d reports first second is
+shows_ok SinkFault a b c d line reports f g h i later first second is = ends_behind a b c d reports first second is
+
+pub shows_on : {T E : Type 0} (r : Result T E) (ended : Ended) (a b c d : Option (List ℕ)) (line reports : List ℕ) (f g h i : ℕ) → f ≤ g → g ≤ h → h ≤ i → ShowsLine ended a b → ShowsIssued ended line b c g h → OnOk r (d ≡ with_bytes c reports) →
+    OnOk r (ShowsEnd ended line reports a d f i)
+shows_on (Ok x) ended a b c d line reports f g h i le grows more first second is = shows_ok ended a b c d line reports f g h i (λ rose. rose_throughout f g h i le grows more rose) first second is
+shows_on (Err e) ended a b c d line reports f g h i le grows more first second is = tt
 
 pub rose_then : (first mid last : ℕ) → first ≤ mid → mid ≤ last → Rose first mid → Rose first last
 rose_then first mid last le more rose = rose_throughout first first mid last (omega arith) le more rose
@@ -99,21 +161,22 @@ status_of_end StoppedAt o unfaulted is = subst (λ p. IsStatusOf p Stopped) (sym
 status_of_end (StuckAt reason place) o unfaulted is = subst (λ p. IsStatusOf p (Stuck reason place)) (sym is) refl
 status_of_end SinkFault o unfaulted is = absurd cc
 
-shows_outcome : (ended : Ended) (o : Outcome) (reports : List ℕ) (a c : Option (List ℕ)) → is_fault ended ≡ false → o ≡ outcome_of ended (output_of o) → ShowsEnd ended reports a c → Shows o reports a c
-shows_outcome (Halted z) o reports a c unfaulted is h = subst (λ p. Shows p reports a c) (sym is) h
-shows_outcome (TrappedBy trap) o reports a c unfaulted is h = subst (λ p. Shows p reports a c) (sym is) h
-shows_outcome StoppedAt o reports a c unfaulted is h = subst (λ p. Shows p reports a c) (sym is) h
-shows_outcome (StuckAt reason place) o reports a c unfaulted is h = subst (λ p. Shows p reports a c) (sym is) h
-shows_outcome SinkFault o reports a c unfaulted is h = absurd cc
+shows_outcome : (ended : Ended) (o : Outcome) (line reports : List ℕ) (s : Streams) → is_fault ended ≡ false → o ≡ outcome_of ended (output_of o) →
+    ShowsEnd ended line reports s.err_before s.err_after s.err_faults_before s.err_faults_after → ShowsOf o line reports s
+shows_outcome (Halted z) o line reports s unfaulted is h = subst (λ p. ShowsOf p line reports s) (sym is) h
+shows_outcome (TrappedBy trap) o line reports s unfaulted is h = subst (λ p. ShowsOf p line reports s) (sym is) h
+shows_outcome StoppedAt o line reports s unfaulted is h = subst (λ p. ShowsOf p line reports s) (sym is) h
+shows_outcome (StuckAt reason place) o line reports s unfaulted is h = subst (λ p. ShowsOf p line reports s) (sym is) h
+shows_outcome SinkFault o line reports s unfaulted is h = absurd cc
 
 -- a run's answer by its status
-by_status : (x : Loaded) (times : Times) (budget : ℕ) (watches : List Watch) (s : Streams) (ended : Ended) → is_fault ended ≡ false → IsRunOf x times budget watches s (status_as ended) →
-    LoadedAnswers x times budget watches s (status_as ended)
-by_status x times budget watches s (Halted z) unfaulted a = a
-by_status x times budget watches s (TrappedBy trap) unfaulted a = a
-by_status x times budget watches s StoppedAt unfaulted a = a
-by_status x times budget watches s (StuckAt reason place) unfaulted a = a
-by_status x times budget watches s SinkFault unfaulted a = absurd cc
+by_status : (x : Loaded) (times : Times) (budget : ℕ) (tells : Bool) (watches : List Watch) (s : Streams) (ended : Ended) → is_fault ended ≡ false → IsRunOf x times budget tells watches s (status_as ended) →
+    LoadedAnswers x times budget tells watches s (status_as ended)
+by_status x times budget tells watches s (Halted z) unfaulted a = a
+by_status x times budget tells watches s (TrappedBy trap) unfaulted a = a
+by_status x times budget tells watches s StoppedAt unfaulted a = a
+by_status x times budget tells watches s (StuckAt reason place) unfaulted a = a
+by_status x times budget tells watches s SinkFault unfaulted a = absurd cc
 
 flat_shown : (events : List Event) (watches : List Watch) → flat_map report_line (map (shown_all events) watches) ≡ reports_of watches events
 flat_shown events [] = refl
@@ -123,31 +186,35 @@ pub length_map : {A B : Type 0} (f : A → B) (xs : List A) → length (map f xs
 length_map f [] = refl
 length_map f (x ∷ xs) = ap suc (length_map f xs)
 
-module _ (x : Loaded) (times : Times) (budget : ℕ) (watches watches' : List Watch) (s : Streams) (ended : Ended) (r : RunOf x times budget watches watches' s.out_before s.out_after ended) where
-  whole_answers : (status : Status) (n : ℕ) → n ≡ length watches' → is_fault ended ≡ false → Finishes ended (flat_map report_line watches') n s.err_before s.err_after s.err_faults_before s.err_faults_after status →
-      LoadedAnswers x times budget watches s status
-  whole_answers status n counted unfaulted (inl done) =
+module _ (x : Loaded) (times : Times) (budget : ℕ) (tells : Bool) (watches watches' : List Watch) (s : Streams) (ended : Ended) (issued : ℕ) (r : RunOf x times budget watches watches' s.out_before s.out_after ended)
+    (counted : is_fault ended ≡ false → issued ≡ length (events_within x times budget)) where
+  whole_answers : (status : Status) (n : ℕ) → n ≡ length watches' → is_fault ended ≡ false → Finishes ended (told_line tells issued) (flat_map report_line watches') n s.err_before s.err_after s.err_faults_before s.err_faults_after status →
+      LoadedAnswers x times budget tells watches s status
+  whole_answers status n all unfaulted (inl done) =
       let whole = r.whole unfaulted in
       let reports : flat_map report_line watches' ≡ reports_of watches (events_within x times budget) = ap (flat_map report_line) whole.seen ∙ flat_shown (events_within x times budget) watches in
-      subst (LoadedAnswers x times budget watches s) (sym done.0) (by_status x times budget watches s ended unfaulted (record {
+      let line : told_line tells issued ≡ told_line tells (length (events_within x times budget)) = ap (told_line tells) (counted unfaulted) in
+      let shown : ShowsEnd ended (told_line tells (length (events_within x times budget))) (reports_of watches (events_within x times budget)) s.err_before s.err_after s.err_faults_before s.err_faults_after =
+      subst (λ l. ShowsEnd ended l (reports_of watches (events_within x times budget)) s.err_before s.err_after s.err_faults_before s.err_faults_after) line
+      (subst (λ l. ShowsEnd ended (told_line tells issued) l s.err_before s.err_after s.err_faults_before s.err_faults_after) reports done.1) in
+      subst (LoadedAnswers x times budget tells watches s) (sym done.0) (by_status x times budget tells watches s ended unfaulted (record {
         status_is = status_of_end ended (outcome_within x times budget) unfaulted whole.outcome;
         put = whole.put;
-        shown = shows_outcome ended (outcome_within x times budget) (reports_of watches (events_within x times budget)) s.err_before s.err_after unfaulted whole.outcome
-            (subst (λ l. ShowsEnd ended l s.err_before s.err_after) reports done.1);
+        shown = shows_outcome ended (outcome_within x times budget) (told_line tells (length (events_within x times budget))) (reports_of watches (events_within x times budget)) s unfaulted whole.outcome shown;
       }))
-  whole_answers status n counted unfaulted (inr cut) =
+  whole_answers status n all unfaulted (inr cut) =
       let whole = r.whole unfaulted in
-      let count : n ≡ length watches = counted ∙ ap length whole.seen ∙ length_map (shown_all (events_within x times budget)) watches in
-      subst (LoadedAnswers x times budget watches s) (sym cut.0) (inr (record {
+      let count : n ≡ length watches = all ∙ ap length whole.seen ∙ length_map (shown_all (events_within x times budget)) watches in
+      subst (LoadedAnswers x times budget tells watches s) (sym cut.0) (inr (record {
         rose = cut.1;
         wanted = elim cut.2 [ inl halted ↦ inl (is_end_of ended (outcome_within x times budget) whole.outcome halted) | inr some ↦ inr (subst (λ m. 0 < m) count some) ];
         put = whole.put;
       }))
 
-  partly_answers : (status : Status) → is_fault ended ≡ true → OutRose s → status ≡ WriteFault → LoadedAnswers x times budget watches s status
+  partly_answers : (status : Status) → is_fault ended ≡ true → OutRose s → status ≡ WriteFault → LoadedAnswers x times budget tells watches s status
   partly_answers status fault rose is =
       let partly = r.partly fault in
-      subst (LoadedAnswers x times budget watches s) (sym is) (inl (record {
+      subst (LoadedAnswers x times budget tells watches s) (sym is) (inl (record {
         rose = rose;
         bound = partly.bound + 1;
         within = let below = partly.below in omega arith;
@@ -157,13 +224,13 @@ module _ (x : Loaded) (times : Times) (budget : ℕ) (watches watches' : List Wa
       }))
 
   pub run_answers : (status : Status) (n : ℕ) → n ≡ length watches' → (is_fault ended ≡ true → OutRose s) → (is_fault ended ≡ true → status ≡ WriteFault) →
-      (is_fault ended ≡ false → Finishes ended (flat_map report_line watches') n s.err_before s.err_after s.err_faults_before s.err_faults_after status) →
-      LoadedAnswers x times budget watches s status
-  run_answers status n counted rose cut finishes = by (is_fault ended) refl
+      (is_fault ended ≡ false → Finishes ended (told_line tells issued) (flat_map report_line watches') n s.err_before s.err_after s.err_faults_before s.err_faults_after status) →
+      LoadedAnswers x times budget tells watches s status
+  run_answers status n all rose cut finishes = by (is_fault ended) refl
     where
-      by : (b : Bool) → is_fault ended ≡ b → LoadedAnswers x times budget watches s status
+      by : (b : Bool) → is_fault ended ≡ b → LoadedAnswers x times budget tells watches s status
       by true is = partly_answers status is (rose is) (cut is)
-      by false is = whole_answers status n counted is (finishes is)
+      by false is = whole_answers status n all is (finishes is)
 
 is_run : (ended : Ended) → is_of_run (status_as ended) ≡ true
 is_run (Halted z) = refl
@@ -173,9 +240,9 @@ is_run (StuckAt reason place) = refl
 is_run SinkFault = refl
 
 -- a run's status is one of a run
-pub of_run : (ended : Ended) (reports : List ℕ) (n f g : ℕ) (a c : Option (List ℕ)) (status : Status) → (is_fault ended ≡ true → status ≡ WriteFault) →
-    (is_fault ended ≡ false → Finishes ended reports n a c f g status) → is_of_run status ≡ true
-of_run ended reports n f g a c status cut finishes = by (is_fault ended) refl
+pub of_run : (ended : Ended) (line reports : List ℕ) (n f g : ℕ) (a c : Option (List ℕ)) (status : Status) → (is_fault ended ≡ true → status ≡ WriteFault) →
+    (is_fault ended ≡ false → Finishes ended line reports n a c f g status) → is_of_run status ≡ true
+of_run ended line reports n f g a c status cut finishes = by (is_fault ended) refl
   where
     by : (b : Bool) → is_fault ended ≡ b → is_of_run status ≡ true
     by true is = ap is_of_run (cut is)

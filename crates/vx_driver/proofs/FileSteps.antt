@@ -1,9 +1,8 @@
--- What the reading of the files of `sim` says, step by step.
-use Rattle.std.proofs.Common.{◌≡◌, ◌∙◌, ◌⊎◌, inl, inr, ℕ, ℤ, Bool, true, false, nat_le, List, length, is_some, Option, Some, None, option_map, Result, Ok, Err, IfOk, IfErr, IfSome, MatchOption, refl, sym, subst, ap, arith}
+-- What the reading of the files of a run says, step by step.
+use Rattle.std.proofs.Common.{◌≡◌, ◌∙◌, ◌⊎◌, inl, inr, ℕ, ℤ, Bool, true, false, nat_le, List, length, is_some, Option, Some, None, option_map, Result, Ok, Err, IfSome, MatchOption, refl, sym, subst, ap, arith}
 use Rattle.std.specs.Prelude.{Vec, ◌≤◌, ◌<◌}
 use Rattle.std.specs.declared.alloc.Global.{Global}
 use Rattle.std.proofs.lemmas.Bool.{leb-true, le-leb}
-use Rattle.std.proofs.lemmas.Result.{IfOk-weaker, IfErr-weaker}
 use Rattle.vx_base.specs.Outside.{Files}
 use Rattle.vx_base.specs.Reading.{ReadsFile}
 use Rattle.vx_base.specs.declared.reading.FileRead.TheVariants.{Whole, TooLong as FileTooLong}
@@ -17,7 +16,8 @@ use Rattle.vx_driver.specs.declared.status.Status.{Status}
 use Rattle.vx_driver.specs.declared.status.Status.TheVariants.{Done, Trapped, Usage, Source, Limit, Words, Machine, NoFile, ReadFault, WriteFault, Stopped, Input, Stuck, NoMemory}
 use Rattle.vx_driver.specs.Answers.{MachineFound, Is, Refused, TooLong, Missing, machine_found, Effect, ReadsRose, SameFiles, MachineAnswers}
 use Rattle.vx_driver.specs.InputText.{input_reading}
-use Rattle.vx_driver.specs.Simulated.{and_then, file_in, words_as, words_in, machine_as, input_as, input_in, input_found, Loaded, with_input, loading_input, loading_machine, loading, is_named, Stops}
+use Rattle.vx_driver.specs.Simulated.{file_in, words_as, words_in, machine_as, input_as, input_found, Loaded, with_input, loading_input, loading_machine, loading, is_named, Stops}
+use Rattle.vx_driver.specs.Executed.{InputAnswers}
 use Rattle.vx_driver.proofs.Answering.{Since}
 use Rattle.vx_driver.proofs.Simulating.{stops_on}
 
@@ -68,18 +68,57 @@ module _ (named : Role → Bool) (name : List ℕ) (bytes : Vec ℕ Global) (e :
   words_refused status h (inl memory) = subst (Stops named (λ held. words_in (held name)) e) (sym memory) tt
   words_refused status h (inr bad) = words_fault (reading bytes.items) status refl bad h
 
-  input_fault : (r : Result (List ℤ) ℕ) (status : Status) → input_reading bytes.items ≡ r → input_as r ≡ Err status → IfSome e.before (λ held. ReadsFile held name 16777216 (Whole bytes)) →
-      Stops named (λ held. input_found held (Some name)) e status
-  input_fault (Ok numbers) status is bad h = absurd cc
-  input_fault (Err place) status is bad h =
-      let same : Input place ≡ status = cc in
-      subst (Stops named (λ held. input_found held (Some name)) e) same
-      (whole TheInput 16777216 (Limit 12 16777217) (λ content. input_as (input_reading content)) e.before name bytes (Err (Input place)) h (ap input_as is))
+-- an input
 
-  pub input_refused : (status : Status) → IfSome e.before (λ held. ReadsFile held name 16777216 (Whole bytes)) → ((status ≡ NoMemory) ⊎ (input_as (input_reading bytes.items) ≡ Err status)) →
-      Stops named (λ held. input_found held (Some name)) e status
-  input_refused status h (inl memory) = subst (Stops named (λ held. input_found held (Some name)) e) (sym memory) tt
-  input_refused status h (inr bad) = input_fault (input_reading bytes.items) status refl bad h
+input_whole : (b : Option Files) (name : List ℕ) (bytes : Vec ℕ Global) (r : Result (List ℤ) Status) → IfSome b (λ held. ReadsFile held name 16777216 (Whole bytes)) → input_as (input_reading bytes.items) ≡ r →
+    IfSome b (λ held. input_found held (Some name) ≡ r)
+input_whole b name bytes r h is = whole TheInput 16777216 (Limit 12 16777217) (λ content. input_as (input_reading content)) b name bytes r h is
+
+pub input_read : (b : Option Files) (name : List ℕ) (bytes : Vec ℕ Global) (numbers : List ℤ) → IfSome b (λ held. ReadsFile held name 16777216 (Whole bytes)) → input_reading bytes.items ≡ Ok numbers →
+    IfSome b (λ held. input_found held (Some name) ≡ Ok numbers)
+input_read b name bytes numbers h is = input_whole b name bytes (Ok numbers) h (ap input_as is)
+
+input_fault : (name : List ℕ) (bytes : Vec ℕ Global) (e : Effect) (r : Result (List ℤ) ℕ) (status : Status) → SameFiles e → input_reading bytes.items ≡ r → input_as r ≡ Err status →
+    IfSome e.before (λ held. ReadsFile held name 16777216 (Whole bytes)) → InputAnswers (Some name) e status
+input_fault name bytes e (Ok numbers) status same is bad h = absurd cc
+input_fault name bytes e (Err place) status same is bad h =
+    let is_input : Input place ≡ status = cc in
+    subst (InputAnswers (Some name) e) is_input (same, input_whole e.before name bytes (Err (Input place)) h (ap input_as is))
+
+pub input_refused : (name : List ℕ) (bytes : Vec ℕ Global) (e : Effect) (status : Status) → SameFiles e → IfSome e.before (λ held. ReadsFile held name 16777216 (Whole bytes)) →
+    ((status ≡ NoMemory) ⊎ (input_as (input_reading bytes.items) ≡ Err status)) → InputAnswers (Some name) e status
+input_refused name bytes e status same h (inl memory) = subst (InputAnswers (Some name) e) (sym memory) same
+input_refused name bytes e status same h (inr bad) = input_fault name bytes e (input_reading bytes.items) status same refl bad h
+
+pub input_long : (name : List ℕ) (e : Effect) → SameFiles e → IfSome e.before (λ held. ReadsFile held name 16777216 FileTooLong) → InputAnswers (Some name) e (Limit 12 16777217)
+input_long name e same h = (refl, refl, same, too_long TheInput 16777216 (Limit 12 16777217) (λ content. input_as (input_reading content)) e.before name h)
+
+pub input_missing : (name : List ℕ) (e : Effect) → SameFiles e → MatchOption e.before (ReadsRose e) (λ held. held name ≡ None) → InputAnswers (Some name) e (NoFile TheInput)
+input_missing name e same h = (refl, same, missing TheInput 16777216 (Limit 12 16777217) (λ content. input_as (input_reading content)) e.before name (ReadsRose e) h)
+
+abbrev InputStops : (input : Option (List ℕ)) → Effect → Status → Type 0
+InputStops input e status = Stops (is_named None input) (λ held. input_found held input) e status
+
+pub input_answers_stop : (input : Option (List ℕ)) (e : Effect) (status : Status) → is_some input ≡ true → InputAnswers input e status → InputStops input e status
+input_answers_stop input e Done named a = absurd a
+input_answers_stop input e (Trapped trap) named a = absurd a
+input_answers_stop input e Usage named a = absurd a
+input_answers_stop input e (Source code line column) named a = absurd a
+input_answers_stop input e (Limit number count) named a =
+    let same : Limit 12 16777217 ≡ Limit number count = same_limit number count a.0 a.1 in
+    subst (InputStops input e) same a.3
+  where
+    same_limit : (number count : ℕ) → number ≡ 12 → count ≡ 16777217 → Limit 12 16777217 ≡ Limit number count
+    same_limit number count a b = cc
+input_answers_stop input e (Words code line) named a = absurd a
+input_answers_stop input e (Machine code field) named a = absurd a
+input_answers_stop input e (NoFile role) named a = subst (λ r. InputStops input e (NoFile r)) (sym a.0) (named, a.2)
+input_answers_stop input e (ReadFault role) named a = subst (λ r. InputStops input e (ReadFault r)) (sym a.0) (named, a.2)
+input_answers_stop input e WriteFault named a = absurd a
+input_answers_stop input e Stopped named a = absurd a
+input_answers_stop input e (Input place) named a = a.1
+input_answers_stop input e (Stuck reason place) named a = absurd a
+input_answers_stop input e NoMemory named a = tt
 
 -- the machine's answers
 

@@ -1,10 +1,12 @@
 pub mod Appending
 pub mod Inputs
-pub mod SimFound
+pub mod InRange
+pub mod RunFound
 pub mod Picking
 pub mod CommandWords
 mod CommandRows
 mod SimRows
+mod ExecRows
 pub mod Refusing
 pub mod Answering
 pub mod MachineFile
@@ -13,16 +15,14 @@ pub mod SourceLaws
 pub mod Completing
 pub mod Simulating
 pub mod FileSteps
+pub mod Issued
+pub mod Turned
 pub mod Ends
 pub mod Runs
+pub mod Executing
+pub mod Executed
 pub mod Completed
-pub mod SmallTokens
-pub mod SmallPhrases
-pub mod SmallReads
-mod StraightRows
-pub mod StraightFits
-pub mod StraightWords
-pub mod StraightSource
-pub mod StraightRun
-pub mod StraightCompiled
-pub mod StraightOrigin
+pub mod Beginning
+pub mod OneFunction
+pub mod Chain
+pub mod NumbersFit

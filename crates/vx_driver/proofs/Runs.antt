@@ -1,19 +1,21 @@
--- The answers of `sim` from those of its run, its files and its boxes.
-use Rattle.std.proofs.Common.{◌≡◌, ◌∙◌, ◌⊎◌, inl, inr, ℕ, Bool, true, false, List, [], ◌∷◌, length, map, is_some, Option, Some, None, option_map, IfSome, refl, sym, subst, ap, arith}
-use Rattle.std.specs.Prelude.{◌≤◌, ◌<◌}
+-- The answers of `sim` from those of its run and its files, and of any run from its boxes.
+use Rattle.std.proofs.Common.{◌≡◌, ◌∙◌, ◌⊎◌, inl, inr, ℕ, ◌++◌, true, false, List, [], ◌∷◌, length, map, is_some, Option, Some, None, option_map, IfSome, refl, sym, subst, ap, arith}
+use Rattle.std.specs.Prelude.{◌<◌}
 use Rattle.vx_base.specs.Outcome.{Outcome, Ends, Traps, Goes, Stuck as StuckWith, Wrong}
 use Rattle.vx_base.specs.Outside.{Files}
-use Rattle.vx_base.specs.declared.role.Role.{Role}
 use Rattle.vx_words.specs.Text.{Spells}
 use Rattle.vx_probe.specs.Times.{Times}
 use Rattle.vx_probe.specs.Watch.{Watch}
 use Rattle.vx_driver.specs.declared.status.Status.{Status}
 use Rattle.vx_driver.specs.declared.status.Status.TheVariants.{Done, Trapped, Usage, Source, Limit, Words, Machine, NoFile, ReadFault, WriteFault, Stopped, Input, Stuck, NoMemory}
-use Rattle.vx_driver.specs.Command.{Command, Compile, Simulate, Simulation}
+use Rattle.vx_driver.specs.Command.{Command, Compile, Simulate, Execute, Simulation, Execution}
 use Rattle.vx_driver.specs.Boxes.{Boxes, ProbeBox, Chosen, chosen, chosen_of, timing_named, probes_named}
 use Rattle.vx_driver.specs.Answers.{Effect, SameFiles}
-use Rattle.vx_driver.specs.Simulated.{Loaded, loading, is_named, Stops, Streams, OutputCut, IsEnd, IsStatusOf, Loads, RunEnds, RunCut, RunAnswers, BoxAnswers, SimAnswers, is_of_run, outcome_within}
-use Rattle.vx_driver.specs.Ending.{IsRunOf, UnputLines, LoadedAnswers}
+use Rattle.vx_driver.specs.Simulated.{Loaded, loading, is_named, Stops, Streams, OutputCut, IsStatusOf, Shows, reports_of, result_line, Loads, RunEnds, RunCut, RunAnswers, BoxAnswers, SimAnswers, is_of_run, outcome_within, events_within}
+use Rattle.vx_driver.specs.Executed.{ExecAnswers, ExecutionAnswers}
+use Rattle.vx_driver.specs.Ending.{ShowsOf, IsRunOf, UnputLines, LoadedAnswers}
+use Rattle.vx_base.specs.Outside.{with_bytes}
+use Rattle.std.proofs.lemmas.List.{append-nil}
 use Rattle.vx_driver.specs.Commands.{Answers}
 use Rattle.std.specs.Prelude.{Ok}
 
@@ -25,13 +27,21 @@ of_outcome (Goes out) status is = ap is_of_run is
 of_outcome (StuckWith why p out) status is = ap is_of_run is
 of_outcome (Wrong out) status is = absurd is
 
-no_run : (o : Outcome) (status : Status) → is_of_run status ≡ false → IsStatusOf o status → ⊥
+pub no_run : (o : Outcome) (status : Status) → is_of_run status ≡ false → IsStatusOf o status → ⊥
 no_run o status not is = let yes = of_outcome o status is in cc
 
 loads_in : (asked : Simulation) (x : Loaded) (b : Option Files) → IfSome b (λ held. loading held asked.words asked.machine asked.input ≡ Ok x) →
     IfSome b (λ held. IfSome (held asked.words) (λ content. Spells content x.program)) → IfSome b (λ held. Loads held asked x)
 loads_in asked x None is spells = tt
 loads_in asked x (Some held) is spells = record { is = is; spells = spells }
+
+-- the lines without that of the words
+shows_plain : (o : Outcome) (reports : List ℕ) (s : Streams) → ShowsOf o [] reports s → Shows o reports s.err_before s.err_after
+shows_plain (Ends z out) reports s is = is ∙ ap (λ line. with_bytes s.err_before (line ++ reports)) (append-nil (result_line z))
+shows_plain (Traps k out) reports s is = is.0
+shows_plain (Goes out) reports s is = is
+shows_plain (StuckWith why p out) reports s is = is
+shows_plain (Wrong out) reports s is = absurd is
 
 module _ (asked : Simulation) (x : Loaded) (times : Times) (watches : List Watch) (e : Effect) (s : Streams)
     (is : IfSome e.before (λ held. loading held asked.words asked.machine asked.input ≡ Ok x))
@@ -40,8 +50,14 @@ module _ (asked : Simulation) (x : Loaded) (times : Times) (watches : List Watch
   abbrev the_boxes : Chosen
   the_boxes = record { times = times; watches = watches }
 
-  ends : (status : Status) → IsRunOf x times asked.budget watches s status → RunEnds asked the_boxes e s status
-  ends status a = record { loaded = x; loads = loads_in asked x e.before is spells; status_is = a.status_is; put = a.put; shown = a.shown }
+  ends : (status : Status) → IsRunOf x times asked.budget false watches s status → RunEnds asked the_boxes e s status
+  ends status a = record {
+    loaded = x;
+    loads = loads_in asked x e.before is spells;
+    status_is = a.status_is;
+    put = a.put;
+    shown = shows_plain (outcome_within x times asked.budget) (reports_of watches (events_within x times asked.budget)) s a.shown;
+  }
 
   cut : OutputCut x times asked.budget s ⊎ UnputLines x times asked.budget watches s → RunCut asked the_boxes e s
   cut (inl out) = record { loaded = x; loads = loads_in asked x e.before is spells; cut = inl out }
@@ -51,7 +67,7 @@ module _ (asked : Simulation) (x : Loaded) (times : Times) (watches : List Watch
     cut = inr (record { rose = lines.rose; wanted = elim lines.wanted [ inl end ↦ inl end | inr some ↦ inr (wanted some) ]; put = lines.put });
   }
 
-  pub run_loaded_answers : (status : Status) → LoadedAnswers x times asked.budget watches s status → RunAnswers asked the_boxes e s status
+  pub run_loaded_answers : (status : Status) → LoadedAnswers x times asked.budget false watches s status → RunAnswers asked the_boxes e s status
   run_loaded_answers Done a = ends Done a
   run_loaded_answers (Trapped trap) a = ends (Trapped trap) a
   run_loaded_answers Usage a = absurd (no_run (outcome_within x times asked.budget) Usage refl a.status_is)
@@ -94,39 +110,71 @@ wanted_for f xs g (Some name) wanted some = refl
 wanted_for f [] g None wanted some = absurd (omega (arith, some))
 wanted_for f (x ∷ xs) g None wanted some = wanted (omega arith)
 
--- the boxes
+-- the boxes, of any command that runs words
 
-no_boxes : (asked : Simulation) (c : Option Chosen) (e : Effect) (s : Streams) (status : Status) → c ≡ None → (status ≡ Usage) ⊎ (status ≡ NoMemory) → BoxAnswers asked c e s status
-no_boxes asked None e s status is h = h
-no_boxes asked (Some boxes) e s status is h = absurd cc
+module _ (answers : Chosen → Type 0) (status : Status) where
+  no_boxes : (c : Option Chosen) → c ≡ None → (status ≡ Usage) ⊎ (status ≡ NoMemory) → BoxAnswers answers c status
+  no_boxes None is h = h
+  no_boxes (Some boxes) is h = absurd cc
 
-memory_boxes : (asked : Simulation) (c : Option Chosen) (e : Effect) (s : Streams) → BoxAnswers asked c e s NoMemory
-memory_boxes asked None e s = inr refl
-memory_boxes asked (Some boxes) e s = tt
+  memory_boxes : (c : Option Chosen) → status ≡ NoMemory → ((boxes : Chosen) → answers boxes) → BoxAnswers answers c status
+  memory_boxes None is any = inr is
+  memory_boxes (Some boxes) is any = any boxes
 
-pub no_timing : (asked : Simulation) (boxes : Boxes) (e : Effect) (s : Streams) (status : Status) → SameFiles e → None ≡ timing_named asked.timing boxes.timings → status ≡ Usage → SimAnswers asked boxes e s status
-no_timing asked boxes e s status same none is =
-    (same, no_boxes asked (chosen asked.timing asked.probe boxes) e s status (ap (λ t. chosen_of t (probes_named asked.probe boxes.probes)) (sym none)) (inl is))
+  pub without_timing : (timing : List ℕ) (probe : Option (List ℕ)) (boxes : Boxes) → None ≡ timing_named timing boxes.timings → status ≡ Usage → BoxAnswers answers (chosen timing probe boxes) status
+  without_timing timing probe boxes none is = no_boxes (chosen timing probe boxes) (ap (λ t. chosen_of t (probes_named probe boxes.probes)) (sym none)) (inl is)
 
-pub no_memory_answers : (asked : Simulation) (boxes : Boxes) (e : Effect) (s : Streams) (status : Status) → SameFiles e → status ≡ NoMemory → SimAnswers asked boxes e s status
-no_memory_answers asked boxes e s status same is = subst (SimAnswers asked boxes e s) (sym is) (same, memory_boxes asked (chosen asked.timing asked.probe boxes) e s)
+  chosen_none : (t : Option Times) (w : Option (List Watch)) → w ≡ None → chosen_of t w ≡ None
+  chosen_none None w is = refl
+  chosen_none (Some t) w is = rw is refl
 
-chosen_none : (t : Option Times) (w : Option (List Watch)) → w ≡ None → chosen_of t w ≡ None
-chosen_none None w is = refl
-chosen_none (Some t) w is = rw is refl
+  pub without_probes : (timing : List ℕ) (probe : Option (List ℕ)) (boxes : Boxes) → ((status ≡ NoMemory) ⊎ ((status ≡ Usage) × (probes_named probe boxes.probes ≡ None))) →
+      (status ≡ NoMemory → (these : Chosen) → answers these) → BoxAnswers answers (chosen timing probe boxes) status
+  without_probes timing probe boxes (inl memory) any = memory_boxes (chosen timing probe boxes) memory (any memory)
+  without_probes timing probe boxes (inr missing) any = no_boxes (chosen timing probe boxes) (chosen_none (timing_named timing boxes.timings) (probes_named probe boxes.probes) missing.1) (inl missing.0)
 
-pub no_probes : (asked : Simulation) (boxes : Boxes) (e : Effect) (s : Streams) (status : Status) → SameFiles e →
-    ((status ≡ NoMemory) ⊎ ((status ≡ Usage) × (probes_named asked.probe boxes.probes ≡ None))) → SimAnswers asked boxes e s status
-no_probes asked boxes e s status same (inl memory) = no_memory_answers asked boxes e s status same memory
-no_probes asked boxes e s status same (inr missing) =
-    (same, no_boxes asked (chosen asked.timing asked.probe boxes) e s status (chosen_none (timing_named asked.timing boxes.timings) (probes_named asked.probe boxes.probes) missing.1) (inl missing.0))
+  pub with_boxes : (timing : List ℕ) (probe : Option (List ℕ)) (boxes : Boxes) (times : Times) (watches : List Watch) →
+      Some times ≡ timing_named timing boxes.timings → probes_named probe boxes.probes ≡ Some watches → answers (record { times = times; watches = watches }) → BoxAnswers answers (chosen timing probe boxes) status
+  with_boxes timing probe boxes times watches is_timing probes a =
+      let is : chosen timing probe boxes ≡ Some (record { times = times; watches = watches }) = ap (λ t. chosen_of t (probes_named probe boxes.probes)) (sym is_timing) ∙ ap (chosen_of (Some times)) probes in
+      subst (λ c. BoxAnswers answers c status) (sym is) a
 
-pub boxes_there : (asked : Simulation) (boxes : Boxes) (times : Times) (watches : List Watch) (e : Effect) (s : Streams) (status : Status) → SameFiles e →
-    Some times ≡ timing_named asked.timing boxes.timings → probes_named asked.probe boxes.probes ≡ Some watches → RunAnswers asked (record { times = times; watches = watches }) e s status →
-    SimAnswers asked boxes e s status
-boxes_there asked boxes times watches e s status same timing probes a =
-    let is : chosen asked.timing asked.probe boxes ≡ Some (record { times = times; watches = watches }) = ap (λ t. chosen_of t (probes_named asked.probe boxes.probes)) (sym timing) ∙ ap (chosen_of (Some times)) probes in
-    (same, subst (λ c. BoxAnswers asked c e s status) (sym is) a)
+run_memory : (asked : Simulation) (e : Effect) (s : Streams) (status : Status) → status ≡ NoMemory → (these : Chosen) → RunAnswers asked these e s status
+run_memory asked e s status is these = subst (RunAnswers asked these e s) (sym is) tt
+
+execution_memory : (asked : Execution) (e : Effect) (s : Streams) (status : Status) → status ≡ NoMemory → (these : Chosen) → ExecutionAnswers asked e s status these
+execution_memory asked e s status is these = subst (λ t. ExecutionAnswers asked e s t these) (sym is) tt
+
+module _ (asked : Simulation) (boxes : Boxes) (e : Effect) (s : Streams) (status : Status) (same : SameFiles e) where
+  abbrev sim_answers : Chosen → Type 0
+  sim_answers these = RunAnswers asked these e s status
+
+  pub no_timing : None ≡ timing_named asked.timing boxes.timings → status ≡ Usage → SimAnswers asked boxes e s status
+  no_timing none is = (same, without_timing sim_answers status asked.timing asked.probe boxes none is)
+
+  pub no_probes : ((status ≡ NoMemory) ⊎ ((status ≡ Usage) × (probes_named asked.probe boxes.probes ≡ None))) → SimAnswers asked boxes e s status
+  no_probes why = (same, without_probes sim_answers status asked.timing asked.probe boxes why (run_memory asked e s status))
+
+  pub boxes_there : (times : Times) (watches : List Watch) → Some times ≡ timing_named asked.timing boxes.timings → probes_named asked.probe boxes.probes ≡ Some watches → RunAnswers asked (record { times = times; watches = watches }) e s status →
+      SimAnswers asked boxes e s status
+  boxes_there times watches timing probes a = (same, with_boxes sim_answers status asked.timing asked.probe boxes times watches timing probes a)
+
+  pub no_memory_answers : status ≡ NoMemory → SimAnswers asked boxes e s status
+  no_memory_answers is = (same, memory_boxes sim_answers status (chosen asked.timing asked.probe boxes) is (run_memory asked e s status is))
+
+module _ (asked : Execution) (boxes : Boxes) (e : Effect) (s : Streams) (status : Status) (same : SameFiles e) where
+  pub exec_no_timing : None ≡ timing_named asked.timing boxes.timings → status ≡ Usage → ExecAnswers asked boxes e s status
+  exec_no_timing none is = (same, without_timing (ExecutionAnswers asked e s status) status asked.timing asked.probe boxes none is)
+
+  pub exec_no_probes : ((status ≡ NoMemory) ⊎ ((status ≡ Usage) × (probes_named asked.probe boxes.probes ≡ None))) → ExecAnswers asked boxes e s status
+  exec_no_probes why = (same, without_probes (ExecutionAnswers asked e s status) status asked.timing asked.probe boxes why (execution_memory asked e s status))
+
+  pub exec_boxes_there : (times : Times) (watches : List Watch) → Some times ≡ timing_named asked.timing boxes.timings → probes_named asked.probe boxes.probes ≡ Some watches →
+      ExecutionAnswers asked e s status (record { times = times; watches = watches }) → ExecAnswers asked boxes e s status
+  exec_boxes_there times watches timing probes a = (same, with_boxes (ExecutionAnswers asked e s status) status asked.timing asked.probe boxes times watches timing probes a)
+
+  pub exec_no_memory : status ≡ NoMemory → ExecAnswers asked boxes e s status
+  exec_no_memory is = (same, memory_boxes (ExecutionAnswers asked e s status) status (chosen asked.timing asked.probe boxes) is (execution_memory asked e s status is))
 
 pub wanted_by : (name : Option (List ℕ)) (boxes : List ProbeBox) (watches : List Watch) → probes_named name boxes ≡ Some watches → 0 < length watches → is_some name ≡ true
 wanted_by None boxes [] is some = absurd (omega (arith, some))
@@ -146,3 +194,5 @@ refused_answers (Some (Compile source out machine)) boxes e s status same (inl m
 refused_answers (Some (Compile source out machine)) boxes e s status same (inr usage) = let none = usage.1 in absurd cc
 refused_answers (Some (Simulate asked)) boxes e s status same (inl memory) = no_memory_answers asked boxes e s status same memory
 refused_answers (Some (Simulate asked)) boxes e s status same (inr usage) = let none = usage.1 in absurd cc
+refused_answers (Some (Execute asked)) boxes e s status same (inl memory) = exec_no_memory asked boxes e s status same memory
+refused_answers (Some (Execute asked)) boxes e s status same (inr usage) = let none = usage.1 in absurd cc

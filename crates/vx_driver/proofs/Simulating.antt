@@ -1,19 +1,14 @@
 -- The answers of `sim` from those of its steps, and what they exclude where nothing fails.
-use Rattle.std.proofs.Common.{◌≡◌, ◌∙◌, ◌⊎◌, inl, inr, ℕ, ℤ, List, Option, Some, None, is_some, true, false, Bool, Result, Ok, Err, IfSome, MatchOption, refl, sym, subst, ap}
-use Rattle.std.specs.Prelude.{◌≤◌, ◌<◌}
+use Rattle.std.proofs.Common.{◌≡◌, ◌⊎◌, inl, inr, Option, Some, None, true, Bool, Result, Err, IfSome, MatchOption, refl, sym, subst}
 use Rattle.vx_base.specs.Outside.{Files, Rose}
 use Rattle.vx_base.specs.declared.role.Role.{Role}
-use Rattle.vx_base.specs.declared.role.Role.TheVariants.{Source as TheSource, Words as TheWords, Profile as TheProfile, Machine as TheMachine, Input as TheInput}
-use Rattle.vx_isa.specs.declared.program.WordProgram.{WordProgram}
-use Rattle.vx_isa.specs.Numbers.{Numbers}
-use Rattle.vx_machine.specs.declared.description.MachineFault.TheVariants.{Bad}
 use Rattle.vx_probe.specs.Times.{Times}
 use Rattle.vx_driver.specs.declared.status.Status.{Status}
 use Rattle.vx_driver.specs.declared.status.Status.TheVariants.{Done, Trapped, Usage, Source, Limit, Words, Machine, NoFile, ReadFault, WriteFault, Stopped, Input, Stuck, NoMemory}
 use Rattle.vx_driver.specs.Command.{Simulation}
 use Rattle.vx_driver.specs.Boxes.{Boxes, Chosen, chosen}
-use Rattle.vx_driver.specs.Answers.{MachineFound, Is, Refused, TooLong, Missing, machine_found, Effect, ReadsRose, SameFiles, MachineAnswers}
-use Rattle.vx_driver.specs.Simulated.{and_then, words_in, machine_as, input_found, Loaded, loading_input, loading_machine, loading, is_named, Stops, Streams, OutRose, ErrRose, Loads, RunEnds, RunCut, RunAnswers, BoxAnswers, SimAnswers, Due, RunCompletes, SimCompletes, IsStatusOf, outcome_within}
+use Rattle.vx_driver.specs.Answers.{Effect, ReadsRose}
+use Rattle.vx_driver.specs.Simulated.{loading, Stops, Streams, OutRose, ErrRose, Loads, RunEnds, RunCut, RunAnswers, BoxAnswers, SimAnswers, Due, RunCompletes, SimCompletes}
 use Rattle.vx_driver.proofs.Answering.{rose_since, Since}
 
 -- where nothing fails
@@ -65,13 +60,14 @@ run_completes : (asked : Simulation) (boxes : Chosen) (e : Effect) (s : Streams)
 run_completes asked boxes e s status None is quiet_reads quiet_out quiet_err a = tt
 run_completes asked boxes e s status (Some held) is quiet_reads quiet_out quiet_err a = dues asked boxes e s held is quiet_reads quiet_out quiet_err status a
 
-box_completes : (asked : Simulation) (boxes : Option Chosen) (e : Effect) (s : Streams) (status : Status) → (ReadsRose e → ⊥) → (OutRose s → ⊥) → (ErrRose s → ⊥) →
-    BoxAnswers asked boxes e s status → RunCompletes asked boxes e status
-box_completes asked None e s status quiet_reads quiet_out quiet_err a = a
-box_completes asked (Some boxes) e s status quiet_reads quiet_out quiet_err a = run_completes asked boxes e s status e.before refl quiet_reads quiet_out quiet_err a
+pub box_completes : (answers due : Chosen → Type 0) (boxes : Option Chosen) (status : Status) → ((these : Chosen) → answers these → due these) → BoxAnswers answers boxes status → BoxAnswers due boxes status
+box_completes answers due None status more a = a
+box_completes answers due (Some boxes) status more a = more boxes a
 
 pub sim_completes : (asked : Simulation) (boxes : Boxes) (e : Effect) (s : Streams) (status : Status) → SimAnswers asked boxes e s status → SimCompletes asked boxes e s status
-sim_completes asked boxes e s status a = λ quiet_reads quiet_out quiet_err. box_completes asked (chosen asked.timing asked.probe boxes) e s status quiet_reads quiet_out quiet_err a.1
+sim_completes asked boxes e s status a = λ quiet_reads quiet_out quiet_err.
+    box_completes (λ these. RunAnswers asked these e s status) (RunCompletes asked e status) (chosen asked.timing asked.probe boxes) status
+    (λ these h. run_completes asked these e s status e.before refl quiet_reads quiet_out quiet_err h) a.1
 
 -- the reading of files that stops
 

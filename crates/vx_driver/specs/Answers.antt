@@ -7,7 +7,6 @@ use Rattle.vx_machine.specs.declared.description.MachineFault.{MachineFault}
 use Rattle.vx_machine.specs.declared.description.MachineFault.TheVariants.{Bad}
 use Rattle.vx_machine.specs.Descriptions.{reading}
 use Rattle.vx_ast.specs.Tree.{Program}
-use Rattle.vx_ast.specs.Small.{ReadsSmall}
 use Rattle.vx_base.specs.declared.role.Role.{Role}
 use Rattle.vx_base.specs.declared.role.Role.TheVariants.{Source as TheSource, Words as TheWords, Profile as TheProfile, Machine as TheMachine, Input as TheInput}
 use Rattle.vx_ast.specs.Reads.{most_bytes, Reads, Refusal}
@@ -22,33 +21,18 @@ use Rattle.vx_words.specs.Text.{Spells}
 abbrev pub most_description_bytes : ℕ
 most_description_bytes = 65536
 
--- the bytes are an accepted source
-pub record IsAccepted (content : List ℕ) : Type 0 where
-  pub program : Program
-  pub reads : Reads content program
-
--- the bytes are an accepted source of the form that has words, and the program is its reading
-pub record ReadsForWords (content : List ℕ) (program : Program) : Type 0 where
-  pub reads : Reads content program
-  pub small : ReadsSmall content program
-
--- the bytes are an accepted source of a form that has no words yet
-pub record HasNoWords (content : List ℕ) : Type 0 where
-  pub accepted : IsAccepted content
-  pub other : (program : Program) → ReadsSmall content program → ⊥
-
 -- the file holds these bytes, which are few enough for a source
 pub record HoldsSource (held : Files) (source content : List ℕ) : Type 0 where
   pub holds : held source ≡ Some content
   pub short : length content ≤ most_bytes
 
--- the source's file holds an accepted source of the form that has words, and the program is its reading
+-- the source's file holds an accepted source, and the program is its reading
 pub record HoldsProgram (held : Files) (source : List ℕ) (program : Program) : Type 0 where
   pub content : List ℕ
   pub holds : held source ≡ Some content
-  pub reads : ReadsForWords content program
+  pub reads : Reads content program
 
--- the source's file holds an accepted source of the form that has words
+-- the source's file holds an accepted source
 pub record Accepts (held : Files) (source : List ℕ) : Type 0 where
   pub program : Program
   pub is : HoldsProgram held source program
@@ -59,13 +43,9 @@ status_of (BadSource code line column) = Source code line column
 status_of (OverLimit number count) = Limit number count
 status_of NoRoom = NoMemory
 
--- the status of a source that is accepted and has no words yet
-abbrev pub no_words : Status
-no_words = Source 14 1 1
-
--- why bytes give no words: the one fault or limit of the source, or an accepted source of a form that has none yet
+-- why bytes give no words: the one fault or limit of the source
 abbrev pub RefusesSource : (content : List ℕ) → Status → Type 0
-RefusesSource content (Source code line column) = Refusal content (BadSource code line column) ⊎ ((Source code line column ≡ no_words) × HasNoWords content)
+RefusesSource content (Source code line column) = Refusal content (BadSource code line column)
 RefusesSource content (Limit number count) = Refusal content (OverLimit number count)
 RefusesSource content status = ⊥
 
@@ -238,7 +218,6 @@ ProgramAnswers program out machine e status = NoMachine machine e status ⊎ For
 pub record CompileEnds (source : List ℕ) (machine : Option (List ℕ)) (held : Files) (status : Status) : Type 0 where
   pub accepted : Accepts held source → (numbers : Numbers) → machine_found held machine ≡ Is numbers → (status ≡ Done) ⊎ (status ≡ NoMemory)
   pub refused : (content : List ℕ) (fault : SourceFault) → held source ≡ Some content → Refusal content fault → (status ≡ status_of fault) ⊎ (status ≡ NoMemory)
-  pub without_words : (content : List ℕ) → held source ≡ Some content → HasNoWords content → (status ≡ no_words) ⊎ (status ≡ NoMemory)
   pub missing : held source ≡ None → (status ≡ NoFile TheSource) ⊎ (status ≡ NoMemory)
   pub machine_refused : Accepts held source → (code field : ℕ) → machine_found held machine ≡ Refused (Bad code field) → (status ≡ Machine code field) ⊎ (status ≡ NoMemory)
   pub machine_too_long : Accepts held source → machine_found held machine ≡ TooLong → (status ≡ Limit 11 65537) ⊎ (status ≡ NoMemory)

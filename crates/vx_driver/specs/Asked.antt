@@ -1,11 +1,11 @@
--- What the words of `sim` ask for, as the code holds it.
+-- What the words of `sim` and of `exec` ask for, as the code holds it.
 use Rattle.std.specs.Prelude.{option_map}
-use Rattle.vx_driver.specs.Command.{Command, Simulate, Simulation}
-use Rattle.vx_driver.specs.declared.sim_words.SimWords.{SimWords}
+use Rattle.vx_driver.specs.Command.{Command, Execution, Makes, Simulation}
+use Rattle.vx_driver.specs.declared.run_words.RunWords.{RunWords}
 
-abbrev pub simulation_of : SimWords → Simulation
+abbrev pub simulation_of : RunWords → Simulation
 simulation_of asked = record {
-  words = asked.words.now;
+  words = asked.file.now;
   machine = option_map (λ s. s.now) asked.machine;
   input = option_map (λ s. s.now) asked.input;
   budget = asked.budget;
@@ -13,5 +13,15 @@ simulation_of asked = record {
   probe = option_map (λ s. s.now) asked.probe;
 }
 
-abbrev pub asks : SimWords → Command
-asks asked = Simulate (simulation_of asked)
+abbrev pub execution_of : RunWords → Execution
+execution_of asked = record {
+  source = asked.file.now;
+  machine = option_map (λ s. s.now) asked.machine;
+  input = option_map (λ s. s.now) asked.input;
+  budget = asked.budget;
+  timing = asked.timing.now;
+  probe = option_map (λ s. s.now) asked.probe;
+}
+
+abbrev pub asks : Makes → RunWords → Command
+asks makes asked = makes asked.file.now (option_map (λ s. s.now) asked.machine) (option_map (λ s. s.now) asked.input) asked.budget asked.timing.now (option_map (λ s. s.now) asked.probe)

@@ -24,11 +24,26 @@ pub record Simulation : Type 0 where
   pub timing : List ℕ
   pub probe : Option (List ℕ)
 
+-- what an execution is asked for
+pub record Execution : Type 0 where
+  -- the file of the source
+  pub source : List ℕ
+  -- the files of the machine's description and of the input
+  pub machine : Option (List ℕ)
+  pub input : Option (List ℕ)
+  -- the most words that are issued
+  pub budget : ℕ
+  -- the names of the timing and of the probe
+  pub timing : List ℕ
+  pub probe : Option (List ℕ)
+
 pub data Command : Type 0 where
   -- the words of the source go to a file; they are for the machine that a file describes, or the default one
   Compile : (source out : List ℕ) (machine : Option (List ℕ)) → Command
   -- the words of a file are run
   Simulate : Simulation → Command
+  -- the words of the source are run
+  Execute : Execution → Command
 
 -- a word that has to be there
 abbrev pub required_word : List ℕ → Rule
@@ -60,38 +75,63 @@ compile_of words = unless_refused (fault_of compile_app words) (compile_found (m
 abbrev pub number_word : List ℕ → (low high : ℕ) → Rule
 number_word name low high = record (option_word name) { parser = Some (Unsigned low high) }
 
--- `sim WORDS [--machine M] [--input I] [--words N] [--timing T] [--probe B]`
-unfoldable pub sim_app : App
-sim_app =
-    with_rule (with_rule (with_rule (with_rule (with_rule (with_rule (new_app (codes "sim")) (required_word (codes "WORDS")))
+-- `NAME FILE [--machine M] [--input I] [--words N] [--timing T] [--probe B]`
+abbrev pub run_app : (name file : List ℕ) → App
+run_app name file =
+    with_rule (with_rule (with_rule (with_rule (with_rule (with_rule (new_app name) (required_word file))
     (option_word (codes "machine"))) (option_word (codes "input"))) (number_word (codes "words") 1 1000000000000))
     (option_word (codes "timing"))) (option_word (codes "probe"))
+
+-- `sim WORDS` with these options
+unfoldable pub sim_app : App
+sim_app = run_app (codes "sim") (codes "WORDS")
+
+-- `exec SRC` with these options
+unfoldable pub exec_app : App
+exec_app = run_app (codes "exec") (codes "SRC")
 
 -- how many words are issued at most
 abbrev pub budget_of : Option (List ℕ) → Option ℕ
 budget_of None = Some 1000000000
 budget_of (Some text) = if is_unsigned_in 1 1000000000000 text then Some (digits_value 10 (without_leading_plus text)) else None
 
-abbrev pub sim_within : List Row → ℕ → Command
-sim_within rows budget = Simulate (record {
-  words = unwrap_or (first_of (codes "WORDS") rows) [];
-  machine = first_of (codes "machine") rows;
-  input = first_of (codes "input") rows;
-  budget = budget;
-  timing = unwrap_or (first_of (codes "timing") rows) (codes "late");
-  probe = first_of (codes "probe") rows;
-})
+-- how a command is made of what was found: its file, the other files, the number of words, the names of the boxes
+abbrev pub Makes : Type 0
+Makes = (file : List ℕ) (machine input : Option (List ℕ)) (budget : ℕ) (timing : List ℕ) (probe : Option (List ℕ)) → Command
 
-abbrev pub sim_unless : Kinds → List Row → Option Command
-sim_unless [] rows = option_map (sim_within rows) (budget_of (first_of (codes "words") rows))
-sim_unless (kind ∷ kinds) rows = None
+abbrev pub simulates : Makes
+simulates file machine input budget timing probe = Simulate (record { words = file; machine = machine; input = input; budget = budget; timing = timing; probe = probe })
+
+abbrev pub executes : Makes
+executes file machine input budget timing probe = Execute (record { source = file; machine = machine; input = input; budget = budget; timing = timing; probe = probe })
+
+abbrev pub run_within : Makes → (file : List ℕ) → List Row → ℕ → Command
+run_within makes file rows budget =
+    makes (unwrap_or (first_of file rows) []) (first_of (codes "machine") rows) (first_of (codes "input") rows) budget
+    (unwrap_or (first_of (codes "timing") rows) (codes "late")) (first_of (codes "probe") rows)
+
+abbrev pub run_unless : Makes → (file : List ℕ) → Kinds → List Row → Option Command
+run_unless makes file [] rows = option_map (run_within makes file rows) (budget_of (first_of (codes "words") rows))
+run_unless makes file (kind ∷ kinds) rows = None
+
+-- what the words of a run ask for, the program's name first; nothing where clap refuses them
+abbrev pub run_of : Makes → App → (file : List ℕ) → (words : List (List ℕ)) → Option Command
+run_of makes app file words = run_unless makes file (fault_of app words) (matches_of app words)
 
 -- what the words of `sim` ask for
 unfoldable pub sim_of : List (List ℕ) → Option Command
-sim_of words = sim_unless (fault_of sim_app words) (matches_of sim_app words)
+sim_of words = run_of simulates sim_app (codes "WORDS") words
+
+-- what the words of `exec` ask for
+unfoldable pub exec_of : List (List ℕ) → Option Command
+exec_of words = run_of executes exec_app (codes "SRC") words
 
 abbrev pub command_named : List ℕ → List (List ℕ) → Option Command
-command_named name words = if bytes_eq name (codes "compile") then compile_of words else if bytes_eq name (codes "sim") then sim_of words else None
+command_named name words =
+    if bytes_eq name (codes "compile") then compile_of words
+    else if bytes_eq name (codes "sim") then sim_of words
+    else if bytes_eq name (codes "exec") then exec_of words
+    else None
 
 abbrev pub command_of : List (List ℕ) → Option Command
 command_of (program ∷ name ∷ words) = command_named name (program ∷ words)

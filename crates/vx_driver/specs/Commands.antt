@@ -1,24 +1,28 @@
 -- What each answer of the top call says, command by command.
-use Rattle.std.specs.Prelude.{◌≡◌, ◌⊎◌, Bool, true, false, Option, Some, None, IfSome}
+use Rattle.std.specs.Prelude.{◌≡◌, ◌⊎◌, Bool, false, Option, Some, None, IfSome}
 use Rattle.vx_driver.specs.declared.status.Status.{Status}
 use Rattle.vx_driver.specs.declared.status.Status.TheVariants.{Usage, NoMemory}
-use Rattle.vx_driver.specs.Command.{Command, Compile, Simulate}
+use Rattle.vx_driver.specs.Command.{Command, Compile, Simulate, Execute}
 use Rattle.vx_driver.specs.Boxes.{Boxes}
 use Rattle.vx_driver.specs.Answers.{Effect, SameFiles, ReadsRose, ReplacesRose, CompileAnswers, CompileEnds}
 use Rattle.vx_driver.specs.Simulated.{Streams, SimAnswers, SimCompletes, is_of_run}
+use Rattle.vx_driver.specs.Executed.{ExecAnswers, ExecCompletes}
 
 -- words that are no command are answered Usage, unless memory is wanted
 abbrev pub Answers : Option Command → Boxes → Effect → Streams → Status → Type 0
 Answers None boxes e s status = ((status ≡ Usage) ⊎ (status ≡ NoMemory)) × SameFiles e
 Answers (Some (Compile source out machine)) boxes e s status = CompileAnswers source out machine e status
 Answers (Some (Simulate asked)) boxes e s status = SimAnswers asked boxes e s status
+Answers (Some (Execute asked)) boxes e s status = ExecAnswers asked boxes e s status
 
 abbrev pub Completes : Option Command → Boxes → Effect → Streams → Status → Type 0
 Completes None boxes e s status = Unit {0}
 Completes (Some (Compile source out machine)) boxes e s status = (ReadsRose e → ⊥) → (ReplacesRose e → ⊥) → IfSome e.before (λ held. CompileEnds source machine held status)
 Completes (Some (Simulate asked)) boxes e s status = SimCompletes asked boxes e s status
+Completes (Some (Execute asked)) boxes e s status = ExecCompletes asked boxes e s status
 
 -- nothing is put on the output but by a run
 abbrev pub puts_output : Option Command → Status → Bool
 puts_output (Some (Simulate asked)) status = is_of_run status
+puts_output (Some (Execute asked)) status = is_of_run status
 puts_output command status = false

@@ -1,6 +1,6 @@
 -- How a run of the simulator ends, as a status and as lines.
-use Rattle.std.specs.Prelude.{◌≡◌, ◌<◌, ◌⊎◌, ℕ, ◌+◌, ◌++◌, true, false, List, length, map, Option}
-use Rattle.vx_base.specs.Outcome.{Begins, output_of}
+use Rattle.std.specs.Prelude.{◌≡◌, ◌<◌, ◌⊎◌, ℕ, ◌+◌, ◌++◌, Bool, true, false, List, [], length, map, is_some, Option, IfSome}
+use Rattle.vx_base.specs.Outcome.{Outcome, Ends, Traps, Goes, Stuck as StuckWith, Wrong, Begins, output_of}
 use Rattle.vx_base.specs.Outside.{Rose, with_bytes}
 use Rattle.vx_probe.specs.Times.{Times}
 use Rattle.vx_probe.specs.Watch.{Watch, shown_all}
@@ -8,10 +8,14 @@ use Rattle.vx_sim.specs.Ran.{is_fault, outcome_of}
 use Rattle.vx_sim.specs.declared.ended.Ended.{Ended}
 use Rattle.vx_sim.specs.declared.ended.Ended.TheVariants.{Halted, Trapped as TrappedBy, Stopped as StoppedAt, Stuck as StuckAt, SinkFault}
 use Rattle.vx_driver.specs.declared.status.Status.{Status}
-use Rattle.vx_driver.specs.declared.status.Status.TheVariants.{Done, Trapped, Usage, Source, Limit, Words, Machine, NoFile, ReadFault, WriteFault, Stopped, Input, Stuck, NoMemory}
+use Rattle.vx_driver.specs.declared.status.Status.TheVariants.{Done, Trapped, WriteFault, Stopped, Stuck, NoMemory}
 use Rattle.vx_driver.specs.declared.loaded.LoadedFiles.{LoadedFiles}
 use Rattle.vx_driver.specs.Status.{Appends}
-use Rattle.vx_driver.specs.Simulated.{Loaded, with_input, outcome_within, events_within, EndsWith, result_line, Streams, ErrRose, OutputCut, IsEnd, IsStatusOf, Shows, reports_of}
+use Rattle.vx_driver.specs.Command.{Execution}
+use Rattle.vx_driver.specs.Answers.{Effect, SourceAnswers, StopsAtMachine, NoMachine, Is, machine_found}
+use Rattle.vx_driver.specs.Simulated.{Loaded, with_input, outcome_within, events_within, EndsWith, result_line, Streams, ErrRose, OutputCut, IsEnd, IsStatusOf, reports_of}
+use Rattle.vx_driver.specs.Executed.{issued_line, InputAnswers, StopsAtInput}
+use Rattle.vx_isa.specs.Numbers.{Numbers}
 
 -- what was read, as a definition has it
 abbrev pub loaded_of : LoadedFiles → Loaded
@@ -32,13 +36,35 @@ ShowsLine StoppedAt before after = Appends before after
 ShowsLine (StuckAt reason place) before after = Appends before after
 ShowsLine SinkFault before after = Appends before after
 
--- what the lines of an end put: the result and the reports, else a line and the reports
-abbrev pub ShowsEnd : Ended → (reports : List ℕ) → (before after : Option (List ℕ)) → Type 0
-ShowsEnd (Halted z) reports before after = after ≡ with_bytes before (result_line z ++ reports)
-ShowsEnd (TrappedBy trap) reports before after = EndsWith before after reports
-ShowsEnd StoppedAt reports before after = EndsWith before after reports
-ShowsEnd (StuckAt reason place) reports before after = EndsWith before after reports
-ShowsEnd SinkFault reports before after = EndsWith before after reports
+-- the line of the words that a run issued, where a command tells it
+abbrev pub told_line : Bool → ℕ → List ℕ
+told_line true issued = issued_line issued
+told_line false issued = []
+
+-- the line of the words behind that of an end: of a trap it may be lost where a put fails
+abbrev pub ShowsIssued : Ended → (line : List ℕ) → (before after : Option (List ℕ)) → (faults faults' : ℕ) → Type 0
+ShowsIssued (Halted z) line before after faults faults' = after ≡ with_bytes before line
+ShowsIssued (TrappedBy trap) line before after faults faults' = Appends before after × ((Rose faults faults' → ⊥) → after ≡ with_bytes before line)
+ShowsIssued StoppedAt line before after faults faults' = Appends before after
+ShowsIssued (StuckAt reason place) line before after faults faults' = Appends before after
+ShowsIssued SinkFault line before after faults faults' = Appends before after
+
+-- what the lines of an end put: the result, the words and the reports; of a trap a line, the words and the reports, and
+-- where a put failed perhaps not the words; else a line and the reports
+abbrev pub ShowsEnd : Ended → (line reports : List ℕ) → (before after : Option (List ℕ)) → (faults faults' : ℕ) → Type 0
+ShowsEnd (Halted z) line reports before after faults faults' = after ≡ with_bytes before (result_line z ++ line ++ reports)
+ShowsEnd (TrappedBy trap) line reports before after faults faults' = EndsWith before after reports × ((Rose faults faults' → ⊥) → EndsWith before after (line ++ reports))
+ShowsEnd StoppedAt line reports before after faults faults' = EndsWith before after reports
+ShowsEnd (StuckAt reason place) line reports before after faults faults' = EndsWith before after reports
+ShowsEnd SinkFault line reports before after faults faults' = EndsWith before after reports
+
+-- the same of an outcome
+abbrev pub ShowsOf : Outcome → (line reports : List ℕ) → Streams → Type 0
+ShowsOf (Ends z out) line reports s = s.err_after ≡ with_bytes s.err_before (result_line z ++ line ++ reports)
+ShowsOf (Traps k out) line reports s = EndsWith s.err_before s.err_after reports × ((ErrRose s → ⊥) → EndsWith s.err_before s.err_after (line ++ reports))
+ShowsOf (Goes out) line reports s = EndsWith s.err_before s.err_after reports
+ShowsOf (StuckWith why p out) line reports s = EndsWith s.err_before s.err_after reports
+ShowsOf (Wrong out) line reports s = ⊥
 
 abbrev pub IsHalted : Ended → Type 0
 IsHalted (Halted z) = Unit {0}
@@ -63,9 +89,9 @@ pub record RunOf (x : Loaded) (times : Times) (budget : ℕ) (watches watches' :
   pub partly : is_fault ended ≡ true → RanPartly x times budget told told'
 
 -- the lines of an end are put, or the result or a report is not
-abbrev pub Finishes : Ended → (reports : List ℕ) → (probes : ℕ) → (before after : Option (List ℕ)) → (faults faults' : ℕ) → Status → Type 0
-Finishes ended reports probes before after faults faults' status =
-    ((status ≡ status_as ended) × ShowsEnd ended reports before after)
+abbrev pub Finishes : Ended → (line reports : List ℕ) → (probes : ℕ) → (before after : Option (List ℕ)) → (faults faults' : ℕ) → Status → Type 0
+Finishes ended line reports probes before after faults faults' status =
+    ((status ≡ status_as ended) × ShowsEnd ended line reports before after faults faults')
     ⊎ ((status ≡ WriteFault) × Rose faults faults' × (IsHalted ended ⊎ (0 < probes)))
 
 -- the output is put, whole, and the result or a report is not
@@ -74,14 +100,29 @@ pub record UnputLines (x : Loaded) (times : Times) (budget : ℕ) (watches : Lis
   pub wanted : IsEnd (outcome_within x times budget) ⊎ (0 < length watches)
   pub put : s.out_after ≡ with_bytes s.out_before (output_of (outcome_within x times budget))
 
--- the output is put, whole, and the lines
-pub record IsRunOf (x : Loaded) (times : Times) (budget : ℕ) (watches : List Watch) (s : Streams) (status : Status) : Type 0 where
+-- the output is put, whole, and the lines, where the command tells the words that were issued or not
+pub record IsRunOf (x : Loaded) (times : Times) (budget : ℕ) (tells : Bool) (watches : List Watch) (s : Streams) (status : Status) : Type 0 where
   pub status_is : IsStatusOf (outcome_within x times budget) status
   pub put : s.out_after ≡ with_bytes s.out_before (output_of (outcome_within x times budget))
-  pub shown : Shows (outcome_within x times budget) (reports_of watches (events_within x times budget)) s.err_before s.err_after
+  pub shown : ShowsOf (outcome_within x times budget) (told_line tells (length (events_within x times budget))) (reports_of watches (events_within x times budget)) s
 
 -- the run of what was read, with its lines
-abbrev pub LoadedAnswers : Loaded → Times → (budget : ℕ) → List Watch → Streams → Status → Type 0
-LoadedAnswers x times budget watches s NoMemory = Unit {0}
-LoadedAnswers x times budget watches s WriteFault = OutputCut x times budget s ⊎ UnputLines x times budget watches s
-LoadedAnswers x times budget watches s status = IsRunOf x times budget watches s status
+abbrev pub LoadedAnswers : Loaded → Times → (budget : ℕ) → Bool → List Watch → Streams → Status → Type 0
+LoadedAnswers x times budget tells watches s NoMemory = Unit {0}
+LoadedAnswers x times budget tells watches s WriteFault = OutputCut x times budget s ⊎ UnputLines x times budget watches s
+LoadedAnswers x times budget tells watches s status = IsRunOf x times budget tells watches s status
+
+-- no input stands, and the status says why
+pub record NoInput (machine input : Option (List ℕ)) (e : Effect) (status : Status) : Type 0 where
+  pub named : is_some input ≡ true
+  pub numbers : Numbers
+  pub machine_is : IfSome e.before (λ held. machine_found held machine ≡ Is numbers)
+  pub answers : InputAnswers input e status
+
+-- a step behind the reading of the source stops an execution
+abbrev pub LaterStops : (machine input : Option (List ℕ)) → Effect → Status → Type 0
+LaterStops machine input e status = (status ≡ NoMemory) ⊎ NoMachine machine e status ⊎ NoInput machine input e status
+
+-- a step before the run stops an execution
+abbrev pub StopsBefore : Execution → Effect → Status → Type 0
+StopsBefore asked e status = (status ≡ NoMemory) ⊎ SourceAnswers asked.source e status ⊎ StopsAtMachine asked.source asked.machine e status ⊎ StopsAtInput asked e status

@@ -1,13 +1,8 @@
 -- Laws of sources, each the clause of a public function.
-use Rattle.std.specs.Prelude.{◌≡◌, ◌≤◌, ℕ, List, length}
+use Rattle.std.specs.Prelude.{◌≡◌, ℕ, List}
 use Rattle.vx_ast.specs.declared.fault.SourceFault.{SourceFault}
 use Rattle.vx_ast.specs.Tree.{Program}
-use Rattle.vx_ast.specs.Small.{ReadsSmall}
-use Rattle.vx_ast.specs.Reads.{most_bytes, Reads, Refusal}
-
--- a source of the small form is a source of the whole language, with the same program
-abbrev pub SmallIsRead : Type 0
-SmallIsRead = (bytes : List ℕ) (program : Program) → length bytes ≤ most_bytes → ReadsSmall bytes program → Reads bytes program
+use Rattle.vx_ast.specs.Reads.{Reads, Refusal}
 
 -- a source has one program
 abbrev pub OneProgram : Type 0

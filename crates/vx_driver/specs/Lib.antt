@@ -1,6 +1,6 @@
 pub mod Faithful
 pub mod Compiled
-pub mod Straight
+pub mod Stages
 pub mod Status
 pub mod Command
 pub mod Asked
@@ -8,6 +8,7 @@ pub mod InputText
 pub mod Boxes
 pub mod Answers
 pub mod Simulated
+pub mod Executed
 pub mod Ending
 pub mod Commands
 pub mod Laws

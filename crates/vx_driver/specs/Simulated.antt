@@ -207,16 +207,16 @@ abbrev pub IsEnd : Outcome → Type 0
 IsEnd (Ends z out) = Unit {0}
 IsEnd other = ⊥
 
--- the output is put, whole, and the result or a report is not
-pub record LinesCut (x : Loaded) (times : Times) (asked : Simulation) (s : Streams) : Type 0 where
+-- the output is put, whole, and the result, a line behind it or a report is not
+pub record LinesCut (x : Loaded) (times : Times) (budget : ℕ) (probe : Option (List ℕ)) (s : Streams) : Type 0 where
   pub rose : ErrRose s
-  pub wanted : IsEnd (outcome_within x times asked.budget) ⊎ (is_some asked.probe ≡ true)
-  pub put : s.out_after ≡ with_bytes s.out_before (output_of (outcome_within x times asked.budget))
+  pub wanted : IsEnd (outcome_within x times budget) ⊎ (is_some probe ≡ true)
+  pub put : s.out_after ≡ with_bytes s.out_before (output_of (outcome_within x times budget))
 
 pub record RunCut (asked : Simulation) (boxes : Chosen) (e : Effect) (s : Streams) : Type 0 where
   pub loaded : Loaded
   pub loads : IfSome e.before (λ held. Loads held asked loaded)
-  pub cut : OutputCut loaded boxes.times asked.budget s ⊎ LinesCut loaded boxes.times asked s
+  pub cut : OutputCut loaded boxes.times asked.budget s ⊎ LinesCut loaded boxes.times asked.budget asked.probe s
 
 -- a run was begun
 abbrev pub is_of_run : Status → Bool
@@ -237,13 +237,13 @@ RunAnswers asked boxes e s (Stuck reason place) = RunEnds asked boxes e s (Stuck
 RunAnswers asked boxes e s status = Stops (is_named asked.machine asked.input) (λ held. loading held asked.words asked.machine asked.input) e status
 
 -- a box that is not there is answered Usage, unless memory is wanted
-abbrev pub BoxAnswers : Simulation → Option Chosen → Effect → Streams → Status → Type 0
-BoxAnswers asked None e s status = (status ≡ Usage) ⊎ (status ≡ NoMemory)
-BoxAnswers asked (Some boxes) e s status = RunAnswers asked boxes e s status
+abbrev pub BoxAnswers : (Chosen → Type 0) → Option Chosen → Status → Type 0
+BoxAnswers answers None status = (status ≡ Usage) ⊎ (status ≡ NoMemory)
+BoxAnswers answers (Some boxes) status = answers boxes
 
 -- no file ever changes
 abbrev pub SimAnswers : Simulation → Boxes → Effect → Streams → Status → Type 0
-SimAnswers asked boxes e s status = SameFiles e × BoxAnswers asked (chosen asked.timing asked.probe boxes) e s status
+SimAnswers asked boxes e s status = SameFiles e × BoxAnswers (λ these. RunAnswers asked these e s status) (chosen asked.timing asked.probe boxes) status
 
 -- where nothing fails: the status of the step that stops the command, or of the outcome; want of memory is the one
 -- free answer
@@ -252,11 +252,10 @@ abbrev pub Due : Simulation → Times → Result Loaded Status → Status → Ty
 Due asked times (Err why) status = status ≡ why
 Due asked times (Ok x) status = IsStatusOf (outcome_within x times asked.budget) status
 
-abbrev pub RunCompletes : Simulation → Option Chosen → Effect → Status → Type 0
-RunCompletes asked None e status = (status ≡ Usage) ⊎ (status ≡ NoMemory)
-RunCompletes asked (Some boxes) e status =
+abbrev pub RunCompletes : Simulation → Effect → Status → Chosen → Type 0
+RunCompletes asked e status boxes =
     IfSome e.before (λ held. Due asked boxes.times (loading held asked.words asked.machine asked.input) status ⊎ (status ≡ NoMemory))
 
 abbrev pub SimCompletes : Simulation → Boxes → Effect → Streams → Status → Type 0
 SimCompletes asked boxes e s status =
-    (ReadsRose e → ⊥) → (OutRose s → ⊥) → (ErrRose s → ⊥) → RunCompletes asked (chosen asked.timing asked.probe boxes) e status
+    (ReadsRose e → ⊥) → (OutRose s → ⊥) → (ErrRose s → ⊥) → BoxAnswers (RunCompletes asked e status) (chosen asked.timing asked.probe boxes) status

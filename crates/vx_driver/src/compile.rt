@@ -1,17 +1,15 @@
 // The command `compile SRC OUT`.
 
-ghost use Rattle.std.specs.Prelude.{◌≡◌, ◌≤◌, ◌⊎◌, ◌∷◌, ℕ, List, Option, Some, Ok, true, length, is_some, option_map, IfOk, IfErr, IfSome};
-ghost use Rattle.std.specs.List.{list_all};
-ghost use Rattle.vx_ast.specs.Small.{program_of_main, is_sum};
-ghost use Rattle.vx_driver.specs.Straight.{MainFits};
+ghost use Rattle.std.specs.Prelude.{◌≡◌, ◌≤◌, ◌⊎◌, ℕ, List, Option, Some, Ok, true, length, is_some, option_map, IfOk, IfErr, IfSome};
+ghost use Rattle.vx_ast.specs.View as view;
 ghost use Rattle.vx_driver.specs.Answers.{effect_of, SourceAnswers, MachineAnswers, CompileAnswers, WriteAnswers, HoldsSource, HoldsProgram, TextOf, machine_found, Is, RefusesDescription, PutsText, ProgramAnswers};
 ghost use Rattle.vx_machine.specs.Descriptions.{reading};
 
-use crate::reading::main_of;
+use crate::reading::typed_of;
 use crate::status::Status;
-use crate::straight::small_code;
+use crate::words::words_of;
 use std::alloc::Global;
-use vx_ast::small::SmallMain;
+use vx_ast::typed::Typed;
 use vx_base::depot::{Depot, DepotFault};
 use vx_base::outcome::NoMemory;
 use vx_base::reading::{FileRead, read_file};
@@ -56,17 +54,19 @@ fn read_source<D: Depot>(alloc: Global, depot: &mut D, source: &str) -> Result<V
 }
 
 /// Reads the file of the source through.
-fn read_through<D: Depot>(alloc: Global, depot: &mut D, source: &str) -> Result<SmallMain, Status>
+pub(crate) fn read_through<D: Depot>(
+    alloc: Global,
+    depot: &mut D,
+    source: &str,
+) -> Result<Typed, Status>
     ensures same_files { D.files depot.new ≡ D.files depot.old }
-    ensures numbers { IfOk result (λ main. MainFits main) }
-    ensures sums { IfOk result (λ main. list_all is_sum (main.last ∷ main.items) ≡ true) }
-    ensures program { IfOk result (λ main. IfSome (D.files depot.old) (λ held. HoldsProgram held source.now (program_of_main main.items main.last))) }
+    ensures program { IfOk result (λ typed. IfSome (D.files depot.old) (λ held. HoldsProgram held source.now (view.program_of typed.program))) }
     ensures answers { IfErr result (SourceAnswers source.now (effect_of D.files D.failed_reads D.failed_replaces depot.old depot.new)) }
     ensures reads_never_fall { D.failed_reads depot.old ≤ D.failed_reads depot.new }
     ensures replaces_never_fall { D.failed_replaces depot.old ≤ D.failed_replaces depot.new }
 {
     match read_source(alloc, depot, source) {
-        Ok(bytes) => main_of(alloc, bytes.as_slice()),
+        Ok(bytes) => typed_of(alloc, bytes.as_slice()),
         Err(status) => Err(status),
     }
 }
@@ -119,14 +119,11 @@ pub(crate) fn machine_for<D: Depot>(
     }
 }
 
-/// The text of the words of a main for a machine.
-fn text_of_main(alloc: Global, main: &SmallMain, machine: &Machine) -> Result<Vec<u8>, NoMemory>
-    requires numbers { MainFits main.now }
-    requires sums { list_all is_sum (main.now.last ∷ main.now.items) ≡ true }
-    ensures { IfOk result (λ text. TextOf (program_of_main main.now.items main.now.last) machine.now text.items) }
+/// The text of the words of a program for a machine.
+fn text_of(alloc: Global, program: &Typed, machine: &Machine) -> Result<Vec<u8>, NoMemory>
+    ensures { IfOk result (λ text. TextOf (view.program_of program.now.program) machine.now text.items) }
 {
-    machine.keeps_ranges();
-    let words = small_code(alloc, main, machine.latency_alu())?;
+    let words = words_of(alloc, program, machine)?;
     write(alloc, &words)
 }
 
@@ -144,42 +141,38 @@ fn write_text<D: Depot>(depot: &mut D, out: &str, text: &[u8]) -> Status
     }
 }
 
-/// Writes the words of a main that was read from the source's file for a machine that the command asks for.
-fn compile_main<D: Depot>(
+/// Writes the words of a program that was read from the source's file for a machine that the command asks for.
+fn compile_for<D: Depot>(
     alloc: Global,
     depot: &mut D,
-    main: &SmallMain,
+    program: &Typed,
     machine: &Machine,
     out: &str,
 ) -> Status
-    requires numbers { MainFits main.now }
-    requires sums { list_all is_sum (main.now.last ∷ main.now.items) ≡ true }
-    ensures answers { ((result ≡ Status.NoMemory) × (D.files depot.new ≡ D.files depot.old)) ⊎ PutsText (program_of_main main.now.items main.now.last) machine.now out.now (effect_of D.files D.failed_reads D.failed_replaces depot.old depot.new) result }
+    ensures answers { ((result ≡ Status.NoMemory) × (D.files depot.new ≡ D.files depot.old)) ⊎ PutsText (view.program_of program.now.program) machine.now out.now (effect_of D.files D.failed_reads D.failed_replaces depot.old depot.new) result }
     ensures reads_never_fall { D.failed_reads depot.old ≤ D.failed_reads depot.new }
     ensures replaces_never_fall { D.failed_replaces depot.old ≤ D.failed_replaces depot.new }
 {
-    match text_of_main(alloc, main, machine) {
+    match text_of(alloc, program, machine) {
         Ok(text) => write_text(depot, out, text.as_slice()),
         Err(_) => Status::NoMemory,
     }
 }
 
-/// Writes the words of a main that was read from the source's file, for the machine of the command.
+/// Writes the words of a program that was read from the source's file, for the machine of the command.
 fn compile_read<D: Depot>(
     alloc: Global,
     depot: &mut D,
-    main: &SmallMain,
+    program: &Typed,
     out: &str,
     machine: Option<&str>,
 ) -> Status
-    requires numbers { MainFits main.now }
-    requires sums { list_all is_sum (main.now.last ∷ main.now.items) ≡ true }
-    ensures answers { ProgramAnswers (program_of_main main.now.items main.now.last) out.now (option_map (λ s. s.now) machine.entry) (effect_of D.files D.failed_reads D.failed_replaces depot.old depot.new) result }
+    ensures answers { ProgramAnswers (view.program_of program.now.program) out.now (option_map (λ s. s.now) machine.entry) (effect_of D.files D.failed_reads D.failed_replaces depot.old depot.new) result }
     ensures reads_never_fall { D.failed_reads depot.old ≤ D.failed_reads depot.new }
     ensures replaces_never_fall { D.failed_replaces depot.old ≤ D.failed_replaces depot.new }
 {
     match machine_for(alloc, depot, machine) {
-        Ok(asked) => compile_main(alloc, depot, main, &asked, out),
+        Ok(asked) => compile_for(alloc, depot, program, &asked, out),
         Err(status) => status,
     }
 }
@@ -197,7 +190,7 @@ pub(crate) fn compile<D: Depot>(
     ensures replaces_never_fall { D.failed_replaces depot.old ≤ D.failed_replaces depot.new }
 {
     match read_through(alloc, depot, source) {
-        Ok(main) => compile_read(alloc, depot, &main, out, machine),
+        Ok(program) => compile_read(alloc, depot, &program, out, machine),
         Err(status) => status,
     }
 }

@@ -4,18 +4,26 @@
 mod boxes;
 mod command;
 mod compile;
+mod exec;
 mod input;
 pub mod laws;
 mod loaded;
+mod loading;
+mod ranges;
 mod reading;
+mod run_words;
+mod running;
 mod sim;
-mod sim_words;
 pub mod status;
-mod straight;
 pub mod top;
+mod words;
 
 pub use top::vexc;
 
+#[cfg(test)]
+mod exec_tests;
+#[cfg(test)]
+mod run_tests;
 #[cfg(test)]
 mod sim_tests;
 #[cfg(test)]

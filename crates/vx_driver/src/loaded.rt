@@ -1,6 +1,7 @@
 // What was read for a run.
 
-ghost use Rattle.std.specs.Prelude.{◌≡◌, true};
+ghost use Rattle.std.specs.Prelude.{◌≡◌, true, All};
+ghost use Rattle.vx_base.specs.Arithmetic.{IsNumber};
 ghost use Rattle.vx_isa.specs.Sound.{is_sound};
 
 use vx_isa::program::WordProgram;
@@ -13,4 +14,5 @@ pub(crate) struct LoadedFiles {
     pub(crate) machine: Machine,
     pub(crate) input: Vec<i32>,
     ghost sound: { is_sound program ≡ true },
+    ghost numbers: { All IsNumber input.items },
 }

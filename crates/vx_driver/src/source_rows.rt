@@ -367,38 +367,17 @@ pub(crate) const SMALL_LIMITS: [(&str, &str); 9] = [
     ),
 ];
 
-/// Accepted sources of a form that has no words yet.
-pub(crate) const WITHOUT_WORDS: [(&str, &str); 11] = [
-    ("int main() { return 0; }", "source S14 at 1:1"),
-    ("int main(void) { return (1); }", "source S14 at 1:1"),
-    ("int main(void) { return 0x1; }", "source S14 at 1:1"),
-    ("// a\nint main(void) { return 0; }", "source S14 at 1:1"),
-    (
-        "#include <stdio.h>\nint main(void) { return 0; }",
-        "source S14 at 1:1",
-    ),
-    (
-        "int main(void) { int x; x = 1; return x; }",
-        "source S14 at 1:1",
-    ),
-    (
-        "int main(void) { return 1+1+1+1+1+1+1+1+1+1+1; }",
-        "source S14 at 1:1",
-    ),
-    (
-        "int f(int a, int b, int c, int d, int e, int f, int g, int h) { return 0; } int main(void) { return 0; }",
-        "source S14 at 1:1",
-    ),
-    (
-        "int main(void) { int a[8192]; return 0; }",
-        "source S14 at 1:1",
-    ),
-    (
-        "int a[262144]; int main(void) { return 0; }",
-        "source S14 at 1:1",
-    ),
-    (
-        "void f(void) { return; } int main(void) { f(); return 0; }",
-        "source S14 at 1:1",
-    ),
+/// Sources that are accepted, those at a limit among them.
+pub(crate) const ACCEPTED: [&str; 11] = [
+    "int main() { return 0; }",
+    "int main(void) { return (1); }",
+    "int main(void) { return 0x1; }",
+    "// a\nint main(void) { return 0; }",
+    "#include <stdio.h>\nint main(void) { return 0; }",
+    "int main(void) { int x; x = 1; return x; }",
+    "int main(void) { return 1+1+1+1+1+1+1+1+1+1+1; }",
+    "int f(int a, int b, int c, int d, int e, int f, int g, int h) { return 0; } int main(void) { return 0; }",
+    "int main(void) { int a[8192]; return 0; }",
+    "int a[262144]; int main(void) { return 0; }",
+    "void f(void) { return; } int main(void) { f(); return 0; }",
 ];

@@ -4,9 +4,8 @@ ghost use Rattle.std.specs.Prelude.{◌≡◌, IfOk};
 ghost use Rattle.vx_base.specs.Outside.{NamesDiffer, named_files};
 
 use crate::source_rows::{
-    BAD_BYTES, FIRST_OF_TOKENS, FIRST_OF_TWO, LARGE_NUMBERS, NOT_ENDED, OTHER_FAULTS,
-    REPEATED_NAMES, SMALL_LIMITS, UNEXPECTED_TOKENS, UNKNOWN_NAMES, WITHOUT_WORDS, WRONG_COUNTS,
-    WRONG_KINDS,
+    ACCEPTED, BAD_BYTES, FIRST_OF_TOKENS, FIRST_OF_TWO, LARGE_NUMBERS, NOT_ENDED, OTHER_FAULTS,
+    REPEATED_NAMES, SMALL_LIMITS, UNEXPECTED_TOKENS, UNKNOWN_NAMES, WRONG_COUNTS, WRONG_KINDS,
 };
 use crate::status::Status;
 use crate::top::vexc;
@@ -29,7 +28,8 @@ fn test_files(alloc: Global, source: &[u8]) -> Result<Vec<(String, Vec<u8>)>, Al
     Ok(files)
 }
 
-/// The status of a source, and what it puts on err; nothing where a file is written.
+/// The status of a source, and what it puts on err; Usage where a file is written and the status is not Done, or the other way
+/// round.
 fn answer(rt: &HostRuntime, source: &[u8]) -> Result<(Status, MemSink), Fail> {
     let alloc = rt.alloc();
     let files = test_files(alloc, source)?;
@@ -49,9 +49,11 @@ fn answer(rt: &HostRuntime, source: &[u8]) -> Result<(Status, MemSink), Fail> {
         Vec::new(alloc),
         Vec::new(alloc),
     );
-    match depot.file("a.vex") {
-        Some(_) => Ok((Status::Done, err)),
-        None => Ok((status, err)),
+    let written = depot.file("a.vex").is_some();
+    if written == (status == Status::Done) {
+        Ok((status, err))
+    } else {
+        Ok((Status::Usage, err))
     }
 }
 
@@ -72,6 +74,12 @@ fn is_answered(rt: &HostRuntime, source: &[u8], wanted: &str) -> Result<bool, Fa
         _ => false,
     };
     Ok(is_line && wanted.as_bytes().first() == Some(&letter(status)))
+}
+
+/// Whether a source is answered Done with no line, and its words are written.
+fn is_accepted(rt: &HostRuntime, source: &[u8]) -> Result<bool, Fail> {
+    let (status, err) = answer(rt, source)?;
+    Ok(status == Status::Done && err.bytes().is_empty())
 }
 
 /// The number of the first row whose source is not answered with its line; that of all rows where there is none.
@@ -120,8 +128,10 @@ fn limits_refused(rt: HostRuntime) -> Result<(), Fail> {
 }
 
 #[test]
-fn accepted_without_words(rt: HostRuntime) -> Result<(), Fail> {
-    assert_eq!(rt; first_wrong(&rt, &WITHOUT_WORDS)?, WITHOUT_WORDS.len());
+fn accepted(rt: HostRuntime) -> Result<(), Fail> {
+    for source in &ACCEPTED {
+        assert!(rt; is_accepted(&rt, source.as_bytes())?);
+    }
     Ok(())
 }
 
@@ -158,13 +168,13 @@ fn depths(rt: HostRuntime) -> Result<(), Fail> {
         assert!(rt; is_answered(&rt, source.as_slice(), "limit L2 at 201")?);
     }
     let source = nested(alloc, head, "(", "1", ")", 198, ";}")?;
-    assert!(rt; is_answered(&rt, source.as_slice(), "source S14 at 1:1")?);
+    assert!(rt; is_accepted(&rt, source.as_slice())?);
     let source = nested(alloc, head, "1+", "1", "", 199, ";}")?;
     assert!(rt; is_answered(&rt, source.as_slice(), "limit L2 at 201")?);
     let source = nested(alloc, "int main(void){", "{", "", "}", 200, "}")?;
     assert!(rt; is_answered(&rt, source.as_slice(), "limit L2 at 201")?);
     let source = nested(alloc, "int main(void){", "{", "return 0;", "}", 198, "}")?;
-    assert!(rt; is_answered(&rt, source.as_slice(), "source S14 at 1:1")?);
+    assert!(rt; is_accepted(&rt, source.as_slice())?);
     Ok(())
 }
 
@@ -190,7 +200,7 @@ fn nodes(rt: HostRuntime) -> Result<(), Fail> {
     let source = nested(alloc, "int main(void){", ";", "", "", 4000, "}")?;
     assert!(rt; is_answered(&rt, source.as_slice(), "limit L5 at 4001")?);
     let source = nested(alloc, "int main(void){", ";", "", "", 3999, "}")?;
-    assert!(rt; is_answered(&rt, source.as_slice(), "source S14 at 1:1")?);
+    assert!(rt; is_accepted(&rt, source.as_slice())?);
     Ok(())
 }
 
@@ -199,7 +209,7 @@ fn nodes(rt: HostRuntime) -> Result<(), Fail> {
 fn parentheses_are_no_nodes(rt: HostRuntime) -> Result<(), Fail> {
     let alloc = rt.alloc();
     let source = nested(alloc, "int main(void){;", "((1));", "", "", 1999, "}")?;
-    assert!(rt; is_answered(&rt, source.as_slice(), "source S14 at 1:1")?);
+    assert!(rt; is_accepted(&rt, source.as_slice())?);
     let source = nested(alloc, "int main(void){;;", "((1));", "", "", 1999, "}")?;
     assert!(rt; is_answered(&rt, source.as_slice(), "limit L5 at 4001")?);
     Ok(())
@@ -215,7 +225,7 @@ fn formats(rt: HostRuntime) -> Result<(), Fail> {
     let source = nested(alloc, head, "\\n", "", "", 4097, tail)?;
     assert!(rt; is_answered(&rt, source.as_slice(), "limit L8 at 4097")?);
     let source = nested(alloc, head, "\\n", "", "", 4096, tail)?;
-    assert!(rt; is_answered(&rt, source.as_slice(), "source S14 at 1:1")?);
+    assert!(rt; is_accepted(&rt, source.as_slice())?);
     Ok(())
 }
 
@@ -238,7 +248,7 @@ fn many_functions(rt: HostRuntime) -> Result<(), Fail> {
     let source = functions(alloc, 256)?;
     assert!(rt; is_answered(&rt, source.as_slice(), "limit L3 at 257")?);
     let source = functions(alloc, 255)?;
-    assert!(rt; is_answered(&rt, source.as_slice(), "source S14 at 1:1")?);
+    assert!(rt; is_accepted(&rt, source.as_slice())?);
     Ok(())
 }
 
@@ -259,7 +269,7 @@ fn long_sources(rt: HostRuntime) -> Result<(), Fail> {
 fn bytes_past_ascii(rt: HostRuntime) -> Result<(), Fail> {
     assert!(rt; is_answered(&rt, b"int \xe9;", "source S1 at 1:5")?);
     let source = b"int main(void){printf(\"\xe9\");return 0;}//\xe9";
-    assert!(rt; is_answered(&rt, source, "source S14 at 1:1")?);
+    assert!(rt; is_accepted(&rt, source)?);
     Ok(())
 }
 
@@ -302,25 +312,19 @@ const MATRIX: &str = "\
 fn refused_fronts(rt: &HostRuntime, source: &[u8]) -> Result<usize, Fail> {
     for count in 0..source.len() {
         let (status, _) = answer(rt, &source[..count])?;
-        if letter(status) != b's' || status == NO_WORDS {
+        if letter(status) != b's' {
             return Ok(count);
         }
     }
     Ok(source.len())
 }
 
-const NO_WORDS: Status = Status::Source {
-    code: 14,
-    line: 1,
-    column: 1,
-};
-
 // Only with its last brace is the source whole.
 #[test]
 fn fronts_of_a_source(rt: HostRuntime) -> Result<(), Fail> {
     let source = MATRIX.trim_end().as_bytes();
     assert_eq!(rt; source.last(), Some(&b'}'));
-    assert!(rt; is_answered(&rt, source, "source S14 at 1:1")?);
+    assert!(rt; is_accepted(&rt, source)?);
     assert_eq!(rt; refused_fronts(&rt, source)?, source.len());
     Ok(())
 }

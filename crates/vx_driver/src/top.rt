@@ -2,7 +2,7 @@
 
 ghost use Rattle.std.specs.Prelude.{◌≡◌, ◌≤◌, ◌∷◌, false, map, string_bytes, IfOk};
 ghost use Rattle.vx_driver.specs.Status.{Appends, Adds};
-ghost use Rattle.vx_driver.specs.Command.{command_of, command_named, compile_of, sim_of};
+ghost use Rattle.vx_driver.specs.Command.{command_of, command_named, compile_of, sim_of, exec_of};
 ghost use Rattle.vx_driver.specs.Answers.{effect_of};
 ghost use Rattle.vx_driver.specs.Simulated.{Streams, streams_of};
 ghost use Rattle.vx_driver.specs.Boxes.{Boxes};
@@ -10,8 +10,9 @@ ghost use Rattle.vx_driver.specs.Commands.{Answers, Completes, puts_output};
 
 use crate::command::{asked_of, refuse};
 use crate::compile::compile;
+use crate::exec::execute_with;
+use crate::run_words::{exec_asked, sim_asked};
 use crate::sim::simulate_with;
-use crate::sim_words::sim_asked;
 use crate::status::{Status, tell};
 use std::alloc::{AllocError, Global};
 use vx_base::depot::Depot;
@@ -77,6 +78,28 @@ fn perform_sim<D: Depot, K: Sink, E: Sink>(
     }
 }
 
+/// Does what the words of `exec` ask for, the program's name first, and puts its output and its lines.
+fn perform_exec<D: Depot, K: Sink, E: Sink>(
+    alloc: Global,
+    words: &[&str],
+    depot: &mut D,
+    out: &mut K,
+    err: &mut E,
+    probes: Vec<Box<dyn Probe>>,
+    timings: Vec<Box<dyn Timing>>,
+) -> Status
+    ensures answers { Answers (exec_of (map (λ w. w.now) words.now)) (record { probes = map (λ b. record { name = (⟦<dyn Probe as Probe>⟧ b.vtable).called b.value; watch = watch b }) probes.items; timings = map (λ b. record { name = (⟦<dyn Timing as Timing>⟧ b.vtable).called b.value; times = times b }) timings.items }) (effect_of D.files D.failed_reads D.failed_replaces depot.old depot.new) (streams_of K.told K.faults E.told E.faults out.old out.new err.old err.new) result }
+    ensures adds { Adds (E.told err.old) (E.told err.new) (E.faults err.old) (E.faults err.new) }
+    ensures nothing { puts_output (exec_of (map (λ w. w.now) words.now)) result ≡ false → K.told out.new ≡ K.told out.old }
+    ensures reads_never_fall { D.failed_reads depot.old ≤ D.failed_reads depot.new }
+    ensures replaces_never_fall { D.failed_replaces depot.old ≤ D.failed_replaces depot.new }
+{
+    match exec_asked(alloc, words) {
+        Ok(asked) => execute_with(alloc, depot, out, err, &asked, probes, timings),
+        Err(refused) => refuse(err, &refused),
+    }
+}
+
 /// Does what a command's words ask for, the program's name first.
 fn perform_named<D: Depot, K: Sink, E: Sink>(
     alloc: Global,
@@ -98,6 +121,8 @@ fn perform_named<D: Depot, K: Sink, E: Sink>(
         perform_compile(alloc, words, depot, err)
     } else if name == "sim" {
         perform_sim(alloc, words, depot, out, err, probes, timings)
+    } else if name == "exec" {
+        perform_exec(alloc, words, depot, out, err, probes, timings)
     } else {
         tell(err, Status::Usage)
     }

@@ -13,13 +13,6 @@ use vx_base::sink::MemSink;
 
 const FIVE: &str = "int main(void) { printf(\"%d\\n\", 2 + 3); return 0; }";
 
-const WORDS: &str =
-    ".vexwords 1\n.memory 0\n.text \"\\x0a\"\nc0 mov $r0.3 = 2\n;;\nc0 add $r0.3 = $r0.3, 3\n;;\nc0 outd $r0.3\n;;\nc0 outs T0\n;;\nc0 mov $r0.3 = 0\n;;\nc0 halt $r0.3\n;;\n.end\n";
-
-/// The same words on a machine whose simple operations take three cycles: two empty words behind each result.
-const SLOW_WORDS: &str =
-    ".vexwords 1\n.memory 0\n.text \"\\x0a\"\nc0 mov $r0.3 = 2\n;;\n;;\n;;\nc0 add $r0.3 = $r0.3, 3\n;;\n;;\n;;\nc0 outd $r0.3\n;;\nc0 outs T0\n;;\nc0 mov $r0.3 = 0\n;;\n;;\n;;\nc0 halt $r0.3\n;;\n.end\n";
-
 const PLAIN: [&str; 4] = ["vexc", "compile", "five.c", "five.vex"];
 
 const MACHINE: [&str; 6] = [
@@ -97,23 +90,6 @@ fn call(
         None => Vec::new(alloc),
     };
     Ok((status, text, err))
-}
-
-#[test]
-fn words_of_two_and_three(rt: HostRuntime) -> Result<(), Fail> {
-    let alloc = rt.alloc();
-    let (status, text, err) = call(&rt, FIVE.as_bytes(), b"", &PLAIN, 0)?;
-    assert!(rt; status == Status::Done);
-    assert!(rt; text.as_slice() == WORDS.as_bytes());
-    assert!(rt; err.bytes().is_empty());
-    for (alu, wanted) in [("1", WORDS), ("3", SLOW_WORDS)] {
-        let machine = description(alloc, "4", alu)?;
-        let (status, text, err) = call(&rt, FIVE.as_bytes(), machine.as_bytes(), &MACHINE, 0)?;
-        assert!(rt; status == Status::Done);
-        assert!(rt; text.as_slice() == wanted.as_bytes());
-        assert!(rt; err.bytes().is_empty());
-    }
-    Ok(())
 }
 
 #[test]

@@ -1,6 +1,6 @@
 -- The source was read through before all else, and that changed no file.
 use Rattle.std.proofs.Common.{refl, sym}
-use Rattle.vx_ast.specs.Small.{program_of_main}
+use Rattle.vx_ast.specs.View.{program_of}
 use Rattle.vx_driver.specs.Answers.{effect_of}
 use Rattle.vx_driver.proofs.Answering.{compiled_answers, stops_at_source}
 use Rattle.vx_driver.proofs.compile.compile.Goals as goal
@@ -8,8 +8,7 @@ use Rattle.vx_driver.proofs.compile.compile.Goals as goal
 pub returns-in-Ok-clause-answers : goal.returns-in-Ok-clause-answers
 returns-in-Ok-clause-answers g c =
     let depot = g.D.Depot in
-    let main = c.in-Ok.main in
-    compiled_answers c.args.source.now c.args.out.now _ (program_of_main main.items main.last)
+    compiled_answers c.args.source.now c.args.out.now _ (program_of c.in-Ok.program.program)
     (effect_of depot.files depot.failed_reads depot.failed_replaces c.read_through.new.depot c.compile_read.new.depot)
     (effect_of depot.files depot.failed_reads depot.failed_replaces c.args.depot.now c.compile_read.new.depot)
     c.compile_read.result

@@ -1,5 +1,5 @@
 -- The words were read before all else, and reading them changed no file.
-use Rattle.std.proofs.Common.{◌≡◌, Ok, IfSome, refl, sym, subst, Some, None, option_map}
+use Rattle.std.proofs.Common.{IfSome, refl, sym, subst}
 use Rattle.std.proofs.lemmas.Result.{IfErr-weaker, IfOk-weaker}
 use Rattle.vx_words.specs.Text.{Spells}
 use Rattle.vx_driver.specs.Answers.{effect_of}

@@ -1,5 +1,5 @@
 -- The machine was read before the input, and reading it changed no file.
-use Rattle.std.proofs.Common.{◌≡◌, Ok, IfSome, refl, sym, Some, None, option_map}
+use Rattle.std.proofs.Common.{refl, sym, option_map}
 use Rattle.std.proofs.lemmas.Result.{IfErr-weaker, IfOk-weaker}
 use Rattle.vx_driver.specs.Answers.{effect_of}
 use Rattle.vx_driver.specs.Ending.{loaded_of}

@@ -1,5 +1,4 @@
 -- What was read is run, or the reading of the files stopped the command.
-use Rattle.std.proofs.Common.{map}
 use Rattle.vx_driver.specs.Answers.{effect_of}
 use Rattle.vx_driver.specs.Asked.{simulation_of}
 use Rattle.vx_driver.specs.Ending.{loaded_of}

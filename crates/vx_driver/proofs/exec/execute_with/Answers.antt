@@ -1,0 +1,14 @@
+-- The boxes are there, or they are not and the name is told.
+use Rattle.std.proofs.Common.{refl, map}
+use Rattle.vx_driver.specs.Asked.{execution_of}
+use Rattle.vx_driver.proofs.Runs.{exec_no_timing, exec_no_probes, exec_boxes_there}
+use Rattle.vx_driver.proofs.exec.execute_with.Goals as goal
+
+pub returns-in-None-clause-answers : goal.returns-in-None-clause-answers
+returns-in-None-clause-answers g c = exec_no_timing (execution_of c.args.asked.now) (record { probes = map (λ b. record { name = (goal.Probe-dyn g (b.vtable, b.value)).called b.value; watch = (goal.Probe-dyn g (b.vtable, b.value)).watch b.value }) c.args.probes.items; timings = map (λ b. record { name = (goal.Timing-dyn g (b.vtable, b.value)).called b.value; times = (goal.Timing-dyn g (b.vtable, b.value)).times b.value }) c.args.timings.items }) _ _ _ refl c.in-None.ensures c.no_box.ensures.usage
+
+pub returns-in-Ok-clause-answers : goal.returns-in-Ok-clause-answers
+returns-in-Ok-clause-answers g c = exec_boxes_there (execution_of c.args.asked.now) (record { probes = map (λ b. record { name = (goal.Probe-dyn g (b.vtable, b.value)).called b.value; watch = (goal.Probe-dyn g (b.vtable, b.value)).watch b.value }) c.args.probes.items; timings = map (λ b. record { name = (goal.Timing-dyn g (b.vtable, b.value)).called b.value; times = (goal.Timing-dyn g (b.vtable, b.value)).times b.value }) c.args.timings.items }) _ _ _ c.execute.ensures.same_files _ _ c.in-Some.ensures c.in-Ok.ensures.picked c.execute.ensures.answers
+
+pub returns-in-Err-clause-answers : goal.returns-in-Err-clause-answers
+returns-in-Err-clause-answers g c = exec_no_probes (execution_of c.args.asked.now) (record { probes = map (λ b. record { name = (goal.Probe-dyn g (b.vtable, b.value)).called b.value; watch = (goal.Probe-dyn g (b.vtable, b.value)).watch b.value }) c.args.probes.items; timings = map (λ b. record { name = (goal.Timing-dyn g (b.vtable, b.value)).called b.value; times = (goal.Timing-dyn g (b.vtable, b.value)).times b.value }) c.args.timings.items }) _ _ _ refl (rw c.no_probe.ensures.same c.in-Err.ensures.missing)

@@ -1,0 +1,12 @@
+-- The run and its lines.
+use Rattle.std.proofs.Common.{sym}
+use Rattle.vx_driver.specs.Ending.{loaded_of}
+use Rattle.vx_driver.proofs.Ends.{run_answers, of_run, length_map}
+use Rattle.vx_driver.proofs.running.run_loaded.Goals as goal
+
+pub returns-in-Ok-clause-answers : goal.returns-in-Ok-clause-answers
+returns-in-Ok-clause-answers g c =
+    run_answers (loaded_of c.args.loaded) _ c.args.budget c.args.tells _ _ _ c.in-Ok.end.ended c.in-Ok.end.issued c.in-Ok.ensures.ran c.in-Ok.ensures.issued c.conclude.result _ (sym (length_map _ c.run.new.probes.items)) c.in-Ok.ensures.failed c.conclude.ensures.cut (rw c.as_slice.ensures.value at c.conclude.ensures.finishes)
+
+pub returns-in-Ok-clause-nothing : goal.returns-in-Ok-clause-nothing
+returns-in-Ok-clause-nothing g c = λ not. let yes = of_run c.in-Ok.end.ended _ _ _ _ _ _ _ c.conclude.result c.conclude.ensures.cut c.conclude.ensures.finishes in absurd cc

@@ -1,0 +1,159 @@
+// The command `exec SRC`: reads a source, a machine and an input, compiles the source, runs its words with the boxes that
+// are asked for, and puts how the run ended and how many words it issued.
+
+ghost use Rattle.std.specs.Prelude.{◌≡◌, ◌⊎◌, ◌<◌, ◌≤◌, true, false, length, map, option_map, is_some, All, Ok, IfOk, IfErr, IfSome};
+ghost use Rattle.vx_base.specs.Arithmetic.{IsNumber};
+ghost use Rattle.vx_ast.specs.View as view;
+ghost use Rattle.vx_driver.specs.Answers.{effect_of, machine_found, Is};
+ghost use Rattle.vx_driver.specs.Asked.{execution_of};
+ghost use Rattle.vx_driver.specs.Compiled.{Compiled};
+ghost use Rattle.vx_driver.specs.Status.{Adds};
+ghost use Rattle.vx_driver.specs.Simulated.{input_found, is_of_run, streams_of};
+ghost use Rattle.vx_driver.specs.Executed.{InputAnswers, Prepared, ExecutionAnswers, ExecAnswers};
+ghost use Rattle.vx_driver.specs.Ending.{loaded_of, LaterStops, StopsBefore};
+
+use crate::boxes::{probes_of, timing_of};
+use crate::compile::{machine_for, read_through};
+use crate::loaded::LoadedFiles;
+use crate::loading::input_for;
+use crate::run_words::RunWords;
+use crate::running::{no_box, no_probe, run_loaded};
+use crate::status::{Status, tell};
+use crate::words::words_of;
+use std::alloc::Global;
+use vx_ast::typed::Typed;
+use vx_base::depot::Depot;
+use vx_base::sink::Sink;
+use vx_machine::Machine;
+use vx_probe::{Probe, Timing};
+
+/// Compiles a program that was read, for a machine and beside an input that were read.
+fn load_words(
+    alloc: Global,
+    program: &Typed,
+    machine: Machine,
+    input: Vec<i32>,
+) -> Result<LoadedFiles, Status>
+    requires { All IsNumber input.items }
+    ensures machine { IfOk result (λ loaded. loaded.machine ≡ machine) }
+    ensures input { IfOk result (λ loaded. loaded.input.items ≡ input.items) }
+    ensures compiled { IfOk result (λ loaded. Compiled (view.program_of program.now.program) loaded.machine loaded.program) }
+    ensures memory { IfErr result (λ status. status ≡ Status.NoMemory) }
+{
+    match words_of(alloc, program, &machine) {
+        Ok(words) => Ok(LoadedFiles {
+            program: words,
+            machine,
+            input,
+        }),
+        Err(_) => Err(Status::NoMemory),
+    }
+}
+
+/// Reads the input for a program and a machine that were read before, and compiles.
+fn load_input<D: Depot>(
+    alloc: Global,
+    depot: &mut D,
+    program: &Typed,
+    machine: Machine,
+    name: Option<&str>,
+) -> Result<LoadedFiles, Status>
+    ensures same_files { D.files depot.new ≡ D.files depot.old }
+    ensures machine { IfOk result (λ loaded. loaded.machine ≡ machine) }
+    ensures input { IfOk result (λ loaded. IfSome (D.files depot.old) (λ held. input_found held (option_map (λ s. s.now) name.entry) ≡ Ok loaded.input.items)) }
+    ensures compiled { IfOk result (λ loaded. Compiled (view.program_of program.now.program) loaded.machine loaded.program) }
+    ensures stops { IfErr result (λ status. (status ≡ Status.NoMemory) ⊎ ((is_some (option_map (λ s. s.now) name.entry) ≡ true) × InputAnswers (option_map (λ s. s.now) name.entry) (effect_of D.files D.failed_reads D.failed_replaces depot.old depot.new) status)) }
+    ensures reads_never_fall { D.failed_reads depot.old ≤ D.failed_reads depot.new }
+    ensures replaces_never_fall { D.failed_replaces depot.old ≤ D.failed_replaces depot.new }
+{
+    match input_for(alloc, depot, name) {
+        Ok(input) => load_words(alloc, program, machine, input),
+        Err(status) => Err(status),
+    }
+}
+
+/// Reads the machine and the input for a program that was read before, and compiles.
+fn load_machine<D: Depot>(
+    alloc: Global,
+    depot: &mut D,
+    program: &Typed,
+    machine: Option<&str>,
+    input: Option<&str>,
+) -> Result<LoadedFiles, Status>
+    ensures same_files { D.files depot.new ≡ D.files depot.old }
+    ensures machine { IfOk result (λ loaded. IfSome (D.files depot.old) (λ held. machine_found held (option_map (λ s. s.now) machine.entry) ≡ Is loaded.machine)) }
+    ensures input { IfOk result (λ loaded. IfSome (D.files depot.old) (λ held. input_found held (option_map (λ s. s.now) input.entry) ≡ Ok loaded.input.items)) }
+    ensures compiled { IfOk result (λ loaded. Compiled (view.program_of program.now.program) loaded.machine loaded.program) }
+    ensures stops { IfErr result (LaterStops (option_map (λ s. s.now) machine.entry) (option_map (λ s. s.now) input.entry) (effect_of D.files D.failed_reads D.failed_replaces depot.old depot.new)) }
+    ensures reads_never_fall { D.failed_reads depot.old ≤ D.failed_reads depot.new }
+    ensures replaces_never_fall { D.failed_replaces depot.old ≤ D.failed_replaces depot.new }
+{
+    match machine_for(alloc, depot, machine) {
+        Ok(machine) => load_input(alloc, depot, program, machine, input),
+        Err(status) => Err(status),
+    }
+}
+
+/// Reads the source, the machine and the input, each whole before the next, and compiles.
+fn load<D: Depot>(alloc: Global, depot: &mut D, asked: &RunWords) -> Result<LoadedFiles, Status>
+    ensures same_files { D.files depot.new ≡ D.files depot.old }
+    ensures loaded { IfOk result (λ loaded. Prepared (execution_of asked.now) (effect_of D.files D.failed_reads D.failed_replaces depot.old depot.new) (loaded_of loaded)) }
+    ensures stops { IfErr result (StopsBefore (execution_of asked.now) (effect_of D.files D.failed_reads D.failed_replaces depot.old depot.new)) }
+    ensures reads_never_fall { D.failed_reads depot.old ≤ D.failed_reads depot.new }
+    ensures replaces_never_fall { D.failed_replaces depot.old ≤ D.failed_replaces depot.new }
+{
+    match read_through(alloc, depot, asked.file) {
+        Ok(program) => load_machine(alloc, depot, &program, asked.machine, asked.input),
+        Err(status) => Err(status),
+    }
+}
+
+/// Runs the words of a source with the boxes that were asked for.
+fn execute<D: Depot, K: Sink, E: Sink>(
+    alloc: Global,
+    depot: &mut D,
+    out: &mut K,
+    err: &mut E,
+    asked: &RunWords,
+    timing: Box<dyn Timing>,
+    probes: Vec<Box<dyn Probe>>,
+) -> Status
+    requires wanted { 0 < length probes.items → is_some asked.now.probe ≡ true }
+    ensures same_files { D.files depot.new ≡ D.files depot.old }
+    ensures answers { ExecutionAnswers (execution_of asked.now) (effect_of D.files D.failed_reads D.failed_replaces depot.old depot.new) (streams_of K.told K.faults E.told E.faults out.old out.new err.old err.new) result (record { times = times timing; watches = map (λ b. watch b) probes.items }) }
+    ensures adds { Adds (E.told err.old) (E.told err.new) (E.faults err.old) (E.faults err.new) }
+    ensures nothing { is_of_run result ≡ false → K.told out.new ≡ K.told out.old }
+    ensures reads_never_fall { D.failed_reads depot.old ≤ D.failed_reads depot.new }
+    ensures replaces_never_fall { D.failed_replaces depot.old ≤ D.failed_replaces depot.new }
+{
+    match load(alloc, depot, asked) {
+        Ok(loaded) => run_loaded(alloc, loaded, asked.budget, true, out, err, timing, probes),
+        Err(status) => tell(err, status),
+    }
+}
+
+/// Runs the words of a source with the first boxes that have the names that are asked for.
+pub(crate) fn execute_with<D: Depot, K: Sink, E: Sink>(
+    alloc: Global,
+    depot: &mut D,
+    out: &mut K,
+    err: &mut E,
+    asked: &RunWords,
+    probes: Vec<Box<dyn Probe>>,
+    timings: Vec<Box<dyn Timing>>,
+) -> Status
+    ensures answers { ExecAnswers (execution_of asked.now) (record { probes = map (λ b. record { name = (⟦<dyn Probe as Probe>⟧ b.vtable).called b.value; watch = watch b }) probes.items; timings = map (λ b. record { name = (⟦<dyn Timing as Timing>⟧ b.vtable).called b.value; times = times b }) timings.items }) (effect_of D.files D.failed_reads D.failed_replaces depot.old depot.new) (streams_of K.told K.faults E.told E.faults out.old out.new err.old err.new) result }
+    ensures adds { Adds (E.told err.old) (E.told err.new) (E.faults err.old) (E.faults err.new) }
+    ensures nothing { is_of_run result ≡ false → K.told out.new ≡ K.told out.old }
+    ensures reads_never_fall { D.failed_reads depot.old ≤ D.failed_reads depot.new }
+    ensures replaces_never_fall { D.failed_replaces depot.old ≤ D.failed_replaces depot.new }
+{
+    let timing = match timing_of(timings, asked.timing) {
+        Some(timing) => timing,
+        None => return no_box(err, asked.timing),
+    };
+    match probes_of(alloc, probes, asked.probe) {
+        Ok(probes) => execute(alloc, depot, out, err, asked, timing, probes),
+        Err(status) => no_probe(err, asked.probe, status),
+    }
+}

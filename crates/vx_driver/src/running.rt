@@ -1,0 +1,222 @@
+// The run of words that were read or compiled: their output, and the lines of its end.
+
+ghost use Rattle.std.specs.Prelude.{◌≡◌, ◌⊎◌, ◌<◌, ◌≤◌, true, false, length, map, IfOk, OnOk, OnErr};
+ghost use Rattle.std.specs.List.{flat_map};
+ghost use Rattle.vx_base.specs.Outside.{Rose, with_bytes};
+ghost use Rattle.vx_sim.specs.Ran.{is_fault};
+ghost use Rattle.vx_driver.specs.Boxes.{report_line};
+ghost use Rattle.vx_driver.specs.Status.{Adds};
+ghost use Rattle.vx_driver.specs.Simulated.{events_within, is_of_run, streams_of, result_line};
+ghost use Rattle.vx_driver.specs.Executed.{issued_line};
+ghost use Rattle.vx_driver.specs.Ending.{loaded_of, status_as, told_line, ShowsLine, ShowsIssued, ShowsEnd, IsHalted, RunOf, Finishes, LoadedAnswers};
+
+use crate::boxes::put_reports;
+use crate::loaded::LoadedFiles;
+use crate::status::{Status, put, put_line, put_whole, tell};
+use std::alloc::Global;
+use vx_base::outcome::NoMemory;
+use vx_base::sink::{Sink, SinkFault};
+use vx_probe::{Probe, Timing};
+use vx_sim::{Ended, Sim};
+
+/// How a run ended, and how many words it issued.
+#[derive(Clone, Copy)]
+pub(crate) struct RunEnd {
+    pub(crate) ended: Ended,
+    pub(crate) issued: u64,
+}
+
+/// Runs what was read, for at most so many words.
+fn run<K: Sink>(
+    alloc: Global,
+    loaded: LoadedFiles,
+    budget: u64,
+    out: &mut K,
+    timing: &mut Box<dyn Timing>,
+    probes: &mut Vec<Box<dyn Probe>>,
+) -> Result<RunEnd, NoMemory>
+    ensures ran { IfOk result (λ end. RunOf (loaded_of loaded) (times timing.old) budget (map (λ b. watch b) probes.old.items) (map (λ b. watch b) probes.new.items) (K.told out.old) (K.told out.new) end.ended) }
+    ensures issued { IfOk result (λ end. is_fault end.ended ≡ false → end.issued ≡ length (events_within (loaded_of loaded) (times timing.old) budget)) }
+    ensures failed { IfOk result (λ end. is_fault end.ended ≡ true → Rose (K.faults out.old) (K.faults out.new)) }
+    ensures nothing { OnErr result (K.told out.new ≡ K.told out.old) }
+{
+    let mut sim = Sim::start(alloc, loaded.program, loaded.machine, loaded.input)?;
+    let ended = sim.run(budget, out, timing, probes);
+    let issued = sim.issued();
+    Ok(RunEnd { ended, issued })
+}
+
+/// Puts the line of a result.
+fn put_result<E: Sink>(err: &mut E, number: i32) -> Result<(), SinkFault>
+    ensures all { OnOk result (E.told err.new ≡ with_bytes (E.told err.old) (result_line number)) }
+    ensures adds { Adds (E.told err.old) (E.told err.new) (E.faults err.old) (E.faults err.new) }
+    ensures failed { OnErr result (Rose (E.faults err.old) (E.faults err.new)) }
+{
+    let mut buffer = itoa::Buffer::new();
+    put_whole(err, b"result ")?;
+    put_whole(err, buffer.format(number).as_bytes())?;
+    put_whole(err, b"\n")
+}
+
+/// Puts the line of the words that a run issued.
+fn put_issued_line<E: Sink>(err: &mut E, issued: u64) -> Result<(), SinkFault>
+    ensures all { OnOk result (E.told err.new ≡ with_bytes (E.told err.old) (issued_line issued)) }
+    ensures adds { Adds (E.told err.old) (E.told err.new) (E.faults err.old) (E.faults err.new) }
+    ensures failed { OnErr result (Rose (E.faults err.old) (E.faults err.new)) }
+{
+    let mut buffer = itoa::Buffer::new();
+    put_whole(err, b"issued ")?;
+    put_whole(err, buffer.format(issued).as_bytes())?;
+    put_whole(err, b"\n")
+}
+
+/// The status of a run that was not cut by its sink.
+fn status_of(ended: Ended) -> Status
+    ensures { result ≡ status_as ended }
+{
+    match ended {
+        Ended::Halted(_) => Status::Done,
+        Ended::Trapped(trap) => Status::Trapped(trap),
+        Ended::Stopped => Status::Stopped,
+        Ended::Stuck(reason, place) => Status::Stuck(reason, place),
+        Ended::SinkFault => Status::WriteFault,
+    }
+}
+
+/// Puts the line of an end. That of a status other than Done may be lost.
+fn put_ended<E: Sink>(err: &mut E, ended: Ended) -> Result<(), SinkFault>
+    ensures shows { OnOk result (ShowsLine ended (E.told err.old) (E.told err.new)) }
+    ensures wanted { OnErr result (IsHalted ended) }
+    ensures failed { OnErr result (Rose (E.faults err.old) (E.faults err.new)) }
+    ensures adds { Adds (E.told err.old) (E.told err.new) (E.faults err.old) (E.faults err.new) }
+{
+    match ended {
+        Ended::Halted(number) => put_result(err, number),
+        ended => {
+            let _ = put_line(err, status_of(ended));
+            Ok(())
+        }
+    }
+}
+
+/// Puts the line of the words that a run issued, behind an end with a result or by a trap. That behind a trap may be
+/// lost.
+fn put_issued<E: Sink>(err: &mut E, ended: Ended, issued: u64) -> Result<(), SinkFault>
+    ensures shows { OnOk result (ShowsIssued ended (issued_line issued) (E.told err.old) (E.told err.new) (E.faults err.old) (E.faults err.new)) }
+    ensures wanted { OnErr result (IsHalted ended) }
+    ensures failed { OnErr result (Rose (E.faults err.old) (E.faults err.new)) }
+    ensures adds { Adds (E.told err.old) (E.told err.new) (E.faults err.old) (E.faults err.new) }
+{
+    match ended {
+        Ended::Halted(_) => put_issued_line(err, issued),
+        Ended::Trapped(_) => {
+            let _ = put_issued_line(err, issued);
+            Ok(())
+        }
+        _ => Ok(()),
+    }
+}
+
+/// The same where the command tells the words that were issued.
+fn put_told<E: Sink>(err: &mut E, end: RunEnd, tells: bool) -> Result<(), SinkFault>
+    ensures shows { OnOk result (ShowsIssued end.ended (told_line tells end.issued) (E.told err.old) (E.told err.new) (E.faults err.old) (E.faults err.new)) }
+    ensures wanted { OnErr result (IsHalted end.ended) }
+    ensures failed { OnErr result (Rose (E.faults err.old) (E.faults err.new)) }
+    ensures adds { Adds (E.told err.old) (E.told err.new) (E.faults err.old) (E.faults err.new) }
+{
+    if tells {
+        put_issued(err, end.ended, end.issued)
+    } else {
+        Ok(())
+    }
+}
+
+/// Puts the lines of an end, and the reports.
+fn put_end<E: Sink>(
+    err: &mut E,
+    end: RunEnd,
+    tells: bool,
+    probes: &[Box<dyn Probe>],
+) -> Result<(), SinkFault>
+    ensures shows { OnOk result (ShowsEnd end.ended (told_line tells end.issued) (flat_map report_line (map (λ b. watch b) probes.now)) (E.told err.old) (E.told err.new) (E.faults err.old) (E.faults err.new)) }
+    ensures wanted { OnErr result (IsHalted end.ended ⊎ (0 < length probes.now)) }
+    ensures failed { OnErr result (Rose (E.faults err.old) (E.faults err.new)) }
+    ensures adds { Adds (E.told err.old) (E.told err.new) (E.faults err.old) (E.faults err.new) }
+{
+    put_ended(err, end.ended)?;
+    put_told(err, end, tells)?;
+    put_reports(err, probes)
+}
+
+/// Puts how a run ended that its sink did not cut, and answers its status, or that it could not be put.
+fn finish<E: Sink>(err: &mut E, end: RunEnd, tells: bool, probes: &[Box<dyn Probe>]) -> Status
+    ensures finishes { Finishes end.ended (told_line tells end.issued) (flat_map report_line (map (λ b. watch b) probes.now)) (length probes.now) (E.told err.old) (E.told err.new) (E.faults err.old) (E.faults err.new) result }
+    ensures adds { Adds (E.told err.old) (E.told err.new) (E.faults err.old) (E.faults err.new) }
+{
+    match put_end(err, end, tells, probes) {
+        Ok(()) => status_of(end.ended),
+        Err(_) => tell(err, Status::WriteFault),
+    }
+}
+
+/// Puts how a run ended, where its sink did not cut it, and answers its status.
+fn conclude<E: Sink>(err: &mut E, end: RunEnd, tells: bool, probes: &[Box<dyn Probe>]) -> Status
+    ensures cut { is_fault end.ended ≡ true → result ≡ Status.WriteFault }
+    ensures finishes { is_fault end.ended ≡ false → Finishes end.ended (told_line tells end.issued) (flat_map report_line (map (λ b. watch b) probes.now)) (length probes.now) (E.told err.old) (E.told err.new) (E.faults err.old) (E.faults err.new) result }
+    ensures adds { Adds (E.told err.old) (E.told err.new) (E.faults err.old) (E.faults err.new) }
+{
+    match end.ended {
+        Ended::SinkFault => tell(err, Status::WriteFault),
+        _ => finish(err, end, tells, probes),
+    }
+}
+
+/// Runs what was read, with the boxes that were asked for, and puts how the run ended, with the words that it issued
+/// where the command tells them.
+pub(crate) fn run_loaded<K: Sink, E: Sink>(
+    alloc: Global,
+    loaded: LoadedFiles,
+    budget: u64,
+    tells: bool,
+    out: &mut K,
+    err: &mut E,
+    mut timing: Box<dyn Timing>,
+    mut probes: Vec<Box<dyn Probe>>,
+) -> Status
+    ensures answers { LoadedAnswers (loaded_of loaded) (times timing) budget tells (map (λ b. watch b) probes.items) (streams_of K.told K.faults E.told E.faults out.old out.new err.old err.new) result }
+    ensures adds { Adds (E.told err.old) (E.told err.new) (E.faults err.old) (E.faults err.new) }
+    ensures nothing { is_of_run result ≡ false → K.told out.new ≡ K.told out.old }
+{
+    match run(alloc, loaded, budget, out, &mut timing, &mut probes) {
+        Ok(end) => conclude(err, end, tells, probes.as_slice()),
+        Err(_) => tell(err, Status::NoMemory),
+    }
+}
+
+/// Tells that no box has a name.
+pub(crate) fn no_box<E: Sink>(err: &mut E, name: &str) -> Status
+    ensures usage { result ≡ Status.Usage }
+    ensures adds { Adds (E.told err.old) (E.told err.new) (E.faults err.old) (E.faults err.new) }
+{
+    let _ = put_no_box(err, name);
+    Status::Usage
+}
+
+fn put_no_box<E: Sink>(err: &mut E, name: &str) -> Result<(), SinkFault>
+    ensures { Adds (E.told err.old) (E.told err.new) (E.faults err.old) (E.faults err.new) }
+{
+    put(err, b"no box ")?;
+    put(err, name.as_bytes())?;
+    put(err, b"\n")
+}
+
+/// Tells why there is no probe: none has the name, or memory is wanted.
+pub(crate) fn no_probe<E: Sink>(err: &mut E, name: Option<&str>, status: Status) -> Status
+    ensures same { result ≡ status }
+    ensures adds { Adds (E.told err.old) (E.told err.new) (E.faults err.old) (E.faults err.new) }
+{
+    match (status, name) {
+        (Status::Usage, Some(name)) => no_box(err, name),
+        _ => tell(err, status),
+    }
+}
