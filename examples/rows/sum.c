@@ -1,0 +1,1 @@
+int main(void) { printf("%d\n", 2 + 3); return 0; }
