@@ -261,30 +261,3 @@ impl Depot for MemDepot {
         set_content(self.alloc, &mut self.files, name, content)
     }
 }
-
-#[cfg(test)]
-mod tests {
-    use super::{Depot, DepotFault, MemDepot};
-    use std::test::Fail;
-
-    // Two files, and the second call fails.
-    #[test]
-    fn reads_and_replaces(rt: HostRuntime) -> Result<(), Fail> {
-        let alloc = rt.alloc();
-        let first = (String::from_str(alloc, "a")?, b"hello".to_vec(alloc)?);
-        let second = (String::from_str(alloc, "b")?, b"world".to_vec(alloc)?);
-        let files = vec![in alloc; first, second]?;
-        let mut depot = MemDepot::make(alloc, files, vec![in alloc; 2]?)?;
-        let mut buffer = [0u8; 3];
-        assert_eq!(rt; depot.read_at("a", 3, &mut buffer), Ok(2));
-        assert_eq!(rt; buffer, *b"lo\0");
-        assert_eq!(rt; depot.replace("a", b"x"), Err(DepotFault::Failed));
-        assert_eq!(rt; depot.read_at("c", 0, &mut buffer), Err(DepotFault::NoFile));
-        assert_eq!(rt; depot.replace("c", b"new"), Ok(()));
-        assert_eq!(rt; depot.replace("b", b"again"), Ok(()));
-        assert_eq!(rt; depot.file("a"), Some(b"hello".as_slice()));
-        assert_eq!(rt; depot.file("b"), Some(b"again".as_slice()));
-        assert_eq!(rt; depot.file("c"), Some(b"new".as_slice()));
-        Ok(())
-    }
-}

@@ -89,21 +89,3 @@ impl<'a> Lines<'a> {
         Some(line)
     }
 }
-
-#[cfg(test)]
-mod tests {
-    use super::Lines;
-
-    #[test]
-    fn hands_out_lines(rt: HostRuntime) {
-        let mut lines = Lines::make(b"ab\n\ncd");
-        let wanted: [(&[u8], bool); 3] = [(b"ab", true), (b"", true), (b"cd", false)];
-        for (bytes, ended) in wanted {
-            match lines.next_line() {
-                Some(line) => assert!(rt; line.bytes == bytes && line.ended == ended),
-                None => assert!(rt; false),
-            }
-        }
-        assert!(rt; lines.next_line().is_none());
-    }
-}

@@ -118,28 +118,3 @@ impl<W: Write> Sink for RealSink<W> {
         }
     }
 }
-
-#[cfg(test)]
-mod tests {
-    use super::{RealDepot, RealSink};
-    use crate::depot::{Depot, DepotFault};
-    use crate::sink::put_all;
-    use std::test::Fail;
-
-    #[test]
-    fn reaches_files_and_writers(rt: HostRuntime) -> Result<(), Fail> {
-        let alloc = rt.alloc();
-        let mut depot = RealDepot::make(rt.clone()?);
-        let mut buffer = [0u8; 4];
-        let missing = depot.read_at("no_such_file", 0, &mut buffer);
-        assert_eq!(rt; missing, Err(DepotFault::NoFile));
-        assert_eq!(rt; depot.replace("vx_base_test", b"hello"), Ok(()));
-        assert_eq!(rt; depot.read_at("vx_base_test", 3, &mut buffer), Ok(2));
-        assert_eq!(rt; buffer, *b"lo\0\0");
-        let mut written = Vec::new(alloc);
-        let mut sink = RealSink::make(&mut written);
-        assert_eq!(rt; put_all(&mut sink, b"abc"), Ok(()));
-        assert_eq!(rt; written.as_slice(), b"abc".as_slice());
-        Ok(())
-    }
-}

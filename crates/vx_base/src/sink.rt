@@ -137,21 +137,3 @@ impl Sink for MemSink {
         Ok(fits)
     }
 }
-
-#[cfg(test)]
-mod tests {
-    use super::{MemSink, Sink, SinkFault, put_all};
-    use std::test::Fail;
-
-    // Room for five bytes, and the second put fails.
-    #[test]
-    fn puts_what_fits(rt: HostRuntime) -> Result<(), Fail> {
-        let alloc = rt.alloc();
-        let mut sink = MemSink::make(alloc, 5, vec![in alloc; 2]?)?;
-        assert_eq!(rt; put_all(&mut sink, b"abc"), Ok(()));
-        assert_eq!(rt; sink.put(b"d"), Err(SinkFault::Failed));
-        assert_eq!(rt; put_all(&mut sink, b"defg"), Err(SinkFault::Failed));
-        assert_eq!(rt; sink.bytes(), b"abcde".as_slice());
-        Ok(())
-    }
-}

@@ -18,7 +18,3 @@ mod turns;
 
 pub use assigning::assign;
 
-#[cfg(test)]
-mod fixtures;
-#[cfg(test)]
-mod tests;

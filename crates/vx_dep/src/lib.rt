@@ -13,9 +13,3 @@ mod tables;
 
 pub use deps::{Deps, pairs};
 
-#[cfg(test)]
-mod fixtures;
-#[cfg(test)]
-mod judge_tests;
-#[cfg(test)]
-mod tests;

@@ -20,15 +20,3 @@ mod words;
 
 pub use top::vexc;
 
-#[cfg(test)]
-mod exec_tests;
-#[cfg(test)]
-mod run_tests;
-#[cfg(test)]
-mod sim_tests;
-#[cfg(test)]
-mod source_rows;
-#[cfg(test)]
-mod source_tests;
-#[cfg(test)]
-mod top_tests;

@@ -18,13 +18,3 @@ pub use header_blocks::headers;
 pub use liveness::{live, live_on};
 pub use walk::back_edges;
 
-#[cfg(test)]
-mod fixtures;
-#[cfg(test)]
-mod flow_tests;
-#[cfg(test)]
-mod live_tests;
-#[cfg(test)]
-mod sound_tests;
-#[cfg(test)]
-mod walk_tests;

@@ -17,11 +17,3 @@ mod word_plan;
 
 pub use finishing::{Finished, TracePlaces, finish};
 
-#[cfg(test)]
-mod frame_tests;
-#[cfg(test)]
-mod runner;
-#[cfg(test)]
-mod saving_tests;
-#[cfg(test)]
-mod tests;

@@ -5,5 +5,3 @@ mod joins;
 
 pub use joins::at_joins;
 
-#[cfg(test)]
-mod tests;

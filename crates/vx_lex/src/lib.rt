@@ -13,5 +13,3 @@ pub mod word;
 
 pub use scanner::tokens;
 
-#[cfg(test)]
-mod tests;

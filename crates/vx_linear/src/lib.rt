@@ -14,7 +14,3 @@ mod places;
 pub use difference::differs;
 pub use following::forms;
 
-#[cfg(test)]
-mod form_tests;
-#[cfg(test)]
-mod tests;

@@ -15,7 +15,3 @@ pub use fitting::fits;
 pub use machine_model::Machine;
 pub use room::{fits_by_room_law, has_room, home_of, room_alone_law, room_law, room_shrinks_law};
 
-#[cfg(test)]
-mod description_rows;
-#[cfg(test)]
-mod tests;

@@ -24,11 +24,3 @@ mod tracing;
 
 pub use function::Mixed;
 
-#[cfg(test)]
-mod layout_tests;
-#[cfg(test)]
-mod replace_tests;
-#[cfg(test)]
-mod tests;
-#[cfg(test)]
-mod trace_tests;

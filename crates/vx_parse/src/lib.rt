@@ -15,5 +15,3 @@ pub mod token;
 
 pub use parser::parse;
 
-#[cfg(test)]
-mod tests;

@@ -93,29 +93,3 @@ fn append_number(into: &mut [u8; 80], place: usize, number: u64) -> usize
     let digits = buffer.format(number);
     append(into, place, digits.as_bytes())
 }
-
-#[cfg(test)]
-mod tests {
-    use super::{Probe, WordCount};
-    use crate::event::Event;
-
-    #[test]
-    fn counts_words_and_cycles(rt: HostRuntime) {
-        let mut count = WordCount::make();
-        let event = Event {
-            place: 7,
-            cycle: 3,
-            alu: 1,
-            multiply: 0,
-            memory: 0,
-            copy: 0,
-            control: 0,
-            taken: false,
-        };
-        count.see(&event);
-        let mut line = [0u8; 80];
-        let length = count.report(&mut line);
-        assert_eq!(rt; &line[..length], b"words 1 cycles 4".as_slice());
-        assert_eq!(rt; count.name(), "words");
-    }
-}

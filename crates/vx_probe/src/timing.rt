@@ -74,19 +74,3 @@ impl Timing for Early {
         1
     }
 }
-
-#[cfg(test)]
-mod tests {
-    use super::{Early, Late, Timing};
-
-    #[test]
-    fn lands_within_the_latency(rt: HostRuntime) {
-        let mut late = Late::make();
-        let mut early = Early::make();
-        assert_eq!(rt; late.lands(2), 2);
-        assert_eq!(rt; late.lands(16), 16);
-        assert_eq!(rt; early.lands(8), 1);
-        assert_eq!(rt; late.name(), "late");
-        assert_eq!(rt; early.name(), "early");
-    }
-}

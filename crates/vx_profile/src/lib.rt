@@ -14,5 +14,3 @@ mod storage;
 pub use ending::{Ending, Ran};
 pub use plain::{Counted, count, run_plain};
 
-#[cfg(test)]
-mod tests;

@@ -12,7 +12,3 @@ mod waits;
 pub use region_plan::plan;
 pub use regions::{Regions, Step, all_regions, replace_one};
 
-#[cfg(test)]
-mod regions_tests;
-#[cfg(test)]
-mod tests;

@@ -13,7 +13,3 @@ pub mod touching;
 
 pub use allocating::registers;
 
-#[cfg(test)]
-mod inside;
-#[cfg(test)]
-mod tests;

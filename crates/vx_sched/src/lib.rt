@@ -9,7 +9,3 @@ mod rows;
 
 pub use placing::schedule;
 
-#[cfg(test)]
-mod fixtures;
-#[cfg(test)]
-mod tests;

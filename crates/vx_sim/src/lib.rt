@@ -18,5 +18,3 @@ mod stuck;
 pub use ended::Ended;
 pub use sim::Sim;
 
-#[cfg(test)]
-mod tests;

@@ -5,5 +5,3 @@ mod splits;
 
 pub use splits::at_splits;
 
-#[cfg(test)]
-mod tests;

@@ -17,7 +17,3 @@ pub use fault::WordsFault;
 pub use program_text::write;
 pub use reader::read;
 
-#[cfg(test)]
-mod tests;
-#[cfg(test)]
-mod text_rows;

@@ -1,0 +1,85 @@
+// The numbers of two descriptions of machines.
+
+use std::alloc::Global;
+use vx_machine::{Machine, MachineFault, field_name, from_toml};
+
+/// One cluster that issues one operation a word.
+const NARROW: &[u8] = b"clusters = 1
+issue = 1
+alus = 1
+multipliers = 1
+memory_units = 1
+registers = 16
+branch_registers = 2
+read_ports = 2
+write_ports = 1
+copy_paths = 1
+latency_alu = 1
+latency_compare = 2
+latency_multiply = 2
+latency_load = 3
+latency_divide = 8
+latency_copy = 1
+";
+
+/// The default machine with four clusters.
+const WIDE: &[u8] = b"clusters = 4
+issue = 4
+alus = 4
+multipliers = 2
+memory_units = 1
+registers = 64
+branch_registers = 8
+read_ports = 8
+write_ports = 4
+copy_paths = 2
+latency_alu = 1
+latency_compare = 2
+latency_multiply = 2
+latency_load = 3
+latency_divide = 8
+latency_copy = 1
+";
+
+/// The counts of a machine, and then its latencies, in the order of their fields.
+fn numbers_of(machine: &Machine) -> [u32; 16] {
+    [
+        machine.clusters(),
+        machine.issue(),
+        machine.alus(),
+        machine.multipliers(),
+        machine.memory_units(),
+        machine.registers(),
+        machine.branch_registers(),
+        machine.read_ports(),
+        machine.write_ports(),
+        machine.copy_paths(),
+        machine.latency_alu(),
+        machine.latency_compare(),
+        machine.latency_multiply(),
+        machine.latency_load(),
+        machine.latency_divide(),
+        machine.latency_copy(),
+    ]
+}
+
+fn has_numbers(alloc: Global, text: &[u8], wanted: &[u32; 16]) -> bool {
+    match from_toml(alloc, text) {
+        Ok(machine) => numbers_of(&machine) == *wanted,
+        Err(_) => false,
+    }
+}
+
+#[test]
+fn two_descriptions(rt: HostRuntime) {
+    let narrow = [1, 1, 1, 1, 1, 16, 2, 2, 1, 1, 1, 2, 2, 3, 8, 1];
+    assert!(rt; has_numbers(rt.alloc(), NARROW, &narrow));
+    assert!(rt; from_toml(rt.alloc(), WIDE) == Ok(Machine::vex(4)));
+}
+
+#[test]
+fn a_field_that_is_missing(rt: HostRuntime) {
+    let fault = MachineFault::Bad { code: 2, field: 2 };
+    assert!(rt; from_toml(rt.alloc(), b"clusters = 4\n") == Err(fault));
+    assert!(rt; field_name(2) == "issue" && field_name(16) == "latency_copy");
+}

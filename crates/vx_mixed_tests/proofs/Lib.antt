@@ -1,0 +1,2 @@
+pub mod OnOne
+pub mod Insides

@@ -1,0 +1,176 @@
+// Whether the conditions under which the tests plan a trace hold, by one pass over its operations and its joins. What is tested
+// is `is_plannable` of specs/Plannable.antt; that it gives the conditions is proved in proofs/Conditions.antt.
+
+ghost use Rattle.std.specs.Prelude.{◌≡◌};
+ghost use Rattle.std.specs.List.{list_all};
+ghost use Rattle.vx_flow.specs.Effects.{reads, writes, value_in};
+ghost use Rattle.vx_dep.specs.Delays.{reads_of, writes_of};
+ghost use Rattle.vx_plan_tests.specs.Plannable.{all_are_below, is_unbound, names_below, is_plannable_op, is_free, ascend, are_within, is_plannable, is_there};
+
+use vx_base::arithmetic::Code;
+use vx_flow::graph::{Op, Operand, Value};
+use vx_flow::trace::{Join, Trace, TraceOp};
+
+/// The most values of a graph of which each has a number for each of its copies.
+const MOST_VALUES: u32 = 858993459;
+
+/// Whether a trace can be planned where the homes are clusters of the machine.
+pub(crate) fn is_plannable(trace: &Trace) -> bool
+    ensures { result ≡ is_plannable trace.now }
+{
+    let count = trace.ops.len();
+    are_plannable(trace.values, trace.ops.as_slice())
+        && are_free(trace.fixed.as_slice())
+        && trace.fixed.len() == count
+        && ascend(0, trace.joins.as_slice())
+        && are_within(count, trace.joins.as_slice())
+        && trace.values <= MOST_VALUES
+}
+
+fn are_plannable(values: u32, ops: &[TraceOp]) -> bool
+    ensures { result ≡ list_all (is_plannable_op values) ops.now }
+{
+    ops.iter().all(|op| is_plannable_op(values, op))
+}
+
+fn is_plannable_op(values: u32, op: &TraceOp) -> bool
+    ensures { result ≡ is_plannable_op values op.now }
+{
+    is_unbound(op) && names_below(values, op)
+}
+
+fn is_unbound(op: &TraceOp) -> bool
+    ensures { result ≡ is_unbound op.now }
+{
+    match op {
+        TraceOp::Plain(Op::Select { .. })
+        | TraceOp::Plain(Op::More { .. })
+        | TraceOp::Plain(Op::Input { .. }) => false,
+        _ => true,
+    }
+}
+
+/// Whether an operation names values of the graph alone.
+fn names_below(values: u32, op: &TraceOp) -> bool
+    ensures { result ≡ names_below values op.now }
+{
+    reads_below(values, op) && writes_below(values, op)
+}
+
+fn reads_below(values: u32, op: &TraceOp) -> bool
+    ensures { result ≡ all_are_below values (reads_of op.now) }
+{
+    match op {
+        TraceOp::Plain(op) => op_reads_below(values, op),
+        TraceOp::Split { test, .. } => *test < values,
+    }
+}
+
+#[tactic(auto, using(crate::proofs::Conditions::both_below))]
+fn op_reads_below(values: u32, op: &Op) -> bool
+    ensures { result ≡ all_are_below values (reads op.now) }
+{
+    match op {
+        Op::Compute {
+            code,
+            left,
+            right,
+            ..
+        } => match code {
+            Code::Mov => is_below(values, left),
+            _ => is_below(values, left) && is_below(values, right),
+        },
+        Op::Select {
+            test,
+            left,
+            right,
+            ..
+        } => *test < values && (is_below(values, left) && is_below(values, right)),
+        Op::Place { index, .. } => is_below(values, index),
+        Op::Load { place, .. } => is_below(values, place),
+        Op::Store { place, from, .. } => is_below(values, place) && is_below(values, from),
+        Op::Decimal { from } => is_below(values, from),
+        Op::Across { from, .. } => *from < values,
+        Op::More { .. } | Op::Input { .. } | Op::Text { .. } => true,
+    }
+}
+
+fn is_below(values: u32, operand: &Operand) -> bool
+    ensures { result ≡ all_are_below values (value_in operand.now) }
+{
+    match operand {
+        Operand::Held(value) => *value < values,
+        Operand::Number(_) | Operand::Stack => true,
+    }
+}
+
+fn writes_below(values: u32, op: &TraceOp) -> bool
+    ensures { result ≡ all_are_below values (writes_of op.now) }
+{
+    match op {
+        TraceOp::Plain(op) => op_writes_below(values, op),
+        TraceOp::Split { .. } => true,
+    }
+}
+
+fn op_writes_below(values: u32, op: &Op) -> bool
+    ensures { result ≡ all_are_below values (writes op.now) }
+{
+    match op {
+        Op::Compute { to, .. }
+        | Op::Select { to, .. }
+        | Op::Place { to, .. }
+        | Op::Load { to, .. }
+        | Op::More { to }
+        | Op::Input { to }
+        | Op::Across { to, .. } => *to < values,
+        Op::Store { .. } | Op::Text { .. } | Op::Decimal { .. } => true,
+    }
+}
+
+fn are_free(fixed: &[Option<u32>]) -> bool
+    ensures { result ≡ list_all is_free fixed.now }
+{
+    fixed.iter().all(|cluster| is_free(cluster))
+}
+
+fn is_free(cluster: &Option<u32>) -> bool
+    ensures { result ≡ is_free cluster.now }
+{
+    match cluster {
+        None => true,
+        Some(_) => false,
+    }
+}
+
+/// Whether joins stand one below the other, from a place on.
+fn ascend(least: u32, joins: &[Join]) -> bool
+    ensures { result ≡ ascend least joins.now }
+{
+    match joins {
+        [] => true,
+        [join, others @ ..] => least <= join.place && ascend(join.place, others),
+    }
+}
+
+fn are_within(count: usize, joins: &[Join]) -> bool
+    ensures { result ≡ are_within count joins.now }
+{
+    joins.iter().all(|join| join.place as usize <= count)
+}
+
+/// Whether homes are among so many clusters.
+pub(crate) fn are_there(clusters: u32, homes: &[Option<u32>]) -> bool
+    ensures { result ≡ list_all (is_there clusters) homes.now }
+{
+    homes.iter().all(|home| is_there(clusters, home))
+}
+
+fn is_there(clusters: u32, home: &Option<u32>) -> bool
+    ensures { result ≡ is_there clusters home.now }
+{
+    match home {
+        None => true,
+        Some(cluster) => *cluster < clusters,
+    }
+}

@@ -1,0 +1,155 @@
+// Words of small traces, worked out by hand.
+
+ghost use Rattle.std.specs.Prelude.{◌≡◌, length};
+ghost use Rattle.vx_bug.specs.Further.{RoomForEach};
+
+use crate::clusters::{SUMS, clusters_of};
+use crate::traces::{Kind, PRINTING, SINKING, Step, WITHOUT_ELSE, machine};
+use std::alloc::Global;
+use std::test::Fail;
+use vx_base::arithmetic::Code;
+use vx_base::outcome::NoMemory;
+use vx_bug::clusters::Clusters;
+use vx_dep::mode::Mode;
+use vx_dep::pairs;
+use vx_flow::graph::Operand;
+use vx_flow::trace::Placed;
+use vx_machine::Machine;
+use vx_sched::schedule;
+
+#[tactic(auto, using(crate::proofs::Conditions::own_mode, crate::proofs::Conditions::alone))]
+fn placed(
+    alloc: Global,
+    clusters: &Clusters,
+    machine: &Machine,
+    mode: Mode,
+) -> Result<Placed, NoMemory>
+    requires each { length clusters.now.clustered.clusters ≡ length clusters.now.clustered.trace.ops }
+    requires room { RoomForEach machine.now clusters.now }
+{
+    let deps = pairs(alloc, &clusters.clustered.trace, machine, mode)?;
+    schedule(alloc, &clusters.clustered, &clusters.homes, &deps, machine)
+}
+
+/// The `if` without `else` up to the product, with the join behind the sum.
+const WITHOUT_TOTAL: [Step<'static>; 5] = [
+    Step::More(3, 1, 5),
+    Step::Below(6, 1, 10),
+    Step::Split(6, &[1, 2, 3]),
+    Step::More(2, 2, 1),
+    Step::On(Code::Mpylu, 4, 3, Operand::Held(1)),
+];
+
+/// A trace, its joins and first homes, a machine, a mode, the words of the operations with their copies, and how many words there
+/// are.
+type Row = (
+    &'static [Step<'static>],
+    &'static [u32],
+    &'static [Option<u32>],
+    Kind,
+    Mode,
+    &'static [u32],
+    u32,
+);
+
+const ROWS: [Row; 8] = [
+    (
+        &WITHOUT_ELSE,
+        &[4],
+        &[],
+        Kind::Vex,
+        Mode::Free,
+        &[0, 0, 2, 3, 1, 4],
+        5,
+    ),
+    (
+        &WITHOUT_ELSE,
+        &[4],
+        &[],
+        Kind::Vex,
+        Mode::Barred,
+        &[0, 0, 2, 3, 4, 6],
+        7,
+    ),
+    (
+        &WITHOUT_TOTAL,
+        &[4],
+        &[],
+        Kind::Vex,
+        Mode::Free,
+        &[0, 0, 2, 3, 1],
+        4,
+    ),
+    (
+        &SINKING,
+        &[5],
+        &[],
+        Kind::Narrow,
+        Mode::Free,
+        &[0, 1, 4, 2, 3, 5, 6],
+        7,
+    ),
+    (
+        &PRINTING,
+        &[],
+        &[],
+        Kind::Narrow,
+        Mode::Free,
+        &[0, 1, 3, 2, 4],
+        5,
+    ),
+    (
+        &PRINTING,
+        &[],
+        &[],
+        Kind::Narrow,
+        Mode::Barred,
+        &[0, 1, 2, 3, 4],
+        5,
+    ),
+    // the sums of two clusters, the copy of one of them, and the sum of both
+    (
+        &SUMS,
+        &[],
+        &[None, Some(0), Some(1)],
+        Kind::TwoNarrow,
+        Mode::Free,
+        &[0, 0, 1, 2],
+        3,
+    ),
+    (&[], &[], &[], Kind::Vex, Mode::Free, &[], 0),
+];
+
+/// Whether the operations get these words, where each has room by itself.
+fn get(alloc: Global, clusters: &Clusters, machine: &Machine, row: &Row) -> Result<bool, NoMemory>
+    requires room { RoomForEach machine.now clusters.now }
+{
+    if clusters.clustered.clusters.len() != clusters.clustered.trace.ops.len() {
+        return Ok(false);
+    }
+    let placed = placed(alloc, clusters, machine, row.4)?;
+    Ok(placed.words.as_slice() == row.5 && placed.length == row.6)
+}
+
+fn holds(alloc: Global, row: &Row) -> Result<bool, NoMemory> {
+    let machine = machine(alloc, row.3)?;
+    match clusters_of(alloc, row.0, row.1, row.2, &machine)? {
+        Some(clusters) => get(alloc, &clusters, &machine, row),
+        None => Ok(false),
+    }
+}
+
+fn first_wrong(alloc: Global) -> Result<usize, NoMemory> {
+    for (number, row) in ROWS.iter().enumerate() {
+        if !holds(alloc, row)? {
+            return Ok(number);
+        }
+    }
+    Ok(ROWS.len())
+}
+
+#[test]
+fn words_of_traces(rt: HostRuntime) -> Result<(), Fail> {
+    assert_eq!(rt; first_wrong(rt.alloc())?, ROWS.len());
+    Ok(())
+}
