@@ -1,88 +1,107 @@
-// A graph of 4,000 blocks, for the time that liveness, back edges and headers take. It ends with status 0 where they are as
-// they were worked out by hand.
+// Measurements, a word for each: what is measured, and the file or number that it wants. The time is taken from outside, by
+// the scripts under bench/. No contract here promises anything.
 #![tactic(auto)]
 
-use std::alloc::Global;
+mod ending;
+mod flow;
+mod lowering;
+mod making;
+mod operations;
+mod plannable;
+mod planning;
+mod source;
+mod words;
+
+use crate::ending::Ended;
+use std::env;
 use std::process::ExitCode;
-use vx_base::arithmetic::{Code, Compare};
-use vx_base::listed::Listed;
-use vx_base::outcome::NoMemory;
-use vx_flow::graph::{Bank, Block, Exit, Graph, Op, Operand};
-use vx_flow::{back_edges, headers, live};
+use vx_base::real::RealSink;
+use vx_base::sink::put_all;
 
-const BLOCKS: u32 = 4000;
+const USAGE: &[u8] = b"usage: vx_bench flow
+       vx_bench lowering SOURCE
+       vx_bench operations SOURCE
+       vx_bench planning COUNT
+       vx_bench words TEXT
+";
 
-/// Value 0 is a test, and each block reads the value of its number and writes the next one.
-fn block(alloc: Global, number: u32, exit: Exit) -> Result<Block, NoMemory> {
-    let mut ops = Listed::new(alloc);
-    ops.push(Op::Compute {
-        code: Code::Add,
-        to: number.wrapping_add(2),
-        left: Operand::Held(number.wrapping_add(1)),
-        right: Operand::Number(1),
-    })?;
-    ops.push(Op::Compute {
-        code: Code::ToBranch(Compare::Lt),
-        to: 0,
-        left: Operand::Held(1),
-        right: Operand::Number(10),
-    })?;
-    Ok(Block { ops, exit })
+/// A measurement, with the word that it wants.
+#[derive(Clone, Copy)]
+enum Measurement<'a> {
+    Flow,
+    Lowering(&'a str),
+    Operations(&'a str),
+    Planning(u32),
+    Words(&'a str),
 }
 
-/// Block 0 goes to block 1; every other one but the last splits to the next one and back to block 1; the last one returns.
-fn chain(alloc: Global) -> Result<Graph, NoMemory> {
-    let mut blocks = Listed::new(alloc);
-    let mut banks = Listed::new(alloc);
-    banks.push(Bank::Branch)?;
-    banks.push(Bank::General)?;
-    banks.push(Bank::General)?;
-    blocks.push(block(alloc, 0, Exit::Goto(1))?)?;
-    for number in 1..BLOCKS - 1 {
-        let exit = Exit::Split {
-            test: 0,
-            yes: number + 1,
-            no: 1,
-        };
-        blocks.push(block(alloc, number, exit)?)?;
-        banks.push(Bank::General)?;
+fn words_of(rt: &HostRuntime) -> Option<Vec<String>> {
+    match env::args(rt) {
+        Ok(words) => words.collect(rt.alloc()).ok(),
+        Err(_) => None,
     }
-    blocks.push(block(alloc, BLOCKS - 1, Exit::Return(Operand::Held(1)))?)?;
-    banks.push(Bank::General)?;
-    Ok(Graph {
-        blocks,
-        banks,
-        parameters: Listed::new(alloc),
-        arrays: Listed::new(alloc),
-    })
 }
 
-/// Whether the values, back edges and headers are as they should be: value 1 is live at the last block, value 2 is not at
-/// block 0, every block but the first and the last has an edge back to block 1, which is the one header.
-fn found_in(alloc: Global, graph: &Graph) -> Result<bool, NoMemory> {
-    if !graph.sound() {
-        return Ok(false);
+/// The measurement that the words of the command line ask for, the program's name first. None where there is none such.
+fn asked<'a>(words: &'a [String]) -> Option<Measurement<'a>> {
+    match words {
+        [_, name] => asked_alone(name.as_str()),
+        [_, name, word] => asked_with(name.as_str(), word.as_str()),
+        _ => None,
     }
-    let live = live(alloc, graph)?;
-    let back = back_edges(alloc, graph)?;
-    let headers = headers(alloc, graph)?;
-    Ok(
-        live.at(BLOCKS - 1, 1)
-            && !live.at(0, 2)
-            && back.len() == BLOCKS as usize - 2
-            && headers.as_slice() == [1].as_slice(),
-    )
 }
 
-fn measure(alloc: Global) -> Result<bool, NoMemory> {
-    let graph = chain(alloc)?;
-    found_in(alloc, &graph)
+fn asked_alone<'a>(name: &str) -> Option<Measurement<'a>> {
+    match name {
+        "flow" => Some(Measurement::Flow),
+        _ => None,
+    }
+}
+
+fn asked_with<'a>(name: &str, word: &'a str) -> Option<Measurement<'a>> {
+    match name {
+        "lowering" => Some(Measurement::Lowering(word)),
+        "operations" => Some(Measurement::Operations(word)),
+        "planning" => planning_of(word),
+        "words" => Some(Measurement::Words(word)),
+        _ => None,
+    }
+}
+
+fn planning_of<'a>(word: &str) -> Option<Measurement<'a>> {
+    match word.parse::<u32>() {
+        Ok(count) => Some(Measurement::Planning(count)),
+        Err(_) => None,
+    }
+}
+
+fn measure(rt: &HostRuntime, asked: Measurement<'_>) -> Ended {
+    match asked {
+        Measurement::Flow => flow::measure(rt.alloc()),
+        Measurement::Lowering(name) => lowering::measure(rt, name),
+        Measurement::Operations(name) => operations::measure(rt, name),
+        Measurement::Planning(count) => planning::measure(rt, count),
+        Measurement::Words(name) => words::measure(rt, name),
+    }
+}
+
+/// Puts how the program is called. The answer is the same where that fails.
+fn usage(rt: &HostRuntime) -> Ended {
+    let _ = put_all(&mut RealSink::make(rt.stderr()), USAGE);
+    Ended::Usage
+}
+
+fn answer(rt: &HostRuntime, words: &[String]) -> Ended {
+    match asked(words) {
+        Some(asked) => measure(rt, asked),
+        None => usage(rt),
+    }
 }
 
 fn main(rt: HostRuntime) -> ExitCode {
-    match measure(rt.alloc()) {
-        Ok(true) => ExitCode::from(0),
-        Ok(false) => ExitCode::from(1),
-        Err(NoMemory) => ExitCode::from(14),
-    }
+    let ended = match words_of(&rt) {
+        Some(words) => answer(&rt, words.as_slice()),
+        None => Ended::NoMemory,
+    };
+    ExitCode::from(ended.status())
 }

@@ -5,7 +5,7 @@ ghost use Rattle.std.specs.Prelude.{◌≡◌};
 ghost use Rattle.std.specs.List.{list_all};
 ghost use Rattle.vx_flow.specs.Effects.{reads, writes, value_in};
 ghost use Rattle.vx_dep.specs.Delays.{reads_of, writes_of};
-ghost use Rattle.vx_bench_plan.specs.Plannable.{all_are_below, is_unbound, names_below, is_plannable_op, is_free, ascend, are_within, is_plannable};
+ghost use Rattle.vx_bench.specs.Plannable.{all_are_below, is_unbound, names_below, is_plannable_op, is_free, ascend, are_within, is_plannable};
 
 use vx_base::arithmetic::Code;
 use vx_flow::graph::{Op, Operand, Value};

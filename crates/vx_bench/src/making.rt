@@ -25,23 +25,38 @@ const LIVE: u32 = 10;
 
 /// A trace of so many operations.
 pub(crate) fn trace(alloc: Global, count: u32) -> Result<Trace, NoMemory> {
-    let mut ops = Listed::new(alloc);
-    let mut fixed = Listed::new(alloc);
-    let mut blocks = Listed::new(alloc);
-    blocks.push(0)?;
-    for place in 0..count {
-        ops.push(op(alloc, place)?)?;
-        fixed.push(None)?;
-    }
     Ok(Trace {
         function: 0,
-        blocks,
-        ops,
-        fixed,
+        blocks: blocks(alloc)?,
+        ops: ops(alloc, count)?,
+        fixed: free_of(alloc, count)?,
         joins: joins(alloc, count)?,
         values: count.saturating_add(GIVEN),
         arrays: arrays(alloc)?,
     })
+}
+
+fn blocks(alloc: Global) -> Result<Listed<u32>, NoMemory> {
+    let mut blocks = Listed::new(alloc);
+    blocks.push(0)?;
+    Ok(blocks)
+}
+
+fn ops(alloc: Global, count: u32) -> Result<Listed<TraceOp>, NoMemory> {
+    let mut ops = Listed::new(alloc);
+    for place in 0..count {
+        ops.push(op(alloc, place)?)?;
+    }
+    Ok(ops)
+}
+
+/// So many operations without a cluster.
+fn free_of(alloc: Global, count: u32) -> Result<Listed<Option<u32>>, NoMemory> {
+    let mut free = Listed::new(alloc);
+    for _ in 0..count {
+        free.push(None)?;
+    }
+    Ok(free)
 }
 
 /// Two joins, behind a third of the operations and behind two thirds.

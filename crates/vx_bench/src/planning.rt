@@ -1,9 +1,12 @@
-// The calls of planning on one trace: clusters, delays, words, copies at splits and at joins.
+// A trace through all calls of planning on the default machine with four clusters: clusters, delays, words, copies at splits and
+// at joins. The lengths are put as a line.
 
 ghost use Rattle.std.specs.Prelude.{◌≡◌, true, [], length, IfOk};
 ghost use Rattle.vx_bug.specs.Further.{RoomForEach};
-ghost use Rattle.vx_bench_plan.specs.Plannable.{is_plannable};
+ghost use Rattle.vx_bench.specs.Plannable.{is_plannable};
 
+use crate::ending::Ended;
+use crate::making::trace;
 use crate::plannable::is_plannable;
 use std::alloc::Global;
 use vx_base::listed::Listed;
@@ -20,29 +23,59 @@ use vx_split::at_splits;
 
 /// What is planned for a trace.
 #[derive(Clone, Copy)]
-pub(crate) struct Lengths {
+struct Lengths {
     /// How many words it has where operations pass splits and joins.
-    pub(crate) free: u32,
+    free: u32,
     /// How many it has where they do not.
-    pub(crate) barred: u32,
+    barred: u32,
+}
+
+/// Plans a trace of so many operations.
+pub(crate) fn measure(rt: &HostRuntime, count: u32) -> Ended {
+    match planned(rt.alloc(), count) {
+        Ok(Some(lengths)) => told(rt, lengths),
+        Ok(None) => Ended::Refused,
+        Err(NoMemory) => Ended::NoMemory,
+    }
+}
+
+fn told(rt: &HostRuntime, lengths: Lengths) -> Ended {
+    match println!(rt;
+        "{} words free, {} words barred",
+        lengths.free, lengths.barred
+    ) {
+        Ok(()) => Ended::Done,
+        Err(_) => Ended::NotWritten,
+    }
+}
+
+fn planned(alloc: Global, count: u32) -> Result<Option<Lengths>, NoMemory> {
+    let trace = trace(alloc, count)?;
+    plan(alloc, &trace, &Machine::vex(4))
 }
 
 /// The lengths of a trace in words. None where a condition of a call does not hold.
-pub(crate) fn plan(
-    alloc: Global,
-    trace: &Trace,
-    machine: &Machine,
-) -> Result<Option<Lengths>, NoMemory> {
+fn plan(alloc: Global, trace: &Trace, machine: &Machine) -> Result<Option<Lengths>, NoMemory> {
     if !is_plannable(trace) {
         return Ok(None);
     }
     let clusters = clusters_of(alloc, trace, machine)?;
+    lengths_of(alloc, &clusters, machine)
+}
+
+fn lengths_of(
+    alloc: Global,
+    clusters: &Clusters,
+    machine: &Machine,
+) -> Result<Option<Lengths>, NoMemory>
+    requires { RoomForEach machine.now clusters.now }
+{
     if clusters.clustered.clusters.len() != clusters.clustered.trace.ops.len() {
         return Ok(None);
     }
     Ok(Some(Lengths {
-        free: length_in(alloc, &clusters, machine, Mode::Free)?,
-        barred: length_in(alloc, &clusters, machine, Mode::Barred)?,
+        free: length_in(alloc, clusters, machine, Mode::Free)?,
+        barred: length_in(alloc, clusters, machine, Mode::Barred)?,
     }))
 }
 
@@ -75,8 +108,12 @@ fn length_in(
     requires room { RoomForEach machine.now clusters.now }
 {
     let placed = placed(alloc, clusters, machine, mode)?;
-    let _edges = at_splits(alloc, &placed)?;
-    let _rejoins = at_joins(alloc, &placed)?;
+    with_copies(alloc, &placed)
+}
+
+fn with_copies(alloc: Global, placed: &Placed) -> Result<u32, NoMemory> {
+    let _edges = at_splits(alloc, placed)?;
+    let _rejoins = at_joins(alloc, placed)?;
     Ok(placed.length)
 }
 

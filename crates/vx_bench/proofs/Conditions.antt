@@ -21,7 +21,7 @@ use Rattle.vx_bug.specs.declared.clusters.Clusters.{Clusters}
 use Rattle.vx_bug.specs.CanAssign.{IsFixed, bound_writes, BoundAtHome, FixedAtHome, FixedReadsHere, ClustersAreThere, ValuesAreThere, CopiesHaveNumbers, IsWellFormed}
 use Rattle.vx_bug.specs.Further.{RoomForEach}
 use Rattle.vx_sched.specs.Placement.{items_at, AreDeps, HaveRoomAlone}
-use Rattle.vx_bench_plan.specs.Plannable.{is_below, all_are_below, is_unbound, names_below, is_plannable_op, is_free, ascend, are_within, most_values, is_plannable}
+use Rattle.vx_bench.specs.Plannable.{is_below, all_are_below, is_unbound, names_below, is_plannable_op, is_free, ascend, are_within, most_values, is_plannable}
 
 -- the reads of two operands
 pub both_below : (values : ℕ) (a b : Operand) → all_are_below values (value_in a ++ value_in b) ≡ (all_are_below values (value_in a) && all_are_below values (value_in b))

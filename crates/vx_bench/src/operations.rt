@@ -1,0 +1,78 @@
+// How many operations a source does over its graphs with an empty input, within 100,000,000 blocks. The number is put as a
+// line.
+
+use crate::ending::Ended;
+use crate::source::program_of;
+use std::alloc::Global;
+use vx_ast::typed::Typed;
+use vx_base::outcome::NoMemory;
+use vx_flow::graph::{Flow, Graph};
+use vx_lower::lower;
+use vx_profile::count;
+use vx_profile::counts::Counts;
+
+/// The most blocks of a run.
+const MOST_BLOCKS: u64 = 100000000;
+
+/// What a run did.
+#[derive(Clone, Copy)]
+struct Work {
+    operations: u64,
+    /// Whether the run ended.
+    complete: bool,
+}
+
+pub(crate) fn measure(rt: &HostRuntime, name: &str) -> Ended {
+    match program_of(rt, name) {
+        Ok(program) => told(rt, ran(rt.alloc(), &program)),
+        Err(ended) => ended,
+    }
+}
+
+/// Puts the number of operations of a run.
+fn told(rt: &HostRuntime, answer: Result<Work, NoMemory>) -> Ended {
+    match answer {
+        Ok(work) => match println!(rt; "{}", work.operations) {
+            Ok(()) if work.complete => Ended::Done,
+            Ok(()) => Ended::WentOn,
+            Err(_) => Ended::NotWritten,
+        },
+        Err(NoMemory) => Ended::NoMemory,
+    }
+}
+
+fn ran(alloc: Global, program: &Typed) -> Result<Work, NoMemory> {
+    let flow = lower(alloc, program)?;
+    counted(alloc, &flow)
+}
+
+fn counted(alloc: Global, flow: &Flow) -> Result<Work, NoMemory> {
+    let counted = count(alloc, flow, &[], MOST_BLOCKS)?;
+    Ok(Work {
+        operations: done(flow, &counted.counts),
+        complete: counted.complete,
+    })
+}
+
+/// The operations that were done.
+fn done(flow: &Flow, counts: &Counts) -> u64 {
+    let mut done: u64 = 0;
+    let mut number: u32 = 0;
+    for graph in flow.functions.as_slice() {
+        done = done.saturating_add(done_in(graph, number, counts));
+        number = number.saturating_add(1);
+    }
+    done
+}
+
+/// The operations that were done in a function.
+fn done_in(graph: &Graph, function: u32, counts: &Counts) -> u64 {
+    let mut done: u64 = 0;
+    let mut number: u32 = 0;
+    for block in graph.blocks.as_slice() {
+        let times = counts.of_block(function, number);
+        done = done.saturating_add(times.saturating_mul(block.ops.len() as u64));
+        number = number.saturating_add(1);
+    }
+    done
+}

@@ -1,8 +1,0 @@
--- The tokens of a source are what the parser asks for.
-use Rattle.std.proofs.Common.{subst, sym}
-use Rattle.vx_parse.specs.Reading.{Ended}
-use Rattle.vx_bench_lower.proofs.Ended.{ended}
-use Rattle.vx_bench_lower.proofs.read.Goals as goal
-
-pub parse-requires : goal.parse-requires
-parse-requires c = subst Ended (sym c.as_slice.ensures.value) (ended c.args.source.now c.in_ok-all.all.items c.in_ok-all.ensures.ok)
