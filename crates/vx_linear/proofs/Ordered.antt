@@ -1,26 +1,25 @@
 -- The symbols of each form of a trace ascend.
-use Rattle.std.proofs.Common.{◌≡◌, ◌⊎◌, inl, inr, ℕ, zero, suc, ℤ, pos, negsuc, refl, sym, ◌∙◌, ap, subst, Bool, true, false, not, ◌&&◌, ◌||◌, if◌then◌else◌, Option, Some, None, List, [], ◌∷◌, slice_get}
+use Rattle.std.proofs.Common.{◌≡◌, ℕ, zero, suc, ℤ, pos, negsuc, refl, sym, ◌∙◌, ap, subst, Bool, true, false, not, ◌&&◌, if◌then◌else◌, Option, Some, None, List, [], ◌∷◌, slice_get}
 use Rattle.std.specs.Ordering.{int_eq}
 use Rattle.vx_base.specs.declared.arithmetic.Code.{Code}
 use Rattle.vx_base.specs.declared.arithmetic.Code.TheVariants.{Add, Sub, And, Or, Xor, Shl, Shr, Shru, Sh2add, Max, Min, Mov, ToGeneral, ToBranch, Mpylu, Mpyhs, Div, Rem}
-use Rattle.vx_base.specs.Arithmetic.{sum_of, product_of, quotient_of, value_of}
+use Rattle.vx_base.specs.Arithmetic.{sum_of, product_of, value_of}
 use Rattle.vx_flow.specs.declared.graph.Operand.{Operand}
 use Rattle.vx_flow.specs.declared.graph.Operand.TheVariants.{Held, Number, Stack}
-use Rattle.vx_flow.specs.declared.graph.Op.{Op}
 use Rattle.vx_flow.specs.declared.graph.Op.TheVariants.{Compute, Select, Place, Load, Store, More, Input, Text, Decimal, Across}
 use Rattle.vx_flow.specs.declared.trace.TraceOp.{TraceOp}
 use Rattle.vx_flow.specs.declared.trace.TraceOp.TheVariants.{Plain, Split}
 use Rattle.vx_flow.specs.declared.trace.Trace.{Trace}
 use Rattle.vx_linear.specs.declared.form.Symbol.{Symbol}
-use Rattle.vx_linear.specs.declared.form.Symbol.TheVariants.{Entry, Made, EntryPlace, MadePlace}
+use Rattle.vx_linear.specs.declared.form.Symbol.TheVariants.{Entry, Made}
 use Rattle.vx_linear.specs.declared.form.Term.{Term}
 use Rattle.vx_linear.specs.declared.form.Form.{Form}
 use Rattle.vx_linear.specs.declared.linear.Linear.{Linear}
 use Rattle.vx_linear.specs.declared.follow.Half.{Half}
 use Rattle.vx_linear.specs.declared.follow.Known.{Known}
 use Rattle.vx_linear.specs.Forms.{is_before, is_same, is_before_all, is_ordered}
-use Rattle.vx_linear.specs.Linear.{constant, symbol, unless_zero, with_term, with_terms, scaled, plus, times, minus}
-use Rattle.vx_linear.specs.Followed.{Above, At, Joined, writes_it, made_or_entry, made_or_entry_place, plain, number_in, common, are_halves, by_number, product_or, times_or, by_half, computed, made, known, index_made, index_of, above_of, access_form, form_at, forms_from, forms_of}
+use Rattle.vx_linear.specs.Linear.{constant, symbol, unless_zero, with_term, with_terms, scaled, plus, minus}
+use Rattle.vx_linear.specs.Followed.{Above, At, Joined, writes_it, made_or_entry, plain, number_in, common, are_halves, by_number, product_or, times_or, by_half, computed, made, known, index_made, index_of, above_of, access_form, form_at, forms_from, forms_of}
 use Rattle.vx_linear.proofs.Symbols.{ordered_rest, ordered_first, before_all_trans}
 use Rattle.vx_linear.proofs.Merging.{before_back}
 

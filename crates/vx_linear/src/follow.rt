@@ -1,6 +1,6 @@
 // What is known of the value that an operation makes, by what is known of its operands (specs/Followed.antt).
 
-ghost use Rattle.std.specs.Prelude.{◌≡◌, IfOk};
+ghost use Rattle.std.specs.Prelude.{◌≡◌, ◌≢◌, IfOk};
 ghost use Rattle.vx_linear.specs.Followed.{plain, number_in, common, are_halves, product_or, times_or, by_half, computed};
 ghost use Rattle.vx_linear.specs.Linear.{plus, symbol};
 
@@ -144,6 +144,25 @@ fn factor_of(read: Read) -> Factor
     }
 }
 
+/// The form of what an operation makes of two operands, where it is no half multiplication.
+fn form_made(
+    alloc: Global,
+    place: u32,
+    code: Code,
+    left: &Read,
+    right: &Read,
+) -> Result<Linear, AllocError>
+    ensures { IfOk result (λ linear. code ≢ Code.Mpylu → code ≢ Code.Mpyhs → computed place code left.now.operand right.now.operand left.now.known right.now.known ≡ plain linear) }
+{
+    match code {
+        Code::Add => product_or_sum(alloc, &left.known, &right.known),
+        Code::Sub => minus(alloc, &left.known.linear, &right.known.linear),
+        Code::Mov => copy(alloc, &left.known.linear),
+        Code::Shl => by_number(alloc, place, code, &left.known, &right.operand),
+        _ => symbol(alloc, Symbol::Made(place)),
+    }
+}
+
 /// What is known of the value that an operation makes of two operands, of which this is known.
 pub(crate) fn computed(
     alloc: Global,
@@ -155,13 +174,9 @@ pub(crate) fn computed(
     ensures { IfOk result (λ known. known ≡ computed place code left.operand right.operand left.known right.known) }
 {
     match code {
-        Code::Add => Ok(plain(product_or_sum(alloc, &left.known, &right.known)?)),
-        Code::Sub => Ok(plain(minus(alloc, &left.known.linear, &right.known.linear)?)),
-        Code::Mov => Ok(plain(copy(alloc, &left.known.linear)?)),
-        Code::Shl => Ok(plain(by_number(alloc, place, code, &left.known, &right.operand)?)),
         Code::Mpylu => half_product(alloc, false, place, code, left, right),
         Code::Mpyhs => half_product(alloc, true, place, code, left, right),
-        _ => made_at(alloc, place),
+        _ => Ok(plain(form_made(alloc, place, code, &left, &right)?)),
     }
 }
 

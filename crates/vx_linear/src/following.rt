@@ -1,20 +1,44 @@
 // The index forms of a trace: what each operation makes is found once, in trace order, from what those above it make.
 
-ghost use Rattle.std.specs.Prelude.{◌≡◌, ◌+◌, ◌^◌, ◌<◌, ◌≤◌, ℕ, Some, IfOk, slice_get};
+ghost use Rattle.std.specs.Prelude.{◌≡◌, ◌+◌, ◌^◌, ◌<◌, ◌≤◌, ℕ, Some, IfOk, slice_get, OnOk};
 ghost use Rattle.vx_linear.specs.Followed.{made, known, index_of, index_made, array_of, access_form, form_at, above_of, forms_of};
 ghost use Rattle.vx_linear.specs.Writers.{writer, has_join, made_at, index_there};
-ghost use Rattle.vx_linear.specs.Passed.{Passes};
+ghost use Rattle.vx_linear.specs.Passed.{Passes, JoinsAre};
 
 use crate::follow::{Known, Read, computed, copy_known, made_at, plain};
 use crate::form::{Form, Symbol};
 use crate::linear::{Linear, constant, copy, symbol};
 use crate::passed::{Passed, join_places, none_passed, pass};
+use crate::places::Places;
 use std::alloc::{AllocError, Global};
 use vx_base::arithmetic::div32;
 use vx_base::listed::Listed;
 use vx_base::outcome::NoMemory;
 use vx_flow::graph::{Array, ArrayId, Op, Operand, Value};
 use vx_flow::trace::{Trace, TraceOp};
+
+/// The form of the operation at a place, behind which that operation is passed.
+fn follow(
+    alloc: Global,
+    trace: &Trace,
+    joins: &Places,
+    passed: &mut Passed,
+    place: usize,
+    op: &TraceOp,
+) -> Result<Option<Form>, NoMemory>
+    requires passed { Passes trace.now place passed.old }
+    requires joins { JoinsAre trace.now.joins joins.now.entries.entries }
+    requires there { slice_get trace.now.ops place ≡ Some op.now }
+    requires few { place < 2 ^ 32 }
+    ensures form { IfOk result (λ form. form ≡ form_at trace.now place op.now) }
+    ensures passed { OnOk result (Passes trace.now (place + 1) passed.new) }
+{
+    let form = form_at(alloc, trace, passed, place, op)?;
+    let known = made(alloc, trace, passed, place, op)?;
+    let index = index_made(alloc, trace, passed, place, op)?;
+    pass(passed, trace, joins, place, op, known, index)?;
+    Ok(form)
+}
 
 /// The index forms of the loads and stores of a trace, by the places of its operations; None exactly for the other
 /// operations. A form follows sums, differences, moves, shifts by a number and multiplications by a number, as far as no
@@ -31,11 +55,8 @@ pub fn forms(alloc: Global, trace: &Trace) -> Result<Listed<Option<Form>>, NoMem
             None => return Ok(forms),
             Some((op, others)) => {
                 let place = forms.len();
-                let form = form_at(alloc, trace, &passed, place, op)?;
-                let known = made(alloc, trace, &passed, place, op)?;
-                let index = index_made(alloc, trace, &passed, place, op)?;
+                let form = follow(alloc, trace, &joins, &mut passed, place, op)?;
                 forms.push(form)?;
-                pass(&mut passed, trace, &joins, place, op, known, index)?;
                 rest = others;
             }
         }

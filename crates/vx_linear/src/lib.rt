@@ -13,4 +13,3 @@ mod places;
 
 pub use difference::differs;
 pub use following::forms;
-

@@ -7,8 +7,8 @@ use Rattle.vx_linear.proofs.following.forms.Goals as goal
 pub follow-init : goal.follow-init
 follow-init c = none_followed c.args.trace.now _ _ _ (c.none_passed-passed.ensures c.args.trace.now) c.new-forms.ensures c.as_slice-rest.ensures
 
-pub pass-requires-clause-there : goal.pass-requires-clause-there
-pass-requires-clause-there c =
+pub follow-requires-clause-there : goal.follow-requires-clause-there
+follow-requires-clause-there c =
     let t = c.args.trace.now in
     let rest : c.follow.rest.now ≡ c.in-Some.op.now ∷ c.in-Some.others.now = search rules in
     ap (slice_get t.ops) c.len-place.ensures.len ∙ stands_there t c.follow.passed c.follow.forms c.follow.rest.now c.in-Some.others.now c.in-Some.op.now c.follow.invariant rest
@@ -20,8 +20,8 @@ follow-preserved c =
     let rest : c.follow.rest.now ≡ c.in-Some.op.now ∷ c.in-Some.others.now = search rules in
     let place = c.len-place.ensures.len in
     let form_is : form ≡ form_at t c.len-place.result c.in-Some.op.now = search rules in
-    let passes : Passes t (length c.follow.forms + 1) c.pass.new.passed = subst (λ n. Passes t (n + 1) c.pass.new.passed) place c.in_ok-pass-in-Some.ensures in
-    let next : IsFollowed t c.pass.new.passed (c.follow.forms ++ form ∷ []) c.in-Some.others.now =
-    one_more t c.follow.passed c.pass.new.passed c.follow.forms c.follow.rest.now c.in-Some.others.now c.in-Some.op.now form c.follow.invariant rest (form_is ∙ ap (λ n. form_at t n c.in-Some.op.now) place) passes in
+    let passes : Passes t (length c.follow.forms + 1) c.follow-in-Some.new.passed = subst (λ n. Passes t (n + 1) c.follow-in-Some.new.passed) place c.in_ok-form-in-Some.ensures.passed in
+    let next : IsFollowed t c.follow-in-Some.new.passed (c.follow.forms ++ form ∷ []) c.in-Some.others.now =
+    one_more t c.follow.passed c.follow-in-Some.new.passed c.follow.forms c.follow.rest.now c.in-Some.others.now c.in-Some.op.now form c.follow.invariant rest (form_is ∙ ap (λ n. form_at t n c.in-Some.op.now) place) passes in
     let forms_are : c.push.new.self ≡ c.follow.forms ++ form ∷ [] = search rules in
-    subst (λ fs. IsFollowed t c.pass.new.passed fs c.in-Some.others.now) (sym forms_are) next
+    subst (λ fs. IsFollowed t c.follow-in-Some.new.passed fs c.in-Some.others.now) (sym forms_are) next
