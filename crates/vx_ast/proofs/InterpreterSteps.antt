@@ -136,6 +136,11 @@ pub from_located : {D : Type 0} (spot : ℕ → ℕ) (calls : Calls) (p : Place)
 from_located spot calls p new s g r k w t e c =
     subst (Comes g r k) (sym (changes_is spot calls p new s)) (on_then g r k w t (located spot calls p s) (λ w t. and_then (new (held_at w t) t) (λ v u. With Falls (put_at w v u))) e c)
 
+pub stop_located : {D : Type 0} (spot : ℕ → ℕ) (calls : Calls) (p : Place) (new : ℤ → Store → Part ℤ) (s : Store) (g : D → Leaves) (r : Result D Stop) (e : Stop) (k : Kept) →
+    IsErrAnd r (λ y. y ≡ e) → Comes {A = Located} itself (Err e) k (located spot calls p s) → Comes g r k (changes spot calls p new s)
+stop_located spot calls p new s g r e k h c =
+    subst (Comes g r k) (sym (changes_is spot calls p new s)) (stop_then itself g r e k (located spot calls p s) (λ w t. and_then (new (held_at w t) t) (λ v u. With Falls (put_at w v u))) h c)
+
 -- calls
 
 not_none : (depth : ℕ) → (depth ≡ 0 → ⊥) → depth ≡ suc (depth - 1)

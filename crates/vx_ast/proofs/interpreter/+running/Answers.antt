@@ -9,7 +9,7 @@ use Rattle.vx_ast.specs.Meaning.{With, Falls, does, test_of, value, and_then, co
 use Rattle.vx_ast.specs.Kept.{store_of}
 use Rattle.vx_ast.specs.View.{all_in, code_of, step_of, row_in, tree_of, place_of, function_of}
 use Rattle.vx_ast.specs.Interpreting.{Comes, itself, falls, calls_at, spot_at}
-use Rattle.vx_ast.proofs.InterpreterSteps.{stop_as, stop_then, on_then, stop_index, on_index, go_through, go_around, gives, view_Call, view_Block, view_Print, chain, from_located, called, stop_result, on_result}
+use Rattle.vx_ast.proofs.InterpreterSteps.{stop_as, stop_then, on_then, stop_index, on_index, go_through, go_around, gives, view_Call, view_Block, view_Print, chain, from_located, stop_located, called, stop_result, on_result}
 use Rattle.vx_ast.proofs.InterpreterLoops.{row_stop, row_more, fall_on, while_more, do_out, do_on, do_more, for_stop, for_out, for_step_stop, for_more}
 use Rattle.vx_ast.proofs.interpreter.+running.Goals as goal
 
@@ -108,6 +108,22 @@ pub evaluate-returns-in_ok-arguments-in-Call : goal.evaluate-returns-in_ok-argum
 evaluate-returns-in_ok-arguments-in-Call t c =
     let e : tree_of c.args.e.now ≡ Apply c.in-Call.f (row_in c.as_slice.result.now) = ap tree_of c.in-Call.is ∙ view_Call c.in-Call.f c.in-Call.row ∙ ap (λ l. Apply c.in-Call.f (row_in l)) (sym c.as_slice.ensures.value) in
     rw e (on_then _ _ _ _ _ _ _ c.in_ok-arguments-in-Call.ensures.is c.call.ensures)
+
+pub act-returns-in_err-place-in-Assign : goal.act-returns-in_err-place-in-Assign
+act-returns-in_err-place-in-Assign t c =
+    rw c.in-Assign.is (stop_located (spot_at c.args.program.now c.args.at) (calls_at c.args.program.now c.args.at) (place_of c.in-Assign.target) (λ old u. value (spot_at c.args.program.now c.args.at) (calls_at c.args.program.now c.args.at) (tree_of c.in-Assign.e) u) (store_of c.args.store.now) _ _ c.in_err-place-in-Assign.field-0.0 _ c.from_residual-in_err-place-in-Assign.ensures.1 c.in_err-place-in-Assign.ensures)
+
+pub act-returns-in_err-place-in-Compound : goal.act-returns-in_err-place-in-Compound
+act-returns-in_err-place-in-Compound t c =
+    rw c.in-Compound.is (stop_located (spot_at c.args.program.now c.args.at) (calls_at c.args.program.now c.args.at) (place_of c.in-Compound.target) (λ old u. and_then (value (spot_at c.args.program.now c.args.at) (calls_at c.args.program.now c.args.at) (tree_of c.in-Compound.e) u) (λ v w. combined c.in-Compound.operator old v w)) (store_of c.args.store.now) _ _ c.in_err-place-in-Compound.field-0.0 _ c.from_residual-in_err-place-in-Compound.ensures.1 c.in_err-place-in-Compound.ensures)
+
+pub act-returns-in_err-place-in-Increase : goal.act-returns-in_err-place-in-Increase
+act-returns-in_err-place-in-Increase t c =
+    rw c.in-Increase.is (stop_located (spot_at c.args.program.now c.args.at) (calls_at c.args.program.now c.args.at) (place_of c.in-Increase.target) (λ old u. With (sum_of old (pos 1)) u) (store_of c.args.store.now) _ _ c.in_err-place-in-Increase.field-0.0 _ c.from_residual-in_err-place-in-Increase.ensures.1 c.in_err-place-in-Increase.ensures)
+
+pub act-returns-in_err-place-in-Decrease : goal.act-returns-in_err-place-in-Decrease
+act-returns-in_err-place-in-Decrease t c =
+    rw c.in-Decrease.is (stop_located (spot_at c.args.program.now c.args.at) (calls_at c.args.program.now c.args.at) (place_of c.in-Decrease.target) (λ old u. With (difference_of old (pos 1)) u) (store_of c.args.store.now) _ _ c.in_err-place-in-Decrease.field-0.0 _ c.from_residual-in_err-place-in-Decrease.ensures.1 c.in_err-place-in-Decrease.ensures)
 
 pub act-returns-in_err-v-in-Assign : goal.act-returns-in_err-v-in-Assign
 act-returns-in_err-v-in-Assign t c =
