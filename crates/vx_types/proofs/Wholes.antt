@@ -92,19 +92,19 @@ pub record PassedSo (p : Program) (arrays : ℕ) (done : List tree.Function) (en
 pub passed_begin : (p : Program) (arrays : ℕ) (env : Environment) → env ≡ record { depth = 0; locals = []; names = names_of p; above = 0; scalars = 0; arrays = 0; sizes = [] } → arrays ≡ length (globals_of p.definitions) → PassedSo p arrays [] env None 0 p.definitions
 passed_begin p arrays env e g = record { made_so = refl; faults_so = refl; locals_so = ap (λ (z : Environment). z.locals) e; names_so = ap (λ (z : Environment). z.names) e; above_so = ap (λ (z : Environment). z.above) e; arrays_so = g }
 
-pub passed_step : (p : Program) (arrays : ℕ) (done more : List tree.Function) (env middle last : Environment) (first after : Option Fault) (i : ℕ) (left rest : List Definition) (d : Definition)
+pub passed_step : (p : Program) (arrays : ℕ) (done more : List tree.Function) (env last : Environment) (first after : Option Fault) (i : ℕ) (left rest : List Definition) (d : Definition)
     → PassedSo p arrays done env first i left → left ≡ d ∷ rest → more ≡ done ++ own_functions env arrays d → after ≡ least first (own_faults env arrays d)
-    → middle.locals ≡ [] → middle.names ≡ env.names → middle.above ≡ env.above → last ≡ record middle { above = middle.above + 1 } → PassedSo p arrays more last after (i + 1) rest
-passed_step p arrays done more env middle last first after i left rest d s e m f l n a q =
+    → last.locals ≡ [] → last.names ≡ env.names → last.above ≡ env.above + 1 → PassedSo p arrays more last after (i + 1) rest
+passed_step p arrays done more env last first after i left rest d s e m f l n a =
     let start = at_its_start p i arrays env s.locals_so s.names_so s.above_so s.arrays_so in
     record {
       made_so = ap (λ z. z ++ functions_from p (i + 1) rest) m ∙ append_assoc done (own_functions env arrays d) (functions_from p (i + 1) rest)
           ∙ ap (λ z. done ++ z) (own_made p i arrays env d rest start) ∙ sym (ap (λ z. done ++ functions_from p i z) e) ∙ s.made_so;
       faults_so = ap (λ z. least z (definitions_faults p (i + 1) rest)) (f ∙ ap (λ z. least first z) (own_are p i arrays env d s.names_so s.above_so start))
           ∙ sym (least_append first (definition_faults p i d) (definitions_faults p (i + 1) rest)) ∙ sym (ap (λ z. least first (definitions_faults p i z)) e) ∙ s.faults_so;
-      locals_so = ap (λ (z : Environment). z.locals) q ∙ l;
-      names_so = ap (λ (z : Environment). z.names) q ∙ n ∙ s.names_so;
-      above_so = ap (λ (z : Environment). z.above) q ∙ ap (λ z. z + 1) (a ∙ s.above_so);
+      locals_so = l;
+      names_so = n ∙ s.names_so;
+      above_so = a ∙ ap (λ z. z + 1) s.above_so;
       arrays_so = s.arrays_so;
     }
 

@@ -295,6 +295,34 @@ struct Functions {
     first: Option<Fault>,
 }
 
+/// One more definition: its faults, the function that it is, if it is one, and what is known behind it.
+fn pass_definition(
+    alloc: Global,
+    arrays: u32,
+    names: Names,
+    made: &mut Functions,
+    one: &Definition,
+) -> Result<Names, NoMemory>
+    requires empty { names.locals ≡ [] }
+    requires there { names.above < length names.names }
+    ensures made { OnOk result (map view.function_of made.new.all.items ≡ map view.function_of made.old.all.items ++ own_functions names arrays (definition_of one.now)) }
+    ensures faults { OnOk result (made.new.first ≡ least made.old.first (own_faults names arrays (definition_of one.now))) }
+    ensures locals { IfOk result (λ behind. behind.locals ≡ []) }
+    ensures names { IfOk result (λ behind. behind.names ≡ names.names) }
+    ensures above { IfOk result (λ behind. behind.above ≡ names.above + 1) }
+{
+    let mut names = names;
+    definition(
+        alloc,
+        arrays,
+        &mut names,
+        &mut made.first,
+        &mut made.all,
+        one,
+    )?;
+    names.pass(alloc)
+}
+
 // All functions of a program, with the first of the faults of all its definitions.
 fn make_functions(
     alloc: Global,
@@ -308,14 +336,15 @@ fn make_functions(
     ensures faults { IfOk result (λ made. made.first ≡ least None (definitions_faults (program_of program.now) 0 (program_of program.now).definitions)) }
 {
     let mut names = names;
-    let mut first = None;
-    let mut all = Vec::new(alloc);
+    let mut made = Functions {
+        all: Vec::new(alloc),
+        first: None,
+    };
     for one in program.definitions.as_slice() {
-        definition(alloc, arrays, &mut names, &mut first, &mut all, one)?;
-        let passed = names.pass(alloc)?;
-        names = passed;
+        let behind = pass_definition(alloc, arrays, names, &mut made, one)?;
+        names = behind;
     }
-    Ok(Functions { all, first })
+    Ok(made)
 }
 
 /// A program with each name declared, and the first of its faults.

@@ -1,11 +1,14 @@
 // Statements: their faults, and what they are with their names declared. A branch, a body of a loop and a block are
 // scopes of their own.
 
-ghost use Rattle.std.specs.Prelude.{◌≡◌, IfOk, OnOk, true, length};
-ghost use Rattle.vx_ast.specs.Faults.{code_faults, least, prints};
-ghost use Rattle.vx_ast.specs.Resolved.{code_in};
+ghost use Rattle.std.specs.Prelude.{◌≡◌, ◌++◌, ◌∷◌, [], IfOk, OnOk, false, true, length, option_map};
+ghost use Rattle.vx_ast.specs.declared.tree.Gives.TheVariants.{Int};
+ghost use Rattle.vx_ast.specs.Faults.{code_faults, least, phrase_faults, prints, test_faults};
+ghost use Rattle.vx_ast.specs.Resolved.{action_in, code_in, test_in, tree_in};
 ghost use Rattle.vx_ast.specs.Scopes.{behind, inside, outside};
-ghost use Rattle.vx_ast.specs.SyntaxView.{all_in, code_of};
+ghost use Rattle.vx_ast.specs.Syntax as spec;
+ghost use Rattle.vx_ast.specs.SyntaxView.{action_of, all_in, code_of, first_of, items_of, phrase_of, row_in, step_of};
+ghost use Rattle.vx_ast.specs.Tree as tree;
 ghost use Rattle.vx_ast.specs.View as view;
 
 use crate::expressions::{resolve, resolve_row};
@@ -20,7 +23,7 @@ use std::alloc::Global;
 use vx_ast::names::Fault;
 use vx_ast::syntax;
 use vx_ast::syntax::Place;
-use vx_ast::tree::{Gives, Statement};
+use vx_ast::tree::{Expression, First, Gives, Simple, Statement};
 use vx_base::outcome::NoMemory;
 
 // The faults of a format with so many arguments.
@@ -38,9 +41,132 @@ fn note_format(
     note(before, !is_format(format), 9, format_place)
 }
 
+/// A condition, and what stands behind it.
+#[derive(Drop)]
+struct Tested {
+    test: Expression,
+    body: Box<Statement>,
+}
+
+/// The head of a `for`.
+#[derive(Drop)]
+struct Head {
+    start: First,
+    test: Option<Expression>,
+    step: Option<Simple>,
+}
+
+/// The condition and the step of a `for`.
+#[derive(Drop)]
+struct Ends {
+    test: Option<Expression>,
+    step: Option<Simple>,
+}
+
+/// The condition and the step of a `for`, with what their names stand for.
+fn ends_of_for(
+    alloc: Global,
+    names: &Names,
+    test: &Option<syntax::Expression>,
+    step: &Option<syntax::Simple>,
+) -> Result<Ends, NoMemory>
+    ensures test { IfOk result (λ made. option_map view.tree_of made.test ≡ test_in names.now (option_map phrase_of test.now)) }
+    ensures step { IfOk result (λ made. view.step_of made.step ≡ code_in names.now (step_of step.now)) }
+{
+    let test = resolve_test(alloc, names, test)?;
+    let step = resolve_step(alloc, names, step)?;
+    Ok(Ends { test, step })
+}
+
+/// The head of a `for`: its faults, and what it is with its names declared.
+fn head_of_for(
+    alloc: Global,
+    names: &mut Names,
+    first: &mut Option<Fault>,
+    start: &syntax::First,
+    test: &Option<syntax::Expression>,
+    step: &Option<syntax::Simple>,
+) -> Result<Head, NoMemory>
+    ensures start { IfOk result (λ made. view.first_of made.start ≡ code_in names.old (first_of start.now)) }
+    ensures test { IfOk result (λ made. option_map view.tree_of made.test ≡ test_in (behind (first_of start.now) names.old) (option_map phrase_of test.now)) }
+    ensures step { IfOk result (λ made. view.step_of made.step ≡ code_in (behind (first_of start.now) names.old) (step_of step.now)) }
+    ensures known { OnOk result (names.new ≡ behind (first_of start.now) names.old) }
+    ensures faults { OnOk result (first.new ≡ least (least (least first.old (code_faults Int false names.old (first_of start.now))) (test_faults (behind (first_of start.now) names.old) (option_map phrase_of test.now))) (code_faults Int false (behind (first_of start.now) names.old) (step_of step.now))) }
+{
+    let start = first_part(alloc, names, first, start)?;
+    let before = note_test(names, test, *first);
+    *first = note_step(names, step, before);
+    let made = ends_of_for(alloc, names, test, step)?;
+    Ok(Head {
+        start,
+        test: made.test,
+        step: made.step,
+    })
+}
+
+/// What is printed, by a format and its arguments.
+fn printing(
+    alloc: Global,
+    names: &Names,
+    format: &[u8],
+    row: &[syntax::Expression],
+) -> Result<Statement, NoMemory>
+    ensures { IfOk result (λ made. view.code_of made ≡ tree.Print format.now (tree_in names.now (row_in row.now))) }
+{
+    let format = bytes_of(alloc, format)?;
+    let row = resolve_row(alloc, names, row)?;
+    Ok(Statement::Print(format, row))
+}
+
+/// A declaration among the statements of a block.
+fn declaration(
+    alloc: Global,
+    names: &mut Names,
+    first: &mut Option<Fault>,
+    all: &[syntax::Item],
+) -> Result<Statement, NoMemory>
+    ensures made { IfOk result (λ made. view.code_of made ≡ code_in names.old (items_of all.now)) }
+    ensures known { OnOk result (names.new ≡ behind (items_of all.now) names.old) }
+    ensures faults { OnOk result (first.new ≡ least first.old (code_faults Int false names.old (items_of all.now))) }
+{
+    let made = items(alloc, names, first, all)?;
+    Ok(Statement::Declaration(made))
+}
+
+/// A simple statement with what its names stand for.
+fn simple_alone(
+    alloc: Global,
+    names: &Names,
+    simple: &syntax::Simple,
+) -> Result<Statement, NoMemory>
+    ensures { IfOk result (λ made. view.code_of made ≡ tree.Simply (action_in names.now (action_of simple.now))) }
+{
+    let simple = resolve_simple(alloc, names, simple)?;
+    Ok(Statement::Simple(simple))
+}
+
+/// A `return` with a value with what its names stand for.
+fn returning(
+    alloc: Global,
+    names: &Names,
+    value: &syntax::Expression,
+) -> Result<Statement, NoMemory>
+    ensures { IfOk result (λ made. view.code_of made ≡ tree.ReturnValue (tree_in names.now (phrase_of value.now))) }
+{
+    let value = resolve(alloc, names, value)?;
+    Ok(Statement::ReturnValue(value))
+}
+
+/// One more statement.
+fn append(made: &mut Vec<Statement>, done: Statement) -> Result<(), NoMemory>
+    ensures { OnOk result (made.new.items ≡ made.old.items ++ done ∷ []) }
+{
+    made.push(done)?;
+    Ok(())
+}
+
 /// A statement of a function that gives so, inside of a loop or not.
 #[cycle(statements)]
-#[tactic(auto, using(crate::proofs::Leasts::least_append, crate::proofs::Views::block_written, crate::proofs::Views::block_view, crate::proofs::Rows::row_count, crate::proofs::Declarations::items_alike, crate::proofs::Declarations::first_alike, crate::proofs::Declarations::step_alike, crate::proofs::Scoping::leaves_for))]
 pub fn statement(
     alloc: Global,
     gives: Gives,
@@ -59,60 +185,37 @@ pub fn statement(
             let made = block(alloc, gives, loops, names, first, all.as_slice())?;
             Ok(Statement::Block(made))
         }
-        syntax::Statement::Declaration(all) => {
-            let made = items(alloc, names, first, all.as_slice())?;
-            Ok(Statement::Declaration(made))
-        }
+        syntax::Statement::Declaration(all) => { declaration(alloc, names, first, all.as_slice()) }
         syntax::Statement::Simple(simple) => {
             *first = note_simple(names, simple, *first);
-            let simple = resolve_simple(alloc, names, simple)?;
-            Ok(Statement::Simple(simple))
+            simple_alone(alloc, names, simple)
         }
         syntax::Statement::Print(place, format_place, format, row) => {
+            let format = format.as_slice();
             let row = row.as_slice();
-            let before = note_format(*place, *format_place, format.as_slice(), row.len(), *first);
+            let before = note_format(*place, *format_place, format, row.len(), *first);
             *first = note_row(names, row, before);
-            let made = resolve_row(alloc, names, row)?;
-            let format = bytes_of(alloc, format.as_slice())?;
-            Ok(Statement::Print(format, made))
+            printing(alloc, names, format, row)
         }
         syntax::Statement::If(test, branch) => {
-            *first = note_expression(names, test, *first);
-            let test = resolve(alloc, names, test)?;
-            let branch = alone(alloc, gives, loops, names, first, branch)?;
-            Ok(Statement::If(test, branch))
+            let made = test_and_body(alloc, gives, loops, names, first, branch, test)?;
+            Ok(Statement::If(made.test, made.body))
         }
         syntax::Statement::IfElse(test, left, right) => {
-            *first = note_expression(names, test, *first);
-            let test = resolve(alloc, names, test)?;
-            let left = alone(alloc, gives, loops, names, first, left)?;
-            let right = alone(alloc, gives, loops, names, first, right)?;
-            Ok(Statement::IfElse(test, left, right))
+            let made = test_and_body(alloc, gives, loops, names, first, left, test)?;
+            otherwise(alloc, gives, loops, names, first, right, made)
         }
         syntax::Statement::While(test, body) => {
-            *first = note_expression(names, test, *first);
-            let test = resolve(alloc, names, test)?;
-            let body = alone(alloc, gives, true, names, first, body)?;
-            Ok(Statement::While(test, body))
+            let made = test_and_body(alloc, gives, true, names, first, body, test)?;
+            Ok(Statement::While(made.test, made.body))
         }
         syntax::Statement::DoWhile(body, test) => {
-            *first = note_expression(names, test, *first);
-            let test = resolve(alloc, names, test)?;
-            let body = alone(alloc, gives, true, names, first, body)?;
-            Ok(Statement::DoWhile(body, test))
+            let made = test_and_body(alloc, gives, true, names, first, body, test)?;
+            Ok(Statement::DoWhile(made.body, made.test))
         }
-        syntax::Statement::For(start, test, step, body) => {
-            let count = names.count();
-            names.enter()?;
-            let start = first_part(alloc, names, first, start)?;
-            let before = note_test(names, test, *first);
-            *first = note_step(names, step, before);
-            let test = resolve_test(alloc, names, test)?;
-            let step = resolve_step(alloc, names, step)?;
-            let body = alone(alloc, gives, true, names, first, body)?;
-            names.leave(alloc, count)?;
-            Ok(Statement::For(start, test, step, body))
-        }
+        syntax::Statement::For(start, test, step, body) => repeated(
+            alloc, gives, names, first, body, start, test, step,
+        ),
         syntax::Statement::Break(place) => {
             *first = note(*first, !loops, 11, *place);
             Ok(Statement::Break)
@@ -128,15 +231,13 @@ pub fn statement(
         syntax::Statement::ReturnValue(place, value) => {
             let before = note(*first, !gives_int(gives), 7, *place);
             *first = note_expression(names, value, before);
-            let value = resolve(alloc, names, value)?;
-            Ok(Statement::ReturnValue(value))
+            returning(alloc, names, value)
         }
     }
 }
 
 // A branch or a body, in a scope of its own.
 #[cycle(statements)]
-#[tactic(auto, using(crate::proofs::Scoping::leaves_block))]
 fn alone(
     alloc: Global,
     gives: Gives,
@@ -152,14 +253,80 @@ fn alone(
     let count = names.count();
     names.enter()?;
     let made = statement(alloc, gives, loops, names, first, branch)?;
-    names.leave(alloc, count)?;
     let boxed = Box::new(alloc, made)?;
+    names.leave(alloc, count)?;
     Ok(boxed)
+}
+
+/// A condition, and a branch or a body behind it in a scope of its own.
+#[cycle(statements)]
+fn test_and_body(
+    alloc: Global,
+    gives: Gives,
+    loops: bool,
+    names: &mut Names,
+    first: &mut Option<Fault>,
+    body: &syntax::Statement,
+    test: &syntax::Expression,
+) -> Result<Tested, NoMemory>
+    ensures test { IfOk result (λ made. view.tree_of made.test ≡ tree_in names.old (phrase_of test.now)) }
+    ensures body { IfOk result (λ made. view.code_of made.body.value ≡ code_in (inside names.old) (code_of body.now)) }
+    ensures known { OnOk result (names.new ≡ outside names.old (behind (code_of body.now) (inside names.old))) }
+    ensures faults { OnOk result (first.new ≡ least (least first.old (phrase_faults names.old (phrase_of test.now))) (code_faults gives loops (inside names.old) (code_of body.now))) }
+{
+    *first = note_expression(names, test, *first);
+    let test = resolve(alloc, names, test)?;
+    let body = alone(alloc, gives, loops, names, first, body)?;
+    Ok(Tested { test, body })
+}
+
+/// What stands behind `else`, in a scope of its own, with the condition and the branch before it.
+#[cycle(statements)]
+fn otherwise(
+    alloc: Global,
+    gives: Gives,
+    loops: bool,
+    names: &mut Names,
+    first: &mut Option<Fault>,
+    branch: &syntax::Statement,
+    before: Tested,
+) -> Result<Statement, NoMemory>
+    ensures made { IfOk result (λ made. view.code_of made ≡ tree.IfElse (view.tree_of before.test) (view.code_of before.body.value) (code_in (inside names.old) (code_of branch.now))) }
+    ensures known { OnOk result (names.new ≡ outside names.old (behind (code_of branch.now) (inside names.old))) }
+    ensures faults { OnOk result (first.new ≡ least first.old (code_faults gives loops (inside names.old) (code_of branch.now))) }
+{
+    let right = alone(alloc, gives, loops, names, first, branch)?;
+    Ok(Statement::IfElse(before.test, before.body, right))
+}
+
+/// A `for`: its head and its body, in a scope of its own.
+#[cycle(statements)]
+fn repeated(
+    alloc: Global,
+    gives: Gives,
+    names: &mut Names,
+    first: &mut Option<Fault>,
+    body: &syntax::Statement,
+    start: &syntax::First,
+    test: &Option<syntax::Expression>,
+    step: &Option<syntax::Simple>,
+) -> Result<Statement, NoMemory>
+    ensures made { IfOk result (λ made. view.code_of made ≡ code_in names.old (spec.For (first_of start.now) (option_map phrase_of test.now) (step_of step.now) (code_of body.now))) }
+    ensures known { OnOk result (names.new ≡ behind (spec.For (first_of start.now) (option_map phrase_of test.now) (step_of step.now) (code_of body.now)) names.old) }
+    ensures faults { OnOk result (first.new ≡ least first.old (code_faults Int false (inside names.old) (first_of start.now) ++ (test_faults (behind (first_of start.now) (inside names.old)) (option_map phrase_of test.now) ++ (code_faults Int false (behind (first_of start.now) (inside names.old)) (step_of step.now) ++ code_faults gives true (inside (behind (first_of start.now) (inside names.old))) (code_of body.now))))) }
+{
+    let count = names.count();
+    names.enter()?;
+    let made = head_of_for(alloc, names, first, start, test, step)?;
+    let boxed = Box::new(alloc, made)?;
+    let body = alone(alloc, gives, true, names, first, body)?;
+    names.leave(alloc, count)?;
+    let made = Box::into_inner(boxed);
+    Ok(Statement::For(made.start, made.test, made.step, body))
 }
 
 // The statements of a block, in a scope of its own.
 #[cycle(statements)]
-#[tactic(auto, using(crate::proofs::Scoping::leaves_block))]
 fn block(
     alloc: Global,
     gives: Gives,
@@ -196,7 +363,7 @@ pub fn statements(
     let mut made = Vec::new(alloc);
     for one in all {
         let done = statement(alloc, gives, loops, names, first, one)?;
-        made.push(done)?;
+        append(&mut made, done)?;
     }
     Ok(made)
 }

@@ -6,10 +6,10 @@ use Rattle.vx_ast.specs.View as view
 use Rattle.vx_types.proofs.Wholes.{next_seen, names_length, seen_length, passed_step}
 use Rattle.vx_types.proofs.program.make_functions.Goals as goal
 
-pub pass-requires-clause-there : goal.pass-requires-clause-there
-pass-requires-clause-there c =
-    let a = c.in_ok-definition.ensures.above ∙ c.loop-one.invariant.above_so in
-    let n = ap (λ (z : List FileName). length z) (c.in_ok-definition.ensures.names ∙ c.loop-one.invariant.names_so) in
+pub pass_definition-requires-clause-there : goal.pass_definition-requires-clause-there
+pass_definition-requires-clause-there c =
+    let a = c.loop-one.invariant.above_so in
+    let n = ap (λ (z : List FileName). length z) c.loop-one.invariant.names_so in
     let l = names_length 0 0 (map definition_of c.args.program.now.definitions.items) in
     let m = seen_length c.args.program.now.definitions.items in
     let s = ap (λ (z : List Written). length z) c.as_slice-one-items.ensures.value in
@@ -21,6 +21,6 @@ loop-one-preserved c =
     let v = c.as_slice-one-items.ensures.value in
     let h : c.loop-one.one-index < length c.args.program.now.definitions.items = subst (λ (z : List Written). c.loop-one.one-index < length z) v c.loop-one-test.true in
     let e : c.one-item.result ≡ get_or c.args.program.now.definitions.items c.loop-one.one-index c.one-item.result = c.one-item.is ∙ ap (λ (z : List Written). get_or z c.loop-one.one-index c.one-item.result) v in
-    passed_step (program_of c.args.program.now) c.args.arrays (map view.function_of c.loop-one.all.items) (map view.function_of c.definition.new.functions.items) c.loop-one.names c.definition.new.names c.in_ok-passed.passed c.loop-one.first c.definition.new.first c.loop-one.one-index
+    passed_step (program_of c.args.program.now) c.args.arrays (map view.function_of c.loop-one.made.all.items) (map view.function_of c.pass_definition.new.made.all.items) c.loop-one.names c.in_ok-behind.behind c.loop-one.made.first c.pass_definition.new.made.first c.loop-one.one-index
     (map definition_of (drop c.loop-one.one-index c.args.program.now.definitions.items)) (map definition_of (drop (c.loop-one.one-index + 1) c.args.program.now.definitions.items)) (definition_of c.one-item.result)
-    c.loop-one.invariant (next_seen c.args.program.now.definitions.items c.loop-one.one-index c.one-item.result h e) c.in_ok-definition.ensures.made c.in_ok-definition.ensures.faults c.in_ok-definition.ensures.locals c.in_ok-definition.ensures.names c.in_ok-definition.ensures.above c.in_ok-passed.ensures
+    c.loop-one.invariant (next_seen c.args.program.now.definitions.items c.loop-one.one-index c.one-item.result h e) c.in_ok-behind.ensures.made c.in_ok-behind.ensures.faults c.in_ok-behind.ensures.locals c.in_ok-behind.ensures.names c.in_ok-behind.ensures.above

@@ -5,4 +5,4 @@ use Rattle.vx_types.proofs.Wholes.{PassedSo}
 use Rattle.vx_types.proofs.program.make_functions.Given as goal
 
 abbrev pub invariant-loop-one : goal.invariant-loop-one
-invariant-loop-one l = PassedSo (program_of l.fn.program) l.fn.arrays (map view.function_of l.all.items) l.names l.first l.one-index (map definition_of (drop l.one-index l.fn.program.definitions.items))
+invariant-loop-one l = PassedSo (program_of l.fn.program) l.fn.arrays (map view.function_of l.made.all.items) l.names l.made.first l.one-index (map definition_of (drop l.one-index l.fn.program.definitions.items))

@@ -1,15 +1,61 @@
-use Rattle.std.proofs.Common.{drop, ◌+◌}
+use Rattle.std.proofs.Common.{drop, ◌+◌, arith}
 use Rattle.vx_types.proofs.Lists.{list_step, list_end}
-use Rattle.vx_types.proofs.Leasts.{drop_next, drop_whole}
+use Rattle.vx_types.proofs.Leasts.{drop_next, drop_whole, least_append}
+use Rattle.vx_types.proofs.Rows.{row_count}
+use Rattle.vx_types.proofs.Scoping.{leaves_block, leaves_for}
+use Rattle.vx_types.proofs.Declarations.{items_alike, first_alike, step_alike}
+use Rattle.vx_types.proofs.Views.{block_written, block_view}
 use Rattle.vx_types.proofs.statements.+statements.Goals as goal
 
 pub statements-loop-one-preserved : goal.statements-loop-one-preserved
 statements-loop-one-preserved t c =
-    list_step c.args.gives c.args.loops c.loop-one.made.items c.push.new.self.items c.in_ok-done.done c.loop-one.names c.statement.new.names c.loop-one.first c.statement.new.first
+    list_step c.args.gives c.args.loops c.loop-one.made.items c.append.new.made.items c.in_ok-done.done c.loop-one.names c.statement.new.names c.loop-one.first c.statement.new.first
     (drop c.loop-one.one-index c.args.all.now) (drop (c.loop-one.one-index + 1) c.args.all.now) c.one-item.result c.args.names.now c.args.first.now c.args.all.now
-    c.loop-one.invariant (drop_next c.args.all.now c.loop-one.one-index c.one-item.result c.loop-one-test.true c.one-item.is) c.in_ok-push.ensures.items c.in_ok-done.ensures.made c.in_ok-done.ensures.known c.in_ok-done.ensures.faults
+    c.loop-one.invariant (drop_next c.args.all.now c.loop-one.one-index c.one-item.result c.loop-one-test.true c.one-item.is) c.in_ok-append.ensures c.in_ok-done.ensures.made c.in_ok-done.ensures.known c.in_ok-done.ensures.faults
 
 pub statements-returns-clause-made : goal.statements-returns-clause-made
 statements-returns-clause-made t c =
     (list_end c.args.gives c.args.loops c.loop-one.made.items c.loop-one.names c.loop-one.first (drop c.loop-one.one-index c.args.all.now) c.args.names.now c.args.first.now c.args.all.now c.loop-one.invariant
     (drop_whole c.args.all.now c.loop-one.one-index c.loop-one-test.false)).0
+
+pub alone-returns-clause-known : goal.alone-returns-clause-known
+alone-returns-clause-known t c = grind (arith, leaves_block)
+
+pub block-returns-clause-known : goal.block-returns-clause-known
+block-returns-clause-known t c = grind (arith, leaves_block)
+
+pub repeated-returns-clause-known : goal.repeated-returns-clause-known
+repeated-returns-clause-known t c = grind (arith, leaves_for)
+
+pub repeated-returns-clause-faults : goal.repeated-returns-clause-faults
+repeated-returns-clause-faults t c = grind (arith, least_append)
+
+pub statement-returns-in_ok-made-in-Block-clause-made : goal.statement-returns-in_ok-made-in-Block-clause-made
+statement-returns-in_ok-made-in-Block-clause-made t c = grind (arith, block_written, block_view)
+
+pub statement-returns-in_ok-made-in-Block-clause-known : goal.statement-returns-in_ok-made-in-Block-clause-known
+statement-returns-in_ok-made-in-Block-clause-known t c = grind (arith, block_written)
+
+pub statement-returns-in_ok-made-in-Block-clause-faults : goal.statement-returns-in_ok-made-in-Block-clause-faults
+statement-returns-in_ok-made-in-Block-clause-faults t c = grind (arith, block_written)
+
+pub statement-returns-in-Declaration-clause-faults : goal.statement-returns-in-Declaration-clause-faults
+statement-returns-in-Declaration-clause-faults t c = grind (arith, items_alike)
+
+pub statement-returns-in-Print-clause-faults : goal.statement-returns-in-Print-clause-faults
+statement-returns-in-Print-clause-faults t c = grind (arith, least_append, row_count)
+
+pub statement-returns-in_ok-made-in-If-clause-faults : goal.statement-returns-in_ok-made-in-If-clause-faults
+statement-returns-in_ok-made-in-If-clause-faults t c = grind (arith, least_append)
+
+pub statement-returns-in_ok-made-in-IfElse-clause-faults : goal.statement-returns-in_ok-made-in-IfElse-clause-faults
+statement-returns-in_ok-made-in-IfElse-clause-faults t c = grind (arith, least_append)
+
+pub statement-returns-in_ok-made-in-While-clause-faults : goal.statement-returns-in_ok-made-in-While-clause-faults
+statement-returns-in_ok-made-in-While-clause-faults t c = grind (arith, least_append)
+
+pub statement-returns-in_ok-made-in-DoWhile-clause-faults : goal.statement-returns-in_ok-made-in-DoWhile-clause-faults
+statement-returns-in_ok-made-in-DoWhile-clause-faults t c = grind (arith, least_append)
+
+pub statement-returns-in-For-clause-faults : goal.statement-returns-in-For-clause-faults
+statement-returns-in-For-clause-faults t c = grind (arith, first_alike, step_alike)
