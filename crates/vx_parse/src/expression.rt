@@ -59,15 +59,14 @@ pub fn read_expression(
     if depth + test.height >= DEEPEST {
         return Err(Stop::TooDeep);
     }
+    let condition = Box::new(alloc, test.expression)?;
     let chosen = read_expression(alloc, tokens, test.next + 1, depth + 1)?;
+    let taken = Box::new(alloc, chosen.expression)?;
     let other_place = read_mark(tokens, chosen.next, Mark::Colon)?;
     let other = read_expression(alloc, tokens, other_place, depth + 1)?;
+    let left = Box::new(alloc, other.expression)?;
     Ok(Operand {
-        expression: Expression::Choice(
-            Box::new(alloc, test.expression)?,
-            Box::new(alloc, chosen.expression)?,
-            Box::new(alloc, other.expression)?,
-        ),
+        expression: Expression::Choice(condition, taken, left),
         height: 1 + test.height.max(chosen.height).max(other.height),
         next: other.next,
     })

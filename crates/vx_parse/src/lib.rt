@@ -14,4 +14,3 @@ pub mod stop;
 pub mod token;
 
 pub use parser::parse;
-

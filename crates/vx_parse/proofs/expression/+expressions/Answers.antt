@@ -142,7 +142,7 @@ read_expression-returns-clause-ok t c =
     let q : next_kind (drop c.in_ok-test.test.next c.args.tokens.now) ≡ kinds.Mark marks.Question = sym c.kind_at.ensures ∙ c.is_mark.ensures.yes c.if-not-is_mark.false in
     let a = asks c.args.tokens.now c.args.place c.args.depth c.in_ok-test.test c.requires.ended c.requires.within c.in_ok-test.ensures.ok q in
     let b : c.args.depth + c.in_ok-test.test.height < 200 = omega arith in
-    let e : syntax.Choice (phrase_of c.in_ok-new.field-0.value) (phrase_of c.in_ok-new-2.field-0.value) (phrase_of c.in_ok-new-3.field-0.value) ≡ syntax.Choice (phrase_of c.in_ok-test.test.expression) (phrase_of c.in_ok-chosen.chosen.expression) (phrase_of c.in_ok-other.other.expression) = three (ap phrase_of c.in_ok-new.ensures.ok) (ap phrase_of c.in_ok-new-2.ensures.ok) (ap phrase_of c.in_ok-new-3.ensures.ok) in
+    let e : syntax.Choice (phrase_of c.in_ok-condition.condition.value) (phrase_of c.in_ok-taken.taken.value) (phrase_of c.in_ok-left.left.value) ≡ syntax.Choice (phrase_of c.in_ok-test.test.expression) (phrase_of c.in_ok-chosen.chosen.expression) (phrase_of c.in_ok-other.other.expression) = three (ap phrase_of c.in_ok-condition.ensures.ok) (ap phrase_of c.in_ok-taken.ensures.ok) (ap phrase_of c.in_ok-left.ensures.ok) in
     choice_is c.args.tokens.now c.args.place c.args.depth c.in_ok-other_place.other_place c.in_ok-test.test c.in_ok-chosen.chosen c.in_ok-other.other _ a b c.in_ok-chosen.ensures.ok c.in_ok-other_place.ensures.ok c.in_ok-other.ensures.ok e (let x = c.max.ensures in let y = c.max-2.ensures in omega arith) refl
 
 pub read_level-returns-in_err-left-clause-stop : goal.read_level-returns-in_err-left-clause-stop
