@@ -16,4 +16,3 @@ mod steps;
 pub use fault::WordsFault;
 pub use program_text::write;
 pub use reader::read;
-

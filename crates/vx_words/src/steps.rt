@@ -1,9 +1,10 @@
 // Takes one line of a text of words into what stood before it, as specs/Steps.antt says.
 
-ghost use Rattle.std.specs.Prelude.{◌≡◌, ℕ, ◌+◌, ◌*◌, ◌<◌, length, get_or, true, false, if◌then◌else◌, Option, Some, None, IfOk};
+ghost use Rattle.std.specs.Prelude.{◌≡◌, ℕ, ◌+◌, ◌*◌, ◌<◌, ◌++◌, ◌∷◌, [], length, get_or, true, false, if◌then◌else◌, Option, Some, None, Ok, Err, IfOk, IfSome, IfNone};
 ghost use Rattle.std.specs.Str.{bytes_eq};
 ghost use Rattle.vx_isa.specs.Sound.{is_not_zero};
 ghost use Rattle.vx_isa.specs.Operations.{cluster_of};
+ghost use Rattle.vx_words.specs.declared.before.Stage.TheVariants.{Operations};
 ghost use Rattle.vx_words.specs.Reading.{Gives};
 ghost use Rattle.vx_words.specs.Spelling.{place_text, start_text, quoted_text, idle_text};
 ghost use Rattle.vx_words.specs.Steps.{is_start_stage, is_version_stage, is_memory_stage, is_between_words, is_label_stage, is_operations_stage, is_idle_stage, is_text_stage, is_marked, begins_word, accepted, version_step, value_from, is_size, Counts, memory_step, entry_at, is_entry, start_step, text_step, label_stood, label_by, label_step, idle_step, word_end_step, is_beyond, operation_by_stage, operation_step, is_operation_line, line_cluster, step};
@@ -322,7 +323,32 @@ fn is_beyond_words(total: usize, operation: Operation) -> bool
     }
 }
 
+/// The code of the fault of an operation at this place, if it has one.
 #[tactic(auto, unfolding(crate::specs::Steps::operation_by_stage))]
+fn operation_fault(
+    marks: &[bool],
+    total: usize,
+    before: &Before,
+    cluster: u32,
+    operation: Operation,
+) -> Option<u32>
+    ensures fault { IfSome result (λ code. operation_by_stage marks.now total before.now cluster operation ≡ Err code) }
+    ensures none { IfNone result (operation_by_stage marks.now total before.now cluster operation ≡ Ok (record before.now { stage = Operations; ops = before.now.ops ++ operation ∷ [] })) }
+{
+    if before.texts.len() < texts_of(operation) {
+        return Some(3);
+    }
+    if is_beyond_words(total, operation) {
+        return Some(4);
+    }
+    if cluster != operation.cluster()
+        || !(word_begins(marks, before) || is_at_operations(before.stage))
+    {
+        return Some(1);
+    }
+    None
+}
+
 fn add_operation(
     marks: &[bool],
     total: usize,
@@ -332,16 +358,8 @@ fn add_operation(
 ) -> Result<Before, LineFault>
     ensures { Gives (λ x. x) result (operation_by_stage marks.now total before cluster operation) }
 {
-    if before.texts.len() < texts_of(operation) {
-        return Err(LineFault::Code(3));
-    }
-    if is_beyond_words(total, operation) {
-        return Err(LineFault::Code(4));
-    }
-    if cluster != operation.cluster()
-        || !(word_begins(marks, &before) || is_at_operations(before.stage))
-    {
-        return Err(LineFault::Code(1));
+    if let Some(code) = operation_fault(marks, total, &before, cluster, operation) {
+        return Err(LineFault::Code(code));
     }
     before.stage = Stage::Operations;
     before.ops.push(operation)?;
