@@ -1,17 +1,20 @@
 // The code of expressions and of rows of arguments. The left operand comes first; an operand is evaluated only where it
 // is needed.
 
-ghost use Rattle.std.specs.Prelude.{◌≡◌, pos, length, IfOk};
+ghost use Rattle.std.specs.Prelude.{◌≡◌, ℕ, pos, length, IfOk, Option, Some, None};
 ghost use Rattle.vx_base.specs.declared.arithmetic.Compare.TheVariants.{Ne};
 ghost use Rattle.vx_ast.specs.View.{tree_of, row_in};
 ghost use Rattle.vx_lower.specs.Holds.{jump, unary_op};
 ghost use Rattle.vx_lower.specs.Adds.{Compared, Last};
 ghost use Rattle.vx_lower.specs.Builds.{Ready, closed, filled, reserved};
-ghost use Rattle.vx_lower.specs.Emits.{Asked, Emits, EmitsRow, EmitsTest, Lasts, Truth};
+ghost use Rattle.vx_lower.specs.Emits.{Aimed, Asked, Emits, EmitsRow, EmitsTest, Lasts, Truth};
 ghost use Rattle.vx_lower.specs.Fits.{EmitsWell, RowsWell, TestsWell};
 ghost use Rattle.vx_flow.specs.declared.graph.Exit.TheVariants.{Goto};
+ghost use Rattle.vx_flow.specs.declared.graph.Operand.{Operand as AnOperand};
 ghost use Rattle.vx_flow.specs.declared.graph.Operand.TheVariants.{Number};
-ghost use Rattle.vx_ast.specs.Tree.{ReadInt};
+ghost use Rattle.vx_ast.specs.Tree as tree;
+ghost use Rattle.vx_ast.specs.Tree.{One, ReadInt, Tree};
+ghost use Rattle.vx_lower.specs.declared.builder.Builder.{Builder as Building};
 
 use crate::builder::Builder;
 use crate::pieces::{check, combine, comparison, compute, deliver, input, load, more, target};
@@ -170,108 +173,222 @@ pub fn emit_value(
             let t = load(b, alloc, *array, Operand::Number(0), dest)?;
             Ok(Operand::Held(t))
         }
-        Expression::Element(array, i) => {
-            let a = *array;
-            let index = emit_value(b, alloc, words, i, None)?;
-            let place = check(b, alloc, words, a, index)?;
-            let t = load(b, alloc, a, Operand::Held(place), dest)?;
-            Ok(Operand::Held(t))
-        }
-        Expression::Unary(operator, x) => {
-            let o = emit_value(b, alloc, words, x, None)?;
-            let t = unary(b, alloc, *operator, o, dest)?;
-            Ok(Operand::Held(t))
-        }
+        Expression::Element(array, i) => emit_element(b, alloc, words, i, *array, dest),
+        Expression::Unary(operator, x) => emit_unary(b, alloc, words, x, *operator, dest),
         Expression::Binary(operator, x, y) => {
             let left = emit_value(b, alloc, words, x, None)?;
-            let right = emit_value(b, alloc, words, y, None)?;
-            let t = combine(b, alloc, *operator, left, right, dest)?;
-            Ok(Operand::Held(t))
+            binary_behind(b, alloc, words, y, left, *operator, dest)
         }
         Expression::Both(x, y) => {
-            let no = emit_test(b, alloc, words, x)?;
-            let t = target(b, dest)?;
-            let right = emit_value(b, alloc, words, y, None)?;
-            b.put(
-                alloc,
-                Op::Compute {
-                    code: Code::ToGeneral(Compare::Ne),
-                    to: t,
-                    left: right,
-                    right: Operand::Number(0),
-                },
-            )?;
-            let j = join(b, alloc, no)?;
-            b.put(
-                alloc,
-                Op::Compute {
-                    code: Code::Mov,
-                    to: t,
-                    left: Operand::Number(0),
-                    right: Operand::Number(0),
-                },
-            )?;
-            b.close(alloc, Exit::Goto(j), j);
-            Ok(Operand::Held(t))
+            let other = emit_test(b, alloc, words, x)?;
+            both_behind(b, alloc, words, y, other, dest)
         }
         Expression::Either(x, y) => {
-            let no = emit_test(b, alloc, words, x)?;
-            let t = target(b, dest)?;
-            b.put(
-                alloc,
-                Op::Compute {
-                    code: Code::Mov,
-                    to: t,
-                    left: Operand::Number(1),
-                    right: Operand::Number(0),
-                },
-            )?;
-            let j = join(b, alloc, no)?;
-            let right = emit_value(b, alloc, words, y, None)?;
-            b.put(
-                alloc,
-                Op::Compute {
-                    code: Code::ToGeneral(Compare::Ne),
-                    to: t,
-                    left: right,
-                    right: Operand::Number(0),
-                },
-            )?;
-            b.close(alloc, Exit::Goto(j), j);
-            Ok(Operand::Held(t))
+            let other = emit_test(b, alloc, words, x)?;
+            either_behind(b, alloc, words, y, other, dest)
         }
         Expression::Choice(c, x, y) => {
             let no = emit_test(b, alloc, words, c)?;
             let t = target(b, dest)?;
             let first = emit_value(b, alloc, words, x, Some(t))?;
-            let j = join(b, alloc, no)?;
-            let second = emit_value(b, alloc, words, y, Some(t))?;
-            b.close(alloc, Exit::Goto(j), j);
-            Ok(Operand::Held(t))
+            choice_behind(b, alloc, words, y, t, no)
         }
-        Expression::Call(function, all) => {
-            let f = *function;
-            let arguments = emit_row(b, alloc, words, all.as_slice())?;
-            let t = target(b, dest)?;
-            let next = b.reserve()?;
-            b.close(
-                alloc,
-                Exit::Call {
-                    function: f,
-                    arguments,
-                    result: Some(t),
-                    next,
-                },
-                next,
-            );
-            Ok(Operand::Held(t))
-        }
+        Expression::Call(function, all) => emit_call(
+            b,
+            alloc,
+            words,
+            all.as_slice(),
+            *function,
+            dest,
+        ),
         Expression::ReadInt => read(b, alloc, words, dest),
         Expression::MoreInput => {
             let t = more(b, alloc, dest)?;
             Ok(Operand::Held(t))
         }
     }
+}
+
+/// The code of an element of an array: its index, the check of it and the load.
+#[cycle(values)]
+fn emit_element(
+    b: &mut Builder,
+    alloc: Global,
+    words: &Sizes,
+    x: &Expression,
+    array: u32,
+    dest: Option<Value>,
+) -> Result<Operand, NoMemory>
+    ensures code { IfOk result (λ o. Ready b.old → Emits words.now (tree.Element array (tree_of x.now)) dest o b.old b.new) }
+    ensures fits { IfOk result (λ o. EmitsWell (tree.Element array (tree_of x.now)) dest o b.old b.new) }
+{
+    let index = emit_value(b, alloc, words, x, None)?;
+    let place = check(b, alloc, words, array, index)?;
+    let t = load(b, alloc, array, Operand::Held(place), dest)?;
+    Ok(Operand::Held(t))
+}
+
+/// The code of a call: its arguments, and the call at the end of the open block.
+#[cycle(values)]
+fn emit_call(
+    b: &mut Builder,
+    alloc: Global,
+    words: &Sizes,
+    all: &[Expression],
+    function: u32,
+    dest: Option<Value>,
+) -> Result<Operand, NoMemory>
+    ensures code { IfOk result (λ o. Ready b.old → Emits words.now (tree.Apply function (row_in all.now)) dest o b.old b.new) }
+    ensures fits { IfOk result (λ o. EmitsWell (tree.Apply function (row_in all.now)) dest o b.old b.new) }
+{
+    let arguments = emit_row(b, alloc, words, all)?;
+    let t = target(b, dest)?;
+    let next = b.reserve()?;
+    b.close(
+        alloc,
+        Exit::Call {
+            function,
+            arguments,
+            result: Some(t),
+            next,
+        },
+        next,
+    );
+    Ok(Operand::Held(t))
+}
+
+/// The code of an operator with one operand.
+#[cycle(values)]
+fn emit_unary(
+    b: &mut Builder,
+    alloc: Global,
+    words: &Sizes,
+    x: &Expression,
+    operator: UnaryOperator,
+    dest: Option<Value>,
+) -> Result<Operand, NoMemory>
+    ensures code { IfOk result (λ o. Ready b.old → Emits words.now (tree.Unary operator (tree_of x.now)) dest o b.old b.new) }
+    ensures fits { IfOk result (λ o. EmitsWell (tree.Unary operator (tree_of x.now)) dest o b.old b.new) }
+{
+    let o = emit_value(b, alloc, words, x, None)?;
+    let t = unary(b, alloc, operator, o, dest)?;
+    Ok(Operand::Held(t))
+}
+
+/// The code of an operator with two operands behind that of its left one.
+#[cycle(values)]
+fn binary_behind(
+    b: &mut Builder,
+    alloc: Global,
+    words: &Sizes,
+    y: &Expression,
+    left: Operand,
+    operator: BinaryOperator,
+    dest: Option<Value>,
+) -> Result<Operand, NoMemory>
+    ensures code { IfOk result (λ o. (x : Tree One) (start : Building) → (Ready start → Emits words.now x None left start b.old) → Ready start → Emits words.now (tree.Binary operator x (tree_of y.now)) dest o start b.new) }
+    ensures fits { IfOk result (λ o. (x : Tree One) (start : Building) → EmitsWell x None left start b.old → EmitsWell (tree.Binary operator x (tree_of y.now)) dest o start b.new) }
+{
+    let right = emit_value(b, alloc, words, y, None)?;
+    let t = combine(b, alloc, operator, left, right, dest)?;
+    Ok(Operand::Held(t))
+}
+
+/// The code of a choice behind that of its test and of what is chosen where the test holds.
+#[cycle(values)]
+fn choice_behind(
+    b: &mut Builder,
+    alloc: Global,
+    words: &Sizes,
+    y: &Expression,
+    t: Value,
+    other: BlockId,
+) -> Result<Operand, NoMemory>
+    ensures code { IfOk result (λ o. (dest : Option ℕ) (c x : Tree One) (ox : AnOperand) (start tested aimed : Building) → (Ready start → EmitsTest words.now c other start tested) → Aimed dest t tested aimed → (Ready aimed → Emits words.now x (Some t) ox aimed b.old) → Ready start → Emits words.now (tree.Choice c x (tree_of y.now)) dest o start b.new) }
+    ensures fits { IfOk result (λ o. (dest : Option ℕ) (c x : Tree One) (ox : AnOperand) (start tested aimed : Building) → TestsWell c other start tested → Aimed dest t tested aimed → EmitsWell x (Some t) ox aimed b.old → EmitsWell (tree.Choice c x (tree_of y.now)) dest o start b.new) }
+{
+    let j = join(b, alloc, other)?;
+    let second = emit_value(b, alloc, words, y, Some(t))?;
+    b.close(alloc, Exit::Goto(j), j);
+    Ok(Operand::Held(t))
+}
+
+/// The code of `&&` behind the test of its left operand: whether the right one is not 0, and 0 where the test does not
+/// hold.
+#[cycle(values)]
+fn both_behind(
+    b: &mut Builder,
+    alloc: Global,
+    words: &Sizes,
+    y: &Expression,
+    other: BlockId,
+    dest: Option<Value>,
+) -> Result<Operand, NoMemory>
+    ensures code { IfOk result (λ o. (x : Tree One) (start : Building) → (Ready start → EmitsTest words.now x other start b.old) → Ready start → Emits words.now (tree.Both x (tree_of y.now)) dest o start b.new) }
+    ensures fits { IfOk result (λ o. (x : Tree One) (start : Building) → TestsWell x other start b.old → EmitsWell (tree.Both x (tree_of y.now)) dest o start b.new) }
+{
+    let t = target(b, dest)?;
+    let right = emit_value(b, alloc, words, y, None)?;
+    b.put(
+        alloc,
+        Op::Compute {
+            code: Code::ToGeneral(Compare::Ne),
+            to: t,
+            left: right,
+            right: Operand::Number(0),
+        },
+    )?;
+    let j = join(b, alloc, other)?;
+    b.put(
+        alloc,
+        Op::Compute {
+            code: Code::Mov,
+            to: t,
+            left: Operand::Number(0),
+            right: Operand::Number(0),
+        },
+    )?;
+    b.close(alloc, Exit::Goto(j), j);
+    Ok(Operand::Held(t))
+}
+
+/// The code of `||` behind the test of its left operand: 1, and whether the right one is not 0 where the test does not
+/// hold.
+#[cycle(values)]
+fn either_behind(
+    b: &mut Builder,
+    alloc: Global,
+    words: &Sizes,
+    y: &Expression,
+    other: BlockId,
+    dest: Option<Value>,
+) -> Result<Operand, NoMemory>
+    ensures code { IfOk result (λ o. (x : Tree One) (start : Building) → (Ready start → EmitsTest words.now x other start b.old) → Ready start → Emits words.now (tree.Either x (tree_of y.now)) dest o start b.new) }
+    ensures fits { IfOk result (λ o. (x : Tree One) (start : Building) → TestsWell x other start b.old → EmitsWell (tree.Either x (tree_of y.now)) dest o start b.new) }
+{
+    let t = target(b, dest)?;
+    b.put(
+        alloc,
+        Op::Compute {
+            code: Code::Mov,
+            to: t,
+            left: Operand::Number(1),
+            right: Operand::Number(0),
+        },
+    )?;
+    let j = join(b, alloc, other)?;
+    let right = emit_value(b, alloc, words, y, None)?;
+    b.put(
+        alloc,
+        Op::Compute {
+            code: Code::ToGeneral(Compare::Ne),
+            to: t,
+            left: right,
+            right: Operand::Number(0),
+        },
+    )?;
+    b.close(alloc, Exit::Goto(j), j);
+    Ok(Operand::Held(t))
 }
 
 /// The code of a test, straight into a branch value where a compare is tested. The open block then is where the

@@ -1,4 +1,5 @@
-use Rattle.std.proofs.Common.{refl, ap, sym, subst, ◌≡◌, [], take, ◌∙◌, rules, w32, FitsSigned}
+use Rattle.std.proofs.Common.{refl, ap, sym, subst, ◌≡◌, [], take, ◌∙◌, rules, w32, FitsSigned, Result, Ok, Err}
+use Rattle.std.specs.Prelude.{IfOk}
 use Rattle.std.proofs.lemmas.Int.{to_z-of_z}
 use Rattle.vx_flow.specs.declared.graph.Operand.TheVariants.{Held, Number}
 use Rattle.vx_ast.specs.Tree.{NoMore, Literal, Local, Global, Element, Unary, Binary, Both, Either, Choice, Apply, MoreInput}
@@ -14,6 +15,10 @@ use Rattle.vx_lower.specs.Adds.{Delivered}
 use Rattle.vx_lower.specs.Fits.{RowsWell}
 use Rattle.vx_lower.proofs.FittingTrees.{well_as, operand_well, global_well, more_well, element_well, unary_well, binary_well, both_well, either_well, choice_well, call_well, tests_well_as, value_tested, compare_tested, not_tested, both_asked, either_asked, no_row, more_row}
 use Rattle.vx_lower.proofs.expressions.+values.Goals as goal
+
+map_ok : {A E : Type 0} {P Q : A → Type 0} (r : Result A E) → ((a : A) → P a → Q a) → IfOk r P → IfOk r Q
+map_ok (Ok a) f h = f a h
+map_ok (Err e) f h = tt
 
 pub emit_value-returns-in_ok-r-in-Number-clause-code : goal.emit_value-returns-in_ok-r-in-Number-clause-code
 emit_value-returns-in_ok-r-in-Number-clause-code t c =
@@ -49,77 +54,119 @@ emit_value-returns-in_ok-t-in-Global-clause-fits t c =
     well_as c.args.dest (Held c.in_ok-t-in-Global.t) c.args.b.now c.load.new.b (Global c.in-Global.array) (tree_of c.args.e.now) (ap tree_of (sym c.in-Global.is))
     (global_well c.in-Global.array c.in_ok-t-in-Global.t c.args.dest c.args.b.now c.load.new.b c.in_ok-t-in-Global.ensures.steps)
 
-pub emit_value-returns-in_ok-t-in-Element-clause-code : goal.emit_value-returns-in_ok-t-in-Element-clause-code
-emit_value-returns-in_ok-t-in-Element-clause-code t c =
-    emits_as c.args.words.now c.args.dest (Held c.in_ok-t-in-Element.t) c.args.b.now c.load-in-Element.new.b (Element c.in-Element.array (tree_of c.deref.result.now)) (tree_of c.args.e.now) (ap (λ z. Element c.in-Element.array (tree_of z)) c.deref.ensures ∙ ap tree_of (sym c.in-Element.is))
-    (emits_element c.args.words.now c.in-Element.array c.in_ok-t-in-Element.t c.in_ok-place-in-Element.place c.args.dest (tree_of c.deref.result.now) c.in_ok-index-in-Element.index c.args.b.now c.emit_value.new.b c.check.new.b c.load-in-Element.new.b c.in_ok-index-in-Element.ensures.code c.in_ok-place-in-Element.ensures.code c.in_ok-t-in-Element.ensures.code)
+pub emit_value-returns-in_ok-other-in-Both-clause-code : goal.emit_value-returns-in_ok-other-in-Both-clause-code
+emit_value-returns-in_ok-other-in-Both-clause-code t c =
+    map_ok c.both_behind.result (λ o h. emits_as c.args.words.now c.args.dest o c.args.b.now c.both_behind.new.b (Both (tree_of c.deref-in-Both.result.now) (tree_of c.deref-in-Both-2.result.now)) (tree_of c.args.e.now) (ap (λ z. Both (tree_of z) (tree_of c.deref-in-Both-2.result.now)) c.deref-in-Both.ensures ∙ ap (λ z. Both (tree_of c.in-Both.x.value) (tree_of z)) c.deref-in-Both-2.ensures ∙ ap tree_of (sym c.in-Both.is)) (h (tree_of c.deref-in-Both.result.now) c.args.b.now c.in_ok-other-in-Both.ensures.code)) c.both_behind.ensures.code
 
-pub emit_value-returns-in_ok-t-in-Element-clause-fits : goal.emit_value-returns-in_ok-t-in-Element-clause-fits
-emit_value-returns-in_ok-t-in-Element-clause-fits t c =
-    well_as c.args.dest (Held c.in_ok-t-in-Element.t) c.args.b.now c.load-in-Element.new.b (Element c.in-Element.array (tree_of c.deref.result.now)) (tree_of c.args.e.now) (ap (λ z. Element c.in-Element.array (tree_of z)) c.deref.ensures ∙ ap tree_of (sym c.in-Element.is))
-    (element_well c.in-Element.array c.in_ok-t-in-Element.t c.in_ok-place-in-Element.place c.args.dest (tree_of c.deref.result.now) c.in_ok-index-in-Element.index c.args.b.now c.emit_value.new.b c.check.new.b c.load-in-Element.new.b c.in_ok-index-in-Element.ensures.fits c.in_ok-place-in-Element.ensures.fits c.in_ok-t-in-Element.ensures.steps)
+pub emit_value-returns-in_ok-other-in-Both-clause-fits : goal.emit_value-returns-in_ok-other-in-Both-clause-fits
+emit_value-returns-in_ok-other-in-Both-clause-fits t c =
+    map_ok c.both_behind.result (λ o h. well_as c.args.dest o c.args.b.now c.both_behind.new.b (Both (tree_of c.deref-in-Both.result.now) (tree_of c.deref-in-Both-2.result.now)) (tree_of c.args.e.now) (ap (λ z. Both (tree_of z) (tree_of c.deref-in-Both-2.result.now)) c.deref-in-Both.ensures ∙ ap (λ z. Both (tree_of c.in-Both.x.value) (tree_of z)) c.deref-in-Both-2.ensures ∙ ap tree_of (sym c.in-Both.is)) (h (tree_of c.deref-in-Both.result.now) c.args.b.now c.in_ok-other-in-Both.ensures.fits)) c.both_behind.ensures.fits
 
-pub emit_value-returns-in_ok-t-in-Unary-clause-code : goal.emit_value-returns-in_ok-t-in-Unary-clause-code
-emit_value-returns-in_ok-t-in-Unary-clause-code t c =
-    emits_as c.args.words.now c.args.dest (Held c.in_ok-t-in-Unary.t) c.args.b.now c.unary.new.b (Unary c.in-Unary.operator (tree_of c.deref-in-Unary.result.now)) (tree_of c.args.e.now) (ap (λ z. Unary c.in-Unary.operator (tree_of z)) c.deref-in-Unary.ensures ∙ ap tree_of (sym c.in-Unary.is))
-    (emits_unary c.args.words.now c.in-Unary.operator c.in_ok-t-in-Unary.t c.args.dest (tree_of c.deref-in-Unary.result.now) c.in_ok-o-in-Unary.o c.args.b.now c.emit_value-in-Unary.new.b c.unary.new.b c.in_ok-o-in-Unary.ensures.code c.in_ok-t-in-Unary.ensures.code)
+pub both_behind-returns-clause-code : goal.both_behind-returns-clause-code
+both_behind-returns-clause-code t c = λ x start first.
+    emits_both c.args.words.now c.in_ok-t.t c.args.other c.in_ok-j.j c.args.dest x (tree_of c.args.y.now) c.in_ok-right.right start c.args.b.now c.target.new.b c.emit_value.new.b c.put.new.self c.join.new.b c.put-2.new.self c.close.new.self first c.in_ok-t.ensures c.in_ok-right.ensures.code c.in_ok-put.ensures.code c.in_ok-j.ensures c.in_ok-put-2.ensures.code c.close.ensures
 
-pub emit_value-returns-in_ok-t-in-Unary-clause-fits : goal.emit_value-returns-in_ok-t-in-Unary-clause-fits
-emit_value-returns-in_ok-t-in-Unary-clause-fits t c =
-    well_as c.args.dest (Held c.in_ok-t-in-Unary.t) c.args.b.now c.unary.new.b (Unary c.in-Unary.operator (tree_of c.deref-in-Unary.result.now)) (tree_of c.args.e.now) (ap (λ z. Unary c.in-Unary.operator (tree_of z)) c.deref-in-Unary.ensures ∙ ap tree_of (sym c.in-Unary.is))
-    (unary_well c.in-Unary.operator c.in_ok-t-in-Unary.t c.args.dest (tree_of c.deref-in-Unary.result.now) c.in_ok-o-in-Unary.o c.args.b.now c.emit_value-in-Unary.new.b c.unary.new.b c.in_ok-o-in-Unary.ensures.fits c.in_ok-t-in-Unary.ensures.steps)
+pub both_behind-returns-clause-fits : goal.both_behind-returns-clause-fits
+both_behind-returns-clause-fits t c = λ x start first.
+    both_well c.in_ok-t.t c.args.other c.in_ok-j.j c.args.dest x (tree_of c.args.y.now) c.in_ok-right.right start c.args.b.now c.target.new.b c.emit_value.new.b c.put.new.self c.join.new.b c.put-2.new.self c.close.new.self first c.in_ok-t.ensures c.in_ok-right.ensures.fits c.in_ok-put.ensures.steps c.in_ok-j.ensures c.in_ok-put-2.ensures.steps c.close.ensures
 
-pub emit_value-returns-in_ok-t-in-Binary-clause-code : goal.emit_value-returns-in_ok-t-in-Binary-clause-code
-emit_value-returns-in_ok-t-in-Binary-clause-code t c =
-    emits_as c.args.words.now c.args.dest (Held c.in_ok-t-in-Binary.t) c.args.b.now c.combine.new.b (Binary c.in-Binary.operator (tree_of c.deref-in-Binary.result.now) (tree_of c.deref-in-Binary-2.result.now)) (tree_of c.args.e.now) (ap (λ z. Binary c.in-Binary.operator (tree_of z) (tree_of c.deref-in-Binary-2.result.now)) c.deref-in-Binary.ensures ∙ ap (λ z. Binary c.in-Binary.operator (tree_of c.in-Binary.x.value) (tree_of z)) c.deref-in-Binary-2.ensures ∙ ap tree_of (sym c.in-Binary.is))
-    (emits_binary c.args.words.now c.in-Binary.operator c.in_ok-t-in-Binary.t c.args.dest (tree_of c.deref-in-Binary.result.now) (tree_of c.deref-in-Binary-2.result.now) c.in_ok-left-in-Binary.left c.in_ok-right-in-Binary.right c.args.b.now c.emit_value-in-Binary.new.b c.emit_value-in-Binary-2.new.b c.combine.new.b c.in_ok-left-in-Binary.ensures.code c.in_ok-right-in-Binary.ensures.code c.in_ok-t-in-Binary.ensures.code)
+pub emit_value-returns-in_ok-other-in-Either-clause-code : goal.emit_value-returns-in_ok-other-in-Either-clause-code
+emit_value-returns-in_ok-other-in-Either-clause-code t c =
+    map_ok c.either_behind.result (λ o h. emits_as c.args.words.now c.args.dest o c.args.b.now c.either_behind.new.b (Either (tree_of c.deref-in-Either.result.now) (tree_of c.deref-in-Either-2.result.now)) (tree_of c.args.e.now) (ap (λ z. Either (tree_of z) (tree_of c.deref-in-Either-2.result.now)) c.deref-in-Either.ensures ∙ ap (λ z. Either (tree_of c.in-Either.x.value) (tree_of z)) c.deref-in-Either-2.ensures ∙ ap tree_of (sym c.in-Either.is)) (h (tree_of c.deref-in-Either.result.now) c.args.b.now c.in_ok-other-in-Either.ensures.code)) c.either_behind.ensures.code
 
-pub emit_value-returns-in_ok-t-in-Binary-clause-fits : goal.emit_value-returns-in_ok-t-in-Binary-clause-fits
-emit_value-returns-in_ok-t-in-Binary-clause-fits t c =
-    well_as c.args.dest (Held c.in_ok-t-in-Binary.t) c.args.b.now c.combine.new.b (Binary c.in-Binary.operator (tree_of c.deref-in-Binary.result.now) (tree_of c.deref-in-Binary-2.result.now)) (tree_of c.args.e.now) (ap (λ z. Binary c.in-Binary.operator (tree_of z) (tree_of c.deref-in-Binary-2.result.now)) c.deref-in-Binary.ensures ∙ ap (λ z. Binary c.in-Binary.operator (tree_of c.in-Binary.x.value) (tree_of z)) c.deref-in-Binary-2.ensures ∙ ap tree_of (sym c.in-Binary.is))
-    (binary_well c.in-Binary.operator c.in_ok-t-in-Binary.t c.args.dest (tree_of c.deref-in-Binary.result.now) (tree_of c.deref-in-Binary-2.result.now) c.in_ok-left-in-Binary.left c.in_ok-right-in-Binary.right c.args.b.now c.emit_value-in-Binary.new.b c.emit_value-in-Binary-2.new.b c.combine.new.b c.in_ok-left-in-Binary.ensures.fits c.in_ok-right-in-Binary.ensures.fits c.in_ok-t-in-Binary.ensures.fits)
+pub emit_value-returns-in_ok-other-in-Either-clause-fits : goal.emit_value-returns-in_ok-other-in-Either-clause-fits
+emit_value-returns-in_ok-other-in-Either-clause-fits t c =
+    map_ok c.either_behind.result (λ o h. well_as c.args.dest o c.args.b.now c.either_behind.new.b (Either (tree_of c.deref-in-Either.result.now) (tree_of c.deref-in-Either-2.result.now)) (tree_of c.args.e.now) (ap (λ z. Either (tree_of z) (tree_of c.deref-in-Either-2.result.now)) c.deref-in-Either.ensures ∙ ap (λ z. Either (tree_of c.in-Either.x.value) (tree_of z)) c.deref-in-Either-2.ensures ∙ ap tree_of (sym c.in-Either.is)) (h (tree_of c.deref-in-Either.result.now) c.args.b.now c.in_ok-other-in-Either.ensures.fits)) c.either_behind.ensures.fits
 
-pub emit_value-returns-in_ok-put-in-Both-2-clause-code : goal.emit_value-returns-in_ok-put-in-Both-2-clause-code
-emit_value-returns-in_ok-put-in-Both-2-clause-code t c =
-    emits_as c.args.words.now c.args.dest (Held c.in_ok-t-in-Both.t) c.args.b.now c.close.new.self (Both (tree_of c.deref-in-Both.result.now) (tree_of c.deref-in-Both-2.result.now)) (tree_of c.args.e.now) (ap (λ z. Both (tree_of z) (tree_of c.deref-in-Both-2.result.now)) c.deref-in-Both.ensures ∙ ap (λ z. Both (tree_of c.in-Both.x.value) (tree_of z)) c.deref-in-Both-2.ensures ∙ ap tree_of (sym c.in-Both.is))
-    (emits_both c.args.words.now c.in_ok-t-in-Both.t c.in_ok-no-in-Both.no c.in_ok-j-in-Both.j c.args.dest (tree_of c.deref-in-Both.result.now) (tree_of c.deref-in-Both-2.result.now) c.in_ok-right-in-Both.right c.args.b.now c.emit_test.new.b c.target.new.b c.emit_value-in-Both.new.b c.put.new.self c.join.new.b c.put-in-Both.new.self c.close.new.self c.in_ok-no-in-Both.ensures.code c.in_ok-t-in-Both.ensures c.in_ok-right-in-Both.ensures.code c.in_ok-put-in-Both.ensures.code c.in_ok-j-in-Both.ensures c.in_ok-put-in-Both-2.ensures.code c.close.ensures)
+pub either_behind-returns-clause-code : goal.either_behind-returns-clause-code
+either_behind-returns-clause-code t c = λ x start first.
+    emits_either c.args.words.now c.in_ok-t.t c.args.other c.in_ok-j.j c.args.dest x (tree_of c.args.y.now) c.in_ok-right.right start c.args.b.now c.target.new.b c.put.new.self c.join.new.b c.emit_value.new.b c.put-2.new.self c.close.new.self first c.in_ok-t.ensures c.in_ok-put.ensures.code c.in_ok-j.ensures c.in_ok-right.ensures.code c.in_ok-put-2.ensures.code c.close.ensures
 
-pub emit_value-returns-in_ok-put-in-Both-2-clause-fits : goal.emit_value-returns-in_ok-put-in-Both-2-clause-fits
-emit_value-returns-in_ok-put-in-Both-2-clause-fits t c =
-    well_as c.args.dest (Held c.in_ok-t-in-Both.t) c.args.b.now c.close.new.self (Both (tree_of c.deref-in-Both.result.now) (tree_of c.deref-in-Both-2.result.now)) (tree_of c.args.e.now) (ap (λ z. Both (tree_of z) (tree_of c.deref-in-Both-2.result.now)) c.deref-in-Both.ensures ∙ ap (λ z. Both (tree_of c.in-Both.x.value) (tree_of z)) c.deref-in-Both-2.ensures ∙ ap tree_of (sym c.in-Both.is))
-    (both_well c.in_ok-t-in-Both.t c.in_ok-no-in-Both.no c.in_ok-j-in-Both.j c.args.dest (tree_of c.deref-in-Both.result.now) (tree_of c.deref-in-Both-2.result.now) c.in_ok-right-in-Both.right c.args.b.now c.emit_test.new.b c.target.new.b c.emit_value-in-Both.new.b c.put.new.self c.join.new.b c.put-in-Both.new.self c.close.new.self c.in_ok-no-in-Both.ensures.fits c.in_ok-t-in-Both.ensures c.in_ok-right-in-Both.ensures.fits c.in_ok-put-in-Both.ensures.steps c.in_ok-j-in-Both.ensures c.in_ok-put-in-Both-2.ensures.steps c.close.ensures)
+pub either_behind-returns-clause-fits : goal.either_behind-returns-clause-fits
+either_behind-returns-clause-fits t c = λ x start first.
+    either_well c.in_ok-t.t c.args.other c.in_ok-j.j c.args.dest x (tree_of c.args.y.now) c.in_ok-right.right start c.args.b.now c.target.new.b c.put.new.self c.join.new.b c.emit_value.new.b c.put-2.new.self c.close.new.self first c.in_ok-t.ensures c.in_ok-put.ensures.steps c.in_ok-j.ensures c.in_ok-right.ensures.fits c.in_ok-put-2.ensures.steps c.close.ensures
 
-pub emit_value-returns-in_ok-put-in-Either-2-clause-code : goal.emit_value-returns-in_ok-put-in-Either-2-clause-code
-emit_value-returns-in_ok-put-in-Either-2-clause-code t c =
-    emits_as c.args.words.now c.args.dest (Held c.in_ok-t-in-Either.t) c.args.b.now c.close-in-Either.new.self (Either (tree_of c.deref-in-Either.result.now) (tree_of c.deref-in-Either-2.result.now)) (tree_of c.args.e.now) (ap (λ z. Either (tree_of z) (tree_of c.deref-in-Either-2.result.now)) c.deref-in-Either.ensures ∙ ap (λ z. Either (tree_of c.in-Either.x.value) (tree_of z)) c.deref-in-Either-2.ensures ∙ ap tree_of (sym c.in-Either.is))
-    (emits_either c.args.words.now c.in_ok-t-in-Either.t c.in_ok-no-in-Either.no c.in_ok-j-in-Either.j c.args.dest (tree_of c.deref-in-Either.result.now) (tree_of c.deref-in-Either-2.result.now) c.in_ok-right-in-Either.right c.args.b.now c.emit_test-in-Either.new.b c.target-in-Either.new.b c.put-in-Either.new.self c.join-in-Either.new.b c.emit_value-in-Either.new.b c.put-in-Either-2.new.self c.close-in-Either.new.self c.in_ok-no-in-Either.ensures.code c.in_ok-t-in-Either.ensures c.in_ok-put-in-Either.ensures.code c.in_ok-j-in-Either.ensures c.in_ok-right-in-Either.ensures.code c.in_ok-put-in-Either-2.ensures.code c.close-in-Either.ensures)
+pub emit_value-returns-in-Element-clause-code : goal.emit_value-returns-in-Element-clause-code
+emit_value-returns-in-Element-clause-code t c =
+    map_ok c.emit_element.result (λ o h. emits_as c.args.words.now c.args.dest o c.args.b.now c.emit_element.new.b (Element c.in-Element.array (tree_of c.deref.result.now)) (tree_of c.args.e.now) (ap (λ z. Element c.in-Element.array (tree_of z)) c.deref.ensures ∙ ap tree_of (sym c.in-Element.is)) h) c.emit_element.ensures.code
 
-pub emit_value-returns-in_ok-put-in-Either-2-clause-fits : goal.emit_value-returns-in_ok-put-in-Either-2-clause-fits
-emit_value-returns-in_ok-put-in-Either-2-clause-fits t c =
-    well_as c.args.dest (Held c.in_ok-t-in-Either.t) c.args.b.now c.close-in-Either.new.self (Either (tree_of c.deref-in-Either.result.now) (tree_of c.deref-in-Either-2.result.now)) (tree_of c.args.e.now) (ap (λ z. Either (tree_of z) (tree_of c.deref-in-Either-2.result.now)) c.deref-in-Either.ensures ∙ ap (λ z. Either (tree_of c.in-Either.x.value) (tree_of z)) c.deref-in-Either-2.ensures ∙ ap tree_of (sym c.in-Either.is))
-    (either_well c.in_ok-t-in-Either.t c.in_ok-no-in-Either.no c.in_ok-j-in-Either.j c.args.dest (tree_of c.deref-in-Either.result.now) (tree_of c.deref-in-Either-2.result.now) c.in_ok-right-in-Either.right c.args.b.now c.emit_test-in-Either.new.b c.target-in-Either.new.b c.put-in-Either.new.self c.join-in-Either.new.b c.emit_value-in-Either.new.b c.put-in-Either-2.new.self c.close-in-Either.new.self c.in_ok-no-in-Either.ensures.fits c.in_ok-t-in-Either.ensures c.in_ok-put-in-Either.ensures.steps c.in_ok-j-in-Either.ensures c.in_ok-right-in-Either.ensures.fits c.in_ok-put-in-Either-2.ensures.steps c.close-in-Either.ensures)
+pub emit_element-returns-clause-code : goal.emit_element-returns-clause-code
+emit_element-returns-clause-code t c =
+    emits_element c.args.words.now c.args.array c.in_ok-t.t c.in_ok-place.place c.args.dest (tree_of c.args.x.now) c.in_ok-index.index c.args.b.now c.emit_value.new.b c.check.new.b c.load.new.b c.in_ok-index.ensures.code c.in_ok-place.ensures.code c.in_ok-t.ensures.code
 
-pub emit_value-returns-in_ok-second-in-Choice-clause-code : goal.emit_value-returns-in_ok-second-in-Choice-clause-code
-emit_value-returns-in_ok-second-in-Choice-clause-code t c =
-    emits_as c.args.words.now c.args.dest (Held c.in_ok-t-in-Choice.t) c.args.b.now c.close-in-Choice.new.self (Choice (tree_of c.deref-in-Choice.result.now) (tree_of c.deref-in-Choice-2.result.now) (tree_of c.deref-in-Choice-3.result.now)) (tree_of c.args.e.now) (ap (λ z. Choice (tree_of z) (tree_of c.deref-in-Choice-2.result.now) (tree_of c.deref-in-Choice-3.result.now)) c.deref-in-Choice.ensures ∙ ap (λ z. Choice (tree_of c.in-Choice.c.value) (tree_of z) (tree_of c.deref-in-Choice-3.result.now)) c.deref-in-Choice-2.ensures ∙ ap (λ z. Choice (tree_of c.in-Choice.c.value) (tree_of c.in-Choice.x.value) (tree_of z)) c.deref-in-Choice-3.ensures ∙ ap tree_of (sym c.in-Choice.is))
-    (emits_choice c.args.words.now c.in_ok-t-in-Choice.t c.in_ok-no-in-Choice.no c.in_ok-j-in-Choice.j c.args.dest (tree_of c.deref-in-Choice.result.now) (tree_of c.deref-in-Choice-2.result.now) (tree_of c.deref-in-Choice-3.result.now) c.in_ok-first-in-Choice.first c.in_ok-second-in-Choice.second c.args.b.now c.emit_test-in-Choice.new.b c.target-in-Choice.new.b c.emit_value-in-Choice.new.b c.join-in-Choice.new.b c.emit_value-in-Choice-2.new.b c.close-in-Choice.new.self c.in_ok-no-in-Choice.ensures.code c.in_ok-t-in-Choice.ensures c.in_ok-first-in-Choice.ensures.code c.in_ok-j-in-Choice.ensures c.in_ok-second-in-Choice.ensures.code c.close-in-Choice.ensures)
-
-pub emit_value-returns-in_ok-second-in-Choice-clause-fits : goal.emit_value-returns-in_ok-second-in-Choice-clause-fits
-emit_value-returns-in_ok-second-in-Choice-clause-fits t c =
-    well_as c.args.dest (Held c.in_ok-t-in-Choice.t) c.args.b.now c.close-in-Choice.new.self (Choice (tree_of c.deref-in-Choice.result.now) (tree_of c.deref-in-Choice-2.result.now) (tree_of c.deref-in-Choice-3.result.now)) (tree_of c.args.e.now) (ap (λ z. Choice (tree_of z) (tree_of c.deref-in-Choice-2.result.now) (tree_of c.deref-in-Choice-3.result.now)) c.deref-in-Choice.ensures ∙ ap (λ z. Choice (tree_of c.in-Choice.c.value) (tree_of z) (tree_of c.deref-in-Choice-3.result.now)) c.deref-in-Choice-2.ensures ∙ ap (λ z. Choice (tree_of c.in-Choice.c.value) (tree_of c.in-Choice.x.value) (tree_of z)) c.deref-in-Choice-3.ensures ∙ ap tree_of (sym c.in-Choice.is))
-    (choice_well c.in_ok-t-in-Choice.t c.in_ok-no-in-Choice.no c.in_ok-j-in-Choice.j c.args.dest (tree_of c.deref-in-Choice.result.now) (tree_of c.deref-in-Choice-2.result.now) (tree_of c.deref-in-Choice-3.result.now) c.in_ok-first-in-Choice.first c.in_ok-second-in-Choice.second c.args.b.now c.emit_test-in-Choice.new.b c.target-in-Choice.new.b c.emit_value-in-Choice.new.b c.join-in-Choice.new.b c.emit_value-in-Choice-2.new.b c.close-in-Choice.new.self c.in_ok-no-in-Choice.ensures.fits c.in_ok-t-in-Choice.ensures c.in_ok-first-in-Choice.ensures.fits c.in_ok-j-in-Choice.ensures c.in_ok-second-in-Choice.ensures.fits c.close-in-Choice.ensures)
-
-pub emit_value-returns-in_ok-next-in-Call-clause-code : goal.emit_value-returns-in_ok-next-in-Call-clause-code
-emit_value-returns-in_ok-next-in-Call-clause-code t c =
+pub emit_value-returns-in-Call-clause-code : goal.emit_value-returns-in-Call-clause-code
+emit_value-returns-in-Call-clause-code t c =
     let h : Apply c.in-Call.function (row_in c.as_slice.result.now) ≡ tree_of c.args.e.now = ap (λ z. Apply c.in-Call.function (row_in z)) c.as_slice.ensures.value ∙ sym (view-Call c.in-Call.function c.in-Call.all) ∙ ap tree_of (sym c.in-Call.is) in
-    emits_as c.args.words.now c.args.dest (Held c.in_ok-t-in-Call.t) c.args.b.now c.close-in-Call.new.self (Apply c.in-Call.function (row_in c.as_slice.result.now)) (tree_of c.args.e.now) h
-    (emits_call c.args.words.now c.in-Call.function c.in_ok-t-in-Call.t c.in_ok-next-in-Call.next c.args.dest (row_in c.as_slice.result.now) c.in_ok-arguments-in-Call.arguments c.args.b.now c.emit_row.new.b c.target-in-Call.new.b c.reserve.new.self c.close-in-Call.new.self c.in_ok-arguments-in-Call.ensures.code c.in_ok-t-in-Call.ensures c.in_ok-next-in-Call.ensures c.close-in-Call.ensures)
+    map_ok c.emit_call.result (λ o k. emits_as c.args.words.now c.args.dest o c.args.b.now c.emit_call.new.b (Apply c.in-Call.function (row_in c.as_slice.result.now)) (tree_of c.args.e.now) h k) c.emit_call.ensures.code
 
-pub emit_value-returns-in_ok-next-in-Call-clause-fits : goal.emit_value-returns-in_ok-next-in-Call-clause-fits
-emit_value-returns-in_ok-next-in-Call-clause-fits t c =
+pub emit_call-returns-clause-code : goal.emit_call-returns-clause-code
+emit_call-returns-clause-code t c =
+    emits_call c.args.words.now c.args.function c.in_ok-t.t c.in_ok-next.next c.args.dest (row_in c.args.all.now) c.in_ok-arguments.arguments c.args.b.now c.emit_row.new.b c.target.new.b c.reserve.new.self c.close.new.self c.in_ok-arguments.ensures.code c.in_ok-t.ensures c.in_ok-next.ensures c.close.ensures
+
+pub emit_value-returns-in-Element-clause-fits : goal.emit_value-returns-in-Element-clause-fits
+emit_value-returns-in-Element-clause-fits t c =
+    map_ok c.emit_element.result (λ o h. well_as c.args.dest o c.args.b.now c.emit_element.new.b (Element c.in-Element.array (tree_of c.deref.result.now)) (tree_of c.args.e.now) (ap (λ z. Element c.in-Element.array (tree_of z)) c.deref.ensures ∙ ap tree_of (sym c.in-Element.is)) h) c.emit_element.ensures.fits
+
+pub emit_element-returns-clause-fits : goal.emit_element-returns-clause-fits
+emit_element-returns-clause-fits t c =
+    element_well c.args.array c.in_ok-t.t c.in_ok-place.place c.args.dest (tree_of c.args.x.now) c.in_ok-index.index c.args.b.now c.emit_value.new.b c.check.new.b c.load.new.b c.in_ok-index.ensures.fits c.in_ok-place.ensures.fits c.in_ok-t.ensures.steps
+
+pub emit_value-returns-in-Call-clause-fits : goal.emit_value-returns-in-Call-clause-fits
+emit_value-returns-in-Call-clause-fits t c =
     let h : Apply c.in-Call.function (row_in c.as_slice.result.now) ≡ tree_of c.args.e.now = ap (λ z. Apply c.in-Call.function (row_in z)) c.as_slice.ensures.value ∙ sym (view-Call c.in-Call.function c.in-Call.all) ∙ ap tree_of (sym c.in-Call.is) in
-    well_as c.args.dest (Held c.in_ok-t-in-Call.t) c.args.b.now c.close-in-Call.new.self (Apply c.in-Call.function (row_in c.as_slice.result.now)) (tree_of c.args.e.now) h
-    (call_well c.in-Call.function c.in_ok-t-in-Call.t c.in_ok-next-in-Call.next c.args.dest (row_in c.as_slice.result.now) c.in_ok-arguments-in-Call.arguments c.args.b.now c.emit_row.new.b c.target-in-Call.new.b c.reserve.new.self c.close-in-Call.new.self c.in_ok-arguments-in-Call.ensures.fits c.in_ok-t-in-Call.ensures c.in_ok-next-in-Call.ensures c.close-in-Call.ensures)
+    map_ok c.emit_call.result (λ o k. well_as c.args.dest o c.args.b.now c.emit_call.new.b (Apply c.in-Call.function (row_in c.as_slice.result.now)) (tree_of c.args.e.now) h k) c.emit_call.ensures.fits
+
+pub emit_call-returns-clause-fits : goal.emit_call-returns-clause-fits
+emit_call-returns-clause-fits t c =
+    call_well c.args.function c.in_ok-t.t c.in_ok-next.next c.args.dest (row_in c.args.all.now) c.in_ok-arguments.arguments c.args.b.now c.emit_row.new.b c.target.new.b c.reserve.new.self c.close.new.self c.in_ok-arguments.ensures.fits c.in_ok-t.ensures c.in_ok-next.ensures c.close.ensures
+
+pub emit_value-returns-in-Unary-clause-code : goal.emit_value-returns-in-Unary-clause-code
+emit_value-returns-in-Unary-clause-code t c =
+    map_ok c.emit_unary.result (λ o h. emits_as c.args.words.now c.args.dest o c.args.b.now c.emit_unary.new.b (Unary c.in-Unary.operator (tree_of c.deref-in-Unary.result.now)) (tree_of c.args.e.now) (ap (λ z. Unary c.in-Unary.operator (tree_of z)) c.deref-in-Unary.ensures ∙ ap tree_of (sym c.in-Unary.is)) h) c.emit_unary.ensures.code
+
+pub emit_unary-returns-clause-code : goal.emit_unary-returns-clause-code
+emit_unary-returns-clause-code t c =
+    emits_unary c.args.words.now c.args.operator c.in_ok-t.t c.args.dest (tree_of c.args.x.now) c.in_ok-o.o c.args.b.now c.emit_value.new.b c.unary.new.b c.in_ok-o.ensures.code c.in_ok-t.ensures.code
+
+pub emit_value-returns-in_ok-left-in-Binary-clause-code : goal.emit_value-returns-in_ok-left-in-Binary-clause-code
+emit_value-returns-in_ok-left-in-Binary-clause-code t c =
+    map_ok c.binary_behind.result (λ o h. emits_as c.args.words.now c.args.dest o c.args.b.now c.binary_behind.new.b (Binary c.in-Binary.operator (tree_of c.deref-in-Binary.result.now) (tree_of c.deref-in-Binary-2.result.now)) (tree_of c.args.e.now) (ap (λ z. Binary c.in-Binary.operator (tree_of z) (tree_of c.deref-in-Binary-2.result.now)) c.deref-in-Binary.ensures ∙ ap (λ z. Binary c.in-Binary.operator (tree_of c.in-Binary.x.value) (tree_of z)) c.deref-in-Binary-2.ensures ∙ ap tree_of (sym c.in-Binary.is)) (h (tree_of c.deref-in-Binary.result.now) c.args.b.now c.in_ok-left-in-Binary.ensures.code)) c.binary_behind.ensures.code
+
+pub binary_behind-returns-clause-code : goal.binary_behind-returns-clause-code
+binary_behind-returns-clause-code t c = λ x start first.
+    emits_binary c.args.words.now c.args.operator c.in_ok-t.t c.args.dest x (tree_of c.args.y.now) c.args.left c.in_ok-right.right start c.args.b.now c.emit_value.new.b c.combine.new.b first c.in_ok-right.ensures.code c.in_ok-t.ensures.code
+
+pub emit_value-returns-in_ok-first-in-Choice-clause-code : goal.emit_value-returns-in_ok-first-in-Choice-clause-code
+emit_value-returns-in_ok-first-in-Choice-clause-code t c =
+    map_ok c.choice_behind.result (λ o h. emits_as c.args.words.now c.args.dest o c.args.b.now c.choice_behind.new.b (Choice (tree_of c.deref-in-Choice.result.now) (tree_of c.deref-in-Choice-2.result.now) (tree_of c.deref-in-Choice-3.result.now)) (tree_of c.args.e.now) (ap (λ z. Choice (tree_of z) (tree_of c.deref-in-Choice-2.result.now) (tree_of c.deref-in-Choice-3.result.now)) c.deref-in-Choice.ensures ∙ ap (λ z. Choice (tree_of c.in-Choice.c.value) (tree_of z) (tree_of c.deref-in-Choice-3.result.now)) c.deref-in-Choice-2.ensures ∙ ap (λ z. Choice (tree_of c.in-Choice.c.value) (tree_of c.in-Choice.x.value) (tree_of z)) c.deref-in-Choice-3.ensures ∙ ap tree_of (sym c.in-Choice.is)) (h c.args.dest (tree_of c.deref-in-Choice.result.now) (tree_of c.deref-in-Choice-2.result.now) c.in_ok-first-in-Choice.first c.args.b.now c.emit_test-in-Choice.new.b c.target.new.b c.in_ok-no-in-Choice.ensures.code c.in_ok-t-in-Choice.ensures c.in_ok-first-in-Choice.ensures.code)) c.choice_behind.ensures.code
+
+pub choice_behind-returns-clause-code : goal.choice_behind-returns-clause-code
+choice_behind-returns-clause-code t c = λ dest k x ox start tested aimed first at second.
+    emits_choice c.args.words.now c.args.t c.args.other c.in_ok-j.j dest k x (tree_of c.args.y.now) ox c.in_ok-second.second start tested aimed c.args.b.now c.join.new.b c.emit_value.new.b c.close.new.self first at second c.in_ok-j.ensures c.in_ok-second.ensures.code c.close.ensures
+
+pub emit_value-returns-in-Unary-clause-fits : goal.emit_value-returns-in-Unary-clause-fits
+emit_value-returns-in-Unary-clause-fits t c =
+    map_ok c.emit_unary.result (λ o h. well_as c.args.dest o c.args.b.now c.emit_unary.new.b (Unary c.in-Unary.operator (tree_of c.deref-in-Unary.result.now)) (tree_of c.args.e.now) (ap (λ z. Unary c.in-Unary.operator (tree_of z)) c.deref-in-Unary.ensures ∙ ap tree_of (sym c.in-Unary.is)) h) c.emit_unary.ensures.fits
+
+pub emit_unary-returns-clause-fits : goal.emit_unary-returns-clause-fits
+emit_unary-returns-clause-fits t c =
+    unary_well c.args.operator c.in_ok-t.t c.args.dest (tree_of c.args.x.now) c.in_ok-o.o c.args.b.now c.emit_value.new.b c.unary.new.b c.in_ok-o.ensures.fits c.in_ok-t.ensures.steps
+
+pub emit_value-returns-in_ok-left-in-Binary-clause-fits : goal.emit_value-returns-in_ok-left-in-Binary-clause-fits
+emit_value-returns-in_ok-left-in-Binary-clause-fits t c =
+    map_ok c.binary_behind.result (λ o h. well_as c.args.dest o c.args.b.now c.binary_behind.new.b (Binary c.in-Binary.operator (tree_of c.deref-in-Binary.result.now) (tree_of c.deref-in-Binary-2.result.now)) (tree_of c.args.e.now) (ap (λ z. Binary c.in-Binary.operator (tree_of z) (tree_of c.deref-in-Binary-2.result.now)) c.deref-in-Binary.ensures ∙ ap (λ z. Binary c.in-Binary.operator (tree_of c.in-Binary.x.value) (tree_of z)) c.deref-in-Binary-2.ensures ∙ ap tree_of (sym c.in-Binary.is)) (h (tree_of c.deref-in-Binary.result.now) c.args.b.now c.in_ok-left-in-Binary.ensures.fits)) c.binary_behind.ensures.fits
+
+pub binary_behind-returns-clause-fits : goal.binary_behind-returns-clause-fits
+binary_behind-returns-clause-fits t c = λ x start first.
+    binary_well c.args.operator c.in_ok-t.t c.args.dest x (tree_of c.args.y.now) c.args.left c.in_ok-right.right start c.args.b.now c.emit_value.new.b c.combine.new.b first c.in_ok-right.ensures.fits c.in_ok-t.ensures.fits
+
+pub emit_value-returns-in_ok-first-in-Choice-clause-fits : goal.emit_value-returns-in_ok-first-in-Choice-clause-fits
+emit_value-returns-in_ok-first-in-Choice-clause-fits t c =
+    map_ok c.choice_behind.result (λ o h. well_as c.args.dest o c.args.b.now c.choice_behind.new.b (Choice (tree_of c.deref-in-Choice.result.now) (tree_of c.deref-in-Choice-2.result.now) (tree_of c.deref-in-Choice-3.result.now)) (tree_of c.args.e.now) (ap (λ z. Choice (tree_of z) (tree_of c.deref-in-Choice-2.result.now) (tree_of c.deref-in-Choice-3.result.now)) c.deref-in-Choice.ensures ∙ ap (λ z. Choice (tree_of c.in-Choice.c.value) (tree_of z) (tree_of c.deref-in-Choice-3.result.now)) c.deref-in-Choice-2.ensures ∙ ap (λ z. Choice (tree_of c.in-Choice.c.value) (tree_of c.in-Choice.x.value) (tree_of z)) c.deref-in-Choice-3.ensures ∙ ap tree_of (sym c.in-Choice.is)) (h c.args.dest (tree_of c.deref-in-Choice.result.now) (tree_of c.deref-in-Choice-2.result.now) c.in_ok-first-in-Choice.first c.args.b.now c.emit_test-in-Choice.new.b c.target.new.b c.in_ok-no-in-Choice.ensures.fits c.in_ok-t-in-Choice.ensures c.in_ok-first-in-Choice.ensures.fits)) c.choice_behind.ensures.fits
+
+pub choice_behind-returns-clause-fits : goal.choice_behind-returns-clause-fits
+choice_behind-returns-clause-fits t c = λ dest k x ox start tested aimed first at second.
+    choice_well c.args.t c.args.other c.in_ok-j.j dest k x (tree_of c.args.y.now) ox c.in_ok-second.second start tested aimed c.args.b.now c.join.new.b c.emit_value.new.b c.close.new.self first at second c.in_ok-j.ensures c.in_ok-second.ensures.fits c.close.ensures
 
 pub emit_value-returns-in_ok-t-in-MoreInput-clause-code : goal.emit_value-returns-in_ok-t-in-MoreInput-clause-code
 emit_value-returns-in_ok-t-in-MoreInput-clause-code t c =
