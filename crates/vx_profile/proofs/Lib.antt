@@ -1,3 +1,11 @@
 pub mod Storing
 pub mod Running
 pub mod Counting
+pub mod Decimals
+pub mod Numbers
+pub mod Replacing
+pub mod Rows
+pub mod Progress
+pub mod Once
+pub mod Writing
+pub mod TextRows

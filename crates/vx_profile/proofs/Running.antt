@@ -1,19 +1,17 @@
 -- Steps of a run: operations, blocks, calls.
-use Rattle.std.proofs.Common.{◌≡◌, ℕ, suc, ◌+◌, ◌<◌, ◌≤◌, ℤ, Bool, true, false, cond, nat_le, List, [], ◌∷◌, ◌++◌, length, map, drop, get_or, slice_get, Option, Some, None, refl, sym, ap, subst, ◌∙◌, append_assoc, append-nil, arith}
+use Rattle.std.proofs.Common.{◌≡◌, ℕ, suc, ◌+◌, ◌≤◌, ℤ, Bool, true, false, cond, nat_le, List, [], ◌∷◌, ◌++◌, length, map, drop, slice_get, Option, Some, None, refl, sym, ap, subst, ◌∙◌, append-nil, arith}
 use Rattle.std.proofs.Math.Path.{fun_ext}
 use Rattle.std.proofs.lemmas.Bool.{false≢true, leb-true, le-leb}
-use Rattle.std.proofs.Math.Seq.{drop-cons}
 use Rattle.std.specs.Option.{option_map}
 use Rattle.vx_base.specs.Outcome.{Outcome, Ends, Traps, Goes, Step, On, Over, step_then}
 use Rattle.vx_base.specs.declared.outcome.Trap.TheVariants.{Depth}
-use Rattle.vx_flow.specs.declared.graph.Operand.{Operand}
 use Rattle.vx_flow.specs.declared.graph.Op.{Op}
 use Rattle.vx_flow.specs.declared.graph.Exit.{Exit}
 use Rattle.vx_flow.specs.declared.graph.Array.{Array}
 use Rattle.vx_flow.specs.declared.graph.Graph.{Graph}
 use Rattle.vx_flow.specs.declared.graph.Flow.{Flow}
-use Rattle.vx_flow.specs.Effects.{Content, State, Setting, held, effect}
-use Rattle.vx_flow.specs.Meaning.{Hop, Frame, Active, Program, with_front, known, leave, and_then, block_hop, deepest, waits, undefined, at_entry, after_hop, body_hop, body_of, hop, next, program_of, program_run, returned, entered_or, start, globals_at_start, words_at_start}
+use Rattle.vx_flow.specs.Effects.{Content, State, Setting, effect}
+use Rattle.vx_flow.specs.Meaning.{Hop, Frame, Active, Program, leave, and_then, block_hop, deepest, waits, undefined, at_entry, after_hop, body_hop, body_of, hop, next, program_of, program_run, returned, entered_or, start, globals_at_start, words_at_start}
 use Rattle.vx_profile.specs.declared.ending.Ending.{Ending}
 use Rattle.vx_profile.specs.declared.calls.Waiting.{Waiting}
 use Rattle.vx_profile.specs.declared.calls.Machine.{Machine}

@@ -1,5 +1,5 @@
 -- How often blocks and edges stand in a path of blocks.
-use Rattle.std.specs.Prelude.{◌≡◌, ◌+◌, ◌==◌, ◌&&◌, ℕ, Bool, false, List, [], ◌∷◌, ◌++◌}
+use Rattle.std.specs.Prelude.{◌≡◌, ◌+◌, ◌==◌, ◌&&◌, ℕ, Bool, false, if◌then◌else◌, List, [], ◌∷◌}
 use Rattle.std.specs.List.{count_by}
 use Rattle.std.specs.Option.{unwrap_or}
 use Rattle.std.specs.declared.cmp.Ordering.{Ordering}
@@ -51,6 +51,11 @@ pub record CountsOf (counts : Counts) (path : List Visit) : Type 0 where
 pub record CountsMore (old new : Counts) (visits : List Visit) : Type 0 where
   pub blocks : (f b : ℕ) → block_count new f b ≡ block_count old f b + count_by (is_block f b) visits
   pub edges : (f b d : ℕ) → edge_count new f b d ≡ edge_count old f b d + count_by (is_edge f b d) visits
+
+-- new has this count for a block or an edge, and for each other one what old has
+pub record CountsReplaced (old new : Counts) (visit : Visit) (count : ℕ) : Type 0 where
+  pub blocks : (f b : ℕ) → block_count new f b ≡ (if is_block f b visit then count else block_count old f b)
+  pub edges : (f b d : ℕ) → edge_count new f b d ≡ (if is_edge f b d visit then count else edge_count old f b d)
 
 -- what one step of a run adds to its path
 abbrev pub visits : Program → Active → List Visit

@@ -2,7 +2,7 @@
 
 ghost use Rattle.std.specs.Prelude.{◌≡◌, ◌+◌, ◌∷◌, [], IfOk, OnOk};
 ghost use Rattle.vx_flow.specs.Meaning.{AlongEdge, AtBlock};
-ghost use Rattle.vx_profile.specs.Counts.{block_count, edge_count, CountsMore, CountsOf};
+ghost use Rattle.vx_profile.specs.Counts.{block_count, edge_count, CountsMore, CountsOf, CountsReplaced};
 
 use std::alloc::Global;
 use std::collections::BTreeMap;
@@ -58,6 +58,42 @@ impl Counts {
         let next = one_more(self.of_edge(function, from, to))?;
         self.edges.insert((function, from, to), next)?;
         Ok(())
+    }
+
+    /// Replaces the count of a block.
+    pub fn set_block(&mut self, function: u32, block: BlockId, count: u64) -> Result<(), NoMemory>
+        ensures { OnOk result (CountsReplaced self.old self.new (AtBlock function block) count) }
+    {
+        self.blocks.insert((function, block), count)?;
+        Ok(())
+    }
+
+    /// Replaces the count of an edge.
+    pub fn set_edge(
+        &mut self,
+        function: u32,
+        from: BlockId,
+        to: BlockId,
+        count: u64,
+    ) -> Result<(), NoMemory>
+        ensures { OnOk result (CountsReplaced self.old self.new (AlongEdge function from to) count) }
+    {
+        self.edges.insert((function, from, to), count)?;
+        Ok(())
+    }
+
+    /// The counts of blocks that are held.
+    pub(crate) fn block_counts(&self) -> &BTreeMap<(u32, BlockId), u64>
+        ensures { result.now ≡ self.now.blocks }
+    {
+        &self.blocks
+    }
+
+    /// The counts of edges that are held.
+    pub(crate) fn edge_counts(&self) -> &BTreeMap<(u32, BlockId, BlockId), u64>
+        ensures { result.now ≡ self.now.edges }
+    {
+        &self.edges
     }
 }
 

@@ -1,5 +1,5 @@
-use Rattle.std.proofs.Common.{◌≡◌, ◌+◌, ◌-◌, suc, ◌∙◌, sym, subst, Some, arith}
-use Rattle.vx_flow.specs.Meaning.{graph_path, graph_run, next, program_of, program_run}
+use Rattle.std.proofs.Common.{◌≡◌, ◌+◌, ◌-◌, suc, ◌∙◌, sym, subst, arith}
+use Rattle.vx_flow.specs.Meaning.{graph_path, next, program_of, program_run}
 use Rattle.vx_profile.specs.Machine.{active_of, IsOutcome}
 use Rattle.vx_profile.proofs.Running.{run_on, run_none, step_on, run_ends}
 use Rattle.vx_profile.proofs.Counting.{run_begun, path_begun, counted_on, counted_over, counted_end, over_at}
