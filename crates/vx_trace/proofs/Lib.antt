@@ -1,0 +1,6 @@
+pub mod Ways
+pub mod Unique
+pub mod Readings
+pub mod Tables
+pub mod Grows
+pub mod Seeds
