@@ -20,6 +20,7 @@ use Rattle.vx_mixed.specs.Settled.{has_home}
 use Rattle.vx_mixed.specs.Valid.{IsOp, block_op, region_op, names_of}
 use Rattle.vx_mixed.proofs.Begins.{op_below, no_region, begins_settled, node_is, is_block}
 use Rattle.vx_mixed.proofs.Linked.{index_in}
+use Rattle.vx_cycles.proofs.Headed.{begins_headed}
 use Rattle.vx_region.specs.Regions.{room_in, BeginsAsGraph}
 
 past : (xs : List (Option ℕ)) (v : ℕ) → length xs ≤ v → slice_index_or xs v None ≡ None
@@ -70,6 +71,7 @@ begins_on with_code machine graph m sound_test from = record {
   };
   settled = begins_settled graph m from.blocks (room_in machine) (latency_of_op machine);
   brief = record { splits = λ r j p d y e g word at there i. no_region graph m from.blocks r g at; last = λ r g at. no_region graph m from.blocks r g at };
+  headed = begins_headed graph m from;
 }
   where
     value_below : (op : Op) (v : ℕ) → HasOperation graph op → IsIn v (names_of op) → v < length m.banks

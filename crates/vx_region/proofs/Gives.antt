@@ -1,5 +1,5 @@
 -- Homes that values are given, one after the other.
-use Rattle.std.proofs.Common.{◌≡◌, ◌≢◌, ◌⊎◌, inl, inr, ℕ, zero, suc, ◌+◌, ◌≤◌, Option, Some, None, List, [], ◌∷◌, ◌++◌, length, slice_get, slice_set, refl, sym, ap, ◌∙◌, subst, arith}
+use Rattle.std.proofs.Common.{◌≡◌, ◌≢◌, ◌⊎◌, inl, inr, ℕ, zero, suc, ◌+◌, ◌<◌, ◌≤◌, Option, Some, None, List, [], ◌∷◌, ◌++◌, length, slice_get, slice_set, refl, sym, ap, ◌∙◌, subst, arith}
 use Rattle.std.specs.List.{flat_map}
 use Rattle.std.proofs.lemmas.Bool.{cases_eq}
 use Rattle.std.proofs.lemmas.List.{get_or-set_same, get_or-set_other}
@@ -16,10 +16,10 @@ use Rattle.vx_isa.specs.Numbers.{Numbers}
 use Rattle.vx_mixed.specs.declared.region.Node.TheVariants.{Unused}
 use Rattle.vx_mixed.specs.declared.mixed.MixedGraph.{MixedGraph}
 use Rattle.vx_mixed.specs.Settled.{has_home}
+use Rattle.vx_mixed.specs.TraceOf.{block_at, block_or_none}
 use Rattle.vx_mixed.specs.Valid.{block_op, names_of}
-use Rattle.vx_mixed.proofs.Linked.{some_same}
-use Rattle.vx_region.specs.Giving.{first_operand, second_operand, general_result, one_of, general_values, GivesHomes}
-use Rattle.vx_region.specs.Regions.{IsGraphOf, HomesWith}
+use Rattle.vx_region.specs.Giving.{first_operand, second_operand, general_result, one_of, general_values, values_in, AllUnused, GivesHomes}
+use Rattle.vx_region.specs.Regions.{IsGraphOf, HomesWith, GivesFirst}
 use Rattle.vx_region.proofs.SoundOps.{Known, known, Kinds, named_kind}
 
 -- none, and one after the other
@@ -92,41 +92,75 @@ longer_same [] (suc v) = refl
 longer_same (h ∷ homes) zero = refl
 longer_same (h ∷ homes) (suc v) = longer_same homes v
 
--- homes for a block
+-- homes for blocks
 
 in_flat_map : (ops : List Op) (op : Op) (v : ℕ) → IsIn op ops → IsIn v (general_values op) → IsIn v (flat_map general_values ops)
 in_flat_map [] op v h i = absurd h
 in_flat_map (x ∷ ops) op v (inl e) i = in_left v (general_values x) (flat_map general_values ops) (subst (λ o. IsIn v (general_values o)) e i)
 in_flat_map (x ∷ ops) op v (inr h) i = in_right v (general_values x) (flat_map general_values ops) (in_flat_map ops op v h i)
 
-pub homes_given : (graph : Graph) (m : MixedGraph) (machine : Numbers) (b : ℕ) (block : Block) (homes : Homes) → IsGraphOf machine graph m → slice_get m.nodes b ≡ Some (Unused block) → GivesHomes m.homes.clusters (flat_map general_values block.ops) homes.clusters → HomesWith m (b ∷ []) homes
-homes_given graph m machine b block homes G at gives = record { stay = gives.stay; first = first; named = named }
-  where
-    first : (v k : ℕ) → has_home homes.clusters v ≡ Some k → k ≡ 0
-    first v k h = elim (gives.first v k h) [ inl x ↦ G.one.homes v k x | inr x ↦ x.1 ]
+pub first_there : (m : MixedGraph) (b : ℕ) (bs : List ℕ) → AllUnused m (b ∷ bs) → b < length m.nodes
+first_there m b bs all = let k = all b (inl refl) in get_below m.nodes b (Unused k.0) k.1
 
-    general : (op : Op) (v : ℕ) → IsIn op block.ops → IsIn v (names_of op) → slice_get m.banks v ≡ Some General → IsIn v (general_values op)
-    general op v i n bank = by (named_kind v op n)
-      where
-        own : Known graph op
-        own = known graph (sound_is graph G.sound) op (λ x y e. G.one.no_across x y (block_op b block at (subst (λ o. IsIn o block.ops) e i))) (G.code.ops op (block_op b block at i))
+block_values : (m : MixedGraph) (blocks : List ℕ) (b v : ℕ) → IsIn b blocks → IsIn v (flat_map general_values (block_at m b).ops) → IsIn v (values_in m blocks)
+block_values m [] b v h i = absurd h
+block_values m (x ∷ xs) b v (inl e) i = in_left v (flat_map general_values (block_at m x).ops) (values_in m xs) (subst (λ z. IsIn v (flat_map general_values (block_at m z).ops)) e i)
+block_values m (x ∷ xs) b v (inr h) i = in_right v (flat_map general_values (block_at m x).ops) (values_in m xs) (block_values m xs b v h i)
 
-        banked : slice_get graph.banks v ≡ Some General
-        banked = ap (λ bs. slice_get bs v) (sym G.code.banks) ∙ bank
+named_by : (ops : List Op) (v : ℕ) → IsIn v (flat_map general_values ops) → (op : Op) × IsIn op ops × IsIn v (general_values op)
+named_by [] v h = absurd h
+named_by (op ∷ ops) v h = elim (in_either v (general_values op) (flat_map general_values ops) h) [
+  | inl i ↦ (op, inl refl, i)
+  | inr i ↦ (let x = named_by ops v i in (x.0, inr x.1, x.2))
+]
 
-        not_branch : slice_get graph.banks v ≡ Some Branch → ⊥
-        not_branch e = let z : Some General ≡ Some Branch = sym banked ∙ e in cc
+in_block : (m : MixedGraph) (blocks : List ℕ) (v : ℕ) → IsIn v (values_in m blocks) → (b : ℕ) × IsIn b blocks × IsIn v (flat_map general_values (block_at m b).ops)
+in_block m [] v h = absurd h
+in_block m (x ∷ xs) v h = elim (in_either v (flat_map general_values (block_at m x).ops) (values_in m xs) h) [
+  | inl i ↦ (x, inl refl, i)
+  | inr i ↦ (let y = in_block m xs v i in (y.0, inr y.1, y.2))
+]
 
-        by : Kinds op v → IsIn v (general_values op)
-        by (inl x) = x
-        by (inr (inl x)) = absurd (not_branch (own.tests v x (get_below graph.banks v General banked)))
-        by (inr (inr x)) = absurd (not_branch (own.results v x.0 ∙ ap Some x.1))
+module _ (graph : Graph) (m : MixedGraph) (machine : Numbers) (blocks : List ℕ) (homes : Homes) (G : IsGraphOf machine graph m) (unused : AllUnused m blocks) (gives : GivesHomes m.homes.clusters (values_in m blocks) homes.clusters) where
+  first : (v k : ℕ) → has_home homes.clusters v ≡ Some k → k ≡ 0
+  first v k h = elim (gives.first v k h) [ inl x ↦ G.one.homes v k x | inr x ↦ x.1 ]
 
-    named : (c v : ℕ) (other : Block) (op : Op) → IsIn c (b ∷ []) → slice_get m.nodes c ≡ Some (Unused other) → IsIn op other.ops → IsIn v (names_of op) → slice_get m.banks v ≡ Some General → has_home homes.clusters v ≡ Some 0
-    named c v other op (inl e) there i n bank =
-        let same : Unused other ≡ Unused block = some_same (slice_get m.nodes b) (Unused other) (Unused block) (ap (slice_get m.nodes) (sym e) ∙ there) at in
-        let one : other ≡ block = cc (same) in
-        let in_block = subst (λ (z : Block). IsIn op z.ops) one i in
-        let k = gives.given v (in_flat_map block.ops op v in_block (general op v in_block n bank)) in
-        k.1 ∙ ap Some (first v k.0 k.1)
-    named c v other op (inr h) there i n bank = absurd h
+  general : (b : ℕ) (block : Block) (op : Op) (v : ℕ) → slice_get m.nodes b ≡ Some (Unused block) → IsIn op block.ops → IsIn v (names_of op) → slice_get m.banks v ≡ Some General → IsIn v (general_values op)
+  general b block op v at i n bank = by (named_kind v op n)
+    where
+      own : Known graph op
+      own = known graph (sound_is graph G.sound) op (λ x y e. G.one.no_across x y (block_op b block at (subst (λ o. IsIn o block.ops) e i))) (G.code.ops op (block_op b block at i))
+
+      banked : slice_get graph.banks v ≡ Some General
+      banked = ap (λ bs. slice_get bs v) (sym G.code.banks) ∙ bank
+
+      not_branch : slice_get graph.banks v ≡ Some Branch → ⊥
+      not_branch e = let z : Some General ≡ Some Branch = sym banked ∙ e in cc
+
+      by : Kinds op v → IsIn v (general_values op)
+      by (inl x) = x
+      by (inr (inl x)) = absurd (not_branch (own.tests v x (get_below graph.banks v General banked)))
+      by (inr (inr x)) = absurd (not_branch (own.results v x.0 ∙ ap Some x.1))
+
+  pub homes_given : HomesWith m blocks homes
+  homes_given = record {
+    stay = gives.stay;
+    first = first;
+    named = λ b v block op has at i n bank.
+        let here : block_at m b ≡ block = ap block_or_none at in
+        let there : IsIn v (flat_map general_values (block_at m b).ops) = subst (λ (z : Block). IsIn v (flat_map general_values z.ops)) (sym here) (in_flat_map block.ops op v i (general b block op v at i n bank)) in
+        let k = gives.given v (block_values m blocks b v has there) in
+        k.1 ∙ ap Some (first v k.0 k.1);
+  }
+
+  pub gives_only : GivesFirst m blocks homes
+  gives_only = record {
+    only = λ v c h. elim (gives.first v c h) [
+      | inl before ↦ inl before
+      | inr x ↦ (let b = in_block m blocks v x.0 in
+          let k = unused b.0 b.1 in
+          let at : block_at m b.0 ≡ k.0 = ap block_or_none k.1 in
+          let n = named_by k.0.ops v (subst (λ (z : Block). IsIn v (flat_map general_values z.ops)) at b.2) in
+          inr (x.1, record { number = b.0; has_number = b.1; block = k.0; is = k.1; op = n.0; has_op = n.1; names = n.2 }))
+    ];
+  }

@@ -25,7 +25,12 @@ pub mod RoomHomes
 pub mod ShortDrains
 pub mod OneStep
 pub mod BeginsOn
-pub mod OneBlock
 pub mod Gives
-pub mod Sweeps
+pub mod Owing
+pub mod Modes
+pub mod Counts
+pub mod NoCopies
+pub mod Falls
+pub mod Counted
+pub mod Steps
 pub mod TwoBegin

@@ -1,5 +1,5 @@
 -- A region in place of some blocks keeps the meaning of a graph of blocks and regions, and what is known of it.
-use Rattle.std.proofs.Common.{◌≡◌, ◌⊎◌, inl, inr, ℕ, ◌+◌, true, Some, List, [], ◌∷◌, ◌++◌, length, map, slice_get, refl, sym, ap, ◌∙◌, subst}
+use Rattle.std.proofs.Common.{◌≡◌, ◌⊎◌, inl, inr, ℕ, ◌+◌, true, List, ◌∷◌, ◌++◌, length, map, slice_get, refl, sym, ap, ◌∙◌, subst}
 use Rattle.vx_flow.specs.declared.graph.Block.{Block}
 use Rattle.vx_flow.specs.declared.graph.Graph.{Graph}
 use Rattle.vx_flow.specs.declared.graph.Op.{Op}
@@ -10,7 +10,6 @@ use Rattle.vx_flow.specs.Effects.{IsIn, dismissed, reads, writes}
 use Rattle.vx_isa.specs.Numbers.{Numbers, is_machine}
 use Rattle.vx_machine.specs.Items.{latency_of_op}
 use Rattle.vx_mixed.specs.declared.region.Item.TheVariants.{Plain}
-use Rattle.vx_mixed.specs.declared.region.Node.TheVariants.{Unused}
 use Rattle.vx_mixed.specs.declared.mixed.MixedGraph.{MixedGraph}
 use Rattle.vx_mixed.specs.declared.replacement.Replacement.{Replacement}
 use Rattle.vx_mixed.specs.Brief.{BriefStays, DrainsBriefly, most_drain}
@@ -31,13 +30,11 @@ use Rattle.vx_mixed.proofs.Renames.{old_word, old_op}
 use Rattle.vx_mixed.proofs.SettledAfter.{of_regions}
 use Rattle.vx_mixed.proofs.StaysValid.{linkable}
 use Rattle.vx_dep.specs.declared.mode.Mode.{Mode}
-use Rattle.vx_dep.specs.declared.mode.Mode.TheVariants.{Barred}
 use Rattle.vx_dep.specs.declared.copies.EdgeCopies.{EdgeCopies}
 use Rattle.vx_dep.specs.Compensation.{word_at, drain_at, at_splits_of, at_joins_of}
-use Rattle.vx_region.specs.declared.region_plan.RegionPlan.{RegionPlan}
 use Rattle.vx_region.specs.Planned.{placed_in, replacement_of, Planned}
-use Rattle.vx_region.specs.RegionPlans.{replacement_in}
-use Rattle.vx_region.specs.Regions.{room_in, OnFirstCluster, HomesWith, IsGraphOf, FitsIn, ReplacesOne, StepKeeps}
+use Rattle.vx_region.specs.Regions.{room_in, OnFirstCluster, HomesWith, IsGraphOf, FitsIn}
+use Rattle.vx_cycles.proofs.Headed.{stays_headed}
 use Rattle.vx_region.proofs.PlanOps.{Comes, is_op}
 use Rattle.vx_region.proofs.Planning.{plan_law, plan_keeps, own_blocks}
 use Rattle.vx_region.proofs.PlansFit.{plans_fit, can_replace, in_region, op_comes, value_below, not_across}
@@ -150,29 +147,6 @@ region_keeps code_stays brief_stays machine graph m blocks mode homes r valid ca
       one = one;
       settled = keeps.settled (room_in machine) (is_room machine) G.settled fit.stand;
       brief = brief_stays m R' G.brief brief;
+      headed = stays_headed m R' valid fit.can G.headed;
     } in
     subst (λ z. StepsOn machine graph m (next_mixed m z) z) (sym r_is) (record { keeps = keeps; becomes = Changes refl refl (meet_old R') (meet_new m R') (pairs m R') keeps.meaning; is = after })
-
--- a block by itself can be traced
-
-pub one_can : (m : MixedGraph) (b : ℕ) (block : Block) → slice_get m.nodes b ≡ Some (Unused block) → CanTrace m (b ∷ [])
-one_can m b block at = record {
-  some = λ e. cc (e);
-  unused = here;
-  once = ((λ h. h), tt);
-  follow = λ e h. absurd h;
-  no_call = λ e k h at ends. absurd h;
-  back = λ e edge from to. absurd to;
-}
-  where
-    here : (x : ℕ) → IsIn x (b ∷ []) → (k : Block) × (slice_get m.nodes x ≡ Some (Unused k))
-    here x (inl e) = (block, ap (slice_get m.nodes) e ∙ at)
-    here x (inr h) = absurd h
-
-pub one_step : CodeStays → BriefStays → (machine : Numbers) (graph : Graph) (m m' : MixedGraph) (plan : RegionPlan) → Valid m → IsGraphOf machine graph m → (x : ReplacesOne machine m m' plan) → StepsOn machine graph m m' (replacement_in x.homes plan)
-one_step code_stays brief_stays machine graph m m' plan valid G x =
-    subst (λ z. StepsOn machine graph m z (replacement_in x.homes plan)) (sym x.next)
-    (region_keeps code_stays brief_stays machine graph m (x.block ∷ []) Barred x.homes (replacement_in x.homes plan) valid (one_can m x.block x.lowest.block x.lowest.is) G x.homes_with x.planned)
-
-pub step_keeps : CodeStays → BriefStays → StepKeeps
-step_keeps code_stays brief_stays machine graph m m' plan valid G x = let s = one_step code_stays brief_stays machine graph m m' plan valid G x in (s.keeps, s.becomes, s.is)

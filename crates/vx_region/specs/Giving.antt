@@ -1,14 +1,19 @@
 -- Homes that values are given: cluster 0, where they have none.
-use Rattle.std.specs.Prelude.{◌≡◌, ◌⊎◌, ℕ, Option, Some, None, List, [], ◌∷◌, ◌++◌}
+use Rattle.std.specs.Prelude.{◌≡◌, ◌⊎◌, ℕ, Option, Some, None, List, [], ◌∷◌, ◌++◌, slice_get}
+use Rattle.std.specs.List.{flat_map}
 use Rattle.vx_base.specs.declared.arithmetic.Code.{Code}
 use Rattle.vx_base.specs.declared.arithmetic.Code.TheVariants.{ToBranch}
+use Rattle.vx_flow.specs.declared.graph.Block.{Block}
 use Rattle.vx_flow.specs.declared.graph.Operand.{Operand}
 use Rattle.vx_flow.specs.declared.graph.Operand.TheVariants.{Held}
 use Rattle.vx_flow.specs.declared.graph.Op.{Op}
 use Rattle.vx_flow.specs.declared.graph.Op.TheVariants.{Compute, Select, Place, Load, Store, More, Input, Text, Decimal, Across}
 use Rattle.vx_flow.specs.Effects.{IsIn}
+use Rattle.vx_mixed.specs.declared.mixed.MixedGraph.{MixedGraph}
+use Rattle.vx_mixed.specs.declared.region.Node.TheVariants.{Unused}
 use Rattle.vx_mixed.specs.Scheduled.{HomesStay}
 use Rattle.vx_mixed.specs.Settled.{has_home}
+use Rattle.vx_mixed.specs.TraceOf.{block_at}
 
 -- the general values that an operation names: those of its operands, and what it writes unless that is a branch value
 
@@ -56,6 +61,15 @@ one_of (Some v) = v ∷ []
 
 abbrev pub general_values : Op → List ℕ
 general_values op = one_of (first_operand op) ++ (one_of (second_operand op) ++ one_of (general_result op))
+
+-- those of the operations of these blocks
+abbrev pub values_in : MixedGraph → List ℕ → List ℕ
+values_in m [] = []
+values_in m (b ∷ bs) = flat_map general_values (block_at m b).ops ++ values_in m bs
+
+-- these blocks are in no region
+abbrev pub AllUnused : MixedGraph → List ℕ → Type 0
+AllUnused m blocks = (b : ℕ) → IsIn b blocks → (block : Block) × (slice_get m.nodes b ≡ Some (Unused block))
 
 -- the homes so far stay, and each of these values that has none gets cluster 0
 pub record GivesHomes (before : List (Option ℕ)) (values : List ℕ) (after : List (Option ℕ)) : Type 0 where

@@ -2,8 +2,11 @@ pub mod Planned
 pub mod Meets
 pub mod PlanLaws
 pub mod RegionPlans
+pub mod Growth
+pub mod Owed
 pub mod Regions
 pub mod Giving
-pub mod Sweeping
 pub mod Stepping
+pub mod Barring
+pub mod Ending
 pub mod TwoBlocks

@@ -1,7 +1,22 @@
--- Where a step leads.
-use Rattle.vx_region.specs.declared.regions.Step.{Step}
-use Rattle.vx_region.specs.declared.regions.Step.TheVariants.{Finished, Replaced}
-use Rattle.vx_region.specs.declared.region_plan.RegionPlan.{RegionPlan}
+-- Where a step leads, and what it is made of.
+use Rattle.std.specs.Prelude.{◌≡◌, ℕ, List, ◌++◌}
+use Rattle.vx_flow.specs.declared.graph.Graph.{Graph}
+use Rattle.vx_flow.specs.declared.trace.Clustered.{Clustered}
+use Rattle.vx_flow.specs.declared.trace.Homes.{Homes}
+use Rattle.vx_isa.specs.Numbers.{Numbers}
+use Rattle.vx_mixed.specs.declared.mixed.MixedGraph.{MixedGraph}
+use Rattle.vx_mixed.specs.CanReplace.{CanReplace}
+use Rattle.vx_mixed.specs.Next.{next_mixed}
+use Rattle.vx_mixed.specs.TraceOf.{IsTraceOf}
+use Rattle.vx_mixed.specs.Valid.{Valid}
+use Rattle.vx_profile.specs.declared.counts.Counts.{Counts}
+use Rattle.vx_region.specs.declared.placed_trace.PlacedTrace.{PlacedTrace}
+use Rattle.vx_region.specs.declared.step.Next.{Next}
+use Rattle.vx_region.specs.declared.step.Step.{Step}
+use Rattle.vx_region.specs.declared.step.Step.TheVariants.{Finished, Replaced}
+use Rattle.vx_region.specs.declared.trace_plan.TracePlan.{TracePlan}
+use Rattle.vx_region.specs.RegionPlans.{on_one}
+use Rattle.vx_region.specs.Regions.{IsGraphOf, ReplacesAll, ReplacesOne}
 
 -- a fact of a step that found no block
 abbrev pub OnFinished : Step → Type 0 → Type 0
@@ -9,6 +24,39 @@ OnFinished Finished P = P
 OnFinished (Replaced plan) P = Unit {0}
 
 -- a fact of the plan of one that made a region
-abbrev pub OnReplaced : Step → (RegionPlan → Type 0) → Type 0
+abbrev pub OnReplaced : Step → (TracePlan → Type 0) → Type 0
 OnReplaced Finished P = Unit {0}
 OnReplaced (Replaced plan) P = P plan
+
+-- the trace of these blocks, on cluster 0
+pub record IsOnOne (m : MixedGraph) (blocks : List ℕ) (c : Clustered) : Type 0 where
+  pub trace : IsTraceOf m blocks c.trace
+  pub one : c ≡ on_one c.trace
+
+-- what is made of a placed trace
+pub record IsNextBy (function : ℕ) (blocks : List ℕ) (count : ℕ) (homes : Homes) (x : PlacedTrace) (next : Next) : Type 0 where
+  pub plan : next.plan ≡ record { function = function; blocks = blocks; count = count; mode = x.mode; placed = x.placed; splits = x.owed.splits; rejoins = x.owed.rejoins }
+  pub replacement : next.replacement ≡ record {
+    trace = x.placed.clustered.trace;
+    clusters = x.placed.clustered.clusters;
+    words = x.placed.words;
+    length = x.placed.length;
+    drains = x.owed.drains;
+    last_drain = x.owed.last_drain;
+    rejoins = x.owed.starts;
+    made = x.owed.made;
+    homes = homes;
+  }
+  pub used : next.used ≡ x.used
+
+-- a step can be made of it
+pub record IsNext (machine : Numbers) (counts : Counts) (cap : ℕ) (m : MixedGraph) (used : ℕ) (next : Next) : Type 0 where
+  pub can : CanReplace m next.replacement
+  pub one : ReplacesOne machine counts cap m used next.plan (next_mixed m next.replacement) next.used
+
+-- from m on these steps were made; what follows from here on follows these from there on
+pub record Stepped (machine : Numbers) (counts : Counts) (cap : ℕ) (m : MixedGraph) (used : ℕ) (plans : List TracePlan) (now : MixedGraph) (used_now : ℕ) : Type 0 where
+  pub graph : Graph
+  pub is : IsGraphOf machine graph now
+  pub valid : Valid now
+  pub all : (more : List TracePlan) (last : MixedGraph) (used_last : ℕ) → ReplacesAll machine counts cap now used_now more last used_last → ReplacesAll machine counts cap m used (plans ++ more) last used_last

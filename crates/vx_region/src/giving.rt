@@ -1,25 +1,64 @@
 // Homes for the values that operations name: cluster 0, where they have none yet.
 
-ghost use Rattle.std.specs.Prelude.{◌≡◌, ◌≤◌, ◌∷◌, [], ℕ, IfOk, length};
+ghost use Rattle.std.specs.Prelude.{◌≡◌, ◌<◌, ◌≤◌, ◌∷◌, [], ℕ, IfOk, length};
 ghost use Rattle.std.specs.List.{flat_map};
 ghost use Rattle.vx_mixed.specs.Settled.{has_home};
-ghost use Rattle.vx_region.specs.Giving.{computed, held_by, first_operand, second_operand, general_result, one_of, general_values, GivesHomes};
+ghost use Rattle.vx_mixed.specs.TraceOf.{block_at};
+ghost use Rattle.vx_region.specs.Giving.{computed, held_by, first_operand, second_operand, general_result, one_of, general_values, values_in, AllUnused, GivesHomes};
 
 use std::alloc::Global;
 use vx_base::arithmetic::Code;
 use vx_base::listed::Listed;
 use vx_base::outcome::NoMemory;
-use vx_flow::graph::{Op, Operand, Value};
+use vx_flow::graph::{BlockId, Op, Operand, Value};
 use vx_flow::trace::Homes;
+use vx_mixed::Mixed;
 
-/// The homes so far, and cluster 0 for each other general value that the operations name.
-pub(crate) fn homes_with(alloc: Global, homes: &Homes, ops: &[Op]) -> Result<Homes, NoMemory>
-    ensures { IfOk result (λ given. GivesHomes homes.now.clusters (flat_map general_values ops.now) given.clusters) }
+/// The homes so far, and cluster 0 for each other general value that the operations of these blocks name. The blocks must be in
+/// no region.
+pub(crate) fn homes_with(
+    alloc: Global,
+    mixed: &Mixed,
+    blocks: &[BlockId],
+) -> Result<Homes, NoMemory>
+    requires { AllUnused mixed.now blocks.now }
+    ensures { IfOk result (λ given. GivesHomes mixed.now.homes.clusters (values_in mixed.now blocks.now) given.clusters) }
 {
-    let mut clusters = homes.clusters.as_slice().to_vec(alloc)?;
-    give_all(&mut clusters, ops)?;
+    let mut clusters = mixed.homes().clusters.as_slice().to_vec(alloc)?;
+    give_blocks(&mut clusters, mixed, blocks)?;
     let clusters = Listed::from_vec(clusters)?;
     Ok(Homes { clusters })
+}
+
+fn give_blocks(
+    clusters: &mut Vec<Option<u32>>,
+    mixed: &Mixed,
+    blocks: &[BlockId],
+) -> Result<(), NoMemory>
+    requires { AllUnused mixed.now blocks.now }
+    ensures { IfOk result (λ _. GivesHomes clusters.old.items (values_in mixed.now blocks.now) clusters.new.items) }
+{
+    match blocks.split_first() {
+        None => Ok(()),
+        Some((block, others)) => {
+            give_block(clusters, mixed, *block)?;
+            give_blocks(clusters, mixed, others)
+        }
+    }
+}
+
+fn give_block(
+    clusters: &mut Vec<Option<u32>>,
+    mixed: &Mixed,
+    block: BlockId,
+) -> Result<(), NoMemory>
+    requires { block < length mixed.now.nodes }
+    ensures { IfOk result (λ _. GivesHomes clusters.old.items (flat_map general_values (block_at mixed.now block).ops) clusters.new.items) }
+{
+    match mixed.unused(block) {
+        None => Ok(()),
+        Some(found) => give_all(clusters, found.ops.as_slice()),
+    }
 }
 
 fn give_all(clusters: &mut Vec<Option<u32>>, ops: &[Op]) -> Result<(), NoMemory>

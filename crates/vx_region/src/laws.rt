@@ -1,5 +1,8 @@
 // Laws of planning, each the clause of a function that does nothing.
 
+ghost use Rattle.vx_region.specs.Barring.{BarredOwesNothing};
+ghost use Rattle.vx_region.specs.Ending.{BlocksAreCounted, BlocksAreUsed, CapIsKept, EnoughSteps, MeasureFalls, NodesKeepWithin, PlansGrow, StepsEnd};
+ghost use Rattle.vx_region.specs.Growth.{BarredOverCap, FewMade, OneMode, SumsMayStop, WithinCap};
 ghost use Rattle.vx_region.specs.Meets.{DelaysMet, TableMet};
 ghost use Rattle.vx_region.specs.PlanLaws.{PlanKeeps, PlanLaw};
 ghost use Rattle.vx_region.specs.Regions.{AllKeep, BeginsAsGraph, PlansFit, StepKeeps};
@@ -29,12 +32,42 @@ pub fn graphs_begin_so()
     ensures { BeginsAsGraph }
 {}
 
-/// The lowest block as a region keeps the meaning of such a graph, and leaves it one.
+/// A trace as a region, by a plan, keeps the meaning of such a graph, and leaves it one.
 pub fn steps_keep_the_graph()
     ensures { StepKeeps }
 {}
 
-/// All blocks as regions, one step after the other: no block is left, and none was made.
+/// All traces as regions, one step after the other: no block is left, and the graph does what it did.
 pub fn all_steps_keep_the_graph()
     ensures { AllKeep }
+{}
+
+/// A trace that is placed in mode Barred, on whatever clusters, has no copies, makes no block and frees no load.
+pub fn barred_owes_nothing()
+    ensures { BarredOwesNothing }
+{}
+
+/// At most as many blocks are made as copies, and in the mode of the rule these keep within the cap.
+pub fn copies_keep_within()
+    ensures one { OneMode }
+    ensures over { BarredOverCap }
+    ensures stop { SumsMayStop }
+    ensures few { FewMade }
+    ensures within { WithinCap }
+{}
+
+/// A trace uses at least one block.
+pub fn blocks_are_used()
+    ensures one { BlocksAreUsed }
+    ensures all { BlocksAreCounted }
+{}
+
+/// A step takes a block away or leaves less room for copies, so that the steps end.
+pub fn steps_end()
+    ensures plans { PlansGrow }
+    ensures falls { MeasureFalls }
+    ensures kept { CapIsKept }
+    ensures end { StepsEnd }
+    ensures enough { EnoughSteps }
+    ensures nodes { NodesKeepWithin }
 {}

@@ -1,14 +1,18 @@
-// A region for some blocks of a graph: what the calls of planning give for them, and that it keeps the meaning.
+// Traces that become regions: picked by the counts of a profile, placed in words, with the copies at their splits and joins, one
+// after the other until no block is left; and that this keeps the meaning.
 #![tactic(auto)]
 
+pub mod budget;
 mod copying;
 mod giving;
 pub mod laws;
 mod made;
-pub mod region_plan;
-pub mod regions;
+mod owed;
+mod placed_trace;
+mod step;
+pub mod trace_plan;
 mod waits;
 
-pub use region_plan::plan;
-pub use regions::{Regions, Step, all_regions, replace_one};
-
+pub use budget::Budget;
+pub use step::{Regions, Step, all_regions, replace_one};
+pub use trace_plan::TracePlan;

@@ -34,7 +34,7 @@ pub(crate) fn drains(
     }
 }
 
-fn split_drain(machine: &Machine, placed: &Placed, split: &EdgeCopies) -> u32
+pub(crate) fn split_drain(machine: &Machine, placed: &Placed, split: &EdgeCopies) -> u32
     ensures { result ≡ drain_at machine.now placed.now (word_at placed.now.words split.now.split + 1) }
 {
     let end = word_at(placed.words.as_slice(), split.split) as u64 + 1;

@@ -1,0 +1,240 @@
+// One step after the other a trace is picked by the counts of a profile and becomes a region, after Fisher, 1981, until no block
+// is left. By specs/Regions.antt each step keeps the meaning of the graph, and leaves it settled for the machine.
+
+ghost use Rattle.std.specs.Prelude.{◌≡◌, ◌<◌, IfOk, OnErr, length};
+ghost use Rattle.vx_flow.specs.declared.graph.Graph.{Graph};
+ghost use Rattle.vx_mixed.specs.LayoutLaws.{IsDone};
+ghost use Rattle.vx_mixed.specs.TraceOf.{CanTrace};
+ghost use Rattle.vx_mixed.specs.Valid.{Valid};
+ghost use Rattle.vx_trace.specs.Picked.{Picked};
+ghost use Rattle.vx_region.specs.Owed.{IsPlacedWithin};
+ghost use Rattle.vx_region.specs.Regions.{IsGraphOf, ReplacesAll, ReplacesOne};
+ghost use Rattle.vx_region.specs.Stepping.{IsNext, IsNextBy, IsOnOne, OnFinished, OnReplaced};
+
+use crate::budget::Budget;
+use crate::copying::{copied_list, copied_trace};
+use crate::giving::homes_with;
+use crate::made::zeros;
+use crate::owed::Owed;
+use crate::placed_trace::{PlacedTrace, place_within};
+use crate::trace_plan::TracePlan;
+use std::alloc::Global;
+use vx_base::listed::Listed;
+use vx_base::outcome::NoMemory;
+use vx_flow::graph::BlockId;
+use vx_flow::trace::{Clustered, Homes, Placed};
+use vx_machine::{Machine, room_alone_law};
+use vx_mixed::Mixed;
+use vx_mixed::replacement::Replacement;
+use vx_profile::counts::Counts;
+use vx_trace::{count_of_trace, pick};
+
+/// Where a step leads.
+#[derive(Drop)]
+pub enum Step {
+    /// No block is left.
+    Finished,
+    /// A region was made, by this plan.
+    Replaced(TracePlan),
+}
+
+/// The graph of a function with all its blocks in regions, and the plan of each region, in the order in which they were made.
+#[derive(Drop)]
+pub struct Regions {
+    /// The graph.
+    pub mixed: Mixed,
+    /// The plans.
+    pub plans: Listed<TracePlan>,
+}
+
+/// A trace is picked by the counts and becomes a region, on cluster 0: its operations are placed in words, past splits and joins
+/// where the copies for that keep within the budget, which then rises by them. Each general value that it names and that has no
+/// home gets the home 0. `Finished` comes exactly where no block is left. Without memory all stays as it was.
+pub fn replace_one(
+    alloc: Global,
+    mixed: &mut Mixed,
+    counts: &Counts,
+    machine: &Machine,
+    budget: &mut Budget,
+) -> Result<Step, NoMemory>
+    requires graph { (graph : Graph) × IsGraphOf machine.now graph mixed.old }
+    ensures finished { IfOk result (λ step. OnFinished step (IsDone mixed.new × (mixed.new ≡ mixed.old) × (budget.new ≡ budget.old))) }
+    ensures replaced { IfOk result (λ step. OnReplaced step (λ plan. ReplacesOne machine.now counts.now budget.old.cap mixed.old budget.old.used plan mixed.new budget.new.used)) }
+    ensures same_cap { budget.new.cap ≡ budget.old.cap }
+    ensures unchanged { OnErr result ((mixed.new ≡ mixed.old) × (budget.new ≡ budget.old)) }
+{
+    mixed.keeps_valid();
+    match pick(alloc, mixed, counts)? {
+        None => Ok(Step::Finished),
+        Some(blocks) => {
+            let plan = replace_picked(alloc, mixed, counts, blocks, machine, budget)?;
+            Ok(Step::Replaced(plan))
+        }
+    }
+}
+
+/// All blocks become regions, one picked trace after the other, on cluster 0. By the laws of this crate the meaning of the graph is
+/// kept, and it is settled for the machine.
+pub fn all_regions(
+    alloc: Global,
+    mixed: Mixed,
+    counts: &Counts,
+    machine: &Machine,
+    budget: &mut Budget,
+) -> Result<Regions, NoMemory>
+    requires graph { (graph : Graph) × IsGraphOf machine.now graph mixed }
+    ensures regions { IfOk result (λ x. ReplacesAll machine.now counts.now budget.old.cap mixed budget.old.used x.plans x.mixed budget.new.used) }
+    ensures same_cap { budget.new.cap ≡ budget.old.cap }
+{
+    mixed.keeps_valid();
+    let mut regions = mixed;
+    let mut plans = Listed::new(alloc);
+    'step: loop {
+        match replace_one(alloc, &mut regions, counts, machine, budget)? {
+            Step::Finished => {
+                return Ok(Regions {
+                    mixed: regions,
+                    plans,
+                })
+            }
+            Step::Replaced(plan) => plans.push(plan)?,
+        }
+    }
+}
+
+/// The region of a trace, what it takes the place of, and the copies so far with its own.
+#[derive(Drop)]
+pub struct Next {
+    pub plan: TracePlan,
+    pub replacement: Replacement,
+    pub used: u32,
+}
+
+/// The picked blocks become a region.
+fn replace_picked(
+    alloc: Global,
+    mixed: &mut Mixed,
+    counts: &Counts,
+    blocks: Listed<BlockId>,
+    machine: &Machine,
+    budget: &mut Budget,
+) -> Result<TracePlan, NoMemory>
+    requires valid { Valid mixed.old }
+    requires graph { (graph : Graph) × IsGraphOf machine.now graph mixed.old }
+    requires picked { Picked mixed.old counts.now blocks }
+    ensures replaced { IfOk result (λ plan. ReplacesOne machine.now counts.now budget.old.cap mixed.old budget.old.used plan mixed.new budget.new.used) }
+    ensures same_cap { budget.new.cap ≡ budget.old.cap }
+    ensures unchanged { OnErr result ((mixed.new ≡ mixed.old) × (budget.new ≡ budget.old)) }
+{
+    let next = next_of(alloc, mixed, counts, blocks, machine, *budget)?;
+    mixed.replace(alloc, next.replacement)?;
+    budget.used = next.used;
+    Ok(next.plan)
+}
+
+/// The region that the picked blocks become.
+fn next_of(
+    alloc: Global,
+    mixed: &Mixed,
+    counts: &Counts,
+    blocks: Listed<BlockId>,
+    machine: &Machine,
+    budget: Budget,
+) -> Result<Next, NoMemory>
+    requires valid { Valid mixed.now }
+    requires graph { (graph : Graph) × IsGraphOf machine.now graph mixed.now }
+    requires picked { Picked mixed.now counts.now blocks }
+    ensures { IfOk result (λ next. IsNext machine.now counts.now budget.cap mixed.now budget.used next) }
+{
+    machine.keeps_ranges();
+    room_alone_law();
+    let homes = homes_with(alloc, mixed, blocks.as_slice())?;
+    let clustered = on_one(alloc, mixed, blocks.as_slice())?;
+    let placed = place_within(alloc, &clustered, &homes, machine, budget)?;
+    let count = count_of_trace(mixed, counts, blocks.as_slice());
+    next_by(alloc, mixed.function(), blocks, count, homes, placed)
+}
+
+/// The trace of some blocks, on cluster 0.
+fn on_one(alloc: Global, mixed: &Mixed, blocks: &[BlockId]) -> Result<Clustered, NoMemory>
+    requires { CanTrace mixed.now blocks.now }
+    ensures { IfOk result (λ clustered. IsOnOne mixed.now blocks.now clustered) }
+{
+    let trace = mixed.trace(alloc, blocks)?;
+    let clusters = zeros(alloc, trace.ops.len())?;
+    Ok(Clustered { trace, clusters })
+}
+
+/// The lists of a placed trace, copied.
+#[derive(Drop)]
+struct PlacedCopy {
+    clustered: Clustered,
+    words: Listed<u32>,
+}
+
+fn copied(alloc: Global, placed: &Placed) -> Result<PlacedCopy, NoMemory>
+    ensures clustered { IfOk result (λ copy. copy.clustered ≡ placed.now.clustered) }
+    ensures words { IfOk result (λ copy. copy.words ≡ placed.now.words) }
+{
+    let words = copied_list(alloc, placed.words.as_slice())?;
+    let clusters = copied_list(alloc, placed.clustered.clusters.as_slice())?;
+    let trace = copied_trace(alloc, &placed.clustered.trace)?;
+    Ok(PlacedCopy {
+        clustered: Clustered { trace, clusters },
+        words,
+    })
+}
+
+/// What is made of a placed trace: its plan, and what takes the place of its blocks.
+fn next_by(
+    alloc: Global,
+    function: u32,
+    blocks: Listed<BlockId>,
+    count: u64,
+    homes: Homes,
+    placed: PlacedTrace,
+) -> Result<Next, NoMemory>
+    ensures { IfOk result (λ next. IsNextBy function blocks count homes placed next) }
+{
+    let copy = copied(alloc, &placed.placed)?;
+    let PlacedTrace {
+        mode,
+        placed,
+        owed,
+        used,
+    } = placed;
+    let Owed {
+        splits,
+        rejoins,
+        drains,
+        last_drain,
+        starts,
+        made,
+        copies: _,
+    } = owed;
+    let replacement = Replacement {
+        trace: copy.clustered.trace,
+        clusters: copy.clustered.clusters,
+        words: copy.words,
+        length: placed.length,
+        drains,
+        last_drain,
+        rejoins: starts,
+        made,
+        homes,
+    };
+    let plan = TracePlan {
+        function,
+        blocks,
+        count,
+        mode,
+        placed,
+        splits,
+        rejoins,
+    };
+    Ok(Next {
+        plan,
+        replacement,
+        used,
+    })
+}
