@@ -3,15 +3,15 @@ use Rattle.std.proofs.Common.{◌≡◌, refl, [], ◌∷◌, Some, None, codes}
 use Rattle.clap.proofs.OnLiterals.{clap_on_literals}
 use Rattle.vx_driver.specs.Command.{Compile, compile_app, compile_of, command_of}
 
-plain : command_of (codes "vexc" ∷ codes "compile" ∷ codes "a.c" ∷ codes "b" ∷ []) ≡ Some (Compile (codes "a.c") (codes "b") None)
+plain : command_of (codes "vexc" ∷ codes "compile" ∷ codes "a.c" ∷ codes "b" ∷ []) ≡ Some (Compile (codes "a.c") (codes "b") None 4000)
 unfolding clap_on_literals compile_app compile_of
 plain = refl
 
-with_machine : command_of (codes "vexc" ∷ codes "compile" ∷ codes "--machine" ∷ codes "m" ∷ codes "a.c" ∷ codes "b" ∷ []) ≡ Some (Compile (codes "a.c") (codes "b") (Some (codes "m")))
+with_machine : command_of (codes "vexc" ∷ codes "compile" ∷ codes "--machine" ∷ codes "m" ∷ codes "a.c" ∷ codes "b" ∷ []) ≡ Some (Compile (codes "a.c") (codes "b") (Some (codes "m")) 4000)
 unfolding clap_on_literals compile_app compile_of
 with_machine = refl
 
-attached : command_of (codes "vexc" ∷ codes "compile" ∷ codes "a.c" ∷ codes "--machine=m" ∷ codes "b" ∷ []) ≡ Some (Compile (codes "a.c") (codes "b") (Some (codes "m")))
+attached : command_of (codes "vexc" ∷ codes "compile" ∷ codes "a.c" ∷ codes "--machine=m" ∷ codes "b" ∷ []) ≡ Some (Compile (codes "a.c") (codes "b") (Some (codes "m")) 4000)
 unfolding clap_on_literals compile_app compile_of
 attached = refl
 
@@ -31,13 +31,37 @@ help : command_of (codes "vexc" ∷ codes "compile" ∷ codes "a.c" ∷ codes "b
 unfolding clap_on_literals compile_app compile_of
 help = refl
 
-unknown : command_of (codes "vexc" ∷ codes "compile" ∷ codes "a.c" ∷ codes "b" ∷ codes "--growth" ∷ codes "1" ∷ []) ≡ None
+unknown : command_of (codes "vexc" ∷ codes "compile" ∷ codes "a.c" ∷ codes "b" ∷ codes "--words" ∷ codes "1" ∷ []) ≡ None
 unfolding clap_on_literals compile_app compile_of
 unknown = refl
 
 no_machine : command_of (codes "vexc" ∷ codes "compile" ∷ codes "a.c" ∷ codes "b" ∷ codes "--machine" ∷ []) ≡ None
 unfolding clap_on_literals compile_app compile_of
 no_machine = refl
+
+no_growth_at_all : command_of (codes "vexc" ∷ codes "compile" ∷ codes "a.c" ∷ codes "b" ∷ codes "--growth" ∷ codes "0" ∷ []) ≡ Some (Compile (codes "a.c") (codes "b") None 0)
+unfolding clap_on_literals compile_app compile_of
+no_growth_at_all = refl
+
+most_growth : command_of (codes "vexc" ∷ codes "compile" ∷ codes "a.c" ∷ codes "b" ∷ codes "--growth=1000000" ∷ []) ≡ Some (Compile (codes "a.c") (codes "b") None 1000000)
+unfolding clap_on_literals compile_app compile_of
+most_growth = refl
+
+too_much_growth : command_of (codes "vexc" ∷ codes "compile" ∷ codes "a.c" ∷ codes "b" ∷ codes "--growth" ∷ codes "1000001" ∷ []) ≡ None
+unfolding clap_on_literals compile_app compile_of
+too_much_growth = refl
+
+growth_of_no_number : command_of (codes "vexc" ∷ codes "compile" ∷ codes "a.c" ∷ codes "b" ∷ codes "--growth=-1" ∷ []) ≡ None
+unfolding clap_on_literals compile_app compile_of
+growth_of_no_number = refl
+
+machine_and_growth : command_of (codes "vexc" ∷ codes "compile" ∷ codes "a.c" ∷ codes "b" ∷ codes "--growth" ∷ codes "12" ∷ codes "--machine" ∷ codes "m" ∷ []) ≡ Some (Compile (codes "a.c") (codes "b") (Some (codes "m")) 12)
+unfolding clap_on_literals compile_app compile_of
+machine_and_growth = refl
+
+growth_twice : command_of (codes "vexc" ∷ codes "compile" ∷ codes "a.c" ∷ codes "b" ∷ codes "--growth=1" ∷ codes "--growth=1" ∷ []) ≡ None
+unfolding clap_on_literals compile_app compile_of
+growth_twice = refl
 
 another : command_of (codes "vexc" ∷ codes "run" ∷ codes "a.c" ∷ codes "b" ∷ []) ≡ None
 another = refl

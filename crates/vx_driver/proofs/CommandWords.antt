@@ -1,5 +1,5 @@
 -- What clap finds in the words of a command, as the definition of the command says it.
-use Rattle.std.proofs.Common.{◌≡◌, ◌∙◌, ◌⊎◌, inl, inr, ℕ, Bool, true, false, List, [], ◌∷◌, map, Option, Some, None, option_map, refl, sym, subst, ap}
+use Rattle.std.proofs.Common.{◌≡◌, ◌≢◌, ◌∙◌, ◌⊎◌, inl, inr, ℕ, Bool, true, false, List, [], ◌∷◌, map, Option, Some, None, option_map, refl, sym, subst, ap}
 use Rattle.std.specs.Prelude.{codes, find, option_and_then, slice_get, unwrap_or}
 use Rattle.std.specs.Borrow.{Bor}
 use Rattle.std.specs.Str.{bytes_eq}
@@ -11,7 +11,7 @@ use Rattle.clap.specs.Faults.{fault_of, is_simple_and_free}
 use Rattle.clap.specs.Kinds.{Kinds, IsAmong}
 use Rattle.clap.specs.declared.error.kind.ErrorKind.{ErrorKind}
 use Rattle.clap.specs.declared.parser.matches.Found.{Found}
-use Rattle.vx_driver.specs.Command.{Command, Compile, compile_app, compile_found, unless_refused, compile_of}
+use Rattle.vx_driver.specs.Command.{Compile, compile_app, compile_found, compile_unless, compile_of, growth_of}
 
 -- the first value of an id, read from the entries or from their rows
 
@@ -41,21 +41,31 @@ pub compile_is_free : is_simple_and_free compile_app ≡ true
 unfolding compile_app
 compile_is_free = refl
 
-some_command : (kinds : Kinds) (rows found : List Row) → kinds ≡ [] → found ≡ rows → unless_refused kinds (compile_found rows) ≡ Some (compile_found found)
-some_command kinds rows found none same = rw (none, same) refl
+pub fault_then : (kinds : Kinds) (k : ErrorKind) → IsAmong k kinds → kinds ≢ []
+fault_then [] k h is = h
+fault_then (other ∷ more) k h is = absurd cc
 
-no_command : (kinds : Kinds) (k : ErrorKind) (command : Command) → IsAmong k kinds → unless_refused kinds command ≡ None
-no_command [] k command h = absurd h
-no_command (other ∷ more) k command h = refl
+unless_rows : (kinds : Kinds) (rows found : List Row) → kinds ≡ [] → found ≡ rows → compile_unless kinds rows ≡ compile_unless [] found
+unless_rows kinds rows found none same = rw (none, same) refl
 
-pub taken : (words : List (List ℕ)) (found : List Row) → fault_of compile_app words ≡ [] → found ≡ matches_of compile_app words → compile_of words ≡ Some (compile_found found)
-unfolding compile_of
-taken words found none same = some_command (fault_of compile_app words) (matches_of compile_app words) found none same
+unless_none : (kinds : Kinds) (rows : List Row) → kinds ≢ [] → compile_unless kinds rows ≡ None
+unless_none [] rows some = absurd (some refl)
+unless_none (kind ∷ kinds) rows some = refl
 
-pub refused : (words : List (List ℕ)) (k : ErrorKind) → IsAmong k (fault_of compile_app words) → compile_of words ≡ None
-unfolding compile_of
-refused words k h = no_command (fault_of compile_app words) k (compile_found (matches_of compile_app words)) h
+module _ (app : App) (is : app ≡ compile_app) (words : List (List ℕ)) where
+  pub taken : (found : List Row) → fault_of app words ≡ [] → found ≡ matches_of app words → compile_of words ≡ compile_unless [] found
+  unfolding compile_of
+  taken found none same = unless_rows (fault_of compile_app words) (matches_of compile_app words) found (subst (λ (a : App). fault_of a words ≡ []) is none) (subst (λ (a : App). found ≡ matches_of a words) is same)
 
-pub found_is : (f : Found) (s o : List ℕ) (m : Option (List ℕ)) → s ≡ unwrap_or (first_value f (codes "SRC")) [] → o ≡ unwrap_or (first_value f (codes "OUT")) [] →
-    m ≡ first_value f (codes "machine") → compile_found (rows_of f) ≡ Compile s o m
-found_is f s o m a b c = rw (a, b, c, first_of_rows f (codes "SRC"), first_of_rows f (codes "OUT"), first_of_rows f (codes "machine")) refl
+  pub refused : fault_of app words ≢ [] → compile_of words ≡ None
+  unfolding compile_of
+  refused some = unless_none (fault_of compile_app words) (matches_of compile_app words) (subst (λ (a : App). fault_of a words ≢ []) is some)
+
+pub found_is : (f : Found) (s o : List ℕ) (m : Option (List ℕ)) (growth : ℕ) → s ≡ unwrap_or (first_value f (codes "SRC")) [] → o ≡ unwrap_or (first_value f (codes "OUT")) [] →
+    m ≡ first_value f (codes "machine") → Some growth ≡ growth_of (first_value f (codes "growth")) → Some (Compile s o m growth) ≡ compile_unless [] (rows_of f)
+found_is f s o m growth a b c g =
+    let same : Compile s o m growth ≡ compile_found (rows_of f) growth = rw (a, b, c, first_of_rows f (codes "SRC"), first_of_rows f (codes "OUT"), first_of_rows f (codes "machine")) refl in
+    ap Some same ∙ ap (option_map (compile_found (rows_of f))) (g ∙ ap growth_of (first_of_rows f (codes "growth")))
+
+pub none_found : (f : Found) → None ≡ growth_of (first_value f (codes "growth")) → None ≡ compile_unless [] (rows_of f)
+none_found f g = ap (option_map (compile_found (rows_of f))) (g ∙ ap growth_of (first_of_rows f (codes "growth")))

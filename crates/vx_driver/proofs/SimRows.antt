@@ -18,6 +18,10 @@ no_word_at_all : command_of (codes "vexc" ∷ codes "sim" ∷ codes "w" ∷ code
 unfolding clap_on_literals sim_app sim_of
 no_word_at_all = refl
 
+no_growth : command_of (codes "vexc" ∷ codes "sim" ∷ codes "w" ∷ codes "--growth" ∷ codes "1" ∷ []) ≡ None
+unfolding clap_on_literals sim_app sim_of
+no_growth = refl
+
 two_numbers : input_reading (codes " 12\t-7 ") ≡ Ok (pos 12 ∷ negsuc 6 ∷ [])
 unfolding number_of
 two_numbers = refl

@@ -1,6 +1,7 @@
 -- What the words of `sim` and of `exec` ask for, as the code holds it.
 use Rattle.std.specs.Prelude.{option_map}
 use Rattle.vx_driver.specs.Command.{Command, Execution, Makes, Simulation}
+use Rattle.vx_driver.specs.declared.run_words.ExecWords.{ExecWords}
 use Rattle.vx_driver.specs.declared.run_words.RunWords.{RunWords}
 
 abbrev pub simulation_of : RunWords → Simulation
@@ -13,14 +14,15 @@ simulation_of asked = record {
   probe = option_map (λ s. s.now) asked.probe;
 }
 
-abbrev pub execution_of : RunWords → Execution
+abbrev pub execution_of : ExecWords → Execution
 execution_of asked = record {
-  source = asked.file.now;
-  machine = option_map (λ s. s.now) asked.machine;
-  input = option_map (λ s. s.now) asked.input;
-  budget = asked.budget;
-  timing = asked.timing.now;
-  probe = option_map (λ s. s.now) asked.probe;
+  source = asked.run.file.now;
+  growth = asked.growth;
+  machine = option_map (λ s. s.now) asked.run.machine;
+  input = option_map (λ s. s.now) asked.run.input;
+  budget = asked.run.budget;
+  timing = asked.run.timing.now;
+  probe = option_map (λ s. s.now) asked.run.probe;
 }
 
 abbrev pub asks : Makes → RunWords → Command

@@ -1,6 +1,6 @@
 -- What the words of a command line ask for. The second word names the command; the other words are those of one
 -- simple command of clap, and what it finds there is what is meant.
-use Rattle.std.specs.Prelude.{ℕ, List, [], ◌∷◌, Option, Some, None, true, codes, unwrap_or, option_map, if◌then◌else◌}
+use Rattle.std.specs.Prelude.{ℕ, List, [], ◌∷◌, Option, Some, None, true, codes, unwrap_or, option_and_then, option_map, if◌then◌else◌}
 use Rattle.std.specs.Str.{bytes_eq}
 use Rattle.std.specs.Str.Parse.{digits_value, without_leading_plus}
 use Rattle.clap.specs.Walk.{Rule, Row, first_of}
@@ -28,6 +28,8 @@ pub record Simulation : Type 0 where
 pub record Execution : Type 0 where
   -- the file of the source
   pub source : List ℕ
+  -- how many operations may be copied
+  pub growth : ℕ
   -- the files of the machine's description and of the input
   pub machine : Option (List ℕ)
   pub input : Option (List ℕ)
@@ -38,8 +40,9 @@ pub record Execution : Type 0 where
   pub probe : Option (List ℕ)
 
 pub data Command : Type 0 where
-  -- the words of the source go to a file; they are for the machine that a file describes, or the default one
-  Compile : (source out : List ℕ) (machine : Option (List ℕ)) → Command
+  -- the words of the source go to a file; they are for the machine that a file describes, or the default one, and so
+  -- many operations may be copied
+  Compile : (source out : List ℕ) (machine : Option (List ℕ)) (growth : ℕ) → Command
   -- the words of a file are run
   Simulate : Simulation → Command
   -- the words of the source are run
@@ -53,47 +56,63 @@ required_word name = record (new_rule name) { action = Some Set; required = true
 abbrev pub option_word : List ℕ → Rule
 option_word name = record (new_rule name) { long = Some name; action = Some Set }
 
--- `compile SRC OUT [--machine M]`
-unfoldable pub compile_app : App
-compile_app =
-    with_rule (with_rule (with_rule (new_app (codes "compile")) (required_word (codes "SRC"))) (required_word (codes "OUT"))) (option_word (codes "machine"))
-
--- the command of what was found: a word that has to be there is
-abbrev pub compile_found : List Row → Command
-compile_found rows = Compile (unwrap_or (first_of (codes "SRC") rows) []) (unwrap_or (first_of (codes "OUT") rows) []) (first_of (codes "machine") rows)
-
--- the command, where nothing is refused
-abbrev pub unless_refused : Kinds → Command → Option Command
-unless_refused [] command = Some command
-unless_refused (kind ∷ kinds) command = None
-
--- what the words of `compile` ask for, the program's name first; nothing where clap refuses them
-unfoldable pub compile_of : List (List ℕ) → Option Command
-compile_of words = unless_refused (fault_of compile_app words) (compile_found (matches_of compile_app words))
-
 -- `--name N`, N from low to high, which is given once or not at all
 abbrev pub number_word : List ℕ → (low high : ℕ) → Rule
 number_word name low high = record (option_word name) { parser = Some (Unsigned low high) }
 
--- `NAME FILE [--machine M] [--input I] [--words N] [--timing T] [--probe B]`
+-- the number of such an option, or the other one where there is no text of it
+abbrev pub number_in : (low high other : ℕ) → Option (List ℕ) → Option ℕ
+number_in low high other None = Some other
+number_in low high other (Some text) = if is_unsigned_in low high text then Some (digits_value 10 (without_leading_plus text)) else None
+
+-- `--growth G`
+abbrev pub growth_word : Rule
+growth_word = number_word (codes "growth") 0 1000000
+
+-- how many operations may be copied
+abbrev pub growth_of : Option (List ℕ) → Option ℕ
+growth_of text = number_in 0 1000000 4000 text
+
+-- `compile SRC OUT [--machine M] [--growth G]`
+unfoldable pub compile_app : App
+compile_app =
+    with_rule (with_rule (with_rule (with_rule (new_app (codes "compile")) (required_word (codes "SRC"))) (required_word (codes "OUT")))
+    (option_word (codes "machine"))) growth_word
+
+-- the command of what was found: a word that has to be there is
+abbrev pub compile_found : List Row → ℕ → Command
+compile_found rows growth = Compile (unwrap_or (first_of (codes "SRC") rows) []) (unwrap_or (first_of (codes "OUT") rows) []) (first_of (codes "machine") rows) growth
+
+-- the command, where nothing is refused and the number is one
+abbrev pub compile_unless : Kinds → List Row → Option Command
+compile_unless [] rows = option_map (compile_found rows) (growth_of (first_of (codes "growth") rows))
+compile_unless (kind ∷ kinds) rows = None
+
+-- what the words of `compile` ask for, the program's name first; nothing where clap refuses them
+unfoldable pub compile_of : List (List ℕ) → Option Command
+compile_of words = compile_unless (fault_of compile_app words) (matches_of compile_app words)
+
+-- `NAME FILE [--machine M]`
 abbrev pub run_app : (name file : List ℕ) → App
-run_app name file =
-    with_rule (with_rule (with_rule (with_rule (with_rule (with_rule (new_app name) (required_word file))
-    (option_word (codes "machine"))) (option_word (codes "input"))) (number_word (codes "words") 1 1000000000000))
+run_app name file = with_rule (with_rule (new_app name) (required_word file)) (option_word (codes "machine"))
+
+-- after these words `[--input I] [--words N] [--timing T] [--probe B]`
+abbrev pub with_run_options : App → App
+with_run_options app =
+    with_rule (with_rule (with_rule (with_rule app (option_word (codes "input"))) (number_word (codes "words") 1 1000000000000))
     (option_word (codes "timing"))) (option_word (codes "probe"))
 
 -- `sim WORDS` with these options
 unfoldable pub sim_app : App
-sim_app = run_app (codes "sim") (codes "WORDS")
+sim_app = with_run_options (run_app (codes "sim") (codes "WORDS"))
 
--- `exec SRC` with these options
+-- `exec SRC` with these options, before them `[--growth G]`
 unfoldable pub exec_app : App
-exec_app = run_app (codes "exec") (codes "SRC")
+exec_app = with_run_options (with_rule (run_app (codes "exec") (codes "SRC")) growth_word)
 
 -- how many words are issued at most
 abbrev pub budget_of : Option (List ℕ) → Option ℕ
-budget_of None = Some 1000000000
-budget_of (Some text) = if is_unsigned_in 1 1000000000000 text then Some (digits_value 10 (without_leading_plus text)) else None
+budget_of text = number_in 1 1000000000000 1000000000 text
 
 -- how a command is made of what was found: its file, the other files, the number of words, the names of the boxes
 abbrev pub Makes : Type 0
@@ -102,8 +121,8 @@ Makes = (file : List ℕ) (machine input : Option (List ℕ)) (budget : ℕ) (ti
 abbrev pub simulates : Makes
 simulates file machine input budget timing probe = Simulate (record { words = file; machine = machine; input = input; budget = budget; timing = timing; probe = probe })
 
-abbrev pub executes : Makes
-executes file machine input budget timing probe = Execute (record { source = file; machine = machine; input = input; budget = budget; timing = timing; probe = probe })
+abbrev pub executes : (growth : ℕ) → Makes
+executes growth file machine input budget timing probe = Execute (record { source = file; growth = growth; machine = machine; input = input; budget = budget; timing = timing; probe = probe })
 
 abbrev pub run_within : Makes → (file : List ℕ) → List Row → ℕ → Command
 run_within makes file rows budget =
@@ -114,17 +133,19 @@ abbrev pub run_unless : Makes → (file : List ℕ) → Kinds → List Row → O
 run_unless makes file [] rows = option_map (run_within makes file rows) (budget_of (first_of (codes "words") rows))
 run_unless makes file (kind ∷ kinds) rows = None
 
--- what the words of a run ask for, the program's name first; nothing where clap refuses them
-abbrev pub run_of : Makes → App → (file : List ℕ) → (words : List (List ℕ)) → Option Command
-run_of makes app file words = run_unless makes file (fault_of app words) (matches_of app words)
+abbrev pub sim_unless : Kinds → List Row → Option Command
+sim_unless kinds rows = run_unless simulates (codes "WORDS") kinds rows
 
--- what the words of `sim` ask for
+abbrev pub exec_unless : Kinds → List Row → Option Command
+exec_unless kinds rows = option_and_then (λ growth. run_unless (executes growth) (codes "SRC") kinds rows) (growth_of (first_of (codes "growth") rows))
+
+-- what the words of `sim` ask for, the program's name first; nothing where clap refuses them
 unfoldable pub sim_of : List (List ℕ) → Option Command
-sim_of words = run_of simulates sim_app (codes "WORDS") words
+sim_of words = sim_unless (fault_of sim_app words) (matches_of sim_app words)
 
--- what the words of `exec` ask for
+-- what the words of `exec` ask for, the program's name first; nothing where clap refuses them
 unfoldable pub exec_of : List (List ℕ) → Option Command
-exec_of words = run_of executes exec_app (codes "SRC") words
+exec_of words = exec_unless (fault_of exec_app words) (matches_of exec_app words)
 
 abbrev pub command_named : List ℕ → List (List ℕ) → Option Command
 command_named name words =

@@ -1,14 +1,15 @@
 // The words of a command line: the second names the command, and clap reads the others.
 
-ghost use Rattle.std.specs.Prelude.{◌≡◌, ◌≢◌, ◌⊎◌, [], unwrap_or, Some, None, map, option_map, IfOk, IfErr};
-ghost use Rattle.clap.specs.Words.{app_of, first_value, found_of, kind_of};
+ghost use Rattle.std.specs.Prelude.{◌≡◌, ◌≢◌, ◌⊎◌, [], true, unwrap_or, Some, None, map, option_map, IfOk, IfErr};
+ghost use Rattle.clap.specs.Words.{app_of, fault_of, first_value, found_of, is_simple, is_simple_and_free, kind_of, matches_of, rows_of};
 ghost use Rattle.clap.specs.declared.error.kind.ErrorKind.TheVariants.{OutOfMemory};
 ghost use Rattle.vx_driver.specs.Status.{Adds};
-ghost use Rattle.vx_driver.specs.Command.{Compile, compile_app, compile_of};
+ghost use Rattle.vx_driver.specs.Command.{Compile, compile_app, compile_of, compile_unless};
 
+use crate::options::{growth_of, growth_option, option_of, required_of};
 use crate::status::{Status, put, put_line};
 use clap::error::ErrorKind;
-use clap::{Arg, ArgAction, ArgMatches, Command, Error};
+use clap::{ArgMatches, Command, Error};
 use std::alloc::{AllocError, Global};
 use vx_base::sink::{Sink, SinkFault};
 
@@ -21,21 +22,19 @@ pub(crate) struct CompileWords<'a> {
     pub(crate) out: &'a str,
     /// The name of the file with the description of the machine.
     pub(crate) machine: Option<&'a str>,
+    /// How many operations may be copied.
+    pub(crate) growth: u32,
 }
 
-/// `compile SRC OUT [--machine M]`.
+/// `compile SRC OUT [--machine M] [--growth G]`.
 fn compile_command<'a>(alloc: Global) -> Result<Command<'a>, AllocError>
     ensures { IfOk result (λ command. app_of command ≡ compile_app) }
 {
-    let source = Arg::new(alloc, "SRC").action(ArgAction::Set).required(true);
-    let out = Arg::new(alloc, "OUT").action(ArgAction::Set).required(true);
-    let machine = Arg::new(alloc, "machine")
-        .long("machine")
-        .action(ArgAction::Set);
     Command::new(alloc, "compile")
-        .arg(source)?
-        .arg(out)?
-        .arg(machine)
+        .arg(required_of(alloc, "SRC"))?
+        .arg(required_of(alloc, "OUT"))?
+        .arg(option_of(alloc, "machine"))?
+        .arg(growth_option(alloc))
 }
 
 /// The text at a word that has to be there.
@@ -76,23 +75,53 @@ pub(crate) fn refusal_of(alloc: Global, error: &Error) -> Refused
     Refused { status, text }
 }
 
-/// What clap finds in the words of `compile`, or its refusal.
+/// What clap finds in the words of a command, or its refusal.
+pub(crate) fn found_in<'a>(
+    alloc: Global,
+    command: Command<'a>,
+    words: &'a [&'a str],
+) -> Result<ArgMatches<'a>, Refused>
+    requires simple { is_simple (app_of command) ≡ true }
+    requires free { is_simple_and_free (app_of command) ≡ true }
+    ensures none { IfOk result (λ found. fault_of (app_of command.entry) (map (λ w. w.now) words.now) ≡ []) }
+    ensures rows { IfOk result (λ found. rows_of (found_of found) ≡ matches_of (app_of command.entry) (map (λ w. w.now) words.now)) }
+    ensures refused { IfErr result (λ refused. (refused.status ≡ Status.NoMemory) ⊎ ((refused.status ≡ Status.Usage) × (fault_of (app_of command.entry) (map (λ w. w.now) words.now) ≢ []))) }
+{
+    match command.try_get_matches_from(words) {
+        Ok(found) => Ok(found),
+        Err(error) => Err(refusal_of(alloc, &error)),
+    }
+}
+
+/// What was found in the words of `compile`, where the number of operations is in its range.
+fn compile_found<'a>(found: &ArgMatches<'a>) -> Result<CompileWords<'a>, Refused>
+    ensures asked { IfOk result (λ asked. Some (Compile asked.source.now asked.out.now (option_map (λ s. s.now) asked.machine) asked.growth) ≡ compile_unless [] (rows_of (found_of found.now))) }
+    ensures refused { IfErr result (λ refused. (refused.status ≡ Status.Usage) × (None ≡ compile_unless [] (rows_of (found_of found.now)))) }
+{
+    match growth_of(found.get_str("growth")) {
+        Some(growth) => Ok(CompileWords {
+            source: text_at(found, "SRC"),
+            out: text_at(found, "OUT"),
+            machine: found.get_str("machine"),
+            growth,
+        }),
+        None => Err(without_text(Status::Usage)),
+    }
+}
+
+/// What clap finds in the words of `compile`, or their refusal.
 fn read_words<'a>(
     alloc: Global,
     command: Command<'a>,
     words: &'a [&'a str],
 ) -> Result<CompileWords<'a>, Refused>
     requires { app_of command ≡ compile_app }
-    ensures asked { IfOk result (λ asked. compile_of (map (λ w. w.now) words.now) ≡ Some (Compile asked.source.now asked.out.now (option_map (λ s. s.now) asked.machine))) }
+    ensures asked { IfOk result (λ asked. compile_of (map (λ w. w.now) words.now) ≡ Some (Compile asked.source.now asked.out.now (option_map (λ s. s.now) asked.machine) asked.growth)) }
     ensures refused { IfErr result (λ refused. (refused.status ≡ Status.NoMemory) ⊎ ((refused.status ≡ Status.Usage) × (compile_of (map (λ w. w.now) words.now) ≡ None))) }
 {
-    match command.try_get_matches_from(words) {
-        Ok(found) => Ok(CompileWords {
-            source: text_at(&found, "SRC"),
-            out: text_at(&found, "OUT"),
-            machine: found.get_str("machine"),
-        }),
-        Err(error) => Err(refusal_of(alloc, &error)),
+    match found_in(alloc, command, words) {
+        Ok(found) => compile_found(&found),
+        Err(refused) => Err(refused),
     }
 }
 
@@ -108,7 +137,7 @@ fn status_of(error: &Error) -> Status
 
 /// What the words of `compile` ask for, the program's name first, or their refusal.
 pub(crate) fn asked_of<'a>(alloc: Global, words: &'a [&'a str]) -> Result<CompileWords<'a>, Refused>
-    ensures asked { IfOk result (λ asked. compile_of (map (λ w. w.now) words.now) ≡ Some (Compile asked.source.now asked.out.now (option_map (λ s. s.now) asked.machine))) }
+    ensures asked { IfOk result (λ asked. compile_of (map (λ w. w.now) words.now) ≡ Some (Compile asked.source.now asked.out.now (option_map (λ s. s.now) asked.machine) asked.growth)) }
     ensures refused { IfErr result (λ refused. (refused.status ≡ Status.NoMemory) ⊎ ((refused.status ≡ Status.Usage) × (compile_of (map (λ w. w.now) words.now) ≡ None))) }
 {
     match compile_command(alloc) {

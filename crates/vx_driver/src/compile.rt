@@ -120,10 +120,15 @@ pub(crate) fn machine_for<D: Depot>(
 }
 
 /// The text of the words of a program for a machine.
-fn text_of(alloc: Global, program: &Typed, machine: &Machine) -> Result<Vec<u8>, NoMemory>
+fn text_of(
+    alloc: Global,
+    program: &Typed,
+    machine: &Machine,
+    growth: u32,
+) -> Result<Vec<u8>, NoMemory>
     ensures { IfOk result (λ text. TextOf (view.program_of program.now.program) machine.now text.items) }
 {
-    let words = words_of(alloc, program, machine)?;
+    let words = words_of(alloc, program, machine, growth)?;
     write(alloc, &words)
 }
 
@@ -147,13 +152,14 @@ fn compile_for<D: Depot>(
     depot: &mut D,
     program: &Typed,
     machine: &Machine,
+    growth: u32,
     out: &str,
 ) -> Status
     ensures answers { ((result ≡ Status.NoMemory) × (D.files depot.new ≡ D.files depot.old)) ⊎ PutsText (view.program_of program.now.program) machine.now out.now (effect_of D.files D.failed_reads D.failed_replaces depot.old depot.new) result }
     ensures reads_never_fall { D.failed_reads depot.old ≤ D.failed_reads depot.new }
     ensures replaces_never_fall { D.failed_replaces depot.old ≤ D.failed_replaces depot.new }
 {
-    match text_of(alloc, program, machine) {
+    match text_of(alloc, program, machine, growth) {
         Ok(text) => write_text(depot, out, text.as_slice()),
         Err(_) => Status::NoMemory,
     }
@@ -166,13 +172,14 @@ fn compile_read<D: Depot>(
     program: &Typed,
     out: &str,
     machine: Option<&str>,
+    growth: u32,
 ) -> Status
     ensures answers { ProgramAnswers (view.program_of program.now.program) out.now (option_map (λ s. s.now) machine.entry) (effect_of D.files D.failed_reads D.failed_replaces depot.old depot.new) result }
     ensures reads_never_fall { D.failed_reads depot.old ≤ D.failed_reads depot.new }
     ensures replaces_never_fall { D.failed_replaces depot.old ≤ D.failed_replaces depot.new }
 {
     match machine_for(alloc, depot, machine) {
-        Ok(asked) => compile_for(alloc, depot, program, &asked, out),
+        Ok(asked) => compile_for(alloc, depot, program, &asked, growth, out),
         Err(status) => status,
     }
 }
@@ -184,13 +191,14 @@ pub(crate) fn compile<D: Depot>(
     source: &str,
     out: &str,
     machine: Option<&str>,
+    growth: u32,
 ) -> Status
     ensures answers { CompileAnswers source.now out.now (option_map (λ s. s.now) machine.entry) (effect_of D.files D.failed_reads D.failed_replaces depot.old depot.new) result }
     ensures reads_never_fall { D.failed_reads depot.old ≤ D.failed_reads depot.new }
     ensures replaces_never_fall { D.failed_replaces depot.old ≤ D.failed_replaces depot.new }
 {
     match read_through(alloc, depot, source) {
-        Ok(program) => compile_read(alloc, depot, &program, out, machine),
+        Ok(program) => compile_read(alloc, depot, &program, out, machine, growth),
         Err(status) => status,
     }
 }

@@ -16,7 +16,7 @@ use crate::boxes::{probes_of, timing_of};
 use crate::compile::{machine_for, read_through};
 use crate::loaded::LoadedFiles;
 use crate::loading::input_for;
-use crate::run_words::RunWords;
+use crate::run_words::ExecWords;
 use crate::running::{no_box, no_probe, run_loaded};
 use crate::status::{Status, tell};
 use crate::words::words_of;
@@ -32,6 +32,7 @@ fn load_words(
     alloc: Global,
     program: &Typed,
     machine: Machine,
+    growth: u32,
     input: Vec<i32>,
 ) -> Result<LoadedFiles, Status>
     requires { All IsNumber input.items }
@@ -40,7 +41,7 @@ fn load_words(
     ensures compiled { IfOk result (λ loaded. Compiled (view.program_of program.now.program) loaded.machine loaded.program) }
     ensures memory { IfErr result (λ status. status ≡ Status.NoMemory) }
 {
-    match words_of(alloc, program, &machine) {
+    match words_of(alloc, program, &machine, growth) {
         Ok(words) => Ok(LoadedFiles {
             program: words,
             machine,
@@ -56,6 +57,7 @@ fn load_input<D: Depot>(
     depot: &mut D,
     program: &Typed,
     machine: Machine,
+    growth: u32,
     name: Option<&str>,
 ) -> Result<LoadedFiles, Status>
     ensures same_files { D.files depot.new ≡ D.files depot.old }
@@ -67,7 +69,7 @@ fn load_input<D: Depot>(
     ensures replaces_never_fall { D.failed_replaces depot.old ≤ D.failed_replaces depot.new }
 {
     match input_for(alloc, depot, name) {
-        Ok(input) => load_words(alloc, program, machine, input),
+        Ok(input) => load_words(alloc, program, machine, growth, input),
         Err(status) => Err(status),
     }
 }
@@ -78,6 +80,7 @@ fn load_machine<D: Depot>(
     depot: &mut D,
     program: &Typed,
     machine: Option<&str>,
+    growth: u32,
     input: Option<&str>,
 ) -> Result<LoadedFiles, Status>
     ensures same_files { D.files depot.new ≡ D.files depot.old }
@@ -89,21 +92,28 @@ fn load_machine<D: Depot>(
     ensures replaces_never_fall { D.failed_replaces depot.old ≤ D.failed_replaces depot.new }
 {
     match machine_for(alloc, depot, machine) {
-        Ok(machine) => load_input(alloc, depot, program, machine, input),
+        Ok(machine) => load_input(alloc, depot, program, machine, growth, input),
         Err(status) => Err(status),
     }
 }
 
 /// Reads the source, the machine and the input, each whole before the next, and compiles.
-fn load<D: Depot>(alloc: Global, depot: &mut D, asked: &RunWords) -> Result<LoadedFiles, Status>
+fn load<D: Depot>(alloc: Global, depot: &mut D, asked: &ExecWords) -> Result<LoadedFiles, Status>
     ensures same_files { D.files depot.new ≡ D.files depot.old }
     ensures loaded { IfOk result (λ loaded. Prepared (execution_of asked.now) (effect_of D.files D.failed_reads D.failed_replaces depot.old depot.new) (loaded_of loaded)) }
     ensures stops { IfErr result (StopsBefore (execution_of asked.now) (effect_of D.files D.failed_reads D.failed_replaces depot.old depot.new)) }
     ensures reads_never_fall { D.failed_reads depot.old ≤ D.failed_reads depot.new }
     ensures replaces_never_fall { D.failed_replaces depot.old ≤ D.failed_replaces depot.new }
 {
-    match read_through(alloc, depot, asked.file) {
-        Ok(program) => load_machine(alloc, depot, &program, asked.machine, asked.input),
+    match read_through(alloc, depot, asked.run.file) {
+        Ok(program) => load_machine(
+            alloc,
+            depot,
+            &program,
+            asked.run.machine,
+            asked.growth,
+            asked.run.input,
+        ),
         Err(status) => Err(status),
     }
 }
@@ -114,11 +124,11 @@ fn execute<D: Depot, K: Sink, E: Sink>(
     depot: &mut D,
     out: &mut K,
     err: &mut E,
-    asked: &RunWords,
+    asked: &ExecWords,
     timing: Box<dyn Timing>,
     probes: Vec<Box<dyn Probe>>,
 ) -> Status
-    requires wanted { 0 < length probes.items → is_some asked.now.probe ≡ true }
+    requires wanted { 0 < length probes.items → is_some asked.now.run.probe ≡ true }
     ensures same_files { D.files depot.new ≡ D.files depot.old }
     ensures answers { ExecutionAnswers (execution_of asked.now) (effect_of D.files D.failed_reads D.failed_replaces depot.old depot.new) (streams_of K.told K.faults E.told E.faults out.old out.new err.old err.new) result (record { times = times timing; watches = map (λ b. watch b) probes.items }) }
     ensures adds { Adds (E.told err.old) (E.told err.new) (E.faults err.old) (E.faults err.new) }
@@ -127,7 +137,16 @@ fn execute<D: Depot, K: Sink, E: Sink>(
     ensures replaces_never_fall { D.failed_replaces depot.old ≤ D.failed_replaces depot.new }
 {
     match load(alloc, depot, asked) {
-        Ok(loaded) => run_loaded(alloc, loaded, asked.budget, true, out, err, timing, probes),
+        Ok(loaded) => run_loaded(
+            alloc,
+            loaded,
+            asked.run.budget,
+            true,
+            out,
+            err,
+            timing,
+            probes,
+        ),
         Err(status) => tell(err, status),
     }
 }
@@ -138,7 +157,7 @@ pub(crate) fn execute_with<D: Depot, K: Sink, E: Sink>(
     depot: &mut D,
     out: &mut K,
     err: &mut E,
-    asked: &RunWords,
+    asked: &ExecWords,
     probes: Vec<Box<dyn Probe>>,
     timings: Vec<Box<dyn Timing>>,
 ) -> Status
@@ -148,12 +167,12 @@ pub(crate) fn execute_with<D: Depot, K: Sink, E: Sink>(
     ensures reads_never_fall { D.failed_reads depot.old ≤ D.failed_reads depot.new }
     ensures replaces_never_fall { D.failed_replaces depot.old ≤ D.failed_replaces depot.new }
 {
-    let timing = match timing_of(timings, asked.timing) {
+    let timing = match timing_of(timings, asked.run.timing) {
         Some(timing) => timing,
-        None => return no_box(err, asked.timing),
+        None => return no_box(err, asked.run.timing),
     };
-    match probes_of(alloc, probes, asked.probe) {
+    match probes_of(alloc, probes, asked.run.probe) {
         Ok(probes) => execute(alloc, depot, out, err, asked, timing, probes),
-        Err(status) => no_probe(err, asked.probe, status),
+        Err(status) => no_probe(err, asked.run.probe, status),
     }
 }

@@ -9,6 +9,7 @@ mod input;
 pub mod laws;
 mod loaded;
 mod loading;
+mod options;
 mod ranges;
 mod reading;
 mod run_words;
@@ -19,4 +20,3 @@ pub mod top;
 mod words;
 
 pub use top::vexc;
-

@@ -1,14 +1,14 @@
 // The words of `sim` and of `exec`, as clap reads them.
 
 ghost use Rattle.std.specs.Prelude.{◌≡◌, ◌⊎◌, ◌≤◌, true, false, [], unwrap_or, Some, None, map, option_map, codes, IfOk, IfErr, MatchOption};
-ghost use Rattle.clap.specs.Words.{app_of, rule_of, rows_of, first_value, found_of, is_simple, is_simple_and_free};
-ghost use Rattle.vx_driver.specs.Command.{option_word, number_word, run_app, run_of, run_unless, Makes, Simulate, Execute, sim_of, exec_of, budget_of};
+ghost use Rattle.clap.specs.Words.{app_of, rows_of, first_value, found_of};
+ghost use Rattle.vx_driver.specs.Command.{run_app, with_run_options, sim_app, exec_app, run_unless, Makes, Simulate, Execute, executes, sim_of, exec_of, exec_unless, budget_of};
 ghost use Rattle.vx_driver.specs.Asked.{asks, simulation_of, execution_of};
 
-use crate::command::{Refused, refusal_of, text_at, without_text};
+use crate::command::{Refused, found_in, text_at, without_text};
+use crate::options::{growth_of, growth_option, number_of, option_of, required_of};
 use crate::status::Status;
-use clap::builder::ValueParser;
-use clap::{Arg, ArgAction, ArgMatches, Command};
+use clap::{ArgMatches, Command};
 use std::alloc::{AllocError, Global};
 
 /// The words of a run.
@@ -28,43 +28,54 @@ pub(crate) struct RunWords<'a> {
     pub(crate) probe: Option<&'a str>,
 }
 
+/// The words of `exec`.
+#[derive(Drop)]
+pub(crate) struct ExecWords<'a> {
+    /// The words of its run.
+    pub(crate) run: RunWords<'a>,
+    /// How many operations may be copied.
+    pub(crate) growth: u32,
+}
+
 const MOST_WORDS: u64 = 1000000000000;
 
 const DEFAULT_WORDS: u64 = 1000000000;
 
-/// `--name VALUE`.
-fn option_of<'a>(alloc: Global, name: &'a str) -> Arg<'a>
-    ensures rule { rule_of result ≡ option_word name.entry.now }
-    ensures local { result.global ≡ false }
-{
-    Arg::new(alloc, name).long(name).action(ArgAction::Set)
-}
-
-/// `--name N`, N from 1 to the most words.
-fn number_of<'a>(alloc: Global, name: &'a str) -> Arg<'a>
-    ensures rule { rule_of result ≡ number_word name.entry.now 1 1000000000000 }
-    ensures local { result.global ≡ false }
-{
-    option_of(alloc, name).value_parser(ValueParser::Unsigned(1, MOST_WORDS))
-}
-
-/// `NAME FILE [--machine M] [--input I] [--words N] [--timing T] [--probe B]`.
+/// `NAME FILE [--machine M]`.
 fn run_command<'a>(alloc: Global, name: &'a str, file: &'a str) -> Result<Command<'a>, AllocError>
     ensures { IfOk result (λ command. app_of command ≡ run_app name.entry.now file.entry.now) }
 {
-    let named = Arg::new(alloc, file).action(ArgAction::Set).required(true);
-    let machine = option_of(alloc, "machine");
-    let input = option_of(alloc, "input");
-    let budget = number_of(alloc, "words");
-    let timing = option_of(alloc, "timing");
-    let probe = option_of(alloc, "probe");
     Command::new(alloc, name)
-        .arg(named)?
-        .arg(machine)?
-        .arg(input)?
-        .arg(budget)?
-        .arg(timing)?
-        .arg(probe)
+        .arg(required_of(alloc, file))?
+        .arg(option_of(alloc, "machine"))
+}
+
+/// The words of a command, and after them `[--input I] [--words N] [--timing T] [--probe B]`.
+fn with_run_options<'a>(alloc: Global, command: Command<'a>) -> Result<Command<'a>, AllocError>
+    ensures { IfOk result (λ whole. app_of whole ≡ with_run_options (app_of command.entry)) }
+{
+    command
+        .arg(option_of(alloc, "input"))?
+        .arg(number_of(alloc, "words", 1, MOST_WORDS))?
+        .arg(option_of(alloc, "timing"))?
+        .arg(option_of(alloc, "probe"))
+}
+
+/// `sim WORDS` with these options.
+fn sim_command<'a>(alloc: Global) -> Result<Command<'a>, AllocError>
+    ensures { IfOk result (λ command. app_of command ≡ sim_app) }
+{
+    with_run_options(alloc, run_command(alloc, "sim", "WORDS")?)
+}
+
+/// `exec SRC` with these options, before them `[--growth G]`.
+fn exec_command<'a>(alloc: Global) -> Result<Command<'a>, AllocError>
+    ensures { IfOk result (λ command. app_of command ≡ exec_app) }
+{
+    with_run_options(
+        alloc,
+        run_command(alloc, "exec", "SRC")?.arg(growth_option(alloc))?,
+    )
 }
 
 /// A number from 1 to the most words.
@@ -136,21 +147,57 @@ fn asked_in<'a>(found: &ArgMatches<'a>, file: &str) -> Result<RunWords<'a>, Refu
     }
 }
 
-/// What clap finds in the words of a run, or its refusal.
-fn read_words<'a>(
+/// What was found in the words of `exec`, at this number of operations.
+fn exec_with<'a>(found: &ArgMatches<'a>, growth: u32) -> Result<ExecWords<'a>, Refused>
+    ensures asked { IfOk result (λ asked. Some (Execute (execution_of asked)) ≡ run_unless (executes growth) (codes "SRC") [] (rows_of (found_of found.now))) }
+    ensures refused { IfErr result (λ refused. (refused.status ≡ Status.Usage) × (None ≡ run_unless (executes growth) (codes "SRC") [] (rows_of (found_of found.now)))) }
+{
+    match asked_in(found, "SRC") {
+        Ok(run) => Ok(ExecWords { run, growth }),
+        Err(refused) => Err(refused),
+    }
+}
+
+/// What was found in the words of `exec`, where its numbers are in their ranges.
+fn exec_found<'a>(found: &ArgMatches<'a>) -> Result<ExecWords<'a>, Refused>
+    ensures asked { IfOk result (λ asked. Some (Execute (execution_of asked)) ≡ exec_unless [] (rows_of (found_of found.now))) }
+    ensures refused { IfErr result (λ refused. (refused.status ≡ Status.Usage) × (None ≡ exec_unless [] (rows_of (found_of found.now)))) }
+{
+    match growth_of(found.get_str("growth")) {
+        Some(growth) => exec_with(found, growth),
+        None => Err(without_text(Status::Usage)),
+    }
+}
+
+/// What clap finds in the words of `sim`, or their refusal.
+fn read_sim<'a>(
     alloc: Global,
     command: Command<'a>,
-    file: &str,
     words: &'a [&'a str],
 ) -> Result<RunWords<'a>, Refused>
-    requires simple { is_simple (app_of command) ≡ true }
-    requires free { is_simple_and_free (app_of command) ≡ true }
-    ensures asked { (makes : Makes) → IfOk result (λ asked. run_of makes (app_of command.entry) file.now (map (λ w. w.now) words.now) ≡ Some (asks makes asked)) }
-    ensures refused { (makes : Makes) → IfErr result (λ refused. (refused.status ≡ Status.NoMemory) ⊎ ((refused.status ≡ Status.Usage) × (run_of makes (app_of command.entry) file.now (map (λ w. w.now) words.now) ≡ None))) }
+    requires { app_of command ≡ sim_app }
+    ensures asked { IfOk result (λ asked. sim_of (map (λ w. w.now) words.now) ≡ Some (Simulate (simulation_of asked))) }
+    ensures refused { IfErr result (λ refused. (refused.status ≡ Status.NoMemory) ⊎ ((refused.status ≡ Status.Usage) × (sim_of (map (λ w. w.now) words.now) ≡ None))) }
 {
-    match command.try_get_matches_from(words) {
-        Ok(found) => asked_in(&found, file),
-        Err(error) => Err(refusal_of(alloc, &error)),
+    match found_in(alloc, command, words) {
+        Ok(found) => asked_in(&found, "WORDS"),
+        Err(refused) => Err(refused),
+    }
+}
+
+/// What clap finds in the words of `exec`, or their refusal.
+fn read_exec<'a>(
+    alloc: Global,
+    command: Command<'a>,
+    words: &'a [&'a str],
+) -> Result<ExecWords<'a>, Refused>
+    requires { app_of command ≡ exec_app }
+    ensures asked { IfOk result (λ asked. exec_of (map (λ w. w.now) words.now) ≡ Some (Execute (execution_of asked))) }
+    ensures refused { IfErr result (λ refused. (refused.status ≡ Status.NoMemory) ⊎ ((refused.status ≡ Status.Usage) × (exec_of (map (λ w. w.now) words.now) ≡ None))) }
+{
+    match found_in(alloc, command, words) {
+        Ok(found) => exec_found(&found),
+        Err(refused) => Err(refused),
     }
 }
 
@@ -159,19 +206,19 @@ pub(crate) fn sim_asked<'a>(alloc: Global, words: &'a [&'a str]) -> Result<RunWo
     ensures asked { IfOk result (λ asked. sim_of (map (λ w. w.now) words.now) ≡ Some (Simulate (simulation_of asked))) }
     ensures refused { IfErr result (λ refused. (refused.status ≡ Status.NoMemory) ⊎ ((refused.status ≡ Status.Usage) × (sim_of (map (λ w. w.now) words.now) ≡ None))) }
 {
-    match run_command(alloc, "sim", "WORDS") {
-        Ok(command) => read_words(alloc, command, "WORDS", words),
+    match sim_command(alloc) {
+        Ok(command) => read_sim(alloc, command, words),
         Err(_) => Err(without_text(Status::NoMemory)),
     }
 }
 
 /// What the words of `exec` ask for, the program's name first, or their refusal.
-pub(crate) fn exec_asked<'a>(alloc: Global, words: &'a [&'a str]) -> Result<RunWords<'a>, Refused>
+pub(crate) fn exec_asked<'a>(alloc: Global, words: &'a [&'a str]) -> Result<ExecWords<'a>, Refused>
     ensures asked { IfOk result (λ asked. exec_of (map (λ w. w.now) words.now) ≡ Some (Execute (execution_of asked))) }
     ensures refused { IfErr result (λ refused. (refused.status ≡ Status.NoMemory) ⊎ ((refused.status ≡ Status.Usage) × (exec_of (map (λ w. w.now) words.now) ≡ None))) }
 {
-    match run_command(alloc, "exec", "SRC") {
-        Ok(command) => read_words(alloc, command, "SRC", words),
+    match exec_command(alloc) {
+        Ok(command) => read_exec(alloc, command, words),
         Err(_) => Err(without_text(Status::NoMemory)),
     }
 }

@@ -49,7 +49,14 @@ fn perform_compile<D: Depot, E: Sink>(
 {
     match asked_of(alloc, words) {
         Ok(asked) => {
-            let status = compile(alloc, depot, asked.source, asked.out, asked.machine);
+            let status = compile(
+                alloc,
+                depot,
+                asked.source,
+                asked.out,
+                asked.machine,
+                asked.growth,
+            );
             tell(err, status)
         }
         Err(refused) => refuse(err, &refused),

@@ -26,8 +26,9 @@ use vx_mixed::laws::{
     replaced_programs_run_the_same,
 };
 use vx_mixed::layout::VWords;
-use vx_region::all_regions;
+use vx_profile::counts::Counts;
 use vx_region::laws::{all_steps_keep_the_graph, graphs_begin_so};
+use vx_region::{Budget, all_regions};
 use vx_regs::map::RegMap;
 use vx_regs::registers;
 
@@ -45,8 +46,14 @@ fn stages_do_the_same()
     any_timing_law();
 }
 
-/// The layout of a function, each block of it turned into a region.
-fn layout_of(alloc: Global, graph: &Graph, machine: &Machine) -> Result<VWords, NoMemory>
+/// The layout of a function, all of it turned into regions, one picked trace after the other.
+fn layout_of(
+    alloc: Global,
+    graph: &Graph,
+    counts: &Counts,
+    machine: &Machine,
+    budget: &mut Budget,
+) -> Result<VWords, NoMemory>
     requires { Begins graph.now }
     ensures { IfOk result (λ layout. IsLayoutOf machine.now graph.now layout) }
 {
@@ -54,23 +61,26 @@ fn layout_of(alloc: Global, graph: &Graph, machine: &Machine) -> Result<VWords, 
     all_steps_keep_the_graph();
     let begun = Mixed::from_graph(alloc, graph)?;
     begun.keeps_valid();
-    let regions = all_regions(alloc, begun, machine)?;
+    let regions = all_regions(alloc, begun, counts, machine, budget)?;
     regions.mixed.keeps_valid();
     regions.mixed.lay_out(alloc)
 }
 
-/// The layouts of functions.
+/// The layouts of functions. At most so many operations are copied in all of them.
 fn layouts_of(
     alloc: Global,
     graphs: &[Graph],
+    counts: &Counts,
     machine: &Machine,
+    growth: u32,
 ) -> Result<Listed<VWords>, NoMemory>
     requires { AllBegin graphs.now }
     ensures { IfOk result (λ layouts. AreLayoutsOf machine.now graphs.now layouts) }
 {
+    let mut budget = Budget::make(growth);
     let mut layouts = Listed::new(alloc);
     for graph in graphs {
-        layouts.push(layout_of(alloc, graph, machine)?)?;
+        layouts.push(layout_of(alloc, graph, counts, machine, &mut budget)?)?;
     }
     Ok(layouts)
 }
@@ -87,18 +97,20 @@ fn maps_of(alloc: Global, layouts: &[VWords], machine: &Machine) -> Result<Liste
     Ok(maps)
 }
 
-/// The words of a program for a machine.
+/// The words of a program for a machine. Its traces are picked with no block counted; at most so many operations are copied.
 pub(crate) fn words_of(
     alloc: Global,
     program: &Typed,
     machine: &Machine,
+    growth: u32,
 ) -> Result<WordProgram, NoMemory>
     ensures { IfOk result (λ words. Compiled (view.program_of program.now.program) machine.now words) }
 {
     stages_do_the_same();
     machine.keeps_ranges();
     let flow = lower(alloc, program)?;
-    let layouts = layouts_of(alloc, flow.functions.as_slice(), machine)?;
+    let counts = Counts::new(alloc);
+    let layouts = layouts_of(alloc, flow.functions.as_slice(), &counts, machine, growth)?;
     let maps = maps_of(alloc, layouts.as_slice(), machine)?;
     let finished = finish(alloc, layouts.as_slice(), maps.as_slice(), &flow, machine)?;
     numbers_fit(&finished.program);

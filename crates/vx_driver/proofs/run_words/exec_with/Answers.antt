@@ -1,0 +1,9 @@
+-- A run's words with the number of operations.
+use Rattle.vx_driver.specs.Command.{executes}
+use Rattle.vx_driver.proofs.run_words.exec_with.Goals as goal
+
+pub returns-in-Ok-clause-asked : goal.returns-in-Ok-clause-asked
+returns-in-Ok-clause-asked c = c.in-Ok.ensures.asked (executes c.args.growth)
+
+pub returns-in-Err-clause-refused : goal.returns-in-Err-clause-refused
+returns-in-Err-clause-refused c = c.in-Err.ensures.refused (executes c.args.growth)

@@ -1,0 +1,76 @@
+// The options of a command, and how many operations may be copied.
+
+ghost use Rattle.std.specs.Prelude.{◌≡◌, ◌≤◌, false, Some, option_map, MatchOption};
+ghost use Rattle.clap.specs.Words.{rule_of};
+ghost use Rattle.vx_driver.specs.Command.{required_word, option_word, number_word, growth_word, growth_of};
+
+use clap::builder::ValueParser;
+use clap::{Arg, ArgAction};
+use std::alloc::Global;
+
+const MOST_GROWTH: u32 = 1000000;
+
+const DEFAULT_GROWTH: u32 = 4000;
+
+/// A word that has to be there.
+pub(crate) fn required_of<'a>(alloc: Global, name: &'a str) -> Arg<'a>
+    ensures rule { rule_of result ≡ required_word name.entry.now }
+    ensures local { result.global ≡ false }
+{
+    Arg::new(alloc, name).action(ArgAction::Set).required(true)
+}
+
+/// `--name VALUE`.
+pub(crate) fn option_of<'a>(alloc: Global, name: &'a str) -> Arg<'a>
+    ensures rule { rule_of result ≡ option_word name.entry.now }
+    ensures local { result.global ≡ false }
+{
+    Arg::new(alloc, name).long(name).action(ArgAction::Set)
+}
+
+/// `--name N`, N from low to high.
+pub(crate) fn number_of<'a>(alloc: Global, name: &'a str, low: u64, high: u64) -> Arg<'a>
+    ensures rule { rule_of result ≡ number_word name.entry.now low high }
+    ensures local { result.global ≡ false }
+{
+    option_of(alloc, name).value_parser(ValueParser::Unsigned(low, high))
+}
+
+/// `--growth G`, G from 0 to the most operations that may be copied.
+pub(crate) fn growth_option<'a>(alloc: Global) -> Arg<'a>
+    ensures rule { rule_of result ≡ growth_word }
+    ensures local { result.global ≡ false }
+{
+    number_of(alloc, "growth", 0, MOST_GROWTH as u64)
+}
+
+/// A number from 0 to the most operations that may be copied.
+fn within(number: u32) -> Option<u32>
+    ensures { MatchOption result ((0 ≤ number → number ≤ 1000000 → ⊥)) (λ n. (n ≡ number) × (0 ≤ number) × (number ≤ 1000000)) }
+{
+    if number <= MOST_GROWTH {
+        Some(number)
+    } else {
+        None
+    }
+}
+
+/// How many operations may be copied by a text.
+fn growth_in(text: &str) -> Option<u32>
+    ensures { result ≡ growth_of (Some text.now) }
+{
+    match text.parse::<u32>() {
+        Ok(number) => within(number),
+        Err(_) => None,
+    }
+}
+
+/// How many operations may be copied by a text, or where there is none.
+pub(crate) fn growth_of(text: Option<&str>) -> Option<u32>
+    ensures { result ≡ growth_of (option_map (λ s. s.now) text.entry) }
+{
+    match text {
+        Some(text) => growth_in(text),
+        None => Some(DEFAULT_GROWTH),
+    }
+}
