@@ -1,0 +1,41 @@
+-- A flow of a program whose graphs are laid out as linked chains stays one, where what comes out has the shape.
+use Rattle.std.specs.Prelude.{◌≡◌, ◌<◌, ◌≤◌, ℕ, suc, true, List, [], ◌∷◌, length, slice_get, Some}
+use Rattle.vx_base.specs.declared.outcome.Trap.{Trap}
+use Rattle.vx_ast.specs.Tree.{Program}
+use Rattle.vx_flow.specs.declared.graph.Exit.TheVariants.{Split}
+use Rattle.vx_flow.specs.declared.graph.Block.{Block}
+use Rattle.vx_flow.specs.declared.graph.Graph.{Graph}
+use Rattle.vx_flow.specs.declared.graph.Flow.{Flow}
+use Rattle.vx_flow.specs.Sound.{is_sound_flow}
+use Rattle.vx_lower.specs.FlowOf.{EndsBy, IsEdge, FlowOf}
+use Rattle.vx_clean.specs.Cleaning.{with_graphs}
+use Rattle.vx_clean.specs.Laying.{laid, Begun, Linked}
+
+-- the shape of a graph by itself
+pub record Shaped (g : Graph) : Type 0 where
+  pub trap_empty : (b : ℕ) (k : Trap) → (e : EndsBy g b k) → e.block.ops ≡ []
+  pub trap_alone : (b c : ℕ) (k : Trap) → EndsBy g b k → EndsBy g c k → b ≡ c
+  pub traps_last : (b c : ℕ) (k : Trap) → EndsBy g b k → b < c → c < length g.blocks → (j : Trap) × EndsBy g c j
+  pub short : (b : ℕ) (block : Block) → slice_get g.blocks b ≡ Some block → length block.ops ≤ 512
+  pub apart : (b : ℕ) (block : Block) (test yes no : ℕ) → slice_get g.blocks b ≡ Some block → block.exit ≡ Split test yes no → yes ≡ no → ⊥
+  pub uncritical : (b c d e : ℕ) → IsEdge g b c → IsEdge g b d → (c ≡ d → ⊥) → IsEdge g e d → e ≡ b
+  pub entry : (b : ℕ) → IsEdge g b 0 → ⊥
+
+pub record FunctionLaid (to : ℕ → ℕ) (chains : List (List ℕ)) (g : Graph) : Type 0 where
+  pub first : to 0 ≡ 0
+  pub begun : Begun to g.blocks chains 0
+  pub linked : (i : ℕ) (chain : List ℕ) → slice_get chains i ≡ Some chain → Linked to g.blocks chains chain
+  pub shaped : Shaped (laid to chains g)
+
+-- the functions from function f on
+abbrev pub laid_functions : (ℕ → ℕ → ℕ) → (ℕ → List (List ℕ)) → ℕ → List Graph → List Graph
+laid_functions to chains f [] = []
+laid_functions to chains f (g ∷ gs) = laid (to f) (chains f) g ∷ laid_functions to chains (suc f) gs
+
+abbrev pub laid_flow : (ℕ → ℕ → ℕ) → (ℕ → List (List ℕ)) → Flow → Flow
+laid_flow to chains flow = with_graphs flow (laid_functions to chains 0 flow.functions)
+
+abbrev pub LaidFlow : Type 0
+LaidFlow = (p : Program) (flow : Flow) (to : ℕ → ℕ → ℕ) (chains : ℕ → List (List ℕ)) → FlowOf p flow →
+    ((f : ℕ) (g : Graph) → slice_get flow.functions f ≡ Some g → FunctionLaid (to f) (chains f) g) →
+    is_sound_flow (laid_flow to chains flow) ≡ true → FlowOf p (laid_flow to chains flow)

@@ -1,0 +1,5 @@
+use Rattle.vx_facts.proofs.NarrowRuns.{narrowed_runs}
+use Rattle.vx_facts.proofs.laws.narrowed_runs_stay.Goals as goal
+
+pub returns : goal.returns
+returns c = narrowed_runs

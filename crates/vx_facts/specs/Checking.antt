@@ -1,0 +1,98 @@
+-- When facts claimed at the starts of the blocks of a program are checked, and the laws of checked facts.
+use Rattle.std.specs.Prelude.{◌≡◌, ◌⊎◌, ℕ, zero, suc, Bool, true, false, ◌&&◌, ℤ, int_le, Option, Some, None, List, [], ◌∷◌, slice_get}
+use Rattle.std.specs.List.{list_all}
+use Rattle.vx_base.specs.Arithmetic.{IsNumber}
+use Rattle.vx_base.specs.Outcome.{Step, On}
+use Rattle.vx_flow.specs.declared.graph.Operand.{Operand}
+use Rattle.vx_flow.specs.declared.graph.Operand.TheVariants.{Held, Number, Stack}
+use Rattle.vx_flow.specs.declared.graph.Op.{Op}
+use Rattle.vx_flow.specs.declared.graph.Op.TheVariants.{Compute, Select, Place, Load, Store, More, Input, Text, Decimal, Across}
+use Rattle.vx_flow.specs.declared.graph.Exit.{Exit}
+use Rattle.vx_flow.specs.declared.graph.Exit.TheVariants.{Goto, Split, Call, Return, Ends}
+use Rattle.vx_flow.specs.declared.graph.Block.{Block}
+use Rattle.vx_flow.specs.declared.graph.Graph.{Graph}
+use Rattle.vx_flow.specs.declared.graph.Global.{Global}
+use Rattle.vx_flow.specs.declared.graph.Flow.{Flow}
+use Rattle.vx_flow.specs.Effects.{IsIn, State}
+use Rattle.vx_flow.specs.Meaning.{Hop, Arrives, Wrong, Active, hop, next, program_of, start}
+use Rattle.vx_facts.specs.Facts.{Interval, Fact, Between, Equals, AllHold, least, greatest, range, without, after_all, on_side, decided, has_equals}
+
+-- the check of one block
+
+abbrev pub is_number : ℤ → Bool
+is_number n = int_le least n && int_le n greatest
+
+abbrev pub has_number : Operand → Bool
+has_number (Held v) = true
+has_number (Number n) = is_number n
+has_number Stack = true
+
+-- each number that the operation names has 32 bits
+abbrev pub has_numbers : Op → Bool
+has_numbers (Compute code v a b) = has_number a && has_number b
+has_numbers (Select v p a b) = has_number a && has_number b
+has_numbers (Place v a i) = true
+has_numbers (Load v a p dismissible) = true
+has_numbers (Store a p x) = has_number x
+has_numbers (More v) = true
+has_numbers (Input v) = true
+has_numbers (Text n) = true
+has_numbers (Decimal x) = true
+has_numbers (Across v u) = true
+
+abbrev pub is_inside : Interval → Interval → Bool
+is_inside i j = int_le j.low i.low && int_le i.high j.high
+
+-- the facts give the claim
+abbrev pub gives : List Fact → Fact → Bool
+gives fs (Between v i) = is_inside (range fs v) i
+gives fs (Equals v code a b) = has_equals fs v code a b
+
+abbrev pub give : List Fact → List Fact → Bool
+give fs claims = list_all (gives fs) claims
+
+abbrev pub without_result : Option ℕ → List Fact → List Fact
+without_result None fs = fs
+without_result (Some v) fs = without v fs
+
+abbrev pub is_exit_checked : (ℕ → List Fact) → List Fact → Exit → Bool
+is_exit_checked claims fs (Goto c) = give fs (claims c)
+is_exit_checked claims fs (Split p c d) = give (on_side fs true p) (claims c) && give (on_side fs false p) (claims d)
+is_exit_checked claims fs (Call g arguments result next) = list_all has_number arguments && give (without_result result fs) (claims next)
+is_exit_checked claims fs (Return x) = has_number x
+is_exit_checked claims fs (Ends k) = true
+
+abbrev pub is_block_checked : (ℕ → List Fact) → ℕ → Block → Bool
+is_block_checked claims b block = list_all has_numbers block.ops && is_exit_checked claims (after_all (claims b) block.ops) block.exit
+
+-- the check of a program: what is claimed in each function at the start of each block
+
+pub record Checked (flow : Flow) (claims : ℕ → ℕ → List Fact) : Type 0 where
+  pub entries : (f : ℕ) → claims f 0 ≡ []
+  pub blocks : (f b : ℕ) (g : Graph) (block : Block) → slice_get flow.functions f ≡ Some g → slice_get g.blocks b ≡ Some block → is_block_checked (claims f) b block ≡ true
+  pub globals : list_all (λ (g : Global). is_number g.first) flow.globals ≡ true
+
+-- so many blocks lead from one active function to another
+abbrev pub Leads : Flow → ℕ → Active → Active → Type 0
+Leads flow zero r q = r ≡ q
+Leads flow (suc n) r q = (m : Active) × (next (program_of flow) r ≡ On m) × Leads flow n m q
+
+-- on every input of numbers, wherever a block is entered, the values are as claimed there
+abbrev pub FactsHold : Type 0
+FactsHold = (flow : Flow) (claims : ℕ → ℕ → List Fact) → Checked flow claims → (input : List ℤ) → ((n : ℤ) → IsIn n input → IsNumber n) →
+    (n : ℕ) (r : Active) → Leads flow n (start flow input) r → AllHold r.state.values (claims r.function r.block)
+
+abbrev pub side_of : Bool → ℕ → ℕ → ℕ
+side_of true c d = c
+side_of false c d = d
+
+abbrev pub GoesTo : ℕ → ℕ → Hop → Type 0
+GoesTo b c h = (h ≡ Wrong) ⊎ ((s : State) × (h ≡ Arrives b c s))
+
+-- where the facts behind the operations of a block decide the test of its split, it is left by that side
+abbrev pub DecidedGoes : Type 0
+DecidedGoes = (flow : Flow) (claims : ℕ → ℕ → List Fact) → Checked flow claims → (input : List ℤ) → ((n : ℤ) → IsIn n input → IsNumber n) →
+    (n : ℕ) (r : Active) → Leads flow n (start flow input) r →
+    (g : Graph) (block : Block) (p c d : ℕ) (answer : Bool) → slice_get flow.functions r.function ≡ Some g → slice_get g.blocks r.block ≡ Some block →
+    block.exit ≡ Split p c d → decided (after_all (claims r.function r.block) block.ops) p ≡ Some answer →
+    GoesTo r.block (side_of answer c d) (hop (program_of flow) r)

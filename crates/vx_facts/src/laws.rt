@@ -1,0 +1,25 @@
+// Laws of checked facts, each the clause of a function that does nothing.
+
+ghost use Rattle.vx_facts.specs.Checking.{DecidedGoes, FactsHold};
+ghost use Rattle.vx_facts.specs.Rewriting.{NarrowedRuns};
+ghost use Rattle.vx_facts.specs.Staying.{StaysFlow};
+
+/// Checked facts hold on every run: wherever a block is entered, the values satisfy what is claimed at its start.
+pub fn checked_facts_hold()
+    ensures { FactsHold }
+{}
+
+/// Where the facts at a split decide its test, the run goes that way or has no meaning.
+pub fn decided_splits_go_one_way()
+    ensures { DecidedGoes }
+{}
+
+/// With each decided split one way a program comes to the same, at every bound.
+pub fn narrowed_runs_stay()
+    ensures { NarrowedRuns }
+{}
+
+/// A flow of a program stays one.
+pub fn flow_stays()
+    ensures { StaysFlow }
+{}
