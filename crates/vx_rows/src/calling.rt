@@ -1,0 +1,88 @@
+// One call of the compiler over files and outputs in memory.
+
+use crate::files::{Stored, depot_of, words_of};
+use crate::halt::Halt;
+use crate::rows::Step;
+use crate::sheet::{Boxes, Faulty, Statement, Stream};
+use std::alloc::{AllocError, Global};
+use vx_base::depot::{Depot, MemDepot};
+use vx_base::sink::{MemSink, Sink};
+use vx_driver::top::vexc;
+use vx_probe::{Early, Late, Probe, Timing, WordCount};
+
+/// What a call left.
+#[derive(Drop, Debug)]
+pub struct Outcome {
+    /// Its status.
+    pub status: u8,
+    /// The files.
+    pub depot: MemDepot,
+    /// The output.
+    pub out: MemSink,
+    /// The errors.
+    pub err: MemSink,
+}
+
+/// The timings among the boxes.
+fn timings_of(alloc: Global, boxes: Boxes) -> Result<Vec<Box<dyn Timing>>, AllocError> {
+    let mut timings = Vec::new(alloc);
+    if boxes.late {
+        let late: Box<dyn Timing> = Box::new(alloc, Late::make())?;
+        timings.push(late)?;
+    }
+    if boxes.early {
+        let early: Box<dyn Timing> = Box::new(alloc, Early::make())?;
+        timings.push(early)?;
+    }
+    Ok(timings)
+}
+
+/// The probes among the boxes.
+fn probes_of(alloc: Global, boxes: Boxes) -> Result<Vec<Box<dyn Probe>>, AllocError> {
+    let mut probes = Vec::new(alloc);
+    if boxes.words {
+        let count: Box<dyn Probe> = Box::new(alloc, WordCount::make())?;
+        probes.push(count)?;
+    }
+    Ok(probes)
+}
+
+/// Calls the compiler, over files and outputs of any kind.
+fn call<D: Depot, K: Sink, E: Sink>(
+    alloc: Global,
+    words: &[String],
+    boxes: Boxes,
+    depot: &mut D,
+    out: &mut K,
+    err: &mut E,
+) -> Result<u8, AllocError> {
+    let probes = probes_of(alloc, boxes)?;
+    let timings = timings_of(alloc, boxes)?;
+    Ok(vexc(alloc, words, depot, out, err, probes, timings).number())
+}
+
+/// An empty output, as a step wants it.
+fn sink_of(alloc: Global, step: &Step<'_>, stream: Stream) -> Result<MemSink, Halt> {
+    let failing = Vec::from_slice(alloc, step.failing(Faulty::Sink(stream)))?;
+    Ok(MemSink::make(alloc, step.room(stream), failing)?)
+}
+
+/// Makes a call of a step that finds these files.
+pub fn outcome_of(
+    alloc: Global,
+    step: &Step<'_>,
+    statement: &Statement,
+    files: &[Stored],
+) -> Result<Outcome, Halt> {
+    let mut depot = depot_of(alloc, files, step.failing(Faulty::Depot))?;
+    let mut out = sink_of(alloc, step, Stream::Out)?;
+    let mut err = sink_of(alloc, step, Stream::Err)?;
+    let words = words_of(statement);
+    let status = call(alloc, words, step.boxes(), &mut depot, &mut out, &mut err)?;
+    Ok(Outcome {
+        status,
+        depot,
+        out,
+        err,
+    })
+}

@@ -1,0 +1,170 @@
+// A file of rows as the list of its statements, and what a statement speaks of.
+
+/// One of the two outputs of a call.
+#[derive(Clone, Copy, PartialEq, Eq, Debug)]
+pub enum Stream {
+    /// The output.
+    Out,
+    /// The errors.
+    Err,
+}
+
+/// What may be told to fail.
+#[derive(Clone, Copy, PartialEq, Eq, Debug)]
+pub enum Faulty {
+    /// The calls of the depot.
+    Depot,
+    /// The puts of an output.
+    Sink(Stream),
+}
+
+/// The boxes that are handed in.
+#[derive(Clone, Copy, PartialEq, Eq, Debug)]
+pub struct Boxes {
+    /// The timing `late`.
+    pub late: bool,
+    /// The timing `early`.
+    pub early: bool,
+    /// The probe `words`.
+    pub words: bool,
+}
+
+/// What a line that is no content says.
+#[derive(Drop, Debug)]
+pub enum What {
+    /// A row of this name begins.
+    Row(String),
+    /// A call with these words, the program's name first.
+    Call(Vec<String>),
+    /// A file of this name before the call.
+    File(String),
+    /// The boxes that are handed in.
+    Hands(Boxes),
+    /// The calls, from 1, that fail.
+    Fails(Faulty, Vec<u64>),
+    /// How many bytes an output takes.
+    Room(Stream, usize),
+    /// The status that the call ends with.
+    Ends(u8),
+    /// What stands on an output behind the call.
+    Puts(Stream),
+    /// What stands under this name behind the call.
+    After(String),
+    /// No file of this name is there behind the call.
+    Missing(String),
+    /// A file of this name is there behind the call.
+    There(String),
+}
+
+/// A line's worth of content.
+#[derive(Drop, Debug)]
+pub struct Piece {
+    /// Its bytes.
+    pub bytes: Vec<u8>,
+    /// Whether anything may stand behind them, up to the end of the line.
+    pub is_open: bool,
+}
+
+/// A line that is no content, with the content behind it.
+#[derive(Drop, Debug)]
+pub struct Statement {
+    /// The number of the line, from 1.
+    pub line: usize,
+    /// What it says.
+    pub what: What,
+    /// Its content.
+    pub content: Vec<Piece>,
+}
+
+/// What a statement speaks of. Of two statements on the same thing one holds.
+#[derive(Clone, Copy, PartialEq, Eq, Debug)]
+pub enum Topic<'a> {
+    /// A row, a call or a file before the call: each is for itself.
+    Own,
+    /// The boxes.
+    Boxes,
+    /// What fails.
+    Fails(Faulty),
+    /// The room of an output.
+    Room(Stream),
+    /// The status.
+    Status,
+    /// What stands on an output.
+    Puts(Stream),
+    /// What is there under a name behind the call.
+    Named(&'a str),
+}
+
+impl What {
+    /// What it speaks of.
+    pub fn topic(&self) -> Topic<'_> {
+        match self {
+            What::Row(_) | What::Call(_) | What::File(_) => Topic::Own,
+            What::Hands(_) => Topic::Boxes,
+            What::Fails(faulty, _) => Topic::Fails(*faulty),
+            What::Room(stream, _) => Topic::Room(*stream),
+            What::Ends(_) => Topic::Status,
+            What::Puts(stream) => Topic::Puts(*stream),
+            What::After(name) | What::Missing(name) | What::There(name) => {
+                Topic::Named(name.as_str())
+            }
+        }
+    }
+
+    /// Whether content may stand behind it.
+    pub fn has_content(&self) -> bool {
+        matches!(self, What::File(_) | What::Puts(_) | What::After(_))
+    }
+
+    /// Whether it is a row's beginning.
+    pub fn is_row(&self) -> bool {
+        matches!(self, What::Row(_))
+    }
+
+    /// Whether it is a call.
+    pub fn is_call(&self) -> bool {
+        matches!(self, What::Call(_))
+    }
+
+    /// Whether it is a file before the call.
+    pub fn is_file(&self) -> bool {
+        matches!(self, What::File(_))
+    }
+}
+
+/// The first statement on a topic.
+pub fn first_on<'a>(statements: &'a [Statement], topic: Topic<'_>) -> Option<&'a Statement> {
+    for statement in statements {
+        if statement.what.topic() == topic {
+            return Some(statement);
+        }
+    }
+    None
+}
+
+/// The statements before the first row, or before the next one.
+pub fn before_row(statements: &[Statement]) -> (&[Statement], &[Statement]) {
+    let count = statements
+        .iter()
+        .take_while(|statement| !statement.what.is_row())
+        .count();
+    statements.split_at(count)
+}
+
+/// The statements before the first call, and those from it on.
+pub fn before_call(statements: &[Statement]) -> (&[Statement], &[Statement]) {
+    let count = statements
+        .iter()
+        .take_while(|statement| !statement.what.is_call())
+        .count();
+    statements.split_at(count)
+}
+
+/// The calls at the front, and what stands behind them.
+pub fn calls_at_front(statements: &[Statement]) -> (&[Statement], &[Statement]) {
+    let count = statements
+        .iter()
+        .take_while(|statement| statement.what.is_call())
+        .count();
+    statements.split_at(count)
+}
