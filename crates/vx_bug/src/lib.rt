@@ -17,4 +17,3 @@ mod served;
 mod turns;
 
 pub use assigning::assign;
-

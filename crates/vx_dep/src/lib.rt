@@ -12,4 +12,3 @@ mod sights;
 mod tables;
 
 pub use deps::{Deps, pairs};
-

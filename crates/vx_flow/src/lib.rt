@@ -17,4 +17,3 @@ mod walk;
 pub use header_blocks::headers;
 pub use liveness::{live, live_on};
 pub use walk::back_edges;
-

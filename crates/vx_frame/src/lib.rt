@@ -16,4 +16,3 @@ mod slotting;
 mod word_plan;
 
 pub use finishing::{Finished, TracePlaces, finish};
-

@@ -4,4 +4,3 @@
 mod joins;
 
 pub use joins::at_joins;
-

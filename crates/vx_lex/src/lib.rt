@@ -12,4 +12,3 @@ pub mod scanner;
 pub mod word;
 
 pub use scanner::tokens;
-

@@ -14,4 +14,3 @@ pub use description::{MachineFault, description_law, field_name, from_toml};
 pub use fitting::fits;
 pub use machine_model::Machine;
 pub use room::{fits_by_room_law, has_room, home_of, room_alone_law, room_law, room_shrinks_law};
-

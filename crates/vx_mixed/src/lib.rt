@@ -23,4 +23,3 @@ mod touching;
 mod tracing;
 
 pub use function::Mixed;
-

@@ -12,4 +12,3 @@ mod spans;
 pub mod touching;
 
 pub use allocating::registers;
-

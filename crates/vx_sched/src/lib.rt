@@ -8,4 +8,3 @@ mod ready;
 mod rows;
 
 pub use placing::schedule;
-

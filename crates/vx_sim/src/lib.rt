@@ -17,4 +17,3 @@ mod stuck;
 
 pub use ended::Ended;
 pub use sim::Sim;
-

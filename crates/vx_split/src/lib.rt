@@ -4,4 +4,3 @@
 mod splits;
 
 pub use splits::at_splits;
-
