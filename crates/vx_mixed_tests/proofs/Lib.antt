@@ -1,2 +1,1 @@
-pub mod OnOne
 pub mod Insides

@@ -11,12 +11,8 @@ mod inside;
 #[cfg(test)]
 mod layouts;
 #[cfg(test)]
-mod plans;
-#[cfg(test)]
 mod registers;
 #[cfg(test)]
 mod replacing;
-#[cfg(test)]
-mod steps;
 #[cfg(test)]
 mod traces;
