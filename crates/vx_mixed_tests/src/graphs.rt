@@ -15,10 +15,12 @@ use vx_base::outcome::NoMemory;
 use vx_flow::graph::{Bank, Block, Exit, Graph, Op, Operand};
 use vx_mixed::Mixed;
 
-pub(crate) fn listed<T: Copy + Drop>(alloc: Global, items: &[T]) -> Result<Listed<T>, NoMemory>
+pub(crate) fn listed<T: Copy>(alloc: Global, items: &[T]) -> Result<Listed<T>, NoMemory>
     ensures { IfOk result (λ list. list ≡ items.now) }
 {
-    Ok(Listed::from_vec(items.to_vec(alloc)?)?)
+    let mut copy = Vec::new(alloc);
+    copy.extend_from_slice(items)?;
+    Ok(Listed::from_vec(copy)?)
 }
 
 fn block(alloc: Global, ops: &[Op], exit: Exit) -> Result<Block, NoMemory>

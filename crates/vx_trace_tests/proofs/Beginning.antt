@@ -45,14 +45,15 @@ few n h = omega arith
 from_tests : (graph : Graph) → may_begin graph (edges_from 0 graph.blocks) ≡ true → CanBegin graph
 from_tests graph all =
     let es : List Edge = edges_from 0 graph.blocks in
-    let p = and_parts (nat_lt (length graph.banks) 858993459) (part_ways graph.blocks && enters_none es && are_alone es) all in
-    let q = and_parts (part_ways graph.blocks) (enters_none es && are_alone es) p.1 in
-    let r = and_parts (enters_none es) (are_alone es) q.1 in
+    let values = nat_lt (length graph.banks) 858993459 in
+    let p = and_parts ((values && part_ways graph.blocks) && enters_none es) (are_alone es) all in
+    let q = and_parts (values && part_ways graph.blocks) (enters_none es) p.0 in
+    let r = and_parts values (part_ways graph.blocks) q.0 in
     record {
-      copies = few (length graph.banks) (ltb-true (length graph.banks) 858993459 p.0);
-      parts = λ b block h. part graph.blocks b block q.0 h;
-      entry = λ e h. differ e.to 0 (all_in (λ (x : Edge). not (x.to == 0)) es e r.0 (listed graph e h));
-      uncritical = no_critical (IsGraphEdge graph) es (listed graph) r.1;
+      copies = few (length graph.banks) (ltb-true (length graph.banks) 858993459 r.0);
+      parts = λ b block h. part graph.blocks b block r.1 h;
+      entry = λ e h. differ e.to 0 (all_in (λ (x : Edge). not (x.to == 0)) es e q.1 (listed graph e h));
+      uncritical = no_critical (IsGraphEdge graph) es (listed graph) p.1;
     }
 
 pub begins : (graph : Graph) → can_begin graph ≡ true → CanBegin graph

@@ -134,12 +134,12 @@ fn may_begin(graph: &Graph, edges: &[Edge]) -> bool
 pub(crate) fn can_begin(alloc: Global, graph: &Graph) -> Result<bool, NoMemory>
     ensures { IfOk result (λ can. can ≡ can_begin graph.now) }
 {
+    let _few = graph.blocks.len();
     let edges = block_edges(alloc, graph.blocks.as_slice())?;
     Ok(may_begin(graph, edges.as_slice()))
 }
 
 /// What the graph begins as.
-#[tactic(auto, using(crate::proofs::Beginning::begins))]
 pub(crate) fn begun(alloc: Global, graph: &Graph) -> Result<Mixed, NoMemory>
     requires sound { is_sound graph.now ≡ true }
     requires begins { can_begin graph.now ≡ true }
