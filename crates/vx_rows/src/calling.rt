@@ -23,8 +23,15 @@ pub struct Outcome {
     pub err: MemSink,
 }
 
-/// The timings among the boxes.
-fn timings_of(alloc: Global, boxes: Boxes) -> Result<Vec<Box<dyn Timing>>, AllocError> {
+/// Calls the compiler with these boxes, over files and outputs of any kind.
+fn call<D: Depot, K: Sink, E: Sink>(
+    alloc: Global,
+    words: &[String],
+    boxes: Boxes,
+    depot: &mut D,
+    out: &mut K,
+    err: &mut E,
+) -> Result<u8, AllocError> {
     let mut timings = Vec::new(alloc);
     if boxes.late {
         let late: Box<dyn Timing> = Box::new(alloc, Late::make())?;
@@ -34,30 +41,11 @@ fn timings_of(alloc: Global, boxes: Boxes) -> Result<Vec<Box<dyn Timing>>, Alloc
         let early: Box<dyn Timing> = Box::new(alloc, Early::make())?;
         timings.push(early)?;
     }
-    Ok(timings)
-}
-
-/// The probes among the boxes.
-fn probes_of(alloc: Global, boxes: Boxes) -> Result<Vec<Box<dyn Probe>>, AllocError> {
     let mut probes = Vec::new(alloc);
     if boxes.words {
         let count: Box<dyn Probe> = Box::new(alloc, WordCount::make())?;
         probes.push(count)?;
     }
-    Ok(probes)
-}
-
-/// Calls the compiler, over files and outputs of any kind.
-fn call<D: Depot, K: Sink, E: Sink>(
-    alloc: Global,
-    words: &[String],
-    boxes: Boxes,
-    depot: &mut D,
-    out: &mut K,
-    err: &mut E,
-) -> Result<u8, AllocError> {
-    let probes = probes_of(alloc, boxes)?;
-    let timings = timings_of(alloc, boxes)?;
     Ok(vexc(alloc, words, depot, out, err, probes, timings).number())
 }
 
