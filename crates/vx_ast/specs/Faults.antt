@@ -55,7 +55,7 @@ called whole n x (Some Reads) = fault_if (not (nat_eq n 0)) 8 x.place
 called whole n x (Some AsksMore) = fault_if (not (nat_eq n 0)) 8 x.place
 called whole n x (Some Prints) = fault_if true 7 x.place
 
--- the target of an assignment, whose first token stands at the place: no scalar, and undeclared besides
+-- the target of an assignment, whose first token stands at the place: no scalar, and undeclared or `printf` besides
 abbrev pub changed : Place → Name → Option Named → List Fault
 changed place x None = fault_if true 5 x.place ++ fault_if true 12 place
 changed place x (Some (AScalar n)) = []
@@ -64,7 +64,7 @@ changed place x (Some (AnArray a)) = fault_if true 12 place
 changed place x (Some (AFunctionNamed f gives count)) = fault_if true 12 place
 changed place x (Some Reads) = fault_if true 12 place
 changed place x (Some AsksMore) = fault_if true 12 place
-changed place x (Some Prints) = fault_if true 12 place
+changed place x (Some Prints) = fault_if true 7 x.place ++ fault_if true 12 place
 
 -- expressions
 

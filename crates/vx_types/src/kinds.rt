@@ -142,13 +142,13 @@ fn note_called(
     }
 }
 
-// An undeclared name as a target.
+// A target that is no scalar, whose name has a fault of its own besides.
 #[tactic(auto, using(crate::proofs::Leasts::least_append))]
-fn note_unknown(first: Option<Fault>, place: Place, name: &Name) -> Option<Fault>
-    ensures { result ≡ least first (fault_if true 5 name.now.place ++ fault_if true 12 place) }
+fn note_both(first: Option<Fault>, code: u32, place: Place, name: &Name) -> Option<Fault>
+    ensures { result ≡ least first (fault_if true code name.now.place ++ fault_if true 12 place) }
 {
-    let unknown = note(first, true, 5, name.place);
-    note(unknown, true, 12, place)
+    let kind = note(first, true, code, name.place);
+    note(kind, true, 12, place)
 }
 
 // The faults of a name as a target whose first token stands at the place.
@@ -161,7 +161,7 @@ fn note_changed(
     ensures { result ≡ least first (changed place name.now named) }
 {
     match named {
-        None => note_unknown(first, place, name),
+        None => note_both(first, 5, place, name),
         Some(named) => match named {
             Named::Scalar(_) => first,
             Named::Global(_) => first,
@@ -169,7 +169,7 @@ fn note_changed(
             Named::Function(_, _, _) => note(first, true, 12, place),
             Named::ReadInt => note(first, true, 12, place),
             Named::MoreInput => note(first, true, 12, place),
-            Named::Print => note(first, true, 12, place),
+            Named::Print => note_both(first, 7, place, name),
         },
     }
 }
