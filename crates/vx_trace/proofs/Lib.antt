@@ -4,3 +4,4 @@ pub mod Readings
 pub mod Tables
 pub mod Grows
 pub mod Seeds
+pub mod Lone

@@ -1,8 +1,12 @@
 -- How a trace grows: the tables of heaviest edges, and what is known of the blocks so far.
-use Rattle.std.specs.Prelude.{◌≡◌, ◌==◌, ◌<◌, ◌≤◌, ◌⊎◌, ◌↔◌, ◌&&◌, ◌||◌, ℕ, Bool, nat_lt, if◌then◌else◌, Option, Some, None, List, [], ◌∷◌, ◌++◌, slice_get}
+use Rattle.std.specs.Prelude.{◌≡◌, ◌==◌, ◌<◌, ◌≤◌, ◌⊎◌, ◌↔◌, ◌&&◌, ◌||◌, ℕ, Bool, true, false, nat_lt, if◌then◌else◌, Option, Some, None, List, [], ◌∷◌, ◌++◌, slice_get}
 use Rattle.vx_flow.specs.declared.graph.Edge.{Edge}
 use Rattle.vx_flow.specs.Effects.{IsIn}
+use Rattle.vx_flow.specs.Walk.{edge}
 use Rattle.vx_mixed.specs.declared.mixed.MixedGraph.{MixedGraph}
+use Rattle.vx_mixed.specs.declared.region.Node.{Node}
+use Rattle.vx_mixed.specs.declared.region.Node.TheVariants.{Unused}
+use Rattle.vx_mixed.specs.Edges.{IsEdge}
 use Rattle.vx_mixed.specs.Settled.{NoTwice}
 use Rattle.vx_mixed.specs.TraceOf.{EndsWithCall, block_at, inner_edges}
 use Rattle.vx_profile.specs.declared.counts.Counts.{Counts}
@@ -79,3 +83,18 @@ pub record GrownBackward (m : MixedGraph) (Q : Edge → Type 0) (from t : List �
   pub way : Way (IsUnused m) Q t
   pub small : (before ≡ []) ⊎ (size_of m t ≤ 512)
   pub begins : (b : ℕ) → Way (IsUnused m) Q (b ∷ t) → 512 < size_of m (b ∷ t)
+
+-- a seed that cannot grow
+
+-- the block is in no region
+abbrev pub is_left : Option Node → Bool
+is_left (Some (Unused block)) = true
+is_left other = false
+
+-- the edge goes from block b to an unused one or from one to b
+abbrev pub leads_on : MixedGraph → ℕ → Edge → Bool
+leads_on m b e = ((e.from == b) && is_left (slice_get m.nodes e.to)) || ((e.to == b) && is_left (slice_get m.nodes e.from))
+
+-- no edge leads from block b to an unused block or from one to b
+abbrev pub StandsAlone : MixedGraph → ℕ → Type 0
+StandsAlone m b = (c : ℕ) → IsUnused m c → (IsEdge m (edge b c) → ⊥) × (IsEdge m (edge c b) → ⊥)

@@ -87,7 +87,7 @@ pub(crate) fn backward(
 }
 
 /// A block alone.
-fn alone(alloc: Global, block: BlockId) -> Result<Vec<BlockId>, NoMemory>
+pub(crate) fn alone(alloc: Global, block: BlockId) -> Result<Vec<BlockId>, NoMemory>
     ensures { IfOk result (λ blocks. blocks.items ≡ block ∷ []) }
 {
     let mut blocks = Vec::new(alloc);

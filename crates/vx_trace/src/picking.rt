@@ -1,21 +1,23 @@
 // The trace that is picked. The clause of `pick` carries the promise; specs/Picked.antt says which trace it is.
 
-ghost use Rattle.std.specs.Prelude.{◌≡◌, Some, IfOk};
-ghost use Rattle.vx_trace.specs.Growing.{IsSeed};
+ghost use Rattle.std.specs.Prelude.{◌≡◌, ◌∷◌, [], false, Some, IfOk};
+ghost use Rattle.std.specs.List.{list_any};
+ghost use Rattle.vx_trace.specs.Growing.{IsSeed, leads_on, StandsAlone};
 ghost use Rattle.vx_trace.specs.Picked.{Picked, Picks, count_of_block, greatest_count};
 
 use crate::counting::count_of_block;
-use crate::growing::{backward, forward};
+use crate::growing::{alone, backward, forward};
 use crate::heaviest::{heaviest_edges, seed};
+use crate::reading::leads_on;
 use std::alloc::Global;
 use vx_base::listed::Listed;
 use vx_base::outcome::NoMemory;
-use vx_flow::graph::BlockId;
+use vx_flow::graph::{BlockId, Edge};
 use vx_mixed::Mixed;
 use vx_profile::counts::Counts;
 
 /// The blocks of the trace that is picked in a graph by these counts, in its order; `None` where no block is unused. It looks
-/// at each block and each edge once, and then at what the trace may grow by.
+/// at each block and at the ends of each edge, and where the seed can grow once at the count of each edge.
 pub fn pick(
     alloc: Global,
     mixed: &Mixed,
@@ -34,6 +36,45 @@ pub fn pick(
 
 /// The trace of this seed.
 fn picked_from(
+    alloc: Global,
+    mixed: &Mixed,
+    counts: &Counts,
+    seed: BlockId,
+) -> Result<Listed<BlockId>, NoMemory>
+    requires { IsSeed mixed.now counts.now (Some seed) }
+    ensures { IfOk result (λ blocks. Picked mixed.now counts.now blocks) }
+{
+    if may_grow(mixed, seed) {
+        grown_from(alloc, mixed, counts, seed)
+    } else {
+        lone(alloc, seed)
+    }
+}
+
+/// Whether an edge goes from the seed to an unused block or from one to the seed.
+fn may_grow(mixed: &Mixed, seed: BlockId) -> bool
+    ensures { result ≡ false → StandsAlone mixed.now seed }
+{
+    any_leads_on(mixed, seed, mixed.edges())
+}
+
+fn any_leads_on(mixed: &Mixed, seed: BlockId, edges: &[Edge]) -> bool
+    ensures { result ≡ list_any (leads_on mixed.now seed) edges.now }
+{
+    edges.iter().any(|edge| leads_on(mixed, seed, *edge))
+}
+
+/// The seed alone.
+fn lone(alloc: Global, seed: BlockId) -> Result<Listed<BlockId>, NoMemory>
+    ensures { IfOk result (λ blocks. blocks ≡ seed ∷ []) }
+{
+    let blocks = alone(alloc, seed)?;
+    let list = Listed::from_vec(blocks)?;
+    Ok(list)
+}
+
+/// The seed with the blocks behind it and those before it.
+fn grown_from(
     alloc: Global,
     mixed: &Mixed,
     counts: &Counts,

@@ -1,11 +1,12 @@
-use Rattle.std.proofs.Common.{sym, subst}
+use Rattle.std.proofs.Common.{◌≡◌, ◌∷◌, [], sym, subst}
+use Rattle.std.proofs.lemmas.Result.{IfOk-weaker}
 use Rattle.vx_trace.specs.Picked.{Picked}
-use Rattle.vx_trace.proofs.Grows.{picked}
+use Rattle.vx_trace.proofs.Lone.{lone_picked}
 use Rattle.vx_trace.proofs.picking.picked_from.Goals as goal
 
-pub returns : goal.returns
-returns c =
-    let heaviest = c.in_ok-heaviest.heaviest in
-    subst (Picked c.args.mixed.now c.args.counts.now) (sym c.in_ok-list.ensures)
-    (picked c.args.mixed.now c.args.counts.now c.args.seed heaviest.out.items heaviest.into.items c.in_ok-grown.grown.blocks.items c.in_ok-blocks.blocks.items
-    c.requires c.in_ok-heaviest.ensures c.in_ok-grown.ensures.grown c.in_ok-blocks.ensures)
+pub returns-else-may_grow : goal.returns-else-may_grow
+returns-else-may_grow c =
+    IfOk-weaker c.lone.result _ _
+    (λ blocks is. subst (Picked c.args.mixed.now c.args.counts.now) (sym is)
+    (lone_picked c.args.mixed.now c.args.counts.now c.args.seed c.requires (c.may_grow.ensures c.if-may_grow.false)))
+    c.lone.ensures
