@@ -24,7 +24,8 @@ pub(crate) fn homes_with(
     requires { AllUnused mixed.now blocks.now }
     ensures { IfOk result (λ given. GivesHomes mixed.now.homes.clusters (values_in mixed.now blocks.now) given.clusters) }
 {
-    let mut clusters = mixed.homes().clusters.as_slice().to_vec(alloc)?;
+    let mut clusters = Vec::new(alloc);
+    clusters.extend_from_slice(mixed.homes().clusters.as_slice())?;
     give_blocks(&mut clusters, mixed, blocks)?;
     let clusters = Listed::from_vec(clusters)?;
     Ok(Homes { clusters })
