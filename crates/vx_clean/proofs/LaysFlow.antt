@@ -22,7 +22,7 @@ laid_length : (to : ℕ → ℕ → ℕ) (chains : ℕ → List (List ℕ)) (n :
 laid_length to chains n [] = refl
 laid_length to chains n (g ∷ gs) = ap suc (laid_length to chains (suc n) gs)
 
-shape_kept : (p : Program) (function : Function) (to : ℕ → ℕ) (chains : List (List ℕ)) (g : Graph) → GraphOf p function g → Shaped (laid to chains g) → GraphOf p function (laid to chains g)
+pub shape_kept : (p : Program) (function : Function) (to : ℕ → ℕ) (chains : List (List ℕ)) (g : Graph) → GraphOf p function g → Shaped (laid to chains g) → GraphOf p function (laid to chains g)
 shape_kept p function to chains g o s = record {
   parameters = o.parameters;
   arrays = o.arrays;

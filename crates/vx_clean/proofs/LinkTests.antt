@@ -21,7 +21,7 @@ either_true false b e = inr e
 never : {A : Type 0} → false ≡ true → A
 never e = let d : false ≡ true = e in absurd (cc)
 
-none_left : (ops : List Op) → is_none_left ops ≡ true → ops ≡ []
+pub none_left : (ops : List Op) → is_none_left ops ≡ true → ops ≡ []
 none_left [] e = refl
 none_left (op ∷ ops) e = never e
 
@@ -34,7 +34,7 @@ module _ (to : ℕ → ℕ) (blocks : List Block) (chains : List (List ℕ)) whe
       by (inl h) rec = inl (eqb-true b c h)
       by (inr h) rec = let x = both_true (is_none_left (ops_at (slice_get blocks b))) (is_near blocks c bs) h in inr (none_left (ops_at (slice_get blocks b)) x.0, rec x.1)
 
-  begun_if : (c : ℕ) (o : Option (List ℕ)) → slice_get chains (to c) ≡ o → is_near_in blocks c o ≡ true → Begun to blocks chains c
+  pub begun_if : (c : ℕ) (o : Option (List ℕ)) → slice_get chains (to c) ≡ o → is_near_in blocks c o ≡ true → Begun to blocks chains c
   begun_if c None q e = never e
   begun_if c (Some chain) q e = (chain, q, near_if c chain e)
 
@@ -51,7 +51,7 @@ module _ (to : ℕ → ℕ) (blocks : List Block) (chains : List (List ℕ)) whe
   exit_if (Return x) (b ∷ bs) e = never e
   exit_if (Ends k) (b ∷ bs) e = never e
 
-  linked_if : (chain : List ℕ) → is_linked to blocks chains chain ≡ true → Linked to blocks chains chain
+  pub linked_if : (chain : List ℕ) → is_linked to blocks chains chain ≡ true → Linked to blocks chains chain
   linked_if [] e = tt
   linked_if (b ∷ bs) e =
       let x = both_true (is_linked_at to blocks chains (slice_get blocks b) bs) (is_linked to blocks chains bs) e in

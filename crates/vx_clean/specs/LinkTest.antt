@@ -1,5 +1,6 @@
 -- Whether chains are linked, as a test of numbers of blocks and of which blocks are empty.
 use Rattle.std.specs.Prelude.{◌≡◌, ◌==◌, ℕ, Bool, true, false, ◌&&◌, ◌||◌, Option, Some, None, List, [], ◌∷◌, slice_get}
+use Rattle.std.specs.List.{list_all}
 use Rattle.vx_flow.specs.declared.graph.Op.{Op}
 use Rattle.vx_flow.specs.declared.graph.Exit.{Exit}
 use Rattle.vx_flow.specs.declared.graph.Exit.TheVariants.{Goto, Split, Call, Return, Ends}
@@ -38,6 +39,18 @@ is_linked_at to blocks chains (Some block) bs = is_exit_linked to blocks chains 
 abbrev pub is_linked : (ℕ → ℕ) → List Block → List (List ℕ) → List ℕ → Bool
 is_linked to blocks chains [] = true
 is_linked to blocks chains (b ∷ bs) = is_linked_at to blocks chains (slice_get blocks b) bs && is_linked to blocks chains bs
+
+abbrev pub number_or_zero : Option ℕ → ℕ
+number_or_zero None = 0
+number_or_zero (Some b) = b
+
+-- where each block is moved to, as a list
+abbrev pub moves : List ℕ → ℕ → ℕ
+moves to b = number_or_zero (slice_get to b)
+
+-- every chain is linked, and the first begins as the graph
+abbrev pub is_laid_out : List ℕ → List Block → List (List ℕ) → Bool
+is_laid_out to blocks chains = (moves to 0 == 0) && is_near_in blocks 0 (slice_get chains 0) && list_all (is_linked (moves to) blocks chains) chains
 
 abbrev pub LinkedWhereTested : Type 0
 LinkedWhereTested = (to : ℕ → ℕ) (blocks : List Block) (chains : List (List ℕ)) (chain : List ℕ) → is_linked to blocks chains chain ≡ true → Linked to blocks chains chain

@@ -4,6 +4,8 @@ ghost use Rattle.vx_clean.specs.Cleaning.{CleanedFlow, CleanedRuns};
 ghost use Rattle.vx_clean.specs.LaidFlows.{LaidFlow};
 ghost use Rattle.vx_clean.specs.Laying.{LaidCleaned};
 ghost use Rattle.vx_clean.specs.LinkTest.{LinkedWhereTested};
+ghost use Rattle.vx_clean.specs.ShapeTest.{ShapedWhereTested};
+ghost use Rattle.vx_clean.specs.Staying.{StaysByGraphs};
 
 /// With blocks skipped and merged a flow that never fails does the same, and never fails.
 pub fn cleaned_runs()
@@ -28,4 +30,14 @@ pub fn laid_flows_stay()
 /// Chains that pass the test are linked.
 pub fn linked_where_tested()
     ensures { LinkedWhereTested }
+{}
+
+/// A graph that passes the test has its shape.
+pub fn shaped_where_tested()
+    ensures { ShapedWhereTested }
+{}
+
+/// A flow of a program stays one where each of its graphs is exchanged for one that is that graph cleaned.
+pub fn stays_by_graphs()
+    ensures { StaysByGraphs }
 {}

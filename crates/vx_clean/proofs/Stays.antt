@@ -1,0 +1,152 @@
+-- A flow of a program stays one where each of its graphs is exchanged for one that is that graph cleaned; a graph is itself
+-- cleaned, and so is one that passes the tests.
+use Rattle.std.proofs.Common.{◌≡◌, inl, inr, ℕ, zero, suc, true, List, [], ◌∷◌, ◌++◌, length, slice_get, Option, Some, None, refl, sym, ap, ◌∙◌, subst, append-nil}
+use Rattle.std.proofs.lemmas.Bool.{and_parts, eqb-true}
+use Rattle.vx_ast.specs.Tree.{Function, Program}
+use Rattle.vx_flow.specs.declared.graph.Exit.{Exit}
+use Rattle.vx_flow.specs.declared.graph.Exit.TheVariants.{Goto, Split, Call, Return, Ends}
+use Rattle.vx_flow.specs.declared.graph.Block.{Block}
+use Rattle.vx_flow.specs.declared.graph.Graph.{Graph}
+use Rattle.vx_flow.specs.declared.graph.Flow.{Flow}
+use Rattle.vx_flow.specs.Effects.{IsIn}
+use Rattle.vx_flow.specs.Sound.{is_sound_flow}
+use Rattle.vx_flow.proofs.SoundLists.{all_at}
+use Rattle.vx_lower.specs.FlowOf.{GraphOf, FlowOf}
+use Rattle.vx_clean.specs.Cleaning.{Place, Heads, ExitMeets, Stands, FunctionCleaned, Cleaned, with_graphs}
+use Rattle.vx_clean.specs.Laying.{laid, places_from}
+use Rattle.vx_clean.specs.LaidFlows.{Shaped, FunctionLaid}
+use Rattle.vx_clean.specs.LinkTest.{is_near_in, is_linked, moves, is_laid_out}
+use Rattle.vx_clean.specs.ShapeTest.{is_shaped}
+use Rattle.vx_clean.specs.Staying.{GraphStays, GraphsStay, FlowStays, StaysByGraphs}
+use Rattle.vx_clean.proofs.CleanFlow.{cleaned_flow}
+use Rattle.vx_clean.proofs.Lays.{laid_cleaned}
+use Rattle.vx_clean.proofs.LaysFlow.{shape_kept}
+use Rattle.vx_clean.proofs.LinkTests.{begun_if, linked_if}
+use Rattle.vx_clean.proofs.ShapeTests.{shaped_where_tested}
+
+-- ---- a graph as it is
+
+abbrev same_place : ℕ → List Place
+same_place b = record { block = b; before = 0; left = 0 } ∷ []
+
+same_heads : (b : ℕ) → Heads same_place b b
+same_heads b = (0, inl refl)
+
+same_exit : (exit : Exit) → ExitMeets same_place exit exit
+same_exit (Goto c) = (c, same_heads c, refl)
+same_exit (Split p c d) = inl (c, d, same_heads c, same_heads d, refl)
+same_exit (Call f arguments result c) = (c, same_heads c, refl)
+same_exit (Return x) = refl
+same_exit (Ends k) = refl
+
+same_stands : (g : Graph) (b : ℕ) (block : Block) (p : Place) → IsIn p (same_place b) → slice_get g.blocks b ≡ Some block → Stands same_place g block p
+same_stands g b block p (inl e) has = subst (Stands same_place g block) (sym e) (record {
+  into = block;
+  has = has;
+  rest = [];
+  ops = sym (append-nil block.ops);
+  on = inr (refl, same_exit block.exit);
+})
+same_stands g b block p (inr m) has = absurd m
+
+pub graph_itself : (g : Graph) → GraphStays g g
+graph_itself g = record {
+  at = same_place;
+  cleaned = record { parameters = refl; arrays = refl; entry = same_heads 0; blocks = λ b block p m has. same_stands g b block p m has };
+  shape = λ p function o. o;
+}
+
+pub graph_same : (g h : Graph) → h ≡ g → GraphStays g h
+graph_same g h e = subst (GraphStays g) (sym e) (graph_itself g)
+
+-- ---- a graph that passes the tests
+
+pub laid_stays_by : (to : ℕ → ℕ) (chains : List (List ℕ)) (g : Graph) → FunctionLaid to chains g → GraphStays g (laid to chains g)
+laid_stays_by to chains g l = record {
+  at = places_from g.blocks 0 chains;
+  cleaned = laid_cleaned to chains g l.first l.begun l.linked;
+  shape = λ p function o. shape_kept p function to chains g o l.shaped;
+}
+
+laid_out : (to : List ℕ) (chains : List (List ℕ)) (g : Graph) → is_laid_out to g.blocks chains ≡ true → Shaped (laid (moves to) chains g) → FunctionLaid (moves to) chains g
+laid_out to chains g h shaped =
+    let a = and_parts _ _ h in
+    let b = and_parts _ _ a.0 in
+    let first : moves to 0 ≡ 0 = eqb-true (moves to 0) 0 b.0 in
+    record {
+      first = first;
+      begun = begun_if (moves to) g.blocks chains 0 (slice_get chains (moves to 0)) refl (ap (λ n. is_near_in g.blocks 0 (slice_get chains n)) first ∙ b.1);
+      linked = λ i chain e. linked_if (moves to) g.blocks chains chain (all_at (is_linked (moves to) g.blocks chains) chains i chain a.1 e);
+      shaped = shaped;
+    }
+
+pub tested_stays : (to : List ℕ) (chains : List (List ℕ)) (g h : Graph) (origins : List ℕ) → h ≡ laid (moves to) chains g → is_laid_out to g.blocks chains ≡ true → is_shaped origins h.blocks ≡ true → GraphStays g h
+tested_stays to chains g h origins e t s =
+    let u : is_shaped origins (laid (moves to) chains g).blocks ≡ true = subst (λ (k : Graph). is_shaped origins k.blocks ≡ true) e s in
+    subst (GraphStays g) (sym e) (laid_stays_by (moves to) chains g (laid_out to chains g t (shaped_where_tested (laid (moves to) chains g) origins u)))
+
+-- ---- the graphs of a flow
+
+pub graphs_more : (gs hs : List Graph) (g h : Graph) → GraphsStay gs hs → GraphStays g h → GraphsStay (gs ++ g ∷ []) (hs ++ h ∷ [])
+graphs_more [] [] g h s t = (t, tt)
+graphs_more [] (y ∷ ys) g h s t = absurd s
+graphs_more (x ∷ xs) [] g h s t = absurd s
+graphs_more (x ∷ xs) (y ∷ ys) g h s t = (s.0, graphs_more xs ys g h s.1 t)
+
+abbrev StaysAt : Option Graph → Option Graph → Type 0
+StaysAt None None = Unit {0}
+StaysAt None (Some h) = ⊥
+StaysAt (Some g) None = ⊥
+StaysAt (Some g) (Some h) = GraphStays g h
+
+stays_at : (gs hs : List Graph) → GraphsStay gs hs → (f : ℕ) → StaysAt (slice_get gs f) (slice_get hs f)
+stays_at [] [] s f = tt
+stays_at [] (h ∷ hs) s f = absurd s
+stays_at (g ∷ gs) [] s f = absurd s
+stays_at (g ∷ gs) (h ∷ hs) s zero = s.0
+stays_at (g ∷ gs) (h ∷ hs) s (suc f) = stays_at gs hs s.1 f
+
+stays_length : (gs hs : List Graph) → GraphsStay gs hs → length hs ≡ length gs
+stays_length [] [] s = refl
+stays_length [] (h ∷ hs) s = absurd s
+stays_length (g ∷ gs) [] s = absurd s
+stays_length (g ∷ gs) (h ∷ hs) s = ap suc (stays_length gs hs s.1)
+
+abbrev places_by : (o q : Option Graph) → StaysAt o q → ℕ → List Place
+places_by None None s = λ b. []
+places_by None (Some h) s = λ b. []
+places_by (Some g) None s = λ b. []
+places_by (Some g) (Some h) s = s.at
+
+cleaned_by : (o q : Option Graph) (s : StaysAt o q) → FunctionCleaned (places_by o q s) o q
+cleaned_by None None s = tt
+cleaned_by None (Some h) s = absurd s
+cleaned_by (Some g) None s = absurd s
+cleaned_by (Some g) (Some h) s = s.cleaned
+
+shape_by : (p : Program) (function : Function) (o q : Option Graph) → StaysAt o q → ((g : Graph) → o ≡ Some g → GraphOf p function g) → (h : Graph) → q ≡ Some h → GraphOf p function h
+shape_by p function None None s k h e = absurd (cc)
+shape_by p function None (Some y) s k h e = absurd s
+shape_by p function (Some g) None s k h e = absurd s
+shape_by p function (Some g) (Some y) s k h e = let q : y ≡ h = cc in subst (GraphOf p function) q (s.shape p function (k g refl))
+
+pub stays_by_graphs : StaysByGraphs
+stays_by_graphs flow graphs s sound p o =
+    let at : (f : ℕ) → StaysAt (slice_get flow.functions f) (slice_get graphs f) = stays_at flow.functions graphs s in
+    let places : ℕ → ℕ → List Place = λ f. places_by (slice_get flow.functions f) (slice_get graphs f) (at f) in
+    let cleaned : Cleaned places flow graphs = λ f. cleaned_by (slice_get flow.functions f) (slice_get graphs f) (at f) in
+    cleaned_flow p flow graphs places cleaned o sound (stays_length flow.functions graphs s ∙ o.count)
+    (λ f function graph e q. shape_by p function (slice_get flow.functions f) (slice_get graphs f) (at f) (λ g r. o.graphs f function g e r) graph q)
+
+pub once_stays : (flow new : Flow) (graphs : List Graph) → GraphsStay flow.functions graphs → new ≡ with_graphs flow graphs → is_sound_flow new ≡ true → FlowStays flow new
+once_stays flow new graphs s e sound p o =
+    let t : is_sound_flow (with_graphs flow graphs) ≡ true = subst (λ f. is_sound_flow f ≡ true) e sound in
+    subst (FlowOf p) (sym e) (stays_by_graphs flow graphs s t p o)
+
+-- ---- flow after flow
+
+pub flow_itself : (flow : Flow) → FlowStays flow flow
+flow_itself flow p o = o
+
+pub flow_then : (first second third : Flow) → FlowStays first second → FlowStays second third → FlowStays first third
+flow_then first second third f g p o = g p (f p o)

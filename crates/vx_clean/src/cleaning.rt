@@ -1,0 +1,151 @@
+// The graphs of a program with fewer blocks. In each graph a layout is looked for, tested, and used where it passes; a graph that
+// does not pass, and a flow that would not be sound, stay as they are.
+
+ghost use Rattle.std.specs.Prelude.{◌≡◌, true, IfOk, IfSome};
+ghost use Rattle.vx_ast.specs.Tree.{Program};
+ghost use Rattle.vx_flow.specs.Sound.{is_sound_flow};
+ghost use Rattle.vx_lower.specs.FlowOf.{FlowOf};
+ghost use Rattle.vx_clean.specs.Cleaning.{with_graphs};
+ghost use Rattle.vx_clean.specs.LinkTest.{is_laid_out};
+ghost use Rattle.vx_clean.specs.Staying.{FlowStays, GraphStays, GraphsStay};
+
+use crate::copying::{copied_graph, copied_texts, copied_variables};
+use crate::laying::laid;
+use crate::layout::find_layout;
+use crate::link_test::is_laid_out;
+use crate::origins::origins;
+use crate::shape_test::is_shaped;
+use std::alloc::Global;
+use vx_base::listed::Listed;
+use vx_base::outcome::NoMemory;
+use vx_flow::graph::{BlockId, Flow, Graph};
+
+/// How often the graphs are cleaned at most.
+const MOST_ROUNDS: u32 = 8;
+
+/// The graphs of a program with fewer blocks. A block that no path from the entry reaches is gone. An empty block that ends by a
+/// jump is skipped, unless a split leads to it and other blocks than it lead on. A block with one entry, by a jump, is joined to
+/// the block before it, up to 512 operations. Blocks are numbered in the order of the old ones. This is done again until no
+/// block goes, eight times at most; the time of each is linear in the blocks and operations of a function.
+pub fn clean(alloc: Global, flow: Flow) -> Result<Flow, NoMemory>
+    requires { is_sound_flow flow ≡ true }
+    ensures sound { IfOk result (λ cleaned. is_sound_flow cleaned ≡ true) }
+    ensures flow { IfOk result (λ cleaned. (p : Program) → FlowOf p flow → FlowOf p cleaned) }
+{
+    let mut current = flow;
+    for _round in 0..MOST_ROUNDS {
+        match cleaned_once(alloc, &current)? {
+            Some(cleaned) => current = cleaned,
+            None => return Ok(current),
+        }
+    }
+    Ok(current)
+}
+
+/// The flow with fewer blocks, where there is such a one.
+fn cleaned_once(alloc: Global, flow: &Flow) -> Result<Option<Flow>, NoMemory>
+    ensures sound { IfOk result (λ found. IfSome found (λ cleaned. is_sound_flow cleaned ≡ true)) }
+    ensures flow { IfOk result (λ found. IfSome found (λ cleaned. FlowStays flow.now cleaned)) }
+{
+    let functions = cleaned_graphs(alloc, flow.functions.as_slice())?;
+    if blocks_of(functions.as_slice()) >= blocks_of(flow.functions.as_slice()) {
+        return Ok(None);
+    }
+    let cleaned = with_graphs(alloc, flow, functions)?;
+    if cleaned.sound() {
+        Ok(Some(cleaned))
+    } else {
+        Ok(None)
+    }
+}
+
+/// How many blocks graphs have.
+fn blocks_of(graphs: &[Graph]) -> usize {
+    let mut count: usize = 0;
+    for graph in graphs {
+        count = count.saturating_add(graph.blocks.len());
+    }
+    count
+}
+
+/// A copy of a flow with other graphs.
+fn with_graphs(alloc: Global, flow: &Flow, functions: Listed<Graph>) -> Result<Flow, NoMemory>
+    ensures { IfOk result (λ copy. copy ≡ with_graphs flow.now functions) }
+{
+    let globals = copied_variables(alloc, flow.globals.as_slice())?;
+    let texts = copied_texts(alloc, flow.texts.as_slice())?;
+    Ok(Flow {
+        functions,
+        globals,
+        texts,
+        main: flow.main,
+    })
+}
+
+fn cleaned_graphs(alloc: Global, graphs: &[Graph]) -> Result<Listed<Graph>, NoMemory>
+    ensures { IfOk result (λ cleaned. GraphsStay graphs.now cleaned) }
+{
+    let mut cleaned = Listed::new(alloc);
+    for graph in graphs {
+        cleaned.push(cleaned_graph(alloc, graph)?)?;
+    }
+    Ok(cleaned)
+}
+
+fn cleaned_graph(alloc: Global, graph: &Graph) -> Result<Graph, NoMemory>
+    ensures { IfOk result (λ cleaned. GraphStays graph.now cleaned) }
+{
+    match laid_out(alloc, graph)? {
+        Some(cleaned) => Ok(cleaned),
+        None => unchanged(alloc, graph),
+    }
+}
+
+fn unchanged(alloc: Global, graph: &Graph) -> Result<Graph, NoMemory>
+    ensures { IfOk result (λ copy. GraphStays graph.now copy) }
+{
+    let copy = copied_graph(alloc, graph)?;
+    Ok(copy)
+}
+
+fn laid_out(alloc: Global, graph: &Graph) -> Result<Option<Graph>, NoMemory>
+    ensures { IfOk result (λ found. IfSome found (λ cleaned. GraphStays graph.now cleaned)) }
+{
+    let layout = find_layout(alloc, graph.blocks.as_slice())?;
+    laid_where_fit(alloc, graph, layout.to.as_slice(), layout.chains.as_slice())
+}
+
+/// The graph whose blocks are the chains, where they are linked and it has its shape.
+fn laid_where_fit(
+    alloc: Global,
+    graph: &Graph,
+    to: &[BlockId],
+    chains: &[Listed<BlockId>],
+) -> Result<Option<Graph>, NoMemory>
+    ensures { IfOk result (λ found. IfSome found (λ cleaned. GraphStays graph.now cleaned)) }
+{
+    if is_laid_out(to, graph.blocks.as_slice(), chains) {
+        laid_where_shaped(alloc, graph, to, chains)
+    } else {
+        Ok(None)
+    }
+}
+
+/// The graph whose blocks are the chains, where it has its shape.
+fn laid_where_shaped(
+    alloc: Global,
+    graph: &Graph,
+    to: &[BlockId],
+    chains: &[Listed<BlockId>],
+) -> Result<Option<Graph>, NoMemory>
+    requires { is_laid_out to.now graph.now.blocks chains.now ≡ true }
+    ensures { IfOk result (λ found. IfSome found (λ cleaned. GraphStays graph.now cleaned)) }
+{
+    let cleaned = laid(alloc, graph, to, chains)?;
+    let origins = origins(alloc, cleaned.blocks.as_slice())?;
+    if is_shaped(origins.as_slice(), cleaned.blocks.as_slice()) {
+        Ok(Some(cleaned))
+    } else {
+        Ok(None)
+    }
+}
