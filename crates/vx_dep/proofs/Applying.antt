@@ -12,9 +12,10 @@ use Rattle.vx_dep.specs.declared.mode.Mode.{Mode}
 use Rattle.vx_dep.specs.declared.mode.Mode.TheVariants.{Free, Barred}
 use Rattle.vx_dep.specs.declared.rows.Ways.{Ways}
 use Rattle.vx_dep.specs.Delays.{Stands, reads_of, writes_of, is_load, is_store, is_observable, leaves, latency_of, live_off, IsLastWriter, JoinBetween, Row, reads_written, writes_written, writes_read, access_behind_store, store_behind_load, both_observable, both_splits, seen_behind_split, live_behind_split, split_behind_observable, seen_behind_join, barred_above_split, barred_below_split, barred_below_join, Applies, IsGreatest, IsDelay}
-use Rattle.vx_dep.specs.Tables.{written, has}
+use Rattle.vx_dep.specs.declared.traits.Traits.{Traits}
+use Rattle.vx_dep.specs.Traits.{written, read, value_list, values_read, has, traits_of}
 use Rattle.vx_dep.specs.Rows.{is_barred, are_tied, stays_behind_split, stays_behind_join, stays_behind, stays_below, at_least, delay_of, MayTouch, AreWays}
-use Rattle.vx_dep.proofs.Written.{has_value, value_has}
+use Rattle.vx_dep.proofs.Written.{reads_are, writes_are, has_value, value_has}
 
 both : (x y : Bool) → (x && y) ≡ true → (x ≡ true) × (y ≡ true)
 both true true e = (refl, refl)
@@ -47,18 +48,32 @@ pub data Told (tied behind below : Bool) (latency : ℕ) : ℕ → Type 0 where
   by_behind : behind ≡ true → Told tied behind below latency 1
   by_below : below ≡ true → Told tied behind below latency 0
 
-module _ (m : Numbers) (mode : Mode) (t : Trace) (i j : ℕ) (a b : TraceOp) (w : Ways) (ways : AreWays t i j a b w) where
+module _ (m : Numbers) (mode : Mode) (t : Trace) (i j : ℕ) (a b : TraceOp) (w : Ways) (ways : AreWays t i j (traits_of m a) (traits_of m b) a b w) where
+  abbrev upper_traits : Traits
+  upper_traits = traits_of m a
+
+  abbrev lower_traits : Traits
+  lower_traits = traits_of m b
+
   abbrev TheRow : ℕ → Type 0
   TheRow d = Row m mode t i j a b d
 
   -- a test that holds gives a row
 
-  tied_row : (w.last && has (written a) (reads_of b) ≡ true) ⊎ (has (written a) (writes_of b) ≡ true) → TheRow (latency_of m a)
+  -- what a test finds among the values of an operation is among those that it reads, or writes
+
+  among_read : (x y : TraceOp) → has (written x) (values_read (read y)) ≡ has (written x) (reads_of y)
+  among_read x y = ap (has (written x)) (reads_are y)
+
+  among_written : (x y : TraceOp) → has (written x) (value_list (written y)) ≡ has (written x) (writes_of y)
+  among_written x y = ap (has (written x)) (writes_are y)
+
+  tied_row : (w.last && has (written a) (values_read (read b)) ≡ true) ⊎ (has (written a) (value_list (written b)) ≡ true) → TheRow (latency_of m a)
   tied_row (inl e) =
       let h = both _ _ e in
-      let v = has_value a (reads_of b) h.1 in
+      let v = has_value a (reads_of b) (sym (among_read a b) ∙ h.1) in
       reads_written v.value v.writes v.among (ways.last h.0 v.value v.writes)
-  tied_row (inr e) = let v = has_value a (writes_of b) e in writes_written v.value v.writes v.among
+  tied_row (inr e) = let v = has_value a (writes_of b) (sym (among_written a b) ∙ e) in writes_written v.value v.writes v.among
 
   behind_split : leaves a ≡ true → (leaves b ≡ true) ⊎ (is_store b ≡ true) ⊎ (is_observable b ≡ true) ⊎ (w.live ≡ true) ⊎ (is_barred mode ≡ true) → TheRow 1
   behind_split l (inl e) = both_splits l e
@@ -67,7 +82,7 @@ module _ (m : Numbers) (mode : Mode) (t : Trace) (i j : ℕ) (a b : TraceOp) (w 
   behind_split l (inr (inr (inr (inl e)))) = let v = ways.live e l in live_behind_split v.0 l v.1 v.2
   behind_split l (inr (inr (inr (inr e)))) = barred_below_split (is_barred_mode mode e) l
 
-  split_cases : stays_behind_split mode b w ≡ true → (leaves b ≡ true) ⊎ (is_store b ≡ true) ⊎ (is_observable b ≡ true) ⊎ (w.live ≡ true) ⊎ (is_barred mode ≡ true)
+  split_cases : stays_behind_split mode lower_traits w ≡ true → (leaves b ≡ true) ⊎ (is_store b ≡ true) ⊎ (is_observable b ≡ true) ⊎ (w.live ≡ true) ⊎ (is_barred mode ≡ true)
   split_cases e = four (or_cases _ _ e)
     where
       two : (leaves b ≡ true) ⊎ (is_store b ≡ true) → (leaves b ≡ true) ⊎ (is_store b ≡ true) ⊎ (is_observable b ≡ true) ⊎ (w.live ≡ true) ⊎ (is_barred mode ≡ true)
@@ -93,47 +108,47 @@ module _ (m : Numbers) (mode : Mode) (t : Trace) (i j : ℕ) (a b : TraceOp) (w 
   behind_store : is_store a ≡ true → w.touch ≡ true → TheRow 1
   behind_store s e = let k = ways.touch e in access_behind_store s (or_cases _ _ k.lower) k.meet
 
-  behind_row : stays_behind mode a b w ≡ true → TheRow 1
+  behind_row : stays_behind mode upper_traits lower_traits w ≡ true → TheRow 1
   behind_row e = by (or_cases _ _ e)
     where
       first : (w.touch && is_store a ≡ true) ⊎ (is_observable a && is_observable b ≡ true) → TheRow 1
       first (inl f) = let h = both _ _ f in behind_store h.1 h.0
       first (inr f) = let h = both _ _ f in both_observable h.0 h.1
 
-      next : ((w.touch && is_store a) || (is_observable a && is_observable b) ≡ true) ⊎ (leaves a && stays_behind_split mode b w ≡ true) → TheRow 1
+      next : ((w.touch && is_store a) || (is_observable a && is_observable b) ≡ true) ⊎ (leaves a && stays_behind_split mode lower_traits w ≡ true) → TheRow 1
       next (inl f) = first (or_cases _ _ f)
       next (inr f) = let h = both _ _ f in behind_split h.0 (split_cases h.1)
 
-      by : (((w.touch && is_store a) || (is_observable a && is_observable b)) || (leaves a && stays_behind_split mode b w) ≡ true) ⊎ (w.joined && stays_behind_join mode b ≡ true) → TheRow 1
+      by : (((w.touch && is_store a) || (is_observable a && is_observable b)) || (leaves a && stays_behind_split mode lower_traits w) ≡ true) ⊎ (w.joined && stays_behind_join mode lower_traits ≡ true) → TheRow 1
       by (inl f) = next (or_cases _ _ f)
       by (inr f) = let h = both _ _ f in behind_join (ways.joined h.0) (or_cases _ _ h.1)
 
-  below_load : is_load a ≡ true → MayTouch t i j a b → TheRow 0
+  below_load : is_load a ≡ true → MayTouch t i j upper_traits lower_traits → TheRow 0
   below_load l k = by (or_cases _ _ k.stores)
     where
       by : (is_store a ≡ true) ⊎ (is_store b ≡ true) → TheRow 0
       by (inl f) = absurd (load_alone a l f)
       by (inr f) = store_behind_load l f k.meet
 
-  below_row : stays_below mode a b w ≡ true → TheRow 0
+  below_row : stays_below mode upper_traits lower_traits w ≡ true → TheRow 0
   below_row e = by (or_cases _ _ e)
     where
       split : leaves b ≡ true → (is_observable a ≡ true) ⊎ (is_barred mode ≡ true) → TheRow 0
       split l (inl f) = split_behind_observable f l
       split l (inr f) = barred_above_split (is_barred_mode mode f) l
 
-      first : (has (written b) (reads_of a) ≡ true) ⊎ (w.touch && is_load a ≡ true) → TheRow 0
-      first (inl f) = let v = has_value b (reads_of a) f in writes_read v.value v.among v.writes
+      first : (has (written b) (values_read (read a)) ≡ true) ⊎ (w.touch && is_load a ≡ true) → TheRow 0
+      first (inl f) = let v = has_value b (reads_of a) (sym (among_read b a) ∙ f) in writes_read v.value v.among v.writes
       first (inr f) = let h = both _ _ f in below_load h.1 (ways.touch h.0)
 
-      by : (has (written b) (reads_of a) || (w.touch && is_load a) ≡ true) ⊎ (leaves b && (is_observable a || is_barred mode) ≡ true) → TheRow 0
+      by : (has (written b) (values_read (read a)) || (w.touch && is_load a) ≡ true) ⊎ (leaves b && (is_observable a || is_barred mode) ≡ true) → TheRow 0
       by (inl f) = first (or_cases _ _ f)
       by (inr f) = let h = both _ _ f in split h.0 (or_cases _ _ h.1)
 
   -- a row that applies is told by a test
 
   abbrev TheTold : ℕ → Type 0
-  TheTold d = Told (are_tied a b w) (stays_behind mode a b w) (stays_below mode a b w) (latency_of m a) d
+  TheTold d = Told (are_tied upper_traits lower_traits w) (stays_behind mode upper_traits lower_traits w) (stays_below mode upper_traits lower_traits w) (latency_of m a) d
 
   is_last : (v : ℕ) → IsIn v (writes_of a) → IsLastWriter t v i j → w.last ≡ true
   is_last v i last = by w.last refl
@@ -142,7 +157,7 @@ module _ (m : Numbers) (mode : Mode) (t : Trace) (i j : ℕ) (a b : TraceOp) (w 
       by true e = e
       by false e = absurd (ways.not_last e v i last)
 
-  may_touch : MayTouch t i j a b → w.touch ≡ true
+  may_touch : MayTouch t i j upper_traits lower_traits → w.touch ≡ true
   may_touch k = by w.touch refl
     where
       by : (x : Bool) → w.touch ≡ x → w.touch ≡ true
@@ -163,20 +178,20 @@ module _ (m : Numbers) (mode : Mode) (t : Trace) (i j : ℕ) (a b : TraceOp) (w 
       by true e = e
       by false e = absurd (ways.not_live e l v on i)
 
-  from_split : leaves a ≡ true → stays_behind_split mode b w ≡ true → stays_behind mode a b w ≡ true
+  from_split : leaves a ≡ true → stays_behind_split mode lower_traits w ≡ true → stays_behind mode upper_traits lower_traits w ≡ true
   from_split l e = or_left _ _ (or_right _ _ (and_true _ _ l e))
 
-  from_join : JoinBetween t i j → stays_behind_join mode b ≡ true → stays_behind mode a b w ≡ true
+  from_join : JoinBetween t i j → stays_behind_join mode lower_traits ≡ true → stays_behind mode upper_traits lower_traits w ≡ true
   from_join k e = or_right _ _ (and_true _ _ (has_joined k) e)
 
   barred : mode ≡ Barred → is_barred mode ≡ true
   barred e = ap is_barred e
 
-  seen_split : (is_store b ≡ true) ⊎ (is_observable b ≡ true) → stays_behind_split mode b w ≡ true
+  seen_split : (is_store b ≡ true) ⊎ (is_observable b ≡ true) → stays_behind_split mode lower_traits w ≡ true
   seen_split (inl e) = or_left _ _ (or_left _ _ (or_left _ _ (or_right _ _ e)))
   seen_split (inr e) = or_left _ _ (or_left _ _ (or_right _ _ e))
 
-  seen_join : (is_observable b ≡ true) ⊎ (leaves b ≡ true) → stays_behind_join mode b ≡ true
+  seen_join : (is_observable b ≡ true) ⊎ (leaves b ≡ true) → stays_behind_join mode lower_traits ≡ true
   seen_join (inl e) = or_left _ _ (or_left _ _ e)
   seen_join (inr e) = or_left _ _ (or_right _ _ e)
 
@@ -185,14 +200,14 @@ module _ (m : Numbers) (mode : Mode) (t : Trace) (i j : ℕ) (a b : TraceOp) (w 
   access (inr e) = or_right _ _ e
 
   told : {d : ℕ} → Row m mode t i j a b d → TheTold d
-  told (reads_written v wa rb last) = by_tie (or_left _ _ (and_true _ _ (is_last v wa last) (value_has a (reads_of b) v wa rb)))
-  told (writes_written v wa wb) = by_tie (or_right _ _ (value_has a (writes_of b) v wa wb))
-  told (writes_read v ra wb) = by_below (or_left _ _ (or_left _ _ (value_has b (reads_of a) v wb ra)))
+  told (reads_written v wa rb last) = by_tie (or_left _ _ (and_true _ _ (is_last v wa last) (among_read a b ∙ value_has a (reads_of b) v wa rb)))
+  told (writes_written v wa wb) = by_tie (or_right _ _ (among_written a b ∙ value_has a (writes_of b) v wa wb))
+  told (writes_read v ra wb) = by_below (or_left _ _ (or_left _ _ (among_read b a ∙ value_has b (reads_of a) v wb ra)))
   told (access_behind_store s x meet) =
-      let k : MayTouch t i j a b = record { upper = or_right _ _ s; lower = access x; stores = or_left _ _ s; meet = meet } in
+      let k : MayTouch t i j upper_traits lower_traits = record { upper = or_right _ _ s; lower = access x; stores = or_left _ _ s; meet = meet } in
       by_behind (or_left _ _ (or_left _ _ (or_left _ _ (and_true _ _ (may_touch k) s))))
   told (store_behind_load l s meet) =
-      let k : MayTouch t i j a b = record { upper = or_left _ _ l; lower = or_right _ _ s; stores = or_right _ _ s; meet = meet } in
+      let k : MayTouch t i j upper_traits lower_traits = record { upper = or_left _ _ l; lower = or_right _ _ s; stores = or_right _ _ s; meet = meet } in
       by_below (or_left _ _ (or_right _ _ (and_true _ _ (may_touch k) l)))
   told (both_observable x y) = by_behind (or_left _ _ (or_left _ _ (or_right _ _ (and_true _ _ x y))))
   told (both_splits x y) = by_behind (from_split x (or_left _ _ (or_left _ _ (or_left _ _ (or_left _ _ y)))))
@@ -247,7 +262,7 @@ module _ (m : Numbers) (mode : Mode) (t : Trace) (i j : ℕ) (a b : TraceOp) (w 
     most_of x y z l d tie behind e (by_behind h) = behind h
     most_of x y z l d tie behind e (by_below h) = omega arith
 
-    by : (x y z : Bool) → are_tied a b w ≡ x → stays_behind mode a b w ≡ y → stays_below mode a b w ≡ z → IsDelay m mode t i j (answer x y z)
+    by : (x y z : Bool) → are_tied upper_traits lower_traits w ≡ x → stays_behind mode upper_traits lower_traits w ≡ y → stays_below mode upper_traits lower_traits w ≡ z → IsDelay m mode t i j (answer x y z)
     by true true z e f g =
         let l = latency_of m a in
         greatest (max l 1) (higher_of l 1 (tied_row (or_cases _ _ e)) (behind_row f)) (most_of _ _ _ l (max l 1) (λ h. omega arith) (λ h. omega arith))
@@ -261,13 +276,13 @@ module _ (m : Numbers) (mode : Mode) (t : Trace) (i j : ℕ) (a b : TraceOp) (w 
     by false false true e f g = greatest 0 (below_row g) (most_of _ _ _ (latency_of m a) 0 (λ h. absurd (false≢true (sym e ∙ h))) (λ h. absurd (false≢true (sym f ∙ h))))
     by false false false e f g = none (λ d h. nothing d (at_most _ _ _ (latency_of m a) d h))
       where
-        nothing : (d : ℕ) → ((are_tied a b w ≡ true) × (d ≡ latency_of m a)) ⊎ ((stays_behind mode a b w ≡ true) × (d ≡ 1)) ⊎ ((stays_below mode a b w ≡ true) × (d ≡ 0)) → ⊥
+        nothing : (d : ℕ) → ((are_tied upper_traits lower_traits w ≡ true) × (d ≡ latency_of m a)) ⊎ ((stays_behind mode upper_traits lower_traits w ≡ true) × (d ≡ 1)) ⊎ ((stays_below mode upper_traits lower_traits w ≡ true) × (d ≡ 0)) → ⊥
         nothing d (inl h) = false≢true (sym e ∙ h.0)
         nothing d (inr (inl h)) = false≢true (sym f ∙ h.0)
         nothing d (inr (inr h)) = false≢true (sym g ∙ h.0)
 
-    pub is_delay : IsDelay m mode t i j (delay_of m mode a b w)
-    is_delay = by (are_tied a b w) (stays_behind mode a b w) (stays_below mode a b w) refl refl refl
+    pub is_delay : IsDelay m mode t i j (delay_of mode upper_traits lower_traits w)
+    is_delay = by (are_tied upper_traits lower_traits w) (stays_behind mode upper_traits lower_traits w) (stays_below mode upper_traits lower_traits w) refl refl refl
 
-    pub delay_is : (d : Option ℕ) → d ≡ delay_of m mode a b w → IsDelay m mode t i j d
+    pub delay_is : (d : Option ℕ) → d ≡ delay_of mode upper_traits lower_traits w → IsDelay m mode t i j d
     delay_is d e = subst (IsDelay m mode t i j) (sym e) is_delay

@@ -13,12 +13,6 @@ use Rattle.vx_dep.specs.Delays.{NeverMeet, IsDelay}
 pub not_in_order : (m : Numbers) (mode : Mode) (t : Trace) (i j : ℕ) → j ≤ i → IsDelay m mode t i j None
 not_in_order m mode t i j h d p = let k = p.in_order in absurd (omega arith)
 
-pub none_above : (m : Numbers) (mode : Mode) (t : Trace) (i j : ℕ) → slice_get t.ops i ≡ None → IsDelay m mode t i j None
-none_above m mode t i j e d p = let h = p.stands_one in absurd cc
-
-pub none_below : (m : Numbers) (mode : Mode) (t : Trace) (i j : ℕ) → slice_get t.ops j ≡ None → IsDelay m mode t i j None
-none_below m mode t i j e d p = let h = p.stands_two in absurd cc
-
 pub never_meet : (t : Trace) (forms : List (Option Form)) (i j : ℕ) (one two : Form) → forms ≡ forms_of t → slice_get forms i ≡ Some (Some one) → slice_get forms j ≡ Some (Some two) → NeverSame one two → NeverMeet t i j
 never_meet t forms i j one two e f g never = record { one = one; two = two; form_one = ap (λ fs. slice_get fs i) (sym e) ∙ f; form_two = ap (λ fs. slice_get fs j) (sym e) ∙ g; never = never }
 

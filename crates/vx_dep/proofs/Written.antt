@@ -1,18 +1,79 @@
 -- Which values operations read and write, as tests and as facts.
-use Rattle.std.proofs.Common.{◌≡◌, ◌⊎◌, inl, inr, ℕ, refl, sym, ◌∙◌, ap, true, ◌||◌, nat_eq, Option, Some, None, List, [], ◌∷◌, ◌++◌}
+use Rattle.std.proofs.Common.{◌≡◌, ◌⊎◌, inl, inr, ℕ, refl, sym, ◌∙◌, ap, Bool, true, false, ◌||◌, nat_eq, if◌then◌else◌, Option, Some, None, List, [], ◌∷◌, ◌++◌}
 use Rattle.std.proofs.lemmas.Bool.{eqb-true, eq-eqb, or_cases, or_left, or_right, false≢true}
 use Rattle.std.proofs.lemmas.List.Folds.{list_any-append}
 use Rattle.std.specs.List.{list_any}
+use Rattle.vx_flow.specs.declared.graph.Operand.{Operand}
+use Rattle.vx_flow.specs.declared.graph.Operand.TheVariants.{Held, Number, Stack}
 use Rattle.vx_flow.specs.declared.graph.Op.{Op}
 use Rattle.vx_flow.specs.declared.graph.Op.TheVariants.{Compute, Select, Place, Load, Store, More, Input, Text, Decimal, Across}
 use Rattle.vx_flow.specs.declared.trace.TraceOp.{TraceOp}
 use Rattle.vx_flow.specs.declared.trace.TraceOp.TheVariants.{Plain, Split}
-use Rattle.vx_flow.specs.Effects.{IsIn, writes}
-use Rattle.vx_dep.specs.Delays.{writes_of}
-use Rattle.vx_dep.specs.Tables.{written, written_by, has}
+use Rattle.vx_flow.specs.Effects.{IsIn, is_unary, value_in, reads, writes}
+use Rattle.vx_dep.specs.Delays.{reads_of, writes_of}
+use Rattle.vx_dep.specs.Traits.{written, written_by, held_by, reads_three, read, read_by, value_list, values_read, has}
 
 pub reads_two : (v : ℕ) (xs ys : List ℕ) → list_any (nat_eq v) (xs ++ ys) ≡ (list_any (nat_eq v) xs || list_any (nat_eq v) ys)
 reads_two v xs ys = list_any-append (nat_eq v) xs ys
+
+-- the values that are kept of an operation are those that it reads and writes
+
+held_is : (x : Operand) → value_list (held_by x) ≡ value_in x
+held_is (Held v) = refl
+held_is (Number n) = refl
+held_is Stack = refl
+
+both_held : (x y : Operand) → value_list (held_by x) ++ value_list (held_by y) ≡ value_in x ++ value_in y
+both_held x y = ap (λ vs. vs ++ value_list (held_by y)) (held_is x) ∙ ap (λ vs. value_in x ++ vs) (held_is y)
+
+one_read : (x : Operand) → values_read (reads_three (held_by x) None None) ≡ value_in x
+one_read (Held v) = refl
+one_read (Number n) = refl
+one_read Stack = refl
+
+two_read : (x y : Operand) → values_read (reads_three (held_by x) (held_by y) None) ≡ value_in x ++ value_in y
+two_read x y = ap (λ vs. value_list (held_by x) ++ vs) (last y) ∙ ap (λ vs. vs ++ value_in y) (held_is x)
+  where
+    last : (y : Operand) → value_list (held_by y) ++ [] ≡ value_in y
+    last (Held v) = refl
+    last (Number n) = refl
+    last Stack = refl
+
+computed_read : (unary : Bool) (x y : Operand) → values_read (if unary then reads_three (held_by x) None None else reads_three (held_by x) (held_by y) None) ≡ (if unary then value_in x else value_in x ++ value_in y)
+computed_read true x y = one_read x
+computed_read false x y = two_read x y
+
+reads_are_by : (op : Op) → values_read (read_by op) ≡ reads op
+reads_are_by (Compute code v a b) = computed_read (is_unary code) a b
+reads_are_by (Select v p a b) = ap (λ vs. p ∷ vs) (both_held a b)
+reads_are_by (Place v a i) = one_read i
+reads_are_by (Load v a p dismissible) = one_read p
+reads_are_by (Store a p x) = two_read p x
+reads_are_by (More v) = refl
+reads_are_by (Input v) = refl
+reads_are_by (Text n) = refl
+reads_are_by (Decimal x) = one_read x
+reads_are_by (Across v u) = refl
+
+pub reads_are : (op : TraceOp) → values_read (read op) ≡ reads_of op
+reads_are (Plain op) = reads_are_by op
+reads_are (Split test leaves_when edge live) = refl
+
+writes_are_by : (op : Op) → value_list (written_by op) ≡ writes op
+writes_are_by (Compute code v a b) = refl
+writes_are_by (Select v p a b) = refl
+writes_are_by (Place v a i) = refl
+writes_are_by (Load v a p dismissible) = refl
+writes_are_by (Store a p x) = refl
+writes_are_by (More v) = refl
+writes_are_by (Input v) = refl
+writes_are_by (Text n) = refl
+writes_are_by (Decimal x) = refl
+writes_are_by (Across v u) = refl
+
+pub writes_are : (op : TraceOp) → value_list (written op) ≡ writes_of op
+writes_are (Plain op) = writes_are_by op
+writes_are (Split test leaves_when edge live) = refl
 
 pub is_in : (v : ℕ) (vs : List ℕ) → list_any (nat_eq v) vs ≡ true → IsIn v vs
 is_in v [] e = absurd (false≢true e)

@@ -1,5 +1,6 @@
 pub mod Delays
 pub mod Compensation
+pub mod Traits
 pub mod Tables
 pub mod Rows
 pub mod Sights

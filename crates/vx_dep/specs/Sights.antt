@@ -8,16 +8,15 @@ use Rattle.vx_dep.specs.declared.tables.Standing.{Standing}
 abbrev pub AreOrdered : List (Option Form) → Type 0
 AreOrdered forms = (i : ℕ) (form : Form) → slice_get forms i ≡ Some (Some form) → is_ordered form.terms ≡ true
 
--- from place i down to place j nothing writes what the operation at i writes
-abbrev pub reaches : Option Standing → (i j : ℕ) → Bool
-reaches None i j = false
-reaches (Some standing) i j = nat_le (j - i - 1) standing.kept
+-- from place i down to place j nothing writes what the operation at i writes, whose entry is given
+abbrev pub reaches : Standing → (i j : ℕ) → Bool
+reaches standing i j = nat_le (j - i - 1) standing.kept
 
 -- a join stands below place i, down to the place whose entry is given
-abbrev pub has_join : Option Standing → ℕ → Bool
-has_join None i = false
-has_join (Some standing) i = nat_lt i standing.joined
+abbrev pub has_join : Standing → ℕ → Bool
+has_join standing i = nat_lt i standing.joined
 
-abbrev pub is_live : Option Standing → (i j : ℕ) → Bool
+-- what the operation at place j writes is live where the split at place i leaves, whose list is given
+abbrev pub is_live : Option (List Bool) → (i j : ℕ) → Bool
 is_live None i j = false
-is_live (Some standing) i j = slice_index_or standing.live (j - i - 1) false
+is_live (Some live) i j = slice_index_or live (j - i - 1) false

@@ -4,11 +4,11 @@
 pub mod copies;
 mod deps;
 mod heights;
-mod kinds;
 pub mod laws;
 pub mod mode;
 mod rows;
 mod sights;
 mod tables;
+mod traits;
 
 pub use deps::{Deps, pairs};

@@ -1,15 +1,11 @@
-// The rows of the table of delays, for one pair of operations: by what is known of where the two stand, which rows
-// apply, and the greatest number among those. specs/Rows.antt says the same.
+// The rows of the table of delays, for one pair of operations: by what is asked of the two and what is known of where they
+// stand, which rows apply, and the greatest number among those. specs/Rows.antt says the same.
 
 ghost use Rattle.std.specs.Prelude.{◌≡◌};
-ghost use Rattle.vx_dep.specs.Tables.{written, has};
 ghost use Rattle.vx_dep.specs.Rows.{is_barred, are_tied, stays_behind, stays_behind_split, stays_behind_join, stays_below, row_of, delay_of};
 
-use crate::kinds::{is_load, is_observable, is_store, leaves, reads_written, write_alike};
 use crate::mode::Mode;
-use vx_flow::trace::TraceOp;
-use vx_machine::Machine;
-use vx_machine::items::Item;
+use crate::traits::{Traits, reads_written, write_alike};
 
 /// What is known of two operations of a trace, one above the other, by where they stand.
 #[derive(Clone, Copy, Debug)]
@@ -25,21 +21,14 @@ pub(crate) struct Ways {
 }
 
 /// The greatest number of the rows that apply.
-pub(crate) fn delay_of(
-    machine: &Machine,
-    mode: Mode,
-    a: &TraceOp,
-    b: &TraceOp,
-    ways: Ways,
-) -> Option<u32>
-    ensures { result ≡ delay_of machine.now mode a.now b.now ways }
+pub(crate) fn delay_of(mode: Mode, a: &Traits, b: &Traits, ways: Ways) -> Option<u32>
+    ensures { result ≡ delay_of mode a.now b.now ways }
 {
     let others = row_of(mode, a, b, ways);
     if are_tied(a, b, ways) {
-        let latency = machine.latency_of_item(&Item::of_trace(a));
         match others {
-            Some(other) if latency < other => Some(other),
-            _ => Some(latency),
+            Some(other) if a.latency < other => Some(other),
+            _ => Some(a.latency),
         }
     } else {
         others
@@ -47,7 +36,7 @@ pub(crate) fn delay_of(
 }
 
 /// The greatest number of the rows but those of a latency.
-fn row_of(mode: Mode, a: &TraceOp, b: &TraceOp, ways: Ways) -> Option<u32>
+fn row_of(mode: Mode, a: &Traits, b: &Traits, ways: Ways) -> Option<u32>
     ensures { result ≡ row_of mode a.now b.now ways }
 {
     if stays_behind(mode, a, b, ways) {
@@ -60,41 +49,41 @@ fn row_of(mode: Mode, a: &TraceOp, b: &TraceOp, ways: Ways) -> Option<u32>
 }
 
 /// Whether the lower operation reads what the upper one wrote last, or writes what it writes.
-fn are_tied(a: &TraceOp, b: &TraceOp, ways: Ways) -> bool
+fn are_tied(a: &Traits, b: &Traits, ways: Ways) -> bool
     ensures { result ≡ are_tied a.now b.now ways }
 {
     (ways.last && reads_written(b, a)) || write_alike(a, b)
 }
 
 /// Whether a row with the number 1 applies.
-fn stays_behind(mode: Mode, a: &TraceOp, b: &TraceOp, ways: Ways) -> bool
+fn stays_behind(mode: Mode, a: &Traits, b: &Traits, ways: Ways) -> bool
     ensures { result ≡ stays_behind mode a.now b.now ways }
 {
-    (ways.touch && is_store(a))
-        || (is_observable(a) && is_observable(b))
-        || (leaves(a) && stays_behind_split(mode, b, ways))
+    (ways.touch && a.is_store)
+        || (a.is_observable && b.is_observable)
+        || (a.leaves && stays_behind_split(mode, b, ways))
         || (ways.joined && stays_behind_join(mode, b))
 }
 
-fn stays_behind_split(mode: Mode, b: &TraceOp, ways: Ways) -> bool
+fn stays_behind_split(mode: Mode, b: &Traits, ways: Ways) -> bool
     ensures { result ≡ stays_behind_split mode b.now ways }
 {
-    leaves(b) || is_store(b) || is_observable(b) || ways.live || is_barred(mode)
+    b.leaves || b.is_store || b.is_observable || ways.live || is_barred(mode)
 }
 
-fn stays_behind_join(mode: Mode, b: &TraceOp) -> bool
+fn stays_behind_join(mode: Mode, b: &Traits) -> bool
     ensures { result ≡ stays_behind_join mode b.now }
 {
-    is_observable(b) || leaves(b) || is_barred(mode)
+    b.is_observable || b.leaves || is_barred(mode)
 }
 
 /// Whether a row with the number 0 applies.
-fn stays_below(mode: Mode, a: &TraceOp, b: &TraceOp, ways: Ways) -> bool
+fn stays_below(mode: Mode, a: &Traits, b: &Traits, ways: Ways) -> bool
     ensures { result ≡ stays_below mode a.now b.now ways }
 {
     reads_written(a, b)
-        || (ways.touch && is_load(a))
-        || (leaves(b) && (is_observable(a) || is_barred(mode)))
+        || (ways.touch && a.is_load)
+        || (b.leaves && (a.is_observable || is_barred(mode)))
 }
 
 fn is_barred(mode: Mode) -> bool

@@ -1,29 +1,29 @@
 // A trace with what is found once for it, by which a delay is answered without a search.
 
-ghost use Rattle.std.specs.Prelude.{◌≡◌, ◌<◌, ℕ, ◌||◌, IfOk, IfSome, IfNone, Some, None, true, false, slice_get};
+ghost use Rattle.std.specs.Prelude.{◌≡◌, ◌<◌, ℕ, ◌||◌, ◌&&◌, IfOk, IfSome, IfNone, Some, None, true, false, slice_get};
 ghost use Rattle.vx_linear.specs.declared.form.Form.{Form};
 ghost use Rattle.vx_linear.specs.Forms.{NeverSame, is_ordered};
 ghost use Rattle.vx_linear.specs.Followed.{forms_of};
-ghost use Rattle.vx_dep.specs.Tables.{standings_of};
-ghost use Rattle.vx_dep.specs.Rows.{AreWays, MayTouch};
-ghost use Rattle.vx_dep.specs.Delays.{IsDelay, NeverMeet, is_load, is_store};
+ghost use Rattle.vx_dep.specs.Tables.{standings_of, lives_of};
+ghost use Rattle.vx_dep.specs.Rows.{Tells, MayTouch};
+ghost use Rattle.vx_dep.specs.Delays.{IsDelay, NeverMeet};
 ghost use Rattle.vx_dep.specs.Sights.{AreOrdered, reaches, has_join, is_live};
 
-use crate::kinds::{is_load, is_store};
 use crate::mode::Mode;
 use crate::rows::{Ways, delay_of};
-use crate::tables::{Standing, standings};
+use crate::tables::{Standing, lives, standings};
+use crate::traits::Traits;
 use std::alloc::Global;
 use vx_base::answer::Answer;
 use vx_base::listed::Listed;
 use vx_base::outcome::NoMemory;
-use vx_flow::trace::{Trace, TraceOp};
+use vx_flow::trace::Trace;
 use vx_linear::form::Form;
 use vx_linear::{differs, forms};
 use vx_machine::Machine;
 
-/// A trace, the machine and the mode, with the index forms of its accesses and what is known of each operation by where
-/// it stands.
+/// A trace, the machine and the mode, with the index forms of its accesses, what is known of each operation and of where it
+/// stands, and what is live where its splits leave.
 #[derive(Drop)]
 pub(crate) struct Sight<'a> {
     pub(crate) trace: &'a Trace,
@@ -31,9 +31,11 @@ pub(crate) struct Sight<'a> {
     pub(crate) mode: Mode,
     pub(crate) forms: Listed<Option<Form>>,
     pub(crate) standings: Listed<Standing>,
+    pub(crate) lives: Listed<Listed<bool>>,
     ghost forms_exact: { forms ≡ forms_of trace.now },
     ghost ordered: { AreOrdered forms },
-    ghost standings_exact: { standings ≡ standings_of trace.now },
+    ghost standings_exact: { standings ≡ standings_of machine trace.now },
+    ghost lives_exact: { lives ≡ lives_of trace.now },
 }
 
 impl<'a> Sight<'a> {
@@ -50,74 +52,75 @@ impl<'a> Sight<'a> {
         ensures mode { IfOk result (λ sight. sight.mode ≡ mode) }
     {
         let forms = forms(alloc, trace)?;
-        let standings = standings(alloc, trace)?;
+        let standings = standings(alloc, trace, machine)?;
+        let lives = lives(alloc, trace)?;
         Ok(Sight {
             trace,
             machine: *machine,
             mode,
             forms,
             standings,
+            lives,
         })
     }
 
     /// The delay of a pair of places; None where there is none.
-    #[tactic(auto, using(crate::proofs::Nowhere::not_in_order, crate::proofs::Nowhere::none_above, crate::proofs::Nowhere::none_below))]
+    #[tactic(auto, using(crate::proofs::Nowhere::not_in_order, crate::proofs::Standing::none_above, crate::proofs::Standing::none_below))]
     pub(crate) fn delay(&self, i: usize, j: usize) -> Option<u32>
         ensures { IsDelay self.now.machine self.now.mode self.now.trace.now i j result }
     {
         if i >= j {
             return None;
         }
-        match self.op(i) {
+        match self.standing(i) {
             None => None,
-            Some(a) => match self.op(j) {
+            Some(a) => match self.standing(j) {
                 None => None,
                 Some(b) => self.delay_between(i, j, a, b),
             },
         }
     }
 
-    /// The operation at a place.
-    fn op(&self, place: usize) -> Option<&TraceOp>
-        ensures some { IfSome result (λ op. slice_get self.now.trace.now.ops place ≡ Some op.now) }
-        ensures none { IfNone result (slice_get self.now.trace.now.ops place ≡ None) }
+    /// What is known of the operation at a place.
+    fn standing(&self, place: usize) -> Option<&Standing>
+        ensures some { IfSome result (λ standing. slice_get self.now.standings place ≡ Some standing.now) }
+        ensures none { IfNone result (slice_get self.now.standings place ≡ None) }
     {
-        self.trace.ops.as_slice().get(place)
+        self.standings.as_slice().get(place)
     }
 
-    #[tactic(auto, using(crate::proofs::Applying::delay_is))]
-    fn delay_between(&self, i: usize, j: usize, a: &TraceOp, b: &TraceOp) -> Option<u32>
+    #[tactic(auto, using(crate::proofs::Standing::delay_is))]
+    fn delay_between(&self, i: usize, j: usize, a: &Standing, b: &Standing) -> Option<u32>
         requires in_order { i < j }
-        requires stands_one { slice_get self.now.trace.now.ops i ≡ Some a.now }
-        requires stands_two { slice_get self.now.trace.now.ops j ≡ Some b.now }
+        requires stands_one { slice_get self.now.standings i ≡ Some a.now }
+        requires stands_two { slice_get self.now.standings j ≡ Some b.now }
         ensures { IsDelay self.now.machine self.now.mode self.now.trace.now i j result }
     {
         let ways = self.ways(i, j, a, b);
-        delay_of(&self.machine, self.mode, a, b, ways)
+        delay_of(self.mode, &a.traits, &b.traits, ways)
     }
 
-    #[tactic(auto, using(crate::proofs::Standing::are_ways))]
-    fn ways(&self, i: usize, j: usize, a: &TraceOp, b: &TraceOp) -> Ways
+    #[tactic(auto, using(crate::proofs::Standing::tells))]
+    fn ways(&self, i: usize, j: usize, a: &Standing, b: &Standing) -> Ways
         requires in_order { i < j }
-        requires stands_one { slice_get self.now.trace.now.ops i ≡ Some a.now }
-        requires stands_two { slice_get self.now.trace.now.ops j ≡ Some b.now }
-        ensures { AreWays self.now.trace.now i j a.now b.now result }
+        requires stands_one { slice_get self.now.standings i ≡ Some a.now }
+        requires stands_two { slice_get self.now.standings j ≡ Some b.now }
+        ensures { Tells self.now.trace.now i j a.now.traits b.now.traits result }
     {
-        let standings = self.standings.as_slice();
         Ways {
-            last: reaches(standings, i, j),
-            touch: self.touch(i, j, a, b),
-            joined: has_join(standings, i, j),
-            live: is_live(standings, i, j),
+            last: reaches(a, i, j),
+            touch: self.touch(i, j, &a.traits, &b.traits),
+            joined: has_join(b, i),
+            live: a.traits.leaves && is_live(self.lives.as_slice(), i, j),
         }
     }
 
     /// Whether two accesses, one of them a store, may touch one word.
-    fn touch(&self, i: usize, j: usize, a: &TraceOp, b: &TraceOp) -> bool
+    fn touch(&self, i: usize, j: usize, a: &Traits, b: &Traits) -> bool
         ensures yes { result ≡ true → MayTouch self.now.trace.now i j a.now b.now }
         ensures no { result ≡ false → MayTouch self.now.trace.now i j a.now b.now → ⊥ }
     {
-        is_access(a) && is_access(b) && (is_store(a) || is_store(b)) && !self.never_meet(i, j)
+        is_access(a) && is_access(b) && (a.is_store || b.is_store) && !self.never_meet(i, j)
     }
 
     /// Whether the accesses at two places never touch one word.
@@ -161,40 +164,34 @@ fn form_at(forms: &[Option<Form>], place: usize) -> Option<&Form>
     }
 }
 
-fn is_access(op: &TraceOp) -> bool
-    ensures { result ≡ (is_load op.now || is_store op.now) }
-{
-    is_load(op) || is_store(op)
-}
-
 /// Whether no operation between two places writes what the upper one writes.
-fn reaches(standings: &[Standing], i: usize, j: usize) -> bool
+fn reaches(standing: &Standing, i: usize, j: usize) -> bool
     requires { i < j }
-    ensures { result ≡ reaches (slice_get standings.now i) i j }
+    ensures { result ≡ reaches standing.now i j }
 {
-    match standings.get(i) {
-        Some(standing) => j - i - 1 <= standing.kept,
-        None => false,
-    }
+    j - i - 1 <= standing.kept
 }
 
 /// Whether a join stands between two places.
-fn has_join(standings: &[Standing], i: usize, j: usize) -> bool
-    ensures { result ≡ has_join (slice_get standings.now j) i }
+fn has_join(standing: &Standing, i: usize) -> bool
+    ensures { result ≡ has_join standing.now i }
 {
-    match standings.get(j) {
-        Some(standing) => i < standing.joined,
-        None => false,
-    }
+    i < standing.joined
+}
+
+fn is_access(traits: &Traits) -> bool
+    ensures { result ≡ (traits.now.is_load || traits.now.is_store) }
+{
+    traits.is_load || traits.is_store
 }
 
 /// Whether what the lower operation writes is live where the upper one leaves.
-fn is_live(standings: &[Standing], i: usize, j: usize) -> bool
+fn is_live(lives: &[Listed<bool>], i: usize, j: usize) -> bool
     requires { i < j }
-    ensures { result ≡ is_live (slice_get standings.now i) i j }
+    ensures { result ≡ is_live (slice_get lives.now i) i j }
 {
-    match standings.get(i) {
-        Some(standing) => match standing.live.as_slice().get(j - i - 1) {
+    match lives.get(i) {
+        Some(live) => match live.as_slice().get(j - i - 1) {
             Some(live) => *live,
             None => false,
         },

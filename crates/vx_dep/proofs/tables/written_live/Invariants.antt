@@ -1,6 +1,6 @@
 -- the marks so far and those of what is left
 use Rattle.std.proofs.Common.{◌≡◌, ◌++◌, map, length}
-use Rattle.vx_dep.specs.Tables.{written, has}
+use Rattle.vx_dep.specs.Traits.{written, has}
 use Rattle.vx_dep.proofs.tables.written_live.Given as goal
 
 abbrev pub invariant-mark : goal.invariant-mark

@@ -1,0 +1,209 @@
+// What delays ask of an operation of a trace, found once for each: which values it reads, which value it writes, of which kind
+// it is, and its latency. specs/Traits.antt says the same.
+
+ghost use Rattle.std.specs.Prelude.{◌≡◌, ◌++◌, nat_eq};
+ghost use Rattle.std.specs.List.{list_any};
+ghost use Rattle.vx_flow.specs.Effects.{is_unary};
+ghost use Rattle.vx_dep.specs.Delays.{is_load, is_store};
+ghost use Rattle.vx_dep.specs.Traits.{written, written_by, held_by, reads_three, read, read_by, value_list, values_read, has, traits_of};
+
+use vx_base::arithmetic::Code;
+use vx_flow::graph::{Op, Operand, Value};
+use vx_flow::trace::TraceOp;
+use vx_machine::Machine;
+use vx_machine::items::Item;
+
+/// The values that an operation reads.
+#[derive(Clone, Copy, Debug)]
+pub(crate) struct Reads {
+    pub(crate) first: Option<Value>,
+    pub(crate) second: Option<Value>,
+    pub(crate) third: Option<Value>,
+}
+
+/// What delays ask of an operation.
+#[derive(Clone, Copy, Debug)]
+pub(crate) struct Traits {
+    /// The value that it writes.
+    pub(crate) written: Option<Value>,
+    /// The values that it reads.
+    pub(crate) reads: Reads,
+    pub(crate) is_load: bool,
+    pub(crate) is_store: bool,
+    /// It reads the input or prints.
+    pub(crate) is_observable: bool,
+    /// It is a split.
+    pub(crate) leaves: bool,
+    /// The cycles until its result has landed at the latest.
+    pub(crate) latency: u32,
+}
+
+/// What is asked of an operation.
+pub(crate) fn traits_of(machine: &Machine, op: &TraceOp) -> Traits
+    ensures { result ≡ traits_of machine.now op.now }
+{
+    let item = Item::of_trace(op);
+    Traits {
+        written: written(op),
+        reads: read(op),
+        is_load: is_load(op),
+        is_store: is_store(op),
+        is_observable: item.is_observable(),
+        leaves: item.is_split(),
+        latency: machine.latency_of_item(&item),
+    }
+}
+
+/// The value that an operation writes.
+pub(crate) fn written(op: &TraceOp) -> Option<Value>
+    ensures { result ≡ written op.now }
+{
+    match op {
+        TraceOp::Plain(op) => written_by(op),
+        TraceOp::Split { .. } => None,
+    }
+}
+
+fn written_by(op: &Op) -> Option<Value>
+    ensures { result ≡ written_by op.now }
+{
+    match op {
+        Op::Compute { to, .. }
+        | Op::Select { to, .. }
+        | Op::Place { to, .. }
+        | Op::Load { to, .. }
+        | Op::More { to }
+        | Op::Input { to }
+        | Op::Across { to, .. } => Some(*to),
+        Op::Store { .. } | Op::Text { .. } | Op::Decimal { .. } => None,
+    }
+}
+
+fn read(op: &TraceOp) -> Reads
+    ensures { result ≡ read op.now }
+{
+    match op {
+        TraceOp::Plain(op) => read_by(op),
+        TraceOp::Split { test, .. } => reads_three(Some(*test), None, None),
+    }
+}
+
+fn read_by(op: &Op) -> Reads
+    ensures { result ≡ read_by op.now }
+{
+    match op {
+        Op::Compute {
+            code,
+            left,
+            right,
+            ..
+        } => {
+            if is_unary(*code) {
+                reads_three(held_by(left), None, None)
+            } else {
+                reads_three(held_by(left), held_by(right), None)
+            }
+        }
+        Op::Select {
+            test,
+            left,
+            right,
+            ..
+        } => reads_three(Some(*test), held_by(left), held_by(right)),
+        Op::Place { index, .. } => reads_three(held_by(index), None, None),
+        Op::Load { place, .. } => reads_three(held_by(place), None, None),
+        Op::Store { place, from, .. } => reads_three(held_by(place), held_by(from), None),
+        Op::Decimal { from } => reads_three(held_by(from), None, None),
+        Op::Across { from, .. } => reads_three(Some(*from), None, None),
+        Op::More { .. } | Op::Input { .. } | Op::Text { .. } => reads_three(None, None, None),
+    }
+}
+
+fn reads_three(first: Option<Value>, second: Option<Value>, third: Option<Value>) -> Reads
+    ensures { result ≡ reads_three first second third }
+{
+    Reads {
+        first,
+        second,
+        third,
+    }
+}
+
+fn is_unary(code: Code) -> bool
+    ensures { result ≡ is_unary code }
+{
+    match code {
+        Code::Mov => true,
+        _ => false,
+    }
+}
+
+fn held_by(operand: &Operand) -> Option<Value>
+    ensures { result ≡ held_by operand.now }
+{
+    match operand {
+        Operand::Held(held) => Some(*held),
+        Operand::Number(_) | Operand::Stack => None,
+    }
+}
+
+fn is_load(op: &TraceOp) -> bool
+    ensures { result ≡ is_load op.now }
+{
+    match op {
+        TraceOp::Plain(Op::Load { .. }) => true,
+        _ => false,
+    }
+}
+
+fn is_store(op: &TraceOp) -> bool
+    ensures { result ≡ is_store op.now }
+{
+    match op {
+        TraceOp::Plain(Op::Store { .. }) => true,
+        _ => false,
+    }
+}
+
+/// Whether an operation reads what another one writes.
+pub(crate) fn reads_written(reader: &Traits, writer: &Traits) -> bool
+    ensures { result ≡ has writer.now.written (values_read reader.now.reads) }
+{
+    match writer.written {
+        Some(value) => reads_value(&reader.reads, value),
+        None => false,
+    }
+}
+
+#[tactic(auto, using(crate::proofs::Written::reads_two))]
+fn reads_value(reads: &Reads, value: Value) -> bool
+    ensures { result ≡ list_any (nat_eq value) (values_read reads.now) }
+{
+    is_value(reads.first, value) || hold(reads.second, reads.third, value)
+}
+
+#[tactic(auto, using(crate::proofs::Written::reads_two))]
+fn hold(one: Option<Value>, other: Option<Value>, value: Value) -> bool
+    ensures { result ≡ list_any (nat_eq value) (value_list one ++ value_list other) }
+{
+    is_value(one, value) || is_value(other, value)
+}
+
+fn is_value(held: Option<Value>, value: Value) -> bool
+    ensures { result ≡ list_any (nat_eq value) (value_list held) }
+{
+    match held {
+        Some(held) => value == held,
+        None => false,
+    }
+}
+
+/// Whether both operations write one value.
+pub(crate) fn write_alike(op: &Traits, other: &Traits) -> bool
+    ensures { result ≡ has op.now.written (value_list other.now.written) }
+{
+    match op.written {
+        Some(value) => is_value(other.written, value),
+        None => false,
+    }
+}
