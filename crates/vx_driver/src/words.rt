@@ -4,6 +4,7 @@
 
 ghost use Rattle.std.specs.Prelude.{IfOk};
 ghost use Rattle.vx_ast.specs.View as view;
+ghost use Rattle.vx_lower.specs.FlowOf.{FlowOf};
 ghost use Rattle.vx_driver.specs.Compiled.{Compiled};
 ghost use Rattle.vx_driver.specs.Stages.{AllBegin, AreInside, AreLayoutsOf, AreMapsOf, Begins, IsLayoutOf, StageLaws};
 
@@ -13,7 +14,8 @@ use vx_ast::typed::Typed;
 use vx_base::laws::same_is_transitive;
 use vx_base::listed::Listed;
 use vx_base::outcome::NoMemory;
-use vx_flow::graph::Graph;
+use vx_clean::clean;
+use vx_flow::graph::{Flow, Graph};
 use vx_frame::finish;
 use vx_frame::laws::frames_keep_to_the_machine;
 use vx_isa::laws::{any_timing_law, path_strict_law};
@@ -97,6 +99,15 @@ fn maps_of(alloc: Global, layouts: &[VWords], machine: &Machine) -> Result<Liste
     Ok(maps)
 }
 
+/// The graphs of a program: lowered, and then cleaned.
+pub(crate) fn flow_of(alloc: Global, program: &Typed) -> Result<Flow, NoMemory>
+    ensures { IfOk result (λ flow. FlowOf (view.program_of program.now.program) flow) }
+{
+    let lowered = lower(alloc, program)?;
+    let flow = clean(alloc, lowered)?;
+    Ok(flow)
+}
+
 /// The words of a program for a machine. Its traces are picked with no block counted; at most so many operations are copied.
 pub(crate) fn words_of(
     alloc: Global,
@@ -108,7 +119,7 @@ pub(crate) fn words_of(
 {
     stages_do_the_same();
     machine.keeps_ranges();
-    let flow = lower(alloc, program)?;
+    let flow = flow_of(alloc, program)?;
     let counts = Counts::new(alloc);
     let layouts = layouts_of(alloc, flow.functions.as_slice(), &counts, machine, growth)?;
     let maps = maps_of(alloc, layouts.as_slice(), machine)?;

@@ -9,7 +9,7 @@ use Rattle.vx_driver.proofs.Chain.{all_inside, all_can_finish, compiled}
 use Rattle.vx_driver.proofs.words.words_of.Goals as goal
 
 pub layouts_of-requires : goal.layouts_of-requires
-layouts_of-requires c = subst AllBegin (sym c.as_slice.ensures) (all_begin (program_of c.args.program.now.program) c.in_ok-flow.flow c.args.program.now.accepted c.in_ok-flow.ensures.flow)
+layouts_of-requires c = subst AllBegin (sym c.as_slice.ensures) (all_begin (program_of c.args.program.now.program) c.in_ok-flow.flow c.args.program.now.accepted c.in_ok-flow.ensures)
 
 pub maps_of-requires : goal.maps_of-requires
 maps_of-requires c =
@@ -38,4 +38,4 @@ returns c =
     let laid : AreLayoutsOf machine flow.functions layouts = subst (λ z. AreLayoutsOf machine z layouts) c.as_slice.ensures c.in_ok-layouts.ensures in
     let maps = c.as_slice-4.result.now in
     let finished : IsFinished machine flow layouts maps c.in_ok-finished.finished.program = subst (λ z. IsFinished machine flow z maps c.in_ok-finished.finished.program) c.as_slice-3.ensures c.in_ok-finished.ensures in
-    compiled c.stages_do_the_same.ensures (program_of c.args.program.now.program) flow machine layouts c.in_ok-flow.ensures.flow laid maps c.in_ok-finished.finished.program c.keeps_ranges.ensures finished c.numbers_fit.ensures
+    compiled c.stages_do_the_same.ensures (program_of c.args.program.now.program) flow machine layouts c.in_ok-flow.ensures laid maps c.in_ok-finished.finished.program c.keeps_ranges.ensures finished c.numbers_fit.ensures
