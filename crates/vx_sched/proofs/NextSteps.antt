@@ -109,10 +109,13 @@ module _ (m : Numbers) (mode : Mode) (t : Trace) (words : List (Option ℕ)) (o 
       at (inl less) = inr (k, delay, word, is.applies, stands, omega (arith, less))
       at (inr more) = old so.reached more
 
-  later_step : (k ready : ℕ) (word delay : Option ℕ) → word_in words k ≡ word → IsDelay m mode t k o delay → IsReadySoFar m mode t words o k ready → IsReadySoFar m mode t words o (k + 1) (later_of ready word delay)
-  later_step k ready None delay e is so = stays k ready (λ d w a f. none-some w (sym e ∙ f)) so
-  later_step k ready (Some word) None e is so = stays k ready (λ d w a f. is d a) so
-  later_step k ready (Some word) (Some delay) e is so = rises k ready word delay e is so
+  -- the operation at place k has no word
+  pub none_there : (k ready : ℕ) → word_in words k ≡ None → IsReadySoFar m mode t words o k ready → IsReadySoFar m mode t words o (k + 1) ready
+  none_there k ready e so = stays k ready (λ d w a f. none-some w (sym e ∙ f)) so
 
-  pub one_ready : (k ready after : ℕ) (delay : Option ℕ) → IsReadySoFar m mode t words o k ready → IsDelay m mode t k o delay → after ≡ later_of ready (word_in words k) delay → IsReadySoFar m mode t words o (k + 1) after
-  one_ready k ready after delay so is e = subst (IsReadySoFar m mode t words o (k + 1)) (sym e) (later_step k ready (word_in words k) delay refl is so)
+  later_step : (k ready word : ℕ) (delay : Option ℕ) → word_in words k ≡ Some word → IsDelay m mode t k o delay → IsReadySoFar m mode t words o k ready → IsReadySoFar m mode t words o (k + 1) (later_of ready word delay)
+  later_step k ready word None e is so = stays k ready (λ d w a f. is d a) so
+  later_step k ready word (Some delay) e is so = rises k ready word delay e is so
+
+  pub one_ready : (k ready word after : ℕ) (delay : Option ℕ) → word_in words k ≡ Some word → IsReadySoFar m mode t words o k ready → IsDelay m mode t k o delay → after ≡ later_of ready word delay → IsReadySoFar m mode t words o (k + 1) after
+  one_ready k ready word after delay stands so is e = subst (IsReadySoFar m mode t words o (k + 1)) (sym e) (later_step k ready word delay stands is so)

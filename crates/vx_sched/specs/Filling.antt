@@ -53,10 +53,9 @@ IsNext height words k (Some o) = (o < k) × (word_in words o ≡ None) × ((p : 
 
 -- where it may stand
 
-abbrev pub later_of : ℕ → Option ℕ → Option ℕ → ℕ
-later_of ready None delay = ready
-later_of ready (Some w) None = ready
-later_of ready (Some w) (Some delay) = max ready (w + delay)
+abbrev pub later_of : (ready w : ℕ) → Option ℕ → ℕ
+later_of ready w None = ready
+later_of ready w (Some delay) = max ready (w + delay)
 
 -- the first word that the delays from the operations before place k allow, as far as these have words
 pub record IsReadySoFar (m : Numbers) (mode : Mode) (t : Trace) (words : List (Option ℕ)) (o k ready : ℕ) : Type 0 where

@@ -2,6 +2,7 @@
 #![tactic(auto)]
 
 mod copying;
+mod crowding;
 pub mod laws;
 mod placing;
 mod ready;

@@ -53,24 +53,24 @@ pub(crate) fn ready(words: &[Option<u32>], deps: &Deps, place: u32) -> Result<u3
     let mut ready = 0;
     let mut above: u32 = 0;
     'wait: while above < place {
-        ready = later(ready, words[above as usize], deps.delay(above, place))?;
+        match words[above as usize] {
+            None => {}
+            Some(word) => ready = later(ready, word, deps.delay(above, place))?,
+        }
         above += 1;
     }
     Ok(ready)
 }
 
-/// The later of a word and the one that a delay gives.
-fn later(ready: u32, word: Option<u32>, delay: Option<u32>) -> Result<u32, NoMemory>
+/// The later of a word and the one that a delay behind another word gives.
+fn later(ready: u32, word: u32, delay: Option<u32>) -> Result<u32, NoMemory>
     ensures { IfOk result (λ later. later ≡ later_of ready word delay) }
 {
-    match word {
+    match delay {
         None => Ok(ready),
-        Some(word) => match delay {
-            None => Ok(ready),
-            Some(delay) => match word.checked_add(delay) {
-                Some(sum) => Ok(ready.max(sum)),
-                None => Err(NoMemory),
-            },
+        Some(delay) => match word.checked_add(delay) {
+            Some(sum) => Ok(ready.max(sum)),
+            None => Err(NoMemory),
         },
     }
 }

@@ -4,6 +4,7 @@ ghost use Rattle.std.specs.Prelude.{◌≡◌, ◌<◌, ◌+◌, ◌++◌, ◌�
 ghost use Rattle.vx_machine.specs.Room.{has_room};
 ghost use Rattle.vx_sched.specs.Filling.{row_of, IsFirstWith, Puts};
 
+use crate::crowding::is_crowded;
 use std::alloc::Global;
 use vx_base::listed::Listed;
 use vx_base::outcome::NoMemory;
@@ -42,6 +43,9 @@ fn fits(
 ) -> Result<bool, NoMemory>
     ensures { IfOk result (λ fits. fits ≡ has_room machine.now homes.now (row.now ++ item ∷ [])) }
 {
+    if is_crowded(machine, row, item) {
+        return Ok(false);
+    }
     let longer = with_item(alloc, row, item)?;
     Ok(has_room(machine, homes, longer.as_slice()))
 }

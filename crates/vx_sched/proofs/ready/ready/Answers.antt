@@ -1,16 +1,25 @@
-use Rattle.std.proofs.Common.{rules, ◌≡◌, ◌<◌, ◌≤◌, subst, arith}
-use Rattle.vx_sched.specs.Filling.{word_in, later_of, IsReadyNow}
-use Rattle.vx_sched.proofs.NextSteps.{none_ready, one_ready}
+use Rattle.std.proofs.Common.{rules, ◌≡◌, ◌<◌, ◌≤◌, ◌+◌, None, Some, sym, ◌∙◌, subst, arith}
+use Rattle.vx_sched.specs.Filling.{word_in, later_of, IsReadySoFar, IsReadyNow}
+use Rattle.vx_sched.proofs.NextSteps.{none_ready, none_there, one_ready}
 use Rattle.vx_sched.proofs.ready.ready.Goals as goal
+use Rattle.vx_sched.proofs.ready.ready.Goals.{in-Some+in_ok-ready-in-Some, in-None}
 
 pub wait-init : goal.wait-init
 wait-init c = (λ m mode t d. none_ready m mode t c.args.words.now c.args.place, omega arith)
 
 pub wait-preserved : goal.wait-preserved
-wait-preserved c =
-    let before : c.wait.above < c.args.place = search rules in
-    let is : c.in_ok-ready.ready ≡ later_of c.wait.ready (word_in c.args.words.now c.wait.above) c.delay.result = search rules in
-    (λ m mode t d. one_ready m mode t c.args.words.now c.args.place c.wait.above c.wait.ready c.in_ok-ready.ready c.delay.result (c.wait.invariant.0 m mode t d) (c.delay.ensures m mode t d) is, omega (arith, before))
+wait-preserved c = elim c.match-words-above.branch [
+  | in-Some+in_ok-ready-in-Some w ↦
+      let before : c.wait.above < c.args.place = search rules in
+      let stands : word_in c.args.words.now c.wait.above ≡ Some w.in-Some.word = search rules in
+      let is : w.in_ok-ready-in-Some.ready ≡ later_of c.wait.ready w.in-Some.word w.delay.result = search rules in
+      let after : c.match-words-above.ready ≡ later_of c.wait.ready w.in-Some.word w.delay.result = w.ready-is ∙ is in
+      (λ m mode t d. one_ready m mode t c.args.words.now c.args.place c.wait.above c.wait.ready w.in-Some.word c.match-words-above.ready w.delay.result stands (c.wait.invariant.0 m mode t d) (w.delay.ensures m mode t d) after, omega (arith, before))
+  | in-None w ↦
+      let before : c.wait.above < c.args.place = search rules in
+      let none : word_in c.args.words.now c.wait.above ≡ None = search rules in
+      (λ m mode t d. subst (IsReadySoFar m mode t c.args.words.now c.args.place (c.wait.above + 1)) (sym w.ready-is) (none_there m mode t c.args.words.now c.args.place c.wait.above c.wait.ready none (c.wait.invariant.0 m mode t d)), omega (arith, before))
+]
 
 pub returns : goal.returns
 returns c =

@@ -1,0 +1,24 @@
+-- A test that is cheaper than that for room: a row that takes all the slots or all the units that an item needs on its cluster,
+-- or all the copy paths, has no room for it.
+use Rattle.std.specs.Prelude.{◌||◌, ◌==◌, ℕ, Bool, false, nat_le, List, count_by}
+use Rattle.vx_isa.specs.declared.operation.UnitKind.{UnitKind}
+use Rattle.vx_isa.specs.declared.operation.UnitKind.TheVariants.{Alu, Multiply, Memory, Copies, Control}
+use Rattle.vx_isa.specs.Numbers.{Numbers}
+use Rattle.vx_machine.specs.declared.items.ClusteredItem.{ClusteredItem}
+use Rattle.vx_machine.specs.Items.{unit_of_item}
+use Rattle.vx_machine.specs.Room.{count_at, count_in, needs}
+
+-- how many items stand on the cluster
+abbrev pub slots_at : ℕ → List ClusteredItem → ℕ
+slots_at k row = count_by (λ x. x.cluster == k) row
+
+-- the row takes all units of this kind that there are for a cluster
+abbrev pub takes_all : Numbers → UnitKind → (cluster : ℕ) → List ClusteredItem → Bool
+takes_all m Alu k row = nat_le m.alus (count_at k (needs Alu) row)
+takes_all m Multiply k row = nat_le m.multipliers (count_at k (needs Multiply) row)
+takes_all m Memory k row = nat_le m.memory_units (count_at k (needs Memory) row)
+takes_all m Copies k row = nat_le m.copy_paths (count_in (needs Copies) row)
+takes_all m Control k row = false
+
+abbrev pub is_crowded : Numbers → List ClusteredItem → ClusteredItem → Bool
+is_crowded m row x = nat_le m.issue (slots_at x.cluster row) || takes_all m (unit_of_item x.item) x.cluster row
