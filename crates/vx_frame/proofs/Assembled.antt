@@ -1,11 +1,10 @@
 -- What was found for each function, and the words that stand where they were placed, make a program that carries its flow.
-use Rattle.std.proofs.Common.{◌≡◌, ◌≢◌, ◌<◌, ◌≤◌, ◌⊎◌, inl, inr, ⊎_elim, ◌+◌, ◌*◌, ◌^◌, ℕ, zero, suc, ℤ, Bool, true, false, nat_le, count_by, Option, Some, None, List, [], ◌∷◌, length, map, slice_get, slice_index_or, refl, sym, ap, ◌∙◌, subst, arith}
+use Rattle.std.proofs.Common.{◌≡◌, ◌<◌, ◌≤◌, ⊎_elim, ◌+◌, ℕ, zero, suc, true, false, nat_le, count_by, Some, List, [], ◌∷◌, length, map, slice_get, slice_index_or, refl, sym, ap, ◌∙◌, subst, arith}
 use Rattle.std.proofs.lemmas.Bool.{cases_lt, leb-true}
 use Rattle.std.proofs.lemmas.Option.{get_or_from_slice_get}
 use Rattle.vx_flow.specs.declared.graph.Array.{Array}
 use Rattle.vx_flow.specs.declared.graph.Graph.{Graph}
 use Rattle.vx_flow.specs.declared.graph.Flow.{Flow}
-use Rattle.vx_flow.specs.declared.graph.Operand.{Operand}
 use Rattle.vx_flow.specs.declared.trace.Homes.{Homes}
 use Rattle.vx_flow.specs.Effects.{IsIn}
 use Rattle.vx_flow.specs.Sound.{SoundFlow, is_sound_flow}
@@ -34,7 +33,7 @@ use Rattle.vx_frame.specs.declared.gathering.FunctionFrame.{FunctionFrame}
 use Rattle.vx_frame.specs.declared.gathering.Whole.{Whole}
 use Rattle.vx_frame.specs.Target.{Target, is_slotted}
 use Rattle.vx_frame.specs.Tied.{IsFunction}
-use Rattle.vx_frame.specs.Carried.{room_of, item_of_laid, IsMapped, IsSaved, Survives, Arrives, NeedsSlot, is_passed, is_spilled, is_saved, HasWord, IsFramed, IsFunctionOf, words_before, Carries}
+use Rattle.vx_frame.specs.Carried.{room_of, item_of_laid, IsMapped, IsSaved, NeedsSlot, is_passed, is_spilled, is_saved, HasWord, IsFramed, words_before, Carries}
 use Rattle.vx_frame.specs.Finish.{CanFinish, AllCanFinish, IsFinished, SoundLaw}
 use Rattle.vx_frame.specs.Found.{Found, Made}
 use Rattle.vx_frame.specs.Framing.{IsFrameOf, SlotNeeded, is_passed as is_passed_there, is_kept, is_saved as is_saved_there}
@@ -207,9 +206,6 @@ module _ (W : Whole) (flow : Flow) (sound : SoundFlow flow) (found : Found W flo
   pub carries : (w : WordProgram) → Made W flow w → Carries TheTarget flow W.layouts.now w
   carries w made = record {
     machine = found.machine;
-    some_pause = found.some_pause;
-    most_pause = found.most_pause;
-    pause = found.pause;
     functions = λ f lt. record { is = is_function f lt; mapped = mapped f lt; saved = saved f lt; framed = framed f lt };
     some_frame = found.some_frame;
     globals = found.globals;

@@ -1,6 +1,6 @@
 -- A placed program is made of labelled pieces, each with what may be in flight at its start: where each of them meets nothing in
 -- flight and comes to others with no more than these allow, no register is read or written early.
-use Rattle.std.proofs.Common.{◌≡◌, ◌⊎◌, ⊎_elim, ◌+◌, ℕ, suc, List, [], ◌∷◌, ◌++◌, length, length-append, append_assoc, refl, sym, ap, ◌∙◌, subst, arith}
+use Rattle.std.proofs.Common.{◌≡◌, ⊎_elim, ◌+◌, ℕ, suc, List, [], ◌∷◌, ◌++◌, length, length-append, append_assoc, refl, sym, ap, ◌∙◌, subst, arith}
 use Rattle.vx_base.proofs.Pieces.{Piece, words_of as words_of_pieces, heats, heats_of, next_heat, look_up, look_at, Fine, Joined}
 use Rattle.vx_flow.specs.Effects.{IsIn}
 use Rattle.vx_isa.specs.declared.operation.Register.{Register}

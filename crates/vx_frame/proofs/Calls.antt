@@ -36,7 +36,7 @@ use Rattle.vx_mixed.specs.Laid.{laid_program, laid_hop, some_word_hop, laid_body
 use Rattle.vx_mixed.specs.LaidSettled.{bank_in}
 use Rattle.vx_mixed.specs.Origins.{CallsAs}
 use Rattle.vx_regs.specs.Intervals.{IsLive, here, beyond, is_live, result_of}
-use Rattle.vx_frame.specs.Target.{Target, answer, kept, is_slotted, is_branch, home, holds_branch, branch_of, stack_on, parameters_of, register_of, one, waited, bytes, save_words, move_stack, argument_words, call_words, back_words, memory_words}
+use Rattle.vx_frame.specs.Target.{Target, answer, kept, is_slotted, is_branch, home, holds_branch, branch_of, stack_on, parameters_of, register_of, one, waits as idle, in_flight, settled, bytes, save_words, move_stack, argument_words, call_words, back_words, memory_words}
 use Rattle.vx_frame.specs.Tied.{Tied, AtWord, Shows, Row, Arrays, Waits, Below, IsResult, own_arrays, row_in, begins_at, is_place, moved as moved_number, word_at}
 use Rattle.vx_frame.specs.Carried.{Carries, IsFunctionOf, NeedsSlot, is_passed, is_saved, is_spilled, Survives, words_before}
 use Rattle.vx_frame.proofs.Bytes.{unsigned_small}
@@ -127,7 +127,7 @@ module _ (T : Target) (flow : Flow) (ls : List VWords) (w : WordProgram) (sound 
   Compares = one (Compute 0 (ToBranch Ltu) (Branch (record { cluster = 0; number = 0 })) (Held (stack_on 0)) (Number (bytes (T.globals + T.frame))))
 
   abbrev Tests : List Word
-  Tests = Compares ∷ waited T ∷ one (BranchOn 0 true T.depth_trap) ∷ (Down ++ Passes)
+  Tests = settled T (Compares ∷ []) ++ one (BranchOn 0 true T.depth_trap) ∷ (Down ++ Passes)
 
   stands_call : Stands w.words u.place (save_words T F Saved ++ Tests)
   stands_call = stands_left w.words u.place (call_words T F p g arguments) (back_words T F p result) (subst (λ q. Stands w.words q (call_words T F p g arguments ++ back_words T F p result)) (sym at_word.place) (word_stands T flow.main (length flow.functions) w.words carries.placed F p (Call g arguments result) below plan))
@@ -191,8 +191,11 @@ module _ (T : Target) (flow : Flow) (ls : List VWords) (w : WordProgram) (sound 
   abbrev B : State
   B = compared.to
 
+  abbrev Pause : ℕ
+  Pause = in_flight T.machine 0 (Compares ∷ [])
+
   paused : Passed T.machine w fit B (B.place + 1)
-  paused = wait_step T.machine w fit B T.pause compared.quiet.calm (subst (λ q. slice_get w.words q ≡ Some (waited T)) (sym compared.place) tests.1.0)
+  paused = wait_step T.machine w fit B Pause compared.quiet.calm (subst (λ q. slice_get w.words q ≡ Some (idle Pause)) (sym compared.place) tests.1.0)
 
   abbrev C : State
   C = paused.to
@@ -259,7 +262,7 @@ module _ (T : Target) (flow : Flow) (ls : List VWords) (w : WordProgram) (sound 
     go_down = subst (λ q. Stands w.words q (Down ++ Passes)) (ap (λ q. q + 1) (sym place_c)) tests.1.1.1
 
     moved : Moved T.machine w fit D op Lower (λ k. refl) (λ k. refl) (λ k. record { bad = refl; takes = refl; prints = refl; stores = λ m. refl; leads = λ ops. refl }) T.machine.clusters
-    moved = move_run T.machine w fit D op Lower (λ k. refl) (λ k. refl) (λ k. record { bad = refl; takes = refl; prints = refl; stores = λ m. refl; leads = λ ops. refl }) T.machine.clusters T.pause refl (stands_left w.words D.place Down Passes go_down)
+    moved = move_run T.machine w fit D op Lower (λ k. refl) (λ k. refl) (λ k. record { bad = refl; takes = refl; prints = refl; stores = λ m. refl; leads = λ ops. refl }) T.machine.clusters refl (stands_left w.words D.place Down Passes go_down)
 
     abbrev E : State
     E = moved.to

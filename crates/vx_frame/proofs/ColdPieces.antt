@@ -1,6 +1,6 @@
 -- Words of calls, returns and entries that begin with nothing in flight meet nothing in flight.
-use Rattle.std.proofs.Common.{◌≡◌, ◌≤◌, ◌⊎◌, ⊎_elim, ◌+◌, ◌-◌, ℕ, zero, suc, ℤ, pos, neg_ℤ, Bool, true, false, Option, Some, None, List, [], ◌∷◌, ◌++◌, append_assoc, map, refl, sym, ◌∙◌, subst, arith}
-use Rattle.std.specs.Prelude.{if◌then◌else◌}
+use Rattle.std.proofs.Common.{◌≡◌, ◌≤◌, ⊎_elim, ◌+◌, ◌-◌, ℕ, zero, suc, ℤ, pos, neg_ℤ, Bool, true, false, Option, Some, None, List, [], ◌∷◌, ◌++◌, append_assoc, map, refl, sym, ◌∙◌, subst, arith}
+use Rattle.std.specs.Prelude.{if◌then◌else◌, max}
 use Rattle.vx_base.specs.declared.arithmetic.Code.TheVariants.{Add, ToBranch}
 use Rattle.vx_base.specs.declared.arithmetic.Compare.TheVariants.{Ltu, Ne}
 use Rattle.vx_base.specs.declared.outcome.Trap.{Trap}
@@ -16,42 +16,49 @@ use Rattle.vx_isa.specs.declared.operation.GeneralRegister.{GeneralRegister}
 use Rattle.vx_isa.specs.declared.operation.Operation.{Operation}
 use Rattle.vx_isa.specs.declared.operation.Operation.TheVariants.{Compute, Move, Select, Load, Store, Goto, BranchOn, Call, Return, ToLink, EndByTrap, Halt}
 use Rattle.vx_isa.specs.declared.program.Word.{Word}
-use Rattle.vx_isa.specs.Operations.{latency_of}
+use Rattle.vx_isa.specs.Machine.{cycles_of}
 use Rattle.vx_isa.specs.Fits.{destinations}
-use Rattle.vx_frame.specs.Target.{Target, answer, general, general_of, branch_of, stack_on, home, holds_branch, is_slotted, kept, parameters_of, one, waited, load_slot, store_slot, store_slots, on_clusters, move_stack, fetch_words, fetched, cluster_of_operand, argument_words, result_words, call_words, return_words, start_words, bytes, first_frame}
+use Rattle.vx_frame.specs.Target.{Target, answer, general, general_of, branch_of, stack_on, home, holds_branch, is_slotted, kept, parameters_of, one, waits, latest, in_flight, settled, load_slot, store_slot, store_slots, on_clusters, move_stack, fetch_words, fetched, cluster_of_operand, argument_words, result_words, call_words, return_words, start_words, bytes, first_frame}
 use Rattle.vx_frame.proofs.Early.{falls, Jumps, Touches}
-use Rattle.vx_frame.proofs.Heats.{lift, FineWords, word_fine, wait_fine, stop_fine}
+use Rattle.vx_frame.proofs.Heats.{lift, stays, FineWords, word_fine, wait_fine, stop_fine}
 
-module _ (T : Target) (heat : ℕ → Register → ℕ) (short : (op : Operation) → latency_of T.machine op ≤ T.pause + 1) where
+module _ (T : Target) (heat : ℕ → Register → ℕ) where
   abbrev pub Fine : (Register → ℕ) → List Word → (Register → ℕ) → Type 0
-  Fine h ws e = FineWords T.machine heat T.pause short h ws e
+  Fine h ws e = FineWords T.machine heat h ws e
 
-  -- a word that waits until its results have landed
-  pub settle : (ops : List Operation) (rest : List Word) (e : Register → ℕ) → falls ops ≡ true → ((q : ℕ) → Jumps ops q → ⊥) → Fine cold rest e → Fine cold (record { ops = ops; idle = 0 } ∷ waited T ∷ rest) e
-  settle ops rest e fall none f = word_fine T.machine heat T.pause short cold [] ops (waited T ∷ rest) e fall (λ q r j. absurd (none q j)) (λ r t. refl) (wait_fine T.machine heat T.pause short cold (destinations ops ++ []) rest e f)
+  -- a word, and a pause in which its results land
+  settle_in : (k : ℕ) (ops : List Operation) (rest : List Word) (e : Register → ℕ) → latest T.machine ops ≤ k + 1 → falls ops ≡ true → ((q : ℕ) → Jumps ops q → ⊥) → Fine cold rest e → Fine cold (record { ops = ops; idle = 0 } ∷ waits k ∷ rest) e
+  settle_in k ops rest e long fall none f =
+      let n : ℕ = max 0 (latest T.machine ops) - 1 in
+      word_fine T.machine heat 0 cold cold [] ops (waits k ∷ rest) e fall (stays 1 cold) (λ q r j. absurd (none q j)) (λ r t. refl)
+      (wait_fine T.machine heat n k cold cold (destinations ops ++ []) rest e (omega arith) (stays (cycles_of (waits k)) cold) f)
+
+  -- and no longer
+  pub settle : (ops : List Operation) (rest : List Word) (e : Register → ℕ) → falls ops ≡ true → ((q : ℕ) → Jumps ops q → ⊥) → Fine cold rest e → Fine cold (record { ops = ops; idle = 0 } ∷ waits (in_flight T.machine 0 (record { ops = ops; idle = 0 } ∷ [])) ∷ rest) e
+  settle ops rest e fall none f = settle_in (in_flight T.machine 0 (record { ops = ops; idle = 0 } ∷ [])) ops rest e (omega arith) fall none f
 
   -- a word without results
   pass : (op : Operation) (rest : List Word) (e : Register → ℕ) → destinations (op ∷ []) ≡ [] → falls (op ∷ []) ≡ true → ((q : ℕ) → Jumps (op ∷ []) q → ⊥) → Fine cold rest e → Fine cold (one op ∷ rest) e
-  pass op rest e no_ fall none f = word_fine T.machine heat T.pause short cold [] (op ∷ []) rest e fall (λ q r j. absurd (none q j)) (λ r t. refl) (subst (λ ds. Fine (lift T.pause cold (ds ++ [])) rest e) (sym no_) f)
+  pass op rest e no_ fall none f = word_fine T.machine heat 0 cold cold [] (op ∷ []) rest e fall (stays 1 cold) (λ q r j. absurd (none q j)) (λ r t. refl) (subst (λ ds. Fine (lift (max 0 (latest T.machine (op ∷ [])) - 1) cold (ds ++ [])) rest e) (sym no_) f)
 
   -- the branch of a call to its trap
   branch_fine : (t q : ℕ) (y : Bool) (rest : List Word) (e : Register → ℕ) → Fine cold rest e → Fine cold (one (BranchOn t y q) ∷ rest) e
-  branch_fine t q y rest e f = word_fine T.machine heat T.pause short cold [] (BranchOn t y q ∷ []) rest e refl (λ p r j. omega arith) (λ r t. refl) f
+  branch_fine t q y rest e f = word_fine T.machine heat 0 cold cold [] (BranchOn t y q ∷ []) rest e refl (stays 1 cold) (λ p r j. omega arith) (λ r t. refl) f
 
   pub jump_fine : (q : ℕ) (rest : List Word) (e : Register → ℕ) → Fine cold rest e → Fine cold (one (Goto q) ∷ rest) e
-  jump_fine q rest e f = stop_fine T.machine heat T.pause short cold (Goto q ∷ []) rest e refl (λ p r j. omega arith) refl (λ r t. refl) f
+  jump_fine q rest e f = stop_fine T.machine heat cold (Goto q ∷ []) rest e refl (λ p r j. omega arith) refl (λ r t. refl) f
 
   call_fine : (q : ℕ) (rest : List Word) (e : Register → ℕ) → Fine cold rest e → Fine cold (one (Call q) ∷ rest) e
-  call_fine q rest e f = stop_fine T.machine heat T.pause short cold (Call q ∷ []) rest e refl (λ p r j. omega arith) refl (λ r t. refl) f
+  call_fine q rest e f = stop_fine T.machine heat cold (Call q ∷ []) rest e refl (λ p r j. omega arith) refl (λ r t. refl) f
 
   go_back_fine : (rest : List Word) (e : Register → ℕ) → Fine cold rest e → Fine cold (one Return ∷ rest) e
-  go_back_fine rest e f = stop_fine T.machine heat T.pause short cold (Return ∷ []) rest e refl (λ p r j. omega arith) refl (λ r t. refl) f
+  go_back_fine rest e f = stop_fine T.machine heat cold (Return ∷ []) rest e refl (λ p r j. omega arith) refl (λ r t. refl) f
 
   pub ends_fine : (k : Trap) (rest : List Word) (e : Register → ℕ) → Fine cold rest e → Fine cold (one (EndByTrap k) ∷ rest) e
-  ends_fine k rest e f = stop_fine T.machine heat T.pause short cold (EndByTrap k ∷ []) rest e refl (λ p r j. absurd j) refl (λ r t. refl) f
+  ends_fine k rest e f = stop_fine T.machine heat cold (EndByTrap k ∷ []) rest e refl (λ p r j. absurd j) refl (λ r t. refl) f
 
   halt_fine : (a : Source) (rest : List Word) (e : Register → ℕ) → Fine cold rest e → Fine cold (one (Halt a) ∷ rest) e
-  halt_fine a rest e f = stop_fine T.machine heat T.pause short cold (Halt a ∷ []) rest e refl (λ p r j. absurd j) refl (λ r t. refl) f
+  halt_fine a rest e f = stop_fine T.machine heat cold (Halt a ∷ []) rest e refl (λ p r j. absurd j) refl (λ r t. refl) f
 
   pub nothing_fine : (e : Register → ℕ) → Fine cold [] e
   nothing_fine e = λ r. omega arith
@@ -65,7 +72,7 @@ module _ (T : Target) (heat : ℕ → Register → ℕ) (short : (op : Operation
   save_one f v names rest e more = by (holds_branch T f v)
     where
       by : (b : Bool) → Fine cold ((if b
-          then one (Select 0 answer (record { cluster = 0; number = branch_of T f names v }) (Number (pos 1)) (Number (pos 0))) ∷ waited T ∷ one (Store 0 (bytes (T.slot f v)) (stack_on 0) (Held answer)) ∷ []
+          then settled T (one (Select 0 answer (record { cluster = 0; number = branch_of T f names v }) (Number (pos 1)) (Number (pos 0))) ∷ []) ++ one (Store 0 (bytes (T.slot f v)) (stack_on 0) (Held answer)) ∷ []
           else one (Store (home T f v) (bytes (T.slot f v)) (stack_on (home T f v)) (Held (general_of T f names v))) ∷ []) ++ rest) e
       by true = settle (Select 0 answer (record { cluster = 0; number = branch_of T f names v }) (Number (pos 1)) (Number (pos 0)) ∷ []) (one (Store 0 (bytes (T.slot f v)) (stack_on 0) (Held answer)) ∷ rest) e refl (λ q j. j) (store_fine 0 (bytes (T.slot f v)) (stack_on 0) (Held answer) rest e more)
       by false = store_fine (home T f v) (bytes (T.slot f v)) (stack_on (home T f v)) (Held (general_of T f names v)) rest e more
@@ -77,21 +84,29 @@ module _ (T : Target) (heat : ℕ → Register → ℕ) (short : (op : Operation
 
   -- operands
 
-  fetch_one : (f up v : ℕ) (names : List ℕ) (rest : List Word) (e : Register → ℕ) → Fine cold rest e → Fine cold (load_slot T f up v (general_of T f names v) (branch_of T f names v) ++ (waited T ∷ rest)) e
+  fetch_one : (f up v : ℕ) (names : List ℕ) (rest : List Word) (e : Register → ℕ) → Fine cold rest e → Fine cold (load_slot T f up v (general_of T f names v) (branch_of T f names v) ++ (waits (in_flight T.machine 0 (load_slot T f up v (general_of T f names v) (branch_of T f names v))) ∷ rest)) e
   fetch_one f up v names rest e more = by (holds_branch T f v)
     where
-      by : (b : Bool) → Fine cold ((if b
-          then one (Load 0 answer (bytes (up + T.slot f v)) (stack_on 0) false) ∷ waited T ∷ one (Compute 0 (ToBranch Ne) (InBranch (record { cluster = 0; number = branch_of T f names v })) (Held answer) (Number (pos 0))) ∷ []
-          else one (Load (home T f v) (general_of T f names v) (bytes (up + T.slot f v)) (stack_on (home T f v)) false) ∷ []) ++ (waited T ∷ rest)) e
-      by true = settle (Load 0 answer (bytes (up + T.slot f v)) (stack_on 0) false ∷ []) (one (Compute 0 (ToBranch Ne) (InBranch (record { cluster = 0; number = branch_of T f names v })) (Held answer) (Number (pos 0))) ∷ waited T ∷ rest) e refl (λ q j. j)
-          (settle (Compute 0 (ToBranch Ne) (InBranch (record { cluster = 0; number = branch_of T f names v })) (Held answer) (Number (pos 0)) ∷ []) rest e refl (λ q j. j) more)
+      Words : Bool → List Word
+      Words b =
+          if b
+          then settled T (one (Load 0 answer (bytes (up + T.slot f v)) (stack_on 0) false) ∷ []) ++ one (Compute 0 (ToBranch Ne) (InBranch (record { cluster = 0; number = branch_of T f names v })) (Held answer) (Number (pos 0))) ∷ []
+          else one (Load (home T f v) (general_of T f names v) (bytes (up + T.slot f v)) (stack_on (home T f v)) false) ∷ []
+
+      by : (b : Bool) → Fine cold (Words b ++ (waits (in_flight T.machine 0 (Words b)) ∷ rest)) e
+      by true =
+          let k : ℕ = in_flight T.machine 0 (Words true) in
+          settle (Load 0 answer (bytes (up + T.slot f v)) (stack_on 0) false ∷ []) (one (Compute 0 (ToBranch Ne) (InBranch (record { cluster = 0; number = branch_of T f names v })) (Held answer) (Number (pos 0))) ∷ waits k ∷ rest) e refl (λ q j. j)
+          (settle_in k (Compute 0 (ToBranch Ne) (InBranch (record { cluster = 0; number = branch_of T f names v })) (Held answer) (Number (pos 0)) ∷ []) rest e (omega arith) refl (λ q j. j) more)
       by false = settle (Load (home T f v) (general_of T f names v) (bytes (up + T.slot f v)) (stack_on (home T f v)) false ∷ []) rest e refl (λ q j. j) more
 
   pub fetch_fine : (f up : ℕ) (x : Operand) (rest : List Word) (e : Register → ℕ) → Fine cold rest e → Fine cold (fetch_words T f up x ++ rest) e
   fetch_fine f up (HeldValue v) rest e more = by (is_slotted (kept T f v))
     where
-      by : (b : Bool) → Fine cold ((if b then load_slot T f up v (general_of T f (v ∷ []) v) (branch_of T f (v ∷ []) v) ++ waited T ∷ [] else []) ++ rest) e
-      by true = subst (λ ws. Fine cold ws e) (sym (append_assoc (load_slot T f up v (general_of T f (v ∷ []) v) (branch_of T f (v ∷ []) v)) (waited T ∷ []) rest)) (fetch_one f up v (v ∷ []) rest e more)
+      by : (b : Bool) → Fine cold ((if b then settled T (load_slot T f up v (general_of T f (v ∷ []) v) (branch_of T f (v ∷ []) v)) else []) ++ rest) e
+      by true =
+          let words : List Word = load_slot T f up v (general_of T f (v ∷ []) v) (branch_of T f (v ∷ []) v) in
+          subst (λ ws. Fine cold ws e) (sym (append_assoc words (waits (in_flight T.machine 0 words) ∷ []) rest)) (fetch_one f up v (v ∷ []) rest e more)
       by false = more
   fetch_fine f up (AsNumber n) rest e more = more
   fetch_fine f up Stack rest e more = more
@@ -108,7 +123,7 @@ module _ (T : Target) (heat : ℕ → Register → ℕ) (short : (op : Operation
   result_fine f None rest e more = more
   result_fine f (Some v) rest e more = by (is_slotted (kept T f v))
     where
-      by : (b : Bool) → Fine cold ((if b then one (Store 0 (bytes (T.slot f v)) (stack_on 0) (Held answer)) ∷ [] else one (Move (home T f v) (general_of T f (v ∷ []) v) (Held answer)) ∷ waited T ∷ []) ++ rest) e
+      by : (b : Bool) → Fine cold ((if b then one (Store 0 (bytes (T.slot f v)) (stack_on 0) (Held answer)) ∷ [] else settled T (one (Move (home T f v) (general_of T f (v ∷ []) v) (Held answer)) ∷ [])) ++ rest) e
       by true = store_fine 0 (bytes (T.slot f v)) (stack_on 0) (Held answer) rest e more
       by false = settle (Move (home T f v) (general_of T f (v ∷ []) v) (Held answer) ∷ []) rest e refl (λ q j. j) more
 
@@ -142,7 +157,7 @@ module _ (T : Target) (heat : ℕ → Register → ℕ) (short : (op : Operation
       let w2 : List Word = move_stack T (neg_ℤ (bytes T.frame)) ++ w3 in
       let w1 : List Word = one (BranchOn 0 true T.depth_trap) ∷ w2 in
       let test : Operation = Compute 0 (ToBranch Ltu) (InBranch (record { cluster = 0; number = 0 })) (Held (stack_on 0)) (Number (bytes (T.globals + T.frame))) in
-      save_fine f (T.saved f p) (T.saved f p) (one test ∷ waited T ∷ w1) e
+      save_fine f (T.saved f p) (T.saved f p) (settled T (one test ∷ []) ++ w1) e
       (settle (test ∷ []) w1 e refl (λ q j. j)
       (branch_fine 0 T.depth_trap true w2 e
       (move_fine (neg_ℤ (bytes T.frame)) w3 e
@@ -152,15 +167,17 @@ module _ (T : Target) (heat : ℕ → Register → ℕ) (short : (op : Operation
   pub return_fine : (f : ℕ) (x : Operand) (e : Register → ℕ) → Fine cold (return_words T f x) e
   return_fine f x e =
       let w3 : List Word = one Return ∷ [] in
-      let w2 : List Word = one (ToLink (Held (general 0 3))) ∷ waited T ∷ w3 in
+      let w2 : List Word = settled T (one (ToLink (Held (general 0 3))) ∷ []) ++ w3 in
       let load : Operation = Load 0 (general 0 3) (pos 0) (stack_on 0) false in
       let move : Operation = Move 0 answer (fetched T f x) in
       let answered : List Register = InGeneral answer ∷ [] in
-      let off : (r : Register) → Touches (load ∷ []) r → lift T.pause cold answered r ≡ 0 = λ r t. ⊎_elim
-      (λ i. ⊎_elim (λ q. subst (λ y. lift T.pause cold answered y ≡ 0) (sym q) refl) (λ z. absurd z) i)
-      (λ i. ⊎_elim (λ q. subst (λ y. lift T.pause cold answered y ≡ 0) (sym q) refl) (λ z. absurd z) i) t.0 in
-      fetch_fine f 0 x (one move ∷ one load ∷ waited T ∷ w2) e
-      (word_fine T.machine heat T.pause short cold [] (move ∷ []) (one load ∷ waited T ∷ w2) e refl (λ q r j. absurd j) (λ r t. refl)
-      (word_fine T.machine heat T.pause short cold answered (load ∷ []) (waited T ∷ w2) e refl (λ q r j. absurd j) off
-      (wait_fine T.machine heat T.pause short cold (InGeneral (general 0 3) ∷ answered) w2 e
+      let k : ℕ = max 0 (latest T.machine (move ∷ [])) - 1 in
+      let n : ℕ = in_flight T.machine 0 (one move ∷ one load ∷ []) in
+      let off : (r : Register) → Touches (load ∷ []) r → lift k cold answered r ≡ 0 = λ r t. ⊎_elim
+      (λ i. ⊎_elim (λ q. subst (λ y. lift k cold answered y ≡ 0) (sym q) refl) (λ z. absurd z) i)
+      (λ i. ⊎_elim (λ q. subst (λ y. lift k cold answered y ≡ 0) (sym q) refl) (λ z. absurd z) i) t.0 in
+      fetch_fine f 0 x (settled T (one move ∷ one load ∷ []) ++ w2) e
+      (word_fine T.machine heat 0 cold cold [] (move ∷ []) (one load ∷ waits n ∷ w2) e refl (stays 1 cold) (λ q r j. absurd j) (λ r t. refl)
+      (word_fine T.machine heat k cold cold answered (load ∷ []) (waits n ∷ w2) e refl (stays 1 cold) (λ q r j. absurd j) off
+      (wait_fine T.machine heat n n cold cold (InGeneral (general 0 3) ∷ answered) w2 e (omega arith) (stays (cycles_of (waits n)) cold)
       (settle (ToLink (Held (general 0 3)) ∷ []) w3 e refl (λ q j. j) (go_back_fine [] e (nothing_fine e))))))

@@ -1,5 +1,5 @@
 -- A program of pieces, each with what may be in flight at its start, reads and writes no register early on any path.
-use Rattle.std.proofs.Common.{◌≡◌, ◌⊎◌, inl, inr, ⊎_elim, ◌+◌, ◌-◌, ℕ, Bool, true, false, cond, Option, Some, None, List, [], ◌∷◌, ◌++◌, refl, sym, subst, arith}
+use Rattle.std.proofs.Common.{◌≡◌, ◌⊎◌, inl, inr, ⊎_elim, ◌+◌, ℕ, Bool, true, false, cond, Option, Some, None, List, [], ◌∷◌, ◌++◌, refl, sym, subst, arith}
 use Rattle.std.specs.Prelude.{slice_get}
 use Rattle.vx_base.proofs.Pieces.{Kind, Cools, Piece, words_of, heats_of, look_up, Joined, Hit, HitsWith, cooled_by, hits_more, hits_kept, hits_fresh, pieces_certificate}
 use Rattle.vx_base.proofs.Certificate.{IsCertificate, never_early, never_early_anywhere}

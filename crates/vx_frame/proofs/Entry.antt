@@ -23,7 +23,7 @@ use Rattle.vx_mixed.specs.LaidSettled.{bank_in}
 use Rattle.vx_regs.specs.Intervals.{IsLive, is_live}
 use Rattle.vx_regs.specs.declared.map.Kept.{Kept}
 use Rattle.vx_regs.specs.declared.map.Kept.TheVariants.{InRegister}
-use Rattle.vx_frame.specs.Target.{Target, general, stack_on, kept, is_slotted, is_branch, parameters_of, holds_branch, register_of, one, waited, reload_words, entry_words, memory_words}
+use Rattle.vx_frame.specs.Target.{Target, general, stack_on, kept, is_slotted, is_branch, parameters_of, holds_branch, register_of, one, waits, in_flight, reload_words, entry_words, memory_words}
 use Rattle.vx_frame.specs.Tied.{Tied, AtEntry, Arrays, Below, begins_at, Shows, holds, is_place, moved, word_at}
 use Rattle.vx_frame.specs.Carried.{Carries, IsFunctionOf, is_passed, Arrives}
 use Rattle.vx_frame.specs.Planned.{CarriesOn, EntryLaw}
@@ -144,8 +144,11 @@ module _ (T : Target) (flow : Flow) (ls : List VWords) (w : WordProgram) (sound 
   abbrev A : State
   A = linked.to
 
+  abbrev Pause : ℕ
+  Pause = in_flight T.machine 0 (one (FromLink (general 0 3)) ∷ [])
+
   paused : Passed T.machine w fit A (A.place + 1)
-  paused = wait_step T.machine w fit A T.pause linked.quiet.calm (subst (λ q. slice_get w.words q ≡ Some (waited T)) (sym linked.place) stands.1.0)
+  paused = wait_step T.machine w fit A Pause linked.quiet.calm (subst (λ q. slice_get w.words q ≡ Some (waits Pause)) (sym linked.place) stands.1.0)
 
   abbrev B : State
   B = paused.to

@@ -1,5 +1,5 @@
 -- The words at the start of a function and behind a call reload values while nothing else is in flight.
-use Rattle.std.proofs.Common.{◌≡◌, ◌≤◌, ◌+◌, ℕ, suc, pos, false, Option, Some, List, [], ◌∷◌, ◌++◌, append_assoc, refl, sym, ap, subst, arith}
+use Rattle.std.proofs.Common.{◌≡◌, ℕ, suc, pos, false, Option, Some, List, [], ◌∷◌, ◌++◌, append_assoc, refl, sym, ap, subst, arith}
 use Rattle.std.proofs.lemmas.List.{append-nil}
 use Rattle.vx_base.proofs.Pieces.{cold, fine_append}
 use Rattle.vx_flow.specs.declared.graph.Bank.{Bank}
@@ -8,15 +8,13 @@ use Rattle.vx_flow.specs.Effects.{IsIn}
 use Rattle.vx_flow.specs.Sound.{Sound}
 use Rattle.vx_isa.specs.declared.operation.Register.{Register}
 use Rattle.vx_isa.specs.declared.operation.Source.TheVariants.{Held}
-use Rattle.vx_isa.specs.declared.operation.Operation.{Operation}
 use Rattle.vx_isa.specs.declared.operation.Operation.TheVariants.{FromLink, Store, Goto}
 use Rattle.vx_isa.specs.declared.program.Word.{Word}
-use Rattle.vx_isa.specs.Operations.{latency_of}
 use Rattle.vx_machine.specs.Items.{latency_of_op}
 use Rattle.vx_mixed.specs.LaidSettled.{bank_in}
 use Rattle.vx_mixed.specs.Settled.{NoTwice}
 use Rattle.vx_regs.specs.Intervals.{IsBusy, is_live}
-use Rattle.vx_frame.specs.Target.{Target, general, kept, is_slotted, stack_on, one, waited, load_slots, reload_words, result_words, entry_words, call_words, back_words, bytes}
+use Rattle.vx_frame.specs.Target.{Target, general, kept, is_slotted, stack_on, one, waits, in_flight, load_slots, reload_words, result_words, entry_words, call_words, back_words, bytes}
 use Rattle.vx_frame.specs.Carried.{IsMapped, IsSaved, CallsAt}
 use Rattle.vx_frame.proofs.Names.{not_general, apart_registers}
 use Rattle.vx_frame.proofs.Live.{live_bank}
@@ -24,15 +22,15 @@ use Rattle.vx_frame.proofs.Early.{words_kind, words_cool}
 use Rattle.vx_frame.proofs.Loads.{Names, loads_fine}
 use Rattle.vx_frame.proofs.ColdPieces.{Fine, settle, store_fine, jump_fine, nothing_fine, move_fine, result_fine, call_words_fine}
 
-module _ (T : Target) (heat : ℕ → Register → ℕ) (short : (op : Operation) → latency_of T.machine op ≤ T.pause + 1) (f : ℕ) (mapped : IsMapped T f) (sound : Sound (T.graph f)) (saved : IsSaved T f) where
+module _ (T : Target) (heat : ℕ → Register → ℕ) (f : ℕ) (mapped : IsMapped T f) (sound : Sound (T.graph f)) (saved : IsSaved T f) where
   abbrev F : (Register → ℕ) → List Word → (Register → ℕ) → Type 0
-  F h ws e = Fine T heat short h ws e
+  F h ws e = Fine T heat h ws e
 
   -- values that are live at a place and in registers
   abbrev Here : ℕ → ℕ → Type 0
   Here p v = IsBusy (latency_of_op T.machine) (T.layout f) p v × ((b : Bank) × (bank_in (T.layout f) v ≡ Some b)) × (is_slotted (kept T f v) ≡ false)
 
-  kept_names : (p : ℕ) (vs : List ℕ) → ((v : ℕ) → IsIn v vs → Here p v) → Names T heat short f vs cold
+  kept_names : (p : ℕ) (vs : List ℕ) → ((v : ℕ) → IsIn v vs → Here p v) → Names T heat f vs cold
   kept_names p vs h = record {
     stack = λ k. refl;
     answered = refl;
@@ -44,8 +42,8 @@ module _ (T : Target) (heat : ℕ → Register → ℕ) (short : (op : Operation
 
   reload_fine : (p : ℕ) (vs : List ℕ) (rest : List Word) (e : Register → ℕ) → ((v : ℕ) → IsIn v vs → Here p v) → NoTwice vs → F cold rest e → F cold (reload_words T f vs ++ rest) e
   reload_fine p [] rest e h once more = more
-  reload_fine p (v ∷ vs) rest e h once more = subst (λ ws. F cold ws e) (sym (append_assoc (load_slots T f (v ∷ vs) (v ∷ vs)) (waited T ∷ []) rest))
-      (loads_fine T heat short f (v ∷ vs) cold (kept_names p (v ∷ vs) h) [] (v ∷ vs) rest e (λ u i. absurd i) (λ u i. i) (λ u i j. j) once more)
+  reload_fine p (v ∷ vs) rest e h once more = subst (λ ws. F cold ws e) (sym (append_assoc (load_slots T f (v ∷ vs) (v ∷ vs)) (waits (in_flight T.machine 0 (load_slots T f (v ∷ vs) (v ∷ vs))) ∷ []) rest))
+      (loads_fine T heat f (v ∷ vs) cold (kept_names p (v ∷ vs) h) 0 [] (v ∷ vs) rest e (λ u i. absurd i) (λ u i. i) (λ u i j. j) once more)
 
   brought : (v : ℕ) → IsIn v (T.brought f) → Here (T.layout f).entry v
   brought v i = let a = saved.brought v i in (is_live a.live, live_bank T f mapped sound (T.layout f).entry v a.live, ap is_slotted a.register)
@@ -54,10 +52,10 @@ module _ (T : Target) (heat : ℕ → Register → ℕ) (short : (op : Operation
   entry_fine e =
       let last : List Word = one (Goto (T.starts f (T.layout f).entry)) ∷ [] in
       let rest : List Word = reload_words T f (T.brought f) ++ last in
-      settle T heat short (FromLink (general 0 3) ∷ []) (one (Store 0 (pos 0) (stack_on 0) (Held (general 0 3))) ∷ rest) e refl (λ q j. j)
-      (store_fine T heat short 0 (pos 0) (stack_on 0) (Held (general 0 3)) rest e
+      settle T heat (FromLink (general 0 3) ∷ []) (one (Store 0 (pos 0) (stack_on 0) (Held (general 0 3))) ∷ rest) e refl (λ q j. j)
+      (store_fine T heat 0 (pos 0) (stack_on 0) (Held (general 0 3)) rest e
       (reload_fine (T.layout f).entry (T.brought f) last e brought saved.brought_once
-      (jump_fine T heat short (T.starts f (T.layout f).entry) [] e (nothing_fine T heat short e))))
+      (jump_fine T heat (T.starts f (T.layout f).entry) [] e (nothing_fine T heat e))))
 
   survives : (p g : ℕ) (arguments : List Operand) (result : Option ℕ) → CallsAt T f p g arguments result → (v : ℕ) → IsIn v (T.saved f p) → Here (suc p) v
   survives p g arguments result at v i = let a = saved.saved p g v arguments result at i in (is_live a.live, live_bank T f mapped sound (suc p) v a.live, ap is_slotted a.register)
@@ -67,7 +65,7 @@ module _ (T : Target) (heat : ℕ → Register → ℕ) (short : (op : Operation
   call_fine p g arguments result e at =
       let reload : List Word = reload_words T f (T.saved f p) in
       let back : F cold (back_words T f p result) e =
-      move_fine T heat short (bytes T.frame) (result_words T f result ++ reload) e
-      (result_fine T heat short f result reload e
-      (subst (λ ws. F cold ws e) (append-nil reload) (reload_fine (suc p) (T.saved f p) [] e (survives p g arguments result at) (saved.saved_once p) (nothing_fine T heat short e)))) in
-      fine_append (words_kind T.machine) (words_cool T.machine) heat cold cold e (call_words T f p g arguments) (back_words T f p result) (call_words_fine T heat short f p g arguments cold) back
+      move_fine T heat (bytes T.frame) (result_words T f result ++ reload) e
+      (result_fine T heat f result reload e
+      (subst (λ ws. F cold ws e) (append-nil reload) (reload_fine (suc p) (T.saved f p) [] e (survives p g arguments result at) (saved.saved_once p) (nothing_fine T heat e)))) in
+      fine_append (words_kind T.machine) (words_cool T.machine) heat cold cold e (call_words T f p g arguments) (back_words T f p result) (call_words_fine T heat f p g arguments cold) back

@@ -1,23 +1,21 @@
 -- The registers by which words name values are in the files of the machine.
-use Rattle.std.proofs.Common.{◌≡◌, ◌≢◌, ◌<◌, ◌≤◌, ◌⊎◌, inl, inr, ⊎_elim, ◌+◌, ◌*◌, ℕ, zero, suc, Bool, true, false, ◌&&◌, eqb, nat_lt, cond, Option, Some, None, List, [], ◌∷◌, length, refl, sym, ap, ◌∙◌, subst, arith}
-use Rattle.std.specs.Prelude.{if◌then◌else◌}
+use Rattle.std.proofs.Common.{◌≡◌, ◌<◌, ◌≤◌, ◌+◌, ℕ, Bool, true, false, cond, Some, List, [], ◌∷◌, length, refl, sym, ap, ◌∙◌, subst, arith}
 use Rattle.std.specs.List.{filter}
 use Rattle.std.specs.Cmp.Derive.{both_true}
 use Rattle.std.proofs.lemmas.Bool.{lt-ltb}
 use Rattle.vx_flow.specs.declared.graph.Bank.{Bank}
 use Rattle.vx_flow.specs.declared.graph.Bank.TheVariants.{General as GeneralBank, Branch as BranchBank}
 use Rattle.vx_flow.specs.Effects.{IsIn}
-use Rattle.vx_isa.specs.declared.operation.Register.{Register}
-use Rattle.vx_isa.specs.declared.operation.Register.TheVariants.{General, Branch, Link}
+use Rattle.vx_isa.specs.declared.operation.Register.TheVariants.{General, Branch}
 use Rattle.vx_isa.specs.Fits.{is_in_file}
 use Rattle.vx_mixed.specs.LaidSettled.{bank_in}
 use Rattle.vx_mixed.specs.Settled.{stands_for}
 use Rattle.vx_regs.specs.declared.map.Kept.{Kept}
 use Rattle.vx_regs.specs.declared.map.Kept.TheVariants.{InRegister, InSlot, Nowhere}
-use Rattle.vx_frame.specs.Target.{Target, is_branch, kept, is_slotted, home, holds_branch, general_of, branch_of, number_by, scratch, slotted, same_file}
+use Rattle.vx_frame.specs.Target.{Target, is_branch, kept, is_slotted, home, holds_branch, general_of, branch_of, number_by, scratch, same_file}
 use Rattle.vx_frame.specs.Carried.{IsMapped}
 use Rattle.vx_frame.proofs.Limits.{Limits}
-use Rattle.vx_frame.proofs.Names.{Few, HasBank, Filed, filed, index_below, in_register, file_general, file_branch}
+use Rattle.vx_frame.proofs.Names.{Few, HasBank, Filed, filed, index_below, file_general, file_branch}
 
 at_most_one : (t q : ℕ → Bool) (v : ℕ) → length (filter t (filter q (v ∷ []))) ≤ 1
 at_most_one t q v = by (q v)

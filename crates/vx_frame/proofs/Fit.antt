@@ -1,8 +1,7 @@
 -- Every word of a program that carries a flow is well formed and fits: planned words by their room, all others since they hold
 -- one operation, or one on each cluster.
-use Rattle.std.proofs.Common.{◌≡◌, ◌≢◌, ◌<◌, ◌≤◌, ◌⊎◌, inl, inr, ⊎_elim, ◌+◌, ◌*◌, ◌-◌, ℕ, zero, suc, ℤ, pos, neg_ℤ, Bool, true, false, ◌&&◌, eqb, Option, Some, None, List, [], ◌∷◌, ◌++◌, length, map, count_by, refl, sym, ap, ◌∙◌, subst, arith}
+use Rattle.std.proofs.Common.{◌≡◌, ◌≢◌, ◌<◌, ◌≤◌, ◌⊎◌, inl, inr, ⊎_elim, ◌+◌, ℕ, zero, suc, ℤ, pos, neg_ℤ, Bool, true, false, ◌&&◌, eqb, Option, Some, None, List, [], ◌∷◌, ◌++◌, length, map, count_by, refl, sym, ap, subst, arith}
 use Rattle.std.specs.Prelude.{if◌then◌else◌, slice_get}
-use Rattle.std.specs.List.{list_all, flat_map}
 use Rattle.std.specs.Cmp.Derive.{both_true}
 use Rattle.std.proofs.lemmas.Bool.{ne_eqb, lt-ltb, and_parts, ltb-true}
 use Rattle.std.proofs.lemmas.Bool.Decides.{nat_tests}
@@ -26,7 +25,6 @@ use Rattle.vx_isa.specs.declared.operation.GeneralRegister.{GeneralRegister}
 use Rattle.vx_isa.specs.declared.operation.Register.{Register}
 use Rattle.vx_isa.specs.declared.operation.Register.TheVariants.{General as InGeneral, Branch as InBranch}
 use Rattle.vx_isa.specs.declared.operation.Source.TheVariants.{Held, Number}
-use Rattle.vx_isa.specs.declared.operation.Operation.{Operation}
 use Rattle.vx_isa.specs.declared.operation.Operation.TheVariants.{Compute, Move, Select, Load, Store, Goto, BranchOn, Call, Return, FromLink, ToLink, EndByTrap, Halt}
 use Rattle.vx_isa.specs.declared.program.Word.{Word}
 use Rattle.vx_isa.specs.declared.program.WordProgram.{WordProgram}
@@ -43,9 +41,8 @@ use Rattle.vx_mixed.specs.declared.layout.VirtualWord.TheVariants.{Planned, Drai
 use Rattle.vx_mixed.specs.declared.layout.VWords.{VWords}
 use Rattle.vx_mixed.specs.LaidSettled.{bank_in, laid_reads, laid_writes, Plans}
 use Rattle.vx_regs.specs.Intervals.{IsBusy, is_live, is_named, word_reads, word_writes}
-use Rattle.vx_regs.specs.declared.map.Kept.TheVariants.{InRegister}
-use Rattle.vx_frame.specs.Target.{Target, answer, general, general_of, branch_of, stack_on, zero_on, home, holds_branch, is_branch, is_slotted, kept, slotted, parameters_of, one, waited, waits, load_slot, store_slot, load_slots, store_slots, if_some, once, before, behind, plan_word, plan_words, landing_words, on_clusters, move_stack, save_words, reload_words, fetch_words, fetched, cluster_of_operand, argument_words, result_words, call_words, back_words, return_words, entry_words, choice_words, word_words, start_words, bytes, first_frame}
-use Rattle.vx_frame.specs.Placed.{Start, Entry, At, Landing, Depth, Labelled, laid_pieces, landing_of, item_landings, word_landings, landing_pieces, function_pieces, functions_pieces, all_pieces, words_of}
+use Rattle.vx_frame.specs.Target.{Target, answer, general, general_of, branch_of, stack_on, home, holds_branch, is_branch, is_slotted, kept, slotted, parameters_of, one, waits, in_flight, settled, slots_in_flight, load_slot, store_slot, load_slots, store_slots, if_some, once, before, behind, plan_word, plan_words, landing_words, move_stack, save_words, reload_words, fetch_words, fetched, cluster_of_operand, argument_words, result_words, call_words, back_words, return_words, entry_words, word_words, start_words, bytes, first_frame}
+use Rattle.vx_frame.specs.Placed.{Depth, Labelled, laid_pieces, landing_of, item_landings, word_landings, landing_pieces, function_pieces, functions_pieces, all_pieces, words_of}
 use Rattle.vx_frame.specs.Carried.{Carries, IsFunctionOf, IsMapped, item_of_laid}
 use Rattle.vx_frame.specs.Fitted.{FitLaw}
 use Rattle.vx_frame.specs.Planned.{WordsFit}
@@ -125,6 +122,9 @@ module _ (T : Target) (flow : Flow) (ls : List VWords) (w : WordProgram) (sound 
   idle : Good M []
   idle = empty_good M carries.machine l
 
+  settled_good : (ws : List Word) → Words ws → Words (settled T ws)
+  settled_good ws h = let n = in_flight M 0 ws in good_append M ws (waits n ∷ []) h (wait_good n)
+
   load_good : (to : GeneralRegister) (o : ℤ) → to.cluster < M.clusters → InFile (InGeneral to) → Good M (Load to.cluster to o (stack_on to.cluster) false ∷ [])
   load_good to o lt h = one_good M carries.machine l (Load to.cluster to o (stack_on to.cluster) false) lt (both_true (eqb_self to.cluster) (both_true (eqb_self to.cluster) refl)) (both_true (own to.cluster 1 (omega arith) lt) refl) (both_true h refl)
 
@@ -146,7 +146,7 @@ module _ (T : Target) (flow : Flow) (ls : List VWords) (w : WordProgram) (sound 
   load_slot_good f up v names h = by (holds_branch T f v) refl
     where
       by : (b : Bool) → holds_branch T f v ≡ b → Words (if b
-          then one (Load 0 answer (bytes (up + T.slot f v)) (stack_on 0) false) ∷ waited T ∷ one (Compute 0 (ToBranch Ne) (InBranch (record { cluster = 0; number = branch_of T f names v })) (Held answer) (Number (pos 0))) ∷ []
+          then settled T (one (Load 0 answer (bytes (up + T.slot f v)) (stack_on 0) false) ∷ []) ++ one (Compute 0 (ToBranch Ne) (InBranch (record { cluster = 0; number = branch_of T f names v })) (Held answer) (Number (pos 0))) ∷ []
           else one (Load (home T f v) (general_of T f names v) (bytes (up + T.slot f v)) (stack_on (home T f v)) false) ∷ [])
       by true e = (load_good answer (bytes (up + T.slot f v)) first (own 0 2 (omega arith) first), (idle, (one_good M carries.machine l (Compute 0 (ToBranch Ne) (InBranch (record { cluster = 0; number = branch_of T f names v })) (Held answer) (Number (pos 0))) first refl (both_true (own 0 2 (omega arith) first) refl) (both_true (h.0 e) refl), tt)))
       by false e = (load_good (general_of T f names v) (bytes (up + T.slot f v)) h.2 (h.1 e), tt)
@@ -155,7 +155,7 @@ module _ (T : Target) (flow : Flow) (ls : List VWords) (w : WordProgram) (sound 
   store_slot_good f v names h = by (holds_branch T f v) refl
     where
       by : (b : Bool) → holds_branch T f v ≡ b → Words (if b
-          then one (Select 0 answer (record { cluster = 0; number = branch_of T f names v }) (Number (pos 1)) (Number (pos 0))) ∷ waited T ∷ one (Store 0 (bytes (T.slot f v)) (stack_on 0) (Held answer)) ∷ []
+          then settled T (one (Select 0 answer (record { cluster = 0; number = branch_of T f names v }) (Number (pos 1)) (Number (pos 0))) ∷ []) ++ one (Store 0 (bytes (T.slot f v)) (stack_on 0) (Held answer)) ∷ []
           else one (Store (home T f v) (bytes (T.slot f v)) (stack_on (home T f v)) (Held (general_of T f names v))) ∷ [])
       by true e = (one_good M carries.machine l (Select 0 answer (record { cluster = 0; number = branch_of T f names v }) (Number (pos 1)) (Number (pos 0))) first refl (both_true (h.0 e) refl) (both_true (own 0 2 (omega arith) first) refl), (idle, (store_good answer (bytes (T.slot f v)) first (own 0 2 (omega arith) first), tt)))
       by false e = (store_good (general_of T f names v) (bytes (T.slot f v)) h.2 (h.1 e), tt)
@@ -169,10 +169,12 @@ module _ (T : Target) (flow : Flow) (ls : List VWords) (w : WordProgram) (sound 
   store_slots_good f names (v ∷ vs) h = good_append M (store_slot T f v (general_of T f names v) (branch_of T f names v)) (store_slots T f names vs) (store_slot_good f v names (h v (inl refl))) (store_slots_good f names vs (λ x i. h x (inr i)))
 
   before_good : (f : ℕ) (names : List ℕ) → ((v : ℕ) → IsIn v names → Named f names v) → Words (before T f names)
-  before_good f names h = some_good M (slotted T f names) (load_slots T f names (once (slotted T f names)) ++ waited T ∷ []) (good_append M (load_slots T f names (once (slotted T f names))) (waited T ∷ []) (load_slots_good f names (once (slotted T f names)) (λ v i. h v (slotted_from T f v names (once_in v (slotted T f names) i)).0)) (wait_good T.pause))
+  before_good f names h = some_good M (slotted T f names) (settled T (load_slots T f names (once (slotted T f names)))) (settled_good (load_slots T f names (once (slotted T f names))) (load_slots_good f names (once (slotted T f names)) (λ v i. h v (slotted_from T f v names (once_in v (slotted T f names) i)).0)))
 
-  behind_good : (f : ℕ) (names : List ℕ) → ((v : ℕ) → IsIn v names → Named f names v) → Words (behind T f names)
-  behind_good f names h = some_good M (slotted T f names) (waited T ∷ store_slots T f names (slotted T f names)) (idle, store_slots_good f names (slotted T f names) (λ v i. h v (slotted_from T f v names i).0))
+  behind_good : (f : ℕ) (items : List Laid) → ((v : ℕ) → IsIn v (laid_writes items) → Named f (laid_writes items) v) → Words (behind T f items)
+  behind_good f items h =
+      let ws = laid_writes items in
+      some_good M (slotted T f ws) (waits (slots_in_flight T f items) ∷ store_slots T f ws (slotted T f ws)) (idle, store_slots_good f ws (slotted T f ws) (λ v i. h v (slotted_from T f v ws i).0))
 
   -- an operation on each cluster
 
@@ -183,7 +185,7 @@ module _ (T : Target) (flow : Flow) (ls : List VWords) (w : WordProgram) (sound 
   move_stack_good z = (
     spread_good (λ k. Compute k Add (InGeneral (stack_on k)) (Held (stack_on k)) (Number z)) (λ k. refl) M carries.machine l (λ k. refl) (λ k i ne. off_port k i 0 ne)
         (λ k. both_true (eqb_self k) (both_true (eqb_self k) refl)) (λ k. refl) (λ k. refl) (λ k. refl) (λ k i. count_single (takes_read_port k) (InGeneral (stack_on i))) (λ k lt. both_true (own k 1 (omega arith) lt) refl),
-    wait_good T.pause,
+    (idle, tt),
   )
 
   start_good : (main : ℕ) → Words (start_words T main)
@@ -232,7 +234,7 @@ module _ (T : Target) (flow : Flow) (ls : List VWords) (w : WordProgram) (sound 
     save_good vs h = store_slots_good f vs vs h
 
     reload_good : (vs : List ℕ) → ((v : ℕ) → IsIn v vs → Named f vs v) → Words (reload_words T f vs)
-    reload_good vs h = some_good M vs (load_slots T f vs vs ++ waited T ∷ []) (good_append M (load_slots T f vs vs) (waited T ∷ []) (load_slots_good f vs vs h) (wait_good T.pause))
+    reload_good vs h = some_good M vs (settled T (load_slots T f vs vs)) (settled_good (load_slots T f vs vs) (load_slots_good f vs vs h))
 
     -- operands of calls and returns
 
@@ -244,8 +246,8 @@ module _ (T : Target) (flow : Flow) (ls : List VWords) (w : WordProgram) (sound 
     fetch_good : (up : ℕ) (x : Operand) → Fetches x → Words (fetch_words T f up x)
     fetch_good up (HeldValue v) h = by (is_slotted (kept T f v))
       where
-        by : (b : Bool) → Words (if b then load_slot T f up v (general_of T f (v ∷ []) v) (branch_of T f (v ∷ []) v) ++ waited T ∷ [] else [])
-        by true = good_append M (load_slot T f up v (general_of T f (v ∷ []) v) (branch_of T f (v ∷ []) v)) (waited T ∷ []) (load_slot_good f up v (v ∷ []) h.0) (wait_good T.pause)
+        by : (b : Bool) → Words (if b then settled T (load_slot T f up v (general_of T f (v ∷ []) v) (branch_of T f (v ∷ []) v)) else [])
+        by true = settled_good (load_slot T f up v (general_of T f (v ∷ []) v) (branch_of T f (v ∷ []) v)) (load_slot_good f up v (v ∷ []) h.0)
         by false = tt
     fetch_good up (AsNumber n) h = tt
     fetch_good up Stack h = tt
@@ -266,9 +268,9 @@ module _ (T : Target) (flow : Flow) (ls : List VWords) (w : WordProgram) (sound 
     result_good None h = tt
     result_good (Some v) h = by (is_slotted (kept T f v))
       where
-        by : (b : Bool) → Words (if b then one (Store 0 (bytes (T.slot f v)) (stack_on 0) (Held answer)) ∷ [] else one (Move (home T f v) (general_of T f (v ∷ []) v) (Held answer)) ∷ waited T ∷ [])
+        by : (b : Bool) → Words (if b then one (Store 0 (bytes (T.slot f v)) (stack_on 0) (Held answer)) ∷ [] else settled T (one (Move (home T f v) (general_of T f (v ∷ []) v) (Held answer)) ∷ []))
         by true = (store_good answer (bytes (T.slot f v)) first (own 0 2 (omega arith) first), tt)
-        by false = let a = h v refl in (one_good M carries.machine l (Move (home T f v) (general_of T f (v ∷ []) v) (Held answer)) a.0.2 (eqb_self (home T f v)) (both_true (own 0 2 (omega arith) first) refl) (both_true (a.0.1 a.1) refl), wait_good T.pause)
+        by false = let a = h v refl in (one_good M carries.machine l (Move (home T f v) (general_of T f (v ∷ []) v) (Held answer)) a.0.2 (eqb_self (home T f v)) (both_true (own 0 2 (omega arith) first) refl) (both_true (a.0.1 a.1) refl), (idle, tt))
 
     move_answer : (x : Operand) → Fetches x → Good M (Move 0 answer (fetched T f x) ∷ [])
     move_answer (HeldValue v) h = one_good M carries.machine l (Move 0 answer (Held (general_of T f (v ∷ []) v))) first refl (both_true (h.0.1 h.1) refl) (both_true (own 0 2 (omega arith) first) refl)
@@ -277,7 +279,7 @@ module _ (T : Target) (flow : Flow) (ls : List VWords) (w : WordProgram) (sound 
 
     call_good : (p g : ℕ) (xs : List Operand) → ((v : ℕ) → IsIn v (T.saved f p) → Named f (T.saved f p) v) → ((x : Operand) → IsIn x xs → Fetches x) → Words (call_words T f p g xs)
     call_good p g xs saved h =
-        good_append M (save_words T f (T.saved f p)) (one (Compute 0 (ToBranch Ltu) (InBranch (record { cluster = 0; number = 0 })) (Held (stack_on 0)) (Number (bytes (T.globals + T.frame)))) ∷ waited T ∷ one (BranchOn 0 true T.depth_trap) ∷ (move_stack T (neg_ℤ (bytes T.frame)) ++ (argument_words T f g (parameters_of T g) xs ++ one (Call (T.entry g)) ∷ [])))
+        good_append M (save_words T f (T.saved f p)) (settled T (one (Compute 0 (ToBranch Ltu) (InBranch (record { cluster = 0; number = 0 })) (Held (stack_on 0)) (Number (bytes (T.globals + T.frame)))) ∷ []) ++ one (BranchOn 0 true T.depth_trap) ∷ (move_stack T (neg_ℤ (bytes T.frame)) ++ (argument_words T f g (parameters_of T g) xs ++ one (Call (T.entry g)) ∷ [])))
         (save_good (T.saved f p) saved) (
           one_good M carries.machine l (Compute 0 (ToBranch Ltu) (InBranch (record { cluster = 0; number = 0 })) (Held (stack_on 0)) (Number (bytes (T.globals + T.frame)))) first refl (both_true (own 0 1 (omega arith) first) refl) (both_true first_branch refl),
           (
@@ -297,7 +299,7 @@ module _ (T : Target) (flow : Flow) (ls : List VWords) (w : WordProgram) (sound 
 
     return_good : (x : Operand) → Fetches x → Words (return_words T f x)
     return_good x h =
-        good_append M (fetch_words T f 0 x) (one (Move 0 answer (fetched T f x)) ∷ one (Load 0 (general 0 3) (pos 0) (stack_on 0) false) ∷ waited T ∷ one (ToLink (Held (general 0 3))) ∷ waited T ∷ one Return ∷ []) (fetch_good 0 x h) (
+        good_append M (fetch_words T f 0 x) (settled T (one (Move 0 answer (fetched T f x)) ∷ one (Load 0 (general 0 3) (pos 0) (stack_on 0) false) ∷ []) ++ (settled T (one (ToLink (Held (general 0 3))) ∷ []) ++ one Return ∷ [])) (fetch_good 0 x h) (
           move_answer x h,
           (
             load_good (general 0 3) (pos 0) first (own 0 3 (omega arith) first),
@@ -370,11 +372,11 @@ module _ (T : Target) (flow : Flow) (ls : List VWords) (w : WordProgram) (sound 
       write_named v i = named (laid_writes items) v p (few_writes T f mapped graph_sound IsArray p items plans proper banks) i (banks v (inr i)) (busy v (inr i))
 
       planned_good : Words (plan_words T f p items)
-      planned_good = good_append M (before T f (laid_reads items)) (plan_word T f p items ∷ behind T f (laid_writes items)) (before_good f (laid_reads items) read_named)
-          (plan_good T f mapped graph_sound IsArray p items plans proper banks l by_room, behind_good f (laid_writes items) write_named)
+      planned_good = good_append M (before T f (laid_reads items)) (plan_word T f p items ∷ behind T f items) (before_good f (laid_reads items) read_named)
+          (plan_good T f mapped graph_sound IsArray p items plans proper banks l by_room, behind_good f items write_named)
 
       landing_good : (q : ℕ) → Words (landing_words T f items q)
-      landing_good q = good_append M (behind T f (laid_writes items)) (one (Goto (T.starts f q)) ∷ []) (behind_good f (laid_writes items) write_named) (goto_good (T.starts f q), tt)
+      landing_good q = good_append M (behind T f items) (one (Goto (T.starts f q)) ∷ []) (behind_good f items write_named) (goto_good (T.starts f q), tt)
 
       landing_of_good : (xs : List ℕ) (q : ℕ) → GoodPieces M (landing_of T f p items xs q)
       landing_of_good [] q = tt

@@ -29,7 +29,7 @@ use Rattle.vx_mixed.specs.declared.layout.VirtualWord.TheVariants.{Planned, Drai
 use Rattle.vx_mixed.specs.declared.layout.VWords.{VWords}
 use Rattle.vx_mixed.specs.LaidSettled.{laid_reads, laid_writes, LeadsTo, LeavesCold}
 use Rattle.vx_regs.specs.Intervals.{word_writes}
-use Rattle.vx_frame.specs.Target.{Target, slotted, register_of, branch_of, stack_on, general, answer, fetched, bytes, parameters_of, leads, before, behind, plan_word, plan_words, landing_words, choice_words, save_words, move_stack, argument_words, call_words, back_words, return_words, fetch_words, entry_words, start_words, word_words, one, waits, waited}
+use Rattle.vx_frame.specs.Target.{Target, slotted, register_of, branch_of, stack_on, general, answer, fetched, bytes, parameters_of, leads, before, behind, plan_word, plan_words, landing_words, choice_words, save_words, move_stack, argument_words, call_words, back_words, return_words, fetch_words, entry_words, start_words, word_words, one, waits, in_flight, settled, slots_in_flight}
 use Rattle.vx_frame.specs.Placed.{Label, Start, Entry, At, Landing, Depth, Labelled, laid_pieces, landing_of, item_landings, word_landings, landing_pieces, function_pieces, functions_pieces, all_pieces}
 use Rattle.vx_frame.specs.Carried.{Carries, IsMapped, FrameLaw}
 use Rattle.vx_frame.specs.Fitted.{FitLaw}
@@ -61,15 +61,15 @@ first_before (x ∷ xs) ys h = (x, xs ++ ys, refl)
 
 some_call : (T : Target) (f p g : ℕ) (arguments : List Operand) → HasFirst (call_words T f p g arguments)
 some_call T f p g arguments = first_behind (save_words T f (T.saved f p)) (one (Compute 0 (ToBranch Ltu) (InBranch (record { cluster = 0; number = 0 })) (Held (stack_on 0)) (Number (bytes (T.globals + T.frame)))))
-    (waited T ∷ one (BranchOn 0 true T.depth_trap) ∷ (move_stack T (neg_ℤ (bytes T.frame)) ++ (argument_words T f g (parameters_of T g) arguments ++ one (Call (T.entry g)) ∷ [])))
+    (waits (in_flight T.machine 0 (one (Compute 0 (ToBranch Ltu) (InBranch (record { cluster = 0; number = 0 })) (Held (stack_on 0)) (Number (bytes (T.globals + T.frame)))) ∷ [])) ∷ one (BranchOn 0 true T.depth_trap) ∷ (move_stack T (neg_ℤ (bytes T.frame)) ++ (argument_words T f g (parameters_of T g) arguments ++ one (Call (T.entry g)) ∷ [])))
 
 some_word : (T : Target) (f p : ℕ) (word : VirtualWord) → HasFirst (word_words T f p word)
-some_word T f p (Planned rg wd items) = first_behind (before T f (laid_reads items)) (plan_word T f p items) (behind T f (laid_writes items))
+some_word T f p (Planned rg wd items) = first_behind (before T f (laid_reads items)) (plan_word T f p items) (behind T f items)
 some_word T f p (Drain n) = (waits n, [], refl)
 some_word T f p (Transfer q) = (one (Goto (T.starts f q)), [], refl)
 some_word T f p (Choice test q) = first_behind (before T f (test ∷ [])) (one (BranchOn (branch_of T f (test ∷ []) test) true (T.starts f q))) []
 some_word T f p (Calls g arguments result) = first_before (call_words T f p g arguments) (back_words T f p result) (some_call T f p g arguments)
-some_word T f p (Returns x) = first_behind (fetch_words T f 0 x) (one (Move 0 answer (fetched T f x))) (one (Load 0 (general 0 3) (pos 0) (stack_on 0) false) ∷ waited T ∷ one (ToLink (Held (general 0 3))) ∷ waited T ∷ one Return ∷ [])
+some_word T f p (Returns x) = first_behind (fetch_words T f 0 x) (one (Move 0 answer (fetched T f x))) (one (Load 0 (general 0 3) (pos 0) (stack_on 0) false) ∷ waits (in_flight T.machine 0 (one (Move 0 answer (fetched T f x)) ∷ one (Load 0 (general 0 3) (pos 0) (stack_on 0) false) ∷ [])) ∷ (settled T (one (ToLink (Held (general 0 3))) ∷ []) ++ one Return ∷ []))
 some_word T f p (Ends k) = (one (EndByTrap k), [], refl)
 
 get_beyond : {A : Type 0} (xs : List A) (i : ℕ) → length xs ≤ i → slice_get xs i ≡ None
@@ -122,11 +122,16 @@ module _ (T : Target) (flow : Flow) (ls : List VWords) (w : WordProgram) (sound 
   left_by f None = []
   left_by f (Some word) = map (register_of T f (word_writes word)) (slotted T f (word_writes word))
 
+  abbrev late_by : ℕ → Option VirtualWord → ℕ
+  late_by f None = 0
+  late_by f (Some (Planned r w items)) = slots_in_flight T f items
+  late_by f (Some word) = 0
+
   abbrev start : Label → Register → ℕ
   start Start = cold
   start (Entry f) = cold
   start (At f p) = at_word (slice_get (T.layout f).words p) (Pend f p)
-  start (Landing f p q) = lift T.pause (Pend f q) (left_by f (slice_get (T.layout f).words p))
+  start (Landing f p q) = lift (late_by f (slice_get (T.layout f).words p)) (Pend f q) (left_by f (slice_get (T.layout f).words p))
   start Depth = cold
 
   abbrev heat : ℕ → Register → ℕ
@@ -139,7 +144,7 @@ module _ (T : Target) (flow : Flow) (ls : List VWords) (w : WordProgram) (sound 
   AllGood xs = AllFit T start heat xs
 
   abbrev FineFrom : (Register → ℕ) → List Word → (Register → ℕ) → Type 0
-  FineFrom h ws e = Fine T heat carries.pause h ws e
+  FineFrom h ws e = Fine T heat h ws e
 
   l : Limits T.machine
   l = limits T.machine carries.machine
@@ -165,15 +170,15 @@ module _ (T : Target) (flow : Flow) (ls : List VWords) (w : WordProgram) (sound 
       let i = in_function f (piece_at T f p word) lt (inr (in_left (piece_at T f p word) (laid_pieces T f 0 (T.layout f).words) (landing_pieces T f 0 (T.layout f).words) (subst (λ n. IsIn (piece_at T f n word) (laid_pieces T f 0 (T.layout f).words)) z (in_laid T f 0 p (T.layout f).words word e)))) in
       heat_of T start flow.main Count w carries.placed (piece_at T f p word) s.0 s.1 i s.2 ∙ ap (λ o. at_word o (Pend f p)) e
 
-  at_landing : (f p q test rg wd : ℕ) (y : Bool) (items : List Laid) (v : ℕ) (vs : List ℕ) → f < Count → WordAt f p (Planned rg wd items) → slotted T f (laid_writes items) ≡ v ∷ vs → IsIn (Split test y q) items → heat (T.landing f p q) ≡ lift T.pause (Pend f q) (map (register_of T f (laid_writes items)) (slotted T f (laid_writes items)))
+  at_landing : (f p q test rg wd : ℕ) (y : Bool) (items : List Laid) (v : ℕ) (vs : List ℕ) → f < Count → WordAt f p (Planned rg wd items) → slotted T f (laid_writes items) ≡ v ∷ vs → IsIn (Split test y q) items → heat (T.landing f p q) ≡ lift (slots_in_flight T f items) (Pend f q) (map (register_of T f (laid_writes items)) (slotted T f (laid_writes items)))
   at_landing f p q test rg wd y items v vs lt e s m =
-      let k = first_behind (behind T f (laid_writes items)) (one (Goto (T.starts f q))) [] in
+      let k = first_behind (behind T f items) (one (Goto (T.starts f q))) [] in
       let z : 0 + p ≡ p = omega arith in
       let i = in_function f (landing_at T f p q items) lt (inr (in_right (landing_at T f p q items) (laid_pieces T f 0 (T.layout f).words) (landing_pieces T f 0 (T.layout f).words) (subst (λ n. IsIn (landing_at T f n q items) (landing_pieces T f 0 (T.layout f).words)) z (in_landings T f 0 p q test rg wd y (T.layout f).words items v vs e s m)))) in
-      heat_of T start flow.main Count w carries.placed (landing_at T f p q items) k.0 k.1 i k.2 ∙ ap (λ o. lift T.pause (Pend f q) (left_by f o)) e
+      heat_of T start flow.main Count w carries.placed (landing_at T f p q items) k.0 k.1 i k.2 ∙ ap (λ o. lift (late_by f o) (Pend f q) (left_by f o)) e
 
-  lift_same : (b c : Register → ℕ) (rs : List Register) (r : Register) → b r ≡ c r → lift T.pause b rs r ≡ lift T.pause c rs r
-  lift_same b c rs r e = ap (λ n. cond (list_any (same_register r) rs) (max n T.pause) n) e
+  lift_same : (n : ℕ) (b c : Register → ℕ) (rs : List Register) (r : Register) → b r ≡ c r → lift n b rs r ≡ lift n c rs r
+  lift_same n b c rs r e = ap (λ k. cond (list_any (same_register r) rs) (max k n) k) e
 
   module _ (f : ℕ) (below : f < Count) where
     k : Inside f
@@ -209,24 +214,24 @@ module _ (T : Target) (flow : Flow) (ls : List VWords) (w : WordProgram) (sound 
     Behind p word = heat (T.starts f p + length (word_words T f p word))
 
     -- a split of a planned word leads to where no less may be in flight
-    split_there : (p rg wd : ℕ) (items : List Laid) → WordAt f p (Planned rg wd items) → (test to : ℕ) (y : Bool) → IsIn (Split test y to) items → (r : Register) → lift T.pause (H to) (map (register_of T f (laid_writes items)) (slotted T f (laid_writes items))) r ≤ heat (leads T f p (slotted T f (laid_writes items)) to) r
+    split_there : (p rg wd : ℕ) (items : List Laid) → WordAt f p (Planned rg wd items) → (test to : ℕ) (y : Bool) → IsIn (Split test y to) items → (r : Register) → lift (slots_in_flight T f items) (H to) (map (register_of T f (laid_writes items)) (slotted T f (laid_writes items))) r ≤ heat (leads T f p (slotted T f (laid_writes items)) to) r
     split_there p rg wd items e test to y i r = by (slotted T f (laid_writes items)) refl
       where
-        by : (vs : List ℕ) → slotted T f (laid_writes items) ≡ vs → lift T.pause (H to) (map (register_of T f (laid_writes items)) vs) r ≤ heat (leads T f p vs to) r
+        by : (vs : List ℕ) → slotted T f (laid_writes items) ≡ vs → lift (slots_in_flight T f items) (H to) (map (register_of T f (laid_writes items)) vs) r ≤ heat (leads T f p vs to) r
         by [] s = leads_there p to (Planned rg wd items) e (inr (test, y, i)) r
         by (v ∷ vs) s =
             let a = ap (λ h. h r) (at_landing f p to test rg wd y items v vs k.lt e s i) in
-            let b = lift_same (Pend f to) (H to) (map (register_of T f (laid_writes items)) (slotted T f (laid_writes items))) r (k.same to r) in
-            let c : lift T.pause (H to) (map (register_of T f (laid_writes items)) (slotted T f (laid_writes items))) r ≡ lift T.pause (H to) (map (register_of T f (laid_writes items)) (v ∷ vs)) r = ap (λ us. lift T.pause (H to) (map (register_of T f (laid_writes items)) us) r) s in omega arith
+            let b = lift_same (slots_in_flight T f items) (Pend f to) (H to) (map (register_of T f (laid_writes items)) (slotted T f (laid_writes items))) r (k.same to r) in
+            let c : lift (slots_in_flight T f items) (H to) (map (register_of T f (laid_writes items)) (slotted T f (laid_writes items))) r ≡ lift (slots_in_flight T f items) (H to) (map (register_of T f (laid_writes items)) (v ∷ vs)) r = ap (λ us. lift (slots_in_flight T f items) (H to) (map (register_of T f (laid_writes items)) us) r) s in omega arith
 
     inner : (p : ℕ) (word : VirtualWord) → WordAt f p word → FineFrom (H p) (word_words T f p word) (Behind p word)
-    inner p (Planned rg wd items) e = ends (H p) (H (suc p)) (Behind p (Planned rg wd items)) (plan_words T f p items) (next_there p (Planned rg wd items) e (inl refl)) (plan_fine T heat carries.pause f M S l p rg wd items e (split_there p rg wd items e))
-    inner p (Drain n) e = ends (H p) (H (suc p)) (Behind p (Drain n)) (waits n ∷ []) (next_there p (Drain n) e refl) (drain_fine T heat carries.pause f M S p n e)
-    inner p (Transfer q) e = transfer_fine T heat carries.pause f M S p q (Behind p (Transfer q)) e (leads_there p q (Transfer q) e refl)
-    inner p (Choice test q) e = ends (H p) (H (suc p)) (Behind p (Choice test q)) (choice_words T f test q) (next_there p (Choice test q) e (inr refl)) (choice_fine T heat carries.pause f M S l p test q e (leads_there p q (Choice test q) e (inl refl)))
-    inner p (Calls g arguments result) e = less (H p) cold (Behind p (Calls g arguments result)) (word_words T f p (Calls g arguments result)) (cold_here p (Calls g arguments result) e tt) (call_fine T heat carries.pause f M S (carries.functions f k.lt).saved p g arguments result (Behind p (Calls g arguments result)) e)
-    inner p (Returns x) e = less (H p) cold (Behind p (Returns x)) (return_words T f x) (cold_here p (Returns x) e tt) (return_fine T heat carries.pause f x (Behind p (Returns x)))
-    inner p (Ends j) e = stop_fine T.machine heat T.pause carries.pause (H p) (EndByTrap j ∷ []) [] (Behind p (Ends j)) refl (λ q r i. absurd i) refl (λ r t. ⊎_elim (λ i. absurd i) (λ i. absurd i) t.0) (λ r. omega arith)
+    inner p (Planned rg wd items) e = ends (H p) (H (suc p)) (Behind p (Planned rg wd items)) (plan_words T f p items) (next_there p (Planned rg wd items) e (inl refl)) (plan_fine T heat f M S l p rg wd items e (split_there p rg wd items e))
+    inner p (Drain n) e = ends (H p) (H (suc p)) (Behind p (Drain n)) (waits n ∷ []) (next_there p (Drain n) e refl) (drain_fine T heat f M S p n e)
+    inner p (Transfer q) e = transfer_fine T heat f M S p q (Behind p (Transfer q)) e (leads_there p q (Transfer q) e refl)
+    inner p (Choice test q) e = ends (H p) (H (suc p)) (Behind p (Choice test q)) (choice_words T f test q) (next_there p (Choice test q) e (inr refl)) (choice_fine T heat f M S l p test q e (leads_there p q (Choice test q) e (inl refl)))
+    inner p (Calls g arguments result) e = less (H p) cold (Behind p (Calls g arguments result)) (word_words T f p (Calls g arguments result)) (cold_here p (Calls g arguments result) e tt) (call_fine T heat f M S (carries.functions f k.lt).saved p g arguments result (Behind p (Calls g arguments result)) e)
+    inner p (Returns x) e = less (H p) cold (Behind p (Returns x)) (return_words T f x) (cold_here p (Returns x) e tt) (return_fine T heat f x (Behind p (Returns x)))
+    inner p (Ends j) e = stop_fine T.machine heat (H p) (EndByTrap j ∷ []) [] (Behind p (Ends j)) refl (λ q r i. absurd i) refl (λ r t. ⊎_elim (λ i. absurd i) (λ i. absurd i) t.0) (λ r. omega arith)
 
     good_word : (p : ℕ) (word : VirtualWord) → WordAt f p word → Good (record { label = At f p; words = word_words T f p word })
     good_word p word e = less (start (At f p)) (H p) (Behind p word) (word_words T f p word) (begins p word e) (inner p word e)
@@ -236,10 +241,10 @@ module _ (T : Target) (flow : Flow) (ls : List VWords) (w : WordProgram) (sound 
     good_landing : (p rg wd : ℕ) (items : List Laid) → WordAt f p (Planned rg wd items) → (test q : ℕ) (y : Bool) → IsIn (Split test y q) items → Good (record { label = Landing f p q; words = landing_words T f items q })
     good_landing p rg wd items e test q y i =
         let there_q = leads_there p q (Planned rg wd items) e (inr (test, y, i)) in
-        less (start (Landing f p q)) (lift T.pause (H q) (map (register_of T f (laid_writes items)) (slotted T f (laid_writes items)))) (heat (T.landing f p q + length (landing_words T f items q))) (landing_words T f items q)
-        (λ r. (let a : start (Landing f p q) r ≡ lift T.pause (Pend f q) (map (register_of T f (laid_writes items)) (slotted T f (laid_writes items))) r = ap (λ o. lift T.pause (Pend f q) (left_by f o) r) e in
-        let b = lift_same (Pend f q) (H q) (map (register_of T f (laid_writes items)) (slotted T f (laid_writes items))) r (k.same q r) in omega arith))
-        (landing_fine T heat carries.pause f M S l p rg wd items e q (heat (T.landing f p q + length (landing_words T f items q))) there_q)
+        less (start (Landing f p q)) (lift (slots_in_flight T f items) (H q) (map (register_of T f (laid_writes items)) (slotted T f (laid_writes items)))) (heat (T.landing f p q + length (landing_words T f items q))) (landing_words T f items q)
+        (λ r. (let a : start (Landing f p q) r ≡ lift (slots_in_flight T f items) (Pend f q) (map (register_of T f (laid_writes items)) (slotted T f (laid_writes items))) r = ap (λ o. lift (late_by f o) (Pend f q) (left_by f o) r) e in
+        let b = lift_same (slots_in_flight T f items) (Pend f q) (H q) (map (register_of T f (laid_writes items)) (slotted T f (laid_writes items))) r (k.same q r) in omega arith))
+        (landing_fine T heat f M S l p rg wd items e q (heat (T.landing f p q + length (landing_words T f items q))) there_q)
 
     landing_of_good : (p rg wd : ℕ) (items : List Laid) (vs : List ℕ) (q : ℕ) → Good (record { label = Landing f p q; words = landing_words T f items q }) → AllGood (landing_of T f p items vs q)
     landing_of_good p rg wd items [] q g = tt
@@ -289,7 +294,7 @@ module _ (T : Target) (flow : Flow) (ls : List VWords) (w : WordProgram) (sound 
 
     function_good : AllGood (function_pieces T f)
     function_good = (
-      entry_fine T heat carries.pause f M S (carries.functions f k.lt).saved (heat (T.entry f + length (entry_words T f))),
+      entry_fine T heat f M S (carries.functions f k.lt).saved (heat (T.entry f + length (entry_words T f))),
       fit_append T start heat (laid_pieces T f 0 (T.layout f).words) (landing_pieces T f 0 (T.layout f).words) (laid_good 0 (T.layout f).words all_stand) (laid_landings 0 (T.layout f).words all_stand),
     )
 
@@ -298,11 +303,11 @@ module _ (T : Target) (flow : Flow) (ls : List VWords) (w : WordProgram) (sound 
   functions_good f (suc n) h = fit_append T start heat (function_pieces T f) (functions_pieces T (suc f) n) (function_good f (omega arith)) (functions_good (suc f) n (omega arith))
 
   depth_good : AllGood (record { label = Depth; words = one (EndByTrap ByDepth) ∷ [] } ∷ [])
-  depth_good = (ends_fine T heat carries.pause ByDepth [] (heat (T.depth_trap + 1)) (λ r. omega arith), tt)
+  depth_good = (ends_fine T heat ByDepth [] (heat (T.depth_trap + 1)) (λ r. omega arith), tt)
 
   all_good : AllGood (all_pieces T flow.main Count)
   all_good = (
-    start_fine T heat carries.pause flow.main (heat (0 + length (start_words T flow.main))),
+    start_fine T heat flow.main (heat (0 + length (start_words T flow.main))),
     fit_append T start heat (functions_pieces T 0 Count) (record { label = Depth; words = one (EndByTrap ByDepth) ∷ [] } ∷ []) (functions_good 0 Count (omega arith)) depth_good,
   )
 

@@ -12,7 +12,7 @@ use Rattle.vx_isa.specs.Fits.{destinations}
 use Rattle.vx_isa.specs.Machine.{cycles_of}
 use Rattle.vx_isa.specs.Paths.{Among}
 use Rattle.vx_isa.proofs.AnyTiming.{tells}
-use Rattle.vx_frame.specs.Target.{waits}
+use Rattle.vx_frame.specs.Target.{latest, waits}
 use Rattle.vx_frame.proofs.Early.{falls, Jumps, hit_of, hits, Touches, words_kind, words_cool}
 
 -- some registers may need up to n cycles more
@@ -82,18 +82,18 @@ raised_bound (x ∷ xs) h b le hs r = raised_bound xs (λ s. cond (same s x.to) 
     by s true e = let k = hs x (inl refl) in let q : b s ≡ b x.to = ap b (tells.equal s x.to e) in let a = le s in omega arith
     by s false e = le s
 
--- what a word writes is a destination, within its latency
-record FromWord (m : Numbers) (n : ℕ) (ops : List Operation) (x : Hit Register) : Type 0 where
+-- what a word writes is a destination, and lands with its latest
+record FromWord (m : Numbers) (ops : List Operation) (x : Hit Register) : Type 0 where
   to : Among x.to (destinations ops)
-  latency : x.latency ≤ n + 1
+  latency : x.latency ≤ latest m ops
 
-hit_in : (m : Numbers) (n : ℕ) → ((op : Operation) → latency_of m op ≤ n + 1) → (op : Operation) (d : Option Register) (x : Hit Register) → HitIn x (hit_of m op d) → Among x.to (list_of d) × (x.latency ≤ n + 1)
-hit_in m n short op None x i = absurd i
-hit_in m n short op (Some r) x i = by (is_call op) i
+hit_in : (m : Numbers) (op : Operation) (d : Option Register) (x : Hit Register) → HitIn x (hit_of m op d) → Among x.to (list_of d) × (x.latency ≤ latency_of m op)
+hit_in m op None x i = absurd i
+hit_in m op (Some r) x i = by (is_call op) i
   where
-    by : (b : Bool) → HitIn x (cond b [] (record { to = r; latency = latency_of m op } ∷ [])) → Among x.to (r ∷ []) × (x.latency ≤ n + 1)
+    by : (b : Bool) → HitIn x (cond b [] (record { to = r; latency = latency_of m op } ∷ [])) → Among x.to (r ∷ []) × (x.latency ≤ latency_of m op)
     by true j = absurd j
-    by false j = ⊎_elim (λ e. (inl (ap (λ h. h.to) e), let k : x.latency ≡ latency_of m op = ap (λ h. h.latency) e in let s = short op in omega arith)) (λ k. absurd k) j
+    by false j = ⊎_elim (λ e. (inl (ap (λ h. h.to) e), let k : x.latency ≡ latency_of m op = ap (λ h. h.latency) e in omega arith)) (λ k. absurd k) j
 
 pub hit_either : (x : Hit Register) (xs ys : List (Hit Register)) → HitIn x (xs ++ ys) → HitIn x xs ⊎ HitIn x ys
 hit_either x [] ys i = inr i
@@ -103,38 +103,50 @@ among_right : (r : Register) (xs ys : List Register) → Among r ys → Among r 
 among_right r [] ys i = i
 among_right r (x ∷ xs) ys i = inr (among_right r xs ys i)
 
-from_word : (m : Numbers) (n : ℕ) → ((op : Operation) → latency_of m op ≤ n + 1) → (ops : List Operation) (x : Hit Register) → HitIn x (hits m ops) → FromWord m n ops x
-from_word m n short [] x i = absurd i
-from_word m n short (op ∷ ops) x i = ⊎_elim
-    (λ k. let a = hit_in m n short op (destination_of op) x k in record { to = among_left x.to (list_of (destination_of op)) (destinations ops) a.0; latency = a.1 })
-    (λ k. let a = from_word m n short ops x k in record { to = among_right x.to (list_of (destination_of op)) (destinations ops) a.to; latency = a.latency })
+from_word : (m : Numbers) (ops : List Operation) (x : Hit Register) → HitIn x (hits m ops) → FromWord m ops x
+from_word m [] x i = absurd i
+from_word m (op ∷ ops) x i = ⊎_elim
+    (λ k. let a = hit_in m op (destination_of op) x k in let c = a.1 in record { to = among_left x.to (list_of (destination_of op)) (destinations ops) a.0; latency = omega arith })
+    (λ k. let a = from_word m ops x k in let c = a.latency in record { to = among_right x.to (list_of (destination_of op)) (destinations ops) a.to; latency = omega arith })
     (hit_either x (hit_of m op (destination_of op)) (hits m ops) i)
 
-module _ (m : Numbers) (heat : ℕ → Register → ℕ) (n : ℕ) (short : (op : Operation) → latency_of m op ≤ n + 1) where
+module _ (m : Numbers) (heat : ℕ → Register → ℕ) where
   abbrev pub FineWords : (Register → ℕ) → List Word → (Register → ℕ) → Type 0
   FineWords h ws e = Fine (words_kind m) heat h ws e
 
-  -- after a word its destinations may be in flight
-  cooled_lift : (b : Register → ℕ) (rs : List Register) (ops : List Operation) (idle : ℕ) (r : Register) → raised same (hits m ops) (lift n b rs) r - cycles_of (record { ops = ops; idle = idle }) ≤ lift n b (destinations ops ++ rs) r
-  cooled_lift b rs ops idle r =
-      let k = raised_bound (hits m ops) (lift n b rs) (λ s. lift n b (destinations ops ++ rs) s + 1) (λ s. (let a = lift_more n b (destinations ops) rs s in omega arith))
-      (λ x i. (let f = from_word m n short ops x i in let a = lift_at n b (destinations ops ++ rs) x.to (among_left x.to (destinations ops) rs f.to) in let c = f.latency in omega arith)) r in
-      omega arith
+  -- one heat is no more than another, once so many cycles have passed
+  abbrev pub Cooled : ℕ → (h b : Register → ℕ) → Type 0
+  Cooled c h b = (r : Register) → h r - c ≤ b r
 
-  pub word_fine : (b : Register → ℕ) (rs : List Register) (ops : List Operation) (rest : List Word) (e : Register → ℕ) → falls ops ≡ true → ((q : ℕ) (r : Register) → Jumps ops q → lift n b (destinations ops ++ rs) r ≤ heat q r) → ((r : Register) → Touches ops r → lift n b rs r ≡ 0) → FineWords (lift n b (destinations ops ++ rs)) rest e → FineWords (lift n b rs) (record { ops = ops; idle = 0 } ∷ rest) e
-  word_fine b rs ops rest e fall jump meets f = (
+  -- after a word of one cycle its destinations may be in flight, and what was so is for a cycle less
+  cooled_lift : (n : ℕ) (h b : Register → ℕ) (rs : List Register) (ops : List Operation) → Cooled 1 h b → (r : Register) → raised same (hits m ops) (lift n h rs) r - 1 ≤ lift (max n (latest m ops) - 1) b (destinations ops ++ rs) r
+  cooled_lift n h b rs ops cool r =
+      let left : ℕ = max n (latest m ops) - 1 in
+      let k = raised_bound (hits m ops) (lift n h rs) (λ s. lift left b (destinations ops ++ rs) s + 1) (λ s. was s (list_any (same s) rs) refl)
+      (λ x i. (let f = from_word m ops x i in let a = lift_at left b (destinations ops ++ rs) x.to (among_left x.to (destinations ops) rs f.to) in let c = f.latency in omega arith)) r in
+      omega arith
+    where
+      was : (s : Register) (t : Bool) → list_any (same s) rs ≡ t → cond t (max (h s) n) (h s) ≤ lift (max n (latest m ops) - 1) b (destinations ops ++ rs) s + 1
+      was s true e =
+          let left : ℕ = max n (latest m ops) - 1 in
+          let q : lift left b (destinations ops ++ rs) s ≡ max (b s) left = ap (λ t. cond t (max (b s) left) (b s)) (any_more s (destinations ops) rs e) in
+          let c = cool s in omega arith
+      was s false e = let a = lift_from (max n (latest m ops) - 1) b (destinations ops ++ rs) s in let c = cool s in omega arith
+
+  pub word_fine : (n : ℕ) (h b : Register → ℕ) (rs : List Register) (ops : List Operation) (rest : List Word) (e : Register → ℕ) → falls ops ≡ true → Cooled 1 h b → ((q : ℕ) (r : Register) → Jumps ops q → lift (max n (latest m ops) - 1) b (destinations ops ++ rs) r ≤ heat q r) → ((r : Register) → Touches ops r → lift n h rs r ≡ 0) → FineWords (lift (max n (latest m ops) - 1) b (destinations ops ++ rs)) rest e → FineWords (lift n h rs) (record { ops = ops; idle = 0 } ∷ rest) e
+  word_fine n h b rs ops rest e fall cool jump meets f = (
     meets,
-    λ q r j. (let a = cooled_lift b rs ops 0 r in let k = jump q r j in omega arith),
-    fine_less (words_kind m) (words_cool m) heat (cond (falls ops) (λ r. raised same (hits m ops) (lift n b rs) r - 1) cold) (lift n b (destinations ops ++ rs)) e rest
-        (λ r. (let a = cooled_lift b rs ops 0 r in let q : cond (falls ops) (λ r. raised same (hits m ops) (lift n b rs) r - 1) cold r ≡ raised same (hits m ops) (lift n b rs) r - 1 = ap (λ t. cond t (λ r. raised same (hits m ops) (lift n b rs) r - 1) cold r) fall in omega arith)) f,
+    λ q r j. (let a = cooled_lift n h b rs ops cool r in let k = jump q r j in omega arith),
+    fine_less (words_kind m) (words_cool m) heat (cond (falls ops) (λ r. raised same (hits m ops) (lift n h rs) r - 1) cold) (lift (max n (latest m ops) - 1) b (destinations ops ++ rs)) e rest
+        (λ r. (let a = cooled_lift n h b rs ops cool r in let q : cond (falls ops) (λ r. raised same (hits m ops) (lift n h rs) r - 1) cold r ≡ raised same (hits m ops) (lift n h rs) r - 1 = ap (λ t. cond t (λ r. raised same (hits m ops) (lift n h rs) r - 1) cold r) fall in omega arith)) f,
   )
 
-  -- after a pause all has landed
-  pub wait_fine : (b : Register → ℕ) (rs : List Register) (rest : List Word) (e : Register → ℕ) → FineWords b rest e → FineWords (lift n b rs) (waits n ∷ rest) e
-  wait_fine b rs rest e f = (
+  -- after a pause that is long enough they have landed
+  pub wait_fine : (n k : ℕ) (h b : Register → ℕ) (rs : List Register) (rest : List Word) (e : Register → ℕ) → n ≤ k → Cooled (cycles_of (waits k)) h b → FineWords b rest e → FineWords (lift n h rs) (waits k ∷ rest) e
+  wait_fine n k h b rs rest e long cool f = (
     λ r t. ⊎_elim (λ i. absurd i) (λ i. absurd i) t.0,
     λ q r j. absurd j,
-    fine_less (words_kind m) (words_cool m) heat (λ r. lift n b rs r - max 1 n) b e rest (λ r. (let a = lift_most n b rs r in omega arith)) f,
+    fine_less (words_kind m) (words_cool m) heat (λ r. lift n h rs r - max 1 k) b e rest (λ r. (let a = lift_most n h rs r in let c = cool r in omega arith)) f,
   )
 
   -- a word that the next does not follow, and that jumps to where nothing more is in flight
@@ -146,10 +158,22 @@ module _ (m : Numbers) (heat : ℕ → Register → ℕ) (n : ℕ) (short : (op 
         (λ r. (let q : cond (falls ops) (λ r. raised same (hits m ops) b r - 1) cold r ≡ 0 = ap (λ t. cond t (λ r. raised same (hits m ops) b r - 1) cold r) fall in omega arith)) f,
   )
 
--- fewer registers
-pub lift_fewer : (n : ℕ) (b : Register → ℕ) (xs ys : List Register) (r : Register) → (list_any (same r) xs ≡ true → list_any (same r) ys ≡ true) → lift n b xs r ≤ lift n b ys r
-lift_fewer n b xs ys r h = by (list_any (same r) xs) refl
+-- what is no hotter has cooled
+pub stays : (c : ℕ) (b : Register → ℕ) (r : Register) → b r - c ≤ b r
+stays c b r = omega arith
+
+-- fewer registers, for fewer cycles
+pub lift_fewer : (k n : ℕ) (b : Register → ℕ) (xs ys : List Register) (r : Register) → k ≤ n → (list_any (same r) xs ≡ true → list_any (same r) ys ≡ true) → lift k b xs r ≤ lift n b ys r
+lift_fewer k n b xs ys r le h = by (list_any (same r) xs) refl
   where
-    by : (t : Bool) → list_any (same r) xs ≡ t → cond t (max (b r) n) (b r) ≤ lift n b ys r
+    by : (t : Bool) → list_any (same r) xs ≡ t → cond t (max (b r) k) (b r) ≤ lift n b ys r
     by true e = let q : lift n b ys r ≡ max (b r) n = ap (λ t. cond t (max (b r) n) (b r)) (h e) in omega arith
     by false e = lift_from n b ys r
+
+-- registers that were lifted are so for fewer cycles
+pub lift_cooled : (n c : ℕ) (b : Register → ℕ) (rs : List Register) (r : Register) → lift n b rs r - c ≤ lift (n - c) b rs r
+lift_cooled n c b rs r = by (list_any (same r) rs)
+  where
+    by : (t : Bool) → cond t (max (b r) n) (b r) - c ≤ cond t (max (b r) (n - c)) (b r)
+    by true = omega arith
+    by false = omega arith

@@ -26,7 +26,7 @@ use Rattle.vx_mixed.specs.declared.layout.VWords.{VWords}
 use Rattle.vx_mixed.specs.Laid.{laid_program, laid_hop, some_word_hop, laid_body}
 use Rattle.vx_mixed.specs.LaidSettled.{bank_in}
 use Rattle.vx_regs.specs.Intervals.{IsLive, here, is_live}
-use Rattle.vx_frame.specs.Target.{Target, answer, general, kept, is_slotted, is_branch, holds_branch, stack_on, register_of, one, waited, fetch_words, fetched, return_words, memory_words}
+use Rattle.vx_frame.specs.Target.{Target, answer, general, kept, is_slotted, is_branch, holds_branch, stack_on, register_of, one, waits, in_flight, settled, fetch_words, fetched, return_words, memory_words}
 use Rattle.vx_frame.specs.Tied.{Tied, AtWord, Shows, back_place, is_place, moved as moved_number, word_at}
 use Rattle.vx_frame.specs.Carried.{Carries, IsFunctionOf, is_spilled}
 use Rattle.vx_frame.proofs.Bytes.{unsigned_small}
@@ -108,7 +108,7 @@ module _ (T : Target) (flow : Flow) (ls : List VWords) (w : WordProgram) (sound 
   Fetches = fetch_words T F 0 x
 
   abbrev Last : List Word
-  Last = one (Move 0 answer (fetched T F x)) ∷ one (Load 0 (general 0 3) (pos 0) (stack_on 0) false) ∷ waited T ∷ one (ToLink (Held (general 0 3))) ∷ waited T ∷ one GoBack ∷ []
+  Last = settled T (one (Move 0 answer (fetched T F x)) ∷ one (Load 0 (general 0 3) (pos 0) (stack_on 0) false) ∷ []) ++ (settled T (one (ToLink (Held (general 0 3))) ∷ []) ++ one GoBack ∷ [])
 
   stands : Stands w.words u.place (Fetches ++ Last)
   stands = subst (λ q. Stands w.words q (return_words T F x)) (sym at_word.place) (word_stands T flow.main (length flow.functions) w.words carries.placed F p (Return x) below plan)
@@ -193,8 +193,11 @@ module _ (T : Target) (flow : Flow) (ls : List VWords) (w : WordProgram) (sound 
     place_c : C.place ≡ (A.place + 1) + 1
     place_c = let a = loading.place in let b = answering.place in omega arith
 
+    abbrev FirstPause : ℕ
+    FirstPause = in_flight T.machine 0 (one (Move 0 answer (fetched T F x)) ∷ one (Load 0 (general 0 3) (pos 0) (stack_on 0) false) ∷ [])
+
     pausing : Passed T.machine w fit C (C.place + 1)
-    pausing = wait_step T.machine w fit C T.pause loading.quiet.calm (subst (λ q. slice_get w.words q ≡ Some (waited T)) (sym place_c) st.1.1.0)
+    pausing = wait_step T.machine w fit C FirstPause loading.quiet.calm (subst (λ q. slice_get w.words q ≡ Some (waits FirstPause)) (sym place_c) st.1.1.0)
 
     abbrev D : State
     D = pausing.to
@@ -214,8 +217,11 @@ module _ (T : Target) (flow : Flow) (ls : List VWords) (w : WordProgram) (sound 
     place_e : E.place ≡ (((A.place + 1) + 1) + 1) + 1
     place_e = let a = linking.place in let b = place_d in omega arith
 
+    abbrev LinkPause : ℕ
+    LinkPause = in_flight T.machine 0 (one (ToLink (Held (general 0 3))) ∷ [])
+
     resting : Passed T.machine w fit E (E.place + 1)
-    resting = wait_step T.machine w fit E T.pause linking.quiet.calm (subst (λ q. slice_get w.words q ≡ Some (waited T)) (sym place_e) st.1.1.1.1.0)
+    resting = wait_step T.machine w fit E LinkPause linking.quiet.calm (subst (λ q. slice_get w.words q ≡ Some (waits LinkPause)) (sym place_e) st.1.1.1.1.0)
 
     abbrev G : State
     G = resting.to

@@ -1,20 +1,22 @@
 -- How many words carry a word does not depend on places.
-use Rattle.std.proofs.Common.{◌≡◌, ℕ, zero, suc, ◌+◌, true, false, if◌then◌else◌, Option, Some, None, List, [], ◌∷◌, ◌++◌, length, refl, sym, ap, ◌∙◌, arith, length-append}
+use Rattle.std.proofs.Common.{◌≡◌, ℕ, suc, ◌+◌, true, Option, Some, None, List, [], ◌∷◌, ◌++◌, length, refl, sym, ap, ◌∙◌, arith, length-append}
 use Rattle.vx_flow.specs.declared.graph.Operand.{Operand}
 use Rattle.vx_flow.specs.declared.graph.Operand.TheVariants.{Held as HeldValue, Number as AsNumber, Stack}
-use Rattle.std.specs.Prelude.{neg_ℤ}
+use Rattle.std.specs.Prelude.{neg_ℤ, max, ◌-◌}
 use Rattle.vx_base.specs.declared.arithmetic.Code.TheVariants.{ToBranch}
 use Rattle.vx_base.specs.declared.arithmetic.Compare.TheVariants.{Ltu}
 use Rattle.vx_isa.specs.declared.operation.Operation.TheVariants.{BranchOn, Call, Compute, Goto, Store}
 use Rattle.vx_isa.specs.declared.operation.Register.TheVariants.{Branch as InBranch}
 use Rattle.vx_isa.specs.declared.operation.Source.TheVariants.{Held, Number}
 use Rattle.vx_isa.specs.declared.program.Word.{Word}
+use Rattle.vx_flow.specs.Effects.{writes}
+use Rattle.vx_machine.specs.Items.{latency_of_op}
 use Rattle.vx_mixed.specs.declared.layout.Laid.{Laid}
 use Rattle.vx_mixed.specs.declared.layout.Laid.TheVariants.{Plain, Split}
 use Rattle.vx_mixed.specs.declared.layout.VirtualWord.{VirtualWord}
 use Rattle.vx_mixed.specs.declared.layout.VirtualWord.TheVariants.{Planned, Drain, Transfer, Choice, Call as Calls, Return as Returns, Ends}
 use Rattle.vx_mixed.specs.LaidSettled.{laid_reads, laid_writes}
-use Rattle.vx_frame.specs.Target.{Target, bytes, one, stack_on, move_stack, parameters_of, slotted, general_of, branch_of, load_slot, store_slot, load_slots, store_slots, if_some, once, waited, before, behind, plan_word, plan_words, landing_words, choice_words, fetch_words, fetched, cluster_of_operand, argument_words, result_words, save_words, reload_words, call_words, back_words, return_words, entry_words, word_words}
+use Rattle.vx_frame.specs.Target.{Target, bytes, one, stack_on, move_stack, parameters_of, slotted, general_of, branch_of, load_slot, store_slot, load_slots, store_slots, if_some, once, waits, settled, if_any, slots_in_flight, before, behind, plan_word, plan_words, landing_words, fetch_words, fetched, cluster_of_operand, argument_words, result_words, save_words, reload_words, call_words, back_words, return_words, entry_words, word_words}
 use Rattle.vx_frame.specs.Placed.{landing_of, item_landings, word_landings, words_of}
 use Rattle.vx_frame.specs.Placing.{Spots, at_spots}
 use Rattle.vx_frame.proofs.Emitting.{words_of_append}
@@ -39,10 +41,18 @@ store_slots_same T s f names [] = refl
 store_slots_same T s f names (v ∷ vs) = ap (λ z. store_slot T f v (general_of T f names v) (branch_of T f names v) ++ z) (store_slots_same T s f names vs)
 
 before_same : (T : Target) (s : Spots) (f : ℕ) (rs : List ℕ) → before (at_spots T s) f rs ≡ before T f rs
-before_same T s f rs = ap (λ z. if_some (slotted T f rs) (z ++ waited T ∷ [])) (load_slots_same T s f rs (once (slotted T f rs)))
+before_same T s f rs = ap (λ z. if_some (slotted T f rs) (settled T z)) (load_slots_same T s f rs (once (slotted T f rs)))
 
-behind_same : (T : Target) (s : Spots) (f : ℕ) (ws : List ℕ) → behind (at_spots T s) f ws ≡ behind T f ws
-behind_same T s f ws = ap (λ z. if_some (slotted T f ws) (waited T ∷ z)) (store_slots_same T s f ws (slotted T f ws))
+slots_in_flight_same : (T : Target) (s : Spots) (f : ℕ) (items : List Laid) → slots_in_flight (at_spots T s) f items ≡ slots_in_flight T f items
+slots_in_flight_same T s f [] = refl
+slots_in_flight_same T s f (Plain op k ∷ items) = ap (λ n. max (if_any (slotted T f (writes op)) (latency_of_op T.machine op - 1)) n) (slots_in_flight_same T s f items)
+slots_in_flight_same T s f (Split test y q ∷ items) = slots_in_flight_same T s f items
+
+behind_same : (T : Target) (s : Spots) (f : ℕ) (items : List Laid) → behind (at_spots T s) f items ≡ behind T f items
+behind_same T s f items =
+    let ws = laid_writes items in
+    ap (λ n. if_some (slotted T f ws) (waits n ∷ store_slots (at_spots T s) f ws (slotted T f ws))) (slots_in_flight_same T s f items)
+    ∙ ap (λ z. if_some (slotted T f ws) (waits (slots_in_flight T f items) ∷ z)) (store_slots_same T s f ws (slotted T f ws))
 
 abbrev passed : Target → (f g v : ℕ) → Operand → List Word → List Word
 passed T f g v x rest = fetch_words T f T.frame x ++ one (Store (cluster_of_operand T f x) (bytes (T.slot g v)) (stack_on (cluster_of_operand T f x)) (fetched T f x)) ∷ rest
@@ -67,7 +77,7 @@ return_same T s f (AsNumber n) = refl
 return_same T s f Stack = refl
 
 reload_same : (T : Target) (s : Spots) (f : ℕ) (vs : List ℕ) → reload_words (at_spots T s) f vs ≡ reload_words T f vs
-reload_same T s f vs = ap (λ z. if_some vs (z ++ waited T ∷ [])) (load_slots_same T s f vs vs)
+reload_same T s f vs = ap (λ z. if_some vs (settled T z)) (load_slots_same T s f vs vs)
 
 back_same : (T : Target) (s : Spots) (f p : ℕ) (result : Option ℕ) → length (back_words (at_spots T s) f p result) ≡ length (back_words T f p result)
 back_same T s f p result =
@@ -81,8 +91,8 @@ other_word xs ys w v = len_behind xs (w ∷ ys) (v ∷ ys) refl
 pub plan_length : (T : Target) (s : Spots) (f p : ℕ) (items : List Laid) → length (plan_words (at_spots T s) f p items) ≡ length (plan_words T f p items)
 plan_length T s f p items =
     let w = plan_word (at_spots T s) f p items in
-    ap length (ap (λ z. z ++ w ∷ behind (at_spots T s) f (laid_writes items)) (before_same T s f (laid_reads items)) ∙ ap (λ z. before T f (laid_reads items) ++ w ∷ z) (behind_same T s f (laid_writes items)))
-    ∙ other_word (before T f (laid_reads items)) (behind T f (laid_writes items)) w (plan_word T f p items)
+    ap length (ap (λ z. z ++ w ∷ behind (at_spots T s) f items) (before_same T s f (laid_reads items)) ∙ ap (λ z. before T f (laid_reads items) ++ w ∷ z) (behind_same T s f items))
+    ∙ other_word (before T f (laid_reads items)) (behind T f items) w (plan_word T f p items)
 
 pub call_length : (T : Target) (s : Spots) (f p g : ℕ) (arguments : List Operand) → length (call_words (at_spots T s) f p g arguments) ≡ length (call_words T f p g arguments)
 call_length T s f p g arguments =
@@ -90,7 +100,7 @@ call_length T s f p g arguments =
     let tail_of : Target → List Word = λ V. argument_words V f g (parameters_of V g) arguments ++ one (Call (V.entry g)) ∷ [] in
     let tails : length (tail_of U) ≡ length (tail_of T) = len_both (argument_words U f g (parameters_of T g) arguments) (one (Call (s.entry g)) ∷ []) (argument_words T f g (parameters_of T g) arguments) (one (Call (T.entry g)) ∷ []) (ap length (argument_same T s f g (parameters_of T g) arguments)) refl in
     let moves : length (move_stack T (neg_ℤ (bytes T.frame)) ++ tail_of U) ≡ length (move_stack T (neg_ℤ (bytes T.frame)) ++ tail_of T) = len_behind (move_stack T (neg_ℤ (bytes T.frame))) (tail_of U) (tail_of T) tails in
-    len_both (save_words U f (T.saved f p)) (depth_word T ∷ waited T ∷ one (BranchOn 0 true s.depth_trap) ∷ (move_stack T (neg_ℤ (bytes T.frame)) ++ tail_of U)) (save_words T f (T.saved f p)) (depth_word T ∷ waited T ∷ one (BranchOn 0 true T.depth_trap) ∷ (move_stack T (neg_ℤ (bytes T.frame)) ++ tail_of T)) (ap length (store_slots_same T s f (T.saved f p) (T.saved f p))) (ap (λ n. suc (suc (suc n))) moves)
+    len_both (save_words U f (T.saved f p)) (settled T (depth_word T ∷ []) ++ one (BranchOn 0 true s.depth_trap) ∷ (move_stack T (neg_ℤ (bytes T.frame)) ++ tail_of U)) (save_words T f (T.saved f p)) (settled T (depth_word T ∷ []) ++ one (BranchOn 0 true T.depth_trap) ∷ (move_stack T (neg_ℤ (bytes T.frame)) ++ tail_of T)) (ap length (store_slots_same T s f (T.saved f p) (T.saved f p))) (ap (λ n. suc (suc (suc n))) moves)
   where
     depth_word : Target → Word
     depth_word V = one (Compute 0 (ToBranch Ltu) (InBranch (record { cluster = 0; number = 0 })) (Held (stack_on 0)) (Number (bytes (V.globals + V.frame))))
@@ -108,7 +118,7 @@ word_length T s f p (Returns x) = ap length (return_same T s f x)
 word_length T s f p (Ends k) = refl
 
 landing_length : (T : Target) (s : Spots) (f : ℕ) (items : List Laid) (q : ℕ) → length (landing_words (at_spots T s) f items q) ≡ length (landing_words T f items q)
-landing_length T s f items q = len_both (behind (at_spots T s) f (laid_writes items)) (one (Goto (s.starts f q)) ∷ []) (behind T f (laid_writes items)) (one (Goto (T.starts f q)) ∷ []) (ap length (behind_same T s f (laid_writes items))) refl
+landing_length T s f items q = len_both (behind (at_spots T s) f items) (one (Goto (s.starts f q)) ∷ []) (behind T f items) (one (Goto (T.starts f q)) ∷ []) (ap length (behind_same T s f items)) refl
 
 landing_of_length : (T : Target) (s : Spots) (f p : ℕ) (items : List Laid) (scratch : List ℕ) (q : ℕ) → length (words_of (landing_of (at_spots T s) f p items scratch q)) ≡ length (words_of (landing_of T f p items scratch q))
 landing_of_length T s f p items [] q = refl

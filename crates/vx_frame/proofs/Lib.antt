@@ -58,3 +58,4 @@ pub mod FrameLists
 pub mod SavedLists
 pub mod SeenSaves
 pub mod LeadsWithin
+pub mod Pauses

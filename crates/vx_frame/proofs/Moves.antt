@@ -17,7 +17,7 @@ use Rattle.vx_isa.specs.Numbers.{Numbers}
 use Rattle.vx_isa.specs.Operations.{cluster_of_register, destination_of}
 use Rattle.vx_isa.specs.Machine.{State, To, register, number_of, memory_after, takes_input, print_of, has_bad_address, lead_of, is_left}
 use Rattle.vx_isa.proofs.Lists.{count_by-cons}
-use Rattle.vx_frame.specs.Target.{stack_on, waits, bytes}
+use Rattle.vx_frame.specs.Target.{stack_on, waits, in_flight, bytes}
 use Rattle.vx_frame.proofs.Forms.{Plainly, memory_on}
 use Rattle.vx_frame.proofs.Calm.{seen, put_to, put_at, put_off, given, after, AllFit}
 use Rattle.vx_frame.proofs.Slots.{in_or_not}
@@ -94,12 +94,12 @@ module _ (m : Numbers) (w : WordProgram) (fit : AllFit m w) (u : State) (op : �
   abbrev Moving : ℕ → Word
   Moving n = record { ops = map op (numbers 0 n); idle = 0 }
 
-  pub move_run : (clusters pause : ℕ) → u.flying ≡ [] → Stands w.words u.place (Moving clusters ∷ waits pause ∷ []) → Moved clusters
-  move_run n pause calm st =
+  pub move_run : (clusters : ℕ) → u.flying ≡ [] → Stands w.words u.place (Moving clusters ∷ waits (in_flight m 0 (Moving clusters ∷ [])) ∷ []) → Moved clusters
+  move_run n calm st =
       let ks : List ℕ = numbers 0 n in
       let a : State = after w u (Moving n) (u.place + 1) in
       let f : Forth m w fit u a = word_step m w fit u (Moving n) (u.place + 1) calm st.0 (record { addresses = no_bad ks; input = ap (λ b. b && not (is_left u.input)) (no_take ks) }) (straight_on ks) in
-      let b = wait_step m w fit a pause refl st.1.0 in
+      let b = wait_step m w fit a (in_flight m 0 (Moving n ∷ [])) refl st.1.0 in
       let q : Quiet u a = record { calm = refl; input = ap (λ c. drop c u.input) (no_count ks); out = ap (λ ys. u.out ++ ys) (no_print ks) ∙ append-nil u.out } in
       record {
         to = b.to;

@@ -1,7 +1,7 @@
 -- What the operations that carry a planned word need of a machine: no more than its items.
-use Rattle.std.proofs.Common.{◌≡◌, ◌≢◌, ◌<◌, ◌≤◌, ◌⊎◌, inl, inr, ⊎_elim, ◌+◌, ◌*◌, ℕ, zero, suc, ℤ, pos, Bool, true, false, ◌&&◌, ◌||◌, not, eqb, nat_le, nat_lt, cond, Option, Some, None, List, [], ◌∷◌, ◌++◌, length, map, count_by, refl, sym, ap, ◌∙◌, subst, arith}
-use Rattle.std.specs.Prelude.{if◌then◌else◌, All}
-use Rattle.std.specs.List.{list_all, list_any, flat_map, filter}
+use Rattle.std.proofs.Common.{◌≡◌, ◌≢◌, ◌<◌, ◌≤◌, ◌⊎◌, inl, inr, ⊎_elim, ◌+◌, ℕ, pos, Bool, true, false, ◌&&◌, ◌||◌, not, eqb, nat_lt, Option, Some, None, List, [], ◌∷◌, ◌++◌, length, map, count_by, refl, sym, ap, ◌∙◌, subst, arith}
+use Rattle.std.specs.Prelude.{if◌then◌else◌}
+use Rattle.std.specs.List.{list_all, filter}
 use Rattle.std.specs.Cmp.Derive.{both_true}
 use Rattle.std.proofs.lemmas.Bool.{and_parts, eqb-true, ne_eqb, lt-ltb, ltb-true}
 use Rattle.std.proofs.lemmas.Bool.Decides.{nat_tests}
@@ -16,12 +16,11 @@ use Rattle.vx_flow.specs.declared.graph.Op.{Op}
 use Rattle.vx_flow.specs.declared.graph.Op.TheVariants.{Compute as Computes, Select as Selects, Place, Load as Loads, Store as Stores, More as Asks, Input as Takes, Text, Decimal, Across}
 use Rattle.vx_flow.specs.declared.trace.Homes.{Homes}
 use Rattle.vx_flow.specs.Effects.{IsIn, is_unary, value_in, reads, writes}
-use Rattle.vx_flow.specs.Sound.{Sound, operands_of}
-use Rattle.vx_flow.proofs.Members.{in_left, in_right, in_either}
-use Rattle.vx_flow.proofs.SoundLists.{all_in}
+use Rattle.vx_flow.specs.Sound.{Sound}
+use Rattle.vx_flow.proofs.Members.{in_left, in_right}
 use Rattle.vx_isa.specs.declared.operation.GeneralRegister.{GeneralRegister}
 use Rattle.vx_isa.specs.declared.operation.Register.{Register}
-use Rattle.vx_isa.specs.declared.operation.Register.TheVariants.{General, Branch, Link}
+use Rattle.vx_isa.specs.declared.operation.Register.TheVariants.{General, Branch}
 use Rattle.vx_isa.specs.declared.operation.Source.{Source}
 use Rattle.vx_isa.specs.declared.operation.Source.TheVariants.{Held, Number}
 use Rattle.vx_isa.specs.declared.operation.UnitKind.TheVariants.{Alu, Copies}
@@ -31,20 +30,20 @@ use Rattle.vx_isa.specs.Fits.{keeps_to_cluster, all_on, is_in_file, takes_read_p
 use Rattle.vx_isa.proofs.Lists.{count_by-append, count_by-cons, count_by-none}
 use Rattle.vx_machine.specs.declared.items.ClusteredItem.{ClusteredItem}
 use Rattle.vx_machine.specs.declared.items.Item.TheVariants.{Plain as PlainItem}
-use Rattle.vx_machine.specs.Items.{base_of as base_operand, general_reads_of_op, takes_port, writes_general, writes_general_op, unit_of_item, is_observable_item, is_observable_op}
+use Rattle.vx_machine.specs.Items.{base_of as base_operand, general_reads_of_op, takes_port, writes_general_op, unit_of_item, is_observable_op}
 use Rattle.vx_machine.specs.Needs.{Needs}
 use Rattle.vx_machine.specs.Room.{home_of, source_of as room_source, read_clusters, is_at, stands_well}
 use Rattle.vx_mixed.specs.declared.layout.Laid.{Laid}
 use Rattle.vx_mixed.specs.declared.layout.Laid.TheVariants.{Plain, Split}
 use Rattle.vx_mixed.specs.Settled.{read_there}
 use Rattle.vx_mixed.specs.LaidSettled.{bank_in, item_reads, item_writes, laid_reads, laid_writes, Plans}
-use Rattle.vx_frame.specs.Target.{Target, home, is_branch, holds_branch, general, general_of, branch_of, register_of, source_of, access_base, access_offset, base_of, is_own, stack_on, zero_on, computes, carried}
+use Rattle.vx_frame.specs.Target.{Target, home, is_branch, holds_branch, general, general_of, branch_of, register_of, source_of, access_base, is_own, stack_on, zero_on, computes, carried}
 use Rattle.vx_frame.specs.Carried.{IsMapped, item_of_laid}
 use Rattle.vx_frame.proofs.Forms.{to_branch}
 use Rattle.vx_frame.proofs.Proper.{PlainOperand, PlaceIn, ProperOp, ProperItems}
 use Rattle.vx_frame.proofs.Names.{Few, file_self}
-use Rattle.vx_frame.proofs.Enough.{few_reads, few_writes, named_busy, in_all_of, in_map, operands_code, across_source}
-use Rattle.vx_frame.proofs.Limits.{Limits, bit, bit_le, count_single, count_none, source_reads, no_branch, below_of}
+use Rattle.vx_frame.proofs.Enough.{few_reads, few_writes, named_busy, in_all_of, operands_code, across_source}
+use Rattle.vx_frame.proofs.Limits.{Limits, bit, count_single, count_none, no_branch, below_of}
 use Rattle.vx_frame.proofs.Filed.{general_filed, branch_filed, general_there, branch_there}
 
 same_eqb : (a b : ℕ) → a ≡ b → eqb a b ≡ true

@@ -15,7 +15,7 @@ use Rattle.vx_isa.specs.declared.program.WordProgram.{WordProgram}
 use Rattle.vx_isa.specs.Numbers.{Numbers}
 use Rattle.vx_isa.specs.Machine.{State, register, source}
 use Rattle.vx_mixed.specs.Settled.{NoTwice}
-use Rattle.vx_frame.specs.Target.{Target, answer, stack_on, kept, is_slotted, holds_branch, general_of, branch_of, register_of, one, waited, bytes, load_slot, fetch_words, fetched, cluster_of_operand, argument_words, memory_words}
+use Rattle.vx_frame.specs.Target.{Target, answer, stack_on, kept, is_slotted, holds_branch, general_of, branch_of, register_of, one, waits, in_flight, settled, bytes, load_slot, fetch_words, fetched, cluster_of_operand, argument_words, memory_words}
 use Rattle.vx_frame.specs.Tied.{word_at}
 use Rattle.vx_frame.proofs.Calm.{seen, AllFit}
 use Rattle.vx_frame.proofs.Op.{same_or_not}
@@ -59,7 +59,7 @@ module _ (m : Numbers) (w : WordProgram) (fit : AllFit m w) (T : Target) (f sp :
   abbrev loads : ℕ → ℕ → List Word
   loads up v = load_slot T f up v (general_of T f (One v) v) (branch_of T f (One v) v)
 
-  fetch_case : (up v : ℕ) (n : ℤ) (u : State) → u.flying ≡ [] → StackAt u → CanFetch up v → (b : Bool) → is_slotted (kept T f v) ≡ b → Stands w.words u.place (if b then loads up v ++ waited T ∷ [] else []) → (if b then word_at u.memory (sp + (up + T.slot f v)) else seen u.registers (register_of T f (v ∷ []) v)) ≡ n → Got u (HeldValue v) n (length (if b then loads up v ++ waited T ∷ [] else []))
+  fetch_case : (up v : ℕ) (n : ℤ) (u : State) → u.flying ≡ [] → StackAt u → CanFetch up v → (b : Bool) → is_slotted (kept T f v) ≡ b → Stands w.words u.place (if b then settled T (loads up v) else []) → (if b then word_at u.memory (sp + (up + T.slot f v)) else seen u.registers (register_of T f (v ∷ []) v)) ≡ n → Got u (HeldValue v) n (length (if b then settled T (loads up v) else []))
   fetch_case up v n u calm stack can false e st is = record {
     to = u;
     comes = stay m w fit u;
@@ -70,11 +70,12 @@ module _ (m : Numbers) (w : WordProgram) (fit : AllFit m w) (T : Target) (f sp :
     others = λ q h na. refl;
   }
   fetch_case up v n u calm stack can true e st is =
-      let a = load_one m w fit T f sp size small some (One v) up v u calm can.usable (stands_left w.words u.place (loads up v) (waited T ∷ []) st) stack (can.inside e) in
-      let b = wait_step m w fit a.to T.pause a.quiet.calm (subst (λ q. slice_get w.words q ≡ Some (waited T)) (sym a.place) (stands_right w.words u.place (loads up v) (waited T ∷ []) st).0) in
+      let pause : ℕ = in_flight T.machine 0 (loads up v) in
+      let a = load_one m w fit T f sp size small some (One v) up v u calm can.usable (stands_left w.words u.place (loads up v) (waits pause ∷ []) st) stack (can.inside e) in
+      let b = wait_step m w fit a.to pause a.quiet.calm (subst (λ q. slice_get w.words q ≡ Some (waits pause)) (sym a.place) (stands_right w.words u.place (loads up v) (waits pause ∷ []) st).0) in
       let pa = a.place in
       let pb = b.place in
-      let len : length (loads up v ++ waited T ∷ []) ≡ length (loads up v) + 1 = length-append (loads up v) (waited T ∷ []) in
+      let len : length (loads up v ++ waits pause ∷ []) ≡ length (loads up v) + 1 = length-append (loads up v) (waits pause ∷ []) in
       let plain : (if holds_branch T f v then one_if (compare_of Ne (word_at u.memory (sp + (up + T.slot f v))) (pos 0)) else word_at u.memory (sp + (up + T.slot f v))) ≡ word_at u.memory (sp + (up + T.slot f v)) = ap (λ c. if c then one_if (compare_of Ne (word_at u.memory (sp + (up + T.slot f v))) (pos 0)) else word_at u.memory (sp + (up + T.slot f v))) can.general in
       record {
         to = b.to;

@@ -9,7 +9,7 @@ use Rattle.vx_isa.specs.Machine.{State, Lead, To, lead_of}
 use Rattle.vx_mixed.specs.declared.layout.Laid.{Laid}
 use Rattle.vx_mixed.specs.declared.layout.Laid.TheVariants.{Split}
 use Rattle.vx_mixed.specs.Laid.{laid_effect, laid_next}
-use Rattle.vx_frame.specs.Target.{Target, slotted, leads, one, before, behind, if_some, waited, store_slots, plan_word, plan_words, memory_words}
+use Rattle.vx_frame.specs.Target.{Target, slotted, leads, one, before, behind, if_some, waits, slots_in_flight, store_slots, plan_word, plan_words, memory_words}
 use Rattle.vx_frame.proofs.Calm.{AllFit}
 use Rattle.vx_frame.proofs.Items.{Went, straight, by_split, lead_items}
 use Rattle.vx_frame.proofs.Steps.{Stands, stands_left, stands_right, stay, forth_comes, goto_step}
@@ -30,8 +30,8 @@ module _ (m : Numbers) (w : WordProgram) (fit : AllFit m w) (T : Target) (f sp p
     abbrev Comes_to : ℕ → Type 0
     Comes_to q = Arrived m w fit T f sp p size small some setting IsArray items s u t q
 
-    stored : (to : ℕ) → Stands w.words to (behind T f Written) → Stored m w fit T f sp size small some Written (Left to) (slotted T f Written) (length (behind T f Written))
-    stored to st = behind_case m w fit T f sp size small some Written (slotted T f Written) (Left to) refl st (second_stack m w fit T f sp p size small some setting IsArray items s u h t done to) (λ v i. h.writes_usable v (slotted_from T f v Written i).0) h.writes_inside h.writes_slots
+    stored : (to : ℕ) → Stands w.words to (behind T f items) → Stored m w fit T f sp size small some Written (Left to) (slotted T f Written) (length (behind T f items))
+    stored to st = behind_case m w fit T f sp size small some Written (slots_in_flight T f items) (slotted T f Written) (Left to) refl st (second_stack m w fit T f sp p size small some setting IsArray items s u h t done to) (λ v i. h.writes_usable v (slotted_from T f v Written i).0) h.writes_inside h.writes_slots
 
     on_straight : (q : ℕ) → q ≡ suc p → lead_of Begun (CodeOf m w fit T f sp p size small some setting IsArray items s u h) ≡ To (Begun.place + 1) → Comes_to q
     on_straight q e lead =
@@ -40,7 +40,7 @@ module _ (m : Numbers) (w : WordProgram) (fit : AllFit m w) (T : Target) (f sp p
         let pa = a.place in
         let pl = last.place in
         let n = h.next in
-        let len : length (plan_words T f p items) ≡ length (before T f (Reads m w fit T f sp p size small some setting IsArray items s u)) + suc (length (behind T f Written)) = length-append (before T f (Reads m w fit T f sp p size small some setting IsArray items s u)) (plan_word T f p items ∷ behind T f Written) in
+        let len : length (plan_words T f p items) ≡ length (before T f (Reads m w fit T f sp p size small some setting IsArray items s u)) + suc (length (behind T f items)) = length-append (before T f (Reads m w fit T f sp p size small some setting IsArray items s u)) (plan_word T f p items ∷ behind T f items) in
         let place : last.to.place ≡ T.starts f (suc p) = omega arith in
         arrived m w fit T f sp p size small some setting IsArray items s u h t done (Begun.place + 1) last q lead last.to (stay m w fit last.to) refl refl (record { calm = last.quiet.calm; input = refl; out = refl }) (place ∙ ap (T.starts f) (sym e))
 
@@ -49,17 +49,17 @@ module _ (m : Numbers) (w : WordProgram) (fit : AllFit m w) (T : Target) (f sp p
       where
         by : (xs : List ℕ) → slotted T f Written ≡ xs → Comes_to q
         by [] k =
-            let none : behind T f Written ≡ [] = ap (λ ys. if_some ys (waited T ∷ store_slots T f Written ys)) k in
-            let st : Stands w.words (T.starts f to) (behind T f Written) = subst (Stands w.words (T.starts f to)) (sym none) tt in
+            let none : behind T f items ≡ [] = ap (λ ys. if_some ys (waits (slots_in_flight T f items) ∷ store_slots T f Written ys)) k in
+            let st : Stands w.words (T.starts f to) (behind T f items) = subst (Stands w.words (T.starts f to)) (sym none) tt in
             let last = stored (T.starts f to) st in
             let pl = last.place in
-            let len : length (behind T f Written) ≡ 0 = ap length none in
+            let len : length (behind T f items) ≡ 0 = ap length none in
             let place : last.to.place ≡ T.starts f to = omega arith in
             arrived m w fit T f sp p size small some setting IsArray items s u h t done (T.starts f to) last q (lead ∙ ap (λ ys. To (leads T f p ys to)) k) last.to (stay m w fit last.to) refl refl (record { calm = last.quiet.calm; input = refl; out = refl }) (place ∙ ap (T.starts f) (sym e))
         by (v ∷ vs) k =
             let st = h.landing test to 0 y v vs i k in
-            let last = stored (T.landing f p to) (stands_left w.words (T.landing f p to) (behind T f Written) (one (Goto (T.starts f to)) ∷ []) st) in
-            let go = (stands_right w.words (T.landing f p to) (behind T f Written) (one (Goto (T.starts f to)) ∷ []) st).0 in
+            let last = stored (T.landing f p to) (stands_left w.words (T.landing f p to) (behind T f items) (one (Goto (T.starts f to)) ∷ []) st) in
+            let go = (stands_right w.words (T.landing f p to) (behind T f items) (one (Goto (T.starts f to)) ∷ []) st).0 in
             let b = goto_step m w fit last.to (T.starts f to) last.quiet.calm (subst (λ x. slice_get w.words x ≡ Some (one (Goto (T.starts f to)))) (sym last.place) go) in
             arrived m w fit T f sp p size small some setting IsArray items s u h t done (T.landing f p to) last q (lead ∙ ap (λ ys. To (leads T f p ys to)) k) b.to (forth_comes m w fit last.to b.to b.forth) b.registers b.memory b.quiet (b.place ∙ ap (T.starts f) (sym e))
 

@@ -1,23 +1,21 @@
 -- Words that begin with writes to values in flight: loads of slots in front of a word, drains, transfers and choices.
-use Rattle.std.proofs.Common.{◌≡◌, ◌≤◌, ◌⊎◌, inl, inr, ⊎_elim, ◌+◌, ◌-◌, ℕ, suc, true, Some, List, [], ◌∷◌, ◌++◌, refl, sym, ap, ◌∙◌, subst, arith}
+use Rattle.std.proofs.Common.{◌≡◌, ◌≤◌, inl, inr, ⊎_elim, ℕ, suc, true, Some, List, [], ◌∷◌, refl, sym, ap, ◌∙◌, subst, arith}
 use Rattle.std.specs.Prelude.{if◌then◌else◌, slice_get}
-use Rattle.vx_base.proofs.Pieces.{cold, fine_append}
+use Rattle.vx_base.proofs.Pieces.{fine_append}
 use Rattle.vx_flow.specs.declared.graph.Bank.TheVariants.{Branch as BranchBank}
 use Rattle.vx_flow.specs.declared.graph.Exit.TheVariants.{Split as Branches}
 use Rattle.vx_flow.specs.Effects.{IsIn}
 use Rattle.vx_flow.specs.Sound.{Has, Sound}
 use Rattle.vx_isa.specs.declared.operation.Register.{Register}
 use Rattle.vx_isa.specs.declared.operation.Register.TheVariants.{General as InGeneral, Branch as InBranch}
-use Rattle.vx_isa.specs.declared.operation.Operation.{Operation}
 use Rattle.vx_isa.specs.declared.operation.Operation.TheVariants.{Goto, BranchOn}
 use Rattle.vx_isa.specs.declared.program.Word.{Word}
-use Rattle.vx_isa.specs.Operations.{latency_of}
 use Rattle.vx_mixed.specs.declared.layout.VirtualWord.{VirtualWord}
 use Rattle.vx_mixed.specs.declared.layout.VirtualWord.TheVariants.{Drain, Transfer, Choice}
 use Rattle.vx_mixed.specs.LaidSettled.{bank_in}
 use Rattle.vx_mixed.specs.Settled.{NoTwice}
 use Rattle.vx_regs.specs.Intervals.{is_live, here}
-use Rattle.vx_frame.specs.Target.{Target, is_branch, general_of, branch_of, register_of, slotted, if_some, once, before, choice_words, one, waits, waited, load_slots}
+use Rattle.vx_frame.specs.Target.{Target, is_branch, general_of, branch_of, register_of, slotted, if_some, once, before, choice_words, one, waits, settled, load_slots}
 use Rattle.vx_frame.specs.Carried.{IsMapped}
 use Rattle.vx_frame.proofs.Names.{Few, not_general, apart_all}
 use Rattle.vx_frame.proofs.FromGraph.{whole_bank, has_whole}
@@ -33,9 +31,9 @@ use Rattle.vx_frame.proofs.Pending.{Banked, Busy, Left, pend, pend_kept, pend_ow
 abbrev Any : ℕ → Type 0
 Any a = Unit {0}
 
-module _ (T : Target) (heat : ℕ → Register → ℕ) (short : (op : Operation) → latency_of T.machine op ≤ T.pause + 1) (f : ℕ) (mapped : IsMapped T f) (sound : Sound (T.graph f)) where
+module _ (T : Target) (heat : ℕ → Register → ℕ) (f : ℕ) (mapped : IsMapped T f) (sound : Sound (T.graph f)) where
   abbrev F : (Register → ℕ) → List Word → (Register → ℕ) → Type 0
-  F h ws e = Fine T heat short h ws e
+  F h ws e = Fine T heat h ws e
 
   abbrev Heat : ℕ → Register → ℕ
   Heat p = pend T f mapped sound p
@@ -44,7 +42,7 @@ module _ (T : Target) (heat : ℕ → Register → ℕ) (short : (op : Operation
   abbrev pub Settles : ℕ → ℕ → Type 0
   Settles p v = Banked T f mapped sound v × Busy T f mapped sound p v × (Left T f mapped sound p v ≡ 0)
 
-  names_at : (p : ℕ) (names : List ℕ) → Few T f mapped names → ((v : ℕ) → IsIn v names → Settles p v) → Names T heat short f names (Heat p)
+  names_at : (p : ℕ) (names : List ℕ) → Few T f mapped names → ((v : ℕ) → IsIn v names → Settles p v) → Names T heat f names (Heat p)
   names_at p names few h = record {
     stack = λ k. pend_own T f mapped sound p k 1 (omega arith);
     answered = pend_own T f mapped sound p 0 2 (omega arith);
@@ -54,9 +52,9 @@ module _ (T : Target) (heat : ℕ → Register → ℕ) (short : (op : Operation
     apart = λ x y i j ne. apart_all T f mapped p names x y (λ v k. ((h v k).0, (h v k).1)) few i j ne;
   }
 
-  loads_case : (p : ℕ) (names : List ℕ) → Few T f mapped names → ((v : ℕ) → IsIn v names → Settles p v) → (vs us : List ℕ) → ((v : ℕ) → IsIn v us → IsIn v names) → NoTwice us → F (Heat p) (if_some vs (load_slots T f names us ++ waited T ∷ [])) (Heat p)
+  loads_case : (p : ℕ) (names : List ℕ) → Few T f mapped names → ((v : ℕ) → IsIn v names → Settles p v) → (vs us : List ℕ) → ((v : ℕ) → IsIn v us → IsIn v names) → NoTwice us → F (Heat p) (if_some vs (settled T (load_slots T f names us))) (Heat p)
   loads_case p names few h [] us sub n = λ r. omega arith
-  loads_case p names few h (v ∷ vs) us sub n = loads_fine T heat short f names (Heat p) (names_at p names few h) [] us [] (Heat p) (λ u i. absurd i) sub (λ u i j. j) n (λ r. omega arith)
+  loads_case p names few h (v ∷ vs) us sub n = loads_fine T heat f names (Heat p) (names_at p names few h) 0 [] us [] (Heat p) (λ u i. absurd i) sub (λ u i j. j) n (λ r. omega arith)
 
   -- slots are loaded in front of a word, each once
   pub before_fine : (p : ℕ) (names : List ℕ) → Few T f mapped names → ((v : ℕ) → IsIn v names → Settles p v) → F (Heat p) (before T f names) (Heat p)

@@ -10,7 +10,7 @@ use Rattle.vx_isa.specs.declared.program.WordProgram.{WordProgram}
 use Rattle.vx_isa.specs.Numbers.{Numbers}
 use Rattle.vx_isa.specs.Operations.{is_zero}
 use Rattle.vx_isa.specs.Machine.{State, register}
-use Rattle.vx_frame.specs.Target.{Target, answer, stack_on, kept, is_slotted, home, holds_branch, general_of, branch_of, register_of, one, waited, bytes, result_words, memory_words}
+use Rattle.vx_frame.specs.Target.{Target, answer, stack_on, kept, is_slotted, home, holds_branch, general_of, branch_of, register_of, one, waits, in_flight, settled, bytes, result_words, memory_words}
 use Rattle.vx_frame.specs.Tied.{IsResult, holds, word_at}
 use Rattle.vx_frame.proofs.Calm.{seen, AllFit}
 use Rattle.vx_frame.proofs.Steps.{Stands, Quiet, quiet_on, Comes, stay, comes_on, forth_comes, set_step, wait_step, store_step}
@@ -38,7 +38,7 @@ module _ (m : Numbers) (w : WordProgram) (fit : AllFit m w) (T : Target) (f sp :
   words_if b v =
       if b
       then one (Store 0 (bytes (T.slot f v)) (stack_on 0) (Held answer)) ∷ []
-      else one (Move (home T f v) (general_of T f (v ∷ []) v) (Held answer)) ∷ waited T ∷ []
+      else settled T (one (Move (home T f v) (general_of T f (v ∷ []) v) (Held answer)) ∷ [])
 
   result_case : (v : ℕ) (n : ℤ) (u : State) → u.flying ≡ [] → register u (General (stack_on 0)) ≡ pos (4 * sp) → register u (General answer) ≡ n → CanGet v → (b : Bool) → is_slotted (kept T f v) ≡ b → Stands w.words u.place (words_if b v) → Resulted u (Some v) n (length (words_if b v))
   result_case v n u calm stack from can true e st =
@@ -57,7 +57,8 @@ module _ (m : Numbers) (w : WordProgram) (fit : AllFit m w) (T : Target) (f sp :
       let name : register_of T f (v ∷ []) v ≡ g = as_general v can.general in
       let not_zero : is_zero g ≡ false = ap is_zero (sym name) ∙ can.not_zero in
       let a = set_step m w fit u (Move (home T f v) (general_of T f (v ∷ []) v) (Held answer)) g n calm st.0 (record { bad = refl; takes = refl; prints = refl; stores = λ y. refl; leads = λ ops. refl }) refl not_zero from in
-      let b = wait_step m w fit a.to T.pause a.quiet.calm (subst (λ q. slice_get w.words q ≡ Some (waited T)) (sym a.place) st.1.0) in
+      let pause : ℕ = in_flight T.machine 0 (one (Move (home T f v) (general_of T f (v ∷ []) v) (Held answer)) ∷ []) in
+      let b = wait_step m w fit a.to pause a.quiet.calm (subst (λ q. slice_get w.words q ≡ Some (waits pause)) (sym a.place) st.1.0) in
       let pa = a.place in
       let pb = b.place in
       record {

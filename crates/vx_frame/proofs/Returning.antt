@@ -239,7 +239,7 @@ module _ (T : Target) (flow : Flow) (ls : List VWords) (w : WordProgram) (sound 
     stands_l = subst (λ q. Stands w.words q (Up ++ (Gets ++ Loads))) (sym left.place) stands
 
     moved : Moved T.machine w fit L op Raise (λ k. refl) (λ k. refl) (λ k. record { bad = refl; takes = refl; prints = refl; stores = λ m. refl; leads = λ ops. refl }) T.machine.clusters
-    moved = move_run T.machine w fit L op Raise (λ k. refl) (λ k. refl) (λ k. record { bad = refl; takes = refl; prints = refl; stores = λ m. refl; leads = λ ops. refl }) T.machine.clusters T.pause left.quiet.calm (stands_left w.words L.place Up (Gets ++ Loads) stands_l)
+    moved = move_run T.machine w fit L op Raise (λ k. refl) (λ k. refl) (λ k. record { bad = refl; takes = refl; prints = refl; stores = λ m. refl; leads = λ ops. refl }) T.machine.clusters left.quiet.calm (stands_left w.words L.place Up (Gets ++ Loads) stands_l)
 
     abbrev A : State
     A = moved.to

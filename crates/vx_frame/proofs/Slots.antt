@@ -14,7 +14,7 @@ use Rattle.vx_isa.specs.declared.program.WordProgram.{WordProgram}
 use Rattle.vx_isa.specs.Numbers.{Numbers}
 use Rattle.vx_isa.specs.Operations.{is_zero}
 use Rattle.vx_isa.specs.Machine.{State, register, is_one}
-use Rattle.vx_frame.specs.Target.{Target, answer, stack_on, general_of, branch_of, register_of, holds_branch, home, one, waited, bytes, load_slot, store_slot, load_slots, store_slots, if_some, once, memory_words}
+use Rattle.vx_frame.specs.Target.{Target, answer, stack_on, general_of, branch_of, register_of, holds_branch, home, one, waits, in_flight, settled, bytes, load_slot, store_slot, load_slots, store_slots, if_some, once, memory_words}
 use Rattle.vx_frame.specs.Tied.{IsAnswer, word_at}
 use Rattle.vx_frame.proofs.Calm.{seen, AllFit}
 use Rattle.vx_frame.proofs.Once.{in_once, once_in}
@@ -81,7 +81,7 @@ module _ (m : Numbers) (w : WordProgram) (fit : AllFit m w) (T : Target) (f sp :
   abbrev load_words : Bool → ℕ → ℕ → List Word
   load_words b up v =
       if b
-      then one (Load 0 answer (bytes (up + T.slot f v)) (stack_on 0) false) ∷ waited T ∷ one (Compute 0 (ToBranch Ne) (Branch (record { cluster = 0; number = branch_of T f names v })) (Held answer) (Number (pos 0))) ∷ []
+      then settled T (one (Load 0 answer (bytes (up + T.slot f v)) (stack_on 0) false) ∷ []) ++ one (Compute 0 (ToBranch Ne) (Branch (record { cluster = 0; number = branch_of T f names v })) (Held answer) (Number (pos 0))) ∷ []
       else one (Load (home T f v) (general_of T f names v) (bytes (up + T.slot f v)) (stack_on (home T f v)) false) ∷ []
 
   load_case : (b : Bool) (up v : ℕ) (u : State) → u.flying ≡ [] → is_zero (by_bank b v) ≡ false → home T f v < T.machine.clusters → Stands w.words u.place (load_words b up v) → StackAt u → sp + (up + T.slot f v) < memory_words T → SlotLoaded u (by_bank b v) (as_read b (word_at u.memory (sp + (up + T.slot f v)))) (length (load_words b up v))
@@ -90,7 +90,8 @@ module _ (m : Numbers) (w : WordProgram) (fit : AllFit m w) (T : Target) (f sp :
       record { to = a.to; comes = forth_comes m w fit u a.to a.forth; place = a.place; quiet = a.quiet; memory = a.memory; at = a.at; others = λ q ne na. a.others q ne }
   load_case true up v u calm not_zero below st stack inside =
       let a = load_step m w fit (memory_words T) size small u 0 answer (stack_on 0) sp (up + T.slot f v) calm st.0 (stack 0 some) inside refl in
-      let b = wait_step m w fit a.to T.pause a.quiet.calm (subst (λ q. slice_get w.words q ≡ Some (waited T)) (sym a.place) st.1.0) in
+      let pause : ℕ = in_flight T.machine 0 (one (Load 0 answer (bytes (up + T.slot f v)) (stack_on 0) false) ∷ []) in
+      let b = wait_step m w fit a.to pause a.quiet.calm (subst (λ q. slice_get w.words q ≡ Some (waits pause)) (sym a.place) st.1.0) in
       let at_b : b.to.place ≡ (u.place + 1) + 1 = b.place ∙ ap (λ q. q + 1) a.place in
       let c = set_step m w fit b.to (Compute 0 (ToBranch Ne) (Branch (record { cluster = 0; number = branch_of T f names v })) (Held answer) (Number (pos 0))) (Branch (record { cluster = 0; number = branch_of T f names v }))
       (one_if (compare_of Ne (word_at u.memory (sp + (up + T.slot f v))) (pos 0))) b.quiet.calm
@@ -124,7 +125,7 @@ module _ (m : Numbers) (w : WordProgram) (fit : AllFit m w) (T : Target) (f sp :
   abbrev store_words : Bool → ℕ → List Word
   store_words b v =
       if b
-      then one (Select 0 answer (record { cluster = 0; number = branch_of T f names v }) (Number (pos 1)) (Number (pos 0))) ∷ waited T ∷ one (Store 0 (bytes (T.slot f v)) (stack_on 0) (Held answer)) ∷ []
+      then settled T (one (Select 0 answer (record { cluster = 0; number = branch_of T f names v }) (Number (pos 1)) (Number (pos 0))) ∷ []) ++ one (Store 0 (bytes (T.slot f v)) (stack_on 0) (Held answer)) ∷ []
       else one (Store (home T f v) (bytes (T.slot f v)) (stack_on (home T f v)) (Held (general_of T f names v))) ∷ []
 
   store_case : (b : Bool) (v : ℕ) (u : State) → u.flying ≡ [] → home T f v < T.machine.clusters → Stands w.words u.place (store_words b v) → StackAt u → sp + T.slot f v < memory_words T → SlotKept u (sp + T.slot f v) (as_kept b (seen u.registers (by_bank b v))) (length (store_words b v))
@@ -134,7 +135,8 @@ module _ (m : Numbers) (w : WordProgram) (fit : AllFit m w) (T : Target) (f sp :
   store_case true v u calm below st stack inside =
       let a = set_step m w fit u (Select 0 answer (record { cluster = 0; number = branch_of T f names v }) (Number (pos 1)) (Number (pos 0))) (General answer) (as_kept true (seen u.registers (by_bank true v))) calm st.0
       (record { bad = refl; takes = refl; prints = refl; stores = λ m. refl; leads = λ ops. refl }) refl refl refl in
-      let b = wait_step m w fit a.to T.pause a.quiet.calm (subst (λ q. slice_get w.words q ≡ Some (waited T)) (sym a.place) st.1.0) in
+      let pause : ℕ = in_flight T.machine 0 (one (Select 0 answer (record { cluster = 0; number = branch_of T f names v }) (Number (pos 1)) (Number (pos 0))) ∷ []) in
+      let b = wait_step m w fit a.to pause a.quiet.calm (subst (λ q. slice_get w.words q ≡ Some (waits pause)) (sym a.place) st.1.0) in
       let at_b : b.to.place ≡ (u.place + 1) + 1 = b.place ∙ ap (λ q. q + 1) a.place in
       let stack_b : register b.to (General (stack_on 0)) ≡ pos (4 * sp) = ap (λ g. seen g (General (stack_on 0))) b.registers ∙ a.others (General (stack_on 0)) (stack_no_answer 0) ∙ stack 0 some in
       let c = store_step m w fit (memory_words T) size small b.to 0 (stack_on 0) (Held answer) sp (T.slot f v) b.quiet.calm
@@ -237,9 +239,9 @@ module _ (m : Numbers) (w : WordProgram) (fit : AllFit m w) (T : Target) (f sp :
         elsewhere = λ x h. b.elsewhere x (λ y j. h y (inr j)) ∙ a.elsewhere x (h v (inl refl));
       }
 
-  wait_after : (u : State) (vs : List ℕ) (taken : ℕ) → (a : Loaded u vs taken) → slice_get w.words a.to.place ≡ Some (waited T) → Loaded u vs (taken + 1)
-  wait_after u vs taken a st =
-      let b = wait_step m w fit a.to T.pause a.quiet.calm st in
+  wait_after : (u : State) (vs : List ℕ) (taken pause : ℕ) → (a : Loaded u vs taken) → slice_get w.words a.to.place ≡ Some (waits pause) → Loaded u vs (taken + 1)
+  wait_after u vs taken pause a st =
+      let b = wait_step m w fit a.to pause a.quiet.calm st in
       let pa = a.place in
       let pb = b.place in
       record {
@@ -265,27 +267,29 @@ module _ (m : Numbers) (w : WordProgram) (fit : AllFit m w) (T : Target) (f sp :
   }
 
   -- values that are reloaded
-  pub before_case : (vs : List ℕ) (u : State) → u.flying ≡ [] → Stands w.words u.place (if_some vs (load_slots T f names vs ++ waited T ∷ [])) → StackAt u → AllUsable vs → AllInside vs → NamedApart vs → Loaded u vs (length (if_some vs (load_slots T f names vs ++ waited T ∷ [])))
+  pub before_case : (vs : List ℕ) (u : State) → u.flying ≡ [] → Stands w.words u.place (if_some vs (settled T (load_slots T f names vs))) → StackAt u → AllUsable vs → AllInside vs → NamedApart vs → Loaded u vs (length (if_some vs (settled T (load_slots T f names vs))))
   before_case [] u calm st stack usable inside apart = load_list [] u calm tt stack usable inside apart
   before_case (v ∷ vs) u calm st stack usable inside apart =
-      let a = load_list (v ∷ vs) u calm (stands_left w.words u.place (load_slots T f names (v ∷ vs)) (waited T ∷ []) st) stack usable inside apart in
-      let last = (stands_right w.words u.place (load_slots T f names (v ∷ vs)) (waited T ∷ []) st).0 in
-      let len : length (load_slots T f names (v ∷ vs) ++ waited T ∷ []) ≡ length (load_slots T f names (v ∷ vs)) + 1 = length-append (load_slots T f names (v ∷ vs)) (waited T ∷ []) in
-      subst (Loaded u (v ∷ vs)) (sym len) (wait_after u (v ∷ vs) (length (load_slots T f names (v ∷ vs))) a (subst (λ q. slice_get w.words q ≡ Some (waited T)) (sym a.place) last))
+      let loads : List Word = load_slots T f names (v ∷ vs) in
+      let pause : ℕ = in_flight T.machine 0 loads in
+      let a = load_list (v ∷ vs) u calm (stands_left w.words u.place loads (waits pause ∷ []) st) stack usable inside apart in
+      let last = (stands_right w.words u.place loads (waits pause ∷ []) st).0 in
+      let len : length (loads ++ waits pause ∷ []) ≡ length loads + 1 = length-append loads (waits pause ∷ []) in
+      subst (Loaded u (v ∷ vs)) (sym len) (wait_after u (v ∷ vs) (length loads) pause a (subst (λ q. slice_get w.words q ≡ Some (waits pause)) (sym a.place) last))
 
   -- the words before a planned word
-  pub once_case : (vs : List ℕ) (u : State) → u.flying ≡ [] → Stands w.words u.place (if_some vs (load_slots T f names (once vs) ++ waited T ∷ [])) → StackAt u → AllUsable vs → AllInside vs → NamedApart vs → Loaded u vs (length (if_some vs (load_slots T f names (once vs) ++ waited T ∷ [])))
+  pub once_case : (vs : List ℕ) (u : State) → u.flying ≡ [] → Stands w.words u.place (if_some vs (settled T (load_slots T f names (once vs)))) → StackAt u → AllUsable vs → AllInside vs → NamedApart vs → Loaded u vs (length (if_some vs (settled T (load_slots T f names (once vs)))))
   once_case [] u calm st stack usable inside apart = load_list [] u calm tt stack usable inside apart
   once_case (v ∷ vs) u calm st stack usable inside apart =
       let forth : (x : ℕ) → IsIn x (once (v ∷ vs)) → IsIn x (v ∷ vs) = λ x. once_in x (v ∷ vs) in
-      all_loaded u (once (v ∷ vs)) (v ∷ vs) (length (load_slots T f names (once (v ∷ vs)) ++ waited T ∷ [])) forth (λ x. in_once x (v ∷ vs))
+      all_loaded u (once (v ∷ vs)) (v ∷ vs) (length (settled T (load_slots T f names (once (v ∷ vs))))) forth (λ x. in_once x (v ∷ vs))
       (before_case (once (v ∷ vs)) u calm st stack (λ x i. usable x (forth x i)) (λ x i. inside x (forth x i)) (λ x y i j. apart x y (forth x i) (forth y j)))
 
   -- and behind it
-  pub behind_case : (vs : List ℕ) (u : State) → u.flying ≡ [] → Stands w.words u.place (if_some vs (waited T ∷ store_slots T f names vs)) → StackAt u → AllUsable vs → AllInside vs → SlotsApart vs → Stored u vs (length (if_some vs (waited T ∷ store_slots T f names vs)))
-  behind_case [] u calm st stack usable inside apart = store_list [] u calm tt stack usable inside apart
-  behind_case (v ∷ vs) u calm st stack usable inside apart =
-      let a = wait_step m w fit u T.pause calm st.0 in
+  pub behind_case : (pause : ℕ) (vs : List ℕ) (u : State) → u.flying ≡ [] → Stands w.words u.place (if_some vs (waits pause ∷ store_slots T f names vs)) → StackAt u → AllUsable vs → AllInside vs → SlotsApart vs → Stored u vs (length (if_some vs (waits pause ∷ store_slots T f names vs)))
+  behind_case pause [] u calm st stack usable inside apart = store_list [] u calm tt stack usable inside apart
+  behind_case pause (v ∷ vs) u calm st stack usable inside apart =
+      let a = wait_step m w fit u pause calm st.0 in
       let same : (q : Register) → seen a.to.registers q ≡ seen u.registers q = λ q. ap (λ g. seen g q) a.registers in
       let b = store_list (v ∷ vs) a.to a.quiet.calm (subst (λ q. Stands w.words q (store_slots T f names (v ∷ vs))) (sym a.place) st.1) (λ k lt. same (General (stack_on k)) ∙ stack k lt) usable inside apart in
       let pa = a.place in

@@ -1,23 +1,20 @@
 -- The words that carry a flow are sound: short pauses, operations of their form, and places, functions and texts that are there.
-use Rattle.std.proofs.Common.{◌≡◌, ◌<◌, ◌≤◌, ◌⊎◌, inl, inr, ⊎_elim, ◌+◌, ◌*◌, ◌%◌, ◌==◌, ◌&&◌, ◌||◌, eqb, nat_le, ℕ, zero, suc, ℤ, pos, neg_ℤ, Bool, true, false, Option, Some, None, List, [], ◌∷◌, ◌++◌, length, length-append, map, refl, sym, ap, ◌∙◌, subst, arith}
+use Rattle.std.proofs.Common.{◌≡◌, ◌<◌, ◌≤◌, ◌⊎◌, inl, inr, ⊎_elim, ◌+◌, ◌*◌, ◌%◌, ◌==◌, ◌||◌, ℕ, zero, suc, ℤ, pos, neg_ℤ, Bool, true, false, Option, Some, None, List, [], ◌∷◌, ◌++◌, length, length-append, map, refl, sym, ap, subst, arith}
 use Rattle.std.specs.Prelude.{if◌then◌else◌, slice_get}
 use Rattle.std.specs.List.{list_all}
 use Rattle.std.specs.Cmp.Derive.{both_true}
 use Rattle.std.proofs.lemmas.Bool.{and_parts, le-leb, ltb-true}
-use Rattle.std.proofs.lemmas.Bool.Decides.{nat_tests}
 use Rattle.vx_base.specs.declared.arithmetic.Code.{Code}
-use Rattle.vx_base.specs.declared.arithmetic.Code.TheVariants.{Add, Sh2add, ToBranch}
+use Rattle.vx_base.specs.declared.arithmetic.Code.TheVariants.{Add, ToBranch}
 use Rattle.vx_base.specs.declared.arithmetic.Compare.TheVariants.{Ltu, Ne}
 use Rattle.vx_base.specs.declared.outcome.Trap.TheVariants.{Depth as ByDepth}
 use Rattle.vx_flow.specs.declared.graph.Array.{Array}
-use Rattle.vx_flow.specs.declared.graph.Exit.TheVariants.{Call as Calling}
 use Rattle.vx_flow.specs.declared.graph.Flow.{Flow}
-use Rattle.vx_flow.specs.declared.graph.Graph.{Graph}
 use Rattle.vx_flow.specs.declared.graph.Operand.{Operand}
 use Rattle.vx_flow.specs.declared.graph.Operand.TheVariants.{Held as HeldValue, Number as AsNumber, Stack}
 use Rattle.vx_flow.specs.declared.graph.Op.{Op}
 use Rattle.vx_flow.specs.declared.graph.Op.TheVariants.{Compute as Computes, Select as Selects, Place, Load as Loads, Store as Stores, More as Asks, Input as Takes, Text, Decimal, Across}
-use Rattle.vx_flow.specs.Effects.{IsIn, dismissed, is_unary}
+use Rattle.vx_flow.specs.Effects.{IsIn, is_unary}
 use Rattle.vx_flow.specs.Sound.{Sound, SoundFlow, HasOperation, is_sound_flow}
 use Rattle.vx_flow.specs.Walk.{numbers}
 use Rattle.vx_flow.proofs.SoundFlowLaw.{told}
@@ -30,7 +27,7 @@ use Rattle.vx_isa.specs.declared.operation.Operation.TheVariants.{Compute, Move,
 use Rattle.vx_isa.specs.declared.program.Word.{Word}
 use Rattle.vx_isa.specs.declared.program.WordProgram.{WordProgram}
 use Rattle.vx_isa.specs.Fits.{fits}
-use Rattle.vx_isa.specs.Sound.{is_start, is_sound, is_sound_operation, is_sound_word}
+use Rattle.vx_isa.specs.Sound.{is_start, is_sound, is_sound_word}
 use Rattle.vx_isa.proofs.FitsLaw.{six_parts}
 use Rattle.vx_machine.specs.Needs.{FitsByRoom}
 use Rattle.vx_machine.specs.Room.{stands_well}
@@ -40,8 +37,8 @@ use Rattle.vx_mixed.specs.declared.layout.VirtualWord.{VirtualWord}
 use Rattle.vx_mixed.specs.declared.layout.VirtualWord.TheVariants.{Planned, Drain, Transfer, Choice, Call as Calls, Return as Returns, Ends}
 use Rattle.vx_mixed.specs.declared.layout.VWords.{VWords}
 use Rattle.vx_mixed.specs.LaidSettled.{laid_reads, laid_writes, Plans}
-use Rattle.vx_mixed.specs.Origins.{whole, whole_op, ComesFrom, graph_op, copy}
-use Rattle.vx_frame.specs.Target.{Target, answer, general, general_of, branch_of, register_of, stack_on, holds_branch, is_slotted, kept, slotted, once, parameters_of, one, waited, waits, load_slot, store_slot, load_slots, store_slots, if_some, before, behind, leads, carried, carried_items, plan_word, plan_words, landing_words, on_clusters, move_stack, save_words, reload_words, fetch_words, fetched, cluster_of_operand, argument_words, result_words, call_words, back_words, return_words, entry_words, choice_words, word_words, start_words, bytes, first_frame, memory_words}
+use Rattle.vx_mixed.specs.Origins.{ComesFrom, graph_op}
+use Rattle.vx_frame.specs.Target.{Target, answer, general, general_of, branch_of, register_of, stack_on, holds_branch, is_slotted, kept, slotted, once, parameters_of, one, waits, in_flight, settled, slots_in_flight, load_slot, store_slot, load_slots, store_slots, if_some, before, behind, leads, carried, carried_items, plan_word, plan_words, landing_words, on_clusters, move_stack, save_words, reload_words, fetch_words, fetched, cluster_of_operand, argument_words, result_words, call_words, back_words, return_words, entry_words, word_words, start_words, bytes, first_frame, memory_words}
 use Rattle.vx_frame.specs.Placed.{Depth, Labelled, laid_pieces, landing_of, item_landings, word_landings, landing_pieces, function_pieces, functions_pieces, all_pieces, words_of}
 use Rattle.vx_frame.specs.Carried.{Carries, IsFunctionOf, IsMapped, item_of_laid}
 use Rattle.vx_frame.specs.Finish.{SoundLaw}
@@ -52,6 +49,7 @@ use Rattle.vx_frame.proofs.Forms.{to_branch}
 use Rattle.vx_frame.proofs.Frames.{get_below, get_some, get_in}
 use Rattle.vx_frame.proofs.FromGraph.{undismissed, op_proper}
 use Rattle.vx_frame.proofs.Limits.{Limits, limits}
+use Rattle.vx_frame.proofs.Pauses.{flight_few, slots_few}
 use Rattle.vx_frame.proofs.Proper.{ProperOp}
 use Rattle.vx_frame.proofs.Stands.{word_stands, landing_stands, entry_stands, depth_stands}
 use Rattle.vx_frame.proofs.Steps.{Stands}
@@ -69,19 +67,19 @@ some_before xs ys le = let a = length-append xs ys in omega arith
 
 -- a place of a layout has words
 words_some : (T : Target) (f p : ℕ) (word : VirtualWord) → 1 ≤ length (word_words T f p word)
-words_some T f p (Planned rg wd items) = some_behind (before T f (laid_reads items)) (behind T f (laid_writes items)) (plan_word T f p items)
+words_some T f p (Planned rg wd items) = some_behind (before T f (laid_reads items)) (behind T f items) (plan_word T f p items)
 words_some T f p (Drain n) = omega arith
 words_some T f p (Transfer q) = omega arith
 words_some T f p (Choice test q) = some_behind (before T f (test ∷ [])) [] (one (BranchOn (branch_of T f (test ∷ []) test) true (T.starts f q)))
 words_some T f p (Calls g arguments result) =
     some_before (call_words T f p g arguments) (back_words T f p result)
-    (some_behind (save_words T f (T.saved f p)) (waited T ∷ one (BranchOn 0 true T.depth_trap) ∷ (move_stack T (neg_ℤ (bytes T.frame)) ++ (argument_words T f g (parameters_of T g) arguments ++ one (Call (T.entry g)) ∷ [])))
+    (some_behind (save_words T f (T.saved f p)) (waits (in_flight T.machine 0 (one (Compute 0 (ToBranch Ltu) (InBranch (record { cluster = 0; number = 0 })) (Held (stack_on 0)) (Number (bytes (T.globals + T.frame)))) ∷ [])) ∷ one (BranchOn 0 true T.depth_trap) ∷ (move_stack T (neg_ℤ (bytes T.frame)) ++ (argument_words T f g (parameters_of T g) arguments ++ one (Call (T.entry g)) ∷ [])))
     (one (Compute 0 (ToBranch Ltu) (InBranch (record { cluster = 0; number = 0 })) (Held (stack_on 0)) (Number (bytes (T.globals + T.frame))))))
-words_some T f p (Returns x) = some_behind (fetch_words T f 0 x) (one (Load 0 (general 0 3) (pos 0) (stack_on 0) false) ∷ waited T ∷ one (ToLink (Held (general 0 3))) ∷ waited T ∷ one Return ∷ []) (one (Move 0 answer (fetched T f x)))
+words_some T f p (Returns x) = some_behind (fetch_words T f 0 x) (one (Load 0 (general 0 3) (pos 0) (stack_on 0) false) ∷ waits (in_flight T.machine 0 (one (Move 0 answer (fetched T f x)) ∷ one (Load 0 (general 0 3) (pos 0) (stack_on 0) false) ∷ [])) ∷ (settled T (one (ToLink (Held (general 0 3))) ∷ []) ++ one Return ∷ [])) (one (Move 0 answer (fetched T f x)))
 words_some T f p (Ends k) = omega arith
 
 landing_some : (T : Target) (f q : ℕ) (items : List Laid) → 1 ≤ length (landing_words T f items q)
-landing_some T f q items = some_behind (behind T f (laid_writes items)) [] (one (Goto (T.starts f q)))
+landing_some T f q items = some_behind (behind T f items) [] (one (Goto (T.starts f q)))
 
 -- words that pause briefly and have operations of their form
 module _ (W N : ℕ) where
@@ -138,8 +136,11 @@ module _ (T : Target) (flow : Flow) (ls : List VWords) (w : WordProgram) (sound 
   abbrev Count : ℕ
   Count = length flow.functions
 
-  wait_right : Right W N (waited T)
-  wait_right = (let a = carries.most_pause in omega arith, inr refl, tt)
+  wait_right : (ws : List Word) → Right W N (waits (in_flight T.machine 0 ws))
+  wait_right ws = (let a = flight_few T.machine carries.machine 0 ws (omega arith) in omega arith, inr refl, tt)
+
+  settled_right : (ws : List Word) → Words ws → Words (settled T ws)
+  settled_right ws h = right_append W N ws (waits (in_flight T.machine 0 ws) ∷ []) h (wait_right ws, tt)
 
   -- places that are there
 
@@ -160,18 +161,18 @@ module _ (T : Target) (flow : Flow) (ls : List VWords) (w : WordProgram) (sound 
   load_slot_right f up v to b = by (holds_branch T f v)
     where
       by : (c : Bool) → Words (if c
-          then one (Load 0 answer (bytes (up + T.slot f v)) (stack_on 0) false) ∷ waited T ∷ one (Compute 0 (ToBranch Ne) (InBranch (record { cluster = 0; number = b })) (Held answer) (Number (pos 0))) ∷ []
+          then settled T (one (Load 0 answer (bytes (up + T.slot f v)) (stack_on 0) false) ∷ []) ++ one (Compute 0 (ToBranch Ne) (InBranch (record { cluster = 0; number = b })) (Held answer) (Number (pos 0))) ∷ []
           else one (Load to.cluster to (bytes (up + T.slot f v)) (stack_on to.cluster) false) ∷ [])
-      by true = (has_one W N (Load 0 answer (bytes (up + T.slot f v)) (stack_on 0) false) tt, (wait_right, (has_one W N (Compute 0 (ToBranch Ne) (InBranch (record { cluster = 0; number = b })) (Held answer) (Number (pos 0))) refl, tt)))
+      by true = (has_one W N (Load 0 answer (bytes (up + T.slot f v)) (stack_on 0) false) tt, (wait_right (one (Load 0 answer (bytes (up + T.slot f v)) (stack_on 0) false) ∷ []), (has_one W N (Compute 0 (ToBranch Ne) (InBranch (record { cluster = 0; number = b })) (Held answer) (Number (pos 0))) refl, tt)))
       by false = (has_one W N (Load to.cluster to (bytes (up + T.slot f v)) (stack_on to.cluster) false) tt, tt)
 
   store_slot_right : (f v : ℕ) (from : GeneralRegister) (b : ℕ) → Words (store_slot T f v from b)
   store_slot_right f v from b = by (holds_branch T f v)
     where
       by : (c : Bool) → Words (if c
-          then one (Select 0 answer (record { cluster = 0; number = b }) (Number (pos 1)) (Number (pos 0))) ∷ waited T ∷ one (Store 0 (bytes (T.slot f v)) (stack_on 0) (Held answer)) ∷ []
+          then settled T (one (Select 0 answer (record { cluster = 0; number = b }) (Number (pos 1)) (Number (pos 0))) ∷ []) ++ one (Store 0 (bytes (T.slot f v)) (stack_on 0) (Held answer)) ∷ []
           else one (Store from.cluster (bytes (T.slot f v)) (stack_on from.cluster) (Held from)) ∷ [])
-      by true = (has_one W N (Select 0 answer (record { cluster = 0; number = b }) (Number (pos 1)) (Number (pos 0))) tt, (wait_right, (has_one W N (Store 0 (bytes (T.slot f v)) (stack_on 0) (Held answer)) tt, tt)))
+      by true = (has_one W N (Select 0 answer (record { cluster = 0; number = b }) (Number (pos 1)) (Number (pos 0))) tt, (wait_right (one (Select 0 answer (record { cluster = 0; number = b }) (Number (pos 1)) (Number (pos 0))) ∷ []), (has_one W N (Store 0 (bytes (T.slot f v)) (stack_on 0) (Held answer)) tt, tt)))
       by false = (has_one W N (Store from.cluster (bytes (T.slot f v)) (stack_on from.cluster) (Held from)) tt, tt)
 
   load_slots_right : (f : ℕ) (names vs : List ℕ) → Words (load_slots T f names vs)
@@ -182,30 +183,33 @@ module _ (T : Target) (flow : Flow) (ls : List VWords) (w : WordProgram) (sound 
   store_slots_right f names [] = tt
   store_slots_right f names (v ∷ vs) = right_append W N (store_slot T f v (general_of T f names v) (branch_of T f names v)) (store_slots T f names vs) (store_slot_right f v (general_of T f names v) (branch_of T f names v)) (store_slots_right f names vs)
 
-  loads_right : (f : ℕ) (names vs : List ℕ) → Words (load_slots T f names vs ++ waited T ∷ [])
-  loads_right f names vs = right_append W N (load_slots T f names vs) (waited T ∷ []) (load_slots_right f names vs) (wait_right, tt)
+  loads_right : (f : ℕ) (names vs : List ℕ) → Words (settled T (load_slots T f names vs))
+  loads_right f names vs = settled_right (load_slots T f names vs) (load_slots_right f names vs)
 
   before_right : (f : ℕ) (names : List ℕ) → Words (before T f names)
-  before_right f names = some_right W N (slotted T f names) (load_slots T f names (once (slotted T f names)) ++ waited T ∷ []) (loads_right f names (once (slotted T f names)))
+  before_right f names = some_right W N (slotted T f names) (settled T (load_slots T f names (once (slotted T f names)))) (loads_right f names (once (slotted T f names)))
 
-  behind_right : (f : ℕ) (names : List ℕ) → Words (behind T f names)
-  behind_right f names = some_right W N (slotted T f names) (waited T ∷ store_slots T f names (slotted T f names)) (wait_right, store_slots_right f names (slotted T f names))
+  behind_right : (f : ℕ) (items : List Laid) → Words (behind T f items)
+  behind_right f items =
+      let ws = laid_writes items in
+      some_right W N (slotted T f ws) (waits (slots_in_flight T f items) ∷ store_slots T f ws (slotted T f ws))
+      ((let a = slots_few T carries.machine f items in omega arith, inr refl, tt), store_slots_right f ws (slotted T f ws))
 
   reload_right : (f : ℕ) (vs : List ℕ) → Words (reload_words T f vs)
-  reload_right f vs = some_right W N vs (load_slots T f vs vs ++ waited T ∷ []) (loads_right f vs vs)
+  reload_right f vs = some_right W N vs (settled T (load_slots T f vs vs)) (loads_right f vs vs)
 
   -- an operation on each cluster
 
   move_stack_right : (z : ℤ) → Words (move_stack T z)
   move_stack_right z = (
     has_ops W N (on_clusters T.machine.clusters (λ k. Compute k Add (InGeneral (stack_on k)) (Held (stack_on k)) (Number z))) (spread_formed W N (λ k. Compute k Add (InGeneral (stack_on k)) (Held (stack_on k)) (Number z)) 0 T.machine.clusters (λ k. (refl, refl))),
-    (wait_right, tt),
+    (wait_right (record { ops = on_clusters T.machine.clusters (λ k. Compute k Add (InGeneral (stack_on k)) (Held (stack_on k)) (Number z)); idle = 0 } ∷ []), tt),
   )
 
   start_right : Words (start_words T flow.main)
   start_right = (
     has_ops W N (on_clusters T.machine.clusters (λ k. Move k (stack_on k) (Number (bytes (first_frame T))))) (spread_formed W N (λ k. Move k (stack_on k) (Number (bytes (first_frame T)))) 0 T.machine.clusters (λ k. tt)),
-    (wait_right, (has_one W N (Call (T.entry flow.main)) (entry_below flow.main (get_below flow.functions flow.main sound.main.graph sound.main.is)), (has_one W N (Halt (Held answer)) tt, tt))),
+    (wait_right (record { ops = on_clusters T.machine.clusters (λ k. Move k (stack_on k) (Number (bytes (first_frame T)))); idle = 0 } ∷ []), (has_one W N (Call (T.entry flow.main)) (entry_below flow.main (get_below flow.functions flow.main sound.main.graph sound.main.is)), (has_one W N (Halt (Held answer)) tt, tt))),
   )
 
   -- calls, returns and entries
@@ -213,8 +217,8 @@ module _ (T : Target) (flow : Flow) (ls : List VWords) (w : WordProgram) (sound 
   fetch_right : (f up : ℕ) (x : Operand) → Words (fetch_words T f up x)
   fetch_right f up (HeldValue v) = by (is_slotted (kept T f v))
     where
-      by : (b : Bool) → Words (if b then load_slot T f up v (general_of T f (v ∷ []) v) (branch_of T f (v ∷ []) v) ++ waited T ∷ [] else [])
-      by true = right_append W N (load_slot T f up v (general_of T f (v ∷ []) v) (branch_of T f (v ∷ []) v)) (waited T ∷ []) (load_slot_right f up v (general_of T f (v ∷ []) v) (branch_of T f (v ∷ []) v)) (wait_right, tt)
+      by : (b : Bool) → Words (if b then settled T (load_slot T f up v (general_of T f (v ∷ []) v) (branch_of T f (v ∷ []) v)) else [])
+      by true = settled_right (load_slot T f up v (general_of T f (v ∷ []) v) (branch_of T f (v ∷ []) v)) (load_slot_right f up v (general_of T f (v ∷ []) v) (branch_of T f (v ∷ []) v))
       by false = tt
   fetch_right f up (AsNumber n) = tt
   fetch_right f up Stack = tt
@@ -230,17 +234,17 @@ module _ (T : Target) (flow : Flow) (ls : List VWords) (w : WordProgram) (sound 
   result_right f None = tt
   result_right f (Some v) = by (is_slotted (kept T f v))
     where
-      by : (b : Bool) → Words (if b then one (Store 0 (bytes (T.slot f v)) (stack_on 0) (Held answer)) ∷ [] else one (Move (general_of T f (v ∷ []) v).cluster (general_of T f (v ∷ []) v) (Held answer)) ∷ waited T ∷ [])
+      by : (b : Bool) → Words (if b then one (Store 0 (bytes (T.slot f v)) (stack_on 0) (Held answer)) ∷ [] else settled T (one (Move (general_of T f (v ∷ []) v).cluster (general_of T f (v ∷ []) v) (Held answer)) ∷ []))
       by true = (has_one W N (Store 0 (bytes (T.slot f v)) (stack_on 0) (Held answer)) tt, tt)
-      by false = (has_one W N (Move (general_of T f (v ∷ []) v).cluster (general_of T f (v ∷ []) v) (Held answer)) tt, (wait_right, tt))
+      by false = (has_one W N (Move (general_of T f (v ∷ []) v).cluster (general_of T f (v ∷ []) v) (Held answer)) tt, (wait_right (one (Move (general_of T f (v ∷ []) v).cluster (general_of T f (v ∷ []) v) (Held answer)) ∷ []), tt))
 
   call_right : (f p g : ℕ) (xs : List Operand) → g < Count → Words (call_words T f p g xs)
   call_right f p g xs there =
-      right_append W N (save_words T f (T.saved f p)) (one (Compute 0 (ToBranch Ltu) (InBranch (record { cluster = 0; number = 0 })) (Held (stack_on 0)) (Number (bytes (T.globals + T.frame)))) ∷ waited T ∷ one (BranchOn 0 true T.depth_trap) ∷ (move_stack T (neg_ℤ (bytes T.frame)) ++ (argument_words T f g (parameters_of T g) xs ++ one (Call (T.entry g)) ∷ [])))
+      right_append W N (save_words T f (T.saved f p)) (settled T (one (Compute 0 (ToBranch Ltu) (InBranch (record { cluster = 0; number = 0 })) (Held (stack_on 0)) (Number (bytes (T.globals + T.frame)))) ∷ []) ++ one (BranchOn 0 true T.depth_trap) ∷ (move_stack T (neg_ℤ (bytes T.frame)) ++ (argument_words T f g (parameters_of T g) xs ++ one (Call (T.entry g)) ∷ [])))
       (store_slots_right f (T.saved f p) (T.saved f p)) (
         has_one W N (Compute 0 (ToBranch Ltu) (InBranch (record { cluster = 0; number = 0 })) (Held (stack_on 0)) (Number (bytes (T.globals + T.frame)))) refl,
         (
-          wait_right,
+          wait_right (one (Compute 0 (ToBranch Ltu) (InBranch (record { cluster = 0; number = 0 })) (Held (stack_on 0)) (Number (bytes (T.globals + T.frame)))) ∷ []),
           (
             has_one W N (BranchOn 0 true T.depth_trap) trap_below,
             right_append W N (move_stack T (neg_ℤ (bytes T.frame))) (argument_words T f g (parameters_of T g) xs ++ one (Call (T.entry g)) ∷ []) (move_stack_right (neg_ℤ (bytes T.frame)))
@@ -256,9 +260,9 @@ module _ (T : Target) (flow : Flow) (ls : List VWords) (w : WordProgram) (sound 
 
   return_right : (f : ℕ) (x : Operand) → Words (return_words T f x)
   return_right f x =
-      right_append W N (fetch_words T f 0 x) (one (Move 0 answer (fetched T f x)) ∷ one (Load 0 (general 0 3) (pos 0) (stack_on 0) false) ∷ waited T ∷ one (ToLink (Held (general 0 3))) ∷ waited T ∷ one Return ∷ []) (fetch_right f 0 x) (
+      right_append W N (fetch_words T f 0 x) (settled T (one (Move 0 answer (fetched T f x)) ∷ one (Load 0 (general 0 3) (pos 0) (stack_on 0) false) ∷ []) ++ (settled T (one (ToLink (Held (general 0 3))) ∷ []) ++ one Return ∷ [])) (fetch_right f 0 x) (
         has_one W N (Move 0 answer (fetched T f x)) tt,
-        (has_one W N (Load 0 (general 0 3) (pos 0) (stack_on 0) false) tt, (wait_right, (has_one W N (ToLink (Held (general 0 3))) tt, (wait_right, (has_one W N Return tt, tt))))),
+        (has_one W N (Load 0 (general 0 3) (pos 0) (stack_on 0) false) tt, (wait_right (one (Move 0 answer (fetched T f x)) ∷ one (Load 0 (general 0 3) (pos 0) (stack_on 0) false) ∷ []), (has_one W N (ToLink (Held (general 0 3))) tt, (wait_right (one (ToLink (Held (general 0 3))) ∷ []), (has_one W N Return tt, tt))))),
       )
 
   -- functions
@@ -283,7 +287,7 @@ module _ (T : Target) (flow : Flow) (ls : List VWords) (w : WordProgram) (sound 
     entry_right = (
       has_one W N (FromLink (general 0 3)) tt,
       (
-        wait_right,
+        wait_right (one (FromLink (general 0 3)) ∷ []),
         (
           has_one W N (Store 0 (pos 0) (stack_on 0) (Held (general 0 3))) tt,
           right_append W N (reload_words T f (T.brought f)) (one (Goto (T.starts f (T.layout f).entry)) ∷ []) (reload_right f (T.brought f)) (has_one W N (Goto (T.starts f (T.layout f).entry)) (start_below f (T.layout f).entry lt mapped.settled.entry), tt),
@@ -353,10 +357,10 @@ module _ (T : Target) (flow : Flow) (ls : List VWords) (w : WordProgram) (sound 
       items_formed (Split test y q ∷ xs) h = (leads_below test q y (h (Split test y q) (inl refl)), items_formed xs (λ x i. h x (inr i)))
 
       planned_right : Words (plan_words T f p items)
-      planned_right = right_append W N (before T f Rs) (plan_word T f p items ∷ behind T f Ws) (before_right f Rs) (has_ops W N (carried_items T f p Rs Ws items) (items_formed items (λ x i. i)), behind_right f Ws)
+      planned_right = right_append W N (before T f Rs) (plan_word T f p items ∷ behind T f items) (before_right f Rs) (has_ops W N (carried_items T f p Rs Ws items) (items_formed items (λ x i. i)), behind_right f items)
 
       landing_right : (test q : ℕ) (y : Bool) → IsIn (Split test y q) items → Words (landing_words T f items q)
-      landing_right test q y i = right_append W N (behind T f Ws) (one (Goto (T.starts f q)) ∷ []) (behind_right f Ws) (has_one W N (Goto (T.starts f q)) (start_below f q lt (mapped.settled.inside p q (Planned rg wd items) plan (inr (test, y, i)))), tt)
+      landing_right test q y i = right_append W N (behind T f items) (one (Goto (T.starts f q)) ∷ []) (behind_right f items) (has_one W N (Goto (T.starts f q)) (start_below f q lt (mapped.settled.inside p q (Planned rg wd items) plan (inr (test, y, i)))), tt)
 
       landing_of_right : (vs : List ℕ) (test q : ℕ) (y : Bool) → IsIn (Split test y q) items → RightPieces W N (landing_of T f p items vs q)
       landing_of_right [] test q y i = tt

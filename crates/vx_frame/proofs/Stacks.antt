@@ -28,7 +28,7 @@ module _ (T : Target) (w : WordProgram) (fit : AllFit T.machine w) (z : ℤ) (u 
 
   pub stacks_move : u.flying ≡ [] → Stands w.words u.place (move_stack T z) → StackMoved T w z u
   stacks_move calm st =
-      let a = move_run T.machine w fit u op value (λ k. refl) (λ k. refl) plainly T.machine.clusters T.pause calm st in
+      let a = move_run T.machine w fit u op value (λ k. refl) (λ k. refl) plainly T.machine.clusters calm st in
       record {
         to = a.to;
         words = a.forth.0;

@@ -126,7 +126,7 @@ module _ (T : Target) (flow : Flow) (ls : List VWords) (w : WordProgram) (sound 
   op k = Move k (stack_on k) (Number (bytes First))
 
   moved : Moved T.machine w fit U op (λ k. bytes First) (λ k. refl) (λ k. refl) (λ k. record { bad = refl; takes = refl; prints = refl; stores = λ m. refl; leads = λ ops. refl }) T.machine.clusters
-  moved = move_run T.machine w fit U op (λ k. bytes First) (λ k. refl) (λ k. refl) (λ k. record { bad = refl; takes = refl; prints = refl; stores = λ m. refl; leads = λ ops. refl }) T.machine.clusters T.pause refl (stands.0, (stands.1.0, tt))
+  moved = move_run T.machine w fit U op (λ k. bytes First) (λ k. refl) (λ k. refl) (λ k. record { bad = refl; takes = refl; prints = refl; stores = λ m. refl; leads = λ ops. refl }) T.machine.clusters refl (stands.0, (stands.1.0, tt))
 
   abbrev A : State
   A = moved.to

@@ -142,15 +142,15 @@ module _ (m : Numbers) (w : WordProgram) (fit : AllFit m w) (T : Target) (f sp p
     slot_reads = slotted T f Reads
 
     pub loaded : Loaded m w fit T f sp size small some Reads u (slotted T f Reads) (length (before T f Reads))
-    loaded = once_case m w fit T f sp size small some Reads (slotted T f Reads) u h.calm (stands_left w.words u.place (before T f Reads) (plan_word T f p items ∷ behind T f Writes) h.stands) h.stack
+    loaded = once_case m w fit T f sp size small some Reads (slotted T f Reads) u h.calm (stands_left w.words u.place (before T f Reads) (plan_word T f p items ∷ behind T f items) h.stands) h.stack
         (λ v i. h.reads_usable v (slotted_from T f v Reads i).0) h.reads_inside (λ x y i j ne. h.reads_apart x y (slotted_from T f x Reads i).0 (slotted_from T f y Reads j).0 ne)
 
     -- the state before the word itself
     abbrev pub First : State
     First = loaded.to
 
-    pub rest_stands : Stands w.words First.place (plan_word T f p items ∷ behind T f Writes)
-    rest_stands = subst (λ q. Stands w.words q (plan_word T f p items ∷ behind T f Writes)) (sym loaded.place) (stands_right w.words u.place (before T f Reads) (plan_word T f p items ∷ behind T f Writes) h.stands)
+    pub rest_stands : Stands w.words First.place (plan_word T f p items ∷ behind T f items)
+    rest_stands = subst (λ q. Stands w.words q (plan_word T f p items ∷ behind T f items)) (sym loaded.place) (stands_right w.words u.place (before T f Reads) (plan_word T f p items ∷ behind T f items) h.stands)
 
     pub right : Right T f sp IsArray Reads s First Reads
     right v n i e = by (is_slotted (kept T f v)) refl (h.shows v n i e)
@@ -213,7 +213,7 @@ module _ (m : Numbers) (w : WordProgram) (fit : AllFit m w) (T : Target) (f sp p
       second_stack to k lt = stays_items T w f sp setting IsArray Reads Writes s First p (General (stack_on k)) items s t First.registers ran (λ y i e. (h.writes_usable y i).not_stack k (sym e)) ∙ stack_first k lt
 
       -- once its results in slots are stored
-      module _ (to : ℕ) (last : Stored m w fit T f sp size small some Writes (Second to) (slotted T f Writes) (length (behind T f Writes))) where
+      module _ (to : ℕ) (last : Stored m w fit T f sp size small some Writes (Second to) (slotted T f Writes) (length (behind T f items))) where
         memory_then : (x : ℕ) → ((v : ℕ) → IsIn v (slotted T f Writes) → x ≢ sp + T.slot f v) → word_at last.to.memory x ≡ word_at (memory_after First CodeOf First.memory) x
         memory_then x free = last.elsewhere x free
 

@@ -27,10 +27,11 @@ use Rattle.vx_mixed.specs.Settled.{read_there}
 use Rattle.vx_mixed.specs.declared.layout.VirtualWord.TheVariants.{Planned}
 use Rattle.vx_mixed.specs.LaidSettled.{item_reads, item_writes, laid_reads, laid_writes, Plans, LeadsTo}
 use Rattle.vx_regs.specs.Intervals.{is_named}
-use Rattle.vx_frame.specs.Target.{Target, home, is_branch, kept, is_slotted, slotted, register_of, leads, carried, carried_items, before, behind, plan_word, plan_words, landing_words, one}
+use Rattle.vx_frame.specs.Target.{Target, home, is_branch, kept, is_slotted, slotted, register_of, leads, carried, carried_items, slots_in_flight, before, behind, plan_word, plan_words, landing_words, one}
 use Rattle.vx_frame.specs.Carried.{IsMapped, item_of_laid}
 use Rattle.vx_frame.proofs.FromGraph.{op_proper, test_proper}
 use Rattle.vx_frame.proofs.Frames.{get_some}
+use Rattle.vx_frame.proofs.Pauses.{slots_land}
 use Rattle.vx_frame.proofs.Proper.{ProperOp, ProperItems}
 use Rattle.vx_frame.proofs.Names.{Few, file_general}
 use Rattle.vx_frame.proofs.Live.{reads_bank, writes_bank}
@@ -67,9 +68,9 @@ all_there (Text n) y i = i
 all_there (Decimal x) y i = i
 all_there (Across v u) y i = absurd i
 
-module _ (T : Target) (heat : ℕ → Register → ℕ) (short : (op : Operation) → latency_of T.machine op ≤ T.pause + 1) (f : ℕ) (mapped : IsMapped T f) (sound : Sound (T.graph f)) (l : Limits T.machine) (p rg wd : ℕ) (items : List Laid) (at : slice_get (T.layout f).words p ≡ Some (Planned rg wd items)) where
+module _ (T : Target) (heat : ℕ → Register → ℕ) (f : ℕ) (mapped : IsMapped T f) (sound : Sound (T.graph f)) (l : Limits T.machine) (p rg wd : ℕ) (items : List Laid) (at : slice_get (T.layout f).words p ≡ Some (Planned rg wd items)) where
   abbrev F : (Register → ℕ) → List Word → (Register → ℕ) → Type 0
-  F h ws e = Fine T heat short h ws e
+  F h ws e = Fine T heat h ws e
 
   abbrev Heat : ℕ → Register → ℕ
   Heat q = pend T f mapped sound q
@@ -123,7 +124,7 @@ module _ (T : Target) (heat : ℕ → Register → ℕ) (short : (op : Operation
   few_w : Few T f mapped Ws
   few_w = few_writes T f mapped sound IsArray p items plans proper banks
 
-  read_settles : (v : ℕ) → IsIn v Rs → Settles T heat short f mapped sound p v
+  read_settles : (v : ℕ) → IsIn v Rs → Settles T heat f mapped sound p v
   read_settles v i = (banks v (inl i), busy v (inl i), mapped.settled.reads_none p v items plans i)
 
   -- nothing is in flight to what it names
@@ -169,8 +170,11 @@ module _ (T : Target) (heat : ℕ → Register → ℕ) (short : (op : Operation
 
   -- what is in flight after it
 
+  abbrev Late : ℕ
+  Late = slots_in_flight T f items
+
   abbrev pub Lifted : ℕ → Register → ℕ
-  Lifted q = lift T.pause (Heat q) (map (register_of T f Ws) (slotted T f Ws))
+  Lifted q = lift Late (Heat q) (map (register_of T f Ws) (slotted T f Ws))
 
   op_takes : (op : Op) (k : ℕ) → IsIn (Plain op k) items → latency_of T.machine (carried T f Rs Ws k op) ≡ latency_of_op T.machine op
   op_takes op k i = op_latency T f IsArray Rs Ws op k (properly op k i)
@@ -188,13 +192,15 @@ module _ (T : Target) (heat : ℕ → Register → ℕ) (short : (op : Operation
       let a = mapped.settled.fresh p q v rg wd k op items at leads i w in
       let b = left_pends T f mapped sound q v Ws s (written_there T f mapped sound p v (Planned rg wd items) at (in_all_of item_writes (Plain op k) v items i w)) in
       let c : Heat q x.to ≡ Heat q (register_of T f Ws v) = ap (Heat q) e in
-      let d = lift_from T.pause (Heat q) (map (register_of T f Ws) (slotted T f Ws)) x.to in
+      let d = lift_from Late (Heat q) (map (register_of T f Ws) (slotted T f Ws)) x.to in
       let y = op_takes op k i in omega arith
 
-  of_slot : (q : ℕ) (x : Hit Register) (o : Operation) (v : ℕ) → IsIn v Ws → x.to ≡ register_of T f Ws v → x.latency ≡ latency_of T.machine o → is_slotted (kept T f v) ≡ true → x.latency ≤ Lifted q x.to + 1
-  of_slot q x o v i e t s =
-      let a = lift_at T.pause (Heat q) (map (register_of T f Ws) (slotted T f Ws)) x.to (map_among (register_of T f Ws) x.to v (slotted T f Ws) (slotted_in T f v Ws i s) e) in
-      let b = short o in omega arith
+  of_slot : (q : ℕ) (x : Hit Register) (op : Op) (k v : ℕ) → IsIn (Plain op k) items → IsIn v (writes op) → x.to ≡ register_of T f Ws v → x.latency ≡ latency_of T.machine (carried T f Rs Ws k op) → is_slotted (kept T f v) ≡ true → x.latency ≤ Lifted q x.to + 1
+  of_slot q x op k v j w e t s =
+      let i : IsIn v Ws = in_all_of item_writes (Plain op k) v items j w in
+      let a = lift_at Late (Heat q) (map (register_of T f Ws) (slotted T f Ws)) x.to (map_among (register_of T f Ws) x.to v (slotted T f Ws) (slotted_in T f v Ws i s) e) in
+      let b = slots_land T f v op k items j w s in
+      let y = op_takes op k j in omega arith
 
   hit_bound : (q : ℕ) (x : Hit Register) (o : Operation) → LeadsTo p (Planned rg wd items) q → OfItem T f p Rs Ws items o → Among x.to (list_of (destination_of o)) → x.latency ≡ latency_of T.machine o → x.latency ≤ Lifted q x.to + 1
   hit_bound q x o leads (of_split test to y i e) a t = absurd (subst (λ z. Among x.to (list_of (destination_of z))) e a)
@@ -204,13 +210,13 @@ module _ (T : Target) (heat : ℕ → Register → ℕ) (short : (op : Operation
       res = results o x.to op k i e a
 
       by : (b : Bool) → is_slotted (kept T f res.value) ≡ b → x.latency ≤ Lifted q x.to + 1
-      by true s = of_slot q x o res.value (in_all_of item_writes (Plain op k) res.value items i res.written) res.is t s
+      by true s = of_slot q x op k res.value i res.written res.is (t ∙ ap (latency_of T.machine) e) s
       by false s = of_register q x op k res.value leads i res.written res.is (t ∙ ap (latency_of T.machine) e) s
 
   plan_cooled : (q : ℕ) → LeadsTo p (Planned rg wd items) q → (r : Register) → raised same (hits T.machine Ops) (Heat p) r - 1 ≤ Lifted q r
   plan_cooled q leads r =
       let k = raised_bound (hits T.machine Ops) (Heat p) (λ s. Lifted q s + 1)
-      (λ s. (let a = pend_kept T f mapped sound p q s (Planned rg wd items) at leads in let c = lift_from T.pause (Heat q) (map (register_of T f Ws) (slotted T f Ws)) s in omega arith))
+      (λ s. (let a = pend_kept T f mapped sound p q s (Planned rg wd items) at leads in let c = lift_from Late (Heat q) (map (register_of T f Ws) (slotted T f Ws)) s in omega arith))
       (λ x i. let h = from_hit T.machine Ops x i in hit_bound q x h.op leads (of_item T f IsArray Rs Ws p h.op items h.among) h.to h.latency) r in
       omega arith
 
@@ -219,25 +225,25 @@ module _ (T : Target) (heat : ℕ → Register → ℕ) (short : (op : Operation
   written_cold : (q v : ℕ) → IsIn v (slotted T f Ws) → Heat q (register_of T f Ws v) ≡ 0
   written_cold q v i = let a = slotted_from T f v Ws i in pend_scratch T f mapped sound q v Ws few_w a.0 a.1
 
-  stored : (q : ℕ) (rest : List Word) (e : Register → ℕ) → F (Heat q) rest e → F (Lifted q) (behind T f Ws ++ rest) e
-  stored q rest e more = behind_fine T heat short f Ws (Heat q) (λ k. pend_own T f mapped sound q k 1 (omega arith)) (pend_own T f mapped sound q 0 2 (omega arith)) rest e (written_cold q) more
+  stored : (q : ℕ) (rest : List Word) (e : Register → ℕ) → F (Heat q) rest e → F (Lifted q) (behind T f items ++ rest) e
+  stored q rest e more = behind_fine T heat f Ws (Heat q) (λ k. pend_own T f mapped sound q k 1 (omega arith)) (pend_own T f mapped sound q 0 2 (omega arith)) Late rest e (written_cold q) more
 
   -- the words of a planned word, where each split leads to where no less may be in flight
   pub plan_fine : ((test to : ℕ) (y : Bool) → IsIn (Split test y to) items → (r : Register) → Lifted to r ≤ heat (leads T f p (slotted T f Ws) to) r) → F (Heat p) (plan_words T f p items) (Heat (suc p))
-  plan_fine there = fine_append (words_kind T.machine) (words_cool T.machine) heat (Heat p) (Heat p) (Heat (suc p)) (before T f Rs) (plan_word T f p items ∷ behind T f Ws)
-      (before_fine T heat short f mapped sound p Rs few_r read_settles) (
+  plan_fine there = fine_append (words_kind T.machine) (words_cool T.machine) heat (Heat p) (Heat p) (Heat (suc p)) (before T f Rs) (plan_word T f p items ∷ behind T f items)
+      (before_fine T heat f mapped sound p Rs few_r read_settles) (
         meets,
         (λ q r j. (let k = items_jump T f IsArray Rs Ws p q items j in
             let a = plan_cooled k.to (inr (k.test, k.when, k.split)) r in
             let b = there k.test k.to k.when k.split r in
             let c = ap (λ x. heat x r) k.leads_there in omega arith)),
-        fine_less (words_kind T.machine) (words_cool T.machine) heat (cond (falls Ops) (λ r. raised same (hits T.machine Ops) (Heat p) r - 1) cold) (Lifted (suc p)) (Heat (suc p)) (behind T f Ws)
+        fine_less (words_kind T.machine) (words_cool T.machine) heat (cond (falls Ops) (λ r. raised same (hits T.machine Ops) (Heat p) r - 1) cold) (Lifted (suc p)) (Heat (suc p)) (behind T f items)
             (λ r. (let a = plan_cooled (suc p) (inl refl) r in
             let q : cond (falls Ops) (λ s. raised same (hits T.machine Ops) (Heat p) s - 1) cold r ≡ raised same (hits T.machine Ops) (Heat p) r - 1 = ap (λ t. cond t (λ s. raised same (hits T.machine Ops) (Heat p) s - 1) cold r) (items_fall T f IsArray Rs Ws p items) in omega arith))
-            (subst (λ ws. F (Lifted (suc p)) ws (Heat (suc p))) (append-nil (behind T f Ws)) (stored (suc p) [] (Heat (suc p)) (λ r. omega arith))),
+            (subst (λ ws. F (Lifted (suc p)) ws (Heat (suc p))) (append-nil (behind T f items)) (stored (suc p) [] (Heat (suc p)) (λ r. omega arith))),
       )
 
   -- and of a landing of it
   pub landing_fine : (q : ℕ) (e : Register → ℕ) → ((r : Register) → Heat q r ≤ heat (T.starts f q) r) → F (Lifted q) (landing_words T f items q) e
   landing_fine q e there = stored q (one (Goto (T.starts f q)) ∷ []) e
-      (stop_fine T.machine heat T.pause short (Heat q) (Goto (T.starts f q) ∷ []) [] e refl (λ t r j. (let a = there r in let b = ap (λ x. heat x r) j in omega arith)) refl (λ r t. ⊎_elim (λ i. absurd i) (λ i. absurd i) t.0) (λ r. omega arith))
+      (stop_fine T.machine heat (Heat q) (Goto (T.starts f q) ∷ []) [] e refl (λ t r j. (let a = there r in let b = ap (λ x. heat x r) j in omega arith)) refl (λ r t. ⊎_elim (λ i. absurd i) (λ i. absurd i) t.0) (λ r. omega arith))

@@ -7,13 +7,11 @@ use Rattle.vx_flow.specs.declared.graph.Flow.{Flow}
 use Rattle.vx_flow.specs.declared.graph.Operand.{Operand}
 use Rattle.vx_flow.specs.Effects.{IsIn}
 use Rattle.vx_flow.specs.Sound.{is_sound_flow}
-use Rattle.vx_isa.specs.declared.operation.Operation.{Operation}
 use Rattle.vx_isa.specs.declared.program.Word.{Word}
 use Rattle.vx_isa.specs.declared.program.WordProgram.{WordProgram}
 use Rattle.vx_isa.specs.Fits.{fits}
 use Rattle.vx_isa.specs.Machine.{memory_at_start, words_run}
 use Rattle.vx_isa.specs.Numbers.{Numbers, IsMachine}
-use Rattle.vx_isa.specs.Operations.{latency_of}
 use Rattle.vx_isa.specs.Paths.{WordAt, NeverReadsEarly, NeverWritesEarly}
 use Rattle.vx_machine.specs.declared.items.Item.TheVariants.{Plain as PlainItem, Split as SplitItem}
 use Rattle.vx_machine.specs.declared.items.ClusteredItem.{ClusteredItem}
@@ -125,10 +123,6 @@ first_or_zero n i = if i == 0 then n else pos 0
 
 pub record Carries (T : Target) (flow : Flow) (ls : List VWords) (w : WordProgram) : Type 0 where
   pub machine : IsMachine T.machine
-  -- after a pause all has landed
-  pub some_pause : 1 ≤ T.pause
-  pub most_pause : T.pause ≤ 15
-  pub pause : (op : Operation) → latency_of T.machine op ≤ T.pause + 1
   pub functions : (f : ℕ) → f < length flow.functions → IsFunctionOf T flow ls f
   -- memory
   pub some_frame : 1 ≤ T.frame

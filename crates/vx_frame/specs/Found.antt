@@ -3,11 +3,9 @@ use Rattle.std.specs.Prelude.{◌≡◌, ◌<◌, ◌≤◌, ◌+◌, ◌*◌, �
 use Rattle.vx_flow.specs.declared.graph.Global.{Global}
 use Rattle.vx_flow.specs.declared.graph.Flow.{Flow}
 use Rattle.vx_flow.specs.Meaning.{deepest}
-use Rattle.vx_isa.specs.declared.operation.Operation.{Operation}
 use Rattle.vx_isa.specs.declared.program.WordProgram.{WordProgram}
 use Rattle.vx_isa.specs.Machine.{memory_at_start}
 use Rattle.vx_isa.specs.Numbers.{IsMachine}
-use Rattle.vx_isa.specs.Operations.{latency_of}
 use Rattle.vx_isa.specs.Sound.{is_start}
 use Rattle.vx_frame.specs.declared.gathering.Whole.{Whole}
 use Rattle.vx_frame.specs.Placed.{IsPlaced}
@@ -29,9 +27,6 @@ pub record Found (W : Whole) (flow : Flow) : Type 0 where
   pub as_many : length addresses ≡ length flow.globals
   pub address : (a : ℕ) → a < length flow.globals → slice_index_or addresses a 0 ≡ words_before flow.globals a
   pub globals : W.sizes.globals ≡ words_before flow.globals (length flow.globals)
-  pub some_pause : 1 ≤ W.sizes.pause
-  pub most_pause : W.sizes.pause ≤ 15
-  pub pause : (op : Operation) → latency_of W.machine.now op ≤ W.sizes.pause + 1
 
 -- the program has that memory, the globals stand in it at the start, and its words stand where they were placed
 pub record Made (W : Whole) (flow : Flow) (w : WordProgram) : Type 0 where

@@ -1,11 +1,10 @@
 -- The target that a whole program makes, while it is finished: what is not in its lists is empty, or 0.
-use Rattle.std.specs.Prelude.{◌≡◌, ℕ, List, [], slice_index_or}
+use Rattle.std.specs.Prelude.{◌≡◌, ℕ, [], slice_index_or}
 use Rattle.vx_flow.specs.declared.graph.Graph.{Graph}
-use Rattle.vx_isa.specs.Numbers.{Numbers}
 use Rattle.vx_mixed.specs.declared.layout.VWords.{VWords}
 use Rattle.vx_regs.specs.declared.map.RegMap.{RegMap}
 use Rattle.vx_mixed.specs.LaidSettled.{laid_reads, laid_writes}
-use Rattle.vx_frame.specs.Target.{Target, slotted}
+use Rattle.vx_frame.specs.Target.{Target, slotted, slots_in_flight}
 use Rattle.vx_frame.specs.declared.gathering.FunctionFrame.{FunctionFrame}
 use Rattle.vx_frame.specs.declared.gathering.FunctionPlaces.{FunctionPlaces}
 use Rattle.vx_frame.specs.declared.gathering.Whole.{Whole}
@@ -49,7 +48,6 @@ seen w = record {
   landing = λ f p to. slice_index_or (places_of w f).landings p 0;
   back = λ f p. slice_index_or (places_of w f).marks p 0;
   depth_trap = w.sizes.depth_trap;
-  pause = w.sizes.pause;
 }
 
 -- what is found once for a planned word
@@ -57,3 +55,4 @@ pub record IsPlan (T : Target) (x : Plan) : Type 0 where
   pub reads : x.reads ≡ laid_reads x.items.now
   pub writes : x.writes ≡ laid_writes x.items.now
   pub left : x.left ≡ slotted T x.function (laid_writes x.items.now)
+  pub pause : x.pause ≡ slots_in_flight T x.function x.items.now

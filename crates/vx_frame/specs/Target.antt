@@ -1,5 +1,5 @@
 -- Where the values, frames and words of a program are, and the words that carry a laid-out word.
-use Rattle.std.specs.Prelude.{not, ℕ, suc, ◌+◌, ◌-◌, ◌*◌, ◌==◌, ◌&&◌, ℤ, pos, neg_ℤ, Bool, true, false, if◌then◌else◌, Option, Some, None, List, [], ◌∷◌, ◌++◌, map}
+use Rattle.std.specs.Prelude.{not, ℕ, suc, ◌+◌, ◌-◌, ◌*◌, ◌==◌, ◌&&◌, max, ℤ, pos, neg_ℤ, Bool, true, false, if◌then◌else◌, Option, Some, None, List, [], ◌∷◌, ◌++◌, map}
 use Rattle.std.specs.List.{filter}
 use Rattle.vx_base.specs.Arithmetic.{sum_of}
 use Rattle.vx_base.specs.declared.arithmetic.Code.{Code}
@@ -12,10 +12,13 @@ use Rattle.vx_flow.specs.declared.graph.Operand.TheVariants.{Held as HeldValue, 
 use Rattle.vx_flow.specs.declared.graph.Op.{Op}
 use Rattle.vx_flow.specs.declared.graph.Op.TheVariants.{Compute as Computes, Select as Selects, Place, Load as Loads, Store as Stores, More as Asks, Input as Takes, Text, Decimal, Across}
 use Rattle.vx_flow.specs.declared.graph.Graph.{Graph}
+use Rattle.vx_flow.specs.Effects.{writes}
 use Rattle.vx_flow.specs.Meaning.{deepest}
 use Rattle.vx_flow.specs.Sound.{is_local}
 use Rattle.vx_flow.specs.Walk.{numbers}
+use Rattle.vx_isa.specs.Machine.{cycles_of}
 use Rattle.vx_isa.specs.Numbers.{Numbers}
+use Rattle.vx_isa.specs.Operations.{latency_of}
 use Rattle.vx_isa.specs.declared.operation.GeneralRegister.{GeneralRegister}
 use Rattle.vx_isa.specs.declared.operation.Register.{Register}
 use Rattle.vx_isa.specs.declared.operation.Register.TheVariants.{General as InGeneral, Branch as InBranch}
@@ -24,6 +27,7 @@ use Rattle.vx_isa.specs.declared.operation.Source.TheVariants.{Held, Number}
 use Rattle.vx_isa.specs.declared.operation.Operation.{Operation}
 use Rattle.vx_isa.specs.declared.operation.Operation.TheVariants.{Compute, Move, Select, Load, Store, Input, More, OutText, OutDecimal, Goto, BranchOn, Call, Return, FromLink, ToLink, EndByTrap, Halt}
 use Rattle.vx_isa.specs.declared.program.Word.{Word}
+use Rattle.vx_machine.specs.Items.{latency_of_op}
 use Rattle.vx_mixed.specs.declared.layout.Laid.{Laid}
 use Rattle.vx_mixed.specs.declared.layout.Laid.TheVariants.{Plain, Split}
 use Rattle.vx_mixed.specs.declared.layout.VirtualWord.{VirtualWord}
@@ -56,8 +60,6 @@ pub record Target : Type 0 where
   pub landing : (function place to : ℕ) → ℕ
   pub back : (function place : ℕ) → ℕ
   pub depth_trap : ℕ
-  -- empty cycles after which all has landed
-  pub pause : ℕ
 
 abbrev pub parameters_of : Target → ℕ → List ℕ
 parameters_of T f = (T.graph f).parameters
@@ -203,20 +205,31 @@ one op = record { ops = op ∷ []; idle = 0 }
 abbrev pub waits : ℕ → Word
 waits n = record { ops = []; idle = n }
 
-abbrev pub waited : Target → Word
-waited T = waits T.pause
+-- the cycles until the last result of some operations has landed
+abbrev pub latest : Numbers → List Operation → ℕ
+latest m [] = 0
+latest m (op ∷ ops) = max (latency_of m op) (latest m ops)
+
+-- how many cycles longer than some words last their writes are in flight, where at their start others are so for n cycles
+abbrev pub in_flight : Numbers → (n : ℕ) → List Word → ℕ
+in_flight m n [] = n
+in_flight m n (word ∷ words) = in_flight m (max n (latest m word.ops) - cycles_of word) words
+
+-- some words, and a pause as long as what they write is in flight, and no longer
+abbrev pub settled : Target → List Word → List Word
+settled T words = words ++ waits (in_flight T.machine 0 words) ∷ []
 
 -- the slot of a value, so many words above the frame, to a general register, or to a branch register by way of the answer's
 abbrev pub load_slot : Target → ℕ → (up : ℕ) → (value : ℕ) → (to : GeneralRegister) → (branch : ℕ) → List Word
 load_slot T f up v to branch =
     if holds_branch T f v
-    then one (Load 0 answer (bytes (up + T.slot f v)) (stack_on 0) false) ∷ waited T ∷ one (Compute 0 (ToBranch Ne) (InBranch (record { cluster = 0; number = branch })) (Held answer) (Number (pos 0))) ∷ []
+    then settled T (one (Load 0 answer (bytes (up + T.slot f v)) (stack_on 0) false) ∷ []) ++ one (Compute 0 (ToBranch Ne) (InBranch (record { cluster = 0; number = branch })) (Held answer) (Number (pos 0))) ∷ []
     else one (Load to.cluster to (bytes (up + T.slot f v)) (stack_on to.cluster) false) ∷ []
 
 abbrev pub store_slot : Target → ℕ → (value : ℕ) → (from : GeneralRegister) → (branch : ℕ) → List Word
 store_slot T f v from branch =
     if holds_branch T f v
-    then one (Select 0 answer (record { cluster = 0; number = branch }) (Number (pos 1)) (Number (pos 0))) ∷ waited T ∷ one (Store 0 (bytes (T.slot f v)) (stack_on 0) (Held answer)) ∷ []
+    then settled T (one (Select 0 answer (record { cluster = 0; number = branch }) (Number (pos 1)) (Number (pos 0))) ∷ []) ++ one (Store 0 (bytes (T.slot f v)) (stack_on 0) (Held answer)) ∷ []
     else one (Store from.cluster (bytes (T.slot f v)) (stack_on from.cluster) (Held from)) ∷ []
 
 -- some of the values that a word names, each to or from the register by which the word names it
@@ -239,17 +252,27 @@ once (v ∷ vs) = v ∷ filter (λ u. not (u == v)) (once vs)
 
 -- each value in a slot that a word reads is loaded once
 abbrev pub before : Target → ℕ → (reads : List ℕ) → List Word
-before T f rs = if_some (slotted T f rs) (load_slots T f rs (once (slotted T f rs)) ++ waited T ∷ [])
+before T f rs = if_some (slotted T f rs) (settled T (load_slots T f rs (once (slotted T f rs))))
 
-abbrev pub behind : Target → ℕ → (writes : List ℕ) → List Word
-behind T f ws = if_some (slotted T f ws) (waited T ∷ store_slots T f ws (slotted T f ws))
+-- how many cycles behind a word the last of its results that go to slots is in flight
+abbrev pub if_any : List ℕ → ℕ → ℕ
+if_any [] n = 0
+if_any (v ∷ vs) n = n
+
+abbrev pub slots_in_flight : Target → ℕ → List Laid → ℕ
+slots_in_flight T f [] = 0
+slots_in_flight T f (Plain op k ∷ items) = max (if_any (slotted T f (writes op)) (latency_of_op T.machine op - 1)) (slots_in_flight T f items)
+slots_in_flight T f (Split test y q ∷ items) = slots_in_flight T f items
+
+abbrev pub behind : Target → ℕ → List Laid → List Word
+behind T f items = if_some (slotted T f (laid_writes items)) (waits (slots_in_flight T f items) ∷ store_slots T f (laid_writes items) (slotted T f (laid_writes items)))
 
 abbrev pub plan_words : Target → (function place : ℕ) → List Laid → List Word
-plan_words T f p items = before T f (laid_reads items) ++ plan_word T f p items ∷ behind T f (laid_writes items)
+plan_words T f p items = before T f (laid_reads items) ++ plan_word T f p items ∷ behind T f items
 
 -- where a taken split of a word arrives: what the word left in scratch registers is stored there
 abbrev pub landing_words : Target → ℕ → List Laid → (to : ℕ) → List Word
-landing_words T f items q = behind T f (laid_writes items) ++ one (Goto (T.starts f q)) ∷ []
+landing_words T f items q = behind T f items ++ one (Goto (T.starts f q)) ∷ []
 
 -- the other words
 
@@ -262,19 +285,19 @@ on_clusters n op = map op (clusters n)
 
 -- the stack pointer of every cluster so many bytes up or down
 abbrev pub move_stack : Target → ℤ → List Word
-move_stack T z = record { ops = on_clusters T.machine.clusters (λ k. Compute k Add (InGeneral (stack_on k)) (Held (stack_on k)) (Number z)); idle = 0 } ∷ waited T ∷ []
+move_stack T z = settled T (record { ops = on_clusters T.machine.clusters (λ k. Compute k Add (InGeneral (stack_on k)) (Held (stack_on k)) (Number z)); idle = 0 } ∷ [])
 
 -- saved and reloaded by their own registers
 abbrev pub save_words : Target → ℕ → List ℕ → List Word
 save_words T f vs = store_slots T f vs vs
 
 abbrev pub reload_words : Target → ℕ → List ℕ → List Word
-reload_words T f vs = if_some vs (load_slots T f vs vs ++ waited T ∷ [])
+reload_words T f vs = if_some vs (settled T (load_slots T f vs vs))
 
 -- an operand of a call or return as a source: a value in a slot is brought to the first scratch register of its cluster, from a
 -- frame so many words above the stack pointer
 abbrev pub fetch_words : Target → ℕ → (up : ℕ) → Operand → List Word
-fetch_words T f up (HeldValue v) = if is_slotted (kept T f v) then load_slot T f up v (general_of T f (v ∷ []) v) (branch_of T f (v ∷ []) v) ++ waited T ∷ [] else []
+fetch_words T f up (HeldValue v) = if is_slotted (kept T f v) then settled T (load_slot T f up v (general_of T f (v ∷ []) v) (branch_of T f (v ∷ []) v)) else []
 fetch_words T f up (AsNumber n) = []
 fetch_words T f up Stack = []
 
@@ -302,13 +325,13 @@ result_words T f None = []
 result_words T f (Some v) =
     if is_slotted (kept T f v)
     then one (Store 0 (bytes (T.slot f v)) (stack_on 0) (Held answer)) ∷ []
-    else one (Move (home T f v) (general_of T f (v ∷ []) v) (Held answer)) ∷ waited T ∷ []
+    else settled T (one (Move (home T f v) (general_of T f (v ∷ []) v) (Held answer)) ∷ [])
 
 -- a frame that would begin below the end of the globals is one too many
 abbrev pub call_words : Target → (function place called : ℕ) → List Operand → List Word
 call_words T f p g arguments =
     save_words T f (T.saved f p)
-    ++ (one (Compute 0 (ToBranch Ltu) (InBranch (record { cluster = 0; number = 0 })) (Held (stack_on 0)) (Number (bytes (T.globals + T.frame)))) ∷ waited T ∷ one (BranchOn 0 true T.depth_trap)
+    ++ (settled T (one (Compute 0 (ToBranch Ltu) (InBranch (record { cluster = 0; number = 0 })) (Held (stack_on 0)) (Number (bytes (T.globals + T.frame)))) ∷ []) ++ one (BranchOn 0 true T.depth_trap)
     ∷ (move_stack T (neg_ℤ (bytes T.frame)) ++ (argument_words T f g (parameters_of T g) arguments ++ one (Call (T.entry g)) ∷ [])))
 
 -- the result is taken first, since a branch value comes back by way of the answer's register
@@ -318,12 +341,12 @@ back_words T f p result = move_stack T (bytes T.frame) ++ (result_words T f resu
 abbrev pub return_words : Target → ℕ → Operand → List Word
 return_words T f x =
     fetch_words T f 0 x
-    ++ (one (Move 0 answer (fetched T f x)) ∷ one (Load 0 (general 0 3) (pos 0) (stack_on 0) false) ∷ waited T ∷ one (ToLink (Held (general 0 3))) ∷ waited T ∷ one Return ∷ [])
+    ++ (settled T (one (Move 0 answer (fetched T f x)) ∷ one (Load 0 (general 0 3) (pos 0) (stack_on 0) false) ∷ []) ++ (settled T (one (ToLink (Held (general 0 3))) ∷ []) ++ one Return ∷ []))
 
 -- at the entry the link is stored at the begin of the frame, and parameters are brought to their registers
 abbrev pub entry_words : Target → ℕ → List Word
 entry_words T g =
-    one (FromLink (general 0 3)) ∷ waited T ∷ one (Store 0 (pos 0) (stack_on 0) (Held (general 0 3)))
+    settled T (one (FromLink (general 0 3)) ∷ []) ++ one (Store 0 (pos 0) (stack_on 0) (Held (general 0 3)))
     ∷ (reload_words T g (T.brought g) ++ one (Goto (T.starts g (T.layout g).entry)) ∷ [])
 
 abbrev pub choice_words : Target → ℕ → (test to : ℕ) → List Word
@@ -350,8 +373,8 @@ first_frame T = T.globals + T.frame * (deepest - 1)
 -- the first words of a program; behind the call stands its end
 abbrev pub start_words : Target → (main : ℕ) → List Word
 start_words T main =
-    record { ops = on_clusters T.machine.clusters (λ k. Move k (stack_on k) (Number (bytes (first_frame T)))); idle = 0 } ∷ waited T
-    ∷ one (Call (T.entry main)) ∷ one (Halt (Held answer)) ∷ []
+    settled T (record { ops = on_clusters T.machine.clusters (λ k. Move k (stack_on k) (Number (bytes (first_frame T)))); idle = 0 } ∷ [])
+    ++ one (Call (T.entry main)) ∷ one (Halt (Held answer)) ∷ []
 
 abbrev pub halt_place : ℕ
 halt_place = 3

@@ -4,9 +4,7 @@
 ghost use Rattle.std.specs.Prelude.{◌≡◌, ◌<◌, ◌≤◌, ◌+◌, ◌*◌, ◌++◌, ℕ, true, Some, length, slice_get, slice_index_or, IfOk};
 ghost use Rattle.vx_flow.specs.declared.graph.Global.{Global as AGlobal};
 ghost use Rattle.vx_flow.specs.Meaning.{deepest};
-ghost use Rattle.vx_isa.specs.declared.operation.Operation.{Operation as AnOperation};
 ghost use Rattle.vx_isa.specs.Machine.{memory_at_start};
-ghost use Rattle.vx_isa.specs.Operations.{latency_of};
 ghost use Rattle.vx_isa.specs.Sound.{is_start};
 ghost use Rattle.vx_frame.specs.Carried.{first_or_zero, words_before};
 ghost use Rattle.vx_frame.specs.Globals.{begins_from, first_from, firsts_from, is_set, words_in};
@@ -18,7 +16,6 @@ use std::alloc::Global;
 use vx_base::listed::Listed;
 use vx_base::outcome::NoMemory;
 use vx_flow::graph::Global as Variable;
-use vx_machine::Machine;
 
 /// The most bytes of a memory; a larger one is want of memory.
 const MOST_BYTES: u32 = 132644864;
@@ -121,25 +118,4 @@ pub(crate) fn memory_bytes(sizes: &Sizes) -> Result<u32, NoMemory>
         }
         None => Err(NoMemory),
     }
-}
-
-/// The greatest latency of a machine.
-fn greatest_latency(machine: &Machine) -> u32
-    ensures each { (op : AnOperation) → latency_of machine.now op ≤ result }
-    ensures most { result ≤ 16 }
-{
-    machine.keeps_ranges();
-    let quick = machine.latency_alu().max(machine.latency_compare());
-    let slow = machine.latency_multiply().max(machine.latency_divide());
-    let moved = machine.latency_load().max(machine.latency_copy());
-    quick.max(slow).max(moved)
-}
-
-/// Empty cycles after which all that a word left in flight has landed: one less than the greatest latency, and at least one.
-pub(crate) fn pause_of(machine: &Machine) -> u32
-    ensures some { 1 ≤ result }
-    ensures most { result ≤ 15 }
-    ensures all_land { (op : AnOperation) → latency_of machine.now op ≤ result + 1 }
-{
-    greatest_latency(machine).saturating_sub(1).max(1)
 }

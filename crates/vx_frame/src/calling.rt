@@ -6,14 +6,14 @@ ghost use Rattle.vx_base.specs.declared.arithmetic.Compare.TheVariants.{Ltu};
 ghost use Rattle.vx_isa.specs.declared.operation.Operation.TheVariants.{BranchOn, Compute, Move};
 ghost use Rattle.vx_isa.specs.declared.operation.Register.TheVariants.{Branch as InBranch, General as InGeneral};
 ghost use Rattle.vx_isa.specs.declared.operation.Source.TheVariants.{Held, Number};
-ghost use Rattle.vx_frame.specs.Target.{bytes, general, one, waited, stack_on, on_clusters, parameters_of, first_frame, fetch_words, fetched, cluster_of_operand, argument_words, result_words, save_words, reload_words, move_stack, call_words, back_words, return_words, entry_words, start_words};
+ghost use Rattle.vx_frame.specs.Target.{bytes, general, one, settled, stack_on, on_clusters, parameters_of, first_frame, fetch_words, fetched, cluster_of_operand, argument_words, result_words, save_words, reload_words, move_stack, call_words, back_words, return_words, entry_words, start_words};
 ghost use Rattle.vx_frame.specs.Seen.{seen};
 
 use crate::carrying::{bytes, stack_on};
 use crate::gathering::{Whole, brought, entered_at, entry, parameters, saved, slot, start};
 use crate::naming::{general, general_of, home, is_slotted};
 use crate::slotting::{
-    answer, load_slot, load_slots, named_by, push_one, push_wait, store_slots, sum,
+    answer, load_slot, load_slots, named_by, push_one, push_settled, push_wait, store_slots, sum,
 };
 use std::alloc::Global;
 use vx_base::arithmetic::{Code, Compare};
@@ -68,8 +68,9 @@ fn move_stack(
     ensures { IfOk result (λ _. words.new ≡ words.old ++ move_stack (seen whole.now) step) }
 {
     let ops = stack_steps(alloc, whole.machine.clusters(), step)?;
+    let begin = words.len();
     words.push(Word { ops, idle: 0 })?;
-    push_wait(alloc, whole, words)
+    push_wait(alloc, whole, begin, words)
 }
 
 /// Saves values in their slots, from their own registers.
@@ -98,8 +99,9 @@ fn reload(
     if values.is_empty() {
         return Ok(());
     }
+    let begin = words.len();
     load_slots(alloc, whole, function, values, values, words)?;
-    push_wait(alloc, whole, words)
+    push_wait(alloc, whole, begin, words)
 }
 
 /// Brings a value that is in a slot to a scratch register, from a frame so many words above the stack pointer.
@@ -118,8 +120,9 @@ fn fetch(
             if is_slotted(whole, function, value) {
                 let names = [value];
                 let to = named_by(whole, function, &names, value)?;
+                let begin = words.len();
                 load_slot(alloc, whole, function, up, value, to, words)?;
-                push_wait(alloc, whole, words)
+                push_wait(alloc, whole, begin, words)
             } else {
                 Ok(())
             }
@@ -229,8 +232,7 @@ fn take_result(
         to: general_of(whole, function, &names, value),
         from: Source::Held(answer()),
     };
-    push_one(alloc, copy, words)?;
-    push_wait(alloc, whole, words)
+    push_settled(alloc, whole, copy, words)
 }
 
 /// The test by which a stack pointer that is one frame too low is told.
@@ -251,11 +253,10 @@ fn depth_test(least: i32) -> Operation
 
 /// Tests that the frame of a function that is called does not begin below the end of the globals, else goes to the trap.
 fn test_depth(alloc: Global, whole: &Whole, words: &mut Listed<Word>) -> Result<(), NoMemory>
-    ensures { IfOk result (λ _. words.new ≡ words.old ++ (one (Compute 0 (ToBranch Ltu) (InBranch (record { cluster = 0; number = 0 })) (Held (stack_on 0)) (Number (bytes ((seen whole.now).globals + (seen whole.now).frame)))) ∷ waited (seen whole.now) ∷ one (BranchOn 0 true (seen whole.now).depth_trap) ∷ [])) }
+    ensures { IfOk result (λ _. words.new ≡ words.old ++ (settled (seen whole.now) (one (Compute 0 (ToBranch Ltu) (InBranch (record { cluster = 0; number = 0 })) (Held (stack_on 0)) (Number (bytes ((seen whole.now).globals + (seen whole.now).frame)))) ∷ []) ++ one (BranchOn 0 true (seen whole.now).depth_trap) ∷ [])) }
 {
     let least = bytes(sum(whole.sizes.globals, whole.sizes.frame)?)?;
-    push_one(alloc, depth_test(least), words)?;
-    push_wait(alloc, whole, words)?;
+    push_settled(alloc, whole, depth_test(least), words)?;
     let leave = Operation::BranchOn {
         test: 0,
         taken_at_one: true,
@@ -326,6 +327,7 @@ pub(crate) fn push_return(
         to: answer(),
         from: fetched(whole, function, operand),
     };
+    let begin = words.len();
     push_one(alloc, give, words)?;
     let load = Operation::Load {
         cluster: 0,
@@ -335,12 +337,11 @@ pub(crate) fn push_return(
         dismissible: false,
     };
     push_one(alloc, load, words)?;
-    push_wait(alloc, whole, words)?;
+    push_wait(alloc, whole, begin, words)?;
     let link = Operation::ToLink {
         from: Source::Held(link_scratch()),
     };
-    push_one(alloc, link, words)?;
-    push_wait(alloc, whole, words)?;
+    push_settled(alloc, whole, link, words)?;
     push_one(alloc, Operation::Return, words)
 }
 
@@ -353,8 +354,12 @@ pub(crate) fn push_entry(
 ) -> Result<(), NoMemory>
     ensures { IfOk result (λ _. words.new ≡ words.old ++ entry_words (seen whole.now) function) }
 {
-    push_one(alloc, Operation::FromLink { to: link_scratch() }, words)?;
-    push_wait(alloc, whole, words)?;
+    push_settled(
+        alloc,
+        whole,
+        Operation::FromLink { to: link_scratch() },
+        words,
+    )?;
     let store = Operation::Store {
         cluster: 0,
         offset: 0,
@@ -412,8 +417,9 @@ pub(crate) fn push_start(
 {
     let begin = bytes(first_frame(whole)?)?;
     let ops = stacks_at(alloc, whole.machine.clusters(), begin)?;
+    let start = words.len();
     words.push(Word { ops, idle: 0 })?;
-    push_wait(alloc, whole, words)?;
+    push_wait(alloc, whole, start, words)?;
     let target = entry(whole, main);
     push_one(alloc, Operation::Call { target }, words)?;
     let end = Operation::Halt {

@@ -8,7 +8,7 @@ ghost use Rattle.vx_frame.specs.Found.{Found, Made};
 ghost use Rattle.vx_frame.specs.Placing.{OneSplit};
 ghost use Rattle.vx_frame.specs.Seen.{seen};
 
-use crate::addressing::{addresses_of, first_words, memory_bytes, pause_of};
+use crate::addressing::{addresses_of, first_words, memory_bytes};
 use crate::framing::{frame_size, frames};
 use crate::gathering::{FunctionPlaces, Sizes, Whole};
 use crate::laws::words_are_sound;
@@ -168,7 +168,6 @@ pub fn finish(
     let sizes = Sizes {
         globals: globals.words,
         frame: frame_size(frames),
-        pause: pause_of(machine),
         depth_trap: 0,
     };
     let whole = Whole {

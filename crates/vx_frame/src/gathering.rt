@@ -46,8 +46,6 @@ pub(crate) struct Sizes {
     pub(crate) globals: u32,
     /// The words of a frame.
     pub(crate) frame: u32,
-    /// Empty cycles after which all has landed.
-    pub(crate) pause: u32,
     /// The place of the trap by which a call that is one too many ends.
     pub(crate) depth_trap: u32,
 }

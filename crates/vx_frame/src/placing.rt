@@ -275,7 +275,6 @@ pub(crate) fn with_places<'a, 'p>(
         sizes: Sizes {
             globals: whole.sizes.globals,
             frame: whole.sizes.frame,
-            pause: whole.sizes.pause,
             depth_trap,
         },
     }

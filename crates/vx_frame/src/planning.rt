@@ -1,24 +1,89 @@
 // The words that carry a planned word: before it its values come from their slots, behind it they go there.
 
-ghost use Rattle.std.specs.Prelude.{◌≡◌, ◌++◌, ◌∷◌, ◌+◌, [], IfOk, length};
+ghost use Rattle.std.specs.Prelude.{◌≡◌, ◌++◌, ◌∷◌, ◌+◌, ◌-◌, [], IfOk, length};
+ghost use Rattle.vx_flow.specs.Effects.{writes};
+ghost use Rattle.vx_isa.specs.Operations.{latency_of_code};
+ghost use Rattle.vx_machine.specs.Items.{latency_of_op};
 ghost use Rattle.vx_mixed.specs.LaidSettled.{laid_reads, laid_writes};
-ghost use Rattle.vx_frame.specs.Target.{carried_items, plan_word, plan_words, landing_words, choice_words, before, behind, leads};
+ghost use Rattle.vx_frame.specs.Target.{carried_items, plan_word, plan_words, landing_words, choice_words, slotted, before, behind, if_any, leads, slots_in_flight};
 ghost use Rattle.vx_frame.specs.Placed.{item_landings, words_of};
 ghost use Rattle.vx_frame.specs.Seen.{seen, IsPlan};
 
 use crate::carrying::carried;
 use crate::gathering::{Whole, landing, start};
-use crate::naming::{branch_of, once, slotted};
-use crate::slotting::{load_slots, push_one, push_wait, store_slots};
+use crate::naming::{branch_of, is_slotted, once, slotted};
+use crate::slotting::{load_slots, push_idle, push_one, push_wait, store_slots};
 use crate::word_plan::{MOST_NAMES, Plan, Site};
 use std::alloc::Global;
+use vx_base::arithmetic::Code;
 use vx_base::listed::Listed;
 use vx_base::outcome::NoMemory;
-use vx_flow::graph::Value;
+use vx_flow::graph::{Op, Value};
 use vx_isa::operation::Operation;
 use vx_isa::program::Word;
+use vx_machine::Machine;
 use vx_mixed::layout::Laid;
-use vx_regs::touching::{read_by, written_by};
+use vx_regs::touching::{read_by, written, written_by};
+
+/// The cycles until the result of a computation has landed.
+fn latency_of_code(machine: &Machine, code: Code) -> u32
+    ensures { result ≡ latency_of_code machine.now code }
+{
+    match code {
+        Code::ToBranch(_) => machine.latency_compare(),
+        Code::Mpylu | Code::Mpyhs => machine.latency_multiply(),
+        Code::Div | Code::Rem => machine.latency_divide(),
+        _ => machine.latency_alu(),
+    }
+}
+
+/// The cycles until the result of an operation on values has landed.
+fn latency_of_op(machine: &Machine, op: &Op) -> u32
+    ensures { result ≡ latency_of_op machine.now op.now }
+{
+    match op {
+        Op::Compute { code, .. } => latency_of_code(machine, *code),
+        Op::Select { .. } => machine.latency_alu(),
+        Op::Place { .. } => machine.latency_alu(),
+        Op::Load { .. } => machine.latency_load(),
+        Op::More { .. } => machine.latency_load(),
+        Op::Input { .. } => machine.latency_load(),
+        Op::Across { .. } => machine.latency_copy(),
+        _ => 0,
+    }
+}
+
+/// How many cycles behind its word the result of an operation is in flight, where it goes to a slot; else 0.
+fn slot_in_flight(whole: &Whole, function: u32, op: &Op) -> u32
+    ensures { result ≡ if_any (slotted (seen whole.now) function (writes op.now)) (latency_of_op (seen whole.now).machine op.now - 1) }
+{
+    match written(op) {
+        Some(value) => {
+            if is_slotted(whole, function, value) {
+                latency_of_op(whole.machine, op).saturating_sub(1)
+            } else {
+                0
+            }
+        }
+        None => 0,
+    }
+}
+
+/// How many cycles behind a word of these items the last of its results that go to slots is in flight.
+fn slots_in_flight(whole: &Whole, function: u32, items: &[Laid]) -> u32
+    ensures { result ≡ slots_in_flight (seen whole.now) function items.now }
+{
+    match items.split_first() {
+        None => 0,
+        Some((item, rest)) => {
+            let others = slots_in_flight(whole, function, rest);
+            match item {
+                Laid::Plain { op, .. } => slot_in_flight(whole, function, op).max(others),
+                Laid::Split { .. } => others,
+            }
+        }
+    }
+}
 
 /// A planned word at a place of a function.
 pub(crate) fn plan_of<'a>(
@@ -46,6 +111,7 @@ pub(crate) fn plan_of<'a>(
         reads,
         writes,
         left,
+        pause: slots_in_flight(whole, function, items),
     })
 }
 
@@ -130,8 +196,9 @@ fn push_before(
         return Ok(());
     }
     let loaded = once(alloc, found.as_slice())?;
+    let begin = words.len();
     load_slots(alloc, whole, function, reads, loaded.as_slice(), words)?;
-    push_wait(alloc, whole, words)
+    push_wait(alloc, whole, begin, words)
 }
 
 /// Waits for the results of a word, and stores those that belong to slots.
@@ -142,12 +209,12 @@ fn push_behind(
     words: &mut Listed<Word>,
 ) -> Result<(), NoMemory>
     requires { IsPlan (seen whole.now) plan.now }
-    ensures { IfOk result (λ _. words.new ≡ words.old ++ behind (seen whole.now) plan.now.function (laid_writes plan.now.items.now)) }
+    ensures { IfOk result (λ _. words.new ≡ words.old ++ behind (seen whole.now) plan.now.function plan.now.items.now) }
 {
     if plan.left.is_empty() {
         return Ok(());
     }
-    push_wait(alloc, whole, words)?;
+    push_idle(alloc, plan.pause, words)?;
     store_slots(
         alloc,
         whole,

@@ -1,13 +1,13 @@
 // The words that bring values from their slots to registers, and from registers to their slots. A branch value goes by way
 // of the answer's register.
 
-ghost use Rattle.std.specs.Prelude.{◌≡◌, ◌++◌, ◌∷◌, [], ◌+◌, pos, false, IfOk};
+ghost use Rattle.std.specs.Prelude.{◌≡◌, ◌≤◌, ◌++◌, ◌∷◌, [], ◌+◌, pos, false, IfOk, drop, length};
 ghost use Rattle.vx_base.specs.declared.arithmetic.Code.TheVariants.{ToBranch};
 ghost use Rattle.vx_base.specs.declared.arithmetic.Compare.TheVariants.{Ne};
 ghost use Rattle.vx_isa.specs.declared.operation.Operation.TheVariants.{Compute, Select, Load, Store};
 ghost use Rattle.vx_isa.specs.declared.operation.Register.TheVariants.{Branch as InBranch};
 ghost use Rattle.vx_isa.specs.declared.operation.Source.TheVariants.{Held, Number};
-ghost use Rattle.vx_frame.specs.Target.{answer, stack_on, general_of, branch_of, one, waits, waited, load_slot, store_slot, load_slots, store_slots};
+ghost use Rattle.vx_frame.specs.Target.{answer, stack_on, general_of, branch_of, one, waits, latest, in_flight, settled, load_slot, store_slot, load_slots, store_slots};
 ghost use Rattle.vx_frame.specs.Seen.{seen};
 
 use crate::carrying::{bytes, stack_on};
@@ -21,6 +21,7 @@ use vx_base::outcome::NoMemory;
 use vx_flow::graph::Value;
 use vx_isa::operation::{BranchRegister, GeneralRegister, Operation, Register, Source};
 use vx_isa::program::Word;
+use vx_machine::Machine;
 
 /// A sum that is want of memory where no number holds it.
 pub(crate) fn sum(left: u32, right: u32) -> Result<u32, NoMemory>
@@ -74,15 +75,63 @@ pub(crate) fn push_idle(alloc: Global, idle: u32, words: &mut Listed<Word>) -> R
     Ok(())
 }
 
-/// Adds a pause, after which all has landed.
+/// The cycles until the last result of some operations has landed.
+fn latest(machine: &Machine, ops: &[Operation]) -> u32
+    ensures { result ≡ latest machine.now ops.now }
+{
+    match ops.split_first() {
+        None => 0,
+        Some((op, rest)) => machine.latency(op).max(latest(machine, rest)),
+    }
+}
+
+/// How many cycles longer than some words last their writes are in flight, where at their start others are so for some.
+fn in_flight(machine: &Machine, before: u32, words: &[Word]) -> u32
+    ensures { result ≡ in_flight machine.now before words.now }
+{
+    match words.split_first() {
+        None => before,
+        Some((word, rest)) => {
+            let landed = before.max(latest(machine, word.ops.as_slice()));
+            in_flight(machine, landed.saturating_sub(word.idle.max(1)), rest)
+        }
+    }
+}
+
+/// The words from a place on.
+fn words_from(words: &[Word], begin: usize) -> &[Word]
+    requires { begin ≤ length words.now }
+    ensures { result.now ≡ drop begin words.now }
+{
+    &words[begin..]
+}
+
+/// Adds a pause as long as what the words from a place on write is in flight, and no longer.
 pub(crate) fn push_wait(
     alloc: Global,
     whole: &Whole,
+    begin: usize,
     words: &mut Listed<Word>,
 ) -> Result<(), NoMemory>
-    ensures { IfOk result (λ _. words.new ≡ words.old ++ waited (seen whole.now) ∷ []) }
+    requires { begin ≤ length words.old }
+    ensures { IfOk result (λ _. words.new ≡ words.old ++ waits (in_flight (seen whole.now).machine 0 (drop begin words.old)) ∷ []) }
 {
-    push_idle(alloc, whole.sizes.pause, words)
+    let idle = in_flight(whole.machine, 0, words_from(words.as_slice(), begin));
+    push_idle(alloc, idle, words)
+}
+
+/// Adds a word of one operation, and a pause as long as its result is in flight.
+pub(crate) fn push_settled(
+    alloc: Global,
+    whole: &Whole,
+    operation: Operation,
+    words: &mut Listed<Word>,
+) -> Result<(), NoMemory>
+    ensures { IfOk result (λ _. words.new ≡ words.old ++ settled (seen whole.now) (one operation ∷ [])) }
+{
+    let begin = words.len();
+    push_one(alloc, operation, words)?;
+    push_wait(alloc, whole, begin, words)
 }
 
 /// A load of the word of a frame, on the cluster of the register to which it goes.
@@ -176,8 +225,7 @@ pub(crate) fn load_slot(
 {
     let offset = bytes(sum(up, slot(whole, function, value))?)?;
     if holds_branch(whole, function, value) {
-        push_one(alloc, frame_load(answer(), offset), words)?;
-        push_wait(alloc, whole, words)?;
+        push_settled(alloc, whole, frame_load(answer(), offset), words)?;
         push_one(alloc, to_branch(to.branch), words)
     } else {
         push_one(alloc, frame_load(to.general, offset), words)
@@ -197,8 +245,7 @@ fn store_slot(
 {
     let offset = bytes(slot(whole, function, value))?;
     if holds_branch(whole, function, value) {
-        push_one(alloc, from_branch(from.branch), words)?;
-        push_wait(alloc, whole, words)?;
+        push_settled(alloc, whole, from_branch(from.branch), words)?;
         push_one(alloc, frame_store(answer(), offset), words)
     } else {
         push_one(alloc, frame_store(from.general, offset), words)

@@ -19,6 +19,8 @@ pub(crate) struct Plan<'a> {
     pub(crate) writes: Listed<Value>,
     /// Those of the values written that are in slots.
     pub(crate) left: Listed<Value>,
+    /// How many cycles behind the word the last of these is in flight.
+    pub(crate) pause: u32,
     ghost few_reads: { length reads < 2 ^ 31 },
     ghost few_writes: { length writes < 2 ^ 31 },
 }

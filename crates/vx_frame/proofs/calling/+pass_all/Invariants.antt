@@ -1,4 +1,4 @@
-use Rattle.std.proofs.Common.{length, ℕ}
+use Rattle.std.proofs.Common.{length}
 use Rattle.vx_frame.proofs.calling.+pass_all.Given as goal
 
 abbrev pub decreases-pass_all : goal.decreases-pass_all

@@ -1,4 +1,4 @@
-use Rattle.std.proofs.Common.{◌≡◌, ◌<◌, length, slice_index_or, List, ap, ◌∙◌, subst, sym, arith}
+use Rattle.std.proofs.Common.{length, slice_index_or, List, ap, ◌∙◌, subst, sym, arith}
 use Rattle.vx_flow.specs.declared.graph.Global.{Global}
 use Rattle.vx_flow.specs.declared.graph.Graph.{Graph}
 use Rattle.vx_frame.specs.Carried.{words_before}
@@ -27,7 +27,4 @@ finish_whole-requires-clause-found c = record {
   as_many = ap length c.as_slice-begins.ensures ∙ c.in_ok-globals.ensures.each ∙ ap (λ (gs : List Global). length gs) c.as_slice-variables.ensures;
   address = λ a lt. ap (λ xs. slice_index_or xs a 0) c.as_slice-begins.ensures ∙ c.in_ok-globals.ensures.begins a (let e = ap (λ (gs : List Global). length gs) c.as_slice-variables.ensures in omega arith) ∙ ap (λ gs. words_before gs a) c.as_slice-variables.ensures;
   globals = c.in_ok-globals.ensures.words ∙ ap (λ gs. words_before gs (length gs)) c.as_slice-variables.ensures;
-  some_pause = c.pause_of.ensures.some;
-  most_pause = c.pause_of.ensures.most;
-  pause = c.pause_of.ensures.all_land;
 }

@@ -1,4 +1,4 @@
-use Rattle.std.proofs.Common.{length, ℕ}
+use Rattle.std.proofs.Common.{length}
 use Rattle.vx_frame.proofs.naming.+push_others.Given as goal
 
 abbrev pub decreases-push_others : goal.decreases-push_others

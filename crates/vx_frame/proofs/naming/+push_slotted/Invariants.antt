@@ -1,4 +1,4 @@
-use Rattle.std.proofs.Common.{length, ℕ}
+use Rattle.std.proofs.Common.{length}
 use Rattle.vx_frame.proofs.naming.+push_slotted.Given as goal
 
 abbrev pub decreases-push_slotted : goal.decreases-push_slotted

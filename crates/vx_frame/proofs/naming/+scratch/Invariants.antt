@@ -1,4 +1,4 @@
-use Rattle.std.proofs.Common.{length, ℕ}
+use Rattle.std.proofs.Common.{length}
 use Rattle.vx_frame.proofs.naming.+scratch.Given as goal
 
 abbrev pub decreases-scratch : goal.decreases-scratch

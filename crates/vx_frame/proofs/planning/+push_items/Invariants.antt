@@ -1,4 +1,4 @@
-use Rattle.std.proofs.Common.{length, ℕ}
+use Rattle.std.proofs.Common.{length}
 use Rattle.vx_frame.proofs.planning.+push_items.Given as goal
 
 abbrev pub decreases-push_items : goal.decreases-push_items

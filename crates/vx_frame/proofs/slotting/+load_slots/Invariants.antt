@@ -1,4 +1,4 @@
-use Rattle.std.proofs.Common.{length, ℕ}
+use Rattle.std.proofs.Common.{length}
 use Rattle.vx_frame.proofs.slotting.+load_slots.Given as goal
 
 abbrev pub decreases-load_slots : goal.decreases-load_slots

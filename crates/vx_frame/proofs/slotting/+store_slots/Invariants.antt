@@ -1,4 +1,4 @@
-use Rattle.std.proofs.Common.{length, ℕ}
+use Rattle.std.proofs.Common.{length}
 use Rattle.vx_frame.proofs.slotting.+store_slots.Given as goal
 
 abbrev pub decreases-store_slots : goal.decreases-store_slots
