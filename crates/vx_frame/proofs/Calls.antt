@@ -36,7 +36,7 @@ use Rattle.vx_mixed.specs.Laid.{laid_program, laid_hop, some_word_hop, laid_body
 use Rattle.vx_mixed.specs.LaidSettled.{bank_in}
 use Rattle.vx_mixed.specs.Origins.{CallsAs}
 use Rattle.vx_regs.specs.Intervals.{IsLive, here, beyond, is_live, result_of}
-use Rattle.vx_frame.specs.Target.{Target, answer, kept, is_slotted, is_branch, home, holds_branch, branch_of, stack_on, parameters_of, register_of, one, waits as idle, in_flight, settled, bytes, save_words, move_stack, argument_words, call_words, back_words, memory_words}
+use Rattle.vx_frame.specs.Target.{Target, answer, kept, is_slotted, is_branch, home, holds_branch, branch_of, stack_on, parameters_of, register_of, one, pause, in_flight, settled, bytes, save_words, move_stack, argument_words, call_words, back_words, memory_words}
 use Rattle.vx_frame.specs.Tied.{Tied, AtWord, Shows, Row, Arrays, Waits, Below, IsResult, own_arrays, row_in, begins_at, is_place, moved as moved_number, word_at}
 use Rattle.vx_frame.specs.Carried.{Carries, IsFunctionOf, NeedsSlot, is_passed, is_saved, is_spilled, Survives, words_before}
 use Rattle.vx_frame.proofs.Bytes.{unsigned_small}
@@ -58,7 +58,7 @@ use Rattle.vx_frame.proofs.Slots.{Usable, Stored, store_list, stack_no_answer}
 use Rattle.vx_frame.proofs.Stands.{word_stands, depth_stands}
 use Rattle.vx_frame.proofs.Word.{own_name, kept_shows}
 use Rattle.vx_frame.specs.Planned.{CarriesOn, EndsAlike, CallLaw}
-use Rattle.vx_frame.proofs.Steps.{Stands, stands_left, stands_right, Quiet, quiet_on, Comes, Forth, comes_on, then_forth, forth_comes, Set, set_step, Passed, wait_step, word_step}
+use Rattle.vx_frame.proofs.Steps.{Stands, stands_left, stands_right, Quiet, quiet_on, Comes, Forth, comes_on, then_forth, forth_comes, Set, set_step, Paused, pause_step, word_step}
 
 abbrev is_branch_register : Register → Bool
 is_branch_register (General r) = false
@@ -194,17 +194,26 @@ module _ (T : Target) (flow : Flow) (ls : List VWords) (w : WordProgram) (sound 
   abbrev Pause : ℕ
   Pause = in_flight T.machine 0 (Compares ∷ [])
 
-  paused : Passed T.machine w fit B (B.place + 1)
-  paused = wait_step T.machine w fit B Pause compared.quiet.calm (subst (λ q. slice_get w.words q ≡ Some (idle Pause)) (sym compared.place) tests.1.0)
+  abbrev Late : List Word
+  Late = pause Pause
+
+  abbrev Branching : List Word
+  Branching = one (BranchOn 0 true T.depth_trap) ∷ (Down ++ Passes)
+
+  paused : Paused T.machine w fit B (B.place + length Late)
+  paused = pause_step T.machine w fit B Pause compared.quiet.calm (subst (λ q. Stands w.words q Late) (sym compared.place) (stands_left w.words (A.place + 1) Late Branching tests.1))
+
+  branching : Stands w.words ((A.place + 1) + length Late) Branching
+  branching = stands_right w.words (A.place + 1) Late Branching tests.1
 
   abbrev C : State
   C = paused.to
 
-  place_c : C.place ≡ (A.place + 1) + 1
+  place_c : C.place ≡ (A.place + 1) + length Late
   place_c = let x = paused.place in let y = compared.place in omega arith
 
   comes_c : Comes T.machine w fit u C
-  comes_c = comes_on T.machine w fit u A C saved.comes (comes_on T.machine w fit A B C (forth_comes T.machine w fit A B compared.forth) (forth_comes T.machine w fit B C paused.forth))
+  comes_c = comes_on T.machine w fit u A C saved.comes (comes_on T.machine w fit A B C (forth_comes T.machine w fit A B compared.forth) paused.comes)
 
   quiet_c : Quiet u C
   quiet_c = quiet_on u A C saved.quiet (quiet_on A B C compared.quiet paused.quiet)
@@ -219,7 +228,7 @@ module _ (T : Target) (flow : Flow) (ls : List VWords) (w : WordProgram) (sound 
   Branches = one (BranchOn 0 true T.depth_trap)
 
   branch_at : slice_get w.words C.place ≡ Some Branches
-  branch_at = subst (λ q. slice_get w.words q ≡ Some Branches) (sym place_c) tests.1.1.0
+  branch_at = subst (λ q. slice_get w.words q ≡ Some Branches) (sym place_c) branching.0
 
   lead_is : lead_of C (BranchOn 0 true T.depth_trap ∷ []) ≡ (if below_limit then To T.depth_trap else To (C.place + 1))
   lead_is = ap (λ z. if is_one z then To T.depth_trap else To (C.place + 1)) (ap (λ x. seen x Flag) paused.registers ∙ compared.at) ∙ ap (λ b. if b then To T.depth_trap else To (C.place + 1)) (one_of below_limit)
@@ -259,7 +268,7 @@ module _ (T : Target) (flow : Flow) (ls : List VWords) (w : WordProgram) (sound 
     Lower k = sum_of (register D (General (stack_on k))) (neg_ℤ (bytes T.frame))
 
     go_down : Stands w.words D.place (Down ++ Passes)
-    go_down = subst (λ q. Stands w.words q (Down ++ Passes)) (ap (λ q. q + 1) (sym place_c)) tests.1.1.1
+    go_down = subst (λ q. Stands w.words q (Down ++ Passes)) (ap (λ q. q + 1) (sym place_c)) branching.1
 
     moved : Moved T.machine w fit D op Lower (λ k. refl) (λ k. refl) (λ k. record { bad = refl; takes = refl; prints = refl; stores = λ m. refl; leads = λ ops. refl }) T.machine.clusters
     moved = move_run T.machine w fit D op Lower (λ k. refl) (λ k. refl) (λ k. record { bad = refl; takes = refl; prints = refl; stores = λ m. refl; leads = λ ops. refl }) T.machine.clusters refl (stands_left w.words D.place Down Passes go_down)
@@ -378,7 +387,7 @@ module _ (T : Target) (flow : Flow) (ls : List VWords) (w : WordProgram) (sound 
       Parameters = parameters_of T g
 
       passing : Stands w.words E.place Passes
-      passing = subst (λ q. Stands w.words q Passes) (let x = moved.place in let y : D.place + 2 ≡ E.place = omega arith in y) (stands_right w.words D.place Down Passes go_down)
+      passing = subst (λ q. Stands w.words q Passes) (sym moved.place) (stands_right w.words D.place Down Passes go_down)
 
       passed : Given T.machine w fit T F Base carries.memory small some E g Parameters ns (length (argument_words T F g Parameters arguments))
       passed = pass_run T.machine w fit T F Base carries.memory small some g Parameters arguments ns E moved.quiet.calm stack_e (stands_left w.words E.place (argument_words T F g Parameters arguments) (one (Jumps (T.entry g)) ∷ []) passing)
@@ -408,13 +417,13 @@ module _ (T : Target) (flow : Flow) (ls : List VWords) (w : WordProgram) (sound 
           let a = passed.place in
           let b = saved.place in
           let c = place_c in
-          let d = moved.place in
+          let d : E.place ≡ D.place + length Down = moved.place in
           let e = carries.placed.backs F p g arguments result plan in
           let h = at_word.place in
           let l1 : length (save_words T F Saved ++ Tests) ≡ length (save_words T F Saved) + length Tests = length-append (save_words T F Saved) Tests in
           let l2 : length Passes ≡ length (argument_words T F g Parameters arguments) + 1 = length-append (argument_words T F g Parameters arguments) (Jump ∷ []) in
-          let l3 : length (Down ++ Passes) ≡ suc (suc (length Passes)) = refl in
-          let l4 : length Tests ≡ suc (suc (suc (length (Down ++ Passes)))) = refl in
+          let l3 : length (Down ++ Passes) ≡ length Down + length Passes = length-append Down Passes in
+          let l4 : length Tests ≡ suc (length Late + suc (length (Down ++ Passes))) = ap suc (length-append Late Branching) in
           omega arith
 
       link_is : G.registers Link ≡ wrap (pos (T.back F p))

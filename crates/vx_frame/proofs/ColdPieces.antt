@@ -1,5 +1,5 @@
 -- Words of calls, returns and entries that begin with nothing in flight meet nothing in flight.
-use Rattle.std.proofs.Common.{◌≡◌, ◌≤◌, ⊎_elim, ◌+◌, ◌-◌, ℕ, zero, suc, ℤ, pos, neg_ℤ, Bool, true, false, Option, Some, None, List, [], ◌∷◌, ◌++◌, append_assoc, map, refl, sym, ◌∙◌, subst, arith}
+use Rattle.std.proofs.Common.{◌≡◌, ◌≤◌, ⊎_elim, ◌+◌, ◌-◌, ℕ, zero, suc, ℤ, pos, neg_ℤ, Bool, true, false, Option, Some, None, List, [], ◌∷◌, ◌++◌, append_assoc, map, refl, sym, ap, ◌∙◌, subst, arith}
 use Rattle.std.specs.Prelude.{if◌then◌else◌, max}
 use Rattle.vx_base.specs.declared.arithmetic.Code.TheVariants.{Add, ToBranch}
 use Rattle.vx_base.specs.declared.arithmetic.Compare.TheVariants.{Ltu, Ne}
@@ -16,10 +16,10 @@ use Rattle.vx_isa.specs.declared.operation.GeneralRegister.{GeneralRegister}
 use Rattle.vx_isa.specs.declared.operation.Operation.{Operation}
 use Rattle.vx_isa.specs.declared.operation.Operation.TheVariants.{Compute, Move, Select, Load, Store, Goto, BranchOn, Call, Return, ToLink, EndByTrap, Halt}
 use Rattle.vx_isa.specs.declared.program.Word.{Word}
-use Rattle.vx_isa.specs.Machine.{cycles_of}
 use Rattle.vx_isa.specs.Fits.{destinations}
-use Rattle.vx_frame.specs.Target.{Target, answer, general, general_of, branch_of, stack_on, home, holds_branch, is_slotted, kept, parameters_of, one, waits, latest, in_flight, settled, load_slot, store_slot, store_slots, on_clusters, move_stack, fetch_words, fetched, cluster_of_operand, argument_words, result_words, call_words, return_words, start_words, bytes, first_frame}
+use Rattle.vx_frame.specs.Target.{Target, answer, general, general_of, branch_of, stack_on, home, holds_branch, is_slotted, kept, parameters_of, one, pause, latest, in_flight, settled, load_slot, store_slot, store_slots, on_clusters, move_stack, fetch_words, fetched, cluster_of_operand, argument_words, result_words, call_words, return_words, start_words, bytes, first_frame}
 use Rattle.vx_frame.proofs.Early.{falls, Jumps, Touches}
+use Rattle.vx_frame.proofs.Pauses.{flight_append, flight_pause}
 use Rattle.vx_frame.proofs.Heats.{lift, stays, FineWords, word_fine, wait_fine, stop_fine}
 
 module _ (T : Target) (heat : ℕ → Register → ℕ) where
@@ -27,14 +27,14 @@ module _ (T : Target) (heat : ℕ → Register → ℕ) where
   Fine h ws e = FineWords T.machine heat h ws e
 
   -- a word, and a pause in which its results land
-  settle_in : (k : ℕ) (ops : List Operation) (rest : List Word) (e : Register → ℕ) → latest T.machine ops ≤ k + 1 → falls ops ≡ true → ((q : ℕ) → Jumps ops q → ⊥) → Fine cold rest e → Fine cold (record { ops = ops; idle = 0 } ∷ waits k ∷ rest) e
+  settle_in : (k : ℕ) (ops : List Operation) (rest : List Word) (e : Register → ℕ) → latest T.machine ops ≤ k + 1 → falls ops ≡ true → ((q : ℕ) → Jumps ops q → ⊥) → Fine cold rest e → Fine cold (record { ops = ops; idle = 0 } ∷ (pause k ++ rest)) e
   settle_in k ops rest e long fall none f =
       let n : ℕ = max 0 (latest T.machine ops) - 1 in
-      word_fine T.machine heat 0 cold cold [] ops (waits k ∷ rest) e fall (stays 1 cold) (λ q r j. absurd (none q j)) (λ r t. refl)
-      (wait_fine T.machine heat n k cold cold (destinations ops ++ []) rest e (omega arith) (stays (cycles_of (waits k)) cold) f)
+      word_fine T.machine heat 0 cold cold [] ops (pause k ++ rest) e fall (stays 1 cold) (λ q r j. absurd (none q j)) (λ r t. refl)
+      (wait_fine T.machine heat n k cold cold (destinations ops ++ []) rest e (omega arith) (stays k cold) f)
 
   -- and no longer
-  pub settle : (ops : List Operation) (rest : List Word) (e : Register → ℕ) → falls ops ≡ true → ((q : ℕ) → Jumps ops q → ⊥) → Fine cold rest e → Fine cold (record { ops = ops; idle = 0 } ∷ waits (in_flight T.machine 0 (record { ops = ops; idle = 0 } ∷ [])) ∷ rest) e
+  pub settle : (ops : List Operation) (rest : List Word) (e : Register → ℕ) → falls ops ≡ true → ((q : ℕ) → Jumps ops q → ⊥) → Fine cold rest e → Fine cold (record { ops = ops; idle = 0 } ∷ (pause (in_flight T.machine 0 (record { ops = ops; idle = 0 } ∷ [])) ++ rest)) e
   settle ops rest e fall none f = settle_in (in_flight T.machine 0 (record { ops = ops; idle = 0 } ∷ [])) ops rest e (omega arith) fall none f
 
   -- a word without results
@@ -74,7 +74,11 @@ module _ (T : Target) (heat : ℕ → Register → ℕ) where
       by : (b : Bool) → Fine cold ((if b
           then settled T (one (Select 0 answer (record { cluster = 0; number = branch_of T f names v }) (Number (pos 1)) (Number (pos 0))) ∷ []) ++ one (Store 0 (bytes (T.slot f v)) (stack_on 0) (Held answer)) ∷ []
           else one (Store (home T f v) (bytes (T.slot f v)) (stack_on (home T f v)) (Held (general_of T f names v))) ∷ []) ++ rest) e
-      by true = settle (Select 0 answer (record { cluster = 0; number = branch_of T f names v }) (Number (pos 1)) (Number (pos 0)) ∷ []) (one (Store 0 (bytes (T.slot f v)) (stack_on 0) (Held answer)) ∷ rest) e refl (λ q j. j) (store_fine 0 (bytes (T.slot f v)) (stack_on 0) (Held answer) rest e more)
+      by true =
+          let pick : Operation = Select 0 answer (record { cluster = 0; number = branch_of T f names v }) (Number (pos 1)) (Number (pos 0)) in
+          let last : Word = one (Store 0 (bytes (T.slot f v)) (stack_on 0) (Held answer)) in
+          subst (λ ws. Fine cold (one pick ∷ ws) e) (sym (append_assoc (pause (in_flight T.machine 0 (one pick ∷ []))) (last ∷ []) rest))
+          (settle (pick ∷ []) (last ∷ rest) e refl (λ q j. j) (store_fine 0 (bytes (T.slot f v)) (stack_on 0) (Held answer) rest e more))
       by false = store_fine (home T f v) (bytes (T.slot f v)) (stack_on (home T f v)) (Held (general_of T f names v)) rest e more
 
   pub save_fine : (f : ℕ) (names vs : List ℕ) (rest : List Word) (e : Register → ℕ) → Fine cold rest e → Fine cold (store_slots T f names vs ++ rest) e
@@ -84,7 +88,7 @@ module _ (T : Target) (heat : ℕ → Register → ℕ) where
 
   -- operands
 
-  fetch_one : (f up v : ℕ) (names : List ℕ) (rest : List Word) (e : Register → ℕ) → Fine cold rest e → Fine cold (load_slot T f up v (general_of T f names v) (branch_of T f names v) ++ (waits (in_flight T.machine 0 (load_slot T f up v (general_of T f names v) (branch_of T f names v))) ∷ rest)) e
+  fetch_one : (f up v : ℕ) (names : List ℕ) (rest : List Word) (e : Register → ℕ) → Fine cold rest e → Fine cold (load_slot T f up v (general_of T f names v) (branch_of T f names v) ++ (pause (in_flight T.machine 0 (load_slot T f up v (general_of T f names v) (branch_of T f names v))) ++ rest)) e
   fetch_one f up v names rest e more = by (holds_branch T f v)
     where
       Words : Bool → List Word
@@ -93,11 +97,15 @@ module _ (T : Target) (heat : ℕ → Register → ℕ) where
           then settled T (one (Load 0 answer (bytes (up + T.slot f v)) (stack_on 0) false) ∷ []) ++ one (Compute 0 (ToBranch Ne) (InBranch (record { cluster = 0; number = branch_of T f names v })) (Held answer) (Number (pos 0))) ∷ []
           else one (Load (home T f v) (general_of T f names v) (bytes (up + T.slot f v)) (stack_on (home T f v)) false) ∷ []
 
-      by : (b : Bool) → Fine cold (Words b ++ (waits (in_flight T.machine 0 (Words b)) ∷ rest)) e
+      by : (b : Bool) → Fine cold (Words b ++ (pause (in_flight T.machine 0 (Words b)) ++ rest)) e
       by true =
+          let first : Operation = Load 0 answer (bytes (up + T.slot f v)) (stack_on 0) false in
+          let test : Operation = Compute 0 (ToBranch Ne) (InBranch (record { cluster = 0; number = branch_of T f names v })) (Held answer) (Number (pos 0)) in
+          let n : ℕ = in_flight T.machine 0 (one first ∷ []) in
           let k : ℕ = in_flight T.machine 0 (Words true) in
-          settle (Load 0 answer (bytes (up + T.slot f v)) (stack_on 0) false ∷ []) (one (Compute 0 (ToBranch Ne) (InBranch (record { cluster = 0; number = branch_of T f names v })) (Held answer) (Number (pos 0))) ∷ waits k ∷ rest) e refl (λ q j. j)
-          (settle_in k (Compute 0 (ToBranch Ne) (InBranch (record { cluster = 0; number = branch_of T f names v })) (Held answer) (Number (pos 0)) ∷ []) rest e (omega arith) refl (λ q j. j) more)
+          let all : k ≡ max (n - n) (latest T.machine (test ∷ [])) - 1 = flight_append T.machine n (pause n) (one test ∷ []) ∙ ap (λ z. max z (latest T.machine (test ∷ [])) - 1) (flight_pause T.machine n n) in
+          subst (λ ws. Fine cold (one first ∷ ws) e) (sym (append_assoc (pause n) (one test ∷ []) (pause k ++ rest)))
+          (settle (first ∷ []) (one test ∷ (pause k ++ rest)) e refl (λ q j. j) (settle_in k (test ∷ []) rest e (omega arith) refl (λ q j. j) more))
       by false = settle (Load (home T f v) (general_of T f names v) (bytes (up + T.slot f v)) (stack_on (home T f v)) false ∷ []) rest e refl (λ q j. j) more
 
   pub fetch_fine : (f up : ℕ) (x : Operand) (rest : List Word) (e : Register → ℕ) → Fine cold rest e → Fine cold (fetch_words T f up x ++ rest) e
@@ -106,7 +114,7 @@ module _ (T : Target) (heat : ℕ → Register → ℕ) where
       by : (b : Bool) → Fine cold ((if b then settled T (load_slot T f up v (general_of T f (v ∷ []) v) (branch_of T f (v ∷ []) v)) else []) ++ rest) e
       by true =
           let words : List Word = load_slot T f up v (general_of T f (v ∷ []) v) (branch_of T f (v ∷ []) v) in
-          subst (λ ws. Fine cold ws e) (sym (append_assoc words (waits (in_flight T.machine 0 words) ∷ []) rest)) (fetch_one f up v (v ∷ []) rest e more)
+          subst (λ ws. Fine cold ws e) (sym (append_assoc words (pause (in_flight T.machine 0 words)) rest)) (fetch_one f up v (v ∷ []) rest e more)
       by false = more
   fetch_fine f up (AsNumber n) rest e more = more
   fetch_fine f up Stack rest e more = more
@@ -177,7 +185,7 @@ module _ (T : Target) (heat : ℕ → Register → ℕ) where
       (λ i. ⊎_elim (λ q. subst (λ y. lift k cold answered y ≡ 0) (sym q) refl) (λ z. absurd z) i)
       (λ i. ⊎_elim (λ q. subst (λ y. lift k cold answered y ≡ 0) (sym q) refl) (λ z. absurd z) i) t.0 in
       fetch_fine f 0 x (settled T (one move ∷ one load ∷ []) ++ w2) e
-      (word_fine T.machine heat 0 cold cold [] (move ∷ []) (one load ∷ waits n ∷ w2) e refl (stays 1 cold) (λ q r j. absurd j) (λ r t. refl)
-      (word_fine T.machine heat k cold cold answered (load ∷ []) (waits n ∷ w2) e refl (stays 1 cold) (λ q r j. absurd j) off
-      (wait_fine T.machine heat n n cold cold (InGeneral (general 0 3) ∷ answered) w2 e (omega arith) (stays (cycles_of (waits n)) cold)
+      (word_fine T.machine heat 0 cold cold [] (move ∷ []) (one load ∷ (pause n ++ w2)) e refl (stays 1 cold) (λ q r j. absurd j) (λ r t. refl)
+      (word_fine T.machine heat k cold cold answered (load ∷ []) (pause n ++ w2) e refl (stays 1 cold) (λ q r j. absurd j) off
+      (wait_fine T.machine heat n n cold cold (InGeneral (general 0 3) ∷ answered) w2 e (omega arith) (stays n cold)
       (settle (ToLink (Held (general 0 3)) ∷ []) w3 e refl (λ q j. j) (go_back_fine [] e (nothing_fine e))))))

@@ -1,5 +1,5 @@
 -- The steps by which words are put together: one cluster, word or function more.
-use Rattle.std.proofs.Common.{◌≡◌, ◌<◌, ℕ, zero, suc, ◌+◌, ◌-◌, subst, List, [], ◌∷◌, ◌++◌, length, map, refl, sym, ap, ◌∙◌, arith, append_assoc, length-append, append-nil}
+use Rattle.std.proofs.Common.{◌≡◌, ◌<◌, ℕ, zero, suc, ◌+◌, ◌-◌, ◌==◌, true, false, subst, List, [], ◌∷◌, ◌++◌, length, map, refl, sym, ap, ◌∙◌, arith, append_assoc, length-append, append-nil}
 use Rattle.vx_flow.specs.Walk.{numbers}
 use Rattle.vx_isa.specs.declared.operation.Operation.{Operation}
 use Rattle.vx_isa.specs.declared.program.Word.{Word}
@@ -7,7 +7,7 @@ use Rattle.vx_mixed.specs.declared.layout.VirtualWord.{VirtualWord}
 use Rattle.vx_frame.specs.declared.gathering.FunctionPlaces.{FunctionPlaces}
 use Rattle.vx_base.specs.declared.outcome.Trap.TheVariants.{Depth as ByDepth}
 use Rattle.vx_isa.specs.declared.operation.Operation.TheVariants.{EndByTrap}
-use Rattle.vx_frame.specs.Target.{Target, on_clusters, word_words, entry_words, start_words, one}
+use Rattle.vx_frame.specs.Target.{Target, on_clusters, word_words, entry_words, start_words, one, waits, pause}
 use Rattle.vx_frame.specs.Placed.{laid_pieces, landing_pieces, word_landings, function_pieces, functions_pieces, all_pieces, Labelled, Depth, words_of}
 use Rattle.vx_frame.specs.Placing.{starts_from, landings_from, mark_of, marks_from, laid_begin, landings_begin, places_at, all_places, functions_end}
 
@@ -143,3 +143,9 @@ program_words T main n started given ended a b c =
 
 pub trap_is : (T : Target) (main n k : ℕ) (started given : List Word) → started ≡ start_words T main → given ≡ started ++ words_of (functions_pieces T 0 n) → k ≡ length given → k ≡ functions_end T main n
 trap_is T main n k started given a b c = c ∙ ap length (b ∙ ap (λ z. z ++ words_of (functions_pieces T 0 n)) a) ∙ length-append (start_words T main) (words_of (functions_pieces T 0 n))
+
+-- pauses
+
+pub some_pause : (n : ℕ) → (n == 0) ≡ false → pause n ≡ waits n ∷ []
+some_pause zero e = let z : true ≡ false = e in cc
+some_pause (suc n) e = refl

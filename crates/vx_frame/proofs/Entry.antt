@@ -23,7 +23,7 @@ use Rattle.vx_mixed.specs.LaidSettled.{bank_in}
 use Rattle.vx_regs.specs.Intervals.{IsLive, is_live}
 use Rattle.vx_regs.specs.declared.map.Kept.{Kept}
 use Rattle.vx_regs.specs.declared.map.Kept.TheVariants.{InRegister}
-use Rattle.vx_frame.specs.Target.{Target, general, stack_on, kept, is_slotted, is_branch, parameters_of, holds_branch, register_of, one, waits, in_flight, reload_words, entry_words, memory_words}
+use Rattle.vx_frame.specs.Target.{Target, general, stack_on, kept, is_slotted, is_branch, parameters_of, holds_branch, register_of, one, pause, in_flight, reload_words, entry_words, memory_words}
 use Rattle.vx_frame.specs.Tied.{Tied, AtEntry, Arrays, Below, begins_at, Shows, holds, is_place, moved, word_at}
 use Rattle.vx_frame.specs.Carried.{Carries, IsFunctionOf, is_passed, Arrives}
 use Rattle.vx_frame.specs.Planned.{CarriesOn, EntryLaw}
@@ -33,7 +33,7 @@ use Rattle.vx_frame.proofs.Names.{in_register, apart_registers, not_zero, not_ge
 use Rattle.vx_frame.proofs.Live.{live_bank}
 use Rattle.vx_frame.proofs.Enough.{some_cluster}
 use Rattle.vx_frame.proofs.Frames.{get_below, get_in, frame_room, link_free, global_row, below_keep}
-use Rattle.vx_frame.proofs.Steps.{Stands, stands_left, stands_right, Quiet, quiet_on, Forth, comes_on, forth_on, forth_comes, Set, set_step, Passed, wait_step, goto_step, Kept as Kept_word, store_step}
+use Rattle.vx_frame.proofs.Steps.{Stands, stands_left, stands_right, Quiet, quiet_on, Forth, comes_on, forth_on, forth_comes, Set, set_step, Passed, Paused, pause_step, goto_step, Kept as Kept_word, store_step}
 use Rattle.vx_frame.proofs.Slots.{Usable, Loaded, before_case, as_read, number_in, stack_no_answer}
 use Rattle.vx_frame.proofs.Stands.{entry_stands}
 use Rattle.vx_frame.proofs.Word.{own_name}
@@ -147,31 +147,37 @@ module _ (T : Target) (flow : Flow) (ls : List VWords) (w : WordProgram) (sound 
   abbrev Pause : ℕ
   Pause = in_flight T.machine 0 (one (FromLink (general 0 3)) ∷ [])
 
-  paused : Passed T.machine w fit A (A.place + 1)
-  paused = wait_step T.machine w fit A Pause linked.quiet.calm (subst (λ q. slice_get w.words q ≡ Some (waits Pause)) (sym linked.place) stands.1.0)
+  abbrev Keep : Word
+  Keep = one (Store 0 (pos 0) (stack_on 0) (Held (general 0 3)))
+
+  abbrev Late : List Word
+  Late = pause Pause
+
+  paused : Paused T.machine w fit A (A.place + length Late)
+  paused = pause_step T.machine w fit A Pause linked.quiet.calm (subst (λ q. Stands w.words q Late) (sym linked.place) (stands_left w.words (u.place + 1) Late (Keep ∷ Tail) stands.1))
+
+  kept_on : Stands w.words ((u.place + 1) + length Late) (Keep ∷ Tail)
+  kept_on = stands_right w.words (u.place + 1) Late (Keep ∷ Tail) stands.1
 
   abbrev B : State
   B = paused.to
 
-  place_b : B.place ≡ (u.place + 1) + 1
+  place_b : B.place ≡ (u.place + 1) + length Late
   place_b = let x = paused.place in let y = linked.place in omega arith
 
   stack_b : (k : ℕ) → k < T.machine.clusters → register B (General (stack_on k)) ≡ pos (4 * Sp)
   stack_b k lt = ap (λ g. seen g (General (stack_on k))) paused.registers ∙ linked.others (General (stack_on k)) (scratch_no_stack k) ∙ tied.stack k lt
 
-  abbrev Keep : Word
-  Keep = one (Store 0 (pos 0) (stack_on 0) (Held (general 0 3)))
-
   first_inside : Sp + 0 < memory_words T
   first_inside = let x = room in let y = carries.some_frame in omega arith
 
   put_link : Kept_word T.machine w fit (memory_words T) carries.memory small B (Sp + 0) (register B (General (general 0 3)))
-  put_link = store_step T.machine w fit (memory_words T) carries.memory small B 0 (stack_on 0) (Held (general 0 3)) Sp 0 paused.quiet.calm (subst (λ q. slice_get w.words q ≡ Some Keep) (sym place_b) stands.1.1.0) (stack_b 0 some) first_inside
+  put_link = store_step T.machine w fit (memory_words T) carries.memory small B 0 (stack_on 0) (Held (general 0 3)) Sp 0 paused.quiet.calm (subst (λ q. slice_get w.words q ≡ Some Keep) (sym place_b) kept_on.0) (stack_b 0 some) first_inside
 
   abbrev C : State
   C = put_link.to
 
-  place_c : C.place ≡ ((u.place + 1) + 1) + 1
+  place_c : C.place ≡ ((u.place + 1) + length Late) + 1
   place_c = let x = put_link.place in let y = place_b in omega arith
 
   stack_c : (k : ℕ) → k < T.machine.clusters → register C (General (stack_on k)) ≡ pos (4 * Sp)
@@ -184,7 +190,7 @@ module _ (T : Target) (flow : Flow) (ls : List VWords) (w : WordProgram) (sound 
   Jump = one (Goto (T.starts F Entry))
 
   tail : Stands w.words C.place (Loads ++ Jump ∷ [])
-  tail = subst (λ q. Stands w.words q (Loads ++ Jump ∷ [])) (sym place_c) stands.1.1.1
+  tail = subst (λ q. Stands w.words q (Loads ++ Jump ∷ [])) (sym place_c) kept_on.1
 
   loaded : Loaded T.machine w fit T F Sp carries.memory small some Brought C Brought (length Loads)
   loaded = before_case T.machine w fit T F Sp carries.memory small some Brought Brought C put_link.quiet.calm (stands_left w.words C.place Loads (Jump ∷ []) tail) stack_c usable (λ v i. passed_inside v (arrives v i).passed) apart_brought
@@ -205,7 +211,7 @@ module _ (T : Target) (flow : Flow) (ls : List VWords) (w : WordProgram) (sound 
   same_registers = jumped.registers
 
   forth_all : Forth T.machine w fit u G
-  forth_all = forth_on T.machine w fit u A G linked.forth (comes_on T.machine w fit A B G (forth_comes T.machine w fit A B paused.forth) (comes_on T.machine w fit B C G (forth_comes T.machine w fit B C put_link.forth)
+  forth_all = forth_on T.machine w fit u A G linked.forth (comes_on T.machine w fit A B G paused.comes (comes_on T.machine w fit B C G (forth_comes T.machine w fit B C put_link.forth)
       (comes_on T.machine w fit C D G loaded.comes (forth_comes T.machine w fit D G jumped.forth))))
 
   quiet_all : Quiet u G

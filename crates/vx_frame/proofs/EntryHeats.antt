@@ -14,7 +14,7 @@ use Rattle.vx_machine.specs.Items.{latency_of_op}
 use Rattle.vx_mixed.specs.LaidSettled.{bank_in}
 use Rattle.vx_mixed.specs.Settled.{NoTwice}
 use Rattle.vx_regs.specs.Intervals.{IsBusy, is_live}
-use Rattle.vx_frame.specs.Target.{Target, general, kept, is_slotted, stack_on, one, waits, in_flight, load_slots, reload_words, result_words, entry_words, call_words, back_words, bytes}
+use Rattle.vx_frame.specs.Target.{Target, general, kept, is_slotted, stack_on, one, pause, in_flight, load_slots, reload_words, result_words, entry_words, call_words, back_words, bytes}
 use Rattle.vx_frame.specs.Carried.{IsMapped, IsSaved, CallsAt}
 use Rattle.vx_frame.proofs.Names.{not_general, apart_registers}
 use Rattle.vx_frame.proofs.Live.{live_bank}
@@ -42,7 +42,7 @@ module _ (T : Target) (heat : ℕ → Register → ℕ) (f : ℕ) (mapped : IsMa
 
   reload_fine : (p : ℕ) (vs : List ℕ) (rest : List Word) (e : Register → ℕ) → ((v : ℕ) → IsIn v vs → Here p v) → NoTwice vs → F cold rest e → F cold (reload_words T f vs ++ rest) e
   reload_fine p [] rest e h once more = more
-  reload_fine p (v ∷ vs) rest e h once more = subst (λ ws. F cold ws e) (sym (append_assoc (load_slots T f (v ∷ vs) (v ∷ vs)) (waits (in_flight T.machine 0 (load_slots T f (v ∷ vs) (v ∷ vs))) ∷ []) rest))
+  reload_fine p (v ∷ vs) rest e h once more = subst (λ ws. F cold ws e) (sym (append_assoc (load_slots T f (v ∷ vs) (v ∷ vs)) (pause (in_flight T.machine 0 (load_slots T f (v ∷ vs) (v ∷ vs)))) rest))
       (loads_fine T heat f (v ∷ vs) cold (kept_names p (v ∷ vs) h) 0 [] (v ∷ vs) rest e (λ u i. absurd i) (λ u i. i) (λ u i j. j) once more)
 
   brought : (v : ℕ) → IsIn v (T.brought f) → Here (T.layout f).entry v

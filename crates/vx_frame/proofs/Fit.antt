@@ -25,6 +25,7 @@ use Rattle.vx_isa.specs.declared.operation.GeneralRegister.{GeneralRegister}
 use Rattle.vx_isa.specs.declared.operation.Register.{Register}
 use Rattle.vx_isa.specs.declared.operation.Register.TheVariants.{General as InGeneral, Branch as InBranch}
 use Rattle.vx_isa.specs.declared.operation.Source.TheVariants.{Held, Number}
+use Rattle.vx_isa.specs.declared.operation.Operation.{Operation}
 use Rattle.vx_isa.specs.declared.operation.Operation.TheVariants.{Compute, Move, Select, Load, Store, Goto, BranchOn, Call, Return, FromLink, ToLink, EndByTrap, Halt}
 use Rattle.vx_isa.specs.declared.program.Word.{Word}
 use Rattle.vx_isa.specs.declared.program.WordProgram.{WordProgram}
@@ -41,7 +42,7 @@ use Rattle.vx_mixed.specs.declared.layout.VirtualWord.TheVariants.{Planned, Drai
 use Rattle.vx_mixed.specs.declared.layout.VWords.{VWords}
 use Rattle.vx_mixed.specs.LaidSettled.{bank_in, laid_reads, laid_writes, Plans}
 use Rattle.vx_regs.specs.Intervals.{IsBusy, is_live, is_named, word_reads, word_writes}
-use Rattle.vx_frame.specs.Target.{Target, answer, general, general_of, branch_of, stack_on, home, holds_branch, is_branch, is_slotted, kept, slotted, parameters_of, one, waits, in_flight, settled, slots_in_flight, load_slot, store_slot, load_slots, store_slots, if_some, once, before, behind, plan_word, plan_words, landing_words, move_stack, save_words, reload_words, fetch_words, fetched, cluster_of_operand, argument_words, result_words, call_words, back_words, return_words, entry_words, word_words, start_words, bytes, first_frame}
+use Rattle.vx_frame.specs.Target.{Target, answer, general, general_of, branch_of, stack_on, home, holds_branch, is_branch, is_slotted, kept, slotted, parameters_of, one, waits, pause, in_flight, settled, on_clusters, set_stack, slots_in_flight, load_slot, store_slot, load_slots, store_slots, if_some, once, before, behind, plan_word, plan_words, landing_words, move_stack, save_words, reload_words, fetch_words, fetched, cluster_of_operand, argument_words, result_words, call_words, back_words, return_words, entry_words, word_words, start_words, bytes, first_frame}
 use Rattle.vx_frame.specs.Placed.{Depth, Labelled, laid_pieces, landing_of, item_landings, word_landings, landing_pieces, function_pieces, functions_pieces, all_pieces, words_of}
 use Rattle.vx_frame.specs.Carried.{Carries, IsFunctionOf, IsMapped, item_of_laid}
 use Rattle.vx_frame.specs.Fitted.{FitLaw}
@@ -122,8 +123,16 @@ module _ (T : Target) (flow : Flow) (ls : List VWords) (w : WordProgram) (sound 
   idle : Good M []
   idle = empty_good M carries.machine l
 
+  pause_good : (n : ℕ) → Words (pause n)
+  pause_good zero = tt
+  pause_good (suc n) = wait_good (suc n)
+
   settled_good : (ws : List Word) → Words ws → Words (settled T ws)
-  settled_good ws h = let n = in_flight M 0 ws in good_append M ws (waits n ∷ []) h (wait_good n)
+  settled_good ws h = let n = in_flight M 0 ws in good_append M ws (pause n) h (pause_good n)
+
+  -- a word of one operation, a pause, and what follows
+  one_settled : (op : Operation) (ws : List Word) → Good M (op ∷ []) → Words ws → Words (settled T (one op ∷ []) ++ ws)
+  one_settled op ws g h = good_append M (settled T (one op ∷ [])) ws (settled_good (one op ∷ []) (g, tt)) h
 
   load_good : (to : GeneralRegister) (o : ℤ) → to.cluster < M.clusters → InFile (InGeneral to) → Good M (Load to.cluster to o (stack_on to.cluster) false ∷ [])
   load_good to o lt h = one_good M carries.machine l (Load to.cluster to o (stack_on to.cluster) false) lt (both_true (eqb_self to.cluster) (both_true (eqb_self to.cluster) refl)) (both_true (own to.cluster 1 (omega arith) lt) refl) (both_true h refl)
@@ -148,7 +157,10 @@ module _ (T : Target) (flow : Flow) (ls : List VWords) (w : WordProgram) (sound 
       by : (b : Bool) → holds_branch T f v ≡ b → Words (if b
           then settled T (one (Load 0 answer (bytes (up + T.slot f v)) (stack_on 0) false) ∷ []) ++ one (Compute 0 (ToBranch Ne) (InBranch (record { cluster = 0; number = branch_of T f names v })) (Held answer) (Number (pos 0))) ∷ []
           else one (Load (home T f v) (general_of T f names v) (bytes (up + T.slot f v)) (stack_on (home T f v)) false) ∷ [])
-      by true e = (load_good answer (bytes (up + T.slot f v)) first (own 0 2 (omega arith) first), (idle, (one_good M carries.machine l (Compute 0 (ToBranch Ne) (InBranch (record { cluster = 0; number = branch_of T f names v })) (Held answer) (Number (pos 0))) first refl (both_true (own 0 2 (omega arith) first) refl) (both_true (h.0 e) refl), tt)))
+      by true e =
+          let test : Operation = Compute 0 (ToBranch Ne) (InBranch (record { cluster = 0; number = branch_of T f names v })) (Held answer) (Number (pos 0)) in
+          one_settled (Load 0 answer (bytes (up + T.slot f v)) (stack_on 0) false) (one test ∷ []) (load_good answer (bytes (up + T.slot f v)) first (own 0 2 (omega arith) first))
+          (one_good M carries.machine l test first refl (both_true (own 0 2 (omega arith) first) refl) (both_true (h.0 e) refl), tt)
       by false e = (load_good (general_of T f names v) (bytes (up + T.slot f v)) h.2 (h.1 e), tt)
 
   store_slot_good : (f v : ℕ) (names : List ℕ) → Named f names v → Words (store_slot T f v (general_of T f names v) (branch_of T f names v))
@@ -157,7 +169,10 @@ module _ (T : Target) (flow : Flow) (ls : List VWords) (w : WordProgram) (sound 
       by : (b : Bool) → holds_branch T f v ≡ b → Words (if b
           then settled T (one (Select 0 answer (record { cluster = 0; number = branch_of T f names v }) (Number (pos 1)) (Number (pos 0))) ∷ []) ++ one (Store 0 (bytes (T.slot f v)) (stack_on 0) (Held answer)) ∷ []
           else one (Store (home T f v) (bytes (T.slot f v)) (stack_on (home T f v)) (Held (general_of T f names v))) ∷ [])
-      by true e = (one_good M carries.machine l (Select 0 answer (record { cluster = 0; number = branch_of T f names v }) (Number (pos 1)) (Number (pos 0))) first refl (both_true (h.0 e) refl) (both_true (own 0 2 (omega arith) first) refl), (idle, (store_good answer (bytes (T.slot f v)) first (own 0 2 (omega arith) first), tt)))
+      by true e =
+          let pick : Operation = Select 0 answer (record { cluster = 0; number = branch_of T f names v }) (Number (pos 1)) (Number (pos 0)) in
+          one_settled pick (one (Store 0 (bytes (T.slot f v)) (stack_on 0) (Held answer)) ∷ []) (one_good M carries.machine l pick first refl (both_true (h.0 e) refl) (both_true (own 0 2 (omega arith) first) refl))
+          (store_good answer (bytes (T.slot f v)) first (own 0 2 (omega arith) first), tt)
       by false e = (store_good (general_of T f names v) (bytes (T.slot f v)) h.2 (h.1 e), tt)
 
   load_slots_good : (f : ℕ) (names vs : List ℕ) → ((v : ℕ) → IsIn v vs → Named f names v) → Words (load_slots T f names vs)
@@ -174,7 +189,8 @@ module _ (T : Target) (flow : Flow) (ls : List VWords) (w : WordProgram) (sound 
   behind_good : (f : ℕ) (items : List Laid) → ((v : ℕ) → IsIn v (laid_writes items) → Named f (laid_writes items) v) → Words (behind T f items)
   behind_good f items h =
       let ws = laid_writes items in
-      some_good M (slotted T f ws) (waits (slots_in_flight T f items) ∷ store_slots T f ws (slotted T f ws)) (idle, store_slots_good f ws (slotted T f ws) (λ v i. h v (slotted_from T f v ws i).0))
+      some_good M (slotted T f ws) (pause (slots_in_flight T f items) ++ store_slots T f ws (slotted T f ws))
+      (good_append M (pause (slots_in_flight T f items)) (store_slots T f ws (slotted T f ws)) (pause_good (slots_in_flight T f items)) (store_slots_good f ws (slotted T f ws) (λ v i. h v (slotted_from T f v ws i).0)))
 
   -- an operation on each cluster
 
@@ -182,18 +198,18 @@ module _ (T : Target) (flow : Flow) (ls : List VWords) (w : WordProgram) (sound 
   off_port k i n ne = count_none (takes_read_port k) (InGeneral (stack_on i)) (ap (λ b. b && true && true) (ne_eqb i k ne))
 
   move_stack_good : (z : ℤ) → Words (move_stack T z)
-  move_stack_good z = (
+  move_stack_good z = settled_good (record { ops = on_clusters M.clusters (λ k. Compute k Add (InGeneral (stack_on k)) (Held (stack_on k)) (Number z)); idle = 0 } ∷ []) (
     spread_good (λ k. Compute k Add (InGeneral (stack_on k)) (Held (stack_on k)) (Number z)) (λ k. refl) M carries.machine l (λ k. refl) (λ k i ne. off_port k i 0 ne)
         (λ k. both_true (eqb_self k) (both_true (eqb_self k) refl)) (λ k. refl) (λ k. refl) (λ k. refl) (λ k i. count_single (takes_read_port k) (InGeneral (stack_on i))) (λ k lt. both_true (own k 1 (omega arith) lt) refl),
-    (idle, tt),
+    tt,
   )
 
   start_good : (main : ℕ) → Words (start_words T main)
-  start_good main = (
+  start_good main = good_append M (set_stack T) (one (Call (T.entry main)) ∷ one (Halt (Held answer)) ∷ []) (settled_good (record { ops = on_clusters M.clusters (λ k. Move k (stack_on k) (Number (bytes (first_frame T)))); idle = 0 } ∷ []) (
     spread_good (λ k. Move k (stack_on k) (Number (bytes (first_frame T)))) (λ k. refl) M carries.machine l (λ k. refl) (λ k i ne. refl)
         (λ k. eqb_self k) (λ k. refl) (λ k. refl) (λ k. refl) (λ k i. (let q : count_by (takes_read_port k) [] ≡ 0 = refl in omega arith)) (λ k lt. refl),
-    (idle, (one_good M carries.machine l (Call (T.entry main)) first refl refl refl, (one_good M carries.machine l (Halt (Held answer)) first refl (both_true (own 0 2 (omega arith) first) refl) refl, tt))),
-  )
+    tt,
+  )) (one_good M carries.machine l (Call (T.entry main)) first refl refl refl, (one_good M carries.machine l (Halt (Held answer)) first refl (both_true (own 0 2 (omega arith) first) refl) refl, tt))
 
   -- functions
 
@@ -270,7 +286,7 @@ module _ (T : Target) (flow : Flow) (ls : List VWords) (w : WordProgram) (sound 
       where
         by : (b : Bool) → Words (if b then one (Store 0 (bytes (T.slot f v)) (stack_on 0) (Held answer)) ∷ [] else settled T (one (Move (home T f v) (general_of T f (v ∷ []) v) (Held answer)) ∷ []))
         by true = (store_good answer (bytes (T.slot f v)) first (own 0 2 (omega arith) first), tt)
-        by false = let a = h v refl in (one_good M carries.machine l (Move (home T f v) (general_of T f (v ∷ []) v) (Held answer)) a.0.2 (eqb_self (home T f v)) (both_true (own 0 2 (omega arith) first) refl) (both_true (a.0.1 a.1) refl), (idle, tt))
+        by false = let a = h v refl in settled_good (one (Move (home T f v) (general_of T f (v ∷ []) v) (Held answer)) ∷ []) (one_good M carries.machine l (Move (home T f v) (general_of T f (v ∷ []) v) (Held answer)) a.0.2 (eqb_self (home T f v)) (both_true (own 0 2 (omega arith) first) refl) (both_true (a.0.1 a.1) refl), tt)
 
     move_answer : (x : Operand) → Fetches x → Good M (Move 0 answer (fetched T f x) ∷ [])
     move_answer (HeldValue v) h = one_good M carries.machine l (Move 0 answer (Held (general_of T f (v ∷ []) v))) first refl (both_true (h.0.1 h.1) refl) (both_true (own 0 2 (omega arith) first) refl)
@@ -279,18 +295,15 @@ module _ (T : Target) (flow : Flow) (ls : List VWords) (w : WordProgram) (sound 
 
     call_good : (p g : ℕ) (xs : List Operand) → ((v : ℕ) → IsIn v (T.saved f p) → Named f (T.saved f p) v) → ((x : Operand) → IsIn x xs → Fetches x) → Words (call_words T f p g xs)
     call_good p g xs saved h =
-        good_append M (save_words T f (T.saved f p)) (settled T (one (Compute 0 (ToBranch Ltu) (InBranch (record { cluster = 0; number = 0 })) (Held (stack_on 0)) (Number (bytes (T.globals + T.frame)))) ∷ []) ++ one (BranchOn 0 true T.depth_trap) ∷ (move_stack T (neg_ℤ (bytes T.frame)) ++ (argument_words T f g (parameters_of T g) xs ++ one (Call (T.entry g)) ∷ [])))
-        (save_good (T.saved f p) saved) (
-          one_good M carries.machine l (Compute 0 (ToBranch Ltu) (InBranch (record { cluster = 0; number = 0 })) (Held (stack_on 0)) (Number (bytes (T.globals + T.frame)))) first refl (both_true (own 0 1 (omega arith) first) refl) (both_true first_branch refl),
-          (
-            idle,
-            (
-              one_good M carries.machine l (BranchOn 0 true T.depth_trap) first refl (both_true first_branch refl) refl,
-              good_append M (move_stack T (neg_ℤ (bytes T.frame))) (argument_words T f g (parameters_of T g) xs ++ one (Call (T.entry g)) ∷ []) (move_stack_good (neg_ℤ (bytes T.frame)))
-                  (good_append M (argument_words T f g (parameters_of T g) xs) (one (Call (T.entry g)) ∷ []) (arguments_good g (parameters_of T g) xs h) (one_good M carries.machine l (Call (T.entry g)) first refl refl refl, tt)),
-            ),
-          ),
-        )
+        let test : Operation = Compute 0 (ToBranch Ltu) (InBranch (record { cluster = 0; number = 0 })) (Held (stack_on 0)) (Number (bytes (T.globals + T.frame))) in
+        let down : List Word = move_stack T (neg_ℤ (bytes T.frame)) in
+        let passes : List Word = argument_words T f g (parameters_of T g) xs in
+        let calls : List Word = one (Call (T.entry g)) ∷ [] in
+        let branches : List Word = one (BranchOn 0 true T.depth_trap) ∷ (down ++ (passes ++ calls)) in
+        let passed : Words (passes ++ calls) = good_append M passes calls (arguments_good g (parameters_of T g) xs h) (one_good M carries.machine l (Call (T.entry g)) first refl refl refl, tt) in
+        let branched : Words branches = (one_good M carries.machine l (BranchOn 0 true T.depth_trap) first refl (both_true first_branch refl) refl, good_append M down (passes ++ calls) (move_stack_good (neg_ℤ (bytes T.frame))) passed) in
+        good_append M (save_words T f (T.saved f p)) (settled T (one test ∷ []) ++ branches) (save_good (T.saved f p) saved)
+        (one_settled test branches (one_good M carries.machine l test first refl (both_true (own 0 1 (omega arith) first) refl) (both_true first_branch refl)) branched)
 
     back_good : (p : ℕ) (result : Option ℕ) → ((v : ℕ) → IsIn v (T.saved f p) → Named f (T.saved f p) v) → ((v : ℕ) → result ≡ Some v → Named f (v ∷ []) v × (holds_branch T f v ≡ false)) → Words (back_words T f p result)
     back_good p result saved h =
@@ -299,31 +312,22 @@ module _ (T : Target) (flow : Flow) (ls : List VWords) (w : WordProgram) (sound 
 
     return_good : (x : Operand) → Fetches x → Words (return_words T f x)
     return_good x h =
-        good_append M (fetch_words T f 0 x) (settled T (one (Move 0 answer (fetched T f x)) ∷ one (Load 0 (general 0 3) (pos 0) (stack_on 0) false) ∷ []) ++ (settled T (one (ToLink (Held (general 0 3))) ∷ []) ++ one Return ∷ [])) (fetch_good 0 x h) (
-          move_answer x h,
-          (
-            load_good (general 0 3) (pos 0) first (own 0 3 (omega arith) first),
-            (
-              idle,
-              (
-                one_good M carries.machine l (ToLink (Held (general 0 3))) first refl (both_true (own 0 3 (omega arith) first) refl) refl,
-                (idle, (one_good M carries.machine l Return first refl refl refl, tt)),
-              ),
-            ),
-          ),
-        )
+        let move : Operation = Move 0 answer (fetched T f x) in
+        let load : Operation = Load 0 (general 0 3) (pos 0) (stack_on 0) false in
+        let link : Operation = ToLink (Held (general 0 3)) in
+        let loads : List Word = one move ∷ one load ∷ [] in
+        let links : List Word = settled T (one link ∷ []) ++ one Return ∷ [] in
+        let loaded : Words (settled T loads) = settled_good loads (move_answer x h, (load_good (general 0 3) (pos 0) first (own 0 3 (omega arith) first), tt)) in
+        let linked : Words links = one_settled link (one Return ∷ []) (one_good M carries.machine l link first refl (both_true (own 0 3 (omega arith) first) refl) refl) (one_good M carries.machine l Return first refl refl refl, tt) in
+        good_append M (fetch_words T f 0 x) (settled T loads ++ links) (fetch_good 0 x h) (good_append M (settled T loads) links loaded linked)
 
     entry_good : Words (entry_words T f)
-    entry_good = (
-      one_good M carries.machine l (FromLink (general 0 3)) first refl refl (both_true (own 0 3 (omega arith) first) refl),
-      (
-        idle,
-        (
-          store_good (general 0 3) (pos 0) first (own 0 3 (omega arith) first),
-          good_append M (reload_words T f (T.brought f)) (one (Goto (T.starts f (T.layout f).entry)) ∷ []) (reload_good (T.brought f) (kept_named (T.brought f) arrives)) (goto_good (T.starts f (T.layout f).entry), tt),
-        ),
-      ),
-    )
+    entry_good =
+        let link : Operation = FromLink (general 0 3) in
+        let goes : List Word = one (Goto (T.starts f (T.layout f).entry)) ∷ [] in
+        let rest : List Word = one (Store 0 (pos 0) (stack_on 0) (Held (general 0 3))) ∷ (reload_words T f (T.brought f) ++ goes) in
+        one_settled link rest (one_good M carries.machine l link first refl refl (both_true (own 0 3 (omega arith) first) refl))
+        (store_good (general 0 3) (pos 0) first (own 0 3 (omega arith) first), good_append M (reload_words T f (T.brought f)) goes (reload_good (T.brought f) (kept_named (T.brought f) arrives)) (goto_good (T.starts f (T.layout f).entry), tt))
       where
         arrives : (v : ℕ) → IsIn v (T.brought f) → (p : ℕ) × Busy p v × Banked v × (is_slotted (kept T f v) ≡ false)
         arrives v i = let a = of.saved.brought v i in ((T.layout f).entry, is_live a.live, live_bank T f mapped graph_sound (T.layout f).entry v a.live, ap is_slotted a.register)

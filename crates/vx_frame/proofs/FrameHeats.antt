@@ -29,7 +29,7 @@ use Rattle.vx_mixed.specs.declared.layout.VirtualWord.TheVariants.{Planned, Drai
 use Rattle.vx_mixed.specs.declared.layout.VWords.{VWords}
 use Rattle.vx_mixed.specs.LaidSettled.{laid_reads, laid_writes, LeadsTo, LeavesCold}
 use Rattle.vx_regs.specs.Intervals.{word_writes}
-use Rattle.vx_frame.specs.Target.{Target, slotted, register_of, branch_of, stack_on, general, answer, fetched, bytes, parameters_of, leads, before, behind, plan_word, plan_words, landing_words, choice_words, save_words, move_stack, argument_words, call_words, back_words, return_words, fetch_words, entry_words, start_words, word_words, one, waits, in_flight, settled, slots_in_flight}
+use Rattle.vx_frame.specs.Target.{Target, slotted, register_of, branch_of, stack_on, general, answer, fetched, bytes, parameters_of, leads, before, behind, plan_word, plan_words, landing_words, choice_words, save_words, move_stack, argument_words, call_words, back_words, return_words, fetch_words, entry_words, start_words, word_words, one, waits, pause, in_flight, settled, slots_in_flight}
 use Rattle.vx_frame.specs.Placed.{Label, Start, Entry, At, Landing, Depth, Labelled, laid_pieces, landing_of, item_landings, word_landings, landing_pieces, function_pieces, functions_pieces, all_pieces}
 use Rattle.vx_frame.specs.Carried.{Carries, IsMapped, FrameLaw}
 use Rattle.vx_frame.specs.Fitted.{FitLaw}
@@ -60,8 +60,10 @@ first_before [] ys h = absurd (let e = h.2 in cc)
 first_before (x ∷ xs) ys h = (x, xs ++ ys, refl)
 
 some_call : (T : Target) (f p g : ℕ) (arguments : List Operand) → HasFirst (call_words T f p g arguments)
-some_call T f p g arguments = first_behind (save_words T f (T.saved f p)) (one (Compute 0 (ToBranch Ltu) (InBranch (record { cluster = 0; number = 0 })) (Held (stack_on 0)) (Number (bytes (T.globals + T.frame)))))
-    (waits (in_flight T.machine 0 (one (Compute 0 (ToBranch Ltu) (InBranch (record { cluster = 0; number = 0 })) (Held (stack_on 0)) (Number (bytes (T.globals + T.frame)))) ∷ [])) ∷ one (BranchOn 0 true T.depth_trap) ∷ (move_stack T (neg_ℤ (bytes T.frame)) ++ (argument_words T f g (parameters_of T g) arguments ++ one (Call (T.entry g)) ∷ [])))
+some_call T f p g arguments =
+    let test : Word = one (Compute 0 (ToBranch Ltu) (InBranch (record { cluster = 0; number = 0 })) (Held (stack_on 0)) (Number (bytes (T.globals + T.frame)))) in
+    let rest : List Word = one (BranchOn 0 true T.depth_trap) ∷ (move_stack T (neg_ℤ (bytes T.frame)) ++ (argument_words T f g (parameters_of T g) arguments ++ one (Call (T.entry g)) ∷ [])) in
+    first_behind (save_words T f (T.saved f p)) test (pause (in_flight T.machine 0 (test ∷ [])) ++ rest)
 
 some_word : (T : Target) (f p : ℕ) (word : VirtualWord) → HasFirst (word_words T f p word)
 some_word T f p (Planned rg wd items) = first_behind (before T f (laid_reads items)) (plan_word T f p items) (behind T f items)
@@ -69,7 +71,10 @@ some_word T f p (Drain n) = (waits n, [], refl)
 some_word T f p (Transfer q) = (one (Goto (T.starts f q)), [], refl)
 some_word T f p (Choice test q) = first_behind (before T f (test ∷ [])) (one (BranchOn (branch_of T f (test ∷ []) test) true (T.starts f q))) []
 some_word T f p (Calls g arguments result) = first_before (call_words T f p g arguments) (back_words T f p result) (some_call T f p g arguments)
-some_word T f p (Returns x) = first_behind (fetch_words T f 0 x) (one (Move 0 answer (fetched T f x))) (one (Load 0 (general 0 3) (pos 0) (stack_on 0) false) ∷ waits (in_flight T.machine 0 (one (Move 0 answer (fetched T f x)) ∷ one (Load 0 (general 0 3) (pos 0) (stack_on 0) false) ∷ [])) ∷ (settled T (one (ToLink (Held (general 0 3))) ∷ []) ++ one Return ∷ []))
+some_word T f p (Returns x) =
+    let move : Word = one (Move 0 answer (fetched T f x)) in
+    let load : Word = one (Load 0 (general 0 3) (pos 0) (stack_on 0) false) in
+    first_behind (fetch_words T f 0 x) move (load ∷ (pause (in_flight T.machine 0 (move ∷ load ∷ [])) ++ (settled T (one (ToLink (Held (general 0 3))) ∷ []) ++ one Return ∷ [])))
 some_word T f p (Ends k) = (one (EndByTrap k), [], refl)
 
 get_beyond : {A : Type 0} (xs : List A) (i : ℕ) → length xs ≤ i → slice_get xs i ≡ None

@@ -1,5 +1,5 @@
 -- Words after which some registers may be in flight, and words that wait until all has landed.
-use Rattle.std.proofs.Common.{◌≡◌, ◌≤◌, ◌⊎◌, inl, inr, ⊎_elim, ◌+◌, ◌-◌, ℕ, Bool, true, false, ◌||◌, cond, Option, Some, None, List, [], ◌∷◌, ◌++◌, refl, sym, ap, ◌∙◌, arith}
+use Rattle.std.proofs.Common.{◌≡◌, ◌≤◌, ◌⊎◌, inl, inr, ⊎_elim, ◌+◌, ◌-◌, ℕ, zero, suc, Bool, true, false, ◌||◌, cond, Option, Some, None, List, [], ◌∷◌, ◌++◌, refl, sym, ap, ◌∙◌, arith}
 use Rattle.std.specs.Prelude.{max}
 use Rattle.std.specs.List.{list_any}
 use Rattle.vx_base.proofs.Pieces.{Hit, raised, cold, Fine, fine_less}
@@ -9,10 +9,9 @@ use Rattle.vx_isa.specs.declared.program.Word.{Word}
 use Rattle.vx_isa.specs.Numbers.{Numbers}
 use Rattle.vx_isa.specs.Operations.{same, list_of, destination_of, is_call, latency_of}
 use Rattle.vx_isa.specs.Fits.{destinations}
-use Rattle.vx_isa.specs.Machine.{cycles_of}
 use Rattle.vx_isa.specs.Paths.{Among}
 use Rattle.vx_isa.proofs.AnyTiming.{tells}
-use Rattle.vx_frame.specs.Target.{latest, waits}
+use Rattle.vx_frame.specs.Target.{latest, pause}
 use Rattle.vx_frame.proofs.Early.{falls, Jumps, hit_of, hits, Touches, words_kind, words_cool}
 
 -- some registers may need up to n cycles more
@@ -142,11 +141,12 @@ module _ (m : Numbers) (heat : ℕ → Register → ℕ) where
   )
 
   -- after a pause that is long enough they have landed
-  pub wait_fine : (n k : ℕ) (h b : Register → ℕ) (rs : List Register) (rest : List Word) (e : Register → ℕ) → n ≤ k → Cooled (cycles_of (waits k)) h b → FineWords b rest e → FineWords (lift n h rs) (waits k ∷ rest) e
-  wait_fine n k h b rs rest e long cool f = (
+  pub wait_fine : (n k : ℕ) (h b : Register → ℕ) (rs : List Register) (rest : List Word) (e : Register → ℕ) → n ≤ k → Cooled k h b → FineWords b rest e → FineWords (lift n h rs) (pause k ++ rest) e
+  wait_fine n zero h b rs rest e long cool f = fine_less (words_kind m) (words_cool m) heat (lift n h rs) b e rest (λ r. (let a = lift_most n h rs r in let c = cool r in omega arith)) f
+  wait_fine n (suc k) h b rs rest e long cool f = (
     λ r t. ⊎_elim (λ i. absurd i) (λ i. absurd i) t.0,
     λ q r j. absurd j,
-    fine_less (words_kind m) (words_cool m) heat (λ r. lift n h rs r - max 1 k) b e rest (λ r. (let a = lift_most n h rs r in let c = cool r in omega arith)) f,
+    fine_less (words_kind m) (words_cool m) heat (λ r. lift n h rs r - max 1 (suc k)) b e rest (λ r. (let a = lift_most n h rs r in let c = cool r in omega arith)) f,
   )
 
   -- a word that the next does not follow, and that jumps to where nothing more is in flight

@@ -26,7 +26,7 @@ use Rattle.vx_mixed.specs.declared.layout.VWords.{VWords}
 use Rattle.vx_mixed.specs.Laid.{laid_program, laid_hop, some_word_hop, laid_body}
 use Rattle.vx_mixed.specs.LaidSettled.{bank_in}
 use Rattle.vx_regs.specs.Intervals.{IsLive, here, is_live}
-use Rattle.vx_frame.specs.Target.{Target, answer, general, kept, is_slotted, is_branch, holds_branch, stack_on, register_of, one, waits, in_flight, settled, fetch_words, fetched, return_words, memory_words}
+use Rattle.vx_frame.specs.Target.{Target, answer, general, kept, is_slotted, is_branch, holds_branch, stack_on, register_of, one, pause, in_flight, settled, fetch_words, fetched, return_words, memory_words}
 use Rattle.vx_frame.specs.Tied.{Tied, AtWord, Shows, back_place, is_place, moved as moved_number, word_at}
 use Rattle.vx_frame.specs.Carried.{Carries, IsFunctionOf, is_spilled}
 use Rattle.vx_frame.proofs.Bytes.{unsigned_small}
@@ -39,7 +39,7 @@ use Rattle.vx_frame.proofs.Names.{not_zero, not_general}
 use Rattle.vx_frame.proofs.Passing.{CanFetch, OperandAt, Got, fetch_run}
 use Rattle.vx_frame.proofs.Slots.{number_in, stack_no_answer}
 use Rattle.vx_frame.proofs.Stands.{word_stands}
-use Rattle.vx_frame.proofs.Steps.{Stands, stands_left, stands_right, Quiet, quiet_on, Comes, Forth, comes_on, then_forth, forth_comes, Set, set_step, Passed, wait_step, word_step, load_step}
+use Rattle.vx_frame.proofs.Steps.{Stands, stands_left, stands_right, Quiet, quiet_on, Comes, Forth, comes_on, then_forth, forth_comes, Set, set_step, Paused, pause_step, word_step, load_step}
 
 -- the run is at the place that the link named, with the result in the answer's register
 pub record Left (T : Target) (w : WordProgram) (fit : AllFit T.machine w) (sp : ℕ) (u : State) (back : ℕ) (n : ℤ) : Type 0 where
@@ -193,40 +193,55 @@ module _ (T : Target) (flow : Flow) (ls : List VWords) (w : WordProgram) (sound 
     place_c : C.place ≡ (A.place + 1) + 1
     place_c = let a = loading.place in let b = answering.place in omega arith
 
+    abbrev Linking : Word
+    Linking = one (ToLink (Held (general 0 3)))
+
+    abbrev LinkPause : ℕ
+    LinkPause = in_flight T.machine 0 (Linking ∷ [])
+
     abbrev FirstPause : ℕ
     FirstPause = in_flight T.machine 0 (one (Move 0 answer (fetched T F x)) ∷ one (Load 0 (general 0 3) (pos 0) (stack_on 0) false) ∷ [])
 
-    pausing : Passed T.machine w fit C (C.place + 1)
-    pausing = wait_step T.machine w fit C FirstPause loading.quiet.calm (subst (λ q. slice_get w.words q ≡ Some (waits FirstPause)) (sym place_c) st.1.1.0)
+    abbrev LoadLate : List Word
+    LoadLate = pause FirstPause
+
+    abbrev LinkLate : List Word
+    LinkLate = pause LinkPause
+
+    abbrev Linked : List Word
+    Linked = Linking ∷ (LinkLate ++ one GoBack ∷ [])
+
+    pausing : Paused T.machine w fit C (C.place + length LoadLate)
+    pausing = pause_step T.machine w fit C FirstPause loading.quiet.calm (subst (λ q. Stands w.words q LoadLate) (sym place_c) (stands_left w.words ((A.place + 1) + 1) LoadLate Linked st.1.1))
+
+    link_stands : Stands w.words (((A.place + 1) + 1) + length LoadLate) Linked
+    link_stands = stands_right w.words ((A.place + 1) + 1) LoadLate Linked st.1.1
 
     abbrev D : State
     D = pausing.to
 
-    place_d : D.place ≡ ((A.place + 1) + 1) + 1
+    place_d : D.place ≡ ((A.place + 1) + 1) + length LoadLate
     place_d = let a = pausing.place in let b = place_c in omega arith
 
-    abbrev Linking : Word
-    Linking = one (ToLink (Held (general 0 3)))
-
     linking : Set T.machine w fit D Link (register D (General (general 0 3)))
-    linking = set_step T.machine w fit D (ToLink (Held (general 0 3))) Link (register D (General (general 0 3))) pausing.quiet.calm (subst (λ q. slice_get w.words q ≡ Some Linking) (sym place_d) st.1.1.1.0) (record { bad = refl; takes = refl; prints = refl; stores = λ m. refl; leads = λ ops. refl }) refl refl refl
+    linking = set_step T.machine w fit D (ToLink (Held (general 0 3))) Link (register D (General (general 0 3))) pausing.quiet.calm (subst (λ q. slice_get w.words q ≡ Some Linking) (sym place_d) link_stands.0) (record { bad = refl; takes = refl; prints = refl; stores = λ m. refl; leads = λ ops. refl }) refl refl refl
 
     abbrev E : State
     E = linking.to
 
-    place_e : E.place ≡ (((A.place + 1) + 1) + 1) + 1
+    place_e : E.place ≡ (((A.place + 1) + 1) + length LoadLate) + 1
     place_e = let a = linking.place in let b = place_d in omega arith
 
-    abbrev LinkPause : ℕ
-    LinkPause = in_flight T.machine 0 (one (ToLink (Held (general 0 3))) ∷ [])
+    resting : Paused T.machine w fit E (E.place + length LinkLate)
+    resting = pause_step T.machine w fit E LinkPause linking.quiet.calm (subst (λ q. Stands w.words q LinkLate) (sym place_e) (stands_left w.words ((((A.place + 1) + 1) + length LoadLate) + 1) LinkLate (one GoBack ∷ []) link_stands.1))
 
-    resting : Passed T.machine w fit E (E.place + 1)
-    resting = wait_step T.machine w fit E LinkPause linking.quiet.calm (subst (λ q. slice_get w.words q ≡ Some (waits LinkPause)) (sym place_e) st.1.1.1.1.0)
+    last_stands : Stands w.words (((((A.place + 1) + 1) + length LoadLate) + 1) + length LinkLate) (one GoBack ∷ [])
+    last_stands = stands_right w.words ((((A.place + 1) + 1) + length LoadLate) + 1) LinkLate (one GoBack ∷ []) link_stands.1
 
     abbrev G : State
     G = resting.to
 
-    place_g : G.place ≡ ((((A.place + 1) + 1) + 1) + 1) + 1
+    place_g : G.place ≡ ((((A.place + 1) + 1) + length LoadLate) + 1) + length LinkLate
     place_g = let a = resting.place in let b = place_e in omega arith
 
     memory_b : B.memory ≡ u.memory
@@ -252,12 +267,12 @@ module _ (T : Target) (flow : Flow) (ls : List VWords) (w : WordProgram) (sound 
     H = after w G Going_back (back_place T r.waiting)
 
     going : Forth T.machine w fit G H
-    going = word_step T.machine w fit G Going_back (back_place T r.waiting) resting.quiet.calm (subst (λ q. slice_get w.words q ≡ Some Going_back) (sym place_g) st.1.1.1.1.1.0) (record { addresses = refl; input = refl }) (ap To goes_to)
+    going = word_step T.machine w fit G Going_back (back_place T r.waiting) resting.quiet.calm (subst (λ q. slice_get w.words q ≡ Some Going_back) (sym place_g) last_stands.0) (record { addresses = refl; input = refl }) (ap To goes_to)
 
     comes_g : Comes T.machine w fit u G
     comes_g =
         comes_on T.machine w fit u A G got.comes (comes_on T.machine w fit A B G (forth_comes T.machine w fit A B answering.forth) (comes_on T.machine w fit B C G (forth_comes T.machine w fit B C loading.forth)
-        (comes_on T.machine w fit C D G (forth_comes T.machine w fit C D pausing.forth) (comes_on T.machine w fit D E G (forth_comes T.machine w fit D E linking.forth) (forth_comes T.machine w fit E G resting.forth)))))
+        (comes_on T.machine w fit C D G pausing.comes (comes_on T.machine w fit D E G (forth_comes T.machine w fit D E linking.forth) resting.comes))))
 
     quiet_g : Quiet u G
     quiet_g = quiet_on u A G got.quiet (quiet_on A B G answering.quiet (quiet_on B C G loading.quiet (quiet_on C D G pausing.quiet (quiet_on D E G linking.quiet resting.quiet))))

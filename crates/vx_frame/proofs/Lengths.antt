@@ -2,10 +2,10 @@
 use Rattle.std.proofs.Common.{◌≡◌, ℕ, suc, ◌+◌, true, Option, Some, None, List, [], ◌∷◌, ◌++◌, length, refl, sym, ap, ◌∙◌, arith, length-append}
 use Rattle.vx_flow.specs.declared.graph.Operand.{Operand}
 use Rattle.vx_flow.specs.declared.graph.Operand.TheVariants.{Held as HeldValue, Number as AsNumber, Stack}
-use Rattle.std.specs.Prelude.{neg_ℤ, max, ◌-◌}
+use Rattle.std.specs.Prelude.{neg_ℤ, pos, max, ◌-◌}
 use Rattle.vx_base.specs.declared.arithmetic.Code.TheVariants.{ToBranch}
 use Rattle.vx_base.specs.declared.arithmetic.Compare.TheVariants.{Ltu}
-use Rattle.vx_isa.specs.declared.operation.Operation.TheVariants.{BranchOn, Call, Compute, Goto, Store}
+use Rattle.vx_isa.specs.declared.operation.Operation.TheVariants.{BranchOn, Call, Compute, FromLink, Goto, Halt, Store}
 use Rattle.vx_isa.specs.declared.operation.Register.TheVariants.{Branch as InBranch}
 use Rattle.vx_isa.specs.declared.operation.Source.TheVariants.{Held, Number}
 use Rattle.vx_isa.specs.declared.program.Word.{Word}
@@ -16,7 +16,7 @@ use Rattle.vx_mixed.specs.declared.layout.Laid.TheVariants.{Plain, Split}
 use Rattle.vx_mixed.specs.declared.layout.VirtualWord.{VirtualWord}
 use Rattle.vx_mixed.specs.declared.layout.VirtualWord.TheVariants.{Planned, Drain, Transfer, Choice, Call as Calls, Return as Returns, Ends}
 use Rattle.vx_mixed.specs.LaidSettled.{laid_reads, laid_writes}
-use Rattle.vx_frame.specs.Target.{Target, bytes, one, stack_on, move_stack, parameters_of, slotted, general_of, branch_of, load_slot, store_slot, load_slots, store_slots, if_some, once, waits, settled, if_any, slots_in_flight, before, behind, plan_word, plan_words, landing_words, fetch_words, fetched, cluster_of_operand, argument_words, result_words, save_words, reload_words, call_words, back_words, return_words, entry_words, word_words}
+use Rattle.vx_frame.specs.Target.{Target, answer, bytes, general, one, set_stack, start_words, stack_on, move_stack, parameters_of, slotted, general_of, branch_of, load_slot, store_slot, load_slots, store_slots, if_some, once, pause, settled, if_any, slots_in_flight, before, behind, plan_word, plan_words, landing_words, fetch_words, fetched, cluster_of_operand, argument_words, result_words, save_words, reload_words, call_words, back_words, return_words, entry_words, word_words}
 use Rattle.vx_frame.specs.Placed.{landing_of, item_landings, word_landings, words_of}
 use Rattle.vx_frame.specs.Placing.{Spots, at_spots}
 use Rattle.vx_frame.proofs.Emitting.{words_of_append}
@@ -51,8 +51,8 @@ slots_in_flight_same T s f (Split test y q ∷ items) = slots_in_flight_same T s
 behind_same : (T : Target) (s : Spots) (f : ℕ) (items : List Laid) → behind (at_spots T s) f items ≡ behind T f items
 behind_same T s f items =
     let ws = laid_writes items in
-    ap (λ n. if_some (slotted T f ws) (waits n ∷ store_slots (at_spots T s) f ws (slotted T f ws))) (slots_in_flight_same T s f items)
-    ∙ ap (λ z. if_some (slotted T f ws) (waits (slots_in_flight T f items) ∷ z)) (store_slots_same T s f ws (slotted T f ws))
+    ap (λ n. if_some (slotted T f ws) (pause n ++ store_slots (at_spots T s) f ws (slotted T f ws))) (slots_in_flight_same T s f items)
+    ∙ ap (λ z. if_some (slotted T f ws) (pause (slots_in_flight T f items) ++ z)) (store_slots_same T s f ws (slotted T f ws))
 
 abbrev passed : Target → (f g v : ℕ) → Operand → List Word → List Word
 passed T f g v x rest = fetch_words T f T.frame x ++ one (Store (cluster_of_operand T f x) (bytes (T.slot g v)) (stack_on (cluster_of_operand T f x)) (fetched T f x)) ∷ rest
@@ -100,13 +100,19 @@ call_length T s f p g arguments =
     let tail_of : Target → List Word = λ V. argument_words V f g (parameters_of V g) arguments ++ one (Call (V.entry g)) ∷ [] in
     let tails : length (tail_of U) ≡ length (tail_of T) = len_both (argument_words U f g (parameters_of T g) arguments) (one (Call (s.entry g)) ∷ []) (argument_words T f g (parameters_of T g) arguments) (one (Call (T.entry g)) ∷ []) (ap length (argument_same T s f g (parameters_of T g) arguments)) refl in
     let moves : length (move_stack T (neg_ℤ (bytes T.frame)) ++ tail_of U) ≡ length (move_stack T (neg_ℤ (bytes T.frame)) ++ tail_of T) = len_behind (move_stack T (neg_ℤ (bytes T.frame))) (tail_of U) (tail_of T) tails in
-    len_both (save_words U f (T.saved f p)) (settled T (depth_word T ∷ []) ++ one (BranchOn 0 true s.depth_trap) ∷ (move_stack T (neg_ℤ (bytes T.frame)) ++ tail_of U)) (save_words T f (T.saved f p)) (settled T (depth_word T ∷ []) ++ one (BranchOn 0 true T.depth_trap) ∷ (move_stack T (neg_ℤ (bytes T.frame)) ++ tail_of T)) (ap length (store_slots_same T s f (T.saved f p) (T.saved f p))) (ap (λ n. suc (suc (suc n))) moves)
+    len_both (save_words U f (T.saved f p)) (settled T (depth_word T ∷ []) ++ one (BranchOn 0 true s.depth_trap) ∷ (move_stack T (neg_ℤ (bytes T.frame)) ++ tail_of U)) (save_words T f (T.saved f p)) (settled T (depth_word T ∷ []) ++ one (BranchOn 0 true T.depth_trap) ∷ (move_stack T (neg_ℤ (bytes T.frame)) ++ tail_of T)) (ap length (store_slots_same T s f (T.saved f p) (T.saved f p))) (len_behind (settled T (depth_word T ∷ [])) (one (BranchOn 0 true s.depth_trap) ∷ (move_stack T (neg_ℤ (bytes T.frame)) ++ tail_of U)) (one (BranchOn 0 true T.depth_trap) ∷ (move_stack T (neg_ℤ (bytes T.frame)) ++ tail_of T)) (ap suc moves))
   where
     depth_word : Target → Word
     depth_word V = one (Compute 0 (ToBranch Ltu) (InBranch (record { cluster = 0; number = 0 })) (Held (stack_on 0)) (Number (bytes (V.globals + V.frame))))
 
 pub entry_length : (T : Target) (s : Spots) (g : ℕ) → length (entry_words (at_spots T s) g) ≡ length (entry_words T g)
-entry_length T s g = ap (λ n. suc (suc (suc n))) (len_both (reload_words (at_spots T s) g (T.brought g)) (one (Goto (s.starts g (T.layout g).entry)) ∷ []) (reload_words T g (T.brought g)) (one (Goto (T.starts g (T.layout g).entry)) ∷ []) (ap length (reload_same T s g (T.brought g))) refl)
+entry_length T s g =
+    let keep : Word = one (Store 0 (pos 0) (stack_on 0) (Held (general 0 3))) in
+    len_behind (settled T (one (FromLink (general 0 3)) ∷ [])) (keep ∷ (reload_words (at_spots T s) g (T.brought g) ++ one (Goto (s.starts g (T.layout g).entry)) ∷ [])) (keep ∷ (reload_words T g (T.brought g) ++ one (Goto (T.starts g (T.layout g).entry)) ∷ []))
+    (ap suc (len_both (reload_words (at_spots T s) g (T.brought g)) (one (Goto (s.starts g (T.layout g).entry)) ∷ []) (reload_words T g (T.brought g)) (one (Goto (T.starts g (T.layout g).entry)) ∷ []) (ap length (reload_same T s g (T.brought g))) refl))
+
+pub start_length : (T : Target) (s : Spots) (main : ℕ) → length (start_words (at_spots T s) main) ≡ length (start_words T main)
+start_length T s main = len_behind (set_stack T) (one (Call (s.entry main)) ∷ one (Halt (Held answer)) ∷ []) (one (Call (T.entry main)) ∷ one (Halt (Held answer)) ∷ []) refl
 
 pub word_length : (T : Target) (s : Spots) (f p : ℕ) (word : VirtualWord) → length (word_words (at_spots T s) f p word) ≡ length (word_words T f p word)
 word_length T s f p (Planned r w items) = plan_length T s f p items

@@ -12,13 +12,12 @@ use Rattle.vx_isa.specs.declared.operation.Source.TheVariants.{Held, Number}
 use Rattle.vx_isa.specs.declared.operation.Operation.{Operation}
 use Rattle.vx_isa.specs.declared.operation.Operation.TheVariants.{Compute, Load}
 use Rattle.vx_isa.specs.declared.program.Word.{Word}
-use Rattle.vx_isa.specs.Machine.{cycles_of}
 use Rattle.vx_isa.specs.Operations.{same}
 use Rattle.vx_mixed.specs.Settled.{NoTwice}
-use Rattle.vx_frame.specs.Target.{Target, answer, general_of, branch_of, register_of, stack_on, home, holds_branch, one, waits, latest, in_flight, settled, load_slot, load_slots, bytes}
+use Rattle.vx_frame.specs.Target.{Target, answer, general_of, branch_of, register_of, stack_on, home, holds_branch, one, pause, latest, in_flight, settled, load_slot, load_slots, bytes}
 use Rattle.vx_frame.proofs.Early.{Touches, words_kind, words_cool}
 use Rattle.vx_frame.proofs.Heats.{lift, lift_off, lift_fewer, lift_cooled, stays, FineWords, word_fine, wait_fine}
-use Rattle.vx_frame.proofs.Pauses.{flight_append}
+use Rattle.vx_frame.proofs.Pauses.{flight_append, flight_pause}
 use Rattle.vx_frame.proofs.PlanFits.{differ}
 
 not_any : (x : Register) (rs : List Register) (y : Register) → same x y ≡ false → list_any (same x) rs ≡ false → list_any (same x) (y ∷ rs) ≡ false
@@ -105,24 +104,26 @@ module _ (T : Target) (heat : ℕ → Register → ℕ) (f : ℕ) (names : List 
         by : (c : Bool) → holds_branch T f v ≡ c → Fine (Lifted (in_flight T.machine t (Words c)) (v ∷ done)) rest e → Fine (Lifted t done) (Words c ++ rest) e
         by true q rest_fine =
             let k : ℕ = in_flight T.machine 0 (one first ∷ []) in
-            let c : ℕ = cycles_of (waits k) in
-            let left : ℕ = (t - 1) - c in
+            let left : ℕ = (t - 1) - k in
+            let n : ℕ = max t (latest T.machine (first ∷ [])) - 1 in
+            let all : in_flight T.machine t (Words true) ≡ max (n - k) (latest T.machine (test ∷ [])) - 1 = flight_append T.machine n (pause k) (one test ∷ []) ∙ ap (λ z. max z (latest T.machine (test ∷ [])) - 1) (flight_pause T.machine n k) in
             let le : max left (latest T.machine (test ∷ [])) - 1 ≤ in_flight T.machine t (Words true) = omega arith in
-            word_fine T.machine heat 0 (Lifted t done) (Lifted (t - 1) done) [] (first ∷ []) (waits k ∷ one test ∷ rest) e refl (lift_cooled t 1 b (map Reg done)) (λ p r j. absurd j) first_meets
-            (wait_fine T.machine heat k k (Lifted (t - 1) done) (Lifted left done) (InGeneral answer ∷ []) (one test ∷ rest) e (omega arith) (lift_cooled (t - 1) c b (map Reg done))
-            (word_fine T.machine heat left b b (map Reg done) (test ∷ []) rest e refl (stays 1 b) (λ p r j. absurd j) (test_meets left q) (tail (max left (latest T.machine (test ∷ [])) - 1) (in_flight T.machine t (Words true)) le q rest_fine)))
+            subst (λ ws. Fine (Lifted t done) (one first ∷ ws) e) (sym (append_assoc (pause k) (one test ∷ []) rest))
+            (word_fine T.machine heat 0 (Lifted t done) (Lifted (t - 1) done) [] (first ∷ []) (pause k ++ (one test ∷ rest)) e refl (lift_cooled t 1 b (map Reg done)) (λ p r j. absurd j) first_meets
+            (wait_fine T.machine heat k k (Lifted (t - 1) done) (Lifted left done) (InGeneral answer ∷ []) (one test ∷ rest) e (omega arith) (lift_cooled (t - 1) k b (map Reg done))
+            (word_fine T.machine heat left b b (map Reg done) (test ∷ []) rest e refl (stays 1 b) (λ p r j. absurd j) (test_meets left q) (tail (max left (latest T.machine (test ∷ [])) - 1) (in_flight T.machine t (Words true)) le q rest_fine))))
         by false q rest_fine = word_fine T.machine heat t b b (map Reg done) (load ∷ []) rest e refl (stays 1 b) (λ p r j. absurd j) (load_meets q)
             (subst (λ y. Fine (lift (in_flight T.machine t (one load ∷ [])) b (y ∷ map Reg done)) rest e) (sym (is_general q)) rest_fine)
 
-    pub loads_fine : (t : ℕ) (done vs : List ℕ) (rest : List Word) (e : Register → ℕ) → ((u : ℕ) → IsIn u done → IsIn u names) → ((u : ℕ) → IsIn u vs → IsIn u names) → ((u : ℕ) → IsIn u vs → IsIn u done → ⊥) → NoTwice vs → Fine b rest e → Fine (Lifted t done) (load_slots T f names vs ++ (waits (in_flight T.machine t (load_slots T f names vs)) ∷ rest)) e
-    loads_fine t done [] rest e sub in_names no_ once more = wait_fine T.machine heat t t b b (map Reg done) rest e (omega arith) (stays (cycles_of (waits t)) b) more
+    pub loads_fine : (t : ℕ) (done vs : List ℕ) (rest : List Word) (e : Register → ℕ) → ((u : ℕ) → IsIn u done → IsIn u names) → ((u : ℕ) → IsIn u vs → IsIn u names) → ((u : ℕ) → IsIn u vs → IsIn u done → ⊥) → NoTwice vs → Fine b rest e → Fine (Lifted t done) (load_slots T f names vs ++ (pause (in_flight T.machine t (load_slots T f names vs)) ++ rest)) e
+    loads_fine t done [] rest e sub in_names no_ once more = wait_fine T.machine heat t t b b (map Reg done) rest e (omega arith) (stays t b) more
     loads_fine t done (v ∷ vs) rest e sub in_names no_ once more =
         let here : List Word = load_slot T f 0 v (general_of T f names v) (branch_of T f names v) in
         let others : List Word = load_slots T f names vs in
         let k : ℕ = in_flight T.machine t here in
         let q : in_flight T.machine k others ≡ in_flight T.machine t (here ++ others) = sym (flight_append T.machine t here others) in
-        let all : Fine (Lifted k (v ∷ done)) (others ++ (waits (in_flight T.machine k others) ∷ rest)) e =
+        let all : Fine (Lifted k (v ∷ done)) (others ++ (pause (in_flight T.machine k others) ++ rest)) e =
         loads_fine k (v ∷ done) vs rest e (λ u i. ⊎_elim (λ q. in_names u (inl q)) (sub u) i) (λ u i. in_names u (inr i)) (λ u i j. ⊎_elim (λ q. once.0 (subst (λ z. IsIn z vs) q i)) (no_ u (inr i)) j) once.1 more in
-        subst (λ ws. Fine (Lifted t done) ws e) (sym (append_assoc here others (waits (in_flight T.machine t (here ++ others)) ∷ rest)))
-        (one_load t v done (others ++ (waits (in_flight T.machine t (here ++ others)) ∷ rest)) e (in_names v (inl refl)) sub (no_ v (inl refl))
-        (subst (λ z. Fine (Lifted k (v ∷ done)) (others ++ (waits z ∷ rest)) e) q all))
+        subst (λ ws. Fine (Lifted t done) ws e) (sym (append_assoc here others (pause (in_flight T.machine t (here ++ others)) ++ rest)))
+        (one_load t v done (others ++ (pause (in_flight T.machine t (here ++ others)) ++ rest)) e (in_names v (inl refl)) sub (no_ v (inl refl))
+        (subst (λ z. Fine (Lifted k (v ∷ done)) (others ++ (pause z ++ rest)) e) q all))

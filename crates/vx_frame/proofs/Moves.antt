@@ -1,6 +1,6 @@
 -- Stack pointers are moved, and arguments passed to the slots of parameters.
 use Rattle.std.proofs.Common.{◌≡◌, ◌≢◌, ◌<◌, ◌≤◌, ◌⊎◌, inl, inr, ⊎_elim, ◌+◌, ◌*◌, ◌^◌, ℕ, zero, suc, ℤ, pos, ◌+ℤ◌, neg_ℤ, Bool, false, ◌&&◌, ◌||◌, not, cond, Some, List, [], ◌∷◌, ◌++◌, map, refl, sym, ap, ◌∙◌, subst, arith}
-use Rattle.std.specs.Prelude.{drop, count_by}
+use Rattle.std.specs.Prelude.{drop, count_by, length}
 use Rattle.std.specs.List.{list_any, flat_map}
 use Rattle.std.proofs.lemmas.Int.{ints}
 use Rattle.std.proofs.lemmas.List.{append-nil}
@@ -17,11 +17,11 @@ use Rattle.vx_isa.specs.Numbers.{Numbers}
 use Rattle.vx_isa.specs.Operations.{cluster_of_register, destination_of}
 use Rattle.vx_isa.specs.Machine.{State, To, register, number_of, memory_after, takes_input, print_of, has_bad_address, lead_of, is_left}
 use Rattle.vx_isa.proofs.Lists.{count_by-cons}
-use Rattle.vx_frame.specs.Target.{stack_on, waits, in_flight, bytes}
+use Rattle.vx_frame.specs.Target.{stack_on, pause, in_flight, bytes}
 use Rattle.vx_frame.proofs.Forms.{Plainly, memory_on}
 use Rattle.vx_frame.proofs.Calm.{seen, put_to, put_at, put_off, given, after, AllFit}
 use Rattle.vx_frame.proofs.Slots.{in_or_not}
-use Rattle.vx_frame.proofs.Steps.{Stands, Quiet, quiet_on, Forth, forth_on, forth_comes, word_step, wait_step}
+use Rattle.vx_frame.proofs.Steps.{Stands, Quiet, quiet_on, Forth, forth_on, word_step, pause_step}
 
 pub numbers_in : (b n k : ℕ) → b ≤ k → k < b + n → IsIn k (numbers b n)
 numbers_in b zero k le lt = absurd (omega arith)
@@ -81,30 +81,34 @@ module _ (m : Numbers) (w : WordProgram) (fit : AllFit m w) (u : State) (op : �
       ∙ ap (λ d. seen (put_to d (number_of w.memory u (op j)) regs) (General (stack_on j))) (to_stack j) ∙ put_at (General (stack_on j)) (number_of w.memory u (op j)) regs refl ∙ number j ∙ ap value (sym e))
       (in_or_not k ks)
 
+  abbrev Moving : ℕ → Word
+  Moving n = record { ops = map op (numbers 0 n); idle = 0 }
+
+  abbrev pub MoveWords : ℕ → List Word
+  MoveWords n = Moving n ∷ pause (in_flight m 0 (Moving n ∷ []))
+
   -- after the word, and a pause
   pub record Moved (clusters : ℕ) : Type 0 where
     pub to : State
     pub forth : Forth m w fit u to
-    pub place : to.place ≡ (u.place + 1) + 1
+    pub place : to.place ≡ u.place + length (MoveWords clusters)
     pub quiet : Quiet u to
     pub memory : to.memory ≡ u.memory
     pub stack : (k : ℕ) → k < clusters → register to (General (stack_on k)) ≡ value k
     pub others : (q : Register) → ((k : ℕ) → q ≢ General (stack_on k)) → seen to.registers q ≡ seen u.registers q
 
-  abbrev Moving : ℕ → Word
-  Moving n = record { ops = map op (numbers 0 n); idle = 0 }
-
-  pub move_run : (clusters : ℕ) → u.flying ≡ [] → Stands w.words u.place (Moving clusters ∷ waits (in_flight m 0 (Moving clusters ∷ [])) ∷ []) → Moved clusters
+  pub move_run : (clusters : ℕ) → u.flying ≡ [] → Stands w.words u.place (MoveWords clusters) → Moved clusters
   move_run n calm st =
       let ks : List ℕ = numbers 0 n in
       let a : State = after w u (Moving n) (u.place + 1) in
       let f : Forth m w fit u a = word_step m w fit u (Moving n) (u.place + 1) calm st.0 (record { addresses = no_bad ks; input = ap (λ b. b && not (is_left u.input)) (no_take ks) }) (straight_on ks) in
-      let b = wait_step m w fit a (in_flight m 0 (Moving n ∷ [])) refl st.1.0 in
+      let b = pause_step m w fit a (in_flight m 0 (Moving n ∷ [])) refl st.1 in
+      let pb = b.place in
       let q : Quiet u a = record { calm = refl; input = ap (λ c. drop c u.input) (no_count ks); out = ap (λ ys. u.out ++ ys) (no_print ks) ∙ append-nil u.out } in
       record {
         to = b.to;
-        forth = forth_on m w fit u a b.to f (forth_comes m w fit a b.to b.forth);
-        place = b.place;
+        forth = forth_on m w fit u a b.to f b.comes;
+        place = omega arith;
         quiet = quiet_on u a b.to q b.quiet;
         memory = b.memory ∙ no_store ks u.memory;
         stack = λ k lt. ap (λ g. seen g (General (stack_on k))) b.registers ∙ each_set ks u.registers k (numbers_in 0 n k (omega arith) (omega arith));

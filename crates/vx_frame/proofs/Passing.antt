@@ -1,6 +1,6 @@
 -- Arguments are passed: each to the slot of its parameter, in a frame that begins at the stack pointer below that of the caller.
 use Rattle.std.proofs.Common.{◌≡◌, ◌≢◌, ◌<◌, ◌≤◌, inl, inr, ⊎_elim, ◌+◌, ◌*◌, ◌^◌, ℕ, ℤ, pos, Bool, true, false, Some, List, [], ◌∷◌, ◌++◌, length, length-append, refl, sym, ap, ◌∙◌, subst, arith}
-use Rattle.std.specs.Prelude.{if◌then◌else◌, slice_get}
+use Rattle.std.specs.Prelude.{if◌then◌else◌}
 use Rattle.vx_base.specs.Arithmetic.{one_if, compare_of}
 use Rattle.vx_base.specs.declared.arithmetic.Compare.TheVariants.{Ne}
 use Rattle.vx_flow.specs.declared.graph.Operand.{Operand}
@@ -15,11 +15,11 @@ use Rattle.vx_isa.specs.declared.program.WordProgram.{WordProgram}
 use Rattle.vx_isa.specs.Numbers.{Numbers}
 use Rattle.vx_isa.specs.Machine.{State, register, source}
 use Rattle.vx_mixed.specs.Settled.{NoTwice}
-use Rattle.vx_frame.specs.Target.{Target, answer, stack_on, kept, is_slotted, holds_branch, general_of, branch_of, register_of, one, waits, in_flight, settled, bytes, load_slot, fetch_words, fetched, cluster_of_operand, argument_words, memory_words}
+use Rattle.vx_frame.specs.Target.{Target, answer, stack_on, kept, is_slotted, holds_branch, general_of, branch_of, register_of, one, pause, in_flight, settled, bytes, load_slot, fetch_words, fetched, cluster_of_operand, argument_words, memory_words}
 use Rattle.vx_frame.specs.Tied.{word_at}
 use Rattle.vx_frame.proofs.Calm.{seen, AllFit}
 use Rattle.vx_frame.proofs.Op.{same_or_not}
-use Rattle.vx_frame.proofs.Steps.{Stands, stands_left, stands_right, Quiet, quiet_on, Comes, stay, comes_on, forth_comes, wait_step, store_step}
+use Rattle.vx_frame.proofs.Steps.{Stands, stands_left, stands_right, Quiet, quiet_on, Comes, stay, comes_on, forth_comes, pause_step, store_step}
 use Rattle.vx_frame.proofs.Slots.{Usable, load_one, stack_no_answer}
 
 module _ (m : Numbers) (w : WordProgram) (fit : AllFit m w) (T : Target) (f sp : ℕ) (size : w.memory ≡ 4 * memory_words T) (small : 4 * memory_words T < 2 ^ 32) (some : 0 < T.machine.clusters) where
@@ -70,16 +70,16 @@ module _ (m : Numbers) (w : WordProgram) (fit : AllFit m w) (T : Target) (f sp :
     others = λ q h na. refl;
   }
   fetch_case up v n u calm stack can true e st is =
-      let pause : ℕ = in_flight T.machine 0 (loads up v) in
-      let a = load_one m w fit T f sp size small some (One v) up v u calm can.usable (stands_left w.words u.place (loads up v) (waits pause ∷ []) st) stack (can.inside e) in
-      let b = wait_step m w fit a.to pause a.quiet.calm (subst (λ q. slice_get w.words q ≡ Some (waits pause)) (sym a.place) (stands_right w.words u.place (loads up v) (waits pause ∷ []) st).0) in
+      let late : ℕ = in_flight T.machine 0 (loads up v) in
+      let a = load_one m w fit T f sp size small some (One v) up v u calm can.usable (stands_left w.words u.place (loads up v) (pause late) st) stack (can.inside e) in
+      let b = pause_step m w fit a.to late a.quiet.calm (subst (λ q. Stands w.words q (pause late)) (sym a.place) (stands_right w.words u.place (loads up v) (pause late) st)) in
       let pa = a.place in
       let pb = b.place in
-      let len : length (loads up v ++ waits pause ∷ []) ≡ length (loads up v) + 1 = length-append (loads up v) (waits pause ∷ []) in
+      let len : length (loads up v ++ pause late) ≡ length (loads up v) + length (pause late) = length-append (loads up v) (pause late) in
       let plain : (if holds_branch T f v then one_if (compare_of Ne (word_at u.memory (sp + (up + T.slot f v))) (pos 0)) else word_at u.memory (sp + (up + T.slot f v))) ≡ word_at u.memory (sp + (up + T.slot f v)) = ap (λ c. if c then one_if (compare_of Ne (word_at u.memory (sp + (up + T.slot f v))) (pos 0)) else word_at u.memory (sp + (up + T.slot f v))) can.general in
       record {
         to = b.to;
-        comes = comes_on m w fit u a.to b.to a.comes (forth_comes m w fit a.to b.to b.forth);
+        comes = comes_on m w fit u a.to b.to a.comes b.comes;
         place = omega arith;
         quiet = quiet_on u a.to b.to a.quiet b.quiet;
         memory = b.memory ∙ a.memory;

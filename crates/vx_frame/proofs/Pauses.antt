@@ -1,5 +1,5 @@
 -- How long the writes of words are in flight: never as long as the greatest latency of a machine, which is 16 at most.
-use Rattle.std.proofs.Common.{◌≡◌, ◌≤◌, ⊎_elim, ◌+◌, ◌-◌, ℕ, Bool, true, false, if◌then◌else◌, List, [], ◌∷◌, ◌++◌, refl, subst, arith}
+use Rattle.std.proofs.Common.{◌≡◌, ◌≤◌, ⊎_elim, ◌+◌, ◌-◌, ℕ, zero, suc, Bool, true, false, if◌then◌else◌, List, [], ◌∷◌, ◌++◌, refl, subst, arith}
 use Rattle.std.specs.Prelude.{max}
 use Rattle.std.proofs.lemmas.Bool.{and_parts, leb-true}
 use Rattle.vx_base.specs.declared.arithmetic.Code.{Code}
@@ -16,13 +16,18 @@ use Rattle.vx_isa.specs.Machine.{cycles_of}
 use Rattle.vx_machine.specs.Items.{latency_of_op}
 use Rattle.vx_mixed.specs.declared.layout.Laid.{Laid}
 use Rattle.vx_mixed.specs.declared.layout.Laid.TheVariants.{Plain, Split}
-use Rattle.vx_frame.specs.Target.{Target, kept, is_slotted, slotted, latest, in_flight, if_any, slots_in_flight}
+use Rattle.vx_frame.specs.Target.{Target, kept, is_slotted, slotted, latest, in_flight, pause, if_any, slots_in_flight}
 use Rattle.vx_frame.proofs.Word.{slotted_in}
 
 -- words one behind the other
 pub flight_append : (m : Numbers) (n : ℕ) (a b : List Word) → in_flight m n (a ++ b) ≡ in_flight m (in_flight m n a) b
 flight_append m n [] b = refl
 flight_append m n (w ∷ a) b = flight_append m (max n (latest m w.ops) - cycles_of w) a b
+
+-- a pause of so many cycles
+pub flight_pause : (m : Numbers) (n k : ℕ) → in_flight m n (pause k) ≡ n - k
+flight_pause m n zero = omega arith
+flight_pause m n (suc k) = omega arith
 
 -- no latency is more than 16
 

@@ -1,5 +1,5 @@
 -- A planned word and its landings come to the place to which it leads.
-use Rattle.std.proofs.Common.{◌≡◌, ◌<◌, ◌+◌, ◌*◌, ◌^◌, ℕ, suc, Bool, Some, List, [], ◌∷◌, length, length-append, refl, sym, ap, ◌∙◌, subst, arith}
+use Rattle.std.proofs.Common.{◌≡◌, ◌<◌, ◌+◌, ◌*◌, ◌^◌, ℕ, suc, Bool, Some, List, [], ◌∷◌, ◌++◌, length, length-append, refl, sym, ap, ◌∙◌, subst, arith}
 use Rattle.std.specs.Prelude.{slice_get}
 use Rattle.vx_flow.specs.Effects.{State as VState, Setting, IsIn}
 use Rattle.vx_isa.specs.declared.operation.Operation.TheVariants.{Goto}
@@ -9,7 +9,7 @@ use Rattle.vx_isa.specs.Machine.{State, Lead, To, lead_of}
 use Rattle.vx_mixed.specs.declared.layout.Laid.{Laid}
 use Rattle.vx_mixed.specs.declared.layout.Laid.TheVariants.{Split}
 use Rattle.vx_mixed.specs.Laid.{laid_effect, laid_next}
-use Rattle.vx_frame.specs.Target.{Target, slotted, leads, one, before, behind, if_some, waits, slots_in_flight, store_slots, plan_word, plan_words, memory_words}
+use Rattle.vx_frame.specs.Target.{Target, slotted, leads, one, before, behind, if_some, pause, slots_in_flight, store_slots, plan_word, plan_words, memory_words}
 use Rattle.vx_frame.proofs.Calm.{AllFit}
 use Rattle.vx_frame.proofs.Items.{Went, straight, by_split, lead_items}
 use Rattle.vx_frame.proofs.Steps.{Stands, stands_left, stands_right, stay, forth_comes, goto_step}
@@ -49,7 +49,7 @@ module _ (m : Numbers) (w : WordProgram) (fit : AllFit m w) (T : Target) (f sp p
       where
         by : (xs : List ℕ) → slotted T f Written ≡ xs → Comes_to q
         by [] k =
-            let none : behind T f items ≡ [] = ap (λ ys. if_some ys (waits (slots_in_flight T f items) ∷ store_slots T f Written ys)) k in
+            let none : behind T f items ≡ [] = ap (λ ys. if_some ys (pause (slots_in_flight T f items) ++ store_slots T f Written ys)) k in
             let st : Stands w.words (T.starts f to) (behind T f items) = subst (Stands w.words (T.starts f to)) (sym none) tt in
             let last = stored (T.starts f to) st in
             let pl = last.place in

@@ -1,6 +1,7 @@
 -- Words that begin with writes to values in flight: loads of slots in front of a word, drains, transfers and choices.
-use Rattle.std.proofs.Common.{◌≡◌, ◌≤◌, inl, inr, ⊎_elim, ℕ, suc, true, Some, List, [], ◌∷◌, refl, sym, ap, ◌∙◌, subst, arith}
+use Rattle.std.proofs.Common.{◌≡◌, ◌≤◌, inl, inr, ⊎_elim, ℕ, suc, true, Some, List, [], ◌∷◌, ◌++◌, refl, sym, ap, ◌∙◌, subst, arith}
 use Rattle.std.specs.Prelude.{if◌then◌else◌, slice_get}
+use Rattle.std.proofs.lemmas.List.{append-nil}
 use Rattle.vx_base.proofs.Pieces.{fine_append}
 use Rattle.vx_flow.specs.declared.graph.Bank.TheVariants.{Branch as BranchBank}
 use Rattle.vx_flow.specs.declared.graph.Exit.TheVariants.{Split as Branches}
@@ -15,7 +16,7 @@ use Rattle.vx_mixed.specs.declared.layout.VirtualWord.TheVariants.{Drain, Transf
 use Rattle.vx_mixed.specs.LaidSettled.{bank_in}
 use Rattle.vx_mixed.specs.Settled.{NoTwice}
 use Rattle.vx_regs.specs.Intervals.{is_live, here}
-use Rattle.vx_frame.specs.Target.{Target, is_branch, general_of, branch_of, register_of, slotted, if_some, once, before, choice_words, one, waits, settled, load_slots}
+use Rattle.vx_frame.specs.Target.{Target, is_branch, general_of, branch_of, register_of, slotted, if_some, once, before, choice_words, one, waits, pause, in_flight, settled, load_slots}
 use Rattle.vx_frame.specs.Carried.{IsMapped}
 use Rattle.vx_frame.proofs.Names.{Few, not_general, apart_all}
 use Rattle.vx_frame.proofs.FromGraph.{whole_bank, has_whole}
@@ -54,7 +55,8 @@ module _ (T : Target) (heat : ℕ → Register → ℕ) (f : ℕ) (mapped : IsMa
 
   loads_case : (p : ℕ) (names : List ℕ) → Few T f mapped names → ((v : ℕ) → IsIn v names → Settles p v) → (vs us : List ℕ) → ((v : ℕ) → IsIn v us → IsIn v names) → NoTwice us → F (Heat p) (if_some vs (settled T (load_slots T f names us))) (Heat p)
   loads_case p names few h [] us sub n = λ r. omega arith
-  loads_case p names few h (v ∷ vs) us sub n = loads_fine T heat f names (Heat p) (names_at p names few h) 0 [] us [] (Heat p) (λ u i. absurd i) sub (λ u i j. j) n (λ r. omega arith)
+  loads_case p names few h (v ∷ vs) us sub n = subst (λ ws. F (Heat p) (load_slots T f names us ++ ws) (Heat p)) (append-nil (pause (in_flight T.machine 0 (load_slots T f names us))))
+      (loads_fine T heat f names (Heat p) (names_at p names few h) 0 [] us [] (Heat p) (λ u i. absurd i) sub (λ u i j. j) n (λ r. omega arith))
 
   -- slots are loaded in front of a word, each once
   pub before_fine : (p : ℕ) (names : List ℕ) → Few T f mapped names → ((v : ℕ) → IsIn v names → Settles p v) → F (Heat p) (before T f names) (Heat p)

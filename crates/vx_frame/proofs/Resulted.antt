@@ -1,6 +1,6 @@
 -- The result of a call comes from the answer's register to where it is kept.
 use Rattle.std.proofs.Common.{◌≡◌, ◌≢◌, ◌<◌, ◌+◌, ◌*◌, ◌^◌, ℕ, ℤ, pos, Bool, true, false, Option, Some, None, List, [], ◌∷◌, length, refl, sym, ap, ◌∙◌, subst, arith}
-use Rattle.std.specs.Prelude.{if◌then◌else◌, slice_get}
+use Rattle.std.specs.Prelude.{if◌then◌else◌}
 use Rattle.vx_isa.specs.declared.operation.Register.{Register}
 use Rattle.vx_isa.specs.declared.operation.Register.TheVariants.{General, Branch}
 use Rattle.vx_isa.specs.declared.operation.Source.TheVariants.{Held}
@@ -10,10 +10,10 @@ use Rattle.vx_isa.specs.declared.program.WordProgram.{WordProgram}
 use Rattle.vx_isa.specs.Numbers.{Numbers}
 use Rattle.vx_isa.specs.Operations.{is_zero}
 use Rattle.vx_isa.specs.Machine.{State, register}
-use Rattle.vx_frame.specs.Target.{Target, answer, stack_on, kept, is_slotted, home, holds_branch, general_of, branch_of, register_of, one, waits, in_flight, settled, bytes, result_words, memory_words}
+use Rattle.vx_frame.specs.Target.{Target, answer, stack_on, kept, is_slotted, home, holds_branch, general_of, branch_of, register_of, one, pause, in_flight, settled, bytes, result_words, memory_words}
 use Rattle.vx_frame.specs.Tied.{IsResult, holds, word_at}
 use Rattle.vx_frame.proofs.Calm.{seen, AllFit}
-use Rattle.vx_frame.proofs.Steps.{Stands, Quiet, quiet_on, Comes, stay, comes_on, forth_comes, set_step, wait_step, store_step}
+use Rattle.vx_frame.proofs.Steps.{Stands, Quiet, quiet_on, Comes, stay, comes_on, forth_comes, set_step, pause_step, store_step}
 
 module _ (m : Numbers) (w : WordProgram) (fit : AllFit m w) (T : Target) (f sp : ℕ) (size : w.memory ≡ 4 * memory_words T) (small : 4 * memory_words T < 2 ^ 32) where
   -- a general value that can be given a result
@@ -57,13 +57,13 @@ module _ (m : Numbers) (w : WordProgram) (fit : AllFit m w) (T : Target) (f sp :
       let name : register_of T f (v ∷ []) v ≡ g = as_general v can.general in
       let not_zero : is_zero g ≡ false = ap is_zero (sym name) ∙ can.not_zero in
       let a = set_step m w fit u (Move (home T f v) (general_of T f (v ∷ []) v) (Held answer)) g n calm st.0 (record { bad = refl; takes = refl; prints = refl; stores = λ y. refl; leads = λ ops. refl }) refl not_zero from in
-      let pause : ℕ = in_flight T.machine 0 (one (Move (home T f v) (general_of T f (v ∷ []) v) (Held answer)) ∷ []) in
-      let b = wait_step m w fit a.to pause a.quiet.calm (subst (λ q. slice_get w.words q ≡ Some (waits pause)) (sym a.place) st.1.0) in
+      let late : ℕ = in_flight T.machine 0 (one (Move (home T f v) (general_of T f (v ∷ []) v) (Held answer)) ∷ []) in
+      let b = pause_step m w fit a.to late a.quiet.calm (subst (λ q. Stands w.words q (pause late)) (sym a.place) st.1) in
       let pa = a.place in
       let pb = b.place in
       record {
         to = b.to;
-        comes = comes_on m w fit u a.to b.to (forth_comes m w fit u a.to a.forth) (forth_comes m w fit a.to b.to b.forth);
+        comes = comes_on m w fit u a.to b.to (forth_comes m w fit u a.to a.forth) b.comes;
         place = omega arith;
         quiet = quiet_on u a.to b.to a.quiet b.quiet;
         others = λ q h. ap (λ y. seen y q) b.registers ∙ a.others q (λ z. h v refl (z ∙ sym name));

@@ -23,7 +23,7 @@ use Rattle.vx_flow.proofs.SoundFlowLaw.{told}
 use Rattle.vx_isa.specs.declared.operation.Register.TheVariants.{General}
 use Rattle.vx_isa.specs.declared.operation.Source.TheVariants.{Held, Number}
 use Rattle.vx_isa.specs.declared.operation.Operation.{Operation}
-use Rattle.vx_isa.specs.declared.operation.Operation.TheVariants.{Compute, Halt}
+use Rattle.vx_isa.specs.declared.operation.Operation.TheVariants.{Compute, Call as CallsTo, Halt}
 use Rattle.vx_isa.specs.declared.program.Word.{Word}
 use Rattle.vx_isa.specs.declared.program.WordProgram.{WordProgram}
 use Rattle.vx_isa.specs.Machine.{State, Halts, register, leads_to, unless_stuck, effect, issue, step}
@@ -34,7 +34,7 @@ use Rattle.vx_mixed.specs.Laid.{laid_program}
 use Rattle.vx_mixed.specs.LaidSettled.{bank_in}
 use Rattle.vx_mixed.specs.Origins.{CallsAs}
 use Rattle.vx_regs.specs.Intervals.{IsLive, IsBusy, is_live, is_named, result_of}
-use Rattle.vx_frame.specs.Target.{Target, answer, kept, is_slotted, is_branch, holds_branch, stack_on, register_of, one, bytes, move_stack, result_words, reload_words, call_words, back_words, memory_words}
+use Rattle.vx_frame.specs.Target.{Target, answer, kept, is_slotted, is_branch, holds_branch, stack_on, register_of, one, bytes, move_stack, result_words, reload_words, call_words, back_words, set_stack, halt_place, memory_words}
 use Rattle.vx_frame.specs.Tied.{Tied, Shows, Arrays, Waits, Below, Deep, IsResult, back_place, row_in, begins_at, is_place, moved as moved_number, holds, word_at}
 use Rattle.vx_frame.specs.Carried.{Carries, IsFunctionOf, NeedsSlot, is_spilled, is_saved, Survives}
 use Rattle.vx_frame.specs.Planned.{CarriesOn, EndsAlike}
@@ -251,7 +251,7 @@ module _ (T : Target) (flow : Flow) (ls : List VWords) (w : WordProgram) (sound 
     answer_a = moved.others (General answer) (λ k e. stack_no_answer k (sym e)) ∙ left.answered
 
     stands_a : Stands w.words A.place (Gets ++ Loads)
-    stands_a = subst (λ q. Stands w.words q (Gets ++ Loads)) (let a = moved.place in let q : L.place + 2 ≡ A.place = omega arith in q) (stands_right w.words L.place Up (Gets ++ Loads) stands_l)
+    stands_a = subst (λ q. Stands w.words q (Gets ++ Loads)) (sym moved.place) (stands_right w.words L.place Up (Gets ++ Loads) stands_l)
 
     resulted : Resulted T.machine w fit T F Sp carries.memory small A fr.result n (length Gets)
     resulted = result_run T.machine w fit T F Sp carries.memory small fr.result n A moved.quiet.calm (stack_a 0 some) answer_a can_get (stands_left w.words A.place Gets Loads stands_a)
@@ -284,14 +284,14 @@ module _ (T : Target) (flow : Flow) (ls : List VWords) (w : WordProgram) (sound 
     place_c =
         let a = reloaded.place in
         let b = resulted.place in
-        let c = moved.place in
+        let c : A.place ≡ L.place + length Up = moved.place in
         let d = left.place in
         let e = back_is in
         let f = back_at in
         let g = word_next T flow.main (length flow.functions) w.words carries.placed F P (Call waits.callee waits.arguments fr.result) below waits.called in
         let l1 : length (Calls ++ back_words T F P fr.result) ≡ length Calls + length (back_words T F P fr.result) = length-append Calls (back_words T F P fr.result) in
         let l2 : length (Gets ++ Loads) ≡ length Gets + length Loads = length-append Gets Loads in
-        let l3 : length (back_words T F P fr.result) ≡ suc (suc (length (Gets ++ Loads))) = refl in
+        let l3 : length (back_words T F P fr.result) ≡ length Up + length (Gets ++ Loads) = length-append Up (Gets ++ Loads) in
         let h : T.starts F (suc P) ≡ T.starts F P + length (Calls ++ back_words T F P fr.result) = g in
         omega arith
 
@@ -419,7 +419,11 @@ module _ (T : Target) (flow : Flow) (ls : List VWords) (w : WordProgram) (carrie
   Halting = one (Halt (Held answer))
 
   halt_at : slice_get w.words (back_place T r.waiting) ≡ Some Halting
-  halt_at = subst (λ fs. slice_get w.words (back_place T fs) ≡ Some Halting) (sym waiting) (start_stands T flow.main (length flow.functions) w.words carries.placed).1.1.1.0
+  halt_at =
+      let ends : List Word = one (CallsTo (T.entry flow.main)) ∷ Halting ∷ [] in
+      let at = stands_right w.words 0 (set_stack T) ends (start_stands T flow.main (length flow.functions) w.words carries.placed) in
+      let z : (0 + length (set_stack T)) + 1 ≡ halt_place T = omega arith in
+      subst (λ fs. slice_get w.words (back_place T fs) ≡ Some Halting) (sym waiting) (subst (λ q. slice_get w.words q ≡ Some Halting) z at.1.0)
 
   few_at_end : back_place T r.waiting < 2 ^ 32
   few_at_end = let a = get_below w.words (back_place T r.waiting) Halting halt_at in let b = carries.few in omega arith

@@ -14,12 +14,12 @@ use Rattle.vx_isa.specs.declared.program.WordProgram.{WordProgram}
 use Rattle.vx_isa.specs.Numbers.{Numbers}
 use Rattle.vx_isa.specs.Operations.{is_zero}
 use Rattle.vx_isa.specs.Machine.{State, register, is_one}
-use Rattle.vx_frame.specs.Target.{Target, answer, stack_on, general_of, branch_of, register_of, holds_branch, home, one, waits, in_flight, settled, bytes, load_slot, store_slot, load_slots, store_slots, if_some, once, memory_words}
+use Rattle.vx_frame.specs.Target.{Target, answer, stack_on, general_of, branch_of, register_of, holds_branch, home, one, pause, in_flight, settled, bytes, load_slot, store_slot, load_slots, store_slots, if_some, once, memory_words}
 use Rattle.vx_frame.specs.Tied.{IsAnswer, word_at}
 use Rattle.vx_frame.proofs.Calm.{seen, AllFit}
 use Rattle.vx_frame.proofs.Once.{in_once, once_in}
 use Rattle.vx_frame.proofs.Op.{same_or_not}
-use Rattle.vx_frame.proofs.Steps.{Stands, stands_left, stands_right, Quiet, quiet_on, Comes, stay, comes_on, forth_comes, set_step, wait_step, load_step, store_step}
+use Rattle.vx_frame.proofs.Steps.{Stands, stands_left, stands_right, Quiet, quiet_on, Comes, stay, comes_on, forth_comes, set_step, pause_step, load_step, store_step}
 
 pub in_or_not : (v : ℕ) (us : List ℕ) → IsIn v us ⊎ (IsIn v us → ⊥)
 in_or_not v [] = inr (λ i. i)
@@ -90,18 +90,20 @@ module _ (m : Numbers) (w : WordProgram) (fit : AllFit m w) (T : Target) (f sp :
       record { to = a.to; comes = forth_comes m w fit u a.to a.forth; place = a.place; quiet = a.quiet; memory = a.memory; at = a.at; others = λ q ne na. a.others q ne }
   load_case true up v u calm not_zero below st stack inside =
       let a = load_step m w fit (memory_words T) size small u 0 answer (stack_on 0) sp (up + T.slot f v) calm st.0 (stack 0 some) inside refl in
-      let pause : ℕ = in_flight T.machine 0 (one (Load 0 answer (bytes (up + T.slot f v)) (stack_on 0) false) ∷ []) in
-      let b = wait_step m w fit a.to pause a.quiet.calm (subst (λ q. slice_get w.words q ≡ Some (waits pause)) (sym a.place) st.1.0) in
-      let at_b : b.to.place ≡ (u.place + 1) + 1 = b.place ∙ ap (λ q. q + 1) a.place in
+      let n : ℕ = in_flight T.machine 0 (one (Load 0 answer (bytes (up + T.slot f v)) (stack_on 0) false) ∷ []) in
+      let Rest : List Word = pause n in
+      let b = pause_step m w fit a.to n a.quiet.calm (subst (λ q. Stands w.words q Rest) (sym a.place) (stands_left w.words (u.place + 1) Rest (one (Compute 0 (ToBranch Ne) (Branch (record { cluster = 0; number = branch_of T f names v })) (Held answer) (Number (pos 0))) ∷ []) st.1)) in
+      let at_b : b.to.place ≡ (u.place + 1) + length Rest = b.place ∙ ap (λ q. q + length Rest) a.place in
       let c = set_step m w fit b.to (Compute 0 (ToBranch Ne) (Branch (record { cluster = 0; number = branch_of T f names v })) (Held answer) (Number (pos 0))) (Branch (record { cluster = 0; number = branch_of T f names v }))
       (one_if (compare_of Ne (word_at u.memory (sp + (up + T.slot f v))) (pos 0))) b.quiet.calm
-      (subst (λ q. slice_get w.words q ≡ Some (one (Compute 0 (ToBranch Ne) (Branch (record { cluster = 0; number = branch_of T f names v })) (Held answer) (Number (pos 0))))) (sym at_b) st.1.1.0)
+      (subst (λ q. slice_get w.words q ≡ Some (one (Compute 0 (ToBranch Ne) (Branch (record { cluster = 0; number = branch_of T f names v })) (Held answer) (Number (pos 0))))) (sym at_b) (stands_right w.words (u.place + 1) Rest (one (Compute 0 (ToBranch Ne) (Branch (record { cluster = 0; number = branch_of T f names v })) (Held answer) (Number (pos 0))) ∷ []) st.1).0)
       (record { bad = refl; takes = refl; prints = refl; stores = λ m. refl; leads = λ ops. refl }) refl refl
       (ap (λ z. one_if (compare_of Ne z (pos 0))) (ap (λ g. seen g (General answer)) b.registers ∙ a.at)) in
       let pc = c.place in
+      let len = length-append Rest (one (Compute 0 (ToBranch Ne) (Branch (record { cluster = 0; number = branch_of T f names v })) (Held answer) (Number (pos 0))) ∷ []) in
       record {
         to = c.to;
-        comes = comes_on m w fit u a.to c.to (forth_comes m w fit u a.to a.forth) (comes_on m w fit a.to b.to c.to (forth_comes m w fit a.to b.to b.forth) (forth_comes m w fit b.to c.to c.forth));
+        comes = comes_on m w fit u a.to c.to (forth_comes m w fit u a.to a.forth) (comes_on m w fit a.to b.to c.to b.comes (forth_comes m w fit b.to c.to c.forth));
         place = omega arith;
         quiet = quiet_on u a.to c.to a.quiet (quiet_on a.to b.to c.to b.quiet c.quiet);
         memory = c.memory ∙ b.memory ∙ a.memory;
@@ -135,17 +137,19 @@ module _ (m : Numbers) (w : WordProgram) (fit : AllFit m w) (T : Target) (f sp :
   store_case true v u calm below st stack inside =
       let a = set_step m w fit u (Select 0 answer (record { cluster = 0; number = branch_of T f names v }) (Number (pos 1)) (Number (pos 0))) (General answer) (as_kept true (seen u.registers (by_bank true v))) calm st.0
       (record { bad = refl; takes = refl; prints = refl; stores = λ m. refl; leads = λ ops. refl }) refl refl refl in
-      let pause : ℕ = in_flight T.machine 0 (one (Select 0 answer (record { cluster = 0; number = branch_of T f names v }) (Number (pos 1)) (Number (pos 0))) ∷ []) in
-      let b = wait_step m w fit a.to pause a.quiet.calm (subst (λ q. slice_get w.words q ≡ Some (waits pause)) (sym a.place) st.1.0) in
-      let at_b : b.to.place ≡ (u.place + 1) + 1 = b.place ∙ ap (λ q. q + 1) a.place in
+      let n : ℕ = in_flight T.machine 0 (one (Select 0 answer (record { cluster = 0; number = branch_of T f names v }) (Number (pos 1)) (Number (pos 0))) ∷ []) in
+      let Rest : List Word = pause n in
+      let b = pause_step m w fit a.to n a.quiet.calm (subst (λ q. Stands w.words q Rest) (sym a.place) (stands_left w.words (u.place + 1) Rest (one (Store 0 (bytes (T.slot f v)) (stack_on 0) (Held answer)) ∷ []) st.1)) in
+      let at_b : b.to.place ≡ (u.place + 1) + length Rest = b.place ∙ ap (λ q. q + length Rest) a.place in
       let stack_b : register b.to (General (stack_on 0)) ≡ pos (4 * sp) = ap (λ g. seen g (General (stack_on 0))) b.registers ∙ a.others (General (stack_on 0)) (stack_no_answer 0) ∙ stack 0 some in
       let c = store_step m w fit (memory_words T) size small b.to 0 (stack_on 0) (Held answer) sp (T.slot f v) b.quiet.calm
-      (subst (λ q. slice_get w.words q ≡ Some (one (Store 0 (bytes (T.slot f v)) (stack_on 0) (Held answer)))) (sym at_b) st.1.1.0) stack_b inside in
+      (subst (λ q. slice_get w.words q ≡ Some (one (Store 0 (bytes (T.slot f v)) (stack_on 0) (Held answer)))) (sym at_b) (stands_right w.words (u.place + 1) Rest (one (Store 0 (bytes (T.slot f v)) (stack_on 0) (Held answer)) ∷ []) st.1).0) stack_b inside in
       let from : register b.to (General answer) ≡ as_kept true (seen u.registers (by_bank true v)) = ap (λ g. seen g (General answer)) b.registers ∙ a.at in
       let pc = c.place in
+      let len = length-append Rest (one (Store 0 (bytes (T.slot f v)) (stack_on 0) (Held answer)) ∷ []) in
       record {
         to = c.to;
-        comes = comes_on m w fit u a.to c.to (forth_comes m w fit u a.to a.forth) (comes_on m w fit a.to b.to c.to (forth_comes m w fit a.to b.to b.forth) (forth_comes m w fit b.to c.to c.forth));
+        comes = comes_on m w fit u a.to c.to (forth_comes m w fit u a.to a.forth) (comes_on m w fit a.to b.to c.to b.comes (forth_comes m w fit b.to c.to c.forth));
         place = omega arith;
         quiet = quiet_on u a.to c.to a.quiet (quiet_on a.to b.to c.to b.quiet c.quiet);
         others = λ q na. ap (λ g. seen g q) c.registers ∙ ap (λ g. seen g q) b.registers ∙ a.others q na;
@@ -239,14 +243,14 @@ module _ (m : Numbers) (w : WordProgram) (fit : AllFit m w) (T : Target) (f sp :
         elsewhere = λ x h. b.elsewhere x (λ y j. h y (inr j)) ∙ a.elsewhere x (h v (inl refl));
       }
 
-  wait_after : (u : State) (vs : List ℕ) (taken pause : ℕ) → (a : Loaded u vs taken) → slice_get w.words a.to.place ≡ Some (waits pause) → Loaded u vs (taken + 1)
-  wait_after u vs taken pause a st =
-      let b = wait_step m w fit a.to pause a.quiet.calm st in
+  wait_after : (u : State) (vs : List ℕ) (taken n : ℕ) → (a : Loaded u vs taken) → Stands w.words a.to.place (pause n) → Loaded u vs (taken + length (pause n))
+  wait_after u vs taken n a st =
+      let b = pause_step m w fit a.to n a.quiet.calm st in
       let pa = a.place in
       let pb = b.place in
       record {
         to = b.to;
-        comes = comes_on m w fit u a.to b.to a.comes (forth_comes m w fit a.to b.to b.forth);
+        comes = comes_on m w fit u a.to b.to a.comes b.comes;
         place = omega arith;
         quiet = quiet_on u a.to b.to a.quiet b.quiet;
         memory = b.memory ∙ a.memory;
@@ -271,11 +275,11 @@ module _ (m : Numbers) (w : WordProgram) (fit : AllFit m w) (T : Target) (f sp :
   before_case [] u calm st stack usable inside apart = load_list [] u calm tt stack usable inside apart
   before_case (v ∷ vs) u calm st stack usable inside apart =
       let loads : List Word = load_slots T f names (v ∷ vs) in
-      let pause : ℕ = in_flight T.machine 0 loads in
-      let a = load_list (v ∷ vs) u calm (stands_left w.words u.place loads (waits pause ∷ []) st) stack usable inside apart in
-      let last = (stands_right w.words u.place loads (waits pause ∷ []) st).0 in
-      let len : length (loads ++ waits pause ∷ []) ≡ length loads + 1 = length-append loads (waits pause ∷ []) in
-      subst (Loaded u (v ∷ vs)) (sym len) (wait_after u (v ∷ vs) (length loads) pause a (subst (λ q. slice_get w.words q ≡ Some (waits pause)) (sym a.place) last))
+      let n : ℕ = in_flight T.machine 0 loads in
+      let a = load_list (v ∷ vs) u calm (stands_left w.words u.place loads (pause n) st) stack usable inside apart in
+      let last : Stands w.words (u.place + length loads) (pause n) = stands_right w.words u.place loads (pause n) st in
+      let len : length (loads ++ pause n) ≡ length loads + length (pause n) = length-append loads (pause n) in
+      subst (Loaded u (v ∷ vs)) (sym len) (wait_after u (v ∷ vs) (length loads) n a (subst (λ q. Stands w.words q (pause n)) (sym a.place) last))
 
   -- the words before a planned word
   pub once_case : (vs : List ℕ) (u : State) → u.flying ≡ [] → Stands w.words u.place (if_some vs (settled T (load_slots T f names (once vs)))) → StackAt u → AllUsable vs → AllInside vs → NamedApart vs → Loaded u vs (length (if_some vs (settled T (load_slots T f names (once vs)))))
@@ -286,17 +290,19 @@ module _ (m : Numbers) (w : WordProgram) (fit : AllFit m w) (T : Target) (f sp :
       (before_case (once (v ∷ vs)) u calm st stack (λ x i. usable x (forth x i)) (λ x i. inside x (forth x i)) (λ x y i j. apart x y (forth x i) (forth y j)))
 
   -- and behind it
-  pub behind_case : (pause : ℕ) (vs : List ℕ) (u : State) → u.flying ≡ [] → Stands w.words u.place (if_some vs (waits pause ∷ store_slots T f names vs)) → StackAt u → AllUsable vs → AllInside vs → SlotsApart vs → Stored u vs (length (if_some vs (waits pause ∷ store_slots T f names vs)))
-  behind_case pause [] u calm st stack usable inside apart = store_list [] u calm tt stack usable inside apart
-  behind_case pause (v ∷ vs) u calm st stack usable inside apart =
-      let a = wait_step m w fit u pause calm st.0 in
+  pub behind_case : (late : ℕ) (vs : List ℕ) (u : State) → u.flying ≡ [] → Stands w.words u.place (if_some vs (pause late ++ store_slots T f names vs)) → StackAt u → AllUsable vs → AllInside vs → SlotsApart vs → Stored u vs (length (if_some vs (pause late ++ store_slots T f names vs)))
+  behind_case late [] u calm st stack usable inside apart = store_list [] u calm tt stack usable inside apart
+  behind_case late (v ∷ vs) u calm st stack usable inside apart =
+      let stores : List Word = store_slots T f names (v ∷ vs) in
+      let a = pause_step m w fit u late calm (stands_left w.words u.place (pause late) stores st) in
       let same : (q : Register) → seen a.to.registers q ≡ seen u.registers q = λ q. ap (λ g. seen g q) a.registers in
-      let b = store_list (v ∷ vs) a.to a.quiet.calm (subst (λ q. Stands w.words q (store_slots T f names (v ∷ vs))) (sym a.place) st.1) (λ k lt. same (General (stack_on k)) ∙ stack k lt) usable inside apart in
+      let b = store_list (v ∷ vs) a.to a.quiet.calm (subst (λ q. Stands w.words q stores) (sym a.place) (stands_right w.words u.place (pause late) stores st)) (λ k lt. same (General (stack_on k)) ∙ stack k lt) usable inside apart in
       let pa = a.place in
       let pb = b.place in
+      let len = length-append (pause late) stores in
       record {
         to = b.to;
-        comes = comes_on m w fit u a.to b.to (forth_comes m w fit u a.to a.forth) b.comes;
+        comes = comes_on m w fit u a.to b.to a.comes b.comes;
         place = omega arith;
         quiet = quiet_on u a.to b.to a.quiet b.quiet;
         others = λ q na. b.others q na ∙ same q;

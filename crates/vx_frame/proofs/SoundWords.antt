@@ -38,7 +38,7 @@ use Rattle.vx_mixed.specs.declared.layout.VirtualWord.TheVariants.{Planned, Drai
 use Rattle.vx_mixed.specs.declared.layout.VWords.{VWords}
 use Rattle.vx_mixed.specs.LaidSettled.{laid_reads, laid_writes, Plans}
 use Rattle.vx_mixed.specs.Origins.{ComesFrom, graph_op}
-use Rattle.vx_frame.specs.Target.{Target, answer, general, general_of, branch_of, register_of, stack_on, holds_branch, is_slotted, kept, slotted, once, parameters_of, one, waits, in_flight, settled, slots_in_flight, load_slot, store_slot, load_slots, store_slots, if_some, before, behind, leads, carried, carried_items, plan_word, plan_words, landing_words, on_clusters, move_stack, save_words, reload_words, fetch_words, fetched, cluster_of_operand, argument_words, result_words, call_words, back_words, return_words, entry_words, word_words, start_words, bytes, first_frame, memory_words}
+use Rattle.vx_frame.specs.Target.{Target, answer, general, general_of, branch_of, register_of, stack_on, holds_branch, is_slotted, kept, slotted, once, parameters_of, one, pause, in_flight, settled, set_stack, slots_in_flight, load_slot, store_slot, load_slots, store_slots, if_some, before, behind, leads, carried, carried_items, plan_word, plan_words, landing_words, on_clusters, move_stack, save_words, reload_words, fetch_words, fetched, cluster_of_operand, argument_words, result_words, call_words, back_words, return_words, entry_words, word_words, start_words, bytes, first_frame, memory_words}
 use Rattle.vx_frame.specs.Placed.{Depth, Labelled, laid_pieces, landing_of, item_landings, word_landings, landing_pieces, function_pieces, functions_pieces, all_pieces, words_of}
 use Rattle.vx_frame.specs.Carried.{Carries, IsFunctionOf, IsMapped, item_of_laid}
 use Rattle.vx_frame.specs.Finish.{SoundLaw}
@@ -72,10 +72,13 @@ words_some T f p (Drain n) = omega arith
 words_some T f p (Transfer q) = omega arith
 words_some T f p (Choice test q) = some_behind (before T f (test ∷ [])) [] (one (BranchOn (branch_of T f (test ∷ []) test) true (T.starts f q)))
 words_some T f p (Calls g arguments result) =
-    some_before (call_words T f p g arguments) (back_words T f p result)
-    (some_behind (save_words T f (T.saved f p)) (waits (in_flight T.machine 0 (one (Compute 0 (ToBranch Ltu) (InBranch (record { cluster = 0; number = 0 })) (Held (stack_on 0)) (Number (bytes (T.globals + T.frame)))) ∷ [])) ∷ one (BranchOn 0 true T.depth_trap) ∷ (move_stack T (neg_ℤ (bytes T.frame)) ++ (argument_words T f g (parameters_of T g) arguments ++ one (Call (T.entry g)) ∷ [])))
-    (one (Compute 0 (ToBranch Ltu) (InBranch (record { cluster = 0; number = 0 })) (Held (stack_on 0)) (Number (bytes (T.globals + T.frame))))))
-words_some T f p (Returns x) = some_behind (fetch_words T f 0 x) (one (Load 0 (general 0 3) (pos 0) (stack_on 0) false) ∷ waits (in_flight T.machine 0 (one (Move 0 answer (fetched T f x)) ∷ one (Load 0 (general 0 3) (pos 0) (stack_on 0) false) ∷ [])) ∷ (settled T (one (ToLink (Held (general 0 3))) ∷ []) ++ one Return ∷ [])) (one (Move 0 answer (fetched T f x)))
+    let test : Word = one (Compute 0 (ToBranch Ltu) (InBranch (record { cluster = 0; number = 0 })) (Held (stack_on 0)) (Number (bytes (T.globals + T.frame)))) in
+    let rest : List Word = one (BranchOn 0 true T.depth_trap) ∷ (move_stack T (neg_ℤ (bytes T.frame)) ++ (argument_words T f g (parameters_of T g) arguments ++ one (Call (T.entry g)) ∷ [])) in
+    some_before (call_words T f p g arguments) (back_words T f p result) (some_behind (save_words T f (T.saved f p)) (pause (in_flight T.machine 0 (test ∷ [])) ++ rest) test)
+words_some T f p (Returns x) =
+    let move : Word = one (Move 0 answer (fetched T f x)) in
+    let load : Word = one (Load 0 (general 0 3) (pos 0) (stack_on 0) false) in
+    some_behind (fetch_words T f 0 x) (load ∷ (pause (in_flight T.machine 0 (move ∷ load ∷ [])) ++ (settled T (one (ToLink (Held (general 0 3))) ∷ []) ++ one Return ∷ []))) move
 words_some T f p (Ends k) = omega arith
 
 landing_some : (T : Target) (f q : ℕ) (items : List Laid) → 1 ≤ length (landing_words T f items q)
@@ -136,11 +139,16 @@ module _ (T : Target) (flow : Flow) (ls : List VWords) (w : WordProgram) (sound 
   abbrev Count : ℕ
   Count = length flow.functions
 
-  wait_right : (ws : List Word) → Right W N (waits (in_flight T.machine 0 ws))
-  wait_right ws = (let a = flight_few T.machine carries.machine 0 ws (omega arith) in omega arith, inr refl, tt)
+  pause_right : (n : ℕ) → n ≤ 16 → AllRight W N (pause n)
+  pause_right zero le = tt
+  pause_right (suc n) le = ((omega arith, inr refl, tt), tt)
 
   settled_right : (ws : List Word) → Words ws → Words (settled T ws)
-  settled_right ws h = right_append W N ws (waits (in_flight T.machine 0 ws) ∷ []) h (wait_right ws, tt)
+  settled_right ws h = let n = in_flight T.machine 0 ws in right_append W N ws (pause n) h (pause_right n (flight_few T.machine carries.machine 0 ws (omega arith)))
+
+  -- a word of one operation, a pause, and what follows
+  one_settled : (op : Operation) (ws : List Word) → Is op → Words ws → Words (settled T (one op ∷ []) ++ ws)
+  one_settled op ws g h = right_append W N (settled T (one op ∷ [])) ws (settled_right (one op ∷ []) (has_one W N op g, tt)) h
 
   -- places that are there
 
@@ -163,7 +171,8 @@ module _ (T : Target) (flow : Flow) (ls : List VWords) (w : WordProgram) (sound 
       by : (c : Bool) → Words (if c
           then settled T (one (Load 0 answer (bytes (up + T.slot f v)) (stack_on 0) false) ∷ []) ++ one (Compute 0 (ToBranch Ne) (InBranch (record { cluster = 0; number = b })) (Held answer) (Number (pos 0))) ∷ []
           else one (Load to.cluster to (bytes (up + T.slot f v)) (stack_on to.cluster) false) ∷ [])
-      by true = (has_one W N (Load 0 answer (bytes (up + T.slot f v)) (stack_on 0) false) tt, (wait_right (one (Load 0 answer (bytes (up + T.slot f v)) (stack_on 0) false) ∷ []), (has_one W N (Compute 0 (ToBranch Ne) (InBranch (record { cluster = 0; number = b })) (Held answer) (Number (pos 0))) refl, tt)))
+      by true = one_settled (Load 0 answer (bytes (up + T.slot f v)) (stack_on 0) false) (one (Compute 0 (ToBranch Ne) (InBranch (record { cluster = 0; number = b })) (Held answer) (Number (pos 0))) ∷ []) tt
+          (has_one W N (Compute 0 (ToBranch Ne) (InBranch (record { cluster = 0; number = b })) (Held answer) (Number (pos 0))) refl, tt)
       by false = (has_one W N (Load to.cluster to (bytes (up + T.slot f v)) (stack_on to.cluster) false) tt, tt)
 
   store_slot_right : (f v : ℕ) (from : GeneralRegister) (b : ℕ) → Words (store_slot T f v from b)
@@ -172,7 +181,8 @@ module _ (T : Target) (flow : Flow) (ls : List VWords) (w : WordProgram) (sound 
       by : (c : Bool) → Words (if c
           then settled T (one (Select 0 answer (record { cluster = 0; number = b }) (Number (pos 1)) (Number (pos 0))) ∷ []) ++ one (Store 0 (bytes (T.slot f v)) (stack_on 0) (Held answer)) ∷ []
           else one (Store from.cluster (bytes (T.slot f v)) (stack_on from.cluster) (Held from)) ∷ [])
-      by true = (has_one W N (Select 0 answer (record { cluster = 0; number = b }) (Number (pos 1)) (Number (pos 0))) tt, (wait_right (one (Select 0 answer (record { cluster = 0; number = b }) (Number (pos 1)) (Number (pos 0))) ∷ []), (has_one W N (Store 0 (bytes (T.slot f v)) (stack_on 0) (Held answer)) tt, tt)))
+      by true = one_settled (Select 0 answer (record { cluster = 0; number = b }) (Number (pos 1)) (Number (pos 0))) (one (Store 0 (bytes (T.slot f v)) (stack_on 0) (Held answer)) ∷ []) tt
+          (has_one W N (Store 0 (bytes (T.slot f v)) (stack_on 0) (Held answer)) tt, tt)
       by false = (has_one W N (Store from.cluster (bytes (T.slot f v)) (stack_on from.cluster) (Held from)) tt, tt)
 
   load_slots_right : (f : ℕ) (names vs : List ℕ) → Words (load_slots T f names vs)
@@ -192,8 +202,8 @@ module _ (T : Target) (flow : Flow) (ls : List VWords) (w : WordProgram) (sound 
   behind_right : (f : ℕ) (items : List Laid) → Words (behind T f items)
   behind_right f items =
       let ws = laid_writes items in
-      some_right W N (slotted T f ws) (waits (slots_in_flight T f items) ∷ store_slots T f ws (slotted T f ws))
-      ((let a = slots_few T carries.machine f items in omega arith, inr refl, tt), store_slots_right f ws (slotted T f ws))
+      some_right W N (slotted T f ws) (pause (slots_in_flight T f items) ++ store_slots T f ws (slotted T f ws))
+      (right_append W N (pause (slots_in_flight T f items)) (store_slots T f ws (slotted T f ws)) (pause_right (slots_in_flight T f items) (slots_few T carries.machine f items)) (store_slots_right f ws (slotted T f ws)))
 
   reload_right : (f : ℕ) (vs : List ℕ) → Words (reload_words T f vs)
   reload_right f vs = some_right W N vs (settled T (load_slots T f vs vs)) (loads_right f vs vs)
@@ -201,16 +211,16 @@ module _ (T : Target) (flow : Flow) (ls : List VWords) (w : WordProgram) (sound 
   -- an operation on each cluster
 
   move_stack_right : (z : ℤ) → Words (move_stack T z)
-  move_stack_right z = (
-    has_ops W N (on_clusters T.machine.clusters (λ k. Compute k Add (InGeneral (stack_on k)) (Held (stack_on k)) (Number z))) (spread_formed W N (λ k. Compute k Add (InGeneral (stack_on k)) (Held (stack_on k)) (Number z)) 0 T.machine.clusters (λ k. (refl, refl))),
-    (wait_right (record { ops = on_clusters T.machine.clusters (λ k. Compute k Add (InGeneral (stack_on k)) (Held (stack_on k)) (Number z)); idle = 0 } ∷ []), tt),
-  )
+  move_stack_right z =
+      let op : ℕ → Operation = λ k. Compute k Add (InGeneral (stack_on k)) (Held (stack_on k)) (Number z) in
+      settled_right (record { ops = on_clusters T.machine.clusters op; idle = 0 } ∷ []) (has_ops W N (on_clusters T.machine.clusters op) (spread_formed W N op 0 T.machine.clusters (λ k. (refl, refl))), tt)
 
   start_right : Words (start_words T flow.main)
-  start_right = (
-    has_ops W N (on_clusters T.machine.clusters (λ k. Move k (stack_on k) (Number (bytes (first_frame T))))) (spread_formed W N (λ k. Move k (stack_on k) (Number (bytes (first_frame T)))) 0 T.machine.clusters (λ k. tt)),
-    (wait_right (record { ops = on_clusters T.machine.clusters (λ k. Move k (stack_on k) (Number (bytes (first_frame T)))); idle = 0 } ∷ []), (has_one W N (Call (T.entry flow.main)) (entry_below flow.main (get_below flow.functions flow.main sound.main.graph sound.main.is)), (has_one W N (Halt (Held answer)) tt, tt))),
-  )
+  start_right =
+      let op : ℕ → Operation = λ k. Move k (stack_on k) (Number (bytes (first_frame T))) in
+      right_append W N (set_stack T) (one (Call (T.entry flow.main)) ∷ one (Halt (Held answer)) ∷ [])
+      (settled_right (record { ops = on_clusters T.machine.clusters op; idle = 0 } ∷ []) (has_ops W N (on_clusters T.machine.clusters op) (spread_formed W N op 0 T.machine.clusters (λ k. tt)), tt))
+      (has_one W N (Call (T.entry flow.main)) (entry_below flow.main (get_below flow.functions flow.main sound.main.graph sound.main.is)), (has_one W N (Halt (Held answer)) tt, tt))
 
   -- calls, returns and entries
 
@@ -236,22 +246,18 @@ module _ (T : Target) (flow : Flow) (ls : List VWords) (w : WordProgram) (sound 
     where
       by : (b : Bool) → Words (if b then one (Store 0 (bytes (T.slot f v)) (stack_on 0) (Held answer)) ∷ [] else settled T (one (Move (general_of T f (v ∷ []) v).cluster (general_of T f (v ∷ []) v) (Held answer)) ∷ []))
       by true = (has_one W N (Store 0 (bytes (T.slot f v)) (stack_on 0) (Held answer)) tt, tt)
-      by false = (has_one W N (Move (general_of T f (v ∷ []) v).cluster (general_of T f (v ∷ []) v) (Held answer)) tt, (wait_right (one (Move (general_of T f (v ∷ []) v).cluster (general_of T f (v ∷ []) v) (Held answer)) ∷ []), tt))
+      by false = settled_right (one (Move (general_of T f (v ∷ []) v).cluster (general_of T f (v ∷ []) v) (Held answer)) ∷ []) (has_one W N (Move (general_of T f (v ∷ []) v).cluster (general_of T f (v ∷ []) v) (Held answer)) tt, tt)
 
   call_right : (f p g : ℕ) (xs : List Operand) → g < Count → Words (call_words T f p g xs)
   call_right f p g xs there =
-      right_append W N (save_words T f (T.saved f p)) (settled T (one (Compute 0 (ToBranch Ltu) (InBranch (record { cluster = 0; number = 0 })) (Held (stack_on 0)) (Number (bytes (T.globals + T.frame)))) ∷ []) ++ one (BranchOn 0 true T.depth_trap) ∷ (move_stack T (neg_ℤ (bytes T.frame)) ++ (argument_words T f g (parameters_of T g) xs ++ one (Call (T.entry g)) ∷ [])))
-      (store_slots_right f (T.saved f p) (T.saved f p)) (
-        has_one W N (Compute 0 (ToBranch Ltu) (InBranch (record { cluster = 0; number = 0 })) (Held (stack_on 0)) (Number (bytes (T.globals + T.frame)))) refl,
-        (
-          wait_right (one (Compute 0 (ToBranch Ltu) (InBranch (record { cluster = 0; number = 0 })) (Held (stack_on 0)) (Number (bytes (T.globals + T.frame)))) ∷ []),
-          (
-            has_one W N (BranchOn 0 true T.depth_trap) trap_below,
-            right_append W N (move_stack T (neg_ℤ (bytes T.frame))) (argument_words T f g (parameters_of T g) xs ++ one (Call (T.entry g)) ∷ []) (move_stack_right (neg_ℤ (bytes T.frame)))
-                (right_append W N (argument_words T f g (parameters_of T g) xs) (one (Call (T.entry g)) ∷ []) (arguments_right f g (parameters_of T g) xs) (has_one W N (Call (T.entry g)) (entry_below g there), tt)),
-          ),
-        ),
-      )
+      let test : Operation = Compute 0 (ToBranch Ltu) (InBranch (record { cluster = 0; number = 0 })) (Held (stack_on 0)) (Number (bytes (T.globals + T.frame))) in
+      let down : List Word = move_stack T (neg_ℤ (bytes T.frame)) in
+      let passes : List Word = argument_words T f g (parameters_of T g) xs in
+      let calls : List Word = one (Call (T.entry g)) ∷ [] in
+      let branches : List Word = one (BranchOn 0 true T.depth_trap) ∷ (down ++ (passes ++ calls)) in
+      let passed : Words (passes ++ calls) = right_append W N passes calls (arguments_right f g (parameters_of T g) xs) (has_one W N (Call (T.entry g)) (entry_below g there), tt) in
+      let branched : Words branches = (has_one W N (BranchOn 0 true T.depth_trap) trap_below, right_append W N down (passes ++ calls) (move_stack_right (neg_ℤ (bytes T.frame))) passed) in
+      right_append W N (save_words T f (T.saved f p)) (settled T (one test ∷ []) ++ branches) (store_slots_right f (T.saved f p) (T.saved f p)) (one_settled test branches refl branched)
 
   back_right : (f p : ℕ) (result : Option ℕ) → Words (back_words T f p result)
   back_right f p result =
@@ -260,10 +266,14 @@ module _ (T : Target) (flow : Flow) (ls : List VWords) (w : WordProgram) (sound 
 
   return_right : (f : ℕ) (x : Operand) → Words (return_words T f x)
   return_right f x =
-      right_append W N (fetch_words T f 0 x) (settled T (one (Move 0 answer (fetched T f x)) ∷ one (Load 0 (general 0 3) (pos 0) (stack_on 0) false) ∷ []) ++ (settled T (one (ToLink (Held (general 0 3))) ∷ []) ++ one Return ∷ [])) (fetch_right f 0 x) (
-        has_one W N (Move 0 answer (fetched T f x)) tt,
-        (has_one W N (Load 0 (general 0 3) (pos 0) (stack_on 0) false) tt, (wait_right (one (Move 0 answer (fetched T f x)) ∷ one (Load 0 (general 0 3) (pos 0) (stack_on 0) false) ∷ []), (has_one W N (ToLink (Held (general 0 3))) tt, (wait_right (one (ToLink (Held (general 0 3))) ∷ []), (has_one W N Return tt, tt))))),
-      )
+      let move : Operation = Move 0 answer (fetched T f x) in
+      let load : Operation = Load 0 (general 0 3) (pos 0) (stack_on 0) false in
+      let link : Operation = ToLink (Held (general 0 3)) in
+      let loads : List Word = one move ∷ one load ∷ [] in
+      let links : List Word = settled T (one link ∷ []) ++ one Return ∷ [] in
+      let loaded : Words (settled T loads) = settled_right loads (has_one W N move tt, (has_one W N load tt, tt)) in
+      let linked : Words links = one_settled link (one Return ∷ []) tt (has_one W N Return tt, tt) in
+      right_append W N (fetch_words T f 0 x) (settled T loads ++ links) (fetch_right f 0 x) (right_append W N (settled T loads) links loaded linked)
 
   -- functions
 
@@ -284,16 +294,11 @@ module _ (T : Target) (flow : Flow) (ls : List VWords) (w : WordProgram) (sound 
     HasWordAt p word = slice_get (T.layout f).words p ≡ Some word
 
     entry_right : Words (entry_words T f)
-    entry_right = (
-      has_one W N (FromLink (general 0 3)) tt,
-      (
-        wait_right (one (FromLink (general 0 3)) ∷ []),
-        (
-          has_one W N (Store 0 (pos 0) (stack_on 0) (Held (general 0 3))) tt,
-          right_append W N (reload_words T f (T.brought f)) (one (Goto (T.starts f (T.layout f).entry)) ∷ []) (reload_right f (T.brought f)) (has_one W N (Goto (T.starts f (T.layout f).entry)) (start_below f (T.layout f).entry lt mapped.settled.entry), tt),
-        ),
-      ),
-    )
+    entry_right =
+        let goes : List Word = one (Goto (T.starts f (T.layout f).entry)) ∷ [] in
+        let rest : List Word = one (Store 0 (pos 0) (stack_on 0) (Held (general 0 3))) ∷ (reload_words T f (T.brought f) ++ goes) in
+        one_settled (FromLink (general 0 3)) rest tt
+        (has_one W N (Store 0 (pos 0) (stack_on 0) (Held (general 0 3))) tt, right_append W N (reload_words T f (T.brought f)) goes (reload_right f (T.brought f)) (has_one W N (Goto (T.starts f (T.layout f).entry)) (start_below f (T.layout f).entry lt mapped.settled.entry), tt))
 
     module _ (p rg wd : ℕ) (items : List Laid) (plan : HasWordAt p (Planned rg wd items)) where
       plans : Plans (T.layout f) p items

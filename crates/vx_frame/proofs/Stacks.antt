@@ -1,5 +1,5 @@
 -- The words that move the stack pointers of all clusters.
-use Rattle.std.proofs.Common.{◌≡◌, ℕ, suc, ℤ, [], ◌∷◌, refl, sym, subst}
+use Rattle.std.proofs.Common.{◌≡◌, ◌+◌, ℕ, suc, ℤ, List, [], ◌∷◌, refl}
 use Rattle.vx_base.specs.Arithmetic.{sum_of}
 use Rattle.vx_base.specs.declared.arithmetic.Code.TheVariants.{Add}
 use Rattle.vx_base.proofs.Runs.{run_reach}
@@ -7,10 +7,11 @@ use Rattle.vx_isa.specs.declared.operation.Register.TheVariants.{General}
 use Rattle.vx_isa.specs.declared.operation.Source.TheVariants.{Held, Number}
 use Rattle.vx_isa.specs.declared.operation.Operation.{Operation}
 use Rattle.vx_isa.specs.declared.operation.Operation.TheVariants.{Compute}
+use Rattle.vx_isa.specs.declared.program.Word.{Word}
 use Rattle.vx_isa.specs.declared.program.WordProgram.{WordProgram}
 use Rattle.vx_isa.specs.Machine.{State, register, step}
 use Rattle.vx_frame.specs.Target.{Target, stack_on, move_stack}
-use Rattle.vx_frame.specs.Moved.{StackMoved, StackLaw}
+use Rattle.vx_frame.specs.Moved.{AllAt, StackMoved, StackLaw}
 use Rattle.vx_frame.proofs.Calm.{AllFit}
 use Rattle.vx_frame.proofs.Forms.{Plainly}
 use Rattle.vx_frame.proofs.Moves.{move_run}
@@ -42,4 +43,8 @@ module _ (T : Target) (w : WordProgram) (fit : AllFit T.machine w) (z : ℤ) (u 
       }
 
 pub stack_law : StackLaw
-stack_law T w fit z u calm first second e at_first at_second = stacks_move T w fit z u calm (subst (Stands w.words u.place) (sym e) (at_first, (at_second, tt)))
+stack_law T w fit z u calm at = stacks_move T w fit z u calm (stands_at w u.place (move_stack T z) at)
+  where
+    stands_at : (v : WordProgram) (q : ℕ) (ws : List Word) → AllAt v q ws → Stands v.words q ws
+    stands_at v q [] a = tt
+    stands_at v q (x ∷ ws) a = (a.0, stands_at v (q + 1) ws a.1)

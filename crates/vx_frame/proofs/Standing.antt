@@ -7,7 +7,7 @@ use Rattle.vx_mixed.specs.declared.layout.VirtualWord.{VirtualWord}
 use Rattle.vx_mixed.specs.declared.layout.VirtualWord.TheVariants.{Planned, Drain, Transfer, Choice, Call as Calls, Return as Returns, Ends}
 use Rattle.vx_mixed.specs.LaidSettled.{laid_writes}
 use Rattle.vx_frame.specs.declared.gathering.FunctionPlaces.{FunctionPlaces}
-use Rattle.vx_frame.specs.Target.{Target, one as single, slotted, word_words, call_words, entry_words}
+use Rattle.vx_frame.specs.Target.{Target, one as single, slotted, word_words, call_words, entry_words, start_words}
 use Rattle.vx_frame.specs.Placed.{Labelled, Depth, PlacedAt, laid_pieces, landing_of, item_landings, word_landings, landing_pieces, function_pieces, functions_pieces, all_pieces, words_of, IsPlaced}
 use Rattle.std.proofs.lemmas.Bool.{cases_lt}
 use Rattle.vx_frame.specs.Placing.{Spots, at_spots, splits, OneSplit, starts_from, landings_from, mark_of, marks_from, laid_begin, landings_begin, places_at, all_places, spots_of, functions_begin, functions_end, standing}
@@ -16,7 +16,7 @@ use Rattle.vx_base.specs.declared.outcome.Trap.TheVariants.{Depth as ByDepth}
 use Rattle.vx_isa.specs.declared.operation.Operation.TheVariants.{EndByTrap}
 use Rattle.vx_isa.specs.declared.program.Word.{Word}
 use Rattle.vx_frame.proofs.Emitting.{words_of_append}
-use Rattle.vx_frame.proofs.Lengths.{call_length, entry_length, word_length, word_landings_length}
+use Rattle.vx_frame.proofs.Lengths.{call_length, entry_length, start_length, word_length, word_landings_length}
 
 placed_append : (T : Target) (q : ℕ) (xs ys : List Labelled) → PlacedAt T q xs → PlacedAt T (q + length (words_of xs)) ys → PlacedAt T q (xs ++ ys)
 placed_append T q [] ys a b = let z : q + 0 ≡ q = omega arith in subst (λ n. PlacedAt T n ys) z b
@@ -164,7 +164,8 @@ program_placed T main n one =
     let zero_first : (i : ℕ) → i ≡ 0 + i = λ i. omega arith in
     let functions : PlacedAt U q (functions_pieces U 0 n) = functions_placed T s q 0 n (λ i lt. subst (λ k. IsSpot s k (slice_index_or (all_places T q 0 n) i no_places)) (zero_first i) (record { entry = refl; starts = λ p. refl; landing = λ p to. refl; back = λ p. refl })) (λ i lt. subst (λ k. OneSplit (T.layout k).words) (zero_first i) (one i lt)) in
     let trap : functions_end T main n ≡ q + length (words_of (functions_pieces U 0 n)) = ap (λ k. q + k) (sym (functions_length T s 0 n)) in
-    (refl, placed_append U q (functions_pieces U 0 n) (record { label = Depth; words = one_word } ∷ []) functions (trap, tt))
+    let begin : q ≡ 0 + length (start_words U main) = (let a = start_length T s main in omega arith) in
+    (refl, subst (λ k. PlacedAt U k (functions_pieces U 0 n ++ record { label = Depth; words = one_word } ∷ [])) begin (placed_append U q (functions_pieces U 0 n) (record { label = Depth; words = one_word } ∷ []) functions (trap, tt)))
   where
     one_word : List Word
     one_word = single (EndByTrap ByDepth) ∷ []

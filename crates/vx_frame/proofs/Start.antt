@@ -16,22 +16,22 @@ use Rattle.vx_flow.specs.Meaning.{Active, Body, undefined, own_of, entered, ente
 use Rattle.vx_flow.specs.Sound.{SoundFlow, is_sound_flow}
 use Rattle.vx_flow.proofs.SoundFlowLaw.{told}
 use Rattle.vx_isa.specs.declared.operation.Register.TheVariants.{General, Link}
-use Rattle.vx_isa.specs.declared.operation.Source.TheVariants.{Number}
+use Rattle.vx_isa.specs.declared.operation.Source.TheVariants.{Held, Number}
 use Rattle.vx_isa.specs.declared.operation.Operation.{Operation}
-use Rattle.vx_isa.specs.declared.operation.Operation.TheVariants.{Move, Call}
+use Rattle.vx_isa.specs.declared.operation.Operation.TheVariants.{Move, Call, Halt}
 use Rattle.vx_isa.specs.declared.program.Word.{Word}
 use Rattle.vx_isa.specs.declared.program.WordProgram.{WordProgram}
 use Rattle.vx_isa.specs.Machine.{State, register, start, step, memory_at_start}
 use Rattle.vx_mixed.specs.declared.layout.VWords.{VWords}
 use Rattle.vx_mixed.specs.Laid.{laid_hop, laid_body, laid_program, laid_run}
-use Rattle.vx_frame.specs.Target.{Target, stack_on, one, start_words, first_frame, halt_place, bytes, parameters_of}
+use Rattle.vx_frame.specs.Target.{Target, stack_on, one, answer, set_stack, start_words, first_frame, halt_place, bytes, parameters_of}
 use Rattle.vx_frame.specs.Tied.{Tied, Row, Arrays, Deep, row_in, begins_at, word_at, own_arrays}
 use Rattle.vx_frame.specs.Carried.{Carries, IsFunctionOf, words_before, first_or_zero}
 use Rattle.vx_frame.specs.Planned.{StartsTied, StartLaw}
 use Rattle.vx_frame.proofs.Calm.{after, AllFit, put_at, put_off}
 use Rattle.vx_frame.proofs.Frames.{get_below, array_kind, IsGlobal, IsLocal}
 use Rattle.vx_frame.proofs.Moves.{Moved, move_run}
-use Rattle.vx_frame.proofs.Steps.{Stands, Forth, forth_comes, then_forth, word_step}
+use Rattle.vx_frame.proofs.Steps.{Stands, stands_left, stands_right, Forth, forth_comes, then_forth, word_step}
 use Rattle.vx_frame.proofs.Stands.{start_stands}
 
 -- rows of lists of arrays
@@ -119,6 +119,9 @@ module _ (T : Target) (flow : Flow) (ls : List VWords) (w : WordProgram) (sound 
   abbrev U : State
   U = start w input
 
+  abbrev Ends : List Word
+  Ends = one (Call (T.entry Main)) ∷ one (Halt (Held answer)) ∷ []
+
   stands : Stands w.words 0 (start_words T Main)
   stands = start_stands T Main (length flow.functions) w.words carries.placed
 
@@ -126,7 +129,7 @@ module _ (T : Target) (flow : Flow) (ls : List VWords) (w : WordProgram) (sound 
   op k = Move k (stack_on k) (Number (bytes First))
 
   moved : Moved T.machine w fit U op (λ k. bytes First) (λ k. refl) (λ k. refl) (λ k. record { bad = refl; takes = refl; prints = refl; stores = λ m. refl; leads = λ ops. refl }) T.machine.clusters
-  moved = move_run T.machine w fit U op (λ k. bytes First) (λ k. refl) (λ k. refl) (λ k. record { bad = refl; takes = refl; prints = refl; stores = λ m. refl; leads = λ ops. refl }) T.machine.clusters refl (stands.0, (stands.1.0, tt))
+  moved = move_run T.machine w fit U op (λ k. bytes First) (λ k. refl) (λ k. refl) (λ k. record { bad = refl; takes = refl; prints = refl; stores = λ m. refl; leads = λ ops. refl }) T.machine.clusters refl (stands_left w.words 0 (set_stack T) Ends stands)
 
   abbrev A : State
   A = moved.to
@@ -134,11 +137,11 @@ module _ (T : Target) (flow : Flow) (ls : List VWords) (w : WordProgram) (sound 
   abbrev Calls : Word
   Calls = one (Call (T.entry Main))
 
-  place_a : A.place ≡ 2
-  place_a = let x = moved.place in omega arith
+  place_a : A.place ≡ 0 + length (set_stack T)
+  place_a = moved.place
 
   call_at : slice_get w.words A.place ≡ Some Calls
-  call_at = subst (λ q. slice_get w.words q ≡ Some Calls) (sym place_a) stands.1.1.0
+  call_at = subst (λ q. slice_get w.words q ≡ Some Calls) (sym place_a) (stands_right w.words 0 (set_stack T) Ends stands).0
 
   abbrev B : State
   B = after w A Calls (T.entry Main)
@@ -146,8 +149,8 @@ module _ (T : Target) (flow : Flow) (ls : List VWords) (w : WordProgram) (sound 
   forth : Forth T.machine w fit U B
   forth = then_forth T.machine w fit U A B (forth_comes T.machine w fit U A moved.forth) (word_step T.machine w fit A Calls (T.entry Main) moved.quiet.calm call_at (record { addresses = refl; input = refl }) refl)
 
-  link_is : B.registers Link ≡ wrap (pos halt_place)
-  link_is = put_at Link (wrap (pos (A.place + 1))) A.registers refl ∙ ap (λ n. wrap (pos n)) (let x = place_a in let y : A.place + 1 ≡ 3 = omega arith in y)
+  link_is : B.registers Link ≡ wrap (pos (halt_place T))
+  link_is = put_at Link (wrap (pos (A.place + 1))) A.registers refl ∙ ap (λ n. wrap (pos n)) (let x = place_a in let y : A.place + 1 ≡ halt_place T = omega arith in y)
 
   stack_is : (k : ℕ) → k < T.machine.clusters → register B (General (stack_on k)) ≡ pos (4 * First)
   stack_is k lt = put_off Link (wrap (pos (A.place + 1))) A.registers (General (stack_on k)) (λ e. absurd (cc)) ∙ moved.stack k lt

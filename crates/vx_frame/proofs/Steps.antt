@@ -1,5 +1,5 @@
 -- Single words of which all but plan words are made, where every write lands at the next word.
-use Rattle.std.proofs.Common.{◌≡◌, ◌≢◌, ◌<◌, ◌+◌, ◌*◌, ◌^◌, ℕ, suc, ℤ, pos, Bool, true, false, ◌&&◌, ◌||◌, not, cond, Some, List, [], ◌∷◌, ◌++◌, length, refl, ap, ◌∙◌, subst, arith}
+use Rattle.std.proofs.Common.{◌≡◌, ◌≢◌, ◌<◌, ◌+◌, ◌*◌, ◌^◌, ℕ, zero, suc, ℤ, pos, Bool, true, false, ◌&&◌, ◌||◌, not, cond, Some, List, [], ◌∷◌, ◌++◌, length, refl, ap, ◌∙◌, subst, arith}
 use Rattle.std.specs.Prelude.{if◌then◌else◌, slice_get, drop, count_by}
 use Rattle.std.proofs.lemmas.List.{append-nil}
 use Rattle.vx_base.specs.Arithmetic.{sum_of, unsigned}
@@ -16,7 +16,7 @@ use Rattle.vx_isa.specs.Numbers.{Numbers}
 use Rattle.vx_isa.specs.Operations.{is_zero, destination_of}
 use Rattle.vx_isa.specs.Machine.{State, To, register, source, address, number_of, stored, takes_input, has_bad_address, lead_of, is_left, is_word_of}
 use Rattle.vx_isa.proofs.Lists.{count_by-cons}
-use Rattle.vx_frame.specs.Target.{one, waits, bytes}
+use Rattle.vx_frame.specs.Target.{one, waits, pause, bytes}
 use Rattle.vx_frame.specs.Tied.{word_at}
 use Rattle.vx_frame.proofs.Bytes.{address_is, is_word}
 use Rattle.vx_frame.proofs.Calm.{seen, put_to, put_at, put_off, after, AllFit, Fine, Going, word_goes}
@@ -120,6 +120,21 @@ module _ (m : Numbers) (w : WordProgram) (fit : AllFit m w) where
     memory = refl;
     registers = refl;
   }
+
+  -- a pause, or none
+  pub record Paused (u : State) (q : ℕ) : Type 0 where
+    pub to : State
+    pub comes : Comes u to
+    pub place : to.place ≡ q
+    pub quiet : Quiet u to
+    pub memory : to.memory ≡ u.memory
+    pub registers : to.registers ≡ u.registers
+
+  pub pause_step : (u : State) (n : ℕ) → u.flying ≡ [] → Stands w.words u.place (pause n) → Paused u (u.place + length (pause n))
+  pause_step u zero calm st = record { to = u; comes = stay u; place = omega arith; quiet = record { calm = calm; input = refl; out = refl }; memory = refl; registers = refl }
+  pause_step u (suc n) calm st =
+      let a = wait_step u (suc n) calm st.0 in
+      record { to = a.to; comes = forth_comes u a.to a.forth; place = a.place; quiet = a.quiet; memory = a.memory; registers = a.registers }
 
   pub goto_step : (u : State) (q : ℕ) → u.flying ≡ [] → slice_get w.words u.place ≡ Some (one (Goto q)) → Passed u q
   goto_step u q calm at = record {

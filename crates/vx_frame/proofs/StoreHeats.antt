@@ -8,8 +8,7 @@ use Rattle.vx_isa.specs.declared.operation.Source.TheVariants.{Held, Number}
 use Rattle.vx_isa.specs.declared.operation.Operation.{Operation}
 use Rattle.vx_isa.specs.declared.operation.Operation.TheVariants.{Select, Store}
 use Rattle.vx_isa.specs.declared.program.Word.{Word}
-use Rattle.vx_isa.specs.Machine.{cycles_of}
-use Rattle.vx_frame.specs.Target.{Target, answer, general_of, branch_of, register_of, stack_on, home, holds_branch, slotted, one, waits, in_flight, settled, store_slot, store_slots, if_some, bytes}
+use Rattle.vx_frame.specs.Target.{Target, answer, general_of, branch_of, register_of, stack_on, home, holds_branch, slotted, one, pause, in_flight, settled, store_slot, store_slots, if_some, bytes}
 use Rattle.vx_frame.proofs.Early.{Touches}
 use Rattle.vx_frame.proofs.Heats.{lift, stays, FineWords, word_fine, wait_fine}
 
@@ -60,9 +59,10 @@ module _ (T : Target) (heat : ℕ → Register → ℕ) (f : ℕ) (names : List 
         by : (c : Bool) → holds_branch T f v ≡ c → Fine b ((if c then settled T (one pick ∷ []) ++ one last ∷ [] else one store ∷ []) ++ rest) e
         by true q =
             let n : ℕ = in_flight T.machine 0 (one pick ∷ []) in
-            word_fine T.machine heat 0 b b [] (pick ∷ []) (waits n ∷ one last ∷ rest) e refl (stays 1 b) (λ p r j. absurd j) (pick_meets q)
-            (wait_fine T.machine heat n n b b (InGeneral answer ∷ []) (one last ∷ rest) e (omega arith) (stays (cycles_of (waits n)) b)
-            (word_fine T.machine heat 0 b b [] (last ∷ []) rest e refl (stays 1 b) (λ p r j. absurd j) last_meets more))
+            subst (λ ws. Fine b (one pick ∷ ws) e) (sym (append_assoc (pause n) (one last ∷ []) rest))
+            (word_fine T.machine heat 0 b b [] (pick ∷ []) (pause n ++ (one last ∷ rest)) e refl (stays 1 b) (λ p r j. absurd j) (pick_meets q)
+            (wait_fine T.machine heat n n b b (InGeneral answer ∷ []) (one last ∷ rest) e (omega arith) (stays n b)
+            (word_fine T.machine heat 0 b b [] (last ∷ []) rest e refl (stays 1 b) (λ p r j. absurd j) last_meets more)))
         by false q = word_fine T.machine heat 0 b b [] (store ∷ []) rest e refl (stays 1 b) (λ p r j. absurd j) (store_meets q) more
 
     stores_fine : (vs : List ℕ) (rest : List Word) (e : Register → ℕ) → ((v : ℕ) → IsIn v vs → b (Reg v) ≡ 0) → Fine b rest e → Fine b (store_slots T f names vs ++ rest) e
@@ -71,10 +71,11 @@ module _ (T : Target) (heat : ℕ → Register → ℕ) (f : ℕ) (names : List 
         subst (λ ws. Fine b ws e) (sym (append_assoc (store_slot T f v (general_of T f names v) (branch_of T f names v)) (store_slots T f names vs) rest))
         (one_store v (store_slots T f names vs ++ rest) e (z v (inl refl)) (stores_fine vs rest e (λ u i. z u (inr i)) more))
 
-    behind_case : (n : ℕ) (vs us : List ℕ) (rest : List Word) (e : Register → ℕ) → ((v : ℕ) → IsIn v us → b (Reg v) ≡ 0) → Fine b rest e → Fine (lift n b (map Reg vs)) (if_some vs (waits n ∷ store_slots T f names us) ++ rest) e
+    behind_case : (n : ℕ) (vs us : List ℕ) (rest : List Word) (e : Register → ℕ) → ((v : ℕ) → IsIn v us → b (Reg v) ≡ 0) → Fine b rest e → Fine (lift n b (map Reg vs)) (if_some vs (pause n ++ store_slots T f names us) ++ rest) e
     behind_case n [] us rest e z more = more
-    behind_case n (v ∷ vs) us rest e z more = wait_fine T.machine heat n n b b (map Reg (v ∷ vs)) (store_slots T f names us ++ rest) e (omega arith) (stays (cycles_of (waits n)) b) (stores_fine us rest e z more)
+    behind_case n (v ∷ vs) us rest e z more = subst (λ ws. Fine (lift n b (map Reg (v ∷ vs))) ws e) (sym (append_assoc (pause n) (store_slots T f names us) rest))
+        (wait_fine T.machine heat n n b b (map Reg (v ∷ vs)) (store_slots T f names us ++ rest) e (omega arith) (stays n b) (stores_fine us rest e z more))
 
     -- results in slots land, and are stored
-    pub behind_fine : (n : ℕ) (rest : List Word) (e : Register → ℕ) → ((v : ℕ) → IsIn v (slotted T f names) → b (Reg v) ≡ 0) → Fine b rest e → Fine (lift n b (map Reg (slotted T f names))) (if_some (slotted T f names) (waits n ∷ store_slots T f names (slotted T f names)) ++ rest) e
+    pub behind_fine : (n : ℕ) (rest : List Word) (e : Register → ℕ) → ((v : ℕ) → IsIn v (slotted T f names) → b (Reg v) ≡ 0) → Fine b rest e → Fine (lift n b (map Reg (slotted T f names))) (if_some (slotted T f names) (pause n ++ store_slots T f names (slotted T f names)) ++ rest) e
     behind_fine n rest e z more = behind_case n (slotted T f names) (slotted T f names) rest e z more

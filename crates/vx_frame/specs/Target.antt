@@ -1,5 +1,5 @@
 -- Where the values, frames and words of a program are, and the words that carry a laid-out word.
-use Rattle.std.specs.Prelude.{not, ℕ, suc, ◌+◌, ◌-◌, ◌*◌, ◌==◌, ◌&&◌, max, ℤ, pos, neg_ℤ, Bool, true, false, if◌then◌else◌, Option, Some, None, List, [], ◌∷◌, ◌++◌, map}
+use Rattle.std.specs.Prelude.{not, ℕ, zero, suc, ◌+◌, ◌-◌, ◌*◌, ◌==◌, ◌&&◌, max, ℤ, pos, neg_ℤ, Bool, true, false, if◌then◌else◌, Option, Some, None, List, [], ◌∷◌, ◌++◌, length, map}
 use Rattle.std.specs.List.{filter}
 use Rattle.vx_base.specs.Arithmetic.{sum_of}
 use Rattle.vx_base.specs.declared.arithmetic.Code.{Code}
@@ -215,9 +215,14 @@ abbrev pub in_flight : Numbers → (n : ℕ) → List Word → ℕ
 in_flight m n [] = n
 in_flight m n (word ∷ words) = in_flight m (max n (latest m word.ops) - cycles_of word) words
 
+-- a pause of so many cycles; one of none is no word
+abbrev pub pause : ℕ → List Word
+pause zero = []
+pause (suc n) = waits (suc n) ∷ []
+
 -- some words, and a pause as long as what they write is in flight, and no longer
 abbrev pub settled : Target → List Word → List Word
-settled T words = words ++ waits (in_flight T.machine 0 words) ∷ []
+settled T words = words ++ pause (in_flight T.machine 0 words)
 
 -- the slot of a value, so many words above the frame, to a general register, or to a branch register by way of the answer's
 abbrev pub load_slot : Target → ℕ → (up : ℕ) → (value : ℕ) → (to : GeneralRegister) → (branch : ℕ) → List Word
@@ -265,7 +270,7 @@ slots_in_flight T f (Plain op k ∷ items) = max (if_any (slotted T f (writes op
 slots_in_flight T f (Split test y q ∷ items) = slots_in_flight T f items
 
 abbrev pub behind : Target → ℕ → List Laid → List Word
-behind T f items = if_some (slotted T f (laid_writes items)) (waits (slots_in_flight T f items) ∷ store_slots T f (laid_writes items) (slotted T f (laid_writes items)))
+behind T f items = if_some (slotted T f (laid_writes items)) (pause (slots_in_flight T f items) ++ store_slots T f (laid_writes items) (slotted T f (laid_writes items)))
 
 abbrev pub plan_words : Target → (function place : ℕ) → List Laid → List Word
 plan_words T f p items = before T f (laid_reads items) ++ plan_word T f p items ∷ behind T f items
@@ -371,10 +376,11 @@ abbrev pub first_frame : Target → ℕ
 first_frame T = T.globals + T.frame * (deepest - 1)
 
 -- the first words of a program; behind the call stands its end
-abbrev pub start_words : Target → (main : ℕ) → List Word
-start_words T main =
-    settled T (record { ops = on_clusters T.machine.clusters (λ k. Move k (stack_on k) (Number (bytes (first_frame T)))); idle = 0 } ∷ [])
-    ++ one (Call (T.entry main)) ∷ one (Halt (Held answer)) ∷ []
+abbrev pub set_stack : Target → List Word
+set_stack T = settled T (record { ops = on_clusters T.machine.clusters (λ k. Move k (stack_on k) (Number (bytes (first_frame T)))); idle = 0 } ∷ [])
 
-abbrev pub halt_place : ℕ
-halt_place = 3
+abbrev pub start_words : Target → (main : ℕ) → List Word
+start_words T main = set_stack T ++ one (Call (T.entry main)) ∷ one (Halt (Held answer)) ∷ []
+
+abbrev pub halt_place : Target → ℕ
+halt_place T = length (set_stack T) + 1

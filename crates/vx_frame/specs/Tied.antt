@@ -83,7 +83,7 @@ pub record IsFunction (T : Target) (flow : Flow) (ls : List VWords) (f : ℕ) : 
 
 -- where the run goes on when the active function returns
 abbrev pub back_place : Target → List Frame → ℕ
-back_place T [] = halt_place
+back_place T [] = halt_place T
 back_place T (fr ∷ frs) = T.back fr.function (fr.from - 1)
 
 abbrev pub IsResult : Option ℕ → ℕ → Type 0

@@ -6,14 +6,15 @@ ghost use Rattle.vx_base.specs.declared.arithmetic.Compare.TheVariants.{Ltu};
 ghost use Rattle.vx_isa.specs.declared.operation.Operation.TheVariants.{BranchOn, Compute, Move};
 ghost use Rattle.vx_isa.specs.declared.operation.Register.TheVariants.{Branch as InBranch, General as InGeneral};
 ghost use Rattle.vx_isa.specs.declared.operation.Source.TheVariants.{Held, Number};
-ghost use Rattle.vx_frame.specs.Target.{bytes, general, one, settled, stack_on, on_clusters, parameters_of, first_frame, fetch_words, fetched, cluster_of_operand, argument_words, result_words, save_words, reload_words, move_stack, call_words, back_words, return_words, entry_words, start_words};
+ghost use Rattle.vx_frame.specs.Target.{bytes, general, one, settled, stack_on, on_clusters, parameters_of, first_frame, fetch_words, fetched, cluster_of_operand, argument_words, result_words, save_words, reload_words, move_stack, call_words, back_words, return_words, entry_words, set_stack, start_words};
 ghost use Rattle.vx_frame.specs.Seen.{seen};
 
 use crate::carrying::{bytes, stack_on};
 use crate::gathering::{Whole, brought, entered_at, entry, parameters, saved, slot, start};
 use crate::naming::{general, general_of, home, is_slotted};
 use crate::slotting::{
-    answer, load_slot, load_slots, named_by, push_one, push_settled, push_wait, store_slots, sum,
+    answer, load_slot, load_slots, named_by, push_one, push_settled, push_settled_word, push_wait,
+    store_slots, sum,
 };
 use std::alloc::Global;
 use vx_base::arithmetic::{Code, Compare};
@@ -68,9 +69,7 @@ fn move_stack(
     ensures { IfOk result (λ _. words.new ≡ words.old ++ move_stack (seen whole.now) step) }
 {
     let ops = stack_steps(alloc, whole.machine.clusters(), step)?;
-    let begin = words.len();
-    words.push(Word { ops, idle: 0 })?;
-    push_wait(alloc, whole, begin, words)
+    push_settled_word(alloc, whole, Word { ops, idle: 0 }, words)
 }
 
 /// Saves values in their slots, from their own registers.
@@ -406,6 +405,15 @@ fn stacks_at(alloc: Global, clusters: u32, address: i32) -> Result<Listed<Operat
     Ok(ops)
 }
 
+/// Sets the stack pointer of every cluster to where the first frame begins.
+fn push_set_stack(alloc: Global, whole: &Whole, words: &mut Listed<Word>) -> Result<(), NoMemory>
+    ensures { IfOk result (λ _. words.new ≡ words.old ++ set_stack (seen whole.now)) }
+{
+    let begin = bytes(first_frame(whole)?)?;
+    let ops = stacks_at(alloc, whole.machine.clusters(), begin)?;
+    push_settled_word(alloc, whole, Word { ops, idle: 0 }, words)
+}
+
 /// The first words of a program: the stack pointers, the call of the first function, and the end behind it.
 pub(crate) fn push_start(
     alloc: Global,
@@ -415,11 +423,7 @@ pub(crate) fn push_start(
 ) -> Result<(), NoMemory>
     ensures { IfOk result (λ _. words.new ≡ words.old ++ start_words (seen whole.now) main) }
 {
-    let begin = bytes(first_frame(whole)?)?;
-    let ops = stacks_at(alloc, whole.machine.clusters(), begin)?;
-    let start = words.len();
-    words.push(Word { ops, idle: 0 })?;
-    push_wait(alloc, whole, start, words)?;
+    push_set_stack(alloc, whole, words)?;
     let target = entry(whole, main);
     push_one(alloc, Operation::Call { target }, words)?;
     let end = Operation::Halt {

@@ -12,7 +12,7 @@ ghost use Rattle.vx_frame.specs.Seen.{seen, IsPlan};
 use crate::carrying::carried;
 use crate::gathering::{Whole, landing, start};
 use crate::naming::{branch_of, is_slotted, once, slotted};
-use crate::slotting::{load_slots, push_idle, push_one, push_wait, store_slots};
+use crate::slotting::{load_slots, push_one, push_pause, push_wait, store_slots};
 use crate::word_plan::{MOST_NAMES, Plan, Site};
 use std::alloc::Global;
 use vx_base::arithmetic::Code;
@@ -214,7 +214,7 @@ fn push_behind(
     if plan.left.is_empty() {
         return Ok(());
     }
-    push_idle(alloc, plan.pause, words)?;
+    push_pause(alloc, plan.pause, words)?;
     store_slots(
         alloc,
         whole,

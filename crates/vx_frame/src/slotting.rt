@@ -7,7 +7,7 @@ ghost use Rattle.vx_base.specs.declared.arithmetic.Compare.TheVariants.{Ne};
 ghost use Rattle.vx_isa.specs.declared.operation.Operation.TheVariants.{Compute, Select, Load, Store};
 ghost use Rattle.vx_isa.specs.declared.operation.Register.TheVariants.{Branch as InBranch};
 ghost use Rattle.vx_isa.specs.declared.operation.Source.TheVariants.{Held, Number};
-ghost use Rattle.vx_frame.specs.Target.{answer, stack_on, general_of, branch_of, one, waits, latest, in_flight, settled, load_slot, store_slot, load_slots, store_slots};
+ghost use Rattle.vx_frame.specs.Target.{answer, stack_on, general_of, branch_of, one, waits, pause, latest, in_flight, settled, load_slot, store_slot, load_slots, store_slots};
 ghost use Rattle.vx_frame.specs.Seen.{seen};
 
 use crate::carrying::{bytes, stack_on};
@@ -75,6 +75,21 @@ pub(crate) fn push_idle(alloc: Global, idle: u32, words: &mut Listed<Word>) -> R
     Ok(())
 }
 
+/// Adds a pause of so many cycles; one of none is no word.
+#[tactic(auto, using(crate::proofs::Emitting::some_pause))]
+pub(crate) fn push_pause(
+    alloc: Global,
+    cycles: u32,
+    words: &mut Listed<Word>,
+) -> Result<(), NoMemory>
+    ensures { IfOk result (λ _. words.new ≡ words.old ++ pause cycles) }
+{
+    if cycles == 0 {
+        return Ok(());
+    }
+    push_idle(alloc, cycles, words)
+}
+
 /// The cycles until the last result of some operations has landed.
 fn latest(machine: &Machine, ops: &[Operation]) -> u32
     ensures { result ≡ latest machine.now ops.now }
@@ -114,10 +129,24 @@ pub(crate) fn push_wait(
     words: &mut Listed<Word>,
 ) -> Result<(), NoMemory>
     requires { begin ≤ length words.old }
-    ensures { IfOk result (λ _. words.new ≡ words.old ++ waits (in_flight (seen whole.now).machine 0 (drop begin words.old)) ∷ []) }
+    ensures { IfOk result (λ _. words.new ≡ words.old ++ pause (in_flight (seen whole.now).machine 0 (drop begin words.old))) }
 {
-    let idle = in_flight(whole.machine, 0, words_from(words.as_slice(), begin));
-    push_idle(alloc, idle, words)
+    let cycles = in_flight(whole.machine, 0, words_from(words.as_slice(), begin));
+    push_pause(alloc, cycles, words)
+}
+
+/// Adds a word, and a pause as long as its results are in flight.
+pub(crate) fn push_settled_word(
+    alloc: Global,
+    whole: &Whole,
+    word: Word,
+    words: &mut Listed<Word>,
+) -> Result<(), NoMemory>
+    ensures { IfOk result (λ _. words.new ≡ words.old ++ settled (seen whole.now) (word ∷ [])) }
+{
+    let begin = words.len();
+    words.push(word)?;
+    push_wait(alloc, whole, begin, words)
 }
 
 /// Adds a word of one operation, and a pause as long as its result is in flight.
