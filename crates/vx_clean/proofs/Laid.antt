@@ -13,7 +13,7 @@ last_at to blocks (b ∷ c ∷ bs) h =
     let e : length (b ∷ c ∷ bs) - 1 ≡ suc (length (c ∷ bs) - 1) = omega arith in
     ap (λ n. exit_at to (slice_get blocks (get_or (b ∷ c ∷ bs) n 0))) e ∙ last_at to blocks (c ∷ bs) (omega arith)
 
-take_more : {A : Type 0} (xs : List A) (i : ℕ) (x : A) → i < length xs → x ≡ get_or xs i x → take (suc i) xs ≡ take i xs ++ x ∷ []
+pub take_more : {A : Type 0} (xs : List A) (i : ℕ) (x : A) → i < length xs → x ≡ get_or xs i x → take (suc i) xs ≡ take i xs ++ x ∷ []
 take_more [] i x h e = absurd (omega arith)
 take_more (y ∷ ys) zero x h e = ap (λ z. z ∷ []) (sym e)
 take_more (y ∷ ys) (suc i) x h e = ap (λ l. y ∷ l) (take_more ys i x (omega arith) e)

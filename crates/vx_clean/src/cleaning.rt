@@ -5,16 +5,16 @@ ghost use Rattle.std.specs.Prelude.{◌≡◌, true, IfOk, IfSome};
 ghost use Rattle.vx_ast.specs.Tree.{Program};
 ghost use Rattle.vx_flow.specs.Sound.{is_sound_flow};
 ghost use Rattle.vx_lower.specs.FlowOf.{FlowOf};
-ghost use Rattle.vx_clean.specs.Cleaning.{with_graphs};
 ghost use Rattle.vx_clean.specs.LinkTest.{is_laid_out};
 ghost use Rattle.vx_clean.specs.Staying.{FlowStays, GraphStays, GraphsStay};
 
-use crate::copying::{copied_graph, copied_texts, copied_variables};
+use crate::copying::{copied_graph, with_graphs};
 use crate::laying::laid;
 use crate::layout::find_layout;
 use crate::link_test::is_laid_out;
 use crate::origins::origins;
 use crate::shape_test::is_shaped;
+use crate::thinning::thinned_once;
 use std::alloc::Global;
 use vx_base::listed::Listed;
 use vx_base::outcome::NoMemory;
@@ -34,12 +34,23 @@ pub fn clean(alloc: Global, flow: Flow) -> Result<Flow, NoMemory>
 {
     let mut current = flow;
     for _round in 0..MOST_ROUNDS {
-        match cleaned_once(alloc, &current)? {
+        match smaller(alloc, &current)? {
             Some(cleaned) => current = cleaned,
             None => return Ok(current),
         }
     }
     Ok(current)
+}
+
+/// The flow with fewer blocks or with fewer operations, where there is such a one.
+fn smaller(alloc: Global, flow: &Flow) -> Result<Option<Flow>, NoMemory>
+    ensures sound { IfOk result (λ found. IfSome found (λ cleaned. is_sound_flow cleaned ≡ true)) }
+    ensures flow { IfOk result (λ found. IfSome found (λ cleaned. FlowStays flow.now cleaned)) }
+{
+    match cleaned_once(alloc, flow)? {
+        Some(cleaned) => Ok(Some(cleaned)),
+        None => thinned_once(alloc, flow),
+    }
 }
 
 /// The flow with fewer blocks, where there is such a one.
@@ -66,20 +77,6 @@ fn blocks_of(graphs: &[Graph]) -> usize {
         count = count.saturating_add(graph.blocks.len());
     }
     count
-}
-
-/// A copy of a flow with other graphs.
-fn with_graphs(alloc: Global, flow: &Flow, functions: Listed<Graph>) -> Result<Flow, NoMemory>
-    ensures { IfOk result (λ copy. copy ≡ with_graphs flow.now functions) }
-{
-    let globals = copied_variables(alloc, flow.globals.as_slice())?;
-    let texts = copied_texts(alloc, flow.texts.as_slice())?;
-    Ok(Flow {
-        functions,
-        globals,
-        texts,
-        main: flow.main,
-    })
 }
 
 fn cleaned_graphs(alloc: Global, graphs: &[Graph]) -> Result<Listed<Graph>, NoMemory>

@@ -6,6 +6,7 @@ ghost use Rattle.vx_clean.specs.Laying.{LaidCleaned};
 ghost use Rattle.vx_clean.specs.LinkTest.{LinkedWhereTested};
 ghost use Rattle.vx_clean.specs.ShapeTest.{ShapedWhereTested};
 ghost use Rattle.vx_clean.specs.Staying.{StaysByGraphs};
+ghost use Rattle.vx_clean.specs.Thinning.{ThinnedRuns, ThinnedStays};
 
 /// With blocks skipped and merged a flow that never fails does the same, and never fails.
 pub fn cleaned_runs()
@@ -40,4 +41,14 @@ pub fn shaped_where_tested()
 /// A flow of a program stays one where each of its graphs is exchanged for one that is that graph cleaned.
 pub fn stays_by_graphs()
     ensures { StaysByGraphs }
+{}
+
+/// Without the operations whose results are not read a flow that never fails comes to the same, at every bound.
+pub fn thinned_runs()
+    ensures { ThinnedRuns }
+{}
+
+/// A flow of a program stays one without them.
+pub fn thinned_stays()
+    ensures { ThinnedStays }
 {}

@@ -1,0 +1,12 @@
+use Rattle.std.proofs.Common.{◌≡◌, ◌∙◌, subst, sym, true}
+use Rattle.vx_flow.specs.Sound.{is_sound_flow}
+use Rattle.vx_clean.specs.Thinning.{GraphsThin}
+use Rattle.vx_clean.proofs.ThinFlow.{once_thinned}
+use Rattle.vx_clean.proofs.thinning.thinned_once.Goals as goal
+
+pub returns-then-sound-clause-flow : goal.returns-then-sound-clause-flow
+returns-then-sound-clause-flow c =
+    let graphs = c.in_ok-functions.functions in
+    let s : GraphsThin c.args.flow.now.functions graphs = subst (λ gs. GraphsThin gs graphs) c.as_slice.ensures c.in_ok-functions.ensures in
+    let t : is_sound_flow c.in_ok-thinned.thinned ≡ true = sym c.sound.ensures.test ∙ c.if-sound.true in
+    once_thinned c.args.flow.now c.in_ok-thinned.thinned graphs s c.in_ok-thinned.ensures t

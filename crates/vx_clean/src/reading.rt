@@ -1,0 +1,153 @@
+// Which values are read, and whether what stays of a graph reads values that are needed alone.
+
+ghost use Rattle.std.specs.Prelude.{◌≡◌, ◌++◌, [], ◌∷◌, if◌then◌else◌};
+ghost use Rattle.std.specs.List.{list_all};
+ghost use Rattle.vx_flow.specs.Effects.{is_unary, reads, value_in};
+ghost use Rattle.vx_flow.specs.Live.{reads_of_exit};
+ghost use Rattle.vx_clean.specs.Thinning.{are_read, block_reads_read, is_unread, reads_read, result_alone, unread_of};
+
+use vx_base::arithmetic::Code;
+use vx_flow::graph::{Block, Exit, Op, Operand, Value};
+
+/// The value that an operation writes, where it does nothing else.
+pub fn result_alone(op: &Op) -> Option<Value>
+    ensures { result ≡ result_alone op.now }
+{
+    match op {
+        Op::Compute { to, .. } => Some(*to),
+        Op::Select { to, .. } => Some(*to),
+        Op::Place { to, .. } => Some(*to),
+        Op::Load { to, .. } => Some(*to),
+        Op::Store { .. } => None,
+        Op::More { to } => Some(*to),
+        Op::Input { .. } => None,
+        Op::Text { .. } => None,
+        Op::Decimal { .. } => None,
+        Op::Across { to, .. } => Some(*to),
+    }
+}
+
+/// Whether a value is marked as one that is not needed.
+fn is_unneeded(needed: &[bool], value: Value) -> bool
+    ensures { result ≡ unread_of needed.now value }
+{
+    match needed.get(value as usize) {
+        Some(needed) => !*needed,
+        None => false,
+    }
+}
+
+/// Whether an operation only writes a value that is not needed.
+pub fn is_dropped(needed: &[bool], op: &Op) -> bool
+    ensures { result ≡ is_unread (unread_of needed.now) (result_alone op.now) }
+{
+    match result_alone(op) {
+        Some(value) => is_unneeded(needed, value),
+        None => false,
+    }
+}
+
+fn is_value_read(needed: &[bool], value: Value) -> bool
+    ensures { result ≡ are_read (unread_of needed.now) (value ∷ []) }
+{
+    !is_unneeded(needed, value)
+}
+
+fn is_read(needed: &[bool], operand: &Operand) -> bool
+    ensures { result ≡ are_read (unread_of needed.now) (value_in operand.now) }
+{
+    match operand {
+        Operand::Held(value) => is_value_read(needed, *value),
+        Operand::Number(_) => true,
+        Operand::Stack => true,
+    }
+}
+
+#[tactic(auto, using(crate::proofs::ThinFlow::read_both))]
+fn are_both_read(needed: &[bool], left: &Operand, right: &Operand) -> bool
+    ensures { result ≡ are_read (unread_of needed.now) (value_in left.now ++ value_in right.now) }
+{
+    is_read(needed, left) && is_read(needed, right)
+}
+
+fn are_computed_read(needed: &[bool], code: Code, left: &Operand, right: &Operand) -> bool
+    ensures { result ≡ are_read (unread_of needed.now) (if is_unary code then value_in left.now else value_in left.now ++ value_in right.now) }
+{
+    match code {
+        Code::Mov => is_read(needed, left),
+        _ => are_both_read(needed, left, right),
+    }
+}
+
+/// Whether the values that an operation reads are needed.
+fn are_reads_needed(needed: &[bool], op: &Op) -> bool
+    ensures { result ≡ are_read (unread_of needed.now) (reads op.now) }
+{
+    match op {
+        Op::Compute {
+            code,
+            left,
+            right,
+            ..
+        } => are_computed_read(needed, *code, left, right),
+        Op::Select {
+            test,
+            left,
+            right,
+            ..
+        } => is_value_read(needed, *test) && are_both_read(needed, left, right),
+        Op::Place { index, .. } => is_read(needed, index),
+        Op::Load { place, .. } => is_read(needed, place),
+        Op::Store { place, from, .. } => are_both_read(needed, place, from),
+        Op::More { .. } => true,
+        Op::Input { .. } => true,
+        Op::Text { .. } => true,
+        Op::Decimal { from } => is_read(needed, from),
+        Op::Across { from, .. } => is_value_read(needed, *from),
+    }
+}
+
+/// Whether an operation is dropped or reads needed values alone.
+fn reads_needed(needed: &[bool], op: &Op) -> bool
+    ensures { result ≡ reads_read (unread_of needed.now) op.now }
+{
+    is_dropped(needed, op) || are_reads_needed(needed, op)
+}
+
+fn ops_read_needed(needed: &[bool], ops: &[Op]) -> bool
+    ensures { result ≡ list_all (reads_read (unread_of needed.now)) ops.now }
+{
+    ops.iter().all(|op| reads_needed(needed, op))
+}
+
+fn are_all_read(needed: &[bool], operands: &[Operand]) -> bool
+    ensures { result ≡ list_all (λ x. are_read (unread_of needed.now) (value_in x)) operands.now }
+{
+    operands.iter().all(|operand| is_read(needed, operand))
+}
+
+#[tactic(auto, using(crate::proofs::ThinFlow::read_all))]
+fn exit_reads_needed(needed: &[bool], exit: &Exit) -> bool
+    ensures { result ≡ are_read (unread_of needed.now) (reads_of_exit exit.now) }
+{
+    match exit {
+        Exit::Goto(_) => true,
+        Exit::Split { test, .. } => is_value_read(needed, *test),
+        Exit::Call { arguments, .. } => are_all_read(needed, arguments.as_slice()),
+        Exit::Return(operand) => is_read(needed, operand),
+        Exit::Ends(_) => true,
+    }
+}
+
+fn block_reads_needed(needed: &[bool], block: &Block) -> bool
+    ensures { result ≡ block_reads_read (unread_of needed.now) block.now }
+{
+    ops_read_needed(needed, block.ops.as_slice()) && exit_reads_needed(needed, &block.exit)
+}
+
+/// Whether each operation that is not dropped, and each exit, reads needed values alone.
+pub fn blocks_read_needed(needed: &[bool], blocks: &[Block]) -> bool
+    ensures { result ≡ list_all (block_reads_read (unread_of needed.now)) blocks.now }
+{
+    blocks.iter().all(|block| block_reads_needed(needed, block))
+}
