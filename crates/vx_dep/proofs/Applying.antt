@@ -148,7 +148,7 @@ module _ (m : Numbers) (mode : Mode) (t : Trace) (i j : ℕ) (a b : TraceOp) (w 
   -- a row that applies is told by a test
 
   abbrev TheTold : ℕ → Type 0
-  TheTold d = Told (are_tied upper_traits lower_traits w) (stays_behind mode upper_traits lower_traits w) (stays_below mode upper_traits lower_traits w) (latency_of m a) d
+  TheTold d = Told (are_tied upper_traits lower_traits w.last) (stays_behind mode upper_traits lower_traits w) (stays_below mode upper_traits lower_traits w) (latency_of m a) d
 
   is_last : (v : ℕ) → IsIn v (writes_of a) → IsLastWriter t v i j → w.last ≡ true
   is_last v i last = by w.last refl
@@ -262,7 +262,7 @@ module _ (m : Numbers) (mode : Mode) (t : Trace) (i j : ℕ) (a b : TraceOp) (w 
     most_of x y z l d tie behind e (by_behind h) = behind h
     most_of x y z l d tie behind e (by_below h) = omega arith
 
-    by : (x y z : Bool) → are_tied upper_traits lower_traits w ≡ x → stays_behind mode upper_traits lower_traits w ≡ y → stays_below mode upper_traits lower_traits w ≡ z → IsDelay m mode t i j (answer x y z)
+    by : (x y z : Bool) → are_tied upper_traits lower_traits w.last ≡ x → stays_behind mode upper_traits lower_traits w ≡ y → stays_below mode upper_traits lower_traits w ≡ z → IsDelay m mode t i j (answer x y z)
     by true true z e f g =
         let l = latency_of m a in
         greatest (max l 1) (higher_of l 1 (tied_row (or_cases _ _ e)) (behind_row f)) (most_of _ _ _ l (max l 1) (λ h. omega arith) (λ h. omega arith))
@@ -276,13 +276,13 @@ module _ (m : Numbers) (mode : Mode) (t : Trace) (i j : ℕ) (a b : TraceOp) (w 
     by false false true e f g = greatest 0 (below_row g) (most_of _ _ _ (latency_of m a) 0 (λ h. absurd (false≢true (sym e ∙ h))) (λ h. absurd (false≢true (sym f ∙ h))))
     by false false false e f g = none (λ d h. nothing d (at_most _ _ _ (latency_of m a) d h))
       where
-        nothing : (d : ℕ) → ((are_tied upper_traits lower_traits w ≡ true) × (d ≡ latency_of m a)) ⊎ ((stays_behind mode upper_traits lower_traits w ≡ true) × (d ≡ 1)) ⊎ ((stays_below mode upper_traits lower_traits w ≡ true) × (d ≡ 0)) → ⊥
+        nothing : (d : ℕ) → ((are_tied upper_traits lower_traits w.last ≡ true) × (d ≡ latency_of m a)) ⊎ ((stays_behind mode upper_traits lower_traits w ≡ true) × (d ≡ 1)) ⊎ ((stays_below mode upper_traits lower_traits w ≡ true) × (d ≡ 0)) → ⊥
         nothing d (inl h) = false≢true (sym e ∙ h.0)
         nothing d (inr (inl h)) = false≢true (sym f ∙ h.0)
         nothing d (inr (inr h)) = false≢true (sym g ∙ h.0)
 
     pub is_delay : IsDelay m mode t i j (delay_of mode upper_traits lower_traits w)
-    is_delay = by (are_tied upper_traits lower_traits w) (stays_behind mode upper_traits lower_traits w) (stays_below mode upper_traits lower_traits w) refl refl refl
+    is_delay = by (are_tied upper_traits lower_traits w.last) (stays_behind mode upper_traits lower_traits w) (stays_below mode upper_traits lower_traits w) refl refl refl
 
     pub delay_is : (d : Option ℕ) → d ≡ delay_of mode upper_traits lower_traits w → IsDelay m mode t i j d
     delay_is d e = subst (IsDelay m mode t i j) (sym e) is_delay

@@ -187,7 +187,7 @@ same_op : {x y : TraceOp} → Some x ≡ Some y → x ≡ y
 same_op e = cc
 
 module _ (m : Numbers) (t : Trace) (standings : List Standing) (exact : standings ≡ standings_of m t) where
-  entry_at : (i : ℕ) (s : Standing) → slice_get standings i ≡ Some s → IsOf m t i s
+  pub entry_at : (i : ℕ) (s : Standing) → slice_get standings i ≡ Some s → IsOf m t i s
   entry_at i s e = entry m t i s (ap (λ x. slice_get x i) (sym exact) ∙ e)
 
   entry_is : (i : ℕ) (s : Standing) (op : TraceOp) → slice_get standings i ≡ Some s → Stands t i op → s ≡ standing_of t.joins i (traits_of m op) (drop (suc i) (all_traits m t))

@@ -16,8 +16,8 @@ is_barred Free = false
 is_barred Barred = true
 
 -- b reads what a wrote last, or writes what a writes
-abbrev pub are_tied : Traits → Traits → Ways → Bool
-are_tied a b w = (w.last && has a.written (values_read b.reads)) || write_alike a b
+abbrev pub are_tied : Traits → Traits → (last : Bool) → Bool
+are_tied a b last = (last && has a.written (values_read b.reads)) || write_alike a b
 
 -- a row with the number 1 applies
 
@@ -43,7 +43,11 @@ at_least d None = Some d
 at_least d (Some e) = Some (max d e)
 
 abbrev pub delay_of : Mode → Traits → Traits → Ways → Option ℕ
-delay_of mode a b w = if are_tied a b w then at_least a.latency (row_of mode a b w) else row_of mode a b w
+delay_of mode a b w = if are_tied a b w.last then at_least a.latency (row_of mode a b w) else row_of mode a b w
+
+-- the same of two quiet operations between which no join stands
+abbrev pub quiet_delay_of : Traits → Traits → (last : Bool) → Option ℕ
+quiet_delay_of a b last = if are_tied a b last then Some a.latency else (if has b.written (values_read a.reads) then Some 0 else None)
 
 -- accesses of which one is a store, and that may touch one word
 pub record MayTouch (t : Trace) (i j : ℕ) (a b : Traits) : Type 0 where

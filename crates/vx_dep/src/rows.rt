@@ -2,7 +2,7 @@
 // stand, which rows apply, and the greatest number among those. specs/Rows.antt says the same.
 
 ghost use Rattle.std.specs.Prelude.{◌≡◌};
-ghost use Rattle.vx_dep.specs.Rows.{is_barred, are_tied, stays_behind, stays_behind_split, stays_behind_join, stays_below, row_of, delay_of};
+ghost use Rattle.vx_dep.specs.Rows.{is_barred, are_tied, stays_behind, stays_behind_split, stays_behind_join, stays_below, row_of, delay_of, quiet_delay_of};
 
 use crate::mode::Mode;
 use crate::traits::{Traits, reads_written, write_alike};
@@ -25,13 +25,26 @@ pub(crate) fn delay_of(mode: Mode, a: &Traits, b: &Traits, ways: Ways) -> Option
     ensures { result ≡ delay_of mode a.now b.now ways }
 {
     let others = row_of(mode, a, b, ways);
-    if are_tied(a, b, ways) {
+    if are_tied(a, b, ways.last) {
         match others {
             Some(other) if a.latency < other => Some(other),
             _ => Some(a.latency),
         }
     } else {
         others
+    }
+}
+
+/// The same of two quiet operations between which no join stands: only their values count.
+pub(crate) fn quiet_delay_of(a: &Traits, b: &Traits, last: bool) -> Option<u32>
+    ensures { result ≡ quiet_delay_of a.now b.now last }
+{
+    if are_tied(a, b, last) {
+        Some(a.latency)
+    } else if reads_written(a, b) {
+        Some(0)
+    } else {
+        None
     }
 }
 
@@ -49,10 +62,10 @@ fn row_of(mode: Mode, a: &Traits, b: &Traits, ways: Ways) -> Option<u32>
 }
 
 /// Whether the lower operation reads what the upper one wrote last, or writes what it writes.
-fn are_tied(a: &Traits, b: &Traits, ways: Ways) -> bool
-    ensures { result ≡ are_tied a.now b.now ways }
+fn are_tied(a: &Traits, b: &Traits, last: bool) -> bool
+    ensures { result ≡ are_tied a.now b.now last }
 {
-    (ways.last && reads_written(b, a)) || write_alike(a, b)
+    (last && reads_written(b, a)) || write_alike(a, b)
 }
 
 /// Whether a row with the number 1 applies.

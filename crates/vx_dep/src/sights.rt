@@ -10,7 +10,7 @@ ghost use Rattle.vx_dep.specs.Delays.{IsDelay, NeverMeet};
 ghost use Rattle.vx_dep.specs.Sights.{AreOrdered, reaches, has_join, is_live};
 
 use crate::mode::Mode;
-use crate::rows::{Ways, delay_of};
+use crate::rows::{Ways, delay_of, quiet_delay_of};
 use crate::tables::{Standing, lives, standings};
 use crate::traits::Traits;
 use std::alloc::Global;
@@ -89,8 +89,25 @@ impl<'a> Sight<'a> {
         self.standings.as_slice().get(place)
     }
 
-    #[tactic(auto, using(crate::proofs::Standing::delay_is))]
+    /// Of most pairs only the values count.
+    #[tactic(auto, using(crate::proofs::Quiet::quiet_delay_is))]
     fn delay_between(&self, i: usize, j: usize, a: &Standing, b: &Standing) -> Option<u32>
+        requires in_order { i < j }
+        requires stands_one { slice_get self.now.standings i ≡ Some a.now }
+        requires stands_two { slice_get self.now.standings j ≡ Some b.now }
+        ensures { IsDelay self.now.machine self.now.mode self.now.trace.now i j result }
+    {
+        if a.traits.is_quiet && b.traits.is_quiet && !has_join(b, i) {
+            quiet_delay_of(&a.traits, &b.traits, reaches(a, i, j))
+        } else {
+            self.delay_by_rows(i, j, a, b)
+        }
+    }
+
+    /// The delay by all rows of the table.
+    #[inline(never)]
+    #[tactic(auto, using(crate::proofs::Standing::delay_is))]
+    fn delay_by_rows(&self, i: usize, j: usize, a: &Standing, b: &Standing) -> Option<u32>
         requires in_order { i < j }
         requires stands_one { slice_get self.now.standings i ≡ Some a.now }
         requires stands_two { slice_get self.now.standings j ≡ Some b.now }

@@ -1,0 +1,82 @@
+-- Of two quiet operations between which no join stands only the values count.
+use Rattle.std.proofs.Common.{◌≡◌, ◌<◌, ◌⊎◌, inl, inr, ℕ, refl, sym, ◌∙◌, ap, arith, subst, Bool, true, false, not, ◌&&◌, ◌||◌, if◌then◌else◌, Option, Some, None, slice_get, List}
+use Rattle.std.proofs.lemmas.Bool.{or_cases, false≢true, true≢false}
+use Rattle.vx_flow.specs.declared.trace.TraceOp.{TraceOp}
+use Rattle.vx_flow.specs.declared.trace.Trace.{Trace}
+use Rattle.vx_isa.specs.Numbers.{Numbers}
+use Rattle.vx_dep.specs.declared.mode.Mode.{Mode}
+use Rattle.vx_dep.specs.declared.traits.Traits.{Traits}
+use Rattle.vx_dep.specs.declared.tables.Standing.{Standing}
+use Rattle.vx_dep.specs.declared.rows.Ways.{Ways}
+use Rattle.vx_dep.specs.Delays.{is_load, is_store, is_observable, leaves, IsDelay}
+use Rattle.vx_dep.specs.Traits.{values_read, has, is_quiet, traits_of}
+use Rattle.vx_dep.specs.Tables.{standings_of, lives_of}
+use Rattle.vx_dep.specs.Rows.{are_tied, stays_behind_split, stays_behind_join, stays_behind, stays_below, at_least, delay_of, quiet_delay_of, MayTouch}
+use Rattle.vx_dep.specs.Sights.{reaches, has_join, is_live}
+use Rattle.vx_dep.proofs.Standing.{IsOf, entry_at, tells, delay_is}
+
+record IsQuiet (a : Traits) : Type 0 where
+  load : a.is_load ≡ false
+  store : a.is_store ≡ false
+  observable : a.is_observable ≡ false
+  leaves : a.leaves ≡ false
+
+quiet_op : (m : Numbers) (op : TraceOp) → is_quiet op ≡ true → IsQuiet (traits_of m op)
+quiet_op m op e = by (is_load op) (is_store op) (is_observable op) (leaves op) refl refl refl refl e
+  where
+    by : (l s o v : Bool) → is_load op ≡ l → is_store op ≡ s → is_observable op ≡ o → leaves op ≡ v → not (((l || s) || o) || v) ≡ true → IsQuiet (traits_of m op)
+    by false false false false load store observable leaves e = record { load = load; store = store; observable = observable; leaves = leaves }
+    by true s o v load store observable leaves e = absurd (false≢true e)
+    by false true o v load store observable leaves e = absurd (false≢true e)
+    by false false true v load store observable leaves e = absurd (false≢true e)
+    by false false false true load store observable leaves e = absurd (false≢true e)
+
+quiet_at : (m : Numbers) (t : Trace) (i : ℕ) (s : Standing) → IsOf m t i s → s.traits.is_quiet ≡ true → IsQuiet s.traits
+quiet_at m t i s is e =
+    let same : s.traits ≡ traits_of m is.op = ap (λ (x : Standing). x.traits) is.is in
+    subst IsQuiet (sym same) (quiet_op m is.op (sym (ap (λ (x : Traits). x.is_quiet) same) ∙ e))
+
+no_behind : (s o p v k j q : Bool) → o ≡ false → v ≡ false → j ≡ false → ((((false && s) || (o && p)) || (v && k)) || (j && q)) ≡ false
+no_behind s false p false k false q e f g = refl
+no_behind s true p v k j q e f g = absurd (true≢false e)
+no_behind s false p true k j q e f g = absurd (true≢false f)
+no_behind s false p false k true q e f g = absurd (true≢false g)
+
+only_read : (r l v o : Bool) → v ≡ false → ((r || (false && l)) || (v && o)) ≡ r
+only_read true l v o e = refl
+only_read false l false o e = refl
+only_read false l true o e = absurd (true≢false e)
+
+by_values : (l : ℕ) (tied behind below read : Bool) → behind ≡ false → below ≡ read
+    → (if tied then at_least l (if behind then Some 1 else (if below then Some 0 else None)) else (if behind then Some 1 else (if below then Some 0 else None))) ≡ (if tied then Some l else (if read then Some 0 else None))
+by_values l true false true read e f = ap Some (omega arith)
+by_values l true false false read e f = refl
+by_values l false false true true e f = refl
+by_values l false false false false e f = refl
+by_values l false false true false e f = absurd (true≢false f)
+by_values l false false false true e f = absurd (false≢true f)
+by_values l tied true below read e f = absurd (true≢false e)
+
+quiet_rows : (mode : Mode) (a b : Traits) (last joined live : Bool) → IsQuiet a → IsQuiet b → joined ≡ false → delay_of mode a b (record { last = last; touch = false; joined = joined; live = live }) ≡ quiet_delay_of a b last
+quiet_rows mode a b last joined live above below apart =
+    let w : Ways = record { last = last; touch = false; joined = joined; live = live } in
+    by_values a.latency (are_tied a b last) (stays_behind mode a b w) (stays_below mode a b w) (has b.written (values_read a.reads))
+    (no_behind a.is_store a.is_observable b.is_observable a.leaves (stays_behind_split mode b w) joined (stays_behind_join mode b) above.observable above.leaves apart)
+    (only_read (has b.written (values_read a.reads)) a.is_load b.leaves _ below.leaves)
+
+pub quiet_delay_is : (m : Numbers) (mode : Mode) (t : Trace) (standings : List Standing) (lives : List (List Bool)) (i j : ℕ) (a b : Standing) (d : Option ℕ) → standings ≡ standings_of m t → lives ≡ lives_of t → i < j → slice_get standings i ≡ Some a → slice_get standings j ≡ Some b
+    → a.traits.is_quiet ≡ true → b.traits.is_quiet ≡ true → has_join b i ≡ false → d ≡ quiet_delay_of a.traits b.traits (reaches a i j) → IsDelay m mode t i j d
+quiet_delay_is m mode t standings lives i j a b d exact lives_exact in_order at_one at_two quiet_one quiet_two apart is =
+    let above = quiet_at m t i a (entry_at m t standings exact i a at_one) quiet_one in
+    let below = quiet_at m t j b (entry_at m t standings exact j b at_two) quiet_two in
+    let live : Bool = a.traits.leaves && is_live (slice_get lives i) i j in
+    let w : Ways = record { last = reaches a i j; touch = false; joined = has_join b i; live = live } in
+    let told = tells m t standings lives i j a b w exact lives_exact in_order at_one at_two refl refl refl (λ e. absurd (false≢true e)) (λ e k. no_access above k) in
+    delay_is m t standings exact mode i j a b w d in_order at_one at_two told (is ∙ sym (quiet_rows mode a.traits b.traits (reaches a i j) (has_join b i) live above below apart))
+  where
+    no_access : IsQuiet a.traits → MayTouch t i j a.traits b.traits → ⊥
+    no_access above k = by (or_cases _ _ k.upper)
+      where
+        by : (a.traits.is_load ≡ true) ⊎ (a.traits.is_store ≡ true) → ⊥
+        by (inl e) = false≢true (sym above.load ∙ e)
+        by (inr e) = false≢true (sym above.store ∙ e)
