@@ -19,7 +19,7 @@ use Rattle.vx_lower.specs.FlowOf.{FlowOf, AreNumbers}
 use Rattle.vx_machine.specs.Items.{latency_of_op}
 use Rattle.vx_mixed.specs.declared.mixed.MixedGraph.{MixedGraph}
 use Rattle.vx_mixed.specs.declared.layout.VWords.{VWords}
-use Rattle.vx_mixed.specs.Context.{EachOfGraph, BothStep}
+use Rattle.vx_mixed.specs.Context.{OfGraph, EachOfGraph, BothStep}
 use Rattle.vx_mixed.specs.Laid.{laid_run}
 use Rattle.vx_mixed.specs.LayoutLaws.{SameFrame, BothLaidOut}
 use Rattle.vx_mixed.specs.Program.{mixed_run}
@@ -31,7 +31,7 @@ use Rattle.vx_frame.specs.Carried.{DoesTheSame, KeepsTo}
 use Rattle.vx_frame.specs.Finish.{CanFinish, AllCanFinish, IsFinished}
 use Rattle.vx_words.specs.Range.{is_in_range}
 use Rattle.vx_driver.specs.Compiled.{Compiled}
-use Rattle.vx_driver.specs.Stages.{IsInside, AreInside, IsLayoutOf, AreLayoutsOf, AreMapsOf, StageLaws}
+use Rattle.vx_driver.specs.Stages.{IsInside, AreInside, IsLayoutOf, AreLayoutsFrom, AreLayoutsOf, AreMapsOf, StageLaws}
 use Rattle.vx_driver.proofs.OneFunction.{Finishable, finishable}
 
 -- inputs
@@ -41,56 +41,59 @@ are_numbers [] all n m = absurd m
 are_numbers (x ∷ xs) all n (inl e) = subst IsNumber (sym e) (all zero x (omega arith))
 are_numbers (x ∷ xs) all n (inr m) = are_numbers xs (λ k d below. all (suc k) d (omega arith)) n m
 
--- the graphs of blocks and regions, as they begin and as they end
+-- the graphs of blocks and regions, as they begin, each with its number, and as they end
 
-abbrev begun_of : (machine : Numbers) (graphs : List Graph) (ls : List VWords) → AreLayoutsOf machine graphs ls → List MixedGraph
-begun_of machine [] [] h = []
-begun_of machine (graph ∷ graphs) (l ∷ ls) h = h.0.begun ∷ begun_of machine graphs ls h.1
-begun_of machine [] (l ∷ ls) h = absurd h
-begun_of machine (graph ∷ graphs) [] h = absurd h
+still_of : (m : MixedGraph) (f : ℕ) (graph : Graph) → OfGraph graph m → OfGraph graph (record m { function = f })
+still_of m f graph b = record { nodes = b.nodes; regions = b.regions; banks = b.banks; parameters = b.parameters; arrays = b.arrays }
 
-abbrev done_of : (machine : Numbers) (graphs : List Graph) (ls : List VWords) → AreLayoutsOf machine graphs ls → List MixedGraph
-done_of machine [] [] h = []
-done_of machine (graph ∷ graphs) (l ∷ ls) h = h.0.done ∷ done_of machine graphs ls h.1
-done_of machine [] (l ∷ ls) h = absurd h
-done_of machine (graph ∷ graphs) [] h = absurd h
+abbrev begun_of : (n : ℕ) (machine : Numbers) (graphs : List Graph) (ls : List VWords) → AreLayoutsFrom n machine graphs ls → List MixedGraph
+begun_of n machine [] [] h = []
+begun_of n machine (graph ∷ graphs) (l ∷ ls) h = record (h.0.begun) { function = n } ∷ begun_of (n + 1) machine graphs ls h.1
+begun_of n machine [] (l ∷ ls) h = absurd h
+begun_of n machine (graph ∷ graphs) [] h = absurd h
 
-begin_so : (machine : Numbers) (graphs : List Graph) (ls : List VWords) (h : AreLayoutsOf machine graphs ls) (f : ℕ) → EachOfGraph (slice_get graphs f) (slice_get (begun_of machine graphs ls h) f)
-begin_so machine [] [] h f = tt
-begin_so machine (graph ∷ graphs) (l ∷ ls) h zero = h.0.from.blocks
-begin_so machine (graph ∷ graphs) (l ∷ ls) h (suc f) = begin_so machine graphs ls h.1 f
-begin_so machine [] (l ∷ ls) h f = absurd h
-begin_so machine (graph ∷ graphs) [] h f = absurd h
+abbrev done_of : (n : ℕ) (machine : Numbers) (graphs : List Graph) (ls : List VWords) → AreLayoutsFrom n machine graphs ls → List MixedGraph
+done_of n machine [] [] h = []
+done_of n machine (graph ∷ graphs) (l ∷ ls) h = h.0.done ∷ done_of (n + 1) machine graphs ls h.1
+done_of n machine [] (l ∷ ls) h = absurd h
+done_of n machine (graph ∷ graphs) [] h = absurd h
 
-all_step : (machine : Numbers) (graphs : List Graph) (ls : List VWords) (h : AreLayoutsOf machine graphs ls) (f : ℕ) →
-    BothStep (latency_of_op machine) (slice_get (begun_of machine graphs ls h) f) (slice_get (done_of machine graphs ls h) f)
-all_step machine [] [] h f = tt
-all_step machine (graph ∷ graphs) (l ∷ ls) h zero = h.0.replaced.steps
-all_step machine (graph ∷ graphs) (l ∷ ls) h (suc f) = all_step machine graphs ls h.1 f
-all_step machine [] (l ∷ ls) h f = absurd h
-all_step machine (graph ∷ graphs) [] h f = absurd h
+begin_so : (n : ℕ) (machine : Numbers) (graphs : List Graph) (ls : List VWords) (h : AreLayoutsFrom n machine graphs ls) (f : ℕ) → EachOfGraph (slice_get graphs f) (slice_get (begun_of n machine graphs ls h) f)
+begin_so n machine [] [] h f = tt
+begin_so n machine (graph ∷ graphs) (l ∷ ls) h zero = still_of h.0.begun n graph h.0.from.blocks
+begin_so n machine (graph ∷ graphs) (l ∷ ls) h (suc f) = begin_so (n + 1) machine graphs ls h.1 f
+begin_so n machine [] (l ∷ ls) h f = absurd h
+begin_so n machine (graph ∷ graphs) [] h f = absurd h
 
-same_frames : (machine : Numbers) (graphs : List Graph) (ls : List VWords) (h : AreLayoutsOf machine graphs ls) (f : ℕ) → SameFrame (slice_get graphs f) (slice_get (done_of machine graphs ls h) f)
-same_frames machine [] [] h f = tt
-same_frames machine (graph ∷ graphs) (l ∷ ls) h zero = (h.0.replaced.is.code.parameters, h.0.replaced.is.code.arrays)
-same_frames machine (graph ∷ graphs) (l ∷ ls) h (suc f) = same_frames machine graphs ls h.1 f
-same_frames machine [] (l ∷ ls) h f = absurd h
-same_frames machine (graph ∷ graphs) [] h f = absurd h
+all_step : (n : ℕ) (machine : Numbers) (graphs : List Graph) (ls : List VWords) (h : AreLayoutsFrom n machine graphs ls) (f : ℕ) →
+    BothStep (latency_of_op machine) (slice_get (begun_of n machine graphs ls h) f) (slice_get (done_of n machine graphs ls h) f)
+all_step n machine [] [] h f = tt
+all_step n machine (graph ∷ graphs) (l ∷ ls) h zero = h.0.replaced.steps
+all_step n machine (graph ∷ graphs) (l ∷ ls) h (suc f) = all_step (n + 1) machine graphs ls h.1 f
+all_step n machine [] (l ∷ ls) h f = absurd h
+all_step n machine (graph ∷ graphs) [] h f = absurd h
 
-all_laid_out : (machine : Numbers) (graphs : List Graph) (ls : List VWords) (h : AreLayoutsOf machine graphs ls) (f : ℕ) → BothLaidOut (slice_get (done_of machine graphs ls h) f) (slice_get ls f)
-all_laid_out machine [] [] h f = tt
-all_laid_out machine (graph ∷ graphs) (l ∷ ls) h zero = record { valid = h.0.valid; done = h.0.replaced.done; is = h.0.is }
-all_laid_out machine (graph ∷ graphs) (l ∷ ls) h (suc f) = all_laid_out machine graphs ls h.1 f
-all_laid_out machine [] (l ∷ ls) h f = absurd h
-all_laid_out machine (graph ∷ graphs) [] h f = absurd h
+same_frames : (n : ℕ) (machine : Numbers) (graphs : List Graph) (ls : List VWords) (h : AreLayoutsFrom n machine graphs ls) (f : ℕ) → SameFrame (slice_get graphs f) (slice_get (done_of n machine graphs ls h) f)
+same_frames n machine [] [] h f = tt
+same_frames n machine (graph ∷ graphs) (l ∷ ls) h zero = (h.0.replaced.is.code.parameters, h.0.replaced.is.code.arrays)
+same_frames n machine (graph ∷ graphs) (l ∷ ls) h (suc f) = same_frames (n + 1) machine graphs ls h.1 f
+same_frames n machine [] (l ∷ ls) h f = absurd h
+same_frames n machine (graph ∷ graphs) [] h f = absurd h
 
-all_settled : (machine : Numbers) (graphs : List Graph) (ls : List VWords) (h : AreLayoutsOf machine graphs ls) (f : ℕ) (m : MixedGraph) → slice_get (done_of machine graphs ls h) f ≡ Some m →
+all_laid_out : (n : ℕ) (machine : Numbers) (graphs : List Graph) (ls : List VWords) (h : AreLayoutsFrom n machine graphs ls) (f : ℕ) → BothLaidOut (slice_get (done_of n machine graphs ls h) f) (slice_get ls f)
+all_laid_out n machine [] [] h f = tt
+all_laid_out n machine (graph ∷ graphs) (l ∷ ls) h zero = record { valid = h.0.valid; done = h.0.replaced.done; is = h.0.is }
+all_laid_out n machine (graph ∷ graphs) (l ∷ ls) h (suc f) = all_laid_out (n + 1) machine graphs ls h.1 f
+all_laid_out n machine [] (l ∷ ls) h f = absurd h
+all_laid_out n machine (graph ∷ graphs) [] h f = absurd h
+
+all_settled : (n : ℕ) (machine : Numbers) (graphs : List Graph) (ls : List VWords) (h : AreLayoutsFrom n machine graphs ls) (f : ℕ) (m : MixedGraph) → slice_get (done_of n machine graphs ls h) f ≡ Some m →
     Settled (room_in machine) (latency_of_op machine) m
-all_settled machine [] [] h f m e = absurd (cc)
-all_settled machine (graph ∷ graphs) (l ∷ ls) h zero m e = let q : h.0.done ≡ m = cc in subst (Settled (room_in machine) (latency_of_op machine)) q h.0.replaced.is.settled
-all_settled machine (graph ∷ graphs) (l ∷ ls) h (suc f) m e = all_settled machine graphs ls h.1 f m e
-all_settled machine [] (l ∷ ls) h f m e = absurd h
-all_settled machine (graph ∷ graphs) [] h f m e = absurd h
+all_settled n machine [] [] h f m e = absurd (cc)
+all_settled n machine (graph ∷ graphs) (l ∷ ls) h zero m e = let q : h.0.done ≡ m = cc in subst (Settled (room_in machine) (latency_of_op machine)) q h.0.replaced.is.settled
+all_settled n machine (graph ∷ graphs) (l ∷ ls) h (suc f) m e = all_settled (n + 1) machine graphs ls h.1 f m e
+all_settled n machine [] (l ∷ ls) h f m e = absurd h
+all_settled n machine (graph ∷ graphs) [] h f m e = absurd h
 
 -- runs
 
@@ -117,10 +120,10 @@ module _ (laws : StageLaws) (p : Program) (flow : Flow) (machine : Numbers) (ls 
   some_time e = cc
 
   abbrev begun : List MixedGraph
-  begun = begun_of machine flow.functions ls laid
+  begun = begun_of 0 machine flow.functions ls laid
 
   abbrev done : List MixedGraph
-  done = done_of machine flow.functions ls laid
+  done = done_of 0 machine flow.functions ls laid
 
   graphs_do : (input : List ℤ) → AreNumbers input → Does p input (graph_run flow input)
   graphs_do input numbers = record { same = is.runs.same input numbers; never = is.runs.never_wrong input numbers }
@@ -128,20 +131,20 @@ module _ (laws : StageLaws) (p : Program) (flow : Flow) (machine : Numbers) (ls 
   begun_do : (input : List ℤ) → AreNumbers input → Does p input (mixed_run flow soon latency begun input)
   begun_do input numbers =
       like laws.transitive p input (graph_run flow input) (mixed_run flow soon latency begun input)
-      (laws.means flow begun (begin_so machine flow.functions ls laid) soon latency input) (graphs_do input numbers)
+      (laws.means flow begun (begin_so 0 machine flow.functions ls laid) soon latency input) (graphs_do input numbers)
 
   done_do : (input : List ℤ) → AreNumbers input → Does p input (mixed_run flow soon latency done input)
   done_do input numbers =
       let before = begun_do input numbers in
       on laws.transitive p input (mixed_run flow soon latency begun input) (mixed_run flow soon latency done input) before
-      (laws.steps flow soon latency begun done input some_time (all_step machine flow.functions ls laid) before.never)
+      (laws.steps flow soon latency begun done input some_time (all_step 0 machine flow.functions ls laid) before.never)
 
   pub laid_do : (input : List ℤ) → AreNumbers input → Does p input (laid_run flow ls input)
   laid_do input numbers =
       let before = done_do input numbers in
       on laws.transitive p input (mixed_run flow soon latency done input) (laid_run flow ls input) before
-      (laws.layouts flow soon latency (room_in machine) done ls input some_time (same_frames machine flow.functions ls laid) (all_laid_out machine flow.functions ls laid)
-      (all_settled machine flow.functions ls laid) before.never)
+      (laws.layouts flow soon latency (room_in machine) done ls input some_time (same_frames 0 machine flow.functions ls laid) (all_laid_out 0 machine flow.functions ls laid)
+      (all_settled 0 machine flow.functions ls laid) before.never)
 
   module _ (maps : List RegMap) (w : WordProgram) (works : IsMachine machine) (finished : IsFinished machine flow ls maps w) where
     law : KeepsTo finished.target.machine w × ((input : List ℤ) → NeverFails (laid_run flow ls input) → DoesTheSame finished.target flow ls w input)
@@ -180,11 +183,11 @@ module _ (laws : StageLaws) (p : Program) (flow : Flow) (machine : Numbers) (ls 
 
 -- what finishing asks for
 
-pub as_many_layouts : (machine : Numbers) (graphs : List Graph) (ls : List VWords) → AreLayoutsOf machine graphs ls → length ls ≡ length graphs
-as_many_layouts machine [] [] h = refl
-as_many_layouts machine (graph ∷ graphs) (l ∷ ls) h = ap suc (as_many_layouts machine graphs ls h.1)
-as_many_layouts machine [] (l ∷ ls) h = absurd h
-as_many_layouts machine (graph ∷ graphs) [] h = absurd h
+pub as_many_layouts : (n : ℕ) (machine : Numbers) (graphs : List Graph) (ls : List VWords) → AreLayoutsFrom n machine graphs ls → length ls ≡ length graphs
+as_many_layouts n machine [] [] h = refl
+as_many_layouts n machine (graph ∷ graphs) (l ∷ ls) h = ap suc (as_many_layouts (n + 1) machine graphs ls h.1)
+as_many_layouts n machine [] (l ∷ ls) h = absurd h
+as_many_layouts n machine (graph ∷ graphs) [] h = absurd h
 
 pub as_many_maps : (machine : Numbers) (ls : List VWords) (maps : List RegMap) → AreMapsOf machine ls maps → length maps ≡ length ls
 as_many_maps machine [] [] h = refl
@@ -200,39 +203,43 @@ pub record At (machine : Numbers) (graphs : List Graph) (ls : List VWords) (maps
   pub graph_is : slice_get graphs f ≡ Some graph
   pub layout_is : slice_get ls f ≡ Some layout
   pub map_is : slice_get maps f ≡ Some map
-  pub laid : IsLayoutOf machine graph layout
+  pub number : ℕ
+  pub laid : IsLayoutOf machine number graph layout
   pub apart : KeepsApart machine (latency_of_op machine) layout map
 
-at : (machine : Numbers) (graphs : List Graph) (ls : List VWords) (maps : List RegMap) → AreLayoutsOf machine graphs ls → AreMapsOf machine ls maps → (f : ℕ) → f < length graphs → At machine graphs ls maps f
-at machine [] ls maps h k f below = absurd (omega arith)
-at machine (graph ∷ graphs) [] maps h k f below = absurd h
-at machine (graph ∷ graphs) (l ∷ ls) [] h k f below = absurd k
-at machine (graph ∷ graphs) (l ∷ ls) (map ∷ maps) h k zero below = record { graph = graph; layout = l; map = map; graph_is = refl; layout_is = refl; map_is = refl; laid = h.0; apart = k.0 }
-at machine (graph ∷ graphs) (l ∷ ls) (map ∷ maps) h k (suc f) below =
-    let r = at machine graphs ls maps h.1 k.1 f (omega arith) in
-    record { graph = r.graph; layout = r.layout; map = r.map; graph_is = r.graph_is; layout_is = r.layout_is; map_is = r.map_is; laid = r.laid; apart = r.apart }
+at : (n : ℕ) (machine : Numbers) (graphs : List Graph) (ls : List VWords) (maps : List RegMap) → AreLayoutsFrom n machine graphs ls → AreMapsOf machine ls maps → (f : ℕ) → f < length graphs → At machine graphs ls maps f
+at n machine [] ls maps h k f below = absurd (omega arith)
+at n machine (graph ∷ graphs) [] maps h k f below = absurd h
+at n machine (graph ∷ graphs) (l ∷ ls) [] h k f below = absurd k
+at n machine (graph ∷ graphs) (l ∷ ls) (map ∷ maps) h k zero below = record { graph = graph; layout = l; map = map; graph_is = refl; layout_is = refl; map_is = refl; number = n; laid = h.0; apart = k.0 }
+at n machine (graph ∷ graphs) (l ∷ ls) (map ∷ maps) h k (suc f) below =
+    let r = at (n + 1) machine graphs ls maps h.1 k.1 f (omega arith) in
+    record { graph = r.graph; layout = r.layout; map = r.map; graph_is = r.graph_is; layout_is = r.layout_is; map_is = r.map_is; number = r.number; laid = r.laid; apart = r.apart }
 
-pub all_inside : (laws : StageLaws) (machine : Numbers) (graphs : List Graph) (ls : List VWords) → IsMachine machine → AreLayoutsOf machine graphs ls → AreInside ls
-all_inside laws machine [] [] works h f l e = absurd (let z : None ≡ Some l = e in cc)
-all_inside laws machine (graph ∷ graphs) (x ∷ ls) works h zero l e =
-    let can : Finishable machine graph x = finishable laws.settles laws.comes laws.brief machine graph x works h.0 in
+inside_from : (laws : StageLaws) (n : ℕ) (machine : Numbers) (graphs : List Graph) (ls : List VWords) → IsMachine machine → AreLayoutsFrom n machine graphs ls → AreInside ls
+inside_from laws n machine [] [] works h f l e = absurd (let z : None ≡ Some l = e in cc)
+inside_from laws n machine (graph ∷ graphs) (x ∷ ls) works h zero l e =
+    let can : Finishable machine graph x = finishable laws.settles laws.comes laws.brief machine n graph x works h.0 in
     let same : x ≡ l = cc in
     subst IsInside same (record { words = can.settled.inside; entry = can.settled.entry })
-all_inside laws machine (graph ∷ graphs) (x ∷ ls) works h (suc f) l e = all_inside laws machine graphs ls works h.1 f l e
-all_inside laws machine [] (x ∷ ls) works h f l e = absurd h
-all_inside laws machine (graph ∷ graphs) [] works h f l e = absurd h
+inside_from laws n machine (graph ∷ graphs) (x ∷ ls) works h (suc f) l e = inside_from laws (n + 1) machine graphs ls works h.1 f l e
+inside_from laws n machine [] (x ∷ ls) works h f l e = absurd h
+inside_from laws n machine (graph ∷ graphs) [] works h f l e = absurd h
+
+pub all_inside : (laws : StageLaws) (machine : Numbers) (graphs : List Graph) (ls : List VWords) → IsMachine machine → AreLayoutsOf machine graphs ls → AreInside ls
+all_inside laws machine graphs ls works h = inside_from laws 0 machine graphs ls works h
 
 pub all_can_finish : (laws : StageLaws) (machine : Numbers) (flow : Flow) (ls : List VWords) (maps : List RegMap) →
     IsMachine machine → AreLayoutsOf machine flow.functions ls → AreMapsOf machine ls maps → AllCanFinish machine flow ls maps
 all_can_finish laws machine flow ls maps works h k = record {
-  layouts = as_many_layouts machine flow.functions ls h;
-  maps = as_many_maps machine ls maps k ∙ as_many_layouts machine flow.functions ls h;
-  each = λ f below. each f (at machine flow.functions ls maps h k f below);
+  layouts = as_many_layouts 0 machine flow.functions ls h;
+  maps = as_many_maps machine ls maps k ∙ as_many_layouts 0 machine flow.functions ls h;
+  each = λ f below. each f (at 0 machine flow.functions ls maps h k f below);
 }
   where
     each : (f : ℕ) → At machine flow.functions ls maps f → CanFinish machine flow ls maps f
     each f a =
-        let can : Finishable machine a.graph a.layout = finishable laws.settles laws.comes laws.brief machine a.graph a.layout works a.laid in
+        let can : Finishable machine a.graph a.layout = finishable laws.settles laws.comes laws.brief machine a.number a.graph a.layout works a.laid in
         record {
           graph = a.graph;
           layout = a.layout;
@@ -249,12 +256,12 @@ all_can_finish laws machine flow ls maps works h k = record {
 
 -- one more function
 
-pub one_more_layout : (machine : Numbers) (graphs : List Graph) (ls : List VWords) (graph : Graph) (l : VWords) → AreLayoutsOf machine graphs ls → IsLayoutOf machine graph l →
-    AreLayoutsOf machine (graphs ++ graph ∷ []) (ls ++ l ∷ [])
-one_more_layout machine [] [] graph l h is = (is, tt)
-one_more_layout machine (g ∷ graphs) (k ∷ ls) graph l h is = (h.0, one_more_layout machine graphs ls graph l h.1 is)
-one_more_layout machine [] (k ∷ ls) graph l h is = absurd h
-one_more_layout machine (g ∷ graphs) [] graph l h is = absurd h
+pub one_more_layout : (n m : ℕ) (machine : Numbers) (graphs : List Graph) (ls : List VWords) (graph : Graph) (l : VWords) → m ≡ n + length ls → AreLayoutsFrom n machine graphs ls → IsLayoutOf machine m graph l →
+    AreLayoutsFrom n machine (graphs ++ graph ∷ []) (ls ++ l ∷ [])
+one_more_layout n m machine [] [] graph l at h is = let same : m ≡ n = omega (arith, at) in (subst (λ k. IsLayoutOf machine k graph l) same is, tt)
+one_more_layout n m machine (g ∷ graphs) (k ∷ ls) graph l at h is = (h.0, one_more_layout (n + 1) m machine graphs ls graph l (omega (arith, at)) h.1 is)
+one_more_layout n m machine [] (k ∷ ls) graph l at h is = absurd h
+one_more_layout n m machine (g ∷ graphs) [] graph l at h is = absurd h
 
 pub one_more_map : (machine : Numbers) (ls : List VWords) (maps : List RegMap) (l : VWords) (map : RegMap) → AreMapsOf machine ls maps → KeepsApart machine (latency_of_op machine) l map →
     AreMapsOf machine (ls ++ l ∷ []) (maps ++ map ∷ [])
@@ -263,11 +270,12 @@ one_more_map machine (k ∷ ls) (other ∷ maps) l map h is = (h.0, one_more_map
 one_more_map machine [] (other ∷ maps) l map h is = absurd h
 one_more_map machine (k ∷ ls) [] l map h is = absurd h
 
-pub layouts_step : (machine : Numbers) (graphs : List Graph) (i : ℕ) (graph : Graph) (ls ls' : List VWords) (l : VWords) → i < length graphs → graph ≡ get_or graphs i graph →
-    AreLayoutsOf machine (take i graphs) ls → IsLayoutOf machine graph l → ls' ≡ ls ++ l ∷ [] → AreLayoutsOf machine (take (i + 1) graphs) ls'
-layouts_step machine graphs i graph ls ls' l below item h is e =
+pub layouts_step : (machine : Numbers) (graphs : List Graph) (i number : ℕ) (graph : Graph) (ls ls' : List VWords) (l : VWords) → i < length graphs → graph ≡ get_or graphs i graph → number ≡ length ls →
+    AreLayoutsOf machine (take i graphs) ls → IsLayoutOf machine number graph l → ls' ≡ ls ++ l ∷ [] → AreLayoutsOf machine (take (i + 1) graphs) ls'
+layouts_step machine graphs i number graph ls ls' l below item many h is e =
+    let at : number ≡ 0 + length ls = omega (arith, many) in
     let t : take (i + 1) graphs ≡ take i graphs ++ graph ∷ [] = take_more graphs i graph below ∙ ap (λ z. take i graphs ++ z ∷ []) (sym item) in
-    subst (λ z. AreLayoutsOf machine z ls') (sym t) (subst (AreLayoutsOf machine (take i graphs ++ graph ∷ [])) (sym e) (one_more_layout machine (take i graphs) ls graph l h is))
+    subst (λ z. AreLayoutsOf machine z ls') (sym t) (subst (AreLayoutsOf machine (take i graphs ++ graph ∷ [])) (sym e) (one_more_layout 0 number machine (take i graphs) ls graph l at h is))
 
 pub maps_step : (machine : Numbers) (ls : List VWords) (i : ℕ) (l : VWords) (maps maps' : List RegMap) (map : RegMap) → i < length ls → l ≡ get_or ls i l →
     AreMapsOf machine (take i ls) maps → KeepsApart machine (latency_of_op machine) l map → maps' ≡ maps ++ map ∷ [] → AreMapsOf machine (take (i + 1) ls) maps'

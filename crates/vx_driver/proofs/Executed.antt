@@ -4,7 +4,7 @@ use Rattle.vx_base.specs.Outcome.{Goes, IsGoing}
 use Rattle.vx_base.specs.Outside.{Files}
 use Rattle.vx_base.specs.declared.role.Role.TheVariants.{Source as TheSource, Words as TheWords, Profile as TheProfile, Machine as TheMachine, Input as TheInput}
 use Rattle.vx_driver.specs.declared.status.Status.{Status}
-use Rattle.vx_driver.specs.declared.status.Status.TheVariants.{Done, Trapped, Usage, Source, Limit, Words, Machine, NoFile, ReadFault, WriteFault, Stopped, Input, Stuck, NoMemory}
+use Rattle.vx_driver.specs.declared.status.Status.TheVariants.{Done, Trapped, Usage, Source, Limit, Words, Profile, Machine, NoFile, ReadFault, WriteFault, Stopped, Input, Stuck, NoMemory}
 use Rattle.vx_isa.specs.Numbers.{Numbers}
 use Rattle.vx_machine.specs.declared.description.MachineFault.TheVariants.{Bad}
 use Rattle.vx_ast.specs.Tree.{Program}
@@ -13,11 +13,12 @@ use Rattle.vx_ast.specs.declared.fault.SourceFault.{SourceFault}
 use Rattle.vx_probe.specs.Times.{Times}
 use Rattle.vx_driver.specs.Command.{Execution}
 use Rattle.vx_driver.specs.Boxes.{Boxes, Chosen, chosen}
-use Rattle.vx_driver.specs.Answers.{HoldsProgram, Accepts, status_of, RefusesSource, Refuses, MachineFound, Is, Refused, TooLong, Missing, machine_found, Effect, ReadsRose}
+use Rattle.vx_driver.specs.Answers.{HoldsProgram, Accepts, status_of, RefusesSource, Refuses, MachineFound, ProfileStands, RefusesProfile, Is, Refused, TooLong, Missing, machine_found, Effect, ReadsRose}
 use Rattle.vx_driver.specs.Simulated.{Loaded, machine_as, input_found, outcome_within, Streams, OutRose, ErrRose}
 use Rattle.vx_driver.specs.Executed.{AllHeld, Prepared, Runs, RunsCut, ExecutionAnswers, ExecAnswers, GoesOn, EndsAs, ExecEnds, ExecutionCompletes, ExecCompletes}
 use Rattle.vx_driver.proofs.SourceLaws.{one_program}
 use Rattle.vx_driver.proofs.Completing.{same_content, not_missing, told, told_or, not_both, one_status, not_faulty}
+use Rattle.vx_driver.proofs.ProfileFile.{not_both_profiles, one_profile_status}
 use Rattle.vx_driver.proofs.Simulating.{box_completes}
 
 -- an answer, where nothing failed
@@ -25,8 +26,9 @@ data Ended (asked : Execution) (times : Times) (held : Files) : Status → Type 
   ran : {status : Status} (p : Program) (x : Loaded) → AllHeld held asked p x.machine x.input → EndsAs p x.machine x.input times asked.budget status → Ended asked times held status
   refused : {status : Status} → Refuses held asked.source status → Ended asked times held status
   no_source : held asked.source ≡ None → Ended asked times held (NoFile TheSource)
-  no_machine : {status : Status} → Accepts held asked.source → machine_as (machine_found held asked.machine) ≡ Err status → Ended asked times held status
-  no_input : {status : Status} (m : Numbers) → Accepts held asked.source → machine_found held asked.machine ≡ Is m → input_found held asked.input ≡ Err status → Ended asked times held status
+  no_profile : {status : Status} → Accepts held asked.source → RefusesProfile held asked.profile status → Ended asked times held status
+  no_machine : {status : Status} → Accepts held asked.source → ProfileStands held asked.profile → machine_as (machine_found held asked.machine) ≡ Err status → Ended asked times held status
+  no_input : {status : Status} (m : Numbers) → Accepts held asked.source → ProfileStands held asked.profile → machine_found held asked.machine ≡ Is m → input_found held asked.input ≡ Err status → Ended asked times held status
   no_memory : Ended asked times held NoMemory
 
 module _ (asked : Execution) (boxes : Chosen) (e : Effect) (s : Streams) (held : Files) (is : e.before ≡ Some held) (quiet_reads : ReadsRose e → ⊥) (quiet_out : OutRose s → ⊥) (quiet_err : ErrRose s → ⊥) where
@@ -38,6 +40,9 @@ module _ (asked : Execution) (boxes : Chosen) (e : Effect) (s : Streams) (held :
 
   accepts_told : IfSome e.before (λ h. Accepts h asked.source) → Accepts held asked.source
   accepts_told h = told (λ k. Accepts k asked.source) e.before held is h
+
+  stands_told : IfSome e.before (λ h. ProfileStands h asked.profile) → ProfileStands held asked.profile
+  stands_told h = told (λ k. ProfileStands k asked.profile) e.before held is h
 
   machine_told : (found : MachineFound) → IfSome e.before (λ h. machine_found h asked.machine ≡ found) → machine_found held asked.machine ≡ found
   machine_told found h = told (λ k. machine_found k asked.machine ≡ found) e.before held is h
@@ -64,27 +69,29 @@ module _ (asked : Execution) (boxes : Chosen) (e : Effect) (s : Streams) (held :
   ended Usage a = absurd a
   ended (Source code line column) a = refused (told (λ h. Refuses h asked.source (Source code line column)) e.before held is a.1)
   ended (Limit number count) (inl a) = refused (told (λ h. Refuses h asked.source (Limit number count)) e.before held is a.1)
-  ended (Limit number count) (inr (inl a)) =
-      no_machine (accepts_told a.accepted) (ap machine_as (machine_told TooLong a.answers.3) ∙ ap Err (same_limit 11 65537 number count a.answers.0 a.answers.1))
-  ended (Limit number count) (inr (inr a)) =
-      no_input a.machine (accepts_told a.accepted) (machine_told (Is a.machine) a.machine_is) (input_told (Limit 12 16777217) a.answers.3 ∙ ap Err (same_limit 12 16777217 number count a.answers.0 a.answers.1))
+  ended (Limit number count) (inr (inl a)) = no_profile (accepts_told a.accepted) (told (λ h. RefusesProfile h asked.profile (Limit number count)) e.before held is a.answers.3)
+  ended (Limit number count) (inr (inr (inl a))) =
+      no_machine (accepts_told a.accepted) (stands_told a.profiled) (ap machine_as (machine_told TooLong a.answers.3) ∙ ap Err (same_limit 11 65537 number count a.answers.0 a.answers.1))
+  ended (Limit number count) (inr (inr (inr a))) =
+      no_input a.machine (accepts_told a.accepted) (stands_told a.profiled) (machine_told (Is a.machine) a.machine_is) (input_told (Limit 12 16777217) a.answers.3 ∙ ap Err (same_limit 12 16777217 number count a.answers.0 a.answers.1))
   ended (Words code line) a = absurd a
-  ended (Machine code field) a = no_machine (accepts_told a.accepted) (ap machine_as (machine_told (Refused (Bad code field)) a.answers.1))
+  ended (Profile code line) a = no_profile (accepts_told a.accepted) (told (λ h. RefusesProfile h asked.profile (Profile code line)) e.before held is a.answers.1)
+  ended (Machine code field) a = no_machine (accepts_told a.accepted) (stands_told a.profiled) (ap machine_as (machine_told (Refused (Bad code field)) a.answers.1))
   ended (NoFile TheSource) a = no_source (told_or (ReadsRose e) (λ h. h asked.source ≡ None) e.before held is a.2)
   ended (NoFile TheWords) a = absurd a
-  ended (NoFile TheProfile) a = absurd a
+  ended (NoFile TheProfile) a = no_profile (accepts_told a.accepted) (told_or (ReadsRose e) (λ h. RefusesProfile h asked.profile (NoFile TheProfile)) e.before held is a.answers.2)
   ended (NoFile TheMachine) a =
-      no_machine (accepts_told a.accepted) (ap machine_as (told_or (ReadsRose e) (λ h. machine_found h asked.machine ≡ Missing) e.before held is a.answers.2))
+      no_machine (accepts_told a.accepted) (stands_told a.profiled) (ap machine_as (told_or (ReadsRose e) (λ h. machine_found h asked.machine ≡ Missing) e.before held is a.answers.2))
   ended (NoFile TheInput) a =
-      no_input a.machine (accepts_told a.accepted) (machine_told (Is a.machine) a.machine_is) (told_or (ReadsRose e) (λ h. input_found h asked.input ≡ Err (NoFile TheInput)) e.before held is a.answers.2)
+      no_input a.machine (accepts_told a.accepted) (stands_told a.profiled) (machine_told (Is a.machine) a.machine_is) (told_or (ReadsRose e) (λ h. input_found h asked.input ≡ Err (NoFile TheInput)) e.before held is a.answers.2)
   ended (ReadFault TheSource) a = absurd (quiet_reads a.2)
   ended (ReadFault TheWords) a = absurd a
-  ended (ReadFault TheProfile) a = absurd a
+  ended (ReadFault TheProfile) a = absurd (quiet_reads a.answers.2)
   ended (ReadFault TheMachine) a = absurd (quiet_reads a.answers.2)
   ended (ReadFault TheInput) a = absurd (quiet_reads a.answers.2)
   ended WriteFault a = absurd (not_cut a)
   ended Stopped a = ran a.1.ready.source_program a.1.words (all_told a.1.words a.1.ready) (goes_on a.0 a.1)
-  ended (Input place) a = no_input a.machine (accepts_told a.accepted) (machine_told (Is a.machine) a.machine_is) (input_told (Input place) a.answers.1)
+  ended (Input place) a = no_input a.machine (accepts_told a.accepted) (stands_told a.profiled) (machine_told (Is a.machine) a.machine_is) (input_told (Input place) a.answers.1)
   ended (Stuck reason place) a = absurd a
   ended NoMemory a = no_memory
 
@@ -122,8 +129,9 @@ module _ (asked : Execution) (times : Times) (held : Files) where
       (subst (λ l. EndsAs q x.machine l times asked.budget status) (same_input (input_found held asked.input) x.input numbers other.input_is all.input_is) end)))
   accepted status p m numbers all (refused r) = absurd (not_both held asked.source status (accepts_of p m numbers all) r)
   accepted status p m numbers all (no_source none) = absurd (there (accepts_of p m numbers all) none)
-  accepted status p m numbers all (no_machine a why) = absurd (machine_or (machine_found held asked.machine) m status all.machine_is why)
-  accepted status p m numbers all (no_input k a is why) = absurd (input_or (input_found held asked.input) numbers status all.input_is why)
+  accepted status p m numbers all (no_profile a why) = absurd (not_both_profiles held asked.profile status all.profiled why)
+  accepted status p m numbers all (no_machine a k why) = absurd (machine_or (machine_found held asked.machine) m status all.machine_is why)
+  accepted status p m numbers all (no_input k a l is why) = absurd (input_or (input_found held asked.input) numbers status all.input_is why)
   accepted status p m numbers all no_memory = inr refl
 
   is_refused : (status : Status) (content : List ℕ) (fault : SourceFault) → held asked.source ≡ Some content → Refusal content fault → Ended asked times held status → (status ≡ status_of fault) ⊎ (status ≡ NoMemory)
@@ -131,41 +139,55 @@ module _ (asked : Execution) (times : Times) (held : Files) where
   is_refused status content fault holds f (refused r) =
       inl (one_status content fault status f (subst (λ bytes. RefusesSource bytes status) (same_content (held asked.source) r.content content r.holds holds) r.refused))
   is_refused status content fault holds f (no_source none) = absurd (not_missing (held asked.source) content holds none)
-  is_refused status content fault holds f (no_machine a why) = absurd (not_faulty held asked.source content fault holds f a)
-  is_refused status content fault holds f (no_input k a is why) = absurd (not_faulty held asked.source content fault holds f a)
+  is_refused status content fault holds f (no_profile a why) = absurd (not_faulty held asked.source content fault holds f a)
+  is_refused status content fault holds f (no_machine a k why) = absurd (not_faulty held asked.source content fault holds f a)
+  is_refused status content fault holds f (no_input k a l is why) = absurd (not_faulty held asked.source content fault holds f a)
   is_refused status content fault holds f no_memory = inr refl
 
   is_missing : (status : Status) → held asked.source ≡ None → Ended asked times held status → (status ≡ NoFile TheSource) ⊎ (status ≡ NoMemory)
   is_missing status none (ran q x all end) = absurd (there (accepts_of q x.machine x.input all) none)
   is_missing status none (refused r) = absurd (not_missing (held asked.source) r.content r.holds none)
   is_missing status none (no_source other) = inl refl
-  is_missing status none (no_machine a why) = absurd (there a none)
-  is_missing status none (no_input k a is why) = absurd (there a none)
+  is_missing status none (no_profile a why) = absurd (there a none)
+  is_missing status none (no_machine a k why) = absurd (there a none)
+  is_missing status none (no_input k a l is why) = absurd (there a none)
   is_missing status none no_memory = inr refl
 
-  at_machine : (status why : Status) → Accepts held asked.source → machine_as (machine_found held asked.machine) ≡ Err why → Ended asked times held status → (status ≡ why) ⊎ (status ≡ NoMemory)
-  at_machine status why a bad (ran q x all end) = absurd (machine_or (machine_found held asked.machine) x.machine why all.machine_is bad)
-  at_machine status why a bad (refused r) = absurd (not_both held asked.source status a r)
-  at_machine status why a bad (no_source none) = absurd (there a none)
-  at_machine status why a bad (no_machine b other) = inl (same_why (machine_as (machine_found held asked.machine)) status why other bad)
-  at_machine status why a bad (no_input k b is other) = absurd (machine_or (machine_found held asked.machine) k why is bad)
-  at_machine status why a bad no_memory = inr refl
+  at_profile : (status why : Status) → Accepts held asked.source → RefusesProfile held asked.profile why → Ended asked times held status → (status ≡ why) ⊎ (status ≡ NoMemory)
+  at_profile status why a bad (ran q x all end) = absurd (not_both_profiles held asked.profile why all.profiled bad)
+  at_profile status why a bad (refused r) = absurd (not_both held asked.source status a r)
+  at_profile status why a bad (no_source none) = absurd (there a none)
+  at_profile status why a bad (no_profile b other) = inl (one_profile_status held asked.profile status why other bad)
+  at_profile status why a bad (no_machine b k other) = absurd (not_both_profiles held asked.profile why k bad)
+  at_profile status why a bad (no_input m b k is other) = absurd (not_both_profiles held asked.profile why k bad)
+  at_profile status why a bad no_memory = inr refl
 
-  at_input : (status : Status) (m : Numbers) (why : Status) → Accepts held asked.source → machine_found held asked.machine ≡ Is m → input_found held asked.input ≡ Err why → Ended asked times held status → (status ≡ why) ⊎ (status ≡ NoMemory)
-  at_input status m why a is bad (ran q x all end) = absurd (input_or (input_found held asked.input) x.input why all.input_is bad)
-  at_input status m why a is bad (refused r) = absurd (not_both held asked.source status a r)
-  at_input status m why a is bad (no_source none) = absurd (there a none)
-  at_input status m why a is bad (no_machine b other) = absurd (machine_or (machine_found held asked.machine) m status is other)
-  at_input status m why a is bad (no_input k b found other) = inl (same_why (input_found held asked.input) status why other bad)
-  at_input status m why a is bad no_memory = inr refl
+  at_machine : (status why : Status) → Accepts held asked.source → ProfileStands held asked.profile → machine_as (machine_found held asked.machine) ≡ Err why → Ended asked times held status → (status ≡ why) ⊎ (status ≡ NoMemory)
+  at_machine status why a l bad (ran q x all end) = absurd (machine_or (machine_found held asked.machine) x.machine why all.machine_is bad)
+  at_machine status why a l bad (refused r) = absurd (not_both held asked.source status a r)
+  at_machine status why a l bad (no_source none) = absurd (there a none)
+  at_machine status why a l bad (no_profile b other) = absurd (not_both_profiles held asked.profile status l other)
+  at_machine status why a l bad (no_machine b o other) = inl (same_why (machine_as (machine_found held asked.machine)) status why other bad)
+  at_machine status why a l bad (no_input k b o is other) = absurd (machine_or (machine_found held asked.machine) k why is bad)
+  at_machine status why a l bad no_memory = inr refl
+
+  at_input : (status : Status) (m : Numbers) (why : Status) → Accepts held asked.source → ProfileStands held asked.profile → machine_found held asked.machine ≡ Is m → input_found held asked.input ≡ Err why → Ended asked times held status → (status ≡ why) ⊎ (status ≡ NoMemory)
+  at_input status m why a l is bad (ran q x all end) = absurd (input_or (input_found held asked.input) x.input why all.input_is bad)
+  at_input status m why a l is bad (refused r) = absurd (not_both held asked.source status a r)
+  at_input status m why a l is bad (no_source none) = absurd (there a none)
+  at_input status m why a l is bad (no_profile b other) = absurd (not_both_profiles held asked.profile status l other)
+  at_input status m why a l is bad (no_machine b o other) = absurd (machine_or (machine_found held asked.machine) m status is other)
+  at_input status m why a l is bad (no_input k b o found other) = inl (same_why (input_found held asked.input) status why other bad)
+  at_input status m why a l is bad no_memory = inr refl
 
   ends_in : (status : Status) → Ended asked times held status → ExecEnds asked times held status
   ends_in status end = record {
     accepted = λ p m numbers all. accepted status p m numbers all end;
     refused = λ content fault holds f. is_refused status content fault holds f end;
     missing = λ none. is_missing status none end;
-    no_machine = λ why a bad. at_machine status why a bad end;
-    no_input = λ m why a is bad. at_input status m why a is bad end;
+    no_profile = λ why a bad. at_profile status why a bad end;
+    no_machine = λ why a l bad. at_machine status why a l bad end;
+    no_input = λ m why a l is bad. at_input status m why a l is bad end;
   }
 
 execution_completes : (asked : Execution) (boxes : Chosen) (e : Effect) (s : Streams) (status : Status) (b : Option Files) → e.before ≡ b → (ReadsRose e → ⊥) → (OutRose s → ⊥) → (ErrRose s → ⊥) →

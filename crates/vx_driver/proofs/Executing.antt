@@ -15,18 +15,18 @@ use Rattle.vx_probe.specs.Times.{Times, list_of}
 use Rattle.vx_probe.specs.Watch.{Watch}
 use Rattle.vx_base.specs.declared.role.Role.TheVariants.{Source as TheSource, Words as TheWords, Profile as TheProfile, Machine as TheMachine, Input as TheInput}
 use Rattle.vx_driver.specs.declared.status.Status.{Status}
-use Rattle.vx_driver.specs.declared.status.Status.TheVariants.{Done, Trapped, Usage, Source, Limit, Words, Machine, NoFile, ReadFault, WriteFault, Stopped, Input, Stuck, NoMemory}
+use Rattle.vx_driver.specs.declared.status.Status.TheVariants.{Done, Trapped, Usage, Source, Limit, Words, Profile, Machine, NoFile, ReadFault, WriteFault, Stopped, Input, Stuck, NoMemory}
 use Rattle.vx_driver.specs.Command.{Execution}
 use Rattle.vx_driver.specs.Boxes.{Chosen}
 use Rattle.vx_driver.specs.Compiled.{Compiled}
-use Rattle.vx_driver.specs.Answers.{HoldsProgram, Is, machine_found, Effect, ReadsRose, SourceAnswers, MachineAnswers, StopsAtMachine}
+use Rattle.vx_driver.specs.Answers.{HoldsProgram, ProfileStands, Is, machine_found, Effect, ReadsRose, SourceAnswers, ProfileAnswers, StopsAtProfile, MachineAnswers, StopsAtMachine}
 use Rattle.vx_driver.specs.Simulated.{Loaded, begun, outcome_within, events_within, reports_of, input_found, Streams, OutputCut, IsStatusOf}
 use Rattle.vx_driver.specs.Executed.{Issues, SourceHas, SourceBegins, InSource, AllHeld, Prepared, issued_line, ShowsRun, Runs, RunsCut, InputAnswers, StopsAtInput, ExecutionAnswers}
-use Rattle.vx_driver.specs.Ending.{ShowsOf, IsRunOf, UnputLines, LoadedAnswers, LaterStops, StopsBefore}
+use Rattle.vx_driver.specs.Ending.{ShowsOf, IsRunOf, UnputLines, LoadedAnswers, LaterStops, AfterSource, StopsBefore}
 use Rattle.vx_driver.proofs.Issued.{issues_comes, issues_within, issues_least, issues_all, issues_seen}
 use Rattle.vx_driver.proofs.Turned.{turned_of, turned_some, outcome_turned}
 use Rattle.vx_driver.proofs.Runs.{no_run}
-use Rattle.vx_driver.proofs.Answering.{Since, machine_since, told_since, accepts_in, same_since, reads_since, missing_since}
+use Rattle.vx_driver.proofs.Answering.{Since, profile_since, machine_since, told_since, accepts_in, same_since, reads_since, missing_since}
 
 -- a run of words in the terms of the source
 
@@ -159,6 +159,7 @@ module _ (asked : Execution) (x : Loaded) (times : Times) (watches : List Watch)
   run_executed (Source code line column) a = absurd (no_run the_outcome (Source code line column) refl a.status_is)
   run_executed (Limit number count) a = absurd (no_run the_outcome (Limit number count) refl a.status_is)
   run_executed (Words code line) a = absurd (no_run the_outcome (Words code line) refl a.status_is)
+  run_executed (Profile code line) a = absurd (no_run the_outcome (Profile code line) refl a.status_is)
   run_executed (Machine code field) a = absurd (no_run the_outcome (Machine code field) refl a.status_is)
   run_executed (NoFile role) a = absurd (no_run the_outcome (NoFile role) refl a.status_is)
   run_executed (ReadFault role) a = absurd (no_run the_outcome (ReadFault role) refl a.status_is)
@@ -178,6 +179,7 @@ module _ (asked : Execution) (e : Effect) (s : Streams) (boxes : Chosen) where
   at_source (Source code line column) a = a
   at_source (Limit number count) a = inl a
   at_source (Words code line) a = absurd a
+  at_source (Profile code line) a = absurd a
   at_source (Machine code field) a = absurd a
   at_source (NoFile TheSource) a = a
   at_source (NoFile TheWords) a = let is = a.0 in absurd cc
@@ -195,13 +197,39 @@ module _ (asked : Execution) (e : Effect) (s : Streams) (boxes : Chosen) where
   at_source (Stuck reason place) a = absurd a
   at_source NoMemory a = tt
 
-  at_machine : (status : Status) → StopsAtMachine asked.source asked.machine e status → ExecutionAnswers asked e s status boxes
+  at_profile : (status : Status) → StopsAtProfile asked.source asked.profile e status → ExecutionAnswers asked e s status boxes
+  at_profile Done a = absurd a.answers
+  at_profile (Trapped trap) a = absurd a.answers
+  at_profile Usage a = absurd a.answers
+  at_profile (Source code line column) a = absurd a.answers
+  at_profile (Limit number count) a = inr (inl a)
+  at_profile (Words code line) a = absurd a.answers
+  at_profile (Profile code line) a = a
+  at_profile (Machine code field) a = absurd a.answers
+  at_profile (NoFile TheSource) a = let is = a.answers.0 in absurd cc
+  at_profile (NoFile TheWords) a = let is = a.answers.0 in absurd cc
+  at_profile (NoFile TheProfile) a = a
+  at_profile (NoFile TheMachine) a = let is = a.answers.0 in absurd cc
+  at_profile (NoFile TheInput) a = let is = a.answers.0 in absurd cc
+  at_profile (ReadFault TheSource) a = let is = a.answers.0 in absurd cc
+  at_profile (ReadFault TheWords) a = let is = a.answers.0 in absurd cc
+  at_profile (ReadFault TheProfile) a = a
+  at_profile (ReadFault TheMachine) a = let is = a.answers.0 in absurd cc
+  at_profile (ReadFault TheInput) a = let is = a.answers.0 in absurd cc
+  at_profile WriteFault a = absurd a.answers
+  at_profile Stopped a = absurd a.answers
+  at_profile (Input place) a = absurd a.answers
+  at_profile (Stuck reason place) a = absurd a.answers
+  at_profile NoMemory a = tt
+
+  at_machine : (status : Status) → StopsAtMachine asked.source asked.profile asked.machine e status → ExecutionAnswers asked e s status boxes
   at_machine Done a = absurd a.answers
   at_machine (Trapped trap) a = absurd a.answers
   at_machine Usage a = absurd a.answers
   at_machine (Source code line column) a = absurd a.answers
-  at_machine (Limit number count) a = inr (inl a)
+  at_machine (Limit number count) a = inr (inr (inl a))
   at_machine (Words code line) a = absurd a.answers
+  at_machine (Profile code line) a = absurd a.answers
   at_machine (Machine code field) a = a
   at_machine (NoFile TheSource) a = let is = a.answers.0 in absurd cc
   at_machine (NoFile TheWords) a = let is = a.answers.0 in absurd cc
@@ -224,8 +252,9 @@ module _ (asked : Execution) (e : Effect) (s : Streams) (boxes : Chosen) where
   at_input (Trapped trap) a = absurd a.answers
   at_input Usage a = absurd a.answers
   at_input (Source code line column) a = absurd a.answers
-  at_input (Limit number count) a = inr (inr a)
+  at_input (Limit number count) a = inr (inr (inr a))
   at_input (Words code line) a = absurd a.answers
+  at_input (Profile code line) a = absurd a.answers
   at_input (Machine code field) a = absurd a.answers
   at_input (NoFile TheSource) a = let is = a.answers.0 in absurd cc
   at_input (NoFile TheWords) a = let is = a.answers.0 in absurd cc
@@ -246,8 +275,9 @@ module _ (asked : Execution) (e : Effect) (s : Streams) (boxes : Chosen) where
   stops_before : (status : Status) → StopsBefore asked e status → ExecutionAnswers asked e s status boxes
   stops_before status (inl memory) = subst (λ t. ExecutionAnswers asked e s t boxes) (sym memory) tt
   stops_before status (inr (inl a)) = at_source status a
-  stops_before status (inr (inr (inl a))) = at_machine status a
-  stops_before status (inr (inr (inr a))) = at_input status a
+  stops_before status (inr (inr (inl a))) = at_profile status a
+  stops_before status (inr (inr (inr (inl a)))) = at_machine status a
+  stops_before status (inr (inr (inr (inr a)))) = at_input status a
 
   pub stops_told : (status told : Status) → told ≡ status → StopsBefore asked e status → ExecutionAnswers asked e s told boxes
   stops_told status told same a = subst (λ t. ExecutionAnswers asked e s t boxes) (sym same) (stops_before status a)
@@ -261,6 +291,7 @@ input_since input e f Usage s a = absurd a
 input_since input e f (Source code line column) s a = absurd a
 input_since input e f (Limit number count) s a = (a.0, a.1, same_since e f s a.2, told_since e f (λ held. input_found held input ≡ Err (Limit 12 16777217)) s a.3)
 input_since input e f (Words code line) s a = absurd a
+input_since input e f (Profile code line) s a = absurd a
 input_since input e f (Machine code field) s a = absurd a
 input_since input e f (NoFile role) s a =
     let P : Files → Type 0 = λ held. input_found held input ≡ Err (NoFile TheInput) in
@@ -280,33 +311,60 @@ later_input machine input numbers e f status since found (inr why) = inr (inr (r
 pub later_machine : (machine input : Option (List ℕ)) (e : Effect) (status : Status) → is_some machine ≡ true → MachineAnswers machine e status → LaterStops machine input e status
 later_machine machine input e status named a = inr (inl (record { named = named; answers = a }))
 
-pub after_source : (asked : Execution) (program : Program) (e f : Effect) (status : Status) → Since e f → IfSome f.before (λ held. HoldsProgram held asked.source program) →
-    LaterStops asked.machine asked.input e status → StopsBefore asked f status
-after_source asked program e f status since holds (inl memory) = inl memory
-after_source asked program e f status since holds (inr (inl none)) = inr (inr (inl (record {
+later_since : (machine input : Option (List ℕ)) (e f : Effect) (status : Status) → Since e f → LaterStops machine input e status → LaterStops machine input f status
+later_since machine input e f status since (inl memory) = inl memory
+later_since machine input e f status since (inr (inl none)) = inr (inl (record { named = none.named; answers = machine_since machine e f status since none.answers }))
+later_since machine input e f status since (inr (inr none)) = inr (inr (record {
   named = none.named;
-  accepted = accepts_in asked.source program f.before holds;
-  answers = machine_since asked.machine e f status since none.answers;
-})))
-after_source asked program e f status since holds (inr (inr none)) = inr (inr (inr (record {
-  named = none.named;
-  accepted = accepts_in asked.source program f.before holds;
-  machine = none.numbers;
-  machine_is = told_since e f (λ held. machine_found held asked.machine ≡ Is none.numbers) since none.machine_is;
-  answers = input_since asked.input e f status since none.answers;
-})))
+  numbers = none.numbers;
+  machine_is = told_since e f (λ held. machine_found held machine ≡ Is none.numbers) since none.machine_is;
+  answers = input_since input e f status since none.answers;
+}))
 
-all_held : (asked : Execution) (program : Program) (m : Numbers) (numbers : List ℤ) (b : Option Files) → IfSome b (λ held. HoldsProgram held asked.source program) →
+pub after_profile : (profile machine input : Option (List ℕ)) (e f : Effect) (status : Status) → Since e f → IfSome f.before (λ held. ProfileStands held profile) → LaterStops machine input e status →
+    AfterSource profile machine input f status
+after_profile profile machine input e f status since stands stops = inr (record { profiled = stands; stops = later_since machine input e f status since stops })
+
+stopped_later : (asked : Execution) (program : Program) (f : Effect) (status : Status) → IfSome f.before (λ held. HoldsProgram held asked.source program) →
+    IfSome f.before (λ held. ProfileStands held asked.profile) → LaterStops asked.machine asked.input f status → StopsBefore asked f status
+stopped_later asked program f status holds stands (inl memory) = inl memory
+stopped_later asked program f status holds stands (inr (inl none)) = inr (inr (inr (inl (record {
+  named = none.named;
+  accepted = accepts_in asked.source program f.before holds;
+  profiled = stands;
+  answers = none.answers;
+}))))
+stopped_later asked program f status holds stands (inr (inr none)) = inr (inr (inr (inr (record {
+  named = none.named;
+  accepted = accepts_in asked.source program f.before holds;
+  profiled = stands;
+  machine = none.numbers;
+  machine_is = none.machine_is;
+  answers = none.answers;
+}))))
+
+pub after_source : (asked : Execution) (program : Program) (e f : Effect) (status : Status) → Since e f → IfSome f.before (λ held. HoldsProgram held asked.source program) →
+    AfterSource asked.profile asked.machine asked.input e status → StopsBefore asked f status
+after_source asked program e f status since holds (inl none) = inr (inr (inl (record {
+  named = none.named;
+  accepted = accepts_in asked.source program f.before holds;
+  answers = profile_since asked.profile e f status since none.answers;
+})))
+after_source asked program e f status since holds (inr later) =
+    stopped_later asked program f status holds (told_since e f (λ held. ProfileStands held asked.profile) since later.profiled) (later_since asked.machine asked.input e f status since later.stops)
+
+all_held : (asked : Execution) (program : Program) (m : Numbers) (numbers : List ℤ) (b : Option Files) → IfSome b (λ held. HoldsProgram held asked.source program) → IfSome b (λ held. ProfileStands held asked.profile) →
     IfSome b (λ held. machine_found held asked.machine ≡ Is m) → IfSome b (λ held. input_found held asked.input ≡ Ok numbers) → IfSome b (λ held. AllHeld held asked program m numbers)
-all_held asked program m numbers None holds machine input = tt
-all_held asked program m numbers (Some held) holds machine input = record { program_is = holds; machine_is = machine; input_is = input }
+all_held asked program m numbers None holds stands machine input = tt
+all_held asked program m numbers (Some held) holds stands machine input = record { program_is = holds; profiled = stands; machine_is = machine; input_is = input }
 
 pub prepared : (asked : Execution) (program : Program) (x : Loaded) (e f : Effect) → Since e f → IfSome f.before (λ held. HoldsProgram held asked.source program) →
-    IfSome e.before (λ held. machine_found held asked.machine ≡ Is x.machine) → IfSome e.before (λ held. input_found held asked.input ≡ Ok x.input) → Compiled program x.machine x.program → Prepared asked f x
-prepared asked program x e f since holds machine input compiled = record {
+    IfSome e.before (λ held. ProfileStands held asked.profile) → IfSome e.before (λ held. machine_found held asked.machine ≡ Is x.machine) → IfSome e.before (λ held. input_found held asked.input ≡ Ok x.input) →
+    Compiled program x.machine x.program → Prepared asked f x
+prepared asked program x e f since holds stands machine input compiled = record {
   source_program = program;
-  read = all_held asked program x.machine x.input f.before holds (told_since e f (λ held. machine_found held asked.machine ≡ Is x.machine) since machine)
-      (told_since e f (λ held. input_found held asked.input ≡ Ok x.input) since input);
+  read = all_held asked program x.machine x.input f.before holds (told_since e f (λ held. ProfileStands held asked.profile) since stands)
+      (told_since e f (λ held. machine_found held asked.machine ≡ Is x.machine) since machine) (told_since e f (λ held. input_found held asked.input ≡ Ok x.input) since input);
   compiled = compiled;
 }
 

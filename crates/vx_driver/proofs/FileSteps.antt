@@ -13,7 +13,7 @@ use Rattle.vx_isa.specs.Numbers.{Numbers}
 use Rattle.vx_machine.specs.declared.description.MachineFault.TheVariants.{Bad}
 use Rattle.vx_words.specs.Text.{Spells, Fault, reading}
 use Rattle.vx_driver.specs.declared.status.Status.{Status}
-use Rattle.vx_driver.specs.declared.status.Status.TheVariants.{Done, Trapped, Usage, Source, Limit, Words, Machine, NoFile, ReadFault, WriteFault, Stopped, Input, Stuck, NoMemory}
+use Rattle.vx_driver.specs.declared.status.Status.TheVariants.{Done, Trapped, Usage, Source, Limit, Words, Profile, Machine, NoFile, ReadFault, WriteFault, Stopped, Input, Stuck, NoMemory}
 use Rattle.vx_driver.specs.Answers.{MachineFound, Is, Refused, TooLong, Missing, machine_found, Effect, ReadsRose, SameFiles, MachineAnswers}
 use Rattle.vx_driver.specs.InputText.{input_reading}
 use Rattle.vx_driver.specs.Simulated.{file_in, words_as, words_in, machine_as, input_as, input_found, Loaded, with_input, loading_input, loading_machine, loading, is_named, Stops}
@@ -111,6 +111,7 @@ input_answers_stop input e (Limit number count) named a =
     same_limit : (number count : ℕ) → number ≡ 12 → count ≡ 16777217 → Limit 12 16777217 ≡ Limit number count
     same_limit number count a b = cc
 input_answers_stop input e (Words code line) named a = absurd a
+input_answers_stop input e (Profile code line) named a = absurd a
 input_answers_stop input e (Machine code field) named a = absurd a
 input_answers_stop input e (NoFile role) named a = subst (λ r. InputStops input e (NoFile r)) (sym a.0) (named, a.2)
 input_answers_stop input e (ReadFault role) named a = subst (λ r. InputStops input e (ReadFault r)) (sym a.0) (named, a.2)
@@ -147,6 +148,7 @@ machine_stops machine e (Limit number count) named a =
     same_limit : (number count : ℕ) → number ≡ 11 → count ≡ 65537 → Limit 11 65537 ≡ Limit number count
     same_limit number count a b = cc
 machine_stops machine e (Words code line) named a = absurd a
+machine_stops machine e (Profile code line) named a = absurd a
 machine_stops machine e (Machine code field) named a = machine_told machine (Refused (Bad code field)) e.before (Err (Machine code field)) a.1 refl
 machine_stops machine e (NoFile role) named a =
     subst (λ r. MachineStops machine e (NoFile r)) (sym a.0) (named, machine_missing machine (ReadsRose e) e.before a.2)

@@ -10,6 +10,7 @@ mod ExecRows
 pub mod Refusing
 pub mod Answering
 pub mod MachineFile
+pub mod ProfileFile
 pub mod Fronts
 pub mod SourceLaws
 pub mod Completing

@@ -10,7 +10,7 @@ use Rattle.vx_isa.specs.Numbers.{Numbers, vex}
 use Rattle.vx_machine.specs.declared.description.MachineFault.TheVariants.{Bad}
 use Rattle.vx_machine.specs.Descriptions.{reading}
 use Rattle.vx_driver.specs.declared.status.Status.{Status}
-use Rattle.vx_driver.specs.declared.status.Status.TheVariants.{Done, Trapped, Usage, Source, Limit, Words, Machine, NoFile, ReadFault, WriteFault, Stopped, Input, Stuck, NoMemory}
+use Rattle.vx_driver.specs.declared.status.Status.TheVariants.{Done, Trapped, Usage, Source, Limit, Words, Profile, Machine, NoFile, ReadFault, WriteFault, Stopped, Input, Stuck, NoMemory}
 use Rattle.vx_driver.specs.Answers.{most_description_bytes, MachineFound, Is, Refused, TooLong, Missing, found_by, found_in, machine_found, Effect, SameFiles, MachineAnswers, RefusesDescription}
 
 short_found : (content : List ℕ) (found : MachineFound) → length content ≤ most_description_bytes → found_by (reading content) ≡ found → found_in (Some content) ≡ found
@@ -42,6 +42,7 @@ undescribed name bytes e Done h same r = absurd r
 undescribed name bytes e Usage h same r = absurd r
 undescribed name bytes e (Trapped trap) h same r = absurd r
 undescribed name bytes e (Words code line) h same r = absurd r
+undescribed name bytes e (Profile code line) h same r = absurd r
 undescribed name bytes e Stopped h same r = absurd r
 undescribed name bytes e (Input place) h same r = absurd r
 undescribed name bytes e (Stuck reason place) h same r = absurd r

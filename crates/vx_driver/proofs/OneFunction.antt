@@ -210,6 +210,6 @@ module _ (settles : LayoutSettles) (comes : LayoutComesFromGraph) (is_brief : La
         homes = λ p v busy. subst (λ z. z < machine.clusters) (sym (home_is_first graph latency m sound is.one is.code.banks code v (busy_has graph latency m sound is.one is.code.banks code p v busy))) zero_there;
       }
 
-  pub finishable : (machine : Numbers) (graph : Graph) (l : VWords) → IsMachine machine → IsLayoutOf machine graph l → Finishable machine graph l
-  finishable machine graph l works h =
+  pub finishable : (machine : Numbers) (function : ℕ) (graph : Graph) (l : VWords) → IsMachine machine → IsLayoutOf machine function graph l → Finishable machine graph l
+  finishable machine function graph l works h =
       subst (Finishable machine graph) (sym h.is) (of_done machine graph h.done works h.some h.replaced.is (record { valid = h.valid; done = h.replaced.done; is = refl }))

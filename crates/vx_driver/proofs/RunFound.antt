@@ -131,9 +131,9 @@ module _ (app : App) (is : app ≡ sim_app) (words : List (List ℕ)) where
 exec_rows : (kinds : Kinds) (rows found : List Row) → kinds ≡ [] → found ≡ rows → exec_unless kinds rows ≡ exec_unless [] found
 exec_rows kinds rows found none same = rw (none, same) refl
 
-exec_none : (growth : Option ℕ) (kinds : Kinds) (rows : List Row) → kinds ≢ [] → option_and_then (λ growth. run_unless (executes growth) (codes "SRC") kinds rows) growth ≡ None
-exec_none None kinds rows some = refl
-exec_none (Some growth) kinds rows some = unless_none (executes growth) (codes "SRC") kinds rows some
+exec_none : (profile : Option (List ℕ)) (growth : Option ℕ) (kinds : Kinds) (rows : List Row) → kinds ≢ [] → option_and_then (λ growth. run_unless (executes profile growth) (codes "SRC") kinds rows) growth ≡ None
+exec_none profile None kinds rows some = refl
+exec_none profile (Some growth) kinds rows some = unless_none (executes profile growth) (codes "SRC") kinds rows some
 
 module _ (app : App) (is : app ≡ exec_app) (words : List (List ℕ)) where
   pub exec_taken : (found : List Row) → fault_of app words ≡ [] → found ≡ matches_of app words → exec_of words ≡ exec_unless [] found
@@ -142,17 +142,18 @@ module _ (app : App) (is : app ≡ exec_app) (words : List (List ℕ)) where
 
   pub exec_refused : fault_of app words ≢ [] → exec_of words ≡ None
   unfolding exec_of
-  exec_refused some = exec_none (growth_of (first_of (codes "growth") (matches_of exec_app words))) (fault_of exec_app words) (matches_of exec_app words) (subst (λ (a : App). fault_of a words ≢ []) is some)
+  exec_refused some = exec_none (first_of (codes "profile") (matches_of exec_app words)) (growth_of (first_of (codes "growth") (matches_of exec_app words))) (fault_of exec_app words) (matches_of exec_app words) (subst (λ (a : App). fault_of a words ≢ []) is some)
 
 module _ (f : Found) where
-  abbrev grown : ℕ → Option Command
-  grown growth = run_unless (executes growth) (codes "SRC") [] (rows_of f)
+  abbrev grown : (profile : Option (List ℕ)) → ℕ → Option Command
+  grown profile growth = run_unless (executes profile growth) (codes "SRC") [] (rows_of f)
 
-  at_growth : (o : Option ℕ) → o ≡ growth_of (first_value f (codes "growth")) → option_and_then grown o ≡ exec_unless [] (rows_of f)
-  at_growth o g = ap (option_and_then grown) (g ∙ ap growth_of (first_of_rows f (codes "growth")))
+  at_growth : (o : Option ℕ) → o ≡ growth_of (first_value f (codes "growth")) → option_and_then (grown (first_of (codes "profile") (rows_of f))) o ≡ exec_unless [] (rows_of f)
+  at_growth o g = ap (option_and_then (grown (first_of (codes "profile") (rows_of f)))) (g ∙ ap growth_of (first_of_rows f (codes "growth")))
 
-  pub with_growth : (growth : ℕ) (command : Option Command) → Some growth ≡ growth_of (first_value f (codes "growth")) → command ≡ grown growth → command ≡ exec_unless [] (rows_of f)
-  with_growth growth command g run = run ∙ at_growth (Some growth) g
+  pub with_growth : (profile : Option (List ℕ)) (growth : ℕ) (command : Option Command) → profile ≡ first_value f (codes "profile") → Some growth ≡ growth_of (first_value f (codes "growth")) → command ≡ grown profile growth →
+      command ≡ exec_unless [] (rows_of f)
+  with_growth profile growth command p g run = run ∙ ap (λ o. grown o growth) (p ∙ first_of_rows f (codes "profile")) ∙ at_growth (Some growth) g
 
   pub no_growth : None ≡ growth_of (first_value f (codes "growth")) → None ≡ exec_unless [] (rows_of f)
   no_growth g = at_growth None g

@@ -7,7 +7,7 @@ use Rattle.vx_words.specs.Text.{Spells}
 use Rattle.vx_probe.specs.Times.{Times}
 use Rattle.vx_probe.specs.Watch.{Watch}
 use Rattle.vx_driver.specs.declared.status.Status.{Status}
-use Rattle.vx_driver.specs.declared.status.Status.TheVariants.{Done, Trapped, Usage, Source, Limit, Words, Machine, NoFile, ReadFault, WriteFault, Stopped, Input, Stuck, NoMemory}
+use Rattle.vx_driver.specs.declared.status.Status.TheVariants.{Done, Trapped, Usage, Source, Limit, Words, Profile, Machine, NoFile, ReadFault, WriteFault, Stopped, Input, Stuck, NoMemory}
 use Rattle.vx_driver.specs.Command.{Command, Compile, Simulate, Execute, Simulation, Execution}
 use Rattle.vx_driver.specs.Boxes.{Boxes, ProbeBox, Chosen, chosen, chosen_of, timing_named, probes_named}
 use Rattle.vx_driver.specs.Answers.{Effect, SameFiles}
@@ -74,6 +74,7 @@ module _ (asked : Simulation) (x : Loaded) (times : Times) (watches : List Watch
   run_loaded_answers (Source code line column) a = absurd (no_run (outcome_within x times asked.budget) (Source code line column) refl a.status_is)
   run_loaded_answers (Limit number count) a = absurd (no_run (outcome_within x times asked.budget) (Limit number count) refl a.status_is)
   run_loaded_answers (Words code line) a = absurd (no_run (outcome_within x times asked.budget) (Words code line) refl a.status_is)
+  run_loaded_answers (Profile code line) a = absurd (no_run (outcome_within x times asked.budget) (Profile code line) refl a.status_is)
   run_loaded_answers (Machine code field) a = absurd (no_run (outcome_within x times asked.budget) (Machine code field) refl a.status_is)
   run_loaded_answers (NoFile role) a = absurd (no_run (outcome_within x times asked.budget) (NoFile role) refl a.status_is)
   run_loaded_answers (ReadFault role) a = absurd (no_run (outcome_within x times asked.budget) (ReadFault role) refl a.status_is)
@@ -91,6 +92,7 @@ stops_run asked boxes e s Usage a = absurd a
 stops_run asked boxes e s (Source code line column) a = absurd a
 stops_run asked boxes e s (Limit number count) a = a
 stops_run asked boxes e s (Words code line) a = a
+stops_run asked boxes e s (Profile code line) a = absurd a
 stops_run asked boxes e s (Machine code field) a = a
 stops_run asked boxes e s (NoFile role) a = a
 stops_run asked boxes e s (ReadFault role) a = a
@@ -190,8 +192,8 @@ pub refused_answers : (command : Option Command) (boxes : Boxes) (e : Effect) (s
     Answers command boxes e s status
 refused_answers None boxes e s status same (inl memory) = (inr memory, same)
 refused_answers None boxes e s status same (inr usage) = (inl usage.0, same)
-refused_answers (Some (Compile source out machine growth)) boxes e s status same (inl memory) = subst (Answers (Some (Compile source out machine growth)) boxes e s) (sym memory) same
-refused_answers (Some (Compile source out machine growth)) boxes e s status same (inr usage) = let none = usage.1 in absurd cc
+refused_answers (Some (Compile source out profile machine growth)) boxes e s status same (inl memory) = subst (Answers (Some (Compile source out profile machine growth)) boxes e s) (sym memory) same
+refused_answers (Some (Compile source out profile machine growth)) boxes e s status same (inr usage) = let none = usage.1 in absurd cc
 refused_answers (Some (Simulate asked)) boxes e s status same (inl memory) = no_memory_answers asked boxes e s status same memory
 refused_answers (Some (Simulate asked)) boxes e s status same (inr usage) = let none = usage.1 in absurd cc
 refused_answers (Some (Execute asked)) boxes e s status same (inl memory) = exec_no_memory asked boxes e s status same memory

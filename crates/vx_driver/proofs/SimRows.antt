@@ -22,6 +22,10 @@ no_growth : command_of (codes "vexc" ∷ codes "sim" ∷ codes "w" ∷ codes "--
 unfolding clap_on_literals sim_app sim_of
 no_growth = refl
 
+no_profile : command_of (codes "vexc" ∷ codes "sim" ∷ codes "w" ∷ codes "--profile" ∷ codes "p" ∷ []) ≡ None
+unfolding clap_on_literals sim_app sim_of
+no_profile = refl
+
 two_numbers : input_reading (codes " 12\t-7 ") ≡ Ok (pos 12 ∷ negsuc 6 ∷ [])
 unfolding number_of
 two_numbers = refl

@@ -4,7 +4,7 @@ use Rattle.vx_base.specs.Outside.{Files, Rose}
 use Rattle.vx_base.specs.declared.role.Role.{Role}
 use Rattle.vx_probe.specs.Times.{Times}
 use Rattle.vx_driver.specs.declared.status.Status.{Status}
-use Rattle.vx_driver.specs.declared.status.Status.TheVariants.{Done, Trapped, Usage, Source, Limit, Words, Machine, NoFile, ReadFault, WriteFault, Stopped, Input, Stuck, NoMemory}
+use Rattle.vx_driver.specs.declared.status.Status.TheVariants.{Done, Trapped, Usage, Source, Limit, Words, Profile, Machine, NoFile, ReadFault, WriteFault, Stopped, Input, Stuck, NoMemory}
 use Rattle.vx_driver.specs.Command.{Simulation}
 use Rattle.vx_driver.specs.Boxes.{Boxes, Chosen, chosen}
 use Rattle.vx_driver.specs.Answers.{Effect, ReadsRose}
@@ -46,6 +46,7 @@ module _ (asked : Simulation) (boxes : Chosen) (e : Effect) (s : Streams) (held 
   dues (Source code line column) a = absurd a
   dues (Limit number count) a = stop (Limit number count) a
   dues (Words code line) a = stop (Words code line) a
+  dues (Profile code line) a = absurd a
   dues (Machine code field) a = stop (Machine code field) a
   dues (NoFile role) a = inl (due_stop asked boxes.times held (NoFile role) (told_or (ReadsRose e) (λ h. loading h asked.words asked.machine asked.input ≡ Err (NoFile role)) e.before held is a.1))
   dues (ReadFault role) a = absurd (quiet_reads a.1)
@@ -95,6 +96,7 @@ module _ {A B : Type 0} (named named' : Role → Bool) (found : Files → Result
   stops_on (Source code line column) a = absurd a
   stops_on (Limit number count) a = on (Limit number count) a
   stops_on (Words code line) a = on (Words code line) a
+  stops_on (Profile code line) a = absurd a
   stops_on (Machine code field) a = on (Machine code field) a
   stops_on (NoFile role) a =
       (names role a.0, missing_on (NoFile role) f.before refl (subst (λ b. MatchOption b (ReadsRose e) (λ held. found held ≡ Err (NoFile role))) (sym since.before) a.1))

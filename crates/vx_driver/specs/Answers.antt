@@ -1,11 +1,16 @@
 -- What each answer of the top call says of the words, the files and the counts of faults, before the call and after it.
-use Rattle.std.specs.Prelude.{◌≡◌, ◌≤◌, ◌⊎◌, ℕ, List, length, true, nat_le, if◌then◌else◌, is_some, Option, Some, None, IfSome, MatchOption, Result, Ok, Err}
+use Rattle.std.specs.Prelude.{◌≡◌, ◌≤◌, ◌<◌, ◌⊎◌, ℕ, List, [], length, true, nat_le, if◌then◌else◌, is_some, Option, Some, None, IfSome, MatchOption, Result, Ok, Err}
 use Rattle.vx_base.specs.Outside.{Files, Rose, held_with, with_file, ReplacesPartly}
 use Rattle.vx_isa.specs.declared.program.WordProgram.{WordProgram}
 use Rattle.vx_isa.specs.Numbers.{Numbers, vex}
 use Rattle.vx_machine.specs.declared.description.MachineFault.{MachineFault}
 use Rattle.vx_machine.specs.declared.description.MachineFault.TheVariants.{Bad}
 use Rattle.vx_machine.specs.Descriptions.{reading}
+use Rattle.vx_profile.specs.declared.counts.Counts.{Counts}
+use Rattle.vx_profile.specs.declared.fault.ProfileFault.{ProfileFault}
+use Rattle.vx_profile.specs.declared.fault.ProfileFault.TheVariants.{BadLine, CountTooLarge, NoMemory as NoRoomForCounts}
+use Rattle.vx_profile.specs.Counts.{CountsOf}
+use Rattle.vx_profile.specs.Text.{FaultAt, Spells as SpellsCounts}
 use Rattle.vx_ast.specs.Tree.{Program}
 use Rattle.vx_base.specs.declared.role.Role.{Role}
 use Rattle.vx_base.specs.declared.role.Role.TheVariants.{Source as TheSource, Words as TheWords, Profile as TheProfile, Machine as TheMachine, Input as TheInput}
@@ -13,7 +18,7 @@ use Rattle.vx_ast.specs.Reads.{most_bytes, Reads, Refusal}
 use Rattle.vx_ast.specs.declared.fault.SourceFault.{SourceFault}
 use Rattle.vx_ast.specs.declared.fault.SourceFault.TheVariants.{Bad as BadSource, Limit as OverLimit, NoMemory as NoRoom}
 use Rattle.vx_driver.specs.declared.status.Status.{Status}
-use Rattle.vx_driver.specs.declared.status.Status.TheVariants.{Done, Trapped, Usage, Source, Limit, Words, Machine, NoFile, ReadFault, WriteFault, Stopped, Input, Stuck, NoMemory}
+use Rattle.vx_driver.specs.declared.status.Status.TheVariants.{Done, Trapped, Usage, Source, Limit, Words, Profile, Machine, NoFile, ReadFault, WriteFault, Stopped, Input, Stuck, NoMemory}
 use Rattle.vx_driver.specs.Compiled.{Compiled}
 use Rattle.vx_words.specs.Text.{Spells}
 
@@ -55,6 +60,54 @@ pub record Refuses (held : Files) (source : List ℕ) (status : Status) : Type 0
   pub holds : held source ≡ Some content
   pub refused : RefusesSource content status
 
+-- the most bytes of a profile
+abbrev pub most_profile_bytes : ℕ
+most_profile_bytes = 16777216
+
+-- the file holds a profile, and these are its counts
+pub record HoldsCounts (held : Files) (name : List ℕ) (counts : Counts) : Type 0 where
+  pub content : List ℕ
+  pub holds : held name ≡ Some content
+  pub short : length content ≤ most_profile_bytes
+  pub spells : SpellsCounts content counts
+
+-- the counts that a command picks traces by: those of its profile; where none is named, nothing was passed
+abbrev pub AreCounts : Files → (profile : Option (List ℕ)) → Counts → Type 0
+AreCounts held None counts = CountsOf counts []
+AreCounts held (Some name) counts = HoldsCounts held name counts
+
+-- the profile of a command stands: its file holds one, or none is named
+pub record ProfileStands (held : Files) (profile : Option (List ℕ)) : Type 0 where
+  pub counts : Counts
+  pub are : AreCounts held profile counts
+
+-- the status of a fault of a profile
+abbrev pub status_of_profile : ProfileFault → Status
+status_of_profile (BadLine line) = Profile 1 line
+status_of_profile (CountTooLarge line) = Profile 2 line
+status_of_profile NoRoomForCounts = NoMemory
+
+-- few enough bytes are no profile, and the status says which line is the first bad one
+pub record BadProfile (content : List ℕ) (status : Status) : Type 0 where
+  pub short : length content ≤ most_profile_bytes
+  pub fault : ProfileFault
+  pub first_bad : FaultAt content fault
+  pub status_is : status ≡ status_of_profile fault
+
+pub record LongProfile (content : List ℕ) (status : Status) : Type 0 where
+  pub long : most_profile_bytes < length content
+  pub status_is : status ≡ Limit 10 16777217
+
+-- why a file gives no counts: it is missing, too long, or no profile
+abbrev pub NoCountsIn : Option (List ℕ) → Status → Type 0
+NoCountsIn None status = status ≡ NoFile TheProfile
+NoCountsIn (Some content) status = LongProfile content status ⊎ BadProfile content status
+
+-- the profile that is named gives no counts, and the status says why
+abbrev pub RefusesProfile : Files → (profile : Option (List ℕ)) → Status → Type 0
+RefusesProfile held None status = ⊥
+RefusesProfile held (Some name) status = NoCountsIn (held name) status
+
 -- what the machine of a command comes to: its numbers, the fault of its description, a description that is too
 -- long, or none
 pub data MachineFound : Type 0 where
@@ -82,25 +135,26 @@ pub record TextOf (program : Program) (machine : Numbers) (text : List ℕ) : Ty
   pub compiled : Compiled program machine words
   pub spells : Spells text words
 
--- the new text of a compiled file: it spells words that are compiled from what the source's file reads as, for the
--- machine of the command
-pub record Compiles (held : Files) (source : List ℕ) (machine : Option (List ℕ)) (text : List ℕ) : Type 0 where
+-- the new text of a compiled file: it spells words that are compiled from what the source's file reads as, by the profile
+-- and for the machine of the command
+pub record Compiles (held : Files) (source : List ℕ) (profile machine : Option (List ℕ)) (text : List ℕ) : Type 0 where
   pub program : Program
   pub holds : HoldsProgram held source program
+  pub profiled : ProfileStands held profile
   pub numbers : Numbers
   pub machine_is : machine_found held machine ≡ Is numbers
   pub text_of : TextOf program numbers text
 
 -- the output's file holds such a text, and every other file is as before
-pub record WritesWords (held : Files) (after : Option Files) (source out : List ℕ) (machine : Option (List ℕ)) : Type 0 where
+pub record WritesWords (held : Files) (after : Option Files) (source out : List ℕ) (profile machine : Option (List ℕ)) : Type 0 where
   pub text : List ℕ
-  pub compiles : Compiles held source machine text
+  pub compiles : Compiles held source profile machine text
   pub written : after ≡ Some (held_with out text held)
 
 -- the output's file holds what it held before, or a front of such a text, and every other file is as before
-pub record WritesPartly (held : Files) (after : Option Files) (source out : List ℕ) (machine : Option (List ℕ)) : Type 0 where
+pub record WritesPartly (held : Files) (after : Option Files) (source out : List ℕ) (profile machine : Option (List ℕ)) : Type 0 where
   pub text : List ℕ
-  pub compiles : Compiles held source machine text
+  pub compiles : Compiles held source profile machine text
   pub partly : ReplacesPartly (Some held) after out text
 
 -- what a call was given and left: the files that the depot tells, and its counts of failed reads and replacings
@@ -143,6 +197,21 @@ SourceAnswers source e (ReadFault role) = (role ≡ TheSource) × SameFiles e ×
 SourceAnswers source e NoMemory = SameFiles e
 SourceAnswers source e status = ⊥
 
+-- of a status that comes from the profile of the command
+abbrev pub ProfileAnswers : (profile : Option (List ℕ)) → Effect → Status → Type 0
+ProfileAnswers profile e (Limit number count) = (number ≡ 10) × (count ≡ 16777217) × SameFiles e × IfSome e.before (λ held. RefusesProfile held profile (Limit number count))
+ProfileAnswers profile e (Profile code line) = SameFiles e × IfSome e.before (λ held. RefusesProfile held profile (Profile code line))
+ProfileAnswers profile e (NoFile role) = (role ≡ TheProfile) × SameFiles e × MatchOption e.before (ReadsRose e) (λ held. RefusesProfile held profile (NoFile role))
+ProfileAnswers profile e (ReadFault role) = (role ≡ TheProfile) × SameFiles e × ReadsRose e
+ProfileAnswers profile e NoMemory = SameFiles e
+ProfileAnswers profile e status = ⊥
+
+-- the profile of a command is looked at only where one is named and the source is accepted
+pub record StopsAtProfile (source : List ℕ) (profile : Option (List ℕ)) (e : Effect) (status : Status) : Type 0 where
+  pub named : is_some profile ≡ true
+  pub accepted : IfSome e.before (λ held. Accepts held source)
+  pub answers : ProfileAnswers profile e status
+
 -- of a status that comes from the machine of the command
 abbrev pub MachineAnswers : (machine : Option (List ℕ)) → Effect → Status → Type 0
 MachineAnswers machine e (Limit number count) = (number ≡ 11) × (count ≡ 65537) × SameFiles e × IfSome e.before (λ held. machine_found held machine ≡ TooLong)
@@ -152,33 +221,38 @@ MachineAnswers machine e (ReadFault role) = (role ≡ TheMachine) × SameFiles e
 MachineAnswers machine e NoMemory = SameFiles e
 MachineAnswers machine e status = ⊥
 
--- the machine of a command is looked at only where one is named and the source is accepted
-pub record StopsAtMachine (source : List ℕ) (machine : Option (List ℕ)) (e : Effect) (status : Status) : Type 0 where
+-- the machine of a command is looked at only where one is named, the source is accepted and the profile stands
+pub record StopsAtMachine (source : List ℕ) (profile machine : Option (List ℕ)) (e : Effect) (status : Status) : Type 0 where
   pub named : is_some machine ≡ true
   pub accepted : IfSome e.before (λ held. Accepts held source)
+  pub profiled : IfSome e.before (λ held. ProfileStands held profile)
   pub answers : MachineAnswers machine e status
 
--- a file that is missing or cannot be read is the source's, or the machine's once the source is accepted
-abbrev pub FileAnswers : Role → (source : List ℕ) → (machine : Option (List ℕ)) → Effect → Status → Type 0
-FileAnswers TheSource source machine e status = SourceAnswers source e status
-FileAnswers TheMachine source machine e status = StopsAtMachine source machine e status
-FileAnswers role source machine e status = ⊥
+-- a file that is missing or cannot be read is the source's; the profile's once the source is accepted; or the machine's
+-- once the profile stands too
+abbrev pub FileAnswers : Role → (source : List ℕ) → (profile machine : Option (List ℕ)) → Effect → Status → Type 0
+FileAnswers TheSource source profile machine e status = SourceAnswers source e status
+FileAnswers TheProfile source profile machine e status = StopsAtProfile source profile e status
+FileAnswers TheMachine source profile machine e status = StopsAtMachine source profile machine e status
+FileAnswers role source profile machine e status = ⊥
 
-abbrev pub CompileAnswers : (source out : List ℕ) → (machine : Option (List ℕ)) → Effect → Status → Type 0
-CompileAnswers source out machine e Done = IfSome e.before (λ held. WritesWords held e.after source out machine)
-CompileAnswers source out machine e (Trapped trap) = ⊥
-CompileAnswers source out machine e Usage = ⊥
-CompileAnswers source out machine e (Source code line column) = SourceAnswers source e (Source code line column)
-CompileAnswers source out machine e (Limit number count) = SourceAnswers source e (Limit number count) ⊎ StopsAtMachine source machine e (Limit number count)
-CompileAnswers source out machine e (Words code line) = ⊥
-CompileAnswers source out machine e (Machine code field) = StopsAtMachine source machine e (Machine code field)
-CompileAnswers source out machine e (NoFile role) = FileAnswers role source machine e (NoFile role)
-CompileAnswers source out machine e (ReadFault role) = FileAnswers role source machine e (ReadFault role)
-CompileAnswers source out machine e WriteFault = ReplacesRose e × IfSome e.before (λ held. WritesPartly held e.after source out machine)
-CompileAnswers source out machine e Stopped = ⊥
-CompileAnswers source out machine e (Input place) = ⊥
-CompileAnswers source out machine e (Stuck reason place) = ⊥
-CompileAnswers source out machine e NoMemory = SameFiles e
+abbrev pub CompileAnswers : (source out : List ℕ) → (profile machine : Option (List ℕ)) → Effect → Status → Type 0
+CompileAnswers source out profile machine e Done = IfSome e.before (λ held. WritesWords held e.after source out profile machine)
+CompileAnswers source out profile machine e (Trapped trap) = ⊥
+CompileAnswers source out profile machine e Usage = ⊥
+CompileAnswers source out profile machine e (Source code line column) = SourceAnswers source e (Source code line column)
+CompileAnswers source out profile machine e (Limit number count) =
+    SourceAnswers source e (Limit number count) ⊎ StopsAtProfile source profile e (Limit number count) ⊎ StopsAtMachine source profile machine e (Limit number count)
+CompileAnswers source out profile machine e (Words code line) = ⊥
+CompileAnswers source out profile machine e (Profile code line) = StopsAtProfile source profile e (Profile code line)
+CompileAnswers source out profile machine e (Machine code field) = StopsAtMachine source profile machine e (Machine code field)
+CompileAnswers source out profile machine e (NoFile role) = FileAnswers role source profile machine e (NoFile role)
+CompileAnswers source out profile machine e (ReadFault role) = FileAnswers role source profile machine e (ReadFault role)
+CompileAnswers source out profile machine e WriteFault = ReplacesRose e × IfSome e.before (λ held. WritesPartly held e.after source out profile machine)
+CompileAnswers source out profile machine e Stopped = ⊥
+CompileAnswers source out profile machine e (Input place) = ⊥
+CompileAnswers source out profile machine e (Stuck reason place) = ⊥
+CompileAnswers source out profile machine e NoMemory = SameFiles e
 
 -- why a description gives no machine
 abbrev pub RefusesDescription : (content : List ℕ) → Status → Type 0
@@ -210,15 +284,31 @@ pub record ForMachine (program : Program) (out : List ℕ) (machine : Option (Li
   pub machine_is : IfSome e.before (λ held. machine_found held machine ≡ Is numbers)
   pub answers : ((status ≡ NoMemory) × SameFiles e) ⊎ PutsText program numbers out e status
 
+-- what the writing of a program's words says, where the profile stands
+abbrev pub MachineOrText : Program → (out : List ℕ) → (machine : Option (List ℕ)) → Effect → Status → Type 0
+MachineOrText program out machine e status = NoMachine machine e status ⊎ ForMachine program out machine e status
+
+-- no profile stands, and the status says why
+pub record NoProfile (profile : Option (List ℕ)) (e : Effect) (status : Status) : Type 0 where
+  pub named : is_some profile ≡ true
+  pub answers : ProfileAnswers profile e status
+
+-- a profile stands, and a text was to be written by it
+pub record ByProfile (program : Program) (out : List ℕ) (profile machine : Option (List ℕ)) (e : Effect) (status : Status) : Type 0 where
+  pub profiled : IfSome e.before (λ held. ProfileStands held profile)
+  pub answers : MachineOrText program out machine e status
+
 -- what the writing of a program's words says
-abbrev pub ProgramAnswers : Program → (out : List ℕ) → (machine : Option (List ℕ)) → Effect → Status → Type 0
-ProgramAnswers program out machine e status = NoMachine machine e status ⊎ ForMachine program out machine e status
+abbrev pub ProgramAnswers : Program → (out : List ℕ) → (profile machine : Option (List ℕ)) → Effect → Status → Type 0
+ProgramAnswers program out profile machine e status = NoProfile profile e status ⊎ ByProfile program out profile machine e status
 
 -- which statuses can come where nothing fails: want of memory is the one free answer
-pub record CompileEnds (source : List ℕ) (machine : Option (List ℕ)) (held : Files) (status : Status) : Type 0 where
-  pub accepted : Accepts held source → (numbers : Numbers) → machine_found held machine ≡ Is numbers → (status ≡ Done) ⊎ (status ≡ NoMemory)
+pub record CompileEnds (source : List ℕ) (profile machine : Option (List ℕ)) (held : Files) (status : Status) : Type 0 where
+  pub accepted : Accepts held source → ProfileStands held profile → (numbers : Numbers) → machine_found held machine ≡ Is numbers → (status ≡ Done) ⊎ (status ≡ NoMemory)
   pub refused : (content : List ℕ) (fault : SourceFault) → held source ≡ Some content → Refusal content fault → (status ≡ status_of fault) ⊎ (status ≡ NoMemory)
   pub missing : held source ≡ None → (status ≡ NoFile TheSource) ⊎ (status ≡ NoMemory)
-  pub machine_refused : Accepts held source → (code field : ℕ) → machine_found held machine ≡ Refused (Bad code field) → (status ≡ Machine code field) ⊎ (status ≡ NoMemory)
-  pub machine_too_long : Accepts held source → machine_found held machine ≡ TooLong → (status ≡ Limit 11 65537) ⊎ (status ≡ NoMemory)
-  pub machine_missing : Accepts held source → machine_found held machine ≡ Missing → (status ≡ NoFile TheMachine) ⊎ (status ≡ NoMemory)
+  -- the profile's file is missing, too long, or no profile
+  pub no_profile : Accepts held source → (why : Status) → RefusesProfile held profile why → (status ≡ why) ⊎ (status ≡ NoMemory)
+  pub machine_refused : Accepts held source → ProfileStands held profile → (code field : ℕ) → machine_found held machine ≡ Refused (Bad code field) → (status ≡ Machine code field) ⊎ (status ≡ NoMemory)
+  pub machine_too_long : Accepts held source → ProfileStands held profile → machine_found held machine ≡ TooLong → (status ≡ Limit 11 65537) ⊎ (status ≡ NoMemory)
+  pub machine_missing : Accepts held source → ProfileStands held profile → machine_found held machine ≡ Missing → (status ≡ NoFile TheMachine) ⊎ (status ≡ NoMemory)

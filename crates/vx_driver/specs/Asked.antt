@@ -18,6 +18,7 @@ abbrev pub execution_of : ExecWords → Execution
 execution_of asked = record {
   source = asked.run.file.now;
   growth = asked.growth;
+  profile = option_map (λ s. s.now) asked.profile;
   machine = option_map (λ s. s.now) asked.run.machine;
   input = option_map (λ s. s.now) asked.run.input;
   budget = asked.run.budget;

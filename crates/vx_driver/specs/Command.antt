@@ -30,7 +30,8 @@ pub record Execution : Type 0 where
   pub source : List ℕ
   -- how many operations may be copied
   pub growth : ℕ
-  -- the files of the machine's description and of the input
+  -- the files of the profile, of the machine's description and of the input
+  pub profile : Option (List ℕ)
   pub machine : Option (List ℕ)
   pub input : Option (List ℕ)
   -- the most words that are issued
@@ -40,9 +41,9 @@ pub record Execution : Type 0 where
   pub probe : Option (List ℕ)
 
 pub data Command : Type 0 where
-  -- the words of the source go to a file; they are for the machine that a file describes, or the default one, and so
-  -- many operations may be copied
-  Compile : (source out : List ℕ) (machine : Option (List ℕ)) (growth : ℕ) → Command
+  -- the words of the source go to a file; their traces are picked by the profile of a file, or by no counts, they are for
+  -- the machine that a file describes, or the default one, and so many operations may be copied
+  Compile : (source out : List ℕ) (profile machine : Option (List ℕ)) (growth : ℕ) → Command
   -- the words of a file are run
   Simulate : Simulation → Command
   -- the words of the source are run
@@ -73,15 +74,18 @@ growth_word = number_word (codes "growth") 0 1000000
 abbrev pub growth_of : Option (List ℕ) → Option ℕ
 growth_of text = number_in 0 1000000 4000 text
 
--- `compile SRC OUT [--machine M] [--growth G]`
+-- after the words of a command `[--profile P] [--machine M] [--growth G]`
+abbrev pub with_compiling_options : App → App
+with_compiling_options app = with_rule (with_rule (with_rule app (option_word (codes "profile"))) (option_word (codes "machine"))) growth_word
+
+-- `compile SRC OUT [--profile P] [--machine M] [--growth G]`
 unfoldable pub compile_app : App
-compile_app =
-    with_rule (with_rule (with_rule (with_rule (new_app (codes "compile")) (required_word (codes "SRC"))) (required_word (codes "OUT")))
-    (option_word (codes "machine"))) growth_word
+compile_app = with_compiling_options (with_rule (with_rule (new_app (codes "compile")) (required_word (codes "SRC"))) (required_word (codes "OUT")))
 
 -- the command of what was found: a word that has to be there is
 abbrev pub compile_found : List Row → ℕ → Command
-compile_found rows growth = Compile (unwrap_or (first_of (codes "SRC") rows) []) (unwrap_or (first_of (codes "OUT") rows) []) (first_of (codes "machine") rows) growth
+compile_found rows growth =
+    Compile (unwrap_or (first_of (codes "SRC") rows) []) (unwrap_or (first_of (codes "OUT") rows) []) (first_of (codes "profile") rows) (first_of (codes "machine") rows) growth
 
 -- the command, where nothing is refused and the number is one
 abbrev pub compile_unless : Kinds → List Row → Option Command
@@ -92,23 +96,23 @@ compile_unless (kind ∷ kinds) rows = None
 unfoldable pub compile_of : List (List ℕ) → Option Command
 compile_of words = compile_unless (fault_of compile_app words) (matches_of compile_app words)
 
--- `NAME FILE [--machine M]`
-abbrev pub run_app : (name file : List ℕ) → App
-run_app name file = with_rule (with_rule (new_app name) (required_word file)) (option_word (codes "machine"))
+-- `NAME FILE`
+abbrev pub file_app : (name file : List ℕ) → App
+file_app name file = with_rule (new_app name) (required_word file)
 
--- after these words `[--input I] [--words N] [--timing T] [--probe B]`
+-- after the words of a command `[--input I] [--words N] [--timing T] [--probe B]`
 abbrev pub with_run_options : App → App
 with_run_options app =
     with_rule (with_rule (with_rule (with_rule app (option_word (codes "input"))) (number_word (codes "words") 1 1000000000000))
     (option_word (codes "timing"))) (option_word (codes "probe"))
 
--- `sim WORDS` with these options
+-- `sim WORDS [--machine M]` with these options
 unfoldable pub sim_app : App
-sim_app = with_run_options (run_app (codes "sim") (codes "WORDS"))
+sim_app = with_run_options (with_rule (file_app (codes "sim") (codes "WORDS")) (option_word (codes "machine")))
 
--- `exec SRC` with these options, before them `[--growth G]`
+-- `exec SRC [--profile P] [--machine M] [--growth G]` with these options
 unfoldable pub exec_app : App
-exec_app = with_run_options (with_rule (run_app (codes "exec") (codes "SRC")) growth_word)
+exec_app = with_run_options (with_compiling_options (file_app (codes "exec") (codes "SRC")))
 
 -- how many words are issued at most
 abbrev pub budget_of : Option (List ℕ) → Option ℕ
@@ -121,8 +125,9 @@ Makes = (file : List ℕ) (machine input : Option (List ℕ)) (budget : ℕ) (ti
 abbrev pub simulates : Makes
 simulates file machine input budget timing probe = Simulate (record { words = file; machine = machine; input = input; budget = budget; timing = timing; probe = probe })
 
-abbrev pub executes : (growth : ℕ) → Makes
-executes growth file machine input budget timing probe = Execute (record { source = file; growth = growth; machine = machine; input = input; budget = budget; timing = timing; probe = probe })
+abbrev pub executes : (profile : Option (List ℕ)) (growth : ℕ) → Makes
+executes profile growth file machine input budget timing probe =
+    Execute (record { source = file; growth = growth; profile = profile; machine = machine; input = input; budget = budget; timing = timing; probe = probe })
 
 abbrev pub run_within : Makes → (file : List ℕ) → List Row → ℕ → Command
 run_within makes file rows budget =
@@ -137,7 +142,7 @@ abbrev pub sim_unless : Kinds → List Row → Option Command
 sim_unless kinds rows = run_unless simulates (codes "WORDS") kinds rows
 
 abbrev pub exec_unless : Kinds → List Row → Option Command
-exec_unless kinds rows = option_and_then (λ growth. run_unless (executes growth) (codes "SRC") kinds rows) (growth_of (first_of (codes "growth") rows))
+exec_unless kinds rows = option_and_then (λ growth. run_unless (executes (first_of (codes "profile") rows) growth) (codes "SRC") kinds rows) (growth_of (first_of (codes "growth") rows))
 
 -- what the words of `sim` ask for, the program's name first; nothing where clap refuses them
 unfoldable pub sim_of : List (List ℕ) → Option Command

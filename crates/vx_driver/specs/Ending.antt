@@ -12,7 +12,7 @@ use Rattle.vx_driver.specs.declared.status.Status.TheVariants.{Done, Trapped, Wr
 use Rattle.vx_driver.specs.declared.loaded.LoadedFiles.{LoadedFiles}
 use Rattle.vx_driver.specs.Status.{Appends}
 use Rattle.vx_driver.specs.Command.{Execution}
-use Rattle.vx_driver.specs.Answers.{Effect, SourceAnswers, StopsAtMachine, NoMachine, Is, machine_found}
+use Rattle.vx_driver.specs.Answers.{Effect, SourceAnswers, ProfileStands, StopsAtProfile, StopsAtMachine, NoProfile, NoMachine, Is, machine_found}
 use Rattle.vx_driver.specs.Simulated.{Loaded, with_input, outcome_within, events_within, EndsWith, result_line, Streams, ErrRose, OutputCut, IsEnd, IsStatusOf, reports_of}
 use Rattle.vx_driver.specs.Executed.{issued_line, InputAnswers, StopsAtInput}
 use Rattle.vx_isa.specs.Numbers.{Numbers}
@@ -119,10 +119,20 @@ pub record NoInput (machine input : Option (List ℕ)) (e : Effect) (status : St
   pub machine_is : IfSome e.before (λ held. machine_found held machine ≡ Is numbers)
   pub answers : InputAnswers input e status
 
--- a step behind the reading of the source stops an execution
+-- a step behind the reading of the profile stops an execution
 abbrev pub LaterStops : (machine input : Option (List ℕ)) → Effect → Status → Type 0
 LaterStops machine input e status = (status ≡ NoMemory) ⊎ NoMachine machine e status ⊎ NoInput machine input e status
 
+-- the profile stands, and a step behind its reading stops an execution
+pub record StopsProfiled (profile machine input : Option (List ℕ)) (e : Effect) (status : Status) : Type 0 where
+  pub profiled : IfSome e.before (λ held. ProfileStands held profile)
+  pub stops : LaterStops machine input e status
+
+-- a step behind the reading of the source stops an execution
+abbrev pub AfterSource : (profile machine input : Option (List ℕ)) → Effect → Status → Type 0
+AfterSource profile machine input e status = NoProfile profile e status ⊎ StopsProfiled profile machine input e status
+
 -- a step before the run stops an execution
 abbrev pub StopsBefore : Execution → Effect → Status → Type 0
-StopsBefore asked e status = (status ≡ NoMemory) ⊎ SourceAnswers asked.source e status ⊎ StopsAtMachine asked.source asked.machine e status ⊎ StopsAtInput asked e status
+StopsBefore asked e status =
+    (status ≡ NoMemory) ⊎ SourceAnswers asked.source e status ⊎ StopsAtProfile asked.source asked.profile e status ⊎ StopsAtMachine asked.source asked.profile asked.machine e status ⊎ StopsAtInput asked e status

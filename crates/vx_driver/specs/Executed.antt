@@ -4,7 +4,7 @@ use Rattle.std.specs.Prelude.{◌≡◌, ◌<◌, ◌≤◌, ◌⊎◌, ℕ, ◌
 use Rattle.vx_base.specs.Outcome.{Outcome, Ends, Traps, Goes, IsGoing, Begins, output_of}
 use Rattle.vx_base.specs.Outside.{Files, with_bytes}
 use Rattle.vx_base.specs.declared.role.Role.{Role}
-use Rattle.vx_base.specs.declared.role.Role.TheVariants.{Source as TheSource, Machine as TheMachine, Input as TheInput}
+use Rattle.vx_base.specs.declared.role.Role.TheVariants.{Source as TheSource, Profile as TheProfile, Machine as TheMachine, Input as TheInput}
 use Rattle.vx_isa.specs.declared.program.WordProgram.{WordProgram}
 use Rattle.vx_isa.specs.Numbers.{Numbers}
 use Rattle.vx_ast.specs.Tree.{Program}
@@ -13,11 +13,11 @@ use Rattle.vx_ast.specs.Reads.{Refusal}
 use Rattle.vx_ast.specs.declared.fault.SourceFault.{SourceFault}
 use Rattle.vx_probe.specs.Times.{Times}
 use Rattle.vx_driver.specs.declared.status.Status.{Status}
-use Rattle.vx_driver.specs.declared.status.Status.TheVariants.{Done, Trapped, Usage, Source, Limit, Words, Machine, NoFile, ReadFault, WriteFault, Stopped, Input, Stuck, NoMemory}
+use Rattle.vx_driver.specs.declared.status.Status.TheVariants.{Done, Trapped, Usage, Source, Limit, Words, Profile, Machine, NoFile, ReadFault, WriteFault, Stopped, Input, Stuck, NoMemory}
 use Rattle.vx_driver.specs.Command.{Execution}
 use Rattle.vx_driver.specs.Boxes.{Boxes, Chosen, chosen}
 use Rattle.vx_driver.specs.Compiled.{Compiled}
-use Rattle.vx_driver.specs.Answers.{HoldsProgram, Accepts, status_of, Is, machine_found, Effect, ReadsRose, SameFiles, SourceAnswers, StopsAtMachine}
+use Rattle.vx_driver.specs.Answers.{HoldsProgram, Accepts, status_of, Is, machine_found, Effect, ReadsRose, SameFiles, SourceAnswers, ProfileStands, RefusesProfile, StopsAtProfile, StopsAtMachine}
 use Rattle.vx_driver.specs.Simulated.{Loaded, with_input, machine_as, input_found, outcome_within, events_within, reports_of, result_line, EndsWith, Streams, OutRose, ErrRose, OutputCut, LinesCut, BoxAnswers}
 
 -- the run
@@ -47,13 +47,14 @@ InSource p input (Traps k out) = SourceHas p input (Traps k out)
 InSource p input (Goes out) = SourceBegins p input out
 InSource p input other = ⊥
 
--- what is read for a run: the program of the source, the machine, and the input
+-- what is read for a run: the program of the source, the profile, the machine, and the input
 pub record AllHeld (held : Files) (asked : Execution) (p : Program) (m : Numbers) (numbers : List ℤ) : Type 0 where
   pub program_is : HoldsProgram held asked.source p
+  pub profiled : ProfileStands held asked.profile
   pub machine_is : machine_found held asked.machine ≡ Is m
   pub input_is : input_found held asked.input ≡ Ok numbers
 
--- words that are compiled from the program that was read, with the machine and the input that were read
+-- words that are compiled from the program and by the profile that were read, with the machine and the input that were read
 pub record Prepared (asked : Execution) (e : Effect) (x : Loaded) : Type 0 where
   pub source_program : Program
   pub read : IfSome e.before (λ held. AllHeld held asked source_program x.machine x.input)
@@ -98,7 +99,7 @@ pub record RunsCut (asked : Execution) (boxes : Chosen) (e : Effect) (s : Stream
   pub in_source : InSource ready.source_program words.input (outcome_within words boxes.times asked.budget)
   pub cut : OutputCut words boxes.times asked.budget s ⊎ LinesCut words boxes.times asked.budget asked.probe s
 
--- the steps before the run: the source, the machine, the input, each whole before the next
+-- the steps before the run: the source, the profile, the machine, the input, each whole before the next
 
 -- of a status that comes from the input of the command
 abbrev pub InputAnswers : (input : Option (List ℕ)) → Effect → Status → Type 0
@@ -109,17 +110,19 @@ InputAnswers input e (Input place) = SameFiles e × IfSome e.before (λ held. in
 InputAnswers input e NoMemory = SameFiles e
 InputAnswers input e status = ⊥
 
--- the input of a command is looked at only where one is named, the source is accepted and the machine stands
+-- the input of a command is looked at only where one is named, the source is accepted and the profile and the machine stand
 pub record StopsAtInput (asked : Execution) (e : Effect) (status : Status) : Type 0 where
   pub named : is_some asked.input ≡ true
   pub accepted : IfSome e.before (λ held. Accepts held asked.source)
+  pub profiled : IfSome e.before (λ held. ProfileStands held asked.profile)
   pub machine : Numbers
   pub machine_is : IfSome e.before (λ held. machine_found held asked.machine ≡ Is machine)
   pub answers : InputAnswers asked.input e status
 
 abbrev pub StopsAt : Role → Execution → Effect → Status → Type 0
 StopsAt TheSource asked e status = SourceAnswers asked.source e status
-StopsAt TheMachine asked e status = StopsAtMachine asked.source asked.machine e status
+StopsAt TheProfile asked e status = StopsAtProfile asked.source asked.profile e status
+StopsAt TheMachine asked e status = StopsAtMachine asked.source asked.profile asked.machine e status
 StopsAt TheInput asked e status = StopsAtInput asked e status
 StopsAt role asked e status = ⊥
 
@@ -131,8 +134,9 @@ ExecutionAnswers asked e s (Trapped trap) boxes = (out : List ℕ) × Runs asked
 ExecutionAnswers asked e s Usage boxes = ⊥
 ExecutionAnswers asked e s (Source code line column) boxes = StopsAt TheSource asked e (Source code line column)
 ExecutionAnswers asked e s (Limit number count) boxes =
-    StopsAt TheSource asked e (Limit number count) ⊎ StopsAt TheMachine asked e (Limit number count) ⊎ StopsAt TheInput asked e (Limit number count)
+    StopsAt TheSource asked e (Limit number count) ⊎ StopsAt TheProfile asked e (Limit number count) ⊎ StopsAt TheMachine asked e (Limit number count) ⊎ StopsAt TheInput asked e (Limit number count)
 ExecutionAnswers asked e s (Words code line) boxes = ⊥
+ExecutionAnswers asked e s (Profile code line) boxes = StopsAt TheProfile asked e (Profile code line)
 ExecutionAnswers asked e s (Machine code field) boxes = StopsAt TheMachine asked e (Machine code field)
 ExecutionAnswers asked e s (NoFile role) boxes = StopsAt role asked e (NoFile role)
 ExecutionAnswers asked e s (ReadFault role) boxes = StopsAt role asked e (ReadFault role)
@@ -165,8 +169,9 @@ pub record ExecEnds (asked : Execution) (times : Times) (held : Files) (status :
   pub accepted : (p : Program) (m : Numbers) (numbers : List ℤ) → AllHeld held asked p m numbers → EndsAs p m numbers times asked.budget status ⊎ (status ≡ NoMemory)
   pub refused : (content : List ℕ) (fault : SourceFault) → held asked.source ≡ Some content → Refusal content fault → (status ≡ status_of fault) ⊎ (status ≡ NoMemory)
   pub missing : held asked.source ≡ None → (status ≡ NoFile TheSource) ⊎ (status ≡ NoMemory)
-  pub no_machine : (why : Status) → Accepts held asked.source → machine_as (machine_found held asked.machine) ≡ Err why → (status ≡ why) ⊎ (status ≡ NoMemory)
-  pub no_input : (m : Numbers) (why : Status) → Accepts held asked.source → machine_found held asked.machine ≡ Is m → input_found held asked.input ≡ Err why → (status ≡ why) ⊎ (status ≡ NoMemory)
+  pub no_profile : (why : Status) → Accepts held asked.source → RefusesProfile held asked.profile why → (status ≡ why) ⊎ (status ≡ NoMemory)
+  pub no_machine : (why : Status) → Accepts held asked.source → ProfileStands held asked.profile → machine_as (machine_found held asked.machine) ≡ Err why → (status ≡ why) ⊎ (status ≡ NoMemory)
+  pub no_input : (m : Numbers) (why : Status) → Accepts held asked.source → ProfileStands held asked.profile → machine_found held asked.machine ≡ Is m → input_found held asked.input ≡ Err why → (status ≡ why) ⊎ (status ≡ NoMemory)
 
 abbrev pub ExecutionCompletes : Execution → Effect → Status → Chosen → Type 0
 ExecutionCompletes asked e status boxes = IfSome e.before (λ held. ExecEnds asked boxes.times held status)

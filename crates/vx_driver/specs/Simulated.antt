@@ -17,7 +17,7 @@ use Rattle.vx_probe.specs.declared.event.Event.{Event}
 use Rattle.vx_sim.specs.Passed.{events_from}
 use Rattle.vx_words.specs.Text.{Spells, Fault, reading}
 use Rattle.vx_driver.specs.declared.status.Status.{Status}
-use Rattle.vx_driver.specs.declared.status.Status.TheVariants.{Done, Trapped, Usage, Source, Limit, Words, Machine, NoFile, ReadFault, WriteFault, Stopped, Input, Stuck, NoMemory}
+use Rattle.vx_driver.specs.declared.status.Status.TheVariants.{Done, Trapped, Usage, Source, Limit, Words, Profile, Machine, NoFile, ReadFault, WriteFault, Stopped, Input, Stuck, NoMemory}
 use Rattle.vx_driver.specs.Command.{Simulation}
 use Rattle.vx_driver.specs.Boxes.{Boxes, Chosen, chosen, report_line}
 use Rattle.vx_driver.specs.InputText.{input_reading}
@@ -102,6 +102,7 @@ Stops named found e Usage = ⊥
 Stops named found e (Source code line column) = ⊥
 Stops named found e (Limit number count) = IfSome e.before (λ held. found held ≡ Err (Limit number count))
 Stops named found e (Words code line) = IfSome e.before (λ held. found held ≡ Err (Words code line))
+Stops named found e (Profile code line) = ⊥
 Stops named found e (Machine code field) = IfSome e.before (λ held. found held ≡ Err (Machine code field))
 Stops named found e (NoFile role) = (named role ≡ true) × MatchOption e.before (ReadsRose e) (λ held. found held ≡ Err (NoFile role))
 Stops named found e (ReadFault role) = (named role ≡ true) × ReadsRose e

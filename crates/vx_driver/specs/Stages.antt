@@ -1,6 +1,6 @@
 -- What holds between the graphs of a program and its words: layouts of the graphs, and maps for the layouts; and the laws by which
 -- each of them does what the one before does.
-use Rattle.std.specs.Prelude.{◌≡◌, ◌<◌, ℕ, true, List, [], ◌∷◌, length, Some, slice_get}
+use Rattle.std.specs.Prelude.{◌≡◌, ◌<◌, ◌+◌, ℕ, true, List, [], ◌∷◌, length, Some, slice_get}
 use Rattle.vx_base.specs.Outcome.{SameIsTransitive}
 use Rattle.vx_flow.specs.declared.graph.Graph.{Graph}
 use Rattle.vx_flow.specs.Sound.{is_sound}
@@ -31,22 +31,25 @@ pub record Begins (graph : Graph) : Type 0 where
 abbrev pub AllBegin : List Graph → Type 0
 AllBegin graphs = (f : ℕ) (graph : Graph) → slice_get graphs f ≡ Some graph → Begins graph
 
--- the layout of regions that took the place of all blocks of a function's graph
-pub record IsLayoutOf (machine : Numbers) (graph : Graph) (l : VWords) : Type 0 where
+-- the layout of regions that took the place of all blocks of a graph, that of the function with this number
+pub record IsLayoutOf (machine : Numbers) (function : ℕ) (graph : Graph) (l : VWords) : Type 0 where
   pub begun : MixedGraph
   pub from : FromGraph graph begun
   pub done : MixedGraph
   pub valid : Valid done
   pub some : 0 < length done.nodes
-  pub replaced : AllReplaced machine graph begun done
+  pub replaced : AllReplaced machine graph (record begun { function = function }) done
   pub is : l ≡ layout_of done
 
--- graph by graph
+-- graph by graph, from the function with this number on
+abbrev pub AreLayoutsFrom : (function : ℕ) → Numbers → List Graph → List VWords → Type 0
+AreLayoutsFrom f machine [] [] = Unit {0}
+AreLayoutsFrom f machine (graph ∷ graphs) (l ∷ ls) = IsLayoutOf machine f graph l × AreLayoutsFrom (f + 1) machine graphs ls
+AreLayoutsFrom f machine [] (l ∷ ls) = ⊥
+AreLayoutsFrom f machine (graph ∷ graphs) [] = ⊥
+
 abbrev pub AreLayoutsOf : Numbers → List Graph → List VWords → Type 0
-AreLayoutsOf machine [] [] = Unit {0}
-AreLayoutsOf machine (graph ∷ graphs) (l ∷ ls) = IsLayoutOf machine graph l × AreLayoutsOf machine graphs ls
-AreLayoutsOf machine [] (l ∷ ls) = ⊥
-AreLayoutsOf machine (graph ∷ graphs) [] = ⊥
+AreLayoutsOf machine graphs ls = AreLayoutsFrom 0 machine graphs ls
 
 -- each word of a layout leads to words of it, and so does its entry
 pub record IsInside (l : VWords) : Type 0 where

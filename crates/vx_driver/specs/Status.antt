@@ -4,7 +4,7 @@ use Rattle.vx_base.specs.Outside.{with_bytes}
 use Rattle.vx_base.specs.declared.role.Role.{Role}
 use Rattle.vx_base.specs.declared.role.Role.TheVariants.{Source as TheSource, Words as TheWords, Profile as TheProfile, Machine as TheMachine, Input as TheInput}
 use Rattle.vx_driver.specs.declared.status.Status.{Status}
-use Rattle.vx_driver.specs.declared.status.Status.TheVariants.{Done, Trapped, Usage, Source, Limit, Words, Machine, NoFile, ReadFault, WriteFault, Stopped, Input, Stuck, NoMemory}
+use Rattle.vx_driver.specs.declared.status.Status.TheVariants.{Done, Trapped, Usage, Source, Limit, Words, Profile, Machine, NoFile, ReadFault, WriteFault, Stopped, Input, Stuck, NoMemory}
 
 abbrev pub number_of : Status → ℕ
 number_of Done = 0
@@ -13,6 +13,7 @@ number_of Usage = 2
 number_of (Source code line column) = 3
 number_of (Limit number count) = 4
 number_of (Words code line) = 5
+number_of (Profile code line) = 6
 number_of (Machine code field) = 7
 number_of (NoFile role) = 8
 number_of (ReadFault role) = 9

@@ -6,7 +6,7 @@ ghost use Rattle.clap.specs.declared.error.kind.ErrorKind.TheVariants.{OutOfMemo
 ghost use Rattle.vx_driver.specs.Status.{Adds};
 ghost use Rattle.vx_driver.specs.Command.{Compile, compile_app, compile_of, compile_unless};
 
-use crate::options::{growth_of, growth_option, option_of, required_of};
+use crate::options::{file_command, growth_of, required_of, with_compiling_options};
 use crate::status::{Status, put, put_line};
 use clap::error::ErrorKind;
 use clap::{ArgMatches, Command, Error};
@@ -20,21 +20,22 @@ pub(crate) struct CompileWords<'a> {
     pub(crate) source: &'a str,
     /// The name of the output's file.
     pub(crate) out: &'a str,
+    /// The name of the file of the profile.
+    pub(crate) profile: Option<&'a str>,
     /// The name of the file with the description of the machine.
     pub(crate) machine: Option<&'a str>,
     /// How many operations may be copied.
     pub(crate) growth: u32,
 }
 
-/// `compile SRC OUT [--machine M] [--growth G]`.
+/// `compile SRC OUT [--profile P] [--machine M] [--growth G]`.
 fn compile_command<'a>(alloc: Global) -> Result<Command<'a>, AllocError>
     ensures { IfOk result (λ command. app_of command ≡ compile_app) }
 {
-    Command::new(alloc, "compile")
-        .arg(required_of(alloc, "SRC"))?
-        .arg(required_of(alloc, "OUT"))?
-        .arg(option_of(alloc, "machine"))?
-        .arg(growth_option(alloc))
+    with_compiling_options(
+        alloc,
+        file_command(alloc, "compile", "SRC")?.arg(required_of(alloc, "OUT"))?,
+    )
 }
 
 /// The text at a word that has to be there.
@@ -95,13 +96,14 @@ pub(crate) fn found_in<'a>(
 
 /// What was found in the words of `compile`, where the number of operations is in its range.
 fn compile_found<'a>(found: &ArgMatches<'a>) -> Result<CompileWords<'a>, Refused>
-    ensures asked { IfOk result (λ asked. Some (Compile asked.source.now asked.out.now (option_map (λ s. s.now) asked.machine) asked.growth) ≡ compile_unless [] (rows_of (found_of found.now))) }
+    ensures asked { IfOk result (λ asked. Some (Compile asked.source.now asked.out.now (option_map (λ s. s.now) asked.profile) (option_map (λ s. s.now) asked.machine) asked.growth) ≡ compile_unless [] (rows_of (found_of found.now))) }
     ensures refused { IfErr result (λ refused. (refused.status ≡ Status.Usage) × (None ≡ compile_unless [] (rows_of (found_of found.now)))) }
 {
     match growth_of(found.get_str("growth")) {
         Some(growth) => Ok(CompileWords {
             source: text_at(found, "SRC"),
             out: text_at(found, "OUT"),
+            profile: found.get_str("profile"),
             machine: found.get_str("machine"),
             growth,
         }),
@@ -116,7 +118,7 @@ fn read_words<'a>(
     words: &'a [&'a str],
 ) -> Result<CompileWords<'a>, Refused>
     requires { app_of command ≡ compile_app }
-    ensures asked { IfOk result (λ asked. compile_of (map (λ w. w.now) words.now) ≡ Some (Compile asked.source.now asked.out.now (option_map (λ s. s.now) asked.machine) asked.growth)) }
+    ensures asked { IfOk result (λ asked. compile_of (map (λ w. w.now) words.now) ≡ Some (Compile asked.source.now asked.out.now (option_map (λ s. s.now) asked.profile) (option_map (λ s. s.now) asked.machine) asked.growth)) }
     ensures refused { IfErr result (λ refused. (refused.status ≡ Status.NoMemory) ⊎ ((refused.status ≡ Status.Usage) × (compile_of (map (λ w. w.now) words.now) ≡ None))) }
 {
     match found_in(alloc, command, words) {
@@ -137,7 +139,7 @@ fn status_of(error: &Error) -> Status
 
 /// What the words of `compile` ask for, the program's name first, or their refusal.
 pub(crate) fn asked_of<'a>(alloc: Global, words: &'a [&'a str]) -> Result<CompileWords<'a>, Refused>
-    ensures asked { IfOk result (λ asked. compile_of (map (λ w. w.now) words.now) ≡ Some (Compile asked.source.now asked.out.now (option_map (λ s. s.now) asked.machine) asked.growth)) }
+    ensures asked { IfOk result (λ asked. compile_of (map (λ w. w.now) words.now) ≡ Some (Compile asked.source.now asked.out.now (option_map (λ s. s.now) asked.profile) (option_map (λ s. s.now) asked.machine) asked.growth)) }
     ensures refused { IfErr result (λ refused. (refused.status ≡ Status.NoMemory) ⊎ ((refused.status ≡ Status.Usage) × (compile_of (map (λ w. w.now) words.now) ≡ None))) }
 {
     match compile_command(alloc) {

@@ -2,9 +2,10 @@
 
 ghost use Rattle.std.specs.Prelude.{◌≡◌, ◌≤◌, ◌⊎◌, ℕ, List, Option, Some, Ok, true, length, is_some, option_map, IfOk, IfErr, IfSome};
 ghost use Rattle.vx_ast.specs.View as view;
-ghost use Rattle.vx_driver.specs.Answers.{effect_of, SourceAnswers, MachineAnswers, CompileAnswers, WriteAnswers, HoldsSource, HoldsProgram, TextOf, machine_found, Is, RefusesDescription, PutsText, ProgramAnswers};
+ghost use Rattle.vx_driver.specs.Answers.{effect_of, SourceAnswers, MachineAnswers, CompileAnswers, WriteAnswers, HoldsSource, HoldsProgram, TextOf, machine_found, Is, RefusesDescription, PutsText, MachineOrText, ProgramAnswers};
 ghost use Rattle.vx_machine.specs.Descriptions.{reading};
 
+use crate::profiles::counts_for;
 use crate::reading::typed_of;
 use crate::status::Status;
 use crate::words::words_of;
@@ -15,6 +16,7 @@ use vx_base::outcome::NoMemory;
 use vx_base::reading::{FileRead, read_file};
 use vx_base::role::Role;
 use vx_machine::{Machine, MachineFault, from_toml};
+use vx_profile::counts::Counts;
 use vx_words::write;
 
 /// The most bytes of a source.
@@ -119,16 +121,17 @@ pub(crate) fn machine_for<D: Depot>(
     }
 }
 
-/// The text of the words of a program for a machine.
+/// The text of the words of a program, by counts and for a machine.
 fn text_of(
     alloc: Global,
     program: &Typed,
+    counts: &Counts,
     machine: &Machine,
     growth: u32,
 ) -> Result<Vec<u8>, NoMemory>
     ensures { IfOk result (λ text. TextOf (view.program_of program.now.program) machine.now text.items) }
 {
-    let words = words_of(alloc, program, machine, growth)?;
+    let words = words_of(alloc, program, counts, machine, growth)?;
     write(alloc, &words)
 }
 
@@ -151,6 +154,7 @@ fn compile_for<D: Depot>(
     alloc: Global,
     depot: &mut D,
     program: &Typed,
+    counts: &Counts,
     machine: &Machine,
     growth: u32,
     out: &str,
@@ -159,27 +163,48 @@ fn compile_for<D: Depot>(
     ensures reads_never_fall { D.failed_reads depot.old ≤ D.failed_reads depot.new }
     ensures replaces_never_fall { D.failed_replaces depot.old ≤ D.failed_replaces depot.new }
 {
-    match text_of(alloc, program, machine, growth) {
+    match text_of(alloc, program, counts, machine, growth) {
         Ok(text) => write_text(depot, out, text.as_slice()),
         Err(_) => Status::NoMemory,
     }
 }
 
-/// Writes the words of a program that was read from the source's file, for the machine of the command.
+/// Writes the words of a program that was read from the source's file, by counts and for the machine of the command.
+fn compile_by<D: Depot>(
+    alloc: Global,
+    depot: &mut D,
+    program: &Typed,
+    counts: &Counts,
+    out: &str,
+    machine: Option<&str>,
+    growth: u32,
+) -> Status
+    ensures answers { MachineOrText (view.program_of program.now.program) out.now (option_map (λ s. s.now) machine.entry) (effect_of D.files D.failed_reads D.failed_replaces depot.old depot.new) result }
+    ensures reads_never_fall { D.failed_reads depot.old ≤ D.failed_reads depot.new }
+    ensures replaces_never_fall { D.failed_replaces depot.old ≤ D.failed_replaces depot.new }
+{
+    match machine_for(alloc, depot, machine) {
+        Ok(asked) => compile_for(alloc, depot, program, counts, &asked, growth, out),
+        Err(status) => status,
+    }
+}
+
+/// Writes the words of a program that was read from the source's file, by the profile and for the machine of the command.
 fn compile_read<D: Depot>(
     alloc: Global,
     depot: &mut D,
     program: &Typed,
     out: &str,
+    profile: Option<&str>,
     machine: Option<&str>,
     growth: u32,
 ) -> Status
-    ensures answers { ProgramAnswers (view.program_of program.now.program) out.now (option_map (λ s. s.now) machine.entry) (effect_of D.files D.failed_reads D.failed_replaces depot.old depot.new) result }
+    ensures answers { ProgramAnswers (view.program_of program.now.program) out.now (option_map (λ s. s.now) profile.entry) (option_map (λ s. s.now) machine.entry) (effect_of D.files D.failed_reads D.failed_replaces depot.old depot.new) result }
     ensures reads_never_fall { D.failed_reads depot.old ≤ D.failed_reads depot.new }
     ensures replaces_never_fall { D.failed_replaces depot.old ≤ D.failed_replaces depot.new }
 {
-    match machine_for(alloc, depot, machine) {
-        Ok(asked) => compile_for(alloc, depot, program, &asked, growth, out),
+    match counts_for(alloc, depot, profile) {
+        Ok(counts) => compile_by(alloc, depot, program, &counts, out, machine, growth),
         Err(status) => status,
     }
 }
@@ -190,15 +215,16 @@ pub(crate) fn compile<D: Depot>(
     depot: &mut D,
     source: &str,
     out: &str,
+    profile: Option<&str>,
     machine: Option<&str>,
     growth: u32,
 ) -> Status
-    ensures answers { CompileAnswers source.now out.now (option_map (λ s. s.now) machine.entry) (effect_of D.files D.failed_reads D.failed_replaces depot.old depot.new) result }
+    ensures answers { CompileAnswers source.now out.now (option_map (λ s. s.now) profile.entry) (option_map (λ s. s.now) machine.entry) (effect_of D.files D.failed_reads D.failed_replaces depot.old depot.new) result }
     ensures reads_never_fall { D.failed_reads depot.old ≤ D.failed_reads depot.new }
     ensures replaces_never_fall { D.failed_replaces depot.old ≤ D.failed_replaces depot.new }
 {
     match read_through(alloc, depot, source) {
-        Ok(program) => compile_read(alloc, depot, &program, out, machine, growth),
+        Ok(program) => compile_read(alloc, depot, &program, out, profile, machine, growth),
         Err(status) => status,
     }
 }

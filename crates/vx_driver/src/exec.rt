@@ -1,21 +1,22 @@
-// The command `exec SRC`: reads a source, a machine and an input, compiles the source, runs its words with the boxes that
+// The command `exec SRC`: reads a source, a profile, a machine and an input, compiles the source, runs its words with the boxes that
 // are asked for, and puts how the run ended and how many words it issued.
 
 ghost use Rattle.std.specs.Prelude.{◌≡◌, ◌⊎◌, ◌<◌, ◌≤◌, true, false, length, map, option_map, is_some, All, Ok, IfOk, IfErr, IfSome};
 ghost use Rattle.vx_base.specs.Arithmetic.{IsNumber};
 ghost use Rattle.vx_ast.specs.View as view;
-ghost use Rattle.vx_driver.specs.Answers.{effect_of, machine_found, Is};
+ghost use Rattle.vx_driver.specs.Answers.{effect_of, machine_found, Is, ProfileStands};
 ghost use Rattle.vx_driver.specs.Asked.{execution_of};
 ghost use Rattle.vx_driver.specs.Compiled.{Compiled};
 ghost use Rattle.vx_driver.specs.Status.{Adds};
 ghost use Rattle.vx_driver.specs.Simulated.{input_found, is_of_run, streams_of};
 ghost use Rattle.vx_driver.specs.Executed.{InputAnswers, Prepared, ExecutionAnswers, ExecAnswers};
-ghost use Rattle.vx_driver.specs.Ending.{loaded_of, LaterStops, StopsBefore};
+ghost use Rattle.vx_driver.specs.Ending.{loaded_of, AfterSource, LaterStops, StopsBefore};
 
 use crate::boxes::{probes_of, timing_of};
 use crate::compile::{machine_for, read_through};
 use crate::loaded::LoadedFiles;
 use crate::loading::input_for;
+use crate::profiles::counts_for;
 use crate::run_words::ExecWords;
 use crate::running::{no_box, no_probe, run_loaded};
 use crate::status::{Status, tell};
@@ -26,11 +27,13 @@ use vx_base::depot::Depot;
 use vx_base::sink::Sink;
 use vx_machine::Machine;
 use vx_probe::{Probe, Timing};
+use vx_profile::counts::Counts;
 
-/// Compiles a program that was read, for a machine and beside an input that were read.
+/// Compiles a program that was read, by counts and for a machine and beside an input that were read.
 fn load_words(
     alloc: Global,
     program: &Typed,
+    counts: &Counts,
     machine: Machine,
     growth: u32,
     input: Vec<i32>,
@@ -41,7 +44,7 @@ fn load_words(
     ensures compiled { IfOk result (λ loaded. Compiled (view.program_of program.now.program) loaded.machine loaded.program) }
     ensures memory { IfErr result (λ status. status ≡ Status.NoMemory) }
 {
-    match words_of(alloc, program, &machine, growth) {
+    match words_of(alloc, program, counts, &machine, growth) {
         Ok(words) => Ok(LoadedFiles {
             program: words,
             machine,
@@ -51,11 +54,12 @@ fn load_words(
     }
 }
 
-/// Reads the input for a program and a machine that were read before, and compiles.
+/// Reads the input for a program, counts and a machine that were read before, and compiles.
 fn load_input<D: Depot>(
     alloc: Global,
     depot: &mut D,
     program: &Typed,
+    counts: &Counts,
     machine: Machine,
     growth: u32,
     name: Option<&str>,
@@ -69,16 +73,17 @@ fn load_input<D: Depot>(
     ensures replaces_never_fall { D.failed_replaces depot.old ≤ D.failed_replaces depot.new }
 {
     match input_for(alloc, depot, name) {
-        Ok(input) => load_words(alloc, program, machine, growth, input),
+        Ok(input) => load_words(alloc, program, counts, machine, growth, input),
         Err(status) => Err(status),
     }
 }
 
-/// Reads the machine and the input for a program that was read before, and compiles.
+/// Reads the machine and the input for a program and counts that were read before, and compiles.
 fn load_machine<D: Depot>(
     alloc: Global,
     depot: &mut D,
     program: &Typed,
+    counts: &Counts,
     machine: Option<&str>,
     growth: u32,
     input: Option<&str>,
@@ -92,12 +97,37 @@ fn load_machine<D: Depot>(
     ensures replaces_never_fall { D.failed_replaces depot.old ≤ D.failed_replaces depot.new }
 {
     match machine_for(alloc, depot, machine) {
-        Ok(machine) => load_input(alloc, depot, program, machine, growth, input),
+        Ok(machine) => load_input(alloc, depot, program, counts, machine, growth, input),
         Err(status) => Err(status),
     }
 }
 
-/// Reads the source, the machine and the input, each whole before the next, and compiles.
+/// Reads the profile, the machine and the input for a program that was read before, and compiles.
+fn load_profile<D: Depot>(
+    alloc: Global,
+    depot: &mut D,
+    program: &Typed,
+    profile: Option<&str>,
+    machine: Option<&str>,
+    growth: u32,
+    input: Option<&str>,
+) -> Result<LoadedFiles, Status>
+    ensures same_files { D.files depot.new ≡ D.files depot.old }
+    ensures profiled { IfOk result (λ _. IfSome (D.files depot.old) (λ held. ProfileStands held (option_map (λ s. s.now) profile.entry))) }
+    ensures machine { IfOk result (λ loaded. IfSome (D.files depot.old) (λ held. machine_found held (option_map (λ s. s.now) machine.entry) ≡ Is loaded.machine)) }
+    ensures input { IfOk result (λ loaded. IfSome (D.files depot.old) (λ held. input_found held (option_map (λ s. s.now) input.entry) ≡ Ok loaded.input.items)) }
+    ensures compiled { IfOk result (λ loaded. Compiled (view.program_of program.now.program) loaded.machine loaded.program) }
+    ensures stops { IfErr result (AfterSource (option_map (λ s. s.now) profile.entry) (option_map (λ s. s.now) machine.entry) (option_map (λ s. s.now) input.entry) (effect_of D.files D.failed_reads D.failed_replaces depot.old depot.new)) }
+    ensures reads_never_fall { D.failed_reads depot.old ≤ D.failed_reads depot.new }
+    ensures replaces_never_fall { D.failed_replaces depot.old ≤ D.failed_replaces depot.new }
+{
+    match counts_for(alloc, depot, profile) {
+        Ok(counts) => load_machine(alloc, depot, program, &counts, machine, growth, input),
+        Err(status) => Err(status),
+    }
+}
+
+/// Reads the source, the profile, the machine and the input, each whole before the next, and compiles.
 fn load<D: Depot>(alloc: Global, depot: &mut D, asked: &ExecWords) -> Result<LoadedFiles, Status>
     ensures same_files { D.files depot.new ≡ D.files depot.old }
     ensures loaded { IfOk result (λ loaded. Prepared (execution_of asked.now) (effect_of D.files D.failed_reads D.failed_replaces depot.old depot.new) (loaded_of loaded)) }
@@ -106,10 +136,11 @@ fn load<D: Depot>(alloc: Global, depot: &mut D, asked: &ExecWords) -> Result<Loa
     ensures replaces_never_fall { D.failed_replaces depot.old ≤ D.failed_replaces depot.new }
 {
     match read_through(alloc, depot, asked.run.file) {
-        Ok(program) => load_machine(
+        Ok(program) => load_profile(
             alloc,
             depot,
             &program,
+            asked.profile,
             asked.run.machine,
             asked.growth,
             asked.run.input,

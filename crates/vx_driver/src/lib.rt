@@ -10,6 +10,7 @@ pub mod laws;
 mod loaded;
 mod loading;
 mod options;
+mod profiles;
 mod ranges;
 mod reading;
 mod run_words;

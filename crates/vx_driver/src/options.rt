@@ -1,12 +1,12 @@
-// The options of a command, and how many operations may be copied.
+// The words and options of a command, and how many operations may be copied.
 
-ghost use Rattle.std.specs.Prelude.{◌≡◌, ◌≤◌, false, Some, option_map, MatchOption};
-ghost use Rattle.clap.specs.Words.{rule_of};
-ghost use Rattle.vx_driver.specs.Command.{required_word, option_word, number_word, growth_word, growth_of};
+ghost use Rattle.std.specs.Prelude.{◌≡◌, ◌≤◌, false, Some, option_map, IfOk, MatchOption};
+ghost use Rattle.clap.specs.Words.{app_of, rule_of};
+ghost use Rattle.vx_driver.specs.Command.{required_word, option_word, number_word, growth_word, growth_of, file_app, with_compiling_options};
 
 use clap::builder::ValueParser;
-use clap::{Arg, ArgAction};
-use std::alloc::Global;
+use clap::{Arg, ArgAction, Command};
+use std::alloc::{AllocError, Global};
 
 const MOST_GROWTH: u32 = 1000000;
 
@@ -37,11 +37,35 @@ pub(crate) fn number_of<'a>(alloc: Global, name: &'a str, low: u64, high: u64) -
 }
 
 /// `--growth G`, G from 0 to the most operations that may be copied.
-pub(crate) fn growth_option<'a>(alloc: Global) -> Arg<'a>
+fn growth_option<'a>(alloc: Global) -> Arg<'a>
     ensures rule { rule_of result ≡ growth_word }
     ensures local { result.global ≡ false }
 {
     number_of(alloc, "growth", 0, MOST_GROWTH as u64)
+}
+
+/// `NAME FILE`.
+pub(crate) fn file_command<'a>(
+    alloc: Global,
+    name: &'a str,
+    file: &'a str,
+) -> Result<Command<'a>, AllocError>
+    ensures { IfOk result (λ command. app_of command ≡ file_app name.entry.now file.entry.now) }
+{
+    Command::new(alloc, name).arg(required_of(alloc, file))
+}
+
+/// The words of a command, and after them `[--profile P] [--machine M] [--growth G]`.
+pub(crate) fn with_compiling_options<'a>(
+    alloc: Global,
+    command: Command<'a>,
+) -> Result<Command<'a>, AllocError>
+    ensures { IfOk result (λ whole. app_of whole ≡ with_compiling_options (app_of command.entry)) }
+{
+    command
+        .arg(option_of(alloc, "profile"))?
+        .arg(option_of(alloc, "machine"))?
+        .arg(growth_option(alloc))
 }
 
 /// A number from 0 to the most operations that may be copied.

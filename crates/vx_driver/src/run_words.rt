@@ -2,11 +2,11 @@
 
 ghost use Rattle.std.specs.Prelude.{◌≡◌, ◌⊎◌, ◌≤◌, true, false, [], unwrap_or, Some, None, map, option_map, codes, IfOk, IfErr, MatchOption};
 ghost use Rattle.clap.specs.Words.{app_of, rows_of, first_value, found_of};
-ghost use Rattle.vx_driver.specs.Command.{run_app, with_run_options, sim_app, exec_app, run_unless, Makes, Simulate, Execute, executes, sim_of, exec_of, exec_unless, budget_of};
+ghost use Rattle.vx_driver.specs.Command.{with_run_options, sim_app, exec_app, run_unless, Makes, Simulate, Execute, executes, sim_of, exec_of, exec_unless, budget_of};
 ghost use Rattle.vx_driver.specs.Asked.{asks, simulation_of, execution_of};
 
 use crate::command::{Refused, found_in, text_at, without_text};
-use crate::options::{growth_of, growth_option, number_of, option_of, required_of};
+use crate::options::{file_command, growth_of, number_of, option_of, with_compiling_options};
 use crate::status::Status;
 use clap::{ArgMatches, Command};
 use std::alloc::{AllocError, Global};
@@ -33,6 +33,8 @@ pub(crate) struct RunWords<'a> {
 pub(crate) struct ExecWords<'a> {
     /// The words of its run.
     pub(crate) run: RunWords<'a>,
+    /// The name of the file of the profile.
+    pub(crate) profile: Option<&'a str>,
     /// How many operations may be copied.
     pub(crate) growth: u32,
 }
@@ -40,15 +42,6 @@ pub(crate) struct ExecWords<'a> {
 const MOST_WORDS: u64 = 1000000000000;
 
 const DEFAULT_WORDS: u64 = 1000000000;
-
-/// `NAME FILE [--machine M]`.
-fn run_command<'a>(alloc: Global, name: &'a str, file: &'a str) -> Result<Command<'a>, AllocError>
-    ensures { IfOk result (λ command. app_of command ≡ run_app name.entry.now file.entry.now) }
-{
-    Command::new(alloc, name)
-        .arg(required_of(alloc, file))?
-        .arg(option_of(alloc, "machine"))
-}
 
 /// The words of a command, and after them `[--input I] [--words N] [--timing T] [--probe B]`.
 fn with_run_options<'a>(alloc: Global, command: Command<'a>) -> Result<Command<'a>, AllocError>
@@ -61,20 +54,23 @@ fn with_run_options<'a>(alloc: Global, command: Command<'a>) -> Result<Command<'
         .arg(option_of(alloc, "probe"))
 }
 
-/// `sim WORDS` with these options.
+/// `sim WORDS [--machine M]` with these options.
 fn sim_command<'a>(alloc: Global) -> Result<Command<'a>, AllocError>
     ensures { IfOk result (λ command. app_of command ≡ sim_app) }
 {
-    with_run_options(alloc, run_command(alloc, "sim", "WORDS")?)
+    with_run_options(
+        alloc,
+        file_command(alloc, "sim", "WORDS")?.arg(option_of(alloc, "machine"))?,
+    )
 }
 
-/// `exec SRC` with these options, before them `[--growth G]`.
+/// `exec SRC [--profile P] [--machine M] [--growth G]` with these options.
 fn exec_command<'a>(alloc: Global) -> Result<Command<'a>, AllocError>
     ensures { IfOk result (λ command. app_of command ≡ exec_app) }
 {
     with_run_options(
         alloc,
-        run_command(alloc, "exec", "SRC")?.arg(growth_option(alloc))?,
+        with_compiling_options(alloc, file_command(alloc, "exec", "SRC")?)?,
     )
 }
 
@@ -147,13 +143,21 @@ fn asked_in<'a>(found: &ArgMatches<'a>, file: &str) -> Result<RunWords<'a>, Refu
     }
 }
 
-/// What was found in the words of `exec`, at this number of operations.
-fn exec_with<'a>(found: &ArgMatches<'a>, growth: u32) -> Result<ExecWords<'a>, Refused>
-    ensures asked { IfOk result (λ asked. Some (Execute (execution_of asked)) ≡ run_unless (executes growth) (codes "SRC") [] (rows_of (found_of found.now))) }
-    ensures refused { IfErr result (λ refused. (refused.status ≡ Status.Usage) × (None ≡ run_unless (executes growth) (codes "SRC") [] (rows_of (found_of found.now)))) }
+/// What was found in the words of `exec`, with this profile and at this number of operations.
+fn exec_with<'a>(
+    found: &ArgMatches<'a>,
+    profile: Option<&'a str>,
+    growth: u32,
+) -> Result<ExecWords<'a>, Refused>
+    ensures asked { IfOk result (λ asked. Some (Execute (execution_of asked)) ≡ run_unless (executes (option_map (λ s. s.now) profile.entry) growth) (codes "SRC") [] (rows_of (found_of found.now))) }
+    ensures refused { IfErr result (λ refused. (refused.status ≡ Status.Usage) × (None ≡ run_unless (executes (option_map (λ s. s.now) profile.entry) growth) (codes "SRC") [] (rows_of (found_of found.now)))) }
 {
     match asked_in(found, "SRC") {
-        Ok(run) => Ok(ExecWords { run, growth }),
+        Ok(run) => Ok(ExecWords {
+            run,
+            profile,
+            growth,
+        }),
         Err(refused) => Err(refused),
     }
 }
@@ -164,7 +168,7 @@ fn exec_found<'a>(found: &ArgMatches<'a>) -> Result<ExecWords<'a>, Refused>
     ensures refused { IfErr result (λ refused. (refused.status ≡ Status.Usage) × (None ≡ exec_unless [] (rows_of (found_of found.now)))) }
 {
     match growth_of(found.get_str("growth")) {
-        Some(growth) => exec_with(found, growth),
+        Some(growth) => exec_with(found, found.get_str("profile"), growth),
         None => Err(without_text(Status::Usage)),
     }
 }

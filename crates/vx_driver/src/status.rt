@@ -21,10 +21,13 @@ pub enum Status {
     /// The source has this fault at this line and column, both counted from 1, the column in bytes.
     Source { code: u32, line: u32, column: u32 },
     /// The counted quantity is over the limit of this number; the count is one past it. Limit 9 is that of the bytes
-    /// of a text of words, limit 11 of a description, limit 12 of an input.
+    /// of a text of words, limit 10 of a profile, limit 11 of a description, limit 12 of an input.
     Limit { number: u32, count: u64 },
     /// The text of words has this fault at this line, from 1; line 0 is the whole text.
     Words { code: u32, line: u32 },
+    /// This line of the profile is the first bad one, from 1: outside the grammar (code 1), or with a count over 2^64 - 1
+    /// (code 2).
+    Profile { code: u32, line: u32 },
     /// The description of the machine has this fault at the field of this number in the table, from 1; codes 1 and 4
     /// have the field 0.
     Machine { code: u32, field: u32 },
@@ -56,6 +59,7 @@ impl Status {
             Status::Source { .. } => 3,
             Status::Limit { .. } => 4,
             Status::Words { .. } => 5,
+            Status::Profile { .. } => 6,
             Status::Machine { .. } => 7,
             Status::NoFile(_) => 8,
             Status::ReadFault(_) => 9,
@@ -182,6 +186,17 @@ fn put_words_line<E: Sink>(err: &mut E, code: u32, line: u32) -> Result<(), Sink
     put(err, b"\n")
 }
 
+/// Puts the code of a fault of a profile, and its line.
+fn put_profile_line<E: Sink>(err: &mut E, code: u32, line: u32) -> Result<(), SinkFault>
+    ensures { Adds (E.told err.old) (E.told err.new) (E.faults err.old) (E.faults err.new) }
+{
+    put(err, b"profile P")?;
+    put_number(err, u64::from(code))?;
+    put(err, b" at line ")?;
+    put_number(err, u64::from(line))?;
+    put(err, b"\n")
+}
+
 /// Puts the place of a bad word of an input's text.
 fn put_input_line<E: Sink>(err: &mut E, place: u32) -> Result<(), SinkFault>
     ensures { Adds (E.told err.old) (E.told err.new) (E.faults err.old) (E.faults err.new) }
@@ -224,6 +239,7 @@ pub fn put_line<E: Sink>(err: &mut E, status: Status) -> Result<(), SinkFault>
         Status::Source { code, line, column } => put_source_line(err, code, line, column),
         Status::Limit { number, count } => put_limit_line(err, number, count),
         Status::Words { code, line } => put_words_line(err, code, line),
+        Status::Profile { code, line } => put_profile_line(err, code, line),
         Status::Machine { code, field } => put_machine_line(err, code, field),
         Status::NoFile(role) => put_role_line(err, b"no file ", role),
         Status::ReadFault(role) => put_role_line(err, b"read fault ", role),

@@ -54,6 +54,7 @@ fn perform_compile<D: Depot, E: Sink>(
                 depot,
                 asked.source,
                 asked.out,
+                asked.profile,
                 asked.machine,
                 asked.growth,
             );

@@ -2,7 +2,7 @@
 // the values kept in registers and slots, and all finished as one program. The clause of `words_of` is the promise of the
 // compiler (specs/Compiled.antt); what holds between its steps stands in specs/Stages.antt.
 
-ghost use Rattle.std.specs.Prelude.{IfOk};
+ghost use Rattle.std.specs.Prelude.{◌≡◌, length, IfOk};
 ghost use Rattle.vx_ast.specs.View as view;
 ghost use Rattle.vx_lower.specs.FlowOf.{FlowOf};
 ghost use Rattle.vx_driver.specs.Compiled.{Compiled};
@@ -48,24 +48,34 @@ fn stages_do_the_same()
     any_timing_law();
 }
 
-/// The layout of a function, all of it turned into regions, one picked trace after the other.
+/// The layout of the function with a number, all of it turned into regions, one picked trace after the other. Its counts are
+/// those under its number.
 fn layout_of(
     alloc: Global,
+    function: u32,
     graph: &Graph,
     counts: &Counts,
     machine: &Machine,
     budget: &mut Budget,
 ) -> Result<VWords, NoMemory>
     requires { Begins graph.now }
-    ensures { IfOk result (λ layout. IsLayoutOf machine.now graph.now layout) }
+    ensures { IfOk result (λ layout. IsLayoutOf machine.now function graph.now layout) }
 {
     graphs_begin_so();
     all_steps_keep_the_graph();
-    let begun = Mixed::from_graph(alloc, graph)?;
+    let mut begun = Mixed::from_graph(alloc, graph)?;
+    begun.set_function(function);
     begun.keeps_valid();
     let regions = all_regions(alloc, begun, counts, machine, budget)?;
     regions.mixed.keeps_valid();
     regions.mixed.lay_out(alloc)
+}
+
+/// The number of the function whose layout comes behind these.
+fn number_of(layouts: &Listed<VWords>) -> u32
+    ensures { result ≡ length layouts.now }
+{
+    layouts.len() as u32
 }
 
 /// The layouts of functions. At most so many operations are copied in all of them.
@@ -82,7 +92,8 @@ fn layouts_of(
     let mut budget = Budget::make(growth);
     let mut layouts = Listed::new(alloc);
     for graph in graphs {
-        layouts.push(layout_of(alloc, graph, counts, machine, &mut budget)?)?;
+        let function = number_of(&layouts);
+        layouts.push(layout_of(alloc, function, graph, counts, machine, &mut budget)?)?;
     }
     Ok(layouts)
 }
@@ -99,7 +110,7 @@ fn maps_of(alloc: Global, layouts: &[VWords], machine: &Machine) -> Result<Liste
     Ok(maps)
 }
 
-/// The graphs of a program: lowered, and then cleaned.
+/// The graphs of a program from which its words are made and whose blocks a profile counts: lowered, and then cleaned.
 pub(crate) fn flow_of(alloc: Global, program: &Typed) -> Result<Flow, NoMemory>
     ensures { IfOk result (λ flow. FlowOf (view.program_of program.now.program) flow) }
 {
@@ -108,10 +119,11 @@ pub(crate) fn flow_of(alloc: Global, program: &Typed) -> Result<Flow, NoMemory>
     Ok(flow)
 }
 
-/// The words of a program for a machine. Its traces are picked with no block counted; at most so many operations are copied.
+/// The words of a program for a machine. Its traces are picked by counts; at most so many operations are copied.
 pub(crate) fn words_of(
     alloc: Global,
     program: &Typed,
+    counts: &Counts,
     machine: &Machine,
     growth: u32,
 ) -> Result<WordProgram, NoMemory>
@@ -120,8 +132,7 @@ pub(crate) fn words_of(
     stages_do_the_same();
     machine.keeps_ranges();
     let flow = flow_of(alloc, program)?;
-    let counts = Counts::new(alloc);
-    let layouts = layouts_of(alloc, flow.functions.as_slice(), &counts, machine, growth)?;
+    let layouts = layouts_of(alloc, flow.functions.as_slice(), counts, machine, growth)?;
     let maps = maps_of(alloc, layouts.as_slice(), machine)?;
     let finished = finish(alloc, layouts.as_slice(), maps.as_slice(), &flow, machine)?;
     numbers_fit(&finished.program);

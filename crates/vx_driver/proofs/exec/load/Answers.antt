@@ -11,10 +11,10 @@ use Rattle.vx_driver.proofs.exec.load.Goals as goal
 pub returns-in-Ok-clause-loaded : goal.returns-in-Ok-clause-loaded
 returns-in-Ok-clause-loaded g c =
     let depot = g.D.Depot in
-    IfOk-weaker c.load_machine.result _ _
+    IfOk-weaker c.load_profile.result _ _
     (λ loaded facts. prepared (execution_of c.args.asked.now) (program_of c.in-Ok.program.program) (loaded_of loaded)
-    (effect_of depot.files depot.failed_reads depot.failed_replaces c.read_through.new.depot c.load_machine.new.depot)
-    (effect_of depot.files depot.failed_reads depot.failed_replaces c.args.depot.now c.load_machine.new.depot)
+    (effect_of depot.files depot.failed_reads depot.failed_replaces c.read_through.new.depot c.load_profile.new.depot)
+    (effect_of depot.files depot.failed_reads depot.failed_replaces c.args.depot.now c.load_profile.new.depot)
     (record {
       before = sym c.in-Ok.ensures.same_files;
       after = refl;
@@ -22,16 +22,16 @@ returns-in-Ok-clause-loaded g c =
       reads_after = refl;
       replaces = c.in-Ok.ensures.replaces_never_fall;
       replaces_after = refl;
-    }) c.in-Ok.ensures.program facts.0 facts.1.0 facts.1.1)
-    (both_ok c.load_machine.result _ _ c.load_machine.ensures.machine (both_ok c.load_machine.result _ _ c.load_machine.ensures.input c.load_machine.ensures.compiled))
+    }) c.in-Ok.ensures.program facts.0 facts.1.0 facts.1.1.0 facts.1.1.1)
+    (both_ok c.load_profile.result _ _ c.load_profile.ensures.profiled (both_ok c.load_profile.result _ _ c.load_profile.ensures.machine (both_ok c.load_profile.result _ _ c.load_profile.ensures.input c.load_profile.ensures.compiled)))
 
 pub returns-in-Ok-clause-stops : goal.returns-in-Ok-clause-stops
 returns-in-Ok-clause-stops g c =
     let depot = g.D.Depot in
-    IfErr-weaker c.load_machine.result _ _
+    IfErr-weaker c.load_profile.result _ _
     (λ status why. after_source (execution_of c.args.asked.now) (program_of c.in-Ok.program.program)
-    (effect_of depot.files depot.failed_reads depot.failed_replaces c.read_through.new.depot c.load_machine.new.depot)
-    (effect_of depot.files depot.failed_reads depot.failed_replaces c.args.depot.now c.load_machine.new.depot)
+    (effect_of depot.files depot.failed_reads depot.failed_replaces c.read_through.new.depot c.load_profile.new.depot)
+    (effect_of depot.files depot.failed_reads depot.failed_replaces c.args.depot.now c.load_profile.new.depot)
     status
     (record {
       before = sym c.in-Ok.ensures.same_files;
@@ -41,7 +41,7 @@ returns-in-Ok-clause-stops g c =
       replaces = c.in-Ok.ensures.replaces_never_fall;
       replaces_after = refl;
     }) c.in-Ok.ensures.program why)
-    c.load_machine.ensures.stops
+    c.load_profile.ensures.stops
 
 pub returns-in-Err-clause-stops : goal.returns-in-Err-clause-stops
 returns-in-Err-clause-stops g c = inr (inl c.in-Err.ensures.answers)

@@ -9,5 +9,5 @@ layout_of-requires c = c.requires c.loop-graph.graph-index c.graph-item.result (
 
 pub loop-graph-preserved : goal.loop-graph-preserved
 loop-graph-preserved c =
-    layouts_step c.args.machine.now c.args.graphs.now c.loop-graph.graph-index c.graph-item.result c.loop-graph.layouts c.push.new.self c.in_ok-layout_of.field-0 c.loop-graph-test.true c.graph-item.is
+    layouts_step c.args.machine.now c.args.graphs.now c.loop-graph.graph-index c.number_of-function.result c.graph-item.result c.loop-graph.layouts c.push.new.self c.in_ok-layout_of.field-0 c.loop-graph-test.true c.graph-item.is c.number_of-function.ensures
     c.loop-graph.invariant c.in_ok-layout_of.ensures c.in_ok-push.ensures.ok

@@ -1,0 +1,23 @@
+-- The machine was found before the words were written, and finding it changed no file.
+use Rattle.std.proofs.Common.{inl, refl, sym, subst, map, option_map, IfSome}
+use Rattle.vx_ast.specs.View.{program_of}
+use Rattle.vx_driver.specs.Answers.{effect_of}
+use Rattle.vx_driver.proofs.Answering.{for_machine}
+use Rattle.vx_driver.proofs.compile.compile_by.Goals as goal
+
+pub returns-in-Ok-clause-answers : goal.returns-in-Ok-clause-answers
+returns-in-Ok-clause-answers g c =
+    let depot = g.D.Depot in
+    for_machine (program_of c.args.program.now.program) _ c.args.out.now _
+    (effect_of depot.files depot.failed_reads depot.failed_replaces c.machine_for.new.depot c.compile_for.new.depot)
+    (effect_of depot.files depot.failed_reads depot.failed_replaces c.args.depot.now c.compile_for.new.depot)
+    c.compile_for.result
+    (record {
+      before = sym c.in-Ok.ensures.same_files;
+      after = refl;
+      reads = c.in-Ok.ensures.reads_never_fall;
+      reads_after = refl;
+      replaces = c.in-Ok.ensures.replaces_never_fall;
+      replaces_after = refl;
+    })
+    c.in-Ok.ensures.machine c.compile_for.ensures.answers
