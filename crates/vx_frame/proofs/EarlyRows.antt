@@ -15,7 +15,7 @@ use Rattle.vx_isa.specs.declared.program.WordProgram.{WordProgram}
 use Rattle.vx_isa.specs.Numbers.{vex}
 use Rattle.vx_isa.specs.Operations.{same}
 use Rattle.vx_isa.specs.Paths.{NeverReadsEarly, NeverWritesEarly}
-use Rattle.vx_frame.specs.Target.{general, stack_on, one, waits}
+use Rattle.vx_frame.specs.Target.{general, stack_on, one, waits, in_flight}
 use Rattle.vx_frame.proofs.Early.{words_kind, pieces_late}
 
 abbrev program : List Word → WordProgram
@@ -92,3 +92,23 @@ waited = (pieces_late (vex 1) (program waited_words) waited_pieces refl joined).
       ),
       tt,
     )
+
+-- how long the writes of words are in flight behind them: of a load 2 cycles, of a product 1, of a store none
+
+load_flies : in_flight (vex 1) 0 (one (load 11) ∷ []) ≡ 2
+load_flies = refl
+
+product_flies : in_flight (vex 1) 0 (one (product 3) ∷ []) ≡ 1
+product_flies = refl
+
+store_flies : in_flight (vex 1) 0 (one (store 11) ∷ []) ≡ 0
+store_flies = refl
+
+loads_fly : in_flight (vex 1) 0 (one (load 11) ∷ one (load 12) ∷ []) ≡ 2
+loads_fly = refl
+
+product_covers : in_flight (vex 1) 0 (one (load 11) ∷ one (product 3) ∷ []) ≡ 1
+product_covers = refl
+
+pause_lands : in_flight (vex 1) 0 (one (load 11) ∷ waits 2 ∷ []) ≡ 0
+pause_lands = refl

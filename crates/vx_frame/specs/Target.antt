@@ -259,11 +259,12 @@ once (v ∷ vs) = v ∷ filter (λ u. not (u == v)) (once vs)
 abbrev pub before : Target → ℕ → (reads : List ℕ) → List Word
 before T f rs = if_some (slotted T f rs) (settled T (load_slots T f rs (once (slotted T f rs))))
 
--- how many cycles behind a word the last of its results that go to slots is in flight
+-- a number where there are some, else 0
 abbrev pub if_any : List ℕ → ℕ → ℕ
 if_any [] n = 0
 if_any (v ∷ vs) n = n
 
+-- how many cycles behind a word the last of its results that go to slots is in flight
 abbrev pub slots_in_flight : Target → ℕ → List Laid → ℕ
 slots_in_flight T f [] = 0
 slots_in_flight T f (Plain op k ∷ items) = max (if_any (slotted T f (writes op)) (latency_of_op T.machine op - 1)) (slots_in_flight T f items)
@@ -375,10 +376,11 @@ memory_words T = T.globals + T.frame * deepest
 abbrev pub first_frame : Target → ℕ
 first_frame T = T.globals + T.frame * (deepest - 1)
 
--- the first words of a program; behind the call stands its end
+-- the stack pointer of every cluster where the first frame begins
 abbrev pub set_stack : Target → List Word
 set_stack T = settled T (record { ops = on_clusters T.machine.clusters (λ k. Move k (stack_on k) (Number (bytes (first_frame T)))); idle = 0 } ∷ [])
 
+-- the first words of a program; behind the call stands its end
 abbrev pub start_words : Target → (main : ℕ) → List Word
 start_words T main = set_stack T ++ one (Call (T.entry main)) ∷ one (Halt (Held answer)) ∷ []
 
