@@ -1,5 +1,5 @@
 -- At the start of a function the link is stored in the frame, and parameters come to their registers.
-use Rattle.std.proofs.Common.{◌≡◌, ◌≢◌, ◌<◌, ◌≤◌, inr, ⊎_elim, ◌+◌, ◌*◌, ◌^◌, ℕ, zero, suc, ℤ, pos, Bool, true, false, Some, List, [], ◌∷◌, ◌++◌, length, refl, sym, ap, ◌∙◌, subst, arith}
+use Rattle.std.proofs.Common.{◌≡◌, ◌≢◌, ◌<◌, ◌≤◌, inr, ⊎_elim, ◌+◌, ◌*◌, ◌^◌, ℕ, zero, suc, ℤ, pos, Bool, true, false, Some, List, [], ◌∷◌, ◌++◌, length, length-append, refl, sym, ap, ◌∙◌, subst, arith}
 use Rattle.std.specs.Prelude.{if◌then◌else◌, slice_get}
 use Rattle.std.proofs.lemmas.Bool.{false_from_ne_true}
 use Rattle.vx_base.specs.Outcome.{On}
@@ -13,7 +13,7 @@ use Rattle.vx_flow.specs.Sound.{Sound, SoundFlow, is_sound_flow, IsPlace}
 use Rattle.vx_flow.proofs.SoundFlowLaw.{told}
 use Rattle.vx_isa.specs.declared.operation.Register.TheVariants.{General, Link}
 use Rattle.vx_isa.specs.declared.operation.Source.TheVariants.{Held}
-use Rattle.vx_isa.specs.declared.operation.Operation.TheVariants.{FromLink, Store, Goto}
+use Rattle.vx_isa.specs.declared.operation.Operation.TheVariants.{FromLink, Store}
 use Rattle.vx_isa.specs.declared.program.Word.{Word}
 use Rattle.vx_isa.specs.declared.program.WordProgram.{WordProgram}
 use Rattle.vx_isa.specs.Machine.{State, register, step}
@@ -23,7 +23,7 @@ use Rattle.vx_mixed.specs.LaidSettled.{bank_in}
 use Rattle.vx_regs.specs.Intervals.{IsLive, is_live}
 use Rattle.vx_regs.specs.declared.map.Kept.{Kept}
 use Rattle.vx_regs.specs.declared.map.Kept.TheVariants.{InRegister}
-use Rattle.vx_frame.specs.Target.{Target, general, stack_on, kept, is_slotted, is_branch, parameters_of, holds_branch, register_of, one, pause, in_flight, reload_words, entry_words, memory_words}
+use Rattle.vx_frame.specs.Target.{Target, general, stack_on, kept, is_slotted, is_branch, parameters_of, holds_branch, register_of, one, pause, in_flight, reload_words, way, entry_words, memory_words}
 use Rattle.vx_frame.specs.Tied.{Tied, AtEntry, Arrays, Below, begins_at, Shows, holds, is_place, moved, word_at}
 use Rattle.vx_frame.specs.Carried.{Carries, IsFunctionOf, is_passed, Arrives}
 use Rattle.vx_frame.specs.Planned.{CarriesOn, EntryLaw}
@@ -33,9 +33,9 @@ use Rattle.vx_frame.proofs.Names.{in_register, apart_registers, not_zero, not_ge
 use Rattle.vx_frame.proofs.Live.{live_bank}
 use Rattle.vx_frame.proofs.Enough.{some_cluster}
 use Rattle.vx_frame.proofs.Frames.{get_below, get_in, frame_room, link_free, global_row, below_keep}
-use Rattle.vx_frame.proofs.Steps.{Stands, stands_left, stands_right, Quiet, quiet_on, Forth, comes_on, forth_on, forth_comes, Set, set_step, Passed, Paused, pause_step, goto_step, Kept as Kept_word, store_step}
+use Rattle.vx_frame.proofs.Steps.{Stands, stands_left, stands_right, Quiet, quiet_on, Forth, comes_on, forth_on, forth_comes, Set, set_step, Paused, pause_step, way_step, Kept as Kept_word, store_step}
 use Rattle.vx_frame.proofs.Slots.{Usable, Loaded, before_case, as_read, number_in, stack_no_answer}
-use Rattle.vx_frame.proofs.Stands.{entry_stands}
+use Rattle.vx_frame.proofs.Stands.{entry_stands, entry_next}
 use Rattle.vx_frame.proofs.Word.{own_name}
 
 not_slotted : (k : Kept) (n : ℕ) → k ≡ InRegister n → is_slotted k ≡ false
@@ -122,7 +122,7 @@ module _ (T : Target) (flow : Flow) (ls : List VWords) (w : WordProgram) (sound 
   -- the words
 
   abbrev Tail : List Word
-  Tail = reload_words T F Brought ++ one (Goto (T.starts F Entry)) ∷ []
+  Tail = reload_words T F Brought ++ way T F 0 Entry
 
   stands : Stands w.words u.place (entry_words T F)
   stands = subst (λ q. Stands w.words q (entry_words T F)) (sym at_entry.place) (entry_stands T flow.main (length flow.functions) w.words carries.placed F below)
@@ -186,20 +186,30 @@ module _ (T : Target) (flow : Flow) (ls : List VWords) (w : WordProgram) (sound 
   abbrev Loads : List Word
   Loads = reload_words T F Brought
 
-  abbrev Jump : Word
-  Jump = one (Goto (T.starts F Entry))
+  abbrev Way : List Word
+  Way = way T F 0 Entry
 
-  tail : Stands w.words C.place (Loads ++ Jump ∷ [])
-  tail = subst (λ q. Stands w.words q (Loads ++ Jump ∷ [])) (sym place_c) kept_on.1
+  tail : Stands w.words C.place (Loads ++ Way)
+  tail = subst (λ q. Stands w.words q (Loads ++ Way)) (sym place_c) kept_on.1
 
   loaded : Loaded T.machine w fit T F Sp carries.memory small some Brought C Brought (length Loads)
-  loaded = before_case T.machine w fit T F Sp carries.memory small some Brought Brought C put_link.quiet.calm (stands_left w.words C.place Loads (Jump ∷ []) tail) stack_c usable (λ v i. passed_inside v (arrives v i).passed) apart_brought
+  loaded = before_case T.machine w fit T F Sp carries.memory small some Brought Brought C put_link.quiet.calm (stands_left w.words C.place Loads Way tail) stack_c usable (λ v i. passed_inside v (arrives v i).passed) apart_brought
 
   abbrev D : State
   D = loaded.to
 
-  jumped : Passed T.machine w fit D (T.starts F Entry)
-  jumped = goto_step T.machine w fit D (T.starts F Entry) loaded.quiet.calm (subst (λ q. slice_get w.words q ≡ Some Jump) (sym loaded.place) (stands_right w.words C.place Loads (Jump ∷ []) tail).0)
+  -- the layout stands behind these words
+  ends_there : D.place + length Way ≡ T.starts F 0
+  ends_there =
+      let a = entry_next T flow.main (length flow.functions) w.words carries.placed F below in
+      let b = at_entry.place in
+      let c = place_c in
+      let d = loaded.place in
+      let e = length-append Late (Keep ∷ Tail) in
+      let f = length-append Loads Way in omega arith
+
+  jumped : Paused T.machine w fit D (T.starts F Entry)
+  jumped = way_step T.machine w fit T F 0 Entry D loaded.quiet.calm ends_there (subst (λ q. Stands w.words q Way) (sym loaded.place) (stands_right w.words C.place Loads Way tail))
 
   abbrev G : State
   G = jumped.to
@@ -212,7 +222,7 @@ module _ (T : Target) (flow : Flow) (ls : List VWords) (w : WordProgram) (sound 
 
   forth_all : Forth T.machine w fit u G
   forth_all = forth_on T.machine w fit u A G linked.forth (comes_on T.machine w fit A B G paused.comes (comes_on T.machine w fit B C G (forth_comes T.machine w fit B C put_link.forth)
-      (comes_on T.machine w fit C D G loaded.comes (forth_comes T.machine w fit D G jumped.forth))))
+      (comes_on T.machine w fit C D G loaded.comes jumped.comes)))
 
   quiet_all : Quiet u G
   quiet_all = quiet_on u A G linked.quiet (quiet_on A B G paused.quiet (quiet_on B C G put_link.quiet (quiet_on C D G loaded.quiet jumped.quiet)))

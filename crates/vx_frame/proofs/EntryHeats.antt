@@ -1,5 +1,6 @@
 -- The words at the start of a function and behind a call reload values while nothing else is in flight.
-use Rattle.std.proofs.Common.{◌≡◌, ℕ, suc, pos, false, Option, Some, List, [], ◌∷◌, ◌++◌, append_assoc, refl, sym, ap, subst, arith}
+use Rattle.std.specs.Prelude.{◌==◌, if◌then◌else◌}
+use Rattle.std.proofs.Common.{◌≡◌, ℕ, suc, pos, Bool, true, false, Option, Some, List, [], ◌∷◌, ◌++◌, append_assoc, refl, sym, ap, subst, arith}
 use Rattle.std.proofs.lemmas.List.{append-nil}
 use Rattle.vx_base.proofs.Pieces.{cold, fine_append}
 use Rattle.vx_flow.specs.declared.graph.Bank.{Bank}
@@ -14,7 +15,7 @@ use Rattle.vx_machine.specs.Items.{latency_of_op}
 use Rattle.vx_mixed.specs.LaidSettled.{bank_in}
 use Rattle.vx_mixed.specs.Settled.{NoTwice}
 use Rattle.vx_regs.specs.Intervals.{IsBusy, is_live}
-use Rattle.vx_frame.specs.Target.{Target, general, kept, is_slotted, stack_on, one, pause, in_flight, load_slots, reload_words, result_words, entry_words, call_words, back_words, bytes}
+use Rattle.vx_frame.specs.Target.{Target, general, kept, is_slotted, stack_on, one, pause, in_flight, load_slots, reload_words, result_words, way, entry_words, call_words, back_words, bytes}
 use Rattle.vx_frame.specs.Carried.{IsMapped, IsSaved, CallsAt}
 use Rattle.vx_frame.proofs.Names.{not_general, apart_registers}
 use Rattle.vx_frame.proofs.Live.{live_bank}
@@ -48,14 +49,21 @@ module _ (T : Target) (heat : ℕ → Register → ℕ) (f : ℕ) (mapped : IsMa
   brought : (v : ℕ) → IsIn v (T.brought f) → Here (T.layout f).entry v
   brought v i = let a = saved.brought v i in (is_live a.live, live_bank T f mapped sound (T.layout f).entry v a.live, ap is_slotted a.register)
 
+  way_fine : (next q : ℕ) (e : Register → ℕ) → F cold (way T f next q) e
+  way_fine next q e = by (next == q)
+    where
+      by : (b : Bool) → F cold (if b then [] else one (Goto (T.starts f q)) ∷ []) e
+      by true = nothing_fine T heat e
+      by false = jump_fine T heat (T.starts f q) [] e (nothing_fine T heat e)
+
   pub entry_fine : (e : Register → ℕ) → F cold (entry_words T f) e
   entry_fine e =
-      let last : List Word = one (Goto (T.starts f (T.layout f).entry)) ∷ [] in
+      let last : List Word = way T f 0 (T.layout f).entry in
       let rest : List Word = reload_words T f (T.brought f) ++ last in
       settle T heat (FromLink (general 0 3) ∷ []) (one (Store 0 (pos 0) (stack_on 0) (Held (general 0 3))) ∷ rest) e refl (λ q j. j)
       (store_fine T heat 0 (pos 0) (stack_on 0) (Held (general 0 3)) rest e
       (reload_fine (T.layout f).entry (T.brought f) last e brought saved.brought_once
-      (jump_fine T heat (T.starts f (T.layout f).entry) [] e (nothing_fine T heat e))))
+      (way_fine 0 (T.layout f).entry e)))
 
   survives : (p g : ℕ) (arguments : List Operand) (result : Option ℕ) → CallsAt T f p g arguments result → (v : ℕ) → IsIn v (T.saved f p) → Here (suc p) v
   survives p g arguments result at v i = let a = saved.saved p g v arguments result at i in (is_live a.live, live_bank T f mapped sound (suc p) v a.live, ap is_slotted a.register)

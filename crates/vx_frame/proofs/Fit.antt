@@ -1,7 +1,7 @@
 -- Every word of a program that carries a flow is well formed and fits: planned words by their room, all others since they hold
 -- one operation, or one on each cluster.
 use Rattle.std.proofs.Common.{◌≡◌, ◌≢◌, ◌<◌, ◌≤◌, ◌⊎◌, inl, inr, ⊎_elim, ◌+◌, ℕ, zero, suc, ℤ, pos, neg_ℤ, Bool, true, false, ◌&&◌, eqb, Option, Some, None, List, [], ◌∷◌, ◌++◌, length, map, count_by, refl, sym, ap, subst, arith}
-use Rattle.std.specs.Prelude.{if◌then◌else◌, slice_get}
+use Rattle.std.specs.Prelude.{◌==◌, if◌then◌else◌, slice_get}
 use Rattle.std.specs.Cmp.Derive.{both_true}
 use Rattle.std.proofs.lemmas.Bool.{ne_eqb, lt-ltb, and_parts, ltb-true}
 use Rattle.std.proofs.lemmas.Bool.Decides.{nat_tests}
@@ -42,7 +42,7 @@ use Rattle.vx_mixed.specs.declared.layout.VirtualWord.TheVariants.{Planned, Drai
 use Rattle.vx_mixed.specs.declared.layout.VWords.{VWords}
 use Rattle.vx_mixed.specs.LaidSettled.{bank_in, laid_reads, laid_writes, Plans}
 use Rattle.vx_regs.specs.Intervals.{IsBusy, is_live, is_named, word_reads, word_writes}
-use Rattle.vx_frame.specs.Target.{Target, answer, general, general_of, branch_of, stack_on, home, holds_branch, is_branch, is_slotted, kept, slotted, parameters_of, one, waits, pause, in_flight, settled, on_clusters, set_stack, slots_in_flight, load_slot, store_slot, load_slots, store_slots, if_some, once, before, behind, plan_word, plan_words, landing_words, move_stack, save_words, reload_words, fetch_words, fetched, cluster_of_operand, argument_words, result_words, call_words, back_words, return_words, entry_words, word_words, start_words, bytes, first_frame}
+use Rattle.vx_frame.specs.Target.{Target, answer, general, general_of, branch_of, stack_on, home, holds_branch, is_branch, is_slotted, kept, slotted, parameters_of, one, waits, pause, in_flight, settled, on_clusters, set_stack, slots_in_flight, load_slot, store_slot, load_slots, store_slots, if_some, once, before, behind, plan_word, plan_words, landing_words, move_stack, save_words, reload_words, fetch_words, fetched, cluster_of_operand, argument_words, result_words, call_words, back_words, return_words, way, entry_words, word_words, start_words, bytes, first_frame}
 use Rattle.vx_frame.specs.Placed.{Depth, Labelled, laid_pieces, landing_of, item_landings, word_landings, landing_pieces, function_pieces, functions_pieces, all_pieces, words_of}
 use Rattle.vx_frame.specs.Carried.{Carries, IsFunctionOf, IsMapped, item_of_laid}
 use Rattle.vx_frame.specs.Fitted.{FitLaw}
@@ -321,13 +321,20 @@ module _ (T : Target) (flow : Flow) (ls : List VWords) (w : WordProgram) (sound 
         let linked : Words links = one_settled link (one Return ∷ []) (one_good M carries.machine l link first refl (both_true (own 0 3 (omega arith) first) refl) refl) (one_good M carries.machine l Return first refl refl refl, tt) in
         good_append M (fetch_words T f 0 x) (settled T loads ++ links) (fetch_good 0 x h) (good_append M (settled T loads) links loaded linked)
 
+    way_good : (next q : ℕ) → Words (way T f next q)
+    way_good next q = by (next == q)
+      where
+        by : (b : Bool) → Words (if b then [] else one (Goto (T.starts f q)) ∷ [])
+        by true = tt
+        by false = (goto_good (T.starts f q), tt)
+
     entry_good : Words (entry_words T f)
     entry_good =
         let link : Operation = FromLink (general 0 3) in
-        let goes : List Word = one (Goto (T.starts f (T.layout f).entry)) ∷ [] in
+        let goes : List Word = way T f 0 (T.layout f).entry in
         let rest : List Word = one (Store 0 (pos 0) (stack_on 0) (Held (general 0 3))) ∷ (reload_words T f (T.brought f) ++ goes) in
         one_settled link rest (one_good M carries.machine l link first refl refl (both_true (own 0 3 (omega arith) first) refl))
-        (store_good (general 0 3) (pos 0) first (own 0 3 (omega arith) first), good_append M (reload_words T f (T.brought f)) goes (reload_good (T.brought f) (kept_named (T.brought f) arrives)) (goto_good (T.starts f (T.layout f).entry), tt))
+        (store_good (general 0 3) (pos 0) first (own 0 3 (omega arith) first), good_append M (reload_words T f (T.brought f)) goes (reload_good (T.brought f) (kept_named (T.brought f) arrives)) (way_good 0 (T.layout f).entry))
       where
         arrives : (v : ℕ) → IsIn v (T.brought f) → (p : ℕ) × Busy p v × Banked v × (is_slotted (kept T f v) ≡ false)
         arrives v i = let a = of.saved.brought v i in ((T.layout f).entry, is_live a.live, live_bank T f mapped graph_sound (T.layout f).entry v a.live, ap is_slotted a.register)

@@ -142,6 +142,16 @@ module _ (T : Target) where
     pub entry_stands : (f : ℕ) → f < count → Stands words (T.entry f) (entry_words T f)
     entry_stands f lt = all_stands (record { label = Entry f; words = entry_words T f }) (of_function f (record { label = Entry f; words = entry_words T f }) lt (inl refl))
 
+    -- the words of a layout stand behind the entry
+    pub entry_next : (f : ℕ) → f < count → T.starts f 0 ≡ T.entry f + length (entry_words T f)
+    entry_next f lt =
+        let a = at_left (0 + length (start_words T main)) (functions_pieces T 0 count) (record { label = Depth; words = one (EndByTrap ByDepth) ∷ [] } ∷ []) placed.places.1 in
+        let h = function_at (0 + length (start_words T main)) 0 f count lt a in
+        let z : 0 + f ≡ f = omega arith in
+        let b : PlacedAt T h.0 (function_pieces T f) = subst (λ m. PlacedAt T h.0 (function_pieces T m)) z h.1 in
+        let c = at_left (h.0 + length (entry_words T f)) (laid_pieces T f 0 (T.layout f).words) (landing_pieces T f 0 (T.layout f).words) b.1 in
+        laid_first f (h.0 + length (entry_words T f)) 0 (T.layout f).words c ∙ ap (λ n. n + length (entry_words T f)) (sym b.0)
+
     pub start_stands : Stands words 0 (start_words T main)
     start_stands = all_stands (record { label = Start; words = start_words T main }) (inl refl)
 

@@ -349,11 +349,16 @@ return_words T f x =
     fetch_words T f 0 x
     ++ (settled T (one (Move 0 answer (fetched T f x)) ∷ one (Load 0 (general 0 3) (pos 0) (stack_on 0) false) ∷ []) ++ (settled T (one (ToLink (Held (general 0 3))) ∷ []) ++ one Return ∷ []))
 
--- at the entry the link is stored at the begin of the frame, and parameters are brought to their registers
+-- the way to a place of a layout, where another one follows: none where it is that one
+abbrev pub way : Target → (function following to : ℕ) → List Word
+way T f next q = if next == q then [] else one (Goto (T.starts f q)) ∷ []
+
+-- at the entry the link is stored at the begin of the frame, and parameters are brought to their registers; the first word of the
+-- layout follows
 abbrev pub entry_words : Target → ℕ → List Word
 entry_words T g =
     settled T (one (FromLink (general 0 3)) ∷ []) ++ one (Store 0 (pos 0) (stack_on 0) (Held (general 0 3)))
-    ∷ (reload_words T g (T.brought g) ++ one (Goto (T.starts g (T.layout g).entry)) ∷ [])
+    ∷ (reload_words T g (T.brought g) ++ way T g 0 (T.layout g).entry)
 
 abbrev pub choice_words : Target → ℕ → (test to : ℕ) → List Word
 choice_words T f test q = before T f (test ∷ []) ++ one (BranchOn (branch_of T f (test ∷ []) test) true (T.starts f q)) ∷ []

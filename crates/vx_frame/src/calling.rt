@@ -6,7 +6,7 @@ ghost use Rattle.vx_base.specs.declared.arithmetic.Compare.TheVariants.{Ltu};
 ghost use Rattle.vx_isa.specs.declared.operation.Operation.TheVariants.{BranchOn, Compute, Move};
 ghost use Rattle.vx_isa.specs.declared.operation.Register.TheVariants.{Branch as InBranch, General as InGeneral};
 ghost use Rattle.vx_isa.specs.declared.operation.Source.TheVariants.{Held, Number};
-ghost use Rattle.vx_frame.specs.Target.{bytes, general, one, settled, stack_on, on_clusters, parameters_of, first_frame, fetch_words, fetched, cluster_of_operand, argument_words, result_words, save_words, reload_words, move_stack, call_words, back_words, return_words, entry_words, set_stack, start_words};
+ghost use Rattle.vx_frame.specs.Target.{bytes, general, one, settled, stack_on, on_clusters, parameters_of, first_frame, fetch_words, fetched, cluster_of_operand, argument_words, result_words, save_words, reload_words, move_stack, call_words, back_words, return_words, way, entry_words, set_stack, start_words};
 ghost use Rattle.vx_frame.specs.Seen.{seen};
 
 use crate::carrying::{bytes, stack_on};
@@ -344,6 +344,24 @@ pub(crate) fn push_return(
     push_one(alloc, Operation::Return, words)
 }
 
+/// The way to a place of a layout, where another one follows: no word where it is that one.
+fn push_way(
+    alloc: Global,
+    whole: &Whole,
+    function: u32,
+    next: u32,
+    to: u32,
+    words: &mut Listed<Word>,
+) -> Result<(), NoMemory>
+    ensures { IfOk result (λ _. words.new ≡ words.old ++ way (seen whole.now) function next to) }
+{
+    if next == to {
+        return Ok(());
+    }
+    let target = start(whole, function, to);
+    push_one(alloc, Operation::Goto { target }, words)
+}
+
 /// The words at the entry of a function: the link is stored in its frame, and parameters come to their registers.
 pub(crate) fn push_entry(
     alloc: Global,
@@ -367,8 +385,14 @@ pub(crate) fn push_entry(
     };
     push_one(alloc, store, words)?;
     reload(alloc, whole, function, brought(whole, function), words)?;
-    let target = start(whole, function, entered_at(whole, function));
-    push_one(alloc, Operation::Goto { target }, words)
+    push_way(
+        alloc,
+        whole,
+        function,
+        0,
+        entered_at(whole, function),
+        words,
+    )
 }
 
 /// Where the frame of the function that is active first begins, in words.
