@@ -1,5 +1,5 @@
-// The graphs of a program with fewer blocks. In each graph a layout is looked for, tested, and used where it passes; a graph that
-// does not pass, and a flow that would not be sound, stay as they are.
+// The graphs of a program with fewer blocks and operations. In each graph a layout is looked for, tested, and used where it
+// passes; a graph that does not pass, and a flow that would not be sound, stay as they are.
 
 ghost use Rattle.std.specs.Prelude.{◌≡◌, true, IfOk, IfSome};
 ghost use Rattle.vx_ast.specs.Tree.{Program};
@@ -9,6 +9,7 @@ ghost use Rattle.vx_clean.specs.LinkTest.{is_laid_out};
 ghost use Rattle.vx_clean.specs.Staying.{FlowStays, GraphStays, GraphsStay};
 
 use crate::copying::{copied_graph, with_graphs};
+use crate::folding::folded_once;
 use crate::laying::laid;
 use crate::layout::find_layout;
 use crate::link_test::is_laid_out;
@@ -23,14 +24,37 @@ use vx_flow::graph::{BlockId, Flow, Graph};
 /// How often the graphs are cleaned at most.
 const MOST_ROUNDS: u32 = 8;
 
-/// The graphs of a program with fewer blocks. A block that no path from the entry reaches is gone. An empty block that ends by a
-/// jump is skipped, unless a split leads to it and other blocks than it lead on. A block with one entry, by a jump, is joined to
-/// the block before it, up to 512 operations. Blocks are numbered in the order of the old ones. This is done again until no
-/// block goes, eight times at most; the time of each is linear in the blocks and operations of a function.
+/// The graphs of a program with fewer blocks and operations. A value that only ever holds one number is read as that number, and
+/// a split by such a value is a jump. A block that no path from the entry reaches is gone. An empty block that ends by a jump is
+/// skipped, unless a split leads to it and the block behind it has others before it. A block with one entry, by a jump, is joined
+/// to the block before it, up to 512 operations. An operation that does nothing but write a value that is not read is left out.
+/// Blocks are numbered in the order of the old ones. Blocks and operations are gone through until none goes, eight times at most.
 pub fn clean(alloc: Global, flow: Flow) -> Result<Flow, NoMemory>
     requires { is_sound_flow flow ≡ true }
     ensures sound { IfOk result (λ cleaned. is_sound_flow cleaned ≡ true) }
     ensures flow { IfOk result (λ cleaned. (p : Program) → FlowOf p flow → FlowOf p cleaned) }
+{
+    let folded = with_numbers(alloc, flow)?;
+    shrunk(alloc, folded)
+}
+
+/// The flow with numbers in place of values that hold them.
+fn with_numbers(alloc: Global, flow: Flow) -> Result<Flow, NoMemory>
+    requires { is_sound_flow flow ≡ true }
+    ensures sound { IfOk result (λ folded. is_sound_flow folded ≡ true) }
+    ensures flow { IfOk result (λ folded. FlowStays flow folded) }
+{
+    match folded_once(alloc, &flow)? {
+        Some(folded) => Ok(folded),
+        None => Ok(flow),
+    }
+}
+
+/// The flow with fewer blocks and operations.
+fn shrunk(alloc: Global, flow: Flow) -> Result<Flow, NoMemory>
+    requires { is_sound_flow flow ≡ true }
+    ensures sound { IfOk result (λ cleaned. is_sound_flow cleaned ≡ true) }
+    ensures flow { IfOk result (λ cleaned. FlowStays flow cleaned) }
 {
     let mut current = flow;
     for _round in 0..MOST_ROUNDS {

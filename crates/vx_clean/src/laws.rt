@@ -1,6 +1,7 @@
 // Laws of cleaning, each the clause of a function that does nothing.
 
 ghost use Rattle.vx_clean.specs.Cleaning.{CleanedFlow, CleanedRuns};
+ghost use Rattle.vx_clean.specs.Folding.{FoldedRuns, FoldedStays};
 ghost use Rattle.vx_clean.specs.LaidFlows.{LaidFlow};
 ghost use Rattle.vx_clean.specs.Laying.{LaidCleaned};
 ghost use Rattle.vx_clean.specs.LinkTest.{LinkedWhereTested};
@@ -51,4 +52,14 @@ pub fn thinned_runs()
 /// A flow of a program stays one without them.
 pub fn thinned_stays()
     ensures { ThinnedStays }
+{}
+
+/// With values that only ever hold one number read as that number a flow that never fails comes to the same, at every bound.
+pub fn folded_runs()
+    ensures { FoldedRuns }
+{}
+
+/// A flow of a program stays one with them.
+pub fn folded_stays()
+    ensures { FoldedStays }
 {}

@@ -1,0 +1,12 @@
+use Rattle.std.proofs.Common.{◌≡◌, ◌∙◌, subst, sym, true}
+use Rattle.vx_flow.specs.Sound.{is_sound_flow}
+use Rattle.vx_clean.specs.Folding.{GraphsFold}
+use Rattle.vx_clean.proofs.FoldFlow.{once_folded}
+use Rattle.vx_clean.proofs.folding.folded_once.Goals as goal
+
+pub returns-then-sound-clause-flow : goal.returns-then-sound-clause-flow
+returns-then-sound-clause-flow c =
+    let graphs = c.in_ok-functions.functions in
+    let s : GraphsFold c.args.flow.now.functions graphs = subst (λ gs. GraphsFold gs graphs) c.as_slice.ensures c.in_ok-functions.ensures in
+    let t : is_sound_flow c.in_ok-folded.folded ≡ true = sym c.sound.ensures.test ∙ c.if-sound.true in
+    once_folded c.args.flow.now c.in_ok-folded.folded graphs s c.in_ok-folded.ensures t
