@@ -10,7 +10,9 @@ use Rattle.vx_flow.specs.declared.graph.Operand.TheVariants.{Held, Number}
 use Rattle.vx_flow.specs.declared.graph.Op.TheVariants.{Compute}
 use Rattle.vx_flow.specs.declared.graph.Exit.TheVariants.{Goto, Split, Return, Ends}
 use Rattle.vx_flow.specs.declared.graph.Block.{Block}
-use Rattle.vx_facts.specs.Facts.{Fact, Between, after_all, decided}
+use Rattle.vx_facts.specs.declared.fact.Fact.{Fact}
+use Rattle.vx_facts.specs.declared.fact.Fact.TheVariants.{Between}
+use Rattle.vx_facts.specs.Facts.{after_all, decided}
 use Rattle.vx_facts.specs.Checking.{is_block_checked}
 use Rattle.vx_facts.specs.Rewriting.{narrowed_block}
 

@@ -14,7 +14,8 @@ use Rattle.vx_flow.specs.declared.graph.Graph.{Graph}
 use Rattle.vx_flow.specs.declared.graph.Flow.{Flow}
 use Rattle.vx_flow.specs.Effects.{State, Setting, IsIn}
 use Rattle.vx_flow.specs.Meaning.{Hop, Arrives, Calls, Leaves, Stops, Wrong, hop_of, block_hop, Body, Program, Frame, Active, deepest, enters, returned, waits, after_hop, body_hop, hop, next, body_of, program_of, setting_of, globals_at_start, entered_or, start, graph_run}
-use Rattle.vx_facts.specs.Facts.{Fact, after_all, decided}
+use Rattle.vx_facts.specs.declared.fact.Fact.{Fact}
+use Rattle.vx_facts.specs.Facts.{after_all, decided}
 use Rattle.vx_facts.specs.Checking.{has_numbers, is_exit_checked, Checked, Leads, side_of, GoesTo, DecidedGoes}
 use Rattle.vx_facts.specs.Rewriting.{improved_all, split_by, narrowed_exit, narrowed_block, narrowed_from, narrowed_graph, narrowed_functions, narrowed, NarrowedRuns}
 use Rattle.vx_facts.proofs.Ranges.{and_one}

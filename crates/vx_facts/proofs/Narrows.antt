@@ -13,7 +13,8 @@ use Rattle.vx_flow.specs.declared.graph.Block.{Block}
 use Rattle.vx_flow.specs.declared.graph.Graph.{Graph}
 use Rattle.vx_flow.specs.Effects.{Content, State, Setting, is_one, effect, held, computed, with_value}
 use Rattle.vx_flow.specs.Meaning.{Hop, Arrives, Wrong, by_test, leave, and_then, block_hop, hop_of}
-use Rattle.vx_facts.specs.Facts.{Fact, content, after, after_all, decided, found}
+use Rattle.vx_facts.specs.declared.fact.Fact.{Fact}
+use Rattle.vx_facts.specs.Facts.{content, after, after_all, decided, found}
 use Rattle.vx_facts.specs.Checking.{has_numbers, side_of, GoesTo}
 use Rattle.vx_facts.specs.Rewriting.{is_readable, read_if, improved, improved_all, split_by, narrowed_exit, narrowed_block, narrowed_from, narrowed_graph, narrowed_functions}
 use Rattle.vx_facts.proofs.Ranges.{and_one, and_two}

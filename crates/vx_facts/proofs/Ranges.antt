@@ -16,7 +16,10 @@ use Rattle.vx_base.proofs.ArithmeticLaws.{value_fits_law}
 use Rattle.vx_flow.specs.declared.graph.Operand.{Operand}
 use Rattle.vx_flow.specs.declared.graph.Operand.TheVariants.{Held, Number, Stack}
 use Rattle.vx_flow.specs.Effects.{Content, both, computed, is_unary}
-use Rattle.vx_facts.specs.Facts.{Interval, least, greatest, full, Within, Fact, Between, Equals, content, Holds, AllHold, meet, meet_if, range, range_of, fitting, sum_within, difference_within, up_to, is_above, and_within, remainder_within, times_if, low_product_within, high_product_within, zero_only, bit, result_within}
+use Rattle.vx_facts.specs.declared.intervals.Interval.{Interval}
+use Rattle.vx_facts.specs.declared.fact.Fact.{Fact}
+use Rattle.vx_facts.specs.declared.fact.Fact.TheVariants.{Between, Equals}
+use Rattle.vx_facts.specs.Facts.{least, greatest, full, Within, content, Holds, AllHold, meet, meet_if, range, range_of, fitting, sum_within, difference_within, up_to, is_above, and_within, remainder_within, times_if, low_product_within, high_product_within, zero_only, bit, result_within}
 
 pub number_within : (z : ℤ) → IsNumber z → Within full (Some z)
 number_within (pos n) f = (omega (arith, ints), omega (arith, ints, f.sfits))
@@ -196,10 +199,10 @@ up_to_holds : (t : Bool) (high z : ℤ) (i : Interval) → (t ≡ true → Withi
 up_to_holds true high z i h k = h refl
 up_to_holds false high z i h k = k
 
-above_holds : (n : ℤ) (i : Interval) (x : ℤ) → is_above n i ≡ true → Within i (Some x) → (n ≤ℤ x) × (x ≤ℤ greatest)
+pub above_holds : (n : ℤ) (i : Interval) (x : ℤ) → is_above n i ≡ true → Within i (Some x) → (n ≤ℤ x) × (x ≤ℤ greatest)
 above_holds n i x e h =
-    let a : n ≤ℤ i.low = le_holds n i.low (and_one (int_le n i.low) (int_le i.high greatest) e) in
-    let b : i.high ≤ℤ greatest = le_holds i.high greatest (and_two (int_le n i.low) (int_le i.high greatest) e) in
+    let a : n ≤ℤ i.low = le_holds n i.low (and_one (int_le n i.low) (int_le n i.high && int_le i.high greatest) e) in
+    let b : i.high ≤ℤ greatest = le_holds i.high greatest (and_two (int_le n i.high) (int_le i.high greatest) (and_two (int_le n i.low) (int_le n i.high && int_le i.high greatest) e)) in
     let h0 : i.low ≤ℤ x = h.0 in let h1 : x ≤ℤ i.high = h.1 in
     (omega (arith, ints), omega (arith, ints))
 

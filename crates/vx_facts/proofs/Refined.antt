@@ -14,7 +14,7 @@ use Rattle.vx_flow.specs.Agree.{SameWorld, Agree}
 use Rattle.vx_flow.specs.Effects.{Content, State, Setting, IsIn}
 use Rattle.vx_flow.specs.Meaning.{Hop, Arrives, Calls, Leaves, Stops, Wrong, hop_of, Body, Program, Frame, Active, deepest, undefined, at_entry, entered, enters, with_result, returned, waits, after_hop, body_hop, hop, next, own_of, body_of, program_of, setting_of, globals_at_start, entered_or, start, graph_run}
 use Rattle.vx_flow.proofs.EffectsAlike.{Refined}
-use Rattle.vx_facts.specs.Facts.{Fact}
+use Rattle.vx_facts.specs.declared.fact.Fact.{Fact}
 use Rattle.vx_facts.specs.Checking.{Checked}
 use Rattle.vx_facts.proofs.Operations.{Good}
 use Rattle.vx_facts.proofs.RunFacts.{ActiveGood, next_good, start_good}

@@ -15,7 +15,10 @@ use Rattle.vx_flow.specs.declared.graph.Global.{Global}
 use Rattle.vx_flow.specs.declared.graph.Flow.{Flow}
 use Rattle.vx_flow.specs.Effects.{Content, State, Setting, IsIn, held, is_one, effect}
 use Rattle.vx_flow.specs.Meaning.{Hop, Arrives, Calls, Leaves, Stops, Wrong, known, with_front, by_test, calls, leaves, leave, and_then, block_hop, hop_of, Body, Program, Frame, Active, deepest, undefined, at_entry, entered, enters, with_result, returned, waits, after_hop, body_hop, hop, next, own_of, body_of, program_of, setting_of, words_at_start, globals_at_start, entered_or, at_start, start}
-use Rattle.vx_facts.specs.Facts.{Interval, full, Within, Fact, Between, Equals, AllHold, range, without, after, after_all, on_side, decided}
+use Rattle.vx_facts.specs.declared.intervals.Interval.{Interval}
+use Rattle.vx_facts.specs.declared.fact.Fact.{Fact}
+use Rattle.vx_facts.specs.declared.fact.Fact.TheVariants.{Between, Equals}
+use Rattle.vx_facts.specs.Facts.{full, Within, AllHold, range, without, after, after_all, on_side, decided}
 use Rattle.vx_facts.specs.Checking.{is_number, has_number, has_numbers, is_inside, gives, give, without_result, is_exit_checked, is_block_checked, Checked, Leads, FactsHold, side_of, GoesTo, DecidedGoes}
 use Rattle.vx_facts.proofs.Ranges.{number_within, and_one, and_two, le_holds, Fit, range_holds}
 use Rattle.vx_facts.proofs.Equal.{has_holds}

@@ -18,7 +18,9 @@ use Rattle.vx_flow.specs.Agree.{SameWorld, Agree}
 use Rattle.vx_flow.specs.Effects.{Content, State, Setting, IsIn, held, both, computed, is_unary, is_one, effect, with_value, reads, writes, value_in}
 use Rattle.vx_flow.specs.Meaning.{Hop, Arrives, Calls, Leaves, Stops, Wrong, known, with_front, by_test, calls, leaves, leave, and_then, block_hop, hop_of}
 use Rattle.vx_flow.proofs.EffectsAlike.{Refined, Done, effect_alike, with_value_agrees}
-use Rattle.vx_facts.specs.Facts.{Interval, full, Within, Fact, content, AllHold, range_of, after, after_all, decided, compare_decided, found}
+use Rattle.vx_facts.specs.declared.intervals.Interval.{Interval}
+use Rattle.vx_facts.specs.declared.fact.Fact.{Fact}
+use Rattle.vx_facts.specs.Facts.{full, Within, content, AllHold, range_of, after, after_all, decided, compare_decided, found}
 use Rattle.vx_facts.specs.Checking.{has_number, has_numbers, side_of}
 use Rattle.vx_facts.specs.Rewriting.{is_readable, read_if, improved, split_by, narrowed_exit}
 use Rattle.vx_facts.specs.Settling.{number_if, is_zero_only, move_if, settled, settled_all, settled_block}

@@ -15,7 +15,8 @@ use Rattle.vx_flow.specs.Effects.{IsIn}
 use Rattle.vx_flow.specs.Meaning.{graph_run}
 use Rattle.vx_flow.specs.Sound.{targets_of, is_sound_flow}
 use Rattle.vx_lower.specs.FlowOf.{AreNumbers, EndsBy, IsEdge, GraphOf, RunsAs, FlowOf}
-use Rattle.vx_facts.specs.Facts.{Fact, after, after_all, decided}
+use Rattle.vx_facts.specs.declared.fact.Fact.{Fact}
+use Rattle.vx_facts.specs.Facts.{after, after_all, decided}
 use Rattle.vx_facts.specs.Checking.{Checked, side_of}
 use Rattle.vx_facts.specs.Rewriting.{improved_all, split_by, narrowed_exit, narrowed_block, narrowed_from, narrowed_graph, narrowed_functions, narrowed}
 use Rattle.vx_facts.proofs.Narrows.{get_block, get_function}

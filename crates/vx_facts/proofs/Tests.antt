@@ -12,8 +12,11 @@ use Rattle.vx_base.proofs.ArithmeticLaws.{opposite as opposite_there, compare_of
 use Rattle.vx_flow.specs.declared.graph.Operand.{Operand}
 use Rattle.vx_flow.specs.declared.graph.Operand.TheVariants.{Held, Number, Stack}
 use Rattle.vx_flow.specs.Effects.{Content, both, computed, is_one}
-use Rattle.vx_facts.specs.Facts.{Interval, least, greatest, full, Within, Fact, Between, Equals, content, Holds, AllHold, range, range_of, opposite, below_unsigned, left_within, right_within, operand_between, compared, came_out, learned_if, learned, on_side, always, answer_of, compare_decided, first_of, decided_if, decided_by, decided}
-use Rattle.vx_facts.proofs.Ranges.{and_one, and_two, le_holds, lt_holds, within_number, Fit, range_of_holds}
+use Rattle.vx_facts.specs.declared.intervals.Interval.{Interval}
+use Rattle.vx_facts.specs.declared.fact.Fact.{Fact}
+use Rattle.vx_facts.specs.declared.fact.Fact.TheVariants.{Between, Equals}
+use Rattle.vx_facts.specs.Facts.{least, greatest, full, Within, content, Holds, AllHold, range, range_of, opposite, is_above, one_less, one_more, below_unsigned, left_within, right_within, operand_between, compared, came_out, learned_if, learned, on_side, always, answer_of, compare_decided, first_of, decided_if, decided_by, decided}
+use Rattle.vx_facts.proofs.Ranges.{and_one, and_two, le_holds, lt_holds, within_number, Fit, range_of_holds, above_holds}
 
 opposite_is : (c : Compare) → opposite c ≡ opposite_there c
 opposite_is Eq = refl
@@ -44,27 +47,37 @@ true_below x (pos n) f h l k = let s : n < 2 ^ 31 = omega (arith, ints) in (inde
 true_below x (negsuc n) f h l k = absurd (omega (arith, ints))
 
 below_holds : (x y : ℤ) (j : Interval) → compare_of Ltu x y ≡ true → Within j (Some y) → Within full (Some x) → Within (below_unsigned j) (Some x)
-below_holds x y j e k f = by (int_le (pos 0) j.low && int_le j.high greatest) refl
+below_holds x y j e k f = by (is_above (pos 0) j) refl
   where
-    by : (t : Bool) → (int_le (pos 0) j.low && int_le j.high greatest) ≡ t → Within (cond t (record { low = pos 0; high = j.high -ℤ pos 1 }) full) (Some x)
+    by : (t : Bool) → is_above (pos 0) j ≡ t → Within (cond t (record { low = pos 0; high = j.high -ℤ pos 1 }) full) (Some x)
     by true q =
-        let l : pos 0 ≤ℤ j.low = le_holds (pos 0) j.low (and_one (int_le (pos 0) j.low) (int_le j.high greatest) q) in
-        let g : j.high ≤ℤ greatest = le_holds j.high greatest (and_two (int_le (pos 0) j.low) (int_le j.high greatest) q) in
-        let k0 : j.low ≤ℤ y = k.0 in
+        let a = above_holds (pos 0) j y q k in
         let k1 : y ≤ℤ j.high = k.1 in
-        let a : pos 0 ≤ℤ y = omega (arith, ints) in
-        let b : y ≤ℤ greatest = omega (arith, ints) in
-        let r = below_true x y (within_number x f) a b e in
+        let r = below_true x y (within_number x f) a.0 a.1 e in
         let r1 : x <ℤ y = r.1 in
         (r.0, omega (arith, ints))
     by false q = f
 
+less_holds : (x n : ℤ) → least ≤ℤ x → x <ℤ n → x ≤ℤ one_less n
+less_holds x n f l = by (int_le n least) refl
+  where
+    by : (t : Bool) → int_le n least ≡ t → x ≤ℤ cond t least (n -ℤ pos 1)
+    by true e = let a : n ≤ℤ least = le_holds n least e in absurd (omega (arith, ints))
+    by false e = omega (arith, ints)
+
+more_holds : (x n : ℤ) → x ≤ℤ greatest → n <ℤ x → one_more n ≤ℤ x
+more_holds x n f l = by (int_le greatest n) refl
+  where
+    by : (t : Bool) → int_le greatest n ≡ t → cond t greatest (n +ℤ pos 1) ≤ℤ x
+    by true e = let a : greatest ≤ℤ n = le_holds greatest n e in absurd (omega (arith, ints))
+    by false e = omega (arith, ints)
+
 pub left_holds : (c : Compare) (x y : ℤ) (j : Interval) → compare_of c x y ≡ true → Within j (Some y) → Within full (Some x) → Within (left_within c j) (Some x)
 left_holds Eq x y j e k f = subst (λ z. Within j (Some z)) (sym (equal-true x y e)) k
 left_holds Ne x y j e k f = f
-left_holds Lt x y j e k f = let l : x <ℤ y = lt_holds x y e in (f.0, omega (arith, ints, k.1))
+left_holds Lt x y j e k f = let l : x <ℤ y = lt_holds x y e in let k1 : y ≤ℤ j.high = k.1 in let m : x <ℤ j.high = omega (arith, ints) in (f.0, less_holds x j.high f.0 m)
 left_holds Le x y j e k f = let l : x ≤ℤ y = le_holds x y e in (f.0, omega (arith, ints, k.1))
-left_holds Gt x y j e k f = let l : y <ℤ x = lt_holds y x e in (omega (arith, ints, k.0), f.1)
+left_holds Gt x y j e k f = let l : y <ℤ x = lt_holds y x e in let k0 : j.low ≤ℤ y = k.0 in let m : j.low <ℤ x = omega (arith, ints) in (more_holds x j.low f.1 m, f.1)
 left_holds Ge x y j e k f = let l : y ≤ℤ x = le_holds y x e in (omega (arith, ints, k.0), f.1)
 left_holds Ltu x y j e k f = below_holds x y j e k f
 left_holds Geu x y j e k f = f
@@ -72,9 +85,9 @@ left_holds Geu x y j e k f = f
 pub right_holds : (c : Compare) (x y : ℤ) (i : Interval) → compare_of c x y ≡ true → Within i (Some x) → Within full (Some y) → Within (right_within c i) (Some y)
 right_holds Eq x y i e k f = subst (λ z. Within i (Some z)) (equal-true x y e) k
 right_holds Ne x y i e k f = f
-right_holds Lt x y i e k f = let l : x <ℤ y = lt_holds x y e in (omega (arith, ints, k.0), f.1)
+right_holds Lt x y i e k f = let l : x <ℤ y = lt_holds x y e in let k0 : i.low ≤ℤ x = k.0 in let m : i.low <ℤ y = omega (arith, ints) in (more_holds y i.low f.1 m, f.1)
 right_holds Le x y i e k f = let l : x ≤ℤ y = le_holds x y e in (omega (arith, ints, k.0), f.1)
-right_holds Gt x y i e k f = let l : y <ℤ x = lt_holds y x e in (f.0, omega (arith, ints, k.1))
+right_holds Gt x y i e k f = let l : y <ℤ x = lt_holds y x e in let k1 : x ≤ℤ i.high = k.1 in let m : y <ℤ i.high = omega (arith, ints) in (f.0, less_holds y i.high f.0 m)
 right_holds Ge x y i e k f = let l : y ≤ℤ x = le_holds y x e in (f.0, omega (arith, ints, k.1))
 right_holds Ltu x y i e k f = f
 right_holds Geu x y i e k f = f

@@ -15,7 +15,10 @@ use Rattle.vx_flow.specs.declared.graph.Global.{Global}
 use Rattle.vx_flow.specs.declared.graph.Flow.{Flow}
 use Rattle.vx_flow.specs.Effects.{IsIn, State}
 use Rattle.vx_flow.specs.Meaning.{Hop, Arrives, Wrong, Active, hop, next, program_of, start}
-use Rattle.vx_facts.specs.Facts.{Interval, Fact, Between, Equals, AllHold, least, greatest, range, without, after_all, on_side, decided, has_equals}
+use Rattle.vx_facts.specs.declared.intervals.Interval.{Interval}
+use Rattle.vx_facts.specs.declared.fact.Fact.{Fact}
+use Rattle.vx_facts.specs.declared.fact.Fact.TheVariants.{Between, Equals}
+use Rattle.vx_facts.specs.Facts.{AllHold, least, greatest, range, without, after_all, on_side, decided, has_equals}
 
 -- the check of one block
 

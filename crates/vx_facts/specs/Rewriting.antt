@@ -16,7 +16,8 @@ use Rattle.vx_flow.specs.declared.graph.Graph.{Graph}
 use Rattle.vx_flow.specs.declared.graph.Flow.{Flow}
 use Rattle.vx_flow.specs.Effects.{IsIn}
 use Rattle.vx_flow.specs.Meaning.{graph_run}
-use Rattle.vx_facts.specs.Facts.{Fact, after, after_all, decided, found}
+use Rattle.vx_facts.specs.declared.fact.Fact.{Fact}
+use Rattle.vx_facts.specs.Facts.{after, after_all, decided, found}
 use Rattle.vx_facts.specs.Checking.{Checked, side_of}
 
 abbrev pub split_by : Option Bool → ℕ → ℕ → ℕ → Exit

@@ -10,7 +10,9 @@ use Rattle.vx_flow.specs.declared.graph.Op.{Op}
 use Rattle.vx_flow.specs.declared.graph.Op.TheVariants.{Compute}
 use Rattle.vx_flow.specs.declared.graph.Block.{Block}
 use Rattle.vx_flow.specs.declared.graph.Graph.{Graph}
-use Rattle.vx_facts.specs.Facts.{Interval, Fact, range_of, after, after_all, compare_decided}
+use Rattle.vx_facts.specs.declared.intervals.Interval.{Interval}
+use Rattle.vx_facts.specs.declared.fact.Fact.{Fact}
+use Rattle.vx_facts.specs.Facts.{range_of, after, after_all, compare_decided}
 use Rattle.vx_facts.specs.Rewriting.{narrowed_exit, improved}
 
 abbrev pub number_if : Option Bool → Op → ℕ → Op

@@ -4,7 +4,7 @@ use Rattle.vx_ast.specs.Tree.{Program}
 use Rattle.vx_flow.specs.declared.graph.Flow.{Flow}
 use Rattle.vx_flow.specs.Sound.{is_sound_flow}
 use Rattle.vx_lower.specs.FlowOf.{FlowOf}
-use Rattle.vx_facts.specs.Facts.{Fact}
+use Rattle.vx_facts.specs.declared.fact.Fact.{Fact}
 use Rattle.vx_facts.specs.Checking.{Checked}
 use Rattle.vx_facts.specs.Rewriting.{narrowed}
 

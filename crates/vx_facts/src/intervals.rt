@@ -1,8 +1,9 @@
-// Intervals of numbers, and where a value lies by all that is said of it.
+// Intervals of numbers of 32 bits: what operations give, and what a test says of its operands.
 
-ghost use Rattle.std.specs.Prelude.{◌≡◌, ◌+ℤ◌, ◌-ℤ◌, map};
-ghost use Rattle.vx_facts.specs.Facts.{difference_within, fitting, meet as meeting, range as range_in, sum_within};
-ghost use Rattle.vx_facts.specs.Views.{fact_of, interval_of};
+ghost use Rattle.std.specs.Prelude.{◌≡◌, ◌+ℤ◌, ◌-ℤ◌, ◌*ℤ◌, ◌&&◌, int_le};
+ghost use Rattle.vx_facts.specs.Facts.{always, and_within, answer_of, below_unsigned, bit, compare_decided, difference_within, fitting, full, high_product_within, is_above, left_within, low_product_within, meet, one_less, one_more, opposite, remainder_within, result_within, right_within, sum_within, times_if, up_to};
+
+use vx_base::arithmetic::{Code, Compare};
 
 /// The numbers from one to another.
 #[derive(Clone, Copy, Debug)]
@@ -11,16 +12,19 @@ pub struct Interval {
     pub high: i32,
 }
 
-/// A value lies in an interval.
-#[derive(Clone, Copy, Debug)]
-pub struct Bound {
-    pub value: u32,
-    pub within: Interval,
+/// Every number.
+pub fn full() -> Interval
+    ensures { result ≡ full }
+{
+    Interval {
+        low: i32::MIN,
+        high: i32::MAX,
+    }
 }
 
 /// What both intervals have.
 pub fn meet(i: Interval, j: Interval) -> Interval
-    ensures { interval_of result ≡ meeting (interval_of i) (interval_of j) }
+    ensures { result ≡ meet i j }
 {
     Interval {
         low: i.low.max(j.low),
@@ -30,7 +34,7 @@ pub fn meet(i: Interval, j: Interval) -> Interval
 
 /// From one number to the other, where there are such numbers and none of them wraps.
 fn fit(low: i64, high: i64) -> Interval
-    ensures { interval_of result ≡ fitting low high }
+    ensures { result ≡ fitting low high }
 {
     if i64::from(i32::MIN) <= low && high <= i64::from(i32::MAX) && low <= high {
         Interval {
@@ -60,35 +64,246 @@ fn gap(a: i32, b: i32) -> i64
 }
 
 /// Where a sum lies.
-pub fn sum(i: Interval, j: Interval) -> Interval
-    ensures { interval_of result ≡ sum_within (interval_of i) (interval_of j) }
+fn sum(i: Interval, j: Interval) -> Interval
+    ensures { result ≡ sum_within i j }
 {
     fit(total(i.low, j.low), total(i.high, j.high))
 }
 
 /// Where a difference lies.
-pub fn difference(i: Interval, j: Interval) -> Interval
-    ensures { interval_of result ≡ difference_within (interval_of i) (interval_of j) }
+fn difference(i: Interval, j: Interval) -> Interval
+    ensures { result ≡ difference_within i j }
 {
     fit(gap(i.low, j.high), gap(i.high, j.low))
 }
 
-/// Where a value lies by all bounds.
-pub fn range(bounds: &[Bound], value: u32) -> Interval
-    ensures { interval_of result ≡ range_in (map fact_of bounds.now) value }
+fn up_to(test: bool, high: i32, otherwise: Interval) -> Interval
+    ensures { result ≡ up_to test high otherwise }
 {
-    match bounds {
-        [] => Interval {
-            low: i32::MIN,
-            high: i32::MAX,
-        },
-        [first, rest @ ..] => {
-            let others = range(rest, value);
-            if first.value == value {
-                meet(first.within, others)
-            } else {
-                others
-            }
+    if test {
+        Interval { low: 0, high }
+    } else {
+        otherwise
+    }
+}
+
+fn is_above(least: i32, i: Interval) -> bool
+    ensures { result ≡ is_above least i }
+{
+    least <= i.low && (least <= i.high && i.high <= i32::MAX)
+}
+
+/// Where the bits set in both lie.
+fn both(i: Interval, j: Interval) -> Interval
+    ensures { result ≡ and_within i j }
+{
+    up_to(
+        is_above(0, j),
+        j.high,
+        up_to(is_above(0, i), i.high, full()),
+    )
+}
+
+/// Where a remainder lies.
+fn remainder(i: Interval, j: Interval) -> Interval
+    ensures { result ≡ remainder_within i j }
+{
+    if is_above(0, i) && is_above(1, j) {
+        up_to(true, j.high - 1, full())
+    } else {
+        full()
+    }
+}
+
+/// A product that does not wrap.
+fn scaled(a: i32, b: i32) -> i64
+    ensures { result ≡ a *ℤ b }
+{
+    i64::from(a) * i64::from(b)
+}
+
+/// Where a product with one number lies, where the test holds.
+pub fn times_if(test: bool, i: Interval, number: i32) -> Interval
+    ensures { result ≡ times_if test i number }
+{
+    if test {
+        fit(scaled(i.low, number), scaled(i.high, number))
+    } else {
+        full()
+    }
+}
+
+/// Where the product with the low half of a number lies.
+fn low_product(i: Interval, j: Interval) -> Interval
+    ensures { result ≡ low_product_within i j }
+{
+    times_if(
+        j.high <= j.low && (0 <= j.low && j.high <= 65535),
+        i,
+        j.low,
+    )
+}
+
+/// Where the product with the high half of a number lies.
+fn high_product(j: Interval) -> Interval
+    ensures { result ≡ high_product_within j }
+{
+    if 0 <= j.low && j.high <= 65535 {
+        Interval { low: 0, high: 0 }
+    } else {
+        full()
+    }
+}
+
+/// 0 or 1.
+pub fn bit() -> Interval
+    ensures { result ≡ bit }
+{
+    Interval { low: 0, high: 1 }
+}
+
+/// Where the result of an operation lies.
+pub fn result_within(code: Code, i: Interval, j: Interval) -> Interval
+    ensures { result ≡ result_within code i j }
+{
+    match code {
+        Code::Add => sum(i, j),
+        Code::Sub => difference(i, j),
+        Code::And => both(i, j),
+        Code::Mpylu => low_product(i, j),
+        Code::Mpyhs => high_product(j),
+        Code::Rem => remainder(i, j),
+        Code::Mov => i,
+        Code::ToGeneral(_) => bit(),
+        Code::ToBranch(_) => bit(),
+        Code::Or => full(),
+        Code::Xor => full(),
+        Code::Shl => full(),
+        Code::Shr => full(),
+        Code::Shru => full(),
+        Code::Sh2add => full(),
+        Code::Max => full(),
+        Code::Min => full(),
+        Code::Div => full(),
+    }
+}
+
+/// The compare that holds where another one fails.
+pub fn opposite(compare: Compare) -> Compare
+    ensures { result ≡ opposite compare }
+{
+    match compare {
+        Compare::Eq => Compare::Ne,
+        Compare::Ne => Compare::Eq,
+        Compare::Lt => Compare::Ge,
+        Compare::Le => Compare::Gt,
+        Compare::Gt => Compare::Le,
+        Compare::Ge => Compare::Lt,
+        Compare::Ltu => Compare::Geu,
+        Compare::Geu => Compare::Ltu,
+    }
+}
+
+fn one_less(number: i32) -> i32
+    ensures { result ≡ one_less number }
+{
+    if number <= i32::MIN { i32::MIN } else { number - 1 }
+}
+
+fn one_more(number: i32) -> i32
+    ensures { result ≡ one_more number }
+{
+    if i32::MAX <= number { i32::MAX } else { number + 1 }
+}
+
+fn below_unsigned(j: Interval) -> Interval
+    ensures { result ≡ below_unsigned j }
+{
+    if is_above(0, j) {
+        Interval {
+            low: 0,
+            high: j.high - 1,
         }
+    } else {
+        full()
+    }
+}
+
+fn at_most(high: i32) -> Interval
+    ensures { result ≡ record full { high = high } }
+{
+    Interval {
+        low: i32::MIN,
+        high,
+    }
+}
+
+fn at_least(low: i32) -> Interval
+    ensures { result ≡ record full { low = low } }
+{
+    Interval {
+        low,
+        high: i32::MAX,
+    }
+}
+
+/// Where the left operand lies if a compare with a number of the interval holds.
+pub fn left_within(compare: Compare, j: Interval) -> Interval
+    ensures { result ≡ left_within compare j }
+{
+    match compare {
+        Compare::Eq => j,
+        Compare::Ne => full(),
+        Compare::Lt => at_most(one_less(j.high)),
+        Compare::Le => at_most(j.high),
+        Compare::Gt => at_least(one_more(j.low)),
+        Compare::Ge => at_least(j.low),
+        Compare::Ltu => below_unsigned(j),
+        Compare::Geu => full(),
+    }
+}
+
+/// Where the right operand lies if a compare of a number of the interval holds.
+pub fn right_within(compare: Compare, i: Interval) -> Interval
+    ensures { result ≡ right_within compare i }
+{
+    match compare {
+        Compare::Eq => i,
+        Compare::Ne => full(),
+        Compare::Lt => at_least(one_more(i.low)),
+        Compare::Le => at_least(i.low),
+        Compare::Gt => at_most(one_less(i.high)),
+        Compare::Ge => at_most(i.high),
+        Compare::Ltu => full(),
+        Compare::Geu => full(),
+    }
+}
+
+/// Whether a compare of numbers of two intervals always holds.
+pub fn always(compare: Compare, i: Interval, j: Interval) -> bool
+    ensures { result ≡ always compare i j }
+{
+    match compare {
+        Compare::Eq => false,
+        Compare::Ne => i.high < j.low || j.high < i.low,
+        Compare::Lt => i.high < j.low,
+        Compare::Le => i.high <= j.low,
+        Compare::Gt => j.high < i.low,
+        Compare::Ge => j.high <= i.low,
+        Compare::Ltu => (0 <= i.low && i.high < j.low) && j.high <= i32::MAX,
+        Compare::Geu => (0 <= j.low && j.high <= i.low) && i.high <= i32::MAX,
+    }
+}
+
+/// How a compare of numbers of two intervals comes out, where it always comes out so.
+pub fn compare_decided(compare: Compare, i: Interval, j: Interval) -> Option<bool>
+    ensures { result ≡ compare_decided compare i j }
+{
+    if always(compare, i, j) {
+        Some(true)
+    } else if always(opposite(compare), i, j) {
+        Some(false)
+    } else {
+        None
     }
 }

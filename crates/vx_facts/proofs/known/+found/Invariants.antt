@@ -1,0 +1,5 @@
+use Rattle.std.proofs.Common.{length, ℕ}
+use Rattle.vx_facts.proofs.known.+found.Given as goal
+
+abbrev pub decreases-found : goal.decreases-found
+decreases-found l = length l.facts.now

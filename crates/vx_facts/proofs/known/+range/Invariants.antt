@@ -1,0 +1,5 @@
+use Rattle.std.proofs.Common.{length, ℕ}
+use Rattle.vx_facts.proofs.known.+range.Given as goal
+
+abbrev pub decreases-range : goal.decreases-range
+decreases-range l = length l.facts.now

@@ -1,0 +1,249 @@
+// What an operation leaves of a list of facts, and what the answer of a test adds to it.
+
+ghost use Rattle.std.specs.Prelude.{◌≡◌, ◌==◌, ◌||◌, ◌++◌, [], ◌∷◌, IfOk};
+ghost use Rattle.vx_flow.specs.declared.graph.Op.TheVariants.{Compute};
+ghost use Rattle.vx_facts.specs.declared.fact.Fact.TheVariants.{Between};
+ghost use Rattle.vx_facts.specs.Facts.{after, came_out, compared, is_held, learned, learned_if, names, on_side, operand_between, without};
+
+use crate::fact::Fact;
+use crate::intervals::{Interval, bit, left_within, opposite, result_within, right_within, times_if};
+use crate::known::range_of;
+use std::alloc::Global;
+use vx_base::arithmetic::{Code, Compare};
+use vx_base::listed::Listed;
+use vx_base::outcome::NoMemory;
+use vx_flow::graph::{Op, Operand, Value};
+
+fn is_held(value: Value, operand: Operand) -> bool
+    ensures { result ≡ is_held value operand }
+{
+    match operand {
+        Operand::Held(other) => other == value,
+        Operand::Number(_) => false,
+        Operand::Stack => false,
+    }
+}
+
+/// Whether a fact is about a value, or about an operation that reads it.
+fn names(value: Value, fact: Fact) -> bool
+    ensures { result ≡ names value fact }
+{
+    match fact {
+        Fact::Between { value: named, .. } => named == value,
+        Fact::Equals {
+            value: named,
+            left,
+            right,
+            ..
+        } => named == value || (is_held(value, left) || is_held(value, right)),
+    }
+}
+
+/// Puts the facts that do not name a value at the end of a list.
+fn append_without(list: &mut Listed<Fact>, facts: &[Fact], value: Value) -> Result<(), NoMemory>
+    ensures { IfOk result (λ _. list.new ≡ list.old ++ without value facts.now) }
+{
+    for fact in facts {
+        if !names(value, *fact) {
+            list.push(*fact)?;
+        }
+    }
+    Ok(())
+}
+
+/// The facts that do not name a value.
+pub fn without(alloc: Global, facts: &[Fact], value: Value) -> Result<Listed<Fact>, NoMemory>
+    ensures { IfOk result (λ left. left ≡ without value facts.now) }
+{
+    let mut left = Listed::new(alloc);
+    append_without(&mut left, facts, value)?;
+    Ok(left)
+}
+
+/// A copy of the facts.
+pub fn copied(alloc: Global, facts: &[Fact]) -> Result<Listed<Fact>, NoMemory>
+    ensures { IfOk result (λ copy. copy ≡ facts.now) }
+{
+    Ok(Listed::from_vec(facts.to_vec(alloc)?)?)
+}
+
+/// Puts what a computation gives, and what it leaves, at the end of a list.
+fn append_computed(
+    list: &mut Listed<Fact>,
+    facts: &[Fact],
+    code: Code,
+    to: Value,
+    left: Operand,
+    right: Operand,
+) -> Result<(), NoMemory>
+    ensures { IfOk result (λ _. list.new ≡ list.old ++ after facts.now (Compute code to left right)) }
+{
+    let within = result_within(code, range_of(facts, left), range_of(facts, right));
+    list.push(Fact::Between { value: to, within })?;
+    if !(is_held(to, left) || is_held(to, right)) {
+        list.push(Fact::Equals {
+            value: to,
+            code,
+            left,
+            right,
+        })?;
+    }
+    append_without(list, facts, to)
+}
+
+/// What a place gives, and what it leaves.
+fn append_within(
+    list: &mut Listed<Fact>,
+    facts: &[Fact],
+    to: Value,
+    within: Interval,
+) -> Result<(), NoMemory>
+    ensures { IfOk result (λ _. list.new ≡ list.old ++ Between to within ∷ without to facts.now) }
+{
+    list.push(Fact::Between { value: to, within })?;
+    append_without(list, facts, to)
+}
+
+/// The facts behind an operation.
+pub fn after(alloc: Global, facts: &[Fact], op: &Op) -> Result<Listed<Fact>, NoMemory>
+    ensures { IfOk result (λ behind. behind ≡ after facts.now op.now) }
+{
+    let mut behind = Listed::new(alloc);
+    append_after(&mut behind, facts, op)?;
+    Ok(behind)
+}
+
+fn append_after(list: &mut Listed<Fact>, facts: &[Fact], op: &Op) -> Result<(), NoMemory>
+    ensures { IfOk result (λ _. list.new ≡ list.old ++ after facts.now op.now) }
+{
+    match op {
+        Op::Compute {
+            code,
+            to,
+            left,
+            right,
+        } => append_computed(list, facts, *code, *to, *left, *right),
+        Op::Select { to, .. } => append_without(list, facts, *to),
+        Op::Place { to, index, .. } => {
+            append_within(list, facts, *to, times_if(true, range_of(facts, *index), 4))
+        }
+        Op::Load { to, .. } => append_without(list, facts, *to),
+        Op::Store { .. } => append_all(list, facts),
+        Op::More { to } => append_within(list, facts, *to, bit()),
+        Op::Input { to } => append_without(list, facts, *to),
+        Op::Text { .. } => append_all(list, facts),
+        Op::Decimal { .. } => append_all(list, facts),
+        Op::Across { to, .. } => append_without(list, facts, *to),
+    }
+}
+
+fn append_all(list: &mut Listed<Fact>, facts: &[Fact]) -> Result<(), NoMemory>
+    ensures { IfOk result (λ _. list.new ≡ list.old ++ facts.now) }
+{
+    for fact in facts {
+        list.push(*fact)?;
+    }
+    Ok(())
+}
+
+fn append_between(
+    list: &mut Listed<Fact>,
+    operand: Operand,
+    within: Interval,
+) -> Result<(), NoMemory>
+    ensures { IfOk result (λ _. list.new ≡ list.old ++ operand_between operand within) }
+{
+    match operand {
+        Operand::Held(value) => {
+            list.push(Fact::Between { value, within })?;
+            Ok(())
+        }
+        Operand::Number(_) => Ok(()),
+        Operand::Stack => Ok(()),
+    }
+}
+
+fn append_compared(
+    list: &mut Listed<Fact>,
+    facts: &[Fact],
+    compare: Compare,
+    left: Operand,
+    right: Operand,
+) -> Result<(), NoMemory>
+    ensures { IfOk result (λ _. list.new ≡ list.old ++ compared facts.now compare left right) }
+{
+    append_between(list, left, left_within(compare, range_of(facts, right)))?;
+    append_between(list, right, right_within(compare, range_of(facts, left)))
+}
+
+fn append_learned_if(
+    list: &mut Listed<Fact>,
+    test: bool,
+    facts: &[Fact],
+    answer: bool,
+    code: Code,
+    left: Operand,
+    right: Operand,
+) -> Result<(), NoMemory>
+    ensures { IfOk result (λ _. list.new ≡ list.old ++ learned_if test facts.now answer code left right) }
+{
+    if !test {
+        return Ok(());
+    }
+    match code {
+        Code::ToBranch(compare) => {
+            let holds = if answer { compare } else { opposite(compare) };
+            append_compared(list, facts, holds, left, right)
+        }
+        _ => Ok(()),
+    }
+}
+
+fn append_one(
+    list: &mut Listed<Fact>,
+    facts: &[Fact],
+    answer: bool,
+    test: Value,
+    fact: Fact,
+) -> Result<(), NoMemory>
+    ensures { IfOk result (λ _. list.new ≡ list.old ++ learned facts.now answer test (fact ∷ [])) }
+{
+    match fact {
+        Fact::Between { .. } => Ok(()),
+        Fact::Equals {
+            value,
+            code,
+            left,
+            right,
+        } => append_learned_if(list, value == test, facts, answer, code, left, right),
+    }
+}
+
+fn append_learned(
+    list: &mut Listed<Fact>,
+    facts: &[Fact],
+    answer: bool,
+    test: Value,
+) -> Result<(), NoMemory>
+    ensures { IfOk result (λ _. list.new ≡ list.old ++ learned facts.now answer test facts.now) }
+{
+    for fact in facts {
+        append_one(list, facts, answer, test, *fact)?;
+    }
+    Ok(())
+}
+
+/// The facts on the side of a split where its test has an answer.
+pub fn on_side(
+    alloc: Global,
+    facts: &[Fact],
+    answer: bool,
+    test: Value,
+) -> Result<Listed<Fact>, NoMemory>
+    ensures { IfOk result (λ there. there ≡ on_side facts.now answer test) }
+{
+    let mut there = Listed::new(alloc);
+    append_learned(&mut there, facts, answer, test)?;
+    append_all(&mut there, facts)?;
+    Ok(there)
+}
