@@ -1,6 +1,7 @@
 // Laws of checked facts, each the clause of a function that does nothing.
 
 ghost use Rattle.vx_facts.specs.Checking.{DecidedGoes, FactsHold};
+ghost use Rattle.vx_facts.specs.Narrowing.{NarrowedStays};
 ghost use Rattle.vx_facts.specs.Rewriting.{NarrowedRuns};
 ghost use Rattle.vx_facts.specs.Staying.{StaysFlow};
 
@@ -22,4 +23,9 @@ pub fn narrowed_runs_stay()
 /// A flow of a program stays one.
 pub fn flow_stays()
     ensures { StaysFlow }
+{}
+
+/// A flow of a program stays one where each of its graphs is narrowed by claims of its own.
+pub fn narrowed_graphs_stay()
+    ensures { NarrowedStays }
 {}
