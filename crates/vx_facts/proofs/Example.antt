@@ -1,20 +1,18 @@
 -- A loop to 100 over an array of 100 words: its check is decided.
-use Rattle.std.proofs.Common.{◌≡◌, ℕ, zero, suc, Bool, true, false, ℤ, pos, negsuc, List, [], ◌∷◌, Option, Some, None, refl}
+use Rattle.std.proofs.Common.{◌≡◌, ℕ, zero, suc, true, false, pos, List, [], ◌∷◌, Some, None, refl}
 use Rattle.vx_base.specs.declared.arithmetic.Compare.TheVariants.{Lt, Ltu}
 use Rattle.vx_base.specs.declared.arithmetic.Code.TheVariants.{Add, And, Mov, ToBranch, ToGeneral, Mpylu, Mpyhs}
 use Rattle.std.specs.Int.{int_wrap}
 use Rattle.vx_base.specs.Arithmetic.{compare_of}
 use Rattle.vx_flow.specs.Effects.{computed}
-use Rattle.vx_base.specs.declared.outcome.Trap.TheVariants.{Depth}
 use Rattle.vx_flow.specs.declared.graph.Operand.TheVariants.{Held, Number}
 use Rattle.vx_flow.specs.declared.graph.Op.TheVariants.{Compute}
-use Rattle.vx_flow.specs.declared.graph.Exit.TheVariants.{Goto, Split, Return, Ends}
+use Rattle.vx_flow.specs.declared.graph.Exit.TheVariants.{Goto, Split}
 use Rattle.vx_flow.specs.declared.graph.Block.{Block}
 use Rattle.vx_facts.specs.declared.fact.Fact.{Fact}
 use Rattle.vx_facts.specs.declared.fact.Fact.TheVariants.{Between}
 use Rattle.vx_facts.specs.Facts.{after_all, decided}
 use Rattle.vx_facts.specs.Checking.{is_block_checked}
-use Rattle.vx_facts.specs.Rewriting.{narrowed_block}
 
 abbrev begins : Block
 begins = record { ops = Compute Mov 0 (Number (pos 0)) (Number (pos 0)) ∷ []; exit = Goto 1 }

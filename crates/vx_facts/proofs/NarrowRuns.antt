@@ -1,25 +1,22 @@
 -- Runs of a program whose decided splits go one way stay the same.
-use Rattle.std.proofs.Common.{◌≡◌, ◌⊎◌, inl, inr, ℕ, zero, suc, ◌+◌, Bool, true, false, cond, nat_le, ℤ, List, [], ◌∷◌, length, slice_get, Option, Some, None, refl, sym, ap, ◌∙◌, subst, arith}
+use Rattle.std.proofs.Common.{◌≡◌, inl, inr, ℕ, zero, suc, ◌+◌, Bool, cond, nat_le, ℤ, List, [], ◌∷◌, length, slice_get, Option, Some, None, refl, sym, ap, ◌∙◌, subst, arith}
 use Rattle.std.specs.List.{list_all}
 use Rattle.std.specs.Option.{option_map}
-use Rattle.vx_base.specs.Arithmetic.{IsNumber}
 use Rattle.vx_base.specs.Outcome.{Outcome, NeverFails, Step, On, Over, step_then, run}
 use Rattle.vx_base.specs.declared.outcome.Trap.TheVariants.{Depth}
 use Rattle.vx_base.proofs.Runs.{runs_from, safe_after, safe_end, reach_one}
 use Rattle.vx_flow.specs.declared.graph.Op.{Op}
-use Rattle.vx_flow.specs.declared.graph.Exit.{Exit}
 use Rattle.vx_flow.specs.declared.graph.Exit.TheVariants.{Goto, Split}
 use Rattle.vx_flow.specs.declared.graph.Block.{Block}
 use Rattle.vx_flow.specs.declared.graph.Graph.{Graph}
 use Rattle.vx_flow.specs.declared.graph.Flow.{Flow}
-use Rattle.vx_flow.specs.Effects.{State, Setting, IsIn}
-use Rattle.vx_flow.specs.Meaning.{Hop, Arrives, Calls, Leaves, Stops, Wrong, hop_of, block_hop, Body, Program, Frame, Active, deepest, enters, returned, waits, after_hop, body_hop, hop, next, body_of, program_of, setting_of, globals_at_start, entered_or, start, graph_run}
+use Rattle.vx_flow.specs.Effects.{State, Setting}
+use Rattle.vx_flow.specs.Meaning.{Hop, Arrives, Calls, Leaves, Stops, Wrong, hop_of, block_hop, Body, Program, Frame, Active, deepest, enters, waits, after_hop, body_hop, hop, next, body_of, program_of, setting_of, globals_at_start, entered_or, start}
 use Rattle.vx_facts.specs.declared.fact.Fact.{Fact}
 use Rattle.vx_facts.specs.Facts.{after_all, decided}
-use Rattle.vx_facts.specs.Checking.{has_numbers, is_exit_checked, Checked, Leads, side_of, GoesTo, DecidedGoes}
-use Rattle.vx_facts.specs.Rewriting.{improved_all, split_by, narrowed_exit, narrowed_block, narrowed_from, narrowed_graph, narrowed_functions, narrowed, NarrowedRuns}
+use Rattle.vx_facts.specs.Checking.{has_numbers, is_exit_checked, Checked, side_of, GoesTo, DecidedGoes}
+use Rattle.vx_facts.specs.Rewriting.{improved_all, split_by, narrowed_exit, narrowed_block, narrowed_from, narrowed_graph, narrowed, NarrowedRuns}
 use Rattle.vx_facts.proofs.Ranges.{and_one}
-use Rattle.vx_facts.proofs.Operations.{Good}
 use Rattle.vx_facts.proofs.RunFacts.{ActiveGood, next_good, start_good, reached_good}
 use Rattle.vx_facts.proofs.Narrows.{Refines, block_refines, get_block, get_function, goes}
 

@@ -1,5 +1,5 @@
 -- A decided split goes one way: with it gone, a block does the same wherever it has a meaning.
-use Rattle.std.proofs.Common.{◌≡◌, ◌⊎◌, inl, inr, ℕ, zero, suc, ◌+◌, Bool, true, false, cond, ◌&&◌, ℤ, List, [], ◌∷◌, slice_get, Option, Some, None, refl, sym, ap, ◌∙◌, subst, arith}
+use Rattle.std.proofs.Common.{◌≡◌, ◌⊎◌, inl, inr, ℕ, zero, suc, ◌+◌, Bool, true, false, List, [], ◌∷◌, slice_get, Option, Some, None, refl, sym, ap, ◌∙◌, subst, arith}
 use Rattle.std.specs.List.{list_all}
 use Rattle.std.specs.Option.{option_map}
 use Rattle.vx_base.specs.Arithmetic.{one_if}
@@ -11,14 +11,14 @@ use Rattle.vx_flow.specs.declared.graph.Exit.{Exit}
 use Rattle.vx_flow.specs.declared.graph.Exit.TheVariants.{Goto, Split, Call, Return, Ends}
 use Rattle.vx_flow.specs.declared.graph.Block.{Block}
 use Rattle.vx_flow.specs.declared.graph.Graph.{Graph}
-use Rattle.vx_flow.specs.Effects.{Content, State, Setting, is_one, effect, held, computed, with_value}
+use Rattle.vx_flow.specs.Effects.{Content, State, Setting, effect, held, computed, with_value}
 use Rattle.vx_flow.specs.Meaning.{Hop, Arrives, Wrong, by_test, leave, and_then, block_hop, hop_of}
 use Rattle.vx_facts.specs.declared.fact.Fact.{Fact}
 use Rattle.vx_facts.specs.Facts.{content, after, after_all, decided, found}
 use Rattle.vx_facts.specs.Checking.{has_numbers, side_of, GoesTo}
 use Rattle.vx_facts.specs.Rewriting.{is_readable, read_if, improved, improved_all, split_by, narrowed_exit, narrowed_block, narrowed_from, narrowed_graph, narrowed_functions}
 use Rattle.vx_facts.proofs.Ranges.{and_one, and_two}
-use Rattle.vx_facts.proofs.Tests.{Tests, decided_holds}
+use Rattle.vx_facts.proofs.Tests.{decided_holds}
 use Rattle.vx_facts.proofs.Operations.{Good, Keeps, op_good, held_is}
 use Rattle.vx_facts.proofs.Equal.{found_holds}
 

@@ -1,7 +1,6 @@
 -- Operations: facts carried through one hold behind it, and numbers of 32 bits stay such.
-use Rattle.std.proofs.Common.{◌≡◌, ℕ, zero, suc, ◌==◌, Bool, true, false, cond, ◌&&◌, ◌||◌, ℤ, pos, negsuc, ◌*ℤ◌, int_le, List, [], ◌∷◌, ◌++◌, length, map, take, replicate, slice_index_or, slice_set, Option, Some, None, refl, sym, ap, ◌∙◌, subst, arith}
+use Rattle.std.proofs.Common.{◌≡◌, ℕ, zero, suc, ◌==◌, Bool, true, false, cond, ◌||◌, ℤ, pos, ◌*ℤ◌, int_le, List, [], ◌∷◌, ◌++◌, take, slice_index_or, slice_set, Option, Some, None, refl, sym, ap, ◌∙◌, subst}
 use Rattle.std.proofs.lemmas.Bool.{eq-eqb}
-use Rattle.std.specs.Fmt.{signed_decimal}
 use Rattle.vx_base.specs.Arithmetic.{wrap, product_of, one_if}
 use Rattle.vx_base.specs.declared.arithmetic.Code.{Code}
 use Rattle.vx_base.proofs.WrapLaws.{wrap_fits}
@@ -9,7 +8,7 @@ use Rattle.vx_flow.specs.declared.graph.Operand.{Operand}
 use Rattle.vx_flow.specs.declared.graph.Operand.TheVariants.{Held, Number, Stack}
 use Rattle.vx_flow.specs.declared.graph.Op.{Op}
 use Rattle.vx_flow.specs.declared.graph.Op.TheVariants.{Compute, Select, Place, Load, Store, More, Input, Text, Decimal, Across}
-use Rattle.vx_flow.specs.Effects.{Content, State, Setting, held, computed, chosen, is_one, is_left, place_of, row_of, cell_of, loaded, stored, next_input, printed, with_value, with_cell, effect, text_at}
+use Rattle.vx_flow.specs.Effects.{Content, State, Setting, held, computed, chosen, is_one, is_left, place_of, row_of, cell_of, loaded, stored, next_input, printed, with_value, effect}
 use Rattle.vx_facts.specs.declared.intervals.Interval.{Interval}
 use Rattle.vx_facts.specs.declared.fact.Fact.{Fact}
 use Rattle.vx_facts.specs.declared.fact.Fact.TheVariants.{Between, Equals}

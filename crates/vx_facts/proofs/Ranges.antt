@@ -1,11 +1,9 @@
 -- Intervals: what holds of operands holds of what an operation gives, and what a test says of its operands holds of them.
-use Rattle.std.proofs.Common.{◌≡◌, ℕ, zero, suc, ◌^◌, ◌<◌, ◌==◌, ◌+◌, ◌-◌, Bool, true, false, cond, not, ◌&&◌, ◌||◌, IsTrue, ◌≤ℤ◌, ◌<ℤ◌, ℤ, pos, negsuc, ◌+ℤ◌, ◌-ℤ◌, ◌*ℤ◌, int_le, int_lt, ◌*◌, ◌/◌, ◌%◌, ◌≤◌, bit_and, List, [], ◌∷◌, ◌++◌, Option, Some, None, refl, sym, ap, ◌∙◌, subst, arith, ltb, ltb-true, lt-ltb, leb}
+use Rattle.std.proofs.Common.{◌≡◌, ℕ, zero, suc, ◌^◌, ◌<◌, ◌==◌, Bool, true, false, cond, ◌&&◌, ◌≤ℤ◌, ◌<ℤ◌, ℤ, pos, negsuc, ◌+ℤ◌, ◌-ℤ◌, ◌*ℤ◌, int_le, int_lt, ◌*◌, ◌/◌, ◌%◌, ◌≤◌, bit_and, List, [], ◌∷◌, Some, None, refl, sym, ap, ◌∙◌, subst, arith}
 use Rattle.std.specs.Int.{w32, int_max, int_min}
 use Rattle.std.proofs.lemmas.Int.{ints, int_wrap_fits}
 use Rattle.std.proofs.lemmas.Bool.{eqb-true}
-use Rattle.vx_base.specs.Arithmetic.{IsNumber, wrap, unsigned, and_of, remainder_of, mpylu_of, mpyhs_of, unless_zero, sum_of, difference_of, one_if, value_of, compare_of}
-use Rattle.vx_base.specs.declared.arithmetic.Compare.{Compare}
-use Rattle.vx_base.specs.declared.arithmetic.Compare.TheVariants.{Eq, Ne, Lt, Le, Gt, Ge, Ltu, Geu}
+use Rattle.vx_base.specs.Arithmetic.{IsNumber, wrap, unsigned, and_of, remainder_of, mpylu_of, mpyhs_of, sum_of, difference_of, one_if, value_of, compare_of}
 use Rattle.vx_base.specs.declared.arithmetic.Code.{Code}
 use Rattle.vx_base.specs.declared.arithmetic.Code.TheVariants.{Add, Sub, And, Or, Xor, Shl, Shr, Shru, Sh2add, Max, Min, Mov, ToGeneral, ToBranch, Mpylu, Mpyhs, Div, Rem}
 use Rattle.vx_base.proofs.WrapLaws.{wrap_fits, unsigned_number, wrap-unsigned_times}
@@ -19,7 +17,7 @@ use Rattle.vx_flow.specs.Effects.{Content, both, computed, is_unary}
 use Rattle.vx_facts.specs.declared.intervals.Interval.{Interval}
 use Rattle.vx_facts.specs.declared.fact.Fact.{Fact}
 use Rattle.vx_facts.specs.declared.fact.Fact.TheVariants.{Between, Equals}
-use Rattle.vx_facts.specs.Facts.{least, greatest, full, Within, content, Holds, AllHold, meet, meet_if, range, range_of, fitting, sum_within, difference_within, up_to, is_above, and_within, remainder_within, times_if, low_product_within, high_product_within, zero_only, bit, result_within}
+use Rattle.vx_facts.specs.Facts.{least, greatest, full, Within, content, AllHold, meet, meet_if, range, range_of, fitting, sum_within, difference_within, up_to, is_above, and_within, remainder_within, times_if, low_product_within, high_product_within, zero_only, bit, result_within}
 
 pub number_within : (z : ℤ) → IsNumber z → Within full (Some z)
 number_within (pos n) f = (omega (arith, ints), omega (arith, ints, f.sfits))

@@ -1,9 +1,9 @@
 -- Runs: checked facts hold wherever a block is entered.
-use Rattle.std.proofs.Common.{◌≡◌, ◌⊎◌, inl, inr, ℕ, zero, suc, ◌==◌, ◌+◌, Bool, true, false, cond, ◌&&◌, ℤ, pos, negsuc, int_le, nat_le, List, [], ◌∷◌, ◌++◌, length, map, take, drop, replicate, slice_get, slice_set, slice_index_or, Option, Some, None, refl, sym, ap, ◌∙◌, subst, arith}
+use Rattle.std.proofs.Common.{◌≡◌, inl, inr, ℕ, zero, suc, ◌==◌, ◌+◌, Bool, true, false, cond, ℤ, pos, int_le, nat_le, List, [], ◌∷◌, length, map, replicate, slice_get, slice_set, slice_index_or, Option, Some, None, refl, sym, subst, arith}
 use Rattle.std.specs.List.{list_all}
 use Rattle.std.specs.Option.{option_map}
 use Rattle.std.proofs.lemmas.Int.{ints}
-use Rattle.vx_base.specs.Arithmetic.{IsNumber, one_if}
+use Rattle.vx_base.specs.Arithmetic.{IsNumber}
 use Rattle.vx_base.specs.Outcome.{Step, On, Over}
 use Rattle.vx_flow.specs.declared.graph.Operand.{Operand}
 use Rattle.vx_flow.specs.declared.graph.Op.{Op}
@@ -14,15 +14,15 @@ use Rattle.vx_flow.specs.declared.graph.Graph.{Graph}
 use Rattle.vx_flow.specs.declared.graph.Global.{Global}
 use Rattle.vx_flow.specs.declared.graph.Flow.{Flow}
 use Rattle.vx_flow.specs.Effects.{Content, State, Setting, IsIn, held, is_one, effect}
-use Rattle.vx_flow.specs.Meaning.{Hop, Arrives, Calls, Leaves, Stops, Wrong, known, with_front, by_test, calls, leaves, leave, and_then, block_hop, hop_of, Body, Program, Frame, Active, deepest, undefined, at_entry, entered, enters, with_result, returned, waits, after_hop, body_hop, hop, next, own_of, body_of, program_of, setting_of, words_at_start, globals_at_start, entered_or, at_start, start}
+use Rattle.vx_flow.specs.Meaning.{Hop, Arrives, Calls, Leaves, Stops, Wrong, known, with_front, by_test, calls, leaves, leave, and_then, block_hop, hop_of, Body, Frame, Active, deepest, undefined, at_entry, entered, enters, with_result, returned, waits, after_hop, body_hop, hop, next, body_of, program_of, setting_of, words_at_start, globals_at_start, entered_or, start}
 use Rattle.vx_facts.specs.declared.intervals.Interval.{Interval}
 use Rattle.vx_facts.specs.declared.fact.Fact.{Fact}
 use Rattle.vx_facts.specs.declared.fact.Fact.TheVariants.{Between, Equals}
-use Rattle.vx_facts.specs.Facts.{full, Within, AllHold, range, without, after, after_all, on_side, decided}
-use Rattle.vx_facts.specs.Checking.{is_number, has_number, has_numbers, is_inside, gives, give, without_result, is_exit_checked, is_block_checked, Checked, Leads, FactsHold, side_of, GoesTo, DecidedGoes}
+use Rattle.vx_facts.specs.Facts.{full, Within, AllHold, range, after, after_all, on_side}
+use Rattle.vx_facts.specs.Checking.{is_number, has_number, has_numbers, is_inside, gives, give, without_result, is_exit_checked, is_block_checked, Checked, Leads, FactsHold}
 use Rattle.vx_facts.proofs.Ranges.{number_within, and_one, and_two, le_holds, Fit, range_holds}
 use Rattle.vx_facts.proofs.Equal.{has_holds}
-use Rattle.vx_facts.proofs.Tests.{side_holds, decided_holds}
+use Rattle.vx_facts.proofs.Tests.{side_holds}
 use Rattle.vx_facts.proofs.Operations.{number_fits, held_fits, RowsFit, NumbersFit, StateFit, rows_append, rows_take, without_holds, written_fits, Good, Keeps, op_good}
 
 -- ---- claims

@@ -1,28 +1,28 @@
 -- A block whose operations are settled answers the block as it was.
-use Rattle.std.proofs.Common.{◌≡◌, ◌⊎◌, inl, inr, ℕ, zero, suc, ◌+◌, ◌==◌, Bool, true, false, cond, ◌&&◌, ℤ, pos, negsuc, ◌+ℤ◌, ◌≤ℤ◌, int_le, List, [], ◌∷◌, ◌++◌, length, map, slice_get, Option, Some, None, refl, sym, ap, ◌∙◌, subst, arith}
+use Rattle.std.proofs.Common.{◌≡◌, ◌⊎◌, inl, inr, ℕ, Bool, true, false, cond, ℤ, pos, ◌+ℤ◌, ◌≤ℤ◌, int_le, List, [], ◌∷◌, map, Option, Some, None, refl, sym, ap, ◌∙◌, subst, arith}
 use Rattle.std.specs.List.{list_all}
 use Rattle.std.specs.Int.{w32, int_wrap}
 use Rattle.std.proofs.lemmas.Int.{ints, int_wrap_fits}
 use Rattle.vx_base.specs.Arithmetic.{one_if, value_of, sum_of, compare_of}
 use Rattle.vx_base.specs.declared.arithmetic.Compare.{Compare}
 use Rattle.vx_base.specs.declared.arithmetic.Code.{Code}
-use Rattle.vx_base.specs.declared.arithmetic.Code.TheVariants.{Add, Sub, And, Or, Xor, Shl, Shr, Shru, Sh2add, Max, Min, Mov, ToGeneral, ToBranch, Mpylu, Mpyhs, Div, Rem}
+use Rattle.vx_base.specs.declared.arithmetic.Code.TheVariants.{Add, Mov, ToGeneral}
 use Rattle.vx_flow.specs.declared.graph.Operand.{Operand}
 use Rattle.vx_flow.specs.declared.graph.Operand.TheVariants.{Held, Number, Stack}
 use Rattle.vx_flow.specs.declared.graph.Op.{Op}
-use Rattle.vx_flow.specs.declared.graph.Op.TheVariants.{Compute, Select, Place, Load, Store, More, Input, Text, Decimal, Across}
+use Rattle.vx_flow.specs.declared.graph.Op.TheVariants.{Compute}
 use Rattle.vx_flow.specs.declared.graph.Exit.{Exit}
 use Rattle.vx_flow.specs.declared.graph.Exit.TheVariants.{Goto, Split, Call, Return, Ends}
 use Rattle.vx_flow.specs.declared.graph.Block.{Block}
-use Rattle.vx_flow.specs.Agree.{SameWorld, Agree}
-use Rattle.vx_flow.specs.Effects.{Content, State, Setting, IsIn, held, both, computed, is_unary, is_one, effect, with_value, reads, writes, value_in}
-use Rattle.vx_flow.specs.Meaning.{Hop, Arrives, Calls, Leaves, Stops, Wrong, known, with_front, by_test, calls, leaves, leave, and_then, block_hop, hop_of}
+use Rattle.vx_flow.specs.Agree.{Agree}
+use Rattle.vx_flow.specs.Effects.{Content, State, Setting, held, both, computed, is_one, effect, with_value}
+use Rattle.vx_flow.specs.Meaning.{Hop, Arrives, known, with_front, by_test, calls, leaves, leave, and_then, block_hop}
 use Rattle.vx_flow.proofs.EffectsAlike.{Refined, Done, effect_alike, with_value_agrees}
 use Rattle.vx_facts.specs.declared.intervals.Interval.{Interval}
 use Rattle.vx_facts.specs.declared.fact.Fact.{Fact}
-use Rattle.vx_facts.specs.Facts.{full, Within, content, AllHold, range_of, after, after_all, decided, compare_decided, found}
+use Rattle.vx_facts.specs.Facts.{full, Within, range_of, after, after_all, decided, compare_decided}
 use Rattle.vx_facts.specs.Checking.{has_number, has_numbers, side_of}
-use Rattle.vx_facts.specs.Rewriting.{is_readable, read_if, improved, split_by, narrowed_exit}
+use Rattle.vx_facts.specs.Rewriting.{improved, split_by, narrowed_exit}
 use Rattle.vx_facts.specs.Settling.{number_if, is_zero_only, move_if, settled, settled_all, settled_block}
 use Rattle.vx_facts.proofs.Ranges.{within_number, and_one, and_two, le_holds, range_of_holds}
 use Rattle.vx_facts.proofs.Tests.{tests_by, compare_decided_holds, decided_holds}

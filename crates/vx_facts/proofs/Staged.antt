@@ -1,5 +1,6 @@
 -- A flow of a program stays one where each of its graphs is narrowed by claims of its own.
-use Rattle.std.proofs.Common.{◌≡◌, ℕ, zero, suc, ◌+◌, ◌-◌, ◌<◌, Bool, true, List, [], ◌∷◌, ◌++◌, length, take, get_or, slice_get, Option, Some, None, refl, sym, ap, ◌∙◌, subst, arith}
+use Rattle.std.proofs.Common.{◌≡◌, ℕ, zero, suc, ◌+◌, ◌<◌, ◌==◌, Bool, true, List, [], ◌∷◌, ◌++◌, length, take, get_or, slice_get, Some, refl, sym, ap, ◌∙◌, subst, arith}
+use Rattle.std.proofs.lemmas.Bool.{eqb-true}
 use Rattle.vx_flow.specs.declared.graph.Block.{Block}
 use Rattle.vx_flow.specs.declared.graph.Graph.{Graph}
 use Rattle.vx_flow.specs.declared.graph.Flow.{Flow}
@@ -31,6 +32,16 @@ checked_at claims blocks h i block e =
 
 pub graph_by_table : (table : List (List Fact)) (g h : Graph) → listed_claims table 0 ≡ [] → are_blocks_checked (listed_claims table) 0 g.blocks ≡ true → h ≡ narrowed_graph (listed_claims table) g → GraphNarrowed g h
 graph_by_table table g h e c n = record { claims = listed_claims table; entry = e; blocks = checked_at (listed_claims table) g.blocks c; narrowed = n }
+
+empty_list : (xs : List Fact) → true ≡ (length xs == 0) → xs ≡ []
+empty_list [] e = refl
+empty_list (x ∷ xs) e = let h : suc (length xs) ≡ 0 = eqb-true (suc (length xs)) 0 (sym e) in absurd (omega arith)
+
+pub empty_by : (xs ys : List Fact) (t : Bool) → xs ≡ ys → t ≡ (length xs == 0) → t ≡ true → ys ≡ []
+empty_by xs ys t e q h = empty_list ys (sym h ∙ q ∙ ap (λ l. length l == 0) e)
+
+pub with_blocks_is : (claims : ℕ → List Fact) (g h : Graph) (blocks : List Block) → blocks ≡ narrowed_from claims 0 g.blocks → h ≡ record g { blocks = blocks } → h ≡ narrowed_graph claims g
+with_blocks_is claims g h blocks e q = q ∙ ap (λ bs. record g { blocks = bs }) e
 
 -- ---- graphs
 

@@ -1,7 +1,7 @@
 -- A flow of a program stays one.
-use Rattle.std.proofs.Common.{◌≡◌, ◌⊎◌, inl, inr, ℕ, zero, suc, ◌+◌, ◌<◌, ◌≤◌, Bool, true, false, ℤ, List, [], ◌∷◌, length, slice_get, Option, Some, None, refl, sym, ap, ◌∙◌, subst, arith}
+use Rattle.std.proofs.Common.{◌≡◌, inl, inr, ℕ, suc, ◌+◌, ◌<◌, ◌≤◌, Bool, true, false, ℤ, List, [], ◌∷◌, length, slice_get, Option, Some, None, refl, sym, ap, ◌∙◌, subst, arith}
 use Rattle.std.specs.Option.{option_map}
-use Rattle.vx_base.specs.Outcome.{Outcome, Same, NeverFails}
+use Rattle.vx_base.specs.Outcome.{Same, NeverFails}
 use Rattle.vx_base.specs.declared.outcome.Trap.{Trap}
 use Rattle.vx_ast.specs.Tree.{Function, Program}
 use Rattle.vx_ast.specs.Meaning.{source}
@@ -10,14 +10,12 @@ use Rattle.vx_flow.specs.declared.graph.Exit.{Exit}
 use Rattle.vx_flow.specs.declared.graph.Exit.TheVariants.{Goto, Split, Call, Return, Ends}
 use Rattle.vx_flow.specs.declared.graph.Block.{Block}
 use Rattle.vx_flow.specs.declared.graph.Graph.{Graph}
-use Rattle.vx_flow.specs.declared.graph.Flow.{Flow}
 use Rattle.vx_flow.specs.Effects.{IsIn}
 use Rattle.vx_flow.specs.Meaning.{graph_run}
-use Rattle.vx_flow.specs.Sound.{targets_of, is_sound_flow}
-use Rattle.vx_lower.specs.FlowOf.{AreNumbers, EndsBy, IsEdge, GraphOf, RunsAs, FlowOf}
+use Rattle.vx_flow.specs.Sound.{targets_of}
+use Rattle.vx_lower.specs.FlowOf.{AreNumbers, EndsBy, IsEdge, GraphOf}
 use Rattle.vx_facts.specs.declared.fact.Fact.{Fact}
 use Rattle.vx_facts.specs.Facts.{after, after_all, decided}
-use Rattle.vx_facts.specs.Checking.{Checked, side_of}
 use Rattle.vx_facts.specs.Rewriting.{improved_all, split_by, narrowed_exit, narrowed_block, narrowed_from, narrowed_graph, narrowed_functions, narrowed}
 use Rattle.vx_facts.proofs.Narrows.{get_block, get_function}
 use Rattle.vx_facts.proofs.NarrowRuns.{narrowed_runs}

@@ -1,8 +1,8 @@
 -- When facts claimed at the starts of the blocks of a program are checked, and the laws of checked facts.
-use Rattle.std.specs.Prelude.{◌≡◌, ◌⊎◌, ℕ, zero, suc, Bool, true, false, ◌&&◌, ℤ, int_le, Option, Some, None, List, [], ◌∷◌, slice_get}
+use Rattle.std.specs.Prelude.{◌≡◌, ◌⊎◌, ℕ, zero, suc, Bool, true, false, ◌&&◌, ℤ, int_le, Option, Some, None, List, [], slice_get}
 use Rattle.std.specs.List.{list_all}
 use Rattle.vx_base.specs.Arithmetic.{IsNumber}
-use Rattle.vx_base.specs.Outcome.{Step, On}
+use Rattle.vx_base.specs.Outcome.{On}
 use Rattle.vx_flow.specs.declared.graph.Operand.{Operand}
 use Rattle.vx_flow.specs.declared.graph.Operand.TheVariants.{Held, Number, Stack}
 use Rattle.vx_flow.specs.declared.graph.Op.{Op}

@@ -1,5 +1,5 @@
 -- Graphs exchanged for narrowed ones: each graph by claims of its own, that its blocks pass.
-use Rattle.std.specs.Prelude.{◌≡◌, ◌+◌, ℕ, zero, suc, Bool, true, ◌&&◌, List, [], ◌∷◌, slice_get, slice_index_or, Some}
+use Rattle.std.specs.Prelude.{◌≡◌, ◌+◌, ℕ, Bool, true, ◌&&◌, List, [], ◌∷◌, slice_get, slice_index_or, Some}
 use Rattle.std.specs.List.{list_all}
 use Rattle.vx_ast.specs.Tree.{Program}
 use Rattle.vx_flow.specs.declared.graph.Block.{Block}

@@ -1,15 +1,12 @@
 -- Operations whose result the facts settle: a compare that always comes out so is a number, a sum with what is 0 is a move.
-use Rattle.std.specs.Prelude.{◌≡◌, ◌+◌, ℕ, zero, suc, Bool, true, false, ◌&&◌, ℤ, pos, int_le, Option, Some, None, List, [], ◌∷◌}
+use Rattle.std.specs.Prelude.{ℕ, Bool, true, false, ◌&&◌, pos, int_le, Option, Some, None, List, [], ◌∷◌}
 use Rattle.vx_base.specs.Arithmetic.{one_if}
-use Rattle.vx_base.specs.declared.arithmetic.Compare.{Compare}
-use Rattle.vx_base.specs.declared.arithmetic.Code.{Code}
 use Rattle.vx_base.specs.declared.arithmetic.Code.TheVariants.{Add, Mov, ToGeneral}
 use Rattle.vx_flow.specs.declared.graph.Operand.{Operand}
 use Rattle.vx_flow.specs.declared.graph.Operand.TheVariants.{Number}
 use Rattle.vx_flow.specs.declared.graph.Op.{Op}
 use Rattle.vx_flow.specs.declared.graph.Op.TheVariants.{Compute}
 use Rattle.vx_flow.specs.declared.graph.Block.{Block}
-use Rattle.vx_flow.specs.declared.graph.Graph.{Graph}
 use Rattle.vx_facts.specs.declared.intervals.Interval.{Interval}
 use Rattle.vx_facts.specs.declared.fact.Fact.{Fact}
 use Rattle.vx_facts.specs.Facts.{range_of, after, after_all, compare_decided}

@@ -137,11 +137,7 @@ pub fn times_if(test: bool, i: Interval, number: i32) -> Interval
 fn low_product(i: Interval, j: Interval) -> Interval
     ensures { result ≡ low_product_within i j }
 {
-    times_if(
-        j.high <= j.low && (0 <= j.low && j.high <= 65535),
-        i,
-        j.low,
-    )
+    times_if(j.high <= j.low && (0 <= j.low && j.high <= 65535), i, j.low)
 }
 
 /// Where the product with the high half of a number lies.
@@ -207,13 +203,21 @@ pub fn opposite(compare: Compare) -> Compare
 fn one_less(number: i32) -> i32
     ensures { result ≡ one_less number }
 {
-    if number <= i32::MIN { i32::MIN } else { number - 1 }
+    if number <= i32::MIN {
+        i32::MIN
+    } else {
+        number - 1
+    }
 }
 
 fn one_more(number: i32) -> i32
     ensures { result ≡ one_more number }
 {
-    if i32::MAX <= number { i32::MAX } else { number + 1 }
+    if i32::MAX <= number {
+        i32::MAX
+    } else {
+        number + 1
+    }
 }
 
 fn below_unsigned(j: Interval) -> Interval

@@ -19,8 +19,15 @@ pub fn range(facts: &[Fact], value: Value) -> Interval
         [first, rest @ ..] => {
             let others = range(rest, value);
             match *first {
-                Fact::Between { value: named, within } => {
-                    if named == value { meet(within, others) } else { others }
+                Fact::Between {
+                    value: named,
+                    within,
+                } => {
+                    if named == value {
+                        meet(within, others)
+                    } else {
+                        others
+                    }
                 }
                 Fact::Equals { .. } => others,
             }
@@ -113,19 +120,14 @@ fn is_claimed(value: Value, code: Code, left: Operand, right: Operand, fact: Fac
 }
 
 /// Whether a fact of the list says that a value holds what an operation gives.
-pub fn has_equals(
-    facts: &[Fact],
-    value: Value,
-    code: Code,
-    left: Operand,
-    right: Operand,
-) -> bool
+pub fn has_equals(facts: &[Fact], value: Value, code: Code, left: Operand, right: Operand) -> bool
     ensures { result ≡ has_equals facts.now value code left right }
 {
     match facts {
         [] => false,
         [first, rest @ ..] => {
-            is_claimed(value, code, left, right, *first) || has_equals(rest, value, code, left, right)
+            is_claimed(value, code, left, right, *first)
+                || has_equals(rest, value, code, left, right)
         }
     }
 }
@@ -155,13 +157,7 @@ pub fn found(facts: &[Fact], code: Code, left: Operand, right: Operand) -> Optio
 }
 
 /// How a compare to a branch value comes out by all facts, where they decide it.
-fn decided_if(
-    test: bool,
-    facts: &[Fact],
-    code: Code,
-    left: Operand,
-    right: Operand,
-) -> Option<bool>
+fn decided_if(test: bool, facts: &[Fact], code: Code, left: Operand, right: Operand) -> Option<bool>
     ensures { result ≡ decided_if test facts.now code left right }
 {
     if !test {

@@ -6,7 +6,9 @@ ghost use Rattle.vx_facts.specs.declared.fact.Fact.TheVariants.{Between};
 ghost use Rattle.vx_facts.specs.Facts.{after, came_out, compared, is_held, learned, learned_if, names, on_side, operand_between, without};
 
 use crate::fact::Fact;
-use crate::intervals::{Interval, bit, left_within, opposite, result_within, right_within, times_if};
+use crate::intervals::{
+    Interval, bit, left_within, opposite, result_within, right_within, times_if,
+};
 use crate::known::range_of;
 use std::alloc::Global;
 use vx_base::arithmetic::{Code, Compare};

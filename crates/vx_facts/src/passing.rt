@@ -64,10 +64,17 @@ fn are_numbers(operands: &[Operand]) -> bool
 }
 
 /// What a table claims at the start of a block.
-pub fn claims_at(table: &[Listed<Fact>], block: BlockId) -> &[Fact]
+fn claims_at(table: &[Listed<Fact>], block: BlockId) -> &[Fact]
     ensures { result.now ≡ listed_claims table.now block }
 {
-    match table.get(block as usize) {
+    claims_in(table, block as usize)
+}
+
+/// The row of a table at a place, empty where there is none.
+pub fn claims_in(table: &[Listed<Fact>], place: usize) -> &[Fact]
+    ensures { result.now ≡ listed_claims table.now place }
+{
+    match table.get(place) {
         Some(claims) => claims.as_slice(),
         None => &[],
     }
@@ -251,17 +258,17 @@ fn is_exit_checked(
     }
 }
 
-/// The block with the number narrowed, where it passes.
+/// The block at a place narrowed, where it passes.
 pub fn narrowed_block(
     alloc: Global,
     table: &[Listed<Fact>],
-    number: BlockId,
+    place: usize,
     block: &Block,
 ) -> Result<Option<Block>, NoMemory>
-    ensures narrowed { IfOk result (λ found. IfSome found (λ made. made ≡ narrowed_block (listed_claims table.now) number block.now)) }
-    ensures checked { IfOk result (λ found. IfSome found (λ _. is_block_checked (listed_claims table.now) number block.now ≡ true)) }
+    ensures narrowed { IfOk result (λ found. IfSome found (λ made. made ≡ narrowed_block (listed_claims table.now) place block.now)) }
+    ensures checked { IfOk result (λ found. IfSome found (λ _. is_block_checked (listed_claims table.now) place block.now ≡ true)) }
 {
-    let passed = pass_ops(alloc, claims_at(table, number), block.ops.as_slice())?;
+    let passed = pass_ops(alloc, claims_in(table, place), block.ops.as_slice())?;
     let passes = have_numbers(block.ops.as_slice())
         && is_exit_checked(alloc, table, passed.facts.as_slice(), &block.exit)?;
     if !passes {

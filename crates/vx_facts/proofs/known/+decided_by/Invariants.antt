@@ -1,4 +1,4 @@
-use Rattle.std.proofs.Common.{length, ℕ}
+use Rattle.std.proofs.Common.{length}
 use Rattle.vx_facts.proofs.known.+decided_by.Given as goal
 
 abbrev pub decreases-decided_by : goal.decreases-decided_by

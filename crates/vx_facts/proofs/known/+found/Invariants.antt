@@ -1,4 +1,4 @@
-use Rattle.std.proofs.Common.{length, ℕ}
+use Rattle.std.proofs.Common.{length}
 use Rattle.vx_facts.proofs.known.+found.Given as goal
 
 abbrev pub decreases-found : goal.decreases-found

@@ -1,4 +1,4 @@
-use Rattle.std.proofs.Common.{length, ℕ}
+use Rattle.std.proofs.Common.{length}
 use Rattle.vx_facts.proofs.known.+has_equals.Given as goal
 
 abbrev pub decreases-has_equals : goal.decreases-has_equals

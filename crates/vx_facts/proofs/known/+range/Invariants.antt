@@ -1,4 +1,4 @@
-use Rattle.std.proofs.Common.{length, ℕ}
+use Rattle.std.proofs.Common.{length}
 use Rattle.vx_facts.proofs.known.+range.Given as goal
 
 abbrev pub decreases-range : goal.decreases-range

@@ -1,0 +1,136 @@
+// The graphs of a program without splits whose answer is known. For each graph claims at the starts of its blocks are looked
+// for and checked; a graph that does not pass with them is narrowed by what is known inside of each block, and a flow that would
+// not be sound stays as it is.
+
+ghost use Rattle.std.specs.Prelude.{◌≡◌, true, IfOk, IfSome};
+ghost use Rattle.vx_ast.specs.Tree.{Program};
+ghost use Rattle.vx_flow.specs.Sound.{is_sound_flow};
+ghost use Rattle.vx_lower.specs.FlowOf.{FlowOf};
+ghost use Rattle.vx_facts.specs.Rewriting.{narrowed_from};
+ghost use Rattle.vx_facts.specs.Narrowing.{are_blocks_checked, are_numbers, listed_claims, FlowStays, GraphNarrowed, GraphsNarrowed};
+
+use crate::copying::{with_blocks, with_graphs};
+use crate::fact::Fact;
+use crate::passing::{claims_in, is_number, narrowed_block};
+use crate::search::find_claims;
+use std::alloc::Global;
+use vx_base::listed::Listed;
+use vx_base::outcome::NoMemory;
+use vx_flow::graph::{Block, Flow, Global as Variable, Graph};
+
+/// The graphs of a program without splits whose answer is known: such a split is a jump. An operation whose result stands in a
+/// value already is a move of that value.
+pub fn narrow(alloc: Global, flow: Flow) -> Result<Flow, NoMemory>
+    requires { is_sound_flow flow ≡ true }
+    ensures sound { IfOk result (λ narrowed. is_sound_flow narrowed ≡ true) }
+    ensures flow { IfOk result (λ narrowed. (p : Program) → FlowOf p flow → FlowOf p narrowed) }
+{
+    match narrowed_flow(alloc, &flow)? {
+        Some(narrowed) => Ok(narrowed),
+        None => Ok(flow),
+    }
+}
+
+/// The flow with its graphs narrowed, where it is sound.
+fn narrowed_flow(alloc: Global, flow: &Flow) -> Result<Option<Flow>, NoMemory>
+    ensures sound { IfOk result (λ found. IfSome found (λ narrowed. is_sound_flow narrowed ≡ true)) }
+    ensures flow { IfOk result (λ found. IfSome found (λ narrowed. FlowStays flow.now narrowed)) }
+{
+    if !are_numbers(flow.globals.as_slice()) {
+        return Ok(None);
+    }
+    match narrowed_graphs(alloc, flow.functions.as_slice())? {
+        Some(functions) => with_sound_graphs(alloc, flow, functions),
+        None => Ok(None),
+    }
+}
+
+/// Whether each first number has 32 bits.
+fn are_numbers(globals: &[Variable]) -> bool
+    ensures { result ≡ are_numbers globals.now }
+{
+    globals.iter().all(|global| is_number(global.first))
+}
+
+/// The flow with other graphs, where it is sound.
+fn with_sound_graphs(
+    alloc: Global,
+    flow: &Flow,
+    functions: Listed<Graph>,
+) -> Result<Option<Flow>, NoMemory>
+    requires graphs { GraphsNarrowed flow.now.functions functions }
+    requires numbers { are_numbers flow.now.globals ≡ true }
+    ensures sound { IfOk result (λ found. IfSome found (λ narrowed. is_sound_flow narrowed ≡ true)) }
+    ensures flow { IfOk result (λ found. IfSome found (λ narrowed. FlowStays flow.now narrowed)) }
+{
+    let narrowed = with_graphs(alloc, flow, functions)?;
+    if narrowed.sound() {
+        Ok(Some(narrowed))
+    } else {
+        Ok(None)
+    }
+}
+
+/// The graphs narrowed one by one.
+fn narrowed_graphs(alloc: Global, graphs: &[Graph]) -> Result<Option<Listed<Graph>>, NoMemory>
+    ensures { IfOk result (λ found. IfSome found (λ made. GraphsNarrowed graphs.now made)) }
+{
+    let mut made = Listed::new(alloc);
+    for graph in graphs {
+        match narrowed_graph(alloc, graph)? {
+            Some(narrowed) => made.push(narrowed)?,
+            None => return Ok(None),
+        }
+    }
+    Ok(Some(made))
+}
+
+/// The graph narrowed by the claims that are found for it, and by none where it does not pass with them.
+fn narrowed_graph(alloc: Global, graph: &Graph) -> Result<Option<Graph>, NoMemory>
+    ensures { IfOk result (λ found. IfSome found (λ made. GraphNarrowed graph.now made)) }
+{
+    let claims = find_claims(alloc, graph)?;
+    match narrowed_by(alloc, claims.as_slice(), graph)? {
+        Some(narrowed) => Ok(Some(narrowed)),
+        None => narrowed_by(alloc, &[], graph),
+    }
+}
+
+/// The graph narrowed by a table of claims, where it passes.
+fn narrowed_by(
+    alloc: Global,
+    table: &[Listed<Fact>],
+    graph: &Graph,
+) -> Result<Option<Graph>, NoMemory>
+    ensures { IfOk result (λ found. IfSome found (λ made. GraphNarrowed graph.now made)) }
+{
+    if !claims_in(table, 0).is_empty() {
+        return Ok(None);
+    }
+    match narrowed_blocks(alloc, table, graph.blocks.as_slice())? {
+        Some(blocks) => {
+            let narrowed = with_blocks(alloc, graph, blocks)?;
+            Ok(Some(narrowed))
+        }
+        None => Ok(None),
+    }
+}
+
+/// The blocks narrowed, where all pass.
+fn narrowed_blocks(
+    alloc: Global,
+    table: &[Listed<Fact>],
+    blocks: &[Block],
+) -> Result<Option<Listed<Block>>, NoMemory>
+    ensures narrowed { IfOk result (λ found. IfSome found (λ made. made ≡ narrowed_from (listed_claims table.now) 0 blocks.now)) }
+    ensures checked { IfOk result (λ found. IfSome found (λ _. are_blocks_checked (listed_claims table.now) 0 blocks.now ≡ true)) }
+{
+    let mut made = Listed::new(alloc);
+    for (place, block) in blocks.iter().enumerate() {
+        match narrowed_block(alloc, table, place, block)? {
+            Some(narrowed) => made.push(narrowed)?,
+            None => return Ok(None),
+        }
+    }
+    Ok(Some(made))
+}
