@@ -1,7 +1,7 @@
 -- What the answer of the top call excludes where nothing fails, command by command.
 use Rattle.std.proofs.Common.{Option, Some, None, refl}
 use Rattle.vx_driver.specs.declared.status.Status.{Status}
-use Rattle.vx_driver.specs.Command.{Command, Compile, Simulate, Execute}
+use Rattle.vx_driver.specs.Command.{Command, Compile, Simulate, Execute, Count}
 use Rattle.vx_driver.specs.Boxes.{Boxes}
 use Rattle.vx_driver.specs.Answers.{Effect}
 use Rattle.vx_driver.specs.Simulated.{Streams}
@@ -9,9 +9,11 @@ use Rattle.vx_driver.specs.Commands.{Answers, Completes}
 use Rattle.vx_driver.proofs.Completing.{complete_in}
 use Rattle.vx_driver.proofs.Simulating.{sim_completes}
 use Rattle.vx_driver.proofs.Executed.{exec_completes}
+use Rattle.vx_driver.proofs.Counting.{profile_completes}
 
 pub completes : (command : Option Command) (boxes : Boxes) (e : Effect) (s : Streams) (status : Status) → Answers command boxes e s status → Completes command boxes e s status
 completes None boxes e s status a = tt
 completes (Some (Compile source out profile machine growth)) boxes e s status a = λ quiet_reads quiet_replaces. complete_in source out profile machine e status e.before refl quiet_reads quiet_replaces a
 completes (Some (Simulate asked)) boxes e s status a = sim_completes asked boxes e s status a
 completes (Some (Execute asked)) boxes e s status a = exec_completes asked boxes e s status a
+completes (Some (Count asked)) boxes e s status a = profile_completes asked e s status a

@@ -284,7 +284,7 @@ module _ (asked : Execution) (e : Effect) (s : Streams) (boxes : Chosen) where
 
 -- one step after the other
 
-input_since : (input : Option (List ℕ)) (e f : Effect) (status : Status) → Since e f → InputAnswers input e status → InputAnswers input f status
+pub input_since : (input : Option (List ℕ)) (e f : Effect) (status : Status) → Since e f → InputAnswers input e status → InputAnswers input f status
 input_since input e f Done s a = absurd a
 input_since input e f (Trapped trap) s a = absurd a
 input_since input e f Usage s a = absurd a

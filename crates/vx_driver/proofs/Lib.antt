@@ -4,6 +4,7 @@ pub mod InRange
 pub mod RunFound
 pub mod Picking
 pub mod CommandWords
+pub mod ProfileWords
 mod CommandRows
 mod SimRows
 mod ExecRows
@@ -22,6 +23,7 @@ pub mod Ends
 pub mod Runs
 pub mod Executing
 pub mod Executed
+pub mod Counting
 pub mod Completed
 pub mod Beginning
 pub mod OneFunction

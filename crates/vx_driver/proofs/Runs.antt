@@ -8,7 +8,7 @@ use Rattle.vx_probe.specs.Times.{Times}
 use Rattle.vx_probe.specs.Watch.{Watch}
 use Rattle.vx_driver.specs.declared.status.Status.{Status}
 use Rattle.vx_driver.specs.declared.status.Status.TheVariants.{Done, Trapped, Usage, Source, Limit, Words, Profile, Machine, NoFile, ReadFault, WriteFault, Stopped, Input, Stuck, NoMemory}
-use Rattle.vx_driver.specs.Command.{Command, Compile, Simulate, Execute, Simulation, Execution}
+use Rattle.vx_driver.specs.Command.{Command, Compile, Simulate, Execute, Count, Simulation, Execution}
 use Rattle.vx_driver.specs.Boxes.{Boxes, ProbeBox, Chosen, chosen, chosen_of, timing_named, probes_named}
 use Rattle.vx_driver.specs.Answers.{Effect, SameFiles}
 use Rattle.vx_driver.specs.Simulated.{Loaded, loading, is_named, Stops, Streams, OutputCut, IsStatusOf, Shows, reports_of, result_line, Loads, RunEnds, RunCut, RunAnswers, BoxAnswers, SimAnswers, is_of_run, outcome_within, events_within}
@@ -198,3 +198,5 @@ refused_answers (Some (Simulate asked)) boxes e s status same (inl memory) = no_
 refused_answers (Some (Simulate asked)) boxes e s status same (inr usage) = let none = usage.1 in absurd cc
 refused_answers (Some (Execute asked)) boxes e s status same (inl memory) = exec_no_memory asked boxes e s status same memory
 refused_answers (Some (Execute asked)) boxes e s status same (inr usage) = let none = usage.1 in absurd cc
+refused_answers (Some (Count asked)) boxes e s status same (inl memory) = subst (Answers (Some (Count asked)) boxes e s) (sym memory) (same, tt)
+refused_answers (Some (Count asked)) boxes e s status same (inr usage) = let none = usage.1 in absurd cc

@@ -1,6 +1,7 @@
--- What the words of `sim` and of `exec` ask for, as the code holds it.
+-- What the words of `sim`, `exec` and `profile` ask for, as the code holds it.
 use Rattle.std.specs.Prelude.{option_map}
-use Rattle.vx_driver.specs.Command.{Command, Execution, Makes, Simulation}
+use Rattle.vx_driver.specs.Command.{Command, Execution, Makes, Profiling, Simulation}
+use Rattle.vx_driver.specs.declared.profile_words.ProfileWords.{ProfileWords}
 use Rattle.vx_driver.specs.declared.run_words.ExecWords.{ExecWords}
 use Rattle.vx_driver.specs.declared.run_words.RunWords.{RunWords}
 
@@ -25,6 +26,9 @@ execution_of asked = record {
   timing = asked.run.timing.now;
   probe = option_map (λ s. s.now) asked.run.probe;
 }
+
+abbrev pub profiling_of : ProfileWords → Profiling
+profiling_of asked = record { source = asked.source.now; input = option_map (λ s. s.now) asked.input; blocks = asked.blocks }
 
 abbrev pub asks : Makes → RunWords → Command
 asks makes asked = makes asked.file.now (option_map (λ s. s.now) asked.machine) (option_map (λ s. s.now) asked.input) asked.budget asked.timing.now (option_map (λ s. s.now) asked.probe)

@@ -40,6 +40,15 @@ pub record Execution : Type 0 where
   pub timing : List ℕ
   pub probe : Option (List ℕ)
 
+-- what a profiling is asked for
+pub record Profiling : Type 0 where
+  -- the file of the source
+  pub source : List ℕ
+  -- the file of the input
+  pub input : Option (List ℕ)
+  -- the most blocks that are run
+  pub blocks : ℕ
+
 pub data Command : Type 0 where
   -- the words of the source go to a file; their traces are picked by the profile of a file, or by no counts, they are for
   -- the machine that a file describes, or the default one, and so many operations may be copied
@@ -48,6 +57,8 @@ pub data Command : Type 0 where
   Simulate : Simulation → Command
   -- the words of the source are run
   Execute : Execution → Command
+  -- the blocks and edges of a run of the source are counted
+  Count : Profiling → Command
 
 -- a word that has to be there
 abbrev pub required_word : List ℕ → Rule
@@ -114,7 +125,7 @@ sim_app = with_run_options (with_rule (file_app (codes "sim") (codes "WORDS")) (
 unfoldable pub exec_app : App
 exec_app = with_run_options (with_compiling_options (file_app (codes "exec") (codes "SRC")))
 
--- how many words are issued at most
+-- how many words are issued, or blocks are run, at most
 abbrev pub budget_of : Option (List ℕ) → Option ℕ
 budget_of text = number_in 1 1000000000000 1000000000 text
 
@@ -152,11 +163,27 @@ sim_of words = sim_unless (fault_of sim_app words) (matches_of sim_app words)
 unfoldable pub exec_of : List (List ℕ) → Option Command
 exec_of words = exec_unless (fault_of exec_app words) (matches_of exec_app words)
 
+-- `profile SRC [--input I] [--blocks N]`
+unfoldable pub profile_app : App
+profile_app = with_rule (with_rule (file_app (codes "profile") (codes "SRC")) (option_word (codes "input"))) (number_word (codes "blocks") 1 1000000000000)
+
+abbrev pub profile_found : List Row → ℕ → Command
+profile_found rows blocks = Count (record { source = unwrap_or (first_of (codes "SRC") rows) []; input = first_of (codes "input") rows; blocks = blocks })
+
+abbrev pub profile_unless : Kinds → List Row → Option Command
+profile_unless [] rows = option_map (profile_found rows) (budget_of (first_of (codes "blocks") rows))
+profile_unless (kind ∷ kinds) rows = None
+
+-- what the words of `profile` ask for, the program's name first; nothing where clap refuses them
+unfoldable pub profile_of : List (List ℕ) → Option Command
+profile_of words = profile_unless (fault_of profile_app words) (matches_of profile_app words)
+
 abbrev pub command_named : List ℕ → List (List ℕ) → Option Command
 command_named name words =
     if bytes_eq name (codes "compile") then compile_of words
     else if bytes_eq name (codes "sim") then sim_of words
     else if bytes_eq name (codes "exec") then exec_of words
+    else if bytes_eq name (codes "profile") then profile_of words
     else None
 
 abbrev pub command_of : List (List ℕ) → Option Command

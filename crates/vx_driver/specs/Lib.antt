@@ -9,6 +9,8 @@ pub mod Boxes
 pub mod Answers
 pub mod Simulated
 pub mod Executed
+pub mod Counted
 pub mod Ending
+pub mod Counting
 pub mod Commands
 pub mod Laws

@@ -10,6 +10,8 @@ pub mod laws;
 mod loaded;
 mod loading;
 mod options;
+mod profile;
+mod profile_words;
 mod profiles;
 mod ranges;
 mod reading;

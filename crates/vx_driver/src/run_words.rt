@@ -39,7 +39,7 @@ pub(crate) struct ExecWords<'a> {
     pub(crate) growth: u32,
 }
 
-const MOST_WORDS: u64 = 1000000000000;
+pub(crate) const MOST_WORDS: u64 = 1000000000000;
 
 const DEFAULT_WORDS: u64 = 1000000000;
 
@@ -74,7 +74,7 @@ fn exec_command<'a>(alloc: Global) -> Result<Command<'a>, AllocError>
     )
 }
 
-/// A number from 1 to the most words.
+/// A number from 1 to the most words, or blocks.
 fn within(number: u64) -> Option<u64>
     ensures { MatchOption result ((1 ≤ number → number ≤ 1000000000000 → ⊥)) (λ n. (n ≡ number) × (1 ≤ number) × (number ≤ 1000000000000)) }
 {
@@ -85,7 +85,7 @@ fn within(number: u64) -> Option<u64>
     }
 }
 
-/// The number of words that a text asks for.
+/// The number of words, or blocks, that a text asks for.
 fn budget_in(text: &str) -> Option<u64>
     ensures { result ≡ budget_of (Some text.now) }
 {
@@ -95,8 +95,8 @@ fn budget_in(text: &str) -> Option<u64>
     }
 }
 
-/// The number of words that a text asks for, or the default.
-fn budget_of(text: Option<&str>) -> Option<u64>
+/// The number of words, or blocks, that a text asks for, or the default.
+pub(crate) fn budget_of(text: Option<&str>) -> Option<u64>
     ensures { result ≡ budget_of (option_map (λ s. s.now) text.entry) }
 {
     match text {

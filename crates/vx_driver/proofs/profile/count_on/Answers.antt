@@ -1,0 +1,15 @@
+-- The input was read before the run.
+use Rattle.std.proofs.Common.{inl, inr}
+use Rattle.std.proofs.lemmas.Result.{IfErr-weaker, IfOk-weaker}
+use Rattle.vx_driver.proofs.FileSteps.{still_some}
+use Rattle.vx_driver.proofs.profile.count_on.Goals as goal
+
+pub returns-in-Ok-clause-counted : goal.returns-in-Ok-clause-counted
+returns-in-Ok-clause-counted g c =
+    IfOk-weaker c.counted_or.result _ _ (λ counted is. record { input = c.in-Ok.input.items; input_is = c.in-Ok.ensures.numbers; is = is }) (rw c.as_slice.ensures.value at c.counted_or.ensures.counted)
+
+pub returns-in-Ok-clause-stops : goal.returns-in-Ok-clause-stops
+returns-in-Ok-clause-stops g c = IfErr-weaker c.counted_or.result _ _ (λ status memory. inl memory) c.counted_or.ensures.memory
+
+pub returns-in-Err-clause-stops : goal.returns-in-Err-clause-stops
+returns-in-Err-clause-stops g c = inr (still_some _ c.args.name c.in-Err.ensures.named, c.in-Err.ensures.answers)

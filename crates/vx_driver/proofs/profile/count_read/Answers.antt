@@ -1,0 +1,46 @@
+-- The source was read before all else, and reading it changed no file.
+use Rattle.std.proofs.Common.{inl, inr, refl, sym}
+use Rattle.std.proofs.lemmas.Result.{IfErr-weaker, IfOk-weaker}
+use Rattle.vx_ast.specs.View.{program_of}
+use Rattle.vx_driver.specs.Answers.{effect_of}
+use Rattle.vx_driver.specs.Asked.{profiling_of}
+use Rattle.vx_driver.proofs.Counting.{counted_for, stops_later}
+use Rattle.vx_driver.proofs.profile.count_read.Goals as goal
+
+pub returns-in-Ok-clause-counted : goal.returns-in-Ok-clause-counted
+returns-in-Ok-clause-counted g c =
+    let depot = g.D.Depot in
+    IfOk-weaker c.count_on.result _ _
+    (λ counted is. counted_for (profiling_of c.args.asked.now) (program_of c.in-Ok.program.program) counted.text.items counted.complete
+    (effect_of depot.files depot.failed_reads depot.failed_replaces c.read_through.new.depot c.count_on.new.depot)
+    (effect_of depot.files depot.failed_reads depot.failed_replaces c.args.depot.now c.count_on.new.depot)
+    (record {
+      before = sym c.in-Ok.ensures.same_files;
+      after = refl;
+      reads = c.in-Ok.ensures.reads_never_fall;
+      reads_after = refl;
+      replaces = c.in-Ok.ensures.replaces_never_fall;
+      replaces_after = refl;
+    }) c.in-Ok.ensures.program is)
+    c.count_on.ensures.counted
+
+pub returns-in-Ok-clause-stops : goal.returns-in-Ok-clause-stops
+returns-in-Ok-clause-stops g c =
+    let depot = g.D.Depot in
+    IfErr-weaker c.count_on.result _ _
+    (λ status why. stops_later (profiling_of c.args.asked.now) (program_of c.in-Ok.program.program)
+    (effect_of depot.files depot.failed_reads depot.failed_replaces c.read_through.new.depot c.count_on.new.depot)
+    (effect_of depot.files depot.failed_reads depot.failed_replaces c.args.depot.now c.count_on.new.depot)
+    status
+    (record {
+      before = sym c.in-Ok.ensures.same_files;
+      after = refl;
+      reads = c.in-Ok.ensures.reads_never_fall;
+      reads_after = refl;
+      replaces = c.in-Ok.ensures.replaces_never_fall;
+      replaces_after = refl;
+    }) c.in-Ok.ensures.program why)
+    c.count_on.ensures.stops
+
+pub returns-in-Err-clause-stops : goal.returns-in-Err-clause-stops
+returns-in-Err-clause-stops g c = inr (inl c.in-Err.ensures.answers)

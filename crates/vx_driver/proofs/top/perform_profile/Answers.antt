@@ -1,0 +1,10 @@
+-- What the words ask for is done, or they are refused.
+use Rattle.std.proofs.Common.{refl}
+use Rattle.vx_driver.proofs.Runs.{refused_answers}
+use Rattle.vx_driver.proofs.top.perform_profile.Goals as goal
+
+pub returns-in-Ok-clause-answers : goal.returns-in-Ok-clause-answers
+returns-in-Ok-clause-answers g c = λ boxes. rw c.in-Ok.ensures.asked c.profile.ensures.answers
+
+pub returns-in-Err-clause-answers : goal.returns-in-Err-clause-answers
+returns-in-Err-clause-answers g c = λ boxes. refused_answers _ boxes _ _ _ refl (rw c.refuse.ensures.same c.in-Err.ensures.refused)

@@ -1,0 +1,150 @@
+// The command `profile SRC`: reads a source and an input, runs the graphs of the source, and puts how often each block and
+// each edge was passed.
+
+ghost use Rattle.std.specs.Prelude.{◌≡◌, ◌⊎◌, ◌≤◌, true, false, option_map, is_some, IfOk, IfErr};
+ghost use Rattle.vx_base.specs.Outside.{PutsFront, Rose, with_bytes};
+ghost use Rattle.vx_ast.specs.View as view;
+ghost use Rattle.vx_driver.specs.Answers.{effect_of};
+ghost use Rattle.vx_driver.specs.Asked.{profiling_of};
+ghost use Rattle.vx_driver.specs.Status.{Adds};
+ghost use Rattle.vx_driver.specs.Simulated.{is_of_run, streams_of};
+ghost use Rattle.vx_driver.specs.Executed.{InputAnswers};
+ghost use Rattle.vx_driver.specs.Counted.{ProfilingAnswers};
+ghost use Rattle.vx_driver.specs.Counting.{IsCounted, CountedOn, CountedFor, PutsText, StopsProfiling};
+
+use crate::compile::read_through;
+use crate::loading::input_for;
+use crate::profile_words::ProfileWords;
+use crate::status::{Status, tell};
+use crate::words::flow_of;
+use std::alloc::Global;
+use vx_ast::typed::Typed;
+use vx_base::depot::Depot;
+use vx_base::outcome::NoMemory;
+use vx_base::sink::{Sink, put_all};
+use vx_profile::{count, write_counts};
+
+/// The text of the counts of a run, and whether the run is over.
+#[derive(Drop)]
+pub(crate) struct CountsText {
+    pub(crate) text: Vec<u8>,
+    pub(crate) complete: bool,
+}
+
+/// Runs the graphs of a program on an input, for at most so many blocks, and counts.
+fn counted(
+    alloc: Global,
+    program: &Typed,
+    input: &[i32],
+    blocks: u64,
+) -> Result<CountsText, NoMemory>
+    ensures { IfOk result (λ counted. IsCounted (view.program_of program.now.program) input.now blocks counted.text.items counted.complete) }
+{
+    let flow = flow_of(alloc, program)?;
+    let counted = count(alloc, &flow, input, blocks)?;
+    let text = write_counts(alloc, &counted.counts)?;
+    Ok(CountsText {
+        text,
+        complete: counted.complete,
+    })
+}
+
+/// The same, with the status of a failure.
+fn counted_or(
+    alloc: Global,
+    program: &Typed,
+    input: &[i32],
+    blocks: u64,
+) -> Result<CountsText, Status>
+    ensures counted { IfOk result (λ counted. IsCounted (view.program_of program.now.program) input.now blocks counted.text.items counted.complete) }
+    ensures memory { IfErr result (λ status. status ≡ Status.NoMemory) }
+{
+    match counted(alloc, program, input, blocks) {
+        Ok(counted) => Ok(counted),
+        Err(_) => Err(Status::NoMemory),
+    }
+}
+
+/// Reads the input for a program that was read before, and counts.
+fn count_on<D: Depot>(
+    alloc: Global,
+    depot: &mut D,
+    program: &Typed,
+    name: Option<&str>,
+    blocks: u64,
+) -> Result<CountsText, Status>
+    ensures same_files { D.files depot.new ≡ D.files depot.old }
+    ensures counted { IfOk result (λ counted. CountedOn (view.program_of program.now.program) (option_map (λ s. s.now) name.entry) blocks (effect_of D.files D.failed_reads D.failed_replaces depot.old depot.new) counted.text.items counted.complete) }
+    ensures stops { IfErr result (λ status. (status ≡ Status.NoMemory) ⊎ ((is_some (option_map (λ s. s.now) name.entry) ≡ true) × InputAnswers (option_map (λ s. s.now) name.entry) (effect_of D.files D.failed_reads D.failed_replaces depot.old depot.new) status)) }
+    ensures reads_never_fall { D.failed_reads depot.old ≤ D.failed_reads depot.new }
+    ensures replaces_never_fall { D.failed_replaces depot.old ≤ D.failed_replaces depot.new }
+{
+    match input_for(alloc, depot, name) {
+        Ok(input) => counted_or(alloc, program, input.as_slice(), blocks),
+        Err(status) => Err(status),
+    }
+}
+
+/// Reads the source and the input, each whole and through before the next, and counts.
+fn count_read<D: Depot>(
+    alloc: Global,
+    depot: &mut D,
+    asked: &ProfileWords,
+) -> Result<CountsText, Status>
+    ensures same_files { D.files depot.new ≡ D.files depot.old }
+    ensures counted { IfOk result (λ counted. CountedFor (profiling_of asked.now) (effect_of D.files D.failed_reads D.failed_replaces depot.old depot.new) counted.text.items counted.complete) }
+    ensures stops { IfErr result (StopsProfiling (profiling_of asked.now) (effect_of D.files D.failed_reads D.failed_replaces depot.old depot.new)) }
+    ensures reads_never_fall { D.failed_reads depot.old ≤ D.failed_reads depot.new }
+    ensures replaces_never_fall { D.failed_replaces depot.old ≤ D.failed_replaces depot.new }
+{
+    match read_through(alloc, depot, asked.source) {
+        Ok(program) => count_on(alloc, depot, &program, asked.input, asked.blocks),
+        Err(status) => Err(status),
+    }
+}
+
+/// Answers whether a run is over, with a line where it is not.
+fn tell_end<E: Sink>(err: &mut E, complete: bool) -> Status
+    ensures over { complete ≡ true → (result ≡ Status.Done) × (E.told err.new ≡ E.told err.old) }
+    ensures stopped { complete ≡ false → result ≡ Status.Stopped }
+    ensures run { is_of_run result ≡ true }
+    ensures adds { Adds (E.told err.old) (E.told err.new) (E.faults err.old) (E.faults err.new) }
+{
+    if complete {
+        Status::Done
+    } else {
+        tell(err, Status::Stopped)
+    }
+}
+
+/// Puts the text of the counts, and answers whether the run is over, or that the text could not be put.
+fn put_counts<K: Sink, E: Sink>(out: &mut K, err: &mut E, counted: &CountsText) -> Status
+    ensures puts { PutsText counted.now.text.items counted.now.complete (streams_of K.told K.faults E.told E.faults out.old out.new err.old err.new) result }
+    ensures run { is_of_run result ≡ true }
+    ensures adds { Adds (E.told err.old) (E.told err.new) (E.faults err.old) (E.faults err.new) }
+{
+    match put_all(out, counted.text.as_slice()) {
+        Ok(()) => tell_end(err, counted.complete),
+        Err(_) => tell(err, Status::WriteFault),
+    }
+}
+
+/// Does what the words of `profile` ask for: puts the text of the counts on `out`.
+pub(crate) fn profile<D: Depot, K: Sink, E: Sink>(
+    alloc: Global,
+    depot: &mut D,
+    out: &mut K,
+    err: &mut E,
+    asked: &ProfileWords,
+) -> Status
+    ensures answers { ProfilingAnswers (profiling_of asked.now) (effect_of D.files D.failed_reads D.failed_replaces depot.old depot.new) (streams_of K.told K.faults E.told E.faults out.old out.new err.old err.new) result }
+    ensures adds { Adds (E.told err.old) (E.told err.new) (E.faults err.old) (E.faults err.new) }
+    ensures nothing { is_of_run result ≡ false → K.told out.new ≡ K.told out.old }
+    ensures reads_never_fall { D.failed_reads depot.old ≤ D.failed_reads depot.new }
+    ensures replaces_never_fall { D.failed_replaces depot.old ≤ D.failed_replaces depot.new }
+{
+    match count_read(alloc, depot, asked) {
+        Ok(counted) => put_counts(out, err, &counted),
+        Err(status) => tell(err, status),
+    }
+}

@@ -1,0 +1,78 @@
+// The words of `profile`, as clap reads them.
+
+ghost use Rattle.std.specs.Prelude.{◌≡◌, ◌⊎◌, [], Some, None, map, IfOk, IfErr};
+ghost use Rattle.clap.specs.Words.{app_of, rows_of, found_of};
+ghost use Rattle.vx_driver.specs.Command.{Count, profile_app, profile_of, profile_unless};
+ghost use Rattle.vx_driver.specs.Asked.{profiling_of};
+
+use crate::command::{Refused, found_in, text_at, without_text};
+use crate::options::{file_command, number_of, option_of};
+use crate::run_words::{MOST_WORDS, budget_of};
+use crate::status::Status;
+use clap::{ArgMatches, Command};
+use std::alloc::{AllocError, Global};
+
+/// The words of `profile`.
+#[derive(Drop)]
+pub(crate) struct ProfileWords<'a> {
+    /// The name of the source's file.
+    pub(crate) source: &'a str,
+    /// The name of the file of the input.
+    pub(crate) input: Option<&'a str>,
+    /// The most blocks that are run.
+    pub(crate) blocks: u64,
+}
+
+/// `profile SRC [--input I] [--blocks N]`.
+fn profile_command<'a>(alloc: Global) -> Result<Command<'a>, AllocError>
+    ensures { IfOk result (λ command. app_of command ≡ profile_app) }
+{
+    file_command(alloc, "profile", "SRC")?
+        .arg(option_of(alloc, "input"))?
+        .arg(number_of(alloc, "blocks", 1, MOST_WORDS))
+}
+
+/// What was found in the words of `profile`, where the number of blocks is in its range.
+fn profile_found<'a>(found: &ArgMatches<'a>) -> Result<ProfileWords<'a>, Refused>
+    ensures asked { IfOk result (λ asked. Some (Count (profiling_of asked)) ≡ profile_unless [] (rows_of (found_of found.now))) }
+    ensures refused { IfErr result (λ refused. (refused.status ≡ Status.Usage) × (None ≡ profile_unless [] (rows_of (found_of found.now)))) }
+{
+    match budget_of(found.get_str("blocks")) {
+        Some(blocks) => Ok(ProfileWords {
+            source: text_at(found, "SRC"),
+            input: found.get_str("input"),
+            blocks,
+        }),
+        None => Err(without_text(Status::Usage)),
+    }
+}
+
+/// What clap finds in the words of `profile`, or their refusal.
+fn read_words<'a>(
+    alloc: Global,
+    command: Command<'a>,
+    words: &'a [&'a str],
+) -> Result<ProfileWords<'a>, Refused>
+    requires { app_of command ≡ profile_app }
+    ensures asked { IfOk result (λ asked. profile_of (map (λ w. w.now) words.now) ≡ Some (Count (profiling_of asked))) }
+    ensures refused { IfErr result (λ refused. (refused.status ≡ Status.NoMemory) ⊎ ((refused.status ≡ Status.Usage) × (profile_of (map (λ w. w.now) words.now) ≡ None))) }
+{
+    match found_in(alloc, command, words) {
+        Ok(found) => profile_found(&found),
+        Err(refused) => Err(refused),
+    }
+}
+
+/// What the words of `profile` ask for, the program's name first, or their refusal.
+pub(crate) fn profile_asked<'a>(
+    alloc: Global,
+    words: &'a [&'a str],
+) -> Result<ProfileWords<'a>, Refused>
+    ensures asked { IfOk result (λ asked. profile_of (map (λ w. w.now) words.now) ≡ Some (Count (profiling_of asked))) }
+    ensures refused { IfErr result (λ refused. (refused.status ≡ Status.NoMemory) ⊎ ((refused.status ≡ Status.Usage) × (profile_of (map (λ w. w.now) words.now) ≡ None))) }
+{
+    match profile_command(alloc) {
+        Ok(command) => read_words(alloc, command, words),
+        Err(_) => Err(without_text(Status::NoMemory)),
+    }
+}
