@@ -15,6 +15,7 @@ use vx_base::laws::same_is_transitive;
 use vx_base::listed::Listed;
 use vx_base::outcome::NoMemory;
 use vx_clean::clean;
+use vx_facts::narrow;
 use vx_flow::graph::{Flow, Graph};
 use vx_frame::finish;
 use vx_frame::laws::frames_keep_to_the_machine;
@@ -110,12 +111,15 @@ fn maps_of(alloc: Global, layouts: &[VWords], machine: &Machine) -> Result<Liste
     Ok(maps)
 }
 
-/// The graphs of a program from which its words are made and whose blocks a profile counts: lowered, and then cleaned.
+/// The graphs of a program from which its words are made and whose blocks a profile counts: lowered and cleaned, then narrowed
+/// by what is known of values, and cleaned once more.
 pub(crate) fn flow_of(alloc: Global, program: &Typed) -> Result<Flow, NoMemory>
     ensures { IfOk result (λ flow. FlowOf (view.program_of program.now.program) flow) }
 {
     let lowered = lower(alloc, program)?;
-    let flow = clean(alloc, lowered)?;
+    let cleaned = clean(alloc, lowered)?;
+    let narrowed = narrow(alloc, cleaned)?;
+    let flow = clean(alloc, narrowed)?;
     Ok(flow)
 }
 
