@@ -16,7 +16,7 @@ use vx_base::listed::Listed;
 use vx_base::outcome::NoMemory;
 use vx_flow::graph::{Op, Operand, Value};
 
-fn is_held(value: Value, operand: Operand) -> bool
+pub fn is_held(value: Value, operand: Operand) -> bool
     ensures { result ≡ is_held value operand }
 {
     match operand {

@@ -18,6 +18,9 @@ use vx_base::listed::Listed;
 use vx_base::outcome::NoMemory;
 use vx_flow::graph::{Block, Flow, Global as Variable, Graph};
 
+/// In how many rounds headers are fixed to what comes in.
+const ROUNDS: u32 = 2;
+
 /// The graphs of a program without splits whose answer is known: such a split is a jump. An operation whose result stands in a
 /// value already is a move of that value.
 pub fn narrow(alloc: Global, flow: Flow) -> Result<Flow, NoMemory>
@@ -89,11 +92,21 @@ fn narrowed_graphs(alloc: Global, graphs: &[Graph]) -> Result<Option<Listed<Grap
 fn narrowed_graph(alloc: Global, graph: &Graph) -> Result<Option<Graph>, NoMemory>
     ensures { IfOk result (λ found. IfSome found (λ made. GraphNarrowed graph.now made)) }
 {
-    let claims = find_claims(alloc, graph)?;
-    match narrowed_by(alloc, claims.as_slice(), graph)? {
+    match narrowed_after(alloc, graph, ROUNDS)? {
         Some(narrowed) => Ok(Some(narrowed)),
-        None => narrowed_by(alloc, &[], graph),
+        None => match narrowed_after(alloc, graph, 0)? {
+            Some(narrowed) => Ok(Some(narrowed)),
+            None => narrowed_by(alloc, &[], graph),
+        },
     }
+}
+
+/// The graph narrowed by the claims that are found after so many rounds.
+fn narrowed_after(alloc: Global, graph: &Graph, rounds: u32) -> Result<Option<Graph>, NoMemory>
+    ensures { IfOk result (λ found. IfSome found (λ made. GraphNarrowed graph.now made)) }
+{
+    let claims = find_claims(alloc, graph, rounds)?;
+    narrowed_by(alloc, claims.as_slice(), graph)
 }
 
 /// The graph narrowed by a table of claims, where it passes.
