@@ -1,5 +1,5 @@
 -- A crowded row has no room for the item.
-use Rattle.std.proofs.Common.{◌≡◌, ℕ, ◌<◌, ◌≤◌, ◌⊎◌, inl, inr, ◌+◌, Bool, ◌&&◌, ◌||◌, ◌==◌, cond, true, false, nat_lt, nat_le, List, [], ◌∷◌, ◌++◌, sym, ◌∙◌, refl, ap, count_by, arith}
+use Rattle.std.proofs.Common.{◌≡◌, ℕ, ◌<◌, ◌≤◌, ◌⊎◌, inl, inr, ◌+◌, Bool, ◌&&◌, ◌==◌, cond, true, false, nat_lt, nat_le, List, [], ◌∷◌, ◌++◌, sym, ◌∙◌, refl, ap, count_by, arith}
 use Rattle.std.proofs.lemmas.Bool.{and_parts, leb-true, or_cases, false≢true}
 use Rattle.std.proofs.lemmas.Bool.Decides.{nat_tests}
 use Rattle.std.proofs.lemmas.List.Folds.{list_all-append}

@@ -1,5 +1,5 @@
 -- What stands while words are filled: some operations have a word, and each word has a row of items.
-use Rattle.std.specs.Prelude.{◌≡◌, ◌<◌, ◌≤◌, ◌⊎◌, ◌+◌, ℕ, Bool, true, false, cond, nat_lt, nat_eq, max, Option, Some, None, List, [], ◌∷◌, ◌++◌, length, slice_get, slice_index_or}
+use Rattle.std.specs.Prelude.{◌≡◌, ◌<◌, ◌≤◌, ◌⊎◌, ◌+◌, ℕ, Bool, true, false, nat_eq, max, Option, Some, None, List, [], ◌∷◌, ◌++◌, length, slice_get, slice_index_or}
 use Rattle.std.specs.List.{filter}
 use Rattle.vx_flow.specs.declared.trace.Trace.{Trace}
 use Rattle.vx_flow.specs.declared.trace.Clustered.{Clustered}
@@ -40,11 +40,6 @@ pub record AreWithout (count : ℕ) (words : List (Option ℕ)) : Type 0 where
   pub without : (i : ℕ) → word_in words i ≡ None
 
 -- which operation is next
-
-abbrev pub earlier_of : (height : ℕ → ℕ) → Option ℕ → (place : ℕ) → Option ℕ → Option ℕ
-earlier_of height (Some w) place best = best
-earlier_of height None place None = Some place
-earlier_of height None place (Some best) = cond (nat_lt (height best) (height place)) (Some place) (Some best)
 
 -- of the operations without a word that stand before place k, this one comes before all others
 abbrev pub IsNext : (height : ℕ → ℕ) → List (Option ℕ) → (k : ℕ) → Option ℕ → Type 0

@@ -1,3 +1,4 @@
 pub mod Placement
 pub mod Filling
 pub mod Crowding
+pub mod Ranking

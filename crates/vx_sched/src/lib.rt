@@ -5,6 +5,7 @@ mod copying;
 mod crowding;
 pub mod laws;
 mod placing;
+mod ranking;
 mod ready;
 mod rows;
 

@@ -8,7 +8,8 @@ ghost use Rattle.vx_sched.specs.Placement.{PlacedBy, length_of, mode_in, AreDeps
 ghost use Rattle.vx_sched.specs.Filling.{AreWithout, word_or_0, IsItem};
 
 use crate::copying::copy_clustered;
-use crate::ready::{next, ready};
+use crate::ranking::{behind, in_order, next};
+use crate::ready::ready;
 use crate::rows::{first_word, following, put};
 use std::alloc::Global;
 use vx_base::listed::Listed;
@@ -58,9 +59,11 @@ fn place_all(
 {
     machine.keeps_ranges();
     let mut words = without_words(alloc, trace.trace.ops.len())?;
+    let order = in_order(alloc, deps, trace.trace.ops.len())?;
+    let mut left = order.as_slice();
     let mut rows = Vec::new(alloc);
     'fill: loop {
-        match next(words.as_slice(), deps) {
+        match next(left) {
             None => return all_words(alloc, words.as_slice()),
             Some(place) => {
                 let ready = ready(words.as_slice(), deps, place)?;
@@ -68,6 +71,7 @@ fn place_all(
                 let word = first_word(alloc, rows.as_slice(), homes, machine, ready, item)?;
                 put(alloc, &mut rows, word as usize, item)?;
                 words[place as usize] = Some(word);
+                left = behind(left);
             }
         }
     }

@@ -1,6 +1,6 @@
 use Rattle.std.proofs.Common.{rules, ◌≡◌, ◌<◌, ◌≤◌, ◌+◌, None, Some, sym, ◌∙◌, subst, arith}
 use Rattle.vx_sched.specs.Filling.{word_in, later_of, IsReadySoFar, IsReadyNow}
-use Rattle.vx_sched.proofs.NextSteps.{none_ready, none_there, one_ready}
+use Rattle.vx_sched.proofs.ReadySteps.{none_ready, none_there, one_ready}
 use Rattle.vx_sched.proofs.ready.ready.Goals as goal
 use Rattle.vx_sched.proofs.ready.ready.Goals.{in-Some+in_ok-ready-in-Some, in-None}
 
