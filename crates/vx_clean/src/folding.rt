@@ -3,6 +3,7 @@
 // they are.
 
 ghost use Rattle.std.specs.Prelude.{◌≡◌, true, if◌then◌else◌, IfOk, IfSome, map};
+ghost use Rattle.vx_flow.specs.declared.graph.Op.TheVariants.{Compute, Load, Select, Store};
 ghost use Rattle.vx_flow.specs.Effects.{is_one, is_unary};
 ghost use Rattle.vx_flow.specs.Sound.{is_sound_flow};
 ghost use Rattle.vx_clean.specs.Folding.{folded, folded_block, folded_exit, folded_graph, folded_op, folded_right, GraphFolds, GraphsFold, numbers_of, select_by, settles_graph, split_by};
@@ -17,7 +18,7 @@ use std::alloc::Global;
 use vx_base::arithmetic::Code;
 use vx_base::listed::Listed;
 use vx_base::outcome::NoMemory;
-use vx_flow::graph::{Block, BlockId, Exit, Flow, Graph, Op, Operand, Value};
+use vx_flow::graph::{ArrayId, Block, BlockId, Exit, Flow, Graph, Op, Operand, Value};
 
 /// The flow with numbers in place of values that hold them, where it is sound.
 pub fn folded_once(alloc: Global, flow: &Flow) -> Result<Option<Flow>, NoMemory>
@@ -146,24 +147,13 @@ fn folded_op(op: &Op, numbers: &[Option<i32>]) -> Op
             to,
             left,
             right,
-        } => Op::Compute {
-            code: *code,
-            to: *to,
-            left: folded(left, numbers),
-            right: folded_right(*code, right, numbers),
-        },
+        } => folded_compute(*code, *to, left, right, numbers),
         Op::Select {
             to,
             test,
             left,
             right,
-        } => select_by(
-            number_of(numbers, *test),
-            *to,
-            *test,
-            folded(left, numbers),
-            folded(right, numbers),
-        ),
+        } => folded_select(*to, *test, left, right, numbers),
         Op::Place { to, array, index } => Op::Place {
             to: *to,
             array: *array,
@@ -174,27 +164,73 @@ fn folded_op(op: &Op, numbers: &[Option<i32>]) -> Op
             array,
             place,
             dismissible,
-        } => Op::Load {
-            to: *to,
-            array: *array,
-            place: folded(place, numbers),
-            dismissible: *dismissible,
-        },
-        Op::Store { array, place, from } => Op::Store {
-            array: *array,
-            place: folded(place, numbers),
-            from: folded(from, numbers),
-        },
-        Op::More { to } => Op::More { to: *to },
-        Op::Input { to } => Op::Input { to: *to },
-        Op::Text { number } => Op::Text { number: *number },
+        } => folded_load(*to, *array, place, *dismissible, numbers),
+        Op::Store { array, place, from } => folded_store(*array, place, from, numbers),
+        Op::More { .. } => *op,
+        Op::Input { .. } => *op,
+        Op::Text { .. } => *op,
         Op::Decimal { from } => Op::Decimal {
             from: folded(from, numbers),
         },
-        Op::Across { to, from } => Op::Across {
-            to: *to,
-            from: *from,
-        },
+        Op::Across { .. } => *op,
+    }
+}
+
+fn folded_compute(
+    code: Code,
+    to: Value,
+    left: &Operand,
+    right: &Operand,
+    numbers: &[Option<i32>],
+) -> Op
+    ensures { result ≡ folded_op (numbers_of numbers.now) (Compute code to left.now right.now) }
+{
+    Op::Compute {
+        code,
+        to,
+        left: folded(left, numbers),
+        right: folded_right(code, right, numbers),
+    }
+}
+
+fn folded_select(
+    to: Value,
+    test: Value,
+    left: &Operand,
+    right: &Operand,
+    numbers: &[Option<i32>],
+) -> Op
+    ensures { result ≡ folded_op (numbers_of numbers.now) (Select to test left.now right.now) }
+{
+    let left = folded(left, numbers);
+    let right = folded(right, numbers);
+    select_by(number_of(numbers, test), to, test, left, right)
+}
+
+fn folded_load(
+    to: Value,
+    array: ArrayId,
+    place: &Operand,
+    dismissible: bool,
+    numbers: &[Option<i32>],
+) -> Op
+    ensures { result ≡ folded_op (numbers_of numbers.now) (Load to array place.now dismissible) }
+{
+    Op::Load {
+        to,
+        array,
+        place: folded(place, numbers),
+        dismissible,
+    }
+}
+
+fn folded_store(array: ArrayId, place: &Operand, from: &Operand, numbers: &[Option<i32>]) -> Op
+    ensures { result ≡ folded_op (numbers_of numbers.now) (Store array place.now from.now) }
+{
+    Op::Store {
+        array,
+        place: folded(place, numbers),
+        from: folded(from, numbers),
     }
 }
 
