@@ -1,4 +1,4 @@
--- Of two quiet operations between which no join stands only the values count.
+-- Of two quiet operations that no join keeps apart only the values count.
 use Rattle.std.proofs.Common.{◌≡◌, ◌<◌, ◌⊎◌, inl, inr, ℕ, refl, sym, ◌∙◌, ap, arith, subst, Bool, true, false, not, ◌&&◌, ◌||◌, if◌then◌else◌, Option, Some, None, slice_get, List}
 use Rattle.std.proofs.lemmas.Bool.{or_cases, false≢true, true≢false}
 use Rattle.vx_flow.specs.declared.trace.TraceOp.{TraceOp}
@@ -11,7 +11,7 @@ use Rattle.vx_dep.specs.declared.rows.Ways.{Ways}
 use Rattle.vx_dep.specs.Delays.{is_load, is_store, is_observable, leaves, IsDelay}
 use Rattle.vx_dep.specs.Traits.{values_read, has, is_quiet, traits_of}
 use Rattle.vx_dep.specs.Tables.{standings_of, lives_of}
-use Rattle.vx_dep.specs.Rows.{are_tied, stays_behind_split, stays_behind_join, stays_behind, stays_below, at_least, delay_of, quiet_delay_of, MayTouch}
+use Rattle.vx_dep.specs.Rows.{is_barred, are_tied, stays_behind_split, stays_behind_join, stays_behind, stays_below, at_least, delay_of, quiet_delay_of, MayTouch}
 use Rattle.vx_dep.specs.Sights.{reaches, has_join, is_live}
 use Rattle.vx_dep.proofs.Standing.{IsOf, entry_at, tells, delay_is}
 
@@ -36,11 +36,18 @@ quiet_at m t i s is e =
     let same : s.traits ≡ traits_of m is.op = ap (λ (x : Standing). x.traits) is.is in
     subst IsQuiet (sym same) (quiet_op m is.op (sym (ap (λ (x : Traits). x.is_quiet) same) ∙ e))
 
-no_behind : (s o p v k j q : Bool) → o ≡ false → v ≡ false → j ≡ false → ((((false && s) || (o && p)) || (v && k)) || (j && q)) ≡ false
-no_behind s false p false k false q e f g = refl
-no_behind s true p v k j q e f g = absurd (true≢false e)
-no_behind s false p true k j q e f g = absurd (true≢false f)
-no_behind s false p false k true q e f g = absurd (true≢false g)
+no_behind : (s o p v k j : Bool) → o ≡ false → v ≡ false → j ≡ false → ((((false && s) || (o && p)) || (v && k)) || j) ≡ false
+no_behind s false p false k false e f g = refl
+no_behind s true p v k j e f g = absurd (true≢false e)
+no_behind s false p true k j e f g = absurd (true≢false f)
+no_behind s false p false k true e f g = absurd (true≢false g)
+
+no_join : (joined o v barred : Bool) → o ≡ false → v ≡ false → (barred && joined) ≡ false → (joined && ((o || v) || barred)) ≡ false
+no_join false o v barred e f g = refl
+no_join true false false false e f g = refl
+no_join true false false true e f g = absurd (true≢false g)
+no_join true true v barred e f g = absurd (true≢false e)
+no_join true false true barred e f g = absurd (true≢false f)
 
 only_read : (r l v o : Bool) → v ≡ false → ((r || (false && l)) || (v && o)) ≡ r
 only_read true l v o e = refl
@@ -57,15 +64,15 @@ by_values l false false true false e f = absurd (true≢false f)
 by_values l false false false true e f = absurd (false≢true f)
 by_values l tied true below read e f = absurd (true≢false e)
 
-quiet_rows : (mode : Mode) (a b : Traits) (last joined live : Bool) → IsQuiet a → IsQuiet b → joined ≡ false → delay_of mode a b (record { last = last; touch = false; joined = joined; live = live }) ≡ quiet_delay_of a b last
+quiet_rows : (mode : Mode) (a b : Traits) (last joined live : Bool) → IsQuiet a → IsQuiet b → (is_barred mode && joined) ≡ false → delay_of mode a b (record { last = last; touch = false; joined = joined; live = live }) ≡ quiet_delay_of a b last
 quiet_rows mode a b last joined live above below apart =
     let w : Ways = record { last = last; touch = false; joined = joined; live = live } in
     by_values a.latency (are_tied a b last) (stays_behind mode a b w) (stays_below mode a b w) (has b.written (values_read a.reads))
-    (no_behind a.is_store a.is_observable b.is_observable a.leaves (stays_behind_split mode b w) joined (stays_behind_join mode b) above.observable above.leaves apart)
+    (no_behind a.is_store a.is_observable b.is_observable a.leaves (stays_behind_split mode b w) (joined && stays_behind_join mode b) above.observable above.leaves (no_join joined b.is_observable b.leaves (is_barred mode) below.observable below.leaves apart))
     (only_read (has b.written (values_read a.reads)) a.is_load b.leaves _ below.leaves)
 
 pub quiet_delay_is : (m : Numbers) (mode : Mode) (t : Trace) (standings : List Standing) (lives : List (List Bool)) (i j : ℕ) (a b : Standing) (d : Option ℕ) → standings ≡ standings_of m t → lives ≡ lives_of t → i < j → slice_get standings i ≡ Some a → slice_get standings j ≡ Some b
-    → a.traits.is_quiet ≡ true → b.traits.is_quiet ≡ true → has_join b i ≡ false → d ≡ quiet_delay_of a.traits b.traits (reaches a i j) → IsDelay m mode t i j d
+    → a.traits.is_quiet ≡ true → b.traits.is_quiet ≡ true → (is_barred mode && has_join b i) ≡ false → d ≡ quiet_delay_of a.traits b.traits (reaches a i j) → IsDelay m mode t i j d
 quiet_delay_is m mode t standings lives i j a b d exact lives_exact in_order at_one at_two quiet_one quiet_two apart is =
     let above = quiet_at m t i a (entry_at m t standings exact i a at_one) quiet_one in
     let below = quiet_at m t j b (entry_at m t standings exact j b at_two) quiet_two in

@@ -45,7 +45,7 @@ at_least d (Some e) = Some (max d e)
 abbrev pub delay_of : Mode → Traits → Traits → Ways → Option ℕ
 delay_of mode a b w = if are_tied a b w.last then at_least a.latency (row_of mode a b w) else row_of mode a b w
 
--- the same of two quiet operations between which no join stands
+-- the same of two quiet operations that no join keeps apart
 abbrev pub quiet_delay_of : Traits → Traits → (last : Bool) → Option ℕ
 quiet_delay_of a b last = if are_tied a b last then Some a.latency else (if has b.written (values_read a.reads) then Some 0 else None)
 

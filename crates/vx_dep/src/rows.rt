@@ -35,7 +35,7 @@ pub(crate) fn delay_of(mode: Mode, a: &Traits, b: &Traits, ways: Ways) -> Option
     }
 }
 
-/// The same of two quiet operations between which no join stands: only their values count.
+/// The same of two quiet operations that no join keeps apart: only their values count.
 pub(crate) fn quiet_delay_of(a: &Traits, b: &Traits, last: bool) -> Option<u32>
     ensures { result ≡ quiet_delay_of a.now b.now last }
 {
@@ -99,7 +99,7 @@ fn stays_below(mode: Mode, a: &Traits, b: &Traits, ways: Ways) -> bool
         || (b.leaves && (a.is_observable || is_barred(mode)))
 }
 
-fn is_barred(mode: Mode) -> bool
+pub(crate) fn is_barred(mode: Mode) -> bool
     ensures { result ≡ is_barred mode }
 {
     match mode {

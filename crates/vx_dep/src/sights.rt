@@ -5,12 +5,12 @@ ghost use Rattle.vx_linear.specs.declared.form.Form.{Form};
 ghost use Rattle.vx_linear.specs.Forms.{NeverSame, is_ordered};
 ghost use Rattle.vx_linear.specs.Followed.{forms_of};
 ghost use Rattle.vx_dep.specs.Tables.{standings_of, lives_of};
-ghost use Rattle.vx_dep.specs.Rows.{Tells, MayTouch};
+ghost use Rattle.vx_dep.specs.Rows.{is_barred, Tells, MayTouch};
 ghost use Rattle.vx_dep.specs.Delays.{IsDelay, NeverMeet};
 ghost use Rattle.vx_dep.specs.Sights.{AreOrdered, reaches, has_join, is_live};
 
 use crate::mode::Mode;
-use crate::rows::{Ways, delay_of, quiet_delay_of};
+use crate::rows::{Ways, delay_of, is_barred, quiet_delay_of};
 use crate::tables::{Standing, lives, standings};
 use crate::traits::Traits;
 use std::alloc::Global;
@@ -97,11 +97,18 @@ impl<'a> Sight<'a> {
         requires stands_two { slice_get self.now.standings j ≡ Some b.now }
         ensures { IsDelay self.now.machine self.now.mode self.now.trace.now i j result }
     {
-        if a.traits.is_quiet && b.traits.is_quiet && !has_join(b, i) {
+        if a.traits.is_quiet && b.traits.is_quiet && !self.is_barred_between(i, b) {
             quiet_delay_of(&a.traits, &b.traits, reaches(a, i, j))
         } else {
             self.delay_by_rows(i, j, a, b)
         }
+    }
+
+    /// Whether a join stands between two places, and nothing moves past one.
+    fn is_barred_between(&self, i: usize, b: &Standing) -> bool
+        ensures { result ≡ (is_barred self.now.mode && has_join b.now i) }
+    {
+        is_barred(self.mode) && has_join(b, i)
     }
 
     /// The delay by all rows of the table.
