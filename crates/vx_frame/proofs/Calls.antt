@@ -41,7 +41,7 @@ use Rattle.vx_frame.specs.Tied.{Tied, AtWord, Shows, Row, Arrays, Waits, Below, 
 use Rattle.vx_frame.specs.Carried.{Carries, IsFunctionOf, NeedsSlot, is_passed, is_saved, is_spilled, Survives, words_before}
 use Rattle.vx_frame.proofs.Bytes.{unsigned_small}
 use Rattle.vx_frame.proofs.Calm.{seen, AllFit, after, put_at, put_off, not_stuck, effect_is}
-use Rattle.vx_frame.proofs.Frames.{get_below, get_in, frame_room, before_all, array_kind, IsGlobal, IsLocal, global_row, slot_free, below_keep}
+use Rattle.vx_frame.proofs.Frames.{get_below, get_in, frame_room, before_all, array_kind, IsGlobal, IsLocal, global_row, slot_free, link_in_frame, below_keep}
 use Rattle.vx_frame.proofs.Live.{live_bank}
 use Rattle.vx_frame.proofs.Names.{in_register, named, number_at, apart_mixed, not_zero, not_general}
 use Rattle.vx_frame.proofs.FromGraph.{branch_plain, place_made, whole_bank, has_whole, whole_is}
@@ -521,7 +521,7 @@ module _ (T : Target) (flow : Flow) (ls : List VWords) (w : WordProgram) (sound 
         arrays = waiting_arrays;
         first = tied.first;
         last = tied.last;
-        link = free_above Sp (omega arith) (λ v needed e. let a = of.framed.slot_from v needed in omega arith) ∙ at_word.link;
+        link = free_above Sp (omega arith) (λ v needed e. let a = of.framed.slot_from v needed in omega arith) ∙ sym (link_in_frame T u Sp F p g arguments result plan) ∙ at_word.link;
       }
 
       rest_below : Below T flow ls Rows G.memory Sp r.base r.waiting

@@ -17,7 +17,7 @@ use Rattle.vx_isa.specs.declared.operation.Operation.{Operation}
 use Rattle.vx_isa.specs.declared.operation.Operation.TheVariants.{Compute, Move, Select, Load, Store, Goto, BranchOn, Call, Return, ToLink, EndByTrap, Halt}
 use Rattle.vx_isa.specs.declared.program.Word.{Word}
 use Rattle.vx_isa.specs.Fits.{destinations}
-use Rattle.vx_frame.specs.Target.{Target, answer, general, general_of, branch_of, stack_on, home, holds_branch, is_slotted, kept, parameters_of, one, pause, latest, in_flight, settled, load_slot, store_slot, store_slots, on_clusters, move_stack, fetch_words, fetched, cluster_of_operand, argument_words, result_words, call_words, return_words, start_words, bytes, first_frame}
+use Rattle.vx_frame.specs.Target.{Target, answer, general, general_of, branch_of, stack_on, home, holds_branch, is_slotted, kept, parameters_of, one, pause, latest, in_flight, settled, load_slot, store_slot, store_slots, on_clusters, move_stack, fetch_words, fetched, cluster_of_operand, argument_words, result_words, call_words, is_caller, answer_words, return_words, start_words, bytes, first_frame}
 use Rattle.vx_frame.proofs.Early.{falls, Jumps, Touches}
 use Rattle.vx_frame.proofs.Pauses.{flight_append, flight_pause}
 use Rattle.vx_frame.proofs.Heats.{lift, stays, FineWords, word_fine, wait_fine, stop_fine}
@@ -172,10 +172,10 @@ module _ (T : Target) (heat : ℕ → Register → ℕ) where
       (arguments_fine f g (parameters_of T g) xs (one (Call (T.entry g)) ∷ []) e (call_fine (T.entry g) [] e (nothing_fine e))))))
 
   -- the link is loaded while the answer may be in flight
-  pub return_fine : (f : ℕ) (x : Operand) (e : Register → ℕ) → Fine cold (return_words T f x) e
-  return_fine f x e =
-      let w3 : List Word = one Return ∷ [] in
-      let w2 : List Word = settled T (one (ToLink (Held (general 0 3))) ∷ []) ++ w3 in
+  loaded_fine : (f : ℕ) (x : Operand) (rest : List Word) (e : Register → ℕ) → Fine cold rest e → Fine cold ((settled T (one (Move 0 answer (fetched T f x)) ∷ one (Load 0 (general 0 3) (pos 0) (stack_on 0) false) ∷ []) ++ settled T (one (ToLink (Held (general 0 3))) ∷ [])) ++ rest) e
+  loaded_fine f x rest e more =
+      let links : List Word = settled T (one (ToLink (Held (general 0 3))) ∷ []) in
+      let w2 : List Word = links ++ rest in
       let load : Operation = Load 0 (general 0 3) (pos 0) (stack_on 0) false in
       let move : Operation = Move 0 answer (fetched T f x) in
       let answered : List Register = InGeneral answer ∷ [] in
@@ -184,8 +184,20 @@ module _ (T : Target) (heat : ℕ → Register → ℕ) where
       let off : (r : Register) → Touches (load ∷ []) r → lift k cold answered r ≡ 0 = λ r t. ⊎_elim
       (λ i. ⊎_elim (λ q. subst (λ y. lift k cold answered y ≡ 0) (sym q) refl) (λ z. absurd z) i)
       (λ i. ⊎_elim (λ q. subst (λ y. lift k cold answered y ≡ 0) (sym q) refl) (λ z. absurd z) i) t.0 in
-      fetch_fine f 0 x (settled T (one move ∷ one load ∷ []) ++ w2) e
+      subst (λ ws. Fine cold (one move ∷ one load ∷ ws) e) (sym (append_assoc (pause n) links rest))
       (word_fine T.machine heat 0 cold cold [] (move ∷ []) (one load ∷ (pause n ++ w2)) e refl (stays 1 cold) (λ q r j. absurd j) (λ r t. refl)
       (word_fine T.machine heat k cold cold answered (load ∷ []) (pause n ++ w2) e refl (stays 1 cold) (λ q r j. absurd j) off
       (wait_fine T.machine heat n n cold cold (InGeneral (general 0 3) ∷ answered) w2 e (omega arith) (stays n cold)
-      (settle (ToLink (Held (general 0 3)) ∷ []) w3 e refl (λ q j. j) (go_back_fine [] e (nothing_fine e))))))
+      (settle (ToLink (Held (general 0 3)) ∷ []) rest e refl (λ q j. j) more))))
+
+  answer_fine : (f : ℕ) (x : Operand) (rest : List Word) (e : Register → ℕ) → Fine cold rest e → Fine cold (answer_words T f x ++ rest) e
+  answer_fine f x rest e more = by (is_caller T f)
+    where
+      by : (b : Bool) → Fine cold ((if b
+          then settled T (one (Move 0 answer (fetched T f x)) ∷ one (Load 0 (general 0 3) (pos 0) (stack_on 0) false) ∷ []) ++ settled T (one (ToLink (Held (general 0 3))) ∷ [])
+          else settled T (one (Move 0 answer (fetched T f x)) ∷ [])) ++ rest) e
+      by true = loaded_fine f x rest e more
+      by false = settle (Move 0 answer (fetched T f x) ∷ []) rest e refl (λ q j. j) more
+
+  pub return_fine : (f : ℕ) (x : Operand) (e : Register → ℕ) → Fine cold (return_words T f x) e
+  return_fine f x e = fetch_fine f 0 x (answer_words T f x ++ one Return ∷ []) e (answer_fine f x (one Return ∷ []) e (go_back_fine [] e (nothing_fine e)))

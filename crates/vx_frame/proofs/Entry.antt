@@ -1,9 +1,9 @@
 -- At the start of a function the link is stored in the frame, and parameters come to their registers.
-use Rattle.std.proofs.Common.{◌≡◌, ◌≢◌, ◌<◌, ◌≤◌, inr, ⊎_elim, ◌+◌, ◌*◌, ◌^◌, ℕ, zero, suc, ℤ, pos, Bool, true, false, Some, List, [], ◌∷◌, ◌++◌, length, length-append, refl, sym, ap, ◌∙◌, subst, arith}
+use Rattle.std.proofs.Common.{◌≡◌, ◌≢◌, ◌<◌, ◌≤◌, ◌⊎◌, inl, inr, ⊎_elim, ◌+◌, ◌*◌, ◌^◌, ℕ, zero, suc, ℤ, pos, Bool, true, false, Some, List, [], ◌∷◌, ◌++◌, length, length-append, refl, sym, ap, ◌∙◌, subst, arith}
 use Rattle.std.specs.Prelude.{if◌then◌else◌, slice_get}
 use Rattle.std.proofs.lemmas.Bool.{false_from_ne_true}
 use Rattle.vx_base.specs.Outcome.{On}
-use Rattle.vx_base.proofs.Runs.{run_reach, safe_after, reach_one}
+use Rattle.vx_base.proofs.Runs.{Reach, run_reach, safe_after, reach_one}
 use Rattle.vx_flow.specs.declared.graph.Bank.{Bank}
 use Rattle.vx_flow.specs.declared.graph.Bank.TheVariants.{General as GeneralBank}
 use Rattle.vx_flow.specs.declared.graph.Flow.{Flow}
@@ -11,6 +11,7 @@ use Rattle.vx_flow.specs.Effects.{IsIn}
 use Rattle.vx_flow.specs.Meaning.{Active, setting_of, body_hop, after_hop, next}
 use Rattle.vx_flow.specs.Sound.{Sound, SoundFlow, is_sound_flow, IsPlace}
 use Rattle.vx_flow.proofs.SoundFlowLaw.{told}
+use Rattle.vx_isa.specs.declared.operation.Register.{Register}
 use Rattle.vx_isa.specs.declared.operation.Register.TheVariants.{General, Link}
 use Rattle.vx_isa.specs.declared.operation.Source.TheVariants.{Held}
 use Rattle.vx_isa.specs.declared.operation.Operation.TheVariants.{FromLink, Store}
@@ -23,18 +24,18 @@ use Rattle.vx_mixed.specs.LaidSettled.{bank_in}
 use Rattle.vx_regs.specs.Intervals.{IsLive, is_live}
 use Rattle.vx_regs.specs.declared.map.Kept.{Kept}
 use Rattle.vx_regs.specs.declared.map.Kept.TheVariants.{InRegister}
-use Rattle.vx_frame.specs.Target.{Target, general, stack_on, kept, is_slotted, is_branch, parameters_of, holds_branch, register_of, one, pause, in_flight, reload_words, way, entry_words, memory_words}
-use Rattle.vx_frame.specs.Tied.{Tied, AtEntry, Arrays, Below, begins_at, Shows, holds, is_place, moved, word_at}
+use Rattle.vx_frame.specs.Target.{Target, answer, general, stack_on, kept, is_slotted, is_branch, parameters_of, holds_branch, register_of, one, pause, in_flight, settled, is_caller, link_words, reload_words, way, entry_words, memory_words}
+use Rattle.vx_frame.specs.Tied.{Tied, AtEntry, Arrays, Below, begins_at, Shows, holds, is_place, moved, word_at, link_in}
 use Rattle.vx_frame.specs.Carried.{Carries, IsFunctionOf, is_passed, Arrives}
-use Rattle.vx_frame.specs.Planned.{CarriesOn, EntryLaw}
-use Rattle.vx_frame.proofs.Calm.{seen, AllFit}
+use Rattle.vx_frame.specs.Planned.{CarriesOn, FallsThrough, EntryLaw}
+use Rattle.vx_frame.proofs.Calm.{seen, AllFit, Going}
 use Rattle.vx_frame.proofs.FromGraph.{place_made, whole_bank, has_whole, whole_is}
 use Rattle.vx_frame.proofs.Names.{in_register, apart_registers, not_zero, not_general}
 use Rattle.vx_frame.proofs.Live.{live_bank}
 use Rattle.vx_frame.proofs.Enough.{some_cluster}
 use Rattle.vx_frame.proofs.Frames.{get_below, get_in, frame_room, link_free, global_row, below_keep}
-use Rattle.vx_frame.proofs.Steps.{Stands, stands_left, stands_right, Quiet, quiet_on, Forth, comes_on, forth_on, forth_comes, Set, set_step, Paused, pause_step, way_step, Kept as Kept_word, store_step}
-use Rattle.vx_frame.proofs.Slots.{Usable, Loaded, before_case, as_read, number_in, stack_no_answer}
+use Rattle.vx_frame.proofs.Steps.{Stands, stands_left, stands_right, Quiet, quiet_on, Comes, stay, comes_on, forth_comes, Set, set_step, Paused, pause_step, way_step, Kept as Kept_word, store_step}
+use Rattle.vx_frame.proofs.Slots.{Usable, Loaded, before_case, as_read, number_in, stack_no_answer, link_unnamed, link_no_general}
 use Rattle.vx_frame.proofs.Stands.{entry_stands, entry_next}
 use Rattle.vx_frame.proofs.Word.{own_name}
 
@@ -121,79 +122,119 @@ module _ (T : Target) (flow : Flow) (ls : List VWords) (w : WordProgram) (sound 
 
   -- the words
 
-  abbrev Tail : List Word
-  Tail = reload_words T F Brought ++ way T F 0 Entry
-
-  stands : Stands w.words u.place (entry_words T F)
-  stands = subst (λ q. Stands w.words q (entry_words T F)) (sym at_entry.place) (entry_stands T flow.main (length flow.functions) w.words carries.placed F below)
-
-  -- where each word leaves the state
-  pub record Done : Type 0 where
-    pub to : State
-    pub forth : Forth T.machine w fit u to
-    pub place : to.place ≡ T.starts F Entry
-    pub quiet : Quiet u to
-    pub stack : (k : ℕ) → k < T.machine.clusters → register to (General (stack_on k)) ≡ pos (4 * Sp)
-    pub brought : (v : ℕ) → IsIn v Brought → seen to.registers (register_of T F Brought v) ≡ as_read (holds_branch T F v) (word_at to.memory (Sp + T.slot F v))
-    pub link : word_at to.memory Sp ≡ u.registers Link
-    pub elsewhere : (x : ℕ) → (x ≢ Sp) → word_at to.memory x ≡ word_at u.memory x
-
-  linked : Set T.machine w fit u (General (general 0 3)) (u.registers Link)
-  linked = set_step T.machine w fit u (FromLink (general 0 3)) (General (general 0 3)) (u.registers Link) tied.calm stands.0 (record { bad = refl; takes = refl; prints = refl; stores = λ m. refl; leads = λ ops. refl }) refl refl refl
-
-  abbrev A : State
-  A = linked.to
-
-  abbrev Pause : ℕ
-  Pause = in_flight T.machine 0 (one (FromLink (general 0 3)) ∷ [])
-
-  abbrev Keep : Word
-  Keep = one (Store 0 (pos 0) (stack_on 0) (Held (general 0 3)))
-
-  abbrev Late : List Word
-  Late = pause Pause
-
-  paused : Paused T.machine w fit A (A.place + length Late)
-  paused = pause_step T.machine w fit A Pause linked.quiet.calm (subst (λ q. Stands w.words q Late) (sym linked.place) (stands_left w.words (u.place + 1) Late (Keep ∷ Tail) stands.1))
-
-  kept_on : Stands w.words ((u.place + 1) + length Late) (Keep ∷ Tail)
-  kept_on = stands_right w.words (u.place + 1) Late (Keep ∷ Tail) stands.1
-
-  abbrev B : State
-  B = paused.to
-
-  place_b : B.place ≡ (u.place + 1) + length Late
-  place_b = let x = paused.place in let y = linked.place in omega arith
-
-  stack_b : (k : ℕ) → k < T.machine.clusters → register B (General (stack_on k)) ≡ pos (4 * Sp)
-  stack_b k lt = ap (λ g. seen g (General (stack_on k))) paused.registers ∙ linked.others (General (stack_on k)) (scratch_no_stack k) ∙ tied.stack k lt
-
-  first_inside : Sp + 0 < memory_words T
-  first_inside = let x = room in let y = carries.some_frame in omega arith
-
-  put_link : Kept_word T.machine w fit (memory_words T) carries.memory small B (Sp + 0) (register B (General (general 0 3)))
-  put_link = store_step T.machine w fit (memory_words T) carries.memory small B 0 (stack_on 0) (Held (general 0 3)) Sp 0 paused.quiet.calm (subst (λ q. slice_get w.words q ≡ Some Keep) (sym place_b) kept_on.0) (stack_b 0 some) first_inside
-
-  abbrev C : State
-  C = put_link.to
-
-  place_c : C.place ≡ ((u.place + 1) + length Late) + 1
-  place_c = let x = put_link.place in let y = place_b in omega arith
-
-  stack_c : (k : ℕ) → k < T.machine.clusters → register C (General (stack_on k)) ≡ pos (4 * Sp)
-  stack_c k lt = ap (λ g. seen g (General (stack_on k))) put_link.registers ∙ stack_b k lt
-
   abbrev Loads : List Word
   Loads = reload_words T F Brought
 
   abbrev Way : List Word
   Way = way T F 0 Entry
 
+  stands : Stands w.words u.place (entry_words T F)
+  stands = subst (λ q. Stands w.words q (entry_words T F)) (sym at_entry.place) (entry_stands T flow.main (length flow.functions) w.words carries.placed F below)
+
+  -- the link is in the frame of a function that calls
+  pub record Linked (taken : ℕ) : Type 0 where
+    pub to : State
+    pub comes : Comes T.machine w fit u to
+    pub place : to.place ≡ u.place + taken
+    pub quiet : Quiet u to
+    pub others : (q : Register) → (q ≢ General (general 0 3)) → seen to.registers q ≡ seen u.registers q
+    pub kept : is_caller T F ≡ true → word_at to.memory Sp ≡ u.registers Link
+    pub elsewhere : (x : ℕ) → (x ≢ Sp) → word_at to.memory x ≡ word_at u.memory x
+
+  abbrev Keep : Word
+  Keep = one (Store 0 (pos 0) (stack_on 0) (Held (general 0 3)))
+
+  abbrev Keeps : List Word
+  Keeps = settled T (one (FromLink (general 0 3)) ∷ []) ++ Keep ∷ []
+
+  module _ (st : Stands w.words u.place Keeps) where
+    taken : Set T.machine w fit u (General (general 0 3)) (u.registers Link)
+    taken = set_step T.machine w fit u (FromLink (general 0 3)) (General (general 0 3)) (u.registers Link) tied.calm st.0 (record { bad = refl; takes = refl; prints = refl; stores = λ m. refl; leads = λ ops. refl }) refl refl refl
+
+    abbrev A : State
+    A = taken.to
+
+    abbrev Pause : ℕ
+    Pause = in_flight T.machine 0 (one (FromLink (general 0 3)) ∷ [])
+
+    abbrev Late : List Word
+    Late = pause Pause
+
+    paused : Paused T.machine w fit A (A.place + length Late)
+    paused = pause_step T.machine w fit A Pause taken.quiet.calm (subst (λ q. Stands w.words q Late) (sym taken.place) (stands_left w.words (u.place + 1) Late (Keep ∷ []) st.1))
+
+    abbrev B : State
+    B = paused.to
+
+    place_b : B.place ≡ (u.place + 1) + length Late
+    place_b = let x = paused.place in let y = taken.place in omega arith
+
+    keep_at : slice_get w.words B.place ≡ Some Keep
+    keep_at = subst (λ q. slice_get w.words q ≡ Some Keep) (sym place_b) (stands_right w.words (u.place + 1) Late (Keep ∷ []) st.1).0
+
+    stack_b : (k : ℕ) → k < T.machine.clusters → register B (General (stack_on k)) ≡ pos (4 * Sp)
+    stack_b k lt = ap (λ g. seen g (General (stack_on k))) paused.registers ∙ taken.others (General (stack_on k)) (scratch_no_stack k) ∙ tied.stack k lt
+
+    first_inside : Sp + 0 < memory_words T
+    first_inside = let x = room in let y = carries.some_frame in omega arith
+
+    put_link : Kept_word T.machine w fit (memory_words T) carries.memory small B (Sp + 0) (register B (General (general 0 3)))
+    put_link = store_step T.machine w fit (memory_words T) carries.memory small B 0 (stack_on 0) (Held (general 0 3)) Sp 0 paused.quiet.calm keep_at (stack_b 0 some) first_inside
+
+    zero_up : Sp + 0 ≡ Sp
+    zero_up = omega arith
+
+    link_kept : Linked (length Keeps)
+    link_kept = record {
+      to = put_link.to;
+      comes = comes_on T.machine w fit u A put_link.to (forth_comes T.machine w fit u A taken.forth) (comes_on T.machine w fit A B put_link.to paused.comes (forth_comes T.machine w fit B put_link.to put_link.forth));
+      place = (let x = put_link.place in let y = place_b in let z = length-append Late (Keep ∷ []) in omega arith);
+      quiet = quiet_on u A put_link.to taken.quiet (quiet_on A B put_link.to paused.quiet put_link.quiet);
+      others = λ q ne. ap (λ g. seen g q) put_link.registers ∙ ap (λ g. seen g q) paused.registers ∙ taken.others q ne;
+      kept = λ h. put_link.at Sp (sym zero_up) ∙ ap (λ x. seen x (General (general 0 3))) paused.registers ∙ taken.at;
+      elsewhere = λ x ne. put_link.elsewhere x (λ q. ne (q ∙ zero_up)) ∙ ap (λ y. word_at y x) (paused.memory ∙ taken.memory);
+    }
+
+  link_run : (b : Bool) → is_caller T F ≡ b → Stands w.words u.place (if b then Keeps else []) → Linked (length (if b then Keeps else []))
+  link_run true h st = link_kept st
+  link_run false h st = record {
+    to = u;
+    comes = stay T.machine w fit u;
+    place = omega arith;
+    quiet = record { calm = tied.calm; input = refl; out = refl };
+    others = λ q ne. refl;
+    kept = λ e. absurd (let z : true ≡ false = sym e ∙ h in cc);
+    elsewhere = λ x ne. refl;
+  }
+
+  begun : Linked (length (link_words T F))
+  begun = link_run (is_caller T F) refl (stands_left w.words u.place (link_words T F) (Loads ++ Way) stands)
+
+  abbrev C : State
+  C = begun.to
+
+  place_c : C.place ≡ u.place + length (link_words T F)
+  place_c = begun.place
+
+  stack_c : (k : ℕ) → k < T.machine.clusters → register C (General (stack_on k)) ≡ pos (4 * Sp)
+  stack_c k lt = begun.others (General (stack_on k)) (scratch_no_stack k) ∙ tied.stack k lt
+
   tail : Stands w.words C.place (Loads ++ Way)
-  tail = subst (λ q. Stands w.words q (Loads ++ Way)) (sym place_c) kept_on.1
+  tail = subst (λ q. Stands w.words q (Loads ++ Way)) (sym place_c) (stands_right w.words u.place (link_words T F) (Loads ++ Way) stands)
+
+  -- where the words leave the state
+  pub record Done : Type 0 where
+    pub to : State
+    pub comes : Comes T.machine w fit u to
+    pub place : to.place ≡ T.starts F Entry
+    pub quiet : Quiet u to
+    pub stack : (k : ℕ) → k < T.machine.clusters → register to (General (stack_on k)) ≡ pos (4 * Sp)
+    pub brought : (v : ℕ) → IsIn v Brought → seen to.registers (register_of T F Brought v) ≡ as_read (holds_branch T F v) (word_at to.memory (Sp + T.slot F v))
+    pub link : link_in T to Sp F ≡ u.registers Link
+    pub elsewhere : (x : ℕ) → (x ≢ Sp) → word_at to.memory x ≡ word_at u.memory x
 
   loaded : Loaded T.machine w fit T F Sp carries.memory small some Brought C Brought (length Loads)
-  loaded = before_case T.machine w fit T F Sp carries.memory small some Brought Brought C put_link.quiet.calm (stands_left w.words C.place Loads Way tail) stack_c usable (λ v i. passed_inside v (arrives v i).passed) apart_brought
+  loaded = before_case T.machine w fit T F Sp carries.memory small some Brought Brought C begun.quiet.calm (stands_left w.words C.place Loads Way tail) stack_c usable (λ v i. passed_inside v (arrives v i).passed) apart_brought
 
   abbrev D : State
   D = loaded.to
@@ -205,7 +246,7 @@ module _ (T : Target) (flow : Flow) (ls : List VWords) (w : WordProgram) (sound 
       let b = at_entry.place in
       let c = place_c in
       let d = loaded.place in
-      let e = length-append Late (Keep ∷ Tail) in
+      let e = length-append (link_words T F) (Loads ++ Way) in
       let f = length-append Loads Way in omega arith
 
   jumped : Paused T.machine w fit D (T.starts F Entry)
@@ -220,12 +261,11 @@ module _ (T : Target) (flow : Flow) (ls : List VWords) (w : WordProgram) (sound 
   same_registers : G.registers ≡ D.registers
   same_registers = jumped.registers
 
-  forth_all : Forth T.machine w fit u G
-  forth_all = forth_on T.machine w fit u A G linked.forth (comes_on T.machine w fit A B G paused.comes (comes_on T.machine w fit B C G (forth_comes T.machine w fit B C put_link.forth)
-      (comes_on T.machine w fit C D G loaded.comes jumped.comes)))
+  comes_all : Comes T.machine w fit u G
+  comes_all = comes_on T.machine w fit u C G begun.comes (comes_on T.machine w fit C D G loaded.comes jumped.comes)
 
   quiet_all : Quiet u G
-  quiet_all = quiet_on u A G linked.quiet (quiet_on A B G paused.quiet (quiet_on B C G put_link.quiet (quiet_on C D G loaded.quiet jumped.quiet)))
+  quiet_all = quiet_on u C G begun.quiet (quiet_on C D G loaded.quiet jumped.quiet)
 
   stack_all : (k : ℕ) → k < T.machine.clusters → register G (General (stack_on k)) ≡ pos (4 * Sp)
   stack_all k lt = ap (λ x. seen x (General (stack_on k))) same_registers ∙ loaded.others (General (stack_on k)) (λ v i q. (usable v i).not_stack k (sym q)) (stack_no_answer k) ∙ stack_c k lt
@@ -233,17 +273,21 @@ module _ (T : Target) (flow : Flow) (ls : List VWords) (w : WordProgram) (sound 
   brought_all : (v : ℕ) → IsIn v Brought → seen G.registers (register_of T F Brought v) ≡ as_read (holds_branch T F v) (word_at G.memory (Sp + T.slot F v))
   brought_all v i = ap (λ x. seen x (register_of T F Brought v)) same_registers ∙ loaded.at v i ∙ ap (λ x. as_read (holds_branch T F v) (word_at x (Sp + T.slot F v))) (sym same_memory)
 
-  zero_up : Sp + 0 ≡ Sp
-  zero_up = omega arith
+  link_register : seen G.registers Link ≡ seen u.registers Link
+  link_register = ap (λ x. seen x Link) same_registers ∙ loaded.others Link (λ v i. link_unnamed T F Brought v) (link_no_general answer) ∙ begun.others Link (link_no_general (general 0 3))
 
-  link_all : word_at G.memory Sp ≡ u.registers Link
-  link_all = ap (λ x. word_at x Sp) same_memory ∙ put_link.at Sp (sym zero_up) ∙ ap (λ x. seen x (General (general 0 3))) paused.registers ∙ linked.at
+  link_all : link_in T G Sp F ≡ u.registers Link
+  link_all = by (is_caller T F) refl
+    where
+      by : (b : Bool) → is_caller T F ≡ b → (if b then word_at G.memory Sp else G.registers Link) ≡ u.registers Link
+      by true h = ap (λ x. word_at x Sp) same_memory ∙ begun.kept h
+      by false h = link_register
 
   elsewhere_all : (x : ℕ) → (x ≢ Sp) → word_at G.memory x ≡ word_at u.memory x
-  elsewhere_all x ne = ap (λ y. word_at y x) same_memory ∙ put_link.elsewhere x (λ q. ne (q ∙ zero_up)) ∙ ap (λ y. word_at y x) (paused.memory ∙ linked.memory)
+  elsewhere_all x ne = ap (λ y. word_at y x) same_memory ∙ begun.elsewhere x ne
 
   done : Done
-  done = record { to = G; forth = forth_all; place = jumped.place; quiet = quiet_all; stack = stack_all; brought = brought_all; link = link_all; elsewhere = elsewhere_all }
+  done = record { to = G; comes = comes_all; place = jumped.place; quiet = quiet_all; stack = stack_all; brought = brought_all; link = link_all; elsewhere = elsewhere_all }
 
   -- the step over values
 
@@ -288,29 +332,36 @@ module _ (T : Target) (flow : Flow) (ls : List VWords) (w : WordProgram) (sound 
       (λ j from lt. refl)
       (λ x le. done.elsewhere x (λ q. let y = carries.some_frame in omega arith)) tied.below
 
-  entered_on : CarriesOn T flow ls w r u
-  entered_on = record {
+  tied_after : Tied T flow ls After done.to
+  tied_after = record {
+    sp = Sp;
+    is = tied.is;
+    calm = done.quiet.calm;
+    deep = tied.deep;
+    stack = done.stack;
+    at = inr (Entry, record { block = refl; place = done.place; values = values; link = done.link ∙ at_entry.link });
+    arrays = arrays;
+    first = tied.first;
+    last = tied.last;
+    below = waiting;
+    input = done.quiet.input ∙ tied.input;
+    out = done.quiet.out ∙ tied.out;
+    safe = safe_after (next (laid_program flow ls)) (λ x. x.state.out) 1 r After (reach_one (next (laid_program flow ls)) r After steps) tied.safe;
+  }
+
+  by_words : (n : ℕ) → Reach (Going T.machine w) n u done.to → CarriesOn T flow ls w r u ⊎ FallsThrough T flow ls r u
+  by_words zero same = inr (record { after = After; place = Entry; block = refl; over_values = steps; tied = subst (Tied T flow ls After) (sym same) tied_after })
+  by_words (suc n) reach = inl (record {
     after = After;
     to = done.to;
-    words = done.forth.0;
+    words = n;
     over_values = steps;
-    over_registers = λ n. run_reach (step T.machine (1 ∷ []) w) (λ x. x.out) (suc done.forth.0) n u done.to done.forth.1;
-    tied = record {
-      sp = Sp;
-      is = tied.is;
-      calm = done.quiet.calm;
-      deep = tied.deep;
-      stack = done.stack;
-      at = inr (Entry, record { block = refl; place = done.place; values = values; link = done.link ∙ at_entry.link });
-      arrays = arrays;
-      first = tied.first;
-      last = tied.last;
-      below = waiting;
-      input = done.quiet.input ∙ tied.input;
-      out = done.quiet.out ∙ tied.out;
-      safe = safe_after (next (laid_program flow ls)) (λ x. x.state.out) 1 r After (reach_one (next (laid_program flow ls)) r After steps) tied.safe;
-    };
-  }
+    over_registers = λ k. run_reach (step T.machine (1 ∷ []) w) (λ x. x.out) (suc n) k u done.to reach;
+    tied = tied_after;
+  })
+
+  entered_on : CarriesOn T flow ls w r u ⊎ FallsThrough T flow ls r u
+  entered_on = by_words done.comes.0 done.comes.1
 
 pub entry_law : EntryLaw
 entry_law T flow ls w sound carries fit r u tied block = entered_on T flow ls w ((told flow (is_sound_flow flow) refl).0 sound) carries fit r u tied block

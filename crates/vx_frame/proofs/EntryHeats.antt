@@ -15,7 +15,7 @@ use Rattle.vx_machine.specs.Items.{latency_of_op}
 use Rattle.vx_mixed.specs.LaidSettled.{bank_in}
 use Rattle.vx_mixed.specs.Settled.{NoTwice}
 use Rattle.vx_regs.specs.Intervals.{IsBusy, is_live}
-use Rattle.vx_frame.specs.Target.{Target, general, kept, is_slotted, stack_on, one, pause, in_flight, load_slots, reload_words, result_words, way, entry_words, call_words, back_words, bytes}
+use Rattle.vx_frame.specs.Target.{Target, general, kept, is_slotted, stack_on, one, pause, in_flight, load_slots, reload_words, result_words, settled, is_caller, way, link_words, entry_words, call_words, back_words, bytes}
 use Rattle.vx_frame.specs.Carried.{IsMapped, IsSaved, CallsAt}
 use Rattle.vx_frame.proofs.Names.{not_general, apart_registers}
 use Rattle.vx_frame.proofs.Live.{live_bank}
@@ -56,14 +56,24 @@ module _ (T : Target) (heat : ℕ → Register → ℕ) (f : ℕ) (mapped : IsMa
       by true = nothing_fine T heat e
       by false = jump_fine T heat (T.starts f q) [] e (nothing_fine T heat e)
 
+  link_fine : (rest : List Word) (e : Register → ℕ) → F cold rest e → F cold (link_words T f ++ rest) e
+  link_fine rest e more = by (is_caller T f)
+    where
+      by : (b : Bool) → F cold ((if b then settled T (one (FromLink (general 0 3)) ∷ []) ++ one (Store 0 (pos 0) (stack_on 0) (Held (general 0 3))) ∷ [] else []) ++ rest) e
+      by true =
+          let keep : Word = one (Store 0 (pos 0) (stack_on 0) (Held (general 0 3))) in
+          let link : Word = one (FromLink (general 0 3)) in
+          subst (λ ws. F cold (link ∷ ws) e) (sym (append_assoc (pause (in_flight T.machine 0 (link ∷ []))) (keep ∷ []) rest))
+          (settle T heat (FromLink (general 0 3) ∷ []) (keep ∷ rest) e refl (λ q j. j) (store_fine T heat 0 (pos 0) (stack_on 0) (Held (general 0 3)) rest e more))
+      by false = more
+
   pub entry_fine : (e : Register → ℕ) → F cold (entry_words T f) e
   entry_fine e =
       let last : List Word = way T f 0 (T.layout f).entry in
       let rest : List Word = reload_words T f (T.brought f) ++ last in
-      settle T heat (FromLink (general 0 3) ∷ []) (one (Store 0 (pos 0) (stack_on 0) (Held (general 0 3))) ∷ rest) e refl (λ q j. j)
-      (store_fine T heat 0 (pos 0) (stack_on 0) (Held (general 0 3)) rest e
+      link_fine rest e
       (reload_fine (T.layout f).entry (T.brought f) last e brought saved.brought_once
-      (way_fine 0 (T.layout f).entry e)))
+      (way_fine 0 (T.layout f).entry e))
 
   survives : (p g : ℕ) (arguments : List Operand) (result : Option ℕ) → CallsAt T f p g arguments result → (v : ℕ) → IsIn v (T.saved f p) → Here (suc p) v
   survives p g arguments result at v i = let a = saved.saved p g v arguments result at i in (is_live a.live, live_bank T f mapped sound (suc p) v a.live, ap is_slotted a.register)

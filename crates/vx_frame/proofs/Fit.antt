@@ -42,7 +42,7 @@ use Rattle.vx_mixed.specs.declared.layout.VirtualWord.TheVariants.{Planned, Drai
 use Rattle.vx_mixed.specs.declared.layout.VWords.{VWords}
 use Rattle.vx_mixed.specs.LaidSettled.{bank_in, laid_reads, laid_writes, Plans}
 use Rattle.vx_regs.specs.Intervals.{IsBusy, is_live, is_named, word_reads, word_writes}
-use Rattle.vx_frame.specs.Target.{Target, answer, general, general_of, branch_of, stack_on, home, holds_branch, is_branch, is_slotted, kept, slotted, parameters_of, one, waits, pause, in_flight, settled, on_clusters, set_stack, slots_in_flight, load_slot, store_slot, load_slots, store_slots, if_some, once, before, behind, plan_word, plan_words, landing_words, move_stack, save_words, reload_words, fetch_words, fetched, cluster_of_operand, argument_words, result_words, call_words, back_words, return_words, way, entry_words, word_words, start_words, bytes, first_frame}
+use Rattle.vx_frame.specs.Target.{Target, answer, general, general_of, branch_of, stack_on, home, holds_branch, is_branch, is_slotted, kept, slotted, parameters_of, one, waits, pause, in_flight, settled, on_clusters, set_stack, slots_in_flight, load_slot, store_slot, load_slots, store_slots, if_some, once, before, behind, plan_word, plan_words, landing_words, move_stack, save_words, reload_words, fetch_words, fetched, cluster_of_operand, argument_words, result_words, call_words, back_words, is_caller, answer_words, return_words, way, link_words, entry_words, word_words, start_words, bytes, first_frame}
 use Rattle.vx_frame.specs.Placed.{Depth, Labelled, laid_pieces, landing_of, item_landings, word_landings, landing_pieces, function_pieces, functions_pieces, all_pieces, words_of}
 use Rattle.vx_frame.specs.Carried.{Carries, IsFunctionOf, IsMapped, item_of_laid}
 use Rattle.vx_frame.specs.Fitted.{FitLaw}
@@ -310,16 +310,20 @@ module _ (T : Target) (flow : Flow) (ls : List VWords) (w : WordProgram) (sound 
         good_append M (move_stack T (bytes T.frame)) (result_words T f result ++ reload_words T f (T.saved f p)) (move_stack_good (bytes T.frame))
         (good_append M (result_words T f result) (reload_words T f (T.saved f p)) (result_good result h) (reload_good (T.saved f p) saved))
 
+    answer_good : (x : Operand) → Fetches x → Words (answer_words T f x)
+    answer_good x h = by (is_caller T f)
+      where
+        by : (b : Bool) → Words (if b then settled T (one (Move 0 answer (fetched T f x)) ∷ one (Load 0 (general 0 3) (pos 0) (stack_on 0) false) ∷ []) ++ settled T (one (ToLink (Held (general 0 3))) ∷ []) else settled T (one (Move 0 answer (fetched T f x)) ∷ []))
+        by true =
+            let link : Operation = ToLink (Held (general 0 3)) in
+            let loads : List Word = one (Move 0 answer (fetched T f x)) ∷ one (Load 0 (general 0 3) (pos 0) (stack_on 0) false) ∷ [] in
+            good_append M (settled T loads) (settled T (one link ∷ [])) (settled_good loads (move_answer x h, (load_good (general 0 3) (pos 0) first (own 0 3 (omega arith) first), tt)))
+            (settled_good (one link ∷ []) (one_good M carries.machine l link first refl (both_true (own 0 3 (omega arith) first) refl) refl, tt))
+        by false = settled_good (one (Move 0 answer (fetched T f x)) ∷ []) (move_answer x h, tt)
+
     return_good : (x : Operand) → Fetches x → Words (return_words T f x)
-    return_good x h =
-        let move : Operation = Move 0 answer (fetched T f x) in
-        let load : Operation = Load 0 (general 0 3) (pos 0) (stack_on 0) false in
-        let link : Operation = ToLink (Held (general 0 3)) in
-        let loads : List Word = one move ∷ one load ∷ [] in
-        let links : List Word = settled T (one link ∷ []) ++ one Return ∷ [] in
-        let loaded : Words (settled T loads) = settled_good loads (move_answer x h, (load_good (general 0 3) (pos 0) first (own 0 3 (omega arith) first), tt)) in
-        let linked : Words links = one_settled link (one Return ∷ []) (one_good M carries.machine l link first refl (both_true (own 0 3 (omega arith) first) refl) refl) (one_good M carries.machine l Return first refl refl refl, tt) in
-        good_append M (fetch_words T f 0 x) (settled T loads ++ links) (fetch_good 0 x h) (good_append M (settled T loads) links loaded linked)
+    return_good x h = good_append M (fetch_words T f 0 x) (answer_words T f x ++ one Return ∷ []) (fetch_good 0 x h)
+        (good_append M (answer_words T f x) (one Return ∷ []) (answer_good x h) (one_good M carries.machine l Return first refl refl refl, tt))
 
     way_good : (next q : ℕ) → Words (way T f next q)
     way_good next q = by (next == q)
@@ -328,13 +332,21 @@ module _ (T : Target) (flow : Flow) (ls : List VWords) (w : WordProgram) (sound 
         by true = tt
         by false = (goto_good (T.starts f q), tt)
 
+    link_good : Words (link_words T f)
+    link_good = by (is_caller T f)
+      where
+        by : (b : Bool) → Words (if b then settled T (one (FromLink (general 0 3)) ∷ []) ++ one (Store 0 (pos 0) (stack_on 0) (Held (general 0 3))) ∷ [] else [])
+        by true =
+            let link : Operation = FromLink (general 0 3) in
+            let keep : List Word = one (Store 0 (pos 0) (stack_on 0) (Held (general 0 3))) ∷ [] in
+            one_settled link keep (one_good M carries.machine l link first refl refl (both_true (own 0 3 (omega arith) first) refl)) (store_good (general 0 3) (pos 0) first (own 0 3 (omega arith) first), tt)
+        by false = tt
+
     entry_good : Words (entry_words T f)
     entry_good =
-        let link : Operation = FromLink (general 0 3) in
         let goes : List Word = way T f 0 (T.layout f).entry in
-        let rest : List Word = one (Store 0 (pos 0) (stack_on 0) (Held (general 0 3))) ∷ (reload_words T f (T.brought f) ++ goes) in
-        one_settled link rest (one_good M carries.machine l link first refl refl (both_true (own 0 3 (omega arith) first) refl))
-        (store_good (general 0 3) (pos 0) first (own 0 3 (omega arith) first), good_append M (reload_words T f (T.brought f)) goes (reload_good (T.brought f) (kept_named (T.brought f) arrives)) (way_good 0 (T.layout f).entry))
+        good_append M (link_words T f) (reload_words T f (T.brought f) ++ goes) link_good
+        (good_append M (reload_words T f (T.brought f)) goes (reload_good (T.brought f) (kept_named (T.brought f) arrives)) (way_good 0 (T.layout f).entry))
       where
         arrives : (v : ℕ) → IsIn v (T.brought f) → (p : ℕ) × Busy p v × Banked v × (is_slotted (kept T f v) ≡ false)
         arrives v i = let a = of.saved.brought v i in ((T.layout f).entry, is_live a.live, live_bank T f mapped graph_sound (T.layout f).entry v a.live, ap is_slotted a.register)

@@ -1,6 +1,6 @@
 -- Every piece of a program that carries a flow fits: what may be in flight at a word of a layout is what is left there of writes
 -- to the values that live in registers; elsewhere nothing is, but results in slots at a landing.
-use Rattle.std.proofs.Common.{◌≡◌, ◌<◌, ◌≤◌, ◌⊎◌, inl, inr, ⊎_elim, ◌+◌, ℕ, zero, suc, pos, neg_ℤ, Bool, true, false, cond, Option, Some, None, List, [], ◌∷◌, ◌++◌, length, map, refl, ap, ◌∙◌, subst, arith}
+use Rattle.std.proofs.Common.{◌≡◌, ◌<◌, ◌≤◌, ◌⊎◌, inl, inr, ⊎_elim, ◌+◌, ℕ, zero, suc, neg_ℤ, Bool, true, cond, Option, Some, None, List, [], ◌∷◌, ◌++◌, length, map, refl, ap, ◌∙◌, subst, arith}
 use Rattle.std.specs.Prelude.{slice_get, max}
 use Rattle.std.specs.List.{list_any}
 use Rattle.std.proofs.lemmas.Bool.{cases_lt}
@@ -17,7 +17,7 @@ use Rattle.vx_flow.proofs.SoundFlowLaw.{told}
 use Rattle.vx_isa.specs.declared.operation.Register.{Register}
 use Rattle.vx_isa.specs.declared.operation.Register.TheVariants.{Branch as InBranch}
 use Rattle.vx_isa.specs.declared.operation.Source.TheVariants.{Held, Number}
-use Rattle.vx_isa.specs.declared.operation.Operation.TheVariants.{Compute, Move, Load, Goto, BranchOn, Call, Return, ToLink, EndByTrap}
+use Rattle.vx_isa.specs.declared.operation.Operation.TheVariants.{Compute, Goto, BranchOn, Call, Return, EndByTrap}
 use Rattle.vx_isa.specs.declared.program.Word.{Word}
 use Rattle.vx_isa.specs.declared.program.WordProgram.{WordProgram}
 use Rattle.vx_isa.specs.Operations.{same as same_register}
@@ -29,7 +29,7 @@ use Rattle.vx_mixed.specs.declared.layout.VirtualWord.TheVariants.{Planned, Drai
 use Rattle.vx_mixed.specs.declared.layout.VWords.{VWords}
 use Rattle.vx_mixed.specs.LaidSettled.{laid_reads, laid_writes, LeadsTo, LeavesCold}
 use Rattle.vx_regs.specs.Intervals.{word_writes}
-use Rattle.vx_frame.specs.Target.{Target, slotted, register_of, branch_of, stack_on, general, answer, fetched, bytes, parameters_of, leads, before, behind, plan_word, plan_words, landing_words, choice_words, save_words, move_stack, argument_words, call_words, back_words, return_words, fetch_words, entry_words, start_words, word_words, one, waits, pause, in_flight, settled, slots_in_flight}
+use Rattle.vx_frame.specs.Target.{Target, slotted, register_of, branch_of, stack_on, bytes, parameters_of, leads, before, behind, plan_word, plan_words, landing_words, choice_words, save_words, move_stack, argument_words, call_words, back_words, answer_words, return_words, fetch_words, entry_words, start_words, word_words, one, waits, pause, in_flight, slots_in_flight}
 use Rattle.vx_frame.specs.Placed.{Label, Start, Entry, At, Landing, Depth, Labelled, laid_pieces, landing_of, item_landings, word_landings, landing_pieces, function_pieces, functions_pieces, all_pieces}
 use Rattle.vx_frame.specs.Carried.{Carries, IsMapped, FrameLaw}
 use Rattle.vx_frame.specs.Fitted.{FitLaw}
@@ -59,6 +59,10 @@ first_before : (xs ys : List Word) → HasFirst xs → HasFirst (xs ++ ys)
 first_before [] ys h = absurd (let e = h.2 in cc)
 first_before (x ∷ xs) ys h = (x, xs ++ ys, refl)
 
+first_after : (xs ys : List Word) → HasFirst ys → HasFirst (xs ++ ys)
+first_after [] ys h = h
+first_after (x ∷ xs) ys h = (x, xs ++ ys, refl)
+
 some_call : (T : Target) (f p g : ℕ) (arguments : List Operand) → HasFirst (call_words T f p g arguments)
 some_call T f p g arguments =
     let test : Word = one (Compute 0 (ToBranch Ltu) (InBranch (record { cluster = 0; number = 0 })) (Held (stack_on 0)) (Number (bytes (T.globals + T.frame)))) in
@@ -71,10 +75,7 @@ some_word T f p (Drain n) = (waits n, [], refl)
 some_word T f p (Transfer q) = (one (Goto (T.starts f q)), [], refl)
 some_word T f p (Choice test q) = first_behind (before T f (test ∷ [])) (one (BranchOn (branch_of T f (test ∷ []) test) true (T.starts f q))) []
 some_word T f p (Calls g arguments result) = first_before (call_words T f p g arguments) (back_words T f p result) (some_call T f p g arguments)
-some_word T f p (Returns x) =
-    let move : Word = one (Move 0 answer (fetched T f x)) in
-    let load : Word = one (Load 0 (general 0 3) (pos 0) (stack_on 0) false) in
-    first_behind (fetch_words T f 0 x) move (load ∷ (pause (in_flight T.machine 0 (move ∷ load ∷ [])) ++ (settled T (one (ToLink (Held (general 0 3))) ∷ []) ++ one Return ∷ [])))
+some_word T f p (Returns x) = first_after (fetch_words T f 0 x) (answer_words T f x ++ one Return ∷ []) (first_behind (answer_words T f x) (one Return) [])
 some_word T f p (Ends k) = (one (EndByTrap k), [], refl)
 
 get_beyond : {A : Type 0} (xs : List A) (i : ℕ) → length xs ≤ i → slice_get xs i ≡ None

@@ -1,6 +1,7 @@
 -- Where the words of frames are: within the memory, apart from each other and from the globals.
-use Rattle.std.proofs.Common.{◌≡◌, ◌≢◌, ◌<◌, ◌≤◌, ◌⊎◌, inl, inr, ⊎_elim, ◌+◌, ◌-◌, ◌*◌, ℕ, zero, suc, ℤ, Bool, true, false, not, Some, None, List, [], ◌∷◌, length, refl, sym, ap, ◌∙◌, subst, arith, ltb}
+use Rattle.std.proofs.Common.{◌≡◌, ◌≢◌, ◌<◌, ◌≤◌, ◌⊎◌, inl, inr, ⊎_elim, ◌+◌, ◌-◌, ◌*◌, ℕ, zero, suc, ℤ, Bool, true, false, not, ◌||◌, Option, Some, None, List, [], ◌∷◌, length, refl, sym, ap, ◌∙◌, subst, arith, ltb}
 use Rattle.std.specs.Prelude.{if◌then◌else◌, slice_get, slice_index_or}
+use Rattle.std.specs.List.{list_any}
 use Rattle.std.proofs.lemmas.Bool.{ltb-true, ltb-false}
 use Rattle.vx_flow.specs.declared.graph.Array.{Array}
 use Rattle.vx_flow.specs.declared.graph.Global.{Global}
@@ -8,9 +9,14 @@ use Rattle.vx_flow.specs.declared.graph.Flow.{Flow}
 use Rattle.vx_flow.specs.Effects.{Content, IsIn}
 use Rattle.vx_flow.specs.Meaning.{Frame, spot_of, deepest}
 use Rattle.vx_flow.specs.Sound.{is_own as is_own_array, SoundFlow}
+use Rattle.vx_flow.specs.declared.graph.Operand.{Operand}
+use Rattle.vx_isa.specs.declared.operation.Register.TheVariants.{Link}
+use Rattle.vx_isa.specs.Machine.{State}
+use Rattle.vx_mixed.specs.declared.layout.VirtualWord.{VirtualWord}
+use Rattle.vx_mixed.specs.declared.layout.VirtualWord.TheVariants.{Call}
 use Rattle.vx_mixed.specs.declared.layout.VWords.{VWords}
-use Rattle.vx_frame.specs.Target.{Target, is_own, memory_words}
-use Rattle.vx_frame.specs.Tied.{Row, row_in, begins_at, Arrays, IsFunction, Below, Deep, own_arrays, word_at}
+use Rattle.vx_frame.specs.Target.{Target, is_own, is_call_word, is_caller, memory_words}
+use Rattle.vx_frame.specs.Tied.{Row, row_in, begins_at, Arrays, IsFunction, Below, Deep, own_arrays, word_at, link_in}
 use Rattle.vx_frame.specs.Carried.{NeedsSlot, HasWord, IsFramed, words_before}
 
 pub get_below : {A : Type 0} (xs : List A) (i : ℕ) (x : A) → slice_get xs i ≡ Some x → i < length xs
@@ -27,6 +33,28 @@ pub get_in : {A : Type 0} (xs : List A) (i : ℕ) (x : A) → slice_get xs i ≡
 get_in [] i x e = absurd (cc)
 get_in (y ∷ ys) zero x e = inl (cc)
 get_in (y ∷ ys) (suc i) x e = inr (get_in ys i x e)
+
+-- where the link is
+
+any_call : (xs : List VirtualWord) (i : ℕ) (x : VirtualWord) → slice_get xs i ≡ Some x → is_call_word x ≡ true → list_any is_call_word xs ≡ true
+any_call [] i x e h = absurd (cc)
+any_call (y ∷ ys) zero x e h = let s : y ≡ x = cc in ap (λ b. b || list_any is_call_word ys) (ap is_call_word s ∙ h)
+any_call (y ∷ ys) (suc i) x e h = ap (λ b. is_call_word y || b) (any_call ys i x e h) ∙ or_true (is_call_word y)
+  where
+    or_true : (b : Bool) → (b || true) ≡ true
+    or_true true = refl
+    or_true false = refl
+
+-- a function that calls keeps it in its frame
+pub link_in_frame : (T : Target) (u : State) (sp f p g : ℕ) (arguments : List Operand) (result : Option ℕ) → slice_get (T.layout f).words p ≡ Some (Call g arguments result) → link_in T u sp f ≡ word_at u.memory sp
+link_in_frame T u sp f p g arguments result e = ap (λ b. if b then word_at u.memory sp else u.registers Link) (any_call (T.layout f).words p (Call g arguments result) e refl)
+
+pub link_stays : (T : Target) (u v : State) (sp f : ℕ) → word_at v.memory sp ≡ word_at u.memory sp → v.registers Link ≡ u.registers Link → link_in T v sp f ≡ link_in T u sp f
+link_stays T u v sp f memory register = by (is_caller T f)
+  where
+    by : (b : Bool) → (if b then word_at v.memory sp else v.registers Link) ≡ (if b then word_at u.memory sp else u.registers Link)
+    by true = memory
+    by false = register
 
 -- the globals stand one after the other
 

@@ -1,5 +1,5 @@
 -- The words of a return: the result comes to the answer's register, and the run to the place that the link names.
-use Rattle.std.proofs.Common.{◌≡◌, ◌≢◌, ◌<◌, ◌≤◌, inl, ⊎_elim, ◌+◌, ◌*◌, ◌^◌, ℕ, zero, suc, ℤ, pos, Bool, true, false, Some, List, [], ◌∷◌, ◌++◌, length, refl, sym, ap, ◌∙◌, subst, arith}
+use Rattle.std.proofs.Common.{◌≡◌, ◌≢◌, ◌<◌, ◌≤◌, inl, ⊎_elim, ◌+◌, ◌*◌, ◌^◌, ℕ, zero, suc, ℤ, pos, Bool, true, false, Some, List, [], ◌∷◌, ◌++◌, length, length-append, refl, sym, ap, ◌∙◌, subst, arith}
 use Rattle.std.specs.Prelude.{slice_get, if◌then◌else◌}
 use Rattle.std.proofs.lemmas.Bool.{false_from_ne_true}
 use Rattle.std.proofs.lemmas.List.{append-nil}
@@ -26,7 +26,7 @@ use Rattle.vx_mixed.specs.declared.layout.VWords.{VWords}
 use Rattle.vx_mixed.specs.Laid.{laid_program, laid_hop, some_word_hop, laid_body}
 use Rattle.vx_mixed.specs.LaidSettled.{bank_in}
 use Rattle.vx_regs.specs.Intervals.{IsLive, here, is_live}
-use Rattle.vx_frame.specs.Target.{Target, answer, general, kept, is_slotted, is_branch, holds_branch, stack_on, register_of, one, pause, in_flight, settled, fetch_words, fetched, return_words, memory_words}
+use Rattle.vx_frame.specs.Target.{Target, answer, general, kept, is_slotted, is_branch, holds_branch, stack_on, register_of, one, pause, in_flight, settled, is_caller, fetch_words, fetched, answer_words, return_words, memory_words}
 use Rattle.vx_frame.specs.Tied.{Tied, AtWord, Shows, back_place, is_place, moved as moved_number, word_at}
 use Rattle.vx_frame.specs.Carried.{Carries, IsFunctionOf, is_spilled}
 use Rattle.vx_frame.proofs.Bytes.{unsigned_small}
@@ -37,7 +37,7 @@ use Rattle.vx_frame.proofs.FromGraph.{place_made, whole_bank, has_whole, whole_i
 use Rattle.vx_frame.proofs.Live.{live_bank}
 use Rattle.vx_frame.proofs.Names.{not_zero, not_general}
 use Rattle.vx_frame.proofs.Passing.{CanFetch, OperandAt, Got, fetch_run}
-use Rattle.vx_frame.proofs.Slots.{number_in, stack_no_answer}
+use Rattle.vx_frame.proofs.Slots.{number_in, stack_no_answer, link_unnamed, link_no_general}
 use Rattle.vx_frame.proofs.Stands.{word_stands}
 use Rattle.vx_frame.proofs.Steps.{Stands, stands_left, stands_right, Quiet, quiet_on, Comes, Forth, comes_on, then_forth, forth_comes, Set, set_step, Paused, pause_step, word_step, load_step}
 
@@ -107,8 +107,21 @@ module _ (T : Target) (flow : Flow) (ls : List VWords) (w : WordProgram) (sound 
   abbrev Fetches : List Word
   Fetches = fetch_words T F 0 x
 
+  abbrev Answering : Word
+  Answering = one (Move 0 answer (fetched T F x))
+
+  abbrev Loading : Word
+  Loading = one (Load 0 (general 0 3) (pos 0) (stack_on 0) false)
+
+  abbrev Linking : Word
+  Linking = one (ToLink (Held (general 0 3)))
+
+  -- the words that ready the answer and the link, in a function that calls and in another
+  abbrev Readies : Bool → List Word
+  Readies b = if b then settled T (Answering ∷ Loading ∷ []) ++ settled T (Linking ∷ []) else settled T (Answering ∷ [])
+
   abbrev Last : List Word
-  Last = settled T (one (Move 0 answer (fetched T F x)) ∷ one (Load 0 (general 0 3) (pos 0) (stack_on 0) false) ∷ []) ++ (settled T (one (ToLink (Held (general 0 3))) ∷ []) ++ one GoBack ∷ [])
+  Last = answer_words T F x ++ one GoBack ∷ []
 
   stands : Stands w.words u.place (Fetches ++ Last)
   stands = subst (λ q. Stands w.words q (return_words T F x)) (sym at_word.place) (word_stands T flow.main (length flow.functions) w.words carries.placed F p (Return x) below plan)
@@ -172,93 +185,145 @@ module _ (T : Target) (flow : Flow) (ls : List VWords) (w : WordProgram) (sound 
     stack_a : (k : ℕ) → k < T.machine.clusters → register A (General (stack_on k)) ≡ pos (4 * Sp)
     stack_a k lt = got.others (General (stack_on k)) (λ v e h q. (can v e).usable.not_stack k (sym q)) (stack_no_answer k) ∙ tied.stack k lt
 
-    answering : Set T.machine w fit A (General answer) n
-    answering = set_step T.machine w fit A (Move 0 answer (fetched T F x)) (General answer) n got.quiet.calm st.0 (record { bad = refl; takes = refl; prints = refl; stores = λ m. refl; leads = λ ops. refl }) refl refl got.is
+    answering : slice_get w.words A.place ≡ Some Answering → Set T.machine w fit A (General answer) n
+    answering at = set_step T.machine w fit A (Move 0 answer (fetched T F x)) (General answer) n got.quiet.calm at (record { bad = refl; takes = refl; prints = refl; stores = λ m. refl; leads = λ ops. refl }) refl refl got.is
 
-    abbrev B : State
-    B = answering.to
+    link_a : seen A.registers Link ≡ seen u.registers Link
+    link_a = got.others Link (λ v e h. link_unnamed T F (v ∷ []) v) (link_no_general answer)
 
-    stack_b : (k : ℕ) → k < T.machine.clusters → register B (General (stack_on k)) ≡ pos (4 * Sp)
-    stack_b k lt = answering.others (General (stack_on k)) (stack_no_answer k) ∙ stack_a k lt
+    -- the result is in its register, and so is the link
+    record Readied (taken : ℕ) : Type 0 where
+      to : State
+      comes : Comes T.machine w fit A to
+      place : to.place ≡ A.place + taken
+      quiet : Quiet A to
+      memory : to.memory ≡ A.memory
+      answered : seen to.registers (General answer) ≡ n
+      stack : (k : ℕ) → k < T.machine.clusters → register to (General (stack_on k)) ≡ pos (4 * Sp)
+      link : seen to.registers Link ≡ wrap (pos (back_place T r.waiting))
 
-    abbrev Loading : Word
-    Loading = one (Load 0 (general 0 3) (pos 0) (stack_on 0) false)
+    module _ (calls : is_caller T F ≡ true) (st : Stands w.words A.place (Readies true)) where
+      abbrev FirstPause : ℕ
+      FirstPause = in_flight T.machine 0 (Answering ∷ Loading ∷ [])
 
-    loading : Set T.machine w fit B (General (general 0 3)) (word_at B.memory (Sp + 0))
-    loading = load_step T.machine w fit (memory_words T) carries.memory small B 0 (general 0 3) (stack_on 0) Sp 0 answering.quiet.calm (subst (λ q. slice_get w.words q ≡ Some Loading) (sym answering.place) st.1.0) (stack_b 0 some) first_inside refl
+      abbrev LoadLate : List Word
+      LoadLate = pause FirstPause
 
-    abbrev C : State
-    C = loading.to
+      abbrev LinkPause : ℕ
+      LinkPause = in_flight T.machine 0 (Linking ∷ [])
 
-    place_c : C.place ≡ (A.place + 1) + 1
-    place_c = let a = loading.place in let b = answering.place in omega arith
+      abbrev LinkLate : List Word
+      LinkLate = pause LinkPause
 
-    abbrev Linking : Word
-    Linking = one (ToLink (Held (general 0 3)))
+      abbrev Links : List Word
+      Links = Linking ∷ LinkLate
 
-    abbrev LinkPause : ℕ
-    LinkPause = in_flight T.machine 0 (Linking ∷ [])
+      answers : Set T.machine w fit A (General answer) n
+      answers = answering st.0
 
-    abbrev FirstPause : ℕ
-    FirstPause = in_flight T.machine 0 (one (Move 0 answer (fetched T F x)) ∷ one (Load 0 (general 0 3) (pos 0) (stack_on 0) false) ∷ [])
+      abbrev B : State
+      B = answers.to
 
-    abbrev LoadLate : List Word
-    LoadLate = pause FirstPause
+      stack_b : (k : ℕ) → k < T.machine.clusters → register B (General (stack_on k)) ≡ pos (4 * Sp)
+      stack_b k lt = answers.others (General (stack_on k)) (stack_no_answer k) ∙ stack_a k lt
 
-    abbrev LinkLate : List Word
-    LinkLate = pause LinkPause
+      loading : Set T.machine w fit B (General (general 0 3)) (word_at B.memory (Sp + 0))
+      loading = load_step T.machine w fit (memory_words T) carries.memory small B 0 (general 0 3) (stack_on 0) Sp 0 answers.quiet.calm (subst (λ q. slice_get w.words q ≡ Some Loading) (sym answers.place) st.1.0) (stack_b 0 some) first_inside refl
 
-    abbrev Linked : List Word
-    Linked = Linking ∷ (LinkLate ++ one GoBack ∷ [])
+      abbrev C : State
+      C = loading.to
 
-    pausing : Paused T.machine w fit C (C.place + length LoadLate)
-    pausing = pause_step T.machine w fit C FirstPause loading.quiet.calm (subst (λ q. Stands w.words q LoadLate) (sym place_c) (stands_left w.words ((A.place + 1) + 1) LoadLate Linked st.1.1))
+      place_c : C.place ≡ (A.place + 1) + 1
+      place_c = let a = loading.place in let b = answers.place in omega arith
 
-    link_stands : Stands w.words (((A.place + 1) + 1) + length LoadLate) Linked
-    link_stands = stands_right w.words ((A.place + 1) + 1) LoadLate Linked st.1.1
+      pausing : Paused T.machine w fit C (C.place + length LoadLate)
+      pausing = pause_step T.machine w fit C FirstPause loading.quiet.calm (subst (λ q. Stands w.words q LoadLate) (sym place_c) (stands_left w.words ((A.place + 1) + 1) LoadLate Links st.1.1))
 
-    abbrev D : State
-    D = pausing.to
+      link_stands : Stands w.words (((A.place + 1) + 1) + length LoadLate) Links
+      link_stands = stands_right w.words ((A.place + 1) + 1) LoadLate Links st.1.1
 
-    place_d : D.place ≡ ((A.place + 1) + 1) + length LoadLate
-    place_d = let a = pausing.place in let b = place_c in omega arith
+      abbrev D : State
+      D = pausing.to
 
-    linking : Set T.machine w fit D Link (register D (General (general 0 3)))
-    linking = set_step T.machine w fit D (ToLink (Held (general 0 3))) Link (register D (General (general 0 3))) pausing.quiet.calm (subst (λ q. slice_get w.words q ≡ Some Linking) (sym place_d) link_stands.0) (record { bad = refl; takes = refl; prints = refl; stores = λ m. refl; leads = λ ops. refl }) refl refl refl
+      place_d : D.place ≡ ((A.place + 1) + 1) + length LoadLate
+      place_d = let a = pausing.place in let b = place_c in omega arith
 
-    abbrev E : State
-    E = linking.to
+      linking : Set T.machine w fit D Link (register D (General (general 0 3)))
+      linking = set_step T.machine w fit D (ToLink (Held (general 0 3))) Link (register D (General (general 0 3))) pausing.quiet.calm (subst (λ q. slice_get w.words q ≡ Some Linking) (sym place_d) link_stands.0) (record { bad = refl; takes = refl; prints = refl; stores = λ m. refl; leads = λ ops. refl }) refl refl refl
 
-    place_e : E.place ≡ (((A.place + 1) + 1) + length LoadLate) + 1
-    place_e = let a = linking.place in let b = place_d in omega arith
+      abbrev E : State
+      E = linking.to
 
-    resting : Paused T.machine w fit E (E.place + length LinkLate)
-    resting = pause_step T.machine w fit E LinkPause linking.quiet.calm (subst (λ q. Stands w.words q LinkLate) (sym place_e) (stands_left w.words ((((A.place + 1) + 1) + length LoadLate) + 1) LinkLate (one GoBack ∷ []) link_stands.1))
+      place_e : E.place ≡ (((A.place + 1) + 1) + length LoadLate) + 1
+      place_e = let a = linking.place in let b = place_d in omega arith
 
-    last_stands : Stands w.words (((((A.place + 1) + 1) + length LoadLate) + 1) + length LinkLate) (one GoBack ∷ [])
-    last_stands = stands_right w.words ((((A.place + 1) + 1) + length LoadLate) + 1) LinkLate (one GoBack ∷ []) link_stands.1
+      resting : Paused T.machine w fit E (E.place + length LinkLate)
+      resting = pause_step T.machine w fit E LinkPause linking.quiet.calm (subst (λ q. Stands w.words q LinkLate) (sym place_e) link_stands.1)
+
+      abbrev R : State
+      R = resting.to
+
+      -- a register that is none of those with a use is as it was when the result had been fetched
+      others_r : (q : Register) → q ≢ Link → q ≢ General (general 0 3) → seen R.registers q ≡ seen B.registers q
+      others_r q nl ns = ap (λ y. seen y q) resting.registers ∙ linking.others q nl ∙ ap (λ y. seen y q) pausing.registers ∙ loading.others q ns
+
+      memory_b : B.memory ≡ u.memory
+      memory_b = answers.memory ∙ got.memory
+
+      in_frame : word_at u.memory Sp ≡ wrap (pos (back_place T r.waiting))
+      in_frame = ap (λ b. if b then word_at u.memory Sp else u.registers Link) (sym calls) ∙ at_word.link
+
+      link_is : seen R.registers Link ≡ wrap (pos (back_place T r.waiting))
+      link_is =
+          let zero_up : Sp + 0 ≡ Sp = omega arith in
+          ap (λ y. seen y Link) resting.registers ∙ linking.at ∙ ap (λ y. seen y (General (general 0 3))) pausing.registers ∙ loading.at
+          ∙ ap (λ y. word_at y (Sp + 0)) memory_b ∙ ap (word_at u.memory) zero_up ∙ in_frame
+
+      readied_by_frame : Readied (length (Readies true))
+      readied_by_frame = record {
+        to = R;
+        comes = comes_on T.machine w fit A B R (forth_comes T.machine w fit A B answers.forth) (comes_on T.machine w fit B C R (forth_comes T.machine w fit B C loading.forth)
+            (comes_on T.machine w fit C D R pausing.comes (comes_on T.machine w fit D E R (forth_comes T.machine w fit D E linking.forth) resting.comes)));
+        place = (let a = resting.place in let b = place_e in let c = length-append LoadLate Links in omega arith);
+        quiet = quiet_on A B R answers.quiet (quiet_on B C R loading.quiet (quiet_on C D R pausing.quiet (quiet_on D E R linking.quiet resting.quiet)));
+        memory = resting.memory ∙ linking.memory ∙ pausing.memory ∙ loading.memory ∙ answers.memory;
+        answered = others_r (General answer) (λ e. absurd (cc)) answer_no_scratch ∙ answers.at;
+        stack = λ k lt. others_r (General (stack_on k)) (λ e. absurd (cc)) (stack_no_scratch k) ∙ stack_b k lt;
+        link = link_is;
+      }
+
+    readied_in_register : is_caller T F ≡ false → Stands w.words A.place (Readies false) → Readied (length (Readies false))
+    readied_in_register calls st =
+        let n : ℕ = in_flight T.machine 0 (Answering ∷ []) in
+        let a = answering st.0 in
+        let b = pause_step T.machine w fit a.to n a.quiet.calm (subst (λ q. Stands w.words q (pause n)) (sym a.place) st.1) in
+        let in_register : seen u.registers Link ≡ wrap (pos (back_place T r.waiting)) = ap (λ b. if b then word_at u.memory Sp else u.registers Link) (sym calls) ∙ at_word.link in
+        record {
+          to = b.to;
+          comes = comes_on T.machine w fit A a.to b.to (forth_comes T.machine w fit A a.to a.forth) b.comes;
+          place = (let x = b.place in let y = a.place in omega arith);
+          quiet = quiet_on A a.to b.to a.quiet b.quiet;
+          memory = b.memory ∙ a.memory;
+          answered = ap (λ y. seen y (General answer)) b.registers ∙ a.at;
+          stack = λ k lt. ap (λ y. seen y (General (stack_on k))) b.registers ∙ a.others (General (stack_on k)) (stack_no_answer k) ∙ stack_a k lt;
+          link = ap (λ y. seen y Link) b.registers ∙ a.others Link (link_no_general answer) ∙ link_a ∙ in_register;
+        }
+
+    readied_by : (b : Bool) → is_caller T F ≡ b → Stands w.words A.place (Readies b) → Readied (length (Readies b))
+    readied_by true h s = readied_by_frame h s
+    readied_by false h s = readied_in_register h s
+
+    readied : Readied (length (answer_words T F x))
+    readied = readied_by (is_caller T F) refl (stands_left w.words A.place (answer_words T F x) (one GoBack ∷ []) st)
 
     abbrev G : State
-    G = resting.to
+    G = readied.to
 
-    place_g : G.place ≡ ((((A.place + 1) + 1) + length LoadLate) + 1) + length LinkLate
-    place_g = let a = resting.place in let b = place_e in omega arith
-
-    memory_b : B.memory ≡ u.memory
-    memory_b = answering.memory ∙ got.memory
-
-    -- a register that is none of those with a use is as it was when the result had been fetched
-    others_g : (q : Register) → q ≢ Link → q ≢ General (general 0 3) → seen G.registers q ≡ seen B.registers q
-    others_g q nl ns = ap (λ y. seen y q) resting.registers ∙ linking.others q nl ∙ ap (λ y. seen y q) pausing.registers ∙ loading.others q ns
-
-    link_is : seen G.registers Link ≡ wrap (pos (back_place T r.waiting))
-    link_is =
-        let zero_up : Sp + 0 ≡ Sp = omega arith in
-        ap (λ y. seen y Link) resting.registers ∙ linking.at ∙ ap (λ y. seen y (General (general 0 3))) pausing.registers ∙ loading.at
-        ∙ ap (λ y. word_at y (Sp + 0)) memory_b ∙ ap (word_at u.memory) zero_up ∙ at_word.link
+    last_stands : Stands w.words G.place (one GoBack ∷ [])
+    last_stands = subst (λ q. Stands w.words q (one GoBack ∷ [])) (sym readied.place) (stands_right w.words A.place (answer_words T F x) (one GoBack ∷ []) st)
 
     goes_to : unsigned (G.registers Link) ≡ back_place T r.waiting
-    goes_to = ap unsigned link_is ∙ unsigned-wrap (pos (back_place T r.waiting)) ∙ unsigned_small (back_place T r.waiting) few
+    goes_to = ap unsigned readied.link ∙ unsigned-wrap (pos (back_place T r.waiting)) ∙ unsigned_small (back_place T r.waiting) few
 
     abbrev Going_back : Word
     Going_back = one GoBack
@@ -267,15 +332,13 @@ module _ (T : Target) (flow : Flow) (ls : List VWords) (w : WordProgram) (sound 
     H = after w G Going_back (back_place T r.waiting)
 
     going : Forth T.machine w fit G H
-    going = word_step T.machine w fit G Going_back (back_place T r.waiting) resting.quiet.calm (subst (λ q. slice_get w.words q ≡ Some Going_back) (sym place_g) last_stands.0) (record { addresses = refl; input = refl }) (ap To goes_to)
+    going = word_step T.machine w fit G Going_back (back_place T r.waiting) readied.quiet.calm last_stands.0 (record { addresses = refl; input = refl }) (ap To goes_to)
 
     comes_g : Comes T.machine w fit u G
-    comes_g =
-        comes_on T.machine w fit u A G got.comes (comes_on T.machine w fit A B G (forth_comes T.machine w fit A B answering.forth) (comes_on T.machine w fit B C G (forth_comes T.machine w fit B C loading.forth)
-        (comes_on T.machine w fit C D G pausing.comes (comes_on T.machine w fit D E G (forth_comes T.machine w fit D E linking.forth) resting.comes))))
+    comes_g = comes_on T.machine w fit u A G got.comes readied.comes
 
     quiet_g : Quiet u G
-    quiet_g = quiet_on u A G got.quiet (quiet_on A B G answering.quiet (quiet_on B C G loading.quiet (quiet_on C D G pausing.quiet (quiet_on D E G linking.quiet resting.quiet))))
+    quiet_g = quiet_on u A G got.quiet readied.quiet
 
     pub left_run : Left T w fit Sp u (back_place T r.waiting) n
     left_run = record {
@@ -283,7 +346,7 @@ module _ (T : Target) (flow : Flow) (ls : List VWords) (w : WordProgram) (sound 
       forth = then_forth T.machine w fit u G H comes_g going;
       place = refl;
       quiet = record { calm = refl; input = quiet_g.input; out = append-nil G.out ∙ quiet_g.out };
-      memory = resting.memory ∙ linking.memory ∙ pausing.memory ∙ loading.memory ∙ memory_b;
-      answered = others_g (General answer) (λ e. absurd (cc)) answer_no_scratch ∙ answering.at;
-      stack = λ k lt. others_g (General (stack_on k)) (λ e. absurd (cc)) (stack_no_scratch k) ∙ stack_b k lt;
+      memory = readied.memory ∙ got.memory;
+      answered = readied.answered;
+      stack = readied.stack;
     }

@@ -2,10 +2,10 @@
 use Rattle.std.proofs.Common.{◌≡◌, ℕ, suc, ◌+◌, true, Option, Some, None, List, [], ◌∷◌, ◌++◌, length, refl, sym, ap, ◌∙◌, arith, length-append}
 use Rattle.vx_flow.specs.declared.graph.Operand.{Operand}
 use Rattle.vx_flow.specs.declared.graph.Operand.TheVariants.{Held as HeldValue, Number as AsNumber, Stack}
-use Rattle.std.specs.Prelude.{neg_ℤ, pos, max, ◌-◌, ◌==◌, Bool, false, if◌then◌else◌}
+use Rattle.std.specs.Prelude.{neg_ℤ, max, ◌-◌, ◌==◌, Bool, false, if◌then◌else◌}
 use Rattle.vx_base.specs.declared.arithmetic.Code.TheVariants.{ToBranch}
 use Rattle.vx_base.specs.declared.arithmetic.Compare.TheVariants.{Ltu}
-use Rattle.vx_isa.specs.declared.operation.Operation.TheVariants.{BranchOn, Call, Compute, FromLink, Goto, Halt, Store}
+use Rattle.vx_isa.specs.declared.operation.Operation.TheVariants.{BranchOn, Call, Compute, Goto, Halt, Store}
 use Rattle.vx_isa.specs.declared.operation.Register.TheVariants.{Branch as InBranch}
 use Rattle.vx_isa.specs.declared.operation.Source.TheVariants.{Held, Number}
 use Rattle.vx_isa.specs.declared.program.Word.{Word}
@@ -16,7 +16,7 @@ use Rattle.vx_mixed.specs.declared.layout.Laid.TheVariants.{Plain, Split}
 use Rattle.vx_mixed.specs.declared.layout.VirtualWord.{VirtualWord}
 use Rattle.vx_mixed.specs.declared.layout.VirtualWord.TheVariants.{Planned, Drain, Transfer, Choice, Call as Calls, Return as Returns, Ends}
 use Rattle.vx_mixed.specs.LaidSettled.{laid_reads, laid_writes}
-use Rattle.vx_frame.specs.Target.{Target, answer, bytes, general, one, set_stack, start_words, stack_on, move_stack, parameters_of, slotted, general_of, branch_of, load_slot, store_slot, load_slots, store_slots, if_some, once, pause, settled, if_any, slots_in_flight, before, behind, plan_word, plan_words, landing_words, fetch_words, fetched, cluster_of_operand, argument_words, result_words, save_words, reload_words, call_words, back_words, return_words, way, entry_words, word_words}
+use Rattle.vx_frame.specs.Target.{Target, answer, bytes, one, set_stack, start_words, stack_on, move_stack, parameters_of, slotted, general_of, branch_of, load_slot, store_slot, load_slots, store_slots, if_some, once, pause, settled, if_any, slots_in_flight, before, behind, plan_word, plan_words, landing_words, fetch_words, fetched, cluster_of_operand, argument_words, result_words, save_words, reload_words, call_words, back_words, return_words, way, link_words, entry_words, word_words}
 use Rattle.vx_frame.specs.Placed.{landing_of, item_landings, word_landings, words_of}
 use Rattle.vx_frame.specs.Placing.{Spots, at_spots}
 use Rattle.vx_frame.proofs.Emitting.{words_of_append}
@@ -114,9 +114,8 @@ way_length T s f next q = by (next == q)
 
 pub entry_length : (T : Target) (s : Spots) (g : ℕ) → length (entry_words (at_spots T s) g) ≡ length (entry_words T g)
 entry_length T s g =
-    let keep : Word = one (Store 0 (pos 0) (stack_on 0) (Held (general 0 3))) in
-    len_behind (settled T (one (FromLink (general 0 3)) ∷ [])) (keep ∷ (reload_words (at_spots T s) g (T.brought g) ++ way (at_spots T s) g 0 (T.layout g).entry)) (keep ∷ (reload_words T g (T.brought g) ++ way T g 0 (T.layout g).entry))
-    (ap suc (len_both (reload_words (at_spots T s) g (T.brought g)) (way (at_spots T s) g 0 (T.layout g).entry) (reload_words T g (T.brought g)) (way T g 0 (T.layout g).entry) (ap length (reload_same T s g (T.brought g))) (way_length T s g 0 (T.layout g).entry)))
+    len_behind (link_words T g) (reload_words (at_spots T s) g (T.brought g) ++ way (at_spots T s) g 0 (T.layout g).entry) (reload_words T g (T.brought g) ++ way T g 0 (T.layout g).entry)
+    (len_both (reload_words (at_spots T s) g (T.brought g)) (way (at_spots T s) g 0 (T.layout g).entry) (reload_words T g (T.brought g)) (way T g 0 (T.layout g).entry) (ap length (reload_same T s g (T.brought g))) (way_length T s g 0 (T.layout g).entry))
 
 pub start_length : (T : Target) (s : Spots) (main : ℕ) → length (start_words (at_spots T s) main) ≡ length (start_words T main)
 start_length T s main = len_behind (set_stack T) (one (Call (s.entry main)) ∷ one (Halt (Held answer)) ∷ []) (one (Call (T.entry main)) ∷ one (Halt (Held answer)) ∷ []) refl

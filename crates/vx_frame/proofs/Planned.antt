@@ -36,7 +36,7 @@ use Rattle.vx_frame.proofs.FromGraph.{branch_plain, op_proper, test_proper}
 use Rattle.vx_frame.proofs.Names.{Few, apart_all, apart_mixed, apart_registers, not_zero, not_general}
 use Rattle.vx_frame.proofs.Live.{reads_bank, writes_bank, live_bank}
 use Rattle.vx_frame.proofs.Enough.{few_reads, few_writes, named_busy, some_cluster}
-use Rattle.vx_frame.proofs.Frames.{get_below, get_some, get_in, frame_room, inside, apart, one_spot, slot_free, link_free, above_free, waiting_row, global_row, below_keep}
+use Rattle.vx_frame.proofs.Frames.{get_below, get_some, get_in, frame_room, inside, apart, one_spot, slot_free, link_free, link_stays, above_free, waiting_row, global_row, below_keep}
 use Rattle.vx_frame.proofs.Op.{SameShape}
 use Rattle.vx_frame.proofs.Items.{Ran, shape_items, others_items, same_items}
 use Rattle.vx_frame.proofs.Steps.{Stands}
@@ -296,7 +296,7 @@ module _ (T : Target) (flow : Flow) (ls : List VWords) (w : WordProgram) (sound 
       calm = arrived.calm;
       deep = tied.deep;
       stack = arrived.stack;
-      at = inr (q, record { block = refl; place = arrived.place; values = values; link = link ∙ at_word.link });
+      at = inr (q, record { block = refl; place = arrived.place; values = values; link = link_stays T u To Sp F link arrived.link ∙ at_word.link });
       arrays = rows;
       first = tied.first;
       last = tied.last ∙ sym shape.count;

@@ -41,7 +41,7 @@ use Rattle.vx_frame.specs.Planned.{CarriesOn, EndsAlike}
 use Rattle.vx_frame.specs.Returned.{ReturnLaw}
 use Rattle.vx_frame.proofs.Calm.{AllFit, after, not_stuck, effect_is}
 use Rattle.vx_frame.proofs.Enough.{some_cluster}
-use Rattle.vx_frame.proofs.Frames.{get_below, get_in, frame_room, array_kind, IsGlobal, IsLocal, global_row, slot_free, below_keep}
+use Rattle.vx_frame.proofs.Frames.{get_below, get_in, frame_room, array_kind, IsGlobal, IsLocal, global_row, slot_free, link_in_frame, below_keep}
 use Rattle.vx_frame.proofs.FromGraph.{branch_plain, place_made, whole_bank, has_whole, whole_is}
 use Rattle.vx_frame.proofs.Leaving.{Left, hop_to, left_run}
 use Rattle.vx_frame.proofs.Live.{live_bank}
@@ -402,7 +402,7 @@ module _ (T : Target) (flow : Flow) (ls : List VWords) (w : WordProgram) (sound 
         calm = quiet_c.calm;
         deep = deep_back;
         stack = stack_c;
-        at = inr (suc P, record { block = waits.next; place = place_c; values = values; link = link_c });
+        at = inr (suc P, record { block = waits.next; place = place_c; values = values; link = link_in_frame T C Sp F P waits.callee waits.arguments fr.result waits.called ∙ link_c });
         arrays = arrays;
         first = waits.first;
         last = waits.last ∙ sym base_length;

@@ -12,7 +12,7 @@ use Rattle.vx_flow.specs.Effects.{Content, State as VState, Setting, IsIn}
 use Rattle.vx_flow.specs.Meaning.{Hop, Active, setting_of, by_test, body_hop, hop, after_hop, next}
 use Rattle.vx_flow.specs.Sound.{Sound, SoundFlow, is_sound_flow}
 use Rattle.vx_flow.proofs.SoundFlowLaw.{told}
-use Rattle.vx_isa.specs.declared.operation.Register.TheVariants.{General, Branch}
+use Rattle.vx_isa.specs.declared.operation.Register.TheVariants.{General, Branch, Link}
 use Rattle.vx_isa.specs.declared.operation.Operation.TheVariants.{BranchOn, EndByTrap}
 use Rattle.vx_isa.specs.declared.program.Word.{Word}
 use Rattle.vx_isa.specs.declared.program.WordProgram.{WordProgram}
@@ -23,7 +23,7 @@ use Rattle.vx_mixed.specs.declared.layout.VWords.{VWords}
 use Rattle.vx_mixed.specs.Laid.{moves, word_hop, laid_hop, some_word_hop, laid_body, laid_program}
 use Rattle.vx_mixed.specs.LaidSettled.{LeadsTo, bank_in}
 use Rattle.vx_regs.specs.Intervals.{IsLive, here, beyond, is_live, word_writes}
-use Rattle.vx_frame.specs.Target.{Target, stack_on, kept, is_slotted, holds_branch, same_file, scratch, general_of, branch_of, register_of, slotted, before, one, word_words, memory_words}
+use Rattle.vx_frame.specs.Target.{Target, answer, stack_on, kept, is_slotted, holds_branch, same_file, scratch, general_of, branch_of, register_of, slotted, before, one, word_words, memory_words}
 use Rattle.vx_frame.specs.Tied.{Tied, AtWord, Below, begins_at, Shows, holds, is_place, moved, word_at}
 use Rattle.vx_frame.specs.Carried.{Carries, IsFunctionOf, IsMapped, is_spilled}
 use Rattle.vx_frame.specs.Planned.{CarriesOn, EndsAlike, Simple, SimpleLaw}
@@ -33,9 +33,9 @@ use Rattle.vx_frame.proofs.FromGraph.{branch_plain, test_proper}
 use Rattle.vx_frame.proofs.Names.{Few, Filed, filed, index_below, apart_mixed, not_zero, not_general}
 use Rattle.vx_frame.proofs.Live.{live_bank}
 use Rattle.vx_frame.proofs.Enough.{some_cluster, some_issue}
-use Rattle.vx_frame.proofs.Frames.{get_below, get_in, frame_room}
+use Rattle.vx_frame.proofs.Frames.{get_below, get_in, frame_room, link_stays}
 use Rattle.vx_frame.proofs.Steps.{Stands, stands_left, stands_right, Quiet, Forth, then_forth, word_step, Passed, wait_step, goto_step}
-use Rattle.vx_frame.proofs.Slots.{Usable, Loaded, once_case, stack_no_answer}
+use Rattle.vx_frame.proofs.Slots.{Usable, Loaded, once_case, stack_no_answer, link_unnamed, link_no_general}
 use Rattle.vx_frame.proofs.Stands.{word_stands, word_next}
 use Rattle.vx_frame.proofs.Word.{slotted_from, slotted_in, read_shows}
 
@@ -79,6 +79,7 @@ module _ (T : Target) (flow : Flow) (ls : List VWords) (w : WordProgram) (sound 
     pub quiet : Quiet u v
     pub memory : v.memory ≡ u.memory
     pub stack : (k : ℕ) → k < T.machine.clusters → register v (General (stack_on k)) ≡ register u (General (stack_on k))
+    pub link : seen v.registers Link ≡ seen u.registers Link
     pub registers : (y : ℕ) → IsLive (T.layout F) p y → is_slotted (kept T F y) ≡ false → seen v.registers (register_of T F (y ∷ []) y) ≡ seen u.registers (register_of T F (y ∷ []) y)
 
   moved_on : (q : ℕ) (v : State) → next (laid_program flow ls) r ≡ On (record r { block = suc q }) → LeadsTo p word q → ((y : ℕ) → IsIn y (word_writes word) → ⊥) → KeptBy q v → CarriesOn T flow ls w r u
@@ -94,7 +95,7 @@ module _ (T : Target) (flow : Flow) (ls : List VWords) (w : WordProgram) (sound 
       calm = k.quiet.calm;
       deep = tied.deep;
       stack = λ c lt. k.stack c lt ∙ tied.stack c lt;
-      at = inr (q, record { block = refl; place = k.place; values = values; link = ap (λ g. word_at g tied.sp) k.memory ∙ at_word.link });
+      at = inr (q, record { block = refl; place = k.place; values = values; link = link_stays T u v tied.sp F (ap (λ g. word_at g tied.sp) k.memory) k.link ∙ at_word.link });
       arrays = record { row = λ a array has. let x = tied.arrays.row a array has in record { size = x.size; is = λ i n lt e. ap (λ g. word_at g (begins_at T tied.sp F a + i)) k.memory ∙ x.is i n lt e } };
       first = tied.first;
       last = tied.last;
@@ -119,6 +120,7 @@ module _ (T : Target) (flow : Flow) (ls : List VWords) (w : WordProgram) (sound 
     quiet = v.quiet;
     memory = v.memory;
     stack = λ k lt. ap (λ g. seen g (General (stack_on k))) v.registers;
+    link = ap (λ g. seen g Link) v.registers;
     registers = λ y l h. ap (λ g. seen g (register_of T F (y ∷ []) y)) v.registers;
   }
 
@@ -257,6 +259,7 @@ module _ (T : Target) (flow : Flow) (ls : List VWords) (w : WordProgram) (sound 
     quiet = record { calm = refl; input = got.quiet.input; out = append-nil got.to.out ∙ got.quiet.out };
     memory = got.memory;
     stack = λ k lt. got.others (General (stack_on k)) (λ v i e. not_general T Fn its.mapped Name test k 1 bank (omega arith) (ap (register_of T Fn Name) (sym (is_test v (slotted_from T Fn v Name i).0)) ∙ sym e)) (stack_no_answer k);
+    link = got.others Link (λ v i. link_unnamed T Fn Name v) (link_no_general answer);
     registers = λ y l h. got.others (register_of T Fn (y ∷ []) y)
         (λ v i. let k = slotted_from T Fn v Name i in apart_mixed T Fn its.mapped (y ∷ []) Name y v (live_bank T Fn its.mapped graph_sound p y l) enough k.0 h k.1)
         (not_general T Fn its.mapped (y ∷ []) y 0 2 (live_bank T Fn its.mapped graph_sound p y l) (omega arith));

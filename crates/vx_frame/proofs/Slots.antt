@@ -5,6 +5,7 @@ use Rattle.vx_base.specs.Arithmetic.{one_if, compare_of}
 use Rattle.vx_base.specs.declared.arithmetic.Code.TheVariants.{ToBranch}
 use Rattle.vx_base.specs.declared.arithmetic.Compare.TheVariants.{Ne}
 use Rattle.vx_flow.specs.Effects.{IsIn}
+use Rattle.vx_isa.specs.declared.operation.GeneralRegister.{GeneralRegister}
 use Rattle.vx_isa.specs.declared.operation.Register.{Register}
 use Rattle.vx_isa.specs.declared.operation.Register.TheVariants.{General, Branch, Link}
 use Rattle.vx_isa.specs.declared.operation.Source.TheVariants.{Held, Number}
@@ -32,6 +33,25 @@ number_in Link = 0
 
 pub one_two : suc zero ≡ suc (suc zero) → ⊥
 one_two q = omega arith
+
+abbrev is_link : Register → Bool
+is_link (General r) = false
+is_link (Branch r) = false
+is_link Link = true
+
+true_false : true ≡ false → ⊥
+true_false e = absurd (cc)
+
+-- no word names a value by the register of the link
+pub link_unnamed : (T : Target) (f : ℕ) (names : List ℕ) (v : ℕ) → Link ≢ register_of T f names v
+link_unnamed T f names v e = by (holds_branch T f v) e
+  where
+    by : (b : Bool) → Link ≡ (if b then Branch (record { cluster = 0; number = branch_of T f names v }) else General (general_of T f names v)) → ⊥
+    by true q = true_false (ap is_link q)
+    by false q = true_false (ap is_link q)
+
+pub link_no_general : (r : GeneralRegister) → Link ≢ General r
+link_no_general r e = true_false (ap is_link e)
 
 pub stack_no_answer : (k : ℕ) → General (stack_on k) ≢ General answer
 stack_no_answer k e = one_two (ap number_in e)

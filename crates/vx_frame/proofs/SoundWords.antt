@@ -38,7 +38,7 @@ use Rattle.vx_mixed.specs.declared.layout.VirtualWord.TheVariants.{Planned, Drai
 use Rattle.vx_mixed.specs.declared.layout.VWords.{VWords}
 use Rattle.vx_mixed.specs.LaidSettled.{laid_reads, laid_writes, Plans}
 use Rattle.vx_mixed.specs.Origins.{ComesFrom, graph_op}
-use Rattle.vx_frame.specs.Target.{Target, answer, general, general_of, branch_of, register_of, stack_on, holds_branch, is_slotted, kept, slotted, once, parameters_of, one, pause, in_flight, settled, set_stack, slots_in_flight, load_slot, store_slot, load_slots, store_slots, if_some, before, behind, leads, carried, carried_items, plan_word, plan_words, landing_words, on_clusters, move_stack, save_words, reload_words, fetch_words, fetched, cluster_of_operand, argument_words, result_words, call_words, back_words, return_words, way, entry_words, word_words, start_words, bytes, first_frame, memory_words}
+use Rattle.vx_frame.specs.Target.{Target, answer, general, general_of, branch_of, register_of, stack_on, holds_branch, is_slotted, kept, slotted, once, parameters_of, one, pause, in_flight, settled, set_stack, slots_in_flight, load_slot, store_slot, load_slots, store_slots, if_some, before, behind, leads, carried, carried_items, plan_word, plan_words, landing_words, on_clusters, move_stack, save_words, reload_words, fetch_words, fetched, cluster_of_operand, argument_words, result_words, call_words, back_words, is_caller, answer_words, return_words, way, link_words, entry_words, word_words, start_words, bytes, first_frame, memory_words}
 use Rattle.vx_frame.specs.Placed.{Depth, Labelled, laid_pieces, landing_of, item_landings, word_landings, landing_pieces, function_pieces, functions_pieces, all_pieces, words_of}
 use Rattle.vx_frame.specs.Carried.{Carries, IsFunctionOf, IsMapped, item_of_laid}
 use Rattle.vx_frame.specs.Finish.{SoundLaw}
@@ -51,7 +51,7 @@ use Rattle.vx_frame.proofs.FromGraph.{undismissed, op_proper}
 use Rattle.vx_frame.proofs.Limits.{Limits, limits}
 use Rattle.vx_frame.proofs.Pauses.{flight_few, slots_few}
 use Rattle.vx_frame.proofs.Proper.{ProperOp}
-use Rattle.vx_frame.proofs.Stands.{word_stands, landing_stands, entry_stands, depth_stands}
+use Rattle.vx_frame.proofs.Stands.{word_stands, landing_stands, entry_stands, entry_next, depth_stands}
 use Rattle.vx_frame.proofs.Steps.{Stands}
 
 -- words of which some stand at a place of a program
@@ -65,6 +65,9 @@ some_behind xs ys y = let a = length-append xs (y ∷ ys) in omega arith
 some_before : (xs ys : List Word) → 1 ≤ length xs → 1 ≤ length (xs ++ ys)
 some_before xs ys le = let a = length-append xs ys in omega arith
 
+some_after : (xs ys : List Word) → 1 ≤ length ys → 1 ≤ length (xs ++ ys)
+some_after xs ys le = let a = length-append xs ys in omega arith
+
 -- a place of a layout has words
 words_some : (T : Target) (f p : ℕ) (word : VirtualWord) → 1 ≤ length (word_words T f p word)
 words_some T f p (Planned rg wd items) = some_behind (before T f (laid_reads items)) (behind T f items) (plan_word T f p items)
@@ -75,10 +78,7 @@ words_some T f p (Calls g arguments result) =
     let test : Word = one (Compute 0 (ToBranch Ltu) (InBranch (record { cluster = 0; number = 0 })) (Held (stack_on 0)) (Number (bytes (T.globals + T.frame)))) in
     let rest : List Word = one (BranchOn 0 true T.depth_trap) ∷ (move_stack T (neg_ℤ (bytes T.frame)) ++ (argument_words T f g (parameters_of T g) arguments ++ one (Call (T.entry g)) ∷ [])) in
     some_before (call_words T f p g arguments) (back_words T f p result) (some_behind (save_words T f (T.saved f p)) (pause (in_flight T.machine 0 (test ∷ [])) ++ rest) test)
-words_some T f p (Returns x) =
-    let move : Word = one (Move 0 answer (fetched T f x)) in
-    let load : Word = one (Load 0 (general 0 3) (pos 0) (stack_on 0) false) in
-    some_behind (fetch_words T f 0 x) (load ∷ (pause (in_flight T.machine 0 (move ∷ load ∷ [])) ++ (settled T (one (ToLink (Held (general 0 3))) ∷ []) ++ one Return ∷ []))) move
+words_some T f p (Returns x) = some_after (fetch_words T f 0 x) (answer_words T f x ++ one Return ∷ []) (some_behind (answer_words T f x) [] (one Return))
 words_some T f p (Ends k) = omega arith
 
 landing_some : (T : Target) (f q : ℕ) (items : List Laid) → 1 ≤ length (landing_words T f items q)
@@ -158,7 +158,15 @@ module _ (T : Target) (flow : Flow) (ls : List VWords) (w : WordProgram) (sound 
       stands_below w.words (T.starts f q) (word_words T f q x.0) (words_some T f q x.0) (word_stands T flow.main Count w.words carries.placed f q x.0 lt x.1)
 
   entry_below : (f : ℕ) → f < Count → T.entry f < W
-  entry_below f lt = stands_below w.words (T.entry f) (entry_words T f) (omega arith) (entry_stands T flow.main Count w.words carries.placed f lt)
+  entry_below f lt = by (entry_words T f) refl (entry_stands T flow.main Count w.words carries.placed f lt)
+    where
+      by : (ws : List Word) → entry_words T f ≡ ws → Stands w.words (T.entry f) ws → T.entry f < W
+      by [] e st =
+          let a = entry_next T flow.main Count w.words carries.placed f lt in
+          let none : length (entry_words T f) ≡ 0 = ap length e in
+          let entry = (carries.functions f lt).mapped.settled.entry in
+          let b = start_below f 0 lt (omega arith) in omega arith
+      by (x ∷ xs) e st = stands_below w.words (T.entry f) (x ∷ xs) (omega arith) st
 
   trap_below : T.depth_trap < W
   trap_below = stands_below w.words T.depth_trap (one (EndByTrap ByDepth) ∷ []) (omega arith) (depth_stands T flow.main Count w.words carries.placed)
@@ -264,16 +272,30 @@ module _ (T : Target) (flow : Flow) (ls : List VWords) (w : WordProgram) (sound 
       right_append W N (move_stack T (bytes T.frame)) (result_words T f result ++ reload_words T f (T.saved f p)) (move_stack_right (bytes T.frame))
       (right_append W N (result_words T f result) (reload_words T f (T.saved f p)) (result_right f result) (reload_right f (T.saved f p)))
 
+  answer_right : (f : ℕ) (x : Operand) → Words (answer_words T f x)
+  answer_right f x = by (is_caller T f)
+    where
+      by : (b : Bool) → Words (if b then settled T (one (Move 0 answer (fetched T f x)) ∷ one (Load 0 (general 0 3) (pos 0) (stack_on 0) false) ∷ []) ++ settled T (one (ToLink (Held (general 0 3))) ∷ []) else settled T (one (Move 0 answer (fetched T f x)) ∷ []))
+      by true =
+          let move : Operation = Move 0 answer (fetched T f x) in
+          let load : Operation = Load 0 (general 0 3) (pos 0) (stack_on 0) false in
+          let link : Operation = ToLink (Held (general 0 3)) in
+          let loads : List Word = one move ∷ one load ∷ [] in
+          right_append W N (settled T loads) (settled T (one link ∷ [])) (settled_right loads (has_one W N move tt, (has_one W N load tt, tt))) (settled_right (one link ∷ []) (has_one W N link tt, tt))
+      by false = settled_right (one (Move 0 answer (fetched T f x)) ∷ []) (has_one W N (Move 0 answer (fetched T f x)) tt, tt)
+
   return_right : (f : ℕ) (x : Operand) → Words (return_words T f x)
-  return_right f x =
-      let move : Operation = Move 0 answer (fetched T f x) in
-      let load : Operation = Load 0 (general 0 3) (pos 0) (stack_on 0) false in
-      let link : Operation = ToLink (Held (general 0 3)) in
-      let loads : List Word = one move ∷ one load ∷ [] in
-      let links : List Word = settled T (one link ∷ []) ++ one Return ∷ [] in
-      let loaded : Words (settled T loads) = settled_right loads (has_one W N move tt, (has_one W N load tt, tt)) in
-      let linked : Words links = one_settled link (one Return ∷ []) tt (has_one W N Return tt, tt) in
-      right_append W N (fetch_words T f 0 x) (settled T loads ++ links) (fetch_right f 0 x) (right_append W N (settled T loads) links loaded linked)
+  return_right f x = right_append W N (fetch_words T f 0 x) (answer_words T f x ++ one Return ∷ []) (fetch_right f 0 x)
+      (right_append W N (answer_words T f x) (one Return ∷ []) (answer_right f x) (has_one W N Return tt, tt))
+
+  link_right : (f : ℕ) → Words (link_words T f)
+  link_right f = by (is_caller T f)
+    where
+      by : (b : Bool) → Words (if b then settled T (one (FromLink (general 0 3)) ∷ []) ++ one (Store 0 (pos 0) (stack_on 0) (Held (general 0 3))) ∷ [] else [])
+      by true =
+          let keep : List Word = one (Store 0 (pos 0) (stack_on 0) (Held (general 0 3))) ∷ [] in
+          one_settled (FromLink (general 0 3)) keep tt (has_one W N (Store 0 (pos 0) (stack_on 0) (Held (general 0 3))) tt, tt)
+      by false = tt
 
   -- functions
 
@@ -303,9 +325,8 @@ module _ (T : Target) (flow : Flow) (ls : List VWords) (w : WordProgram) (sound 
     entry_right : Words (entry_words T f)
     entry_right =
         let goes : List Word = way T f 0 (T.layout f).entry in
-        let rest : List Word = one (Store 0 (pos 0) (stack_on 0) (Held (general 0 3))) ∷ (reload_words T f (T.brought f) ++ goes) in
-        one_settled (FromLink (general 0 3)) rest tt
-        (has_one W N (Store 0 (pos 0) (stack_on 0) (Held (general 0 3))) tt, right_append W N (reload_words T f (T.brought f)) goes (reload_right f (T.brought f)) (way_right 0 (T.layout f).entry mapped.settled.entry))
+        right_append W N (link_words T f) (reload_words T f (T.brought f) ++ goes) (link_right f)
+        (right_append W N (reload_words T f (T.brought f)) goes (reload_right f (T.brought f)) (way_right 0 (T.layout f).entry mapped.settled.entry))
 
     module _ (p rg wd : ℕ) (items : List Laid) (plan : HasWordAt p (Planned rg wd items)) where
       plans : Plans (T.layout f) p items

@@ -18,7 +18,7 @@ use Rattle.vx_mixed.proofs.LaidGrows.{laid_grows}
 use Rattle.vx_frame.specs.Target.{Target}
 use Rattle.vx_frame.specs.Tied.{Tied, AtWord, AtEntry}
 use Rattle.vx_frame.specs.Carried.{Carries}
-use Rattle.vx_frame.specs.Planned.{WordsFit, CarriesOn, EndsAlike, StartsTied}
+use Rattle.vx_frame.specs.Planned.{WordsFit, CarriesOn, FallsThrough, EndsAlike, StartsTied}
 use Rattle.vx_frame.specs.Whole.{WholeLaw}
 use Rattle.vx_frame.proofs.Calls.{call_law}
 use Rattle.vx_frame.proofs.Entry.{entry_law}
@@ -58,12 +58,6 @@ module _ (T : Target) (flow : Flow) (ls : List VWords) (w : WordProgram) (sound 
   at_place r u tied p block (Some (Call g arguments result)) e = call_law T flow ls w sound carries fit r u tied p g arguments result block e
   at_place r u tied p block (Some (Return x)) e = return_law T flow ls w sound carries fit r u tied p x block e
 
-  meets : (r : Active) (u : State) → Tied T flow ls r u → Meets r u
-  meets r u tied = ⊎_elim
-      (λ (a : AtEntry T tied.sp r u). inl (entry_law T flow ls w sound carries fit r u tied a.block))
-      (λ (a : (p : ℕ) × AtWord T tied.sp p r u). at_place r u tied a.0 a.1.block (slice_get (T.layout r.function).words a.0) refl)
-      tied.at
-
   -- at each bound both runs meet, here or farther on
 
   abbrev MeetAt : ℕ → Active → State → Type 0
@@ -80,9 +74,27 @@ module _ (T : Target) (flow : Flow) (ls : List VWords) (w : WordProgram) (sound 
   after_meeting n r u more (inl c) = then_more n r u c (more c.after c.to c.tied)
   after_meeting n r u more (inr d) = Done 1 d.words d.outcome d.over (ap (step_then (OverValues 0)) d.over_values) d.over_registers
 
+  -- one step over values alone
+  then_values : (n : ℕ) (r s : Active) (u : State) → next (laid_program flow ls) r ≡ On s → MeetAt n s u → MeetAt n r u
+  then_values n r s u k (Far i j out le lo e d) = Far (suc i) j out (omega arith) lo (values_on r s i k ∙ e) d
+  then_values n r s u k (Done i j o v e d) = Done (suc i) j o v (values_on r s i k ∙ e) d
+
+  from_word : (n : ℕ) (r : Active) (u : State) → ((s : Active) (v : State) → Tied T flow ls s v → MeetAt n s v) → (tied : Tied T flow ls r u) (p : ℕ) → r.block ≡ suc p → MeetAt (suc n) r u
+  from_word n r u more tied p block = after_meeting n r u more (at_place r u tied p block (slice_get (T.layout r.function).words p) refl)
+
+  from_entry : (n : ℕ) (r : Active) (u : State) → ((s : Active) (v : State) → Tied T flow ls s v → MeetAt n s v) → CarriesOn T flow ls w r u ⊎ FallsThrough T flow ls r u → MeetAt (suc n) r u
+  from_entry n r u more (inl c) = then_more n r u c (more c.after c.to c.tied)
+  from_entry n r u more (inr f) = then_values (suc n) r f.after u f.over_values (from_word n f.after u more f.tied f.place f.block)
+
+  meets_next : (n : ℕ) (r : Active) (u : State) → ((s : Active) (v : State) → Tied T flow ls s v → MeetAt n s v) → Tied T flow ls r u → MeetAt (suc n) r u
+  meets_next n r u more tied = ⊎_elim
+      (λ (a : AtEntry T tied.sp r u). from_entry n r u more (entry_law T flow ls w sound carries fit r u tied a.block))
+      (λ (a : (p : ℕ) × AtWord T tied.sp p r u). from_word n r u more tied a.0 a.1.block)
+      tied.at
+
   meets_at : (n : ℕ) (r : Active) (u : State) → Tied T flow ls r u → MeetAt n r u
   meets_at zero r u tied = Far 0 0 r.state.out (omega arith) (omega arith) refl (ap Goes tied.out)
-  meets_at (suc n) r u tied = after_meeting n r u (meets_at n) (meets r u tied)
+  meets_at (suc n) r u tied = meets_next n r u (meets_at n) tied
 
   module _ (input : List ℤ) (safe : NeverFails (λ n. OverValues n (at_start (laid_program flow ls) flow.main (globals_at_start flow input)))) where
     abbrev Begin : Active

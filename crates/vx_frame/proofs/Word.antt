@@ -3,7 +3,7 @@ use Rattle.std.proofs.Common.{◌≡◌, ◌≢◌, ◌<◌, ◌≤◌, ◌⊎�
 use Rattle.std.specs.Prelude.{if◌then◌else◌, slice_index_or, drop, count_by}
 use Rattle.std.specs.List.{list_any, flat_map}
 use Rattle.vx_flow.specs.Effects.{State as VState, Setting, IsIn}
-use Rattle.vx_isa.specs.declared.operation.Register.TheVariants.{General, Branch}
+use Rattle.vx_isa.specs.declared.operation.Register.TheVariants.{General, Branch, Link}
 use Rattle.vx_isa.specs.declared.operation.Operation.{Operation}
 use Rattle.vx_isa.specs.declared.program.WordProgram.{WordProgram}
 use Rattle.vx_isa.specs.Numbers.{Numbers}
@@ -24,7 +24,7 @@ use Rattle.vx_frame.proofs.Reading.{Right}
 use Rattle.vx_frame.proofs.Op.{Ready}
 use Rattle.vx_frame.proofs.Items.{Ran, ran_items, rows_items, elsewhere_items, bad_items, takes_items, stays_items, values_items, Met, met_items}
 use Rattle.vx_frame.proofs.Steps.{Stands, stands_left, stands_right, Quiet, Comes, Forth, comes_on, forth_on, then_forth, word_step}
-use Rattle.vx_frame.proofs.Slots.{Usable, Loaded, once_case, Stored, as_read, as_kept, read_answer, kept_answer, stack_no_answer}
+use Rattle.vx_frame.proofs.Slots.{Usable, Loaded, once_case, Stored, as_read, as_kept, read_answer, kept_answer, stack_no_answer, link_unnamed, link_no_general}
 
 -- values in slots among some
 
@@ -132,6 +132,7 @@ module _ (m : Numbers) (w : WordProgram) (fit : AllFit m w) (T : Target) (f sp p
     pub input : to.input ≡ t.input
     pub out : to.out ≡ t.out
     pub stack : (k : ℕ) → k < T.machine.clusters → register to (General (stack_on k)) ≡ pos (4 * sp)
+    pub link : seen to.registers Link ≡ seen u.registers Link
     pub written : (v : ℕ) (n : ℤ) → IsIn v Writes → t.values v ≡ Some n → Shows T sp f v n (holds T to sp f v)
     pub kept_value : (v : ℕ) (n : ℤ) → Untouched v → Shows T sp f v n (holds T u sp f v) → Shows T sp f v n (holds T to sp f v)
     pub arrays : (a i : ℕ) (n : ℤ) → IsArray a → i < WordsOf a → slice_index_or (row_in t.arrays (setting.spot a)) i None ≡ Some n → word_at to.memory (begins_at T sp f a + i) ≡ n
@@ -257,6 +258,9 @@ module _ (m : Numbers) (w : WordProgram) (fit : AllFit m w) (T : Target) (f sp p
           input = quiet.input ∙ last.quiet.input ∙ ap (drop (count_by takes_input CodeOf)) (loaded.quiet.input ∙ h.input) ∙ sym met.input;
           out = quiet.out ∙ last.quiet.out ∙ ap (λ ys. ys ++ flat_map (print_of w First) CodeOf) (loaded.quiet.out ∙ h.out) ∙ sym met.out;
           stack = λ k lt. ap (λ g. seen g (General (stack_on k))) regs ∙ last.others (General (stack_on k)) (stack_no_answer k) ∙ second_stack to k lt;
+          link = ap (λ g. seen g Link) regs ∙ last.others Link (link_no_general answer)
+              ∙ stays_items T w f sp setting IsArray Reads Writes s First p Link items s t First.registers ran (λ y i. link_unnamed T f Writes y)
+              ∙ loaded.others Link (λ y i. link_unnamed T f Reads y) (link_no_general answer);
           written = λ y n i e. on y n (written_then y n i e);
           kept_value = λ y n free k. on y n (kept_then y n free k);
           arrays = λ a i n is lt e. ap (λ g. word_at g (begins_at T sp f a + i)) mem ∙ arrays_then a i n is lt e;

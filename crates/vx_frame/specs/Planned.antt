@@ -64,11 +64,20 @@ SimpleLaw =
     (T : Target) (flow : Flow) (ls : List VWords) (w : WordProgram) → is_sound_flow flow ≡ true → Carries T flow ls w → WordsFit T.machine w →
     (r : Active) (u : State) → Tied T flow ls r u → (p : ℕ) (word : VirtualWord) → r.block ≡ suc p → slice_get (T.layout r.function).words p ≡ Some word → Simple word → CarriesOn T flow ls w r u ⊎ EndsAlike T flow ls w r u
 
--- and so is the start of a function: the link is stored in its frame, and parameters come to their registers
+-- one step over values, to a word of a layout, and no word over registers
+pub record FallsThrough (T : Target) (flow : Flow) (ls : List VWords) (r : Active) (u : State) : Type 0 where
+  pub after : Active
+  pub place : ℕ
+  pub block : after.block ≡ suc place
+  pub over_values : next (laid_program flow ls) r ≡ On after
+  pub tied : Tied T flow ls after u
+
+-- and so is the start of a function: its link is stored in its frame where it calls, and parameters come to their registers. Where
+-- nothing is to be done, no word stands there
 abbrev pub EntryLaw : Type 0
 EntryLaw =
     (T : Target) (flow : Flow) (ls : List VWords) (w : WordProgram) → is_sound_flow flow ≡ true → Carries T flow ls w → WordsFit T.machine w →
-    (r : Active) (u : State) → Tied T flow ls r u → r.block ≡ 0 → CarriesOn T flow ls w r u
+    (r : Active) (u : State) → Tied T flow ls r u → r.block ≡ 0 → CarriesOn T flow ls w r u ⊎ FallsThrough T flow ls r u
 
 -- at the start the first words set the stack pointers and call the first function, and come to a state tied to the start over values
 pub record StartsTied (T : Target) (flow : Flow) (ls : List VWords) (w : WordProgram) (input : List ℤ) : Type 0 where

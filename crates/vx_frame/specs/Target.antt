@@ -1,6 +1,6 @@
 -- Where the values, frames and words of a program are, and the words that carry a laid-out word.
 use Rattle.std.specs.Prelude.{not, ℕ, zero, suc, ◌+◌, ◌-◌, ◌*◌, ◌==◌, ◌&&◌, max, ℤ, pos, neg_ℤ, Bool, true, false, if◌then◌else◌, Option, Some, None, List, [], ◌∷◌, ◌++◌, length, map}
-use Rattle.std.specs.List.{filter}
+use Rattle.std.specs.List.{filter, list_any}
 use Rattle.vx_base.specs.Arithmetic.{sum_of}
 use Rattle.vx_base.specs.declared.arithmetic.Code.{Code}
 use Rattle.vx_base.specs.declared.arithmetic.Code.TheVariants.{Add, Sh2add, Mov, ToBranch}
@@ -344,21 +344,43 @@ call_words T f p g arguments =
 abbrev pub back_words : Target → (function place : ℕ) → Option ℕ → List Word
 back_words T f p result = move_stack T (bytes T.frame) ++ (result_words T f result ++ reload_words T f (T.saved f p))
 
+-- a function that calls: its link is kept in its frame, since a call writes the register of the link
+abbrev pub is_call_word : VirtualWord → Bool
+is_call_word (Calls g arguments result) = true
+is_call_word (Planned r w items) = false
+is_call_word (Drain n) = false
+is_call_word (Transfer q) = false
+is_call_word (Choice test q) = false
+is_call_word (Returns x) = false
+is_call_word (Ends k) = false
+
+abbrev pub is_caller : Target → ℕ → Bool
+is_caller T f = list_any is_call_word (T.layout f).words
+
+-- the result goes to its register; the link comes back from the frame of a function that calls, and is in its register in others
+abbrev pub answer_words : Target → ℕ → Operand → List Word
+answer_words T f x =
+    if is_caller T f
+    then settled T (one (Move 0 answer (fetched T f x)) ∷ one (Load 0 (general 0 3) (pos 0) (stack_on 0) false) ∷ []) ++ settled T (one (ToLink (Held (general 0 3))) ∷ [])
+    else settled T (one (Move 0 answer (fetched T f x)) ∷ [])
+
 abbrev pub return_words : Target → ℕ → Operand → List Word
-return_words T f x =
-    fetch_words T f 0 x
-    ++ (settled T (one (Move 0 answer (fetched T f x)) ∷ one (Load 0 (general 0 3) (pos 0) (stack_on 0) false) ∷ []) ++ (settled T (one (ToLink (Held (general 0 3))) ∷ []) ++ one Return ∷ []))
+return_words T f x = fetch_words T f 0 x ++ (answer_words T f x ++ one Return ∷ [])
 
 -- the way to a place of a layout, where another one follows: none where it is that one
 abbrev pub way : Target → (function following to : ℕ) → List Word
 way T f next q = if next == q then [] else one (Goto (T.starts f q)) ∷ []
 
--- at the entry the link is stored at the begin of the frame, and parameters are brought to their registers; the first word of the
--- layout follows
+-- a function that calls stores its link at the begin of its frame
+abbrev pub link_words : Target → ℕ → List Word
+link_words T f =
+    if is_caller T f
+    then settled T (one (FromLink (general 0 3)) ∷ []) ++ one (Store 0 (pos 0) (stack_on 0) (Held (general 0 3))) ∷ []
+    else []
+
+-- at the entry the link is stored, and parameters are brought to their registers; the first word of the layout follows
 abbrev pub entry_words : Target → ℕ → List Word
-entry_words T g =
-    settled T (one (FromLink (general 0 3)) ∷ []) ++ one (Store 0 (pos 0) (stack_on 0) (Held (general 0 3)))
-    ∷ (reload_words T g (T.brought g) ++ way T g 0 (T.layout g).entry)
+entry_words T g = link_words T g ++ (reload_words T g (T.brought g) ++ way T g 0 (T.layout g).entry)
 
 abbrev pub choice_words : Target → ℕ → (test to : ℕ) → List Word
 choice_words T f test q = before T f (test ∷ []) ++ one (BranchOn (branch_of T f (test ∷ []) test) true (T.starts f q)) ∷ []

@@ -20,7 +20,7 @@ use Rattle.vx_mixed.specs.declared.layout.VWords.{VWords}
 use Rattle.vx_mixed.specs.Laid.{laid_program}
 use Rattle.vx_mixed.specs.Origins.{whole}
 use Rattle.vx_regs.specs.Intervals.{IsLive}
-use Rattle.vx_frame.specs.Target.{Target, parameters_of, is_own, is_slotted, kept, holds_branch, register_of, stack_on, halt_place, memory_words}
+use Rattle.vx_frame.specs.Target.{Target, parameters_of, is_own, is_slotted, kept, holds_branch, register_of, stack_on, is_caller, halt_place, memory_words}
 
 -- places of local arrays: the values that the graph writes by such a place, and their copies
 
@@ -129,12 +129,16 @@ pub record AtEntry (T : Target) (sp : ℕ) (r : Active) (u : State) : Type 0 whe
   pub values : (v : ℕ) (n : ℤ) → r.state.values v ≡ Some n → IsIn v (parameters_of T r.function) × (word_at u.memory (sp + T.slot r.function v) ≡ n)
   pub link : u.registers Link ≡ wrap (pos (back_place T r.waiting))
 
--- at a word: what is live there is where it is kept, and the link is in the frame
+-- where the link of an active function is: in the first word of its frame, or in its register where the function calls nothing
+abbrev pub link_in : Target → State → (frame function : ℕ) → ℤ
+link_in T u sp f = if is_caller T f then word_at u.memory sp else u.registers Link
+
+-- at a word: what is live there is where it is kept, and so is the link
 pub record AtWord (T : Target) (sp p : ℕ) (r : Active) (u : State) : Type 0 where
   pub block : r.block ≡ suc p
   pub place : u.place ≡ T.starts r.function p
   pub values : (v : ℕ) (n : ℤ) → IsLive (T.layout r.function) p v → r.state.values v ≡ Some n → Shows T sp r.function v n (holds T u sp r.function v)
-  pub link : word_at u.memory sp ≡ wrap (pos (back_place T r.waiting))
+  pub link : link_in T u sp r.function ≡ wrap (pos (back_place T r.waiting))
 
 pub record Tied (T : Target) (flow : Flow) (ls : List VWords) (r : Active) (u : State) : Type 0 where
   pub sp : ℕ

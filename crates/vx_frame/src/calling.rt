@@ -6,11 +6,13 @@ ghost use Rattle.vx_base.specs.declared.arithmetic.Compare.TheVariants.{Ltu};
 ghost use Rattle.vx_isa.specs.declared.operation.Operation.TheVariants.{BranchOn, Compute, Move};
 ghost use Rattle.vx_isa.specs.declared.operation.Register.TheVariants.{Branch as InBranch, General as InGeneral};
 ghost use Rattle.vx_isa.specs.declared.operation.Source.TheVariants.{Held, Number};
-ghost use Rattle.vx_frame.specs.Target.{bytes, general, one, settled, stack_on, on_clusters, parameters_of, first_frame, fetch_words, fetched, cluster_of_operand, argument_words, result_words, save_words, reload_words, move_stack, call_words, back_words, return_words, way, entry_words, set_stack, start_words};
+ghost use Rattle.vx_frame.specs.Target.{bytes, general, one, settled, stack_on, on_clusters, parameters_of, first_frame, fetch_words, fetched, cluster_of_operand, argument_words, result_words, save_words, reload_words, move_stack, call_words, back_words, answer_words, return_words, way, link_words, entry_words, set_stack, start_words};
 ghost use Rattle.vx_frame.specs.Seen.{seen};
 
 use crate::carrying::{bytes, stack_on};
-use crate::gathering::{Whole, brought, entered_at, entry, parameters, saved, slot, start};
+use crate::gathering::{
+    Whole, brought, entered_at, entry, is_caller, parameters, saved, slot, start,
+};
 use crate::naming::{general, general_of, home, is_slotted};
 use crate::slotting::{
     answer, load_slot, load_slots, named_by, push_one, push_settled, push_settled_word, push_wait,
@@ -310,22 +312,24 @@ pub(crate) fn push_back(
     reload(alloc, whole, function, saved(whole, function, place), words)
 }
 
-/// The words of a return: the result goes to its register, and the link comes from the frame.
-pub(crate) fn push_return(
+/// The result to its register, and the link from the frame of a function that calls.
+fn push_answer(
     alloc: Global,
     whole: &Whole,
     function: u32,
     operand: Operand,
     words: &mut Listed<Word>,
 ) -> Result<(), NoMemory>
-    ensures { IfOk result (λ _. words.new ≡ words.old ++ return_words (seen whole.now) function operand) }
+    ensures { IfOk result (λ _. words.new ≡ words.old ++ answer_words (seen whole.now) function operand) }
 {
-    fetch(alloc, whole, function, 0, operand, words)?;
     let give = Operation::Move {
         cluster: 0,
         to: answer(),
         from: fetched(whole, function, operand),
     };
+    if !is_caller(whole, function) {
+        return push_settled(alloc, whole, give, words);
+    }
     let begin = words.len();
     push_one(alloc, give, words)?;
     let load = Operation::Load {
@@ -340,7 +344,21 @@ pub(crate) fn push_return(
     let link = Operation::ToLink {
         from: Source::Held(link_scratch()),
     };
-    push_settled(alloc, whole, link, words)?;
+    push_settled(alloc, whole, link, words)
+}
+
+/// The words of a return: the result goes to its register, and the link to its own.
+pub(crate) fn push_return(
+    alloc: Global,
+    whole: &Whole,
+    function: u32,
+    operand: Operand,
+    words: &mut Listed<Word>,
+) -> Result<(), NoMemory>
+    ensures { IfOk result (λ _. words.new ≡ words.old ++ return_words (seen whole.now) function operand) }
+{
+    fetch(alloc, whole, function, 0, operand, words)?;
+    push_answer(alloc, whole, function, operand, words)?;
     push_one(alloc, Operation::Return, words)
 }
 
@@ -362,15 +380,18 @@ fn push_way(
     push_one(alloc, Operation::Goto { target }, words)
 }
 
-/// The words at the entry of a function: the link is stored in its frame, and parameters come to their registers.
-pub(crate) fn push_entry(
+/// Stores the link in the frame of a function that calls.
+fn keep_link(
     alloc: Global,
     whole: &Whole,
     function: u32,
     words: &mut Listed<Word>,
 ) -> Result<(), NoMemory>
-    ensures { IfOk result (λ _. words.new ≡ words.old ++ entry_words (seen whole.now) function) }
+    ensures { IfOk result (λ _. words.new ≡ words.old ++ link_words (seen whole.now) function) }
 {
+    if !is_caller(whole, function) {
+        return Ok(());
+    }
     push_settled(
         alloc,
         whole,
@@ -383,7 +404,19 @@ pub(crate) fn push_entry(
         base: stack_on(0),
         from: Source::Held(link_scratch()),
     };
-    push_one(alloc, store, words)?;
+    push_one(alloc, store, words)
+}
+
+/// The words at the entry of a function: the link is stored in its frame where it calls, and parameters come to their registers.
+pub(crate) fn push_entry(
+    alloc: Global,
+    whole: &Whole,
+    function: u32,
+    words: &mut Listed<Word>,
+) -> Result<(), NoMemory>
+    ensures { IfOk result (λ _. words.new ≡ words.old ++ entry_words (seen whole.now) function) }
+{
+    keep_link(alloc, whole, function, words)?;
     reload(alloc, whole, function, brought(whole, function), words)?;
     push_way(
         alloc,

@@ -2,7 +2,7 @@
 // places of their words. specs/Seen.antt has the target that it makes.
 
 ghost use Rattle.std.specs.Prelude.{◌≡◌, slice_index_or};
-ghost use Rattle.vx_frame.specs.Target.{parameters_of, is_own};
+ghost use Rattle.vx_frame.specs.Target.{parameters_of, is_call_word, is_caller, is_own};
 ghost use Rattle.vx_frame.specs.Seen.{places_of, seen};
 
 use vx_base::listed::Listed;
@@ -176,6 +176,29 @@ pub(crate) fn words_of<'a>(whole: &Whole<'a, '_>, function: u32) -> &'a [Virtual
         Some(layout) => layout.words.as_slice(),
         None => &[],
     }
+}
+
+/// Whether a word of a layout is a call.
+fn is_call_word(word: &VirtualWord) -> bool
+    ensures { result ≡ is_call_word word.now }
+{
+    match word {
+        VirtualWord::Call { .. } => true,
+        VirtualWord::Planned { .. } => false,
+        VirtualWord::Drain(_) => false,
+        VirtualWord::Transfer(_) => false,
+        VirtualWord::Choice { .. } => false,
+        VirtualWord::Return(_) => false,
+        VirtualWord::Ends(_) => false,
+    }
+}
+
+/// Whether a function calls.
+pub(crate) fn is_caller(whole: &Whole, function: u32) -> bool
+    ensures { result ≡ is_caller (seen whole.now) function }
+{
+    let words = words_of(whole, function);
+    words.iter().any(|word| is_call_word(word))
 }
 
 /// The place at which a function's layout is entered.

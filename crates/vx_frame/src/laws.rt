@@ -22,7 +22,8 @@ pub fn other_words_are_carried()
     ensures { SimpleLaw }
 {}
 
-/// And so is the start of a function: the link is stored in its frame, and parameters come to their registers.
+/// And so is the start of a function: its link is stored in its frame where it calls, and parameters come to their registers;
+/// where nothing is to be done, no word stands there.
 pub fn starts_of_functions_are_carried()
     ensures { EntryLaw }
 {}
