@@ -1,6 +1,6 @@
 -- Of two quiet operations that no join keeps apart only the values count.
-use Rattle.std.proofs.Common.{◌≡◌, ◌<◌, ◌⊎◌, inl, inr, ℕ, refl, sym, ◌∙◌, ap, arith, subst, Bool, true, false, not, ◌&&◌, ◌||◌, if◌then◌else◌, Option, Some, None, slice_get, List}
-use Rattle.std.proofs.lemmas.Bool.{or_cases, false≢true, true≢false}
+use Rattle.std.proofs.Common.{◌≡◌, ◌<◌, ℕ, refl, sym, ◌∙◌, ap, arith, subst, Bool, true, false, not, ◌&&◌, ◌||◌, if◌then◌else◌, Option, Some, None, slice_get, List}
+use Rattle.std.proofs.lemmas.Bool.{false≢true, true≢false}
 use Rattle.vx_flow.specs.declared.trace.TraceOp.{TraceOp}
 use Rattle.vx_flow.specs.declared.trace.Trace.{Trace}
 use Rattle.vx_isa.specs.Numbers.{Numbers}
@@ -8,33 +8,44 @@ use Rattle.vx_dep.specs.declared.mode.Mode.{Mode}
 use Rattle.vx_dep.specs.declared.traits.Traits.{Traits}
 use Rattle.vx_dep.specs.declared.tables.Standing.{Standing}
 use Rattle.vx_dep.specs.declared.rows.Ways.{Ways}
-use Rattle.vx_dep.specs.Delays.{is_load, is_store, is_observable, leaves, IsDelay}
-use Rattle.vx_dep.specs.Traits.{values_read, has, is_quiet, traits_of}
+use Rattle.vx_dep.specs.Delays.{is_observable, leaves, IsDelay}
+use Rattle.vx_dep.specs.Traits.{values_read, has, is_fixed, traits_of}
 use Rattle.vx_dep.specs.Tables.{standings_of, lives_of}
-use Rattle.vx_dep.specs.Rows.{is_barred, are_tied, stays_behind_split, stays_behind_join, stays_behind, stays_below, at_least, delay_of, quiet_delay_of, MayTouch}
+use Rattle.vx_dep.specs.Rows.{is_barred, are_tied, stays_behind_split, stays_behind_join, stays_behind, stays_below, at_least, delay_of, are_quiet, quiet_delay_of}
 use Rattle.vx_dep.specs.Sights.{reaches, has_join, is_live}
 use Rattle.vx_dep.proofs.Standing.{IsOf, entry_at, tells, delay_is}
 
-record IsQuiet (a : Traits) : Type 0 where
-  load : a.is_load ≡ false
-  store : a.is_store ≡ false
+record IsFree (a : Traits) : Type 0 where
   observable : a.is_observable ≡ false
   leaves : a.leaves ≡ false
 
-quiet_op : (m : Numbers) (op : TraceOp) → is_quiet op ≡ true → IsQuiet (traits_of m op)
-quiet_op m op e = by (is_load op) (is_store op) (is_observable op) (leaves op) refl refl refl refl e
+free_op : (m : Numbers) (op : TraceOp) → is_fixed op ≡ false → IsFree (traits_of m op)
+free_op m op e = by (is_observable op) (leaves op) refl refl e
   where
-    by : (l s o v : Bool) → is_load op ≡ l → is_store op ≡ s → is_observable op ≡ o → leaves op ≡ v → not (((l || s) || o) || v) ≡ true → IsQuiet (traits_of m op)
-    by false false false false load store observable leaves e = record { load = load; store = store; observable = observable; leaves = leaves }
-    by true s o v load store observable leaves e = absurd (false≢true e)
-    by false true o v load store observable leaves e = absurd (false≢true e)
-    by false false true v load store observable leaves e = absurd (false≢true e)
-    by false false false true load store observable leaves e = absurd (false≢true e)
+    by : (o v : Bool) → is_observable op ≡ o → leaves op ≡ v → (o || v) ≡ false → IsFree (traits_of m op)
+    by false false observable leaves e = record { observable = observable; leaves = leaves }
+    by true v observable leaves e = absurd (true≢false e)
+    by false true observable leaves e = absurd (true≢false e)
 
-quiet_at : (m : Numbers) (t : Trace) (i : ℕ) (s : Standing) → IsOf m t i s → s.traits.is_quiet ≡ true → IsQuiet s.traits
-quiet_at m t i s is e =
+free_at : (m : Numbers) (t : Trace) (i : ℕ) (s : Standing) → IsOf m t i s → s.traits.is_fixed ≡ false → IsFree s.traits
+free_at m t i s is e =
     let same : s.traits ≡ traits_of m is.op = ap (λ (x : Standing). x.traits) is.is in
-    subst IsQuiet (sym same) (quiet_op m is.op (sym (ap (λ (x : Traits). x.is_quiet) same) ∙ e))
+    subst IsFree (sym same) (free_op m is.op (sym (ap (λ (x : Traits). x.is_fixed) same) ∙ e))
+
+record AreQuiet (a b : Traits) : Type 0 where
+  upper : a.is_fixed ≡ false
+  lower : b.is_fixed ≡ false
+  apart : a.is_access ≡ true → b.is_access ≡ true → ⊥
+
+quiet_parts : (a b : Traits) → are_quiet a b ≡ true → AreQuiet a b
+quiet_parts a b e = by a.is_fixed b.is_fixed a.is_access b.is_access refl refl refl refl e
+  where
+    by : (f g x y : Bool) → a.is_fixed ≡ f → b.is_fixed ≡ g → a.is_access ≡ x → b.is_access ≡ y → (not (f || g) && not (x && y)) ≡ true → AreQuiet a b
+    by true g x y k l p q e = absurd (false≢true e)
+    by false true x y k l p q e = absurd (false≢true e)
+    by false false true true k l p q e = absurd (false≢true e)
+    by false false false y k l p q e = record { upper = k; lower = l; apart = λ u v. false≢true (sym p ∙ u) }
+    by false false true false k l p q e = record { upper = k; lower = l; apart = λ u v. false≢true (sym q ∙ v) }
 
 no_behind : (s o p v k j : Bool) → o ≡ false → v ≡ false → j ≡ false → ((((false && s) || (o && p)) || (v && k)) || j) ≡ false
 no_behind s false p false k false e f g = refl
@@ -64,7 +75,7 @@ by_values l false false true false e f = absurd (true≢false f)
 by_values l false false false true e f = absurd (false≢true f)
 by_values l tied true below read e f = absurd (true≢false e)
 
-quiet_rows : (mode : Mode) (a b : Traits) (last joined live : Bool) → IsQuiet a → IsQuiet b → (is_barred mode && joined) ≡ false → delay_of mode a b (record { last = last; touch = false; joined = joined; live = live }) ≡ quiet_delay_of a b last
+quiet_rows : (mode : Mode) (a b : Traits) (last joined live : Bool) → IsFree a → IsFree b → (is_barred mode && joined) ≡ false → delay_of mode a b (record { last = last; touch = false; joined = joined; live = live }) ≡ quiet_delay_of a b last
 quiet_rows mode a b last joined live above below apart =
     let w : Ways = record { last = last; touch = false; joined = joined; live = live } in
     by_values a.latency (are_tied a b last) (stays_behind mode a b w) (stays_below mode a b w) (has b.written (values_read a.reads))
@@ -72,18 +83,12 @@ quiet_rows mode a b last joined live above below apart =
     (only_read (has b.written (values_read a.reads)) a.is_load b.leaves _ below.leaves)
 
 pub quiet_delay_is : (m : Numbers) (mode : Mode) (t : Trace) (standings : List Standing) (lives : List (List Bool)) (i j : ℕ) (a b : Standing) (d : Option ℕ) → standings ≡ standings_of m t → lives ≡ lives_of t → i < j → slice_get standings i ≡ Some a → slice_get standings j ≡ Some b
-    → a.traits.is_quiet ≡ true → b.traits.is_quiet ≡ true → (is_barred mode && has_join b i) ≡ false → d ≡ quiet_delay_of a.traits b.traits (reaches a i j) → IsDelay m mode t i j d
-quiet_delay_is m mode t standings lives i j a b d exact lives_exact in_order at_one at_two quiet_one quiet_two apart is =
-    let above = quiet_at m t i a (entry_at m t standings exact i a at_one) quiet_one in
-    let below = quiet_at m t j b (entry_at m t standings exact j b at_two) quiet_two in
+    → are_quiet a.traits b.traits ≡ true → (is_barred mode && has_join b i) ≡ false → d ≡ quiet_delay_of a.traits b.traits (reaches a i j) → IsDelay m mode t i j d
+quiet_delay_is m mode t standings lives i j a b d exact lives_exact in_order at_one at_two quiet apart is =
+    let parts = quiet_parts a.traits b.traits quiet in
+    let above = free_at m t i a (entry_at m t standings exact i a at_one) parts.upper in
+    let below = free_at m t j b (entry_at m t standings exact j b at_two) parts.lower in
     let live : Bool = a.traits.leaves && is_live (slice_get lives i) i j in
     let w : Ways = record { last = reaches a i j; touch = false; joined = has_join b i; live = live } in
-    let told = tells m t standings lives i j a b w exact lives_exact in_order at_one at_two refl refl refl (λ e. absurd (false≢true e)) (λ e k. no_access above k) in
+    let told = tells m t standings lives i j a b w exact lives_exact in_order at_one at_two refl refl refl (λ e. absurd (false≢true e)) (λ e k. parts.apart k.upper k.lower) in
     delay_is m t standings exact mode i j a b w d in_order at_one at_two told (is ∙ sym (quiet_rows mode a.traits b.traits (reaches a i j) (has_join b i) live above below apart))
-  where
-    no_access : IsQuiet a.traits → MayTouch t i j a.traits b.traits → ⊥
-    no_access above k = by (or_cases _ _ k.upper)
-      where
-        by : (a.traits.is_load ≡ true) ⊎ (a.traits.is_store ≡ true) → ⊥
-        by (inl e) = false≢true (sym above.load ∙ e)
-        by (inr e) = false≢true (sym above.store ∙ e)

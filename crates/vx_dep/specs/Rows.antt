@@ -1,5 +1,5 @@
 -- The rows of the table of delays as tests of what is asked of two operations of a trace, one above the other.
-use Rattle.std.specs.Prelude.{◌≡◌, ◌&&◌, ◌||◌, ℕ, max, Bool, true, false, if◌then◌else◌, Option, Some, None}
+use Rattle.std.specs.Prelude.{◌≡◌, not, ◌&&◌, ◌||◌, ℕ, max, Bool, true, false, if◌then◌else◌, Option, Some, None}
 use Rattle.vx_flow.specs.declared.trace.TraceOp.{TraceOp}
 use Rattle.vx_flow.specs.declared.trace.Trace.{Trace}
 use Rattle.vx_flow.specs.Effects.{IsIn}
@@ -45,14 +45,18 @@ at_least d (Some e) = Some (max d e)
 abbrev pub delay_of : Mode → Traits → Traits → Ways → Option ℕ
 delay_of mode a b w = if are_tied a b w.last then at_least a.latency (row_of mode a b w) else row_of mode a b w
 
--- the same of two quiet operations that no join keeps apart
+-- not both access an array, and neither is observable or a split
+abbrev pub are_quiet : Traits → Traits → Bool
+are_quiet a b = not (a.is_fixed || b.is_fixed) && not (a.is_access && b.is_access)
+
+-- the greatest number of two such operations that no join keeps apart
 abbrev pub quiet_delay_of : Traits → Traits → (last : Bool) → Option ℕ
 quiet_delay_of a b last = if are_tied a b last then Some a.latency else (if has b.written (values_read a.reads) then Some 0 else None)
 
 -- accesses of which one is a store, and that may touch one word
 pub record MayTouch (t : Trace) (i j : ℕ) (a b : Traits) : Type 0 where
-  pub upper : (a.is_load || a.is_store) ≡ true
-  pub lower : (b.is_load || b.is_store) ≡ true
+  pub upper : a.is_access ≡ true
+  pub lower : b.is_access ≡ true
   pub stores : (a.is_store || b.is_store) ≡ true
   pub meet : NeverMeet t i j → ⊥
 

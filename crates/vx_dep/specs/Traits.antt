@@ -1,5 +1,5 @@
 -- What delays ask of an operation of a trace: the values that it reads and the one that it writes, its kind and its latency.
-use Rattle.std.specs.Prelude.{ℕ, Bool, false, nat_eq, if◌then◌else◌, Option, Some, None, List, [], ◌∷◌, ◌++◌, not, ◌||◌}
+use Rattle.std.specs.Prelude.{ℕ, Bool, false, nat_eq, if◌then◌else◌, Option, Some, None, List, [], ◌∷◌, ◌++◌, ◌||◌}
 use Rattle.std.specs.List.{list_any}
 use Rattle.vx_flow.specs.declared.graph.Operand.{Operand}
 use Rattle.vx_flow.specs.declared.graph.Operand.TheVariants.{Held, Number, Stack}
@@ -71,9 +71,12 @@ abbrev pub has : Option ℕ → List ℕ → Bool
 has None vs = false
 has (Some v) vs = list_any (nat_eq v) vs
 
--- an operation that is no access, not observable and no split
-abbrev pub is_quiet : TraceOp → Bool
-is_quiet op = not (((is_load op || is_store op) || is_observable op) || leaves op)
+abbrev pub is_access : TraceOp → Bool
+is_access op = is_load op || is_store op
+
+-- observable operations and splits pass no join
+abbrev pub is_fixed : TraceOp → Bool
+is_fixed op = is_observable op || leaves op
 
 -- all that is asked of an operation
 abbrev pub traits_of : Numbers → TraceOp → Traits
@@ -84,6 +87,7 @@ traits_of m op = record {
   is_store = is_store op;
   is_observable = is_observable op;
   leaves = leaves op;
-  is_quiet = is_quiet op;
+  is_access = is_access op;
+  is_fixed = is_fixed op;
   latency = latency_of m op;
 }

@@ -2,7 +2,7 @@
 // stand, which rows apply, and the greatest number among those. specs/Rows.antt says the same.
 
 ghost use Rattle.std.specs.Prelude.{◌≡◌};
-ghost use Rattle.vx_dep.specs.Rows.{is_barred, are_tied, stays_behind, stays_behind_split, stays_behind_join, stays_below, row_of, delay_of, quiet_delay_of};
+ghost use Rattle.vx_dep.specs.Rows.{is_barred, are_tied, stays_behind, stays_behind_split, stays_behind_join, stays_below, row_of, delay_of, are_quiet, quiet_delay_of};
 
 use crate::mode::Mode;
 use crate::traits::{Traits, reads_written, write_alike};
@@ -35,7 +35,14 @@ pub(crate) fn delay_of(mode: Mode, a: &Traits, b: &Traits, ways: Ways) -> Option
     }
 }
 
-/// The same of two quiet operations that no join keeps apart: only their values count.
+/// Whether not both operations access an array, and neither is observable or a split.
+pub(crate) fn are_quiet(a: &Traits, b: &Traits) -> bool
+    ensures { result ≡ are_quiet a.now b.now }
+{
+    !(a.is_fixed || b.is_fixed) && !(a.is_access && b.is_access)
+}
+
+/// The greatest number of two such operations that no join keeps apart: only their values count.
 pub(crate) fn quiet_delay_of(a: &Traits, b: &Traits, last: bool) -> Option<u32>
     ensures { result ≡ quiet_delay_of a.now b.now last }
 {

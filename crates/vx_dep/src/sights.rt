@@ -10,7 +10,7 @@ ghost use Rattle.vx_dep.specs.Delays.{IsDelay, NeverMeet};
 ghost use Rattle.vx_dep.specs.Sights.{AreOrdered, reaches, has_join, is_live};
 
 use crate::mode::Mode;
-use crate::rows::{Ways, delay_of, is_barred, quiet_delay_of};
+use crate::rows::{Ways, are_quiet, delay_of, is_barred, quiet_delay_of};
 use crate::tables::{Standing, lives, standings};
 use crate::traits::Traits;
 use std::alloc::Global;
@@ -97,7 +97,7 @@ impl<'a> Sight<'a> {
         requires stands_two { slice_get self.now.standings j ≡ Some b.now }
         ensures { IsDelay self.now.machine self.now.mode self.now.trace.now i j result }
     {
-        if a.traits.is_quiet && b.traits.is_quiet && !self.is_barred_between(i, b) {
+        if are_quiet(&a.traits, &b.traits) && !self.is_barred_between(i, b) {
             quiet_delay_of(&a.traits, &b.traits, reaches(a, i, j))
         } else {
             self.delay_by_rows(i, j, a, b)
@@ -144,7 +144,7 @@ impl<'a> Sight<'a> {
         ensures yes { result ≡ true → MayTouch self.now.trace.now i j a.now b.now }
         ensures no { result ≡ false → MayTouch self.now.trace.now i j a.now b.now → ⊥ }
     {
-        is_access(a) && is_access(b) && (a.is_store || b.is_store) && !self.never_meet(i, j)
+        a.is_access && b.is_access && (a.is_store || b.is_store) && !self.never_meet(i, j)
     }
 
     /// Whether the accesses at two places never touch one word.
@@ -201,12 +201,6 @@ fn has_join(standing: &Standing, i: usize) -> bool
     ensures { result ≡ has_join standing.now i }
 {
     i < standing.joined
-}
-
-fn is_access(traits: &Traits) -> bool
-    ensures { result ≡ (traits.now.is_load || traits.now.is_store) }
-{
-    traits.is_load || traits.is_store
 }
 
 /// Whether what the lower operation writes is live where the upper one leaves.

@@ -5,7 +5,7 @@ ghost use Rattle.std.specs.Prelude.{◌≡◌, ◌++◌, nat_eq};
 ghost use Rattle.std.specs.List.{list_any};
 ghost use Rattle.vx_flow.specs.Effects.{is_unary};
 ghost use Rattle.vx_dep.specs.Delays.{is_load, is_store};
-ghost use Rattle.vx_dep.specs.Traits.{written, written_by, held_by, reads_three, read, read_by, value_list, values_read, has, is_quiet, traits_of};
+ghost use Rattle.vx_dep.specs.Traits.{written, written_by, held_by, reads_three, read, read_by, value_list, values_read, has, traits_of};
 
 use vx_base::arithmetic::Code;
 use vx_flow::graph::{Op, Operand, Value};
@@ -34,8 +34,10 @@ pub(crate) struct Traits {
     pub(crate) is_observable: bool,
     /// It is a split.
     pub(crate) leaves: bool,
-    /// It is none of these.
-    pub(crate) is_quiet: bool,
+    /// It is a load or a store.
+    pub(crate) is_access: bool,
+    /// It is observable or a split.
+    pub(crate) is_fixed: bool,
     /// The cycles until its result has landed at the latest.
     pub(crate) latency: u32,
 }
@@ -52,17 +54,10 @@ pub(crate) fn traits_of(machine: &Machine, op: &TraceOp) -> Traits
         is_store: is_store(op),
         is_observable: item.is_observable(),
         leaves: item.is_split(),
-        is_quiet: is_quiet(op),
+        is_access: is_load(op) || is_store(op),
+        is_fixed: item.is_observable() || item.is_split(),
         latency: machine.latency_of_item(&item),
     }
-}
-
-/// Whether an operation is no access, not observable and no split.
-fn is_quiet(op: &TraceOp) -> bool
-    ensures { result ≡ is_quiet op.now }
-{
-    let item = Item::of_trace(op);
-    !(is_load(op) || is_store(op) || item.is_observable() || item.is_split())
 }
 
 /// The value that an operation writes.
