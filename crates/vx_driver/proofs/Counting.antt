@@ -1,19 +1,18 @@
 -- The answers of `profile` from those of its steps, and what they exclude where nothing fails.
-use Rattle.std.proofs.Common.{◌≡◌, ◌↔◌, ◌⊎◌, inl, inr, ℕ, ℤ, Bool, true, false, List, is_some, Option, Some, None, Result, Ok, Err, IfSome, refl, sym, subst, ap, ◌∙◌}
+use Rattle.std.proofs.Common.{◌≡◌, ◌⊎◌, inl, inr, ℕ, ℤ, Bool, true, false, List, is_some, Option, Some, None, Result, Ok, Err, IfSome, refl, sym, subst, ap, ◌∙◌}
 use Rattle.vx_base.specs.Outside.{Files, PutsFront, with_bytes}
 use Rattle.vx_base.specs.declared.role.Role.TheVariants.{Source as TheSource, Words as TheWords, Profile as TheProfile, Machine as TheMachine, Input as TheInput}
 use Rattle.vx_ast.specs.Tree.{Program}
 use Rattle.vx_ast.specs.Reads.{Refusal}
 use Rattle.vx_ast.specs.declared.fault.SourceFault.{SourceFault}
-use Rattle.vx_profile.specs.Text.{counts_text}
 use Rattle.vx_driver.specs.declared.status.Status.{Status}
 use Rattle.vx_driver.specs.declared.status.Status.TheVariants.{Done, Trapped, Usage, Source, Limit, Words, Profile, Machine, NoFile, ReadFault, WriteFault, Stopped, Input, Stuck, NoMemory}
 use Rattle.vx_driver.specs.Command.{Profiling}
 use Rattle.vx_driver.specs.Answers.{HoldsProgram, Accepts, Refuses, RefusesSource, status_of, Effect, ReadsRose, SameFiles, SourceAnswers}
 use Rattle.vx_driver.specs.Simulated.{input_found, Streams, OutRose}
 use Rattle.vx_driver.specs.Executed.{InputAnswers}
-use Rattle.vx_driver.specs.Counted.{CountsRead, CountedRun, PutsCounts, IsEnded, StopsAtCountsInput, CountsAnswers, ProfilingAnswers, CountsEnd, ProfilingCompletes}
-use Rattle.vx_driver.specs.Counting.{IsCounted, CountedOn, CountedFor, PutsText, over, goes_on, cut, StopsProfiling}
+use Rattle.vx_driver.specs.Counted.{CountsRead, CountedRun, StopsAtCountsInput, CountsAnswers, ProfilingAnswers, CountsEnd, ProfilingCompletes}
+use Rattle.vx_driver.specs.Counting.{CountedOn, CountedFor, PutsText, over, goes_on, cut, StopsProfiling}
 use Rattle.vx_driver.proofs.Answering.{Since, told_since, accepts_in}
 use Rattle.vx_driver.proofs.Executing.{input_since}
 use Rattle.vx_driver.proofs.Completing.{same_content, not_missing, told, told_or, not_both, one_status, not_faulty}

@@ -1,6 +1,6 @@
 -- What the reading of a profile's file says of its counts.
-use Rattle.std.proofs.Common.{◌≡◌, ◌∙◌, ◌≢◌, ◌⊎◌, inl, inr, ℕ, suc, ◌+◌, List, [], ◌∷◌, ◌++◌, length, length-append, Option, Some, None, IfSome, MatchOption, refl, sym, ap, subst, arith}
-use Rattle.std.specs.Prelude.{Vec, ◌≤◌, ◌<◌, ◌^◌, codes}
+use Rattle.std.proofs.Common.{◌≡◌, ◌∙◌, ◌≢◌, ◌⊎◌, inl, inr, ℕ, ◌+◌, List, [], ◌∷◌, ◌++◌, length, length-append, Option, Some, None, IfSome, MatchOption, refl, sym, ap, subst, arith}
+use Rattle.std.specs.Prelude.{Vec, ◌≤◌, ◌<◌, ◌^◌}
 use Rattle.std.specs.List.{flat_map}
 use Rattle.std.specs.declared.alloc.Global.{Global}
 use Rattle.std.proofs.lemmas.Bool.{ltb-true}
@@ -15,8 +15,8 @@ use Rattle.vx_flow.specs.Meaning.{Visit, AtBlock, AlongEdge}
 use Rattle.vx_profile.specs.Text.{Row, Reaches, FaultAt, Spells, header, row_text}
 use Rattle.vx_profile.proofs.Once.{spelled_without_fault, fault_once}
 use Rattle.vx_driver.specs.declared.status.Status.{Status}
-use Rattle.vx_driver.specs.declared.status.Status.TheVariants.{Done, Trapped, Usage, Source, Limit, Words, Profile, Machine, NoFile, ReadFault, WriteFault, Stopped, Input, Stuck, NoMemory}
-use Rattle.vx_driver.specs.Answers.{most_profile_bytes, HoldsCounts, status_of_profile, BadProfile, LongProfile, NoCountsIn, AreCounts, ProfileStands, RefusesProfile, Effect, ReadsRose, SameFiles, ProfileAnswers}
+use Rattle.vx_driver.specs.declared.status.Status.TheVariants.{Limit, Profile, NoFile, NoMemory}
+use Rattle.vx_driver.specs.Answers.{most_profile_bytes, HoldsCounts, status_of_profile, BadProfile, NoCountsIn, AreCounts, ProfileStands, RefusesProfile, Effect, ReadsRose, SameFiles, ProfileAnswers}
 
 -- the lines of few bytes are few
 

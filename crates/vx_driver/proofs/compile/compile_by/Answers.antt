@@ -1,5 +1,5 @@
 -- The machine was found before the words were written, and finding it changed no file.
-use Rattle.std.proofs.Common.{inl, refl, sym, subst, map, option_map, IfSome}
+use Rattle.std.proofs.Common.{refl, sym}
 use Rattle.vx_ast.specs.View.{program_of}
 use Rattle.vx_driver.specs.Answers.{effect_of}
 use Rattle.vx_driver.proofs.Answering.{for_machine}

@@ -4,7 +4,7 @@ use Rattle.std.proofs.lemmas.Result.{IfErr-weaker, IfOk-weaker}
 use Rattle.vx_profile.specs.Text.{Spells}
 use Rattle.vx_driver.specs.declared.status.Status.TheVariants.{NoMemory}
 use Rattle.vx_driver.specs.Answers.{effect_of, BadProfile}
-use Rattle.vx_driver.proofs.ProfileFile.{spelled, refused, too_long, missing}
+use Rattle.vx_driver.proofs.ProfileFile.{spelled, refused, too_long}
 use Rattle.vx_driver.proofs.profiles.read_profile.Goals as goal
 
 pub returns-in-Ok-Whole-clause-counts : goal.returns-in-Ok-Whole-clause-counts

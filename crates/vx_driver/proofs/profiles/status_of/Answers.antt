@@ -1,7 +1,6 @@
 -- So few bytes have few lines.
-use Rattle.std.proofs.Common.{◌≡◌, subst}
+use Rattle.std.proofs.Common.{subst}
 use Rattle.vx_profile.specs.Text.{FaultAt}
-use Rattle.vx_profile.specs.declared.fault.ProfileFault.TheVariants.{BadLine, CountTooLarge}
 use Rattle.vx_driver.proofs.ProfileFile.{bad_line_fits, large_count_fits}
 use Rattle.vx_driver.proofs.profiles.status_of.Goals as goal
 
