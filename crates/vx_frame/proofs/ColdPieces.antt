@@ -16,8 +16,8 @@ use Rattle.vx_isa.specs.declared.operation.GeneralRegister.{GeneralRegister}
 use Rattle.vx_isa.specs.declared.operation.Operation.{Operation}
 use Rattle.vx_isa.specs.declared.operation.Operation.TheVariants.{Compute, Move, Select, Load, Store, Goto, BranchOn, Call, Return, ToLink, EndByTrap, Halt}
 use Rattle.vx_isa.specs.declared.program.Word.{Word}
-use Rattle.vx_isa.specs.Fits.{destinations}
-use Rattle.vx_frame.specs.Target.{Target, answer, general, general_of, branch_of, stack_on, home, holds_branch, is_slotted, kept, parameters_of, one, pause, latest, in_flight, settled, load_slot, store_slot, store_slots, on_clusters, move_stack, fetch_words, fetched, cluster_of_operand, argument_words, result_words, call_words, is_caller, answer_words, return_words, start_words, bytes, first_frame}
+use Rattle.vx_isa.specs.Fits.{destinations, fits}
+use Rattle.vx_frame.specs.Target.{Target, answer, general, general_of, branch_of, stack_on, home, holds_branch, is_slotted, kept, parameters_of, one, together, pause, latest, in_flight, settled, load_slot, store_slot, store_slots, on_clusters, move_stack, fetch_words, fetched, cluster_of_operand, argument_words, result_words, call_words, is_caller, answer_words, return_words, start_words, bytes, first_frame}
 use Rattle.vx_frame.proofs.Early.{falls, Jumps, Touches}
 use Rattle.vx_frame.proofs.Pauses.{flight_append, flight_pause}
 use Rattle.vx_frame.proofs.Heats.{lift, stays, FineWords, word_fine, wait_fine, stop_fine}
@@ -172,8 +172,8 @@ module _ (T : Target) (heat : ℕ → Register → ℕ) where
       (arguments_fine f g (parameters_of T g) xs (one (Call (T.entry g)) ∷ []) e (call_fine (T.entry g) [] e (nothing_fine e))))))
 
   -- the link is loaded while the answer may be in flight
-  loaded_fine : (f : ℕ) (x : Operand) (rest : List Word) (e : Register → ℕ) → Fine cold rest e → Fine cold ((settled T (one (Move 0 answer (fetched T f x)) ∷ one (Load 0 (general 0 3) (pos 0) (stack_on 0) false) ∷ []) ++ settled T (one (ToLink (Held (general 0 3))) ∷ [])) ++ rest) e
-  loaded_fine f x rest e more =
+  one_by_one : (f : ℕ) (x : Operand) (rest : List Word) (e : Register → ℕ) → Fine cold rest e → Fine cold ((settled T (one (Move 0 answer (fetched T f x)) ∷ one (Load 0 (general 0 3) (pos 0) (stack_on 0) false) ∷ []) ++ settled T (one (ToLink (Held (general 0 3))) ∷ [])) ++ rest) e
+  one_by_one f x rest e more =
       let links : List Word = settled T (one (ToLink (Held (general 0 3))) ∷ []) in
       let w2 : List Word = links ++ rest in
       let load : Operation = Load 0 (general 0 3) (pos 0) (stack_on 0) false in
@@ -190,11 +190,23 @@ module _ (T : Target) (heat : ℕ → Register → ℕ) where
       (wait_fine T.machine heat n n cold cold (InGeneral (general 0 3) ∷ answered) w2 e (omega arith) (stays n cold)
       (settle (ToLink (Held (general 0 3)) ∷ []) rest e refl (λ q j. j) more))))
 
+  loaded_fine : (f : ℕ) (x : Operand) (rest : List Word) (e : Register → ℕ) → Fine cold rest e → Fine cold ((settled T (together T.machine (Move 0 answer (fetched T f x)) (Load 0 (general 0 3) (pos 0) (stack_on 0) false)) ++ settled T (one (ToLink (Held (general 0 3))) ∷ [])) ++ rest) e
+  loaded_fine f x rest e more = by (fits T.machine (Move 0 answer (fetched T f x) ∷ Load 0 (general 0 3) (pos 0) (stack_on 0) false ∷ []))
+    where
+      by : (b : Bool) → Fine cold ((settled T (if b then record { ops = Move 0 answer (fetched T f x) ∷ Load 0 (general 0 3) (pos 0) (stack_on 0) false ∷ []; idle = 0 } ∷ [] else one (Move 0 answer (fetched T f x)) ∷ one (Load 0 (general 0 3) (pos 0) (stack_on 0) false) ∷ []) ++ settled T (one (ToLink (Held (general 0 3))) ∷ [])) ++ rest) e
+      by true =
+          let ops : List Operation = Move 0 answer (fetched T f x) ∷ Load 0 (general 0 3) (pos 0) (stack_on 0) false ∷ [] in
+          let word : Word = record { ops = ops; idle = 0 } in
+          let links : List Word = settled T (one (ToLink (Held (general 0 3))) ∷ []) in
+          subst (λ ws. Fine cold (word ∷ ws) e) (sym (append_assoc (pause (in_flight T.machine 0 (word ∷ []))) links rest))
+          (settle ops (links ++ rest) e refl (λ q j. j) (settle (ToLink (Held (general 0 3)) ∷ []) rest e refl (λ q j. j) more))
+      by false = one_by_one f x rest e more
+
   answer_fine : (f : ℕ) (x : Operand) (rest : List Word) (e : Register → ℕ) → Fine cold rest e → Fine cold (answer_words T f x ++ rest) e
   answer_fine f x rest e more = by (is_caller T f)
     where
       by : (b : Bool) → Fine cold ((if b
-          then settled T (one (Move 0 answer (fetched T f x)) ∷ one (Load 0 (general 0 3) (pos 0) (stack_on 0) false) ∷ []) ++ settled T (one (ToLink (Held (general 0 3))) ∷ [])
+          then settled T (together T.machine (Move 0 answer (fetched T f x)) (Load 0 (general 0 3) (pos 0) (stack_on 0) false)) ++ settled T (one (ToLink (Held (general 0 3))) ∷ [])
           else settled T (one (Move 0 answer (fetched T f x)) ∷ [])) ++ rest) e
       by true = loaded_fine f x rest e more
       by false = settle (Move 0 answer (fetched T f x) ∷ []) rest e refl (λ q j. j) more

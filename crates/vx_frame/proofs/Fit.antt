@@ -2,6 +2,7 @@
 -- one operation, or one on each cluster.
 use Rattle.std.proofs.Common.{◌≡◌, ◌≢◌, ◌<◌, ◌≤◌, ◌⊎◌, inl, inr, ⊎_elim, ◌+◌, ℕ, zero, suc, ℤ, pos, neg_ℤ, Bool, true, false, ◌&&◌, eqb, Option, Some, None, List, [], ◌∷◌, ◌++◌, length, map, count_by, refl, sym, ap, subst, arith}
 use Rattle.std.specs.Prelude.{◌==◌, if◌then◌else◌, slice_get}
+use Rattle.std.specs.List.{list_all}
 use Rattle.std.specs.Cmp.Derive.{both_true}
 use Rattle.std.proofs.lemmas.Bool.{ne_eqb, lt-ltb, and_parts, ltb-true}
 use Rattle.std.proofs.lemmas.Bool.Decides.{nat_tests}
@@ -30,7 +31,7 @@ use Rattle.vx_isa.specs.declared.operation.Operation.TheVariants.{Compute, Move,
 use Rattle.vx_isa.specs.declared.program.Word.{Word}
 use Rattle.vx_isa.specs.declared.program.WordProgram.{WordProgram}
 use Rattle.vx_isa.specs.Numbers.{Numbers}
-use Rattle.vx_isa.specs.Fits.{is_in_file, takes_read_port}
+use Rattle.vx_isa.specs.Fits.{is_in_file, is_twice, keeps_to_cluster, destinations, fits, takes_read_port}
 use Rattle.vx_isa.proofs.FitsLaw.{six_parts}
 use Rattle.vx_machine.specs.Items.{latency_of_op}
 use Rattle.vx_machine.specs.Needs.{FitsByRoom}
@@ -42,7 +43,7 @@ use Rattle.vx_mixed.specs.declared.layout.VirtualWord.TheVariants.{Planned, Drai
 use Rattle.vx_mixed.specs.declared.layout.VWords.{VWords}
 use Rattle.vx_mixed.specs.LaidSettled.{bank_in, laid_reads, laid_writes, Plans}
 use Rattle.vx_regs.specs.Intervals.{IsBusy, is_live, is_named, word_reads, word_writes}
-use Rattle.vx_frame.specs.Target.{Target, answer, general, general_of, branch_of, stack_on, home, holds_branch, is_branch, is_slotted, kept, slotted, parameters_of, one, waits, pause, in_flight, settled, on_clusters, set_stack, slots_in_flight, load_slot, store_slot, load_slots, store_slots, if_some, once, before, behind, plan_word, plan_words, landing_words, move_stack, save_words, reload_words, fetch_words, fetched, cluster_of_operand, argument_words, result_words, call_words, back_words, is_caller, answer_words, return_words, way, link_words, entry_words, word_words, start_words, bytes, first_frame}
+use Rattle.vx_frame.specs.Target.{Target, answer, general, general_of, branch_of, stack_on, home, holds_branch, is_branch, is_slotted, kept, slotted, parameters_of, one, together, waits, pause, in_flight, settled, on_clusters, set_stack, slots_in_flight, load_slot, store_slot, load_slots, store_slots, if_some, once, before, behind, plan_word, plan_words, landing_words, move_stack, save_words, reload_words, fetch_words, fetched, cluster_of_operand, argument_words, result_words, call_words, back_words, is_caller, answer_words, return_words, way, link_words, entry_words, word_words, start_words, bytes, first_frame}
 use Rattle.vx_frame.specs.Placed.{Depth, Labelled, laid_pieces, landing_of, item_landings, word_landings, landing_pieces, function_pieces, functions_pieces, all_pieces, words_of}
 use Rattle.vx_frame.specs.Carried.{Carries, IsFunctionOf, IsMapped, item_of_laid}
 use Rattle.vx_frame.specs.Fitted.{FitLaw}
@@ -55,7 +56,7 @@ use Rattle.vx_frame.proofs.Live.{reads_bank, writes_bank, live_bank}
 use Rattle.vx_frame.proofs.Enough.{few_reads, few_writes, named_busy, in_all_of, in_map}
 use Rattle.vx_frame.proofs.Once.{once_in}
 use Rattle.vx_frame.proofs.Word.{slotted_from}
-use Rattle.vx_frame.proofs.Limits.{Limits, limits, Good, empty_good, one_good, spread_good, count_single, count_none}
+use Rattle.vx_frame.proofs.Limits.{Limits, limits, Good, well, empty_good, one_good, spread_good, count_single, count_none}
 use Rattle.vx_frame.proofs.Filed.{few_single, few_kept, general_filed, branch_filed}
 use Rattle.vx_frame.proofs.PlanFits.{plan_good}
 
@@ -310,14 +311,21 @@ module _ (T : Target) (flow : Flow) (ls : List VWords) (w : WordProgram) (sound 
         good_append M (move_stack T (bytes T.frame)) (result_words T f result ++ reload_words T f (T.saved f p)) (move_stack_good (bytes T.frame))
         (good_append M (result_words T f result) (reload_words T f (T.saved f p)) (result_good result h) (reload_good (T.saved f p) saved))
 
+    together_good : (a b : Operation) → is_twice (destinations (a ∷ b ∷ [])) ≡ false → list_all keeps_to_cluster (a ∷ b ∷ []) ≡ true → Good M (a ∷ []) → Good M (b ∷ []) → Words (together M a b)
+    together_good a b once keeps ga gb = by (fits M (a ∷ b ∷ [])) refl
+      where
+        by : (c : Bool) → fits M (a ∷ b ∷ []) ≡ c → Words (if c then record { ops = a ∷ b ∷ []; idle = 0 } ∷ [] else one a ∷ one b ∷ [])
+        by true e = (well M (a ∷ b ∷ []) once keeps e, tt)
+        by false e = (ga, (gb, tt))
+
     answer_good : (x : Operand) → Fetches x → Words (answer_words T f x)
     answer_good x h = by (is_caller T f)
       where
-        by : (b : Bool) → Words (if b then settled T (one (Move 0 answer (fetched T f x)) ∷ one (Load 0 (general 0 3) (pos 0) (stack_on 0) false) ∷ []) ++ settled T (one (ToLink (Held (general 0 3))) ∷ []) else settled T (one (Move 0 answer (fetched T f x)) ∷ []))
+        by : (b : Bool) → Words (if b then settled T (together T.machine (Move 0 answer (fetched T f x)) (Load 0 (general 0 3) (pos 0) (stack_on 0) false)) ++ settled T (one (ToLink (Held (general 0 3))) ∷ []) else settled T (one (Move 0 answer (fetched T f x)) ∷ []))
         by true =
             let link : Operation = ToLink (Held (general 0 3)) in
-            let loads : List Word = one (Move 0 answer (fetched T f x)) ∷ one (Load 0 (general 0 3) (pos 0) (stack_on 0) false) ∷ [] in
-            good_append M (settled T loads) (settled T (one link ∷ [])) (settled_good loads (move_answer x h, (load_good (general 0 3) (pos 0) first (own 0 3 (omega arith) first), tt)))
+            let loads : List Word = together T.machine (Move 0 answer (fetched T f x)) (Load 0 (general 0 3) (pos 0) (stack_on 0) false) in
+            good_append M (settled T loads) (settled T (one link ∷ [])) (settled_good loads (together_good (Move 0 answer (fetched T f x)) (Load 0 (general 0 3) (pos 0) (stack_on 0) false) refl refl (move_answer x h) (load_good (general 0 3) (pos 0) first (own 0 3 (omega arith) first))))
             (settled_good (one link ∷ []) (one_good M carries.machine l link first refl (both_true (own 0 3 (omega arith) first) refl) refl, tt))
         by false = settled_good (one (Move 0 answer (fetched T f x)) ∷ []) (move_answer x h, tt)
 

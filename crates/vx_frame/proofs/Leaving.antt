@@ -26,7 +26,7 @@ use Rattle.vx_mixed.specs.declared.layout.VWords.{VWords}
 use Rattle.vx_mixed.specs.Laid.{laid_program, laid_hop, some_word_hop, laid_body}
 use Rattle.vx_mixed.specs.LaidSettled.{bank_in}
 use Rattle.vx_regs.specs.Intervals.{IsLive, here, is_live}
-use Rattle.vx_frame.specs.Target.{Target, answer, general, kept, is_slotted, is_branch, holds_branch, stack_on, register_of, one, pause, in_flight, settled, is_caller, fetch_words, fetched, answer_words, return_words, memory_words}
+use Rattle.vx_frame.specs.Target.{Target, answer, general, kept, is_slotted, is_branch, holds_branch, stack_on, register_of, one, together, pause, in_flight, settled, is_caller, fetch_words, fetched, answer_words, return_words, memory_words}
 use Rattle.vx_frame.specs.Tied.{Tied, AtWord, Shows, back_place, is_place, moved as moved_number, word_at}
 use Rattle.vx_frame.specs.Carried.{Carries, IsFunctionOf, is_spilled}
 use Rattle.vx_frame.proofs.Bytes.{unsigned_small}
@@ -39,7 +39,7 @@ use Rattle.vx_frame.proofs.Names.{not_zero, not_general}
 use Rattle.vx_frame.proofs.Passing.{CanFetch, OperandAt, Got, fetch_run}
 use Rattle.vx_frame.proofs.Slots.{number_in, stack_no_answer, link_unnamed, link_no_general}
 use Rattle.vx_frame.proofs.Stands.{word_stands}
-use Rattle.vx_frame.proofs.Steps.{Stands, stands_left, stands_right, Quiet, quiet_on, Comes, Forth, comes_on, then_forth, forth_comes, Set, set_step, Paused, pause_step, word_step, load_step}
+use Rattle.vx_frame.proofs.Steps.{Stands, stands_left, stands_right, Quiet, quiet_on, Comes, Forth, comes_on, then_forth, forth_comes, Set, set_step, SetTwo, load_beside, Paused, pause_step, word_step}
 
 -- the run is at the place that the link named, with the result in the answer's register
 pub record Left (T : Target) (w : WordProgram) (fit : AllFit T.machine w) (sp : ℕ) (u : State) (back : ℕ) (n : ℤ) : Type 0 where
@@ -110,15 +110,15 @@ module _ (T : Target) (flow : Flow) (ls : List VWords) (w : WordProgram) (sound 
   abbrev Answering : Word
   Answering = one (Move 0 answer (fetched T F x))
 
-  abbrev Loading : Word
-  Loading = one (Load 0 (general 0 3) (pos 0) (stack_on 0) false)
+  abbrev Loads : List Word
+  Loads = together T.machine (Move 0 answer (fetched T F x)) (Load 0 (general 0 3) (pos 0) (stack_on 0) false)
 
   abbrev Linking : Word
   Linking = one (ToLink (Held (general 0 3)))
 
   -- the words that ready the answer and the link, in a function that calls and in another
   abbrev Readies : Bool → List Word
-  Readies b = if b then settled T (Answering ∷ Loading ∷ []) ++ settled T (Linking ∷ []) else settled T (Answering ∷ [])
+  Readies b = if b then settled T Loads ++ settled T (Linking ∷ []) else settled T (Answering ∷ [])
 
   abbrev Last : List Word
   Last = answer_words T F x ++ one GoBack ∷ []
@@ -204,7 +204,7 @@ module _ (T : Target) (flow : Flow) (ls : List VWords) (w : WordProgram) (sound 
 
     module _ (calls : is_caller T F ≡ true) (st : Stands w.words A.place (Readies true)) where
       abbrev FirstPause : ℕ
-      FirstPause = in_flight T.machine 0 (Answering ∷ Loading ∷ [])
+      FirstPause = in_flight T.machine 0 Loads
 
       abbrev LoadLate : List Word
       LoadLate = pause FirstPause
@@ -218,35 +218,30 @@ module _ (T : Target) (flow : Flow) (ls : List VWords) (w : WordProgram) (sound 
       abbrev Links : List Word
       Links = Linking ∷ LinkLate
 
-      answers : Set T.machine w fit A (General answer) n
-      answers = answering st.0
+      from_loads : Stands w.words A.place (Loads ++ LoadLate)
+      from_loads = stands_left w.words A.place (Loads ++ LoadLate) Links st
 
-      abbrev B : State
-      B = answers.to
-
-      stack_b : (k : ℕ) → k < T.machine.clusters → register B (General (stack_on k)) ≡ pos (4 * Sp)
-      stack_b k lt = answers.others (General (stack_on k)) (stack_no_answer k) ∙ stack_a k lt
-
-      loading : Set T.machine w fit B (General (general 0 3)) (word_at B.memory (Sp + 0))
-      loading = load_step T.machine w fit (memory_words T) carries.memory small B 0 (general 0 3) (stack_on 0) Sp 0 answers.quiet.calm (subst (λ q. slice_get w.words q ≡ Some Loading) (sym answers.place) st.1.0) (stack_b 0 some) first_inside refl
+      loading : SetTwo T.machine w fit A (General answer) (General (general 0 3)) n (word_at A.memory (Sp + 0)) (length Loads)
+      loading = load_beside T.machine w fit (memory_words T) carries.memory small A (Move 0 answer (fetched T F x)) (General answer) n 0 (general 0 3) (stack_on 0) Sp 0 got.quiet.calm (stands_left w.words A.place Loads LoadLate from_loads)
+          (λ v. record { bad = refl; takes = refl; prints = refl; stores = λ m. refl; leads = λ ops. refl }) refl answer_no_scratch (stack_no_answer 0) refl got.is (stack_a 0 some) first_inside refl
 
       abbrev C : State
       C = loading.to
 
-      place_c : C.place ≡ (A.place + 1) + 1
-      place_c = let a = loading.place in let b = answers.place in omega arith
+      place_c : C.place ≡ A.place + length Loads
+      place_c = loading.place
 
       pausing : Paused T.machine w fit C (C.place + length LoadLate)
-      pausing = pause_step T.machine w fit C FirstPause loading.quiet.calm (subst (λ q. Stands w.words q LoadLate) (sym place_c) (stands_left w.words ((A.place + 1) + 1) LoadLate Links st.1.1))
+      pausing = pause_step T.machine w fit C FirstPause loading.quiet.calm (subst (λ q. Stands w.words q LoadLate) (sym place_c) (stands_right w.words A.place Loads LoadLate from_loads))
 
-      link_stands : Stands w.words (((A.place + 1) + 1) + length LoadLate) Links
-      link_stands = stands_right w.words ((A.place + 1) + 1) LoadLate Links st.1.1
+      link_stands : Stands w.words (A.place + length (Loads ++ LoadLate)) Links
+      link_stands = stands_right w.words A.place (Loads ++ LoadLate) Links st
 
       abbrev D : State
       D = pausing.to
 
-      place_d : D.place ≡ ((A.place + 1) + 1) + length LoadLate
-      place_d = let a = pausing.place in let b = place_c in omega arith
+      place_d : D.place ≡ A.place + length (Loads ++ LoadLate)
+      place_d = let a = pausing.place in let b = place_c in let c = length-append Loads LoadLate in omega arith
 
       linking : Set T.machine w fit D Link (register D (General (general 0 3)))
       linking = set_step T.machine w fit D (ToLink (Held (general 0 3))) Link (register D (General (general 0 3))) pausing.quiet.calm (subst (λ q. slice_get w.words q ≡ Some Linking) (sym place_d) link_stands.0) (record { bad = refl; takes = refl; prints = refl; stores = λ m. refl; leads = λ ops. refl }) refl refl refl
@@ -254,7 +249,7 @@ module _ (T : Target) (flow : Flow) (ls : List VWords) (w : WordProgram) (sound 
       abbrev E : State
       E = linking.to
 
-      place_e : E.place ≡ (((A.place + 1) + 1) + length LoadLate) + 1
+      place_e : E.place ≡ (A.place + length (Loads ++ LoadLate)) + 1
       place_e = let a = linking.place in let b = place_d in omega arith
 
       resting : Paused T.machine w fit E (E.place + length LinkLate)
@@ -263,12 +258,9 @@ module _ (T : Target) (flow : Flow) (ls : List VWords) (w : WordProgram) (sound 
       abbrev R : State
       R = resting.to
 
-      -- a register that is none of those with a use is as it was when the result had been fetched
-      others_r : (q : Register) → q ≢ Link → q ≢ General (general 0 3) → seen R.registers q ≡ seen B.registers q
-      others_r q nl ns = ap (λ y. seen y q) resting.registers ∙ linking.others q nl ∙ ap (λ y. seen y q) pausing.registers ∙ loading.others q ns
-
-      memory_b : B.memory ≡ u.memory
-      memory_b = answers.memory ∙ got.memory
+      -- a register but that of the link is as it was when both were loaded
+      later_r : (q : Register) → q ≢ Link → seen R.registers q ≡ seen C.registers q
+      later_r q nl = ap (λ y. seen y q) resting.registers ∙ linking.others q nl ∙ ap (λ y. seen y q) pausing.registers
 
       in_frame : word_at u.memory Sp ≡ wrap (pos (back_place T r.waiting))
       in_frame = ap (λ b. if b then word_at u.memory Sp else u.registers Link) (sym calls) ∙ at_word.link
@@ -276,19 +268,18 @@ module _ (T : Target) (flow : Flow) (ls : List VWords) (w : WordProgram) (sound 
       link_is : seen R.registers Link ≡ wrap (pos (back_place T r.waiting))
       link_is =
           let zero_up : Sp + 0 ≡ Sp = omega arith in
-          ap (λ y. seen y Link) resting.registers ∙ linking.at ∙ ap (λ y. seen y (General (general 0 3))) pausing.registers ∙ loading.at
-          ∙ ap (λ y. word_at y (Sp + 0)) memory_b ∙ ap (word_at u.memory) zero_up ∙ in_frame
+          ap (λ y. seen y Link) resting.registers ∙ linking.at ∙ ap (λ y. seen y (General (general 0 3))) pausing.registers ∙ loading.second
+          ∙ ap (λ y. word_at y (Sp + 0)) got.memory ∙ ap (word_at u.memory) zero_up ∙ in_frame
 
       readied_by_frame : Readied (length (Readies true))
       readied_by_frame = record {
         to = R;
-        comes = comes_on T.machine w fit A B R (forth_comes T.machine w fit A B answers.forth) (comes_on T.machine w fit B C R (forth_comes T.machine w fit B C loading.forth)
-            (comes_on T.machine w fit C D R pausing.comes (comes_on T.machine w fit D E R (forth_comes T.machine w fit D E linking.forth) resting.comes)));
-        place = (let a = resting.place in let b = place_e in let c = length-append LoadLate Links in omega arith);
-        quiet = quiet_on A B R answers.quiet (quiet_on B C R loading.quiet (quiet_on C D R pausing.quiet (quiet_on D E R linking.quiet resting.quiet)));
-        memory = resting.memory ∙ linking.memory ∙ pausing.memory ∙ loading.memory ∙ answers.memory;
-        answered = others_r (General answer) (λ e. absurd (cc)) answer_no_scratch ∙ answers.at;
-        stack = λ k lt. others_r (General (stack_on k)) (λ e. absurd (cc)) (stack_no_scratch k) ∙ stack_b k lt;
+        comes = comes_on T.machine w fit A C R loading.comes (comes_on T.machine w fit C D R pausing.comes (comes_on T.machine w fit D E R (forth_comes T.machine w fit D E linking.forth) resting.comes));
+        place = (let a = resting.place in let b = place_e in let c = length-append (Loads ++ LoadLate) Links in omega arith);
+        quiet = quiet_on A C R loading.quiet (quiet_on C D R pausing.quiet (quiet_on D E R linking.quiet resting.quiet));
+        memory = resting.memory ∙ linking.memory ∙ pausing.memory ∙ loading.memory;
+        answered = later_r (General answer) (λ e. absurd (cc)) ∙ loading.first;
+        stack = λ k lt. later_r (General (stack_on k)) (λ e. absurd (cc)) ∙ loading.others (General (stack_on k)) (stack_no_answer k) (stack_no_scratch k) ∙ stack_a k lt;
         link = link_is;
       }
 

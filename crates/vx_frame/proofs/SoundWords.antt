@@ -38,7 +38,7 @@ use Rattle.vx_mixed.specs.declared.layout.VirtualWord.TheVariants.{Planned, Drai
 use Rattle.vx_mixed.specs.declared.layout.VWords.{VWords}
 use Rattle.vx_mixed.specs.LaidSettled.{laid_reads, laid_writes, Plans}
 use Rattle.vx_mixed.specs.Origins.{ComesFrom, graph_op}
-use Rattle.vx_frame.specs.Target.{Target, answer, general, general_of, branch_of, register_of, stack_on, holds_branch, is_slotted, kept, slotted, once, parameters_of, one, pause, in_flight, settled, set_stack, slots_in_flight, load_slot, store_slot, load_slots, store_slots, if_some, before, behind, leads, carried, carried_items, plan_word, plan_words, landing_words, on_clusters, move_stack, save_words, reload_words, fetch_words, fetched, cluster_of_operand, argument_words, result_words, call_words, back_words, is_caller, answer_words, return_words, way, link_words, entry_words, word_words, start_words, bytes, first_frame, memory_words}
+use Rattle.vx_frame.specs.Target.{Target, answer, general, general_of, branch_of, register_of, stack_on, holds_branch, is_slotted, kept, slotted, once, parameters_of, one, together, pause, in_flight, settled, set_stack, slots_in_flight, load_slot, store_slot, load_slots, store_slots, if_some, before, behind, leads, carried, carried_items, plan_word, plan_words, landing_words, on_clusters, move_stack, save_words, reload_words, fetch_words, fetched, cluster_of_operand, argument_words, result_words, call_words, back_words, is_caller, answer_words, return_words, way, link_words, entry_words, word_words, start_words, bytes, first_frame, memory_words}
 use Rattle.vx_frame.specs.Placed.{Depth, Labelled, laid_pieces, landing_of, item_landings, word_landings, landing_pieces, function_pieces, functions_pieces, all_pieces, words_of}
 use Rattle.vx_frame.specs.Carried.{Carries, IsFunctionOf, IsMapped, item_of_laid}
 use Rattle.vx_frame.specs.Finish.{SoundLaw}
@@ -272,16 +272,23 @@ module _ (T : Target) (flow : Flow) (ls : List VWords) (w : WordProgram) (sound 
       right_append W N (move_stack T (bytes T.frame)) (result_words T f result ++ reload_words T f (T.saved f p)) (move_stack_right (bytes T.frame))
       (right_append W N (result_words T f result) (reload_words T f (T.saved f p)) (result_right f result) (reload_right f (T.saved f p)))
 
+  together_right : (a b : Operation) → Is a → Is b → Words (together T.machine a b)
+  together_right a b ga gb = by (fits T.machine (a ∷ b ∷ []))
+    where
+      by : (c : Bool) → Words (if c then record { ops = a ∷ b ∷ []; idle = 0 } ∷ [] else one a ∷ one b ∷ [])
+      by true = (has_ops W N (a ∷ b ∷ []) (ga, (gb, tt)), tt)
+      by false = (has_one W N a ga, (has_one W N b gb, tt))
+
   answer_right : (f : ℕ) (x : Operand) → Words (answer_words T f x)
   answer_right f x = by (is_caller T f)
     where
-      by : (b : Bool) → Words (if b then settled T (one (Move 0 answer (fetched T f x)) ∷ one (Load 0 (general 0 3) (pos 0) (stack_on 0) false) ∷ []) ++ settled T (one (ToLink (Held (general 0 3))) ∷ []) else settled T (one (Move 0 answer (fetched T f x)) ∷ []))
+      by : (b : Bool) → Words (if b then settled T (together T.machine (Move 0 answer (fetched T f x)) (Load 0 (general 0 3) (pos 0) (stack_on 0) false)) ++ settled T (one (ToLink (Held (general 0 3))) ∷ []) else settled T (one (Move 0 answer (fetched T f x)) ∷ []))
       by true =
           let move : Operation = Move 0 answer (fetched T f x) in
           let load : Operation = Load 0 (general 0 3) (pos 0) (stack_on 0) false in
           let link : Operation = ToLink (Held (general 0 3)) in
-          let loads : List Word = one move ∷ one load ∷ [] in
-          right_append W N (settled T loads) (settled T (one link ∷ [])) (settled_right loads (has_one W N move tt, (has_one W N load tt, tt))) (settled_right (one link ∷ []) (has_one W N link tt, tt))
+          let loads : List Word = together T.machine move load in
+          right_append W N (settled T loads) (settled T (one link ∷ [])) (settled_right loads (together_right move load tt tt)) (settled_right (one link ∷ []) (has_one W N link tt, tt))
       by false = settled_right (one (Move 0 answer (fetched T f x)) ∷ []) (has_one W N (Move 0 answer (fetched T f x)) tt, tt)
 
   return_right : (f : ℕ) (x : Operand) → Words (return_words T f x)

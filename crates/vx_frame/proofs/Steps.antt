@@ -1,5 +1,5 @@
 -- Single words of which all but plan words are made, where every write lands at the next word.
-use Rattle.std.proofs.Common.{◌≡◌, ◌≢◌, ◌<◌, ◌+◌, ◌*◌, ◌^◌, ℕ, zero, suc, ℤ, pos, Bool, true, false, ◌&&◌, ◌||◌, not, cond, Some, List, [], ◌∷◌, ◌++◌, length, refl, ap, ◌∙◌, subst, arith}
+use Rattle.std.proofs.Common.{◌≡◌, ◌≢◌, ◌<◌, ◌+◌, ◌*◌, ◌^◌, ℕ, zero, suc, ℤ, pos, Bool, true, false, ◌&&◌, ◌||◌, not, cond, Some, List, [], ◌∷◌, ◌++◌, length, refl, sym, ap, ◌∙◌, subst, arith}
 use Rattle.std.specs.Prelude.{◌==◌, if◌then◌else◌, slice_get, drop, count_by}
 use Rattle.std.proofs.lemmas.Bool.{eqb-true}
 use Rattle.std.proofs.lemmas.List.{append-nil}
@@ -13,15 +13,16 @@ use Rattle.vx_isa.specs.declared.operation.Operation.{Operation}
 use Rattle.vx_isa.specs.declared.operation.Operation.TheVariants.{Load, Store, Goto}
 use Rattle.vx_isa.specs.declared.program.Word.{Word}
 use Rattle.vx_isa.specs.declared.program.WordProgram.{WordProgram}
+use Rattle.vx_isa.specs.Fits.{fits}
 use Rattle.vx_isa.specs.Numbers.{Numbers}
 use Rattle.vx_isa.specs.Operations.{is_zero, destination_of}
-use Rattle.vx_isa.specs.Machine.{State, To, register, source, address, number_of, stored, takes_input, has_bad_address, lead_of, is_left, is_word_of}
+use Rattle.vx_isa.specs.Machine.{State, To, register, source, address, number_of, stored, memory_after, print_of, takes_input, has_bad_address, lead_of, is_left, is_word_of}
 use Rattle.vx_isa.proofs.Lists.{count_by-cons}
-use Rattle.vx_frame.specs.Target.{Target, one, waits, pause, way, bytes}
+use Rattle.vx_frame.specs.Target.{Target, one, together, waits, pause, way, bytes}
 use Rattle.vx_frame.specs.Tied.{word_at}
 use Rattle.vx_frame.proofs.Bytes.{address_is, is_word}
 use Rattle.vx_frame.proofs.Calm.{seen, put_to, put_at, put_off, after, AllFit, Fine, Going, word_goes}
-use Rattle.vx_frame.proofs.Forms.{Plainly}
+use Rattle.vx_frame.proofs.Forms.{Plainly, memory_on}
 use Rattle.vx_frame.proofs.Op.{store_at, store_off}
 
 -- words stand in a program from a place on
@@ -103,6 +104,36 @@ module _ (m : Numbers) (w : WordProgram) (fit : AllFit m w) where
     others = λ q ne. ap (λ d. seen (put_to d (number_of w.memory u o) u.registers) q) to_r ∙ put_off r (number_of w.memory u o) u.registers q ne;
   }
 
+  -- two operations of one word that change a register each
+  pub record SetTwo (u : State) (r s : Register) (x y : ℤ) (taken : ℕ) : Type 0 where
+    pub to : State
+    pub comes : Comes u to
+    pub place : to.place ≡ u.place + taken
+    pub quiet : Quiet u to
+    pub memory : to.memory ≡ u.memory
+    pub first : seen to.registers r ≡ x
+    pub second : seen to.registers s ≡ y
+    pub others : (q : Register) → (q ≢ r) → (q ≢ s) → seen to.registers q ≡ seen u.registers q
+
+  set_two : (u : State) (o p : Operation) (r s : Register) (x y : ℤ) → u.flying ≡ [] → slice_get w.words u.place ≡ Some (record { ops = o ∷ p ∷ []; idle = 0 }) → Plainly w u o → Plainly w u p → destination_of o ≡ Some r → destination_of p ≡ Some s → r ≢ s → is_zero r ≡ false → is_zero s ≡ false → number_of w.memory u o ≡ x → number_of w.memory u p ≡ y → SetTwo u r s x y 1
+  set_two u o p r s x y calm at po pp to_r to_s apart zr zs xo yp = record {
+    to = after w u (record { ops = o ∷ p ∷ []; idle = 0 }) (u.place + 1);
+    comes = forth_comes u (after w u (record { ops = o ∷ p ∷ []; idle = 0 }) (u.place + 1)) (word_step u (record { ops = o ∷ p ∷ []; idle = 0 }) (u.place + 1) calm at (record { addresses = addresses; input = ap (λ b. (b || (takes_input p || false)) && not (is_left u.input)) po.takes ∙ ap (λ b. (b || false) && not (is_left u.input)) pp.takes }) (po.leads (p ∷ []) ∙ pp.leads []));
+    place = refl;
+    quiet = record {
+      calm = refl;
+      input = ap (λ n. drop n u.input) (count_by-cons takes_input o (p ∷ []) ∙ ap (λ b. cond b 1 0 + count_by takes_input (p ∷ [])) po.takes ∙ ap (λ n. 0 + n) (no_take p pp.takes));
+      out = ap (λ ys. u.out ++ (ys ++ (print_of w u p ++ []))) po.prints ∙ ap (λ ys. u.out ++ (ys ++ [])) pp.prints ∙ append-nil u.out;
+    };
+    memory = memory_on u o (p ∷ []) u.memory ∙ ap (memory_after u (p ∷ [])) (po.stores u.memory) ∙ pp.stores u.memory;
+    first = ap (λ d. seen (put_to d (number_of w.memory u p) (put_to (destination_of o) (number_of w.memory u o) u.registers)) r) to_s ∙ put_off s (number_of w.memory u p) (put_to (destination_of o) (number_of w.memory u o) u.registers) r apart ∙ ap (λ d. seen (put_to d (number_of w.memory u o) u.registers) r) to_r ∙ put_at r (number_of w.memory u o) u.registers zr ∙ xo;
+    second = ap (λ d. seen (put_to d (number_of w.memory u p) (put_to (destination_of o) (number_of w.memory u o) u.registers)) s) to_s ∙ put_at s (number_of w.memory u p) (put_to (destination_of o) (number_of w.memory u o) u.registers) zs ∙ yp;
+    others = λ q nr ns. ap (λ d. seen (put_to d (number_of w.memory u p) (put_to (destination_of o) (number_of w.memory u o) u.registers)) q) to_s ∙ put_off s (number_of w.memory u p) (put_to (destination_of o) (number_of w.memory u o) u.registers) q ns ∙ ap (λ d. seen (put_to d (number_of w.memory u o) u.registers) q) to_r ∙ put_off r (number_of w.memory u o) u.registers q nr;
+  }
+    where
+      addresses : (has_bad_address w.memory u o || (has_bad_address w.memory u p || false)) ≡ false
+      addresses = ap (λ b. b || (has_bad_address w.memory u p || false)) po.bad ∙ or_not (has_bad_address w.memory u p) pp.bad
+
   -- cycles without an operation, or a jump
   pub record Passed (u : State) (q : ℕ) : Type 0 where
     pub to : State
@@ -173,6 +204,32 @@ module _ (m : Numbers) (w : WordProgram) (fit : AllFit m w) where
         set_step u (Load k r (bytes o) b false) (General r) (word_at u.memory (p + o)) calm at
         (record { bad = ap not there; takes = refl; prints = refl; stores = λ m. refl; leads = λ ops. refl }) refl not_zero
         (ap (λ c. if c then u.memory (address u b (bytes o)) else pos 0) there ∙ ap u.memory (slot_address u b p o e lt))
+
+    -- an operation that changes a register, and a load, in one word or in two
+    pub load_beside : (u : State) (o : Operation) (r : Register) (x : ℤ) (k : ℕ) (t b : GeneralRegister) (p d : ℕ) → u.flying ≡ [] → Stands w.words u.place (together m o (Load k t (bytes d) b false)) → ((v : State) → Plainly w v o) → destination_of o ≡ Some r → r ≢ General t → General b ≢ r → is_zero r ≡ false → number_of w.memory u o ≡ x → register u (General b) ≡ pos (4 * p) → p + d < words → is_zero (General t) ≡ false → SetTwo u r (General t) x (word_at u.memory (p + d)) (length (together m o (Load k t (bytes d) b false)))
+    load_beside u o r x k t b p d calm st plain to_r apart other zr xo e lt zt = by (fits m (o ∷ Load k t (bytes d) b false ∷ [])) st
+      where
+        by : (c : Bool) → Stands w.words u.place (if c then record { ops = o ∷ Load k t (bytes d) b false ∷ []; idle = 0 } ∷ [] else one o ∷ one (Load k t (bytes d) b false) ∷ []) → SetTwo u r (General t) x (word_at u.memory (p + d)) (length (if c then record { ops = o ∷ Load k t (bytes d) b false ∷ []; idle = 0 } ∷ [] else one o ∷ one (Load k t (bytes d) b false) ∷ []))
+        by true s =
+            let there = slot_word u b p d e lt in
+            set_two u o (Load k t (bytes d) b false) r (General t) x (word_at u.memory (p + d)) calm s.0 (plain u)
+            (record { bad = ap not there; takes = refl; prints = refl; stores = λ m. refl; leads = λ ops. refl }) to_r refl apart zr zt xo
+            (ap (λ c. if c then u.memory (address u b (bytes d)) else pos 0) there ∙ ap u.memory (slot_address u b p d e lt))
+        by false s =
+            let a = set_step u o r x calm s.0 (plain u) to_r zr xo in
+            let c = load_step a.to k t b p d a.quiet.calm (subst (λ q. slice_get w.words q ≡ Some (one (Load k t (bytes d) b false))) (sym a.place) s.1.0) (a.others (General b) other ∙ e) lt zt in
+            let pa = a.place in
+            let pc = c.place in
+            record {
+              to = c.to;
+              comes = comes_on u a.to c.to (forth_comes u a.to a.forth) (forth_comes a.to c.to c.forth);
+              place = omega arith;
+              quiet = quiet_on u a.to c.to a.quiet c.quiet;
+              memory = c.memory ∙ a.memory;
+              first = c.others r apart ∙ a.at;
+              second = c.at ∙ ap (λ g. word_at g (p + d)) a.memory;
+              others = λ q nr nt. c.others q nt ∙ a.others q nr;
+            }
 
     -- a word of memory is written
     pub record Kept (u : State) (x : ℕ) (z : ℤ) : Type 0 where

@@ -17,6 +17,7 @@ use Rattle.vx_flow.specs.Meaning.{deepest}
 use Rattle.vx_flow.specs.Sound.{is_local}
 use Rattle.vx_flow.specs.Walk.{numbers}
 use Rattle.vx_isa.specs.Machine.{cycles_of}
+use Rattle.vx_isa.specs.Fits.{fits}
 use Rattle.vx_isa.specs.Numbers.{Numbers}
 use Rattle.vx_isa.specs.Operations.{latency_of}
 use Rattle.vx_isa.specs.declared.operation.GeneralRegister.{GeneralRegister}
@@ -202,6 +203,10 @@ plan_word T f p items = record { ops = carried_items T f p (laid_reads items) (l
 abbrev pub one : Operation → Word
 one op = record { ops = op ∷ []; idle = 0 }
 
+-- two operations in one word where the machine has room for both, else one after the other
+abbrev pub together : Numbers → Operation → Operation → List Word
+together m a b = if fits m (a ∷ b ∷ []) then record { ops = a ∷ b ∷ []; idle = 0 } ∷ [] else one a ∷ one b ∷ []
+
 abbrev pub waits : ℕ → Word
 waits n = record { ops = []; idle = n }
 
@@ -361,7 +366,7 @@ is_caller T f = list_any is_call_word (T.layout f).words
 abbrev pub answer_words : Target → ℕ → Operand → List Word
 answer_words T f x =
     if is_caller T f
-    then settled T (one (Move 0 answer (fetched T f x)) ∷ one (Load 0 (general 0 3) (pos 0) (stack_on 0) false) ∷ []) ++ settled T (one (ToLink (Held (general 0 3))) ∷ [])
+    then settled T (together T.machine (Move 0 answer (fetched T f x)) (Load 0 (general 0 3) (pos 0) (stack_on 0) false)) ++ settled T (one (ToLink (Held (general 0 3))) ∷ [])
     else settled T (one (Move 0 answer (fetched T f x)) ∷ [])
 
 abbrev pub return_words : Target → ℕ → Operand → List Word

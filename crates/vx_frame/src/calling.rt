@@ -1,12 +1,12 @@
 // The words of calls, returns, entries and of a program's start.
 
-ghost use Rattle.std.specs.Prelude.{◌≡◌, ◌++◌, ◌∷◌, ◌+◌, [], neg_ℤ, true, IfOk};
+ghost use Rattle.std.specs.Prelude.{◌≡◌, ◌++◌, ◌∷◌, ◌+◌, [], neg_ℤ, pos, true, false, IfOk};
 ghost use Rattle.vx_base.specs.declared.arithmetic.Code.TheVariants.{Add, ToBranch};
 ghost use Rattle.vx_base.specs.declared.arithmetic.Compare.TheVariants.{Ltu};
-ghost use Rattle.vx_isa.specs.declared.operation.Operation.TheVariants.{BranchOn, Compute, Move};
+ghost use Rattle.vx_isa.specs.declared.operation.Operation.TheVariants.{BranchOn, Compute, Load, Move, ToLink};
 ghost use Rattle.vx_isa.specs.declared.operation.Register.TheVariants.{Branch as InBranch, General as InGeneral};
 ghost use Rattle.vx_isa.specs.declared.operation.Source.TheVariants.{Held, Number};
-ghost use Rattle.vx_frame.specs.Target.{bytes, general, one, settled, stack_on, on_clusters, parameters_of, first_frame, fetch_words, fetched, cluster_of_operand, argument_words, result_words, save_words, reload_words, move_stack, call_words, back_words, answer_words, return_words, way, link_words, entry_words, set_stack, start_words};
+ghost use Rattle.vx_frame.specs.Target.{bytes, general, one, together, settled, stack_on, on_clusters, parameters_of, first_frame, fetch_words, fetched, cluster_of_operand, argument_words, result_words, save_words, reload_words, move_stack, call_words, back_words, answer_words, return_words, way, link_words, entry_words, set_stack, start_words};
 ghost use Rattle.vx_frame.specs.Seen.{seen};
 
 use crate::carrying::{bytes, stack_on};
@@ -15,8 +15,8 @@ use crate::gathering::{
 };
 use crate::naming::{general, general_of, home, is_slotted};
 use crate::slotting::{
-    answer, load_slot, load_slots, named_by, push_one, push_settled, push_settled_word, push_wait,
-    store_slots, sum,
+    answer, load_slot, load_slots, named_by, push_one, push_settled, push_settled_two,
+    push_settled_word, push_wait, store_slots, sum,
 };
 use std::alloc::Global;
 use vx_base::arithmetic::{Code, Compare};
@@ -312,6 +312,36 @@ pub(crate) fn push_back(
     reload(alloc, whole, function, saved(whole, function, place), words)
 }
 
+/// The load of the link from its frame.
+fn link_load() -> Operation
+    ensures { result ≡ Load 0 (general 0 3) (pos 0) (stack_on 0) false }
+{
+    Operation::Load {
+        cluster: 0,
+        to: link_scratch(),
+        offset: 0,
+        base: stack_on(0),
+        dismissible: false,
+    }
+}
+
+/// An operation that gives the result, and the link from the frame to its register.
+#[tactic(auto, using(crate::proofs::Emitting::behind_both))]
+fn answer_by_frame(
+    alloc: Global,
+    whole: &Whole,
+    give: Operation,
+    words: &mut Listed<Word>,
+) -> Result<(), NoMemory>
+    ensures { IfOk result (λ _. words.new ≡ words.old ++ (settled (seen whole.now) (together (seen whole.now).machine give (Load 0 (general 0 3) (pos 0) (stack_on 0) false)) ++ settled (seen whole.now) (one (ToLink (Held (general 0 3))) ∷ []))) }
+{
+    push_settled_two(alloc, whole, give, link_load(), words)?;
+    let link = Operation::ToLink {
+        from: Source::Held(link_scratch()),
+    };
+    push_settled(alloc, whole, link, words)
+}
+
 /// The result to its register, and the link from the frame of a function that calls.
 fn push_answer(
     alloc: Global,
@@ -327,24 +357,10 @@ fn push_answer(
         to: answer(),
         from: fetched(whole, function, operand),
     };
-    if !is_caller(whole, function) {
-        return push_settled(alloc, whole, give, words);
+    if is_caller(whole, function) {
+        return answer_by_frame(alloc, whole, give, words);
     }
-    let begin = words.len();
-    push_one(alloc, give, words)?;
-    let load = Operation::Load {
-        cluster: 0,
-        to: link_scratch(),
-        offset: 0,
-        base: stack_on(0),
-        dismissible: false,
-    };
-    push_one(alloc, load, words)?;
-    push_wait(alloc, whole, begin, words)?;
-    let link = Operation::ToLink {
-        from: Source::Held(link_scratch()),
-    };
-    push_settled(alloc, whole, link, words)
+    push_settled(alloc, whole, give, words)
 }
 
 /// The words of a return: the result goes to its register, and the link to its own.

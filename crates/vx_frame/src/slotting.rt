@@ -7,7 +7,7 @@ ghost use Rattle.vx_base.specs.declared.arithmetic.Compare.TheVariants.{Ne};
 ghost use Rattle.vx_isa.specs.declared.operation.Operation.TheVariants.{Compute, Select, Load, Store};
 ghost use Rattle.vx_isa.specs.declared.operation.Register.TheVariants.{Branch as InBranch};
 ghost use Rattle.vx_isa.specs.declared.operation.Source.TheVariants.{Held, Number};
-ghost use Rattle.vx_frame.specs.Target.{answer, stack_on, general_of, branch_of, one, waits, pause, latest, in_flight, settled, load_slot, store_slot, load_slots, store_slots};
+ghost use Rattle.vx_frame.specs.Target.{answer, stack_on, general_of, branch_of, one, together, waits, pause, latest, in_flight, settled, load_slot, store_slot, load_slots, store_slots};
 ghost use Rattle.vx_frame.specs.Seen.{seen};
 
 use crate::carrying::{bytes, stack_on};
@@ -21,7 +21,7 @@ use vx_base::outcome::NoMemory;
 use vx_flow::graph::Value;
 use vx_isa::operation::{BranchRegister, GeneralRegister, Operation, Register, Source};
 use vx_isa::program::Word;
-use vx_machine::Machine;
+use vx_machine::{Machine, fits};
 
 /// A sum that is want of memory where no number holds it.
 pub(crate) fn sum(left: u32, right: u32) -> Result<u32, NoMemory>
@@ -146,6 +146,63 @@ pub(crate) fn push_settled_word(
 {
     let begin = words.len();
     words.push(word)?;
+    push_wait(alloc, whole, begin, words)
+}
+
+/// A word of two operations.
+fn word_of_two(alloc: Global, first: Operation, second: Operation) -> Result<Word, NoMemory>
+    ensures { IfOk result (λ word. word ≡ record { ops = first ∷ second ∷ []; idle = 0 }) }
+{
+    let mut ops = Listed::new(alloc);
+    ops.push(first)?;
+    ops.push(second)?;
+    Ok(Word { ops, idle: 0 })
+}
+
+/// Adds two words of one operation.
+fn push_both(
+    alloc: Global,
+    first: Operation,
+    second: Operation,
+    words: &mut Listed<Word>,
+) -> Result<(), NoMemory>
+    ensures { IfOk result (λ _. words.new ≡ words.old ++ one first ∷ one second ∷ []) }
+{
+    push_one(alloc, first, words)?;
+    push_one(alloc, second, words)
+}
+
+/// Adds two operations in one word where the machine has room for both, else one after the other.
+#[tactic(auto, using(crate::proofs::Emitting::beside, crate::proofs::Emitting::apart))]
+fn push_together(
+    alloc: Global,
+    whole: &Whole,
+    first: Operation,
+    second: Operation,
+    words: &mut Listed<Word>,
+) -> Result<(), NoMemory>
+    ensures { IfOk result (λ _. words.new ≡ words.old ++ together (seen whole.now).machine first second) }
+{
+    let word = word_of_two(alloc, first, second)?;
+    if fits(whole.machine, &word) {
+        words.push(word)?;
+        return Ok(());
+    }
+    push_both(alloc, first, second, words)
+}
+
+/// Adds two operations, in one word or in two, and a pause as long as their results are in flight.
+pub(crate) fn push_settled_two(
+    alloc: Global,
+    whole: &Whole,
+    first: Operation,
+    second: Operation,
+    words: &mut Listed<Word>,
+) -> Result<(), NoMemory>
+    ensures { IfOk result (λ _. words.new ≡ words.old ++ settled (seen whole.now) (together (seen whole.now).machine first second)) }
+{
+    let begin = words.len();
+    push_together(alloc, whole, first, second, words)?;
     push_wait(alloc, whole, begin, words)
 }
 
