@@ -18,7 +18,7 @@ use vx_base::listed::Listed;
 use vx_base::outcome::NoMemory;
 use vx_flow::graph::{Block, Flow, Global as Variable, Graph};
 
-/// In how many rounds headers are fixed to what comes in.
+/// How many sweeps give back what is taken too much.
 const ROUNDS: u32 = 2;
 
 /// The graphs of a program without splits whose answer is known: such a split is a jump. An operation whose result stands in a
@@ -101,7 +101,7 @@ fn narrowed_graph(alloc: Global, graph: &Graph) -> Result<Option<Graph>, NoMemor
     }
 }
 
-/// The graph narrowed by the claims that are found after so many rounds.
+/// The graph narrowed by the claims that are found with so many sweeps that give back.
 fn narrowed_after(alloc: Global, graph: &Graph, rounds: u32) -> Result<Option<Graph>, NoMemory>
     ensures { IfOk result (λ found. IfSome found (λ made. GraphNarrowed graph.now made)) }
 {

@@ -1,18 +1,17 @@
 // Claims that a graph may pass with: intervals of the values that are live at the starts of blocks. They are looked for and owe
 // nothing, since what does not pass is not used.
 //
-// A block is a header here if a block that is not before it leads to it. With the rows of the headers fixed, one sweep over the
-// blocks in their order gives the rows of the others, and what comes in at the headers. Headers take that in, after two sweeps
-// up to 0 or to the least and the greatest number (Cousot and Cousot, 1977), until nothing more comes in; then they are fixed
-// to what comes in at last.
+// Blocks are gone over in their order. What the blocks before a block give is then known; what the others give, by which loops
+// are closed, is taken to be nothing at first. Where they give more, more is taken: from the third sweep on up to 0, or to the
+// least and the greatest number (Cousot and Cousot, 1977). Where they give no more, what was taken too much is given back.
 
 use crate::fact::Fact;
 use crate::intervals::{Interval, full};
-use crate::sweeping::{Mark, Tables, interval_at, put_interval, row_place, sweep};
+use crate::sweeping::{Cell, Mark, Tables, cell_at, hull, put_cell, sweep, unknown};
 use std::alloc::Global;
 use vx_base::listed::Listed;
 use vx_base::outcome::NoMemory;
-use vx_flow::graph::{Bank, Block, BlockId, Exit, Graph, Value};
+use vx_flow::graph::{Bank, Block, BlockId, Graph, Value};
 use vx_flow::live;
 use vx_flow::live_rows::Live;
 
@@ -24,7 +23,7 @@ const WIDENS: u32 = 3;
 
 const GIVES_UP: u32 = 10;
 
-/// Claims at the starts of the blocks of a graph, after so many rounds in which headers are fixed to what comes in.
+/// Claims at the starts of the blocks of a graph, with so many sweeps that give back.
 pub fn find_claims(
     alloc: Global,
     graph: &Graph,
@@ -32,7 +31,6 @@ pub fn find_claims(
 ) -> Result<Vec<Listed<Fact>>, NoMemory> {
     let live = live(alloc, graph)?;
     let mut tables = new_tables(alloc, graph, &live)?;
-    mark_headers(&mut tables, graph.blocks.as_slice());
     if settles(&mut tables, graph.blocks.as_slice(), &live) {
         shrink(&mut tables, graph.blocks.as_slice(), &live, rounds);
         claims_of(alloc, graph, &live, &tables)
@@ -48,9 +46,8 @@ fn new_tables(alloc: Global, graph: &Graph, live: &Live) -> Result<Tables, NoMem
     for block in 0..blocks {
         marks.push(Mark {
             start: size,
-            header: false,
-            known: false,
-            sweep: 0,
+            forward: 0,
+            back: 0,
         })?;
         size = size.saturating_add(live.values_at(block_number(block)).len());
     }
@@ -63,14 +60,12 @@ fn with_rows(
     size: usize,
     values: usize,
 ) -> Result<Tables, NoMemory> {
-    let rows = vec![in alloc; full(); size]?;
-    let headers = vec![in alloc; full(); size]?;
+    let cells = vec![in alloc; unknown(); size]?;
     let ranges = vec![in alloc; full(); values]?;
     let stamps = vec![in alloc; 0; values]?;
     Ok(Tables {
         marks,
-        rows,
-        headers,
+        cells,
         ranges,
         stamps,
         stamp: 0,
@@ -86,92 +81,76 @@ pub fn block_number(place: usize) -> BlockId {
     }
 }
 
-fn mark_headers(tables: &mut Tables, blocks: &[Block]) {
-    for (place, block) in blocks.iter().enumerate() {
-        match &block.exit {
-            Exit::Goto(next) => mark_header(tables, place, *next),
-            Exit::Split { yes, no, .. } => {
-                mark_header(tables, place, *yes);
-                mark_header(tables, place, *no);
-            }
-            Exit::Call { next, .. } => mark_header(tables, place, *next),
-            _ => {}
-        }
-    }
-}
-
-fn mark_header(tables: &mut Tables, from: usize, to: BlockId) {
-    let place = to as usize;
-    if place <= from && place < tables.marks.len() {
-        tables.marks[place].header = true;
-    }
-}
-
-/// Sweeps until nothing more comes in at the headers, and says whether that came.
+/// Sweeps until no block gives more than is taken, and says whether that came.
 fn settles(tables: &mut Tables, blocks: &[Block], live: &Live) -> bool {
     for number in 1..MOST_SWEEPS {
         sweep(tables, blocks, live, number);
-        if !grow(tables, blocks.len(), live, number) {
+        if !take_more(tables, blocks.len(), live, number) {
             return true;
         }
     }
     false
 }
 
-/// Takes in at each header what came in by a sweep. Says whether there was more than before.
-fn grow(tables: &mut Tables, blocks: usize, live: &Live, number: u32) -> bool {
-    let mut grown = false;
+/// Takes what was given in a sweep. Says whether there was more than before.
+fn take_more(tables: &mut Tables, blocks: usize, live: &Live, number: u32) -> bool {
+    let mut more = false;
     for block in 1..blocks {
         let values = live.values_at(block_number(block)).len();
-        if grow_header(tables, block, values, number) {
-            grown = true;
+        if take_at(tables, block, values, number) {
+            more = true;
         }
     }
-    grown
+    more
 }
 
-fn grow_header(tables: &mut Tables, block: usize, values: usize, number: u32) -> bool {
-    let mut grown = false;
-    if !comes_in(tables, block, number) {
+fn take_at(tables: &mut Tables, block: usize, values: usize, number: u32) -> bool {
+    let mut more = false;
+    let mark = mark_at(tables, block);
+    if mark.back != number {
         return false;
     }
     for index in 0..values {
-        let place = row_place(tables, block, index);
-        let old = interval_at(tables.headers.as_slice(), place);
-        let new = interval_at(tables.rows.as_slice(), place);
-        if new.low < old.low || old.high < new.high {
-            put_interval(&mut tables.headers, place, grown_to(old, new, number));
-            grown = true;
+        let place = mark.start.saturating_add(index);
+        let cell = cell_at(tables.cells.as_slice(), place);
+        if cell.back.low < cell.start.low || cell.start.high < cell.back.high {
+            put_cell(&mut tables.cells, place, taken(cell, number));
+            more = true;
         }
     }
-    grown
+    more
 }
 
-/// Whether the block is a header at which something came in by the sweep.
-fn comes_in(tables: &Tables, block: usize, number: u32) -> bool {
+fn mark_at(tables: &Tables, block: usize) -> Mark {
     match tables.marks.get(block) {
-        Some(mark) => mark.header && mark.sweep == number,
-        None => false,
+        Some(mark) => *mark,
+        None => Mark {
+            start: usize::MAX,
+            forward: 0,
+            back: 0,
+        },
     }
 }
 
-fn grown_to(old: Interval, new: Interval, number: u32) -> Interval {
-    if number >= GIVES_UP {
-        return full();
-    }
-    let widens = number >= WIDENS;
-    let low = if old.low <= new.low {
-        old.low
-    } else if !widens {
+fn taken(cell: Cell, number: u32) -> Cell {
+    let mut new = cell;
+    new.taken = if number >= GIVES_UP {
+        full()
+    } else {
+        hull(cell.taken, grown(cell.start, cell.back, number >= WIDENS))
+    };
+    new
+}
+
+fn grown(old: Interval, new: Interval, widens: bool) -> Interval {
+    let low = if old.low <= new.low || !widens {
         new.low
     } else if 0 <= new.low {
         0
     } else {
         i32::MIN
     };
-    let high = if new.high <= old.high {
-        old.high
-    } else if !widens {
+    let high = if new.high <= old.high || !widens {
         new.high
     } else {
         i32::MAX
@@ -179,26 +158,22 @@ fn grown_to(old: Interval, new: Interval, number: u32) -> Interval {
     Interval { low, high }
 }
 
-/// Fixes the headers to what came in at last, so many times.
+/// Gives back what is taken too much, so many times.
 fn shrink(tables: &mut Tables, blocks: &[Block], live: &Live, rounds: u32) {
     for round in 0..rounds {
-        fix_headers(tables, blocks.len(), live);
+        give_back(tables);
         sweep(tables, blocks, live, MOST_SWEEPS.saturating_add(round));
     }
 }
 
-fn fix_headers(tables: &mut Tables, blocks: usize, live: &Live) {
-    for block in 1..blocks {
-        let values = live.values_at(block_number(block)).len();
-        fix_header(tables, block, values);
-    }
-}
-
-fn fix_header(tables: &mut Tables, block: usize, values: usize) {
-    for index in 0..values {
-        let place = row_place(tables, block, index);
-        let new = interval_at(tables.rows.as_slice(), place);
-        put_interval(&mut tables.headers, place, new);
+/// Takes what was given at last, where something is taken.
+fn give_back(tables: &mut Tables) {
+    for place in 0..tables.cells.len() {
+        let mut cell = cell_at(tables.cells.as_slice(), place);
+        if cell.taken.low <= cell.taken.high {
+            cell.taken = cell.back;
+            put_cell(&mut tables.cells, place, cell);
+        }
     }
 }
 
@@ -225,8 +200,10 @@ fn claims_at(
     block: usize,
 ) -> Result<Listed<Fact>, NoMemory> {
     let mut claims = Listed::new(alloc);
+    let mark = mark_at(tables, block);
     for (index, value) in live.values_at(block_number(block)).iter().enumerate() {
-        let within = claimed(tables, block, index);
+        let place = mark.start.saturating_add(index);
+        let within = cell_at(tables.cells.as_slice(), place).start;
         if is_general(banks, *value) && (i32::MIN < within.low || within.high < i32::MAX) {
             claims.push(Fact::Between {
                 value: *value,
@@ -241,22 +218,5 @@ fn is_general(banks: &[Bank], value: Value) -> bool {
     match banks.get(value as usize) {
         Some(Bank::General) => true,
         _ => false,
-    }
-}
-
-/// What is claimed of the value with the index among those that are live at the start of a block.
-fn claimed(tables: &Tables, block: usize, index: usize) -> Interval {
-    match tables.marks.get(block) {
-        Some(mark) => {
-            let place = mark.start.saturating_add(index);
-            if mark.header {
-                interval_at(tables.headers.as_slice(), place)
-            } else if mark.sweep != 0 {
-                interval_at(tables.rows.as_slice(), place)
-            } else {
-                full()
-            }
-        }
-        None => full(),
     }
 }

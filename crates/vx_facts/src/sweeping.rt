@@ -14,23 +14,32 @@ use vx_flow::live_rows::Live;
 pub struct Mark {
     /// Where its row begins.
     pub start: usize,
-    /// Whether a block that is not before it leads to it.
-    pub header: bool,
-    /// Whether its row as a header is fixed.
-    pub known: bool,
-    /// The last sweep in which a block led to it.
-    pub sweep: u32,
+    /// The last sweep in which a block before it led to it; 0 where none did.
+    pub forward: u32,
+    /// The last sweep in which another block did.
+    pub back: u32,
 }
 
-/// Where values lie. A row has an interval for each value that is live at the start of its block.
+/// Where a value lies that is live at the start of a block. What has no number has its ends exchanged.
+#[derive(Clone, Copy)]
+pub struct Cell {
+    /// By the blocks before it.
+    pub forward: Interval,
+    /// By the other blocks that lead to it.
+    pub back: Interval,
+    /// What those are taken to give.
+    pub taken: Interval,
+    /// By all of them.
+    pub start: Interval,
+}
+
+/// Where values lie.
 #[derive(Drop)]
 pub struct Tables {
     /// The blocks.
     pub marks: Vec<Mark>,
-    /// The rows of what comes in at the blocks.
-    pub rows: Vec<Interval>,
-    /// The rows that are fixed for the headers.
-    pub headers: Vec<Interval>,
+    /// Their rows, one behind the other, with a cell for each value that is live at the start of the block.
+    pub cells: Vec<Cell>,
     /// Where the values lie in the block that is looked at, where their stamp is that of the block.
     pub ranges: Vec<Interval>,
     pub stamps: Vec<u32>,
@@ -54,26 +63,36 @@ struct Tested {
     right: Operand,
 }
 
-/// The interval at a place of a table, that of all numbers where there is none.
-pub fn interval_at(table: &[Interval], place: usize) -> Interval {
-    match table.get(place) {
-        Some(interval) => *interval,
-        None => full(),
+/// No number.
+fn none() -> Interval {
+    Interval {
+        low: i32::MAX,
+        high: i32::MIN,
     }
 }
 
-/// Puts an interval at a place of a table, if there is such a place.
-pub fn put_interval(table: &mut Vec<Interval>, place: usize, interval: Interval) {
-    if place < table.len() {
-        table[place] = interval;
+/// A cell of which nothing is known.
+pub fn unknown() -> Cell {
+    Cell {
+        forward: none(),
+        back: none(),
+        taken: none(),
+        start: full(),
     }
 }
 
-/// The place of the value with an index in the row of a block.
-pub fn row_place(tables: &Tables, block: usize, index: usize) -> usize {
-    match tables.marks.get(block) {
-        Some(mark) => mark.start.saturating_add(index),
-        None => usize::MAX,
+/// The cell at a place.
+pub fn cell_at(cells: &[Cell], place: usize) -> Cell {
+    match cells.get(place) {
+        Some(cell) => *cell,
+        None => unknown(),
+    }
+}
+
+/// Puts a cell at a place, if there is such a place.
+pub fn put_cell(cells: &mut Vec<Cell>, place: usize, cell: Cell) {
+    if place < cells.len() {
+        cells[place] = cell;
     }
 }
 
@@ -81,7 +100,10 @@ fn range(tables: &Tables, value: Value) -> Interval {
     match tables.stamps.get(value as usize) {
         Some(stamp) => {
             if *stamp == tables.stamp {
-                interval_at(tables.ranges.as_slice(), value as usize)
+                match tables.ranges.get(value as usize) {
+                    Some(interval) => *interval,
+                    None => full(),
+                }
             } else {
                 full()
             }
@@ -103,8 +125,8 @@ fn range_of(tables: &Tables, operand: Operand) -> Interval {
 
 fn put_range(tables: &mut Tables, value: Value, interval: Interval) {
     let place = value as usize;
-    put_interval(&mut tables.ranges, place, interval);
-    if place < tables.stamps.len() {
+    if place < tables.ranges.len() && place < tables.stamps.len() {
+        tables.ranges[place] = interval;
         tables.stamps[place] = tables.stamp;
     }
 }
@@ -115,50 +137,26 @@ pub fn sweep(tables: &mut Tables, blocks: &[Block], live: &Live, number: u32) {
         tables.stamp = tables.stamp.wrapping_add(1);
         begin(tables, place, live, number);
         for_ops(tables, block.ops.as_slice());
-        leave(tables, block, live, number);
+        leave(tables, place, block, live, number);
     }
 }
 
-/// What holds at the start of a block.
+/// What holds at the start of a block: at the entry nothing.
 fn begin(tables: &mut Tables, block: usize, live: &Live, number: u32) {
     if block == 0 || block >= tables.marks.len() {
         return;
     }
     let mark = tables.marks[block];
-    let values = live.values_at(block_number(block));
-    let seen = mark.sweep == number;
-    if mark.header && !mark.known {
-        tables.marks[block].known = true;
-        if seen {
-            fix(tables, mark.start, values.len());
-        }
-    }
-    if mark.header {
-        begin_header(tables, mark.start, values);
-    } else if seen {
-        begin_with(tables, mark.start, values);
-    }
-}
-
-fn fix(tables: &mut Tables, start: usize, values: usize) {
-    for index in 0..values {
-        let place = start.saturating_add(index);
-        let interval = interval_at(tables.rows.as_slice(), place);
-        put_interval(&mut tables.headers, place, interval);
-    }
-}
-
-fn begin_header(tables: &mut Tables, start: usize, values: &[Value]) {
-    for (index, value) in values.iter().enumerate() {
-        let interval = interval_at(tables.headers.as_slice(), start.saturating_add(index));
-        put_range(tables, *value, interval);
-    }
-}
-
-fn begin_with(tables: &mut Tables, start: usize, values: &[Value]) {
-    for (index, value) in values.iter().enumerate() {
-        let interval = interval_at(tables.rows.as_slice(), start.saturating_add(index));
-        put_range(tables, *value, interval);
+    for (index, value) in live.values_at(block_number(block)).iter().enumerate() {
+        let place = mark.start.saturating_add(index);
+        let mut cell = cell_at(tables.cells.as_slice(), place);
+        cell.start = if mark.forward == number {
+            hull(cell.forward, cell.taken)
+        } else {
+            full()
+        };
+        put_cell(&mut tables.cells, place, cell);
+        put_range(tables, *value, cell.start);
     }
 }
 
@@ -193,15 +191,15 @@ fn step(tables: &mut Tables, op: Op) {
 }
 
 /// Leads from the end of a block to the blocks behind it.
-fn leave(tables: &mut Tables, block: &Block, live: &Live, number: u32) {
+fn leave(tables: &mut Tables, from: usize, block: &Block, live: &Live, number: u32) {
     match &block.exit {
-        Exit::Goto(next) => lead(tables, live, *next, nothing(), number),
+        Exit::Goto(next) => lead(tables, live, from, *next, nothing(), number),
         Exit::Split { test, yes, no } => {
             let tested = compare_of(block.ops.as_slice(), *test);
             let first = side_of(tables, tested, true);
             let second = side_of(tables, tested, false);
-            lead(tables, live, *yes, first, number);
-            lead(tables, live, *no, second, number);
+            lead(tables, live, from, *yes, first, number);
+            lead(tables, live, from, *no, second, number);
         }
         Exit::Call {
             result: held,
@@ -212,7 +210,7 @@ fn leave(tables: &mut Tables, block: &Block, live: &Live, number: u32) {
                 Some(value) => put_range(tables, *value, full()),
                 None => {}
             }
-            lead(tables, live, *next, nothing(), number);
+            lead(tables, live, from, *next, nothing(), number);
         }
         _ => {}
     }
@@ -311,37 +309,52 @@ fn range_on(tables: &Tables, side: Side, value: Value) -> Interval {
 }
 
 /// Leads to a block, with what a side says.
-fn lead(tables: &mut Tables, live: &Live, to: BlockId, side: Side, number: u32) {
+fn lead(tables: &mut Tables, live: &Live, from: usize, to: BlockId, side: Side, number: u32) {
     let block = to as usize;
     if block >= tables.marks.len() {
         return;
     }
     let mark = tables.marks[block];
-    tables.marks[block].sweep = number;
-    lead_all(
-        tables,
-        mark.start,
-        live.values_at(to),
-        side,
-        mark.sweep == number,
-    );
+    let values = live.values_at(to);
+    if block <= from {
+        tables.marks[block].back = number;
+        lead_back(tables, mark.start, values, side, mark.back == number);
+    } else {
+        tables.marks[block].forward = number;
+        lead_forward(tables, mark.start, values, side, mark.forward == number);
+    }
 }
 
-fn lead_all(tables: &mut Tables, start: usize, values: &[Value], side: Side, joins: bool) {
+fn lead_back(tables: &mut Tables, start: usize, values: &[Value], side: Side, joins: bool) {
     for (index, value) in values.iter().enumerate() {
         let place = start.saturating_add(index);
         let interval = range_on(tables, side, *value);
-        let joined = if joins {
-            hull(interval_at(tables.rows.as_slice(), place), interval)
+        let mut cell = cell_at(tables.cells.as_slice(), place);
+        cell.back = if joins {
+            hull(cell.back, interval)
         } else {
             interval
         };
-        put_interval(&mut tables.rows, place, joined);
+        put_cell(&mut tables.cells, place, cell);
+    }
+}
+
+fn lead_forward(tables: &mut Tables, start: usize, values: &[Value], side: Side, joins: bool) {
+    for (index, value) in values.iter().enumerate() {
+        let place = start.saturating_add(index);
+        let interval = range_on(tables, side, *value);
+        let mut cell = cell_at(tables.cells.as_slice(), place);
+        cell.forward = if joins {
+            hull(cell.forward, interval)
+        } else {
+            interval
+        };
+        put_cell(&mut tables.cells, place, cell);
     }
 }
 
 /// The least interval that has both.
-fn hull(i: Interval, j: Interval) -> Interval {
+pub fn hull(i: Interval, j: Interval) -> Interval {
     Interval {
         low: i.low.min(j.low),
         high: i.high.max(j.high),
