@@ -1,0 +1,108 @@
+// Whether what a graph names of its program is there. Nothing here takes memory.
+
+ghost use Rattle.std.specs.Prelude.{◌≡◌, ◌==◌, not, slice_get};
+ghost use Rattle.std.specs.List.{list_all};
+ghost use Rattle.vx_flow.specs.Sound.{are_distinct, begins_with, has_parameters, is_block_there, is_call_there, is_global, is_text_there};
+
+use vx_flow::graph::{Array, Block, Exit, Flow, Global, Graph, Op, Value};
+
+/// Whether the function is there and has so many parameters.
+pub fn has_parameters(count: usize, functions: &[Graph], function: u32) -> bool
+    ensures { result ≡ has_parameters count (slice_get functions.now function) }
+{
+    match functions.get(function as usize) {
+        Some(graph) => graph.parameters.len() == count,
+        None => false,
+    }
+}
+
+pub fn are_blocks_there(flow: &Flow, blocks: &[Block]) -> bool
+    ensures { result ≡ list_all (is_block_there flow.now) blocks.now }
+{
+    blocks.iter().all(|block| is_block_there(flow, block))
+}
+
+fn is_block_there(flow: &Flow, block: &Block) -> bool
+    ensures { result ≡ is_block_there flow.now block.now }
+{
+    are_texts_there(flow, block.ops.as_slice()) && is_call_there(flow, &block.exit)
+}
+
+fn are_texts_there(flow: &Flow, ops: &[Op]) -> bool
+    ensures { result ≡ list_all (is_text_there flow.now) ops.now }
+{
+    ops.iter().all(|op| is_text_there(flow, op))
+}
+
+fn is_text_there(flow: &Flow, op: &Op) -> bool
+    ensures { result ≡ is_text_there flow.now op.now }
+{
+    match op {
+        Op::Text { number } => (*number as usize) < flow.texts.len(),
+        _ => true,
+    }
+}
+
+/// The function that is called is there, with one parameter for each argument.
+fn is_call_there(flow: &Flow, exit: &Exit) -> bool
+    ensures { result ≡ is_call_there flow.now exit.now }
+{
+    match exit {
+        Exit::Call {
+            function,
+            arguments,
+            ..
+        } => has_parameters(arguments.len(), flow.functions.as_slice(), *function),
+        _ => true,
+    }
+}
+
+/// Whether no value stands twice. A function has few parameters.
+pub fn are_distinct(values: &[Value]) -> bool
+    ensures { result ≡ are_distinct values.now }
+{
+    for (place, value) in values.iter().enumerate() {
+        if !are_others(*value, &values[place + 1..]) {
+            return false;
+        }
+    }
+    true
+}
+
+/// Whether no value of a list is this one.
+fn are_others(value: Value, values: &[Value]) -> bool
+    ensures { result ≡ list_all (λ u. not (u == value)) values.now }
+{
+    values.iter().all(|other| *other != value)
+}
+
+/// The globals in their order, with their words, and then local arrays.
+pub fn begins_with(globals: &[Global], arrays: &[Array]) -> bool
+    ensures { result ≡ begins_with globals.now arrays.now }
+{
+    let mut left = arrays;
+    for global in globals {
+        match left {
+            [array, later @ ..] => {
+                if !is_global(array, global.words) {
+                    return false;
+                }
+                left = later;
+            }
+            [] => return false,
+        }
+    }
+    are_own(left)
+}
+
+fn is_global(array: &Array, words: u32) -> bool
+    ensures { result ≡ is_global words array.now }
+{
+    array.global && array.words == words
+}
+
+fn are_own(arrays: &[Array]) -> bool
+    ensures { result ≡ list_all (λ array. not array.global) arrays.now }
+{
+    arrays.iter().all(|array| !array.global)
+}
