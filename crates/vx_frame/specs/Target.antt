@@ -349,7 +349,7 @@ call_words T f p g arguments =
 abbrev pub back_words : Target → (function place : ℕ) → Option ℕ → List Word
 back_words T f p result = move_stack T (bytes T.frame) ++ (result_words T f result ++ reload_words T f (T.saved f p))
 
--- a function that calls: its link is kept in its frame, since a call writes the register of the link
+-- the word of a layout is a call
 abbrev pub is_call_word : VirtualWord → Bool
 is_call_word (Calls g arguments result) = true
 is_call_word (Planned r w items) = false
@@ -359,6 +359,7 @@ is_call_word (Choice test q) = false
 is_call_word (Returns x) = false
 is_call_word (Ends k) = false
 
+-- the function calls: its link is kept in its frame, since a call writes the register of the link
 abbrev pub is_caller : Target → ℕ → Bool
 is_caller T f = list_any is_call_word (T.layout f).words
 
