@@ -1,12 +1,13 @@
 // Claims that a graph may pass with: intervals of the values that are live at the starts of blocks. They are looked for and owe
 // nothing, since what does not pass is not used.
 //
-// Blocks are gone over in their order. What the blocks before a block give is then known; what the others give, by which loops
+// Blocks are gone over in an order. What the blocks before a block give is then known; what the others give, by which loops
 // are closed, is taken to be nothing at first. Where they give more, more is taken: from the third sweep on up to 0, or to the
 // least and the greatest number (Cousot and Cousot, 1977). Where they give no more, what was taken too much is given back.
 
 use crate::fact::Fact;
 use crate::intervals::{Interval, full};
+use crate::ordering::order_of;
 use crate::sweeping::{Cell, Mark, Tables, cell_at, hull, put_cell, sweep, unknown};
 use std::alloc::Global;
 use vx_base::listed::Listed;
@@ -30,9 +31,22 @@ pub fn find_claims(
     rounds: u32,
 ) -> Result<Vec<Listed<Fact>>, NoMemory> {
     let live = live(alloc, graph)?;
+    let order = order_of(alloc, graph.blocks.as_slice())?;
     let mut tables = new_tables(alloc, graph, &live)?;
-    if settles(&mut tables, graph.blocks.as_slice(), &live) {
-        shrink(&mut tables, graph.blocks.as_slice(), &live, rounds);
+    rank(&mut tables, order.as_slice());
+    if settles(
+        &mut tables,
+        order.as_slice(),
+        graph.blocks.as_slice(),
+        &live,
+    ) {
+        shrink(
+            &mut tables,
+            order.as_slice(),
+            graph.blocks.as_slice(),
+            &live,
+            rounds,
+        );
         claims_of(alloc, graph, &live, &tables)
     } else {
         Ok(Vec::new(alloc))
@@ -46,6 +60,7 @@ fn new_tables(alloc: Global, graph: &Graph, live: &Live) -> Result<Tables, NoMem
     for block in 0..blocks {
         marks.push(Mark {
             start: size,
+            rank: 0,
             forward: 0,
             back: 0,
         })?;
@@ -81,10 +96,19 @@ pub fn block_number(place: usize) -> BlockId {
     }
 }
 
+/// Notes the place of each block in the order.
+fn rank(tables: &mut Tables, order: &[BlockId]) {
+    for (place, block) in order.iter().enumerate() {
+        if (*block as usize) < tables.marks.len() {
+            tables.marks[*block as usize].rank = place;
+        }
+    }
+}
+
 /// Sweeps until no block gives more than is taken, and says whether that came.
-fn settles(tables: &mut Tables, blocks: &[Block], live: &Live) -> bool {
+fn settles(tables: &mut Tables, order: &[BlockId], blocks: &[Block], live: &Live) -> bool {
     for number in 1..MOST_SWEEPS {
-        sweep(tables, blocks, live, number);
+        sweep(tables, order, blocks, live, number);
         if !take_more(tables, blocks.len(), live, number) {
             return true;
         }
@@ -126,6 +150,7 @@ fn mark_at(tables: &Tables, block: usize) -> Mark {
         Some(mark) => *mark,
         None => Mark {
             start: usize::MAX,
+            rank: 0,
             forward: 0,
             back: 0,
         },
@@ -159,10 +184,16 @@ fn grown(old: Interval, new: Interval, widens: bool) -> Interval {
 }
 
 /// Gives back what is taken too much, so many times.
-fn shrink(tables: &mut Tables, blocks: &[Block], live: &Live, rounds: u32) {
+fn shrink(tables: &mut Tables, order: &[BlockId], blocks: &[Block], live: &Live, rounds: u32) {
     for round in 0..rounds {
         give_back(tables);
-        sweep(tables, blocks, live, MOST_SWEEPS.saturating_add(round));
+        sweep(
+            tables,
+            order,
+            blocks,
+            live,
+            MOST_SWEEPS.saturating_add(round),
+        );
     }
 }
 

@@ -14,6 +14,8 @@ use vx_flow::live_rows::Live;
 pub struct Mark {
     /// Where its row begins.
     pub start: usize,
+    /// Its place in the order.
+    pub rank: usize,
     /// The last sweep in which a block before it led to it; 0 where none did.
     pub forward: u32,
     /// The last sweep in which another block did.
@@ -131,14 +133,21 @@ fn put_range(tables: &mut Tables, value: Value, interval: Interval) {
     }
 }
 
-/// Goes over all blocks in their order. Sweeps have ascending numbers from 1 on.
-pub fn sweep(tables: &mut Tables, blocks: &[Block], live: &Live, number: u32) {
-    for (place, block) in blocks.iter().enumerate() {
-        tables.stamp = tables.stamp.wrapping_add(1);
-        begin(tables, place, live, number);
-        for_ops(tables, block.ops.as_slice());
-        leave(tables, place, block, live, number);
+/// Goes over all blocks in an order. Sweeps have ascending numbers from 1 on.
+pub fn sweep(tables: &mut Tables, order: &[BlockId], blocks: &[Block], live: &Live, number: u32) {
+    for place in order {
+        match blocks.get(*place as usize) {
+            Some(block) => visit(tables, *place as usize, block, live, number),
+            None => {}
+        }
     }
+}
+
+fn visit(tables: &mut Tables, place: usize, block: &Block, live: &Live, number: u32) {
+    tables.stamp = tables.stamp.wrapping_add(1);
+    begin(tables, place, live, number);
+    for_ops(tables, block.ops.as_slice());
+    leave(tables, place, block, live, number);
 }
 
 /// What holds at the start of a block: at the entry nothing.
@@ -316,12 +325,19 @@ fn lead(tables: &mut Tables, live: &Live, from: usize, to: BlockId, side: Side, 
     }
     let mark = tables.marks[block];
     let values = live.values_at(to);
-    if block <= from {
+    if mark.rank <= rank_of(tables, from) {
         tables.marks[block].back = number;
         lead_back(tables, mark.start, values, side, mark.back == number);
     } else {
         tables.marks[block].forward = number;
         lead_forward(tables, mark.start, values, side, mark.forward == number);
+    }
+}
+
+fn rank_of(tables: &Tables, block: usize) -> usize {
+    match tables.marks.get(block) {
+        Some(mark) => mark.rank,
+        None => 0,
     }
 }
 
