@@ -17,7 +17,7 @@ use Rattle.vx_flow.specs.Effects.{Content, both, computed, is_unary}
 use Rattle.vx_facts.specs.declared.intervals.Interval.{Interval}
 use Rattle.vx_facts.specs.declared.fact.Fact.{Fact}
 use Rattle.vx_facts.specs.declared.fact.Fact.TheVariants.{Between, Equals}
-use Rattle.vx_facts.specs.Facts.{least, greatest, full, Within, content, AllHold, meet, meet_if, range, range_of, fitting, sum_within, difference_within, up_to, is_above, and_within, remainder_within, times_if, low_product_within, high_product_within, zero_only, bit, result_within}
+use Rattle.vx_facts.specs.Facts.{least, greatest, full, Within, content, AllHold, meet, meet_if, range, range_of, fitting, sum_within, difference_within, up_to, is_above, and_within, remainder_within, times_if, product_if, is_half, times_or_product, low_product_within, high_product_within, zero_only, bit, result_within}
 
 pub number_within : (z : ℤ) → IsNumber z → Within full (Some z)
 number_within (pos n) f = (omega (arith, ints), omega (arith, ints, f.sfits))
@@ -126,6 +126,22 @@ times_holds i x n h = fitting_holds (i.low *ℤ pos n) (i.high *ℤ pos n) (x *�
 bits_of : (n : ℕ) → n < 2 ^ 31 → unsigned (pos n) ≡ n
 bits_of n h = unsigned_number (pos n) (record { sfits = omega arith })
 
+le_then : (a b c : ℤ) → a ≤ℤ b → b ≤ℤ c → a ≤ℤ c
+le_then a b c h k = omega (arith, ints)
+
+product_above : (a b c d : ℤ) → pos 0 ≤ℤ a → a ≤ℤ c → pos 0 ≤ℤ b → b ≤ℤ d → (a *ℤ b) ≤ℤ (c *ℤ d)
+product_above (pos m) b c (pos q) h l g r =
+    let u : (b *ℤ pos m) ≤ℤ (pos q *ℤ pos m) = times_above b (pos q) m r in
+    let w : (pos m *ℤ b) ≤ℤ (pos m *ℤ pos q) = subst (λ z. z ≤ℤ (pos m *ℤ pos q)) (*ℤ_comm b (pos m)) (subst (λ z. (b *ℤ pos m) ≤ℤ z) (*ℤ_comm (pos q) (pos m)) u) in
+    le_then (pos m *ℤ b) (pos m *ℤ pos q) (c *ℤ pos q) w (times_above (pos m) c q l)
+product_above (pos m) b c (negsuc q) h l g r = absurd (omega (arith, ints))
+product_above (negsuc m) b c d h l g r = absurd (omega (arith, ints))
+
+product_holds : (i j : Interval) (x y : ℤ) → Within i (Some x) → Within j (Some y) → pos 0 ≤ℤ i.low → pos 0 ≤ℤ j.low → Within (product_if true i j) (Some (wrap (x *ℤ y)))
+product_holds i j x y h k a b =
+    fitting_holds (i.low *ℤ j.low) (i.high *ℤ j.high) (x *ℤ y) (product_above i.low j.low x y a h.0 b k.0)
+    (product_above x y i.high j.high (le_then (pos 0) i.low x a h.0) h.1 (le_then (pos 0) j.low y b k.0) k.1)
+
 low_product_holds : (i j : Interval) (x y : ℤ) → Within i (Some x) → Within j (Some y) → Within full (Some x) → Within (low_product_within i j) (Some (mpylu_of x y))
 unfolding mpylu_of
 low_product_holds i j x y h k f = by (int_le j.high j.low && (int_le (pos 0) j.low && int_le j.high (pos 65535))) refl
@@ -140,7 +156,19 @@ low_product_holds i j x y h k f = by (int_le j.high j.low && (int_le (pos 0) j.l
     at (pos n) a b = subst (λ u. Within (times_if true i (pos n)) (Some u)) (sym (small n b)) (times_holds i x n h)
     at (negsuc n) a b = absurd (omega (arith, ints))
 
-    by : (t : Bool) → (int_le j.high j.low && (int_le (pos 0) j.low && int_le j.high (pos 65535))) ≡ t → Within (times_if t i j.low) (Some (wrap (pos (unsigned x * (unsigned y % 2 ^ 16)))))
+    product : (z : ℤ) → Within j (Some z) → pos 0 ≤ℤ i.low → pos 0 ≤ℤ j.low → j.high ≤ℤ pos 65535 → Within (product_if true i j) (Some (wrap (pos (unsigned x * (unsigned z % 2 ^ 16)))))
+    product (pos n) w a b c = let l : pos n ≤ℤ pos 65535 = le_then (pos n) j.high (pos 65535) w.1 c in subst (λ u. Within (product_if true i j) (Some u)) (sym (small n l)) (product_holds i j x (pos n) h w a b)
+    product (negsuc n) w a b c = let m : pos 0 ≤ℤ negsuc n = le_then (pos 0) j.low (negsuc n) b w.0 in absurd (omega (arith, ints))
+
+    other : (t : Bool) → (int_le (pos 0) i.low && (int_le (pos 0) j.low && int_le j.high (pos 65535))) ≡ t → Within (product_if t i j) (Some (wrap (pos (unsigned x * (unsigned y % 2 ^ 16)))))
+    other true e =
+        let e2 = and_two (int_le (pos 0) i.low) (int_le (pos 0) j.low && int_le j.high (pos 65535)) e in
+        product y k (le_holds (pos 0) i.low (and_one (int_le (pos 0) i.low) (int_le (pos 0) j.low && int_le j.high (pos 65535)) e)) (le_holds (pos 0) j.low (and_one (int_le (pos 0) j.low) (int_le j.high (pos 65535)) e2))
+        (le_holds j.high (pos 65535) (and_two (int_le (pos 0) j.low) (int_le j.high (pos 65535)) e2))
+    other false e = number_within _ (wrap_fits (pos (unsigned x * (unsigned y % 2 ^ 16))))
+
+    by : (t : Bool) → (int_le j.high j.low && (int_le (pos 0) j.low && int_le j.high (pos 65535))) ≡ t →
+        Within (times_or_product t (int_le (pos 0) i.low && is_half j) i j) (Some (wrap (pos (unsigned x * (unsigned y % 2 ^ 16)))))
     by true e =
         let e2 = and_two (int_le j.high j.low) (int_le (pos 0) j.low && int_le j.high (pos 65535)) e in
         let l : j.high ≤ℤ j.low = le_holds j.high j.low (and_one (int_le j.high j.low) (int_le (pos 0) j.low && int_le j.high (pos 65535)) e) in
@@ -151,7 +179,7 @@ low_product_holds i j x y h k f = by (int_le j.high j.low && (int_le (pos 0) j.l
         let same : j.low ≡ y = omega (arith, ints) in
         let top : j.low ≤ℤ pos 65535 = omega (arith, ints) in
         subst (λ u. Within (times_if true i j.low) (Some (wrap (pos (unsigned x * (unsigned u % 2 ^ 16)))))) same (at j.low z top)
-    by false e = number_within _ (wrap_fits (pos (unsigned x * (unsigned y % 2 ^ 16))))
+    by false e = other (int_le (pos 0) i.low && (int_le (pos 0) j.low && int_le j.high (pos 65535))) refl
 
 high_product_holds : (j : Interval) (x y : ℤ) → Within j (Some y) → Within (high_product_within j) (Some (mpyhs_of x y))
 unfolding mpyhs_of

@@ -1,7 +1,7 @@
 // Intervals of numbers of 32 bits: what operations give, and what a test says of its operands.
 
 ghost use Rattle.std.specs.Prelude.{◌≡◌, ◌+ℤ◌, ◌-ℤ◌, ◌*ℤ◌, ◌&&◌, int_le};
-ghost use Rattle.vx_facts.specs.Facts.{always, and_within, answer_of, below_unsigned, bit, compare_decided, difference_within, fitting, full, high_product_within, is_above, left_within, low_product_within, meet, one_less, one_more, opposite, remainder_within, result_within, right_within, sum_within, times_if, up_to};
+ghost use Rattle.vx_facts.specs.Facts.{always, and_within, answer_of, below_unsigned, bit, compare_decided, difference_within, fitting, full, high_product_within, is_above, is_half, left_within, low_product_within, meet, one_less, one_more, opposite, product_if, remainder_within, result_within, right_within, sum_within, times_if, times_or_product, up_to};
 
 use vx_base::arithmetic::{Code, Compare};
 
@@ -133,18 +133,50 @@ pub fn times_if(test: bool, i: Interval, number: i32) -> Interval
     }
 }
 
+/// Where a product of numbers that are not below 0 lies, where the test holds.
+fn product_if(test: bool, i: Interval, j: Interval) -> Interval
+    ensures { result ≡ product_if test i j }
+{
+    if test {
+        fit(scaled(i.low, j.low), scaled(i.high, j.high))
+    } else {
+        full()
+    }
+}
+
+fn is_half(j: Interval) -> bool
+    ensures { result ≡ is_half j }
+{
+    0 <= j.low && j.high <= 65535
+}
+
+fn times_or_product(one: bool, test: bool, i: Interval, j: Interval) -> Interval
+    ensures { result ≡ times_or_product one test i j }
+{
+    if one {
+        times_if(true, i, j.low)
+    } else {
+        product_if(test, i, j)
+    }
+}
+
 /// Where the product with the low half of a number lies.
 fn low_product(i: Interval, j: Interval) -> Interval
     ensures { result ≡ low_product_within i j }
 {
-    times_if(j.high <= j.low && (0 <= j.low && j.high <= 65535), i, j.low)
+    times_or_product(
+        j.high <= j.low && is_half(j),
+        0 <= i.low && is_half(j),
+        i,
+        j,
+    )
 }
 
 /// Where the product with the high half of a number lies.
 fn high_product(j: Interval) -> Interval
     ensures { result ≡ high_product_within j }
 {
-    if 0 <= j.low && j.high <= 65535 {
+    if is_half(j) {
         Interval { low: 0, high: 0 }
     } else {
         full()
