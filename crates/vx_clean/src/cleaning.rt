@@ -20,6 +20,7 @@ use std::alloc::Global;
 use vx_base::listed::Listed;
 use vx_base::outcome::NoMemory;
 use vx_flow::graph::{BlockId, Flow, Graph};
+use vx_sound::is_sound;
 
 /// How often the graphs are cleaned at most.
 const MOST_ROUNDS: u32 = 8;
@@ -87,7 +88,7 @@ fn cleaned_once(alloc: Global, flow: &Flow) -> Result<Option<Flow>, NoMemory>
         return Ok(None);
     }
     let cleaned = with_graphs(alloc, flow, functions)?;
-    if cleaned.sound() {
+    if is_sound(alloc, &cleaned)? {
         Ok(Some(cleaned))
     } else {
         Ok(None)

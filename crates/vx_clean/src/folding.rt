@@ -19,6 +19,7 @@ use vx_base::arithmetic::Code;
 use vx_base::listed::Listed;
 use vx_base::outcome::NoMemory;
 use vx_flow::graph::{ArrayId, Block, BlockId, Exit, Flow, Graph, Op, Operand, Value};
+use vx_sound::is_sound;
 
 /// The flow with numbers in place of values that hold them, where it is sound.
 pub fn folded_once(alloc: Global, flow: &Flow) -> Result<Option<Flow>, NoMemory>
@@ -27,7 +28,7 @@ pub fn folded_once(alloc: Global, flow: &Flow) -> Result<Option<Flow>, NoMemory>
 {
     let functions = folded_graphs(alloc, flow.functions.as_slice())?;
     let folded = with_graphs(alloc, flow, functions)?;
-    if folded.sound() {
+    if is_sound(alloc, &folded)? {
         Ok(Some(folded))
     } else {
         Ok(None)

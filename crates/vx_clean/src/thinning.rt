@@ -16,6 +16,7 @@ use std::alloc::Global;
 use vx_base::listed::Listed;
 use vx_base::outcome::NoMemory;
 use vx_flow::graph::{Block, Flow, Graph, Op};
+use vx_sound::is_sound;
 
 /// The flow with fewer operations, where there is such a one.
 pub fn thinned_once(alloc: Global, flow: &Flow) -> Result<Option<Flow>, NoMemory>
@@ -27,7 +28,7 @@ pub fn thinned_once(alloc: Global, flow: &Flow) -> Result<Option<Flow>, NoMemory
         return Ok(None);
     }
     let thinned = with_graphs(alloc, flow, functions)?;
-    if thinned.sound() {
+    if is_sound(alloc, &thinned)? {
         Ok(Some(thinned))
     } else {
         Ok(None)

@@ -4,9 +4,9 @@ use Rattle.vx_clean.specs.Staying.{GraphsStay}
 use Rattle.vx_clean.proofs.Stays.{once_stays}
 use Rattle.vx_clean.proofs.cleaning.cleaned_once.Goals as goal
 
-pub returns-then-sound-clause-flow : goal.returns-then-sound-clause-flow
-returns-then-sound-clause-flow c =
+pub returns-then-branch-clause-flow : goal.returns-then-branch-clause-flow
+returns-then-branch-clause-flow c =
     let graphs = c.in_ok-functions.functions in
     let s : GraphsStay c.args.flow.now.functions graphs = subst (λ gs. GraphsStay gs graphs) c.as_slice.ensures c.in_ok-functions.ensures in
-    let t : is_sound_flow c.in_ok-cleaned.cleaned ≡ true = sym c.sound.ensures.test ∙ c.if-sound.true in
+    let t : is_sound_flow c.in_ok-cleaned.cleaned ≡ true = sym c.in_ok-is_sound.ensures ∙ c.if-branch.true in
     once_stays c.args.flow.now c.in_ok-cleaned.cleaned graphs s c.in_ok-cleaned.ensures t
