@@ -17,6 +17,7 @@ use std::alloc::Global;
 use vx_base::listed::Listed;
 use vx_base::outcome::NoMemory;
 use vx_flow::graph::{Block, Flow, Global as Variable, Graph};
+use vx_sound::is_sound;
 
 /// How many sweeps give back what is taken too much.
 const ROUNDS: u32 = 2;
@@ -67,7 +68,7 @@ fn with_sound_graphs(
     ensures flow { IfOk result (λ found. IfSome found (λ narrowed. FlowStays flow.now narrowed)) }
 {
     let narrowed = with_graphs(alloc, flow, functions)?;
-    if narrowed.sound() {
+    if is_sound(alloc, &narrowed)? {
         Ok(Some(narrowed))
     } else {
         Ok(None)
