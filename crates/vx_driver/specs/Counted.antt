@@ -13,7 +13,7 @@ use Rattle.vx_flow.specs.Meaning.{graph_path, graph_run}
 use Rattle.vx_lower.specs.FlowOf.{FlowOf}
 use Rattle.vx_profile.specs.declared.counts.Counts.{Counts}
 use Rattle.vx_profile.specs.Counts.{CountsOf}
-use Rattle.vx_profile.specs.Text.{counts_text}
+use Rattle.vx_profile.specs.Text.{AreAscending, counts_text}
 use Rattle.vx_driver.specs.declared.status.Status.{Status}
 use Rattle.vx_driver.specs.declared.status.Status.TheVariants.{Done, Trapped, Usage, Source, Limit, Words, Profile, Machine, NoFile, ReadFault, WriteFault, Stopped, Input, Stuck, NoMemory}
 use Rattle.vx_driver.specs.Command.{Profiling}
@@ -26,12 +26,14 @@ pub record CountsRead (held : Files) (asked : Profiling) (p : Program) (input : 
   pub program_is : HoldsProgram held asked.source p
   pub input_is : input_found held asked.input ≡ Ok input
 
--- graphs of a program run on an input for at most so many blocks, and the counts are those of the path of the run
+-- graphs of a program run on an input for at most so many blocks, and the counts are those of the path of the run, each block and
+-- each edge once, ascending
 pub record RunOfGraphs (p : Program) (input : List ℤ) (blocks : ℕ) : Type 0 where
   pub flow : Flow
   pub flow_of : FlowOf p flow
   pub counts : Counts
   pub counts_of : CountsOf counts (graph_path flow input blocks)
+  pub ascending : AreAscending counts
 
 -- such a run of the program and the input that were read
 pub record CountedRun (asked : Profiling) (e : Effect) : Type 0 where

@@ -1,13 +1,14 @@
 -- The text of a profile, version 1: which bytes give which counts, and which line of other bytes is the first that is bad. Every
 -- line ends with one line feed, and its fields stand apart by one blank.
 use Rattle.std.specs.Prelude.{◌≡◌, ◌≢◌, ℕ, suc, ◌+◌, ◌^◌, ◌<◌, ◌≤◌, ◌⊎◌, Bool, false, nat_lt, if◌then◌else◌, List, [], ◌∷◌, ◌++◌, length, map, codes}
+use Rattle.std.specs.BTreeMap.{IsOrdered}
 use Rattle.std.specs.List.{AllByRecursion, filter, flat_map}
 use Rattle.std.specs.Fmt.{digits_onto}
 use Rattle.vx_flow.specs.Meaning.{Visit, AtBlock, AlongEdge}
 use Rattle.vx_profile.specs.declared.counts.Counts.{Counts}
 use Rattle.vx_profile.specs.declared.fault.ProfileFault.{ProfileFault}
 use Rattle.vx_profile.specs.declared.fault.ProfileFault.TheVariants.{BadLine, CountTooLarge, NoMemory}
-use Rattle.vx_profile.specs.Counts.{Pair, Triple, block_count, edge_count, is_block, is_edge}
+use Rattle.vx_profile.specs.Counts.{Pair, Triple, pair_cmp, triple_cmp, block_count, edge_count, is_block, is_edge}
 
 -- lines
 
@@ -98,6 +99,11 @@ rows_of c = filter is_passed (map block_row c.blocks.entries) ++ filter is_passe
 
 abbrev pub counts_text : Counts → List ℕ
 counts_text c = header ++ flat_map row_text (rows_of c)
+
+-- the maps hold each block and each edge once, ascending
+pub record AreAscending (c : Counts) : Type 0 where
+  pub blocks : IsOrdered pair_cmp c.blocks
+  pub edges : IsOrdered triple_cmp c.edges
 
 -- laws, each the clause of a public function
 

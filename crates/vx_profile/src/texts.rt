@@ -5,7 +5,7 @@ ghost use Rattle.std.specs.BTreeMap.{IsOrdered};
 ghost use Rattle.std.specs.List.{AllByRecursion, filter, flat_map};
 ghost use Rattle.vx_flow.specs.Meaning.{AlongEdge, AtBlock};
 ghost use Rattle.vx_profile.specs.Counts.{pair_cmp, triple_cmp};
-ghost use Rattle.vx_profile.specs.Text.{Spells, Fits, block_row, counts_text, edge_row, is_passed, number_text, row_text};
+ghost use Rattle.vx_profile.specs.Text.{AreAscending, Spells, Fits, block_row, counts_text, edge_row, is_passed, number_text, row_text};
 
 use crate::counts::Counts;
 use itoa::Buffer;
@@ -95,6 +95,9 @@ pub fn write_counts(alloc: Global, counts: &Counts) -> Result<Vec<u8>, NoMemory>
 
     // It is the text of these counts.
     ensures spelled { IfOk result (λ text. Spells text.items counts.now) }
+
+    // Its lines ascend, and no block or edge has two.
+    ensures ascending { IfOk result (λ _. AreAscending counts.now) }
 {
     let mut out = Vec::new(alloc);
     out.extend_from_slice(b"profile 1\n")?;

@@ -1,3 +1,6 @@
+use Rattle.std.proofs.Common.{subst}
+use Rattle.std.specs.BTreeMap.{IsOrdered}
+use Rattle.vx_profile.specs.Counts.{pair_cmp, triple_cmp}
 use Rattle.vx_profile.proofs.Writing.{pushed_is_spelled}
 use Rattle.vx_profile.proofs.texts.write_counts.Goals as goal
 
@@ -17,3 +20,9 @@ returns-clause-spelled c =
       edges_ordered = edges.ordered;
     })
     c.block_counts.ensures c.edge_counts.ensures
+
+pub returns-clause-ascending : goal.returns-clause-ascending
+returns-clause-ascending c = record {
+  blocks = subst (IsOrdered pair_cmp) c.block_counts.ensures c.in_ok-push_blocks.ensures.ordered;
+  edges = subst (IsOrdered triple_cmp) c.edge_counts.ensures c.in_ok-push_edges.ensures.ordered;
+}
