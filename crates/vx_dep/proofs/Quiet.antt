@@ -1,7 +1,8 @@
--- Of two quiet operations that no join keeps apart only the values count.
+-- Of two quiet operations only the values count where the lower one is not kept below; behind a split few rows apply.
 use Rattle.std.proofs.Common.{◌≡◌, ◌<◌, ℕ, refl, sym, ◌∙◌, ap, arith, subst, Bool, true, false, not, ◌&&◌, ◌||◌, if◌then◌else◌, Option, Some, None, slice_get, List}
-use Rattle.std.proofs.lemmas.Bool.{false≢true, true≢false}
+use Rattle.std.proofs.lemmas.Bool.{or_left, or_right, false≢true, true≢false}
 use Rattle.vx_flow.specs.declared.trace.TraceOp.{TraceOp}
+use Rattle.vx_flow.specs.declared.trace.TraceOp.TheVariants.{Plain, Split}
 use Rattle.vx_flow.specs.declared.trace.Trace.{Trace}
 use Rattle.vx_isa.specs.Numbers.{Numbers}
 use Rattle.vx_dep.specs.declared.mode.Mode.{Mode}
@@ -11,9 +12,20 @@ use Rattle.vx_dep.specs.declared.rows.Ways.{Ways}
 use Rattle.vx_dep.specs.Delays.{is_observable, leaves, IsDelay}
 use Rattle.vx_dep.specs.Traits.{values_read, has, is_fixed, traits_of}
 use Rattle.vx_dep.specs.Tables.{standings_of, lives_of}
-use Rattle.vx_dep.specs.Rows.{is_barred, are_tied, stays_behind_split, stays_behind_join, stays_behind, stays_below, at_least, delay_of, are_quiet, quiet_delay_of}
+use Rattle.vx_dep.specs.Rows.{is_barred, are_tied, stays_behind_split, stays_behind_join, stays_behind, stays_below, at_least, delay_of, are_quiet, is_kept_below, quiet_delay_of, is_seen, split_delay_of}
 use Rattle.vx_dep.specs.Sights.{reaches, has_join, is_live}
 use Rattle.vx_dep.proofs.Standing.{IsOf, entry_at, tells, delay_is}
+
+neither : (x y : Bool) → x ≡ false → y ≡ false → (x || y) ≡ false
+neither false false e f = refl
+neither true y e f = absurd (true≢false e)
+neither false true e f = absurd (true≢false f)
+
+not_both : (x y : Bool) → y ≡ false → (x && y) ≡ false
+not_both true y e = e
+not_both false y e = refl
+
+-- quiet operations
 
 record IsFree (a : Traits) : Type 0 where
   observable : a.is_observable ≡ false
@@ -34,18 +46,25 @@ free_at m t i s is e =
 
 record AreQuiet (a b : Traits) : Type 0 where
   upper : a.is_fixed ≡ false
-  lower : b.is_fixed ≡ false
   apart : a.is_access ≡ true → b.is_access ≡ true → ⊥
 
 quiet_parts : (a b : Traits) → are_quiet a b ≡ true → AreQuiet a b
-quiet_parts a b e = by a.is_fixed b.is_fixed a.is_access b.is_access refl refl refl refl e
+quiet_parts a b e = by a.is_fixed a.is_access b.is_access refl refl refl e
   where
-    by : (f g x y : Bool) → a.is_fixed ≡ f → b.is_fixed ≡ g → a.is_access ≡ x → b.is_access ≡ y → (not (f || g) && not (x && y)) ≡ true → AreQuiet a b
-    by true g x y k l p q e = absurd (false≢true e)
-    by false true x y k l p q e = absurd (false≢true e)
-    by false false true true k l p q e = absurd (false≢true e)
-    by false false false y k l p q e = record { upper = k; lower = l; apart = λ u v. false≢true (sym p ∙ u) }
-    by false false true false k l p q e = record { upper = k; lower = l; apart = λ u v. false≢true (sym q ∙ v) }
+    by : (f x y : Bool) → a.is_fixed ≡ f → a.is_access ≡ x → b.is_access ≡ y → (not f && not (x && y)) ≡ true → AreQuiet a b
+    by true x y k p q e = absurd (false≢true e)
+    by false true true k p q e = absurd (false≢true e)
+    by false false y k p q e = record { upper = k; apart = λ u v. false≢true (sym p ∙ u) }
+    by false true false k p q e = record { upper = k; apart = λ u v. false≢true (sym q ∙ v) }
+
+record AreFalse (x y : Bool) : Type 0 where
+  one : x ≡ false
+  two : y ≡ false
+
+both_false : (x y : Bool) → (x || y) ≡ false → AreFalse x y
+both_false false false e = record { one = refl; two = refl }
+both_false true y e = absurd (true≢false e)
+both_false false true e = absurd (true≢false e)
 
 no_behind : (s o p v k j : Bool) → o ≡ false → v ≡ false → j ≡ false → ((((false && s) || (o && p)) || (v && k)) || j) ≡ false
 no_behind s false p false k false e f g = refl
@@ -53,17 +72,10 @@ no_behind s true p v k j e f g = absurd (true≢false e)
 no_behind s false p true k j e f g = absurd (true≢false f)
 no_behind s false p false k true e f g = absurd (true≢false g)
 
-no_join : (joined o v barred : Bool) → o ≡ false → v ≡ false → (barred && joined) ≡ false → (joined && ((o || v) || barred)) ≡ false
-no_join false o v barred e f g = refl
-no_join true false false false e f g = refl
-no_join true false false true e f g = absurd (true≢false g)
-no_join true true v barred e f g = absurd (true≢false e)
-no_join true false true barred e f g = absurd (true≢false f)
-
-only_read : (r l v o : Bool) → v ≡ false → ((r || (false && l)) || (v && o)) ≡ r
-only_read true l v o e = refl
-only_read false l false o e = refl
-only_read false l true o e = absurd (true≢false e)
+only_read : (r l v o k : Bool) → o ≡ false → (v && k) ≡ false → ((r || (false && l)) || (v && (o || k))) ≡ r
+only_read true l v o k e f = refl
+only_read false l v false k e f = f
+only_read false l v true k e f = absurd (true≢false e)
 
 by_values : (l : ℕ) (tied behind below read : Bool) → behind ≡ false → below ≡ read
     → (if tied then at_least l (if behind then Some 1 else (if below then Some 0 else None)) else (if behind then Some 1 else (if below then Some 0 else None))) ≡ (if tied then Some l else (if read then Some 0 else None))
@@ -75,20 +87,88 @@ by_values l false false true false e f = absurd (true≢false f)
 by_values l false false false true e f = absurd (false≢true f)
 by_values l tied true below read e f = absurd (true≢false e)
 
-quiet_rows : (mode : Mode) (a b : Traits) (last joined live : Bool) → IsFree a → IsFree b → (is_barred mode && joined) ≡ false → delay_of mode a b (record { last = last; touch = false; joined = joined; live = live }) ≡ quiet_delay_of a b last
-quiet_rows mode a b last joined live above below apart =
+quiet_rows : (mode : Mode) (a b : Traits) (last joined live : Bool) → IsFree a → is_kept_below mode b joined ≡ false → delay_of mode a b (record { last = last; touch = false; joined = joined; live = live }) ≡ quiet_delay_of a b last
+quiet_rows mode a b last joined live above apart =
     let w : Ways = record { last = last; touch = false; joined = joined; live = live } in
+    let none = both_false (joined && stays_behind_join mode b) (b.leaves && is_barred mode) apart in
     by_values a.latency (are_tied a b last) (stays_behind mode a b w) (stays_below mode a b w) (has b.written (values_read a.reads))
-    (no_behind a.is_store a.is_observable b.is_observable a.leaves (stays_behind_split mode b w) (joined && stays_behind_join mode b) above.observable above.leaves (no_join joined b.is_observable b.leaves (is_barred mode) below.observable below.leaves apart))
-    (only_read (has b.written (values_read a.reads)) a.is_load b.leaves _ below.leaves)
+    (no_behind a.is_store a.is_observable b.is_observable a.leaves (stays_behind_split mode b w) (joined && stays_behind_join mode b) above.observable above.leaves none.one)
+    (only_read (has b.written (values_read a.reads)) a.is_load b.leaves a.is_observable (is_barred mode) above.observable none.two)
 
 pub quiet_delay_is : (m : Numbers) (mode : Mode) (t : Trace) (standings : List Standing) (lives : List (List Bool)) (i j : ℕ) (a b : Standing) (d : Option ℕ) → standings ≡ standings_of m t → lives ≡ lives_of t → i < j → slice_get standings i ≡ Some a → slice_get standings j ≡ Some b
-    → are_quiet a.traits b.traits ≡ true → (is_barred mode && has_join b i) ≡ false → d ≡ quiet_delay_of a.traits b.traits (reaches a i j) → IsDelay m mode t i j d
+    → are_quiet a.traits b.traits ≡ true → is_kept_below mode b.traits (has_join b i) ≡ false → d ≡ quiet_delay_of a.traits b.traits (reaches a i j) → IsDelay m mode t i j d
 quiet_delay_is m mode t standings lives i j a b d exact lives_exact in_order at_one at_two quiet apart is =
     let parts = quiet_parts a.traits b.traits quiet in
     let above = free_at m t i a (entry_at m t standings exact i a at_one) parts.upper in
-    let below = free_at m t j b (entry_at m t standings exact j b at_two) parts.lower in
     let live : Bool = a.traits.leaves && is_live (slice_get lives i) i j in
     let w : Ways = record { last = reaches a i j; touch = false; joined = has_join b i; live = live } in
     let told = tells m t standings lives i j a b w exact lives_exact in_order at_one at_two refl refl refl (λ e. absurd (false≢true e)) (λ e k. parts.apart k.upper k.lower) in
-    delay_is m t standings exact mode i j a b w d in_order at_one at_two told (is ∙ sym (quiet_rows mode a.traits b.traits (reaches a i j) (has_join b i) live above below apart))
+    delay_is m t standings exact mode i j a b w d in_order at_one at_two told (is ∙ sym (quiet_rows mode a.traits b.traits (reaches a i j) (has_join b i) live above apart))
+
+-- a split above
+
+record IsSplit (a : Traits) : Type 0 where
+  untied : (b : Traits) (last : Bool) → are_tied a b last ≡ false
+  access : a.is_access ≡ false
+
+split_op : (m : Numbers) (op : TraceOp) → leaves op ≡ true → IsSplit (traits_of m op)
+split_op m (Plain op) l = absurd (false≢true l)
+split_op m (Split test leaves_when edge live) l = record { untied = λ b last. neither (last && false) false (not_both last false refl) refl; access = refl }
+
+split_at : (m : Numbers) (t : Trace) (i : ℕ) (s : Standing) → IsOf m t i s → s.traits.leaves ≡ true → IsSplit s.traits
+split_at m t i s is e =
+    let same : s.traits ≡ traits_of m is.op = ap (λ (x : Standing). x.traits) is.is in
+    subst IsSplit (sym same) (split_op m is.op (sym (ap (λ (x : Traits). x.leaves) same) ∙ e))
+
+record IsUnseen (v p barred : Bool) : Type 0 where
+  leaves : v ≡ false
+  observable : p ≡ false
+  free : barred ≡ false
+
+unseen : (v s p live barred : Bool) → ((((v || s) || p) || live) || barred) ≡ false → IsUnseen v p barred
+unseen true s p live barred e = absurd (true≢false e)
+unseen false true p live barred e = absurd (true≢false e)
+unseen false false true live barred e = absurd (true≢false e)
+unseen false false false true barred e = absurd (true≢false e)
+unseen false false false false true e = absurd (true≢false e)
+unseen false false false false false e = record { leaves = refl; observable = refl; free = refl }
+
+behind_is : (x v s j : Bool) → v ≡ true → (s ≡ false → x ≡ false) → (s ≡ false → j ≡ false) → ((x || (v && s)) || j) ≡ s
+behind_is x true true j e f g = or_left (x || true) j (or_right x true refl)
+behind_is x true false j e f g = neither (x || false) j (neither x false (f refl) refl) (g refl)
+behind_is x false s j e f g = absurd (false≢true e)
+
+below_is : (r l v k : Bool) → v ≡ false → ((r || (false && l)) || (v && k)) ≡ r
+below_is true l v k e = refl
+below_is false l false k e = refl
+below_is false l true k e = absurd (true≢false e)
+
+by_seen : (l : ℕ) (tied behind below seen read : Bool) → tied ≡ false → behind ≡ seen → (seen ≡ false → below ≡ read)
+    → (if tied then at_least l (if behind then Some 1 else (if below then Some 0 else None)) else (if behind then Some 1 else (if below then Some 0 else None))) ≡ (if seen then Some 1 else (if read then Some 0 else None))
+by_seen l true behind below seen read e f g = absurd (true≢false e)
+by_seen l false true below true read e f g = refl
+by_seen l false true below false read e f g = absurd (true≢false f)
+by_seen l false false below true read e f g = absurd (false≢true f)
+by_seen l false false below false read e f g = ap (λ x. if x then Some 0 else None) (g refl)
+
+split_rows : (mode : Mode) (a b : Traits) (last joined live : Bool) → IsSplit a → a.leaves ≡ true → delay_of mode a b (record { last = last; touch = false; joined = joined; live = live }) ≡ split_delay_of mode a b live
+split_rows mode a b last joined live split leaves =
+    let w : Ways = record { last = last; touch = false; joined = joined; live = live } in
+    by_seen a.latency (are_tied a b last) (stays_behind mode a b w) (stays_below mode a b w) (stays_behind_split mode b w) (has b.written (values_read a.reads)) (split.untied b last)
+    (behind_is ((false && a.is_store) || (a.is_observable && b.is_observable)) a.leaves (stays_behind_split mode b w) (joined && stays_behind_join mode b) leaves
+    (λ e. not_both a.is_observable b.is_observable (none e).observable)
+    (λ e. not_both joined (stays_behind_join mode b) (neither (b.is_observable || b.leaves) (is_barred mode) (neither b.is_observable b.leaves (none e).observable (none e).leaves) (none e).free)))
+    (λ e. below_is (has b.written (values_read a.reads)) a.is_load b.leaves (a.is_observable || is_barred mode) (none e).leaves)
+  where
+    none : ((is_seen b || live) || is_barred mode) ≡ false → IsUnseen b.leaves b.is_observable (is_barred mode)
+    none e = unseen b.leaves b.is_store b.is_observable live (is_barred mode) e
+
+pub split_delay_is : (m : Numbers) (mode : Mode) (t : Trace) (standings : List Standing) (lives : List (List Bool)) (i j : ℕ) (a b : Standing) (d : Option ℕ) → standings ≡ standings_of m t → lives ≡ lives_of t → i < j → slice_get standings i ≡ Some a → slice_get standings j ≡ Some b
+    → a.traits.leaves ≡ true → d ≡ split_delay_of mode a.traits b.traits (is_live (slice_get lives i) i j) → IsDelay m mode t i j d
+split_delay_is m mode t standings lives i j a b d exact lives_exact in_order at_one at_two leaves is =
+    let split = split_at m t i a (entry_at m t standings exact i a at_one) leaves in
+    let live : Bool = is_live (slice_get lives i) i j in
+    let w : Ways = record { last = reaches a i j; touch = false; joined = has_join b i; live = live } in
+    let same : live ≡ (a.traits.leaves && live) = ap (λ x. x && live) (sym leaves) in
+    let told = tells m t standings lives i j a b w exact lives_exact in_order at_one at_two refl refl same (λ e. absurd (false≢true e)) (λ e k. absurd (false≢true (sym split.access ∙ k.upper))) in
+    delay_is m t standings exact mode i j a b w d in_order at_one at_two told (is ∙ sym (split_rows mode a.traits b.traits (reaches a i j) (has_join b i) live split leaves))

@@ -45,13 +45,25 @@ at_least d (Some e) = Some (max d e)
 abbrev pub delay_of : Mode → Traits → Traits → Ways → Option ℕ
 delay_of mode a b w = if are_tied a b w.last then at_least a.latency (row_of mode a b w) else row_of mode a b w
 
--- not both access an array, and neither is observable or a split
+-- the upper one is neither observable nor a split, and not both access an array
 abbrev pub are_quiet : Traits → Traits → Bool
-are_quiet a b = not (a.is_fixed || b.is_fixed) && not (a.is_access && b.is_access)
+are_quiet a b = not a.is_fixed && not (a.is_access && b.is_access)
 
--- the greatest number of two such operations that no join keeps apart
+-- the lower one stays below whatever stands above it: behind a join, or as a split that nothing passes
+abbrev pub is_kept_below : Mode → Traits → (joined : Bool) → Bool
+is_kept_below mode b joined = (joined && stays_behind_join mode b) || (b.leaves && is_barred mode)
+
+-- the greatest number of two quiet operations of which the lower one is not kept below
 abbrev pub quiet_delay_of : Traits → Traits → (last : Bool) → Option ℕ
 quiet_delay_of a b last = if are_tied a b last then Some a.latency else (if has b.written (values_read a.reads) then Some 0 else None)
+
+-- a split, or what is seen where a split above it leaves
+abbrev pub is_seen : Traits → Bool
+is_seen b = (b.leaves || b.is_store) || b.is_observable
+
+-- the greatest number behind a split: it writes nothing and accesses no array
+abbrev pub split_delay_of : Mode → Traits → Traits → (live : Bool) → Option ℕ
+split_delay_of mode a b live = if (is_seen b || live) || is_barred mode then Some 1 else (if has b.written (values_read a.reads) then Some 0 else None)
 
 -- accesses of which one is a store, and that may touch one word
 pub record MayTouch (t : Trace) (i j : ℕ) (a b : Traits) : Type 0 where

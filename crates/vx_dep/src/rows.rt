@@ -2,7 +2,7 @@
 // stand, which rows apply, and the greatest number among those. specs/Rows.antt says the same.
 
 ghost use Rattle.std.specs.Prelude.{◌≡◌};
-ghost use Rattle.vx_dep.specs.Rows.{is_barred, are_tied, stays_behind, stays_behind_split, stays_behind_join, stays_below, row_of, delay_of, are_quiet, quiet_delay_of};
+ghost use Rattle.vx_dep.specs.Rows.{is_barred, are_tied, stays_behind, stays_behind_split, stays_behind_join, stays_below, row_of, delay_of, are_quiet, is_kept_below, quiet_delay_of, is_seen};
 
 use crate::mode::Mode;
 use crate::traits::{Traits, reads_written, write_alike};
@@ -35,14 +35,21 @@ pub(crate) fn delay_of(mode: Mode, a: &Traits, b: &Traits, ways: Ways) -> Option
     }
 }
 
-/// Whether not both operations access an array, and neither is observable or a split.
+/// Whether the upper operation is neither observable nor a split, and not both access an array.
 pub(crate) fn are_quiet(a: &Traits, b: &Traits) -> bool
     ensures { result ≡ are_quiet a.now b.now }
 {
-    !(a.is_fixed || b.is_fixed) && !(a.is_access && b.is_access)
+    !a.is_fixed && !(a.is_access && b.is_access)
 }
 
-/// The greatest number of two such operations that no join keeps apart: only their values count.
+/// Whether the lower operation stays below whatever stands above it.
+pub(crate) fn is_kept_below(mode: Mode, b: &Traits, joined: bool) -> bool
+    ensures { result ≡ is_kept_below mode b.now joined }
+{
+    (joined && stays_behind_join(mode, b)) || (b.leaves && is_barred(mode))
+}
+
+/// The greatest number of two such operations of which the lower one is not kept below: only their values count.
 pub(crate) fn quiet_delay_of(a: &Traits, b: &Traits, last: bool) -> Option<u32>
     ensures { result ≡ quiet_delay_of a.now b.now last }
 {
@@ -53,6 +60,13 @@ pub(crate) fn quiet_delay_of(a: &Traits, b: &Traits, last: bool) -> Option<u32>
     } else {
         None
     }
+}
+
+/// Whether an operation is a split, or is seen where a split above it leaves.
+pub(crate) fn is_seen(b: &Traits) -> bool
+    ensures { result ≡ is_seen b.now }
+{
+    b.leaves || b.is_store || b.is_observable
 }
 
 /// The greatest number of the rows but those of a latency.

@@ -5,14 +5,14 @@ ghost use Rattle.vx_linear.specs.declared.form.Form.{Form};
 ghost use Rattle.vx_linear.specs.Forms.{NeverSame, is_ordered};
 ghost use Rattle.vx_linear.specs.Followed.{forms_of};
 ghost use Rattle.vx_dep.specs.Tables.{standings_of, lives_of};
-ghost use Rattle.vx_dep.specs.Rows.{is_barred, Tells, MayTouch};
+ghost use Rattle.vx_dep.specs.Rows.{split_delay_of, Tells, MayTouch};
 ghost use Rattle.vx_dep.specs.Delays.{IsDelay, NeverMeet};
 ghost use Rattle.vx_dep.specs.Sights.{AreOrdered, reaches, has_join, is_live};
 
 use crate::mode::Mode;
-use crate::rows::{Ways, are_quiet, delay_of, is_barred, quiet_delay_of};
+use crate::rows::{Ways, are_quiet, delay_of, is_barred, is_kept_below, is_seen, quiet_delay_of};
 use crate::tables::{Standing, lives, standings};
-use crate::traits::Traits;
+use crate::traits::{Traits, reads_written};
 use std::alloc::Global;
 use vx_base::answer::Answer;
 use vx_base::listed::Listed;
@@ -89,26 +89,37 @@ impl<'a> Sight<'a> {
         self.standings.as_slice().get(place)
     }
 
-    /// Of most pairs only the values count.
-    #[tactic(auto, using(crate::proofs::Quiet::quiet_delay_is))]
+    /// Of most pairs only the values count, and behind a split few rows apply; the others take the whole table.
+    #[tactic(auto, using(crate::proofs::Quiet::quiet_delay_is, crate::proofs::Quiet::split_delay_is))]
     fn delay_between(&self, i: usize, j: usize, a: &Standing, b: &Standing) -> Option<u32>
         requires in_order { i < j }
         requires stands_one { slice_get self.now.standings i ≡ Some a.now }
         requires stands_two { slice_get self.now.standings j ≡ Some b.now }
         ensures { IsDelay self.now.machine self.now.mode self.now.trace.now i j result }
     {
-        if are_quiet(&a.traits, &b.traits) && !self.is_barred_between(i, b) {
+        if a.traits.leaves {
+            self.split_delay(i, j, &a.traits, &b.traits)
+        } else if are_quiet(&a.traits, &b.traits)
+            && !is_kept_below(self.mode, &b.traits, has_join(b, i))
+        {
             quiet_delay_of(&a.traits, &b.traits, reaches(a, i, j))
         } else {
             self.delay_by_rows(i, j, a, b)
         }
     }
 
-    /// Whether a join stands between two places, and nothing moves past one.
-    fn is_barred_between(&self, i: usize, b: &Standing) -> bool
-        ensures { result ≡ (is_barred self.now.mode && has_join b.now i) }
+    /// The delay of a pair with a split above.
+    fn split_delay(&self, i: usize, j: usize, a: &Traits, b: &Traits) -> Option<u32>
+        requires { i < j }
+        ensures { result ≡ split_delay_of self.now.mode a.now b.now (is_live (slice_get self.now.lives i) i j) }
     {
-        is_barred(self.mode) && has_join(b, i)
+        if is_seen(b) || is_live(self.lives.as_slice(), i, j) || is_barred(self.mode) {
+            Some(1)
+        } else if reads_written(a, b) {
+            Some(0)
+        } else {
+            None
+        }
     }
 
     /// The delay by all rows of the table.
