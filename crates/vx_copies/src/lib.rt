@@ -1,6 +1,7 @@
 // Laws of the copies of values between clusters: a trace with the copies that its operations need leaves what the trace leaves.
 #![tactic(auto)]
 
+ghost use Rattle.vx_copies.specs.AtHome.{AssignedStands};
 ghost use Rattle.vx_copies.specs.Beside.{CopiesLaw, NothingNew};
 ghost use Rattle.vx_copies.specs.Ways.{ClusteredLaw, FitsLaw, ClusteredFitsLaw, AssignedFitsLaw, AssignedTraceFits};
 
@@ -29,4 +30,9 @@ pub fn clustered_traces_fit()
 /// The trace of blocks of a valid and tidy graph, with the copies that it gets, is what a replacement asks for.
 pub fn assigned_traces_fit()
     ensures { AssignedTraceFits }
+{}
+
+/// Each operation of the clustered trace stands where the values do that it names, and has room there.
+pub fn assigned_operations_stand()
+    ensures { AssignedStands }
 {}
