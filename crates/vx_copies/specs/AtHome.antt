@@ -27,10 +27,11 @@ pub record IsAtHome (home : ℕ → Option ℕ) (op : TraceOp) (cluster : ℕ) :
 abbrev pub CopiesAtHome : (values : ℕ) → (ℕ → Option ℕ) → Type 0
 CopiesAtHome values home = (u k : ℕ) → home u ≡ Some k → values ≤ u → (v : ℕ) × (v < values) × (u ≡ copy_of values v k)
 
--- what stands in a clustered trace: the copy of a value that has its home on another cluster; an operation of the trace that had
--- its cluster; or one that had none, with the copies that it reads
+-- what stands in a clustered trace: the copy of a value for an operation that reads it and had no cluster, where the value's home
+-- is another one; an operation of the trace that had its cluster; or one that had none, with the copies that it reads
 pub data StandsFor (t : Trace) (home : ℕ → Option ℕ) (op : TraceOp) (cluster : ℕ) : Type 0 where
-  copies : (v k : ℕ) → v < t.values → home v ≡ Some k → k ≢ cluster → op ≡ Plain (Across (copy_of t.values v cluster) v) → StandsFor t home op cluster
+  copies : (i v k : ℕ) (reader : TraceOp) → Stands t i reader → IsFree t i → is_across reader ≡ false → IsIn v (general_reads reader) → home v ≡ Some k → k ≢ cluster →
+      op ≡ Plain (Across (copy_of t.values v cluster) v) → StandsFor t home op cluster
   stays : (i : ℕ) → Stands t i op → IsFixed t i cluster → StandsFor t home op cluster
   renames : (i : ℕ) (origin : TraceOp) → Stands t i origin → IsFree t i → op ≡ renamed_op (here t.values home cluster) origin → StandsFor t home op cluster
 
