@@ -34,7 +34,7 @@ pub data InPart {A : Type 0} (xs ys : List A) (i : ℕ) (x : A) : Type 0 where
   in_first : i < length xs → slice_get xs i ≡ Some x → InPart xs ys i x
   in_second : (j : ℕ) → i ≡ length xs + j → slice_get ys j ≡ Some x → InPart xs ys i x
 
-in_part : {A : Type 0} (xs ys : List A) (i : ℕ) (x : A) → slice_get (xs ++ ys) i ≡ Some x → InPart xs ys i x
+pub in_part : {A : Type 0} (xs ys : List A) (i : ℕ) (x : A) → slice_get (xs ++ ys) i ≡ Some x → InPart xs ys i x
 in_part [] ys i x e = in_second i (omega arith) e
 in_part (z ∷ zs) ys zero x e = in_first (omega arith) e
 in_part (z ∷ zs) ys (suc i) x e = by (in_part zs ys i x e)
@@ -43,12 +43,12 @@ in_part (z ∷ zs) ys (suc i) x e = by (in_part zs ys i x e)
     by (in_first l q) = in_first (let g : suc i < suc (length zs) = omega (arith, l) in g) q
     by (in_second j p q) = in_second j (let g : suc i ≡ suc (length zs) + j = omega (arith, p) in g) q
 
-entry_first : (xs ys : List (Option ℕ)) (i : ℕ) → i < length xs → slice_index_or (xs ++ ys) i None ≡ slice_index_or xs i None
+pub entry_first : (xs ys : List (Option ℕ)) (i : ℕ) → i < length xs → slice_index_or (xs ++ ys) i None ≡ slice_index_or xs i None
 entry_first [] ys i l = absurd (omega (arith, l))
 entry_first (x ∷ xs) ys zero l = refl
 entry_first (x ∷ xs) ys (suc i) l = entry_first xs ys i (let g : suc i < suc (length xs) = l in omega (arith, g))
 
-entry_second : (xs ys : List (Option ℕ)) (j : ℕ) → slice_index_or (xs ++ ys) (length xs + j) None ≡ slice_index_or ys j None
+pub entry_second : (xs ys : List (Option ℕ)) (j : ℕ) → slice_index_or (xs ++ ys) (length xs + j) None ≡ slice_index_or ys j None
 entry_second [] ys j = let e : 0 + j ≡ j = omega arith in ap (λ n. slice_index_or ys n None) e
 entry_second (x ∷ xs) ys j = let e : suc (length xs) + j ≡ suc (length xs + j) = omega arith in ap (λ n. slice_index_or (x ∷ (xs ++ ys)) n None) e ∙ entry_second xs ys j
 
@@ -61,11 +61,11 @@ some_of_copied [] i l e = omega (arith, l)
 some_of_copied (c ∷ cs) zero l e = let h : Some c ≡ None = e in absurd cc
 some_of_copied (c ∷ cs) (suc i) l e = some_of_copied cs i (let g : suc i < suc (length cs) = l in omega (arith, g)) e
 
-length_map : {A B : Type 0} (f : A → B) (xs : List A) → length (map f xs) ≡ length xs
+pub length_map : {A B : Type 0} (f : A → B) (xs : List A) → length (map f xs) ≡ length xs
 length_map f [] = refl
 length_map f (x ∷ xs) = ap suc (length_map f xs)
 
-length_none : (n : ℕ) (o : Option ℕ) → length (replicate n o) ≡ n
+pub length_none : (n : ℕ) (o : Option ℕ) → length (replicate n o) ≡ n
 length_none zero o = refl
 length_none (suc n) o = ap suc (length_none n o)
 

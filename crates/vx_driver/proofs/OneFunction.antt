@@ -1,8 +1,10 @@
--- The layout of a function: its values are those of a sound graph on the first cluster, so it can be finished.
+-- The layout of a function: its values are those of a sound graph, with their copies to clusters of the machine, so it can be
+-- finished.
 use Rattle.std.proofs.Common.{◌≡◌, ◌⊎◌, inl, inr, ℕ, suc, ◌<◌, ◌≤◌, Bool, true, ◌&&◌, List, [], ◌∷◌, ◌++◌, length, map, Option, Some, None, refl, sym, ap, ◌∙◌, subst, arith}
-use Rattle.std.specs.Prelude.{slice_get, nat_lt, nat_le}
+use Rattle.std.specs.Prelude.{◌*◌, ◌/◌, ◌-◌, ◌+◌, slice_get, nat_lt, nat_le, if◌then◌else◌}
+use Rattle.std.proofs.Math.Nat.{mul_comm, div-lt_iff_lt-mul}
 use Rattle.std.specs.List.{flat_map}
-use Rattle.std.proofs.lemmas.Bool.{and_parts, lt-ltb, leb-true}
+use Rattle.std.proofs.lemmas.Bool.{and_parts, cases_lt, leb-true}
 use Rattle.std.proofs.lemmas.List.{length-map}
 use Rattle.std.proofs.lemmas.Option.{slice_get_within}
 use Rattle.vx_flow.specs.declared.graph.Bank.TheVariants.{General, Branch}
@@ -37,7 +39,8 @@ use Rattle.vx_mixed.specs.Origins.{Parts, CallsAs, LaidFromGraph}
 use Rattle.vx_mixed.specs.Settled.{has_home}
 use Rattle.vx_mixed.specs.Valid.{region_op, names_of}
 use Rattle.vx_mixed.proofs.LaidSources.{plain_from, plan_of}
-use Rattle.vx_region.specs.Regions.{item_in, room_in, OnFirstCluster, IsGraphOf}
+use Rattle.vx_region.specs.Regions.{item_in, room_in, OnMachine, IsGraphOf}
+use Rattle.vx_region.proofs.ClusteredOps.{value_below}
 use Rattle.vx_regs.specs.Intervals.{word_reads, word_writes, result_of, IsLive, here, beyond, IsBusy, is_live, is_named, is_pending}
 use Rattle.vx_frame.specs.Carried.{item_of_laid, room_of}
 use Rattle.vx_driver.specs.Stages.{IsLayoutOf}
@@ -87,47 +90,51 @@ in_some f x (y ∷ ys) h = elim (in_parts x (f y) (flat_map f ys) h) [
 
 -- the values of a layout are those of the graph
 
-module _ (graph : Graph) (latency : Op → ℕ) (m : MixedGraph) (sound : Sound graph) (one : OnFirstCluster m) (banks : m.banks ≡ graph.banks) (code : LaidFromGraph graph (layout_of m)) where
-  has : (v : ℕ) → v < length graph.banks → v < length m.banks
-  has v h = subst (λ z. v < length z) (sym banks) h
+module _ (machine : Numbers) (graph : Graph) (latency : Op → ℕ) (m : MixedGraph) (sound : Sound graph) (on : OnMachine machine m) (banks : m.banks ≡ graph.banks) (code : LaidFromGraph graph (layout_of m)) where
+  -- a value, or a copy of one to a cluster of the machine
+  abbrev Bound : ℕ
+  Bound = (machine.clusters + 1) * length m.banks
 
-  tested : (test : ℕ) → Parts graph test → test < length m.banks
+  has : (v : ℕ) → v < length graph.banks → v < Bound
+  has v h = value_below (length m.banks) v machine.clusters (subst (λ z. v < length z) (sym banks) h)
+
+  tested : (test : ℕ) → Parts graph test → test < Bound
   tested test h = has test (slice_get_within graph.banks test Branch (sound.exit_tests (Branches test h.yes h.no) test h.has (inl refl)))
 
-  op_has : (p cluster v : ℕ) (op : Op) (items : List Laid) → Plans (layout_of m) p items → IsIn (Plain op cluster) items → IsIn v (names_of op) → v < length m.banks
+  op_has : (p cluster v : ℕ) (op : Op) (items : List Laid) → Plans (layout_of m) p items → IsIn (Plain op cluster) items → IsIn v (names_of op) → v < Bound
   op_has p cluster v op items plans at names =
       let plan = plan_of latency m p items plans in
       let at' : IsIn (PlainItem op cluster) plan.word = plain_from plan.stands.at plan.word op cluster (subst (λ z. IsIn (Plain op cluster) z) plan.is at) in
-      one.values op v (region_op plan.region plan.number cluster plan.g plan.word plan.has_region plan.has_word at') names
+      on.values op v (region_op plan.region plan.number cluster plan.g plan.word plan.has_region plan.has_word at') names
 
-  item_reads_has : (p v : ℕ) (item : Laid) (items : List Laid) → Plans (layout_of m) p items → IsIn item items → IsIn v (item_reads item) → v < length m.banks
+  item_reads_has : (p v : ℕ) (item : Laid) (items : List Laid) → Plans (layout_of m) p items → IsIn item items → IsIn v (item_reads item) → v < Bound
   item_reads_has p v (Plain op cluster) items plans at names = op_has p cluster v op items plans at (in_left v (reads op) (writes op) names)
-  item_reads_has p v (Split test y q) items plans at (inl e) = subst (λ z. z < length m.banks) (sym e) (tested test (code.splits p test q y items plans at))
+  item_reads_has p v (Split test y q) items plans at (inl e) = subst (λ z. z < Bound) (sym e) (tested test (code.splits p test q y items plans at))
   item_reads_has p v (Split test y q) items plans at (inr h) = absurd h
 
-  item_writes_has : (p v : ℕ) (item : Laid) (items : List Laid) → Plans (layout_of m) p items → IsIn item items → IsIn v (item_writes item) → v < length m.banks
+  item_writes_has : (p v : ℕ) (item : Laid) (items : List Laid) → Plans (layout_of m) p items → IsIn item items → IsIn v (item_writes item) → v < Bound
   item_writes_has p v (Plain op cluster) items plans at names = op_has p cluster v op items plans at (in_right v (reads op) (writes op) names)
   item_writes_has p v (Split test y q) items plans at h = absurd h
 
-  operand_has : (v : ℕ) (x : Operand) → ((u : ℕ) → x ≡ Held u → u < length m.banks) → IsIn v (value_in x) → v < length m.banks
-  operand_has v (Held u) h (inl e) = subst (λ z. z < length m.banks) (sym e) (h u refl)
+  operand_has : (v : ℕ) (x : Operand) → ((u : ℕ) → x ≡ Held u → u < Bound) → IsIn v (value_in x) → v < Bound
+  operand_has v (Held u) h (inl e) = subst (λ z. z < Bound) (sym e) (h u refl)
   operand_has v (Held u) h (inr z) = absurd z
   operand_has v (Number n) h z = absurd z
   operand_has v Stack h z = absurd z
 
-  argument_has : (g : ℕ) (arguments : List Operand) (result : Option ℕ) (x : Operand) (u : ℕ) → CallsAs graph g arguments result → IsIn x arguments → x ≡ Held u → u < length m.banks
+  argument_has : (g : ℕ) (arguments : List Operand) (result : Option ℕ) (x : Operand) (u : ℕ) → CallsAs graph g arguments result → IsIn x arguments → x ≡ Held u → u < Bound
   argument_has g arguments result x u calls at is =
       has u (slice_get_within graph.banks u General (sound.exit_operands (Calls g arguments result calls.next) (Held u) calls.has (subst (λ z. IsIn z arguments) is at)))
 
-  result_has : (g v : ℕ) (arguments : List Operand) (result : Option ℕ) → CallsAs graph g arguments result → IsIn v (result_of result) → v < length m.banks
+  result_has : (g v : ℕ) (arguments : List Operand) (result : Option ℕ) → CallsAs graph g arguments result → IsIn v (result_of result) → v < Bound
   result_has g v arguments None calls h = absurd h
   result_has g v arguments (Some u) calls h = has v (slice_get_within graph.banks v General (sound.exit_results (Calls g arguments (Some u) calls.next) v calls.has h))
 
-  reads_has : (p v : ℕ) (word : VirtualWord) → slice_get (layout_of m).words p ≡ Some word → IsIn v (word_reads word) → v < length m.banks
+  reads_has : (p v : ℕ) (word : VirtualWord) → slice_get (layout_of m).words p ≡ Some word → IsIn v (word_reads word) → v < Bound
   reads_has p v (Planned r w items) e h = let s = in_some item_reads v items h in item_reads_has p v s.0 items (r, w, e) s.1 s.2
   reads_has p v (Drain n) e h = absurd h
   reads_has p v (Transfer q) e h = absurd h
-  reads_has p v (Choice test q) e (inl is) = subst (λ z. z < length m.banks) (sym is) (tested test (code.choices p test q e))
+  reads_has p v (Choice test q) e (inl is) = subst (λ z. z < Bound) (sym is) (tested test (code.choices p test q e))
   reads_has p v (Choice test q) e (inr h) = absurd h
   reads_has p v (Call g arguments result) e h =
       let calls = code.calls p g arguments result e in
@@ -138,7 +145,7 @@ module _ (graph : Graph) (latency : Op → ℕ) (m : MixedGraph) (sound : Sound 
       operand_has v x (λ u is. has u (slice_get_within graph.banks u General (sound.exit_operands (Returns x) (Held u) at (inl (sym is))))) h
   reads_has p v (Ends k) e h = absurd h
 
-  writes_has : (p v : ℕ) (word : VirtualWord) → slice_get (layout_of m).words p ≡ Some word → IsIn v (word_writes word) → v < length m.banks
+  writes_has : (p v : ℕ) (word : VirtualWord) → slice_get (layout_of m).words p ≡ Some word → IsIn v (word_writes word) → v < Bound
   writes_has p v (Planned r w items) e h = let s = in_some item_writes v items h in item_writes_has p v s.0 items (r, w, e) s.1 s.2
   writes_has p v (Drain n) e h = absurd h
   writes_has p v (Transfer q) e h = absurd h
@@ -147,15 +154,15 @@ module _ (graph : Graph) (latency : Op → ℕ) (m : MixedGraph) (sound : Sound 
   writes_has p v (Return x) e h = absurd h
   writes_has p v (Ends k) e h = absurd h
 
-  live_has : (p v : ℕ) → IsLive (layout_of m) p v → v < length m.banks
+  live_has : (p v : ℕ) → IsLive (layout_of m) p v → v < Bound
   live_has p v (here {word} e h) = reads_has p v word e h
   live_has p v (beyond {q} e h leads live) = live_has q v live
 
-  pending_has : (p v left : ℕ) → Pends latency (layout_of m) p v left → v < length m.banks
+  pending_has : (p v left : ℕ) → Pends latency (layout_of m) p v left → v < Bound
   pending_has p v left (written {p = at} {r} {w} {items} op cluster e item writes_it leads) = op_has at cluster v op items (r, w, e) item (in_right v (reads op) (writes op) writes_it)
   pending_has p v left (later {q} at n word pends e leads) = pending_has at v n pends
 
-  pub busy_has : (p v : ℕ) → IsBusy latency (layout_of m) p v → v < length m.banks
+  pub busy_has : (p v : ℕ) → IsBusy latency (layout_of m) p v → v < Bound
   busy_has p v (is_live live) = live_has p v live
   busy_has p v (is_named {word} e h) = elim (in_parts v (word_reads word) (word_writes word) h) [
     | inl a ↦ reads_has p v word e a
@@ -163,12 +170,23 @@ module _ (graph : Graph) (latency : Op → ℕ) (m : MixedGraph) (sound : Sound 
   ]
   busy_has p v (is_pending {left} pends) = pending_has p v (suc left) pends
 
-  first : (o : Option ℕ) → ((k : ℕ) → o ≡ Some k → k ≡ 0) → or_zero o ≡ 0
-  first None h = refl
-  first (Some k) h = h k refl
+  home_there : 0 < machine.clusters → (o : Option ℕ) → ((k : ℕ) → o ≡ Some k → k < machine.clusters) → or_zero o < machine.clusters
+  home_there some None h = some
+  home_there some (Some k) h = h k refl
 
-  pub home_is_first : (v : ℕ) → v < length m.banks → home_in (layout_of m) v ≡ 0
-  home_is_first v h = let t : nat_lt v (length m.banks) ≡ true = lt-ltb v (length m.banks) h in rw t (first (has_home m.homes.clusters v) (one.homes v))
+  pub home_is_there : 0 < machine.clusters → (v : ℕ) → v < Bound → home_in (layout_of m) v < machine.clusters
+  home_is_there some v h = by (nat_lt v (length m.banks))
+    where
+      positive : (0 < length m.banks) ⊎ (length m.banks ≤ 0) → 0 < length m.banks
+      positive (inl lt) = lt
+      positive (inr le) = let z : length m.banks ≡ 0 = omega (arith, le) in let e : (machine.clusters + 1) * length m.banks ≡ 0 = ap (λ n. (machine.clusters + 1) * n) z ∙ mul_comm (machine.clusters + 1) 0 ∙ omega arith in absurd (omega (arith, h, e))
+
+      copied : v / length m.banks - 1 < machine.clusters
+      copied = let l : v / length m.banks < machine.clusters + 1 = (div-lt_iff_lt-mul {length m.banks} {v} {machine.clusters + 1} (positive (cases_lt 0 (length m.banks)))).1 h in omega (arith, l, some)
+
+      by : (b : Bool) → (if b then or_zero (has_home m.homes.clusters v) else v / length m.banks - 1) < machine.clusters
+      by true = home_there some (has_home m.homes.clusters v) (on.homes v)
+      by false = copied
 
 -- a graph begins with a node for each block
 
@@ -207,7 +225,7 @@ module _ (settles : LayoutSettles) (comes : LayoutComesFromGraph) (is_brief : La
         settled = settles m (layout_of m) latency (room_in machine) (room_of machine) some laid (same_room machine) is.settled;
         brief = is_brief m (layout_of m) laid is.brief;
         code = code;
-        homes = λ p v busy. subst (λ z. z < machine.clusters) (sym (home_is_first graph latency m sound is.one is.code.banks code v (busy_has graph latency m sound is.one is.code.banks code p v busy))) zero_there;
+        homes = λ p v busy. home_is_there machine graph latency m sound is.on is.code.banks code zero_there v (busy_has machine graph latency m sound is.on is.code.banks code p v busy);
       }
 
   pub finishable : (machine : Numbers) (function : ℕ) (graph : Graph) (l : VWords) → IsMachine machine → IsLayoutOf machine function graph l → Finishable machine graph l

@@ -13,12 +13,12 @@ use Rattle.vx_flow.specs.Effects.{IsIn}
 use Rattle.vx_dep.specs.declared.copies.EdgeCopies.{EdgeCopies}
 use Rattle.vx_dep.specs.declared.copies.Rejoin.{Rejoin}
 use Rattle.vx_dep.specs.Compensation.{at_splits_of, at_joins_of, is_freed}
-use Rattle.vx_region.specs.Planned.{op_of, dismissed_if, placed_at, made_of, made_at_splits, made_at_joins}
+use Rattle.vx_region.specs.Planned.{op_of, dismissed_if, placed_at, clusters_at, made_of, made_at_splits, made_at_joins}
 use Rattle.vx_region.specs.Growth.{count_splits, count_joins, made_blocks, FewMade}
 
-one_block : (e : Edge) (ops : List Op) → length (made_of e ops) ≤ length ops
-one_block e [] = omega arith
-one_block e (op ∷ ops) = omega arith
+one_block : (e : Edge) (ops : List Op) (clusters : List ℕ) → length (made_of e ops clusters) ≤ length ops
+one_block e [] clusters = omega arith
+one_block e (op ∷ ops) clusters = omega arith
 
 -- at most one operation for each place
 at_most : (f : ℕ → List Op) → ((i : ℕ) → length (f i) ≤ 1) → (places : List ℕ) → length (flat_map f places) ≤ length places
@@ -45,21 +45,22 @@ module _ (p : Placed) where
   few_at_splits [] = omega arith
   few_at_splits (x ∷ xs) =
       let ops : List Op = flat_map (λ i. op_of (slice_get p.clustered.trace.ops i)) x.copies in
-      let a : length (made_of x.edge ops ++ made_at_splits p xs) ≡ length (made_of x.edge ops) + length (made_at_splits p xs) = length-append (made_of x.edge ops) (made_at_splits p xs) in
-      let b : length (made_of x.edge ops) ≤ length ops = one_block x.edge ops in
+      let cs : List ℕ = clusters_at p.clustered x.copies in
+      let a : length (made_of x.edge ops cs ++ made_at_splits p xs) ≡ length (made_of x.edge ops cs) + length (made_at_splits p xs) = length-append (made_of x.edge ops cs) (made_at_splits p xs) in
+      let b : length (made_of x.edge ops cs) ≤ length ops = one_block x.edge ops cs in
       let c : length ops ≤ length x.copies = at_most (λ i. op_of (slice_get p.clustered.trace.ops i)) (λ i. one_plain (slice_get p.clustered.trace.ops i)) x.copies in
       let rest : length (made_at_splits p xs) ≤ count_splits xs = few_at_splits xs in
       omega (arith, a, b, c, rest)
 
   -- joins
 
-  few_on_edges : (n : ℕ) (ops : List Op) → length ops ≤ n → (es : List Edge) → length (flat_map (λ e. made_of e ops) es) ≤ length es * n
-  few_on_edges n ops h [] = omega arith
-  few_on_edges n ops h (e ∷ es) =
-      let a : length (made_of e ops ++ flat_map (λ f. made_of f ops) es) ≡ length (made_of e ops) + length (flat_map (λ f. made_of f ops) es) = length-append (made_of e ops) (flat_map (λ f. made_of f ops) es) in
-      let b : length (made_of e ops) ≤ length ops = one_block e ops in
+  few_on_edges : (n : ℕ) (ops : List Op) (cs : List ℕ) → length ops ≤ n → (es : List Edge) → length (flat_map (λ e. made_of e ops cs) es) ≤ length es * n
+  few_on_edges n ops cs h [] = omega arith
+  few_on_edges n ops cs h (e ∷ es) =
+      let a : length (made_of e ops cs ++ flat_map (λ f. made_of f ops cs) es) ≡ length (made_of e ops cs) + length (flat_map (λ f. made_of f ops cs) es) = length-append (made_of e ops cs) (flat_map (λ f. made_of f ops cs) es) in
+      let b : length (made_of e ops cs) ≤ length ops = one_block e ops cs in
       let c : suc (length es) * n ≡ length es * n + n = suc-mul (length es) n in
-      let rest : length (flat_map (λ f. made_of f ops) es) ≤ length es * n = few_on_edges n ops h es in
+      let rest : length (flat_map (λ f. made_of f ops cs) es) ≤ length es * n = few_on_edges n ops cs h es in
       omega (arith, a, b, c, h, rest)
 
   few_at_joins : (joins : List Join) (xs : List Rejoin) → length (made_at_joins p joins xs) ≤ count_joins joins xs
@@ -67,9 +68,10 @@ module _ (p : Placed) where
   few_at_joins (j ∷ joins) [] = omega arith
   few_at_joins (j ∷ joins) (x ∷ xs) =
       let ops : List Op = placed_at p x.copies in
-      let a : length (flat_map (λ e. made_of e ops) j.edges ++ made_at_joins p joins xs) ≡ length (flat_map (λ e. made_of e ops) j.edges) + length (made_at_joins p joins xs) = length-append (flat_map (λ e. made_of e ops) j.edges) (made_at_joins p joins xs) in
+      let cs : List ℕ = clusters_at p.clustered x.copies in
+      let a : length (flat_map (λ e. made_of e ops cs) j.edges ++ made_at_joins p joins xs) ≡ length (flat_map (λ e. made_of e ops cs) j.edges) + length (made_at_joins p joins xs) = length-append (flat_map (λ e. made_of e ops cs) j.edges) (made_at_joins p joins xs) in
       let c : length ops ≤ length x.copies = at_most (λ i. map (dismissed_if (is_freed p i)) (op_of (slice_get p.clustered.trace.ops i))) (λ i. one_op (dismissed_if (is_freed p i)) (slice_get p.clustered.trace.ops i)) x.copies in
-      let b : length (flat_map (λ e. made_of e ops) j.edges) ≤ length j.edges * length x.copies = few_on_edges (length x.copies) ops c j.edges in
+      let b : length (flat_map (λ e. made_of e ops cs) j.edges) ≤ length j.edges * length x.copies = few_on_edges (length x.copies) ops cs c j.edges in
       let rest : length (made_at_joins p joins xs) ≤ count_joins joins xs = few_at_joins joins xs in
       omega (arith, a, b, rest)
 

@@ -16,7 +16,7 @@ use Rattle.vx_mixed.specs.Settled.{NoTwice}
 use Rattle.vx_mixed.specs.TraceOf.{block_ops, joined, joins_behind, trace_joins}
 use Rattle.vx_mixed.proofs.TraceFacts.{in_filter}
 use Rattle.vx_dep.specs.Compensation.{rejoin_of, copies_at_join}
-use Rattle.vx_region.specs.Planned.{made_of, placed_at, made_at_joins}
+use Rattle.vx_region.specs.Planned.{clusters_at, made_of, placed_at, made_at_joins}
 use Rattle.vx_region.proofs.MadeCopies.{Copy, made_all, made_append, Distinct, distinct_append}
 
 -- each edge of a list once
@@ -41,62 +41,65 @@ filter_once p (e ∷ es) once = by (p e) (filter_once p es once.1)
     by false more = more
 
 module _ (p : Placed) where
-  abbrev pub edge_copies : List Op → List Edge → List Copy
-  edge_copies ops [] = []
-  edge_copies ops (e ∷ es) = record { edge = e; ops = ops } ∷ edge_copies ops es
+  abbrev pub edge_copies : List Op → List ℕ → List Edge → List Copy
+  edge_copies ops cs [] = []
+  edge_copies ops cs (e ∷ es) = record { edge = e; ops = ops; clusters = cs } ∷ edge_copies ops cs es
 
   abbrev pub join_ops_at : Join → List Op
   join_ops_at j = placed_at p (copies_at_join p.words j.place)
 
+  abbrev pub join_clusters_at : Join → List ℕ
+  join_clusters_at j = clusters_at p.clustered (copies_at_join p.words j.place)
+
   abbrev pub join_copies : List Join → List Copy
   join_copies [] = []
-  join_copies (j ∷ joins) = edge_copies (join_ops_at j) j.edges ++ join_copies joins
+  join_copies (j ∷ joins) = edge_copies (join_ops_at j) (join_clusters_at j) j.edges ++ join_copies joins
 
-  made_edges : (ops : List Op) (es : List Edge) → flat_map (λ e. made_of e ops) es ≡ made_all (edge_copies ops es)
-  made_edges ops [] = refl
-  made_edges ops (e ∷ es) = ap (λ z. made_of e ops ++ z) (made_edges ops es)
+  made_edges : (ops : List Op) (cs : List ℕ) (es : List Edge) → flat_map (λ e. made_of e ops cs) es ≡ made_all (edge_copies ops cs es)
+  made_edges ops cs [] = refl
+  made_edges ops cs (e ∷ es) = ap (λ z. made_of e ops cs ++ z) (made_edges ops cs es)
 
   pub made_joins : (joins : List Join) → made_at_joins p joins (map (rejoin_of p.words) joins) ≡ made_all (join_copies joins)
   made_joins [] = refl
   made_joins (j ∷ joins) =
-      ap (λ z. z ++ made_at_joins p joins (map (rejoin_of p.words) joins)) (made_edges (join_ops_at j) j.edges)
-      ∙ ap (λ z. made_all (edge_copies (join_ops_at j) j.edges) ++ z) (made_joins joins)
-      ∙ sym (made_append (edge_copies (join_ops_at j) j.edges) (join_copies joins))
+      ap (λ z. z ++ made_at_joins p joins (map (rejoin_of p.words) joins)) (made_edges (join_ops_at j) (join_clusters_at j) j.edges)
+      ∙ ap (λ z. made_all (edge_copies (join_ops_at j) (join_clusters_at j) j.edges) ++ z) (made_joins joins)
+      ∙ sym (made_append (edge_copies (join_ops_at j) (join_clusters_at j) j.edges) (join_copies joins))
 
-  has_edge : (ops : List Op) (es : List Edge) (e : Edge) → IsIn e es → IsIn (record { edge = e; ops = ops }) (edge_copies ops es)
-  has_edge ops [] e h = absurd h
-  has_edge ops (f ∷ es) e (inl q) = inl (ap (λ (x : Edge). record { edge = x; ops = ops }) q)
-  has_edge ops (f ∷ es) e (inr h) = inr (has_edge ops es e h)
+  has_edge : (ops : List Op) (cs : List ℕ) (es : List Edge) (e : Edge) → IsIn e es → IsIn (record { edge = e; ops = ops; clusters = cs }) (edge_copies ops cs es)
+  has_edge ops cs [] e h = absurd h
+  has_edge ops cs (f ∷ es) e (inl q) = inl (ap (λ (x : Edge). record { edge = x; ops = ops; clusters = cs }) q)
+  has_edge ops cs (f ∷ es) e (inr h) = inr (has_edge ops cs es e h)
 
-  pub has_join : (joins : List Join) (j : Join) (e : Edge) → IsIn j joins → IsIn e j.edges → IsIn (record { edge = e; ops = join_ops_at j }) (join_copies joins)
+  pub has_join : (joins : List Join) (j : Join) (e : Edge) → IsIn j joins → IsIn e j.edges → IsIn (record { edge = e; ops = join_ops_at j; clusters = join_clusters_at j }) (join_copies joins)
   has_join [] j e h i = absurd h
   has_join (k ∷ joins) j e (inl q) i =
-      in_left (record { edge = e; ops = join_ops_at j }) (edge_copies (join_ops_at k) k.edges) (join_copies joins)
-      (subst (λ (z : Join). IsIn (record { edge = e; ops = join_ops_at j }) (edge_copies (join_ops_at z) z.edges)) q (has_edge (join_ops_at j) j.edges e i))
-  has_join (k ∷ joins) j e (inr h) i = in_right (record { edge = e; ops = join_ops_at j }) (edge_copies (join_ops_at k) k.edges) (join_copies joins) (has_join joins j e h i)
+      in_left (record { edge = e; ops = join_ops_at j; clusters = join_clusters_at j }) (edge_copies (join_ops_at k) (join_clusters_at k) k.edges) (join_copies joins)
+      (subst (λ (z : Join). IsIn (record { edge = e; ops = join_ops_at j; clusters = join_clusters_at j }) (edge_copies (join_ops_at z) (join_clusters_at z) z.edges)) q (has_edge (join_ops_at j) (join_clusters_at j) j.edges e i))
+  has_join (k ∷ joins) j e (inr h) i = in_right (record { edge = e; ops = join_ops_at j; clusters = join_clusters_at j }) (edge_copies (join_ops_at k) (join_clusters_at k) k.edges) (join_copies joins) (has_join joins j e h i)
 
-  of_edge : (ops : List Op) (es : List Edge) (x : Copy) → IsIn x (edge_copies ops es) → IsIn x.edge es
-  of_edge ops [] x h = absurd h
-  of_edge ops (e ∷ es) x (inl q) = inl (ap (λ (z : Copy). z.edge) q)
-  of_edge ops (e ∷ es) x (inr h) = inr (of_edge ops es x h)
+  of_edge : (ops : List Op) (cs : List ℕ) (es : List Edge) (x : Copy) → IsIn x (edge_copies ops cs es) → IsIn x.edge es
+  of_edge ops cs [] x h = absurd h
+  of_edge ops cs (e ∷ es) x (inl q) = inl (ap (λ (z : Copy). z.edge) q)
+  of_edge ops cs (e ∷ es) x (inr h) = inr (of_edge ops cs es x h)
 
   pub of_join : (joins : List Join) (x : Copy) → IsIn x (join_copies joins) → (j : Join) × IsIn j joins × IsIn x.edge j.edges
   of_join [] x h = absurd h
-  of_join (j ∷ joins) x h = by (in_either x (edge_copies (join_ops_at j) j.edges) (join_copies joins) h) (of_join joins x)
+  of_join (j ∷ joins) x h = by (in_either x (edge_copies (join_ops_at j) (join_clusters_at j) j.edges) (join_copies joins) h) (of_join joins x)
     where
-      by : IsIn x (edge_copies (join_ops_at j) j.edges) ⊎ IsIn x (join_copies joins) → (IsIn x (join_copies joins) → (k : Join) × IsIn k joins × IsIn x.edge k.edges) → (k : Join) × IsIn k (j ∷ joins) × IsIn x.edge k.edges
-      by (inl a) more = (j, inl refl, of_edge (join_ops_at j) j.edges x a)
+      by : IsIn x (edge_copies (join_ops_at j) (join_clusters_at j) j.edges) ⊎ IsIn x (join_copies joins) → (IsIn x (join_copies joins) → (k : Join) × IsIn k joins × IsIn x.edge k.edges) → (k : Join) × IsIn k (j ∷ joins) × IsIn x.edge k.edges
+      by (inl a) more = (j, inl refl, of_edge (join_ops_at j) (join_clusters_at j) j.edges x a)
       by (inr b) more = let s = more b in (s.0, inr s.1, s.2)
 
-  distinct_edges : (ops : List Op) (es : List Edge) → EdgesOnce es → Distinct (edge_copies ops es)
-  distinct_edges ops [] once = tt
-  distinct_edges ops (e ∷ es) once = ((λ y h. once.0 y.edge (of_edge ops es y h)), distinct_edges ops es once.1)
+  distinct_edges : (ops : List Op) (cs : List ℕ) (es : List Edge) → EdgesOnce es → Distinct (edge_copies ops cs es)
+  distinct_edges ops cs [] once = tt
+  distinct_edges ops cs (e ∷ es) once = ((λ y h. once.0 y.edge (of_edge ops cs es y h)), distinct_edges ops cs es once.1)
 
   -- each join goes to a block of its own, and the edges of each are one list without repeats
   pub distinct_joins : (joins : List Join) → NoTwice (map (λ (j : Join). j.block) joins) → ((j : Join) → IsIn j joins → EdgesOnce j.edges) → ((j : Join) (e : Edge) → IsIn j joins → IsIn e j.edges → e.to ≡ j.block) → Distinct (join_copies joins)
   distinct_joins [] blocks edges to = tt
   distinct_joins (j ∷ joins) blocks edges to =
-      distinct_append (edge_copies (join_ops_at j) j.edges) (join_copies joins) (distinct_edges (join_ops_at j) j.edges (edges j (inl refl)))
+      distinct_append (edge_copies (join_ops_at j) (join_clusters_at j) j.edges) (join_copies joins) (distinct_edges (join_ops_at j) (join_clusters_at j) j.edges (edges j (inl refl)))
       (distinct_joins joins blocks.1 (λ k h. edges k (inr h)) (λ k e h i. to k e (inr h) i)) apart
     where
       block_in : (ks : List Join) (k : Join) → IsIn k ks → IsIn k.block (map (λ (j : Join). j.block) ks)
@@ -104,9 +107,9 @@ module _ (p : Placed) where
       block_in (i ∷ ks) k (inl q) = inl (ap (λ (z : Join). z.block) q)
       block_in (i ∷ ks) k (inr h) = inr (block_in ks k h)
 
-      apart : (x y : Copy) → IsIn x (edge_copies (join_ops_at j) j.edges) → IsIn y (join_copies joins) → y.edge ≢ x.edge
+      apart : (x y : Copy) → IsIn x (edge_copies (join_ops_at j) (join_clusters_at j) j.edges) → IsIn y (join_copies joins) → y.edge ≢ x.edge
       apart x y a b q =
-          let one = to j x.edge (inl refl) (of_edge (join_ops_at j) j.edges x a) in
+          let one = to j x.edge (inl refl) (of_edge (join_ops_at j) (join_clusters_at j) j.edges x a) in
           let s = of_join joins y b in
           let two = to s.0 y.edge (inr s.1) s.2 in
           blocks.0 (subst (λ z. IsIn z (map (λ (k : Join). k.block) joins)) (sym two ∙ ap (λ (e : Edge). e.to) q ∙ one) (block_in joins s.0 s.1))

@@ -15,11 +15,6 @@ use Rattle.vx_mixed.specs.Way.{item_latency}
 use Rattle.vx_mixed.specs.Compensation.{plain_item, plain_items, items_of, live_of}
 use Rattle.vx_dep.specs.Delays.{reads_of, writes_of, is_load, is_store, is_observable, leaves, latency_of, live_off}
 
-pub plain_is : (ops : List TraceOp) → items_of ops (replicate (length ops) 0) ≡ plain_items ops
-plain_is [] = refl
-plain_is (TracePlain op ∷ ops) = ap (λ z. plain_item (TracePlain op) ∷ z) (plain_is ops)
-plain_is (TraceSplit p y e live ∷ ops) = ap (λ z. plain_item (TraceSplit p y e live) ∷ z) (plain_is ops)
-
 pub plain_many : (ops : List TraceOp) → length (plain_items ops) ≡ length ops
 plain_many [] = refl
 plain_many (op ∷ ops) = ap suc (plain_many ops)

@@ -1,5 +1,5 @@
 -- What is kept of the calls of planning is what a step asks.
-use Rattle.std.proofs.Common.{◌≡◌, ℕ, length, refl, sym, ap, subst}
+use Rattle.std.proofs.Common.{◌≡◌, ℕ, refl, sym, ap, subst}
 use Rattle.vx_flow.specs.declared.trace.Trace.{Trace}
 use Rattle.vx_flow.specs.declared.trace.Clustered.{Clustered}
 use Rattle.vx_flow.specs.declared.trace.Placed.{Placed}
@@ -18,7 +18,7 @@ use Rattle.vx_region.specs.declared.owed.Owed.{Owed}
 use Rattle.vx_region.specs.declared.trace_plan.TracePlan.{TracePlan}
 use Rattle.vx_region.specs.Planned.{placed_in, replacement_of, Planned}
 use Rattle.vx_region.specs.Owed.{IsOwed}
-use Rattle.vx_region.specs.RegionPlans.{on_one, IsPlaced}
+use Rattle.vx_region.specs.RegionPlans.{IsPlaced}
 use Rattle.vx_region.specs.Regions.{ReplacesOne, replacement_by}
 
 pub own_mode : (m : Numbers) (mode : Mode) (t : Trace) (deps : Deps) → IsDeps m mode t deps → AreDeps m t deps
@@ -33,8 +33,8 @@ is_placed m homes mode c deps p d by length clustered = record {
   clustered = clustered;
 }
 
-placed_is : (t : Trace) (p : Placed) → p.clustered ≡ on_one t → p.length ≡ length_of p.words → p ≡ placed_in t p.words
-placed_is t p c l = λ i. record { clustered = c i; words = p.words; length = l i }
+placed_is : (c : Clustered) (p : Placed) → p.clustered ≡ c → p.length ≡ length_of p.words → p ≡ placed_in c p.words
+placed_is c p e l = λ i. record { clustered = e i; words = p.words; length = l i }
 
 abbrev pub made_by : Homes → Placed → Owed → Replacement
 made_by homes p owed = record {
@@ -64,14 +64,16 @@ replaced_by machine homes p owed x = λ i. record {
 }
 
 -- a step takes what planning gives
-pub planned_by : (machine : Numbers) (counts : Counts) (cap used used' : ℕ) (m m' : MixedGraph) (plan : TracePlan) → (x : ReplacesOne machine counts cap m used plan m' used') → Planned m plan.blocks machine plan.mode x.homes (replacement_by machine x.homes plan.placed)
+pub planned_by : (machine : Numbers) (counts : Counts) (cap used used' : ℕ) (m m' : MixedGraph) (plan : TracePlan) → (x : ReplacesOne machine counts cap m used plan m' used') → Planned m plan.blocks machine plan.mode (replacement_by machine x.clusters.homes plan.placed)
 planned_by machine counts cap used used' m m' plan x =
     let p = plan.placed in
-    let same : p ≡ placed_in x.trace p.words = placed_is x.trace p x.placed.clustered x.placed.length_is in
+    let same : p ≡ placed_in x.clusters.clustered p.words = placed_is x.clusters.clustered p x.placed.clustered x.placed.length_is in
     record {
       is_a_machine = x.is_a_machine;
       trace = x.trace;
       is_trace = x.is_trace;
+      clusters = x.clusters;
+      assigned = x.assigned;
       words = p.words;
       height = x.placed.height;
       heights = x.placed.heights;
@@ -80,5 +82,5 @@ planned_by machine counts cap used used' m m' plan x =
       at_splits = ap at_splits_of same;
       rejoins = at_joins_of p;
       at_joins = ap at_joins_of same;
-      replacement = ap (λ q. replacement_of machine x.homes q (at_splits_of p) (at_joins_of p)) same;
+      replacement = ap (λ q. replacement_of machine x.clusters.homes q (at_splits_of p) (at_joins_of p)) same;
     }

@@ -1,6 +1,6 @@
 -- The operations of a trace, of its region and of the blocks that are made for it: all come from its blocks.
 use Rattle.std.proofs.Common.{◌≡◌, ◌⊎◌, inl, inr, ℕ, zero, suc, Bool, true, false, Option, Some, None, List, [], ◌∷◌, ◌++◌, length, map, drop, slice_get, slice_index_or, refl, sym, ap, ◌∙◌, subst}
-use Rattle.std.specs.Prelude.{◌==◌, nat_le, replicate, if◌then◌else◌}
+use Rattle.std.specs.Prelude.{◌==◌, nat_le, if◌then◌else◌}
 use Rattle.std.specs.List.{flat_map, list_any}
 use Rattle.vx_flow.specs.declared.graph.Block.{Block}
 use Rattle.vx_flow.specs.declared.graph.Edge.{Edge}
@@ -10,6 +10,7 @@ use Rattle.vx_flow.specs.declared.graph.Op.{Op}
 use Rattle.vx_flow.specs.declared.trace.TraceOp.{TraceOp}
 use Rattle.vx_flow.specs.declared.trace.TraceOp.TheVariants.{Plain as TracePlain, Split as TraceSplit}
 use Rattle.vx_flow.specs.declared.trace.Join.{Join}
+use Rattle.vx_flow.specs.declared.trace.Clustered.{Clustered}
 use Rattle.vx_flow.specs.declared.trace.Trace.{Trace}
 use Rattle.vx_flow.specs.declared.trace.Placed.{Placed}
 use Rattle.vx_flow.specs.Effects.{IsIn, dismissed}
@@ -24,12 +25,11 @@ use Rattle.vx_mixed.specs.Settled.{bank_of}
 use Rattle.vx_mixed.specs.TraceOf.{CanTrace, IsTraceOf, block_at, block_or_none, split_between, split_behind, block_ops, trace_ops}
 use Rattle.vx_mixed.specs.Valid.{IsOp, block_op, TestsBranch}
 use Rattle.vx_mixed.proofs.Linked.{index_in}
-use Rattle.vx_mixed.proofs.NewBlocks.{in_image}
 use Rattle.vx_dep.specs.declared.copies.EdgeCopies.{EdgeCopies}
 use Rattle.vx_dep.specs.declared.copies.Rejoin.{Rejoin}
 use Rattle.vx_dep.specs.Compensation.{is_freed}
-use Rattle.vx_region.specs.Planned.{op_of, ops_at, dismissed_if, placed_at, made_of, made_at_splits, made_at_joins}
-use Rattle.vx_region.proofs.Alone.{in_block}
+use Rattle.vx_region.specs.Planned.{op_of, ops_at, cluster_of, clusters_at, dismissed_if, placed_at, made_of, made_at_splits, made_at_joins}
+use Rattle.vx_region.proofs.InBlocks.{in_block}
 
 pub record InFlat {A B : Type 0} (f : A → List B) (xs : List A) (y : B) : Type 0 where
   pub item : A
@@ -101,77 +101,125 @@ module _ (m : MixedGraph) (live : ℕ → List ℕ) (p : ℕ) (y : Bool) (e : Ed
     | inr i ↦ tests_branch bs (λ x k. t x (inr k)) i
   ]
 
--- what comes from an operation of a trace
+-- what comes from an operation of a clustered trace, on its cluster; a load perhaps dismissible
 
-pub record Comes (ops : List TraceOp) (op : Op) : Type 0 where
+pub record Comes (c : Clustered) (op : Op) (cluster : ℕ) : Type 0 where
+  pub place : ℕ
   pub origin : Op
-  pub has : IsIn (TracePlain origin) ops
+  pub at : slice_get c.trace.ops place ≡ Some (TracePlain origin)
+  pub cluster_is : cluster ≡ slice_index_or c.clusters place 0
   pub is : (op ≡ origin) ⊎ (op ≡ dismissed origin)
 
-comes_if : (ops : List TraceOp) (b : Bool) (op o : Op) → IsIn (TracePlain o) ops → op ≡ (if b then dismissed o else o) → Comes ops op
-comes_if ops true op o h e = record { origin = o; has = h; is = inr e }
-comes_if ops false op o h e = record { origin = o; has = h; is = inl e }
+pub comes_has : (c : Clustered) (op : Op) (cluster : ℕ) (x : Comes c op cluster) → IsIn (TracePlain x.origin) c.trace.ops
+comes_has c op cluster x = index_in c.trace.ops x.place (TracePlain x.origin) x.at
 
-pub comes_freed : (ops : List TraceOp) (w : ℕ) (above : List ℕ) (op o : Op) → IsIn (TracePlain o) ops → op ≡ freed w above o → Comes ops op
-comes_freed ops w above op o h e = comes_if ops (list_any (λ s. nat_le w s) above) op o h e
+comes_if : (c : Clustered) (b : Bool) (op o : Op) (place cluster : ℕ) → slice_get c.trace.ops place ≡ Some (TracePlain o) → cluster ≡ slice_index_or c.clusters place 0 → op ≡ dismissed_if b o → Comes c op cluster
+comes_if c true op o place cluster at k e = record { place = place; origin = o; at = at; cluster_is = k; is = inr e }
+comes_if c false op o place cluster at k e = record { place = place; origin = o; at = at; cluster_is = k; is = inl e }
 
-of_there : (o : Option TraceOp) (op : Op) → IsIn op (op_of o) → o ≡ Some (TracePlain op)
-of_there None op h = absurd h
-of_there (Some (TracePlain x)) op (inl e) = ap (λ z. Some (TracePlain z)) (sym e)
-of_there (Some (TracePlain x)) op (inr h) = absurd h
-of_there (Some (TraceSplit p y e live)) op h = absurd h
+-- in the region
+
+pub record PlacedAt (ops : List TraceOp) (clusters : List ℕ) (op : Op) (cluster : ℕ) : Type 0 where
+  pub place : ℕ
+  pub origin : Op
+  pub word : ℕ
+  pub above : List ℕ
+  pub at : slice_get ops place ≡ Some (TracePlain origin)
+  pub cluster_is : cluster ≡ slice_index_or clusters place 0
+  pub is : op ≡ freed word above origin
+
+further : (o : TraceOp) (k : ℕ) (ops : List TraceOp) (clusters : List ℕ) (op : Op) (cluster : ℕ) → PlacedAt ops clusters op cluster → PlacedAt (o ∷ ops) (k ∷ clusters) op cluster
+further o k ops clusters op cluster x = record { place = suc x.place; origin = x.origin; word = x.word; above = x.above; at = x.at; cluster_is = x.cluster_is; is = x.is }
+
+pub placed_there : (to : ℕ → ℕ → ℕ) (ops : List TraceOp) (cs ws ds above : List ℕ) (x : InWord) (op : Op) (cluster : ℕ) → IsIn x (placed to ops cs ws ds above) → Plain op cluster ≡ x.item → PlacedAt ops cs op cluster
+placed_there to [] cs ws ds above x op cluster h i = absurd h
+placed_there to (o ∷ ops) [] ws ds above x op cluster h i = absurd h
+placed_there to (o ∷ ops) (c ∷ cs) [] ds above x op cluster h i = absurd h
+placed_there to (TracePlain o ∷ ops) (c ∷ cs) (w ∷ ws) ds above x op cluster (inl q) i =
+    let z : Plain op cluster ≡ Plain (freed w above o) c = i ∙ ap (λ (k : InWord). k.item) q in
+    let a : op ≡ freed w above o = cc in
+    let b : cluster ≡ c = cc in
+    record { place = 0; origin = o; word = w; above = above; at = refl; cluster_is = b; is = a }
+placed_there to (TracePlain o ∷ ops) (c ∷ cs) (w ∷ ws) ds above x op cluster (inr h) i = further (TracePlain o) c ops cs op cluster (placed_there to ops cs ws ds above x op cluster h i)
+placed_there to (TraceSplit q u f live ∷ ops) (c ∷ cs) (w ∷ ws) ds above x op cluster (inl g) i = absurd (let z : Plain op cluster ≡ Split q u (record f { to = to f.from f.to }) (slice_index_or ds 0 0) = i ∙ ap (λ (k : InWord). k.item) g in cc)
+placed_there to (TraceSplit q u f live ∷ ops) (c ∷ cs) (w ∷ ws) ds above x op cluster (inr h) i = further (TraceSplit q u f live) c ops cs op cluster (placed_there to ops cs ws (drop 1 ds) (w ∷ above) x op cluster h i)
+
+pub comes_placed : (c : Clustered) (op : Op) (cluster : ℕ) → PlacedAt c.trace.ops c.clusters op cluster → Comes c op cluster
+comes_placed c op cluster x = comes_if c (list_any (λ s. nat_le x.word s) x.above) op x.origin x.place cluster x.at x.cluster_is x.is
+
+-- in made blocks
+
+module _ (c : Clustered) where
+  -- what is copied from a place, and its cluster
+  pub data CopiedFrom (ops : List Op) (clusters : List ℕ) : Type 0 where
+    nothing : ops ≡ [] → clusters ≡ [] → CopiedFrom ops clusters
+    one : (op : Op) (cluster : ℕ) → ops ≡ op ∷ [] → clusters ≡ cluster ∷ [] → Comes c op cluster → CopiedFrom ops clusters
+
+  copied_there : (place : ℕ) (freed : Bool) (o : Option TraceOp) → slice_get c.trace.ops place ≡ o → CopiedFrom (map (dismissed_if freed) (op_of o)) (cluster_of o (slice_index_or c.clusters place 0))
+  copied_there place freed None at = nothing refl refl
+  copied_there place freed (Some (TraceSplit p y e live)) at = nothing refl refl
+  copied_there place freed (Some (TracePlain op)) at = one (dismissed_if freed op) (slice_index_or c.clusters place 0) refl refl (comes_if c freed (dismissed_if freed op) op place (slice_index_or c.clusters place 0) at refl refl)
+
+  as_they_are : (o : Option TraceOp) → map (dismissed_if false) (op_of o) ≡ op_of o
+  as_they_are None = refl
+  as_they_are (Some (TraceSplit p y e live)) = refl
+  as_they_are (Some (TracePlain op)) = refl
+
+  -- the lists of what is copied from several places
+  pub record AreCopied (ops : List Op) (clusters : List ℕ) : Type 0 where
+    pub many : length clusters ≡ length ops
+    pub each : (i cluster : ℕ) (op : Op) → slice_get ops i ≡ Some op → slice_get clusters i ≡ Some cluster → Comes c op cluster
+
+  none_copied : AreCopied [] []
+  none_copied = record { many = refl; each = λ i cluster op a b. absurd cc }
+
+  one_more : (ops more : List Op) (clusters others : List ℕ) → CopiedFrom ops clusters → AreCopied more others → AreCopied (ops ++ more) (clusters ++ others)
+  one_more ops more clusters others (nothing a b) rest = subst (λ z. AreCopied (z ++ more) (clusters ++ others)) (sym a) (subst (λ z. AreCopied more (z ++ others)) (sym b) rest)
+  one_more ops more clusters others (one op cluster a b x) rest = subst (λ z. AreCopied (z ++ more) (clusters ++ others)) (sym a) (subst (λ z. AreCopied (op ∷ more) (z ++ others)) (sym b) (record {
+    many = ap suc rest.many;
+    each = each;
+  }))
+    where
+      each : (i k : ℕ) (o : Op) → slice_get (op ∷ more) i ≡ Some o → slice_get (cluster ∷ others) i ≡ Some k → Comes c o k
+      each zero k o f g = let p : op ≡ o = cc in let q : cluster ≡ k = cc in subst (Comes c o) q (subst (λ z. Comes c z cluster) p x)
+      each (suc i) k o f g = rest.each i k o f g
+
+  pub copied_at : (places : List ℕ) → AreCopied (ops_at c.trace.ops places) (clusters_at c places)
+  copied_at [] = none_copied
+  copied_at (i ∷ places) = one_more (op_of (slice_get c.trace.ops i)) (ops_at c.trace.ops places) (cluster_of (slice_get c.trace.ops i) (slice_index_or c.clusters i 0)) (clusters_at c places)
+      (subst (λ z. CopiedFrom z (cluster_of (slice_get c.trace.ops i) (slice_index_or c.clusters i 0))) (as_they_are (slice_get c.trace.ops i)) (copied_there i false (slice_get c.trace.ops i) refl)) (copied_at places)
 
 module _ (p : Placed) where
-  abbrev Ops : List TraceOp
-  Ops = p.clustered.trace.ops
-
-  at_places : (places : List ℕ) (op : Op) → IsIn op (ops_at Ops places) → Comes Ops op
-  at_places places op h =
-      let r = in_flat (λ i. op_of (slice_get Ops i)) places op h in
-      record { origin = op; has = index_in Ops r.item (TracePlain op) (of_there (slice_get Ops r.item) op r.there); is = inl refl }
-
-  placed_places : (places : List ℕ) (op : Op) → IsIn op (placed_at p places) → Comes Ops op
-  placed_places places op h =
-      let r = in_flat (λ i. map (dismissed_if (is_freed p i)) (op_of (slice_get Ops i))) places op h in
-      let s = in_image (dismissed_if (is_freed p r.item)) (op_of (slice_get Ops r.item)) op r.there in
-      comes_if Ops (is_freed p r.item) op s.0 (index_in Ops r.item (TracePlain s.0) (of_there (slice_get Ops r.item) s.0 s.1)) s.2
+  pub placed_copied : (places : List ℕ) → AreCopied p.clustered (placed_at p places) (clusters_at p.clustered places)
+  placed_copied [] = record { many = refl; each = λ i cluster op a b. absurd cc }
+  placed_copied (i ∷ places) = one_more p.clustered (map (dismissed_if (is_freed p i)) (op_of (slice_get p.clustered.trace.ops i))) (placed_at p places) (cluster_of (slice_get p.clustered.trace.ops i) (slice_index_or p.clustered.clusters i 0)) (clusters_at p.clustered places)
+      (copied_there p.clustered i (is_freed p i) (slice_get p.clustered.trace.ops i) refl) (placed_copied places)
 
   -- made blocks
   pub record MadeFrom (x : Made) : Type 0 where
     pub edge : Edge
-    pub ops : List Op
-    pub has : IsIn x (made_of edge ops)
-    pub from : (op : Op) → IsIn op ops → Comes Ops op
+    pub copied : AreCopied p.clustered x.ops x.clusters
+
+  of_made : (e : Edge) (ops : List Op) (clusters : List ℕ) (x : Made) → IsIn x (made_of e ops clusters) → AreCopied p.clustered ops clusters → MadeFrom x
+  of_made e [] clusters x h a = absurd h
+  of_made e (op ∷ ops) clusters x (inl q) a = record { edge = e; copied = subst (λ (z : Made). AreCopied p.clustered z.ops z.clusters) (sym q) a }
+  of_made e (op ∷ ops) clusters x (inr h) a = absurd h
 
   from_splits : (splits : List EdgeCopies) (x : Made) → IsIn x (made_at_splits p splits) → MadeFrom x
   from_splits splits x h =
-      let r = in_flat (λ (s : EdgeCopies). made_of s.edge (ops_at Ops s.copies)) splits x h in
-      record { edge = r.item.edge; ops = ops_at Ops r.item.copies; has = r.there; from = at_places r.item.copies }
+      let r = in_flat (λ (s : EdgeCopies). made_of s.edge (ops_at p.clustered.trace.ops s.copies) (clusters_at p.clustered s.copies)) splits x h in
+      of_made r.item.edge (ops_at p.clustered.trace.ops r.item.copies) (clusters_at p.clustered r.item.copies) x r.there (copied_at p.clustered r.item.copies)
 
   from_joins : (joins : List Join) (rejoins : List Rejoin) (x : Made) → IsIn x (made_at_joins p joins rejoins) → MadeFrom x
   from_joins [] rejoins x h = absurd h
   from_joins (j ∷ joins) [] x h = absurd h
-  from_joins (j ∷ joins) (k ∷ rejoins) x h = by (in_either x (flat_map (λ e. made_of e (placed_at p k.copies)) j.edges) (made_at_joins p joins rejoins) h) (from_joins joins rejoins x)
+  from_joins (j ∷ joins) (k ∷ rejoins) x h = by (in_either x (flat_map (λ e. made_of e (placed_at p k.copies) (clusters_at p.clustered k.copies)) j.edges) (made_at_joins p joins rejoins) h) (from_joins joins rejoins x)
     where
-      by : IsIn x (flat_map (λ e. made_of e (placed_at p k.copies)) j.edges) ⊎ IsIn x (made_at_joins p joins rejoins) → (IsIn x (made_at_joins p joins rejoins) → MadeFrom x) → MadeFrom x
-      by (inl i) more = let r = in_flat (λ e. made_of e (placed_at p k.copies)) j.edges x i in record { edge = r.item; ops = placed_at p k.copies; has = r.there; from = placed_places k.copies }
+      by : IsIn x (flat_map (λ e. made_of e (placed_at p k.copies) (clusters_at p.clustered k.copies)) j.edges) ⊎ IsIn x (made_at_joins p joins rejoins) → (IsIn x (made_at_joins p joins rejoins) → MadeFrom x) → MadeFrom x
+      by (inl i) more =
+          let r = in_flat (λ e. made_of e (placed_at p k.copies) (clusters_at p.clustered k.copies)) j.edges x i in
+          of_made r.item (placed_at p k.copies) (clusters_at p.clustered k.copies) x r.there (placed_copied k.copies)
       by (inr i) more = more i
 
   pub made_from : (splits : List EdgeCopies) (rejoins : List Rejoin) (x : Made) → IsIn x (made_at_splits p splits ++ made_at_joins p p.clustered.trace.joins rejoins) → MadeFrom x
   made_from splits rejoins x h = elim (in_either x (made_at_splits p splits) (made_at_joins p p.clustered.trace.joins rejoins) h) [ inl i ↦ from_splits splits x i | inr i ↦ from_joins p.clustered.trace.joins rejoins x i ]
-
-pub of_made : (e : Edge) (ops : List Op) (x : Made) → IsIn x (made_of e ops) → (x.ops ≡ ops) × (x.clusters ≡ replicate (length ops) 0)
-of_made e [] x h = absurd h
-of_made e (op ∷ ops) x (inl q) = (ap (λ (z : Made). z.ops) q, ap (λ (z : Made). z.clusters) q)
-of_made e (op ∷ ops) x (inr h) = absurd h
-
--- the operations of a region stand on cluster 0
-
-pub on_zero : (to : ℕ → ℕ → ℕ) (ops : List TraceOp) (n : ℕ) (ws ds above : List ℕ) (x : InWord) (op : Op) (cluster : ℕ) → IsIn x (placed to ops (replicate n 0) ws ds above) → Plain op cluster ≡ x.item → cluster ≡ 0
-on_zero to [] n ws ds above x op cluster h i = absurd h
-on_zero to (o ∷ ops) zero ws ds above x op cluster h i = absurd h
-on_zero to (o ∷ ops) (suc n) [] ds above x op cluster h i = absurd h
-on_zero to (TracePlain o ∷ ops) (suc n) (w ∷ ws) ds above x op cluster (inl q) i = let z : Plain op cluster ≡ Plain (freed w above o) 0 = i ∙ ap (λ (k : InWord). k.item) q in cc (z)
-on_zero to (TracePlain o ∷ ops) (suc n) (w ∷ ws) ds above x op cluster (inr h) i = on_zero to ops n ws ds above x op cluster h i
-on_zero to (TraceSplit p y f live ∷ ops) (suc n) (w ∷ ws) ds above x op cluster (inl q) i = absurd (let z : Plain op cluster ≡ Split p y (record f { to = to f.from f.to }) (slice_index_or ds 0 0) = i ∙ ap (λ (k : InWord). k.item) q in cc)
-on_zero to (TraceSplit p y f live ∷ ops) (suc n) (w ∷ ws) ds above x op cluster (inr h) i = on_zero to ops n ws (drop 1 ds) (w ∷ above) x op cluster h i

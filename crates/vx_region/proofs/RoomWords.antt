@@ -1,7 +1,8 @@
 -- The words of a region have the room that the placement of its trace has found.
 use Rattle.std.proofs.Common.{◌≡◌, ℕ, suc, ◌+◌, ◌<◌, Bool, true, false, Some, List, [], ◌∷◌, ◌++◌, length, map, drop, slice_get, slice_index_or, refl, sym, ap, ◌∙◌, arith}
-use Rattle.std.specs.Prelude.{◌==◌, nat_eq, nat_le, replicate, if◌then◌else◌}
+use Rattle.std.specs.Prelude.{◌==◌, nat_eq, nat_le, if◌then◌else◌}
 use Rattle.std.specs.List.{filter, flat_map, list_any}
+use Rattle.vx_flow.specs.declared.graph.Edge.{Edge}
 use Rattle.vx_flow.specs.declared.graph.Op.{Op}
 use Rattle.vx_flow.specs.declared.graph.Op.TheVariants.{Compute, Select, Place, Load, Store, More, Input, Text, Decimal, Across}
 use Rattle.vx_flow.specs.declared.trace.TraceOp.{TraceOp}
@@ -19,7 +20,6 @@ use Rattle.vx_mixed.specs.Next.{InWord, freed, placed, in_word}
 use Rattle.vx_dep.specs.Compensation.{word_at}
 use Rattle.vx_sched.specs.Placement.{item_there}
 use Rattle.vx_region.specs.Regions.{item_in}
-use Rattle.vx_region.proofs.Alone.{same_there}
 use Rattle.vx_region.proofs.RoomAlike.{erased, room_alike}
 
 -- dismissed once more
@@ -41,12 +41,13 @@ map_append : {A B : Type 0} (f : A → B) (xs ys : List A) → map f (xs ++ ys) 
 map_append f [] ys = refl
 map_append f (x ∷ xs) ys = ap (λ z. f x ∷ z) (map_append f xs ys)
 
-abbrev zeros : ℕ → List ℕ
-zeros n = replicate n 0
+-- a split stands on cluster 0
+abbrev pub SplitsFirst : List TraceOp → List ℕ → Type 0
+SplitsFirst ops clusters = (i p : ℕ) (y : Bool) (e : Edge) (live : List ℕ) → slice_get ops i ≡ Some (TraceSplit p y e live) → slice_index_or clusters i 0 ≡ 0
 
-module _ (whole : List ℕ) (Ops : List TraceOp) (N : ℕ) (to : ℕ → ℕ → ℕ) (w : ℕ) where
+module _ (whole : List ℕ) (Ops : List TraceOp) (Clusters : List ℕ) (to : ℕ → ℕ → ℕ) (w : ℕ) where
   abbrev pub item_at : ℕ → List ClusteredItem
-  item_at i = item_there (slice_index_or (replicate N 0) i 0) (slice_get Ops i)
+  item_at i = item_there (slice_index_or Clusters i 0) (slice_get Ops i)
 
   abbrev pub in_this : ℕ → Bool
   in_this i = nat_eq (word_at whole i) w
@@ -75,40 +76,45 @@ module _ (whole : List ℕ) (Ops : List TraceOp) (N : ℕ) (to : ℕ → ℕ →
           ∙ more
           ∙ ap (λ t. map erased (flat_map item_at (if t then b ∷ filter in_this (numbers (b + 1) n) else filter in_this (numbers (b + 1) n)))) (sym (sym there ∙ q))
 
-  here : (b : ℕ) (op : TraceOp) → slice_get Ops b ≡ Some op → map erased (item_there 0 (Some op)) ≡ map erased (item_at b)
-  here b op at = ap (λ z. map erased (item_there 0 z)) (sym at) ∙ ap (λ z. map erased (item_there z (slice_get Ops b))) (sym (same_there N b 0))
+  here : (b cluster : ℕ) (op : TraceOp) → slice_get Ops b ≡ Some op → cluster ≡ slice_index_or Clusters b 0 → map erased (item_there cluster (Some op)) ≡ map erased (item_at b)
+  here b cluster op at is = ap (λ z. map erased (item_there cluster z)) (sym at) ∙ ap (λ z. map erased (item_there z (slice_get Ops b))) is
 
   -- the items that are put into word w are those of its places
-  pub words_found : (ops : List TraceOp) (ws ds above : List ℕ) (b : ℕ) → length ws ≡ length ops → ((k : ℕ) → k < length ops → slice_get Ops (b + k) ≡ slice_get ops k) → ((k : ℕ) → k < length ops → slice_index_or ws k 0 ≡ word_at whole (b + k)) →
-      Put (placed to ops (zeros (length ops)) ws ds above) ≡ map erased (Found b (length ops))
-  words_found [] ws ds above b n at there = refl
-  words_found (op ∷ ops) [] ds above b n at there = absurd (omega (arith, n))
-  words_found (TracePlain op ∷ ops) (v ∷ ws) ds above b n at there =
+  pub words_found : SplitsFirst Ops Clusters → (ops : List TraceOp) (cs ws ds above : List ℕ) (b : ℕ) → length cs ≡ length ops → length ws ≡ length ops → ((k : ℕ) → k < length ops → slice_get Ops (b + k) ≡ slice_get ops k) →
+      ((k : ℕ) → k < length ops → slice_index_or cs k 0 ≡ slice_index_or Clusters (b + k) 0) → ((k : ℕ) → k < length ops → slice_index_or ws k 0 ≡ word_at whole (b + k)) →
+      Put (placed to ops cs ws ds above) ≡ map erased (Found b (length ops))
+  words_found first [] cs ws ds above b c n at stands there = refl
+  words_found first (op ∷ ops) [] ws ds above b c n at stands there = absurd (omega (arith, c))
+  words_found first (op ∷ ops) (x ∷ cs) [] ds above b c n at stands there = absurd (omega (arith, n))
+  words_found first (TracePlain op ∷ ops) (x ∷ cs) (v ∷ ws) ds above b c n at stands there =
       let z : b + 0 ≡ b = omega arith in
-      let first : slice_get Ops b ≡ Some (TracePlain op) = ap (slice_get Ops) (sym z) ∙ at 0 (omega arith) in
+      let is : slice_get Ops b ≡ Some (TracePlain op) = ap (slice_get Ops) (sym z) ∙ at 0 (omega arith) in
       let word : v ≡ word_at whole b = there 0 (omega arith) ∙ ap (word_at whole) z in
-      let same : map erased (item_in (Plain (freed v above op) 0) ∷ []) ≡ map erased (item_at b) =
-      ap (λ o. record { cluster = 0; item = PlainItem o } ∷ []) (dismissed_again (list_any (λ s. nat_le v s) above) op) ∙ here b (TracePlain op) first in
-      step v (Plain (freed v above op) 0) (placed to ops (zeros (length ops)) ws ds above) b (length ops) word same
-      (words_found ops ws ds above (b + 1) (omega (arith, n))
+      let cluster : x ≡ slice_index_or Clusters b 0 = stands 0 (omega arith) ∙ ap (λ i. slice_index_or Clusters i 0) z in
+      let same : map erased (item_in (Plain (freed v above op) x) ∷ []) ≡ map erased (item_at b) =
+      ap (λ o. record { cluster = x; item = PlainItem o } ∷ []) (dismissed_again (list_any (λ s. nat_le v s) above) op) ∙ here b x (TracePlain op) is cluster in
+      step v (Plain (freed v above op) x) (placed to ops cs ws ds above) b (length ops) word same
+      (words_found first ops cs ws ds above (b + 1) (omega (arith, c)) (omega (arith, n))
       (λ k lt. let q : b + 1 + k ≡ b + suc k = omega arith in ap (slice_get Ops) q ∙ at (suc k) (omega (arith, lt)))
+      (λ k lt. let q : b + 1 + k ≡ b + suc k = omega arith in stands (suc k) (omega (arith, lt)) ∙ ap (λ i. slice_index_or Clusters i 0) (sym q))
       (λ k lt. let q : b + 1 + k ≡ b + suc k = omega arith in there (suc k) (omega (arith, lt)) ∙ ap (word_at whole) (sym q)))
-  words_found (TraceSplit p y e live ∷ ops) (v ∷ ws) ds above b n at there =
+  words_found first (TraceSplit p y e live ∷ ops) (x ∷ cs) (v ∷ ws) ds above b c n at stands there =
       let z : b + 0 ≡ b = omega arith in
-      let first : slice_get Ops b ≡ Some (TraceSplit p y e live) = ap (slice_get Ops) (sym z) ∙ at 0 (omega arith) in
+      let is : slice_get Ops b ≡ Some (TraceSplit p y e live) = ap (slice_get Ops) (sym z) ∙ at 0 (omega arith) in
       let word : v ≡ word_at whole b = there 0 (omega arith) ∙ ap (word_at whole) z in
-      step v (Split p y (record e { to = to e.from e.to }) (slice_index_or ds 0 0)) (placed to ops (zeros (length ops)) ws (drop 1 ds) (v ∷ above)) b (length ops) word (here b (TraceSplit p y e live) first)
-      (words_found ops ws (drop 1 ds) (v ∷ above) (b + 1) (omega (arith, n))
+      step v (Split p y (record e { to = to e.from e.to }) (slice_index_or ds 0 0)) (placed to ops cs ws (drop 1 ds) (v ∷ above)) b (length ops) word (here b 0 (TraceSplit p y e live) is (sym (first b p y e live is)))
+      (words_found first ops cs ws (drop 1 ds) (v ∷ above) (b + 1) (omega (arith, c)) (omega (arith, n))
       (λ k lt. let q : b + 1 + k ≡ b + suc k = omega arith in ap (slice_get Ops) q ∙ at (suc k) (omega (arith, lt)))
+      (λ k lt. let q : b + 1 + k ≡ b + suc k = omega arith in stands (suc k) (omega (arith, lt)) ∙ ap (λ i. slice_index_or Clusters i 0) (sym q))
       (λ k lt. let q : b + 1 + k ≡ b + suc k = omega arith in there (suc k) (omega (arith, lt)) ∙ ap (word_at whole) (sym q)))
 
 -- so they have room
-pub words_have_room : (m : Numbers) (homes : Homes) (ops : List TraceOp) (words drains : List ℕ) (to : ℕ → ℕ → ℕ) (w : ℕ) → length words ≡ length ops →
-    has_room m homes (flat_map (λ i. item_there (slice_index_or (zeros (length ops)) i 0) (slice_get ops i)) (filter (λ i. nat_eq (word_at words i) w) (numbers 0 (length words)))) ≡ true →
-    has_room m homes (map item_in (in_word (placed to ops (zeros (length ops)) words drains []) w)) ≡ true
-words_have_room m homes ops words drains to w many room =
-    let put = map item_in (in_word (placed to ops (zeros (length ops)) words drains []) w) in
-    let items : List ClusteredItem = flat_map (λ i. item_there (slice_index_or (zeros (length ops)) i 0) (slice_get ops i)) (filter (λ i. nat_eq (word_at words i) w) (numbers 0 (length ops))) in
-    let same : map erased put ≡ map erased items = words_found words ops (length ops) to w ops words drains [] 0 many (λ k lt. let z : 0 + k ≡ k = omega arith in ap (slice_get ops) z) (λ k lt. let z : k ≡ 0 + k = omega arith in ap (word_at words) z) in
-    let found : has_room m homes items ≡ true = ap (λ n. has_room m homes (flat_map (λ i. item_there (slice_index_or (zeros (length ops)) i 0) (slice_get ops i)) (filter (λ i. nat_eq (word_at words i) w) (numbers 0 n)))) (sym many) ∙ room in
+pub words_have_room : (m : Numbers) (homes : Homes) (ops : List TraceOp) (clusters words drains : List ℕ) (to : ℕ → ℕ → ℕ) (w : ℕ) → length clusters ≡ length ops → length words ≡ length ops → SplitsFirst ops clusters →
+    has_room m homes (flat_map (λ i. item_there (slice_index_or clusters i 0) (slice_get ops i)) (filter (λ i. nat_eq (word_at words i) w) (numbers 0 (length words)))) ≡ true →
+    has_room m homes (map item_in (in_word (placed to ops clusters words drains []) w)) ≡ true
+words_have_room m homes ops clusters words drains to w each many first room =
+    let put = map item_in (in_word (placed to ops clusters words drains []) w) in
+    let items : List ClusteredItem = flat_map (λ i. item_there (slice_index_or clusters i 0) (slice_get ops i)) (filter (λ i. nat_eq (word_at words i) w) (numbers 0 (length ops))) in
+    let same : map erased put ≡ map erased items = words_found words ops clusters to w first ops clusters words drains [] 0 each many (λ k lt. let z : 0 + k ≡ k = omega arith in ap (slice_get ops) z) (λ k lt. let z : k ≡ 0 + k = omega arith in ap (λ i. slice_index_or clusters i 0) z) (λ k lt. let z : k ≡ 0 + k = omega arith in ap (word_at words) z) in
+    let found : has_room m homes items ≡ true = ap (λ n. has_room m homes (flat_map (λ i. item_there (slice_index_or clusters i 0) (slice_get ops i)) (filter (λ i. nat_eq (word_at words i) w) (numbers 0 n)))) (sym many) ∙ room in
     sym (room_alike m homes put) ∙ ap (has_room m homes) same ∙ room_alike m homes items ∙ found

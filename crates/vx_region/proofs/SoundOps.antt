@@ -1,21 +1,23 @@
 -- What is known of an operation that comes from a sound graph: the banks of the values that it names, and its arrays.
-use Rattle.std.proofs.Common.{◌≡◌, ◌⊎◌, inl, inr, ℕ, ◌<◌, Bool, true, false, Some, List, [], ◌∷◌, ◌++◌, length, map, slice_get, refl, sym, ap, ◌∙◌, subst}
+use Rattle.std.proofs.Common.{◌≡◌, ◌⊎◌, inl, inr, ℕ, ◌+◌, ◌*◌, ◌<◌, Bool, true, false, Some, List, [], ◌∷◌, ◌++◌, length, map, slice_get, refl, sym, ap, ◌∙◌, subst, arith}
 use Rattle.std.specs.Prelude.{◌%◌, if◌then◌else◌}
 use Rattle.std.proofs.Math.Nat.{mod-eq_of_lt}
+use Rattle.std.proofs.lemmas.Nat.{mod-mul-add}
+use Rattle.std.proofs.lemmas.Option.{slice_get_within}
 use Rattle.vx_base.specs.declared.arithmetic.Code.{Code}
-use Rattle.vx_base.specs.declared.arithmetic.Code.TheVariants.{ToBranch}
-use Rattle.vx_flow.specs.declared.graph.Bank.TheVariants.{Branch}
+use Rattle.vx_base.specs.declared.arithmetic.Code.TheVariants.{Add, Sub, And, Or, Xor, Shl, Shr, Shru, Sh2add, Max, Min, Mov, ToGeneral, ToBranch, Mpylu, Mpyhs, Div, Rem}
+use Rattle.vx_flow.specs.declared.graph.Bank.TheVariants.{General, Branch}
 use Rattle.vx_flow.specs.declared.graph.Graph.{Graph}
 use Rattle.vx_flow.specs.declared.graph.Op.{Op}
 use Rattle.vx_flow.specs.declared.graph.Op.TheVariants.{Compute, Select, Place, Load, Store, More, Input, Text, Decimal, Across}
 use Rattle.vx_flow.specs.declared.graph.Operand.{Operand}
 use Rattle.vx_flow.specs.declared.graph.Operand.TheVariants.{Held, Number, Stack}
+use Rattle.vx_flow.specs.declared.trace.TraceOp.TheVariants.{Plain}
 use Rattle.vx_flow.specs.Effects.{IsIn, dismissed, is_unary, value_in, reads, writes}
-use Rattle.vx_flow.specs.Sound.{bank_written, tests_of, arrays_of, Sound}
-use Rattle.vx_flow.proofs.Members.{in_left, in_right, in_either}
-use Rattle.vx_mixed.specs.Origins.{whole, whole_operand, whole_op, ComesFrom, graph_op, copy}
-use Rattle.vx_mixed.specs.Valid.{names_of}
-use Rattle.vx_region.specs.Giving.{held_by, first_operand, second_operand, general_result, one_of, general_values}
+use Rattle.vx_flow.specs.Sound.{bank_written, operands_of, tests_of, arrays_of, HasOperation, Sound}
+use Rattle.vx_flow.proofs.Members.{in_either}
+use Rattle.vx_mixed.specs.Origins.{whole, whole_operand, whole_op, copy_of, ComesFrom, graph_op, copy}
+use Rattle.vx_bug.specs.Clusters.{general_reads}
 
 -- what does not depend on dismissals nor on values
 
@@ -52,6 +54,10 @@ tests_whole : (n : ℕ) (op : Op) → tests_of (whole_op n op) ≡ map (whole n)
 tests_whole n (Select v p a b) = refl
 tests_whole n op = refl
 
+operands_dismissed : (op : Op) → operands_of (dismissed op) ≡ operands_of op
+operands_dismissed (Load v a p d) = refl
+operands_dismissed op = refl
+
 pub reads_dismissed : (op : Op) → reads (dismissed op) ≡ reads op
 reads_dismissed (Load v a p d) = refl
 reads_dismissed op = refl
@@ -65,84 +71,147 @@ in_map f [] x h = absurd h
 in_map f (y ∷ ys) x (inl e) = inl (ap f e)
 in_map f (y ∷ ys) x (inr h) = inr (in_map f ys x h)
 
--- what is known
+-- the operands of a computation
+
+first_operand : (code : Code) (v : ℕ) (a b : Operand) → IsIn a (operands_of (Compute code v a b))
+first_operand Add v a b = inl refl
+first_operand Sub v a b = inl refl
+first_operand And v a b = inl refl
+first_operand Or v a b = inl refl
+first_operand Xor v a b = inl refl
+first_operand Shl v a b = inl refl
+first_operand Shr v a b = inl refl
+first_operand Shru v a b = inl refl
+first_operand Sh2add v a b = inl refl
+first_operand Max v a b = inl refl
+first_operand Min v a b = inl refl
+first_operand Mov v a b = inl refl
+first_operand (ToGeneral c) v a b = inl refl
+first_operand (ToBranch c) v a b = inl refl
+first_operand Mpylu v a b = inl refl
+first_operand Mpyhs v a b = inl refl
+first_operand Div v a b = inl refl
+first_operand Rem v a b = inl refl
+
+second_operand : (code : Code) (v : ℕ) (a b : Operand) → is_unary code ≡ false → IsIn b (operands_of (Compute code v a b))
+second_operand Add v a b e = inr (inl refl)
+second_operand Sub v a b e = inr (inl refl)
+second_operand And v a b e = inr (inl refl)
+second_operand Or v a b e = inr (inl refl)
+second_operand Xor v a b e = inr (inl refl)
+second_operand Shl v a b e = inr (inl refl)
+second_operand Shr v a b e = inr (inl refl)
+second_operand Shru v a b e = inr (inl refl)
+second_operand Sh2add v a b e = inr (inl refl)
+second_operand Max v a b e = inr (inl refl)
+second_operand Min v a b e = inr (inl refl)
+second_operand Mov v a b e = absurd (cc)
+second_operand (ToGeneral c) v a b e = inr (inl refl)
+second_operand (ToBranch c) v a b e = inr (inl refl)
+second_operand Mpylu v a b e = inr (inl refl)
+second_operand Mpyhs v a b e = inr (inl refl)
+second_operand Div v a b e = inr (inl refl)
+second_operand Rem v a b e = inr (inl refl)
+
+-- a general value that is read is an operand, of the operation with values in place of their copies too
+
+held_in : (n v : ℕ) (x : Operand) → IsIn v (value_in x) → Held (whole n v) ≡ whole_operand n x
+held_in n v (Held u) (inl e) = ap (λ z. Held (whole n z)) e
+held_in n v (Held u) (inr h) = absurd h
+held_in n v (Number k) h = absurd h
+held_in n v Stack h = absurd h
+
+one_of : (n v : ℕ) (x : Operand) (xs : List Operand) → IsIn v (value_in x) → IsIn (whole_operand n x) xs → IsIn (Held (whole n v)) xs
+one_of n v x xs h i = subst (λ z. IsIn z xs) (sym (held_in n v x h)) i
+
+two_of : (n v : ℕ) (x y : Operand) (xs : List Operand) → IsIn v (value_in x ++ value_in y) → IsIn (whole_operand n x) xs → IsIn (whole_operand n y) xs → IsIn (Held (whole n v)) xs
+two_of n v x y xs h i j = elim (in_either v (value_in x) (value_in y) h) [ inl a ↦ one_of n v x xs a i | inr b ↦ one_of n v y xs b j ]
+
+abbrev NotAcross : Op → Type 0
+NotAcross op = (v u : ℕ) → op ≡ Across v u → ⊥
+
+held_operand : (n v : ℕ) (op : Op) → NotAcross op → IsIn v (general_reads (Plain op)) → IsIn (Held (whole n v)) (operands_of (whole_op n op))
+held_operand n v (Compute code w a b) no h = by (is_unary code) refl h
+  where
+    by : (u : Bool) → is_unary code ≡ u → IsIn v (if u then value_in a else value_in a ++ value_in b) → IsIn (Held (whole n v)) (operands_of (whole_op n (Compute code w a b)))
+    by true e i = one_of n v a (operands_of (whole_op n (Compute code w a b))) i (first_operand code (whole n w) (whole_operand n a) (whole_operand n b))
+    by false e i = two_of n v a b (operands_of (whole_op n (Compute code w a b))) i (first_operand code (whole n w) (whole_operand n a) (whole_operand n b)) (second_operand code (whole n w) (whole_operand n a) (whole_operand n b) e)
+held_operand n v (Select w p a b) no h = two_of n v a b (operands_of (whole_op n (Select w p a b))) h (inl refl) (inr (inl refl))
+held_operand n v (Place w a i) no h = one_of n v i (operands_of (whole_op n (Place w a i))) h (inl refl)
+held_operand n v (Load w a p d) no h = one_of n v p (operands_of (whole_op n (Load w a p d))) h (inl refl)
+held_operand n v (Store a p x) no h = two_of n v p x (operands_of (whole_op n (Store a p x))) h (inl refl) (inr (inl refl))
+held_operand n v (More w) no h = absurd h
+held_operand n v (Input w) no h = absurd h
+held_operand n v (Text k) no h = absurd h
+held_operand n v (Decimal x) no h = one_of n v x (operands_of (whole_op n (Decimal x))) h (inl refl)
+held_operand n v (Across w u) no h = absurd (no w u refl)
+
+-- what is known: the bank of a copy is that of its value
 
 pub record Known (graph : Graph) (op : Op) : Type 0 where
-  pub results : (v : ℕ) → IsIn v (writes op) → slice_get graph.banks v ≡ Some (bank_written op)
-  pub tests : (v : ℕ) → IsIn v (tests_of op) → v < length graph.banks → slice_get graph.banks v ≡ Some Branch
+  pub results : (v : ℕ) → IsIn v (writes op) → slice_get graph.banks (v % length graph.banks) ≡ Some (bank_written op)
+  pub operands : (v : ℕ) → IsIn v (general_reads (Plain op)) → slice_get graph.banks (v % length graph.banks) ≡ Some General
+  pub tests : (v : ℕ) → IsIn v (tests_of op) → slice_get graph.banks (v % length graph.banks) ≡ Some Branch
   pub arrays : (a : ℕ) → IsIn a (arrays_of op) → a < length graph.arrays
 
-pub known : (graph : Graph) → Sound graph → (op : Op) → ((v u : ℕ) → op ≡ Across v u → ⊥) → ComesFrom graph op → Known graph op
-known graph sound op not (graph_op origin has same written names) =
+not_across : (graph : Graph) → Sound graph → (op origin : Op) → dismissed (whole_op (length graph.banks) op) ≡ dismissed origin → ((v u : ℕ) → origin ≡ Across v u → ⊥) → NotAcross op
+not_across graph sound op origin same no v u e = by origin no (ap (λ z. dismissed (whole_op (length graph.banks) z)) (sym e) ∙ same)
+  where
+    by : (o : Op) → ((v u : ℕ) → o ≡ Across v u → ⊥) → Across (whole (length graph.banks) v) (whole (length graph.banks) u) ≡ dismissed o → ⊥
+    by (Compute code w a b) n q = cc
+    by (Select w p a b) n q = cc
+    by (Place w a i) n q = cc
+    by (Load w a p d) n q = cc
+    by (Store a p x) n q = cc
+    by (More w) n q = cc
+    by (Input w) n q = cc
+    by (Text k) n q = cc
+    by (Decimal x) n q = cc
+    by (Across w x) n q = n w x refl
+
+pub copy_is_whole : (n u k : ℕ) → u < n → copy_of n u k % n ≡ u
+copy_is_whole n u k lt = mod-mul-add (k + 1) n u lt
+
+pub known : (graph : Graph) → Sound graph → (op : Op) → ComesFrom graph op → Known graph op
+known graph sound op (graph_op origin has same written names) =
     let n = length graph.banks in
     record {
-      results = λ v h. sound.results origin v has (subst (IsIn v) written h) ∙ ap Some (sym (sym (bank_whole n op) ∙ sym (bank_dismissed (whole_op n op)) ∙ ap bank_written same ∙ bank_dismissed origin));
-      tests = λ v h lt.
+      results = λ v h.
+          let at : slice_get graph.banks v ≡ Some (bank_written origin) = sound.results origin v has (subst (IsIn v) written h) in
+          ap (slice_get graph.banks) (mod-eq_of_lt (slice_get_within graph.banks v (bank_written origin) at)) ∙ at ∙ ap Some (sym (sym (bank_whole n op) ∙ sym (bank_dismissed (whole_op n op)) ∙ ap bank_written same ∙ bank_dismissed origin));
+      operands = λ v h.
+          let no : NotAcross op = not_across graph sound op origin same (λ x y e. sound.no_across x y (subst (HasOperation graph) e has)) in
+          let i : IsIn (Held (whole n v)) (operands_of (whole_op n op)) = held_operand n v op no h in
+          sound.operands origin (Held (whole n v)) has (subst (IsIn (Held (whole n v))) (sym (operands_dismissed (whole_op n op)) ∙ ap operands_of same ∙ operands_dismissed origin) i);
+      tests = λ v h.
           let tests : map (whole n) (tests_of op) ≡ tests_of origin = sym (tests_whole n op) ∙ sym (tests_dismissed (whole_op n op)) ∙ ap tests_of same ∙ tests_dismissed origin in
-          let at : IsIn (v % n) (tests_of origin) = subst (IsIn (v % n)) tests (in_map (whole n) (tests_of op) v h) in
-          ap (slice_get graph.banks) (sym (mod-eq_of_lt lt)) ∙ sound.tests origin (v % n) has at;
+          sound.tests origin (v % n) has (subst (IsIn (v % n)) tests (in_map (whole n) (tests_of op) v h));
       arrays = λ a h. sound.arrays origin a has (subst (IsIn a) (sym (arrays_whole n op) ∙ sym (arrays_dismissed (whole_op n op)) ∙ ap arrays_of same ∙ arrays_dismissed origin) h);
     }
-known graph sound op not (copy {u = u} {k = k} at low) = absurd (not _ u refl)
-
--- each value that is named is general, a test, or a branch value that is written
-
-abbrev pub Kinds : Op → ℕ → Type 0
-Kinds op v = IsIn v (general_values op) ⊎ (IsIn v (tests_of op) ⊎ (IsIn v (writes op) × (bank_written op ≡ Branch)))
-
-value_held : (v : ℕ) (x : Operand) → IsIn v (value_in x) → IsIn v (one_of (held_by x))
-value_held v (Held u) h = h
-value_held v (Number n) h = h
-value_held v Stack h = h
-
-module _ (v : ℕ) (op : Op) where
-  of_first : IsIn v (one_of (first_operand op)) → Kinds op v
-  of_first h = inl (in_left v (one_of (first_operand op)) (one_of (second_operand op) ++ one_of (general_result op)) h)
-
-  of_second : IsIn v (one_of (second_operand op)) → Kinds op v
-  of_second h = inl (in_right v (one_of (first_operand op)) (one_of (second_operand op) ++ one_of (general_result op)) (in_left v (one_of (second_operand op)) (one_of (general_result op)) h))
-
-  of_result : IsIn v (one_of (general_result op)) → Kinds op v
-  of_result h = inl (in_right v (one_of (first_operand op)) (one_of (second_operand op) ++ one_of (general_result op)) (in_right v (one_of (second_operand op)) (one_of (general_result op)) h))
-
-two_read : (v : ℕ) (a b : Operand) → IsIn v (value_in a ++ value_in b) → IsIn v (one_of (held_by a)) ⊎ IsIn v (one_of (held_by b))
-two_read v a b h = elim (in_either v (value_in a) (value_in b) h) [ inl i ↦ inl (value_held v a i) | inr i ↦ inr (value_held v b i) ]
-
-read_kind : (v : ℕ) (op : Op) → IsIn v (reads op) → Kinds op v
-read_kind v (Compute code w a b) h = by (is_unary code) h
+known graph sound op (copy {u = u} {k = k} at low) =
+    let n = length graph.banks in
+    let lt : u < n = slice_get_within graph.banks u General at in
+    record {
+      results = λ v h. by_one (copy_of n u k) v h (ap (slice_get graph.banks) (copy_is_whole n u k lt) ∙ at);
+      operands = λ v h. by_one u v h (ap (slice_get graph.banks) (mod-eq_of_lt lt) ∙ at);
+      tests = λ v h. absurd h;
+      arrays = λ a h. absurd h;
+    }
   where
-    both : IsIn v (value_in a ++ value_in b) → Kinds (Compute code w a b) v
-    both h = elim (two_read v a b h) [ inl i ↦ of_first v (Compute code w a b) i | inr i ↦ of_second v (Compute code w a b) i ]
+    by_one : (w v : ℕ) → IsIn v (w ∷ []) → slice_get graph.banks (w % length graph.banks) ≡ Some General → slice_get graph.banks (v % length graph.banks) ≡ Some General
+    by_one w v (inl e) q = ap (λ z. slice_get graph.banks (z % length graph.banks)) e ∙ q
+    by_one w v (inr h) q = absurd h
 
-    by : (u : Bool) → IsIn v (if u then value_in a else value_in a ++ value_in b) → Kinds (Compute code w a b) v
-    by true h = of_first v (Compute code w a b) (value_held v a h)
-    by false h = both h
-read_kind v (Select w p a b) (inl e) = inr (inl (inl e))
-read_kind v (Select w p a b) (inr h) = elim (two_read v a b h) [ inl i ↦ of_first v (Select w p a b) i | inr i ↦ of_second v (Select w p a b) i ]
-read_kind v (Place w a i) h = of_first v (Place w a i) (value_held v i h)
-read_kind v (Load w a p d) h = of_first v (Load w a p d) (value_held v p h)
-read_kind v (Store a p x) h = elim (two_read v p x h) [ inl i ↦ of_first v (Store a p x) i | inr i ↦ of_second v (Store a p x) i ]
-read_kind v (More w) h = absurd h
-read_kind v (Input w) h = absurd h
-read_kind v (Text n) h = absurd h
-read_kind v (Decimal x) h = of_first v (Decimal x) (value_held v x h)
-read_kind v (Across w u) h = of_first v (Across w u) h
-
-computed_kind : (v : ℕ) (code : Code) (w : ℕ) (a b : Operand) → IsIn v (w ∷ []) → IsIn v (one_of (general_result (Compute code w a b))) ⊎ (bank_written (Compute code w a b) ≡ Branch)
-computed_kind v (ToBranch compare) w a b h = inr refl
-computed_kind v code w a b h = inl h
-
-written_kind : (v : ℕ) (op : Op) → IsIn v (writes op) → Kinds op v
-written_kind v (Compute code w a b) h = elim (computed_kind v code w a b h) [ inl i ↦ of_result v (Compute code w a b) i | inr e ↦ inr (inr (h, e)) ]
-written_kind v (Select w p a b) h = of_result v (Select w p a b) h
-written_kind v (Place w a i) h = of_result v (Place w a i) h
-written_kind v (Load w a p d) h = of_result v (Load w a p d) h
-written_kind v (Store a p x) h = absurd h
-written_kind v (More w) h = of_result v (More w) h
-written_kind v (Input w) h = of_result v (Input w) h
-written_kind v (Text n) h = absurd h
-written_kind v (Decimal x) h = absurd h
-written_kind v (Across w u) h = of_result v (Across w u) h
-
-pub named_kind : (v : ℕ) (op : Op) → IsIn v (names_of op) → Kinds op v
-named_kind v op h = elim (in_either v (reads op) (writes op) h) [ inl i ↦ read_kind v op i | inr i ↦ written_kind v op i ]
+-- each value that is read is a general one or a test
+pub read_kind : (v : ℕ) (op : Op) → IsIn v (reads op) → IsIn v (general_reads (Plain op)) ⊎ IsIn v (tests_of op)
+read_kind v (Select w p a b) (inl e) = inr (inl e)
+read_kind v (Select w p a b) (inr h) = inl h
+read_kind v (Compute code w a b) h = inl h
+read_kind v (Place w a i) h = inl h
+read_kind v (Load w a p d) h = inl h
+read_kind v (Store a p x) h = inl h
+read_kind v (More w) h = inl h
+read_kind v (Input w) h = inl h
+read_kind v (Text n) h = inl h
+read_kind v (Decimal x) h = inl h
+read_kind v (Across w u) h = inl h

@@ -6,6 +6,7 @@ use Rattle.vx_flow.specs.declared.graph.Edge.{Edge}
 use Rattle.vx_flow.specs.declared.graph.Exit.{Exit}
 use Rattle.vx_flow.specs.declared.graph.Exit.TheVariants.{Goto, Split as Branches, Call, Return, Ends}
 use Rattle.vx_flow.specs.declared.graph.Op.{Op}
+use Rattle.vx_flow.specs.declared.trace.Clustered.{Clustered}
 use Rattle.vx_flow.specs.declared.trace.TraceOp.{TraceOp}
 use Rattle.vx_flow.specs.declared.trace.TraceOp.TheVariants.{Plain as TracePlain, Split as TraceSplit}
 use Rattle.vx_flow.specs.Effects.{IsIn}
@@ -19,7 +20,7 @@ use Rattle.vx_mixed.proofs.PathOf.{from_inside}
 use Rattle.vx_mixed.proofs.TraceFacts.{split_fact}
 use Rattle.vx_dep.specs.declared.copies.EdgeCopies.{EdgeCopies}
 use Rattle.vx_dep.specs.Compensation.{splits_from, copies_at_split}
-use Rattle.vx_region.specs.Planned.{ops_at, made_of}
+use Rattle.vx_region.specs.Planned.{ops_at, clusters_at, made_of}
 use Rattle.vx_region.proofs.MadeCopies.{Copy, made_all, Distinct}
 
 -- each split has an edge of its own
@@ -28,26 +29,26 @@ Once [] = Unit {0}
 Once (TracePlain op ∷ ops) = Once ops
 Once (TraceSplit p y e live ∷ ops) = ((q : ℕ) (z : Bool) (f : Edge) (l : List ℕ) → IsIn (TraceSplit q z f l) ops → f ≢ e) × Once ops
 
-module _ (words : List ℕ) (whole : List TraceOp) where
+module _ (words : List ℕ) (c : Clustered) where
   abbrev pub split_copies : ℕ → List TraceOp → List Copy
   split_copies i [] = []
   split_copies i (TracePlain op ∷ ops) = split_copies (i + 1) ops
-  split_copies i (TraceSplit p y e live ∷ ops) = record { edge = e; ops = ops_at whole (copies_at_split words i) } ∷ split_copies (i + 1) ops
+  split_copies i (TraceSplit p y e live ∷ ops) = record { edge = e; ops = ops_at c.trace.ops (copies_at_split words i); clusters = clusters_at c (copies_at_split words i) } ∷ split_copies (i + 1) ops
 
-  pub made_splits : (i : ℕ) (ops : List TraceOp) → flat_map (λ (x : EdgeCopies). made_of x.edge (ops_at whole x.copies)) (splits_from words i ops) ≡ made_all (split_copies i ops)
+  pub made_splits : (i : ℕ) (ops : List TraceOp) → flat_map (λ (x : EdgeCopies). made_of x.edge (ops_at c.trace.ops x.copies) (clusters_at c x.copies)) (splits_from words i ops) ≡ made_all (split_copies i ops)
   made_splits i [] = refl
   made_splits i (TracePlain op ∷ ops) = made_splits (i + 1) ops
-  made_splits i (TraceSplit p y e live ∷ ops) = ap (λ z. made_of e (ops_at whole (copies_at_split words i)) ++ z) (made_splits (i + 1) ops)
+  made_splits i (TraceSplit p y e live ∷ ops) = ap (λ z. made_of e (ops_at c.trace.ops (copies_at_split words i)) (clusters_at c (copies_at_split words i)) ++ z) (made_splits (i + 1) ops)
 
-  pub has_split : (i k : ℕ) (ops : List TraceOp) (p : ℕ) (y : Bool) (e : Edge) (live : List ℕ) → slice_get ops k ≡ Some (TraceSplit p y e live) → IsIn (record { edge = e; ops = ops_at whole (copies_at_split words (i + k)) }) (split_copies i ops)
+  pub has_split : (i k : ℕ) (ops : List TraceOp) (p : ℕ) (y : Bool) (e : Edge) (live : List ℕ) → slice_get ops k ≡ Some (TraceSplit p y e live) → IsIn (record { edge = e; ops = ops_at c.trace.ops (copies_at_split words (i + k)); clusters = clusters_at c (copies_at_split words (i + k)) }) (split_copies i ops)
   has_split i k [] p y e live h = absurd (cc)
   has_split i zero (TracePlain op ∷ ops) p y e live h = absurd (cc)
   has_split i zero (TraceSplit q z f l ∷ ops) p y e live h =
       let s : f ≡ e = cc in
       let n : i + 0 ≡ i = omega arith in
-      inl (ap (λ (x : Edge). record { edge = x; ops = ops_at whole (copies_at_split words (i + 0)) }) (sym s) ∙ ap (λ x. record { edge = f; ops = ops_at whole (copies_at_split words x) }) n)
-  has_split i (suc k) (TracePlain op ∷ ops) p y e live h = let n : i + 1 + k ≡ i + suc k = omega arith in subst (λ x. IsIn (record { edge = e; ops = ops_at whole (copies_at_split words x) }) (split_copies (i + 1) ops)) n (has_split (i + 1) k ops p y e live h)
-  has_split i (suc k) (TraceSplit q z f l ∷ ops) p y e live h = let n : i + 1 + k ≡ i + suc k = omega arith in inr (subst (λ x. IsIn (record { edge = e; ops = ops_at whole (copies_at_split words x) }) (split_copies (i + 1) ops)) n (has_split (i + 1) k ops p y e live h))
+      inl (ap (λ (x : Edge). record { edge = x; ops = ops_at c.trace.ops (copies_at_split words (i + 0)); clusters = clusters_at c (copies_at_split words (i + 0)) }) (sym s) ∙ ap (λ x. record { edge = f; ops = ops_at c.trace.ops (copies_at_split words x); clusters = clusters_at c (copies_at_split words x) }) n)
+  has_split i (suc k) (TracePlain op ∷ ops) p y e live h = let n : i + 1 + k ≡ i + suc k = omega arith in subst (λ x. IsIn (record { edge = e; ops = ops_at c.trace.ops (copies_at_split words x); clusters = clusters_at c (copies_at_split words x) }) (split_copies (i + 1) ops)) n (has_split (i + 1) k ops p y e live h)
+  has_split i (suc k) (TraceSplit q z f l ∷ ops) p y e live h = let n : i + 1 + k ≡ i + suc k = omega arith in inr (subst (λ x. IsIn (record { edge = e; ops = ops_at c.trace.ops (copies_at_split words x); clusters = clusters_at c (copies_at_split words x) }) (split_copies (i + 1) ops)) n (has_split (i + 1) k ops p y e live h))
 
   pub of_split : (i : ℕ) (ops : List TraceOp) (x : Copy) → IsIn x (split_copies i ops) → (p : ℕ) × (y : Bool) × (live : List ℕ) × IsIn (TraceSplit p y x.edge live) ops
   of_split i [] x h = absurd h

@@ -3,8 +3,7 @@ use Rattle.std.proofs.Common.{◌≡◌, ◌≢◌, ℕ, ◌+◌, ◌≤◌, tru
 use Rattle.std.proofs.lemmas.List.{append_assoc, append-nil, length-append}
 use Rattle.vx_flow.specs.declared.graph.Block.{Block}
 use Rattle.vx_flow.specs.declared.graph.Graph.{Graph}
-use Rattle.vx_flow.specs.declared.trace.Clustered.{Clustered}
-use Rattle.vx_flow.specs.declared.trace.Homes.{Homes}
+use Rattle.vx_flow.specs.declared.trace.Trace.{Trace}
 use Rattle.vx_isa.specs.Numbers.{Numbers, is_machine}
 use Rattle.vx_machine.specs.Items.{latency_of_op}
 use Rattle.vx_mixed.specs.declared.mixed.MixedGraph.{MixedGraph}
@@ -14,12 +13,15 @@ use Rattle.vx_mixed.specs.Context.{Becomes, Stays, Goes}
 use Rattle.vx_mixed.specs.LayoutLaws.{IsDone}
 use Rattle.vx_mixed.specs.Next.{made_node, nodes_from, next_mixed}
 use Rattle.vx_mixed.specs.Scheduled.{Keeps}
-use Rattle.vx_mixed.specs.TraceOf.{CanTrace, EndsWithCall, block_or_none}
-use Rattle.vx_mixed.specs.Valid.{Valid, block_op}
+use Rattle.vx_mixed.specs.TraceOf.{CanTrace, IsTraceOf, EndsWithCall, block_or_none}
+use Rattle.vx_mixed.specs.Valid.{Valid}
 use Rattle.vx_mixed.proofs.CodeStays.{code_stays}
 use Rattle.vx_mixed.proofs.NewNodes.{nodes_length}
 use Rattle.vx_mixed.proofs.StayBrief.{brief_stays}
 use Rattle.vx_mixed.proofs.StaysValid.{stays_valid}
+use Rattle.vx_bug.specs.declared.clusters.Clusters.{Clusters}
+use Rattle.vx_bug.specs.Assigned.{Assigned}
+use Rattle.vx_copies.proofs.AllStand.{assigned_stands}
 use Rattle.vx_profile.specs.declared.counts.Counts.{Counts}
 use Rattle.vx_trace.specs.Picked.{Picked, count_of_block}
 use Rattle.vx_cycles.specs.Paths.{IsHeaded}
@@ -28,13 +30,9 @@ use Rattle.vx_region.specs.declared.placed_trace.PlacedTrace.{PlacedTrace}
 use Rattle.vx_region.specs.declared.step.Next.{Next as NextOf}
 use Rattle.vx_region.specs.declared.trace_plan.TracePlan.{TracePlan}
 use Rattle.vx_region.specs.Planned.{Planned}
-use Rattle.vx_region.specs.Giving.{values_in, GivesHomes}
-use Rattle.vx_region.specs.Growth.{HasMode}
 use Rattle.vx_region.specs.Owed.{IsPlacedWithin}
-use Rattle.vx_region.specs.RegionPlans.{IsPlaced, OnOneCluster}
 use Rattle.vx_region.specs.Regions.{IsGraphOf, FitsIn, ReplacesOne, ReplacesAll, Finished, Next, AllKeep, StepKeeps, replacement_by}
-use Rattle.vx_region.specs.Stepping.{IsNext, IsNextBy, IsOnOne, Stepped}
-use Rattle.vx_region.proofs.Gives.{homes_given, gives_only}
+use Rattle.vx_region.specs.Stepping.{IsNext, IsNextBy, Stepped}
 use Rattle.vx_region.proofs.OneStep.{region_keeps, StepsOn}
 use Rattle.vx_region.proofs.PlanFits.{made_by, planned_by, replaced_by}
 use Rattle.vx_region.proofs.PlansFit.{plans_fit}
@@ -55,9 +53,6 @@ picked_can m counts t valid headed picked = paths_can_be_traced m t valid headed
   no_call = λ e block h at ends. picked.keeps_on.no_call e h (subst (λ (z : Block). EndsWithCall z.exit) (sym (ap block_or_none at)) ends);
 })
 
-pub on_one_cluster : (graph : Graph) (m : MixedGraph) (machine : Numbers) (blocks : List ℕ) → IsGraphOf machine graph m → OnOneCluster m blocks
-on_one_cluster graph m machine blocks G b v u block h at i = G.one.no_across v u (block_op b block at i)
-
 -- after a step
 
 pub more_nodes : (m : MixedGraph) (r : Replacement) → length m.nodes ≤ length (next_mixed m r).nodes
@@ -75,14 +70,14 @@ pub record After (machine : Numbers) (graph : Graph) (m m' : MixedGraph) (r : Re
   pub valid : Valid m'
   pub many : length m.nodes ≤ length m'.nodes
 
-pub after_one : (machine : Numbers) (counts : Counts) (cap used used' : ℕ) (graph : Graph) (m m' : MixedGraph) (plan : TracePlan) → Valid m → IsGraphOf machine graph m → (x : ReplacesOne machine counts cap m used plan m' used') → After machine graph m m' (replacement_by machine x.homes plan.placed)
+pub after_one : (machine : Numbers) (counts : Counts) (cap used used' : ℕ) (graph : Graph) (m m' : MixedGraph) (plan : TracePlan) → Valid m → IsGraphOf machine graph m → (x : ReplacesOne machine counts cap m used plan m' used') → After machine graph m m' (replacement_by machine x.clusters.homes plan.placed)
 after_one machine counts cap used used' graph m m' plan valid G x =
-    let r : Replacement = replacement_by machine x.homes plan.placed in
+    let r : Replacement = replacement_by machine x.clusters.homes plan.placed in
     let can : CanTrace m plan.blocks = picked_can m counts plan.blocks valid G.headed x.picked in
-    let planned : Planned m plan.blocks machine plan.mode x.homes r = planned_by machine counts cap used used' m m' plan x in
-    let fit : FitsIn machine m r = plans_fit graph m plan.blocks machine plan.mode x.homes r valid can G x.homes_with planned in
-    let on : StepsOn machine graph m (next_mixed m r) r = region_keeps code_stays brief_stays machine graph m plan.blocks plan.mode x.homes r valid can G x.homes_with planned in
-    let here : plan.blocks ≡ r.trace.blocks = sym (ap (λ z. z.trace.blocks) x.placed.clustered ∙ x.is_trace.blocks_are) in
+    let planned : Planned m plan.blocks machine plan.mode r = planned_by machine counts cap used used' m m' plan x in
+    let fit : FitsIn machine m r = plans_fit assigned_stands graph m plan.blocks machine plan.mode r valid can G planned in
+    let on : StepsOn machine graph m (next_mixed m r) r = region_keeps assigned_stands code_stays brief_stays machine graph m plan.blocks plan.mode r valid can G planned in
+    let here : plan.blocks ≡ r.trace.blocks = sym (ap (λ z. z.trace.blocks) x.placed.clustered ∙ ap (λ z. z.trace.blocks) x.assigned.clustered ∙ x.is_trace.blocks_are) in
     let many : length m.nodes ≤ length (next_mixed m r).nodes = more_nodes m r in
     record {
       can_trace = subst (CanTrace m) here can;
@@ -127,30 +122,29 @@ module _ (machine : Numbers) (counts : Counts) (cap used : ℕ) (first : MixedGr
 
 -- what a step is made of
 
-pub is_next : (machine : Numbers) (counts : Counts) (cap used : ℕ) (graph : Graph) (m : MixedGraph) (blocks : List ℕ) (count : ℕ) (homes : Homes) (c : Clustered) (x : PlacedTrace) (next : NextOf) → is_machine machine ≡ true → Valid m → IsGraphOf machine graph m → (picked : Picked m counts blocks) → count ≡ count_of_block m counts picked.seed →
-    IsOnOne m blocks c → GivesHomes m.homes.clusters (values_in m blocks) homes.clusters → IsPlacedWithin c machine homes cap used x → IsNextBy m.function blocks count homes x next → IsNext machine counts cap m used next
-is_next machine counts cap used graph m blocks count homes c x next one valid G picked count_is on gives w by =
-    let R : Replacement = made_by homes x.placed x.owed in
+pub is_next : (machine : Numbers) (counts : Counts) (cap used : ℕ) (graph : Graph) (m : MixedGraph) (blocks : List ℕ) (count : ℕ) (t : Trace) (k : Clusters) (x : PlacedTrace) (next : NextOf) → is_machine machine ≡ true → Valid m → IsGraphOf machine graph m → (picked : Picked m counts blocks) → count ≡ count_of_block m counts picked.seed →
+    IsTraceOf m blocks t → Assigned machine t m.homes k → IsPlacedWithin k.clustered machine k.homes cap used x → IsNextBy m.function blocks count k.homes x next → IsNext machine counts cap m used next
+is_next machine counts cap used graph m blocks count t k x next one valid G picked count_is is assigned w by =
+    let R : Replacement = made_by k.homes x.placed x.owed in
     let P : TracePlan = record { function = m.function; blocks = blocks; count = count; mode = x.mode; placed = x.placed; splits = x.owed.splits; rejoins = x.owed.rejoins } in
-    let same : R ≡ replacement_by machine homes x.placed = replaced_by machine homes x.placed x.owed w.owed in
+    let same : R ≡ replacement_by machine k.homes x.placed = replaced_by machine k.homes x.placed x.owed w.owed in
     let step : ReplacesOne machine counts cap m used P (next_mixed m R) x.used = record {
       is_a_machine = one;
       function = refl;
       picked = picked;
       count = count_is;
-      trace = c.trace;
-      is_trace = on.trace;
-      homes = homes;
-      homes_with = homes_given graph m machine blocks homes G picked.path.unused gives;
-      gives = gives_only graph m machine blocks homes G picked.path.unused gives;
-      mode = subst (λ z. HasMode z machine homes cap used x.mode) on.one w.mode;
-      placed = subst (λ z. IsPlaced z machine homes x.mode x.placed) on.one w.placed;
+      trace = t;
+      is_trace = is;
+      clusters = k;
+      assigned = assigned;
+      mode = w.mode;
+      placed = w.placed;
       splits = w.owed.splits;
       rejoins = w.owed.rejoins;
       next = ap (next_mixed m) same;
       rises = w.rises;
     } in
-    let can : CanReplace m (replacement_by machine homes x.placed) = (after_one machine counts cap used x.used graph m (next_mixed m R) P valid G step).can in
+    let can : CanReplace m (replacement_by machine k.homes x.placed) = (after_one machine counts cap used x.used graph m (next_mixed m R) P valid G step).can in
     record {
       can = subst (CanReplace m) (sym same ∙ sym by.replacement) can;
       one = subst (λ z. ReplacesOne machine counts cap m used z (next_mixed m next.replacement) next.used) (sym by.plan)

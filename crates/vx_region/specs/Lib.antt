@@ -5,7 +5,6 @@ pub mod RegionPlans
 pub mod Growth
 pub mod Owed
 pub mod Regions
-pub mod Giving
 pub mod Stepping
 pub mod Barring
 pub mod Ending

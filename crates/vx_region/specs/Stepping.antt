@@ -1,21 +1,24 @@
 -- Where a step leads, and what it is made of.
-use Rattle.std.specs.Prelude.{◌≡◌, ℕ, List, ◌++◌}
+use Rattle.std.specs.Prelude.{◌≡◌, ℕ, List, ◌++◌, length}
 use Rattle.vx_flow.specs.declared.graph.Graph.{Graph}
-use Rattle.vx_flow.specs.declared.trace.Clustered.{Clustered}
 use Rattle.vx_flow.specs.declared.trace.Homes.{Homes}
+use Rattle.vx_flow.specs.declared.trace.Trace.{Trace}
 use Rattle.vx_isa.specs.Numbers.{Numbers}
 use Rattle.vx_mixed.specs.declared.mixed.MixedGraph.{MixedGraph}
 use Rattle.vx_mixed.specs.CanReplace.{CanReplace}
 use Rattle.vx_mixed.specs.Next.{next_mixed}
 use Rattle.vx_mixed.specs.TraceOf.{IsTraceOf}
 use Rattle.vx_mixed.specs.Valid.{Valid}
+use Rattle.vx_bug.specs.declared.clusters.Clusters.{Clusters}
+use Rattle.vx_bug.specs.Assigned.{Assigned}
+use Rattle.vx_sched.specs.Placement.{HaveRoomAlone}
 use Rattle.vx_profile.specs.declared.counts.Counts.{Counts}
 use Rattle.vx_region.specs.declared.placed_trace.PlacedTrace.{PlacedTrace}
 use Rattle.vx_region.specs.declared.step.Next.{Next}
+use Rattle.vx_region.specs.declared.step.OnClusters.{OnClusters}
 use Rattle.vx_region.specs.declared.step.Step.{Step}
 use Rattle.vx_region.specs.declared.step.Step.TheVariants.{Finished, Replaced}
 use Rattle.vx_region.specs.declared.trace_plan.TracePlan.{TracePlan}
-use Rattle.vx_region.specs.RegionPlans.{on_one}
 use Rattle.vx_region.specs.Regions.{IsGraphOf, ReplacesAll, ReplacesOne}
 
 -- a fact of a step that found no block
@@ -28,10 +31,16 @@ abbrev pub OnReplaced : Step → (TracePlan → Type 0) → Type 0
 OnReplaced Finished P = Unit {0}
 OnReplaced (Replaced plan) P = P plan
 
--- the trace of these blocks, on cluster 0
-pub record IsOnOne (m : MixedGraph) (blocks : List ℕ) (c : Clustered) : Type 0 where
-  pub trace : IsTraceOf m blocks c.trace
-  pub one : c ≡ on_one c.trace
+-- the trace of these blocks on the clusters that are assigned with the homes so far; each operation has room there by itself
+pub record IsOnClusters (machine : Numbers) (m : MixedGraph) (blocks : List ℕ) (x : OnClusters) : Type 0 where
+  pub trace : Trace
+  pub is_trace : IsTraceOf m blocks trace
+  pub clusters : Clusters
+  pub assigned : Assigned machine trace m.homes clusters
+  pub clustered_is : x.clustered ≡ clusters.clustered
+  pub homes_is : x.homes ≡ clusters.homes
+  pub each : length x.clustered.clusters ≡ length x.clustered.trace.ops
+  pub alone : HaveRoomAlone machine x.homes x.clustered
 
 -- what is made of a placed trace
 pub record IsNextBy (function : ℕ) (blocks : List ℕ) (count : ℕ) (homes : Homes) (x : PlacedTrace) (next : Next) : Type 0 where

@@ -14,20 +14,20 @@ pub fn placed_words_meet_the_delays()
     ensures table { TableMet }
 {}
 
-/// What the calls of planning give for blocks that can be traced, on one cluster, is what is asked of a replacement, and so
-/// the graph with their region in place of them keeps the meaning from every entrance that the two share.
+/// What the calls of planning give for blocks that can be traced is what is asked of a replacement, and so the graph with their
+/// region in place of them keeps the meaning from every entrance that the two share.
 pub fn plans_keep_the_meaning()
     ensures compensated { PlanLaw }
     ensures meaning { PlanKeeps }
 {}
 
-/// What planning gives for blocks of a graph on one cluster, with a home there for each general value that they name, is what a
-/// replacement asks of its arguments; and the words of its region have room.
+/// What planning gives for blocks of a graph is what a replacement asks of its arguments; the words of its region have room, and
+/// its operations stand where their values do.
 pub fn plans_fit()
     ensures { PlansFit }
 {}
 
-/// What a sound graph begins as is a graph of blocks and regions on one cluster, settled for every machine.
+/// What a sound graph begins as is a graph of blocks and regions on the clusters of any machine, settled for it.
 pub fn graphs_begin_so()
     ensures { BeginsAsGraph }
 {}

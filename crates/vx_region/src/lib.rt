@@ -4,7 +4,6 @@
 
 pub mod budget;
 mod copying;
-mod giving;
 pub mod laws;
 mod made;
 mod owed;

@@ -1,12 +1,12 @@
 // The blocks that are made for the copies of a placed trace, after Fisher, 1981: first those on the edges of its splits, then
 // those on the edges of its joins. None is made where there is nothing to copy.
 
-ghost use Rattle.std.specs.Prelude.{◌≡◌, ◌++◌, ◌&&◌, ◌∷◌, [], nat_lt, nat_le, map, replicate, slice_get, IfOk, IfSome, IfNone, Some, None};
+ghost use Rattle.std.specs.Prelude.{◌≡◌, ◌++◌, ◌&&◌, ◌∷◌, [], nat_lt, nat_le, map, slice_get, slice_index_or, IfOk, IfSome, IfNone, Some, None};
 ghost use Rattle.std.specs.List.{flat_map, list_any};
 ghost use Rattle.vx_flow.specs.Effects.{dismissed};
 ghost use Rattle.vx_dep.specs.declared.copies.EdgeCopies.{EdgeCopies};
 ghost use Rattle.vx_dep.specs.Compensation.{word_at, at_splits_of, is_freed};
-ghost use Rattle.vx_region.specs.Planned.{op_of, ops_at, dismissed_if, placed_at, made_of, made_at_splits, made_at_joins};
+ghost use Rattle.vx_region.specs.Planned.{op_of, ops_at, cluster_of, clusters_at, dismissed_if, placed_at, made_of, made_at_splits, made_at_joins};
 
 use crate::waits::word_at;
 use std::alloc::Global;
@@ -48,7 +48,8 @@ fn push_splits(
             None => return Ok(()),
             Some((split, others)) => {
                 let copies = ops_at(alloc, ops, split.copies.as_slice())?;
-                push_made(alloc, made, split.edge, copies)?;
+                let clusters = clusters_at(alloc, placed, split.copies.as_slice())?;
+                push_made(made, split.edge, copies, clusters)?;
                 rest = others;
             }
         }
@@ -92,7 +93,7 @@ fn push_join(
     rejoin: &Rejoin,
 ) -> Result<(), NoMemory>
     requires { splits.now ≡ at_splits_of placed.now }
-    ensures { IfOk result (λ _. made.new ≡ made.old ++ flat_map (λ e. made_of e (placed_at placed.now rejoin.now.copies)) join.now.edges) }
+    ensures { IfOk result (λ _. made.new ≡ made.old ++ flat_map (λ e. made_of e (placed_at placed.now rejoin.now.copies) (clusters_at placed.now.clustered rejoin.now.copies)) join.now.edges) }
 {
     let mut rest = join.edges.as_slice();
     'edges: loop {
@@ -100,25 +101,24 @@ fn push_join(
             None => return Ok(()),
             Some((edge, others)) => {
                 let copies = placed_at(alloc, placed, splits, rejoin.copies.as_slice())?;
-                push_made(alloc, made, *edge, copies)?;
+                let clusters = clusters_at(alloc, placed, rejoin.copies.as_slice())?;
+                push_made(made, *edge, copies, clusters)?;
                 rest = others;
             }
         }
     }
 }
 
-/// A block on an edge, if there is anything to copy. Each copy stands on cluster 0.
+/// A block on an edge, if there is anything to copy.
 fn push_made(
-    alloc: Global,
     made: &mut Listed<Made>,
     edge: Edge,
     ops: Listed<Op>,
+    clusters: Listed<u32>,
 ) -> Result<(), NoMemory>
-    ensures { IfOk result (λ _. made.new ≡ made.old ++ made_of edge ops) }
+    ensures { IfOk result (λ _. made.new ≡ made.old ++ made_of edge ops clusters) }
 {
-    let count = ops.len();
-    if count > 0 {
-        let clusters = zeros(alloc, count)?;
+    if ops.len() > 0 {
         made.push(Made {
             edge,
             ops,
@@ -128,15 +128,52 @@ fn push_made(
     Ok(())
 }
 
-/// So many times cluster 0.
-pub(crate) fn zeros(alloc: Global, count: usize) -> Result<Listed<u32>, NoMemory>
-    ensures { IfOk result (λ list. list ≡ replicate count 0) }
+/// The clusters of the operations at some places; a split is none.
+fn clusters_at(
+    alloc: Global,
+    placed: &Placed,
+    places: &[u32],
+) -> Result<Listed<u32>, NoMemory>
+    ensures { IfOk result (λ list. list ≡ clusters_at placed.now.clustered places.now) }
 {
-    let mut zeros = Listed::new(alloc);
-    for _place in 0..count {
-        zeros.push(0)?;
+    let mut clusters = Listed::new(alloc);
+    let mut rest = places;
+    'copy: loop {
+        match rest.split_first() {
+            None => return Ok(clusters),
+            Some((place, others)) => {
+                push_cluster(&mut clusters, placed, *place)?;
+                rest = others;
+            }
+        }
     }
-    Ok(zeros)
+}
+
+#[tactic(auto, using(crate::proofs::Pushing::no_cluster, crate::proofs::Pushing::one_cluster))]
+fn push_cluster(
+    clusters: &mut Listed<u32>,
+    placed: &Placed,
+    place: u32,
+) -> Result<(), NoMemory>
+    ensures { IfOk result (λ _. clusters.new ≡ clusters.old ++ cluster_of (slice_get placed.now.clustered.trace.ops place) (slice_index_or placed.now.clustered.clusters place 0)) }
+{
+    let cluster = word_at(placed.clustered.clusters.as_slice(), place);
+    match op_there(placed.clustered.trace.ops.as_slice(), place) {
+        None => Ok(()),
+        Some(op) => push_cluster_of(clusters, op, cluster),
+    }
+}
+
+fn push_cluster_of(clusters: &mut Listed<u32>, op: &TraceOp, cluster: u32) -> Result<(), NoMemory>
+    ensures { IfOk result (λ _. clusters.new ≡ clusters.old ++ cluster_of (Some op.now) cluster) }
+{
+    match op {
+        TraceOp::Plain(_) => {
+            clusters.push(cluster)?;
+            Ok(())
+        }
+        TraceOp::Split { .. } => Ok(()),
+    }
 }
 
 /// The operations at some places, as they stand in the trace.

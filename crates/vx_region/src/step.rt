@@ -9,12 +9,10 @@ ghost use Rattle.vx_mixed.specs.Valid.{Valid};
 ghost use Rattle.vx_trace.specs.Picked.{Picked};
 ghost use Rattle.vx_region.specs.Owed.{IsPlacedWithin};
 ghost use Rattle.vx_region.specs.Regions.{IsGraphOf, ReplacesAll, ReplacesOne};
-ghost use Rattle.vx_region.specs.Stepping.{IsNext, IsNextBy, IsOnOne, OnFinished, OnReplaced};
+ghost use Rattle.vx_region.specs.Stepping.{IsNext, IsNextBy, IsOnClusters, OnFinished, OnReplaced};
 
 use crate::budget::Budget;
 use crate::copying::{copied_list, copied_trace};
-use crate::giving::homes_with;
-use crate::made::zeros;
 use crate::owed::Owed;
 use crate::placed_trace::{PlacedTrace, place_within};
 use crate::trace_plan::TracePlan;
@@ -23,7 +21,9 @@ use vx_base::listed::Listed;
 use vx_base::outcome::NoMemory;
 use vx_flow::graph::BlockId;
 use vx_flow::trace::{Clustered, Homes, Placed};
-use vx_machine::{Machine, room_alone_law};
+use vx_bug::assign;
+use vx_bug::clusters::Clusters;
+use vx_machine::Machine;
 use vx_mixed::Mixed;
 use vx_mixed::replacement::Replacement;
 use vx_profile::counts::Counts;
@@ -47,9 +47,10 @@ pub struct Regions {
     pub plans: Listed<TracePlan>,
 }
 
-/// A trace is picked by the counts and becomes a region, on cluster 0: its operations are placed in words, past splits and joins
-/// where the copies for that keep within the budget, which then rises by them. Each general value that it names and that has no
-/// home gets the home 0. `Finished` comes exactly where no block is left. Without memory all stays as it was.
+/// A trace is picked by the counts and becomes a region: its operations get clusters, with copies of the values that stand on
+/// others, and are placed in words, past splits and joins where the copies for that keep within the budget, which then rises by
+/// them. Each general value that it names and that has no home gets one. `Finished` comes exactly where no block is left. All calls
+/// on one graph take the same machine. Without memory all stays as it was.
 pub fn replace_one(
     alloc: Global,
     mixed: &mut Mixed,
@@ -73,8 +74,8 @@ pub fn replace_one(
     }
 }
 
-/// All blocks become regions, one picked trace after the other, on cluster 0. By the laws of this crate the meaning of the graph is
-/// kept, and it is settled for the machine.
+/// All blocks become regions, one picked trace after the other, on the clusters of the machine. By the laws of this crate the
+/// meaning of the graph is kept, and it is settled for the machine.
 pub fn all_regions(
     alloc: Global,
     mixed: Mixed,
@@ -147,22 +148,45 @@ fn next_of(
     ensures { IfOk result (λ next. IsNext machine.now counts.now budget.cap mixed.now budget.used next) }
 {
     machine.keeps_ranges();
-    room_alone_law();
-    let homes = homes_with(alloc, mixed, blocks.as_slice())?;
-    let clustered = on_one(alloc, mixed, blocks.as_slice())?;
-    let placed = place_within(alloc, &clustered, &homes, machine, budget)?;
+    let on = on_clusters(alloc, mixed, blocks.as_slice(), machine)?;
+    let placed = place_within(alloc, &on.clustered, &on.homes, machine, budget)?;
     let count = count_of_trace(mixed, counts, blocks.as_slice());
+    let OnClusters {
+        clustered: _,
+        homes,
+    } = on;
     next_by(alloc, mixed.function(), blocks, count, homes, placed)
 }
 
-/// The trace of some blocks, on cluster 0.
-fn on_one(alloc: Global, mixed: &Mixed, blocks: &[BlockId]) -> Result<Clustered, NoMemory>
-    requires { CanTrace mixed.now blocks.now }
-    ensures { IfOk result (λ clustered. IsOnOne mixed.now blocks.now clustered) }
+/// A trace on its clusters, and the homes by then.
+#[derive(Drop)]
+pub struct OnClusters {
+    pub clustered: Clustered,
+    pub homes: Homes,
+}
+
+/// The trace of some blocks on the clusters that are assigned to its operations.
+fn on_clusters(
+    alloc: Global,
+    mixed: &Mixed,
+    blocks: &[BlockId],
+    machine: &Machine,
+) -> Result<OnClusters, NoMemory>
+    requires valid { Valid mixed.now }
+    requires graph { (graph : Graph) × IsGraphOf machine.now graph mixed.now }
+    requires can { CanTrace mixed.now blocks.now }
+    ensures { IfOk result (λ x. IsOnClusters machine.now mixed.now blocks.now x) }
 {
     let trace = mixed.trace(alloc, blocks)?;
-    let clusters = zeros(alloc, trace.ops.len())?;
-    Ok(Clustered { trace, clusters })
+    let clusters = assign(alloc, &trace, machine, mixed.homes())?;
+    let Clusters {
+        order: _,
+        estimates: _,
+        chosen: _,
+        clustered,
+        homes,
+    } = clusters;
+    Ok(OnClusters { clustered, homes })
 }
 
 /// The lists of a placed trace, copied.

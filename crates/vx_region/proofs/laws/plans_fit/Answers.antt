@@ -1,5 +1,6 @@
+use Rattle.vx_copies.proofs.AllStand.{assigned_stands}
 use Rattle.vx_region.proofs.PlansFit.{plans_fit}
 use Rattle.vx_region.proofs.laws.plans_fit.Goals as goal
 
 pub returns : goal.returns
-returns c = plans_fit
+returns c = plans_fit assigned_stands

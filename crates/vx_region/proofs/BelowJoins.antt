@@ -1,39 +1,18 @@
--- A trace on one cluster does what it does: the items of its blocks are its items.
+-- What stands below a join of a trace.
 use Rattle.std.proofs.Common.{◌≡◌, ◌⊎◌, inl, inr, ℕ, suc, ◌+◌, ◌≤◌, List, [], ◌∷◌, ◌++◌, length, drop, refl, sym, ap, ◌∙◌, subst, arith, length-append}
 use Rattle.std.specs.Prelude.{◌==◌, ◌&&◌, not, if◌then◌else◌}
 use Rattle.std.specs.List.{filter}
 use Rattle.std.proofs.lemmas.Bool.{eq-eqb, ne_eqb}
 use Rattle.vx_flow.specs.declared.graph.Edge.{Edge}
-use Rattle.vx_flow.specs.declared.graph.Exit.{Exit}
 use Rattle.vx_flow.specs.declared.trace.Join.{Join}
-use Rattle.vx_flow.specs.Effects.{State, Setting, IsIn}
+use Rattle.vx_flow.specs.Effects.{IsIn}
 use Rattle.vx_flow.specs.Walk.{edge}
-use Rattle.vx_flow.specs.Meaning.{Hop, Arrives, Calls, Leaves, Stops, Wrong}
 use Rattle.vx_flow.proofs.Members.{in_either}
-use Rattle.vx_mixed.specs.declared.region.Item.{Item}
 use Rattle.vx_mixed.specs.declared.mixed.MixedGraph.{MixedGraph}
-use Rattle.vx_mixed.specs.Agree.{SameWorld, Alike}
 use Rattle.vx_mixed.specs.FromGraph.{same_edge}
-use Rattle.vx_mixed.specs.Meaning.{is_same}
 use Rattle.vx_mixed.specs.Settled.{NoTwice}
-use Rattle.vx_mixed.specs.Way.{Clustered}
 use Rattle.vx_mixed.specs.TraceOf.{block_ops, trace_ops, joined, joins_behind, trace_joins}
 use Rattle.vx_mixed.specs.Compensation.{blocks_from}
-
--- states and hops
-
-same_world : (s : State) → SameWorld s s
-same_world s = record { arrays = refl; input = refl; out = refl }
-
-alike_itself : (m : MixedGraph) (h : Hop) → Alike m is_same h h
-alike_itself m (Arrives from to s) = (eq-eqb to to refl, record { world = same_world s; values = λ v n l e. e })
-alike_itself m (Calls g arguments result from next s) = (refl, refl, refl, eq-eqb next next refl, record { world = same_world s; values = λ v n l e. e })
-alike_itself m (Leaves n s) = (refl, same_world s)
-alike_itself m (Stops k s) = (refl, same_world s)
-alike_itself m Wrong = tt
-
-pub clustered_itself : (setting : Setting) (m : MixedGraph) (is : List Item) (end : ℕ) (exit : Exit) → Clustered setting m is is end exit
-clustered_itself setting m is end exit = record { leaves_alike = λ s h e n. (h, e, alike_itself m h); alive = λ v a. a }
 
 -- what stands below a join is the trace of the blocks from its block on
 

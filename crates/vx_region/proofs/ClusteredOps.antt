@@ -1,0 +1,465 @@
+-- What is known of the operations of a clustered trace: where they come from, what they name, and that they stand where their
+-- values do.
+use Rattle.std.proofs.Common.{◌≡◌, ◌≢◌, ◌⊎◌, inl, inr, refl, sym, ◌∙◌, ap, subst, arith, Bool, true, false, ℕ, zero, suc, ◌+◌, ◌*◌, ◌<◌, ◌≤◌, Option, Some, None, List, [], ◌∷◌, ◌++◌, length, slice_get, slice_index_or}
+use Rattle.std.specs.Prelude.{◌%◌, ◌/◌, ◌-◌, nat_lt, if◌then◌else◌}
+use Rattle.std.proofs.Math.Nat.{mod-eq_of_lt, mul_comm, mul-add-mod_self_right, mul-le-mul_right}
+use Rattle.std.proofs.lemmas.Bool.{lt-ltb, le-ltb, cases_lt}
+use Rattle.std.proofs.lemmas.Nat.{div-mul-add, mul-add-lt}
+use Rattle.std.proofs.lemmas.Option.{slice_get_within}
+use Rattle.vx_base.specs.declared.arithmetic.Code.{Code}
+use Rattle.vx_base.specs.declared.arithmetic.Code.TheVariants.{Add, Sub, And, Or, Xor, Shl, Shr, Shru, Sh2add, Max, Min, Mov, ToGeneral, ToBranch, Mpylu, Mpyhs, Div, Rem}
+use Rattle.vx_flow.specs.declared.graph.Bank.{Bank}
+use Rattle.vx_flow.specs.declared.graph.Bank.TheVariants.{General, Branch}
+use Rattle.vx_flow.specs.declared.graph.Graph.{Graph}
+use Rattle.vx_flow.specs.declared.graph.Op.{Op}
+use Rattle.vx_flow.specs.declared.graph.Op.TheVariants.{Compute, Select, Place, Load, Store, More, Input, Text, Decimal, Across}
+use Rattle.vx_flow.specs.declared.graph.Operand.{Operand}
+use Rattle.vx_flow.specs.declared.graph.Operand.TheVariants.{Held, Number, Stack}
+use Rattle.vx_flow.specs.declared.trace.TraceOp.{TraceOp}
+use Rattle.vx_flow.specs.declared.trace.TraceOp.TheVariants.{Plain as TracePlain, Split as TraceSplit}
+use Rattle.vx_flow.specs.declared.trace.Trace.{Trace}
+use Rattle.vx_flow.specs.Effects.{IsIn, dismissed, reads, writes}
+use Rattle.vx_flow.specs.Sound.{bank_written, tests_of, arrays_of, Sound}
+use Rattle.vx_flow.proofs.Members.{in_left, in_right, in_either}
+use Rattle.vx_flow.proofs.SoundLaw.{sound_is}
+use Rattle.vx_isa.specs.Numbers.{Numbers, is_machine, IsMachine}
+use Rattle.vx_machine.specs.Items.{writes_general_op}
+use Rattle.vx_machine.specs.Room.{home_of}
+use Rattle.vx_mixed.specs.declared.mixed.MixedGraph.{MixedGraph}
+use Rattle.vx_mixed.specs.CanReplace.{OnFirst, Stands, AwayFrom}
+use Rattle.vx_mixed.specs.FromGraph.{binds}
+use Rattle.vx_mixed.specs.Origins.{whole, whole_operand, whole_op, ComesFrom, graph_op, copy}
+use Rattle.vx_mixed.specs.Origins.{copy_of as copy_to}
+use Rattle.vx_mixed.specs.Settled.{has_home, home_of as home_in, bank_of, stands_for, StandsOn, read_there}
+use Rattle.vx_mixed.specs.TraceOf.{CanTrace, IsTraceOf}
+use Rattle.vx_mixed.specs.Valid.{Valid, IsOp, names_of}
+use Rattle.vx_mixed.proofs.Linked.{index_in, in_index}
+use Rattle.vx_dep.specs.Delays.{Stands as StandsAt, reads_of, writes_of}
+use Rattle.vx_bug.specs.declared.clusters.Clusters.{Clusters}
+use Rattle.vx_bug.specs.Assigned.{last_books, Assigned}
+use Rattle.vx_bug.specs.CanAssign.{IsFixed, IsFree}
+use Rattle.vx_bug.specs.Clusters.{general_reads, general_writes, is_bound, is_across}
+use Rattle.vx_bug.specs.Copies.{copy_of, is_away, here, renamed_operand, renamed, renamed_op}
+use Rattle.vx_bug.proofs.Best.{four_clusters}
+use Rattle.vx_copies.specs.AtHome.{IsAtHome, CopiesAtHome, StandsFor, copies, stays, renames, StandsWell, AllStand}
+use Rattle.vx_copies.proofs.Fresh.{InPlace, renamed_read, renamed_writes}
+use Rattle.vx_region.specs.Regions.{IsGraphOf}
+use Rattle.vx_region.proofs.Assignable.{names_below}
+use Rattle.vx_region.proofs.PlanOps.{is_op}
+use Rattle.vx_region.proofs.SoundOps.{Known, known, read_kind}
+
+-- numbers of copies
+
+one_more : (k n v : ℕ) → copy_to n v k ≡ copy_of n v k
+one_more k n v = let e : suc k ≡ k + 1 = omega arith in ap (λ z. z * n + v) e
+
+pub copy_whole : (n v k : ℕ) → copy_of n v k % n ≡ v % n
+copy_whole n v k = mul-add-mod_self_right (k + 1) n v
+
+copy_below : (n v k clusters : ℕ) → v < n → k < clusters → copy_of n v k < (clusters + 1) * n
+copy_below n v k clusters lt there =
+    let a : (k + 1) * n + v < n * (clusters + 1) = mul-add-lt (k + 1) n v (clusters + 1) (omega (arith, there)) lt in
+    let b : n * (clusters + 1) ≡ (clusters + 1) * n = mul_comm n (clusters + 1) in
+    omega (arith, a, b)
+
+pub value_below : (n v clusters : ℕ) → v < n → v < (clusters + 1) * n
+value_below n v clusters lt = let a : 0 * n + v < n * (clusters + 1) = mul-add-lt 0 n v (clusters + 1) (omega arith) lt in let b : n * (clusters + 1) ≡ (clusters + 1) * n = mul_comm n (clusters + 1) in let c : 0 * n + v ≡ v = omega arith in omega (arith, a, b, c)
+
+pub all_copies : (n clusters v : ℕ) → clusters ≤ 4 → v < (clusters + 1) * n → v < 5 * n
+all_copies n clusters v few lt = let a : (clusters + 1) * n ≤ 5 * n = mul-le-mul_right n (omega (arith, few)) in omega (arith, a, lt)
+
+pub copy_home : (n v k : ℕ) → v < n → copy_of n v k / n - 1 ≡ k
+copy_home n v k lt = let e : copy_of n v k / n ≡ k + 1 = div-mul-add (k + 1) n v lt in omega (arith, e)
+
+pub behind_values : (n v k : ℕ) → n ≤ copy_of n v k
+behind_values n v k = let e : copy_of n v k ≡ k * n + n + v = omega arith in omega (arith, e)
+
+-- the home that a value has in the list is the one where it stands
+pub stands_home : (m : MixedGraph) → CopiesAtHome (length m.banks) (has_home m.homes.clusters) → (v k : ℕ) → has_home m.homes.clusters v ≡ Some k → home_in m v ≡ Some k
+stands_home m copied v k e = by (cases_lt v (length m.banks))
+  where
+    by : (v < length m.banks) ⊎ (length m.banks ≤ v) → home_in m v ≡ Some k
+    by (inl lt) = ap (λ b. if b then has_home m.homes.clusters v else Some (v / length m.banks - 1)) (lt-ltb v (length m.banks) lt) ∙ e
+    by (inr le) =
+        let c = copied v k e le in
+        ap (λ b. if b then has_home m.homes.clusters v else Some (v / length m.banks - 1)) (le-ltb v (length m.banks) le)
+        ∙ ap (λ z. Some (z / length m.banks - 1)) c.2 ∙ ap Some (copy_home (length m.banks) c.0 k c.1)
+
+-- operations
+
+no_across_read : (op : Op) (v : ℕ) → IsIn v (read_there op) → (is_across (TracePlain op) ≡ false) × IsIn v (reads op)
+no_across_read (Compute code w a b) v h = (refl, h)
+no_across_read (Select w p a b) v h = (refl, h)
+no_across_read (Place w a i) v h = (refl, h)
+no_across_read (Load w a p d) v h = (refl, h)
+no_across_read (Store a p x) v h = (refl, h)
+no_across_read (More w) v h = (refl, h)
+no_across_read (Input w) v h = (refl, h)
+no_across_read (Text n) v h = (refl, h)
+no_across_read (Decimal x) v h = (refl, h)
+no_across_read (Across w u) v h = absurd h
+
+tests_bound : (op : Op) (v : ℕ) → IsIn v (tests_of op) → is_bound (TracePlain op) ≡ true
+tests_bound (Select w p a b) v h = refl
+tests_bound (Compute code w a b) v h = absurd h
+tests_bound (Place w a i) v h = absurd h
+tests_bound (Load w a p d) v h = absurd h
+tests_bound (Store a p x) v h = absurd h
+tests_bound (More w) v h = absurd h
+tests_bound (Input w) v h = absurd h
+tests_bound (Text n) v h = absurd h
+tests_bound (Decimal x) v h = absurd h
+tests_bound (Across w u) v h = absurd h
+
+-- what is written is a general value, or a branch value on cluster 0
+code_written : (code : Code) (w : ℕ) (a b : Operand) (v : ℕ) → IsIn v (w ∷ []) → (IsIn v (general_writes (TracePlain (Compute code w a b))) × (bank_written (Compute code w a b) ≡ General)) ⊎ ((is_bound (TracePlain (Compute code w a b)) ≡ true) × (bank_written (Compute code w a b) ≡ Branch))
+code_written (ToBranch c) w a b v h = inr (refl, refl)
+code_written Add w a b v h = inl (h, refl)
+code_written Sub w a b v h = inl (h, refl)
+code_written And w a b v h = inl (h, refl)
+code_written Or w a b v h = inl (h, refl)
+code_written Xor w a b v h = inl (h, refl)
+code_written Shl w a b v h = inl (h, refl)
+code_written Shr w a b v h = inl (h, refl)
+code_written Shru w a b v h = inl (h, refl)
+code_written Sh2add w a b v h = inl (h, refl)
+code_written Max w a b v h = inl (h, refl)
+code_written Min w a b v h = inl (h, refl)
+code_written Mov w a b v h = inl (h, refl)
+code_written (ToGeneral c) w a b v h = inl (h, refl)
+code_written Mpylu w a b v h = inl (h, refl)
+code_written Mpyhs w a b v h = inl (h, refl)
+code_written Div w a b v h = inl (h, refl)
+code_written Rem w a b v h = inl (h, refl)
+
+written : (op : Op) (v : ℕ) → IsIn v (writes op) → (IsIn v (general_writes (TracePlain op)) × (bank_written op ≡ General)) ⊎ ((is_bound (TracePlain op) ≡ true) × (bank_written op ≡ Branch))
+written (Compute code w a b) v h = code_written code w a b v h
+written (Select w p a b) v h = inl (h, refl)
+written (Place w a i) v h = inl (h, refl)
+written (Load w a p d) v h = inl (h, refl)
+written (Store a p x) v h = absurd h
+written (More w) v h = inl (h, refl)
+written (Input w) v h = inl (h, refl)
+written (Text n) v h = absurd h
+written (Decimal x) v h = absurd h
+written (Across w u) v h = inl (h, refl)
+
+-- what is bound is written, by an operation on cluster 0
+bound_written : (op : Op) (v : ℕ) → binds op ≡ Some v → IsIn v (general_writes (TracePlain op)) × (is_bound (TracePlain op) ≡ true)
+bound_written (Compute code w a b) v e = absurd (cc)
+bound_written (Select w p a b) v e = let q : v ≡ w = cc in (inl q, refl)
+bound_written (Place w a i) v e = absurd (cc)
+bound_written (Load w a p d) v e = absurd (cc)
+bound_written (Store a p x) v e = absurd (cc)
+bound_written (More w) v e = let q : v ≡ w = cc in (inl q, refl)
+bound_written (Input w) v e = let q : v ≡ w = cc in (inl q, refl)
+bound_written (Text n) v e = absurd (cc)
+bound_written (Decimal x) v e = absurd (cc)
+bound_written (Across w u) v e = absurd (cc)
+
+first_is : (op : Op) (k : ℕ) → (is_bound (TracePlain op) ≡ true → k ≡ 0) → OnFirst op k
+first_is (Compute code v a b) k h = tt
+first_is (Select v p a b) k h = tt
+first_is (Place v a i) k h = tt
+first_is (Load v a p d) k h = tt
+first_is (Store a p x) k h = tt
+first_is (More v) k h = h refl
+first_is (Input v) k h = h refl
+first_is (Text n) k h = h refl
+first_is (Decimal x) k h = h refl
+first_is (Across v u) k h = tt
+
+-- a load that may be dismissed is at home where the load is
+pub dismissed_at_home : (home : ℕ → Option ℕ) (op : Op) (k : ℕ) → IsAtHome home (TracePlain op) k → IsAtHome home (TracePlain (dismissed op)) k
+dismissed_at_home home (Compute code v a b) k h = h
+dismissed_at_home home (Select v p a b) k h = h
+dismissed_at_home home (Place v a i) k h = h
+dismissed_at_home home (Load v a p d) k h = record { reads = λ w no i. h.reads w no i; writes = λ w i. h.writes w i; bound = λ e. h.bound e }
+dismissed_at_home home (Store a p x) k h = h
+dismissed_at_home home (More v) k h = h
+dismissed_at_home home (Input v) k h = h
+dismissed_at_home home (Text n) k h = h
+dismissed_at_home home (Decimal x) k h = h
+dismissed_at_home home (Across v u) k h = h
+
+-- an operation at home stands where its values do
+module _ (graph : Graph) (M : MixedGraph) (banks : M.banks ≡ graph.banks) (copied : CopiesAtHome (length M.banks) (has_home M.homes.clusters)) (op : Op) (k : ℕ) (knows : Known graph op) (home : IsAtHome (has_home M.homes.clusters) (TracePlain op) k) where
+  bank_is : (v : ℕ) (b : Bank) → slice_get graph.banks (v % length graph.banks) ≡ Some b → bank_of M v ≡ Some b
+  bank_is v b e = ap (λ bs. slice_get bs (v % length bs)) banks ∙ e
+
+  general : (v : ℕ) → slice_get graph.banks (v % length graph.banks) ≡ Some General → has_home M.homes.clusters v ≡ Some k → StandsOn M v k
+  general v b h = subst (λ z. stands_for z (home_in M v) k) (sym (bank_is v General b)) (stands_home M copied v k h)
+
+  branch : (v : ℕ) → slice_get graph.banks (v % length graph.banks) ≡ Some Branch → k ≡ 0 → StandsOn M v k
+  branch v b e = subst (λ z. stands_for z (home_in M v) k) (sym (bank_is v Branch b)) e
+
+  pub stands : Stands M op k
+  stands = record {
+    reads = λ v h. let r = no_across_read op v h in elim (read_kind v op r.1) [
+      | inl g ↦ general v (knows.operands v g) (home.reads v r.0 g)
+      | inr t ↦ branch v (knows.tests v t) (home.bound (tests_bound op v t))
+    ];
+    writes = λ v h. elim (written op v h) [
+      | inl g ↦ general v (knows.results v h ∙ ap Some g.1) (home.writes v g.0)
+      | inr t ↦ branch v (knows.results v h ∙ ap Some t.1) (home.bound t.0)
+    ];
+    bound = λ v e. let b = bound_written op v e in home.writes v b.0 ∙ ap Some (home.bound b.1);
+    first = first_is op k (λ e. home.bound e);
+  }
+
+-- an operation with copies among its operands is that operation, but for them
+
+whole_operand_same : (n : ℕ) (to : ℕ → ℕ) → ((v : ℕ) → to v % n ≡ v % n) → (x : Operand) → whole_operand n (renamed_operand to x) ≡ whole_operand n x
+whole_operand_same n to h (Held v) = ap Held (h v)
+whole_operand_same n to h (Number k) = refl
+whole_operand_same n to h Stack = refl
+
+both_same : (n : ℕ) (to : ℕ → ℕ) → ((v : ℕ) → to v % n ≡ v % n) → (code : Code) (v : ℕ) (a b : Operand) → Compute code (whole n v) (whole_operand n (renamed_operand to a)) (whole_operand n (renamed_operand to b)) ≡ Compute code (whole n v) (whole_operand n a) (whole_operand n b)
+both_same n to h code v a b = ap (λ z. Compute code (whole n v) z (whole_operand n (renamed_operand to b))) (whole_operand_same n to h a) ∙ ap (λ z. Compute code (whole n v) (whole_operand n a) z) (whole_operand_same n to h b)
+
+whole_same : (n : ℕ) (to : ℕ → ℕ) → ((v : ℕ) → to v % n ≡ v % n) → (op : Op) → whole_op n (renamed to op) ≡ whole_op n op
+whole_same n to h (Compute Mov v a b) = ap (λ z. Compute Mov (whole n v) z (whole_operand n b)) (whole_operand_same n to h a)
+whole_same n to h (Compute Add v a b) = both_same n to h Add v a b
+whole_same n to h (Compute Sub v a b) = both_same n to h Sub v a b
+whole_same n to h (Compute And v a b) = both_same n to h And v a b
+whole_same n to h (Compute Or v a b) = both_same n to h Or v a b
+whole_same n to h (Compute Xor v a b) = both_same n to h Xor v a b
+whole_same n to h (Compute Shl v a b) = both_same n to h Shl v a b
+whole_same n to h (Compute Shr v a b) = both_same n to h Shr v a b
+whole_same n to h (Compute Shru v a b) = both_same n to h Shru v a b
+whole_same n to h (Compute Sh2add v a b) = both_same n to h Sh2add v a b
+whole_same n to h (Compute Max v a b) = both_same n to h Max v a b
+whole_same n to h (Compute Min v a b) = both_same n to h Min v a b
+whole_same n to h (Compute (ToGeneral c) v a b) = both_same n to h (ToGeneral c) v a b
+whole_same n to h (Compute (ToBranch c) v a b) = both_same n to h (ToBranch c) v a b
+whole_same n to h (Compute Mpylu v a b) = both_same n to h Mpylu v a b
+whole_same n to h (Compute Mpyhs v a b) = both_same n to h Mpyhs v a b
+whole_same n to h (Compute Div v a b) = both_same n to h Div v a b
+whole_same n to h (Compute Rem v a b) = both_same n to h Rem v a b
+whole_same n to h (Select v p a b) = ap (λ z. Select (whole n v) (whole n p) z (whole_operand n (renamed_operand to b))) (whole_operand_same n to h a) ∙ ap (λ z. Select (whole n v) (whole n p) (whole_operand n a) z) (whole_operand_same n to h b)
+whole_same n to h (Place v a i) = ap (λ z. Place (whole n v) a z) (whole_operand_same n to h i)
+whole_same n to h (Load v a p d) = ap (λ z. Load (whole n v) a z d) (whole_operand_same n to h p)
+whole_same n to h (Store a p x) = ap (λ z. Store a z (whole_operand n (renamed_operand to x))) (whole_operand_same n to h p) ∙ ap (λ z. Store a (whole_operand n p) z) (whole_operand_same n to h x)
+whole_same n to h (More v) = refl
+whole_same n to h (Input v) = refl
+whole_same n to h (Text k) = refl
+whole_same n to h (Decimal x) = ap Decimal (whole_operand_same n to h x)
+whole_same n to h (Across v u) = refl
+
+here_whole : (n : ℕ) (homes : ℕ → Option ℕ) (k v : ℕ) → here n homes k v % n ≡ v % n
+here_whole n homes k v = by (is_away (homes v) k)
+  where
+    by : (b : Bool) → (if b then copy_of n v k else v) % n ≡ v % n
+    by true = copy_whole n v k
+    by false = refl
+
+-- it is an operation of which this is a renaming
+of_renamed : (to : ℕ → ℕ) (op : Op) (origin : TraceOp) → TracePlain op ≡ renamed_op to origin → (o : Op) × (origin ≡ TracePlain o) × (op ≡ renamed to o)
+of_renamed to op (TracePlain o) e = let q : op ≡ renamed to o = cc in (o, refl, q)
+of_renamed to op (TraceSplit p y f live) e = absurd cc
+
+renamed_across : (to : ℕ → ℕ) (o : Op) (v u : ℕ) → Across v u ≡ renamed to o → o ≡ Across v u
+renamed_across to (Compute Mov w a b) v u e = absurd cc
+renamed_across to (Compute Add w a b) v u e = absurd cc
+renamed_across to (Compute Sub w a b) v u e = absurd cc
+renamed_across to (Compute And w a b) v u e = absurd cc
+renamed_across to (Compute Or w a b) v u e = absurd cc
+renamed_across to (Compute Xor w a b) v u e = absurd cc
+renamed_across to (Compute Shl w a b) v u e = absurd cc
+renamed_across to (Compute Shr w a b) v u e = absurd cc
+renamed_across to (Compute Shru w a b) v u e = absurd cc
+renamed_across to (Compute Sh2add w a b) v u e = absurd cc
+renamed_across to (Compute Max w a b) v u e = absurd cc
+renamed_across to (Compute Min w a b) v u e = absurd cc
+renamed_across to (Compute (ToGeneral c) w a b) v u e = absurd cc
+renamed_across to (Compute (ToBranch c) w a b) v u e = absurd cc
+renamed_across to (Compute Mpylu w a b) v u e = absurd cc
+renamed_across to (Compute Mpyhs w a b) v u e = absurd cc
+renamed_across to (Compute Div w a b) v u e = absurd cc
+renamed_across to (Compute Rem w a b) v u e = absurd cc
+renamed_across to (Select w p a b) v u e = absurd cc
+renamed_across to (Place w a i) v u e = absurd cc
+renamed_across to (Load w a p d) v u e = absurd cc
+renamed_across to (Store a p x) v u e = absurd cc
+renamed_across to (More w) v u e = absurd cc
+renamed_across to (Input w) v u e = absurd cc
+renamed_across to (Text n) v u e = absurd cc
+renamed_across to (Decimal x) v u e = absurd cc
+renamed_across to (Across w x) v u e = sym e
+
+-- the operations of a clustered trace
+
+module _ (machine : Numbers) (graph : Graph) (m : MixedGraph) (blocks : List ℕ) (t : Trace) (r : Clusters) (works : IsMachine machine) (valid : Valid m) (G : IsGraphOf machine graph m) (can : CanTrace m blocks) (is : IsTraceOf m blocks t) (A : Assigned machine t m.homes r) (S : AllStand machine t m.homes r) where
+  abbrev N : ℕ
+  N = length m.banks
+
+  abbrev Last : ℕ → Option ℕ
+  Last = (last_books machine t m.homes r).homes
+
+  sound : Sound graph
+  sound = sound_is graph G.sound
+
+  many : t.values ≡ N
+  many = is.values
+
+  graph_many : length graph.banks ≡ N
+  graph_many = ap length (sym G.code.banks)
+
+  of_trace : (i : ℕ) (op : Op) → StandsAt t i (TracePlain op) → IsOp m op
+  of_trace i op at = is_op m blocks t can is op (index_in t.ops i (TracePlain op) at)
+
+  value_there : (i : ℕ) (op : TraceOp) → StandsAt t i op → IsFree t i → (v : ℕ) → IsIn v (reads_of op ++ writes_of op) → v < N
+  value_there i op at free v h = names_below machine graph m blocks t valid G can is i op at free v h
+
+  -- a general value that is read is read
+  general_read : (op : TraceOp) (v : ℕ) → IsIn v (general_reads op) → IsIn v (reads_of op)
+  general_read (TracePlain (Select w p a b)) v h = inr h
+  general_read (TracePlain (Compute code w a b)) v h = h
+  general_read (TracePlain (Place w a i)) v h = h
+  general_read (TracePlain (Load w a p d)) v h = h
+  general_read (TracePlain (Store a p x)) v h = h
+  general_read (TracePlain (More w)) v h = h
+  general_read (TracePlain (Input w)) v h = h
+  general_read (TracePlain (Text n)) v h = h
+  general_read (TracePlain (Decimal x)) v h = h
+  general_read (TracePlain (Across w u)) v h = h
+  general_read (TraceSplit p y e live) v h = absurd h
+
+  plain_reads : (op : TraceOp) (v : ℕ) → IsIn v (general_reads op) → (o : Op) × (op ≡ TracePlain o)
+  plain_reads (TracePlain o) v h = (o, refl)
+  plain_reads (TraceSplit p y e live) v h = absurd h
+
+  module _ (op : Op) (k : ℕ) (there : k < machine.clusters) where
+    pub record Facts : Type 0 where
+      pub comes : ComesFrom graph op
+      pub below : (v : ℕ) → IsIn v (names_of op) → v < (machine.clusters + 1) * N
+      pub away : (v u : ℕ) → op ≡ Across v u → AwayFrom m r.homes.clusters v u
+
+    away_of_old : IsOp m op → (v u : ℕ) → op ≡ Across v u → AwayFrom m r.homes.clusters v u
+    away_of_old o v u e =
+        let across : IsOp m (Across v u) = subst (IsOp m) e o in
+        let a = valid.away v u across in
+        record { is_copy = valid.copied v u across; value = a.0; home = a.1; has = S.homes_stay u a.1 a.2; other = a.3 }
+
+    old : IsOp m op → Facts
+    old o = record { comes = G.code.ops op o; below = λ v h. G.on.values op v o h; away = away_of_old o }
+
+    copying : (v : ℕ) → v < N → slice_get graph.banks v ≡ Some General → (home : ℕ) → has_home r.homes.clusters v ≡ Some home → home ≢ k → op ≡ Across (copy_of t.values v k) v → Facts
+    copying v lt bank home has other e =
+        let is_op : op ≡ Across (copy_of N v k) v = e ∙ ap (λ n. Across (copy_of n v k) v) many in
+        record {
+          comes = subst (ComesFrom graph) (sym (is_op ∙ ap (λ n. Across (copy_of n v k) v) (sym graph_many) ∙ ap (λ z. Across z v) (sym (one_more k (length graph.banks) v)))) (copy {u = v} {k = k} bank (let f = four_clusters machine works in omega (arith, there, f)));
+          below = λ w h. below_of w (subst (λ o. IsIn w (names_of o)) is_op h);
+          away = λ w u q. away_of w u (sym is_op ∙ q);
+        }
+      where
+        below_of : (w : ℕ) → IsIn w (names_of (Across (copy_of N v k) v)) → w < (machine.clusters + 1) * N
+        below_of w (inl q) = subst (λ z. z < (machine.clusters + 1) * N) (sym q) (value_below N v machine.clusters lt)
+        below_of w (inr (inl q)) = subst (λ z. z < (machine.clusters + 1) * N) (sym q) (copy_below N v k machine.clusters lt there)
+        below_of w (inr (inr h)) = absurd h
+
+        away_of : (w u : ℕ) → Across (copy_of N v k) v ≡ Across w u → AwayFrom m r.homes.clusters w u
+        away_of w u q =
+            let a : copy_of N v k ≡ w = cc in
+            let b : v ≡ u = cc in
+            record {
+              is_copy = subst (λ z. N ≤ z) a (behind_values N v k);
+              value = subst (λ z. z < N) b lt;
+              home = home;
+              has = subst (λ z. has_home r.homes.clusters z ≡ Some home) b has;
+              other = λ s. other (same home (subst (λ z. home_in m z ≡ Some home) (sym a) s));
+            }
+
+        same : (h : ℕ) → home_in m (copy_of N v k) ≡ Some h → h ≡ k
+        same h s =
+            let q : home_in m (copy_of N v k) ≡ Some k = ap (λ b. if b then has_home m.homes.clusters (copy_of N v k) else Some (copy_of N v k / N - 1)) (le-ltb (copy_of N v k) N (behind_values N v k)) ∙ ap Some (copy_home N v k lt) in
+            let z : Some h ≡ Some k = sym s ∙ q in
+            cc
+
+    renaming : (i : ℕ) (o : Op) → StandsAt t i (TracePlain o) → IsFree t i → op ≡ renamed (here t.values Last k) o → Facts
+    renaming i o at free e = record {
+      comes = comes_of (G.code.ops o (of_trace i o at)) e;
+      below = below_of;
+      away = λ v u q. absurd (no_copy v u (renamed_across (here t.values Last k) o v u (sym q ∙ e)));
+    }
+      where
+        to : ℕ → ℕ
+        to = here t.values Last k
+
+        named : (v : ℕ) → IsIn v (reads o ++ writes o) → v < N
+        named = value_there i (TracePlain o) at free
+
+        no_copy : (v u : ℕ) → o ≡ Across v u → ⊥
+        no_copy v u q =
+            let le : N ≤ v = valid.copied v u (subst (IsOp m) q (of_trace i o at)) in
+            let lt : v < N = named v (subst (λ z. IsIn v (reads z ++ writes z)) (sym q) (inr (inl refl))) in
+            omega (arith, le, lt)
+
+        to_below : (v : ℕ) → v < N → to v < (machine.clusters + 1) * N
+        to_below v lt = by (is_away (Last v) k)
+          where
+            by : (b : Bool) → (if b then copy_of t.values v k else v) < (machine.clusters + 1) * N
+            by true = subst (λ n. copy_of n v k < (machine.clusters + 1) * N) (sym many) (copy_below N v k machine.clusters lt there)
+            by false = value_below N v machine.clusters lt
+
+        below_of : (v : ℕ) → IsIn v (names_of op) → v < (machine.clusters + 1) * N
+        below_of v h = elim (in_either v (reads op) (writes op) h) [
+          | inl a ↦ read_below v (renamed_read to (TracePlain o) v (subst (λ z. IsIn v (reads z)) e a))
+          | inr b ↦ value_below N v machine.clusters (named v (in_right v (reads o) (writes o) (subst (IsIn v) (ap writes e ∙ renamed_writes to (TracePlain o)) b)))
+        ]
+          where
+            read_below : (v : ℕ) → InPlace to (general_reads (TracePlain o)) v ⊎ IsIn v (reads o) → v < (machine.clusters + 1) * N
+            read_below v (inl p) = subst (λ z. z < (machine.clusters + 1) * N) (sym p.is) (to_below p.value (named p.value (in_left p.value (reads o) (writes o) (general_read (TracePlain o) p.value p.is_read))))
+            read_below v (inr h) = value_below N v machine.clusters (named v (in_left v (reads o) (writes o) h))
+
+        comes_of : ComesFrom graph o → op ≡ renamed to o → ComesFrom graph op
+        comes_of (graph_op origin has same w names) q = graph_op origin has
+            (ap (λ z. dismissed (whole_op (length graph.banks) z)) q ∙ ap dismissed (whole_same (length graph.banks) to to_whole o) ∙ same)
+            (ap writes q ∙ renamed_writes to (TracePlain o) ∙ w)
+            (λ v h. subst (λ n. v < 5 * n) (sym graph_many) (all_copies N machine.clusters v (four_clusters machine works) (below_of v h)))
+          where
+            to_whole : (v : ℕ) → to v % length graph.banks ≡ v % length graph.banks
+            to_whole v = subst (λ n. here n Last k v % length graph.banks ≡ v % length graph.banks) (graph_many ∙ sym many) (here_whole (length graph.banks) Last k v)
+        comes_of (copy {u = u} {k = l} at low) q = subst (ComesFrom graph) (sym q) (copy {u = u} {k = l} at low)
+
+    facts_of : StandsFor t Last (TracePlain op) k → Facts
+    facts_of (copies i v home reader at free no h has other e) =
+        let p = plain_reads reader v h in
+        let at' : StandsAt t i (TracePlain p.0) = at ∙ ap Some p.1 in
+        let lt : v < N = value_there i reader at free v (in_left v (reads_of reader) (writes_of reader) (general_read reader v h)) in
+        let lt' : v < length graph.banks = subst (λ n. v < n) (sym graph_many) lt in
+        let knows : Known graph p.0 = known graph sound p.0 (G.code.ops p.0 (of_trace i p.0 at')) in
+        let bank : slice_get graph.banks v ≡ Some General = ap (slice_get graph.banks) (sym (mod-eq_of_lt lt')) ∙ knows.operands v (subst (λ o. IsIn v (general_reads o)) p.1 h) in
+        let there_home : has_home r.homes.clusters v ≡ Some home = A.homes_of_values v (subst (λ n. v < n) (sym many) lt) ∙ has in
+        copying v lt bank home there_home other (let q : op ≡ Across (copy_of t.values v k) v = cc in q)
+    facts_of (stays i at fixed) = old (of_trace i op at)
+    facts_of (renames i origin at free e) =
+        let o = of_renamed (here t.values Last k) op origin e in
+        renaming i o.0 (at ∙ ap Some o.1) free o.2
+
+  -- the facts of an operation at a place, and that it is at home
+
+  module _ (i : ℕ) (op : Op) (at : slice_get r.clustered.trace.ops i ≡ Some (TracePlain op)) where
+    well : StandsWell machine t m.homes r (TracePlain op) (slice_index_or r.clustered.clusters i 0)
+    well = S.each i (TracePlain op) at
+
+    facts : Facts op (slice_index_or r.clustered.clusters i 0) well.there
+    facts = facts_of op (slice_index_or r.clustered.clusters i 0) well.there well.for
+
+    pub op_comes : ComesFrom graph op
+    op_comes = facts.comes
+
+    pub op_below : (v : ℕ) → IsIn v (names_of op) → v < (machine.clusters + 1) * N
+    op_below = facts.below
+
+    pub op_away : (v u : ℕ) → op ≡ Across v u → AwayFrom m r.homes.clusters v u
+    op_away = facts.away
+
+    pub op_at_home : IsAtHome (has_home r.homes.clusters) (TracePlain op) (slice_index_or r.clustered.clusters i 0)
+    op_at_home = well.at_home
+
+    pub op_there : slice_index_or r.clustered.clusters i 0 < machine.clusters
+    op_there = well.there
+
+    pub op_known : Known graph op
+    op_known = known graph sound op facts.comes
