@@ -49,8 +49,12 @@ module _ (m : Numbers) (t : Trace) (homes : Homes) (r : Clusters) where
     pub homes_there : HomesAreThere m r
     pub room : RoomForEach m r
 
+-- the operand of a copy across is a value of the function's graph
+abbrev pub AcrossOfValues : Trace → Type 0
+AcrossOfValues t = (i v u : ℕ) → Stands t i (Plain (Across v u)) → u < t.values
+
 -- What is assigned stands well.
 abbrev pub AssignedStands : Type 0
 AssignedStands =
-    (m : Numbers) (t : Trace) (homes : Homes) (r : Clusters) → IsMachine m → BoundAtHome t homes → FixedAtHome t homes → FixedReadsHere t homes → ClustersAreThere m t homes → ValuesAreThere t → IsWellFormed t →
+    (m : Numbers) (t : Trace) (homes : Homes) (r : Clusters) → IsMachine m → BoundAtHome t homes → FixedAtHome t homes → FixedReadsHere t homes → ClustersAreThere m t homes → ValuesAreThere t → AcrossOfValues t → IsWellFormed t →
     CopiesAtHome t.values (home_of homes) → Assigned m t homes r → AllStand m t homes r

@@ -5,6 +5,8 @@ ghost use Rattle.vx_copies.specs.AtHome.{AssignedStands};
 ghost use Rattle.vx_copies.specs.Beside.{CopiesLaw, NothingNew};
 ghost use Rattle.vx_copies.specs.Ways.{ClusteredLaw, FitsLaw, ClusteredFitsLaw, AssignedFitsLaw, AssignedTraceFits};
 
+use vx_machine::room_alone_law;
+
 /// A trace and the trace with copies, run in order beside each other.
 pub fn copies_keep_the_trace()
     ensures law { CopiesLaw }
@@ -35,4 +37,6 @@ pub fn assigned_traces_fit()
 /// Each operation of the clustered trace stands where the values do that it names, and has room there.
 pub fn assigned_operations_stand()
     ensures { AssignedStands }
-{}
+{
+    room_alone_law();
+}

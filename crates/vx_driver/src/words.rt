@@ -62,6 +62,7 @@ fn layout_of(
     requires { Begins graph.now }
     ensures { IfOk result (λ layout. IsLayoutOf machine.now function graph.now layout) }
 {
+    machine.keeps_ranges();
     graphs_begin_so();
     all_steps_keep_the_graph();
     let mut begun = Mixed::from_graph(alloc, graph)?;

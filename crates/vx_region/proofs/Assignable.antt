@@ -27,7 +27,7 @@ use Rattle.vx_mixed.specs.Valid.{Valid, IsOp, names_of}
 use Rattle.vx_mixed.proofs.Linked.{index_in}
 use Rattle.vx_dep.specs.Delays.{Stands, reads_of, writes_of}
 use Rattle.vx_bug.specs.CanAssign.{IsFixed, IsFree, bound_writes, BoundAtHome, FixedAtHome, FixedReadsHere, ClustersAreThere, ValuesAreThere, CopiesHaveNumbers, IsWellFormed}
-use Rattle.vx_copies.specs.AtHome.{IsAtHome}
+use Rattle.vx_copies.specs.AtHome.{IsAtHome, AcrossOfValues}
 use Rattle.vx_copies.proofs.Tidied.{length_none, length_map}
 use Rattle.vx_region.specs.Regions.{IsGraphOf}
 use Rattle.vx_region.proofs.Formed.{fixed_many, up}
@@ -191,7 +191,7 @@ module _ (machine : Numbers) (graph : Graph) (m : MixedGraph) (blocks : List ℕ
   }
 
   pub fixed_reads_here : FixedReadsHere t m.homes
-  fixed_reads_here i cluster op v at fixed no h = (has_cluster i cluster op at fixed).at_home.reads v no h
+  fixed_reads_here i cluster op v at fixed own h = (has_cluster i cluster op at fixed).at_home.reads v own h
 
   pub each_fixed : length t.fixed ≡ length t.ops
   each_fixed = ap length is.fixed ∙ fixed_many m is.live blocks origins_fit ∙ ap length (sym is.ops)
@@ -227,6 +227,9 @@ module _ (machine : Numbers) (graph : Graph) (m : MixedGraph) (blocks : List ℕ
     reads = λ i op v at free h. subst (λ n. v < n) (sym many) (names_below i op at free v (in_left v (reads_of op) (writes_of op) h));
     writes = λ i op v at free h. subst (λ n. v < n) (sym many) (names_below i op at free v (in_right v (reads_of op) (writes_of op) h));
   }
+
+  pub across_of_values : AcrossOfValues t
+  across_of_values i v u at = subst (λ n. u < n) (sym many) (valid.away v u (is_op m blocks t can is (Across v u) (index_in t.ops i (TracePlain (Across v u)) at))).0
 
   pub copies_have_numbers : CopiesHaveNumbers t
   copies_have_numbers = subst (λ n. 5 * n < 2 ^ 32) (sym many) valid.copies

@@ -30,6 +30,7 @@ use Rattle.vx_cycles.specs.MadeBlocks.{MadeFacts}
 use Rattle.vx_cycles.specs.Paths.{UnusedEdge, IsHeaded}
 use Rattle.vx_cycles.proofs.Headed.{begins_headed, headed_by, stays}
 use Rattle.vx_cycles.proofs.MadeBlocks.{made_begins}
+use Rattle.vx_bug.proofs.Best.{some_clusters}
 use Rattle.vx_region.specs.Regions.{room_in, BeginsAsGraph}
 use Rattle.vx_region.proofs.ClusteredOps.{value_below}
 
@@ -147,11 +148,11 @@ module _ (m : MixedGraph) (f : ℕ) where
   }
 
 pub begins_on : BeginsWithCode → BeginsAsGraph
-begins_on with_code machine graph m f sound_test from = record {
+begins_on with_code machine graph m f works sound_test from = record {
   sound = sound_test;
   code = still_code m f graph (with_code graph m sound_test from);
   on = record {
-    homes = λ v k h. let q = (first graph m sound_test from v k h).zero_is in omega (arith, q);
+    homes = λ v k h. let q = (first graph m sound_test from v k h).zero_is in let some : 1 ≤ machine.clusters = some_clusters machine works in let z : k < machine.clusters = omega (arith, q, some) in z;
     copies_at_home = λ v k h le. absurd (let l = (first graph m sound_test from v k h).value in let e = ap length from.blocks.banks in omega (arith, l, le, e));
     bound = λ op v h e. bound_first graph m sound_test from op v (named_below graph sound_test op v (has graph m sound_test from op (op_of m f op h)) (in_right v (reads op) (writes op) (binds_written op v e))) (has graph m sound_test from op (op_of m f op h)) e;
     values = λ op v h i. value_below (length m.banks) v machine.clusters (banks_below op v (has graph m sound_test from op (op_of m f op h)) i);

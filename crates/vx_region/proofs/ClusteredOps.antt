@@ -358,6 +358,12 @@ module _ (machine : Numbers) (graph : Graph) (m : MixedGraph) (blocks : List ℕ
         below_of w (inr (inl q)) = subst (λ z. z < (machine.clusters + 1) * N) (sym q) (copy_below N v k machine.clusters lt there)
         below_of w (inr (inr h)) = absurd h
 
+        one_home : (h : ℕ) → home_in m (copy_of N v k) ≡ Some h → h ≡ k
+        one_home h s =
+            let q : home_in m (copy_of N v k) ≡ Some k = ap (λ b. if b then has_home m.homes.clusters (copy_of N v k) else Some (copy_of N v k / N - 1)) (le-ltb (copy_of N v k) N (behind_values N v k)) ∙ ap Some (copy_home N v k lt) in
+            let z : Some h ≡ Some k = sym s ∙ q in
+            cc
+
         away_of : (w u : ℕ) → Across (copy_of N v k) v ≡ Across w u → AwayFrom m r.homes.clusters w u
         away_of w u q =
             let a : copy_of N v k ≡ w = cc in
@@ -367,18 +373,12 @@ module _ (machine : Numbers) (graph : Graph) (m : MixedGraph) (blocks : List ℕ
               value = subst (λ z. z < N) b lt;
               home = home;
               has = subst (λ z. has_home r.homes.clusters z ≡ Some home) b has;
-              other = λ s. other (same home (subst (λ z. home_in m z ≡ Some home) (sym a) s));
+              other = λ s. other (one_home home (subst (λ z. home_in m z ≡ Some home) (sym a) s));
             }
-
-        same : (h : ℕ) → home_in m (copy_of N v k) ≡ Some h → h ≡ k
-        same h s =
-            let q : home_in m (copy_of N v k) ≡ Some k = ap (λ b. if b then has_home m.homes.clusters (copy_of N v k) else Some (copy_of N v k / N - 1)) (le-ltb (copy_of N v k) N (behind_values N v k)) ∙ ap Some (copy_home N v k lt) in
-            let z : Some h ≡ Some k = sym s ∙ q in
-            cc
 
     renaming : (i : ℕ) (o : Op) → StandsAt t i (TracePlain o) → IsFree t i → op ≡ renamed (here t.values Last k) o → Facts
     renaming i o at free e = record {
-      comes = comes_of (G.code.ops o (of_trace i o at)) e;
+      comes = comes_of o (G.code.ops o (of_trace i o at)) e;
       below = below_of;
       away = λ v u q. absurd (no_copy v u (renamed_across (here t.values Last k) o v u (sym q ∙ e)));
     }
@@ -412,18 +412,18 @@ module _ (machine : Numbers) (graph : Graph) (m : MixedGraph) (blocks : List ℕ
             read_below v (inl p) = subst (λ z. z < (machine.clusters + 1) * N) (sym p.is) (to_below p.value (named p.value (in_left p.value (reads o) (writes o) (general_read (TracePlain o) p.value p.is_read))))
             read_below v (inr h) = value_below N v machine.clusters (named v (in_left v (reads o) (writes o) h))
 
-        comes_of : ComesFrom graph o → op ≡ renamed to o → ComesFrom graph op
-        comes_of (graph_op origin has same w names) q = graph_op origin has
-            (ap (λ z. dismissed (whole_op (length graph.banks) z)) q ∙ ap dismissed (whole_same (length graph.banks) to to_whole o) ∙ same)
-            (ap writes q ∙ renamed_writes to (TracePlain o) ∙ w)
+        comes_of : (x : Op) → ComesFrom graph x → op ≡ renamed to x → ComesFrom graph op
+        comes_of x (graph_op origin has same w names) q = graph_op origin has
+            (ap (λ z. dismissed (whole_op (length graph.banks) z)) q ∙ ap dismissed (whole_same (length graph.banks) to to_whole x) ∙ same)
+            (ap writes q ∙ renamed_writes to (TracePlain x) ∙ w)
             (λ v h. subst (λ n. v < 5 * n) (sym graph_many) (all_copies N machine.clusters v (four_clusters machine works) (below_of v h)))
           where
             to_whole : (v : ℕ) → to v % length graph.banks ≡ v % length graph.banks
             to_whole v = subst (λ n. here n Last k v % length graph.banks ≡ v % length graph.banks) (graph_many ∙ sym many) (here_whole (length graph.banks) Last k v)
-        comes_of (copy {u = u} {k = l} at low) q = subst (ComesFrom graph) (sym q) (copy {u = u} {k = l} at low)
+        comes_of x (copy {u = u} {k = l} there low) q = subst (ComesFrom graph) (sym q) (copy {u = u} {k = l} there low)
 
     facts_of : StandsFor t Last (TracePlain op) k → Facts
-    facts_of (copies i v home reader at free no h has other e) =
+    facts_of (copies i v home reader at free own h has other e) =
         let p = plain_reads reader v h in
         let at' : StandsAt t i (TracePlain p.0) = at ∙ ap Some p.1 in
         let lt : v < N = value_there i reader at free v (in_left v (reads_of reader) (writes_of reader) (general_read reader v h)) in

@@ -14,6 +14,7 @@ use Rattle.vx_mixed.specs.declared.mixed.MixedGraph.{MixedGraph}
 use Rattle.vx_mixed.specs.declared.replacement.Replacement.{Replacement}
 use Rattle.vx_mixed.specs.Next.{next_mixed, nodes_from, trace_node, made_node, entered_at, rejoin_at, renamed_node, new_end, renamed_region, new_region}
 use Rattle.vx_mixed.proofs.NewNodes.{nodes_length}
+use Rattle.vx_copies.specs.AtHome.{AssignedStands}
 use Rattle.vx_region.specs.RegionPlans.{IsPlaced}
 use Rattle.vx_region.specs.Regions.{replacement_by}
 use Rattle.vx_region.specs.Growth.{copies_of, made_blocks, HasMode}
@@ -86,8 +87,8 @@ blocks_are_used m r can = by r.trace.blocks refl
         let made : unused_in (map made_node r.made) ≡ length r.made = unused_made r.made in
         omega (arith, less, parts, made)
 
-pub plans_grow : PlansGrow
-plans_grow machine counts cap used used' graph m m' plan valid G x =
+pub plans_grow : AssignedStands → PlansGrow
+plans_grow law machine counts cap used used' graph m m' plan valid G x =
     let p = plan.placed in
     let few : made_blocks p ≤ copies_of p = few_made p in
     let c : p.clustered ≡ x.clusters.clustered = x.placed.clustered in
@@ -98,7 +99,7 @@ plans_grow machine counts cap used used' graph m m' plan valid G x =
       has_mode = subst (λ z. HasMode z machine x.clusters.homes cap used plan.mode) (sym c) x.mode;
       is_placed = subst (λ z. IsPlaced z machine x.clusters.homes plan.mode p) (sym c) x.placed;
       replacement = replacement_by machine x.clusters.homes p;
-      can = (after_one machine counts cap used used' graph m m' plan valid G x).can_trace;
+      can = (after_one law machine counts cap used used' graph m m' plan valid G x).can_trace;
       made = few;
       next = x.next;
       rises = x.rises;

@@ -14,7 +14,7 @@ use Rattle.vx_flow.specs.declared.trace.Clustered.{Clustered as ClusteredTrace}
 use Rattle.vx_flow.specs.declared.trace.Trace.{Trace}
 use Rattle.vx_flow.specs.declared.trace.Placed.{Placed}
 use Rattle.vx_flow.specs.declared.trace.Homes.{Homes}
-use Rattle.vx_flow.specs.Effects.{IsIn}
+use Rattle.vx_flow.specs.Effects.{Setting, IsIn}
 use Rattle.vx_flow.specs.Sound.{targets_of}
 use Rattle.vx_flow.specs.Walk.{edge, numbers}
 use Rattle.vx_flow.proofs.Members.{in_left, in_right, in_either}
@@ -78,25 +78,25 @@ index_some (x ∷ xs) (suc k) w e = index_some xs k w e
 once_splits : (ops : List TraceOp) → Once ops → Once (splits_of ops)
 once_splits [] h = tt
 once_splits (TracePlain op ∷ ops) h = once_splits ops h
-once_splits (TraceSplit p y e live ∷ ops) h = ((λ q z f l i. h.0 q z f l (of_splits ops i)), once_splits ops h.1)
+once_splits (TraceSplit p y e live ∷ ops) h = ((λ q z f l i. h.0 q z f l (of_splits q z f l ops i)), once_splits ops h.1)
   where
-    of_splits : (xs : List TraceOp) {q : ℕ} {z : Bool} {f : Edge} {l : List ℕ} → IsIn (TraceSplit q z f l) (splits_of xs) → IsIn (TraceSplit q z f l) xs
-    of_splits [] i = i
-    of_splits (TracePlain op ∷ xs) i = inr (of_splits xs i)
-    of_splits (TraceSplit p y e live ∷ xs) (inl e2) = inl e2
-    of_splits (TraceSplit p y e live ∷ xs) (inr i) = inr (of_splits xs i)
+    of_splits : (q : ℕ) (z : Bool) (f : Edge) (l : List ℕ) (xs : List TraceOp) → IsIn (TraceSplit q z f l) (splits_of xs) → IsIn (TraceSplit q z f l) xs
+    of_splits q z f l [] i = i
+    of_splits q z f l (TracePlain op ∷ xs) i = inr (of_splits q z f l xs i)
+    of_splits q z f l (TraceSplit p2 y2 e2 l2 ∷ xs) (inl r) = inl r
+    of_splits q z f l (TraceSplit p2 y2 e2 l2 ∷ xs) (inr i) = inr (of_splits q z f l xs i)
 
 splits_once : (ops : List TraceOp) → Once (splits_of ops) → Once ops
 splits_once [] h = tt
 splits_once (TracePlain op ∷ ops) h = splits_once ops h
-splits_once (TraceSplit p y e live ∷ ops) h = ((λ q z f l i. h.0 q z f l (to_splits ops i)), splits_once ops h.1)
+splits_once (TraceSplit p y e live ∷ ops) h = ((λ q z f l i. h.0 q z f l (to_splits q z f l ops i)), splits_once ops h.1)
   where
-    to_splits : (xs : List TraceOp) {q : ℕ} {z : Bool} {f : Edge} {l : List ℕ} → IsIn (TraceSplit q z f l) xs → IsIn (TraceSplit q z f l) (splits_of xs)
-    to_splits [] i = i
-    to_splits (TracePlain op ∷ xs) (inl e2) = cc
-    to_splits (TracePlain op ∷ xs) (inr i) = to_splits xs i
-    to_splits (TraceSplit p y e live ∷ xs) (inl e2) = inl e2
-    to_splits (TraceSplit p y e live ∷ xs) (inr i) = inr (to_splits xs i)
+    to_splits : (q : ℕ) (z : Bool) (f : Edge) (l : List ℕ) (xs : List TraceOp) → IsIn (TraceSplit q z f l) xs → IsIn (TraceSplit q z f l) (splits_of xs)
+    to_splits q z f l [] i = i
+    to_splits q z f l (TracePlain op ∷ xs) (inl r) = absurd (let w : TraceSplit q z f l ≡ TracePlain op = r in cc)
+    to_splits q z f l (TracePlain op ∷ xs) (inr i) = to_splits q z f l xs i
+    to_splits q z f l (TraceSplit p2 y2 e2 l2 ∷ xs) (inl r) = inl r
+    to_splits q z f l (TraceSplit p2 y2 e2 l2 ∷ xs) (inr i) = inr (to_splits q z f l xs i)
 
 -- a trace of these blocks, with clusters, placed
 
@@ -338,9 +338,9 @@ module _ (m : MixedGraph) (machine : Numbers) (mode : Mode) (homes : Homes) (t :
   made_there x h = by (made_of_copy x h)
     where
       by : OfCopy (S ++ J) x → (is_split_edge c.trace.ops x.edge ≡ true) ⊎ ((j : Join) × IsIn j c.trace.joins × IsIn x.edge j.edges)
-      by c = elim (in_either c.copy S J c.has) [
-        | inl a ↦ (let s = of_split words c 0 c.trace.ops c.copy a in inl (ap (is_split_edge c.trace.ops) c.edge ∙ is_split c.trace.ops s.0 s.1 c.copy.edge s.2 s.3))
-        | inr b ↦ (let k = of_join P c.trace.joins c.copy b in inr (k.0, k.1, subst (λ z. IsIn z k.0.edges) (sym c.edge) k.2))
+      by o = elim (in_either o.copy S J o.has) [
+        | inl a ↦ (let s = of_split words c 0 c.trace.ops o.copy a in inl (ap (is_split_edge c.trace.ops) o.edge ∙ is_split c.trace.ops s.0 s.1 o.copy.edge s.2 s.3))
+        | inr b ↦ (let k = of_join P c.trace.joins o.copy b in inr (k.0, k.1, subst (λ z. IsIn z k.0.edges) (sym o.edge) k.2))
       ]
 
   pub compensated : Compensated (latency_of_op machine) m R

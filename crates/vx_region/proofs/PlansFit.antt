@@ -51,7 +51,7 @@ use Rattle.vx_copies.proofs.FromValid.{assigned_trace_fits}
 use Rattle.vx_region.specs.Planned.{placed_in, replacement_of, Planned}
 use Rattle.vx_region.specs.PlanLaws.{PlanLaw}
 use Rattle.vx_region.specs.Regions.{room_in, IsGraphOf, FitsIn, PlansFit}
-use Rattle.vx_region.proofs.Assignable.{bound_at_home, fixed_at_home, fixed_reads_here, clusters_are_there, values_are_there, is_well_formed}
+use Rattle.vx_region.proofs.Assignable.{bound_at_home, fixed_at_home, fixed_reads_here, clusters_are_there, values_are_there, across_of_values, is_well_formed}
 use Rattle.vx_region.proofs.ClusteredOps.{all_copies, stands, dismissed_at_home, op_comes, op_below, op_away, op_at_home, op_there, op_known}
 use Rattle.vx_region.proofs.Formed.{splits_many}
 use Rattle.vx_region.proofs.PlainItems.{some_at}
@@ -69,10 +69,11 @@ within n q pieces = by n pieces
     by zero ps = omega arith
     by (suc n) [] = omega arith
     by (suc n) (p ∷ ps) =
-        let rest = by n ps in
+        let rest : length (joined (take n ps)) ≤ length (joined (take (n + q) ps)) = by n ps in
+        let more : suc n + q ≡ suc (n + q) = omega arith in
         let a : length (p ++ joined (take n ps)) ≡ length p + length (joined (take n ps)) = length-append p (joined (take n ps)) in
         let b : length (p ++ joined (take (n + q) ps)) ≡ length p + length (joined (take (n + q) ps)) = length-append p (joined (take (n + q) ps)) in
-        omega (arith, rest, a, b)
+        subst (λ z. length (joined (take (suc n) (p ∷ ps))) ≤ length (joined (take z (p ∷ ps)))) (sym more) (let l : length (p ++ joined (take n ps)) ≤ length (p ++ joined (take (n + q) ps)) = omega (arith, rest, a, b) in l)
 
 further : (a b : ℕ) (pieces : List (List Standing)) → a ≤ b → length (joined (take a pieces)) ≤ length (joined (take b pieces))
 further a b pieces le = by a b le
@@ -345,7 +346,7 @@ module _ (machine : Numbers) (graph : Graph) (m : MixedGraph) (t : Trace) (k : C
 
     to_splits : (p : ℕ) (y : Bool) (e : Edge) (live : List ℕ) (xs : List TraceOp) → IsIn (TraceSplit p y e live) xs → IsIn (TraceSplit p y e live) (splits_of xs)
     to_splits p y e live [] i = i
-    to_splits p y e live (TracePlain op ∷ xs) (inl q) = absurd cc
+    to_splits p y e live (TracePlain op ∷ xs) (inl q) = absurd (let w : TraceSplit p y e live ≡ TracePlain op = q in cc)
     to_splits p y e live (TracePlain op ∷ xs) (inr i) = to_splits p y e live xs i
     to_splits p y e live (TraceSplit q z f l ∷ xs) (inl q2) = inl q2
     to_splits p y e live (TraceSplit q z f l ∷ xs) (inr i) = inr (to_splits p y e live xs i)
@@ -396,7 +397,7 @@ module _ (law : AssignedStands) where
       record {
         can = own;
         is = trace;
-        stand = law machine t m.homes k works (bound_at_home machine graph m blocks t valid G can is) (fixed_at_home machine graph m blocks t valid G can is) (fixed_reads_here machine graph m blocks t valid G can is) (clusters_are_there machine graph m blocks t valid G can is) there well
+        stand = law machine t m.homes k works (bound_at_home machine graph m blocks t valid G can is) (fixed_at_home machine graph m blocks t valid G can is) (fixed_reads_here machine graph m blocks t valid G can is) (clusters_are_there machine graph m blocks t valid G can is) there (across_of_values machine graph m blocks t valid G can is) well
             (λ v c e le. subst (λ n. (w : ℕ) × (w < n) × (v ≡ (c + 1) * n + w)) (sym is.values) (G.on.copies_at_home v c e (subst (λ n. n ≤ v) is.values le))) A;
         fits = fits_of k.clustered.trace.blocks own trace well there;
       }

@@ -1,5 +1,5 @@
 -- What is known of an operation that comes from a sound graph: the banks of the values that it names, and its arrays.
-use Rattle.std.proofs.Common.{◌≡◌, ◌⊎◌, inl, inr, ℕ, ◌+◌, ◌*◌, ◌<◌, Bool, true, false, Some, List, [], ◌∷◌, ◌++◌, length, map, slice_get, refl, sym, ap, ◌∙◌, subst, arith}
+use Rattle.std.proofs.Common.{◌≡◌, ◌⊎◌, inl, inr, ℕ, suc, ◌+◌, ◌*◌, ◌<◌, Bool, true, false, Some, List, [], ◌∷◌, ◌++◌, length, map, slice_get, refl, sym, ap, ◌∙◌, subst, arith}
 use Rattle.std.specs.Prelude.{◌%◌, if◌then◌else◌}
 use Rattle.std.proofs.Math.Nat.{mod-eq_of_lt}
 use Rattle.std.proofs.lemmas.Nat.{mod-mul-add}
@@ -131,20 +131,20 @@ abbrev NotAcross : Op → Type 0
 NotAcross op = (v u : ℕ) → op ≡ Across v u → ⊥
 
 held_operand : (n v : ℕ) (op : Op) → NotAcross op → IsIn v (general_reads (Plain op)) → IsIn (Held (whole n v)) (operands_of (whole_op n op))
-held_operand n v (Compute code w a b) no h = by (is_unary code) refl h
+held_operand n v (Compute code w a b) not h = by (is_unary code) refl h
   where
     by : (u : Bool) → is_unary code ≡ u → IsIn v (if u then value_in a else value_in a ++ value_in b) → IsIn (Held (whole n v)) (operands_of (whole_op n (Compute code w a b)))
     by true e i = one_of n v a (operands_of (whole_op n (Compute code w a b))) i (first_operand code (whole n w) (whole_operand n a) (whole_operand n b))
     by false e i = two_of n v a b (operands_of (whole_op n (Compute code w a b))) i (first_operand code (whole n w) (whole_operand n a) (whole_operand n b)) (second_operand code (whole n w) (whole_operand n a) (whole_operand n b) e)
-held_operand n v (Select w p a b) no h = two_of n v a b (operands_of (whole_op n (Select w p a b))) h (inl refl) (inr (inl refl))
-held_operand n v (Place w a i) no h = one_of n v i (operands_of (whole_op n (Place w a i))) h (inl refl)
-held_operand n v (Load w a p d) no h = one_of n v p (operands_of (whole_op n (Load w a p d))) h (inl refl)
-held_operand n v (Store a p x) no h = two_of n v p x (operands_of (whole_op n (Store a p x))) h (inl refl) (inr (inl refl))
-held_operand n v (More w) no h = absurd h
-held_operand n v (Input w) no h = absurd h
-held_operand n v (Text k) no h = absurd h
-held_operand n v (Decimal x) no h = one_of n v x (operands_of (whole_op n (Decimal x))) h (inl refl)
-held_operand n v (Across w u) no h = absurd (no w u refl)
+held_operand n v (Select w p a b) not h = two_of n v a b (operands_of (whole_op n (Select w p a b))) h (inl refl) (inr (inl refl))
+held_operand n v (Place w a i) not h = one_of n v i (operands_of (whole_op n (Place w a i))) h (inl refl)
+held_operand n v (Load w a p d) not h = one_of n v p (operands_of (whole_op n (Load w a p d))) h (inl refl)
+held_operand n v (Store a p x) not h = two_of n v p x (operands_of (whole_op n (Store a p x))) h (inl refl) (inr (inl refl))
+held_operand n v (More w) not h = absurd h
+held_operand n v (Input w) not h = absurd h
+held_operand n v (Text k) not h = absurd h
+held_operand n v (Decimal x) not h = one_of n v x (operands_of (whole_op n (Decimal x))) h (inl refl)
+held_operand n v (Across w u) not h = absurd (not w u refl)
 
 -- what is known: the bank of a copy is that of its value
 
@@ -155,7 +155,7 @@ pub record Known (graph : Graph) (op : Op) : Type 0 where
   pub arrays : (a : ℕ) → IsIn a (arrays_of op) → a < length graph.arrays
 
 not_across : (graph : Graph) → Sound graph → (op origin : Op) → dismissed (whole_op (length graph.banks) op) ≡ dismissed origin → ((v u : ℕ) → origin ≡ Across v u → ⊥) → NotAcross op
-not_across graph sound op origin same no v u e = by origin no (ap (λ z. dismissed (whole_op (length graph.banks) z)) (sym e) ∙ same)
+not_across graph sound op origin same not v u e = by origin not (ap (λ z. dismissed (whole_op (length graph.banks) z)) (sym e) ∙ same)
   where
     by : (o : Op) → ((v u : ℕ) → o ≡ Across v u → ⊥) → Across (whole (length graph.banks) v) (whole (length graph.banks) u) ≡ dismissed o → ⊥
     by (Compute code w a b) n q = cc
@@ -170,7 +170,7 @@ not_across graph sound op origin same no v u e = by origin no (ap (λ z. dismiss
     by (Across w x) n q = n w x refl
 
 pub copy_is_whole : (n u k : ℕ) → u < n → copy_of n u k % n ≡ u
-copy_is_whole n u k lt = mod-mul-add (k + 1) n u lt
+copy_is_whole n u k lt = let e : suc k ≡ k + 1 = omega arith in ap (λ z. (z * n + u) % n) e ∙ mod-mul-add (k + 1) n u lt
 
 pub known : (graph : Graph) → Sound graph → (op : Op) → ComesFrom graph op → Known graph op
 known graph sound op (graph_op origin has same written names) =
@@ -180,8 +180,8 @@ known graph sound op (graph_op origin has same written names) =
           let at : slice_get graph.banks v ≡ Some (bank_written origin) = sound.results origin v has (subst (IsIn v) written h) in
           ap (slice_get graph.banks) (mod-eq_of_lt (slice_get_within graph.banks v (bank_written origin) at)) ∙ at ∙ ap Some (sym (sym (bank_whole n op) ∙ sym (bank_dismissed (whole_op n op)) ∙ ap bank_written same ∙ bank_dismissed origin));
       operands = λ v h.
-          let no : NotAcross op = not_across graph sound op origin same (λ x y e. sound.no_across x y (subst (HasOperation graph) e has)) in
-          let i : IsIn (Held (whole n v)) (operands_of (whole_op n op)) = held_operand n v op no h in
+          let not : NotAcross op = not_across graph sound op origin same (λ x y e. sound.no_across x y (subst (HasOperation graph) e has)) in
+          let i : IsIn (Held (whole n v)) (operands_of (whole_op n op)) = held_operand n v op not h in
           sound.operands origin (Held (whole n v)) has (subst (IsIn (Held (whole n v))) (sym (operands_dismissed (whole_op n op)) ∙ ap operands_of same ∙ operands_dismissed origin) i);
       tests = λ v h.
           let tests : map (whole n) (tests_of op) ≡ tests_of origin = sym (tests_whole n op) ∙ sym (tests_dismissed (whole_op n op)) ∙ ap tests_of same ∙ tests_dismissed origin in

@@ -21,18 +21,19 @@ use Rattle.vx_mixed.proofs.StayBrief.{brief_stays}
 use Rattle.vx_mixed.proofs.StaysValid.{stays_valid}
 use Rattle.vx_bug.specs.declared.clusters.Clusters.{Clusters}
 use Rattle.vx_bug.specs.Assigned.{Assigned}
-use Rattle.vx_copies.proofs.AllStand.{assigned_stands}
+use Rattle.vx_copies.specs.AtHome.{AssignedStands}
 use Rattle.vx_profile.specs.declared.counts.Counts.{Counts}
 use Rattle.vx_trace.specs.Picked.{Picked, count_of_block}
 use Rattle.vx_cycles.specs.Paths.{IsHeaded}
 use Rattle.vx_cycles.proofs.Tracing.{paths_can_be_traced}
 use Rattle.vx_region.specs.declared.placed_trace.PlacedTrace.{PlacedTrace}
 use Rattle.vx_region.specs.declared.step.Next.{Next as NextOf}
+use Rattle.vx_region.specs.declared.step.OnClusters.{OnClusters}
 use Rattle.vx_region.specs.declared.trace_plan.TracePlan.{TracePlan}
 use Rattle.vx_region.specs.Planned.{Planned}
 use Rattle.vx_region.specs.Owed.{IsPlacedWithin}
 use Rattle.vx_region.specs.Regions.{IsGraphOf, FitsIn, ReplacesOne, ReplacesAll, Finished, Next, AllKeep, StepKeeps, replacement_by}
-use Rattle.vx_region.specs.Stepping.{IsNext, IsNextBy, Stepped}
+use Rattle.vx_region.specs.Stepping.{IsNext, IsNextBy, IsOnClusters, Stepped}
 use Rattle.vx_region.proofs.OneStep.{region_keeps, StepsOn}
 use Rattle.vx_region.proofs.PlanFits.{made_by, planned_by, replaced_by}
 use Rattle.vx_region.proofs.PlansFit.{plans_fit}
@@ -70,13 +71,13 @@ pub record After (machine : Numbers) (graph : Graph) (m m' : MixedGraph) (r : Re
   pub valid : Valid m'
   pub many : length m.nodes ≤ length m'.nodes
 
-pub after_one : (machine : Numbers) (counts : Counts) (cap used used' : ℕ) (graph : Graph) (m m' : MixedGraph) (plan : TracePlan) → Valid m → IsGraphOf machine graph m → (x : ReplacesOne machine counts cap m used plan m' used') → After machine graph m m' (replacement_by machine x.clusters.homes plan.placed)
-after_one machine counts cap used used' graph m m' plan valid G x =
+pub after_one : AssignedStands → (machine : Numbers) (counts : Counts) (cap used used' : ℕ) (graph : Graph) (m m' : MixedGraph) (plan : TracePlan) → Valid m → IsGraphOf machine graph m → (x : ReplacesOne machine counts cap m used plan m' used') → After machine graph m m' (replacement_by machine x.clusters.homes plan.placed)
+after_one law machine counts cap used used' graph m m' plan valid G x =
     let r : Replacement = replacement_by machine x.clusters.homes plan.placed in
     let can : CanTrace m plan.blocks = picked_can m counts plan.blocks valid G.headed x.picked in
     let planned : Planned m plan.blocks machine plan.mode r = planned_by machine counts cap used used' m m' plan x in
-    let fit : FitsIn machine m r = plans_fit assigned_stands graph m plan.blocks machine plan.mode r valid can G planned in
-    let on : StepsOn machine graph m (next_mixed m r) r = region_keeps assigned_stands code_stays brief_stays machine graph m plan.blocks plan.mode r valid can G planned in
+    let fit : FitsIn machine m r = plans_fit law graph m plan.blocks machine plan.mode r valid can G planned in
+    let on : StepsOn machine graph m (next_mixed m r) r = region_keeps law code_stays brief_stays machine graph m plan.blocks plan.mode r valid can G planned in
     let here : plan.blocks ≡ r.trace.blocks = sym (ap (λ z. z.trace.blocks) x.placed.clustered ∙ ap (λ z. z.trace.blocks) x.assigned.clustered ∙ x.is_trace.blocks_are) in
     let many : length m.nodes ≤ length (next_mixed m r).nodes = more_nodes m r in
     record {
@@ -89,16 +90,16 @@ after_one machine counts cap used used' graph m m' plan valid G x =
       many = subst (λ (z : MixedGraph). length m.nodes ≤ length z.nodes) (sym x.next) many;
     }
 
-pub step_keeps : StepKeeps
-step_keeps machine counts cap used used' graph m m' plan valid G x = let a = after_one machine counts cap used used' graph m m' plan valid G x in (a.keeps, a.becomes, a.is)
+pub step_keeps : AssignedStands → StepKeeps
+step_keeps law machine counts cap used used' graph m m' plan valid G x = let a = after_one law machine counts cap used used' graph m m' plan valid G x in (a.keeps, a.becomes, a.is)
 
 -- one step after the other
 
-pub all_keep : AllKeep
-all_keep machine counts cap used used' graph m m' plans valid G (Finished done) = record { done = done; steps = Stays; is = G; many = omega arith }
-all_keep machine counts cap used used' graph m m' plans valid G (Next {n = n} {more = more} {plan = plan} {plans = rest} one others) =
-    let a = after_one machine counts cap used more graph m n plan valid G one in
-    let all = all_keep machine counts cap more used' graph n m' rest a.valid a.is others in
+pub all_keep : AssignedStands → AllKeep
+all_keep law machine counts cap used used' graph m m' plans valid G (Finished done) = record { done = done; steps = Stays; is = G; many = omega arith }
+all_keep law machine counts cap used used' graph m m' plans valid G (Next {n = n} {more = more} {plan = plan} {plans = rest} one others) =
+    let a = after_one law machine counts cap used more graph m n plan valid G one in
+    let all = all_keep law machine counts cap more used' graph n m' rest a.valid a.is others in
     let x = a.many in
     let y = all.many in
     record { done = all.done; steps = Goes a.becomes all.steps; is = all.is; many = omega (arith, x, y) }
@@ -107,9 +108,9 @@ module _ (machine : Numbers) (counts : Counts) (cap used : ℕ) (first : MixedGr
   pub stepped_start : (graph : Graph) → Valid first → IsGraphOf machine graph first → Stepped machine counts cap first used [] first used
   stepped_start graph valid G = record { graph = graph; is = G; valid = valid; all = λ more last end all. all }
 
-  pub stepped_more : (m m' : MixedGraph) (now later : ℕ) (plans : List TracePlan) (plan : TracePlan) → Stepped machine counts cap first used plans m now → ReplacesOne machine counts cap m now plan m' later → Stepped machine counts cap first used (plans ++ plan ∷ []) m' later
-  stepped_more m m' now later plans plan s one =
-      let a = after_one machine counts cap now later s.graph m m' plan s.valid s.is one in
+  pub stepped_more : AssignedStands → (m m' : MixedGraph) (now later : ℕ) (plans : List TracePlan) (plan : TracePlan) → Stepped machine counts cap first used plans m now → ReplacesOne machine counts cap m now plan m' later → Stepped machine counts cap first used (plans ++ plan ∷ []) m' later
+  stepped_more law m m' now later plans plan s one =
+      let a = after_one law machine counts cap now later s.graph m m' plan s.valid s.is one in
       record {
         graph = s.graph;
         is = a.is;
@@ -122,9 +123,9 @@ module _ (machine : Numbers) (counts : Counts) (cap used : ℕ) (first : MixedGr
 
 -- what a step is made of
 
-pub is_next : (machine : Numbers) (counts : Counts) (cap used : ℕ) (graph : Graph) (m : MixedGraph) (blocks : List ℕ) (count : ℕ) (t : Trace) (k : Clusters) (x : PlacedTrace) (next : NextOf) → is_machine machine ≡ true → Valid m → IsGraphOf machine graph m → (picked : Picked m counts blocks) → count ≡ count_of_block m counts picked.seed →
+pub is_next : AssignedStands → (machine : Numbers) (counts : Counts) (cap used : ℕ) (graph : Graph) (m : MixedGraph) (blocks : List ℕ) (count : ℕ) (t : Trace) (k : Clusters) (x : PlacedTrace) (next : NextOf) → is_machine machine ≡ true → Valid m → IsGraphOf machine graph m → (picked : Picked m counts blocks) → count ≡ count_of_block m counts picked.seed →
     IsTraceOf m blocks t → Assigned machine t m.homes k → IsPlacedWithin k.clustered machine k.homes cap used x → IsNextBy m.function blocks count k.homes x next → IsNext machine counts cap m used next
-is_next machine counts cap used graph m blocks count t k x next one valid G picked count_is is assigned w by =
+is_next law machine counts cap used graph m blocks count t k x next one valid G picked count_is is assigned w by =
     let R : Replacement = made_by k.homes x.placed x.owed in
     let P : TracePlan = record { function = m.function; blocks = blocks; count = count; mode = x.mode; placed = x.placed; splits = x.owed.splits; rejoins = x.owed.rejoins } in
     let same : R ≡ replacement_by machine k.homes x.placed = replaced_by machine k.homes x.placed x.owed w.owed in
@@ -144,10 +145,17 @@ is_next machine counts cap used graph m blocks count t k x next one valid G pick
       next = ap (next_mixed m) same;
       rises = w.rises;
     } in
-    let can : CanReplace m (replacement_by machine k.homes x.placed) = (after_one machine counts cap used x.used graph m (next_mixed m R) P valid G step).can in
+    let can : CanReplace m (replacement_by machine k.homes x.placed) = (after_one law machine counts cap used x.used graph m (next_mixed m R) P valid G step).can in
     record {
       can = subst (CanReplace m) (sym same ∙ sym by.replacement) can;
       one = subst (λ z. ReplacesOne machine counts cap m used z (next_mixed m next.replacement) next.used) (sym by.plan)
           (subst (λ z. ReplacesOne machine counts cap m used P (next_mixed m z) next.used) (sym by.replacement)
           (subst (λ n. ReplacesOne machine counts cap m used P (next_mixed m R) n) (sym by.used) step));
     }
+
+pub is_next_on : AssignedStands → (machine : Numbers) (counts : Counts) (cap used : ℕ) (graph : Graph) (m : MixedGraph) (blocks : List ℕ) (count : ℕ) (on : OnClusters) (x : PlacedTrace) (next : NextOf) → is_machine machine ≡ true → Valid m → IsGraphOf machine graph m → (picked : Picked m counts blocks) → count ≡ count_of_block m counts picked.seed →
+    IsOnClusters machine m blocks on → IsPlacedWithin on.clustered machine on.homes cap used x → IsNextBy m.function blocks count on.homes x next → IsNext machine counts cap m used next
+is_next_on law machine counts cap used graph m blocks count on x next one valid G picked count_is h w by =
+    is_next law machine counts cap used graph m blocks count h.trace h.clusters x next one valid G picked count_is h.is_trace h.assigned
+    (subst (λ z. IsPlacedWithin h.clusters.clustered machine z cap used x) h.homes_is (subst (λ z. IsPlacedWithin z machine on.homes cap used x) h.clustered_is w))
+    (subst (λ z. IsNextBy m.function blocks count z x next) h.homes_is by)

@@ -17,7 +17,7 @@ at_plain [] j op e = absurd cc
 at_plain (o ∷ ops) zero op e = let q : op ≡ Plain o = cc in (o, refl, q)
 at_plain (o ∷ ops) (suc j) op e = at_plain ops j op e
 
-none_there : (n j : ℕ) → slice_index_or {A = Option ℕ} (replicate n None) j None ≡ None
+pub none_there : (n j : ℕ) → slice_index_or {A = Option ℕ} (replicate n None) j None ≡ None
 none_there zero j = refl
 none_there (suc n) zero = refl
 none_there (suc n) (suc j) = none_there n j
@@ -37,7 +37,7 @@ module _ (m : MixedGraph) (live : ℕ → List ℕ) where
 
   pub place_in : (blocks : List ℕ) (i : ℕ) (op : TraceOp) → ((b : ℕ) → IsIn b blocks → Long b) → slice_get (trace_ops m live blocks) i ≡ Some op → PlaceIn blocks op (slice_index_or (trace_fixed m live blocks) i None)
   place_in [] i op long at = absurd cc
-  place_in (b ∷ bs) i op long at = by (in_part (block_ops m live b bs) (trace_ops m live bs) i op at)
+  place_in (b ∷ bs) i op long at = by (in_part (block_ops m live b bs) (trace_ops m live bs) i op at) (λ j q. place_in bs j op (λ c h. long c (inr h)) q)
     where
       ops : List Op
       ops = (block_at m b).ops
@@ -69,10 +69,10 @@ module _ (m : MixedGraph) (live : ℕ → List ℕ) where
           (ap (λ z. slice_index_or z i None) (sym (append_assoc cl rep fx)) ∙ entry_first (cl ++ rep) fx i (subst (λ z. i < z) (sym both_long) lt)
           ∙ ap (λ z. slice_index_or (cl ++ rep) z None) (p ∙ ap (λ z. z + j) (sym many)) ∙ entry_second cl rep j ∙ none_there (length split) j)
 
-      by : InPart (block_ops m live b bs) (trace_ops m live bs) i op → PlaceIn (b ∷ bs) op (slice_index_or (trace_fixed m live (b ∷ bs)) i None)
-      by (in_first l q) = here (in_part (map Plain ops) split i op q) l
-      by (in_second j p q) =
-          let rest : PlaceIn bs op (slice_index_or fx j None) = place_in bs j op (λ c h. long c (inr h)) q in
+      by : InPart (block_ops m live b bs) (trace_ops m live bs) i op → ((j : ℕ) → slice_get (trace_ops m live bs) j ≡ Some op → PlaceIn bs op (slice_index_or fx j None)) → PlaceIn (b ∷ bs) op (slice_index_or (trace_fixed m live (b ∷ bs)) i None)
+      by (in_first l q) more = here (in_part (map Plain ops) split i op q) l
+      by (in_second j p q) more =
+          let rest : PlaceIn bs op (slice_index_or fx j None) = more j q in
           let same : slice_index_or (cl ++ (rep ++ fx)) i None ≡ slice_index_or fx j None =
           ap (λ z. slice_index_or z i None) (sym (append_assoc cl rep fx)) ∙ ap (λ z. slice_index_or ((cl ++ rep) ++ fx) z None) (p ∙ ap (λ z. z + j) (sym both_long)) ∙ entry_second (cl ++ rep) fx j in
           subst (PlaceIn (b ∷ bs) op) (sym same) (later b bs op (slice_index_or fx j None) rest)

@@ -82,9 +82,9 @@ pub record IsGraphOf (machine : Numbers) (graph : Graph) (m : MixedGraph) : Type
   pub brief : IsBrief m
   pub headed : IsHeaded m
 
--- it begins so, whatever the function's number is
+-- it begins so for every machine, whatever the function's number is
 abbrev pub BeginsAsGraph : Type 0
-BeginsAsGraph = (machine : Numbers) (graph : Graph) (m : MixedGraph) (f : ℕ) → is_sound graph ≡ true → FromGraph graph m → IsGraphOf machine graph (record m { function = f })
+BeginsAsGraph = (machine : Numbers) (graph : Graph) (m : MixedGraph) (f : ℕ) → is_machine machine ≡ true → is_sound graph ≡ true → FromGraph graph m → IsGraphOf machine graph (record m { function = f })
 
 -- What planning gives for blocks of such a graph is what a replacement asks of its arguments; and the words of its region have
 -- room, and its operations stand where their values do.

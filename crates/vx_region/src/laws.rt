@@ -7,6 +7,8 @@ ghost use Rattle.vx_region.specs.Meets.{DelaysMet, TableMet};
 ghost use Rattle.vx_region.specs.PlanLaws.{PlanKeeps, PlanLaw};
 ghost use Rattle.vx_region.specs.Regions.{AllKeep, BeginsAsGraph, PlansFit, StepKeeps};
 
+use vx_copies::assigned_operations_stand;
+
 /// The words of a placement meet the delays of its trace, and so the table under which every operation may move: stores
 /// and loads whose index forms never name one word may pass each other.
 pub fn placed_words_meet_the_delays()
@@ -19,13 +21,17 @@ pub fn placed_words_meet_the_delays()
 pub fn plans_keep_the_meaning()
     ensures compensated { PlanLaw }
     ensures meaning { PlanKeeps }
-{}
+{
+    assigned_operations_stand();
+}
 
 /// What planning gives for blocks of a graph is what a replacement asks of its arguments; the words of its region have room, and
 /// its operations stand where their values do.
 pub fn plans_fit()
     ensures { PlansFit }
-{}
+{
+    assigned_operations_stand();
+}
 
 /// What a sound graph begins as is a graph of blocks and regions on the clusters of any machine, settled for it.
 pub fn graphs_begin_so()
@@ -35,12 +41,16 @@ pub fn graphs_begin_so()
 /// A trace as a region, by a plan, keeps the meaning of such a graph, and leaves it one.
 pub fn steps_keep_the_graph()
     ensures { StepKeeps }
-{}
+{
+    assigned_operations_stand();
+}
 
 /// All traces as regions, one step after the other: no block is left, and the graph does what it did.
 pub fn all_steps_keep_the_graph()
     ensures { AllKeep }
-{}
+{
+    assigned_operations_stand();
+}
 
 /// A trace that is placed in mode Barred, on whatever clusters, has no copies, makes no block and frees no load.
 pub fn barred_owes_nothing()
@@ -70,4 +80,6 @@ pub fn steps_end()
     ensures end { StepsEnd }
     ensures enough { EnoughSteps }
     ensures nodes { NodesKeepWithin }
-{}
+{
+    assigned_operations_stand();
+}

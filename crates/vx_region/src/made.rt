@@ -129,11 +129,7 @@ fn push_made(
 }
 
 /// The clusters of the operations at some places; a split is none.
-fn clusters_at(
-    alloc: Global,
-    placed: &Placed,
-    places: &[u32],
-) -> Result<Listed<u32>, NoMemory>
+fn clusters_at(alloc: Global, placed: &Placed, places: &[u32]) -> Result<Listed<u32>, NoMemory>
     ensures { IfOk result (λ list. list ≡ clusters_at placed.now.clustered places.now) }
 {
     let mut clusters = Listed::new(alloc);
@@ -150,11 +146,7 @@ fn clusters_at(
 }
 
 #[tactic(auto, using(crate::proofs::Pushing::no_cluster, crate::proofs::Pushing::one_cluster))]
-fn push_cluster(
-    clusters: &mut Listed<u32>,
-    placed: &Placed,
-    place: u32,
-) -> Result<(), NoMemory>
+fn push_cluster(clusters: &mut Listed<u32>, placed: &Placed, place: u32) -> Result<(), NoMemory>
     ensures { IfOk result (λ _. clusters.new ≡ clusters.old ++ cluster_of (slice_get placed.now.clustered.trace.ops place) (slice_index_or placed.now.clustered.clusters place 0)) }
 {
     let cluster = word_at(placed.clustered.clusters.as_slice(), place);

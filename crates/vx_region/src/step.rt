@@ -19,10 +19,11 @@ use crate::trace_plan::TracePlan;
 use std::alloc::Global;
 use vx_base::listed::Listed;
 use vx_base::outcome::NoMemory;
-use vx_flow::graph::BlockId;
-use vx_flow::trace::{Clustered, Homes, Placed};
 use vx_bug::assign;
 use vx_bug::clusters::Clusters;
+use vx_copies::assigned_operations_stand;
+use vx_flow::graph::BlockId;
+use vx_flow::trace::{Clustered, Homes, Placed};
 use vx_machine::Machine;
 use vx_mixed::Mixed;
 use vx_mixed::replacement::Replacement;
@@ -49,8 +50,9 @@ pub struct Regions {
 
 /// A trace is picked by the counts and becomes a region: its operations get clusters, with copies of the values that stand on
 /// others, and are placed in words, past splits and joins where the copies for that keep within the budget, which then rises by
-/// them. Each general value that it names and that has no home gets one. `Finished` comes exactly where no block is left. All calls
-/// on one graph take the same machine. Without memory all stays as it was.
+/// them. Each general value that it names and that has no home gets one. `Finished` comes exactly where no block is left. The graph
+/// is what a sound function's graph began as, after such steps for this machine; `steps_keep_the_graph` says that it stays so, and
+/// that a step keeps the meaning. Without memory all stays as it was.
 pub fn replace_one(
     alloc: Global,
     mixed: &mut Mixed,
@@ -75,7 +77,7 @@ pub fn replace_one(
 }
 
 /// All blocks become regions, one picked trace after the other, on the clusters of the machine. By the laws of this crate the
-/// meaning of the graph is kept, and it is settled for the machine.
+/// meaning of the graph is kept, and it is settled for the machine. Without memory the budget stays as it was.
 pub fn all_regions(
     alloc: Global,
     mixed: Mixed,
@@ -86,13 +88,17 @@ pub fn all_regions(
     requires graph { (graph : Graph) × IsGraphOf machine.now graph mixed }
     ensures regions { IfOk result (λ x. ReplacesAll machine.now counts.now budget.old.cap mixed budget.old.used x.plans x.mixed budget.new.used) }
     ensures same_cap { budget.new.cap ≡ budget.old.cap }
+    ensures unchanged { OnErr result (budget.new ≡ budget.old) }
 {
     mixed.keeps_valid();
+    assigned_operations_stand();
     let mut regions = mixed;
+    let mut spent = *budget;
     let mut plans = Listed::new(alloc);
     'step: loop {
-        match replace_one(alloc, &mut regions, counts, machine, budget)? {
+        match replace_one(alloc, &mut regions, counts, machine, &mut spent)? {
             Step::Finished => {
+                *budget = spent;
                 return Ok(Regions {
                     mixed: regions,
                     plans,
@@ -148,6 +154,7 @@ fn next_of(
     ensures { IfOk result (λ next. IsNext machine.now counts.now budget.cap mixed.now budget.used next) }
 {
     machine.keeps_ranges();
+    assigned_operations_stand();
     let on = on_clusters(alloc, mixed, blocks.as_slice(), machine)?;
     let placed = place_within(alloc, &on.clustered, &on.homes, machine, budget)?;
     let count = count_of_trace(mixed, counts, blocks.as_slice());
@@ -166,6 +173,7 @@ pub struct OnClusters {
 }
 
 /// The trace of some blocks on the clusters that are assigned to its operations.
+#[tactic(auto, using(crate::proofs::Rooms::is_on_clusters))]
 fn on_clusters(
     alloc: Global,
     mixed: &Mixed,

@@ -2,7 +2,7 @@ use Rattle.vx_region.proofs.Falls.{plans_grow, measure_falls, cap_is_kept, steps
 use Rattle.vx_region.proofs.laws.steps_end.Goals as goal
 
 pub returns-clause-plans : goal.returns-clause-plans
-returns-clause-plans c = plans_grow
+returns-clause-plans c = plans_grow c.assigned_operations_stand.ensures
 
 pub returns-clause-falls : goal.returns-clause-falls
 returns-clause-falls c = measure_falls

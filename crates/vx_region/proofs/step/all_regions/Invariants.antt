@@ -5,7 +5,7 @@ use Rattle.vx_region.specs.Stepping.{Stepped}
 use Rattle.vx_region.proofs.step.all_regions.Given as goal
 
 abbrev pub invariant-step : goal.invariant-step
-invariant-step l = Stepped l.machine l.counts l.initial.budget.cap l.fn.mixed l.initial.budget.used l.plans l.regions l.budget.used × (l.budget.cap ≡ l.initial.budget.cap)
+invariant-step l = Stepped l.machine l.counts l.initial.budget.cap l.fn.mixed l.initial.budget.used l.plans l.regions l.spent.used × (l.spent.cap ≡ l.initial.budget.cap) × (l.budget ≡ l.initial.budget)
 
 abbrev pub decreases-step : goal.decreases-step
-decreases-step l = unused_in l.regions.nodes + (l.budget.cap - l.budget.used)
+decreases-step l = unused_in l.regions.nodes + (l.spent.cap - l.spent.used)
