@@ -182,7 +182,7 @@ module _ (machine : Numbers) (graph : Graph) (latency : Op → ℕ) (m : MixedGr
       positive (inr le) = let z : length m.banks ≡ 0 = omega (arith, le) in let e : (machine.clusters + 1) * length m.banks ≡ 0 = ap (λ n. (machine.clusters + 1) * n) z ∙ mul_comm (machine.clusters + 1) 0 ∙ omega arith in absurd (omega (arith, h, e))
 
       copied : v / length m.banks - 1 < machine.clusters
-      copied = let l : v / length m.banks < machine.clusters + 1 = (div-lt_iff_lt-mul {length m.banks} {v} {machine.clusters + 1} (positive (cases_lt 0 (length m.banks)))).1 h in omega (arith, l, some)
+      copied = let l : v / length m.banks < machine.clusters + 1 = (div-lt_iff_lt-mul {k = length m.banks} {x = v} {y = machine.clusters + 1} (positive (cases_lt 0 (length m.banks)))).1 h in omega (arith, l, some)
 
       by : (b : Bool) → (if b then or_zero (has_home m.homes.clusters v) else v / length m.banks - 1) < machine.clusters
       by true = home_there some (has_home m.homes.clusters v) (on.homes v)
