@@ -1,5 +1,5 @@
 -- A timing: a nonempty list of numbers and a place in it.
-use Rattle.std.specs.Prelude.{◌≡◌, refl, ℕ, zero, suc, ◌+◌, ◌%◌, List, [], ◌∷◌, length}
+use Rattle.std.specs.Prelude.{◌≡◌, refl, ℕ, zero, suc, ◌+◌, ◌%◌, List, [], ◌∷◌, length, drop, slice_index}
 
 pub record Times : Type 0 where
   pub first : ℕ
@@ -21,6 +21,10 @@ moved_by (suc n) t = moved_by n (moved_on t)
 -- the list of one number
 abbrev pub always : ℕ → Times
 always n = record { first = n; others = []; place = 0 }
+
+-- the list, which is not empty, at a place
+abbrev pub cycling : List ℕ → ℕ → Times
+cycling list p = record { first = slice_index list 0; others = drop 1 list; place = p }
 
 -- behind the last number comes the first again
 moves_round : (moved_by 3 (record { first = 4; others = 5 ∷ []; place = 1 })).place ≡ 0

@@ -6,5 +6,5 @@ mod probe;
 mod timing;
 
 pub use event::Event;
-pub use probe::{Probe, WordCount};
-pub use timing::{Early, Late, Timing};
+pub use probe::{Probe, UnitUse, WordCount};
+pub use timing::{Cyclic, Early, Late, Timing};

@@ -1,9 +1,9 @@
-// What watches a run: the trait of every probe, and the count of words. A probe means a list of numbers, a step, which
-// the list takes at each event, and a text of each list.
+// What watches a run: the trait of every probe, the count of words, and that of the operations of each kind. A probe means
+// a list of numbers, a step, which the list takes at each event, and a text of each list.
 
-ghost use Rattle.std.specs.Prelude.{◌≡◌, ◌+◌, ◌≤◌, ◌++◌, ℕ, List, [], ◌∷◌, length, take, codes, decimal};
+ghost use Rattle.std.specs.Prelude.{◌≡◌, ◌+◌, ◌≤◌, ◌++◌, ℕ, List, [], ◌∷◌, min, length, take, codes, decimal};
 ghost use Rattle.vx_probe.specs.Watch.{Watch, shown, report_of};
-ghost use Rattle.vx_probe.specs.Counts.{count_watch};
+ghost use Rattle.vx_probe.specs.Counts.{count_watch, units_watch};
 
 use crate::event::Event;
 use itoa::Buffer;
@@ -70,6 +70,81 @@ impl Probe for WordCount {
         let place = append(into, place, b" cycles ");
         append_number(into, place, self.cycles)
     }
+}
+
+/// Sums up the operations of each kind: those of an ALU, a multiplier, a memory unit, a copy path and the control place.
+/// Each sum stays at the greatest `u64`, and one of more than ten digits is reported as 9999999999.
+#[derive(Drop, Debug)]
+pub struct UnitUse {
+    alu: u64,
+    multiply: u64,
+    memory: u64,
+    copy: u64,
+    control: u64,
+}
+
+impl UnitUse {
+    /// The sums of no word.
+    pub fn make() -> UnitUse
+        ensures { ⟦<UnitUse as Probe>⟧.watch result ≡ units_watch (0 ∷ 0 ∷ 0 ∷ 0 ∷ 0 ∷ []) }
+    {
+        UnitUse {
+            alu: 0,
+            multiply: 0,
+            memory: 0,
+            copy: 0,
+            control: 0,
+        }
+    }
+}
+
+impl Probe for UnitUse {
+    ghost watch = { λ sums. units_watch (sums.alu ∷ sums.multiply ∷ sums.memory ∷ sums.copy ∷ sums.control ∷ []) };
+
+    ghost called = { λ sums. codes "units" };
+
+    fn name(&self) -> &str {
+        "units"
+    }
+
+    fn see(&mut self, event: &Event) {
+        self.alu = self.alu.saturating_add(u64::from(event.alu));
+        self.multiply = self.multiply.saturating_add(u64::from(event.multiply));
+        self.memory = self.memory.saturating_add(u64::from(event.memory));
+        self.copy = self.copy.saturating_add(u64::from(event.copy));
+        self.control = self.control.saturating_add(u64::from(event.control));
+    }
+
+    fn report(&self, into: &mut [u8; 80]) -> usize {
+        let place = append(into, 0, b"units");
+        let place = append_sum(into, place, self.alu);
+        let place = append_sum(into, place, self.multiply);
+        let place = append_sum(into, place, self.memory);
+        let place = append_sum(into, place, self.copy);
+        append_sum(into, place, self.control)
+    }
+}
+
+/// Writes a space and a sum in at most ten digits from a place on, and answers the place behind them.
+fn append_sum(into: &mut [u8; 80], place: usize, sum: u64) -> usize
+    requires { place ≤ 60 }
+    ensures behind { result ≤ place + 11 }
+    ensures written { take result into.new ≡ take place into.old ++ codes " " ++ decimal (min sum 9999999999) }
+{
+    let behind = append(into, place, b" ");
+    append_digits(into, behind, sum.min(9_999_999_999))
+}
+
+/// Writes a number of at most ten digits.
+fn append_digits(into: &mut [u8; 80], place: usize, number: u64) -> usize
+    requires room { place ≤ 70 }
+    requires small { number ≤ 9999999999 }
+    ensures behind { result ≤ place + 10 }
+    ensures written { take result into.new ≡ take place into.old ++ decimal number }
+{
+    let mut buffer = Buffer::new();
+    let digits = buffer.format(number);
+    append(into, place, digits.as_bytes())
 }
 
 /// Writes bytes from a place on, and answers the place behind them.

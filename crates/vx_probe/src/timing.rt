@@ -1,9 +1,9 @@
-// When the results of operations land: the trait of every timing, and the two timings at the ends. A timing means a
-// nonempty list of numbers and a place in it.
+// When the results of operations land: the trait of every timing, the two timings at the ends, and that of a list. A
+// timing means a nonempty list of numbers and a place in it.
 
-ghost use Rattle.std.specs.Prelude.{◌≡◌, ◌≤◌, ℕ, List, codes};
+ghost use Rattle.std.specs.Prelude.{◌≡◌, ◌<◌, ◌≤◌, ℕ, List, length, codes};
 ghost use Rattle.vx_base.specs.Flight.{landing_time};
-ghost use Rattle.vx_probe.specs.Times.{Times, list_of, moved_on, always};
+ghost use Rattle.vx_probe.specs.Times.{Times, list_of, moved_on, always, cycling};
 
 /// A timing: it tells in how many cycles the result of an operation lands.
 pub trait Timing: Drop {
@@ -33,6 +33,16 @@ pub struct Late;
 #[derive(Drop, Debug)]
 pub struct Early;
 
+/// Results land by the numbers of a list, one after the other, and behind the last by the first again.
+#[derive(Drop, Debug)]
+pub struct Cyclic {
+    list: Vec<u32>,
+    /// The place of the number that comes next, from 0.
+    place: usize,
+    ghost some: { 0 < length list.items },
+    ghost inside: { place < length list.items },
+}
+
 impl Late {
     /// The timing, at its first number.
     pub fn make() -> Late {
@@ -44,6 +54,17 @@ impl Early {
     /// The timing, at its first number.
     pub fn make() -> Early {
         Early
+    }
+}
+
+impl Cyclic {
+    /// The timing of a list that is not empty, at its first number. It takes no memory.
+    pub fn make(list: Vec<u32>) -> Cyclic
+        requires { 0 < length list.items }
+        ensures list { list_of (⟦<Cyclic as Timing>⟧.times result) ≡ list.items }
+        ensures first { (⟦<Cyclic as Timing>⟧.times result).place ≡ 0 }
+    {
+        Cyclic { list, place: 0 }
     }
 }
 
@@ -72,5 +93,21 @@ impl Timing for Early {
 
     fn lands(&mut self, latency: u32) -> u32 {
         1
+    }
+}
+
+impl Timing for Cyclic {
+    ghost times = { λ cyclic. cycling cyclic.list.items cyclic.place };
+
+    ghost called = { λ cyclic. codes "cyclic" };
+
+    fn name(&self) -> &str {
+        "cyclic"
+    }
+
+    fn lands(&mut self, latency: u32) -> u32 {
+        let number = self.list[self.place];
+        self.place = (self.place + 1) % self.list.len();
+        number.max(1).min(latency)
     }
 }
