@@ -1,6 +1,9 @@
--- The first box of a name in a list that is taken apart from its end.
+-- The first box of a name in a list that is taken apart from its end, and every box of a list.
 use Rattle.std.proofs.Common.{◌≡◌, ℕ, Bool, true, false, List, [], ◌∷◌, ◌++◌, map, Option, Some, None, refl, ap, ◌∙◌, sym, subst}
-use Rattle.std.specs.Prelude.{find, option_map}
+use Rattle.std.specs.Prelude.{find, option_map, codes}
+use Rattle.std.specs.Str.{bytes_eq}
+use Rattle.vx_probe.specs.Watch.{Watch}
+use Rattle.vx_driver.specs.Boxes.{ProbeBox, probe_named, probes_named}
 
 abbrev pub first_or : {A : Type 0} → Option A → Option A → Option A
 first_or None other = other
@@ -38,3 +41,15 @@ one_less box is view items rest x found whole b items_are same so_far =
     ∙ ap (λ l. first_or (option_map view (find is l)) found) (sym (map_behind box rest x))
     ∙ ap (λ l. first_or (option_map view (find is (map box l))) found) (sym items_are)
     ∙ so_far
+
+map_map : {T A B : Type 0} (box : T → A) (view : A → B) (items : List T) → map view (map box items) ≡ map (λ x. view (box x)) items
+map_map box view [] = refl
+map_map box view (x ∷ items) = ap (λ l. view (box x) ∷ l) (map_map box view items)
+
+-- every box is asked for
+pub every_probe : {T : Type 0} (box : T → ProbeBox) (name : List ℕ) (items : List T) → bytes_eq name (codes "all") ≡ true → probes_named (Some name) (map box items) ≡ Some (map (λ x. (box x).watch) items)
+every_probe box name items is = rw is (ap (λ (l : List Watch). Some l) (map_map box (λ (b : ProbeBox). b.watch) items))
+
+-- one box is asked for
+pub one_probe : (name : List ℕ) (boxes : List ProbeBox) (found : Option Watch) → bytes_eq name (codes "all") ≡ false → found ≡ probe_named name boxes → probes_named (Some name) boxes ≡ option_map (λ watch. watch ∷ []) found
+one_probe name boxes found is same = rw is (ap (option_map (λ watch. watch ∷ [])) (sym same))

@@ -1,5 +1,5 @@
--- The boxes that a caller hands in, and those that a command asks for: the first one with the name.
-use Rattle.std.specs.Prelude.{ℕ, List, [], ◌∷◌, ◌++◌, find, Option, Some, None, option_map}
+-- The boxes that a caller hands in, and those that a command asks for: the first one with the name, or every probe.
+use Rattle.std.specs.Prelude.{ℕ, List, [], ◌∷◌, ◌++◌, map, find, if◌then◌else◌, codes, Option, Some, None, option_map}
 use Rattle.std.specs.Str.{bytes_eq}
 use Rattle.vx_probe.specs.Times.{Times}
 use Rattle.vx_probe.specs.Watch.{Watch, report_of}
@@ -27,10 +27,10 @@ timing_named name boxes = option_map (λ box. box.times) (find (λ box. bytes_eq
 abbrev pub probe_named : List ℕ → List ProbeBox → Option Watch
 probe_named name boxes = option_map (λ box. box.watch) (find (λ box. bytes_eq box.name name) boxes)
 
--- no probe where none is asked for
+-- no probe where none is asked for, by `all` every one in the order of the list, and else the first one with the name
 abbrev pub probes_named : Option (List ℕ) → List ProbeBox → Option (List Watch)
 probes_named None boxes = Some []
-probes_named (Some name) boxes = option_map (λ watch. watch ∷ []) (probe_named name boxes)
+probes_named (Some name) boxes = if bytes_eq name (codes "all") then Some (map (λ box. box.watch) boxes) else option_map (λ watch. watch ∷ []) (probe_named name boxes)
 
 abbrev pub chosen_of : Option Times → Option (List Watch) → Option Chosen
 chosen_of None watches = None

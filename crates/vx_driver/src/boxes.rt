@@ -1,6 +1,6 @@
 // The boxes that a command asks for by name, and the reports of probes.
 
-ghost use Rattle.std.specs.Prelude.{◌≡◌, ◌⊎◌, ◌<◌, ◌≤◌, ◌++◌, [], ◌∷◌, length, take, map, option_map, Some, None, OnOk, OnErr, IfOk, IfErr};
+ghost use Rattle.std.specs.Prelude.{◌≡◌, ◌⊎◌, ◌<◌, ◌≤◌, ◌++◌, [], ◌∷◌, length, take, map, codes, option_map, Some, None, OnOk, OnErr, IfOk, IfErr};
 ghost use Rattle.std.specs.List.{flat_map};
 ghost use Rattle.std.specs.Str.{bytes_eq};
 ghost use Rattle.vx_base.specs.Outside.{Rose, with_bytes};
@@ -70,7 +70,15 @@ fn one(alloc: Global, probe: Box<dyn Probe>) -> Result<Vec<Box<dyn Probe>>, Allo
     Ok(probes)
 }
 
-/// The probes that are asked for. The others are dropped. Usage comes where there is none of this name.
+/// Whether every probe is asked for.
+fn is_all(name: &str) -> bool
+    ensures { result ≡ bytes_eq name.now (codes "all") }
+{
+    name == "all"
+}
+
+/// The probes that are asked for: by `all` every one, else the first one with the name. The others are dropped. Usage comes
+/// where there is none of this name.
 pub(crate) fn probes_of(
     alloc: Global,
     probes: Vec<Box<dyn Probe>>,
@@ -83,6 +91,9 @@ pub(crate) fn probes_of(
         Some(name) => name,
         None => return Ok(Vec::new(alloc)),
     };
+    if is_all(name) {
+        return Ok(probes);
+    }
     match probe_of(probes, name) {
         Some(probe) => one(alloc, probe).map_err(|_| Status::NoMemory),
         None => Err(Status::Usage),

@@ -8,7 +8,7 @@ use vx_base::real::{RealDepot, RealSink};
 use vx_base::sink::Sink;
 use vx_driver::status::{Status, tell};
 use vx_driver::top::vexc;
-use vx_probe::{Early, Late, Probe, Timing, WordCount};
+use vx_probe::{Cyclic, Early, Late, Probe, Timing, UnitUse, WordCount};
 
 /// The words of the command line, the program's name first. A word that is no UTF-8 makes no command line.
 fn words_of(rt: &HostRuntime) -> Result<Vec<String>, Status> {
@@ -21,7 +21,8 @@ fn words_of(rt: &HostRuntime) -> Result<Vec<String>, Status> {
     }
 }
 
-/// Calls the compiler with the boxes that a command may ask for: the timings `late` and `early`, and the probe `words`.
+/// Calls the compiler with the boxes that a command may ask for: the timings `late`, `early` and `cyclic`, which goes by the
+/// numbers 1, 2 and 3, and the probes `units` and `words`.
 fn call<K: Sink, E: Sink>(
     rt: &HostRuntime,
     words: &[String],
@@ -31,11 +32,16 @@ fn call<K: Sink, E: Sink>(
     let alloc = rt.alloc();
     let late: Box<dyn Timing> = Box::new(alloc, Late::make())?;
     let early: Box<dyn Timing> = Box::new(alloc, Early::make())?;
+    let numbers = Vec::from_slice(alloc, &[1, 2, 3])?;
+    let cyclic: Box<dyn Timing> = Box::new(alloc, Cyclic::make(numbers))?;
+    let units: Box<dyn Probe> = Box::new(alloc, UnitUse::make())?;
     let count: Box<dyn Probe> = Box::new(alloc, WordCount::make())?;
     let mut timings = Vec::new(alloc);
     timings.push(late)?;
     timings.push(early)?;
+    timings.push(cyclic)?;
     let mut probes = Vec::new(alloc);
+    probes.push(units)?;
     probes.push(count)?;
     let mut depot = RealDepot::make(rt);
     Ok(vexc(alloc, words, &mut depot, out, err, probes, timings))

@@ -8,7 +8,7 @@ use std::alloc::{AllocError, Global};
 use vx_base::depot::{Depot, MemDepot};
 use vx_base::sink::{MemSink, Sink};
 use vx_driver::top::vexc;
-use vx_probe::{Early, Late, Probe, Timing, WordCount};
+use vx_probe::{Cyclic, Early, Late, Probe, Timing, UnitUse, WordCount};
 
 /// What a call left.
 #[derive(Drop, Debug)]
@@ -41,7 +41,16 @@ fn call<D: Depot, K: Sink, E: Sink>(
         let early: Box<dyn Timing> = Box::new(alloc, Early::make())?;
         timings.push(early)?;
     }
+    if boxes.cyclic {
+        let numbers = Vec::from_slice(alloc, &[1, 2, 3])?;
+        let cyclic: Box<dyn Timing> = Box::new(alloc, Cyclic::make(numbers))?;
+        timings.push(cyclic)?;
+    }
     let mut probes = Vec::new(alloc);
+    if boxes.units {
+        let units: Box<dyn Probe> = Box::new(alloc, UnitUse::make())?;
+        probes.push(units)?;
+    }
     if boxes.words {
         let count: Box<dyn Probe> = Box::new(alloc, WordCount::make())?;
         probes.push(count)?;

@@ -29,13 +29,22 @@ fn push_words(alloc: Global, all: &mut Vec<String>, words: &str) -> Result<(), W
 
 /// The boxes with one more, where it stands behind the others.
 fn with_box(boxes: Boxes, name: &str) -> Result<Boxes, Why> {
+    let no_probe = !(boxes.units || boxes.words);
     match name {
-        "late" if !(boxes.late || boxes.early || boxes.words) => Ok(Boxes {
+        "late" if no_probe && !(boxes.late || boxes.early || boxes.cyclic) => Ok(Boxes {
             late: true,
             ..boxes
         }),
-        "early" if !(boxes.early || boxes.words) => Ok(Boxes {
+        "early" if no_probe && !(boxes.early || boxes.cyclic) => Ok(Boxes {
             early: true,
+            ..boxes
+        }),
+        "cyclic" if no_probe && !boxes.cyclic => Ok(Boxes {
+            cyclic: true,
+            ..boxes
+        }),
+        "units" if no_probe => Ok(Boxes {
+            units: true,
             ..boxes
         }),
         "words" if !boxes.words => Ok(Boxes {
@@ -51,6 +60,8 @@ fn boxes_of(names: Option<&str>) -> Result<What, Why> {
     let mut boxes = Boxes {
         late: false,
         early: false,
+        cyclic: false,
+        units: false,
         words: false,
     };
     if let Some(names) = names {

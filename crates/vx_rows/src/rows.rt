@@ -271,6 +271,8 @@ impl<'a> Step<'a> {
 const ALL_BOXES: Boxes = Boxes {
     late: true,
     early: true,
+    cyclic: true,
+    units: true,
     words: true,
 };
 

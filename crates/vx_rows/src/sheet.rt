@@ -25,6 +25,10 @@ pub struct Boxes {
     pub late: bool,
     /// The timing `early`.
     pub early: bool,
+    /// The timing `cyclic` of the numbers 1, 2 and 3.
+    pub cyclic: bool,
+    /// The probe `units`.
+    pub units: bool,
     /// The probe `words`.
     pub words: bool,
 }
