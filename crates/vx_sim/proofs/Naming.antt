@@ -1,8 +1,9 @@
 -- What a sound program says of one of its words.
-use Rattle.std.proofs.Common.{◌≡◌, ℕ, zero, suc, ◌≤◌, ◌<◌, Bool, true, false, ◌&&◌, not, if◌then◌else◌, Some, None, List, [], ◌∷◌, length, slice_get, get_or, refl, sym, ap, ◌∙◌, arith}
+use Rattle.std.proofs.Common.{◌≡◌, ℕ, zero, suc, ◌≤◌, ◌<◌, Bool, true, false, ◌&&◌, not, if◌then◌else◌, Option, Some, None, List, [], ◌∷◌, map, length, slice_get, get_or, refl, sym, ap, subst, ◌∙◌, arith}
 use Rattle.std.specs.List.{list_all, list_any}
 use Rattle.vx_base.specs.declared.arithmetic.Code.{Code}
 use Rattle.vx_base.specs.declared.arithmetic.Code.TheVariants.{Add, Sub, And, Or, Xor, Shl, Shr, Shru, Sh2add, Max, Min, Mov, ToGeneral, ToBranch, Mpylu, Mpyhs, Div, Rem}
+use Rattle.vx_base.specs.declared.outcome.Reason.{Reason}
 use Rattle.vx_base.specs.declared.outcome.Reason.TheVariants.{BadWord, Overfull, BadAddress, NoInputLeft}
 use Rattle.vx_isa.specs.declared.operation.Register.{Register}
 use Rattle.vx_isa.specs.declared.operation.Register.TheVariants.{General, Branch, Link}
@@ -16,6 +17,8 @@ use Rattle.vx_isa.specs.Sound.{can_name, can_name_branch, can_spell, is_destinat
 use Rattle.vx_isa.specs.Machine.{State, has_bad_address, takes_input, is_left, stuck_by}
 use Rattle.vx_sim.specs.Named.{is_register, names_register}
 use Rattle.vx_sim.specs.Room.{widest}
+use Rattle.vx_sim.specs.Shapes.{shape_of, stuck_here}
+use Rattle.vx_sim.specs.declared.shape.Shape.{Shape}
 
 and_left : (a b : Bool) → (a && b) ≡ true → a ≡ true
 and_left true b e = refl
@@ -156,3 +159,38 @@ pub word_at : (ws : List Word) (i : ℕ) (d : Word) → i < length ws → slice_
 word_at [] i d lt = absurd (omega arith)
 word_at (w ∷ ws) zero d lt = refl
 word_at (w ∷ ws) (suc i) d lt = word_at ws i d (omega arith)
+
+-- what is found of each word is there for the word at a place
+
+shape_there : (f : Word → Shape) (ws : List Word) (i : ℕ) (word : Word) (d : Shape) → slice_get ws i ≡ Some word → get_or (map f ws) i d ≡ f word
+shape_there f [] i word d e = absurd (cc)
+shape_there f (w ∷ ws) zero word d e = let h : w ≡ word = cc in ap f h
+shape_there f (w ∷ ws) (suc i) word d e = shape_there f ws i word d e
+
+shape_below : (f : Word → Shape) (ws : List Word) (i : ℕ) (word : Word) → slice_get ws i ≡ Some word → i < length (map f ws)
+shape_below f [] i word e = absurd (cc)
+shape_below f (w ∷ ws) zero word e = omega arith
+shape_below f (w ∷ ws) (suc i) word e = let l = shape_below f ws i word e in omega (arith, l)
+
+pub found : {m : Numbers} {ws : List Word} {i : ℕ} {word : Word} {shapes : List Shape} (shape : Shape) → shape ≡ get_or shapes i shape → shapes ≡ map (shape_of m) ws → slice_get ws i ≡ Some word → shape ≡ shape_of m word
+found {m} {ws} {i} {word} {shapes} shape here are at = here ∙ ap (λ (xs : List Shape). get_or xs i shape) are ∙ shape_there (shape_of m) ws i word shape at
+
+pub found_below : {m : Numbers} {ws : List Word} {i : ℕ} {word : Word} {shapes : List Shape} → shapes ≡ map (shape_of m) ws → slice_get ws i ≡ Some word → i < length shapes
+found_below {m} {ws} {i} {word} {shapes} are at = subst (λ (xs : List Shape). i < length xs) (sym are) (shape_below (shape_of m) ws i word at)
+
+-- a word is stuck by what it is, or else by where the simulator stands
+pub stuck_as : (m : Numbers) (w : WordProgram) (s : State) (word : Word) (shape : Shape) (here : Option Reason) → shape ≡ shape_of m word → shape.unfit ≡ None → here ≡ stuck_here w s word.ops → here ≡ stuck_by m w s word.ops
+stuck_as m w s word shape here is free e = e ∙ by (is_bad_word m word.ops) (fits m word.ops) (sym (ap (λ (x : Shape). x.unfit) is) ∙ free)
+  where
+    by : (a b : Bool) → (if a then Some BadWord else if not b then Some Overfull else None) ≡ None → stuck_here w s word.ops ≡ (if a then Some BadWord else if not b then Some Overfull else stuck_here w s word.ops)
+    by true b f = absurd (cc)
+    by false false f = absurd (cc)
+    by false true f = refl
+
+pub stuck_unfit : (m : Numbers) (w : WordProgram) (s : State) (word : Word) (shape : Shape) (why : Reason) → shape ≡ shape_of m word → shape.unfit ≡ Some why → Some why ≡ stuck_by m w s word.ops
+stuck_unfit m w s word shape why is unfit = by (is_bad_word m word.ops) (fits m word.ops) (sym (ap (λ (x : Shape). x.unfit) is) ∙ unfit)
+  where
+    by : (a b : Bool) → (if a then Some BadWord else if not b then Some Overfull else None) ≡ Some why → Some why ≡ (if a then Some BadWord else if not b then Some Overfull else stuck_here w s word.ops)
+    by true b f = sym f
+    by false false f = sym f
+    by false true f = absurd (cc)

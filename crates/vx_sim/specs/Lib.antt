@@ -1,6 +1,7 @@
 pub mod Named
 pub mod Held
 pub mod Room
+pub mod Shapes
 pub mod Moved
 pub mod Standing
 pub mod Passed

@@ -1,18 +1,18 @@
 // Where a word leads, and the event of a word that took effect.
 
-ghost use Rattle.std.specs.Prelude.{◌≡◌, ◌<◌, ◌≤◌, ◌+◌, List, [], ◌∷◌, length, count_by};
-ghost use Rattle.vx_isa.specs.Operations.{is_control};
+ghost use Rattle.std.specs.Prelude.{◌≡◌, ◌<◌, ◌+◌, List, [], ◌∷◌, length};
 ghost use Rattle.vx_isa.specs.declared.operation.Register.TheVariants.{Branch};
-ghost use Rattle.vx_isa.specs.Fits.{is_of};
 ghost use Rattle.vx_isa.specs.Machine.{lead_of, is_taken, register};
 ghost use Rattle.vx_sim.specs.Leads.{lead_as, lead_or, place_behind};
 ghost use Rattle.vx_sim.specs.Passed.{counted, event_of, leads_away};
+ghost use Rattle.vx_sim.specs.Shapes.{counts_of};
 ghost use Rattle.vx_sim.specs.Standing.{state_of};
 
+use crate::shape::UnitCounts;
 use crate::standing::Standing;
 use vx_base::arithmetic::unsigned32;
 use vx_base::outcome::Trap;
-use vx_isa::operation::{BranchRegister, Operation, UnitKind};
+use vx_isa::operation::{BranchRegister, Operation};
 use vx_isa::program::{Word, WordProgram};
 use vx_probe::Event;
 
@@ -89,18 +89,17 @@ fn is_taken(now: &Standing, test: u32, taken_at_one: bool) -> bool
 }
 
 /// What a probe is shown of the word.
-pub(crate) fn event_of(now: &Standing, word: &Word, lead: Lead) -> Event
-    requires { lead_as lead ≡ lead_of (state_of now.now []) word.now.ops }
-    ensures { result ≡ event_of (state_of now.now []) word.now }
+pub(crate) fn event_of(now: &Standing, counts: &UnitCounts, lead: Lead) -> Event
+    ensures { (word : Word) → counts.now ≡ counts_of word.ops → lead_as lead ≡ lead_of (state_of now.now []) word.ops → result ≡ event_of (state_of now.now []) word }
 {
     Event {
         place: now.place,
         cycle: counted(now.cycle),
-        alu: count_of(word, UnitKind::Alu),
-        multiply: count_of(word, UnitKind::Multiply),
-        memory: count_of(word, UnitKind::Memory),
-        copy: count_of(word, UnitKind::Copies),
-        control: count_of(word, UnitKind::Control),
+        alu: counts.alu,
+        multiply: counts.multiply,
+        memory: counts.memory,
+        copy: counts.copy,
+        control: counts.control,
         taken: leads_away(now.place, lead),
     }
 }
@@ -110,26 +109,6 @@ fn counted(cycle: u64) -> u64
     ensures { result ≡ counted cycle }
 {
     cycle
-}
-
-fn count_of(word: &Word, unit: UnitKind) -> u32
-    ensures { result ≡ count_by (is_of unit) word.now.ops }
-{
-    let _few = word.ops.len();
-    count_in(word.ops.as_slice(), unit) as u32
-}
-
-fn count_in(ops: &[Operation], unit: UnitKind) -> usize
-    ensures exact { result ≡ count_by (is_of unit) ops.now }
-    ensures few { result ≤ length ops.now }
-{
-    ops.iter().filter(|op| is_of(unit, op)).count()
-}
-
-fn is_of(unit: UnitKind, op: &Operation) -> bool
-    ensures { result ≡ is_of unit op.now }
-{
-    op.unit() == unit
 }
 
 fn leads_away(here: u32, lead: Lead) -> bool

@@ -10,6 +10,7 @@ mod leads;
 mod memory;
 mod prints;
 mod registers;
+mod shape;
 mod sim;
 mod standing;
 mod steps;

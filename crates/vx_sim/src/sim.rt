@@ -1,15 +1,17 @@
 // The simulator: it stands at a state of the word machine and issues words.
 
-ghost use Rattle.std.specs.Prelude.{◌≡◌, ◌≤◌, ◌*◌, true, length};
+ghost use Rattle.std.specs.Prelude.{◌≡◌, ◌≤◌, ◌*◌, true, map, length};
 ghost use Rattle.std.specs.Vec.{vec_capacity};
 ghost use Rattle.vx_isa.specs.Sound.{is_sound};
 ghost use Rattle.vx_sim.specs.Passed.{counted};
 ghost use Rattle.vx_sim.specs.Room.{HasRoom, widest};
+ghost use Rattle.vx_sim.specs.Shapes.{shape_of};
 
 use crate::ended::Ended;
 use crate::flight::Flight;
 use crate::memory::{memory_of, room_for};
 use crate::registers::Registers;
+use crate::shape::{Shape, shapes_of};
 use crate::standing::Standing;
 use crate::steps::step;
 use std::alloc::Global;
@@ -24,18 +26,20 @@ use vx_probe::{Probe, Timing};
 pub struct Sim {
     program: WordProgram,
     machine: Machine,
+    shapes: Vec<Shape>,
     standing: Standing,
     flights: Vec<Flight>,
     issued: u64,
     ended: bool,
     ghost sound: { is_sound program ≡ true },
+    ghost tested: { shapes.items ≡ map (shape_of machine) program.words },
     ghost size: { program.memory ≡ 4 * length standing.memory.items },
     ghost room: { HasRoom (widest program.words) 0 flights.items },
     ghost capacity: { 17 * widest program.words ≤ vec_capacity flights },
 }
 
 impl Sim {
-    ghost use Rattle.std.specs.Prelude.{false, map, IfOk};
+    ghost use Rattle.std.specs.Prelude.{false, IfOk};
     ghost use Rattle.vx_base.specs.Outside.{Rose};
     ghost use Rattle.vx_isa.specs.Machine.{start};
     ghost use Rattle.vx_sim.specs.Ran.{stands, Ran, is_fault};
@@ -55,9 +59,11 @@ impl Sim {
     {
         let memory = memory_of(alloc, &program)?;
         let flights = room_for(alloc, &program)?;
+        let shapes = shapes_of(alloc, &machine, program.words.as_slice())?;
         Ok(Sim {
             program,
             machine,
+            shapes,
             standing: Standing {
                 place: 0,
                 cycle: 0,
@@ -109,6 +115,7 @@ impl Sim {
             let ended = step(
                 &self.program,
                 &self.machine,
+                &self.shapes,
                 &mut self.standing,
                 &mut self.flights,
                 &mut self.issued,

@@ -8,6 +8,7 @@ ghost use Rattle.vx_isa.specs.Sound.{is_sound};
 ghost use Rattle.vx_probe.specs.Times.{list_of};
 ghost use Rattle.vx_probe.specs.Watch.{shown};
 ghost use Rattle.vx_sim.specs.Room.{HasRoom, widest};
+ghost use Rattle.vx_sim.specs.Shapes.{shape_of, counts_of};
 ghost use Rattle.vx_sim.specs.Standing.{state_of, standing_at};
 ghost use Rattle.vx_sim.specs.Stepped.{Stepped, Took, leads_by, ended_as, is_fault_of};
 
@@ -16,6 +17,7 @@ use crate::ended::Ended;
 use crate::flight::Flight;
 use crate::leads::{Lead, event_of, following, lead_of, place_behind};
 use crate::prints::print;
+use crate::shape::{Shape, UnitCounts, shape_at};
 use crate::standing::Standing;
 use crate::stuck::stuck_by;
 use vx_base::outcome::Reason;
@@ -28,6 +30,7 @@ use vx_probe::{Event, Probe, Timing};
 pub(crate) fn step<K: Sink>(
     program: &WordProgram,
     machine: &Machine,
+    shapes: &Vec<Shape>,
     now: &mut Standing,
     flights: &mut Vec<Flight>,
     issued: &mut u64,
@@ -36,6 +39,7 @@ pub(crate) fn step<K: Sink>(
     probes: &mut Vec<Box<dyn Probe>>,
 ) -> Option<Ended>
     requires sound { is_sound program.now ≡ true }
+    requires tested { shapes.now.items ≡ map (shape_of machine.now) program.now.words }
     requires size { program.now.memory ≡ 4 * length now.old.memory.items }
     requires room { HasRoom (widest program.now.words) 0 flights.old.items }
     requires capacity { 17 * widest program.now.words ≤ vec_capacity flights.old }
@@ -51,11 +55,22 @@ pub(crate) fn step<K: Sink>(
         Some(word) => word,
         None => return Some(Ended::Stuck(Reason::BadTarget, place)),
     };
-    if let Some(reason) = stuck_by(machine, program, now, word) {
+    let shape = shape_at(shapes, place);
+    if let Some(reason) = stuck_by(program, now, word, shape) {
         return Some(Ended::Stuck(reason, place));
     }
     match print(program, now, word.ops.as_slice(), out) {
-        Ok(()) => ended_by(pass(program, machine, now, flights, issued, word, timing, probes)),
+        Ok(()) => ended_by(pass(
+            program,
+            machine,
+            now,
+            flights,
+            issued,
+            word,
+            &shape.counts,
+            timing,
+            probes,
+        )),
         Err(_) => Some(Ended::SinkFault),
     }
 }
@@ -79,6 +94,7 @@ fn pass(
     flights: &mut Vec<Flight>,
     issued: &mut u64,
     word: &Word,
+    counts: &UnitCounts,
     timing: &mut Box<dyn Timing>,
     probes: &mut Vec<Box<dyn Probe>>,
 ) -> Lead
@@ -87,6 +103,7 @@ fn pass(
     requires room { HasRoom (widest program.now.words) 0 flights.old.items }
     requires capacity { 17 * widest program.now.words ≤ vec_capacity flights.old }
     requires word { slice_get program.now.words now.old.place ≡ Some word.now }
+    requires counts { counts.now ≡ counts_of word.now.ops }
     requires free { stuck_by machine.now program.now (state_of now.old []) word.now.ops ≡ None }
     ensures took { Took machine.now program.now (standing_at now.old flights.old.items (times timing.old)) (state_of now.new flights.new.items) (times timing.old) (times timing.new) (map (λ b. watch b) probes.old.items) (map (λ b. watch b) probes.new.items) issued.old issued.new (leads_by result) }
     ensures size_stays { length now.new.memory.items ≡ length now.old.memory.items }
@@ -94,7 +111,7 @@ fn pass(
     ensures has_capacity { vec_capacity flights.old ≤ vec_capacity flights.new }
 {
     let lead = lead_of(now, following(program, now.place), word.ops.as_slice());
-    let event = event_of(now, word, lead);
+    let event = event_of(now, counts, lead);
     take_effect(machine, program.memory, now, flights, word, timing);
     show(probes, &event);
     *issued = issued.saturating_add(1);

@@ -3,29 +3,36 @@
 ghost use Rattle.std.specs.Prelude.{◌≡◌, []};
 ghost use Rattle.std.specs.List.{list_any};
 ghost use Rattle.vx_isa.specs.Machine.{stuck_by, has_bad_address, takes_input};
+ghost use Rattle.vx_isa.specs.Numbers.{Numbers};
+ghost use Rattle.vx_sim.specs.Shapes.{shape_of, stuck_here};
 ghost use Rattle.vx_sim.specs.Standing.{state_of};
 
+use crate::shape::Shape;
 use crate::standing::{Standing, is_word_of};
 use vx_base::outcome::Reason;
 use vx_isa::operation::Operation;
 use vx_isa::program::{Word, WordProgram};
-use vx_machine::{Machine, fits, is_bad_word};
 
-/// The first reason for which the word is stuck.
+/// The first reason for which the word is stuck, of those that its shape tells and those of the state.
 pub(crate) fn stuck_by(
-    machine: &Machine,
     program: &WordProgram,
     now: &Standing,
     word: &Word,
+    shape: &Shape,
 ) -> Option<Reason>
-    ensures { result ≡ stuck_by machine.now program.now (state_of now.now []) word.now.ops }
+    ensures { (m : Numbers) → shape.now ≡ shape_of m word.now → result ≡ stuck_by m program.now (state_of now.now []) word.now.ops }
 {
-    let ops = word.ops.as_slice();
-    if is_bad_word(machine, word) {
-        Some(Reason::BadWord)
-    } else if !fits(machine, word) {
-        Some(Reason::Overfull)
-    } else if has_bad_addresses(program.memory, now, ops) {
+    match shape.unfit {
+        Some(reason) => Some(reason),
+        None => stuck_here(program, now, word.ops.as_slice()),
+    }
+}
+
+/// The first reason that depends on where the simulator stands.
+fn stuck_here(program: &WordProgram, now: &Standing, ops: &[Operation]) -> Option<Reason>
+    ensures { result ≡ stuck_here program.now (state_of now.now []) ops.now }
+{
+    if has_bad_addresses(program.memory, now, ops) {
         Some(Reason::BadAddress)
     } else if take_input(ops) && !now.has_input() {
         Some(Reason::NoInputLeft)

@@ -41,7 +41,7 @@ returns-clause-took g c =
       asked = refl;
     })
     e.timing
-    (c.show.ensures ∙ ap (λ x. map (λ w. shown w x) (map (λ p. (goal.Probe-dyn g (p.vtable, p.value)).watch p.value) c.args.probes.now.items)) c.event_of-event.ensures)
+    (c.show.ensures ∙ ap (λ x. map (λ w. shown w x) (map (λ p. (goal.Probe-dyn g (p.vtable, p.value)).watch p.value) c.args.probes.now.items)) (c.event_of-event.ensures c.args.word.now c.requires.counts led))
     (omega (arith, c.saturating_add.ensures))
 
 pub returns-clause-has_room : goal.returns-clause-has_room

@@ -6,9 +6,11 @@ use Rattle.vx_isa.specs.declared.program.Word.{Word}
 use Rattle.vx_isa.specs.Machine.{print_of, stuck_by}
 use Rattle.vx_probe.specs.Times.{list_of}
 use Rattle.vx_sim.specs.Held.{write_of}
+use Rattle.vx_sim.specs.Shapes.{shape_of}
+use Rattle.vx_sim.specs.declared.shape.Shape.{Shape}
 use Rattle.vx_sim.specs.Standing.{state_of}
 use Rattle.vx_sim.proofs.Elsewhere.{elsewhere}
-use Rattle.vx_sim.proofs.Naming.{word_at}
+use Rattle.vx_sim.proofs.Naming.{word_at, found, found_below}
 use Rattle.vx_sim.proofs.Passing.{taken_at}
 use Rattle.vx_sim.proofs.Taking.{stepped_as, text_of, takes_it}
 use Rattle.vx_sim.proofs.steps.step.Goals as goal
@@ -23,7 +25,8 @@ returns-in-Ok-clause-stepped g c =
     let l = c.in-Some.ensures.lookup in
     let at : slice_get w.words c.args.now.now.place ≡ Some word =
     ap (λ (ws : List Word). slice_get ws c.args.now.now.place) (sym c.as_slice.ensures) ∙ word_at c.as_slice.result.now c.args.now.now.place word (ltb-true _ _ (sym l.0)) ∙ ap (λ (x : Word). Some x) (sym l.1) in
-    let free : stuck_by m w b word.ops ≡ None = sym c.stuck_by.ensures ∙ c.in_default.is in
+    let shape_is : c.shape_at-shape.result.now ≡ shape_of m word = found c.shape_at-shape.result.now c.shape_at-shape.ensures c.requires.tested at in
+    let free : stuck_by m w b word.ops ≡ None = sym (c.stuck_by.ensures m shape_is) ∙ c.in_default.is in
     let took = c.pass.ensures.took in
     let earlier = g.K.Sink.told c.args.out.now in
     stepped_as earlier (g.K.Sink.told c.print.new.out) c.pass.result c.ended_by.result c.ended_by.ensures took
@@ -41,7 +44,8 @@ returns-in-Err-clause-stepped g c =
     let l = c.in-Some.ensures.lookup in
     let at : slice_get w.words c.args.now.now.place ≡ Some word =
     ap (λ (xs : List Word). slice_get xs c.args.now.now.place) (sym c.as_slice.ensures) ∙ word_at c.as_slice.result.now c.args.now.now.place word (ltb-true _ _ (sym l.0)) ∙ ap (λ (x : Word). Some x) (sym l.1) in
-    let free : stuck_by m w b word.ops ≡ None = sym c.stuck_by.ensures ∙ c.in_default.is in
+    let shape_is : c.shape_at-shape.result.now ≡ shape_of m word = found c.shape_at-shape.result.now c.shape_at-shape.ensures c.requires.tested at in
+    let free : stuck_by m w b word.ops ≡ None = sym (c.stuck_by.ensures m shape_is) ∙ c.in_default.is in
     let it = takes_it m w (list_of t) b ws t.place word at free in
     record {
       stayed = record { state = refl; timing = refl; seen = refl; counts = refl };
@@ -50,3 +54,23 @@ returns-in-Err-clause-stepped g c =
       front = subst (PutsFront (g.K.Sink.told c.args.out.now) (g.K.Sink.told c.print.new.out))
           (ap (flat_map (print_of w b)) c.as_slice-2.ensures ∙ sym (text_of m w (list_of t) b ws t.place word (taken_at m (list_of t) w (elsewhere b b.cycle ws [] t.place) word) at free it)) c.in-Err.ensures.front;
     }
+
+pub shape_at-shape-requires : goal.shape_at-shape-requires
+shape_at-shape-requires g c =
+    let w = c.args.program.now in
+    let word = c.in-Some.word.now in
+    let l = c.in-Some.ensures.lookup in
+    let at : slice_get w.words c.args.now.now.place ≡ Some word =
+    ap (λ (ws : List Word). slice_get ws c.args.now.now.place) (sym c.as_slice.ensures) ∙ word_at c.as_slice.result.now c.args.now.now.place word (ltb-true _ _ (sym l.0)) ∙ ap (λ (x : Word). Some x) (sym l.1) in
+    found_below c.requires.tested at
+
+pub pass-requires-clause-counts : goal.pass-requires-clause-counts
+pass-requires-clause-counts g c =
+    let m = c.args.machine.now in
+    let w = c.args.program.now in
+    let word = c.in-Some.word.now in
+    let l = c.in-Some.ensures.lookup in
+    let at : slice_get w.words c.args.now.now.place ≡ Some word =
+    ap (λ (ws : List Word). slice_get ws c.args.now.now.place) (sym c.as_slice.ensures) ∙ word_at c.as_slice.result.now c.args.now.now.place word (ltb-true _ _ (sym l.0)) ∙ ap (λ (x : Word). Some x) (sym l.1) in
+    let shape_is : c.shape_at-shape.result.now ≡ shape_of m word = found c.shape_at-shape.result.now c.shape_at-shape.ensures c.requires.tested at in
+    ap (λ (s : Shape). s.counts) shape_is
