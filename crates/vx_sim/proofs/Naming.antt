@@ -172,11 +172,11 @@ shape_below f [] i word e = absurd (cc)
 shape_below f (w ∷ ws) zero word e = omega arith
 shape_below f (w ∷ ws) (suc i) word e = let l = shape_below f ws i word e in omega (arith, l)
 
-pub found : {m : Numbers} {ws : List Word} {i : ℕ} {word : Word} {shapes : List Shape} (shape : Shape) → shape ≡ get_or shapes i shape → shapes ≡ map (shape_of m) ws → slice_get ws i ≡ Some word → shape ≡ shape_of m word
-found {m} {ws} {i} {word} {shapes} shape here are at = here ∙ ap (λ (xs : List Shape). get_or xs i shape) are ∙ shape_there (shape_of m) ws i word shape at
+pub found : (m : Numbers) (ws : List Word) (i : ℕ) (word : Word) (shapes : List Shape) (shape : Shape) → shape ≡ get_or shapes i shape → shapes ≡ map (shape_of m) ws → slice_get ws i ≡ Some word → shape ≡ shape_of m word
+found m ws i word shapes shape here are at = here ∙ ap (λ (xs : List Shape). get_or xs i shape) are ∙ shape_there (shape_of m) ws i word shape at
 
-pub found_below : {m : Numbers} {ws : List Word} {i : ℕ} {word : Word} {shapes : List Shape} → shapes ≡ map (shape_of m) ws → slice_get ws i ≡ Some word → i < length shapes
-found_below {m} {ws} {i} {word} {shapes} are at = subst (λ (xs : List Shape). i < length xs) (sym are) (shape_below (shape_of m) ws i word at)
+pub found_below : (m : Numbers) (ws : List Word) (i : ℕ) (word : Word) (shapes : List Shape) → shapes ≡ map (shape_of m) ws → slice_get ws i ≡ Some word → i < length shapes
+found_below m ws i word shapes are at = subst (λ (xs : List Shape). i < length xs) (sym are) (shape_below (shape_of m) ws i word at)
 
 -- a word is stuck by what it is, or else by where the simulator stands
 pub stuck_as : (m : Numbers) (w : WordProgram) (s : State) (word : Word) (shape : Shape) (here : Option Reason) → shape ≡ shape_of m word → shape.unfit ≡ None → here ≡ stuck_here w s word.ops → here ≡ stuck_by m w s word.ops

@@ -25,7 +25,7 @@ returns-in-Ok-clause-stepped g c =
     let l = c.in-Some.ensures.lookup in
     let at : slice_get w.words c.args.now.now.place ≡ Some word =
     ap (λ (ws : List Word). slice_get ws c.args.now.now.place) (sym c.as_slice.ensures) ∙ word_at c.as_slice.result.now c.args.now.now.place word (ltb-true _ _ (sym l.0)) ∙ ap (λ (x : Word). Some x) (sym l.1) in
-    let shape_is : c.shape_at-shape.result.now ≡ shape_of m word = found c.shape_at-shape.result.now c.shape_at-shape.ensures c.requires.tested at in
+    let shape_is : c.shape_at-shape.result.now ≡ shape_of m word = found m w.words c.args.now.now.place word c.args.shapes.now.items c.shape_at-shape.result.now c.shape_at-shape.ensures c.requires.tested at in
     let free : stuck_by m w b word.ops ≡ None = sym (c.stuck_by.ensures m shape_is) ∙ c.in_default.is in
     let took = c.pass.ensures.took in
     let earlier = g.K.Sink.told c.args.out.now in
@@ -44,7 +44,7 @@ returns-in-Err-clause-stepped g c =
     let l = c.in-Some.ensures.lookup in
     let at : slice_get w.words c.args.now.now.place ≡ Some word =
     ap (λ (xs : List Word). slice_get xs c.args.now.now.place) (sym c.as_slice.ensures) ∙ word_at c.as_slice.result.now c.args.now.now.place word (ltb-true _ _ (sym l.0)) ∙ ap (λ (x : Word). Some x) (sym l.1) in
-    let shape_is : c.shape_at-shape.result.now ≡ shape_of m word = found c.shape_at-shape.result.now c.shape_at-shape.ensures c.requires.tested at in
+    let shape_is : c.shape_at-shape.result.now ≡ shape_of m word = found m w.words c.args.now.now.place word c.args.shapes.now.items c.shape_at-shape.result.now c.shape_at-shape.ensures c.requires.tested at in
     let free : stuck_by m w b word.ops ≡ None = sym (c.stuck_by.ensures m shape_is) ∙ c.in_default.is in
     let it = takes_it m w (list_of t) b ws t.place word at free in
     record {
@@ -62,7 +62,7 @@ shape_at-shape-requires g c =
     let l = c.in-Some.ensures.lookup in
     let at : slice_get w.words c.args.now.now.place ≡ Some word =
     ap (λ (ws : List Word). slice_get ws c.args.now.now.place) (sym c.as_slice.ensures) ∙ word_at c.as_slice.result.now c.args.now.now.place word (ltb-true _ _ (sym l.0)) ∙ ap (λ (x : Word). Some x) (sym l.1) in
-    found_below c.requires.tested at
+    found_below c.args.machine.now w.words c.args.now.now.place word c.args.shapes.now.items c.requires.tested at
 
 pub pass-requires-clause-counts : goal.pass-requires-clause-counts
 pass-requires-clause-counts g c =
@@ -72,5 +72,5 @@ pass-requires-clause-counts g c =
     let l = c.in-Some.ensures.lookup in
     let at : slice_get w.words c.args.now.now.place ≡ Some word =
     ap (λ (ws : List Word). slice_get ws c.args.now.now.place) (sym c.as_slice.ensures) ∙ word_at c.as_slice.result.now c.args.now.now.place word (ltb-true _ _ (sym l.0)) ∙ ap (λ (x : Word). Some x) (sym l.1) in
-    let shape_is : c.shape_at-shape.result.now ≡ shape_of m word = found c.shape_at-shape.result.now c.shape_at-shape.ensures c.requires.tested at in
+    let shape_is : c.shape_at-shape.result.now ≡ shape_of m word = found m w.words c.args.now.now.place word c.args.shapes.now.items c.shape_at-shape.result.now c.shape_at-shape.ensures c.requires.tested at in
     ap (λ (s : Shape). s.counts) shape_is
