@@ -3,7 +3,7 @@ use Rattle.std.proofs.Common.{◌≡◌, ℕ, Bool, true, false, List, [], ◌�
 use Rattle.std.specs.Prelude.{find, option_map, codes}
 use Rattle.std.specs.Str.{bytes_eq}
 use Rattle.vx_probe.specs.Watch.{Watch}
-use Rattle.vx_driver.specs.Boxes.{ProbeBox, probe_named, probes_named}
+use Rattle.vx_driver.specs.Boxes.{ProbeBox, probes_named}
 
 abbrev pub first_or : {A : Type 0} → Option A → Option A → Option A
 first_or None other = other
@@ -47,9 +47,5 @@ map_map box view [] = refl
 map_map box view (x ∷ items) = ap (λ l. view (box x) ∷ l) (map_map box view items)
 
 -- every box is asked for
-pub every_probe : {T : Type 0} (box : T → ProbeBox) (name : List ℕ) (items : List T) → bytes_eq name (codes "all") ≡ true → probes_named (Some name) (map box items) ≡ Some (map (λ x. (box x).watch) items)
-every_probe box name items is = rw is (ap (λ (l : List Watch). Some l) (map_map box (λ (b : ProbeBox). b.watch) items))
-
--- one box is asked for
-pub one_probe : (name : List ℕ) (boxes : List ProbeBox) (found : Option Watch) → bytes_eq name (codes "all") ≡ false → found ≡ probe_named name boxes → probes_named (Some name) boxes ≡ option_map (λ watch. watch ∷ []) found
-one_probe name boxes found is same = rw is (ap (option_map (λ watch. watch ∷ [])) (sym same))
+pub every_probe : {T : Type 0} (box : T → ProbeBox) (asked : Option (List ℕ)) (name : List ℕ) (items : List T) → asked ≡ Some name → bytes_eq name (codes "all") ≡ true → probes_named asked (map box items) ≡ Some (map (λ x. (box x).watch) items)
+every_probe box asked name items asks is = ap (λ (a : Option (List ℕ)). probes_named a (map box items)) asks ∙ rw is (ap (λ (l : List Watch). Some l) (map_map box (λ (b : ProbeBox). b.watch) items))

@@ -107,13 +107,6 @@ module _ (m : Numbers) (times : List ℕ) (w : WordProgram) where
   pub is_step_at : (s : State) (word : Word) → slice_get w.words s.place ≡ Some word → stuck_by m w s word.ops ≡ None → step m times w s ≡ leads_to (lead_of s word.ops) (effect m times w s word)
   is_step_at s word e free = ap (issue m times w s) e ∙ ap (λ why. unless_stuck why s (leads_to (lead_of s word.ops) (effect m times w s word))) free
 
-  -- a word that is stuck
-  pub is_stuck_at : (s : State) (word : Word) (why : Reason) → slice_get w.words s.place ≡ Some word → stuck_by m w s word.ops ≡ Some why → step m times w s ≡ Over (Stuck why s.place s.out)
-  is_stuck_at s word why e stuck = ap (issue m times w s) e ∙ ap (λ r. unless_stuck r s (leads_to (lead_of s word.ops) (effect m times w s word))) stuck
-
-  pub is_untaken_at : (s : State) (word : Word) (why : Reason) → slice_get w.words s.place ≡ Some word → stuck_by m w s word.ops ≡ Some why → taken m times w s ≡ None
-  is_untaken_at s word why e stuck = ap (issued m times w s) e ∙ ap (λ r. taken_unless r (taken_at s word)) stuck
-
   -- the step by the lead of the code
   leads_as : (d : CodeLead) (s : State) → leads_to (lead_as d) s ≡ leads_by d (led_by (lead_as d) s)
   leads_as (LeadTo p) s = refl
