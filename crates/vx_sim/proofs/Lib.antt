@@ -12,3 +12,4 @@ pub mod Naming
 pub mod Taking
 pub mod SoFar
 pub mod Showing
+pub mod Touching

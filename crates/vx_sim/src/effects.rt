@@ -5,6 +5,8 @@ ghost use Rattle.std.specs.Prelude.{◌≡◌, ◌≤◌, ◌<◌, ◌+◌, ◌*
 ghost use Rattle.std.specs.List.{list_all, list_any};
 ghost use Rattle.std.specs.Vec.{vec_capacity};
 ghost use Rattle.vx_base.specs.Flight.{landing_time, landed_in, flying_in};
+ghost use Rattle.vx_isa.specs.declared.operation.UnitKind.TheVariants.{Memory};
+ghost use Rattle.vx_isa.specs.Fits.{is_of};
 ghost use Rattle.vx_isa.specs.Operations.{same, destination_of, is_call, latency_of};
 ghost use Rattle.vx_isa.specs.Machine.{writes_of, write_to, number_of, is_asked, time_of, asked_by, memory_after, has_bad_address, takes_input, cycles_of};
 ghost use Rattle.vx_probe.specs.Times.{list_of, moved_on, moved_by};
@@ -32,8 +34,10 @@ pub(crate) fn take_effect(
     now: &mut Standing,
     flights: &mut Vec<Flight>,
     word: &Word,
+    memory: u32,
     timing: &mut Box<dyn Timing>,
 )
+    requires touches { memory ≡ count_by (is_of Memory) word.now.ops }
     requires named { list_all names_register word.now.ops ≡ true }
     requires good { list_any (has_bad_address size (state_of now.old [])) word.now.ops ≡ false }
     requires size { size ≡ 4 * length now.old.memory.items }
@@ -51,8 +55,8 @@ pub(crate) fn take_effect(
 {
     let ops = word.ops.as_slice();
     issue_writes(machine, size, now, ops, flights, timing);
-    make_stores(size, now, ops);
-    now.taken = now.taken.saturating_add(count_of_input(ops));
+    make_stores(size, now, ops, memory);
+    now.taken = now.taken.saturating_add(count_of_input(ops, memory));
     now.cycle = pass_cycles(cycles_of(word), now.cycle, &mut now.registers, flights);
 }
 
@@ -64,9 +68,15 @@ fn cycles_of(word: &Word) -> u32
     word.idle.max(1)
 }
 
-fn count_of_input(ops: &[Operation]) -> usize
+/// How many numbers of the input the word takes: none where no operation has a memory unit.
+#[tactic(auto, using(crate::proofs::Touching::no_input))]
+fn count_of_input(ops: &[Operation], memory: u32) -> usize
+    requires { memory ≡ count_by (is_of Memory) ops.now }
     ensures { result ≡ count_by takes_input ops.now }
 {
+    if memory == 0 {
+        return 0;
+    }
     ops.iter().filter(|op| takes_input(op)).count()
 }
 
@@ -167,8 +177,24 @@ fn issue_write(to: Register, number: i32, left: u32, flights: &mut Vec<Flight>)
     prove!(is_appended);
 }
 
-/// The stores of the word, in the order of the list.
-fn make_stores(size: u32, now: &mut Standing, ops: &[Operation])
+/// The stores of the word, none where no operation has a memory unit.
+#[tactic(auto, using(crate::proofs::Touching::no_store))]
+fn make_stores(size: u32, now: &mut Standing, ops: &[Operation], memory: u32)
+    requires touches { memory ≡ count_by (is_of Memory) ops.now }
+    requires good { list_any (has_bad_address size (state_of now.old [])) ops.now ≡ false }
+    requires size { size ≡ 4 * length now.old.memory.items }
+    ensures stores { word_of now.new.memory.items ≡ memory_after (state_of now.old []) ops.now (word_of now.old.memory.items) }
+    ensures rest { now.new ≡ record now.old { memory = now.new.memory } }
+    ensures len { length now.new.memory.items ≡ length now.old.memory.items }
+{
+    if memory == 0 {
+        return;
+    }
+    make_each_store(size, now, ops);
+}
+
+/// The stores of operations, in the order of the list.
+fn make_each_store(size: u32, now: &mut Standing, ops: &[Operation])
     requires good { list_any (has_bad_address size (state_of now.old [])) ops.now ≡ false }
     requires size { size ≡ 4 * length now.old.memory.items }
     ensures stores { word_of now.new.memory.items ≡ memory_after (state_of now.old []) ops.now (word_of now.old.memory.items) }

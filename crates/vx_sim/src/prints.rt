@@ -1,8 +1,10 @@
 // What a word prints. Its text is put before anything else of the word is done.
 
-ghost use Rattle.std.specs.Prelude.{◌≡◌, ◌≤◌, OnOk, OnErr, []};
+ghost use Rattle.std.specs.Prelude.{◌≡◌, ◌≤◌, OnOk, OnErr, [], count_by};
 ghost use Rattle.std.specs.List.{flat_map};
 ghost use Rattle.vx_base.specs.Outside.{Rose, with_bytes, PutsFront};
+ghost use Rattle.vx_isa.specs.declared.operation.UnitKind.TheVariants.{Memory};
+ghost use Rattle.vx_isa.specs.Fits.{is_of};
 ghost use Rattle.vx_isa.specs.Machine.{print_of};
 ghost use Rattle.vx_sim.specs.Standing.{state_of};
 
@@ -13,8 +15,28 @@ use vx_base::sink::{Sink, SinkFault, put_all};
 use vx_isa::operation::Operation;
 use vx_isa::program::WordProgram;
 
-/// Puts the text of a word, operation after operation.
+/// Puts the text of a word: none where no operation has a memory unit.
 pub(crate) fn print<K: Sink>(
+    program: &WordProgram,
+    now: &Standing,
+    ops: &[Operation],
+    memory: u32,
+    out: &mut K,
+) -> Result<(), SinkFault>
+    requires { memory ≡ count_by (is_of Memory) ops.now }
+    ensures all { OnOk result (K.told out.new ≡ with_bytes (K.told out.old) (flat_map (print_of program.now (state_of now.now [])) ops.now)) }
+    ensures front { OnErr result (PutsFront (K.told out.old) (K.told out.new) (flat_map (print_of program.now (state_of now.now [])) ops.now)) }
+    ensures failed { OnErr result (Rose (K.faults out.old) (K.faults out.new)) }
+    ensures faults_never_fall { K.faults out.old ≤ K.faults out.new }
+{
+    if memory == 0 {
+        return put_all(out, &[]);
+    }
+    print_each(program, now, ops, out)
+}
+
+/// Puts the texts of operations, one after another.
+fn print_each<K: Sink>(
     program: &WordProgram,
     now: &Standing,
     ops: &[Operation],

@@ -59,7 +59,7 @@ pub(crate) fn step<K: Sink>(
     if let Some(reason) = stuck_by(program, now, word, shape) {
         return Some(Ended::Stuck(reason, place));
     }
-    match print(program, now, word.ops.as_slice(), out) {
+    match print(program, now, word.ops.as_slice(), shape.counts.memory, out) {
         Ok(()) => ended_by(pass(
             program,
             machine,
@@ -112,7 +112,15 @@ fn pass(
 {
     let lead = lead_of(now, following(program, now.place), word.ops.as_slice());
     let event = event_of(now, counts, lead);
-    take_effect(machine, program.memory, now, flights, word, timing);
+    take_effect(
+        machine,
+        program.memory,
+        now,
+        flights,
+        word,
+        counts.memory,
+        timing,
+    );
     show(probes, &event);
     *issued = issued.saturating_add(1);
     now.place = place_behind(lead, now.place);

@@ -1,10 +1,12 @@
 // Whether a word is stuck, and why. A word is tested before it has any effect.
 
-ghost use Rattle.std.specs.Prelude.{◌≡◌, []};
+ghost use Rattle.std.specs.Prelude.{◌≡◌, [], count_by};
 ghost use Rattle.std.specs.List.{list_any};
 ghost use Rattle.vx_isa.specs.Machine.{stuck_by, has_bad_address, takes_input};
 ghost use Rattle.vx_isa.specs.Numbers.{Numbers};
-ghost use Rattle.vx_sim.specs.Shapes.{shape_of, stuck_here};
+ghost use Rattle.vx_isa.specs.declared.operation.UnitKind.TheVariants.{Memory};
+ghost use Rattle.vx_isa.specs.Fits.{is_of};
+ghost use Rattle.vx_sim.specs.Shapes.{shape_of, counts_of, stuck_here};
 ghost use Rattle.vx_sim.specs.Standing.{state_of};
 
 use crate::shape::Shape;
@@ -20,19 +22,28 @@ pub(crate) fn stuck_by(
     word: &Word,
     shape: &Shape,
 ) -> Option<Reason>
+    requires { shape.now.counts ≡ counts_of word.now.ops }
     ensures { (m : Numbers) → shape.now ≡ shape_of m word.now → result ≡ stuck_by m program.now (state_of now.now []) word.now.ops }
 {
     match shape.unfit {
         Some(reason) => Some(reason),
-        None => stuck_here(program, now, word.ops.as_slice()),
+        None => stuck_here(program, now, word.ops.as_slice(), shape.counts.memory),
     }
 }
 
-/// The first reason that depends on where the simulator stands.
-fn stuck_here(program: &WordProgram, now: &Standing, ops: &[Operation]) -> Option<Reason>
+/// The first reason that depends on where the simulator stands. A word without a memory unit has none.
+fn stuck_here(
+    program: &WordProgram,
+    now: &Standing,
+    ops: &[Operation],
+    memory: u32,
+) -> Option<Reason>
+    requires { memory ≡ count_by (is_of Memory) ops.now }
     ensures { result ≡ stuck_here program.now (state_of now.now []) ops.now }
 {
-    if has_bad_addresses(program.memory, now, ops) {
+    if memory == 0 {
+        None
+    } else if has_bad_addresses(program.memory, now, ops) {
         Some(Reason::BadAddress)
     } else if take_input(ops) && !now.has_input() {
         Some(Reason::NoInputLeft)

@@ -4,11 +4,15 @@ use Rattle.vx_probe.specs.Watch.{shown}
 use Rattle.vx_sim.specs.Held.{write_of}
 use Rattle.vx_sim.specs.Leads.{place_behind}
 use Rattle.vx_sim.specs.Room.{widest}
+use Rattle.vx_sim.specs.declared.shape.UnitCounts.{UnitCounts}
 use Rattle.vx_sim.specs.Standing.{state_of}
 use Rattle.vx_sim.proofs.Flying.{room_enough}
 use Rattle.vx_sim.proofs.Naming.{names_at, widest_at, has_good_addresses}
 use Rattle.vx_sim.proofs.Taking.{took}
 use Rattle.vx_sim.proofs.steps.pass.Goals as goal
+
+pub take_effect-requires-clause-touches : goal.take_effect-requires-clause-touches
+take_effect-requires-clause-touches g c = ap (λ (counts : UnitCounts). counts.memory) c.requires.counts
 
 pub take_effect-requires-clause-named : goal.take_effect-requires-clause-named
 take_effect-requires-clause-named g c = names_at c.args.program.now c.args.now.now.place c.args.word.now c.requires.sound c.requires.word

@@ -1,8 +1,10 @@
-use Rattle.std.proofs.Common.{◌≡◌, ◌∙◌, [], List, map, Some, None, slice_get, refl, sym, ap, subst, ltb-true}
+use Rattle.std.proofs.Common.{◌≡◌, ◌∙◌, [], List, count_by, map, Some, None, slice_get, refl, sym, ap, subst, ltb-true}
 use Rattle.std.specs.List.{flat_map}
 use Rattle.vx_base.specs.Outside.{with_bytes, PutsFront}
 use Rattle.vx_isa.specs.declared.operation.Operation.{Operation}
+use Rattle.vx_isa.specs.declared.operation.UnitKind.TheVariants.{Memory}
 use Rattle.vx_isa.specs.declared.program.Word.{Word}
+use Rattle.vx_isa.specs.Fits.{is_of}
 use Rattle.vx_isa.specs.Machine.{print_of, stuck_by}
 use Rattle.vx_probe.specs.Times.{list_of}
 use Rattle.vx_sim.specs.Held.{write_of}
@@ -74,3 +76,25 @@ pass-requires-clause-counts g c =
     ap (λ (ws : List Word). slice_get ws c.args.now.now.place) (sym c.as_slice.ensures) ∙ word_at c.as_slice.result.now c.args.now.now.place word (ltb-true _ _ (sym l.0)) ∙ ap (λ (x : Word). Some x) (sym l.1) in
     let shape_is : c.shape_at-shape.result.now ≡ shape_of m word = found m w.words c.args.now.now.place word c.args.shapes.now.items c.shape_at-shape.result.now c.shape_at-shape.ensures c.requires.tested at in
     ap (λ (s : Shape). s.counts) shape_is
+
+pub stuck_by-requires : goal.stuck_by-requires
+stuck_by-requires g c =
+    let m = c.args.machine.now in
+    let w = c.args.program.now in
+    let word = c.in-Some.word.now in
+    let l = c.in-Some.ensures.lookup in
+    let at : slice_get w.words c.args.now.now.place ≡ Some word =
+    ap (λ (ws : List Word). slice_get ws c.args.now.now.place) (sym c.as_slice.ensures) ∙ word_at c.as_slice.result.now c.args.now.now.place word (ltb-true _ _ (sym l.0)) ∙ ap (λ (x : Word). Some x) (sym l.1) in
+    let shape_is : c.shape_at-shape.result.now ≡ shape_of m word = found m w.words c.args.now.now.place word c.args.shapes.now.items c.shape_at-shape.result.now c.shape_at-shape.ensures c.requires.tested at in
+    ap (λ (s : Shape). s.counts) shape_is
+
+pub print-requires : goal.print-requires
+print-requires g c =
+    let m = c.args.machine.now in
+    let w = c.args.program.now in
+    let word = c.in-Some.word.now in
+    let l = c.in-Some.ensures.lookup in
+    let at : slice_get w.words c.args.now.now.place ≡ Some word =
+    ap (λ (ws : List Word). slice_get ws c.args.now.now.place) (sym c.as_slice.ensures) ∙ word_at c.as_slice.result.now c.args.now.now.place word (ltb-true _ _ (sym l.0)) ∙ ap (λ (x : Word). Some x) (sym l.1) in
+    let shape_is : c.shape_at-shape.result.now ≡ shape_of m word = found m w.words c.args.now.now.place word c.args.shapes.now.items c.shape_at-shape.result.now c.shape_at-shape.ensures c.requires.tested at in
+    ap (λ (s : Shape). s.counts.memory) shape_is ∙ ap (λ (ops : List Operation). count_by (is_of Memory) ops) (sym c.as_slice-2.ensures)

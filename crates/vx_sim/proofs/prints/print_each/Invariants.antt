@@ -3,7 +3,7 @@ use Rattle.std.specs.List.{flat_map}
 use Rattle.vx_base.proofs.PutSoFar.{PutSoFar}
 use Rattle.vx_isa.specs.Machine.{print_of}
 use Rattle.vx_sim.specs.Standing.{state_of}
-use Rattle.vx_sim.proofs.prints.print.Given as goal
+use Rattle.vx_sim.proofs.prints.print_each.Given as goal
 
 abbrev pub invariant-loop-op : goal.invariant-loop-op
 invariant-loop-op g l =

@@ -3,7 +3,7 @@ use Rattle.std.specs.List.{list_any}
 use Rattle.vx_isa.specs.Machine.{memory_after, has_bad_address}
 use Rattle.vx_sim.specs.Held.{word_of}
 use Rattle.vx_sim.specs.Standing.{state_of}
-use Rattle.vx_sim.proofs.effects.make_stores.Given as goal
+use Rattle.vx_sim.proofs.effects.make_each_store.Given as goal
 
 abbrev pub invariant-loop-op : goal.invariant-loop-op
 invariant-loop-op l =
