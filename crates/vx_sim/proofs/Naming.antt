@@ -1,5 +1,5 @@
 -- What a sound program says of one of its words.
-use Rattle.std.proofs.Common.{◌≡◌, ℕ, zero, suc, ◌≤◌, ◌<◌, Bool, true, false, ◌&&◌, not, if◌then◌else◌, Option, Some, None, List, [], ◌∷◌, map, length, slice_get, get_or, refl, sym, ap, subst, ◌∙◌, arith}
+use Rattle.std.proofs.Common.{◌≡◌, ℕ, zero, suc, ◌≤◌, ◌<◌, Bool, true, false, ◌&&◌, not, if◌then◌else◌, Option, Some, None, List, [], ◌∷◌, map, length, slice_get, get_or, refl, sym, ap, subst, ◌∙◌, arith, nat_lt, ltb-true}
 use Rattle.std.specs.List.{list_all, list_any}
 use Rattle.vx_base.specs.declared.arithmetic.Code.{Code}
 use Rattle.vx_base.specs.declared.arithmetic.Code.TheVariants.{Add, Sub, And, Or, Xor, Shl, Shr, Shru, Sh2add, Max, Min, Mov, ToGeneral, ToBranch, Mpylu, Mpyhs, Div, Rem}
@@ -194,3 +194,7 @@ stuck_unfit m w s word shape why is unfit = by (is_bad_word m word.ops) (fits m 
     by true b f = sym f
     by false false f = sym f
     by false true f = absurd (cc)
+
+-- the word that is found at a place of the list that the code holds
+pub word_here : (ws items : List Word) (i : ℕ) (word : Word) → items ≡ ws → nat_lt i (length items) ≡ true → word ≡ get_or items i word → slice_get ws i ≡ Some word
+word_here ws items i word same there is = ap (λ (xs : List Word). slice_get xs i) (sym same) ∙ word_at items i word (ltb-true i (length items) there) ∙ ap (λ (x : Word). Some x) (sym is)

@@ -12,7 +12,7 @@ use Rattle.vx_sim.specs.Shapes.{shape_of}
 use Rattle.vx_sim.specs.declared.shape.Shape.{Shape}
 use Rattle.vx_sim.specs.Standing.{state_of}
 use Rattle.vx_sim.proofs.Elsewhere.{elsewhere}
-use Rattle.vx_sim.proofs.Naming.{word_at, found, found_below}
+use Rattle.vx_sim.proofs.Naming.{word_here, found, found_below}
 use Rattle.vx_sim.proofs.Passing.{taken_at}
 use Rattle.vx_sim.proofs.Taking.{stepped_as, text_of, takes_it}
 use Rattle.vx_sim.proofs.steps.step.Goals as goal
@@ -25,8 +25,7 @@ returns-in-Ok-clause-stepped g c =
     let t = (goal.Timing-dyn g (c.args.timing.now.vtable, c.args.timing.now.value)).times c.args.timing.now.value in
     let word = c.in-Some.word.now in
     let l = c.in-Some.ensures.lookup in
-    let at : slice_get w.words c.args.now.now.place ≡ Some word =
-    ap (λ (ws : List Word). slice_get ws c.args.now.now.place) (sym c.as_slice.ensures) ∙ word_at c.as_slice.result.now c.args.now.now.place word (ltb-true _ _ (sym l.0)) ∙ ap (λ (x : Word). Some x) (sym l.1) in
+    let at = word_here w.words c.as_slice.result.now c.args.now.now.place word c.as_slice.ensures (sym l.0) l.1 in
     let shape_is : c.shape_at-shape.result.now ≡ shape_of m word = found m w.words c.args.now.now.place word c.args.shapes.now.items c.shape_at-shape.result.now c.shape_at-shape.ensures c.requires.tested at in
     let free : stuck_by m w b word.ops ≡ None = sym (c.stuck_by.ensures m shape_is) ∙ c.in_default.is in
     let took = c.pass.ensures.took in
@@ -44,8 +43,7 @@ returns-in-Err-clause-stepped g c =
     let ws = map write_of c.args.flights.now.items in
     let word = c.in-Some.word.now in
     let l = c.in-Some.ensures.lookup in
-    let at : slice_get w.words c.args.now.now.place ≡ Some word =
-    ap (λ (xs : List Word). slice_get xs c.args.now.now.place) (sym c.as_slice.ensures) ∙ word_at c.as_slice.result.now c.args.now.now.place word (ltb-true _ _ (sym l.0)) ∙ ap (λ (x : Word). Some x) (sym l.1) in
+    let at = word_here w.words c.as_slice.result.now c.args.now.now.place word c.as_slice.ensures (sym l.0) l.1 in
     let shape_is : c.shape_at-shape.result.now ≡ shape_of m word = found m w.words c.args.now.now.place word c.args.shapes.now.items c.shape_at-shape.result.now c.shape_at-shape.ensures c.requires.tested at in
     let free : stuck_by m w b word.ops ≡ None = sym (c.stuck_by.ensures m shape_is) ∙ c.in_default.is in
     let it = takes_it m w (list_of t) b ws t.place word at free in
@@ -62,8 +60,7 @@ shape_at-shape-requires g c =
     let w = c.args.program.now in
     let word = c.in-Some.word.now in
     let l = c.in-Some.ensures.lookup in
-    let at : slice_get w.words c.args.now.now.place ≡ Some word =
-    ap (λ (ws : List Word). slice_get ws c.args.now.now.place) (sym c.as_slice.ensures) ∙ word_at c.as_slice.result.now c.args.now.now.place word (ltb-true _ _ (sym l.0)) ∙ ap (λ (x : Word). Some x) (sym l.1) in
+    let at = word_here w.words c.as_slice.result.now c.args.now.now.place word c.as_slice.ensures (sym l.0) l.1 in
     found_below c.args.machine.now w.words c.args.now.now.place word c.args.shapes.now.items c.requires.tested at
 
 pub pass-requires-clause-counts : goal.pass-requires-clause-counts
@@ -72,8 +69,7 @@ pass-requires-clause-counts g c =
     let w = c.args.program.now in
     let word = c.in-Some.word.now in
     let l = c.in-Some.ensures.lookup in
-    let at : slice_get w.words c.args.now.now.place ≡ Some word =
-    ap (λ (ws : List Word). slice_get ws c.args.now.now.place) (sym c.as_slice.ensures) ∙ word_at c.as_slice.result.now c.args.now.now.place word (ltb-true _ _ (sym l.0)) ∙ ap (λ (x : Word). Some x) (sym l.1) in
+    let at = word_here w.words c.as_slice.result.now c.args.now.now.place word c.as_slice.ensures (sym l.0) l.1 in
     let shape_is : c.shape_at-shape.result.now ≡ shape_of m word = found m w.words c.args.now.now.place word c.args.shapes.now.items c.shape_at-shape.result.now c.shape_at-shape.ensures c.requires.tested at in
     ap (λ (s : Shape). s.counts) shape_is
 
@@ -83,8 +79,7 @@ stuck_by-requires g c =
     let w = c.args.program.now in
     let word = c.in-Some.word.now in
     let l = c.in-Some.ensures.lookup in
-    let at : slice_get w.words c.args.now.now.place ≡ Some word =
-    ap (λ (ws : List Word). slice_get ws c.args.now.now.place) (sym c.as_slice.ensures) ∙ word_at c.as_slice.result.now c.args.now.now.place word (ltb-true _ _ (sym l.0)) ∙ ap (λ (x : Word). Some x) (sym l.1) in
+    let at = word_here w.words c.as_slice.result.now c.args.now.now.place word c.as_slice.ensures (sym l.0) l.1 in
     let shape_is : c.shape_at-shape.result.now ≡ shape_of m word = found m w.words c.args.now.now.place word c.args.shapes.now.items c.shape_at-shape.result.now c.shape_at-shape.ensures c.requires.tested at in
     ap (λ (s : Shape). s.counts) shape_is
 
@@ -94,7 +89,6 @@ print-requires g c =
     let w = c.args.program.now in
     let word = c.in-Some.word.now in
     let l = c.in-Some.ensures.lookup in
-    let at : slice_get w.words c.args.now.now.place ≡ Some word =
-    ap (λ (ws : List Word). slice_get ws c.args.now.now.place) (sym c.as_slice.ensures) ∙ word_at c.as_slice.result.now c.args.now.now.place word (ltb-true _ _ (sym l.0)) ∙ ap (λ (x : Word). Some x) (sym l.1) in
+    let at = word_here w.words c.as_slice.result.now c.args.now.now.place word c.as_slice.ensures (sym l.0) l.1 in
     let shape_is : c.shape_at-shape.result.now ≡ shape_of m word = found m w.words c.args.now.now.place word c.args.shapes.now.items c.shape_at-shape.result.now c.shape_at-shape.ensures c.requires.tested at in
     ap (λ (s : Shape). s.counts.memory) shape_is ∙ ap (λ (ops : List Operation). count_by (is_of Memory) ops) (sym c.as_slice-2.ensures)
