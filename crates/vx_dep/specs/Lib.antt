@@ -4,5 +4,6 @@ pub mod Traits
 pub mod Tables
 pub mod Rows
 pub mod Sights
+pub mod Earlier
 pub mod Heights
 pub mod Deps

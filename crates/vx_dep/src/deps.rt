@@ -6,8 +6,10 @@ ghost use Rattle.vx_isa.specs.Numbers.{Numbers};
 ghost use Rattle.vx_dep.specs.declared.mode.Mode.{Mode};
 ghost use Rattle.vx_dep.specs.Delays.{IsDelay};
 ghost use Rattle.vx_dep.specs.Deps.{IsDeps, height_in};
+ghost use Rattle.vx_dep.specs.Earlier.{AreEarlier};
 
-use crate::heights::heights;
+use crate::earlier::{Earlier, all_earlier, list_at};
+use crate::heights::{height_at, heights};
 use crate::mode::Mode;
 use crate::sights::Sight;
 use std::alloc::Global;
@@ -21,10 +23,11 @@ use vx_machine::Machine;
 pub struct Deps<'a> {
     pub(crate) sight: Sight<'a>,
     pub(crate) heights: Listed<u32>,
+    pub(crate) earlier: Listed<Listed<Earlier>>,
 }
 
-/// The delays and heights of a trace: what is needed to answer each delay without a search, and the heights. A height
-/// past `u32` is want of memory.
+/// The delays and heights of a trace: what is needed to answer each delay without a search, the pairs that have one, and the
+/// heights. A height past `u32` is want of memory.
 pub fn pairs<'a>(
     alloc: Global,
     trace: &'a Trace,
@@ -34,8 +37,13 @@ pub fn pairs<'a>(
     ensures { IfOk result (λ deps. IsDeps machine.now mode trace.now deps) }
 {
     let sight = Sight::make(alloc, trace, machine, mode)?;
-    let heights = heights(alloc, &sight)?;
-    Ok(Deps { sight, heights })
+    let earlier = all_earlier(alloc, &sight)?;
+    let heights = heights(alloc, &sight, earlier.as_slice())?;
+    Ok(Deps {
+        sight,
+        heights,
+        earlier,
+    })
 }
 
 impl<'a> Deps<'a> {
@@ -52,9 +60,15 @@ impl<'a> Deps<'a> {
     pub fn height(&self, i: u32) -> u32
         ensures { result ≡ height_in self.now i }
     {
-        match self.heights.as_slice().get(i as usize) {
-            Some(height) => *height,
-            None => 0,
-        }
+        height_at(self.heights.as_slice(), i as usize)
+    }
+
+    /// The operations that the one at place `j` of the trace has to stand behind, each with the delay; none where no
+    /// operation stands there. It takes no memory.
+    #[tactic(auto, using(crate::proofs::Kept::earlier_are))]
+    pub fn earlier(&self, j: u32) -> &[Earlier]
+        ensures { (m : Numbers) (mode : Mode) (t : Trace) → IsDeps m mode t self.now → AreEarlier m mode t j j result.now }
+    {
+        list_at(self.earlier.as_slice(), j as usize)
     }
 }

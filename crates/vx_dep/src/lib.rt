@@ -3,6 +3,7 @@
 
 pub mod copies;
 mod deps;
+mod earlier;
 mod heights;
 pub mod laws;
 pub mod mode;
@@ -12,3 +13,4 @@ mod tables;
 mod traits;
 
 pub use deps::{Deps, pairs};
+pub use earlier::Earlier;
