@@ -10,6 +10,7 @@ use Rattle.vx_machine.specs.declared.items.ClusteredItem.{ClusteredItem}
 use Rattle.vx_machine.specs.Room.{has_room}
 use Rattle.vx_dep.specs.declared.mode.Mode.{Mode}
 use Rattle.vx_dep.specs.declared.deps.Deps.{Deps}
+use Rattle.vx_dep.specs.declared.earlier.Earlier.{Earlier}
 use Rattle.vx_dep.specs.Delays.{Applies}
 use Rattle.vx_dep.specs.Deps.{IsDeps}
 use Rattle.vx_sched.specs.Placement.{comes_before, item_there}
@@ -48,9 +49,14 @@ IsNext height words k (Some o) = (o < k) × (word_in words o ≡ None) × ((p : 
 
 -- where it may stand
 
-abbrev pub later_of : (ready w : ℕ) → Option ℕ → ℕ
-later_of ready w None = ready
-later_of ready w (Some delay) = max ready (w + delay)
+abbrev pub later_of : (ready : ℕ) → Option ℕ → (delay : ℕ) → ℕ
+later_of ready None delay = ready
+later_of ready (Some w) delay = max ready (w + delay)
+
+-- the latest so far and those that the operations of a list give, as far as these have words
+abbrev pub ready_over : List (Option ℕ) → (ready : ℕ) → List Earlier → ℕ
+ready_over words ready [] = ready
+ready_over words ready (e ∷ es) = ready_over words (later_of ready (word_in words e.place) e.delay) es
 
 -- the first word that the delays from the operations before place k allow, as far as these have words
 pub record IsReadySoFar (m : Numbers) (mode : Mode) (t : Trace) (words : List (Option ℕ)) (o k ready : ℕ) : Type 0 where

@@ -54,15 +54,6 @@ fill-preserved c =
     let left : AreLeft h (slice_set words place (Some word)) (drop 1 c.fill.left.now) = rest_left h words c.fill.left.now place word c.fill.invariant.1 c.in-Some.ensures in
     (one_filled trace m homes mode h words rows c.put.new.rows.items place ready word item c.fill.invariant.0 c.requires.delays.heights next (now m mode trace.trace c.requires.delays) c.item_at-item.ensures first c.in_ok-put-in-Some.ensures, subst (AreLeft h (slice_set words place (Some word))) (sym c.behind-left.ensures) left)
 
-pub ready-requires-clause-inside : goal.ready-requires-clause-inside
-ready-requires-clause-inside c =
-    let h = height_in c.args.deps.now in
-    let words = c.fill.words.items in
-    let next : IsNext h words (length words) (Some c.in-Some.place) = subst (IsNext h words (length words)) (sym c.in-Some.ensures) (first_next h words c.fill.left.now c.fill.invariant.1) in
-    let inside : c.in-Some.place < length words = next.0 in
-    let same : length c.as_slice-in-Some.result.now ≡ length words = ap length c.as_slice-in-Some.ensures.value in
-    omega (arith, inside, same)
-
 pub item_at-item-requires-clause-inside : goal.item_at-item-requires-clause-inside
 item_at-item-requires-clause-inside c =
     let h = height_in c.args.deps.now in
