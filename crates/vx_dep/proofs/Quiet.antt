@@ -1,4 +1,4 @@
--- Of two quiet operations only the values count where the lower one is not kept below; behind a split few rows apply.
+-- Of two quiet operations only the values count, and what keeps the lower one below; behind a split few rows apply.
 use Rattle.std.proofs.Common.{◌≡◌, ◌<◌, ℕ, refl, sym, ◌∙◌, ap, arith, subst, Bool, true, false, not, ◌&&◌, ◌||◌, if◌then◌else◌, Option, Some, None, slice_get, List}
 use Rattle.std.proofs.lemmas.Bool.{or_left, or_right, false≢true, true≢false}
 use Rattle.vx_flow.specs.declared.trace.TraceOp.{TraceOp}
@@ -12,7 +12,7 @@ use Rattle.vx_dep.specs.declared.rows.Ways.{Ways}
 use Rattle.vx_dep.specs.Delays.{is_observable, leaves, IsDelay}
 use Rattle.vx_dep.specs.Traits.{values_read, has, is_fixed, traits_of}
 use Rattle.vx_dep.specs.Tables.{standings_of, lives_of}
-use Rattle.vx_dep.specs.Rows.{is_barred, are_tied, stays_behind_split, stays_behind_join, stays_behind, stays_below, at_least, delay_of, are_quiet, is_kept_below, quiet_delay_of, is_seen, split_delay_of}
+use Rattle.vx_dep.specs.Rows.{is_barred, are_tied, stays_behind_split, stays_behind_join, stays_behind, stays_below, at_least, delay_of, are_quiet, quiet_delay_of, is_seen, split_delay_of}
 use Rattle.vx_dep.specs.Sights.{reaches, has_join, is_live}
 use Rattle.vx_dep.proofs.Standing.{IsOf, entry_at, tells, delay_is}
 
@@ -57,53 +57,54 @@ quiet_parts a b e = by a.is_fixed a.is_access b.is_access refl refl refl e
     by false false y k p q e = record { upper = k; apart = λ u v. false≢true (sym p ∙ u) }
     by false true false k p q e = record { upper = k; apart = λ u v. false≢true (sym q ∙ v) }
 
-record AreFalse (x y : Bool) : Type 0 where
-  one : x ≡ false
-  two : y ≡ false
+behind_joined : (s o p v k j : Bool) → o ≡ false → v ≡ false → ((((false && s) || (o && p)) || (v && k)) || j) ≡ j
+behind_joined s false p false k j e f = refl
+behind_joined s true p v k j e f = absurd (true≢false e)
+behind_joined s false p true k j e f = absurd (true≢false f)
 
-both_false : (x y : Bool) → (x || y) ≡ false → AreFalse x y
-both_false false false e = record { one = refl; two = refl }
-both_false true y e = absurd (true≢false e)
-both_false false true e = absurd (true≢false e)
+below_kept : (r l v o k : Bool) → o ≡ false → ((r || (false && l)) || (v && (o || k))) ≡ (r || (v && k))
+below_kept true l v false k e = refl
+below_kept false l v false k e = refl
+below_kept r l v true k e = absurd (true≢false e)
 
-no_behind : (s o p v k j : Bool) → o ≡ false → v ≡ false → j ≡ false → ((((false && s) || (o && p)) || (v && k)) || j) ≡ false
-no_behind s false p false k false e f g = refl
-no_behind s true p v k j e f g = absurd (true≢false e)
-no_behind s false p true k j e f g = absurd (true≢false f)
-no_behind s false p false k true e f g = absurd (true≢false g)
+-- what the values give, and what is at least due
+by_kept : (l : ℕ) (tied behind read kept : Bool)
+    → (if tied then at_least l (if behind then Some 1 else (if (read || kept) then Some 0 else None)) else (if behind then Some 1 else (if (read || kept) then Some 0 else None)))
+    ≡ (if behind then at_least 1 (if tied then Some l else (if read then Some 0 else None)) else (if kept then at_least 0 (if tied then Some l else (if read then Some 0 else None)) else (if tied then Some l else (if read then Some 0 else None))))
+by_kept l true true read kept = ap Some (omega arith)
+by_kept l true false true true = ap Some (omega arith)
+by_kept l true false true false = ap Some (omega arith)
+by_kept l true false false true = ap Some (omega arith)
+by_kept l true false false false = refl
+by_kept l false true true kept = ap Some (omega arith)
+by_kept l false true false kept = refl
+by_kept l false false true true = ap Some (omega arith)
+by_kept l false false true false = refl
+by_kept l false false false true = refl
+by_kept l false false false false = refl
 
-only_read : (r l v o k : Bool) → o ≡ false → (v && k) ≡ false → ((r || (false && l)) || (v && (o || k))) ≡ r
-only_read true l v o k e f = refl
-only_read false l v false k e f = f
-only_read false l v true k e f = absurd (true≢false e)
-
-by_values : (l : ℕ) (tied behind below read : Bool) → behind ≡ false → below ≡ read
-    → (if tied then at_least l (if behind then Some 1 else (if below then Some 0 else None)) else (if behind then Some 1 else (if below then Some 0 else None))) ≡ (if tied then Some l else (if read then Some 0 else None))
-by_values l true false true read e f = ap Some (omega arith)
-by_values l true false false read e f = refl
-by_values l false false true true e f = refl
-by_values l false false false false e f = refl
-by_values l false false true false e f = absurd (true≢false f)
-by_values l false false false true e f = absurd (false≢true f)
-by_values l tied true below read e f = absurd (true≢false e)
-
-quiet_rows : (mode : Mode) (a b : Traits) (last joined live : Bool) → IsFree a → is_kept_below mode b joined ≡ false → delay_of mode a b (record { last = last; touch = false; joined = joined; live = live }) ≡ quiet_delay_of a b last
-quiet_rows mode a b last joined live above apart =
+quiet_rows : (mode : Mode) (a b : Traits) (last joined live : Bool) → IsFree a → delay_of mode a b (record { last = last; touch = false; joined = joined; live = live }) ≡ quiet_delay_of mode a b last joined
+quiet_rows mode a b last joined live above =
     let w : Ways = record { last = last; touch = false; joined = joined; live = live } in
-    let none = both_false (joined && stays_behind_join mode b) (b.leaves && is_barred mode) apart in
-    by_values a.latency (are_tied a b last) (stays_behind mode a b w) (stays_below mode a b w) (has b.written (values_read a.reads))
-    (no_behind a.is_store a.is_observable b.is_observable a.leaves (stays_behind_split mode b w) (joined && stays_behind_join mode b) above.observable above.leaves none.one)
-    (only_read (has b.written (values_read a.reads)) a.is_load b.leaves a.is_observable (is_barred mode) above.observable none.two)
+    let tied : Bool = are_tied a b last in
+    let behind : Bool = joined && stays_behind_join mode b in
+    let read : Bool = has b.written (values_read a.reads) in
+    let kept : Bool = b.leaves && is_barred mode in
+    ap (λ x. if tied then at_least a.latency (if x then Some 1 else (if stays_below mode a b w then Some 0 else None)) else (if x then Some 1 else (if stays_below mode a b w then Some 0 else None)))
+    (behind_joined a.is_store a.is_observable b.is_observable a.leaves (stays_behind_split mode b w) behind above.observable above.leaves)
+    ∙ ap (λ x. if tied then at_least a.latency (if behind then Some 1 else (if x then Some 0 else None)) else (if behind then Some 1 else (if x then Some 0 else None)))
+    (below_kept read a.is_load b.leaves a.is_observable (is_barred mode) above.observable)
+    ∙ by_kept a.latency tied behind read kept
 
 pub quiet_delay_is : (m : Numbers) (mode : Mode) (t : Trace) (standings : List Standing) (lives : List (List Bool)) (i j : ℕ) (a b : Standing) (d : Option ℕ) → standings ≡ standings_of m t → lives ≡ lives_of t → i < j → slice_get standings i ≡ Some a → slice_get standings j ≡ Some b
-    → are_quiet a.traits b.traits ≡ true → is_kept_below mode b.traits (has_join b i) ≡ false → d ≡ quiet_delay_of a.traits b.traits (reaches a i j) → IsDelay m mode t i j d
-quiet_delay_is m mode t standings lives i j a b d exact lives_exact in_order at_one at_two quiet apart is =
+    → are_quiet a.traits b.traits ≡ true → d ≡ quiet_delay_of mode a.traits b.traits (reaches a i j) (has_join b i) → IsDelay m mode t i j d
+quiet_delay_is m mode t standings lives i j a b d exact lives_exact in_order at_one at_two quiet is =
     let parts = quiet_parts a.traits b.traits quiet in
     let above = free_at m t i a (entry_at m t standings exact i a at_one) parts.upper in
     let live : Bool = a.traits.leaves && is_live (slice_get lives i) i j in
     let w : Ways = record { last = reaches a i j; touch = false; joined = has_join b i; live = live } in
     let told = tells m t standings lives i j a b w exact lives_exact in_order at_one at_two refl refl refl (λ e. absurd (false≢true e)) (λ e k. parts.apart k.upper k.lower) in
-    delay_is m t standings exact mode i j a b w d in_order at_one at_two told (is ∙ sym (quiet_rows mode a.traits b.traits (reaches a i j) (has_join b i) live above apart))
+    delay_is m t standings exact mode i j a b w d in_order at_one at_two told (is ∙ sym (quiet_rows mode a.traits b.traits (reaches a i j) (has_join b i) live above))
 
 -- a split above
 

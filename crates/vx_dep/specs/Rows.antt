@@ -49,13 +49,14 @@ delay_of mode a b w = if are_tied a b w.last then at_least a.latency (row_of mod
 abbrev pub are_quiet : Traits → Traits → Bool
 are_quiet a b = not a.is_fixed && not (a.is_access && b.is_access)
 
--- the lower one stays below whatever stands above it: behind a join, or as a split that nothing passes
-abbrev pub is_kept_below : Mode → Traits → (joined : Bool) → Bool
-is_kept_below mode b joined = (joined && stays_behind_join mode b) || (b.leaves && is_barred mode)
+-- the greatest number of two operations of which only the values count
+abbrev pub values_delay_of : Traits → Traits → (last : Bool) → Option ℕ
+values_delay_of a b last = if are_tied a b last then Some a.latency else (if has b.written (values_read a.reads) then Some 0 else None)
 
--- the greatest number of two quiet operations of which the lower one is not kept below
-abbrev pub quiet_delay_of : Traits → Traits → (last : Bool) → Option ℕ
-quiet_delay_of a b last = if are_tied a b last then Some a.latency else (if has b.written (values_read a.reads) then Some 0 else None)
+-- the greatest number of two quiet operations: the lower one stays behind a join, or as a split that nothing passes
+abbrev pub quiet_delay_of : Mode → Traits → Traits → (last joined : Bool) → Option ℕ
+quiet_delay_of mode a b last joined =
+    if joined && stays_behind_join mode b then at_least 1 (values_delay_of a b last) else (if b.leaves && is_barred mode then at_least 0 (values_delay_of a b last) else values_delay_of a b last)
 
 -- a split, or what is seen where a split above it leaves
 abbrev pub is_seen : Traits → Bool

@@ -2,7 +2,7 @@
 // stand, which rows apply, and the greatest number among those. specs/Rows.antt says the same.
 
 ghost use Rattle.std.specs.Prelude.{◌≡◌};
-ghost use Rattle.vx_dep.specs.Rows.{is_barred, are_tied, stays_behind, stays_behind_split, stays_behind_join, stays_below, row_of, delay_of, are_quiet, is_kept_below, quiet_delay_of, is_seen};
+ghost use Rattle.vx_dep.specs.Rows.{is_barred, are_tied, stays_behind, stays_behind_split, stays_behind_join, stays_below, row_of, at_least, delay_of, are_quiet, values_delay_of, quiet_delay_of, is_seen};
 
 use crate::mode::Mode;
 use crate::traits::{Traits, reads_written, write_alike};
@@ -42,16 +42,29 @@ pub(crate) fn are_quiet(a: &Traits, b: &Traits) -> bool
     !a.is_fixed && !(a.is_access && b.is_access)
 }
 
-/// Whether the lower operation stays below whatever stands above it.
-pub(crate) fn is_kept_below(mode: Mode, b: &Traits, joined: bool) -> bool
-    ensures { result ≡ is_kept_below mode b.now joined }
+/// The greatest number of two such operations: that of their values, and what keeps the lower one below.
+pub(crate) fn quiet_delay_of(
+    mode: Mode,
+    a: &Traits,
+    b: &Traits,
+    last: bool,
+    joined: bool,
+) -> Option<u32>
+    ensures { result ≡ quiet_delay_of mode a.now b.now last joined }
 {
-    (joined && stays_behind_join(mode, b)) || (b.leaves && is_barred(mode))
+    let values = values_delay_of(a, b, last);
+    if joined && stays_behind_join(mode, b) {
+        at_least(1, values)
+    } else if b.leaves && is_barred(mode) {
+        at_least(0, values)
+    } else {
+        values
+    }
 }
 
-/// The greatest number of two such operations of which the lower one is not kept below: only their values count.
-pub(crate) fn quiet_delay_of(a: &Traits, b: &Traits, last: bool) -> Option<u32>
-    ensures { result ≡ quiet_delay_of a.now b.now last }
+/// The number of two operations of which only the values count.
+fn values_delay_of(a: &Traits, b: &Traits, last: bool) -> Option<u32>
+    ensures { result ≡ values_delay_of a.now b.now last }
 {
     if are_tied(a, b, last) {
         Some(a.latency)
@@ -59,6 +72,15 @@ pub(crate) fn quiet_delay_of(a: &Traits, b: &Traits, last: bool) -> Option<u32>
         Some(0)
     } else {
         None
+    }
+}
+
+fn at_least(least: u32, delay: Option<u32>) -> Option<u32>
+    ensures { result ≡ at_least least delay }
+{
+    match delay {
+        None => Some(least),
+        Some(delay) => Some(least.max(delay)),
     }
 }
 

@@ -10,7 +10,7 @@ ghost use Rattle.vx_dep.specs.Delays.{IsDelay, NeverMeet};
 ghost use Rattle.vx_dep.specs.Sights.{AreOrdered, reaches, has_join, is_live};
 
 use crate::mode::Mode;
-use crate::rows::{Ways, are_quiet, delay_of, is_barred, is_kept_below, is_seen, quiet_delay_of};
+use crate::rows::{Ways, are_quiet, delay_of, is_barred, is_seen, quiet_delay_of};
 use crate::tables::{Standing, lives, standings};
 use crate::traits::{Traits, reads_written};
 use std::alloc::Global;
@@ -89,7 +89,8 @@ impl<'a> Sight<'a> {
         self.standings.as_slice().get(place)
     }
 
-    /// Of most pairs only the values count, and behind a split few rows apply; the others take the whole table.
+    /// Of most pairs only the values count, and what keeps the lower one below; behind a split few rows apply; the others take the
+    /// whole table.
     #[tactic(auto, using(crate::proofs::Quiet::quiet_delay_is, crate::proofs::Quiet::split_delay_is))]
     fn delay_between(&self, i: usize, j: usize, a: &Standing, b: &Standing) -> Option<u32>
         requires in_order { i < j }
@@ -99,10 +100,9 @@ impl<'a> Sight<'a> {
     {
         if a.traits.leaves {
             self.split_delay(i, j, &a.traits, &b.traits)
-        } else if are_quiet(&a.traits, &b.traits)
-            && !is_kept_below(self.mode, &b.traits, has_join(b, i))
-        {
-            quiet_delay_of(&a.traits, &b.traits, reaches(a, i, j))
+        } else if are_quiet(&a.traits, &b.traits) {
+            let last = reaches(a, i, j);
+            quiet_delay_of(self.mode, &a.traits, &b.traits, last, has_join(b, i))
         } else {
             self.delay_by_rows(i, j, a, b)
         }
