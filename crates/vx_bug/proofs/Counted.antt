@@ -1,7 +1,7 @@
 -- Counts of bookings by cycles, and the first cycle that is free.
-use Rattle.std.proofs.Common.{◌≡◌, ◌<◌, ◌≤◌, ◌+◌, ◌-◌, ◌==◌, ◌&&◌, ◌≢◌, cond, refl, sym, ◌∙◌, ap, arith, subst, Bool, true, false, nat_lt, if◌then◌else◌, ℕ, zero, suc, List, [], ◌∷◌, ◌++◌, length, take, slice_set, slice_index_or, get_or}
-use Rattle.std.proofs.lemmas.Bool.{eqb-true, eq-eqb}
-use Rattle.std.proofs.lemmas.List.{get_or-set_same, get_or-set_other, take_more}
+use Rattle.std.proofs.Common.{◌≡◌, ◌<◌, ◌≤◌, ◌⊎◌, inl, inr, ◌+◌, ◌-◌, ◌==◌, ◌&&◌, ◌≢◌, cond, refl, sym, ◌∙◌, ap, arith, subst, Bool, true, false, nat_lt, if◌then◌else◌, ℕ, zero, suc, List, [], ◌∷◌, ◌++◌, length, take, replicate, slice_set, slice_index_or, get_or}
+use Rattle.std.proofs.lemmas.Bool.{cases_lt, eqb-true, eq-eqb}
+use Rattle.std.proofs.lemmas.List.{length-replicate, get_or-replicate, get_or_past, get_or-set_same, get_or-set_other, take_more}
 use Rattle.std.proofs.lemmas.List.Sums.{sum_by-append}
 use Rattle.vx_isa.specs.declared.operation.UnitKind.{UnitKind}
 use Rattle.vx_isa.specs.Numbers.{Numbers}
@@ -62,6 +62,18 @@ one_counted cluster resource from j b counts more e h k m = by (b.cycle == from 
         let other : b.cycle ≡ from + j → ⊥ = λ q. let g : (b.cycle == from + j) ≡ true = eq-eqb b.cycle (from + j) q in absurd cc in
         let apart : j ≢ b.cycle - from = λ q. let w : b.cycle ≡ from + j = omega (arith, q, h) in other w in
         get_or-set_other counts (b.cycle - from) j more 0 apart ∙ other_cycle cluster resource (from + j) b (slice_index_or counts j 0) other
+
+-- as many counts as bookings, all 0
+
+pub zeros_long : (zeros : List ℕ) (many : ℕ) → zeros ≡ replicate many zero → length zeros ≡ many
+zeros_long zeros many e = ap length e ∙ length-replicate many zero
+
+pub zeros_zero : (zeros : List ℕ) (many j : ℕ) → zeros ≡ replicate many zero → slice_index_or zeros j zero ≡ zero
+zeros_zero zeros many j e = ap (λ (xs : List ℕ). slice_index_or xs j zero) e ∙ by (cases_lt j many)
+  where
+    by : (j < many) ⊎ (many ≤ j) → slice_index_or (replicate many zero) j zero ≡ zero
+    by (inl l) = get_or-replicate many j zero zero l
+    by (inr l) = let n = length-replicate many zero in get_or_past (replicate many zero) j zero (omega (arith, n, l))
 
 -- all bookings
 

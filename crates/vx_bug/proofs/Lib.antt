@@ -2,7 +2,9 @@ pub mod Named
 pub mod Visiting
 pub mod Giving
 pub mod Counted
+pub mod FirstCycle
 pub mod Latest
+pub mod Sourced
 pub mod Best
 pub mod Listing
 pub mod Taking

@@ -3,8 +3,10 @@ pub mod Copies
 pub mod Assigned
 pub mod Naming
 pub mod Ledgers
+pub mod Sources
 pub mod Choices
 pub mod Laying
 pub mod CanAssign
 pub mod Further
+pub mod FirstFree
 pub mod ClustersExample

@@ -140,15 +140,12 @@ fn counts(
     Ok(counts)
 }
 
+#[tactic(auto, using(crate::proofs::Counted::zeros_long, crate::proofs::Counted::zeros_zero))]
 fn zeros(alloc: Global, many: usize) -> Result<Vec<usize>, NoMemory>
     ensures long { IfOk result (λ zeros. length zeros.items ≡ many) }
     ensures zero { IfOk result (λ zeros. (j : ℕ) → slice_index_or zeros.items j 0 ≡ 0) }
 {
-    let mut zeros = Vec::new(alloc);
-    'fill: while zeros.len() < many {
-        zeros.push(0)?;
-    }
-    Ok(zeros)
+    Ok(vec![in alloc; 0; many]?)
 }
 
 /// Counts a booking in its cycle, if it takes the resource.

@@ -7,11 +7,12 @@ ghost use Rattle.vx_flow.specs.Walk.{numbers};
 ghost use Rattle.vx_bug.specs.Clusters.{some_of, general_writes, home_clusters, home_or_any, permitted, cycle_of, estimate_of, after_turn, IsBest};
 ghost use Rattle.vx_bug.specs.Ledgers.{homes_in, books_of};
 ghost use Rattle.vx_bug.specs.Choices.{IsLeast, Apart, TurnTaken, TurnsTaken};
+ghost use Rattle.vx_bug.specs.Sources.{AreSources};
 
 use crate::homes::home_in;
 use crate::ledger::Ledger;
 use crate::naming::{general_result, is_bound};
-use crate::turns::{Turn, cycle_of, take};
+use crate::turns::{Sources, Turn, cycle_of, find_sources, take};
 use std::alloc::Global;
 use vx_base::outcome::NoMemory;
 use vx_flow::trace::Trace;
@@ -104,11 +105,18 @@ fn permitted(turn: &Turn, ledger: &Ledger, fixed: Option<u32>) -> Span
     }
 }
 
-fn tried(alloc: Global, turn: &Turn, ledger: &Ledger, cluster: u32) -> Result<Choice, NoMemory>
+fn tried(
+    alloc: Global,
+    turn: &Turn,
+    ledger: &Ledger,
+    sources: Sources,
+    cluster: u32,
+) -> Result<Choice, NoMemory>
+    requires { AreSources turn.now.machine turn.now.trace.now (books_of ledger.now) turn.now.place turn.now.op.now sources }
     ensures cluster { IfOk result (λ choice. choice.cluster ≡ cluster) }
     ensures cycle { IfOk result (λ choice. choice.cycle ≡ cycle_of turn.now.machine turn.now.trace.now (books_of ledger.now) turn.now.place turn.now.op.now choice.cluster) }
 {
-    let cycle = cycle_of(alloc, turn, ledger, cluster)?;
+    let cycle = cycle_of(alloc, turn, ledger, sources, cluster)?;
     Ok(Choice { cluster, cycle })
 }
 
@@ -127,10 +135,11 @@ fn best(alloc: Global, turn: &Turn, ledger: &Ledger, span: Span) -> Result<Choic
     ensures least { IfOk result (λ choice. IsLeast (cycle_of turn.now.machine turn.now.trace.now (books_of ledger.now) turn.now.place turn.now.op.now) span.first span.count choice.cluster) }
     ensures cycle { IfOk result (λ choice. choice.cycle ≡ cycle_of turn.now.machine turn.now.trace.now (books_of ledger.now) turn.now.place turn.now.op.now choice.cluster) }
 {
-    let mut best = tried(alloc, turn, ledger, span.first)?;
+    let sources = find_sources(turn, ledger);
+    let mut best = tried(alloc, turn, ledger, sources, span.first)?;
     let mut count = 1;
     'compare: while count < span.count {
-        let next = tried(alloc, turn, ledger, span.first + count)?;
+        let next = tried(alloc, turn, ledger, sources, span.first + count)?;
         best = better(best, next);
         count += 1;
     }

@@ -1,11 +1,10 @@
 // The turn of an operation: its estimate on a cluster, and what stands after it has taken one. specs/Clusters.antt says the
 // same.
 
-ghost use Rattle.std.specs.Prelude.{◌≡◌, ◌++◌, ◌+◌, IfOk, OnOk, Some, map, if◌then◌else◌};
-ghost use Rattle.vx_dep.specs.Compensation.{greatest};
-ghost use Rattle.vx_dep.specs.Delays.{reads_of};
+ghost use Rattle.std.specs.Prelude.{◌≡◌, ◌++◌, ◌+◌, ℕ, IfOk, OnOk, Some, None, if◌then◌else◌};
 ghost use Rattle.vx_bug.specs.Clusters.{some_of, general_reads, general_writes, is_across, way_from, written_at, available, cycle_of, estimate_of, with_homes, after_turn};
 ghost use Rattle.vx_bug.specs.Ledgers.{homes_in, books_of};
+ghost use Rattle.vx_bug.specs.Sources.{there_on, earliest_on, IsSource, AreSources};
 
 use crate::bookings::{Booking, estimate_in, free_cycle};
 use crate::homes::{give_home, home_in};
@@ -25,6 +24,23 @@ pub(crate) struct Turn<'a> {
     pub(crate) trace: &'a Trace,
     pub(crate) place: u32,
     pub(crate) op: &'a TraceOp,
+}
+
+/// Where an operand of an operation comes from.
+#[derive(Clone, Copy, Debug)]
+pub(crate) struct Source {
+    /// The cycle at which it is expected, 0 where no operation above that has its cluster wrote it.
+    pub(crate) written: u32,
+    /// The cluster that it has to come from, if there is one.
+    pub(crate) home: Option<u32>,
+}
+
+/// Where the operands of an operation come from, found once for all clusters; None where an operand is no value.
+#[derive(Clone, Copy, Debug)]
+pub(crate) struct Sources {
+    pub(crate) test: Option<Source>,
+    pub(crate) left: Option<Source>,
+    pub(crate) right: Option<Source>,
 }
 
 /// How many cycles later an operand that stands on another cluster is there.
@@ -52,62 +68,85 @@ fn written_at(bookings: &[Booking], above: Option<u32>) -> u32
     }
 }
 
-/// The way of a value to a cluster; a copy across reads where its operand stands.
-fn way(turn: &Turn, ledger: &Ledger, cluster: u32, value: Value) -> u32
-    ensures { result ≡ (if is_across turn.now.op.now then 0 else way_from turn.now.machine (homes_in ledger.now.homes.items value) cluster) }
+/// The cluster that a value has to come from, if it has a home; a copy across reads where its operand stands.
+fn read_from(turn: &Turn, ledger: &Ledger, value: Value) -> Option<u32>
+    ensures { result ≡ (if is_across turn.now.op.now then None else homes_in ledger.now.homes.items value) }
 {
     if is_across(turn.op) {
-        0
+        None
     } else {
-        way_from(
-            &turn.machine,
-            home_in(ledger.homes.as_slice(), value),
-            cluster,
-        )
+        home_in(ledger.homes.as_slice(), value)
     }
 }
 
-/// The cycle from which a value is there on a cluster.
-fn available(turn: &Turn, ledger: &Ledger, cluster: u32, value: Value) -> u64
-    ensures { result ≡ available turn.now.machine turn.now.trace.now (books_of ledger.now) turn.now.place turn.now.op.now cluster value }
+#[tactic(auto, using(crate::proofs::Sourced::source_is))]
+fn find_source(turn: &Turn, ledger: &Ledger, value: Value) -> Source
+    ensures { (cluster : ℕ) → result.written + way_from turn.now.machine result.home cluster ≡ available turn.now.machine turn.now.trace.now (books_of ledger.now) turn.now.place turn.now.op.now cluster value }
 {
     let above = writer(turn.trace.ops.as_slice(), turn.place, value);
     let written = written_at(ledger.bookings.as_slice(), above);
-    u64::from(written) + u64::from(way(turn, ledger, cluster, value))
+    let home = read_from(turn, ledger, value);
+    Source { written, home }
 }
 
-/// The same for an operand; 0 where it is no value.
-fn available_if(turn: &Turn, ledger: &Ledger, cluster: u32, value: Option<Value>) -> u64
-    ensures { result ≡ greatest (map (available turn.now.machine turn.now.trace.now (books_of ledger.now) turn.now.place turn.now.op.now cluster) (some_of value)) }
+/// The same for an operand; none where it is no value.
+#[tactic(auto, using(crate::proofs::Sourced::no_source, crate::proofs::Sourced::one_source))]
+fn find_source_if(turn: &Turn, ledger: &Ledger, value: Option<Value>) -> Option<Source>
+    ensures { IsSource turn.now.machine turn.now.trace.now (books_of ledger.now) turn.now.place turn.now.op.now (some_of value) result }
 {
     match value {
+        None => None,
+        Some(value) => Some(find_source(turn, ledger, value)),
+    }
+}
+
+/// Where the operands of an operation come from.
+#[tactic(auto, using(crate::proofs::Sourced::are_sources))]
+pub(crate) fn find_sources(turn: &Turn, ledger: &Ledger) -> Sources
+    ensures { AreSources turn.now.machine turn.now.trace.now (books_of ledger.now) turn.now.place turn.now.op.now result }
+{
+    let read = values_read(turn.op);
+    let test = find_source_if(turn, ledger, read.test);
+    let left = find_source_if(turn, ledger, read.left);
+    let right = find_source_if(turn, ledger, read.right);
+    Sources { test, left, right }
+}
+
+/// The cycle from which an operand is there on a cluster; 0 where it is no value.
+fn there_on(machine: &Machine, cluster: u32, source: Option<Source>) -> u64
+    ensures { result ≡ there_on machine.now cluster source }
+{
+    match source {
         None => 0,
-        Some(value) => available(turn, ledger, cluster, value),
+        Some(source) => {
+            u64::from(source.written) + u64::from(way_from(machine, source.home, cluster))
+        }
     }
 }
 
 /// The first cycle in which all operands are there on a cluster.
-#[tactic(auto, using(crate::proofs::Latest::of_three))]
-fn earliest(turn: &Turn, ledger: &Ledger, cluster: u32) -> u64
-    ensures { result ≡ greatest (map (available turn.now.machine turn.now.trace.now (books_of ledger.now) turn.now.place turn.now.op.now cluster) (reads_of turn.now.op.now)) }
+fn earliest(machine: &Machine, cluster: u32, sources: Sources) -> u64
+    ensures { result ≡ earliest_on machine.now cluster sources }
 {
-    let read = values_read(turn.op);
-    let test = available_if(turn, ledger, cluster, read.test);
-    let left = available_if(turn, ledger, cluster, read.left);
-    let right = available_if(turn, ledger, cluster, read.right);
+    let test = there_on(machine, cluster, sources.test);
+    let left = there_on(machine, cluster, sources.left);
+    let right = there_on(machine, cluster, sources.right);
     test.max(left).max(right)
 }
 
 /// The cycle in which the operation would be issued on a cluster.
+#[tactic(auto, using(crate::proofs::Sourced::cycle_is))]
 pub(crate) fn cycle_of(
     alloc: Global,
     turn: &Turn,
     ledger: &Ledger,
+    sources: Sources,
     cluster: u32,
 ) -> Result<u64, NoMemory>
+    requires { AreSources turn.now.machine turn.now.trace.now (books_of ledger.now) turn.now.place turn.now.op.now sources }
     ensures { IfOk result (λ cycle. cycle ≡ cycle_of turn.now.machine turn.now.trace.now (books_of ledger.now) turn.now.place turn.now.op.now cluster) }
 {
-    let from = earliest(turn, ledger, cluster);
+    let from = earliest(&turn.machine, cluster, sources);
     let unit = Item::of_trace(turn.op).unit();
     free_cycle(
         alloc,
