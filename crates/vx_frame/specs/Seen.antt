@@ -14,7 +14,7 @@ abbrev pub no_graph : Graph
 no_graph = record { blocks = []; banks = []; parameters = []; arrays = [] }
 
 abbrev pub no_layout : VWords
-no_layout = record { banks = []; homes = record { clusters = [] }; words = []; entry = 0 }
+no_layout = record { banks = []; homes = record { clusters = [] }; words = []; entry = 0; regions = 0 }
 
 abbrev pub no_map : RegMap
 no_map = record { values = [] }

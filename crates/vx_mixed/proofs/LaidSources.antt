@@ -25,6 +25,7 @@ use Rattle.vx_mixed.specs.Origins.{ComesFromGraph, LaidFromGraph, ExitComesFrom}
 use Rattle.vx_mixed.proofs.Standing.{Source, mapped_from, get_mapped}
 use Rattle.vx_mixed.proofs.DatedWords.{Dated, word_in, left_before}
 use Rattle.vx_mixed.proofs.LayoutPlaces.{WordAt, word_stands, dated, dated_is, region_stands}
+use Rattle.vx_mixed.proofs.Numbered.{layout_numbered}
 use Rattle.vx_mixed.proofs.LayoutKinds.{begins_at, Kind, plans, drains, jumps, chooses, calls, returns, ends, kind_of}
 
 -- items as they are laid out
@@ -180,6 +181,7 @@ module _ (latency : Op → ℕ) (m : MixedGraph) where
 code_of : (graph : Graph) (m : MixedGraph) → ComesFromGraph graph m → LaidFromGraph graph (layout_of m)
 code_of graph m from = record {
   banks = from.banks;
+  numbered = layout_numbered m;
   ops = λ p cluster op items h i.
       let x = plan_of none m p items h in
       from.ops op (region_op x.region x.number cluster x.g x.word x.has_region x.has_word (plain_from x.stands.at x.word op cluster (subst (IsIn (Plain op cluster)) x.is i)));

@@ -60,6 +60,7 @@ pub mod LaidHops
 pub mod LaidGrows
 pub mod LaidRuns
 pub mod LayoutKinds
+pub mod Numbered
 pub mod LaidSources
 pub mod LaidLeft
 pub mod LaidSettles

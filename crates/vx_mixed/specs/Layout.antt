@@ -83,4 +83,4 @@ all_words m r at (g ∷ gs) = region_words (place_of m) r at g ++ all_words m (r
 
 -- the layout of a graph of which no block is left
 abbrev pub layout_of : MixedGraph → VWords
-layout_of m = record { banks = m.banks; homes = m.homes; words = all_words m 0 0 m.regions; entry = place_of m 0 }
+layout_of m = record { banks = m.banks; homes = m.homes; words = all_words m 0 0 m.regions; entry = place_of m 0; regions = length m.regions }

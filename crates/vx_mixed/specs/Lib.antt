@@ -33,6 +33,7 @@ pub mod Valid
 pub mod CountingExample
 pub mod Laid
 pub mod LaidSettled
+pub mod Numbered
 pub mod Origins
 pub mod LayoutLaws
 pub mod Laying

@@ -24,6 +24,7 @@ use Rattle.vx_mixed.specs.declared.layout.VirtualWord.TheVariants.{Choice, Call,
 use Rattle.vx_mixed.specs.declared.layout.VWords.{VWords}
 use Rattle.vx_mixed.specs.Valid.{IsOp, names_of}
 use Rattle.vx_mixed.specs.LaidSettled.{Plans}
+use Rattle.vx_mixed.specs.Numbered.{IsNumbered}
 
 -- the value of which v is a copy, or v itself, where the graph has so many values
 abbrev pub whole : (values : ℕ) → ℕ → ℕ
@@ -84,9 +85,10 @@ pub record ComesFromGraph (graph : Graph) (m : MixedGraph) : Type 0 where
   pub region_exits : (r : ℕ) (g : Region) → slice_get m.regions r ≡ Some g → ExitComesFrom graph g.last
   pub splits : (r j test d : ℕ) (y : Bool) (e : Edge) (g : Region) (word : List Item) → slice_get m.regions r ≡ Some g → slice_get g.words j ≡ Some word → IsIn (SplitItem test y e d) word → Parts graph test
 
--- a layout that has it
+-- a layout that has it, with numbered words
 pub record LaidFromGraph (graph : Graph) (l : VWords) : Type 0 where
   pub banks : l.banks ≡ graph.banks
+  pub numbered : IsNumbered l
   pub ops : (p cluster : ℕ) (op : Op) (items : List Laid) → Plans l p items → IsIn (Plain op cluster) items → ComesFrom graph op
   pub splits : (p test q : ℕ) (y : Bool) (items : List Laid) → Plans l p items → IsIn (Split test y q) items → Parts graph test
   pub choices : (p test q : ℕ) → slice_get l.words p ≡ Some (Choice test q) → Parts graph test

@@ -363,6 +363,12 @@ fn graph_words(
     Ok(words)
 }
 
+fn region_count(graph: &MixedGraph) -> u32
+    ensures { result ≡ length graph.now.regions }
+{
+    graph.regions.len() as u32
+}
+
 /// The layout of a graph.
 pub(crate) fn laid_out(alloc: Global, graph: &MixedGraph) -> Result<VWords, NoMemory>
     ensures { IfOk result (λ words. words ≡ layout_of graph.now) }
@@ -376,5 +382,6 @@ pub(crate) fn laid_out(alloc: Global, graph: &MixedGraph) -> Result<VWords, NoMe
         homes,
         words,
         entry: place_at(&places, 0),
+        regions: region_count(graph),
     })
 }

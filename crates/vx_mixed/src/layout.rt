@@ -62,4 +62,6 @@ pub struct VWords {
     pub words: Listed<VirtualWord>,
     /// The place at which the function is entered.
     pub entry: u32,
+    /// How many regions are laid out, with those that have no words.
+    pub regions: u32,
 }

@@ -76,6 +76,7 @@ fn no_words(alloc: Global) -> VWords {
         },
         words: Listed::new(alloc),
         entry: 0,
+        regions: 1,
     }
 }
 
