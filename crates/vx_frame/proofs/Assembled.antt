@@ -23,23 +23,28 @@ use Rattle.vx_mixed.specs.declared.layout.Laid.TheVariants.{Plain, Split}
 use Rattle.vx_mixed.specs.declared.layout.VWords.{VWords}
 use Rattle.vx_mixed.specs.Brief.{IsBriefLayout}
 use Rattle.vx_mixed.specs.LaidSettled.{SettledLayout, home_in}
+use Rattle.vx_mixed.specs.Numbered.{IsNumbered}
 use Rattle.vx_mixed.specs.Origins.{LaidFromGraph}
 use Rattle.vx_regs.specs.declared.map.Kept.{Kept}
 use Rattle.vx_regs.specs.declared.map.Kept.TheVariants.{InRegister, InSlot, Nowhere}
 use Rattle.vx_regs.specs.declared.map.RegMap.{RegMap}
 use Rattle.vx_regs.specs.Intervals.{IsBusy}
 use Rattle.vx_regs.specs.Mapped.{KeepsApart, kept_of}
+use Rattle.vx_frame.specs.declared.finishing.Finished.{Finished}
 use Rattle.vx_frame.specs.declared.gathering.FunctionFrame.{FunctionFrame}
 use Rattle.vx_frame.specs.declared.gathering.Whole.{Whole}
 use Rattle.vx_frame.specs.Target.{Target, is_slotted}
 use Rattle.vx_frame.specs.Tied.{IsFunction}
 use Rattle.vx_frame.specs.Carried.{room_of, item_of_laid, IsMapped, IsSaved, NeedsSlot, is_passed, is_spilled, is_saved, HasWord, IsFramed, words_before, Carries}
-use Rattle.vx_frame.specs.Finish.{CanFinish, AllCanFinish, IsFinished, SoundLaw}
+use Rattle.vx_frame.specs.Finish.{CanFinish, AllCanFinish, Finishes, SoundLaw}
 use Rattle.vx_frame.specs.Found.{Found, Made}
 use Rattle.vx_frame.specs.Framing.{IsFrameOf, SlotNeeded, is_passed as is_passed_there, is_kept, is_saved as is_saved_there}
-use Rattle.vx_frame.specs.Placing.{splits, OneSplit, standing}
+use Rattle.vx_frame.specs.Places.{ArePlaces}
+use Rattle.vx_frame.specs.Placing.{splits, OneSplit, all_places, functions_begin, standing}
+use Rattle.vx_frame.specs.Regions.{all_traces}
 use Rattle.vx_frame.specs.Seen.{no_graph, no_layout, no_map, no_frame, seen}
 use Rattle.vx_frame.proofs.Frames.{get_some, get_in}
+use Rattle.vx_frame.proofs.Regions.{are_places}
 
 -- lists
 
@@ -217,15 +222,21 @@ module _ (W : Whole) (flow : Flow) (sound : SoundFlow flow) (found : Found W flo
     few = made.few;
   }
 
-pub is_finished : (W : Whole) (flow : Flow) (w : WordProgram) → SoundLaw → is_sound_flow flow ≡ true → Found W flow → Made W flow w → IsFinished W.machine.now flow W.layouts.now W.maps.now w
-is_finished W flow w law sound found made =
+pub finishes : (W : Whole) (flow : Flow) (x : Finished) → SoundLaw → is_sound_flow flow ≡ true → Found W flow → Made W flow x.program → x.places ≡ all_traces (all_places (seen W) (functions_begin (seen W) flow.main) 0 (length flow.functions)) 0 W.layouts.now → Finishes W.machine.now flow W.layouts.now W.maps.now x
+finishes W flow x law sound found made places =
+    let w = x.program in
     let flow_sound = (told flow (is_sound_flow flow) refl).0 sound in
     let T = TheTarget W flow flow_sound found in
     let c : Carries T flow W.layouts.now w = carries W flow flow_sound found w made in
     record {
-      target = T;
-      machine_is = refl;
-      maps_are = λ f lt. (let can = found.can.each f lt in can.map_is ∙ ap Some (sym (get_or_from_slice_get W.maps.now f can.map no_map can.map_is)));
-      carries = c;
-      sound = law T flow W.layouts.now w sound c (made.ascending w.memory (let a = made.memory in let b = found.globals in omega arith));
+      finished = record {
+        target = T;
+        machine_is = refl;
+        maps_are = λ f lt. (let can = found.can.each f lt in can.map_is ∙ ap Some (sym (get_or_from_slice_get W.maps.now f can.map no_map can.map_is)));
+        carries = c;
+        sound = law T flow W.layouts.now w sound c (made.ascending w.memory (let a = made.memory in let b = found.globals in omega arith));
+      };
+      functions = found.can.layouts;
+      places = subst (ArePlaces T W.layouts.now) (sym places) (are_places (seen W) flow.main (length flow.functions) W.layouts.now found.can.layouts (λ f. refl)
+          (λ f lt. let can = found.can.each f lt in subst IsNumbered (sym (get_or_from_slice_get W.layouts.now f can.layout no_layout can.layout_is)) can.code.numbered));
     }

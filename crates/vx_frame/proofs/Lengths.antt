@@ -40,7 +40,7 @@ store_slots_same : (T : Target) (s : Spots) (f : ℕ) (names vs : List ℕ) → 
 store_slots_same T s f names [] = refl
 store_slots_same T s f names (v ∷ vs) = ap (λ z. store_slot T f v (general_of T f names v) (branch_of T f names v) ++ z) (store_slots_same T s f names vs)
 
-before_same : (T : Target) (s : Spots) (f : ℕ) (rs : List ℕ) → before (at_spots T s) f rs ≡ before T f rs
+pub before_same : (T : Target) (s : Spots) (f : ℕ) (rs : List ℕ) → before (at_spots T s) f rs ≡ before T f rs
 before_same T s f rs = ap (λ z. if_some (slotted T f rs) (settled T z)) (load_slots_same T s f rs (once (slotted T f rs)))
 
 slots_in_flight_same : (T : Target) (s : Spots) (f : ℕ) (items : List Laid) → slots_in_flight (at_spots T s) f items ≡ slots_in_flight T f items

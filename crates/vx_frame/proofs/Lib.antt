@@ -51,9 +51,11 @@ pub mod EarlyRows
 pub mod Emitting
 pub mod Lengths
 pub mod Standing
+pub mod Regions
 pub mod Globals
 pub mod Offsets
 pub mod Assembled
+pub mod Kinds
 pub mod FrameLists
 pub mod SavedLists
 pub mod SeenSaves

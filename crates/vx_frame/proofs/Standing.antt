@@ -183,7 +183,7 @@ calls_back T f p q (word ∷ words) (suc i) g arguments result h =
     let y : suc p + i ≡ p + suc i = omega arith in
     calls_back T f (suc p) (q + length (word_words T f p word)) words i g arguments result h ∙ ap (λ j. slice_index_or (starts_from T f (q + length (word_words T f p word)) (suc p) words) i 0 + length (call_words T f j g arguments)) y
 
-place_in : (T : Target) (q f n i : ℕ) → i < n → (k : ℕ) × (slice_index_or (all_places T q f n) i no_places ≡ places_at T (f + i) k)
+pub place_in : (T : Target) (q f n i : ℕ) → i < n → (k : ℕ) × (slice_index_or (all_places T q f n) i no_places ≡ places_at T (f + i) k)
 place_in T q f zero i lt = absurd (omega arith)
 place_in T q f (suc n) zero lt = let z : f ≡ f + 0 = omega arith in (q, ap (λ j. places_at T j q) z)
 place_in T q f (suc n) (suc i) lt =

@@ -14,7 +14,9 @@ use Rattle.vx_mixed.specs.Origins.{LaidFromGraph}
 use Rattle.vx_regs.specs.Intervals.{IsBusy}
 use Rattle.vx_regs.specs.Mapped.{KeepsApart}
 use Rattle.vx_regs.specs.declared.map.RegMap.{RegMap}
+use Rattle.vx_frame.specs.declared.finishing.Finished.{Finished}
 use Rattle.vx_frame.specs.Target.{Target}
+use Rattle.vx_frame.specs.Places.{ArePlaces}
 use Rattle.vx_frame.specs.Carried.{room_of, Carries}
 
 -- function f has a layout that is settled, with few empty cycles, and has the code of its graph, and a map that keeps its values
@@ -45,6 +47,12 @@ pub record IsFinished (m : Numbers) (flow : Flow) (layouts : List VWords) (maps 
   pub maps_are : (f : ℕ) → f < length flow.functions → slice_get maps f ≡ Some (target.maps f)
   pub carries : Carries target flow layouts w
   pub sound : is_sound w ≡ true
+
+-- the program is finished, with a layout for each function, and the places are those of the words of its regions
+pub record Finishes (m : Numbers) (flow : Flow) (layouts : List VWords) (maps : List RegMap) (x : Finished) : Type 0 where
+  pub finished : IsFinished m flow layouts maps x.program
+  pub functions : length layouts ≡ length flow.functions
+  pub places : ArePlaces finished.target layouts x.places
 
 -- The words that carry a flow are sound, where those of memory that do not start as 0 are as they should be.
 abbrev pub SoundLaw : Type 0

@@ -14,5 +14,8 @@ pub mod Saves
 pub mod LoopExample
 pub mod Placing
 pub mod Globals
+pub mod Plans
 pub mod Slots
 pub mod Found
+pub mod Regions
+pub mod Places

@@ -1,31 +1,33 @@
 // From the layouts and maps of a program's functions to its words: what stands in frames and memory, and then the words,
 // first to find their places and then for good. specs/Finish.antt says what is asked and what is promised.
 
-ghost use Rattle.std.specs.Prelude.{◌≡◌, ◌<◌, ◌≤◌, ℕ, true, [], IfOk, OnOk, length};
+ghost use Rattle.std.specs.Prelude.{◌≡◌, ◌<◌, ◌≤◌, ℕ, true, [], IfOk, length};
 ghost use Rattle.vx_flow.specs.Sound.{is_sound_flow};
-ghost use Rattle.vx_frame.specs.Finish.{AllCanFinish, IsFinished};
+ghost use Rattle.vx_frame.specs.Finish.{AllCanFinish, Finishes};
 ghost use Rattle.vx_frame.specs.Found.{Found, Made};
-ghost use Rattle.vx_frame.specs.Placing.{OneSplit};
+ghost use Rattle.vx_frame.specs.Placing.{OneSplit, all_places, functions_begin};
+ghost use Rattle.vx_frame.specs.Regions.{all_traces};
 ghost use Rattle.vx_frame.specs.Seen.{seen};
 
 use crate::addressing::{addresses_of, first_words, memory_bytes};
 use crate::framing::{frame_size, frames};
-use crate::gathering::{FunctionPlaces, Sizes, Whole};
+use crate::gathering::{Sizes, Whole};
 use crate::laws::words_are_sound;
 use crate::placing::pieces_that_stand;
+use crate::regions::region_places;
 use std::alloc::Global;
 use vx_base::listed::{Bytes, Listed};
 use vx_base::outcome::NoMemory;
 use vx_flow::graph::Flow;
 use vx_isa::program::WordProgram;
 use vx_machine::Machine;
-use vx_mixed::layout::{VWords, VirtualWord};
+use vx_mixed::layout::VWords;
 use vx_regs::map::RegMap;
 
 /// The places of the words of a region.
 #[derive(Drop, Debug)]
 pub struct TracePlaces {
-    /// For each word of the region the place of the word that has its operations.
+    /// For each word of the region, in order, the place in the program of the word that has its operations.
     pub places: Listed<u32>,
 }
 
@@ -34,7 +36,7 @@ pub struct TracePlaces {
 pub struct Finished {
     /// The program.
     pub program: WordProgram,
-    /// The regions of all functions, the functions in order.
+    /// The regions of all functions, the functions in order, with those that have no words.
     pub places: Listed<TracePlaces>,
 }
 
@@ -63,64 +65,12 @@ fn copied_texts(alloc: Global, texts: &[Bytes]) -> Result<Listed<Bytes>, NoMemor
     }
 }
 
-/// Makes room for the places of a region.
-fn reach(alloc: Global, regions: &mut Vec<TracePlaces>, region: usize) -> Result<(), NoMemory>
-    ensures room { OnOk result (region < length regions.new.items) }
-{
-    'grow: while regions.len() <= region {
-        regions.push(TracePlaces {
-            places: Listed::new(alloc),
-        })?;
-    }
-    Ok(())
-}
-
-/// Adds the place of a word of a region.
-fn note(
-    alloc: Global,
-    regions: &mut Vec<TracePlaces>,
-    region: usize,
-    place: u32,
-) -> Result<(), NoMemory> {
-    reach(alloc, regions, region)?;
-    regions[region].places.push(place)?;
-    Ok(())
-}
-
-/// Adds the places of a function's regions, where words that are planned have their operations at these marks.
-fn note_function(
-    alloc: Global,
-    regions: &mut Vec<TracePlaces>,
-    layout: &VWords,
-    marks: &[u32],
-) -> Result<(), NoMemory> {
-    let first = regions.len();
-    for (word, mark) in layout.words.as_slice().iter().zip(marks) {
-        if let VirtualWord::Planned { region, .. } = word {
-            note(alloc, regions, first + *region as usize, *mark)?;
-        }
-    }
-    Ok(())
-}
-
-/// The places of the regions of all functions.
-pub(crate) fn region_places(
-    alloc: Global,
-    layouts: &[VWords],
-    places: &[FunctionPlaces],
-) -> Result<Listed<TracePlaces>, NoMemory> {
-    let mut regions = Vec::new(alloc);
-    for (layout, places) in layouts.iter().zip(places) {
-        note_function(alloc, &mut regions, layout, places.marks.as_slice())?;
-    }
-    Ok(Listed::from_vec(regions)?)
-}
-
 /// The program of a whole of which all but the words and their places are found, and the places of its regions.
 fn program_of(alloc: Global, whole: &Whole, flow: &Flow) -> Result<Finished, NoMemory>
     requires one_split { (f : ℕ) → f < length flow.now.functions → OneSplit ((seen whole.now).layout f).words }
     requires no_more { (f : ℕ) → length flow.now.functions ≤ f → ((seen whole.now).layout f).words ≡ [] }
-    ensures { IfOk result (λ x. Made whole.now flow.now x.program) }
+    ensures made { IfOk result (λ x. Made whole.now flow.now x.program) }
+    ensures places { IfOk result (λ x. x.places ≡ all_traces (all_places (seen whole.now) (functions_begin (seen whole.now) flow.now.main) 0 (length flow.now.functions)) 0 whole.now.layouts.now) }
 {
     let functions = flow.functions.len() as u32;
     let pieces = pieces_that_stand(alloc, whole, flow.main, functions)?;
@@ -138,14 +88,14 @@ fn program_of(alloc: Global, whole: &Whole, flow: &Flow) -> Result<Finished, NoM
 fn finish_whole(alloc: Global, whole: &Whole, flow: &Flow) -> Result<Finished, NoMemory>
     requires sound { is_sound_flow flow.now ≡ true }
     requires found { Found whole.now flow.now }
-    ensures { IfOk result (λ x. IsFinished whole.now.machine.now flow.now whole.now.layouts.now whole.now.maps.now x.program) }
+    ensures { IfOk result (λ x. Finishes whole.now.machine.now flow.now whole.now.layouts.now whole.now.maps.now x) }
 {
     words_are_sound();
     program_of(alloc, whole, flow)
 }
 
 /// The words of a program, where its functions are laid out like this, and their values are kept where these maps say: they
-/// carry the layouts, and a word text can spell them. A memory of more than 132,644,864 bytes is want of memory, and so are words
+/// carry the layouts, and a word text can spell them. With them come the places of the words of all regions. A memory of more than 132,644,864 bytes is want of memory, and so are words
 /// or frames that no list holds.
 pub fn finish(
     alloc: Global,
@@ -156,7 +106,7 @@ pub fn finish(
 ) -> Result<Finished, NoMemory>
     requires sound { is_sound_flow flow.now ≡ true }
     requires functions { AllCanFinish machine.now flow.now code.now maps.now }
-    ensures { IfOk result (λ x. IsFinished machine.now flow.now code.now maps.now x.program) }
+    ensures { IfOk result (λ x. Finishes machine.now flow.now code.now maps.now x) }
 {
     machine.keeps_ranges();
     let graphs = flow.functions.as_slice();

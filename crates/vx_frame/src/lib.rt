@@ -11,6 +11,7 @@ pub mod laws;
 mod naming;
 mod placing;
 mod planning;
+mod regions;
 mod saving;
 mod slotting;
 mod word_plan;

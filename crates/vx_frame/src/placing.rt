@@ -4,7 +4,7 @@
 ghost use Rattle.std.specs.Prelude.{◌≡◌, ◌<◌, ◌≤◌, ◌++◌, ℕ, [], IfOk, length};
 ghost use Rattle.vx_frame.specs.Target.{word_words, start_words};
 ghost use Rattle.vx_frame.specs.Placed.{laid_pieces, word_landings, landing_pieces, function_pieces, functions_pieces, all_pieces, words_of, IsPlaced};
-ghost use Rattle.vx_frame.specs.Placing.{starts_from, landings_from, mark_of, marks_from, places_at, all_places, functions_end, at_spots, spots_of, standing, OneSplit};
+ghost use Rattle.vx_frame.specs.Placing.{starts_from, landings_from, mark_of, marks_from, places_at, all_places, functions_begin, functions_end, at_spots, spots_of, standing, OneSplit};
 ghost use Rattle.vx_frame.specs.Seen.{seen};
 
 use crate::calling::{push_back, push_call, push_entry, push_return, push_start};
@@ -280,7 +280,8 @@ pub(crate) fn with_places<'a, 'p>(
     }
 }
 
-/// The words of a program, of which all but the places are found, where no word has more than one split.
+/// The words of a program, of which all but the places are found, where no word has more than one split; and their places, which
+/// the first pass found.
 #[tactic(auto, using(crate::proofs::Standing::second_pass))]
 pub(crate) fn pieces_that_stand(
     alloc: Global,
@@ -291,9 +292,14 @@ pub(crate) fn pieces_that_stand(
     requires one_split { (f : ℕ) → f < functions → OneSplit ((seen whole.now).layout f).words }
     requires no_more { (f : ℕ) → functions ≤ f → ((seen whole.now).layout f).words ≡ [] }
     ensures placed { IfOk result (λ pieces. IsPlaced (standing (seen whole.now) main functions) main functions pieces.words) }
+    ensures places { IfOk result (λ pieces. pieces.places ≡ all_places (seen whole.now) (functions_begin (seen whole.now) main) 0 functions) }
 {
     let draft = pieces_of(alloc, whole, main, functions)?;
     let standing = with_places(whole, draft.places.as_slice(), draft.depth_trap);
     let made = pieces_of(alloc, &standing, main, functions)?;
-    Ok(made)
+    Ok(Pieces {
+        words: made.words,
+        places: draft.places,
+        depth_trap: draft.depth_trap,
+    })
 }

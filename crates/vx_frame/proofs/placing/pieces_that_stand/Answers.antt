@@ -6,4 +6,4 @@ use Rattle.vx_frame.proofs.placing.pieces_that_stand.Goals as goal
 
 -- the second pass makes the words at the places of the first
 pub returns : goal.returns
-returns c = record { placed = second_pass (seen c.args.whole.now) (seen c.with_places-standing.result) c.args.main c.args.functions c.in_ok-draft.draft.depth_trap c.in_ok-draft.draft.places c.in_ok-made.made.words c.requires.one_split c.requires.no_more c.in_ok-draft.ensures.places c.in_ok-draft.ensures.trap (c.with_places-standing.ensures ∙ ap (λ xs. at_spots (seen c.args.whole.now) (spots_of xs c.in_ok-draft.draft.depth_trap)) c.as_slice.ensures) c.in_ok-made.ensures.words }
+returns c = record { placed = second_pass (seen c.args.whole.now) (seen c.with_places-standing.result) c.args.main c.args.functions c.in_ok-draft.draft.depth_trap c.in_ok-draft.draft.places c.in_ok-made.made.words c.requires.one_split c.requires.no_more c.in_ok-draft.ensures.places c.in_ok-draft.ensures.trap (c.with_places-standing.ensures ∙ ap (λ xs. at_spots (seen c.args.whole.now) (spots_of xs c.in_ok-draft.draft.depth_trap)) c.as_slice.ensures) c.in_ok-made.ensures.words; places = c.in_ok-draft.ensures.places }

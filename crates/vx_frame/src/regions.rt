@@ -1,0 +1,125 @@
+// The places of the words of all regions: one pass over the words of each layout, in which the mark of each planned word is put
+// behind those of its region. specs/Regions.antt has the lists.
+
+ghost use Rattle.std.specs.Prelude.{◌≡◌, ◌<◌, ◌++◌, ◌∷◌, [], IfOk, length, map, replicate, slice_index_or, slice_set};
+ghost use Rattle.vx_flow.specs.Rows.{row_at};
+ghost use Rattle.vx_frame.specs.Regions.{Noted, all_traces, rows_of, traced};
+ghost use Rattle.vx_frame.specs.Seen.{no_places};
+
+use crate::finishing::TracePlaces;
+use crate::gathering::{FunctionPlaces, number_at};
+use crate::slotting::sum;
+use std::alloc::Global;
+use vx_base::listed::Listed;
+use vx_base::outcome::NoMemory;
+use vx_mixed::layout::{VWords, VirtualWord};
+
+fn empty_rows(alloc: Global, count: u32) -> Result<Vec<Listed<u32>>, NoMemory>
+    ensures { IfOk result (λ rows. rows.items ≡ replicate count []) }
+{
+    let mut rows = Vec::new(alloc);
+    for _row in 0..count {
+        rows.push(Listed::new(alloc))?;
+    }
+    Ok(rows)
+}
+
+/// Puts a place at the end of a region's.
+fn put(rows: &mut Vec<Listed<u32>>, region: u32, place: u32) -> Result<(), NoMemory>
+    requires { region < length rows.old.items }
+    ensures { IfOk result (λ _. rows.new.items ≡ slice_set rows.old.items region (row_at rows.old.items region ++ place ∷ [])) }
+{
+    let row = &mut rows[region as usize];
+    row.push(place)?;
+    Ok(())
+}
+
+/// Puts the mark of a planned word behind those of its region.
+#[tactic(auto, using(crate::proofs::Regions::noted_there, crate::proofs::Regions::noted_beyond))]
+fn note(rows: &mut Vec<Listed<u32>>, word: &VirtualWord, mark: u32) -> Result<(), NoMemory>
+    ensures { IfOk result (λ _. Noted word.now mark rows.old.items rows.new.items) }
+{
+    match word {
+        VirtualWord::Planned { region, .. } => {
+            if (*region as usize) < rows.len() {
+                put(rows, *region, mark)
+            } else {
+                Ok(())
+            }
+        }
+        VirtualWord::Drain(_) => Ok(()),
+        VirtualWord::Transfer(_) => Ok(()),
+        VirtualWord::Choice { .. } => Ok(()),
+        VirtualWord::Call { .. } => Ok(()),
+        VirtualWord::Return(_) => Ok(()),
+        VirtualWord::Ends(_) => Ok(()),
+    }
+}
+
+/// The marks of the words of each region of a layout.
+#[tactic(auto, using(crate::proofs::Regions::notes_first, crate::proofs::Regions::notes_next, crate::proofs::Regions::notes_are))]
+fn region_rows(
+    alloc: Global,
+    layout: &VWords,
+    marks: &[u32],
+) -> Result<Vec<Listed<u32>>, NoMemory>
+    ensures { IfOk result (λ rows. rows.items ≡ rows_of marks.now layout.now) }
+{
+    let mut rows = empty_rows(alloc, layout.regions)?;
+    let mut place = 0;
+    let mut rest = layout.words.as_slice();
+    'words: loop {
+        match rest.split_first() {
+            None => return Ok(rows),
+            Some((word, others)) => {
+                note(&mut rows, word, number_at(marks, place))?;
+                place = sum(place, 1)?;
+                rest = others;
+            }
+        }
+    }
+}
+
+fn push_rows(regions: &mut Listed<TracePlaces>, rows: Vec<Listed<u32>>) -> Result<(), NoMemory>
+    ensures { IfOk result (λ _. regions.new ≡ regions.old ++ map traced rows.items) }
+{
+    for places in rows {
+        regions.push(TracePlaces { places })?;
+    }
+    Ok(())
+}
+
+/// The marks of the words of a function's layout.
+fn marks_of<'a>(places: &'a [FunctionPlaces], function: u32) -> &'a [u32]
+    ensures { result.now ≡ (slice_index_or places.now function no_places).marks }
+{
+    match places.get(function as usize) {
+        Some(places) => places.marks.as_slice(),
+        None => &[],
+    }
+}
+
+/// The places of the words of the regions of all functions, the functions in order.
+#[tactic(auto, using(crate::proofs::Regions::traces_next, crate::proofs::Regions::traces_are))]
+pub(crate) fn region_places(
+    alloc: Global,
+    layouts: &[VWords],
+    places: &[FunctionPlaces],
+) -> Result<Listed<TracePlaces>, NoMemory>
+    ensures { IfOk result (λ regions. regions ≡ all_traces places.now 0 layouts.now) }
+{
+    let mut regions = Listed::new(alloc);
+    let mut function = 0;
+    let mut rest = layouts;
+    'layouts: loop {
+        match rest.split_first() {
+            None => return Ok(regions),
+            Some((layout, others)) => {
+                let rows = region_rows(alloc, layout, marks_of(places, function))?;
+                push_rows(&mut regions, rows)?;
+                function = sum(function, 1)?;
+                rest = others;
+            }
+        }
+    }
+}
