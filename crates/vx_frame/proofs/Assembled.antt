@@ -44,7 +44,7 @@ use Rattle.vx_frame.specs.Placing.{splits, OneSplit, all_places, functions_begin
 use Rattle.vx_frame.specs.Regions.{all_traces}
 use Rattle.vx_frame.specs.Seen.{no_graph, no_layout, no_map, no_frame, seen}
 use Rattle.vx_frame.proofs.Frames.{get_some, get_in}
-use Rattle.vx_frame.proofs.Regions.{are_places}
+use Rattle.vx_frame.proofs.RegionPlaces.{are_places}
 
 -- lists
 

@@ -51,11 +51,12 @@ pub mod EarlyRows
 pub mod Emitting
 pub mod Lengths
 pub mod Standing
-pub mod Regions
+pub mod RegionPlaces
+pub mod PlaceRows
 pub mod Globals
 pub mod Offsets
 pub mod Assembled
-pub mod Kinds
+pub mod EachWord
 pub mod FrameLists
 pub mod SavedLists
 pub mod SeenSaves

@@ -35,7 +35,7 @@ fn put(rows: &mut Vec<Listed<u32>>, region: u32, place: u32) -> Result<(), NoMem
 }
 
 /// Puts the mark of a planned word behind those of its region.
-#[tactic(auto, using(crate::proofs::Regions::noted_there, crate::proofs::Regions::noted_beyond))]
+#[tactic(auto, using(crate::proofs::RegionPlaces::noted_there, crate::proofs::RegionPlaces::noted_beyond))]
 fn note(rows: &mut Vec<Listed<u32>>, word: &VirtualWord, mark: u32) -> Result<(), NoMemory>
     ensures { IfOk result (λ _. Noted word.now mark rows.old.items rows.new.items) }
 {
@@ -57,7 +57,7 @@ fn note(rows: &mut Vec<Listed<u32>>, word: &VirtualWord, mark: u32) -> Result<()
 }
 
 /// The marks of the words of each region of a layout.
-#[tactic(auto, using(crate::proofs::Regions::notes_first, crate::proofs::Regions::notes_next, crate::proofs::Regions::notes_are))]
+#[tactic(auto, using(crate::proofs::RegionPlaces::notes_first, crate::proofs::RegionPlaces::notes_next))]
 fn region_rows(
     alloc: Global,
     layout: &VWords,
@@ -100,7 +100,7 @@ fn marks_of<'a>(places: &'a [FunctionPlaces], function: u32) -> &'a [u32]
 }
 
 /// The places of the words of the regions of all functions, the functions in order.
-#[tactic(auto, using(crate::proofs::Regions::traces_next, crate::proofs::Regions::traces_are))]
+#[tactic(auto, using(crate::proofs::RegionPlaces::traces_next, crate::proofs::RegionPlaces::traces_are))]
 pub(crate) fn region_places(
     alloc: Global,
     layouts: &[VWords],

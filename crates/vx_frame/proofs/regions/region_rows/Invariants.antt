@@ -1,5 +1,5 @@
 use Rattle.std.proofs.Common.{length}
-use Rattle.vx_frame.proofs.Regions.{Notes}
+use Rattle.vx_frame.proofs.RegionPlaces.{Notes}
 use Rattle.vx_frame.proofs.regions.region_rows.Given as goal
 
 -- what is put in so far, and what is still to be

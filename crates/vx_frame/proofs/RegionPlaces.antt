@@ -90,8 +90,9 @@ rows_are f (suc n) b (r ∷ rows) e h =
     ap (λ l. l ∷ rows) (h 0 (omega arith) ∙ ap f z)
     ∙ ap (λ l. f b ∷ l) (rows_are f n (b + 1) rows (omega arith) (λ w less. let k : b + suc w ≡ b + 1 + w = omega arith in h (suc w) (omega arith) ∙ ap f k))
 
-pub notes_are : (marks : List ℕ) (l : VWords) (p : ℕ) (rows : List (List ℕ)) → Notes marks l p [] rows → rows ≡ rows_of marks l
-notes_are marks l p rows notes =
+pub notes_are : (marks : List ℕ) (l : VWords) (p : ℕ) (rest : List VirtualWord) (rows : List (List ℕ)) → length rest ≡ 0 → Notes marks l p rest rows → rows ≡ rows_of marks l
+notes_are marks l p (word ∷ rest) rows none notes = absurd (omega arith)
+notes_are marks l p [] rows none notes =
     rows_are (λ r. marks_in marks r 0 l.words) l.regions 0 rows notes.size
     (λ r low. let z : r ≡ 0 + r = omega arith in sym (append-nil (row_at rows r)) ∙ notes.each r low ∙ ap (λ s. marks_in marks s 0 l.words) z)
 
