@@ -26,12 +26,14 @@ use Rattle.vx_mixed.specs.Program.{mixed_run}
 use Rattle.vx_mixed.specs.Settled.{Settled}
 use Rattle.vx_region.specs.Regions.{room_in}
 use Rattle.vx_regs.specs.declared.map.RegMap.{RegMap}
-use Rattle.vx_regs.specs.Mapped.{KeepsApart}
+use Rattle.vx_regs.specs.Mapped.{KeepsApart, Mapped}
 use Rattle.vx_frame.specs.Carried.{DoesTheSame, KeepsTo}
 use Rattle.vx_frame.specs.Finish.{CanFinish, AllCanFinish, IsFinished}
 use Rattle.vx_words.specs.Range.{is_in_range}
-use Rattle.vx_driver.specs.Compiled.{Compiled}
-use Rattle.vx_driver.specs.Stages.{IsInside, AreInside, IsLayoutOf, AreLayoutsFrom, AreLayoutsOf, AreMapsOf, StageLaws}
+use Rattle.vx_profile.specs.declared.counts.Counts.{Counts}
+use Rattle.vx_report.specs.declared.plan.Plan.{Plan}
+use Rattle.vx_driver.specs.Compiled.{AreMapsOf, Compiled, Planned, all_in_slots, layouts_of}
+use Rattle.vx_driver.specs.Stages.{IsInside, AreInside, IsLayoutOf, AreLayoutsFrom, AreLayoutsOf, StageLaws}
 use Rattle.vx_driver.proofs.OneFunction.{Finishable, finishable}
 
 -- inputs
@@ -165,12 +167,18 @@ module _ (laws : StageLaws) (p : Program) (flow : Flow) (machine : Numbers) (ls 
         like laws.transitive p input (words_run machine soon w input) (words_run machine times w input)
         (λ n. laws.timings machine w works keeps.never_reads_early keeps.never_writes_early times soon input n) (soon_do input numbers)
 
-    pub compiled : is_in_range w ≡ true → Compiled p machine w
-    compiled in_range =
+    pub compiled : (counts : Counts) (growth : ℕ) (plan : Plan) (planned : Planned machine counts growth flow.functions plan.traces plan.copies) → ls ≡ layouts_of planned.functions → AreMapsOf machine ls maps → plan.spilled ≡ all_in_slots maps → is_in_range w ≡ true →
+        Compiled p counts machine growth w plan
+    compiled counts growth plan planned are kept spilled in_range =
         let strict : PathStrict machine w = record { fit = keeps.fit; never_early = keeps.never_reads_early } in
         record {
           flow = flow;
           flow_of = is;
+          planned = planned;
+          maps = maps;
+          kept = subst (λ z. AreMapsOf machine z maps) are kept;
+          spilled = spilled;
+          finished = subst (λ z. IsFinished machine flow z maps w) are finished;
           faithful = record {
             same = λ input times all some. (words_do input times (are_numbers input all)).same;
             never_stuck = λ input times all some. (words_do input times (are_numbers input all)).never;
@@ -211,7 +219,7 @@ at : (n : ℕ) (machine : Numbers) (graphs : List Graph) (ls : List VWords) (map
 at n machine [] ls maps h k f below = absurd (omega arith)
 at n machine (graph ∷ graphs) [] maps h k f below = absurd h
 at n machine (graph ∷ graphs) (l ∷ ls) [] h k f below = absurd k
-at n machine (graph ∷ graphs) (l ∷ ls) (map ∷ maps) h k zero below = record { graph = graph; layout = l; map = map; graph_is = refl; layout_is = refl; map_is = refl; number = n; laid = h.0; apart = k.0 }
+at n machine (graph ∷ graphs) (l ∷ ls) (map ∷ maps) h k zero below = record { graph = graph; layout = l; map = map; graph_is = refl; layout_is = refl; map_is = refl; number = n; laid = h.0; apart = k.0.keeps }
 at n machine (graph ∷ graphs) (l ∷ ls) (map ∷ maps) h k (suc f) below =
     let r = at (n + 1) machine graphs ls maps h.1 k.1 f (omega arith) in
     record { graph = r.graph; layout = r.layout; map = r.map; graph_is = r.graph_is; layout_is = r.layout_is; map_is = r.map_is; number = r.number; laid = r.laid; apart = r.apart }
@@ -263,7 +271,7 @@ one_more_layout n m machine (g ∷ graphs) (k ∷ ls) graph l at h is = (h.0, on
 one_more_layout n m machine [] (k ∷ ls) graph l at h is = absurd h
 one_more_layout n m machine (g ∷ graphs) [] graph l at h is = absurd h
 
-pub one_more_map : (machine : Numbers) (ls : List VWords) (maps : List RegMap) (l : VWords) (map : RegMap) → AreMapsOf machine ls maps → KeepsApart machine (latency_of_op machine) l map →
+pub one_more_map : (machine : Numbers) (ls : List VWords) (maps : List RegMap) (l : VWords) (map : RegMap) → AreMapsOf machine ls maps → Mapped machine (latency_of_op machine) l map →
     AreMapsOf machine (ls ++ l ∷ []) (maps ++ map ∷ [])
 one_more_map machine [] [] l map h is = (is, tt)
 one_more_map machine (k ∷ ls) (other ∷ maps) l map h is = (h.0, one_more_map machine ls maps l map h.1 is)
@@ -278,7 +286,7 @@ layouts_step machine graphs i number graph ls ls' l below item many h is e =
     subst (λ z. AreLayoutsOf machine z ls') (sym t) (subst (AreLayoutsOf machine (take i graphs ++ graph ∷ [])) (sym e) (one_more_layout 0 number machine (take i graphs) ls graph l at h is))
 
 pub maps_step : (machine : Numbers) (ls : List VWords) (i : ℕ) (l : VWords) (maps maps' : List RegMap) (map : RegMap) → i < length ls → l ≡ get_or ls i l →
-    AreMapsOf machine (take i ls) maps → KeepsApart machine (latency_of_op machine) l map → maps' ≡ maps ++ map ∷ [] → AreMapsOf machine (take (i + 1) ls) maps'
+    AreMapsOf machine (take i ls) maps → Mapped machine (latency_of_op machine) l map → maps' ≡ maps ++ map ∷ [] → AreMapsOf machine (take (i + 1) ls) maps'
 maps_step machine ls i l maps maps' map below item h is e =
     let t : take (i + 1) ls ≡ take i ls ++ l ∷ [] = take_more ls i l below ∙ ap (λ z. take i ls ++ z ∷ []) (sym item) in
     subst (λ z. AreMapsOf machine z maps') (sym t) (subst (AreMapsOf machine (take i ls ++ l ∷ [])) (sym e) (one_more_map machine (take i ls) maps l map h is))

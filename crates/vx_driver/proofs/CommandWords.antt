@@ -61,11 +61,12 @@ module _ (app : App) (is : app ≡ compile_app) (words : List (List ℕ)) where
   unfolding compile_of
   refused some = unless_none (fault_of compile_app words) (matches_of compile_app words) (subst (λ (a : App). fault_of a words ≢ []) is some)
 
-pub found_is : (f : Found) (s o : List ℕ) (p m : Option (List ℕ)) (growth : ℕ) → s ≡ unwrap_or (first_value f (codes "SRC")) [] → o ≡ unwrap_or (first_value f (codes "OUT")) [] →
-    p ≡ first_value f (codes "profile") → m ≡ first_value f (codes "machine") → Some growth ≡ growth_of (first_value f (codes "growth")) → Some (Compile s o p m growth) ≡ compile_unless [] (rows_of f)
-found_is f s o p m growth a b d c g =
-    let same : Compile s o p m growth ≡ compile_found (rows_of f) growth =
-    rw (a, b, d, c, first_of_rows f (codes "SRC"), first_of_rows f (codes "OUT"), first_of_rows f (codes "profile"), first_of_rows f (codes "machine")) refl in
+pub found_is : (f : Found) (s o : List ℕ) (p m r : Option (List ℕ)) (growth : ℕ) → s ≡ unwrap_or (first_value f (codes "SRC")) [] → o ≡ unwrap_or (first_value f (codes "OUT")) [] →
+    p ≡ first_value f (codes "profile") → m ≡ first_value f (codes "machine") → r ≡ first_value f (codes "report") → Some growth ≡ growth_of (first_value f (codes "growth")) →
+    Some (Compile (record { source = s; out = o; profile = p; machine = m; growth = growth; report = r })) ≡ compile_unless [] (rows_of f)
+found_is f s o p m r growth a b d c t g =
+    let same : Compile (record { source = s; out = o; profile = p; machine = m; growth = growth; report = r }) ≡ compile_found (rows_of f) growth =
+    rw (a, b, d, c, t, first_of_rows f (codes "SRC"), first_of_rows f (codes "OUT"), first_of_rows f (codes "profile"), first_of_rows f (codes "machine"), first_of_rows f (codes "report")) refl in
     ap Some same ∙ ap (option_map (compile_found (rows_of f))) (g ∙ ap growth_of (first_of_rows f (codes "growth")))
 
 pub none_found : (f : Found) → None ≡ growth_of (first_value f (codes "growth")) → None ≡ compile_unless [] (rows_of f)

@@ -13,7 +13,7 @@ use Rattle.vx_driver.proofs.Counting.{profile_completes}
 
 pub completes : (command : Option Command) (boxes : Boxes) (e : Effect) (s : Streams) (status : Status) → Answers command boxes e s status → Completes command boxes e s status
 completes None boxes e s status a = tt
-completes (Some (Compile source out profile machine growth)) boxes e s status a = λ quiet_reads quiet_replaces. complete_in source out profile machine e status e.before refl quiet_reads quiet_replaces a
+completes (Some (Compile asked)) boxes e s status a = λ quiet_reads quiet_replaces. complete_in asked e status e.before refl quiet_reads quiet_replaces a
 completes (Some (Simulate asked)) boxes e s status a = sim_completes asked boxes e s status a
 completes (Some (Execute asked)) boxes e s status a = exec_completes asked boxes e s status a
 completes (Some (Count asked)) boxes e s status a = profile_completes asked e s status a

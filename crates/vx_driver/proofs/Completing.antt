@@ -12,7 +12,8 @@ use Rattle.vx_driver.specs.declared.status.Status.TheVariants.{Done, Trapped, Us
 use Rattle.vx_ast.specs.Reads.{Reads, Refusal}
 use Rattle.vx_driver.proofs.SourceLaws.{never_both, one_refusal}
 use Rattle.vx_driver.proofs.ProfileFile.{not_both_profiles, one_profile_status}
-use Rattle.vx_driver.specs.Answers.{HoldsProgram, Accepts, status_of, RefusesSource, Refuses, MachineFound, Is, Refused, TooLong, Missing, machine_found, ProfileStands, RefusesProfile, WritesWords, Effect, ReadsRose, ReplacesRose, StopsAtMachine, CompileAnswers, CompileEnds}
+use Rattle.vx_driver.specs.Command.{Compilation}
+use Rattle.vx_driver.specs.Answers.{HoldsProgram, Accepts, status_of, RefusesSource, Refuses, MachineFound, Is, Refused, TooLong, Missing, machine_found, ProfileStands, RefusesProfile, Writes, Effect, ReadsRose, ReplacesRose, StopsAtMachine, CompileAnswers, CompileEnds}
 
 -- a source's file is one of accepted, refused and missing
 
@@ -39,7 +40,16 @@ told P b held is h = subst (λ o. IfSome o P) is h
 pub told_or : (Q : Type 0) (P : Files → Type 0) (b : Option Files) (held : Files) → b ≡ Some held → MatchOption b Q P → P held
 told_or Q P b held is h = subst (λ o. MatchOption o Q P) is h
 
-module _ (source out : List ℕ) (profile machine : Option (List ℕ)) (held : Files) (e : Effect) (is : e.before ≡ Some held) (quiet_reads : ReadsRose e → ⊥) (quiet_replaces : ReplacesRose e → ⊥) where
+module _ (asked : Compilation) (held : Files) (e : Effect) (is : e.before ≡ Some held) (quiet_reads : ReadsRose e → ⊥) (quiet_replaces : ReplacesRose e → ⊥) where
+  abbrev source : List ℕ
+  source = asked.source
+
+  abbrev profile : Option (List ℕ)
+  profile = asked.profile
+
+  abbrev machine : Option (List ℕ)
+  machine = asked.machine
+
   accepts_told : IfSome e.before (λ h. Accepts h source) → Accepts held source
   accepts_told a = told (λ h. Accepts h source) e.before held is a
 
@@ -49,10 +59,10 @@ module _ (source out : List ℕ) (profile machine : Option (List ℕ)) (held : F
   same_limit : (number count : ℕ) → number ≡ 11 → count ≡ 65537 → Limit 11 65537 ≡ Limit number count
   same_limit number count a b = cc
 
-  told_ends : (status : Status) → CompileAnswers source out profile machine e status → Ends held source profile machine status
+  told_ends : (status : Status) → CompileAnswers asked e status → Ends held source profile machine status
   told_ends Done a =
-      let w : WritesWords held e.after source out profile machine = told (λ h. WritesWords h e.after source out profile machine) e.before held is a in
-      done w.compiles.numbers (record { program = w.compiles.program; is = w.compiles.holds }) w.compiles.profiled w.compiles.machine_is
+      let w : Writes asked held e.after = told (λ h. Writes asked h e.after) e.before held is a in
+      done w.compiles.numbers (record { program = w.compiles.program; is = w.compiles.holds }) (record { counts = w.compiles.counts; are = w.compiles.counted }) w.compiles.machine_is
   told_ends Usage a = absurd a
   told_ends (Trapped trap) a = absurd a
   told_ends (Words code line) a = absurd a
@@ -163,19 +173,19 @@ at_machine : (held : Files) (source : List ℕ) (profile machine : Option (List 
     machine_found held machine ≡ found → due found status ⊎ (status ≡ NoMemory)
 at_machine held source profile machine status found end s k is = subst (λ f. due f status ⊎ (status ≡ NoMemory)) is (accepted_ends held source profile machine status s k end)
 
-ends_in : (source : List ℕ) (profile machine : Option (List ℕ)) (held : Files) (status : Status) → Ends held source profile machine status → CompileEnds source profile machine held status
-ends_in source profile machine held status end = record {
-  accepted = λ s k numbers is. at_machine held source profile machine status (Is numbers) end s k is;
-  refused = λ content fault holds f. refused_ends held source profile machine status content fault holds f end;
-  missing = λ none. missing_ends held source profile machine status none end;
-  no_profile = λ s why r. unprofiled_ends held source profile machine status why s r end;
-  machine_refused = λ s k code field is. at_machine held source profile machine status (Refused (Bad code field)) end s k is;
-  machine_too_long = λ s k is. at_machine held source profile machine status TooLong end s k is;
-  machine_missing = λ s k is. at_machine held source profile machine status Missing end s k is;
+ends_in : (asked : Compilation) (held : Files) (status : Status) → Ends held asked.source asked.profile asked.machine status → CompileEnds asked held status
+ends_in asked held status end = record {
+  accepted = λ s k numbers is. at_machine held asked.source asked.profile asked.machine status (Is numbers) end s k is;
+  refused = λ content fault holds f. refused_ends held asked.source asked.profile asked.machine status content fault holds f end;
+  missing = λ none. missing_ends held asked.source asked.profile asked.machine status none end;
+  no_profile = λ s why r. unprofiled_ends held asked.source asked.profile asked.machine status why s r end;
+  machine_refused = λ s k code field is. at_machine held asked.source asked.profile asked.machine status (Refused (Bad code field)) end s k is;
+  machine_too_long = λ s k is. at_machine held asked.source asked.profile asked.machine status TooLong end s k is;
+  machine_missing = λ s k is. at_machine held asked.source asked.profile asked.machine status Missing end s k is;
 }
 
-pub complete_in : (source out : List ℕ) (profile machine : Option (List ℕ)) (e : Effect) (status : Status) (b : Option Files) → e.before ≡ b → (ReadsRose e → ⊥) → (ReplacesRose e → ⊥) →
-    CompileAnswers source out profile machine e status → IfSome b (λ held. CompileEnds source profile machine held status)
-complete_in source out profile machine e status None is quiet_reads quiet_replaces a = tt
-complete_in source out profile machine e status (Some held) is quiet_reads quiet_replaces a =
-    ends_in source profile machine held status (told_ends source out profile machine held e is quiet_reads quiet_replaces status a)
+pub complete_in : (asked : Compilation) (e : Effect) (status : Status) (b : Option Files) → e.before ≡ b → (ReadsRose e → ⊥) → (ReplacesRose e → ⊥) →
+    CompileAnswers asked e status → IfSome b (λ held. CompileEnds asked held status)
+complete_in asked e status None is quiet_reads quiet_replaces a = tt
+complete_in asked e status (Some held) is quiet_reads quiet_replaces a =
+    ends_in asked held status (told_ends asked held e is quiet_reads quiet_replaces status a)

@@ -15,7 +15,7 @@ use Rattle.vx_driver.specs.Command.{Execution}
 use Rattle.vx_driver.specs.Boxes.{Boxes, Chosen, chosen}
 use Rattle.vx_driver.specs.Answers.{HoldsProgram, Accepts, status_of, RefusesSource, Refuses, MachineFound, ProfileStands, RefusesProfile, Is, Refused, TooLong, Missing, machine_found, Effect, ReadsRose}
 use Rattle.vx_driver.specs.Simulated.{Loaded, machine_as, input_found, outcome_within, Streams, OutRose, ErrRose}
-use Rattle.vx_driver.specs.Executed.{AllHeld, Prepared, Runs, RunsCut, ExecutionAnswers, ExecAnswers, GoesOn, EndsAs, ExecEnds, ExecutionCompletes, ExecCompletes}
+use Rattle.vx_driver.specs.Executed.{AllHeld, CompiledBy, Prepared, Runs, RunsCut, ExecutionAnswers, ExecAnswers, GoesOn, EndsAs, ExecEnds, ExecutionCompletes, ExecCompletes}
 use Rattle.vx_driver.proofs.SourceLaws.{one_program}
 use Rattle.vx_driver.proofs.Completing.{same_content, not_missing, told, told_or, not_both, one_status, not_faulty}
 use Rattle.vx_driver.proofs.ProfileFile.{not_both_profiles, one_profile_status}
@@ -23,7 +23,7 @@ use Rattle.vx_driver.proofs.Simulating.{box_completes}
 
 -- an answer, where nothing failed
 data Ended (asked : Execution) (times : Times) (held : Files) : Status → Type 0 where
-  ran : {status : Status} (p : Program) (x : Loaded) → AllHeld held asked p x.machine x.input → EndsAs p x.machine x.input times asked.budget status → Ended asked times held status
+  ran : {status : Status} (p : Program) (x : Loaded) → AllHeld held asked p x.machine x.input → EndsAs asked held p x.machine x.input times status → Ended asked times held status
   refused : {status : Status} → Refuses held asked.source status → Ended asked times held status
   no_source : held asked.source ≡ None → Ended asked times held (NoFile TheSource)
   no_profile : {status : Status} → Accepts held asked.source → RefusesProfile held asked.profile status → Ended asked times held status
@@ -50,10 +50,10 @@ module _ (asked : Execution) (boxes : Chosen) (e : Effect) (s : Streams) (held :
   input_told : (status : Status) → IfSome e.before (λ h. input_found h asked.input ≡ Err status) → input_found held asked.input ≡ Err status
   input_told status h = told (λ k. input_found k asked.input ≡ Err status) e.before held is h
 
-  goes_on : (out : List ℕ) (r : Runs asked boxes e s (Goes out)) → GoesOn r.ready.source_program r.words.machine r.words.input boxes.times asked.budget
+  goes_on : (out : List ℕ) (r : Runs asked boxes e s (Goes out)) → GoesOn asked held r.ready.source_program r.words.machine r.words.input boxes.times
   goes_on out r = record {
     words = r.words.program;
-    compiled = r.ready.compiled;
+    by = subst (λ b. CompiledBy b asked.profile asked.growth r.ready.source_program r.words.machine r.words.program) is r.ready.by;
     going = subst IsGoing (sym (ap (outcome_within r.words boxes.times) (sym (r.issues.all tt)) ∙ r.issues.comes)) tt;
   }
 
@@ -122,11 +122,11 @@ module _ (asked : Execution) (times : Times) (held : Files) where
   same_program : (p q : Program) → HoldsProgram held asked.source p → HoldsProgram held asked.source q → q ≡ p
   same_program p q a b = one_program a.content q p (subst (λ bytes. Reads bytes q) (same_content (held asked.source) b.content a.content b.holds a.holds) b.reads) a.reads
 
-  accepted : (status : Status) (p : Program) (m : Numbers) (numbers : List ℤ) → AllHeld held asked p m numbers → Ended asked times held status → EndsAs p m numbers times asked.budget status ⊎ (status ≡ NoMemory)
+  accepted : (status : Status) (p : Program) (m : Numbers) (numbers : List ℤ) → AllHeld held asked p m numbers → Ended asked times held status → EndsAs asked held p m numbers times status ⊎ (status ≡ NoMemory)
   accepted status p m numbers all (ran q x other end) =
-      inl (subst (λ r. EndsAs r m numbers times asked.budget status) (same_program p q all.program_is other.program_is)
-      (subst (λ k. EndsAs q k numbers times asked.budget status) (same_machine (machine_found held asked.machine) x.machine m other.machine_is all.machine_is)
-      (subst (λ l. EndsAs q x.machine l times asked.budget status) (same_input (input_found held asked.input) x.input numbers other.input_is all.input_is) end)))
+      inl (subst (λ r. EndsAs asked held r m numbers times status) (same_program p q all.program_is other.program_is)
+      (subst (λ k. EndsAs asked held q k numbers times status) (same_machine (machine_found held asked.machine) x.machine m other.machine_is all.machine_is)
+      (subst (λ l. EndsAs asked held q x.machine l times status) (same_input (input_found held asked.input) x.input numbers other.input_is all.input_is) end)))
   accepted status p m numbers all (refused r) = absurd (not_both held asked.source status (accepts_of p m numbers all) r)
   accepted status p m numbers all (no_source none) = absurd (there (accepts_of p m numbers all) none)
   accepted status p m numbers all (no_profile a why) = absurd (not_both_profiles held asked.profile status all.profiled why)

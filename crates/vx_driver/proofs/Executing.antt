@@ -18,10 +18,10 @@ use Rattle.vx_driver.specs.declared.status.Status.{Status}
 use Rattle.vx_driver.specs.declared.status.Status.TheVariants.{Done, Trapped, Usage, Source, Limit, Words, Profile, Machine, NoFile, ReadFault, WriteFault, Stopped, Input, Stuck, NoMemory}
 use Rattle.vx_driver.specs.Command.{Execution}
 use Rattle.vx_driver.specs.Boxes.{Chosen}
-use Rattle.vx_driver.specs.Compiled.{Compiled}
-use Rattle.vx_driver.specs.Answers.{HoldsProgram, ProfileStands, Is, machine_found, Effect, ReadsRose, SourceAnswers, ProfileAnswers, StopsAtProfile, MachineAnswers, StopsAtMachine}
+use Rattle.vx_driver.specs.Faithful.{Faithful}
+use Rattle.vx_driver.specs.Answers.{AreCounts, HoldsProgram, ProfileStands, Is, machine_found, Effect, ReadsRose, SourceAnswers, ProfileAnswers, StopsAtProfile, MachineAnswers, StopsAtMachine}
 use Rattle.vx_driver.specs.Simulated.{Loaded, begun, outcome_within, events_within, reports_of, input_found, Streams, OutputCut, IsStatusOf}
-use Rattle.vx_driver.specs.Executed.{Issues, SourceHas, SourceBegins, InSource, AllHeld, Prepared, issued_line, ShowsRun, Runs, RunsCut, InputAnswers, StopsAtInput, ExecutionAnswers}
+use Rattle.vx_driver.specs.Executed.{CompiledBy, Issues, SourceHas, SourceBegins, InSource, AllHeld, Prepared, issued_line, ShowsRun, Runs, RunsCut, InputAnswers, StopsAtInput, ExecutionAnswers}
 use Rattle.vx_driver.specs.Ending.{ShowsOf, IsRunOf, UnputLines, LoadedAnswers, LaterStops, AfterSource, StopsBefore}
 use Rattle.vx_driver.proofs.Issued.{issues_comes, issues_within, issues_least, issues_all, issues_seen}
 use Rattle.vx_driver.proofs.Turned.{turned_of, turned_some, outcome_turned}
@@ -30,7 +30,7 @@ use Rattle.vx_driver.proofs.Answering.{Since, profile_since, machine_since, told
 
 -- a run of words in the terms of the source
 
-module _ (p : Program) (x : Loaded) (times : Times) (compiled : Compiled p x.machine x.program) (numbers : All IsNumber x.input) where
+module _ (p : Program) (x : Loaded) (times : Times) (faithful : Faithful p x.machine x.program) (numbers : All IsNumber x.input) where
   abbrev the_words : ℕ → Outcome
   the_words n = words_run x.machine (turned_of times) x.program x.input n
 
@@ -38,10 +38,10 @@ module _ (p : Program) (x : Loaded) (times : Times) (compiled : Compiled p x.mac
   is_words n = outcome_turned x times n
 
   pub safe : (n : ℕ) → IsFailure (outcome_within x times n) → ⊥
-  safe n f = compiled.faithful.never_stuck x.input (turned_of times) numbers (turned_some times) n (subst IsFailure (is_words n) f)
+  safe n f = faithful.never_stuck x.input (turned_of times) numbers (turned_some times) n (subst IsFailure (is_words n) f)
 
   back : Within the_words (source p x.input)
-  back = (compiled.faithful.same x.input (turned_of times) numbers (turned_some times)).1
+  back = (faithful.same x.input (turned_of times) numbers (turned_some times)).1
 
   over : (n : ℕ) (o : Outcome) → IsOver o → outcome_within x times n ≡ o → SourceHas p x.input o
   over n o ends is = let h = back.over n o ends (sym (is_words n) ∙ is) in record { bound = h.0; is = h.1 }
@@ -79,7 +79,7 @@ module _ (asked : Execution) (x : Loaded) (times : Times) (watches : List Watch)
   the_count = length (events_within x times asked.budget)
 
   no_failure : (n : ℕ) → IsFailure (outcome_within x times n) → ⊥
-  no_failure n f = safe ready.source_program x times ready.compiled numbers n f
+  no_failure n f = safe ready.source_program x times ready.by.compiled.faithful numbers n f
 
   issues : (o : Outcome) → the_outcome ≡ o → Issues (outcome_within x times) asked.budget o the_count
   issues o is = record {
@@ -101,7 +101,7 @@ module _ (asked : Execution) (x : Loaded) (times : Times) (watches : List Watch)
     ready = ready;
     issued = the_count;
     issues = issues o is;
-    in_source = in_source ready.source_program x times ready.compiled numbers asked.budget o is;
+    in_source = in_source ready.source_program x times ready.by.compiled.faithful numbers asked.budget o is;
     put = a.put ∙ ap (λ y. with_bytes s.out_before (output_of y)) is;
     shown = shown o is a.shown;
   }
@@ -136,19 +136,19 @@ module _ (asked : Execution) (x : Loaded) (times : Times) (watches : List Watch)
 
   cut : OutputCut x times asked.budget s ⊎ UnputLines x times asked.budget watches s → RunsCut asked the_boxes e s
   cut (inl out) =
-      let whole = begins ready.source_program x times ready.compiled numbers out.bound in
+      let whole = begins ready.source_program x times ready.by.compiled.faithful numbers out.bound in
       record {
         words = x;
         ready = ready;
         fronts = record { front = out.front; begins = record { bound = whole.bound; begins = begins_on out.front _ _ out.begins whole.begins }; put = out.put };
-        in_source = in_source ready.source_program x times ready.compiled numbers asked.budget the_outcome refl;
+        in_source = in_source ready.source_program x times ready.by.compiled.faithful numbers asked.budget the_outcome refl;
         cut = inl out;
       }
   cut (inr lines) = record {
     words = x;
     ready = ready;
-    fronts = record { front = output_of the_outcome; begins = begins ready.source_program x times ready.compiled numbers asked.budget; put = lines.put };
-    in_source = in_source ready.source_program x times ready.compiled numbers asked.budget the_outcome refl;
+    fronts = record { front = output_of the_outcome; begins = begins ready.source_program x times ready.by.compiled.faithful numbers asked.budget; put = lines.put };
+    in_source = in_source ready.source_program x times ready.by.compiled.faithful numbers asked.budget the_outcome refl;
     cut = inr (record { rose = lines.rose; wanted = elim lines.wanted [ inl end ↦ inl end | inr some ↦ inr (wanted some) ]; put = lines.put });
   }
 
@@ -360,12 +360,12 @@ all_held asked program m numbers (Some held) holds stands machine input = record
 
 pub prepared : (asked : Execution) (program : Program) (x : Loaded) (e f : Effect) → Since e f → IfSome f.before (λ held. HoldsProgram held asked.source program) →
     IfSome e.before (λ held. ProfileStands held asked.profile) → IfSome e.before (λ held. machine_found held asked.machine ≡ Is x.machine) → IfSome e.before (λ held. input_found held asked.input ≡ Ok x.input) →
-    Compiled program x.machine x.program → Prepared asked f x
-prepared asked program x e f since holds stands machine input compiled = record {
+    CompiledBy e.before asked.profile asked.growth program x.machine x.program → Prepared asked f x
+prepared asked program x e f since holds stands machine input by = record {
   source_program = program;
   read = all_held asked program x.machine x.input f.before holds (told_since e f (λ held. ProfileStands held asked.profile) since stands)
       (told_since e f (λ held. machine_found held asked.machine ≡ Is x.machine) since machine) (told_since e f (λ held. input_found held asked.input ≡ Ok x.input) since input);
-  compiled = compiled;
+  by = record { counts = by.counts; counted = told_since e f (λ held. AreCounts held asked.profile by.counts) since by.counted; plan = by.plan; compiled = by.compiled };
 }
 
 -- several facts of one answer

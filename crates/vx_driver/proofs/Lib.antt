@@ -28,4 +28,5 @@ pub mod Completed
 pub mod Beginning
 pub mod OneFunction
 pub mod Chain
+pub mod LaidOut
 pub mod NumbersFit

@@ -1,5 +1,5 @@
 -- What each answer of the top call says of the words, the files and the counts of faults, before the call and after it.
-use Rattle.std.specs.Prelude.{◌≡◌, ◌≤◌, ◌<◌, ◌⊎◌, ℕ, List, [], length, true, nat_le, if◌then◌else◌, is_some, Option, Some, None, IfSome, MatchOption, Result, Ok, Err}
+use Rattle.std.specs.Prelude.{◌≡◌, ◌≢◌, ◌≤◌, ◌<◌, ◌⊎◌, ℕ, List, [], length, true, nat_le, if◌then◌else◌, is_some, Option, Some, None, IfSome, IsSomeAnd, MatchOption, Result, Ok, Err}
 use Rattle.vx_base.specs.Outside.{Files, Rose, held_with, with_file, ReplacesPartly}
 use Rattle.vx_isa.specs.declared.program.WordProgram.{WordProgram}
 use Rattle.vx_isa.specs.Numbers.{Numbers, vex}
@@ -19,7 +19,10 @@ use Rattle.vx_ast.specs.declared.fault.SourceFault.{SourceFault}
 use Rattle.vx_ast.specs.declared.fault.SourceFault.TheVariants.{Bad as BadSource, Limit as OverLimit, NoMemory as NoRoom}
 use Rattle.vx_driver.specs.declared.status.Status.{Status}
 use Rattle.vx_driver.specs.declared.status.Status.TheVariants.{Done, Trapped, Usage, Source, Limit, Words, Profile, Machine, NoFile, ReadFault, WriteFault, Stopped, Input, Stuck, NoMemory}
+use Rattle.vx_driver.specs.Command.{Compilation}
 use Rattle.vx_driver.specs.Compiled.{Compiled}
+use Rattle.vx_report.specs.declared.plan.Plan.{Plan}
+use Rattle.vx_report.specs.Report.{names_of, report_text}
 use Rattle.vx_words.specs.Text.{Spells}
 
 -- the most bytes of a description of a machine
@@ -129,33 +132,56 @@ abbrev pub machine_found : Files → Option (List ℕ) → MachineFound
 machine_found held None = Is (vex 1)
 machine_found held (Some name) = found_in (held name)
 
--- the text spells words that are compiled from the program for the machine
-pub record TextOf (program : Program) (machine : Numbers) (text : List ℕ) : Type 0 where
+-- the texts of a compiled program: the one spells its words, the other is the report of their plan
+pub record TextsOf (program : Program) (counts : Counts) (machine : Numbers) (growth : ℕ) (text report : List ℕ) : Type 0 where
   pub words : WordProgram
-  pub compiled : Compiled program machine words
+  pub plan : Plan
+  pub compiled : Compiled program counts machine growth words plan
   pub spells : Spells text words
+  pub reports : report ≡ report_text plan (names_of program)
 
--- the new text of a compiled file: it spells words that are compiled from what the source's file reads as, by the profile
--- and for the machine of the command
-pub record Compiles (held : Files) (source : List ℕ) (profile machine : Option (List ℕ)) (text : List ℕ) : Type 0 where
+-- the texts of what the source's file reads as, compiled by the profile, for the machine and with the growth of the command
+pub record Compiles (asked : Compilation) (held : Files) (text report : List ℕ) : Type 0 where
   pub program : Program
-  pub holds : HoldsProgram held source program
-  pub profiled : ProfileStands held profile
+  pub holds : HoldsProgram held asked.source program
+  pub counts : Counts
+  pub counted : AreCounts held asked.profile counts
   pub numbers : Numbers
-  pub machine_is : machine_found held machine ≡ Is numbers
-  pub text_of : TextOf program numbers text
+  pub machine_is : machine_found held asked.machine ≡ Is numbers
+  pub texts : TextsOf program counts numbers asked.growth text report
 
--- the output's file holds such a text, and every other file is as before
-pub record WritesWords (held : Files) (after : Option Files) (source out : List ℕ) (profile machine : Option (List ℕ)) : Type 0 where
-  pub text : List ℕ
-  pub compiles : Compiles held source profile machine text
-  pub written : after ≡ Some (held_with out text held)
+-- the files once the report is put under its name, where one is asked
+abbrev pub with_report : Option (List ℕ) → (report : List ℕ) → Files → Files
+with_report None report held = held
+with_report (Some name) report held = held_with name report held
 
--- the output's file holds what it held before, or a front of such a text, and every other file is as before
-pub record WritesPartly (held : Files) (after : Option Files) (source out : List ℕ) (profile machine : Option (List ℕ)) : Type 0 where
+-- the output's file holds the text of the words, and then the report's file the report: where both have one name, that file
+-- holds the report; every other file is as before
+pub record Writes (asked : Compilation) (held : Files) (after : Option Files) : Type 0 where
   pub text : List ℕ
-  pub compiles : Compiles held source profile machine text
-  pub partly : ReplacesPartly (Some held) after out text
+  pub report : List ℕ
+  pub compiles : Compiles asked held text report
+  pub written : after ≡ Some (with_report asked.report report (held_with asked.out text held))
+
+-- the same without the report that is asked
+pub record WritesWords (asked : Compilation) (held : Files) (after : Option Files) : Type 0 where
+  pub text : List ℕ
+  pub report : List ℕ
+  pub compiles : Compiles asked held text report
+  pub wanted : is_some asked.report ≡ true
+  pub written : after ≡ Some (held_with asked.out text held)
+
+-- the report that is asked was to be put into these files, and its file holds what it held in them, or a front of the report
+abbrev pub ReportsPartly : Option (List ℕ) → (report : List ℕ) → Files → (after : Option Files) → Type 0
+ReportsPartly None report held after = ⊥
+ReportsPartly (Some name) report held after = ReplacesPartly (Some held) after name report
+
+-- the output's file holds what it held before, or a front of the text; or it holds the text, and the report is put in part
+pub record WritesPartly (asked : Compilation) (held : Files) (after : Option Files) : Type 0 where
+  pub text : List ℕ
+  pub report : List ℕ
+  pub compiles : Compiles asked held text report
+  pub partly : ReplacesPartly (Some held) after asked.out text ⊎ ReportsPartly asked.report report (held_with asked.out text held) after
 
 -- what a call was given and left: the files that the depot tells, and its counts of failed reads and replacings
 pub record Effect : Type 0 where
@@ -236,23 +262,23 @@ FileAnswers TheProfile source profile machine e status = StopsAtProfile source p
 FileAnswers TheMachine source profile machine e status = StopsAtMachine source profile machine e status
 FileAnswers role source profile machine e status = ⊥
 
-abbrev pub CompileAnswers : (source out : List ℕ) → (profile machine : Option (List ℕ)) → Effect → Status → Type 0
-CompileAnswers source out profile machine e Done = IfSome e.before (λ held. WritesWords held e.after source out profile machine)
-CompileAnswers source out profile machine e (Trapped trap) = ⊥
-CompileAnswers source out profile machine e Usage = ⊥
-CompileAnswers source out profile machine e (Source code line column) = SourceAnswers source e (Source code line column)
-CompileAnswers source out profile machine e (Limit number count) =
-    SourceAnswers source e (Limit number count) ⊎ StopsAtProfile source profile e (Limit number count) ⊎ StopsAtMachine source profile machine e (Limit number count)
-CompileAnswers source out profile machine e (Words code line) = ⊥
-CompileAnswers source out profile machine e (Profile code line) = StopsAtProfile source profile e (Profile code line)
-CompileAnswers source out profile machine e (Machine code field) = StopsAtMachine source profile machine e (Machine code field)
-CompileAnswers source out profile machine e (NoFile role) = FileAnswers role source profile machine e (NoFile role)
-CompileAnswers source out profile machine e (ReadFault role) = FileAnswers role source profile machine e (ReadFault role)
-CompileAnswers source out profile machine e WriteFault = ReplacesRose e × IfSome e.before (λ held. WritesPartly held e.after source out profile machine)
-CompileAnswers source out profile machine e Stopped = ⊥
-CompileAnswers source out profile machine e (Input place) = ⊥
-CompileAnswers source out profile machine e (Stuck reason place) = ⊥
-CompileAnswers source out profile machine e NoMemory = SameFiles e
+abbrev pub CompileAnswers : Compilation → Effect → Status → Type 0
+CompileAnswers asked e Done = IfSome e.before (λ held. Writes asked held e.after)
+CompileAnswers asked e (Trapped trap) = ⊥
+CompileAnswers asked e Usage = ⊥
+CompileAnswers asked e (Source code line column) = SourceAnswers asked.source e (Source code line column)
+CompileAnswers asked e (Limit number count) =
+    SourceAnswers asked.source e (Limit number count) ⊎ StopsAtProfile asked.source asked.profile e (Limit number count) ⊎ StopsAtMachine asked.source asked.profile asked.machine e (Limit number count)
+CompileAnswers asked e (Words code line) = ⊥
+CompileAnswers asked e (Profile code line) = StopsAtProfile asked.source asked.profile e (Profile code line)
+CompileAnswers asked e (Machine code field) = StopsAtMachine asked.source asked.profile asked.machine e (Machine code field)
+CompileAnswers asked e (NoFile role) = FileAnswers role asked.source asked.profile asked.machine e (NoFile role)
+CompileAnswers asked e (ReadFault role) = FileAnswers role asked.source asked.profile asked.machine e (ReadFault role)
+CompileAnswers asked e WriteFault = ReplacesRose e × IfSome e.before (λ held. WritesPartly asked held e.after)
+CompileAnswers asked e Stopped = ⊥
+CompileAnswers asked e (Input place) = ⊥
+CompileAnswers asked e (Stuck reason place) = ⊥
+CompileAnswers asked e NoMemory = SameFiles e ⊎ IsSomeAnd e.before (λ held. WritesWords asked held e.after)
 
 -- why a description gives no machine
 abbrev pub RefusesDescription : (content : List ℕ) → Status → Type 0
@@ -260,55 +286,66 @@ RefusesDescription content (Machine code field) = reading content ≡ Err (Bad c
 RefusesDescription content NoMemory = Unit {0}
 RefusesDescription content status = ⊥
 
--- what the replacing of the output's file by a text says
-abbrev pub WriteAnswers : (out text : List ℕ) → Effect → Status → Type 0
-WriteAnswers out text e Done = e.after ≡ with_file e.before out text
-WriteAnswers out text e WriteFault = ReplacesRose e × ReplacesPartly e.before e.after out text
-WriteAnswers out text e NoMemory = SameFiles e
-WriteAnswers out text e status = ⊥
+-- what the replacing of a file by a text says
+abbrev pub WriteAnswers : (name text : List ℕ) → Effect → Status → Type 0
+WriteAnswers name text e Done = e.after ≡ with_file e.before name text
+WriteAnswers name text e WriteFault = ReplacesRose e × ReplacesPartly e.before e.after name text
+WriteAnswers name text e NoMemory = SameFiles e
+WriteAnswers name text e status = ⊥
 
--- a text of a program's words for a machine was to replace the output's file
-pub record PutsText (program : Program) (machine : Numbers) (out : List ℕ) (e : Effect) (status : Status) : Type 0 where
+-- the same from the files on in which a first file was replaced
+abbrev pub once_written : (name text : List ℕ) → Effect → Effect
+once_written name text e = record e { before = with_file e.before name text }
+
+-- what the replacing of the output's file by the one text says, and then that of the report's file by the other, where one is asked
+abbrev pub ReportAnswers : (out text : List ℕ) → Option (List ℕ) → (report : List ℕ) → Effect → Status → Type 0
+ReportAnswers out text None report e status = WriteAnswers out text e status
+ReportAnswers out text (Some name) report e status = ((status ≢ Done) × WriteAnswers out text e status) ⊎ WriteAnswers name report (once_written out text e) status
+
+-- the texts of a program for a machine were to replace files
+pub record PutsTexts (program : Program) (counts : Counts) (machine : Numbers) (growth : ℕ) (out : List ℕ) (name : Option (List ℕ)) (e : Effect) (status : Status) : Type 0 where
   pub text : List ℕ
-  pub text_of : TextOf program machine text
-  pub answers : WriteAnswers out text e status
+  pub report : List ℕ
+  pub texts : TextsOf program counts machine growth text report
+  pub answers : ReportAnswers out text name report e status
 
 -- no machine stands, and the status says why
 pub record NoMachine (machine : Option (List ℕ)) (e : Effect) (status : Status) : Type 0 where
   pub named : is_some machine ≡ true
   pub answers : MachineAnswers machine e status
 
--- a machine stands, and a text of the program's words for it was to replace the output's file, or memory was wanted
-pub record ForMachine (program : Program) (out : List ℕ) (machine : Option (List ℕ)) (e : Effect) (status : Status) : Type 0 where
+-- a machine stands, and the texts of the program for it were to replace files, or memory was wanted
+pub record ForMachine (program : Program) (counts : Counts) (asked : Compilation) (e : Effect) (status : Status) : Type 0 where
   pub numbers : Numbers
-  pub machine_is : IfSome e.before (λ held. machine_found held machine ≡ Is numbers)
-  pub answers : ((status ≡ NoMemory) × SameFiles e) ⊎ PutsText program numbers out e status
+  pub machine_is : IfSome e.before (λ held. machine_found held asked.machine ≡ Is numbers)
+  pub answers : ((status ≡ NoMemory) × SameFiles e) ⊎ PutsTexts program counts numbers asked.growth asked.out asked.report e status
 
--- what the writing of a program's words says, where the profile stands
-abbrev pub MachineOrText : Program → (out : List ℕ) → (machine : Option (List ℕ)) → Effect → Status → Type 0
-MachineOrText program out machine e status = NoMachine machine e status ⊎ ForMachine program out machine e status
+-- what the writing of a program's texts says, by these counts
+abbrev pub MachineOrTexts : Program → Counts → Compilation → Effect → Status → Type 0
+MachineOrTexts program counts asked e status = NoMachine asked.machine e status ⊎ ForMachine program counts asked e status
 
 -- no profile stands, and the status says why
 pub record NoProfile (profile : Option (List ℕ)) (e : Effect) (status : Status) : Type 0 where
   pub named : is_some profile ≡ true
   pub answers : ProfileAnswers profile e status
 
--- a profile stands, and a text was to be written by it
-pub record ByProfile (program : Program) (out : List ℕ) (profile machine : Option (List ℕ)) (e : Effect) (status : Status) : Type 0 where
-  pub profiled : IfSome e.before (λ held. ProfileStands held profile)
-  pub answers : MachineOrText program out machine e status
+-- a profile stands, and texts were to be written by it
+pub record ByProfile (program : Program) (asked : Compilation) (e : Effect) (status : Status) : Type 0 where
+  pub counts : Counts
+  pub counted : IfSome e.before (λ held. AreCounts held asked.profile counts)
+  pub answers : MachineOrTexts program counts asked e status
 
--- what the writing of a program's words says
-abbrev pub ProgramAnswers : Program → (out : List ℕ) → (profile machine : Option (List ℕ)) → Effect → Status → Type 0
-ProgramAnswers program out profile machine e status = NoProfile profile e status ⊎ ByProfile program out profile machine e status
+-- what the writing of a program's texts says
+abbrev pub ProgramAnswers : Program → Compilation → Effect → Status → Type 0
+ProgramAnswers program asked e status = NoProfile asked.profile e status ⊎ ByProfile program asked e status
 
 -- which statuses can come where nothing fails: want of memory is the one free answer
-pub record CompileEnds (source : List ℕ) (profile machine : Option (List ℕ)) (held : Files) (status : Status) : Type 0 where
-  pub accepted : Accepts held source → ProfileStands held profile → (numbers : Numbers) → machine_found held machine ≡ Is numbers → (status ≡ Done) ⊎ (status ≡ NoMemory)
-  pub refused : (content : List ℕ) (fault : SourceFault) → held source ≡ Some content → Refusal content fault → (status ≡ status_of fault) ⊎ (status ≡ NoMemory)
-  pub missing : held source ≡ None → (status ≡ NoFile TheSource) ⊎ (status ≡ NoMemory)
+pub record CompileEnds (asked : Compilation) (held : Files) (status : Status) : Type 0 where
+  pub accepted : Accepts held asked.source → ProfileStands held asked.profile → (numbers : Numbers) → machine_found held asked.machine ≡ Is numbers → (status ≡ Done) ⊎ (status ≡ NoMemory)
+  pub refused : (content : List ℕ) (fault : SourceFault) → held asked.source ≡ Some content → Refusal content fault → (status ≡ status_of fault) ⊎ (status ≡ NoMemory)
+  pub missing : held asked.source ≡ None → (status ≡ NoFile TheSource) ⊎ (status ≡ NoMemory)
   -- the profile's file is missing, too long, or no profile
-  pub no_profile : Accepts held source → (why : Status) → RefusesProfile held profile why → (status ≡ why) ⊎ (status ≡ NoMemory)
-  pub machine_refused : Accepts held source → ProfileStands held profile → (code field : ℕ) → machine_found held machine ≡ Refused (Bad code field) → (status ≡ Machine code field) ⊎ (status ≡ NoMemory)
-  pub machine_too_long : Accepts held source → ProfileStands held profile → machine_found held machine ≡ TooLong → (status ≡ Limit 11 65537) ⊎ (status ≡ NoMemory)
-  pub machine_missing : Accepts held source → ProfileStands held profile → machine_found held machine ≡ Missing → (status ≡ NoFile TheMachine) ⊎ (status ≡ NoMemory)
+  pub no_profile : Accepts held asked.source → (why : Status) → RefusesProfile held asked.profile why → (status ≡ why) ⊎ (status ≡ NoMemory)
+  pub machine_refused : Accepts held asked.source → ProfileStands held asked.profile → (code field : ℕ) → machine_found held asked.machine ≡ Refused (Bad code field) → (status ≡ Machine code field) ⊎ (status ≡ NoMemory)
+  pub machine_too_long : Accepts held asked.source → ProfileStands held asked.profile → machine_found held asked.machine ≡ TooLong → (status ≡ Limit 11 65537) ⊎ (status ≡ NoMemory)
+  pub machine_missing : Accepts held asked.source → ProfileStands held asked.profile → machine_found held asked.machine ≡ Missing → (status ≡ NoFile TheMachine) ⊎ (status ≡ NoMemory)

@@ -1,9 +1,20 @@
--- What the words of `sim`, `exec` and `profile` ask for, as the code holds it.
+-- What the words of the commands ask for, as the code holds it.
 use Rattle.std.specs.Prelude.{option_map}
-use Rattle.vx_driver.specs.Command.{Command, Execution, Makes, Profiling, Simulation}
+use Rattle.vx_driver.specs.Command.{Command, Compilation, Execution, Makes, Profiling, Simulation}
+use Rattle.vx_driver.specs.declared.command.CompileWords.{CompileWords}
 use Rattle.vx_driver.specs.declared.profile_words.ProfileWords.{ProfileWords}
 use Rattle.vx_driver.specs.declared.run_words.ExecWords.{ExecWords}
 use Rattle.vx_driver.specs.declared.run_words.RunWords.{RunWords}
+
+abbrev pub compilation_of : CompileWords → Compilation
+compilation_of asked = record {
+  source = asked.source.now;
+  out = asked.out.now;
+  profile = option_map (λ s. s.now) asked.profile;
+  machine = option_map (λ s. s.now) asked.machine;
+  growth = asked.growth;
+  report = option_map (λ s. s.now) asked.report;
+}
 
 abbrev pub simulation_of : RunWords → Simulation
 simulation_of asked = record {

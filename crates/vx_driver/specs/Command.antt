@@ -40,6 +40,19 @@ pub record Execution : Type 0 where
   pub timing : List ℕ
   pub probe : Option (List ℕ)
 
+-- what a compilation is asked for
+pub record Compilation : Type 0 where
+  -- the file of the source, and the file that its words go to
+  pub source : List ℕ
+  pub out : List ℕ
+  -- the files of the profile and of the machine's description
+  pub profile : Option (List ℕ)
+  pub machine : Option (List ℕ)
+  -- how many operations may be copied
+  pub growth : ℕ
+  -- the file that the report goes to
+  pub report : Option (List ℕ)
+
 -- what a profiling is asked for
 pub record Profiling : Type 0 where
   -- the file of the source
@@ -50,9 +63,9 @@ pub record Profiling : Type 0 where
   pub blocks : ℕ
 
 pub data Command : Type 0 where
-  -- the words of the source go to a file; their traces are picked by the profile of a file, or by no counts, they are for
-  -- the machine that a file describes, or the default one, and so many operations may be copied
-  Compile : (source out : List ℕ) (profile machine : Option (List ℕ)) (growth : ℕ) → Command
+  -- the words of the source go to a file, and the report of their plan to another, where one is named; their traces are picked by
+  -- the profile of a file, or by no counts, and they are for the machine that a file describes, or the default one
+  Compile : Compilation → Command
   -- the words of a file are run
   Simulate : Simulation → Command
   -- the words of the source are run
@@ -89,14 +102,22 @@ growth_of text = number_in 0 1000000 4000 text
 abbrev pub with_compiling_options : App → App
 with_compiling_options app = with_rule (with_rule (with_rule app (option_word (codes "profile"))) (option_word (codes "machine"))) growth_word
 
--- `compile SRC OUT [--profile P] [--machine M] [--growth G]`
+-- `compile SRC OUT [--profile P] [--machine M] [--growth G] [--report R]`
 unfoldable pub compile_app : App
-compile_app = with_compiling_options (with_rule (with_rule (new_app (codes "compile")) (required_word (codes "SRC"))) (required_word (codes "OUT")))
+compile_app =
+    with_rule (with_compiling_options (with_rule (with_rule (new_app (codes "compile")) (required_word (codes "SRC"))) (required_word (codes "OUT"))))
+    (option_word (codes "report"))
 
 -- the command of what was found: a word that has to be there is
 abbrev pub compile_found : List Row → ℕ → Command
-compile_found rows growth =
-    Compile (unwrap_or (first_of (codes "SRC") rows) []) (unwrap_or (first_of (codes "OUT") rows) []) (first_of (codes "profile") rows) (first_of (codes "machine") rows) growth
+compile_found rows growth = Compile (record {
+  source = unwrap_or (first_of (codes "SRC") rows) [];
+  out = unwrap_or (first_of (codes "OUT") rows) [];
+  profile = first_of (codes "profile") rows;
+  machine = first_of (codes "machine") rows;
+  growth = growth;
+  report = first_of (codes "report") rows;
+})
 
 -- the command, where nothing is refused and the number is one
 abbrev pub compile_unless : Kinds → List Row → Option Command

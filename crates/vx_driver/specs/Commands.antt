@@ -12,14 +12,14 @@ use Rattle.vx_driver.specs.Counted.{ProfilingAnswers, ProfilingCompletes}
 -- words that are no command are answered Usage, unless memory is wanted
 abbrev pub Answers : Option Command → Boxes → Effect → Streams → Status → Type 0
 Answers None boxes e s status = ((status ≡ Usage) ⊎ (status ≡ NoMemory)) × SameFiles e
-Answers (Some (Compile source out profile machine growth)) boxes e s status = CompileAnswers source out profile machine e status
+Answers (Some (Compile asked)) boxes e s status = CompileAnswers asked e status
 Answers (Some (Simulate asked)) boxes e s status = SimAnswers asked boxes e s status
 Answers (Some (Execute asked)) boxes e s status = ExecAnswers asked boxes e s status
 Answers (Some (Count asked)) boxes e s status = ProfilingAnswers asked e s status
 
 abbrev pub Completes : Option Command → Boxes → Effect → Streams → Status → Type 0
 Completes None boxes e s status = Unit {0}
-Completes (Some (Compile source out profile machine growth)) boxes e s status = (ReadsRose e → ⊥) → (ReplacesRose e → ⊥) → IfSome e.before (λ held. CompileEnds source profile machine held status)
+Completes (Some (Compile asked)) boxes e s status = (ReadsRose e → ⊥) → (ReplacesRose e → ⊥) → IfSome e.before (λ held. CompileEnds asked held status)
 Completes (Some (Simulate asked)) boxes e s status = SimCompletes asked boxes e s status
 Completes (Some (Execute asked)) boxes e s status = ExecCompletes asked boxes e s status
 Completes (Some (Count asked)) boxes e s status = ProfilingCompletes asked e s status

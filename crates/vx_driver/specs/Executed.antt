@@ -12,12 +12,14 @@ use Rattle.vx_ast.specs.Meaning.{source}
 use Rattle.vx_ast.specs.Reads.{Refusal}
 use Rattle.vx_ast.specs.declared.fault.SourceFault.{SourceFault}
 use Rattle.vx_probe.specs.Times.{Times}
+use Rattle.vx_profile.specs.declared.counts.Counts.{Counts}
+use Rattle.vx_report.specs.declared.plan.Plan.{Plan}
 use Rattle.vx_driver.specs.declared.status.Status.{Status}
 use Rattle.vx_driver.specs.declared.status.Status.TheVariants.{Done, Trapped, Usage, Source, Limit, Words, Profile, Machine, NoFile, ReadFault, WriteFault, Stopped, Input, Stuck, NoMemory}
 use Rattle.vx_driver.specs.Command.{Execution}
 use Rattle.vx_driver.specs.Boxes.{Boxes, Chosen, chosen}
 use Rattle.vx_driver.specs.Compiled.{Compiled}
-use Rattle.vx_driver.specs.Answers.{HoldsProgram, Accepts, status_of, Is, machine_found, Effect, ReadsRose, SameFiles, SourceAnswers, ProfileStands, RefusesProfile, StopsAtProfile, StopsAtMachine}
+use Rattle.vx_driver.specs.Answers.{AreCounts, HoldsProgram, Accepts, status_of, Is, machine_found, Effect, ReadsRose, SameFiles, SourceAnswers, ProfileStands, RefusesProfile, StopsAtProfile, StopsAtMachine}
 use Rattle.vx_driver.specs.Simulated.{Loaded, with_input, machine_as, input_found, outcome_within, events_within, reports_of, result_line, EndsWith, Streams, OutRose, ErrRose, OutputCut, LinesCut, BoxAnswers}
 
 -- the run
@@ -54,11 +56,19 @@ pub record AllHeld (held : Files) (asked : Execution) (p : Program) (m : Numbers
   pub machine_is : machine_found held asked.machine ≡ Is m
   pub input_is : input_found held asked.input ≡ Ok numbers
 
--- words that are compiled from the program and by the profile that were read, with the machine and the input that were read
+-- words that are compiled from the program and by the profile that were read, for the machine that was read and with the growth
+-- that is asked, by some plan
+pub record CompiledBy (told : Option Files) (profile : Option (List ℕ)) (growth : ℕ) (p : Program) (m : Numbers) (w : WordProgram) : Type 0 where
+  pub counts : Counts
+  pub counted : IfSome told (λ held. AreCounts held profile counts)
+  pub plan : Plan
+  pub compiled : Compiled p counts m growth w plan
+
+-- such words, with the machine and the input that were read
 pub record Prepared (asked : Execution) (e : Effect) (x : Loaded) : Type 0 where
   pub source_program : Program
   pub read : IfSome e.before (λ held. AllHeld held asked source_program x.machine x.input)
-  pub compiled : Compiled source_program x.machine x.program
+  pub by : CompiledBy e.before asked.profile asked.growth source_program x.machine x.program
 
 -- the lines
 
@@ -153,20 +163,20 @@ ExecAnswers asked boxes e s status = SameFiles e × BoxAnswers (ExecutionAnswers
 -- where nothing fails; want of memory is the one free answer
 
 -- words of the program go on with the whole budget
-pub record GoesOn (p : Program) (m : Numbers) (input : List ℤ) (times : Times) (budget : ℕ) : Type 0 where
+pub record GoesOn (asked : Execution) (held : Files) (p : Program) (m : Numbers) (input : List ℤ) (times : Times) : Type 0 where
   pub words : WordProgram
-  pub compiled : Compiled p m words
-  pub going : IsGoing (outcome_within (with_input words m input) times budget)
+  pub by : CompiledBy (Some held) asked.profile asked.growth p m words
+  pub going : IsGoing (outcome_within (with_input words m input) times asked.budget)
 
 -- as the source ends, or as its words go on
-abbrev pub EndsAs : Program → Numbers → List ℤ → Times → (budget : ℕ) → Status → Type 0
-EndsAs p m input times budget Done = (z : ℤ) × (out : List ℕ) × SourceHas p input (Ends z out)
-EndsAs p m input times budget (Trapped k) = (out : List ℕ) × SourceHas p input (Traps k out)
-EndsAs p m input times budget Stopped = GoesOn p m input times budget
-EndsAs p m input times budget status = ⊥
+abbrev pub EndsAs : Execution → Files → Program → Numbers → List ℤ → Times → Status → Type 0
+EndsAs asked held p m input times Done = (z : ℤ) × (out : List ℕ) × SourceHas p input (Ends z out)
+EndsAs asked held p m input times (Trapped k) = (out : List ℕ) × SourceHas p input (Traps k out)
+EndsAs asked held p m input times Stopped = GoesOn asked held p m input times
+EndsAs asked held p m input times status = ⊥
 
 pub record ExecEnds (asked : Execution) (times : Times) (held : Files) (status : Status) : Type 0 where
-  pub accepted : (p : Program) (m : Numbers) (numbers : List ℤ) → AllHeld held asked p m numbers → EndsAs p m numbers times asked.budget status ⊎ (status ≡ NoMemory)
+  pub accepted : (p : Program) (m : Numbers) (numbers : List ℤ) → AllHeld held asked p m numbers → EndsAs asked held p m numbers times status ⊎ (status ≡ NoMemory)
   pub refused : (content : List ℕ) (fault : SourceFault) → held asked.source ≡ Some content → Refusal content fault → (status ≡ status_of fault) ⊎ (status ≡ NoMemory)
   pub missing : held asked.source ≡ None → (status ≡ NoFile TheSource) ⊎ (status ≡ NoMemory)
   pub no_profile : (why : Status) → Accepts held asked.source → RefusesProfile held asked.profile why → (status ≡ why) ⊎ (status ≡ NoMemory)

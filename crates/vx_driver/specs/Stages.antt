@@ -1,12 +1,13 @@
 -- What holds between the graphs of a program and its words: layouts of the graphs, and maps for the layouts; and the laws by which
 -- each of them does what the one before does.
-use Rattle.std.specs.Prelude.{◌≡◌, ◌<◌, ◌+◌, ℕ, true, List, [], ◌∷◌, length, Some, slice_get}
+use Rattle.std.specs.Prelude.{◌≡◌, ◌<◌, ◌+◌, ℕ, Bool, true, List, [], ◌∷◌, length, Some, slice_get}
 use Rattle.vx_base.specs.Outcome.{SameIsTransitive}
+use Rattle.vx_flow.specs.declared.graph.Flow.{Flow}
 use Rattle.vx_flow.specs.declared.graph.Graph.{Graph}
 use Rattle.vx_flow.specs.Sound.{is_sound}
+use Rattle.vx_isa.specs.declared.program.WordProgram.{WordProgram}
 use Rattle.vx_isa.specs.Numbers.{Numbers}
 use Rattle.vx_isa.specs.Paths.{PathStrictLaw, AnyTimingLaw}
-use Rattle.vx_machine.specs.Items.{latency_of_op}
 use Rattle.vx_mixed.specs.declared.mixed.MixedGraph.{MixedGraph}
 use Rattle.vx_mixed.specs.declared.layout.VirtualWord.{VirtualWord}
 use Rattle.vx_mixed.specs.declared.layout.VWords.{VWords}
@@ -18,9 +19,17 @@ use Rattle.vx_mixed.specs.Layout.{layout_of}
 use Rattle.vx_mixed.specs.LayoutLaws.{LayoutRuns, LayoutSettles, LayoutComesFromGraph}
 use Rattle.vx_mixed.specs.Valid.{Valid, CanBegin}
 use Rattle.vx_regs.specs.declared.map.RegMap.{RegMap}
-use Rattle.vx_regs.specs.Mapped.{KeepsApart}
-use Rattle.vx_region.specs.Regions.{AllReplaced}
+use Rattle.vx_profile.specs.declared.counts.Counts.{Counts}
+use Rattle.vx_region.specs.declared.trace_plan.TracePlan.{TracePlan}
+use Rattle.vx_region.specs.Regions.{AllReplaced, ReplacesAll}
 use Rattle.vx_frame.specs.Carried.{FrameLaw}
+use Rattle.vx_frame.specs.Finish.{IsFinished}
+use Rattle.vx_ast.specs.Tree.{Program}
+use Rattle.vx_report.specs.declared.plan.Plan.{Plan}
+use Rattle.vx_report.specs.Report.{names_of, report_text}
+use Rattle.vx_words.specs.Range.{is_in_range}
+use Rattle.vx_words.specs.Text.{Spells}
+use Rattle.vx_driver.specs.Compiled.{AreMapsOf, Compiled, Planned, all_in_slots, layouts_of}
 
 -- the graph can begin as a graph of blocks and regions, and has a block
 pub record Begins (graph : Graph) : Type 0 where
@@ -59,12 +68,37 @@ pub record IsInside (l : VWords) : Type 0 where
 abbrev pub AreInside : List VWords → Type 0
 AreInside ls = (f : ℕ) (l : VWords) → slice_get ls f ≡ Some l → IsInside l
 
--- a map for each layout, which keeps its values apart
-abbrev pub AreMapsOf : Numbers → List VWords → List RegMap → Type 0
-AreMapsOf machine [] [] = Unit {0}
-AreMapsOf machine (l ∷ ls) (map ∷ maps) = KeepsApart machine (latency_of_op machine) l map × AreMapsOf machine ls maps
-AreMapsOf machine [] (map ∷ maps) = ⊥
-AreMapsOf machine (l ∷ ls) [] = ⊥
+-- A function that is laid out: its traces became regions by these plans, and this is the layout of what is left.
+pub record IsLaidOut (machine : Numbers) (counts : Counts) (cap function : ℕ) (graph : Graph) (used : ℕ) (traces : List TracePlan) (l : VWords) (used' : ℕ) : Type 0 where
+  pub laid : IsLayoutOf machine function graph l
+  pub all : ReplacesAll machine counts cap (record laid.begun { function = function }) used traces laid.done used'
+
+-- functions that are laid out, by these plans and with so many copies
+pub record AreLaidOut (machine : Numbers) (counts : Counts) (cap : ℕ) (graphs : List Graph) (traces : List TracePlan) (ls : List VWords) (used : ℕ) : Type 0 where
+  pub laid : AreLayoutsOf machine graphs ls
+  pub planned : Planned machine counts cap graphs traces used
+  pub layouts_are : ls ≡ layouts_of planned.functions
+
+-- layouts that are finished as words, with so many values in slots
+pub record AreFinished (machine : Numbers) (flow : Flow) (ls : List VWords) (w : WordProgram) (spilled : ℕ) : Type 0 where
+  pub maps : List RegMap
+  pub kept : AreMapsOf machine ls maps
+  pub spilled_is : spilled ≡ all_in_slots maps
+  pub finished : IsFinished machine flow ls maps w
+  pub in_range : is_in_range w ≡ true
+
+-- the texts of a compiled program, of which that of the report is made where one is asked
+pub record MakesTexts (p : Program) (counts : Counts) (machine : Numbers) (growth : ℕ) (asked : Bool) (text report : List ℕ) : Type 0 where
+  pub words : WordProgram
+  pub plan : Plan
+  pub compiled : Compiled p counts machine growth words plan
+  pub spells : Spells text words
+  pub reports : asked ≡ true → report ≡ report_text plan (names_of p)
+
+-- words that are compiled from a program, by some plan
+pub record IsCompiled (p : Program) (counts : Counts) (machine : Numbers) (growth : ℕ) (w : WordProgram) : Type 0 where
+  pub plan : Plan
+  pub compiled : Compiled p counts machine growth w plan
 
 -- the laws of the stages
 pub record StageLaws : Type 0 where

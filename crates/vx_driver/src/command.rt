@@ -1,12 +1,13 @@
 // The words of a command line: the second names the command, and clap reads the others.
 
-ghost use Rattle.std.specs.Prelude.{◌≡◌, ◌≢◌, ◌⊎◌, [], true, unwrap_or, Some, None, map, option_map, IfOk, IfErr};
+ghost use Rattle.std.specs.Prelude.{◌≡◌, ◌≢◌, ◌⊎◌, [], true, unwrap_or, Some, None, map, IfOk, IfErr};
 ghost use Rattle.clap.specs.Words.{app_of, fault_of, first_value, found_of, is_simple, is_simple_and_free, kind_of, matches_of, rows_of};
 ghost use Rattle.clap.specs.declared.error.kind.ErrorKind.TheVariants.{OutOfMemory};
 ghost use Rattle.vx_driver.specs.Status.{Adds};
+ghost use Rattle.vx_driver.specs.Asked.{compilation_of};
 ghost use Rattle.vx_driver.specs.Command.{Compile, compile_app, compile_of, compile_unless};
 
-use crate::options::{file_command, growth_of, required_of, with_compiling_options};
+use crate::options::{file_command, growth_of, option_of, required_of, with_compiling_options};
 use crate::status::{Status, put, put_line};
 use clap::error::ErrorKind;
 use clap::{ArgMatches, Command, Error};
@@ -26,16 +27,19 @@ pub(crate) struct CompileWords<'a> {
     pub(crate) machine: Option<&'a str>,
     /// How many operations may be copied.
     pub(crate) growth: u32,
+    /// The name of the file of the report.
+    pub(crate) report: Option<&'a str>,
 }
 
-/// `compile SRC OUT [--profile P] [--machine M] [--growth G]`.
+/// `compile SRC OUT [--profile P] [--machine M] [--growth G] [--report R]`.
 fn compile_command<'a>(alloc: Global) -> Result<Command<'a>, AllocError>
     ensures { IfOk result (λ command. app_of command ≡ compile_app) }
 {
     with_compiling_options(
         alloc,
         file_command(alloc, "compile", "SRC")?.arg(required_of(alloc, "OUT"))?,
-    )
+    )?
+    .arg(option_of(alloc, "report"))
 }
 
 /// The text at a word that has to be there.
@@ -96,7 +100,7 @@ pub(crate) fn found_in<'a>(
 
 /// What was found in the words of `compile`, where the number of operations is in its range.
 fn compile_found<'a>(found: &ArgMatches<'a>) -> Result<CompileWords<'a>, Refused>
-    ensures asked { IfOk result (λ asked. Some (Compile asked.source.now asked.out.now (option_map (λ s. s.now) asked.profile) (option_map (λ s. s.now) asked.machine) asked.growth) ≡ compile_unless [] (rows_of (found_of found.now))) }
+    ensures asked { IfOk result (λ asked. Some (Compile (compilation_of asked)) ≡ compile_unless [] (rows_of (found_of found.now))) }
     ensures refused { IfErr result (λ refused. (refused.status ≡ Status.Usage) × (None ≡ compile_unless [] (rows_of (found_of found.now)))) }
 {
     match growth_of(found.get_str("growth")) {
@@ -106,6 +110,7 @@ fn compile_found<'a>(found: &ArgMatches<'a>) -> Result<CompileWords<'a>, Refused
             profile: found.get_str("profile"),
             machine: found.get_str("machine"),
             growth,
+            report: found.get_str("report"),
         }),
         None => Err(without_text(Status::Usage)),
     }
@@ -118,7 +123,7 @@ fn read_words<'a>(
     words: &'a [&'a str],
 ) -> Result<CompileWords<'a>, Refused>
     requires { app_of command ≡ compile_app }
-    ensures asked { IfOk result (λ asked. compile_of (map (λ w. w.now) words.now) ≡ Some (Compile asked.source.now asked.out.now (option_map (λ s. s.now) asked.profile) (option_map (λ s. s.now) asked.machine) asked.growth)) }
+    ensures asked { IfOk result (λ asked. compile_of (map (λ w. w.now) words.now) ≡ Some (Compile (compilation_of asked))) }
     ensures refused { IfErr result (λ refused. (refused.status ≡ Status.NoMemory) ⊎ ((refused.status ≡ Status.Usage) × (compile_of (map (λ w. w.now) words.now) ≡ None))) }
 {
     match found_in(alloc, command, words) {
@@ -139,7 +144,7 @@ fn status_of(error: &Error) -> Status
 
 /// What the words of `compile` ask for, the program's name first, or their refusal.
 pub(crate) fn asked_of<'a>(alloc: Global, words: &'a [&'a str]) -> Result<CompileWords<'a>, Refused>
-    ensures asked { IfOk result (λ asked. compile_of (map (λ w. w.now) words.now) ≡ Some (Compile asked.source.now asked.out.now (option_map (λ s. s.now) asked.profile) (option_map (λ s. s.now) asked.machine) asked.growth)) }
+    ensures asked { IfOk result (λ asked. compile_of (map (λ w. w.now) words.now) ≡ Some (Compile (compilation_of asked))) }
     ensures refused { IfErr result (λ refused. (refused.status ≡ Status.NoMemory) ⊎ ((refused.status ≡ Status.Usage) × (compile_of (map (λ w. w.now) words.now) ≡ None))) }
 {
     match compile_command(alloc) {

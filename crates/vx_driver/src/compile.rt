@@ -1,14 +1,20 @@
-// The command `compile SRC OUT`.
+// The command `compile SRC OUT`: reads a source, a profile and a machine, compiles, and replaces the file of the words, and then that
+// of the report where one is asked.
 
 ghost use Rattle.std.specs.Prelude.{◌≡◌, ◌≤◌, ◌⊎◌, ℕ, List, Option, Some, Ok, true, length, is_some, option_map, IfOk, IfErr, IfSome};
 ghost use Rattle.vx_ast.specs.View as view;
-ghost use Rattle.vx_driver.specs.Answers.{effect_of, SourceAnswers, MachineAnswers, CompileAnswers, WriteAnswers, HoldsSource, HoldsProgram, TextOf, machine_found, Is, RefusesDescription, PutsText, MachineOrText, ProgramAnswers};
+ghost use Rattle.vx_driver.specs.Answers.{effect_of, SourceAnswers, MachineAnswers, CompileAnswers, WriteAnswers, ReportAnswers, HoldsSource, HoldsProgram, machine_found, Is, RefusesDescription, PutsTexts, MachineOrTexts, ProgramAnswers};
+ghost use Rattle.vx_driver.specs.Asked.{compilation_of};
+ghost use Rattle.vx_driver.specs.Stages.{MakesTexts};
+ghost use Rattle.vx_report.specs.Report.{names_of, report_text};
+ghost use Rattle.vx_words.specs.Text.{Spells};
 ghost use Rattle.vx_machine.specs.Descriptions.{reading};
 
+use crate::command::CompileWords;
 use crate::profiles::counts_for;
 use crate::reading::typed_of;
 use crate::status::Status;
-use crate::words::words_of;
+use crate::words;
 use std::alloc::Global;
 use vx_ast::typed::Typed;
 use vx_base::depot::{Depot, DepotFault};
@@ -17,6 +23,7 @@ use vx_base::reading::{FileRead, read_file};
 use vx_base::role::Role;
 use vx_machine::{Machine, MachineFault, from_toml};
 use vx_profile::counts::Counts;
+use vx_report::{Plan, report};
 use vx_words::write;
 
 /// The most bytes of a source.
@@ -121,27 +128,53 @@ pub(crate) fn machine_for<D: Depot>(
     }
 }
 
-/// The text of the words of a program, by counts and for a machine.
-fn text_of(
+/// The text of the words of a program, and that of the report, which is empty where none is asked.
+#[derive(Drop)]
+struct Texts {
+    words: Vec<u8>,
+    report: Vec<u8>,
+}
+
+/// The text of a report, where one is asked.
+fn report_for(
+    alloc: Global,
+    plan: &Plan,
+    program: &Typed,
+    asked: bool,
+) -> Result<Vec<u8>, NoMemory>
+    ensures { IfOk result (λ text. asked ≡ true → text.items ≡ report_text plan.now (names_of (view.program_of program.now.program))) }
+{
+    if asked {
+        report(alloc, plan, program)
+    } else {
+        Ok(Vec::new(alloc))
+    }
+}
+
+/// The texts of a program, by counts and for a machine.
+fn texts_of(
     alloc: Global,
     program: &Typed,
     counts: &Counts,
     machine: &Machine,
     growth: u32,
-) -> Result<Vec<u8>, NoMemory>
-    ensures { IfOk result (λ text. TextOf (view.program_of program.now.program) machine.now text.items) }
+    reports: bool,
+) -> Result<Texts, NoMemory>
+    ensures { IfOk result (λ texts. MakesTexts (view.program_of program.now.program) counts.now machine.now growth reports texts.words.items texts.report.items) }
 {
-    let words = words_of(alloc, program, counts, machine, growth)?;
-    write(alloc, &words)
+    let compiled = words::compile(alloc, program, counts, machine, growth)?;
+    let words = write(alloc, &compiled.words)?;
+    let report = report_for(alloc, &compiled.plan, program, reports)?;
+    Ok(Texts { words, report })
 }
 
 /// Puts a text under a name.
-fn write_text<D: Depot>(depot: &mut D, out: &str, text: &[u8]) -> Status
-    ensures answers { WriteAnswers out.now text.now (effect_of D.files D.failed_reads D.failed_replaces depot.old depot.new) result }
+fn write_text<D: Depot>(depot: &mut D, name: &str, text: &[u8]) -> Status
+    ensures answers { WriteAnswers name.now text.now (effect_of D.files D.failed_reads D.failed_replaces depot.old depot.new) result }
     ensures reads_never_fall { D.failed_reads depot.old ≤ D.failed_reads depot.new }
     ensures replaces_never_fall { D.failed_replaces depot.old ≤ D.failed_replaces depot.new }
 {
-    match depot.replace(out, text) {
+    match depot.replace(name, text) {
         Ok(()) => Status::Done,
         Err(DepotFault::Failed) => Status::WriteFault,
         Err(DepotFault::NoMemory) => Status::NoMemory,
@@ -149,82 +182,102 @@ fn write_text<D: Depot>(depot: &mut D, out: &str, text: &[u8]) -> Status
     }
 }
 
-/// Writes the words of a program that was read from the source's file for a machine that the command asks for.
+/// Puts the text of the words under its name, and then the report under its own, where one is asked.
+fn write_texts<D: Depot>(
+    depot: &mut D,
+    out: &str,
+    text: &[u8],
+    name: Option<&str>,
+    report: &[u8],
+) -> Status
+    ensures answers { ReportAnswers out.now text.now (option_map (λ s. s.now) name.entry) report.now (effect_of D.files D.failed_reads D.failed_replaces depot.old depot.new) result }
+    ensures reads_never_fall { D.failed_reads depot.old ≤ D.failed_reads depot.new }
+    ensures replaces_never_fall { D.failed_replaces depot.old ≤ D.failed_replaces depot.new }
+{
+    match name {
+        Some(name) => match write_text(depot, out, text) {
+            Status::Done => write_text(depot, name, report),
+            status => status,
+        },
+        None => write_text(depot, out, text),
+    }
+}
+
+/// Writes the texts of a program that was read from the source's file for a machine that the command asks for.
 fn compile_for<D: Depot>(
     alloc: Global,
     depot: &mut D,
     program: &Typed,
     counts: &Counts,
     machine: &Machine,
-    growth: u32,
-    out: &str,
+    asked: &CompileWords,
 ) -> Status
-    ensures answers { ((result ≡ Status.NoMemory) × (D.files depot.new ≡ D.files depot.old)) ⊎ PutsText (view.program_of program.now.program) machine.now out.now (effect_of D.files D.failed_reads D.failed_replaces depot.old depot.new) result }
+    ensures answers { ((result ≡ Status.NoMemory) × (D.files depot.new ≡ D.files depot.old)) ⊎ PutsTexts (view.program_of program.now.program) counts.now machine.now asked.now.growth asked.now.out.now (option_map (λ s. s.now) asked.now.report) (effect_of D.files D.failed_reads D.failed_replaces depot.old depot.new) result }
     ensures reads_never_fall { D.failed_reads depot.old ≤ D.failed_reads depot.new }
     ensures replaces_never_fall { D.failed_replaces depot.old ≤ D.failed_replaces depot.new }
 {
-    match text_of(alloc, program, counts, machine, growth) {
-        Ok(text) => write_text(depot, out, text.as_slice()),
+    match texts_of(
+        alloc,
+        program,
+        counts,
+        machine,
+        asked.growth,
+        asked.report.is_some(),
+    ) {
+        Ok(texts) => write_texts(
+            depot,
+            asked.out,
+            texts.words.as_slice(),
+            asked.report,
+            texts.report.as_slice(),
+        ),
         Err(_) => Status::NoMemory,
     }
 }
 
-/// Writes the words of a program that was read from the source's file, by counts and for the machine of the command.
+/// Writes the texts of a program that was read from the source's file, by counts and for the machine of the command.
 fn compile_by<D: Depot>(
     alloc: Global,
     depot: &mut D,
     program: &Typed,
     counts: &Counts,
-    out: &str,
-    machine: Option<&str>,
-    growth: u32,
+    asked: &CompileWords,
 ) -> Status
-    ensures answers { MachineOrText (view.program_of program.now.program) out.now (option_map (λ s. s.now) machine.entry) (effect_of D.files D.failed_reads D.failed_replaces depot.old depot.new) result }
+    ensures answers { MachineOrTexts (view.program_of program.now.program) counts.now (compilation_of asked.now) (effect_of D.files D.failed_reads D.failed_replaces depot.old depot.new) result }
     ensures reads_never_fall { D.failed_reads depot.old ≤ D.failed_reads depot.new }
     ensures replaces_never_fall { D.failed_replaces depot.old ≤ D.failed_replaces depot.new }
 {
-    match machine_for(alloc, depot, machine) {
-        Ok(asked) => compile_for(alloc, depot, program, counts, &asked, growth, out),
+    match machine_for(alloc, depot, asked.machine) {
+        Ok(machine) => compile_for(alloc, depot, program, counts, &machine, asked),
         Err(status) => status,
     }
 }
 
-/// Writes the words of a program that was read from the source's file, by the profile and for the machine of the command.
+/// Writes the texts of a program that was read from the source's file, by the profile and for the machine of the command.
 fn compile_read<D: Depot>(
     alloc: Global,
     depot: &mut D,
     program: &Typed,
-    out: &str,
-    profile: Option<&str>,
-    machine: Option<&str>,
-    growth: u32,
+    asked: &CompileWords,
 ) -> Status
-    ensures answers { ProgramAnswers (view.program_of program.now.program) out.now (option_map (λ s. s.now) profile.entry) (option_map (λ s. s.now) machine.entry) (effect_of D.files D.failed_reads D.failed_replaces depot.old depot.new) result }
+    ensures answers { ProgramAnswers (view.program_of program.now.program) (compilation_of asked.now) (effect_of D.files D.failed_reads D.failed_replaces depot.old depot.new) result }
     ensures reads_never_fall { D.failed_reads depot.old ≤ D.failed_reads depot.new }
     ensures replaces_never_fall { D.failed_replaces depot.old ≤ D.failed_replaces depot.new }
 {
-    match counts_for(alloc, depot, profile) {
-        Ok(counts) => compile_by(alloc, depot, program, &counts, out, machine, growth),
+    match counts_for(alloc, depot, asked.profile) {
+        Ok(counts) => compile_by(alloc, depot, program, &counts, asked),
         Err(status) => status,
     }
 }
 
-/// Compiles the file of the source into the file of the output.
-pub(crate) fn compile<D: Depot>(
-    alloc: Global,
-    depot: &mut D,
-    source: &str,
-    out: &str,
-    profile: Option<&str>,
-    machine: Option<&str>,
-    growth: u32,
-) -> Status
-    ensures answers { CompileAnswers source.now out.now (option_map (λ s. s.now) profile.entry) (option_map (λ s. s.now) machine.entry) (effect_of D.files D.failed_reads D.failed_replaces depot.old depot.new) result }
+/// Compiles the file of the source into the file of the output, and reports the plan in a file where one is named.
+pub(crate) fn compile<D: Depot>(alloc: Global, depot: &mut D, asked: &CompileWords) -> Status
+    ensures answers { CompileAnswers (compilation_of asked.now) (effect_of D.files D.failed_reads D.failed_replaces depot.old depot.new) result }
     ensures reads_never_fall { D.failed_reads depot.old ≤ D.failed_reads depot.new }
     ensures replaces_never_fall { D.failed_replaces depot.old ≤ D.failed_replaces depot.new }
 {
-    match read_through(alloc, depot, source) {
-        Ok(program) => compile_read(alloc, depot, &program, out, profile, machine, growth),
+    match read_through(alloc, depot, asked.source) {
+        Ok(program) => compile_read(alloc, depot, &program, asked),
         Err(status) => status,
     }
 }

@@ -6,10 +6,10 @@ ghost use Rattle.vx_base.specs.Arithmetic.{IsNumber};
 ghost use Rattle.vx_ast.specs.View as view;
 ghost use Rattle.vx_driver.specs.Answers.{effect_of, machine_found, Is, ProfileStands};
 ghost use Rattle.vx_driver.specs.Asked.{execution_of};
-ghost use Rattle.vx_driver.specs.Compiled.{Compiled};
+ghost use Rattle.vx_driver.specs.Stages.{IsCompiled};
 ghost use Rattle.vx_driver.specs.Status.{Adds};
 ghost use Rattle.vx_driver.specs.Simulated.{input_found, is_of_run, streams_of};
-ghost use Rattle.vx_driver.specs.Executed.{InputAnswers, Prepared, ExecutionAnswers, ExecAnswers};
+ghost use Rattle.vx_driver.specs.Executed.{CompiledBy, InputAnswers, Prepared, ExecutionAnswers, ExecAnswers};
 ghost use Rattle.vx_driver.specs.Ending.{loaded_of, AfterSource, LaterStops, StopsBefore};
 
 use crate::boxes::{probes_of, timing_of};
@@ -20,7 +20,7 @@ use crate::profiles::counts_for;
 use crate::run_words::ExecWords;
 use crate::running::{no_box, no_probe, run_loaded};
 use crate::status::{Status, tell};
-use crate::words::words_of;
+use crate::words::compile;
 use std::alloc::Global;
 use vx_ast::typed::Typed;
 use vx_base::depot::Depot;
@@ -41,12 +41,12 @@ fn load_words(
     requires { All IsNumber input.items }
     ensures machine { IfOk result (λ loaded. loaded.machine ≡ machine) }
     ensures input { IfOk result (λ loaded. loaded.input.items ≡ input.items) }
-    ensures compiled { IfOk result (λ loaded. Compiled (view.program_of program.now.program) loaded.machine loaded.program) }
+    ensures compiled { IfOk result (λ loaded. IsCompiled (view.program_of program.now.program) counts.now loaded.machine growth loaded.program) }
     ensures memory { IfErr result (λ status. status ≡ Status.NoMemory) }
 {
-    match words_of(alloc, program, counts, &machine, growth) {
-        Ok(words) => Ok(LoadedFiles {
-            program: words,
+    match compile(alloc, program, counts, &machine, growth) {
+        Ok(compiled) => Ok(LoadedFiles {
+            program: compiled.words,
             machine,
             input,
         }),
@@ -67,7 +67,7 @@ fn load_input<D: Depot>(
     ensures same_files { D.files depot.new ≡ D.files depot.old }
     ensures machine { IfOk result (λ loaded. loaded.machine ≡ machine) }
     ensures input { IfOk result (λ loaded. IfSome (D.files depot.old) (λ held. input_found held (option_map (λ s. s.now) name.entry) ≡ Ok loaded.input.items)) }
-    ensures compiled { IfOk result (λ loaded. Compiled (view.program_of program.now.program) loaded.machine loaded.program) }
+    ensures compiled { IfOk result (λ loaded. IsCompiled (view.program_of program.now.program) counts.now loaded.machine growth loaded.program) }
     ensures stops { IfErr result (λ status. (status ≡ Status.NoMemory) ⊎ ((is_some (option_map (λ s. s.now) name.entry) ≡ true) × InputAnswers (option_map (λ s. s.now) name.entry) (effect_of D.files D.failed_reads D.failed_replaces depot.old depot.new) status)) }
     ensures reads_never_fall { D.failed_reads depot.old ≤ D.failed_reads depot.new }
     ensures replaces_never_fall { D.failed_replaces depot.old ≤ D.failed_replaces depot.new }
@@ -91,7 +91,7 @@ fn load_machine<D: Depot>(
     ensures same_files { D.files depot.new ≡ D.files depot.old }
     ensures machine { IfOk result (λ loaded. IfSome (D.files depot.old) (λ held. machine_found held (option_map (λ s. s.now) machine.entry) ≡ Is loaded.machine)) }
     ensures input { IfOk result (λ loaded. IfSome (D.files depot.old) (λ held. input_found held (option_map (λ s. s.now) input.entry) ≡ Ok loaded.input.items)) }
-    ensures compiled { IfOk result (λ loaded. Compiled (view.program_of program.now.program) loaded.machine loaded.program) }
+    ensures compiled { IfOk result (λ loaded. IsCompiled (view.program_of program.now.program) counts.now loaded.machine growth loaded.program) }
     ensures stops { IfErr result (LaterStops (option_map (λ s. s.now) machine.entry) (option_map (λ s. s.now) input.entry) (effect_of D.files D.failed_reads D.failed_replaces depot.old depot.new)) }
     ensures reads_never_fall { D.failed_reads depot.old ≤ D.failed_reads depot.new }
     ensures replaces_never_fall { D.failed_replaces depot.old ≤ D.failed_replaces depot.new }
@@ -116,7 +116,7 @@ fn load_profile<D: Depot>(
     ensures profiled { IfOk result (λ _. IfSome (D.files depot.old) (λ held. ProfileStands held (option_map (λ s. s.now) profile.entry))) }
     ensures machine { IfOk result (λ loaded. IfSome (D.files depot.old) (λ held. machine_found held (option_map (λ s. s.now) machine.entry) ≡ Is loaded.machine)) }
     ensures input { IfOk result (λ loaded. IfSome (D.files depot.old) (λ held. input_found held (option_map (λ s. s.now) input.entry) ≡ Ok loaded.input.items)) }
-    ensures compiled { IfOk result (λ loaded. Compiled (view.program_of program.now.program) loaded.machine loaded.program) }
+    ensures compiled { IfOk result (λ loaded. CompiledBy (D.files depot.old) (option_map (λ s. s.now) profile.entry) growth (view.program_of program.now.program) loaded.machine loaded.program) }
     ensures stops { IfErr result (AfterSource (option_map (λ s. s.now) profile.entry) (option_map (λ s. s.now) machine.entry) (option_map (λ s. s.now) input.entry) (effect_of D.files D.failed_reads D.failed_replaces depot.old depot.new)) }
     ensures reads_never_fall { D.failed_reads depot.old ≤ D.failed_reads depot.new }
     ensures replaces_never_fall { D.failed_replaces depot.old ≤ D.failed_replaces depot.new }

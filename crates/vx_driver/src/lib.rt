@@ -7,6 +7,7 @@ mod compile;
 mod exec;
 mod input;
 pub mod laws;
+mod layouts;
 mod loaded;
 mod loading;
 mod options;
@@ -20,6 +21,8 @@ mod running;
 mod sim;
 pub mod status;
 pub mod top;
-mod words;
+pub mod words;
 
 pub use top::vexc;
+pub use vx_report::{Plan, report};
+pub use words::{CompiledProgram, compile};

@@ -51,15 +51,7 @@ fn perform_compile<D: Depot, E: Sink>(
 {
     match asked_of(alloc, words) {
         Ok(asked) => {
-            let status = compile(
-                alloc,
-                depot,
-                asked.source,
-                asked.out,
-                asked.profile,
-                asked.machine,
-                asked.growth,
-            );
+            let status = compile(alloc, depot, &asked);
             tell(err, status)
         }
         Err(refused) => refuse(err, &refused),

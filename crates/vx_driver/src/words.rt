@@ -1,13 +1,14 @@
-// From an accepted program to its words: its graphs, the blocks of each turned into regions, these laid out as words over values,
-// the values kept in registers and slots, and all finished as one program. The clause of `words_of` is the promise of the
-// compiler (specs/Compiled.antt); what holds between its steps stands in specs/Stages.antt.
+// From an accepted program to its words and the plan of them: its graphs, the blocks of each turned into regions, these laid out as
+// words over values, the values kept in registers and slots, and all finished as one program. The clause of `compile` is the
+// promise of the compiler (specs/Compiled.antt); what holds between its steps stands in specs/Stages.antt.
 
-ghost use Rattle.std.specs.Prelude.{◌≡◌, length, IfOk};
+ghost use Rattle.std.specs.Prelude.{◌≡◌, ◌+◌, IfOk};
 ghost use Rattle.vx_ast.specs.View as view;
 ghost use Rattle.vx_lower.specs.FlowOf.{FlowOf};
-ghost use Rattle.vx_driver.specs.Compiled.{Compiled};
-ghost use Rattle.vx_driver.specs.Stages.{AllBegin, AreInside, AreLayoutsOf, AreMapsOf, Begins, IsLayoutOf, StageLaws};
+ghost use Rattle.vx_driver.specs.Compiled.{AreMapsOf, Compiled, all_in_slots, in_slots, slot_of};
+ghost use Rattle.vx_driver.specs.Stages.{AreFinished, AreInside, AreLayoutsOf, StageLaws};
 
+use crate::layouts::layouts_of;
 use crate::ranges::numbers_fit;
 use std::alloc::Global;
 use vx_ast::typed::Typed;
@@ -16,24 +17,39 @@ use vx_base::listed::Listed;
 use vx_base::outcome::NoMemory;
 use vx_clean::clean;
 use vx_facts::narrow;
-use vx_flow::graph::{Flow, Graph};
-use vx_frame::finish;
+use vx_flow::graph::Flow;
 use vx_frame::laws::frames_keep_to_the_machine;
+use vx_frame::{TracePlaces, finish};
 use vx_isa::laws::{any_timing_law, path_strict_law};
 use vx_isa::program::WordProgram;
 use vx_lower::lower;
 use vx_machine::Machine;
-use vx_mixed::Mixed;
 use vx_mixed::laws::{
     blocks_mean_the_graph, drains_stay_brief, layouts_keep_the_meaning,
     replaced_programs_run_the_same,
 };
 use vx_mixed::layout::VWords;
 use vx_profile::counts::Counts;
-use vx_region::laws::{all_steps_keep_the_graph, graphs_begin_so};
-use vx_region::{Budget, all_regions};
-use vx_regs::map::RegMap;
+use vx_regs::map::{Kept, RegMap};
 use vx_regs::registers;
+use vx_report::Plan;
+
+/// The words of a program, and how they were planned.
+#[derive(Drop)]
+pub struct CompiledProgram {
+    /// The words.
+    pub words: WordProgram,
+    /// The plan.
+    pub plan: Plan,
+}
+
+/// Layouts that are finished as words.
+#[derive(Drop)]
+struct FinishedProgram {
+    words: WordProgram,
+    places: Listed<TracePlaces>,
+    spilled: u32,
+}
 
 /// The laws by which each stage does what the one before it does.
 fn stages_do_the_same()
@@ -49,57 +65,6 @@ fn stages_do_the_same()
     any_timing_law();
 }
 
-/// The layout of the function with a number, all of it turned into regions, one picked trace after the other. Its counts are
-/// those under its number.
-fn layout_of(
-    alloc: Global,
-    function: u32,
-    graph: &Graph,
-    counts: &Counts,
-    machine: &Machine,
-    budget: &mut Budget,
-) -> Result<VWords, NoMemory>
-    requires { Begins graph.now }
-    ensures { IfOk result (λ layout. IsLayoutOf machine.now function graph.now layout) }
-{
-    machine.keeps_ranges();
-    graphs_begin_so();
-    all_steps_keep_the_graph();
-    let mut begun = Mixed::from_graph(alloc, graph)?;
-    begun.set_function(function);
-    begun.keeps_valid();
-    let regions = all_regions(alloc, begun, counts, machine, budget)?;
-    regions.mixed.keeps_valid();
-    regions.mixed.lay_out(alloc)
-}
-
-/// The number of the function whose layout comes behind these.
-fn number_of(layouts: &Listed<VWords>) -> u32
-    ensures { result ≡ length layouts.now }
-{
-    layouts.len() as u32
-}
-
-/// The layouts of functions. At most so many operations are copied in all of them.
-fn layouts_of(
-    alloc: Global,
-    graphs: &[Graph],
-    counts: &Counts,
-    machine: &Machine,
-    growth: u32,
-) -> Result<Listed<VWords>, NoMemory>
-    requires { AllBegin graphs.now }
-    ensures { IfOk result (λ layouts. AreLayoutsOf machine.now graphs.now layouts) }
-{
-    let mut budget = Budget::make(growth);
-    let mut layouts = Listed::new(alloc);
-    for graph in graphs {
-        let function = number_of(&layouts);
-        layouts.push(layout_of(alloc, function, graph, counts, machine, &mut budget)?)?;
-    }
-    Ok(layouts)
-}
-
 /// Where the values of each function are kept.
 fn maps_of(alloc: Global, layouts: &[VWords], machine: &Machine) -> Result<Listed<RegMap>, NoMemory>
     requires { AreInside layouts.now }
@@ -110,6 +75,50 @@ fn maps_of(alloc: Global, layouts: &[VWords], machine: &Machine) -> Result<Liste
         maps.push(registers(alloc, layout, machine)?)?;
     }
     Ok(maps)
+}
+
+/// 1 for a slot.
+fn slot_of(kept: &Kept) -> u32
+    ensures { result ≡ slot_of kept.now }
+{
+    match kept {
+        Kept::InRegister(_) => 0,
+        Kept::InSlot(_) => 1,
+        Kept::Nowhere => 0,
+    }
+}
+
+/// A sum below 2^32. A larger one counts as want of memory.
+fn sum_of(left: u32, right: u32) -> Result<u32, NoMemory>
+    ensures { IfOk result (λ sum. sum ≡ left + right) }
+{
+    match left.checked_add(right) {
+        Some(sum) => Ok(sum),
+        None => Err(NoMemory),
+    }
+}
+
+/// How many values of a function are in slots.
+fn slots_in(values: &[Kept]) -> Result<u32, NoMemory>
+    ensures { IfOk result (λ count. count ≡ in_slots values.now) }
+{
+    let mut count = 0;
+    for kept in values {
+        count = sum_of(count, slot_of(kept))?;
+    }
+    Ok(count)
+}
+
+/// How many values of all functions are in slots.
+fn all_slots_in(maps: &[RegMap]) -> Result<u32, NoMemory>
+    ensures { IfOk result (λ count. count ≡ all_in_slots maps.now) }
+{
+    let mut count = 0;
+    for map in maps {
+        let more = slots_in(map.values.as_slice())?;
+        count = sum_of(count, more)?;
+    }
+    Ok(count)
 }
 
 /// The graphs of a program from which its words are made and whose blocks a profile counts: lowered and cleaned, then narrowed
@@ -124,22 +133,53 @@ pub(crate) fn flow_of(alloc: Global, program: &Typed) -> Result<Flow, NoMemory>
     Ok(flow)
 }
 
-/// The words of a program for a machine. Its traces are picked by counts; at most so many operations are copied.
-pub(crate) fn words_of(
+/// The words of layouts, with their values kept in registers and slots.
+fn finished_of(
+    alloc: Global,
+    flow: &Flow,
+    layouts: &[VWords],
+    machine: &Machine,
+) -> Result<FinishedProgram, NoMemory>
+    requires { AreLayoutsOf machine.now flow.now.functions layouts.now }
+    ensures { IfOk result (λ x. AreFinished machine.now flow.now layouts.now x.words x.spilled) }
+{
+    stages_do_the_same();
+    machine.keeps_ranges();
+    let maps = maps_of(alloc, layouts, machine)?;
+    let spilled = all_slots_in(maps.as_slice())?;
+    let finished = finish(alloc, layouts, maps.as_slice(), flow, machine)?;
+    numbers_fit(&finished.program);
+    Ok(FinishedProgram {
+        words: finished.program,
+        places: finished.places,
+        spilled,
+    })
+}
+
+/// The words of an accepted program for a machine, and how they were planned. Its traces are picked by counts of blocks and edges,
+/// whatever these are; at most so many operations are copied onto the edges of splits and joins. `Err` comes only where memory
+/// runs out.
+pub fn compile(
     alloc: Global,
     program: &Typed,
     counts: &Counts,
     machine: &Machine,
     growth: u32,
-) -> Result<WordProgram, NoMemory>
-    ensures { IfOk result (λ words. Compiled (view.program_of program.now.program) machine.now words) }
+) -> Result<CompiledProgram, NoMemory>
+    ensures { IfOk result (λ x. Compiled (view.program_of program.now.program) counts.now machine.now growth x.words x.plan) }
 {
     stages_do_the_same();
     machine.keeps_ranges();
     let flow = flow_of(alloc, program)?;
-    let layouts = layouts_of(alloc, flow.functions.as_slice(), counts, machine, growth)?;
-    let maps = maps_of(alloc, layouts.as_slice(), machine)?;
-    let finished = finish(alloc, layouts.as_slice(), maps.as_slice(), &flow, machine)?;
-    numbers_fit(&finished.program);
-    Ok(finished.program)
+    let laid = layouts_of(alloc, flow.functions.as_slice(), counts, machine, growth)?;
+    let finished = finished_of(alloc, &flow, laid.layouts.as_slice(), machine)?;
+    Ok(CompiledProgram {
+        words: finished.words,
+        plan: Plan {
+            traces: laid.traces,
+            places: finished.places,
+            spilled: finished.spilled,
+            copies: laid.copies,
+        },
+    })
 }

@@ -9,4 +9,5 @@ pub returns : goal.returns
 unfolding compile_app
 returns c =
     let files = c.in_ok-arg.ensures.shape c.required_of.ensures.local ∙ ap₂ with_rule c.in_ok-file_command.ensures c.required_of.ensures.rule in
-    IfOk-weaker c.with_compiling_options.result _ (λ command. app_of command ≡ compile_app) (λ command is. is ∙ ap with_compiling_options files) c.with_compiling_options.ensures
+    let options = c.in_ok-with_compiling_options.ensures ∙ ap with_compiling_options files in
+    IfOk-weaker c.arg-2.result _ (λ command. app_of command ≡ compile_app) (λ command is. is.shape c.option_of.ensures.local ∙ ap₂ with_rule options c.option_of.ensures.rule) c.arg-2.ensures

@@ -2,13 +2,14 @@
 use Rattle.std.proofs.Common.{refl, sym}
 use Rattle.vx_ast.specs.View.{program_of}
 use Rattle.vx_driver.specs.Answers.{effect_of}
+use Rattle.vx_driver.specs.Asked.{compilation_of}
 use Rattle.vx_driver.proofs.Answering.{compiled_answers, stops_at_source}
 use Rattle.vx_driver.proofs.compile.compile.Goals as goal
 
 pub returns-in-Ok-clause-answers : goal.returns-in-Ok-clause-answers
 returns-in-Ok-clause-answers g c =
     let depot = g.D.Depot in
-    compiled_answers c.args.source.now c.args.out.now _ _ (program_of c.in-Ok.program.program)
+    compiled_answers (compilation_of c.args.asked.now) (program_of c.in-Ok.program.program)
     (effect_of depot.files depot.failed_reads depot.failed_replaces c.read_through.new.depot c.compile_read.new.depot)
     (effect_of depot.files depot.failed_reads depot.failed_replaces c.args.depot.now c.compile_read.new.depot)
     c.compile_read.result
@@ -23,4 +24,4 @@ returns-in-Ok-clause-answers g c =
     c.in-Ok.ensures.program c.compile_read.ensures.answers
 
 pub returns-in-Err-clause-answers : goal.returns-in-Err-clause-answers
-returns-in-Err-clause-answers g c = stops_at_source _ _ _ _ _ _ c.in-Err.ensures.answers
+returns-in-Err-clause-answers g c = stops_at_source (compilation_of c.args.asked.now) _ _ c.in-Err.ensures.answers

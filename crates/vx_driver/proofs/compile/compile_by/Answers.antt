@@ -1,14 +1,15 @@
--- The machine was found before the words were written, and finding it changed no file.
+-- The machine was found before the texts were written, and finding it changed no file.
 use Rattle.std.proofs.Common.{refl, sym}
 use Rattle.vx_ast.specs.View.{program_of}
 use Rattle.vx_driver.specs.Answers.{effect_of}
+use Rattle.vx_driver.specs.Asked.{compilation_of}
 use Rattle.vx_driver.proofs.Answering.{for_machine}
 use Rattle.vx_driver.proofs.compile.compile_by.Goals as goal
 
 pub returns-in-Ok-clause-answers : goal.returns-in-Ok-clause-answers
 returns-in-Ok-clause-answers g c =
     let depot = g.D.Depot in
-    for_machine (program_of c.args.program.now.program) _ c.args.out.now _
+    for_machine (program_of c.args.program.now.program) c.args.counts.now c.in-Ok.machine (compilation_of c.args.asked.now)
     (effect_of depot.files depot.failed_reads depot.failed_replaces c.machine_for.new.depot c.compile_for.new.depot)
     (effect_of depot.files depot.failed_reads depot.failed_replaces c.args.depot.now c.compile_for.new.depot)
     c.compile_for.result

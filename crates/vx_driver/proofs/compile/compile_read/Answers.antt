@@ -1,16 +1,16 @@
 -- The profile was read before the machine, and reading it changed no file.
-use Rattle.std.proofs.Common.{inl, refl, sym, option_map}
+use Rattle.std.proofs.Common.{inl, refl, sym}
 use Rattle.vx_ast.specs.View.{program_of}
 use Rattle.vx_driver.specs.Answers.{effect_of}
+use Rattle.vx_driver.specs.Asked.{compilation_of}
 use Rattle.vx_driver.proofs.Answering.{by_profile}
 use Rattle.vx_driver.proofs.FileSteps.{still_some}
-use Rattle.vx_driver.proofs.ProfileFile.{stands}
 use Rattle.vx_driver.proofs.compile.compile_read.Goals as goal
 
 pub returns-in-Ok-clause-answers : goal.returns-in-Ok-clause-answers
 returns-in-Ok-clause-answers g c =
     let depot = g.D.Depot in
-    by_profile (program_of c.args.program.now.program) c.args.out.now _ _
+    by_profile (program_of c.args.program.now.program) c.in-Ok.counts (compilation_of c.args.asked.now)
     (effect_of depot.files depot.failed_reads depot.failed_replaces c.counts_for.new.depot c.compile_by.new.depot)
     (effect_of depot.files depot.failed_reads depot.failed_replaces c.args.depot.now c.compile_by.new.depot)
     c.compile_by.result
@@ -22,7 +22,7 @@ returns-in-Ok-clause-answers g c =
       replaces = c.in-Ok.ensures.replaces_never_fall;
       replaces_after = refl;
     })
-    (stands (option_map (λ s. s.now) c.args.profile) (depot.files c.args.depot.now) c.in-Ok.counts c.in-Ok.ensures.counts) c.compile_by.ensures.answers
+    c.in-Ok.ensures.counts c.compile_by.ensures.answers
 
 pub returns-in-Err-clause-answers : goal.returns-in-Err-clause-answers
-returns-in-Err-clause-answers g c = inl (record { named = still_some _ c.args.profile c.in-Err.ensures.named; answers = c.in-Err.ensures.answers })
+returns-in-Err-clause-answers g c = inl (record { named = still_some _ c.args.asked.now.profile c.in-Err.ensures.named; answers = c.in-Err.ensures.answers })

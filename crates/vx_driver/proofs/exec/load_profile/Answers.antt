@@ -24,6 +24,10 @@ returns-in-Ok-clause-input g c =
     (λ loaded is. subst (λ b. IfSome b (λ held. input_found held (option_map (λ s. s.now) c.args.input) ≡ Ok loaded.input.items)) c.in-Ok.ensures.same_files is)
     c.load_machine.ensures.input
 
+pub returns-in-Ok-clause-compiled : goal.returns-in-Ok-clause-compiled
+returns-in-Ok-clause-compiled g c =
+    IfOk-weaker c.load_machine.result _ _ (λ loaded is. record { counts = c.in-Ok.counts; counted = c.in-Ok.ensures.counts; plan = is.plan; compiled = is.compiled }) c.load_machine.ensures.compiled
+
 pub returns-in-Ok-clause-stops : goal.returns-in-Ok-clause-stops
 returns-in-Ok-clause-stops g c =
     let depot = g.D.Depot in

@@ -11,4 +11,4 @@ registers-requires-clause-entry c = (c.requires c.loop-layout.layout-index c.lay
 pub loop-layout-preserved : goal.loop-layout-preserved
 loop-layout-preserved c =
     maps_step c.args.machine.now c.args.layouts.now c.loop-layout.layout-index c.layout-item.result c.loop-layout.maps c.push.new.self c.in_ok-registers.field-0 c.loop-layout-test.true c.layout-item.is
-    c.loop-layout.invariant c.in_ok-registers.ensures.keeps c.in_ok-push.ensures.ok
+    c.loop-layout.invariant c.in_ok-registers.ensures c.in_ok-push.ensures.ok

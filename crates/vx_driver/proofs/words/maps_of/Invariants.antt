@@ -1,6 +1,6 @@
 -- The layouts so far have their maps.
 use Rattle.std.proofs.Common.{take}
-use Rattle.vx_driver.specs.Stages.{AreMapsOf}
+use Rattle.vx_driver.specs.Compiled.{AreMapsOf}
 use Rattle.vx_driver.proofs.words.maps_of.Given as goal
 
 abbrev pub invariant-loop-layout : goal.invariant-loop-layout

@@ -1,11 +1,8 @@
 -- A graph begins as one of blocks, and ends as one of regions that does the same.
 use Rattle.std.proofs.Common.{◌≡◌, ◌<◌, length, arith, subst, sym}
-use Rattle.std.proofs.lemmas.Result.{IfOk-weaker}
-use Rattle.vx_mixed.specs.Layout.{layout_of}
-use Rattle.vx_region.specs.Regions.{AllReplaced, IsGraphOf}
-use Rattle.vx_driver.specs.Stages.{IsLayoutOf}
+use Rattle.vx_region.specs.Regions.{AllReplaced, IsGraphOf, ReplacesAll}
 use Rattle.vx_driver.proofs.OneFunction.{same_count}
-use Rattle.vx_driver.proofs.words.layout_of.Goals as goal
+use Rattle.vx_driver.proofs.layouts.layout_of.Goals as goal
 
 pub all_regions-requires : goal.all_regions-requires
 all_regions-requires c = record {
@@ -26,8 +23,8 @@ lay_out-requires c =
     begun c.in_ok-regions.ensures.regions in
     replaced.done
 
-pub returns : goal.returns
-returns c =
+pub returns-clause-laid : goal.returns-clause-laid
+returns-clause-laid c =
     let first = c.in_ok-begun.begun in
     let begun : IsGraphOf c.args.machine.now c.args.graph.now c.set_function.new.self =
     subst (IsGraphOf c.args.machine.now c.args.graph.now) (sym c.set_function.ensures)
@@ -37,10 +34,13 @@ returns c =
     subst (λ m. AllReplaced c.args.machine.now c.args.graph.now m done) c.set_function.ensures
     (c.all_steps_keep_the_graph.ensures c.args.machine.now c.args.counts.now c.args.budget.now.cap c.args.budget.now.used c.all_regions.new.budget.used c.args.graph.now c.set_function.new.self done c.in_ok-regions.regions.plans c.keeps_valid.ensures
     begun c.in_ok-regions.ensures.regions) in
+    let all : ReplacesAll c.args.machine.now c.args.counts.now c.args.budget.now.cap (record first { function = c.args.function }) c.args.budget.now.used c.in_ok-regions.regions.plans done c.all_regions.new.budget.used =
+    subst (λ m. ReplacesAll c.args.machine.now c.args.counts.now c.args.budget.now.cap m c.args.budget.now.used c.in_ok-regions.regions.plans done c.all_regions.new.budget.used) c.set_function.ensures c.in_ok-regions.ensures.regions in
     let many = replaced.many in
     let same = same_count c.args.graph.now first c.in_ok-begun.ensures in
     let has = c.requires.some in
     let some : 0 < length done.nodes = omega (arith, many, same, has) in
-    IfOk-weaker c.lay_out.result (λ words. words ≡ layout_of done) (λ l. IsLayoutOf c.args.machine.now c.args.function c.args.graph.now l)
-    (λ l is. record { begun = first; from = c.in_ok-begun.ensures; done = done; valid = c.keeps_valid-2.ensures; some = some; replaced = replaced; is = is })
-    c.lay_out.ensures
+    record {
+      laid = record { begun = first; from = c.in_ok-begun.ensures; done = done; valid = c.keeps_valid-2.ensures; some = some; replaced = replaced; is = c.in_ok-layout.ensures };
+      all = all;
+    }
