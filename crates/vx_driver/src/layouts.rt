@@ -49,6 +49,7 @@ fn layout_of(
     ensures laid { IfOk result (λ x. IsLaidOut machine.now counts.now budget.old.cap function graph.now budget.old.used x.traces x.layout budget.new.used) }
     ensures same_cap { budget.new.cap ≡ budget.old.cap }
 {
+    machine.keeps_ranges();
     graphs_begin_so();
     all_steps_keep_the_graph();
     let mut begun = Mixed::from_graph(alloc, graph)?;
