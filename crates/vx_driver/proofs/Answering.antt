@@ -1,8 +1,6 @@
 -- The answers of a command from those of its steps.
-use Rattle.std.proofs.Common.{◌≡◌, ◌≢◌, ◌⊎◌, inl, inr, ℕ, List, Option, Some, None, is_some, true, Result, Ok, Err, IfSome, IfOk, MatchOption, refl, sym, subst, ap, ◌∙◌, arith}
+use Rattle.std.proofs.Common.{◌≡◌, ◌≢◌, ◌⊎◌, inl, inr, ℕ, List, Option, Some, None, is_some, true, option_map, IfSome, MatchOption, refl, sym, subst, ap, ◌∙◌, arith}
 use Rattle.std.specs.Prelude.{IsSomeAnd, ◌≤◌, ◌<◌, ◌^◌, ◌-◌}
-use Rattle.std.specs.declared.alloc.Global.{Global}
-use Rattle.vx_base.specs.declared.outcome.NoMemory.{NoMemory as NoRoom}
 use Rattle.vx_base.specs.Outside.{Files, Rose, held_with, with_file, ReplacesPartly}
 use Rattle.vx_isa.specs.Numbers.{Numbers}
 use Rattle.vx_machine.specs.declared.description.MachineFault.TheVariants.{Bad}
@@ -198,6 +196,10 @@ at_profile asked e NoMemory a = inl a.answers
 
 -- an accepted source and a machine: texts were to be put
 
+pub some_named : {A B : Type 0} (f : A → B) (o : Option A) → is_some o ≡ is_some (option_map f o)
+some_named f None = refl
+some_named f (Some x) = refl
+
 -- the report's text is that of the plan, whether it was asked or not
 pub texts_made : (program : Program) (counts : Counts) (machine : Numbers) (growth : ℕ) (name : Option (List ℕ)) (out text report : List ℕ) (e : Effect) (status : Status) →
     MakesTexts program counts machine growth (is_some name) text report → ReportAnswers out text name report e status → PutsTexts program counts machine growth out name e status
@@ -213,25 +215,6 @@ texts_made program counts machine growth (Some name) out text report e status t 
   texts = record { words = t.words; plan = t.plan; compiled = t.compiled; spells = t.spells; reports = t.reports refl };
   answers = a;
 }
-
--- what a first and a second writing say together
-pub then_reported : (out text name report : List ℕ) (e : Effect) (mid : Option Files) (replaces : ℕ) (status : Status) → mid ≡ with_file e.before out text → e.replaces_before ≤ replaces →
-    WriteAnswers name report (record e { before = mid; replaces_before = replaces }) status → WriteAnswers name report (once_written out text e) status
-then_reported out text name report e mid replaces Done is le a = a ∙ ap (λ b. with_file b name report) is
-then_reported out text name report e mid replaces Usage is le a = absurd a
-then_reported out text name report e mid replaces (Trapped trap) is le a = absurd a
-then_reported out text name report e mid replaces (Words code line) is le a = absurd a
-then_reported out text name report e mid replaces Stopped is le a = absurd a
-then_reported out text name report e mid replaces (Input place) is le a = absurd a
-then_reported out text name report e mid replaces (Stuck reason place) is le a = absurd a
-then_reported out text name report e mid replaces (Source code line column) is le a = absurd a
-then_reported out text name report e mid replaces (Limit number count) is le a = absurd a
-then_reported out text name report e mid replaces (Profile code line) is le a = absurd a
-then_reported out text name report e mid replaces (Machine code field) is le a = absurd a
-then_reported out text name report e mid replaces (NoFile role) is le a = absurd a
-then_reported out text name report e mid replaces (ReadFault role) is le a = absurd a
-then_reported out text name report e mid replaces WriteFault is le a = (rose_since e.replaces_before replaces e.replaces_after le a.0, subst (λ b. ReplacesPartly b e.after name report) is a.1)
-then_reported out text name report e mid replaces NoMemory is le a = a ∙ is
 
 -- what was read, of a depot that tells its files
 all_of : (asked : Compilation) (program : Program) (counts : Counts) (numbers : Numbers) (text report : List ℕ) (b : Option Files) → IfSome b (λ held. HoldsProgram held asked.source program) →
@@ -339,7 +322,7 @@ written asked text report e status (Some name) is all (inr a) = reported asked t
 
 -- the same, looked at from an earlier moment
 
-write_since : (name text : List ℕ) (e f : Effect) (status : Status) → Since e f → WriteAnswers name text e status → WriteAnswers name text f status
+pub write_since : (name text : List ℕ) (e f : Effect) (status : Status) → Since e f → WriteAnswers name text e status → WriteAnswers name text f status
 write_since name text e f Done s is = s.after ∙ is ∙ ap (λ b. with_file b name text) (sym s.before)
 write_since name text e f Usage s is = absurd is
 write_since name text e f (Trapped trap) s is = absurd is

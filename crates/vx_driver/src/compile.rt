@@ -1,7 +1,7 @@
 // The command `compile SRC OUT`: reads a source, a profile and a machine, compiles, and replaces the file of the words, and then that
 // of the report where one is asked.
 
-ghost use Rattle.std.specs.Prelude.{◌≡◌, ◌≤◌, ◌⊎◌, ℕ, List, Option, Some, Ok, true, length, is_some, option_map, IfOk, IfErr, IfSome};
+ghost use Rattle.std.specs.Prelude.{◌≡◌, ◌≢◌, ◌≤◌, ◌⊎◌, ℕ, List, Option, Some, Ok, true, false, length, is_some, option_map, IfOk, IfErr, IfSome};
 ghost use Rattle.vx_ast.specs.View as view;
 ghost use Rattle.vx_driver.specs.Answers.{effect_of, SourceAnswers, MachineAnswers, CompileAnswers, WriteAnswers, ReportAnswers, HoldsSource, HoldsProgram, machine_found, Is, RefusesDescription, PutsTexts, MachineOrTexts, ProgramAnswers};
 ghost use Rattle.vx_driver.specs.Asked.{compilation_of};
@@ -182,6 +182,17 @@ fn write_text<D: Depot>(depot: &mut D, name: &str, text: &[u8]) -> Status
     }
 }
 
+/// Whether a command is done.
+fn is_done(status: Status) -> bool
+    ensures done { result ≡ true → status ≡ Status.Done }
+    ensures other { result ≡ false → status ≢ Status.Done }
+{
+    match status {
+        Status::Done => true,
+        _ => false,
+    }
+}
+
 /// Puts the text of the words under its name, and then the report under its own, where one is asked.
 fn write_texts<D: Depot>(
     depot: &mut D,
@@ -195,10 +206,14 @@ fn write_texts<D: Depot>(
     ensures replaces_never_fall { D.failed_replaces depot.old ≤ D.failed_replaces depot.new }
 {
     match name {
-        Some(name) => match write_text(depot, out, text) {
-            Status::Done => write_text(depot, name, report),
-            status => status,
-        },
+        Some(name) => {
+            let first = write_text(depot, out, text);
+            if is_done(first) {
+                write_text(depot, name, report)
+            } else {
+                first
+            }
+        }
         None => write_text(depot, out, text),
     }
 }
