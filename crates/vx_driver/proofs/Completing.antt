@@ -41,25 +41,16 @@ pub told_or : (Q : Type 0) (P : Files → Type 0) (b : Option Files) (held : Fil
 told_or Q P b held is h = subst (λ o. MatchOption o Q P) is h
 
 module _ (asked : Compilation) (held : Files) (e : Effect) (is : e.before ≡ Some held) (quiet_reads : ReadsRose e → ⊥) (quiet_replaces : ReplacesRose e → ⊥) where
-  abbrev source : List ℕ
-  source = asked.source
+  accepts_told : IfSome e.before (λ h. Accepts h asked.source) → Accepts held asked.source
+  accepts_told a = told (λ h. Accepts h asked.source) e.before held is a
 
-  abbrev profile : Option (List ℕ)
-  profile = asked.profile
-
-  abbrev machine : Option (List ℕ)
-  machine = asked.machine
-
-  accepts_told : IfSome e.before (λ h. Accepts h source) → Accepts held source
-  accepts_told a = told (λ h. Accepts h source) e.before held is a
-
-  stands_told : IfSome e.before (λ h. ProfileStands h profile) → ProfileStands held profile
-  stands_told a = told (λ h. ProfileStands h profile) e.before held is a
+  stands_told : IfSome e.before (λ h. ProfileStands h asked.profile) → ProfileStands held asked.profile
+  stands_told a = told (λ h. ProfileStands h asked.profile) e.before held is a
 
   same_limit : (number count : ℕ) → number ≡ 11 → count ≡ 65537 → Limit 11 65537 ≡ Limit number count
   same_limit number count a b = cc
 
-  told_ends : (status : Status) → CompileAnswers asked e status → Ends held source profile machine status
+  told_ends : (status : Status) → CompileAnswers asked e status → Ends held asked.source asked.profile asked.machine status
   told_ends Done a =
       let w : Writes asked held e.after = told (λ h. Writes asked h e.after) e.before held is a in
       done w.compiles.numbers (record { program = w.compiles.program; is = w.compiles.holds }) (record { counts = w.compiles.counts; are = w.compiles.counted }) w.compiles.machine_is
@@ -69,21 +60,21 @@ module _ (asked : Compilation) (held : Files) (e : Effect) (is : e.before ≡ So
   told_ends Stopped a = absurd a
   told_ends (Input place) a = absurd a
   told_ends (Stuck reason place) a = absurd a
-  told_ends (Source code line column) a = refused (told (λ h. Refuses h source (Source code line column)) e.before held is a.1)
-  told_ends (Limit number count) (inl a) = refused (told (λ h. Refuses h source (Limit number count)) e.before held is a.1)
-  told_ends (Limit number count) (inr (inl a)) = no_profile (accepts_told a.accepted) (told (λ h. RefusesProfile h profile (Limit number count)) e.before held is a.answers.3)
+  told_ends (Source code line column) a = refused (told (λ h. Refuses h asked.source (Source code line column)) e.before held is a.1)
+  told_ends (Limit number count) (inl a) = refused (told (λ h. Refuses h asked.source (Limit number count)) e.before held is a.1)
+  told_ends (Limit number count) (inr (inl a)) = no_profile (accepts_told a.accepted) (told (λ h. RefusesProfile h asked.profile (Limit number count)) e.before held is a.answers.3)
   told_ends (Limit number count) (inr (inr a)) =
-      let long : machine_found held machine ≡ TooLong = told (λ h. machine_found h machine ≡ TooLong) e.before held is a.answers.3 in
-      subst (Ends held source profile machine) (same_limit number count a.answers.0 a.answers.1) (long_machine (accepts_told a.accepted) (stands_told a.profiled) long)
-  told_ends (Profile code line) a = no_profile (accepts_told a.accepted) (told (λ h. RefusesProfile h profile (Profile code line)) e.before held is a.answers.1)
+      let long : machine_found held asked.machine ≡ TooLong = told (λ h. machine_found h asked.machine ≡ TooLong) e.before held is a.answers.3 in
+      subst (Ends held asked.source asked.profile asked.machine) (same_limit number count a.answers.0 a.answers.1) (long_machine (accepts_told a.accepted) (stands_told a.profiled) long)
+  told_ends (Profile code line) a = no_profile (accepts_told a.accepted) (told (λ h. RefusesProfile h asked.profile (Profile code line)) e.before held is a.answers.1)
   told_ends (Machine code field) a =
-      bad_machine code field (accepts_told a.accepted) (stands_told a.profiled) (told (λ h. machine_found h machine ≡ Refused (Bad code field)) e.before held is a.answers.1)
+      bad_machine code field (accepts_told a.accepted) (stands_told a.profiled) (told (λ h. machine_found h asked.machine ≡ Refused (Bad code field)) e.before held is a.answers.1)
   told_ends (NoFile TheWords) a = absurd a
   told_ends (NoFile TheInput) a = absurd a
-  told_ends (NoFile TheSource) a = no_source (told_or (ReadsRose e) (λ h. h source ≡ None) e.before held is a.2)
-  told_ends (NoFile TheProfile) a = no_profile (accepts_told a.accepted) (told_or (ReadsRose e) (λ h. RefusesProfile h profile (NoFile TheProfile)) e.before held is a.answers.2)
+  told_ends (NoFile TheSource) a = no_source (told_or (ReadsRose e) (λ h. h asked.source ≡ None) e.before held is a.2)
+  told_ends (NoFile TheProfile) a = no_profile (accepts_told a.accepted) (told_or (ReadsRose e) (λ h. RefusesProfile h asked.profile (NoFile TheProfile)) e.before held is a.answers.2)
   told_ends (NoFile TheMachine) a =
-      no_machine (accepts_told a.accepted) (stands_told a.profiled) (told_or (ReadsRose e) (λ h. machine_found h machine ≡ Missing) e.before held is a.answers.2)
+      no_machine (accepts_told a.accepted) (stands_told a.profiled) (told_or (ReadsRose e) (λ h. machine_found h asked.machine ≡ Missing) e.before held is a.answers.2)
   told_ends (ReadFault TheWords) a = absurd a
   told_ends (ReadFault TheInput) a = absurd a
   told_ends (ReadFault TheSource) a = absurd (quiet_reads a.2)

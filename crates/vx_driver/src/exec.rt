@@ -13,7 +13,7 @@ ghost use Rattle.vx_driver.specs.Executed.{CompiledBy, InputAnswers, Prepared, E
 ghost use Rattle.vx_driver.specs.Ending.{loaded_of, AfterSource, LaterStops, StopsBefore};
 
 use crate::boxes::{probes_of, timing_of};
-use crate::compile::{machine_for, read_through};
+use crate::compiling::{machine_for, read_through};
 use crate::loaded::LoadedFiles;
 use crate::loading::input_for;
 use crate::profiles::counts_for;

@@ -3,7 +3,7 @@
 
 mod boxes;
 mod command;
-mod compile;
+mod compiling;
 mod exec;
 mod input;
 pub mod laws;

@@ -12,7 +12,7 @@ ghost use Rattle.vx_driver.specs.Executed.{InputAnswers};
 ghost use Rattle.vx_driver.specs.Counted.{ProfilingAnswers};
 ghost use Rattle.vx_driver.specs.Counting.{IsCounted, CountedOn, CountedFor, PutsText, StopsProfiling};
 
-use crate::compile::read_through;
+use crate::compiling::read_through;
 use crate::loading::input_for;
 use crate::profile_words::ProfileWords;
 use crate::status::{Status, tell};

@@ -11,7 +11,7 @@ ghost use Rattle.vx_driver.specs.Simulated.{words_as, words_in, loading_input, l
 ghost use Rattle.vx_driver.specs.Ending.{loaded_of};
 
 use crate::boxes::{probes_of, timing_of};
-use crate::compile::machine_for;
+use crate::compiling::machine_for;
 use crate::loaded::LoadedFiles;
 use crate::loading::input_for;
 use crate::run_words::RunWords;

@@ -9,7 +9,7 @@ ghost use Rattle.vx_driver.specs.Boxes.{Boxes};
 ghost use Rattle.vx_driver.specs.Commands.{Answers, Completes, puts_output};
 
 use crate::command::{asked_of, refuse};
-use crate::compile::compile;
+use crate::compiling::compile;
 use crate::exec::execute_with;
 use crate::profile::profile;
 use crate::profile_words::profile_asked;

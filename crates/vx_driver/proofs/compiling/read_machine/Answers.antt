@@ -4,7 +4,7 @@ use Rattle.std.proofs.lemmas.Result.{IfErr-weaker, IfOk-weaker}
 use Rattle.vx_machine.specs.Descriptions.{reading}
 use Rattle.vx_driver.specs.Answers.{effect_of, RefusesDescription}
 use Rattle.vx_driver.proofs.MachineFile.{described, undescribed, too_long, no_description}
-use Rattle.vx_driver.proofs.compile.read_machine.Goals as goal
+use Rattle.vx_driver.proofs.compiling.read_machine.Goals as goal
 
 pub returns-in-Ok-Whole-clause-machine : goal.returns-in-Ok-Whole-clause-machine
 returns-in-Ok-Whole-clause-machine g c =

@@ -4,7 +4,7 @@ use Rattle.vx_ast.specs.View.{program_of}
 use Rattle.vx_driver.specs.Answers.{effect_of}
 use Rattle.vx_driver.specs.Asked.{compilation_of}
 use Rattle.vx_driver.proofs.Answering.{for_machine}
-use Rattle.vx_driver.proofs.compile.compile_by.Goals as goal
+use Rattle.vx_driver.proofs.compiling.compile_by.Goals as goal
 
 pub returns-in-Ok-clause-answers : goal.returns-in-Ok-clause-answers
 returns-in-Ok-clause-answers g c =

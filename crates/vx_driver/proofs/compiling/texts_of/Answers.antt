@@ -1,5 +1,5 @@
 -- Compiled words are sound, and so have a text.
-use Rattle.vx_driver.proofs.compile.texts_of.Goals as goal
+use Rattle.vx_driver.proofs.compiling.texts_of.Goals as goal
 
 pub write-requires : goal.write-requires
 write-requires c = c.in_ok-compiled.ensures.sound

@@ -5,7 +5,7 @@ use Rattle.vx_driver.specs.Answers.{effect_of}
 use Rattle.vx_driver.specs.Asked.{compilation_of}
 use Rattle.vx_driver.proofs.Answering.{by_profile}
 use Rattle.vx_driver.proofs.FileSteps.{still_some}
-use Rattle.vx_driver.proofs.compile.compile_read.Goals as goal
+use Rattle.vx_driver.proofs.compiling.compile_read.Goals as goal
 
 pub returns-in-Ok-clause-answers : goal.returns-in-Ok-clause-answers
 returns-in-Ok-clause-answers g c =
