@@ -136,12 +136,7 @@ struct Texts {
 }
 
 /// The text of a report, where one is asked.
-fn report_for(
-    alloc: Global,
-    plan: &Plan,
-    program: &Typed,
-    asked: bool,
-) -> Result<Vec<u8>, NoMemory>
+fn report_for(alloc: Global, plan: &Plan, program: &Typed, asked: bool) -> Result<Vec<u8>, NoMemory>
     ensures { IfOk result (λ text. asked ≡ true → text.items ≡ report_text plan.now (names_of (view.program_of program.now.program))) }
 {
     if asked {
@@ -193,7 +188,21 @@ fn is_done(status: Status) -> bool
     }
 }
 
-/// Puts the text of the words under its name, and then the report under its own, where one is asked.
+/// Puts the text of the words under its name, and then the report under its own.
+fn write_both<D: Depot>(depot: &mut D, out: &str, text: &[u8], name: &str, report: &[u8]) -> Status
+    ensures answers { ReportAnswers out.now text.now (Some name.now) report.now (effect_of D.files D.failed_reads D.failed_replaces depot.old depot.new) result }
+    ensures reads_never_fall { D.failed_reads depot.old ≤ D.failed_reads depot.new }
+    ensures replaces_never_fall { D.failed_replaces depot.old ≤ D.failed_replaces depot.new }
+{
+    let first = write_text(depot, out, text);
+    if is_done(first) {
+        write_text(depot, name, report)
+    } else {
+        first
+    }
+}
+
+/// Puts the text of the words under its name, and then the report, where one is asked.
 fn write_texts<D: Depot>(
     depot: &mut D,
     out: &str,
@@ -206,14 +215,7 @@ fn write_texts<D: Depot>(
     ensures replaces_never_fall { D.failed_replaces depot.old ≤ D.failed_replaces depot.new }
 {
     match name {
-        Some(name) => {
-            let first = write_text(depot, out, text);
-            if is_done(first) {
-                write_text(depot, name, report)
-            } else {
-                first
-            }
-        }
+        Some(name) => write_both(depot, out, text, name, report),
         None => write_text(depot, out, text),
     }
 }

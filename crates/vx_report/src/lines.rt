@@ -48,11 +48,7 @@ fn push_list(out: &mut Vec<u8>, numbers: &[u32]) -> Result<(), NoMemory>
 }
 
 /// Puts a word and numbers as a line.
-pub(crate) fn push_numbers(
-    out: &mut Vec<u8>,
-    word: &[u8],
-    numbers: &[u32],
-) -> Result<(), NoMemory>
+pub(crate) fn push_numbers(out: &mut Vec<u8>, word: &[u8], numbers: &[u32]) -> Result<(), NoMemory>
     ensures { OnOk result (out.new.items ≡ out.old.items ++ numbers_line word.now numbers.now) }
 {
     push_bytes(out, word)?;

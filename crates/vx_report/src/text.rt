@@ -66,12 +66,7 @@ fn push_ops(
 }
 
 /// Puts the first line of a trace.
-fn push_seed(
-    out: &mut Vec<u8>,
-    number: u64,
-    name: &[u8],
-    plan: &TracePlan,
-) -> Result<(), NoMemory>
+fn push_seed(out: &mut Vec<u8>, number: u64, name: &[u8], plan: &TracePlan) -> Result<(), NoMemory>
     ensures { OnOk result (out.new.items ≡ out.old.items ++ seed_text number name.now plan.now) }
 {
     push_bytes(out, b"trace ")?;

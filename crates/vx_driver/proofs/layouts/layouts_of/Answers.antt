@@ -16,8 +16,7 @@ loop-graph-preserved c =
     let used = c.loop-graph.budget.used in
     let used' = c.layout_of.new.budget.used in
     let is : IsLaidOut machine counts c.args.growth c.number_of-function.result c.graph-item.result used laid.traces laid.layout used' =
-    subst (λ cap. IsLaidOut machine counts cap c.number_of-function.result c.graph-item.result used laid.traces laid.layout used') c.loop-graph.invariant.1 c.in_ok-laid.ensures.laid in
-    (
+    subst (λ cap. IsLaidOut machine counts cap c.number_of-function.result c.graph-item.result used laid.traces laid.layout used') c.loop-graph.invariant.1 c.in_ok-laid.ensures.laid in (
       laid_step machine counts c.args.growth c.args.graphs.now c.loop-graph.graph-index c.number_of-function.result c.graph-item.result c.loop-graph.layouts c.put_function.new.layouts c.loop-graph.traces c.put_function.new.traces
           laid.traces laid.layout used used' c.loop-graph-test.true c.graph-item.is c.number_of-function.ensures c.loop-graph.invariant.0 is c.in_ok-put_function.ensures.layouts c.in_ok-put_function.ensures.traces,
       c.layout_of.ensures.same_cap ∙ c.loop-graph.invariant.1,
