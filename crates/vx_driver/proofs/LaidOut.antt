@@ -31,8 +31,14 @@ one_more_trace xs x = flat_map-append (λ (y : FunctionPlan). y.traces) xs (x �
 as_many : (xs : List FunctionPlan) → length (layouts_of xs) ≡ length xs
 as_many xs = length-map xs (λ (x : FunctionPlan). layout_of x.done)
 
-pub no_functions : (machine : Numbers) (counts : Counts) (cap : ℕ) → AreLaidOut machine counts cap [] [] [] 0
+no_functions : (machine : Numbers) (counts : Counts) (cap : ℕ) → AreLaidOut machine counts cap [] [] [] 0
 no_functions machine counts cap = record { laid = tt; planned = record { functions = []; each = refl; traces_are = refl }; layouts_are = refl }
+
+pub begun_laid : (machine : Numbers) (counts : Counts) (cap : ℕ) (graphs : List Graph) (traces : List TracePlan) (ls : List VWords) (used : ℕ) → traces ≡ [] → ls ≡ [] → used ≡ 0 → AreLaidOut machine counts cap (take 0 graphs) traces ls used
+begun_laid machine counts cap graphs traces ls used a b d =
+    subst (λ (t : List TracePlan). AreLaidOut machine counts cap (take 0 graphs) t ls used) (sym a)
+    (subst (λ (l : List VWords). AreLaidOut machine counts cap (take 0 graphs) [] l used) (sym b)
+    (subst (λ u. AreLaidOut machine counts cap (take 0 graphs) [] [] u) (sym d) (no_functions machine counts cap)))
 
 pub laid_step : (machine : Numbers) (counts : Counts) (cap : ℕ) (graphs : List Graph) (i number : ℕ) (graph : Graph) (ls ls' : List VWords) (traces traces' more : List TracePlan) (l : VWords) (used used' : ℕ) →
     i < length graphs → graph ≡ get_or graphs i graph → number ≡ length ls → AreLaidOut machine counts cap (take i graphs) traces ls used → IsLaidOut machine counts cap number graph used more l used' →

@@ -1,6 +1,6 @@
 -- What the words that the compiler writes, and the plan that it reports, owe to the program that was read.
 use Rattle.std.specs.Prelude.{◌≡◌, ◌+◌, ℕ, true, List, [], ◌∷◌, map}
-use Rattle.std.specs.List.{flat_map}
+use Rattle.std.specs.List.{flat_map, sum_by}
 use Rattle.vx_isa.specs.declared.program.WordProgram.{WordProgram}
 use Rattle.vx_isa.specs.Numbers.{Numbers}
 use Rattle.vx_isa.specs.Sound.{is_sound}
@@ -76,13 +76,11 @@ slot_of Nowhere = 0
 
 -- how many values of a function are in slots
 abbrev pub in_slots : List Kept → ℕ
-in_slots [] = 0
-in_slots (x ∷ xs) = slot_of x + in_slots xs
+in_slots kept = sum_by slot_of kept
 
 -- of all functions
 abbrev pub all_in_slots : List RegMap → ℕ
-all_in_slots [] = 0
-all_in_slots (x ∷ xs) = in_slots x.values + all_in_slots xs
+all_in_slots maps = sum_by (λ (x : RegMap). in_slots x.values) maps
 
 -- the whole
 

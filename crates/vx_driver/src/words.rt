@@ -99,6 +99,7 @@ fn sum_of(left: u32, right: u32) -> Result<u32, NoMemory>
 }
 
 /// How many values of a function are in slots.
+#[tactic(auto, using(std::proofs::lemmas::List::Sums::sum_by_more))]
 fn slots_in(values: &[Kept]) -> Result<u32, NoMemory>
     ensures { IfOk result (λ count. count ≡ in_slots values.now) }
 {
@@ -110,6 +111,7 @@ fn slots_in(values: &[Kept]) -> Result<u32, NoMemory>
 }
 
 /// How many values of all functions are in slots.
+#[tactic(auto, using(std::proofs::lemmas::List::Sums::sum_by_more))]
 fn all_slots_in(maps: &[RegMap]) -> Result<u32, NoMemory>
     ensures { IfOk result (λ count. count ≡ all_in_slots maps.now) }
 {

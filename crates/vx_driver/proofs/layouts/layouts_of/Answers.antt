@@ -2,11 +2,17 @@
 use Rattle.std.proofs.Common.{◌∙◌, subst}
 use Rattle.vx_driver.specs.Stages.{IsLaidOut}
 use Rattle.vx_driver.proofs.Chain.{item_at}
-use Rattle.vx_driver.proofs.LaidOut.{laid_step}
+use Rattle.vx_driver.proofs.LaidOut.{begun_laid, laid_step}
 use Rattle.vx_driver.proofs.layouts.layouts_of.Goals as goal
 
 pub layout_of-requires : goal.layout_of-requires
 layout_of-requires c = c.requires c.loop-graph.graph-index c.graph-item.result (item_at c.args.graphs.now c.loop-graph.graph-index c.graph-item.result c.loop-graph-test.true c.graph-item.is)
+
+pub loop-graph-init : goal.loop-graph-init
+loop-graph-init c = (
+  begun_laid c.args.machine.now c.args.counts.now c.args.growth c.args.graphs.now c.new-traces.result c.new-layouts.result c.make-budget.result.used c.new-traces.ensures c.new-layouts.ensures c.make-budget.ensures.used,
+  c.make-budget.ensures.cap,
+)
 
 pub loop-graph-preserved : goal.loop-graph-preserved
 loop-graph-preserved c =

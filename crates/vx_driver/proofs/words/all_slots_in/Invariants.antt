@@ -1,7 +1,7 @@
--- The slots so far, and those of the functions that are left.
-use Rattle.std.proofs.Common.{◌≡◌, ◌+◌, drop}
+-- The slots so far.
+use Rattle.std.proofs.Common.{◌≡◌, take}
 use Rattle.vx_driver.specs.Compiled.{all_in_slots}
 use Rattle.vx_driver.proofs.words.all_slots_in.Given as goal
 
 abbrev pub invariant-loop-map : goal.invariant-loop-map
-invariant-loop-map l = l.count + all_in_slots (drop l.map-index l.maps) ≡ all_in_slots l.maps
+invariant-loop-map l = l.count ≡ all_in_slots (take l.map-index l.maps)
