@@ -13,3 +13,4 @@ pub mod Taking
 pub mod SoFar
 pub mod Showing
 pub mod Touching
+pub mod Leading

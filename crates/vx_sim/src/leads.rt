@@ -1,7 +1,8 @@
 // Where a word leads, and the event of a word that took effect.
 
-ghost use Rattle.std.specs.Prelude.{◌≡◌, ◌<◌, ◌+◌, List, [], ◌∷◌, length};
+ghost use Rattle.std.specs.Prelude.{◌≡◌, ◌<◌, ◌+◌, List, [], ◌∷◌, length, count_by};
 ghost use Rattle.vx_isa.specs.declared.operation.Register.TheVariants.{Branch};
+ghost use Rattle.vx_isa.specs.Operations.{is_control};
 ghost use Rattle.vx_isa.specs.Machine.{lead_of, is_taken, register};
 ghost use Rattle.vx_sim.specs.Leads.{lead_as, lead_or, place_behind};
 ghost use Rattle.vx_sim.specs.Passed.{counted, event_of, leads_away};
@@ -24,8 +25,20 @@ pub(crate) enum Lead {
     TrapsBy(Trap),
 }
 
+/// Where a word leads: to the following word where it has no control operation.
+pub(crate) fn lead_of_word(now: &Standing, next: u32, ops: &[Operation], control: u32) -> Lead
+    requires following { next ≡ now.now.place + 1 }
+    requires control { control ≡ count_by is_control ops.now }
+    ensures { lead_as result ≡ lead_of (state_of now.now []) ops.now }
+{
+    if control == 0 {
+        return Lead::To(next);
+    }
+    lead_of(now, next, ops)
+}
+
 /// The first control operation of the list that is taken tells; without one the following word comes.
-pub(crate) fn lead_of(now: &Standing, next: u32, ops: &[Operation]) -> Lead
+fn lead_of(now: &Standing, next: u32, ops: &[Operation]) -> Lead
     requires { next ≡ now.now.place + 1 }
     ensures { lead_as result ≡ lead_of (state_of now.now []) ops.now }
 {

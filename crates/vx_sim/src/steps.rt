@@ -15,7 +15,7 @@ ghost use Rattle.vx_sim.specs.Stepped.{Stepped, Took, leads_by, ended_as, is_fau
 use crate::effects::take_effect;
 use crate::ended::Ended;
 use crate::flight::Flight;
-use crate::leads::{Lead, event_of, following, lead_of, place_behind};
+use crate::leads::{Lead, event_of, following, lead_of_word, place_behind};
 use crate::prints::print;
 use crate::shape::{Shape, UnitCounts, shape_at};
 use crate::standing::Standing;
@@ -110,7 +110,8 @@ fn pass(
     ensures has_room { HasRoom (widest program.now.words) 0 flights.new.items }
     ensures has_capacity { vec_capacity flights.old ≤ vec_capacity flights.new }
 {
-    let lead = lead_of(now, following(program, now.place), word.ops.as_slice());
+    let next = following(program, now.place);
+    let lead = lead_of_word(now, next, word.ops.as_slice(), counts.control);
     let event = event_of(now, counts, lead);
     take_effect(
         machine,

@@ -1,4 +1,6 @@
-use Rattle.std.proofs.Common.{◌∙◌, [], map, length, refl, ap, arith}
+use Rattle.std.proofs.Common.{◌∙◌, [], List, count_by, map, length, refl, sym, ap, arith}
+use Rattle.vx_isa.specs.declared.operation.Operation.{Operation}
+use Rattle.vx_isa.specs.Operations.{is_control}
 use Rattle.vx_isa.specs.Machine.{lead_of}
 use Rattle.vx_probe.specs.Watch.{shown}
 use Rattle.vx_sim.specs.Held.{write_of}
@@ -31,9 +33,9 @@ returns-clause-took g c =
     let now = c.args.now.now in
     let b = state_of now [] in
     let timing = (goal.Timing-dyn g (c.args.timing.now.vtable, c.args.timing.now.value)).times c.args.timing.now.value in
-    let led = c.lead_of-lead.ensures ∙ ap (lead_of b) c.as_slice.ensures in
+    let led = c.lead_of_word-lead.ensures ∙ ap (lead_of b) c.as_slice.ensures in
     let e = c.take_effect.ensures in
-    took c.args.machine.now c.args.program.now timing _ b (map write_of c.args.flights.now.items) c.args.word.now c.lead_of-lead.result _ _ _ _ _ c.requires.word c.requires.free led
+    took c.args.machine.now c.args.program.now timing _ b (map write_of c.args.flights.now.items) c.args.word.now c.lead_of_word-lead.result _ _ _ _ _ c.requires.word c.requires.free led
     (record {
       place = c.place_behind-now.ensures ∙ ap (λ l. place_behind l c.take_effect.new.now.place) led ∙ ap (place_behind (lead_of b c.args.word.now.ops)) e.place;
       cycle = e.cycle;
@@ -50,3 +52,6 @@ returns-clause-took g c =
 
 pub returns-clause-has_room : goal.returns-clause-has_room
 returns-clause-has_room g c = c.take_effect.ensures.has_room (widest c.args.program.now.words) (widest_at c.args.program.now.words c.args.now.now.place c.args.word.now c.requires.word) c.requires.room
+
+pub lead_of_word-lead-requires-clause-control : goal.lead_of_word-lead-requires-clause-control
+lead_of_word-lead-requires-clause-control g c = ap (λ (counts : UnitCounts). counts.control) c.requires.counts ∙ ap (λ (ops : List Operation). count_by is_control ops) (sym c.as_slice.ensures)
