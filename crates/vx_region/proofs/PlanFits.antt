@@ -8,7 +8,6 @@ use Rattle.vx_isa.specs.Numbers.{Numbers}
 use Rattle.vx_mixed.specs.declared.mixed.MixedGraph.{MixedGraph}
 use Rattle.vx_dep.specs.declared.mode.Mode.{Mode}
 use Rattle.vx_dep.specs.declared.deps.Deps.{Deps}
-use Rattle.vx_dep.specs.Delays.{AreHeights}
 use Rattle.vx_dep.specs.Deps.{IsDeps, height_in}
 use Rattle.vx_dep.specs.Compensation.{at_splits_of, at_joins_of}
 use Rattle.vx_sched.specs.Placement.{PlacedBy, length_of, mode_in, AreDeps}
@@ -22,7 +21,7 @@ use Rattle.vx_region.specs.RegionPlans.{IsPlaced}
 use Rattle.vx_region.specs.Regions.{ReplacesOne, replacement_by}
 
 pub own_mode : (m : Numbers) (mode : Mode) (t : Trace) (deps : Deps) → IsDeps m mode t deps → AreDeps m t deps
-own_mode m mode t deps d = record { machine = d.machine; mode_is = refl; trace = d.trace; heights = subst (λ z. AreHeights m z t (height_in deps)) (sym d.mode_is) d.heights }
+own_mode m mode t deps d = subst (λ z. IsDeps m z t deps) (sym d.mode_is) d
 
 pub is_placed : (m : Numbers) (homes : Homes) (mode : Mode) (c : Clustered) (deps : Deps) (p : Placed) → IsDeps m mode c.trace deps → PlacedBy c m homes (mode_in deps) (height_in deps) p.words → p.length ≡ length_of p.words → p.clustered ≡ c → IsPlaced c m homes mode p
 is_placed m homes mode c deps p d by length clustered = record {

@@ -77,6 +77,14 @@ left_low m l end word op = by (nat_lt word end) refl
     by true e = let lt = ltb-true word end e in let h = latency_high m l op in omega (arith, lt, h)
     by false e = omega arith
 
+-- nothing is left of a result whose word stands far above
+pub far_back : (m : Numbers) (end word : ℕ) (op : TraceOp) → is_machine m ≡ true → nat_le (word + 16) end ≡ true → 0 ≡ left_at m end word op
+far_back m end word op one far = by (nat_lt word end)
+  where
+    by : (b : Bool) → 0 ≡ (if b then (word + latency_of m op) - end else 0)
+    by true = let h = latency_high m (highs m one) op in let l = leb-true (word + 16) end far in omega (arith, h, l)
+    by false = refl
+
 all_low : (m : Numbers) → Latencies m → (end : ℕ) (words : List ℕ) (ops : List TraceOp) → greatest (all_left_at m end words ops) ≤ 15
 all_low m l end words [] = omega arith
 all_low m l end [] (op ∷ ops) = omega arith

@@ -1,6 +1,6 @@
 // The empty cycles behind the exits of a placed trace: as many as a result that was issued before can still take.
 
-ghost use Rattle.std.specs.Prelude.{◌≡◌, ◌+◌, ◌++◌, ◌-◌, map, max, IfOk};
+ghost use Rattle.std.specs.Prelude.{◌≡◌, ◌+◌, ◌++◌, ◌-◌, map, max, nat_le, IfOk};
 ghost use Rattle.vx_dep.specs.declared.copies.EdgeCopies.{EdgeCopies};
 ghost use Rattle.vx_dep.specs.Compensation.{word_at, greatest, left_at, all_left_at, drain_at};
 
@@ -77,15 +77,27 @@ fn greater(a: u32, b: u32) -> u32
 }
 
 /// How many cycles behind its word the result of an operation still takes at the start of a word.
+#[tactic(auto, using(crate::proofs::ShortDrains::far_back))]
 fn left_at(machine: &Machine, end: u64, word: u32, op: &TraceOp) -> u32
     ensures { result ≡ left_at machine.now end word op.now }
 {
+    machine.keeps_ranges();
+    if is_far(end, word) {
+        return 0;
+    }
     let latency = machine.latency_of_item(&Item::of_trace(op));
     if (word as u64) < end {
         left_behind(latency, end - word as u64)
     } else {
         0
     }
+}
+
+/// Whether a word stands so far above another one that no result still takes as long.
+fn is_far(end: u64, word: u32) -> bool
+    ensures { result ≡ nat_le (word + 16) end }
+{
+    word as u64 + 16 <= end
 }
 
 /// What is left of a latency after some cycles.
