@@ -16,6 +16,7 @@ use Rattle.vx_profile.specs.declared.counts.Counts.{Counts}
 use Rattle.vx_report.specs.Report.{names_of, report_text}
 use Rattle.vx_driver.specs.Command.{Compilation}
 use Rattle.vx_driver.specs.Stages.{MakesTexts}
+use Rattle.vx_driver.proofs.ProfileFile.{stands}
 use Rattle.vx_driver.specs.Answers.{HoldsSource, HoldsProgram, Accepts, RefusesSource, Refuses, MachineFound, Is, Refused, TooLong, Missing, machine_found, TextsOf, Compiles, Writes, WritesWords, with_report, ReportsPartly, WritesPartly, AreCounts, Effect, ReadsRose, ReplacesRose, SameFiles, SourceAnswers, ProfileStands, RefusesProfile, ProfileAnswers, StopsAtProfile, MachineAnswers, StopsAtMachine, CompileAnswers, WriteAnswers, once_written, ReportAnswers, PutsTexts, NoMachine, ForMachine, MachineOrTexts, NoProfile, ByProfile, ProgramAnswers}
 
 pub rose_since : (before mid after : ℕ) → before ≤ mid → Rose mid after → Rose before after
@@ -391,17 +392,13 @@ by_profile program counts asked e f status s k (inr for) =
       });
     })
 
-pub stands_by : (profile : Option (List ℕ)) (counts : Counts) (b : Option Files) → IfSome b (λ held. AreCounts held profile counts) → IfSome b (λ held. ProfileStands held profile)
-stands_by profile counts None are = tt
-stands_by profile counts (Some held) are = record { counts = counts; are = are }
-
 counted_answers : (program : Program) (counts : Counts) (asked : Compilation) (e f : Effect) (status : Status) → Since e f → IfSome f.before (λ held. HoldsProgram held asked.source program) →
     IfSome f.before (λ held. AreCounts held asked.profile counts) → MachineOrTexts program counts asked e status → CompileAnswers asked f status
 counted_answers program counts asked e f status s h k (inl none) =
     stops asked f status (record {
       named = none.named;
       accepted = accepts_in asked.source program f.before h;
-      profiled = stands_by asked.profile counts f.before k;
+      profiled = stands asked.profile f.before counts k;
       answers = machine_since asked.machine e f status s none.answers;
     })
 counted_answers program counts asked e f status s h k (inr for) =

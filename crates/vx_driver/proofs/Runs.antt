@@ -192,7 +192,7 @@ pub refused_answers : (command : Option Command) (boxes : Boxes) (e : Effect) (s
     Answers command boxes e s status
 refused_answers None boxes e s status same (inl memory) = (inr memory, same)
 refused_answers None boxes e s status same (inr usage) = (inl usage.0, same)
-refused_answers (Some (Compile asked)) boxes e s status same (inl memory) = subst (Answers (Some (Compile asked)) boxes e s) (sym memory) same
+refused_answers (Some (Compile asked)) boxes e s status same (inl memory) = subst (Answers (Some (Compile asked)) boxes e s) (sym memory) (inl same)
 refused_answers (Some (Compile asked)) boxes e s status same (inr usage) = let none = usage.1 in absurd cc
 refused_answers (Some (Simulate asked)) boxes e s status same (inl memory) = no_memory_answers asked boxes e s status same memory
 refused_answers (Some (Simulate asked)) boxes e s status same (inr usage) = let none = usage.1 in absurd cc
