@@ -335,7 +335,7 @@ module _ (T : Target) (flow : Flow) (ls : List VWords) (w : WordProgram) (carrie
       (kinds_other T Count 0 (start_words T flow.main) (start_other flow.main), pieces_append T Count (functions_pieces T 0 Count) (record { label = Depth; words = one (EndByTrap ByDepth) ∷ [] } ∷ []) (functions_kinds 0 Count (omega arith)) ((inr (traps ByDepth), tt), tt)))
 
   word_kind : (q : ℕ) (word : Word) → WordAt w q word → IsPlanWord T Count q word ⊎ IsOther T word
-  word_kind q word e = kind_at T Count 0 w.words q word all_kinds e
+  word_kind q word e = let z : 0 + q ≡ q = omega arith in subst (λ n. IsPlanWord T Count n word ⊎ IsOther T word) z (kind_at T Count 0 w.words q word all_kinds e)
 
   -- the word of a planned one stands at its place
 
