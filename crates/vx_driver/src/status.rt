@@ -20,8 +20,9 @@ pub enum Status {
     Usage,
     /// The source has this fault at this line and column, both counted from 1, the column in bytes.
     Source { code: u32, line: u32, column: u32 },
-    /// The counted quantity is over the limit of this number; the count is one past it. Limit 9 is that of the bytes
-    /// of a text of words, limit 10 of a profile, limit 11 of a description, limit 12 of an input.
+    /// The counted quantity is over the limit of this number. The count is the whole one, but of the bytes of a file and of
+    /// nested constructs, where it is one past the limit. Limit 9 is that of the bytes of a text of words, limit 10 of a
+    /// profile, limit 11 of a description, limit 12 of an input.
     Limit { number: u32, count: u64 },
     /// The text of words has this fault at this line, from 1; line 0 is the whole text.
     Words { code: u32, line: u32 },
@@ -37,7 +38,7 @@ pub enum Status {
     ReadFault(Role),
     /// A file or an output cannot be written.
     WriteFault,
-    /// Exactly the words that were asked for were issued, and none ended the program.
+    /// Exactly the words that were asked for were issued, or blocks run, and none ended the program.
     Stopped,
     /// The word of the input's text that begins at this byte, from 0, is no decimal number of 32 bits.
     Input(u32),
