@@ -1,9 +1,10 @@
 -- The operations that another one has to stand behind are listed one after the other.
 use Rattle.std.proofs.Common.{◌≡◌, ◌<◌, ◌≤◌, ◌⊎◌, inl, inr, ◌+◌, ℕ, refl, sym, ◌∙◌, ap, arith, subst, Option, Some, None, length, slice_get, slice_index_or, List, [], ◌∷◌, ◌++◌}
-use Rattle.std.proofs.lemmas.List.{length-append, get_or_append_left, get_or_push, get_or_past, append-nil}
+use Rattle.std.proofs.lemmas.List.{length-append, get_or_append_left, get_or_push, get_or_past}
 use Rattle.std.proofs.lemmas.Option.{slice_get_within}
 use Rattle.vx_flow.specs.declared.trace.Trace.{Trace}
 use Rattle.vx_flow.specs.Effects.{IsIn}
+use Rattle.vx_flow.proofs.Members.{in_left, in_right, in_either}
 use Rattle.vx_isa.specs.Numbers.{Numbers}
 use Rattle.vx_dep.specs.declared.mode.Mode.{Mode}
 use Rattle.vx_dep.specs.declared.earlier.Earlier.{Earlier}
@@ -11,26 +12,8 @@ use Rattle.vx_dep.specs.Delays.{Applies, IsDelay}
 use Rattle.vx_dep.specs.Earlier.{IsListed, AreEarlier, AreAllEarlier, list_at, noted}
 use Rattle.vx_dep.proofs.Telling.{less_or}
 
-in_longer : {A : Type 0} (x : A) (xs ys : List A) → IsIn x (xs ++ ys) → IsIn x xs ⊎ IsIn x ys
-in_longer x [] ys i = inr i
-in_longer x (y ∷ xs) ys (inl e) = inl (inl e)
-in_longer x (y ∷ xs) ys (inr i) = by (in_longer x xs ys i)
-  where
-    by : IsIn x xs ⊎ IsIn x ys → IsIn x (y ∷ xs) ⊎ IsIn x ys
-    by (inl h) = inl (inr h)
-    by (inr h) = inr h
-
-in_front : {A : Type 0} (x : A) (xs ys : List A) → IsIn x xs → IsIn x (xs ++ ys)
-in_front x [] ys i = absurd i
-in_front x (y ∷ xs) ys (inl e) = inl e
-in_front x (y ∷ xs) ys (inr i) = inr (in_front x xs ys i)
-
-in_back : {A : Type 0} (x : A) (xs : List A) → IsIn x (xs ++ x ∷ [])
-in_back x [] = inl refl
-in_back x (y ∷ xs) = inr (in_back x xs)
-
 still_listed : (list more : List Earlier) (i words : ℕ) → IsListed list i words → IsListed (list ++ more) i words
-still_listed list more i words is = record { entry = is.entry; is = in_front is.entry list more is.is; place = is.place; delay = is.delay }
+still_listed list more i words is = record { entry = is.entry; is = in_left is.entry list more is.is; place = is.place; delay = is.delay }
 
 module _ (m : Numbers) (mode : Mode) (t : Trace) where
   pub none_noted : (j k : ℕ) (list : List Earlier) → list ≡ [] → k ≡ 0 → AreEarlier m mode t j k list
@@ -38,7 +21,7 @@ module _ (m : Numbers) (mode : Mode) (t : Trace) where
 
   step : (j k : ℕ) (list : List Earlier) (d : Option ℕ) → AreEarlier m mode t j k list → IsDelay m mode t k j d → AreEarlier m mode t j (k + 1) (list ++ noted k d)
   step j k list None so is = record {
-    sound = λ x i. sound x (in_longer x list [] i);
+    sound = λ x i. sound x (in_either x list [] i);
     whole = λ i d l a. whole i d a (less_or i k) l;
   }
     where
@@ -50,7 +33,7 @@ module _ (m : Numbers) (mode : Mode) (t : Trace) where
       whole i d a (inl l) u = still_listed list [] i d (so.whole i d l a)
       whole i d a (inr l) u = let e : i ≡ k = omega (arith, l, u) in absurd (is d (subst (λ x. Applies m mode t x j d) e a))
   step j k list (Some delay) so is = record {
-    sound = λ x i. sound x (in_longer x list (new ∷ []) i);
+    sound = λ x i. sound x (in_either x list (new ∷ []) i);
     whole = λ i d l a. whole i d a (less_or i k) l;
   }
     where
@@ -66,7 +49,7 @@ module _ (m : Numbers) (mode : Mode) (t : Trace) where
       whole i d a (inl l) u = still_listed list (new ∷ []) i d (so.whole i d l a)
       whole i d a (inr l) u =
           let e : i ≡ k = omega (arith, l, u) in
-          record { entry = new; is = in_back new list; place = sym e; delay = is.greatest d (subst (λ x. Applies m mode t x j d) e a) }
+          record { entry = new; is = in_right new list (new ∷ []) (inl refl); place = sym e; delay = is.greatest d (subst (λ x. Applies m mode t x j d) e a) }
 
   pub one_noted : (j k : ℕ) (list others : List Earlier) (d : Option ℕ) → AreEarlier m mode t j k list → IsDelay m mode t k j d → others ≡ list ++ noted k d → AreEarlier m mode t j (k + 1) others
   one_noted j k list others d so is e = subst (AreEarlier m mode t j (k + 1)) (sym e) (step j k list d so is)
