@@ -1,5 +1,5 @@
 -- The number at the place of a timing whose list is not empty.
-use Rattle.std.proofs.Common.{◌≡◌, ◌<◌, ◌%◌, ℕ, List, [], ◌∷◌, length, get_or, min, max, sym, ap, ◌∙◌, arith}
+use Rattle.std.proofs.Common.{◌≡◌, ◌<◌, ℕ, List, [], ◌∷◌, length, get_or, min, max, sym, ap, ◌∙◌, arith}
 use Rattle.std.proofs.Math.Nat.{min_comm, max_comm, mod-eq_of_lt}
 use Rattle.std.proofs.lemmas.Grind.{get_or_default_zero}
 use Rattle.vx_base.specs.Flight.{landing_time}

@@ -1,4 +1,4 @@
-use Rattle.std.proofs.Common.{◌≡◌, sym, ap, ◌∙◌, min, max}
+use Rattle.std.proofs.Common.{ap, ◌∙◌, min}
 use Rattle.vx_probe.proofs.Cycling.{number_at}
 use Rattle.vx_probe.proofs.timing.CyclicTiming.lands.Goals as goal
 
