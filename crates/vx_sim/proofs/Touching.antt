@@ -1,8 +1,6 @@
 -- An operation without a memory unit reads and writes no memory, takes no number of the input and prints nothing.
-use Rattle.std.proofs.Common.{◌≡◌, ℕ, zero, suc, ◌+◌, ℤ, Bool, true, false, cond, Option, Some, None, List, [], ◌∷◌, ◌++◌, count_by, refl, sym, ap, ◌∙◌, arith}
+use Rattle.std.proofs.Common.{◌≡◌, ℕ, ◌+◌, ℤ, Bool, true, false, cond, None, List, [], ◌∷◌, count_by, refl, sym, ap, ◌∙◌, arith}
 use Rattle.std.specs.List.{list_any, flat_map}
-use Rattle.vx_base.specs.declared.outcome.Reason.{Reason}
-use Rattle.vx_base.specs.declared.outcome.Reason.TheVariants.{BadAddress, NoInputLeft}
 use Rattle.vx_isa.specs.declared.operation.UnitKind.TheVariants.{Memory}
 use Rattle.vx_isa.specs.declared.operation.Operation.{Operation}
 use Rattle.vx_isa.specs.declared.operation.Operation.TheVariants.{Compute, Move, Select, Load, Store, Input, More, OutText, OutDecimal, OutByte, Goto, BranchOn, Call, Return, FromLink, ToLink, EndByTrap, Halt}

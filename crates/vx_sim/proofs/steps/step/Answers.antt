@@ -1,9 +1,8 @@
-use Rattle.std.proofs.Common.{◌≡◌, ◌∙◌, [], List, count_by, map, Some, None, slice_get, refl, sym, ap, subst, ltb-true}
+use Rattle.std.proofs.Common.{◌≡◌, ◌∙◌, [], List, count_by, map, None, refl, sym, ap, subst}
 use Rattle.std.specs.List.{flat_map}
 use Rattle.vx_base.specs.Outside.{with_bytes, PutsFront}
 use Rattle.vx_isa.specs.declared.operation.Operation.{Operation}
 use Rattle.vx_isa.specs.declared.operation.UnitKind.TheVariants.{Memory}
-use Rattle.vx_isa.specs.declared.program.Word.{Word}
 use Rattle.vx_isa.specs.Fits.{is_of}
 use Rattle.vx_isa.specs.Machine.{print_of, stuck_by}
 use Rattle.vx_probe.specs.Times.{list_of}
