@@ -19,7 +19,7 @@ pub enum Why {
     BadContent,
     /// A line whose end is free stands in the content of a file.
     OpenInFile,
-    /// The boxes are not some of `late`, `early` and `words` in this order.
+    /// The boxes are not some of `late`, `early`, `cyclic`, `units` and `words` in this order.
     BadBoxes,
     /// What fails or has room is none of those that may.
     BadPlace,
@@ -44,7 +44,7 @@ impl Why {
             Why::LoneContent => "content behind nothing that has any",
             Why::BadContent => "content that is not of its mark's form",
             Why::OpenInFile => "a line with a free end in a file",
-            Why::BadBoxes => "boxes other than late, early, words in this order",
+            Why::BadBoxes => "boxes other than late, early, cyclic, units, words in this order",
             Why::BadPlace => "nothing that may fail or have room",
             Why::BadNumber => "no number that may stand here",
             Why::SaidTwice => "said twice",
