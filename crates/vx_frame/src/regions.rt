@@ -58,11 +58,7 @@ fn note(rows: &mut Vec<Listed<u32>>, word: &VirtualWord, mark: u32) -> Result<()
 
 /// The marks of the words of each region of a layout.
 #[tactic(auto, using(crate::proofs::RegionPlaces::notes_first, crate::proofs::RegionPlaces::notes_next))]
-fn region_rows(
-    alloc: Global,
-    layout: &VWords,
-    marks: &[u32],
-) -> Result<Vec<Listed<u32>>, NoMemory>
+fn region_rows(alloc: Global, layout: &VWords, marks: &[u32]) -> Result<Vec<Listed<u32>>, NoMemory>
     ensures { IfOk result (λ rows. rows.items ≡ rows_of marks.now layout.now) }
 {
     let mut rows = empty_rows(alloc, layout.regions)?;
