@@ -1,14 +1,11 @@
--- What a word of an array holds: facts for loads.
-use Rattle.std.proofs.Common.{◌≡◌, ◌⊎◌, inl, inr, ℕ, zero, suc, ◌==◌, ◌<◌, ◌/◌, ◌%◌, nat_lt, Bool, true, false, cond, ◌&&◌, ℤ, pos, negsuc, List, [], ◌∷◌, length, slice_index_or, slice_set, Option, Some, None, refl, sym, ap, ◌∙◌, subst, arith, ltb-true}
+-- What the words of an array hold behind a store.
+use Rattle.std.proofs.Common.{◌≡◌, ℕ, zero, suc, ◌==◌, ◌<◌, ◌/◌, ◌%◌, nat_lt, Bool, true, false, cond, ◌&&◌, ℤ, pos, negsuc, List, [], ◌∷◌, length, slice_index_or, slice_set, Option, Some, None, refl, sym, ap, ◌∙◌, subst, arith, ltb-true}
 use Rattle.vx_flow.specs.declared.graph.Operand.{Operand}
 use Rattle.vx_flow.specs.declared.graph.Operand.TheVariants.{Held, Number, Stack}
-use Rattle.vx_flow.specs.declared.graph.Op.TheVariants.{Load, Store}
-use Rattle.vx_flow.specs.Effects.{Content, State, Setting, held, row_of, cell_in, cell_of, loaded, stored, with_value, with_cell, effect}
+use Rattle.vx_flow.specs.declared.graph.Op.TheVariants.{Store}
+use Rattle.vx_flow.specs.Effects.{Content, State, Setting, held, row_of, cell_in, cell_of, stored, with_cell, effect}
+use Rattle.vx_facts.specs.Accesses.{HoldsWord}
 use Rattle.vx_facts.proofs.Ranges.{and_two}
-
--- the word of array a at place p, where it has one, holds what x holds
-abbrev pub HoldsCell : Setting → State → ℕ → Operand → Operand → Type 0
-HoldsCell setting s a p x = (i : ℕ) → cell_of setting s a p ≡ Some i → slice_index_or (row_of s (setting.spot a)) i None ≡ held s x
 
 -- ---- lists
 
@@ -24,7 +21,7 @@ get_other (x ∷ xs) zero (suc j) v d n = refl
 get_other (x ∷ xs) (suc i) zero v d n = refl
 get_other (x ∷ xs) (suc i) (suc j) v d n = get_other xs i j v d (λ e. n (ap suc e))
 
-set_length : {A : Type 0} (xs : List A) (i : ℕ) (v : A) → length (slice_set xs i v) ≡ length xs
+pub set_length : {A : Type 0} (xs : List A) (i : ℕ) (v : A) → length (slice_set xs i v) ≡ length xs
 set_length [] i v = refl
 set_length (x ∷ xs) zero v = refl
 set_length (x ∷ xs) (suc i) v = ap suc (set_length xs i v)
@@ -44,14 +41,14 @@ cell_inside words (Some (pos p)) i e = by ((p % 4 == 0) && nat_lt (p / 4) words)
     by true q f = let same : p / 4 ≡ i = cc in subst (λ n. n < words) same (ltb-true (p / 4) words (and_two (p % 4 == 0) (nat_lt (p / 4) words) q))
     by false q f = absurd (cc)
 
-held_same : (s t : State) (x : Operand) → t.values ≡ s.values → held t x ≡ held s x
+pub held_same : (s t : State) (x : Operand) → t.values ≡ s.values → held t x ≡ held s x
 held_same s t (Held v) e = ap (λ (w : ℕ → Content). w v) e
 held_same s t (Number n) e = refl
 held_same s t Stack e = refl
 
 -- ---- stores
 
-stored_is : (s t : State) (a : ℕ) (o : Option ℕ) (x : Content) → stored s a o x ≡ Some t → (i : ℕ) × (n : ℤ) × (o ≡ Some i) × (x ≡ Some n) × (with_cell s a i (Some n) ≡ t)
+pub stored_is : (s t : State) (a : ℕ) (o : Option ℕ) (x : Content) → stored s a o x ≡ Some t → (i : ℕ) × (n : ℤ) × (o ≡ Some i) × (x ≡ Some n) × (with_cell s a i (Some n) ≡ t)
 stored_is s t a None x e = absurd (cc)
 stored_is s t a (Some i) None e = absurd (cc)
 stored_is s t a (Some i) (Some n) e = (i, n, refl, refl, cc)
@@ -64,7 +61,7 @@ module _ (setting : Setting) (s : State) (a : ℕ) (i : ℕ) (c : Content) where
   row_set h = get_set s.arrays spot (slice_set (row_of s spot) i c) [] (row_there s.arrays spot i h)
 
   -- the word that was stored, at any place of its array that names it; other places of the array must name other words
-  pub word_set : (p x : Operand) → i < length (row_of s spot) → held s x ≡ c → cell_of setting s a p ≡ Some i → HoldsCell setting (with_cell s spot i c) a p x
+  pub word_set : (p x : Operand) → i < length (row_of s spot) → held s x ≡ c → cell_of setting s a p ≡ Some i → HoldsWord setting (with_cell s spot i c) a p x
   word_set p x h e at j q =
       let t : State = with_cell s spot i c in
       let r : row_of t spot ≡ slice_set (row_of s spot) i c = row_set h in
@@ -74,24 +71,15 @@ module _ (setting : Setting) (s : State) (a : ℕ) (i : ℕ) (c : Content) where
       ap (λ (row : List Content). slice_index_or row j None) r ∙ ap (λ k. slice_index_or (slice_set (row_of s spot) i c) k None) (sym ij) ∙ get_set (row_of s spot) i c None h ∙ sym e ∙ sym (held_same s t x refl)
 
   -- a word of another array stays
-  pub other_array : (b : ℕ) (p x : Operand) → (setting.spot a ≡ setting.spot b → ⊥) → HoldsCell setting s b p x → HoldsCell setting (with_cell s spot i c) b p x
+  pub other_array : (b : ℕ) (p x : Operand) → (setting.spot a ≡ setting.spot b → ⊥) → HoldsWord setting s b p x → HoldsWord setting (with_cell s spot i c) b p x
   other_array b p x n k j q =
       let t : State = with_cell s spot i c in
       let r : row_of t (setting.spot b) ≡ row_of s (setting.spot b) = get_other s.arrays spot (setting.spot b) (slice_set (row_of s spot) i c) [] n in
       let same : cell_of setting t b p ≡ cell_of setting s b p = ap (λ (row : List Content). cell_in (length row) (held t p)) r ∙ ap (cell_in (length (row_of s (setting.spot b)))) (held_same s t p refl) in
       ap (λ (row : List Content). slice_index_or row j None) r ∙ k j (sym same ∙ q) ∙ sym (held_same s t x refl)
 
-pub store_new : (setting : Setting) (s t : State) (a : ℕ) (p x : Operand) → effect setting s (Store a p x) s ≡ Some t → HoldsCell setting t a p x
+pub store_new : (setting : Setting) (s t : State) (a : ℕ) (p x : Operand) → effect setting s (Store a p x) s ≡ Some t → HoldsWord setting t a p x
 store_new setting s t a p x e =
     let w = stored_is s t (setting.spot a) (cell_of setting s a p) (held s x) e in
     let h = cell_inside (length (row_of s (setting.spot a))) (held s p) w.0 w.2 in
-    subst (λ (u : State). HoldsCell setting u a p x) w.4 (word_set setting s a w.0 (Some w.1) p x h w.3 w.2)
-
--- ---- loads: the value is read instead, which is at least as well defined
-pub load_same : (setting : Setting) (s t : State) (a v : ℕ) (p x : Operand) (d : Bool) → HoldsCell setting s a p x → effect setting s (Load v a p d) s ≡ Some t → (t ≡ with_value s v (held s x)) ⊎ (t ≡ with_value s v None)
-load_same setting s t a v p x d k e = by (cell_of setting s a p) d refl e
-  where
-    by : (o : Option ℕ) (d : Bool) → cell_of setting s a p ≡ o → loaded s v (row_of s (setting.spot a)) o d ≡ Some t → (t ≡ with_value s v (held s x)) ⊎ (t ≡ with_value s v None)
-    by None true q f = inr (cc)
-    by None false q f = absurd (cc)
-    by (Some i) d q f = let g : with_value s v (slice_index_or (row_of s (setting.spot a)) i None) ≡ t = cc in inl (sym g ∙ ap (with_value s v) (k i q))
+    subst (λ (u : State). HoldsWord setting u a p x) w.4 (word_set setting s a w.0 (Some w.1) p x h w.3 w.2)

@@ -1,18 +1,22 @@
 -- A loop to 100 over an array of 100 words: its check is decided.
-use Rattle.std.proofs.Common.{◌≡◌, ℕ, zero, suc, true, false, pos, List, [], ◌∷◌, Some, None, refl}
+use Rattle.std.proofs.Common.{◌≡◌, ℕ, zero, suc, true, false, ℤ, pos, List, [], ◌∷◌, Some, None, refl}
 use Rattle.vx_base.specs.declared.arithmetic.Compare.TheVariants.{Lt, Ltu}
-use Rattle.vx_base.specs.declared.arithmetic.Code.TheVariants.{Add, And, Mov, ToBranch, ToGeneral, Mpylu, Mpyhs}
+use Rattle.vx_base.specs.declared.arithmetic.Code.TheVariants.{Add, And, Mov, Shl, ToBranch, ToGeneral, Mpylu, Mpyhs}
 use Rattle.std.specs.Int.{int_wrap}
-use Rattle.vx_base.specs.Arithmetic.{compare_of}
+use Rattle.vx_base.specs.Arithmetic.{compare_of, shl_of}
 use Rattle.vx_flow.specs.Effects.{computed}
 use Rattle.vx_flow.specs.declared.graph.Operand.TheVariants.{Held, Number}
-use Rattle.vx_flow.specs.declared.graph.Op.TheVariants.{Compute}
+use Rattle.vx_flow.specs.declared.graph.Op.{Op}
+use Rattle.vx_flow.specs.declared.graph.Op.TheVariants.{Compute, Place, Load, Store}
 use Rattle.vx_flow.specs.declared.graph.Exit.TheVariants.{Goto, Split}
 use Rattle.vx_flow.specs.declared.graph.Block.{Block}
 use Rattle.vx_facts.specs.declared.fact.Fact.{Fact}
-use Rattle.vx_facts.specs.declared.fact.Fact.TheVariants.{Between}
-use Rattle.vx_facts.specs.Facts.{after_all, decided}
-use Rattle.vx_facts.specs.Checking.{is_block_checked}
+use Rattle.vx_facts.specs.declared.fact.Fact.TheVariants.{Between, Equals}
+use Rattle.vx_facts.specs.Facts.{decided}
+use Rattle.vx_facts.specs.Forming.{after_all}
+use Rattle.vx_facts.specs.declared.claim.Claim.{Claim}
+use Rattle.vx_facts.specs.Checking.{nothing, is_block_checked}
+use Rattle.vx_facts.specs.Shortening.{improved_all, shift_of, shift_below}
 
 abbrev begins : Block
 begins = record { ops = Compute Mov 0 (Number (pos 0)) (Number (pos 0)) ∷ []; exit = Goto 1 }
@@ -35,19 +39,25 @@ claims (suc (suc (suc (suc zero)))) = Between 0 (record { low = pos 0; high = po
 claims (suc (suc (suc (suc (suc zero))))) = []
 claims (suc (suc (suc (suc (suc (suc b)))))) = []
 
-one : is_block_checked claims 0 begins ≡ true
+abbrev of_facts : List Fact → Claim
+of_facts fs = record { facts = fs; accesses = [] }
+
+abbrev at_start : (ℕ → List Fact) → ℕ → Claim
+at_start claims b = of_facts (claims b)
+
+one : is_block_checked (at_start claims) 0 begins ≡ true
 one = refl
 
-two : is_block_checked claims 1 tests ≡ true
+two : is_block_checked (at_start claims) 1 tests ≡ true
 two = refl
 
-three : is_block_checked claims 2 checks ≡ true
+three : is_block_checked (at_start claims) 2 checks ≡ true
 three = refl
 
-four : is_block_checked claims 4 steps ≡ true
+four : is_block_checked (at_start claims) 4 steps ≡ true
 four = refl
 
-gone : decided (after_all (claims 2) checks.ops) 2 ≡ Some true
+gone : decided (after_all (of_facts (claims 2)) checks.ops) 2 ≡ Some true
 gone = refl
 
 -- what is not so
@@ -61,7 +71,7 @@ wide (suc (suc (suc (suc zero)))) = Between 0 (record { low = pos 0; high = pos 
 wide (suc (suc (suc (suc (suc zero))))) = []
 wide (suc (suc (suc (suc (suc (suc b)))))) = []
 
-five : is_block_checked wide 4 steps ≡ false
+five : is_block_checked (at_start wide) 4 steps ≡ false
 five = refl
 
 -- a sum that may wrap
@@ -74,10 +84,10 @@ top (suc (suc (suc (suc zero)))) = Between 0 (record { low = pos 0; high = pos 2
 top (suc (suc (suc (suc (suc zero))))) = []
 top (suc (suc (suc (suc (suc (suc b)))))) = []
 
-six : is_block_checked top 4 steps ≡ false
+six : is_block_checked (at_start top) 4 steps ≡ false
 six = refl
 
-unknown : decided (after_all [] checks.ops) 2 ≡ None
+unknown : decided (after_all nothing checks.ops) 2 ≡ None
 unknown = refl
 
 -- i * 64 + j with i and j below 64, in the three operations of a product: inside an array of 4096 words
@@ -92,7 +102,7 @@ index = record {
 abbrev both_below : List Fact
 both_below = Between 0 (record { low = pos 0; high = pos 63 }) ∷ Between 1 (record { low = pos 0; high = pos 63 }) ∷ []
 
-matrix : decided (after_all both_below index.ops) 6 ≡ Some true
+matrix : decided (after_all (of_facts both_below) index.ops) 6 ≡ Some true
 matrix = refl
 
 -- why inputs and numbers must have 32 bits: 2 ^ 32 + 5 passes a check against 10, and is not below 10
@@ -106,3 +116,38 @@ is_below = refl
 -- why a decided compare may not become a number where states must stay equal: what is undefined lies in every interval
 stays_undefined : computed (ToGeneral Lt) (computed And None (Some (pos 7))) (Some (pos 8)) ≡ None
 stays_undefined = refl
+
+-- the product is the last of the three, in one operation: with 48, and with a power of 2
+
+abbrev three_by : ℤ → List Op
+three_by n = Compute Mpylu 2 (Number n) (Held 0) ∷ Compute Mpyhs 3 (Number n) (Held 0) ∷ Compute Add 4 (Held 2) (Held 3) ∷ []
+
+abbrev and_then : ℤ → Op → List Op
+and_then n op = Compute Mpylu 2 (Number n) (Held 0) ∷ Compute Mpyhs 3 (Number n) (Held 0) ∷ op ∷ []
+
+small : improved_all nothing (three_by (pos 48)) ≡ and_then (pos 48) (Compute Mpylu 4 (Held 0) (Number (pos 48)))
+unfolding shift_of shift_below shl_of int_wrap
+small = refl
+
+power : improved_all nothing (three_by (pos 64)) ≡ and_then (pos 64) (Compute Shl 4 (Held 0) (Number (pos 6)))
+unfolding shift_of shift_below shl_of int_wrap
+power = refl
+
+-- what was moved is read where it came from, and the test still bounds both
+copied : decided (after_all (of_facts (Between 0 (record { low = pos 0; high = pos 9 }) ∷ Equals 0 Mov (Held 8) (Number (pos 0)) ∷ [])) (Compute (ToBranch Ltu) 2 (Held 0) (Number (pos 10)) ∷ [])) 2 ≡ Some true
+copied = refl
+
+-- a number of 17 bits stays
+large : improved_all nothing (three_by (pos 65537)) ≡ three_by (pos 65537)
+unfolding shift_of shift_below shl_of int_wrap
+large = refl
+
+-- a word that was stored is not loaded, nor is one that was loaded, unless its array was stored to between
+abbrev accesses : List Op
+accesses =
+    Place 1 7 (Held 0) ∷ Load 2 7 (Held 1) false ∷ Place 3 7 (Held 0) ∷ Load 4 7 (Held 3) false ∷ Store 8 (Held 1) (Held 4) ∷ Load 5 7 (Held 1) false ∷ Store 7 (Held 6) (Held 0) ∷ Load 9 7 (Held 1) false
+    ∷ Load 10 7 (Held 6) false ∷ Place 11 7 (Held 0) ∷ Load 12 7 (Held 11) false ∷ []
+
+words : improved_all nothing accesses ≡ Place 1 7 (Held 0) ∷ Load 2 7 (Held 1) false ∷ Place 3 7 (Held 0) ∷ Compute Mov 4 (Held 2) (Number (pos 0)) ∷ Store 8 (Held 1) (Held 2) ∷ Compute Mov 5 (Held 2) (Number (pos 0)) ∷ Store 7 (Held 6) (Held 0) ∷ Load 9 7 (Held 1) false
+    ∷ Compute Mov 10 (Held 0) (Number (pos 0)) ∷ Place 11 7 (Held 0) ∷ Compute Mov 12 (Held 9) (Number (pos 0)) ∷ []
+words = refl

@@ -12,15 +12,19 @@ use Rattle.vx_flow.specs.declared.graph.Graph.{Graph}
 use Rattle.vx_flow.specs.declared.graph.Flow.{Flow}
 use Rattle.vx_flow.specs.Effects.{State, Setting}
 use Rattle.vx_flow.specs.Meaning.{Hop, Arrives, Calls, Leaves, Stops, Wrong, hop_of, block_hop, Body, Program, Frame, Active, deepest, enters, waits, after_hop, body_hop, hop, next, body_of, program_of, setting_of, globals_at_start, entered_or, start}
+use Rattle.vx_facts.specs.declared.claim.Claim.{Claim}
 use Rattle.vx_facts.specs.declared.fact.Fact.{Fact}
-use Rattle.vx_facts.specs.Facts.{after_all, decided}
+use Rattle.vx_facts.specs.Facts.{decided}
+use Rattle.vx_facts.specs.Forming.{after_all, accessed_all}
 use Rattle.vx_facts.specs.Checking.{has_numbers, is_exit_checked, Checked, side_of, GoesTo, DecidedGoes}
-use Rattle.vx_facts.specs.Rewriting.{improved_all, split_by, narrowed_exit, narrowed_block, narrowed_from, narrowed_graph, narrowed, NarrowedRuns}
+use Rattle.vx_facts.specs.Rewriting.{split_by, narrowed_exit, narrowed_block, narrowed_from, narrowed_graph, narrowed, NarrowedRuns}
+use Rattle.vx_facts.specs.Shortening.{improved_all}
 use Rattle.vx_facts.proofs.Ranges.{and_one}
+use Rattle.vx_facts.proofs.Sizes.{sized_differ}
 use Rattle.vx_facts.proofs.RunFacts.{ActiveGood, next_good, start_good, reached_good}
 use Rattle.vx_facts.proofs.Narrows.{Refines, block_refines, get_block, get_function, goes}
 
-module _ (flow : Flow) (claims : ℕ → ℕ → List Fact) (checked : Checked flow claims) where
+module _ (flow : Flow) (claims : ℕ → ℕ → Claim) (checked : Checked flow claims) where
   abbrev old : Program
   old = program_of flow
 
@@ -43,8 +47,8 @@ module _ (flow : Flow) (claims : ℕ → ℕ → List Fact) (checked : Checked f
           Refines (hop_of (setting_of old r.base) r.block o r.state) (hop_of (setting_of old r.base) r.block (option_map (narrowed_block (claims r.function) r.block) o) r.state)
       inner g e None q = inl refl
       inner g e (Some block) q =
-          block_refines (claims r.function) (setting_of old r.base) r.block block r.state a.good
-          (and_one (list_all has_numbers block.ops) (is_exit_checked (claims r.function) (after_all (claims r.function r.block) block.ops) block.exit) (checked.blocks r.function r.block g block e q))
+          block_refines (claims r.function) (setting_of old r.base) (sized_differ flow r a.sized) r.block block r.state a.known
+          (and_one (list_all has_numbers block.ops) (is_exit_checked (claims r.function) (after_all (claims r.function r.block) block.ops) (accessed_all (claims r.function r.block) block.ops) block.exit) (checked.blocks r.function r.block g block e q))
 
       block_is : (g : Graph) → slice_get (narrowed_from (claims r.function) 0 g.blocks) r.block ≡ option_map (narrowed_block (claims r.function) r.block) (slice_get g.blocks r.block)
       block_is g = let e : 0 + r.block ≡ r.block = omega arith in get_block (claims r.function) 0 g.blocks r.block ∙ ap (λ m. option_map (narrowed_block (claims r.function) m) (slice_get g.blocks r.block)) e
@@ -56,7 +60,7 @@ module _ (flow : Flow) (claims : ℕ → ℕ → List Fact) (checked : Checked f
 
   -- ---- behind it
 
-  enters_alike : (k : ℕ → List Fact) (g : ℕ) (o : Option Graph) (ns : List ℤ) (s : State) (fs : List Frame) → enters g (as_body (option_map (narrowed_graph k) o)) ns s fs ≡ enters g (as_body o) ns s fs
+  enters_alike : (k : ℕ → Claim) (g : ℕ) (o : Option Graph) (ns : List ℤ) (s : State) (fs : List Frame) → enters g (as_body (option_map (narrowed_graph k) o)) ns s fs ≡ enters g (as_body o) ns s fs
   enters_alike k g None ns s fs = refl
   enters_alike k g (Some h) ns s fs = refl
 
@@ -93,7 +97,7 @@ module _ (flow : Flow) (claims : ℕ → ℕ → List Fact) (checked : Checked f
       by (On q) e h = h q e
       by (Over o) e h = refl
 
-  start_alike : (k : ℕ → List Fact) (o : Option Graph) (s : State) → entered_or (as_body (option_map (narrowed_graph k) o)) s ≡ entered_or (as_body o) s
+  start_alike : (k : ℕ → Claim) (o : Option Graph) (s : State) → entered_or (as_body (option_map (narrowed_graph k) o)) s ≡ entered_or (as_body o) s
   start_alike k None s = refl
   start_alike k (Some g) s = refl
 
@@ -110,7 +114,7 @@ narrowed_runs flow claims checked input numbers safe n =
 
 -- ---- where a decided split leads
 
-module _ (flow : Flow) (claims : ℕ → ℕ → List Fact) (checked : Checked flow claims) where
+module _ (flow : Flow) (claims : ℕ → ℕ → Claim) (checked : Checked flow claims) where
   narrow_goes : (fs : List Fact) (setting : Setting) (b p c d : ℕ) (answer : Bool) (block : Block) (ops : List Op) (s : State) (h : Hop) → block.exit ≡ Split p c d → decided fs p ≡ Some answer →
       Refines h (block_hop setting b ops (narrowed_exit fs block.exit) s) → GoesTo b (side_of answer c d) h
   narrow_goes fs setting b p c d answer block ops s h e q (inl w) = inl w
@@ -128,6 +132,6 @@ decided_goes flow claims checked input numbers n r l g block p c d answer e q x 
     let a = reached_good flow claims checked input numbers n r l in
     let setting = setting_of (program_of flow) r.base in
     let fs = after_all (claims r.function r.block) block.ops in
-    let k = block_refines (claims r.function) setting r.block block r.state a.good (and_one (list_all has_numbers block.ops) (is_exit_checked (claims r.function) fs block.exit) (checked.blocks r.function r.block g block e q)) in
+    let k = block_refines (claims r.function) setting (sized_differ flow r a.sized) r.block block r.state a.known (and_one (list_all has_numbers block.ops) (is_exit_checked (claims r.function) fs (accessed_all (claims r.function r.block) block.ops) block.exit) (checked.blocks r.function r.block g block e q)) in
     subst (GoesTo r.block (side_of answer c d)) (sym (hop_by flow claims checked r g block e q))
     (narrow_goes flow claims checked fs setting r.block p c d answer block (improved_all (claims r.function r.block) block.ops) r.state (hop_of setting r.block (Some block) r.state) x w k)

@@ -12,7 +12,7 @@ use Rattle.vx_flow.specs.Effects.{Content, State, Setting, held, computed, chose
 use Rattle.vx_facts.specs.declared.intervals.Interval.{Interval}
 use Rattle.vx_facts.specs.declared.fact.Fact.{Fact}
 use Rattle.vx_facts.specs.declared.fact.Fact.TheVariants.{Between, Equals}
-use Rattle.vx_facts.specs.Facts.{least, greatest, full, Within, content, Holds, AllHold, range_of, times_if, bit, result_within, is_held, names, kept_if, without, equals_if, after}
+use Rattle.vx_facts.specs.Facts.{least, greatest, full, Within, content, Holds, AllHold, range_of, times_if, bit, result_within, is_held, names, kept_if, without, equals_if, is_full, between_unless, lies_in, after}
 use Rattle.vx_facts.specs.Checking.{is_number, has_number, has_numbers}
 use Rattle.vx_facts.proofs.Ranges.{number_within, and_one, and_two, le_holds, Fit, computed_fits, range_of_holds, bit_holds, times_holds, computed_holds}
 use Rattle.std.proofs.Math.IntN.{*ℤ_comm}
@@ -74,6 +74,14 @@ rows_take (suc n) [] f p j = tt
 rows_take (suc n) (x ∷ xs) f zero j = f zero j
 rows_take (suc n) (x ∷ xs) f (suc p) j = rows_take n xs (λ q k. f (suc q) k) p j
 
+pub or_one : (a b : Bool) → (a || b) ≡ false → a ≡ false
+or_one true b e = e
+or_one false b e = refl
+
+pub or_two : (a b : Bool) → (a || b) ≡ false → b ≡ false
+or_two true b e = absurd (cc)
+or_two false b e = e
+
 -- ---- a value that is written
 
 abbrev pub written : ℕ → Content → (ℕ → Content) → ℕ → Content
@@ -90,14 +98,6 @@ module _ (values : ℕ → Content) (v : ℕ) (x : Content) where
   content_other (Held u) e = other u e
   content_other (Number n) e = refl
   content_other Stack e = refl
-
-  or_one : (a b : Bool) → (a || b) ≡ false → a ≡ false
-  or_one true b e = e
-  or_one false b e = refl
-
-  or_two : (a b : Bool) → (a || b) ≡ false → b ≡ false
-  or_two true b e = absurd (cc)
-  or_two false b e = e
 
   other_holds : (f : Fact) → names v f ≡ false → Holds values f → Holds (written v x values) f
   other_holds (Between u i) e h = subst (Within i) (sym (other u e)) h
@@ -132,13 +132,20 @@ module _ (values : ℕ → Content) (v : ℕ) (x : Content) where
       by true = f
       by false = fit u
 
-  pub computed_new : (fs : List Fact) (code : Code) (a b : Operand) → Fit values → AllHold values fs → has_number a ≡ true → has_number b ≡ true → x ≡ computed code (content values a) (content values b) →
-      AllHold (written v x values) (Between v (result_within code (range_of fs a) (range_of fs b)) ∷ (equals_if (is_held v a || is_held v b) v code a b ++ without v fs))
-  computed_new fs code a b fit h p q e = (
-    new_between (result_within code (range_of fs a) (range_of fs b)) (subst (Within (result_within code (range_of fs a) (range_of fs b))) (sym e)
-        (computed_holds code (range_of fs a) (range_of fs b) (content values a) (content values b) (range_of_holds values fs a fit h) (range_of_holds values fs b fit h) (content_fits values a fit p) (content_fits values b fit q))),
-    append_holds (written v x values) (equals_if (is_held v a || is_held v b) v code a b) (without v fs) (equals_holds (is_held v a || is_held v b) code a b (new_equals code a b e)) (without_holds fs h),
-  )
+  lies_hold : (i : Interval) (fs : List Fact) → Within i x → AllHold (written v x values) fs → AllHold (written v x values) (lies_in v i fs)
+  lies_hold i fs h k = by (is_full i)
+    where
+      by : (t : Bool) → AllHold (written v x values) (between_unless t v i fs)
+      by true = k
+      by false = (new_between i h, k)
+
+  pub computed_new : (fs : List Fact) (code : Code) (a b : Operand) → Fit values → AllHold values fs → Within full (content values a) → Within full (content values b) → x ≡ computed code (content values a) (content values b) →
+      AllHold (written v x values) (lies_in v (result_within code (range_of fs a) (range_of fs b)) (equals_if (is_held v a || is_held v b) v code a b ++ without v fs))
+  computed_new fs code a b fit h p q e =
+      lies_hold (result_within code (range_of fs a) (range_of fs b)) (equals_if (is_held v a || is_held v b) v code a b ++ without v fs)
+      (subst (Within (result_within code (range_of fs a) (range_of fs b))) (sym e)
+      (computed_holds code (range_of fs a) (range_of fs b) (content values a) (content values b) (range_of_holds values fs a fit h) (range_of_holds values fs b fit h) p q))
+      (append_holds (written v x values) (equals_if (is_held v a || is_held v b) v code a b) (without v fs) (equals_holds (is_held v a || is_held v b) code a b (new_equals code a b e)) (without_holds fs h))
 
 -- ---- states
 
@@ -203,25 +210,47 @@ printed_good : (s : State) (x : Content) (fs : List Fact) → Good fs s → Keep
 printed_good s None fs g = tt
 printed_good s (Some n) fs g = same_values s _ fs g refl refl refl
 
-pub op_good : (setting : Setting) (s : State) (fs : List Fact) (op : Op) → has_numbers op ≡ true → Good fs s → Keeps (after fs op) (effect setting s op s)
+-- what the operation reads has 32 bits
+abbrev pub OpFits : (ℕ → Content) → Op → Type 0
+OpFits values (Compute code v a b) = Within full (content values a) × Within full (content values b)
+OpFits values (Select v p a b) = Within full (content values a) × Within full (content values b)
+OpFits values (Place v a i) = Unit {0}
+OpFits values (Load v a p d) = Unit {0}
+OpFits values (Store a p x) = Within full (content values x)
+OpFits values (More v) = Unit {0}
+OpFits values (Input v) = Unit {0}
+OpFits values (Text n) = Unit {0}
+OpFits values (Decimal x) = Unit {0}
+OpFits values (Across v u) = Unit {0}
+
+pub numbers_fit : (values : ℕ → Content) (op : Op) → Fit values → has_numbers op ≡ true → OpFits values op
+numbers_fit values (Compute code v a b) fit e = (content_fits values a fit (and_one (has_number a) (has_number b) e), content_fits values b fit (and_two (has_number a) (has_number b) e))
+numbers_fit values (Select v p a b) fit e = (content_fits values a fit (and_one (has_number a) (has_number b) e), content_fits values b fit (and_two (has_number a) (has_number b) e))
+numbers_fit values (Place v a i) fit e = tt
+numbers_fit values (Load v a p d) fit e = tt
+numbers_fit values (Store a p x) fit e = content_fits values x fit e
+numbers_fit values (More v) fit e = tt
+numbers_fit values (Input v) fit e = tt
+numbers_fit values (Text n) fit e = tt
+numbers_fit values (Decimal x) fit e = tt
+numbers_fit values (Across v u) fit e = tt
+
+pub op_good : (setting : Setting) (s : State) (fs : List Fact) (op : Op) → OpFits s.values op → Good fs s → Keeps (after fs op) (effect setting s op s)
 op_good setting s fs (Compute code v a b) e g =
-    let p = and_one (has_number a) (has_number b) e in
-    let q = and_two (has_number a) (has_number b) e in
     let is : computed code (held s a) (held s b) ≡ computed code (content s.values a) (content s.values b) = ap (λ c. computed code c (held s b)) (held_is s a) ∙ ap (λ c. computed code (content s.values a) c) (held_is s b) in
-    writes_good s v (computed code (held s a) (held s b)) _ g.fits (computed_fits code (held s a) (held s b) (held_fits s a g.fits.values p) (held_fits s b g.fits.values q))
-    (computed_new s.values v (computed code (held s a) (held s b)) fs code a b g.fits.values g.facts p q is)
+    writes_good s v (computed code (held s a) (held s b)) _ g.fits (computed_fits code (held s a) (held s b) (subst (Within full) (sym (held_is s a)) e.0) (subst (Within full) (sym (held_is s b)) e.1))
+    (computed_new s.values v (computed code (held s a) (held s b)) fs code a b g.fits.values g.facts e.0 e.1 is)
 op_good setting s fs (Select v p a b) e g =
-    unknown_good s v _ fs g (chosen_fits (s.values p) (held s a) (held s b) (held_fits s a g.fits.values (and_one (has_number a) (has_number b) e)) (held_fits s b g.fits.values (and_two (has_number a) (has_number b) e)))
+    unknown_good s v _ fs g (chosen_fits (s.values p) (held s a) (held s b) (subst (Within full) (sym (held_is s a)) e.0) (subst (Within full) (sym (held_is s b)) e.1))
 op_good setting s fs (Place v a i) e g =
     let i4 = times_if true (range_of fs i) (pos 4) in
-    writes_good s v (place_of (held s i)) _ g.fits (place_fits (held s i)) (
-      new_between s.values v (place_of (held s i)) i4 (place_within (range_of fs i) (held s i) (subst (Within (range_of fs i)) (sym (held_is s i)) (range_of_holds s.values fs i g.fits.values g.facts))),
-      without_holds s.values v (place_of (held s i)) fs g.facts,
-    )
+    writes_good s v (place_of (held s i)) _ g.fits (place_fits (held s i))
+    (lies_hold s.values v (place_of (held s i)) i4 (without v fs) (place_within (range_of fs i) (held s i) (subst (Within (range_of fs i)) (sym (held_is s i)) (range_of_holds s.values fs i g.fits.values g.facts)))
+    (without_holds s.values v (place_of (held s i)) fs g.facts))
 op_good setting s fs (Load v a p d) e g = loaded_good s v (row_of s (setting.spot a)) (cell_of setting s a p) d fs g (g.fits.rows (setting.spot a))
-op_good setting s fs (Store a p x) e g = stored_good s (setting.spot a) (cell_of setting s a p) (held s x) fs g (held_fits s x g.fits.values e)
+op_good setting s fs (Store a p x) e g = stored_good s (setting.spot a) (cell_of setting s a p) (held s x) fs g (subst (Within full) (sym (held_is s x)) e)
 op_good setting s fs (More v) e g =
-    writes_good s v (Some (one_if (is_left s.input))) _ g.fits (bit_full (is_left s.input)) (new_between s.values v _ bit (bit_holds (is_left s.input)), without_holds s.values v _ fs g.facts)
+    writes_good s v (Some (one_if (is_left s.input))) _ g.fits (bit_full (is_left s.input)) (lies_hold s.values v (Some (one_if (is_left s.input))) bit (without v fs) (bit_holds (is_left s.input)) (without_holds s.values v (Some (one_if (is_left s.input))) fs g.facts))
   where
     bit_full : (t : Bool) → Within full (Some (one_if t))
     bit_full true = number_fits (pos 1) refl

@@ -1,9 +1,9 @@
 -- Intervals: what holds of operands holds of what an operation gives, and what a test says of its operands holds of them.
 use Rattle.std.proofs.Common.{◌≡◌, ℕ, zero, suc, ◌^◌, ◌<◌, ◌==◌, Bool, true, false, cond, ◌&&◌, ◌≤ℤ◌, ◌<ℤ◌, ℤ, pos, negsuc, ◌+ℤ◌, ◌-ℤ◌, ◌*ℤ◌, int_le, int_lt, ◌*◌, ◌/◌, ◌%◌, ◌≤◌, bit_and, List, [], ◌∷◌, Some, None, refl, sym, ap, ◌∙◌, subst, arith}
 use Rattle.std.specs.Int.{w32, int_max, int_min}
-use Rattle.std.proofs.lemmas.Int.{ints, int_wrap_fits}
+use Rattle.std.proofs.lemmas.Int.{ints, int_wrap_fits, int_wrap-mul_right}
 use Rattle.std.proofs.lemmas.Bool.{eqb-true}
-use Rattle.vx_base.specs.Arithmetic.{IsNumber, wrap, unsigned, and_of, remainder_of, mpylu_of, mpyhs_of, sum_of, difference_of, one_if, value_of, compare_of}
+use Rattle.vx_base.specs.Arithmetic.{IsNumber, wrap, unsigned, shift_by, product_of, shl_of, and_of, remainder_of, mpylu_of, mpyhs_of, sum_of, difference_of, one_if, value_of, compare_of}
 use Rattle.vx_base.specs.declared.arithmetic.Code.{Code}
 use Rattle.vx_base.specs.declared.arithmetic.Code.TheVariants.{Add, Sub, And, Or, Xor, Shl, Shr, Shru, Sh2add, Max, Min, Mov, ToGeneral, ToBranch, Mpylu, Mpyhs, Div, Rem}
 use Rattle.vx_base.proofs.WrapLaws.{wrap_fits, unsigned_number, wrap-unsigned_times}
@@ -17,7 +17,7 @@ use Rattle.vx_flow.specs.Effects.{Content, both, computed, is_unary}
 use Rattle.vx_facts.specs.declared.intervals.Interval.{Interval}
 use Rattle.vx_facts.specs.declared.fact.Fact.{Fact}
 use Rattle.vx_facts.specs.declared.fact.Fact.TheVariants.{Between, Equals}
-use Rattle.vx_facts.specs.Facts.{least, greatest, full, Within, content, AllHold, meet, meet_if, range, range_of, fitting, sum_within, difference_within, up_to, is_above, and_within, remainder_within, times_if, product_if, is_half, times_or_product, low_product_within, high_product_within, zero_only, bit, result_within}
+use Rattle.vx_facts.specs.Facts.{least, greatest, full, Within, content, AllHold, meet, meet_if, range, range_of, fitting, sum_within, difference_within, up_to, is_above, and_within, remainder_within, times_if, product_if, is_half, times_or_product, low_product_within, high_product_within, zero_only, bit, shifted_within, result_within}
 
 pub number_within : (z : ℤ) → IsNumber z → Within full (Some z)
 number_within (pos n) f = (omega (arith, ints), omega (arith, ints, f.sfits))
@@ -123,6 +123,39 @@ times_above x y (suc n) h =
 pub times_holds : (i : Interval) (x : ℤ) (n : ℕ) → Within i (Some x) → Within (times_if true i (pos n)) (Some (wrap (x *ℤ pos n)))
 times_holds i x n h = fitting_holds (i.low *ℤ pos n) (i.high *ℤ pos n) (x *ℤ pos n) (times_above i.low x n h.0) (times_above x i.high n h.1)
 
+one_times : (z : ℤ) → pos 1 *ℤ z ≡ z
+one_times z = omega (arith, ints)
+
+pub shifted_whole : (a k n : ℤ) → shl_of (pos 1) k ≡ n → shl_of a k ≡ product_of a n
+unfolding shl_of product_of
+shifted_whole a k n e =
+    let power : ℤ = pos (2 ^ shift_by k) in
+    ap (λ z. wrap (a *ℤ z)) (sym (one_times power)) ∙ sym (int_wrap-mul_right w32 a (pos 1 *ℤ power)) ∙ ap (λ z. wrap (a *ℤ z)) e
+
+factor_holds : (i : Interval) (x n m : ℤ) → Within i (Some x) → n ≡ m → pos 0 ≤ℤ m → Within (times_if true i m) (Some (product_of x n))
+unfolding product_of
+factor_holds i x n (pos m) h e l = subst (λ z. Within (times_if true i (pos m)) (Some (wrap (x *ℤ z)))) (sym e) (times_holds i x m h)
+factor_holds i x n (negsuc m) h e l = absurd (omega (arith, ints))
+
+shl_fits : (x y : ℤ) → IsNumber (shl_of x y)
+unfolding shl_of
+shl_fits x y = wrap_fits (x *ℤ pos (2 ^ shift_by y))
+
+shifted_holds : (i j : Interval) (x y : ℤ) → Within i (Some x) → Within j (Some y) → Within (shifted_within i j) (Some (shl_of x y))
+shifted_holds i j x y h k = by (int_le j.high j.low && int_le (pos 0) n) refl
+  where
+    n : ℤ
+    n = shl_of (pos 1) j.low
+
+    by : (t : Bool) → (int_le j.high j.low && int_le (pos 0) n) ≡ t → Within (times_if t i n) (Some (shl_of x y))
+    by true e =
+        let l : j.high ≤ℤ j.low = le_holds j.high j.low (and_one (int_le j.high j.low) (int_le (pos 0) n) e) in
+        let k0 : j.low ≤ℤ y = k.0 in
+        let k1 : y ≤ℤ j.high = k.1 in
+        let same : j.low ≡ y = omega (arith, ints) in
+        subst (λ z. Within (times_if true i n) (Some z)) (sym (shifted_whole x j.low n refl) ∙ ap (shl_of x) same) (factor_holds i x n n h refl (le_holds (pos 0) n (and_two (int_le j.high j.low) (int_le (pos 0) n) e)))
+    by false e = number_within (shl_of x y) (shl_fits x y)
+
 bits_of : (n : ℕ) → n < 2 ^ 31 → unsigned (pos n) ≡ n
 bits_of n h = unsigned_number (pos n) (record { sfits = omega arith })
 
@@ -142,22 +175,23 @@ product_holds i j x y h k a b =
     fitting_holds (i.low *ℤ j.low) (i.high *ℤ j.high) (x *ℤ y) (product_above i.low j.low x y a h.0 b k.0)
     (product_above x y i.high j.high (le_then (pos 0) i.low x a h.0) h.1 (le_then (pos 0) j.low y b k.0) k.1)
 
+-- times a number below 2 ^ 16
+pub small_product : (x : ℤ) (n : ℕ) → pos n ≤ℤ pos 65535 → wrap (pos (unsigned x * (unsigned (pos n) % 2 ^ 16))) ≡ wrap (x *ℤ pos n)
+small_product x n l =
+    let m : n < 2 ^ 16 = omega (arith, ints) in
+    let w : n < 2 ^ 31 = omega arith in
+    ap (λ u. wrap (pos (unsigned x * (u % 2 ^ 16)))) (bits_of n w) ∙ ap (λ u. wrap (pos (unsigned x * u))) (mod-eq_of_lt m) ∙ wrap-unsigned_times x n
+
 low_product_holds : (i j : Interval) (x y : ℤ) → Within i (Some x) → Within j (Some y) → Within full (Some x) → Within (low_product_within i j) (Some (mpylu_of x y))
 unfolding mpylu_of
 low_product_holds i j x y h k f = by (int_le j.high j.low && (int_le (pos 0) j.low && int_le j.high (pos 65535))) refl
   where
-    small : (n : ℕ) → pos n ≤ℤ pos 65535 → wrap (pos (unsigned x * (unsigned (pos n) % 2 ^ 16))) ≡ wrap (x *ℤ pos n)
-    small n l =
-        let m : n < 2 ^ 16 = omega (arith, ints) in
-        let w : n < 2 ^ 31 = omega arith in
-        ap (λ u. wrap (pos (unsigned x * (u % 2 ^ 16)))) (bits_of n w) ∙ ap (λ u. wrap (pos (unsigned x * u))) (mod-eq_of_lt m) ∙ wrap-unsigned_times x n
-
     at : (z : ℤ) → pos 0 ≤ℤ z → z ≤ℤ pos 65535 → Within (times_if true i z) (Some (wrap (pos (unsigned x * (unsigned z % 2 ^ 16)))))
-    at (pos n) a b = subst (λ u. Within (times_if true i (pos n)) (Some u)) (sym (small n b)) (times_holds i x n h)
+    at (pos n) a b = subst (λ u. Within (times_if true i (pos n)) (Some u)) (sym (small_product x n b)) (times_holds i x n h)
     at (negsuc n) a b = absurd (omega (arith, ints))
 
     product : (z : ℤ) → Within j (Some z) → pos 0 ≤ℤ i.low → pos 0 ≤ℤ j.low → j.high ≤ℤ pos 65535 → Within (product_if true i j) (Some (wrap (pos (unsigned x * (unsigned z % 2 ^ 16)))))
-    product (pos n) w a b c = let l : pos n ≤ℤ pos 65535 = le_then (pos n) j.high (pos 65535) w.1 c in subst (λ u. Within (product_if true i j) (Some u)) (sym (small n l)) (product_holds i j x (pos n) h w a b)
+    product (pos n) w a b c = let l : pos n ≤ℤ pos 65535 = le_then (pos n) j.high (pos 65535) w.1 c in subst (λ u. Within (product_if true i j) (Some u)) (sym (small_product x n l)) (product_holds i j x (pos n) h w a b)
     product (negsuc n) w a b c = let m : pos 0 ≤ℤ negsuc n = le_then (pos 0) j.low (negsuc n) b w.0 in absurd (omega (arith, ints))
 
     other : (t : Bool) → (int_le (pos 0) i.low && (int_le (pos 0) j.low && int_le j.high (pos 65535))) ≡ t → Within (product_if t i j) (Some (wrap (pos (unsigned x * (unsigned y % 2 ^ 16)))))
@@ -271,7 +305,7 @@ result_holds Sub i j x y h k f g = difference_holds i j x y h k
 result_holds And i j x y h k f g = and_holds i j x y h k (fits_full And x y f g)
 result_holds Or i j x y h k f g = fits_full Or x y f g
 result_holds Xor i j x y h k f g = fits_full Xor x y f g
-result_holds Shl i j x y h k f g = fits_full Shl x y f g
+result_holds Shl i j x y h k f g = shifted_holds i j x y h k
 result_holds Shr i j x y h k f g = fits_full Shr x y f g
 result_holds Shru i j x y h k f g = fits_full Shru x y f g
 result_holds Sh2add i j x y h k f g = fits_full Sh2add x y f g

@@ -1,5 +1,5 @@
 -- Runs: checked facts hold wherever a block is entered.
-use Rattle.std.proofs.Common.{◌≡◌, inl, inr, ℕ, zero, suc, ◌==◌, ◌+◌, Bool, true, false, cond, ℤ, pos, int_le, nat_le, List, [], ◌∷◌, length, map, replicate, slice_get, slice_set, slice_index_or, Option, Some, None, refl, sym, subst, arith}
+use Rattle.std.proofs.Common.{◌≡◌, inl, inr, ℕ, zero, suc, ◌==◌, ◌+◌, Bool, true, false, cond, ℤ, pos, int_le, nat_le, List, [], ◌∷◌, length, map, take, replicate, slice_get, slice_set, slice_index_or, Option, Some, None, refl, sym, subst, arith}
 use Rattle.std.specs.List.{list_all}
 use Rattle.std.specs.Option.{option_map}
 use Rattle.std.proofs.lemmas.Int.{ints}
@@ -15,15 +15,22 @@ use Rattle.vx_flow.specs.declared.graph.Global.{Global}
 use Rattle.vx_flow.specs.declared.graph.Flow.{Flow}
 use Rattle.vx_flow.specs.Effects.{Content, State, Setting, IsIn, held, is_one, effect}
 use Rattle.vx_flow.specs.Meaning.{Hop, Arrives, Calls, Leaves, Stops, Wrong, known, with_front, by_test, calls, leaves, leave, and_then, block_hop, hop_of, Body, Frame, Active, deepest, undefined, at_entry, entered, enters, with_result, returned, waits, after_hop, body_hop, hop, next, body_of, program_of, setting_of, words_at_start, globals_at_start, entered_or, start}
+use Rattle.vx_facts.specs.declared.claim.Claim.{Claim}
 use Rattle.vx_facts.specs.declared.intervals.Interval.{Interval}
 use Rattle.vx_facts.specs.declared.fact.Fact.{Fact}
 use Rattle.vx_facts.specs.declared.fact.Fact.TheVariants.{Between, Equals}
-use Rattle.vx_facts.specs.Facts.{full, Within, AllHold, range, after, after_all, on_side}
-use Rattle.vx_facts.specs.Checking.{is_number, has_number, has_numbers, is_inside, gives, give, without_result, is_exit_checked, is_block_checked, Checked, Leads, FactsHold}
+use Rattle.vx_facts.specs.Facts.{full, Within, AllHold, range, on_side}
+use Rattle.vx_facts.specs.declared.access.Access.{Access}
+use Rattle.vx_facts.specs.Accesses.{SpotsDiffer, AllTell, tell, accessed}
+use Rattle.vx_facts.specs.Forming.{form, after_known, after_from, accessed_from, after_all, accessed_all}
+use Rattle.vx_facts.specs.Checking.{is_number, has_number, has_numbers, is_inside, gives, give, without_result, are_given, are_given_behind, is_exit_checked, is_block_checked, Checked, Leads, FactsHold}
 use Rattle.vx_facts.proofs.Ranges.{number_within, and_one, and_two, le_holds, Fit, range_holds}
 use Rattle.vx_facts.proofs.Equal.{has_holds}
 use Rattle.vx_facts.proofs.Tests.{side_holds}
-use Rattle.vx_facts.proofs.Operations.{number_fits, held_fits, RowsFit, NumbersFit, StateFit, rows_append, rows_take, without_holds, written_fits, Good, Keeps, op_good}
+use Rattle.vx_facts.proofs.Operations.{number_fits, held_fits, RowsFit, NumbersFit, StateFit, rows_append, rows_take, without_holds, written_fits, Good}
+use Rattle.vx_facts.proofs.Behind.{Known, KeepsKnown, Claimed, form_known}
+use Rattle.vx_facts.proofs.Accesses.{tell_holds}
+use Rattle.vx_facts.proofs.Sizes.{Sized, sized_differ, next_sized, start_sized}
 
 -- ---- claims
 
@@ -42,23 +49,29 @@ give_holds : (values : ℕ → Content) (fs claims : List Fact) → Fit values �
 give_holds values fs [] fit h e = tt
 give_holds values fs (f ∷ gs) fit h e = ((gives_holds values fs f fit h (and_one (gives fs f) (give fs gs) e)).0, give_holds values fs gs fit h (and_two (gives fs f) (give fs gs) e))
 
-give_good : (s : State) (fs claims : List Fact) → Good fs s → give fs claims ≡ true → Good claims s
-give_good s fs claims g e = record { facts = give_holds s.values fs claims g.fits.values g.facts e; fits = g.fits }
+given_good : (setting : Setting) (s : State) (fs : List Fact) (xs : List Access) (claim : Claim) → Good fs s → AllTell setting s xs → are_given fs xs claim ≡ true → Claimed setting claim s
+given_good setting s fs xs claim g h e = record {
+  good = record { facts = give_holds s.values fs claim.facts g.fits.values g.facts (and_one (give fs claim.facts) (tell xs claim.accesses) e); fits = g.fits };
+  tell = tell_holds setting s xs claim.accesses h (and_two (give fs claim.facts) (tell xs claim.accesses) e);
+}
 
 -- ---- exits
 
-abbrev HopGood : (ℕ → List Fact) → Hop → Type 0
-HopGood claims (Arrives from to t) = Good (claims to) t
-HopGood claims (Calls g arguments result from to t) = NumbersFit arguments × StateFit t × ((n : ℤ) → Within full (Some n) → AllHold (with_result t.values result n) (claims to))
-HopGood claims (Leaves n t) = Within full (Some n) × StateFit t
-HopGood claims (Stops k t) = Unit {0}
-HopGood claims Wrong = Unit {0}
+abbrev IsResumed : Claim → (ℕ → Content) → Option ℕ → Type 0
+IsResumed claim values result = ((n : ℤ) → Within full (Some n) → AllHold (with_result values result n) claim.facts) × (tell [] claim.accesses ≡ true)
 
-test_good : (claims : ℕ → List Fact) (x : Content) (a b : Hop) → ((z : ℤ) → x ≡ Some z → is_one z ≡ true → HopGood claims a) → ((z : ℤ) → x ≡ Some z → is_one z ≡ false → HopGood claims b) → HopGood claims (by_test x a b)
-test_good claims None a b h k = tt
-test_good claims (Some z) a b h k = by (is_one z) refl
+abbrev HopGood : (ℕ → Claim) → Setting → Hop → Type 0
+HopGood claims setting (Arrives from to t) = Claimed setting (claims to) t
+HopGood claims setting (Calls g arguments result from to t) = NumbersFit arguments × StateFit t × IsResumed (claims to) t.values result
+HopGood claims setting (Leaves n t) = Within full (Some n) × StateFit t
+HopGood claims setting (Stops k t) = Unit {0}
+HopGood claims setting Wrong = Unit {0}
+
+test_good : (claims : ℕ → Claim) (setting : Setting) (x : Content) (a b : Hop) → ((z : ℤ) → x ≡ Some z → is_one z ≡ true → HopGood claims setting a) → ((z : ℤ) → x ≡ Some z → is_one z ≡ false → HopGood claims setting b) → HopGood claims setting (by_test x a b)
+test_good claims setting None a b h k = tt
+test_good claims setting (Some z) a b h k = by (is_one z) refl
   where
-    by : (t : Bool) → is_one z ≡ t → HopGood claims (cond t a b)
+    by : (t : Bool) → is_one z ≡ t → HopGood claims setting (cond t a b)
     by true e = h z refl e
     by false e = k z refl e
 
@@ -86,67 +99,86 @@ pub result_fits : (values : ℕ → Content) (result : Option ℕ) (n : ℤ) →
 result_fits values None n fit f = fit
 result_fits values (Some r) n fit f = written_fits values r (Some n) fit f
 
-calls_good : (claims : ℕ → List Fact) (g : ℕ) (o : Option (List ℤ)) (result : Option ℕ) (b to : ℕ) (s : State) (fs : List Fact) → Good fs s → KnownFit o → give (without_result result fs) (claims to) ≡ true → HopGood claims (calls g o result b to s)
-calls_good claims g None result b to s fs good k e = tt
-calls_good claims g (Some ns) result b to s fs good k e =
-    (k, good.fits, λ n f. give_holds (with_result s.values result n) (without_result result fs) (claims to) (result_fits s.values result n good.fits.values f) (result_holds s.values result n fs good.facts) e)
+calls_good : (claims : ℕ → Claim) (setting : Setting) (g : ℕ) (o : Option (List ℤ)) (result : Option ℕ) (b to : ℕ) (s : State) (fs : List Fact) → Good fs s → KnownFit o → are_given_behind (without_result result fs) (claims to) ≡ true → HopGood claims setting (calls g o result b to s)
+calls_good claims setting g None result b to s fs good k e = tt
+calls_good claims setting g (Some ns) result b to s fs good k e =
+    let behind = without_result result fs in
+    let e1 = and_one (give behind (claims to).facts) (tell [] (claims to).accesses) e in
+    let resumed : IsResumed (claims to) s.values result =
+    ((λ n f. give_holds (with_result s.values result n) behind (claims to).facts (result_fits s.values result n good.fits.values f) (result_holds s.values result n fs good.facts) e1), and_two (give behind (claims to).facts) (tell [] (claims to).accesses) e) in
+    (k, good.fits, resumed)
 
-leaves_good : (claims : ℕ → List Fact) (x : Content) (s : State) → Within full x → StateFit s → HopGood claims (leaves x s)
-leaves_good claims None s f g = tt
-leaves_good claims (Some n) s f g = (f, g)
+leaves_good : (claims : ℕ → Claim) (setting : Setting) (x : Content) (s : State) → Within full x → StateFit s → HopGood claims setting (leaves x s)
+leaves_good claims setting None s f g = tt
+leaves_good claims setting (Some n) s f g = (f, g)
 
-leave_good : (claims : ℕ → List Fact) (b : ℕ) (exit : Exit) (s : State) (fs : List Fact) → Good fs s → is_exit_checked claims fs exit ≡ true → HopGood claims (leave b exit s)
-leave_good claims b (Goto c) s fs g e = give_good s fs (claims c) g e
-leave_good claims b (Split p c d) s fs g e =
-    test_good claims (s.values p) (Arrives b c s) (Arrives b d s)
-    (λ z is one. give_good s (on_side fs true p) (claims c) (record { facts = side_holds s.values g.fits.values fs g.facts p z true is one; fits = g.fits }) (and_one (give (on_side fs true p) (claims c)) (give (on_side fs false p) (claims d)) e))
-    (λ z is one. give_good s (on_side fs false p) (claims d) (record { facts = side_holds s.values g.fits.values fs g.facts p z false is one; fits = g.fits }) (and_two (give (on_side fs true p) (claims c)) (give (on_side fs false p) (claims d)) e))
-leave_good claims b (Call f arguments result to) s fs g e =
-    calls_good claims f (known (map (held s) arguments)) result b to s fs g (known_fit s arguments g.fits.values (and_one (list_all has_number arguments) (give (without_result result fs) (claims to)) e)) (and_two (list_all has_number arguments) (give (without_result result fs) (claims to)) e)
-leave_good claims b (Return x) s fs g e = leaves_good claims (held s x) s (held_fits s x g.fits.values e) g.fits
-leave_good claims b (Ends k) s fs g e = tt
+leave_good : (claims : ℕ → Claim) (setting : Setting) (b : ℕ) (exit : Exit) (s : State) (fs : List Fact) (xs : List Access) → Good fs s → AllTell setting s xs → is_exit_checked claims fs xs exit ≡ true → HopGood claims setting (leave b exit s)
+leave_good claims setting b (Goto c) s fs xs g h e = given_good setting s fs xs (claims c) g h e
+leave_good claims setting b (Split p c d) s fs xs g h e =
+    let one = are_given (on_side fs true p) xs (claims c) in
+    let two = are_given (on_side fs false p) xs (claims d) in
+    test_good claims setting (s.values p) (Arrives b c s) (Arrives b d s)
+    (λ z is q. given_good setting s (on_side fs true p) xs (claims c) (record { facts = side_holds s.values g.fits.values fs g.facts p z true is q; fits = g.fits }) h (and_one one two e))
+    (λ z is q. given_good setting s (on_side fs false p) xs (claims d) (record { facts = side_holds s.values g.fits.values fs g.facts p z false is q; fits = g.fits }) h (and_two one two e))
+leave_good claims setting b (Call f arguments result to) s fs xs g h e =
+    let one = list_all has_number arguments in
+    let two = are_given_behind (without_result result fs) (claims to) in
+    calls_good claims setting f (known (map (held s) arguments)) result b to s fs g (known_fit s arguments g.fits.values (and_one one two e)) (and_two one two e)
+leave_good claims setting b (Return x) s fs xs g h e = leaves_good claims setting (held s x) s (held_fits s x g.fits.values e) g.fits
+leave_good claims setting b (Ends k) s fs xs g h e = tt
 
 -- ---- blocks
 
-then_good : (claims : ℕ → List Fact) (fs : List Fact) (o : Option State) (f : State → Hop) → Keeps fs o → ((t : State) → Good fs t → HopGood claims (f t)) → HopGood claims (and_then o f)
-then_good claims fs None f k h = tt
-then_good claims fs (Some t) f k h = h t k
+then_good : (claims : ℕ → Claim) (setting : Setting) (fs : List Fact) (xs : List Access) (o : Option State) (f : State → Hop) → KeepsKnown setting fs xs o → ((t : State) → Known setting fs xs t → HopGood claims setting (f t)) → HopGood claims setting (and_then o f)
+then_good claims setting fs xs None f k h = tt
+then_good claims setting fs xs (Some t) f k h = h t k
 
-ops_good : (claims : ℕ → List Fact) (setting : Setting) (b : ℕ) (ops : List Op) (exit : Exit) (fs : List Fact) (s : State) → Good fs s → list_all has_numbers ops ≡ true → is_exit_checked claims (after_all fs ops) exit ≡ true → HopGood claims (block_hop setting b ops exit s)
-ops_good claims setting b [] exit fs s g n e = leave_good claims b exit s fs g e
-ops_good claims setting b (op ∷ ops) exit fs s g n e =
-    then_good claims (after fs op) (effect setting s op s) (block_hop setting b ops exit) (op_good setting s fs op (and_one (has_numbers op) (list_all has_numbers ops) n) g)
-    (λ t k. ops_good claims setting b ops exit (after fs op) t k (and_two (has_numbers op) (list_all has_numbers ops) n) e)
+ops_good : (claims : ℕ → Claim) (setting : Setting) → SpotsDiffer setting → (b : ℕ) (ops : List Op) (exit : Exit) (fs : List Fact) (xs : List Access) (s : State) → Known setting fs xs s → list_all has_numbers ops ≡ true →
+    is_exit_checked claims (after_from fs xs ops) (accessed_from fs xs ops) exit ≡ true → HopGood claims setting (block_hop setting b ops exit s)
+ops_good claims setting differ b [] exit fs xs s k n e = leave_good claims setting b exit s fs xs k.good k.tell e
+ops_good claims setting differ b (op ∷ ops) exit fs xs s k n e =
+    let fs' = after_known fs xs op (form fs xs op) in
+    let xs' = accessed xs (form fs xs op) in
+    then_good claims setting fs' xs' (effect setting s op s) (block_hop setting b ops exit) (form_known setting differ s fs xs op (and_one (has_numbers op) (list_all has_numbers ops) n) k)
+    (λ t h. ops_good claims setting differ b ops exit fs' xs' t h (and_two (has_numbers op) (list_all has_numbers ops) n) e)
 
-block_good : (claims : ℕ → List Fact) (setting : Setting) (b : ℕ) (block : Block) (s : State) → Good (claims b) s → is_block_checked claims b block ≡ true → HopGood claims (hop_of setting b (Some block) s)
-block_good claims setting b block s g e =
-    ops_good claims setting b block.ops block.exit (claims b) s g
-    (and_one (list_all has_numbers block.ops) (is_exit_checked claims (after_all (claims b) block.ops) block.exit) e)
-    (and_two (list_all has_numbers block.ops) (is_exit_checked claims (after_all (claims b) block.ops) block.exit) e)
+block_good : (claims : ℕ → Claim) (setting : Setting) → SpotsDiffer setting → (b : ℕ) (block : Block) (s : State) → Claimed setting (claims b) s → is_block_checked claims b block ≡ true → HopGood claims setting (hop_of setting b (Some block) s)
+block_good claims setting differ b block s k e =
+    let one = list_all has_numbers block.ops in
+    let two = is_exit_checked claims (after_all (claims b) block.ops) (accessed_all (claims b) block.ops) block.exit in
+    ops_good claims setting differ b block.ops block.exit (claims b).facts (claims b).accesses s k (and_one one two e) (and_two one two e)
 
 -- ---- programs
 
-module _ (flow : Flow) (claims : ℕ → ℕ → List Fact) (checked : Checked flow claims) where
+module _ (flow : Flow) (claims : ℕ → ℕ → Claim) (checked : Checked flow claims) where
   abbrev pub FramesGood : List Frame → Type 0
   FramesGood [] = Unit {0}
-  FramesGood (f ∷ fs) = Fit f.values × ((n : ℤ) → Within full (Some n) → AllHold (with_result f.values f.result n) (claims f.function f.next)) × FramesGood fs
+  FramesGood (f ∷ fs) = Fit f.values × IsResumed (claims f.function f.next) f.values f.result × FramesGood fs
+
+  abbrev pub ClaimedAt : Active → Type 0
+  ClaimedAt r = Claimed (setting_of (program_of flow) r.base) (claims r.function r.block) r.state
 
   pub record ActiveGood (r : Active) : Type 0 where
-    pub good : Good (claims r.function r.block) r.state
+    pub known : ClaimedAt r
     pub frames : FramesGood r.waiting
+    pub sized : Sized flow r
+
+  record StandsGood (r : Active) : Type 0 where
+    known : ClaimedAt r
+    frames : FramesGood r.waiting
 
   abbrev StepGood : Step Active → Type 0
-  StepGood (On q) = ActiveGood q
+  StepGood (On q) = StandsGood q
   StepGood (Over o) = Unit {0}
 
-  hop_good : (r : Active) → ActiveGood r → HopGood (claims r.function) (hop (program_of flow) r)
+  hop_good : (r : Active) → ActiveGood r → HopGood (claims r.function) (setting_of (program_of flow) r.base) (hop (program_of flow) r)
   hop_good r a = by (slice_get flow.functions r.function) refl
     where
-      inner : (g : Graph) → slice_get flow.functions r.function ≡ Some g → (o : Option Block) → slice_get g.blocks r.block ≡ o → HopGood (claims r.function) (hop_of (setting_of (program_of flow) r.base) r.block o r.state)
+      inner : (g : Graph) → slice_get flow.functions r.function ≡ Some g → (o : Option Block) → slice_get g.blocks r.block ≡ o → HopGood (claims r.function) (setting_of (program_of flow) r.base) (hop_of (setting_of (program_of flow) r.base) r.block o r.state)
       inner g e None q = tt
-      inner g e (Some block) q = block_good (claims r.function) (setting_of (program_of flow) r.base) r.block block r.state a.good (checked.blocks r.function r.block g block e q)
+      inner g e (Some block) q = block_good (claims r.function) (setting_of (program_of flow) r.base) (sized_differ flow r a.sized) r.block block r.state a.known (checked.blocks r.function r.block g block e q)
 
-      by : (o : Option Graph) → slice_get flow.functions r.function ≡ o → HopGood (claims r.function) (body_hop (program_of flow) r (option_map (body_of (length flow.globals)) o))
+      by : (o : Option Graph) → slice_get flow.functions r.function ≡ o → HopGood (claims r.function) (setting_of (program_of flow) r.base) (body_hop (program_of flow) r (option_map (body_of (length flow.globals)) o))
       by None e = tt
       by (Some g) e = inner g e (slice_get g.blocks r.block) refl
 
@@ -169,31 +201,40 @@ module _ (flow : Flow) (claims : ℕ → ℕ → List Fact) (checked : Checked f
       by true h = f.0
       by false h = h
 
-  entered_good : (g : ℕ) (body : Body) (ns : List ℤ) (s : State) → NumbersFit ns → StateFit s → Good (claims g 0) (entered body ns s)
-  entered_good g body ns s f k =
+  entered_good : (g : ℕ) (body : Body) (ns : List ℤ) (s : State) (setting : Setting) → NumbersFit ns → StateFit s → Claimed setting (claims g 0) (entered body ns s)
+  entered_good g body ns s setting f k =
       let t = entered body ns s in
       record {
-        facts = subst (AllHold t.values) (sym (checked.entries g)) tt;
-        fits = record { values = entry_fits body.parameters ns f; rows = rows_append s.arrays (map undefined body.own) k.rows (own_fit body.own); input = k.input };
+        good = record {
+          facts = subst (λ (claim : Claim). AllHold t.values claim.facts) (sym (checked.entries g)) tt;
+          fits = record { values = entry_fits body.parameters ns f; rows = rows_append s.arrays (map undefined body.own) k.rows (own_fit body.own); input = k.input };
+        };
+        tell = subst (λ (claim : Claim). AllTell setting t claim.accesses) (sym (checked.entries g)) tt;
       }
 
   enters_good : (g : ℕ) (o : Option Body) (ns : List ℤ) (s : State) (fs : List Frame) → NumbersFit ns → StateFit s → FramesGood fs → StepGood (enters g o ns s fs)
   enters_good g None ns s fs f k h = tt
-  enters_good g (Some body) ns s fs f k h = record { good = entered_good g body ns s f k; frames = h }
+  enters_good g (Some body) ns s fs f k h = record { known = entered_good g body ns s (setting_of (program_of flow) (length s.arrays)) f k; frames = h }
 
   returned_good : (n : ℤ) (s : State) (base : ℕ) (fs : List Frame) → Within full (Some n) → StateFit s → FramesGood fs → StepGood (returned n s base fs)
   returned_good n s base [] f k h = tt
-  returned_good n s base (g ∷ fs) f k h = record {
-    good = record { facts = h.1 n f; fits = record { values = result_fits g.values g.result n h.0 f; rows = rows_take base s.arrays k.rows; input = k.input } };
-    frames = h.2;
-  }
+  returned_good n s base (g ∷ fs) f k h =
+      let t : State = record s { values = with_result g.values g.result n; arrays = take base s.arrays } in
+      let setting : Setting = setting_of (program_of flow) g.base in
+      record {
+        known = record {
+          good = record { facts = h.1.0 n f; fits = record { values = result_fits g.values g.result n h.0 f; rows = rows_take base s.arrays k.rows; input = k.input } };
+          tell = tell_holds setting t [] (claims g.function g.next).accesses tt h.1.1;
+        };
+        frames = h.2;
+      }
 
   cond_good : (t : Bool) (a b : Step Active) → StepGood a → StepGood b → StepGood (cond t a b)
   cond_good true a b h k = h
   cond_good false a b h k = k
 
-  after_good : (r : Active) (h : Hop) → ActiveGood r → HopGood (claims r.function) h → StepGood (after_hop (program_of flow) r h)
-  after_good r (Arrives from to s) a k = record { good = k; frames = a.frames }
+  after_good : (r : Active) (h : Hop) → ActiveGood r → HopGood (claims r.function) (setting_of (program_of flow) r.base) h → StepGood (after_hop (program_of flow) r h)
+  after_good r (Arrives from to s) a k = record { known = k; frames = a.frames }
   after_good r (Calls g ns result from to s) a k =
       let p = program_of flow in
       cond_good (nat_le deepest (length r.waiting + 1)) _ (enters g (p.body g) ns s (waits r result from to s ∷ r.waiting)) tt
@@ -202,11 +243,13 @@ module _ (flow : Flow) (claims : ℕ → ℕ → List Fact) (checked : Checked f
   after_good r (Stops t s) a k = tt
   after_good r Wrong a k = tt
 
-  step_good : (r q : Active) (x : Step Active) → StepGood x → x ≡ On q → ActiveGood q
+  step_good : (r q : Active) (x : Step Active) → StepGood x → x ≡ On q → StandsGood q
   step_good r q x k e = subst StepGood e k
 
   pub next_good : (r q : Active) → ActiveGood r → next (program_of flow) r ≡ On q → ActiveGood q
-  next_good r q a e = step_good r q (next (program_of flow) r) (after_good r (hop (program_of flow) r) a (hop_good r a)) e
+  next_good r q a e =
+      let k = step_good r q (next (program_of flow) r) (after_good r (hop (program_of flow) r) a (hop_good r a)) e in
+      record { known = k.known; frames = k.frames; sized = next_sized flow r q a.sized e }
 
   leads_good : (n : ℕ) (r q : Active) → ActiveGood r → Leads flow n r q → ActiveGood q
   leads_good zero r q a l = subst ActiveGood l a
@@ -236,15 +279,20 @@ module _ (flow : Flow) (claims : ℕ → ℕ → List Fact) (checked : Checked f
   start_fits : (input : List ℤ) → ((n : ℤ) → IsIn n input → IsNumber n) → StateFit (globals_at_start flow input)
   start_fits input h = record { values = λ v. tt; rows = globals_fit flow.globals checked.globals; input = input_fits input h }
 
-  start_by : (o : Option Body) (input : List ℤ) → ((n : ℤ) → IsIn n input → IsNumber n) → Good (claims flow.main 0) (entered_or o (globals_at_start flow input))
-  start_by None input h = record { facts = subst (AllHold (λ v. None)) (sym (checked.entries flow.main)) tt; fits = start_fits input h }
-  start_by (Some body) input h = entered_good flow.main body [] (globals_at_start flow input) tt (start_fits input h)
+  start_by : (o : Option Body) (input : List ℤ) (setting : Setting) → ((n : ℤ) → IsIn n input → IsNumber n) → Claimed setting (claims flow.main 0) (entered_or o (globals_at_start flow input))
+  start_by None input setting h =
+      let s = globals_at_start flow input in
+      record {
+        good = record { facts = subst (λ (claim : Claim). AllHold s.values claim.facts) (sym (checked.entries flow.main)) tt; fits = start_fits input h };
+        tell = subst (λ (claim : Claim). AllTell setting s claim.accesses) (sym (checked.entries flow.main)) tt;
+      }
+  start_by (Some body) input setting h = entered_good flow.main body [] (globals_at_start flow input) setting tt (start_fits input h)
 
   pub start_good : (input : List ℤ) → ((n : ℤ) → IsIn n input → IsNumber n) → ActiveGood (start flow input)
-  start_good input h = let p = program_of flow in record { good = start_by (p.body flow.main) input h; frames = tt }
+  start_good input h = let p = program_of flow in record { known = start_by (p.body flow.main) input (setting_of p (start flow input).base) h; frames = tt; sized = start_sized flow input }
 
   pub reached_good : (input : List ℤ) → ((n : ℤ) → IsIn n input → IsNumber n) → (n : ℕ) (r : Active) → Leads flow n (start flow input) r → ActiveGood r
   reached_good input h n r l = leads_good n (start flow input) r (start_good input h) l
 
 pub facts_hold : FactsHold
-facts_hold flow claims checked input h n r l = (reached_good flow claims checked input h n r l).good.facts
+facts_hold flow claims checked input h n r l = (reached_good flow claims checked input h n r l).known.good.facts

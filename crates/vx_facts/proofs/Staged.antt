@@ -1,21 +1,21 @@
 -- A flow of a program stays one where each of its graphs is narrowed by claims of its own.
-use Rattle.std.proofs.Common.{◌≡◌, ℕ, zero, suc, ◌+◌, ◌<◌, ◌==◌, Bool, true, List, [], ◌∷◌, ◌++◌, length, take, get_or, slice_get, Some, refl, sym, ap, ◌∙◌, subst, arith}
+use Rattle.std.proofs.Common.{◌≡◌, ℕ, zero, suc, ◌+◌, ◌<◌, ◌==◌, true, List, [], ◌∷◌, ◌++◌, length, take, get_or, slice_get, Some, refl, sym, ap, ◌∙◌, subst, arith}
 use Rattle.std.proofs.lemmas.Bool.{eqb-true}
 use Rattle.vx_flow.specs.declared.graph.Block.{Block}
 use Rattle.vx_flow.specs.declared.graph.Graph.{Graph}
 use Rattle.vx_flow.specs.declared.graph.Flow.{Flow}
 use Rattle.vx_flow.specs.Sound.{is_sound_flow}
 use Rattle.vx_lower.specs.FlowOf.{FlowOf}
-use Rattle.vx_facts.specs.declared.fact.Fact.{Fact}
-use Rattle.vx_facts.specs.Checking.{Checked, is_block_checked}
+use Rattle.vx_facts.specs.declared.claim.Claim.{Claim}
+use Rattle.vx_facts.specs.Checking.{Checked, nothing, is_block_checked}
 use Rattle.vx_facts.specs.Rewriting.{narrowed_graph, narrowed_functions, narrowed_from, narrowed}
-use Rattle.vx_facts.specs.Narrowing.{listed_claims, are_blocks_checked, are_numbers, GraphNarrowed, GraphsNarrowed, with_graphs, FlowStays, NarrowedStays}
+use Rattle.vx_facts.specs.Narrowing.{listed_claims, is_nothing, are_blocks_checked, are_numbers, GraphNarrowed, GraphsNarrowed, with_graphs, FlowStays, NarrowedStays}
 use Rattle.vx_facts.proofs.Ranges.{and_one, and_two}
 use Rattle.vx_facts.proofs.Stays.{stays_flow}
 
 -- ---- blocks
 
-checked_from : (claims : ℕ → List Fact) (n : ℕ) (blocks : List Block) → are_blocks_checked claims n blocks ≡ true → (i : ℕ) (block : Block) → slice_get blocks i ≡ Some block → is_block_checked claims (n + i) block ≡ true
+checked_from : (claims : ℕ → Claim) (n : ℕ) (blocks : List Block) → are_blocks_checked claims n blocks ≡ true → (i : ℕ) (block : Block) → slice_get blocks i ≡ Some block → is_block_checked claims (n + i) block ≡ true
 checked_from claims n [] h i block e = absurd (cc)
 checked_from claims n (k ∷ ks) h zero block e =
     let q : k ≡ block = cc in
@@ -25,22 +25,25 @@ checked_from claims n (k ∷ ks) h (suc i) block e =
     let z : (n + 1) + i ≡ n + suc i = omega arith in
     subst (λ m. is_block_checked claims m block ≡ true) z (checked_from claims (n + 1) ks (and_two (is_block_checked claims n k) (are_blocks_checked claims (n + 1) ks) h) i block e)
 
-pub checked_at : (claims : ℕ → List Fact) (blocks : List Block) → are_blocks_checked claims 0 blocks ≡ true → (i : ℕ) (block : Block) → slice_get blocks i ≡ Some block → is_block_checked claims i block ≡ true
+pub checked_at : (claims : ℕ → Claim) (blocks : List Block) → are_blocks_checked claims 0 blocks ≡ true → (i : ℕ) (block : Block) → slice_get blocks i ≡ Some block → is_block_checked claims i block ≡ true
 checked_at claims blocks h i block e =
     let z : 0 + i ≡ i = omega arith in
     subst (λ m. is_block_checked claims m block ≡ true) z (checked_from claims 0 blocks h i block e)
 
-pub graph_by_table : (table : List (List Fact)) (g h : Graph) → listed_claims table 0 ≡ [] → are_blocks_checked (listed_claims table) 0 g.blocks ≡ true → h ≡ narrowed_graph (listed_claims table) g → GraphNarrowed g h
+pub graph_by_table : (table : List Claim) (g h : Graph) → listed_claims table 0 ≡ nothing → are_blocks_checked (listed_claims table) 0 g.blocks ≡ true → h ≡ narrowed_graph (listed_claims table) g → GraphNarrowed g h
 graph_by_table table g h e c n = record { claims = listed_claims table; entry = e; blocks = checked_at (listed_claims table) g.blocks c; narrowed = n }
 
-empty_list : (xs : List Fact) → true ≡ (length xs == 0) → xs ≡ []
+empty_list : {A : Type 0} (xs : List A) → (length xs == 0) ≡ true → xs ≡ []
 empty_list [] e = refl
-empty_list (x ∷ xs) e = let h : suc (length xs) ≡ 0 = eqb-true (suc (length xs)) 0 (sym e) in absurd (omega arith)
+empty_list (x ∷ xs) e = let h : suc (length xs) ≡ 0 = eqb-true (suc (length xs)) 0 e in absurd (omega arith)
 
-pub empty_by : (xs ys : List Fact) (t : Bool) → xs ≡ ys → t ≡ (length xs == 0) → t ≡ true → ys ≡ []
-empty_by xs ys t e q h = empty_list ys (sym h ∙ q ∙ ap (λ l. length l == 0) e)
+pub nothing_is : (claim : Claim) → is_nothing claim ≡ true → claim ≡ nothing
+nothing_is claim e =
+    let facts : claim.facts ≡ [] = empty_list claim.facts (and_one (length claim.facts == 0) (length claim.accesses == 0) e) in
+    let accesses : claim.accesses ≡ [] = empty_list claim.accesses (and_two (length claim.facts == 0) (length claim.accesses == 0) e) in
+    λ i. record { facts = facts i; accesses = accesses i }
 
-pub with_blocks_is : (claims : ℕ → List Fact) (g h : Graph) (blocks : List Block) → blocks ≡ narrowed_from claims 0 g.blocks → h ≡ record g { blocks = blocks } → h ≡ narrowed_graph claims g
+pub with_blocks_is : (claims : ℕ → Claim) (g h : Graph) (blocks : List Block) → blocks ≡ narrowed_from claims 0 g.blocks → h ≡ record g { blocks = blocks } → h ≡ narrowed_graph claims g
 with_blocks_is claims g h blocks e q = q ∙ ap (λ bs. record g { blocks = bs }) e
 
 -- ---- graphs
@@ -64,17 +67,17 @@ graphs_next gs hs i g h l e s t =
 
 -- ---- the claims of all graphs
 
-abbrev first_then : (ℕ → List Fact) → (ℕ → ℕ → List Fact) → ℕ → ℕ → List Fact
+abbrev first_then : (ℕ → Claim) → (ℕ → ℕ → Claim) → ℕ → ℕ → Claim
 first_then one others zero = one
 first_then one others (suc f) = others f
 
-abbrev claims_by : (gs hs : List Graph) → GraphsNarrowed gs hs → ℕ → ℕ → List Fact
-claims_by [] [] s = λ f b. []
-claims_by [] (h ∷ hs) s = λ f b. []
-claims_by (g ∷ gs) [] s = λ f b. []
+abbrev claims_by : (gs hs : List Graph) → GraphsNarrowed gs hs → ℕ → ℕ → Claim
+claims_by [] [] s = λ f b. nothing
+claims_by [] (h ∷ hs) s = λ f b. nothing
+claims_by (g ∷ gs) [] s = λ f b. nothing
 claims_by (g ∷ gs) (h ∷ hs) s = first_then s.0.claims (claims_by gs hs s.1)
 
-entries_by : (gs hs : List Graph) (s : GraphsNarrowed gs hs) (f : ℕ) → claims_by gs hs s f 0 ≡ []
+entries_by : (gs hs : List Graph) (s : GraphsNarrowed gs hs) (f : ℕ) → claims_by gs hs s f 0 ≡ nothing
 entries_by [] [] s f = refl
 entries_by [] (h ∷ hs) s f = absurd s
 entries_by (g ∷ gs) [] s f = absurd s
@@ -88,7 +91,7 @@ blocks_by (x ∷ gs) [] s f b g block e q = absurd s
 blocks_by (x ∷ gs) (h ∷ hs) s zero b g block e q = let i : g ≡ x = cc in s.0.blocks b block (subst (λ (y : Graph). slice_get y.blocks b ≡ Some block) i q)
 blocks_by (x ∷ gs) (h ∷ hs) s (suc f) b g block e q = blocks_by gs hs s.1 f b g block e q
 
-shifted : (claims : ℕ → ℕ → List Fact) (f : ℕ) (gs : List Graph) → narrowed_functions claims (f + 1) gs ≡ narrowed_functions (λ n. claims (suc n)) f gs
+shifted : (claims : ℕ → ℕ → Claim) (f : ℕ) (gs : List Graph) → narrowed_functions claims (f + 1) gs ≡ narrowed_functions (λ n. claims (suc n)) f gs
 shifted claims f [] = refl
 shifted claims f (g ∷ gs) =
     let a : f + 1 ≡ suc f = omega arith in
@@ -103,7 +106,7 @@ functions_by (g ∷ gs) (h ∷ hs) s =
 
 pub narrowed_stays : NarrowedStays
 narrowed_stays flow graphs s numbers sound p o =
-    let claims : ℕ → ℕ → List Fact = claims_by flow.functions graphs s in
+    let claims : ℕ → ℕ → Claim = claims_by flow.functions graphs s in
     let checked : Checked flow claims = record { entries = entries_by flow.functions graphs s; blocks = blocks_by flow.functions graphs s; globals = numbers } in
     let is : narrowed claims flow ≡ with_graphs flow graphs = ap (with_graphs flow) (functions_by flow.functions graphs s) in
     subst (FlowOf p) is (stays_flow p flow claims checked o (subst (λ f. is_sound_flow f ≡ true) (sym is) sound))

@@ -14,24 +14,32 @@ use Rattle.vx_flow.specs.Effects.{IsIn}
 use Rattle.vx_flow.specs.Meaning.{graph_run}
 use Rattle.vx_flow.specs.Sound.{targets_of}
 use Rattle.vx_lower.specs.FlowOf.{AreNumbers, EndsBy, IsEdge, GraphOf}
+use Rattle.vx_facts.specs.declared.claim.Claim.{Claim}
 use Rattle.vx_facts.specs.declared.fact.Fact.{Fact}
-use Rattle.vx_facts.specs.Facts.{after, after_all, decided}
-use Rattle.vx_facts.specs.Rewriting.{improved_all, split_by, narrowed_exit, narrowed_block, narrowed_from, narrowed_graph, narrowed_functions, narrowed}
+use Rattle.vx_facts.specs.Facts.{decided}
+use Rattle.vx_facts.specs.declared.access.Access.{Access}
+use Rattle.vx_facts.specs.Accesses.{accessed}
+use Rattle.vx_facts.specs.Forming.{form, after_known, after_all}
+use Rattle.vx_facts.specs.Rewriting.{split_by, narrowed_exit, narrowed_block, narrowed_from, narrowed_graph, narrowed_functions, narrowed}
+use Rattle.vx_facts.specs.Shortening.{improved_from, improved_all}
 use Rattle.vx_facts.proofs.Narrows.{get_block, get_function}
 use Rattle.vx_facts.proofs.NarrowRuns.{narrowed_runs}
 use Rattle.vx_facts.specs.Staying.{StaysFlow}
 
 -- ---- lengths
 
-improved_length : (fs : List Fact) (ops : List Op) → length (improved_all fs ops) ≡ length ops
-improved_length fs [] = refl
-improved_length fs (op ∷ ops) = ap suc (improved_length (after fs op) ops)
+from_length : (fs : List Fact) (xs : List Access) (ops : List Op) → length (improved_from fs xs ops) ≡ length ops
+from_length fs xs [] = refl
+from_length fs xs (op ∷ ops) = ap suc (from_length (after_known fs xs op (form fs xs op)) (accessed xs (form fs xs op)) ops)
 
-blocks_length : (k : ℕ → List Fact) (n : ℕ) (bs : List Block) → length (narrowed_from k n bs) ≡ length bs
+improved_length : (claim : Claim) (ops : List Op) → length (improved_all claim ops) ≡ length ops
+improved_length claim ops = from_length claim.facts claim.accesses ops
+
+blocks_length : (k : ℕ → Claim) (n : ℕ) (bs : List Block) → length (narrowed_from k n bs) ≡ length bs
 blocks_length k n [] = refl
 blocks_length k n (b ∷ bs) = ap suc (blocks_length k (n + 1) bs)
 
-functions_length : (k : ℕ → ℕ → List Fact) (n : ℕ) (gs : List Graph) → length (narrowed_functions k n gs) ≡ length gs
+functions_length : (k : ℕ → ℕ → Claim) (n : ℕ) (gs : List Graph) → length (narrowed_functions k n gs) ≡ length gs
 functions_length k n [] = refl
 functions_length k n (g ∷ gs) = ap suc (functions_length k (n + 1) gs)
 
@@ -75,7 +83,7 @@ exit_leads fs (Ends k) t m = m
 
 -- ---- graphs
 
-module _ (k : ℕ → List Fact) (g : Graph) where
+module _ (k : ℕ → Claim) (g : Graph) where
   abbrev thin : Graph
   thin = narrowed_graph k g
 
@@ -133,7 +141,7 @@ module _ (k : ℕ → List Fact) (g : Graph) where
 
 -- ---- flows
 
-graph_by : (p : Program) (k : ℕ → List Fact) (function : Function) (graph : Graph) (o : Option Graph) → ((g : Graph) → o ≡ Some g → GraphOf p function g) → option_map (narrowed_graph k) o ≡ Some graph → GraphOf p function graph
+graph_by : (p : Program) (k : ℕ → Claim) (function : Function) (graph : Graph) (o : Option Graph) → ((g : Graph) → o ≡ Some g → GraphOf p function g) → option_map (narrowed_graph k) o ≡ Some graph → GraphOf p function graph
 graph_by p k function graph None h e = absurd (cc)
 graph_by p k function graph (Some g) h e = let q : narrowed_graph k g ≡ graph = cc in subst (GraphOf p function) q (graph_of k g p function (h g refl))
 

@@ -15,10 +15,14 @@ use Rattle.vx_flow.specs.declared.graph.Global.{Global}
 use Rattle.vx_flow.specs.declared.graph.Flow.{Flow}
 use Rattle.vx_flow.specs.Effects.{IsIn, State}
 use Rattle.vx_flow.specs.Meaning.{Hop, Arrives, Wrong, Active, hop, next, program_of, start}
+use Rattle.vx_facts.specs.declared.claim.Claim.{Claim}
 use Rattle.vx_facts.specs.declared.intervals.Interval.{Interval}
 use Rattle.vx_facts.specs.declared.fact.Fact.{Fact}
 use Rattle.vx_facts.specs.declared.fact.Fact.TheVariants.{Between, Equals}
-use Rattle.vx_facts.specs.Facts.{AllHold, least, greatest, range, without, after_all, on_side, decided, has_equals}
+use Rattle.vx_facts.specs.Facts.{AllHold, least, greatest, range, without, on_side, decided, has_equals}
+use Rattle.vx_facts.specs.Forming.{after_all, accessed_all}
+use Rattle.vx_facts.specs.declared.access.Access.{Access}
+use Rattle.vx_facts.specs.Accesses.{tell}
 
 -- the check of one block
 
@@ -58,20 +62,31 @@ abbrev pub without_result : Option ℕ → List Fact → List Fact
 without_result None fs = fs
 without_result (Some v) fs = without v fs
 
-abbrev pub is_exit_checked : (ℕ → List Fact) → List Fact → Exit → Bool
-is_exit_checked claims fs (Goto c) = give fs (claims c)
-is_exit_checked claims fs (Split p c d) = give (on_side fs true p) (claims c) && give (on_side fs false p) (claims d)
-is_exit_checked claims fs (Call g arguments result next) = list_all has_number arguments && give (without_result result fs) (claims next)
-is_exit_checked claims fs (Return x) = has_number x
-is_exit_checked claims fs (Ends k) = true
+-- where nothing is claimed
+abbrev pub nothing : Claim
+nothing = record { facts = []; accesses = [] }
 
-abbrev pub is_block_checked : (ℕ → List Fact) → ℕ → Block → Bool
-is_block_checked claims b block = list_all has_numbers block.ops && is_exit_checked claims (after_all (claims b) block.ops) block.exit
+abbrev pub are_given : List Fact → List Access → Claim → Bool
+are_given fs xs claim = give fs claim.facts && tell xs claim.accesses
+
+-- behind a call nothing is known of words
+abbrev pub are_given_behind : List Fact → Claim → Bool
+are_given_behind fs claim = give fs claim.facts && tell [] claim.accesses
+
+abbrev pub is_exit_checked : (ℕ → Claim) → List Fact → List Access → Exit → Bool
+is_exit_checked claims fs xs (Goto c) = are_given fs xs (claims c)
+is_exit_checked claims fs xs (Split p c d) = are_given (on_side fs true p) xs (claims c) && are_given (on_side fs false p) xs (claims d)
+is_exit_checked claims fs xs (Call g arguments result next) = list_all has_number arguments && are_given_behind (without_result result fs) (claims next)
+is_exit_checked claims fs xs (Return x) = has_number x
+is_exit_checked claims fs xs (Ends k) = true
+
+abbrev pub is_block_checked : (ℕ → Claim) → ℕ → Block → Bool
+is_block_checked claims b block = list_all has_numbers block.ops && is_exit_checked claims (after_all (claims b) block.ops) (accessed_all (claims b) block.ops) block.exit
 
 -- the check of a program: what is claimed in each function at the start of each block
 
-pub record Checked (flow : Flow) (claims : ℕ → ℕ → List Fact) : Type 0 where
-  pub entries : (f : ℕ) → claims f 0 ≡ []
+pub record Checked (flow : Flow) (claims : ℕ → ℕ → Claim) : Type 0 where
+  pub entries : (f : ℕ) → claims f 0 ≡ nothing
   pub blocks : (f b : ℕ) (g : Graph) (block : Block) → slice_get flow.functions f ≡ Some g → slice_get g.blocks b ≡ Some block → is_block_checked (claims f) b block ≡ true
   pub globals : list_all (λ (g : Global). is_number g.first) flow.globals ≡ true
 
@@ -82,8 +97,8 @@ Leads flow (suc n) r q = (m : Active) × (next (program_of flow) r ≡ On m) × 
 
 -- on every input of numbers, wherever a block is entered, the values are as claimed there
 abbrev pub FactsHold : Type 0
-FactsHold = (flow : Flow) (claims : ℕ → ℕ → List Fact) → Checked flow claims → (input : List ℤ) → ((n : ℤ) → IsIn n input → IsNumber n) →
-    (n : ℕ) (r : Active) → Leads flow n (start flow input) r → AllHold r.state.values (claims r.function r.block)
+FactsHold = (flow : Flow) (claims : ℕ → ℕ → Claim) → Checked flow claims → (input : List ℤ) → ((n : ℤ) → IsIn n input → IsNumber n) →
+    (n : ℕ) (r : Active) → Leads flow n (start flow input) r → AllHold r.state.values (claims r.function r.block).facts
 
 abbrev pub side_of : Bool → ℕ → ℕ → ℕ
 side_of true c d = c
@@ -94,7 +109,7 @@ GoesTo b c h = (h ≡ Wrong) ⊎ ((s : State) × (h ≡ Arrives b c s))
 
 -- where the facts behind the operations of a block decide the test of its split, it is left by that side
 abbrev pub DecidedGoes : Type 0
-DecidedGoes = (flow : Flow) (claims : ℕ → ℕ → List Fact) → Checked flow claims → (input : List ℤ) → ((n : ℤ) → IsIn n input → IsNumber n) →
+DecidedGoes = (flow : Flow) (claims : ℕ → ℕ → Claim) → Checked flow claims → (input : List ℤ) → ((n : ℤ) → IsIn n input → IsNumber n) →
     (n : ℕ) (r : Active) → Leads flow n (start flow input) r →
     (g : Graph) (block : Block) (p c d : ℕ) (answer : Bool) → slice_get flow.functions r.function ≡ Some g → slice_get g.blocks r.block ≡ Some block →
     block.exit ≡ Split p c d → decided (after_all (claims r.function r.block) block.ops) p ≡ Some answer →

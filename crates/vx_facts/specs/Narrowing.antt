@@ -1,5 +1,5 @@
 -- Graphs exchanged for narrowed ones: each graph by claims of its own, that its blocks pass.
-use Rattle.std.specs.Prelude.{◌≡◌, ◌+◌, ℕ, Bool, true, ◌&&◌, List, [], ◌∷◌, slice_get, slice_index_or, Some}
+use Rattle.std.specs.Prelude.{◌≡◌, ◌+◌, ◌==◌, ℕ, Bool, true, ◌&&◌, List, [], ◌∷◌, length, slice_get, slice_index_or, Some}
 use Rattle.std.specs.List.{list_all}
 use Rattle.vx_ast.specs.Tree.{Program}
 use Rattle.vx_flow.specs.declared.graph.Block.{Block}
@@ -8,23 +8,26 @@ use Rattle.vx_flow.specs.declared.graph.Global.{Global}
 use Rattle.vx_flow.specs.declared.graph.Flow.{Flow}
 use Rattle.vx_flow.specs.Sound.{is_sound_flow}
 use Rattle.vx_lower.specs.FlowOf.{FlowOf}
-use Rattle.vx_facts.specs.declared.fact.Fact.{Fact}
-use Rattle.vx_facts.specs.Checking.{is_number, is_block_checked}
+use Rattle.vx_facts.specs.declared.claim.Claim.{Claim}
+use Rattle.vx_facts.specs.Checking.{is_number, nothing, is_block_checked}
 use Rattle.vx_facts.specs.Rewriting.{narrowed_graph}
 
 -- what a table claims at the start of a block: nothing where it has no row
-abbrev pub listed_claims : List (List Fact) → ℕ → List Fact
-listed_claims table b = slice_index_or table b []
+abbrev pub listed_claims : List Claim → ℕ → Claim
+listed_claims table b = slice_index_or table b nothing
+
+abbrev pub is_nothing : Claim → Bool
+is_nothing claim = (length claim.facts == 0) && (length claim.accesses == 0)
 
 -- whether the blocks from block b on pass
-abbrev pub are_blocks_checked : (ℕ → List Fact) → ℕ → List Block → Bool
+abbrev pub are_blocks_checked : (ℕ → Claim) → ℕ → List Block → Bool
 are_blocks_checked claims b [] = true
 are_blocks_checked claims b (k ∷ ks) = is_block_checked claims b k && are_blocks_checked claims (b + 1) ks
 
 -- the new graph is the old one narrowed by claims that pass
 pub record GraphNarrowed (old new : Graph) : Type 0 where
-  pub claims : ℕ → List Fact
-  pub entry : claims 0 ≡ []
+  pub claims : ℕ → Claim
+  pub entry : claims 0 ≡ nothing
   pub blocks : (b : ℕ) (block : Block) → slice_get old.blocks b ≡ Some block → is_block_checked claims b block ≡ true
   pub narrowed : new ≡ narrowed_graph claims old
 

@@ -1,14 +1,8 @@
 -- A program whose decided splits go one way and whose results are read where they stand already, and the law that its runs
 -- stay the same.
-use Rattle.std.specs.Prelude.{◌≡◌, ◌+◌, ℕ, Bool, true, false, ℤ, pos, Option, Some, None, List, [], ◌∷◌}
+use Rattle.std.specs.Prelude.{◌≡◌, ◌+◌, ℕ, Bool, ℤ, Option, Some, None, List, [], ◌∷◌}
 use Rattle.vx_base.specs.Arithmetic.{IsNumber}
 use Rattle.vx_base.specs.Outcome.{NeverFails}
-use Rattle.vx_base.specs.declared.arithmetic.Code.{Code}
-use Rattle.vx_base.specs.declared.arithmetic.Code.TheVariants.{Mov, ToBranch}
-use Rattle.vx_flow.specs.declared.graph.Operand.{Operand}
-use Rattle.vx_flow.specs.declared.graph.Operand.TheVariants.{Held, Number}
-use Rattle.vx_flow.specs.declared.graph.Op.{Op}
-use Rattle.vx_flow.specs.declared.graph.Op.TheVariants.{Compute}
 use Rattle.vx_flow.specs.declared.graph.Exit.{Exit}
 use Rattle.vx_flow.specs.declared.graph.Exit.TheVariants.{Goto, Split}
 use Rattle.vx_flow.specs.declared.graph.Block.{Block}
@@ -16,8 +10,11 @@ use Rattle.vx_flow.specs.declared.graph.Graph.{Graph}
 use Rattle.vx_flow.specs.declared.graph.Flow.{Flow}
 use Rattle.vx_flow.specs.Effects.{IsIn}
 use Rattle.vx_flow.specs.Meaning.{graph_run}
+use Rattle.vx_facts.specs.declared.claim.Claim.{Claim}
 use Rattle.vx_facts.specs.declared.fact.Fact.{Fact}
-use Rattle.vx_facts.specs.Facts.{after, after_all, decided, found}
+use Rattle.vx_facts.specs.Facts.{decided}
+use Rattle.vx_facts.specs.Forming.{after_all}
+use Rattle.vx_facts.specs.Shortening.{improved_all}
 use Rattle.vx_facts.specs.Checking.{Checked, side_of}
 
 abbrev pub split_by : Option Bool → ℕ → ℕ → ℕ → Exit
@@ -28,46 +25,26 @@ abbrev pub narrowed_exit : List Fact → Exit → Exit
 narrowed_exit fs (Split p c d) = split_by (decided fs p) p c d
 narrowed_exit fs exit = exit
 
--- an operation whose result stands in a value already
-
-abbrev pub is_readable : Code → Bool
-is_readable Mov = false
-is_readable (ToBranch compare) = false
-is_readable code = true
-
-abbrev pub read_if : Bool → Code → ℕ → Operand → Operand → Option ℕ → Op
-read_if true code v a b (Some w) = Compute Mov v (Held w) (Number (pos 0))
-read_if true code v a b None = Compute code v a b
-read_if false code v a b o = Compute code v a b
-
-abbrev pub improved : List Fact → Op → Op
-improved fs (Compute code v a b) = read_if (is_readable code) code v a b (found fs code a b)
-improved fs op = op
-
-abbrev pub improved_all : List Fact → List Op → List Op
-improved_all fs [] = []
-improved_all fs (op ∷ ops) = improved fs op ∷ improved_all (after fs op) ops
-
-abbrev pub narrowed_block : (ℕ → List Fact) → ℕ → Block → Block
+abbrev pub narrowed_block : (ℕ → Claim) → ℕ → Block → Block
 narrowed_block claims b block = record { ops = improved_all (claims b) block.ops; exit = narrowed_exit (after_all (claims b) block.ops) block.exit }
 
 -- the blocks from block b on
-abbrev pub narrowed_from : (ℕ → List Fact) → ℕ → List Block → List Block
+abbrev pub narrowed_from : (ℕ → Claim) → ℕ → List Block → List Block
 narrowed_from claims b [] = []
 narrowed_from claims b (k ∷ ks) = narrowed_block claims b k ∷ narrowed_from claims (b + 1) ks
 
-abbrev pub narrowed_graph : (ℕ → List Fact) → Graph → Graph
+abbrev pub narrowed_graph : (ℕ → Claim) → Graph → Graph
 narrowed_graph claims g = record g { blocks = narrowed_from claims 0 g.blocks }
 
 -- the functions from function f on
-abbrev pub narrowed_functions : (ℕ → ℕ → List Fact) → ℕ → List Graph → List Graph
+abbrev pub narrowed_functions : (ℕ → ℕ → Claim) → ℕ → List Graph → List Graph
 narrowed_functions claims f [] = []
 narrowed_functions claims f (g ∷ gs) = narrowed_graph (claims f) g ∷ narrowed_functions claims (f + 1) gs
 
-abbrev pub narrowed : (ℕ → ℕ → List Fact) → Flow → Flow
+abbrev pub narrowed : (ℕ → ℕ → Claim) → Flow → Flow
 narrowed claims flow = record flow { functions = narrowed_functions claims 0 flow.functions }
 
 -- on every input of numbers where the program never fails, it comes to the same with its decided splits gone, at every bound
 abbrev pub NarrowedRuns : Type 0
-NarrowedRuns = (flow : Flow) (claims : ℕ → ℕ → List Fact) → Checked flow claims → (input : List ℤ) → ((n : ℤ) → IsIn n input → IsNumber n) →
+NarrowedRuns = (flow : Flow) (claims : ℕ → ℕ → Claim) → Checked flow claims → (input : List ℤ) → ((n : ℤ) → IsIn n input → IsNumber n) →
     NeverFails (graph_run flow input) → (n : ℕ) → graph_run (narrowed claims flow) input n ≡ graph_run flow input n

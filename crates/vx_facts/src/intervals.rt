@@ -1,9 +1,9 @@
 // Intervals of numbers of 32 bits: what operations give, and what a test says of its operands.
 
 ghost use Rattle.std.specs.Prelude.{◌≡◌, ◌+ℤ◌, ◌-ℤ◌, ◌*ℤ◌, ◌&&◌, int_le};
-ghost use Rattle.vx_facts.specs.Facts.{always, and_within, answer_of, below_unsigned, bit, compare_decided, difference_within, fitting, full, high_product_within, is_above, is_half, left_within, low_product_within, meet, one_less, one_more, opposite, product_if, remainder_within, result_within, right_within, sum_within, times_if, times_or_product, up_to};
+ghost use Rattle.vx_facts.specs.Facts.{always, and_within, answer_of, below_unsigned, bit, compare_decided, difference_within, fitting, full, high_product_within, is_above, is_half, left_within, low_product_within, meet, one_less, one_more, opposite, product_if, remainder_within, result_within, right_within, shifted_within, sum_within, times_if, times_or_product, up_to};
 
-use vx_base::arithmetic::{Code, Compare};
+use vx_base::arithmetic::{Code, Compare, value};
 
 /// The numbers from one to another.
 #[derive(Clone, Copy, Debug)]
@@ -144,7 +144,7 @@ fn product_if(test: bool, i: Interval, j: Interval) -> Interval
     }
 }
 
-fn is_half(j: Interval) -> bool
+pub fn is_half(j: Interval) -> bool
     ensures { result ≡ is_half j }
 {
     0 <= j.low && j.high <= 65535
@@ -190,6 +190,14 @@ pub fn bit() -> Interval
     Interval { low: 0, high: 1 }
 }
 
+/// What a shift by a number of places gives.
+fn shifted_within(i: Interval, j: Interval) -> Interval
+    ensures { result ≡ shifted_within i j }
+{
+    let power = value(Code::Shl, 1, j.low);
+    times_if(j.high <= j.low && 0 <= power, i, power)
+}
+
 /// Where the result of an operation lies.
 pub fn result_within(code: Code, i: Interval, j: Interval) -> Interval
     ensures { result ≡ result_within code i j }
@@ -198,6 +206,7 @@ pub fn result_within(code: Code, i: Interval, j: Interval) -> Interval
         Code::Add => sum(i, j),
         Code::Sub => difference(i, j),
         Code::And => both(i, j),
+        Code::Shl => shifted_within(i, j),
         Code::Mpylu => low_product(i, j),
         Code::Mpyhs => high_product(j),
         Code::Rem => remainder(i, j),
@@ -206,7 +215,6 @@ pub fn result_within(code: Code, i: Interval, j: Interval) -> Interval
         Code::ToBranch(_) => bit(),
         Code::Or => full(),
         Code::Xor => full(),
-        Code::Shl => full(),
         Code::Shr => full(),
         Code::Shru => full(),
         Code::Sh2add => full(),

@@ -65,7 +65,7 @@ fn same_compare(first: Compare, second: Compare) -> bool
     }
 }
 
-fn same_code(first: Code, second: Code) -> bool
+pub fn same_code(first: Code, second: Code) -> bool
     ensures { result ≡ same_code first second }
 {
     match (first, second) {
@@ -91,7 +91,8 @@ fn same_code(first: Code, second: Code) -> bool
     }
 }
 
-fn same_operand(first: Operand, second: Operand) -> bool
+/// Whether two operands are the same value or number.
+pub fn same_operand(first: Operand, second: Operand) -> bool
     ensures { result ≡ same_operand first second }
 {
     match (first, second) {

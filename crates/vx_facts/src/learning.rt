@@ -1,15 +1,17 @@
 // What an operation leaves of a list of facts, and what the answer of a test adds to it.
 
-ghost use Rattle.std.specs.Prelude.{◌≡◌, ◌==◌, ◌||◌, ◌++◌, [], ◌∷◌, IfOk};
+ghost use Rattle.std.specs.Prelude.{◌≡◌, ◌==◌, ◌||◌, ◌++◌, false, [], ◌∷◌, IfOk};
 ghost use Rattle.vx_flow.specs.declared.graph.Op.TheVariants.{Compute};
 ghost use Rattle.vx_facts.specs.declared.fact.Fact.TheVariants.{Between};
-ghost use Rattle.vx_facts.specs.Facts.{after, came_out, compared, is_held, learned, learned_if, names, on_side, operand_between, without};
+ghost use Rattle.vx_facts.specs.Forming.{after_known, facts_if, is_test, said_unless, same_form};
+ghost use Rattle.vx_facts.specs.Facts.{after, came_out, compared, equals_if, is_full, is_held, learned, learned_if, lies_in, names, on_side, operand_between, without};
 
+use crate::access::{Access, append_place};
 use crate::fact::Fact;
 use crate::intervals::{
     Interval, bit, left_within, opposite, result_within, right_within, times_if,
 };
-use crate::known::range_of;
+use crate::known::{range_of, same_code, same_operand};
 use std::alloc::Global;
 use vx_base::arithmetic::{Code, Compare};
 use vx_base::listed::Listed;
@@ -69,6 +71,23 @@ pub fn copied(alloc: Global, facts: &[Fact]) -> Result<Listed<Fact>, NoMemory>
     Ok(Listed::from_vec(facts.to_vec(alloc)?)?)
 }
 
+/// Whether every number lies in an interval.
+fn is_full(within: Interval) -> bool
+    ensures { result ≡ is_full within }
+{
+    within.low <= i32::MIN && i32::MAX <= within.high
+}
+
+/// Puts where a value lies, where that says something, at the end of a list.
+fn append_lies(list: &mut Listed<Fact>, value: Value, within: Interval) -> Result<(), NoMemory>
+    ensures { IfOk result (λ _. list.new ≡ list.old ++ lies_in value within []) }
+{
+    if !is_full(within) {
+        list.push(Fact::Between { value, within })?;
+    }
+    Ok(())
+}
+
 /// Puts what a computation gives, and what it leaves, at the end of a list.
 fn append_computed(
     list: &mut Listed<Fact>,
@@ -81,7 +100,7 @@ fn append_computed(
     ensures { IfOk result (λ _. list.new ≡ list.old ++ after facts.now (Compute code to left right)) }
 {
     let within = result_within(code, range_of(facts, left), range_of(facts, right));
-    list.push(Fact::Between { value: to, within })?;
+    append_lies(list, to, within)?;
     if !(is_held(to, left) || is_held(to, right)) {
         list.push(Fact::Equals {
             value: to,
@@ -100,18 +119,118 @@ fn append_within(
     to: Value,
     within: Interval,
 ) -> Result<(), NoMemory>
-    ensures { IfOk result (λ _. list.new ≡ list.old ++ Between to within ∷ without to facts.now) }
+    ensures { IfOk result (λ _. list.new ≡ list.old ++ lies_in to within (without to facts.now)) }
 {
-    list.push(Fact::Between { value: to, within })?;
+    append_lies(list, to, within)?;
     append_without(list, facts, to)
 }
 
-/// The facts behind an operation.
-pub fn after(alloc: Global, facts: &[Fact], op: &Op) -> Result<Listed<Fact>, NoMemory>
-    ensures { IfOk result (λ behind. behind ≡ after facts.now op.now) }
+/// Whether an operation has another form with the same operands.
+fn same_form(op: &Op, form: &Op) -> bool
+    ensures { result ≡ same_form op.now form.now }
+{
+    match (*op, *form) {
+        (
+            Op::Compute {
+                code,
+                left,
+                right,
+                ..
+            },
+            Op::Compute {
+                code: other,
+                left: first,
+                right: second,
+                ..
+            },
+        ) => same_code(code, other) && (same_operand(left, first) && same_operand(right, second)),
+        (Op::Place { index, .. }, Op::Place { index: other, .. }) => same_operand(index, other),
+        _ => false,
+    }
+}
+
+fn is_test(code: Code) -> bool
+    ensures { result ≡ is_test code }
+{
+    match code {
+        Code::ToBranch(_) => true,
+        _ => false,
+    }
+}
+
+/// Puts at the end of a list what a test compares, unless it reads what it writes.
+fn append_test(
+    list: &mut Listed<Fact>,
+    code: Code,
+    to: Value,
+    left: Operand,
+    right: Operand,
+) -> Result<(), NoMemory>
+    ensures { IfOk result (λ _. list.new ≡ list.old ++ facts_if (is_test code) (equals_if (is_held to left || is_held to right) to code left right)) }
+{
+    if is_test(code) && !(is_held(to, left) || is_held(to, right)) {
+        list.push(Fact::Equals {
+            value: to,
+            code,
+            left,
+            right,
+        })?;
+    }
+    Ok(())
+}
+
+fn append_said(list: &mut Listed<Fact>, facts: &[Fact], op: &Op) -> Result<(), NoMemory>
+    ensures { IfOk result (λ _. list.new ≡ list.old ++ said_unless false facts.now op.now) }
+{
+    match *op {
+        Op::Compute {
+            code,
+            to,
+            left,
+            right,
+        } => {
+            let within = result_within(code, range_of(facts, left), range_of(facts, right));
+            append_lies(list, to, within)?;
+            append_test(list, code, to, left, right)
+        }
+        Op::Place { to, index, .. } => {
+            let within = times_if(true, range_of(facts, index), 4);
+            append_lies(list, to, within)
+        }
+        _ => Ok(()),
+    }
+}
+
+/// Puts at the end of a list what an operation says in the words it had, where its form has others.
+fn append_said_unless(
+    list: &mut Listed<Fact>,
+    facts: &[Fact],
+    test: bool,
+    op: &Op,
+) -> Result<(), NoMemory>
+    ensures { IfOk result (λ _. list.new ≡ list.old ++ said_unless test facts.now op.now) }
+{
+    if test {
+        Ok(())
+    } else {
+        append_said(list, facts, op)
+    }
+}
+
+/// The facts behind an operation that has a form.
+pub fn after_known(
+    alloc: Global,
+    facts: &[Fact],
+    known: &[Access],
+    op: &Op,
+    form: &Op,
+) -> Result<Listed<Fact>, NoMemory>
+    ensures { IfOk result (λ behind. behind ≡ after_known facts.now known.now op.now form.now) }
 {
     let mut behind = Listed::new(alloc);
-    append_after(&mut behind, facts, op)?;
+    append_place(&mut behind, known, form)?;
+    append_said_unless(&mut behind, facts, same_form(op, form), op)?;
+    append_after(&mut behind, facts, form)?;
     Ok(behind)
 }
 

@@ -9,9 +9,9 @@ ghost use Rattle.vx_lower.specs.FlowOf.{FlowOf};
 ghost use Rattle.vx_facts.specs.Rewriting.{narrowed_from};
 ghost use Rattle.vx_facts.specs.Narrowing.{are_blocks_checked, are_numbers, listed_claims, FlowStays, GraphNarrowed, GraphsNarrowed};
 
+use crate::claim::{Claim, is_nothing};
 use crate::copying::{with_blocks, with_graphs};
-use crate::fact::Fact;
-use crate::passing::{claims_in, is_number, narrowed_block};
+use crate::passing::{is_number, narrowed_block};
 use crate::search::find_claims;
 use std::alloc::Global;
 use vx_base::listed::Listed;
@@ -23,7 +23,8 @@ use vx_sound::is_sound;
 const ROUNDS: u32 = 2;
 
 /// The graphs of a program without splits whose answer is known: such a split is a jump. An operation whose result stands in a
-/// value already is a move of that value.
+/// value already is a move of that value, and what was moved is read where it was moved from. A product of an operand that is below
+/// 2 ^ 16, or a power of 2, is one operation in place of the last of its three.
 pub fn narrow(alloc: Global, flow: Flow) -> Result<Flow, NoMemory>
     requires { is_sound_flow flow ≡ true }
     ensures sound { IfOk result (λ narrowed. is_sound_flow narrowed ≡ true) }
@@ -111,14 +112,10 @@ fn narrowed_after(alloc: Global, graph: &Graph, rounds: u32) -> Result<Option<Gr
 }
 
 /// The graph narrowed by a table of claims, where it passes.
-fn narrowed_by(
-    alloc: Global,
-    table: &[Listed<Fact>],
-    graph: &Graph,
-) -> Result<Option<Graph>, NoMemory>
+fn narrowed_by(alloc: Global, table: &[Claim], graph: &Graph) -> Result<Option<Graph>, NoMemory>
     ensures { IfOk result (λ found. IfSome found (λ made. GraphNarrowed graph.now made)) }
 {
-    if !claims_in(table, 0).is_empty() {
+    if !is_nothing(table, 0) {
         return Ok(None);
     }
     match narrowed_blocks(alloc, table, graph.blocks.as_slice())? {
@@ -133,7 +130,7 @@ fn narrowed_by(
 /// The blocks narrowed, where all pass.
 fn narrowed_blocks(
     alloc: Global,
-    table: &[Listed<Fact>],
+    table: &[Claim],
     blocks: &[Block],
 ) -> Result<Option<Listed<Block>>, NoMemory>
     ensures narrowed { IfOk result (λ found. IfSome found (λ made. made ≡ narrowed_from (listed_claims table.now) 0 blocks.now)) }

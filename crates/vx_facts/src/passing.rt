@@ -2,17 +2,22 @@
 
 ghost use Rattle.std.specs.Prelude.{◌≡◌, true, IfOk, IfSome};
 ghost use Rattle.std.specs.List.{list_all};
-ghost use Rattle.vx_facts.specs.Facts.{after_all, found, on_side};
-ghost use Rattle.vx_facts.specs.Checking.{give, has_number, has_numbers, is_block_checked, is_exit_checked, is_number, without_result};
-ghost use Rattle.vx_facts.specs.Rewriting.{improved, improved_all, is_readable, narrowed_block, narrowed_exit, read_if};
+ghost use Rattle.vx_facts.specs.Facts.{on_side};
+ghost use Rattle.vx_facts.specs.Forming.{accessed_from, after_from};
+ghost use Rattle.vx_facts.specs.Shortening.{improved_from};
+ghost use Rattle.vx_facts.specs.Checking.{are_given, are_given_behind, has_number, has_numbers, is_block_checked, is_exit_checked, is_number, without_result};
+ghost use Rattle.vx_facts.specs.Rewriting.{narrowed_block, narrowed_exit};
 ghost use Rattle.vx_facts.specs.Narrowing.{listed_claims};
 
+use crate::access::{Access, accessed, copied_accesses, tell};
+use crate::claim::{Claim, accesses_in, facts_in};
 use crate::copying::copied_operands;
 use crate::fact::Fact;
-use crate::known::{decided, found, give};
-use crate::learning::{after, copied, on_side, without};
+use crate::forming::form;
+use crate::known::{decided, give};
+use crate::learning::{after_known, copied, on_side, without};
+use crate::shortening::shortened;
 use std::alloc::Global;
-use vx_base::arithmetic::Code;
 use vx_base::listed::Listed;
 use vx_base::outcome::NoMemory;
 use vx_flow::graph::{Block, BlockId, Exit, Op, Operand, Value};
@@ -63,104 +68,53 @@ fn are_numbers(operands: &[Operand]) -> bool
     operands.iter().all(|operand| has_number(*operand))
 }
 
-/// What a table claims at the start of a block.
-fn claims_at(table: &[Listed<Fact>], block: BlockId) -> &[Fact]
-    ensures { result.now ≡ listed_claims table.now block }
+/// Whether the facts and what is known of arrays give what is claimed at a block.
+fn are_given(facts: &[Fact], known: &[Access], table: &[Claim], block: BlockId) -> bool
+    ensures { result ≡ are_given facts.now known.now (listed_claims table.now block) }
 {
-    claims_in(table, block as usize)
+    give(facts, facts_in(table, block as usize)) && tell(known, accesses_in(table, block as usize))
 }
 
-/// The row of a table at a place, empty where there is none.
-pub fn claims_in(table: &[Listed<Fact>], place: usize) -> &[Fact]
-    ensures { result.now ≡ listed_claims table.now place }
+/// The same behind a call, where nothing is known of arrays.
+fn are_given_behind(facts: &[Fact], table: &[Claim], block: BlockId) -> bool
+    ensures { result ≡ are_given_behind facts.now (listed_claims table.now block) }
 {
-    match table.get(place) {
-        Some(claims) => claims.as_slice(),
-        None => &[],
-    }
-}
-
-fn is_readable(code: Code) -> bool
-    ensures { result ≡ is_readable code }
-{
-    match code {
-        Code::Mov => false,
-        Code::ToBranch(_) => false,
-        _ => true,
-    }
-}
-
-fn read_if(
-    test: bool,
-    code: Code,
-    to: Value,
-    left: Operand,
-    right: Operand,
-    place: Option<Value>,
-) -> Op
-    ensures { result ≡ read_if test code to left right place }
-{
-    let op = Op::Compute {
-        code,
-        to,
-        left,
-        right,
-    };
-    if !test {
-        return op;
-    }
-    match place {
-        Some(value) => Op::Compute {
-            code: Code::Mov,
-            to,
-            left: Operand::Held(value),
-            right: Operand::Number(0),
-        },
-        None => op,
-    }
-}
-
-/// The operation, or a move of its result from where it stands already.
-fn improved(facts: &[Fact], op: &Op) -> Op
-    ensures { result ≡ improved facts.now op.now }
-{
-    match *op {
-        Op::Compute {
-            code,
-            to,
-            left,
-            right,
-        } => read_if(
-            is_readable(code),
-            code,
-            to,
-            left,
-            right,
-            found(facts, code, left, right),
-        ),
-        other => other,
-    }
+    give(facts, facts_in(table, block as usize)) && tell(&[], accesses_in(table, block as usize))
 }
 
 /// What stands behind the operations of a block.
 #[derive(Drop)]
-struct Passed {
-    facts: Listed<Fact>,
-    ops: Listed<Op>,
+pub struct Passed {
+    pub facts: Listed<Fact>,
+    pub accesses: Listed<Access>,
+    pub ops: Listed<Op>,
 }
 
-/// Goes over operations from what is claimed before them.
-fn pass_ops(alloc: Global, claims: &[Fact], ops: &[Op]) -> Result<Passed, NoMemory>
-    ensures facts { IfOk result (λ passed. passed.facts ≡ after_all claims.now ops.now) }
-    ensures ops { IfOk result (λ passed. passed.ops ≡ improved_all claims.now ops.now) }
+/// Goes over operations from what is known before them.
+pub fn pass_ops(
+    alloc: Global,
+    claims: &[Fact],
+    accesses: &[Access],
+    ops: &[Op],
+) -> Result<Passed, NoMemory>
+    ensures facts { IfOk result (λ passed. passed.facts ≡ after_from claims.now accesses.now ops.now) }
+    ensures accesses { IfOk result (λ passed. passed.accesses ≡ accessed_from claims.now accesses.now ops.now) }
+    ensures ops { IfOk result (λ passed. passed.ops ≡ improved_from claims.now accesses.now ops.now) }
 {
     let mut facts = copied(alloc, claims)?;
+    let mut known = copied_accesses(alloc, accesses)?;
     let mut made = Listed::new(alloc);
     for op in ops {
-        made.push(improved(facts.as_slice(), op))?;
-        facts = after(alloc, facts.as_slice(), op)?;
+        let form = form(facts.as_slice(), known.as_slice(), op);
+        made.push(shortened(facts.as_slice(), form))?;
+        facts = after_known(alloc, facts.as_slice(), known.as_slice(), op, &form)?;
+        known = accessed(alloc, known.as_slice(), &form)?;
     }
-    Ok(Passed { facts, ops: made })
+    Ok(Passed {
+        facts,
+        accesses: known,
+        ops: made,
+    })
 }
 
 /// The exit, where a decided split is a jump.
@@ -197,52 +151,56 @@ fn narrowed_exit(alloc: Global, facts: &[Fact], exit: &Exit) -> Result<Exit, NoM
     }
 }
 
-/// Whether the facts on a side of a split give all claims.
-fn gives_on_side(
+/// Whether what holds on a side of a split gives what is claimed at a block.
+fn are_given_on_side(
     alloc: Global,
     facts: &[Fact],
+    known: &[Access],
     answer: bool,
     test: Value,
-    claims: &[Fact],
+    table: &[Claim],
+    block: BlockId,
 ) -> Result<bool, NoMemory>
-    ensures { IfOk result (λ given. given ≡ give (on_side facts.now answer test) claims.now) }
+    ensures { IfOk result (λ given. given ≡ are_given (on_side facts.now answer test) known.now (listed_claims table.now block)) }
 {
     let there = on_side(alloc, facts, answer, test)?;
-    Ok(give(there.as_slice(), claims))
+    Ok(are_given(there.as_slice(), known, table, block))
 }
 
-/// Whether the facts give all claims behind a call.
-fn gives_behind(
+/// Whether what holds behind a call gives what is claimed at a block.
+fn are_given_after(
     alloc: Global,
     facts: &[Fact],
     held: Option<Value>,
-    claims: &[Fact],
+    table: &[Claim],
+    block: BlockId,
 ) -> Result<bool, NoMemory>
-    ensures { IfOk result (λ given. given ≡ give (without_result held facts.now) claims.now) }
+    ensures { IfOk result (λ given. given ≡ are_given_behind (without_result held facts.now) (listed_claims table.now block)) }
 {
     match held {
         Some(value) => {
             let left = without(alloc, facts, value)?;
-            Ok(give(left.as_slice(), claims))
+            Ok(are_given_behind(left.as_slice(), table, block))
         }
-        None => Ok(give(facts, claims)),
+        None => Ok(are_given_behind(facts, table, block)),
     }
 }
 
 /// Whether an exit gives what is claimed at the blocks to which it leads.
 fn is_exit_checked(
     alloc: Global,
-    table: &[Listed<Fact>],
+    table: &[Claim],
     facts: &[Fact],
+    known: &[Access],
     exit: &Exit,
 ) -> Result<bool, NoMemory>
-    ensures { IfOk result (λ passes. passes ≡ is_exit_checked (listed_claims table.now) facts.now exit.now) }
+    ensures { IfOk result (λ passes. passes ≡ is_exit_checked (listed_claims table.now) facts.now known.now exit.now) }
 {
     match exit {
-        Exit::Goto(next) => Ok(give(facts, claims_at(table, *next))),
+        Exit::Goto(next) => Ok(are_given(facts, known, table, *next)),
         Exit::Split { test, yes, no } => Ok(
-            gives_on_side(alloc, facts, true, *test, claims_at(table, *yes))?
-                && gives_on_side(alloc, facts, false, *test, claims_at(table, *no))?,
+            are_given_on_side(alloc, facts, known, true, *test, table, *yes)?
+                && are_given_on_side(alloc, facts, known, false, *test, table, *no)?,
         ),
         Exit::Call {
             arguments,
@@ -251,7 +209,7 @@ fn is_exit_checked(
             ..
         } => Ok(
             are_numbers(arguments.as_slice())
-                && gives_behind(alloc, facts, *held, claims_at(table, *next))?,
+                && are_given_after(alloc, facts, *held, table, *next)?,
         ),
         Exit::Return(operand) => Ok(has_number(*operand)),
         Exit::Ends(_) => Ok(true),
@@ -261,16 +219,27 @@ fn is_exit_checked(
 /// The block at a place narrowed, where it passes.
 pub fn narrowed_block(
     alloc: Global,
-    table: &[Listed<Fact>],
+    table: &[Claim],
     place: usize,
     block: &Block,
 ) -> Result<Option<Block>, NoMemory>
     ensures narrowed { IfOk result (λ found. IfSome found (λ made. made ≡ narrowed_block (listed_claims table.now) place block.now)) }
     ensures checked { IfOk result (λ found. IfSome found (λ _. is_block_checked (listed_claims table.now) place block.now ≡ true)) }
 {
-    let passed = pass_ops(alloc, claims_in(table, place), block.ops.as_slice())?;
+    let passed = pass_ops(
+        alloc,
+        facts_in(table, place),
+        accesses_in(table, place),
+        block.ops.as_slice(),
+    )?;
     let passes = have_numbers(block.ops.as_slice())
-        && is_exit_checked(alloc, table, passed.facts.as_slice(), &block.exit)?;
+        && is_exit_checked(
+            alloc,
+            table,
+            passed.facts.as_slice(),
+            passed.accesses.as_slice(),
+            &block.exit,
+        )?;
     if !passes {
         return Ok(None);
     }

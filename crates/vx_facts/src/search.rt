@@ -5,7 +5,9 @@
 // are closed, is taken to be nothing at first. Where they give more, more is taken: from the third sweep on up to 0, or to the
 // least and the greatest number (Cousot and Cousot, 1977). Where they give no more, what was taken too much is given back.
 
+use crate::claim::Claim;
 use crate::fact::Fact;
+use crate::inheriting::inherit;
 use crate::intervals::{Interval, full};
 use crate::ordering::order_of;
 use crate::sweeping::{Cell, Mark, Tables, cell_at, hull, put_cell, sweep, unknown};
@@ -25,11 +27,7 @@ const WIDENS: u32 = 3;
 const GIVES_UP: u32 = 10;
 
 /// Claims at the starts of the blocks of a graph, with so many sweeps that give back.
-pub fn find_claims(
-    alloc: Global,
-    graph: &Graph,
-    rounds: u32,
-) -> Result<Vec<Listed<Fact>>, NoMemory> {
+pub fn find_claims(alloc: Global, graph: &Graph, rounds: u32) -> Result<Vec<Claim>, NoMemory> {
     let live = live(alloc, graph)?;
     let order = order_of(alloc, graph.blocks.as_slice())?;
     let mut tables = new_tables(alloc, graph, &live)?;
@@ -47,7 +45,14 @@ pub fn find_claims(
             &live,
             rounds,
         );
-        claims_of(alloc, graph, &live, &tables)
+        let mut claims = claims_of(alloc, graph, &live, &tables)?;
+        inherit(
+            alloc,
+            &mut claims,
+            order.as_slice(),
+            graph.blocks.as_slice(),
+        )?;
+        Ok(claims)
     } else {
         Ok(Vec::new(alloc))
     }
@@ -214,13 +219,21 @@ fn claims_of(
     graph: &Graph,
     live: &Live,
     tables: &Tables,
-) -> Result<Vec<Listed<Fact>>, NoMemory> {
+) -> Result<Vec<Claim>, NoMemory> {
     let mut claims = Vec::new(alloc);
-    claims.push(Listed::new(alloc))?;
+    claims.push(claim_of(alloc, Listed::new(alloc)))?;
     for block in 1..graph.blocks.len() {
-        claims.push(claims_at(alloc, graph.banks.as_slice(), live, tables, block)?)?;
+        let facts = claims_at(alloc, graph.banks.as_slice(), live, tables, block)?;
+        claims.push(claim_of(alloc, facts))?;
     }
     Ok(claims)
+}
+
+fn claim_of(alloc: Global, facts: Listed<Fact>) -> Claim {
+    Claim {
+        facts,
+        accesses: Listed::new(alloc),
+    }
 }
 
 fn claims_at(

@@ -1,0 +1,4 @@
+use Rattle.vx_facts.proofs.shortening.+shift_below.Given as goal
+
+abbrev pub decreases-shift_below : goal.decreases-shift_below
+decreases-shift_below l = l.most

@@ -1,0 +1,107 @@
+-- Operations in another form with the same result: what was moved is read where it was moved from, and what stands in a value
+-- already is moved from there.
+use Rattle.std.specs.Prelude.{ℕ, ◌==◌, Bool, true, false, ◌&&◌, ◌||◌, pos, Option, Some, None, List, [], ◌∷◌, ◌++◌}
+use Rattle.vx_base.specs.declared.arithmetic.Code.{Code}
+use Rattle.vx_base.specs.declared.arithmetic.Code.TheVariants.{Mov, ToBranch}
+use Rattle.vx_flow.specs.declared.graph.Operand.{Operand}
+use Rattle.vx_flow.specs.declared.graph.Operand.TheVariants.{Held, Number, Stack}
+use Rattle.vx_flow.specs.declared.graph.Op.{Op}
+use Rattle.vx_flow.specs.declared.graph.Op.TheVariants.{Compute, Select, Place, Load, Store, More, Input, Text, Decimal, Across}
+use Rattle.vx_facts.specs.declared.fact.Fact.{Fact}
+use Rattle.vx_facts.specs.declared.fact.Fact.TheVariants.{Between, Equals}
+use Rattle.vx_facts.specs.declared.access.Access.{Access}
+use Rattle.vx_facts.specs.declared.claim.Claim.{Claim}
+use Rattle.vx_facts.specs.Facts.{range_of, times_if, result_within, is_held, equals_if, lies_in, after, same_code, same_operand, found}
+use Rattle.vx_facts.specs.Accesses.{accessed, with_words, place_known}
+
+-- whether the code is a move, into v
+abbrev pub moves : ℕ → ℕ → Code → Bool
+moves v u Mov = u == v
+moves v u code = false
+
+abbrev pub operand_if : Bool → Operand → Operand → Operand
+operand_if true a otherwise = a
+operand_if false a otherwise = otherwise
+
+-- from where value v was moved, and v itself where it was not
+abbrev pub source_of : List Fact → ℕ → Operand
+source_of [] v = Held v
+source_of (Between u i ∷ fs) v = source_of fs v
+source_of (Equals u code a b ∷ fs) v = operand_if (moves v u code) a (source_of fs v)
+
+-- an operand that holds the same
+abbrev pub read : List Fact → Operand → Operand
+read fs (Held v) = source_of fs v
+read fs (Number n) = Number n
+read fs Stack = Stack
+
+-- a branch value cannot be moved, and what is moved already need not be
+abbrev pub is_readable : Code → Bool
+is_readable Mov = false
+is_readable (ToBranch compare) = false
+is_readable code = true
+
+abbrev pub read_if : Bool → Code → ℕ → Operand → Operand → Option ℕ → Op
+read_if true code v a b (Some w) = Compute Mov v (Held w) (Number (pos 0))
+read_if true code v a b None = Compute code v a b
+read_if false code v a b o = Compute code v a b
+
+abbrev pub computed_as : List Fact → Code → ℕ → Operand → Operand → Op
+computed_as fs code v a b = read_if (is_readable code) code v a b (found fs code a b)
+
+abbrev pub formed : List Fact → Op → Op
+formed fs (Compute code v a b) = computed_as fs code v (read fs a) (read fs b)
+formed fs (Select v p a b) = Select v p (read fs a) (read fs b)
+formed fs (Place v a i) = Place v a (read fs i)
+formed fs (Load v a p dismissible) = Load v a (read fs p) dismissible
+formed fs (Store a p x) = Store a (read fs p) (read fs x)
+formed fs (More v) = More v
+formed fs (Input v) = Input v
+formed fs (Text n) = Text n
+formed fs (Decimal x) = Decimal (read fs x)
+formed fs (Across v u) = Across v u
+
+-- the same, and a load of a known word is a move
+abbrev pub form : List Fact → List Access → Op → Op
+form fs xs op = with_words xs (formed fs op)
+
+-- what the operation as it was says besides: of the operands from which it is not read, more may be known
+
+abbrev pub same_form : Op → Op → Bool
+same_form (Compute code v a b) (Compute code' v' a' b') = same_code code code' && (same_operand a a' && same_operand b b')
+same_form (Place v a i) (Place v' a' i') = same_operand i i'
+same_form op op' = false
+
+abbrev pub is_test : Code → Bool
+is_test (ToBranch compare) = true
+is_test code = false
+
+abbrev pub facts_if : Bool → List Fact → List Fact
+facts_if true fs = fs
+facts_if false fs = []
+
+abbrev pub said_unless : Bool → List Fact → Op → List Fact
+said_unless true fs op = []
+said_unless false fs (Compute code v a b) = lies_in v (result_within code (range_of fs a) (range_of fs b)) (facts_if (is_test code) (equals_if (is_held v a || is_held v b) v code a b))
+said_unless false fs (Place v a i) = lies_in v (times_if true (range_of fs i) (pos 4)) []
+said_unless false fs op = []
+
+-- what is known behind an operation that has this form
+abbrev pub after_known : List Fact → List Access → Op → Op → List Fact
+after_known fs xs op op' = place_known xs op' ++ (said_unless (same_form op op') fs op ++ after fs op')
+
+abbrev pub after_from : List Fact → List Access → List Op → List Fact
+after_from fs xs [] = fs
+after_from fs xs (op ∷ ops) = after_from (after_known fs xs op (form fs xs op)) (accessed xs (form fs xs op)) ops
+
+abbrev pub accessed_from : List Fact → List Access → List Op → List Access
+accessed_from fs xs [] = xs
+accessed_from fs xs (op ∷ ops) = accessed_from (after_known fs xs op (form fs xs op)) (accessed xs (form fs xs op)) ops
+
+-- what is known behind the operations of a block at whose start this is claimed
+
+abbrev pub after_all : Claim → List Op → List Fact
+after_all claim ops = after_from claim.facts claim.accesses ops
+
+abbrev pub accessed_all : Claim → List Op → List Access
+accessed_all claim ops = accessed_from claim.facts claim.accesses ops

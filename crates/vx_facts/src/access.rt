@@ -1,0 +1,338 @@
+// What is known of the places and the words of arrays inside of a block. A store forgets the other words of its array, a write of
+// a value what speaks of it; nothing is known at the start of a block, and so nothing behind a call.
+
+ghost use Rattle.std.specs.Prelude.{◌≡◌, ◌++◌, IfOk};
+ghost use Rattle.vx_facts.specs.Accesses.{accessed, is_told, loaded_as, mentions, moved_from, moved_or, place_in, place_known, same_access, tell, touches, unless, unmentioned, untouched, value_if, with_words, word_in};
+
+use crate::fact::Fact;
+use crate::known::same_operand;
+use crate::learning::is_held;
+use std::alloc::Global;
+use vx_base::arithmetic::Code;
+use vx_base::listed::Listed;
+use vx_base::outcome::NoMemory;
+use vx_flow::graph::{ArrayId, Op, Operand, Value};
+
+/// What is known of an array.
+#[derive(Clone, Copy, Debug)]
+pub enum Access {
+    /// A value is the place of the element at an index.
+    Placed {
+        value: Value,
+        array: ArrayId,
+        index: Operand,
+    },
+    /// The word at a place holds what an operand holds.
+    Stored {
+        array: ArrayId,
+        place: Operand,
+        from: Operand,
+    },
+}
+
+fn mentions(value: Value, access: Access) -> bool
+    ensures { result ≡ mentions value access }
+{
+    match access {
+        Access::Placed {
+            value: named,
+            index,
+            ..
+        } => named == value || is_held(value, index),
+        Access::Stored { place, from, .. } => is_held(value, place) || is_held(value, from),
+    }
+}
+
+/// Whether a store to an array may change it.
+fn touches(array: ArrayId, access: Access) -> bool
+    ensures { result ≡ touches array access }
+{
+    match access {
+        Access::Placed { .. } => false,
+        Access::Stored { array: stored, .. } => stored == array,
+    }
+}
+
+/// Whether two say the same in the same words.
+fn same_access(first: Access, second: Access) -> bool
+    ensures { result ≡ same_access first second }
+{
+    match (first, second) {
+        (
+            Access::Placed {
+                value,
+                array,
+                index,
+            },
+            Access::Placed {
+                value: other,
+                array: there,
+                index: at,
+            },
+        ) => (other == value && there == array) && same_operand(at, index),
+        (
+            Access::Stored { array, place, from },
+            Access::Stored {
+                array: there,
+                place: at,
+                from: other,
+            },
+        ) => there == array && (same_operand(at, place) && same_operand(other, from)),
+        _ => false,
+    }
+}
+
+fn is_told(known: &[Access], access: Access) -> bool
+    ensures { result ≡ is_told known.now access }
+{
+    match known {
+        [] => false,
+        [first, rest @ ..] => same_access(access, *first) || is_told(rest, access),
+    }
+}
+
+/// Whether all claims are known.
+pub fn tell(known: &[Access], claims: &[Access]) -> bool
+    ensures { result ≡ tell known.now claims.now }
+{
+    claims.iter().all(|claim| is_told(known, *claim))
+}
+
+/// Puts what does not mention a value at the end of a list.
+fn append_unmentioned(
+    list: &mut Listed<Access>,
+    known: &[Access],
+    value: Value,
+) -> Result<(), NoMemory>
+    ensures { IfOk result (λ _. list.new ≡ list.old ++ unmentioned value known.now) }
+{
+    for access in known {
+        if !mentions(value, *access) {
+            list.push(*access)?;
+        }
+    }
+    Ok(())
+}
+
+/// Puts what a store to an array does not touch at the end of a list.
+fn append_untouched(
+    list: &mut Listed<Access>,
+    known: &[Access],
+    array: ArrayId,
+) -> Result<(), NoMemory>
+    ensures { IfOk result (λ _. list.new ≡ list.old ++ untouched array known.now) }
+{
+    for access in known {
+        if !touches(array, *access) {
+            list.push(*access)?;
+        }
+    }
+    Ok(())
+}
+
+fn append_known(list: &mut Listed<Access>, known: &[Access]) -> Result<(), NoMemory>
+    ensures { IfOk result (λ _. list.new ≡ list.old ++ known.now) }
+{
+    for access in known {
+        list.push(*access)?;
+    }
+    Ok(())
+}
+
+/// Puts an access and what does not mention a value at the end of a list.
+fn append_unless(
+    list: &mut Listed<Access>,
+    known: &[Access],
+    test: bool,
+    access: Access,
+    value: Value,
+) -> Result<(), NoMemory>
+    ensures { IfOk result (λ _. list.new ≡ list.old ++ unless test access (unmentioned value known.now)) }
+{
+    if !test {
+        list.push(access)?;
+    }
+    append_unmentioned(list, known, value)
+}
+
+fn append_accessed(list: &mut Listed<Access>, known: &[Access], op: &Op) -> Result<(), NoMemory>
+    ensures { IfOk result (λ _. list.new ≡ list.old ++ accessed known.now op.now) }
+{
+    match *op {
+        Op::Compute { to, .. } => append_unmentioned(list, known, to),
+        Op::Select { to, .. } => append_unmentioned(list, known, to),
+        Op::Place { to, array, index } => append_unless(
+            list,
+            known,
+            is_held(to, index),
+            Access::Placed {
+                value: to,
+                array,
+                index,
+            },
+            to,
+        ),
+        Op::Load {
+            to,
+            array,
+            place,
+            ..
+        } => append_unless(
+            list,
+            known,
+            is_held(to, place),
+            Access::Stored {
+                array,
+                place,
+                from: Operand::Held(to),
+            },
+            to,
+        ),
+        Op::Store { array, place, from } => {
+            list.push(Access::Stored { array, place, from })?;
+            append_untouched(list, known, array)
+        }
+        Op::More { to } => append_unmentioned(list, known, to),
+        Op::Input { to } => append_unmentioned(list, known, to),
+        Op::Text { .. } => append_known(list, known),
+        Op::Decimal { .. } => append_known(list, known),
+        Op::Across { to, .. } => append_unmentioned(list, known, to),
+    }
+}
+
+/// What is known behind an operation.
+pub fn accessed(alloc: Global, known: &[Access], op: &Op) -> Result<Listed<Access>, NoMemory>
+    ensures { IfOk result (λ behind. behind ≡ accessed known.now op.now) }
+{
+    let mut behind = Listed::new(alloc);
+    append_accessed(&mut behind, known, op)?;
+    Ok(behind)
+}
+
+fn value_if(test: bool, value: Value) -> Option<Value>
+    ensures { result ≡ value_if test value }
+{
+    if test { Some(value) } else { None }
+}
+
+/// The value that is the place of an element for longest.
+fn place_in(known: &[Access], array: ArrayId, index: Operand) -> Option<Value>
+    ensures { result ≡ place_in known.now array index }
+{
+    match known {
+        [] => None,
+        [first, rest @ ..] => match *first {
+            Access::Placed {
+                value,
+                array: other,
+                index: there,
+            } => match place_in(rest, array, index) {
+                Some(place) => Some(place),
+                None => value_if(other == array && same_operand(there, index), value),
+            },
+            Access::Stored { .. } => place_in(rest, array, index),
+        },
+    }
+}
+
+/// What holds what a word of an array holds.
+fn word_in(known: &[Access], array: ArrayId, place: Operand) -> Option<Operand>
+    ensures { result ≡ word_in known.now array place }
+{
+    match known {
+        [] => None,
+        [first, rest @ ..] => match *first {
+            Access::Placed { .. } => word_in(rest, array, place),
+            Access::Stored {
+                array: other,
+                place: there,
+                from,
+            } => {
+                if other == array && same_operand(there, place) {
+                    Some(from)
+                } else {
+                    word_in(rest, array, place)
+                }
+            }
+        },
+    }
+}
+
+fn moved_or(from: Option<Operand>, to: Value, otherwise: Op) -> Op
+    ensures { result ≡ moved_or from to otherwise }
+{
+    match from {
+        None => otherwise,
+        Some(operand) => Op::Compute {
+            code: Code::Mov,
+            to,
+            left: operand,
+            right: Operand::Number(0),
+        },
+    }
+}
+
+fn loaded_as(known: &[Access], dismissible: bool, to: Value, array: ArrayId, place: Operand) -> Op
+    ensures { result ≡ loaded_as known.now dismissible to array place }
+{
+    let load = Op::Load {
+        to,
+        array,
+        place,
+        dismissible,
+    };
+    if dismissible {
+        load
+    } else {
+        moved_or(word_in(known, array, place), to, load)
+    }
+}
+
+/// The operation, or a move where it is a load of a word that an operand holds.
+pub fn with_words(known: &[Access], op: Op) -> Op
+    ensures { result ≡ with_words known.now op }
+{
+    match op {
+        Op::Load {
+            to,
+            array,
+            place,
+            dismissible,
+        } => loaded_as(known, dismissible, to, array, place),
+        other => other,
+    }
+}
+
+fn append_moved(list: &mut Listed<Fact>, to: Value, from: Option<Value>) -> Result<(), NoMemory>
+    ensures { IfOk result (λ _. list.new ≡ list.old ++ moved_from to from) }
+{
+    match from {
+        None => Ok(()),
+        Some(value) => {
+            list.push(Fact::Equals {
+                value: to,
+                code: Code::Mov,
+                left: Operand::Held(value),
+                right: Operand::Number(0),
+            })?;
+            Ok(())
+        }
+    }
+}
+
+/// Puts at the end of a list that a place stands in a value already.
+pub fn append_place(list: &mut Listed<Fact>, known: &[Access], op: &Op) -> Result<(), NoMemory>
+    ensures { IfOk result (λ _. list.new ≡ list.old ++ place_known known.now op.now) }
+{
+    match *op {
+        Op::Place { to, array, index } => append_moved(list, to, place_in(known, array, index)),
+        _ => Ok(()),
+    }
+}
+
+/// A copy of what is known.
+pub fn copied_accesses(alloc: Global, known: &[Access]) -> Result<Listed<Access>, NoMemory>
+    ensures { IfOk result (λ copy. copy ≡ known.now) }
+{
+    Ok(Listed::from_vec(known.to_vec(alloc)?)?)
+}

@@ -1,0 +1,169 @@
+// Operations in another form with the same result. What was moved is read where it was moved from, and what stands in a value
+// already is moved from there.
+
+ghost use Rattle.std.specs.Prelude.{◌≡◌};
+ghost use Rattle.vx_facts.specs.Forming.{computed_as, form, formed, is_readable, moves, read, read_if, source_of};
+
+use crate::access::{Access, with_words};
+use crate::fact::Fact;
+use crate::known::found;
+use vx_base::arithmetic::Code;
+use vx_flow::graph::{Op, Operand, Value};
+
+/// Whether a code is a move into a value.
+fn moves(value: Value, to: Value, code: Code) -> bool
+    ensures { result ≡ moves value to code }
+{
+    match code {
+        Code::Mov => to == value,
+        _ => false,
+    }
+}
+
+/// From where a value was moved, and the value itself where it was not.
+fn source_of(facts: &[Fact], value: Value) -> Operand
+    ensures { result ≡ source_of facts.now value }
+{
+    match facts {
+        [] => Operand::Held(value),
+        [first, rest @ ..] => match *first {
+            Fact::Between { .. } => source_of(rest, value),
+            Fact::Equals {
+                value: to,
+                code,
+                left,
+                ..
+            } => {
+                if moves(value, to, code) {
+                    left
+                } else {
+                    source_of(rest, value)
+                }
+            }
+        },
+    }
+}
+
+/// An operand that holds the same.
+pub fn read(facts: &[Fact], operand: Operand) -> Operand
+    ensures { result ≡ read facts.now operand }
+{
+    match operand {
+        Operand::Held(value) => source_of(facts, value),
+        Operand::Number(number) => Operand::Number(number),
+        Operand::Stack => Operand::Stack,
+    }
+}
+
+fn is_readable(code: Code) -> bool
+    ensures { result ≡ is_readable code }
+{
+    match code {
+        Code::Mov => false,
+        Code::ToBranch(_) => false,
+        _ => true,
+    }
+}
+
+fn read_if(
+    test: bool,
+    code: Code,
+    to: Value,
+    left: Operand,
+    right: Operand,
+    place: Option<Value>,
+) -> Op
+    ensures { result ≡ read_if test code to left right place }
+{
+    let op = Op::Compute {
+        code,
+        to,
+        left,
+        right,
+    };
+    if !test {
+        return op;
+    }
+    match place {
+        Some(value) => Op::Compute {
+            code: Code::Mov,
+            to,
+            left: Operand::Held(value),
+            right: Operand::Number(0),
+        },
+        None => op,
+    }
+}
+
+fn computed_as(facts: &[Fact], code: Code, to: Value, left: Operand, right: Operand) -> Op
+    ensures { result ≡ computed_as facts.now code to left right }
+{
+    read_if(
+        is_readable(code),
+        code,
+        to,
+        left,
+        right,
+        found(facts, code, left, right),
+    )
+}
+
+/// The operation with its operands read where they were moved from, or a move of its result from where it stands already.
+fn formed(facts: &[Fact], op: &Op) -> Op
+    ensures { result ≡ formed facts.now op.now }
+{
+    match *op {
+        Op::Compute {
+            code,
+            to,
+            left,
+            right,
+        } => computed_as(facts, code, to, read(facts, left), read(facts, right)),
+        Op::Select {
+            to,
+            test,
+            left,
+            right,
+        } => Op::Select {
+            to,
+            test,
+            left: read(facts, left),
+            right: read(facts, right),
+        },
+        Op::Place { to, array, index } => Op::Place {
+            to,
+            array,
+            index: read(facts, index),
+        },
+        Op::Load {
+            to,
+            array,
+            place,
+            dismissible,
+        } => Op::Load {
+            to,
+            array,
+            place: read(facts, place),
+            dismissible,
+        },
+        Op::Store { array, place, from } => Op::Store {
+            array,
+            place: read(facts, place),
+            from: read(facts, from),
+        },
+        Op::More { to } => Op::More { to },
+        Op::Input { to } => Op::Input { to },
+        Op::Text { number } => Op::Text { number },
+        Op::Decimal { from } => Op::Decimal {
+            from: read(facts, from),
+        },
+        Op::Across { to, from } => Op::Across { to, from },
+    }
+}
+
+/// The same, and a move where it is a load of a word that an operand holds.
+pub fn form(facts: &[Fact], known: &[Access], op: &Op) -> Op
+    ensures { result ≡ form facts.now known.now op.now }
+{
+    with_words(known, formed(facts, op))
+}
