@@ -95,7 +95,8 @@ fn finish_whole(alloc: Global, whole: &Whole, flow: &Flow) -> Result<Finished, N
 }
 
 /// The words of a program, where its functions are laid out like this, and their values are kept where these maps say: they
-/// carry the layouts, and a word text can spell them. With them come the places of the words of all regions. A memory of more than 132,644,864 bytes is want of memory, and so are words
+/// carry the layouts, and a word text can spell them. With them come the places of the words of all regions: each region of each
+/// function has its list, also one that has no words. A memory of more than 132,644,864 bytes is want of memory, and so are words
 /// or frames that no list holds.
 pub fn finish(
     alloc: Global,
