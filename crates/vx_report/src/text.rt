@@ -17,7 +17,6 @@ use vx_frame::TracePlaces;
 use vx_region::TracePlan;
 
 /// The name of a function. One that the program does not have has no letter.
-#[tactic(auto, using(crate::proofs::Names::named))]
 fn name_of(program: &Typed, function: u32) -> &[u8]
     ensures { result.now ≡ name_at (names_of (view.program_of program.now.program)) function }
 {
