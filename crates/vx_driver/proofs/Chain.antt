@@ -28,10 +28,11 @@ use Rattle.vx_region.specs.Regions.{room_in}
 use Rattle.vx_regs.specs.declared.map.RegMap.{RegMap}
 use Rattle.vx_regs.specs.Mapped.{KeepsApart, Mapped}
 use Rattle.vx_frame.specs.Carried.{DoesTheSame, KeepsTo}
-use Rattle.vx_frame.specs.Finish.{CanFinish, AllCanFinish, IsFinished}
+use Rattle.vx_frame.specs.declared.finishing.Finished.{Finished}
+use Rattle.vx_frame.specs.Finish.{CanFinish, AllCanFinish, IsFinished, Finishes}
 use Rattle.vx_words.specs.Range.{is_in_range}
 use Rattle.vx_profile.specs.declared.counts.Counts.{Counts}
-use Rattle.vx_report.specs.declared.plan.Plan.{Plan}
+use Rattle.vx_region.specs.declared.trace_plan.TracePlan.{TracePlan}
 use Rattle.vx_driver.specs.Compiled.{AreMapsOf, Compiled, Planned, all_in_slots, layouts_of}
 use Rattle.vx_driver.specs.Stages.{IsInside, AreInside, IsLayoutOf, AreLayoutsFrom, AreLayoutsOf, StageLaws}
 use Rattle.vx_driver.proofs.OneFunction.{Finishable, finishable}
@@ -148,7 +149,13 @@ module _ (laws : StageLaws) (p : Program) (flow : Flow) (machine : Numbers) (ls 
       (laws.layouts flow soon latency (room_in machine) done ls input some_time (same_frames 0 machine flow.functions ls laid) (all_laid_out 0 machine flow.functions ls laid)
       (all_settled 0 machine flow.functions ls laid) before.never)
 
-  module _ (maps : List RegMap) (w : WordProgram) (works : IsMachine machine) (finished : IsFinished machine flow ls maps w) where
+  module _ (maps : List RegMap) (x : Finished) (works : IsMachine machine) (all : Finishes machine flow ls maps x) where
+    abbrev w : WordProgram
+    w = x.program
+
+    abbrev finished : IsFinished machine flow ls maps w
+    finished = all.finished
+
     law : KeepsTo finished.target.machine w × ((input : List ℤ) → NeverFails (laid_run flow ls input) → DoesTheSame finished.target flow ls w input)
     law = laws.frames finished.target flow ls w is.sound finished.carries
 
@@ -167,25 +174,27 @@ module _ (laws : StageLaws) (p : Program) (flow : Flow) (machine : Numbers) (ls 
         like laws.transitive p input (words_run machine soon w input) (words_run machine times w input)
         (λ n. laws.timings machine w works keeps.never_reads_early keeps.never_writes_early times soon input n) (soon_do input numbers)
 
-    pub compiled : (counts : Counts) (growth : ℕ) (plan : Plan) (planned : Planned machine counts growth flow.functions plan.traces plan.copies) → ls ≡ layouts_of planned.functions → AreMapsOf machine ls maps → plan.spilled ≡ all_in_slots maps → is_in_range w ≡ true →
-        Compiled p counts machine growth w plan
-    compiled counts growth plan planned are kept spilled in_range =
+    pub compiled : (counts : Counts) (growth : ℕ) (traces : List TracePlan) (spilled copies : ℕ) (planned : Planned machine counts growth flow.functions traces copies) → ls ≡ layouts_of planned.functions → AreMapsOf machine ls maps →
+        spilled ≡ all_in_slots maps → is_in_range w ≡ true → Compiled p counts machine growth w (record { traces = traces; places = x.places; spilled = spilled; copies = copies })
+    compiled counts growth traces spilled copies planned are kept in_slots in_range =
         let strict : PathStrict machine w = record { fit = keeps.fit; never_early = keeps.never_reads_early } in
+        let done : Finishes machine flow (layouts_of planned.functions) maps x = subst (λ z. Finishes machine flow z maps x) are all in
         record {
           flow = flow;
           flow_of = is;
           planned = planned;
           maps = maps;
           kept = subst (λ z. AreMapsOf machine z maps) are kept;
-          spilled = spilled;
-          finished = subst (λ z. IsFinished machine flow z maps w) are finished;
+          spilled = in_slots;
+          finished = done;
+          carries = laws.plans machine flow (layouts_of planned.functions) maps x done;
           faithful = record {
             same = λ input times all some. (words_do input times (are_numbers input all)).same;
             never_stuck = λ input times all some. (words_do input times (are_numbers input all)).never;
           };
           path_strict = strict;
           strict = laws.paths machine w strict;
-          sound = finished.sound;
+          sound = all.finished.sound;
           in_range = in_range;
         }
 

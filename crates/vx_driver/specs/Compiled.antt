@@ -23,7 +23,8 @@ use Rattle.vx_regs.specs.declared.map.Kept.{Kept}
 use Rattle.vx_regs.specs.declared.map.Kept.TheVariants.{InRegister, InSlot, Nowhere}
 use Rattle.vx_regs.specs.declared.map.RegMap.{RegMap}
 use Rattle.vx_regs.specs.Mapped.{Mapped}
-use Rattle.vx_frame.specs.Finish.{IsFinished}
+use Rattle.vx_frame.specs.Finish.{Finishes}
+use Rattle.vx_frame.specs.Plans.{CarriesPlan}
 use Rattle.vx_report.specs.declared.plan.Plan.{Plan}
 use Rattle.vx_driver.specs.Faithful.{Faithful}
 
@@ -85,8 +86,8 @@ all_in_slots maps = sum_by (λ (x : RegMap). in_slots x.values) maps
 -- the whole
 
 -- the program has graphs that do what it does, in the shape of their layer; the plan is that of these graphs, by these counts and
--- with this cap on copies; the words are the finished program of its layouts, with values kept where the maps say; they do what the
--- program does, fit the machine, and on no path read a register early, and so in no run; and they are a program of words that the
+-- with this cap on copies; the words are the finished program of its layouts, with values kept where the maps say, and carry the
+-- regions of the plan at its places, and nothing else but words of the other kinds; they do what the program does, fit the machine, and on no path read a register early, and so in no run; and they are a program of words that the
 -- word text spells: sound, with numbers of 32 bits and texts of bytes
 pub record Compiled (p : Program) (counts : Counts) (m : Numbers) (growth : ℕ) (w : WordProgram) (plan : Plan) : Type 0 where
   pub flow : Flow
@@ -95,7 +96,8 @@ pub record Compiled (p : Program) (counts : Counts) (m : Numbers) (growth : ℕ)
   pub maps : List RegMap
   pub kept : AreMapsOf m (layouts_of planned.functions) maps
   pub spilled : plan.spilled ≡ all_in_slots maps
-  pub finished : IsFinished m flow (layouts_of planned.functions) maps w
+  pub finished : Finishes m flow (layouts_of planned.functions) maps (record { program = w; places = plan.places })
+  pub carries : CarriesPlan finished.finished.target (layouts_of planned.functions) plan.places w
   pub faithful : Faithful p m w
   pub path_strict : PathStrict m w
   pub strict : Strict m w

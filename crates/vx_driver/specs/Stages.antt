@@ -23,7 +23,9 @@ use Rattle.vx_profile.specs.declared.counts.Counts.{Counts}
 use Rattle.vx_region.specs.declared.trace_plan.TracePlan.{TracePlan}
 use Rattle.vx_region.specs.Regions.{AllReplaced, ReplacesAll}
 use Rattle.vx_frame.specs.Carried.{FrameLaw}
-use Rattle.vx_frame.specs.Finish.{IsFinished}
+use Rattle.vx_frame.specs.declared.finishing.Finished.{Finished}
+use Rattle.vx_frame.specs.Finish.{Finishes}
+use Rattle.vx_frame.specs.Plans.{PlanLaw}
 use Rattle.vx_ast.specs.Tree.{Program}
 use Rattle.vx_report.specs.declared.plan.Plan.{Plan}
 use Rattle.vx_report.specs.Report.{names_of, report_text}
@@ -79,13 +81,13 @@ pub record AreLaidOut (machine : Numbers) (counts : Counts) (cap : ℕ) (graphs 
   pub planned : Planned machine counts cap graphs traces used
   pub layouts_are : ls ≡ layouts_of planned.functions
 
--- layouts that are finished as words, with so many values in slots
-pub record AreFinished (machine : Numbers) (flow : Flow) (ls : List VWords) (w : WordProgram) (spilled : ℕ) : Type 0 where
+-- layouts that are finished as words, which stand at these places, with so many values in slots
+pub record AreFinished (machine : Numbers) (flow : Flow) (ls : List VWords) (x : Finished) (spilled : ℕ) : Type 0 where
   pub maps : List RegMap
   pub kept : AreMapsOf machine ls maps
   pub spilled_is : spilled ≡ all_in_slots maps
-  pub finished : IsFinished machine flow ls maps w
-  pub in_range : is_in_range w ≡ true
+  pub finished : Finishes machine flow ls maps x
+  pub in_range : is_in_range x.program ≡ true
 
 -- the texts of a compiled program, of which that of the report is made where one is asked
 pub record MakesTexts (p : Program) (counts : Counts) (machine : Numbers) (growth : ℕ) (asked : Bool) (text report : List ℕ) : Type 0 where
@@ -110,5 +112,6 @@ pub record StageLaws : Type 0 where
   pub comes : LayoutComesFromGraph
   pub brief : LayoutIsBrief
   pub frames : FrameLaw
+  pub plans : PlanLaw
   pub paths : PathStrictLaw
   pub timings : AnyTimingLaw

@@ -18,8 +18,8 @@ use vx_base::outcome::NoMemory;
 use vx_clean::clean;
 use vx_facts::narrow;
 use vx_flow::graph::Flow;
-use vx_frame::laws::frames_keep_to_the_machine;
-use vx_frame::{TracePlaces, finish};
+use vx_frame::laws::{finished_programs_carry_their_plan, frames_keep_to_the_machine};
+use vx_frame::{Finished, finish};
 use vx_isa::laws::{any_timing_law, path_strict_law};
 use vx_isa::program::WordProgram;
 use vx_lower::lower;
@@ -46,8 +46,7 @@ pub struct CompiledProgram {
 /// Layouts that are finished as words.
 #[derive(Drop)]
 struct FinishedProgram {
-    words: WordProgram,
-    places: Listed<TracePlaces>,
+    finished: Finished,
     spilled: u32,
 }
 
@@ -61,6 +60,7 @@ fn stages_do_the_same()
     layouts_keep_the_meaning();
     drains_stay_brief();
     frames_keep_to_the_machine();
+    finished_programs_carry_their_plan();
     path_strict_law();
     any_timing_law();
 }
@@ -143,7 +143,7 @@ fn finished_of(
     machine: &Machine,
 ) -> Result<FinishedProgram, NoMemory>
     requires { AreLayoutsOf machine.now flow.now.functions layouts.now }
-    ensures { IfOk result (λ x. AreFinished machine.now flow.now layouts.now x.words x.spilled) }
+    ensures { IfOk result (λ x. AreFinished machine.now flow.now layouts.now x.finished x.spilled) }
 {
     stages_do_the_same();
     machine.keeps_ranges();
@@ -151,11 +151,7 @@ fn finished_of(
     let spilled = all_slots_in(maps.as_slice())?;
     let finished = finish(alloc, layouts, maps.as_slice(), flow, machine)?;
     numbers_fit(&finished.program);
-    Ok(FinishedProgram {
-        words: finished.program,
-        places: finished.places,
-        spilled,
-    })
+    Ok(FinishedProgram { finished, spilled })
 }
 
 /// The words of an accepted program for a machine, and how they were planned. Its traces are picked by counts of blocks and edges,
@@ -174,13 +170,13 @@ pub fn compile(
     machine.keeps_ranges();
     let flow = flow_of(alloc, program)?;
     let laid = layouts_of(alloc, flow.functions.as_slice(), counts, machine, growth)?;
-    let finished = finished_of(alloc, &flow, laid.layouts.as_slice(), machine)?;
+    let done = finished_of(alloc, &flow, laid.layouts.as_slice(), machine)?;
     Ok(CompiledProgram {
-        words: finished.words,
+        words: done.finished.program,
         plan: Plan {
             traces: laid.traces,
-            places: finished.places,
-            spilled: finished.spilled,
+            places: done.finished.places,
+            spilled: done.spilled,
             copies: laid.copies,
         },
     })

@@ -21,10 +21,10 @@ returns c =
     let machine = c.args.machine.now in
     let flow = c.in_ok-flow.flow in
     let laid = c.in_ok-laid.laid in
-    let words = c.in_ok-finished.finished.words in
-    let spilled = c.in_ok-finished.finished.spilled in
+    let finished = c.in_ok-done.done.finished in
+    let spilled = c.in_ok-done.done.spilled in
     let made : AreLaidOut machine c.args.counts.now c.args.growth flow.functions laid.traces laid.layouts laid.copies =
     subst (λ z. AreLaidOut machine c.args.counts.now c.args.growth z laid.traces laid.layouts laid.copies) c.as_slice.ensures c.in_ok-laid.ensures in
-    let all : AreFinished machine flow laid.layouts words spilled = subst (λ z. AreFinished machine flow z words spilled) c.as_slice-2.ensures c.in_ok-finished.ensures in
-    compiled c.stages_do_the_same.ensures (program_of c.args.program.now.program) flow machine laid.layouts c.in_ok-flow.ensures made.laid all.maps words c.keeps_ranges.ensures all.finished
-    c.args.counts.now c.args.growth (record { traces = laid.traces; places = c.in_ok-finished.finished.places; spilled = spilled; copies = laid.copies }) made.planned made.layouts_are all.kept all.spilled_is all.in_range
+    let all : AreFinished machine flow laid.layouts finished spilled = subst (λ z. AreFinished machine flow z finished spilled) c.as_slice-2.ensures c.in_ok-done.ensures in
+    compiled c.stages_do_the_same.ensures (program_of c.args.program.now.program) flow machine laid.layouts c.in_ok-flow.ensures made.laid all.maps finished c.keeps_ranges.ensures all.finished
+    c.args.counts.now c.args.growth laid.traces spilled laid.copies made.planned made.layouts_are all.kept all.spilled_is all.in_range

@@ -1,6 +1,6 @@
 -- The layouts can be finished, so they are.
 use Rattle.std.proofs.Common.{◌≡◌, sym, subst}
-use Rattle.vx_frame.specs.Finish.{AllCanFinish, IsFinished}
+use Rattle.vx_frame.specs.Finish.{AllCanFinish, Finishes}
 use Rattle.vx_driver.specs.Compiled.{AreMapsOf, all_in_slots}
 use Rattle.vx_driver.proofs.Chain.{all_inside, all_can_finish}
 use Rattle.vx_driver.proofs.words.finished_of.Goals as goal
@@ -27,6 +27,6 @@ returns c =
       maps = maps;
       kept = c.in_ok-maps.ensures;
       spilled_is = subst (λ z. c.in_ok-spilled.spilled ≡ all_in_slots z) c.as_slice.ensures c.in_ok-spilled.ensures;
-      finished = subst (λ z. IsFinished machine flow layouts z c.in_ok-finished.finished.program) c.as_slice-2.ensures c.in_ok-finished.ensures;
+      finished = subst (λ z. Finishes machine flow layouts z c.in_ok-finished.finished) c.as_slice-2.ensures c.in_ok-finished.ensures;
       in_range = c.numbers_fit.ensures;
     }
