@@ -1,0 +1,8 @@
+// Makes sources of the language from a seed and a size, for trials of the compiler.
+#![tactic(auto)]
+
+mod draws;
+mod forms;
+mod program;
+
+pub use program::program;
