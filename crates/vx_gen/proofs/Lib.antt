@@ -1,2 +1,3 @@
-pub mod Draws
-pub mod Forms
+pub mod Wrapping
+pub mod Beyond
+pub mod Counting

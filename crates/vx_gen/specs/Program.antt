@@ -78,14 +78,14 @@ statements (suc n) x = and_then (statement x) (statements n)
 
 -- functions
 
-abbrev pub opening : (number : ℕ) → List ℕ
+unfoldable pub opening : (number : ℕ) → List ℕ
 opening j = codes "int f" ++ decimal j ++ codes "(int p, int q) {\nint i;\nint a = p;\nint b = q;\nint c = 1;\nint d = 2;\n"
 
-abbrev pub closing : List ℕ
+unfoldable pub closing : List ℕ
 closing = codes "return a + b + c + d;\n}\n"
 
 -- a function with so many statements
-abbrev pub function : (number count : ℕ) → Maker
+unfoldable pub function : (number count : ℕ) → Maker
 function j n x = record { text = opening j ++ (statements n x).text ++ closing; state = (statements n x).state }
 
 -- of a source with size statements the functions from number j on, k of them: each has 100 statements, the last one the rest
@@ -93,9 +93,16 @@ abbrev pub functions : (size j k : ℕ) → Maker
 functions size j zero x = nothing x
 functions size j (suc k) x = and_then (function j (min 100 (size - 100 * j)) x) (functions size (j + 1) k)
 
--- the line of main that prints what this function gives
+-- what main calls the function of this number with
+abbrev pub arguments : (number : ℕ) → List ℕ
+arguments j = codes "(" ++ decimal (j + 1) ++ codes ", " ++ decimal (j + 2) ++ codes ")"
+
+unfoldable pub printed : List ℕ
+printed = codes "printf(\"%d\\n\", f"
+
+-- the line of main that prints what it gives
 abbrev pub call_line : (number : ℕ) → List ℕ
-call_line j = codes "printf(\"%d\\n\", f" ++ decimal j ++ codes "(" ++ decimal (j + 1) ++ codes ", " ++ decimal (j + 2) ++ codes "));\n"
+call_line j = printed ++ decimal j ++ arguments j ++ codes ");\n"
 
 -- those of k functions from number j on
 abbrev pub call_lines : (j k : ℕ) → List ℕ
@@ -107,11 +114,17 @@ call_lines j (suc k) = call_line j ++ call_lines (j + 1) k
 abbrev pub function_count : (size : ℕ) → ℕ
 function_count size = (size + 99) / 100
 
+unfoldable pub main_opening : List ℕ
+main_opening = codes "int main(void) {\n"
+
 abbrev pub main_text : (size : ℕ) → List ℕ
-main_text size = codes "int main(void) {\n" ++ call_lines 0 (function_count size) ++ codes "return 0;\n}\n"
+main_text size = main_opening ++ call_lines 0 (function_count size) ++ codes "return 0;\n}\n"
+
+unfoldable pub array : List ℕ
+array = codes "int m[16];\n"
 
 abbrev pub program_text : (seed size : ℕ) → List ℕ
-program_text seed size = codes "int m[16];\n" ++ (functions size 0 (function_count size) seed).text ++ main_text size
+program_text seed size = array ++ (functions size 0 (function_count size) seed).text ++ main_text size
 
 -- how a list of bytes that is filled goes on: by the text that was made
 pub record Puts (made : Made) (before after : List ℕ) (next : ℕ) : Type 0 where

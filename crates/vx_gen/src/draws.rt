@@ -1,5 +1,6 @@
 // Draws: a linear congruential generator whose state is the caller's.
 
+ghost use Rattle.std.specs.Prelude.{◌≡◌, ◌<◌};
 ghost use Rattle.vx_gen.specs.Program.{drawn, next_state};
 
 /// The factor of the generator (Knuth's MMIX).
@@ -10,7 +11,7 @@ const ADDED: u64 = 1_442_695_040_888_963_407;
 const LEFT_OUT: u64 = 0x2_0000_0000;
 
 /// The state behind one draw.
-#[tactic(auto, using(crate::proofs::Draws::wrapped), unfolding(crate::specs::Program::next_state))]
+#[tactic(auto, using(crate::proofs::Wrapping::wrapped), unfolding(crate::specs::Program::next_state))]
 pub(crate) fn next_state(state: u64) -> u64
     ensures { result ≡ next_state state }
 {
@@ -21,7 +22,7 @@ pub(crate) fn next_state(state: u64) -> u64
 #[tactic(auto, unfolding(crate::specs::Program::drawn))]
 pub(crate) fn drawn(choices: u64, state: u64) -> u64
     requires some { 0 < choices }
-    ensures { result ≡ drawn choices state }
+    ensures number { result ≡ drawn choices state }
     ensures below { result < choices }
 {
     next_state(state) / LEFT_OUT % choices

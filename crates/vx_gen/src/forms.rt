@@ -37,8 +37,8 @@ fn fill_expression(out: &mut Vec<u8>, form: &[u8], state: u64) -> Result<u64, No
     Ok(reached)
 }
 
-#[tactic(auto, using(crate::proofs::Forms::no_expression), unfolding(crate::specs::Program::expression_forms))]
-fn expression_form(kind: u64) -> &[u8]
+#[tactic(auto, using(crate::proofs::Beyond::no_expression), unfolding(crate::specs::Program::expression_forms))]
+fn expression_form(kind: u64) -> &'static [u8]
     ensures { result.now ≡ form_at expression_forms kind }
 {
     match kind {
@@ -79,8 +79,8 @@ fn fill_statement(out: &mut Vec<u8>, form: &[u8], state: u64) -> Result<u64, NoM
     Ok(reached)
 }
 
-#[tactic(auto, using(crate::proofs::Forms::no_statement), unfolding(crate::specs::Program::statement_forms))]
-fn statement_form(kind: u64) -> &[u8]
+#[tactic(auto, using(crate::proofs::Beyond::no_statement), unfolding(crate::specs::Program::statement_forms))]
+fn statement_form(kind: u64) -> &'static [u8]
     ensures { result.now ≡ form_at statement_forms kind }
 {
     match kind {

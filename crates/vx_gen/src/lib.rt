@@ -3,6 +3,6 @@
 
 mod draws;
 mod forms;
-mod program;
+mod source;
 
-pub use program::program;
+pub use source::program;

@@ -1,6 +1,6 @@
 use Rattle.std.proofs.Common.{◌≡◌, ◌++◌, ◌-◌}
 use Rattle.vx_gen.specs.Program.{functions}
-use Rattle.vx_gen.proofs.program.push_functions.Given as goal
+use Rattle.vx_gen.proofs.source.push_functions.Given as goal
 
 -- what is written and what the functions from here on still give make the whole
 abbrev pub invariant-loop-number : goal.invariant-loop-number

@@ -1,5 +1,5 @@
 -- Numbers beyond the last form.
-use Rattle.std.proofs.Common.{◌≡◌, ℕ, zero, suc, ◌≤◌, [], refl}
+use Rattle.std.proofs.Common.{◌≡◌, ℕ, zero, suc, ◌≤◌, [], refl, arith}
 use Rattle.vx_gen.specs.Program.{form_at, expression_forms, statement_forms}
 
 pub no_expression : (k : ℕ) → 5 ≤ k → form_at expression_forms k ≡ []

@@ -1,0 +1,5 @@
+use Rattle.vx_gen.proofs.Counting.{call_text}
+use Rattle.vx_gen.proofs.source.push_calls.Goals as goal
+
+pub loop-number-preserved : goal.loop-number-preserved
+loop-number-preserved c = call_text c.loop-number.number c.args.count c.loop-number.out.items _ _ c.loop-number-test.true c.in_ok-push_call.ensures c.loop-number.invariant
