@@ -1,3 +1,5 @@
 pub mod Wrapping
 pub mod Beyond
 pub mod Counting
+pub mod Length
+mod Rows

@@ -78,9 +78,11 @@ statements (suc n) x = and_then (statement x) (statements n)
 
 -- functions
 
+-- how a function begins, before its statements
 unfoldable pub opening : (number : ℕ) → List ℕ
 opening j = codes "int f" ++ decimal j ++ codes "(int p, int q) {\nint i;\nint a = p;\nint b = q;\nint c = 1;\nint d = 2;\n"
 
+-- and how it ends, behind them
 unfoldable pub closing : List ℕ
 closing = codes "return a + b + c + d;\n}\n"
 
@@ -93,14 +95,16 @@ abbrev pub functions : (size j k : ℕ) → Maker
 functions size j zero x = nothing x
 functions size j (suc k) x = and_then (function j (min 100 (size - 100 * j)) x) (functions size (j + 1) k)
 
--- what main calls the function of this number with
+-- main
+
+-- what the function of this number is called with
 abbrev pub arguments : (number : ℕ) → List ℕ
 arguments j = codes "(" ++ decimal (j + 1) ++ codes ", " ++ decimal (j + 2) ++ codes ")"
 
 unfoldable pub printed : List ℕ
 printed = codes "printf(\"%d\\n\", f"
 
--- the line of main that prints what it gives
+-- the line that prints what it gives
 abbrev pub call_line : (number : ℕ) → List ℕ
 call_line j = printed ++ decimal j ++ arguments j ++ codes ");\n"
 
@@ -109,8 +113,7 @@ abbrev pub call_lines : (j k : ℕ) → List ℕ
 call_lines j zero = []
 call_lines j (suc k) = call_line j ++ call_lines (j + 1) k
 
--- the whole
-
+-- for each hundred statements one function, and one for what is left
 abbrev pub function_count : (size : ℕ) → ℕ
 function_count size = (size + 99) / 100
 
@@ -120,9 +123,13 @@ main_opening = codes "int main(void) {\n"
 abbrev pub main_text : (size : ℕ) → List ℕ
 main_text size = main_opening ++ call_lines 0 (function_count size) ++ codes "return 0;\n}\n"
 
+-- the whole
+
+-- the array that all functions share
 unfoldable pub array : List ℕ
 array = codes "int m[16];\n"
 
+-- first the array, then the functions, whose draws begin at the seed, then main
 abbrev pub program_text : (seed size : ℕ) → List ℕ
 program_text seed size = array ++ (functions size 0 (function_count size) seed).text ++ main_text size
 

@@ -1,6 +1,6 @@
 // Whole sources: functions of at most 100 statements, and main, which prints what each gives.
 
-ghost use Rattle.std.specs.Prelude.{◌≡◌, ◌++◌, ◌+◌, ◌-◌, ◌*◌, ◌≤◌, IfOk, OnOk, decimal, min};
+ghost use Rattle.std.specs.Prelude.{◌≡◌, ◌++◌, ◌+◌, ◌-◌, ◌*◌, ◌<◌, ◌≤◌, IfOk, OnOk, decimal, length, min};
 ghost use Rattle.vx_gen.specs.Program.{Puts, arguments, array, call_line, call_lines, closing, function, function_count, functions, main_opening, main_text, opening, printed, program_text, statements};
 
 use crate::forms::push_statement;
@@ -154,11 +154,15 @@ fn push_array(out: &mut Vec<u8>) -> Result<(), NoMemory>
 
 /// The source that a seed and a size give: `size` statements, from 1 to 10,000, in functions of 100 each and the rest in the
 /// last one, and a `main` that prints what each function gives (docs/DEFINITIONS.md, `program_text`). The same seed and size
-/// give the same bytes. `Err` comes only where memory runs out. It takes a time that grows with the length of the text.
+/// give the same bytes, fewer than 1,048,576. `Err` comes only where memory runs out. It takes a time that grows with the length of the text.
+#[tactic(auto, using(crate::proofs::Length::program_length))]
 pub fn program(alloc: Global, seed: u64, size: u32) -> Result<Vec<u8>, NoMemory>
     requires some { 1 ≤ size }
     requires small { size ≤ 10000 }
-    ensures { IfOk result (λ text. text.items ≡ program_text seed size) }
+    ensures text { IfOk result (λ text. text.items ≡ program_text seed size) }
+
+    // It is no longer than a source of the language may be.
+    ensures short { IfOk result (λ text. length text.items < 1048576) }
 {
     let mut out = Vec::new(alloc);
     push_array(&mut out)?;
