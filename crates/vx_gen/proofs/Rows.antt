@@ -1,7 +1,7 @@
 -- The first draws from the seed 0, worked by hand, and sources that they give.
-use Rattle.std.proofs.Common.{◌≡◌, codes, refl}
+use Rattle.std.proofs.Common.{◌≡◌, ℕ, codes, refl}
 use Rattle.std.specs.Fmt.{digits}
-use Rattle.vx_gen.specs.Program.{next_state, drawn, variable, in_expression, expression_forms, expression, in_statement, statement_forms, statement, statements, opening, closing, function, printed, main_opening, main_text, array, program_text}
+use Rattle.vx_gen.specs.Program.{nothing, and_then, next_state, drawn, variable, in_expression, expression_forms, expression, in_statement, statement_forms, statement, statements, opening, closing, function, function_count, functions, printed, main_opening, main_text, array, program_text}
 
 -- 1442695040888963407 / 2 ^ 33 is 167951807, which is 5 modulo 6
 first_state : next_state 0 ≡ 1442695040888963407
@@ -34,7 +34,10 @@ two_statements : (statements 2 32).text ≡ codes "a = m[a & 15];\nif (c < a) { 
 unfolding next_state drawn variable in_expression expression_forms expression in_statement statement_forms statement
 two_statements = refl
 
--- a hundred and one statements are two functions
+-- a hundred and one statements are a function of a hundred and one of one
+two_functions : (x : ℕ) → functions 101 0 (function_count 101) x ≡ and_then (function 0 100 x) (λ y. and_then (function 1 1 y) nothing)
+two_functions x = refl
+
 two_calls : main_text 101 ≡ codes "int main(void) {\nprintf(\"%d\\n\", f0(1, 2));\nprintf(\"%d\\n\", f1(2, 3));\nreturn 0;\n}\n"
 unfolding digits printed main_opening
 two_calls = refl

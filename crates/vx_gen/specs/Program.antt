@@ -101,10 +101,11 @@ functions size j (suc k) x = and_then (function j (min 100 (size - 100 * j)) x) 
 abbrev pub arguments : (number : ℕ) → List ℕ
 arguments j = codes "(" ++ decimal (j + 1) ++ codes ", " ++ decimal (j + 2) ++ codes ")"
 
+-- a line of main up to the number of the function that it calls
 unfoldable pub printed : List ℕ
 printed = codes "printf(\"%d\\n\", f"
 
--- the line that prints what it gives
+-- the line that prints what this function gives
 abbrev pub call_line : (number : ℕ) → List ℕ
 call_line j = printed ++ decimal j ++ arguments j ++ codes ");\n"
 
@@ -117,6 +118,7 @@ call_lines j (suc k) = call_line j ++ call_lines (j + 1) k
 abbrev pub function_count : (size : ℕ) → ℕ
 function_count size = (size + 99) / 100
 
+-- how main begins
 unfoldable pub main_opening : List ℕ
 main_opening = codes "int main(void) {\n"
 
