@@ -1,4 +1,4 @@
--- The first draws from the seed 0, worked by hand, and sources that they give.
+-- The first draws from the seed 0, and sources that draws give, worked out from the rule apart from the code.
 use Rattle.std.proofs.Common.{◌≡◌, ℕ, codes, refl}
 use Rattle.std.specs.Fmt.{digits}
 use Rattle.vx_gen.specs.Program.{nothing, and_then, next_state, drawn, variable, in_expression, expression_forms, expression, in_statement, statement_forms, statement, statements, opening, closing, function, function_count, functions, printed, main_opening, main_text, array, program_text}
