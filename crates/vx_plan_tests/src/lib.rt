@@ -13,6 +13,8 @@ mod delays;
 #[cfg(test)]
 mod forms;
 #[cfg(test)]
+mod generated;
+#[cfg(test)]
 mod graphs;
 #[cfg(test)]
 mod liveness;

@@ -15,7 +15,7 @@ use vx_types::check;
 /// The most bytes of a source.
 const MOST_BYTES: usize = 1048576;
 
-fn read(alloc: Global, source: &[u8]) -> Result<Typed, SourceFault>
+pub(crate) fn read(alloc: Global, source: &[u8]) -> Result<Typed, SourceFault>
     requires { length source.now ≤ 1048576 }
 {
     let all = tokens(alloc, source)?;
