@@ -1,13 +1,12 @@
 -- The answers of a command from those of its steps.
-use Rattle.std.proofs.Common.{◌≡◌, ◌≢◌, ◌⊎◌, inl, inr, ℕ, List, Option, Some, None, is_some, true, option_map, IfSome, MatchOption, refl, sym, subst, ap, ◌∙◌, arith}
-use Rattle.std.specs.Prelude.{IsSomeAnd, ◌≤◌, ◌<◌, ◌^◌, ◌-◌}
+use Rattle.std.proofs.Common.{◌≡◌, ◌≢◌, ◌⊎◌, inl, inr, ℕ, List, Option, Some, None, is_some, option_map, IfSome, MatchOption, refl, sym, subst, ap, ◌∙◌, arith}
+use Rattle.std.specs.Prelude.{IsSomeAnd, ◌≤◌}
 use Rattle.vx_base.specs.Outside.{Files, Rose, held_with, with_file, ReplacesPartly}
 use Rattle.vx_isa.specs.Numbers.{Numbers}
 use Rattle.vx_machine.specs.declared.description.MachineFault.TheVariants.{Bad}
 use Rattle.vx_ast.specs.Tree.{Program}
-use Rattle.vx_base.specs.declared.role.Role.{Role}
 use Rattle.vx_base.specs.declared.role.Role.TheVariants.{Source as TheSource, Words as TheWords, Profile as TheProfile, Machine as TheMachine, Input as TheInput}
-use Rattle.vx_ast.specs.Reads.{most_bytes, Reads, Refusal, too_long}
+use Rattle.vx_ast.specs.Reads.{most_bytes, Reads, too_long}
 use Rattle.vx_base.specs.Reading.{ReadsFile}
 use Rattle.vx_base.specs.declared.reading.FileRead.TheVariants.{TooLong as FileTooLong}
 use Rattle.vx_driver.specs.declared.status.Status.{Status}
@@ -17,7 +16,7 @@ use Rattle.vx_report.specs.Report.{names_of, report_text}
 use Rattle.vx_driver.specs.Command.{Compilation}
 use Rattle.vx_driver.specs.Stages.{MakesTexts}
 use Rattle.vx_driver.proofs.ProfileFile.{stands}
-use Rattle.vx_driver.specs.Answers.{HoldsSource, HoldsProgram, Accepts, RefusesSource, Refuses, MachineFound, Is, Refused, TooLong, Missing, machine_found, TextsOf, Compiles, Writes, WritesWords, with_report, ReportsPartly, WritesPartly, AreCounts, Effect, ReadsRose, ReplacesRose, SameFiles, SourceAnswers, ProfileStands, RefusesProfile, ProfileAnswers, StopsAtProfile, MachineAnswers, StopsAtMachine, CompileAnswers, WriteAnswers, once_written, ReportAnswers, PutsTexts, NoMachine, ForMachine, MachineOrTexts, NoProfile, ByProfile, ProgramAnswers}
+use Rattle.vx_driver.specs.Answers.{HoldsSource, HoldsProgram, Accepts, RefusesSource, Refuses, Is, Refused, TooLong, Missing, machine_found, TextsOf, Compiles, Writes, WritesWords, with_report, ReportsPartly, WritesPartly, AreCounts, Effect, ReadsRose, ReplacesRose, SameFiles, SourceAnswers, RefusesProfile, ProfileAnswers, StopsAtProfile, MachineAnswers, StopsAtMachine, CompileAnswers, WriteAnswers, once_written, ReportAnswers, PutsTexts, MachineOrTexts, ProgramAnswers}
 
 pub rose_since : (before mid after : ℕ) → before ≤ mid → Rose mid after → Rose before after
 rose_since before mid after le (inl more) = inl (omega arith)

@@ -1,5 +1,5 @@
 -- Bytes put in several pieces.
-use Rattle.std.proofs.Common.{◌≡◌, ℕ, List, ◌++◌, Option, Some, None, Result, Ok, Err, OnOk, refl, sym, ap, ◌∙◌, append_assoc, arith}
+use Rattle.std.proofs.Common.{◌≡◌, ℕ, List, ◌++◌, Option, Some, None, Result, Ok, Err, OnOk, refl, ap, ◌∙◌, append_assoc, arith}
 use Rattle.vx_base.specs.Outside.{with_bytes}
 use Rattle.vx_driver.specs.Status.{Adds}
 

@@ -13,7 +13,7 @@ use Rattle.vx_ast.specs.Reads.{Reads, Refusal}
 use Rattle.vx_driver.proofs.SourceLaws.{never_both, one_refusal}
 use Rattle.vx_driver.proofs.ProfileFile.{not_both_profiles, one_profile_status}
 use Rattle.vx_driver.specs.Command.{Compilation}
-use Rattle.vx_driver.specs.Answers.{HoldsProgram, Accepts, status_of, RefusesSource, Refuses, MachineFound, Is, Refused, TooLong, Missing, machine_found, ProfileStands, RefusesProfile, Writes, Effect, ReadsRose, ReplacesRose, StopsAtMachine, CompileAnswers, CompileEnds}
+use Rattle.vx_driver.specs.Answers.{Accepts, status_of, RefusesSource, Refuses, MachineFound, Is, Refused, TooLong, Missing, machine_found, ProfileStands, RefusesProfile, Writes, Effect, ReadsRose, ReplacesRose, CompileAnswers, CompileEnds}
 
 -- a source's file is one of accepted, refused and missing
 

@@ -19,7 +19,7 @@ use Rattle.vx_driver.specs.declared.status.Status.TheVariants.{Done, Trapped, Us
 use Rattle.vx_driver.specs.Command.{Execution}
 use Rattle.vx_driver.specs.Boxes.{Chosen}
 use Rattle.vx_driver.specs.Faithful.{Faithful}
-use Rattle.vx_driver.specs.Answers.{AreCounts, HoldsProgram, ProfileStands, Is, machine_found, Effect, ReadsRose, SourceAnswers, ProfileAnswers, StopsAtProfile, MachineAnswers, StopsAtMachine}
+use Rattle.vx_driver.specs.Answers.{AreCounts, HoldsProgram, ProfileStands, Is, machine_found, Effect, ReadsRose, SourceAnswers, StopsAtProfile, MachineAnswers, StopsAtMachine}
 use Rattle.vx_driver.specs.Simulated.{Loaded, begun, outcome_within, events_within, reports_of, input_found, Streams, OutputCut, IsStatusOf}
 use Rattle.vx_driver.specs.Executed.{CompiledBy, Issues, SourceHas, SourceBegins, InSource, AllHeld, Prepared, issued_line, ShowsRun, Runs, RunsCut, InputAnswers, StopsAtInput, ExecutionAnswers}
 use Rattle.vx_driver.specs.Ending.{ShowsOf, IsRunOf, UnputLines, LoadedAnswers, LaterStops, AfterSource, StopsBefore}

@@ -1,9 +1,9 @@
 -- A derivation that goes as far as some token is a front of each other one that goes further, and is no deeper.
-use Rattle.std.proofs.Common.{◌≡◌, ◌≤◌, ◌+◌, ℕ, zero, suc, max, Bool, true, false, if◌then◌else◌, List, [], ◌∷◌, Option, Some, None, refl, sym, ◌∙◌, ap, subst, arith}
+use Rattle.std.proofs.Common.{◌≡◌, ◌≤◌, ◌+◌, ℕ, zero, suc, max, Bool, true, false, if◌then◌else◌, List, refl, sym, ◌∙◌, ap, subst, arith}
 use Rattle.vx_ast.specs.declared.token.Token.{Token}
 use Rattle.vx_ast.specs.Tree.{Shape, One, Row}
-use Rattle.vx_ast.specs.Phrases.{Phrase, Block, Statement, ChoiceRest, Level, LevelRest, Primary, NameRest, Part, A, Fits, parts_of, Derivation, Leaf, Node, NoMore, Then, Is, nothing, token, phrase, Stuck, unfit, behind, no_phrase, inside, after, Begins, reached, reached_behind, reached_inside, reached_after}
-use Rattle.vx_ast.specs.Derivations.{is_begun, are_begun, opens, itself, depth_behind, row_depth, operator_depth, choice_depth}
+use Rattle.vx_ast.specs.Phrases.{Phrase, Block, Statement, ChoiceRest, Level, LevelRest, Primary, NameRest, Part, Derivation, Leaf, Node, NoMore, Then, Is, token, phrase, Stuck, unfit, behind, no_phrase, inside, after, Begins, reached, reached_behind, reached_inside, reached_after}
+use Rattle.vx_ast.specs.Derivations.{is_begun, are_begun, itself, depth_behind, row_depth, operator_depth, choice_depth}
 use Rattle.vx_parse.proofs.Ways.{same_parts, exchanged, one, never}
 
 pub data Within : (k : Shape) → Derivation k → Derivation k → Type 0 where

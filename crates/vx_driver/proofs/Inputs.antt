@@ -1,7 +1,7 @@
 -- The pieces of an input's text, one after the other.
-use Rattle.std.proofs.Common.{◌≡◌, ℕ, zero, suc, ◌+◌, ◌-◌, ◌<◌, ◌≤◌, Bool, true, false, ℤ, List, [], ◌∷◌, ◌++◌, length, take, drop, Option, Some, None, Result, Ok, Err, refl, ap, ◌∙◌, sym, subst, arith, append_assoc}
+use Rattle.std.proofs.Common.{◌≡◌, ℕ, suc, ◌+◌, ◌<◌, Bool, true, false, ℤ, List, [], ◌∷◌, ◌++◌, length, take, drop, Some, None, Result, Ok, Err, refl, ap, ◌∙◌, sym, arith, append_assoc}
 use Rattle.std.specs.List.{prefix_len}
-use Rattle.vx_driver.specs.InputText.{is_blank, is_no_blank, pieces, cons_first, number_of, number_then, numbers_from, input_reading}
+use Rattle.vx_driver.specs.InputText.{is_blank, is_no_blank, pieces, cons_first, number_of, number_then, numbers_from}
 
 abbrev before_blank : List ℕ → ℕ
 before_blank text = prefix_len is_no_blank text

@@ -1,5 +1,5 @@
 -- One more function that is laid out, with the plans of its traces.
-use Rattle.std.proofs.Common.{◌≡◌, ℕ, ◌<◌, List, [], ◌∷◌, ◌++◌, length, map, refl, sym, ap, ◌∙◌, subst, arith, ◌+◌, get_or, take}
+use Rattle.std.proofs.Common.{◌≡◌, ℕ, ◌<◌, List, [], ◌∷◌, ◌++◌, length, refl, sym, ap, ◌∙◌, subst, arith, ◌+◌, get_or, take}
 use Rattle.std.proofs.lemmas.List.{append-nil, length-map, map-append, take_more}
 use Rattle.std.proofs.lemmas.List.Concat.{flat_map-append}
 use Rattle.std.specs.List.{flat_map}
@@ -9,7 +9,7 @@ use Rattle.vx_mixed.specs.declared.layout.VWords.{VWords}
 use Rattle.vx_mixed.specs.Layout.{layout_of}
 use Rattle.vx_profile.specs.declared.counts.Counts.{Counts}
 use Rattle.vx_region.specs.declared.trace_plan.TracePlan.{TracePlan}
-use Rattle.vx_driver.specs.Compiled.{FunctionPlan, Planned, PlansFrom, PlansFunction, layouts_of}
+use Rattle.vx_driver.specs.Compiled.{FunctionPlan, PlansFrom, PlansFunction, layouts_of}
 use Rattle.vx_driver.specs.Stages.{AreLaidOut, IsLaidOut}
 use Rattle.vx_driver.proofs.Chain.{layouts_step}
 

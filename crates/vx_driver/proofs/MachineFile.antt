@@ -1,5 +1,5 @@
 -- What the reading of a description's file says of the machine that it describes.
-use Rattle.std.proofs.Common.{◌≡◌, ◌∙◌, ℕ, Bool, true, false, nat_le, List, length, Option, Some, None, Result, Ok, Err, IfSome, MatchOption, refl, sym, ap, arith}
+use Rattle.std.proofs.Common.{◌≡◌, ◌∙◌, ℕ, Bool, true, false, nat_le, List, length, Option, Some, None, Ok, IfSome, MatchOption, refl, sym, ap, arith}
 use Rattle.std.specs.Prelude.{Vec, ◌≤◌, ◌<◌}
 use Rattle.std.specs.declared.alloc.Global.{Global}
 use Rattle.std.proofs.lemmas.Bool.{leb-true, le-leb}

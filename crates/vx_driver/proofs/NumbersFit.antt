@@ -1,7 +1,6 @@
 -- Numbers of a width fit it.
-use Rattle.std.proofs.Common.{◌≡◌, ◌≤◌, ◌<◌, ◌^◌, ℕ, ℤ, pos, negsuc, Bool, true, ◌&&◌, nat_lt, nat_le, refl, arith, w32, FitsSigned}
-use Rattle.std.proofs.lemmas.Bool.{le-leb, lt-ltb, and_parts}
-use Rattle.std.specs.Cmp.Derive.{both_true}
+use Rattle.std.proofs.Common.{◌≡◌, ◌<◌, ◌^◌, ℕ, ℤ, pos, negsuc, true, arith, w32, FitsSigned}
+use Rattle.std.proofs.lemmas.Bool.{le-leb}
 use Rattle.vx_isa.specs.Range.{fits_signed, fits_unsigned}
 
 pub signed_in_range : (z : ℤ) → FitsSigned w32 z → fits_signed z ≡ true

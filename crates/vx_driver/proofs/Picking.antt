@@ -1,5 +1,5 @@
 -- The first box of a name in a list that is taken apart from its end, and every box of a list.
-use Rattle.std.proofs.Common.{◌≡◌, ℕ, Bool, true, false, List, [], ◌∷◌, ◌++◌, map, Option, Some, None, refl, ap, ◌∙◌, sym, subst}
+use Rattle.std.proofs.Common.{◌≡◌, ℕ, Bool, true, false, List, [], ◌∷◌, ◌++◌, map, Option, Some, None, refl, ap, ◌∙◌, sym}
 use Rattle.std.specs.Prelude.{find, option_map, codes}
 use Rattle.std.specs.Str.{bytes_eq}
 use Rattle.vx_probe.specs.Watch.{Watch}

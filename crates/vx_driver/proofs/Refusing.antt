@@ -2,7 +2,6 @@
 use Rattle.std.proofs.Common.{◌≡◌, ◌≤◌, ◌⊎◌, inl, inr, ℕ, List, [], ◌∷◌, length, refl, ap}
 use Rattle.vx_ast.specs.declared.fault.SourceFault.{SourceFault}
 use Rattle.vx_ast.specs.declared.fault.SourceFault.TheVariants.{Bad, Limit, NoMemory}
-use Rattle.vx_ast.specs.declared.token.TokenKind.{TokenKind}
 use Rattle.vx_ast.specs.declared.token.Token.{Token}
 use Rattle.vx_ast.specs.Syntax as syntax
 use Rattle.vx_ast.specs.Tokens.{Lexes, InOrder}

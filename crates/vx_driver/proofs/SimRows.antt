@@ -1,5 +1,5 @@
 -- What words ask for, and what an input's text reads as, worked out by hand.
-use Rattle.std.proofs.Common.{◌≡◌, refl, ℤ, pos, negsuc, List, [], ◌∷◌, Some, None, Ok, Err, codes}
+use Rattle.std.proofs.Common.{◌≡◌, refl, pos, negsuc, [], ◌∷◌, Some, None, Ok, Err, codes}
 use Rattle.clap.proofs.OnLiterals.{clap_on_literals}
 use Rattle.vx_driver.specs.Command.{Simulate, sim_app, sim_of, command_of}
 use Rattle.vx_driver.specs.InputText.{number_of, input_reading}

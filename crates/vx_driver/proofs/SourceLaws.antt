@@ -1,18 +1,17 @@
 -- No source is both read and refused, none is refused in two ways, and none is read in two ways.
-use Rattle.std.proofs.Common.{◌≡◌, ◌≤◌, ◌<◌, ℕ, List, [], ◌∷◌, length, Option, Some, None, refl, sym, ◌∙◌, ap, subst, arith}
+use Rattle.std.proofs.Common.{◌≡◌, ◌≤◌, List, ◌∷◌, Option, Some, None, refl, sym, ◌∙◌, ap, subst, arith}
 use Rattle.vx_ast.specs.declared.fault.SourceFault.{SourceFault}
 use Rattle.vx_ast.specs.declared.fault.SourceFault.TheVariants.{Bad, Limit}
 use Rattle.vx_ast.specs.declared.names.Fault.{Fault}
 use Rattle.vx_ast.specs.declared.token.Token.{Token}
-use Rattle.vx_ast.specs.Tree.{Row, Program}
+use Rattle.vx_ast.specs.Tree.{Row}
 use Rattle.vx_ast.specs.Syntax as syntax
-use Rattle.vx_ast.specs.Tokens.{Lexes, Refuses}
-use Rattle.vx_ast.specs.Phrases.{A, Derivation}
+use Rattle.vx_ast.specs.Phrases.{Derivation}
 use Rattle.vx_ast.specs.Derivations.{program_of, depth_of, TooDeep}
 use Rattle.vx_ast.specs.Faults.{first_fault}
 use Rattle.vx_ast.specs.Resolved.{resolved}
 use Rattle.vx_ast.specs.Accepted.{Over, limit_of}
-use Rattle.vx_ast.specs.Reads.{Parses, Leaves, Misparses, unexpected, too_deep, Missuits, faulty, over, Reads, Refusal, too_long, in_tokens, in_grammar, in_names}
+use Rattle.vx_ast.specs.Reads.{Parses, Leaves, Misparses, unexpected, too_deep, Missuits, faulty, over, too_long, in_tokens, in_grammar, in_names}
 use Rattle.vx_ast.proofs.TokenLaws as tokens
 use Rattle.vx_parse.proofs.Ways.{one, never}
 use Rattle.vx_driver.specs.Laws.{OneProgram, ReadOrNot, OneRefusal}

@@ -13,7 +13,7 @@ use Rattle.vx_profile.specs.Counts.{CountsOf}
 use Rattle.vx_profile.specs.Text.{FaultAt, Spells as SpellsCounts}
 use Rattle.vx_ast.specs.Tree.{Program}
 use Rattle.vx_base.specs.declared.role.Role.{Role}
-use Rattle.vx_base.specs.declared.role.Role.TheVariants.{Source as TheSource, Words as TheWords, Profile as TheProfile, Machine as TheMachine, Input as TheInput}
+use Rattle.vx_base.specs.declared.role.Role.TheVariants.{Source as TheSource, Profile as TheProfile, Machine as TheMachine}
 use Rattle.vx_ast.specs.Reads.{most_bytes, Reads, Refusal}
 use Rattle.vx_ast.specs.declared.fault.SourceFault.{SourceFault}
 use Rattle.vx_ast.specs.declared.fault.SourceFault.TheVariants.{Bad as BadSource, Limit as OverLimit, NoMemory as NoRoom}

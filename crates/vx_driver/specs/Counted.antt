@@ -1,6 +1,6 @@
 -- What `profile` does: it runs graphs of the source on the input of the command, for at most so many blocks, and puts how
 -- often each block and each edge was passed.
-use Rattle.std.specs.Prelude.{◌≡◌, ◌⊎◌, true, ℕ, ℤ, List, is_some, Option, Some, None, IfSome, Ok, Err}
+use Rattle.std.specs.Prelude.{◌≡◌, ◌⊎◌, true, ℕ, ℤ, List, is_some, Some, None, IfSome, Ok, Err}
 use Rattle.vx_base.specs.Outcome.{IsOver}
 use Rattle.vx_base.specs.Outside.{Files, PutsFront, with_bytes}
 use Rattle.vx_base.specs.declared.role.Role.{Role}

@@ -2,8 +2,9 @@
 // words over values, the values kept in registers and slots, and all finished as one program. The clause of `compile` is the
 // promise of the compiler (specs/Compiled.antt); what holds between its steps stands in specs/Stages.antt.
 
-ghost use Rattle.std.specs.Prelude.{◌≡◌, ◌+◌, IfOk};
+ghost use Rattle.std.specs.Prelude.{◌≡◌, ◌+◌, true, IfOk};
 ghost use Rattle.vx_ast.specs.View as view;
+ghost use Rattle.vx_flow.specs.Sound.{is_sound_flow};
 ghost use Rattle.vx_lower.specs.FlowOf.{FlowOf};
 ghost use Rattle.vx_driver.specs.Compiled.{AreMapsOf, Compiled, all_in_slots, in_slots, slot_of};
 ghost use Rattle.vx_driver.specs.Stages.{AreFinished, AreInside, AreLayoutsOf, StageLaws};
@@ -142,7 +143,8 @@ fn finished_of(
     layouts: &[VWords],
     machine: &Machine,
 ) -> Result<FinishedProgram, NoMemory>
-    requires { AreLayoutsOf machine.now flow.now.functions layouts.now }
+    requires sound { is_sound_flow flow.now ≡ true }
+    requires layouts { AreLayoutsOf machine.now flow.now.functions layouts.now }
     ensures { IfOk result (λ x. AreFinished machine.now flow.now layouts.now x.finished x.spilled) }
 {
     stages_do_the_same();

@@ -1,5 +1,5 @@
 -- The report and the line feed, one behind the other.
-use Rattle.std.proofs.Common.{◌≡◌, ap, ◌++◌, ◌∷◌, []}
+use Rattle.std.proofs.Common.{ap, ◌++◌, ◌∷◌, []}
 use Rattle.vx_driver.proofs.Appending.{appends_on, puts_on}
 use Rattle.vx_driver.proofs.boxes.put_report.Goals as goal
 

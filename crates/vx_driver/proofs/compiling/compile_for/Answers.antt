@@ -17,4 +17,4 @@ returns-in-Ok-clause-answers g c =
     (effect_of depot.files depot.failed_reads depot.failed_replaces c.args.depot.now c.write_texts.new.depot)
     c.write_texts.result
     (subst (λ b. MakesTexts program c.args.counts.now c.args.machine.now asked.growth b text report) (c.is_some.ensures ∙ some_named (λ s. s.now) asked.report) c.in-Ok.ensures)
-    (rw (c.as_slice.ensures.value, c.as_slice-2.ensures.value) at c.write_texts.ensures.answers))
+    (rw (c.as_slice-in-Ok.ensures.value, c.as_slice.ensures.value) at c.write_texts.ensures.answers))

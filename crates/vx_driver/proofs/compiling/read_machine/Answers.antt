@@ -1,9 +1,9 @@
 -- A description that was read whole, one that is too long, and one that is not there.
-use Rattle.std.proofs.Common.{◌≡◌, Ok, refl}
+use Rattle.std.proofs.Common.{◌≡◌, Ok}
 use Rattle.std.proofs.lemmas.Result.{IfErr-weaker, IfOk-weaker}
 use Rattle.vx_machine.specs.Descriptions.{reading}
 use Rattle.vx_driver.specs.Answers.{effect_of, RefusesDescription}
-use Rattle.vx_driver.proofs.MachineFile.{described, undescribed, too_long, no_description}
+use Rattle.vx_driver.proofs.MachineFile.{described, undescribed}
 use Rattle.vx_driver.proofs.compiling.read_machine.Goals as goal
 
 pub returns-in-Ok-Whole-clause-machine : goal.returns-in-Ok-Whole-clause-machine

@@ -1,6 +1,4 @@
 -- The first piece and what stands behind it are shorter than the text by a blank, where it has one.
-use Rattle.std.proofs.Common.{◌≡◌, ◌<◌, ◌≤◌, ◌+◌, ◌∷◌, arith, length, take, drop, sym, ap, ◌∙◌}
-use Rattle.vx_driver.specs.InputText.{pieces}
 use Rattle.vx_driver.proofs.Inputs.{pieces_first}
 use Rattle.vx_driver.proofs.input.next_piece.Goals as goal
 

@@ -1,7 +1,7 @@
 -- Graph by graph.
 use Rattle.std.proofs.Common.{◌∙◌, subst}
-use Rattle.vx_driver.specs.Stages.{IsLaidOut}
-use Rattle.vx_driver.proofs.Chain.{item_at}
+use Rattle.vx_driver.specs.Stages.{AreLaidOut, IsLaidOut}
+use Rattle.vx_driver.proofs.Chain.{item_at, take_whole}
 use Rattle.vx_driver.proofs.LaidOut.{begun_laid, laid_step}
 use Rattle.vx_driver.proofs.layouts.layouts_of.Goals as goal
 
@@ -27,3 +27,8 @@ loop-graph-preserved c =
           laid.traces laid.layout used used' c.loop-graph-test.true c.graph-item.is c.number_of-function.ensures c.loop-graph.invariant.0 is c.in_ok-put_function.ensures.layouts c.in_ok-put_function.ensures.traces,
       c.layout_of.ensures.same_cap ∙ c.loop-graph.invariant.1,
     )
+
+pub returns : goal.returns
+returns c =
+    subst (λ gs. AreLaidOut c.args.machine.now c.args.counts.now c.args.growth gs c.loop-graph.traces c.loop-graph.layouts c.loop-graph.budget.used) (take_whole c.args.graphs.now c.loop-graph.graph-index c.loop-graph-test.false)
+    c.loop-graph.invariant.0

@@ -1,8 +1,7 @@
 -- The refusal of each pass is that of the source.
-use Rattle.std.proofs.Common.{◌≡◌, ◌⊎◌, rules, sym, subst, List, IfErr}
+use Rattle.std.proofs.Common.{◌≡◌, ◌⊎◌, rules, sym, subst}
 use Rattle.std.proofs.lemmas.Result.{IfErr-weaker}
 use Rattle.vx_ast.specs.declared.fault.SourceFault.TheVariants.{NoMemory}
-use Rattle.vx_ast.specs.declared.token.Token.{Token}
 use Rattle.vx_ast.specs.SyntaxView.{program_of}
 use Rattle.vx_ast.specs.Reads.{Refusal, Missuits}
 use Rattle.vx_parse.specs.Reading.{Ended}

@@ -1,5 +1,5 @@
 -- What was found in the words of `sim`, and that they are refused.
-use Rattle.std.proofs.Common.{◌∙◌, inl, inr, ℕ, List, ap, map, sym}
+use Rattle.std.proofs.Common.{◌∙◌, inl, inr, ap, map, sym}
 use Rattle.std.proofs.lemmas.Result.{IfOk-weaker, IfErr-weaker}
 use Rattle.clap.specs.Words.{app_of, found_of, is_simple, is_simple_and_free, rows_of}
 use Rattle.vx_driver.specs.Command.{simulates}

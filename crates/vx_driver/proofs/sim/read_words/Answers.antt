@@ -1,12 +1,12 @@
 -- A text of words that was read whole, one that is too long, and one that is not there.
-use Rattle.std.proofs.Common.{◌≡◌, ◌⊎◌, Ok, Err, refl, None, ap}
+use Rattle.std.proofs.Common.{◌≡◌, ◌⊎◌, Ok, Err, None, ap}
 use Rattle.std.proofs.lemmas.Result.{IfErr-weaker, IfOk-weaker}
 use Rattle.vx_base.specs.declared.role.Role.TheVariants.{Words as TheWords}
 use Rattle.vx_words.specs.Text.{Spells, reading}
 use Rattle.vx_driver.specs.declared.status.Status.TheVariants.{Limit, NoMemory}
 use Rattle.vx_driver.specs.Answers.{effect_of}
 use Rattle.vx_driver.specs.Simulated.{words_as, is_named}
-use Rattle.vx_driver.proofs.FileSteps.{whole, too_long, missing, spells_in, words_refused}
+use Rattle.vx_driver.proofs.FileSteps.{whole, spells_in, words_refused}
 use Rattle.vx_driver.proofs.sim.read_words.Goals as goal
 
 pub returns-in-Ok-Whole-clause-program : goal.returns-in-Ok-Whole-clause-program

@@ -1,7 +1,5 @@
 -- What the words ask for is done, or they are refused.
-use Rattle.std.proofs.Common.{refl, sym, subst, map}
-use Rattle.vx_driver.specs.Answers.{effect_of}
-use Rattle.vx_driver.specs.Commands.{Answers}
+use Rattle.std.proofs.Common.{refl}
 use Rattle.vx_driver.proofs.Runs.{refused_answers}
 use Rattle.vx_driver.proofs.top.perform_compile.Goals as goal
 
