@@ -97,6 +97,7 @@ fn begun_for(alloc: Global, graph: &Graph, machine: &Machine) -> Result<Mixed, N
     requires begins { can_begin graph.now ≡ true }
     ensures { IfOk result (λ mixed. IsGraphOf machine.now graph.now mixed) }
 {
+    machine.keeps_ranges();
     graphs_begin_so();
     let mixed = begun(alloc, graph)?;
     Ok(mixed)
