@@ -15,7 +15,7 @@ use Rattle.vx_machine.specs.Items.{latency_of_op}
 use Rattle.vx_mixed.specs.LaidSettled.{bank_in}
 use Rattle.vx_mixed.specs.Settled.{NoTwice}
 use Rattle.vx_regs.specs.Intervals.{IsBusy, is_live}
-use Rattle.vx_frame.specs.Target.{Target, general, kept, is_slotted, stack_on, one, pause, in_flight, load_slots, reload_words, result_words, settled, is_caller, way, link_words, entry_words, call_words, back_words, bytes}
+use Rattle.vx_frame.specs.Target.{Target, general, kept, is_slotted, stack_on, one, pause, in_flight, load_slots, reload_words, result_words, settled, is_caller, follows, way, link_words, entry_words, call_words, back_words, bytes}
 use Rattle.vx_frame.specs.Carried.{IsMapped, IsSaved, CallsAt}
 use Rattle.vx_frame.proofs.Names.{not_general, apart_registers}
 use Rattle.vx_frame.proofs.Live.{live_bank}
@@ -50,7 +50,7 @@ module _ (T : Target) (heat : ℕ → Register → ℕ) (f : ℕ) (mapped : IsMa
   brought v i = let a = saved.brought v i in (is_live a.live, live_bank T f mapped sound (T.layout f).entry v a.live, ap is_slotted a.register)
 
   way_fine : (next q : ℕ) (e : Register → ℕ) → F cold (way T f next q) e
-  way_fine next q e = by (next == q)
+  way_fine next q e = by (follows T f next q)
     where
       by : (b : Bool) → F cold (if b then [] else one (Goto (T.starts f q)) ∷ []) e
       by true = nothing_fine T heat e

@@ -43,7 +43,7 @@ use Rattle.vx_mixed.specs.declared.layout.VirtualWord.TheVariants.{Planned, Drai
 use Rattle.vx_mixed.specs.declared.layout.VWords.{VWords}
 use Rattle.vx_mixed.specs.LaidSettled.{bank_in, laid_reads, laid_writes, Plans}
 use Rattle.vx_regs.specs.Intervals.{IsBusy, is_live, is_named, word_reads, word_writes}
-use Rattle.vx_frame.specs.Target.{Target, answer, general, general_of, branch_of, stack_on, home, holds_branch, is_branch, is_slotted, kept, slotted, parameters_of, one, together, waits, pause, in_flight, settled, on_clusters, set_stack, slots_in_flight, load_slot, store_slot, load_slots, store_slots, if_some, once, before, behind, plan_word, plan_words, landing_words, move_stack, save_words, reload_words, fetch_words, fetched, cluster_of_operand, argument_words, result_words, call_words, back_words, is_caller, answer_words, return_words, way, link_words, entry_words, word_words, start_words, bytes, first_frame}
+use Rattle.vx_frame.specs.Target.{Target, answer, general, general_of, branch_of, stack_on, home, holds_branch, is_branch, is_slotted, kept, slotted, parameters_of, one, together, waits, pause, in_flight, settled, on_clusters, set_stack, slots_in_flight, load_slot, store_slot, load_slots, store_slots, if_some, once, before, behind, plan_word, plan_words, landing_words, move_stack, save_words, reload_words, fetch_words, fetched, cluster_of_operand, argument_words, result_words, call_words, back_words, is_caller, answer_words, return_words, follows, way, link_words, entry_words, word_words, start_words, bytes, first_frame}
 use Rattle.vx_frame.specs.Placed.{Depth, Labelled, laid_pieces, landing_of, item_landings, word_landings, landing_pieces, function_pieces, functions_pieces, all_pieces, words_of}
 use Rattle.vx_frame.specs.Carried.{Carries, IsFunctionOf, IsMapped, item_of_laid}
 use Rattle.vx_frame.specs.Fitted.{FitLaw}
@@ -334,7 +334,7 @@ module _ (T : Target) (flow : Flow) (ls : List VWords) (w : WordProgram) (sound 
         (good_append M (answer_words T f x) (one Return ∷ []) (answer_good x h) (one_good M carries.machine l Return first refl refl refl, tt))
 
     way_good : (next q : ℕ) → Words (way T f next q)
-    way_good next q = by (next == q)
+    way_good next q = by (follows T f next q)
       where
         by : (b : Bool) → Words (if b then [] else one (Goto (T.starts f q)) ∷ [])
         by true = tt

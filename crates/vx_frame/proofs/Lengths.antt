@@ -16,7 +16,7 @@ use Rattle.vx_mixed.specs.declared.layout.Laid.TheVariants.{Plain, Split}
 use Rattle.vx_mixed.specs.declared.layout.VirtualWord.{VirtualWord}
 use Rattle.vx_mixed.specs.declared.layout.VirtualWord.TheVariants.{Planned, Drain, Transfer, Choice, Call as Calls, Return as Returns, Ends}
 use Rattle.vx_mixed.specs.LaidSettled.{laid_reads, laid_writes}
-use Rattle.vx_frame.specs.Target.{Target, answer, bytes, one, set_stack, start_words, stack_on, move_stack, parameters_of, slotted, general_of, branch_of, load_slot, store_slot, load_slots, store_slots, if_some, once, pause, settled, if_any, slots_in_flight, before, behind, plan_word, plan_words, landing_words, fetch_words, fetched, cluster_of_operand, argument_words, result_words, save_words, reload_words, call_words, back_words, return_words, way, link_words, entry_words, word_words}
+use Rattle.vx_frame.specs.Target.{Target, answer, bytes, one, set_stack, start_words, stack_on, move_stack, parameters_of, slotted, general_of, branch_of, load_slot, store_slot, load_slots, store_slots, if_some, once, pause, settled, if_any, slots_in_flight, before, behind, plan_word, plan_words, landing_words, fetch_words, fetched, cluster_of_operand, argument_words, result_words, save_words, reload_words, call_words, back_words, return_words, follows, way, link_words, entry_words, word_words}
 use Rattle.vx_frame.specs.Placed.{landing_of, item_landings, word_landings, words_of}
 use Rattle.vx_frame.specs.Placing.{Spots, at_spots}
 use Rattle.vx_frame.proofs.Emitting.{words_of_append}
@@ -106,7 +106,7 @@ call_length T s f p g arguments =
     depth_word V = one (Compute 0 (ToBranch Ltu) (InBranch (record { cluster = 0; number = 0 })) (Held (stack_on 0)) (Number (bytes (V.globals + V.frame))))
 
 way_length : (T : Target) (s : Spots) (f next q : ℕ) → length (way (at_spots T s) f next q) ≡ length (way T f next q)
-way_length T s f next q = by (next == q)
+way_length T s f next q = by (follows T f next q)
   where
     by : (b : Bool) → length (if b then [] else one (Goto (s.starts f q)) ∷ []) ≡ length (if b then [] else one (Goto (T.starts f q)) ∷ [])
     by true = refl

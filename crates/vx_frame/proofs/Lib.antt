@@ -57,6 +57,9 @@ pub mod Globals
 pub mod Offsets
 pub mod Assembled
 pub mod EachWord
+pub mod Spaced
+pub mod IdleWords
+pub mod WholePlan
 pub mod FrameLists
 pub mod SavedLists
 pub mod SeenSaves

@@ -1,7 +1,7 @@
 -- Single words of which all but plan words are made, where every write lands at the next word.
 use Rattle.std.proofs.Common.{◌≡◌, ◌≢◌, ◌<◌, ◌+◌, ◌*◌, ◌^◌, ℕ, zero, suc, ℤ, pos, Bool, true, false, ◌&&◌, ◌||◌, not, cond, Some, List, [], ◌∷◌, ◌++◌, length, refl, sym, ap, ◌∙◌, subst, arith}
 use Rattle.std.specs.Prelude.{◌==◌, if◌then◌else◌, slice_get, drop, count_by}
-use Rattle.std.proofs.lemmas.Bool.{eqb-true}
+use Rattle.std.proofs.lemmas.Bool.{and_parts, eqb-true}
 use Rattle.std.proofs.lemmas.List.{append-nil}
 use Rattle.vx_base.specs.Arithmetic.{sum_of, unsigned}
 use Rattle.vx_base.proofs.Runs.{Reach, reach_on}
@@ -18,7 +18,7 @@ use Rattle.vx_isa.specs.Numbers.{Numbers}
 use Rattle.vx_isa.specs.Operations.{is_zero, destination_of}
 use Rattle.vx_isa.specs.Machine.{State, To, register, source, address, number_of, stored, memory_after, print_of, takes_input, has_bad_address, lead_of, is_left, is_word_of}
 use Rattle.vx_isa.proofs.Lists.{count_by-cons}
-use Rattle.vx_frame.specs.Target.{Target, one, together, waits, pause, way, bytes}
+use Rattle.vx_frame.specs.Target.{Target, one, together, waits, pause, follows, way, bytes}
 use Rattle.vx_frame.specs.Tied.{word_at}
 use Rattle.vx_frame.proofs.Bytes.{address_is, is_word}
 use Rattle.vx_frame.proofs.Calm.{seen, put_to, put_at, put_off, after, AllFit, Fine, Going, word_goes}
@@ -180,11 +180,11 @@ module _ (m : Numbers) (w : WordProgram) (fit : AllFit m w) where
 
   -- the way to a place of a layout, or none from the place before it
   pub way_step : (T : Target) (f next q : ℕ) (u : State) → u.flying ≡ [] → u.place + length (way T f next q) ≡ T.starts f next → Stands w.words u.place (way T f next q) → Paused u (T.starts f q)
-  way_step T f next q u calm there st = by (next == q) refl there st
+  way_step T f next q u calm there st = by (follows T f next q) refl there st
     where
-      by : (b : Bool) → (next == q) ≡ b → u.place + length (if b then [] else one (Goto (T.starts f q)) ∷ []) ≡ T.starts f next → Stands w.words u.place (if b then [] else one (Goto (T.starts f q)) ∷ []) → Paused u (T.starts f q)
+      by : (b : Bool) → follows T f next q ≡ b → u.place + length (if b then [] else one (Goto (T.starts f q)) ∷ []) ≡ T.starts f next → Stands w.words u.place (if b then [] else one (Goto (T.starts f q)) ∷ []) → Paused u (T.starts f q)
       by true e t s =
-          let same : next ≡ q = eqb-true next q e in
+          let same : next ≡ q = eqb-true next q (and_parts _ _ e).0 in
           let none : u.place ≡ u.place + 0 = omega arith in
           record { to = u; comes = stay u; place = none ∙ t ∙ ap (T.starts f) same; quiet = record { calm = calm; input = refl; out = refl }; memory = refl; registers = refl }
       by false e t s =

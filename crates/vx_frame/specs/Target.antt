@@ -1,5 +1,5 @@
 -- Where the values, frames and words of a program are, and the words that carry a laid-out word.
-use Rattle.std.specs.Prelude.{not, ℕ, zero, suc, ◌+◌, ◌-◌, ◌*◌, ◌==◌, ◌&&◌, max, ℤ, pos, neg_ℤ, Bool, true, false, if◌then◌else◌, Option, Some, None, List, [], ◌∷◌, ◌++◌, length, map}
+use Rattle.std.specs.Prelude.{not, ℕ, zero, suc, ◌+◌, ◌-◌, ◌*◌, ◌==◌, ◌&&◌, max, ℤ, pos, neg_ℤ, Bool, true, false, if◌then◌else◌, Option, Some, None, List, [], ◌∷◌, ◌++◌, length, map, slice_get}
 use Rattle.std.specs.List.{filter, list_any}
 use Rattle.vx_base.specs.Arithmetic.{sum_of}
 use Rattle.vx_base.specs.declared.arithmetic.Code.{Code}
@@ -373,9 +373,28 @@ answer_words T f x =
 abbrev pub return_words : Target → ℕ → Operand → List Word
 return_words T f x = fetch_words T f 0 x ++ (answer_words T f x ++ one Return ∷ [])
 
--- the way to a place of a layout, where another one follows: none where it is that one
+-- a word of empty cycles
+abbrev pub is_drain : VirtualWord → Bool
+is_drain (Planned r w items) = false
+is_drain (Drain n) = true
+is_drain (Transfer q) = false
+is_drain (Choice test q) = false
+is_drain (Calls g arguments result) = false
+is_drain (Returns x) = false
+is_drain (Ends k) = false
+
+abbrev pub is_drain_there : Option VirtualWord → Bool
+is_drain_there None = false
+is_drain_there (Some word) = is_drain word
+
+-- a place of a layout can follow at once: it is the next one, and no empty cycles stand there, so that they never stand behind a
+-- pause
+abbrev pub follows : Target → (function following to : ℕ) → Bool
+follows T f next q = (next == q) && not (is_drain_there (slice_get (T.layout f).words q))
+
+-- the way to a place of a layout, where another one is next: none where it can follow at once
 abbrev pub way : Target → (function following to : ℕ) → List Word
-way T f next q = if next == q then [] else one (Goto (T.starts f q)) ∷ []
+way T f next q = if follows T f next q then [] else one (Goto (T.starts f q)) ∷ []
 
 -- a function that calls stores its link at the begin of its frame
 abbrev pub link_words : Target → ℕ → List Word

@@ -11,7 +11,7 @@ ghost use Rattle.vx_frame.specs.Seen.{seen};
 
 use crate::carrying::{bytes, stack_on};
 use crate::gathering::{
-    Whole, brought, entered_at, entry, is_caller, parameters, saved, slot, start,
+    Whole, brought, entered_at, entry, is_caller, is_drain_at, parameters, saved, slot, start,
 };
 use crate::naming::{general, general_of, home, is_slotted};
 use crate::slotting::{
@@ -378,7 +378,8 @@ pub(crate) fn push_return(
     push_one(alloc, Operation::Return, words)
 }
 
-/// The way to a place of a layout, where another one follows: no word where it is that one.
+/// The way to a place of a layout, where another one is next: no word where it is that one, but for empty cycles, which are not to
+/// stand behind a pause.
 fn push_way(
     alloc: Global,
     whole: &Whole,
@@ -389,7 +390,7 @@ fn push_way(
 ) -> Result<(), NoMemory>
     ensures { IfOk result (λ _. words.new ≡ words.old ++ way (seen whole.now) function next to) }
 {
-    if next == to {
+    if next == to && !is_drain_at(whole, function, to) {
         return Ok(());
     }
     let target = start(whole, function, to);

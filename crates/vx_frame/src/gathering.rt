@@ -1,8 +1,8 @@
 // A whole program while it is finished: the functions with their layouts and maps, what stands in their frames, and the
 // places of their words. specs/Seen.antt has the target that it makes.
 
-ghost use Rattle.std.specs.Prelude.{◌≡◌, slice_index_or};
-ghost use Rattle.vx_frame.specs.Target.{parameters_of, is_call_word, is_caller, is_own};
+ghost use Rattle.std.specs.Prelude.{◌≡◌, slice_get, slice_index_or};
+ghost use Rattle.vx_frame.specs.Target.{parameters_of, is_call_word, is_caller, is_drain, is_drain_there, is_own};
 ghost use Rattle.vx_frame.specs.Seen.{places_of, seen};
 
 use vx_base::listed::Listed;
@@ -199,6 +199,31 @@ pub(crate) fn is_caller(whole: &Whole, function: u32) -> bool
 {
     let words = words_of(whole, function);
     words.iter().any(|word| is_call_word(word))
+}
+
+/// Whether a word of a layout is one of empty cycles.
+fn is_drain(word: &VirtualWord) -> bool
+    ensures { result ≡ is_drain word.now }
+{
+    match word {
+        VirtualWord::Drain(_) => true,
+        VirtualWord::Planned { .. } => false,
+        VirtualWord::Transfer(_) => false,
+        VirtualWord::Choice { .. } => false,
+        VirtualWord::Call { .. } => false,
+        VirtualWord::Return(_) => false,
+        VirtualWord::Ends(_) => false,
+    }
+}
+
+/// Whether empty cycles stand at a place of a function's layout.
+pub(crate) fn is_drain_at(whole: &Whole, function: u32, place: u32) -> bool
+    ensures { result ≡ is_drain_there (slice_get ((seen whole.now).layout function).words place) }
+{
+    match words_of(whole, function).get(place as usize) {
+        Some(word) => is_drain(word),
+        None => false,
+    }
 }
 
 /// The place at which a function's layout is entered.

@@ -4,7 +4,7 @@ ghost use Rattle.vx_frame.specs.Carried.{FrameLaw};
 ghost use Rattle.vx_frame.specs.Finish.{SoundLaw};
 ghost use Rattle.vx_frame.specs.Fitted.{FitLaw};
 ghost use Rattle.vx_frame.specs.Moved.{StackLaw};
-ghost use Rattle.vx_frame.specs.Plans.{PlanLaw};
+ghost use Rattle.vx_frame.specs.Plans.{PlanLaw, SpacedLaw};
 ghost use Rattle.vx_frame.specs.Planned.{CallLaw, EntryLaw, PlannedLaw, SimpleLaw, StartLaw};
 ghost use Rattle.vx_frame.specs.Returned.{ReturnLaw};
 ghost use Rattle.vx_frame.specs.Whole.{WholeLaw};
@@ -84,9 +84,17 @@ pub fn frames_keep_to_the_machine()
     programs_do_the_same();
 }
 
-/// A program that is finished carries its plan: at the place of each planned word stands a word with exactly its operations, in their
-/// order, each on its cluster, with its numbers and the registers of its values; and every other word is of one of some kinds: a load
-/// or store of a slot, a move, a step of a call, an entry, a return or an end, empty cycles, or a jump to a place of a layout.
+/// A program that is finished from spaced layouts carries its plan: at the place of each planned word stands a word with exactly its
+/// operations, in their order, each on its cluster, with its numbers and the registers of its values. Every other word is of one of
+/// some kinds: a load or store of the slot of a value that needs one, a move, a step of a call of a function, an entry, a return or
+/// an end, empty cycles, or a jump to where a layout turns or is entered. And other words without an operation, one behind the
+/// other, last at most 16 cycles together.
 pub fn finished_programs_carry_their_plan()
     ensures { PlanLaw }
+{}
+
+/// Each layout of a graph of regions is spaced: behind its empty cycles and behind its calls a word stands that is none of empty
+/// cycles.
+pub fn layouts_are_spaced()
+    ensures { SpacedLaw }
 {}
