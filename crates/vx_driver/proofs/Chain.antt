@@ -30,6 +30,7 @@ use Rattle.vx_regs.specs.Mapped.{KeepsApart, Mapped}
 use Rattle.vx_frame.specs.Carried.{DoesTheSame, KeepsTo}
 use Rattle.vx_frame.specs.declared.finishing.Finished.{Finished}
 use Rattle.vx_frame.specs.Finish.{CanFinish, AllCanFinish, IsFinished, Finishes}
+use Rattle.vx_frame.specs.Plans.{AreSpaced, IsSpaced, SpacedLaw}
 use Rattle.vx_words.specs.Range.{is_in_range}
 use Rattle.vx_profile.specs.declared.counts.Counts.{Counts}
 use Rattle.vx_region.specs.declared.trace_plan.TracePlan.{TracePlan}
@@ -97,6 +98,13 @@ all_settled n machine (graph ∷ graphs) (l ∷ ls) h zero m e = let q : h.0.don
 all_settled n machine (graph ∷ graphs) (l ∷ ls) h (suc f) m e = all_settled (n + 1) machine graphs ls h.1 f m e
 all_settled n machine [] (l ∷ ls) h f m e = absurd h
 all_settled n machine (graph ∷ graphs) [] h f m e = absurd h
+
+all_spaced : SpacedLaw → (n : ℕ) (machine : Numbers) (graphs : List Graph) (ls : List VWords) → AreLayoutsFrom n machine graphs ls → AreSpaced ls
+all_spaced law n machine [] [] h f l e = absurd (let z : None ≡ Some l = e in cc)
+all_spaced law n machine (graph ∷ graphs) (x ∷ ls) h zero l e = let same : x ≡ l = cc in subst IsSpaced same (subst IsSpaced (sym h.0.is) (law h.0.done))
+all_spaced law n machine (graph ∷ graphs) (x ∷ ls) h (suc f) l e = all_spaced law (n + 1) machine graphs ls h.1 f l e
+all_spaced law n machine [] (x ∷ ls) h f l e = absurd h
+all_spaced law n machine (graph ∷ graphs) [] h f l e = absurd h
 
 -- runs
 
@@ -187,7 +195,7 @@ module _ (laws : StageLaws) (p : Program) (flow : Flow) (machine : Numbers) (ls 
           kept = subst (λ z. AreMapsOf machine z maps) are kept;
           spilled = in_slots;
           finished = done;
-          carries = laws.plans machine flow (layouts_of planned.functions) maps x done;
+          carries = laws.plans machine flow (layouts_of planned.functions) maps x done is.sound (subst AreSpaced are (all_spaced laws.spaced 0 machine flow.functions ls laid));
           faithful = record {
             same = λ input times all some. (words_do input times (are_numbers input all)).same;
             never_stuck = λ input times all some. (words_do input times (are_numbers input all)).never;

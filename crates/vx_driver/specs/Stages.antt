@@ -25,7 +25,7 @@ use Rattle.vx_region.specs.Regions.{AllReplaced, ReplacesAll}
 use Rattle.vx_frame.specs.Carried.{FrameLaw}
 use Rattle.vx_frame.specs.declared.finishing.Finished.{Finished}
 use Rattle.vx_frame.specs.Finish.{Finishes}
-use Rattle.vx_frame.specs.Plans.{PlanLaw}
+use Rattle.vx_frame.specs.Plans.{PlanLaw, SpacedLaw}
 use Rattle.vx_ast.specs.Tree.{Program}
 use Rattle.vx_report.specs.declared.plan.Plan.{Plan}
 use Rattle.vx_report.specs.Report.{names_of, report_text}
@@ -113,5 +113,6 @@ pub record StageLaws : Type 0 where
   pub brief : LayoutIsBrief
   pub frames : FrameLaw
   pub plans : PlanLaw
+  pub spaced : SpacedLaw
   pub paths : PathStrictLaw
   pub timings : AnyTimingLaw

@@ -19,7 +19,9 @@ use vx_base::outcome::NoMemory;
 use vx_clean::clean;
 use vx_facts::narrow;
 use vx_flow::graph::Flow;
-use vx_frame::laws::{finished_programs_carry_their_plan, frames_keep_to_the_machine};
+use vx_frame::laws::{
+    finished_programs_carry_their_plan, frames_keep_to_the_machine, layouts_are_spaced,
+};
 use vx_frame::{Finished, finish};
 use vx_isa::laws::{any_timing_law, path_strict_law};
 use vx_isa::program::WordProgram;
@@ -62,6 +64,7 @@ fn stages_do_the_same()
     drains_stay_brief();
     frames_keep_to_the_machine();
     finished_programs_carry_their_plan();
+    layouts_are_spaced();
     path_strict_law();
     any_timing_law();
 }

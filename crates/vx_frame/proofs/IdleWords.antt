@@ -1,6 +1,6 @@
 -- Of two words of a program one behind the other, one is a word of the plan or has an operation, where layouts are spaced: pauses
 -- stand behind operations, empty cycles of a layout behind no pause, and neither behind the other.
-use Rattle.std.proofs.Common.{◌≡◌, ◌<◌, ◌≤◌, ◌⊎◌, inl, inr, ⊎_elim, ◌+◌, ◌==◌, ◌&&◌, not, ℕ, zero, suc, ℤ, pos, neg_ℤ, Bool, true, false, Option, Some, None, List, [], ◌∷◌, ◌++◌, length, map, refl, sym, ap, ◌∙◌, subst, arith}
+use Rattle.std.proofs.Common.{◌≡◌, ◌<◌, ◌≤◌, ◌⊎◌, inl, inr, ⊎_elim, ◌+◌, ◌==◌, not, ℕ, zero, suc, ℤ, pos, neg_ℤ, Bool, true, false, Option, Some, None, List, [], ◌∷◌, ◌++◌, length, refl, sym, ap, ◌∙◌, subst, arith}
 use Rattle.std.specs.Prelude.{if◌then◌else◌, slice_get}
 use Rattle.std.specs.List.{filter}
 use Rattle.std.proofs.lemmas.Bool.{and_parts, eqb-true}
@@ -25,8 +25,8 @@ use Rattle.vx_mixed.specs.declared.layout.VirtualWord.TheVariants.{Planned, Drai
 use Rattle.vx_mixed.specs.declared.layout.VWords.{VWords}
 use Rattle.vx_mixed.specs.LaidSettled.{laid_reads, laid_writes}
 use Rattle.vx_frame.specs.Target.{Target, answer, general, general_of, branch_of, home, stack_on, holds_branch, is_slotted, kept, slotted, once, parameters_of, one, together, pause, in_flight, settled, set_stack, slots_in_flight, load_slot, store_slot, load_slots, store_slots, if_some, before, behind, plan_word, plan_words, landing_words, on_clusters, move_stack, save_words, reload_words, fetch_words, fetched, cluster_of_operand, argument_words, result_words, call_words, back_words, is_caller, is_drain, is_drain_there, answer_words, return_words, follows, way, link_words, entry_words, word_words, start_words, bytes, first_frame}
-use Rattle.vx_frame.specs.Placed.{Depth, Entry, Labelled, PlacedAt, place_of, laid_pieces, landing_of, item_landings, word_landings, landing_pieces, function_pieces, functions_pieces, all_pieces, words_of}
-use Rattle.vx_frame.specs.Carried.{Carries, IsFunctionOf, IsMapped}
+use Rattle.vx_frame.specs.Placed.{Depth, Labelled, PlacedAt, place_of, laid_pieces, landing_of, item_landings, word_landings, landing_pieces, function_pieces, functions_pieces, all_pieces, words_of}
+use Rattle.vx_frame.specs.Carried.{Carries, IsMapped}
 use Rattle.vx_frame.specs.Plans.{AreSpaced, GoesOn, IsSpaced}
 use Rattle.vx_frame.proofs.EachWord.{IsPlanWord}
 use Rattle.vx_frame.proofs.Enough.{some_cluster}

@@ -1,5 +1,5 @@
 -- Behind empty cycles and behind calls a layout goes on with a word that is none of empty cycles.
-use Rattle.std.proofs.Common.{◌≡◌, ◌+◌, ℕ, zero, suc, Bool, true, false, Option, Some, None, List, [], ◌∷◌, ◌++◌, length, refl, sym, ap, ◌∙◌}
+use Rattle.std.proofs.Common.{◌≡◌, ◌+◌, ℕ, zero, suc, Bool, true, false, Some, None, List, [], ◌∷◌, ◌++◌, length, refl, sym, ap, ◌∙◌}
 use Rattle.std.specs.Prelude.{slice_get}
 use Rattle.vx_flow.specs.declared.graph.Exit.{Exit}
 use Rattle.vx_flow.specs.declared.graph.Exit.TheVariants.{Goto, Split as Branches, Call as Calling, Return as Returning, Ends as Ending}
@@ -9,9 +9,9 @@ use Rattle.vx_mixed.specs.declared.region.Region.{Region}
 use Rattle.vx_mixed.specs.declared.layout.VirtualWord.{VirtualWord}
 use Rattle.vx_mixed.specs.declared.layout.VirtualWord.TheVariants.{Planned, Drain, Transfer, Choice, Call as Calls, Return as Returns, Ends}
 use Rattle.vx_mixed.specs.declared.mixed.MixedGraph.{MixedGraph}
-use Rattle.vx_mixed.specs.Layout.{drain_words, leave_words, stub, word_stubs, stubs, exit_words, laid, laid_words, region_words, region_size, place_of, all_words, layout_of}
+use Rattle.vx_mixed.specs.Layout.{drain_words, leave_words, stub, word_stubs, stubs, exit_words, laid_words, region_words, region_size, place_of, all_words, layout_of}
 use Rattle.vx_frame.specs.Target.{is_drain}
-use Rattle.vx_frame.specs.Plans.{GoesOn, IsSpaced, SpacedLaw}
+use Rattle.vx_frame.specs.Plans.{GoesOn, SpacedLaw}
 
 -- the words that carry this one end with a pause, or may
 abbrev pub ends_empty : VirtualWord → Bool
