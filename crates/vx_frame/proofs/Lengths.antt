@@ -2,7 +2,7 @@
 use Rattle.std.proofs.Common.{◌≡◌, ℕ, suc, ◌+◌, true, Option, Some, None, List, [], ◌∷◌, ◌++◌, length, refl, sym, ap, ◌∙◌, arith, length-append}
 use Rattle.vx_flow.specs.declared.graph.Operand.{Operand}
 use Rattle.vx_flow.specs.declared.graph.Operand.TheVariants.{Held as HeldValue, Number as AsNumber, Stack}
-use Rattle.std.specs.Prelude.{neg_ℤ, max, ◌-◌, ◌==◌, Bool, false, if◌then◌else◌}
+use Rattle.std.specs.Prelude.{neg_ℤ, max, ◌-◌, Bool, false, if◌then◌else◌}
 use Rattle.vx_base.specs.declared.arithmetic.Code.TheVariants.{ToBranch}
 use Rattle.vx_base.specs.declared.arithmetic.Compare.TheVariants.{Ltu}
 use Rattle.vx_isa.specs.declared.operation.Operation.TheVariants.{BranchOn, Call, Compute, Goto, Halt, Store}
