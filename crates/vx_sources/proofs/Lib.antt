@@ -1,0 +1,4 @@
+pub mod Fits
+pub mod Rules
+pub mod Totals
+pub mod Sources
