@@ -26,6 +26,8 @@ pub mod PlanOps
 pub mod Assignable
 pub mod ClusteredOps
 pub mod PlansFit
+pub mod InMotion
+pub mod Motion
 pub mod RoomHomes
 pub mod ShortDrains
 pub mod OneStep

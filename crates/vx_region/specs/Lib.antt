@@ -1,6 +1,7 @@
 pub mod Planned
 pub mod Meets
 pub mod PlanLaws
+pub mod Motion
 pub mod RegionPlans
 pub mod Growth
 pub mod Owed

@@ -4,6 +4,7 @@ ghost use Rattle.vx_region.specs.Barring.{BarredOwesNothing};
 ghost use Rattle.vx_region.specs.Ending.{BlocksAreCounted, BlocksAreUsed, CapIsKept, EnoughSteps, MeasureFalls, NodesKeepWithin, PlansGrow, StepsEnd};
 ghost use Rattle.vx_region.specs.Growth.{BarredOverCap, FewMade, OneMode, SumsMayStop, WithinCap};
 ghost use Rattle.vx_region.specs.Meets.{DelaysMet, TableMet};
+ghost use Rattle.vx_region.specs.Motion.{JoinsLaw, OrderLaw, SplitsLaw};
 ghost use Rattle.vx_region.specs.PlanLaws.{PlanKeeps, PlanLaw};
 ghost use Rattle.vx_region.specs.Regions.{AllKeep, BeginsAsGraph, PlansFit, StepKeeps};
 
@@ -21,6 +22,29 @@ pub fn placed_words_meet_the_delays()
 pub fn plans_keep_the_meaning()
     ensures compensated { PlanLaw }
     ensures meaning { PlanKeeps }
+{
+    assigned_operations_stand();
+}
+
+/// A trace on its clusters, executed in its order, leaves at each exit what the trace leaves; so it does from each of its joins on.
+pub fn clusters_keep_the_order()
+    ensures { OrderLaw }
+{
+    assigned_operations_stand();
+}
+
+/// The words of a plan, with the copies at their splits, the empty cycles and the dismissible loads, leave at each exit what the
+/// trace on its clusters leaves in its order, whenever writes land.
+pub fn words_keep_the_order()
+    ensures { SplitsLaw }
+{
+    assigned_operations_stand();
+}
+
+/// From each joining edge the copies there, and then the words from the rejoin word on, leave at each exit what the operations
+/// below the join leave in their order, whenever writes land.
+pub fn joins_keep_the_order()
+    ensures { JoinsLaw }
 {
     assigned_operations_stand();
 }
