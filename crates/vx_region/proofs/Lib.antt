@@ -28,6 +28,7 @@ pub mod ClusteredOps
 pub mod PlansFit
 pub mod InMotion
 pub mod Motion
+pub mod Composing
 pub mod RoomHomes
 pub mod ShortDrains
 pub mod OneStep

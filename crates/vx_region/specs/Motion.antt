@@ -89,3 +89,13 @@ JoinsLaw =
     (i rejoin : ℕ) (j : Join) (e : Edge) → slice_get r.trace.joins i ≡ Some j → slice_get r.rejoins i ≡ Some rejoin → IsIn e j.edges →
     (setting : Setting) (times : List ℕ) (s t : State) → Apart setting → Agree (Wanted m blocks (drop j.place (items r))) s t →
     LeavesAlike m (in_order setting m blocks (drop j.place (items r)) s) (after_ops setting (on_edge r.made e) t (in_words setting times machine m r rejoin))
+
+-- The three together: from its start, and from each joining edge, the words leave what the trace of blocks leaves, where the states
+-- agree on what that reads or leaves live.
+abbrev pub ComposedLaw : Type 0
+ComposedLaw =
+    (graph : Graph) (m : MixedGraph) (blocks : List ℕ) (machine : Numbers) (mode : Mode) (r : Replacement) → Valid m → CanTrace m blocks → IsGraphOf machine graph m → (plan : Planned m blocks machine mode r) →
+    (setting : Setting) (times : List ℕ) (s t : State) → Apart setting →
+    (Agree (Wanted m blocks (plain_items plan.trace.ops)) s t → LeavesAlike m (in_order setting m blocks (plain_items plan.trace.ops) s) (in_words setting times machine m r 0 t)) ×
+    ((i rejoin : ℕ) (j j' : Join) (e : Edge) → IsIn j plan.trace.joins → slice_get r.trace.joins i ≡ Some j' → j.block ≡ j'.block → slice_get r.rejoins i ≡ Some rejoin → IsIn e j'.edges → Agree (Wanted m blocks (plain_items (drop j.place plan.trace.ops))) s t →
+    LeavesAlike m (in_order setting m blocks (plain_items (drop j.place plan.trace.ops)) s) (after_ops setting (on_edge r.made e) t (in_words setting times machine m r rejoin)))

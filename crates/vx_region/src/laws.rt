@@ -4,7 +4,7 @@ ghost use Rattle.vx_region.specs.Barring.{BarredOwesNothing};
 ghost use Rattle.vx_region.specs.Ending.{BlocksAreCounted, BlocksAreUsed, CapIsKept, EnoughSteps, MeasureFalls, NodesKeepWithin, PlansGrow, StepsEnd};
 ghost use Rattle.vx_region.specs.Growth.{BarredOverCap, FewMade, OneMode, SumsMayStop, WithinCap};
 ghost use Rattle.vx_region.specs.Meets.{DelaysMet, TableMet};
-ghost use Rattle.vx_region.specs.Motion.{JoinsLaw, OrderLaw, SplitsLaw};
+ghost use Rattle.vx_region.specs.Motion.{ComposedLaw, JoinsLaw, OrderLaw, SplitsLaw};
 ghost use Rattle.vx_region.specs.PlanLaws.{PlanKeeps, PlanLaw};
 ghost use Rattle.vx_region.specs.Regions.{AllKeep, BeginsAsGraph, PlansFit, StepKeeps};
 
@@ -47,6 +47,15 @@ pub fn joins_keep_the_order()
     ensures { JoinsLaw }
 {
     assigned_operations_stand();
+}
+
+/// The three together: from its start and from each joining edge the words of a plan leave what the trace of blocks leaves.
+pub fn motion_keeps_the_trace()
+    ensures { ComposedLaw }
+{
+    clusters_keep_the_order();
+    words_keep_the_order();
+    joins_keep_the_order();
 }
 
 /// What planning gives for blocks of a graph is what a replacement asks of its arguments; the words of its region have room, and
