@@ -10,6 +10,7 @@ mod operations;
 mod plannable;
 mod planning;
 mod source;
+mod stages;
 mod words;
 
 use crate::ending::Ended;
@@ -22,6 +23,7 @@ const USAGE: &[u8] = b"usage: vx_bench flow
        vx_bench lowering SOURCE
        vx_bench operations SOURCE
        vx_bench planning COUNT
+       vx_bench stages SOURCE
        vx_bench words TEXT
 ";
 
@@ -32,6 +34,7 @@ enum Measurement<'a> {
     Lowering(&'a str),
     Operations(&'a str),
     Planning(u32),
+    Stages(&'a str),
     Words(&'a str),
 }
 
@@ -63,6 +66,7 @@ fn asked_with<'a>(name: &str, word: &'a str) -> Option<Measurement<'a>> {
         "lowering" => Some(Measurement::Lowering(word)),
         "operations" => Some(Measurement::Operations(word)),
         "planning" => planning_of(word),
+        "stages" => Some(Measurement::Stages(word)),
         "words" => Some(Measurement::Words(word)),
         _ => None,
     }
@@ -81,6 +85,7 @@ fn measure(rt: &HostRuntime, asked: Measurement<'_>) -> Ended {
         Measurement::Lowering(name) => lowering::measure(rt, name),
         Measurement::Operations(name) => operations::measure(rt, name),
         Measurement::Planning(count) => planning::measure(rt, count),
+        Measurement::Stages(name) => stages::measure(rt, name),
         Measurement::Words(name) => words::measure(rt, name),
     }
 }

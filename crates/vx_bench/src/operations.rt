@@ -16,10 +16,13 @@ const MOST_BLOCKS: u64 = 100000000;
 
 /// What a run did.
 #[derive(Clone, Copy)]
-struct Work {
-    operations: u64,
+pub(crate) struct Work {
+    /// How many blocks it passed.
+    pub(crate) blocks: u64,
+    /// How many operations it did in them, exits left out.
+    pub(crate) operations: u64,
     /// Whether the run ended.
-    complete: bool,
+    pub(crate) complete: bool,
 }
 
 pub(crate) fn measure(rt: &HostRuntime, name: &str) -> Ended {
@@ -46,33 +49,37 @@ fn ran(alloc: Global, program: &Typed) -> Result<Work, NoMemory> {
     counted(alloc, &flow)
 }
 
-fn counted(alloc: Global, flow: &Flow) -> Result<Work, NoMemory> {
+/// What a run of graphs with an empty input does.
+pub(crate) fn counted(alloc: Global, flow: &Flow) -> Result<Work, NoMemory> {
     let counted = count(alloc, flow, &[], MOST_BLOCKS)?;
-    Ok(Work {
-        operations: done(flow, &counted.counts),
-        complete: counted.complete,
-    })
+    Ok(done(flow, &counted.counts, counted.complete))
 }
 
-/// The operations that were done.
-fn done(flow: &Flow, counts: &Counts) -> u64 {
-    let mut done: u64 = 0;
+/// What was done by a run with these counts.
+fn done(flow: &Flow, counts: &Counts, complete: bool) -> Work {
+    let mut work = Work {
+        blocks: 0,
+        operations: 0,
+        complete,
+    };
     let mut number: u32 = 0;
     for graph in flow.functions.as_slice() {
-        done = done.saturating_add(done_in(graph, number, counts));
+        work = with_done_in(work, graph, number, counts);
         number = number.saturating_add(1);
     }
-    done
+    work
 }
 
-/// The operations that were done in a function.
-fn done_in(graph: &Graph, function: u32, counts: &Counts) -> u64 {
-    let mut done: u64 = 0;
+/// With what was done in a function.
+fn with_done_in(before: Work, graph: &Graph, function: u32, counts: &Counts) -> Work {
+    let mut work = before;
     let mut number: u32 = 0;
     for block in graph.blocks.as_slice() {
         let times = counts.of_block(function, number);
-        done = done.saturating_add(times.saturating_mul(block.ops.len() as u64));
+        let operations = times.saturating_mul(block.ops.len() as u64);
+        work.blocks = work.blocks.saturating_add(times);
+        work.operations = work.operations.saturating_add(operations);
         number = number.saturating_add(1);
     }
-    done
+    work
 }
