@@ -49,6 +49,7 @@ int main(void) {
   put(1, 0); put(0, -1); put(3, 0); put(2, 0);
   put(1, 0); put(5, 2);
   put(6, 0);
-  printf("%d %d\n", run(), cells[1]);
+  printf("%d steps\n", run());
+  printf("%d\n", cells[1]);
   return 0;
 }
