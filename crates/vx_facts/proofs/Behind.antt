@@ -1,5 +1,5 @@
 -- An operation in its form inside of a block: it does the same where it has a meaning, and what is known behind it holds.
-use Rattle.std.proofs.Common.{◌≡◌, ◌⊎◌, inl, inr, ℕ, Bool, true, false, ◌||◌, pos, List, [], ◌∷◌, ◌++◌, slice_index_or, Option, Some, None, refl, sym, ap, ◌∙◌, subst}
+use Rattle.std.proofs.Common.{◌≡◌, ◌⊎◌, inl, inr, ℕ, zero, suc, Bool, true, false, ◌||◌, pos, List, [], ◌∷◌, ◌++◌, slice_index_or, Option, Some, None, refl, sym, ap, ◌∙◌, subst}
 use Rattle.vx_base.specs.declared.arithmetic.Code.TheVariants.{Mov}
 use Rattle.vx_flow.specs.declared.graph.Operand.{Operand}
 use Rattle.vx_flow.specs.declared.graph.Operand.TheVariants.{Number}
@@ -10,10 +10,11 @@ use Rattle.vx_facts.specs.declared.intervals.Interval.{Interval}
 use Rattle.vx_facts.specs.declared.access.Access.{Access}
 use Rattle.vx_facts.specs.declared.claim.Claim.{Claim}
 use Rattle.vx_facts.specs.declared.fact.Fact.{Fact}
+use Rattle.vx_facts.specs.declared.fact.Fact.TheVariants.{Between, Equals}
 use Rattle.vx_facts.specs.Facts.{full, Within, AllHold, range_of, times_if, result_within, is_held, without, equals_if, is_full, between_unless, after}
 use Rattle.vx_facts.specs.Checking.{has_numbers}
 use Rattle.vx_facts.specs.Accesses.{HoldsWord, AllTell, SpotsDiffer, accessed, word_in, moved_or, with_words, place_known}
-use Rattle.vx_facts.specs.Forming.{formed, form, same_form, is_test, facts_if, said_unless, after_known}
+use Rattle.vx_facts.specs.Forming.{formed, form, same_form, is_test, facts_if, said_unless, most_equals, newest, after_known}
 use Rattle.vx_facts.proofs.Tests.{append_holds}
 use Rattle.vx_facts.proofs.Operations.{Good, Keeps, OpFits, StateFit, numbers_fit, number_fits, op_good, held_is}
 use Rattle.vx_facts.proofs.Forms.{formed_same, formed_fits}
@@ -78,6 +79,13 @@ said_holds values false fs (Compute code v a b) h =
 said_holds values false fs (Place v a i) h = let j = times_if true (range_of fs i) (pos 4) in lie_other values (is_full j) v j (without v fs) [] h tt
 said_holds values false fs op h = tt
 
+-- those that are kept hold
+newest_hold : (values : ℕ → Content) (left : ℕ) (fs : List Fact) → AllHold values fs → AllHold values (newest left fs)
+newest_hold values left [] h = tt
+newest_hold values left (Between v i ∷ fs) h = (h.0, newest_hold values left fs h.1)
+newest_hold values zero (Equals v code a b ∷ fs) h = newest_hold values zero fs h.1
+newest_hold values (suc left) (Equals v code a b ∷ fs) h = (h.0, newest_hold values left fs h.1)
+
 -- what is known in a state, and of a step where it has a meaning
 
 pub record Known (setting : Setting) (fs : List Fact) (xs : List Access) (s : State) : Type 0 where
@@ -99,8 +107,9 @@ form_known setting differ s fs xs op n k = by (form_follows setting s fs xs op n
     step None e q r = tt
     step (Some t) e q r = record {
       good = record {
-        facts = append_holds t.values (place_known xs op') (said_unless (same_form op op') fs op ++ after fs op') (place_known_holds setting s t xs op' k.tell e)
-            (append_holds t.values (said_unless (same_form op op') fs op) (after fs op') (said_holds t.values (same_form op op') fs op r.facts) q.facts);
+        facts = newest_hold t.values most_equals (place_known xs op' ++ (said_unless (same_form op op') fs op ++ after fs op'))
+            (append_holds t.values (place_known xs op') (said_unless (same_form op op') fs op ++ after fs op') (place_known_holds setting s t xs op' k.tell e)
+            (append_holds t.values (said_unless (same_form op op') fs op) (after fs op') (said_holds t.values (same_form op op') fs op r.facts) q.facts));
         fits = q.fits;
       };
       tell = accessed_tell setting differ s t op' xs k.tell e;

@@ -1,6 +1,6 @@
 -- Operations in another form with the same result: what was moved is read where it was moved from, and what stands in a value
 -- already is moved from there.
-use Rattle.std.specs.Prelude.{ℕ, ◌==◌, Bool, true, false, ◌&&◌, ◌||◌, pos, Option, Some, None, List, [], ◌∷◌, ◌++◌}
+use Rattle.std.specs.Prelude.{ℕ, zero, suc, ◌==◌, Bool, true, false, ◌&&◌, ◌||◌, pos, Option, Some, None, List, [], ◌∷◌, ◌++◌}
 use Rattle.vx_base.specs.declared.arithmetic.Code.{Code}
 use Rattle.vx_base.specs.declared.arithmetic.Code.TheVariants.{Mov, ToBranch}
 use Rattle.vx_flow.specs.declared.graph.Operand.{Operand}
@@ -86,9 +86,20 @@ said_unless false fs (Compute code v a b) = lies_in v (result_within code (range
 said_unless false fs (Place v a i) = lies_in v (times_if true (range_of fs i) (pos 4)) []
 said_unless false fs op = []
 
+-- of the facts on what operations give so many are kept, the newest, so that a long block takes no longer for each operation; those
+-- on where values lie are kept all
+abbrev pub most_equals : ℕ
+most_equals = 64
+
+abbrev pub newest : (left : ℕ) → List Fact → List Fact
+newest left [] = []
+newest left (Between v i ∷ fs) = Between v i ∷ newest left fs
+newest zero (Equals v code a b ∷ fs) = newest zero fs
+newest (suc left) (Equals v code a b ∷ fs) = Equals v code a b ∷ newest left fs
+
 -- what is known behind an operation that has this form
 abbrev pub after_known : List Fact → List Access → Op → Op → List Fact
-after_known fs xs op op' = place_known xs op' ++ (said_unless (same_form op op') fs op ++ after fs op')
+after_known fs xs op op' = newest most_equals (place_known xs op' ++ (said_unless (same_form op op') fs op ++ after fs op'))
 
 abbrev pub after_from : List Fact → List Access → List Op → List Fact
 after_from fs xs [] = fs

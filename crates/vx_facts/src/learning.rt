@@ -3,7 +3,7 @@
 ghost use Rattle.std.specs.Prelude.{◌≡◌, ◌==◌, ◌||◌, ◌++◌, false, [], ◌∷◌, IfOk};
 ghost use Rattle.vx_flow.specs.declared.graph.Op.TheVariants.{Compute};
 ghost use Rattle.vx_facts.specs.declared.fact.Fact.TheVariants.{Between};
-ghost use Rattle.vx_facts.specs.Forming.{after_known, facts_if, is_test, said_unless, same_form};
+ghost use Rattle.vx_facts.specs.Forming.{after_known, facts_if, is_test, most_equals, newest, said_unless, same_form};
 ghost use Rattle.vx_facts.specs.Facts.{after, came_out, compared, equals_if, is_full, is_held, learned, learned_if, lies_in, names, on_side, operand_between, without};
 
 use crate::access::{Access, append_place};
@@ -17,6 +17,9 @@ use vx_base::arithmetic::{Code, Compare};
 use vx_base::listed::Listed;
 use vx_base::outcome::NoMemory;
 use vx_flow::graph::{Op, Operand, Value};
+
+/// How many facts on what operations give are kept.
+const MOST_EQUALS: usize = 64;
 
 pub fn is_held(value: Value, operand: Operand) -> bool
     ensures { result ≡ is_held value operand }
@@ -227,11 +230,36 @@ pub fn after_known(
 ) -> Result<Listed<Fact>, NoMemory>
     ensures { IfOk result (λ behind. behind ≡ after_known facts.now known.now op.now form.now) }
 {
+    let mut all = Listed::new(alloc);
+    append_place(&mut all, known, form)?;
+    append_said_unless(&mut all, facts, same_form(op, form), op)?;
+    append_after(&mut all, facts, form)?;
     let mut behind = Listed::new(alloc);
-    append_place(&mut behind, known, form)?;
-    append_said_unless(&mut behind, facts, same_form(op, form), op)?;
-    append_after(&mut behind, facts, form)?;
+    append_newest(&mut behind, all.as_slice(), MOST_EQUALS)?;
     Ok(behind)
+}
+
+/// Puts facts at the end of a list: of those on what operations give the first so many, of the others all.
+fn append_newest(list: &mut Listed<Fact>, facts: &[Fact], left: usize) -> Result<(), NoMemory>
+    ensures { IfOk result (λ _. list.new ≡ list.old ++ newest left facts.now) }
+{
+    match facts {
+        [] => Ok(()),
+        [first, rest @ ..] => match *first {
+            Fact::Between { .. } => {
+                list.push(*first)?;
+                append_newest(list, rest, left)
+            }
+            Fact::Equals { .. } => {
+                if left == 0 {
+                    append_newest(list, rest, 0)
+                } else {
+                    list.push(*first)?;
+                    append_newest(list, rest, left - 1)
+                }
+            }
+        },
+    }
 }
 
 fn append_after(list: &mut Listed<Fact>, facts: &[Fact], op: &Op) -> Result<(), NoMemory>
