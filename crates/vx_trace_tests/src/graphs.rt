@@ -47,7 +47,8 @@ pub(crate) struct Passed<'a> {
     pub(crate) edges: &'a [(BlockId, BlockId, u64)],
 }
 
-fn op(act: &Act) -> Op {
+/// The operation.
+pub(crate) fn op(act: &Act) -> Op {
     match act {
         Act::On(code, to, left, right) => Op::Compute {
             code: *code,
@@ -134,13 +135,15 @@ pub(crate) fn counts(alloc: Global, passed: &Passed) -> Result<Counts, NoMemory>
     Ok(counts)
 }
 
-/// A machine of one cluster.
+/// A machine.
 #[derive(Clone, Copy)]
 pub(crate) enum Kind {
-    /// The default one.
+    /// The default one, with one cluster.
     Vex,
-    /// One that issues one operation a word.
+    /// One cluster that issues one operation a word.
     Narrow,
+    /// Two such clusters.
+    TwoNarrow,
 }
 
 const NARROW: &[u8] = b"clusters = 1
@@ -161,8 +164,26 @@ latency_divide = 8
 latency_copy = 1
 ";
 
-fn narrow(alloc: Global) -> Result<Machine, NoMemory> {
-    match from_toml(alloc, NARROW) {
+const TWO_NARROW: &[u8] = b"clusters = 2
+issue = 1
+alus = 1
+multipliers = 1
+memory_units = 1
+registers = 16
+branch_registers = 2
+read_ports = 2
+write_ports = 1
+copy_paths = 1
+latency_alu = 1
+latency_compare = 2
+latency_multiply = 2
+latency_load = 3
+latency_divide = 8
+latency_copy = 1
+";
+
+fn described(alloc: Global, description: &[u8]) -> Result<Machine, NoMemory> {
+    match from_toml(alloc, description) {
         Ok(machine) => Ok(machine),
         Err(_) => Err(NoMemory),
     }
@@ -172,6 +193,7 @@ fn narrow(alloc: Global) -> Result<Machine, NoMemory> {
 pub(crate) fn machine(alloc: Global, kind: Kind) -> Result<Machine, NoMemory> {
     match kind {
         Kind::Vex => Ok(Machine::vex(1)),
-        Kind::Narrow => narrow(alloc),
+        Kind::Narrow => described(alloc, NARROW),
+        Kind::TwoNarrow => described(alloc, TWO_NARROW),
     }
 }

@@ -7,13 +7,14 @@ ghost use Rattle.vx_region.specs.Regions.{IsGraphOf};
 ghost use Rattle.vx_trace_tests.specs.Beginning.{can_begin};
 
 use crate::begins::{begun, can_begin};
-use crate::graphs::{Kind, Passed, Shape, counts, graph, machine};
+use crate::graphs::{Act, Kind, Passed, Shape, counts, graph, machine, op};
 use std::alloc::Global;
+use vx_base::arithmetic::Code;
 use vx_base::outcome::NoMemory;
 use vx_dep::copies::{EdgeCopies, Rejoin};
 use vx_dep::mode::Mode;
-use vx_flow::graph::{BlockId, Edge, Graph};
-use vx_flow::trace::Placed;
+use vx_flow::graph::{BlockId, Edge, Graph, Op, Operand, Value};
+use vx_flow::trace::{Homes, Placed, TraceOp};
 use vx_machine::Machine;
 use vx_mixed::Mixed;
 use vx_profile::counts::Counts;
@@ -26,16 +27,22 @@ pub(crate) type AtSplit<'a> = (u32, Edge, &'a [u32], u32);
 /// What is owed at a join: its block, the word at which it is entered, and the places of what is copied onto its edges.
 pub(crate) type AtJoin<'a> = (BlockId, u32, &'a [u32]);
 
-/// A plan, and how many copies there are by then.
+/// An operation of a trace, by its place.
+pub(crate) type AtPlace = (u32, Act);
+
+/// A plan, some of its operations, and some homes of values and how many copies there are by then.
 #[derive(Clone, Copy)]
 pub(crate) struct Wanted<'a> {
     pub(crate) blocks: &'a [BlockId],
     pub(crate) count: u64,
     pub(crate) mode: Mode,
+    pub(crate) clusters: &'a [u32],
+    pub(crate) ops: &'a [AtPlace],
     pub(crate) words: &'a [u32],
     pub(crate) length: u32,
     pub(crate) splits: &'a [AtSplit<'a>],
     pub(crate) rejoins: &'a [AtJoin<'a>],
+    pub(crate) homes: &'a [(u32, u32)],
     pub(crate) used: u32,
 }
 
@@ -68,17 +75,65 @@ fn are_rejoins(found: &[Rejoin], wanted: &[AtJoin]) -> bool {
         })
 }
 
-/// The words of operations that all stand on cluster 0.
-fn is_placed(placed: &Placed, words: &[u32], length: u32) -> bool {
-    placed.words.as_slice() == words
-        && placed.length == length
-        && placed.clustered.clusters.len() == words.len()
-        && placed
-            .clustered
-            .clusters
-            .as_slice()
-            .iter()
-            .all(|cluster| *cluster == 0)
+fn is_computed(found: &Op, code: Code, to: Value, left: Operand, right: Operand) -> bool {
+    match found {
+        Op::Compute {
+            code: found_code,
+            to: found_to,
+            left: found_left,
+            right: found_right,
+        } => *found_code == code && *found_to == to && *found_left == left && *found_right == right,
+        _ => false,
+    }
+}
+
+fn is_copied(found: &Op, to: Value, from: Value) -> bool {
+    match found {
+        Op::Across {
+            to: found_to,
+            from: found_from,
+        } => *found_to == to && *found_from == from,
+        _ => false,
+    }
+}
+
+/// Whether this is the wanted computation or the wanted copy to another cluster.
+fn is_op(found: &Op, wanted: &Op) -> bool {
+    match wanted {
+        Op::Compute {
+            code,
+            to,
+            left,
+            right,
+        } => is_computed(found, *code, *to, *left, *right),
+        Op::Across { to, from } => is_copied(found, *to, *from),
+        _ => false,
+    }
+}
+
+fn has_op(ops: &[TraceOp], place: u32, wanted: &Act) -> bool {
+    match ops.get(place as usize) {
+        Some(TraceOp::Plain(found)) => is_op(found, &op(wanted)),
+        _ => false,
+    }
+}
+
+/// The operations, their clusters and words, and how many words there are.
+fn is_placed(placed: &Placed, wanted: &Wanted) -> bool {
+    let clustered = &placed.clustered;
+    clustered.clusters.as_slice() == wanted.clusters
+        && placed.words.as_slice() == wanted.words
+        && placed.length == wanted.length
+        && wanted.ops.iter().all(|(place, act)| has_op(clustered.trace.ops.as_slice(), *place, act))
+}
+
+fn have_homes(homes: &Homes, wanted: &[(u32, u32)]) -> bool {
+    wanted.iter().all(|(value, home)| {
+        match homes.clusters.as_slice().get(*value as usize) {
+            Some(found) => *found == Some(*home),
+            None => false,
+        }
+    })
 }
 
 fn is_wanted(plan: &TracePlan, wanted: &Wanted) -> bool {
@@ -86,7 +141,7 @@ fn is_wanted(plan: &TracePlan, wanted: &Wanted) -> bool {
         && plan.blocks.as_slice() == wanted.blocks
         && plan.count == wanted.count
         && plan.mode == wanted.mode
-        && is_placed(&plan.placed, wanted.words, wanted.length)
+        && is_placed(&plan.placed, wanted)
         && are_copies(plan.splits.as_slice(), wanted.splits)
         && are_rejoins(plan.rejoins.as_slice(), wanted.rejoins)
 }
@@ -136,7 +191,11 @@ fn steps_so(
 {
     match step(alloc, mixed, counts, machine, budget)? {
         Step::Finished => Ok(false),
-        Step::Replaced(plan) => Ok(is_wanted(&plan, wanted) && budget.used == wanted.used),
+        Step::Replaced(plan) => Ok(
+            is_wanted(&plan, wanted)
+                && have_homes(mixed.homes(), wanted.homes)
+                && budget.used == wanted.used,
+        ),
     }
 }
 

@@ -103,6 +103,58 @@ pub(crate) const IN_LINE: Shape<'static> = Shape {
     parameters: &[],
 };
 
+/// v3 = v1 + 1
+const NEXT_LEFT: Act = Act::On(Code::Add, 3, 1, Operand::Number(1));
+
+/// v4 = v2 + 1
+const NEXT_RIGHT: Act = Act::On(Code::Add, 4, 2, Operand::Number(1));
+
+/// v5 = v3 + v4
+const BOTH: Act = Act::On(Code::Add, 5, 3, Operand::Held(4));
+
+/// v1 = 7
+const LEFT: Act = Act::Plain(Op::Compute {
+    code: Code::Mov,
+    to: 1,
+    left: Operand::Number(7),
+    right: Operand::Number(0),
+});
+
+/// v2 = 9
+const RIGHT: Act = Act::Plain(Op::Compute {
+    code: Code::Mov,
+    to: 2,
+    left: Operand::Number(9),
+    right: Operand::Number(0),
+});
+
+/// v3 = v1 + 1; v4 = v2 + 1; v5 = v3 + v4, which is returned.
+pub(crate) const SUMS: Shape<'static> = Shape {
+    parts: &[Part(&[NEXT_LEFT, NEXT_RIGHT, BOTH], Way::Return(5))],
+    banks: BANKS,
+    parameters: &[1, 2],
+};
+
+/// v2 = 9; v1 = 7; and behind a call the same sums.
+pub(crate) const SUMS_BEHIND_A_CALL: Shape<'static> = Shape {
+    parts: &[
+        Part(&[RIGHT, LEFT], Way::Call(1)),
+        Part(&[NEXT_LEFT, NEXT_RIGHT, BOTH], Way::Return(5)),
+    ],
+    banks: BANKS,
+    parameters: &[],
+};
+
+/// v1 = 7; v2 = 9; and behind a call the same sums.
+pub(crate) const SUMS_TURNED: Shape<'static> = Shape {
+    parts: &[
+        Part(&[LEFT, RIGHT], Way::Call(1)),
+        Part(&[NEXT_LEFT, NEXT_RIGHT, BOTH], Way::Return(5)),
+    ],
+    banks: BANKS,
+    parameters: &[],
+};
+
 /// While v1 < 10, v1 = v1 + 1; return v1. Block 1 is the header.
 pub(crate) const LOOP: Shape<'static> = Shape {
     parts: &[
