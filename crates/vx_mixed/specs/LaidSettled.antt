@@ -56,15 +56,15 @@ abbrev pub cycles_of : VirtualWord → ℕ
 cycles_of (Drain n) = n
 cycles_of word = 1
 
--- all that is in flight has landed before a call and a return
+-- all that is in flight has landed before a word that is none of a region and none of its empty cycles
 abbrev pub LeavesCold : VirtualWord → Type 0
 LeavesCold (Call g arguments result) = Unit {0}
 LeavesCold (Return x) = Unit {0}
 LeavesCold (Planned r w items) = ⊥
 LeavesCold (Drain n) = ⊥
-LeavesCold (Transfer q) = ⊥
-LeavesCold (Choice test q) = ⊥
-LeavesCold (Ends k) = ⊥
+LeavesCold (Transfer q) = Unit {0}
+LeavesCold (Choice test q) = Unit {0}
+LeavesCold (Ends k) = Unit {0}
 
 abbrev pub Plans : VWords → ℕ → List Laid → Type 0
 Plans l p items = (r : ℕ) × (w : ℕ) × (slice_get l.words p ≡ Some (Planned r w items))
