@@ -351,7 +351,7 @@ module _ (T : Target) (flow : Flow) (ls : List VWords) (w : WordProgram) (sound 
     word_kinds : (p : ℕ) (word : VirtualWord) → HasWordAt p word → Kinds (T.starts f p) (word_words T f p word)
     word_kinds p (Planned rg wd items) e = planned_kinds p rg wd items e
     word_kinds p (Drain n) e = (inr (idles n (let a = mapped.brief p n e in omega arith)), tt)
-    word_kinds p (Transfer q) e = (inr (goes f q lt (by_transfer p e)), tt)
+    word_kinds p (Transfer q) e = kinds_other T Count (T.starts f p) (way T f (p + 1) q) (way_other (p + 1) q (by_transfer p e))
     word_kinds p (Choice test q) e =
         kinds_other T Count (T.starts f p) (word_words T f p (Choice test q))
         (append (before T f (test ∷ [])) (one (BranchOn (branch_of T f (test ∷ []) test) true (T.starts f q)) ∷ []) (before_other (test ∷ []) (reads_need p (Choice test q) e)) (branches f q (branch_of T f (test ∷ []) test) lt (by_choice p test e), tt))

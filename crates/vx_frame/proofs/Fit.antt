@@ -421,7 +421,7 @@ module _ (T : Target) (flow : Flow) (ls : List VWords) (w : WordProgram) (sound 
     word_good : (p : ℕ) (word : VirtualWord) → HasWordAt p word → Words (word_words T f p word)
     word_good p (Planned rg wd items) e = planned_good p rg wd items e
     word_good p (Drain n) e = wait_good n
-    word_good p (Transfer q) e = (goto_good (T.starts f q), tt)
+    word_good p (Transfer q) e = way_good (p + 1) q
     word_good p (Choice test q) e =
         let parts = mapped.code.choices p test q e in
         let has : Has (T.graph f) test BranchBank = graph_sound.exit_tests (Branches test parts.yes parts.no) test parts.has (inl refl) in

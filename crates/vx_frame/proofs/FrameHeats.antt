@@ -1,23 +1,18 @@
 -- Every piece of a program that carries a flow fits: what may be in flight at a word of a layout is what is left there of writes
 -- to the values that live in registers; elsewhere nothing is, but results in slots at a landing.
-use Rattle.std.proofs.Common.{◌≡◌, ◌<◌, ◌≤◌, ◌⊎◌, inl, inr, ⊎_elim, ◌+◌, ℕ, zero, suc, neg_ℤ, Bool, true, cond, Option, Some, None, List, [], ◌∷◌, ◌++◌, length, map, refl, ap, ◌∙◌, subst, arith}
-use Rattle.std.specs.Prelude.{slice_get, max}
+use Rattle.std.proofs.Common.{◌≡◌, ◌<◌, ◌≤◌, ◌⊎◌, inl, inr, ⊎_elim, ◌+◌, ℕ, zero, suc, Bool, true, false, cond, Option, Some, None, List, [], ◌∷◌, ◌++◌, length, map, refl, ap, ◌∙◌, subst, arith}
+use Rattle.std.specs.Prelude.{if◌then◌else◌, slice_get, max}
 use Rattle.std.specs.List.{list_any}
 use Rattle.std.proofs.lemmas.Bool.{cases_lt}
-use Rattle.vx_base.specs.declared.arithmetic.Code.TheVariants.{ToBranch}
-use Rattle.vx_base.specs.declared.arithmetic.Compare.TheVariants.{Ltu}
 use Rattle.vx_base.specs.declared.outcome.Trap.TheVariants.{Depth as ByDepth}
 use Rattle.vx_base.proofs.Pieces.{cold, fine_less, fine_end}
 use Rattle.vx_flow.specs.declared.graph.Flow.{Flow}
-use Rattle.vx_flow.specs.declared.graph.Operand.{Operand}
 use Rattle.vx_flow.specs.Effects.{IsIn}
 use Rattle.vx_flow.specs.Sound.{Sound, SoundFlow, is_sound_flow}
 use Rattle.vx_flow.proofs.Members.{in_left, in_right}
 use Rattle.vx_flow.proofs.SoundFlowLaw.{told}
 use Rattle.vx_isa.specs.declared.operation.Register.{Register}
-use Rattle.vx_isa.specs.declared.operation.Register.TheVariants.{Branch as InBranch}
-use Rattle.vx_isa.specs.declared.operation.Source.TheVariants.{Held, Number}
-use Rattle.vx_isa.specs.declared.operation.Operation.TheVariants.{Compute, Goto, BranchOn, Call, Return, EndByTrap}
+use Rattle.vx_isa.specs.declared.operation.Operation.TheVariants.{Goto, EndByTrap}
 use Rattle.vx_isa.specs.declared.program.Word.{Word}
 use Rattle.vx_isa.specs.declared.program.WordProgram.{WordProgram}
 use Rattle.vx_isa.specs.Operations.{same as same_register}
@@ -29,12 +24,12 @@ use Rattle.vx_mixed.specs.declared.layout.VirtualWord.TheVariants.{Planned, Drai
 use Rattle.vx_mixed.specs.declared.layout.VWords.{VWords}
 use Rattle.vx_mixed.specs.LaidSettled.{laid_reads, laid_writes, LeadsTo, LeavesCold}
 use Rattle.vx_regs.specs.Intervals.{word_writes}
-use Rattle.vx_frame.specs.Target.{Target, slotted, register_of, branch_of, stack_on, bytes, parameters_of, leads, before, behind, plan_word, plan_words, landing_words, choice_words, save_words, move_stack, argument_words, call_words, back_words, answer_words, return_words, fetch_words, entry_words, start_words, word_words, one, waits, pause, in_flight, slots_in_flight}
+use Rattle.vx_frame.specs.Target.{Target, slotted, register_of, leads, before, behind, plan_word, plan_words, landing_words, choice_words, return_words, follows, way, entry_words, start_words, word_words, one, waits, slots_in_flight}
 use Rattle.vx_frame.specs.Placed.{Label, Start, Entry, At, Landing, Depth, Labelled, laid_pieces, landing_of, item_landings, word_landings, landing_pieces, function_pieces, functions_pieces, all_pieces}
 use Rattle.vx_frame.specs.Carried.{Carries, IsMapped, FrameLaw}
 use Rattle.vx_frame.specs.Fitted.{FitLaw}
 use Rattle.vx_frame.specs.Whole.{WholeLaw}
-use Rattle.vx_frame.proofs.Frames.{get_some, get_in}
+use Rattle.vx_frame.proofs.Frames.{get_beyond, get_some, get_in}
 use Rattle.vx_frame.proofs.Limits.{Limits, limits}
 use Rattle.vx_frame.proofs.Stands.{piece_at, landing_at, in_laid, in_landings, of_function, word_next}
 use Rattle.vx_frame.proofs.Early.{words_kind, words_cool}
@@ -46,7 +41,7 @@ use Rattle.vx_frame.proofs.PlanHeats.{drain_fine, transfer_fine, choice_fine}
 use Rattle.vx_frame.proofs.WordHeats.{plan_fine, landing_fine}
 use Rattle.vx_frame.proofs.Built.{Fits, AllFit, fit_append, heat_at, heat_of, built_late}
 
--- words of a layout have a first word
+-- words that have a first one
 
 abbrev HasFirst : List Word → Type 0
 HasFirst ws = (x : Word) × (xs : List Word) × (ws ≡ x ∷ xs)
@@ -55,33 +50,15 @@ first_behind : (xs : List Word) (y : Word) (ys : List Word) → HasFirst (xs ++ 
 first_behind [] y ys = (y, ys, refl)
 first_behind (x ∷ xs) y ys = (x, xs ++ (y ∷ ys), refl)
 
-first_before : (xs ys : List Word) → HasFirst xs → HasFirst (xs ++ ys)
-first_before [] ys h = absurd (let e = h.2 in cc)
-first_before (x ∷ xs) ys h = (x, xs ++ ys, refl)
-
-first_after : (xs ys : List Word) → HasFirst ys → HasFirst (xs ++ ys)
-first_after [] ys h = h
-first_after (x ∷ xs) ys h = (x, xs ++ ys, refl)
-
-some_call : (T : Target) (f p g : ℕ) (arguments : List Operand) → HasFirst (call_words T f p g arguments)
-some_call T f p g arguments =
-    let test : Word = one (Compute 0 (ToBranch Ltu) (InBranch (record { cluster = 0; number = 0 })) (Held (stack_on 0)) (Number (bytes (T.globals + T.frame)))) in
-    let rest : List Word = one (BranchOn 0 true T.depth_trap) ∷ (move_stack T (neg_ℤ (bytes T.frame)) ++ (argument_words T f g (parameters_of T g) arguments ++ one (Call (T.entry g)) ∷ [])) in
-    first_behind (save_words T f (T.saved f p)) test (pause (in_flight T.machine 0 (test ∷ [])) ++ rest)
-
-some_word : (T : Target) (f p : ℕ) (word : VirtualWord) → HasFirst (word_words T f p word)
-some_word T f p (Planned rg wd items) = first_behind (before T f (laid_reads items)) (plan_word T f p items) (behind T f items)
-some_word T f p (Drain n) = (waits n, [], refl)
-some_word T f p (Transfer q) = (one (Goto (T.starts f q)), [], refl)
-some_word T f p (Choice test q) = first_behind (before T f (test ∷ [])) (one (BranchOn (branch_of T f (test ∷ []) test) true (T.starts f q))) []
-some_word T f p (Calls g arguments result) = first_before (call_words T f p g arguments) (back_words T f p result) (some_call T f p g arguments)
-some_word T f p (Returns x) = first_after (fetch_words T f 0 x) (answer_words T f x ++ one Return ∷ []) (first_behind (answer_words T f x) (one Return) [])
-some_word T f p (Ends k) = (one (EndByTrap k), [], refl)
-
-get_beyond : {A : Type 0} (xs : List A) (i : ℕ) → length xs ≤ i → slice_get xs i ≡ None
-get_beyond [] i le = refl
-get_beyond (x ∷ xs) zero le = absurd (omega arith)
-get_beyond (x ∷ xs) (suc i) le = get_beyond xs i (omega arith)
+-- or nothing is in flight there
+some_word : (T : Target) (f p : ℕ) (word : VirtualWord) → HasFirst (word_words T f p word) ⊎ LeavesCold word
+some_word T f p (Planned rg wd items) = inl (first_behind (before T f (laid_reads items)) (plan_word T f p items) (behind T f items))
+some_word T f p (Drain n) = inl (waits n, [], refl)
+some_word T f p (Transfer q) = inr tt
+some_word T f p (Choice test q) = inr tt
+some_word T f p (Calls g arguments result) = inr tt
+some_word T f p (Returns x) = inr tt
+some_word T f p (Ends k) = inr tt
 
 module _ (T : Target) (flow : Flow) (ls : List VWords) (w : WordProgram) (sound : SoundFlow flow) (carries : Carries T flow ls w) where
   abbrev Count : ℕ
@@ -169,9 +146,8 @@ module _ (T : Target) (flow : Flow) (ls : List VWords) (w : WordProgram) (sound 
   in_function : (f : ℕ) (x : Labelled) → f < Count → IsIn x (function_pieces T f) → IsIn x (all_pieces T flow.main Count)
   in_function f x lt i = of_function T flow.main Count w.words carries.placed f x lt i
 
-  at_place : (f p : ℕ) (word : VirtualWord) → f < Count → WordAt f p word → heat (T.starts f p) ≡ Pend f p
-  at_place f p word lt e =
-      let s = some_word T f p word in
+  at_place : (f p : ℕ) (word : VirtualWord) → f < Count → WordAt f p word → HasFirst (word_words T f p word) → heat (T.starts f p) ≡ Pend f p
+  at_place f p word lt e s =
       let z : 0 + p ≡ p = omega arith in
       let i = in_function f (piece_at T f p word) lt (inr (in_left (piece_at T f p word) (laid_pieces T f 0 (T.layout f).words) (landing_pieces T f 0 (T.layout f).words) (subst (λ n. IsIn (piece_at T f n word) (laid_pieces T f 0 (T.layout f).words)) z (in_laid T f 0 p (T.layout f).words word e)))) in
       heat_of T start flow.main Count w carries.placed (piece_at T f p word) s.0 s.1 i s.2 ∙ ap (λ o. at_word o (Pend f p)) e
@@ -199,8 +175,14 @@ module _ (T : Target) (flow : Flow) (ls : List VWords) (w : WordProgram) (sound 
     abbrev H : ℕ → Register → ℕ
     H p = pend T f M S p
 
+    cold_here : (p : ℕ) (word : VirtualWord) → WordAt f p word → LeavesCold word → (r : Register) → H p r ≤ 0
+    cold_here p word e leaves r = let a = pend_free T f M S p r (λ v n s z q. let c = M.settled.cold p v word e leaves in absurd (omega arith)) in omega arith
+
     there : (q : ℕ) (word : VirtualWord) → WordAt f q word → (r : Register) → H q r ≤ heat (T.starts f q) r
-    there q word e r = let a = ap (λ h. h r) (at_place f q word k.lt e) in let b = k.same q r in omega arith
+    there q word e r = ⊎_elim
+        (λ s. (let a = ap (λ h. h r) (at_place f q word k.lt e s) in let b = k.same q r in omega arith))
+        (λ c. (let a = cold_here q word e c r in omega arith))
+        (some_word T f q word)
 
     leads_there : (p q : ℕ) (word : VirtualWord) → WordAt f p word → LeadsTo p word q → (r : Register) → H q r ≤ heat (T.starts f q) r
     leads_there p q word e leads_to r = let x = get_some (T.layout f).words q (M.settled.inside p q word e leads_to) in there q x.0 x.1 r
@@ -212,9 +194,6 @@ module _ (T : Target) (flow : Flow) (ls : List VWords) (w : WordProgram) (sound 
 
     begins : (p : ℕ) (word : VirtualWord) → WordAt f p word → (r : Register) → start (At f p) r ≤ H p r
     begins p word e r = let a : start (At f p) r ≡ Pend f p r = ap (λ o. at_word o (Pend f p) r) e in let b = k.same p r in omega arith
-
-    cold_here : (p : ℕ) (word : VirtualWord) → WordAt f p word → LeavesCold word → (r : Register) → H p r ≤ 0
-    cold_here p word e leaves r = let a = pend_free T f M S p r (λ v n s z q. let c = M.settled.cold p v word e leaves in absurd (omega arith)) in omega arith
 
     abbrev Behind : ℕ → VirtualWord → Register → ℕ
     Behind p word = heat (T.starts f p + length (word_words T f p word))
@@ -230,10 +209,17 @@ module _ (T : Target) (flow : Flow) (ls : List VWords) (w : WordProgram) (sound 
             let b = lift_same (slots_in_flight T f items) (Pend f to) (H to) (map (register_of T f (laid_writes items)) (slotted T f (laid_writes items))) r (k.same to r) in
             let c : lift (slots_in_flight T f items) (H to) (map (register_of T f (laid_writes items)) (slotted T f (laid_writes items))) r ≡ lift (slots_in_flight T f items) (H to) (map (register_of T f (laid_writes items)) (v ∷ vs)) r = ap (λ us. lift (slots_in_flight T f items) (H to) (map (register_of T f (laid_writes items)) us) r) s in omega arith
 
+    way_fine : (p q : ℕ) (d : Register → ℕ) → WordAt f p (Transfer q) → FineFrom (H p) (way T f (p + 1) q) d
+    way_fine p q d e = by (follows T f (p + 1) q)
+      where
+        by : (b : Bool) → FineFrom (H p) (if b then [] else one (Goto (T.starts f q)) ∷ []) d
+        by true = λ r. (let a = cold_here p (Transfer q) e tt r in omega arith)
+        by false = transfer_fine T heat f M S p q d e (leads_there p q (Transfer q) e refl)
+
     inner : (p : ℕ) (word : VirtualWord) → WordAt f p word → FineFrom (H p) (word_words T f p word) (Behind p word)
     inner p (Planned rg wd items) e = ends (H p) (H (suc p)) (Behind p (Planned rg wd items)) (plan_words T f p items) (next_there p (Planned rg wd items) e (inl refl)) (plan_fine T heat f M S l p rg wd items e (split_there p rg wd items e))
     inner p (Drain n) e = ends (H p) (H (suc p)) (Behind p (Drain n)) (waits n ∷ []) (next_there p (Drain n) e refl) (drain_fine T heat f M S p n e)
-    inner p (Transfer q) e = transfer_fine T heat f M S p q (Behind p (Transfer q)) e (leads_there p q (Transfer q) e refl)
+    inner p (Transfer q) e = way_fine p q (Behind p (Transfer q)) e
     inner p (Choice test q) e = ends (H p) (H (suc p)) (Behind p (Choice test q)) (choice_words T f test q) (next_there p (Choice test q) e (inr refl)) (choice_fine T heat f M S l p test q e (leads_there p q (Choice test q) e (inl refl)))
     inner p (Calls g arguments result) e = less (H p) cold (Behind p (Calls g arguments result)) (word_words T f p (Calls g arguments result)) (cold_here p (Calls g arguments result) e tt) (call_fine T heat f M S (carries.functions f k.lt).saved p g arguments result (Behind p (Calls g arguments result)) e)
     inner p (Returns x) e = less (H p) cold (Behind p (Returns x)) (return_words T f x) (cold_here p (Returns x) e tt) (return_fine T heat f x (Behind p (Returns x)))

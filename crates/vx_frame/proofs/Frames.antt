@@ -29,6 +29,11 @@ get_some [] i h = absurd (omega arith)
 get_some (y ∷ ys) zero h = (y, refl)
 get_some (y ∷ ys) (suc i) h = get_some ys i (omega arith)
 
+pub get_beyond : {A : Type 0} (xs : List A) (i : ℕ) → length xs ≤ i → slice_get xs i ≡ None
+get_beyond [] i le = refl
+get_beyond (x ∷ xs) zero le = absurd (omega arith)
+get_beyond (x ∷ xs) (suc i) le = get_beyond xs i (omega arith)
+
 pub get_in : {A : Type 0} (xs : List A) (i : ℕ) (x : A) → slice_get xs i ≡ Some x → IsIn x xs
 get_in [] i x e = absurd (cc)
 get_in (y ∷ ys) zero x e = inl (cc)

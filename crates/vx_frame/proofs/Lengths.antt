@@ -123,7 +123,7 @@ start_length T s main = len_behind (set_stack T) (one (Call (s.entry main)) ∷ 
 pub word_length : (T : Target) (s : Spots) (f p : ℕ) (word : VirtualWord) → length (word_words (at_spots T s) f p word) ≡ length (word_words T f p word)
 word_length T s f p (Planned r w items) = plan_length T s f p items
 word_length T s f p (Drain n) = refl
-word_length T s f p (Transfer q) = refl
+word_length T s f p (Transfer q) = way_length T s f (p + 1) q
 word_length T s f p (Choice test q) = len_both (before (at_spots T s) f (test ∷ [])) (one (BranchOn (branch_of T f (test ∷ []) test) true (s.starts f q)) ∷ []) (before T f (test ∷ [])) (one (BranchOn (branch_of T f (test ∷ []) test) true (T.starts f q)) ∷ []) (ap length (before_same T s f (test ∷ []))) refl
 word_length T s f p (Calls g arguments result) = len_both (call_words (at_spots T s) f p g arguments) (back_words (at_spots T s) f p result) (call_words T f p g arguments) (back_words T f p result) (call_length T s f p g arguments) (back_same T s f p result)
 word_length T s f p (Returns x) = ap length (return_same T s f x)

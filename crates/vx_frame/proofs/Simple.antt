@@ -2,6 +2,7 @@
 use Rattle.std.proofs.Common.{◌≡◌, ◌<◌, ◌≤◌, ◌⊎◌, inl, inr, ⊎_elim, ◌+◌, ◌*◌, ◌^◌, ℕ, suc, ℤ, Bool, true, false, cond, Some, None, List, [], ◌∷◌, ◌++◌, length, length-append, refl, sym, ap, ◌∙◌, subst, arith}
 use Rattle.std.specs.Prelude.{if◌then◌else◌, slice_get}
 use Rattle.std.specs.List.{filter}
+use Rattle.std.proofs.lemmas.Bool.{and_parts, eqb-true}
 use Rattle.std.proofs.lemmas.List.{append-nil}
 use Rattle.vx_base.specs.Outcome.{Outcome, Traps, On, Over, step_then}
 use Rattle.vx_base.specs.declared.outcome.Trap.{Trap}
@@ -13,7 +14,7 @@ use Rattle.vx_flow.specs.Meaning.{Hop, Active, setting_of, by_test, body_hop, ho
 use Rattle.vx_flow.specs.Sound.{Sound, SoundFlow, is_sound_flow}
 use Rattle.vx_flow.proofs.SoundFlowLaw.{told}
 use Rattle.vx_isa.specs.declared.operation.Register.TheVariants.{General, Branch, Link}
-use Rattle.vx_isa.specs.declared.operation.Operation.TheVariants.{BranchOn, EndByTrap}
+use Rattle.vx_isa.specs.declared.operation.Operation.TheVariants.{BranchOn, EndByTrap, Goto}
 use Rattle.vx_isa.specs.declared.program.Word.{Word}
 use Rattle.vx_isa.specs.declared.program.WordProgram.{WordProgram}
 use Rattle.vx_isa.specs.Machine.{State, To, TrapsBy, register, is_one, lead_of, leads_to, unless_stuck, effect, issue, step}
@@ -23,10 +24,10 @@ use Rattle.vx_mixed.specs.declared.layout.VWords.{VWords}
 use Rattle.vx_mixed.specs.Laid.{moves, word_hop, laid_hop, some_word_hop, laid_body, laid_program}
 use Rattle.vx_mixed.specs.LaidSettled.{LeadsTo, bank_in}
 use Rattle.vx_regs.specs.Intervals.{IsLive, here, beyond, is_live, word_writes}
-use Rattle.vx_frame.specs.Target.{Target, answer, stack_on, kept, is_slotted, holds_branch, same_file, scratch, general_of, branch_of, register_of, slotted, before, one, word_words, memory_words}
+use Rattle.vx_frame.specs.Target.{Target, answer, stack_on, kept, is_slotted, holds_branch, same_file, scratch, general_of, branch_of, register_of, slotted, before, follows, one, word_words, memory_words}
 use Rattle.vx_frame.specs.Tied.{Tied, AtWord, Below, begins_at, Shows, holds, is_place, moved, word_at}
 use Rattle.vx_frame.specs.Carried.{Carries, IsFunctionOf, IsMapped, is_spilled}
-use Rattle.vx_frame.specs.Planned.{CarriesOn, EndsAlike, Simple, SimpleLaw}
+use Rattle.vx_frame.specs.Planned.{CarriesOn, EndsAlike, FallsNext, Simple, SimpleLaw}
 use Rattle.vx_frame.proofs.Calm.{seen, AllFit, after, not_stuck, effect_is}
 use Rattle.vx_frame.proofs.Forms.{one_alike}
 use Rattle.vx_frame.proofs.FromGraph.{branch_plain, test_proper}
@@ -74,7 +75,6 @@ module _ (T : Target) (flow : Flow) (ls : List VWords) (w : WordProgram) (sound 
 
   -- where memory and the registers of live values are kept
   pub record KeptBy (q : ℕ) (v : State) : Type 0 where
-    pub forth : Forth T.machine w fit u v
     pub place : v.place ≡ T.starts F q
     pub quiet : Quiet u v
     pub memory : v.memory ≡ u.memory
@@ -82,28 +82,21 @@ module _ (T : Target) (flow : Flow) (ls : List VWords) (w : WordProgram) (sound 
     pub link : seen v.registers Link ≡ seen u.registers Link
     pub registers : (y : ℕ) → IsLive (T.layout F) p y → is_slotted (kept T F y) ≡ false → seen v.registers (register_of T F (y ∷ []) y) ≡ seen u.registers (register_of T F (y ∷ []) y)
 
-  moved_on : (q : ℕ) (v : State) → next (laid_program flow ls) r ≡ On (record r { block = suc q }) → LeadsTo p word q → ((y : ℕ) → IsIn y (word_writes word) → ⊥) → KeptBy q v → CarriesOn T flow ls w r u
-  moved_on q v steps leads none k = record {
-    after = record r { block = suc q };
-    to = v;
-    words = k.forth.0;
-    over_values = steps;
-    over_registers = λ n. run_reach (step T.machine (1 ∷ []) w) (λ x. x.out) (suc k.forth.0) n u v k.forth.1;
-    tied = record {
-      sp = tied.sp;
-      is = tied.is;
-      calm = k.quiet.calm;
-      deep = tied.deep;
-      stack = λ c lt. k.stack c lt ∙ tied.stack c lt;
-      at = inr (q, record { block = refl; place = k.place; values = values; link = link_stays T u v tied.sp F (ap (λ g. word_at g tied.sp) k.memory) k.link ∙ at_word.link });
-      arrays = record { row = λ a array has. let x = tied.arrays.row a array has in record { size = x.size; is = λ i n lt e. ap (λ g. word_at g (begins_at T tied.sp F a + i)) k.memory ∙ x.is i n lt e } };
-      first = tied.first;
-      last = tied.last;
-      below = subst (λ g. Below T flow ls S.arrays g tied.sp r.base r.waiting) (sym k.memory) tied.below;
-      input = k.quiet.input ∙ tied.input;
-      out = k.quiet.out ∙ tied.out;
-      safe = safe_after (next (laid_program flow ls)) (λ x. x.state.out) 1 r (record r { block = suc q }) (reach_one (next (laid_program flow ls)) r (record r { block = suc q }) steps) tied.safe;
-    };
+  tied_on : (q : ℕ) (v : State) → next (laid_program flow ls) r ≡ On (record r { block = suc q }) → LeadsTo p word q → ((y : ℕ) → IsIn y (word_writes word) → ⊥) → KeptBy q v → Tied T flow ls (record r { block = suc q }) v
+  tied_on q v steps leads none k = record {
+    sp = tied.sp;
+    is = tied.is;
+    calm = k.quiet.calm;
+    deep = tied.deep;
+    stack = λ c lt. k.stack c lt ∙ tied.stack c lt;
+    at = inr (q, record { block = refl; place = k.place; values = values; link = link_stays T u v tied.sp F (ap (λ g. word_at g tied.sp) k.memory) k.link ∙ at_word.link });
+    arrays = record { row = λ a array has. let x = tied.arrays.row a array has in record { size = x.size; is = λ i n lt e. ap (λ g. word_at g (begins_at T tied.sp F a + i)) k.memory ∙ x.is i n lt e } };
+    first = tied.first;
+    last = tied.last;
+    below = subst (λ g. Below T flow ls S.arrays g tied.sp r.base r.waiting) (sym k.memory) tied.below;
+    input = k.quiet.input ∙ tied.input;
+    out = k.quiet.out ∙ tied.out;
+    safe = safe_after (next (laid_program flow ls)) (λ x. x.state.out) 1 r (record r { block = suc q }) (reach_one (next (laid_program flow ls)) r (record r { block = suc q }) steps) tied.safe;
   }
     where
       values : (y : ℕ) (n : ℤ) → IsLive (T.layout F) q y → S.values y ≡ Some n → Shows T tied.sp F y n (holds T v tied.sp F y)
@@ -113,9 +106,18 @@ module _ (T : Target) (flow : Flow) (ls : List VWords) (w : WordProgram) (sound 
           by true h s = subst (λ x. Shows T tied.sp F y n x) (sym (ap (λ g. word_at g (tied.sp + T.slot F y)) k.memory)) s
           by false h s = subst (λ x. Shows T tied.sp F y n x) (sym (k.registers y (beyond plan (none y) leads live) h)) s
 
+  moved_on : (q : ℕ) (v : State) → next (laid_program flow ls) r ≡ On (record r { block = suc q }) → LeadsTo p word q → ((y : ℕ) → IsIn y (word_writes word) → ⊥) → Forth T.machine w fit u v → KeptBy q v → CarriesOn T flow ls w r u
+  moved_on q v steps leads none forth k = record {
+    after = record r { block = suc q };
+    to = v;
+    words = forth.0;
+    over_values = steps;
+    over_registers = λ n. run_reach (step T.machine (1 ∷ []) w) (λ x. x.out) (suc forth.0) n u v forth.1;
+    tied = tied_on q v steps leads none k;
+  }
+
   passed_on : (q : ℕ) (v : Passed T.machine w fit u (T.starts F q)) → KeptBy q v.to
   passed_on q v = record {
-    forth = v.forth;
     place = v.place;
     quiet = v.quiet;
     memory = v.memory;
@@ -132,14 +134,40 @@ module _ (T : Target) (flow : Flow) (ls : List VWords) (w : WordProgram) (sound 
       let a = wait_step T.machine w fit u n tied.calm st.0 in
       let b : Passed T.machine w fit u (T.starts r.function (suc p)) = subst (Passed T.machine w fit u) (sym next_place) a in
       moved_on T flow ls w sound carries fit r u tied p (Drain n) block plan (suc p) b.to (next_is T flow ls w sound carries fit r u tied p (Drain n) block plan (moves p (suc p) r.state) refl) refl (λ y i. i)
-      (passed_on T flow ls w sound carries fit r u tied p (Drain n) block plan (suc p) b)
+      b.forth (passed_on T flow ls w sound carries fit r u tied p (Drain n) block plan (suc p) b)
 
-  transfer_word : (q : ℕ) → slice_get (T.layout r.function).words p ≡ Some (Transfer q) → CarriesOn T flow ls w r u
-  transfer_word q plan =
-      let st = stands T flow ls w sound carries fit r u tied p (Transfer q) block plan in
-      let a = goto_step T.machine w fit u (T.starts r.function q) tied.calm st.0 in
-      moved_on T flow ls w sound carries fit r u tied p (Transfer q) block plan q a.to (next_is T flow ls w sound carries fit r u tied p (Transfer q) block plan (moves p q r.state) refl) refl (λ y i. i)
-      (passed_on T flow ls w sound carries fit r u tied p (Transfer q) block plan q a)
+  -- a transfer to the next place may have no word
+  transfer_word : (q : ℕ) → slice_get (T.layout r.function).words p ≡ Some (Transfer q) → CarriesOn T flow ls w r u ⊎ FallsNext T flow ls p r u
+  transfer_word q plan = by (follows T r.function (p + 1) q) refl (stands T flow ls w sound carries fit r u tied p (Transfer q) block plan) (following T flow ls w sound carries fit r u tied p (Transfer q) block plan)
+    where
+      Way : Bool → List Word
+      Way b = if b then [] else one (Goto (T.starts r.function q)) ∷ []
+
+      steps : next (laid_program flow ls) r ≡ On (record r { block = suc q })
+      steps = next_is T flow ls w sound carries fit r u tied p (Transfer q) block plan (moves p q r.state) refl
+
+      by : (b : Bool) → follows T r.function (p + 1) q ≡ b → Stands w.words u.place (Way b) → T.starts r.function (suc p) ≡ u.place + length (Way b) → CarriesOn T flow ls w r u ⊎ FallsNext T flow ls p r u
+      by true e st next_place =
+          let same : p + 1 ≡ q = eqb-true (p + 1) q (and_parts _ _ e).0 in
+          let behind : q ≡ suc p = omega arith in
+          let here : u.place ≡ u.place + 0 = omega arith in
+          let place : u.place ≡ T.starts r.function q = here ∙ sym next_place ∙ ap (T.starts r.function) (sym behind) in
+          let kept_here : KeptBy T flow ls w sound carries fit r u tied p (Transfer q) block plan q u = record {
+            place = place;
+            quiet = record { calm = tied.calm; input = refl; out = refl };
+            memory = refl;
+            stack = λ k lt. refl;
+            link = refl;
+            registers = λ y l h. refl;
+          } in
+          inr (record {
+            falls = record { after = record r { block = suc q }; place = q; block = refl; over_values = steps; tied = tied_on T flow ls w sound carries fit r u tied p (Transfer q) block plan q u steps refl (λ y i. i) kept_here };
+            place = behind;
+            function = refl;
+          })
+      by false e st next_place =
+          let a = goto_step T.machine w fit u (T.starts r.function q) tied.calm st.0 in
+          inl (moved_on T flow ls w sound carries fit r u tied p (Transfer q) block plan q a.to steps refl (λ y i. i) a.forth (passed_on T flow ls w sound carries fit r u tied p (Transfer q) block plan q a))
 
   -- an end by a trap
   ends_word : (k : Trap) → slice_get (T.layout r.function).words p ≡ Some (Ends k) → EndsAlike T flow ls w r u
@@ -252,9 +280,11 @@ module _ (T : Target) (flow : Flow) (ls : List VWords) (w : WordProgram) (sound 
   jump_at : slice_get w.words got.to.place ≡ Some Jump
   jump_at = subst (λ x. slice_get w.words x ≡ Some Jump) (sym got.place) (stands_right w.words u.place (before T Fn Name) (Jump ∷ []) word_at_it).0
 
+  jumped : (place : ℕ) → lead_of got.to (BranchOn (branch_of T Fn Name test) true (T.starts Fn q) ∷ []) ≡ To place → Forth T.machine w fit u (after w got.to Jump place)
+  jumped place lead = then_forth T.machine w fit u got.to (after w got.to Jump place) got.comes (word_step T.machine w fit got.to Jump place got.quiet.calm jump_at (record { addresses = refl; input = refl }) lead)
+
   kept_by : (place c : ℕ) → place ≡ T.starts Fn c → lead_of got.to (BranchOn (branch_of T Fn Name test) true (T.starts Fn q) ∷ []) ≡ To place → KeptBy T flow ls w sound carries fit r u tied p (Choice test q) block plan c (after w got.to Jump place)
   kept_by place c at lead = record {
-    forth = then_forth T.machine w fit u got.to (after w got.to Jump place) got.comes (word_step T.machine w fit got.to Jump place got.quiet.calm jump_at (record { addresses = refl; input = refl }) lead);
     place = at;
     quiet = record { calm = refl; input = got.quiet.input; out = append-nil got.to.out ∙ got.quiet.out };
     memory = got.memory;
@@ -275,7 +305,7 @@ module _ (T : Target) (flow : Flow) (ls : List VWords) (w : WordProgram) (sound 
   chosen z e true o =
       let lead : lead_of got.to (BranchOn (branch_of T Fn Name test) true (T.starts Fn q) ∷ []) ≡ To (T.starts Fn q) = ap (λ x. if is_one x then To (T.starts Fn q) else To (got.to.place + 1)) (shown z e) ∙ ap (λ b. if b then To (T.starts Fn q) else To (got.to.place + 1)) o in
       moved_on T flow ls w sound carries fit r u tied p (Choice test q) block plan q (after w got.to Jump (T.starts Fn q))
-      (steps (moves p q r.state) (ap Hops e ∙ ap (λ b. if b then moves p q r.state else moves p (suc p) r.state) (one_alike z ∙ o))) (inl refl) (λ y i. i) (kept_by (T.starts Fn q) q refl lead)
+      (steps (moves p q r.state) (ap Hops e ∙ ap (λ b. if b then moves p q r.state else moves p (suc p) r.state) (one_alike z ∙ o))) (inl refl) (λ y i. i) (jumped (T.starts Fn q) lead) (kept_by (T.starts Fn q) q refl lead)
   chosen z e false o =
       let lead : lead_of got.to (BranchOn (branch_of T Fn Name test) true (T.starts Fn q) ∷ []) ≡ To (got.to.place + 1) = ap (λ x. if is_one x then To (T.starts Fn q) else To (got.to.place + 1)) (shown z e) ∙ ap (λ b. if b then To (T.starts Fn q) else To (got.to.place + 1)) o in
       let f = following T flow ls w sound carries fit r u tied p (Choice test q) block plan in
@@ -283,7 +313,7 @@ module _ (T : Target) (flow : Flow) (ls : List VWords) (w : WordProgram) (sound 
       let g = got.place in
       let at : got.to.place + 1 ≡ T.starts Fn (suc p) = omega arith in
       moved_on T flow ls w sound carries fit r u tied p (Choice test q) block plan (suc p) (after w got.to Jump (got.to.place + 1))
-      (steps (moves p (suc p) r.state) (ap Hops e ∙ ap (λ b. if b then moves p q r.state else moves p (suc p) r.state) (one_alike z ∙ o))) (inr refl) (λ y i. i) (kept_by (got.to.place + 1) (suc p) at lead)
+      (steps (moves p (suc p) r.state) (ap Hops e ∙ ap (λ b. if b then moves p q r.state else moves p (suc p) r.state) (one_alike z ∙ o))) (inr refl) (λ y i. i) (jumped (got.to.place + 1) lead) (kept_by (got.to.place + 1) (suc p) at lead)
 
   known : (x : Content) → r.state.values test ≡ x → CarriesOn T flow ls w r u
   known None e = absurd (safe_end (next (laid_program flow ls)) (λ x. x.state.out) r (Outcome.Wrong r.state.out) (steps Hop.Wrong (ap Hops e)) tied.safe tt)
@@ -298,11 +328,11 @@ simple_law T flow ls w sound carries fit r u tied p word block plan simple = by 
     is_sound : SoundFlow flow
     is_sound = (told flow (is_sound_flow flow) refl).0 sound
 
-    by : (word : VirtualWord) → slice_get (T.layout r.function).words p ≡ Some word → Simple word → CarriesOn T flow ls w r u ⊎ EndsAlike T flow ls w r u
-    by (Drain n) e s = inl (drain_word T flow ls w is_sound carries fit r u tied p block n e)
-    by (Transfer q) e s = inl (transfer_word T flow ls w is_sound carries fit r u tied p block q e)
-    by (Choice test q) e s = inl (choice_word T flow ls w is_sound carries fit r u tied p block test q e)
-    by (Ends k) e s = inr (ends_word T flow ls w is_sound carries fit r u tied p block k e)
+    by : (word : VirtualWord) → slice_get (T.layout r.function).words p ≡ Some word → Simple word → (CarriesOn T flow ls w r u ⊎ EndsAlike T flow ls w r u) ⊎ FallsNext T flow ls p r u
+    by (Drain n) e s = inl (inl (drain_word T flow ls w is_sound carries fit r u tied p block n e))
+    by (Transfer q) e s = ⊎_elim (λ a. inl (inl a)) (λ a. inr a) (transfer_word T flow ls w is_sound carries fit r u tied p block q e)
+    by (Choice test q) e s = inl (inl (choice_word T flow ls w is_sound carries fit r u tied p block test q e))
+    by (Ends k) e s = inl (inr (ends_word T flow ls w is_sound carries fit r u tied p block k e))
     by (Planned region number items) e s = absurd s
     by (Call g arguments result) e s = absurd s
     by (Return x) e s = absurd s

@@ -3,7 +3,7 @@ use Rattle.std.proofs.Common.{◌≡◌, ◌<◌, ◌≤◌, ◌⊎◌, inl, inr
 use Rattle.std.specs.Prelude.{if◌then◌else◌, slice_get}
 use Rattle.std.specs.List.{list_all}
 use Rattle.std.specs.Cmp.Derive.{both_true}
-use Rattle.std.proofs.lemmas.Bool.{and_parts, le-leb, ltb-true}
+use Rattle.std.proofs.lemmas.Bool.{and_parts, eqb-true, le-leb, ltb-true}
 use Rattle.vx_base.specs.declared.arithmetic.Code.{Code}
 use Rattle.vx_base.specs.declared.arithmetic.Code.TheVariants.{Add, ToBranch}
 use Rattle.vx_base.specs.declared.arithmetic.Compare.TheVariants.{Ltu, Ne}
@@ -36,7 +36,7 @@ use Rattle.vx_mixed.specs.declared.layout.Laid.TheVariants.{Plain, Split}
 use Rattle.vx_mixed.specs.declared.layout.VirtualWord.{VirtualWord}
 use Rattle.vx_mixed.specs.declared.layout.VirtualWord.TheVariants.{Planned, Drain, Transfer, Choice, Call as Calls, Return as Returns, Ends}
 use Rattle.vx_mixed.specs.declared.layout.VWords.{VWords}
-use Rattle.vx_mixed.specs.LaidSettled.{laid_reads, laid_writes, Plans}
+use Rattle.vx_mixed.specs.LaidSettled.{laid_reads, laid_writes, LeadsTo, Plans}
 use Rattle.vx_mixed.specs.Origins.{ComesFrom, graph_op}
 use Rattle.vx_frame.specs.Target.{Target, answer, general, general_of, branch_of, register_of, stack_on, holds_branch, is_slotted, kept, slotted, once, parameters_of, one, together, pause, in_flight, settled, set_stack, slots_in_flight, load_slot, store_slot, load_slots, store_slots, if_some, before, behind, leads, carried, carried_items, plan_word, plan_words, landing_words, on_clusters, move_stack, save_words, reload_words, fetch_words, fetched, cluster_of_operand, argument_words, result_words, call_words, back_words, is_caller, answer_words, return_words, follows, way, link_words, entry_words, word_words, start_words, bytes, first_frame, memory_words}
 use Rattle.vx_frame.specs.Placed.{Depth, Labelled, laid_pieces, landing_of, item_landings, word_landings, landing_pieces, function_pieces, functions_pieces, all_pieces, words_of}
@@ -51,7 +51,7 @@ use Rattle.vx_frame.proofs.FromGraph.{undismissed, op_proper}
 use Rattle.vx_frame.proofs.Limits.{Limits, limits}
 use Rattle.vx_frame.proofs.Pauses.{flight_few, slots_few}
 use Rattle.vx_frame.proofs.Proper.{ProperOp}
-use Rattle.vx_frame.proofs.Stands.{word_stands, landing_stands, entry_stands, entry_next, depth_stands}
+use Rattle.vx_frame.proofs.Stands.{word_stands, word_next, landing_stands, entry_stands, entry_next, depth_stands}
 use Rattle.vx_frame.proofs.Steps.{Stands}
 
 -- words of which some stand at a place of a program
@@ -68,18 +68,25 @@ some_before xs ys le = let a = length-append xs ys in omega arith
 some_after : (xs ys : List Word) → 1 ≤ length ys → 1 ≤ length (xs ++ ys)
 some_after xs ys le = let a = length-append xs ys in omega arith
 
--- a place of a layout has words
-words_some : (T : Target) (f p : ℕ) (word : VirtualWord) → 1 ≤ length (word_words T f p word)
-words_some T f p (Planned rg wd items) = some_behind (before T f (laid_reads items)) (behind T f items) (plan_word T f p items)
-words_some T f p (Drain n) = omega arith
-words_some T f p (Transfer q) = omega arith
-words_some T f p (Choice test q) = some_behind (before T f (test ∷ [])) [] (one (BranchOn (branch_of T f (test ∷ []) test) true (T.starts f q)))
+-- a place of a layout has words, or another one follows at once
+abbrev HasWords : (T : Target) (f p : ℕ) → VirtualWord → Type 0
+HasWords T f p word = (1 ≤ length (word_words T f p word)) ⊎ ((length (word_words T f p word) ≡ 0) × LeadsTo p word (p + 1))
+
+words_some : (T : Target) (f p : ℕ) (word : VirtualWord) → HasWords T f p word
+words_some T f p (Planned rg wd items) = inl (some_behind (before T f (laid_reads items)) (behind T f items) (plan_word T f p items))
+words_some T f p (Drain n) = inl (omega arith)
+words_some T f p (Transfer q) = by (follows T f (p + 1) q) refl
+  where
+    by : (b : Bool) → follows T f (p + 1) q ≡ b → (1 ≤ length (if b then [] else one (Goto (T.starts f q)) ∷ [])) ⊎ ((length (if b then [] else one (Goto (T.starts f q)) ∷ []) ≡ 0) × LeadsTo p (Transfer q) (p + 1))
+    by true e = inr (refl, eqb-true (p + 1) q (and_parts _ _ e).0)
+    by false e = inl (omega arith)
+words_some T f p (Choice test q) = inl (some_behind (before T f (test ∷ [])) [] (one (BranchOn (branch_of T f (test ∷ []) test) true (T.starts f q))))
 words_some T f p (Calls g arguments result) =
     let test : Word = one (Compute 0 (ToBranch Ltu) (InBranch (record { cluster = 0; number = 0 })) (Held (stack_on 0)) (Number (bytes (T.globals + T.frame)))) in
     let rest : List Word = one (BranchOn 0 true T.depth_trap) ∷ (move_stack T (neg_ℤ (bytes T.frame)) ++ (argument_words T f g (parameters_of T g) arguments ++ one (Call (T.entry g)) ∷ [])) in
-    some_before (call_words T f p g arguments) (back_words T f p result) (some_behind (save_words T f (T.saved f p)) (pause (in_flight T.machine 0 (test ∷ [])) ++ rest) test)
-words_some T f p (Returns x) = some_after (fetch_words T f 0 x) (answer_words T f x ++ one Return ∷ []) (some_behind (answer_words T f x) [] (one Return))
-words_some T f p (Ends k) = omega arith
+    inl (some_before (call_words T f p g arguments) (back_words T f p result) (some_behind (save_words T f (T.saved f p)) (pause (in_flight T.machine 0 (test ∷ [])) ++ rest) test))
+words_some T f p (Returns x) = inl (some_after (fetch_words T f 0 x) (answer_words T f x ++ one Return ∷ []) (some_behind (answer_words T f x) [] (one Return)))
+words_some T f p (Ends k) = inl (omega arith)
 
 landing_some : (T : Target) (f q : ℕ) (items : List Laid) → 1 ≤ length (landing_words T f items q)
 landing_some T f q items = some_behind (behind T f items) [] (one (Goto (T.starts f q)))
@@ -152,10 +159,20 @@ module _ (T : Target) (flow : Flow) (ls : List VWords) (w : WordProgram) (sound 
 
   -- places that are there
 
-  start_below : (f q : ℕ) → f < Count → q < length (T.layout f).words → T.starts f q < W
-  start_below f q lt below =
+  start_within : (f q k : ℕ) → f < Count → q < length (T.layout f).words → length (T.layout f).words ≤ q + k → T.starts f q < W
+  start_within f q zero lt below most = absurd (omega arith)
+  start_within f q (suc k) lt below most =
       let x = get_some (T.layout f).words q below in
-      stands_below w.words (T.starts f q) (word_words T f q x.0) (words_some T f q x.0) (word_stands T flow.main Count w.words carries.placed f q x.0 lt x.1)
+      ⊎_elim
+      (λ some. stands_below w.words (T.starts f q) (word_words T f q x.0) some (word_stands T flow.main Count w.words carries.placed f q x.0 lt x.1))
+      (λ none. (let inside = (carries.functions f lt).mapped.settled.inside q (q + 1) x.0 x.1 none.1 in
+      let next : T.starts f (suc q) < W = start_within f (suc q) k lt (omega arith) (omega arith) in
+      let place = word_next T flow.main Count w.words carries.placed f q x.0 lt x.1 in
+      let length_is = none.0 in omega arith))
+      (words_some T f q x.0)
+
+  start_below : (f q : ℕ) → f < Count → q < length (T.layout f).words → T.starts f q < W
+  start_below f q lt below = start_within f q (length (T.layout f).words) lt below (omega arith)
 
   entry_below : (f : ℕ) → f < Count → T.entry f < W
   entry_below f lt = by (entry_words T f) refl (entry_stands T flow.main Count w.words carries.placed f lt)
@@ -420,7 +437,7 @@ module _ (T : Target) (flow : Flow) (ls : List VWords) (w : WordProgram) (sound 
     word_right : (p : ℕ) (word : VirtualWord) → HasWordAt p word → Words (word_words T f p word)
     word_right p (Planned rg wd items) e = planned_right p rg wd items e
     word_right p (Drain n) e = ((let a = mapped.brief p n e in omega arith, inr refl, tt), tt)
-    word_right p (Transfer q) e = (has_one W N (Goto (T.starts f q)) (start_below f q lt (mapped.settled.inside p q (Transfer q) e refl)), tt)
+    word_right p (Transfer q) e = way_right (p + 1) q (mapped.settled.inside p q (Transfer q) e refl)
     word_right p (Choice test q) e = right_append W N (before T f (test ∷ [])) (one (BranchOn (branch_of T f (test ∷ []) test) true (T.starts f q)) ∷ []) (before_right f (test ∷ [])) (has_one W N (BranchOn (branch_of T f (test ∷ []) test) true (T.starts f q)) (start_below f q lt (mapped.settled.inside p q (Choice test q) e (inl refl))), tt)
     word_right p (Calls g arguments result) e = right_append W N (call_words T f p g arguments) (back_words T f p result) (call_right f p g arguments (called_below p g arguments result e)) (back_right f p result)
     word_right p (Returns x) e = return_right f x

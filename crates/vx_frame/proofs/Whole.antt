@@ -1,5 +1,5 @@
 -- The step laws together: with every input the words do what the laid-out words do.
-use Rattle.std.proofs.Common.{◌≡◌, ◌⊎◌, inl, inr, ⊎_elim, ◌+◌, ℕ, zero, suc, ℤ, Option, Some, None, List, [], ◌∷◌, length, true, refl, ap, ◌∙◌, arith}
+use Rattle.std.proofs.Common.{◌≡◌, ◌≤◌, ◌⊎◌, inl, inr, ⊎_elim, ◌+◌, ℕ, zero, suc, ℤ, Option, Some, None, List, [], ◌∷◌, length, true, refl, sym, ap, ◌∙◌, subst, arith}
 use Rattle.std.specs.Prelude.{slice_get}
 use Rattle.vx_base.specs.Outcome.{Outcome, Goes, Same, NeverFails, On, Over, step_then, run}
 use Rattle.vx_base.proofs.Meeting.{MeetsAt, Far, Done, meeting_same}
@@ -18,10 +18,11 @@ use Rattle.vx_mixed.proofs.LaidGrows.{laid_grows}
 use Rattle.vx_frame.specs.Target.{Target}
 use Rattle.vx_frame.specs.Tied.{Tied, AtWord, AtEntry}
 use Rattle.vx_frame.specs.Carried.{Carries}
-use Rattle.vx_frame.specs.Planned.{WordsFit, CarriesOn, FallsThrough, EndsAlike, StartsTied}
+use Rattle.vx_frame.specs.Planned.{WordsFit, CarriesOn, FallsThrough, FallsNext, EndsAlike, StartsTied}
 use Rattle.vx_frame.specs.Whole.{WholeLaw}
 use Rattle.vx_frame.proofs.Calls.{call_law}
 use Rattle.vx_frame.proofs.Entry.{entry_law}
+use Rattle.vx_frame.proofs.Frames.{get_beyond}
 use Rattle.vx_frame.proofs.Planned.{planned_law}
 use Rattle.vx_frame.proofs.Returning.{return_law}
 use Rattle.vx_frame.proofs.Simple.{simple_law}
@@ -48,15 +49,15 @@ module _ (T : Target) (flow : Flow) (ls : List VWords) (w : WordProgram) (sound 
       ∙ ap (λ b. laid_hop (setting_of P r.base) (T.layout r.function) b r.state) block ∙ ap (λ y. some_word_hop (setting_of P r.base) p y r.state) plan) in
       safe_end (next P) (λ q. q.state.out) r (Outcome.Wrong r.state.out) steps tied.safe tt
 
-  at_place : (r : Active) (u : State) → Tied T flow ls r u → (p : ℕ) → r.block ≡ suc p → (o : Option VirtualWord) → slice_get (T.layout r.function).words p ≡ o → Meets r u
+  at_place : (r : Active) (u : State) → Tied T flow ls r u → (p : ℕ) → r.block ≡ suc p → (o : Option VirtualWord) → slice_get (T.layout r.function).words p ≡ o → Meets r u ⊎ FallsNext T flow ls p r u
   at_place r u tied p block None e = absurd (no_word r u tied p block e)
-  at_place r u tied p block (Some (Planned region word items)) e = inl (planned_law T flow ls w sound carries fit r u tied p region word items block e)
+  at_place r u tied p block (Some (Planned region word items)) e = inl (inl (planned_law T flow ls w sound carries fit r u tied p region word items block e))
   at_place r u tied p block (Some (Drain n)) e = simple_law T flow ls w sound carries fit r u tied p (Drain n) block e tt
   at_place r u tied p block (Some (Transfer q)) e = simple_law T flow ls w sound carries fit r u tied p (Transfer q) block e tt
   at_place r u tied p block (Some (Choice test q)) e = simple_law T flow ls w sound carries fit r u tied p (Choice test q) block e tt
   at_place r u tied p block (Some (Ends k)) e = simple_law T flow ls w sound carries fit r u tied p (Ends k) block e tt
-  at_place r u tied p block (Some (Call g arguments result)) e = call_law T flow ls w sound carries fit r u tied p g arguments result block e
-  at_place r u tied p block (Some (Return x)) e = return_law T flow ls w sound carries fit r u tied p x block e
+  at_place r u tied p block (Some (Call g arguments result)) e = inl (call_law T flow ls w sound carries fit r u tied p g arguments result block e)
+  at_place r u tied p block (Some (Return x)) e = inl (return_law T flow ls w sound carries fit r u tied p x block e)
 
   -- at each bound both runs meet, here or farther on
 
@@ -79,8 +80,19 @@ module _ (T : Target) (flow : Flow) (ls : List VWords) (w : WordProgram) (sound 
   then_values n r s u k (Far i j out le lo e d) = Far (suc i) j out (omega arith) lo (values_on r s i k ∙ e) d
   then_values n r s u k (Done i j o v e d) = Done (suc i) j o v (values_on r s i k ∙ e) d
 
+  -- a layout has so many words from a place on at most, so places without words come to one that has some
+  from_place : (n k : ℕ) (r : Active) (u : State) → ((s : Active) (v : State) → Tied T flow ls s v → MeetAt n s v) → (tied : Tied T flow ls r u) (p : ℕ) → r.block ≡ suc p → length (T.layout r.function).words ≤ p + k → MeetAt (suc n) r u
+  from_place n zero r u more tied p block most = absurd (no_word r u tied p block (get_beyond (T.layout r.function).words p (omega arith)))
+  from_place n (suc k) r u more tied p block most = ⊎_elim
+      (λ (m : Meets r u). after_meeting n r u more m)
+      (λ (f : FallsNext T flow ls p r u).
+      let left : length (T.layout r.function).words ≤ f.falls.place + k = (let e = f.place in omega arith) in
+      let most_next : length (T.layout f.falls.after.function).words ≤ f.falls.place + k = subst (λ g. length (T.layout g).words ≤ f.falls.place + k) (sym f.function) left in
+      then_values (suc n) r f.falls.after u f.falls.over_values (from_place n k f.falls.after u more f.falls.tied f.falls.place f.falls.block most_next))
+      (at_place r u tied p block (slice_get (T.layout r.function).words p) refl)
+
   from_word : (n : ℕ) (r : Active) (u : State) → ((s : Active) (v : State) → Tied T flow ls s v → MeetAt n s v) → (tied : Tied T flow ls r u) (p : ℕ) → r.block ≡ suc p → MeetAt (suc n) r u
-  from_word n r u more tied p block = after_meeting n r u more (at_place r u tied p block (slice_get (T.layout r.function).words p) refl)
+  from_word n r u more tied p block = from_place n (length (T.layout r.function).words) r u more tied p block (omega arith)
 
   from_entry : (n : ℕ) (r : Active) (u : State) → ((s : Active) (v : State) → Tied T flow ls s v → MeetAt n s v) → CarriesOn T flow ls w r u ⊎ FallsThrough T flow ls r u → MeetAt (suc n) r u
   from_entry n r u more (inl c) = then_more n r u c (more c.after c.to c.tied)

@@ -58,12 +58,6 @@ pub record EndsAlike (T : Target) (flow : Flow) (ls : List VWords) (w : WordProg
   pub over_values : next (laid_program flow ls) r ≡ Over outcome
   pub over_registers : words_from T.machine (1 ∷ []) w words u ≡ outcome
 
--- so are these carried
-abbrev pub SimpleLaw : Type 0
-SimpleLaw =
-    (T : Target) (flow : Flow) (ls : List VWords) (w : WordProgram) → is_sound_flow flow ≡ true → Carries T flow ls w → WordsFit T.machine w →
-    (r : Active) (u : State) → Tied T flow ls r u → (p : ℕ) (word : VirtualWord) → r.block ≡ suc p → slice_get (T.layout r.function).words p ≡ Some word → Simple word → CarriesOn T flow ls w r u ⊎ EndsAlike T flow ls w r u
-
 -- one step over values, to a word of a layout, and no word over registers
 pub record FallsThrough (T : Target) (flow : Flow) (ls : List VWords) (r : Active) (u : State) : Type 0 where
   pub after : Active
@@ -71,6 +65,18 @@ pub record FallsThrough (T : Target) (flow : Flow) (ls : List VWords) (r : Activ
   pub block : after.block ≡ suc place
   pub over_values : next (laid_program flow ls) r ≡ On after
   pub tied : Tied T flow ls after u
+
+-- so does a transfer to the next place of its function, where it has no word
+pub record FallsNext (T : Target) (flow : Flow) (ls : List VWords) (p : ℕ) (r : Active) (u : State) : Type 0 where
+  pub falls : FallsThrough T flow ls r u
+  pub place : falls.place ≡ suc p
+  pub function : falls.after.function ≡ r.function
+
+-- so are these carried
+abbrev pub SimpleLaw : Type 0
+SimpleLaw =
+    (T : Target) (flow : Flow) (ls : List VWords) (w : WordProgram) → is_sound_flow flow ≡ true → Carries T flow ls w → WordsFit T.machine w →
+    (r : Active) (u : State) → Tied T flow ls r u → (p : ℕ) (word : VirtualWord) → r.block ≡ suc p → slice_get (T.layout r.function).words p ≡ Some word → Simple word → (CarriesOn T flow ls w r u ⊎ EndsAlike T flow ls w r u) ⊎ FallsNext T flow ls p r u
 
 -- and so is the start of a function: its link is stored in its frame where it calls, and parameters come to their registers. Where
 -- nothing is to be done, no word stands there

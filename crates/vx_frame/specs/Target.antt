@@ -413,7 +413,7 @@ choice_words T f test q = before T f (test ∷ []) ++ one (BranchOn (branch_of T
 abbrev pub word_words : Target → (function place : ℕ) → VirtualWord → List Word
 word_words T f p (Planned r w items) = plan_words T f p items
 word_words T f p (Drain n) = waits n ∷ []
-word_words T f p (Transfer q) = one (Goto (T.starts f q)) ∷ []
+word_words T f p (Transfer q) = way T f (p + 1) q
 word_words T f p (Choice test q) = choice_words T f test q
 word_words T f p (Calls g arguments result) = call_words T f p g arguments ++ back_words T f p result
 word_words T f p (Returns x) = return_words T f x

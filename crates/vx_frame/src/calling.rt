@@ -380,7 +380,7 @@ pub(crate) fn push_return(
 
 /// The way to a place of a layout, where another one is next: no word where it is that one, but for empty cycles, which are not to
 /// stand behind a pause.
-fn push_way(
+pub(crate) fn push_way(
     alloc: Global,
     whole: &Whole,
     function: u32,

@@ -7,8 +7,8 @@ ghost use Rattle.vx_frame.specs.Placed.{laid_pieces, word_landings, landing_piec
 ghost use Rattle.vx_frame.specs.Placing.{starts_from, landings_from, mark_of, marks_from, places_at, all_places, functions_begin, functions_end, at_spots, spots_of, standing, OneSplit};
 ghost use Rattle.vx_frame.specs.Seen.{seen};
 
-use crate::calling::{push_back, push_call, push_entry, push_return, push_start};
-use crate::gathering::{FunctionPlaces, Sizes, Whole, start, words_of};
+use crate::calling::{push_back, push_call, push_entry, push_return, push_start, push_way};
+use crate::gathering::{FunctionPlaces, Sizes, Whole, words_of};
 use crate::planning::{plan_of, push_choice, push_item_landings, push_plan};
 use crate::slotting::{push_idle, push_one, sum};
 use std::alloc::Global;
@@ -56,8 +56,7 @@ fn push_word(
             Ok(0)
         }
         VirtualWord::Transfer(to) => {
-            let target = start(whole, function, *to);
-            push_one(alloc, Operation::Goto { target }, words)?;
+            push_way(alloc, whole, function, sum(place, 1)?, *to, words)?;
             Ok(0)
         }
         VirtualWord::Choice { test, place: to } => {
