@@ -36,14 +36,14 @@ use Rattle.vx_mixed.specs.Laid.{laid_program, laid_hop, some_word_hop, laid_body
 use Rattle.vx_mixed.specs.LaidSettled.{bank_in}
 use Rattle.vx_mixed.specs.Origins.{CallsAs}
 use Rattle.vx_regs.specs.Intervals.{IsLive, here, beyond, is_live, result_of}
-use Rattle.vx_frame.specs.Target.{Target, answer, kept, is_slotted, is_branch, home, holds_branch, branch_of, stack_on, parameters_of, register_of, one, pause, in_flight, settled, bytes, save_words, move_stack, argument_words, call_words, back_words, memory_words}
+use Rattle.vx_frame.specs.Target.{Target, answer, kept, is_slotted, is_branch, home, holds_branch, branch_of, stack_on, parameters_of, register_of, one, pause, in_flight, bytes, save_words, move_stack, argument_words, call_words, back_words, memory_words}
 use Rattle.vx_frame.specs.Tied.{Tied, AtWord, Shows, Row, Arrays, Waits, Below, IsResult, own_arrays, row_in, begins_at, is_place, moved as moved_number, word_at}
 use Rattle.vx_frame.specs.Carried.{Carries, IsFunctionOf, NeedsSlot, is_passed, is_saved, is_spilled, Survives, words_before}
 use Rattle.vx_frame.proofs.Bytes.{unsigned_small}
 use Rattle.vx_frame.proofs.Calm.{seen, AllFit, after, put_at, put_off, not_stuck, effect_is}
 use Rattle.vx_frame.proofs.Frames.{get_below, get_in, frame_room, before_all, array_kind, IsGlobal, IsLocal, global_row, slot_free, link_in_frame, below_keep}
 use Rattle.vx_frame.proofs.Live.{live_bank}
-use Rattle.vx_frame.proofs.Names.{in_register, named, number_at, apart_mixed, not_zero, not_general}
+use Rattle.vx_frame.proofs.Names.{in_register, named, number_at, apart_mixed, not_zero, not_general, not_first_branch}
 use Rattle.vx_frame.proofs.FromGraph.{branch_plain, place_made, whole_bank, has_whole, whole_is}
 use Rattle.vx_frame.proofs.Passing.{CanFetch, OperandAt, OperandsAt, Passed as Given, pass_run}
 use Rattle.vx_frame.proofs.Simple.{few_one}
@@ -54,7 +54,7 @@ use Rattle.vx_flow.specs.declared.graph.Global.{Global}
 use Rattle.std.specs.Prelude.{slice_index_or}
 use Rattle.vx_frame.proofs.Enough.{some_cluster, some_issue}
 use Rattle.vx_frame.proofs.Moves.{Moved, move_run, down}
-use Rattle.vx_frame.proofs.Slots.{Usable, Stored, store_list, stack_no_answer}
+use Rattle.vx_frame.proofs.Slots.{Usable, Stored, as_kept, store_list, stack_no_answer}
 use Rattle.vx_frame.proofs.Stands.{word_stands, depth_stands}
 use Rattle.vx_frame.proofs.Word.{own_name, kept_shows}
 use Rattle.vx_frame.specs.Planned.{CarriesOn, EndsAlike, CallLaw}
@@ -126,10 +126,19 @@ module _ (T : Target) (flow : Flow) (ls : List VWords) (w : WordProgram) (sound 
   abbrev Compares : Word
   Compares = one (Compute 0 (ToBranch Ltu) (Branch (record { cluster = 0; number = 0 })) (Held (stack_on 0)) (Number (bytes (T.globals + T.frame))))
 
-  abbrev Tests : List Word
-  Tests = settled T (Compares ∷ []) ++ one (BranchOn 0 true T.depth_trap) ∷ (Down ++ Passes)
+  abbrev Saves : List Word
+  Saves = save_words T F Saved
 
-  stands_call : Stands w.words u.place (save_words T F Saved ++ Tests)
+  abbrev Pause : ℕ
+  Pause = in_flight T.machine 0 (Compares ∷ Saves)
+
+  abbrev Late : List Word
+  Late = pause Pause
+
+  abbrev Branching : List Word
+  Branching = one (BranchOn 0 true T.depth_trap) ∷ (Down ++ Passes)
+
+  stands_call : Stands w.words u.place (Compares ∷ ((Saves ++ Late) ++ Branching))
   stands_call = stands_left w.words u.place (call_words T F p g arguments) (back_words T F p result) (subst (λ q. Stands w.words q (call_words T F p g arguments ++ back_words T F p result)) (sym at_word.place) (word_stands T flow.main (length flow.functions) w.words carries.placed F p (Call g arguments result) below plan))
 
   -- saved values
@@ -151,20 +160,7 @@ module _ (T : Target) (flow : Flow) (ls : List VWords) (w : WordProgram) (sound 
     not_stack = λ k. not_general T F of.mapped Saved v k 1 (bank v i) (omega arith);
   }
 
-  saved : Stored T.machine w fit T F Sp carries.memory small some Saved u Saved (length (save_words T F Saved))
-  saved = store_list T.machine w fit T F Sp carries.memory small some Saved Saved u tied.calm (stands_left w.words u.place (save_words T F Saved) Tests stands_call) tied.stack usable
-      (λ v i. let a = of.framed.slot_to v (needs v i) in let b = room in omega arith) (λ x y i j e. of.framed.slots x y (needs x i) (needs y j) e)
-
-  abbrev A : State
-  A = saved.to
-
-  tests : Stands w.words A.place Tests
-  tests = subst (λ q. Stands w.words q Tests) (sym saved.place) (stands_right w.words u.place (save_words T F Saved) Tests stands_call)
-
   -- the test of the depth
-
-  stack_a : (k : ℕ) → k < T.machine.clusters → register A (General (stack_on k)) ≡ pos (4 * Sp)
-  stack_a k lt = saved.others (General (stack_on k)) (stack_no_answer k) ∙ tied.stack k lt
 
   abbrev Flag : Register
   Flag = Branch (record { cluster = 0; number = 0 })
@@ -172,57 +168,72 @@ module _ (T : Target) (flow : Flow) (ls : List VWords) (w : WordProgram) (sound 
   below_limit : Bool
   below_limit = nat_lt (4 * Sp) (4 * (T.globals + T.frame))
 
-  compared_is : one_if (compare_of Ltu (register A (General (stack_on 0))) (bytes (T.globals + T.frame))) ≡ one_if below_limit
+  compared_is : one_if (compare_of Ltu (register u (General (stack_on 0))) (bytes (T.globals + T.frame))) ≡ one_if below_limit
   unfolding below_limit
   compared_is =
       let c = carries.small in
       let x = room in
       let y = within_memory in
-      ap (λ z. one_if (compare_of Ltu z (bytes (T.globals + T.frame)))) (stack_a 0 some)
+      ap (λ z. one_if (compare_of Ltu z (bytes (T.globals + T.frame)))) (tied.stack 0 some)
       ∙ ap (λ n. one_if (nat_lt n (unsigned (bytes (T.globals + T.frame))))) (unsigned_small (4 * Sp) (omega arith))
       ∙ ap (λ n. one_if (nat_lt (4 * Sp) n)) (unsigned_small (4 * (T.globals + T.frame)) (omega arith))
     where
       within_memory : T.globals + T.frame ≤ memory_words T
       within_memory = let d = tied.deep.most in let j : ℕ = deepest - 1 in let q : deepest ≡ suc j = omega arith in let m : T.frame * deepest ≡ T.frame * j + T.frame = ap (λ y. T.frame * y) q ∙ grind arith in omega arith
 
-  compared : Set T.machine w fit A Flag (one_if below_limit)
-  compared = set_step T.machine w fit A (Compute 0 (ToBranch Ltu) Flag (Held (stack_on 0)) (Number (bytes (T.globals + T.frame)))) Flag (one_if below_limit) saved.quiet.calm tests.0 (record { bad = refl; takes = refl; prints = refl; stores = λ m. refl; leads = λ ops. refl }) refl refl compared_is
+  compared : Set T.machine w fit u Flag (one_if below_limit)
+  compared = set_step T.machine w fit u (Compute 0 (ToBranch Ltu) Flag (Held (stack_on 0)) (Number (bytes (T.globals + T.frame)))) Flag (one_if below_limit) tied.calm stands_call.0 (record { bad = refl; takes = refl; prints = refl; stores = λ m. refl; leads = λ ops. refl }) refl refl compared_is
 
   abbrev B : State
   B = compared.to
 
-  abbrev Pause : ℕ
-  Pause = in_flight T.machine 0 (Compares ∷ [])
+  stack_b : (k : ℕ) → k < T.machine.clusters → register B (General (stack_on k)) ≡ pos (4 * Sp)
+  stack_b k lt = compared.others (General (stack_on k)) (λ e. absurd (cc)) ∙ tied.stack k lt
 
-  abbrev Late : List Word
-  Late = pause Pause
+  -- values are saved meanwhile
 
-  abbrev Branching : List Word
-  Branching = one (BranchOn 0 true T.depth_trap) ∷ (Down ++ Passes)
+  saving : Stands w.words (u.place + 1) (Saves ++ Late)
+  saving = stands_left w.words (u.place + 1) (Saves ++ Late) Branching stands_call.1
 
-  paused : Paused T.machine w fit B (B.place + length Late)
-  paused = pause_step T.machine w fit B Pause compared.quiet.calm (subst (λ q. Stands w.words q Late) (sym compared.place) (stands_left w.words (A.place + 1) Late Branching tests.1))
+  saved : Stored T.machine w fit T F Sp carries.memory small some Saved B Saved (length Saves)
+  saved = store_list T.machine w fit T F Sp carries.memory small some Saved Saved B compared.quiet.calm (subst (λ q. Stands w.words q Saves) (sym compared.place) (stands_left w.words (u.place + 1) Saves Late saving)) stack_b usable
+      (λ v i. let a = of.framed.slot_to v (needs v i) in let b = room in omega arith) (λ x y i j e. of.framed.slots x y (needs x i) (needs y j) e)
 
-  branching : Stands w.words ((A.place + 1) + length Late) Branching
-  branching = stands_right w.words (A.place + 1) Late Branching tests.1
+  abbrev A : State
+  A = saved.to
+
+  saved_at : (v : ℕ) → IsIn v Saved → word_at A.memory (Sp + T.slot F v) ≡ as_kept (holds_branch T F v) (seen u.registers (register_of T F Saved v))
+  saved_at v i = saved.at v i ∙ ap (as_kept (holds_branch T F v)) (compared.others (register_of T F Saved v) (not_first_branch T F of.mapped Saved v (bank v i) (ap is_slotted (survives v i).register) (some_issue T.machine carries.machine)))
+
+  saved_elsewhere : (x : ℕ) → ((v : ℕ) → IsIn v Saved → x ≢ Sp + T.slot F v) → word_at A.memory x ≡ word_at u.memory x
+  saved_elsewhere x h = saved.elsewhere x h ∙ ap (λ m. word_at m x) compared.memory
+
+  place_a : A.place ≡ (u.place + 1) + length Saves
+  place_a = let x = saved.place in let y = compared.place in omega arith
+
+  paused : Paused T.machine w fit A (A.place + length Late)
+  paused = pause_step T.machine w fit A Pause saved.quiet.calm (subst (λ q. Stands w.words q Late) (sym place_a) (stands_right w.words (u.place + 1) Saves Late saving))
+
+  branching : Stands w.words ((u.place + 1) + length (Saves ++ Late)) Branching
+  branching = stands_right w.words (u.place + 1) (Saves ++ Late) Branching stands_call.1
 
   abbrev C : State
   C = paused.to
 
-  place_c : C.place ≡ (A.place + 1) + length Late
-  place_c = let x = paused.place in let y = compared.place in omega arith
+  place_c : C.place ≡ (u.place + 1) + length (Saves ++ Late)
+  place_c = let x = paused.place in let y = place_a in let z = length-append Saves Late in omega arith
 
   comes_c : Comes T.machine w fit u C
-  comes_c = comes_on T.machine w fit u A C saved.comes (comes_on T.machine w fit A B C (forth_comes T.machine w fit A B compared.forth) paused.comes)
+  comes_c = comes_on T.machine w fit u B C (forth_comes T.machine w fit u B compared.forth) (comes_on T.machine w fit B A C saved.comes paused.comes)
 
   quiet_c : Quiet u C
-  quiet_c = quiet_on u A C saved.quiet (quiet_on A B C compared.quiet paused.quiet)
+  quiet_c = quiet_on u B C compared.quiet (quiet_on B A C saved.quiet paused.quiet)
 
   memory_c : C.memory ≡ A.memory
-  memory_c = paused.memory ∙ compared.memory
+  memory_c = paused.memory
 
   others_c : (q : Register) → (q ≢ Flag) → (q ≢ General answer) → seen C.registers q ≡ seen u.registers q
-  others_c q nf na = ap (λ x. seen x q) paused.registers ∙ compared.others q nf ∙ saved.others q na
+  others_c q nf na = ap (λ x. seen x q) paused.registers ∙ saved.others q na ∙ compared.others q nf
 
   abbrev Branches : Word
   Branches = one (BranchOn 0 true T.depth_trap)
@@ -231,7 +242,7 @@ module _ (T : Target) (flow : Flow) (ls : List VWords) (w : WordProgram) (sound 
   branch_at = subst (λ q. slice_get w.words q ≡ Some Branches) (sym place_c) branching.0
 
   lead_is : lead_of C (BranchOn 0 true T.depth_trap ∷ []) ≡ (if below_limit then To T.depth_trap else To (C.place + 1))
-  lead_is = ap (λ z. if is_one z then To T.depth_trap else To (C.place + 1)) (ap (λ x. seen x Flag) paused.registers ∙ compared.at) ∙ ap (λ b. if b then To T.depth_trap else To (C.place + 1)) (one_of below_limit)
+  lead_is = ap (λ z. if is_one z then To T.depth_trap else To (C.place + 1)) (ap (λ x. seen x Flag) paused.registers ∙ saved.others Flag (λ e. absurd (cc)) ∙ compared.at) ∙ ap (λ b. if b then To T.depth_trap else To (C.place + 1)) (one_of below_limit)
 
   -- where one more function may be active, the frame of the next one is there
 
@@ -341,7 +352,7 @@ module _ (T : Target) (flow : Flow) (ls : List VWords) (w : WordProgram) (sound 
 
       -- slots of values that are not saved stay
       slot_same : (v : ℕ) → NeedsSlot T F v → is_slotted (kept T F v) ≡ true → word_at A.memory (Sp + T.slot F v) ≡ word_at u.memory (Sp + T.slot F v)
-      slot_same v n e = saved.elsewhere (Sp + T.slot F v) (λ x i q.
+      slot_same v n e = saved_elsewhere (Sp + T.slot F v) (λ x i q.
           let same : v ≡ x = of.framed.slots v x n (needs x i) (omega arith) in
           let z : is_slotted (kept T F v) ≡ false = ap (λ y. is_slotted (kept T F y)) same ∙ ap is_slotted (survives x i).register in
           let y : true ≡ false = sym e ∙ z in cc)
@@ -415,15 +426,13 @@ module _ (T : Target) (flow : Flow) (ls : List VWords) (w : WordProgram) (sound 
       back_is : P.place + 1 ≡ T.back F p
       back_is =
           let a = passed.place in
-          let b = saved.place in
           let c = place_c in
           let d : E.place ≡ D.place + length Down = moved.place in
-          let e = carries.placed.backs F p g arguments result plan in
+          let e : T.back F p ≡ T.starts F p + suc (length ((Saves ++ Late) ++ Branching)) = carries.placed.backs F p g arguments result plan in
           let h = at_word.place in
-          let l1 : length (save_words T F Saved ++ Tests) ≡ length (save_words T F Saved) + length Tests = length-append (save_words T F Saved) Tests in
+          let l1 : length ((Saves ++ Late) ++ Branching) ≡ length (Saves ++ Late) + suc (length (Down ++ Passes)) = length-append (Saves ++ Late) Branching in
           let l2 : length Passes ≡ length (argument_words T F g Parameters arguments) + 1 = length-append (argument_words T F g Parameters arguments) (Jump ∷ []) in
           let l3 : length (Down ++ Passes) ≡ length Down + length Passes = length-append Down Passes in
-          let l4 : length Tests ≡ suc (length Late + suc (length (Down ++ Passes))) = ap suc (length-append Late Branching) in
           omega arith
 
       link_is : G.registers Link ≡ wrap (pos (T.back F p))
@@ -438,10 +447,10 @@ module _ (T : Target) (flow : Flow) (ls : List VWords) (w : WordProgram) (sound 
       above_base x le = passed.elsewhere x (λ v i e. let a = its.framed.slot_to v (is_passed i) in let c = base_is in omega arith) ∙ ap (λ m. word_at m x) memory_e
 
       in_globals : (x : ℕ) → x < T.globals → word_at G.memory x ≡ word_at u.memory x
-      in_globals x lt = passed.elsewhere x (λ v i e. let a = enough in let c = base_is in omega arith) ∙ ap (λ m. word_at m x) memory_e ∙ saved.elsewhere x (λ v i e. let a = enough in omega arith)
+      in_globals x lt = passed.elsewhere x (λ v i e. let a = enough in let c = base_is in omega arith) ∙ ap (λ m. word_at m x) memory_e ∙ saved_elsewhere x (λ v i e. let a = enough in omega arith)
 
       free_above : (x : ℕ) → Sp ≤ x → ((v : ℕ) → NeedsSlot T F v → x ≢ Sp + T.slot F v) → word_at G.memory x ≡ word_at u.memory x
-      free_above x le h = above_base x le ∙ saved.elsewhere x (λ v i. h v (needs v i))
+      free_above x le h = above_base x le ∙ saved_elsewhere x (λ v i. h v (needs v i))
 
       -- rows
 
@@ -491,7 +500,7 @@ module _ (T : Target) (flow : Flow) (ls : List VWords) (w : WordProgram) (sound 
               let number = in_register (kept T F v) h in
               let there : IsIn v Saved = of.saved.saves p g v arguments result plan (record { live = lives; other = no_; number = number.0; register = number.1 }) in
               let was : Shows T Sp F v n (seen u.registers (register_of T F Saved v)) = subst (λ x. Shows T Sp F v n x) (ap (register u) (own_name T F v (v ∷ []) Saved h)) k in
-              subst (λ x. Shows T Sp F v n x) (sym (above_base (Sp + T.slot F v) (omega arith) ∙ saved.at v there)) (kept_shows T Sp F v n (seen u.registers (register_of T F Saved v)) (branch_plain T F Any graph_sound of.mapped.code v) was)
+              subst (λ x. Shows T Sp F v n x) (sym (above_base (Sp + T.slot F v) (omega arith) ∙ saved_at v there)) (kept_shows T Sp F v n (seen u.registers (register_of T F Saved v)) (branch_plain T F Any graph_sound of.mapped.code v) was)
 
       waiting_arrays : Arrays T Globals G.memory Sp r.base F Rows
       waiting_arrays = record { row = λ a array has. by a array has (array_kind T flow carries.some_frame carries.globals sound F ls tied.is of.framed a array has) (tied.arrays.row a array has) }

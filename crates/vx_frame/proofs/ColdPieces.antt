@@ -1,5 +1,5 @@
 -- Words of calls, returns and entries that begin with nothing in flight meet nothing in flight.
-use Rattle.std.proofs.Common.{◌≡◌, ◌≤◌, ⊎_elim, ◌+◌, ◌-◌, ℕ, zero, suc, ℤ, pos, neg_ℤ, Bool, true, false, Option, Some, None, List, [], ◌∷◌, ◌++◌, append_assoc, map, refl, sym, ap, ◌∙◌, subst, arith}
+use Rattle.std.proofs.Common.{◌≡◌, ◌≢◌, ◌≤◌, ⊎_elim, ◌+◌, ◌-◌, ℕ, zero, suc, ℤ, pos, neg_ℤ, Bool, true, false, Option, Some, None, List, [], ◌∷◌, ◌++◌, append_assoc, map, refl, sym, ap, ◌∙◌, subst, arith}
 use Rattle.std.specs.Prelude.{if◌then◌else◌, max}
 use Rattle.vx_base.specs.declared.arithmetic.Code.TheVariants.{Add, ToBranch}
 use Rattle.vx_base.specs.declared.arithmetic.Compare.TheVariants.{Ltu, Ne}
@@ -7,6 +7,7 @@ use Rattle.vx_base.specs.declared.outcome.Trap.{Trap}
 use Rattle.vx_base.proofs.Pieces.{cold}
 use Rattle.vx_flow.specs.declared.graph.Operand.{Operand}
 use Rattle.vx_flow.specs.declared.graph.Operand.TheVariants.{Held as HeldValue, Number as AsNumber, Stack}
+use Rattle.vx_flow.specs.Effects.{IsIn}
 use Rattle.vx_flow.specs.Walk.{numbers}
 use Rattle.vx_isa.specs.declared.operation.Register.{Register}
 use Rattle.vx_isa.specs.declared.operation.Register.TheVariants.{General as InGeneral, Branch as InBranch}
@@ -14,12 +15,13 @@ use Rattle.vx_isa.specs.declared.operation.Source.{Source}
 use Rattle.vx_isa.specs.declared.operation.Source.TheVariants.{Held, Number}
 use Rattle.vx_isa.specs.declared.operation.GeneralRegister.{GeneralRegister}
 use Rattle.vx_isa.specs.declared.operation.Operation.{Operation}
-use Rattle.vx_isa.specs.declared.operation.Operation.TheVariants.{Compute, Move, Select, Load, Store, Goto, BranchOn, Call, Return, ToLink, EndByTrap, Halt}
+use Rattle.vx_isa.specs.declared.operation.Operation.TheVariants.{Compute, Move, Load, Store, Goto, BranchOn, Call, Return, ToLink, EndByTrap, Halt}
 use Rattle.vx_isa.specs.declared.program.Word.{Word}
 use Rattle.vx_isa.specs.Fits.{destinations, fits}
-use Rattle.vx_frame.specs.Target.{Target, answer, general, general_of, branch_of, stack_on, home, holds_branch, is_slotted, kept, parameters_of, one, together, pause, latest, in_flight, settled, load_slot, store_slot, store_slots, on_clusters, move_stack, fetch_words, fetched, cluster_of_operand, argument_words, result_words, call_words, is_caller, answer_words, return_words, start_words, bytes, first_frame}
+use Rattle.vx_frame.specs.Target.{Target, answer, general, general_of, branch_of, register_of, stack_on, home, holds_branch, is_slotted, kept, parameters_of, one, together, pause, latest, in_flight, settled, load_slot, on_clusters, move_stack, fetch_words, fetched, cluster_of_operand, argument_words, save_words, result_words, call_words, is_caller, answer_words, return_words, start_words, bytes, first_frame}
 use Rattle.vx_frame.proofs.Early.{falls, Jumps, Touches}
 use Rattle.vx_frame.proofs.Pauses.{flight_append, flight_pause}
+use Rattle.vx_frame.proofs.SaveHeats.{tested, saves_late}
 use Rattle.vx_frame.proofs.Heats.{lift, stays, FineWords, word_fine, wait_fine, stop_fine}
 
 module _ (T : Target) (heat : ℕ → Register → ℕ) where
@@ -65,26 +67,6 @@ module _ (T : Target) (heat : ℕ → Register → ℕ) where
 
   pub store_fine : (k : ℕ) (o : ℤ) (r : GeneralRegister) (a : Source) (rest : List Word) (e : Register → ℕ) → Fine cold rest e → Fine cold (one (Store k o r a) ∷ rest) e
   store_fine k o r a rest e f = pass (Store k o r a) rest e refl refl (λ q j. j) f
-
-  -- saving
-
-  save_one : (f v : ℕ) (names : List ℕ) (rest : List Word) (e : Register → ℕ) → Fine cold rest e → Fine cold (store_slot T f v (general_of T f names v) (branch_of T f names v) ++ rest) e
-  save_one f v names rest e more = by (holds_branch T f v)
-    where
-      by : (b : Bool) → Fine cold ((if b
-          then settled T (one (Select 0 answer (record { cluster = 0; number = branch_of T f names v }) (Number (pos 1)) (Number (pos 0))) ∷ []) ++ one (Store 0 (bytes (T.slot f v)) (stack_on 0) (Held answer)) ∷ []
-          else one (Store (home T f v) (bytes (T.slot f v)) (stack_on (home T f v)) (Held (general_of T f names v))) ∷ []) ++ rest) e
-      by true =
-          let pick : Operation = Select 0 answer (record { cluster = 0; number = branch_of T f names v }) (Number (pos 1)) (Number (pos 0)) in
-          let last : Word = one (Store 0 (bytes (T.slot f v)) (stack_on 0) (Held answer)) in
-          subst (λ ws. Fine cold (one pick ∷ ws) e) (sym (append_assoc (pause (in_flight T.machine 0 (one pick ∷ []))) (last ∷ []) rest))
-          (settle (pick ∷ []) (last ∷ rest) e refl (λ q j. j) (store_fine 0 (bytes (T.slot f v)) (stack_on 0) (Held answer) rest e more))
-      by false = store_fine (home T f v) (bytes (T.slot f v)) (stack_on (home T f v)) (Held (general_of T f names v)) rest e more
-
-  pub save_fine : (f : ℕ) (names vs : List ℕ) (rest : List Word) (e : Register → ℕ) → Fine cold rest e → Fine cold (store_slots T f names vs ++ rest) e
-  save_fine f names [] rest e more = more
-  save_fine f names (v ∷ vs) rest e more = subst (λ ws. Fine cold ws e) (sym (append_assoc (store_slot T f v (general_of T f names v) (branch_of T f names v)) (store_slots T f names vs) rest))
-      (save_one f v names (store_slots T f names vs ++ rest) e (save_fine f names vs rest e more))
 
   -- operands
 
@@ -159,17 +141,21 @@ module _ (T : Target) (heat : ℕ → Register → ℕ) where
       settle (on_clusters T.machine.clusters g) rest e (spread_falls g (λ k ops. refl) 0 T.machine.clusters) (λ q j. spread_jumps g (λ k q ops x. x) 0 T.machine.clusters q j)
       (call_fine (T.entry main) (one (Halt (Held answer)) ∷ []) e (halt_fine (Held answer) [] e (nothing_fine e)))
 
-  pub call_words_fine : (f p g : ℕ) (xs : List Operand) (e : Register → ℕ) → Fine cold (call_words T f p g xs) e
-  call_words_fine f p g xs e =
+  -- the depth is tested while values are saved, which are in other registers than the test
+  pub call_words_fine : (f p g : ℕ) (xs : List Operand) (e : Register → ℕ) → ((v : ℕ) → IsIn v (T.saved f p) → register_of T f (T.saved f p) v ≢ tested) → Fine cold (call_words T f p g xs) e
+  call_words_fine f p g xs e others =
       let w3 : List Word = argument_words T f g (parameters_of T g) xs ++ one (Call (T.entry g)) ∷ [] in
       let w2 : List Word = move_stack T (neg_ℤ (bytes T.frame)) ++ w3 in
       let w1 : List Word = one (BranchOn 0 true T.depth_trap) ∷ w2 in
       let test : Operation = Compute 0 (ToBranch Ltu) (InBranch (record { cluster = 0; number = 0 })) (Held (stack_on 0)) (Number (bytes (T.globals + T.frame))) in
-      save_fine f (T.saved f p) (T.saved f p) (settled T (one test ∷ []) ++ w1) e
-      (settle (test ∷ []) w1 e refl (λ q j. j)
+      let saves : List Word = save_words T f (T.saved f p) in
+      let t : ℕ = max 0 (latest T.machine (test ∷ [])) - 1 in
+      subst (λ ws. Fine cold (one test ∷ ws) e) (sym (append_assoc saves (pause (in_flight T.machine t saves)) w1))
+      (word_fine T.machine heat 0 cold cold [] (test ∷ []) (saves ++ (pause (in_flight T.machine t saves) ++ w1)) e refl (stays 1 cold) (λ q r j. absurd j) (λ r t. refl)
+      (saves_late T heat f (T.saved f p) t (T.saved f p) w1 e others
       (branch_fine 0 T.depth_trap true w2 e
       (move_fine (neg_ℤ (bytes T.frame)) w3 e
-      (arguments_fine f g (parameters_of T g) xs (one (Call (T.entry g)) ∷ []) e (call_fine (T.entry g) [] e (nothing_fine e))))))
+      (arguments_fine f g (parameters_of T g) xs (one (Call (T.entry g)) ∷ []) e (call_fine (T.entry g) [] e (nothing_fine e)))))))
 
   -- the link is loaded while the answer may be in flight
   one_by_one : (f : ℕ) (x : Operand) (rest : List Word) (e : Register → ℕ) → Fine cold rest e → Fine cold ((settled T (one (Move 0 answer (fetched T f x)) ∷ one (Load 0 (general 0 3) (pos 0) (stack_on 0) false) ∷ []) ++ settled T (one (ToLink (Held (general 0 3))) ∷ [])) ++ rest) e

@@ -253,7 +253,8 @@ module _ (T : Target) (flow : Flow) (ls : List VWords) (w : WordProgram) (sound 
         let leaves : List Word = one (BranchOn 0 true T.depth_trap) ∷ (down ++ (passes ++ jumps)) in
         let passed : Words (passes ++ jumps) = append passes jumps (arguments_other g (parameters_of T g) xs below (λ v i. is_passed i) n) (calls g below, tt) in
         let branched : Words leaves = (leaves_by_depth, append down (passes ++ jumps) (move_stack_other (neg_ℤ (bytes T.frame)) (inr refl)) passed) in
-        append (save_words T f (T.saved f p)) (settled T (one test ∷ []) ++ leaves) (store_slots_other (T.saved f p) (T.saved f p) saved) (one_settled (one test) leaves tests_depth branched)
+        let saves : List Word = save_words T f (T.saved f p) in
+        append (settled T (one test ∷ saves)) leaves (settled_other (one test ∷ saves) (tests_depth, store_slots_other (T.saved f p) (T.saved f p) saved)) branched
 
     back_other : (p : ℕ) (result : Option ℕ) → AllNeed (T.saved f p) → ((v : ℕ) → result ≡ Some v → IfSlotted v) → Words (back_words T f p result)
     back_other p result saved n =

@@ -1,6 +1,6 @@
 -- The words at the start of a function and behind a call reload values while nothing else is in flight.
 use Rattle.std.specs.Prelude.{if◌then◌else◌}
-use Rattle.std.proofs.Common.{◌≡◌, ℕ, suc, pos, Bool, true, false, Option, Some, List, [], ◌∷◌, ◌++◌, append_assoc, refl, sym, ap, subst, arith}
+use Rattle.std.proofs.Common.{◌≡◌, ◌≤◌, ℕ, suc, pos, Bool, true, false, Option, Some, List, [], ◌∷◌, ◌++◌, append_assoc, refl, sym, ap, subst, arith}
 use Rattle.std.proofs.lemmas.List.{append-nil}
 use Rattle.vx_base.proofs.Pieces.{cold, fine_append}
 use Rattle.vx_flow.specs.declared.graph.Bank.{Bank}
@@ -17,7 +17,7 @@ use Rattle.vx_mixed.specs.Settled.{NoTwice}
 use Rattle.vx_regs.specs.Intervals.{IsBusy, is_live}
 use Rattle.vx_frame.specs.Target.{Target, general, kept, is_slotted, stack_on, one, pause, in_flight, load_slots, reload_words, result_words, settled, is_caller, follows, way, link_words, entry_words, call_words, back_words, bytes}
 use Rattle.vx_frame.specs.Carried.{IsMapped, IsSaved, CallsAt}
-use Rattle.vx_frame.proofs.Names.{not_general, apart_registers}
+use Rattle.vx_frame.proofs.Names.{not_general, not_first_branch, apart_registers}
 use Rattle.vx_frame.proofs.Live.{live_bank}
 use Rattle.vx_frame.proofs.Early.{words_kind, words_cool}
 use Rattle.vx_frame.proofs.Loads.{Names, loads_fine}
@@ -79,11 +79,11 @@ module _ (T : Target) (heat : ℕ → Register → ℕ) (f : ℕ) (mapped : IsMa
   survives p g arguments result at v i = let a = saved.saved p g v arguments result at i in (is_live a.live, live_bank T f mapped sound (suc p) v a.live, ap is_slotted a.register)
 
   -- a call and what stands behind it
-  pub call_fine : (p g : ℕ) (arguments : List Operand) (result : Option ℕ) (e : Register → ℕ) → CallsAt T f p g arguments result → F cold (call_words T f p g arguments ++ back_words T f p result) e
-  call_fine p g arguments result e at =
+  pub call_fine : (p g : ℕ) (arguments : List Operand) (result : Option ℕ) (e : Register → ℕ) → CallsAt T f p g arguments result → 1 ≤ T.machine.issue → F cold (call_words T f p g arguments ++ back_words T f p result) e
+  call_fine p g arguments result e at some =
       let reload : List Word = reload_words T f (T.saved f p) in
       let back : F cold (back_words T f p result) e =
       move_fine T heat (bytes T.frame) (result_words T f result ++ reload) e
       (result_fine T heat f result reload e
       (subst (λ ws. F cold ws e) (append-nil reload) (reload_fine (suc p) (T.saved f p) [] e (survives p g arguments result at) (saved.saved_once p) (nothing_fine T heat e)))) in
-      fine_append (words_kind T.machine) (words_cool T.machine) heat cold cold e (call_words T f p g arguments) (back_words T f p result) (call_words_fine T heat f p g arguments cold) back
+      fine_append (words_kind T.machine) (words_cool T.machine) heat cold cold e (call_words T f p g arguments) (back_words T f p result) (call_words_fine T heat f p g arguments cold (λ v i. let h = survives p g arguments result at v i in not_first_branch T f mapped (T.saved f p) v h.1 h.2 some)) back

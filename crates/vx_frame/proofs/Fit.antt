@@ -303,8 +303,9 @@ module _ (T : Target) (flow : Flow) (ls : List VWords) (w : WordProgram) (sound 
         let branches : List Word = one (BranchOn 0 true T.depth_trap) ∷ (down ++ (passes ++ calls)) in
         let passed : Words (passes ++ calls) = good_append M passes calls (arguments_good g (parameters_of T g) xs h) (one_good M carries.machine l (Call (T.entry g)) first refl refl refl, tt) in
         let branched : Words branches = (one_good M carries.machine l (BranchOn 0 true T.depth_trap) first refl (both_true first_branch refl) refl, good_append M down (passes ++ calls) (move_stack_good (neg_ℤ (bytes T.frame))) passed) in
-        good_append M (save_words T f (T.saved f p)) (settled T (one test ∷ []) ++ branches) (save_good (T.saved f p) saved)
-        (one_settled test branches (one_good M carries.machine l test first refl (both_true (own 0 1 (omega arith) first) refl) (both_true first_branch refl)) branched)
+        let saves : List Word = save_words T f (T.saved f p) in
+        good_append M (settled T (one test ∷ saves)) branches
+        (settled_good (one test ∷ saves) (one_good M carries.machine l test first refl (both_true (own 0 1 (omega arith) first) refl) (both_true first_branch refl), save_good (T.saved f p) saved)) branched
 
     back_good : (p : ℕ) (result : Option ℕ) → ((v : ℕ) → IsIn v (T.saved f p) → Named f (T.saved f p) v) → ((v : ℕ) → result ≡ Some v → Named f (v ∷ []) v × (holds_branch T f v ≡ false)) → Words (back_words T f p result)
     back_good p result saved h =

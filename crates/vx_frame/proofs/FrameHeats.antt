@@ -221,7 +221,7 @@ module _ (T : Target) (flow : Flow) (ls : List VWords) (w : WordProgram) (sound 
     inner p (Drain n) e = ends (H p) (H (suc p)) (Behind p (Drain n)) (waits n ∷ []) (next_there p (Drain n) e refl) (drain_fine T heat f M S p n e)
     inner p (Transfer q) e = way_fine p q (Behind p (Transfer q)) e
     inner p (Choice test q) e = ends (H p) (H (suc p)) (Behind p (Choice test q)) (choice_words T f test q) (next_there p (Choice test q) e (inr refl)) (choice_fine T heat f M S l p test q e (leads_there p q (Choice test q) e (inl refl)))
-    inner p (Calls g arguments result) e = less (H p) cold (Behind p (Calls g arguments result)) (word_words T f p (Calls g arguments result)) (cold_here p (Calls g arguments result) e tt) (call_fine T heat f M S (carries.functions f k.lt).saved p g arguments result (Behind p (Calls g arguments result)) e)
+    inner p (Calls g arguments result) e = less (H p) cold (Behind p (Calls g arguments result)) (word_words T f p (Calls g arguments result)) (cold_here p (Calls g arguments result) e tt) (call_fine T heat f M S (carries.functions f k.lt).saved p g arguments result (Behind p (Calls g arguments result)) e l.issue)
     inner p (Returns x) e = less (H p) cold (Behind p (Returns x)) (return_words T f x) (cold_here p (Returns x) e tt) (return_fine T heat f x (Behind p (Returns x)))
     inner p (Ends j) e = stop_fine T.machine heat (H p) (EndByTrap j ∷ []) [] (Behind p (Ends j)) refl (λ q r i. absurd i) refl (λ r t. ⊎_elim (λ i. absurd i) (λ i. absurd i) t.0) (λ r. omega arith)
 

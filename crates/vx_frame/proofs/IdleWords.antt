@@ -30,7 +30,8 @@ use Rattle.vx_frame.specs.Carried.{Carries, IsMapped}
 use Rattle.vx_frame.specs.Plans.{AreSpaced, GoesOn, IsSpaced}
 use Rattle.vx_frame.proofs.EachWord.{IsPlanWord}
 use Rattle.vx_frame.proofs.Enough.{some_cluster}
-use Rattle.vx_frame.proofs.Spaced.{ends_empty, Firm}
+use Rattle.vx_frame.proofs.Frames.{get_some}
+use Rattle.vx_frame.proofs.Spaced.{Firm}
 
 abbrev pub Operates : List Operation → Type 0
 Operates [] = ⊥
@@ -148,10 +149,6 @@ module _ (T : Target) where
     reload_idles [] = λ e. e
     reload_idles (v ∷ vs) = settled_idles true (load_slots T f (v ∷ vs) (v ∷ vs)) (loads_idles (v ∷ vs) v vs)
 
-    save_idles : (vs : List ℕ) → Idles true (save_words T f vs) true
-    save_idles [] = λ e. e
-    save_idles (v ∷ vs) = strong true true (store_slots T f (v ∷ vs) (v ∷ vs)) (stores_idles (v ∷ vs) v vs)
-
     -- calls, returns and entries
 
     fetch_idles : (up : ℕ) (x : Operand) → Idles true (fetch_words T f up x) true
@@ -234,8 +231,8 @@ module _ (T : Target) where
           let passed : Idles true (passes ++ jumps) false = then_idles true true false passes jumps (arguments_idles g (parameters_of T g) xs) (last_idles true (Call (T.entry g))) in
           let moved : Idles true (down ++ (passes ++ jumps)) false = then_idles true true false down (passes ++ jumps) (move_stack_idles (neg_ℤ (bytes T.frame))) passed in
           let branched : Idles true leaves false = op_idles true false (BranchOn 0 true T.depth_trap) (down ++ (passes ++ jumps)) (weak false false (down ++ (passes ++ jumps)) moved) in
-          then_idles true true false (save_words T f (T.saved f p)) (settled T (one test ∷ []) ++ leaves) (save_idles (T.saved f p))
-          (then_idles true true false (settled T (one test ∷ [])) leaves (one_idles test) branched)
+          let saves : List Word = save_words T f (T.saved f p) in
+          then_idles true true false (settled T (one test ∷ saves)) leaves (settled_idles true (one test ∷ saves) (op_idles true false test saves (stores_on (T.saved f p) (T.saved f p)))) branched
 
       back_idles : (p : ℕ) (result : Option ℕ) → Idles true (back_words T f p result) true
       back_idles p result =
@@ -353,31 +350,53 @@ module _ (T : Target) (flow : Flow) (ls : List VWords) (w : WordProgram) (carrie
     choice_idles : (p test q : ℕ) → Idles true (word_words T f p (Choice test q)) false
     choice_idles p test q = then_idles true true false (before T f (test ∷ [])) (one (BranchOn (branch_of T f (test ∷ []) test) true (T.starts f q)) ∷ []) (before_idles T f (test ∷ [])) (last_idles true (BranchOn (branch_of T f (test ∷ []) test) true (T.starts f q)))
 
+    -- the last word of a word of the layout may have no operation, or that is so before it and it has no word
+    ends : ℕ → VirtualWord → Bool
+    ends p (Planned rg wd items) = false
+    ends p (Drain n) = true
+    ends p (Transfer q) = follows T f (p + 1) q
+    ends p (Choice test q) = false
+    ends p (Calls g arguments result) = true
+    ends p (Returns x) = false
+    ends p (Ends k) = false
+
     -- from behind an idle word, but for empty cycles
-    word_runs : (p : ℕ) (word : VirtualWord) → HasWordAt p word → is_drain word ≡ false → Runs T Count true (T.starts f p) (word_words T f p word) (ends_empty word)
+    word_runs : (p : ℕ) (word : VirtualWord) → HasWordAt p word → is_drain word ≡ false → Runs T Count true (T.starts f p) (word_words T f p word) (ends p word)
     word_runs p (Planned rg wd items) e s = planned_runs p rg wd items e
     word_runs p (Drain n) e s = never (sym s)
-    word_runs p (Transfer q) e s = runs_of T Count true false (T.starts f p) (one (Goto (T.starts f q)) ∷ []) (last_idles true (Goto (T.starts f q)))
+    word_runs p (Transfer q) e s = runs_of T Count true (follows T f (p + 1) q) (T.starts f p) (way T f (p + 1) q) (way_idles T f (p + 1) q)
     word_runs p (Choice test q) e s = runs_of T Count true false (T.starts f p) (word_words T f p (Choice test q)) (choice_idles p test q)
     word_runs p (Calls g arguments result) e s = runs_of T Count true true (T.starts f p) (word_words T f p (Calls g arguments result)) (called_idles T f some p g arguments result)
     word_runs p (Returns x) e s = runs_of T Count true false (T.starts f p) (return_words T f x) (return_idles T f x)
     word_runs p (Ends k) e s = runs_of T Count true false (T.starts f p) (one (EndByTrap k) ∷ []) (last_idles true (EndByTrap k))
 
-    any_word_runs : (a : Bool) (p : ℕ) (word : VirtualWord) → HasWordAt p word → (a ≡ true → is_drain word ≡ false) → Runs T Count a (T.starts f p) (word_words T f p word) (ends_empty word)
+    any_word_runs : (a : Bool) (p : ℕ) (word : VirtualWord) → HasWordAt p word → (a ≡ true → is_drain word ≡ false) → Runs T Count a (T.starts f p) (word_words T f p word) (ends p word)
     any_word_runs true p word e h = word_runs p word e (h refl)
     any_word_runs false p (Drain n) e h = inr (refl, λ y. refl)
     any_word_runs false p (Planned rg wd items) e h = weak_runs T Count false false (T.starts f p) (plan_words T f p items) (word_runs p (Planned rg wd items) e refl)
-    any_word_runs false p (Transfer q) e h = weak_runs T Count false false (T.starts f p) (word_words T f p (Transfer q)) (word_runs p (Transfer q) e refl)
+    any_word_runs false p (Transfer q) e h = weak_runs T Count false (follows T f (p + 1) q) (T.starts f p) (word_words T f p (Transfer q)) (word_runs p (Transfer q) e refl)
     any_word_runs false p (Choice test q) e h = weak_runs T Count false false (T.starts f p) (word_words T f p (Choice test q)) (word_runs p (Choice test q) e refl)
     any_word_runs false p (Calls g arguments result) e h = weak_runs T Count false true (T.starts f p) (word_words T f p (Calls g arguments result)) (word_runs p (Calls g arguments result) e refl)
     any_word_runs false p (Returns x) e h = weak_runs T Count false false (T.starts f p) (return_words T f x) (word_runs p (Returns x) e refl)
     any_word_runs false p (Ends k) e h = weak_runs T Count false false (T.starts f p) (word_words T f p (Ends k)) (word_runs p (Ends k) e refl)
 
-    goes_on : (p : ℕ) (word : VirtualWord) → HasWordAt p word → ends_empty word ≡ true → GoesOn (T.layout f) p
+    -- a transfer without a word goes on to the next one, which is none of empty cycles
+    goes_ahead : (p q : ℕ) → HasWordAt p (Transfer q) → follows T f (p + 1) q ≡ true → GoesOn (T.layout f) p
+    goes_ahead p q e s =
+        let parts : ((p + 1 == q) ≡ true) × (not (is_drain_there (slice_get Words q)) ≡ true) = and_parts (p + 1 == q) (not (is_drain_there (slice_get Words q))) s in
+        let next : p + 1 ≡ q = eqb-true (p + 1) q parts.0 in
+        let inside : q < length Words = mapped.settled.inside p q (Transfer q) e refl in
+        by q (slice_get Words q) refl (let z : suc p ≡ q = omega arith in z) inside parts.1
+      where
+        by : (q : ℕ) (o : Option VirtualWord) → slice_get Words q ≡ o → suc p ≡ q → q < length Words → not (is_drain_there o) ≡ true → GoesOn (T.layout f) p
+        by q None d n lt_ k = absurd (let a = get_some Words q lt_ in let z : None ≡ Some a.0 = sym d ∙ a.1 in cc)
+        by q (Some word) d n lt_ k = record { word = word; next = ap (slice_get Words) n ∙ d; other = not_true (is_drain word) k }
+
+    goes_on : (p : ℕ) (word : VirtualWord) → HasWordAt p word → ends p word ≡ true → GoesOn (T.layout f) p
     goes_on p (Drain n) e s = its_spaced.drains p n e
     goes_on p (Calls g arguments result) e s = its_spaced.calls p g arguments result e
+    goes_on p (Transfer q) e s = goes_ahead p q e s
     goes_on p (Planned rg wd items) e s = never s
-    goes_on p (Transfer q) e s = never s
     goes_on p (Choice test q) e s = never s
     goes_on p (Returns x) e s = never s
     goes_on p (Ends k) e s = never s
@@ -407,8 +426,8 @@ module _ (T : Target) (flow : Flow) (ls : List VWords) (w : WordProgram) (carrie
     laid_runs a p (word ∷ words) h ok =
         let here : HasWordAt p word = tail_here p word words h in
         let on : Tail (suc p) words = tail_on p word words h in
-        let firm : ends_empty word ≡ true → Firm words = λ s. (let n = goes_on p word here s in firm_first (suc p) words n.word on n.next n.other) in
-        (ends_empty word, any_word_runs a p word here ok, laid_runs (ends_empty word) (suc p) words on firm)
+        let firm : ends p word ≡ true → Firm words = λ s. (let n = goes_on p word here s in firm_first (suc p) words n.word on n.next n.other) in
+        (ends p word, any_word_runs a p word here ok, laid_runs (ends p word) (suc p) words on firm)
 
     -- landings
 

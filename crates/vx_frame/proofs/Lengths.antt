@@ -100,7 +100,7 @@ call_length T s f p g arguments =
     let tail_of : Target → List Word = λ V. argument_words V f g (parameters_of V g) arguments ++ one (Call (V.entry g)) ∷ [] in
     let tails : length (tail_of U) ≡ length (tail_of T) = len_both (argument_words U f g (parameters_of T g) arguments) (one (Call (s.entry g)) ∷ []) (argument_words T f g (parameters_of T g) arguments) (one (Call (T.entry g)) ∷ []) (ap length (argument_same T s f g (parameters_of T g) arguments)) refl in
     let moves : length (move_stack T (neg_ℤ (bytes T.frame)) ++ tail_of U) ≡ length (move_stack T (neg_ℤ (bytes T.frame)) ++ tail_of T) = len_behind (move_stack T (neg_ℤ (bytes T.frame))) (tail_of U) (tail_of T) tails in
-    len_both (save_words U f (T.saved f p)) (settled T (depth_word T ∷ []) ++ one (BranchOn 0 true s.depth_trap) ∷ (move_stack T (neg_ℤ (bytes T.frame)) ++ tail_of U)) (save_words T f (T.saved f p)) (settled T (depth_word T ∷ []) ++ one (BranchOn 0 true T.depth_trap) ∷ (move_stack T (neg_ℤ (bytes T.frame)) ++ tail_of T)) (ap length (store_slots_same T s f (T.saved f p) (T.saved f p))) (len_behind (settled T (depth_word T ∷ [])) (one (BranchOn 0 true s.depth_trap) ∷ (move_stack T (neg_ℤ (bytes T.frame)) ++ tail_of U)) (one (BranchOn 0 true T.depth_trap) ∷ (move_stack T (neg_ℤ (bytes T.frame)) ++ tail_of T)) (ap suc moves))
+    len_both (settled T (depth_word T ∷ save_words U f (T.saved f p))) (one (BranchOn 0 true s.depth_trap) ∷ (move_stack T (neg_ℤ (bytes T.frame)) ++ tail_of U)) (settled T (depth_word T ∷ save_words T f (T.saved f p))) (one (BranchOn 0 true T.depth_trap) ∷ (move_stack T (neg_ℤ (bytes T.frame)) ++ tail_of T)) (ap (λ z. length (settled T (depth_word T ∷ z))) (store_slots_same T s f (T.saved f p) (T.saved f p))) (ap suc moves)
   where
     depth_word : Target → Word
     depth_word V = one (Compute 0 (ToBranch Ltu) (InBranch (record { cluster = 0; number = 0 })) (Held (stack_on 0)) (Number (bytes (V.globals + V.frame))))

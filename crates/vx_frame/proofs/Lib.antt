@@ -41,6 +41,7 @@ pub mod ColdPieces
 pub mod Loads
 pub mod Operations
 pub mod StoreHeats
+pub mod SaveHeats
 pub mod Pending
 pub mod EntryHeats
 pub mod PlanHeats

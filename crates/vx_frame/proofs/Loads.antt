@@ -20,7 +20,7 @@ use Rattle.vx_frame.proofs.Heats.{lift, lift_off, lift_fewer, lift_cooled, stays
 use Rattle.vx_frame.proofs.Pauses.{flight_append, flight_pause}
 use Rattle.vx_frame.proofs.PlanFits.{differ}
 
-not_any : (x : Register) (rs : List Register) (y : Register) → same x y ≡ false → list_any (same x) rs ≡ false → list_any (same x) (y ∷ rs) ≡ false
+pub not_any : (x : Register) (rs : List Register) (y : Register) → same x y ≡ false → list_any (same x) rs ≡ false → list_any (same x) (y ∷ rs) ≡ false
 not_any x rs y e f = ap (λ b. b || list_any (same x) rs) e ∙ f
 
 module _ (T : Target) (heat : ℕ → Register → ℕ) (f : ℕ) (names : List ℕ) (b : Register → ℕ) where

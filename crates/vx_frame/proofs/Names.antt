@@ -160,6 +160,18 @@ module _ (T : Target) (f : ℕ) (mapped : IsMapped T f) where
       by true q z = true_false (ap is_branch_register z)
       by false q z = let a = general_number names v h q in let c : number_at names v ≡ n = ap number_in z in omega arith
 
+  -- a value in a register is not in the first branch register
+  pub not_first_branch : (names : List ℕ) (v : ℕ) → HasBank v → is_slotted (kept T f v) ≡ false → 1 ≤ T.machine.issue → register_of T f names v ≢ Branch (record { cluster = 0; number = 0 })
+  not_first_branch names v h s some e = by (holds_branch T f v) refl e
+    where
+      by : (b : Bool) → holds_branch T f v ≡ b → named b (home T f v) (branch_of T f names v) (number_at names v) ≡ Branch (record { cluster = 0; number = 0 }) → ⊥
+      by true q z =
+          let n = in_register (kept T f v) s in
+          let is : branch_of T f names v ≡ n.0 = ap (λ k. number_by k (scratch T f names v)) n.1 in
+          let a = branch_from v n.0 h q n.1 in
+          let c : branch_of T f names v ≡ 0 = ap branch_number z in omega arith
+      by false q z = true_false (sym (ap is_branch_register z))
+
   -- two values in registers
   pub apart_registers : (p : ℕ) (xs ys : List ℕ) (x y : ℕ) → HasBank x → HasBank y → Busy p x → Busy p y → x ≢ y → is_slotted (kept T f x) ≡ false → is_slotted (kept T f y) ≡ false → register_of T f xs x ≢ register_of T f ys y
   apart_registers p xs ys x y hx hy bx by_ ne sx sy e =

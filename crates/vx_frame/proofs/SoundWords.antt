@@ -82,9 +82,7 @@ words_some T f p (Transfer q) = by (follows T f (p + 1) q) refl
     by false e = inl (omega arith)
 words_some T f p (Choice test q) = inl (some_behind (before T f (test ∷ [])) [] (one (BranchOn (branch_of T f (test ∷ []) test) true (T.starts f q))))
 words_some T f p (Calls g arguments result) =
-    let test : Word = one (Compute 0 (ToBranch Ltu) (InBranch (record { cluster = 0; number = 0 })) (Held (stack_on 0)) (Number (bytes (T.globals + T.frame)))) in
-    let rest : List Word = one (BranchOn 0 true T.depth_trap) ∷ (move_stack T (neg_ℤ (bytes T.frame)) ++ (argument_words T f g (parameters_of T g) arguments ++ one (Call (T.entry g)) ∷ [])) in
-    inl (some_before (call_words T f p g arguments) (back_words T f p result) (some_behind (save_words T f (T.saved f p)) (pause (in_flight T.machine 0 (test ∷ [])) ++ rest) test))
+    inl (some_before (call_words T f p g arguments) (back_words T f p result) (omega arith))
 words_some T f p (Returns x) = inl (some_after (fetch_words T f 0 x) (answer_words T f x ++ one Return ∷ []) (some_behind (answer_words T f x) [] (one Return)))
 words_some T f p (Ends k) = inl (omega arith)
 
@@ -282,7 +280,8 @@ module _ (T : Target) (flow : Flow) (ls : List VWords) (w : WordProgram) (sound 
       let branches : List Word = one (BranchOn 0 true T.depth_trap) ∷ (down ++ (passes ++ calls)) in
       let passed : Words (passes ++ calls) = right_append W N passes calls (arguments_right f g (parameters_of T g) xs) (has_one W N (Call (T.entry g)) (entry_below g there), tt) in
       let branched : Words branches = (has_one W N (BranchOn 0 true T.depth_trap) trap_below, right_append W N down (passes ++ calls) (move_stack_right (neg_ℤ (bytes T.frame))) passed) in
-      right_append W N (save_words T f (T.saved f p)) (settled T (one test ∷ []) ++ branches) (store_slots_right f (T.saved f p) (T.saved f p)) (one_settled test branches refl branched)
+      let saves : List Word = save_words T f (T.saved f p) in
+      right_append W N (settled T (one test ∷ saves)) branches (settled_right (one test ∷ saves) (has_one W N test refl, store_slots_right f (T.saved f p) (T.saved f p))) branched
 
   back_right : (f p : ℕ) (result : Option ℕ) → Words (back_words T f p result)
   back_right f p result =

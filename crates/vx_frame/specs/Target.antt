@@ -338,12 +338,12 @@ result_words T f (Some v) =
     then one (Store 0 (bytes (T.slot f v)) (stack_on 0) (Held answer)) ∷ []
     else settled T (one (Move (home T f v) (general_of T f (v ∷ []) v) (Held answer)) ∷ [])
 
--- a frame that would begin below the end of the globals is one too many
+-- a frame that would begin below the end of the globals is one too many: this is tested while values are saved
 abbrev pub call_words : Target → (function place called : ℕ) → List Operand → List Word
 call_words T f p g arguments =
-    save_words T f (T.saved f p)
-    ++ (settled T (one (Compute 0 (ToBranch Ltu) (InBranch (record { cluster = 0; number = 0 })) (Held (stack_on 0)) (Number (bytes (T.globals + T.frame)))) ∷ []) ++ one (BranchOn 0 true T.depth_trap)
-    ∷ (move_stack T (neg_ℤ (bytes T.frame)) ++ (argument_words T f g (parameters_of T g) arguments ++ one (Call (T.entry g)) ∷ [])))
+    settled T (one (Compute 0 (ToBranch Ltu) (InBranch (record { cluster = 0; number = 0 })) (Held (stack_on 0)) (Number (bytes (T.globals + T.frame)))) ∷ save_words T f (T.saved f p))
+    ++ one (BranchOn 0 true T.depth_trap)
+    ∷ (move_stack T (neg_ℤ (bytes T.frame)) ++ (argument_words T f g (parameters_of T g) arguments ++ one (Call (T.entry g)) ∷ []))
 
 -- the result is taken first, since a branch value comes back by way of the answer's register
 abbrev pub back_words : Target → (function place : ℕ) → Option ℕ → List Word

@@ -252,12 +252,27 @@ fn depth_test(least: i32) -> Operation
     }
 }
 
-/// Tests that the frame of a function that is called does not begin below the end of the globals, else goes to the trap.
-fn test_depth(alloc: Global, whole: &Whole, words: &mut Listed<Word>) -> Result<(), NoMemory>
-    ensures { IfOk result (λ _. words.new ≡ words.old ++ (settled (seen whole.now) (one (Compute 0 (ToBranch Ltu) (InBranch (record { cluster = 0; number = 0 })) (Held (stack_on 0)) (Number (bytes ((seen whole.now).globals + (seen whole.now).frame)))) ∷ []) ++ one (BranchOn 0 true (seen whole.now).depth_trap) ∷ [])) }
+/// Tests that the frame of a function that is called does not begin below the end of the globals, while values are saved.
+fn test_and_save(
+    alloc: Global,
+    whole: &Whole,
+    function: u32,
+    values: &[Value],
+    words: &mut Listed<Word>,
+) -> Result<(), NoMemory>
+    ensures { IfOk result (λ _. words.new ≡ words.old ++ settled (seen whole.now) (one (Compute 0 (ToBranch Ltu) (InBranch (record { cluster = 0; number = 0 })) (Held (stack_on 0)) (Number (bytes ((seen whole.now).globals + (seen whole.now).frame)))) ∷ save_words (seen whole.now) function values.now)) }
 {
     let least = bytes(sum(whole.sizes.globals, whole.sizes.frame)?)?;
-    push_settled(alloc, whole, depth_test(least), words)?;
+    let begin = words.len();
+    push_one(alloc, depth_test(least), words)?;
+    save(alloc, whole, function, values, words)?;
+    push_wait(alloc, whole, begin, words)
+}
+
+/// Leaves for the trap where the test says so.
+fn leave_by_depth(alloc: Global, whole: &Whole, words: &mut Listed<Word>) -> Result<(), NoMemory>
+    ensures { IfOk result (λ _. words.new ≡ words.old ++ one (BranchOn 0 true (seen whole.now).depth_trap) ∷ []) }
+{
     let leave = Operation::BranchOn {
         test: 0,
         taken_at_one: true,
@@ -274,7 +289,7 @@ fn move_down(alloc: Global, whole: &Whole, words: &mut Listed<Word>) -> Result<(
     move_stack(alloc, whole, -step, words)
 }
 
-/// The words up to a call: values are saved, the depth is tested, the stack pointers go down, and arguments are passed.
+/// The words up to a call: the depth is tested and values are saved, the stack pointers go down, and arguments are passed.
 pub(crate) fn push_call(
     alloc: Global,
     whole: &Whole,
@@ -286,8 +301,8 @@ pub(crate) fn push_call(
 ) -> Result<(), NoMemory>
     ensures { IfOk result (λ _. words.new ≡ words.old ++ call_words (seen whole.now) function place called arguments.now) }
 {
-    save(alloc, whole, function, saved(whole, function, place), words)?;
-    test_depth(alloc, whole, words)?;
+    test_and_save(alloc, whole, function, saved(whole, function, place), words)?;
+    leave_by_depth(alloc, whole, words)?;
     move_down(alloc, whole, words)?;
     let passed = parameters(whole, called);
     pass_all(alloc, whole, function, called, passed, arguments, words)?;
