@@ -128,6 +128,14 @@ const RIGHT: Act = Act::Plain(Op::Compute {
     right: Operand::Number(0),
 });
 
+/// v5 = 3
+const TO_A_HOME: Act = Act::Plain(Op::Compute {
+    code: Code::Mov,
+    to: 5,
+    left: Operand::Number(3),
+    right: Operand::Number(0),
+});
+
 /// v3 = v1 + 1; v4 = v2 + 1; v5 = v3 + v4, which is returned.
 pub(crate) const SUMS: Shape<'static> = Shape {
     parts: &[Part(&[NEXT_LEFT, NEXT_RIGHT, BOTH], Way::Return(5))],
@@ -153,6 +161,16 @@ pub(crate) const SUMS_TURNED: Shape<'static> = Shape {
     ],
     banks: BANKS,
     parameters: &[],
+};
+
+/// v5 = 3; v1 = 7; and behind a call the same sums.
+pub(crate) const SUMS_TO_A_HOME: Shape<'static> = Shape {
+    parts: &[
+        Part(&[TO_A_HOME, LEFT], Way::Call(1)),
+        Part(&[NEXT_LEFT, NEXT_RIGHT, BOTH], Way::Return(5)),
+    ],
+    banks: BANKS,
+    parameters: &[2],
 };
 
 /// While v1 < 10, v1 = v1 + 1; return v1. Block 1 is the header.

@@ -3,7 +3,7 @@
 use crate::graphs::{Act, Kind, Passed};
 use crate::running::{Row, Wanted, is_so};
 use crate::shapes::{
-    IN_LINE, PRINTING, SINKING, SUMS, SUMS_BEHIND_A_CALL, SUMS_TURNED, WITHOUT_ELSE,
+    IN_LINE, PRINTING, SINKING, SUMS, SUMS_BEHIND_A_CALL, SUMS_TO_A_HOME, SUMS_TURNED, WITHOUT_ELSE,
 };
 use std::alloc::Global;
 use std::test::Fail;
@@ -428,7 +428,47 @@ const ON_TURNED_CLUSTERS: Row<'static> = Row {
     made: &[],
 };
 
-const ROWS: [Row<'static>; 11] = [
+/// The trace before gave v5 the home 1, which it keeps: there the last sum is made, from a copy of v3.
+const TO_A_GIVEN_CLUSTER: Row<'static> = Row {
+    shape: SUMS_TO_A_HOME,
+    passed: NOTHING,
+    kind: Kind::TwoNarrow,
+    cap: 0,
+    plans: &[
+        Wanted {
+            blocks: &[0],
+            count: 0,
+            mode: Mode::Free,
+            clusters: &[1, 0],
+            ops: &[],
+            words: &[0, 0],
+            length: 1,
+            splits: &[],
+            rejoins: &[],
+            homes: &[(1, 0), (5, 1)],
+            used: 0,
+        },
+        Wanted {
+            blocks: &[1],
+            count: 0,
+            mode: Mode::Free,
+            clusters: &[0, 1, 1, 1],
+            ops: &[
+                (2, Act::Plain(Op::Across { to: 17, from: 3 })),
+                (3, Act::On(Code::Add, 5, 17, Operand::Held(4))),
+            ],
+            words: &[0, 0, 1, 2],
+            length: 3,
+            splits: &[],
+            rejoins: &[],
+            homes: &[(1, 0), (2, 1), (3, 0), (4, 1), (5, 1), (17, 1)],
+            used: 0,
+        },
+    ],
+    made: &[],
+};
+
+const ROWS: [Row<'static>; 12] = [
     FREE,
     BARRED,
     SUNK,
@@ -440,6 +480,7 @@ const ROWS: [Row<'static>; 11] = [
     ON_CLUSTERS,
     ON_GIVEN_CLUSTERS,
     ON_TURNED_CLUSTERS,
+    TO_A_GIVEN_CLUSTER,
 ];
 
 fn first_wrong(alloc: Global) -> Result<usize, NoMemory> {
