@@ -1,5 +1,5 @@
 -- Each word of a program that carries a flow is one of its plan, or of one of the other kinds.
-use Rattle.std.proofs.Common.{◌≡◌, ◌<◌, ◌≤◌, ◌⊎◌, inl, inr, ◌+◌, ℕ, zero, suc, ℤ, pos, neg_ℤ, Bool, true, false, Option, Some, None, List, [], ◌∷◌, ◌++◌, length, refl, sym, ap, ◌∙◌, subst, arith}
+use Rattle.std.proofs.Common.{◌≡◌, ◌<◌, ◌≤◌, ◌⊎◌, inl, inr, ◌+◌, ◌-◌, ℕ, zero, suc, ℤ, pos, neg_ℤ, Bool, true, false, Option, Some, None, List, [], ◌∷◌, ◌++◌, length, refl, sym, ap, ◌∙◌, subst, arith}
 use Rattle.std.specs.Prelude.{if◌then◌else◌, slice_get}
 use Rattle.vx_base.specs.declared.arithmetic.Code.TheVariants.{Add, ToBranch}
 use Rattle.vx_base.specs.declared.arithmetic.Compare.TheVariants.{Ltu, Ne}
@@ -26,7 +26,7 @@ use Rattle.vx_mixed.specs.declared.layout.VirtualWord.TheVariants.{Planned, Drai
 use Rattle.vx_mixed.specs.declared.layout.VWords.{VWords}
 use Rattle.vx_mixed.specs.LaidSettled.{laid_reads, laid_writes}
 use Rattle.vx_regs.specs.Intervals.{is_named, word_reads, word_writes}
-use Rattle.vx_frame.specs.Target.{Target, answer, general, general_of, branch_of, stack_on, holds_branch, is_slotted, kept, slotted, once, parameters_of, one, together, pause, in_flight, settled, set_stack, slots_in_flight, load_slot, store_slot, load_slots, store_slots, if_some, before, behind, plan_word, plan_words, landing_words, on_clusters, move_stack, save_words, reload_words, fetch_words, fetched, cluster_of_operand, argument_words, result_words, call_words, back_words, is_caller, answer_words, return_words, follows, way, link_words, entry_words, word_words, start_words, bytes, first_frame}
+use Rattle.vx_frame.specs.Target.{Target, answer, general, general_of, branch_of, stack_on, holds_branch, is_slotted, kept, slotted, once, parameters_of, one, together, pause, in_flight, settled, set_stack, slots_in_flight, load_slot, store_slot, load_slots, store_slots, if_some, before, behind, plan_word, plan_words, landing_words, on_clusters, move_stack, save_words, reload_words, fetch_words, fetched, cluster_of_operand, argument_words, result_words, call_words, back_words, is_caller, answer_words, return_words, follows, way, link_words, entry_words, turns, idle_words, word_words, start_words, waits, bytes, first_frame}
 use Rattle.vx_frame.specs.Placed.{Depth, Labelled, PlacedAt, place_of, laid_pieces, landing_of, item_landings, word_landings, landing_pieces, function_pieces, functions_pieces, all_pieces, words_of}
 use Rattle.vx_frame.specs.Carried.{Carries, IsFunctionOf, IsMapped, NeedsSlot, is_passed, is_spilled, is_saved}
 use Rattle.vx_frame.specs.Places.{plan_place}
@@ -349,9 +349,16 @@ module _ (T : Target) (flow : Flow) (ls : List VWords) (w : WordProgram) (sound 
         results None at v s = absurd (let z : None ≡ Some v = s in cc)
         results (Some u) at v s = let same : v ≡ u = cc in writes_need p (Calls g arguments (Some u)) at v (inl same)
 
+    idle_other : (p n : ℕ) → HasWordAt p (Drain n) → Words (idle_words T f p n)
+    idle_other p n e = by (turns T f (p + 1))
+      where
+        by : (b : Bool) → Words (if b then pause (n - 1) else waits n ∷ [])
+        by true = pause_other (n - 1) (let a = mapped.brief p n e in omega arith)
+        by false = (idles n (let a = mapped.brief p n e in omega arith), tt)
+
     word_kinds : (p : ℕ) (word : VirtualWord) → HasWordAt p word → Kinds (T.starts f p) (word_words T f p word)
     word_kinds p (Planned rg wd items) e = planned_kinds p rg wd items e
-    word_kinds p (Drain n) e = (inr (idles n (let a = mapped.brief p n e in omega arith)), tt)
+    word_kinds p (Drain n) e = kinds_other T Count (T.starts f p) (idle_words T f p n) (idle_other p n e)
     word_kinds p (Transfer q) e = kinds_other T Count (T.starts f p) (way T f (p + 1) q) (way_other (p + 1) q (by_transfer p e))
     word_kinds p (Choice test q) e =
         kinds_other T Count (T.starts f p) (word_words T f p (Choice test q))

@@ -1,7 +1,7 @@
 -- Every word of a program that carries a flow is well formed and fits: planned words by their room, all others since they hold
 -- one operation, or one on each cluster.
 use Rattle.std.proofs.Common.{◌≡◌, ◌≢◌, ◌<◌, ◌≤◌, ◌⊎◌, inl, inr, ⊎_elim, ◌+◌, ℕ, zero, suc, ℤ, pos, neg_ℤ, Bool, true, false, ◌&&◌, eqb, Option, Some, None, List, [], ◌∷◌, ◌++◌, length, map, count_by, refl, sym, ap, subst, arith}
-use Rattle.std.specs.Prelude.{if◌then◌else◌, slice_get}
+use Rattle.std.specs.Prelude.{◌-◌, if◌then◌else◌, slice_get}
 use Rattle.std.specs.List.{list_all}
 use Rattle.std.specs.Cmp.Derive.{both_true}
 use Rattle.std.proofs.lemmas.Bool.{ne_eqb, lt-ltb, and_parts, ltb-true}
@@ -43,7 +43,7 @@ use Rattle.vx_mixed.specs.declared.layout.VirtualWord.TheVariants.{Planned, Drai
 use Rattle.vx_mixed.specs.declared.layout.VWords.{VWords}
 use Rattle.vx_mixed.specs.LaidSettled.{bank_in, laid_reads, laid_writes, Plans}
 use Rattle.vx_regs.specs.Intervals.{IsBusy, is_live, is_named, word_reads, word_writes}
-use Rattle.vx_frame.specs.Target.{Target, answer, general, general_of, branch_of, stack_on, home, holds_branch, is_branch, is_slotted, kept, slotted, parameters_of, one, together, waits, pause, in_flight, settled, on_clusters, set_stack, slots_in_flight, load_slot, store_slot, load_slots, store_slots, if_some, once, before, behind, plan_word, plan_words, landing_words, move_stack, save_words, reload_words, fetch_words, fetched, cluster_of_operand, argument_words, result_words, call_words, back_words, is_caller, answer_words, return_words, follows, way, link_words, entry_words, word_words, start_words, bytes, first_frame}
+use Rattle.vx_frame.specs.Target.{Target, answer, general, general_of, branch_of, stack_on, home, holds_branch, is_branch, is_slotted, kept, slotted, parameters_of, one, together, waits, pause, in_flight, settled, on_clusters, set_stack, slots_in_flight, load_slot, store_slot, load_slots, store_slots, if_some, once, before, behind, plan_word, plan_words, landing_words, move_stack, save_words, reload_words, fetch_words, fetched, cluster_of_operand, argument_words, result_words, call_words, back_words, is_caller, answer_words, return_words, follows, way, link_words, entry_words, turns, idle_words, word_words, start_words, bytes, first_frame}
 use Rattle.vx_frame.specs.Placed.{Depth, Labelled, laid_pieces, landing_of, item_landings, word_landings, landing_pieces, function_pieces, functions_pieces, all_pieces, words_of}
 use Rattle.vx_frame.specs.Carried.{Carries, IsFunctionOf, IsMapped, item_of_laid}
 use Rattle.vx_frame.specs.Fitted.{FitLaw}
@@ -419,9 +419,16 @@ module _ (T : Target) (flow : Flow) (ls : List VWords) (w : WordProgram) (sound 
       landings_good (Plain op k ∷ xs) = landings_good xs
       landings_good (Split test y q ∷ xs) = pieces_append M (landing_of T f p items (slotted T f (laid_writes items)) q) (item_landings T f p items xs) (landing_of_good (slotted T f (laid_writes items)) q) (landings_good xs)
 
+    idle_good : (p n : ℕ) → Words (idle_words T f p n)
+    idle_good p n = by (turns T f (p + 1))
+      where
+        by : (b : Bool) → Words (if b then pause (n - 1) else waits n ∷ [])
+        by true = pause_good (n - 1)
+        by false = wait_good n
+
     word_good : (p : ℕ) (word : VirtualWord) → HasWordAt p word → Words (word_words T f p word)
     word_good p (Planned rg wd items) e = planned_good p rg wd items e
-    word_good p (Drain n) e = wait_good n
+    word_good p (Drain n) e = idle_good p n
     word_good p (Transfer q) e = way_good (p + 1) q
     word_good p (Choice test q) e =
         let parts = mapped.code.choices p test q e in

@@ -1,7 +1,7 @@
 -- Every piece of a program that carries a flow fits: what may be in flight at a word of a layout is what is left there of writes
 -- to the values that live in registers; elsewhere nothing is, but results in slots at a landing.
-use Rattle.std.proofs.Common.{◌≡◌, ◌<◌, ◌≤◌, ◌⊎◌, inl, inr, ⊎_elim, ◌+◌, ℕ, zero, suc, Bool, true, false, cond, Option, Some, None, List, [], ◌∷◌, ◌++◌, length, map, refl, ap, ◌∙◌, subst, arith}
-use Rattle.std.specs.Prelude.{if◌then◌else◌, slice_get, max}
+use Rattle.std.proofs.Common.{◌≡◌, ◌<◌, ◌≤◌, ◌⊎◌, inl, inr, ⊎_elim, ◌+◌, ◌-◌, ℕ, zero, suc, Bool, true, false, cond, Option, Some, None, List, [], ◌∷◌, ◌++◌, length, map, refl, sym, ap, ◌∙◌, subst, arith}
+use Rattle.std.specs.Prelude.{if◌then◌else◌, not, slice_get, max}
 use Rattle.std.specs.List.{list_any}
 use Rattle.std.proofs.lemmas.Bool.{cases_lt}
 use Rattle.vx_base.specs.declared.outcome.Trap.TheVariants.{Depth as ByDepth}
@@ -24,7 +24,7 @@ use Rattle.vx_mixed.specs.declared.layout.VirtualWord.TheVariants.{Planned, Drai
 use Rattle.vx_mixed.specs.declared.layout.VWords.{VWords}
 use Rattle.vx_mixed.specs.LaidSettled.{laid_reads, laid_writes, LeadsTo, LeavesCold}
 use Rattle.vx_regs.specs.Intervals.{word_writes}
-use Rattle.vx_frame.specs.Target.{Target, slotted, register_of, leads, before, behind, plan_word, plan_words, landing_words, choice_words, return_words, follows, way, entry_words, start_words, word_words, one, waits, slots_in_flight}
+use Rattle.vx_frame.specs.Target.{Target, slotted, register_of, leads, before, behind, plan_word, plan_words, landing_words, choice_words, return_words, follows, way, turns_there, turns, idle_words, entry_words, start_words, word_words, one, waits, pause, slots_in_flight}
 use Rattle.vx_frame.specs.Placed.{Label, Start, Entry, At, Landing, Depth, Labelled, laid_pieces, landing_of, item_landings, word_landings, landing_pieces, function_pieces, functions_pieces, all_pieces}
 use Rattle.vx_frame.specs.Carried.{Carries, IsMapped, FrameLaw}
 use Rattle.vx_frame.specs.Fitted.{FitLaw}
@@ -35,9 +35,9 @@ use Rattle.vx_frame.proofs.Stands.{piece_at, landing_at, in_laid, in_landings, o
 use Rattle.vx_frame.proofs.Early.{words_kind, words_cool}
 use Rattle.vx_frame.proofs.Heats.{lift, stop_fine}
 use Rattle.vx_frame.proofs.ColdPieces.{Fine, start_fine, return_fine, ends_fine}
-use Rattle.vx_frame.proofs.Pending.{pend, pend_free}
+use Rattle.vx_frame.proofs.Pending.{pend, pend_free, pend_kept}
 use Rattle.vx_frame.proofs.EntryHeats.{entry_fine, call_fine}
-use Rattle.vx_frame.proofs.PlanHeats.{drain_fine, transfer_fine, choice_fine}
+use Rattle.vx_frame.proofs.PlanHeats.{drain_fine, drain_short, choice_fine}
 use Rattle.vx_frame.proofs.WordHeats.{plan_fine, landing_fine}
 use Rattle.vx_frame.proofs.Built.{Fits, AllFit, fit_append, heat_at, heat_of, built_late}
 
@@ -50,15 +50,31 @@ first_behind : (xs : List Word) (y : Word) (ys : List Word) → HasFirst (xs ++ 
 first_behind [] y ys = (y, ys, refl)
 first_behind (x ∷ xs) y ys = (x, xs ++ (y ∷ ys), refl)
 
--- or nothing is in flight there
-some_word : (T : Target) (f p : ℕ) (word : VirtualWord) → HasFirst (word_words T f p word) ⊎ LeavesCold word
-some_word T f p (Planned rg wd items) = inl (first_behind (before T f (laid_reads items)) (plan_word T f p items) (behind T f items))
-some_word T f p (Drain n) = inl (waits n, [], refl)
-some_word T f p (Transfer q) = inr tt
-some_word T f p (Choice test q) = inr tt
-some_word T f p (Calls g arguments result) = inr tt
-some_word T f p (Returns x) = inr tt
-some_word T f p (Ends k) = inr tt
+-- a place of which the word turns to another place
+record Turned (T : Target) (f p : ℕ) : Type 0 where
+  to : ℕ
+  at : slice_get (T.layout f).words p ≡ Some (Transfer to)
+  turns_off : follows T f (p + 1) to ≡ false
+
+turned : (T : Target) (f p : ℕ) → turns T f p ≡ true → Turned T f p
+turned T f p h = by (slice_get (T.layout f).words p) refl h
+  where
+    never : false ≡ true → Turned T f p
+    never e = absurd (cc)
+
+    by : (o : Option VirtualWord) → slice_get (T.layout f).words p ≡ o → turns_there T f p o ≡ true → Turned T f p
+    by None e t = never t
+    by (Some (Planned r w items)) e t = never t
+    by (Some (Drain n)) e t = never t
+    by (Some (Transfer q)) e t = record { to = q; at = e; turns_off = not_true (follows T f (p + 1) q) t }
+      where
+        not_true : (b : Bool) → not b ≡ true → b ≡ false
+        not_true true k = absurd (cc)
+        not_true false k = refl
+    by (Some (Choice test q)) e t = never t
+    by (Some (Calls g arguments result)) e t = never t
+    by (Some (Returns x)) e t = never t
+    by (Some (Ends k)) e t = never t
 
 module _ (T : Target) (flow : Flow) (ls : List VWords) (w : WordProgram) (sound : SoundFlow flow) (carries : Carries T flow ls w) where
   abbrev Count : ℕ
@@ -97,9 +113,28 @@ module _ (T : Target) (flow : Flow) (ls : List VWords) (w : WordProgram) (sound 
 
   -- what may be in flight at the start of a piece
 
-  abbrev at_word : Option VirtualWord → (Register → ℕ) → Register → ℕ
-  at_word None h = cold
-  at_word (Some word) h = h
+  -- one cycle at most is left at a goto, which reads nothing
+  abbrev warm : Register → ℕ
+  warm r = 1
+
+  abbrev at_word : (function place : ℕ) → Option VirtualWord → (Register → ℕ) → Register → ℕ
+  at_word f p None h = cold
+  at_word f p (Some (Planned r w items)) h = h
+  at_word f p (Some (Drain n)) h = h
+  at_word f p (Some (Transfer q)) h = if follows T f (p + 1) q then cold else warm
+  at_word f p (Some (Choice test q)) h = h
+  at_word f p (Some (Calls g arguments result)) h = h
+  at_word f p (Some (Returns x)) h = h
+  at_word f p (Some (Ends k)) h = h
+
+  at_same : (f p : ℕ) (word : VirtualWord) (g h : Register → ℕ) (r : Register) → g r ≡ h r → at_word f p (Some word) g r ≡ at_word f p (Some word) h r
+  at_same f p (Planned rg wd items) g h r e = e
+  at_same f p (Drain n) g h r e = e
+  at_same f p (Transfer q) g h r e = refl
+  at_same f p (Choice test q) g h r e = e
+  at_same f p (Calls c arguments result) g h r e = e
+  at_same f p (Returns x) g h r e = e
+  at_same f p (Ends k) g h r e = e
 
   abbrev left_by : ℕ → Option VirtualWord → List Register
   left_by f None = []
@@ -113,7 +148,7 @@ module _ (T : Target) (flow : Flow) (ls : List VWords) (w : WordProgram) (sound 
   abbrev start : Label → Register → ℕ
   start Start = cold
   start (Entry f) = cold
-  start (At f p) = at_word (slice_get (T.layout f).words p) (Pend f p)
+  start (At f p) = at_word f p (slice_get (T.layout f).words p) (Pend f p)
   start (Landing f p q) = lift (late_by f (slice_get (T.layout f).words p)) (Pend f q) (left_by f (slice_get (T.layout f).words p))
   start Depth = cold
 
@@ -146,11 +181,11 @@ module _ (T : Target) (flow : Flow) (ls : List VWords) (w : WordProgram) (sound 
   in_function : (f : ℕ) (x : Labelled) → f < Count → IsIn x (function_pieces T f) → IsIn x (all_pieces T flow.main Count)
   in_function f x lt i = of_function T flow.main Count w.words carries.placed f x lt i
 
-  at_place : (f p : ℕ) (word : VirtualWord) → f < Count → WordAt f p word → HasFirst (word_words T f p word) → heat (T.starts f p) ≡ Pend f p
+  at_place : (f p : ℕ) (word : VirtualWord) → f < Count → WordAt f p word → HasFirst (word_words T f p word) → heat (T.starts f p) ≡ at_word f p (Some word) (Pend f p)
   at_place f p word lt e s =
       let z : 0 + p ≡ p = omega arith in
       let i = in_function f (piece_at T f p word) lt (inr (in_left (piece_at T f p word) (laid_pieces T f 0 (T.layout f).words) (landing_pieces T f 0 (T.layout f).words) (subst (λ n. IsIn (piece_at T f n word) (laid_pieces T f 0 (T.layout f).words)) z (in_laid T f 0 p (T.layout f).words word e)))) in
-      heat_of T start flow.main Count w carries.placed (piece_at T f p word) s.0 s.1 i s.2 ∙ ap (λ o. at_word o (Pend f p)) e
+      heat_of T start flow.main Count w carries.placed (piece_at T f p word) s.0 s.1 i s.2 ∙ ap (λ o. at_word f p o (Pend f p)) e
 
   at_landing : (f p q test rg wd : ℕ) (y : Bool) (items : List Laid) (v : ℕ) (vs : List ℕ) → f < Count → WordAt f p (Planned rg wd items) → slotted T f (laid_writes items) ≡ v ∷ vs → IsIn (Split test y q) items → heat (T.landing f p q) ≡ lift (slots_in_flight T f items) (Pend f q) (map (register_of T f (laid_writes items)) (slotted T f (laid_writes items)))
   at_landing f p q test rg wd y items v vs lt e s m =
@@ -178,11 +213,43 @@ module _ (T : Target) (flow : Flow) (ls : List VWords) (w : WordProgram) (sound 
     cold_here : (p : ℕ) (word : VirtualWord) → WordAt f p word → LeavesCold word → (r : Register) → H p r ≤ 0
     cold_here p word e leaves r = let a = pend_free T f M S p r (λ v n s z q. let c = M.settled.cold p v word e leaves in absurd (omega arith)) in omega arith
 
+    -- one cycle may be left at a goto
+    goes_warm : (q : ℕ) → turns T f q ≡ true → (r : Register) → heat (T.starts f q) r ≡ 1
+    goes_warm q h r =
+        let t = turned T f q h in
+        let goto : Word = one (Goto (T.starts f t.to)) in
+        ap (λ g. g r) (at_place f q (Transfer t.to) k.lt t.at (goto, [], ap (λ b. if b then [] else goto ∷ []) t.turns_off)) ∙ ap (λ b. (if b then cold else warm) r) t.turns_off
+
+    behind_cold : (p : ℕ) → turns T f (p + 1) ≡ true → (r : Register) → H (suc p) r ≤ 0
+    behind_cold p h r = let t = turned T f (p + 1) h in let z : p + 1 ≡ suc p = omega arith in cold_here (suc p) (Transfer t.to) (subst (λ n. WordAt f n (Transfer t.to)) z t.at) tt r
+
+    idle_there : (q n : ℕ) → WordAt f q (Drain n) → (r : Register) → H q r ≤ heat (T.starts f q) r
+    idle_there q n e r = by (turns T f (q + 1)) refl (n - 1) refl
+      where
+        first : HasFirst (idle_words T f q n) → H q r ≤ heat (T.starts f q) r
+        first s = let a = ap (λ h. h r) (at_place f q (Drain n) k.lt e s) in let b = k.same q r in omega arith
+
+        by : (b : Bool) → turns T f (q + 1) ≡ b → (m : ℕ) → n - 1 ≡ m → H q r ≤ heat (T.starts f q) r
+        by false h m z = first (waits n, [], ap (λ b. if b then pause (n - 1) else waits n ∷ []) h)
+        by true h (suc m) z = first (waits (suc m), [], ap (λ b. if b then pause (n - 1) else waits n ∷ []) h ∙ ap pause z)
+        by true h zero z =
+            let none : length (idle_words T f q n) ≡ 0 = ap length (ap (λ b. if b then pause (n - 1) else waits n ∷ []) h ∙ ap pause z) in
+            let next = word_next T flow.main Count w.words carries.placed f q (Drain n) k.lt e in
+            let same : T.starts f (q + 1) ≡ T.starts f q = (let y : q + 1 ≡ suc q = omega arith in let x : T.starts f (q + 1) ≡ T.starts f (suc q) = ap (T.starts f) y in omega arith) in
+            let warm_there : heat (T.starts f q) r ≡ 1 = ap (λ n. heat n r) (sym same) ∙ goes_warm (q + 1) h r in
+            let kept_on = pend_kept T f M S q (suc q) r (Drain n) e refl in
+            let calm = behind_cold q h r in omega arith
+
     there : (q : ℕ) (word : VirtualWord) → WordAt f q word → (r : Register) → H q r ≤ heat (T.starts f q) r
-    there q word e r = ⊎_elim
-        (λ s. (let a = ap (λ h. h r) (at_place f q word k.lt e s) in let b = k.same q r in omega arith))
-        (λ c. (let a = cold_here q word e c r in omega arith))
-        (some_word T f q word)
+    there q (Planned rg wd items) e r =
+        let a = ap (λ h. h r) (at_place f q (Planned rg wd items) k.lt e (first_behind (before T f (laid_reads items)) (plan_word T f q items) (behind T f items))) in
+        let b = k.same q r in omega arith
+    there q (Drain n) e r = idle_there q n e r
+    there q (Transfer to) e r = let a = cold_here q (Transfer to) e tt r in omega arith
+    there q (Choice test to) e r = let a = cold_here q (Choice test to) e tt r in omega arith
+    there q (Calls g arguments result) e r = let a = cold_here q (Calls g arguments result) e tt r in omega arith
+    there q (Returns x) e r = let a = cold_here q (Returns x) e tt r in omega arith
+    there q (Ends j) e r = let a = cold_here q (Ends j) e tt r in omega arith
 
     leads_there : (p q : ℕ) (word : VirtualWord) → WordAt f p word → LeadsTo p word q → (r : Register) → H q r ≤ heat (T.starts f q) r
     leads_there p q word e leads_to r = let x = get_some (T.layout f).words q (M.settled.inside p q word e leads_to) in there q x.0 x.1 r
@@ -192,8 +259,8 @@ module _ (T : Target) (flow : Flow) (ls : List VWords) (w : WordProgram) (sound 
         let a = leads_there p (suc p) word e leads_to r in
         let b = ap (λ n. heat n r) (word_next T flow.main Count w.words carries.placed f p word k.lt e) in omega arith
 
-    begins : (p : ℕ) (word : VirtualWord) → WordAt f p word → (r : Register) → start (At f p) r ≤ H p r
-    begins p word e r = let a : start (At f p) r ≡ Pend f p r = ap (λ o. at_word o (Pend f p) r) e in let b = k.same p r in omega arith
+    begins : (p : ℕ) (word : VirtualWord) → WordAt f p word → (r : Register) → start (At f p) r ≤ at_word f p (Some word) (H p) r
+    begins p word e r = let a : start (At f p) r ≡ at_word f p (Some word) (H p) r = ap (λ o. at_word f p o (Pend f p) r) e ∙ at_same f p word (Pend f p) (H p) r (k.same p r) in omega arith
 
     abbrev Behind : ℕ → VirtualWord → Register → ℕ
     Behind p word = heat (T.starts f p + length (word_words T f p word))
@@ -209,24 +276,35 @@ module _ (T : Target) (flow : Flow) (ls : List VWords) (w : WordProgram) (sound 
             let b = lift_same (slots_in_flight T f items) (Pend f to) (H to) (map (register_of T f (laid_writes items)) (slotted T f (laid_writes items))) r (k.same to r) in
             let c : lift (slots_in_flight T f items) (H to) (map (register_of T f (laid_writes items)) (slotted T f (laid_writes items))) r ≡ lift (slots_in_flight T f items) (H to) (map (register_of T f (laid_writes items)) (v ∷ vs)) r = ap (λ us. lift (slots_in_flight T f items) (H to) (map (register_of T f (laid_writes items)) us) r) s in omega arith
 
-    way_fine : (p q : ℕ) (d : Register → ℕ) → WordAt f p (Transfer q) → FineFrom (H p) (way T f (p + 1) q) d
-    way_fine p q d e = by (follows T f (p + 1) q)
+    way_fine : (p q : ℕ) (d : Register → ℕ) → FineFrom (at_word f p (Some (Transfer q)) (H p)) (way T f (p + 1) q) d
+    way_fine p q d = by (follows T f (p + 1) q)
       where
-        by : (b : Bool) → FineFrom (H p) (if b then [] else one (Goto (T.starts f q)) ∷ []) d
-        by true = λ r. (let a = cold_here p (Transfer q) e tt r in omega arith)
-        by false = transfer_fine T heat f M S p q d e (leads_there p q (Transfer q) e refl)
+        by : (b : Bool) → FineFrom (if b then cold else warm) (if b then [] else one (Goto (T.starts f q)) ∷ []) d
+        by true = λ r. omega arith
+        by false = (λ r t. ⊎_elim (λ i. absurd i) (λ i. absurd i) t.0, (λ t r j. omega arith), λ r. omega arith)
 
-    inner : (p : ℕ) (word : VirtualWord) → WordAt f p word → FineFrom (H p) (word_words T f p word) (Behind p word)
+    idle_fine : (p n : ℕ) → WordAt f p (Drain n) → FineFrom (H p) (idle_words T f p n) (Behind p (Drain n))
+    idle_fine p n e = by (turns T f (p + 1)) refl (word_next T flow.main Count w.words carries.placed f p (Drain n) k.lt e)
+      where
+        Words : Bool → List Word
+        Words b = if b then pause (n - 1) else waits n ∷ []
+
+        by : (b : Bool) → turns T f (p + 1) ≡ b → T.starts f (suc p) ≡ T.starts f p + length (Words b) → FineFrom (H p) (Words b) (heat (T.starts f p + length (Words b)))
+        by true h next = drain_short T heat f M S p n (n - 1) (heat (T.starts f p + length (pause (n - 1)))) e (omega arith) (behind_cold p h)
+            (λ r. (let y : p + 1 ≡ suc p = omega arith in let a : heat (T.starts f p + length (pause (n - 1))) r ≡ 1 = ap (λ m. heat m r) (sym next ∙ ap (T.starts f) (sym y)) ∙ goes_warm (p + 1) h r in omega arith))
+        by false h next = ends (H p) (H (suc p)) (heat (T.starts f p + 1)) (waits n ∷ []) (λ r. (let a = leads_there p (suc p) (Drain n) e refl r in let b = ap (λ m. heat m r) next in omega arith)) (drain_fine T heat f M S p n e)
+
+    inner : (p : ℕ) (word : VirtualWord) → WordAt f p word → FineFrom (at_word f p (Some word) (H p)) (word_words T f p word) (Behind p word)
     inner p (Planned rg wd items) e = ends (H p) (H (suc p)) (Behind p (Planned rg wd items)) (plan_words T f p items) (next_there p (Planned rg wd items) e (inl refl)) (plan_fine T heat f M S l p rg wd items e (split_there p rg wd items e))
-    inner p (Drain n) e = ends (H p) (H (suc p)) (Behind p (Drain n)) (waits n ∷ []) (next_there p (Drain n) e refl) (drain_fine T heat f M S p n e)
-    inner p (Transfer q) e = way_fine p q (Behind p (Transfer q)) e
+    inner p (Drain n) e = idle_fine p n e
+    inner p (Transfer q) e = way_fine p q (Behind p (Transfer q))
     inner p (Choice test q) e = ends (H p) (H (suc p)) (Behind p (Choice test q)) (choice_words T f test q) (next_there p (Choice test q) e (inr refl)) (choice_fine T heat f M S l p test q e (leads_there p q (Choice test q) e (inl refl)))
     inner p (Calls g arguments result) e = less (H p) cold (Behind p (Calls g arguments result)) (word_words T f p (Calls g arguments result)) (cold_here p (Calls g arguments result) e tt) (call_fine T heat f M S (carries.functions f k.lt).saved p g arguments result (Behind p (Calls g arguments result)) e l.issue)
     inner p (Returns x) e = less (H p) cold (Behind p (Returns x)) (return_words T f x) (cold_here p (Returns x) e tt) (return_fine T heat f x (Behind p (Returns x)))
     inner p (Ends j) e = stop_fine T.machine heat (H p) (EndByTrap j ∷ []) [] (Behind p (Ends j)) refl (λ q r i. absurd i) refl (λ r t. ⊎_elim (λ i. absurd i) (λ i. absurd i) t.0) (λ r. omega arith)
 
     good_word : (p : ℕ) (word : VirtualWord) → WordAt f p word → Good (record { label = At f p; words = word_words T f p word })
-    good_word p word e = less (start (At f p)) (H p) (Behind p word) (word_words T f p word) (begins p word e) (inner p word e)
+    good_word p word e = less (start (At f p)) (at_word f p (Some word) (H p)) (Behind p word) (word_words T f p word) (begins p word e) (inner p word e)
 
     -- landings
 
@@ -274,7 +352,7 @@ module _ (T : Target) (flow : Flow) (ls : List VWords) (w : WordProgram) (sound 
     }
 
     laid_good : (p : ℕ) (words : List VirtualWord) → Stand p words → AllGood (laid_pieces T f p words)
-    laid_good p [] h = ((λ r. (let a : start (At f p) r ≡ 0 = ap (λ o. at_word o (Pend f p) r) (get_beyond (T.layout f).words p (let b = h.whole in omega arith)) in omega arith)), tt)
+    laid_good p [] h = ((λ r. (let a : start (At f p) r ≡ 0 = ap (λ o. at_word f p o (Pend f p) r) (get_beyond (T.layout f).words p (let b = h.whole in omega arith)) in omega arith)), tt)
     laid_good p (word ∷ words) h = (good_word p word (stand_here p word words h), laid_good (suc p) words (stand_on p word words h))
 
     laid_landings : (p : ℕ) (words : List VirtualWord) → Stand p words → AllGood (landing_pieces T f p words)

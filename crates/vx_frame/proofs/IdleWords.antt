@@ -1,6 +1,6 @@
 -- Of two words of a program one behind the other, one is a word of the plan or has an operation, where layouts are spaced: pauses
 -- stand behind operations, empty cycles of a layout behind no pause, and neither behind the other.
-use Rattle.std.proofs.Common.{◌≡◌, ◌<◌, ◌≤◌, ◌⊎◌, inl, inr, ⊎_elim, ◌+◌, ◌==◌, not, ℕ, zero, suc, ℤ, pos, neg_ℤ, Bool, true, false, Option, Some, None, List, [], ◌∷◌, ◌++◌, length, refl, sym, ap, ◌∙◌, subst, arith}
+use Rattle.std.proofs.Common.{◌≡◌, ◌<◌, ◌≤◌, ◌⊎◌, inl, inr, ⊎_elim, ◌+◌, ◌-◌, ◌==◌, not, ℕ, zero, suc, ℤ, pos, neg_ℤ, Bool, true, false, Option, Some, None, List, [], ◌∷◌, ◌++◌, length, refl, sym, ap, ◌∙◌, subst, arith}
 use Rattle.std.specs.Prelude.{if◌then◌else◌, slice_get}
 use Rattle.std.specs.List.{filter}
 use Rattle.std.proofs.lemmas.Bool.{and_parts, eqb-true}
@@ -24,7 +24,7 @@ use Rattle.vx_mixed.specs.declared.layout.VirtualWord.{VirtualWord}
 use Rattle.vx_mixed.specs.declared.layout.VirtualWord.TheVariants.{Planned, Drain, Transfer, Choice, Call as Calls, Return as Returns, Ends}
 use Rattle.vx_mixed.specs.declared.layout.VWords.{VWords}
 use Rattle.vx_mixed.specs.LaidSettled.{laid_reads, laid_writes}
-use Rattle.vx_frame.specs.Target.{Target, answer, general, general_of, branch_of, home, stack_on, holds_branch, is_slotted, kept, slotted, once, parameters_of, one, together, pause, in_flight, settled, set_stack, slots_in_flight, load_slot, store_slot, load_slots, store_slots, if_some, before, behind, plan_word, plan_words, landing_words, on_clusters, move_stack, save_words, reload_words, fetch_words, fetched, cluster_of_operand, argument_words, result_words, call_words, back_words, is_caller, is_drain, is_drain_there, answer_words, return_words, follows, way, link_words, entry_words, word_words, start_words, bytes, first_frame}
+use Rattle.vx_frame.specs.Target.{Target, answer, general, general_of, branch_of, home, stack_on, holds_branch, is_slotted, kept, slotted, once, parameters_of, one, together, pause, in_flight, settled, set_stack, slots_in_flight, load_slot, store_slot, load_slots, store_slots, if_some, before, behind, plan_word, plan_words, landing_words, on_clusters, move_stack, save_words, reload_words, fetch_words, fetched, cluster_of_operand, argument_words, result_words, call_words, back_words, is_caller, is_drain, is_drain_there, answer_words, return_words, follows, way, link_words, entry_words, turns, idle_words, word_words, start_words, waits, bytes, first_frame}
 use Rattle.vx_frame.specs.Placed.{Depth, Labelled, PlacedAt, place_of, laid_pieces, landing_of, item_landings, word_landings, landing_pieces, function_pieces, functions_pieces, all_pieces, words_of}
 use Rattle.vx_frame.specs.Carried.{Carries, IsMapped}
 use Rattle.vx_frame.specs.Plans.{AreSpaced, GoesOn, IsSpaced}
@@ -350,8 +350,15 @@ module _ (T : Target) (flow : Flow) (ls : List VWords) (w : WordProgram) (carrie
     choice_idles : (p test q : ℕ) → Idles true (word_words T f p (Choice test q)) false
     choice_idles p test q = then_idles true true false (before T f (test ∷ [])) (one (BranchOn (branch_of T f (test ∷ []) test) true (T.starts f q)) ∷ []) (before_idles T f (test ∷ [])) (last_idles true (BranchOn (branch_of T f (test ∷ []) test) true (T.starts f q)))
 
+    drain_idles : (p n : ℕ) → Idles false (idle_words T f p n) true
+    drain_idles p n = by (turns T f (p + 1))
+      where
+        by : (b : Bool) → Idles false (if b then pause (n - 1) else waits n ∷ []) true
+        by true = pause_idles (n - 1)
+        by false = inr (refl, λ e. refl)
+
     -- the last word of a word of the layout may have no operation, or that is so before it and it has no word
-    ends : ℕ → VirtualWord → Bool
+    abbrev ends : ℕ → VirtualWord → Bool
     ends p (Planned rg wd items) = false
     ends p (Drain n) = true
     ends p (Transfer q) = follows T f (p + 1) q
@@ -372,7 +379,7 @@ module _ (T : Target) (flow : Flow) (ls : List VWords) (w : WordProgram) (carrie
 
     any_word_runs : (a : Bool) (p : ℕ) (word : VirtualWord) → HasWordAt p word → (a ≡ true → is_drain word ≡ false) → Runs T Count a (T.starts f p) (word_words T f p word) (ends p word)
     any_word_runs true p word e h = word_runs p word e (h refl)
-    any_word_runs false p (Drain n) e h = inr (refl, λ y. refl)
+    any_word_runs false p (Drain n) e h = runs_of T Count false true (T.starts f p) (idle_words T f p n) (drain_idles p n)
     any_word_runs false p (Planned rg wd items) e h = weak_runs T Count false false (T.starts f p) (plan_words T f p items) (word_runs p (Planned rg wd items) e refl)
     any_word_runs false p (Transfer q) e h = weak_runs T Count false (follows T f (p + 1) q) (T.starts f p) (word_words T f p (Transfer q)) (word_runs p (Transfer q) e refl)
     any_word_runs false p (Choice test q) e h = weak_runs T Count false false (T.starts f p) (word_words T f p (Choice test q)) (word_runs p (Choice test q) e refl)

@@ -1,5 +1,5 @@
--- Words that begin with writes to values in flight: loads of slots in front of a word, drains, transfers and choices.
-use Rattle.std.proofs.Common.{◌≡◌, ◌≤◌, inl, inr, ⊎_elim, ℕ, suc, true, Some, List, [], ◌∷◌, ◌++◌, refl, sym, ap, ◌∙◌, subst, arith}
+-- Words that begin with writes to values in flight: loads of slots in front of a word, drains and choices.
+use Rattle.std.proofs.Common.{◌≡◌, ◌≤◌, inl, inr, ⊎_elim, ℕ, zero, suc, true, Some, List, [], ◌∷◌, ◌++◌, refl, sym, ap, ◌∙◌, subst, arith}
 use Rattle.std.specs.Prelude.{if◌then◌else◌, slice_get}
 use Rattle.std.proofs.lemmas.List.{append-nil}
 use Rattle.vx_base.proofs.Pieces.{fine_append}
@@ -9,10 +9,10 @@ use Rattle.vx_flow.specs.Effects.{IsIn}
 use Rattle.vx_flow.specs.Sound.{Has, Sound}
 use Rattle.vx_isa.specs.declared.operation.Register.{Register}
 use Rattle.vx_isa.specs.declared.operation.Register.TheVariants.{General as InGeneral, Branch as InBranch}
-use Rattle.vx_isa.specs.declared.operation.Operation.TheVariants.{Goto, BranchOn}
+use Rattle.vx_isa.specs.declared.operation.Operation.TheVariants.{BranchOn}
 use Rattle.vx_isa.specs.declared.program.Word.{Word}
 use Rattle.vx_mixed.specs.declared.layout.VirtualWord.{VirtualWord}
-use Rattle.vx_mixed.specs.declared.layout.VirtualWord.TheVariants.{Drain, Transfer, Choice}
+use Rattle.vx_mixed.specs.declared.layout.VirtualWord.TheVariants.{Drain, Choice}
 use Rattle.vx_mixed.specs.LaidSettled.{bank_in}
 use Rattle.vx_mixed.specs.Settled.{NoTwice}
 use Rattle.vx_regs.specs.Intervals.{is_live, here}
@@ -68,11 +68,13 @@ module _ (T : Target) (heat : ℕ → Register → ℕ) (f : ℕ) (mapped : IsMa
   pub drain_fine : (p n : ℕ) → At p (Drain n) → F (Heat p) (waits n ∷ []) (Heat (suc p))
   drain_fine p n e = (λ r t. ⊎_elim (λ i. absurd i) (λ i. absurd i) t.0, (λ q r j. absurd j), λ r. (let a = pend_kept T f mapped sound p (suc p) r (Drain n) e refl in omega arith))
 
-  pub transfer_fine : (p q : ℕ) (e : Register → ℕ) → At p (Transfer q) → ((r : Register) → Heat q r ≤ heat (T.starts f q) r) → F (Heat p) (one (Goto (T.starts f q)) ∷ []) e
-  transfer_fine p q e at there = (
+  -- behind all but the last of its cycles one is left at most, where nothing is behind them all
+  pub drain_short : (p n k : ℕ) (e : Register → ℕ) → At p (Drain n) → n ≤ suc k → ((r : Register) → Heat (suc p) r ≤ 0) → ((r : Register) → 1 ≤ e r) → F (Heat p) (pause k) e
+  drain_short p n zero e at long calm one_more = λ r. (let a = pend_kept T f mapped sound p (suc p) r (Drain n) at refl in let b = calm r in let c = one_more r in omega arith)
+  drain_short p n (suc k) e at long calm one_more = (
     λ r t. ⊎_elim (λ i. absurd i) (λ i. absurd i) t.0,
-    (λ t r j. (let a = pend_kept T f mapped sound p q r (Transfer q) at refl in let b = there r in let c = ap (λ x. heat x r) j in omega arith)),
-    λ r. omega arith,
+    λ q r j. absurd j,
+    λ r. (let a = pend_kept T f mapped sound p (suc p) r (Drain n) at refl in let b = calm r in let c = one_more r in omega arith),
   )
 
   -- a choice tests a branch value of which nothing is left

@@ -1,5 +1,5 @@
 -- From tied states drains, transfers, choices and ends come to tied states or to one end.
-use Rattle.std.proofs.Common.{◌≡◌, ◌<◌, ◌≤◌, ◌⊎◌, inl, inr, ⊎_elim, ◌+◌, ◌*◌, ◌^◌, ℕ, suc, ℤ, Bool, true, false, cond, Some, None, List, [], ◌∷◌, ◌++◌, length, length-append, refl, sym, ap, ◌∙◌, subst, arith}
+use Rattle.std.proofs.Common.{◌≡◌, ◌<◌, ◌≤◌, ◌⊎◌, inl, inr, ⊎_elim, ◌+◌, ◌-◌, ◌*◌, ◌^◌, ℕ, zero, suc, ℤ, Bool, true, false, cond, Some, None, List, [], ◌∷◌, ◌++◌, length, length-append, refl, sym, ap, ◌∙◌, subst, arith}
 use Rattle.std.specs.Prelude.{if◌then◌else◌, slice_get}
 use Rattle.std.specs.List.{filter}
 use Rattle.std.proofs.lemmas.Bool.{and_parts, eqb-true}
@@ -24,7 +24,7 @@ use Rattle.vx_mixed.specs.declared.layout.VWords.{VWords}
 use Rattle.vx_mixed.specs.Laid.{moves, word_hop, laid_hop, some_word_hop, laid_body, laid_program}
 use Rattle.vx_mixed.specs.LaidSettled.{LeadsTo, bank_in}
 use Rattle.vx_regs.specs.Intervals.{IsLive, here, beyond, is_live, word_writes}
-use Rattle.vx_frame.specs.Target.{Target, answer, stack_on, kept, is_slotted, holds_branch, same_file, scratch, general_of, branch_of, register_of, slotted, before, follows, one, word_words, memory_words}
+use Rattle.vx_frame.specs.Target.{Target, answer, stack_on, kept, is_slotted, holds_branch, same_file, scratch, general_of, branch_of, register_of, slotted, before, follows, turns, one, waits, pause, word_words, memory_words}
 use Rattle.vx_frame.specs.Tied.{Tied, AtWord, Below, begins_at, Shows, holds, is_place, moved, word_at}
 use Rattle.vx_frame.specs.Carried.{Carries, IsFunctionOf, IsMapped, is_spilled}
 use Rattle.vx_frame.specs.Planned.{CarriesOn, EndsAlike, FallsNext, Simple, SimpleLaw}
@@ -106,6 +106,23 @@ module _ (T : Target) (flow : Flow) (ls : List VWords) (w : WordProgram) (sound 
           by true h s = subst (λ x. Shows T tied.sp F y n x) (sym (ap (λ g. word_at g (tied.sp + T.slot F y)) k.memory)) s
           by false h s = subst (λ x. Shows T tied.sp F y n x) (sym (k.registers y (beyond plan (none y) leads live) h)) s
 
+  -- to the next place, where no word stands between
+  fallen : (q : ℕ) → q ≡ suc p → next (laid_program flow ls) r ≡ On (record r { block = suc q }) → LeadsTo p word q → ((y : ℕ) → IsIn y (word_writes word) → ⊥) → T.starts F (suc p) ≡ u.place + 0 → FallsNext T flow ls p r u
+  fallen q behind steps leads none next_place =
+      let here : u.place ≡ u.place + 0 = omega arith in
+      let kept_here : KeptBy q u = record {
+        place = here ∙ sym next_place ∙ ap (T.starts F) (sym behind);
+        quiet = record { calm = tied.calm; input = refl; out = refl };
+        memory = refl;
+        stack = λ k lt. refl;
+        link = refl;
+        registers = λ y l h. refl;
+      } in record {
+        falls = record { after = record r { block = suc q }; place = q; block = refl; over_values = steps; tied = tied_on q u steps leads none kept_here };
+        place = behind;
+        function = refl;
+      }
+
   moved_on : (q : ℕ) (v : State) → next (laid_program flow ls) r ≡ On (record r { block = suc q }) → LeadsTo p word q → ((y : ℕ) → IsIn y (word_writes word) → ⊥) → Forth T.machine w fit u v → KeptBy q v → CarriesOn T flow ls w r u
   moved_on q v steps leads none forth k = record {
     after = record r { block = suc q };
@@ -127,14 +144,23 @@ module _ (T : Target) (flow : Flow) (ls : List VWords) (w : WordProgram) (sound 
   }
 
 module _ (T : Target) (flow : Flow) (ls : List VWords) (w : WordProgram) (sound : SoundFlow flow) (carries : Carries T flow ls w) (fit : AllFit T.machine w) (r : Active) (u : State) (tied : Tied T flow ls r u) (p : ℕ) (block : r.block ≡ suc p) where
-  drain_word : (n : ℕ) → slice_get (T.layout r.function).words p ≡ Some (Drain n) → CarriesOn T flow ls w r u
-  drain_word n plan =
-      let st = stands T flow ls w sound carries fit r u tied p (Drain n) block plan in
-      let next_place : T.starts r.function (suc p) ≡ u.place + 1 = following T flow ls w sound carries fit r u tied p (Drain n) block plan in
-      let a = wait_step T.machine w fit u n tied.calm st.0 in
-      let b : Passed T.machine w fit u (T.starts r.function (suc p)) = subst (Passed T.machine w fit u) (sym next_place) a in
-      moved_on T flow ls w sound carries fit r u tied p (Drain n) block plan (suc p) b.to (next_is T flow ls w sound carries fit r u tied p (Drain n) block plan (moves p (suc p) r.state) refl) refl (λ y i. i)
-      b.forth (passed_on T flow ls w sound carries fit r u tied p (Drain n) block plan (suc p) b)
+  -- one empty cycle has no word where a goto stands behind it
+  drain_word : (n : ℕ) → slice_get (T.layout r.function).words p ≡ Some (Drain n) → CarriesOn T flow ls w r u ⊎ FallsNext T flow ls p r u
+  drain_word n plan = by (turns T r.function (p + 1)) (n - 1) (stands T flow ls w sound carries fit r u tied p (Drain n) block plan) (following T flow ls w sound carries fit r u tied p (Drain n) block plan)
+    where
+      steps : next (laid_program flow ls) r ≡ On (record r { block = suc (suc p) })
+      steps = next_is T flow ls w sound carries fit r u tied p (Drain n) block plan (moves p (suc p) r.state) refl
+
+      waited : (k : ℕ) → slice_get w.words u.place ≡ Some (waits k) → T.starts r.function (suc p) ≡ u.place + 1 → CarriesOn T flow ls w r u
+      waited k at next_place =
+          let a = wait_step T.machine w fit u k tied.calm at in
+          let b : Passed T.machine w fit u (T.starts r.function (suc p)) = subst (Passed T.machine w fit u) (sym next_place) a in
+          moved_on T flow ls w sound carries fit r u tied p (Drain n) block plan (suc p) b.to steps refl (λ y i. i) b.forth (passed_on T flow ls w sound carries fit r u tied p (Drain n) block plan (suc p) b)
+
+      by : (b : Bool) (k : ℕ) → Stands w.words u.place (if b then pause k else waits n ∷ []) → T.starts r.function (suc p) ≡ u.place + length (if b then pause k else waits n ∷ []) → CarriesOn T flow ls w r u ⊎ FallsNext T flow ls p r u
+      by true zero st next_place = inr (fallen T flow ls w sound carries fit r u tied p (Drain n) block plan (suc p) refl steps refl (λ y i. i) next_place)
+      by true (suc k) st next_place = inl (waited (suc k) st.0 next_place)
+      by false k st next_place = inl (waited n st.0 next_place)
 
   -- a transfer to the next place may have no word
   transfer_word : (q : ℕ) → slice_get (T.layout r.function).words p ≡ Some (Transfer q) → CarriesOn T flow ls w r u ⊎ FallsNext T flow ls p r u
@@ -150,21 +176,7 @@ module _ (T : Target) (flow : Flow) (ls : List VWords) (w : WordProgram) (sound 
       by true e st next_place =
           let same : p + 1 ≡ q = eqb-true (p + 1) q (and_parts _ _ e).0 in
           let behind : q ≡ suc p = omega arith in
-          let here : u.place ≡ u.place + 0 = omega arith in
-          let place : u.place ≡ T.starts r.function q = here ∙ sym next_place ∙ ap (T.starts r.function) (sym behind) in
-          let kept_here : KeptBy T flow ls w sound carries fit r u tied p (Transfer q) block plan q u = record {
-            place = place;
-            quiet = record { calm = tied.calm; input = refl; out = refl };
-            memory = refl;
-            stack = λ k lt. refl;
-            link = refl;
-            registers = λ y l h. refl;
-          } in
-          inr (record {
-            falls = record { after = record r { block = suc q }; place = q; block = refl; over_values = steps; tied = tied_on T flow ls w sound carries fit r u tied p (Transfer q) block plan q u steps refl (λ y i. i) kept_here };
-            place = behind;
-            function = refl;
-          })
+          inr (fallen T flow ls w sound carries fit r u tied p (Transfer q) block plan q behind steps refl (λ y i. i) next_place)
       by false e st next_place =
           let a = goto_step T.machine w fit u (T.starts r.function q) tied.calm st.0 in
           inl (moved_on T flow ls w sound carries fit r u tied p (Transfer q) block plan q a.to steps refl (λ y i. i) a.forth (passed_on T flow ls w sound carries fit r u tied p (Transfer q) block plan q a))
@@ -329,7 +341,7 @@ simple_law T flow ls w sound carries fit r u tied p word block plan simple = by 
     is_sound = (told flow (is_sound_flow flow) refl).0 sound
 
     by : (word : VirtualWord) → slice_get (T.layout r.function).words p ≡ Some word → Simple word → (CarriesOn T flow ls w r u ⊎ EndsAlike T flow ls w r u) ⊎ FallsNext T flow ls p r u
-    by (Drain n) e s = inl (inl (drain_word T flow ls w is_sound carries fit r u tied p block n e))
+    by (Drain n) e s = ⊎_elim (λ a. inl (inl a)) (λ a. inr a) (drain_word T flow ls w is_sound carries fit r u tied p block n e)
     by (Transfer q) e s = ⊎_elim (λ a. inl (inl a)) (λ a. inr a) (transfer_word T flow ls w is_sound carries fit r u tied p block q e)
     by (Choice test q) e s = inl (inl (choice_word T flow ls w is_sound carries fit r u tied p block test q e))
     by (Ends k) e s = inl (inr (ends_word T flow ls w is_sound carries fit r u tied p block k e))

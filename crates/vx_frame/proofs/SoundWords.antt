@@ -1,5 +1,5 @@
 -- The words that carry a flow are sound: short pauses, operations of their form, and places, functions and texts that are there.
-use Rattle.std.proofs.Common.{◌≡◌, ◌<◌, ◌≤◌, ◌⊎◌, inl, inr, ⊎_elim, ◌+◌, ◌*◌, ◌%◌, ◌==◌, ◌||◌, ℕ, zero, suc, ℤ, pos, neg_ℤ, Bool, true, false, Option, Some, None, List, [], ◌∷◌, ◌++◌, length, length-append, map, refl, sym, ap, subst, arith}
+use Rattle.std.proofs.Common.{◌≡◌, ◌<◌, ◌≤◌, ◌⊎◌, inl, inr, ⊎_elim, ◌+◌, ◌-◌, ◌*◌, ◌%◌, ◌==◌, ◌||◌, ℕ, zero, suc, ℤ, pos, neg_ℤ, Bool, true, false, Option, Some, None, List, [], ◌∷◌, ◌++◌, length, length-append, map, refl, sym, ap, subst, arith}
 use Rattle.std.specs.Prelude.{if◌then◌else◌, slice_get}
 use Rattle.std.specs.List.{list_all}
 use Rattle.std.specs.Cmp.Derive.{both_true}
@@ -38,7 +38,7 @@ use Rattle.vx_mixed.specs.declared.layout.VirtualWord.TheVariants.{Planned, Drai
 use Rattle.vx_mixed.specs.declared.layout.VWords.{VWords}
 use Rattle.vx_mixed.specs.LaidSettled.{laid_reads, laid_writes, LeadsTo, Plans}
 use Rattle.vx_mixed.specs.Origins.{ComesFrom, graph_op}
-use Rattle.vx_frame.specs.Target.{Target, answer, general, general_of, branch_of, register_of, stack_on, holds_branch, is_slotted, kept, slotted, once, parameters_of, one, together, pause, in_flight, settled, set_stack, slots_in_flight, load_slot, store_slot, load_slots, store_slots, if_some, before, behind, leads, carried, carried_items, plan_word, plan_words, landing_words, on_clusters, move_stack, save_words, reload_words, fetch_words, fetched, cluster_of_operand, argument_words, result_words, call_words, back_words, is_caller, answer_words, return_words, follows, way, link_words, entry_words, word_words, start_words, bytes, first_frame, memory_words}
+use Rattle.vx_frame.specs.Target.{Target, answer, general, general_of, branch_of, register_of, stack_on, holds_branch, is_slotted, kept, slotted, once, parameters_of, one, together, pause, in_flight, settled, set_stack, slots_in_flight, load_slot, store_slot, load_slots, store_slots, if_some, before, behind, leads, carried, carried_items, plan_word, plan_words, landing_words, on_clusters, move_stack, save_words, reload_words, fetch_words, fetched, cluster_of_operand, argument_words, result_words, call_words, back_words, is_caller, answer_words, return_words, follows, way, link_words, entry_words, turns, idle_words, word_words, start_words, waits, bytes, first_frame, memory_words}
 use Rattle.vx_frame.specs.Placed.{Depth, Labelled, laid_pieces, landing_of, item_landings, word_landings, landing_pieces, function_pieces, functions_pieces, all_pieces, words_of}
 use Rattle.vx_frame.specs.Carried.{Carries, IsFunctionOf, IsMapped, item_of_laid}
 use Rattle.vx_frame.specs.Finish.{SoundLaw}
@@ -74,7 +74,15 @@ HasWords T f p word = (1 ≤ length (word_words T f p word)) ⊎ ((length (word_
 
 words_some : (T : Target) (f p : ℕ) (word : VirtualWord) → HasWords T f p word
 words_some T f p (Planned rg wd items) = inl (some_behind (before T f (laid_reads items)) (behind T f items) (plan_word T f p items))
-words_some T f p (Drain n) = inl (omega arith)
+words_some T f p (Drain n) = by (turns T f (p + 1)) (n - 1)
+  where
+    next : p + 1 ≡ suc p
+    next = omega arith
+
+    by : (b : Bool) (k : ℕ) → (1 ≤ length (if b then pause k else waits n ∷ [])) ⊎ ((length (if b then pause k else waits n ∷ []) ≡ 0) × LeadsTo p (Drain n) (p + 1))
+    by true zero = inr (refl, next)
+    by true (suc k) = inl (omega arith)
+    by false k = inl (omega arith)
 words_some T f p (Transfer q) = by (follows T f (p + 1) q) refl
   where
     by : (b : Bool) → follows T f (p + 1) q ≡ b → (1 ≤ length (if b then [] else one (Goto (T.starts f q)) ∷ [])) ⊎ ((length (if b then [] else one (Goto (T.starts f q)) ∷ []) ≡ 0) × LeadsTo p (Transfer q) (p + 1))
@@ -433,9 +441,16 @@ module _ (T : Target) (flow : Flow) (ls : List VWords) (w : WordProgram) (sound 
         let there = sound.calls (T.graph f) g c.next arguments result graph_in c.has in
         get_below flow.functions g there.graph there.is
 
+    idle_right : (p n : ℕ) → HasWordAt p (Drain n) → Words (idle_words T f p n)
+    idle_right p n e = by (turns T f (p + 1))
+      where
+        by : (b : Bool) → Words (if b then pause (n - 1) else waits n ∷ [])
+        by true = pause_right (n - 1) (let a = mapped.brief p n e in omega arith)
+        by false = ((let a = mapped.brief p n e in omega arith, inr refl, tt), tt)
+
     word_right : (p : ℕ) (word : VirtualWord) → HasWordAt p word → Words (word_words T f p word)
     word_right p (Planned rg wd items) e = planned_right p rg wd items e
-    word_right p (Drain n) e = ((let a = mapped.brief p n e in omega arith, inr refl, tt), tt)
+    word_right p (Drain n) e = idle_right p n e
     word_right p (Transfer q) e = way_right (p + 1) q (mapped.settled.inside p q (Transfer q) e refl)
     word_right p (Choice test q) e = right_append W N (before T f (test ∷ [])) (one (BranchOn (branch_of T f (test ∷ []) test) true (T.starts f q)) ∷ []) (before_right f (test ∷ [])) (has_one W N (BranchOn (branch_of T f (test ∷ []) test) true (T.starts f q)) (start_below f q lt (mapped.settled.inside p q (Choice test q) e (inl refl))), tt)
     word_right p (Calls g arguments result) e = right_append W N (call_words T f p g arguments) (back_words T f p result) (call_right f p g arguments (called_below p g arguments result e)) (back_right f p result)
@@ -486,8 +501,8 @@ module _ (T : Target) (flow : Flow) (ls : List VWords) (w : WordProgram) (sound 
     l : Limits T.machine
     l = limits T.machine carries.machine
 
-    idle_right : (idle count : ℕ) → (idle ≡ 0) ⊎ (count ≡ 0) → ((idle == 0) || (count == 0)) ≡ true
-    idle_right idle count h = ⊎_elim (λ e. ap (λ n. (n == 0) || (count == 0)) e) (λ e. by (idle == 0) (ap (λ n. n == 0) e)) h
+    idle_fits : (idle count : ℕ) → (idle ≡ 0) ⊎ (count ≡ 0) → ((idle == 0) || (count == 0)) ≡ true
+    idle_fits idle count h = ⊎_elim (λ e. ap (λ n. (n == 0) || (count == 0)) e) (λ e. by (idle == 0) (ap (λ n. n == 0) e)) h
       where
         by : (b : Bool) → (count == 0) ≡ true → (b || (count == 0)) ≡ true
         by true e = refl
@@ -495,7 +510,7 @@ module _ (T : Target) (flow : Flow) (ls : List VWords) (w : WordProgram) (sound 
 
     words_sound : (ws : List Word) → Words ws → ((p : ℕ) (word : Word) → slice_get ws p ≡ Some word → fits T.machine word.ops ≡ true) → list_all (is_sound_word W N) ws ≡ true
     words_sound [] a fit = refl
-    words_sound (x ∷ ws) a fit = both_true (both_true (both_true (le-leb x.idle 255 a.0.0) (idle_right x.idle (length x.ops) a.0.1)) (all_sound T.machine l W N x.ops (fit 0 x refl) a.0.2)) (words_sound ws a.1 (λ p word e. fit (suc p) word e))
+    words_sound (x ∷ ws) a fit = both_true (both_true (both_true (le-leb x.idle 255 a.0.0) (idle_fits x.idle (length x.ops) a.0.1)) (all_sound T.machine l W N x.ops (fit 0 x refl) a.0.2)) (words_sound ws a.1 (λ p word e. fit (suc p) word e))
 
     aligned : (n k : ℕ) → n ≡ 4 * k → (n % 4 == 0) ≡ true
     aligned n k e = let z : n % 4 ≡ 0 = omega arith in ap (λ x. x == 0) z

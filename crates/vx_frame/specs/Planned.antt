@@ -66,7 +66,7 @@ pub record FallsThrough (T : Target) (flow : Flow) (ls : List VWords) (r : Activ
   pub over_values : next (laid_program flow ls) r ≡ On after
   pub tied : Tied T flow ls after u
 
--- so does a transfer to the next place of its function, where it has no word
+-- so does a transfer or an empty cycle to the next place of its function, where it has no word
 pub record FallsNext (T : Target) (flow : Flow) (ls : List VWords) (p : ℕ) (r : Active) (u : State) : Type 0 where
   pub falls : FallsThrough T flow ls r u
   pub place : falls.place ≡ suc p

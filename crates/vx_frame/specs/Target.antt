@@ -407,12 +407,33 @@ link_words T f =
 abbrev pub entry_words : Target → ℕ → List Word
 entry_words T g = link_words T g ++ (reload_words T g (T.brought g) ++ way T g 0 (T.layout g).entry)
 
+-- the word at a place goes to another one by a word of its own
+abbrev pub turns_word : Target → (function place : ℕ) → VirtualWord → Bool
+turns_word T f p (Planned r w items) = false
+turns_word T f p (Drain n) = false
+turns_word T f p (Transfer q) = not (follows T f (p + 1) q)
+turns_word T f p (Choice test q) = false
+turns_word T f p (Calls g arguments result) = false
+turns_word T f p (Returns x) = false
+turns_word T f p (Ends k) = false
+
+abbrev pub turns_there : Target → (function place : ℕ) → Option VirtualWord → Bool
+turns_there T f p None = false
+turns_there T f p (Some word) = turns_word T f p word
+
+abbrev pub turns : Target → (function place : ℕ) → Bool
+turns T f p = turns_there T f p (slice_get (T.layout f).words p)
+
+-- empty cycles, of which a goto behind them is the last one: it reads nothing
+abbrev pub idle_words : Target → (function place cycles : ℕ) → List Word
+idle_words T f p n = if turns T f (p + 1) then pause (n - 1) else waits n ∷ []
+
 abbrev pub choice_words : Target → ℕ → (test to : ℕ) → List Word
 choice_words T f test q = before T f (test ∷ []) ++ one (BranchOn (branch_of T f (test ∷ []) test) true (T.starts f q)) ∷ []
 
 abbrev pub word_words : Target → (function place : ℕ) → VirtualWord → List Word
 word_words T f p (Planned r w items) = plan_words T f p items
-word_words T f p (Drain n) = waits n ∷ []
+word_words T f p (Drain n) = idle_words T f p n
 word_words T f p (Transfer q) = way T f (p + 1) q
 word_words T f p (Choice test q) = choice_words T f test q
 word_words T f p (Calls g arguments result) = call_words T f p g arguments ++ back_words T f p result

@@ -6,7 +6,7 @@ ghost use Rattle.vx_base.specs.declared.arithmetic.Compare.TheVariants.{Ltu};
 ghost use Rattle.vx_isa.specs.declared.operation.Operation.TheVariants.{BranchOn, Compute, Load, Move, ToLink};
 ghost use Rattle.vx_isa.specs.declared.operation.Register.TheVariants.{Branch as InBranch, General as InGeneral};
 ghost use Rattle.vx_isa.specs.declared.operation.Source.TheVariants.{Held, Number};
-ghost use Rattle.vx_frame.specs.Target.{bytes, general, one, together, settled, stack_on, on_clusters, parameters_of, first_frame, fetch_words, fetched, cluster_of_operand, argument_words, result_words, save_words, reload_words, move_stack, call_words, back_words, answer_words, return_words, way, link_words, entry_words, set_stack, start_words};
+ghost use Rattle.vx_frame.specs.Target.{bytes, general, one, together, settled, stack_on, on_clusters, parameters_of, first_frame, fetch_words, fetched, cluster_of_operand, argument_words, result_words, save_words, reload_words, move_stack, call_words, back_words, answer_words, return_words, follows, way, link_words, entry_words, set_stack, start_words};
 ghost use Rattle.vx_frame.specs.Seen.{seen};
 
 use crate::carrying::{bytes, stack_on};
@@ -393,6 +393,13 @@ pub(crate) fn push_return(
     push_one(alloc, Operation::Return, words)
 }
 
+/// Whether a place of a layout can follow at once, where another one is next: it is that one, and no empty cycles stand there.
+pub(crate) fn follows(whole: &Whole, function: u32, next: u32, to: u32) -> bool
+    ensures { result ≡ follows (seen whole.now) function next to }
+{
+    next == to && !is_drain_at(whole, function, to)
+}
+
 /// The way to a place of a layout, where another one is next: no word where it is that one, but for empty cycles, which are not to
 /// stand behind a pause.
 pub(crate) fn push_way(
@@ -405,7 +412,7 @@ pub(crate) fn push_way(
 ) -> Result<(), NoMemory>
     ensures { IfOk result (λ _. words.new ≡ words.old ++ way (seen whole.now) function next to) }
 {
-    if next == to && !is_drain_at(whole, function, to) {
+    if follows(whole, function, next, to) {
         return Ok(());
     }
     let target = start(whole, function, to);

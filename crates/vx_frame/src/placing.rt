@@ -1,16 +1,18 @@
 // The words of a whole program, one piece after the other, and where each piece begins. How many words a piece has does not
 // depend on places, so a first pass finds the places and a second one makes the words. specs/Placing.antt has the places.
 
-ghost use Rattle.std.specs.Prelude.{◌≡◌, ◌<◌, ◌≤◌, ◌++◌, ℕ, [], IfOk, length};
-ghost use Rattle.vx_frame.specs.Target.{word_words, start_words};
+ghost use Rattle.std.specs.Prelude.{◌≡◌, ◌<◌, ◌≤◌, ◌++◌, ◌∷◌, ◌-◌, ℕ, [], IfOk, if◌then◌else◌, length};
+ghost use Rattle.vx_frame.specs.Target.{pause, start_words, turns, turns_word, waits, word_words};
 ghost use Rattle.vx_frame.specs.Placed.{laid_pieces, word_landings, landing_pieces, function_pieces, functions_pieces, all_pieces, words_of, IsPlaced};
 ghost use Rattle.vx_frame.specs.Placing.{starts_from, landings_from, mark_of, marks_from, places_at, all_places, functions_begin, functions_end, at_spots, spots_of, standing, OneSplit};
 ghost use Rattle.vx_frame.specs.Seen.{seen};
 
-use crate::calling::{push_back, push_call, push_entry, push_return, push_start, push_way};
+use crate::calling::{
+    follows, push_back, push_call, push_entry, push_return, push_start, push_way,
+};
 use crate::gathering::{FunctionPlaces, Sizes, Whole, words_of};
 use crate::planning::{plan_of, push_choice, push_item_landings, push_plan};
-use crate::slotting::{push_idle, push_one, sum};
+use crate::slotting::{push_idle, push_one, push_pause, sum};
 use std::alloc::Global;
 use vx_base::listed::Listed;
 use vx_base::outcome::{NoMemory, Trap};
@@ -34,6 +36,48 @@ struct LaidPlaces {
     marks: Listed<u32>,
 }
 
+/// Whether a word of a layout at a place goes to another one by a word of its own.
+fn turns(whole: &Whole, function: u32, place: u32, word: &VirtualWord) -> Result<bool, NoMemory>
+    ensures { IfOk result (λ turned. turned ≡ turns_word (seen whole.now) function place word.now) }
+{
+    match word {
+        VirtualWord::Transfer(to) => Ok(!follows(whole, function, sum(place, 1)?, *to)),
+        VirtualWord::Planned { .. } => Ok(false),
+        VirtualWord::Drain(_) => Ok(false),
+        VirtualWord::Choice { .. } => Ok(false),
+        VirtualWord::Call { .. } => Ok(false),
+        VirtualWord::Return(_) => Ok(false),
+        VirtualWord::Ends(_) => Ok(false),
+    }
+}
+
+/// Whether the word at a place of a function's layout does.
+fn turns_at(whole: &Whole, function: u32, place: u32) -> Result<bool, NoMemory>
+    ensures { IfOk result (λ turned. turned ≡ turns (seen whole.now) function place) }
+{
+    match words_of(whole, function).get(place as usize) {
+        Some(word) => turns(whole, function, place, word),
+        None => Ok(false),
+    }
+}
+
+/// Empty cycles in front of a place of a layout; where a goto stands there, it is the last of them.
+fn push_idles(
+    alloc: Global,
+    whole: &Whole,
+    function: u32,
+    next: u32,
+    cycles: u32,
+    words: &mut Listed<Word>,
+) -> Result<(), NoMemory>
+    ensures { IfOk result (λ _. words.new ≡ words.old ++ (if turns (seen whole.now) function next then pause (cycles - 1) else waits cycles ∷ [])) }
+{
+    if turns_at(whole, function, next)? {
+        return push_pause(alloc, cycles.saturating_sub(1), words);
+    }
+    push_idle(alloc, cycles, words)
+}
+
 /// The words that carry one of a layout; gives the place of a planned word's operations, or of the return of a call.
 fn push_word(
     alloc: Global,
@@ -52,7 +96,7 @@ fn push_word(
             push_plan(alloc, whole, &plan, words)
         }
         VirtualWord::Drain(cycles) => {
-            push_idle(alloc, *cycles, words)?;
+            push_idles(alloc, whole, function, sum(place, 1)?, *cycles, words)?;
             Ok(0)
         }
         VirtualWord::Transfer(to) => {
