@@ -26,7 +26,7 @@ use Rattle.vx_mixed.specs.declared.layout.VirtualWord.TheVariants.{Planned, Drai
 use Rattle.vx_mixed.specs.declared.layout.VWords.{VWords}
 use Rattle.vx_mixed.specs.LaidSettled.{laid_reads, laid_writes}
 use Rattle.vx_regs.specs.Intervals.{is_named, word_reads, word_writes}
-use Rattle.vx_frame.specs.Target.{Target, answer, general, general_of, branch_of, stack_on, holds_branch, is_slotted, kept, slotted, once, parameters_of, one, together, pause, in_flight, settled, set_stack, slots_in_flight, load_slot, store_slot, load_slots, store_slots, if_some, before, behind, plan_word, plan_words, landing_words, on_clusters, move_stack, save_words, reload_words, fetch_words, fetched, cluster_of_operand, argument_words, result_words, call_words, back_words, is_caller, answer_words, return_words, follows, way, link_words, entry_words, turns, idle_words, word_words, start_words, waits, bytes, first_frame}
+use Rattle.vx_frame.specs.Target.{Target, answer, general, general_of, branch_of, stack_on, holds_branch, is_slotted, kept, slotted, once, parameters_of, one, together, pause, in_flight, settled, set_stack, slots_in_flight, load_slot, store_slot, load_slots, store_slots, if_some, before, behind, plan_word, plan_words, past_there, past, landing_words, on_clusters, move_stack, save_words, reload_words, fetch_words, fetched, cluster_of_operand, argument_words, result_words, call_words, back_words, is_caller, answer_words, return_words, follows, way, link_words, entry_words, turns, idle_words, word_words, start_words, waits, bytes, first_frame}
 use Rattle.vx_frame.specs.Placed.{Depth, Labelled, PlacedAt, place_of, laid_pieces, landing_of, item_landings, word_landings, landing_pieces, function_pieces, functions_pieces, all_pieces, words_of}
 use Rattle.vx_frame.specs.Carried.{Carries, IsFunctionOf, IsMapped, NeedsSlot, is_passed, is_spilled, is_saved}
 use Rattle.vx_frame.specs.Places.{plan_place}
@@ -293,6 +293,20 @@ module _ (T : Target) (flow : Flow) (ls : List VWords) (w : WordProgram) (sound 
 
     -- ways
 
+    -- a way past a transfer leads where that does
+    turned_past : (q : ℕ) → IsTurnedTo T f q → IsTurnedTo T f (past T f q)
+    turned_past q turned = by (slice_get (T.layout f).words q) refl
+      where
+        by : (o : Option VirtualWord) → slice_get (T.layout f).words q ≡ o → IsTurnedTo T f (past_there q o)
+        by None e = turned
+        by (Some (Planned rg wd items)) e = turned
+        by (Some (Drain n)) e = turned
+        by (Some (Transfer to)) e = by_transfer q e
+        by (Some (Choice test to)) e = turned
+        by (Some (Calls g arguments result)) e = turned
+        by (Some (Returns x)) e = turned
+        by (Some (Ends k)) e = turned
+
     goto_other : (q : ℕ) → IsTurnedTo T f q → Words (one (Goto (T.starts f q)) ∷ [])
     goto_other q turned = (goes f q lt turned, tt)
 
@@ -320,7 +334,7 @@ module _ (T : Target) (flow : Flow) (ls : List VWords) (w : WordProgram) (sound 
           (inl there, kinds_other T Count (suc (T.starts f p + length loads)) (behind T f items) (behind_other items (writes_need p (Planned rg wd items) plan)))
 
       landing_other : (test q : ℕ) (y : Bool) → IsIn (Split test y q) items → Words (landing_words T f items q)
-      landing_other test q y i = append (behind T f items) (one (Goto (T.starts f q)) ∷ []) (behind_other items (writes_need p (Planned rg wd items) plan)) (goto_other q (by_split p rg wd test y items plan i))
+      landing_other test q y i = append (behind T f items) (one (Goto (T.starts f (past T f q))) ∷ []) (behind_other items (writes_need p (Planned rg wd items) plan)) (goto_other (past T f q) (turned_past q (by_split p rg wd test y items plan i)))
 
       landing_of_kinds : (vs : List ℕ) (test q : ℕ) (y : Bool) → IsIn (Split test y q) items → Pieces (landing_of T f p items vs q)
       landing_of_kinds [] test q y i = tt

@@ -24,7 +24,7 @@ use Rattle.vx_mixed.specs.declared.layout.VirtualWord.TheVariants.{Planned, Drai
 use Rattle.vx_mixed.specs.declared.layout.VWords.{VWords}
 use Rattle.vx_mixed.specs.LaidSettled.{laid_reads, laid_writes, LeadsTo, LeavesCold}
 use Rattle.vx_regs.specs.Intervals.{word_writes}
-use Rattle.vx_frame.specs.Target.{Target, slotted, register_of, leads, before, behind, plan_word, plan_words, landing_words, choice_words, return_words, follows, way, turns_there, turns, idle_words, entry_words, start_words, word_words, one, waits, pause, slots_in_flight}
+use Rattle.vx_frame.specs.Target.{Target, slotted, register_of, past_there, past, leads, before, behind, plan_word, plan_words, landing_words, choice_words, return_words, follows, way, turns_there, turns, idle_words, entry_words, start_words, word_words, one, waits, pause, slots_in_flight}
 use Rattle.vx_frame.specs.Placed.{Label, Start, Entry, At, Landing, Depth, Labelled, laid_pieces, landing_of, item_landings, word_landings, landing_pieces, function_pieces, functions_pieces, all_pieces}
 use Rattle.vx_frame.specs.Carried.{Carries, IsMapped, FrameLaw}
 use Rattle.vx_frame.specs.Fitted.{FitLaw}
@@ -189,7 +189,7 @@ module _ (T : Target) (flow : Flow) (ls : List VWords) (w : WordProgram) (sound 
 
   at_landing : (f p q test rg wd : ℕ) (y : Bool) (items : List Laid) (v : ℕ) (vs : List ℕ) → f < Count → WordAt f p (Planned rg wd items) → slotted T f (laid_writes items) ≡ v ∷ vs → IsIn (Split test y q) items → heat (T.landing f p q) ≡ lift (slots_in_flight T f items) (Pend f q) (map (register_of T f (laid_writes items)) (slotted T f (laid_writes items)))
   at_landing f p q test rg wd y items v vs lt e s m =
-      let k = first_behind (behind T f items) (one (Goto (T.starts f q))) [] in
+      let k = first_behind (behind T f items) (one (Goto (T.starts f (past T f q)))) [] in
       let z : 0 + p ≡ p = omega arith in
       let i = in_function f (landing_at T f p q items) lt (inr (in_right (landing_at T f p q items) (laid_pieces T f 0 (T.layout f).words) (landing_pieces T f 0 (T.layout f).words) (subst (λ n. IsIn (landing_at T f n q items) (landing_pieces T f 0 (T.layout f).words)) z (in_landings T f 0 p q test rg wd y (T.layout f).words items v vs e s m)))) in
       heat_of T start flow.main Count w carries.placed (landing_at T f p q items) k.0 k.1 i k.2 ∙ ap (λ o. lift (late_by f o) (Pend f q) (left_by f o)) e
@@ -265,12 +265,28 @@ module _ (T : Target) (flow : Flow) (ls : List VWords) (w : WordProgram) (sound 
     abbrev Behind : ℕ → VirtualWord → Register → ℕ
     Behind p word = heat (T.starts f p + length (word_words T f p word))
 
+    same_past : (q : ℕ) (word : VirtualWord) → WordAt f q word → (r : Register) → past T f q ≡ q → H q r ≤ heat (T.starts f (past T f q)) r
+    same_past q word e r same = let a = there q word e r in let b = ap (λ n. heat (T.starts f n) r) same in omega arith
+
+    -- and past a transfer
+    there_past : (q : ℕ) (word : VirtualWord) → WordAt f q word → (r : Register) → H q r ≤ heat (T.starts f (past T f q)) r
+    there_past q (Transfer to) e r = let a = cold_here q (Transfer to) e tt r in omega arith
+    there_past q (Planned rg wd items) e r = same_past q (Planned rg wd items) e r (ap (past_there q) e)
+    there_past q (Drain n) e r = same_past q (Drain n) e r (ap (past_there q) e)
+    there_past q (Choice test to) e r = same_past q (Choice test to) e r (ap (past_there q) e)
+    there_past q (Calls g arguments result) e r = same_past q (Calls g arguments result) e r (ap (past_there q) e)
+    there_past q (Returns x) e r = same_past q (Returns x) e r (ap (past_there q) e)
+    there_past q (Ends j) e r = same_past q (Ends j) e r (ap (past_there q) e)
+
+    leads_past : (p q : ℕ) (word : VirtualWord) → WordAt f p word → LeadsTo p word q → (r : Register) → H q r ≤ heat (T.starts f (past T f q)) r
+    leads_past p q word e leads_to r = let x = get_some (T.layout f).words q (M.settled.inside p q word e leads_to) in there_past q x.0 x.1 r
+
     -- a split of a planned word leads to where no less may be in flight
     split_there : (p rg wd : ℕ) (items : List Laid) → WordAt f p (Planned rg wd items) → (test to : ℕ) (y : Bool) → IsIn (Split test y to) items → (r : Register) → lift (slots_in_flight T f items) (H to) (map (register_of T f (laid_writes items)) (slotted T f (laid_writes items))) r ≤ heat (leads T f p (slotted T f (laid_writes items)) to) r
     split_there p rg wd items e test to y i r = by (slotted T f (laid_writes items)) refl
       where
         by : (vs : List ℕ) → slotted T f (laid_writes items) ≡ vs → lift (slots_in_flight T f items) (H to) (map (register_of T f (laid_writes items)) vs) r ≤ heat (leads T f p vs to) r
-        by [] s = leads_there p to (Planned rg wd items) e (inr (test, y, i)) r
+        by [] s = leads_past p to (Planned rg wd items) e (inr (test, y, i)) r
         by (v ∷ vs) s =
             let a = ap (λ h. h r) (at_landing f p to test rg wd y items v vs k.lt e s i) in
             let b = lift_same (slots_in_flight T f items) (Pend f to) (H to) (map (register_of T f (laid_writes items)) (slotted T f (laid_writes items))) r (k.same to r) in
@@ -310,7 +326,7 @@ module _ (T : Target) (flow : Flow) (ls : List VWords) (w : WordProgram) (sound 
 
     good_landing : (p rg wd : ℕ) (items : List Laid) → WordAt f p (Planned rg wd items) → (test q : ℕ) (y : Bool) → IsIn (Split test y q) items → Good (record { label = Landing f p q; words = landing_words T f items q })
     good_landing p rg wd items e test q y i =
-        let there_q = leads_there p q (Planned rg wd items) e (inr (test, y, i)) in
+        let there_q = leads_past p q (Planned rg wd items) e (inr (test, y, i)) in
         less (start (Landing f p q)) (lift (slots_in_flight T f items) (H q) (map (register_of T f (laid_writes items)) (slotted T f (laid_writes items)))) (heat (T.landing f p q + length (landing_words T f items q))) (landing_words T f items q)
         (λ r. (let a : start (Landing f p q) r ≡ lift (slots_in_flight T f items) (Pend f q) (map (register_of T f (laid_writes items)) (slotted T f (laid_writes items))) r = ap (λ o. lift (late_by f o) (Pend f q) (left_by f o) r) e in
         let b = lift_same (slots_in_flight T f items) (Pend f q) (H q) (map (register_of T f (laid_writes items)) (slotted T f (laid_writes items))) r (k.same q r) in omega arith))

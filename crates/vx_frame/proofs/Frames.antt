@@ -13,9 +13,10 @@ use Rattle.vx_flow.specs.declared.graph.Operand.{Operand}
 use Rattle.vx_isa.specs.declared.operation.Register.TheVariants.{Link}
 use Rattle.vx_isa.specs.Machine.{State}
 use Rattle.vx_mixed.specs.declared.layout.VirtualWord.{VirtualWord}
-use Rattle.vx_mixed.specs.declared.layout.VirtualWord.TheVariants.{Call}
+use Rattle.vx_mixed.specs.declared.layout.VirtualWord.TheVariants.{Planned, Drain, Transfer, Choice, Call, Return, Ends}
 use Rattle.vx_mixed.specs.declared.layout.VWords.{VWords}
-use Rattle.vx_frame.specs.Target.{Target, is_own, is_call_word, is_caller, memory_words}
+use Rattle.vx_mixed.specs.LaidSettled.{LeadsTo}
+use Rattle.vx_frame.specs.Target.{Target, is_own, is_call_word, is_caller, past_there, past, memory_words}
 use Rattle.vx_frame.specs.Tied.{Row, row_in, begins_at, Arrays, IsFunction, Below, Deep, own_arrays, word_at, link_in}
 use Rattle.vx_frame.specs.Carried.{NeedsSlot, HasWord, IsFramed, words_before}
 
@@ -33,6 +34,21 @@ pub get_beyond : {A : Type 0} (xs : List A) (i : ℕ) → length xs ≤ i → sl
 get_beyond [] i le = refl
 get_beyond (x ∷ xs) zero le = absurd (omega arith)
 get_beyond (x ∷ xs) (suc i) le = get_beyond xs i (omega arith)
+
+-- a place past a transfer is in the layout
+
+pub past_below : (T : Target) (f : ℕ) → ((p q : ℕ) (word : VirtualWord) → slice_get (T.layout f).words p ≡ Some word → LeadsTo p word q → q < length (T.layout f).words) → (q : ℕ) → q < length (T.layout f).words → past T f q < length (T.layout f).words
+past_below T f inside q below = by (slice_get (T.layout f).words q) refl
+  where
+    by : (o : Option VirtualWord) → slice_get (T.layout f).words q ≡ o → past_there q o < length (T.layout f).words
+    by None e = below
+    by (Some (Planned r w items)) e = below
+    by (Some (Drain n)) e = below
+    by (Some (Transfer to)) e = inside q to (Transfer to) e refl
+    by (Some (Choice test to)) e = below
+    by (Some (Call g arguments result)) e = below
+    by (Some (Return x)) e = below
+    by (Some (Ends k)) e = below
 
 pub get_in : {A : Type 0} (xs : List A) (i : ℕ) (x : A) → slice_get xs i ≡ Some x → IsIn x xs
 get_in [] i x e = absurd (cc)

@@ -24,7 +24,7 @@ use Rattle.vx_mixed.specs.declared.layout.VirtualWord.{VirtualWord}
 use Rattle.vx_mixed.specs.declared.layout.VirtualWord.TheVariants.{Planned, Drain, Transfer, Choice, Call as Calls, Return as Returns, Ends}
 use Rattle.vx_mixed.specs.declared.layout.VWords.{VWords}
 use Rattle.vx_mixed.specs.LaidSettled.{laid_reads, laid_writes}
-use Rattle.vx_frame.specs.Target.{Target, answer, general, general_of, branch_of, home, stack_on, holds_branch, is_slotted, kept, slotted, once, parameters_of, one, together, pause, in_flight, settled, set_stack, slots_in_flight, load_slot, store_slot, load_slots, store_slots, if_some, before, behind, plan_word, plan_words, landing_words, on_clusters, move_stack, save_words, reload_words, fetch_words, fetched, cluster_of_operand, argument_words, result_words, call_words, back_words, is_caller, is_drain, is_drain_there, answer_words, return_words, follows, way, link_words, entry_words, turns, idle_words, word_words, start_words, waits, bytes, first_frame}
+use Rattle.vx_frame.specs.Target.{Target, answer, general, general_of, branch_of, home, stack_on, holds_branch, is_slotted, kept, slotted, once, parameters_of, one, together, pause, in_flight, settled, set_stack, slots_in_flight, load_slot, store_slot, load_slots, store_slots, if_some, before, behind, plan_word, plan_words, past, landing_words, on_clusters, move_stack, save_words, reload_words, fetch_words, fetched, cluster_of_operand, argument_words, result_words, call_words, back_words, is_caller, is_drain, is_drain_there, answer_words, return_words, follows, way, link_words, entry_words, turns, idle_words, word_words, start_words, waits, bytes, first_frame}
 use Rattle.vx_frame.specs.Placed.{Depth, Labelled, PlacedAt, place_of, laid_pieces, landing_of, item_landings, word_landings, landing_pieces, function_pieces, functions_pieces, all_pieces, words_of}
 use Rattle.vx_frame.specs.Carried.{Carries, IsMapped}
 use Rattle.vx_frame.specs.Plans.{AreSpaced, GoesOn, IsSpaced}
@@ -439,7 +439,7 @@ module _ (T : Target) (flow : Flow) (ls : List VWords) (w : WordProgram) (carrie
     -- landings
 
     landing_idles : (items : List Laid) (q : ℕ) → Idles false (landing_words T f items q) false
-    landing_idles items q = then_idles false false false (behind T f items) (one (Goto (T.starts f q)) ∷ []) (behind_idles T f items) (last_idles false (Goto (T.starts f q)))
+    landing_idles items q = then_idles false false false (behind T f items) (one (Goto (T.starts f (past T f q))) ∷ []) (behind_idles T f items) (last_idles false (Goto (T.starts f (past T f q))))
 
     landing_of_runs : (p : ℕ) (items : List Laid) (vs : List ℕ) (q : ℕ) → Pieces false (landing_of T f p items vs q) false
     landing_of_runs p items [] q = λ e. e

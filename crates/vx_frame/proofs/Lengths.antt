@@ -16,7 +16,7 @@ use Rattle.vx_mixed.specs.declared.layout.Laid.TheVariants.{Plain, Split}
 use Rattle.vx_mixed.specs.declared.layout.VirtualWord.{VirtualWord}
 use Rattle.vx_mixed.specs.declared.layout.VirtualWord.TheVariants.{Planned, Drain, Transfer, Choice, Call as Calls, Return as Returns, Ends}
 use Rattle.vx_mixed.specs.LaidSettled.{laid_reads, laid_writes}
-use Rattle.vx_frame.specs.Target.{Target, answer, bytes, one, set_stack, start_words, stack_on, move_stack, parameters_of, slotted, general_of, branch_of, load_slot, store_slot, load_slots, store_slots, if_some, once, pause, settled, if_any, slots_in_flight, before, behind, plan_word, plan_words, landing_words, fetch_words, fetched, cluster_of_operand, argument_words, result_words, save_words, reload_words, call_words, back_words, return_words, follows, way, link_words, entry_words, word_words}
+use Rattle.vx_frame.specs.Target.{Target, answer, bytes, one, set_stack, start_words, stack_on, move_stack, parameters_of, slotted, general_of, branch_of, load_slot, store_slot, load_slots, store_slots, if_some, once, pause, settled, if_any, slots_in_flight, before, behind, plan_word, plan_words, past, landing_words, fetch_words, fetched, cluster_of_operand, argument_words, result_words, save_words, reload_words, call_words, back_words, return_words, follows, way, link_words, entry_words, word_words}
 use Rattle.vx_frame.specs.Placed.{landing_of, item_landings, word_landings, words_of}
 use Rattle.vx_frame.specs.Placing.{Spots, at_spots}
 use Rattle.vx_frame.proofs.Emitting.{words_of_append}
@@ -130,7 +130,7 @@ word_length T s f p (Returns x) = ap length (return_same T s f x)
 word_length T s f p (Ends k) = refl
 
 landing_length : (T : Target) (s : Spots) (f : ℕ) (items : List Laid) (q : ℕ) → length (landing_words (at_spots T s) f items q) ≡ length (landing_words T f items q)
-landing_length T s f items q = len_both (behind (at_spots T s) f items) (one (Goto (s.starts f q)) ∷ []) (behind T f items) (one (Goto (T.starts f q)) ∷ []) (ap length (behind_same T s f items)) refl
+landing_length T s f items q = len_both (behind (at_spots T s) f items) (one (Goto (s.starts f (past T f q))) ∷ []) (behind T f items) (one (Goto (T.starts f (past T f q))) ∷ []) (ap length (behind_same T s f items)) refl
 
 landing_of_length : (T : Target) (s : Spots) (f p : ℕ) (items : List Laid) (scratch : List ℕ) (q : ℕ) → length (words_of (landing_of (at_spots T s) f p items scratch q)) ≡ length (words_of (landing_of T f p items scratch q))
 landing_of_length T s f p items [] q = refl

@@ -1,7 +1,8 @@
 -- A planned word and its landings come to the place to which it leads.
-use Rattle.std.proofs.Common.{◌≡◌, ◌<◌, ◌+◌, ◌*◌, ◌^◌, ℕ, suc, Bool, Some, List, [], ◌∷◌, ◌++◌, length, length-append, refl, sym, ap, ◌∙◌, subst, arith}
+use Rattle.std.proofs.Common.{◌≡◌, ◌<◌, inl, inr, ◌+◌, ◌*◌, ◌^◌, ℕ, suc, Bool, Some, List, [], ◌∷◌, ◌++◌, length, length-append, refl, sym, ap, ◌∙◌, subst, arith}
 use Rattle.std.specs.Prelude.{slice_get}
 use Rattle.vx_flow.specs.Effects.{State as VState, Setting, IsIn}
+use Rattle.vx_isa.specs.declared.operation.Operation.{Operation}
 use Rattle.vx_isa.specs.declared.operation.Operation.TheVariants.{Goto}
 use Rattle.vx_isa.specs.declared.program.WordProgram.{WordProgram}
 use Rattle.vx_isa.specs.Numbers.{Numbers}
@@ -9,7 +10,7 @@ use Rattle.vx_isa.specs.Machine.{State, Lead, To, lead_of}
 use Rattle.vx_mixed.specs.declared.layout.Laid.{Laid}
 use Rattle.vx_mixed.specs.declared.layout.Laid.TheVariants.{Split}
 use Rattle.vx_mixed.specs.Laid.{laid_effect, laid_next}
-use Rattle.vx_frame.specs.Target.{Target, slotted, leads, one, before, behind, if_some, pause, slots_in_flight, store_slots, plan_word, plan_words, memory_words}
+use Rattle.vx_frame.specs.Target.{Target, slotted, past, leads, one, before, behind, if_some, pause, slots_in_flight, store_slots, plan_word, plan_words, memory_words}
 use Rattle.vx_frame.proofs.Calm.{AllFit}
 use Rattle.vx_frame.proofs.Items.{Went, straight, by_split, lead_items}
 use Rattle.vx_frame.proofs.Steps.{Stands, stands_left, stands_right, stay, forth_comes, goto_step}
@@ -42,26 +43,29 @@ module _ (m : Numbers) (w : WordProgram) (fit : AllFit m w) (T : Target) (f sp p
         let n = h.next in
         let len : length (plan_words T f p items) ≡ length (before T f (Reads m w fit T f sp p size small some setting IsArray items s u)) + suc (length (behind T f items)) = length-append (before T f (Reads m w fit T f sp p size small some setting IsArray items s u)) (plan_word T f p items ∷ behind T f items) in
         let place : last.to.place ≡ T.starts f (suc p) = omega arith in
-        arrived m w fit T f sp p size small some setting IsArray items s u h t done (Begun.place + 1) last q lead last.to (stay m w fit last.to) refl refl (record { calm = last.quiet.calm; input = refl; out = refl }) (place ∙ ap (T.starts f) (sym e))
+        arrived m w fit T f sp p size small some setting IsArray items s u h t done (Begun.place + 1) last q lead last.to (stay m w fit last.to) refl refl (record { calm = last.quiet.calm; input = refl; out = refl }) (inl (place ∙ ap (T.starts f) (sym e)))
 
     on_split : (q test to : ℕ) (y : Bool) → IsIn (Split test y to) items → q ≡ to → lead_of Begun (CodeOf m w fit T f sp p size small some setting IsArray items s u h) ≡ To (leads T f p (slotted T f Written) to) → Comes_to q
     on_split q test to y i e lead = by (slotted T f Written) refl
       where
+        Goes : Operation
+        Goes = Goto (T.starts f (past T f to))
+
         by : (xs : List ℕ) → slotted T f Written ≡ xs → Comes_to q
         by [] k =
             let none : behind T f items ≡ [] = ap (λ ys. if_some ys (pause (slots_in_flight T f items) ++ store_slots T f Written ys)) k in
-            let st : Stands w.words (T.starts f to) (behind T f items) = subst (Stands w.words (T.starts f to)) (sym none) tt in
-            let last = stored (T.starts f to) st in
+            let st : Stands w.words (T.starts f (past T f to)) (behind T f items) = subst (Stands w.words (T.starts f (past T f to))) (sym none) tt in
+            let last = stored (T.starts f (past T f to)) st in
             let pl = last.place in
             let len : length (behind T f items) ≡ 0 = ap length none in
-            let place : last.to.place ≡ T.starts f to = omega arith in
-            arrived m w fit T f sp p size small some setting IsArray items s u h t done (T.starts f to) last q (lead ∙ ap (λ ys. To (leads T f p ys to)) k) last.to (stay m w fit last.to) refl refl (record { calm = last.quiet.calm; input = refl; out = refl }) (place ∙ ap (T.starts f) (sym e))
+            let place : last.to.place ≡ T.starts f (past T f to) = omega arith in
+            arrived m w fit T f sp p size small some setting IsArray items s u h t done (T.starts f (past T f to)) last q (lead ∙ ap (λ ys. To (leads T f p ys to)) k) last.to (stay m w fit last.to) refl refl (record { calm = last.quiet.calm; input = refl; out = refl }) (inr (place ∙ ap (λ n. T.starts f (past T f n)) (sym e)))
         by (v ∷ vs) k =
             let st = h.landing test to 0 y v vs i k in
-            let last = stored (T.landing f p to) (stands_left w.words (T.landing f p to) (behind T f items) (one (Goto (T.starts f to)) ∷ []) st) in
-            let go = (stands_right w.words (T.landing f p to) (behind T f items) (one (Goto (T.starts f to)) ∷ []) st).0 in
-            let b = goto_step m w fit last.to (T.starts f to) last.quiet.calm (subst (λ x. slice_get w.words x ≡ Some (one (Goto (T.starts f to)))) (sym last.place) go) in
-            arrived m w fit T f sp p size small some setting IsArray items s u h t done (T.landing f p to) last q (lead ∙ ap (λ ys. To (leads T f p ys to)) k) b.to (forth_comes m w fit last.to b.to b.forth) b.registers b.memory b.quiet (b.place ∙ ap (T.starts f) (sym e))
+            let last = stored (T.landing f p to) (stands_left w.words (T.landing f p to) (behind T f items) (one Goes ∷ []) st) in
+            let go = (stands_right w.words (T.landing f p to) (behind T f items) (one Goes ∷ []) st).0 in
+            let b = goto_step m w fit last.to (T.starts f (past T f to)) last.quiet.calm (subst (λ x. slice_get w.words x ≡ Some (one Goes)) (sym last.place) go) in
+            arrived m w fit T f sp p size small some setting IsArray items s u h t done (T.landing f p to) last q (lead ∙ ap (λ ys. To (leads T f p ys to)) k) b.to (forth_comes m w fit last.to b.to b.forth) b.registers b.memory b.quiet (inr (b.place ∙ ap (λ n. T.starts f (past T f n)) (sym e)))
 
     pub plan_run : (q : ℕ) → laid_next s (suc p) items ≡ Some q → Comes_to q
     plan_run q took = by (lead_of Begun (CodeOf m w fit T f sp p size small some setting IsArray items s u h)) refl

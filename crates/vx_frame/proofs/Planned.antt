@@ -2,34 +2,35 @@
 use Rattle.std.proofs.Common.{◌≡◌, ◌≢◌, ◌<◌, ◌≤◌, ◌⊎◌, inl, inr, ⊎_elim, ◌+◌, ◌*◌, ◌^◌, ℕ, suc, ℤ, Bool, true, false, Option, Some, None, List, [], ◌∷◌, length, map, refl, sym, ap, ◌∙◌, subst, arith}
 use Rattle.std.specs.Prelude.{slice_get}
 use Rattle.std.proofs.lemmas.Bool.{and_parts, ltb-true}
-use Rattle.vx_base.specs.Outcome.{Outcome, On, Over}
+use Rattle.vx_base.specs.Outcome.{Outcome, NeverFails, On, Over}
 use Rattle.vx_base.proofs.Runs.{run_reach, safe_after, safe_end, reach_one}
 use Rattle.vx_flow.specs.declared.graph.Array.{Array}
 use Rattle.vx_flow.specs.declared.graph.Bank.{Bank}
 use Rattle.vx_flow.specs.declared.graph.Flow.{Flow}
 use Rattle.vx_flow.specs.declared.graph.Op.{Op}
 use Rattle.vx_flow.specs.Effects.{State as VState, Setting, IsIn}
-use Rattle.vx_flow.specs.Meaning.{Hop, Active, setting_of, and_then, body_hop, hop, after_hop, next}
+use Rattle.vx_flow.specs.Meaning.{Hop, Active, setting_of, and_then, body_hop, hop, after_hop, next, program_run}
 use Rattle.vx_flow.specs.Sound.{Sound, SoundFlow, is_sound_flow}
 use Rattle.vx_flow.proofs.SoundFlowLaw.{told}
 use Rattle.vx_flow.proofs.SoundLists.{all_in}
 use Rattle.vx_isa.specs.declared.program.WordProgram.{WordProgram}
-use Rattle.vx_isa.specs.Machine.{State, step}
+use Rattle.vx_isa.specs.Machine.{State, step, words_from}
 use Rattle.vx_isa.proofs.FitsLaw.{six_parts}
 use Rattle.vx_machine.specs.Items.{latency_of_op}
 use Rattle.vx_machine.specs.Room.{stands_well}
 use Rattle.vx_mixed.specs.declared.layout.Laid.{Laid}
 use Rattle.vx_mixed.specs.declared.layout.Laid.TheVariants.{Plain, Split}
 use Rattle.vx_mixed.specs.declared.layout.VWords.{VWords}
-use Rattle.vx_mixed.specs.declared.layout.VirtualWord.TheVariants.{Planned}
+use Rattle.vx_mixed.specs.declared.layout.VirtualWord.{VirtualWord}
+use Rattle.vx_mixed.specs.declared.layout.VirtualWord.TheVariants.{Planned, Drain, Transfer, Choice, Call, Return, Ends}
 use Rattle.vx_mixed.specs.Meaning.{leaves_on, picked}
 use Rattle.vx_mixed.specs.Laid.{laid_effect, laid_next, moves_to, laid_hop, some_word_hop, laid_body, laid_program}
 use Rattle.vx_mixed.specs.LaidSettled.{LeadsTo, laid_reads, laid_writes, bank_in, Plans}
 use Rattle.vx_regs.specs.Intervals.{IsLive, here, beyond, IsBusy, is_live}
-use Rattle.vx_frame.specs.Target.{Target, kept, is_slotted, register_of, memory_words, plan_words}
+use Rattle.vx_frame.specs.Target.{Target, kept, is_slotted, register_of, past_there, memory_words, plan_words}
 use Rattle.vx_frame.specs.Tied.{Tied, AtWord, Arrays, Below, Shows, holds, row_in, begins_at, word_at}
 use Rattle.vx_frame.specs.Carried.{Carries, IsFunctionOf, NeedsSlot, is_spilled, item_of_laid}
-use Rattle.vx_frame.specs.Planned.{CarriesOn, PlannedLaw}
+use Rattle.vx_frame.specs.Planned.{CarriesOn, CarriesPast, PlannedLaw}
 use Rattle.vx_frame.proofs.Calm.{AllFit}
 use Rattle.vx_frame.proofs.Proper.{ProperItems}
 use Rattle.vx_frame.proofs.FromGraph.{branch_plain, op_proper, test_proper}
@@ -289,42 +290,83 @@ module _ (T : Target) (flow : Flow) (ls : List VWords) (w : WordProgram) (sound 
         (λ j from lt. others_items T w F Sp TheSetting IsArray Rs Ws S (First T.machine w fit T F Sp p carries.memory small some TheSetting IsArray items S u planning) p j items S t the_run (λ a is. waiting_row T flow carries.some_frame carries.globals sound F ls tied.is of.framed r.base j from lt a is.0 is.1))
         above tied.below
 
-    tied_after : Tied T flow ls After To
-    tied_after = record {
+    tied_at : (d : ℕ) → To.place ≡ T.starts F d → ((v : ℕ) (n : ℤ) → IsLive (T.layout F) d v → t.values v ≡ Some n → Shows T Sp F v n (holds T To Sp F v)) → NeverFails (λ n. program_run (laid_program flow ls) n (record r { block = suc d; state = t })) → Tied T flow ls (record r { block = suc d; state = t }) To
+    tied_at d place shown safe = record {
       sp = Sp;
       is = tied.is;
       calm = arrived.calm;
       deep = tied.deep;
       stack = arrived.stack;
-      at = inr (q, record { block = refl; place = arrived.place; values = values; link = link_stays T u To Sp F link arrived.link ∙ at_word.link });
+      at = inr (d, record { block = refl; place = place; values = shown; link = link_stays T u To Sp F link arrived.link ∙ at_word.link });
       arrays = rows;
       first = tied.first;
       last = tied.last ∙ sym shape.count;
       below = waiting;
       input = arrived.input;
       out = arrived.out;
-      safe = safe_after (next (laid_program flow ls)) (λ x. x.state.out) 1 r After (reach_one (next (laid_program flow ls)) r After steps) tied.safe;
+      safe = safe;
     }
 
-    carried_on : CarriesOn T flow ls w r u
-    carried_on = record {
+    safe_then : (a b : Active) → next (laid_program flow ls) a ≡ On b → NeverFails (λ n. program_run (laid_program flow ls) n a) → NeverFails (λ n. program_run (laid_program flow ls) n b)
+    safe_then a b e safe = safe_after (next (laid_program flow ls)) (λ x. x.state.out) 1 a b (reach_one (next (laid_program flow ls)) a b e) safe
+
+    over : (n : ℕ) → words_from T.machine (1 ∷ []) w (suc arrived.forth.0 + n) u ≡ words_from T.machine (1 ∷ []) w n To
+    over n = run_reach (step T.machine (1 ∷ []) w) (λ x. x.out) (suc arrived.forth.0) n u To arrived.forth.1
+
+    carried_on : To.place ≡ T.starts F q → CarriesOn T flow ls w r u
+    carried_on place = record {
       after = After;
       to = To;
       words = arrived.forth.0;
       over_values = steps;
-      over_registers = λ n. run_reach (step T.machine (1 ∷ []) w) (λ x. x.out) (suc arrived.forth.0) n u To arrived.forth.1;
-      tied = tied_after;
+      over_registers = over;
+      tied = tied_at q place values (safe_then r After steps tied.safe);
     }
 
-  took_some : (t : VState) → laid_effect TheSetting S items S ≡ Some t → (q : Option ℕ) → laid_next S (suc p) items ≡ q → CarriesOn T flow ls w r u
-  took_some t e None k = absurd (wrong (next_is Hop.Wrong (ap (λ x. and_then x (moves_to p (laid_next S (suc p) items))) e ∙ ap (λ x. moves_to p x t) k)))
-  took_some t e (Some q) k = carried_on t q e k
+    -- a split leads past a transfer, which is one step more over values
 
-  did_some : (x : Option VState) → laid_effect TheSetting S items S ≡ x → CarriesOn T flow ls w r u
+    abbrev Behind : ℕ → Active
+    Behind d = record r { block = suc d; state = t }
+
+    transferred : (d : ℕ) → slice_get (T.layout F).words q ≡ Some (Transfer d) → next (laid_program flow ls) After ≡ On (Behind d)
+    transferred d e = ap (after_hop (laid_program flow ls) After) (ap (body_hop (laid_program flow ls) After) body_is ∙ ap (λ x. some_word_hop TheSetting q x t) e)
+
+    carried_past : (d : ℕ) → slice_get (T.layout F).words q ≡ Some (Transfer d) → To.place ≡ T.starts F d → CarriesPast T flow ls w r u
+    carried_past d e place = record {
+      first = After;
+      over_values = steps;
+      rest = record {
+        after = Behind d;
+        to = To;
+        words = arrived.forth.0;
+        over_values = transferred d e;
+        over_registers = over;
+        tied = tied_at d place (λ v n live g. values v n (beyond e (λ i. i) refl live) g) (safe_then After (Behind d) (transferred d e) (safe_then r After steps tied.safe));
+      };
+    }
+
+    by_place : (o : Option VirtualWord) → slice_get (T.layout F).words q ≡ o → To.place ≡ T.starts F (past_there q o) → CarriesOn T flow ls w r u ⊎ CarriesPast T flow ls w r u
+    by_place None e place = inl (carried_on place)
+    by_place (Some (Planned rg wd xs)) e place = inl (carried_on place)
+    by_place (Some (Drain n)) e place = inl (carried_on place)
+    by_place (Some (Transfer d)) e place = inr (carried_past d e place)
+    by_place (Some (Choice test d)) e place = inl (carried_on place)
+    by_place (Some (Call g arguments result)) e place = inl (carried_on place)
+    by_place (Some (Return x)) e place = inl (carried_on place)
+    by_place (Some (Ends k)) e place = inl (carried_on place)
+
+    carried : CarriesOn T flow ls w r u ⊎ CarriesPast T flow ls w r u
+    carried = ⊎_elim (λ place. inl (carried_on place)) (λ place. by_place (slice_get (T.layout F).words q) refl place) arrived.place
+
+  took_some : (t : VState) → laid_effect TheSetting S items S ≡ Some t → (q : Option ℕ) → laid_next S (suc p) items ≡ q → CarriesOn T flow ls w r u ⊎ CarriesPast T flow ls w r u
+  took_some t e None k = absurd (wrong (next_is Hop.Wrong (ap (λ x. and_then x (moves_to p (laid_next S (suc p) items))) e ∙ ap (λ x. moves_to p x t) k)))
+  took_some t e (Some q) k = carried t q e k
+
+  did_some : (x : Option VState) → laid_effect TheSetting S items S ≡ x → CarriesOn T flow ls w r u ⊎ CarriesPast T flow ls w r u
   did_some None e = absurd (wrong (next_is Hop.Wrong (ap (λ x. and_then x (moves_to p (laid_next S (suc p) items))) e)))
   did_some (Some t) e = took_some t e (laid_next S (suc p) items) refl
 
-  pub planned_word : CarriesOn T flow ls w r u
+  pub planned_word : CarriesOn T flow ls w r u ⊎ CarriesPast T flow ls w r u
   planned_word = did_some (laid_effect TheSetting S items S) refl
 
 pub planned_law : PlannedLaw

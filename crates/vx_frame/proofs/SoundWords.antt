@@ -38,7 +38,7 @@ use Rattle.vx_mixed.specs.declared.layout.VirtualWord.TheVariants.{Planned, Drai
 use Rattle.vx_mixed.specs.declared.layout.VWords.{VWords}
 use Rattle.vx_mixed.specs.LaidSettled.{laid_reads, laid_writes, LeadsTo, Plans}
 use Rattle.vx_mixed.specs.Origins.{ComesFrom, graph_op}
-use Rattle.vx_frame.specs.Target.{Target, answer, general, general_of, branch_of, register_of, stack_on, holds_branch, is_slotted, kept, slotted, once, parameters_of, one, together, pause, in_flight, settled, set_stack, slots_in_flight, load_slot, store_slot, load_slots, store_slots, if_some, before, behind, leads, carried, carried_items, plan_word, plan_words, landing_words, on_clusters, move_stack, save_words, reload_words, fetch_words, fetched, cluster_of_operand, argument_words, result_words, call_words, back_words, is_caller, answer_words, return_words, follows, way, link_words, entry_words, turns, idle_words, word_words, start_words, waits, bytes, first_frame, memory_words}
+use Rattle.vx_frame.specs.Target.{Target, answer, general, general_of, branch_of, register_of, stack_on, holds_branch, is_slotted, kept, slotted, once, parameters_of, one, together, pause, in_flight, settled, set_stack, slots_in_flight, load_slot, store_slot, load_slots, store_slots, if_some, before, behind, past, leads, carried, carried_items, plan_word, plan_words, landing_words, on_clusters, move_stack, save_words, reload_words, fetch_words, fetched, cluster_of_operand, argument_words, result_words, call_words, back_words, is_caller, answer_words, return_words, follows, way, link_words, entry_words, turns, idle_words, word_words, start_words, waits, bytes, first_frame, memory_words}
 use Rattle.vx_frame.specs.Placed.{Depth, Labelled, laid_pieces, landing_of, item_landings, word_landings, landing_pieces, function_pieces, functions_pieces, all_pieces, words_of}
 use Rattle.vx_frame.specs.Carried.{Carries, IsFunctionOf, IsMapped, item_of_laid}
 use Rattle.vx_frame.specs.Finish.{SoundLaw}
@@ -46,7 +46,7 @@ use Rattle.vx_frame.proofs.Enough.{in_map}
 use Rattle.vx_frame.proofs.Fit.{words_fit}
 use Rattle.vx_frame.proofs.Forming.{HasForm, Formed, AllFormed, computes_formed, all_sound}
 use Rattle.vx_frame.proofs.Forms.{to_branch}
-use Rattle.vx_frame.proofs.Frames.{get_below, get_some, get_in}
+use Rattle.vx_frame.proofs.Frames.{get_below, get_some, get_in, past_below}
 use Rattle.vx_frame.proofs.FromGraph.{undismissed, op_proper}
 use Rattle.vx_frame.proofs.Limits.{Limits, limits}
 use Rattle.vx_frame.proofs.Pauses.{flight_few, slots_few}
@@ -95,7 +95,7 @@ words_some T f p (Returns x) = inl (some_after (fetch_words T f 0 x) (answer_wor
 words_some T f p (Ends k) = inl (omega arith)
 
 landing_some : (T : Target) (f q : ℕ) (items : List Laid) → 1 ≤ length (landing_words T f items q)
-landing_some T f q items = some_behind (behind T f items) [] (one (Goto (T.starts f q)))
+landing_some T f q items = some_behind (behind T f items) [] (one (Goto (T.starts f (past T f q))))
 
 -- words that pause briefly and have operations of their form
 module _ (W N : ℕ) where
@@ -346,6 +346,9 @@ module _ (T : Target) (flow : Flow) (ls : List VWords) (w : WordProgram) (sound 
     abbrev HasWordAt : ℕ → VirtualWord → Type 0
     HasWordAt p word = slice_get (T.layout f).words p ≡ Some word
 
+    past_start : (q : ℕ) → q < length (T.layout f).words → T.starts f (past T f q) < W
+    past_start q inside = start_below f (past T f q) lt (past_below T f mapped.settled.inside q inside)
+
     way_right : (next q : ℕ) → q < length (T.layout f).words → Words (way T f next q)
     way_right next q inside = by (follows T f next q)
       where
@@ -412,7 +415,7 @@ module _ (T : Target) (flow : Flow) (ls : List VWords) (w : WordProgram) (sound 
       leads_below test q y i = by (slotted T f Ws) refl
         where
           by : (vs : List ℕ) → slotted T f Ws ≡ vs → leads T f p vs q < W
-          by [] e = start_below f q lt (mapped.settled.inside p q (Planned rg wd items) plan (inr (test, y, i)))
+          by [] e = past_start q (mapped.settled.inside p q (Planned rg wd items) plan (inr (test, y, i)))
           by (v ∷ vs) e = stands_below w.words (T.landing f p q) (landing_words T f items q) (landing_some T f q items) (landing_stands T flow.main Count w.words carries.placed f p q test rg wd y items v vs lt plan e i)
 
       items_formed : (xs : List Laid) → ((x : Laid) → IsIn x xs → IsIn x items) → AllFormed W N (carried_items T f p Rs Ws xs)
@@ -424,7 +427,7 @@ module _ (T : Target) (flow : Flow) (ls : List VWords) (w : WordProgram) (sound 
       planned_right = right_append W N (before T f Rs) (plan_word T f p items ∷ behind T f items) (before_right f Rs) (has_ops W N (carried_items T f p Rs Ws items) (items_formed items (λ x i. i)), behind_right f items)
 
       landing_right : (test q : ℕ) (y : Bool) → IsIn (Split test y q) items → Words (landing_words T f items q)
-      landing_right test q y i = right_append W N (behind T f items) (one (Goto (T.starts f q)) ∷ []) (behind_right f items) (has_one W N (Goto (T.starts f q)) (start_below f q lt (mapped.settled.inside p q (Planned rg wd items) plan (inr (test, y, i)))), tt)
+      landing_right test q y i = right_append W N (behind T f items) (one (Goto (T.starts f (past T f q))) ∷ []) (behind_right f items) (has_one W N (Goto (T.starts f (past T f q))) (past_start q (mapped.settled.inside p q (Planned rg wd items) plan (inr (test, y, i)))), tt)
 
       landing_of_right : (vs : List ℕ) (test q : ℕ) (y : Bool) → IsIn (Split test y q) items → RightPieces W N (landing_of T f p items vs q)
       landing_of_right [] test q y i = tt

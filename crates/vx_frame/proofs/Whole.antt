@@ -18,7 +18,7 @@ use Rattle.vx_mixed.proofs.LaidGrows.{laid_grows}
 use Rattle.vx_frame.specs.Target.{Target}
 use Rattle.vx_frame.specs.Tied.{Tied, AtWord, AtEntry}
 use Rattle.vx_frame.specs.Carried.{Carries}
-use Rattle.vx_frame.specs.Planned.{WordsFit, CarriesOn, FallsThrough, FallsNext, EndsAlike, StartsTied}
+use Rattle.vx_frame.specs.Planned.{WordsFit, CarriesOn, CarriesPast, FallsThrough, FallsNext, EndsAlike, StartsTied}
 use Rattle.vx_frame.specs.Whole.{WholeLaw}
 use Rattle.vx_frame.proofs.Calls.{call_law}
 use Rattle.vx_frame.proofs.Entry.{entry_law}
@@ -49,15 +49,19 @@ module _ (T : Target) (flow : Flow) (ls : List VWords) (w : WordProgram) (sound 
       ∙ ap (λ b. laid_hop (setting_of P r.base) (T.layout r.function) b r.state) block ∙ ap (λ y. some_word_hop (setting_of P r.base) p y r.state) plan) in
       safe_end (next P) (λ q. q.state.out) r (Outcome.Wrong r.state.out) steps tied.safe tt
 
-  at_place : (r : Active) (u : State) → Tied T flow ls r u → (p : ℕ) → r.block ≡ suc p → (o : Option VirtualWord) → slice_get (T.layout r.function).words p ≡ o → Meets r u ⊎ FallsNext T flow ls p r u
+  simple : (r : Active) (u : State) (p : ℕ) → Meets r u ⊎ FallsNext T flow ls p r u → (Meets r u ⊎ CarriesPast T flow ls w r u) ⊎ FallsNext T flow ls p r u
+  simple r u p (inl m) = inl (inl m)
+  simple r u p (inr f) = inr f
+
+  at_place : (r : Active) (u : State) → Tied T flow ls r u → (p : ℕ) → r.block ≡ suc p → (o : Option VirtualWord) → slice_get (T.layout r.function).words p ≡ o → (Meets r u ⊎ CarriesPast T flow ls w r u) ⊎ FallsNext T flow ls p r u
   at_place r u tied p block None e = absurd (no_word r u tied p block e)
-  at_place r u tied p block (Some (Planned region word items)) e = inl (inl (planned_law T flow ls w sound carries fit r u tied p region word items block e))
-  at_place r u tied p block (Some (Drain n)) e = simple_law T flow ls w sound carries fit r u tied p (Drain n) block e tt
-  at_place r u tied p block (Some (Transfer q)) e = simple_law T flow ls w sound carries fit r u tied p (Transfer q) block e tt
-  at_place r u tied p block (Some (Choice test q)) e = simple_law T flow ls w sound carries fit r u tied p (Choice test q) block e tt
-  at_place r u tied p block (Some (Ends k)) e = simple_law T flow ls w sound carries fit r u tied p (Ends k) block e tt
-  at_place r u tied p block (Some (Call g arguments result)) e = inl (call_law T flow ls w sound carries fit r u tied p g arguments result block e)
-  at_place r u tied p block (Some (Return x)) e = inl (return_law T flow ls w sound carries fit r u tied p x block e)
+  at_place r u tied p block (Some (Planned region word items)) e = ⊎_elim (λ c. inl (inl (inl c))) (λ c. inl (inr c)) (planned_law T flow ls w sound carries fit r u tied p region word items block e)
+  at_place r u tied p block (Some (Drain n)) e = simple r u p (simple_law T flow ls w sound carries fit r u tied p (Drain n) block e tt)
+  at_place r u tied p block (Some (Transfer q)) e = simple r u p (simple_law T flow ls w sound carries fit r u tied p (Transfer q) block e tt)
+  at_place r u tied p block (Some (Choice test q)) e = simple r u p (simple_law T flow ls w sound carries fit r u tied p (Choice test q) block e tt)
+  at_place r u tied p block (Some (Ends k)) e = simple r u p (simple_law T flow ls w sound carries fit r u tied p (Ends k) block e tt)
+  at_place r u tied p block (Some (Call g arguments result)) e = inl (inl (call_law T flow ls w sound carries fit r u tied p g arguments result block e))
+  at_place r u tied p block (Some (Return x)) e = inl (inl (return_law T flow ls w sound carries fit r u tied p x block e))
 
   -- at each bound both runs meet, here or farther on
 
@@ -84,7 +88,7 @@ module _ (T : Target) (flow : Flow) (ls : List VWords) (w : WordProgram) (sound 
   from_place : (n k : ℕ) (r : Active) (u : State) → ((s : Active) (v : State) → Tied T flow ls s v → MeetAt n s v) → (tied : Tied T flow ls r u) (p : ℕ) → r.block ≡ suc p → length (T.layout r.function).words ≤ p + k → MeetAt (suc n) r u
   from_place n zero r u more tied p block most = absurd (no_word r u tied p block (get_beyond (T.layout r.function).words p (omega arith)))
   from_place n (suc k) r u more tied p block most = ⊎_elim
-      (λ (m : Meets r u). after_meeting n r u more m)
+      (λ m. ⊎_elim (after_meeting n r u more) (λ (c : CarriesPast T flow ls w r u). then_values (suc n) r c.first u c.over_values (then_more n c.first u c.rest (more c.rest.after c.rest.to c.rest.tied))) m)
       (λ (f : FallsNext T flow ls p r u).
       let left : length (T.layout r.function).words ≤ f.falls.place + k = (let e = f.place in omega arith) in
       let most_next : length (T.layout f.falls.after.function).words ≤ f.falls.place + k = subst (λ g. length (T.layout g).words ≤ f.falls.place + k) (sym f.function) left in

@@ -16,7 +16,7 @@ use Rattle.vx_mixed.specs.Laid.{laid_effect}
 use Rattle.vx_mixed.specs.LaidSettled.{laid_reads, laid_writes}
 use Rattle.vx_regs.specs.declared.map.Kept.{Kept}
 use Rattle.vx_regs.specs.declared.map.Kept.TheVariants.{InRegister, InSlot, Nowhere}
-use Rattle.vx_frame.specs.Target.{Target, answer, general, stack_on, kept, is_slotted, number_by, scratch, home, holds_branch, register_of, slotted, before, behind, plan_word, plan_words, landing_words, memory_words}
+use Rattle.vx_frame.specs.Target.{Target, answer, general, stack_on, kept, is_slotted, number_by, scratch, home, holds_branch, register_of, slotted, before, behind, plan_word, plan_words, past, landing_words, memory_words}
 use Rattle.vx_frame.specs.Tied.{Shows, is_place, moved, holds, begins_at, word_at, row_in}
 use Rattle.vx_frame.proofs.Calm.{seen, given, after, AllFit, Fine}
 use Rattle.vx_frame.proofs.Proper.{ProperItems}
@@ -127,7 +127,7 @@ module _ (m : Numbers) (w : WordProgram) (fit : AllFit m w) (T : Target) (f sp p
   pub record Arrived (t : VState) (q : ℕ) : Type 0 where
     pub to : State
     pub forth : Forth m w fit u to
-    pub place : to.place ≡ T.starts f q
+    pub place : (to.place ≡ T.starts f q) ⊎ (to.place ≡ T.starts f (past T f q))
     pub calm : to.flying ≡ []
     pub input : to.input ≡ t.input
     pub out : to.out ≡ t.out
@@ -249,7 +249,7 @@ module _ (m : Numbers) (w : WordProgram) (fit : AllFit m w) (T : Target) (f sp p
         pub elsewhere_then : (x : ℕ) → ((a i : ℕ) → IsArray a → i < WordsOf a → x ≢ begins_at T sp f a + i) → ((v : ℕ) → IsIn v (slotted T f Writes) → x ≢ sp + T.slot f v) → word_at last.to.memory x ≡ word_at u.memory x
         elsewhere_then x free slots = last.elsewhere x slots ∙ elsewhere_items T w f sp setting IsArray Reads Writes s First p x items s t First.memory ran free ∙ ap (λ z. word_at z x) loaded.memory
 
-        pub arrived : (q : ℕ) → lead_of First CodeOf ≡ To to → (v : State) → Comes m w fit last.to v → v.registers ≡ last.to.registers → v.memory ≡ last.to.memory → Quiet last.to v → v.place ≡ T.starts f q → Arrived t q
+        pub arrived : (q : ℕ) → lead_of First CodeOf ≡ To to → (v : State) → Comes m w fit last.to v → v.registers ≡ last.to.registers → v.memory ≡ last.to.memory → Quiet last.to v → (v.place ≡ T.starts f q) ⊎ (v.place ≡ T.starts f (past T f q)) → Arrived t q
         arrived q lead v comes regs mem quiet place = record {
           to = v;
           forth = forth_on m w fit u (Second to) v (second_forth to lead) (comes_on m w fit (Second to) last.to v last.comes comes);

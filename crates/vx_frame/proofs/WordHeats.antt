@@ -27,7 +27,7 @@ use Rattle.vx_mixed.specs.Settled.{read_there}
 use Rattle.vx_mixed.specs.declared.layout.VirtualWord.TheVariants.{Planned}
 use Rattle.vx_mixed.specs.LaidSettled.{item_reads, item_writes, laid_reads, laid_writes, Plans, LeadsTo}
 use Rattle.vx_regs.specs.Intervals.{is_named}
-use Rattle.vx_frame.specs.Target.{Target, home, is_branch, kept, is_slotted, slotted, register_of, leads, carried, carried_items, slots_in_flight, before, behind, plan_word, plan_words, landing_words, one}
+use Rattle.vx_frame.specs.Target.{Target, home, is_branch, kept, is_slotted, slotted, register_of, past, leads, carried, carried_items, slots_in_flight, before, behind, plan_word, plan_words, landing_words, one}
 use Rattle.vx_frame.specs.Carried.{IsMapped, item_of_laid}
 use Rattle.vx_frame.proofs.FromGraph.{op_proper, test_proper}
 use Rattle.vx_frame.proofs.Frames.{get_some}
@@ -244,6 +244,6 @@ module _ (T : Target) (heat : ℕ → Register → ℕ) (f : ℕ) (mapped : IsMa
       )
 
   -- and of a landing of it
-  pub landing_fine : (q : ℕ) (e : Register → ℕ) → ((r : Register) → Heat q r ≤ heat (T.starts f q) r) → F (Lifted q) (landing_words T f items q) e
-  landing_fine q e there = stored q (one (Goto (T.starts f q)) ∷ []) e
-      (stop_fine T.machine heat (Heat q) (Goto (T.starts f q) ∷ []) [] e refl (λ t r j. (let a = there r in let b = ap (λ x. heat x r) j in omega arith)) refl (λ r t. ⊎_elim (λ i. absurd i) (λ i. absurd i) t.0) (λ r. omega arith))
+  pub landing_fine : (q : ℕ) (e : Register → ℕ) → ((r : Register) → Heat q r ≤ heat (T.starts f (past T f q)) r) → F (Lifted q) (landing_words T f items q) e
+  landing_fine q e there = stored q (one (Goto (T.starts f (past T f q))) ∷ []) e
+      (stop_fine T.machine heat (Heat q) (Goto (T.starts f (past T f q)) ∷ []) [] e refl (λ t r j. (let a = there r in let b = ap (λ x. heat x r) j in omega arith)) refl (λ r t. ⊎_elim (λ i. absurd i) (λ i. absurd i) t.0) (λ r. omega arith))

@@ -33,12 +33,18 @@ pub record CarriesOn (T : Target) (flow : Flow) (ls : List VWords) (w : WordProg
   pub over_registers : (n : ℕ) → words_from T.machine (1 ∷ []) w (suc words + n) u ≡ words_from T.machine (1 ∷ []) w n to
   pub tied : Tied T flow ls after to
 
+-- the same behind one more step over values: a split leads past a transfer
+pub record CarriesPast (T : Target) (flow : Flow) (ls : List VWords) (w : WordProgram) (r : Active) (u : State) : Type 0 where
+  pub first : Active
+  pub over_values : next (laid_program flow ls) r ≡ On first
+  pub rest : CarriesOn T flow ls w first u
+
 -- where the words fit, each planned word of a layout is carried: all its operations on values, in the registers or slots where
 -- these are kept, and its splits
 abbrev pub PlannedLaw : Type 0
 PlannedLaw =
     (T : Target) (flow : Flow) (ls : List VWords) (w : WordProgram) → is_sound_flow flow ≡ true → Carries T flow ls w → WordsFit T.machine w →
-    (r : Active) (u : State) → Tied T flow ls r u → (p region word : ℕ) (items : List Laid) → r.block ≡ suc p → slice_get (T.layout r.function).words p ≡ Some (Planned region word items) → CarriesOn T flow ls w r u
+    (r : Active) (u : State) → Tied T flow ls r u → (p region word : ℕ) (items : List Laid) → r.block ≡ suc p → slice_get (T.layout r.function).words p ≡ Some (Planned region word items) → CarriesOn T flow ls w r u ⊎ CarriesPast T flow ls w r u
 
 -- drains, transfers, choices and ends: all words of a layout but planned ones, calls and returns
 abbrev pub Simple : VirtualWord → Type 0

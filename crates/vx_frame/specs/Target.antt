@@ -185,9 +185,26 @@ carried T f rs ws k (Text n) = OutText n
 carried T f rs ws k (Decimal x) = OutDecimal (source_of (general_of T f rs) x)
 carried T f rs ws k (Across v u) = Move k (general_of T f ws v) (Held (general_of T f rs u))
 
--- a word that leaves results in scratch registers goes to a landing, where they are stored
+-- where a place that has only a transfer goes on
+abbrev pub past_word : (place : ℕ) → VirtualWord → ℕ
+past_word q (Planned r w items) = q
+past_word q (Drain n) = q
+past_word q (Transfer to) = to
+past_word q (Choice test to) = q
+past_word q (Calls g arguments result) = q
+past_word q (Returns x) = q
+past_word q (Ends k) = q
+
+abbrev pub past_there : (place : ℕ) → Option VirtualWord → ℕ
+past_there q None = q
+past_there q (Some word) = past_word q word
+
+abbrev pub past : Target → (function place : ℕ) → ℕ
+past T f q = past_there q (slice_get (T.layout f).words q)
+
+-- a word that leaves results in scratch registers goes to a landing, where they are stored; a way out without empty cycles is passed
 abbrev pub leads : Target → (function place : ℕ) → (writes : List ℕ) → ℕ → ℕ
-leads T f p [] q = T.starts f q
+leads T f p [] q = T.starts f (past T f q)
 leads T f p (v ∷ vs) q = T.landing f p q
 
 abbrev pub carried_items : Target → (function place : ℕ) → (reads writes : List ℕ) → List Laid → List Operation
@@ -283,7 +300,7 @@ plan_words T f p items = before T f (laid_reads items) ++ plan_word T f p items 
 
 -- where a taken split of a word arrives: what the word left in scratch registers is stored there
 abbrev pub landing_words : Target → ℕ → List Laid → (to : ℕ) → List Word
-landing_words T f items q = behind T f items ++ one (Goto (T.starts f q)) ∷ []
+landing_words T f items q = behind T f items ++ one (Goto (T.starts f (past T f q))) ∷ []
 
 -- the other words
 

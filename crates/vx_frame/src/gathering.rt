@@ -2,7 +2,7 @@
 // places of their words. specs/Seen.antt has the target that it makes.
 
 ghost use Rattle.std.specs.Prelude.{◌≡◌, slice_get, slice_index_or};
-ghost use Rattle.vx_frame.specs.Target.{parameters_of, is_call_word, is_caller, is_drain, is_drain_there, is_own};
+ghost use Rattle.vx_frame.specs.Target.{parameters_of, is_call_word, is_caller, is_drain, is_drain_there, is_own, past, past_word};
 ghost use Rattle.vx_frame.specs.Seen.{places_of, seen};
 
 use vx_base::listed::Listed;
@@ -223,6 +223,31 @@ pub(crate) fn is_drain_at(whole: &Whole, function: u32, place: u32) -> bool
     match words_of(whole, function).get(place as usize) {
         Some(word) => is_drain(word),
         None => false,
+    }
+}
+
+/// Where a word of a layout at a place goes on, where it is only a transfer; else the place.
+fn past_word(place: u32, word: &VirtualWord) -> u32
+    ensures { result ≡ past_word place word.now }
+{
+    match word {
+        VirtualWord::Transfer(to) => *to,
+        VirtualWord::Planned { .. } => place,
+        VirtualWord::Drain(_) => place,
+        VirtualWord::Choice { .. } => place,
+        VirtualWord::Call { .. } => place,
+        VirtualWord::Return(_) => place,
+        VirtualWord::Ends(_) => place,
+    }
+}
+
+/// The place to which a way leads from a place of a function's layout that is only a transfer; else that place.
+pub(crate) fn past(whole: &Whole, function: u32, place: u32) -> u32
+    ensures { result ≡ past (seen whole.now) function place }
+{
+    match words_of(whole, function).get(place as usize) {
+        Some(word) => past_word(place, word),
+        None => place,
     }
 }
 

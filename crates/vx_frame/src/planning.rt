@@ -10,7 +10,7 @@ ghost use Rattle.vx_frame.specs.Placed.{item_landings, words_of};
 ghost use Rattle.vx_frame.specs.Seen.{seen, IsPlan};
 
 use crate::carrying::carried;
-use crate::gathering::{Whole, landing, start};
+use crate::gathering::{Whole, landing, past, start};
 use crate::naming::{branch_of, is_slotted, once, slotted};
 use crate::slotting::{load_slots, push_one, push_pause, push_wait, store_slots};
 use crate::word_plan::{MOST_NAMES, Plan, Site};
@@ -115,12 +115,12 @@ pub(crate) fn plan_of<'a>(
     })
 }
 
-/// Where a taken split of a word goes: to a landing where the word leaves results in scratch registers, else to its place.
+/// Where a taken split of a word goes: to a landing where the word leaves results in scratch registers, else past its place.
 fn leads(whole: &Whole, plan: &Plan, to: u32) -> u32
     ensures { result ≡ leads (seen whole.now) plan.now.function plan.now.place plan.now.left to }
 {
     match plan.left.as_slice().split_first() {
-        None => start(whole, plan.function, to),
+        None => start(whole, plan.function, past(whole, plan.function, to)),
         Some(_) => landing(whole, plan.function, plan.place),
     }
 }
@@ -255,7 +255,7 @@ fn push_landing(
     ensures { IfOk result (λ _. words.new ≡ words.old ++ landing_words (seen whole.now) plan.now.function plan.now.items.now to) }
 {
     push_behind(alloc, whole, plan, words)?;
-    let target = start(whole, plan.function, to);
+    let target = start(whole, plan.function, past(whole, plan.function, to));
     push_one(alloc, Operation::Goto { target }, words)
 }
 
