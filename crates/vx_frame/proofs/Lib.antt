@@ -54,6 +54,7 @@ pub mod Lengths
 pub mod Standing
 pub mod RegionPlaces
 pub mod PlaceRows
+pub mod WayRows
 pub mod Globals
 pub mod Offsets
 pub mod Assembled
