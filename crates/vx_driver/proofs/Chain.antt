@@ -35,6 +35,9 @@ use Rattle.vx_words.specs.Range.{is_in_range}
 use Rattle.vx_profile.specs.declared.counts.Counts.{Counts}
 use Rattle.vx_region.specs.declared.trace_plan.TracePlan.{TracePlan}
 use Rattle.vx_driver.specs.Compiled.{AreMapsOf, Compiled, Planned, all_in_slots, layouts_of}
+use Rattle.vx_driver.specs.declared.words.FlowSize.{FlowSize}
+use Rattle.vx_driver.specs.Soaked.{all_blocks}
+use Rattle.vx_driver.specs.SoakSteps.{Sized}
 use Rattle.vx_driver.specs.Stages.{IsInside, AreInside, IsLayoutOf, AreLayoutsFrom, AreLayoutsOf, StageLaws}
 use Rattle.vx_driver.proofs.OneFunction.{Finishable, finishable}
 
@@ -205,6 +208,17 @@ module _ (laws : StageLaws) (p : Program) (flow : Flow) (machine : Numbers) (ls 
           sound = all.finished.sound;
           in_range = in_range;
         }
+
+    -- its graphs are these, and of this size
+    pub compiled_sized : (counts : Counts) (growth : ℕ) (traces : List TracePlan) (spilled copies : ℕ) (planned : Planned machine counts growth flow.functions traces copies) → ls ≡ layouts_of planned.functions → AreMapsOf machine ls maps →
+        spilled ≡ all_in_slots maps → is_in_range w ≡ true → (size : FlowSize) → size.functions ≡ length flow.functions → size.blocks ≡ all_blocks flow.functions →
+        Sized p counts machine growth w (record { traces = traces; places = x.places; spilled = spilled; copies = copies }) size
+    unfolding compiled
+    compiled_sized counts growth traces spilled copies planned are kept in_slots in_range size functions blocks = record {
+      compiled = compiled counts growth traces spilled copies planned are kept in_slots in_range;
+      functions_are = functions;
+      blocks_are = blocks;
+    }
 
 -- what finishing asks for
 

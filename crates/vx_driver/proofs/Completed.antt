@@ -1,7 +1,7 @@
 -- What the answer of the top call excludes where nothing fails, command by command.
 use Rattle.std.proofs.Common.{Option, Some, None, refl}
 use Rattle.vx_driver.specs.declared.status.Status.{Status}
-use Rattle.vx_driver.specs.Command.{Command, Compile, Simulate, Execute, Count}
+use Rattle.vx_driver.specs.Command.{Command, Compile, Simulate, Execute, Count, Soak}
 use Rattle.vx_driver.specs.Boxes.{Boxes}
 use Rattle.vx_driver.specs.Answers.{Effect}
 use Rattle.vx_driver.specs.Simulated.{Streams}
@@ -10,6 +10,7 @@ use Rattle.vx_driver.proofs.Completing.{complete_in}
 use Rattle.vx_driver.proofs.Simulating.{sim_completes}
 use Rattle.vx_driver.proofs.Executed.{exec_completes}
 use Rattle.vx_driver.proofs.Counting.{profile_completes}
+use Rattle.vx_driver.proofs.SoakLaws.{soak_completes}
 
 pub completes : (command : Option Command) (boxes : Boxes) (e : Effect) (s : Streams) (status : Status) → Answers command boxes e s status → Completes command boxes e s status
 completes None boxes e s status a = tt
@@ -17,3 +18,4 @@ completes (Some (Compile asked)) boxes e s status a = λ quiet_reads quiet_repla
 completes (Some (Simulate asked)) boxes e s status a = sim_completes asked boxes e s status a
 completes (Some (Execute asked)) boxes e s status a = exec_completes asked boxes e s status a
 completes (Some (Count asked)) boxes e s status a = profile_completes asked e s status a
+completes (Some (Soak asked)) boxes e s status a = soak_completes asked boxes e s status a

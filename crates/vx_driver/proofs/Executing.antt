@@ -58,6 +58,15 @@ module _ (p : Program) (x : Loaded) (times : Times) (faithful : Faithful p x.mac
   in_source n (StuckWith why place out) is = absurd (safe n (subst IsFailure (sym is) tt))
   in_source n (Wrong out) is = absurd (safe n (subst IsFailure (sym is) tt))
 
+  -- the least number of words with which the run within a budget comes to its outcome
+  pub issues_of : (budget : ℕ) (o : Outcome) → outcome_within x times budget ≡ o → Issues (outcome_within x times) budget o (length (events_within x times budget))
+  issues_of budget o is = record {
+    comes = issues_comes x.machine (list_of times) x.program budget (begun x times) (safe budget) ∙ is;
+    within = issues_within x.machine (list_of times) x.program budget (begun x times) (safe budget);
+    least = issues_least x.machine (list_of times) x.program budget (begun x times) (safe budget);
+    all = λ g. issues_all x.machine (list_of times) x.program budget (begun x times) (safe budget) (subst IsGoing (sym is) g);
+  }
+
 -- the run and its lines
 
 shows_run : (o : Outcome) (issued : ℕ) (reports : List ℕ) (s : Streams) → (IsFailure o → ⊥) → ShowsOf o (issued_line issued) reports s → ShowsRun o issued reports s
@@ -81,14 +90,6 @@ module _ (asked : Execution) (x : Loaded) (times : Times) (watches : List Watch)
   no_failure : (n : ℕ) → IsFailure (outcome_within x times n) → ⊥
   no_failure n f = safe ready.source_program x times ready.by.compiled.faithful numbers n f
 
-  issues : (o : Outcome) → the_outcome ≡ o → Issues (outcome_within x times) asked.budget o the_count
-  issues o is = record {
-    comes = issues_comes x.machine (list_of times) x.program asked.budget (begun x times) (no_failure asked.budget) ∙ is;
-    within = issues_within x.machine (list_of times) x.program asked.budget (begun x times) (no_failure asked.budget);
-    least = issues_least x.machine (list_of times) x.program asked.budget (begun x times) (no_failure asked.budget);
-    all = λ g. issues_all x.machine (list_of times) x.program asked.budget (begun x times) (no_failure asked.budget) (subst IsGoing (sym is) g);
-  }
-
   shown : (o : Outcome) → the_outcome ≡ o → ShowsOf the_outcome (issued_line the_count) (reports_of watches (events_within x times asked.budget)) s → ShowsRun o the_count (reports_of watches (events_within x times the_count)) s
   shown o is h =
       shows_run o the_count (reports_of watches (events_within x times the_count)) s (λ f. no_failure asked.budget (subst IsFailure (sym is) f))
@@ -100,7 +101,7 @@ module _ (asked : Execution) (x : Loaded) (times : Times) (watches : List Watch)
     words = x;
     ready = ready;
     issued = the_count;
-    issues = issues o is;
+    issues = issues_of ready.source_program x times ready.by.compiled.faithful numbers asked.budget o is;
     in_source = in_source ready.source_program x times ready.by.compiled.faithful numbers asked.budget o is;
     put = a.put ∙ ap (λ y. with_bytes s.out_before (output_of y)) is;
     shown = shown o is a.shown;

@@ -5,6 +5,8 @@ pub mod RunFound
 pub mod Picking
 pub mod CommandWords
 pub mod ProfileWords
+pub mod SoakWords
+mod SoakRows
 mod CommandRows
 mod SimRows
 mod ExecRows
@@ -24,6 +26,8 @@ pub mod Runs
 pub mod Executing
 pub mod Executed
 pub mod Counting
+pub mod Summing
+pub mod SoakLaws
 pub mod Completed
 pub mod Beginning
 pub mod OneFunction

@@ -73,7 +73,7 @@ module _ (bits low high other : ℕ) (fits : (n : ℕ) → n ≤ high → n < 2 
   pub number_none : (e : E) (r : Result ℕ E) → ParsesUnsigned bits 10 text r → r ≡ Err e → None ≡ number_in low high other (Some text)
   number_none e r h is = no_number r h (λ n x at_least at_most. not_both n e r x is)
 
-below : (high bound n : ℕ) → high < bound → n ≤ high → n < bound
+pub below : (high bound n : ℕ) → high < bound → n ≤ high → n < bound
 below high bound n less is = omega (arith, less, is)
 
 pub most_words_fit : (n : ℕ) → n ≤ 1000000000000 → n < 2 ^ 64

@@ -1,6 +1,6 @@
 -- The answers of `sim` from those of its run and its files, and of any run from its boxes.
 use Rattle.std.proofs.Common.{◌≡◌, ◌∙◌, ◌⊎◌, inl, inr, ℕ, ◌++◌, true, false, List, [], ◌∷◌, length, map, is_some, Option, Some, None, option_map, IfSome, refl, sym, subst, ap, arith}
-use Rattle.std.specs.Prelude.{◌<◌}
+use Rattle.std.specs.Prelude.{◌<◌, codes}
 use Rattle.vx_base.specs.Outcome.{Outcome, Ends, Traps, Goes, Stuck as StuckWith, Wrong}
 use Rattle.vx_base.specs.Outside.{Files}
 use Rattle.vx_words.specs.Text.{Spells}
@@ -8,11 +8,12 @@ use Rattle.vx_probe.specs.Times.{Times}
 use Rattle.vx_probe.specs.Watch.{Watch}
 use Rattle.vx_driver.specs.declared.status.Status.{Status}
 use Rattle.vx_driver.specs.declared.status.Status.TheVariants.{Done, Trapped, Usage, Source, Limit, Words, Profile, Machine, NoFile, ReadFault, WriteFault, Stopped, Input, Stuck, NoMemory}
-use Rattle.vx_driver.specs.Command.{Command, Compile, Simulate, Execute, Count, Simulation, Execution}
+use Rattle.vx_driver.specs.Command.{Command, Compile, Simulate, Execute, Count, Soak, Simulation, Execution, Soaking}
 use Rattle.vx_driver.specs.Boxes.{Boxes, ProbeBox, Chosen, chosen, chosen_of, timing_named, probes_named}
 use Rattle.vx_driver.specs.Answers.{Effect, SameFiles}
 use Rattle.vx_driver.specs.Simulated.{Loaded, loading, is_named, Stops, Streams, OutputCut, IsStatusOf, Shows, reports_of, result_line, Loads, RunEnds, RunCut, RunAnswers, BoxAnswers, SimAnswers, is_of_run, outcome_within, events_within}
 use Rattle.vx_driver.specs.Executed.{ExecAnswers, ExecutionAnswers}
+use Rattle.vx_driver.specs.Soaked.{SoakAnswers, SoakedAnswers}
 use Rattle.vx_driver.specs.Ending.{ShowsOf, IsRunOf, UnputLines, LoadedAnswers}
 use Rattle.vx_base.specs.Outside.{with_bytes}
 use Rattle.std.proofs.lemmas.List.{append-nil}
@@ -178,6 +179,19 @@ module _ (asked : Execution) (boxes : Boxes) (e : Effect) (s : Streams) (status 
   pub exec_no_memory : status ≡ NoMemory → ExecAnswers asked boxes e s status
   exec_no_memory is = (same, memory_boxes (ExecutionAnswers asked e s status) status (chosen asked.timing asked.probe boxes) is (execution_memory asked e s status is))
 
+soak_memory : (asked : Soaking) (s : Streams) (status : Status) → status ≡ NoMemory → (these : Chosen) → SoakedAnswers asked s status these
+soak_memory asked s status is these = subst (λ t. SoakedAnswers asked s t these) (sym is) tt
+
+module _ (asked : Soaking) (boxes : Boxes) (e : Effect) (s : Streams) (status : Status) (same : SameFiles e) where
+  pub soak_no_timing : None ≡ timing_named (codes "late") boxes.timings → status ≡ Usage → SoakAnswers asked boxes e s status
+  soak_no_timing none is = (same, without_timing (SoakedAnswers asked s status) status (codes "late") None boxes none is)
+
+  pub soak_timing_there : (times : Times) → Some times ≡ timing_named (codes "late") boxes.timings → SoakedAnswers asked s status (record { times = times; watches = [] }) → SoakAnswers asked boxes e s status
+  soak_timing_there times timing a = (same, with_boxes (SoakedAnswers asked s status) status (codes "late") None boxes times [] timing refl a)
+
+  pub soak_no_memory : status ≡ NoMemory → SoakAnswers asked boxes e s status
+  soak_no_memory is = (same, memory_boxes (SoakedAnswers asked s status) status (chosen (codes "late") None boxes) is (soak_memory asked s status is))
+
 pub wanted_by : (name : Option (List ℕ)) (boxes : List ProbeBox) (watches : List Watch) → probes_named name boxes ≡ Some watches → 0 < length watches → is_some name ≡ true
 wanted_by None boxes [] is some = absurd (omega (arith, some))
 wanted_by None boxes (w ∷ ws) is some = absurd (no_list w ws is)
@@ -200,3 +214,5 @@ refused_answers (Some (Execute asked)) boxes e s status same (inl memory) = exec
 refused_answers (Some (Execute asked)) boxes e s status same (inr usage) = let none = usage.1 in absurd cc
 refused_answers (Some (Count asked)) boxes e s status same (inl memory) = subst (Answers (Some (Count asked)) boxes e s) (sym memory) (same, tt)
 refused_answers (Some (Count asked)) boxes e s status same (inr usage) = let none = usage.1 in absurd cc
+refused_answers (Some (Soak asked)) boxes e s status same (inl memory) = soak_no_memory asked boxes e s status same memory
+refused_answers (Some (Soak asked)) boxes e s status same (inr usage) = let none = usage.1 in absurd cc

@@ -1,10 +1,11 @@
 -- What the words of the commands ask for, as the code holds it.
 use Rattle.std.specs.Prelude.{option_map}
-use Rattle.vx_driver.specs.Command.{Command, Compilation, Execution, Makes, Profiling, Simulation}
+use Rattle.vx_driver.specs.Command.{Command, Compilation, Execution, Makes, Profiling, Simulation, Soaking}
 use Rattle.vx_driver.specs.declared.command.CompileWords.{CompileWords}
 use Rattle.vx_driver.specs.declared.profile_words.ProfileWords.{ProfileWords}
 use Rattle.vx_driver.specs.declared.run_words.ExecWords.{ExecWords}
 use Rattle.vx_driver.specs.declared.run_words.RunWords.{RunWords}
+use Rattle.vx_driver.specs.declared.soaking.SoakWords.{SoakWords}
 
 abbrev pub compilation_of : CompileWords → Compilation
 compilation_of asked = record {
@@ -40,6 +41,9 @@ execution_of asked = record {
 
 abbrev pub profiling_of : ProfileWords → Profiling
 profiling_of asked = record { source = asked.source.now; input = option_map (λ s. s.now) asked.input; blocks = asked.blocks }
+
+abbrev pub soaking_of : SoakWords → Soaking
+soaking_of asked = record { seed = asked.seed; size = asked.size }
 
 abbrev pub asks : Makes → RunWords → Command
 asks makes asked = makes asked.file.now (option_map (λ s. s.now) asked.machine) (option_map (λ s. s.now) asked.input) asked.budget asked.timing.now (option_map (λ s. s.now) asked.probe)

@@ -62,6 +62,13 @@ pub record Profiling : Type 0 where
   -- the most blocks that are run
   pub blocks : ℕ
 
+-- what a soak run is asked for
+pub record Soaking : Type 0 where
+  -- where the draws begin
+  pub seed : ℕ
+  -- how many statements are made
+  pub size : ℕ
+
 pub data Command : Type 0 where
   -- the words of the source go to a file, and the report of their plan to another, where one is named; their traces are picked by
   -- the profile of a file, or by no counts, and they are for the machine that a file describes, or the default one
@@ -72,6 +79,8 @@ pub data Command : Type 0 where
   Execute : Execution → Command
   -- the blocks and edges of a run of the source are counted
   Count : Profiling → Command
+  -- a source is made, and its words are run
+  Soak : Soaking → Command
 
 -- a word that has to be there
 abbrev pub required_word : List ℕ → Rule
@@ -199,12 +208,34 @@ profile_unless (kind ∷ kinds) rows = None
 unfoldable pub profile_of : List (List ℕ) → Option Command
 profile_of words = profile_unless (fault_of profile_app words) (matches_of profile_app words)
 
+-- a word that has to be there, a number from low to high
+abbrev pub required_number : List ℕ → (low high : ℕ) → Rule
+required_number name low high = record (required_word name) { parser = Some (Unsigned low high) }
+
+-- `soak SEED SIZE`
+unfoldable pub soak_app : App
+soak_app = with_rule (with_rule (new_app (codes "soak")) (required_number (codes "SEED") 0 1000000000)) (required_number (codes "SIZE") 1 10000)
+
+-- the two numbers, where both have a text of one
+abbrev pub soak_found : (seed size : Option ℕ) → Option Command
+soak_found (Some seed) (Some size) = Some (Soak (record { seed = seed; size = size }))
+soak_found seed size = None
+
+abbrev pub soak_unless : Kinds → List Row → Option Command
+soak_unless [] rows = soak_found (number_in 0 1000000000 0 (first_of (codes "SEED") rows)) (number_in 1 10000 1 (first_of (codes "SIZE") rows))
+soak_unless (kind ∷ kinds) rows = None
+
+-- what the words of `soak` ask for, the program's name first; nothing where clap refuses them
+unfoldable pub soak_of : List (List ℕ) → Option Command
+soak_of words = soak_unless (fault_of soak_app words) (matches_of soak_app words)
+
 abbrev pub command_named : List ℕ → List (List ℕ) → Option Command
 command_named name words =
     if bytes_eq name (codes "compile") then compile_of words
     else if bytes_eq name (codes "sim") then sim_of words
     else if bytes_eq name (codes "exec") then exec_of words
     else if bytes_eq name (codes "profile") then profile_of words
+    else if bytes_eq name (codes "soak") then soak_of words
     else None
 
 abbrev pub command_of : List (List ℕ) → Option Command

@@ -2,12 +2,13 @@
 use Rattle.std.specs.Prelude.{◌≡◌, ◌⊎◌, Bool, false, Option, Some, None, IfSome}
 use Rattle.vx_driver.specs.declared.status.Status.{Status}
 use Rattle.vx_driver.specs.declared.status.Status.TheVariants.{Usage, NoMemory}
-use Rattle.vx_driver.specs.Command.{Command, Compile, Simulate, Execute, Count}
+use Rattle.vx_driver.specs.Command.{Command, Compile, Simulate, Execute, Count, Soak}
 use Rattle.vx_driver.specs.Boxes.{Boxes}
 use Rattle.vx_driver.specs.Answers.{Effect, SameFiles, ReadsRose, ReplacesRose, CompileAnswers, CompileEnds}
 use Rattle.vx_driver.specs.Simulated.{Streams, SimAnswers, SimCompletes, is_of_run}
 use Rattle.vx_driver.specs.Executed.{ExecAnswers, ExecCompletes}
 use Rattle.vx_driver.specs.Counted.{ProfilingAnswers, ProfilingCompletes}
+use Rattle.vx_driver.specs.Soaked.{SoakAnswers, SoakCompletes, puts_summary}
 
 -- words that are no command are answered Usage, unless memory is wanted
 abbrev pub Answers : Option Command → Boxes → Effect → Streams → Status → Type 0
@@ -16,6 +17,7 @@ Answers (Some (Compile asked)) boxes e s status = CompileAnswers asked e status
 Answers (Some (Simulate asked)) boxes e s status = SimAnswers asked boxes e s status
 Answers (Some (Execute asked)) boxes e s status = ExecAnswers asked boxes e s status
 Answers (Some (Count asked)) boxes e s status = ProfilingAnswers asked e s status
+Answers (Some (Soak asked)) boxes e s status = SoakAnswers asked boxes e s status
 
 abbrev pub Completes : Option Command → Boxes → Effect → Streams → Status → Type 0
 Completes None boxes e s status = Unit {0}
@@ -23,10 +25,12 @@ Completes (Some (Compile asked)) boxes e s status = (ReadsRose e → ⊥) → (R
 Completes (Some (Simulate asked)) boxes e s status = SimCompletes asked boxes e s status
 Completes (Some (Execute asked)) boxes e s status = ExecCompletes asked boxes e s status
 Completes (Some (Count asked)) boxes e s status = ProfilingCompletes asked e s status
+Completes (Some (Soak asked)) boxes e s status = SoakCompletes asked boxes s status
 
 -- nothing is put on the output but by a run
 abbrev pub puts_output : Option Command → Status → Bool
 puts_output (Some (Simulate asked)) status = is_of_run status
 puts_output (Some (Execute asked)) status = is_of_run status
 puts_output (Some (Count asked)) status = is_of_run status
+puts_output (Some (Soak asked)) status = puts_summary status
 puts_output command status = false

@@ -10,7 +10,9 @@ pub mod Answers
 pub mod Simulated
 pub mod Executed
 pub mod Counted
+pub mod Soaked
 pub mod Ending
 pub mod Counting
+pub mod SoakSteps
 pub mod Commands
 pub mod Laws

@@ -1,8 +1,8 @@
 // The words and options of a command, and how many operations may be copied.
 
-ghost use Rattle.std.specs.Prelude.{◌≡◌, ◌≤◌, false, Some, option_map, IfOk, MatchOption};
+ghost use Rattle.std.specs.Prelude.{◌≡◌, ◌≤◌, ℕ, false, Some, option_map, IfOk, IfSome, MatchOption};
 ghost use Rattle.clap.specs.Words.{app_of, rule_of};
-ghost use Rattle.vx_driver.specs.Command.{required_word, option_word, number_word, growth_word, growth_of, file_app, with_compiling_options};
+ghost use Rattle.vx_driver.specs.Command.{required_word, required_number, option_word, number_word, number_in, growth_word, growth_of, file_app, with_compiling_options};
 
 use clap::builder::ValueParser;
 use clap::{Arg, ArgAction, Command};
@@ -18,6 +18,14 @@ pub(crate) fn required_of<'a>(alloc: Global, name: &'a str) -> Arg<'a>
     ensures local { result.global ≡ false }
 {
     Arg::new(alloc, name).action(ArgAction::Set).required(true)
+}
+
+/// A word that has to be there, a number from low to high.
+pub(crate) fn required_number_of<'a>(alloc: Global, name: &'a str, low: u64, high: u64) -> Arg<'a>
+    ensures rule { rule_of result ≡ required_number name.entry.now low high }
+    ensures local { result.global ≡ false }
+{
+    required_of(alloc, name).value_parser(ValueParser::Unsigned(low, high))
 }
 
 /// `--name VALUE`.
@@ -96,5 +104,39 @@ pub(crate) fn growth_of(text: Option<&str>) -> Option<u32>
     match text {
         Some(text) => growth_in(text),
         None => Some(DEFAULT_GROWTH),
+    }
+}
+
+/// A number that is from low to high.
+fn ranged(number: u64, low: u64, high: u64) -> Option<u64>
+    ensures { MatchOption result ((low ≤ number → number ≤ high → ⊥)) (λ n. (n ≡ number) × (low ≤ number) × (number ≤ high)) }
+{
+    if low <= number && number <= high {
+        Some(number)
+    } else {
+        None
+    }
+}
+
+/// The number from low to high that a text is.
+fn number_in(text: &str, low: u64, high: u64) -> Option<u64>
+    ensures number { (other : ℕ) → result ≡ number_in low high other (Some text.now) }
+    ensures range { IfSome result (λ n. (low ≤ n) × (n ≤ high)) }
+{
+    match text.parse::<u64>() {
+        Ok(number) => ranged(number, low, high),
+        Err(_) => None,
+    }
+}
+
+/// The number from low to high that a text is, or the least one where there is no text.
+pub(crate) fn number_or_least(text: Option<&str>, low: u64, high: u64) -> Option<u64>
+    requires some { low ≤ high }
+    ensures number { result ≡ number_in low high low (option_map (λ s. s.now) text.entry) }
+    ensures range { IfSome result (λ n. (low ≤ n) × (n ≤ high)) }
+{
+    match text {
+        Some(text) => number_in(text, low, high),
+        None => Some(low),
     }
 }

@@ -27,7 +27,7 @@ pub(crate) struct RunEnd {
 }
 
 /// Runs what was read, for at most so many words.
-fn run<K: Sink>(
+pub(crate) fn run<K: Sink>(
     alloc: Global,
     loaded: LoadedFiles,
     budget: u64,

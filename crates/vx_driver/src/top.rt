@@ -1,8 +1,8 @@
 // The top call: from the words of a command line to its answer.
 
-ghost use Rattle.std.specs.Prelude.{◌≡◌, ◌≤◌, ◌∷◌, false, map, string_bytes, IfOk};
+ghost use Rattle.std.specs.Prelude.{◌≡◌, ◌≤◌, ◌∷◌, List, false, map, string_bytes, IfOk};
 ghost use Rattle.vx_driver.specs.Status.{Appends, Adds};
-ghost use Rattle.vx_driver.specs.Command.{command_of, command_named, compile_of, sim_of, exec_of, profile_of};
+ghost use Rattle.vx_driver.specs.Command.{command_of, command_named, compile_of, sim_of, exec_of, profile_of, soak_of};
 ghost use Rattle.vx_driver.specs.Answers.{effect_of};
 ghost use Rattle.vx_driver.specs.Simulated.{Streams, streams_of};
 ghost use Rattle.vx_driver.specs.Boxes.{Boxes};
@@ -15,6 +15,8 @@ use crate::profile::profile;
 use crate::profile_words::profile_asked;
 use crate::run_words::{exec_asked, sim_asked};
 use crate::sim::simulate_with;
+use crate::soak::soak;
+use crate::soak_words::soak_asked;
 use crate::status::{Status, tell};
 use std::alloc::{AllocError, Global};
 use vx_base::depot::Depot;
@@ -122,6 +124,28 @@ fn perform_profile<D: Depot, K: Sink, E: Sink>(
     }
 }
 
+/// Does what the words of `soak` ask for, the program's name first, and puts its line or the line of its answer.
+fn perform_soak<D: Depot, K: Sink, E: Sink>(
+    alloc: Global,
+    words: &[&str],
+    depot: &mut D,
+    out: &mut K,
+    err: &mut E,
+    probes: Vec<Box<dyn Probe>>,
+    timings: Vec<Box<dyn Timing>>,
+) -> Status
+    ensures answers { Answers (soak_of (map (λ w. w.now) words.now)) (record { probes = map (λ b. record { name = (⟦<dyn Probe as Probe>⟧ b.vtable).called b.value; watch = watch b }) probes.items; timings = map (λ b. record { name = (⟦<dyn Timing as Timing>⟧ b.vtable).called b.value; times = times b }) timings.items }) (effect_of D.files D.failed_reads D.failed_replaces depot.old depot.new) (streams_of K.told K.faults E.told E.faults out.old out.new err.old err.new) result }
+    ensures adds { Adds (E.told err.old) (E.told err.new) (E.faults err.old) (E.faults err.new) }
+    ensures nothing { puts_output (soak_of (map (λ w. w.now) words.now)) result ≡ false → K.told out.new ≡ K.told out.old }
+    ensures reads_never_fall { D.failed_reads depot.old ≤ D.failed_reads depot.new }
+    ensures replaces_never_fall { D.failed_replaces depot.old ≤ D.failed_replaces depot.new }
+{
+    match soak_asked(alloc, words) {
+        Ok(asked) => soak(alloc, out, err, &asked, timings),
+        Err(refused) => refuse(err, &refused),
+    }
+}
+
 /// Does what a command's words ask for, the program's name first.
 fn perform_named<D: Depot, K: Sink, E: Sink>(
     alloc: Global,
@@ -147,6 +171,8 @@ fn perform_named<D: Depot, K: Sink, E: Sink>(
         perform_exec(alloc, words, depot, out, err, probes, timings)
     } else if name == "profile" {
         perform_profile(alloc, words, depot, out, err)
+    } else if name == "soak" {
+        perform_soak(alloc, words, depot, out, err, probes, timings)
     } else {
         tell(err, Status::Usage)
     }
@@ -205,7 +231,7 @@ pub fn vexc<D: Depot, K: Sink, E: Sink>(
     // Where nothing fails, the command does its work, unless memory is wanted.
     ensures complete { Completes (command_of (map string_bytes words.now)) (record { probes = map (λ b. record { name = (⟦<dyn Probe as Probe>⟧ b.vtable).called b.value; watch = watch b }) probes.items; timings = map (λ b. record { name = (⟦<dyn Timing as Timing>⟧ b.vtable).called b.value; times = times b }) timings.items }) (effect_of D.files D.failed_reads D.failed_replaces depot.old depot.new) (streams_of K.told K.faults E.told E.faults out.old out.new err.old err.new) result }
 
-    // Only a run puts anything on `out`, its output or its counts.
+    // Only a run puts anything on `out`, its output, its counts or its summary.
     ensures nothing_on_out { puts_output (command_of (map string_bytes words.now)) result ≡ false → K.told out.new ≡ K.told out.old }
     ensures line_on_err { Appends (E.told err.old) (E.told err.new) }
     ensures reads_never_fall { D.failed_reads depot.old ≤ D.failed_reads depot.new }

@@ -2,11 +2,13 @@
 // words over values, the values kept in registers and slots, and all finished as one program. The clause of `compile` is the
 // promise of the compiler (specs/Compiled.antt); what holds between its steps stands in specs/Stages.antt.
 
-ghost use Rattle.std.specs.Prelude.{◌≡◌, ◌+◌, true, IfOk};
+ghost use Rattle.std.specs.Prelude.{◌≡◌, ◌+◌, true, length, IfOk};
 ghost use Rattle.vx_ast.specs.View as view;
 ghost use Rattle.vx_flow.specs.Sound.{is_sound_flow};
 ghost use Rattle.vx_lower.specs.FlowOf.{FlowOf};
 ghost use Rattle.vx_driver.specs.Compiled.{AreMapsOf, Compiled, all_in_slots, in_slots, slot_of};
+ghost use Rattle.vx_driver.specs.Soaked.{all_blocks};
+ghost use Rattle.vx_driver.specs.SoakSteps.{Sized};
 ghost use Rattle.vx_driver.specs.Stages.{AreFinished, AreInside, AreLayoutsOf, StageLaws};
 
 use crate::layouts::layouts_of;
@@ -18,7 +20,7 @@ use vx_base::listed::Listed;
 use vx_base::outcome::NoMemory;
 use vx_clean::clean;
 use vx_facts::narrow;
-use vx_flow::graph::Flow;
+use vx_flow::graph::{Flow, Graph};
 use vx_frame::laws::{
     finished_programs_carry_their_plan, frames_keep_to_the_machine, layouts_are_spaced,
 };
@@ -44,6 +46,22 @@ pub struct CompiledProgram {
     pub words: WordProgram,
     /// The plan.
     pub plan: Plan,
+}
+
+/// How large the graphs of a program are.
+#[derive(Clone, Copy)]
+pub(crate) struct FlowSize {
+    /// How many functions there are.
+    pub(crate) functions: u32,
+    /// How many blocks all of them have.
+    pub(crate) blocks: u32,
+}
+
+/// A compiled program, and how large the graphs are that its words are made from.
+#[derive(Drop)]
+pub(crate) struct SizedProgram {
+    pub(crate) compiled: CompiledProgram,
+    pub(crate) size: FlowSize,
 }
 
 /// Layouts that are finished as words.
@@ -139,6 +157,30 @@ pub(crate) fn flow_of(alloc: Global, program: &Typed) -> Result<Flow, NoMemory>
     Ok(flow)
 }
 
+/// How many blocks graphs have.
+#[tactic(auto, using(std::proofs::lemmas::List::Sums::sum_by_more))]
+fn blocks_in(graphs: &[Graph]) -> Result<u32, NoMemory>
+    ensures { IfOk result (λ count. count ≡ all_blocks graphs.now) }
+{
+    let mut count = 0;
+    for graph in graphs {
+        count = sum_of(count, graph.blocks.len() as u32)?;
+    }
+    Ok(count)
+}
+
+/// How large the graphs of a program are.
+fn size_of(flow: &Flow) -> Result<FlowSize, NoMemory>
+    ensures functions { IfOk result (λ size. size.functions ≡ length flow.now.functions) }
+    ensures blocks { IfOk result (λ size. size.blocks ≡ all_blocks flow.now.functions) }
+{
+    let blocks = blocks_in(flow.functions.as_slice())?;
+    Ok(FlowSize {
+        functions: flow.functions.len() as u32,
+        blocks,
+    })
+}
+
 /// The words of layouts, with their values kept in registers and slots.
 fn finished_of(
     alloc: Global,
@@ -159,6 +201,36 @@ fn finished_of(
     Ok(FinishedProgram { finished, spilled })
 }
 
+/// What `compile` answers, and how large the graphs are.
+pub(crate) fn compile_sized(
+    alloc: Global,
+    program: &Typed,
+    counts: &Counts,
+    machine: &Machine,
+    growth: u32,
+) -> Result<SizedProgram, NoMemory>
+    ensures { IfOk result (λ x. Sized (view.program_of program.now.program) counts.now machine.now growth x.compiled.words x.compiled.plan x.size) }
+{
+    stages_do_the_same();
+    machine.keeps_ranges();
+    let flow = flow_of(alloc, program)?;
+    let size = size_of(&flow)?;
+    let laid = layouts_of(alloc, flow.functions.as_slice(), counts, machine, growth)?;
+    let done = finished_of(alloc, &flow, laid.layouts.as_slice(), machine)?;
+    Ok(SizedProgram {
+        compiled: CompiledProgram {
+            words: done.finished.program,
+            plan: Plan {
+                traces: laid.traces,
+                places: done.finished.places,
+                spilled: done.spilled,
+                copies: laid.copies,
+            },
+        },
+        size,
+    })
+}
+
 /// The words of an accepted program for a machine, and how they were planned. Its traces are picked by counts of blocks and edges,
 /// whatever these are; at most so many operations are copied onto the edges of splits and joins. `Err` comes only where memory
 /// runs out.
@@ -171,18 +243,6 @@ pub fn compile(
 ) -> Result<CompiledProgram, NoMemory>
     ensures { IfOk result (λ x. Compiled (view.program_of program.now.program) counts.now machine.now growth x.words x.plan) }
 {
-    stages_do_the_same();
-    machine.keeps_ranges();
-    let flow = flow_of(alloc, program)?;
-    let laid = layouts_of(alloc, flow.functions.as_slice(), counts, machine, growth)?;
-    let done = finished_of(alloc, &flow, laid.layouts.as_slice(), machine)?;
-    Ok(CompiledProgram {
-        words: done.finished.program,
-        plan: Plan {
-            traces: laid.traces,
-            places: done.finished.places,
-            spilled: done.spilled,
-            copies: laid.copies,
-        },
-    })
+    let sized = compile_sized(alloc, program, counts, machine, growth)?;
+    Ok(sized.compiled)
 }

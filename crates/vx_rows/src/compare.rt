@@ -2,7 +2,7 @@
 
 use crate::calling::Outcome;
 use crate::rows::Step;
-use crate::sheet::{Piece, Statement, Stream, Topic, What};
+use crate::sheet::{Behind, Piece, Statement, Stream, Topic, What};
 use vx_base::depot::MemDepot;
 
 /// What stands behind the end of a line.
@@ -14,10 +14,10 @@ fn behind_line(bytes: &[u8]) -> Option<&[u8]> {
 /// What stands behind a piece that stands at the front.
 fn behind_piece<'a>(piece: &Piece, bytes: &'a [u8]) -> Option<&'a [u8]> {
     let rest = bytes.strip_prefix(piece.bytes.as_slice())?;
-    if piece.is_open {
-        behind_line(rest)
-    } else {
-        Some(rest)
+    match piece.behind {
+        Behind::Nothing => Some(rest),
+        Behind::Line => behind_line(rest),
+        Behind::Text => Some(&[]),
     }
 }
 

@@ -1,6 +1,6 @@
 // The lines of content: a mark, and the bytes that it gives.
 
-use crate::sheet::Piece;
+use crate::sheet::{Behind, Piece};
 use crate::why::Why;
 use std::alloc::Global;
 
@@ -129,6 +129,7 @@ fn bytes_of(alloc: Global, line: &[u8]) -> Result<Vec<u8>, Why> {
         [b':', text @ ..] | [b'?', text @ ..] => Ok(Vec::from_slice(alloc, text)?),
         [b'=', text @ ..] => without_escapes(alloc, text),
         [b'*', text @ ..] => repeated(alloc, text),
+        [b'.', b'.', b'.'] => Ok(Vec::new(alloc)),
         _ => Err(Why::BadContent),
     }
 }
@@ -137,14 +138,24 @@ fn bytes_of(alloc: Global, line: &[u8]) -> Result<Vec<u8>, Why> {
 pub fn is_content(line: &[u8]) -> bool {
     match line {
         [b'=', b'=', b' ', ..] => false,
+        [b'.', b'.', b'.'] => true,
         [mark, ..] => matches!(*mark, b'|' | b':' | b'=' | b'*' | b'?'),
         [] => false,
+    }
+}
+
+/// What may stand behind the bytes of a line of content.
+fn behind_of(line: &[u8]) -> Behind {
+    match line {
+        [b'.', b'.', b'.'] => Behind::Text,
+        [b'?', ..] => Behind::Line,
+        _ => Behind::Nothing,
     }
 }
 
 /// The content that a line gives.
 pub fn piece_of(alloc: Global, line: &[u8]) -> Result<Piece, Why> {
     let bytes = bytes_of(alloc, line)?;
-    let is_open = line.first() == Some(&b'?');
-    Ok(Piece { bytes, is_open })
+    let behind = behind_of(line);
+    Ok(Piece { bytes, behind })
 }

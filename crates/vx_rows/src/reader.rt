@@ -1,7 +1,7 @@
 // Reads a text as a file of rows.
 
 use crate::content::{is_content, piece_of};
-use crate::sheet::{Boxes, Faulty, Piece, Statement, Stream, Topic, What};
+use crate::sheet::{Behind, Boxes, Faulty, Piece, Statement, Stream, Topic, What};
 use crate::why::{Misread, Why};
 use std::alloc::Global;
 use vx_base::lines::{Line, Lines};
@@ -214,11 +214,11 @@ struct Reader {
 
 /// Whether a piece may be content of a statement.
 fn fits(what: &What, piece: &Piece) -> bool {
-    !(piece.is_open && what.is_file())
+    piece.behind == Behind::Nothing || !what.is_file()
 }
 
 impl Reader {
-    /// Reads a line of content.
+    /// Reads a line of content. None stands behind one with a free end of the text.
     fn take_content(&mut self, alloc: Global, line: &[u8]) -> Result<(), Why> {
         if !self.takes_content {
             return Err(Why::LoneContent);
@@ -229,6 +229,7 @@ impl Reader {
                 if !fits(&statement.what, &piece) {
                     return Err(Why::OpenInFile);
                 }
+                self.takes_content = piece.behind != Behind::Text;
                 statement.content.push(piece)?;
                 Ok(())
             }

@@ -60,13 +60,24 @@ pub enum What {
     There(String),
 }
 
+/// What may stand behind the bytes of a line of content, beside what the next one gives.
+#[derive(Clone, Copy, PartialEq, Eq, Debug)]
+pub enum Behind {
+    /// Nothing.
+    Nothing,
+    /// Anything up to the end of the line.
+    Line,
+    /// Anything up to the end of the text.
+    Text,
+}
+
 /// A line's worth of content.
 #[derive(Drop, Debug)]
 pub struct Piece {
     /// Its bytes.
     pub bytes: Vec<u8>,
-    /// Whether anything may stand behind them, up to the end of the line.
-    pub is_open: bool,
+    /// What may stand behind them.
+    pub behind: Behind,
 }
 
 /// A line that is no content, with the content behind it.

@@ -3,8 +3,8 @@ use Rattle.std.proofs.Common.{sym, subst}
 use Rattle.vx_ast.specs.View.{program_of}
 use Rattle.vx_driver.specs.Stages.{AllBegin, AreFinished, AreLaidOut, AreLayoutsOf}
 use Rattle.vx_driver.proofs.Beginning.{all_begin}
-use Rattle.vx_driver.proofs.Chain.{compiled}
-use Rattle.vx_driver.proofs.words.compile.Goals as goal
+use Rattle.vx_driver.proofs.Chain.{compiled_sized}
+use Rattle.vx_driver.proofs.words.compile_sized.Goals as goal
 
 pub layouts_of-requires : goal.layouts_of-requires
 layouts_of-requires c = subst AllBegin (sym c.as_slice.ensures) (all_begin (program_of c.args.program.now.program) c.in_ok-flow.flow c.args.program.now.accepted c.in_ok-flow.ensures)
@@ -26,8 +26,8 @@ returns c =
     let made : AreLaidOut machine c.args.counts.now c.args.growth flow.functions laid.traces laid.layouts laid.copies =
     subst (λ z. AreLaidOut machine c.args.counts.now c.args.growth z laid.traces laid.layouts laid.copies) c.as_slice.ensures c.in_ok-laid.ensures in
     let all : AreFinished machine flow laid.layouts finished spilled = subst (λ z. AreFinished machine flow z finished spilled) c.as_slice-2.ensures c.in_ok-done.ensures in
-    compiled c.stages_do_the_same.ensures (program_of c.args.program.now.program) flow machine laid.layouts c.in_ok-flow.ensures made.laid all.maps finished c.keeps_ranges.ensures all.finished
-    c.args.counts.now c.args.growth laid.traces spilled laid.copies made.planned made.layouts_are all.kept all.spilled_is all.in_range
+    compiled_sized c.stages_do_the_same.ensures (program_of c.args.program.now.program) flow machine laid.layouts c.in_ok-flow.ensures made.laid all.maps finished c.keeps_ranges.ensures all.finished
+    c.args.counts.now c.args.growth laid.traces spilled laid.copies made.planned made.layouts_are all.kept all.spilled_is all.in_range c.in_ok-size.size c.in_ok-size.ensures.functions c.in_ok-size.ensures.blocks
 
 pub finished_of-requires-clause-sound : goal.finished_of-requires-clause-sound
 finished_of-requires-clause-sound c = c.in_ok-flow.ensures.sound

@@ -1,0 +1,9 @@
+-- What the words ask for is done; no file is asked for, so none has changed.
+use Rattle.std.proofs.Common.{map, refl}
+use Rattle.vx_driver.specs.Answers.{effect_of}
+use Rattle.vx_driver.proofs.top.perform_soak.Goals as goal
+
+pub returns-in-Ok-clause-answers : goal.returns-in-Ok-clause-answers
+returns-in-Ok-clause-answers g c =
+    rw c.in-Ok.ensures.asked (c.soak.ensures.answers (effect_of g.D.Depot.files g.D.Depot.failed_reads g.D.Depot.failed_replaces c.args.depot.now c.args.depot.now)
+    (map (λ b. record { name = (goal.Probe-dyn g (b.vtable, b.value)).called b.value; watch = (goal.Probe-dyn g (b.vtable, b.value)).watch b.value }) c.args.probes.items) refl)
