@@ -17,3 +17,4 @@ pub mod Merging
 pub mod Writing
 pub mod Passing
 pub mod Ordered
+pub mod Merged

@@ -5,3 +5,4 @@ pub mod Steps
 pub mod Writers
 pub mod Passed
 pub mod InOrder
+pub mod Ascending

@@ -1,10 +1,12 @@
 // Sums of symbols with factors, modulo 2^32 (specs/Linear.antt).
 
-ghost use Rattle.std.specs.Prelude.{◌≡◌, ◌++◌, ◌&&◌, List, IfOk, OnOk};
+ghost use Rattle.std.specs.Prelude.{◌≡◌, ◌++◌, ◌&&◌, List, true, IfOk, OnOk};
 ghost use Rattle.std.specs.Ordering.{int_eq};
 ghost use Rattle.vx_linear.specs.declared.form.Term.{Term as ATerm};
 ghost use Rattle.vx_base.specs.Arithmetic.{sum_of, product_of};
+ghost use Rattle.vx_linear.specs.Ascending.{ascend};
 ghost use Rattle.vx_linear.specs.Forms.{is_same};
+ghost use Rattle.vx_linear.specs.Steps.{is_before_first};
 ghost use Rattle.vx_linear.specs.Linear.{constant, symbol, unless_zero, with_term, with_terms, scaled, plus, minus, times, same_terms, same};
 
 use crate::form::{Symbol, Term};
@@ -117,10 +119,83 @@ fn multiplied(number: i32, term: &Term) -> Term
 fn with_terms(alloc: Global, terms: &[Term], onto: &[Term]) -> Result<Listed<Term>, AllocError>
     ensures { IfOk result (λ list. list ≡ with_terms terms.now onto.now) }
 {
+    if ascend(terms) {
+        merged(alloc, terms, onto)
+    } else {
+        inserted(alloc, terms, onto)
+    }
+}
+
+/// Whether each symbol of a row is before the next.
+fn ascend(terms: &[Term]) -> bool
+    ensures { result ≡ ascend terms.now }
+{
+    let mut rest = terms;
+    'ascend: loop {
+        match rest.split_first() {
+            None => return true,
+            Some((first, others)) => {
+                if !is_before_first(&first.symbol, others) {
+                    return false;
+                }
+                rest = others;
+            }
+        }
+    }
+}
+
+fn is_before_first(symbol: &Symbol, terms: &[Term]) -> bool
+    ensures { result ≡ is_before_first symbol.now terms.now }
+{
+    match terms.first() {
+        None => true,
+        Some(first) => symbol.is_before(&first.symbol),
+    }
+}
+
+/// The same where the terms ascend: what one of them passes, all behind it pass too, so that each row is gone through once.
+fn merged(alloc: Global, terms: &[Term], onto: &[Term]) -> Result<Listed<Term>, AllocError>
+    requires { ascend terms.now ≡ true }
+    ensures { IfOk result (λ list. list ≡ with_terms terms.now onto.now) }
+{
+    let mut list = Listed::new(alloc);
+    let mut rest = terms;
+    let mut left = onto;
+    'merge: loop {
+        match (rest.split_first(), left.split_first()) {
+            (None, _) => {
+                push_all(&mut list, left)?;
+                return Ok(list);
+            }
+            (Some((term, behind)), None) => {
+                push_unless_zero(&mut list, *term)?;
+                rest = behind;
+            }
+            (Some((term, behind)), Some((other, others))) => {
+                if other.symbol.is_before(&term.symbol) {
+                    list.push(*other)?;
+                    left = others;
+                } else if term.symbol.is_same(&other.symbol) {
+                    push_unless_zero(&mut list, added(term, other))?;
+                    rest = behind;
+                    left = others;
+                } else {
+                    push_unless_zero(&mut list, *term)?;
+                    rest = behind;
+                }
+            }
+        }
+    }
+}
+
+/// The same for any terms, one after the other.
+fn inserted(alloc: Global, terms: &[Term], onto: &[Term]) -> Result<Listed<Term>, AllocError>
+    ensures { IfOk result (λ list. list ≡ with_terms terms.now onto.now) }
+{
     let mut list = Listed::new(alloc);
     push_all(&mut list, onto)?;
     let mut rest = terms;
-    'merge: loop {
+    'insert: loop {
         match rest.split_first() {
             None => return Ok(list),
             Some((first, others)) => {
