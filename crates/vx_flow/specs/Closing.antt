@@ -1,6 +1,6 @@
 -- How the nodes where a value is live are found: nodes are marked, first those with a route that reads the value before
 -- writing it, then each with a route that does nothing to the value and leads to a marked one.
-use Rattle.std.specs.Prelude.{◌≡◌, ◌⊎◌, ◌==◌, ◌<◌, ◌&&◌, ℕ, Bool, true, false, if◌then◌else◌, List, [], ◌∷◌, ◌++◌, Option, Some, None, slice_get, slice_set}
+use Rattle.std.specs.Prelude.{◌≡◌, ◌⊎◌, ◌==◌, ◌<◌, ◌&&◌, ℕ, Bool, true, false, if◌then◌else◌, List, [], ◌∷◌, ◌++◌, Option, Some, None, slice_get, slice_index_or, slice_set}
 use Rattle.std.specs.List.{list_any}
 use Rattle.vx_flow.specs.declared.routes.Route.{Route}
 use Rattle.vx_flow.specs.Effects.{IsIn}
@@ -18,6 +18,15 @@ EnteringFound routes entering = (i c : ℕ) (r : Route) → slice_get routes i �
 -- each route is listed under the values that it reads first
 abbrev pub ReadersFound : List Route → List (List ℕ) → Type 0
 ReadersFound routes readers = (i v : ℕ) (r : Route) → slice_get routes i ≡ Some r → first_touch v r.touches ≡ Some true → IsIn i (row_at readers v)
+
+-- the mark beside a value; 0 where there is none yet
+abbrev pub mark_at : List ℕ → ℕ → ℕ
+mark_at marks v = slice_index_or marks v 0
+
+-- a mark is put beside a value, and those of all others are as they were
+pub record MarkPut (value mark : ℕ) (before after : List ℕ) : Type 0 where
+  pub there : mark_at after value ≡ mark
+  pub elsewhere : (v : ℕ) → (v ≡ value → ⊥) → mark_at after v ≡ mark_at before v
 
 -- a node is marked once, and then pends until the routes that lead to it have been looked at
 
