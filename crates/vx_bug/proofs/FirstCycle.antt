@@ -1,5 +1,5 @@
 -- So many bookings leave a cycle free among so many more cycles, so that the first one that is found is free.
-use Rattle.std.proofs.Common.{◌≡◌, ◌<◌, ◌≤◌, ◌⊎◌, inl, inr, ◌+◌, ◌*◌, ◌==◌, ◌&&◌, cond, refl, sym, ◌∙◌, ap, arith, subst, Bool, true, false, nat_lt, nat_le, lt-ltb, ℕ, zero, suc, List, [], ◌∷◌, length, map}
+use Rattle.std.proofs.Common.{◌≡◌, ◌<◌, ◌≤◌, ◌⊎◌, inl, inr, ◌+◌, ◌*◌, ◌==◌, ◌&&◌, cond, refl, ◌∙◌, ap, arith, Bool, true, false, nat_lt, nat_le, lt-ltb, ℕ, zero, suc, List, [], ◌∷◌, length, map}
 use Rattle.std.specs.Prelude.{if◌then◌else◌, count_by}
 use Rattle.std.proofs.lemmas.Bool.{cases_lt, cases_eq, eqb-true, and_parts, leb-true}
 use Rattle.std.proofs.lemmas.List.Sums.{sum_by-cons}

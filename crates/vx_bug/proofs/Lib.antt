@@ -19,3 +19,4 @@ pub mod Belows
 pub mod Grounds
 pub mod Besides
 pub mod ExampleRows
+pub mod Pruned

@@ -1,12 +1,11 @@
 -- What is found once of the operands of an operation tells from which cycle on they are there, on each cluster.
-use Rattle.std.proofs.Common.{◌≡◌, ◌+◌, refl, sym, ◌∙◌, ap, arith, max, ℕ, Bool, true, false, Option, Some, None, List, [], ◌∷◌, length, map}
+use Rattle.std.proofs.Common.{◌≡◌, ◌+◌, refl, ◌∙◌, ap, arith, ℕ, Bool, true, false, Option, Some, None, [], ◌∷◌, length}
 use Rattle.std.specs.Prelude.{if◌then◌else◌}
 use Rattle.vx_flow.specs.declared.trace.TraceOp.{TraceOp}
 use Rattle.vx_flow.specs.declared.trace.Trace.{Trace}
 use Rattle.vx_isa.specs.Numbers.{Numbers}
 use Rattle.vx_machine.specs.Items.{item_of, unit_of_item}
 use Rattle.vx_linear.specs.Writers.{writer}
-use Rattle.vx_dep.specs.Compensation.{greatest}
 use Rattle.vx_bug.specs.declared.naming.Reads.{Reads}
 use Rattle.vx_bug.specs.declared.turns.Source.{Source}
 use Rattle.vx_bug.specs.declared.turns.Sources.{Sources}

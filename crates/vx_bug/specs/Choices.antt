@@ -1,10 +1,11 @@
 -- The best of some clusters that follow each other; turns taken one after the other.
-use Rattle.std.specs.Prelude.{◌≡◌, ◌<◌, ◌≤◌, ◌+◌, ℕ, Some, None, List, [], ◌∷◌, length, take, slice_get, slice_index_or}
+use Rattle.std.specs.Prelude.{◌≡◌, ◌<◌, ◌≤◌, ◌+◌, ℕ, nat_lt, if◌then◌else◌, Some, None, List, [], ◌∷◌, length, take, slice_get, slice_index_or}
 use Rattle.vx_flow.specs.declared.trace.TraceOp.{TraceOp}
 use Rattle.vx_flow.specs.declared.trace.Trace.{Trace}
 use Rattle.vx_flow.specs.Effects.{IsIn}
 use Rattle.vx_isa.specs.Numbers.{Numbers}
 use Rattle.vx_dep.specs.Delays.{Stands}
+use Rattle.vx_bug.specs.declared.choosing.Choice.{Choice}
 use Rattle.vx_bug.specs.Clusters.{Books, estimate_of, after_turn, books_after, IsBest}
 
 -- among the clusters from the first one on it has the least number, and is the lowest of several
@@ -13,6 +14,10 @@ pub record IsLeast (number : ℕ → ℕ) (first count cluster : ℕ) : Type 0 w
   pub below : cluster < first + count
   pub least : (other : ℕ) → first ≤ other → other < first + count → number cluster ≤ number other
   pub lowest : (other : ℕ) → first ≤ other → other < first + count → number other ≡ number cluster → cluster ≤ other
+
+-- the better of a choice and a cluster with its cycle, the choice where they are equal
+abbrev pub compared : (cycle cluster : ℕ) → Choice → Choice
+compared cycle cluster best = if nat_lt cycle best.cycle then record { cluster = cluster; cycle = cycle } else best
 
 -- no place is listed twice
 abbrev pub Apart : List ℕ → Type 0

@@ -6,13 +6,13 @@ ghost use Rattle.vx_flow.specs.Effects.{IsIn};
 ghost use Rattle.vx_flow.specs.Walk.{numbers};
 ghost use Rattle.vx_bug.specs.Clusters.{some_of, general_writes, home_clusters, home_or_any, permitted, cycle_of, estimate_of, after_turn, IsBest};
 ghost use Rattle.vx_bug.specs.Ledgers.{homes_in, books_of};
-ghost use Rattle.vx_bug.specs.Choices.{IsLeast, Apart, TurnTaken, TurnsTaken};
+ghost use Rattle.vx_bug.specs.Choices.{IsLeast, Apart, TurnTaken, TurnsTaken, compared};
 ghost use Rattle.vx_bug.specs.Sources.{AreSources};
 
 use crate::homes::home_in;
 use crate::ledger::Ledger;
 use crate::naming::{general_result, is_bound};
-use crate::turns::{Sources, Turn, cycle_of, find_sources, take};
+use crate::turns::{Sources, Turn, cycle_of, earliest, find_sources, take};
 use std::alloc::Global;
 use vx_base::outcome::NoMemory;
 use vx_flow::trace::Trace;
@@ -127,6 +127,27 @@ fn better(best: Choice, next: Choice) -> Choice
     if next.cycle < best.cycle { next } else { best }
 }
 
+/// The better of a choice and another cluster. One where the operands are not there before the choice's cycle is not better,
+/// whatever is booked there.
+#[tactic(auto, using(crate::proofs::Pruned::none_earlier, crate::proofs::Pruned::better_is))]
+fn compared(
+    alloc: Global,
+    turn: &Turn,
+    ledger: &Ledger,
+    sources: Sources,
+    best: Choice,
+    cluster: u32,
+) -> Result<Choice, NoMemory>
+    requires { AreSources turn.now.machine turn.now.trace.now (books_of ledger.now) turn.now.place turn.now.op.now sources }
+    ensures { IfOk result (λ choice. choice ≡ compared (cycle_of turn.now.machine turn.now.trace.now (books_of ledger.now) turn.now.place turn.now.op.now cluster) cluster best) }
+{
+    if best.cycle <= earliest(&turn.machine, cluster, sources) {
+        return Ok(best);
+    }
+    let next = tried(alloc, turn, ledger, sources, cluster)?;
+    Ok(better(best, next))
+}
+
 /// The best of some clusters.
 #[tactic(auto, using(crate::proofs::Best::one_compared, crate::proofs::Best::more_compared))]
 fn best(alloc: Global, turn: &Turn, ledger: &Ledger, span: Span) -> Result<Choice, NoMemory>
@@ -139,8 +160,7 @@ fn best(alloc: Global, turn: &Turn, ledger: &Ledger, span: Span) -> Result<Choic
     let mut best = tried(alloc, turn, ledger, sources, span.first)?;
     let mut count = 1;
     'compare: while count < span.count {
-        let next = tried(alloc, turn, ledger, sources, span.first + count)?;
-        best = better(best, next);
+        best = compared(alloc, turn, ledger, sources, best, span.first + count)?;
         count += 1;
     }
     Ok(best)

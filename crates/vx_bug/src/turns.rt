@@ -125,7 +125,7 @@ fn there_on(machine: &Machine, cluster: u32, source: Option<Source>) -> u64
 }
 
 /// The first cycle in which all operands are there on a cluster.
-fn earliest(machine: &Machine, cluster: u32, sources: Sources) -> u64
+pub(crate) fn earliest(machine: &Machine, cluster: u32, sources: Sources) -> u64
     ensures { result ≡ earliest_on machine.now cluster sources }
 {
     let test = there_on(machine, cluster, sources.test);

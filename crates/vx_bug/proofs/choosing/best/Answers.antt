@@ -1,5 +1,5 @@
-use Rattle.std.proofs.Common.{rules, ◌≡◌, ◌<◌, ◌+◌, ℕ, nat_lt, arith}
-use Rattle.std.specs.Prelude.{if◌then◌else◌}
+use Rattle.std.proofs.Common.{rules, ◌≡◌, ◌<◌, ◌+◌, ℕ, arith, refl}
+use Rattle.vx_bug.specs.Choices.{compared}
 use Rattle.vx_bug.specs.Clusters.{cycle_of}
 use Rattle.vx_bug.specs.Ledgers.{books_of}
 use Rattle.vx_bug.proofs.Best.{more_compared}
@@ -9,11 +9,9 @@ pub compare-preserved : goal.compare-preserved
 compare-preserved c =
     let f : ℕ → ℕ = cycle_of c.args.turn.now.machine c.args.turn.now.trace.now (books_of c.args.ledger.now) c.args.turn.now.place c.args.turn.now.op.now in
     let inside : c.compare.count < c.args.span.count = search rules in
-    let next : c.in_ok-next.next.cluster ≡ c.args.span.first + c.compare.count = search rules in
-    let cycle : c.in_ok-next.next.cycle ≡ f c.in_ok-next.next.cluster = c.in_ok-next.ensures.cycle in
-    let chosen : c.better-best.result ≡ (if nat_lt c.in_ok-next.next.cycle c.compare.best.cycle then c.in_ok-next.next else c.compare.best) = c.better-best.ensures in
+    let chosen : c.in_ok-best-2.best ≡ compared (f (c.args.span.first + c.compare.count)) (c.args.span.first + c.compare.count) c.compare.best = search rules in
     record {
-      best = more_compared f c.args.span.first c.compare.count c.compare.best c.in_ok-next.next c.better-best.result c.compare.invariant.best next cycle chosen;
+      best = more_compared f c.args.span.first c.compare.count c.compare.best (record { cluster = c.args.span.first + c.compare.count; cycle = f (c.args.span.first + c.compare.count) }) c.in_ok-best-2.best c.compare.invariant.best refl refl chosen;
       some = omega arith;
       within = omega (arith, inside);
     }
