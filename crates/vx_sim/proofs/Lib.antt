@@ -1,9 +1,13 @@
 pub mod Inputs
+pub mod Sorting
+pub mod Turning
+pub mod Places
 pub mod Flying
 pub mod Issuing
 pub mod Starting
 pub mod Elsewhere
 pub mod Passing
+pub mod Ordering
 pub mod Running
 pub mod Links
 pub mod Operations

@@ -17,7 +17,7 @@ use Rattle.vx_isa.specs.Sound.{can_name, can_name_branch, can_spell, is_destinat
 use Rattle.vx_isa.specs.Machine.{State, has_bad_address, takes_input, is_left, stuck_by}
 use Rattle.vx_sim.specs.Named.{is_register, names_register}
 use Rattle.vx_sim.specs.Room.{widest}
-use Rattle.vx_sim.specs.Shapes.{shape_of, stuck_here}
+use Rattle.vx_sim.specs.Shapes.{unfit_of, width_by, shape_of, stuck_here}
 use Rattle.vx_sim.specs.declared.shape.Shape.{Shape}
 
 and_left : (a b : Bool) → (a && b) ≡ true → a ≡ true
@@ -133,11 +133,27 @@ names_at w i word sound e =
     let one = word_in (is_sound_word (length w.words) (length w.texts)) w.words i word all e in
     names_all (length w.words) (length w.texts) word.ops (and_right _ (list_all (is_sound_operation (length w.words) (length w.texts)) word.ops) one)
 
--- no word is wider than the widest
-pub widest_at : (ws : List Word) (i : ℕ) (word : Word) → slice_get ws i ≡ Some word → length word.ops ≤ widest ws
-widest_at [] i word e = absurd (cc)
-widest_at (w ∷ ws) zero word e = let h : w ≡ word = cc in let l : length w.ops ≡ length word.ops = ap (λ (x : Word). length x.ops) h in omega (arith, l)
-widest_at (w ∷ ws) (suc i) word e = let l = widest_at ws i word e in omega (arith, l)
+-- no word that is not unfit is wider than the widest
+
+widest_in : (f : Word → Shape) (ws : List Word) (i : ℕ) (word : Word) → slice_get ws i ≡ Some word → (f word).width ≤ widest (map f ws)
+widest_in f [] i word e = absurd (cc)
+widest_in f (w ∷ ws) zero word e = let h : w ≡ word = cc in let l : (f w).width ≡ (f word).width = ap (λ (x : Word). (f x).width) h in omega (arith, l)
+widest_in f (w ∷ ws) (suc i) word e = let l = widest_in f ws i word e in omega (arith, l)
+
+unfit_by : (m : Numbers) (w : WordProgram) (s : State) (ops : List Operation) → stuck_by m w s ops ≡ None → unfit_of m ops ≡ None
+unfit_by m w s ops = by (is_bad_word m ops) (fits m ops)
+  where
+    by : (a b : Bool) → (if a then Some BadWord else if not b then Some Overfull else stuck_here w s ops) ≡ None → (if a then Some BadWord else if not b then Some Overfull else None) ≡ None
+    by true b e = absurd (cc)
+    by false false e = absurd (cc)
+    by false true e = refl
+
+pub widest_at : (m : Numbers) (w : WordProgram) (s : State) (i : ℕ) (word : Word) (shapes : List Shape) → shapes ≡ map (shape_of m) w.words → slice_get w.words i ≡ Some word → stuck_by m w s word.ops ≡ None → length word.ops ≤ widest shapes
+widest_at m w s i word shapes are at free =
+    let l = widest_in (shape_of m) w.words i word at in
+    let e : (shape_of m word).width ≡ length word.ops = ap (λ (why : Option Reason). width_by why word.ops) (unfit_by m w s word.ops free) in
+    let n : widest shapes ≡ widest (map (shape_of m) w.words) = ap widest are in
+    omega (arith, l, e, n)
 
 pub place_below : (ws : List Word) (i : ℕ) (word : Word) → slice_get ws i ≡ Some word → i < length ws
 place_below [] i word e = absurd (cc)

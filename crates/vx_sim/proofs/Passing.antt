@@ -12,6 +12,7 @@ use Rattle.vx_isa.specs.Numbers.{Numbers}
 use Rattle.vx_isa.specs.Operations.{same}
 use Rattle.vx_isa.specs.Machine.{State, Write, Lead, To, Halts, TrapsBy, lead_of, writes_of, memory_after, takes_input, print_of, asked_by, after_cycles, cycles_of, effect, leads_to, unless_stuck, stuck_by, issue, step}
 use Rattle.vx_sim.specs.Passed.{Taken, taken, issued, event_of, counted, led_by, leads_away, unless_stuck as taken_unless}
+use Rattle.vx_sim.specs.Flying.{by_landing}
 use Rattle.vx_sim.specs.Standing.{rested}
 use Rattle.vx_sim.specs.Leads.{lead_as}
 use Rattle.vx_sim.specs.Stepped.{leads_by}
@@ -19,6 +20,7 @@ use Rattle.vx_sim.specs.declared.leads.Lead.{Lead as CodeLead}
 use Rattle.vx_sim.specs.declared.leads.Lead.TheVariants.{To as LeadTo, Halts as LeadHalts, TrapsBy as LeadTrapsBy}
 use Rattle.vx_sim.proofs.Elsewhere.{stuck_same, prints_same, lead_same, memory_same, writes_same}
 use Rattle.vx_sim.proofs.Issuing.{writes_mod}
+use Rattle.vx_sim.proofs.Sorting.{landed_in_more, flying_in_more}
 
 pub same_state : (s t : State) → s.place ≡ t.place → s.cycle ≡ t.cycle → s.registers ≡ t.registers → s.flying ≡ t.flying → s.memory ≡ t.memory → s.input ≡ t.input → s.out ≡ t.out → s.asked ≡ t.asked → s ≡ t
 same_state s t a b c d e f g h = λ i. record { place = a i; cycle = b i; registers = c i; flying = d i; memory = e i; input = f i; out = g i; asked = h i }
@@ -30,7 +32,7 @@ pub counted_more : (n k : ℕ) → counted (counted n + k) ≡ counted (n + k)
 counted_more n k = omega arith
 
 -- cycles change the cycle, the registers and the flight alone
-after_is : (n : ℕ) (s : State) → after_cycles n s ≡ record s { cycle = s.cycle + n; registers = landed_in same n s.registers s.flying; flying = flying_in n s.flying }
+pub after_is : (n : ℕ) (s : State) → after_cycles n s ≡ record s { cycle = s.cycle + n; registers = landed_in same n s.registers s.flying; flying = flying_in n s.flying }
 after_is zero s = let e : s.cycle ≡ s.cycle + 0 = omega arith in ap (λ c. record s { cycle = c }) e
 after_is (suc n) s =
     let e : s.cycle + 1 + n ≡ s.cycle + suc n = omega arith in
@@ -47,14 +49,14 @@ module _ (m : Numbers) (times : List ℕ) (w : WordProgram) where
   left_at s word = record s {
     cycle = counted (s.cycle + cycles_of word);
     registers = landed_in same (cycles_of word) s.registers (in_flight s word.ops);
-    flying = flying_in (cycles_of word) (in_flight s word.ops);
+    flying = by_landing (flying_in (cycles_of word) (in_flight s word.ops));
     memory = memory_after s word.ops s.memory;
     input = drop (count_by takes_input word.ops) s.input;
     out = [];
     asked = 0;
   }
 
-  abbrev issued_at : State → Word → State
+  abbrev pub issued_at : State → Word → State
   issued_at s word = record s {
     flying = in_flight s word.ops;
     memory = memory_after s word.ops s.memory;
@@ -135,25 +137,29 @@ module _ (m : Numbers) (times : List ℕ) (w : WordProgram) where
   pub out_taken : (s : State) (t : Taken) → taken m times w s ≡ Some t → output_of (step_then (λ (v : State). Goes v.out) (step m times w s)) ≡ t.state.out
   out_taken s t e = out_at s (slice_get w.words s.place) t e
 
-  -- Two states that differ in the cycle past the greatest count, in the output and in the asked times.
+  -- Two states that differ in the cycle past the greatest count, in the order of writes in flight that land in different
+  -- cycles, in the output and in the asked times.
   module _ (u : State) (p : ℕ) (close : p % length times ≡ u.asked % length times) where
     abbrev pub near_state : State
     near_state = record (rested u) { asked = p }
 
-    in_flight_near : (ops : List Operation) → in_flight near_state ops ≡ in_flight u ops
-    in_flight_near ops = ap (λ (ws : List Write). u.flying ++ ws) (writes_same u (counted u.cycle) u.flying [] p m times w.memory p ops ∙ writes_mod m times w.memory u p u.asked ops close)
+    in_flight_near : (ops : List Operation) → in_flight near_state ops ≡ by_landing u.flying ++ writes_of m times w.memory u u.asked ops
+    in_flight_near ops = ap (λ (ws : List Write). by_landing u.flying ++ ws) (writes_same u (counted u.cycle) (by_landing u.flying) [] p m times w.memory p ops ∙ writes_mod m times w.memory u p u.asked ops close)
 
     left_near : (word : Word) → left_at near_state word ≡ left_at u word
     left_near word =
         let f = in_flight_near word.ops in
-        same_state (left_at near_state word) (left_at u word) refl (counted_more u.cycle (cycles_of word)) (ap (landed_in same (cycles_of word) u.registers) f) (ap (flying_in (cycles_of word)) f)
-        (memory_same u (counted u.cycle) u.flying [] p word.ops u.memory) refl refl refl
+        let ns = writes_of m times w.memory u u.asked word.ops in
+        same_state (left_at near_state word) (left_at u word) refl (counted_more u.cycle (cycles_of word))
+        (ap (landed_in same (cycles_of word) u.registers) f ∙ landed_in_more (cycles_of word) u.registers u.flying ns)
+        (ap (λ us. by_landing (flying_in (cycles_of word) us)) f ∙ flying_in_more (cycles_of word) u.flying ns)
+        (memory_same u (counted u.cycle) (by_landing u.flying) [] p word.ops u.memory) refl refl refl
 
     lead_near : (ops : List Operation) → lead_of near_state ops ≡ lead_of u ops
-    lead_near ops = lead_same u (counted u.cycle) u.flying [] p ops
+    lead_near ops = lead_same u (counted u.cycle) (by_landing u.flying) [] p ops
 
     stuck_near : (ops : List Operation) → stuck_by m w near_state ops ≡ stuck_by m w u ops
-    stuck_near ops = stuck_same u (counted u.cycle) u.flying [] p m w ops
+    stuck_near ops = stuck_same u (counted u.cycle) (by_landing u.flying) [] p m w ops
 
     event_near : (word : Word) → event_of near_state word ≡ event_of u word
     event_near word =
@@ -174,7 +180,7 @@ module _ (m : Numbers) (times : List ℕ) (w : WordProgram) where
         record {
           event = event_near word;
           state = taken_rests near_state word ∙ ap (λ l. led_by l (left_at near_state word)) (lead_near word.ops) ∙ ap (led_by (lead_of u word.ops)) (left_near word) ∙ sym (taken_rests u word);
-          out = taken_out u word ∙ ap (λ xs. u.out ++ xs) (sym (prints_same u (counted u.cycle) u.flying [] p w word.ops) ∙ sym (taken_out near_state word));
+          out = taken_out u word ∙ ap (λ xs. u.out ++ xs) (sym (prints_same u (counted u.cycle) (by_landing u.flying) [] p w word.ops) ∙ sym (taken_out near_state word));
           asked = omega arith;
         }
 

@@ -11,6 +11,7 @@ use Rattle.vx_probe.specs.Times.{Times, list_of, moved_on, moved_by}
 use Rattle.vx_probe.specs.Watch.{Watch, shown, shown_all}
 use Rattle.vx_probe.specs.declared.event.Event.{Event}
 use Rattle.vx_sim.specs.Passed.{Taken, taken, counted}
+use Rattle.vx_sim.specs.Flying.{by_landing}
 use Rattle.vx_sim.specs.Standing.{rested}
 use Rattle.vx_sim.specs.Stepped.{Took, Passed, Stepped, leads_by}
 use Rattle.vx_sim.specs.Ran.{Ran, stands, begun, outcome_at, outcome_of, is_fault, is_over}
@@ -138,13 +139,13 @@ module _ (m : Numbers) (w : WordProgram) (n : ℕ) (first here : State) (t0 t : 
       record { word = tn.word; is = tn.is; out = tn.alike.out }
 
 -- at the start
-pub so_far_none : (m : Numbers) (w : WordProgram) (here : State) (t : Times) (vs : List Watch) (issued : ℕ) (told : Option (List ℕ)) → here.asked ≡ 0 → here.out ≡ [] → counted here.cycle ≡ here.cycle → counted issued ≡ issued
+pub so_far_none : (m : Numbers) (w : WordProgram) (here : State) (t : Times) (vs : List Watch) (issued : ℕ) (told : Option (List ℕ)) → here.asked ≡ 0 → here.out ≡ [] → by_landing here.flying ≡ here.flying → counted here.cycle ≡ here.cycle → counted issued ≡ issued
     → SoFar m w 0 (record here { asked = t.place }) here t t vs vs issued issued told told
-so_far_none m w here t vs issued told a o c i = record {
+so_far_none m w here t vs issued told a o f c i = record {
   u = record here { asked = t.place };
   events = [];
   reaches = reaches_none m (list_of t) w (record here { asked = t.place });
-  rests = λ k. record { place = here.place; cycle = sym c k; registers = here.registers; flying = here.flying; memory = here.memory; input = here.input; out = o k; asked = a k };
+  rests = λ k. record { place = here.place; cycle = sym c k; registers = here.registers; flying = sym f k; memory = here.memory; input = here.input; out = o k; asked = a k };
   timing = let e : 0 ≡ t.place - t.place = omega arith in ap (λ k. moved_by k t) e;
   more = omega arith;
   seen = by vs;

@@ -11,6 +11,7 @@ use Rattle.std.specs.List.{flat_map}
 use Rattle.vx_probe.specs.Times.{Times, list_of, moved_by}
 use Rattle.vx_probe.specs.Watch.{Watch, shown}
 use Rattle.vx_sim.specs.Passed.{Taken, taken, event_of, counted, led_by, leads_away}
+use Rattle.vx_sim.specs.Flying.{by_landing}
 use Rattle.vx_sim.specs.Standing.{rested}
 use Rattle.vx_sim.specs.Leads.{lead_as, place_behind}
 use Rattle.vx_sim.specs.Stepped.{Took, Stepped, leads_by, ended_as}
@@ -25,7 +26,7 @@ pub record Leaves (m : Numbers) (w : WordProgram) (times : List ℕ) (b : State)
   pub place : after.place ≡ place_behind (lead_of b word.ops) b.place
   pub cycle : after.cycle ≡ counted (b.cycle + cycles_of word)
   pub registers : after.registers ≡ landed_in same (cycles_of word) b.registers (ws ++ writes_of m times w.memory b p word.ops)
-  pub flying : after.flying ≡ flying_in (cycles_of word) (ws ++ writes_of m times w.memory b p word.ops)
+  pub flying : after.flying ≡ by_landing (flying_in (cycles_of word) (ws ++ writes_of m times w.memory b p word.ops))
   pub memory : after.memory ≡ memory_after b word.ops b.memory
   pub input : after.input ≡ drop (count_by takes_input word.ops) b.input
   pub out : after.out ≡ []
@@ -49,7 +50,7 @@ module _ (m : Numbers) (w : WordProgram) (times : List ℕ) (b : State) (ws : Li
       let f = sym in_flight_here in
       leaves_by l (left_at m times w here word) after at refl x.cycle
       (x.registers ∙ ap (landed_in same (cycles_of word) b.registers) f)
-      (x.flying ∙ ap (flying_in (cycles_of word)) f)
+      (x.flying ∙ ap (λ us. by_landing (flying_in (cycles_of word) us)) f)
       (x.memory ∙ sym (memory_same b b.cycle ws [] p word.ops b.memory))
       x.input x.out x.asked
 

@@ -1,10 +1,12 @@
 pub mod Named
+pub mod Flying
 pub mod Held
-pub mod Room
 pub mod Shapes
+pub mod Room
 pub mod Moved
 pub mod Standing
 pub mod Passed
+pub mod Order
 pub mod Leads
 pub mod Stepped
 pub mod Ran

@@ -7,6 +7,7 @@ use Rattle.vx_isa.specs.Machine.{State, words_from}
 use Rattle.vx_probe.specs.Times.{Times, list_of, moved_by}
 use Rattle.vx_probe.specs.Watch.{Watch, shown_all}
 use Rattle.vx_probe.specs.declared.event.Event.{Event}
+use Rattle.vx_sim.specs.Flying.{flying_of}
 use Rattle.vx_sim.specs.Passed.{counted, state_from, events_from}
 use Rattle.vx_sim.specs.Standing.{state_of, standing_at, rested}
 use Rattle.vx_sim.specs.declared.sim.Sim.{Sim}
@@ -15,11 +16,11 @@ use Rattle.vx_sim.specs.declared.ended.Ended.TheVariants.{Halted, Trapped, Stopp
 
 -- the state in which the simulator stands
 abbrev pub stands : Sim → State
-stands sim = state_of sim.standing sim.flights.items
+stands sim = state_of sim.standing (flying_of sim.ring)
 
 -- where a call begins: the next landing time is that at the place of the timing
 abbrev pub begun : Sim → Times → State
-begun sim times = standing_at sim.standing sim.flights.items times
+begun sim times = standing_at sim.standing (flying_of sim.ring) times
 
 abbrev pub is_fault : Ended → Bool
 is_fault SinkFault = true

@@ -1,29 +1,18 @@
--- How much room the writes in flight need: a word has so many operations at most, and a write is in flight for 16 cycles
--- at most.
-use Rattle.std.specs.Prelude.{◌≤◌, ℕ, ◌+◌, ◌*◌, ◌-◌, Bool, nat_le, nat_lt, if◌then◌else◌, max, List, [], ◌∷◌, length, count_by}
-use Rattle.vx_isa.specs.declared.program.Word.{Word}
-use Rattle.vx_sim.specs.declared.flight.Flight.{Flight}
+-- How much room the writes in flight need: a word that is not unfit has so many operations at most, and a write is in flight
+-- for 16 cycles at most.
+use Rattle.std.specs.Prelude.{◌≡◌, ◌≤◌, ℕ, ◌+◌, ◌*◌, ◌-◌, max, List, [], ◌∷◌, length, map, get_or, replicate, vec_capacity}
+use Rattle.vx_sim.specs.declared.ring.Ring.{Ring}
+use Rattle.vx_sim.specs.declared.shape.Shape.{Shape}
+use Rattle.vx_sim.specs.Flying.{places_of}
 
--- how many of the writes in flight have at least so many cycles left
-abbrev pub count_left : ℕ → List Flight → ℕ
-count_left left flights = count_by (λ flight. nat_le left flight.left) flights
+-- Each place has room for the words of 16 cycles. What lands so many cycles behind the next one was issued by the words
+-- of so many cycles less than 15, and some in this cycle.
+abbrev pub HasRoom : (widest here : ℕ) → Ring → Type 0
+HasRoom widest here ring =
+    (map vec_capacity ring.places.items ≡ replicate 16 (16 * widest))
+    × ((behind : ℕ) → length (get_or (places_of ring) behind []) ≤ widest * (15 - behind) + here)
 
--- no write is in flight for more than 16 cycles
-abbrev pub if_in_time : ℕ → ℕ → ℕ
-if_in_time left count = if nat_le left 16 then count else 0
-
--- those with so many cycles left were issued by the words of so many cycles less than 16, and some in this cycle
-abbrev pub HasRoom : (widest here : ℕ) → List Flight → Type 0
-HasRoom widest here flights = (left : ℕ) → count_left left flights ≤ widest * (16 - left) + if_in_time left here
-
--- it does not land within one cycle
-abbrev pub is_late : Flight → Bool
-is_late flight = nat_lt 1 flight.left
-
-abbrev pub one_less : Flight → Flight
-one_less flight = record flight { left = flight.left - 1 }
-
--- the most operations that a word has
-abbrev pub widest : List Word → ℕ
+-- the most operations of a word that is not unfit
+abbrev pub widest : List Shape → ℕ
 widest [] = 0
-widest (word ∷ words) = max (length word.ops) (widest words)
+widest (shape ∷ shapes) = max shape.width (widest shapes)

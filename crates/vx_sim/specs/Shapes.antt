@@ -1,5 +1,6 @@
--- What a word is whatever the state: why it is stuck wherever it is issued, and how many operations of each kind it has.
-use Rattle.std.specs.Prelude.{not, ◌&&◌, if◌then◌else◌, List, count_by, Option, Some, None}
+-- What a word is whatever the state: why it is stuck wherever it is issued, how many operations of each kind it has, and how
+-- many can write.
+use Rattle.std.specs.Prelude.{ℕ, not, ◌&&◌, if◌then◌else◌, List, length, count_by, Option, Some, None}
 use Rattle.std.specs.List.{list_any}
 use Rattle.vx_base.specs.declared.outcome.Reason.{Reason}
 use Rattle.vx_base.specs.declared.outcome.Reason.TheVariants.{BadWord, Overfull, BadAddress, NoInputLeft}
@@ -26,8 +27,13 @@ counts_of ops = record {
   control = count_by is_control ops;
 }
 
+-- an unfit word has no effect
+abbrev pub width_by : Option Reason → List Operation → ℕ
+width_by (Some why) ops = 0
+width_by None ops = length ops
+
 abbrev pub shape_of : Numbers → Word → Shape
-shape_of m word = record { unfit = unfit_of m word.ops; counts = counts_of word.ops }
+shape_of m word = record { unfit = unfit_of m word.ops; counts = counts_of word.ops; width = width_by (unfit_of m word.ops) word.ops }
 
 -- the reasons that depend on the state
 abbrev pub stuck_here : WordProgram → State → List Operation → Option Reason

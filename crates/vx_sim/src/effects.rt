@@ -3,7 +3,6 @@
 
 ghost use Rattle.std.specs.Prelude.{◌≡◌, ◌≤◌, ◌<◌, ◌+◌, ◌*◌, ◌++◌, ◌∷◌, ℕ, [], true, false, Some, length, map, drop, is_some, count_by, vec_len};
 ghost use Rattle.std.specs.List.{list_all, list_any};
-ghost use Rattle.std.specs.Vec.{vec_capacity};
 ghost use Rattle.vx_base.specs.Flight.{landing_time, landed_in, flying_in};
 ghost use Rattle.vx_isa.specs.declared.operation.UnitKind.TheVariants.{Memory};
 ghost use Rattle.vx_isa.specs.Fits.{is_of};
@@ -11,15 +10,17 @@ ghost use Rattle.vx_isa.specs.Operations.{same, destination_of, is_call, latency
 ghost use Rattle.vx_isa.specs.Machine.{writes_of, write_to, number_of, is_asked, time_of, asked_by, memory_after, has_bad_address, takes_input, cycles_of};
 ghost use Rattle.vx_probe.specs.Times.{list_of, moved_on, moved_by};
 ghost use Rattle.vx_sim.specs.Moved.{moved_if};
-ghost use Rattle.vx_sim.specs.Held.{held_by, write_of, word_of};
+ghost use Rattle.vx_sim.specs.Flying.{flying_of, by_landing};
+ghost use Rattle.vx_sim.specs.Held.{held_by, word_of};
 ghost use Rattle.vx_sim.specs.Named.{is_register, names_register};
 ghost use Rattle.vx_sim.specs.Passed.{counted};
 ghost use Rattle.vx_sim.specs.Room.{HasRoom};
 ghost use Rattle.vx_sim.specs.Standing.{state_of};
 
 use crate::flight::Flight;
-use crate::flights::pass_cycles;
+use crate::flights::{pass_cycles, put};
 use crate::memory::store;
+use crate::ring::Ring;
 use crate::standing::Standing;
 use crate::stuck::takes_input;
 use vx_isa::operation::{Operation, Register};
@@ -32,7 +33,7 @@ pub(crate) fn take_effect(
     machine: &Machine,
     size: u32,
     now: &mut Standing,
-    flights: &mut Vec<Flight>,
+    ring: &mut Ring,
     word: &Word,
     memory: u32,
     timing: &mut Box<dyn Timing>,
@@ -41,23 +42,22 @@ pub(crate) fn take_effect(
     requires named { list_all names_register word.now.ops ≡ true }
     requires good { list_any (has_bad_address size (state_of now.old [])) word.now.ops ≡ false }
     requires size { size ≡ 4 * length now.old.memory.items }
-    requires room { vec_len flights.old + length word.now.ops ≤ vec_capacity flights.old }
-    ensures lands { held_by now.new.registers ≡ landed_in same (cycles_of word.now) (held_by now.old.registers) (map write_of flights.old.items ++ writes_of machine.now (list_of (times timing.old)) size (state_of now.old []) (times timing.old).place word.now.ops) }
-    ensures flies { map write_of flights.new.items ≡ flying_in (cycles_of word.now) (map write_of flights.old.items ++ writes_of machine.now (list_of (times timing.old)) size (state_of now.old []) (times timing.old).place word.now.ops) }
+    requires room { (widest : ℕ) × (length word.now.ops ≤ widest) × HasRoom widest 0 ring.old }
+    ensures lands { held_by now.new.registers ≡ landed_in same (cycles_of word.now) (held_by now.old.registers) (flying_of ring.old ++ writes_of machine.now (list_of (times timing.old)) size (state_of now.old []) (times timing.old).place word.now.ops) }
+    ensures flies { flying_of ring.new ≡ by_landing (flying_in (cycles_of word.now) (flying_of ring.old ++ writes_of machine.now (list_of (times timing.old)) size (state_of now.old []) (times timing.old).place word.now.ops)) }
     ensures stores { word_of now.new.memory.items ≡ memory_after (state_of now.old []) word.now.ops (word_of now.old.memory.items) }
     ensures takes { drop now.new.taken now.new.input.items ≡ drop (count_by takes_input word.now.ops) (drop now.old.taken now.old.input.items) }
     ensures cycle { now.new.cycle ≡ counted (now.old.cycle + cycles_of word.now) }
     ensures place { now.new.place ≡ now.old.place }
     ensures timing { times timing.new ≡ moved_by (asked_by word.now.ops) (times timing.old) }
     ensures memory { length now.new.memory.items ≡ length now.old.memory.items }
-    ensures capacity { vec_capacity flights.old ≤ vec_capacity flights.new }
-    ensures has_room { (widest : ℕ) → length word.now.ops ≤ widest → HasRoom widest 0 flights.old.items → HasRoom widest 0 flights.new.items }
+    ensures has_room { (widest : ℕ) → length word.now.ops ≤ widest → HasRoom widest 0 ring.old → HasRoom widest 0 ring.new }
 {
     let ops = word.ops.as_slice();
-    issue_writes(machine, size, now, ops, flights, timing);
+    issue_writes(machine, size, now, ops, ring, timing);
     make_stores(size, now, ops, memory);
     now.taken = now.taken.saturating_add(count_of_input(ops, memory));
-    now.cycle = pass_cycles(cycles_of(word), now.cycle, &mut now.registers, flights);
+    now.cycle = pass_cycles(cycles_of(word), now.cycle, &mut now.registers, ring);
 }
 
 /// How many cycles the word takes.
@@ -80,24 +80,23 @@ fn count_of_input(ops: &[Operation], memory: u32) -> usize
     ops.iter().filter(|op| takes_input(op)).count()
 }
 
-/// The writes of the word, each with the landing time that the timing tells, behind those in flight.
+/// The writes of the word, each at the landing time that the timing tells, behind those in flight.
 fn issue_writes(
     machine: &Machine,
     size: u32,
     now: &Standing,
     ops: &[Operation],
-    flights: &mut Vec<Flight>,
+    ring: &mut Ring,
     timing: &mut Box<dyn Timing>,
 )
     requires named { list_all names_register ops.now ≡ true }
-    requires room { vec_len flights.old + length ops.now ≤ vec_capacity flights.old }
-    ensures writes { map write_of flights.new.items ≡ map write_of flights.old.items ++ writes_of machine.now (list_of (times timing.old)) size (state_of now.now []) (times timing.old).place ops.now }
+    requires room { (widest : ℕ) × (length ops.now ≤ widest) × HasRoom widest 0 ring.old }
+    ensures writes { flying_of ring.new ≡ by_landing (flying_of ring.old ++ writes_of machine.now (list_of (times timing.old)) size (state_of now.now []) (times timing.old).place ops.now) }
     ensures timing { times timing.new ≡ moved_by (asked_by ops.now) (times timing.old) }
-    ensures capacity { vec_capacity flights.old ≤ vec_capacity flights.new }
-    ensures has_room { (widest : ℕ) → HasRoom widest 0 flights.old.items → HasRoom widest (length ops.now) flights.new.items }
+    ensures has_room { (widest : ℕ) → length ops.now ≤ widest → HasRoom widest 0 ring.old → HasRoom widest (length ops.now) ring.new }
 {
     for op in ops {
-        issue(machine, size, now, op, flights, timing);
+        issue(machine, size, now, op, ring, timing);
     }
 }
 
@@ -107,21 +106,19 @@ fn issue(
     size: u32,
     now: &Standing,
     op: &Operation,
-    flights: &mut Vec<Flight>,
+    ring: &mut Ring,
     timing: &mut Box<dyn Timing>,
 )
     requires named { names_register op.now ≡ true }
-    requires room { vec_len flights.old < vec_capacity flights.old }
-    ensures write { map write_of flights.new.items ≡ map write_of flights.old.items ++ write_to (destination_of op.now) (number_of size (state_of now.now []) op.now) (time_of machine.now (list_of (times timing.old)) (times timing.old).place op.now) }
+    requires room { (widest : ℕ) × (here : ℕ) × (here < widest) × HasRoom widest here ring.old }
+    ensures write { flying_of ring.new ≡ by_landing (flying_of ring.old ++ write_to (destination_of op.now) (number_of size (state_of now.now []) op.now) (time_of machine.now (list_of (times timing.old)) (times timing.old).place op.now)) }
     ensures timing { times timing.new ≡ moved_if (is_asked op.now) (times timing.old) }
-    ensures capacity { vec_capacity flights.old ≤ vec_capacity flights.new }
-    ensures len { vec_len flights.new ≤ vec_len flights.old + 1 }
-    ensures has_room { (widest here : ℕ) → HasRoom widest here flights.old.items → HasRoom widest (here + 1) flights.new.items }
+    ensures has_room { (widest here : ℕ) → here < widest → HasRoom widest here ring.old → HasRoom widest (here + 1) ring.new }
 {
     if let Some(to) = op.destination() {
         let number = now.number_of(size, op);
         let left = landing_time(machine, op, timing);
-        issue_write(to, number, left, flights);
+        issue_write(to, number, left, ring);
     }
 }
 
@@ -129,6 +126,7 @@ fn issue(
 fn landing_time(machine: &Machine, op: &Operation, timing: &mut Box<dyn Timing>) -> u32
     requires { is_some (destination_of op.now) ≡ true }
     ensures time { result ≡ time_of machine.now (list_of (times timing.old)) (times timing.old).place op.now }
+    ensures some { 1 ≤ result }
     ensures in_time { result ≤ 16 }
     ensures timing { times timing.new ≡ moved_if (is_asked op.now) (times timing.old) }
 {
@@ -153,6 +151,7 @@ fn latency(machine: &Machine, op: &Operation) -> u32
 fn lands(timing: &mut Box<dyn Timing>, latency: u32) -> u32
     requires { 1 ≤ latency }
     ensures time { result ≡ landing_time (list_of (times timing.old)) (times timing.old).place latency }
+    ensures some { 1 ≤ result }
     ensures in_time { result ≤ latency }
     ensures timing { times timing.new ≡ moved_on (times timing.old) }
 {
@@ -160,21 +159,18 @@ fn lands(timing: &mut Box<dyn Timing>, latency: u32) -> u32
 }
 
 /// A write to register 0 is lost.
-fn issue_write(to: Register, number: i32, left: u32, flights: &mut Vec<Flight>)
+fn issue_write(to: Register, number: i32, left: u32, ring: &mut Ring)
     requires named { is_register to ≡ true }
-    requires room { vec_len flights.old < vec_capacity flights.old }
+    requires room { (widest : ℕ) × (here : ℕ) × (here < widest) × HasRoom widest here ring.old }
+    requires some { 1 ≤ left }
     requires in_time { left ≤ 16 }
-    ensures writes { map write_of flights.new.items ≡ map write_of flights.old.items ++ write_to (Some to) number left }
-    ensures capacity { vec_capacity flights.old ≤ vec_capacity flights.new }
-    ensures len { vec_len flights.new ≤ vec_len flights.old + 1 }
-    ensures has_room { (widest here : ℕ) → HasRoom widest here flights.old.items → HasRoom widest (here + 1) flights.new.items }
+    ensures writes { flying_of ring.new ≡ by_landing (flying_of ring.old ++ write_to (Some to) number left) }
+    ensures has_room { (widest here : ℕ) → here < widest → HasRoom widest here ring.old → HasRoom widest (here + 1) ring.new }
 {
     if to.is_zero() {
         return;
     }
-    let appended = flights.push(Flight { to, number, left });
-    let is_appended = appended.is_ok();
-    prove!(is_appended);
+    put(ring, Flight { to, number }, left);
 }
 
 /// The stores of the word, none where no operation has a memory unit.

@@ -12,7 +12,5 @@ pub(crate) struct Flight {
     pub(crate) to: Register,
     /// The number that is written.
     pub(crate) number: i32,
-    /// The cycles until it lands, at least 1.
-    pub(crate) left: u32,
     ghost names_a_register: { is_register to ≡ true },
 }

@@ -1,15 +1,18 @@
 // The memory of a simulator: what it takes at its start, and how a word of it is stored.
 
-ghost use Rattle.std.specs.Prelude.{◌≡◌, ◌≤◌, ◌*◌, ◌<◌, ◌^◌, true, length, IfOk, vec_len, [], pos, replicate};
+ghost use Rattle.std.specs.Prelude.{◌≡◌, ◌*◌, true, length, map, IfOk, [], pos, replicate};
 ghost use Rattle.std.specs.Vec.{vec_capacity};
 ghost use Rattle.vx_isa.specs.Machine.{memory_at_start, is_word_of, stored};
 ghost use Rattle.vx_isa.specs.Sound.{is_sound};
+ghost use Rattle.vx_sim.specs.Flying.{flights_in, flying_of};
 ghost use Rattle.vx_sim.specs.Held.{word_of};
-ghost use Rattle.vx_sim.specs.Room.{widest};
+ghost use Rattle.vx_sim.specs.Room.{HasRoom, widest};
 
 use crate::flight::Flight;
+use crate::ring::Ring;
+use crate::shape::Shape;
 use std::alloc::{AllocError, Global};
-use vx_isa::program::{Word, WordProgram};
+use vx_isa::program::WordProgram;
 
 /// The words of the memory as the program says, else 0.
 pub(crate) fn memory_of(alloc: Global, program: &WordProgram) -> Result<Vec<i32>, AllocError>
@@ -50,22 +53,35 @@ pub(crate) fn store(memory: &mut Vec<i32>, address: u32, number: i32)
     }
 }
 
-/// Room for the writes in flight: at most so many operations a word, for 16 cycles and the one of their issue.
-pub(crate) fn room_for(alloc: Global, program: &WordProgram) -> Result<Vec<Flight>, AllocError>
-    ensures empty { IfOk result (λ flights. flights.items ≡ []) }
-    ensures room { IfOk result (λ flights. 17 * widest program.now.words ≤ vec_capacity flights) }
+/// A ring without writes, each place with room for those of the words of 16 cycles.
+pub(crate) fn ring_for(alloc: Global, shapes: &Vec<Shape>) -> Result<Ring, AllocError>
+    ensures empty { IfOk result (λ ring. flying_of ring ≡ []) }
+    ensures room { IfOk result (λ ring. HasRoom (widest shapes.now.items) 0 ring) }
 {
-    Vec::with_capacity(alloc, 17 * widest(program.words.as_slice()))
+    let places = places_for(alloc, 16 * widest(shapes.as_slice()) as usize)?;
+    Ok(Ring { places, next: 0 })
 }
 
-/// The most operations that a word has.
-fn widest(words: &[Word]) -> usize
-    ensures widest { result ≡ widest words.now }
-    ensures few { result < 2 ^ 32 }
+/// The 16 places, each with room for so many writes.
+fn places_for(alloc: Global, room: usize) -> Result<Vec<Vec<Flight>>, AllocError>
+    ensures empty { IfOk result (λ places. flights_in places.items ≡ replicate 16 []) }
+    ensures room { IfOk result (λ places. map vec_capacity places.items ≡ replicate 16 room) }
+    ensures len { IfOk result (λ places. length places.items ≡ 16) }
+{
+    let mut places = Vec::with_capacity(alloc, 16)?;
+    for _ in 0..16_usize {
+        places.push(Vec::with_capacity(alloc, room)?)?;
+    }
+    Ok(places)
+}
+
+/// The most operations of a word that is not unfit.
+fn widest(shapes: &[Shape]) -> u32
+    ensures { result ≡ widest shapes.now }
 {
     let mut most = 0;
-    for word in words {
-        most = word.ops.len().max(most);
+    for shape in shapes {
+        most = shape.width.max(most);
     }
     most
 }

@@ -1,9 +1,9 @@
-// What the words of a program are whatever the state: why a word is stuck wherever it is issued, and how many operations of
-// each kind it has. It is found once, at the start.
+// What the words of a program are whatever the state: why a word is stuck wherever it is issued, how many operations of each
+// kind it has, and how many can write. It is found once, at the start.
 
 ghost use Rattle.std.specs.Prelude.{◌≡◌, ◌<◌, ◌≤◌, map, length, count_by, slice_index_or, IfOk};
 ghost use Rattle.vx_isa.specs.Fits.{is_of};
-ghost use Rattle.vx_sim.specs.Shapes.{unfit_of, counts_of, shape_of};
+ghost use Rattle.vx_sim.specs.Shapes.{unfit_of, counts_of, width_by, shape_of};
 
 use std::alloc::{AllocError, Global};
 use vx_base::outcome::Reason;
@@ -27,6 +27,8 @@ pub(crate) struct Shape {
     /// The reason for which it is stuck wherever it is issued.
     pub(crate) unfit: Option<Reason>,
     pub(crate) counts: UnitCounts,
+    /// How many operations it has, each of which can write; 0 where it is unfit, since it has no effect then.
+    pub(crate) width: u32,
 }
 
 /// The shape of each word of a program.
@@ -47,9 +49,21 @@ pub(crate) fn shapes_of(
 fn shape_of(machine: &Machine, word: &Word) -> Shape
     ensures { result ≡ shape_of machine.now word.now }
 {
+    let unfit = unfit_of(machine, word);
     Shape {
-        unfit: unfit_of(machine, word),
+        unfit,
         counts: counts_of(word),
+        width: width_by(unfit, word),
+    }
+}
+
+/// How many operations a word has that is stuck for no such reason; else 0.
+fn width_by(unfit: Option<Reason>, word: &Word) -> u32
+    ensures { result ≡ width_by unfit word.now.ops }
+{
+    match unfit {
+        Some(_) => 0,
+        None => word.ops.len() as u32,
     }
 }
 

@@ -1,16 +1,15 @@
 // The simulator: it stands at a state of the word machine and issues words.
 
 ghost use Rattle.std.specs.Prelude.{◌≡◌, ◌≤◌, ◌*◌, true, map, length};
-ghost use Rattle.std.specs.Vec.{vec_capacity};
 ghost use Rattle.vx_isa.specs.Sound.{is_sound};
 ghost use Rattle.vx_sim.specs.Passed.{counted};
 ghost use Rattle.vx_sim.specs.Room.{HasRoom, widest};
 ghost use Rattle.vx_sim.specs.Shapes.{shape_of};
 
 use crate::ended::Ended;
-use crate::flight::Flight;
-use crate::memory::{memory_of, room_for};
+use crate::memory::{memory_of, ring_for};
 use crate::registers::Registers;
+use crate::ring::Ring;
 use crate::shape::{Shape, shapes_of};
 use crate::standing::Standing;
 use crate::steps::step;
@@ -28,14 +27,13 @@ pub struct Sim {
     machine: Machine,
     shapes: Vec<Shape>,
     standing: Standing,
-    flights: Vec<Flight>,
+    ring: Ring,
     issued: u64,
     ended: bool,
     ghost sound: { is_sound program ≡ true },
     ghost tested: { shapes.items ≡ map (shape_of machine) program.words },
     ghost size: { program.memory ≡ 4 * length standing.memory.items },
-    ghost room: { HasRoom (widest program.words) 0 flights.items },
-    ghost capacity: { 17 * widest program.words ≤ vec_capacity flights },
+    ghost room: { HasRoom (widest shapes.items) 0 ring },
 }
 
 impl Sim {
@@ -58,8 +56,8 @@ impl Sim {
         ensures fresh { IfOk result (λ sim. (sim.issued ≡ 0) × (sim.ended ≡ false)) }
     {
         let memory = memory_of(alloc, &program)?;
-        let flights = room_for(alloc, &program)?;
         let shapes = shapes_of(alloc, &machine, program.words.as_slice())?;
+        let ring = ring_for(alloc, &shapes)?;
         Ok(Sim {
             program,
             machine,
@@ -72,7 +70,7 @@ impl Sim {
                 input,
                 taken: 0,
             },
-            flights,
+            ring,
             issued: 0,
             ended: false,
         })
@@ -117,7 +115,7 @@ impl Sim {
                 &self.machine,
                 &self.shapes,
                 &mut self.standing,
-                &mut self.flights,
+                &mut self.ring,
                 &mut self.issued,
                 out,
                 timing,

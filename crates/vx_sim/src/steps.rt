@@ -1,12 +1,12 @@
 // One step of the simulator: one word is issued, or it is told why none was. The clause is the step of the word machine.
 
-ghost use Rattle.std.specs.Prelude.{◌≡◌, ◌≤◌, ◌<◌, ◌+◌, ◌*◌, ◌^◌, [], Some, None, true, false, map, length, vec_len, slice_get, OnOk, OnErr};
-ghost use Rattle.std.specs.Vec.{vec_capacity};
+ghost use Rattle.std.specs.Prelude.{◌≡◌, ◌≤◌, ◌<◌, ◌+◌, ◌*◌, ◌^◌, ℕ, [], Some, None, true, false, map, length, vec_len, slice_get, OnOk, OnErr};
 ghost use Rattle.vx_base.specs.Outside.{Rose};
 ghost use Rattle.vx_isa.specs.Machine.{stuck_by};
 ghost use Rattle.vx_isa.specs.Sound.{is_sound};
 ghost use Rattle.vx_probe.specs.Times.{list_of};
 ghost use Rattle.vx_probe.specs.Watch.{shown};
+ghost use Rattle.vx_sim.specs.Flying.{flying_of};
 ghost use Rattle.vx_sim.specs.Room.{HasRoom, widest};
 ghost use Rattle.vx_sim.specs.Shapes.{shape_of, counts_of};
 ghost use Rattle.vx_sim.specs.Standing.{state_of, standing_at};
@@ -14,9 +14,9 @@ ghost use Rattle.vx_sim.specs.Stepped.{Stepped, Took, leads_by, ended_as, is_fau
 
 use crate::effects::take_effect;
 use crate::ended::Ended;
-use crate::flight::Flight;
 use crate::leads::{Lead, event_of, following, lead_of_word, place_behind};
 use crate::prints::print;
+use crate::ring::Ring;
 use crate::shape::{Shape, UnitCounts, shape_at};
 use crate::standing::Standing;
 use crate::stuck::stuck_by;
@@ -32,7 +32,7 @@ pub(crate) fn step<K: Sink>(
     machine: &Machine,
     shapes: &Vec<Shape>,
     now: &mut Standing,
-    flights: &mut Vec<Flight>,
+    ring: &mut Ring,
     issued: &mut u64,
     out: &mut K,
     timing: &mut Box<dyn Timing>,
@@ -41,14 +41,12 @@ pub(crate) fn step<K: Sink>(
     requires sound { is_sound program.now ≡ true }
     requires tested { shapes.now.items ≡ map (shape_of machine.now) program.now.words }
     requires size { program.now.memory ≡ 4 * length now.old.memory.items }
-    requires room { HasRoom (widest program.now.words) 0 flights.old.items }
-    requires capacity { 17 * widest program.now.words ≤ vec_capacity flights.old }
-    ensures stepped { Stepped machine.now program.now (standing_at now.old flights.old.items (times timing.old)) (state_of now.new flights.new.items) (times timing.old) (times timing.new) (map (λ b. watch b) probes.old.items) (map (λ b. watch b) probes.new.items) issued.old issued.new (K.told out.old) (K.told out.new) result }
+    requires room { HasRoom (widest shapes.now.items) 0 ring.old }
+    ensures stepped { Stepped machine.now program.now (standing_at now.old (flying_of ring.old) (times timing.old)) (state_of now.new (flying_of ring.new)) (times timing.old) (times timing.new) (map (λ b. watch b) probes.old.items) (map (λ b. watch b) probes.new.items) issued.old issued.new (K.told out.old) (K.told out.new) result }
     ensures failed { is_fault_of result ≡ true → Rose (K.faults out.old) (K.faults out.new) }
     ensures faults_never_fall { K.faults out.old ≤ K.faults out.new }
     ensures size_stays { length now.new.memory.items ≡ length now.old.memory.items }
-    ensures has_room { HasRoom (widest program.now.words) 0 flights.new.items }
-    ensures has_capacity { vec_capacity flights.old ≤ vec_capacity flights.new }
+    ensures has_room { HasRoom (widest shapes.now.items) 0 ring.new }
 {
     let place = now.place;
     let word = match program.words.as_slice().get(place as usize) {
@@ -64,7 +62,7 @@ pub(crate) fn step<K: Sink>(
             program,
             machine,
             now,
-            flights,
+            ring,
             issued,
             word,
             &shape.counts,
@@ -91,7 +89,7 @@ fn pass(
     program: &WordProgram,
     machine: &Machine,
     now: &mut Standing,
-    flights: &mut Vec<Flight>,
+    ring: &mut Ring,
     issued: &mut u64,
     word: &Word,
     counts: &UnitCounts,
@@ -100,15 +98,13 @@ fn pass(
 ) -> Lead
     requires sound { is_sound program.now ≡ true }
     requires size { program.now.memory ≡ 4 * length now.old.memory.items }
-    requires room { HasRoom (widest program.now.words) 0 flights.old.items }
-    requires capacity { 17 * widest program.now.words ≤ vec_capacity flights.old }
+    requires room { (widest : ℕ) × (length word.now.ops ≤ widest) × HasRoom widest 0 ring.old }
     requires word { slice_get program.now.words now.old.place ≡ Some word.now }
     requires counts { counts.now ≡ counts_of word.now.ops }
     requires free { stuck_by machine.now program.now (state_of now.old []) word.now.ops ≡ None }
-    ensures took { Took machine.now program.now (standing_at now.old flights.old.items (times timing.old)) (state_of now.new flights.new.items) (times timing.old) (times timing.new) (map (λ b. watch b) probes.old.items) (map (λ b. watch b) probes.new.items) issued.old issued.new (leads_by result) }
+    ensures took { Took machine.now program.now (standing_at now.old (flying_of ring.old) (times timing.old)) (state_of now.new (flying_of ring.new)) (times timing.old) (times timing.new) (map (λ b. watch b) probes.old.items) (map (λ b. watch b) probes.new.items) issued.old issued.new (leads_by result) }
     ensures size_stays { length now.new.memory.items ≡ length now.old.memory.items }
-    ensures has_room { HasRoom (widest program.now.words) 0 flights.new.items }
-    ensures has_capacity { vec_capacity flights.old ≤ vec_capacity flights.new }
+    ensures has_room { (widest : ℕ) → length word.now.ops ≤ widest → HasRoom widest 0 ring.old → HasRoom widest 0 ring.new }
 {
     let next = following(program, now.place);
     let lead = lead_of_word(now, next, word.ops.as_slice(), counts.control);
@@ -117,7 +113,7 @@ fn pass(
         machine,
         program.memory,
         now,
-        flights,
+        ring,
         word,
         counts.memory,
         timing,

@@ -1,8 +1,8 @@
-use Rattle.std.proofs.Common.{◌≡◌, ◌≤◌, ◌+◌, ◌++◌, [], ℕ, true, map, drop, length, vec_len, vec_capacity}
+use Rattle.std.proofs.Common.{◌≡◌, ◌≤◌, ◌++◌, [], ℕ, true, drop, length}
 use Rattle.std.specs.List.{list_all}
 use Rattle.vx_isa.specs.Machine.{writes_of, asked_by}
 use Rattle.vx_probe.specs.Times.{list_of, moved_by}
-use Rattle.vx_sim.specs.Held.{write_of}
+use Rattle.vx_sim.specs.Flying.{flying_of, by_landing}
 use Rattle.vx_sim.specs.Named.{names_register}
 use Rattle.vx_sim.specs.Room.{HasRoom}
 use Rattle.vx_sim.specs.Standing.{state_of}
@@ -15,11 +15,9 @@ invariant-loop-op g l =
     let s = state_of l.now [] in
     let todo = drop l.op-index l.ops in
     record {
-      writes : map write_of l.flights.items ++ writes_of l.machine (list_of first) l.size s here.place todo ≡ map write_of l.fn.flights.items ++ writes_of l.machine (list_of first) l.size s first.place l.ops;
+      writes : by_landing (flying_of l.ring ++ writes_of l.machine (list_of first) l.size s here.place todo) ≡ by_landing (flying_of l.fn.ring ++ writes_of l.machine (list_of first) l.size s first.place l.ops);
       same_list : list_of here ≡ list_of first;
       timing : moved_by (asked_by todo) here ≡ moved_by (asked_by l.ops) first;
       named : list_all names_register todo ≡ true;
-      room : vec_len l.flights + length todo ≤ vec_capacity l.flights;
-      capacity : vec_capacity l.fn.flights ≤ vec_capacity l.flights;
-      has_room : (widest : ℕ) → HasRoom widest 0 l.fn.flights.items → HasRoom widest l.op-index l.flights.items;
+      has_room : (widest : ℕ) → length l.ops ≤ widest → HasRoom widest 0 l.fn.ring → HasRoom widest l.op-index l.ring;
     }

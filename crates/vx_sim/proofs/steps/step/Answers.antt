@@ -1,4 +1,4 @@
-use Rattle.std.proofs.Common.{◌≡◌, ◌∙◌, [], List, count_by, map, None, refl, sym, ap, subst}
+use Rattle.std.proofs.Common.{◌≡◌, ◌∙◌, [], List, count_by, None, refl, sym, ap, subst}
 use Rattle.std.specs.List.{flat_map}
 use Rattle.vx_base.specs.Outside.{with_bytes, PutsFront}
 use Rattle.vx_isa.specs.declared.operation.Operation.{Operation}
@@ -6,12 +6,13 @@ use Rattle.vx_isa.specs.declared.operation.UnitKind.TheVariants.{Memory}
 use Rattle.vx_isa.specs.Fits.{is_of}
 use Rattle.vx_isa.specs.Machine.{print_of, stuck_by}
 use Rattle.vx_probe.specs.Times.{list_of}
-use Rattle.vx_sim.specs.Held.{write_of}
+use Rattle.vx_sim.specs.Flying.{flying_of}
+use Rattle.vx_sim.specs.Room.{widest}
 use Rattle.vx_sim.specs.Shapes.{shape_of}
 use Rattle.vx_sim.specs.declared.shape.Shape.{Shape}
 use Rattle.vx_sim.specs.Standing.{state_of}
 use Rattle.vx_sim.proofs.Elsewhere.{elsewhere}
-use Rattle.vx_sim.proofs.Naming.{word_here, found, found_below}
+use Rattle.vx_sim.proofs.Naming.{word_here, found, found_below, widest_at}
 use Rattle.vx_sim.proofs.Passing.{taken_at}
 use Rattle.vx_sim.proofs.Taking.{stepped_as, text_of, takes_it}
 use Rattle.vx_sim.proofs.steps.step.Goals as goal
@@ -31,7 +32,7 @@ returns-in-Ok-clause-stepped g c =
     let earlier = g.K.Sink.told c.args.out.now in
     stepped_as earlier (g.K.Sink.told c.print.new.out) c.pass.result c.ended_by.result c.ended_by.ensures took
     (c.in-Ok.ensures.all ∙ ap (λ (ops : List Operation). with_bytes earlier (flat_map (print_of w b) ops)) c.as_slice-2.ensures
-    ∙ ap (with_bytes earlier) (sym (text_of m w (list_of t) b (map write_of c.args.flights.now.items) t.place word took.word at free took.is)))
+    ∙ ap (with_bytes earlier) (sym (text_of m w (list_of t) b (flying_of c.args.ring.now) t.place word took.word at free took.is)))
 
 pub returns-in-Err-clause-stepped : goal.returns-in-Err-clause-stepped
 returns-in-Err-clause-stepped g c =
@@ -39,7 +40,7 @@ returns-in-Err-clause-stepped g c =
     let w = c.args.program.now in
     let b = state_of c.args.now.now [] in
     let t = (goal.Timing-dyn g (c.args.timing.now.vtable, c.args.timing.now.value)).times c.args.timing.now.value in
-    let ws = map write_of c.args.flights.now.items in
+    let ws = flying_of c.args.ring.now in
     let word = c.in-Some.word.now in
     let l = c.in-Some.ensures.lookup in
     let at = word_here w.words c.as_slice.result.now c.args.now.now.place word c.as_slice.ensures (sym l.0) l.1 in
@@ -91,3 +92,27 @@ print-requires g c =
     let at = word_here w.words c.as_slice.result.now c.args.now.now.place word c.as_slice.ensures (sym l.0) l.1 in
     let shape_is : c.shape_at-shape.result.now ≡ shape_of m word = found m w.words c.args.now.now.place word c.args.shapes.now.items c.shape_at-shape.result.now c.shape_at-shape.ensures c.requires.tested at in
     ap (λ (s : Shape). s.counts.memory) shape_is ∙ ap (λ (ops : List Operation). count_by (is_of Memory) ops) (sym c.as_slice-2.ensures)
+
+pub pass-requires-clause-room : goal.pass-requires-clause-room
+pass-requires-clause-room g c =
+    let m = c.args.machine.now in
+    let w = c.args.program.now in
+    let b = state_of c.args.now.now [] in
+    let word = c.in-Some.word.now in
+    let l = c.in-Some.ensures.lookup in
+    let at = word_here w.words c.as_slice.result.now c.args.now.now.place word c.as_slice.ensures (sym l.0) l.1 in
+    let shape_is : c.shape_at-shape.result.now ≡ shape_of m word = found m w.words c.args.now.now.place word c.args.shapes.now.items c.shape_at-shape.result.now c.shape_at-shape.ensures c.requires.tested at in
+    let free : stuck_by m w b word.ops ≡ None = sym (c.stuck_by.ensures m shape_is) ∙ c.in_default.is in
+    (widest c.args.shapes.now.items, widest_at m w b c.args.now.now.place word c.args.shapes.now.items c.requires.tested at free, c.requires.room)
+
+pub returns-in-Ok-clause-has_room : goal.returns-in-Ok-clause-has_room
+returns-in-Ok-clause-has_room g c =
+    let m = c.args.machine.now in
+    let w = c.args.program.now in
+    let b = state_of c.args.now.now [] in
+    let word = c.in-Some.word.now in
+    let l = c.in-Some.ensures.lookup in
+    let at = word_here w.words c.as_slice.result.now c.args.now.now.place word c.as_slice.ensures (sym l.0) l.1 in
+    let shape_is : c.shape_at-shape.result.now ≡ shape_of m word = found m w.words c.args.now.now.place word c.args.shapes.now.items c.shape_at-shape.result.now c.shape_at-shape.ensures c.requires.tested at in
+    let free : stuck_by m w b word.ops ≡ None = sym (c.stuck_by.ensures m shape_is) ∙ c.in_default.is in
+    c.pass.ensures.has_room (widest c.args.shapes.now.items) (widest_at m w b c.args.now.now.place word c.args.shapes.now.items c.requires.tested at free) c.requires.room

@@ -1,13 +1,15 @@
 use Rattle.std.proofs.Common.{refl, arith}
+use Rattle.vx_sim.specs.Flying.{flying_of}
 use Rattle.vx_sim.specs.Standing.{state_of}
 use Rattle.vx_sim.proofs.SoFar.{so_far_none, so_far_more, ran_stopped, ran_ended}
+use Rattle.vx_sim.proofs.Turning.{ring_sorted}
 use Rattle.vx_sim.proofs.sim.Sim.run.Goals as goal
 
 pub words-init : goal.words-init
 words-init g c =
     let t = (goal.Timing-dyn g (c.args.timing.now.vtable, c.args.timing.now.value)).times c.args.timing.now.value in
     record {
-      so_far = so_far_none c.args.self.now.machine c.args.self.now.program (state_of c.args.self.now.standing c.args.self.now.flights.items) t _ _ _ refl refl c.keeps_count.ensures c.keeps_count-2.ensures;
+      so_far = so_far_none c.args.self.now.machine c.args.self.now.program (state_of c.args.self.now.standing (flying_of c.args.self.now.ring)) t _ _ _ refl refl (ring_sorted c.args.self.now.ring) c.keeps_count.ensures c.keeps_count-2.ensures;
       program = refl;
       machine = refl;
       ended = c.requires;
@@ -28,11 +30,11 @@ words-preserved g c =
 pub returns-in-Some-clause-ran : goal.returns-in-Some-clause-ran
 returns-in-Some-clause-ran g c =
     let h = c.words.invariant in
-    ran_ended c.args.words c.words.passed c.args.self.now _ c.words.self.machine c.words.self.program h.machine h.program _ _ _ _ _ _ c.words.self.issued _ _ _ (state_of c.words.self.standing c.words.self.flights.items) h.so_far refl h.program h.machine
-    (state_of c.step-ended.new.now c.step-ended.new.flights.items) c.in-Some.ended c.words-test.true refl c.in-Some.ensures.stepped
+    ran_ended c.args.words c.words.passed c.args.self.now _ c.words.self.machine c.words.self.program h.machine h.program _ _ _ _ _ _ c.words.self.issued _ _ _ (state_of c.words.self.standing (flying_of c.words.self.ring)) h.so_far refl h.program h.machine
+    (state_of c.step-ended.new.now (flying_of c.step-ended.new.ring)) c.in-Some.ended c.words-test.true refl c.in-Some.ensures.stepped
 
 pub returns-clause-ran : goal.returns-clause-ran
 returns-clause-ran g c =
     let h = c.words.invariant in
-    ran_stopped c.args.words c.words.passed c.args.self.now c.words.self c.words.self.machine c.words.self.program h.machine h.program _ _ _ _ _ _ (state_of c.words.self.standing c.words.self.flights.items) h.so_far
+    ran_stopped c.args.words c.words.passed c.args.self.now c.words.self c.words.self.machine c.words.self.program h.machine h.program _ _ _ _ _ _ (state_of c.words.self.standing (flying_of c.words.self.ring)) h.so_far
     (omega (arith, c.words-test.false, c.words.auto.passed-end)) refl (record { over = h.ended; same_program = h.program; same_machine = h.machine })
