@@ -19,7 +19,9 @@ use Rattle.vx_profile.specs.declared.calls.Machine.{Machine}
 use Rattle.vx_profile.specs.declared.ending.Left.{Left}
 use Rattle.vx_profile.specs.declared.ending.Left.TheVariants.{Arrives, Calls, Leaves, Stops, Wrong}
 use Rattle.vx_profile.specs.declared.ending.Ending.{Ending}
-use Rattle.vx_profile.specs.Counts.{Pair, Triple, pair_cmp, triple_cmp, block_count, edge_count, is_block, is_edge, CountsOf, CountsMore, visits, taken_by}
+use Rattle.vx_profile.specs.Counts.{Pair, Triple, pair_cmp, triple_cmp, block_count, edge_count, is_block, is_edge, CountsMore, visits, taken_by}
+use Rattle.vx_profile.specs.declared.tally.Tally.{Tally}
+use Rattle.vx_profile.specs.Tally.{TallyOf, TallyMore, MoreTimes}
 use Rattle.vx_profile.specs.Machine.{hop_from, frame_of, stacked, ended, IsStep, IsOutcome}
 
 -- keys
@@ -42,16 +44,16 @@ times : (Visit → Bool) → List Visit → ℕ
 times p [] = 0
 times p (x ∷ xs) = cond (p x) (1 + times p xs) (times p xs)
 
-count_one : (p : Visit → Bool) (v : Visit) → cond (p v) 1 0 ≡ count_by p (v ∷ [])
+pub count_one : (p : Visit → Bool) (v : Visit) → cond (p v) 1 0 ≡ count_by p (v ∷ [])
 unfolding times
 count_one p v = is_count_by (times p) p refl (λ x xs. refl) (v ∷ [])
 
-one_visit : (old : ℕ) (found : Option ℕ) (here : Bool) (count : ℕ) → old ≡ unwrap_or found 0 → (here ≡ true → old ≡ count) → unwrap_or (cond here (Some (count + 1)) found) 0 ≡ old + cond here 1 0
-one_visit old found true count e f = let h = f refl in omega arith
-one_visit old found false count e f = omega arith
+so_many : (old : ℕ) (found : Option ℕ) (here : Bool) (count more : ℕ) → old ≡ unwrap_or found 0 → (here ≡ true → old ≡ count) → unwrap_or (cond here (Some (count + more)) found) 0 ≡ old + cond here more 0
+so_many old found true count more e f = let h = f refl in omega arith
+so_many old found false count more e f = omega arith
 
-pub block_added : (old new : Counts) (g c count : ℕ) → count ≡ block_count old g c + 1 → ((q : Pair) → get pair_cmp new.blocks q ≡ cond (is_at (pair_cmp (g, c)) q) (Some count) (get pair_cmp old.blocks q)) → new.edges ≡ old.edges → CountsMore old new (AtBlock g c ∷ [])
-block_added old new g c count n h e = record {
+pub block_added : (old new : Counts) (g c more count : ℕ) → count ≡ block_count old g c + more → ((q : Pair) → get pair_cmp new.blocks q ≡ cond (is_at (pair_cmp (g, c)) q) (Some count) (get pair_cmp old.blocks q)) → new.edges ≡ old.edges → MoreTimes old new (AtBlock g c) more
+block_added old new g c more count n h e = record {
   blocks = λ f b. by f b;
   edges = λ f b d. ap (λ m. unwrap_or (get triple_cmp m (f, b, d)) 0) e ∙ sym (add-zero (edge_count old f b d));
 }
@@ -59,16 +61,15 @@ block_added old new g c count n h e = record {
     there : (f b : ℕ) → ((g == f) && (c == b)) ≡ true → block_count old f b ≡ block_count old g c
     there f b t = let (k, l) = and_parts (g == f) (c == b) t in ap (λ x. block_count old x b) (sym (eqb-true g f k)) ∙ ap (block_count old g) (sym (eqb-true c b l))
 
-    by : (f b : ℕ) → block_count new f b ≡ block_count old f b + count_by (is_block f b) (AtBlock g c ∷ [])
+    by : (f b : ℕ) → block_count new f b ≡ block_count old f b + cond (is_block f b (AtBlock g c)) more 0
     by f b =
         ap (λ o. unwrap_or o 0) (h (f, b))
         ∙ ap (λ t. unwrap_or (cond t (Some count) (get pair_cmp old.blocks (f, b))) 0) (at_pair g c f b)
         ∙ ap (λ k. unwrap_or (cond ((g == f) && (c == b)) (Some k) (get pair_cmp old.blocks (f, b))) 0) n
-        ∙ one_visit (block_count old f b) (get pair_cmp old.blocks (f, b)) ((g == f) && (c == b)) (block_count old g c) refl (there f b)
-        ∙ ap (λ k. block_count old f b + k) (count_one (is_block f b) (AtBlock g c))
+        ∙ so_many (block_count old f b) (get pair_cmp old.blocks (f, b)) ((g == f) && (c == b)) (block_count old g c) more refl (there f b)
 
-pub edge_added : (old new : Counts) (g c e count : ℕ) → count ≡ edge_count old g c e + 1 → ((q : Triple) → get triple_cmp new.edges q ≡ cond (is_at (triple_cmp (g, c, e)) q) (Some count) (get triple_cmp old.edges q)) → new.blocks ≡ old.blocks → CountsMore old new (AlongEdge g c e ∷ [])
-edge_added old new g c e count n h s = record {
+pub edge_added : (old new : Counts) (g c e more count : ℕ) → count ≡ edge_count old g c e + more → ((q : Triple) → get triple_cmp new.edges q ≡ cond (is_at (triple_cmp (g, c, e)) q) (Some count) (get triple_cmp old.edges q)) → new.blocks ≡ old.blocks → MoreTimes old new (AlongEdge g c e) more
+edge_added old new g c e more count n h s = record {
   blocks = λ f b. ap (λ m. unwrap_or (get pair_cmp m (f, b)) 0) s ∙ sym (add-zero (block_count old f b));
   edges = λ f b d. by f b d;
 }
@@ -79,26 +80,38 @@ edge_added old new g c e count n h s = record {
         let (k, l) = and_parts (g == f) (c == b) kl in
         ap (λ x. edge_count old x b d) (sym (eqb-true g f k)) ∙ ap (λ x. edge_count old g x d) (sym (eqb-true c b l)) ∙ ap (edge_count old g c) (sym (eqb-true e d m))
 
-    by : (f b d : ℕ) → edge_count new f b d ≡ edge_count old f b d + count_by (is_edge f b d) (AlongEdge g c e ∷ [])
+    by : (f b d : ℕ) → edge_count new f b d ≡ edge_count old f b d + cond (is_edge f b d (AlongEdge g c e)) more 0
     by f b d =
         ap (λ o. unwrap_or o 0) (h (f, b, d))
         ∙ ap (λ t. unwrap_or (cond t (Some count) (get triple_cmp old.edges (f, b, d))) 0) (at_triple g c e f b d)
         ∙ ap (λ k. unwrap_or (cond ((g == f) && (c == b) && (e == d)) (Some k) (get triple_cmp old.edges (f, b, d))) 0) n
-        ∙ one_visit (edge_count old f b d) (get triple_cmp old.edges (f, b, d)) ((g == f) && (c == b) && (e == d)) (edge_count old g c e) refl (there f b d)
-        ∙ ap (λ k. edge_count old f b d + k) (count_one (is_edge f b d) (AlongEdge g c e))
+        ∙ so_many (edge_count old f b d) (get triple_cmp old.edges (f, b, d)) ((g == f) && (c == b) && (e == d)) (edge_count old g c e) more refl (there f b d)
+
+none_more : (t : Bool) (n : ℕ) → n ≡ n + cond t 0 0
+none_more true n = sym (add-zero n)
+none_more false n = sym (add-zero n)
+
+pub no_times : (c : Counts) (v : Visit) (more : ℕ) → more ≡ 0 → MoreTimes c c v more
+no_times c v more e = subst (MoreTimes c c v) (sym e) (record { blocks = λ f b. none_more (is_block f b v) (block_count c f b); edges = λ f b d. none_more (is_edge f b d v) (edge_count c f b d) })
+
+pub once : (old new : Counts) (v : Visit) → MoreTimes old new v 1 → CountsMore old new (v ∷ [])
+once old new v h = record {
+  blocks = λ f b. h.blocks f b ∙ ap (λ k. block_count old f b + k) (count_one (is_block f b) v);
+  edges = λ f b d. h.edges f b d ∙ ap (λ k. edge_count old f b d + k) (count_one (is_edge f b d) v);
+}
 
 -- more visits
 
 count_both : {A : Type 0} (p : A → Bool) (xs ys : List A) → count_by p (xs ++ ys) ≡ count_by p xs + count_by p ys
 count_both p xs ys = sum_by-append (λ x. cond (p x) 1 0) xs ys
 
-pub counts_both : (a b c : Counts) (xs ys : List Visit) → CountsMore a b xs → CountsMore b c ys → CountsMore a c (xs ++ ys)
+pub counts_both : (a b c : Tally) (xs ys : List Visit) → TallyMore a b xs → TallyMore b c ys → TallyMore a c (xs ++ ys)
 counts_both a b c xs ys h k = record {
   blocks = λ f n. let p = h.blocks f n in let q = k.blocks f n in let s = count_both (is_block f n) xs ys in omega arith;
   edges = λ f n m. let p = h.edges f n m in let q = k.edges f n m in let s = count_both (is_edge f n m) xs ys in omega arith;
 }
 
-pub counted_all : (a b : Counts) (xs ys : List Visit) → CountsOf a xs → CountsMore a b ys → CountsOf b (xs ++ ys)
+pub counted_all : (a b : Tally) (xs ys : List Visit) → TallyOf a xs → TallyMore a b ys → TallyOf b (xs ++ ys)
 counted_all a b xs ys h k = record {
   blocks = λ f n. let p = h.blocks f n in let q = k.blocks f n in let s = count_both (is_block f n) xs ys in omega arith;
   edges = λ f n m. let p = h.edges f n m in let q = k.edges f n m in let s = count_both (is_edge f n m) xs ys in omega arith;
@@ -144,9 +157,9 @@ pub path_none : (p : Program) (n : ℕ) (r : Active) → n ≡ 0 → program_pat
 path_none p n r e = ap (λ m. program_path p m r) e
 
 -- a run that is counted: what was passed so far, and what is left of the path
-pub record Counted (p : Program) (path : List Visit) (counts : Counts) (left : ℕ) (r : Active) : Type 0 where
+pub record Counted (p : Program) (path : List Visit) (tally : Tally) (left : ℕ) (r : Active) : Type 0 where
   pub passed : List Visit
-  pub counted : CountsOf counts passed
+  pub counted : TallyOf tally passed
   pub whole : path ≡ passed ++ program_path p left r
 
 append_three : {A : Type 0} (xs ys zs : List A) → xs ++ (ys ++ zs) ≡ (xs ++ ys) ++ zs
@@ -156,7 +169,7 @@ append_three (x ∷ xs) ys zs = ap (λ l. x ∷ l) (append_three xs ys zs)
 pub run_begun : (flow : Flow) (input : List ℤ) (n m : ℕ) (r : Active) → r ≡ start flow input → m ≡ n → graph_run flow input n ≡ program_run (program_of flow) m r
 run_begun flow input n m r e f = ap (program_run (program_of flow) n) (sym e) ∙ ap (λ k. program_run (program_of flow) k r) (sym f)
 
-pub path_begun : (flow : Flow) (input : List ℤ) (n m : ℕ) (r : Active) (a : Counts) → CountsOf a [] → r ≡ start flow input → m ≡ n → Counted (program_of flow) (graph_path flow input n) a m r
+pub path_begun : (flow : Flow) (input : List ℤ) (n m : ℕ) (r : Active) (a : Tally) → TallyOf a [] → r ≡ start flow input → m ≡ n → Counted (program_of flow) (graph_path flow input n) a m r
 path_begun flow input n m r a h e f = record {
   passed = [];
   counted = h;
@@ -176,19 +189,19 @@ over_by Ending.Wrong step m h = let (out, e) = h in record { outcome = Outcome.W
 pub over_at : (ending : Option Ending) (how : Ending) (step : Step Active) (m : Machine) → ending ≡ Some how → IsStep ending step m → OverAt step
 over_at ending how step m e h = over_by how step m (subst (λ x. IsStep x step m) e h)
 
-pub counted_on : (p : Program) (path : List Visit) (a b : Counts) (n k : ℕ) (r s : Active) → Counted p path a n r → CountsMore a b (visits p r) → n ≡ suc k → next p r ≡ On s → Counted p path b k s
+pub counted_on : (p : Program) (path : List Visit) (a b : Tally) (n k : ℕ) (r s : Active) → Counted p path a n r → TallyMore a b (visits p r) → n ≡ suc k → next p r ≡ On s → Counted p path b k s
 counted_on p path a b n k r s h m e f = record {
   passed = h.passed ++ visits p r;
   counted = counted_all a b h.passed (visits p r) h.counted m;
   whole = h.whole ∙ ap (λ l. h.passed ++ l) (path_on p n k r s e f) ∙ append_three h.passed (visits p r) (program_path p k s);
 }
 
-pub counted_over : (p : Program) (path : List Visit) (a b : Counts) (n k : ℕ) (r : Active) (o : Outcome) → Counted p path a n r → CountsMore a b (visits p r) → n ≡ suc k → next p r ≡ Over o → CountsOf b path
+pub counted_over : (p : Program) (path : List Visit) (a b : Tally) (n k : ℕ) (r : Active) (o : Outcome) → Counted p path a n r → TallyMore a b (visits p r) → n ≡ suc k → next p r ≡ Over o → TallyOf b path
 counted_over p path a b n k r o h m e f =
-    subst (CountsOf b) (sym (h.whole ∙ ap (λ l. h.passed ++ l) (path_over p n k r o e f))) (counted_all a b h.passed (visits p r) h.counted m)
+    subst (TallyOf b) (sym (h.whole ∙ ap (λ l. h.passed ++ l) (path_over p n k r o e f))) (counted_all a b h.passed (visits p r) h.counted m)
 
-pub counted_end : (p : Program) (path : List Visit) (a : Counts) (n : ℕ) (r : Active) → Counted p path a n r → n ≡ 0 → CountsOf a path
-counted_end p path a n r h e = subst (CountsOf a) (sym (h.whole ∙ ap (λ l. h.passed ++ l) (path_none p n r e) ∙ append_none h.passed)) h.counted
+pub counted_end : (p : Program) (path : List Visit) (a : Tally) (n : ℕ) (r : Active) → Counted p path a n r → n ≡ 0 → TallyOf a path
+counted_end p path a n r h e = subst (TallyOf a) (sym (h.whole ∙ ap (λ l. h.passed ++ l) (path_none p n r e) ∙ append_none h.passed)) h.counted
 
 -- whether the run is over
 

@@ -4,3 +4,4 @@ pub mod Counts
 pub mod Text
 pub mod Reading
 pub mod TextExample
+pub mod Tally

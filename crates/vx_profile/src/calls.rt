@@ -4,14 +4,15 @@ ghost use Rattle.std.specs.Prelude.{◌≡◌, [], ◌++◌, ◌∷◌, ◌+◌,
 ghost use Rattle.vx_base.specs.Outcome.{On};
 ghost use Rattle.vx_flow.specs.Meaning.{after_hop, at_entry, deepest, edge_back, next, program_of, returned, start, with_result, words_at_start, Calls};
 ghost use Rattle.vx_profile.specs.Machine.{active_of, entered_by, frame_of, hop_from, called_by, own_in, stacked, undefined_all, IsStep};
-ghost use Rattle.vx_profile.specs.Counts.{taken_by, visits, CountsMore};
+ghost use Rattle.vx_profile.specs.Counts.{taken_by, visits};
 ghost use Rattle.vx_profile.specs.Storage.{state_of, value_at};
+ghost use Rattle.vx_profile.specs.Tally.{TallyMore};
 
 use crate::blocks::run_block;
 use crate::cells::Cells;
-use crate::counts::Counts;
 use crate::ending::{Ending, Left};
 use crate::storage::{Storage, set_value};
+use crate::tally::Tally;
 use std::alloc::Global;
 use std::mem::replace;
 use vx_base::outcome::{NoMemory, Trap};
@@ -56,13 +57,13 @@ pub struct Machine {
 pub fn step(
     alloc: Global,
     machine: &mut Machine,
-    counts: &mut Counts,
+    tally: &mut Tally,
     flow: &Flow,
 ) -> Result<Option<Ending>, NoMemory>
     ensures step { IfOk result (λ ending. IsStep ending (next (program_of flow.now) (active_of machine.old)) machine.new) }
-    ensures counts { OnOk result (CountsMore counts.old counts.new (visits (program_of flow.now) (active_of machine.old))) }
+    ensures counts { OnOk result (TallyMore tally.old tally.new (visits (program_of flow.now) (active_of machine.old))) }
 {
-    counts.add_block(machine.function, machine.block)?;
+    tally.add_block(machine.function, machine.block)?;
     let left = run_block(
         alloc,
         &mut machine.storage,
@@ -72,7 +73,7 @@ pub fn step(
         machine.block,
     )?;
     count_edge(
-        counts,
+        tally,
         machine.function,
         machine.block,
         machine.waiting.as_slice(),
@@ -84,30 +85,30 @@ pub fn step(
 
 /// Counts the edge that is taken as a block of a function is left.
 fn count_edge(
-    counts: &mut Counts,
+    tally: &mut Tally,
     function: u32,
     block: BlockId,
     waiting: &[Waiting],
     left: &Left,
 ) -> Result<(), NoMemory>
-    ensures { OnOk result (CountsMore counts.old counts.new (taken_by function block (stacked [] waiting.now) left.now)) }
+    ensures { OnOk result (TallyMore tally.old tally.new (taken_by function block (stacked [] waiting.now) left.now)) }
 {
     match left {
-        Left::Arrives(to) => counts.add_edge(function, block, *to),
+        Left::Arrives(to) => tally.add_edge(function, block, *to),
         Left::Calls { .. } => Ok(()),
-        Left::Leaves(_) => count_edge_back(counts, waiting),
+        Left::Leaves(_) => count_edge_back(tally, waiting),
         Left::Stops(_) => Ok(()),
         Left::Wrong => Ok(()),
     }
 }
 
 /// Counts the edge behind the call of the function that waits last.
-fn count_edge_back(counts: &mut Counts, waiting: &[Waiting]) -> Result<(), NoMemory>
-    ensures { OnOk result (CountsMore counts.old counts.new (edge_back (stacked [] waiting.now))) }
+fn count_edge_back(tally: &mut Tally, waiting: &[Waiting]) -> Result<(), NoMemory>
+    ensures { OnOk result (TallyMore tally.old tally.new (edge_back (stacked [] waiting.now))) }
 {
     match waiting.last() {
         Some(last) => {
-            counts.add_edge(last.function, last.from, last.next)?;
+            tally.add_edge(last.function, last.from, last.next)?;
             Ok(())
         }
         None => Ok(()),

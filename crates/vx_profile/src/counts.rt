@@ -3,6 +3,7 @@
 ghost use Rattle.std.specs.Prelude.{◌≡◌, ◌+◌, ◌∷◌, [], IfOk, OnOk};
 ghost use Rattle.vx_flow.specs.Meaning.{AlongEdge, AtBlock};
 ghost use Rattle.vx_profile.specs.Counts.{block_count, edge_count, CountsMore, CountsOf, CountsReplaced};
+ghost use Rattle.vx_profile.specs.Tally.{MoreTimes};
 
 use std::alloc::Global;
 use std::collections::BTreeMap;
@@ -46,8 +47,7 @@ impl Counts {
     pub fn add_block(&mut self, function: u32, block: BlockId) -> Result<(), NoMemory>
         ensures { OnOk result (CountsMore self.old self.new (AtBlock function block ∷ [])) }
     {
-        let next = one_more(self.of_block(function, block))?;
-        self.blocks.insert((function, block), next)?;
+        self.add_block_times(function, block, 1)?;
         Ok(())
     }
 
@@ -55,7 +55,41 @@ impl Counts {
     pub fn add_edge(&mut self, function: u32, from: BlockId, to: BlockId) -> Result<(), NoMemory>
         ensures { OnOk result (CountsMore self.old self.new (AlongEdge function from to ∷ [])) }
     {
-        let next = one_more(self.of_edge(function, from, to))?;
+        self.add_edge_times(function, from, to, 1)?;
+        Ok(())
+    }
+
+    /// Counts a block so many times more.
+    pub(crate) fn add_block_times(
+        &mut self,
+        function: u32,
+        block: BlockId,
+        more: u64,
+    ) -> Result<(), NoMemory>
+        ensures { OnOk result (MoreTimes self.old self.new (AtBlock function block) more) }
+    {
+        if more == 0 {
+            return Ok(());
+        }
+        let next = with_more(self.of_block(function, block), more)?;
+        self.blocks.insert((function, block), next)?;
+        Ok(())
+    }
+
+    /// Counts an edge so many times more.
+    pub(crate) fn add_edge_times(
+        &mut self,
+        function: u32,
+        from: BlockId,
+        to: BlockId,
+        more: u64,
+    ) -> Result<(), NoMemory>
+        ensures { OnOk result (MoreTimes self.old self.new (AlongEdge function from to) more) }
+    {
+        if more == 0 {
+            return Ok(());
+        }
+        let next = with_more(self.of_edge(function, from, to), more)?;
         self.edges.insert((function, from, to), next)?;
         Ok(())
     }
@@ -98,10 +132,10 @@ impl Counts {
 }
 
 /// No count comes to its bound, since that many blocks are never run.
-fn one_more(count: u64) -> Result<u64, NoMemory>
-    ensures { IfOk result (λ next. next ≡ count + 1) }
+pub(crate) fn with_more(count: u64, more: u64) -> Result<u64, NoMemory>
+    ensures { IfOk result (λ next. next ≡ count + more) }
 {
-    match count.checked_add(1) {
+    match count.checked_add(more) {
         Some(next) => Ok(next),
         None => Err(NoMemory),
     }

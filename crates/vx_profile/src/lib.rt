@@ -14,6 +14,7 @@ mod passed;
 mod plain;
 mod reading;
 mod storage;
+mod tally;
 mod texts;
 
 pub use ending::{Ending, Ran};

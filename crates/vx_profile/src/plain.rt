@@ -6,10 +6,12 @@ ghost use Rattle.vx_base.specs.Outcome.{IsOver};
 ghost use Rattle.vx_flow.specs.Meaning.{graph_path, graph_run};
 ghost use Rattle.vx_profile.specs.Counts.{CountsOf};
 ghost use Rattle.vx_profile.specs.Machine.{ended, IsOutcome};
+ghost use Rattle.vx_profile.specs.Tally.{TallyOf};
 
 use crate::calls::{Machine, begin, step};
 use crate::counts::Counts;
 use crate::ending::{Ending, Ran};
+use crate::tally::Tally;
 use std::alloc::Global;
 use vx_base::listed::Listed;
 use vx_base::outcome::NoMemory;
@@ -28,7 +30,7 @@ pub struct Counted {
 #[derive(Drop)]
 pub struct Run {
     machine: Machine,
-    counts: Counts,
+    tally: Tally,
     ending: Option<Ending>,
 }
 
@@ -40,7 +42,7 @@ pub fn count(alloc: Global, flow: &Flow, input: &[i32], blocks: u64) -> Result<C
 {
     let run = run_counted(alloc, flow, input, blocks)?;
     let complete = has_ended(run.ending);
-    let counts = run.counts;
+    let counts = run.tally.into_counts()?;
     Ok(Counted { counts, complete })
 }
 
@@ -59,17 +61,17 @@ pub fn run_plain(alloc: Global, flow: &Flow, input: &[i32], blocks: u64) -> Resu
 
 fn run_counted(alloc: Global, flow: &Flow, input: &[i32], blocks: u64) -> Result<Run, NoMemory>
     ensures outcome { IfOk result (λ run. IsOutcome run.ending run.machine.storage.out.items (graph_run flow.now input.now blocks)) }
-    ensures counts { IfOk result (λ run. CountsOf run.counts (graph_path flow.now input.now blocks)) }
+    ensures tally { IfOk result (λ run. TallyOf run.tally (graph_path flow.now input.now blocks)) }
 {
     let mut machine = begin(alloc, flow, input)?;
-    let mut counts = Counts::new(alloc);
+    let mut tally = Tally::new(alloc, flow)?;
     'each: for _ in 0..blocks {
-        let ending = step(alloc, &mut machine, &mut counts, flow)?;
+        let ending = step(alloc, &mut machine, &mut tally, flow)?;
         match ending {
             Some(_) => {
                 return Ok(Run {
                     machine,
-                    counts,
+                    tally,
                     ending,
                 });
             }
@@ -78,7 +80,7 @@ fn run_counted(alloc: Global, flow: &Flow, input: &[i32], blocks: u64) -> Result
     }
     Ok(Run {
         machine,
-        counts,
+        tally,
         ending: None,
     })
 }

@@ -1,7 +1,8 @@
 use Rattle.std.proofs.Common.{◌≡◌, ◌∙◌, ◌∷◌, [], ap, sym, subst}
 use Rattle.vx_flow.specs.Meaning.{AtBlock, after_hop, edge_taken, hop, program_of}
 use Rattle.vx_profile.specs.Storage.{state_of}
-use Rattle.vx_profile.specs.Counts.{taken_by, CountsMore}
+use Rattle.vx_profile.specs.Counts.{taken_by}
+use Rattle.vx_profile.specs.Tally.{TallyMore}
 use Rattle.vx_profile.specs.Machine.{active_of, hop_from, stacked, IsStep}
 use Rattle.vx_profile.proofs.Running.{hop_is, step_after}
 use Rattle.vx_profile.proofs.Counting.{counts_both, taken_is}
@@ -24,5 +25,5 @@ returns-clause-counts c =
     let t = state_of c.run_block.new.storage in
     let h : hop p r ≡ hop_from m.block t c.in_ok-left.left = hop_is c.args.flow.now r ∙ c.in_ok-left.ensures in
     let e : edge_taken r (hop p r) ≡ taken_by m.function m.block (stacked [] m.waiting.items) c.in_ok-left.left = ap (edge_taken r) h ∙ taken_is r t c.in_ok-left.left in
-    let edge = subst (λ ws. CountsMore c.add_block.new.self c.count_edge.new.counts (taken_by m.function m.block (stacked [] ws) c.in_ok-left.left)) c.as_slice.ensures.value c.in_ok-count_edge.ensures in
-    counts_both c.args.counts.now c.add_block.new.self c.count_edge.new.counts (AtBlock m.function m.block ∷ []) (edge_taken r (hop p r)) c.in_ok-add_block.ensures (subst (CountsMore c.add_block.new.self c.count_edge.new.counts) (sym e) edge)
+    let edge = subst (λ ws. TallyMore c.add_block.new.self c.count_edge.new.tally (taken_by m.function m.block (stacked [] ws) c.in_ok-left.left)) c.as_slice.ensures.value c.in_ok-count_edge.ensures in
+    counts_both c.args.tally.now c.add_block.new.self c.count_edge.new.tally (AtBlock m.function m.block ∷ []) (edge_taken r (hop p r)) c.in_ok-add_block.ensures (subst (TallyMore c.add_block.new.self c.count_edge.new.tally) (sym e) edge)

@@ -1,8 +1,14 @@
-use Rattle.std.proofs.Common.{◌≡◌, ◌↔◌, true, sym, subst}
+use Rattle.std.proofs.Common.{◌≡◌, ◌∙◌, ◌↔◌, true, sym, subst}
 use Rattle.vx_base.specs.Outcome.{IsOver}
 use Rattle.vx_flow.specs.Meaning.{graph_run}
 use Rattle.vx_profile.proofs.Counting.{over_is}
 use Rattle.vx_profile.proofs.plain.count.Goals as goal
+
+pub returns-clause-counts : goal.returns-clause-counts
+returns-clause-counts c = record {
+  blocks = λ f b. c.in_ok-counts.ensures.blocks f b ∙ c.in_ok-run.ensures.tally.blocks f b;
+  edges = λ f b d. c.in_ok-counts.ensures.edges f b d ∙ c.in_ok-run.ensures.tally.edges f b d;
+}
 
 pub returns-clause-complete : goal.returns-clause-complete
 returns-clause-complete c =

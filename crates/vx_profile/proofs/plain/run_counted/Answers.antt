@@ -11,7 +11,7 @@ each-init c =
     let a = active_of c.in_ok-machine.machine in
     record {
       outcome = run_begun c.args.flow.now c.args.input.now c.args.blocks (c.args.blocks - 0) a c.in_ok-machine.ensures all;
-      counts = path_begun c.args.flow.now c.args.input.now c.args.blocks (c.args.blocks - 0) a c.new-counts.result c.new-counts.ensures c.in_ok-machine.ensures all;
+      tally = path_begun c.args.flow.now c.args.input.now c.args.blocks (c.args.blocks - 0) a c.in_ok-tally.tally c.in_ok-tally.ensures c.in_ok-machine.ensures all;
     }
 
 pub each-preserved : goal.each-preserved
@@ -26,7 +26,7 @@ each-preserved c =
     let on = step_on c.in_ok-ending.ending (next p r) c.step.new.machine c.in-None.is c.in_ok-ending.ensures.step in
     record {
       outcome = c.each.invariant.outcome ∙ run_on p n k r s count on;
-      counts = counted_on p (graph_path c.args.flow.now c.args.input.now c.args.blocks) c.each.counts c.step.new.counts n k r s c.each.invariant.counts c.in_ok-ending.ensures.counts count on;
+      tally = counted_on p (graph_path c.args.flow.now c.args.input.now c.args.blocks) c.each.tally c.step.new.tally n k r s c.each.invariant.tally c.in_ok-ending.ensures.counts count on;
     }
 
 pub returns-in-Some : goal.returns-in-Some
@@ -42,7 +42,7 @@ returns-in-Some c =
     let over = over_at c.in_ok-ending.ending c.in-Some.field-0 (next p r) m c.in-Some.is c.in_ok-ending.ensures.step in
     record {
       outcome = subst (λ o. IsOutcome c.in_ok-ending.ending m.storage.out.items o) (sym c.each.invariant.outcome) (subst (λ e. IsOutcome e m.storage.out.items (program_run p n r)) (sym c.in-Some.is) ends);
-      counts = counted_over p (graph_path c.args.flow.now c.args.input.now c.args.blocks) c.each.counts c.step.new.counts n k r over.outcome c.each.invariant.counts c.in_ok-ending.ensures.counts count over.is;
+      tally = counted_over p (graph_path c.args.flow.now c.args.input.now c.args.blocks) c.each.tally c.step.new.tally n k r over.outcome c.each.invariant.tally c.in_ok-ending.ensures.counts count over.is;
     }
 
 pub returns : goal.returns
@@ -54,5 +54,5 @@ returns c =
     let none : c.args.blocks - c.each.counter ≡ 0 = omega arith in
     record {
       outcome = c.each.invariant.outcome ∙ run_none p n r none;
-      counts = counted_end p (graph_path c.args.flow.now c.args.input.now c.args.blocks) c.each.counts n r c.each.invariant.counts none;
+      tally = counted_end p (graph_path c.args.flow.now c.args.input.now c.args.blocks) c.each.tally n r c.each.invariant.tally none;
     }

@@ -7,5 +7,5 @@ use Rattle.vx_profile.proofs.plain.run_counted.Given as goal
 abbrev pub invariant-each : goal.invariant-each
 invariant-each l = record {
   outcome : graph_run l.flow l.input l.blocks ≡ program_run (program_of l.flow) (l.blocks - l.counter) (active_of l.machine);
-  counts : Counted (program_of l.flow) (graph_path l.flow l.input l.blocks) l.counts (l.blocks - l.counter) (active_of l.machine);
+  tally : Counted (program_of l.flow) (graph_path l.flow l.input l.blocks) l.tally (l.blocks - l.counter) (active_of l.machine);
 }

@@ -1,6 +1,6 @@
-use Rattle.std.proofs.Common.{◌+◌, ◌∙◌, ap, refl}
-use Rattle.vx_profile.proofs.Counting.{block_added}
+use Rattle.vx_flow.specs.Meaning.{AtBlock}
+use Rattle.vx_profile.proofs.Counting.{once}
 use Rattle.vx_profile.proofs.counts.Counts.add_block.Goals as goal
 
 pub returns : goal.returns
-returns c = block_added c.args.self.now (record { blocks = c.insert.new.self; edges = c.args.self.now.edges }) c.args.function c.args.block c.in_ok-next.next (c.in_ok-next.ensures ∙ ap (λ n. n + 1) c.of_block.ensures) c.in_ok-insert.ensures.updates.0 refl
+returns c = once c.args.self.now c.add_block_times.new.self (AtBlock c.args.function c.args.block) c.in_ok-add_block_times.ensures

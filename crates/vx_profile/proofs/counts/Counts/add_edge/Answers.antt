@@ -1,6 +1,6 @@
-use Rattle.std.proofs.Common.{◌+◌, ◌∙◌, ap, refl}
-use Rattle.vx_profile.proofs.Counting.{edge_added}
+use Rattle.vx_flow.specs.Meaning.{AlongEdge}
+use Rattle.vx_profile.proofs.Counting.{once}
 use Rattle.vx_profile.proofs.counts.Counts.add_edge.Goals as goal
 
 pub returns : goal.returns
-returns c = edge_added c.args.self.now (record { blocks = c.args.self.now.blocks; edges = c.insert.new.self }) c.args.function c.args.from c.args.to c.in_ok-next.next (c.in_ok-next.ensures ∙ ap (λ n. n + 1) c.of_edge.ensures) c.in_ok-insert.ensures.updates.0 refl
+returns c = once c.args.self.now c.add_edge_times.new.self (AlongEdge c.args.function c.args.from c.args.to) c.in_ok-add_edge_times.ensures
