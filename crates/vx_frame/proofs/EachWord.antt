@@ -320,8 +320,9 @@ module _ (T : Target) (flow : Flow) (ls : List VWords) (w : WordProgram) (sound 
     entry_other : Words (entry_words T f)
     entry_other =
         let next : List Word = way T f 0 (T.layout f).entry in
-        append (link_words T f) (reload_words T f (T.brought f) ++ next) link_other
-        (append (reload_words T f (T.brought f)) next (reload_other (T.brought f) brought_need) (way_other 0 (T.layout f).entry (at_entry refl)))
+        let loads : List Word = load_slots T f (T.brought f) (T.brought f) in
+        let begins : List Word = loads ++ link_words T f in
+        append (settled T begins) next (settled_other begins (append loads (link_words T f) (load_slots_other (T.brought f) (T.brought f) brought_need) link_other)) (way_other 0 (T.layout f).entry (at_entry refl))
 
     -- words of a layout
 

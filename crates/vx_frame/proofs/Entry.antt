@@ -1,4 +1,4 @@
--- At the start of a function the link is stored in the frame, and parameters come to their registers.
+-- At the start of a function parameters come to their registers, and the link is stored in the frame.
 use Rattle.std.proofs.Common.{◌≡◌, ◌≢◌, ◌<◌, ◌≤◌, ◌⊎◌, inl, inr, ⊎_elim, ◌+◌, ◌*◌, ◌^◌, ℕ, zero, suc, ℤ, pos, Bool, true, false, Some, List, [], ◌∷◌, ◌++◌, length, length-append, refl, sym, ap, ◌∙◌, subst, arith}
 use Rattle.std.specs.Prelude.{if◌then◌else◌, slice_get}
 use Rattle.std.proofs.lemmas.Bool.{false_from_ne_true}
@@ -24,18 +24,18 @@ use Rattle.vx_mixed.specs.LaidSettled.{bank_in}
 use Rattle.vx_regs.specs.Intervals.{IsLive, is_live}
 use Rattle.vx_regs.specs.declared.map.Kept.{Kept}
 use Rattle.vx_regs.specs.declared.map.Kept.TheVariants.{InRegister}
-use Rattle.vx_frame.specs.Target.{Target, answer, general, stack_on, kept, is_slotted, is_branch, parameters_of, holds_branch, register_of, one, pause, in_flight, settled, is_caller, link_words, reload_words, way, entry_words, memory_words}
+use Rattle.vx_frame.specs.Target.{Target, answer, general, stack_on, kept, is_slotted, is_branch, parameters_of, holds_branch, register_of, one, pause, in_flight, settled, is_caller, load_slots, link_words, way, entry_words, memory_words}
 use Rattle.vx_frame.specs.Tied.{Tied, AtEntry, Arrays, Below, begins_at, Shows, holds, is_place, moved, word_at, link_in}
 use Rattle.vx_frame.specs.Carried.{Carries, IsFunctionOf, is_passed, Arrives}
 use Rattle.vx_frame.specs.Planned.{CarriesOn, FallsThrough, EntryLaw}
 use Rattle.vx_frame.proofs.Calm.{seen, AllFit, Going}
 use Rattle.vx_frame.proofs.FromGraph.{place_made, whole_bank, has_whole, whole_is}
-use Rattle.vx_frame.proofs.Names.{in_register, apart_registers, not_zero, not_general}
+use Rattle.vx_frame.proofs.Names.{in_register, apart_registers, not_zero, not_general, not_scratch}
 use Rattle.vx_frame.proofs.Live.{live_bank}
-use Rattle.vx_frame.proofs.Enough.{some_cluster}
+use Rattle.vx_frame.proofs.Enough.{some_cluster, some_issue}
 use Rattle.vx_frame.proofs.Frames.{get_below, get_in, frame_room, link_free, global_row, below_keep}
 use Rattle.vx_frame.proofs.Steps.{Stands, stands_left, stands_right, Quiet, quiet_on, Comes, stay, comes_on, forth_comes, Set, set_step, Paused, pause_step, way_step, Kept as Kept_word, store_step}
-use Rattle.vx_frame.proofs.Slots.{Usable, Loaded, before_case, as_read, number_in, stack_no_answer, link_unnamed, link_no_general}
+use Rattle.vx_frame.proofs.Slots.{Usable, Loaded, load_list, as_read, number_in, stack_no_answer, link_unnamed, link_no_general}
 use Rattle.vx_frame.proofs.Stands.{entry_stands, entry_next}
 use Rattle.vx_frame.proofs.Word.{own_name}
 
@@ -123,23 +123,53 @@ module _ (T : Target) (flow : Flow) (ls : List VWords) (w : WordProgram) (sound 
   -- the words
 
   abbrev Loads : List Word
-  Loads = reload_words T F Brought
+  Loads = load_slots T F Brought Brought
+
+  abbrev Links : List Word
+  Links = link_words T F
+
+  abbrev Wait : ℕ
+  Wait = in_flight T.machine 0 (Loads ++ Links)
+
+  abbrev Begin : List Word
+  Begin = (Loads ++ Links) ++ pause Wait
 
   abbrev Way : List Word
   Way = way T F 0 Entry
 
-  stands : Stands w.words u.place (entry_words T F)
+  stands : Stands w.words u.place (Begin ++ Way)
   stands = subst (λ q. Stands w.words q (entry_words T F)) (sym at_entry.place) (entry_stands T flow.main (length flow.functions) w.words carries.placed F below)
 
+  begin_stands : Stands w.words u.place Begin
+  begin_stands = stands_left w.words u.place Begin Way stands
+
+  both_stand : Stands w.words u.place (Loads ++ Links)
+  both_stand = stands_left w.words u.place (Loads ++ Links) (pause Wait) begin_stands
+
+  loaded : Loaded T.machine w fit T F Sp carries.memory small some Brought u Brought (length Loads)
+  loaded = load_list T.machine w fit T F Sp carries.memory small some Brought Brought u tied.calm (stands_left w.words u.place Loads Links both_stand) tied.stack usable (λ v i. passed_inside v (arrives v i).passed) apart_brought
+
+  abbrev C : State
+  C = loaded.to
+
+  place_c : C.place ≡ u.place + length Loads
+  place_c = loaded.place
+
+  stack_c : (k : ℕ) → k < T.machine.clusters → register C (General (stack_on k)) ≡ pos (4 * Sp)
+  stack_c k lt = loaded.others (General (stack_on k)) (λ v i q. (usable v i).not_stack k (sym q)) (stack_no_answer k) ∙ tied.stack k lt
+
+  no_scratch : (v : ℕ) → IsIn v Brought → register_of T F Brought v ≢ General (general 0 3)
+  no_scratch v i = let a = arrives v i in not_scratch T F of.mapped Brought v 0 3 (bank v a.live) (not_slotted (kept T F v) a.number a.register) (let s = some_issue T.machine carries.machine in omega arith)
+
   -- the link is in the frame of a function that calls
-  pub record Linked (taken : ℕ) : Type 0 where
+  record Linked (taken : ℕ) : Type 0 where
     pub to : State
-    pub comes : Comes T.machine w fit u to
-    pub place : to.place ≡ u.place + taken
-    pub quiet : Quiet u to
-    pub others : (q : Register) → (q ≢ General (general 0 3)) → seen to.registers q ≡ seen u.registers q
-    pub kept : is_caller T F ≡ true → word_at to.memory Sp ≡ u.registers Link
-    pub elsewhere : (x : ℕ) → (x ≢ Sp) → word_at to.memory x ≡ word_at u.memory x
+    pub comes : Comes T.machine w fit C to
+    pub place : to.place ≡ C.place + taken
+    pub quiet : Quiet C to
+    pub others : (q : Register) → (q ≢ General (general 0 3)) → seen to.registers q ≡ seen C.registers q
+    pub kept : is_caller T F ≡ true → word_at to.memory Sp ≡ C.registers Link
+    pub elsewhere : (x : ℕ) → (x ≢ Sp) → word_at to.memory x ≡ word_at C.memory x
 
   abbrev Keep : Word
   Keep = one (Store 0 (pos 0) (stack_on 0) (Held (general 0 3)))
@@ -147,9 +177,9 @@ module _ (T : Target) (flow : Flow) (ls : List VWords) (w : WordProgram) (sound 
   abbrev Keeps : List Word
   Keeps = settled T (one (FromLink (general 0 3)) ∷ []) ++ Keep ∷ []
 
-  module _ (st : Stands w.words u.place Keeps) where
-    taken : Set T.machine w fit u (General (general 0 3)) (u.registers Link)
-    taken = set_step T.machine w fit u (FromLink (general 0 3)) (General (general 0 3)) (u.registers Link) tied.calm st.0 (record { bad = refl; takes = refl; prints = refl; stores = λ m. refl; leads = λ ops. refl }) refl refl refl
+  module _ (st : Stands w.words C.place Keeps) where
+    taken : Set T.machine w fit C (General (general 0 3)) (C.registers Link)
+    taken = set_step T.machine w fit C (FromLink (general 0 3)) (General (general 0 3)) (C.registers Link) loaded.quiet.calm st.0 (record { bad = refl; takes = refl; prints = refl; stores = λ m. refl; leads = λ ops. refl }) refl refl refl
 
     abbrev A : State
     A = taken.to
@@ -161,19 +191,19 @@ module _ (T : Target) (flow : Flow) (ls : List VWords) (w : WordProgram) (sound 
     Late = pause Pause
 
     paused : Paused T.machine w fit A (A.place + length Late)
-    paused = pause_step T.machine w fit A Pause taken.quiet.calm (subst (λ q. Stands w.words q Late) (sym taken.place) (stands_left w.words (u.place + 1) Late (Keep ∷ []) st.1))
+    paused = pause_step T.machine w fit A Pause taken.quiet.calm (subst (λ q. Stands w.words q Late) (sym taken.place) (stands_left w.words (C.place + 1) Late (Keep ∷ []) st.1))
 
     abbrev B : State
     B = paused.to
 
-    place_b : B.place ≡ (u.place + 1) + length Late
+    place_b : B.place ≡ (C.place + 1) + length Late
     place_b = let x = paused.place in let y = taken.place in omega arith
 
     keep_at : slice_get w.words B.place ≡ Some Keep
-    keep_at = subst (λ q. slice_get w.words q ≡ Some Keep) (sym place_b) (stands_right w.words (u.place + 1) Late (Keep ∷ []) st.1).0
+    keep_at = subst (λ q. slice_get w.words q ≡ Some Keep) (sym place_b) (stands_right w.words (C.place + 1) Late (Keep ∷ []) st.1).0
 
     stack_b : (k : ℕ) → k < T.machine.clusters → register B (General (stack_on k)) ≡ pos (4 * Sp)
-    stack_b k lt = ap (λ g. seen g (General (stack_on k))) paused.registers ∙ taken.others (General (stack_on k)) (scratch_no_stack k) ∙ tied.stack k lt
+    stack_b k lt = ap (λ g. seen g (General (stack_on k))) paused.registers ∙ taken.others (General (stack_on k)) (scratch_no_stack k) ∙ stack_c k lt
 
     first_inside : Sp + 0 < memory_words T
     first_inside = let x = room in let y = carries.some_frame in omega arith
@@ -187,40 +217,43 @@ module _ (T : Target) (flow : Flow) (ls : List VWords) (w : WordProgram) (sound 
     link_kept : Linked (length Keeps)
     link_kept = record {
       to = put_link.to;
-      comes = comes_on T.machine w fit u A put_link.to (forth_comes T.machine w fit u A taken.forth) (comes_on T.machine w fit A B put_link.to paused.comes (forth_comes T.machine w fit B put_link.to put_link.forth));
+      comes = comes_on T.machine w fit C A put_link.to (forth_comes T.machine w fit C A taken.forth) (comes_on T.machine w fit A B put_link.to paused.comes (forth_comes T.machine w fit B put_link.to put_link.forth));
       place = (let x = put_link.place in let y = place_b in let z = length-append Late (Keep ∷ []) in omega arith);
-      quiet = quiet_on u A put_link.to taken.quiet (quiet_on A B put_link.to paused.quiet put_link.quiet);
+      quiet = quiet_on C A put_link.to taken.quiet (quiet_on A B put_link.to paused.quiet put_link.quiet);
       others = λ q ne. ap (λ g. seen g q) put_link.registers ∙ ap (λ g. seen g q) paused.registers ∙ taken.others q ne;
       kept = λ h. put_link.at Sp (sym zero_up) ∙ ap (λ x. seen x (General (general 0 3))) paused.registers ∙ taken.at;
       elsewhere = λ x ne. put_link.elsewhere x (λ q. ne (q ∙ zero_up)) ∙ ap (λ y. word_at y x) (paused.memory ∙ taken.memory);
     }
 
-  link_run : (b : Bool) → is_caller T F ≡ b → Stands w.words u.place (if b then Keeps else []) → Linked (length (if b then Keeps else []))
+  link_run : (b : Bool) → is_caller T F ≡ b → Stands w.words C.place (if b then Keeps else []) → Linked (length (if b then Keeps else []))
   link_run true h st = link_kept st
   link_run false h st = record {
-    to = u;
-    comes = stay T.machine w fit u;
+    to = C;
+    comes = stay T.machine w fit C;
     place = omega arith;
-    quiet = record { calm = tied.calm; input = refl; out = refl };
+    quiet = record { calm = loaded.quiet.calm; input = refl; out = refl };
     others = λ q ne. refl;
     kept = λ e. absurd (let z : true ≡ false = sym e ∙ h in cc);
     elsewhere = λ x ne. refl;
   }
 
-  begun : Linked (length (link_words T F))
-  begun = link_run (is_caller T F) refl (stands_left w.words u.place (link_words T F) (Loads ++ Way) stands)
+  begun : Linked (length Links)
+  begun = link_run (is_caller T F) refl (subst (λ q. Stands w.words q Links) (sym place_c) (stands_right w.words u.place Loads Links both_stand))
 
-  abbrev C : State
-  C = begun.to
+  abbrev D : State
+  D = begun.to
 
-  place_c : C.place ≡ u.place + length (link_words T F)
-  place_c = begun.place
+  place_d : D.place ≡ u.place + length (Loads ++ Links)
+  place_d = let a = begun.place in let b = place_c in let c = length-append Loads Links in omega arith
 
-  stack_c : (k : ℕ) → k < T.machine.clusters → register C (General (stack_on k)) ≡ pos (4 * Sp)
-  stack_c k lt = begun.others (General (stack_on k)) (scratch_no_stack k) ∙ tied.stack k lt
+  waited : Paused T.machine w fit D (D.place + length (pause Wait))
+  waited = pause_step T.machine w fit D Wait begun.quiet.calm (subst (λ q. Stands w.words q (pause Wait)) (sym place_d) (stands_right w.words u.place (Loads ++ Links) (pause Wait) begin_stands))
 
-  tail : Stands w.words C.place (Loads ++ Way)
-  tail = subst (λ q. Stands w.words q (Loads ++ Way)) (sym place_c) (stands_right w.words u.place (link_words T F) (Loads ++ Way) stands)
+  abbrev H : State
+  H = waited.to
+
+  place_h : H.place ≡ u.place + length Begin
+  place_h = let a = waited.place in let b = place_d in let c = length-append (Loads ++ Links) (pause Wait) in omega arith
 
   -- where the words leave the state
   pub record Done : Type 0 where
@@ -229,62 +262,57 @@ module _ (T : Target) (flow : Flow) (ls : List VWords) (w : WordProgram) (sound 
     pub place : to.place ≡ T.starts F Entry
     pub quiet : Quiet u to
     pub stack : (k : ℕ) → k < T.machine.clusters → register to (General (stack_on k)) ≡ pos (4 * Sp)
-    pub brought : (v : ℕ) → IsIn v Brought → seen to.registers (register_of T F Brought v) ≡ as_read (holds_branch T F v) (word_at to.memory (Sp + T.slot F v))
+    pub brought : (v : ℕ) → IsIn v Brought → seen to.registers (register_of T F Brought v) ≡ as_read (holds_branch T F v) (word_at u.memory (Sp + T.slot F v))
     pub link : link_in T to Sp F ≡ u.registers Link
     pub elsewhere : (x : ℕ) → (x ≢ Sp) → word_at to.memory x ≡ word_at u.memory x
 
-  loaded : Loaded T.machine w fit T F Sp carries.memory small some Brought C Brought (length Loads)
-  loaded = before_case T.machine w fit T F Sp carries.memory small some Brought Brought C begun.quiet.calm (stands_left w.words C.place Loads Way tail) stack_c usable (λ v i. passed_inside v (arrives v i).passed) apart_brought
-
-  abbrev D : State
-  D = loaded.to
-
   -- the layout stands behind these words
-  ends_there : D.place + length Way ≡ T.starts F 0
+  ends_there : H.place + length Way ≡ T.starts F 0
   ends_there =
       let a = entry_next T flow.main (length flow.functions) w.words carries.placed F below in
       let b = at_entry.place in
-      let c = place_c in
-      let d = loaded.place in
-      let e = length-append (link_words T F) (Loads ++ Way) in
-      let f = length-append Loads Way in omega arith
+      let c = place_h in
+      let d = length-append Begin Way in omega arith
 
-  jumped : Paused T.machine w fit D (T.starts F Entry)
-  jumped = way_step T.machine w fit T F 0 Entry D loaded.quiet.calm ends_there (subst (λ q. Stands w.words q Way) (sym loaded.place) (stands_right w.words C.place Loads Way tail))
+  jumped : Paused T.machine w fit H (T.starts F Entry)
+  jumped = way_step T.machine w fit T F 0 Entry H waited.quiet.calm ends_there (subst (λ q. Stands w.words q Way) (sym place_h) (stands_right w.words u.place Begin Way stands))
 
   abbrev G : State
   G = jumped.to
 
-  same_memory : G.memory ≡ C.memory
-  same_memory = jumped.memory ∙ loaded.memory
+  same_memory : G.memory ≡ D.memory
+  same_memory = jumped.memory ∙ waited.memory
 
   same_registers : G.registers ≡ D.registers
-  same_registers = jumped.registers
+  same_registers = jumped.registers ∙ waited.registers
 
   comes_all : Comes T.machine w fit u G
-  comes_all = comes_on T.machine w fit u C G begun.comes (comes_on T.machine w fit C D G loaded.comes jumped.comes)
+  comes_all = comes_on T.machine w fit u C G loaded.comes (comes_on T.machine w fit C D G begun.comes (comes_on T.machine w fit D H G waited.comes jumped.comes))
 
   quiet_all : Quiet u G
-  quiet_all = quiet_on u C G begun.quiet (quiet_on C D G loaded.quiet jumped.quiet)
+  quiet_all = quiet_on u C G loaded.quiet (quiet_on C D G begun.quiet (quiet_on D H G waited.quiet jumped.quiet))
 
   stack_all : (k : ℕ) → k < T.machine.clusters → register G (General (stack_on k)) ≡ pos (4 * Sp)
-  stack_all k lt = ap (λ x. seen x (General (stack_on k))) same_registers ∙ loaded.others (General (stack_on k)) (λ v i q. (usable v i).not_stack k (sym q)) (stack_no_answer k) ∙ stack_c k lt
+  stack_all k lt = ap (λ x. seen x (General (stack_on k))) same_registers ∙ begun.others (General (stack_on k)) (scratch_no_stack k) ∙ stack_c k lt
 
-  brought_all : (v : ℕ) → IsIn v Brought → seen G.registers (register_of T F Brought v) ≡ as_read (holds_branch T F v) (word_at G.memory (Sp + T.slot F v))
-  brought_all v i = ap (λ x. seen x (register_of T F Brought v)) same_registers ∙ loaded.at v i ∙ ap (λ x. as_read (holds_branch T F v) (word_at x (Sp + T.slot F v))) (sym same_memory)
+  brought_all : (v : ℕ) → IsIn v Brought → seen G.registers (register_of T F Brought v) ≡ as_read (holds_branch T F v) (word_at u.memory (Sp + T.slot F v))
+  brought_all v i = ap (λ x. seen x (register_of T F Brought v)) same_registers ∙ begun.others (register_of T F Brought v) (no_scratch v i) ∙ loaded.at v i
+
+  link_loaded : seen C.registers Link ≡ seen u.registers Link
+  link_loaded = loaded.others Link (λ v i. link_unnamed T F Brought v) (link_no_general answer)
 
   link_register : seen G.registers Link ≡ seen u.registers Link
-  link_register = ap (λ x. seen x Link) same_registers ∙ loaded.others Link (λ v i. link_unnamed T F Brought v) (link_no_general answer) ∙ begun.others Link (link_no_general (general 0 3))
+  link_register = ap (λ x. seen x Link) same_registers ∙ begun.others Link (link_no_general (general 0 3)) ∙ link_loaded
 
   link_all : link_in T G Sp F ≡ u.registers Link
   link_all = by (is_caller T F) refl
     where
       by : (b : Bool) → is_caller T F ≡ b → (if b then word_at G.memory Sp else G.registers Link) ≡ u.registers Link
-      by true h = ap (λ x. word_at x Sp) same_memory ∙ begun.kept h
+      by true h = ap (λ x. word_at x Sp) same_memory ∙ begun.kept h ∙ link_loaded
       by false h = link_register
 
   elsewhere_all : (x : ℕ) → (x ≢ Sp) → word_at G.memory x ≡ word_at u.memory x
-  elsewhere_all x ne = ap (λ y. word_at y x) same_memory ∙ begun.elsewhere x ne
+  elsewhere_all x ne = ap (λ y. word_at y x) same_memory ∙ begun.elsewhere x ne ∙ ap (λ y. word_at y x) loaded.memory
 
   done : Done
   done = record { to = G; comes = comes_all; place = jumped.place; quiet = quiet_all; stack = stack_all; brought = brought_all; link = link_all; elsewhere = elsewhere_all }
@@ -314,7 +342,7 @@ module _ (T : Target) (flow : Flow) (ls : List VWords) (w : WordProgram) (sound 
       by i m p false h =
           let number = in_register (kept T F v) h in
           let there = of.saved.brings v (record { passed = i; live = live; number = number.0; register = number.1 }) in
-          ap (register done.to) (own_name T F v (v ∷ []) Brought h) ∙ done.brought v there ∙ ap (λ c. as_read c (word_at done.to.memory (Sp + T.slot F v))) p.1 ∙ same_slot v i ∙ m ∙ ap (λ c. moved Sp c n) (sym p.0)
+          ap (register done.to) (own_name T F v (v ∷ []) Brought h) ∙ done.brought v there ∙ ap (λ c. as_read c (word_at u.memory (Sp + T.slot F v))) p.1 ∙ m ∙ ap (λ c. moved Sp c n) (sym p.0)
 
   -- memory: only the first word of the frame has changed
 

@@ -354,8 +354,9 @@ module _ (T : Target) (flow : Flow) (ls : List VWords) (w : WordProgram) (sound 
     entry_good : Words (entry_words T f)
     entry_good =
         let goes : List Word = way T f 0 (T.layout f).entry in
-        good_append M (link_words T f) (reload_words T f (T.brought f) ++ goes) link_good
-        (good_append M (reload_words T f (T.brought f)) goes (reload_good (T.brought f) (kept_named (T.brought f) arrives)) (way_good 0 (T.layout f).entry))
+        let loads : List Word = load_slots T f (T.brought f) (T.brought f) in
+        let begins : List Word = loads ++ link_words T f in
+        good_append M (settled T begins) goes (settled_good begins (good_append M loads (link_words T f) (load_slots_good f (T.brought f) (T.brought f) (kept_named (T.brought f) arrives)) link_good)) (way_good 0 (T.layout f).entry)
       where
         arrives : (v : ℕ) → IsIn v (T.brought f) → (p : ℕ) × Busy p v × Banked v × (is_slotted (kept T f v) ≡ false)
         arrives v i = let a = of.saved.brought v i in ((T.layout f).entry, is_live a.live, live_bank T f mapped graph_sound (T.layout f).entry v a.live, ap is_slotted a.register)

@@ -380,7 +380,7 @@ module _ (T : Target) (flow : Flow) (ls : List VWords) (w : WordProgram) (sound 
 
     function_good : AllGood (function_pieces T f)
     function_good = (
-      entry_fine T heat f M S (carries.functions f k.lt).saved (heat (T.entry f + length (entry_words T f))),
+      entry_fine T heat f M S (carries.functions f k.lt).saved (heat (T.entry f + length (entry_words T f))) l.issue,
       fit_append T start heat (laid_pieces T f 0 (T.layout f).words) (landing_pieces T f 0 (T.layout f).words) (laid_good 0 (T.layout f).words all_stand) (laid_landings 0 (T.layout f).words all_stand),
     )
 

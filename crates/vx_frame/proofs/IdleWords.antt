@@ -194,12 +194,21 @@ module _ (T : Target) where
     return_idles x = then_idles true true false (fetch_words T f 0 x) (answer_words T f x ++ one Return ∷ []) (fetch_idles 0 x)
         (then_idles true true false (answer_words T f x) (one Return ∷ []) (answer_idles x) (last_idles true Return))
 
-    link_idles : Idles true (link_words T f) true
-    link_idles = by (is_caller T f)
+    -- parameters are brought, and the link is stored; without either there is no pause
+    begin_idles : (vs : List ℕ) → Idles true (settled T (load_slots T f vs vs ++ link_words T f)) true
+    begin_idles vs = by (is_caller T f) vs
       where
-        by : (b : Bool) → Idles true (if b then settled T (one (FromLink (general 0 3)) ∷ []) ++ one (Store 0 (pos 0) (stack_on 0) (Held (general 0 3))) ∷ [] else []) true
-        by true = strong true true (settled T (one (FromLink (general 0 3)) ∷ []) ++ one (Store 0 (pos 0) (stack_on 0) (Held (general 0 3))) ∷ []) (two_idles (FromLink (general 0 3)) (Store 0 (pos 0) (stack_on 0) (Held (general 0 3))))
-        by false = λ e. e
+        keeps : List Word
+        keeps = settled T (one (FromLink (general 0 3)) ∷ []) ++ one (Store 0 (pos 0) (stack_on 0) (Held (general 0 3))) ∷ []
+
+        kept_idles : Idles true keeps false
+        kept_idles = two_idles (FromLink (general 0 3)) (Store 0 (pos 0) (stack_on 0) (Held (general 0 3)))
+
+        by : (b : Bool) (us : List ℕ) → Idles true (settled T (load_slots T f us us ++ (if b then keeps else []))) true
+        by true [] = settled_idles true keeps kept_idles
+        by true (v ∷ us) = settled_idles true (load_slots T f (v ∷ us) (v ∷ us) ++ keeps) (then_idles true false false (load_slots T f (v ∷ us) (v ∷ us)) keeps (loads_idles (v ∷ us) v us) (weak false false keeps kept_idles))
+        by false [] = λ e. e
+        by false (v ∷ us) = settled_idles true (load_slots T f (v ∷ us) (v ∷ us) ++ []) (then_idles true false false (load_slots T f (v ∷ us) (v ∷ us)) [] (loads_idles (v ∷ us) v us) (λ e. e))
 
     way_idles : (next q : ℕ) → Idles true (way T f next q) (follows T f next q)
     way_idles next q = by (follows T f next q)
@@ -212,8 +221,7 @@ module _ (T : Target) where
     entry_idles =
         let ahead : Bool = follows T f 0 (T.layout f).entry in
         let next : List Word = way T f 0 (T.layout f).entry in
-        then_idles true true ahead (link_words T f) (reload_words T f (T.brought f) ++ next) link_idles
-        (then_idles true true ahead (reload_words T f (T.brought f)) next (reload_idles (T.brought f)) (way_idles 0 (T.layout f).entry))
+        then_idles true true ahead (settled T (load_slots T f (T.brought f) (T.brought f) ++ link_words T f)) next (begin_idles (T.brought f)) (way_idles 0 (T.layout f).entry)
 
     module _ (some : 0 < T.machine.clusters) where
       move_stack_idles : (z : ℤ) → Idles true (move_stack T z) true

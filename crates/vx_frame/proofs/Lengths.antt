@@ -114,8 +114,8 @@ way_length T s f next q = by (follows T f next q)
 
 pub entry_length : (T : Target) (s : Spots) (g : ℕ) → length (entry_words (at_spots T s) g) ≡ length (entry_words T g)
 entry_length T s g =
-    len_behind (link_words T g) (reload_words (at_spots T s) g (T.brought g) ++ way (at_spots T s) g 0 (T.layout g).entry) (reload_words T g (T.brought g) ++ way T g 0 (T.layout g).entry)
-    (len_both (reload_words (at_spots T s) g (T.brought g)) (way (at_spots T s) g 0 (T.layout g).entry) (reload_words T g (T.brought g)) (way T g 0 (T.layout g).entry) (ap length (reload_same T s g (T.brought g))) (way_length T s g 0 (T.layout g).entry))
+    let begins : List Word → List Word = λ loads. settled T (loads ++ link_words T g) in
+    len_both (begins (load_slots (at_spots T s) g (T.brought g) (T.brought g))) (way (at_spots T s) g 0 (T.layout g).entry) (begins (load_slots T g (T.brought g) (T.brought g))) (way T g 0 (T.layout g).entry) (ap (λ z. length (begins z)) (load_slots_same T s g (T.brought g) (T.brought g))) (way_length T s g 0 (T.layout g).entry)
 
 pub start_length : (T : Target) (s : Spots) (main : ℕ) → length (start_words (at_spots T s) main) ≡ length (start_words T main)
 start_length T s main = len_behind (set_stack T) (one (Call (s.entry main)) ∷ one (Halt (Held answer)) ∷ []) (one (Call (T.entry main)) ∷ one (Halt (Held answer)) ∷ []) refl

@@ -40,7 +40,7 @@ module _ (T : Target) (heat : ℕ → Register → ℕ) (f : ℕ) (names : List 
     pub apart : (x y : ℕ) → IsIn x names → IsIn y names → x ≢ y → Reg x ≢ Reg y
 
   module _ (n : Names) where
-    off : (r : Register) (done : List ℕ) → ((u : ℕ) → IsIn u done → r ≢ Reg u) → list_any (same r) (map Reg done) ≡ false
+    pub off : (r : Register) (done : List ℕ) → ((u : ℕ) → IsIn u done → r ≢ Reg u) → list_any (same r) (map Reg done) ≡ false
     off r [] h = refl
     off r (u ∷ done) h = not_any r (map Reg done) (Reg u) (differ r (Reg u) (h u (inl refl))) (off r done (λ x i. h x (inr i)))
 
@@ -115,15 +115,20 @@ module _ (T : Target) (heat : ℕ → Register → ℕ) (f : ℕ) (names : List 
         by false q rest_fine = word_fine T.machine heat t b b (map Reg done) (load ∷ []) rest e refl (stays 1 b) (λ p r j. absurd j) (load_meets q)
             (subst (λ y. Fine (lift (in_flight T.machine t (one load ∷ [])) b (y ∷ map Reg done)) rest e) (sym (is_general q)) rest_fine)
 
-    pub loads_fine : (t : ℕ) (done vs : List ℕ) (rest : List Word) (e : Register → ℕ) → ((u : ℕ) → IsIn u done → IsIn u names) → ((u : ℕ) → IsIn u vs → IsIn u names) → ((u : ℕ) → IsIn u vs → IsIn u done → ⊥) → NoTwice vs → Fine b rest e → Fine (Lifted t done) (load_slots T f names vs ++ (pause (in_flight T.machine t (load_slots T f names vs)) ++ rest)) e
-    loads_fine t done [] rest e sub in_names no_ once more = wait_fine T.machine heat t t b b (map Reg done) rest e (omega arith) (stays t b) more
-    loads_fine t done (v ∷ vs) rest e sub in_names no_ once more =
+    -- what follows may meet those that were loaded
+    pub loads_then : (t : ℕ) (done vs : List ℕ) (rest : List Word) (e : Register → ℕ) → ((u : ℕ) → IsIn u done → IsIn u names) → ((u : ℕ) → IsIn u vs → IsIn u names) → ((u : ℕ) → IsIn u vs → IsIn u done → ⊥) → NoTwice vs → ((all : List ℕ) → ((u : ℕ) → IsIn u all → IsIn u names) → Fine (Lifted (in_flight T.machine t (load_slots T f names vs)) all) rest e) → Fine (Lifted t done) (load_slots T f names vs ++ rest) e
+    loads_then t done [] rest e sub in_names no_ once more = more done sub
+    loads_then t done (v ∷ vs) rest e sub in_names no_ once more =
         let here : List Word = load_slot T f 0 v (general_of T f names v) (branch_of T f names v) in
         let others : List Word = load_slots T f names vs in
         let k : ℕ = in_flight T.machine t here in
         let q : in_flight T.machine k others ≡ in_flight T.machine t (here ++ others) = sym (flight_append T.machine t here others) in
-        let all : Fine (Lifted k (v ∷ done)) (others ++ (pause (in_flight T.machine k others) ++ rest)) e =
-        loads_fine k (v ∷ done) vs rest e (λ u i. ⊎_elim (λ q. in_names u (inl q)) (sub u) i) (λ u i. in_names u (inr i)) (λ u i j. ⊎_elim (λ q. once.0 (subst (λ z. IsIn z vs) q i)) (no_ u (inr i)) j) once.1 more in
-        subst (λ ws. Fine (Lifted t done) ws e) (sym (append_assoc here others (pause (in_flight T.machine t (here ++ others)) ++ rest)))
-        (one_load t v done (others ++ (pause (in_flight T.machine t (here ++ others)) ++ rest)) e (in_names v (inl refl)) sub (no_ v (inl refl))
-        (subst (λ z. Fine (Lifted k (v ∷ done)) (others ++ (pause z ++ rest)) e) q all))
+        let tail : Fine (Lifted k (v ∷ done)) (others ++ rest) e =
+        loads_then k (v ∷ done) vs rest e (λ u i. ⊎_elim (λ q. in_names u (inl q)) (sub u) i) (λ u i. in_names u (inr i)) (λ u i j. ⊎_elim (λ q. once.0 (subst (λ z. IsIn z vs) q i)) (no_ u (inr i)) j) once.1 (λ all s. subst (λ z. Fine (Lifted z all) rest e) (sym q) (more all s)) in
+        subst (λ ws. Fine (Lifted t done) ws e) (sym (append_assoc here others rest))
+        (one_load t v done (others ++ rest) e (in_names v (inl refl)) sub (no_ v (inl refl)) tail)
+
+    pub loads_fine : (t : ℕ) (done vs : List ℕ) (rest : List Word) (e : Register → ℕ) → ((u : ℕ) → IsIn u done → IsIn u names) → ((u : ℕ) → IsIn u vs → IsIn u names) → ((u : ℕ) → IsIn u vs → IsIn u done → ⊥) → NoTwice vs → Fine b rest e → Fine (Lifted t done) (load_slots T f names vs ++ (pause (in_flight T.machine t (load_slots T f names vs)) ++ rest)) e
+    loads_fine t done vs rest e sub in_names no_ once more =
+        let n : ℕ = in_flight T.machine t (load_slots T f names vs) in
+        loads_then t done vs (pause n ++ rest) e sub in_names no_ once (λ all s. wait_fine T.machine heat n n b b (map Reg all) rest e (omega arith) (stays n b) more)

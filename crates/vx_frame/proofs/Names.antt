@@ -160,6 +160,18 @@ module _ (T : Target) (f : ℕ) (mapped : IsMapped T f) where
       by true q z = true_false (ap is_branch_register z)
       by false q z = let a = general_number names v h q in let c : number_at names v ≡ n = ap number_in z in omega arith
 
+  -- a value in a register is in no scratch register
+  pub not_scratch : (names : List ℕ) (v k n : ℕ) → HasBank v → is_slotted (kept T f v) ≡ false → n < 3 + 2 * T.machine.issue → register_of T f names v ≢ General (general k n)
+  not_scratch names v k n h s lt e = by (holds_branch T f v) refl e
+    where
+      by : (b : Bool) → holds_branch T f v ≡ b → named b (home T f v) (branch_of T f names v) (number_at names v) ≡ General (general k n) → ⊥
+      by true q z = true_false (ap is_branch_register z)
+      by false q z =
+          let j = in_register (kept T f v) s in
+          let is : number_at names v ≡ j.0 = ap (λ x. number_by x (3 + scratch T f names v)) j.1 in
+          let a = general_from v j.0 h q j.1 in
+          let c : number_at names v ≡ n = ap number_in z in omega arith
+
   -- a value in a register is not in the first branch register
   pub not_first_branch : (names : List ℕ) (v : ℕ) → HasBank v → is_slotted (kept T f v) ≡ false → 1 ≤ T.machine.issue → register_of T f names v ≢ Branch (record { cluster = 0; number = 0 })
   not_first_branch names v h s some e = by (holds_branch T f v) refl e

@@ -359,8 +359,9 @@ module _ (T : Target) (flow : Flow) (ls : List VWords) (w : WordProgram) (sound 
     entry_right : Words (entry_words T f)
     entry_right =
         let goes : List Word = way T f 0 (T.layout f).entry in
-        right_append W N (link_words T f) (reload_words T f (T.brought f) ++ goes) (link_right f)
-        (right_append W N (reload_words T f (T.brought f)) goes (reload_right f (T.brought f)) (way_right 0 (T.layout f).entry mapped.settled.entry))
+        let loads : List Word = load_slots T f (T.brought f) (T.brought f) in
+        let begins : List Word = loads ++ link_words T f in
+        right_append W N (settled T begins) goes (settled_right begins (right_append W N loads (link_words T f) (load_slots_right f (T.brought f) (T.brought f)) (link_right f))) (way_right 0 (T.layout f).entry mapped.settled.entry)
 
     module _ (p rg wd : ℕ) (items : List Laid) (plan : HasWordAt p (Planned rg wd items)) where
       plans : Plans (T.layout f) p items

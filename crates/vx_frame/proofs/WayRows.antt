@@ -88,7 +88,7 @@ call_lasts = refl
 leaf_entry_lasts : lasts (entry_words leaf 0) ≡ 3
 leaf_entry_lasts = refl
 
-caller_entry_lasts : lasts (entry_words caller 0) ≡ 5
+caller_entry_lasts : lasts (entry_words caller 0) ≡ 3
 caller_entry_lasts = refl
 
 leaf_return_lasts : lasts (return_words leaf 0 (Number (pos 0))) ≡ 2
@@ -104,5 +104,5 @@ back_lasts = refl
 leaf_called : lasts (call_words caller 0 0 0 (Number (pos 7) ∷ []) ++ (entry_words leaf 0 ++ (return_words leaf 0 (Number (pos 0)) ++ back_words caller 0 0 (Some 2)))) ≡ 18
 leaf_called = refl
 
-caller_called : lasts (call_words caller 0 0 0 (Number (pos 7) ∷ []) ++ (entry_words caller 0 ++ (return_words caller 0 (Number (pos 0)) ++ back_words caller 0 0 (Some 2)))) ≡ 23
+caller_called : lasts (call_words caller 0 0 0 (Number (pos 7) ∷ []) ++ (entry_words caller 0 ++ (return_words caller 0 (Number (pos 0)) ++ back_words caller 0 0 (Some 2)))) ≡ 21
 caller_called = refl

@@ -420,9 +420,10 @@ link_words T f =
     then settled T (one (FromLink (general 0 3)) ∷ []) ++ one (Store 0 (pos 0) (stack_on 0) (Held (general 0 3))) ∷ []
     else []
 
--- at the entry the link is stored, and parameters are brought to their registers; the first word of the layout follows
+-- at the entry parameters are brought to their registers, and the link is stored while they are in flight; the first word of the
+-- layout follows
 abbrev pub entry_words : Target → ℕ → List Word
-entry_words T g = link_words T g ++ (reload_words T g (T.brought g) ++ way T g 0 (T.layout g).entry)
+entry_words T g = settled T (load_slots T g (T.brought g) (T.brought g) ++ link_words T g) ++ way T g 0 (T.layout g).entry
 
 -- the word at a place goes to another one by a word of its own
 abbrev pub turns_word : Target → (function place : ℕ) → VirtualWord → Bool

@@ -6,7 +6,7 @@ ghost use Rattle.vx_base.specs.declared.arithmetic.Compare.TheVariants.{Ltu};
 ghost use Rattle.vx_isa.specs.declared.operation.Operation.TheVariants.{BranchOn, Compute, Load, Move, ToLink};
 ghost use Rattle.vx_isa.specs.declared.operation.Register.TheVariants.{Branch as InBranch, General as InGeneral};
 ghost use Rattle.vx_isa.specs.declared.operation.Source.TheVariants.{Held, Number};
-ghost use Rattle.vx_frame.specs.Target.{bytes, general, one, together, settled, stack_on, on_clusters, parameters_of, first_frame, fetch_words, fetched, cluster_of_operand, argument_words, result_words, save_words, reload_words, move_stack, call_words, back_words, answer_words, return_words, follows, way, link_words, entry_words, set_stack, start_words};
+ghost use Rattle.vx_frame.specs.Target.{bytes, general, one, together, settled, stack_on, on_clusters, parameters_of, first_frame, fetch_words, fetched, cluster_of_operand, argument_words, result_words, save_words, reload_words, move_stack, call_words, back_words, answer_words, return_words, follows, way, link_words, entry_words, set_stack, start_words, load_slots};
 ghost use Rattle.vx_frame.specs.Seen.{seen};
 
 use crate::carrying::{bytes, stack_on};
@@ -446,7 +446,24 @@ fn keep_link(
     push_one(alloc, store, words)
 }
 
-/// The words at the entry of a function: the link is stored in its frame where it calls, and parameters come to their registers.
+/// Brings parameters to their registers at the entry of a function, and stores the link in its frame meanwhile where it calls.
+fn begin_function(
+    alloc: Global,
+    whole: &Whole,
+    function: u32,
+    values: &[Value],
+    words: &mut Listed<Word>,
+) -> Result<(), NoMemory>
+    ensures { IfOk result (λ _. words.new ≡ words.old ++ settled (seen whole.now) (load_slots (seen whole.now) function values.now values.now ++ link_words (seen whole.now) function)) }
+{
+    let begin = words.len();
+    load_slots(alloc, whole, function, values, values, words)?;
+    keep_link(alloc, whole, function, words)?;
+    push_wait(alloc, whole, begin, words)
+}
+
+/// The words at the entry of a function: parameters come to their registers, and meanwhile the link is stored in its frame where it
+/// calls.
 pub(crate) fn push_entry(
     alloc: Global,
     whole: &Whole,
@@ -455,8 +472,7 @@ pub(crate) fn push_entry(
 ) -> Result<(), NoMemory>
     ensures { IfOk result (λ _. words.new ≡ words.old ++ entry_words (seen whole.now) function) }
 {
-    keep_link(alloc, whole, function, words)?;
-    reload(alloc, whole, function, brought(whole, function), words)?;
+    begin_function(alloc, whole, function, brought(whole, function), words)?;
     push_way(
         alloc,
         whole,

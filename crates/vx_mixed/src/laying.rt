@@ -290,11 +290,19 @@ fn laid_item(item: &Item, place: u32) -> Laid
     }
 }
 
+/// No items, with room for so many: a layout has many words of one or two.
+fn with_room(alloc: Global, count: usize) -> Result<Listed<Laid>, NoMemory>
+    ensures { IfOk result (λ items. items ≡ []) }
+{
+    let items = Vec::with_capacity(alloc, count)?;
+    Ok(Listed::from_vec(items)?)
+}
+
 /// A word of which the ways out stand one after the other from a place on.
 fn laid_word(alloc: Global, first: u32, word: &[Item]) -> Result<Listed<Laid>, NoMemory>
     ensures { IfOk result (λ items. items ≡ laid first word.now) }
 {
-    let mut items = Listed::new(alloc);
+    let mut items = with_room(alloc, word.len())?;
     let mut place = first;
     for item in word {
         items.push(laid_item(item, place))?;
