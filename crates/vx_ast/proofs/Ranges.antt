@@ -1,5 +1,5 @@
 -- The numbers of an accepted program stay numbers of 32 bits, from a store in range to every part's end.
-use Rattle.std.proofs.Common.{◌≡◌, ◌<◌, ◌≤◌, ◌-◌, nat_eq, ◌^◌, ◌⊎◌, ℕ, zero, suc, ℤ, pos, negsuc, Bool, true, false, ◌&&◌, nat_lt, List, [], ◌∷◌, length, map, replicate, slice_index_or, slice_get, Option, Some, None, sym, subst, arith, lit<, inl, inr, ltb-true}
+use Rattle.std.proofs.Common.{◌≡◌, ◌<◌, ◌≤◌, ◌-◌, nat_eq, ◌^◌, ◌⊎◌, ℕ, zero, suc, ℤ, pos, negsuc, Bool, true, false, ◌&&◌, nat_lt, List, [], ◌∷◌, length, map, replicate, slice_index_or, slice_get, Option, Some, None, refl, sym, subst, arith, lit<, inl, inr, ltb-true}
 use Rattle.std.specs.Prelude.{if◌then◌else◌, slice_set}
 use Rattle.std.specs.List.{All, list_all}
 use Rattle.std.proofs.lemmas.Bool.{cases_lt}
@@ -24,7 +24,10 @@ use Rattle.vx_ast.specs.declared.tree.GlobalVariable.{GlobalVariable}
 use Rattle.vx_ast.specs.declared.tree.GlobalVariable.TheVariants.{Scalar as ScalarGlobal, Array as ArrayGlobal}
 use Rattle.vx_ast.specs.Accepted.{in_force_at_start, at_most, are_all_from, scalars_of, arrays_of, is_format, numbers_of, suits_global, is_suited, is_none, limit_of, is_main, is_accepted, Scope, is_word, row_length, can_call, gives_int, names_array, suits, suits_place, suits_whole, suits_action, suits_test, suits_code, scope_after, suits_function}
 use Rattle.vx_ast.specs.Range.{InRange, PartInRange, ValueInRange, LeavesInRange, ResultInRange, SourceStaysInRange}
-use Rattle.vx_ast.proofs.Texts.{both_hold}
+
+both_hold : (a b : Bool) → (a && b) ≡ true → (a ≡ true) × (b ≡ true)
+both_hold true b h = (refl, h)
+both_hold false b h = cc
 
 zero_fits : IsNumber (pos 0)
 zero_fits = record { sfits = lit< tt }

@@ -1,9 +1,6 @@
 pub mod Tree
 pub mod View
 pub mod Meaning
-pub mod Small
-pub mod SmallReader
-pub mod SmallMeaning
 pub mod Tokens
 pub mod Phrases
 pub mod Syntax
@@ -12,8 +9,6 @@ pub mod SyntaxView
 pub mod Accepted
 pub mod SourceLaws
 pub mod Range
-pub mod Kept
-pub mod Interpreting
 pub mod Scopes
 pub mod Faults
 pub mod Resolved

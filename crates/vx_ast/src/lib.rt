@@ -2,12 +2,8 @@
 #![tactic(auto)]
 
 pub mod fault;
-pub mod interpreter;
 pub mod names;
-pub mod small;
-pub mod small_tokens;
 pub mod source_laws;
-mod store;
 pub mod syntax;
 pub mod token;
 pub mod token_laws;

@@ -1,6 +1,7 @@
-// The graphs of a source as they are lowered, as they are cleaned, and as they are narrowed and cleaned once more: how many blocks
-// and operations stand in them, and how many a run with an empty input passes and does within 100,000,000 blocks. Behind the line
-// with the number of functions there is a line for each state, with these four numbers.
+// The graphs of a source as they are lowered, as they are cleaned, as they are narrowed and cleaned once more, and as they are with
+// operations put before loops, narrowed and cleaned again: how many blocks and operations stand in them, and how many a run with an
+// empty input passes and does within 100,000,000 blocks. Behind the line with the number of functions there is a line for each
+// state, with these four numbers.
 
 use crate::ending::Ended;
 use crate::operations::{Work, counted};
@@ -11,6 +12,7 @@ use vx_base::outcome::NoMemory;
 use vx_clean::clean;
 use vx_facts::narrow;
 use vx_flow::graph::Flow;
+use vx_hoist::hoist;
 use vx_lower::lower;
 
 /// The graphs of a program in one state.
@@ -32,6 +34,7 @@ struct States {
     lowered: State,
     cleaned: State,
     narrowed: State,
+    hoisted: State,
 }
 
 pub(crate) fn measure(rt: &HostRuntime, name: &str) -> Ended {
@@ -52,7 +55,7 @@ fn told(rt: &HostRuntime, answer: Result<States, NoMemory>) -> Ended {
 fn put(rt: &HostRuntime, states: States) -> Ended {
     if !are_put(rt, states) {
         Ended::NotWritten
-    } else if states.narrowed.work.complete {
+    } else if states.hoisted.work.complete {
         Ended::Done
     } else {
         Ended::WentOn
@@ -65,6 +68,7 @@ fn are_put(rt: &HostRuntime, states: States) -> bool {
         && is_put(rt, "lowered", states.lowered)
         && is_put(rt, "cleaned", states.cleaned)
         && is_put(rt, "narrowed", states.narrowed)
+        && is_put(rt, "hoisted", states.hoisted)
 }
 
 /// Puts the line of a state. False where it is not written.
@@ -84,10 +88,13 @@ fn states_of(alloc: Global, program: &Typed) -> Result<States, NoMemory> {
     let cleaned = state_of(alloc, &flow)?;
     let flow = clean(alloc, narrow(alloc, flow)?)?;
     let narrowed = state_of(alloc, &flow)?;
+    let flow = clean(alloc, narrow(alloc, hoist(alloc, flow)?)?)?;
+    let hoisted = state_of(alloc, &flow)?;
     Ok(States {
         lowered,
         cleaned,
         narrowed,
+        hoisted,
     })
 }
 

@@ -1,13 +1,10 @@
-// What of the trees of sources no command of the compiler shows: the interpreter, the count of nodes, and the reader of the small
-// form.
+// What of the trees of sources no command of the compiler shows: the interpreter and the count of nodes.
 
 use crate::sources::program_of;
 use std::alloc::Global;
 use std::test::Fail;
-use vx_ast::interpreter::{End, interpret};
-use vx_ast::small::{SmallMain, Sum, Term, read_small};
-use vx_ast::tree::BinaryOperator;
 use vx_base::outcome::{NoMemory, Trap};
+use vx_plain::interpreter::{End, interpret};
 use vx_types::nodes;
 
 /// A source, its input, how many turns a loop may take, how it ends and what it prints.
@@ -83,41 +80,5 @@ fn nodes_of(alloc: Global, source: &str) -> Result<Option<u32>, NoMemory> {
 fn nodes_of_a_function(rt: HostRuntime) -> Result<(), Fail> {
     let found = nodes_of(rt.alloc(), "int main(void) { ; ((1)); return 0; }")?;
     assert_eq!(rt; found, Some(6));
-    Ok(())
-}
-
-fn is_sum(sum: &Sum, first: u32, others: &[Term]) -> bool {
-    sum.first == first && sum.others.as_slice() == others
-}
-
-/// Whether it prints 2 + 3 and returns 0.
-fn is_five(main: &SmallMain) -> bool {
-    let plus_3 = Term {
-        sign: BinaryOperator::Add,
-        number: 3,
-    };
-    match main.items.as_slice() {
-        [item] => is_sum(item, 2, &[plus_3]) && is_sum(&main.last, 0, &[]),
-        _ => false,
-    }
-}
-
-fn reads_five(alloc: Global, source: &[u8]) -> Result<bool, NoMemory> {
-    match read_small(alloc, source)? {
-        Some(main) => Ok(is_five(&main)),
-        None => Ok(false),
-    }
-}
-
-#[test]
-fn a_small_main(rt: HostRuntime) -> Result<(), Fail> {
-    let source = b"int main(void) { printf(\"%d\\n\", 2 + 3); return 0; }";
-    assert!(rt; reads_five(rt.alloc(), source)?);
-    assert!(rt;
-        !reads_five(
-            rt.alloc(),
-            b"int main(void) { printf(\"%d\\n\", 2++3); return 0; }"
-        )?
-    );
     Ok(())
 }

@@ -1,0 +1,6 @@
+// A plain interpreter of programs, for tests and teaching: recursive over the tree, with a store of lists. It comes to what the
+// meaning of the source says; the compiler does not use it.
+#![tactic(auto)]
+
+pub mod interpreter;
+mod store;
