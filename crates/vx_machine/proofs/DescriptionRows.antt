@@ -4,7 +4,7 @@ use Rattle.toml.specs.Parse.{parse_document}
 use Rattle.toml.proofs.OnLiterals.{toml_on_literals}
 use Rattle.vx_isa.specs.Numbers.{vex}
 use Rattle.vx_machine.specs.declared.description.MachineFault.TheVariants.{Bad}
-use Rattle.vx_machine.specs.Descriptions.{names, of_table, reading}
+use Rattle.vx_machine.specs.Descriptions.{names, of_table}
 
 abbrev rest : List ℕ
 rest = codes "alus = 4\nmultipliers = 2\nmemory_units = 1\nregisters = 64\nbranch_registers = 8\nread_ports = 8\nwrite_ports = 4\ncopy_paths = 2\nlatency_alu = 1\nlatency_compare = 2\nlatency_multiply = 2\nlatency_load = 3\nlatency_divide = 8\nlatency_copy = 1\n"
@@ -51,5 +51,7 @@ past_64_bits : of_table (parse_document (codes "clusters = 9223372036854775808\n
 unfolding toml_on_literals names
 past_64_bits = refl
 
-mark : reading (239 ∷ 187 ∷ 191 ∷ []) ≡ Err (Bad 1 0)
+-- a byte order mark says nothing
+mark : of_table (parse_document (239 ∷ 187 ∷ 191 ∷ codes "clusters = 5\n")) ≡ Err (Bad 3 1)
+unfolding toml_on_literals names
 mark = refl

@@ -1,5 +1,5 @@
 -- Operations that need no more than items with room fit.
-use Rattle.std.proofs.Common.{◌≡◌, ℕ, ◌+◌, ◌≤◌, All, Bool, ◌&&◌, ◌==◌, true, false, if◌then◌else◌, cond, List, [], ◌∷◌, ◌++◌, ap, sym, ◌∙◌, refl, count_by, arith}
+use Rattle.std.proofs.Common.{◌≡◌, ℕ, ◌≤◌, All, Bool, ◌&&◌, ◌==◌, true, false, if◌then◌else◌, cond, List, [], ◌∷◌, ◌++◌, ap, sym, ◌∙◌, refl, count_by, arith}
 use Rattle.std.specs.List.{flat_map}
 use Rattle.vx_base.specs.declared.arithmetic.Code.{Code}
 use Rattle.vx_base.specs.declared.arithmetic.Code.TheVariants.{Add, Sub, And, Or, Xor, Shl, Shr, Shru, Sh2add, Max, Min, Mov, ToGeneral, ToBranch, Mpylu, Mpyhs, Div, Rem}
@@ -10,14 +10,14 @@ use Rattle.vx_isa.specs.declared.operation.UnitKind.{UnitKind}
 use Rattle.vx_isa.specs.declared.operation.UnitKind.TheVariants.{Alu, Multiply, Memory, Copies, Control}
 use Rattle.vx_isa.specs.declared.operation.Operation.{Operation}
 use Rattle.vx_isa.specs.Numbers.{Numbers}
-use Rattle.vx_isa.specs.Operations.{cluster_of, reads_of, list_of, destination_of, unit_of, unit_of_code, same_unit, is_control, is_observable}
-use Rattle.vx_isa.specs.Fits.{operands, destinations, count_on, is_of, has, takes_read_port, takes_write_port, reads_on, writes_on, IsInFile, FitsMachine}
+use Rattle.vx_isa.specs.Operations.{cluster_of, reads_of, list_of, destination_of, unit_of_code, same_unit, is_control, is_observable}
+use Rattle.vx_isa.specs.Fits.{operands, destinations, count_on, is_of, takes_read_port, takes_write_port, reads_on, writes_on, IsInFile, FitsMachine}
 use Rattle.vx_isa.proofs.Lists.{count_by-cons, count_by-append}
 use Rattle.vx_machine.specs.declared.items.Item.{Item}
 use Rattle.vx_machine.specs.declared.items.Item.TheVariants.{Plain, Split}
 use Rattle.vx_machine.specs.declared.items.ClusteredItem.{ClusteredItem}
 use Rattle.vx_machine.specs.Items.{unit_of_op, unit_of_item, is_split, is_observable_item, writes_general}
-use Rattle.vx_machine.specs.Room.{read_clusters, is_at, count_at, count_in, needs, reads_at, writes_at, has_room, HasRoom}
+use Rattle.vx_machine.specs.Room.{read_clusters, is_at, count_at, needs, reads_at, writes_at, HasRoom}
 use Rattle.vx_machine.specs.Needs.{Needs, NeedsEach, FitsByRoom}
 use Rattle.vx_machine.proofs.RoomLaw.{room_in_words}
 

@@ -1,5 +1,5 @@
 -- The test for room and the words for it, and that more items never make room.
-use Rattle.std.proofs.Common.{◌≡◌, ℕ, ◌<◌, ◌≤◌, ◌⊎◌, Bool, ◌&&◌, ◌||◌, ◌==◌, not, true, false, nat_lt, nat_le, List, [], ◌∷◌, ◌++◌, Option, Some, None, sym, ◌∙◌, refl, inl, inr, count_by, arith}
+use Rattle.std.proofs.Common.{◌≡◌, ℕ, ◌<◌, ◌≤◌, ◌⊎◌, Bool, ◌&&◌, ◌||◌, ◌==◌, not, true, false, nat_lt, nat_le, List, [], ◌∷◌, Option, Some, None, sym, ◌∙◌, refl, inl, inr, count_by, arith}
 use Rattle.std.proofs.lemmas.Bool.{and_parts, leb-true, le-leb, lt-ltb}
 use Rattle.std.proofs.lemmas.Bool.Decides.{nat_tests}
 use Rattle.std.specs.Cmp.Derive.{both_true}
@@ -14,7 +14,7 @@ use Rattle.vx_isa.proofs.FitsLaw.{Six, six_parts, six_together, all_below-at, al
 use Rattle.vx_machine.specs.declared.items.Item.{Item}
 use Rattle.vx_machine.specs.declared.items.ClusteredItem.{ClusteredItem}
 use Rattle.vx_machine.specs.Items.{is_split, is_observable_item, writes_general}
-use Rattle.vx_machine.specs.Room.{read_clusters, is_at, count_at, count_in, needs, reads_at, writes_at, has_room_at, stands_well, is_cluster, stand_well, has_room, HasRoom, RoomInWords, RoomShrinks}
+use Rattle.vx_machine.specs.Room.{read_clusters, is_at, count_at, count_in, needs, reads_at, writes_at, has_room_at, stands_well, is_cluster, stand_well, HasRoom, RoomInWords, RoomShrinks}
 
 pub sources_pass : (m : Numbers) (homes : Homes) (xs : List ClusteredItem)
     → list_all (is_cluster m) (flat_map (read_clusters homes) xs) ≡ list_all (λ x. list_all (is_cluster m) (read_clusters homes x)) xs

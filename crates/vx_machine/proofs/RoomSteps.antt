@@ -1,17 +1,17 @@
 -- Steps of the test for room: what an item takes of a cluster, and what is left of it.
-use Rattle.std.proofs.Common.{◌≡◌, ℕ, suc, ◌+◌, ◌-◌, Bool, ◌&&◌, ◌||◌, ◌==◌, true, false, nat_le, if◌then◌else◌, List, [], ◌∷◌, ◌++◌, map, Option, sym, ◌∙◌, ap, refl, count_by, arith}
+use Rattle.std.proofs.Common.{◌≡◌, ℕ, suc, ◌+◌, ◌-◌, Bool, ◌&&◌, ◌||◌, ◌==◌, true, false, nat_le, if◌then◌else◌, List, [], ◌∷◌, map, Option, sym, ◌∙◌, refl, count_by, arith}
 use Rattle.std.proofs.lemmas.Bool.{false≢true}
 use Rattle.std.proofs.lemmas.Bool.Decides.{nat_tests}
 use Rattle.std.proofs.Math.Dec.{leb-zero}
 use Rattle.std.specs.List.{list_all, flat_map, filter}
 use Rattle.vx_isa.proofs.Lists.{count_by-append, count_by-cons}
-use Rattle.vx_isa.proofs.FitsLaw.{Six, six_parts, six_together}
+use Rattle.vx_isa.proofs.FitsLaw.{six_parts, six_together}
 use Rattle.vx_flow.specs.declared.trace.Homes.{Homes}
 use Rattle.vx_isa.specs.Numbers.{Numbers}
 use Rattle.vx_machine.specs.declared.items.ClusteredItem.{ClusteredItem}
 use Rattle.vx_machine.specs.declared.left.Left.{Left}
 use Rattle.vx_machine.specs.Items.{takes_port, general_reads}
-use Rattle.vx_machine.specs.Room.{is_at, is_cluster, source_of, read_clusters, reads_at, has_room_at}
+use Rattle.vx_machine.specs.Room.{is_at, source_of, read_clusters, reads_at, has_room_at}
 use Rattle.vx_machine.specs.Left.{limits, total, need_of, covers, less, fits_left}
 
 count_yes : {X : Type 0} (q : X → Bool) (y : X) (ys : List X) → q y ≡ true → count_by q (y ∷ ys) ≡ suc (count_by q ys)

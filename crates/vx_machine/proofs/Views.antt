@@ -9,7 +9,7 @@ use Rattle.toml.specs.Data.{Members}
 use Rattle.toml.specs.Parse.{parse_document}
 use Rattle.toml.proofs.Views.{Entry}
 use Rattle.toml.specs.View.{members_view}
-use Rattle.vx_machine.specs.Descriptions.{names, name_of, has_unknown, has_mark, table_of}
+use Rattle.vx_machine.specs.Descriptions.{names, name_of, has_unknown, table_of}
 
 pub has_unknown_view : (es : List Entry) → has_unknown (members_view es) ≡ list_any (λ key. not (list_any (bytes_eq (string_bytes key)) names)) (keys_of es)
 has_unknown_view [] = refl
@@ -29,12 +29,12 @@ is_name_end key i h = ap (list_any (bytes_eq key)) (drop_all i names (omega (ari
 
 -- the table of a description
 
-pub table_read : (bytes : List ℕ) (t : Members) → has_mark bytes ≡ false → IsUtf8 bytes × (parse_document bytes ≡ Some t) → table_of bytes ≡ Some t
-table_read bytes t unmarked h = rw (unmarked, is_utf8-from_IsUtf8 bytes h.0) h.1
+pub table_read : (bytes : List ℕ) (t : Members) → IsUtf8 bytes × (parse_document bytes ≡ Some t) → table_of bytes ≡ Some t
+table_read bytes t h = rw (is_utf8-from_IsUtf8 bytes h.0) h.1
 
 refused_at : (bytes : List ℕ) (b : Bool) → is_utf8 bytes ≡ b → (IsUtf8 bytes → parse_document bytes ≡ None) → (if not b then None else parse_document bytes) ≡ None
 refused_at bytes true e h = h (IsUtf8-from_is_utf8 bytes e)
 refused_at bytes false e h = refl
 
-pub table_refused : (bytes : List ℕ) → has_mark bytes ≡ false → (IsUtf8 bytes → parse_document bytes ≡ None) → table_of bytes ≡ None
-table_refused bytes unmarked h = rw unmarked (refused_at bytes (is_utf8 bytes) refl h)
+pub table_refused : (bytes : List ℕ) → (IsUtf8 bytes → parse_document bytes ≡ None) → table_of bytes ≡ None
+table_refused bytes h = refused_at bytes (is_utf8 bytes) refl h

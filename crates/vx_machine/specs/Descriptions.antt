@@ -1,5 +1,5 @@
 -- How a description of a machine is read: a TOML table with every field as an integer at its top level.
-use Rattle.std.specs.Prelude.{◌≡◌, ◌↔◌, Contains, ℕ, zero, suc, ◌+◌, ◌*◌, ℤ, pos, Bool, false, ◌&&◌, ◌||◌, not, ◌==◌, if◌then◌else◌, List, [], ◌∷◌, Option, Some, None, Result, Ok, Err, codes, option_and_then, slice_index, slice_index_or}
+use Rattle.std.specs.Prelude.{◌≡◌, ◌↔◌, Contains, ℕ, zero, suc, ◌+◌, ◌*◌, ℤ, pos, Bool, false, ◌||◌, not, ◌==◌, if◌then◌else◌, List, [], ◌∷◌, Option, Some, None, Result, Ok, Err, codes, option_and_then, slice_index_or}
 use Rattle.std.specs.List.{list_any}
 use Rattle.std.specs.Str.{bytes_eq, is_utf8}
 use Rattle.toml.specs.Data.{Data, integer, as_integer, Members, no_members, member, get_member}
@@ -48,13 +48,10 @@ fields issue =
 abbrev pub is_field : ℕ → Bool
 is_field n = list_any (λ f. f.number == n) (fields 4)
 
--- the table that a description is: TOML in UTF-8 without a byte order mark
-
-abbrev pub has_mark : List ℕ → Bool
-has_mark bytes = (slice_index bytes 0 == 239) && (slice_index bytes 1 == 187) && (slice_index bytes 2 == 191)
+-- the table that a description is: TOML in UTF-8, which may begin with a byte order mark
 
 abbrev pub table_of : List ℕ → Option Members
-table_of bytes = if has_mark bytes || not (is_utf8 bytes) then None else parse_document bytes
+table_of bytes = if not (is_utf8 bytes) then None else parse_document bytes
 
 -- the number at a field, where a whole number of at least 0 stands there, else 0
 

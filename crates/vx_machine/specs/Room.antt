@@ -10,7 +10,7 @@ use Rattle.vx_isa.specs.Numbers.{Numbers, is_machine, IsMachine}
 use Rattle.vx_isa.specs.Operations.{same_unit}
 use Rattle.vx_isa.specs.Fits.{all_below, has}
 use Rattle.vx_machine.specs.declared.items.Item.{Item}
-use Rattle.vx_machine.specs.declared.items.Item.TheVariants.{Plain, Split}
+use Rattle.vx_machine.specs.declared.items.Item.TheVariants.{Plain}
 use Rattle.vx_machine.specs.declared.items.ClusteredItem.{ClusteredItem}
 use Rattle.vx_machine.specs.Items.{unit_of_item, is_observable_item, is_split, general_reads, takes_port, writes_general}
 

@@ -6,7 +6,7 @@ ghost use Rattle.std.specs.List.{list_any};
 ghost use Rattle.std.specs.Str.{bytes_eq};
 ghost use Rattle.std.specs.Map.{keys_of};
 ghost use Rattle.toml.specs.View.{view, table_view};
-ghost use Rattle.vx_machine.specs.Descriptions.{names, name_of, field, is_field, fields, has_mark, table_of, number_at, has_unknown, whole, is_within, fault_of, first_fault, machine_fault, numbers_of, reading, ReadsInWords};
+ghost use Rattle.vx_machine.specs.Descriptions.{names, name_of, field, is_field, fields, table_of, number_at, has_unknown, whole, is_within, fault_of, first_fault, machine_fault, numbers_of, reading, ReadsInWords};
 ghost use Rattle.toml.specs.Data.{get_member};
 ghost use Rattle.toml.specs.Errors.{IsMemory};
 
@@ -28,9 +28,9 @@ pub enum MachineFault {
 }
 
 /// The machine that a description gives: a TOML table with every field as an integer of its range, and no other
-/// key, at its top level. `Bad` comes with code 1 where the bytes are no TOML in UTF-8 or begin with a byte order
-/// mark, else with code 4 where a key is no field, else for the first field that is missing (2) or out of its
-/// range (3). A range that names `issue` is tested with the description's own. `NoMemory` may come at any call.
+/// key, at its top level. A byte order mark in front says nothing. `Bad` comes with code 1 where the bytes are no
+/// TOML in UTF-8, else with code 4 where a key is no field, else for the first field that is missing (2) or out of
+/// its range (3). A range that names `issue` is tested with the description's own. `NoMemory` may come at any call.
 pub fn from_toml(alloc: Global, bytes: &[u8]) -> Result<Machine, MachineFault>
     ensures { result ≢ Err MachineFault.NoMemory → result ≡ reading bytes.now }
 {
@@ -55,9 +55,6 @@ fn read_table(alloc: Global, bytes: &[u8]) -> Result<Table, MachineFault>
     ensures ok { IfOk result (λ t. table_of bytes.now ≡ Some (table_view t)) }
     ensures err { IfErr result (λ why. (why ≡ MachineFault.NoMemory) ⊎ ((why ≡ MachineFault.Bad 1 0) × (table_of bytes.now ≡ None))) }
 {
-    if has_mark(bytes) {
-        return Err(MachineFault::Bad { code: 1, field: 0 });
-    }
     match toml::table_from_slice(alloc, bytes) {
         Ok(table) => Ok(table),
         Err(why) => Err(fault_of_reader(&why)),
@@ -72,13 +69,6 @@ fn fault_of_reader(why: &toml::de::Error) -> MachineFault
     } else {
         MachineFault::Bad { code: 1, field: 0 }
     }
-}
-
-/// Whether the bytes begin with a byte order mark.
-fn has_mark(bytes: &[u8]) -> bool
-    ensures { result ≡ has_mark bytes.now }
-{
-    bytes.len() >= 3 && bytes[0] == 0xEF && bytes[1] == 0xBB && bytes[2] == 0xBF
 }
 
 /// What is wrong with a description, if anything is.

@@ -1,4 +1,4 @@
-use Rattle.std.proofs.Common.{◌≡◌, ◌&&◌, true, ◌∙◌, sym, ap}
+use Rattle.std.proofs.Common.{◌≡◌, true, ◌∙◌, sym}
 use Rattle.std.specs.List.{list_all}
 use Rattle.vx_machine.specs.Room.{stands_well}
 use Rattle.vx_machine.proofs.RoomLaw.{sources_pass}
