@@ -41,7 +41,7 @@ module _ (unread : ℕ → Bool) where
   read_lives : (vs : List ℕ) → are_read unread vs ≡ true → (v : ℕ) → IsIn v vs → Lives v
   read_lives vs h v m = lives_by v (all_in (λ u. not (unread u)) vs v h m)
 
-  knows : (vs : List ℕ) (s t : State) → are_read unread vs ≡ true → Agree Lives s t → Knows vs s t
+  pub knows : (vs : List ℕ) (s t : State) → are_read unread vs ≡ true → Agree Lives s t → Knows vs s t
   knows vs s t h a v m n e = a.values v n (read_lives vs h v m) e
 
   -- ---- an operation that is left out
@@ -113,7 +113,7 @@ module _ (unread : ℕ → Bool) where
   leaves_alike s t None y r a = wrong
   leaves_alike s t (Some n) y r a = subst (λ q. Alikes Lives (Leaves n s) (leaves q t)) (sym (r n refl)) (left a.world)
 
-  exit_alike : (b : ℕ) (exit : Exit) (s t : State) → are_read unread (reads_of_exit exit) ≡ true → Agree Lives s t → Alikes Lives (leave b exit s) (leave b exit t)
+  pub exit_alike : (b : ℕ) (exit : Exit) (s t : State) → are_read unread (reads_of_exit exit) ≡ true → Agree Lives s t → Alikes Lives (leave b exit s) (leave b exit t)
   exit_alike b (Goto c) s t h a = arrives a
   exit_alike b (Split p c d) s t h a = test_alike b c d s t (s.values p) (t.values p) (knows (p ∷ []) s t h a p (inl refl)) a
   exit_alike b (Call f arguments result c) s t h a =
@@ -127,7 +127,7 @@ module _ (unread : ℕ → Bool) where
   then_dropped None f h k = wrong
   then_dropped (Some s') f h k = k s' refl
 
-  then_alike : (o o' : Option State) (f g : State → Hop) → ((s' : State) → o ≡ Some s' → Done Lives s' o') → ((s' t' : State) → Agree Lives s' t' → Alikes Lives (f s') (g t')) → Alikes Lives (and_then o f) (and_then o' g)
+  pub then_alike : (o o' : Option State) (f g : State → Hop) → ((s' : State) → o ≡ Some s' → Done Lives s' o') → ((s' t' : State) → Agree Lives s' t' → Alikes Lives (f s') (g t')) → Alikes Lives (and_then o f) (and_then o' g)
   then_alike None o' f g d k = wrong
   then_alike (Some s') o' f g d k = let done = d s' refl in subst (λ q. Alikes Lives (f s') (and_then q g)) (sym done.is) (k s' done.state done.agree)
 

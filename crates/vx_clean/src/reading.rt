@@ -80,7 +80,7 @@ fn are_computed_read(needed: &[bool], code: Code, left: &Operand, right: &Operan
 }
 
 /// Whether the values that an operation reads are needed.
-fn are_reads_needed(needed: &[bool], op: &Op) -> bool
+pub fn are_reads_needed(needed: &[bool], op: &Op) -> bool
     ensures { result ≡ are_read (unread_of needed.now) (reads op.now) }
 {
     match op {
@@ -127,7 +127,8 @@ fn are_all_read(needed: &[bool], operands: &[Operand]) -> bool
 }
 
 #[tactic(auto, using(crate::proofs::ThinFlow::read_all))]
-fn exit_reads_needed(needed: &[bool], exit: &Exit) -> bool
+/// Whether the values that an exit reads are needed.
+pub fn exit_reads_needed(needed: &[bool], exit: &Exit) -> bool
     ensures { result ≡ are_read (unread_of needed.now) (reads_of_exit exit.now) }
 {
     match exit {

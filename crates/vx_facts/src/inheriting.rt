@@ -1,118 +1,96 @@
-// What a block takes over from the one block that leads to it: what its values hold, and what is known of places and words of
+// What a block takes over from the blocks that lead to it: what its values hold, and what is known of places and words of
 // arrays. It is looked for and owes nothing, since what does not pass is not used.
 
-use crate::access::Access;
+use crate::access::{Access, tell};
 use crate::claim::{Claim, accesses_in, facts_in};
 use crate::fact::Fact;
+use crate::known::give;
 use crate::learning::without;
+use crate::loops::{Loops, entries_at, loops_of};
 use crate::passing::{Passed, pass_ops};
 use std::alloc::Global;
 use vx_base::arithmetic::Code;
+use vx_base::listed::Listed;
 use vx_base::outcome::NoMemory;
-use vx_flow::graph::{Block, BlockId, Exit, Value};
+use vx_flow::graph::{Block, BlockId, Exit, Graph};
 
 /// How many of the facts and of what is known of arrays are looked at at most, the newest first.
-const MOST: usize = 32;
+const MOST: usize = 48;
 
 /// Blocks of more operations hand nothing on.
 const LONGEST: usize = 64;
 
-/// Adds to what is claimed at each block with one way in what is known at the end of the block before it. Each block stands behind
-/// those before it in the order.
+/// Adds to what is claimed at each block what is known at the ends of all blocks before it; at the first block of a loop, what the
+/// loop does not change of that. Without joins a block with one way in alone takes over. Each block stands behind those before it
+/// in the order, but for the edges that close loops.
 pub fn inherit(
     alloc: Global,
     claims: &mut Vec<Claim>,
     order: &[BlockId],
-    blocks: &[Block],
+    graph: &Graph,
+    joins: bool,
 ) -> Result<(), NoMemory> {
-    let entries = entries_of(alloc, blocks)?;
+    let blocks = graph.blocks.as_slice();
+    let mut loops = loops_of(alloc, graph)?;
+    let mut ends = Vec::new(alloc);
+    for _ in 0..blocks.len() {
+        ends.push(nothing_known(alloc))?;
+    }
     for place in order {
         match blocks.get(*place as usize) {
-            Some(block) => hand_on(alloc, claims, entries.as_slice(), *place, block)?,
+            Some(block) => {
+                if joins || loops.is_single(*place) {
+                    take_over(alloc, claims, &mut loops, ends.as_slice(), blocks, *place)?;
+                }
+                let end = end_of(alloc, claims.as_slice(), *place, block)?;
+                put_end(&mut ends, *place, end);
+            }
             None => {}
         }
     }
     Ok(())
 }
 
-/// How many edges lead to each block; the entry has one more.
-fn entries_of(alloc: Global, blocks: &[Block]) -> Result<Vec<u32>, NoMemory> {
-    let mut entries = vec![in alloc; 0; blocks.len()]?;
-    count(&mut entries, 0);
-    for block in blocks {
-        match &block.exit {
-            Exit::Goto(next) => count(&mut entries, *next),
-            Exit::Split { yes, no, .. } => {
-                count(&mut entries, *yes);
-                count(&mut entries, *no);
-            }
-            Exit::Call { next, .. } => count(&mut entries, *next),
-            _ => {}
-        }
-    }
-    Ok(entries)
-}
-
-fn count(entries: &mut Vec<u32>, block: BlockId) {
-    let place = block as usize;
-    if place < entries.len() {
-        entries[place] = entries[place].saturating_add(1);
+fn nothing_known(alloc: Global) -> Claim {
+    Claim {
+        facts: Listed::new(alloc),
+        accesses: Listed::new(alloc),
     }
 }
 
-/// Whether one edge leads to a block.
-fn is_single(entries: &[u32], block: BlockId) -> bool {
-    match entries.get(block as usize) {
-        Some(edges) => *edges == 1,
-        None => false,
+fn put_end(ends: &mut Vec<Claim>, place: BlockId, end: Claim) {
+    if (place as usize) < ends.len() {
+        ends[place as usize] = end;
     }
 }
 
-fn hand_on(
+/// What is known at the end of a block, wherever it leads.
+fn end_of(
     alloc: Global,
-    claims: &mut Vec<Claim>,
-    entries: &[u32],
+    claims: &[Claim],
     place: BlockId,
     block: &Block,
-) -> Result<(), NoMemory> {
+) -> Result<Claim, NoMemory> {
     if block.ops.len() > LONGEST {
-        return Ok(());
+        return Ok(nothing_known(alloc));
     }
+    let passed = passed_over(alloc, claims, place, block)?;
     match &block.exit {
-        Exit::Goto(next) => {
-            if is_single(entries, *next) {
-                let passed = passed_over(alloc, claims.as_slice(), place, block)?;
-                take_over(
-                    claims,
-                    *next,
-                    passed.facts.as_slice(),
-                    passed.accesses.as_slice(),
-                )?;
-            }
-            Ok(())
-        }
-        Exit::Split { yes, no, .. } => {
-            let first = is_single(entries, *yes);
-            let second = is_single(entries, *no);
-            if first || second {
-                let passed = passed_over(alloc, claims.as_slice(), place, block)?;
-                take_over_if(claims, first, *yes, &passed)?;
-                take_over_if(claims, second, *no, &passed)?;
-            }
-            Ok(())
-        }
         Exit::Call {
-            result: held,
-            next,
+            result: Some(value),
             ..
-        } => {
-            if is_single(entries, *next) {
-                let passed = passed_over(alloc, claims.as_slice(), place, block)?;
-                take_over_call(alloc, claims, *held, *next, passed.facts.as_slice())?;
-            }
-            Ok(())
-        }
-        _ => Ok(()),
+        } => Ok(Claim {
+            facts: without(alloc, passed.facts.as_slice(), *value)?,
+            accesses: Listed::new(alloc),
+        }),
+        Exit::Call { .. } => Ok(Claim {
+            facts: passed.facts,
+            accesses: Listed::new(alloc),
+        }),
+        _ => Ok(Claim {
+            facts: passed.facts,
+            accesses: passed.accesses,
+        }),
     }
 }
 
@@ -130,58 +108,72 @@ fn passed_over(
     )
 }
 
-fn take_over_if(
-    claims: &mut Vec<Claim>,
-    test: bool,
-    block: BlockId,
-    passed: &Passed,
-) -> Result<(), NoMemory> {
-    if test {
-        take_over(
-            claims,
-            block,
-            passed.facts.as_slice(),
-            passed.accesses.as_slice(),
-        )
-    } else {
-        Ok(())
-    }
-}
-
-fn take_over_call(
+/// Adds to what is claimed at a block what all blocks before it give, and no turn of its loop changes.
+fn take_over(
     alloc: Global,
     claims: &mut Vec<Claim>,
-    held: Option<Value>,
-    block: BlockId,
-    facts: &[Fact],
+    loops: &mut Loops,
+    ends: &[Claim],
+    blocks: &[Block],
+    place: BlockId,
 ) -> Result<(), NoMemory> {
-    match held {
-        Some(value) => {
-            let left = without(alloc, facts, value)?;
-            take_over(claims, block, left.as_slice(), &[])
+    let before = entries_at(alloc, blocks, loops, place as usize)?;
+    match before.as_slice() {
+        [] => Ok(()),
+        [first, ..] => {
+            let facts = facts_in(ends, *first as usize);
+            let accesses = accesses_in(ends, *first as usize);
+            take_facts(claims, loops, ends, before.as_slice(), place, facts)?;
+            take_accesses(claims, loops, ends, before.as_slice(), place, accesses)
         }
-        None => take_over(claims, block, facts, &[]),
     }
 }
 
-fn take_over(
+fn take_facts(
     claims: &mut Vec<Claim>,
-    block: BlockId,
+    loops: &Loops,
+    ends: &[Claim],
+    before: &[BlockId],
+    place: BlockId,
     facts: &[Fact],
-    accesses: &[Access],
 ) -> Result<(), NoMemory> {
     for fact in facts.iter().take(MOST) {
-        take_fact(claims, block, *fact)?;
-    }
-    for access in accesses.iter().take(MOST) {
-        take_access(claims, block, *access)?;
+        if is_general(*fact) && loops.keeps_fact(*fact) && all_give(ends, before, *fact) {
+            take_fact(claims, place, *fact)?;
+        }
     }
     Ok(())
 }
 
+fn take_accesses(
+    claims: &mut Vec<Claim>,
+    loops: &Loops,
+    ends: &[Claim],
+    before: &[BlockId],
+    place: BlockId,
+    accesses: &[Access],
+) -> Result<(), NoMemory> {
+    for access in accesses.iter().take(MOST) {
+        if loops.keeps_access(*access) && all_tell(ends, before, *access) {
+            take_access(claims, place, *access)?;
+        }
+    }
+    Ok(())
+}
+
+fn all_give(ends: &[Claim], before: &[BlockId], fact: Fact) -> bool {
+    before
+        .iter()
+        .all(|block| give(facts_in(ends, *block as usize), &[fact]))
+}
+
+fn all_tell(ends: &[Claim], before: &[BlockId], access: Access) -> bool {
+    before.iter().all(|block| tell(accesses_in(ends, *block as usize), &[access]))
+}
+
 fn take_fact(claims: &mut Vec<Claim>, block: BlockId, fact: Fact) -> Result<(), NoMemory> {
     let place = block as usize;
-    if place < claims.len() && is_general(fact) {
+    if place < claims.len() {
         claims[place].facts.push(fact)?;
     }
     Ok(())

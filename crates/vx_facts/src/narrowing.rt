@@ -90,24 +90,40 @@ fn narrowed_graphs(alloc: Global, graphs: &[Graph]) -> Result<Option<Listed<Grap
     Ok(Some(made))
 }
 
-/// The graph narrowed by the claims that are found for it, and by none where it does not pass with them.
+/// The graph narrowed by the claims that are found for it: by those of blocks with several ways in too, where it passes with them;
+/// else by those that blocks with one way in take over, else by none.
 fn narrowed_graph(alloc: Global, graph: &Graph) -> Result<Option<Graph>, NoMemory>
     ensures { IfOk result (λ found. IfSome found (λ made. GraphNarrowed graph.now made)) }
 {
-    match narrowed_after(alloc, graph, ROUNDS)? {
+    match narrowed_with(alloc, graph, true)? {
         Some(narrowed) => Ok(Some(narrowed)),
-        None => match narrowed_after(alloc, graph, 0)? {
+        None => match narrowed_with(alloc, graph, false)? {
             Some(narrowed) => Ok(Some(narrowed)),
             None => narrowed_by(alloc, &[], graph),
         },
     }
 }
 
-/// The graph narrowed by the claims that are found with so many sweeps that give back.
-fn narrowed_after(alloc: Global, graph: &Graph, rounds: u32) -> Result<Option<Graph>, NoMemory>
+/// The graph narrowed by the claims that are found, where those of blocks with several ways in are wanted or not.
+fn narrowed_with(alloc: Global, graph: &Graph, joins: bool) -> Result<Option<Graph>, NoMemory>
     ensures { IfOk result (λ found. IfSome found (λ made. GraphNarrowed graph.now made)) }
 {
-    let claims = find_claims(alloc, graph, rounds)?;
+    match narrowed_after(alloc, graph, ROUNDS, joins)? {
+        Some(narrowed) => Ok(Some(narrowed)),
+        None => narrowed_after(alloc, graph, 0, joins),
+    }
+}
+
+/// The graph narrowed by the claims that are found with so many sweeps that give back.
+fn narrowed_after(
+    alloc: Global,
+    graph: &Graph,
+    rounds: u32,
+    joins: bool,
+) -> Result<Option<Graph>, NoMemory>
+    ensures { IfOk result (λ found. IfSome found (λ made. GraphNarrowed graph.now made)) }
+{
+    let claims = find_claims(alloc, graph, rounds, joins)?;
     narrowed_by(alloc, claims.as_slice(), graph)
 }
 

@@ -26,8 +26,14 @@ const WIDENS: u32 = 3;
 
 const GIVES_UP: u32 = 10;
 
-/// Claims at the starts of the blocks of a graph, with so many sweeps that give back.
-pub fn find_claims(alloc: Global, graph: &Graph, rounds: u32) -> Result<Vec<Claim>, NoMemory> {
+/// Claims at the starts of the blocks of a graph, with so many sweeps that give back. Blocks with several ways in take over what
+/// the blocks before them give where that is wanted.
+pub fn find_claims(
+    alloc: Global,
+    graph: &Graph,
+    rounds: u32,
+    joins: bool,
+) -> Result<Vec<Claim>, NoMemory> {
     let live = live(alloc, graph)?;
     let order = order_of(alloc, graph.blocks.as_slice())?;
     let mut tables = new_tables(alloc, graph, &live)?;
@@ -46,12 +52,7 @@ pub fn find_claims(alloc: Global, graph: &Graph, rounds: u32) -> Result<Vec<Clai
             rounds,
         );
         let mut claims = claims_of(alloc, graph, &live, &tables)?;
-        inherit(
-            alloc,
-            &mut claims,
-            order.as_slice(),
-            graph.blocks.as_slice(),
-        )?;
+        inherit(alloc, &mut claims, order.as_slice(), graph, joins)?;
         Ok(claims)
     } else {
         Ok(Vec::new(alloc))
