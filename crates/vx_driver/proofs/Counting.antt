@@ -31,6 +31,7 @@ counted_for asked program text complete e f since holds c = record {
     program = program;
     input = c.input;
     read = read_in asked program c.input f.before holds (told_since e f (λ held. input_found held asked.input ≡ Ok c.input) since c.input_is);
+    unnamed = c.unnamed;
     run = c.is.run;
   };
   text_is = c.is.text_is;

@@ -20,7 +20,7 @@ use Rattle.vx_driver.specs.Command.{Execution}
 use Rattle.vx_driver.specs.Boxes.{Chosen}
 use Rattle.vx_driver.specs.Faithful.{Faithful}
 use Rattle.vx_driver.specs.Answers.{AreCounts, HoldsProgram, ProfileStands, Is, machine_found, Effect, ReadsRose, SourceAnswers, StopsAtProfile, MachineAnswers, StopsAtMachine}
-use Rattle.vx_driver.specs.Simulated.{Loaded, begun, outcome_within, events_within, reports_of, input_found, Streams, OutputCut, IsStatusOf}
+use Rattle.vx_driver.specs.Simulated.{AreDefaults, Loaded, begun, outcome_within, events_within, reports_of, input_found, Streams, OutputCut, IsStatusOf}
 use Rattle.vx_driver.specs.Executed.{CompiledBy, Issues, SourceHas, SourceBegins, InSource, AllHeld, Prepared, issued_line, ShowsRun, Runs, RunsCut, InputAnswers, StopsAtInput, ExecutionAnswers}
 use Rattle.vx_driver.specs.Ending.{ShowsOf, IsRunOf, UnputLines, LoadedAnswers, LaterStops, AfterSource, StopsBefore}
 use Rattle.vx_driver.proofs.Issued.{issues_comes, issues_within, issues_least, issues_all, issues_seen}
@@ -361,11 +361,12 @@ all_held asked program m numbers (Some held) holds stands machine input = record
 
 pub prepared : (asked : Execution) (program : Program) (x : Loaded) (e f : Effect) → Since e f → IfSome f.before (λ held. HoldsProgram held asked.source program) →
     IfSome e.before (λ held. ProfileStands held asked.profile) → IfSome e.before (λ held. machine_found held asked.machine ≡ Is x.machine) → IfSome e.before (λ held. input_found held asked.input ≡ Ok x.input) →
-    CompiledBy e.before asked.profile asked.growth program x.machine x.program → Prepared asked f x
-prepared asked program x e f since holds stands machine input by = record {
+    CompiledBy e.before asked.profile asked.growth program x.machine x.program → AreDefaults asked.machine asked.input x → Prepared asked f x
+prepared asked program x e f since holds stands machine input by defaults = record {
   source_program = program;
   read = all_held asked program x.machine x.input f.before holds (told_since e f (λ held. ProfileStands held asked.profile) since stands)
       (told_since e f (λ held. machine_found held asked.machine ≡ Is x.machine) since machine) (told_since e f (λ held. input_found held asked.input ≡ Ok x.input) since input);
+  defaults = defaults;
   by = record { counts = by.counts; counted = told_since e f (λ held. AreCounts held asked.profile by.counts) since by.counted; plan = by.plan; compiled = by.compiled };
 }
 

@@ -11,7 +11,7 @@ use Rattle.vx_driver.specs.declared.status.Status.TheVariants.{Done, Trapped, Us
 use Rattle.vx_driver.specs.Command.{Command, Compile, Simulate, Execute, Count, Soak, Simulation, Execution, Soaking}
 use Rattle.vx_driver.specs.Boxes.{Boxes, ProbeBox, Chosen, chosen, chosen_of, timing_named, probes_named}
 use Rattle.vx_driver.specs.Answers.{Effect, SameFiles}
-use Rattle.vx_driver.specs.Simulated.{Loaded, loading, is_named, Stops, Streams, OutputCut, IsStatusOf, Shows, reports_of, result_line, Loads, RunEnds, RunCut, RunAnswers, BoxAnswers, SimAnswers, is_of_run, outcome_within, events_within}
+use Rattle.vx_driver.specs.Simulated.{AreDefaults, Loaded, loading, is_named, Stops, Streams, OutputCut, IsStatusOf, Shows, reports_of, result_line, Loads, RunEnds, RunCut, RunAnswers, BoxAnswers, SimAnswers, is_of_run, outcome_within, events_within}
 use Rattle.vx_driver.specs.Executed.{ExecAnswers, ExecutionAnswers}
 use Rattle.vx_driver.specs.Soaked.{SoakAnswers, SoakedAnswers}
 use Rattle.vx_driver.specs.Ending.{ShowsOf, IsRunOf, UnputLines, LoadedAnswers}
@@ -47,6 +47,7 @@ shows_plain (Wrong out) reports s is = absurd is
 module _ (asked : Simulation) (x : Loaded) (times : Times) (watches : List Watch) (e : Effect) (s : Streams)
     (is : IfSome e.before (λ held. loading held asked.words asked.machine asked.input ≡ Ok x))
     (spells : IfSome e.before (λ held. IfSome (held asked.words) (λ content. Spells content x.program)))
+    (defaults : AreDefaults asked.machine asked.input x)
     (wanted : 0 < length watches → is_some asked.probe ≡ true) where
   abbrev the_boxes : Chosen
   the_boxes = record { times = times; watches = watches }
@@ -55,16 +56,18 @@ module _ (asked : Simulation) (x : Loaded) (times : Times) (watches : List Watch
   ends status a = record {
     loaded = x;
     loads = loads_in asked x e.before is spells;
+    defaults = defaults;
     status_is = a.status_is;
     put = a.put;
     shown = shows_plain (outcome_within x times asked.budget) (reports_of watches (events_within x times asked.budget)) s a.shown;
   }
 
   cut : OutputCut x times asked.budget s ⊎ UnputLines x times asked.budget watches s → RunCut asked the_boxes e s
-  cut (inl out) = record { loaded = x; loads = loads_in asked x e.before is spells; cut = inl out }
+  cut (inl out) = record { loaded = x; loads = loads_in asked x e.before is spells; defaults = defaults; cut = inl out }
   cut (inr lines) = record {
     loaded = x;
     loads = loads_in asked x e.before is spells;
+    defaults = defaults;
     cut = inr (record { rose = lines.rose; wanted = elim lines.wanted [ inl end ↦ inl end | inr some ↦ inr (wanted some) ]; put = lines.put });
   }
 

@@ -18,7 +18,7 @@ use Rattle.vx_driver.specs.declared.status.Status.{Status}
 use Rattle.vx_driver.specs.declared.status.Status.TheVariants.{Done, Trapped, Usage, Source, Limit, Words, Profile, Machine, NoFile, ReadFault, WriteFault, Stopped, Input, Stuck, NoMemory}
 use Rattle.vx_driver.specs.Command.{Profiling}
 use Rattle.vx_driver.specs.Answers.{HoldsProgram, Accepts, status_of, Effect, ReadsRose, SameFiles, SourceAnswers}
-use Rattle.vx_driver.specs.Simulated.{input_found, Streams, OutRose}
+use Rattle.vx_driver.specs.Simulated.{EmptyUnless, input_found, Streams, OutRose}
 use Rattle.vx_driver.specs.Executed.{InputAnswers}
 
 -- what is read for the counts: the program of the source, and the input
@@ -40,6 +40,7 @@ pub record CountedRun (asked : Profiling) (e : Effect) : Type 0 where
   pub program : Program
   pub input : List ℤ
   pub read : IfSome e.before (λ held. CountsRead held asked program input)
+  pub unnamed : EmptyUnless asked.input input
   pub run : RunOfGraphs program input asked.blocks
 
 -- the text of the counts is put, whole

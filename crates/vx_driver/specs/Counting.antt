@@ -9,7 +9,7 @@ use Rattle.vx_driver.specs.declared.status.Status.{Status}
 use Rattle.vx_driver.specs.declared.status.Status.TheVariants.{Done, WriteFault, Stopped, NoMemory}
 use Rattle.vx_driver.specs.Command.{Profiling}
 use Rattle.vx_driver.specs.Answers.{Effect, SourceAnswers}
-use Rattle.vx_driver.specs.Simulated.{input_found, Streams, OutRose}
+use Rattle.vx_driver.specs.Simulated.{EmptyUnless, input_found, Streams, OutRose}
 use Rattle.vx_driver.specs.Counted.{RunOfGraphs, CountedRun, IsEnded, StopsAtCountsInput}
 
 -- the text of the counts of such a run, and whether it is over
@@ -22,6 +22,7 @@ pub record IsCounted (p : Program) (input : List ℤ) (blocks : ℕ) (text : Lis
 pub record CountedOn (p : Program) (name : Option (List ℕ)) (blocks : ℕ) (e : Effect) (text : List ℕ) (complete : Bool) : Type 0 where
   pub input : List ℤ
   pub input_is : IfSome e.before (λ held. input_found held name ≡ Ok input)
+  pub unnamed : EmptyUnless name input
   pub is : IsCounted p input blocks text complete
 
 -- the same, of the program of the command

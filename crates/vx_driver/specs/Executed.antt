@@ -20,7 +20,7 @@ use Rattle.vx_driver.specs.Command.{Execution}
 use Rattle.vx_driver.specs.Boxes.{Boxes, Chosen, chosen}
 use Rattle.vx_driver.specs.Compiled.{Compiled}
 use Rattle.vx_driver.specs.Answers.{AreCounts, HoldsProgram, Accepts, status_of, Is, machine_found, Effect, ReadsRose, SameFiles, SourceAnswers, ProfileStands, RefusesProfile, StopsAtProfile, StopsAtMachine}
-use Rattle.vx_driver.specs.Simulated.{Loaded, with_input, machine_as, input_found, outcome_within, events_within, reports_of, result_line, EndsWith, Streams, OutRose, ErrRose, OutputCut, LinesCut, BoxAnswers}
+use Rattle.vx_driver.specs.Simulated.{Loaded, with_input, machine_as, input_found, outcome_within, events_within, reports_of, result_line, AreDefaults, EndsWith, Streams, OutRose, ErrRose, OutputCut, LinesCut, BoxAnswers}
 
 -- the run
 
@@ -68,6 +68,7 @@ pub record CompiledBy (told : Option Files) (profile : Option (List ℕ)) (growt
 pub record Prepared (asked : Execution) (e : Effect) (x : Loaded) : Type 0 where
   pub source_program : Program
   pub read : IfSome e.before (λ held. AllHeld held asked source_program x.machine x.input)
+  pub defaults : AreDefaults asked.machine asked.input x
   pub by : CompiledBy e.before asked.profile asked.growth source_program x.machine x.program
 
 -- the lines

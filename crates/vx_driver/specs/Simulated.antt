@@ -8,7 +8,7 @@ use Rattle.vx_base.specs.Outside.{Files, Rose, with_bytes}
 use Rattle.vx_base.specs.declared.role.Role.{Role}
 use Rattle.vx_base.specs.declared.role.Role.TheVariants.{Source as TheSource, Words as TheWords, Profile as TheProfile, Machine as TheMachine, Input as TheInput}
 use Rattle.vx_isa.specs.declared.program.WordProgram.{WordProgram}
-use Rattle.vx_isa.specs.Numbers.{Numbers}
+use Rattle.vx_isa.specs.Numbers.{Numbers, vex}
 use Rattle.vx_isa.specs.Machine.{State, start, words_from}
 use Rattle.vx_machine.specs.declared.description.MachineFault.TheVariants.{Bad, NoMemory as NoRoom}
 use Rattle.vx_probe.specs.Times.{Times, list_of}
@@ -73,6 +73,21 @@ pub record Loaded : Type 0 where
 
 abbrev pub with_input : WordProgram → Numbers → List ℤ → Loaded
 with_input program machine input = record { program = program; machine = machine; input = input }
+
+-- where no machine is named, the default one, whatever the depot tells
+abbrev pub DefaultUnless : (machine : Option (List ℕ)) → Numbers → Type 0
+DefaultUnless None m = m ≡ vex 1
+DefaultUnless (Some name) m = Unit {0}
+
+-- where no input is named, the empty one
+abbrev pub EmptyUnless : (input : Option (List ℕ)) → List ℤ → Type 0
+EmptyUnless None numbers = numbers ≡ []
+EmptyUnless (Some name) numbers = Unit {0}
+
+-- what stands for the files that are not named
+pub record AreDefaults (machine input : Option (List ℕ)) (x : Loaded) : Type 0 where
+  pub machine_is : DefaultUnless machine x.machine
+  pub input_is : EmptyUnless input x.input
 
 -- the words, the machine and the input, each whole before the next
 
@@ -191,6 +206,7 @@ pub record Loads (held : Files) (asked : Simulation) (x : Loaded) : Type 0 where
 pub record RunEnds (asked : Simulation) (boxes : Chosen) (e : Effect) (s : Streams) (status : Status) : Type 0 where
   pub loaded : Loaded
   pub loads : IfSome e.before (λ held. Loads held asked loaded)
+  pub defaults : AreDefaults asked.machine asked.input loaded
   pub status_is : IsStatusOf (outcome_within loaded boxes.times asked.budget) status
   pub put : s.out_after ≡ with_bytes s.out_before (output_of (outcome_within loaded boxes.times asked.budget))
   pub shown : Shows (outcome_within loaded boxes.times asked.budget) (reports_of boxes.watches (events_within loaded boxes.times asked.budget)) s.err_before s.err_after
@@ -217,6 +233,7 @@ pub record LinesCut (x : Loaded) (times : Times) (budget : ℕ) (probe : Option 
 pub record RunCut (asked : Simulation) (boxes : Chosen) (e : Effect) (s : Streams) : Type 0 where
   pub loaded : Loaded
   pub loads : IfSome e.before (λ held. Loads held asked loaded)
+  pub defaults : AreDefaults asked.machine asked.input loaded
   pub cut : OutputCut loaded boxes.times asked.budget s ⊎ LinesCut loaded boxes.times asked.budget asked.probe s
 
 -- a run was begun

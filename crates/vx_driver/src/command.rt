@@ -37,9 +37,20 @@ fn compile_command<'a>(alloc: Global) -> Result<Command<'a>, AllocError>
 {
     with_compiling_options(
         alloc,
-        file_command(alloc, "compile", "SRC")?.arg(required_of(alloc, "OUT"))?,
+        file_command(
+            alloc,
+            "compile",
+            "Compiles a source, and replaces a file by its words",
+            "SRC",
+            "The file of the source",
+        )?
+        .arg(required_of(alloc, "OUT", "The file that the words go to"))?,
     )?
-    .arg(option_of(alloc, "report"))
+    .arg(option_of(
+        alloc,
+        "report",
+        "The file that the report of the plan goes to [default: none]",
+    ))
 }
 
 /// The text at a word that has to be there.
@@ -71,13 +82,17 @@ fn text_of(alloc: Global, error: &Error) -> Option<String> {
     error.to_string(alloc).ok()
 }
 
-/// The refusal of clap.
+/// The refusal of clap. Where memory is wanted, the line of that status is put in place of clap's text.
 pub(crate) fn refusal_of(alloc: Global, error: &Error) -> Refused
     ensures { ((kind_of error.now ≡ OutOfMemory) × (result.status ≡ Status.NoMemory)) ⊎ ((kind_of error.now ≢ OutOfMemory) × (result.status ≡ Status.Usage)) }
 {
-    let status = status_of(error);
-    let text = text_of(alloc, error);
-    Refused { status, text }
+    match error.kind() {
+        ErrorKind::OutOfMemory => without_text(Status::NoMemory),
+        _ => Refused {
+            status: Status::Usage,
+            text: text_of(alloc, error),
+        },
+    }
 }
 
 /// What clap finds in the words of a command, or its refusal.
@@ -129,16 +144,6 @@ fn read_words<'a>(
     match found_in(alloc, command, words) {
         Ok(found) => compile_found(&found),
         Err(refused) => Err(refused),
-    }
-}
-
-/// The status of a refusal.
-fn status_of(error: &Error) -> Status
-    ensures { ((kind_of error.now ≡ OutOfMemory) × (result ≡ Status.NoMemory)) ⊎ ((kind_of error.now ≢ OutOfMemory) × (result ≡ Status.Usage)) }
-{
-    match error.kind() {
-        ErrorKind::OutOfMemory => Status::NoMemory,
-        _ => Status::Usage,
     }
 }
 

@@ -5,6 +5,7 @@ ghost use Rattle.std.specs.Prelude.{◌≡◌, ◌≢◌, ◌≤◌, ◌⊎◌, 
 ghost use Rattle.vx_ast.specs.View as view;
 ghost use Rattle.vx_driver.specs.Answers.{effect_of, SourceAnswers, MachineAnswers, CompileAnswers, WriteAnswers, ReportAnswers, HoldsSource, HoldsProgram, machine_found, Is, RefusesDescription, PutsTexts, MachineOrTexts, ProgramAnswers};
 ghost use Rattle.vx_driver.specs.Asked.{compilation_of};
+ghost use Rattle.vx_driver.specs.Simulated.{DefaultUnless};
 ghost use Rattle.vx_driver.specs.Stages.{MakesTexts};
 ghost use Rattle.vx_report.specs.Report.{names_of, report_text};
 ghost use Rattle.vx_words.specs.Text.{Spells};
@@ -117,6 +118,7 @@ pub(crate) fn machine_for<D: Depot>(
 ) -> Result<Machine, Status>
     ensures same_files { D.files depot.new ≡ D.files depot.old }
     ensures machine { IfOk result (λ machine. IfSome (D.files depot.old) (λ held. machine_found held (option_map (λ s. s.now) name.entry) ≡ Is machine)) }
+    ensures default_machine { IfOk result (λ machine. DefaultUnless (option_map (λ s. s.now) name.entry) machine) }
     ensures named { IfErr result (λ _. is_some name.entry ≡ true) }
     ensures answers { IfErr result (MachineAnswers (option_map (λ s. s.now) name.entry) (effect_of D.files D.failed_reads D.failed_replaces depot.old depot.new)) }
     ensures reads_never_fall { D.failed_reads depot.old ≤ D.failed_reads depot.new }

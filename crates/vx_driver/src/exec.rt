@@ -8,7 +8,7 @@ ghost use Rattle.vx_driver.specs.Answers.{effect_of, machine_found, Is, ProfileS
 ghost use Rattle.vx_driver.specs.Asked.{execution_of};
 ghost use Rattle.vx_driver.specs.Stages.{IsCompiled};
 ghost use Rattle.vx_driver.specs.Status.{Adds};
-ghost use Rattle.vx_driver.specs.Simulated.{input_found, is_of_run, streams_of};
+ghost use Rattle.vx_driver.specs.Simulated.{DefaultUnless, EmptyUnless, input_found, is_of_run, streams_of};
 ghost use Rattle.vx_driver.specs.Executed.{CompiledBy, InputAnswers, Prepared, ExecutionAnswers, ExecAnswers};
 ghost use Rattle.vx_driver.specs.Ending.{loaded_of, AfterSource, LaterStops, StopsBefore};
 
@@ -67,6 +67,7 @@ fn load_input<D: Depot>(
     ensures same_files { D.files depot.new ≡ D.files depot.old }
     ensures machine { IfOk result (λ loaded. loaded.machine ≡ machine) }
     ensures input { IfOk result (λ loaded. IfSome (D.files depot.old) (λ held. input_found held (option_map (λ s. s.now) name.entry) ≡ Ok loaded.input.items)) }
+    ensures unnamed { IfOk result (λ loaded. EmptyUnless (option_map (λ s. s.now) name.entry) loaded.input.items) }
     ensures compiled { IfOk result (λ loaded. IsCompiled (view.program_of program.now.program) counts.now loaded.machine growth loaded.program) }
     ensures stops { IfErr result (λ status. (status ≡ Status.NoMemory) ⊎ ((is_some (option_map (λ s. s.now) name.entry) ≡ true) × InputAnswers (option_map (λ s. s.now) name.entry) (effect_of D.files D.failed_reads D.failed_replaces depot.old depot.new) status)) }
     ensures reads_never_fall { D.failed_reads depot.old ≤ D.failed_reads depot.new }
@@ -90,7 +91,9 @@ fn load_machine<D: Depot>(
 ) -> Result<LoadedFiles, Status>
     ensures same_files { D.files depot.new ≡ D.files depot.old }
     ensures machine { IfOk result (λ loaded. IfSome (D.files depot.old) (λ held. machine_found held (option_map (λ s. s.now) machine.entry) ≡ Is loaded.machine)) }
+    ensures default_machine { IfOk result (λ loaded. DefaultUnless (option_map (λ s. s.now) machine.entry) loaded.machine) }
     ensures input { IfOk result (λ loaded. IfSome (D.files depot.old) (λ held. input_found held (option_map (λ s. s.now) input.entry) ≡ Ok loaded.input.items)) }
+    ensures unnamed { IfOk result (λ loaded. EmptyUnless (option_map (λ s. s.now) input.entry) loaded.input.items) }
     ensures compiled { IfOk result (λ loaded. IsCompiled (view.program_of program.now.program) counts.now loaded.machine growth loaded.program) }
     ensures stops { IfErr result (LaterStops (option_map (λ s. s.now) machine.entry) (option_map (λ s. s.now) input.entry) (effect_of D.files D.failed_reads D.failed_replaces depot.old depot.new)) }
     ensures reads_never_fall { D.failed_reads depot.old ≤ D.failed_reads depot.new }
@@ -115,7 +118,9 @@ fn load_profile<D: Depot>(
     ensures same_files { D.files depot.new ≡ D.files depot.old }
     ensures profiled { IfOk result (λ _. IfSome (D.files depot.old) (λ held. ProfileStands held (option_map (λ s. s.now) profile.entry))) }
     ensures machine { IfOk result (λ loaded. IfSome (D.files depot.old) (λ held. machine_found held (option_map (λ s. s.now) machine.entry) ≡ Is loaded.machine)) }
+    ensures default_machine { IfOk result (λ loaded. DefaultUnless (option_map (λ s. s.now) machine.entry) loaded.machine) }
     ensures input { IfOk result (λ loaded. IfSome (D.files depot.old) (λ held. input_found held (option_map (λ s. s.now) input.entry) ≡ Ok loaded.input.items)) }
+    ensures unnamed { IfOk result (λ loaded. EmptyUnless (option_map (λ s. s.now) input.entry) loaded.input.items) }
     ensures compiled { IfOk result (λ loaded. CompiledBy (D.files depot.old) (option_map (λ s. s.now) profile.entry) growth (view.program_of program.now.program) loaded.machine loaded.program) }
     ensures stops { IfErr result (AfterSource (option_map (λ s. s.now) profile.entry) (option_map (λ s. s.now) machine.entry) (option_map (λ s. s.now) input.entry) (effect_of D.files D.failed_reads D.failed_replaces depot.old depot.new)) }
     ensures reads_never_fall { D.failed_reads depot.old ≤ D.failed_reads depot.new }
@@ -166,6 +171,7 @@ fn execute<D: Depot, K: Sink, E: Sink>(
     ensures nothing { is_of_run result ≡ false → K.told out.new ≡ K.told out.old }
     ensures reads_never_fall { D.failed_reads depot.old ≤ D.failed_reads depot.new }
     ensures replaces_never_fall { D.failed_replaces depot.old ≤ D.failed_replaces depot.new }
+    ensures out_never_falls { K.faults out.old ≤ K.faults out.new }
 {
     match load(alloc, depot, asked) {
         Ok(loaded) => run_loaded(
@@ -197,6 +203,7 @@ pub(crate) fn execute_with<D: Depot, K: Sink, E: Sink>(
     ensures nothing { is_of_run result ≡ false → K.told out.new ≡ K.told out.old }
     ensures reads_never_fall { D.failed_reads depot.old ≤ D.failed_reads depot.new }
     ensures replaces_never_fall { D.failed_replaces depot.old ≤ D.failed_replaces depot.new }
+    ensures out_never_falls { K.faults out.old ≤ K.faults out.new }
 {
     let timing = match timing_of(timings, asked.run.timing) {
         Some(timing) => timing,

@@ -4,7 +4,7 @@ ghost use Rattle.std.specs.Prelude.{◌≡◌, ◌⊎◌, ◌≤◌, true, lengt
 ghost use Rattle.vx_base.specs.Arithmetic.{IsNumber};
 ghost use Rattle.vx_driver.specs.Answers.{effect_of};
 ghost use Rattle.vx_driver.specs.InputText.{input_reading};
-ghost use Rattle.vx_driver.specs.Simulated.{input_as, input_found};
+ghost use Rattle.vx_driver.specs.Simulated.{EmptyUnless, input_as, input_found};
 ghost use Rattle.vx_driver.specs.Executed.{InputAnswers};
 
 use crate::input::{InputFault, read_input};
@@ -63,6 +63,7 @@ pub(crate) fn input_for<D: Depot>(
 ) -> Result<Vec<i32>, Status>
     ensures same_files { D.files depot.new ≡ D.files depot.old }
     ensures numbers { IfOk result (λ numbers. IfSome (D.files depot.old) (λ held. input_found held (option_map (λ s. s.now) name.entry) ≡ Ok numbers.items)) }
+    ensures unnamed { IfOk result (λ numbers. EmptyUnless (option_map (λ s. s.now) name.entry) numbers.items) }
     ensures in_range { IfOk result (λ numbers. All IsNumber numbers.items) }
     ensures named { IfErr result (λ _. is_some name.entry ≡ true) }
     ensures answers { IfErr result (InputAnswers (option_map (λ s. s.now) name.entry) (effect_of D.files D.failed_reads D.failed_replaces depot.old depot.new)) }

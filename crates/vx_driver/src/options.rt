@@ -1,6 +1,6 @@
-// The words and options of a command, and how many operations may be copied.
+// The words and options of a command, each with its line of help, and how many operations may be copied.
 
-ghost use Rattle.std.specs.Prelude.{◌≡◌, ◌≤◌, ℕ, false, Some, option_map, IfOk, IfSome, MatchOption};
+ghost use Rattle.std.specs.Prelude.{◌≡◌, ◌≤◌, ℕ, false, codes, Some, option_map, IfOk, IfSome, MatchOption};
 ghost use Rattle.clap.specs.Words.{app_of, rule_of};
 ghost use Rattle.vx_driver.specs.Command.{required_word, required_number, option_word, number_word, number_in, growth_word, growth_of, file_app, with_compiling_options};
 
@@ -12,36 +12,78 @@ const MOST_GROWTH: u32 = 1000000;
 
 const DEFAULT_GROWTH: u32 = 4000;
 
-/// A word that has to be there.
-pub(crate) fn required_of<'a>(alloc: Global, name: &'a str) -> Arg<'a>
+/// A word that has to be there, with its line of help.
+pub(crate) fn required_of<'a>(alloc: Global, name: &'a str, help: &'a str) -> Arg<'a>
     ensures rule { rule_of result ≡ required_word name.entry.now }
     ensures local { result.global ≡ false }
 {
-    Arg::new(alloc, name).action(ArgAction::Set).required(true)
+    Arg::new(alloc, name)
+        .action(ArgAction::Set)
+        .required(true)
+        .help(help)
 }
 
 /// A word that has to be there, a number from low to high.
-pub(crate) fn required_number_of<'a>(alloc: Global, name: &'a str, low: u64, high: u64) -> Arg<'a>
+pub(crate) fn required_number_of<'a>(
+    alloc: Global,
+    name: &'a str,
+    help: &'a str,
+    low: u64,
+    high: u64,
+) -> Arg<'a>
     ensures rule { rule_of result ≡ required_number name.entry.now low high }
     ensures local { result.global ≡ false }
 {
-    required_of(alloc, name).value_parser(ValueParser::Unsigned(low, high))
+    required_of(alloc, name, help).value_parser(ValueParser::Unsigned(low, high))
 }
 
-/// `--name VALUE`.
-pub(crate) fn option_of<'a>(alloc: Global, name: &'a str) -> Arg<'a>
+/// `--name VALUE`, with its line of help.
+pub(crate) fn option_of<'a>(alloc: Global, name: &'a str, help: &'a str) -> Arg<'a>
     ensures rule { rule_of result ≡ option_word name.entry.now }
     ensures local { result.global ≡ false }
 {
-    Arg::new(alloc, name).long(name).action(ArgAction::Set)
+    Arg::new(alloc, name)
+        .long(name)
+        .action(ArgAction::Set)
+        .help(help)
 }
 
 /// `--name N`, N from low to high.
-pub(crate) fn number_of<'a>(alloc: Global, name: &'a str, low: u64, high: u64) -> Arg<'a>
+pub(crate) fn number_of<'a>(
+    alloc: Global,
+    name: &'a str,
+    help: &'a str,
+    low: u64,
+    high: u64,
+) -> Arg<'a>
     ensures rule { rule_of result ≡ number_word name.entry.now low high }
     ensures local { result.global ≡ false }
 {
-    option_of(alloc, name).value_parser(ValueParser::Unsigned(low, high))
+    option_of(alloc, name, help).value_parser(ValueParser::Unsigned(low, high))
+}
+
+/// `--machine M`.
+pub(crate) fn machine_option<'a>(alloc: Global) -> Arg<'a>
+    ensures rule { rule_of result ≡ option_word (codes "machine") }
+    ensures local { result.global ≡ false }
+{
+    option_of(
+        alloc,
+        "machine",
+        "The file that describes the machine [default: the one with a single cluster]",
+    )
+}
+
+/// `--input I`.
+pub(crate) fn input_option<'a>(alloc: Global) -> Arg<'a>
+    ensures rule { rule_of result ≡ option_word (codes "input") }
+    ensures local { result.global ≡ false }
+{
+    option_of(
+        alloc,
+        "input",
+        "The file of the input, decimal numbers [default: no numbers]",
+    )
 }
 
 /// `--growth G`, G from 0 to the most operations that may be copied.
@@ -49,18 +91,28 @@ fn growth_option<'a>(alloc: Global) -> Arg<'a>
     ensures rule { rule_of result ≡ growth_word }
     ensures local { result.global ≡ false }
 {
-    number_of(alloc, "growth", 0, MOST_GROWTH as u64)
+    number_of(
+        alloc,
+        "growth",
+        "How many operations may be copied, from 0 to 1000000 [default: 4000]",
+        0,
+        MOST_GROWTH as u64,
+    )
 }
 
-/// `NAME FILE`.
+/// `NAME FILE`, with what the command does and the line of help of the file.
 pub(crate) fn file_command<'a>(
     alloc: Global,
     name: &'a str,
+    about: &'a str,
     file: &'a str,
+    help: &'a str,
 ) -> Result<Command<'a>, AllocError>
     ensures { IfOk result (λ command. app_of command ≡ file_app name.entry.now file.entry.now) }
 {
-    Command::new(alloc, name).arg(required_of(alloc, file))
+    Command::new(alloc, name)
+        .about(about)
+        .arg(required_of(alloc, file, help))
 }
 
 /// The words of a command, and after them `[--profile P] [--machine M] [--growth G]`.
@@ -71,8 +123,12 @@ pub(crate) fn with_compiling_options<'a>(
     ensures { IfOk result (λ whole. app_of whole ≡ with_compiling_options (app_of command.entry)) }
 {
     command
-        .arg(option_of(alloc, "profile"))?
-        .arg(option_of(alloc, "machine"))?
+        .arg(option_of(
+            alloc,
+            "profile",
+            "The file of a profile, whose counts pick the traces [default: no counts]",
+        ))?
+        .arg(machine_option(alloc))?
         .arg(growth_option(alloc))
 }
 

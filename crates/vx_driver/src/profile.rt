@@ -122,6 +122,7 @@ fn put_counts<K: Sink, E: Sink>(out: &mut K, err: &mut E, counted: &CountsText) 
     ensures puts { PutsText counted.now.text.items counted.now.complete (streams_of K.told K.faults E.told E.faults out.old out.new err.old err.new) result }
     ensures run { is_of_run result ≡ true }
     ensures adds { Adds (E.told err.old) (E.told err.new) (E.faults err.old) (E.faults err.new) }
+    ensures out_never_falls { K.faults out.old ≤ K.faults out.new }
 {
     match put_all(out, counted.text.as_slice()) {
         Ok(()) => tell_end(err, counted.complete),
@@ -142,6 +143,7 @@ pub(crate) fn profile<D: Depot, K: Sink, E: Sink>(
     ensures nothing { is_of_run result ≡ false → K.told out.new ≡ K.told out.old }
     ensures reads_never_fall { D.failed_reads depot.old ≤ D.failed_reads depot.new }
     ensures replaces_never_fall { D.failed_replaces depot.old ≤ D.failed_replaces depot.new }
+    ensures out_never_falls { K.faults out.old ≤ K.faults out.new }
 {
     match count_read(alloc, depot, asked) {
         Ok(counted) => put_counts(out, err, &counted),

@@ -6,7 +6,7 @@ ghost use Rattle.vx_driver.specs.Command.{Count, profile_app, profile_of, profil
 ghost use Rattle.vx_driver.specs.Asked.{profiling_of};
 
 use crate::command::{Refused, found_in, text_at, without_text};
-use crate::options::{file_command, number_of, option_of};
+use crate::options::{file_command, input_option, number_of};
 use crate::run_words::{MOST_WORDS, budget_of};
 use crate::status::Status;
 use clap::{ArgMatches, Command};
@@ -27,9 +27,21 @@ pub(crate) struct ProfileWords<'a> {
 fn profile_command<'a>(alloc: Global) -> Result<Command<'a>, AllocError>
     ensures { IfOk result (λ command. app_of command ≡ profile_app) }
 {
-    file_command(alloc, "profile", "SRC")?
-        .arg(option_of(alloc, "input"))?
-        .arg(number_of(alloc, "blocks", 1, MOST_WORDS))
+    file_command(
+        alloc,
+        "profile",
+        "Puts how often each block and edge of a source is passed",
+        "SRC",
+        "The file of the source",
+    )?
+    .arg(input_option(alloc))?
+    .arg(number_of(
+        alloc,
+        "blocks",
+        "How many blocks are run at most, from 1 to 1000000000000 [default: 1000000000]",
+        1,
+        MOST_WORDS,
+    ))
 }
 
 /// What was found in the words of `profile`, where the number of blocks is in its range.

@@ -6,7 +6,10 @@ ghost use Rattle.vx_driver.specs.Command.{with_run_options, sim_app, exec_app, r
 ghost use Rattle.vx_driver.specs.Asked.{asks, simulation_of, execution_of};
 
 use crate::command::{Refused, found_in, text_at, without_text};
-use crate::options::{file_command, growth_of, number_of, option_of, with_compiling_options};
+use crate::options::{
+    file_command, growth_of, input_option, machine_option, number_of, option_of,
+    with_compiling_options,
+};
 use crate::status::Status;
 use clap::{ArgMatches, Command};
 use std::alloc::{AllocError, Global};
@@ -48,10 +51,24 @@ fn with_run_options<'a>(alloc: Global, command: Command<'a>) -> Result<Command<'
     ensures { IfOk result (λ whole. app_of whole ≡ with_run_options (app_of command.entry)) }
 {
     command
-        .arg(option_of(alloc, "input"))?
-        .arg(number_of(alloc, "words", 1, MOST_WORDS))?
-        .arg(option_of(alloc, "timing"))?
-        .arg(option_of(alloc, "probe"))
+        .arg(input_option(alloc))?
+        .arg(number_of(
+            alloc,
+            "words",
+            "How many words are run at most, from 1 to 1000000000000 [default: 1000000000]",
+            1,
+            MOST_WORDS,
+        ))?
+        .arg(option_of(
+            alloc,
+            "timing",
+            "When results land: late, early or cyclic [default: late]",
+        ))?
+        .arg(option_of(
+            alloc,
+            "probe",
+            "Who reports at the end: units, words or all [default: none]",
+        ))
 }
 
 /// `sim WORDS [--machine M]` with these options.
@@ -60,7 +77,14 @@ fn sim_command<'a>(alloc: Global) -> Result<Command<'a>, AllocError>
 {
     with_run_options(
         alloc,
-        file_command(alloc, "sim", "WORDS")?.arg(option_of(alloc, "machine"))?,
+        file_command(
+            alloc,
+            "sim",
+            "Runs a text of words",
+            "WORDS",
+            "The file of the words",
+        )?
+        .arg(machine_option(alloc))?,
     )
 }
 
@@ -70,7 +94,16 @@ fn exec_command<'a>(alloc: Global) -> Result<Command<'a>, AllocError>
 {
     with_run_options(
         alloc,
-        with_compiling_options(alloc, file_command(alloc, "exec", "SRC")?)?,
+        with_compiling_options(
+            alloc,
+            file_command(
+                alloc,
+                "exec",
+                "Compiles a source and runs its words",
+                "SRC",
+                "The file of the source",
+            )?,
+        )?,
     )
 }
 

@@ -39,6 +39,7 @@ pub(crate) fn run<K: Sink>(
     ensures issued { IfOk result (λ end. is_fault end.ended ≡ false → end.issued ≡ length (events_within (loaded_of loaded) (times timing.old) budget)) }
     ensures failed { IfOk result (λ end. is_fault end.ended ≡ true → Rose (K.faults out.old) (K.faults out.new)) }
     ensures nothing { OnErr result (K.told out.new ≡ K.told out.old) }
+    ensures out_never_falls { K.faults out.old ≤ K.faults out.new }
 {
     let mut sim = Sim::start(alloc, loaded.program, loaded.machine, loaded.input)?;
     let ended = sim.run(budget, out, timing, probes);
@@ -186,6 +187,7 @@ pub(crate) fn run_loaded<K: Sink, E: Sink>(
     ensures answers { LoadedAnswers (loaded_of loaded) (times timing) budget tells (map (λ b. watch b) probes.items) (streams_of K.told K.faults E.told E.faults out.old out.new err.old err.new) result }
     ensures adds { Adds (E.told err.old) (E.told err.new) (E.faults err.old) (E.faults err.new) }
     ensures nothing { is_of_run result ≡ false → K.told out.new ≡ K.told out.old }
+    ensures out_never_falls { K.faults out.old ≤ K.faults out.new }
 {
     match run(alloc, loaded, budget, out, &mut timing, &mut probes) {
         Ok(end) => conclude(err, end, tells, probes.as_slice()),

@@ -7,7 +7,7 @@ ghost use Rattle.vx_words.specs.Text.{Spells, reading};
 ghost use Rattle.vx_driver.specs.Answers.{effect_of};
 ghost use Rattle.vx_driver.specs.Asked.{simulation_of};
 ghost use Rattle.vx_driver.specs.Status.{Adds};
-ghost use Rattle.vx_driver.specs.Simulated.{words_as, words_in, loading_input, loading_machine, loading, is_named, Stops, RunAnswers, SimAnswers, is_of_run, streams_of};
+ghost use Rattle.vx_driver.specs.Simulated.{DefaultUnless, EmptyUnless, words_as, words_in, loading_input, loading_machine, loading, is_named, Stops, RunAnswers, SimAnswers, is_of_run, streams_of};
 ghost use Rattle.vx_driver.specs.Ending.{loaded_of};
 
 use crate::boxes::{probes_of, timing_of};
@@ -79,6 +79,8 @@ fn load_input<D: Depot>(
     requires { is_sound program ≡ true }
     ensures same_files { D.files depot.new ≡ D.files depot.old }
     ensures loaded { IfOk result (λ loaded. IfSome (D.files depot.old) (λ held. loading_input held program machine (option_map (λ s. s.now) name.entry) ≡ Ok (loaded_of loaded))) }
+    ensures machine { IfOk result (λ loaded. loaded.machine ≡ machine) }
+    ensures unnamed { IfOk result (λ loaded. EmptyUnless (option_map (λ s. s.now) name.entry) loaded.input.items) }
     ensures program { IfOk result (λ loaded. loaded.program ≡ program) }
     ensures stops { IfErr result (Stops (is_named None (option_map (λ s. s.now) name.entry)) (λ held. loading_input held program machine (option_map (λ s. s.now) name.entry)) (effect_of D.files D.failed_reads D.failed_replaces depot.old depot.new)) }
     ensures reads_never_fall { D.failed_reads depot.old ≤ D.failed_reads depot.new }
@@ -105,6 +107,8 @@ fn load_machine<D: Depot>(
     requires { is_sound program ≡ true }
     ensures same_files { D.files depot.new ≡ D.files depot.old }
     ensures loaded { IfOk result (λ loaded. IfSome (D.files depot.old) (λ held. loading_machine held program (option_map (λ s. s.now) machine.entry) (option_map (λ s. s.now) input.entry) ≡ Ok (loaded_of loaded))) }
+    ensures default_machine { IfOk result (λ loaded. DefaultUnless (option_map (λ s. s.now) machine.entry) loaded.machine) }
+    ensures unnamed { IfOk result (λ loaded. EmptyUnless (option_map (λ s. s.now) input.entry) loaded.input.items) }
     ensures program { IfOk result (λ loaded. loaded.program ≡ program) }
     ensures stops { IfErr result (Stops (is_named (option_map (λ s. s.now) machine.entry) (option_map (λ s. s.now) input.entry)) (λ held. loading_machine held program (option_map (λ s. s.now) machine.entry) (option_map (λ s. s.now) input.entry)) (effect_of D.files D.failed_reads D.failed_replaces depot.old depot.new)) }
     ensures reads_never_fall { D.failed_reads depot.old ≤ D.failed_reads depot.new }
@@ -127,6 +131,8 @@ fn load<D: Depot>(
     ensures same_files { D.files depot.new ≡ D.files depot.old }
     ensures loaded { IfOk result (λ loaded. IfSome (D.files depot.old) (λ held. loading held words.now (option_map (λ s. s.now) machine.entry) (option_map (λ s. s.now) input.entry) ≡ Ok (loaded_of loaded))) }
     ensures spells { IfOk result (λ loaded. IfSome (D.files depot.old) (λ held. IfSome (held words.now) (λ content. Spells content loaded.program))) }
+    ensures default_machine { IfOk result (λ loaded. DefaultUnless (option_map (λ s. s.now) machine.entry) loaded.machine) }
+    ensures unnamed { IfOk result (λ loaded. EmptyUnless (option_map (λ s. s.now) input.entry) loaded.input.items) }
     ensures stops { IfErr result (Stops (is_named (option_map (λ s. s.now) machine.entry) (option_map (λ s. s.now) input.entry)) (λ held. loading held words.now (option_map (λ s. s.now) machine.entry) (option_map (λ s. s.now) input.entry)) (effect_of D.files D.failed_reads D.failed_replaces depot.old depot.new)) }
     ensures reads_never_fall { D.failed_reads depot.old ≤ D.failed_reads depot.new }
     ensures replaces_never_fall { D.failed_replaces depot.old ≤ D.failed_replaces depot.new }
@@ -154,6 +160,7 @@ fn simulate<D: Depot, K: Sink, E: Sink>(
     ensures nothing { is_of_run result ≡ false → K.told out.new ≡ K.told out.old }
     ensures reads_never_fall { D.failed_reads depot.old ≤ D.failed_reads depot.new }
     ensures replaces_never_fall { D.failed_replaces depot.old ≤ D.failed_replaces depot.new }
+    ensures out_never_falls { K.faults out.old ≤ K.faults out.new }
 {
     match load(alloc, depot, asked.file, asked.machine, asked.input) {
         Ok(loaded) => run_loaded(alloc, loaded, asked.budget, false, out, err, timing, probes),
@@ -176,6 +183,7 @@ pub(crate) fn simulate_with<D: Depot, K: Sink, E: Sink>(
     ensures nothing { is_of_run result ≡ false → K.told out.new ≡ K.told out.old }
     ensures reads_never_fall { D.failed_reads depot.old ≤ D.failed_reads depot.new }
     ensures replaces_never_fall { D.failed_replaces depot.old ≤ D.failed_replaces depot.new }
+    ensures out_never_falls { K.faults out.old ≤ K.faults out.new }
 {
     let timing = match timing_of(timings, asked.timing) {
         Some(timing) => timing,

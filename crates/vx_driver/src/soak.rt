@@ -222,6 +222,7 @@ fn put_summary<K: Sink, E: Sink>(out: &mut K, err: &mut E, line: &[u8]) -> Statu
     ensures puts { (z : ℤ) → PutsEnd (Halted z) line.now (streams_of K.told K.faults E.told E.faults out.old out.new err.old err.new) result }
     ensures adds { Adds (E.told err.old) (E.told err.new) (E.faults err.old) (E.faults err.new) }
     ensures wanted { puts_summary result ≡ true }
+    ensures out_never_falls { K.faults out.old ≤ K.faults out.new }
 {
     match put_all(out, line) {
         Ok(()) => Status::Done,
@@ -235,6 +236,7 @@ fn put_end<K: Sink, E: Sink>(out: &mut K, err: &mut E, report: &SoakReport) -> S
     ensures puts { PutsEnd report.now.ended report.now.line.items (streams_of K.told K.faults E.told E.faults out.old out.new err.old err.new) result }
     ensures adds { Adds (E.told err.old) (E.told err.new) (E.faults err.old) (E.faults err.new) }
     ensures nothing { puts_summary result ≡ false → K.told out.new ≡ K.told out.old }
+    ensures out_never_falls { K.faults out.old ≤ K.faults out.new }
 {
     match report.ended {
         Ended::Halted(_) => put_summary(out, err, report.line.as_slice()),
@@ -255,6 +257,7 @@ fn soak_with<K: Sink, E: Sink>(
     ensures answers { SoakedAnswers (soaking_of asked.now) (streams_of K.told K.faults E.told E.faults out.old out.new err.old err.new) result (record { times = times timing; watches = [] }) }
     ensures adds { Adds (E.told err.old) (E.told err.new) (E.faults err.old) (E.faults err.new) }
     ensures nothing { puts_summary result ≡ false → K.told out.new ≡ K.told out.old }
+    ensures out_never_falls { K.faults out.old ≤ K.faults out.new }
 {
     match soaked(alloc, asked, &mut timing) {
         Ok(report) => put_end(out, err, &report),
@@ -273,6 +276,7 @@ pub(crate) fn soak<K: Sink, E: Sink>(
     ensures answers { ((e : Effect) (probes : List ProbeBox) → SameFiles e → SoakAnswers (soaking_of asked.now) (record { probes = probes; timings = map (λ b. record { name = (⟦<dyn Timing as Timing>⟧ b.vtable).called b.value; times = times b }) timings.items }) e (streams_of K.told K.faults E.told E.faults out.old out.new err.old err.new) result) }
     ensures adds { Adds (E.told err.old) (E.told err.new) (E.faults err.old) (E.faults err.new) }
     ensures nothing { puts_summary result ≡ false → K.told out.new ≡ K.told out.old }
+    ensures out_never_falls { K.faults out.old ≤ K.faults out.new }
 {
     match timing_of(timings, TIMING) {
         Some(timing) => soak_with(alloc, out, err, asked, timing),

@@ -22,8 +22,21 @@ fn soak_command<'a>(alloc: Global) -> Result<Command<'a>, AllocError>
     ensures { IfOk result (λ command. app_of command ≡ soak_app) }
 {
     Command::new(alloc, "soak")
-        .arg(required_number_of(alloc, "SEED", 0, MOST_SEED))?
-        .arg(required_number_of(alloc, "SIZE", 1, MOST_SIZE))
+        .about("Makes a source, compiles and runs it, and puts one line of it")
+        .arg(required_number_of(
+            alloc,
+            "SEED",
+            "Where the draws begin, from 0 to 1000000000",
+            0,
+            MOST_SEED,
+        ))?
+        .arg(required_number_of(
+            alloc,
+            "SIZE",
+            "How many statements are made, from 1 to 10000",
+            1,
+            MOST_SIZE,
+        ))
 }
 
 /// The size that was found, beside a seed.

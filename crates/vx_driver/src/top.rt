@@ -75,6 +75,7 @@ fn perform_sim<D: Depot, K: Sink, E: Sink>(
     ensures nothing { puts_output (sim_of (map (λ w. w.now) words.now)) result ≡ false → K.told out.new ≡ K.told out.old }
     ensures reads_never_fall { D.failed_reads depot.old ≤ D.failed_reads depot.new }
     ensures replaces_never_fall { D.failed_replaces depot.old ≤ D.failed_replaces depot.new }
+    ensures out_never_falls { K.faults out.old ≤ K.faults out.new }
 {
     match sim_asked(alloc, words) {
         Ok(asked) => simulate_with(alloc, depot, out, err, &asked, probes, timings),
@@ -97,6 +98,7 @@ fn perform_exec<D: Depot, K: Sink, E: Sink>(
     ensures nothing { puts_output (exec_of (map (λ w. w.now) words.now)) result ≡ false → K.told out.new ≡ K.told out.old }
     ensures reads_never_fall { D.failed_reads depot.old ≤ D.failed_reads depot.new }
     ensures replaces_never_fall { D.failed_replaces depot.old ≤ D.failed_replaces depot.new }
+    ensures out_never_falls { K.faults out.old ≤ K.faults out.new }
 {
     match exec_asked(alloc, words) {
         Ok(asked) => execute_with(alloc, depot, out, err, &asked, probes, timings),
@@ -117,6 +119,7 @@ fn perform_profile<D: Depot, K: Sink, E: Sink>(
     ensures nothing { puts_output (profile_of (map (λ w. w.now) words.now)) result ≡ false → K.told out.new ≡ K.told out.old }
     ensures reads_never_fall { D.failed_reads depot.old ≤ D.failed_reads depot.new }
     ensures replaces_never_fall { D.failed_replaces depot.old ≤ D.failed_replaces depot.new }
+    ensures out_never_falls { K.faults out.old ≤ K.faults out.new }
 {
     match profile_asked(alloc, words) {
         Ok(asked) => profile(alloc, depot, out, err, &asked),
@@ -139,6 +142,7 @@ fn perform_soak<D: Depot, K: Sink, E: Sink>(
     ensures nothing { puts_output (soak_of (map (λ w. w.now) words.now)) result ≡ false → K.told out.new ≡ K.told out.old }
     ensures reads_never_fall { D.failed_reads depot.old ≤ D.failed_reads depot.new }
     ensures replaces_never_fall { D.failed_replaces depot.old ≤ D.failed_replaces depot.new }
+    ensures out_never_falls { K.faults out.old ≤ K.faults out.new }
 {
     match soak_asked(alloc, words) {
         Ok(asked) => soak(alloc, out, err, &asked, timings),
@@ -162,6 +166,7 @@ fn perform_named<D: Depot, K: Sink, E: Sink>(
     ensures nothing { puts_output (command_named name.now (map (λ w. w.now) words.now)) result ≡ false → K.told out.new ≡ K.told out.old }
     ensures reads_never_fall { D.failed_reads depot.old ≤ D.failed_reads depot.new }
     ensures replaces_never_fall { D.failed_replaces depot.old ≤ D.failed_replaces depot.new }
+    ensures out_never_falls { K.faults out.old ≤ K.faults out.new }
 {
     if name == "compile" {
         perform_compile(alloc, words, depot, err)
@@ -194,6 +199,7 @@ fn perform<D: Depot, K: Sink, E: Sink>(
     ensures adds { Adds (E.told err.old) (E.told err.new) (E.faults err.old) (E.faults err.new) }
     ensures reads_never_fall { D.failed_reads depot.old ≤ D.failed_reads depot.new }
     ensures replaces_never_fall { D.failed_replaces depot.old ≤ D.failed_replaces depot.new }
+    ensures out_never_falls { K.faults out.old ≤ K.faults out.new }
 {
     match words {
         [program, name, others @ ..] => match without_name(alloc, program, others) {
@@ -234,6 +240,10 @@ pub fn vexc<D: Depot, K: Sink, E: Sink>(
     // Only a run puts anything on `out`, its output, its counts or its summary.
     ensures nothing_on_out { puts_output (command_of (map string_bytes words.now)) result ≡ false → K.told out.new ≡ K.told out.old }
     ensures line_on_err { Appends (E.told err.old) (E.told err.new) }
+
+    // No count of failures falls.
+    ensures out_never_falls { K.faults out.old ≤ K.faults out.new }
+    ensures err_never_falls { E.faults err.old ≤ E.faults err.new }
     ensures reads_never_fall { D.failed_reads depot.old ≤ D.failed_reads depot.new }
     ensures replaces_never_fall { D.failed_replaces depot.old ≤ D.failed_replaces depot.new }
 {

@@ -25,6 +25,7 @@ use vx_frame::laws::{
     finished_programs_carry_their_plan, frames_keep_to_the_machine, layouts_are_spaced,
 };
 use vx_frame::{Finished, finish};
+use vx_hoist::hoist;
 use vx_isa::laws::{any_timing_law, path_strict_law};
 use vx_isa::program::WordProgram;
 use vx_lower::lower;
@@ -146,14 +147,18 @@ fn all_slots_in(maps: &[RegMap]) -> Result<u32, NoMemory>
 }
 
 /// The graphs of a program from which its words are made and whose blocks a profile counts: lowered and cleaned, then narrowed
-/// by what is known of values, and cleaned once more.
+/// by what is known of values, and cleaned once more; with operations put before the loops that do them in each turn, then
+/// narrowed and cleaned again.
 pub(crate) fn flow_of(alloc: Global, program: &Typed) -> Result<Flow, NoMemory>
     ensures { IfOk result (λ flow. FlowOf (view.program_of program.now.program) flow) }
 {
     let lowered = lower(alloc, program)?;
     let cleaned = clean(alloc, lowered)?;
     let narrowed = narrow(alloc, cleaned)?;
-    let flow = clean(alloc, narrowed)?;
+    let once = clean(alloc, narrowed)?;
+    let hoisted = hoist(alloc, once)?;
+    let narrowed_again = narrow(alloc, hoisted)?;
+    let flow = clean(alloc, narrowed_again)?;
     Ok(flow)
 }
 

@@ -22,8 +22,8 @@ returns-in-Ok-clause-loaded g c =
       reads_after = refl;
       replaces = c.in-Ok.ensures.replaces_never_fall;
       replaces_after = refl;
-    }) c.in-Ok.ensures.program facts.0 facts.1.0 facts.1.1.0 facts.1.1.1)
-    (both_ok c.load_profile.result _ _ c.load_profile.ensures.profiled (both_ok c.load_profile.result _ _ c.load_profile.ensures.machine (both_ok c.load_profile.result _ _ c.load_profile.ensures.input c.load_profile.ensures.compiled)))
+    }) c.in-Ok.ensures.program facts.0 facts.1.0 facts.1.1.0 facts.1.1.1.0 (record { machine_is = facts.1.1.1.1.0; input_is = facts.1.1.1.1.1 }))
+    (both_ok c.load_profile.result _ _ c.load_profile.ensures.profiled (both_ok c.load_profile.result _ _ c.load_profile.ensures.machine (both_ok c.load_profile.result _ _ c.load_profile.ensures.input (both_ok c.load_profile.result _ _ c.load_profile.ensures.compiled (both_ok c.load_profile.result _ _ c.load_profile.ensures.default_machine c.load_profile.ensures.unnamed)))))
 
 pub returns-in-Ok-clause-stops : goal.returns-in-Ok-clause-stops
 returns-in-Ok-clause-stops g c =

@@ -2,7 +2,7 @@
 use Rattle.std.proofs.Common.{◌≡◌, Ok, IfSome, refl, sym, subst, option_map}
 use Rattle.std.proofs.lemmas.Result.{IfErr-weaker, IfOk-weaker}
 use Rattle.vx_driver.specs.Answers.{effect_of, machine_found, Is}
-use Rattle.vx_driver.specs.Simulated.{input_found}
+use Rattle.vx_driver.specs.Simulated.{DefaultUnless, input_found}
 use Rattle.vx_driver.proofs.FileSteps.{still_some}
 use Rattle.vx_driver.proofs.Executing.{later_input, later_machine}
 use Rattle.vx_driver.proofs.exec.load_machine.Goals as goal
@@ -18,6 +18,9 @@ returns-in-Ok-clause-input g c =
     IfOk-weaker c.load_input.result _ _
     (λ loaded is. subst (λ b. IfSome b (λ held. input_found held (option_map (λ s. s.now) c.args.input) ≡ Ok loaded.input.items)) c.in-Ok.ensures.same_files is)
     c.load_input.ensures.input
+
+pub returns-in-Ok-clause-default_machine : goal.returns-in-Ok-clause-default_machine
+returns-in-Ok-clause-default_machine g c = IfOk-weaker c.load_input.result _ _ (λ loaded same. subst (DefaultUnless (option_map (λ s. s.now) c.args.machine)) (sym same) c.in-Ok.ensures.default_machine) c.load_input.ensures.machine
 
 pub returns-in-Ok-clause-stops : goal.returns-in-Ok-clause-stops
 returns-in-Ok-clause-stops g c =

@@ -6,7 +6,7 @@ use Rattle.vx_driver.proofs.profile.count_on.Goals as goal
 
 pub returns-in-Ok-clause-counted : goal.returns-in-Ok-clause-counted
 returns-in-Ok-clause-counted g c =
-    IfOk-weaker c.counted_or.result _ _ (λ counted is. record { input = c.in-Ok.input.items; input_is = c.in-Ok.ensures.numbers; is = is }) (rw c.as_slice.ensures.value at c.counted_or.ensures.counted)
+    IfOk-weaker c.counted_or.result _ _ (λ counted is. record { input = c.in-Ok.input.items; input_is = c.in-Ok.ensures.numbers; unnamed = c.in-Ok.ensures.unnamed; is = is }) (rw c.as_slice.ensures.value at c.counted_or.ensures.counted)
 
 pub returns-in-Ok-clause-stops : goal.returns-in-Ok-clause-stops
 returns-in-Ok-clause-stops g c = IfErr-weaker c.counted_or.result _ _ (λ status memory. inl memory) c.counted_or.ensures.memory

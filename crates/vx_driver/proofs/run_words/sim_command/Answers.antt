@@ -8,5 +8,5 @@ use Rattle.vx_driver.proofs.run_words.sim_command.Goals as goal
 pub returns : goal.returns
 unfolding sim_app
 returns c =
-    let machine = c.in_ok-arg.ensures.shape c.option_of.ensures.local ∙ ap₂ with_rule c.in_ok-file_command.ensures c.option_of.ensures.rule in
+    let machine = c.in_ok-arg.ensures.shape c.machine_option.ensures.local ∙ ap₂ with_rule c.in_ok-file_command.ensures c.machine_option.ensures.rule in
     IfOk-weaker c.with_run_options.result _ (λ command. app_of command ≡ sim_app) (λ command is. is ∙ ap with_run_options machine) c.with_run_options.ensures

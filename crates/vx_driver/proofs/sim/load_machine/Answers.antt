@@ -1,8 +1,9 @@
 -- The machine was read before the input, and reading it changed no file.
-use Rattle.std.proofs.Common.{refl, sym, option_map}
+use Rattle.std.proofs.Common.{refl, subst, sym, option_map}
 use Rattle.std.proofs.lemmas.Result.{IfErr-weaker, IfOk-weaker}
 use Rattle.vx_driver.specs.Answers.{effect_of}
 use Rattle.vx_driver.specs.Ending.{loaded_of}
+use Rattle.vx_driver.specs.Simulated.{DefaultUnless}
 use Rattle.vx_driver.proofs.FileSteps.{machine_loaded, after_machine, at_machine, still_some}
 use Rattle.vx_driver.proofs.sim.load_machine.Goals as goal
 
@@ -11,6 +12,9 @@ returns-in-Ok-clause-loaded g c =
     IfOk-weaker c.load_input.result _ _
     (λ loaded more. machine_loaded (g.D.Depot.files c.args.depot.now) (g.D.Depot.files c.machine_for.new.depot) c.args.program _ _ c.in-Ok.machine (loaded_of loaded) c.in-Ok.ensures.same_files c.in-Ok.ensures.machine more)
     c.load_input.ensures.loaded
+
+pub returns-in-Ok-clause-default_machine : goal.returns-in-Ok-clause-default_machine
+returns-in-Ok-clause-default_machine g c = IfOk-weaker c.load_input.result _ _ (λ loaded same. subst (DefaultUnless (option_map (λ s. s.now) c.args.machine)) (sym same) c.in-Ok.ensures.default_machine) c.load_input.ensures.machine
 
 pub returns-in-Ok-clause-stops : goal.returns-in-Ok-clause-stops
 returns-in-Ok-clause-stops g c =

@@ -7,7 +7,7 @@ use Rattle.vx_driver.proofs.sim.simulate.Goals as goal
 
 pub returns-in-Ok-clause-answers : goal.returns-in-Ok-clause-answers
 returns-in-Ok-clause-answers g c =
-    run_loaded_answers (simulation_of c.args.asked.now) (loaded_of c.in-Ok.loaded) _ _ _ _ c.in-Ok.ensures.loaded c.in-Ok.ensures.spells (wanted_for _ c.args.probes.items _ c.args.asked.now.probe c.requires.wanted) c.run_loaded.result c.run_loaded.ensures.answers
+    run_loaded_answers (simulation_of c.args.asked.now) (loaded_of c.in-Ok.loaded) _ _ _ _ c.in-Ok.ensures.loaded c.in-Ok.ensures.spells (record { machine_is = c.in-Ok.ensures.default_machine; input_is = c.in-Ok.ensures.unnamed }) (wanted_for _ c.args.probes.items _ c.args.asked.now.probe c.requires.wanted) c.run_loaded.result c.run_loaded.ensures.answers
 
 pub returns-in-Err-clause-answers : goal.returns-in-Err-clause-answers
 returns-in-Err-clause-answers g c = stops_told (simulation_of c.args.asked.now) _

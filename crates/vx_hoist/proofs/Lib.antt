@@ -1,0 +1,3 @@
+mod Grows
+mod GrowRuns
+mod GrowFlow

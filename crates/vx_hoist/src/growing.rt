@@ -1,0 +1,225 @@
+// The graphs of a program with more operations before its loops, each of which always has a meaning and only writes a value that
+// nothing reads. What is put is looked for and tested; a graph that does not pass, and a flow that would not be sound, stay as
+// they are.
+
+ghost use Rattle.std.specs.Prelude.{◌≡◌, ◌++◌, true, IfOk, IfSome};
+ghost use Rattle.std.specs.List.{list_all};
+ghost use Rattle.vx_ast.specs.Tree.{Program};
+ghost use Rattle.vx_flow.specs.Effects.{reads};
+ghost use Rattle.vx_flow.specs.Sound.{is_sound_flow};
+ghost use Rattle.vx_lower.specs.FlowOf.{FlowOf};
+ghost use Rattle.vx_clean.specs.Thinning.{are_read, unread_of};
+ghost use Rattle.vx_hoist.specs.Growing.{block_reads, is_silent, is_total, BlockGrows, BlocksGrow, FlowStays, GraphGrows, GraphsGrow};
+
+use crate::search::{Addition, find_additions, ops_at};
+use std::alloc::Global;
+use vx_base::listed::Listed;
+use vx_base::outcome::NoMemory;
+use vx_clean::copying::{copied_exit, copied_graph, with_blocks, with_graphs};
+use vx_clean::origins::origins;
+use vx_clean::reading::{are_reads_needed, exit_reads_needed, is_dropped};
+use vx_clean::shape_test::is_shaped;
+use vx_flow::graph::{Block, Flow, Graph, Op};
+use vx_sound::is_sound;
+
+/// The graphs of a program with operations put at the end of the block before a loop, which compute what a turn of the loop computes
+/// anew each time from values that the loop does not write. Nothing reads what they write, so the flow does what it did; the pass by
+/// what is known of values reads it in place of what the loop computes.
+pub fn hoist(alloc: Global, flow: Flow) -> Result<Flow, NoMemory>
+    requires { is_sound_flow flow ≡ true }
+    ensures sound { IfOk result (λ grown. is_sound_flow grown ≡ true) }
+    ensures flow { IfOk result (λ grown. (p : Program) → FlowOf p flow → FlowOf p grown) }
+{
+    match grown_flow(alloc, &flow)? {
+        Some(grown) => Ok(grown),
+        None => Ok(flow),
+    }
+}
+
+/// The flow with more operations, where it is sound.
+fn grown_flow(alloc: Global, flow: &Flow) -> Result<Option<Flow>, NoMemory>
+    ensures sound { IfOk result (λ found. IfSome found (λ grown. is_sound_flow grown ≡ true)) }
+    ensures flow { IfOk result (λ found. IfSome found (λ grown. FlowStays flow.now grown)) }
+{
+    let functions = grown_graphs(alloc, flow.functions.as_slice())?;
+    let grown = with_graphs(alloc, flow, functions)?;
+    if is_sound(alloc, &grown)? {
+        Ok(Some(grown))
+    } else {
+        Ok(None)
+    }
+}
+
+fn grown_graphs(alloc: Global, graphs: &[Graph]) -> Result<Listed<Graph>, NoMemory>
+    ensures { IfOk result (λ grown. GraphsGrow graphs.now grown) }
+{
+    let mut grown = Listed::new(alloc);
+    for graph in graphs {
+        grown.push(grown_graph(alloc, graph)?)?;
+    }
+    Ok(grown)
+}
+
+fn grown_graph(alloc: Global, graph: &Graph) -> Result<Graph, NoMemory>
+    ensures { IfOk result (λ grown. GraphGrows graph.now grown) }
+{
+    match grown_where_found(alloc, graph)? {
+        Some(grown) => Ok(grown),
+        None => unchanged(alloc, graph),
+    }
+}
+
+fn unchanged(alloc: Global, graph: &Graph) -> Result<Graph, NoMemory>
+    ensures { IfOk result (λ copy. GraphGrows graph.now copy) }
+{
+    let copy = copied_graph(alloc, graph)?;
+    Ok(copy)
+}
+
+/// The graph with the operations that were looked for, where they pass.
+fn grown_where_found(alloc: Global, graph: &Graph) -> Result<Option<Graph>, NoMemory>
+    ensures { IfOk result (λ found. IfSome found (λ grown. GraphGrows graph.now grown)) }
+{
+    let found = find_additions(alloc, graph)?;
+    grown_where_silent(
+        alloc,
+        graph,
+        found.named.as_slice(),
+        found.additions.as_slice(),
+    )
+}
+
+fn grown_where_silent(
+    alloc: Global,
+    graph: &Graph,
+    named: &[bool],
+    additions: &[Addition],
+) -> Result<Option<Graph>, NoMemory>
+    ensures { IfOk result (λ found. IfSome found (λ grown. GraphGrows graph.now grown)) }
+{
+    match grown_blocks(alloc, named, graph.blocks.as_slice(), additions)? {
+        Some(blocks) => grown_where_shaped(alloc, graph, named, blocks),
+        None => Ok(None),
+    }
+}
+
+/// The graph with blocks that have grown, where it has its shape.
+fn grown_where_shaped(
+    alloc: Global,
+    graph: &Graph,
+    named: &[bool],
+    blocks: Listed<Block>,
+) -> Result<Option<Graph>, NoMemory>
+    requires { BlocksGrow (unread_of named.now) graph.now.blocks blocks }
+    ensures { IfOk result (λ found. IfSome found (λ grown. GraphGrows graph.now grown)) }
+{
+    let grown = with_blocks(alloc, graph, blocks)?;
+    let origins = origins(alloc, grown.blocks.as_slice())?;
+    if is_shaped(origins.as_slice(), grown.blocks.as_slice()) {
+        Ok(Some(grown))
+    } else {
+        Ok(None)
+    }
+}
+
+/// The blocks with what is put at their ends, where each passes.
+fn grown_blocks(
+    alloc: Global,
+    named: &[bool],
+    blocks: &[Block],
+    additions: &[Addition],
+) -> Result<Option<Listed<Block>>, NoMemory>
+    ensures { IfOk result (λ found. IfSome found (λ grown. BlocksGrow (unread_of named.now) blocks.now grown)) }
+{
+    let mut grown = Listed::new(alloc);
+    for (place, block) in blocks.iter().enumerate() {
+        let added = ops_at(alloc, additions, place)?;
+        match grown_block(alloc, named, block, added.as_slice())? {
+            Some(new) => grown.push(new)?,
+            None => return Ok(None),
+        }
+    }
+    Ok(Some(grown))
+}
+
+/// The block with operations at its end, where it reads no value that is not named and they only write such values.
+fn grown_block(
+    alloc: Global,
+    named: &[bool],
+    block: &Block,
+    added: &[Op],
+) -> Result<Option<Block>, NoMemory>
+    ensures { IfOk result (λ found. IfSome found (λ grown. BlockGrows (unread_of named.now) block.now grown)) }
+{
+    if reads_named(named, block) && are_silent(named, added) {
+        let grown = with_end(alloc, block, added)?;
+        Ok(Some(grown))
+    } else {
+        Ok(None)
+    }
+}
+
+/// The block with operations at its end.
+fn with_end(alloc: Global, block: &Block, added: &[Op]) -> Result<Block, NoMemory>
+    ensures ops { IfOk result (λ grown. grown.ops ≡ block.now.ops ++ added.now) }
+    ensures exit { IfOk result (λ grown. grown.exit ≡ block.now.exit) }
+{
+    let mut ops = Listed::new(alloc);
+    append(&mut ops, block.ops.as_slice())?;
+    append(&mut ops, added)?;
+    let exit = copied_exit(alloc, &block.exit)?;
+    Ok(Block { ops, exit })
+}
+
+fn append(list: &mut Listed<Op>, ops: &[Op]) -> Result<(), NoMemory>
+    ensures { IfOk result (λ _. list.new ≡ list.old ++ ops.now) }
+{
+    for op in ops {
+        list.push(*op)?;
+    }
+    Ok(())
+}
+
+/// Whether a block reads values alone that are named.
+fn reads_named(named: &[bool], block: &Block) -> bool
+    ensures { result ≡ block_reads (unread_of named.now) block.now }
+{
+    ops_read_named(named, block.ops.as_slice()) && exit_reads_needed(named, &block.exit)
+}
+
+fn ops_read_named(named: &[bool], ops: &[Op]) -> bool
+    ensures { result ≡ list_all (λ op. are_read (unread_of named.now) (reads op)) ops.now }
+{
+    ops.iter().all(|op| are_reads_needed(named, op))
+}
+
+/// Whether operations do nothing but write values that are not named.
+fn are_silent(named: &[bool], ops: &[Op]) -> bool
+    ensures { result ≡ list_all (is_silent (unread_of named.now)) ops.now }
+{
+    ops.iter().all(|op| is_silent(named, op))
+}
+
+fn is_silent(named: &[bool], op: &Op) -> bool
+    ensures { result ≡ is_silent (unread_of named.now) op.now }
+{
+    is_total(op) && is_dropped(named, op)
+}
+
+/// Whether an operation has a meaning wherever it is executed.
+fn is_total(op: &Op) -> bool
+    ensures { result ≡ is_total op.now }
+{
+    match op {
+        Op::Compute { .. } => true,
+        Op::Select { .. } => true,
+        Op::Place { .. } => true,
+        Op::Load { dismissible, .. } => *dismissible,
+        Op::Store { .. } => false,
+        Op::More { .. } => false,
+        Op::Input { .. } => false,
+        Op::Text { .. } => false,
+        Op::Decimal { .. } => false,
+        Op::Across { .. } => false,
+    }
+}
