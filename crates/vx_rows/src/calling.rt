@@ -23,7 +23,30 @@ pub struct Outcome {
     pub err: MemSink,
 }
 
-/// Calls the compiler with these boxes, over files and outputs of any kind.
+/// Calls the compiler with these timings and the probes that are in the boxes.
+fn call_timed<D: Depot, K: Sink, E: Sink>(
+    alloc: Global,
+    words: &[String],
+    boxes: Boxes,
+    timings: Vec<Box<dyn Timing>>,
+    depot: &mut D,
+    out: &mut K,
+    err: &mut E,
+) -> Result<u8, AllocError> {
+    let mut probes = Vec::new(alloc);
+    if boxes.units {
+        let units: Box<dyn Probe> = Box::new(alloc, UnitUse::make())?;
+        probes.push(units)?;
+    }
+    if boxes.words {
+        let count: Box<dyn Probe> = Box::new(alloc, WordCount::make())?;
+        probes.push(count)?;
+    }
+    Ok(vexc(alloc, words, depot, out, err, probes, timings).number())
+}
+
+/// Calls the compiler with these boxes, over files and outputs of any kind. What makes a box must not hand it out, so the call is made
+/// where the last box is there.
 fn call<D: Depot, K: Sink, E: Sink>(
     alloc: Global,
     words: &[String],
@@ -46,16 +69,7 @@ fn call<D: Depot, K: Sink, E: Sink>(
         let cyclic: Box<dyn Timing> = Box::new(alloc, Cyclic::make(numbers))?;
         timings.push(cyclic)?;
     }
-    let mut probes = Vec::new(alloc);
-    if boxes.units {
-        let units: Box<dyn Probe> = Box::new(alloc, UnitUse::make())?;
-        probes.push(units)?;
-    }
-    if boxes.words {
-        let count: Box<dyn Probe> = Box::new(alloc, WordCount::make())?;
-        probes.push(count)?;
-    }
-    Ok(vexc(alloc, words, depot, out, err, probes, timings).number())
+    call_timed(alloc, words, boxes, timings, depot, out, err)
 }
 
 /// An empty output, as a step wants it.

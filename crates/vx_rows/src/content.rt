@@ -94,7 +94,7 @@ fn with_line_feed(alloc: Global, text: &[u8]) -> Result<Vec<u8>, Why> {
 }
 
 /// A number in decimal.
-fn number_of(digits: &[u8]) -> Result<u32, Why> {
+pub fn number_of(digits: &[u8]) -> Result<u32, Why> {
     match str::from_utf8(digits) {
         Ok(digits) => digits.parse::<u32>().map_err(|_| Why::BadContent),
         Err(_) => Err(Why::BadContent),
@@ -110,16 +110,22 @@ fn times(alloc: Global, count: u32, once: &[u8]) -> Result<Vec<u8>, Why> {
     Ok(bytes)
 }
 
-/// A number, and behind a blank the text that is to be there so many times.
-fn repeated(alloc: Global, text: &[u8]) -> Result<Vec<u8>, Why> {
+/// A number, and the text behind the blank that follows it.
+fn counted(text: &[u8]) -> Result<(u32, &[u8]), Why> {
     match text.iter().position(|byte| *byte == b' ') {
         Some(at) => {
             let count = number_of(&text[..at])?;
-            let once = without_escapes(alloc, &text[at + 1..])?;
-            times(alloc, count, once.as_slice())
+            Ok((count, &text[at + 1..]))
         }
         None => Err(Why::BadContent),
     }
+}
+
+/// A number, and behind a blank the text that is to be there so many times.
+fn repeated(alloc: Global, text: &[u8]) -> Result<Vec<u8>, Why> {
+    let (count, text) = counted(text)?;
+    let once = without_escapes(alloc, text)?;
+    times(alloc, count, once.as_slice())
 }
 
 /// The bytes of a line of content.
@@ -129,6 +135,7 @@ fn bytes_of(alloc: Global, line: &[u8]) -> Result<Vec<u8>, Why> {
         [b':', text @ ..] | [b'?', text @ ..] => Ok(Vec::from_slice(alloc, text)?),
         [b'=', text @ ..] => without_escapes(alloc, text),
         [b'*', text @ ..] => repeated(alloc, text),
+        [b'+', text @ ..] => Ok(Vec::from_slice(alloc, counted(text)?.1)?),
         [b'.', b'.', b'.'] => Ok(Vec::new(alloc)),
         _ => Err(Why::BadContent),
     }
@@ -139,23 +146,24 @@ pub fn is_content(line: &[u8]) -> bool {
     match line {
         [b'=', b'=', b' ', ..] => false,
         [b'.', b'.', b'.'] => true,
-        [mark, ..] => matches!(*mark, b'|' | b':' | b'=' | b'*' | b'?'),
+        [mark, ..] => matches!(*mark, b'|' | b':' | b'=' | b'*' | b'?' | b'+'),
         [] => false,
     }
 }
 
 /// What may stand behind the bytes of a line of content.
-fn behind_of(line: &[u8]) -> Behind {
+fn behind_of(line: &[u8]) -> Result<Behind, Why> {
     match line {
-        [b'.', b'.', b'.'] => Behind::Text,
-        [b'?', ..] => Behind::Line,
-        _ => Behind::Nothing,
+        [b'.', b'.', b'.'] => Ok(Behind::Lines),
+        [b'?', ..] => Ok(Behind::Line),
+        [b'+', text @ ..] => Ok(Behind::Number(counted(text)?.0)),
+        _ => Ok(Behind::Nothing),
     }
 }
 
 /// The content that a line gives.
 pub fn piece_of(alloc: Global, line: &[u8]) -> Result<Piece, Why> {
     let bytes = bytes_of(alloc, line)?;
-    let behind = behind_of(line);
+    let behind = behind_of(line)?;
     Ok(Piece { bytes, behind })
 }

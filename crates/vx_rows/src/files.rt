@@ -90,6 +90,29 @@ pub fn depot_of(alloc: Global, files: &[Stored], failing: &[u64]) -> Result<MemD
     Ok(depot)
 }
 
+/// What stands under a name. Of two files of a name the later one counts.
+pub fn bytes_under<'a>(files: &'a [Stored], name: &str) -> Option<&'a [u8]> {
+    for file in files.iter().rev() {
+        if file.name.as_str() == name {
+            return Some(file.bytes.as_slice());
+        }
+    }
+    None
+}
+
+/// Puts what a call put on its output behind files, under the name that keeps it.
+pub fn keep_output(
+    alloc: Global,
+    files: &mut Vec<Stored>,
+    name: Option<&str>,
+    bytes: &[u8],
+) -> Result<(), NoMemory> {
+    match name {
+        Some(name) => put_file(alloc, files, name, Vec::from_slice(alloc, bytes)?),
+        None => Ok(()),
+    }
+}
+
 /// Whether a file of this name is among others.
 fn is_among(files: &[Stored], name: &str) -> bool {
     files.iter().any(|file| file.name.as_str() == name)

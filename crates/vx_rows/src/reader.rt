@@ -156,6 +156,7 @@ fn with_name(alloc: Global, word: &str, name: &str) -> Result<What, Why> {
         "after" => Ok(What::After(name)),
         "none" => Ok(What::Missing(name)),
         "some" => Ok(What::There(name)),
+        "keep" => Ok(What::Keeps(name)),
         _ => Err(Why::NoStatement),
     }
 }
@@ -218,7 +219,7 @@ fn fits(what: &What, piece: &Piece) -> bool {
 }
 
 impl Reader {
-    /// Reads a line of content. None stands behind one with a free end of the text.
+    /// Reads a line of content.
     fn take_content(&mut self, alloc: Global, line: &[u8]) -> Result<(), Why> {
         if !self.takes_content {
             return Err(Why::LoneContent);
@@ -229,7 +230,6 @@ impl Reader {
                 if !fits(&statement.what, &piece) {
                     return Err(Why::OpenInFile);
                 }
-                self.takes_content = piece.behind != Behind::Text;
                 statement.content.push(piece)?;
                 Ok(())
             }

@@ -1,8 +1,8 @@
 // What is printed.
 
 use crate::calling::Outcome;
-use crate::compare::{bytes_of, is_so, puts_as_wanted};
-use crate::files::words_of;
+use crate::compare::{bytes_of, is_so, puts_as_kept, puts_as_wanted};
+use crate::files::{Stored, words_of};
 use crate::halt::Halt;
 use crate::rows::{Row, Step};
 use crate::sheet::{Statement, Stream, What};
@@ -225,6 +225,25 @@ fn tell_all_files<K: Sink>(out: &mut K, step: &Step<'_>, depot: &MemDepot) -> Re
     tell_files(out, step.all, step, depot)
 }
 
+/// Prints what the output holds, where it is not what stands under the name that keeps it.
+fn tell_kept<K: Sink>(
+    out: &mut K,
+    step: &Step<'_>,
+    outcome: &Outcome,
+    found: &[Stored],
+) -> Result<(), Halt> {
+    if puts_as_kept(step, outcome, found) {
+        return Ok(());
+    }
+    put_named(
+        out,
+        "keep ",
+        step.kept().unwrap_or(""),
+        ": the output is another one:\n",
+    )?;
+    put_lines(out, outcome.out.bytes())
+}
+
 /// Prints a call that differs from what its step wants.
 pub fn tell_call<K: Sink>(
     out: &mut K,
@@ -233,10 +252,12 @@ pub fn tell_call<K: Sink>(
     step: &Step<'_>,
     call: &Statement,
     outcome: &Outcome,
+    found: &[Stored],
 ) -> Result<(), Halt> {
     put_head(out, file, row, call)?;
     tell_status(out, outcome.status, step.status())?;
     tell_stream(out, step, outcome, Stream::Out)?;
     tell_stream(out, step, outcome, Stream::Err)?;
+    tell_kept(out, step, outcome, found)?;
     tell_all_files(out, step, &outcome.depot)
 }

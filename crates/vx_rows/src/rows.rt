@@ -255,6 +255,17 @@ impl<'a> Step<'a> {
         }
     }
 
+    /// The name that keeps the output.
+    pub fn kept(&self) -> Option<&'a str> {
+        match self.found(Topic::Keeps) {
+            Some(statement) => match &statement.what {
+                What::Keeps(name) => Some(name.as_str()),
+                _ => None,
+            },
+            None => None,
+        }
+    }
+
     /// The status that is wanted.
     pub fn status(&self) -> u8 {
         match self.wanted(Topic::Status) {

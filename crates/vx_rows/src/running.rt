@@ -2,7 +2,7 @@
 
 use crate::calling::outcome_of;
 use crate::compare::is_as_wanted;
-use crate::files::{Stored, first_files, left_files, put_files};
+use crate::files::{Stored, first_files, keep_output, left_files, put_files};
 use crate::halt::Halt;
 use crate::report::{Tally, tell_call};
 use crate::rows::{Row, Rows, Step};
@@ -29,11 +29,12 @@ fn run_call<K: Sink>(
     found: &[Stored],
 ) -> Result<Left, Halt> {
     let outcome = outcome_of(alloc, step, call, found)?;
-    let is_wanted = is_as_wanted(step, &outcome);
+    let is_wanted = is_as_wanted(step, &outcome, found);
     if !is_wanted {
-        tell_call(out, file, row, step, call, &outcome)?;
+        tell_call(out, file, row, step, call, &outcome, found)?;
     }
-    let files = left_files(alloc, found, call, &outcome.depot)?;
+    let mut files = left_files(alloc, found, call, &outcome.depot)?;
+    keep_output(alloc, &mut files, step.kept(), outcome.out.bytes())?;
     Ok(Left { files, is_wanted })
 }
 

@@ -58,6 +58,8 @@ pub enum What {
     Missing(String),
     /// A file of this name is there behind the call.
     There(String),
+    /// What the call puts on its output is what stands under this name, and is put there where nothing stands.
+    Keeps(String),
 }
 
 /// What may stand behind the bytes of a line of content, beside what the next one gives.
@@ -67,8 +69,10 @@ pub enum Behind {
     Nothing,
     /// Anything up to the end of the line.
     Line,
-    /// Anything up to the end of the text.
-    Text,
+    /// A number up to the end of the line, and none that is less.
+    Number(u32),
+    /// Any lines, none too. At the end of content it is anything.
+    Lines,
 }
 
 /// A line's worth of content.
@@ -108,6 +112,8 @@ pub enum Topic<'a> {
     Puts(Stream),
     /// What is there under a name behind the call.
     Named(&'a str),
+    /// The name that keeps the output.
+    Keeps,
 }
 
 impl What {
@@ -123,6 +129,7 @@ impl What {
             What::After(name) | What::Missing(name) | What::There(name) => {
                 Topic::Named(name.as_str())
             }
+            What::Keeps(_) => Topic::Keeps,
         }
     }
 
@@ -145,6 +152,17 @@ impl What {
     pub fn is_file(&self) -> bool {
         matches!(self, What::File(_))
     }
+}
+
+/// Whether a piece is `...`.
+fn is_gap(piece: &Piece) -> bool {
+    matches!(piece.behind, Behind::Lines)
+}
+
+/// The pieces before the first `...`, and those from it on.
+pub fn before_gap(content: &[Piece]) -> (&[Piece], &[Piece]) {
+    let count = content.iter().take_while(|piece| !is_gap(piece)).count();
+    content.split_at(count)
 }
 
 /// The first statement on a topic.

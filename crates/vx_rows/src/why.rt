@@ -17,7 +17,7 @@ pub enum Why {
     LoneContent,
     /// Content is not of the form that its mark asks for.
     BadContent,
-    /// A line whose end is free stands in the content of a file, or the end of its text is.
+    /// A line whose end is free stands in the content of a file, or lines that are.
     OpenInFile,
     /// The boxes are not some of `late`, `early`, `cyclic`, `units` and `words` in this order.
     BadBoxes,
@@ -43,7 +43,7 @@ impl Why {
             Why::NoText => "no UTF-8",
             Why::LoneContent => "content behind nothing that has any",
             Why::BadContent => "content that is not of its mark's form",
-            Why::OpenInFile => "a free end in a file",
+            Why::OpenInFile => "anything in a file",
             Why::BadBoxes => "boxes other than late, early, cyclic, units, words in this order",
             Why::BadPlace => "nothing that may fail or have room",
             Why::BadNumber => "no number that may stand here",
