@@ -5,6 +5,7 @@ pub mod Applying
 pub mod Nowhere
 pub mod Standing
 pub mod Quiet
+pub mod Apart
 pub mod Noting
 pub mod Rising
 pub mod Kept

@@ -16,12 +16,12 @@ use Rattle.vx_dep.specs.Rows.{is_barred, are_tied, stays_behind_split, stays_beh
 use Rattle.vx_dep.specs.Sights.{reaches, has_join, is_live}
 use Rattle.vx_dep.proofs.Standing.{IsOf, entry_at, tells, delay_is}
 
-neither : (x y : Bool) → x ≡ false → y ≡ false → (x || y) ≡ false
+pub neither : (x y : Bool) → x ≡ false → y ≡ false → (x || y) ≡ false
 neither false false e f = refl
 neither true y e f = absurd (true≢false e)
 neither false true e f = absurd (true≢false f)
 
-not_both : (x y : Bool) → y ≡ false → (x && y) ≡ false
+pub not_both : (x y : Bool) → y ≡ false → (x && y) ≡ false
 not_both true y e = e
 not_both false y e = refl
 

@@ -46,7 +46,7 @@ mapped f [] k x e = absurd cc
 mapped f (y ∷ ys) zero x e = let h : y ≡ x = cc in ap (λ z. Some (f z)) h
 mapped f (y ∷ ys) (suc k) x e = mapped f ys k x e
 
-unmapped : {A B : Type 0} (f : A → B) (xs : List A) (k : ℕ) (y : B) → slice_get (map f xs) k ≡ Some y → IsMapped f xs k y
+pub unmapped : {A B : Type 0} (f : A → B) (xs : List A) (k : ℕ) (y : B) → slice_get (map f xs) k ≡ Some y → IsMapped f xs k y
 unmapped f [] k y e = absurd cc
 unmapped f (x ∷ xs) zero y e = let h : y ≡ f x = cc in record { from = x; there = refl; is = h }
 unmapped f (x ∷ xs) (suc k) y e = let h = unmapped f xs k y e in record { from = h.from; there = h.there; is = h.is }

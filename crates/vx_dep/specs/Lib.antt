@@ -3,6 +3,7 @@ pub mod Compensation
 pub mod Traits
 pub mod Tables
 pub mod Rows
+pub mod Keys
 pub mod Sights
 pub mod Earlier
 pub mod Heights

@@ -5,6 +5,7 @@ pub mod copies;
 mod deps;
 mod earlier;
 mod heights;
+mod keys;
 pub mod laws;
 pub mod mode;
 mod rows;

@@ -1,14 +1,16 @@
 // A trace with what is found once for it, by which a delay is answered without a search.
 
-ghost use Rattle.std.specs.Prelude.{◌≡◌, ◌<◌, ℕ, ◌||◌, ◌&&◌, IfOk, IfSome, IfNone, Some, None, true, false, slice_get};
+ghost use Rattle.std.specs.Prelude.{◌≡◌, ◌<◌, ℕ, ◌||◌, ◌&&◌, IfOk, IfSome, IfNone, Some, None, true, false, map, slice_get};
 ghost use Rattle.vx_linear.specs.declared.form.Form.{Form};
 ghost use Rattle.vx_linear.specs.Forms.{NeverSame, is_ordered};
 ghost use Rattle.vx_linear.specs.Followed.{forms_of};
 ghost use Rattle.vx_dep.specs.Tables.{standings_of, lives_of};
+ghost use Rattle.vx_dep.specs.Keys.{key_of};
 ghost use Rattle.vx_dep.specs.Rows.{split_delay_of, Tells, MayTouch};
 ghost use Rattle.vx_dep.specs.Delays.{IsDelay, NeverMeet};
 ghost use Rattle.vx_dep.specs.Sights.{AreOrdered, reaches, has_join, is_live};
 
+use crate::keys::{Key, apart_delay, are_apart, keys};
 use crate::mode::Mode;
 use crate::rows::{Ways, are_quiet, delay_of, is_barred, is_seen, quiet_delay_of};
 use crate::tables::{Standing, lives, standings};
@@ -23,7 +25,7 @@ use vx_linear::{differs, forms};
 use vx_machine::Machine;
 
 /// A trace, the machine and the mode, with the index forms of its accesses, what is known of each operation and of where it
-/// stands, and what is live where its splits leave.
+/// stands, what of that is asked first, and what is live where its splits leave.
 #[derive(Drop)]
 pub(crate) struct Sight<'a> {
     pub(crate) trace: &'a Trace,
@@ -31,10 +33,12 @@ pub(crate) struct Sight<'a> {
     pub(crate) mode: Mode,
     pub(crate) forms: Listed<Option<Form>>,
     pub(crate) standings: Listed<Standing>,
+    pub(crate) keys: Listed<Key>,
     pub(crate) lives: Listed<Listed<bool>>,
     ghost forms_exact: { forms ≡ forms_of trace.now },
     ghost ordered: { AreOrdered forms },
     ghost standings_exact: { standings ≡ standings_of machine trace.now },
+    ghost keys_exact: { keys ≡ map key_of standings },
     ghost lives_exact: { lives ≡ lives_of trace.now },
 }
 
@@ -53,6 +57,7 @@ impl<'a> Sight<'a> {
     {
         let forms = forms(alloc, trace)?;
         let standings = standings(alloc, trace, machine)?;
+        let keys = keys(alloc, standings.as_slice())?;
         let lives = lives(alloc, trace)?;
         Ok(Sight {
             trace,
@@ -60,13 +65,51 @@ impl<'a> Sight<'a> {
             mode,
             forms,
             standings,
+            keys,
             lives,
         })
     }
 
     /// The delay of a pair of places; None where there is none.
-    #[tactic(auto, using(crate::proofs::Nowhere::not_in_order, crate::proofs::Standing::none_above, crate::proofs::Standing::none_below))]
     pub(crate) fn delay(&self, i: usize, j: usize) -> Option<u32>
+        ensures { IsDelay self.now.machine self.now.mode self.now.trace.now i j result }
+    {
+        match self.key(j) {
+            None => self.delay_of_two(i, j),
+            Some(b) => self.delay_behind(i, j, b),
+        }
+    }
+
+    /// The same for a lower operation of which the entry is given.
+    #[tactic(auto, using(crate::proofs::Apart::apart_delay_is))]
+    pub(crate) fn delay_behind(&self, i: usize, j: usize, b: &Key) -> Option<u32>
+        requires { slice_get self.now.keys j ≡ Some b.now }
+        ensures { IsDelay self.now.machine self.now.mode self.now.trace.now i j result }
+    {
+        match self.key(i) {
+            None => self.delay_of_two(i, j),
+            Some(a) => {
+                if i < j && are_apart(a, b) {
+                    apart_delay(self.mode, a, b, i < b.joined)
+                } else {
+                    self.delay_of_two(i, j)
+                }
+            }
+        }
+    }
+
+    /// What is asked first of the operation at a place.
+    fn key(&self, place: usize) -> Option<&Key>
+        ensures some { IfSome result (λ key. slice_get self.now.keys place ≡ Some key.now) }
+        ensures none { IfNone result (slice_get self.now.keys place ≡ None) }
+    {
+        self.keys.as_slice().get(place)
+    }
+
+    /// The same by all that is known of the two.
+    #[inline(never)]
+    #[tactic(auto, using(crate::proofs::Nowhere::not_in_order, crate::proofs::Standing::none_above, crate::proofs::Standing::none_below))]
+    fn delay_of_two(&self, i: usize, j: usize) -> Option<u32>
         ensures { IsDelay self.now.machine self.now.mode self.now.trace.now i j result }
     {
         if i >= j {

@@ -1,6 +1,6 @@
 use Rattle.std.proofs.Common.{rules, ◌≡◌, None, slice_get}
 use Rattle.vx_dep.proofs.Standing.{none_above, none_below}
-use Rattle.vx_dep.proofs.sights.Sight.delay.Goals as goal
+use Rattle.vx_dep.proofs.sights.Sight.delay_of_two.Goals as goal
 
 pub returns-in-None : goal.returns-in-None
 returns-in-None c =
