@@ -17,19 +17,29 @@ pub struct Earlier {
     pub delay: u32,
 }
 
-/// One list for each operation of the trace.
+/// One list for each operation of the trace. Each is found in one room for all, and takes no more than its length.
 #[tactic(auto, using(crate::proofs::Noting::no_lists))]
 pub(crate) fn all_earlier(alloc: Global, sight: &Sight) -> Result<Listed<Listed<Earlier>>, NoMemory>
     ensures { IfOk result (AreAllEarlier sight.now.machine sight.now.mode sight.now.trace.now) }
 {
     let mut lists = Listed::new(alloc);
+    let mut found = Vec::new(alloc);
     let mut place: u32 = 0;
     'find: while (place as usize) < sight.trace.ops.len() {
-        let list = earlier_than(alloc, sight, place)?;
+        find_earlier(sight, place, &mut found)?;
+        let list = copied(alloc, found.as_slice())?;
         lists.push(list)?;
         place += 1;
     }
     Ok(lists)
+}
+
+fn copied(alloc: Global, found: &[Earlier]) -> Result<Listed<Earlier>, NoMemory>
+    ensures { IfOk result (λ list. list ≡ found.now) }
+{
+    let mut list = Vec::new(alloc);
+    list.extend_from_slice(found)?;
+    Ok(Listed::from_vec(list)?)
 }
 
 /// The list of the operation at a place; an empty one where no operation stands there.
@@ -44,27 +54,27 @@ pub(crate) fn list_at(lists: &[Listed<Earlier>], place: usize) -> &[Earlier]
 
 /// Those that the operation at a place has to stand behind.
 #[tactic(auto, using(crate::proofs::Noting::none_noted, crate::proofs::Noting::one_noted))]
-fn earlier_than(alloc: Global, sight: &Sight, place: u32) -> Result<Listed<Earlier>, NoMemory>
-    ensures { IfOk result (AreEarlier sight.now.machine sight.now.mode sight.now.trace.now place place) }
+fn find_earlier(sight: &Sight, place: u32, found: &mut Vec<Earlier>) -> Result<(), NoMemory>
+    ensures { OnOk result (AreEarlier sight.now.machine sight.now.mode sight.now.trace.now place place found.new.items) }
 {
-    let mut list = Listed::new(alloc);
+    found.clear();
     let mut above: u32 = 0;
     'note: while above < place {
         let delay = sight.delay(above as usize, place as usize);
-        note(&mut list, above, delay)?;
+        note(found, above, delay)?;
         above += 1;
     }
-    Ok(list)
+    Ok(())
 }
 
 /// Notes an operation, where there is a delay.
-fn note(list: &mut Listed<Earlier>, above: u32, delay: Option<u32>) -> Result<(), NoMemory>
-    ensures { OnOk result (list.new ≡ list.old ++ noted above delay) }
+fn note(found: &mut Vec<Earlier>, above: u32, delay: Option<u32>) -> Result<(), NoMemory>
+    ensures { OnOk result (found.new.items ≡ found.old.items ++ noted above delay) }
 {
     match delay {
         None => Ok(()),
         Some(delay) => {
-            list.push(Earlier {
+            found.push(Earlier {
                 place: above,
                 delay,
             })?;
