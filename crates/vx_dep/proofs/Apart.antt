@@ -1,5 +1,5 @@
 -- Where entries say that the kinds alone count, the kinds give the delay.
-use Rattle.std.proofs.Common.{◌≡◌, ◌<◌, ℕ, refl, sym, ◌∙◌, ap, subst, Bool, true, false, not, ◌&&◌, ◌||◌, nat_eq, nat_lt, if◌then◌else◌, Option, Some, None, map, slice_get, List, ◌++◌}
+use Rattle.std.proofs.Common.{◌≡◌, ◌<◌, ℕ, refl, sym, ◌∙◌, ap, Bool, true, false, not, ◌&&◌, ◌||◌, nat_eq, nat_lt, if◌then◌else◌, Option, Some, None, map, slice_get, List, ◌++◌}
 use Rattle.std.proofs.lemmas.Bool.{false≢true, true≢false}
 use Rattle.std.specs.List.{list_any}
 use Rattle.vx_flow.specs.declared.trace.Trace.{Trace}
@@ -12,7 +12,7 @@ use Rattle.vx_dep.specs.declared.rows.Ways.{Ways}
 use Rattle.vx_dep.specs.Delays.{IsDelay}
 use Rattle.vx_dep.specs.Traits.{value_list, values_read, has}
 use Rattle.vx_dep.specs.Tables.{standings_of, lives_of}
-use Rattle.vx_dep.specs.Rows.{is_barred, are_tied, stays_behind_split, stays_behind_join, stays_behind, stays_below, at_least, row_of, delay_of}
+use Rattle.vx_dep.specs.Rows.{is_barred, are_tied, stays_behind_split, stays_behind_join, stays_below, at_least, row_of, delay_of}
 use Rattle.vx_dep.specs.Sights.{reaches, has_join, is_live}
 use Rattle.vx_dep.specs.Keys.{named, key_of, is_read, share_value, access_both, are_apart, apart_delay_of}
 use Rattle.vx_dep.proofs.Written.{reads_two}

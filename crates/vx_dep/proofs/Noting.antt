@@ -1,5 +1,5 @@
 -- The operations that another one has to stand behind are listed one after the other.
-use Rattle.std.proofs.Common.{◌≡◌, ◌<◌, ◌≤◌, ◌⊎◌, inl, inr, ◌+◌, ℕ, refl, sym, ◌∙◌, ap, arith, subst, Option, Some, None, length, slice_get, slice_index_or, List, [], ◌∷◌, ◌++◌}
+use Rattle.std.proofs.Common.{◌≡◌, ◌<◌, ◌≤◌, ◌⊎◌, inl, inr, ◌+◌, ℕ, refl, sym, ◌∙◌, ap, arith, subst, Option, Some, None, length, List, [], ◌∷◌, ◌++◌}
 use Rattle.std.proofs.lemmas.List.{length-append, get_or_append_left, get_or_push, get_or_past}
 use Rattle.std.proofs.lemmas.Option.{slice_get_within}
 use Rattle.vx_flow.specs.declared.trace.Trace.{Trace}

@@ -1,5 +1,5 @@
 -- Heights from the last operation to the first: those that an operation has to stand behind are raised by its height.
-use Rattle.std.proofs.Common.{◌≡◌, ◌<◌, ◌≤◌, ◌⊎◌, inl, inr, ◌+◌, ℕ, zero, suc, refl, sym, ◌∙◌, ap, arith, subst, max, Option, Some, None, length, slice_set, slice_index_or, List, [], ◌∷◌, ◌++◌}
+use Rattle.std.proofs.Common.{◌≡◌, ◌<◌, ◌≤◌, ◌⊎◌, inl, inr, ◌+◌, ℕ, suc, refl, sym, ◌∙◌, ap, arith, subst, max, length, slice_index_or, List, [], ◌∷◌, ◌++◌}
 use Rattle.std.proofs.lemmas.Bool.{cases_eq}
 use Rattle.std.proofs.lemmas.List.{length-set, set_past, get_or-set_same, get_or-set_other, get_or_past, get_or_append_left, get_or_push, length-append}
 use Rattle.std.proofs.lemmas.Option.{slice_get_within}
@@ -8,8 +8,8 @@ use Rattle.vx_flow.specs.Effects.{IsIn}
 use Rattle.vx_isa.specs.Numbers.{Numbers}
 use Rattle.vx_dep.specs.declared.mode.Mode.{Mode}
 use Rattle.vx_dep.specs.declared.earlier.Earlier.{Earlier}
-use Rattle.vx_dep.specs.Delays.{Applies, IsDelay, IsHeight, AreHeights}
-use Rattle.vx_dep.specs.Earlier.{IsListed, AreEarlier, AreAllEarlier, list_at, raised_at, raised}
+use Rattle.vx_dep.specs.Delays.{Applies, AreHeights}
+use Rattle.vx_dep.specs.Earlier.{AreEarlier, AreAllEarlier, list_at, raised_at, raised}
 use Rattle.vx_dep.specs.Heights.{at, AreZero, IsHighest}
 use Rattle.vx_dep.proofs.Telling.{less_or}
 

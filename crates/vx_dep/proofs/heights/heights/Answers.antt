@@ -1,4 +1,4 @@
-use Rattle.std.proofs.Common.{rules, ◌≡◌, ◌<◌, ◌≤◌, ◌+◌, ◌-◌, sym, subst, arith, length}
+use Rattle.std.proofs.Common.{rules, ◌≡◌, ◌<◌, ◌≤◌, ◌+◌, ◌-◌, sym, subst, arith}
 use Rattle.vx_dep.specs.Delays.{AreHeights}
 use Rattle.vx_dep.specs.Earlier.{list_at, raised}
 use Rattle.vx_dep.specs.Heights.{at}
