@@ -16,22 +16,19 @@ pub fn range(facts: &[Fact], value: Value) -> Interval
 {
     match facts {
         [] => full(),
-        [first, rest @ ..] => {
-            let others = range(rest, value);
-            match *first {
-                Fact::Between {
-                    value: named,
-                    within,
-                } => {
-                    if named == value {
-                        meet(within, others)
-                    } else {
-                        others
-                    }
+        [first, rest @ ..] => match *first {
+            Fact::Between {
+                value: named,
+                within,
+            } => {
+                if named == value {
+                    meet(within, range(rest, value))
+                } else {
+                    range(rest, value)
                 }
-                Fact::Equals { .. } => others,
             }
-        }
+            Fact::Equals { .. } => range(rest, value),
+        },
     }
 }
 

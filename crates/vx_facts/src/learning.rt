@@ -1,25 +1,18 @@
 // What an operation leaves of a list of facts, and what the answer of a test adds to it.
 
 ghost use Rattle.std.specs.Prelude.{◌≡◌, ◌==◌, ◌||◌, ◌++◌, false, [], ◌∷◌, IfOk};
-ghost use Rattle.vx_flow.specs.declared.graph.Op.TheVariants.{Compute};
 ghost use Rattle.vx_facts.specs.declared.fact.Fact.TheVariants.{Between};
-ghost use Rattle.vx_facts.specs.Forming.{after_known, facts_if, is_test, most_equals, newest, said_unless, same_form};
-ghost use Rattle.vx_facts.specs.Facts.{after, came_out, compared, equals_if, is_full, is_held, learned, learned_if, lies_in, names, on_side, operand_between, without};
+ghost use Rattle.vx_facts.specs.Forming.{facts_if, is_test, newest, said_unless, same_form};
+ghost use Rattle.vx_facts.specs.Facts.{came_out, compared, equals_if, is_full, is_held, learned, learned_if, lies_in, names, on_side, operand_between, without};
 
-use crate::access::{Access, append_place};
 use crate::fact::Fact;
-use crate::intervals::{
-    Interval, bit, left_within, opposite, result_within, right_within, times_if,
-};
+use crate::intervals::{Interval, left_within, opposite, result_within, right_within, times_if};
 use crate::known::{range_of, same_code, same_operand};
 use std::alloc::Global;
 use vx_base::arithmetic::{Code, Compare};
 use vx_base::listed::Listed;
 use vx_base::outcome::NoMemory;
 use vx_flow::graph::{Op, Operand, Value};
-
-/// How many facts on what operations give are kept.
-const MOST_EQUALS: usize = 64;
 
 pub fn is_held(value: Value, operand: Operand) -> bool
     ensures { result ≡ is_held value operand }
@@ -32,7 +25,7 @@ pub fn is_held(value: Value, operand: Operand) -> bool
 }
 
 /// Whether a fact is about a value, or about an operation that reads it.
-fn names(value: Value, fact: Fact) -> bool
+pub fn names(value: Value, fact: Fact) -> bool
     ensures { result ≡ names value fact }
 {
     match fact {
@@ -67,13 +60,6 @@ pub fn without(alloc: Global, facts: &[Fact], value: Value) -> Result<Listed<Fac
     Ok(left)
 }
 
-/// A copy of the facts.
-pub fn copied(alloc: Global, facts: &[Fact]) -> Result<Listed<Fact>, NoMemory>
-    ensures { IfOk result (λ copy. copy ≡ facts.now) }
-{
-    Ok(Listed::from_vec(facts.to_vec(alloc)?)?)
-}
-
 /// Whether every number lies in an interval.
 fn is_full(within: Interval) -> bool
     ensures { result ≡ is_full within }
@@ -82,7 +68,7 @@ fn is_full(within: Interval) -> bool
 }
 
 /// Puts where a value lies, where that says something, at the end of a list.
-fn append_lies(list: &mut Listed<Fact>, value: Value, within: Interval) -> Result<(), NoMemory>
+pub fn append_lies(list: &mut Listed<Fact>, value: Value, within: Interval) -> Result<(), NoMemory>
     ensures { IfOk result (λ _. list.new ≡ list.old ++ lies_in value within []) }
 {
     if !is_full(within) {
@@ -91,45 +77,8 @@ fn append_lies(list: &mut Listed<Fact>, value: Value, within: Interval) -> Resul
     Ok(())
 }
 
-/// Puts what a computation gives, and what it leaves, at the end of a list.
-fn append_computed(
-    list: &mut Listed<Fact>,
-    facts: &[Fact],
-    code: Code,
-    to: Value,
-    left: Operand,
-    right: Operand,
-) -> Result<(), NoMemory>
-    ensures { IfOk result (λ _. list.new ≡ list.old ++ after facts.now (Compute code to left right)) }
-{
-    let within = result_within(code, range_of(facts, left), range_of(facts, right));
-    append_lies(list, to, within)?;
-    if !(is_held(to, left) || is_held(to, right)) {
-        list.push(Fact::Equals {
-            value: to,
-            code,
-            left,
-            right,
-        })?;
-    }
-    append_without(list, facts, to)
-}
-
-/// What a place gives, and what it leaves.
-fn append_within(
-    list: &mut Listed<Fact>,
-    facts: &[Fact],
-    to: Value,
-    within: Interval,
-) -> Result<(), NoMemory>
-    ensures { IfOk result (λ _. list.new ≡ list.old ++ lies_in to within (without to facts.now)) }
-{
-    append_lies(list, to, within)?;
-    append_without(list, facts, to)
-}
-
 /// Whether an operation has another form with the same operands.
-fn same_form(op: &Op, form: &Op) -> bool
+pub fn same_form(op: &Op, form: &Op) -> bool
     ensures { result ≡ same_form op.now form.now }
 {
     match (*op, *form) {
@@ -205,7 +154,7 @@ fn append_said(list: &mut Listed<Fact>, facts: &[Fact], op: &Op) -> Result<(), N
 }
 
 /// Puts at the end of a list what an operation says in the words it had, where its form has others.
-fn append_said_unless(
+pub fn append_said_unless(
     list: &mut Listed<Fact>,
     facts: &[Fact],
     test: bool,
@@ -220,27 +169,8 @@ fn append_said_unless(
     }
 }
 
-/// The facts behind an operation that has a form.
-pub fn after_known(
-    alloc: Global,
-    facts: &[Fact],
-    known: &[Access],
-    op: &Op,
-    form: &Op,
-) -> Result<Listed<Fact>, NoMemory>
-    ensures { IfOk result (λ behind. behind ≡ after_known facts.now known.now op.now form.now) }
-{
-    let mut all = Listed::new(alloc);
-    append_place(&mut all, known, form)?;
-    append_said_unless(&mut all, facts, same_form(op, form), op)?;
-    append_after(&mut all, facts, form)?;
-    let mut behind = Listed::new(alloc);
-    append_newest(&mut behind, all.as_slice(), MOST_EQUALS)?;
-    Ok(behind)
-}
-
 /// Puts facts at the end of a list: of those on what operations give the first so many, of the others all.
-fn append_newest(list: &mut Listed<Fact>, facts: &[Fact], left: usize) -> Result<(), NoMemory>
+pub fn append_newest(list: &mut Listed<Fact>, facts: &[Fact], left: usize) -> Result<(), NoMemory>
     ensures { IfOk result (λ _. list.new ≡ list.old ++ newest left facts.now) }
 {
     match facts {
@@ -259,30 +189,6 @@ fn append_newest(list: &mut Listed<Fact>, facts: &[Fact], left: usize) -> Result
                 }
             }
         },
-    }
-}
-
-fn append_after(list: &mut Listed<Fact>, facts: &[Fact], op: &Op) -> Result<(), NoMemory>
-    ensures { IfOk result (λ _. list.new ≡ list.old ++ after facts.now op.now) }
-{
-    match op {
-        Op::Compute {
-            code,
-            to,
-            left,
-            right,
-        } => append_computed(list, facts, *code, *to, *left, *right),
-        Op::Select { to, .. } => append_without(list, facts, *to),
-        Op::Place { to, index, .. } => {
-            append_within(list, facts, *to, times_if(true, range_of(facts, *index), 4))
-        }
-        Op::Load { to, .. } => append_without(list, facts, *to),
-        Op::Store { .. } => append_all(list, facts),
-        Op::More { to } => append_within(list, facts, *to, bit()),
-        Op::Input { to } => append_without(list, facts, *to),
-        Op::Text { .. } => append_all(list, facts),
-        Op::Decimal { .. } => append_all(list, facts),
-        Op::Across { to, .. } => append_without(list, facts, *to),
     }
 }
 

@@ -14,8 +14,9 @@ use crate::claim::{Claim, accesses_in, facts_in};
 use crate::copying::copied_operands;
 use crate::fact::Fact;
 use crate::forming::form;
+use crate::keeping::learn;
 use crate::known::{decided, give};
-use crate::learning::{after_known, copied, on_side, without};
+use crate::learning::{on_side, without};
 use crate::shortening::shortened;
 use std::alloc::Global;
 use vx_base::listed::Listed;
@@ -101,17 +102,17 @@ pub fn pass_ops(
     ensures accesses { IfOk result (λ passed. passed.accesses ≡ accessed_from claims.now accesses.now ops.now) }
     ensures ops { IfOk result (λ passed. passed.ops ≡ improved_from claims.now accesses.now ops.now) }
 {
-    let mut facts = copied(alloc, claims)?;
+    let mut facts = claims.to_vec(alloc)?;
     let mut known = copied_accesses(alloc, accesses)?;
     let mut made = Listed::new(alloc);
     for op in ops {
         let form = form(facts.as_slice(), known.as_slice(), op);
         made.push(shortened(facts.as_slice(), form))?;
-        facts = after_known(alloc, facts.as_slice(), known.as_slice(), op, &form)?;
+        learn(alloc, &mut facts, known.as_slice(), op, &form)?;
         known = accessed(alloc, known.as_slice(), &form)?;
     }
     Ok(Passed {
-        facts,
+        facts: Listed::from_vec(facts)?,
         accesses: known,
         ops: made,
     })

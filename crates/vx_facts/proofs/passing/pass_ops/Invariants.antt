@@ -5,7 +5,7 @@ use Rattle.vx_facts.proofs.passing.pass_ops.Given as goal
 
 abbrev pub invariant-loop-op : goal.invariant-loop-op
 invariant-loop-op l = record {
-  facts : after_from l.facts l.known (drop l.op-index l.ops) ≡ after_from l.claims l.accesses l.ops;
-  accesses : accessed_from l.facts l.known (drop l.op-index l.ops) ≡ accessed_from l.claims l.accesses l.ops;
-  made : l.made ++ improved_from l.facts l.known (drop l.op-index l.ops) ≡ improved_from l.claims l.accesses l.ops;
+  facts : after_from l.facts.items l.known (drop l.op-index l.ops) ≡ after_from l.claims l.accesses l.ops;
+  accesses : accessed_from l.facts.items l.known (drop l.op-index l.ops) ≡ accessed_from l.claims l.accesses l.ops;
+  made : l.made ++ improved_from l.facts.items l.known (drop l.op-index l.ops) ≡ improved_from l.claims l.accesses l.ops;
 }

@@ -1,0 +1,75 @@
+-- What is known behind an operation, as it is kept in place.
+use Rattle.std.proofs.Common.{◌≡◌, ℕ, zero, suc, Bool, true, false, ◌||◌, pos, List, [], ◌∷◌, ◌++◌, Option, Some, None, refl, sym, ap, ◌∙◌}
+use Rattle.std.specs.List.{list_any}
+use Rattle.std.specs.Option.{option_to_list}
+use Rattle.std.proofs.lemmas.List.{append_assoc, append-nil}
+use Rattle.std.proofs.lemmas.Bool.{false≢true}
+use Rattle.vx_flow.specs.declared.graph.Op.{Op}
+use Rattle.vx_flow.specs.declared.graph.Op.TheVariants.{Compute, Select, Place, Load, Store, More, Input, Text, Decimal, Across}
+use Rattle.vx_facts.specs.declared.intervals.Interval.{Interval}
+use Rattle.vx_facts.specs.declared.fact.Fact.{Fact}
+use Rattle.vx_facts.specs.declared.fact.Fact.TheVariants.{Between, Equals}
+use Rattle.vx_facts.specs.declared.access.Access.{Access}
+use Rattle.vx_facts.specs.Facts.{range_of, times_if, bit, result_within, is_held, is_full, names, kept_if, without, equals_if, between_unless, lies_in, after}
+use Rattle.vx_facts.specs.Accesses.{place_known}
+use Rattle.vx_facts.specs.Forming.{after_known, most_equals, newest, said_unless, same_form}
+use Rattle.vx_facts.specs.Keeping.{all_said, has_more, left_by, said_by}
+
+lies_before : (v : ℕ) (i : Interval) (a b : List Fact) → lies_in v i (a ++ b) ≡ lies_in v i a ++ b
+lies_before v i a b = by (is_full i)
+  where
+    by : (says_nothing : Bool) → between_unless says_nothing v i (a ++ b) ≡ between_unless says_nothing v i a ++ b
+    by true = refl
+    by false = refl
+
+after_parts : (fs : List Fact) (op : Op) → after fs op ≡ said_by fs op ++ left_by op fs
+after_parts fs (Compute code v a b) = lies_before v (result_within code (range_of fs a) (range_of fs b)) (equals_if (is_held v a || is_held v b) v code a b) (without v fs)
+after_parts fs (Select v p a b) = refl
+after_parts fs (Place v a i) = lies_before v (times_if true (range_of fs i) (pos 4)) [] (without v fs)
+after_parts fs (Load v a p dismissible) = refl
+after_parts fs (Store a p x) = refl
+after_parts fs (More v) = lies_before v bit [] (without v fs)
+after_parts fs (Input v) = refl
+after_parts fs (Text n) = refl
+after_parts fs (Decimal x) = refl
+after_parts fs (Across v u) = refl
+
+pub known_parts : (fs : List Fact) (xs : List Access) (op op' : Op) → newest most_equals (all_said fs xs op op' ++ left_by op' fs) ≡ after_known fs xs op op'
+known_parts fs xs op op' =
+    let p : List Fact = place_known xs op' in
+    let s : List Fact = said_unless (same_form op op') fs op in
+    let w : List Fact = said_by fs op' in
+    let l : List Fact = left_by op' fs in
+    let inner : (s ++ w) ++ l ≡ s ++ after fs op' = append_assoc s w l ∙ ap (λ x. s ++ x) (sym (after_parts fs op')) in
+    let outer : (p ++ (s ++ w)) ++ l ≡ p ++ (s ++ after fs op') = append_assoc p (s ++ w) l ∙ ap (λ x. p ++ x) inner in
+    ap (newest most_equals) outer
+
+-- ---- where there is nothing to forget
+
+pub none_named : (v : ℕ) (fs : List Fact) → list_any (names v) fs ≡ false → fs ≡ without v fs
+none_named v [] h = refl
+none_named v (f ∷ fs) h = by (names v f) h (none_named v fs)
+  where
+    by : (named : Bool) → (named || list_any (names v) fs) ≡ false → (list_any (names v) fs ≡ false → fs ≡ without v fs) → f ∷ fs ≡ kept_if named f (without v fs)
+    by true e k = absurd (false≢true (sym e))
+    by false e k = ap (λ x. f ∷ x) (k e)
+
+-- ---- the newest facts
+
+pub all_kept : (left : ℕ) (fs : List Fact) → has_more left fs ≡ false → fs ≡ newest left fs
+all_kept left [] h = refl
+all_kept left (Between v i ∷ fs) h = ap (λ x. Between v i ∷ x) (all_kept left fs h)
+all_kept zero (Equals v code a b ∷ fs) h = absurd (false≢true (sym h))
+all_kept (suc left) (Equals v code a b ∷ fs) h = ap (λ x. Equals v code a b ∷ x) (all_kept left fs h)
+
+last_cut : (left : ℕ) (fs : List Fact) (last : Fact) → has_more left (fs ++ last ∷ []) ≡ true → has_more left fs ≡ false → fs ≡ newest left (fs ++ last ∷ [])
+last_cut left [] (Between v i) m h = absurd (false≢true m)
+last_cut zero [] (Equals v code a b) m h = refl
+last_cut (suc left) [] (Equals v code a b) m h = absurd (false≢true m)
+last_cut left (Between v i ∷ fs) last m h = ap (λ x. Between v i ∷ x) (last_cut left fs last m h)
+last_cut zero (Equals v code a b ∷ fs) last m h = absurd (false≢true (sym h))
+last_cut (suc left) (Equals v code a b ∷ fs) last m h = ap (λ x. Equals v code a b ∷ x) (last_cut left fs last m h)
+
+pub last_gone : (left : ℕ) (old new : List Fact) (last : Option Fact) → old ≡ new ++ option_to_list last → has_more left old ≡ true → has_more left new ≡ false → new ≡ newest left old
+last_gone left old new None e m h = absurd (false≢true (sym h ∙ ap (has_more left) (sym (append-nil new)) ∙ ap (has_more left) (sym e) ∙ m))
+last_gone left old new (Some last) e m h = last_cut left new last (ap (has_more left) (sym e) ∙ m) h ∙ ap (newest left) (sym e)
