@@ -12,7 +12,7 @@ use vx_base::outcome::NoMemory;
 use vx_clean::clean;
 use vx_facts::narrow;
 use vx_flow::graph::Flow;
-use vx_hoist::hoist;
+use vx_hoist::{Hoisted, hoist};
 use vx_lower::lower;
 
 /// The graphs of a program in one state.
@@ -88,7 +88,7 @@ fn states_of(alloc: Global, program: &Typed) -> Result<States, NoMemory> {
     let cleaned = state_of(alloc, &flow)?;
     let flow = clean(alloc, narrow(alloc, flow)?)?;
     let narrowed = state_of(alloc, &flow)?;
-    let flow = clean(alloc, narrow(alloc, hoist(alloc, flow)?)?)?;
+    let flow = narrowed_again(alloc, hoist(alloc, flow)?)?;
     let hoisted = state_of(alloc, &flow)?;
     Ok(States {
         lowered,
@@ -96,6 +96,13 @@ fn states_of(alloc: Global, program: &Typed) -> Result<States, NoMemory> {
         narrowed,
         hoisted,
     })
+}
+
+fn narrowed_again(alloc: Global, hoisted: Hoisted) -> Result<Flow, NoMemory> {
+    if !hoisted.has_more {
+        return Ok(hoisted.flow);
+    }
+    clean(alloc, narrow(alloc, hoisted.flow)?)
 }
 
 fn state_of(alloc: Global, flow: &Flow) -> Result<State, NoMemory> {

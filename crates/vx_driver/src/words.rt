@@ -3,6 +3,7 @@
 // promise of the compiler (specs/Compiled.antt); what holds between its steps stands in specs/Stages.antt.
 
 ghost use Rattle.std.specs.Prelude.{◌≡◌, ◌+◌, true, length, IfOk};
+ghost use Rattle.vx_ast.specs.Tree.{Program};
 ghost use Rattle.vx_ast.specs.View as view;
 ghost use Rattle.vx_flow.specs.Sound.{is_sound_flow};
 ghost use Rattle.vx_lower.specs.FlowOf.{FlowOf};
@@ -25,7 +26,7 @@ use vx_frame::laws::{
     finished_programs_carry_their_plan, frames_keep_to_the_machine, layouts_are_spaced,
 };
 use vx_frame::{Finished, finish};
-use vx_hoist::hoist;
+use vx_hoist::{Hoisted, hoist};
 use vx_isa::laws::{any_timing_law, path_strict_law};
 use vx_isa::program::WordProgram;
 use vx_lower::lower;
@@ -147,8 +148,8 @@ fn all_slots_in(maps: &[RegMap]) -> Result<u32, NoMemory>
 }
 
 /// The graphs of a program from which its words are made and whose blocks a profile counts: lowered and cleaned, then narrowed
-/// by what is known of values, and cleaned once more; with operations put before the loops that do them in each turn, then
-/// narrowed and cleaned again.
+/// by what is known of values, and cleaned once more; with operations put before the loops that do them in each turn, and where
+/// there are such narrowed and cleaned again.
 pub(crate) fn flow_of(alloc: Global, program: &Typed) -> Result<Flow, NoMemory>
     ensures { IfOk result (λ flow. FlowOf (view.program_of program.now.program) flow) }
 {
@@ -157,9 +158,19 @@ pub(crate) fn flow_of(alloc: Global, program: &Typed) -> Result<Flow, NoMemory>
     let narrowed = narrow(alloc, cleaned)?;
     let once = clean(alloc, narrowed)?;
     let hoisted = hoist(alloc, once)?;
-    let narrowed_again = narrow(alloc, hoisted)?;
-    let flow = clean(alloc, narrowed_again)?;
-    Ok(flow)
+    narrowed_again(alloc, hoisted)
+}
+
+/// The graphs narrowed and cleaned again where operations were put before loops.
+fn narrowed_again(alloc: Global, hoisted: Hoisted) -> Result<Flow, NoMemory>
+    requires { is_sound_flow hoisted.flow ≡ true }
+    ensures { IfOk result (λ flow. (p : Program) → FlowOf p hoisted.flow → FlowOf p flow) }
+{
+    if !hoisted.has_more {
+        return Ok(hoisted.flow);
+    }
+    let narrowed = narrow(alloc, hoisted.flow)?;
+    clean(alloc, narrowed)
 }
 
 /// How many blocks graphs have.

@@ -11,7 +11,7 @@ ghost use Rattle.vx_lower.specs.FlowOf.{FlowOf};
 ghost use Rattle.vx_clean.specs.Thinning.{are_read, unread_of};
 ghost use Rattle.vx_hoist.specs.Growing.{block_reads, is_silent, is_total, BlockGrows, BlocksGrow, FlowStays, GraphGrows, GraphsGrow};
 
-use crate::search::{Addition, find_additions, ops_at};
+use crate::search::{Addition, Found, find_all, has_additions, ops_at};
 use std::alloc::Global;
 use vx_base::listed::Listed;
 use vx_base::outcome::NoMemory;
@@ -22,26 +22,54 @@ use vx_clean::shape_test::is_shaped;
 use vx_flow::graph::{Block, Flow, Graph, Op};
 use vx_sound::is_sound;
 
+/// The graphs of a program, with operations put before loops where there are such.
+#[derive(Drop)]
+pub struct Hoisted {
+    /// The graphs.
+    pub flow: Flow,
+    /// Whether operations were put.
+    pub has_more: bool,
+}
+
 /// The graphs of a program with operations put at the end of the block before a loop, which compute what a turn of the loop computes
 /// anew each time from values that the loop does not write. Nothing reads what they write, so the flow does what it did; the pass by
-/// what is known of values reads it in place of what the loop computes.
-pub fn hoist(alloc: Global, flow: Flow) -> Result<Flow, NoMemory>
+/// what is known of values reads it in place of what the loop computes. Where nothing is put the graphs are those that came.
+pub fn hoist(alloc: Global, flow: Flow) -> Result<Hoisted, NoMemory>
     requires { is_sound_flow flow ≡ true }
-    ensures sound { IfOk result (λ grown. is_sound_flow grown ≡ true) }
-    ensures flow { IfOk result (λ grown. (p : Program) → FlowOf p flow → FlowOf p grown) }
+    ensures sound { IfOk result (λ hoisted. is_sound_flow hoisted.flow ≡ true) }
+    ensures flow { IfOk result (λ hoisted. (p : Program) → FlowOf p flow → FlowOf p hoisted.flow) }
 {
     match grown_flow(alloc, &flow)? {
-        Some(grown) => Ok(grown),
-        None => Ok(flow),
+        Some(grown) => Ok(Hoisted {
+            flow: grown,
+            has_more: true,
+        }),
+        None => Ok(Hoisted {
+            flow,
+            has_more: false,
+        }),
     }
 }
 
-/// The flow with more operations, where it is sound.
+/// The flow with more operations, where there are such and it is sound.
 fn grown_flow(alloc: Global, flow: &Flow) -> Result<Option<Flow>, NoMemory>
     ensures sound { IfOk result (λ found. IfSome found (λ grown. is_sound_flow grown ≡ true)) }
     ensures flow { IfOk result (λ found. IfSome found (λ grown. FlowStays flow.now grown)) }
 {
-    let functions = grown_graphs(alloc, flow.functions.as_slice())?;
+    let found = find_all(alloc, flow.functions.as_slice())?;
+    if has_additions(found.as_slice()) {
+        grown_where_sound(alloc, flow, found.as_slice())
+    } else {
+        Ok(None)
+    }
+}
+
+/// The flow with the operations that were looked for, where it is sound.
+fn grown_where_sound(alloc: Global, flow: &Flow, found: &[Found]) -> Result<Option<Flow>, NoMemory>
+    ensures sound { IfOk result (λ answer. IfSome answer (λ grown. is_sound_flow grown ≡ true)) }
+    ensures flow { IfOk result (λ answer. IfSome answer (λ grown. FlowStays flow.now grown)) }
+{
+    let functions = grown_graphs(alloc, flow.functions.as_slice(), found)?;
     let grown = with_graphs(alloc, flow, functions)?;
     if is_sound(alloc, &grown)? {
         Ok(Some(grown))
@@ -50,20 +78,25 @@ fn grown_flow(alloc: Global, flow: &Flow) -> Result<Option<Flow>, NoMemory>
     }
 }
 
-fn grown_graphs(alloc: Global, graphs: &[Graph]) -> Result<Listed<Graph>, NoMemory>
+fn grown_graphs(alloc: Global, graphs: &[Graph], found: &[Found]) -> Result<Listed<Graph>, NoMemory>
     ensures { IfOk result (λ grown. GraphsGrow graphs.now grown) }
 {
     let mut grown = Listed::new(alloc);
-    for graph in graphs {
-        grown.push(grown_graph(alloc, graph)?)?;
+    for (place, graph) in graphs.iter().enumerate() {
+        grown.push(grown_graph(alloc, graph, found, place)?)?;
     }
     Ok(grown)
 }
 
-fn grown_graph(alloc: Global, graph: &Graph) -> Result<Graph, NoMemory>
+fn grown_graph(
+    alloc: Global,
+    graph: &Graph,
+    found: &[Found],
+    place: usize,
+) -> Result<Graph, NoMemory>
     ensures { IfOk result (λ grown. GraphGrows graph.now grown) }
 {
-    match grown_where_found(alloc, graph)? {
+    match grown_where_found(alloc, graph, found, place)? {
         Some(grown) => Ok(grown),
         None => unchanged(alloc, graph),
     }
@@ -76,11 +109,27 @@ fn unchanged(alloc: Global, graph: &Graph) -> Result<Graph, NoMemory>
     Ok(copy)
 }
 
-/// The graph with the operations that were looked for, where they pass.
-fn grown_where_found(alloc: Global, graph: &Graph) -> Result<Option<Graph>, NoMemory>
-    ensures { IfOk result (λ found. IfSome found (λ grown. GraphGrows graph.now grown)) }
+/// The graph with the operations that were looked for, where there are such and they pass.
+fn grown_where_found(
+    alloc: Global,
+    graph: &Graph,
+    found: &[Found],
+    place: usize,
+) -> Result<Option<Graph>, NoMemory>
+    ensures { IfOk result (λ answer. IfSome answer (λ grown. GraphGrows graph.now grown)) }
 {
-    let found = find_additions(alloc, graph)?;
+    match found.get(place) {
+        Some(found) => grown_by(alloc, graph, found),
+        None => Ok(None),
+    }
+}
+
+fn grown_by(alloc: Global, graph: &Graph, found: &Found) -> Result<Option<Graph>, NoMemory>
+    ensures { IfOk result (λ answer. IfSome answer (λ grown. GraphGrows graph.now grown)) }
+{
+    if found.additions.is_empty() {
+        return Ok(None);
+    }
     grown_where_silent(
         alloc,
         graph,

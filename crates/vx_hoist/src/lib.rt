@@ -5,4 +5,4 @@ mod growing;
 pub mod laws;
 mod search;
 
-pub use growing::hoist;
+pub use growing::{Hoisted, hoist};

@@ -35,8 +35,22 @@ struct Copied {
     from: Value,
 }
 
+/// What may be put in each of the graphs of a program.
+pub fn find_all(alloc: Global, graphs: &[Graph]) -> Result<Vec<Found>, NoMemory> {
+    let mut all = Vec::new(alloc);
+    for graph in graphs {
+        all.push(find_additions(alloc, graph)?)?;
+    }
+    Ok(all)
+}
+
+/// Whether anything may be put.
+pub fn has_additions(all: &[Found]) -> bool {
+    all.iter().any(|found| !found.additions.is_empty())
+}
+
 /// What may be put, in the order in which it stands.
-pub fn find_additions(alloc: Global, graph: &Graph) -> Result<Found, NoMemory> {
+fn find_additions(alloc: Global, graph: &Graph) -> Result<Found, NoMemory> {
     let named = named_in(alloc, graph)?;
     let unnamed = unnamed_in(alloc, named.as_slice(), graph.banks.as_slice())?;
     let mut additions = Vec::new(alloc);

@@ -2,7 +2,7 @@ use Rattle.std.proofs.Common.{◌≡◌, ◌∙◌, subst, sym, true}
 use Rattle.vx_flow.specs.Sound.{is_sound_flow}
 use Rattle.vx_hoist.specs.Growing.{GraphsGrow}
 use Rattle.vx_hoist.proofs.GrowFlow.{once_grown}
-use Rattle.vx_hoist.proofs.growing.grown_flow.Goals as goal
+use Rattle.vx_hoist.proofs.growing.grown_where_sound.Goals as goal
 
 pub returns-then-branch-clause-flow : goal.returns-then-branch-clause-flow
 returns-then-branch-clause-flow c =
