@@ -2,13 +2,14 @@
 // are made for them, the empty cycles behind its exits.
 
 ghost use Rattle.std.specs.Prelude.{◌≡◌, ◌*◌, ◌-◌, ◌^◌, min, length, map, IfOk};
+ghost use Rattle.vx_dep.specs.declared.copies.EdgeCopies.{EdgeCopies};
 ghost use Rattle.vx_dep.specs.declared.copies.Rejoin.{Rejoin};
 ghost use Rattle.vx_dep.specs.Compensation.{at_splits_of, at_joins_of};
 ghost use Rattle.vx_region.specs.Growth.{count_splits, count_joins, copies_of};
 ghost use Rattle.vx_region.specs.Owed.{IsOwed, with_drains};
 
 use crate::made::made_blocks;
-use crate::waits::{drain_at, drains, split_drain};
+use crate::waits::{drain_at, split_drain};
 use std::alloc::Global;
 use vx_base::listed::Listed;
 use vx_base::outcome::NoMemory;
@@ -39,17 +40,18 @@ pub struct Owed {
 }
 
 /// What this placed trace owes.
+#[tactic(auto, using(crate::proofs::Owing::drains_kept))]
 pub(crate) fn owed_of(alloc: Global, machine: &Machine, placed: &Placed) -> Result<Owed, NoMemory>
     ensures { IfOk result (λ owed. IsOwed machine.now placed.now owed) }
 {
     let splits = at_splits(alloc, placed)?;
     let rejoins = at_joins(alloc, placed)?;
-    let drains = drains(alloc, machine, placed, splits.as_slice())?;
     let last_drain = drain_at(machine, placed, placed.length as u64);
     let starts = starts(alloc, rejoins.as_slice())?;
     let made = made_blocks(alloc, placed, splits.as_slice(), rejoins.as_slice())?;
     let copies = copies_at(placed, splits.as_slice(), rejoins.as_slice());
     let splits = drained(alloc, machine, placed, splits)?;
+    let drains = drains(alloc, splits.as_slice())?;
     let rejoins = Listed::from_vec(rejoins)?;
     Ok(Owed {
         splits,
@@ -83,6 +85,23 @@ fn drained(
         })?;
     }
     Ok(drained)
+}
+
+/// The empty cycles behind each split.
+fn drains(alloc: Global, splits: &[EdgeCopies]) -> Result<Listed<u32>, NoMemory>
+    ensures { IfOk result (λ list. list ≡ map (λ (x : EdgeCopies). x.drain) splits.now) }
+{
+    let mut drains = Listed::new(alloc);
+    let mut rest = splits;
+    'drain: loop {
+        match rest.split_first() {
+            None => return Ok(drains),
+            Some((split, others)) => {
+                drains.push(split.drain)?;
+                rest = others;
+            }
+        }
+    }
 }
 
 /// The words at which joins enter.

@@ -1,39 +1,14 @@
 // The empty cycles behind the exits of a placed trace: as many as a result that was issued before can still take.
 
-ghost use Rattle.std.specs.Prelude.{◌≡◌, ◌+◌, ◌++◌, ◌-◌, map, max, nat_le, IfOk};
-ghost use Rattle.vx_dep.specs.declared.copies.EdgeCopies.{EdgeCopies};
+ghost use Rattle.std.specs.Prelude.{◌≡◌, ◌+◌, ◌++◌, ◌-◌, max, nat_le};
 ghost use Rattle.vx_dep.specs.Compensation.{word_at, greatest, left_at, all_left_at, drain_at};
 
-use std::alloc::Global;
-use vx_base::listed::Listed;
-use vx_base::outcome::NoMemory;
 use vx_dep::copies::EdgeCopies;
 use vx_flow::trace::{Placed, TraceOp};
 use vx_machine::Machine;
 use vx_machine::items::Item;
 
-/// The empty cycles behind each split.
-pub(crate) fn drains(
-    alloc: Global,
-    machine: &Machine,
-    placed: &Placed,
-    splits: &[EdgeCopies],
-) -> Result<Listed<u32>, NoMemory>
-    ensures { IfOk result (λ list. list ≡ map (λ (x : EdgeCopies). drain_at machine.now placed.now (word_at placed.now.words x.split + 1)) splits.now) }
-{
-    let mut drains = Listed::new(alloc);
-    let mut rest = splits;
-    'drain: loop {
-        match rest.split_first() {
-            None => return Ok(drains),
-            Some((split, others)) => {
-                drains.push(split_drain(machine, placed, split))?;
-                rest = others;
-            }
-        }
-    }
-}
-
+/// The empty cycles behind a split.
 pub(crate) fn split_drain(machine: &Machine, placed: &Placed, split: &EdgeCopies) -> u32
     ensures { result ≡ drain_at machine.now placed.now (word_at placed.now.words split.now.split + 1) }
 {
