@@ -5,17 +5,19 @@ use Rattle.vx_base.specs.declared.arithmetic.Code.TheVariants.{Add, And, Mov, Sh
 use Rattle.std.specs.Int.{int_wrap}
 use Rattle.vx_base.specs.Arithmetic.{compare_of, shl_of}
 use Rattle.vx_flow.specs.Effects.{computed}
+use Rattle.vx_flow.specs.declared.graph.Operand.{Operand}
 use Rattle.vx_flow.specs.declared.graph.Operand.TheVariants.{Held, Number}
 use Rattle.vx_flow.specs.declared.graph.Op.{Op}
 use Rattle.vx_flow.specs.declared.graph.Op.TheVariants.{Compute, Place, Load, Store}
-use Rattle.vx_flow.specs.declared.graph.Exit.TheVariants.{Goto, Split}
+use Rattle.vx_flow.specs.declared.graph.Exit.TheVariants.{Goto, Split, Call}
 use Rattle.vx_flow.specs.declared.graph.Block.{Block}
+use Rattle.vx_facts.specs.declared.intervals.Interval.{Interval}
 use Rattle.vx_facts.specs.declared.fact.Fact.{Fact}
 use Rattle.vx_facts.specs.declared.fact.Fact.TheVariants.{Between, Equals}
 use Rattle.vx_facts.specs.Facts.{decided}
 use Rattle.vx_facts.specs.Forming.{after_all}
 use Rattle.vx_facts.specs.declared.claim.Claim.{Claim}
-use Rattle.vx_facts.specs.Checking.{nothing, is_block_checked}
+use Rattle.vx_facts.specs.Checking.{nothing, lie_in, is_entry_checked, is_block_checked}
 use Rattle.vx_facts.specs.Shortening.{improved_all, shift_of, shift_below}
 
 abbrev begins : Block
@@ -45,16 +47,20 @@ of_facts fs = record { facts = fs; accesses = [] }
 abbrev at_start : (ℕ → List Fact) → ℕ → Claim
 at_start claims b = of_facts (claims b)
 
-one : is_block_checked (at_start claims) 0 begins ≡ true
+-- of no parameter is anything given
+abbrev nothing_given : ℕ → List Interval
+nothing_given f = []
+
+one : is_block_checked nothing_given (at_start claims) 0 begins ≡ true
 one = refl
 
-two : is_block_checked (at_start claims) 1 tests ≡ true
+two : is_block_checked nothing_given (at_start claims) 1 tests ≡ true
 two = refl
 
-three : is_block_checked (at_start claims) 2 checks ≡ true
+three : is_block_checked nothing_given (at_start claims) 2 checks ≡ true
 three = refl
 
-four : is_block_checked (at_start claims) 4 steps ≡ true
+four : is_block_checked nothing_given (at_start claims) 4 steps ≡ true
 four = refl
 
 gone : decided (after_all (of_facts (claims 2)) checks.ops) 2 ≡ Some true
@@ -71,7 +77,7 @@ wide (suc (suc (suc (suc zero)))) = Between 0 (record { low = pos 0; high = pos 
 wide (suc (suc (suc (suc (suc zero))))) = []
 wide (suc (suc (suc (suc (suc (suc b)))))) = []
 
-five : is_block_checked (at_start wide) 4 steps ≡ false
+five : is_block_checked nothing_given (at_start wide) 4 steps ≡ false
 five = refl
 
 -- a sum that may wrap
@@ -84,7 +90,7 @@ top (suc (suc (suc (suc zero)))) = Between 0 (record { low = pos 0; high = pos 2
 top (suc (suc (suc (suc (suc zero))))) = []
 top (suc (suc (suc (suc (suc (suc b)))))) = []
 
-six : is_block_checked (at_start top) 4 steps ≡ false
+six : is_block_checked nothing_given (at_start top) 4 steps ≡ false
 six = refl
 
 unknown : decided (after_all nothing checks.ops) 2 ≡ None
@@ -151,3 +157,51 @@ accesses =
 words : improved_all nothing accesses ≡ Place 1 7 (Held 0) ∷ Load 2 7 (Held 1) false ∷ Place 3 7 (Held 0) ∷ Compute Mov 4 (Held 2) (Number (pos 0)) ∷ Store 8 (Held 1) (Held 2) ∷ Compute Mov 5 (Held 2) (Number (pos 0)) ∷ Store 7 (Held 6) (Held 0) ∷ Load 9 7 (Held 1) false
     ∷ Compute Mov 10 (Held 0) (Number (pos 0)) ∷ Place 11 7 (Held 0) ∷ Compute Mov 12 (Held 9) (Number (pos 0)) ∷ []
 words = refl
+
+-- a parameter to which every call passes 0 to 7: a check against 8 is decided
+
+abbrev below_eight : Interval
+below_eight = record { low = pos 0; high = pos 7 }
+
+abbrev given_of_one : ℕ → List Interval
+given_of_one zero = []
+given_of_one (suc zero) = below_eight ∷ []
+given_of_one (suc (suc f)) = []
+
+abbrev at_entry : Claim
+at_entry = of_facts (Between 0 below_eight ∷ [])
+
+enters : is_entry_checked (given_of_one 1) (0 ∷ []) at_entry ≡ true
+enters = refl
+
+parameter : decided (after_all at_entry (Compute (ToBranch Ltu) 1 (Held 0) (Number (pos 8)) ∷ [])) 1 ≡ Some true
+parameter = refl
+
+-- what the entry may not claim: less, or where nothing is given
+
+enters_less : is_entry_checked (given_of_one 1) (0 ∷ []) (of_facts (Between 0 (record { low = pos 1; high = pos 7 }) ∷ [])) ≡ false
+enters_less = refl
+
+enters_unknown : is_entry_checked (given_of_one 2) (0 ∷ []) at_entry ≡ false
+enters_unknown = refl
+
+-- of a value that is a parameter twice the first place counts
+twice : lie_in (0 ∷ 0 ∷ []) (below_eight ∷ record { low = pos 9; high = pos 9 } ∷ []) ≡ Between 0 below_eight ∷ []
+twice = refl
+
+-- what a call may pass
+
+abbrev calls_one : Operand → Block
+calls_one x = record { ops = []; exit = Call 1 (x ∷ []) None 1 }
+
+seven : is_block_checked given_of_one (at_start (λ b. [])) 0 (calls_one (Number (pos 7))) ≡ true
+seven = refl
+
+eight : is_block_checked given_of_one (at_start (λ b. [])) 0 (calls_one (Number (pos 8))) ≡ false
+eight = refl
+
+any : is_block_checked given_of_one (at_start (λ b. [])) 0 (calls_one (Held 3)) ≡ false
+any = refl
+
+bounded : is_block_checked given_of_one (at_start (λ b. Between 3 below_eight ∷ [])) 0 (calls_one (Held 3)) ≡ true
+bounded = refl

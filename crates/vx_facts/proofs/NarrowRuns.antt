@@ -13,6 +13,7 @@ use Rattle.vx_flow.specs.declared.graph.Flow.{Flow}
 use Rattle.vx_flow.specs.Effects.{State, Setting}
 use Rattle.vx_flow.specs.Meaning.{Hop, Arrives, Calls, Leaves, Stops, Wrong, hop_of, block_hop, Body, Program, Frame, Active, deepest, enters, waits, after_hop, body_hop, hop, next, body_of, program_of, setting_of, globals_at_start, entered_or, start}
 use Rattle.vx_facts.specs.declared.claim.Claim.{Claim}
+use Rattle.vx_facts.specs.declared.intervals.Interval.{Interval}
 use Rattle.vx_facts.specs.declared.fact.Fact.{Fact}
 use Rattle.vx_facts.specs.Facts.{decided}
 use Rattle.vx_facts.specs.Forming.{after_all, accessed_all}
@@ -24,7 +25,7 @@ use Rattle.vx_facts.proofs.Sizes.{sized_differ}
 use Rattle.vx_facts.proofs.RunFacts.{ActiveGood, next_good, start_good, reached_good}
 use Rattle.vx_facts.proofs.Narrows.{Refines, block_refines, get_block, get_function, goes}
 
-module _ (flow : Flow) (claims : ℕ → ℕ → Claim) (checked : Checked flow claims) where
+module _ (flow : Flow) (given : ℕ → List Interval) (claims : ℕ → ℕ → Claim) (checked : Checked flow given claims) where
   abbrev old : Program
   old = program_of flow
 
@@ -39,7 +40,7 @@ module _ (flow : Flow) (claims : ℕ → ℕ → Claim) (checked : Checked flow 
 
   -- ---- one block
 
-  hop_refines : (r : Active) → ActiveGood flow claims checked r → Refines (hop old r) (hop new r)
+  hop_refines : (r : Active) → ActiveGood flow given claims checked r → Refines (hop old r) (hop new r)
   hop_refines r a =
       subst (λ o. Refines (hop old r) (body_hop old r (as_body o))) (sym (function_is r.function)) (by (slice_get flow.functions r.function) refl)
     where
@@ -48,7 +49,7 @@ module _ (flow : Flow) (claims : ℕ → ℕ → Claim) (checked : Checked flow 
       inner g e None q = inl refl
       inner g e (Some block) q =
           block_refines (claims r.function) (setting_of old r.base) (sized_differ flow r a.sized) r.block block r.state a.known
-          (and_one (list_all has_numbers block.ops) (is_exit_checked (claims r.function) (after_all (claims r.function r.block) block.ops) (accessed_all (claims r.function r.block) block.ops) block.exit) (checked.blocks r.function r.block g block e q))
+          (and_one (list_all has_numbers block.ops) (is_exit_checked given (claims r.function) (after_all (claims r.function r.block) block.ops) (accessed_all (claims r.function r.block) block.ops) block.exit) (checked.blocks r.function r.block g block e q))
 
       block_is : (g : Graph) → slice_get (narrowed_from (claims r.function) 0 g.blocks) r.block ≡ option_map (narrowed_block (claims r.function) r.block) (slice_get g.blocks r.block)
       block_is g = let e : 0 + r.block ≡ r.block = omega arith in get_block (claims r.function) 0 g.blocks r.block ∙ ap (λ m. option_map (narrowed_block (claims r.function) m) (slice_get g.blocks r.block)) e
@@ -74,7 +75,7 @@ module _ (flow : Flow) (claims : ℕ → ℕ → Claim) (checked : Checked flow 
   after_same r (Stops t s) = refl
   after_same r Wrong = refl
 
-  next_same : (r : Active) → ActiveGood flow claims checked r → (hop old r ≡ Wrong → ⊥) → next new r ≡ next old r
+  next_same : (r : Active) → ActiveGood flow given claims checked r → (hop old r ≡ Wrong → ⊥) → next new r ≡ next old r
   next_same r a safe = by (hop_refines r a)
     where
       by : Refines (hop old r) (hop new r) → next new r ≡ next old r
@@ -89,9 +90,9 @@ module _ (flow : Flow) (claims : ℕ → ℕ → Claim) (checked : Checked flow 
   never_wrong : (r : Active) → NeverFails (runs_from (next old) out_of r) → hop old r ≡ Wrong → ⊥
   never_wrong r safe e = let q : next old r ≡ Over (Outcome.Wrong r.state.out) = ap (after_hop old r) e in safe_end (next old) out_of r (Outcome.Wrong r.state.out) q safe tt
 
-  runs_same : (n : ℕ) (r : Active) → ActiveGood flow claims checked r → NeverFails (runs_from (next old) out_of r) → run (next new) out_of n r ≡ run (next old) out_of n r
+  runs_same : (n : ℕ) (r : Active) → ActiveGood flow given claims checked r → NeverFails (runs_from (next old) out_of r) → run (next new) out_of n r ≡ run (next old) out_of n r
   runs_same zero r a safe = refl
-  runs_same (suc n) r a safe = ap (step_then (run (next new) out_of n)) (next_same r a (never_wrong r safe)) ∙ by (next old r) refl (λ q e. runs_same n q (next_good flow claims checked r q a e) (safe_after (next old) out_of 1 r q (reach_one (next old) r q e) safe))
+  runs_same (suc n) r a safe = ap (step_then (run (next new) out_of n)) (next_same r a (never_wrong r safe)) ∙ by (next old r) refl (λ q e. runs_same n q (next_good flow given claims checked r q a e) (safe_after (next old) out_of 1 r q (reach_one (next old) r q e) safe))
     where
       by : (x : Step Active) → next old r ≡ x → ((q : Active) → next old r ≡ On q → run (next new) out_of n q ≡ run (next old) out_of n q) → step_then (run (next new) out_of n) x ≡ step_then (run (next old) out_of n) x
       by (On q) e h = h q e
@@ -108,13 +109,13 @@ module _ (flow : Flow) (claims : ℕ → ℕ → Claim) (checked : Checked flow 
       ap (λ (t : State). record { function = flow.main; block = 0; base = length s.arrays; state = t; waiting = [] }) e
 
 pub narrowed_runs : NarrowedRuns
-narrowed_runs flow claims checked input numbers safe n =
-    ap (run (next (program_of (narrowed claims flow))) (λ q. q.state.out) n) (start_same flow claims checked input)
-    ∙ runs_same flow claims checked n (start flow input) (start_good flow claims checked input numbers) safe
+narrowed_runs flow given claims checked input numbers safe n =
+    ap (run (next (program_of (narrowed claims flow))) (λ q. q.state.out) n) (start_same flow given claims checked input)
+    ∙ runs_same flow given claims checked n (start flow input) (start_good flow given claims checked input numbers) safe
 
 -- ---- where a decided split leads
 
-module _ (flow : Flow) (claims : ℕ → ℕ → Claim) (checked : Checked flow claims) where
+module _ (flow : Flow) (given : ℕ → List Interval) (claims : ℕ → ℕ → Claim) (checked : Checked flow given claims) where
   narrow_goes : (fs : List Fact) (setting : Setting) (b p c d : ℕ) (answer : Bool) (block : Block) (ops : List Op) (s : State) (h : Hop) → block.exit ≡ Split p c d → decided fs p ≡ Some answer →
       Refines h (block_hop setting b ops (narrowed_exit fs block.exit) s) → GoesTo b (side_of answer c d) h
   narrow_goes fs setting b p c d answer block ops s h e q (inl w) = inl w
@@ -125,13 +126,13 @@ module _ (flow : Flow) (claims : ℕ → ℕ → Claim) (checked : Checked flow 
   hop_by : (r : Active) (g : Graph) (block : Block) → slice_get flow.functions r.function ≡ Some g → slice_get g.blocks r.block ≡ Some block →
       hop (program_of flow) r ≡ hop_of (setting_of (program_of flow) r.base) r.block (Some block) r.state
   hop_by r g block e q = let setting = setting_of (program_of flow) r.base in
-      ap (λ o. body_hop (program_of flow) r (as_body flow claims checked o)) e ∙ ap (λ o. hop_of setting r.block o r.state) q
+      ap (λ o. body_hop (program_of flow) r (as_body flow given claims checked o)) e ∙ ap (λ o. hop_of setting r.block o r.state) q
 
 pub decided_goes : DecidedGoes
-decided_goes flow claims checked input numbers n r l g block p c d answer e q x w =
-    let a = reached_good flow claims checked input numbers n r l in
+decided_goes flow given claims checked input numbers n r l g block p c d answer e q x w =
+    let a = reached_good flow given claims checked input numbers n r l in
     let setting = setting_of (program_of flow) r.base in
     let fs = after_all (claims r.function r.block) block.ops in
-    let k = block_refines (claims r.function) setting (sized_differ flow r a.sized) r.block block r.state a.known (and_one (list_all has_numbers block.ops) (is_exit_checked (claims r.function) fs (accessed_all (claims r.function r.block) block.ops) block.exit) (checked.blocks r.function r.block g block e q)) in
-    subst (GoesTo r.block (side_of answer c d)) (sym (hop_by flow claims checked r g block e q))
-    (narrow_goes flow claims checked fs setting r.block p c d answer block (improved_all (claims r.function r.block) block.ops) r.state (hop_of setting r.block (Some block) r.state) x w k)
+    let k = block_refines (claims r.function) setting (sized_differ flow r a.sized) r.block block r.state a.known (and_one (list_all has_numbers block.ops) (is_exit_checked given (claims r.function) fs (accessed_all (claims r.function r.block) block.ops) block.exit) (checked.blocks r.function r.block g block e q)) in
+    subst (GoesTo r.block (side_of answer c d)) (sym (hop_by flow given claims checked r g block e q))
+    (narrow_goes flow given claims checked fs setting r.block p c d answer block (improved_all (claims r.function r.block) block.ops) r.state (hop_of setting r.block (Some block) r.state) x w k)

@@ -132,7 +132,7 @@ module _ (values : ℕ → Content) (v : ℕ) (x : Content) where
       by true = f
       by false = fit u
 
-  lies_hold : (i : Interval) (fs : List Fact) → Within i x → AllHold (written v x values) fs → AllHold (written v x values) (lies_in v i fs)
+  pub lies_hold : (i : Interval) (fs : List Fact) → Within i x → AllHold (written v x values) fs → AllHold (written v x values) (lies_in v i fs)
   lies_hold i fs h k = by (is_full i)
     where
       by : (t : Bool) → AllHold (written v x values) (between_unless t v i fs)

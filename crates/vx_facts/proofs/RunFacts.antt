@@ -1,5 +1,5 @@
 -- Runs: checked facts hold wherever a block is entered.
-use Rattle.std.proofs.Common.{◌≡◌, inl, inr, ℕ, zero, suc, ◌==◌, ◌+◌, Bool, true, false, cond, ℤ, pos, int_le, nat_le, List, [], ◌∷◌, length, map, take, replicate, slice_get, slice_set, slice_index_or, Option, Some, None, refl, sym, subst, arith}
+use Rattle.std.proofs.Common.{◌≡◌, inl, inr, ℕ, zero, suc, ◌==◌, ◌+◌, Bool, true, false, ◌&&◌, cond, ℤ, pos, int_le, nat_le, List, [], ◌∷◌, length, map, take, replicate, slice_get, slice_set, slice_index_or, Option, Some, None, refl, sym, subst, arith}
 use Rattle.std.specs.List.{list_all}
 use Rattle.std.specs.Option.{option_map}
 use Rattle.std.proofs.lemmas.Int.{ints}
@@ -19,15 +19,15 @@ use Rattle.vx_facts.specs.declared.claim.Claim.{Claim}
 use Rattle.vx_facts.specs.declared.intervals.Interval.{Interval}
 use Rattle.vx_facts.specs.declared.fact.Fact.{Fact}
 use Rattle.vx_facts.specs.declared.fact.Fact.TheVariants.{Between, Equals}
-use Rattle.vx_facts.specs.Facts.{full, Within, AllHold, range, on_side}
+use Rattle.vx_facts.specs.Facts.{full, Within, AllHold, range, range_of, names, kept_if, without, is_full, between_unless, on_side}
 use Rattle.vx_facts.specs.declared.access.Access.{Access}
 use Rattle.vx_facts.specs.Accesses.{SpotsDiffer, AllTell, tell, accessed}
 use Rattle.vx_facts.specs.Forming.{form, after_known, after_from, accessed_from, after_all, accessed_all}
-use Rattle.vx_facts.specs.Checking.{is_number, has_number, has_numbers, is_inside, gives, give, without_result, are_given, are_given_behind, is_exit_checked, is_block_checked, Checked, Leads, FactsHold}
-use Rattle.vx_facts.proofs.Ranges.{number_within, and_one, and_two, le_holds, Fit, range_holds}
+use Rattle.vx_facts.specs.Checking.{is_number, has_number, has_numbers, is_inside, gives, give, without_result, are_given, are_given_behind, are_passed, lie_in, is_entry_checked, parameters_of, is_exit_checked, is_block_checked, Checked, Leads, FactsHold}
+use Rattle.vx_facts.proofs.Ranges.{number_within, and_one, and_two, le_holds, Fit, range_holds, range_of_holds}
 use Rattle.vx_facts.proofs.Equal.{has_holds}
 use Rattle.vx_facts.proofs.Tests.{side_holds}
-use Rattle.vx_facts.proofs.Operations.{number_fits, held_fits, RowsFit, NumbersFit, StateFit, rows_append, rows_take, without_holds, written_fits, Good}
+use Rattle.vx_facts.proofs.Operations.{number_fits, held_is, held_fits, RowsFit, NumbersFit, StateFit, rows_append, rows_take, without_holds, lies_hold, written_fits, Good}
 use Rattle.vx_facts.proofs.Behind.{Known, KeepsKnown, Claimed, form_known}
 use Rattle.vx_facts.proofs.Accesses.{tell_holds}
 use Rattle.vx_facts.proofs.Sizes.{Sized, sized_differ, next_sized, start_sized}
@@ -55,23 +55,83 @@ given_good setting s fs xs claim g h e = record {
   tell = tell_holds setting s xs claim.accesses h (and_two (give fs claim.facts) (tell xs claim.accesses) e);
 }
 
+-- ---- arguments
+
+-- each number lies in the interval of its place
+abbrev NumbersWithin : List ℤ → List Interval → Type 0
+NumbersWithin [] is = Unit {0}
+NumbersWithin (n ∷ ns) [] = Unit {0}
+NumbersWithin (n ∷ ns) (i ∷ is) = Within i (Some n) × NumbersWithin ns is
+
+abbrev KnownWithin : Option (List ℤ) → List Interval → Type 0
+KnownWithin None is = Unit {0}
+KnownWithin (Some ns) is = NumbersWithin ns is
+
+none_given : (o : Option (List ℤ)) → KnownWithin o []
+none_given None = tt
+none_given (Some []) = tt
+none_given (Some (n ∷ ns)) = tt
+
+front_within : (n : ℤ) (o : Option (List ℤ)) (i : Interval) (is : List Interval) → Within i (Some n) → KnownWithin o is → KnownWithin (with_front n o) (i ∷ is)
+front_within n None i is w k = tt
+front_within n (Some ns) i is w k = (w, k)
+
+within_step : (x : Content) (xs : List Content) (i : Interval) (is : List Interval) → Within i x → KnownWithin (known xs) is → KnownWithin (known (x ∷ xs)) (i ∷ is)
+within_step None xs i is w k = tt
+within_step (Some n) xs i is w k = front_within n (known xs) i is w k
+
+operand_within : (s : State) (fs : List Fact) (x : Operand) (i : Interval) → Good fs s → is_inside (range_of fs x) i ≡ true → Within i (held s x)
+operand_within s fs x i g e = inside_holds (range_of fs x) i (held s x) e (subst (Within (range_of fs x)) (sym (held_is s x)) (range_of_holds s.values fs x g.fits.values g.facts))
+
+passed_within : (s : State) (fs : List Fact) (xs : List Operand) (is : List Interval) → Good fs s → are_passed fs xs is ≡ true → KnownWithin (known (map (held s) xs)) is
+passed_within s fs [] is g e = tt
+passed_within s fs (x ∷ xs) [] g e = none_given (known (map (held s) (x ∷ xs)))
+passed_within s fs (x ∷ xs) (i ∷ is) g e =
+    let one = is_inside (range_of fs x) i in
+    let two = are_passed fs xs is in
+    within_step (held s x) (map (held s) xs) i is (operand_within s fs x i g (and_one one two e)) (passed_within s fs xs is g (and_two one two e))
+
+fewer_hold : (values : ℕ → Content) (v : ℕ) (fs : List Fact) → AllHold values fs → AllHold values (without v fs)
+fewer_hold values v [] h = tt
+fewer_hold values v (f ∷ fs) h = by (names v f) (fewer_hold values v fs h.1)
+  where
+    by : (t : Bool) → AllHold values (without v fs) → AllHold values (kept_if t f (without v fs))
+    by true k = k
+    by false k = (h.0, k)
+
+-- what holds no number lies in every interval
+unknown_hold : (qs : List ℕ) (is : List Interval) → AllHold (λ v. None) (lie_in qs is)
+unknown_hold [] is = tt
+unknown_hold (q ∷ qs) [] = tt
+unknown_hold (q ∷ qs) (i ∷ is) = by (is_full i) (fewer_hold (λ v. None) q (lie_in qs is) (unknown_hold qs is))
+  where
+    by : (t : Bool) → AllHold (λ v. None) (without q (lie_in qs is)) → AllHold (λ v. None) (between_unless t q i (without q (lie_in qs is)))
+    by true k = k
+    by false k = (tt, k)
+
+entry_holds : (qs : List ℕ) (is : List Interval) (ns : List ℤ) → NumbersWithin ns is → AllHold (at_entry qs ns) (lie_in qs is)
+entry_holds [] is ns w = tt
+entry_holds (q ∷ qs) [] ns w = tt
+entry_holds (q ∷ qs) (i ∷ is) [] w = unknown_hold (q ∷ qs) (i ∷ is)
+entry_holds (q ∷ qs) (i ∷ is) (n ∷ ns) w = lies_hold (at_entry qs ns) q (Some n) i (without q (lie_in qs is)) w.0 (without_holds (at_entry qs ns) q (Some n) (lie_in qs is) (entry_holds qs is ns w.1))
+
 -- ---- exits
 
 abbrev IsResumed : Claim → (ℕ → Content) → Option ℕ → Type 0
 IsResumed claim values result = ((n : ℤ) → Within full (Some n) → AllHold (with_result values result n) claim.facts) × (tell [] claim.accesses ≡ true)
 
-abbrev HopGood : (ℕ → Claim) → Setting → Hop → Type 0
-HopGood claims setting (Arrives from to t) = Claimed setting (claims to) t
-HopGood claims setting (Calls g arguments result from to t) = NumbersFit arguments × StateFit t × IsResumed (claims to) t.values result
-HopGood claims setting (Leaves n t) = Within full (Some n) × StateFit t
-HopGood claims setting (Stops k t) = Unit {0}
-HopGood claims setting Wrong = Unit {0}
+abbrev HopGood : (ℕ → List Interval) → (ℕ → Claim) → Setting → Hop → Type 0
+HopGood given claims setting (Arrives from to t) = Claimed setting (claims to) t
+HopGood given claims setting (Calls g arguments result from to t) = NumbersFit arguments × NumbersWithin arguments (given g) × StateFit t × IsResumed (claims to) t.values result
+HopGood given claims setting (Leaves n t) = Within full (Some n) × StateFit t
+HopGood given claims setting (Stops k t) = Unit {0}
+HopGood given claims setting Wrong = Unit {0}
 
-test_good : (claims : ℕ → Claim) (setting : Setting) (x : Content) (a b : Hop) → ((z : ℤ) → x ≡ Some z → is_one z ≡ true → HopGood claims setting a) → ((z : ℤ) → x ≡ Some z → is_one z ≡ false → HopGood claims setting b) → HopGood claims setting (by_test x a b)
-test_good claims setting None a b h k = tt
-test_good claims setting (Some z) a b h k = by (is_one z) refl
+test_good : (given : ℕ → List Interval) (claims : ℕ → Claim) (setting : Setting) (x : Content) (a b : Hop) → ((z : ℤ) → x ≡ Some z → is_one z ≡ true → HopGood given claims setting a) → ((z : ℤ) → x ≡ Some z → is_one z ≡ false → HopGood given claims setting b) → HopGood given claims setting (by_test x a b)
+test_good given claims setting None a b h k = tt
+test_good given claims setting (Some z) a b h k = by (is_one z) refl
   where
-    by : (t : Bool) → is_one z ≡ t → HopGood claims setting (cond t a b)
+    by : (t : Bool) → is_one z ≡ t → HopGood given claims setting (cond t a b)
     by true e = h z refl e
     by false e = k z refl e
 
@@ -99,58 +159,60 @@ pub result_fits : (values : ℕ → Content) (result : Option ℕ) (n : ℤ) →
 result_fits values None n fit f = fit
 result_fits values (Some r) n fit f = written_fits values r (Some n) fit f
 
-calls_good : (claims : ℕ → Claim) (setting : Setting) (g : ℕ) (o : Option (List ℤ)) (result : Option ℕ) (b to : ℕ) (s : State) (fs : List Fact) → Good fs s → KnownFit o → are_given_behind (without_result result fs) (claims to) ≡ true → HopGood claims setting (calls g o result b to s)
-calls_good claims setting g None result b to s fs good k e = tt
-calls_good claims setting g (Some ns) result b to s fs good k e =
+calls_good : (given : ℕ → List Interval) (claims : ℕ → Claim) (setting : Setting) (g : ℕ) (o : Option (List ℤ)) (result : Option ℕ) (b to : ℕ) (s : State) (fs : List Fact) → Good fs s → KnownFit o → KnownWithin o (given g) → are_given_behind (without_result result fs) (claims to) ≡ true → HopGood given claims setting (calls g o result b to s)
+calls_good given claims setting g None result b to s fs good k w e = tt
+calls_good given claims setting g (Some ns) result b to s fs good k w e =
     let behind = without_result result fs in
     let e1 = and_one (give behind (claims to).facts) (tell [] (claims to).accesses) e in
     let resumed : IsResumed (claims to) s.values result =
     ((λ n f. give_holds (with_result s.values result n) behind (claims to).facts (result_fits s.values result n good.fits.values f) (result_holds s.values result n fs good.facts) e1), and_two (give behind (claims to).facts) (tell [] (claims to).accesses) e) in
-    (k, good.fits, resumed)
+    (k, w, good.fits, resumed)
 
-leaves_good : (claims : ℕ → Claim) (setting : Setting) (x : Content) (s : State) → Within full x → StateFit s → HopGood claims setting (leaves x s)
-leaves_good claims setting None s f g = tt
-leaves_good claims setting (Some n) s f g = (f, g)
+leaves_good : (given : ℕ → List Interval) (claims : ℕ → Claim) (setting : Setting) (x : Content) (s : State) → Within full x → StateFit s → HopGood given claims setting (leaves x s)
+leaves_good given claims setting None s f g = tt
+leaves_good given claims setting (Some n) s f g = (f, g)
 
-leave_good : (claims : ℕ → Claim) (setting : Setting) (b : ℕ) (exit : Exit) (s : State) (fs : List Fact) (xs : List Access) → Good fs s → AllTell setting s xs → is_exit_checked claims fs xs exit ≡ true → HopGood claims setting (leave b exit s)
-leave_good claims setting b (Goto c) s fs xs g h e = given_good setting s fs xs (claims c) g h e
-leave_good claims setting b (Split p c d) s fs xs g h e =
+leave_good : (given : ℕ → List Interval) (claims : ℕ → Claim) (setting : Setting) (b : ℕ) (exit : Exit) (s : State) (fs : List Fact) (xs : List Access) → Good fs s → AllTell setting s xs → is_exit_checked given claims fs xs exit ≡ true → HopGood given claims setting (leave b exit s)
+leave_good given claims setting b (Goto c) s fs xs g h e = given_good setting s fs xs (claims c) g h e
+leave_good given claims setting b (Split p c d) s fs xs g h e =
     let one = are_given (on_side fs true p) xs (claims c) in
     let two = are_given (on_side fs false p) xs (claims d) in
-    test_good claims setting (s.values p) (Arrives b c s) (Arrives b d s)
+    test_good given claims setting (s.values p) (Arrives b c s) (Arrives b d s)
     (λ z is q. given_good setting s (on_side fs true p) xs (claims c) (record { facts = side_holds s.values g.fits.values fs g.facts p z true is q; fits = g.fits }) h (and_one one two e))
     (λ z is q. given_good setting s (on_side fs false p) xs (claims d) (record { facts = side_holds s.values g.fits.values fs g.facts p z false is q; fits = g.fits }) h (and_two one two e))
-leave_good claims setting b (Call f arguments result to) s fs xs g h e =
+leave_good given claims setting b (Call f arguments result to) s fs xs g h e =
     let one = list_all has_number arguments in
-    let two = are_given_behind (without_result result fs) (claims to) in
-    calls_good claims setting f (known (map (held s) arguments)) result b to s fs g (known_fit s arguments g.fits.values (and_one one two e)) (and_two one two e)
-leave_good claims setting b (Return x) s fs xs g h e = leaves_good claims setting (held s x) s (held_fits s x g.fits.values e) g.fits
-leave_good claims setting b (Ends k) s fs xs g h e = tt
+    let two = are_passed fs arguments (given f) in
+    let three = are_given_behind (without_result result fs) (claims to) in
+    let rest = and_two one (two && three) e in
+    calls_good given claims setting f (known (map (held s) arguments)) result b to s fs g (known_fit s arguments g.fits.values (and_one one (two && three) e)) (passed_within s fs arguments (given f) g (and_one two three rest)) (and_two two three rest)
+leave_good given claims setting b (Return x) s fs xs g h e = leaves_good given claims setting (held s x) s (held_fits s x g.fits.values e) g.fits
+leave_good given claims setting b (Ends k) s fs xs g h e = tt
 
 -- ---- blocks
 
-then_good : (claims : ℕ → Claim) (setting : Setting) (fs : List Fact) (xs : List Access) (o : Option State) (f : State → Hop) → KeepsKnown setting fs xs o → ((t : State) → Known setting fs xs t → HopGood claims setting (f t)) → HopGood claims setting (and_then o f)
-then_good claims setting fs xs None f k h = tt
-then_good claims setting fs xs (Some t) f k h = h t k
+then_good : (given : ℕ → List Interval) (claims : ℕ → Claim) (setting : Setting) (fs : List Fact) (xs : List Access) (o : Option State) (f : State → Hop) → KeepsKnown setting fs xs o → ((t : State) → Known setting fs xs t → HopGood given claims setting (f t)) → HopGood given claims setting (and_then o f)
+then_good given claims setting fs xs None f k h = tt
+then_good given claims setting fs xs (Some t) f k h = h t k
 
-ops_good : (claims : ℕ → Claim) (setting : Setting) → SpotsDiffer setting → (b : ℕ) (ops : List Op) (exit : Exit) (fs : List Fact) (xs : List Access) (s : State) → Known setting fs xs s → list_all has_numbers ops ≡ true →
-    is_exit_checked claims (after_from fs xs ops) (accessed_from fs xs ops) exit ≡ true → HopGood claims setting (block_hop setting b ops exit s)
-ops_good claims setting differ b [] exit fs xs s k n e = leave_good claims setting b exit s fs xs k.good k.tell e
-ops_good claims setting differ b (op ∷ ops) exit fs xs s k n e =
+ops_good : (given : ℕ → List Interval) (claims : ℕ → Claim) (setting : Setting) → SpotsDiffer setting → (b : ℕ) (ops : List Op) (exit : Exit) (fs : List Fact) (xs : List Access) (s : State) → Known setting fs xs s → list_all has_numbers ops ≡ true →
+    is_exit_checked given claims (after_from fs xs ops) (accessed_from fs xs ops) exit ≡ true → HopGood given claims setting (block_hop setting b ops exit s)
+ops_good given claims setting differ b [] exit fs xs s k n e = leave_good given claims setting b exit s fs xs k.good k.tell e
+ops_good given claims setting differ b (op ∷ ops) exit fs xs s k n e =
     let fs' = after_known fs xs op (form fs xs op) in
     let xs' = accessed xs (form fs xs op) in
-    then_good claims setting fs' xs' (effect setting s op s) (block_hop setting b ops exit) (form_known setting differ s fs xs op (and_one (has_numbers op) (list_all has_numbers ops) n) k)
-    (λ t h. ops_good claims setting differ b ops exit fs' xs' t h (and_two (has_numbers op) (list_all has_numbers ops) n) e)
+    then_good given claims setting fs' xs' (effect setting s op s) (block_hop setting b ops exit) (form_known setting differ s fs xs op (and_one (has_numbers op) (list_all has_numbers ops) n) k)
+    (λ t h. ops_good given claims setting differ b ops exit fs' xs' t h (and_two (has_numbers op) (list_all has_numbers ops) n) e)
 
-block_good : (claims : ℕ → Claim) (setting : Setting) → SpotsDiffer setting → (b : ℕ) (block : Block) (s : State) → Claimed setting (claims b) s → is_block_checked claims b block ≡ true → HopGood claims setting (hop_of setting b (Some block) s)
-block_good claims setting differ b block s k e =
+block_good : (given : ℕ → List Interval) (claims : ℕ → Claim) (setting : Setting) → SpotsDiffer setting → (b : ℕ) (block : Block) (s : State) → Claimed setting (claims b) s → is_block_checked given claims b block ≡ true → HopGood given claims setting (hop_of setting b (Some block) s)
+block_good given claims setting differ b block s k e =
     let one = list_all has_numbers block.ops in
-    let two = is_exit_checked claims (after_all (claims b) block.ops) (accessed_all (claims b) block.ops) block.exit in
-    ops_good claims setting differ b block.ops block.exit (claims b).facts (claims b).accesses s k (and_one one two e) (and_two one two e)
+    let two = is_exit_checked given claims (after_all (claims b) block.ops) (accessed_all (claims b) block.ops) block.exit in
+    ops_good given claims setting differ b block.ops block.exit (claims b).facts (claims b).accesses s k (and_one one two e) (and_two one two e)
 
 -- ---- programs
 
-module _ (flow : Flow) (claims : ℕ → ℕ → Claim) (checked : Checked flow claims) where
+module _ (flow : Flow) (given : ℕ → List Interval) (claims : ℕ → ℕ → Claim) (checked : Checked flow given claims) where
   abbrev pub FramesGood : List Frame → Type 0
   FramesGood [] = Unit {0}
   FramesGood (f ∷ fs) = Fit f.values × IsResumed (claims f.function f.next) f.values f.result × FramesGood fs
@@ -171,14 +233,14 @@ module _ (flow : Flow) (claims : ℕ → ℕ → Claim) (checked : Checked flow 
   StepGood (On q) = StandsGood q
   StepGood (Over o) = Unit {0}
 
-  hop_good : (r : Active) → ActiveGood r → HopGood (claims r.function) (setting_of (program_of flow) r.base) (hop (program_of flow) r)
+  hop_good : (r : Active) → ActiveGood r → HopGood given (claims r.function) (setting_of (program_of flow) r.base) (hop (program_of flow) r)
   hop_good r a = by (slice_get flow.functions r.function) refl
     where
-      inner : (g : Graph) → slice_get flow.functions r.function ≡ Some g → (o : Option Block) → slice_get g.blocks r.block ≡ o → HopGood (claims r.function) (setting_of (program_of flow) r.base) (hop_of (setting_of (program_of flow) r.base) r.block o r.state)
+      inner : (g : Graph) → slice_get flow.functions r.function ≡ Some g → (o : Option Block) → slice_get g.blocks r.block ≡ o → HopGood given (claims r.function) (setting_of (program_of flow) r.base) (hop_of (setting_of (program_of flow) r.base) r.block o r.state)
       inner g e None q = tt
-      inner g e (Some block) q = block_good (claims r.function) (setting_of (program_of flow) r.base) (sized_differ flow r a.sized) r.block block r.state a.known (checked.blocks r.function r.block g block e q)
+      inner g e (Some block) q = block_good given (claims r.function) (setting_of (program_of flow) r.base) (sized_differ flow r a.sized) r.block block r.state a.known (checked.blocks r.function r.block g block e q)
 
-      by : (o : Option Graph) → slice_get flow.functions r.function ≡ o → HopGood (claims r.function) (setting_of (program_of flow) r.base) (body_hop (program_of flow) r (option_map (body_of (length flow.globals)) o))
+      by : (o : Option Graph) → slice_get flow.functions r.function ≡ o → HopGood given (claims r.function) (setting_of (program_of flow) r.base) (body_hop (program_of flow) r (option_map (body_of (length flow.globals)) o))
       by None e = tt
       by (Some g) e = inner g e (slice_get g.blocks r.block) refl
 
@@ -201,20 +263,18 @@ module _ (flow : Flow) (claims : ℕ → ℕ → Claim) (checked : Checked flow 
       by true h = f.0
       by false h = h
 
-  entered_good : (g : ℕ) (body : Body) (ns : List ℤ) (s : State) (setting : Setting) → NumbersFit ns → StateFit s → Claimed setting (claims g 0) (entered body ns s)
-  entered_good g body ns s setting f k =
+  entered_good : (g : ℕ) (body : Body) (ns : List ℤ) (s : State) (setting : Setting) → is_entry_checked (given g) body.parameters (claims g 0) ≡ true → NumbersFit ns → NumbersWithin ns (given g) → StateFit s → Claimed setting (claims g 0) (entered body ns s)
+  entered_good g body ns s setting e f w k =
       let t = entered body ns s in
-      record {
-        good = record {
-          facts = subst (λ (claim : Claim). AllHold t.values claim.facts) (sym (checked.entries g)) tt;
-          fits = record { values = entry_fits body.parameters ns f; rows = rows_append s.arrays (map undefined body.own) k.rows (own_fit body.own); input = k.input };
-        };
-        tell = subst (λ (claim : Claim). AllTell setting t claim.accesses) (sym (checked.entries g)) tt;
-      }
+      let fits : StateFit t = record { values = entry_fits body.parameters ns f; rows = rows_append s.arrays (map undefined body.own) k.rows (own_fit body.own); input = k.input } in
+      given_good setting t (lie_in body.parameters (given g)) [] (claims g 0) (record { facts = entry_holds body.parameters (given g) ns w; fits = fits }) tt e
 
-  enters_good : (g : ℕ) (o : Option Body) (ns : List ℤ) (s : State) (fs : List Frame) → NumbersFit ns → StateFit s → FramesGood fs → StepGood (enters g o ns s fs)
-  enters_good g None ns s fs f k h = tt
-  enters_good g (Some body) ns s fs f k h = record { known = entered_good g body ns s (setting_of (program_of flow) (length s.arrays)) f k; frames = h }
+  abbrev body_by : Option Graph → Option Body
+  body_by o = option_map (body_of (length flow.globals)) o
+
+  enters_good : (g : ℕ) (o : Option Graph) (ns : List ℤ) (s : State) (fs : List Frame) → is_entry_checked (given g) (parameters_of o) (claims g 0) ≡ true → NumbersFit ns → NumbersWithin ns (given g) → StateFit s → FramesGood fs → StepGood (enters g (body_by o) ns s fs)
+  enters_good g None ns s fs e f w k h = tt
+  enters_good g (Some graph) ns s fs e f w k h = record { known = entered_good g (body_of (length flow.globals) graph) ns s (setting_of (program_of flow) (length s.arrays)) e f w k; frames = h }
 
   returned_good : (n : ℤ) (s : State) (base : ℕ) (fs : List Frame) → Within full (Some n) → StateFit s → FramesGood fs → StepGood (returned n s base fs)
   returned_good n s base [] f k h = tt
@@ -233,12 +293,12 @@ module _ (flow : Flow) (claims : ℕ → ℕ → Claim) (checked : Checked flow 
   cond_good true a b h k = h
   cond_good false a b h k = k
 
-  after_good : (r : Active) (h : Hop) → ActiveGood r → HopGood (claims r.function) (setting_of (program_of flow) r.base) h → StepGood (after_hop (program_of flow) r h)
+  after_good : (r : Active) (h : Hop) → ActiveGood r → HopGood given (claims r.function) (setting_of (program_of flow) r.base) h → StepGood (after_hop (program_of flow) r h)
   after_good r (Arrives from to s) a k = record { known = k; frames = a.frames }
   after_good r (Calls g ns result from to s) a k =
       let p = program_of flow in
       cond_good (nat_le deepest (length r.waiting + 1)) _ (enters g (p.body g) ns s (waits r result from to s ∷ r.waiting)) tt
-      (enters_good g (p.body g) ns s (waits r result from to s ∷ r.waiting) k.0 k.1 (k.1.values, k.2, a.frames))
+      (enters_good g (slice_get flow.functions g) ns s (waits r result from to s ∷ r.waiting) (checked.entries g) k.0 k.1 k.2 (k.2.values, k.3, a.frames))
   after_good r (Leaves n s) a k = returned_good n s r.base r.waiting k.0 k.1 a.frames
   after_good r (Stops t s) a k = tt
   after_good r Wrong a k = tt
@@ -279,20 +339,15 @@ module _ (flow : Flow) (claims : ℕ → ℕ → Claim) (checked : Checked flow 
   start_fits : (input : List ℤ) → ((n : ℤ) → IsIn n input → IsNumber n) → StateFit (globals_at_start flow input)
   start_fits input h = record { values = λ v. tt; rows = globals_fit flow.globals checked.globals; input = input_fits input h }
 
-  start_by : (o : Option Body) (input : List ℤ) (setting : Setting) → ((n : ℤ) → IsIn n input → IsNumber n) → Claimed setting (claims flow.main 0) (entered_or o (globals_at_start flow input))
-  start_by None input setting h =
-      let s = globals_at_start flow input in
-      record {
-        good = record { facts = subst (λ (claim : Claim). AllHold s.values claim.facts) (sym (checked.entries flow.main)) tt; fits = start_fits input h };
-        tell = subst (λ (claim : Claim). AllTell setting s claim.accesses) (sym (checked.entries flow.main)) tt;
-      }
-  start_by (Some body) input setting h = entered_good flow.main body [] (globals_at_start flow input) setting tt (start_fits input h)
+  start_by : (o : Option Graph) (input : List ℤ) (setting : Setting) → is_entry_checked (given flow.main) (parameters_of o) (claims flow.main 0) ≡ true → ((n : ℤ) → IsIn n input → IsNumber n) → Claimed setting (claims flow.main 0) (entered_or (body_by o) (globals_at_start flow input))
+  start_by None input setting e h = given_good setting (globals_at_start flow input) [] [] (claims flow.main 0) (record { facts = tt; fits = start_fits input h }) tt e
+  start_by (Some graph) input setting e h = entered_good flow.main (body_of (length flow.globals) graph) [] (globals_at_start flow input) setting e tt tt (start_fits input h)
 
   pub start_good : (input : List ℤ) → ((n : ℤ) → IsIn n input → IsNumber n) → ActiveGood (start flow input)
-  start_good input h = let p = program_of flow in record { known = start_by (p.body flow.main) input (setting_of p (start flow input).base) h; frames = tt; sized = start_sized flow input }
+  start_good input h = let p = program_of flow in record { known = start_by (slice_get flow.functions flow.main) input (setting_of p (start flow input).base) (checked.entries flow.main) h; frames = tt; sized = start_sized flow input }
 
   pub reached_good : (input : List ℤ) → ((n : ℤ) → IsIn n input → IsNumber n) → (n : ℕ) (r : Active) → Leads flow n (start flow input) r → ActiveGood r
   reached_good input h n r l = leads_good n (start flow input) r (start_good input h) l
 
 pub facts_hold : FactsHold
-facts_hold flow claims checked input h n r l = (reached_good flow claims checked input h n r l).known.good.facts
+facts_hold flow given claims checked input h n r l = (reached_good flow given claims checked input h n r l).known.good.facts

@@ -146,11 +146,11 @@ graph_by p k function graph None h e = absurd (cc)
 graph_by p k function graph (Some g) h e = let q : narrowed_graph k g ≡ graph = cc in subst (GraphOf p function) q (graph_of k g p function (h g refl))
 
 pub stays_flow : StaysFlow
-stays_flow p flow claims checked o sound =
+stays_flow p flow given claims checked o sound =
     let at : (f : ℕ) → slice_get (narrowed claims flow).functions f ≡ option_map (narrowed_graph (claims f)) (slice_get flow.functions f) =
     λ f. (let e : 0 + f ≡ f = omega arith in get_function claims 0 flow.functions f ∙ ap (λ m. option_map (narrowed_graph (claims m)) (slice_get flow.functions f)) e) in
     let runs : (input : List ℤ) → AreNumbers input → graph_run (narrowed claims flow) input ≡ graph_run flow input =
-    λ input numbers. (λ i n. narrowed_runs flow claims checked input numbers (o.runs.never_wrong input numbers) n i) in
+    λ input numbers. (λ i n. narrowed_runs flow given claims checked input numbers (o.runs.never_wrong input numbers) n i) in
     record {
       sound = sound;
       count = functions_length claims 0 flow.functions ∙ o.count;

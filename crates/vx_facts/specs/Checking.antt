@@ -1,5 +1,5 @@
 -- When facts claimed at the starts of the blocks of a program are checked, and the laws of checked facts.
-use Rattle.std.specs.Prelude.{◌≡◌, ◌⊎◌, ℕ, zero, suc, Bool, true, false, ◌&&◌, ℤ, int_le, Option, Some, None, List, [], slice_get}
+use Rattle.std.specs.Prelude.{◌≡◌, ◌⊎◌, ℕ, zero, suc, Bool, true, false, ◌&&◌, ℤ, int_le, Option, Some, None, List, [], ◌∷◌, slice_get}
 use Rattle.std.specs.List.{list_all}
 use Rattle.vx_base.specs.Arithmetic.{IsNumber}
 use Rattle.vx_base.specs.Outcome.{On}
@@ -19,12 +19,13 @@ use Rattle.vx_facts.specs.declared.claim.Claim.{Claim}
 use Rattle.vx_facts.specs.declared.intervals.Interval.{Interval}
 use Rattle.vx_facts.specs.declared.fact.Fact.{Fact}
 use Rattle.vx_facts.specs.declared.fact.Fact.TheVariants.{Between, Equals}
-use Rattle.vx_facts.specs.Facts.{AllHold, least, greatest, range, without, on_side, decided, has_equals}
+use Rattle.vx_facts.specs.Facts.{AllHold, least, greatest, range, range_of, without, lies_in, on_side, decided, has_equals}
 use Rattle.vx_facts.specs.Forming.{after_all, accessed_all}
 use Rattle.vx_facts.specs.declared.access.Access.{Access}
 use Rattle.vx_facts.specs.Accesses.{tell}
 
--- the check of one block
+-- the check of one block, where so much is given of the parameters of each function: an interval for each place, and nothing of
+-- the places behind the last interval
 
 abbrev pub is_number : ℤ → Bool
 is_number n = int_le least n && int_le n greatest
@@ -73,21 +74,45 @@ are_given fs xs claim = give fs claim.facts && tell xs claim.accesses
 abbrev pub are_given_behind : List Fact → Claim → Bool
 are_given_behind fs claim = give fs claim.facts && tell [] claim.accesses
 
-abbrev pub is_exit_checked : (ℕ → Claim) → List Fact → List Access → Exit → Bool
-is_exit_checked claims fs xs (Goto c) = are_given fs xs (claims c)
-is_exit_checked claims fs xs (Split p c d) = are_given (on_side fs true p) xs (claims c) && are_given (on_side fs false p) xs (claims d)
-is_exit_checked claims fs xs (Call g arguments result next) = list_all has_number arguments && are_given_behind (without_result result fs) (claims next)
-is_exit_checked claims fs xs (Return x) = has_number x
-is_exit_checked claims fs xs (Ends k) = true
+-- by the facts each argument lies in the interval of its place
+abbrev pub are_passed : List Fact → List Operand → List Interval → Bool
+are_passed fs [] is = true
+are_passed fs (x ∷ xs) [] = true
+are_passed fs (x ∷ xs) (i ∷ is) = is_inside (range_of fs x) i && are_passed fs xs is
 
-abbrev pub is_block_checked : (ℕ → Claim) → ℕ → Block → Bool
-is_block_checked claims b block = list_all has_numbers block.ops && is_exit_checked claims (after_all (claims b) block.ops) (accessed_all (claims b) block.ops) block.exit
+abbrev pub is_exit_checked : (given : ℕ → List Interval) → (ℕ → Claim) → List Fact → List Access → Exit → Bool
+is_exit_checked given claims fs xs (Goto c) = are_given fs xs (claims c)
+is_exit_checked given claims fs xs (Split p c d) = are_given (on_side fs true p) xs (claims c) && are_given (on_side fs false p) xs (claims d)
+is_exit_checked given claims fs xs (Call g arguments result next) = list_all has_number arguments && (are_passed fs arguments (given g) && are_given_behind (without_result result fs) (claims next))
+is_exit_checked given claims fs xs (Return x) = has_number x
+is_exit_checked given claims fs xs (Ends k) = true
 
--- the check of a program: what is claimed in each function at the start of each block
+abbrev pub is_block_checked : (given : ℕ → List Interval) → (ℕ → Claim) → ℕ → Block → Bool
+is_block_checked given claims b block = list_all has_numbers block.ops && is_exit_checked given claims (after_all (claims b) block.ops) (accessed_all (claims b) block.ops) block.exit
 
-pub record Checked (flow : Flow) (claims : ℕ → ℕ → Claim) : Type 0 where
-  pub entries : (f : ℕ) → claims f 0 ≡ nothing
-  pub blocks : (f b : ℕ) (g : Graph) (block : Block) → slice_get flow.functions f ≡ Some g → slice_get g.blocks b ≡ Some block → is_block_checked (claims f) b block ≡ true
+-- the check of an entry
+
+-- each parameter lies in the interval of its place; where a value is a parameter twice, its first place counts
+abbrev pub lie_in : (parameters : List ℕ) → List Interval → List Fact
+lie_in [] is = []
+lie_in (q ∷ qs) [] = []
+lie_in (q ∷ qs) (i ∷ is) = lies_in q i (without q (lie_in qs is))
+
+-- what is given of the parameters gives what is claimed at the entry, and of words nothing is known there
+abbrev pub is_entry_checked : List Interval → (parameters : List ℕ) → Claim → Bool
+is_entry_checked is parameters claim = are_given (lie_in parameters is) [] claim
+
+-- none where there is no such function
+abbrev pub parameters_of : Option Graph → List ℕ
+parameters_of None = []
+parameters_of (Some g) = g.parameters
+
+-- the check of a program: what is given of the parameters of each function, and what is claimed in it at the start of each block;
+-- where `main` begins the program it has no arguments, and what holds no number lies in every interval
+
+pub record Checked (flow : Flow) (given : ℕ → List Interval) (claims : ℕ → ℕ → Claim) : Type 0 where
+  pub entries : (f : ℕ) → is_entry_checked (given f) (parameters_of (slice_get flow.functions f)) (claims f 0) ≡ true
+  pub blocks : (f b : ℕ) (g : Graph) (block : Block) → slice_get flow.functions f ≡ Some g → slice_get g.blocks b ≡ Some block → is_block_checked given (claims f) b block ≡ true
   pub globals : list_all (λ (g : Global). is_number g.first) flow.globals ≡ true
 
 -- so many blocks lead from one active function to another
@@ -97,7 +122,7 @@ Leads flow (suc n) r q = (m : Active) × (next (program_of flow) r ≡ On m) × 
 
 -- on every input of numbers, wherever a block is entered, the values are as claimed there
 abbrev pub FactsHold : Type 0
-FactsHold = (flow : Flow) (claims : ℕ → ℕ → Claim) → Checked flow claims → (input : List ℤ) → ((n : ℤ) → IsIn n input → IsNumber n) →
+FactsHold = (flow : Flow) (given : ℕ → List Interval) (claims : ℕ → ℕ → Claim) → Checked flow given claims → (input : List ℤ) → ((n : ℤ) → IsIn n input → IsNumber n) →
     (n : ℕ) (r : Active) → Leads flow n (start flow input) r → AllHold r.state.values (claims r.function r.block).facts
 
 abbrev pub side_of : Bool → ℕ → ℕ → ℕ
@@ -109,7 +134,7 @@ GoesTo b c h = (h ≡ Wrong) ⊎ ((s : State) × (h ≡ Arrives b c s))
 
 -- where the facts behind the operations of a block decide the test of its split, it is left by that side
 abbrev pub DecidedGoes : Type 0
-DecidedGoes = (flow : Flow) (claims : ℕ → ℕ → Claim) → Checked flow claims → (input : List ℤ) → ((n : ℤ) → IsIn n input → IsNumber n) →
+DecidedGoes = (flow : Flow) (given : ℕ → List Interval) (claims : ℕ → ℕ → Claim) → Checked flow given claims → (input : List ℤ) → ((n : ℤ) → IsIn n input → IsNumber n) →
     (n : ℕ) (r : Active) → Leads flow n (start flow input) r →
     (g : Graph) (block : Block) (p c d : ℕ) (answer : Bool) → slice_get flow.functions r.function ≡ Some g → slice_get g.blocks r.block ≡ Some block →
     block.exit ≡ Split p c d → decided (after_all (claims r.function r.block) block.ops) p ≡ Some answer →

@@ -1,5 +1,6 @@
--- Graphs exchanged for narrowed ones: each graph by claims of its own, that its blocks pass.
-use Rattle.std.specs.Prelude.{◌≡◌, ◌+◌, ◌==◌, ℕ, Bool, true, ◌&&◌, List, [], ◌∷◌, length, slice_get, slice_index_or, Some}
+-- Graphs exchanged for narrowed ones: each graph by claims of its own, that its entry and its blocks pass with what is given of the
+-- parameters of all.
+use Rattle.std.specs.Prelude.{◌≡◌, ◌+◌, ℕ, Bool, true, ◌&&◌, List, [], ◌∷◌, slice_get, slice_index_or, Some}
 use Rattle.std.specs.List.{list_all}
 use Rattle.vx_ast.specs.Tree.{Program}
 use Rattle.vx_flow.specs.declared.graph.Block.{Block}
@@ -9,33 +10,40 @@ use Rattle.vx_flow.specs.declared.graph.Flow.{Flow}
 use Rattle.vx_flow.specs.Sound.{is_sound_flow}
 use Rattle.vx_lower.specs.FlowOf.{FlowOf}
 use Rattle.vx_facts.specs.declared.claim.Claim.{Claim}
-use Rattle.vx_facts.specs.Checking.{is_number, nothing, is_block_checked}
+use Rattle.vx_facts.specs.declared.intervals.Interval.{Interval}
+use Rattle.vx_facts.specs.Checking.{is_number, nothing, is_entry_checked, is_block_checked}
 use Rattle.vx_facts.specs.Rewriting.{narrowed_graph}
 
 -- what a table claims at the start of a block: nothing where it has no row
 abbrev pub listed_claims : List Claim → ℕ → Claim
 listed_claims table b = slice_index_or table b nothing
 
-abbrev pub is_nothing : Claim → Bool
-is_nothing claim = (length claim.facts == 0) && (length claim.accesses == 0)
+-- what a table gives of the parameters of a function: nothing where it has no row
+abbrev pub listed_given : List (List Interval) → ℕ → List Interval
+listed_given table f = slice_index_or table f []
 
 -- whether the blocks from block b on pass
-abbrev pub are_blocks_checked : (ℕ → Claim) → ℕ → List Block → Bool
-are_blocks_checked claims b [] = true
-are_blocks_checked claims b (k ∷ ks) = is_block_checked claims b k && are_blocks_checked claims (b + 1) ks
+abbrev pub are_blocks_checked : (given : ℕ → List Interval) → (ℕ → Claim) → ℕ → List Block → Bool
+are_blocks_checked given claims b [] = true
+are_blocks_checked given claims b (k ∷ ks) = is_block_checked given claims b k && are_blocks_checked given claims (b + 1) ks
 
--- the new graph is the old one narrowed by claims that pass
-pub record GraphNarrowed (old new : Graph) : Type 0 where
+-- the new graph of function f is the old one narrowed by claims that pass, where so much is given of the parameters
+pub record GraphNarrowed (given : ℕ → List Interval) (f : ℕ) (old new : Graph) : Type 0 where
   pub claims : ℕ → Claim
-  pub entry : claims 0 ≡ nothing
-  pub blocks : (b : ℕ) (block : Block) → slice_get old.blocks b ≡ Some block → is_block_checked claims b block ≡ true
+  pub entry : is_entry_checked (given f) old.parameters (claims 0) ≡ true
+  pub blocks : (b : ℕ) (block : Block) → slice_get old.blocks b ≡ Some block → is_block_checked given claims b block ≡ true
   pub narrowed : new ≡ narrowed_graph claims old
 
+-- the same of the graphs from function f on
+abbrev pub NarrowedWith : (given : ℕ → List Interval) → ℕ → List Graph → List Graph → Type 0
+NarrowedWith given f [] [] = Unit {0}
+NarrowedWith given f [] (h ∷ hs) = ⊥
+NarrowedWith given f (g ∷ gs) [] = ⊥
+NarrowedWith given f (g ∷ gs) (h ∷ hs) = GraphNarrowed given f g h × NarrowedWith given (f + 1) gs hs
+
+-- the graphs of a program, with something given of the parameters of each function
 abbrev pub GraphsNarrowed : List Graph → List Graph → Type 0
-GraphsNarrowed [] [] = Unit {0}
-GraphsNarrowed [] (h ∷ hs) = ⊥
-GraphsNarrowed (g ∷ gs) [] = ⊥
-GraphsNarrowed (g ∷ gs) (h ∷ hs) = GraphNarrowed g h × GraphsNarrowed gs hs
+GraphsNarrowed gs hs = (given : ℕ → List Interval) × NarrowedWith given 0 gs hs
 
 abbrev pub with_graphs : Flow → List Graph → Flow
 with_graphs flow graphs = record flow { functions = graphs }

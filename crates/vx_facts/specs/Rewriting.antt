@@ -11,6 +11,7 @@ use Rattle.vx_flow.specs.declared.graph.Flow.{Flow}
 use Rattle.vx_flow.specs.Effects.{IsIn}
 use Rattle.vx_flow.specs.Meaning.{graph_run}
 use Rattle.vx_facts.specs.declared.claim.Claim.{Claim}
+use Rattle.vx_facts.specs.declared.intervals.Interval.{Interval}
 use Rattle.vx_facts.specs.declared.fact.Fact.{Fact}
 use Rattle.vx_facts.specs.Facts.{decided}
 use Rattle.vx_facts.specs.Forming.{after_all}
@@ -46,5 +47,5 @@ narrowed claims flow = record flow { functions = narrowed_functions claims 0 flo
 
 -- on every input of numbers where the program never fails, it comes to the same with its decided splits gone, at every bound
 abbrev pub NarrowedRuns : Type 0
-NarrowedRuns = (flow : Flow) (claims : ℕ → ℕ → Claim) → Checked flow claims → (input : List ℤ) → ((n : ℤ) → IsIn n input → IsNumber n) →
+NarrowedRuns = (flow : Flow) (given : ℕ → List Interval) (claims : ℕ → ℕ → Claim) → Checked flow given claims → (input : List ℤ) → ((n : ℤ) → IsIn n input → IsNumber n) →
     NeverFails (graph_run flow input) → (n : ℕ) → graph_run (narrowed claims flow) input n ≡ graph_run flow input n

@@ -1,7 +1,7 @@
 // What is claimed at the start of a block.
 
 ghost use Rattle.std.specs.Prelude.{◌≡◌};
-ghost use Rattle.vx_facts.specs.Narrowing.{is_nothing, listed_claims};
+ghost use Rattle.vx_facts.specs.Narrowing.{listed_claims};
 
 use crate::access::Access;
 use crate::fact::Fact;
@@ -32,11 +32,4 @@ pub fn accesses_in(table: &[Claim], place: usize) -> &[Access]
         Some(claim) => claim.accesses.as_slice(),
         None => &[],
     }
-}
-
-/// Whether a table claims nothing at a place.
-pub fn is_nothing(table: &[Claim], place: usize) -> bool
-    ensures { result ≡ is_nothing (listed_claims table.now place) }
-{
-    facts_in(table, place).is_empty() && accesses_in(table, place).is_empty()
 }

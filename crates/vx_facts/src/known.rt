@@ -197,7 +197,7 @@ pub fn decided(facts: &[Fact], test: Value) -> Option<bool>
 }
 
 /// Whether all numbers of an interval lie in another one.
-fn is_inside(i: Interval, j: Interval) -> bool
+pub fn is_inside(i: Interval, j: Interval) -> bool
     ensures { result ≡ is_inside i j }
 {
     j.low <= i.low && i.high <= j.high

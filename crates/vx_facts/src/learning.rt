@@ -77,6 +77,19 @@ pub fn append_lies(list: &mut Listed<Fact>, value: Value, within: Interval) -> R
     Ok(())
 }
 
+/// Puts where a value lies, and the facts that do not name it, at the end of a list.
+pub fn append_within(
+    list: &mut Listed<Fact>,
+    facts: &[Fact],
+    to: Value,
+    within: Interval,
+) -> Result<(), NoMemory>
+    ensures { IfOk result (λ _. list.new ≡ list.old ++ lies_in to within (without to facts.now)) }
+{
+    append_lies(list, to, within)?;
+    append_without(list, facts, to)
+}
+
 /// Whether an operation has another form with the same operands.
 pub fn same_form(op: &Op, form: &Op) -> bool
     ensures { result ≡ same_form op.now form.now }

@@ -7,10 +7,12 @@ ghost use Rattle.vx_ast.specs.Tree.{Program};
 ghost use Rattle.vx_flow.specs.Sound.{is_sound_flow};
 ghost use Rattle.vx_lower.specs.FlowOf.{FlowOf};
 ghost use Rattle.vx_facts.specs.Rewriting.{narrowed_from};
-ghost use Rattle.vx_facts.specs.Narrowing.{are_blocks_checked, are_numbers, listed_claims, FlowStays, GraphNarrowed, GraphsNarrowed};
+ghost use Rattle.vx_facts.specs.Narrowing.{are_blocks_checked, are_numbers, listed_claims, listed_given, FlowStays, GraphNarrowed, GraphsNarrowed, NarrowedWith};
 
-use crate::claim::{Claim, is_nothing};
+use crate::claim::Claim;
 use crate::copying::{with_blocks, with_graphs};
+use crate::given::is_entry_checked;
+use crate::intervals::Interval;
 use crate::passing::{is_number, narrowed_block};
 use crate::search::find_claims;
 use std::alloc::Global;
@@ -44,7 +46,20 @@ fn narrowed_flow(alloc: Global, flow: &Flow) -> Result<Option<Flow>, NoMemory>
     if !are_numbers(flow.globals.as_slice()) {
         return Ok(None);
     }
-    match narrowed_graphs(alloc, flow.functions.as_slice())? {
+    narrowed_with_given(alloc, flow, &[])
+}
+
+/// The flow with its graphs narrowed by what is given of the parameters, where every call passes it and the flow is sound.
+fn narrowed_with_given(
+    alloc: Global,
+    flow: &Flow,
+    given: &[Listed<Interval>],
+) -> Result<Option<Flow>, NoMemory>
+    requires numbers { are_numbers flow.now.globals ≡ true }
+    ensures sound { IfOk result (λ found. IfSome found (λ narrowed. is_sound_flow narrowed ≡ true)) }
+    ensures flow { IfOk result (λ found. IfSome found (λ narrowed. FlowStays flow.now narrowed)) }
+{
+    match narrowed_graphs(alloc, given, flow.functions.as_slice())? {
         Some(functions) => with_sound_graphs(alloc, flow, functions),
         None => Ok(None),
     }
@@ -77,12 +92,16 @@ fn with_sound_graphs(
 }
 
 /// The graphs narrowed one by one.
-fn narrowed_graphs(alloc: Global, graphs: &[Graph]) -> Result<Option<Listed<Graph>>, NoMemory>
-    ensures { IfOk result (λ found. IfSome found (λ made. GraphsNarrowed graphs.now made)) }
+fn narrowed_graphs(
+    alloc: Global,
+    given: &[Listed<Interval>],
+    graphs: &[Graph],
+) -> Result<Option<Listed<Graph>>, NoMemory>
+    ensures { IfOk result (λ found. IfSome found (λ made. NarrowedWith (listed_given given.now) 0 graphs.now made)) }
 {
     let mut made = Listed::new(alloc);
-    for graph in graphs {
-        match narrowed_graph(alloc, graph)? {
+    for (function, graph) in graphs.iter().enumerate() {
+        match narrowed_graph(alloc, given, function, graph)? {
             Some(narrowed) => made.push(narrowed)?,
             None => return Ok(None),
         }
@@ -92,49 +111,68 @@ fn narrowed_graphs(alloc: Global, graphs: &[Graph]) -> Result<Option<Listed<Grap
 
 /// The graph narrowed by the claims that are found for it: by those of blocks with several ways in too, where it passes with them;
 /// else by those that blocks with one way in take over, else by none.
-fn narrowed_graph(alloc: Global, graph: &Graph) -> Result<Option<Graph>, NoMemory>
-    ensures { IfOk result (λ found. IfSome found (λ made. GraphNarrowed graph.now made)) }
+fn narrowed_graph(
+    alloc: Global,
+    given: &[Listed<Interval>],
+    function: usize,
+    graph: &Graph,
+) -> Result<Option<Graph>, NoMemory>
+    ensures { IfOk result (λ found. IfSome found (λ made. GraphNarrowed (listed_given given.now) function graph.now made)) }
 {
-    match narrowed_with(alloc, graph, true)? {
+    match narrowed_with(alloc, given, function, graph, true)? {
         Some(narrowed) => Ok(Some(narrowed)),
-        None => match narrowed_with(alloc, graph, false)? {
+        None => match narrowed_with(alloc, given, function, graph, false)? {
             Some(narrowed) => Ok(Some(narrowed)),
-            None => narrowed_by(alloc, &[], graph),
+            None => narrowed_by(alloc, given, function, &[], graph),
         },
     }
 }
 
 /// The graph narrowed by the claims that are found, where those of blocks with several ways in are wanted or not.
-fn narrowed_with(alloc: Global, graph: &Graph, joins: bool) -> Result<Option<Graph>, NoMemory>
-    ensures { IfOk result (λ found. IfSome found (λ made. GraphNarrowed graph.now made)) }
+fn narrowed_with(
+    alloc: Global,
+    given: &[Listed<Interval>],
+    function: usize,
+    graph: &Graph,
+    joins: bool,
+) -> Result<Option<Graph>, NoMemory>
+    ensures { IfOk result (λ found. IfSome found (λ made. GraphNarrowed (listed_given given.now) function graph.now made)) }
 {
-    match narrowed_after(alloc, graph, ROUNDS, joins)? {
+    match narrowed_after(alloc, given, function, graph, ROUNDS, joins)? {
         Some(narrowed) => Ok(Some(narrowed)),
-        None => narrowed_after(alloc, graph, 0, joins),
+        None => narrowed_after(alloc, given, function, graph, 0, joins),
     }
 }
 
 /// The graph narrowed by the claims that are found with so many sweeps that give back.
 fn narrowed_after(
     alloc: Global,
+    given: &[Listed<Interval>],
+    function: usize,
     graph: &Graph,
     rounds: u32,
     joins: bool,
 ) -> Result<Option<Graph>, NoMemory>
-    ensures { IfOk result (λ found. IfSome found (λ made. GraphNarrowed graph.now made)) }
+    ensures { IfOk result (λ found. IfSome found (λ made. GraphNarrowed (listed_given given.now) function graph.now made)) }
 {
     let claims = find_claims(alloc, graph, rounds, joins)?;
-    narrowed_by(alloc, claims.as_slice(), graph)
+    narrowed_by(alloc, given, function, claims.as_slice(), graph)
 }
 
-/// The graph narrowed by a table of claims, where it passes.
-fn narrowed_by(alloc: Global, table: &[Claim], graph: &Graph) -> Result<Option<Graph>, NoMemory>
-    ensures { IfOk result (λ found. IfSome found (λ made. GraphNarrowed graph.now made)) }
+/// The graph of a function narrowed by a table of claims, where its entry and its blocks pass.
+fn narrowed_by(
+    alloc: Global,
+    given: &[Listed<Interval>],
+    function: usize,
+    table: &[Claim],
+    graph: &Graph,
+) -> Result<Option<Graph>, NoMemory>
+    ensures { IfOk result (λ found. IfSome found (λ made. GraphNarrowed (listed_given given.now) function graph.now made)) }
 {
-    if !is_nothing(table, 0) {
+    if !is_entry_checked(alloc, given, function, graph, table)? {
         return Ok(None);
     }
-    match narrowed_blocks(alloc, table, graph.blocks.as_slice())? {
+    match narrowed_blocks(alloc, given, table, graph.blocks.as_slice())? {
         Some(blocks) => {
             let narrowed = with_blocks(alloc, graph, blocks)?;
             Ok(Some(narrowed))
@@ -146,15 +184,16 @@ fn narrowed_by(alloc: Global, table: &[Claim], graph: &Graph) -> Result<Option<G
 /// The blocks narrowed, where all pass.
 fn narrowed_blocks(
     alloc: Global,
+    given: &[Listed<Interval>],
     table: &[Claim],
     blocks: &[Block],
 ) -> Result<Option<Listed<Block>>, NoMemory>
     ensures narrowed { IfOk result (λ found. IfSome found (λ made. made ≡ narrowed_from (listed_claims table.now) 0 blocks.now)) }
-    ensures checked { IfOk result (λ found. IfSome found (λ _. are_blocks_checked (listed_claims table.now) 0 blocks.now ≡ true)) }
+    ensures checked { IfOk result (λ found. IfSome found (λ _. are_blocks_checked (listed_given given.now) (listed_claims table.now) 0 blocks.now ≡ true)) }
 {
     let mut made = Listed::new(alloc);
     for (place, block) in blocks.iter().enumerate() {
-        match narrowed_block(alloc, table, place, block)? {
+        match narrowed_block(alloc, given, table, place, block)? {
             Some(narrowed) => made.push(narrowed)?,
             None => return Ok(None),
         }

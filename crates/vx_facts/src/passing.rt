@@ -7,13 +7,15 @@ ghost use Rattle.vx_facts.specs.Forming.{accessed_from, after_from};
 ghost use Rattle.vx_facts.specs.Shortening.{improved_from};
 ghost use Rattle.vx_facts.specs.Checking.{are_given, are_given_behind, has_number, has_numbers, is_block_checked, is_exit_checked, is_number, without_result};
 ghost use Rattle.vx_facts.specs.Rewriting.{narrowed_block, narrowed_exit};
-ghost use Rattle.vx_facts.specs.Narrowing.{listed_claims};
+ghost use Rattle.vx_facts.specs.Narrowing.{listed_claims, listed_given};
 
 use crate::access::{Access, accessed, copied_accesses, tell};
 use crate::claim::{Claim, accesses_in, facts_in};
 use crate::copying::copied_operands;
 use crate::fact::Fact;
 use crate::forming::form;
+use crate::given::{are_passed, given_of};
+use crate::intervals::Interval;
 use crate::keeping::learn;
 use crate::known::{decided, give};
 use crate::learning::{on_side, without};
@@ -187,15 +189,16 @@ fn are_given_after(
     }
 }
 
-/// Whether an exit gives what is claimed at the blocks to which it leads.
+/// Whether an exit gives what is claimed at the blocks to which it leads, and a call what is given of the parameters.
 fn is_exit_checked(
     alloc: Global,
+    given: &[Listed<Interval>],
     table: &[Claim],
     facts: &[Fact],
     known: &[Access],
     exit: &Exit,
 ) -> Result<bool, NoMemory>
-    ensures { IfOk result (λ passes. passes ≡ is_exit_checked (listed_claims table.now) facts.now known.now exit.now) }
+    ensures { IfOk result (λ passes. passes ≡ is_exit_checked (listed_given given.now) (listed_claims table.now) facts.now known.now exit.now) }
 {
     match exit {
         Exit::Goto(next) => Ok(are_given(facts, known, table, *next)),
@@ -204,14 +207,18 @@ fn is_exit_checked(
                 && are_given_on_side(alloc, facts, known, false, *test, table, *no)?,
         ),
         Exit::Call {
+            function,
             arguments,
             result: held,
             next,
-            ..
-        } => Ok(
-            are_numbers(arguments.as_slice())
-                && are_given_after(alloc, facts, *held, table, *next)?,
-        ),
+        } => {
+            let intervals = given_of(given, *function as usize);
+            let passed = are_passed(facts, arguments.as_slice(), intervals);
+            Ok(
+                are_numbers(arguments.as_slice())
+                    && (passed && are_given_after(alloc, facts, *held, table, *next)?),
+            )
+        }
         Exit::Return(operand) => Ok(has_number(*operand)),
         Exit::Ends(_) => Ok(true),
     }
@@ -220,12 +227,13 @@ fn is_exit_checked(
 /// The block at a place narrowed, where it passes.
 pub fn narrowed_block(
     alloc: Global,
+    given: &[Listed<Interval>],
     table: &[Claim],
     place: usize,
     block: &Block,
 ) -> Result<Option<Block>, NoMemory>
     ensures narrowed { IfOk result (λ found. IfSome found (λ made. made ≡ narrowed_block (listed_claims table.now) place block.now)) }
-    ensures checked { IfOk result (λ found. IfSome found (λ _. is_block_checked (listed_claims table.now) place block.now ≡ true)) }
+    ensures checked { IfOk result (λ found. IfSome found (λ _. is_block_checked (listed_given given.now) (listed_claims table.now) place block.now ≡ true)) }
 {
     let passed = pass_ops(
         alloc,
@@ -236,6 +244,7 @@ pub fn narrowed_block(
     let passes = have_numbers(block.ops.as_slice())
         && is_exit_checked(
             alloc,
+            given,
             table,
             passed.facts.as_slice(),
             passed.accesses.as_slice(),

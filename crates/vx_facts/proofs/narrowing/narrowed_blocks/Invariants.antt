@@ -1,10 +1,10 @@
 use Rattle.std.proofs.Common.{◌≡◌, ◌++◌, drop}
-use Rattle.vx_facts.specs.Narrowing.{are_blocks_checked, listed_claims}
+use Rattle.vx_facts.specs.Narrowing.{are_blocks_checked, listed_claims, listed_given}
 use Rattle.vx_facts.specs.Rewriting.{narrowed_from}
 use Rattle.vx_facts.proofs.narrowing.narrowed_blocks.Given as goal
 
 abbrev pub invariant-loop-place : goal.invariant-loop-place
 invariant-loop-place l = record {
   made : l.made ++ narrowed_from (listed_claims l.table) l.place (drop l.place l.blocks) ≡ narrowed_from (listed_claims l.table) 0 l.blocks;
-  checked : are_blocks_checked (listed_claims l.table) l.place (drop l.place l.blocks) ≡ are_blocks_checked (listed_claims l.table) 0 l.blocks;
+  checked : are_blocks_checked (listed_given l.given) (listed_claims l.table) l.place (drop l.place l.blocks) ≡ are_blocks_checked (listed_given l.given) (listed_claims l.table) 0 l.blocks;
 }

@@ -1,6 +1,6 @@
 use Rattle.std.proofs.Common.{take}
-use Rattle.vx_facts.specs.Narrowing.{GraphsNarrowed}
+use Rattle.vx_facts.specs.Narrowing.{listed_given, NarrowedWith}
 use Rattle.vx_facts.proofs.narrowing.narrowed_graphs.Given as goal
 
-abbrev pub invariant-loop-graph : goal.invariant-loop-graph
-invariant-loop-graph l = GraphsNarrowed (take l.graph-index l.graphs) l.made
+abbrev pub invariant-loop-function : goal.invariant-loop-function
+invariant-loop-function l = NarrowedWith (listed_given l.given) 0 (take l.function l.graphs) l.made
