@@ -94,7 +94,8 @@ fn end_of(
     }
 }
 
-fn passed_over(
+/// Goes over the operations of a block from what is claimed at its start.
+pub fn passed_over(
     alloc: Global,
     claims: &[Claim],
     place: BlockId,

@@ -61,7 +61,7 @@ pub fn without(alloc: Global, facts: &[Fact], value: Value) -> Result<Listed<Fac
 }
 
 /// Whether every number lies in an interval.
-fn is_full(within: Interval) -> bool
+pub fn is_full(within: Interval) -> bool
     ensures { result ≡ is_full within }
 {
     within.low <= i32::MIN && i32::MAX <= within.high

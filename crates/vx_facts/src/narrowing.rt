@@ -1,6 +1,7 @@
 // The graphs of a program without splits whose answer is known. For each graph claims at the starts of its blocks are looked
-// for and checked; a graph that does not pass with them is narrowed by what is known inside of each block, and a flow that would
-// not be sound stays as it is.
+// for and checked, with what all calls give of its parameters; where a call or a graph does not pass, nothing is given of parameters.
+// A graph that does not pass then is narrowed by what is known inside of each block, and a flow that would not be sound stays as it
+// is.
 
 ghost use Rattle.std.specs.Prelude.{◌≡◌, true, IfOk, IfSome};
 ghost use Rattle.vx_ast.specs.Tree.{Program};
@@ -9,9 +10,10 @@ ghost use Rattle.vx_lower.specs.FlowOf.{FlowOf};
 ghost use Rattle.vx_facts.specs.Rewriting.{narrowed_from};
 ghost use Rattle.vx_facts.specs.Narrowing.{are_blocks_checked, are_numbers, listed_claims, listed_given, FlowStays, GraphNarrowed, GraphsNarrowed, NarrowedWith};
 
+use crate::calling::{Kept, find_given};
 use crate::claim::Claim;
 use crate::copying::{with_blocks, with_graphs};
-use crate::given::is_entry_checked;
+use crate::given::{given_of, is_entry_checked};
 use crate::intervals::Interval;
 use crate::passing::{is_number, narrowed_block};
 use crate::search::find_claims;
@@ -46,7 +48,11 @@ fn narrowed_flow(alloc: Global, flow: &Flow) -> Result<Option<Flow>, NoMemory>
     if !are_numbers(flow.globals.as_slice()) {
         return Ok(None);
     }
-    narrowed_with_given(alloc, flow, &[])
+    let found = find_given(alloc, flow.functions.as_slice(), ROUNDS)?;
+    match narrowed_with_given(alloc, flow, found.given.as_slice(), found.kept.as_slice())? {
+        Some(narrowed) => Ok(Some(narrowed)),
+        None => narrowed_with_given(alloc, flow, &[], &[]),
+    }
 }
 
 /// The flow with its graphs narrowed by what is given of the parameters, where every call passes it and the flow is sound.
@@ -54,12 +60,13 @@ fn narrowed_with_given(
     alloc: Global,
     flow: &Flow,
     given: &[Listed<Interval>],
+    kept: &[Kept],
 ) -> Result<Option<Flow>, NoMemory>
     requires numbers { are_numbers flow.now.globals ≡ true }
     ensures sound { IfOk result (λ found. IfSome found (λ narrowed. is_sound_flow narrowed ≡ true)) }
     ensures flow { IfOk result (λ found. IfSome found (λ narrowed. FlowStays flow.now narrowed)) }
 {
-    match narrowed_graphs(alloc, given, flow.functions.as_slice())? {
+    match narrowed_graphs(alloc, given, kept, flow.functions.as_slice())? {
         Some(functions) => with_sound_graphs(alloc, flow, functions),
         None => Ok(None),
     }
@@ -95,18 +102,56 @@ fn with_sound_graphs(
 fn narrowed_graphs(
     alloc: Global,
     given: &[Listed<Interval>],
+    kept: &[Kept],
     graphs: &[Graph],
 ) -> Result<Option<Listed<Graph>>, NoMemory>
     ensures { IfOk result (λ found. IfSome found (λ made. NarrowedWith (listed_given given.now) 0 graphs.now made)) }
 {
     let mut made = Listed::new(alloc);
     for (function, graph) in graphs.iter().enumerate() {
-        match narrowed_graph(alloc, given, function, graph)? {
+        match narrowed_as_kept(alloc, given, kept, function, graph)? {
             Some(narrowed) => made.push(narrowed)?,
             None => return Ok(None),
         }
     }
     Ok(Some(made))
+}
+
+/// The graph narrowed by the claims that are kept for it, where it passes with them, else by those that are found anew.
+fn narrowed_as_kept(
+    alloc: Global,
+    given: &[Listed<Interval>],
+    kept: &[Kept],
+    function: usize,
+    graph: &Graph,
+) -> Result<Option<Graph>, NoMemory>
+    ensures { IfOk result (λ found. IfSome found (λ made. GraphNarrowed (listed_given given.now) function graph.now made)) }
+{
+    match narrowed_by_kept(alloc, given, kept, function, graph)? {
+        Some(narrowed) => Ok(Some(narrowed)),
+        None => narrowed_graph(alloc, given, function, graph),
+    }
+}
+
+fn narrowed_by_kept(
+    alloc: Global,
+    given: &[Listed<Interval>],
+    kept: &[Kept],
+    function: usize,
+    graph: &Graph,
+) -> Result<Option<Graph>, NoMemory>
+    ensures { IfOk result (λ found. IfSome found (λ made. GraphNarrowed (listed_given given.now) function graph.now made)) }
+{
+    match kept.get(function) {
+        Some(found) => {
+            if found.is_kept {
+                narrowed_by(alloc, given, function, found.claims.as_slice(), graph)
+            } else {
+                Ok(None)
+            }
+        }
+        None => Ok(None),
+    }
 }
 
 /// The graph narrowed by the claims that are found for it: by those of blocks with several ways in too, where it passes with them;
@@ -155,7 +200,7 @@ fn narrowed_after(
 ) -> Result<Option<Graph>, NoMemory>
     ensures { IfOk result (λ found. IfSome found (λ made. GraphNarrowed (listed_given given.now) function graph.now made)) }
 {
-    let claims = find_claims(alloc, graph, rounds, joins)?;
+    let claims = find_claims(alloc, graph, given_of(given, function), rounds, joins)?;
     narrowed_by(alloc, given, function, claims.as_slice(), graph)
 }
 

@@ -26,17 +26,19 @@ const WIDENS: u32 = 3;
 
 const GIVES_UP: u32 = 10;
 
-/// Claims at the starts of the blocks of a graph, with so many sweeps that give back. Blocks with several ways in take over what
-/// the blocks before them give where that is wanted.
+/// Claims at the starts of the blocks of a graph, where its parameters lie in intervals, with so many sweeps that give back. Blocks
+/// with several ways in take over what the blocks before them give where that is wanted.
 pub fn find_claims(
     alloc: Global,
     graph: &Graph,
+    intervals: &[Interval],
     rounds: u32,
     joins: bool,
 ) -> Result<Vec<Claim>, NoMemory> {
     let live = live(alloc, graph)?;
     let order = order_of(alloc, graph.blocks.as_slice())?;
     let mut tables = new_tables(alloc, graph, &live)?;
+    put_parameters(&mut tables, graph.parameters.as_slice(), intervals, &live);
     rank(&mut tables, order.as_slice());
     if settles(
         &mut tables,
@@ -91,6 +93,25 @@ fn with_rows(
         stamps,
         stamp: 0,
     })
+}
+
+/// Puts where those parameters lie that are live at the entry, whose row is the first.
+fn put_parameters(tables: &mut Tables, parameters: &[Value], intervals: &[Interval], live: &Live) {
+    for (place, value) in live.values_at(0).iter().enumerate() {
+        let mut cell = unknown();
+        cell.start = interval_of(parameters, intervals, *value);
+        put_cell(&mut tables.cells, place, cell);
+    }
+}
+
+/// The interval at the first place where a value is a parameter.
+fn interval_of(parameters: &[Value], intervals: &[Interval], value: Value) -> Interval {
+    for (parameter, within) in parameters.iter().zip(intervals.iter()) {
+        if *parameter == value {
+            return *within;
+        }
+    }
+    full()
 }
 
 /// The number of the block at a place.
@@ -214,7 +235,7 @@ fn give_back(tables: &mut Tables) {
     }
 }
 
-/// What the tables say at the start of each block, but for the entry.
+/// What the tables say at the start of each block.
 fn claims_of(
     alloc: Global,
     graph: &Graph,
@@ -222,8 +243,7 @@ fn claims_of(
     tables: &Tables,
 ) -> Result<Vec<Claim>, NoMemory> {
     let mut claims = Vec::new(alloc);
-    claims.push(claim_of(alloc, Listed::new(alloc)))?;
-    for block in 1..graph.blocks.len() {
+    for block in 0..graph.blocks.len() {
         let facts = claims_at(alloc, graph.banks.as_slice(), live, tables, block)?;
         claims.push(claim_of(alloc, facts))?;
     }

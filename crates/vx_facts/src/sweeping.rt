@@ -66,7 +66,7 @@ struct Tested {
 }
 
 /// No number.
-fn none() -> Interval {
+pub fn none() -> Interval {
     Interval {
         low: i32::MAX,
         high: i32::MIN,
@@ -150,21 +150,23 @@ fn visit(tables: &mut Tables, place: usize, block: &Block, live: &Live, number: 
     leave(tables, place, block, live, number);
 }
 
-/// What holds at the start of a block: at the entry nothing.
+/// What holds at the start of a block: at the entry what is given.
 fn begin(tables: &mut Tables, block: usize, live: &Live, number: u32) {
-    if block == 0 || block >= tables.marks.len() {
+    if block >= tables.marks.len() {
         return;
     }
     let mark = tables.marks[block];
     for (index, value) in live.values_at(block_number(block)).iter().enumerate() {
         let place = mark.start.saturating_add(index);
         let mut cell = cell_at(tables.cells.as_slice(), place);
-        cell.start = if mark.forward == number {
-            hull(cell.forward, cell.taken)
-        } else {
-            full()
-        };
-        put_cell(&mut tables.cells, place, cell);
+        if block != 0 {
+            cell.start = if mark.forward == number {
+                hull(cell.forward, cell.taken)
+            } else {
+                full()
+            };
+            put_cell(&mut tables.cells, place, cell);
+        }
         put_range(tables, *value, cell.start);
     }
 }

@@ -1,0 +1,396 @@
+// What is given of the parameters of each function: the hull of what its calls pass. It is looked for and owes nothing, since every
+// call is checked against it.
+//
+// Functions are gone over such that a function comes behind those that call it. What its calls pass is then known, and the claims
+// of its blocks are looked for with that. A function that calls itself is given what others pass to it, where its own calls stay in
+// that. Where functions call each other in a ring, nothing is given of the first of them.
+
+use crate::claim::Claim;
+use crate::fact::Fact;
+use crate::inheriting::passed_over;
+use crate::intervals::{Interval, full};
+use crate::known::{is_inside, range_of};
+use crate::learning::is_full;
+use crate::search::{block_number, find_claims};
+use crate::sweeping::{hull, none};
+use std::alloc::Global;
+use vx_base::listed::Listed;
+use vx_base::outcome::NoMemory;
+use vx_flow::graph::{Block, Exit, Graph, Operand};
+
+/// How many facts of all claims are kept at most. The claims of the other functions are looked for once more.
+const MOST_KEPT: usize = 1_000_000;
+
+/// Claims that were looked for, where they are kept.
+#[derive(Drop)]
+pub struct Kept {
+    pub claims: Vec<Claim>,
+    pub is_kept: bool,
+}
+
+/// What is given of the parameters of each function, and the claims that were looked for with that.
+#[derive(Drop)]
+pub struct Found {
+    pub given: Vec<Listed<Interval>>,
+    pub kept: Vec<Kept>,
+}
+
+/// What is noted of the functions.
+#[derive(Drop)]
+struct Calls {
+    /// Where the row of each function begins among the hulls.
+    starts: Vec<usize>,
+    /// What the calls of each function pass, an interval for each parameter. What nothing was passed to has its ends exchanged.
+    hulls: Vec<Interval>,
+    /// How many calls of each function are in functions that were not gone over yet, its own calls left out.
+    waiting: Vec<usize>,
+    /// Which functions were gone over.
+    gone_over: Vec<bool>,
+    /// How many facts are kept.
+    facts: usize,
+}
+
+/// Looks for what is given of the parameters of all functions. The time is linear in the calls, beside that of looking for claims
+/// once for each function, and once more for one that passes itself something else.
+pub fn find_given(alloc: Global, functions: &[Graph], rounds: u32) -> Result<Found, NoMemory> {
+    let mut calls = calls_of(alloc, functions)?;
+    let mut found = nothing_found(alloc, functions.len())?;
+    let mut ready = ready_at_first(alloc, calls.waiting.as_slice())?;
+    go_over_ready(alloc, &mut calls, &mut found, &mut ready, functions, rounds)?;
+    for (function, graph) in functions.iter().enumerate() {
+        if !was_gone_over(&calls, function) {
+            give_up(&mut calls, function, graph.parameters.len());
+            ready.push(function)?;
+            go_over_ready(alloc, &mut calls, &mut found, &mut ready, functions, rounds)?;
+        }
+    }
+    Ok(found)
+}
+
+/// Goes over the functions that are ready, and those that then are.
+fn go_over_ready(
+    alloc: Global,
+    calls: &mut Calls,
+    found: &mut Found,
+    ready: &mut Vec<usize>,
+    functions: &[Graph],
+    rounds: u32,
+) -> Result<(), NoMemory> {
+    for _ in 0..functions.len() {
+        match ready.pop() {
+            Some(function) => match functions.get(function) {
+                Some(graph) => {
+                    go_over(alloc, calls, found, function, graph, rounds)?;
+                    release(calls, ready, function, graph.blocks.as_slice())?;
+                }
+                None => {}
+            },
+            None => return Ok(()),
+        }
+    }
+    Ok(())
+}
+
+fn was_gone_over(calls: &Calls, function: usize) -> bool {
+    match calls.gone_over.get(function) {
+        Some(gone) => *gone,
+        None => true,
+    }
+}
+
+/// Gives nothing of the parameters of a function.
+fn give_up(calls: &mut Calls, function: usize, parameters: usize) {
+    for place in 0..parameters {
+        put_hull(calls, function, place, full());
+    }
+}
+
+fn calls_of(alloc: Global, functions: &[Graph]) -> Result<Calls, NoMemory> {
+    let mut starts = Vec::new(alloc);
+    let mut size: usize = 0;
+    for graph in functions {
+        starts.push(size)?;
+        size = size.saturating_add(graph.parameters.len());
+    }
+    let hulls = vec![in alloc; none(); size]?;
+    let mut waiting = vec![in alloc; 0usize; functions.len()]?;
+    let gone_over = vec![in alloc; false; functions.len()]?;
+    for (function, graph) in functions.iter().enumerate() {
+        count_calls(&mut waiting, function, graph.blocks.as_slice());
+    }
+    Ok(Calls {
+        starts,
+        hulls,
+        waiting,
+        gone_over,
+        facts: 0,
+    })
+}
+
+/// The function that a block calls, where it is another one.
+fn other_called(block: &Block, caller: usize) -> Option<usize> {
+    match &block.exit {
+        Exit::Call { function, .. } => {
+            if *function as usize == caller {
+                None
+            } else {
+                Some(*function as usize)
+            }
+        }
+        _ => None,
+    }
+}
+
+fn count_calls(waiting: &mut Vec<usize>, caller: usize, blocks: &[Block]) {
+    for block in blocks {
+        match other_called(block, caller) {
+            Some(function) => {
+                if function < waiting.len() {
+                    waiting[function] = waiting[function].saturating_add(1);
+                }
+            }
+            None => {}
+        }
+    }
+}
+
+fn nothing_found(alloc: Global, functions: usize) -> Result<Found, NoMemory> {
+    let mut given = Vec::new(alloc);
+    let mut kept = Vec::new(alloc);
+    for _ in 0..functions {
+        given.push(Listed::new(alloc))?;
+        kept.push(Kept {
+            claims: Vec::new(alloc),
+            is_kept: false,
+        })?;
+    }
+    Ok(Found { given, kept })
+}
+
+/// The functions that no other one calls.
+fn ready_at_first(alloc: Global, waiting: &[usize]) -> Result<Vec<usize>, NoMemory> {
+    let mut ready = Vec::new(alloc);
+    for (function, left) in waiting.iter().enumerate() {
+        if *left == 0 {
+            ready.push(function)?;
+        }
+    }
+    Ok(ready)
+}
+
+/// Notes that a function was gone over. A function that it calls is ready where no other one calls it that was not gone over.
+fn release(
+    calls: &mut Calls,
+    ready: &mut Vec<usize>,
+    caller: usize,
+    blocks: &[Block],
+) -> Result<(), NoMemory> {
+    if caller < calls.gone_over.len() {
+        calls.gone_over[caller] = true;
+    }
+    for block in blocks {
+        match other_called(block, caller) {
+            Some(function) => {
+                if has_waited(&mut calls.waiting, function) && !was_gone_over(calls, function) {
+                    ready.push(function)?;
+                }
+            }
+            None => {}
+        }
+    }
+    Ok(())
+}
+
+/// Takes off a call for which a function waits, and says whether that was the last.
+fn has_waited(waiting: &mut Vec<usize>, function: usize) -> bool {
+    if function < waiting.len() {
+        waiting[function] = waiting[function].saturating_sub(1);
+        waiting[function] == 0
+    } else {
+        false
+    }
+}
+
+/// The row of a function, empty where it says nothing.
+fn row_of(
+    alloc: Global,
+    calls: &Calls,
+    function: usize,
+    parameters: usize,
+) -> Result<Listed<Interval>, NoMemory> {
+    let mut row = Listed::new(alloc);
+    for place in 0..parameters {
+        row.push(hull_at(calls, function, place))?;
+    }
+    if says_something(row.as_slice()) {
+        Ok(row)
+    } else {
+        Ok(Listed::new(alloc))
+    }
+}
+
+fn hull_at(calls: &Calls, function: usize, place: usize) -> Interval {
+    match calls.starts.get(function) {
+        Some(start) => match calls.hulls.get(start.saturating_add(place)) {
+            Some(within) => *within,
+            None => full(),
+        },
+        None => full(),
+    }
+}
+
+/// Whether something was passed for each parameter, and bounds one.
+fn says_something(row: &[Interval]) -> bool {
+    row.iter().all(|within| within.low <= within.high) && !row.iter().all(|within| is_full(*within))
+}
+
+/// Looks for the claims of a function with what is given of its parameters, and notes what it passes. Where it passes itself something
+/// else, that is given up, and they are looked for anew.
+fn go_over(
+    alloc: Global,
+    calls: &mut Calls,
+    found: &mut Found,
+    function: usize,
+    graph: &Graph,
+    rounds: u32,
+) -> Result<(), NoMemory> {
+    let row = row_of(alloc, calls, function, graph.parameters.len())?;
+    let claims = passing_on(alloc, calls, graph, row.as_slice(), rounds)?;
+    let left = left_of(alloc, calls, function, row.as_slice())?;
+    if are_same(row.as_slice(), left.as_slice()) {
+        keep(calls, found, function, row, claims);
+    } else {
+        let later = passing_on(alloc, calls, graph, left.as_slice(), rounds)?;
+        keep(calls, found, function, left, later);
+    }
+    Ok(())
+}
+
+/// The claims of a function with what is given of its parameters. What its calls then pass is noted.
+fn passing_on(
+    alloc: Global,
+    calls: &mut Calls,
+    graph: &Graph,
+    row: &[Interval],
+    rounds: u32,
+) -> Result<Vec<Claim>, NoMemory> {
+    let claims = find_claims(alloc, graph, row, rounds, true)?;
+    note_calls(alloc, calls, graph.blocks.as_slice(), claims.as_slice())?;
+    Ok(claims)
+}
+
+fn note_calls(
+    alloc: Global,
+    calls: &mut Calls,
+    blocks: &[Block],
+    claims: &[Claim],
+) -> Result<(), NoMemory> {
+    for (place, block) in blocks.iter().enumerate() {
+        match &block.exit {
+            Exit::Call {
+                function,
+                arguments,
+                ..
+            } => {
+                let called = *function as usize;
+                if is_bounded(calls, called, arguments.len()) {
+                    let passed = passed_over(alloc, claims, block_number(place), block)?;
+                    note_call(calls, called, arguments.as_slice(), passed.facts.as_slice());
+                }
+            }
+            _ => {}
+        }
+    }
+    Ok(())
+}
+
+/// Whether what was passed so far bounds one of so many parameters.
+fn is_bounded(calls: &Calls, function: usize, parameters: usize) -> bool {
+    let mut bounded = false;
+    for place in 0..parameters {
+        if !is_full(hull_at(calls, function, place)) {
+            bounded = true;
+        }
+    }
+    bounded
+}
+
+fn note_call(calls: &mut Calls, function: usize, arguments: &[Operand], facts: &[Fact]) {
+    for (place, argument) in arguments.iter().enumerate() {
+        let within = hull(hull_at(calls, function, place), range_of(facts, *argument));
+        put_hull(calls, function, place, within);
+    }
+}
+
+fn put_hull(calls: &mut Calls, function: usize, place: usize, within: Interval) {
+    if function < calls.starts.len() {
+        let at = calls.starts[function].saturating_add(place);
+        if at < calls.hulls.len() {
+            calls.hulls[at] = within;
+        }
+    }
+}
+
+/// What is left of a row where more than it says was passed: nothing at such a place.
+fn left_of(
+    alloc: Global,
+    calls: &Calls,
+    function: usize,
+    row: &[Interval],
+) -> Result<Listed<Interval>, NoMemory> {
+    let mut left = Listed::new(alloc);
+    for (place, within) in row.iter().enumerate() {
+        if is_inside(hull_at(calls, function, place), *within) {
+            left.push(*within)?;
+        } else {
+            left.push(full())?;
+        }
+    }
+    Ok(left)
+}
+
+/// Whether each interval lies in that at the same place.
+fn are_same(row: &[Interval], left: &[Interval]) -> bool {
+    for (place, within) in left.iter().enumerate() {
+        match row.get(place) {
+            Some(before) => {
+                if !is_inside(*within, *before) {
+                    return false;
+                }
+            }
+            None => return false,
+        }
+    }
+    true
+}
+
+/// Keeps what was found for a function, the claims only where they are not too many.
+fn keep(
+    calls: &mut Calls,
+    found: &mut Found,
+    function: usize,
+    row: Listed<Interval>,
+    claims: Vec<Claim>,
+) {
+    if function < found.given.len() && function < found.kept.len() {
+        found.given[function] = row;
+        let facts = calls.facts.saturating_add(facts_of(claims.as_slice()));
+        if facts <= MOST_KEPT {
+            calls.facts = facts;
+            found.kept[function] = Kept {
+                claims,
+                is_kept: true,
+            };
+        }
+    }
+}
+
+fn facts_of(claims: &[Claim]) -> usize {
+    let mut facts: usize = 0;
+    for claim in claims {
+        facts = facts
+            .saturating_add(claim.facts.len())
+            .saturating_add(claim.accesses.len());
+    }
+    facts
+}
