@@ -1,11 +1,19 @@
 -- Bytes put in several pieces.
-use Rattle.std.proofs.Common.{◌≡◌, ℕ, List, ◌++◌, Option, Some, None, Result, Ok, Err, OnOk, refl, ap, ◌∙◌, append_assoc, arith}
-use Rattle.vx_base.specs.Outside.{with_bytes}
-use Rattle.vx_driver.specs.Status.{Adds}
+use Rattle.std.proofs.Common.{◌≡◌, inl, inr, ℕ, Bool, true, false, List, [], ◌++◌, ◌∷◌, ◌==◌, Option, Some, None, Result, Ok, Err, OnOk, if◌then◌else◌, refl, sym, ap, ◌∙◌, append_assoc, append-nil, arith}
+use Rattle.std.specs.Prelude.{◌≤◌, OnErr, is_err}
+use Rattle.vx_base.specs.Outcome.{Begins}
+use Rattle.vx_base.specs.Outside.{Rose, PutsFront, with_bytes}
+use Rattle.vx_base.proofs.OutsideLaws.{rose_throughout}
+use Rattle.vx_base.proofs.Same.{begins_self}
+use Rattle.vx_driver.specs.Status.{Adds, Puts, Tells}
 
 pub with_both : (told : Option (List ℕ)) (xs ys : List ℕ) → with_bytes (with_bytes told xs) ys ≡ with_bytes told (xs ++ ys)
 with_both None xs ys = refl
 with_both (Some bytes) xs ys = ap Some (append_assoc bytes xs ys)
+
+pub with_none : (told : Option (List ℕ)) → told ≡ with_bytes told []
+with_none None = refl
+with_none (Some bytes) = ap Some (sym (append-nil bytes))
 
 pub appends_on : {a b c : Option (List ℕ)} {f g h : ℕ} → Adds a b f g → Adds b c g h → Adds a c f h
 appends_on {a} {b} {c} {f} {g} {h} x y = record {
@@ -17,3 +25,62 @@ appends_on {a} {b} {c} {f} {g} {h} x y = record {
 pub puts_on : (a b c : Option (List ℕ)) {T E : Type 0} (r : Result T E) (xs ys zs : List ℕ) → b ≡ with_bytes a xs → xs ++ ys ≡ zs → OnOk r (c ≡ with_bytes b ys) → OnOk r (c ≡ with_bytes a zs)
 puts_on a b c (Ok x) xs ys zs first same second = second ∙ ap (λ told. with_bytes told ys) first ∙ with_both a xs ys ∙ ap (with_bytes a) same
 puts_on a b c (Err e) xs ys zs first same second = tt
+
+-- several pieces that are put whole, or of which one fails
+
+front_on : (xs ys : List ℕ) {a b : Option (List ℕ)} → PutsFront a b xs → PutsFront a b (xs ++ ys)
+front_on xs ys x = record {
+  front = x.front;
+  begins = record { rest = x.begins.rest ++ ys; is = ap (λ l. l ++ ys) x.begins.is ∙ append_assoc x.front x.begins.rest ys };
+  put = x.put;
+}
+
+front_behind : (a b c : Option (List ℕ)) (xs ys : List ℕ) → b ≡ with_bytes a xs → PutsFront b c ys → PutsFront a c (xs ++ ys)
+front_behind a b c xs ys first y = record {
+  front = xs ++ y.front;
+  begins = record { rest = y.begins.rest; is = ap (λ l. xs ++ l) y.begins.is ∙ sym (append_assoc xs y.front y.begins.rest) };
+  put = y.put ∙ ap (λ told. with_bytes told y.front) first ∙ with_both a xs y.front;
+}
+
+-- a piece fails, and none behind it is put
+pub cut_before : {T E : Type 0} {e : E} (xs ys : List ℕ) {a b : Option (List ℕ)} {f g : ℕ} → Puts {T = T} {E = E} (Err e) xs a b f g → Puts {T = T} {E = E} (Err e) (xs ++ ys) a b f g
+cut_before xs ys x = record { all = tt; part = front_on xs ys x.part; failed = x.failed; never_fall = x.never_fall }
+
+-- a piece behind one that is put whole
+pub puts_behind : {T E : Type 0} {t : T} (r : Result T E) (xs ys : List ℕ) {a b c : Option (List ℕ)} {f g h : ℕ} → Puts {T = T} {E = E} (Ok t) xs a b f g → Puts r ys b c g h → Puts r (xs ++ ys) a c f h
+puts_behind (Ok v) xs ys {a} {b} {c} {f} {g} {h} x y = record {
+  all = y.all ∙ ap (λ told. with_bytes told ys) x.all ∙ with_both a xs ys;
+  part = tt;
+  failed = tt;
+  never_fall = let first = x.never_fall in let second = y.never_fall in omega arith;
+}
+puts_behind (Err e) xs ys {a} {b} {c} {f} {g} {h} x y = record {
+  all = tt;
+  part = front_behind a b c xs ys x.all y.part;
+  failed = rose_throughout f g h h x.never_fall y.never_fall (omega arith) y.failed;
+  never_fall = let first = x.never_fall in let second = y.never_fall in omega arith;
+}
+
+-- the fault of a piece is the answer
+pub fails : {T E U F : Type 0} {e : E} (r : Result U F) (line : List ℕ) {a b : Option (List ℕ)} {f g : ℕ} → is_err r ≡ true → Puts {T = T} {E = E} (Err e) line a b f g → Puts r line a b f g
+fails (Ok v) line is x = let wrong : false ≡ true = is in absurd cc
+fails (Err u) line is x = record { all = tt; part = x.part; failed = x.failed; never_fall = x.never_fall }
+
+pub puts_nothing : {T E : Type 0} {t : T} (a : Option (List ℕ)) (f : ℕ) → Puts {T = T} {E = E} (Ok t) [] a a f f
+puts_nothing a f = record { all = with_none a; part = tt; failed = tt; never_fall = omega arith }
+
+-- what is told where the result of a putting is let go
+
+pub tells_of : {T E : Type 0} (r : Result T E) (line : List ℕ) {a b : Option (List ℕ)} {f g : ℕ} → Puts r line a b f g → Tells line a b f g
+tells_of (Ok t) line x = record { part = record { front = line; begins = begins_self line; put = x.all }; whole = λ quiet. x.all; never_fall = x.never_fall }
+tells_of (Err e) line x = record { part = x.part; whole = λ quiet. absurd (quiet x.failed); never_fall = x.never_fall }
+
+pub tells_nothing : (a : Option (List ℕ)) (f : ℕ) → Tells [] a a f f
+tells_nothing a f = record { part = record { front = []; begins = begins_self []; put = with_none a }; whole = λ quiet. with_none a; never_fall = omega arith }
+
+pub adds_told : (line : List ℕ) {a b : Option (List ℕ)} {f g : ℕ} → Tells line a b f g → Adds a b f g
+adds_told line x = record { more = x.part.front; is = x.part.put; never_fall = x.never_fall }
+
+pub adds_put : {T E : Type 0} (r : Result T E) (line : List ℕ) {a b : Option (List ℕ)} {f g : ℕ} → Puts r line a b f g → Adds a b f g
+adds_put (Ok t) line x = record { more = line; is = x.all; never_fall = x.never_fall }
+adds_put (Err e) line x = record { more = x.part.front; is = x.part.put; never_fall = x.never_fall }

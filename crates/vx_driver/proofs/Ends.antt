@@ -1,6 +1,6 @@
 -- How a run ends, and what its lines put.
-use Rattle.std.proofs.Common.{◌≡◌, ◌∙◌, inl, inr, ℕ, ℤ, ◌+◌, Bool, true, false, List, [], ◌∷◌, ◌++◌, length, map, Option, Some, None, Result, Ok, Err, OnOk, refl, sym, subst, ap, arith, append-nil}
-use Rattle.std.specs.Prelude.{◌≤◌, ◌<◌, ◌-◌, ◌^◌, min, suc, OnErr}
+use Rattle.std.proofs.Common.{◌≡◌, ◌∙◌, inl, inr, ℕ, ℤ, ◌+◌, Bool, true, false, List, [], ◌∷◌, ◌++◌, length, map, Option, Some, None, Result, Ok, Err, OnOk, refl, sym, subst, ap, arith}
+use Rattle.std.specs.Prelude.{◌≤◌, ◌<◌, ◌-◌, ◌^◌, min, suc}
 use Rattle.std.specs.List.{flat_map}
 use Rattle.vx_base.specs.Outcome.{Outcome, Begins, output_of}
 use Rattle.vx_base.specs.Outside.{Rose, with_bytes}
@@ -16,12 +16,14 @@ use Rattle.vx_sim.specs.declared.ended.Ended.{Ended}
 use Rattle.vx_sim.specs.declared.ended.Ended.TheVariants.{Halted, Trapped as TrappedBy, Stopped as StoppedAt, Stuck as StuckAt, SinkFault}
 use Rattle.vx_driver.specs.declared.status.Status.{Status}
 use Rattle.vx_driver.specs.declared.status.Status.TheVariants.{Done, Trapped, WriteFault, Stopped, Stuck}
-use Rattle.vx_driver.specs.Status.{Appends, Adds}
+use Rattle.vx_driver.specs.Status.{Tells, TellsWith, status_line}
 use Rattle.vx_driver.specs.Boxes.{report_line}
-use Rattle.vx_driver.specs.Simulated.{Loaded, begun, outcome_within, events_within, EndsWith, result_line, Streams, OutRose, IsEnd, IsStatusOf, reports_of, is_of_run}
+use Rattle.vx_driver.specs.Simulated.{Loaded, begun, outcome_within, events_within, result_line, Streams, ErrTells, OutRose, IsEnd, IsStatusOf, reports_of, is_of_run}
 use Rattle.vx_driver.specs.Executed.{issued_line}
 use Rattle.vx_driver.specs.Ending.{status_as, told_line, ShowsLine, ShowsIssued, ShowsEnd, ShowsOf, IsHalted, RanWhole, RanPartly, RunOf, Finishes, IsRunOf, LoadedAnswers}
-use Rattle.vx_driver.proofs.Appending.{with_both}
+use Rattle.vx_driver.specs.Commands.{TellsRun}
+use Rattle.vx_driver.proofs.Appending.{with_both, with_none, tells_nothing}
+use Rattle.vx_base.proofs.Same.{begins_self}
 use Rattle.vx_driver.proofs.Issued.{few_events}
 use Rattle.vx_base.proofs.OutsideLaws.{rose_throughout}
 
@@ -76,23 +78,14 @@ module _ (before : Sim) (x : Loaded) (times : Times) (stands_at : stands before 
         let small : min (length (events_within x times words)) (2 ^ 64 - 1) ≡ length (events_within x times words) = omega arith in
         r.issued ∙ ap (λ n. counted (n + length (events_at before times r.bound))) fresh ∙ ap (λ n. counted (0 + n)) seen ∙ ap counted none ∙ small
 
--- the lines of an end
-
-ends_with : (a b c : Option (List ℕ)) (reports : List ℕ) → Appends a b → c ≡ with_bytes b reports → EndsWith a c reports
-ends_with a b c reports x is = record { more = x.more; is = is ∙ ap (λ told. with_bytes told reports) x.is ∙ with_both a x.more reports }
-
-with_none : (told : Option (List ℕ)) → told ≡ with_bytes told []
-with_none None = refl
-with_none (Some bytes) = ap Some (sym (append-nil bytes))
-
 -- the line of the words
 
 pub nothing_told : (ended : Ended) (issued faults : ℕ) (a : Option (List ℕ)) → ShowsIssued ended (told_line false issued) a a faults faults
 nothing_told (Halted z) issued faults a = with_none a
-nothing_told (TrappedBy trap) issued faults a = (record { more = []; is = with_none a }, λ quiet. with_none a)
-nothing_told StoppedAt issued faults a = record { more = []; is = with_none a }
-nothing_told (StuckAt reason place) issued faults a = record { more = []; is = with_none a }
-nothing_told SinkFault issued faults a = record { more = []; is = with_none a }
+nothing_told (TrappedBy trap) issued faults a = tells_nothing a faults
+nothing_told StoppedAt issued faults a = refl
+nothing_told (StuckAt reason place) issued faults a = refl
+nothing_told SinkFault issued faults a = refl
 
 pub told_by : (tells : Bool) (ended : Ended) (issued : ℕ) (a b : Option (List ℕ)) (f g : ℕ) → tells ≡ true → ShowsIssued ended (issued_line issued) a b f g → ShowsIssued ended (told_line tells issued) a b f g
 told_by true ended issued a b f g is h = h
@@ -101,45 +94,55 @@ told_by false ended issued a b f g is h = absurd cc
 pub no_line : (ended : Ended) (line : List ℕ) (a : Option (List ℕ)) (f : ℕ) → ((z : ℤ) → ended ≡ Halted z → ⊥) → ((trap : Trap) → ended ≡ TrappedBy trap → ⊥) → ShowsIssued ended line a a f f
 no_line (Halted z) line a f not_halted not_trapped = absurd (not_halted z refl)
 no_line (TrappedBy trap) line a f not_halted not_trapped = absurd (not_trapped trap refl)
-no_line StoppedAt line a f not_halted not_trapped = record { more = []; is = with_none a }
-no_line (StuckAt reason place) line a f not_halted not_trapped = record { more = []; is = with_none a }
-no_line SinkFault line a f not_halted not_trapped = record { more = []; is = with_none a }
-
-pub trap_line : {T E : Type 0} (r : Result T E) (line : List ℕ) (a b : Option (List ℕ)) (f g : ℕ) → OnOk r (b ≡ with_bytes a line) → OnErr r (Rose f g) → Adds a b f g →
-    Appends a b × ((Rose f g → ⊥) → b ≡ with_bytes a line)
-trap_line (Ok x) line a b f g put failed adds = (record { more = adds.more; is = adds.is }, λ quiet. put)
-trap_line (Err e) line a b f g put failed adds = (record { more = adds.more; is = adds.is }, λ quiet. absurd (quiet failed))
+no_line StoppedAt line a f not_halted not_trapped = refl
+no_line (StuckAt reason place) line a f not_halted not_trapped = refl
+no_line SinkFault line a f not_halted not_trapped = refl
 
 -- the line of an end, that of the words and the reports
 
-behind : (a b c : Option (List ℕ)) → Appends a b → Appends b c → Appends a c
-behind a b c x y = record { more = x.more ++ y.more; is = y.is ∙ ap (λ told. with_bytes told y.more) x.is ∙ with_both a x.more y.more }
+pub other_line : (ended : Ended) (status : Status) (a b : Option (List ℕ)) (f g : ℕ) → ((z : ℤ) → ended ≡ Halted z → ⊥) → status ≡ status_as ended → Tells (status_line status) a b f g → ShowsLine ended a b f g
+other_line (Halted z) status a b f g not_halted is h = absurd (not_halted z refl)
+other_line (TrappedBy trap) status a b f g not_halted is h = subst (λ t. Tells (status_line t) a b f g) is h
+other_line StoppedAt status a b f g not_halted is h = subst (λ t. Tells (status_line t) a b f g) is h
+other_line (StuckAt reason place) status a b f g not_halted is h = subst (λ t. Tells (status_line t) a b f g) is h
+other_line SinkFault status a b f g not_halted is h = subst (λ t. Tells (status_line t) a b f g) is h
 
-appended : (ended : Ended) (line : List ℕ) (a b : Option (List ℕ)) (f g : ℕ) → ShowsIssued ended line a b f g → Appends a b
-appended (Halted z) line a b f g h = record { more = line; is = h }
-appended (TrappedBy trap) line a b f g h = h.0
-appended StoppedAt line a b f g h = h
-appended (StuckAt reason place) line a b f g h = h
-appended SinkFault line a b f g h = h
+three_pieces : (a b c d : Option (List ℕ)) (xs ys zs : List ℕ) → b ≡ with_bytes a xs → c ≡ with_bytes b ys → d ≡ with_bytes c zs → d ≡ with_bytes a (xs ++ ys ++ zs)
+three_pieces a b c d xs ys zs first second third =
+    third ∙ ap (λ told. with_bytes told zs) (second ∙ ap (λ told. with_bytes told ys) first ∙ with_both a xs ys) ∙ with_both a (xs ++ ys) zs
 
-ends_behind : (a b c d : Option (List ℕ)) (reports : List ℕ) → Appends a b → Appends b c → d ≡ with_bytes c reports → EndsWith a d reports
-ends_behind a b c d reports x y is = ends_with a c d reports (behind a b c x y) is
+tells_with : (a b c d : Option (List ℕ)) (line next reports : List ℕ) (f g h i : ℕ) → f ≤ g → g ≤ h → h ≤ i → Tells line a b f g → Tells next b c g h → d ≡ with_bytes c reports → TellsWith line next reports a d f i
+tells_with a b c d line next reports f g h i le grows more first second is =
+    let earlier : Rose f g → Rose f i = λ rose. rose_throughout f f g i (omega arith) le (omega arith) rose in
+    let later : Rose g h → Rose f i = λ rose. rose_throughout f g h i le grows more rose in
+    record {
+      front = first.part.front;
+      begins = first.part.begins;
+      back = second.part.front;
+      follows = second.part.begins;
+      part = three_pieces a b c d first.part.front second.part.front reports first.part.put second.part.put is;
+      whole = λ quiet. three_pieces a b c d line next reports (first.whole (λ rose. quiet (earlier rose))) (second.whole (λ rose. quiet (later rose))) is;
+    }
 
-ends_with_line : (a b c d : Option (List ℕ)) (line reports : List ℕ) → Appends a b → c ≡ with_bytes b line → d ≡ with_bytes c reports → EndsWith a d (line ++ reports)
-ends_with_line a b c d line reports x put is = ends_with a b d (line ++ reports) x (is ∙ ap (λ told. with_bytes told reports) put ∙ with_both b line reports)
+none_between : (b c : Option (List ℕ)) (g h : ℕ) → g ≤ h → c ≡ b → Tells [] b c g h
+none_between b c g h grows same = record {
+  part = record { front = []; begins = begins_self []; put = same ∙ with_none b };
+  whole = λ quiet. same ∙ with_none b;
+  never_fall = grows;
+}
 
-shows_ok : (ended : Ended) (a b c d : Option (List ℕ)) (line reports : List ℕ) (f g h i : ℕ) → (Rose g h → Rose f i) → ShowsLine ended a b → ShowsIssued ended line b c g h → d ≡ with_bytes c reports → ShowsEnd ended line reports a d f i
-shows_ok (Halted z) a b c d line reports f g h i later first second is =
-    is ∙ ap (λ told. with_bytes told reports) (second ∙ ap (λ told. with_bytes told line) first ∙ with_both a (result_line z) line) ∙ with_both a (result_line z ++ line) reports
-shows_ok (TrappedBy trap) a b c d line reports f g h i later first second is =
-    (ends_behind a b c d reports first second.0 is, λ quiet. ends_with_line a b c d line reports first (second.1 (λ rose. quiet (later rose))) is)
-shows_ok StoppedAt a b c d line reports f g h i later first second is = ends_behind a b c d reports first second is
-shows_ok (StuckAt reason place) a b c d line reports f g h i later first second is = ends_behind a b c d reports first second is
-shows_ok SinkFault a b c d line reports f g h i later first second is = ends_behind a b c d reports first second is
+module _ (a b c d : Option (List ℕ)) (line reports : List ℕ) (f g h i : ℕ) (le : f ≤ g) (grows : g ≤ h) (more : h ≤ i) (is : d ≡ with_bytes c reports) where
+  shows_ok : (ended : Ended) → ShowsLine ended a b f g → ShowsIssued ended line b c g h → ShowsEnd ended line reports a d f i
+  shows_ok (Halted z) first second =
+      is ∙ ap (λ told. with_bytes told reports) (second ∙ ap (λ told. with_bytes told line) first ∙ with_both a (result_line z) line) ∙ with_both a (result_line z ++ line) reports
+  shows_ok (TrappedBy trap) first second = tells_with a b c d (status_line (Trapped trap)) line reports f g h i le grows more first second is
+  shows_ok StoppedAt first second = tells_with a b c d (status_line Stopped) [] reports f g h i le grows more first (none_between b c g h grows second) is
+  shows_ok (StuckAt reason place) first second = tells_with a b c d (status_line (Stuck reason place)) [] reports f g h i le grows more first (none_between b c g h grows second) is
+  shows_ok SinkFault first second = tells_with a b c d (status_line WriteFault) [] reports f g h i le grows more first (none_between b c g h grows second) is
 
-pub shows_on : {T E : Type 0} (r : Result T E) (ended : Ended) (a b c d : Option (List ℕ)) (line reports : List ℕ) (f g h i : ℕ) → f ≤ g → g ≤ h → h ≤ i → ShowsLine ended a b → ShowsIssued ended line b c g h → OnOk r (d ≡ with_bytes c reports) →
+pub shows_on : {T E : Type 0} (r : Result T E) (ended : Ended) (a b c d : Option (List ℕ)) (line reports : List ℕ) (f g h i : ℕ) → f ≤ g → g ≤ h → h ≤ i → ShowsLine ended a b f g → ShowsIssued ended line b c g h → OnOk r (d ≡ with_bytes c reports) →
     OnOk r (ShowsEnd ended line reports a d f i)
-shows_on (Ok x) ended a b c d line reports f g h i le grows more first second is = shows_ok ended a b c d line reports f g h i (λ rose. rose_throughout f g h i le grows more rose) first second is
+shows_on (Ok x) ended a b c d line reports f g h i le grows more first second is = shows_ok a b c d line reports f g h i le grows more is ended first second
 shows_on (Err e) ended a b c d line reports f g h i le grows more first second is = tt
 
 pub rose_then : (first mid last : ℕ) → first ≤ mid → mid ≤ last → Rose first mid → Rose first last
@@ -211,11 +214,12 @@ module _ (x : Loaded) (times : Times) (budget : ℕ) (tells : Bool) (watches wat
         put = whole.put;
       }))
 
-  partly_answers : (status : Status) → is_fault ended ≡ true → OutRose s → status ≡ WriteFault → LoadedAnswers x times budget tells watches s status
-  partly_answers status fault rose is =
+  partly_answers : (status : Status) → is_fault ended ≡ true → OutRose s → ErrTells (status_line WriteFault) s → status ≡ WriteFault → LoadedAnswers x times budget tells watches s status
+  partly_answers status fault rose told is =
       let partly = r.partly fault in
       subst (LoadedAnswers x times budget tells watches s) (sym is) (inl (record {
         rose = rose;
+        told = told;
         bound = partly.bound + 1;
         within = let below = partly.below in omega arith;
         front = partly.front;
@@ -223,13 +227,13 @@ module _ (x : Loaded) (times : Times) (budget : ℕ) (tells : Bool) (watches wat
         put = partly.put;
       }))
 
-  pub run_answers : (status : Status) (n : ℕ) → n ≡ length watches' → (is_fault ended ≡ true → OutRose s) → (is_fault ended ≡ true → status ≡ WriteFault) →
+  pub run_answers : (status : Status) (n : ℕ) → n ≡ length watches' → (is_fault ended ≡ true → OutRose s) → (is_fault ended ≡ true → ErrTells (status_line WriteFault) s) → (is_fault ended ≡ true → status ≡ WriteFault) →
       (is_fault ended ≡ false → Finishes ended (told_line tells issued) (flat_map report_line watches') n s.err_before s.err_after s.err_faults_before s.err_faults_after status) →
       LoadedAnswers x times budget tells watches s status
-  run_answers status n all rose cut finishes = by (is_fault ended) refl
+  run_answers status n all rose told cut finishes = by (is_fault ended) refl
     where
       by : (b : Bool) → is_fault ended ≡ b → LoadedAnswers x times budget tells watches s status
-      by true is = partly_answers status is (rose is) (cut is)
+      by true is = partly_answers status is (rose is) (told is) (cut is)
       by false is = whole_answers status n all is (finishes is)
 
 is_run : (ended : Ended) → is_of_run (status_as ended) ≡ true
@@ -247,3 +251,24 @@ of_run ended line reports n f g a c status cut finishes = by (is_fault ended) re
     by : (b : Bool) → is_fault ended ≡ b → is_of_run status ≡ true
     by true is = ap is_of_run (cut is)
     by false is = elim (finishes is) [ inl done ↦ ap is_of_run done.0 ∙ is_run ended | inr lost ↦ ap is_of_run lost.0 ]
+
+-- of a run that its sink did not cut the answers say the lines
+ended_told : (ended : Ended) (s : Streams) → is_fault ended ≡ false → TellsRun s (status_as ended)
+ended_told (Halted z) s unfaulted = tt
+ended_told (TrappedBy trap) s unfaulted = tt
+ended_told StoppedAt s unfaulted = tt
+ended_told (StuckAt reason place) s unfaulted = tt
+ended_told SinkFault s unfaulted = absurd cc
+
+finished_told : (ended : Ended) (line reports : List ℕ) (n : ℕ) (s : Streams) (status : Status) → is_fault ended ≡ false →
+    Finishes ended line reports n s.err_before s.err_after s.err_faults_before s.err_faults_after status → TellsRun s status
+finished_told ended line reports n s status unfaulted (inl done) = subst (TellsRun s) (sym done.0) (ended_told ended s unfaulted)
+finished_told ended line reports n s status unfaulted (inr lost) = subst (TellsRun s) (sym lost.0) (λ quiet. absurd (quiet lost.1))
+
+pub run_line : (ended : Ended) (line reports : List ℕ) (n : ℕ) (s : Streams) (status : Status) → (is_fault ended ≡ true → status ≡ WriteFault) → (is_fault ended ≡ true → ErrTells (status_line WriteFault) s) →
+    (is_fault ended ≡ false → Finishes ended line reports n s.err_before s.err_after s.err_faults_before s.err_faults_after status) → TellsRun s status
+run_line ended line reports n s status cut told finishes = by (is_fault ended) refl
+  where
+    by : (b : Bool) → is_fault ended ≡ b → TellsRun s status
+    by true is = subst (TellsRun s) (sym (cut is)) (told is).whole
+    by false is = finished_told ended line reports n s status is (finishes is)

@@ -1,4 +1,5 @@
 pub mod Appending
+pub mod Telling
 pub mod Inputs
 pub mod InRange
 pub mod RunFound

@@ -37,9 +37,9 @@ loads_in asked x None is spells = tt
 loads_in asked x (Some held) is spells = record { is = is; spells = spells }
 
 -- the lines without that of the words
-shows_plain : (o : Outcome) (reports : List ℕ) (s : Streams) → ShowsOf o [] reports s → Shows o reports s.err_before s.err_after
+shows_plain : (o : Outcome) (reports : List ℕ) (s : Streams) → ShowsOf o [] reports s → Shows o reports s
 shows_plain (Ends z out) reports s is = is ∙ ap (λ line. with_bytes s.err_before (line ++ reports)) (append-nil (result_line z))
-shows_plain (Traps k out) reports s is = is.0
+shows_plain (Traps k out) reports s is = is
 shows_plain (Goes out) reports s is = is
 shows_plain (StuckWith why p out) reports s is = is
 shows_plain (Wrong out) reports s is = absurd is

@@ -1,5 +1,5 @@
 -- The boxes that a caller hands in, and those that a command asks for: the first one with the name, or every probe.
-use Rattle.std.specs.Prelude.{ℕ, List, [], ◌∷◌, ◌++◌, map, find, if◌then◌else◌, codes, Option, Some, None, option_map}
+use Rattle.std.specs.Prelude.{ℕ, List, [], ◌∷◌, ◌++◌, map, find, if◌then◌else◌, codes, Option, Some, None, option_map, unwrap_or}
 use Rattle.std.specs.Str.{bytes_eq}
 use Rattle.vx_probe.specs.Times.{Times}
 use Rattle.vx_probe.specs.Watch.{Watch, report_of}
@@ -40,6 +40,14 @@ chosen_of (Some times) (Some watches) = Some (record { times = times; watches = 
 -- the boxes that are asked for, where they are there
 abbrev pub chosen : List ℕ → Option (List ℕ) → Boxes → Option Chosen
 chosen timing probe boxes = chosen_of (timing_named timing boxes.timings) (probes_named probe boxes.probes)
+
+abbrev pub unknown_of : Option Times → (timing : List ℕ) → (probe : Option (List ℕ)) → List ℕ
+unknown_of None timing probe = timing
+unknown_of (Some times) timing probe = unwrap_or probe []
+
+-- where some are not there, the name that none has, that of the timing first
+abbrev pub unknown_name : List ℕ → Option (List ℕ) → Boxes → List ℕ
+unknown_name timing probe boxes = unknown_of (timing_named timing boxes.timings) timing probe
 
 -- the line of a probe's report
 abbrev pub report_line : Watch → List ℕ

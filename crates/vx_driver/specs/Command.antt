@@ -1,6 +1,6 @@
 -- What the words of a command line ask for. The second word names the command; the other words are those of one
 -- simple command of clap, and what it finds there is what is meant.
-use Rattle.std.specs.Prelude.{ℕ, List, [], ◌∷◌, Option, Some, None, true, codes, unwrap_or, option_and_then, option_map, if◌then◌else◌}
+use Rattle.std.specs.Prelude.{ℕ, List, [], ◌∷◌, Bool, true, false, ◌||◌, Option, Some, None, codes, unwrap_or, option_and_then, option_map, if◌then◌else◌}
 use Rattle.std.specs.Str.{bytes_eq}
 use Rattle.std.specs.Str.Parse.{digits_value, without_leading_plus}
 use Rattle.clap.specs.Walk.{Rule, Row, first_of}
@@ -241,3 +241,13 @@ command_named name words =
 abbrev pub command_of : List (List ℕ) → Option Command
 command_of (program ∷ name ∷ words) = command_named name (program ∷ words)
 command_of words = None
+
+-- a command has this name
+abbrev pub is_command : (name : List ℕ) → Bool
+is_command name =
+    bytes_eq name (codes "compile") || bytes_eq name (codes "sim") || bytes_eq name (codes "exec") || bytes_eq name (codes "profile") || bytes_eq name (codes "soak")
+
+-- the second word names a command
+abbrev pub names_command : List (List ℕ) → Bool
+names_command (program ∷ name ∷ words) = is_command name
+names_command words = false

@@ -10,10 +10,10 @@ use Rattle.vx_sim.specs.declared.ended.Ended.TheVariants.{Halted, Trapped as Tra
 use Rattle.vx_driver.specs.declared.status.Status.{Status}
 use Rattle.vx_driver.specs.declared.status.Status.TheVariants.{Done, Trapped, WriteFault, Stopped, Stuck, NoMemory}
 use Rattle.vx_driver.specs.declared.loaded.LoadedFiles.{LoadedFiles}
-use Rattle.vx_driver.specs.Status.{Appends}
+use Rattle.vx_driver.specs.Status.{Tells, TellsWith, status_line}
 use Rattle.vx_driver.specs.Command.{Execution}
 use Rattle.vx_driver.specs.Answers.{Effect, SourceAnswers, ProfileStands, StopsAtProfile, StopsAtMachine, NoProfile, NoMachine, Is, machine_found}
-use Rattle.vx_driver.specs.Simulated.{Loaded, with_input, outcome_within, events_within, EndsWith, result_line, Streams, ErrRose, OutputCut, IsEnd, IsStatusOf, reports_of}
+use Rattle.vx_driver.specs.Simulated.{Loaded, with_input, outcome_within, events_within, result_line, Streams, ErrRose, ErrTellsWith, OutputCut, IsEnd, IsStatusOf, reports_of}
 use Rattle.vx_driver.specs.Executed.{issued_line, InputAnswers, StopsAtInput}
 use Rattle.vx_isa.specs.Numbers.{Numbers}
 
@@ -28,42 +28,35 @@ status_as StoppedAt = Stopped
 status_as (StuckAt reason place) = Stuck reason place
 status_as SinkFault = WriteFault
 
--- the line of an end: the result, else some bytes
-abbrev pub ShowsLine : Ended → (before after : Option (List ℕ)) → Type 0
-ShowsLine (Halted z) before after = after ≡ with_bytes before (result_line z)
-ShowsLine (TrappedBy trap) before after = Appends before after
-ShowsLine StoppedAt before after = Appends before after
-ShowsLine (StuckAt reason place) before after = Appends before after
-ShowsLine SinkFault before after = Appends before after
+-- the line of an end: the result, else the line of its status
+abbrev pub ShowsLine : Ended → (before after : Option (List ℕ)) → (faults faults' : ℕ) → Type 0
+ShowsLine (Halted z) before after faults faults' = after ≡ with_bytes before (result_line z)
+ShowsLine ended before after faults faults' = Tells (status_line (status_as ended)) before after faults faults'
 
 -- the line of the words that a run issued, where a command tells it
 abbrev pub told_line : Bool → ℕ → List ℕ
 told_line true issued = issued_line issued
 told_line false issued = []
 
--- the line of the words behind that of an end: of a trap it may be lost where a put fails
+-- the line of the words behind that of an end with a result or by a trap
 abbrev pub ShowsIssued : Ended → (line : List ℕ) → (before after : Option (List ℕ)) → (faults faults' : ℕ) → Type 0
 ShowsIssued (Halted z) line before after faults faults' = after ≡ with_bytes before line
-ShowsIssued (TrappedBy trap) line before after faults faults' = Appends before after × ((Rose faults faults' → ⊥) → after ≡ with_bytes before line)
-ShowsIssued StoppedAt line before after faults faults' = Appends before after
-ShowsIssued (StuckAt reason place) line before after faults faults' = Appends before after
-ShowsIssued SinkFault line before after faults faults' = Appends before after
+ShowsIssued (TrappedBy trap) line before after faults faults' = Tells line before after faults faults'
+ShowsIssued ended line before after faults faults' = after ≡ before
 
--- what the lines of an end put: the result, the words and the reports; of a trap a line, the words and the reports, and
--- where a put failed perhaps not the words; else a line and the reports
+-- what the lines of an end put: the result, the words and the reports; of a trap its line, the words and the reports; else the
+-- line of its status and the reports
 abbrev pub ShowsEnd : Ended → (line reports : List ℕ) → (before after : Option (List ℕ)) → (faults faults' : ℕ) → Type 0
 ShowsEnd (Halted z) line reports before after faults faults' = after ≡ with_bytes before (result_line z ++ line ++ reports)
-ShowsEnd (TrappedBy trap) line reports before after faults faults' = EndsWith before after reports × ((Rose faults faults' → ⊥) → EndsWith before after (line ++ reports))
-ShowsEnd StoppedAt line reports before after faults faults' = EndsWith before after reports
-ShowsEnd (StuckAt reason place) line reports before after faults faults' = EndsWith before after reports
-ShowsEnd SinkFault line reports before after faults faults' = EndsWith before after reports
+ShowsEnd (TrappedBy trap) line reports before after faults faults' = TellsWith (status_line (Trapped trap)) line reports before after faults faults'
+ShowsEnd ended line reports before after faults faults' = TellsWith (status_line (status_as ended)) [] reports before after faults faults'
 
 -- the same of an outcome
 abbrev pub ShowsOf : Outcome → (line reports : List ℕ) → Streams → Type 0
 ShowsOf (Ends z out) line reports s = s.err_after ≡ with_bytes s.err_before (result_line z ++ line ++ reports)
-ShowsOf (Traps k out) line reports s = EndsWith s.err_before s.err_after reports × ((ErrRose s → ⊥) → EndsWith s.err_before s.err_after (line ++ reports))
-ShowsOf (Goes out) line reports s = EndsWith s.err_before s.err_after reports
-ShowsOf (StuckWith why p out) line reports s = EndsWith s.err_before s.err_after reports
+ShowsOf (Traps k out) line reports s = ErrTellsWith (status_line (Trapped k)) line reports s
+ShowsOf (Goes out) line reports s = ErrTellsWith (status_line Stopped) [] reports s
+ShowsOf (StuckWith why p out) line reports s = ErrTellsWith (status_line (Stuck why p)) [] reports s
 ShowsOf (Wrong out) line reports s = ⊥
 
 abbrev pub IsHalted : Ended → Type 0

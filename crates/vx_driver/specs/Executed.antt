@@ -16,11 +16,12 @@ use Rattle.vx_profile.specs.declared.counts.Counts.{Counts}
 use Rattle.vx_report.specs.declared.plan.Plan.{Plan}
 use Rattle.vx_driver.specs.declared.status.Status.{Status}
 use Rattle.vx_driver.specs.declared.status.Status.TheVariants.{Done, Trapped, Usage, Source, Limit, Words, Profile, Machine, NoFile, ReadFault, WriteFault, Stopped, Input, Stuck, NoMemory}
+use Rattle.vx_driver.specs.Status.{status_line}
 use Rattle.vx_driver.specs.Command.{Execution}
 use Rattle.vx_driver.specs.Boxes.{Boxes, Chosen, chosen}
 use Rattle.vx_driver.specs.Compiled.{Compiled}
 use Rattle.vx_driver.specs.Answers.{AreCounts, HoldsProgram, Accepts, status_of, Is, machine_found, Effect, ReadsRose, SameFiles, SourceAnswers, ProfileStands, RefusesProfile, StopsAtProfile, StopsAtMachine}
-use Rattle.vx_driver.specs.Simulated.{Loaded, with_input, machine_as, input_found, outcome_within, events_within, reports_of, result_line, AreDefaults, EndsWith, Streams, OutRose, ErrRose, OutputCut, LinesCut, BoxAnswers}
+use Rattle.vx_driver.specs.Simulated.{Loaded, with_input, machine_as, input_found, outcome_within, events_within, reports_of, result_line, AreDefaults, Streams, OutRose, ErrRose, ErrTellsWith, OutputCut, LinesCut, BoxAnswers}
 
 -- the run
 
@@ -76,13 +77,12 @@ pub record Prepared (asked : Execution) (e : Effect) (x : Loaded) : Type 0 where
 abbrev pub issued_line : ℕ → List ℕ
 issued_line n = codes "issued " ++ decimal n ++ 10 ∷ []
 
--- behind an end with a result stand exactly the result, the words and the reports; behind one by a trap the words and the
--- reports, but where a put failed perhaps the reports alone; behind a run that goes on the reports
+-- behind an end with a result stand exactly the result, the words and the reports; behind one by a trap its line, the words and
+-- the reports; behind a run that goes on its line and the reports
 abbrev pub ShowsRun : Outcome → (issued : ℕ) → (reports : List ℕ) → Streams → Type 0
 ShowsRun (Ends z out) issued reports s = s.err_after ≡ with_bytes s.err_before (result_line z ++ issued_line issued ++ reports)
-ShowsRun (Traps k out) issued reports s =
-    EndsWith s.err_before s.err_after reports × ((ErrRose s → ⊥) → EndsWith s.err_before s.err_after (issued_line issued ++ reports))
-ShowsRun (Goes out) issued reports s = EndsWith s.err_before s.err_after reports
+ShowsRun (Traps k out) issued reports s = ErrTellsWith (status_line (Trapped k)) (issued_line issued) reports s
+ShowsRun (Goes out) issued reports s = ErrTellsWith (status_line Stopped) [] reports s
 ShowsRun other issued reports s = ⊥
 
 -- the run of such words comes to this outcome within the budget of the command, and so does the source; its output is

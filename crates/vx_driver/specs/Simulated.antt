@@ -18,6 +18,7 @@ use Rattle.vx_sim.specs.Passed.{events_from}
 use Rattle.vx_words.specs.Text.{Spells, Fault, reading}
 use Rattle.vx_driver.specs.declared.status.Status.{Status}
 use Rattle.vx_driver.specs.declared.status.Status.TheVariants.{Done, Trapped, Usage, Source, Limit, Words, Profile, Machine, NoFile, ReadFault, WriteFault, Stopped, Input, Stuck, NoMemory}
+use Rattle.vx_driver.specs.Status.{Tells, TellsWith, status_line}
 use Rattle.vx_driver.specs.Command.{Simulation}
 use Rattle.vx_driver.specs.Boxes.{Boxes, Chosen, chosen, report_line}
 use Rattle.vx_driver.specs.InputText.{input_reading}
@@ -155,19 +156,6 @@ reports_of watches events = flat_map (λ w. report_line (shown_all events w)) wa
 abbrev pub result_line : ℤ → List ℕ
 result_line z = codes "result " ++ signed_decimal z ++ 10 ∷ []
 
--- some bytes more, and these behind them
-pub record EndsWith (before after : Option (List ℕ)) (bytes : List ℕ) : Type 0 where
-  pub more : List ℕ
-  pub is : after ≡ with_bytes before (more ++ bytes)
-
--- what the lines of a run put: the result and the reports, else a line and the reports
-abbrev pub Shows : Outcome → (reports : List ℕ) → (before after : Option (List ℕ)) → Type 0
-Shows (Ends z out) reports before after = after ≡ with_bytes before (result_line z ++ reports)
-Shows (Traps k out) reports before after = EndsWith before after reports
-Shows (Goes out) reports before after = EndsWith before after reports
-Shows (StuckAt why p out) reports before after = EndsWith before after reports
-Shows (Wrong out) reports before after = ⊥
-
 -- the bytes that the two sinks tell before the call and after it, and their counts of faults
 pub record Streams : Type 0 where
   pub out_before : Option (List ℕ)
@@ -197,6 +185,21 @@ OutRose s = Rose s.out_faults_before s.out_faults_after
 abbrev pub ErrRose : Streams → Type 0
 ErrRose s = Rose s.err_faults_before s.err_faults_after
 
+-- a line on the error stream, and one with a line behind it and reports
+abbrev pub ErrTells : (line : List ℕ) → Streams → Type 0
+ErrTells line s = Tells line s.err_before s.err_after s.err_faults_before s.err_faults_after
+
+abbrev pub ErrTellsWith : (line next reports : List ℕ) → Streams → Type 0
+ErrTellsWith line next reports s = TellsWith line next reports s.err_before s.err_after s.err_faults_before s.err_faults_after
+
+-- what the lines of a run put: the result and the reports, else the line of the status and the reports
+abbrev pub Shows : Outcome → (reports : List ℕ) → Streams → Type 0
+Shows (Ends z out) reports s = s.err_after ≡ with_bytes s.err_before (result_line z ++ reports)
+Shows (Traps k out) reports s = ErrTellsWith (status_line (Trapped k)) [] reports s
+Shows (Goes out) reports s = ErrTellsWith (status_line Stopped) [] reports s
+Shows (StuckAt why p out) reports s = ErrTellsWith (status_line (Stuck why p)) [] reports s
+Shows (Wrong out) reports s = ⊥
+
 -- what was read is what the files hold, and the file of the words is the text of the program
 pub record Loads (held : Files) (asked : Simulation) (x : Loaded) : Type 0 where
   pub is : loading held asked.words asked.machine asked.input ≡ Ok x
@@ -209,11 +212,12 @@ pub record RunEnds (asked : Simulation) (boxes : Chosen) (e : Effect) (s : Strea
   pub defaults : AreDefaults asked.machine asked.input loaded
   pub status_is : IsStatusOf (outcome_within loaded boxes.times asked.budget) status
   pub put : s.out_after ≡ with_bytes s.out_before (output_of (outcome_within loaded boxes.times asked.budget))
-  pub shown : Shows (outcome_within loaded boxes.times asked.budget) (reports_of boxes.watches (events_within loaded boxes.times asked.budget)) s.err_before s.err_after
+  pub shown : Shows (outcome_within loaded boxes.times asked.budget) (reports_of boxes.watches (events_within loaded boxes.times asked.budget)) s
 
--- the output is cut: a front of what the run prints within the budget is put
+-- the output is cut: a front of what the run prints within the budget is put, and that is told
 pub record OutputCut (x : Loaded) (times : Times) (budget : ℕ) (s : Streams) : Type 0 where
   pub rose : OutRose s
+  pub told : ErrTells (status_line WriteFault) s
   pub bound : ℕ
   pub within : bound ≤ budget
   pub front : List ℕ

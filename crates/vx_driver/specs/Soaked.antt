@@ -1,6 +1,6 @@
 -- What `soak` does: the source of a seed and a size is compiled for the default machine by no counts, and its words are run on the
 -- empty input; one line says how much there was of everything.
-use Rattle.std.specs.Prelude.{◌≡◌, ◌%◌, ◌^◌, ℕ, ℤ, Bool, true, false, List, [], ◌∷◌, ◌++◌, length, codes, decimal, None}
+use Rattle.std.specs.Prelude.{◌≡◌, ◌%◌, ◌^◌, ℕ, ℤ, Bool, true, false, List, [], ◌∷◌, ◌++◌, length, codes, None}
 use Rattle.std.specs.List.{sum_by}
 use Rattle.vx_base.specs.Outcome.{Outcome, Ends, Traps, Goes, IsGoing}
 use Rattle.vx_base.specs.Outside.{PutsFront, with_bytes}
@@ -18,6 +18,7 @@ use Rattle.vx_driver.specs.Boxes.{Boxes, Chosen, chosen}
 use Rattle.vx_driver.specs.Command.{Soaking}
 use Rattle.vx_driver.specs.Compiled.{Compiled}
 use Rattle.vx_driver.specs.Executed.{Issues, InSource, SourceHas}
+use Rattle.vx_driver.specs.Status.{counted}
 use Rattle.vx_driver.specs.Simulated.{BoxAnswers, Loaded, OutRose, Streams, with_input, outcome_within}
 use Rattle.vx_driver.specs.declared.status.Status.{Status}
 use Rattle.vx_driver.specs.declared.status.Status.TheVariants.{Done, Trapped, WriteFault, Stopped, NoMemory}
@@ -57,9 +58,6 @@ all_blocks graphs = sum_by (λ (g : Graph). length g.blocks) graphs
 -- the sum of some bytes, modulo 2 ^ 32
 abbrev pub byte_sum : List ℕ → ℕ
 byte_sum bytes = sum_by (λ b. b) bytes % 2 ^ 32
-
-abbrev pub counted : (name : List ℕ) → ℕ → List ℕ
-counted name n = name ++ decimal n
 
 abbrev pub summary : (functions blocks traces words copies sum issued : ℕ) → List ℕ
 summary functions blocks traces words copies sum issued =

@@ -3,16 +3,16 @@
 ghost use Rattle.std.specs.Prelude.{◌≡◌, ◌≢◌, ◌⊎◌, [], true, unwrap_or, Some, None, map, IfOk, IfErr};
 ghost use Rattle.clap.specs.Words.{app_of, fault_of, first_value, found_of, is_simple, is_simple_and_free, kind_of, matches_of, rows_of};
 ghost use Rattle.clap.specs.declared.error.kind.ErrorKind.TheVariants.{OutOfMemory};
-ghost use Rattle.vx_driver.specs.Status.{Adds};
+ghost use Rattle.vx_driver.specs.Status.{Adds, Tells, status_line};
 ghost use Rattle.vx_driver.specs.Asked.{compilation_of};
 ghost use Rattle.vx_driver.specs.Command.{Compile, compile_app, compile_of, compile_unless};
 
 use crate::options::{file_command, growth_of, option_of, required_of, with_compiling_options};
-use crate::status::{Status, put, put_line};
+use crate::status::{Status, put, tell};
 use clap::error::ErrorKind;
 use clap::{ArgMatches, Command, Error};
 use std::alloc::{AllocError, Global};
-use vx_base::sink::{Sink, SinkFault};
+use vx_base::sink::Sink;
 
 /// The words of `compile`.
 #[derive(Drop)]
@@ -158,21 +158,17 @@ pub(crate) fn asked_of<'a>(alloc: Global, words: &'a [&'a str]) -> Result<Compil
     }
 }
 
-/// Puts the text of a refusal, or the line of its status where clap gave none.
-pub(crate) fn put_refusal<E: Sink>(err: &mut E, refused: &Refused) -> Result<(), SinkFault>
-    ensures { Adds (E.told err.old) (E.told err.new) (E.faults err.old) (E.faults err.new) }
-{
-    match &refused.text {
-        Some(text) => put(err, text.as_bytes()),
-        None => put_line(err, refused.status),
-    }
-}
-
-/// Puts the text of a refusal or its line, and answers its status whether it could be put or not.
+/// Puts the text that clap gives for its refusal, or the line of its status.
 pub(crate) fn refuse<E: Sink>(err: &mut E, refused: &Refused) -> Status
     ensures same { result ≡ refused.now.status }
+    ensures tells { result ≢ Status.Usage → Tells (status_line result) (E.told err.old) (E.told err.new) (E.faults err.old) (E.faults err.new) }
     ensures adds { Adds (E.told err.old) (E.told err.new) (E.faults err.old) (E.faults err.new) }
 {
-    let _ = put_refusal(err, refused);
-    refused.status
+    match (refused.status, &refused.text) {
+        (Status::Usage, Some(text)) => {
+            let _ = put(err, text.as_bytes());
+            Status::Usage
+        }
+        (status, _) => tell(err, status),
+    }
 }

@@ -5,6 +5,8 @@ ghost use Rattle.std.specs.Prelude.{◌≡◌, ◌⊎◌, ◌<◌, ◌≤◌, tr
 ghost use Rattle.vx_base.specs.Arithmetic.{IsNumber};
 ghost use Rattle.vx_ast.specs.View as view;
 ghost use Rattle.vx_driver.specs.Answers.{effect_of, machine_found, Is, ProfileStands};
+ghost use Rattle.vx_driver.specs.Command.{Execute};
+ghost use Rattle.vx_driver.specs.Commands.{TellsLine, TellsRun};
 ghost use Rattle.vx_driver.specs.Asked.{execution_of};
 ghost use Rattle.vx_driver.specs.Stages.{IsCompiled};
 ghost use Rattle.vx_driver.specs.Status.{Adds};
@@ -167,6 +169,7 @@ fn execute<D: Depot, K: Sink, E: Sink>(
     requires wanted { 0 < length probes.items → is_some asked.now.run.probe ≡ true }
     ensures same_files { D.files depot.new ≡ D.files depot.old }
     ensures answers { ExecutionAnswers (execution_of asked.now) (effect_of D.files D.failed_reads D.failed_replaces depot.old depot.new) (streams_of K.told K.faults E.told E.faults out.old out.new err.old err.new) result (record { times = times timing; watches = map (λ b. watch b) probes.items }) }
+    ensures line { TellsRun (streams_of K.told K.faults E.told E.faults out.old out.new err.old err.new) result }
     ensures adds { Adds (E.told err.old) (E.told err.new) (E.faults err.old) (E.faults err.new) }
     ensures nothing { is_of_run result ≡ false → K.told out.new ≡ K.told out.old }
     ensures reads_never_fall { D.failed_reads depot.old ≤ D.failed_reads depot.new }
@@ -199,6 +202,7 @@ pub(crate) fn execute_with<D: Depot, K: Sink, E: Sink>(
     timings: Vec<Box<dyn Timing>>,
 ) -> Status
     ensures answers { ExecAnswers (execution_of asked.now) (record { probes = map (λ b. record { name = (⟦<dyn Probe as Probe>⟧ b.vtable).called b.value; watch = watch b }) probes.items; timings = map (λ b. record { name = (⟦<dyn Timing as Timing>⟧ b.vtable).called b.value; times = times b }) timings.items }) (effect_of D.files D.failed_reads D.failed_replaces depot.old depot.new) (streams_of K.told K.faults E.told E.faults out.old out.new err.old err.new) result }
+    ensures line { TellsLine (Some (Execute (execution_of asked.now))) (record { probes = map (λ b. record { name = (⟦<dyn Probe as Probe>⟧ b.vtable).called b.value; watch = watch b }) probes.items; timings = map (λ b. record { name = (⟦<dyn Timing as Timing>⟧ b.vtable).called b.value; times = times b }) timings.items }) (streams_of K.told K.faults E.told E.faults out.old out.new err.old err.new) result }
     ensures adds { Adds (E.told err.old) (E.told err.new) (E.faults err.old) (E.faults err.new) }
     ensures nothing { is_of_run result ≡ false → K.told out.new ≡ K.told out.old }
     ensures reads_never_fall { D.failed_reads depot.old ≤ D.failed_reads depot.new }

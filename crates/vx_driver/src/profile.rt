@@ -6,7 +6,7 @@ ghost use Rattle.vx_base.specs.Outside.{PutsFront, Rose, with_bytes};
 ghost use Rattle.vx_ast.specs.View as view;
 ghost use Rattle.vx_driver.specs.Answers.{effect_of};
 ghost use Rattle.vx_driver.specs.Asked.{profiling_of};
-ghost use Rattle.vx_driver.specs.Status.{Adds};
+ghost use Rattle.vx_driver.specs.Status.{Adds, Tells, status_line};
 ghost use Rattle.vx_driver.specs.Simulated.{is_of_run, streams_of};
 ghost use Rattle.vx_driver.specs.Executed.{InputAnswers};
 ghost use Rattle.vx_driver.specs.Counted.{ProfilingAnswers};
@@ -108,6 +108,7 @@ fn tell_end<E: Sink>(err: &mut E, complete: bool) -> Status
     ensures over { complete ≡ true → (result ≡ Status.Done) × (E.told err.new ≡ E.told err.old) }
     ensures stopped { complete ≡ false → result ≡ Status.Stopped }
     ensures run { is_of_run result ≡ true }
+    ensures tells { Tells (status_line result) (E.told err.old) (E.told err.new) (E.faults err.old) (E.faults err.new) }
     ensures adds { Adds (E.told err.old) (E.told err.new) (E.faults err.old) (E.faults err.new) }
 {
     if complete {
@@ -121,6 +122,7 @@ fn tell_end<E: Sink>(err: &mut E, complete: bool) -> Status
 fn put_counts<K: Sink, E: Sink>(out: &mut K, err: &mut E, counted: &CountsText) -> Status
     ensures puts { PutsText counted.now.text.items counted.now.complete (streams_of K.told K.faults E.told E.faults out.old out.new err.old err.new) result }
     ensures run { is_of_run result ≡ true }
+    ensures tells { Tells (status_line result) (E.told err.old) (E.told err.new) (E.faults err.old) (E.faults err.new) }
     ensures adds { Adds (E.told err.old) (E.told err.new) (E.faults err.old) (E.faults err.new) }
     ensures out_never_falls { K.faults out.old ≤ K.faults out.new }
 {
@@ -139,6 +141,7 @@ pub(crate) fn profile<D: Depot, K: Sink, E: Sink>(
     asked: &ProfileWords,
 ) -> Status
     ensures answers { ProfilingAnswers (profiling_of asked.now) (effect_of D.files D.failed_reads D.failed_replaces depot.old depot.new) (streams_of K.told K.faults E.told E.faults out.old out.new err.old err.new) result }
+    ensures tells { Tells (status_line result) (E.told err.old) (E.told err.new) (E.faults err.old) (E.faults err.new) }
     ensures adds { Adds (E.told err.old) (E.told err.new) (E.faults err.old) (E.faults err.new) }
     ensures nothing { is_of_run result ≡ false → K.told out.new ≡ K.told out.old }
     ensures reads_never_fall { D.failed_reads depot.old ≤ D.failed_reads depot.new }

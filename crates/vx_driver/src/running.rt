@@ -1,18 +1,19 @@
 // The run of words that were read or compiled: their output, and the lines of its end.
 
-ghost use Rattle.std.specs.Prelude.{◌≡◌, ◌⊎◌, ◌<◌, ◌≤◌, true, false, length, map, IfOk, OnOk, OnErr};
+ghost use Rattle.std.specs.Prelude.{◌≡◌, ◌⊎◌, ◌<◌, ◌≤◌, true, false, length, map, option_map, IfOk, OnOk, OnErr};
 ghost use Rattle.std.specs.List.{flat_map};
 ghost use Rattle.vx_base.specs.Outside.{Rose, with_bytes};
 ghost use Rattle.vx_sim.specs.Ran.{is_fault};
 ghost use Rattle.vx_driver.specs.Boxes.{report_line};
-ghost use Rattle.vx_driver.specs.Status.{Adds};
+ghost use Rattle.vx_driver.specs.Status.{Adds, Puts, Tells, no_box_line, status_line};
 ghost use Rattle.vx_driver.specs.Simulated.{events_within, is_of_run, streams_of, result_line};
 ghost use Rattle.vx_driver.specs.Executed.{issued_line};
+ghost use Rattle.vx_driver.specs.Commands.{TellsProbe, TellsRun};
 ghost use Rattle.vx_driver.specs.Ending.{loaded_of, status_as, told_line, ShowsLine, ShowsIssued, ShowsEnd, IsHalted, RunOf, Finishes, LoadedAnswers};
 
 use crate::boxes::put_reports;
 use crate::loaded::LoadedFiles;
-use crate::status::{Status, put, put_line, put_whole, tell};
+use crate::status::{Status, put, put_counted, put_text, put_whole, tell};
 use std::alloc::Global;
 use vx_base::outcome::NoMemory;
 use vx_base::sink::{Sink, SinkFault};
@@ -61,14 +62,10 @@ fn put_result<E: Sink>(err: &mut E, number: i32) -> Result<(), SinkFault>
 
 /// Puts the line of the words that a run issued.
 fn put_issued_line<E: Sink>(err: &mut E, issued: u64) -> Result<(), SinkFault>
-    ensures all { OnOk result (E.told err.new ≡ with_bytes (E.told err.old) (issued_line issued)) }
-    ensures adds { Adds (E.told err.old) (E.told err.new) (E.faults err.old) (E.faults err.new) }
-    ensures failed { OnErr result (Rose (E.faults err.old) (E.faults err.new)) }
+    ensures { Puts result (issued_line issued) (E.told err.old) (E.told err.new) (E.faults err.old) (E.faults err.new) }
 {
-    let mut buffer = itoa::Buffer::new();
-    put_whole(err, b"issued ")?;
-    put_whole(err, buffer.format(issued).as_bytes())?;
-    put_whole(err, b"\n")
+    put_counted(err, b"issued ", issued)?;
+    put(err, b"\n")
 }
 
 /// The status of a run that was not cut by its sink.
@@ -86,7 +83,7 @@ fn status_of(ended: Ended) -> Status
 
 /// Puts the line of an end. That of a status other than Done may be lost.
 fn put_ended<E: Sink>(err: &mut E, ended: Ended) -> Result<(), SinkFault>
-    ensures shows { OnOk result (ShowsLine ended (E.told err.old) (E.told err.new)) }
+    ensures shows { OnOk result (ShowsLine ended (E.told err.old) (E.told err.new) (E.faults err.old) (E.faults err.new)) }
     ensures wanted { OnErr result (IsHalted ended) }
     ensures failed { OnErr result (Rose (E.faults err.old) (E.faults err.new)) }
     ensures adds { Adds (E.told err.old) (E.told err.new) (E.faults err.old) (E.faults err.new) }
@@ -94,7 +91,7 @@ fn put_ended<E: Sink>(err: &mut E, ended: Ended) -> Result<(), SinkFault>
     match ended {
         Ended::Halted(number) => put_result(err, number),
         ended => {
-            let _ = put_line(err, status_of(ended));
+            let _ = tell(err, status_of(ended));
             Ok(())
         }
     }
@@ -163,6 +160,7 @@ fn finish<E: Sink>(err: &mut E, end: RunEnd, tells: bool, probes: &[Box<dyn Prob
 /// Puts how a run ended, where its sink did not cut it, and answers its status.
 fn conclude<E: Sink>(err: &mut E, end: RunEnd, tells: bool, probes: &[Box<dyn Probe>]) -> Status
     ensures cut { is_fault end.ended ≡ true → result ≡ Status.WriteFault }
+    ensures told { is_fault end.ended ≡ true → Tells (status_line Status.WriteFault) (E.told err.old) (E.told err.new) (E.faults err.old) (E.faults err.new) }
     ensures finishes { is_fault end.ended ≡ false → Finishes end.ended (told_line tells end.issued) (flat_map report_line (map (λ b. watch b) probes.now)) (length probes.now) (E.told err.old) (E.told err.new) (E.faults err.old) (E.faults err.new) result }
     ensures adds { Adds (E.told err.old) (E.told err.new) (E.faults err.old) (E.faults err.new) }
 {
@@ -185,6 +183,7 @@ pub(crate) fn run_loaded<K: Sink, E: Sink>(
     mut probes: Vec<Box<dyn Probe>>,
 ) -> Status
     ensures answers { LoadedAnswers (loaded_of loaded) (times timing) budget tells (map (λ b. watch b) probes.items) (streams_of K.told K.faults E.told E.faults out.old out.new err.old err.new) result }
+    ensures line { TellsRun (streams_of K.told K.faults E.told E.faults out.old out.new err.old err.new) result }
     ensures adds { Adds (E.told err.old) (E.told err.new) (E.faults err.old) (E.faults err.new) }
     ensures nothing { is_of_run result ≡ false → K.told out.new ≡ K.told out.old }
     ensures out_never_falls { K.faults out.old ≤ K.faults out.new }
@@ -198,23 +197,26 @@ pub(crate) fn run_loaded<K: Sink, E: Sink>(
 /// Tells that no box has a name.
 pub(crate) fn no_box<E: Sink>(err: &mut E, name: &str) -> Status
     ensures usage { result ≡ Status.Usage }
+    ensures line { Tells (no_box_line name.now) (E.told err.old) (E.told err.new) (E.faults err.old) (E.faults err.new) }
     ensures adds { Adds (E.told err.old) (E.told err.new) (E.faults err.old) (E.faults err.new) }
 {
     let _ = put_no_box(err, name);
     Status::Usage
 }
 
+/// Puts the line of a name that no box has.
 fn put_no_box<E: Sink>(err: &mut E, name: &str) -> Result<(), SinkFault>
-    ensures { Adds (E.told err.old) (E.told err.new) (E.faults err.old) (E.faults err.new) }
+    ensures { Puts result (no_box_line name.now) (E.told err.old) (E.told err.new) (E.faults err.old) (E.faults err.new) }
 {
     put(err, b"no box ")?;
-    put(err, name.as_bytes())?;
+    put_text(err, name)?;
     put(err, b"\n")
 }
 
 /// Tells why there is no probe: none has the name, or memory is wanted.
 pub(crate) fn no_probe<E: Sink>(err: &mut E, name: Option<&str>, status: Status) -> Status
     ensures same { result ≡ status }
+    ensures line { TellsProbe (option_map (λ s. s.now) name.entry) result (E.told err.old) (E.told err.new) (E.faults err.old) (E.faults err.new) }
     ensures adds { Adds (E.told err.old) (E.told err.new) (E.faults err.old) (E.faults err.new) }
 {
     match (status, name) {

@@ -5,6 +5,8 @@ ghost use Rattle.std.specs.Prelude.{◌≡◌, ◌⊎◌, ◌<◌, ◌≤◌, tr
 ghost use Rattle.vx_isa.specs.Sound.{is_sound};
 ghost use Rattle.vx_words.specs.Text.{Spells, reading};
 ghost use Rattle.vx_driver.specs.Answers.{effect_of};
+ghost use Rattle.vx_driver.specs.Command.{Simulate};
+ghost use Rattle.vx_driver.specs.Commands.{TellsLine, TellsRun};
 ghost use Rattle.vx_driver.specs.Asked.{simulation_of};
 ghost use Rattle.vx_driver.specs.Status.{Adds};
 ghost use Rattle.vx_driver.specs.Simulated.{DefaultUnless, EmptyUnless, words_as, words_in, loading_input, loading_machine, loading, is_named, Stops, RunAnswers, SimAnswers, is_of_run, streams_of};
@@ -156,6 +158,7 @@ fn simulate<D: Depot, K: Sink, E: Sink>(
     requires wanted { 0 < length probes.items → is_some asked.now.probe ≡ true }
     ensures same_files { D.files depot.new ≡ D.files depot.old }
     ensures answers { RunAnswers (simulation_of asked.now) (record { times = times timing; watches = map (λ b. watch b) probes.items }) (effect_of D.files D.failed_reads D.failed_replaces depot.old depot.new) (streams_of K.told K.faults E.told E.faults out.old out.new err.old err.new) result }
+    ensures line { TellsRun (streams_of K.told K.faults E.told E.faults out.old out.new err.old err.new) result }
     ensures adds { Adds (E.told err.old) (E.told err.new) (E.faults err.old) (E.faults err.new) }
     ensures nothing { is_of_run result ≡ false → K.told out.new ≡ K.told out.old }
     ensures reads_never_fall { D.failed_reads depot.old ≤ D.failed_reads depot.new }
@@ -179,6 +182,7 @@ pub(crate) fn simulate_with<D: Depot, K: Sink, E: Sink>(
     timings: Vec<Box<dyn Timing>>,
 ) -> Status
     ensures answers { SimAnswers (simulation_of asked.now) (record { probes = map (λ b. record { name = (⟦<dyn Probe as Probe>⟧ b.vtable).called b.value; watch = watch b }) probes.items; timings = map (λ b. record { name = (⟦<dyn Timing as Timing>⟧ b.vtable).called b.value; times = times b }) timings.items }) (effect_of D.files D.failed_reads D.failed_replaces depot.old depot.new) (streams_of K.told K.faults E.told E.faults out.old out.new err.old err.new) result }
+    ensures line { TellsLine (Some (Simulate (simulation_of asked.now))) (record { probes = map (λ b. record { name = (⟦<dyn Probe as Probe>⟧ b.vtable).called b.value; watch = watch b }) probes.items; timings = map (λ b. record { name = (⟦<dyn Timing as Timing>⟧ b.vtable).called b.value; times = times b }) timings.items }) (streams_of K.told K.faults E.told E.faults out.old out.new err.old err.new) result }
     ensures adds { Adds (E.told err.old) (E.told err.new) (E.faults err.old) (E.faults err.new) }
     ensures nothing { is_of_run result ≡ false → K.told out.new ≡ K.told out.old }
     ensures reads_never_fall { D.failed_reads depot.old ≤ D.failed_reads depot.new }

@@ -1,7 +1,7 @@
 // The command `soak SEED SIZE`: makes a source, compiles it for the default machine by no counts, runs its words on the empty
 // input, and puts one line that says how much there was of everything (specs/Soaked.antt).
 
-ghost use Rattle.std.specs.Prelude.{◌≡◌, ◌≤◌, ◌++◌, ℤ, List, [], true, false, length, map, IfOk, OnOk};
+ghost use Rattle.std.specs.Prelude.{◌≡◌, ◌≤◌, ◌++◌, ℤ, List, [], true, false, length, map, Some, IfOk, OnOk};
 ghost use Rattle.vx_ast.specs.Reads.{Reads};
 ghost use Rattle.vx_ast.specs.View as view;
 ghost use Rattle.vx_gen.specs.Program.{program_text};
@@ -11,11 +11,13 @@ ghost use Rattle.vx_sim.specs.declared.ended.Ended.TheVariants.{Halted};
 ghost use Rattle.vx_driver.specs.Answers.{Effect, SameFiles};
 ghost use Rattle.vx_driver.specs.Asked.{soaking_of};
 ghost use Rattle.vx_driver.specs.Boxes.{ProbeBox};
+ghost use Rattle.vx_driver.specs.Command.{Soak};
+ghost use Rattle.vx_driver.specs.Commands.{TellsLine};
 ghost use Rattle.vx_driver.specs.Ending.{loaded_of};
 ghost use Rattle.vx_driver.specs.Simulated.{streams_of, with_input};
-ghost use Rattle.vx_driver.specs.Soaked.{SoakAnswers, SoakedAnswers, byte_sum, counted, puts_summary};
+ghost use Rattle.vx_driver.specs.Soaked.{SoakAnswers, SoakedAnswers, byte_sum, puts_summary};
 ghost use Rattle.vx_driver.specs.SoakSteps.{IsMade, IsMadeFrom, PutsEnd, RunEndsSo, SoakRan, line_of};
-ghost use Rattle.vx_driver.specs.Status.{Adds};
+ghost use Rattle.vx_driver.specs.Status.{Adds, Tells, counted, status_line};
 
 use crate::boxes::timing_of;
 use crate::loaded::LoadedFiles;
@@ -220,6 +222,7 @@ fn soaked(
 /// Puts the line of a run that ended with a result, and answers whether it could be put.
 fn put_summary<K: Sink, E: Sink>(out: &mut K, err: &mut E, line: &[u8]) -> Status
     ensures puts { (z : ℤ) → PutsEnd (Halted z) line.now (streams_of K.told K.faults E.told E.faults out.old out.new err.old err.new) result }
+    ensures tells { Tells (status_line result) (E.told err.old) (E.told err.new) (E.faults err.old) (E.faults err.new) }
     ensures adds { Adds (E.told err.old) (E.told err.new) (E.faults err.old) (E.faults err.new) }
     ensures wanted { puts_summary result ≡ true }
     ensures out_never_falls { K.faults out.old ≤ K.faults out.new }
@@ -234,6 +237,7 @@ fn put_summary<K: Sink, E: Sink>(out: &mut K, err: &mut E, line: &[u8]) -> Statu
 /// output that has no room is want of memory.
 fn put_end<K: Sink, E: Sink>(out: &mut K, err: &mut E, report: &SoakReport) -> Status
     ensures puts { PutsEnd report.now.ended report.now.line.items (streams_of K.told K.faults E.told E.faults out.old out.new err.old err.new) result }
+    ensures tells { Tells (status_line result) (E.told err.old) (E.told err.new) (E.faults err.old) (E.faults err.new) }
     ensures adds { Adds (E.told err.old) (E.told err.new) (E.faults err.old) (E.faults err.new) }
     ensures nothing { puts_summary result ≡ false → K.told out.new ≡ K.told out.old }
     ensures out_never_falls { K.faults out.old ≤ K.faults out.new }
@@ -255,6 +259,7 @@ fn soak_with<K: Sink, E: Sink>(
     mut timing: Box<dyn Timing>,
 ) -> Status
     ensures answers { SoakedAnswers (soaking_of asked.now) (streams_of K.told K.faults E.told E.faults out.old out.new err.old err.new) result (record { times = times timing; watches = [] }) }
+    ensures tells { Tells (status_line result) (E.told err.old) (E.told err.new) (E.faults err.old) (E.faults err.new) }
     ensures adds { Adds (E.told err.old) (E.told err.new) (E.faults err.old) (E.faults err.new) }
     ensures nothing { puts_summary result ≡ false → K.told out.new ≡ K.told out.old }
     ensures out_never_falls { K.faults out.old ≤ K.faults out.new }
@@ -274,6 +279,7 @@ pub(crate) fn soak<K: Sink, E: Sink>(
     timings: Vec<Box<dyn Timing>>,
 ) -> Status
     ensures answers { ((e : Effect) (probes : List ProbeBox) → SameFiles e → SoakAnswers (soaking_of asked.now) (record { probes = probes; timings = map (λ b. record { name = (⟦<dyn Timing as Timing>⟧ b.vtable).called b.value; times = times b }) timings.items }) e (streams_of K.told K.faults E.told E.faults out.old out.new err.old err.new) result) }
+    ensures line { ((probes : List ProbeBox) → TellsLine (Some (Soak (soaking_of asked.now))) (record { probes = probes; timings = map (λ b. record { name = (⟦<dyn Timing as Timing>⟧ b.vtable).called b.value; times = times b }) timings.items }) (streams_of K.told K.faults E.told E.faults out.old out.new err.old err.new) result) }
     ensures adds { Adds (E.told err.old) (E.told err.new) (E.faults err.old) (E.faults err.new) }
     ensures nothing { puts_summary result ≡ false → K.told out.new ≡ K.told out.old }
     ensures out_never_falls { K.faults out.old ≤ K.faults out.new }

@@ -1,8 +1,9 @@
 // What the top call answers, and the line that it puts for it.
 
-ghost use Rattle.std.specs.Prelude.{◌≡◌, ◌≤◌, OnOk, OnErr};
+ghost use Rattle.std.specs.Prelude.{◌≡◌, ◌++◌, ◌∷◌, [], OnOk, OnErr, codes, decimal};
+ghost use Rattle.vx_machine.specs.Descriptions.{name_of};
 ghost use Rattle.vx_base.specs.Outside.{Rose, with_bytes};
-ghost use Rattle.vx_driver.specs.Status.{number_of, role_name, Adds};
+ghost use Rattle.vx_driver.specs.Status.{number_of, role_name, reason_name, counted, twice_counted, field_words, trap_line, status_line, Puts, Tells, Adds};
 
 use vx_base::outcome::{Reason, Trap};
 use vx_base::role::Role;
@@ -88,9 +89,9 @@ fn role_name(role: Role) -> &'static str
 
 /// Puts bytes.
 pub(crate) fn put<E: Sink>(err: &mut E, bytes: &[u8]) -> Result<(), SinkFault>
-    ensures { Adds (E.told err.old) (E.told err.new) (E.faults err.old) (E.faults err.new) }
+    ensures { Puts result bytes.now (E.told err.old) (E.told err.new) (E.faults err.old) (E.faults err.new) }
 {
-    put_whole(err, bytes)
+    put_all(err, bytes)
 }
 
 /// Puts bytes, all of them where the sink does not fail.
@@ -102,71 +103,103 @@ pub(crate) fn put_whole<E: Sink>(err: &mut E, bytes: &[u8]) -> Result<(), SinkFa
     put_all(err, bytes)
 }
 
+/// Puts a text.
+pub(crate) fn put_text<E: Sink>(err: &mut E, text: &str) -> Result<(), SinkFault>
+    ensures { Puts result text.now (E.told err.old) (E.told err.new) (E.faults err.old) (E.faults err.new) }
+{
+    put(err, text.as_bytes())
+}
+
 /// Puts a number in decimal.
 fn put_number<E: Sink>(err: &mut E, number: u64) -> Result<(), SinkFault>
-    ensures { Adds (E.told err.old) (E.told err.new) (E.faults err.old) (E.faults err.new) }
+    ensures { Puts result (decimal number) (E.told err.old) (E.told err.new) (E.faults err.old) (E.faults err.new) }
 {
     let mut buffer = itoa::Buffer::new();
     put(err, buffer.format(number).as_bytes())
 }
 
+/// Puts some words, and a number in decimal behind them.
+pub(crate) fn put_counted<E: Sink>(
+    err: &mut E,
+    words: &[u8],
+    number: u64,
+) -> Result<(), SinkFault>
+    ensures { Puts result (counted words.now number) (E.told err.old) (E.told err.new) (E.faults err.old) (E.faults err.new) }
+{
+    put(err, words)?;
+    put_number(err, number)
+}
+
+/// Puts some words and a number, more words and another number, and a line feed.
+fn put_twice_counted<E: Sink>(
+    err: &mut E,
+    words: &[u8],
+    number: u64,
+    more: &[u8],
+    other: u64,
+) -> Result<(), SinkFault>
+    ensures { Puts result (twice_counted words.now number more.now other) (E.told err.old) (E.told err.new) (E.faults err.old) (E.faults err.new) }
+{
+    put_counted(err, words, number)?;
+    put_counted(err, more, other)?;
+    put(err, b"\n")
+}
+
 /// Puts the place and the code of a fault of the source.
 fn put_source_line<E: Sink>(err: &mut E, code: u32, line: u32, column: u32) -> Result<(), SinkFault>
-    ensures { Adds (E.told err.old) (E.told err.new) (E.faults err.old) (E.faults err.new) }
+    ensures { Puts result (status_line (Status.Source code line column)) (E.told err.old) (E.told err.new) (E.faults err.old) (E.faults err.new) }
 {
-    put(err, b"source S")?;
-    put_number(err, u64::from(code))?;
-    put(err, b" at ")?;
-    put_number(err, u64::from(line))?;
-    put(err, b":")?;
-    put_number(err, u64::from(column))?;
-    put(err, b"\n")
+    put_counted(err, b"source S", u64::from(code))?;
+    put_twice_counted(err, b" at ", u64::from(line), b":", u64::from(column))
 }
 
 /// Puts the number of a limit and the count that is over it.
 fn put_limit_line<E: Sink>(err: &mut E, number: u32, count: u64) -> Result<(), SinkFault>
-    ensures { Adds (E.told err.old) (E.told err.new) (E.faults err.old) (E.faults err.new) }
+    ensures { Puts result (status_line (Status.Limit number count)) (E.told err.old) (E.told err.new) (E.faults err.old) (E.faults err.new) }
 {
-    put(err, b"limit L")?;
-    put_number(err, u64::from(number))?;
-    put(err, b" at ")?;
-    put_number(err, count)?;
-    put(err, b"\n")
+    put_twice_counted(err, b"limit L", u64::from(number), b" at ", count)
 }
 
-/// Puts a blank and the name of a field, where there is a field.
+/// Puts a blank and the name of a field.
+fn put_field_name<E: Sink>(err: &mut E, field: u32) -> Result<(), SinkFault>
+    ensures { Puts result (codes " " ++ name_of field) (E.told err.old) (E.told err.new) (E.faults err.old) (E.faults err.new) }
+{
+    put(err, b" ")?;
+    put_text(err, field_name(field))
+}
+
+/// The same where there is a field.
 fn put_field<E: Sink>(err: &mut E, field: u32) -> Result<(), SinkFault>
-    ensures { Adds (E.told err.old) (E.told err.new) (E.faults err.old) (E.faults err.new) }
+    ensures { Puts result (field_words field) (E.told err.old) (E.told err.new) (E.faults err.old) (E.faults err.new) }
 {
     if field == 0 {
-        return Ok(());
+        Ok(())
+    } else {
+        put_field_name(err, field)
     }
-    put(err, b" ")?;
-    put(err, field_name(field).as_bytes())
 }
 
 /// Puts the code of a fault of a description, and the name of its field where it has one.
 fn put_machine_line<E: Sink>(err: &mut E, code: u32, field: u32) -> Result<(), SinkFault>
-    ensures { Adds (E.told err.old) (E.told err.new) (E.faults err.old) (E.faults err.new) }
+    ensures { Puts result (status_line (Status.Machine code field)) (E.told err.old) (E.told err.new) (E.faults err.old) (E.faults err.new) }
 {
-    put(err, b"machine M")?;
-    put_number(err, u64::from(code))?;
+    put_counted(err, b"machine M", u64::from(code))?;
     put_field(err, field)?;
     put(err, b"\n")
 }
 
 /// Puts some words, the name of a role, and a line feed.
 fn put_role_line<E: Sink>(err: &mut E, words: &[u8], role: Role) -> Result<(), SinkFault>
-    ensures { Adds (E.told err.old) (E.told err.new) (E.faults err.old) (E.faults err.new) }
+    ensures { Puts result (words.now ++ role_name role ++ 10 ∷ []) (E.told err.old) (E.told err.new) (E.faults err.old) (E.faults err.new) }
 {
     put(err, words)?;
-    put(err, role_name(role).as_bytes())?;
+    put_text(err, role_name(role))?;
     put(err, b"\n")
 }
 
 /// Puts the number and the word of a trap.
 fn put_trap_line<E: Sink>(err: &mut E, trap: Trap) -> Result<(), SinkFault>
-    ensures { Adds (E.told err.old) (E.told err.new) (E.faults err.old) (E.faults err.new) }
+    ensures { Puts result (trap_line trap) (E.told err.old) (E.told err.new) (E.faults err.old) (E.faults err.new) }
 {
     match trap {
         Trap::Divide => put(err, b"trap 1 divide\n"),
@@ -178,37 +211,42 @@ fn put_trap_line<E: Sink>(err: &mut E, trap: Trap) -> Result<(), SinkFault>
 
 /// Puts the code of a fault of a text of words, and its line.
 fn put_words_line<E: Sink>(err: &mut E, code: u32, line: u32) -> Result<(), SinkFault>
-    ensures { Adds (E.told err.old) (E.told err.new) (E.faults err.old) (E.faults err.new) }
+    ensures { Puts result (status_line (Status.Words code line)) (E.told err.old) (E.told err.new) (E.faults err.old) (E.faults err.new) }
 {
-    put(err, b"words V")?;
-    put_number(err, u64::from(code))?;
-    put(err, b" at line ")?;
-    put_number(err, u64::from(line))?;
-    put(err, b"\n")
+    put_twice_counted(
+        err,
+        b"words V",
+        u64::from(code),
+        b" at line ",
+        u64::from(line),
+    )
 }
 
 /// Puts the code of a fault of a profile, and its line.
 fn put_profile_line<E: Sink>(err: &mut E, code: u32, line: u32) -> Result<(), SinkFault>
-    ensures { Adds (E.told err.old) (E.told err.new) (E.faults err.old) (E.faults err.new) }
+    ensures { Puts result (status_line (Status.Profile code line)) (E.told err.old) (E.told err.new) (E.faults err.old) (E.faults err.new) }
 {
-    put(err, b"profile P")?;
-    put_number(err, u64::from(code))?;
-    put(err, b" at line ")?;
-    put_number(err, u64::from(line))?;
-    put(err, b"\n")
+    put_twice_counted(
+        err,
+        b"profile P",
+        u64::from(code),
+        b" at line ",
+        u64::from(line),
+    )
 }
 
 /// Puts the place of a bad word of an input's text.
 fn put_input_line<E: Sink>(err: &mut E, place: u32) -> Result<(), SinkFault>
-    ensures { Adds (E.told err.old) (E.told err.new) (E.faults err.old) (E.faults err.new) }
+    ensures { Puts result (status_line (Status.Input place)) (E.told err.old) (E.told err.new) (E.faults err.old) (E.faults err.new) }
 {
-    put(err, b"input at ")?;
-    put_number(err, u64::from(place))?;
+    put_counted(err, b"input at ", u64::from(place))?;
     put(err, b"\n")
 }
 
 /// The words of a reason in a line.
-fn reason_name(reason: Reason) -> &'static str {
+fn reason_name(reason: Reason) -> &'static str
+    ensures { result.now ≡ reason_name reason }
+{
     match reason {
         Reason::BadTarget => "bad target",
         Reason::BadWord => "bad word",
@@ -220,18 +258,17 @@ fn reason_name(reason: Reason) -> &'static str {
 
 /// Puts why a word is stuck, and its place.
 fn put_stuck_line<E: Sink>(err: &mut E, reason: Reason, place: u32) -> Result<(), SinkFault>
-    ensures { Adds (E.told err.old) (E.told err.new) (E.faults err.old) (E.faults err.new) }
+    ensures { Puts result (status_line (Status.Stuck reason place)) (E.told err.old) (E.told err.new) (E.faults err.old) (E.faults err.new) }
 {
     put(err, b"stuck ")?;
-    put(err, reason_name(reason).as_bytes())?;
-    put(err, b" at word ")?;
-    put_number(err, u64::from(place))?;
+    put_text(err, reason_name(reason))?;
+    put_counted(err, b" at word ", u64::from(place))?;
     put(err, b"\n")
 }
 
 /// Puts the line of a status. A command that is done has none here: what it puts is its own.
 pub fn put_line<E: Sink>(err: &mut E, status: Status) -> Result<(), SinkFault>
-    ensures { Adds (E.told err.old) (E.told err.new) (E.faults err.old) (E.faults err.new) }
+    ensures { Puts result (status_line status) (E.told err.old) (E.told err.new) (E.faults err.old) (E.faults err.new) }
 {
     match status {
         Status::Done => Ok(()),
@@ -255,6 +292,7 @@ pub fn put_line<E: Sink>(err: &mut E, status: Status) -> Result<(), SinkFault>
 /// Puts the line of a status, and answers the status whether the line could be put or not.
 pub fn tell<E: Sink>(err: &mut E, status: Status) -> Status
     ensures same { result ≡ status }
+    ensures tells { Tells (status_line result) (E.told err.old) (E.told err.new) (E.faults err.old) (E.faults err.new) }
     ensures adds { Adds (E.told err.old) (E.told err.new) (E.faults err.old) (E.faults err.new) }
 {
     let _ = put_line(err, status);

@@ -1,12 +1,12 @@
 // The top call: from the words of a command line to its answer.
 
-ghost use Rattle.std.specs.Prelude.{◌≡◌, ◌≤◌, ◌∷◌, List, false, map, string_bytes, IfOk};
-ghost use Rattle.vx_driver.specs.Status.{Appends, Adds};
-ghost use Rattle.vx_driver.specs.Command.{command_of, command_named, compile_of, sim_of, exec_of, profile_of, soak_of};
+ghost use Rattle.std.specs.Prelude.{◌≡◌, ◌≤◌, ◌∷◌, ℕ, List, Option, false, map, string_bytes, IfOk};
+ghost use Rattle.vx_driver.specs.Status.{Appends, Adds, Tells, status_line};
+ghost use Rattle.vx_driver.specs.Command.{command_of, command_named, is_command, names_command, compile_of, sim_of, exec_of, profile_of, soak_of};
 ghost use Rattle.vx_driver.specs.Answers.{effect_of};
 ghost use Rattle.vx_driver.specs.Simulated.{Streams, streams_of};
 ghost use Rattle.vx_driver.specs.Boxes.{Boxes};
-ghost use Rattle.vx_driver.specs.Commands.{Answers, Completes, puts_output};
+ghost use Rattle.vx_driver.specs.Commands.{Answers, Completes, TellsLine, puts_output};
 
 use crate::command::{asked_of, refuse};
 use crate::compiling::compile;
@@ -47,6 +47,7 @@ fn perform_compile<D: Depot, E: Sink>(
     err: &mut E,
 ) -> Status
     ensures answers { ((boxes : Boxes) (streams : Streams) → Answers (compile_of (map (λ w. w.now) words.now)) boxes (effect_of D.files D.failed_reads D.failed_replaces depot.old depot.new) streams result) }
+    ensures line { ((boxes : Boxes) (before after : Option (List ℕ)) (faults faults' : ℕ) → TellsLine (compile_of (map (λ w. w.now) words.now)) boxes (record { out_before = before; out_after = after; out_faults_before = faults; out_faults_after = faults'; err_before = E.told err.old; err_after = E.told err.new; err_faults_before = E.faults err.old; err_faults_after = E.faults err.new }) result) }
     ensures adds { Adds (E.told err.old) (E.told err.new) (E.faults err.old) (E.faults err.new) }
     ensures reads_never_fall { D.failed_reads depot.old ≤ D.failed_reads depot.new }
     ensures replaces_never_fall { D.failed_replaces depot.old ≤ D.failed_replaces depot.new }
@@ -71,6 +72,7 @@ fn perform_sim<D: Depot, K: Sink, E: Sink>(
     timings: Vec<Box<dyn Timing>>,
 ) -> Status
     ensures answers { Answers (sim_of (map (λ w. w.now) words.now)) (record { probes = map (λ b. record { name = (⟦<dyn Probe as Probe>⟧ b.vtable).called b.value; watch = watch b }) probes.items; timings = map (λ b. record { name = (⟦<dyn Timing as Timing>⟧ b.vtable).called b.value; times = times b }) timings.items }) (effect_of D.files D.failed_reads D.failed_replaces depot.old depot.new) (streams_of K.told K.faults E.told E.faults out.old out.new err.old err.new) result }
+    ensures line { TellsLine (sim_of (map (λ w. w.now) words.now)) (record { probes = map (λ b. record { name = (⟦<dyn Probe as Probe>⟧ b.vtable).called b.value; watch = watch b }) probes.items; timings = map (λ b. record { name = (⟦<dyn Timing as Timing>⟧ b.vtable).called b.value; times = times b }) timings.items }) (streams_of K.told K.faults E.told E.faults out.old out.new err.old err.new) result }
     ensures adds { Adds (E.told err.old) (E.told err.new) (E.faults err.old) (E.faults err.new) }
     ensures nothing { puts_output (sim_of (map (λ w. w.now) words.now)) result ≡ false → K.told out.new ≡ K.told out.old }
     ensures reads_never_fall { D.failed_reads depot.old ≤ D.failed_reads depot.new }
@@ -94,6 +96,7 @@ fn perform_exec<D: Depot, K: Sink, E: Sink>(
     timings: Vec<Box<dyn Timing>>,
 ) -> Status
     ensures answers { Answers (exec_of (map (λ w. w.now) words.now)) (record { probes = map (λ b. record { name = (⟦<dyn Probe as Probe>⟧ b.vtable).called b.value; watch = watch b }) probes.items; timings = map (λ b. record { name = (⟦<dyn Timing as Timing>⟧ b.vtable).called b.value; times = times b }) timings.items }) (effect_of D.files D.failed_reads D.failed_replaces depot.old depot.new) (streams_of K.told K.faults E.told E.faults out.old out.new err.old err.new) result }
+    ensures line { TellsLine (exec_of (map (λ w. w.now) words.now)) (record { probes = map (λ b. record { name = (⟦<dyn Probe as Probe>⟧ b.vtable).called b.value; watch = watch b }) probes.items; timings = map (λ b. record { name = (⟦<dyn Timing as Timing>⟧ b.vtable).called b.value; times = times b }) timings.items }) (streams_of K.told K.faults E.told E.faults out.old out.new err.old err.new) result }
     ensures adds { Adds (E.told err.old) (E.told err.new) (E.faults err.old) (E.faults err.new) }
     ensures nothing { puts_output (exec_of (map (λ w. w.now) words.now)) result ≡ false → K.told out.new ≡ K.told out.old }
     ensures reads_never_fall { D.failed_reads depot.old ≤ D.failed_reads depot.new }
@@ -115,6 +118,7 @@ fn perform_profile<D: Depot, K: Sink, E: Sink>(
     err: &mut E,
 ) -> Status
     ensures answers { ((boxes : Boxes) → Answers (profile_of (map (λ w. w.now) words.now)) boxes (effect_of D.files D.failed_reads D.failed_replaces depot.old depot.new) (streams_of K.told K.faults E.told E.faults out.old out.new err.old err.new) result) }
+    ensures line { ((boxes : Boxes) → TellsLine (profile_of (map (λ w. w.now) words.now)) boxes (streams_of K.told K.faults E.told E.faults out.old out.new err.old err.new) result) }
     ensures adds { Adds (E.told err.old) (E.told err.new) (E.faults err.old) (E.faults err.new) }
     ensures nothing { puts_output (profile_of (map (λ w. w.now) words.now)) result ≡ false → K.told out.new ≡ K.told out.old }
     ensures reads_never_fall { D.failed_reads depot.old ≤ D.failed_reads depot.new }
@@ -138,6 +142,7 @@ fn perform_soak<D: Depot, K: Sink, E: Sink>(
     timings: Vec<Box<dyn Timing>>,
 ) -> Status
     ensures answers { Answers (soak_of (map (λ w. w.now) words.now)) (record { probes = map (λ b. record { name = (⟦<dyn Probe as Probe>⟧ b.vtable).called b.value; watch = watch b }) probes.items; timings = map (λ b. record { name = (⟦<dyn Timing as Timing>⟧ b.vtable).called b.value; times = times b }) timings.items }) (effect_of D.files D.failed_reads D.failed_replaces depot.old depot.new) (streams_of K.told K.faults E.told E.faults out.old out.new err.old err.new) result }
+    ensures line { TellsLine (soak_of (map (λ w. w.now) words.now)) (record { probes = map (λ b. record { name = (⟦<dyn Probe as Probe>⟧ b.vtable).called b.value; watch = watch b }) probes.items; timings = map (λ b. record { name = (⟦<dyn Timing as Timing>⟧ b.vtable).called b.value; times = times b }) timings.items }) (streams_of K.told K.faults E.told E.faults out.old out.new err.old err.new) result }
     ensures adds { Adds (E.told err.old) (E.told err.new) (E.faults err.old) (E.faults err.new) }
     ensures nothing { puts_output (soak_of (map (λ w. w.now) words.now)) result ≡ false → K.told out.new ≡ K.told out.old }
     ensures reads_never_fall { D.failed_reads depot.old ≤ D.failed_reads depot.new }
@@ -162,6 +167,8 @@ fn perform_named<D: Depot, K: Sink, E: Sink>(
     timings: Vec<Box<dyn Timing>>,
 ) -> Status
     ensures answers { Answers (command_named name.now (map (λ w. w.now) words.now)) (record { probes = map (λ b. record { name = (⟦<dyn Probe as Probe>⟧ b.vtable).called b.value; watch = watch b }) probes.items; timings = map (λ b. record { name = (⟦<dyn Timing as Timing>⟧ b.vtable).called b.value; times = times b }) timings.items }) (effect_of D.files D.failed_reads D.failed_replaces depot.old depot.new) (streams_of K.told K.faults E.told E.faults out.old out.new err.old err.new) result }
+    ensures line { TellsLine (command_named name.now (map (λ w. w.now) words.now)) (record { probes = map (λ b. record { name = (⟦<dyn Probe as Probe>⟧ b.vtable).called b.value; watch = watch b }) probes.items; timings = map (λ b. record { name = (⟦<dyn Timing as Timing>⟧ b.vtable).called b.value; times = times b }) timings.items }) (streams_of K.told K.faults E.told E.faults out.old out.new err.old err.new) result }
+    ensures no_command { is_command name.now ≡ false → Tells (status_line result) (E.told err.old) (E.told err.new) (E.faults err.old) (E.faults err.new) }
     ensures adds { Adds (E.told err.old) (E.told err.new) (E.faults err.old) (E.faults err.new) }
     ensures nothing { puts_output (command_named name.now (map (λ w. w.now) words.now)) result ≡ false → K.told out.new ≡ K.told out.old }
     ensures reads_never_fall { D.failed_reads depot.old ≤ D.failed_reads depot.new }
@@ -194,8 +201,10 @@ fn perform<D: Depot, K: Sink, E: Sink>(
     timings: Vec<Box<dyn Timing>>,
 ) -> Status
     ensures answers { Answers (command_of (map string_bytes words.now)) (record { probes = map (λ b. record { name = (⟦<dyn Probe as Probe>⟧ b.vtable).called b.value; watch = watch b }) probes.items; timings = map (λ b. record { name = (⟦<dyn Timing as Timing>⟧ b.vtable).called b.value; times = times b }) timings.items }) (effect_of D.files D.failed_reads D.failed_replaces depot.old depot.new) (streams_of K.told K.faults E.told E.faults out.old out.new err.old err.new) result }
+    ensures line { TellsLine (command_of (map string_bytes words.now)) (record { probes = map (λ b. record { name = (⟦<dyn Probe as Probe>⟧ b.vtable).called b.value; watch = watch b }) probes.items; timings = map (λ b. record { name = (⟦<dyn Timing as Timing>⟧ b.vtable).called b.value; times = times b }) timings.items }) (streams_of K.told K.faults E.told E.faults out.old out.new err.old err.new) result }
 
     ensures nothing_on_out { puts_output (command_of (map string_bytes words.now)) result ≡ false → K.told out.new ≡ K.told out.old }
+    ensures no_command { names_command (map string_bytes words.now) ≡ false → Tells (status_line result) (E.told err.old) (E.told err.new) (E.faults err.old) (E.faults err.new) }
     ensures adds { Adds (E.told err.old) (E.told err.new) (E.faults err.old) (E.faults err.new) }
     ensures reads_never_fall { D.failed_reads depot.old ≤ D.failed_reads depot.new }
     ensures replaces_never_fall { D.failed_replaces depot.old ≤ D.failed_replaces depot.new }
@@ -239,6 +248,12 @@ pub fn vexc<D: Depot, K: Sink, E: Sink>(
 
     // Only a run puts anything on `out`, its output, its counts or its summary.
     ensures nothing_on_out { puts_output (command_of (map string_bytes words.now)) result ≡ false → K.told out.new ≡ K.told out.old }
+
+    // `err` gains the line of the status, and only a front of it where a put fails.
+    ensures line { TellsLine (command_of (map string_bytes words.now)) (record { probes = map (λ b. record { name = (⟦<dyn Probe as Probe>⟧ b.vtable).called b.value; watch = watch b }) probes.items; timings = map (λ b. record { name = (⟦<dyn Timing as Timing>⟧ b.vtable).called b.value; times = times b }) timings.items }) (streams_of K.told K.faults E.told E.faults out.old out.new err.old err.new) result }
+
+    // Where the second word names no command, that is its line: `no command`, or `no memory`.
+    ensures no_command { names_command (map string_bytes words.now) ≡ false → Tells (status_line result) (E.told err.old) (E.told err.new) (E.faults err.old) (E.faults err.new) }
     ensures line_on_err { Appends (E.told err.old) (E.told err.new) }
 
     // No count of failures falls.

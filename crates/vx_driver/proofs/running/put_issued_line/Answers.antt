@@ -1,9 +1,10 @@
--- The pieces of the line, one behind the other.
-use Rattle.vx_driver.proofs.Appending.{appends_on}
+-- The pieces of a line, one behind the other.
+use Rattle.std.proofs.Common.{◌∷◌, []}
+use Rattle.vx_driver.proofs.Appending.{cut_before, fails, puts_behind}
 use Rattle.vx_driver.proofs.running.put_issued_line.Goals as goal
 
-pub returns-in_err-put_whole-2-clause-adds : goal.returns-in_err-put_whole-2-clause-adds
-returns-in_err-put_whole-2-clause-adds g c = appends_on c.put_whole.ensures.adds c.put_whole-2.ensures.adds
+pub returns-in_err-put_counted : goal.returns-in_err-put_counted
+returns-in_err-put_counted g c = fails _ _ c.from_residual.ensures.0 (cut_before _ (10 ∷ []) c.in_err-put_counted.ensures)
 
-pub returns-clause-adds : goal.returns-clause-adds
-returns-clause-adds g c = appends_on c.put_whole.ensures.adds (appends_on c.put_whole-2.ensures.adds c.put_whole-3.ensures.adds)
+pub returns : goal.returns
+returns g c = puts_behind _ _ _ c.in_ok-put_counted.ensures c.put.ensures

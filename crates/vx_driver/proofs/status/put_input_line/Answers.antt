@@ -1,9 +1,10 @@
 -- The pieces of a line, one behind the other.
-use Rattle.vx_driver.proofs.Appending.{appends_on}
+use Rattle.std.proofs.Common.{◌∷◌, []}
+use Rattle.vx_driver.proofs.Appending.{cut_before, fails, puts_behind}
 use Rattle.vx_driver.proofs.status.put_input_line.Goals as goal
 
-pub returns-in_err-put_number : goal.returns-in_err-put_number
-returns-in_err-put_number g c = appends_on c.put.ensures c.put_number.ensures
+pub returns-in_err-put_counted : goal.returns-in_err-put_counted
+returns-in_err-put_counted g c = rw c.from.ensures at (fails _ _ c.from_residual.ensures.0 (cut_before _ (10 ∷ []) c.in_err-put_counted.ensures))
 
 pub returns : goal.returns
-returns g c = appends_on c.put.ensures (appends_on c.put_number.ensures c.put-2.ensures)
+returns g c = rw c.from.ensures at (puts_behind _ _ _ c.in_ok-put_counted.ensures c.put.ensures)

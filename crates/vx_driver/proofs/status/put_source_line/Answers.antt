@@ -1,24 +1,11 @@
 -- The pieces of a line, one behind the other.
-use Rattle.vx_driver.proofs.Appending.{appends_on}
+use Rattle.std.specs.Prelude.{codes}
+use Rattle.vx_driver.specs.Status.{twice_counted}
+use Rattle.vx_driver.proofs.Appending.{cut_before, fails, puts_behind}
 use Rattle.vx_driver.proofs.status.put_source_line.Goals as goal
 
-pub returns-in_err-put_number : goal.returns-in_err-put_number
-returns-in_err-put_number g c = appends_on c.put.ensures c.put_number.ensures
-
-pub returns-in_err-put-2 : goal.returns-in_err-put-2
-returns-in_err-put-2 g c = appends_on c.put.ensures (appends_on c.put_number.ensures c.put-2.ensures)
-
-pub returns-in_err-put_number-2 : goal.returns-in_err-put_number-2
-returns-in_err-put_number-2 g c = appends_on c.put.ensures (appends_on c.put_number.ensures (appends_on c.put-2.ensures c.put_number-2.ensures))
-
-pub returns-in_err-put-3 : goal.returns-in_err-put-3
-returns-in_err-put-3 g c = appends_on c.put.ensures (appends_on c.put_number.ensures (appends_on c.put-2.ensures (appends_on c.put_number-2.ensures c.put-3.ensures)))
-
-pub returns-in_err-put_number-3 : goal.returns-in_err-put_number-3
-returns-in_err-put_number-3 g c =
-    appends_on c.put.ensures (appends_on c.put_number.ensures (appends_on c.put-2.ensures (appends_on c.put_number-2.ensures (appends_on c.put-3.ensures c.put_number-3.ensures))))
+pub returns-in_err-put_counted : goal.returns-in_err-put_counted
+returns-in_err-put_counted g c = rw c.from.ensures at (fails _ _ c.from_residual.ensures.0 (cut_before _ (twice_counted (codes " at ") c.args.line (codes ":") c.args.column) c.in_err-put_counted.ensures))
 
 pub returns : goal.returns
-returns g c =
-    appends_on c.put.ensures
-    (appends_on c.put_number.ensures (appends_on c.put-2.ensures (appends_on c.put_number-2.ensures (appends_on c.put-3.ensures (appends_on c.put_number-3.ensures c.put-4.ensures)))))
+returns g c = rw (c.from.ensures, c.from-2.ensures, c.from-3.ensures) at (puts_behind _ _ _ c.in_ok-put_counted.ensures c.put_twice_counted.ensures)

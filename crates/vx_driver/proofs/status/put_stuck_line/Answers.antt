@@ -1,15 +1,18 @@
 -- The pieces of a line, one behind the other.
-use Rattle.vx_driver.proofs.Appending.{appends_on}
+use Rattle.std.proofs.Common.{◌∷◌, []}
+use Rattle.std.specs.Prelude.{codes}
+use Rattle.vx_driver.specs.Status.{counted, reason_name}
+use Rattle.vx_driver.proofs.Appending.{cut_before, fails, puts_behind}
 use Rattle.vx_driver.proofs.status.put_stuck_line.Goals as goal
 
-pub returns-in_err-put-2 : goal.returns-in_err-put-2
-returns-in_err-put-2 g c = appends_on c.put.ensures c.put-2.ensures
+pub returns-in_err-put : goal.returns-in_err-put
+returns-in_err-put g c = fails _ _ c.from_residual.ensures.0 (cut_before _ (10 ∷ []) (cut_before _ (counted (codes " at word ") c.args.place) (cut_before _ (reason_name c.args.reason) c.in_err-put.ensures)))
 
-pub returns-in_err-put-3 : goal.returns-in_err-put-3
-returns-in_err-put-3 g c = appends_on c.put.ensures (appends_on c.put-2.ensures c.put-3.ensures)
+pub returns-in_err-put_text : goal.returns-in_err-put_text
+returns-in_err-put_text g c = rw c.reason_name.ensures at (fails _ _ c.from_residual-in_err-put_text.ensures.0 (cut_before _ (10 ∷ []) (cut_before _ (counted (codes " at word ") c.args.place) (puts_behind _ _ _ c.in_ok-put.ensures c.in_err-put_text.ensures))))
 
-pub returns-in_err-put_number : goal.returns-in_err-put_number
-returns-in_err-put_number g c = appends_on c.put.ensures (appends_on c.put-2.ensures (appends_on c.put-3.ensures c.put_number.ensures))
+pub returns-in_err-put_counted : goal.returns-in_err-put_counted
+returns-in_err-put_counted g c = rw (c.reason_name.ensures, c.from.ensures) at (fails _ _ c.from_residual-in_err-put_counted.ensures.0 (cut_before _ (10 ∷ []) (puts_behind _ _ _ (puts_behind _ _ _ c.in_ok-put.ensures c.in_ok-put_text.ensures) c.in_err-put_counted.ensures)))
 
 pub returns : goal.returns
-returns g c = appends_on c.put.ensures (appends_on c.put-2.ensures (appends_on c.put-3.ensures (appends_on c.put_number.ensures c.put-4.ensures)))
+returns g c = rw (c.reason_name.ensures, c.from.ensures) at (puts_behind _ _ _ (puts_behind _ _ _ (puts_behind _ _ _ c.in_ok-put.ensures c.in_ok-put_text.ensures) c.in_ok-put_counted.ensures) c.put-2.ensures)

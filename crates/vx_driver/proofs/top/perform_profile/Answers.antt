@@ -1,6 +1,7 @@
 -- What the words ask for is done, or they are refused.
 use Rattle.std.proofs.Common.{refl}
 use Rattle.vx_driver.proofs.Runs.{refused_answers}
+use Rattle.vx_driver.proofs.Telling.{refused_line}
 use Rattle.vx_driver.proofs.top.perform_profile.Goals as goal
 
 pub returns-in-Ok-clause-answers : goal.returns-in-Ok-clause-answers
@@ -8,3 +9,9 @@ returns-in-Ok-clause-answers g c = λ boxes. rw c.in-Ok.ensures.asked c.profile.
 
 pub returns-in-Err-clause-answers : goal.returns-in-Err-clause-answers
 returns-in-Err-clause-answers g c = λ boxes. refused_answers _ boxes _ _ _ refl (rw c.refuse.ensures.same c.in-Err.ensures.refused)
+
+pub returns-in-Ok-clause-line : goal.returns-in-Ok-clause-line
+returns-in-Ok-clause-line g c = λ boxes. rw c.in-Ok.ensures.asked c.profile.ensures.tells
+
+pub returns-in-Err-clause-line : goal.returns-in-Err-clause-line
+returns-in-Err-clause-line g c = λ boxes. refused_line _ boxes _ _ (rw c.refuse.ensures.same c.in-Err.ensures.refused) c.refuse.ensures.tells

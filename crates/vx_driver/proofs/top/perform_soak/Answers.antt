@@ -7,3 +7,6 @@ pub returns-in-Ok-clause-answers : goal.returns-in-Ok-clause-answers
 returns-in-Ok-clause-answers g c =
     rw c.in-Ok.ensures.asked (c.soak.ensures.answers (effect_of g.D.Depot.files g.D.Depot.failed_reads g.D.Depot.failed_replaces c.args.depot.now c.args.depot.now)
     (map (λ b. record { name = (goal.Probe-dyn g (b.vtable, b.value)).called b.value; watch = (goal.Probe-dyn g (b.vtable, b.value)).watch b.value }) c.args.probes.items) refl)
+
+pub returns-in-Ok-clause-line : goal.returns-in-Ok-clause-line
+returns-in-Ok-clause-line g c = rw c.in-Ok.ensures.asked (c.soak.ensures.line (map (λ b. record { name = (goal.Probe-dyn g (b.vtable, b.value)).called b.value; watch = (goal.Probe-dyn g (b.vtable, b.value)).watch b.value }) c.args.probes.items))
