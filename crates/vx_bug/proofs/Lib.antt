@@ -1,7 +1,7 @@
 pub mod Named
 pub mod Visiting
 pub mod Giving
-pub mod Counted
+pub mod ByCycle
 pub mod FirstCycle
 pub mod Latest
 pub mod Sourced

@@ -8,6 +8,7 @@ ghost use Rattle.vx_bug.specs.Assigned.{Assigned};
 ghost use Rattle.vx_bug.specs.Further.{IsHoused, ChosenAreThere, HomesAreThere, HomesStay, AcrossHasHome, RoomForEach};
 ghost use Rattle.vx_bug.specs.CanAssign.{BoundAtHome, FixedAtHome, FixedReadsHere, ClustersAreThere, ValuesAreThere, CopiesHaveNumbers, IsWellFormed};
 
+use crate::booked::Booked;
 use crate::choosing::take_turns;
 use crate::clusters::Clusters;
 use crate::housing::house_copies;
@@ -94,6 +95,6 @@ fn first_ledger(alloc: Global, homes: &Homes) -> Result<Ledger, NoMemory>
     table.extend_from_slice(homes.clusters.as_slice())?;
     Ok(Ledger {
         homes: table,
-        bookings: Vec::new(alloc),
+        booked: Booked::nothing(alloc),
     })
 }

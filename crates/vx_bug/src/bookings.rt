@@ -1,12 +1,14 @@
 // Bookings: which operations have a cluster, with the issue slots and units that they take there, and the first cycle in
 // which a slot and a unit are left. specs/Ledgers.antt says the same.
 
-ghost use Rattle.std.specs.Prelude.{◌≡◌, ◌<◌, ◌+◌, [], ◌∷◌, ℕ, IfOk, OnOk, length, nat_lt, slice_index_or};
+ghost use Rattle.std.specs.Prelude.{◌≡◌, IfOk, length, nat_lt, count_by};
 ghost use Rattle.vx_isa.specs.Operations.{same_unit};
+ghost use Rattle.vx_bug.specs.Booked.{row_at};
 ghost use Rattle.vx_bug.specs.Clusters.{estimate_in, units_of, counts_at, is_free, first_free};
-ghost use Rattle.vx_bug.specs.Ledgers.{takes, taken, AreTaken, is_open};
+ghost use Rattle.vx_bug.specs.Ledgers.{takes, is_left};
 
-use std::alloc::Global;
+use crate::booked::{Booked, row_at, rows_from};
+use vx_base::listed::Listed;
 use vx_base::outcome::NoMemory;
 use vx_isa::operation::UnitKind;
 use vx_machine::Machine;
@@ -55,40 +57,38 @@ pub(crate) fn estimate_in(bookings: &[Booking], place: u32) -> u32
 
 /// The first cycle from one on in which an issue slot of the cluster and a unit are not booked. A cycle past `u64` is want
 /// of memory.
-#[tactic(auto, using(crate::proofs::Counted::first_open_free))]
+#[tactic(auto, using(crate::proofs::ByCycle::first_open_free))]
 pub(crate) fn free_cycle(
-    alloc: Global,
     machine: &Machine,
-    bookings: &[Booking],
+    booked: &Booked,
     cluster: u32,
     unit: UnitKind,
     from: u64,
 ) -> Result<u64, NoMemory>
-    ensures { IfOk result (λ cycle. cycle ≡ first_free (length bookings.now) (is_free machine.now bookings.now cluster unit) from) }
+    ensures { IfOk result (λ cycle. cycle ≡ first_free (length booked.now.bookings.items) (is_free machine.now booked.now.bookings.items cluster unit) from) }
 {
-    let slots = counts(alloc, bookings, cluster, Resource::IssueSlot, from)?;
-    let units = counts(alloc, bookings, cluster, Resource::UnitOf(unit), from)?;
-    let wait = first_open(
-        machine.issue(),
-        units_of(machine, unit),
-        slots.as_slice(),
-        units.as_slice(),
-    );
+    let rows = rows_from(booked.rows.as_slice(), from);
+    let wait = first_open(machine, rows, booked.bookings.len(), cluster, unit);
     match from.checked_add(wait as u64) {
         Some(cycle) => Ok(cycle),
         None => Err(NoMemory),
     }
 }
 
-/// How many cycles behind the first one a slot and a unit are left.
-#[tactic(auto, using(crate::proofs::Counted::first_passed, crate::proofs::Counted::first_found, crate::proofs::Counted::first_last))]
-fn first_open(issue: u32, there: u32, slots: &[usize], units: &[usize]) -> usize
-    requires { length units.now ≡ length slots.now }
-    ensures { result ≡ first_free (length slots.now) (is_open issue there slots.now units.now) 0 }
+/// How many cycles behind the first one a slot and a unit are left, at most so many.
+#[tactic(auto, using(crate::proofs::ByCycle::first_passed, crate::proofs::ByCycle::first_found, crate::proofs::ByCycle::first_last))]
+fn first_open(
+    machine: &Machine,
+    rows: &[Listed<Booking>],
+    most: usize,
+    cluster: u32,
+    unit: UnitKind,
+) -> usize
+    ensures { result ≡ first_free most (λ wait. is_left machine.now cluster unit (row_at rows.now wait)) 0 }
 {
     let mut wait = 0;
-    'wait: while wait < slots.len() {
-        if is_open(issue, there, slots, units, wait) {
+    'wait: while wait < most {
+        if are_left(machine, cluster, unit, row_at(rows, wait)) {
             return wait;
         }
         wait += 1;
@@ -96,12 +96,24 @@ fn first_open(issue: u32, there: u32, slots: &[usize], units: &[usize]) -> usize
     wait
 }
 
-fn is_open(issue: u32, there: u32, slots: &[usize], units: &[usize], wait: usize) -> bool
-    requires slots { wait < length slots.now }
-    requires units { wait < length units.now }
-    ensures { result ≡ is_open issue there slots.now units.now wait }
+/// Whether the bookings of a cycle leave a slot of the cluster and a unit.
+fn are_left(machine: &Machine, cluster: u32, unit: UnitKind, row: &[Booking]) -> bool
+    ensures { result ≡ is_left machine.now cluster unit row.now }
 {
-    is_left(slots[wait], issue) && is_left(units[wait], there)
+    is_left(taking(row, cluster, Resource::IssueSlot), machine.issue())
+        && is_left(
+            taking(row, cluster, Resource::UnitOf(unit)),
+            units_of(machine, unit),
+        )
+}
+
+/// How many bookings take a resource.
+fn taking(row: &[Booking], cluster: u32, resource: Resource) -> usize
+    ensures { result ≡ count_by (takes cluster resource) row.now }
+{
+    row.iter()
+        .filter(|booking| takes(booking, cluster, resource))
+        .count()
 }
 
 fn is_left(taken: usize, there: u32) -> bool
@@ -119,68 +131,6 @@ fn units_of(machine: &Machine, unit: UnitKind) -> u32
         UnitKind::Memory => machine.memory_units(),
         UnitKind::Copies => machine.copy_paths(),
         UnitKind::Control => 1,
-    }
-}
-
-/// How many bookings take a resource, in as many cycles from one on as there are bookings.
-#[tactic(auto, using(crate::proofs::Counted::none_taken, crate::proofs::Counted::one_more_taken, crate::proofs::Counted::all_taken))]
-fn counts(
-    alloc: Global,
-    bookings: &[Booking],
-    cluster: u32,
-    resource: Resource,
-    from: u64,
-) -> Result<Vec<usize>, NoMemory>
-    ensures { IfOk result (λ counts. AreTaken cluster resource from (length bookings.now) bookings.now counts.items) }
-{
-    let mut counts = zeros(alloc, bookings.len())?;
-    for booking in bookings {
-        add(&mut counts, booking, cluster, resource, from)?;
-    }
-    Ok(counts)
-}
-
-#[tactic(auto, using(crate::proofs::Counted::zeros_long, crate::proofs::Counted::zeros_zero))]
-fn zeros(alloc: Global, many: usize) -> Result<Vec<usize>, NoMemory>
-    ensures long { IfOk result (λ zeros. length zeros.items ≡ many) }
-    ensures zero { IfOk result (λ zeros. (j : ℕ) → slice_index_or zeros.items j 0 ≡ 0) }
-{
-    Ok(vec![in alloc; 0; many]?)
-}
-
-/// Counts a booking in its cycle, if it takes the resource.
-#[tactic(auto, using(crate::proofs::Counted::other_resource, crate::proofs::Counted::earlier_cycle, crate::proofs::Counted::later_cycle, crate::proofs::Counted::one_counted))]
-fn add(
-    counts: &mut Vec<usize>,
-    booking: &Booking,
-    cluster: u32,
-    resource: Resource,
-    from: u64,
-) -> Result<(), NoMemory>
-    ensures long { OnOk result (length counts.new.items ≡ length counts.old.items) }
-    ensures each { OnOk result ((j : ℕ) → j < length counts.old.items → slice_index_or counts.new.items j 0 ≡ slice_index_or counts.old.items j 0 + taken cluster resource (from + j) (booking.now ∷ [])) }
-{
-    if !takes(booking, cluster, resource) {
-        return Ok(());
-    }
-    let cycle = u64::from(booking.cycle);
-    if cycle < from {
-        return Ok(());
-    }
-    let wait = (cycle - from) as usize;
-    if wait >= counts.len() {
-        return Ok(());
-    }
-    counts[wait] = one_more(counts[wait])?;
-    Ok(())
-}
-
-fn one_more(count: usize) -> Result<usize, NoMemory>
-    ensures { IfOk result (λ more. more ≡ count + 1) }
-{
-    match count.checked_add(1) {
-        Some(more) => Ok(more),
-        None => Err(NoMemory),
     }
 }
 

@@ -105,18 +105,12 @@ fn permitted(turn: &Turn, ledger: &Ledger, fixed: Option<u32>) -> Span
     }
 }
 
-fn tried(
-    alloc: Global,
-    turn: &Turn,
-    ledger: &Ledger,
-    sources: Sources,
-    cluster: u32,
-) -> Result<Choice, NoMemory>
+fn tried(turn: &Turn, ledger: &Ledger, sources: Sources, cluster: u32) -> Result<Choice, NoMemory>
     requires { AreSources turn.now.machine turn.now.trace.now (books_of ledger.now) turn.now.place turn.now.op.now sources }
     ensures cluster { IfOk result (λ choice. choice.cluster ≡ cluster) }
     ensures cycle { IfOk result (λ choice. choice.cycle ≡ cycle_of turn.now.machine turn.now.trace.now (books_of ledger.now) turn.now.place turn.now.op.now choice.cluster) }
 {
-    let cycle = cycle_of(alloc, turn, ledger, sources, cluster)?;
+    let cycle = cycle_of(turn, ledger, sources, cluster)?;
     Ok(Choice { cluster, cycle })
 }
 
@@ -131,7 +125,6 @@ fn better(best: Choice, next: Choice) -> Choice
 /// whatever is booked there.
 #[tactic(auto, using(crate::proofs::Pruned::none_earlier, crate::proofs::Pruned::better_is))]
 fn compared(
-    alloc: Global,
     turn: &Turn,
     ledger: &Ledger,
     sources: Sources,
@@ -144,23 +137,23 @@ fn compared(
     if best.cycle <= earliest(&turn.machine, cluster, sources) {
         return Ok(best);
     }
-    let next = tried(alloc, turn, ledger, sources, cluster)?;
+    let next = tried(turn, ledger, sources, cluster)?;
     Ok(better(best, next))
 }
 
 /// The best of some clusters.
 #[tactic(auto, using(crate::proofs::Best::one_compared, crate::proofs::Best::more_compared))]
-fn best(alloc: Global, turn: &Turn, ledger: &Ledger, span: Span) -> Result<Choice, NoMemory>
+fn best(turn: &Turn, ledger: &Ledger, span: Span) -> Result<Choice, NoMemory>
     requires some { 1 ≤ span.count }
     requires within { span.first + span.count ≤ 2 ^ 32 }
     ensures least { IfOk result (λ choice. IsLeast (cycle_of turn.now.machine turn.now.trace.now (books_of ledger.now) turn.now.place turn.now.op.now) span.first span.count choice.cluster) }
     ensures cycle { IfOk result (λ choice. choice.cycle ≡ cycle_of turn.now.machine turn.now.trace.now (books_of ledger.now) turn.now.place turn.now.op.now choice.cluster) }
 {
     let sources = find_sources(turn, ledger);
-    let mut best = tried(alloc, turn, ledger, sources, span.first)?;
+    let mut best = tried(turn, ledger, sources, span.first)?;
     let mut count = 1;
     'compare: while count < span.count {
-        best = compared(alloc, turn, ledger, sources, best, span.first + count)?;
+        best = compared(turn, ledger, sources, best, span.first + count)?;
         count += 1;
     }
     Ok(best)
@@ -179,8 +172,8 @@ fn choose(
     ensures books { IfOk result (λ chosen. books_of ledger.new ≡ after_turn turn.now.machine turn.now.trace.now (books_of ledger.old) turn.now.place (Some turn.now.op.now) chosen.cluster) }
 {
     let span = permitted(turn, ledger, fixed);
-    let choice = best(alloc, turn, ledger, span)?;
-    let estimate = take(turn, ledger, choice.cluster, choice.cycle)?;
+    let choice = best(turn, ledger, span)?;
+    let estimate = take(alloc, turn, ledger, choice.cluster, choice.cycle)?;
     Ok(Chosen {
         cluster: choice.cluster,
         estimate,

@@ -1,12 +1,12 @@
 // What stands when an operation's turn comes: the homes so far, and the operations that have a cluster.
 
-use crate::bookings::Booking;
+use crate::booked::Booked;
 
 /// The homes and the bookings so far.
 #[derive(Drop, Debug)]
 pub struct Ledger {
     /// The home of each value that has one, by value.
     pub(crate) homes: Vec<Option<u32>>,
-    /// The operations that have a cluster, the latest first.
-    pub(crate) bookings: Vec<Booking>,
+    /// The operations that have a cluster.
+    pub(crate) booked: Booked,
 }

@@ -2,6 +2,7 @@
 #![tactic(auto)]
 
 mod assigning;
+mod booked;
 mod bookings;
 mod choosing;
 pub mod clusters;

@@ -84,7 +84,7 @@ fn find_source(turn: &Turn, ledger: &Ledger, value: Value) -> Source
     ensures { (cluster : ℕ) → result.written + way_from turn.now.machine result.home cluster ≡ available turn.now.machine turn.now.trace.now (books_of ledger.now) turn.now.place turn.now.op.now cluster value }
 {
     let above = writer(turn.trace.ops.as_slice(), turn.place, value);
-    let written = written_at(ledger.bookings.as_slice(), above);
+    let written = written_at(ledger.booked.bookings.as_slice(), above);
     let home = read_from(turn, ledger, value);
     Source { written, home }
 }
@@ -137,7 +137,6 @@ pub(crate) fn earliest(machine: &Machine, cluster: u32, sources: Sources) -> u64
 /// The cycle in which the operation would be issued on a cluster.
 #[tactic(auto, using(crate::proofs::Sourced::cycle_is))]
 pub(crate) fn cycle_of(
-    alloc: Global,
     turn: &Turn,
     ledger: &Ledger,
     sources: Sources,
@@ -148,19 +147,13 @@ pub(crate) fn cycle_of(
 {
     let from = earliest(&turn.machine, cluster, sources);
     let unit = Item::of_trace(turn.op).unit();
-    free_cycle(
-        alloc,
-        &turn.machine,
-        ledger.bookings.as_slice(),
-        cluster,
-        unit,
-        from,
-    )
+    free_cycle(&turn.machine, &ledger.booked, cluster, unit, from)
 }
 
 /// The operation takes a cluster in a cycle: it is booked, and each general value that it names and that has no home gets
 /// the cluster as its home. The result is its estimate. One past `u32` is want of memory.
 pub(crate) fn take(
+    alloc: Global,
     turn: &Turn,
     ledger: &mut Ledger,
     cluster: u32,
@@ -180,7 +173,7 @@ pub(crate) fn take(
         cycle: issued,
         estimate,
     };
-    ledger.bookings.insert(0, booking)?;
+    ledger.booked.add(alloc, booking)?;
     give_homes(&mut ledger.homes, turn.op, cluster)?;
     Ok(estimate)
 }

@@ -1,12 +1,14 @@
-use Rattle.std.proofs.Common.{◌≡◌, ◌+◌, rules}
-use Rattle.vx_bug.proofs.Counted.{first_open_free, wait_as_told}
+use Rattle.std.proofs.Common.{◌≡◌, ◌+◌, length, drop, rules}
+use Rattle.vx_bug.specs.Booked.{row_at}
+use Rattle.vx_bug.specs.Clusters.{first_free}
+use Rattle.vx_bug.specs.Ledgers.{is_left}
+use Rattle.vx_bug.proofs.ByCycle.{first_open_free}
 use Rattle.vx_bug.proofs.bookings.free_cycle.Goals as goal
 
 pub returns-in-Some : goal.returns-in-Some
 returns-in-Some c =
+    let b = c.args.booked.now in
+    let behind : c.rows_from-rows.result.now ≡ drop c.args.from b.rows.items = search rules in
+    let wait : c.first_open-wait.result ≡ first_free (length b.bookings.items) (λ w. is_left c.args.machine.now c.args.cluster c.args.unit (row_at c.rows_from-rows.result.now w)) 0 = search rules in
     let cycle : c.in-Some.cycle ≡ c.args.from + c.first_open-wait.result = search rules in
-    first_open_free c.args.machine.now c.args.bookings.now c.args.cluster c.args.unit c.args.from c.in_ok-slots.slots.items c.in_ok-units.units.items c.first_open-wait.result c.in-Some.cycle
-    c.in_ok-slots.ensures c.in_ok-units.ensures
-    (wait_as_told c.args.machine.now c.args.unit c.issue.result c.units_of.result c.first_open-wait.result c.in_ok-slots.slots.items c.in_ok-units.units.items c.as_slice.result.now c.as_slice-2.result.now
-    c.as_slice.ensures.value c.as_slice-2.ensures.value c.issue.ensures c.units_of.ensures c.first_open-wait.ensures)
-    cycle
+    first_open_free c.args.machine.now b.rows.items c.rows_from-rows.result.now b.bookings.items c.args.cluster c.args.unit c.args.from c.first_open-wait.result c.in-Some.cycle b.in_rows behind wait cycle
