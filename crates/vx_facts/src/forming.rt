@@ -24,10 +24,9 @@ fn moves(value: Value, to: Value, code: Code) -> bool
 fn source_of(facts: &[Fact], value: Value) -> Operand
     ensures { result ≡ source_of facts.now value }
 {
-    match facts {
-        [] => Operand::Held(value),
-        [first, rest @ ..] => match *first {
-            Fact::Between { .. } => source_of(rest, value),
+    for fact in facts {
+        match *fact {
+            Fact::Between { .. } => {}
             Fact::Equals {
                 value: to,
                 code,
@@ -35,13 +34,12 @@ fn source_of(facts: &[Fact], value: Value) -> Operand
                 ..
             } => {
                 if moves(value, to, code) {
-                    left
-                } else {
-                    source_of(rest, value)
+                    return left;
                 }
             }
-        },
+        }
     }
+    Operand::Held(value)
 }
 
 /// An operand that holds the same.

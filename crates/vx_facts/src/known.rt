@@ -121,23 +121,21 @@ fn is_claimed(value: Value, code: Code, left: Operand, right: Operand, fact: Fac
 pub fn has_equals(facts: &[Fact], value: Value, code: Code, left: Operand, right: Operand) -> bool
     ensures { result ≡ has_equals facts.now value code left right }
 {
-    match facts {
-        [] => false,
-        [first, rest @ ..] => {
-            is_claimed(value, code, left, right, *first)
-                || has_equals(rest, value, code, left, right)
+    for fact in facts {
+        if is_claimed(value, code, left, right, *fact) {
+            return true;
         }
     }
+    false
 }
 
 /// A value that holds what an operation gives.
 pub fn found(facts: &[Fact], code: Code, left: Operand, right: Operand) -> Option<Value>
     ensures { result ≡ found facts.now code left right }
 {
-    match facts {
-        [] => None,
-        [first, rest @ ..] => match *first {
-            Fact::Between { .. } => found(rest, code, left, right),
+    for fact in facts {
+        match *fact {
+            Fact::Between { .. } => {}
             Fact::Equals {
                 value,
                 code: other,
@@ -145,13 +143,12 @@ pub fn found(facts: &[Fact], code: Code, left: Operand, right: Operand) -> Optio
                 right: two,
             } => {
                 if same_code(other, code) && (same_operand(one, left) && same_operand(two, right)) {
-                    Some(value)
-                } else {
-                    found(rest, code, left, right)
+                    return Some(value);
                 }
             }
-        },
+        }
     }
+    None
 }
 
 /// How a compare to a branch value comes out by all facts, where they decide it.

@@ -118,10 +118,9 @@ fn is_low(value: Value, to: Value, code: Code) -> bool
 fn factors_of(facts: &[Fact], value: Value) -> Option<Factors>
     ensures { result ≡ factors_of facts.now value }
 {
-    match facts {
-        [] => None,
-        [first, rest @ ..] => match *first {
-            Fact::Between { .. } => factors_of(rest, value),
+    for fact in facts {
+        match *fact {
+            Fact::Between { .. } => {}
             Fact::Equals {
                 value: to,
                 code,
@@ -129,13 +128,12 @@ fn factors_of(facts: &[Fact], value: Value) -> Option<Factors>
                 right,
             } => {
                 if is_low(value, to, code) {
-                    Some(Factors { left, right })
-                } else {
-                    factors_of(rest, value)
+                    return Some(Factors { left, right });
                 }
             }
-        },
+        }
     }
+    None
 }
 
 fn product_if(
