@@ -14,21 +14,25 @@ use vx_flow::graph::{Operand, Value};
 pub fn range(facts: &[Fact], value: Value) -> Interval
     ensures { result ≡ range facts.now value }
 {
-    match facts {
-        [] => full(),
-        [first, rest @ ..] => match *first {
-            Fact::Between {
-                value: named,
-                within,
-            } => {
-                if named == value {
-                    meet(within, range(rest, value))
-                } else {
-                    range(rest, value)
+    let mut rest = facts;
+    'next: loop {
+        match rest {
+            [] => return full(),
+            [first, others @ ..] => {
+                match *first {
+                    Fact::Between {
+                        value: named,
+                        within,
+                    } => {
+                        if named == value {
+                            return meet(within, range(others, value));
+                        }
+                    }
+                    Fact::Equals { .. } => {}
                 }
+                rest = others;
             }
-            Fact::Equals { .. } => range(rest, value),
-        },
+        }
     }
 }
 
