@@ -1,8 +1,7 @@
 -- Bytes put in several pieces.
-use Rattle.std.proofs.Common.{◌≡◌, inl, inr, ℕ, Bool, true, false, List, [], ◌++◌, ◌∷◌, ◌==◌, Option, Some, None, Result, Ok, Err, OnOk, if◌then◌else◌, refl, sym, ap, ◌∙◌, append_assoc, append-nil, arith}
-use Rattle.std.specs.Prelude.{◌≤◌, OnErr, is_err}
-use Rattle.vx_base.specs.Outcome.{Begins}
-use Rattle.vx_base.specs.Outside.{Rose, PutsFront, with_bytes}
+use Rattle.std.proofs.Common.{◌≡◌, ℕ, true, false, List, [], ◌++◌, Option, Some, None, Result, Ok, Err, OnOk, refl, sym, ap, ◌∙◌, append_assoc, append-nil, arith}
+use Rattle.std.specs.Prelude.{is_err}
+use Rattle.vx_base.specs.Outside.{PutsFront, with_bytes}
 use Rattle.vx_base.proofs.OutsideLaws.{rose_throughout}
 use Rattle.vx_base.proofs.Same.{begins_self}
 use Rattle.vx_driver.specs.Status.{Adds, Puts, Tells}

@@ -8,6 +8,7 @@ pub mod CommandWords
 pub mod ProfileWords
 pub mod SoakWords
 mod SoakRows
+mod StatusRows
 mod CommandRows
 mod SimRows
 mod ExecRows

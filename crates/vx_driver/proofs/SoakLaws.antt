@@ -1,5 +1,5 @@
 -- The answers of `soak` from those of its steps, and what they exclude where nothing fails.
-use Rattle.std.proofs.Common.{◌≡◌, ◌∙◌, ◌⊎◌, inl, inr, ℕ, ℤ, Bool, true, false, List, [], length, Option, Some, None, refl, sym, subst, ap, arith}
+use Rattle.std.proofs.Common.{◌≡◌, ◌∙◌, ℕ, ℤ, false, List, [], length, Option, Some, None, refl, sym, subst, ap, arith}
 use Rattle.std.specs.Prelude.{All, codes}
 use Rattle.vx_base.specs.Arithmetic.{IsNumber}
 use Rattle.vx_base.specs.Outcome.{Outcome, Ends, Traps, Goes, IsGoing, output_of}

@@ -119,11 +119,7 @@ fn put_number<E: Sink>(err: &mut E, number: u64) -> Result<(), SinkFault>
 }
 
 /// Puts some words, and a number in decimal behind them.
-pub(crate) fn put_counted<E: Sink>(
-    err: &mut E,
-    words: &[u8],
-    number: u64,
-) -> Result<(), SinkFault>
+pub(crate) fn put_counted<E: Sink>(err: &mut E, words: &[u8], number: u64) -> Result<(), SinkFault>
     ensures { Puts result (counted words.now number) (E.told err.old) (E.told err.new) (E.faults err.old) (E.faults err.new) }
 {
     put(err, words)?;

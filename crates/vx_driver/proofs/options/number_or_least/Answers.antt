@@ -1,5 +1,5 @@
 -- The number of the text that is there.
-use Rattle.std.proofs.Common.{◌≡◌, ◌∙◌, ap, sym, Some, option_map}
+use Rattle.std.proofs.Common.{◌∙◌, ap, sym, option_map}
 use Rattle.vx_driver.specs.Command.{number_in}
 use Rattle.vx_driver.proofs.options.number_or_least.Goals as goal
 
