@@ -1,5 +1,5 @@
 -- Where entries say that the kinds alone count, the kinds give the delay.
-use Rattle.std.proofs.Common.{◌≡◌, ◌<◌, ℕ, refl, sym, ◌∙◌, ap, Bool, true, false, not, ◌&&◌, ◌||◌, nat_eq, nat_lt, if◌then◌else◌, Option, Some, None, map, slice_get, List, ◌++◌}
+use Rattle.std.proofs.Common.{◌≡◌, ◌<◌, ◌≤◌, ◌⊎◌, inl, inr, ◌+◌, ℕ, refl, sym, ◌∙◌, ap, arith, subst, Bool, true, false, not, ◌&&◌, ◌||◌, nat_eq, nat_lt, if◌then◌else◌, Option, Some, None, map, slice_get, List, ◌++◌}
 use Rattle.std.proofs.lemmas.Bool.{false≢true, true≢false}
 use Rattle.std.specs.List.{list_any}
 use Rattle.vx_flow.specs.declared.trace.Trace.{Trace}
@@ -9,12 +9,14 @@ use Rattle.vx_dep.specs.declared.mode.Mode.{Mode}
 use Rattle.vx_dep.specs.declared.traits.Traits.{Traits}
 use Rattle.vx_dep.specs.declared.tables.Standing.{Standing}
 use Rattle.vx_dep.specs.declared.rows.Ways.{Ways}
-use Rattle.vx_dep.specs.Delays.{IsDelay}
+use Rattle.vx_dep.specs.Delays.{Applies, IsDelay}
+use Rattle.vx_dep.specs.Earlier.{NoneBetween}
 use Rattle.vx_dep.specs.Traits.{value_list, values_read, has}
 use Rattle.vx_dep.specs.Tables.{standings_of, lives_of}
 use Rattle.vx_dep.specs.Rows.{is_barred, are_tied, stays_behind_split, stays_behind_join, stays_below, at_least, row_of, delay_of}
 use Rattle.vx_dep.specs.Sights.{reaches, has_join, is_live}
-use Rattle.vx_dep.specs.Keys.{named, key_of, is_read, share_value, access_both, are_apart, apart_delay_of}
+use Rattle.vx_dep.specs.Keys.{named, key_of, is_read, share_value, access_both, are_apart, apart_delay_of, can_pass}
+use Rattle.vx_dep.proofs.Telling.{less_or, lt_is, is_lt}
 use Rattle.vx_dep.proofs.Written.{reads_two}
 use Rattle.vx_dep.proofs.Standing.{IsMapped, unmapped, tells, delay_is}
 use Rattle.vx_dep.proofs.Quiet.{neither, not_both}
@@ -101,6 +103,36 @@ apart_rows mode s u last joined live apart =
     ∙ ap (λ x. if x then Some 1 else (if stays_below mode a b w then Some 0 else None)) (behind_is both a.leaves (stays_behind_split mode b w) behind apart.leaves)
     ∙ ap (λ x. if both || behind then Some 1 else (if x then Some 0 else None)) (below_is (has b.written (values_read a.reads)) a.is_load kept apart.read)
 
+-- a lower operation that passes what is apart from it
+
+passes : (mode : Mode) (a b : Key) (from i : ℕ) → can_pass mode b from ≡ true → from ≤ i → None ≡ apart_delay_of mode a b (nat_lt i b.joined)
+passes mode a b from i e l =
+    let all = none_of (b.is_observable || b.leaves) (is_barred mode && nat_lt from b.joined) (not_so ((b.is_observable || b.leaves) || (is_barred mode && nat_lt from b.joined)) e) in
+    let fixed = none_of b.is_observable b.leaves all.0 in
+    by a.is_observable b.is_observable b.leaves (is_barred mode) (nat_lt i b.joined) fixed.0 fixed.1 (later (is_barred mode) all.1)
+  where
+    before : (x : Bool) → nat_lt i b.joined ≡ x → nat_lt from b.joined ≡ false → x ≡ false
+    before false f g = refl
+    before true f g = let u = lt_is i b.joined f in absurd (is_lt from b.joined g (omega (arith, u, l)))
+
+    later : (barred : Bool) → (barred && nat_lt from b.joined) ≡ false → (barred && nat_lt i b.joined) ≡ false
+    later false f = refl
+    later true f = before (nat_lt i b.joined) refl f
+
+    by_kinds : (o p v barred joined : Bool) → Option ℕ
+    by_kinds o p v barred joined = if (o && p) || (joined && ((p || v) || barred)) then Some 1 else (if v && (o || barred) then Some 0 else None)
+
+    by : (o p v barred joined : Bool) → p ≡ false → v ≡ false → (barred && joined) ≡ false → None ≡ by_kinds o p v barred joined
+    by true false false true false e f g = refl
+    by true false false false true e f g = refl
+    by true false false false false e f g = refl
+    by false false false true false e f g = refl
+    by false false false false true e f g = refl
+    by false false false false false e f g = refl
+    by o false false true true e f g = absurd (true≢false g)
+    by o true v barred joined e f g = absurd (true≢false e)
+    by o false true barred joined e f g = absurd (true≢false f)
+
 -- the delay by entries
 
 module _ (m : Numbers) (mode : Mode) (t : Trace) (standings : List Standing) (keys : List Key) (exact : standings ≡ standings_of m t) (of_standings : keys ≡ map key_of standings) where
@@ -121,3 +153,17 @@ module _ (m : Numbers) (mode : Mode) (t : Trace) (standings : List Standing) (ke
       let told = tells m t standings lives i j s u w exact lives_exact in_order one.there two.there refl refl refl (λ e. absurd (false≢true e)) (λ e k. parts.touch k.upper k.lower k.stores) in
       let given : d ≡ apart_delay_of mode (key_of s) (key_of u) (has_join u i) = is ∙ ap (λ x. apart_delay_of mode x b (nat_lt i b.joined)) one.is ∙ ap (λ x. apart_delay_of mode (key_of s) x (nat_lt i x.joined)) two.is in
       delay_is m t standings exact mode i j s u w d in_order one.there two.there told (given ∙ sym (apart_rows mode s u (reaches s i j) (has_join u i) live parts))
+
+  pub none_passed : (j from : ℕ) → NoneBetween m mode t j from from
+  none_passed j from above d l u a = absurd (omega (arith, l, u))
+
+  pub one_passed : (lives : List (List Bool)) (j from near : ℕ) (a b : Key) → lives ≡ lives_of t → can_pass mode b from ≡ true → from ≤ near → near < j → slice_get keys near ≡ Some a → slice_get keys j ≡ Some b → are_apart a b ≡ true
+      → NoneBetween m mode t j from near → NoneBetween m mode t j from (near + 1)
+  one_passed lives j from near a b lives_exact pass behind in_order at_one at_two apart none above d l u p = by (less_or above near)
+    where
+      free : IsDelay m mode t near j None
+      free = apart_delay_is lives near j a b None lives_exact in_order at_one at_two apart (passes mode a b from near pass behind)
+
+      by : (above < near) ⊎ (near ≤ above) → ⊥
+      by (inl h) = none above d l h p
+      by (inr h) = let e : above ≡ near = omega (arith, h, u) in free d (subst (λ x. Applies m mode t x j d) e p)

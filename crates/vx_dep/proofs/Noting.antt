@@ -9,7 +9,7 @@ use Rattle.vx_isa.specs.Numbers.{Numbers}
 use Rattle.vx_dep.specs.declared.mode.Mode.{Mode}
 use Rattle.vx_dep.specs.declared.earlier.Earlier.{Earlier}
 use Rattle.vx_dep.specs.Delays.{Applies, IsDelay}
-use Rattle.vx_dep.specs.Earlier.{IsListed, AreEarlier, AreAllEarlier, list_at, noted}
+use Rattle.vx_dep.specs.Earlier.{IsListed, AreEarlier, AreAllEarlier, NoneBetween, list_at, noted}
 use Rattle.vx_dep.proofs.Telling.{less_or}
 
 still_listed : (list more : List Earlier) (i words : ℕ) → IsListed list i words → IsListed (list ++ more) i words
@@ -53,6 +53,13 @@ module _ (m : Numbers) (mode : Mode) (t : Trace) where
 
   pub one_noted : (j k : ℕ) (list others : List Earlier) (d : Option ℕ) → AreEarlier m mode t j k list → IsDelay m mode t k j d → others ≡ list ++ noted k d → AreEarlier m mode t j (k + 1) others
   one_noted j k list others d so is e = subst (AreEarlier m mode t j (k + 1)) (sym e) (step j k list d so is)
+
+  pub passed : (j k n : ℕ) (list : List Earlier) → AreEarlier m mode t j k list → NoneBetween m mode t j k n → AreEarlier m mode t j n list
+  passed j k n list so none = record { sound = so.sound; whole = λ i d l a. by i d a (less_or i k) l }
+    where
+      by : (i d : ℕ) → Applies m mode t i j d → (i < k) ⊎ (k ≤ i) → i < n → IsListed list i d
+      by i d a (inl u) l = so.whole i d u a
+      by i d a (inr u) l = absurd (none i d u l a)
 
   -- the lists so far are right
   abbrev pub AreSoFar : List (List Earlier) → Type 0

@@ -19,6 +19,10 @@ pub record AreEarlier (m : Numbers) (mode : Mode) (t : Trace) (j k : ℕ) (list 
   pub sound : (e : Earlier) → IsIn e list → IsDelay m mode t e.place j (Some e.delay)
   pub whole : (i delay : ℕ) → i < k → Applies m mode t i j delay → IsListed list i delay
 
+-- the operation at place j has no delay behind those from place i on and before place k
+abbrev pub NoneBetween : Numbers → Mode → Trace → (j i k : ℕ) → Type 0
+NoneBetween m mode t j i k = (above delay : ℕ) → i ≤ above → above < k → Applies m mode t above j delay → ⊥
+
 -- one list for each operation
 abbrev pub list_at : List (List Earlier) → ℕ → List Earlier
 list_at lists j = slice_index_or lists j []

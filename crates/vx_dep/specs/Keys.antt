@@ -1,5 +1,5 @@
 -- What is asked of a pair of operations first: whether anything but their kinds counts for the delay.
-use Rattle.std.specs.Prelude.{◌&&◌, ◌||◌, not, ℕ, Bool, nat_eq, if◌then◌else◌, Option, Some, None}
+use Rattle.std.specs.Prelude.{◌&&◌, ◌||◌, not, ℕ, Bool, nat_eq, nat_lt, if◌then◌else◌, Option, Some, None}
 use Rattle.vx_dep.specs.declared.mode.Mode.{Mode}
 use Rattle.vx_dep.specs.declared.keys.Key.{Key}
 use Rattle.vx_dep.specs.declared.tables.Standing.{Standing}
@@ -43,3 +43,7 @@ are_apart a b = not ((a.leaves || share_value a b) || access_both a b)
 abbrev pub apart_delay_of : Mode → Key → Key → (joined : Bool) → Option ℕ
 apart_delay_of mode a b joined =
     if (a.is_observable && b.is_observable) || (joined && ((b.is_observable || b.leaves) || is_barred mode)) then Some 1 else (if b.leaves && (a.is_observable || is_barred mode) then Some 0 else None)
+
+-- a lower operation has no delay behind any from a place on that is apart from it
+abbrev pub can_pass : Mode → Key → (from : ℕ) → Bool
+can_pass mode b from = not ((b.is_observable || b.leaves) || (is_barred mode && nat_lt from b.joined))

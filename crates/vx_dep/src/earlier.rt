@@ -53,16 +53,15 @@ pub(crate) fn list_at(lists: &[Listed<Earlier>], place: usize) -> &[Earlier]
 }
 
 /// Those that the operation at a place has to stand behind.
-#[tactic(auto, using(crate::proofs::Noting::none_noted, crate::proofs::Noting::one_noted))]
 fn find_earlier(sight: &Sight, place: u32, found: &mut Vec<Earlier>) -> Result<(), NoMemory>
     ensures { OnOk result (AreEarlier sight.now.machine sight.now.mode sight.now.trace.now place place found.new.items) }
 {
     found.clear();
-    let mut above: u32 = 0;
+    let mut above = sight.next_near(0, place);
     'note: while above < place {
         let delay = sight.delay(above as usize, place as usize);
         note(found, above, delay)?;
-        above += 1;
+        above = sight.next_near(above + 1, place);
     }
     Ok(())
 }

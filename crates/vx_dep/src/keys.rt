@@ -2,7 +2,7 @@
 // counts. Most pairs of a trace share no value. specs/Keys.antt says the same.
 
 ghost use Rattle.std.specs.Prelude.{◌≡◌, nat_eq, IfOk, map};
-ghost use Rattle.vx_dep.specs.Keys.{named, key_of, is_read, share_value, access_both, are_apart, apart_delay_of};
+ghost use Rattle.vx_dep.specs.Keys.{named, key_of, is_read, share_value, access_both, are_apart, apart_delay_of, can_pass};
 
 use crate::mode::Mode;
 use crate::rows::is_barred;
@@ -112,4 +112,11 @@ pub(crate) fn apart_delay(mode: Mode, a: &Key, b: &Key, joined: bool) -> Option<
     } else {
         None
     }
+}
+
+/// Whether a lower operation has no delay behind any from a place on that is apart from it.
+pub(crate) fn can_pass(mode: Mode, b: &Key, from: usize) -> bool
+    ensures { result ≡ can_pass mode b.now from }
+{
+    !(b.is_observable || b.leaves || is_barred(mode) && from < b.joined)
 }

@@ -1,16 +1,17 @@
 // A trace with what is found once for it, by which a delay is answered without a search.
 
-ghost use Rattle.std.specs.Prelude.{◌≡◌, ◌<◌, ℕ, ◌||◌, ◌&&◌, IfOk, IfSome, IfNone, Some, None, true, false, map, slice_get};
+ghost use Rattle.std.specs.Prelude.{◌≡◌, ◌<◌, ◌≤◌, ℕ, ◌||◌, ◌&&◌, IfOk, IfSome, IfNone, Some, None, true, false, map, slice_get};
 ghost use Rattle.vx_linear.specs.declared.form.Form.{Form};
 ghost use Rattle.vx_linear.specs.Forms.{NeverSame, is_ordered};
 ghost use Rattle.vx_linear.specs.Followed.{forms_of};
 ghost use Rattle.vx_dep.specs.Tables.{standings_of, lives_of};
-ghost use Rattle.vx_dep.specs.Keys.{key_of};
+ghost use Rattle.vx_dep.specs.Keys.{key_of, can_pass};
 ghost use Rattle.vx_dep.specs.Rows.{split_delay_of, Tells, MayTouch};
 ghost use Rattle.vx_dep.specs.Delays.{IsDelay, NeverMeet};
+ghost use Rattle.vx_dep.specs.Earlier.{NoneBetween};
 ghost use Rattle.vx_dep.specs.Sights.{AreOrdered, reaches, has_join, is_live};
 
-use crate::keys::{Key, apart_delay, are_apart, keys};
+use crate::keys::{Key, apart_delay, are_apart, can_pass, keys};
 use crate::mode::Mode;
 use crate::rows::{Ways, are_quiet, delay_of, is_barred, is_seen, quiet_delay_of};
 use crate::tables::{Standing, lives, standings};
@@ -96,6 +97,51 @@ impl<'a> Sight<'a> {
                 }
             }
         }
+    }
+
+    /// The first place from one on, up to that of a lower operation, of which the entries alone do not say that it has no delay.
+    #[tactic(auto, using(crate::proofs::Apart::none_passed))]
+    pub(crate) fn next_near(&self, from: u32, place: u32) -> u32
+        requires { from ≤ place }
+        ensures from { from ≤ result }
+        ensures within { result ≤ place }
+        ensures none { NoneBetween self.now.machine self.now.mode self.now.trace.now place from result }
+    {
+        match self.key(place as usize) {
+            None => from,
+            Some(b) => {
+                if can_pass(self.mode, b, from as usize) {
+                    self.pass(from, place, b)
+                } else {
+                    from
+                }
+            }
+        }
+    }
+
+    /// The same for a lower operation that passes all that is apart from it.
+    #[tactic(auto, using(crate::proofs::Apart::none_passed, crate::proofs::Apart::one_passed))]
+    fn pass(&self, from: u32, place: u32, b: &Key) -> u32
+        requires in_order { from ≤ place }
+        requires stands { slice_get self.now.keys place ≡ Some b.now }
+        requires passes { can_pass self.now.mode b.now from ≡ true }
+        ensures from { from ≤ result }
+        ensures within { result ≤ place }
+        ensures none { NoneBetween self.now.machine self.now.mode self.now.trace.now place from result }
+    {
+        let mut near = from;
+        'pass: while near < place {
+            match self.key(near as usize) {
+                None => return near,
+                Some(a) => {
+                    if !are_apart(a, b) {
+                        return near;
+                    }
+                    near += 1;
+                }
+            }
+        }
+        near
     }
 
     /// What is asked first of the operation at a place.
