@@ -1,5 +1,5 @@
 -- A trace of such a graph keeps the conditions of the assignment of clusters.
-use Rattle.std.proofs.Common.{◌≡◌, ◌≢◌, inl, inr, refl, sym, ◌∙◌, ap, subst, arith, Bool, true, false, ℕ, zero, suc, ◌+◌, ◌*◌, ◌^◌, ◌<◌, ◌≤◌, Option, Some, None, List, [], ◌∷◌, ◌++◌, length, map, drop, slice_get, slice_index_or}
+use Rattle.std.proofs.Common.{◌≡◌, inl, inr, refl, sym, ◌∙◌, ap, subst, arith, Bool, true, false, ℕ, zero, suc, ◌+◌, ◌*◌, ◌^◌, ◌<◌, ◌≤◌, Option, Some, None, List, [], ◌∷◌, ◌++◌, length, map, slice_get, slice_index_or}
 use Rattle.std.specs.Prelude.{◌==◌, if◌then◌else◌}
 use Rattle.vx_flow.specs.declared.graph.Block.{Block}
 use Rattle.vx_flow.specs.declared.graph.Exit.{Exit}
@@ -11,7 +11,7 @@ use Rattle.vx_flow.specs.declared.trace.TraceOp.{TraceOp}
 use Rattle.vx_flow.specs.declared.trace.TraceOp.TheVariants.{Plain as TracePlain, Split as TraceSplit}
 use Rattle.vx_flow.specs.declared.trace.Join.{Join}
 use Rattle.vx_flow.specs.declared.trace.Trace.{Trace}
-use Rattle.vx_flow.specs.Effects.{IsIn, reads, writes}
+use Rattle.vx_flow.specs.Effects.{IsIn}
 use Rattle.vx_flow.specs.Live.{reads_of_exit}
 use Rattle.vx_flow.specs.Sound.{results_of_exit}
 use Rattle.vx_flow.specs.Walk.{edge}
@@ -22,8 +22,8 @@ use Rattle.vx_mixed.specs.declared.region.Node.TheVariants.{Unused}
 use Rattle.vx_mixed.specs.declared.mixed.MixedGraph.{MixedGraph}
 use Rattle.vx_mixed.specs.FromGraph.{binds}
 use Rattle.vx_mixed.specs.Settled.{has_home}
-use Rattle.vx_mixed.specs.TraceOf.{CanTrace, IsTraceOf, block_at, block_or_none, split_between, split_behind, clusters_of, trace_ops, trace_joins}
-use Rattle.vx_mixed.specs.Valid.{Valid, IsOp, names_of}
+use Rattle.vx_mixed.specs.TraceOf.{CanTrace, IsTraceOf, block_at, block_or_none, split_between, split_behind, clusters_of}
+use Rattle.vx_mixed.specs.Valid.{Valid}
 use Rattle.vx_mixed.proofs.Linked.{index_in}
 use Rattle.vx_dep.specs.Delays.{Stands, reads_of, writes_of}
 use Rattle.vx_bug.specs.CanAssign.{IsFixed, IsFree, bound_writes, BoundAtHome, FixedAtHome, FixedReadsHere, ClustersAreThere, ValuesAreThere, CopiesHaveNumbers, IsWellFormed}

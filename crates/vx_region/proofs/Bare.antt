@@ -1,5 +1,5 @@
 -- Clusters change nothing of what items do in trace order, nor of the delays between them.
-use Rattle.std.proofs.Common.{◌≡◌, ◌⊎◌, inl, inr, ℕ, zero, suc, ◌+◌, ◌<◌, Bool, true, false, List, [], ◌∷◌, length, map, drop, refl, sym, ap, ◌∙◌, subst}
+use Rattle.std.proofs.Common.{◌≡◌, ◌⊎◌, inl, inr, ℕ, zero, suc, ◌<◌, Bool, List, [], ◌∷◌, length, map, drop, refl, sym, ap, ◌∙◌, subst}
 use Rattle.vx_flow.specs.declared.graph.Op.{Op}
 use Rattle.vx_flow.specs.declared.graph.Op.TheVariants.{Compute, Select, Place, Load, Store, More, Input, Text, Decimal, Across}
 use Rattle.vx_flow.specs.declared.trace.TraceOp.{TraceOp}
@@ -13,7 +13,7 @@ use Rattle.vx_mixed.specs.Trace.{nth, order}
 use Rattle.vx_mixed.specs.Facts.{IsSplit, ops_of}
 use Rattle.vx_mixed.specs.Rows.{IsObservable, IsLoad, IsStore, Row, reads_last, writes_too, writes_read, store_access, load_store, observables, two_splits, split_held, below_join, split_live, Meets, NeverApart}
 use Rattle.vx_mixed.specs.Way.{item_latency}
-use Rattle.vx_mixed.specs.Compensation.{plain_item, plain_items, item_of, items_of}
+use Rattle.vx_mixed.specs.Compensation.{plain_items, items_of}
 
 -- on cluster 0
 abbrev pub bare : Item → Item

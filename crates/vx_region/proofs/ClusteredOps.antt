@@ -1,11 +1,10 @@
 -- What is known of the operations of a clustered trace: where they come from, what they name, and that they stand where their
 -- values do.
-use Rattle.std.proofs.Common.{◌≡◌, ◌≢◌, ◌⊎◌, inl, inr, refl, sym, ◌∙◌, ap, subst, arith, Bool, true, false, ℕ, zero, suc, ◌+◌, ◌*◌, ◌<◌, ◌≤◌, Option, Some, None, List, [], ◌∷◌, ◌++◌, length, slice_get, slice_index_or}
-use Rattle.std.specs.Prelude.{◌%◌, ◌/◌, ◌-◌, nat_lt, if◌then◌else◌}
+use Rattle.std.proofs.Common.{◌≡◌, ◌≢◌, ◌⊎◌, inl, inr, refl, sym, ◌∙◌, ap, subst, arith, Bool, true, false, ℕ, suc, ◌+◌, ◌*◌, ◌<◌, ◌≤◌, Option, Some, List, [], ◌∷◌, ◌++◌, length, slice_get, slice_index_or}
+use Rattle.std.specs.Prelude.{◌%◌, ◌/◌, ◌-◌, if◌then◌else◌}
 use Rattle.std.proofs.Math.Nat.{mod-eq_of_lt, mul_comm, mul-add-mod_self_right, mul-le-mul_right}
 use Rattle.std.proofs.lemmas.Bool.{lt-ltb, le-ltb, cases_lt}
 use Rattle.std.proofs.lemmas.Nat.{div-mul-add, mul-add-lt}
-use Rattle.std.proofs.lemmas.Option.{slice_get_within}
 use Rattle.vx_base.specs.declared.arithmetic.Code.{Code}
 use Rattle.vx_base.specs.declared.arithmetic.Code.TheVariants.{Add, Sub, And, Or, Xor, Shl, Shr, Shru, Sh2add, Max, Min, Mov, ToGeneral, ToBranch, Mpylu, Mpyhs, Div, Rem}
 use Rattle.vx_flow.specs.declared.graph.Bank.{Bank}
@@ -19,12 +18,10 @@ use Rattle.vx_flow.specs.declared.trace.TraceOp.{TraceOp}
 use Rattle.vx_flow.specs.declared.trace.TraceOp.TheVariants.{Plain as TracePlain, Split as TraceSplit}
 use Rattle.vx_flow.specs.declared.trace.Trace.{Trace}
 use Rattle.vx_flow.specs.Effects.{IsIn, dismissed, reads, writes}
-use Rattle.vx_flow.specs.Sound.{bank_written, tests_of, arrays_of, Sound}
+use Rattle.vx_flow.specs.Sound.{bank_written, tests_of, Sound}
 use Rattle.vx_flow.proofs.Members.{in_left, in_right, in_either}
 use Rattle.vx_flow.proofs.SoundLaw.{sound_is}
-use Rattle.vx_isa.specs.Numbers.{Numbers, is_machine, IsMachine}
-use Rattle.vx_machine.specs.Items.{writes_general_op}
-use Rattle.vx_machine.specs.Room.{home_of}
+use Rattle.vx_isa.specs.Numbers.{Numbers, IsMachine}
 use Rattle.vx_mixed.specs.declared.mixed.MixedGraph.{MixedGraph}
 use Rattle.vx_mixed.specs.CanReplace.{OnFirst, Stands, AwayFrom}
 use Rattle.vx_mixed.specs.FromGraph.{binds}
@@ -33,11 +30,11 @@ use Rattle.vx_mixed.specs.Origins.{copy_of as copy_to}
 use Rattle.vx_mixed.specs.Settled.{has_home, home_of as home_in, bank_of, stands_for, StandsOn, read_there}
 use Rattle.vx_mixed.specs.TraceOf.{CanTrace, IsTraceOf}
 use Rattle.vx_mixed.specs.Valid.{Valid, IsOp, names_of}
-use Rattle.vx_mixed.proofs.Linked.{index_in, in_index}
+use Rattle.vx_mixed.proofs.Linked.{index_in}
 use Rattle.vx_dep.specs.Delays.{Stands as StandsAt, reads_of, writes_of}
 use Rattle.vx_bug.specs.declared.clusters.Clusters.{Clusters}
 use Rattle.vx_bug.specs.Assigned.{last_books, Assigned}
-use Rattle.vx_bug.specs.CanAssign.{IsFixed, IsFree}
+use Rattle.vx_bug.specs.CanAssign.{IsFree}
 use Rattle.vx_bug.specs.Clusters.{general_reads, general_writes, is_bound, is_across}
 use Rattle.vx_bug.specs.Copies.{copy_of, is_away, here, renamed_operand, renamed, renamed_op}
 use Rattle.vx_bug.proofs.Best.{four_clusters}

@@ -1,6 +1,5 @@
 -- The items of a trace on cluster 0, beside its operations.
 use Rattle.std.proofs.Common.{◌≡◌, ℕ, zero, suc, ◌<◌, true, Some, None, List, [], ◌∷◌, length, drop, slice_get, refl, ap, arith}
-use Rattle.std.specs.Prelude.{replicate}
 use Rattle.vx_flow.specs.declared.graph.Op.TheVariants.{Compute, Select, Place, Load, Store, More, Input, Text, Decimal, Across}
 use Rattle.vx_flow.specs.declared.trace.TraceOp.{TraceOp}
 use Rattle.vx_flow.specs.declared.trace.TraceOp.TheVariants.{Plain as TracePlain, Split as TraceSplit}
@@ -12,7 +11,7 @@ use Rattle.vx_mixed.specs.Trace.{nth, inert}
 use Rattle.vx_mixed.specs.Facts.{IsSplit}
 use Rattle.vx_mixed.specs.Rows.{IsObservable, IsLoad, IsStore}
 use Rattle.vx_mixed.specs.Way.{item_latency}
-use Rattle.vx_mixed.specs.Compensation.{plain_item, plain_items, items_of, live_of}
+use Rattle.vx_mixed.specs.Compensation.{plain_item, plain_items, live_of}
 use Rattle.vx_dep.specs.Delays.{reads_of, writes_of, is_load, is_store, is_observable, leaves, latency_of, live_off}
 
 pub plain_many : (ops : List TraceOp) → length (plain_items ops) ≡ length ops

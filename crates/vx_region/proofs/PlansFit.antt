@@ -1,5 +1,5 @@
 -- What planning gives for blocks of a graph is compensated, and fits a replacement.
-use Rattle.std.proofs.Common.{◌≡◌, ◌⊎◌, inl, inr, ℕ, zero, suc, ◌+◌, ◌*◌, ◌<◌, ◌≤◌, Bool, true, Option, Some, None, List, [], ◌∷◌, ◌++◌, length, map, take, slice_get, slice_index_or, length-append, refl, sym, ap, ◌∙◌, subst, arith}
+use Rattle.std.proofs.Common.{◌≡◌, ◌⊎◌, inl, inr, ℕ, zero, suc, ◌+◌, ◌*◌, ◌<◌, ◌≤◌, Bool, Option, Some, List, [], ◌∷◌, ◌++◌, length, map, take, slice_get, slice_index_or, length-append, refl, sym, ap, ◌∙◌, subst, arith}
 use Rattle.std.proofs.lemmas.List.{length-map}
 use Rattle.vx_flow.specs.declared.graph.Bank.TheVariants.{Branch}
 use Rattle.vx_flow.specs.declared.graph.Block.{Block}
@@ -27,9 +27,8 @@ use Rattle.vx_mixed.specs.declared.replacement.Replacement.{Replacement}
 use Rattle.vx_mixed.specs.CanReplace.{IsFormed, NamesFit, ListsFit, WordsFit, Stands, MadeStands, IsNamed, in_trace, in_made, AwayFrom, CanReplace}
 use Rattle.vx_mixed.specs.Compensation.{splits_of, Compensated}
 use Rattle.vx_mixed.specs.Next.{placed, new_end, new_region, next_mixed, last_of, exit_in}
-use Rattle.vx_mixed.specs.Origins.{ComesFrom}
 use Rattle.vx_mixed.specs.Scheduled.{WordsStand}
-use Rattle.vx_mixed.specs.Settled.{has_home, StandsOn, bank_of, OnClusters}
+use Rattle.vx_mixed.specs.Settled.{has_home, bank_of, OnClusters}
 use Rattle.vx_mixed.specs.TraceOf.{CanTrace, IsTraceOf, block_at, block_or_none}
 use Rattle.vx_mixed.specs.Valid.{Valid, names_of, TestsBranch}
 use Rattle.vx_mixed.proofs.Linked.{index_in, in_index, some_blocks, some_same}
@@ -52,7 +51,7 @@ use Rattle.vx_region.specs.Planned.{placed_in, replacement_of, Planned}
 use Rattle.vx_region.specs.PlanLaws.{PlanLaw}
 use Rattle.vx_region.specs.Regions.{room_in, IsGraphOf, FitsIn, PlansFit}
 use Rattle.vx_region.proofs.Assignable.{bound_at_home, fixed_at_home, fixed_reads_here, clusters_are_there, values_are_there, across_of_values, is_well_formed}
-use Rattle.vx_region.proofs.ClusteredOps.{all_copies, stands, dismissed_at_home, op_comes, op_below, op_away, op_at_home, op_there, op_known}
+use Rattle.vx_region.proofs.ClusteredOps.{all_copies, stands, dismissed_at_home, op_below, op_away, op_at_home, op_there, op_known}
 use Rattle.vx_region.proofs.Formed.{splits_many}
 use Rattle.vx_region.proofs.PlainItems.{some_at}
 use Rattle.vx_region.proofs.PlanOps.{Comes, comes_placed, placed_there, MadeFrom, made_from, tests_branch}

@@ -1,8 +1,4 @@
-use Rattle.std.proofs.Common.{◌≡◌, sym, subst, refl}
-use Rattle.vx_flow.specs.declared.trace.Homes.{Homes}
-use Rattle.vx_flow.specs.declared.trace.Trace.{Trace}
-use Rattle.vx_isa.specs.Numbers.{Numbers}
-use Rattle.vx_mixed.specs.declared.mixed.MixedGraph.{MixedGraph}
+use Rattle.std.proofs.Common.{sym, subst}
 use Rattle.vx_bug.specs.CanAssign.{BoundAtHome, FixedAtHome, FixedReadsHere, ClustersAreThere}
 use Rattle.vx_region.proofs.Assignable.{bound_at_home, fixed_at_home, fixed_reads_here, clusters_are_there, values_are_there, copies_have_numbers, is_well_formed}
 use Rattle.vx_region.proofs.step.on_clusters.Goals as goal
