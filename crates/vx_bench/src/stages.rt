@@ -3,6 +3,9 @@
 // empty input passes and does within 100,000,000 blocks. Behind the line with the number of functions there is a line for each
 // state, with these four numbers.
 
+ghost use Rattle.std.specs.Prelude.{◌≡◌, true};
+ghost use Rattle.vx_flow.specs.Sound.{is_sound_flow};
+
 use crate::ending::Ended;
 use crate::operations::{Work, counted};
 use crate::source::program_of;
@@ -98,7 +101,10 @@ fn states_of(alloc: Global, program: &Typed) -> Result<States, NoMemory> {
     })
 }
 
-fn narrowed_again(alloc: Global, hoisted: Hoisted) -> Result<Flow, NoMemory> {
+/// The graphs narrowed and cleaned again where operations were put before loops.
+fn narrowed_again(alloc: Global, hoisted: Hoisted) -> Result<Flow, NoMemory>
+    requires { is_sound_flow hoisted.flow ≡ true }
+{
     if !hoisted.has_more {
         return Ok(hoisted.flow);
     }
