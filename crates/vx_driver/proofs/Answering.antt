@@ -1,6 +1,7 @@
 -- The answers of a command from those of its steps.
 use Rattle.std.proofs.Common.{◌≡◌, ◌≢◌, ◌⊎◌, inl, inr, ℕ, List, Option, Some, None, is_some, option_map, IfSome, MatchOption, refl, sym, subst, ap, ◌∙◌, arith}
-use Rattle.std.specs.Prelude.{IsSomeAnd, ◌≤◌}
+use Rattle.std.specs.Prelude.{IsSomeAnd, ◌≤◌, ◌<◌, suc, length, replicate}
+use Rattle.std.proofs.lemmas.List.{length-replicate}
 use Rattle.vx_base.specs.Outside.{Files, Rose, held_with, with_file, ReplacesPartly}
 use Rattle.vx_isa.specs.Numbers.{Numbers}
 use Rattle.vx_machine.specs.declared.description.MachineFault.TheVariants.{Bad}
@@ -16,7 +17,7 @@ use Rattle.vx_report.specs.Report.{names_of, report_text}
 use Rattle.vx_driver.specs.Command.{Compilation}
 use Rattle.vx_driver.specs.Stages.{MakesTexts}
 use Rattle.vx_driver.proofs.ProfileFile.{stands}
-use Rattle.vx_driver.specs.Answers.{HoldsSource, HoldsProgram, Accepts, RefusesSource, Refuses, Is, Refused, TooLong, Missing, machine_found, TextsOf, Compiles, Writes, WritesWords, with_report, ReportsPartly, WritesPartly, AreCounts, Effect, ReadsRose, ReplacesRose, SameFiles, SourceAnswers, RefusesProfile, ProfileAnswers, StopsAtProfile, MachineAnswers, StopsAtMachine, CompileAnswers, WriteAnswers, once_written, ReportAnswers, PutsTexts, MachineOrTexts, ProgramAnswers}
+use Rattle.vx_driver.specs.Answers.{HoldsSource, HoldsProgram, Accepts, RefusesSource, Refuses, BadProfile, Is, Refused, TooLong, Missing, found_in, machine_found, TextsOf, Compiles, Writes, WritesWords, with_report, ReportsPartly, WritesPartly, AreCounts, Effect, ReadsRose, ReplacesRose, SameFiles, OfFile, SourceAnswers, RefusesProfile, ProfileAnswers, StopsAtProfile, MachineAnswers, StopsAtMachine, CompileAnswers, WriteAnswers, once_written, ReportAnswers, PutsTexts, MachineOrTexts, ProgramAnswers}
 
 pub rose_since : (before mid after : ℕ) → before ≤ mid → Rose mid after → Rose before after
 rose_since before mid after le (inl more) = inl (omega arith)
@@ -43,6 +44,9 @@ replaces_since e f s rose = rose_since f.replaces_before e.replaces_before f.rep
 pub told_since : (e f : Effect) (P : Files → Type 0) → Since e f → IfSome e.before P → IfSome f.before P
 told_since e f P s h = subst (λ b. IfSome b P) (sym s.before) h
 
+pub said_since : (e f : Effect) (P : Files → Type 0) (Q : List ℕ → Type 0) → Since e f → OfFile e.before P Q → OfFile f.before P Q
+said_since e f P Q s h = subst (λ b. OfFile b P Q) (sym s.before) h
+
 pub missing_since : (e f : Effect) (P : Files → Type 0) (b : Option Files) → Since e f → MatchOption b (ReadsRose e) P → MatchOption b (ReadsRose f) P
 missing_since e f P None s h = reads_since e f s h
 missing_since e f P (Some held) s h = h
@@ -58,7 +62,7 @@ machine_since machine e f (Input place) s a = absurd a
 machine_since machine e f (Stuck reason place) s a = absurd a
 machine_since machine e f (Source code line column) s a = absurd a
 machine_since machine e f (Limit number count) s a = (a.0, a.1, same_since e f s a.2, told_since e f (λ held. machine_found held machine ≡ TooLong) s a.3)
-machine_since machine e f (Machine code field) s a = (same_since e f s a.0, told_since e f (λ held. machine_found held machine ≡ Refused (Bad code field)) s a.1)
+machine_since machine e f (Machine code field) s a = (same_since e f s a.0, said_since e f (λ held. machine_found held machine ≡ Refused (Bad code field)) (λ content. found_in (Some content) ≡ Refused (Bad code field)) s a.1)
 machine_since machine e f (NoFile role) s a =
     let P : Files → Type 0 = λ held. machine_found held machine ≡ Missing in
     (a.0, same_since e f s a.1, subst (λ b. MatchOption b (ReadsRose f) P) (sym s.before) (missing_since e f P e.before s a.2))
@@ -71,7 +75,7 @@ profile_since profile e f Done s a = absurd a
 profile_since profile e f Usage s a = absurd a
 profile_since profile e f (Trapped trap) s a = absurd a
 profile_since profile e f (Words code line) s a = absurd a
-profile_since profile e f (Profile code line) s a = (same_since e f s a.0, told_since e f (λ held. RefusesProfile held profile (Profile code line)) s a.1)
+profile_since profile e f (Profile code line) s a = (same_since e f s a.0, said_since e f (λ held. RefusesProfile held profile (Profile code line)) (λ content. BadProfile content (Profile code line)) s a.1)
 profile_since profile e f Stopped s a = absurd a
 profile_since profile e f (Input place) s a = absurd a
 profile_since profile e f (Stuck reason place) s a = absurd a
@@ -87,8 +91,9 @@ profile_since profile e f NoMemory s a = same_since e f s a
 
 -- a source that could not be read through
 
-refuses_in : (source content : List ℕ) (status : Status) (b : Option Files) → IfSome b (λ held. HoldsSource held source content) → RefusesSource content status → IfSome b (λ held. Refuses held source status)
-refuses_in source content status None h r = tt
+refuses_in : (source content : List ℕ) (status : Status) (b : Option Files) → IfSome b (λ held. HoldsSource held source content) → RefusesSource content status →
+    OfFile b (λ held. Refuses held source status) (λ bytes. RefusesSource bytes status)
+refuses_in source content status None h r = (content, r)
 refuses_in source content status (Some held) h r = record { content = content; holds = h.holds; refused = r }
 
 pub holds_in : (source content : List ℕ) (program : Program) (b : Option Files) → IfSome b (λ held. HoldsSource held source content) → Reads content program → IfSome b (λ held. HoldsProgram held source program)
@@ -105,8 +110,16 @@ pub unread : (source content : List ℕ) (e : Effect) (status : Status) → IfSo
 unread source content e status h same (inl is) = subst (SourceAnswers source e) (sym is) same
 unread source content e status h same (inr why) = refused source content e status h same why
 
-long_in : (source : List ℕ) (b : Option Files) → IfSome b (λ held. ReadsFile held source most_bytes FileTooLong) → IfSome b (λ held. Refuses held source (Limit 1 1048577))
-long_in source None h = tt
+-- some bytes are more than so many
+more_than : (n : ℕ) → (content : List ℕ) × (n < length content)
+more_than n =
+    let byte : ℕ = 0 in
+    let long : length (replicate (suc n) byte) ≡ suc n = length-replicate (suc n) byte in
+    (replicate (suc n) byte, omega (arith, long))
+
+long_in : (source : List ℕ) (b : Option Files) → IfSome b (λ held. ReadsFile held source most_bytes FileTooLong) →
+    OfFile b (λ held. Refuses held source (Limit 1 1048577)) (λ bytes. RefusesSource bytes (Limit 1 1048577))
+long_in source None h = let long = more_than most_bytes in (long.0, too_long long.1)
 long_in source (Some held) h = record { content = h.content; holds = h.holds; refused = too_long h.answers }
 
 pub long_source : (source : List ℕ) (e : Effect) → IfSome e.before (λ held. ReadsFile held source most_bytes FileTooLong) → SameFiles e → SourceAnswers source e (Limit 1 1048577)

@@ -13,7 +13,7 @@ use Rattle.vx_ast.specs.Reads.{Reads, Refusal}
 use Rattle.vx_driver.proofs.SourceLaws.{never_both, one_refusal}
 use Rattle.vx_driver.proofs.ProfileFile.{not_both_profiles, one_profile_status}
 use Rattle.vx_driver.specs.Command.{Compilation}
-use Rattle.vx_driver.specs.Answers.{Accepts, status_of, RefusesSource, Refuses, MachineFound, Is, Refused, TooLong, Missing, machine_found, ProfileStands, RefusesProfile, Writes, Effect, ReadsRose, ReplacesRose, CompileAnswers, CompileEnds}
+use Rattle.vx_driver.specs.Answers.{Accepts, status_of, RefusesSource, Refuses, MachineFound, Is, Refused, TooLong, Missing, found_in, machine_found, BadProfile, ProfileStands, RefusesProfile, Writes, Effect, ReadsRose, ReplacesRose, OfFile, CompileAnswers, CompileEnds}
 
 -- a source's file is one of accepted, refused and missing
 
@@ -40,6 +40,13 @@ told P b held is h = subst (λ o. IfSome o P) is h
 pub told_or : (Q : Type 0) (P : Files → Type 0) (b : Option Files) (held : Files) → b ≡ Some held → MatchOption b Q P → P held
 told_or Q P b held is h = subst (λ o. MatchOption o Q P) is h
 
+pub told_of : (P : Files → Type 0) (Q : List ℕ → Type 0) (b : Option Files) (held : Files) → b ≡ Some held → OfFile b P Q → P held
+told_of P Q b held is h = subst (λ o. OfFile o P Q) is h
+
+pub refused_told : (source : List ℕ) (status : Status) (b : Option Files) (held : Files) → b ≡ Some held →
+    OfFile b (λ h. Refuses h source status) (λ bytes. RefusesSource bytes status) → Refuses held source status
+refused_told source status b held is h = told_of (λ k. Refuses k source status) (λ bytes. RefusesSource bytes status) b held is h
+
 module _ (asked : Compilation) (held : Files) (e : Effect) (is : e.before ≡ Some held) (quiet_reads : ReadsRose e → ⊥) (quiet_replaces : ReplacesRose e → ⊥) where
   accepts_told : IfSome e.before (λ h. Accepts h asked.source) → Accepts held asked.source
   accepts_told a = told (λ h. Accepts h asked.source) e.before held is a
@@ -60,15 +67,16 @@ module _ (asked : Compilation) (held : Files) (e : Effect) (is : e.before ≡ So
   told_ends Stopped a = absurd a
   told_ends (Input place) a = absurd a
   told_ends (Stuck reason place) a = absurd a
-  told_ends (Source code line column) a = refused (told (λ h. Refuses h asked.source (Source code line column)) e.before held is a.1)
-  told_ends (Limit number count) (inl a) = refused (told (λ h. Refuses h asked.source (Limit number count)) e.before held is a.1)
+  told_ends (Source code line column) a = refused (refused_told asked.source (Source code line column) e.before held is a.1)
+  told_ends (Limit number count) (inl a) = refused (refused_told asked.source (Limit number count) e.before held is a.1)
   told_ends (Limit number count) (inr (inl a)) = no_profile (accepts_told a.accepted) (told (λ h. RefusesProfile h asked.profile (Limit number count)) e.before held is a.answers.3)
   told_ends (Limit number count) (inr (inr a)) =
       let long : machine_found held asked.machine ≡ TooLong = told (λ h. machine_found h asked.machine ≡ TooLong) e.before held is a.answers.3 in
       subst (Ends held asked.source asked.profile asked.machine) (same_limit number count a.answers.0 a.answers.1) (long_machine (accepts_told a.accepted) (stands_told a.profiled) long)
-  told_ends (Profile code line) a = no_profile (accepts_told a.accepted) (told (λ h. RefusesProfile h asked.profile (Profile code line)) e.before held is a.answers.1)
+  told_ends (Profile code line) a = no_profile (accepts_told a.accepted) (told_of (λ h. RefusesProfile h asked.profile (Profile code line)) (λ content. BadProfile content (Profile code line)) e.before held is a.answers.1)
   told_ends (Machine code field) a =
-      bad_machine code field (accepts_told a.accepted) (stands_told a.profiled) (told (λ h. machine_found h asked.machine ≡ Refused (Bad code field)) e.before held is a.answers.1)
+      bad_machine code field (accepts_told a.accepted) (stands_told a.profiled)
+      (told_of (λ h. machine_found h asked.machine ≡ Refused (Bad code field)) (λ content. found_in (Some content) ≡ Refused (Bad code field)) e.before held is a.answers.1)
   told_ends (NoFile TheWords) a = absurd a
   told_ends (NoFile TheInput) a = absurd a
   told_ends (NoFile TheSource) a = no_source (told_or (ReadsRose e) (λ h. h asked.source ≡ None) e.before held is a.2)

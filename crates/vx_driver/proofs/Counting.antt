@@ -15,7 +15,7 @@ use Rattle.vx_driver.specs.Counted.{CountsRead, CountedRun, StopsAtCountsInput, 
 use Rattle.vx_driver.specs.Counting.{CountedOn, CountedFor, PutsText, over, goes_on, cut, StopsProfiling}
 use Rattle.vx_driver.proofs.Answering.{Since, told_since, accepts_in}
 use Rattle.vx_driver.proofs.Executing.{input_since}
-use Rattle.vx_driver.proofs.Completing.{same_content, not_missing, told, told_or, not_both, one_status, not_faulty}
+use Rattle.vx_driver.proofs.Completing.{same_content, not_missing, told, told_or, refused_told, not_both, one_status, not_faulty}
 
 -- one step after the other
 
@@ -161,8 +161,8 @@ module _ (asked : Profiling) (e : Effect) (s : Streams) (held : Files) (is : e.b
   ended Done a = ran a.0.counted.program a.0.counted.input (read_told a.0.counted) (inl refl)
   ended (Trapped trap) a = absurd a
   ended Usage a = absurd a
-  ended (Source code line column) a = refused (told (λ h. Refuses h asked.source (Source code line column)) e.before held is a.1)
-  ended (Limit number count) (inl a) = refused (told (λ h. Refuses h asked.source (Limit number count)) e.before held is a.1)
+  ended (Source code line column) a = refused (refused_told asked.source (Source code line column) e.before held is a.1)
+  ended (Limit number count) (inl a) = refused (refused_told asked.source (Limit number count) e.before held is a.1)
   ended (Limit number count) (inr a) =
       no_input (accepts_told a.accepted) (input_told (Limit 12 16777217) a.answers.3 ∙ ap Err (same_limit number count a.answers.0 a.answers.1))
   ended (Words code line) a = absurd a

@@ -13,11 +13,11 @@ use Rattle.vx_ast.specs.declared.fault.SourceFault.{SourceFault}
 use Rattle.vx_probe.specs.Times.{Times}
 use Rattle.vx_driver.specs.Command.{Execution}
 use Rattle.vx_driver.specs.Boxes.{Boxes, Chosen, chosen}
-use Rattle.vx_driver.specs.Answers.{HoldsProgram, Accepts, status_of, RefusesSource, Refuses, MachineFound, ProfileStands, RefusesProfile, Is, Refused, TooLong, Missing, machine_found, Effect, ReadsRose}
+use Rattle.vx_driver.specs.Answers.{HoldsProgram, Accepts, status_of, RefusesSource, Refuses, MachineFound, BadProfile, ProfileStands, RefusesProfile, Is, Refused, TooLong, Missing, found_in, machine_found, Effect, ReadsRose}
 use Rattle.vx_driver.specs.Simulated.{Loaded, machine_as, input_found, outcome_within, Streams, OutRose, ErrRose}
 use Rattle.vx_driver.specs.Executed.{AllHeld, CompiledBy, Prepared, Runs, RunsCut, ExecutionAnswers, ExecAnswers, GoesOn, EndsAs, ExecEnds, ExecutionCompletes, ExecCompletes}
 use Rattle.vx_driver.proofs.SourceLaws.{one_program}
-use Rattle.vx_driver.proofs.Completing.{same_content, not_missing, told, told_or, not_both, one_status, not_faulty}
+use Rattle.vx_driver.proofs.Completing.{same_content, not_missing, told, told_of, told_or, refused_told, not_both, one_status, not_faulty}
 use Rattle.vx_driver.proofs.ProfileFile.{not_both_profiles, one_profile_status}
 use Rattle.vx_driver.proofs.Simulating.{box_completes}
 
@@ -67,16 +67,17 @@ module _ (asked : Execution) (boxes : Chosen) (e : Effect) (s : Streams) (held :
   ended Done a = ran a.2.ready.source_program a.2.words (all_told a.2.words a.2.ready) (a.0, a.1, a.2.in_source)
   ended (Trapped trap) a = ran a.1.ready.source_program a.1.words (all_told a.1.words a.1.ready) (a.0, a.1.in_source)
   ended Usage a = absurd a
-  ended (Source code line column) a = refused (told (λ h. Refuses h asked.source (Source code line column)) e.before held is a.1)
-  ended (Limit number count) (inl a) = refused (told (λ h. Refuses h asked.source (Limit number count)) e.before held is a.1)
+  ended (Source code line column) a = refused (refused_told asked.source (Source code line column) e.before held is a.1)
+  ended (Limit number count) (inl a) = refused (refused_told asked.source (Limit number count) e.before held is a.1)
   ended (Limit number count) (inr (inl a)) = no_profile (accepts_told a.accepted) (told (λ h. RefusesProfile h asked.profile (Limit number count)) e.before held is a.answers.3)
   ended (Limit number count) (inr (inr (inl a))) =
       no_machine (accepts_told a.accepted) (stands_told a.profiled) (ap machine_as (machine_told TooLong a.answers.3) ∙ ap Err (same_limit 11 65537 number count a.answers.0 a.answers.1))
   ended (Limit number count) (inr (inr (inr a))) =
       no_input a.machine (accepts_told a.accepted) (stands_told a.profiled) (machine_told (Is a.machine) a.machine_is) (input_told (Limit 12 16777217) a.answers.3 ∙ ap Err (same_limit 12 16777217 number count a.answers.0 a.answers.1))
   ended (Words code line) a = absurd a
-  ended (Profile code line) a = no_profile (accepts_told a.accepted) (told (λ h. RefusesProfile h asked.profile (Profile code line)) e.before held is a.answers.1)
-  ended (Machine code field) a = no_machine (accepts_told a.accepted) (stands_told a.profiled) (ap machine_as (machine_told (Refused (Bad code field)) a.answers.1))
+  ended (Profile code line) a = no_profile (accepts_told a.accepted) (told_of (λ h. RefusesProfile h asked.profile (Profile code line)) (λ content. BadProfile content (Profile code line)) e.before held is a.answers.1)
+  ended (Machine code field) a = no_machine (accepts_told a.accepted) (stands_told a.profiled)
+      (ap machine_as (told_of (λ h. machine_found h asked.machine ≡ Refused (Bad code field)) (λ content. found_in (Some content) ≡ Refused (Bad code field)) e.before held is a.answers.1))
   ended (NoFile TheSource) a = no_source (told_or (ReadsRose e) (λ h. h asked.source ≡ None) e.before held is a.2)
   ended (NoFile TheWords) a = absurd a
   ended (NoFile TheProfile) a = no_profile (accepts_told a.accepted) (told_or (ReadsRose e) (λ h. RefusesProfile h asked.profile (NoFile TheProfile)) e.before held is a.answers.2)

@@ -14,7 +14,7 @@ use Rattle.vx_machine.specs.declared.description.MachineFault.TheVariants.{Bad}
 use Rattle.vx_words.specs.Text.{Spells, Fault, reading}
 use Rattle.vx_driver.specs.declared.status.Status.{Status}
 use Rattle.vx_driver.specs.declared.status.Status.TheVariants.{Done, Trapped, Usage, Source, Limit, Words, Profile, Machine, NoFile, ReadFault, WriteFault, Stopped, Input, Stuck, NoMemory}
-use Rattle.vx_driver.specs.Answers.{MachineFound, Is, Refused, TooLong, Missing, machine_found, Effect, ReadsRose, SameFiles, MachineAnswers}
+use Rattle.vx_driver.specs.Answers.{MachineFound, Is, Refused, TooLong, Missing, found_in, machine_found, Effect, ReadsRose, SameFiles, OfFile, MachineAnswers}
 use Rattle.vx_driver.specs.InputText.{input_reading}
 use Rattle.vx_driver.specs.Simulated.{file_in, words_as, words_in, machine_as, input_as, input_found, Loaded, with_input, loading_input, loading_machine, loading, is_named, Stops}
 use Rattle.vx_driver.specs.Executed.{InputAnswers}
@@ -133,6 +133,12 @@ machine_missing : (machine : Option (List ℕ)) (Rises : Type 0) (b : Option Fil
 machine_missing machine Rises None h = h
 machine_missing machine Rises (Some held) h = ap machine_as h
 
+machine_refused : (machine : Option (List ℕ)) (code field : ℕ) (b : Option Files) →
+    OfFile b (λ held. machine_found held machine ≡ Refused (Bad code field)) (λ content. found_in (Some content) ≡ Refused (Bad code field)) →
+    IfSome b (λ held. machine_as (machine_found held machine) ≡ Err (Machine code field))
+machine_refused machine code field None h = tt
+machine_refused machine code field (Some held) h = ap machine_as h
+
 abbrev MachineStops : (machine : Option (List ℕ)) → Effect → Status → Type 0
 MachineStops machine e status = Stops (is_named machine None) (λ held. machine_as (machine_found held machine)) e status
 
@@ -149,7 +155,7 @@ machine_stops machine e (Limit number count) named a =
     same_limit number count a b = cc
 machine_stops machine e (Words code line) named a = absurd a
 machine_stops machine e (Profile code line) named a = absurd a
-machine_stops machine e (Machine code field) named a = machine_told machine (Refused (Bad code field)) e.before (Err (Machine code field)) a.1 refl
+machine_stops machine e (Machine code field) named a = machine_refused machine code field e.before a.1
 machine_stops machine e (NoFile role) named a =
     subst (λ r. MachineStops machine e (NoFile r)) (sym a.0) (named, machine_missing machine (ReadsRose e) e.before a.2)
 machine_stops machine e (ReadFault role) named a = subst (λ r. MachineStops machine e (ReadFault r)) (sym a.0) (named, a.2)

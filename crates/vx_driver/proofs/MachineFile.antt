@@ -11,7 +11,7 @@ use Rattle.vx_machine.specs.declared.description.MachineFault.TheVariants.{Bad}
 use Rattle.vx_machine.specs.Descriptions.{reading}
 use Rattle.vx_driver.specs.declared.status.Status.{Status}
 use Rattle.vx_driver.specs.declared.status.Status.TheVariants.{Done, Trapped, Usage, Source, Limit, Words, Profile, Machine, NoFile, ReadFault, WriteFault, Stopped, Input, Stuck, NoMemory}
-use Rattle.vx_driver.specs.Answers.{most_description_bytes, MachineFound, Is, Refused, TooLong, Missing, found_by, found_in, machine_found, Effect, SameFiles, MachineAnswers, RefusesDescription}
+use Rattle.vx_driver.specs.Answers.{most_description_bytes, MachineFound, Is, Refused, TooLong, Missing, found_by, found_in, machine_found, Effect, SameFiles, OfFile, MachineAnswers, RefusesDescription}
 
 short_found : (content : List ℕ) (found : MachineFound) → length content ≤ most_description_bytes → found_by (reading content) ≡ found → found_in (Some content) ≡ found
 short_found content found le is = rw (le-leb (length content) most_description_bytes le) is
@@ -36,23 +36,29 @@ pub described : (b : Option Files) (name : List ℕ) (bytes : Vec ℕ Global) (m
     reading bytes.items ≡ Ok machine → IfSome b (λ held. machine_found held (Some name) ≡ Is machine)
 described b name bytes machine h is = found_whole b name bytes (Is machine) h (ap found_by is)
 
-pub undescribed : (name : List ℕ) (bytes : Vec ℕ Global) (e : Effect) (status : Status) → IfSome e.before (λ held. ReadsFile held name most_description_bytes (Whole bytes)) → SameFiles e →
+fault_found : (b : Option Files) (name : List ℕ) (bytes : Vec ℕ Global) (found : MachineFound) → length bytes.items ≤ most_description_bytes →
+    IfSome b (λ held. ReadsFile held name most_description_bytes (Whole bytes)) → found_by (reading bytes.items) ≡ found →
+    OfFile b (λ held. machine_found held (Some name) ≡ found) (λ content. found_in (Some content) ≡ found)
+fault_found None name bytes found short h is = (bytes.items, short_found bytes.items found short is)
+fault_found (Some held) name bytes found short h is = whole_found held name bytes found h is
+
+pub undescribed : (name : List ℕ) (bytes : Vec ℕ Global) (e : Effect) (status : Status) → length bytes.items ≤ most_description_bytes → IfSome e.before (λ held. ReadsFile held name most_description_bytes (Whole bytes)) → SameFiles e →
     RefusesDescription bytes.items status → MachineAnswers (Some name) e status
-undescribed name bytes e Done h same r = absurd r
-undescribed name bytes e Usage h same r = absurd r
-undescribed name bytes e (Trapped trap) h same r = absurd r
-undescribed name bytes e (Words code line) h same r = absurd r
-undescribed name bytes e (Profile code line) h same r = absurd r
-undescribed name bytes e Stopped h same r = absurd r
-undescribed name bytes e (Input place) h same r = absurd r
-undescribed name bytes e (Stuck reason place) h same r = absurd r
-undescribed name bytes e (Source code line column) h same r = absurd r
-undescribed name bytes e (Limit number count) h same r = absurd r
-undescribed name bytes e (Machine code field) h same r = (same, found_whole e.before name bytes (Refused (Bad code field)) h (ap found_by r))
-undescribed name bytes e (NoFile role) h same r = absurd r
-undescribed name bytes e (ReadFault role) h same r = absurd r
-undescribed name bytes e WriteFault h same r = absurd r
-undescribed name bytes e NoMemory h same r = same
+undescribed name bytes e Done short h same r = absurd r
+undescribed name bytes e Usage short h same r = absurd r
+undescribed name bytes e (Trapped trap) short h same r = absurd r
+undescribed name bytes e (Words code line) short h same r = absurd r
+undescribed name bytes e (Profile code line) short h same r = absurd r
+undescribed name bytes e Stopped short h same r = absurd r
+undescribed name bytes e (Input place) short h same r = absurd r
+undescribed name bytes e (Stuck reason place) short h same r = absurd r
+undescribed name bytes e (Source code line column) short h same r = absurd r
+undescribed name bytes e (Limit number count) short h same r = absurd r
+undescribed name bytes e (Machine code field) short h same r = (same, fault_found e.before name bytes (Refused (Bad code field)) short h (ap found_by r))
+undescribed name bytes e (NoFile role) short h same r = absurd r
+undescribed name bytes e (ReadFault role) short h same r = absurd r
+undescribed name bytes e WriteFault short h same r = absurd r
+undescribed name bytes e NoMemory short h same r = same
 
 pub too_long : (b : Option Files) (name : List ℕ) → IfSome b (λ held. ReadsFile held name most_description_bytes FileTooLong) → IfSome b (λ held. machine_found held (Some name) ≡ TooLong)
 too_long None name h = tt

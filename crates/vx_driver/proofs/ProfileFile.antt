@@ -16,7 +16,7 @@ use Rattle.vx_profile.specs.Text.{Row, Reaches, FaultAt, Spells, header, row_tex
 use Rattle.vx_profile.proofs.Once.{spelled_without_fault, fault_once}
 use Rattle.vx_driver.specs.declared.status.Status.{Status}
 use Rattle.vx_driver.specs.declared.status.Status.TheVariants.{Limit, Profile, NoFile, NoMemory}
-use Rattle.vx_driver.specs.Answers.{most_profile_bytes, HoldsCounts, status_of_profile, BadProfile, NoCountsIn, AreCounts, ProfileStands, RefusesProfile, Effect, ReadsRose, SameFiles, ProfileAnswers}
+use Rattle.vx_driver.specs.Answers.{most_profile_bytes, HoldsCounts, status_of_profile, BadProfile, NoCountsIn, AreCounts, ProfileStands, RefusesProfile, Effect, ReadsRose, SameFiles, OfFile, ProfileAnswers}
 
 -- the lines of few bytes are few
 
@@ -84,8 +84,8 @@ spelled (Some held) name bytes counts h s = record {
 }
 
 bad_in : (b : Option Files) (name : List ℕ) (bytes : Vec ℕ Global) (status : Status) → IfSome b (λ held. ReadsFile held name 16777216 (Whole bytes)) → BadProfile bytes.items status →
-    IfSome b (λ held. NoCountsIn (held name) status)
-bad_in None name bytes status h bad = tt
+    OfFile b (λ held. NoCountsIn (held name) status) (λ content. BadProfile content status)
+bad_in None name bytes status h bad = (bytes.items, bad)
 bad_in (Some held) name bytes status h bad =
     subst (λ o. NoCountsIn o status) (sym h.holds) (inr (subst (λ content. BadProfile content status) h.answers.0 bad))
 

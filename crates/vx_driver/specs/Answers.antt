@@ -212,12 +212,19 @@ ReplacesRose e = Rose e.replaces_before e.replaces_after
 abbrev pub SameFiles : Effect → Type 0
 SameFiles e = e.after ≡ e.before
 
--- each status says what it says, of the files that the depot tells; where it tells none, only the counts speak
+-- what the refusal of a file says: of the files that the depot tells; where it tells none, of some bytes
+abbrev pub OfFile : (before : Option Files) → (says : Files → Type 0) → (says_of_bytes : List ℕ → Type 0) → Type 0
+OfFile before says says_of_bytes = MatchOption before ((content : List ℕ) × says_of_bytes content) says
+
+-- each status says what it says, of the files that the depot tells; where it tells none, a fault is one of some bytes, and of a
+-- file that is missing or cannot be read only the counts speak
 
 -- of a status that comes from the source
 abbrev pub SourceAnswers : (source : List ℕ) → Effect → Status → Type 0
-SourceAnswers source e (Source code line column) = SameFiles e × IfSome e.before (λ held. Refuses held source (Source code line column))
-SourceAnswers source e (Limit number count) = SameFiles e × IfSome e.before (λ held. Refuses held source (Limit number count))
+SourceAnswers source e (Source code line column) =
+    SameFiles e × OfFile e.before (λ held. Refuses held source (Source code line column)) (λ content. RefusesSource content (Source code line column))
+SourceAnswers source e (Limit number count) =
+    SameFiles e × OfFile e.before (λ held. Refuses held source (Limit number count)) (λ content. RefusesSource content (Limit number count))
 SourceAnswers source e (NoFile role) = (role ≡ TheSource) × SameFiles e × MatchOption e.before (ReadsRose e) (λ held. held source ≡ None)
 SourceAnswers source e (ReadFault role) = (role ≡ TheSource) × SameFiles e × ReadsRose e
 SourceAnswers source e NoMemory = SameFiles e
@@ -226,7 +233,8 @@ SourceAnswers source e status = ⊥
 -- of a status that comes from the profile of the command
 abbrev pub ProfileAnswers : (profile : Option (List ℕ)) → Effect → Status → Type 0
 ProfileAnswers profile e (Limit number count) = (number ≡ 10) × (count ≡ 16777217) × SameFiles e × IfSome e.before (λ held. RefusesProfile held profile (Limit number count))
-ProfileAnswers profile e (Profile code line) = SameFiles e × IfSome e.before (λ held. RefusesProfile held profile (Profile code line))
+ProfileAnswers profile e (Profile code line) =
+    SameFiles e × OfFile e.before (λ held. RefusesProfile held profile (Profile code line)) (λ content. BadProfile content (Profile code line))
 ProfileAnswers profile e (NoFile role) = (role ≡ TheProfile) × SameFiles e × MatchOption e.before (ReadsRose e) (λ held. RefusesProfile held profile (NoFile role))
 ProfileAnswers profile e (ReadFault role) = (role ≡ TheProfile) × SameFiles e × ReadsRose e
 ProfileAnswers profile e NoMemory = SameFiles e
@@ -241,7 +249,8 @@ pub record StopsAtProfile (source : List ℕ) (profile : Option (List ℕ)) (e :
 -- of a status that comes from the machine of the command
 abbrev pub MachineAnswers : (machine : Option (List ℕ)) → Effect → Status → Type 0
 MachineAnswers machine e (Limit number count) = (number ≡ 11) × (count ≡ 65537) × SameFiles e × IfSome e.before (λ held. machine_found held machine ≡ TooLong)
-MachineAnswers machine e (Machine code field) = SameFiles e × IfSome e.before (λ held. machine_found held machine ≡ Refused (Bad code field))
+MachineAnswers machine e (Machine code field) =
+    SameFiles e × OfFile e.before (λ held. machine_found held machine ≡ Refused (Bad code field)) (λ content. found_in (Some content) ≡ Refused (Bad code field))
 MachineAnswers machine e (NoFile role) = (role ≡ TheMachine) × SameFiles e × MatchOption e.before (ReadsRose e) (λ held. machine_found held machine ≡ Missing)
 MachineAnswers machine e (ReadFault role) = (role ≡ TheMachine) × SameFiles e × ReadsRose e
 MachineAnswers machine e NoMemory = SameFiles e

@@ -16,5 +16,5 @@ pub returns-in-Ok-Whole-clause-answers : goal.returns-in-Ok-Whole-clause-answers
 returns-in-Ok-Whole-clause-answers g c =
     IfErr-weaker c.machine_of.result (RefusesDescription c.in-Ok-Whole.bytes.items) _
     (λ status why. undescribed c.args.name.now c.in-Ok-Whole.bytes
-    (effect_of g.D.Depot.files g.D.Depot.failed_reads g.D.Depot.failed_replaces c.args.depot.now c.read_file.new.depot) status (rw c.in-Ok-Whole.field-0-is at c.in-Ok-Whole.ensures.content) c.read_file.ensures.same_files why)
+    (effect_of g.D.Depot.files g.D.Depot.failed_reads g.D.Depot.failed_replaces c.args.depot.now c.read_file.new.depot) status (rw c.in-Ok-Whole.field-0-is at c.in-Ok-Whole.ensures.at_most) (rw c.in-Ok-Whole.field-0-is at c.in-Ok-Whole.ensures.content) c.read_file.ensures.same_files why)
     (rw c.as_slice.ensures.value at c.machine_of.ensures.refused)
