@@ -8,14 +8,14 @@ use Rattle.vx_ast.specs.declared.fault.SourceFault.{SourceFault}
 use Rattle.vx_driver.specs.declared.status.Status.{Status}
 use Rattle.vx_driver.specs.declared.status.Status.TheVariants.{Done, Trapped, Usage, Source, Limit, Words, Profile, Machine, NoFile, ReadFault, WriteFault, Stopped, Input, Stuck, NoMemory}
 use Rattle.vx_driver.specs.Command.{Profiling}
-use Rattle.vx_driver.specs.Answers.{HoldsProgram, Accepts, Refuses, RefusesSource, status_of, Effect, ReadsRose, SameFiles, SourceAnswers}
-use Rattle.vx_driver.specs.Simulated.{input_found, Streams, OutRose}
+use Rattle.vx_driver.specs.Answers.{HoldsProgram, Accepts, Refuses, RefusesSource, status_of, Effect, ReadsRose, SameFiles, OfFile, SourceAnswers}
+use Rattle.vx_driver.specs.Simulated.{input_in, input_found, Streams, OutRose}
 use Rattle.vx_driver.specs.Executed.{InputAnswers}
 use Rattle.vx_driver.specs.Counted.{CountsRead, CountedRun, StopsAtCountsInput, CountsAnswers, ProfilingAnswers, CountsEnd, ProfilingCompletes}
 use Rattle.vx_driver.specs.Counting.{CountedOn, CountedFor, PutsText, over, goes_on, cut, StopsProfiling}
 use Rattle.vx_driver.proofs.Answering.{Since, told_since, accepts_in}
 use Rattle.vx_driver.proofs.Executing.{input_since}
-use Rattle.vx_driver.proofs.Completing.{same_content, not_missing, told, told_or, refused_told, not_both, one_status, not_faulty}
+use Rattle.vx_driver.proofs.Completing.{same_content, not_missing, told, told_of, told_or, refused_told, not_both, one_status, not_faulty}
 
 -- one step after the other
 
@@ -154,6 +154,9 @@ module _ (asked : Profiling) (e : Effect) (s : Streams) (held : Files) (is : e.b
   input_told : (status : Status) → IfSome e.before (λ h. input_found h asked.input ≡ Err status) → input_found held asked.input ≡ Err status
   input_told status h = told (λ k. input_found k asked.input ≡ Err status) e.before held is h
 
+  input_refused : (place : ℕ) → OfFile e.before (λ h. input_found h asked.input ≡ Err (Input place)) (λ content. input_in (Some content) ≡ Err (Input place)) → input_found held asked.input ≡ Err (Input place)
+  input_refused place h = told_of (λ k. input_found k asked.input ≡ Err (Input place)) (λ content. input_in (Some content) ≡ Err (Input place)) e.before held is h
+
   same_limit : (number count : ℕ) → number ≡ 12 → count ≡ 16777217 → Limit 12 16777217 ≡ Limit number count
   same_limit number count a b = cc
 
@@ -180,7 +183,7 @@ module _ (asked : Profiling) (e : Effect) (s : Streams) (held : Files) (is : e.b
   ended (ReadFault TheInput) a = absurd (quiet_reads a.answers.2)
   ended WriteFault a = absurd (quiet_out a.rose)
   ended Stopped a = ran a.0.counted.program a.0.counted.input (read_told a.0.counted) (inr refl)
-  ended (Input place) a = no_input (accepts_told a.accepted) (input_told (Input place) a.answers.1)
+  ended (Input place) a = no_input (accepts_told a.accepted) (input_refused place a.answers.1)
   ended (Stuck reason place) a = absurd a
   ended NoMemory a = no_memory
 

@@ -13,8 +13,8 @@ use Rattle.vx_ast.specs.declared.fault.SourceFault.{SourceFault}
 use Rattle.vx_probe.specs.Times.{Times}
 use Rattle.vx_driver.specs.Command.{Execution}
 use Rattle.vx_driver.specs.Boxes.{Boxes, Chosen, chosen}
-use Rattle.vx_driver.specs.Answers.{HoldsProgram, Accepts, status_of, RefusesSource, Refuses, MachineFound, BadProfile, ProfileStands, RefusesProfile, Is, Refused, TooLong, Missing, found_in, machine_found, Effect, ReadsRose}
-use Rattle.vx_driver.specs.Simulated.{Loaded, machine_as, input_found, outcome_within, Streams, OutRose, ErrRose}
+use Rattle.vx_driver.specs.Answers.{HoldsProgram, Accepts, status_of, RefusesSource, Refuses, MachineFound, BadProfile, ProfileStands, RefusesProfile, Is, Refused, TooLong, Missing, found_in, machine_found, Effect, ReadsRose, OfFile}
+use Rattle.vx_driver.specs.Simulated.{Loaded, machine_as, input_in, input_found, outcome_within, Streams, OutRose, ErrRose}
 use Rattle.vx_driver.specs.Executed.{AllHeld, CompiledBy, Prepared, Runs, RunsCut, ExecutionAnswers, ExecAnswers, GoesOn, EndsAs, ExecEnds, ExecutionCompletes, ExecCompletes}
 use Rattle.vx_driver.proofs.SourceLaws.{one_program}
 use Rattle.vx_driver.proofs.Completing.{same_content, not_missing, told, told_of, told_or, refused_told, not_both, one_status, not_faulty}
@@ -49,6 +49,9 @@ module _ (asked : Execution) (boxes : Chosen) (e : Effect) (s : Streams) (held :
 
   input_told : (status : Status) → IfSome e.before (λ h. input_found h asked.input ≡ Err status) → input_found held asked.input ≡ Err status
   input_told status h = told (λ k. input_found k asked.input ≡ Err status) e.before held is h
+
+  input_refused : (place : ℕ) → OfFile e.before (λ h. input_found h asked.input ≡ Err (Input place)) (λ content. input_in (Some content) ≡ Err (Input place)) → input_found held asked.input ≡ Err (Input place)
+  input_refused place h = told_of (λ k. input_found k asked.input ≡ Err (Input place)) (λ content. input_in (Some content) ≡ Err (Input place)) e.before held is h
 
   goes_on : (out : List ℕ) (r : Runs asked boxes e s (Goes out)) → GoesOn asked held r.ready.source_program r.words.machine r.words.input boxes.times
   goes_on out r = record {
@@ -92,7 +95,7 @@ module _ (asked : Execution) (boxes : Chosen) (e : Effect) (s : Streams) (held :
   ended (ReadFault TheInput) a = absurd (quiet_reads a.answers.2)
   ended WriteFault a = absurd (not_cut a)
   ended Stopped a = ran a.1.ready.source_program a.1.words (all_told a.1.words a.1.ready) (goes_on a.0 a.1)
-  ended (Input place) a = no_input a.machine (accepts_told a.accepted) (stands_told a.profiled) (machine_told (Is a.machine) a.machine_is) (input_told (Input place) a.answers.1)
+  ended (Input place) a = no_input a.machine (accepts_told a.accepted) (stands_told a.profiled) (machine_told (Is a.machine) a.machine_is) (input_refused place a.answers.1)
   ended (Stuck reason place) a = absurd a
   ended NoMemory a = no_memory
 

@@ -20,13 +20,13 @@ use Rattle.vx_driver.specs.Command.{Execution}
 use Rattle.vx_driver.specs.Boxes.{Chosen}
 use Rattle.vx_driver.specs.Faithful.{Faithful}
 use Rattle.vx_driver.specs.Answers.{AreCounts, HoldsProgram, ProfileStands, Is, machine_found, Effect, ReadsRose, SourceAnswers, StopsAtProfile, MachineAnswers, StopsAtMachine}
-use Rattle.vx_driver.specs.Simulated.{AreDefaults, Loaded, begun, outcome_within, events_within, reports_of, input_found, Streams, OutputCut, IsStatusOf}
+use Rattle.vx_driver.specs.Simulated.{AreDefaults, Loaded, begun, outcome_within, events_within, reports_of, input_in, input_found, Streams, OutputCut, IsStatusOf}
 use Rattle.vx_driver.specs.Executed.{CompiledBy, Issues, SourceHas, SourceBegins, InSource, AllHeld, Prepared, issued_line, ShowsRun, Runs, RunsCut, InputAnswers, StopsAtInput, ExecutionAnswers}
 use Rattle.vx_driver.specs.Ending.{ShowsOf, IsRunOf, UnputLines, LoadedAnswers, LaterStops, AfterSource, StopsBefore}
 use Rattle.vx_driver.proofs.Issued.{issues_comes, issues_within, issues_least, issues_all, issues_seen}
 use Rattle.vx_driver.proofs.Turned.{turned_of, turned_some, outcome_turned}
 use Rattle.vx_driver.proofs.Runs.{no_run}
-use Rattle.vx_driver.proofs.Answering.{Since, profile_since, machine_since, told_since, accepts_in, same_since, reads_since, missing_since}
+use Rattle.vx_driver.proofs.Answering.{Since, profile_since, machine_since, told_since, said_since, accepts_in, same_since, reads_since, missing_since}
 
 -- a run of words in the terms of the source
 
@@ -300,7 +300,7 @@ input_since input e f (NoFile role) s a =
 input_since input e f (ReadFault role) s a = (a.0, same_since e f s a.1, reads_since e f s a.2)
 input_since input e f WriteFault s a = absurd a
 input_since input e f Stopped s a = absurd a
-input_since input e f (Input place) s a = (same_since e f s a.0, told_since e f (λ held. input_found held input ≡ Err (Input place)) s a.1)
+input_since input e f (Input place) s a = (same_since e f s a.0, said_since e f (λ held. input_found held input ≡ Err (Input place)) (λ content. input_in (Some content) ≡ Err (Input place)) s a.1)
 input_since input e f (Stuck reason place) s a = absurd a
 input_since input e f NoMemory s a = same_since e f s a
 

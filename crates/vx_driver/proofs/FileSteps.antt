@@ -38,6 +38,11 @@ module _ {A : Type 0} (role : Role) (most : ℕ) (long : Status) (read : List �
   whole None name bytes r h is = tt
   whole (Some held) name bytes r h is = ap (file_in role most long read) h.holds ∙ short_in h.content h.answers.1 ∙ ap read (sym h.answers.0) ∙ is
 
+  pub whole_or : (b : Option Files) (name : List ℕ) (bytes : Vec ℕ Global) (r : Result A Status) → length bytes.items ≤ most → IfSome b (λ held. ReadsFile held name most (Whole bytes)) →
+      read bytes.items ≡ r → OfFile b (λ held. file_in role most long read (held name) ≡ r) (λ content. file_in role most long read (Some content) ≡ r)
+  whole_or None name bytes r short h is = (bytes.items, short_in bytes.items short ∙ is)
+  whole_or (Some held) name bytes r short h is = whole (Some held) name bytes r h is
+
   pub too_long : (b : Option Files) (name : List ℕ) → IfSome b (λ held. ReadsFile held name most FileTooLong) → IfSome b (λ held. file_in role most long read (held name) ≡ Err long)
   too_long None name h = tt
   too_long (Some held) name h = ap (file_in role most long read) h.holds ∙ long_in h.content h.answers
@@ -55,18 +60,23 @@ spells_in (Some held) name most bytes program h s =
 -- a text that is refused
 
 module _ (named : Role → Bool) (name : List ℕ) (bytes : Vec ℕ Global) (e : Effect) where
-  words_fault : (r : Result WordProgram Fault) (status : Status) → reading bytes.items ≡ r → words_as r ≡ Err status → IfSome e.before (λ held. ReadsFile held name 536870912 (Whole bytes)) →
+  words_fault : (r : Result WordProgram Fault) (status : Status) → length bytes.items ≤ 536870912 → reading bytes.items ≡ r → words_as r ≡ Err status → IfSome e.before (λ held. ReadsFile held name 536870912 (Whole bytes)) →
       Stops named (λ held. words_in (held name)) e status
-  words_fault (Ok program) status is bad h = absurd cc
-  words_fault (Err fault) status is bad h =
+  words_fault (Ok program) status short is bad h = absurd cc
+  words_fault (Err fault) status short is bad h =
       let same : Words fault.code fault.line ≡ status = cc in
       subst (Stops named (λ held. words_in (held name)) e) same
-      (whole TheWords 536870912 (Limit 9 536870913) (λ content. words_as (reading content)) e.before name bytes (Err (Words fault.code fault.line)) h (ap words_as is))
+      (whole_or TheWords 536870912 (Limit 9 536870913) (λ content. words_as (reading content)) e.before name bytes (Err (Words fault.code fault.line)) short h (ap words_as is))
 
-  pub words_refused : (status : Status) → IfSome e.before (λ held. ReadsFile held name 536870912 (Whole bytes)) → ((status ≡ NoMemory) ⊎ (words_as (reading bytes.items) ≡ Err status)) →
+  pub words_refused : (status : Status) → length bytes.items ≤ 536870912 → IfSome e.before (λ held. ReadsFile held name 536870912 (Whole bytes)) → ((status ≡ NoMemory) ⊎ (words_as (reading bytes.items) ≡ Err status)) →
       Stops named (λ held. words_in (held name)) e status
-  words_refused status h (inl memory) = subst (Stops named (λ held. words_in (held name)) e) (sym memory) tt
-  words_refused status h (inr bad) = words_fault (reading bytes.items) status refl bad h
+  words_refused status short h (inl memory) = subst (Stops named (λ held. words_in (held name)) e) (sym memory) tt
+  words_refused status short h (inr bad) = words_fault (reading bytes.items) status short refl bad h
+
+pub words_long : (named : Role → Bool) (name : List ℕ) (e : Effect) → named TheWords ≡ true → IfSome e.before (λ held. ReadsFile held name 536870912 FileTooLong) →
+    Stops named (λ held. words_in (held name)) e (Limit 9 536870913)
+words_long named name e among h =
+    (record { role = TheWords; among = among; status_is = refl }, too_long TheWords 536870912 (Limit 9 536870913) (λ content. words_as (reading content)) e.before name h)
 
 -- an input
 
@@ -78,17 +88,17 @@ pub input_read : (b : Option Files) (name : List ℕ) (bytes : Vec ℕ Global) (
     IfSome b (λ held. input_found held (Some name) ≡ Ok numbers)
 input_read b name bytes numbers h is = input_whole b name bytes (Ok numbers) h (ap input_as is)
 
-input_fault : (name : List ℕ) (bytes : Vec ℕ Global) (e : Effect) (r : Result (List ℤ) ℕ) (status : Status) → SameFiles e → input_reading bytes.items ≡ r → input_as r ≡ Err status →
+input_fault : (name : List ℕ) (bytes : Vec ℕ Global) (e : Effect) (r : Result (List ℤ) ℕ) (status : Status) → length bytes.items ≤ 16777216 → SameFiles e → input_reading bytes.items ≡ r → input_as r ≡ Err status →
     IfSome e.before (λ held. ReadsFile held name 16777216 (Whole bytes)) → InputAnswers (Some name) e status
-input_fault name bytes e (Ok numbers) status same is bad h = absurd cc
-input_fault name bytes e (Err place) status same is bad h =
+input_fault name bytes e (Ok numbers) status short same is bad h = absurd cc
+input_fault name bytes e (Err place) status short same is bad h =
     let is_input : Input place ≡ status = cc in
-    subst (InputAnswers (Some name) e) is_input (same, input_whole e.before name bytes (Err (Input place)) h (ap input_as is))
+    subst (InputAnswers (Some name) e) is_input (same, whole_or TheInput 16777216 (Limit 12 16777217) (λ content. input_as (input_reading content)) e.before name bytes (Err (Input place)) short h (ap input_as is))
 
-pub input_refused : (name : List ℕ) (bytes : Vec ℕ Global) (e : Effect) (status : Status) → SameFiles e → IfSome e.before (λ held. ReadsFile held name 16777216 (Whole bytes)) →
+pub input_refused : (name : List ℕ) (bytes : Vec ℕ Global) (e : Effect) (status : Status) → length bytes.items ≤ 16777216 → SameFiles e → IfSome e.before (λ held. ReadsFile held name 16777216 (Whole bytes)) →
     ((status ≡ NoMemory) ⊎ (input_as (input_reading bytes.items) ≡ Err status)) → InputAnswers (Some name) e status
-input_refused name bytes e status same h (inl memory) = subst (InputAnswers (Some name) e) (sym memory) same
-input_refused name bytes e status same h (inr bad) = input_fault name bytes e (input_reading bytes.items) status same refl bad h
+input_refused name bytes e status short same h (inl memory) = subst (InputAnswers (Some name) e) (sym memory) same
+input_refused name bytes e status short same h (inr bad) = input_fault name bytes e (input_reading bytes.items) status short same refl bad h
 
 pub input_long : (name : List ℕ) (e : Effect) → SameFiles e → IfSome e.before (λ held. ReadsFile held name 16777216 FileTooLong) → InputAnswers (Some name) e (Limit 12 16777217)
 input_long name e same h = (refl, refl, same, too_long TheInput 16777216 (Limit 12 16777217) (λ content. input_as (input_reading content)) e.before name h)
@@ -106,7 +116,7 @@ input_answers_stop input e Usage named a = absurd a
 input_answers_stop input e (Source code line column) named a = absurd a
 input_answers_stop input e (Limit number count) named a =
     let same : Limit 12 16777217 ≡ Limit number count = same_limit number count a.0 a.1 in
-    subst (InputStops input e) same a.3
+    subst (InputStops input e) same (record { role = TheInput; among = named; status_is = refl }, a.3)
   where
     same_limit : (number count : ℕ) → number ≡ 12 → count ≡ 16777217 → Limit 12 16777217 ≡ Limit number count
     same_limit number count a b = cc
@@ -117,7 +127,7 @@ input_answers_stop input e (NoFile role) named a = subst (λ r. InputStops input
 input_answers_stop input e (ReadFault role) named a = subst (λ r. InputStops input e (ReadFault r)) (sym a.0) (named, a.2)
 input_answers_stop input e WriteFault named a = absurd a
 input_answers_stop input e Stopped named a = absurd a
-input_answers_stop input e (Input place) named a = a.1
+input_answers_stop input e (Input place) named a = (named, a.1)
 input_answers_stop input e (Stuck reason place) named a = absurd a
 input_answers_stop input e NoMemory named a = tt
 
@@ -135,8 +145,8 @@ machine_missing machine Rises (Some held) h = ap machine_as h
 
 machine_refused : (machine : Option (List ℕ)) (code field : ℕ) (b : Option Files) →
     OfFile b (λ held. machine_found held machine ≡ Refused (Bad code field)) (λ content. found_in (Some content) ≡ Refused (Bad code field)) →
-    IfSome b (λ held. machine_as (machine_found held machine) ≡ Err (Machine code field))
-machine_refused machine code field None h = tt
+    OfFile b (λ held. machine_as (machine_found held machine) ≡ Err (Machine code field)) (λ content. found_in (Some content) ≡ Refused (Bad code field))
+machine_refused machine code field None h = h
 machine_refused machine code field (Some held) h = ap machine_as h
 
 abbrev MachineStops : (machine : Option (List ℕ)) → Effect → Status → Type 0
@@ -149,13 +159,13 @@ machine_stops machine e Usage named a = absurd a
 machine_stops machine e (Source code line column) named a = absurd a
 machine_stops machine e (Limit number count) named a =
     let same : Limit 11 65537 ≡ Limit number count = same_limit number count a.0 a.1 in
-    subst (MachineStops machine e) same (machine_told machine TooLong e.before (Err (Limit 11 65537)) a.3 refl)
+    subst (MachineStops machine e) same (record { role = TheMachine; among = named; status_is = refl }, machine_told machine TooLong e.before (Err (Limit 11 65537)) a.3 refl)
   where
     same_limit : (number count : ℕ) → number ≡ 11 → count ≡ 65537 → Limit 11 65537 ≡ Limit number count
     same_limit number count a b = cc
 machine_stops machine e (Words code line) named a = absurd a
 machine_stops machine e (Profile code line) named a = absurd a
-machine_stops machine e (Machine code field) named a = machine_refused machine code field e.before a.1
+machine_stops machine e (Machine code field) named a = (named, machine_refused machine code field e.before a.1)
 machine_stops machine e (NoFile role) named a =
     subst (λ r. MachineStops machine e (NoFile r)) (sym a.0) (named, machine_missing machine (ReadsRose e) e.before a.2)
 machine_stops machine e (ReadFault role) named a = subst (λ r. MachineStops machine e (ReadFault r)) (sym a.0) (named, a.2)

@@ -1,14 +1,16 @@
 -- The answers of `sim` from those of its steps, and what they exclude where nothing fails.
-use Rattle.std.proofs.Common.{◌≡◌, ◌⊎◌, inl, inr, Option, Some, None, true, Bool, Result, Err, IfSome, MatchOption, refl, sym, subst}
+use Rattle.std.proofs.Common.{◌≡◌, ◌⊎◌, inl, inr, ℕ, List, Option, Some, None, true, Bool, Result, Err, IfSome, MatchOption, refl, sym, subst}
 use Rattle.vx_base.specs.Outside.{Files, Rose}
 use Rattle.vx_base.specs.declared.role.Role.{Role}
+use Rattle.vx_base.specs.declared.role.Role.TheVariants.{Machine as TheMachine, Input as TheInput}
 use Rattle.vx_probe.specs.Times.{Times}
 use Rattle.vx_driver.specs.declared.status.Status.{Status}
 use Rattle.vx_driver.specs.declared.status.Status.TheVariants.{Done, Trapped, Usage, Source, Limit, Words, Profile, Machine, NoFile, ReadFault, WriteFault, Stopped, Input, Stuck, NoMemory}
 use Rattle.vx_driver.specs.Command.{Simulation}
 use Rattle.vx_driver.specs.Boxes.{Boxes, Chosen, chosen}
-use Rattle.vx_driver.specs.Answers.{Effect, ReadsRose}
-use Rattle.vx_driver.specs.Simulated.{loading, Stops, Streams, OutRose, ErrRose, Loads, RunEnds, RunCut, RunAnswers, BoxAnswers, SimAnswers, Due, RunCompletes, SimCompletes}
+use Rattle.vx_machine.specs.declared.description.MachineFault.TheVariants.{Bad}
+use Rattle.vx_driver.specs.Answers.{Refused, found_in, Effect, ReadsRose, OfFile}
+use Rattle.vx_driver.specs.Simulated.{loading, words_in, input_in, IsTooLong, Stops, Streams, OutRose, ErrRose, Loads, RunEnds, RunCut, RunAnswers, BoxAnswers, SimAnswers, Due, RunCompletes, SimCompletes}
 use Rattle.vx_driver.proofs.Answering.{rose_since, Since}
 
 -- where nothing fails
@@ -18,6 +20,9 @@ told P b held is h = subst (λ o. IfSome o P) is h
 
 told_or : (Q : Type 0) (P : Files → Type 0) (b : Option Files) (held : Files) → b ≡ Some held → MatchOption b Q P → P held
 told_or Q P b held is h = subst (λ o. MatchOption o Q P) is h
+
+told_of : (P : Files → Type 0) (Q : List ℕ → Type 0) (b : Option Files) (held : Files) → b ≡ Some held → OfFile b P Q → P held
+told_of P Q b held is h = subst (λ o. OfFile o P Q) is h
 
 due_stop : (asked : Simulation) (times : Times) (held : Files) (status : Status) → loading held asked.words asked.machine asked.input ≡ Err status →
     Due asked times (loading held asked.words asked.machine asked.input) status
@@ -39,20 +44,23 @@ module _ (asked : Simulation) (boxes : Chosen) (e : Effect) (s : Streams) (held 
   stop : (status : Status) → IfSome e.before (λ h. loading h asked.words asked.machine asked.input ≡ Err status) → Dues status
   stop status a = inl (due_stop asked boxes.times held status (told (λ h. loading h asked.words asked.machine asked.input ≡ Err status) e.before held is a))
 
+  fault : (Q : List ℕ → Type 0) (status : Status) → OfFile e.before (λ h. loading h asked.words asked.machine asked.input ≡ Err status) Q → Dues status
+  fault Q status a = inl (due_stop asked boxes.times held status (told_of (λ h. loading h asked.words asked.machine asked.input ≡ Err status) Q e.before held is a))
+
   dues : (status : Status) → RunAnswers asked boxes e s status → Dues status
   dues Done a = inl (due_run asked boxes e s held Done is a)
   dues (Trapped trap) a = inl (due_run asked boxes e s held (Trapped trap) is a)
   dues Usage a = absurd a
   dues (Source code line column) a = absurd a
-  dues (Limit number count) a = stop (Limit number count) a
-  dues (Words code line) a = stop (Words code line) a
+  dues (Limit number count) a = stop (Limit number count) a.1
+  dues (Words code line) a = fault (λ content. words_in (Some content) ≡ Err (Words code line)) (Words code line) a
   dues (Profile code line) a = absurd a
-  dues (Machine code field) a = stop (Machine code field) a
+  dues (Machine code field) a = fault (λ content. found_in (Some content) ≡ Refused (Bad code field)) (Machine code field) a.1
   dues (NoFile role) a = inl (due_stop asked boxes.times held (NoFile role) (told_or (ReadsRose e) (λ h. loading h asked.words asked.machine asked.input ≡ Err (NoFile role)) e.before held is a.1))
   dues (ReadFault role) a = absurd (quiet_reads a.1)
   dues WriteFault a = absurd (not_cut asked boxes e s quiet_out quiet_err a)
   dues Stopped a = inl (due_run asked boxes e s held Stopped is a)
-  dues (Input place) a = stop (Input place) a
+  dues (Input place) a = fault (λ content. input_in (Some content) ≡ Err (Input place)) (Input place) a.1
   dues (Stuck reason place) a = inl (due_run asked boxes e s held (Stuck reason place) is a)
   dues NoMemory a = inr refl
 
@@ -82,6 +90,16 @@ module _ {A B : Type 0} (named named' : Role → Bool) (found : Files → Result
   on : (status : Status) → IfSome e.before (λ held. found held ≡ Err status) → IfSome f.before (λ held. found' held ≡ Err status)
   on status h = told_on status f.before refl (subst (λ b. IfSome b (λ held. found held ≡ Err status)) (sym since.before) h)
 
+  said_on : (Q : List ℕ → Type 0) (status : Status) (b : Option Files) → f.before ≡ b → OfFile b (λ held. found held ≡ Err status) Q → OfFile b (λ held. found' held ≡ Err status) Q
+  said_on Q status None is h = h
+  said_on Q status (Some held) is h = stops held is status h
+
+  of_file_on : (Q : List ℕ → Type 0) (status : Status) → OfFile e.before (λ held. found held ≡ Err status) Q → OfFile f.before (λ held. found' held ≡ Err status) Q
+  of_file_on Q status h = said_on Q status f.before refl (subst (λ b. OfFile b (λ held. found held ≡ Err status) Q) (sym since.before) h)
+
+  too_long_on : (status : Status) → IsTooLong named status → IsTooLong named' status
+  too_long_on status h = record { role = h.role; among = names h.role h.among; status_is = h.status_is }
+
   rose_on : ReadsRose e → ReadsRose f
   rose_on rose = rose_since f.reads_before e.reads_before f.reads_after since.reads (subst (λ n. Rose e.reads_before n) (sym since.reads_after) rose)
 
@@ -94,15 +112,15 @@ module _ {A B : Type 0} (named named' : Role → Bool) (found : Files → Result
   stops_on (Trapped trap) a = absurd a
   stops_on Usage a = absurd a
   stops_on (Source code line column) a = absurd a
-  stops_on (Limit number count) a = on (Limit number count) a
-  stops_on (Words code line) a = on (Words code line) a
+  stops_on (Limit number count) a = (too_long_on (Limit number count) a.0, on (Limit number count) a.1)
+  stops_on (Words code line) a = of_file_on (λ content. words_in (Some content) ≡ Err (Words code line)) (Words code line) a
   stops_on (Profile code line) a = absurd a
-  stops_on (Machine code field) a = on (Machine code field) a
+  stops_on (Machine code field) a = (names TheMachine a.0, of_file_on (λ content. found_in (Some content) ≡ Refused (Bad code field)) (Machine code field) a.1)
   stops_on (NoFile role) a =
       (names role a.0, missing_on (NoFile role) f.before refl (subst (λ b. MatchOption b (ReadsRose e) (λ held. found held ≡ Err (NoFile role))) (sym since.before) a.1))
   stops_on (ReadFault role) a = (names role a.0, rose_on a.1)
   stops_on WriteFault a = absurd a
   stops_on Stopped a = absurd a
-  stops_on (Input place) a = on (Input place) a
+  stops_on (Input place) a = (names TheInput a.0, of_file_on (λ content. input_in (Some content) ≡ Err (Input place)) (Input place) a.1)
   stops_on (Stuck reason place) a = absurd a
   stops_on NoMemory a = tt

@@ -20,8 +20,8 @@ use Rattle.vx_driver.specs.Status.{status_line}
 use Rattle.vx_driver.specs.Command.{Execution}
 use Rattle.vx_driver.specs.Boxes.{Boxes, Chosen, chosen}
 use Rattle.vx_driver.specs.Compiled.{Compiled}
-use Rattle.vx_driver.specs.Answers.{AreCounts, HoldsProgram, Accepts, status_of, Is, machine_found, Effect, ReadsRose, SameFiles, SourceAnswers, ProfileStands, RefusesProfile, StopsAtProfile, StopsAtMachine}
-use Rattle.vx_driver.specs.Simulated.{Loaded, with_input, machine_as, input_found, outcome_within, events_within, reports_of, result_line, AreDefaults, Streams, OutRose, ErrRose, ErrTellsWith, OutputCut, LinesCut, BoxAnswers}
+use Rattle.vx_driver.specs.Answers.{AreCounts, HoldsProgram, Accepts, status_of, Is, machine_found, Effect, ReadsRose, SameFiles, OfFile, SourceAnswers, ProfileStands, RefusesProfile, StopsAtProfile, StopsAtMachine}
+use Rattle.vx_driver.specs.Simulated.{Loaded, with_input, machine_as, input_in, input_found, outcome_within, events_within, reports_of, result_line, AreDefaults, Streams, OutRose, ErrRose, ErrTellsWith, OutputCut, LinesCut, BoxAnswers}
 
 -- the run
 
@@ -117,7 +117,7 @@ abbrev pub InputAnswers : (input : Option (List ℕ)) → Effect → Status → 
 InputAnswers input e (Limit number count) = (number ≡ 12) × (count ≡ 16777217) × SameFiles e × IfSome e.before (λ held. input_found held input ≡ Err (Limit 12 16777217))
 InputAnswers input e (NoFile role) = (role ≡ TheInput) × SameFiles e × MatchOption e.before (ReadsRose e) (λ held. input_found held input ≡ Err (NoFile TheInput))
 InputAnswers input e (ReadFault role) = (role ≡ TheInput) × SameFiles e × ReadsRose e
-InputAnswers input e (Input place) = SameFiles e × IfSome e.before (λ held. input_found held input ≡ Err (Input place))
+InputAnswers input e (Input place) = SameFiles e × OfFile e.before (λ held. input_found held input ≡ Err (Input place)) (λ content. input_in (Some content) ≡ Err (Input place))
 InputAnswers input e NoMemory = SameFiles e
 InputAnswers input e status = ⊥
 

@@ -22,7 +22,7 @@ use Rattle.vx_driver.specs.Status.{Tells, TellsWith, status_line}
 use Rattle.vx_driver.specs.Command.{Simulation}
 use Rattle.vx_driver.specs.Boxes.{Boxes, Chosen, chosen, report_line}
 use Rattle.vx_driver.specs.InputText.{input_reading}
-use Rattle.vx_driver.specs.Answers.{MachineFound, Is, Refused, TooLong, Missing, machine_found, Effect, ReadsRose, SameFiles}
+use Rattle.vx_driver.specs.Answers.{MachineFound, Is, Refused, TooLong, Missing, found_in, machine_found, Effect, ReadsRose, SameFiles, OfFile}
 
 -- what is read before the run, or the status of the first step that stops the command
 
@@ -109,22 +109,37 @@ is_named machine input TheProfile = false
 is_named machine input TheMachine = is_some machine
 is_named machine input TheInput = is_some input
 
--- a status by which the reading of files stops a command: of the files that the depot tells; where it tells none, only
--- the counts speak
+-- the status of a file that is too long: the count is one past its limit
+abbrev pub limit_of : Role → Status
+limit_of TheSource = Limit 1 1048577
+limit_of TheWords = Limit 9 536870913
+limit_of TheProfile = Limit 10 16777217
+limit_of TheMachine = Limit 11 65537
+limit_of TheInput = Limit 12 16777217
+
+-- the status is that of a named file that is too long
+pub record IsTooLong (named : Role → Bool) (status : Status) : Type 0 where
+  pub role : Role
+  pub among : named role ≡ true
+  pub status_is : status ≡ limit_of role
+
+-- a status by which the reading of files stops a command: of the files that the depot tells; where it tells none, a fault is one
+-- of some bytes of a named file, and of a file that is missing or cannot be read only the counts speak
 abbrev pub Stops : {A : Type 0} → (Role → Bool) → (Files → Result A Status) → Effect → Status → Type 0
 Stops named found e Done = ⊥
 Stops named found e (Trapped trap) = ⊥
 Stops named found e Usage = ⊥
 Stops named found e (Source code line column) = ⊥
-Stops named found e (Limit number count) = IfSome e.before (λ held. found held ≡ Err (Limit number count))
-Stops named found e (Words code line) = IfSome e.before (λ held. found held ≡ Err (Words code line))
+Stops named found e (Limit number count) = IsTooLong named (Limit number count) × IfSome e.before (λ held. found held ≡ Err (Limit number count))
+Stops named found e (Words code line) = OfFile e.before (λ held. found held ≡ Err (Words code line)) (λ content. words_in (Some content) ≡ Err (Words code line))
 Stops named found e (Profile code line) = ⊥
-Stops named found e (Machine code field) = IfSome e.before (λ held. found held ≡ Err (Machine code field))
+Stops named found e (Machine code field) =
+    (named TheMachine ≡ true) × OfFile e.before (λ held. found held ≡ Err (Machine code field)) (λ content. found_in (Some content) ≡ Refused (Bad code field))
 Stops named found e (NoFile role) = (named role ≡ true) × MatchOption e.before (ReadsRose e) (λ held. found held ≡ Err (NoFile role))
 Stops named found e (ReadFault role) = (named role ≡ true) × ReadsRose e
 Stops named found e WriteFault = ⊥
 Stops named found e Stopped = ⊥
-Stops named found e (Input place) = IfSome e.before (λ held. found held ≡ Err (Input place))
+Stops named found e (Input place) = (named TheInput ≡ true) × OfFile e.before (λ held. found held ≡ Err (Input place)) (λ content. input_in (Some content) ≡ Err (Input place))
 Stops named found e (Stuck reason place) = ⊥
 Stops named found e NoMemory = Unit {0}
 

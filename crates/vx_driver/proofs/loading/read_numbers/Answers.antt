@@ -17,7 +17,7 @@ returns-in-Ok-Whole-clause-numbers g c =
 pub returns-in-Ok-Whole-clause-answers : goal.returns-in-Ok-Whole-clause-answers
 returns-in-Ok-Whole-clause-answers g c =
     IfErr-weaker c.numbers_of.result (λ status. (status ≡ NoMemory) ⊎ (input_as (input_reading c.in-Ok-Whole.bytes.items) ≡ Err status)) _
-    (λ status why. input_refused c.args.name.now c.in-Ok-Whole.bytes (effect_of g.D.Depot.files g.D.Depot.failed_reads g.D.Depot.failed_replaces c.args.depot.now c.read_file.new.depot) status c.read_file.ensures.same_files (rw c.in-Ok-Whole.field-0-is at c.in-Ok-Whole.ensures.content) why)
+    (λ status why. input_refused c.args.name.now c.in-Ok-Whole.bytes (effect_of g.D.Depot.files g.D.Depot.failed_reads g.D.Depot.failed_replaces c.args.depot.now c.read_file.new.depot) status (rw c.in-Ok-Whole.field-0-is at c.in-Ok-Whole.ensures.at_most) c.read_file.ensures.same_files (rw c.in-Ok-Whole.field-0-is at c.in-Ok-Whole.ensures.content) why)
     (rw c.as_slice.ensures.value at c.numbers_of.ensures.refused)
 
 pub returns-in-Ok-TooLong-clause-answers : goal.returns-in-Ok-TooLong-clause-answers

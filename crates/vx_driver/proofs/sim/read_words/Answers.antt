@@ -1,12 +1,12 @@
 -- A text of words that was read whole, one that is too long, and one that is not there.
-use Rattle.std.proofs.Common.{◌≡◌, ◌⊎◌, Ok, Err, None, ap}
+use Rattle.std.proofs.Common.{◌≡◌, ◌⊎◌, Ok, Err, None, ap, refl}
 use Rattle.std.proofs.lemmas.Result.{IfErr-weaker, IfOk-weaker}
 use Rattle.vx_base.specs.declared.role.Role.TheVariants.{Words as TheWords}
 use Rattle.vx_words.specs.Text.{Spells, reading}
 use Rattle.vx_driver.specs.declared.status.Status.TheVariants.{Limit, NoMemory}
 use Rattle.vx_driver.specs.Answers.{effect_of}
 use Rattle.vx_driver.specs.Simulated.{words_as, is_named}
-use Rattle.vx_driver.proofs.FileSteps.{whole, spells_in, words_refused}
+use Rattle.vx_driver.proofs.FileSteps.{whole, spells_in, words_refused, words_long}
 use Rattle.vx_driver.proofs.sim.read_words.Goals as goal
 
 pub returns-in-Ok-Whole-clause-program : goal.returns-in-Ok-Whole-clause-program
@@ -24,5 +24,10 @@ returns-in-Ok-Whole-clause-spells g c =
 pub returns-in-Ok-Whole-clause-stops : goal.returns-in-Ok-Whole-clause-stops
 returns-in-Ok-Whole-clause-stops g c =
     IfErr-weaker c.words_of.result (λ status. (status ≡ NoMemory) ⊎ (words_as (reading c.in-Ok-Whole.bytes.items) ≡ Err status)) _
-    (λ status why. words_refused (is_named None None) c.args.name.now c.in-Ok-Whole.bytes (effect_of g.D.Depot.files g.D.Depot.failed_reads g.D.Depot.failed_replaces c.args.depot.now c.read_file.new.depot) status (rw c.in-Ok-Whole.field-0-is at c.in-Ok-Whole.ensures.content) why)
+    (λ status why. words_refused (is_named None None) c.args.name.now c.in-Ok-Whole.bytes (effect_of g.D.Depot.files g.D.Depot.failed_reads g.D.Depot.failed_replaces c.args.depot.now c.read_file.new.depot) status (rw c.in-Ok-Whole.field-0-is at c.in-Ok-Whole.ensures.at_most) (rw c.in-Ok-Whole.field-0-is at c.in-Ok-Whole.ensures.content) why)
     (rw c.as_slice.ensures.value at c.words_of.ensures.refused)
+
+pub returns-in-Ok-TooLong-clause-stops : goal.returns-in-Ok-TooLong-clause-stops
+returns-in-Ok-TooLong-clause-stops g c =
+    words_long (is_named None None) c.args.name.now (effect_of g.D.Depot.files g.D.Depot.failed_reads g.D.Depot.failed_replaces c.args.depot.now c.read_file.new.depot) refl
+    (rw c.in-Ok-TooLong.field-0-is at c.in-Ok-TooLong.ensures.content)
