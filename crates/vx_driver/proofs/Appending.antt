@@ -1,6 +1,7 @@
 -- Bytes put in several pieces.
-use Rattle.std.proofs.Common.{◌≡◌, ℕ, true, false, List, [], ◌++◌, Option, Some, None, Result, Ok, Err, OnOk, refl, sym, ap, ◌∙◌, append_assoc, append-nil, arith}
+use Rattle.std.proofs.Common.{◌≡◌, ◌<◌, ◌≤◌, ℕ, zero, suc, true, false, List, [], ◌∷◌, ◌++◌, length, map, take, get_or, Option, Some, None, Result, Ok, Err, OnOk, refl, sym, subst, ap, ◌∙◌, append_assoc, append-nil, arith}
 use Rattle.std.specs.Prelude.{is_err}
+use Rattle.std.specs.List.{flat_map}
 use Rattle.vx_base.specs.Outside.{PutsFront, with_bytes}
 use Rattle.vx_base.proofs.OutsideLaws.{rose_throughout}
 use Rattle.vx_base.proofs.Same.{begins_self}
@@ -27,14 +28,14 @@ puts_on a b c (Err e) xs ys zs first same second = tt
 
 -- several pieces that are put whole, or of which one fails
 
-front_on : (xs ys : List ℕ) {a b : Option (List ℕ)} → PutsFront a b xs → PutsFront a b (xs ++ ys)
+pub front_on : (xs ys : List ℕ) {a b : Option (List ℕ)} → PutsFront a b xs → PutsFront a b (xs ++ ys)
 front_on xs ys x = record {
   front = x.front;
   begins = record { rest = x.begins.rest ++ ys; is = ap (λ l. l ++ ys) x.begins.is ∙ append_assoc x.front x.begins.rest ys };
   put = x.put;
 }
 
-front_behind : (a b c : Option (List ℕ)) (xs ys : List ℕ) → b ≡ with_bytes a xs → PutsFront b c ys → PutsFront a c (xs ++ ys)
+pub front_behind : (a b c : Option (List ℕ)) (xs ys : List ℕ) → b ≡ with_bytes a xs → PutsFront b c ys → PutsFront a c (xs ++ ys)
 front_behind a b c xs ys first y = record {
   front = xs ++ y.front;
   begins = record { rest = y.begins.rest; is = ap (λ l. xs ++ l) y.begins.is ∙ sym (append_assoc xs y.front y.begins.rest) };
@@ -64,6 +65,25 @@ puts_behind (Err e) xs ys {a} {b} {c} {f} {g} {h} x y = record {
 pub fails : {T E U F : Type 0} {e : E} (r : Result U F) (line : List ℕ) {a b : Option (List ℕ)} {f g : ℕ} → is_err r ≡ true → Puts {T = T} {E = E} (Err e) line a b f g → Puts r line a b f g
 fails (Ok v) line is x = let wrong : false ≡ true = is in absurd cc
 fails (Err u) line is x = record { all = tt; part = x.part; failed = x.failed; never_fall = x.never_fall }
+
+-- the pieces of a list, the one at a place and those before it
+
+pieces_at : {X Y : Type 0} (f : Y → List ℕ) (g : X → Y) (xs : List X) (i : ℕ) (x : X) → i < length xs → x ≡ get_or xs i x → (rest : List ℕ) × (flat_map f (map g xs) ≡ flat_map f (map g (take i xs)) ++ f (g x) ++ rest)
+pieces_at f g [] i x below is = absurd (omega arith)
+pieces_at f g (y ∷ ys) zero x below is = (flat_map f (map g ys), ap (λ z. f (g z) ++ flat_map f (map g ys)) (sym is))
+pieces_at f g (y ∷ ys) (suc i) x below is =
+    let later = pieces_at f g ys i x (omega arith) is in
+    let before : List ℕ = flat_map f (map g (take i ys)) in
+    (later.0, ap (λ l. f (g y) ++ l) later.1 ∙ sym (append_assoc (f (g y)) (before ++ f (g x)) later.0) ∙ ap (λ l. l ++ later.0) (sym (append_assoc (f (g y)) before (f (g x)))))
+
+pub pieces_cut : {X Y E U F : Type 0} {e : E} (r : Result U F) (f : Y → List ℕ) (g : X → Y) (xs : List X) (i : ℕ) (x : X) {a b c : Option (List ℕ)} {h j k : ℕ} → i < length xs → x ≡ get_or xs i x → is_err r ≡ true →
+    b ≡ with_bytes a (flat_map f (map g (take i xs))) → h ≤ j → Puts {T = Unit {0}} {E = E} (Err e) (f (g x)) b c j k → Puts r (flat_map f (map g xs)) a c h k
+pieces_cut {X} {Y} {E} {U} {F} {e} r f g xs i x {a} {b} {c} {h} {j} {k} below is wrong told le p =
+    let split = pieces_at f g xs i x below is in
+    let before : List ℕ = flat_map f (map g (take i xs)) in
+    let first : Puts {T = Unit {0}} {E = E} (Ok tt) before a b h j = record { all = told; part = tt; failed = tt; never_fall = le } in
+    let all : Puts {T = Unit {0}} {E = E} (Err e) (before ++ f (g x) ++ split.0) a c h k = cut_before (before ++ f (g x)) split.0 (puts_behind (Err e) before (f (g x)) first p) in
+    subst (λ l. Puts r l a c h k) (sym split.1) (fails r (before ++ f (g x) ++ split.0) wrong all)
 
 pub puts_nothing : {T E : Type 0} {t : T} (a : Option (List ℕ)) (f : ℕ) → Puts {T = T} {E = E} (Ok t) [] a a f f
 puts_nothing a f = record { all = with_none a; part = tt; failed = tt; never_fall = omega arith }

@@ -1,9 +1,9 @@
 -- How a run ends, and what its lines put.
-use Rattle.std.proofs.Common.{◌≡◌, ◌∙◌, inl, inr, ℕ, ℤ, ◌+◌, Bool, true, false, List, [], ◌∷◌, ◌++◌, length, map, Option, Result, Ok, Err, OnOk, refl, sym, subst, ap, arith}
+use Rattle.std.proofs.Common.{◌≡◌, ◌∙◌, inl, inr, ℕ, ℤ, ◌+◌, Bool, true, false, List, [], ◌∷◌, ◌++◌, length, map, Option, Result, Ok, Err, OnOk, OnErr, refl, sym, subst, ap, arith}
 use Rattle.std.specs.Prelude.{◌≤◌, ◌<◌, ◌-◌, ◌^◌, min, suc}
 use Rattle.std.specs.List.{flat_map}
 use Rattle.vx_base.specs.Outcome.{Outcome, Begins, output_of}
-use Rattle.vx_base.specs.Outside.{Rose, with_bytes}
+use Rattle.vx_base.specs.Outside.{PutsFront, Rose, with_bytes}
 use Rattle.vx_isa.specs.Machine.{State, start, words_from}
 use Rattle.vx_probe.specs.Times.{Times, list_of}
 use Rattle.vx_probe.specs.Watch.{Watch, shown_all}
@@ -18,11 +18,11 @@ use Rattle.vx_driver.specs.declared.status.Status.{Status}
 use Rattle.vx_driver.specs.declared.status.Status.TheVariants.{Done, Trapped, WriteFault, Stopped, Stuck}
 use Rattle.vx_driver.specs.Status.{Tells, TellsWith, status_line}
 use Rattle.vx_driver.specs.Boxes.{report_line}
-use Rattle.vx_driver.specs.Simulated.{Loaded, begun, outcome_within, events_within, result_line, Streams, ErrTells, OutRose, IsEnd, IsStatusOf, reports_of, is_of_run}
+use Rattle.vx_driver.specs.Simulated.{Loaded, begun, outcome_within, events_within, result_line, Streams, ErrTells, OutRose, IsEnd, IsStatusOf, reports_of, Fronts, BeginsLines, TellsFault, is_of_run}
 use Rattle.vx_driver.specs.Executed.{issued_line}
-use Rattle.vx_driver.specs.Ending.{status_as, told_line, ShowsLine, ShowsIssued, ShowsEnd, ShowsOf, IsHalted, RanWhole, RanPartly, RunOf, Finishes, IsRunOf, LoadedAnswers}
+use Rattle.vx_driver.specs.Ending.{status_as, end_line, told_line, ShowsLine, ShowsIssued, ShowsEnd, BeginsEnd, CutsEnd, EndFault, ShowsOf, IsHalted, RanWhole, RanPartly, RunOf, Finishes, IsRunOf, LoadedAnswers}
 use Rattle.vx_driver.specs.Commands.{TellsRun}
-use Rattle.vx_driver.proofs.Appending.{with_both, with_none, tells_nothing}
+use Rattle.vx_driver.proofs.Appending.{with_both, with_none, front_on, front_behind, tells_nothing}
 use Rattle.vx_base.proofs.Same.{begins_self}
 use Rattle.vx_driver.proofs.Issued.{few_events}
 use Rattle.vx_base.proofs.OutsideLaws.{rose_throughout}
@@ -145,6 +145,71 @@ pub shows_on : {T E : Type 0} (r : Result T E) (ended : Ended) (a b c d : Option
 shows_on (Ok x) ended a b c d line reports f g h i le grows more first second is = shows_ok a b c d line reports f g h i le grows more is ended first second
 shows_on (Err e) ended a b c d line reports f g h i le grows more first second is = tt
 
+-- the lines of an end of which one is not put
+
+pub line_cut : (ended : Ended) (line reports : List ℕ) {a b : Option (List ℕ)} → IsHalted ended → PutsFront a b (end_line ended) → CutsEnd ended line reports a b
+line_cut (Halted z) line reports halted p = let q = front_on (result_line z ++ line) reports (front_on (result_line z) line p) in record { front = q.front; begins = q.begins; put = q.put }
+line_cut (TrappedBy trap) line reports halted p = absurd halted
+line_cut StoppedAt line reports halted p = absurd halted
+line_cut (StuckAt reason place) line reports halted p = absurd halted
+line_cut SinkFault line reports halted p = absurd halted
+
+pub issued_cut : (ended : Ended) (line reports : List ℕ) {a b c : Option (List ℕ)} (f g : ℕ) → IsHalted ended → ShowsLine ended a b f g → PutsFront b c line → CutsEnd ended line reports a c
+issued_cut (Halted z) line reports {a} {b} {c} f g halted first p =
+    let q = front_on (result_line z ++ line) reports (front_behind a b c (result_line z) line first p) in record { front = q.front; begins = q.begins; put = q.put }
+issued_cut (TrappedBy trap) line reports f g halted first p = absurd halted
+issued_cut StoppedAt line reports f g halted first p = absurd halted
+issued_cut (StuckAt reason place) line reports f g halted first p = absurd halted
+issued_cut SinkFault line reports f g halted first p = absurd halted
+
+module _ (a b c d : Option (List ℕ)) (line reports : List ℕ) (f g h : ℕ) (last : PutsFront c d reports) where
+  three_fronts : (own next : List ℕ) (first : PutsFront a b own) (second : PutsFront b c next) → Fronts own next reports (first.front ++ second.front ++ last.front)
+  three_fronts own next first second =
+      record { front = first.front; begins = first.begins; middle = second.front; follows = second.begins; back = last.front; reported = last.begins; is = refl }
+
+  abbrev nothing_between : c ≡ b → PutsFront b c []
+  nothing_between same = record { front = []; begins = begins_self []; put = same ∙ with_none b }
+
+  reports_cut : (ended : Ended) → ShowsLine ended a b f g → ShowsIssued ended line b c g h → CutsEnd ended line reports a d
+  reports_cut (Halted z) first second =
+      let q = front_behind a c d (result_line z ++ line) reports (second ∙ ap (λ told. with_bytes told line) first ∙ with_both a (result_line z) line) last in
+      record { front = q.front; begins = q.begins; put = q.put }
+  reports_cut (TrappedBy trap) first second = record {
+    front = first.part.front ++ second.part.front ++ last.front;
+    begins = three_fronts (status_line (Trapped trap)) line first.part second.part;
+    put = three_pieces a b c d first.part.front second.part.front last.front first.part.put second.part.put last.put;
+  }
+  reports_cut StoppedAt first second = record {
+    front = first.part.front ++ [] ++ last.front;
+    begins = three_fronts (status_line Stopped) [] first.part (nothing_between second);
+    put = three_pieces a b c d first.part.front [] last.front first.part.put (second ∙ with_none b) last.put;
+  }
+  reports_cut (StuckAt reason place) first second = record {
+    front = first.part.front ++ [] ++ last.front;
+    begins = three_fronts (status_line (Stuck reason place)) [] first.part (nothing_between second);
+    put = three_pieces a b c d first.part.front [] last.front first.part.put (second ∙ with_none b) last.put;
+  }
+  reports_cut SinkFault first second = record {
+    front = first.part.front ++ [] ++ last.front;
+    begins = three_fronts (status_line WriteFault) [] first.part (nothing_between second);
+    put = three_pieces a b c d first.part.front [] last.front first.part.put (second ∙ with_none b) last.put;
+  }
+
+pub cuts_on : {T E : Type 0} (r : Result T E) (ended : Ended) (a b c d : Option (List ℕ)) (line reports : List ℕ) (f g h : ℕ) → ShowsLine ended a b f g → ShowsIssued ended line b c g h → OnErr r (PutsFront c d reports) →
+    OnErr r (CutsEnd ended line reports a d)
+cuts_on (Ok x) ended a b c d line reports f g h first second p = tt
+cuts_on (Err e) ended a b c d line reports f g h first second p = reports_cut a b c d line reports f g h p ended first second
+
+-- the fault is told behind them
+pub end_fault : (ended : Ended) (line reports : List ℕ) {a b c : Option (List ℕ)} {f g : ℕ} (status : Status) → status ≡ WriteFault → CutsEnd ended line reports a b → Tells (status_line status) b c f g → EndFault ended line reports a c
+end_fault ended line reports {a} {b} {c} status is cut told = record {
+  front = cut.front;
+  begins = cut.begins;
+  back = told.part.front;
+  follows = subst (λ t. Begins told.part.front (status_line t)) is told.part.begins;
+  put = told.part.put ∙ ap (λ x. with_bytes x told.part.front) cut.put ∙ with_both a cut.front told.part.front;
+}
+
 pub rose_then : (first mid last : ℕ) → first ≤ mid → mid ≤ last → Rose first mid → Rose first last
 rose_then first mid last le more rose = rose_throughout first first mid last (omega arith) le more rose
 
@@ -172,6 +237,17 @@ shows_outcome StoppedAt o line reports s unfaulted is h = subst (λ p. ShowsOf p
 shows_outcome (StuckAt reason place) o line reports s unfaulted is h = subst (λ p. ShowsOf p line reports s) (sym is) h
 shows_outcome SinkFault o line reports s unfaulted is h = absurd cc
 
+begins_outcome : (ended : Ended) (o : Outcome) (line reports bytes : List ℕ) → is_fault ended ≡ false → o ≡ outcome_of ended (output_of o) → BeginsEnd ended line reports bytes → BeginsLines o line reports bytes
+begins_outcome (Halted z) o line reports bytes unfaulted is h = subst (λ p. BeginsLines p line reports bytes) (sym is) h
+begins_outcome (TrappedBy trap) o line reports bytes unfaulted is h = subst (λ p. BeginsLines p line reports bytes) (sym is) h
+begins_outcome StoppedAt o line reports bytes unfaulted is h = subst (λ p. BeginsLines p line reports bytes) (sym is) h
+begins_outcome (StuckAt reason place) o line reports bytes unfaulted is h = subst (λ p. BeginsLines p line reports bytes) (sym is) h
+begins_outcome SinkFault o line reports bytes unfaulted is h = absurd cc
+
+fault_outcome : (ended : Ended) (o : Outcome) (line reports : List ℕ) (s : Streams) → is_fault ended ≡ false → o ≡ outcome_of ended (output_of o) → EndFault ended line reports s.err_before s.err_after → TellsFault o line reports s
+fault_outcome ended o line reports s unfaulted is h =
+    record { front = h.front; begins = begins_outcome ended o line reports h.front unfaulted is h.begins; back = h.back; follows = h.follows; put = h.put }
+
 -- a run's answer by its status
 by_status : (x : Loaded) (times : Times) (budget : ℕ) (tells : Bool) (watches : List Watch) (s : Streams) (ended : Ended) → is_fault ended ≡ false → IsRunOf x times budget tells watches s (status_as ended) →
     LoadedAnswers x times budget tells watches s (status_as ended)
@@ -191,15 +267,21 @@ length_map f (x ∷ xs) = ap suc (length_map f xs)
 
 module _ (x : Loaded) (times : Times) (budget : ℕ) (tells : Bool) (watches watches' : List Watch) (s : Streams) (ended : Ended) (issued : ℕ) (r : RunOf x times budget watches watches' s.out_before s.out_after ended)
     (counted : is_fault ended ≡ false → issued ≡ length (events_within x times budget)) where
+  -- a fact of the line of the words and of the reports, in the terms of the events
+  of_events : (P : (line reports : List ℕ) → Type 0) → is_fault ended ≡ false → P (told_line tells issued) (flat_map report_line watches') →
+      P (told_line tells (length (events_within x times budget))) (reports_of watches (events_within x times budget))
+  of_events P unfaulted h =
+      let whole = r.whole unfaulted in
+      let reports : flat_map report_line watches' ≡ reports_of watches (events_within x times budget) = ap (flat_map report_line) whole.seen ∙ flat_shown (events_within x times budget) watches in
+      let line : told_line tells issued ≡ told_line tells (length (events_within x times budget)) = ap (told_line tells) (counted unfaulted) in
+      subst (λ l. P l (reports_of watches (events_within x times budget))) line (subst (P (told_line tells issued)) reports h)
+
   whole_answers : (status : Status) (n : ℕ) → n ≡ length watches' → is_fault ended ≡ false → Finishes ended (told_line tells issued) (flat_map report_line watches') n s.err_before s.err_after s.err_faults_before s.err_faults_after status →
       LoadedAnswers x times budget tells watches s status
   whole_answers status n all unfaulted (inl done) =
       let whole = r.whole unfaulted in
-      let reports : flat_map report_line watches' ≡ reports_of watches (events_within x times budget) = ap (flat_map report_line) whole.seen ∙ flat_shown (events_within x times budget) watches in
-      let line : told_line tells issued ≡ told_line tells (length (events_within x times budget)) = ap (told_line tells) (counted unfaulted) in
       let shown : ShowsEnd ended (told_line tells (length (events_within x times budget))) (reports_of watches (events_within x times budget)) s.err_before s.err_after s.err_faults_before s.err_faults_after =
-      subst (λ l. ShowsEnd ended l (reports_of watches (events_within x times budget)) s.err_before s.err_after s.err_faults_before s.err_faults_after) line
-      (subst (λ l. ShowsEnd ended (told_line tells issued) l s.err_before s.err_after s.err_faults_before s.err_faults_after) reports done.1) in
+      of_events (λ line reports. ShowsEnd ended line reports s.err_before s.err_after s.err_faults_before s.err_faults_after) unfaulted done.1 in
       subst (LoadedAnswers x times budget tells watches s) (sym done.0) (by_status x times budget tells watches s ended unfaulted (record {
         status_is = status_of_end ended (outcome_within x times budget) unfaulted whole.outcome;
         put = whole.put;
@@ -212,6 +294,8 @@ module _ (x : Loaded) (times : Times) (budget : ℕ) (tells : Bool) (watches wat
         rose = cut.1;
         wanted = elim cut.2 [ inl halted ↦ inl (is_end_of ended (outcome_within x times budget) whole.outcome halted) | inr some ↦ inr (subst (λ m. 0 < m) count some) ];
         put = whole.put;
+        told = fault_outcome ended (outcome_within x times budget) (told_line tells (length (events_within x times budget))) (reports_of watches (events_within x times budget)) s unfaulted whole.outcome
+            (of_events (λ line reports. EndFault ended line reports s.err_before s.err_after) unfaulted cut.3);
       }))
 
   partly_answers : (status : Status) → is_fault ended ≡ true → OutRose s → ErrTells (status_line WriteFault) s → status ≡ WriteFault → LoadedAnswers x times budget tells watches s status

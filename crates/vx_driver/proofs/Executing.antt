@@ -135,7 +135,7 @@ module _ (asked : Execution) (x : Loaded) (times : Times) (watches : List Watch)
   never_stuck why place (StuckWith reason here out) is status = no_failure asked.budget (subst IsFailure (sym is) tt)
   never_stuck why place (Wrong out) is status = status
 
-  cut : OutputCut x times asked.budget s ⊎ UnputLines x times asked.budget watches s → RunsCut asked the_boxes e s
+  cut : OutputCut x times asked.budget s ⊎ UnputLines x times asked.budget true watches s → RunsCut asked the_boxes e s
   cut (inl out) =
       let whole = begins ready.source_program x times ready.by.compiled.faithful numbers out.bound in
       record {
@@ -143,6 +143,8 @@ module _ (asked : Execution) (x : Loaded) (times : Times) (watches : List Watch)
         ready = ready;
         fronts = record { front = out.front; begins = record { bound = whole.bound; begins = begins_on out.front _ _ out.begins whole.begins }; put = out.put };
         in_source = in_source ready.source_program x times ready.by.compiled.faithful numbers asked.budget the_outcome refl;
+        issued = the_count;
+        issues = issues_of ready.source_program x times ready.by.compiled.faithful numbers asked.budget the_outcome refl;
         cut = inl out;
       }
   cut (inr lines) = record {
@@ -150,7 +152,9 @@ module _ (asked : Execution) (x : Loaded) (times : Times) (watches : List Watch)
     ready = ready;
     fronts = record { front = output_of the_outcome; begins = begins ready.source_program x times ready.by.compiled.faithful numbers asked.budget; put = lines.put };
     in_source = in_source ready.source_program x times ready.by.compiled.faithful numbers asked.budget the_outcome refl;
-    cut = inr (record { rose = lines.rose; wanted = elim lines.wanted [ inl end ↦ inl end | inr some ↦ inr (wanted some) ]; put = lines.put });
+    issued = the_count;
+    issues = issues_of ready.source_program x times ready.by.compiled.faithful numbers asked.budget the_outcome refl;
+    cut = inr (record { rose = lines.rose; wanted = elim lines.wanted [ inl end ↦ inl end | inr some ↦ inr (wanted some) ]; put = lines.put; told = lines.told });
   }
 
   pub run_executed : (status : Status) → LoadedAnswers x times asked.budget true watches s status → ExecutionAnswers asked e s status the_boxes

@@ -62,13 +62,13 @@ module _ (asked : Simulation) (x : Loaded) (times : Times) (watches : List Watch
     shown = shows_plain (outcome_within x times asked.budget) (reports_of watches (events_within x times asked.budget)) s a.shown;
   }
 
-  cut : OutputCut x times asked.budget s ⊎ UnputLines x times asked.budget watches s → RunCut asked the_boxes e s
+  cut : OutputCut x times asked.budget s ⊎ UnputLines x times asked.budget false watches s → RunCut asked the_boxes e s
   cut (inl out) = record { loaded = x; loads = loads_in asked x e.before is spells; defaults = defaults; cut = inl out }
   cut (inr lines) = record {
     loaded = x;
     loads = loads_in asked x e.before is spells;
     defaults = defaults;
-    cut = inr (record { rose = lines.rose; wanted = elim lines.wanted [ inl end ↦ inl end | inr some ↦ inr (wanted some) ]; put = lines.put });
+    cut = inr (record { rose = lines.rose; wanted = elim lines.wanted [ inl end ↦ inl end | inr some ↦ inr (wanted some) ]; put = lines.put; told = lines.told });
   }
 
   pub run_loaded_answers : (status : Status) → LoadedAnswers x times asked.budget false watches s status → RunAnswers asked the_boxes e s status

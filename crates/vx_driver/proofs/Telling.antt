@@ -9,7 +9,8 @@ use Rattle.vx_driver.specs.Status.{no_box_line, status_line}
 use Rattle.vx_driver.specs.Boxes.{Boxes, Chosen, chosen, chosen_of, timing_named, probes_named, unknown_name, unknown_of}
 use Rattle.vx_driver.specs.Command.{Command, Compile, Simulate, Execute, Count, Soak}
 use Rattle.vx_driver.specs.Simulated.{Streams, ErrTells}
-use Rattle.vx_driver.specs.Commands.{TellsRun, TellsBox, TellsLine, TellsProbe}
+use Rattle.vx_driver.specs.Commands.{TellsRun, TellsBox, TellsLine}
+use Rattle.vx_driver.specs.Ending.{TellsProbe}
 
 -- the line of a step before the run
 pub run_told : (s : Streams) (status : Status) → ErrTells (status_line status) s → TellsRun s status

@@ -5,7 +5,7 @@ use Rattle.vx_driver.specs.declared.status.Status.{Status}
 use Rattle.vx_driver.specs.declared.status.Status.TheVariants.{Done, Trapped, Usage, WriteFault, Stopped, Stuck, NoMemory}
 use Rattle.vx_driver.specs.Command.{Command, Compile, Simulate, Execute, Count, Soak}
 use Rattle.vx_driver.specs.Boxes.{Boxes, Chosen, chosen, unknown_name}
-use Rattle.vx_driver.specs.Status.{Tells, no_box_line, status_line}
+use Rattle.vx_driver.specs.Status.{no_box_line, status_line}
 use Rattle.vx_driver.specs.Answers.{Effect, SameFiles, ReadsRose, ReplacesRose, CompileAnswers, CompileEnds}
 use Rattle.vx_driver.specs.Simulated.{Streams, ErrRose, ErrTells, SimAnswers, SimCompletes, is_of_run}
 use Rattle.vx_driver.specs.Executed.{ExecAnswers, ExecCompletes}
@@ -21,7 +21,8 @@ Answers (Some (Execute asked)) boxes e s status = ExecAnswers asked boxes e s st
 Answers (Some (Count asked)) boxes e s status = ProfilingAnswers asked e s status
 Answers (Some (Soak asked)) boxes e s status = SoakAnswers asked boxes e s status
 
--- of `sim` and `exec` the answers say the lines of a run; where a put of these failed, the count of faults of the error stream rose
+-- of `sim` and `exec` the answers say the lines of a run, also where a put of these failed, by which the count of faults of the
+-- error stream rose
 abbrev pub TellsRun : Streams → Status → Type 0
 TellsRun s Done = Unit {0}
 TellsRun s (Trapped trap) = Unit {0}
@@ -45,11 +46,6 @@ TellsLine (Some (Simulate asked)) boxes s status = TellsBox (TellsRun s) (chosen
 TellsLine (Some (Execute asked)) boxes s status = TellsBox (TellsRun s) (chosen asked.timing asked.probe boxes) (unknown_name asked.timing asked.probe boxes) s status
 TellsLine (Some (Count asked)) boxes s status = ErrTells (status_line status) s
 TellsLine (Some (Soak asked)) boxes s status = TellsBox (λ other. ErrTells (status_line other) s) (chosen (codes "late") None boxes) (codes "late") s status
-
--- the line of a probe that is not there, or that memory is wanted for
-abbrev pub TellsProbe : (name : Option (List ℕ)) → Status → (before after : Option (List ℕ)) → (faults faults' : ℕ) → Type 0
-TellsProbe (Some name) Usage before after faults faults' = Tells (no_box_line name) before after faults faults'
-TellsProbe name status before after faults faults' = Tells (status_line status) before after faults faults'
 
 abbrev pub Completes : Option Command → Boxes → Effect → Streams → Status → Type 0
 Completes None boxes e s status = Unit {0}

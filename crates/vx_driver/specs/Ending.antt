@@ -1,5 +1,5 @@
 -- How a run of the simulator ends, as a status and as lines.
-use Rattle.std.specs.Prelude.{◌≡◌, ◌<◌, ◌⊎◌, ℕ, ◌+◌, ◌++◌, Bool, true, false, List, [], length, map, is_some, Option, IfSome}
+use Rattle.std.specs.Prelude.{◌≡◌, ◌<◌, ◌⊎◌, ℕ, ◌+◌, ◌++◌, Bool, true, false, List, [], length, map, is_some, Option, Some, IfSome}
 use Rattle.vx_base.specs.Outcome.{Outcome, Ends, Traps, Goes, Stuck as StuckWith, Wrong, Begins, output_of}
 use Rattle.vx_base.specs.Outside.{Rose, with_bytes}
 use Rattle.vx_probe.specs.Times.{Times}
@@ -8,12 +8,12 @@ use Rattle.vx_sim.specs.Ran.{is_fault, outcome_of}
 use Rattle.vx_sim.specs.declared.ended.Ended.{Ended}
 use Rattle.vx_sim.specs.declared.ended.Ended.TheVariants.{Halted, Trapped as TrappedBy, Stopped as StoppedAt, Stuck as StuckAt, SinkFault}
 use Rattle.vx_driver.specs.declared.status.Status.{Status}
-use Rattle.vx_driver.specs.declared.status.Status.TheVariants.{Done, Trapped, WriteFault, Stopped, Stuck, NoMemory}
+use Rattle.vx_driver.specs.declared.status.Status.TheVariants.{Done, Trapped, Usage, WriteFault, Stopped, Stuck, NoMemory}
 use Rattle.vx_driver.specs.declared.loaded.LoadedFiles.{LoadedFiles}
-use Rattle.vx_driver.specs.Status.{Tells, TellsWith, status_line}
+use Rattle.vx_driver.specs.Status.{Tells, TellsWith, no_box_line, status_line}
 use Rattle.vx_driver.specs.Command.{Execution}
 use Rattle.vx_driver.specs.Answers.{Effect, SourceAnswers, ProfileStands, StopsAtProfile, StopsAtMachine, NoProfile, NoMachine, Is, machine_found}
-use Rattle.vx_driver.specs.Simulated.{Loaded, with_input, outcome_within, events_within, result_line, Streams, ErrRose, ErrTellsWith, OutputCut, IsEnd, IsStatusOf, reports_of}
+use Rattle.vx_driver.specs.Simulated.{Loaded, with_input, outcome_within, events_within, result_line, Streams, ErrRose, ErrTellsWith, OutputCut, IsEnd, IsStatusOf, reports_of, Fronts, TellsFault}
 use Rattle.vx_driver.specs.Executed.{issued_line, InputAnswers, StopsAtInput}
 use Rattle.vx_isa.specs.Numbers.{Numbers}
 
@@ -29,6 +29,11 @@ status_as (StuckAt reason place) = Stuck reason place
 status_as SinkFault = WriteFault
 
 -- the line of an end: the result, else the line of its status
+abbrev pub end_line : Ended → List ℕ
+end_line (Halted z) = result_line z
+end_line ended = status_line (status_as ended)
+
+-- it is put; that of a status may be cut where the count of faults rose
 abbrev pub ShowsLine : Ended → (before after : Option (List ℕ)) → (faults faults' : ℕ) → Type 0
 ShowsLine (Halted z) before after faults faults' = after ≡ with_bytes before (result_line z)
 ShowsLine ended before after faults faults' = Tells (status_line (status_as ended)) before after faults faults'
@@ -51,7 +56,27 @@ ShowsEnd (Halted z) line reports before after faults faults' = after ≡ with_by
 ShowsEnd (TrappedBy trap) line reports before after faults faults' = TellsWith (status_line (Trapped trap)) line reports before after faults faults'
 ShowsEnd ended line reports before after faults faults' = TellsWith (status_line (status_as ended)) [] reports before after faults faults'
 
--- the same of an outcome
+-- bytes begin the lines of an end
+abbrev pub BeginsEnd : Ended → (line reports bytes : List ℕ) → Type 0
+BeginsEnd (Halted z) line reports bytes = Begins bytes (result_line z ++ line ++ reports)
+BeginsEnd (TrappedBy trap) line reports bytes = Fronts (status_line (Trapped trap)) line reports bytes
+BeginsEnd ended line reports bytes = Fronts (status_line (status_as ended)) [] reports bytes
+
+-- such bytes were put
+pub record CutsEnd (ended : Ended) (line reports : List ℕ) (before after : Option (List ℕ)) : Type 0 where
+  pub front : List ℕ
+  pub begins : BeginsEnd ended line reports front
+  pub put : after ≡ with_bytes before front
+
+-- and behind them a front of the line of the fault
+pub record EndFault (ended : Ended) (line reports : List ℕ) (before after : Option (List ℕ)) : Type 0 where
+  pub front : List ℕ
+  pub begins : BeginsEnd ended line reports front
+  pub back : List ℕ
+  pub follows : Begins back (status_line WriteFault)
+  pub put : after ≡ with_bytes before (front ++ back)
+
+-- what an end puts, of an outcome
 abbrev pub ShowsOf : Outcome → (line reports : List ℕ) → Streams → Type 0
 ShowsOf (Ends z out) line reports s = s.err_after ≡ with_bytes s.err_before (result_line z ++ line ++ reports)
 ShowsOf (Traps k out) line reports s = ErrTellsWith (status_line (Trapped k)) line reports s
@@ -81,17 +106,18 @@ pub record RunOf (x : Loaded) (times : Times) (budget : ℕ) (watches watches' :
   pub whole : is_fault ended ≡ false → RanWhole x times budget watches watches' told told' ended
   pub partly : is_fault ended ≡ true → RanPartly x times budget told told'
 
--- the lines of an end are put, or the result or a report is not
+-- the lines of an end are put, or the result, the line behind it or a report is not, and the fault is told behind them
 abbrev pub Finishes : Ended → (line reports : List ℕ) → (probes : ℕ) → (before after : Option (List ℕ)) → (faults faults' : ℕ) → Status → Type 0
 Finishes ended line reports probes before after faults faults' status =
     ((status ≡ status_as ended) × ShowsEnd ended line reports before after faults faults')
-    ⊎ ((status ≡ WriteFault) × Rose faults faults' × (IsHalted ended ⊎ (0 < probes)))
+    ⊎ ((status ≡ WriteFault) × Rose faults faults' × (IsHalted ended ⊎ (0 < probes)) × EndFault ended line reports before after)
 
--- the output is put, whole, and the result or a report is not
-pub record UnputLines (x : Loaded) (times : Times) (budget : ℕ) (watches : List Watch) (s : Streams) : Type 0 where
+-- the output is put, whole, and the result, the line behind it or a report is not
+pub record UnputLines (x : Loaded) (times : Times) (budget : ℕ) (tells : Bool) (watches : List Watch) (s : Streams) : Type 0 where
   pub rose : ErrRose s
   pub wanted : IsEnd (outcome_within x times budget) ⊎ (0 < length watches)
   pub put : s.out_after ≡ with_bytes s.out_before (output_of (outcome_within x times budget))
+  pub told : TellsFault (outcome_within x times budget) (told_line tells (length (events_within x times budget))) (reports_of watches (events_within x times budget)) s
 
 -- the output is put, whole, and the lines, where the command tells the words that were issued or not
 pub record IsRunOf (x : Loaded) (times : Times) (budget : ℕ) (tells : Bool) (watches : List Watch) (s : Streams) (status : Status) : Type 0 where
@@ -102,8 +128,13 @@ pub record IsRunOf (x : Loaded) (times : Times) (budget : ℕ) (tells : Bool) (w
 -- the run of what was read, with its lines
 abbrev pub LoadedAnswers : Loaded → Times → (budget : ℕ) → Bool → List Watch → Streams → Status → Type 0
 LoadedAnswers x times budget tells watches s NoMemory = Unit {0}
-LoadedAnswers x times budget tells watches s WriteFault = OutputCut x times budget s ⊎ UnputLines x times budget watches s
+LoadedAnswers x times budget tells watches s WriteFault = OutputCut x times budget s ⊎ UnputLines x times budget tells watches s
 LoadedAnswers x times budget tells watches s status = IsRunOf x times budget tells watches s status
+
+-- the line of a probe that is not there, or that memory is wanted for
+abbrev pub TellsProbe : (name : Option (List ℕ)) → Status → (before after : Option (List ℕ)) → (faults faults' : ℕ) → Type 0
+TellsProbe (Some name) Usage before after faults faults' = Tells (no_box_line name) before after faults faults'
+TellsProbe name status before after faults faults' = Tells (status_line status) before after faults faults'
 
 -- no input stands, and the status says why
 pub record NoInput (machine input : Option (List ℕ)) (e : Effect) (status : Status) : Type 0 where

@@ -102,13 +102,15 @@ pub record PutsFront (p : Program) (input : List ℤ) (s : Streams) : Type 0 whe
   pub begins : SourceBegins p input front
   pub put : s.out_after ≡ with_bytes s.out_before front
 
--- the output of a run of such words is cut, or it is put, whole, and a line is not
+-- the output of a run of such words is cut, or it is put, whole, and a line is not, that of the words that were issued among them
 pub record RunsCut (asked : Execution) (boxes : Chosen) (e : Effect) (s : Streams) : Type 0 where
   pub words : Loaded
   pub ready : Prepared asked e words
   pub fronts : PutsFront ready.source_program words.input s
   pub in_source : InSource ready.source_program words.input (outcome_within words boxes.times asked.budget)
-  pub cut : OutputCut words boxes.times asked.budget s ⊎ LinesCut words boxes.times asked.budget asked.probe s
+  pub issued : ℕ
+  pub issues : Issues (outcome_within words boxes.times) asked.budget (outcome_within words boxes.times asked.budget) issued
+  pub cut : OutputCut words boxes.times asked.budget s ⊎ LinesCut words boxes.times asked.budget (issued_line issued) boxes.watches asked.probe s
 
 -- the steps before the run: the source, the profile, the machine, the input, each whole before the next
 

@@ -229,7 +229,7 @@ pub record RunEnds (asked : Simulation) (boxes : Chosen) (e : Effect) (s : Strea
   pub put : s.out_after ≡ with_bytes s.out_before (output_of (outcome_within loaded boxes.times asked.budget))
   pub shown : Shows (outcome_within loaded boxes.times asked.budget) (reports_of boxes.watches (events_within loaded boxes.times asked.budget)) s
 
--- the output is cut: a front of what the run prints within the budget is put, and that is told
+-- the output is cut: a front of what the run prints within the budget is put, and the line of that status
 pub record OutputCut (x : Loaded) (times : Times) (budget : ℕ) (s : Streams) : Type 0 where
   pub rose : OutRose s
   pub told : ErrTells (status_line WriteFault) s
@@ -243,17 +243,45 @@ abbrev pub IsEnd : Outcome → Type 0
 IsEnd (Ends z out) = Unit {0}
 IsEnd other = ⊥
 
+-- a front of a line, a front of the one behind it, and a front of the reports
+pub record Fronts (line next reports bytes : List ℕ) : Type 0 where
+  pub front : List ℕ
+  pub begins : Begins front line
+  pub middle : List ℕ
+  pub follows : Begins middle next
+  pub back : List ℕ
+  pub reported : Begins back reports
+  pub is : bytes ≡ front ++ middle ++ back
+
+-- bytes begin the lines of a run: of an end with a result the result, the line behind it and the reports; of a trap each of its
+-- line, the line behind it and the reports may be cut; else each of the line of the status and the reports
+abbrev pub BeginsLines : Outcome → (line reports bytes : List ℕ) → Type 0
+BeginsLines (Ends z out) line reports bytes = Begins bytes (result_line z ++ line ++ reports)
+BeginsLines (Traps k out) line reports bytes = Fronts (status_line (Trapped k)) line reports bytes
+BeginsLines (Goes out) line reports bytes = Fronts (status_line Stopped) [] reports bytes
+BeginsLines (StuckAt why p out) line reports bytes = Fronts (status_line (Stuck why p)) [] reports bytes
+BeginsLines (Wrong out) line reports bytes = ⊥
+
+-- what was put begins the lines of a run, and behind it stands a front of the line of the fault
+pub record TellsFault (outcome : Outcome) (line reports : List ℕ) (s : Streams) : Type 0 where
+  pub front : List ℕ
+  pub begins : BeginsLines outcome line reports front
+  pub back : List ℕ
+  pub follows : Begins back (status_line WriteFault)
+  pub put : s.err_after ≡ with_bytes s.err_before (front ++ back)
+
 -- the output is put, whole, and the result, a line behind it or a report is not
-pub record LinesCut (x : Loaded) (times : Times) (budget : ℕ) (probe : Option (List ℕ)) (s : Streams) : Type 0 where
+pub record LinesCut (x : Loaded) (times : Times) (budget : ℕ) (line : List ℕ) (watches : List Watch) (probe : Option (List ℕ)) (s : Streams) : Type 0 where
   pub rose : ErrRose s
   pub wanted : IsEnd (outcome_within x times budget) ⊎ (is_some probe ≡ true)
   pub put : s.out_after ≡ with_bytes s.out_before (output_of (outcome_within x times budget))
+  pub told : TellsFault (outcome_within x times budget) line (reports_of watches (events_within x times budget)) s
 
 pub record RunCut (asked : Simulation) (boxes : Chosen) (e : Effect) (s : Streams) : Type 0 where
   pub loaded : Loaded
   pub loads : IfSome e.before (λ held. Loads held asked loaded)
   pub defaults : AreDefaults asked.machine asked.input loaded
-  pub cut : OutputCut loaded boxes.times asked.budget s ⊎ LinesCut loaded boxes.times asked.budget asked.probe s
+  pub cut : OutputCut loaded boxes.times asked.budget s ⊎ LinesCut loaded boxes.times asked.budget [] boxes.watches asked.probe s
 
 -- a run was begun
 abbrev pub is_of_run : Status → Bool

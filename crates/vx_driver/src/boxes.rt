@@ -3,12 +3,11 @@
 ghost use Rattle.std.specs.Prelude.{◌≡◌, ◌⊎◌, ◌<◌, ◌≤◌, ◌++◌, [], ◌∷◌, length, take, map, codes, option_map, Some, None, OnOk, OnErr, IfOk, IfErr};
 ghost use Rattle.std.specs.List.{flat_map};
 ghost use Rattle.std.specs.Str.{bytes_eq};
-ghost use Rattle.vx_base.specs.Outside.{Rose, with_bytes};
 ghost use Rattle.vx_probe.specs.Watch.{report_of};
 ghost use Rattle.vx_driver.specs.Boxes.{timing_named, probe_named, probes_named, report_line};
-ghost use Rattle.vx_driver.specs.Status.{Adds};
+ghost use Rattle.vx_driver.specs.Status.{Puts};
 
-use crate::status::{Status, put_whole};
+use crate::status::{Status, put};
 use std::alloc::{AllocError, Global};
 use vx_base::sink::{Sink, SinkFault};
 use vx_probe::{Probe, Timing};
@@ -110,22 +109,18 @@ fn report_in(probe: &Box<dyn Probe>, text: &mut [u8; 80]) -> usize
 
 /// Puts the report of a probe, a line.
 fn put_report<E: Sink>(err: &mut E, probe: &Box<dyn Probe>) -> Result<(), SinkFault>
-    ensures all { OnOk result (E.told err.new ≡ with_bytes (E.told err.old) (report_line (watch probe.now))) }
-    ensures adds { Adds (E.told err.old) (E.told err.new) (E.faults err.old) (E.faults err.new) }
-    ensures failed { OnErr result (Rose (E.faults err.old) (E.faults err.new)) }
+    ensures { Puts result (report_line (watch probe.now)) (E.told err.old) (E.told err.new) (E.faults err.old) (E.faults err.new) }
 {
     let mut text = [0u8; 80];
     let length = report_in(probe, &mut text);
-    put_whole(err, &text[..length])?;
-    put_whole(err, b"\n")
+    put(err, &text[..length])?;
+    put(err, b"\n")
 }
 
 /// Puts the reports of probes, each a line, in the order of the list.
 pub(crate) fn put_reports<E: Sink>(err: &mut E, probes: &[Box<dyn Probe>]) -> Result<(), SinkFault>
     ensures some { OnErr result (0 < length probes.now) }
-    ensures all { OnOk result (E.told err.new ≡ with_bytes (E.told err.old) (flat_map report_line (map (λ b. watch b) probes.now))) }
-    ensures adds { Adds (E.told err.old) (E.told err.new) (E.faults err.old) (E.faults err.new) }
-    ensures failed { OnErr result (Rose (E.faults err.old) (E.faults err.new)) }
+    ensures puts { Puts result (flat_map report_line (map (λ b. watch b) probes.now)) (E.told err.old) (E.told err.new) (E.faults err.old) (E.faults err.new) }
 {
     for probe in probes {
         put_report(err, probe)?;

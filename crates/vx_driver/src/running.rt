@@ -1,19 +1,20 @@
 // The run of words that were read or compiled: their output, and the lines of its end.
 
 ghost use Rattle.std.specs.Prelude.{◌≡◌, ◌⊎◌, ◌<◌, ◌≤◌, true, false, length, map, option_map, IfOk, OnOk, OnErr};
+ghost use Rattle.std.specs.Fmt.{signed_decimal};
 ghost use Rattle.std.specs.List.{flat_map};
-ghost use Rattle.vx_base.specs.Outside.{Rose, with_bytes};
+ghost use Rattle.vx_base.specs.Outside.{PutsFront, Rose};
 ghost use Rattle.vx_sim.specs.Ran.{is_fault};
 ghost use Rattle.vx_driver.specs.Boxes.{report_line};
 ghost use Rattle.vx_driver.specs.Status.{Adds, Puts, Tells, no_box_line, status_line};
 ghost use Rattle.vx_driver.specs.Simulated.{events_within, is_of_run, streams_of, result_line};
 ghost use Rattle.vx_driver.specs.Executed.{issued_line};
-ghost use Rattle.vx_driver.specs.Commands.{TellsProbe, TellsRun};
-ghost use Rattle.vx_driver.specs.Ending.{loaded_of, status_as, told_line, ShowsLine, ShowsIssued, ShowsEnd, IsHalted, RunOf, Finishes, LoadedAnswers};
+ghost use Rattle.vx_driver.specs.Commands.{TellsRun};
+ghost use Rattle.vx_driver.specs.Ending.{loaded_of, status_as, end_line, told_line, ShowsLine, ShowsIssued, ShowsEnd, CutsEnd, IsHalted, RunOf, Finishes, LoadedAnswers, TellsProbe};
 
 use crate::boxes::put_reports;
 use crate::loaded::LoadedFiles;
-use crate::status::{Status, put, put_counted, put_text, put_whole, tell};
+use crate::status::{Status, put, put_counted, put_text, tell};
 use std::alloc::Global;
 use vx_base::outcome::NoMemory;
 use vx_base::sink::{Sink, SinkFault};
@@ -48,16 +49,21 @@ pub(crate) fn run<K: Sink>(
     Ok(RunEnd { ended, issued })
 }
 
-/// Puts the line of a result.
-fn put_result<E: Sink>(err: &mut E, number: i32) -> Result<(), SinkFault>
-    ensures all { OnOk result (E.told err.new ≡ with_bytes (E.told err.old) (result_line number)) }
-    ensures adds { Adds (E.told err.old) (E.told err.new) (E.faults err.old) (E.faults err.new) }
-    ensures failed { OnErr result (Rose (E.faults err.old) (E.faults err.new)) }
+/// Puts a signed number in decimal.
+fn put_signed<E: Sink>(err: &mut E, number: i32) -> Result<(), SinkFault>
+    ensures { Puts result (signed_decimal number) (E.told err.old) (E.told err.new) (E.faults err.old) (E.faults err.new) }
 {
     let mut buffer = itoa::Buffer::new();
-    put_whole(err, b"result ")?;
-    put_whole(err, buffer.format(number).as_bytes())?;
-    put_whole(err, b"\n")
+    put(err, buffer.format(number).as_bytes())
+}
+
+/// Puts the line of a result.
+fn put_result<E: Sink>(err: &mut E, number: i32) -> Result<(), SinkFault>
+    ensures { Puts result (result_line number) (E.told err.old) (E.told err.new) (E.faults err.old) (E.faults err.new) }
+{
+    put(err, b"result ")?;
+    put_signed(err, number)?;
+    put(err, b"\n")
 }
 
 /// Puts the line of the words that a run issued.
@@ -85,6 +91,7 @@ fn status_of(ended: Ended) -> Status
 fn put_ended<E: Sink>(err: &mut E, ended: Ended) -> Result<(), SinkFault>
     ensures shows { OnOk result (ShowsLine ended (E.told err.old) (E.told err.new) (E.faults err.old) (E.faults err.new)) }
     ensures wanted { OnErr result (IsHalted ended) }
+    ensures part { OnErr result (PutsFront (E.told err.old) (E.told err.new) (end_line ended)) }
     ensures failed { OnErr result (Rose (E.faults err.old) (E.faults err.new)) }
     ensures adds { Adds (E.told err.old) (E.told err.new) (E.faults err.old) (E.faults err.new) }
 {
@@ -102,6 +109,7 @@ fn put_ended<E: Sink>(err: &mut E, ended: Ended) -> Result<(), SinkFault>
 fn put_issued<E: Sink>(err: &mut E, ended: Ended, issued: u64) -> Result<(), SinkFault>
     ensures shows { OnOk result (ShowsIssued ended (issued_line issued) (E.told err.old) (E.told err.new) (E.faults err.old) (E.faults err.new)) }
     ensures wanted { OnErr result (IsHalted ended) }
+    ensures part { OnErr result (PutsFront (E.told err.old) (E.told err.new) (issued_line issued)) }
     ensures failed { OnErr result (Rose (E.faults err.old) (E.faults err.new)) }
     ensures adds { Adds (E.told err.old) (E.told err.new) (E.faults err.old) (E.faults err.new) }
 {
@@ -119,6 +127,7 @@ fn put_issued<E: Sink>(err: &mut E, ended: Ended, issued: u64) -> Result<(), Sin
 fn put_told<E: Sink>(err: &mut E, end: RunEnd, tells: bool) -> Result<(), SinkFault>
     ensures shows { OnOk result (ShowsIssued end.ended (told_line tells end.issued) (E.told err.old) (E.told err.new) (E.faults err.old) (E.faults err.new)) }
     ensures wanted { OnErr result (IsHalted end.ended) }
+    ensures part { OnErr result (PutsFront (E.told err.old) (E.told err.new) (told_line tells end.issued)) }
     ensures failed { OnErr result (Rose (E.faults err.old) (E.faults err.new)) }
     ensures adds { Adds (E.told err.old) (E.told err.new) (E.faults err.old) (E.faults err.new) }
 {
@@ -138,6 +147,7 @@ fn put_end<E: Sink>(
 ) -> Result<(), SinkFault>
     ensures shows { OnOk result (ShowsEnd end.ended (told_line tells end.issued) (flat_map report_line (map (λ b. watch b) probes.now)) (E.told err.old) (E.told err.new) (E.faults err.old) (E.faults err.new)) }
     ensures wanted { OnErr result (IsHalted end.ended ⊎ (0 < length probes.now)) }
+    ensures cut { OnErr result (CutsEnd end.ended (told_line tells end.issued) (flat_map report_line (map (λ b. watch b) probes.now)) (E.told err.old) (E.told err.new)) }
     ensures failed { OnErr result (Rose (E.faults err.old) (E.faults err.new)) }
     ensures adds { Adds (E.told err.old) (E.told err.new) (E.faults err.old) (E.faults err.new) }
 {

@@ -94,15 +94,6 @@ pub(crate) fn put<E: Sink>(err: &mut E, bytes: &[u8]) -> Result<(), SinkFault>
     put_all(err, bytes)
 }
 
-/// Puts bytes, all of them where the sink does not fail.
-pub(crate) fn put_whole<E: Sink>(err: &mut E, bytes: &[u8]) -> Result<(), SinkFault>
-    ensures all { OnOk result (E.told err.new ≡ with_bytes (E.told err.old) bytes.now) }
-    ensures adds { Adds (E.told err.old) (E.told err.new) (E.faults err.old) (E.faults err.new) }
-    ensures failed { OnErr result (Rose (E.faults err.old) (E.faults err.new)) }
-{
-    put_all(err, bytes)
-}
-
 /// Puts a text.
 pub(crate) fn put_text<E: Sink>(err: &mut E, text: &str) -> Result<(), SinkFault>
     ensures { Puts result text.now (E.told err.old) (E.told err.new) (E.faults err.old) (E.faults err.new) }

@@ -249,10 +249,11 @@ pub fn vexc<D: Depot, K: Sink, E: Sink>(
     // Only a run puts anything on `out`, its output, its counts or its summary.
     ensures nothing_on_out { puts_output (command_of (map string_bytes words.now)) result ≡ false → K.told out.new ≡ K.told out.old }
 
-    // `err` gains the line of the status, and only a front of it where a put fails.
+    // What `err` gains: the line of the status, or a front of it where a put fails. Of the lines of a run `answers` speak,
+    // and of words that clap refuses nothing is said.
     ensures line { TellsLine (command_of (map string_bytes words.now)) (record { probes = map (λ b. record { name = (⟦<dyn Probe as Probe>⟧ b.vtable).called b.value; watch = watch b }) probes.items; timings = map (λ b. record { name = (⟦<dyn Timing as Timing>⟧ b.vtable).called b.value; times = times b }) timings.items }) (streams_of K.told K.faults E.told E.faults out.old out.new err.old err.new) result }
 
-    // Where the second word names no command, that is its line: `no command`, or `no memory`.
+    // Where the second word is absent or names no command, that is its line: `no command`, or `no memory`.
     ensures no_command { names_command (map string_bytes words.now) ≡ false → Tells (status_line result) (E.told err.old) (E.told err.new) (E.faults err.old) (E.faults err.new) }
     ensures line_on_err { Appends (E.told err.old) (E.told err.new) }
 

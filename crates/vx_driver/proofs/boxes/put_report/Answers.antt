@@ -1,11 +1,10 @@
 -- The report and the line feed, one behind the other.
-use Rattle.std.proofs.Common.{ap, ◌++◌, ◌∷◌, []}
-use Rattle.vx_driver.proofs.Appending.{appends_on, puts_on}
+use Rattle.std.proofs.Common.{◌∷◌, []}
+use Rattle.vx_driver.proofs.Appending.{cut_before, fails, puts_behind}
 use Rattle.vx_driver.proofs.boxes.put_report.Goals as goal
 
-pub returns-clause-all : goal.returns-clause-all
-returns-clause-all g c =
-    puts_on _ _ _ c.put_whole-2.result _ (10 ∷ []) _ c.in_ok-put_whole.ensures.all (ap (λ text. text ++ 10 ∷ []) c.report_in-length.ensures.written) c.put_whole-2.ensures.all
+pub returns-in_err-put : goal.returns-in_err-put
+returns-in_err-put g c = fails _ _ c.from_residual.ensures.0 (cut_before _ (10 ∷ []) (rw c.report_in-length.ensures.written at c.in_err-put.ensures))
 
-pub returns-clause-adds : goal.returns-clause-adds
-returns-clause-adds g c = appends_on c.put_whole.ensures.adds c.put_whole-2.ensures.adds
+pub returns : goal.returns
+returns g c = puts_behind _ _ _ (rw c.report_in-length.ensures.written at c.in_ok-put.ensures) c.put-2.ensures
