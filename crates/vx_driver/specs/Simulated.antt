@@ -110,18 +110,18 @@ is_named machine input TheMachine = is_some machine
 is_named machine input TheInput = is_some input
 
 -- the status of a file that is too long: the count is one past its limit
-abbrev pub limit_of : Role → Status
-limit_of TheSource = Limit 1 1048577
-limit_of TheWords = Limit 9 536870913
-limit_of TheProfile = Limit 10 16777217
-limit_of TheMachine = Limit 11 65537
-limit_of TheInput = Limit 12 16777217
+abbrev pub status_of_too_long : Role → Status
+status_of_too_long TheSource = Limit 1 1048577
+status_of_too_long TheWords = Limit 9 536870913
+status_of_too_long TheProfile = Limit 10 16777217
+status_of_too_long TheMachine = Limit 11 65537
+status_of_too_long TheInput = Limit 12 16777217
 
 -- the status is that of a named file that is too long
 pub record IsTooLong (named : Role → Bool) (status : Status) : Type 0 where
   pub role : Role
   pub among : named role ≡ true
-  pub status_is : status ≡ limit_of role
+  pub status_is : status ≡ status_of_too_long role
 
 -- a status by which the reading of files stops a command: of the files that the depot tells; where it tells none, a fault is one
 -- of some bytes of a named file, and of a file that is missing or cannot be read only the counts speak
