@@ -1,5 +1,5 @@
 -- Bytes put in several pieces.
-use Rattle.std.proofs.Common.{◌≡◌, ◌<◌, ◌≤◌, ℕ, zero, suc, true, false, List, [], ◌∷◌, ◌++◌, length, map, take, get_or, Option, Some, None, Result, Ok, Err, OnOk, refl, sym, subst, ap, ◌∙◌, append_assoc, append-nil, arith}
+use Rattle.std.proofs.Common.{◌≡◌, ◌<◌, ◌≤◌, ℕ, zero, suc, true, false, List, [], ◌∷◌, ◌++◌, length, map, take, get_or, Option, Some, None, Result, Ok, Err, refl, sym, subst, ap, ◌∙◌, append_assoc, append-nil, arith}
 use Rattle.std.specs.Prelude.{is_err}
 use Rattle.std.specs.List.{flat_map}
 use Rattle.vx_base.specs.Outside.{PutsFront, with_bytes}
@@ -21,10 +21,6 @@ appends_on {a} {b} {c} {f} {g} {h} x y = record {
   is = y.is ∙ ap (λ told. with_bytes told y.more) x.is ∙ with_both a x.more y.more;
   never_fall = let first = x.never_fall in let second = y.never_fall in omega arith;
 }
-
-pub puts_on : (a b c : Option (List ℕ)) {T E : Type 0} (r : Result T E) (xs ys zs : List ℕ) → b ≡ with_bytes a xs → xs ++ ys ≡ zs → OnOk r (c ≡ with_bytes b ys) → OnOk r (c ≡ with_bytes a zs)
-puts_on a b c (Ok x) xs ys zs first same second = second ∙ ap (λ told. with_bytes told ys) first ∙ with_both a xs ys ∙ ap (with_bytes a) same
-puts_on a b c (Err e) xs ys zs first same second = tt
 
 -- several pieces that are put whole, or of which one fails
 

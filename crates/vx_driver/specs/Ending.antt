@@ -33,7 +33,7 @@ abbrev pub end_line : Ended → List ℕ
 end_line (Halted z) = result_line z
 end_line ended = status_line (status_as ended)
 
--- it is put; that of a status may be cut where the count of faults rose
+-- that of a result is put; of that of a status a front, and all of it where the count of faults did not rise
 abbrev pub ShowsLine : Ended → (before after : Option (List ℕ)) → (faults faults' : ℕ) → Type 0
 ShowsLine (Halted z) before after faults faults' = after ≡ with_bytes before (result_line z)
 ShowsLine ended before after faults faults' = Tells (status_line (status_as ended)) before after faults faults'
@@ -68,7 +68,7 @@ pub record CutsEnd (ended : Ended) (line reports : List ℕ) (before after : Opt
   pub begins : BeginsEnd ended line reports front
   pub put : after ≡ with_bytes before front
 
--- and behind them a front of the line of the fault
+-- and behind them a front of `write fault`
 pub record EndFault (ended : Ended) (line reports : List ℕ) (before after : Option (List ℕ)) : Type 0 where
   pub front : List ℕ
   pub begins : BeginsEnd ended line reports front
@@ -76,7 +76,7 @@ pub record EndFault (ended : Ended) (line reports : List ℕ) (before after : Op
   pub follows : Begins back (status_line WriteFault)
   pub put : after ≡ with_bytes before (front ++ back)
 
--- what an end puts, of an outcome
+-- what the lines of an end put, told of an outcome
 abbrev pub ShowsOf : Outcome → (line reports : List ℕ) → Streams → Type 0
 ShowsOf (Ends z out) line reports s = s.err_after ≡ with_bytes s.err_before (result_line z ++ line ++ reports)
 ShowsOf (Traps k out) line reports s = ErrTellsWith (status_line (Trapped k)) line reports s

@@ -253,8 +253,8 @@ pub record Fronts (line next reports bytes : List ℕ) : Type 0 where
   pub reported : Begins back reports
   pub is : bytes ≡ front ++ middle ++ back
 
--- bytes begin the lines of a run: of an end with a result the result, the line behind it and the reports; of a trap each of its
--- line, the line behind it and the reports may be cut; else each of the line of the status and the reports
+-- bytes begin the lines of a run: with a result they are a front of the result, the line behind it and the reports; by a trap
+-- fronts of its line, of the one behind it and of the reports; else fronts of the line of the status and of the reports
 abbrev pub BeginsLines : Outcome → (line reports bytes : List ℕ) → Type 0
 BeginsLines (Ends z out) line reports bytes = Begins bytes (result_line z ++ line ++ reports)
 BeginsLines (Traps k out) line reports bytes = Fronts (status_line (Trapped k)) line reports bytes
@@ -262,7 +262,7 @@ BeginsLines (Goes out) line reports bytes = Fronts (status_line Stopped) [] repo
 BeginsLines (StuckAt why p out) line reports bytes = Fronts (status_line (Stuck why p)) [] reports bytes
 BeginsLines (Wrong out) line reports bytes = ⊥
 
--- what was put begins the lines of a run, and behind it stands a front of the line of the fault
+-- what was put begins the lines of a run, and a front of `write fault` stands behind it
 pub record TellsFault (outcome : Outcome) (line reports : List ℕ) (s : Streams) : Type 0 where
   pub front : List ℕ
   pub begins : BeginsLines outcome line reports front

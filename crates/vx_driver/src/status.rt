@@ -1,8 +1,7 @@
 // What the top call answers, and the line that it puts for it.
 
-ghost use Rattle.std.specs.Prelude.{◌≡◌, ◌++◌, ◌∷◌, [], OnOk, OnErr, codes, decimal};
+ghost use Rattle.std.specs.Prelude.{◌≡◌, ◌++◌, ◌∷◌, [], codes, decimal};
 ghost use Rattle.vx_machine.specs.Descriptions.{name_of};
-ghost use Rattle.vx_base.specs.Outside.{Rose, with_bytes};
 ghost use Rattle.vx_driver.specs.Status.{number_of, role_name, reason_name, counted, twice_counted, field_words, trap_line, status_line, Puts, Tells, Adds};
 
 use vx_base::outcome::{Reason, Trap};
