@@ -11,7 +11,7 @@ use Rattle.vx_flow.specs.Effects.{IsIn}
 use Rattle.vx_dep.specs.Delays.{writes_of}
 use Rattle.vx_mixed.specs.Alive.{AtEnd}
 use Rattle.vx_mixed.specs.Way.{Clustered}
-use Rattle.vx_mixed.specs.Compensation.{plain_items, items_of, splits_of}
+use Rattle.vx_mixed.specs.TraceItems.{plain_items, items_of, splits_of}
 use Rattle.vx_bug.specs.declared.served.Served.{Served}
 use Rattle.vx_bug.specs.Assigned.{last_books}
 use Rattle.vx_bug.specs.Copies.{Standing, copy_of, here, renamed_op, reads_copies, served_behind, pieces_from, pieces_of, joined, moved_join, with_copies}

@@ -21,8 +21,8 @@ use Rattle.vx_mixed.specs.Live.{Live}
 use Rattle.vx_mixed.specs.Meaning.{is_same, leaves_on, picked}
 use Rattle.vx_mixed.specs.Path.{trace_hop}
 use Rattle.vx_mixed.specs.Way.{Renamed, goto, branch, call, return, stop, Clustered}
-use Rattle.vx_mixed.specs.Compensation.{plain_item, plain_items, item_of, items_of}
-use Rattle.vx_mixed.proofs.Hops.{leave_alike}
+use Rattle.vx_mixed.specs.TraceItems.{plain_item, plain_items, item_of, items_of}
+use Rattle.vx_mixed.proofs.LeaveAlike.{leave_alike}
 use Rattle.vx_bug.specs.declared.served.Served.{Served}
 use Rattle.vx_bug.specs.Copies.{Standing, across, copy_of, with_its_copies, served_behind, pieces_from, pieces_of, joined, with_copies}
 use Rattle.vx_bug.specs.Laying.{standing, served_at}

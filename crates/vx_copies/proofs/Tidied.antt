@@ -18,7 +18,7 @@ use Rattle.vx_mixed.specs.declared.mixed.MixedGraph.{MixedGraph}
 use Rattle.vx_mixed.specs.Alive.{Alive, AtEnd}
 use Rattle.vx_mixed.specs.Settled.{is_copy, made_at_split, block, Tidy}
 use Rattle.vx_mixed.specs.TraceOf.{block_at, split_behind, block_ops, trace_ops, clusters_of, trace_fixed, IsTraceOf}
-use Rattle.vx_mixed.specs.Compensation.{plain_items}
+use Rattle.vx_mixed.specs.TraceItems.{plain_items}
 use Rattle.vx_mixed.specs.Next.{last_of, exit_in}
 use Rattle.vx_mixed.proofs.Alive.{live_start}
 use Rattle.vx_mixed.proofs.PathOf.{Ways, ways_behind, path_of}

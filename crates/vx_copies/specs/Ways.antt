@@ -22,7 +22,7 @@ use Rattle.vx_mixed.specs.Valid.{IsOp, Valid}
 use Rattle.vx_mixed.specs.Live.{Live}
 use Rattle.vx_mixed.specs.Alive.{AtEnd}
 use Rattle.vx_mixed.specs.Way.{Clustered}
-use Rattle.vx_mixed.specs.Compensation.{plain_items, items_of, splits_of}
+use Rattle.vx_mixed.specs.TraceItems.{plain_items, items_of, splits_of}
 use Rattle.vx_bug.specs.declared.clusters.Clusters.{Clusters}
 use Rattle.vx_bug.specs.Assigned.{Assigned}
 use Rattle.vx_bug.specs.Clusters.{general_reads}

@@ -19,7 +19,8 @@ use Rattle.vx_lower.specs.FlowOf.{FlowOf, AreNumbers}
 use Rattle.vx_machine.specs.Items.{latency_of_op}
 use Rattle.vx_mixed.specs.declared.mixed.MixedGraph.{MixedGraph}
 use Rattle.vx_mixed.specs.declared.layout.VWords.{VWords}
-use Rattle.vx_mixed.specs.Context.{OfGraph, EachOfGraph, BothStep}
+use Rattle.vx_mixed.specs.Context.{EachOfGraph, BothStep}
+use Rattle.vx_mixed.specs.FromGraph.{OfGraph}
 use Rattle.vx_mixed.specs.Laid.{laid_run}
 use Rattle.vx_mixed.specs.LayoutLaws.{SameFrame, BothLaidOut}
 use Rattle.vx_mixed.specs.Program.{mixed_run}

@@ -13,7 +13,7 @@ use Rattle.vx_mixed.specs.declared.region.Item.TheVariants.{Plain, Split}
 use Rattle.vx_mixed.specs.Meaning.{word_effect, into}
 use Rattle.vx_mixed.specs.Live.{word_reads, word_writes}
 use Rattle.vx_mixed.specs.Agree.{SameWorld}
-use Rattle.vx_mixed.proofs.Effect.{Grows, none_is, in_append, grows_held, grows_computed, grows_chosen, grows_place, cell_from, left_read, right_read}
+use Rattle.vx_mixed.proofs.Contents.{Grows, none_is, in_append, grows_held, grows_computed, grows_chosen, grows_place, cell_from, left_read, right_read}
 
 pub record Both (ws : List ℕ) (x y x' y' : State) : Type 0 where
   pub world : SameWorld x' y'

@@ -1,5 +1,5 @@
 -- What a trace reads, or leaves live, before it is written is live at the start of its first block.
-use Rattle.std.proofs.Common.{◌≡◌, ℕ, zero, suc, ◌<◌, Bool, true, false, List, [], ◌∷◌, ◌++◌, length, refl, sym, ap, ◌∙◌, subst, ⊎_elim, inl, inr, arith, map}
+use Rattle.std.proofs.Common.{◌≡◌, ℕ, Bool, true, false, List, [], ◌∷◌, ◌++◌, refl, sym, ap, ◌∙◌, subst, ⊎_elim, inl, inr, map}
 use Rattle.std.specs.Prelude.{◌⊎◌}
 use Rattle.vx_flow.specs.declared.graph.Op.{Op}
 use Rattle.vx_flow.specs.Effects.{reads, writes, IsIn}
@@ -8,13 +8,12 @@ use Rattle.vx_flow.specs.declared.graph.Exit.TheVariants.{Goto, Split as Branch}
 use Rattle.vx_mixed.specs.declared.region.Item.{Item}
 use Rattle.vx_mixed.specs.declared.region.Item.TheVariants.{Split}
 use Rattle.vx_mixed.specs.declared.mixed.MixedGraph.{MixedGraph}
-use Rattle.vx_mixed.specs.Live.{item_reads, item_writes, Live, here, beyond, IsPassage, through_block, ReadsFirst, Untouched, plain, single}
+use Rattle.vx_mixed.specs.Live.{Live, here, beyond, IsPassage, through_block, ReadsFirst, Untouched, plain, single}
 use Rattle.vx_flow.specs.Live.{reads_of_exit}
 use Rattle.vx_flow.specs.Walk.{edge}
-use Rattle.vx_mixed.specs.Trace.{nth}
 use Rattle.vx_mixed.specs.Path.{Path, ends, jumps, on_yes, on_no}
-use Rattle.vx_mixed.specs.Alive.{AfterItem, AtEnd, Alive}
-use Rattle.vx_mixed.proofs.Effect.{in_append}
+use Rattle.vx_mixed.specs.Alive.{AtEnd, Alive}
+use Rattle.vx_mixed.proofs.Contents.{in_append}
 
 pub in_whole : (v : ℕ) (xs : List ℕ) → IsIn v (xs ++ []) → IsIn v xs
 in_whole v [] h = h
@@ -71,18 +70,3 @@ live_start m meet {b} {l} {is} {x} (on_no p c d ops rest e inner out i path) v h
     (λ y. ⊎_elim (λ q. beyond route a.0 (λ z. z) (inl refl) q) (λ q. beyond route a.0 (λ z. z) (inr (inl refl)) (live_start m meet path v q.1)) y)
     a.1)
     (through m ops (Split p true (edge b c) 0 ∷ rest) (Branch p c d) v (AtEnd m x v) (subst (λ z. Alive m z v (AtEnd m x v)) i h))
-
--- the same by places
-pub alive_read : (m : MixedGraph) (is : List Item) (v : ℕ) (E : Type 0) (o : ℕ) → IsIn v (item_reads (nth is o)) → ((k : ℕ) → k < o → IsIn v (item_writes (nth is k)) → ⊥) → Alive m is v E
-alive_read m [] v E o h none = absurd h
-alive_read m (i ∷ is) v E zero h none = inl h
-alive_read m (i ∷ is) v E (suc o) h none = inr (inr ((λ w. none 0 (omega arith) w), alive_read m is v E o h (λ k lt w. none (suc k) (omega arith) w)))
-
-pub alive_edge : (m : MixedGraph) (is : List Item) (v : ℕ) (E : Type 0) (e : ℕ) → AfterItem m (nth is e) v → ((k : ℕ) → k < e → IsIn v (item_writes (nth is k)) → ⊥) → Alive m is v E
-alive_edge m [] v E e h none = absurd h
-alive_edge m (i ∷ is) v E zero h none = inr (inl h)
-alive_edge m (i ∷ is) v E (suc e) h none = inr (inr ((λ w. none 0 (omega arith) w), alive_edge m is v E e h (λ k lt w. none (suc k) (omega arith) w)))
-
-pub alive_end : (m : MixedGraph) (is : List Item) (v : ℕ) (E : Type 0) → E → ((k : ℕ) → k < length is → IsIn v (item_writes (nth is k)) → ⊥) → Alive m is v E
-alive_end m [] v E h none = h
-alive_end m (i ∷ is) v E h none = inr (inr ((λ w. none 0 (omega arith) w), alive_end m is v E h (λ k lt w. none (suc k) (omega arith) w)))

@@ -4,7 +4,7 @@ use Rattle.vx_mixed.specs.declared.region.Region.{Region}
 use Rattle.vx_mixed.specs.declared.region.Node.{Node}
 use Rattle.vx_mixed.specs.declared.region.Node.TheVariants.{Unused, Enters, Inner}
 use Rattle.vx_mixed.specs.Meaning.{early_words, timed_from_start, in_region, node_hop}
-use Rattle.vx_mixed.specs.Laws.{AnyTiming, RegionAnyTiming}
+use Rattle.vx_mixed.specs.AnyTiming.{AnyTiming, RegionAnyTiming}
 use Rattle.vx_mixed.proofs.Timed.{timed_is_early}
 
 pub region_any_timing : RegionAnyTiming

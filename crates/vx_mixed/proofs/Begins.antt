@@ -26,7 +26,7 @@ use Rattle.vx_mixed.specs.declared.region.Region.{Region}
 use Rattle.vx_mixed.specs.declared.mixed.MixedGraph.{MixedGraph}
 use Rattle.vx_mixed.specs.Live.{single, Live, here, beyond, Passage, IsPassage, through_block, by_split, to_the_end, ReadsFirst}
 use Rattle.vx_mixed.specs.Settled.{is_copy}
-use Rattle.vx_mixed.specs.Context.{OfGraph}
+use Rattle.vx_mixed.specs.FromGraph.{OfGraph}
 use Rattle.vx_mixed.specs.Begins.{BeginsTidy, BeginsSettled}
 use Rattle.vx_mixed.proofs.Alive.{in_whole}
 

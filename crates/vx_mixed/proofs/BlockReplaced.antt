@@ -17,7 +17,7 @@ use Rattle.vx_mixed.specs.declared.region.Node.TheVariants.{Unused}
 use Rattle.vx_mixed.specs.declared.mixed.MixedGraph.{MixedGraph}
 use Rattle.vx_mixed.specs.AloneExample.{alone, IsAlone, BlockIsTraced, BlockIsReplaced}
 use Rattle.vx_mixed.specs.CanReplace.{CanReplace, TraceFits, IsFormed, NamesFit, ListsFit, WordsFit, MadeFits, MadeStands, HomesFit, IsNamed, in_trace, in_made, AwayFits}
-use Rattle.vx_mixed.specs.Compensation.{splits_of}
+use Rattle.vx_mixed.specs.TraceItems.{splits_of}
 use Rattle.vx_mixed.specs.Example.{step}
 use Rattle.vx_mixed.specs.FromGraph.{FromGraph, is_bound}
 use Rattle.vx_mixed.specs.Next.{Replacement}

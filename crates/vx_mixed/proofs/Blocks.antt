@@ -19,7 +19,7 @@ use Rattle.vx_mixed.specs.Path.{trace_hop, Path, ends, jumps, on_yes, on_no}
 use Rattle.vx_flow.specs.Sound.{targets_of}
 use Rattle.vx_flow.specs.Walk.{edge}
 use Rattle.vx_mixed.specs.Live.{plain}
-use Rattle.vx_mixed.proofs.Effect.{none_is}
+use Rattle.vx_mixed.proofs.Contents.{none_is}
 use Rattle.vx_mixed.proofs.Passing.{Passes, LeavesBy, LeavesAt, RunsOut}
 
 abbrev run_ops : Setting → List Op → State → Option State

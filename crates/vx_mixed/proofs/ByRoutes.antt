@@ -5,8 +5,7 @@ use Rattle.vx_flow.specs.declared.graph.Block.{Block}
 use Rattle.vx_flow.specs.declared.graph.Exit.{Exit}
 use Rattle.vx_flow.specs.declared.routes.Route.{Route}
 use Rattle.vx_flow.specs.Effects.{IsIn}
-use Rattle.vx_flow.specs.Live.{LiveOn, first_touch}
-use Rattle.vx_flow.specs.Live.{here as route_here, beyond as route_beyond}
+use Rattle.vx_flow.specs.Live.{LiveOn, first_touch, here as route_here, beyond as route_beyond}
 use Rattle.vx_flow.specs.Sound.{targets_of}
 use Rattle.vx_flow.specs.Walk.{edge}
 use Rattle.vx_flow.proofs.Members.{in_either}
@@ -25,7 +24,7 @@ use Rattle.vx_mixed.specs.Valid.{Valid}
 use Rattle.vx_mixed.proofs.AliveWords.{OffEdge, AliveWords}
 use Rattle.vx_mixed.proofs.Linked.{in_index, index_in, entrance_there, some_same}
 use Rattle.vx_mixed.proofs.OnRoutes.{word_firsts, exit_firsts, first_read, left_first, reads_whole, whole_left, block_touches, has_off, start, on_routes}
-use Rattle.vx_mixed.proofs.Unchanged.{live_region}
+use Rattle.vx_mixed.proofs.LiveRegions.{live_region}
 
 -- the nodes of regions come behind those of the regions before
 

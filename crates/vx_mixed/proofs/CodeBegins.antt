@@ -22,7 +22,7 @@ use Rattle.vx_flow.proofs.IndexSteps.{get_below}
 use Rattle.vx_flow.proofs.SoundLaw.{sound_is}
 use Rattle.vx_mixed.specs.declared.region.Node.TheVariants.{Unused}
 use Rattle.vx_mixed.specs.declared.mixed.MixedGraph.{MixedGraph}
-use Rattle.vx_mixed.specs.Context.{OfGraph}
+use Rattle.vx_mixed.specs.FromGraph.{OfGraph}
 use Rattle.vx_mixed.specs.Origins.{whole, whole_operand, whole_op, ComesFrom, graph_op, ExitComesFrom, Parts, CallsAs, ComesFromGraph}
 use Rattle.vx_mixed.specs.OriginLaws.{BeginsWithCode}
 use Rattle.vx_mixed.specs.Valid.{IsOp, block_op, region_op, names_of}

@@ -21,16 +21,15 @@ use Rattle.vx_mixed.specs.declared.region.Node.TheVariants.{Unused}
 use Rattle.vx_mixed.specs.declared.region.Region.{Region}
 use Rattle.vx_mixed.specs.declared.mixed.MixedGraph.{MixedGraph}
 use Rattle.vx_mixed.specs.CanReplace.{CanReplace, IsNamed, in_trace, in_made}
-use Rattle.vx_mixed.specs.Next.{Replacement, new_end, renamed_exit, renamed_region, freed, placed, last_of, exit_in, new_region, next_mixed}
+use Rattle.vx_mixed.specs.Next.{Replacement, new_end, renamed_exit, renamed_region, freed, placed, last_of, exit_in, new_region, next_mixed, rename}
 use Rattle.vx_mixed.specs.Origins.{whole_op, ComesFrom, graph_op, copy, ExitComesFrom, Parts, ComesFromGraph}
 use Rattle.vx_mixed.specs.OriginLaws.{CodeStays}
 use Rattle.vx_mixed.specs.TraceOf.{block_or_none, block_at, split_between, block_ops, trace_ops}
-use Rattle.vx_mixed.specs.Unchanged.{rename}
 use Rattle.vx_mixed.specs.Valid.{IsOp, block_op, region_op, names_of, Valid}
 use Rattle.vx_mixed.proofs.Linked.{Linkable, some_blocks, index_in, can, unused, in_plain}
 use Rattle.vx_mixed.proofs.NewBlocks.{OldBlock, MadeBlock, new_block, from_placed, split_of, op_of, word_of, last_in}
 use Rattle.vx_mixed.proofs.Renames.{old_word, old_split, old_op}
-use Rattle.vx_mixed.proofs.SettledAfter.{of_regions}
+use Rattle.vx_mixed.proofs.NewNodes.{of_regions}
 use Rattle.vx_mixed.proofs.StaysValid.{linkable}
 
 -- a load that may be dismissed comes from the same load

@@ -26,22 +26,23 @@ use Rattle.vx_mixed.specs.declared.region.Node.TheVariants.{Unused, Enters, Inne
 use Rattle.vx_mixed.specs.declared.region.Origin.{Origin}
 use Rattle.vx_mixed.specs.declared.region.Region.{Region}
 use Rattle.vx_mixed.specs.declared.mixed.MixedGraph.{MixedGraph}
-use Rattle.vx_mixed.specs.Alive.{AfterItem, AfterOf}
+use Rattle.vx_mixed.specs.Alive.{AfterItem}
+use Rattle.vx_mixed.specs.Trace.{AfterOf, nth, inert}
 use Rattle.vx_mixed.specs.Edges.{IsEdge, of_block, of_split, of_last}
 use Rattle.vx_mixed.specs.Facts.{IsSplit, places, row, words_from, ops_of, copies}
 use Rattle.vx_mixed.specs.Live.{Live, item_writes}
 use Rattle.vx_mixed.specs.Path.{Path}
 use Rattle.vx_mixed.specs.Rows.{Row, reads_last, writes_too, writes_read, store_access, load_store, observables, two_splits, split_held, below_join, split_live, Meets, Placed}
 use Rattle.vx_mixed.specs.Settled.{InTime, IsStart, block, region, made_at_split}
-use Rattle.vx_mixed.specs.Trace.{nth, inert}
 use Rattle.vx_mixed.specs.Unchanged.{Outside, SameRegion, block as as_block, region as as_region}
 use Rattle.vx_mixed.specs.Way.{item_latency, Renamed, LeadsIn, LeadsOut, at_once}
-use Rattle.vx_mixed.specs.Next.{Replacement, made_on, InWord, in_word, placed, last_of, exit_in, is_split_edge, rejoin_at, entered_at, renamed_exit, renamed_region, renamed_node, new_region, trace_node, made_node, made_origin}
+use Rattle.vx_mixed.specs.Next.{Replacement, made_on, InWord, in_word, placed, last_of, exit_in, is_split_edge, rejoin_at, entered_at, renamed_exit, renamed_region, renamed_node, new_region, trace_node, made_node, made_origin, on_edge}
 use Rattle.vx_mixed.specs.TraceOf.{trace_ops, inner_edges}
 use Rattle.vx_mixed.specs.Valid.{Valid, is_entrance, is_in_region}
 use Rattle.vx_mixed.specs.Entrances.{stays, joined_at}
 use Rattle.vx_mixed.specs.Scheduled.{JoinEdge, Scheduled}
-use Rattle.vx_mixed.specs.Compensation.{plain_items, items, word, mark, live_of, is_join_place, blocks_from, on_edge, exit_of, Compensated, CompensationLaw}
+use Rattle.vx_mixed.specs.Compensation.{items, word, mark, live_of, is_join_place, blocks_from, exit_of, Compensated, CompensationLaw}
+use Rattle.vx_mixed.specs.TraceItems.{plain_items}
 use Rattle.vx_mixed.proofs.Alike.{in_or}
 use Rattle.vx_mixed.proofs.Delays.{nth_past}
 use Rattle.vx_mixed.proofs.PathOf.{Ways, ways_behind, path_of}

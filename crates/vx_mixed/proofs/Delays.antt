@@ -12,7 +12,7 @@ use Rattle.vx_mixed.specs.Items.{item_takes, item_gives, Reads, Writes, Marked, 
 use Rattle.vx_mixed.specs.Trace.{nth, order}
 use Rattle.vx_mixed.specs.Facts.{RowFacts, IsSplit, IsFirm, Harmless}
 use Rattle.vx_mixed.proofs.Effect.{cell_named}
-use Rattle.vx_mixed.proofs.Shape.{inert_reads, inert_writes}
+use Rattle.vx_mixed.proofs.OrderShape.{inert_reads, inert_writes}
 use Rattle.vx_mixed.proofs.Passing.{Passes}
 
 pub IsValue : Location → Type 0

@@ -21,16 +21,14 @@ use Rattle.vx_mixed.specs.declared.region.Node.TheVariants.{Unused, Enters, Inne
 use Rattle.vx_mixed.specs.declared.region.Region.{Region}
 use Rattle.vx_mixed.specs.declared.mixed.MixedGraph.{MixedGraph}
 use Rattle.vx_mixed.specs.CanReplace.{CanReplace}
-use Rattle.vx_mixed.specs.Compensation.{splits_of}
+use Rattle.vx_mixed.specs.TraceItems.{splits_of}
 use Rattle.vx_mixed.specs.Edges.{IsEdge, of_block, of_split, of_last}
-use Rattle.vx_mixed.specs.Next.{Replacement, InWord, new_end, renamed_exit, renamed_region, placed, in_word, freed, last_of, exit_in, new_region, trace_node, next_mixed}
+use Rattle.vx_mixed.specs.Next.{Replacement, InWord, new_end, renamed_exit, renamed_region, placed, in_word, freed, last_of, exit_in, new_region, trace_node, next_mixed, rename}
 use Rattle.vx_mixed.specs.NextEdges.{IsNextEdge, kept, from_made, EdgesAfter}
 use Rattle.vx_mixed.specs.TraceOf.{CanTrace, block_at, block_or_none, split_between, split_behind, block_ops, trace_ops, inner_edges}
-use Rattle.vx_mixed.specs.Unchanged.{rename}
 use Rattle.vx_mixed.specs.Valid.{Valid}
 use Rattle.vx_mixed.proofs.Linked.{Linkable, some_blocks, index_in, can, edge_block}
-use Rattle.vx_mixed.proofs.NewBlocks.{AtNode, first_one, further, outside, node_kind, NewEdge, renamed, new_edge}
-use Rattle.vx_mixed.proofs.NewBlocks.{from_made as by_made}
+use Rattle.vx_mixed.proofs.NewBlocks.{AtNode, first_one, further, outside, node_kind, NewEdge, renamed, new_edge, from_made as by_made}
 use Rattle.vx_mixed.proofs.NewNodes.{node_old, node_made, map_get}
 use Rattle.vx_mixed.proofs.StaysValid.{linkable, region_kept, region_made}
 use Rattle.vx_mixed.proofs.TraceFacts.{in_splits, of_splits, filter_has}

@@ -1,19 +1,13 @@
 -- One operation, where what it reads is as in trace order.
-use Rattle.std.proofs.Common.{◌≡◌, ℕ, ◌/◌, ◌%◌, ◌<◌, ℤ, pos, negsuc, Bool, true, false, Option, Some, None, List, [], ◌∷◌, ◌++◌, cond, ◌&&◌, length, slice_index_or, slice_set, refl, sym, ap, ◌∙◌, subst, ⊎_elim, inl, inr, arith, length-set}
+use Rattle.std.proofs.Common.{◌≡◌, ℕ, ◌/◌, ◌%◌, ◌<◌, ℤ, pos, negsuc, Bool, true, false, Option, Some, None, List, [], ◌∷◌, cond, ◌&&◌, length, slice_index_or, slice_set, refl, sym, ap, ◌∙◌, subst, ⊎_elim, inl, inr, arith, length-set}
 use Rattle.std.specs.Prelude.{◌⊎◌, ◌==◌, nat_lt, if◌then◌else◌}
 use Rattle.std.proofs.lemmas.Bool.{cases_eq, eq-eqb, ne_eqb, and_parts, ltb-true, cases_lt}
 use Rattle.std.proofs.lemmas.List.{get_or-set_same, get_or-set_other, get_or_past}
-use Rattle.vx_base.specs.Arithmetic.{value_of}
-use Rattle.vx_base.specs.declared.arithmetic.Code.{Code}
-use Rattle.vx_flow.specs.declared.graph.Op.TheVariants.{Compute}
-use Rattle.vx_flow.specs.Effects.{reads, Content, State, Setting, is_unary, computed, is_one, place_of, IsCell, Left, Printed, both, held, chosen, cell_in, row_of, with_value, with_cell, loaded, stored, next_input, printed, value_in, IsIn, Location, Of, Cell, TheInput, TheOutput, Holds, at}
-use Rattle.vx_flow.specs.declared.graph.Operand.{Operand}
-use Rattle.vx_flow.specs.declared.graph.Operand.TheVariants.{Held, Number, Stack}
-use Rattle.vx_mixed.specs.Items.{Fine, SameShape}
+use Rattle.vx_flow.specs.Effects.{Content, State, Setting, IsCell, Left, Printed, cell_in, row_of, with_value, with_cell, loaded, stored, next_input, printed, IsIn, Location, Of, Cell, TheInput, TheOutput, Holds, at}
+use Rattle.vx_mixed.specs.Items.{Fine}
+use Rattle.vx_mixed.specs.Agree.{SameShape}
 use Rattle.vx_mixed.proofs.Does.{Does}
-
-abbrev pub Grows : Content → Content → Type 0
-Grows x y = (n : ℤ) → x ≡ Some n → y ≡ Some n
+use Rattle.vx_mixed.proofs.Contents.{Grows, none_is}
 
 pub holds_inj : (x y : Content) → Holds x ≡ Holds y → x ≡ y
 holds_inj x y e = cc
@@ -24,45 +18,6 @@ grows v x y f n e = holds_inj y (Some n) (f n (ap Holds e))
 pub fine : (v : ℕ) (x y : Content) → Grows x y → Fine (Of v) (Holds x) (Holds y)
 fine v x y g n e = ap Holds (g n (holds_inj x (Some n) e))
 
-pub none_is : {A : Type 0} {X : Type 0} {n : X} → None ≡ Some n → A
-none_is e = absurd (cc)
-
-pub in_append : (v : ℕ) (xs ys : List ℕ) → (IsIn v xs ⊎ IsIn v ys) → IsIn v (xs ++ ys)
-in_append v [] ys (inl h) = absurd h
-in_append v [] ys (inr h) = h
-in_append v (x ∷ xs) ys (inl (inl h)) = inl h
-in_append v (x ∷ xs) ys (inl (inr h)) = inr (in_append v xs ys (inl h))
-in_append v (x ∷ xs) ys (inr h) = inr (in_append v xs ys (inr h))
-
-pub grows_held : (s σ : State) (x : Operand) → ((v : ℕ) → IsIn v (value_in x) → Grows (s.values v) (σ.values v)) → Grows (held s x) (held σ x)
-grows_held s σ (Held v) g = g v (inl refl)
-grows_held s σ (Number n) g = λ m e. e
-grows_held s σ Stack g = λ m e. none_is e
-
-pub grows_both : (f : ℤ → ℤ → ℤ) (x y x' y' : Content) → Grows x x' → Grows y y' → Grows (both f x y) (both f x' y')
-grows_both f None y x' y' g h n e = none_is e
-grows_both f (Some a) None x' y' g h n e = none_is e
-grows_both f (Some a) (Some b) x' y' g h n e = let p = g a refl in let q = h b refl in ap (λ z. both f z y') p ∙ ap (λ z. both f (Some a) z) q ∙ e
-
-pub grows_computed : (code : Code) (x y x' y' : Content) → Grows x x' → (is_unary code ≡ false → Grows y y') → Grows (computed code x y) (computed code x' y')
-grows_computed code x y x' y' g h = by (is_unary code) refl
-  where
-    by : (b : Bool) → is_unary code ≡ b → Grows (if b then x else both (value_of code) x y) (if b then x' else both (value_of code) x' y')
-    by true e = g
-    by false e = grows_both (value_of code) x y x' y' g (h e)
-
-pub grows_chosen : (p x y p' x' y' : Content) → Grows p p' → Grows x x' → Grows y y' → Grows (chosen p x y) (chosen p' x' y')
-grows_chosen None x y p' x' y' f g h n e = none_is e
-grows_chosen (Some z) x y p' x' y' f g h n e = ap (λ q. chosen q x' y') (f z refl) ∙ by (is_one z) e
-  where
-    by : (b : Bool) → (if b then x else y) ≡ Some n → (if b then x' else y') ≡ Some n
-    by true k = g n k
-    by false k = h n k
-
-pub grows_place : (x y : Content) → Grows x y → Grows (place_of x) (place_of y)
-grows_place None y g n e = none_is e
-grows_place (Some i) y g n e = ap place_of (g i refl) ∙ e
-
 -- what is written where
 pub value_there : (t : State) (v : ℕ) (x : Content) → at (with_value t v x) (Of v) ≡ Holds x
 value_there t v x = ap (λ b. Holds (cond b x (t.values v))) (eq-eqb v v refl)
@@ -72,9 +27,6 @@ value_else t v x (Of u) h = ap (λ b. Holds (cond b x (t.values u))) (ne_eqb u v
 value_else t v x (Cell a i) h = refl
 value_else t v x TheInput h = refl
 value_else t v x TheOutput h = refl
-
-pub same_shape : (s : State) → SameShape s s
-same_shape s = record { arrays = refl; rows = λ a. refl }
 
 -- what writes one value and nothing else
 pub does_value : (W : Location → Type 0) (s t u : State) (v : ℕ) (x y : Content) → ((l : Location) → W l → l ≡ Of v) → ((l : Location) → l ≡ Of v → W l) → t ≡ with_value s v x → Grows x y → Does W t u (with_value u v y)
@@ -102,10 +54,6 @@ got row (Some i) = slice_index_or row i None
 pub loaded_free : (t : State) (v : ℕ) (row : List Content) (o : Option ℕ) → loaded t v row o true ≡ Some (with_value t v (got row o))
 loaded_free t v row None = refl
 loaded_free t v row (Some i) = refl
-
-pub cell_from : (k : ℕ) (x y : Content) (i : ℕ) → Grows x y → cell_in k x ≡ Some i → cell_in k y ≡ Some i
-cell_from k None y i g e = none_is e
-cell_from k (Some n) y i g e = ap (cell_in k) (g n refl) ∙ e
 
 pub if_inside : (b : Bool) (j i : ℕ) → (if b then Some j else None) ≡ Some i → (b ≡ true) × (j ≡ i)
 if_inside true j i e = (refl, cc)
@@ -180,15 +128,3 @@ cell_named a (Some i) l h = (i, refl, h)
 
 pub names_cell : (a : ℕ) (o : Option ℕ) (l : Location) (i : ℕ) → o ≡ Some i → l ≡ Cell a i → IsCell a o l
 names_cell a o l i e h = subst (λ z. IsCell a z l) (sym e) h
-
--- what a computation reads
-
-pub left_read : (code : Code) (v : ℕ) (a b : Operand) (u : ℕ) → IsIn u (value_in a) → IsIn u (reads (Compute code v a b))
-left_read code v a b u h = by (is_unary code)
-  where
-    by : (c : Bool) → IsIn u (if c then value_in a else value_in a ++ value_in b)
-    by true = h
-    by false = in_append u (value_in a) (value_in b) (inl h)
-
-pub right_read : (code : Code) (v : ℕ) (a b : Operand) → is_unary code ≡ false → (u : ℕ) → IsIn u (value_in b) → IsIn u (reads (Compute code v a b))
-right_read code v a b e u h = subst (λ c. IsIn u (if c then value_in a else value_in a ++ value_in b)) (sym e) (in_append u (value_in a) (value_in b) (inr h))

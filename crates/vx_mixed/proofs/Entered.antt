@@ -14,10 +14,12 @@ use Rattle.vx_mixed.specs.Meaning.{word_effect, into, Taken, Stays, Takes, Unsur
 use Rattle.vx_mixed.specs.Live.{item_reads}
 use Rattle.vx_base.specs.Schedule.{through}
 use Rattle.vx_base.proofs.Leaving.{ordered_through}
-use Rattle.vx_mixed.specs.Items.{Fine, SameShape, Reads, Writes, Marked, as_it_is, dismissible, split, Safe}
+use Rattle.vx_mixed.specs.Items.{Fine, Reads, Writes, Marked, as_it_is, dismissible, split, Safe}
+use Rattle.vx_mixed.specs.Agree.{SameShape}
 use Rattle.vx_mixed.specs.Trace.{nth, order}
 use Rattle.vx_mixed.specs.Facts.{RowFacts, IsSplit, places, row, words_from, ops_of, copies}
-use Rattle.vx_mixed.proofs.Effect.{Grows, grows}
+use Rattle.vx_mixed.proofs.Effect.{grows}
+use Rattle.vx_mixed.proofs.Contents.{Grows}
 use Rattle.vx_mixed.proofs.Times.{in_region, ways, all, only, at_join, before_region, on_edge, when_placed}
 use Rattle.vx_mixed.proofs.Delays.{delayed, in_trace, passes_is_safe, marked_is_safe}
 use Rattle.vx_mixed.proofs.InWords.{reads_it, goes}

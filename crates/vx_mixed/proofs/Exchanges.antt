@@ -23,15 +23,14 @@ use Rattle.vx_mixed.specs.CanReplace.{CanReplace}
 use Rattle.vx_mixed.specs.Edges.{Ascending, IsEdge, EdgesOf}
 use Rattle.vx_mixed.specs.Exchanged.{with_inner, with_rejoins, with_blocks, exchanged}
 use Rattle.vx_mixed.specs.MovedEdges.{is_inner}
-use Rattle.vx_mixed.specs.Next.{Replacement, made_on, new_end, renamed_exit, renamed_region, renamed_node, new_region, rejoin_at, entered_at, trace_node, nodes_from, made_node, made_origin, next_mixed}
+use Rattle.vx_mixed.specs.Next.{Replacement, made_on, new_end, renamed_exit, renamed_region, renamed_node, new_region, rejoin_at, entered_at, trace_node, nodes_from, made_node, made_origin, next_mixed, rename}
 use Rattle.vx_mixed.specs.NextEdges.{IsNextEdge, kept, from_made}
 use Rattle.vx_mixed.specs.Settled.{NoTwice}
 use Rattle.vx_mixed.specs.TraceOf.{block_ops, inner_edges, joins_behind, trace_joins}
-use Rattle.vx_mixed.specs.Unchanged.{rename}
 use Rattle.vx_mixed.specs.Valid.{Valid}
 use Rattle.vx_mixed.proofs.EdgesAfter.{edges_after}
 use Rattle.vx_mixed.proofs.Alike.{in_or}
-use Rattle.vx_mixed.proofs.LayoutKinds.{get_some}
+use Rattle.vx_mixed.proofs.Standing.{get_some}
 use Rattle.vx_mixed.proofs.Linked.{Linkable, some_blocks, can, joins, some_edge, unused}
 use Rattle.vx_mixed.proofs.MovedEdges.{outer_of, outer_in}
 use Rattle.vx_mixed.proofs.NewBlocks.{AtNode, first_one, further, outside, node_kind, in_image}

@@ -13,7 +13,8 @@ use Rattle.vx_mixed.specs.Meaning.{taken, leaves_on, after_word, early_words}
 use Rattle.vx_mixed.specs.Live.{item_reads}
 use Rattle.vx_base.specs.Schedule.{through}
 use Rattle.vx_base.proofs.Leaving.{exactly_through}
-use Rattle.vx_mixed.specs.Items.{Fine, SameShape, Reads, Writes, Marked, as_it_is, dismissible, split, Safe}
+use Rattle.vx_mixed.specs.Items.{Fine, Reads, Writes, Marked, as_it_is, dismissible, split, Safe}
+use Rattle.vx_mixed.specs.Agree.{SameShape}
 use Rattle.vx_mixed.specs.Trace.{nth, order}
 use Rattle.vx_mixed.specs.Facts.{RowFacts, IsSplit, row, words_from, copies}
 use Rattle.vx_mixed.proofs.Times.{ways}

@@ -11,7 +11,7 @@ use Rattle.vx_flow.specs.Live.{reads_of_exit}
 use Rattle.vx_mixed.specs.Items.{Marked}
 use Rattle.vx_mixed.specs.Trace.{nth}
 use Rattle.vx_mixed.specs.Facts.{places, row, words_from, ops_of, copies}
-use Rattle.vx_mixed.proofs.Effect.{in_append}
+use Rattle.vx_mixed.proofs.Contents.{in_append}
 use Rattle.vx_mixed.proofs.Times.{in_places, to_places}
 use Rattle.vx_mixed.proofs.Waits.{of_flat, reads_same, writes_same}
 use Rattle.vx_mixed.proofs.Alive.{in_whole}

@@ -13,7 +13,8 @@ use Rattle.vx_mixed.specs.declared.region.Node.TheVariants.{Unused}
 use Rattle.vx_mixed.specs.declared.mixed.MixedGraph.{MixedGraph}
 use Rattle.vx_mixed.specs.Meaning.{node_hop, timed_from_start, hop}
 use Rattle.vx_mixed.specs.Program.{body_of, program_of}
-use Rattle.vx_mixed.specs.Context.{OfGraph, EachOfGraph, MeansTheGraph, MeansTheFlow}
+use Rattle.vx_mixed.specs.Context.{EachOfGraph, MeansTheGraph, MeansTheFlow}
+use Rattle.vx_mixed.specs.FromGraph.{OfGraph}
 
 block_is : (setting : Setting) (times : List ℕ) (latency : Op → ℕ) (m : MixedGraph) (b : ℕ) (s : State) (o : Option Block) → node_hop setting (timed_from_start setting times latency) m b (option_map Unused o) s ≡ hop_of setting b o s
 block_is setting times latency m b s None = refl

@@ -18,7 +18,7 @@ use Rattle.vx_mixed.specs.declared.region.Made.{Made}
 use Rattle.vx_mixed.specs.declared.region.Node.TheVariants.{Unused}
 use Rattle.vx_mixed.specs.declared.mixed.MixedGraph.{MixedGraph}
 use Rattle.vx_mixed.specs.CanReplace.{CanReplace, TraceFits, IsFormed, NamesFit, ListsFit, WordsFit, MadeFits, MadeStands, Stands, HomesFit, IsNamed, in_trace, in_made, AwayFits}
-use Rattle.vx_mixed.specs.Compensation.{splits_of}
+use Rattle.vx_mixed.specs.TraceItems.{splits_of}
 use Rattle.vx_mixed.specs.Edges.{Before, Ascending}
 use Rattle.vx_mixed.specs.Example.{sum, test, step, product, total}
 use Rattle.vx_mixed.specs.FromGraph.{FromGraph, is_bound}

@@ -6,9 +6,11 @@ use Rattle.vx_flow.specs.Effects.{State, Setting, IsIn, Location, at, state_or}
 use Rattle.vx_mixed.specs.declared.region.Item.{Item}
 use Rattle.vx_mixed.specs.Meaning.{word_effect}
 use Rattle.vx_base.specs.Schedule.{InOrder, WordDoes, ReadsWell, InWords, Exactly}
-use Rattle.vx_mixed.specs.Items.{Fine, SameShape, Reads, Writes, Marked, Safe}
+use Rattle.vx_mixed.specs.Items.{Fine, Reads, Writes, Marked, Safe}
+use Rattle.vx_mixed.specs.Agree.{SameShape}
 use Rattle.vx_mixed.specs.Trace.{nth, order}
-use Rattle.vx_mixed.proofs.Shape.{shape_trans, shape_sym, order_shape, words_shape, order_next, calm_frame}
+use Rattle.vx_mixed.proofs.Shape.{shape_trans}
+use Rattle.vx_mixed.proofs.OrderShape.{shape_sym, order_shape, words_shape, order_next, calm_frame}
 use Rattle.vx_mixed.proofs.Word.{Good, Ran, run, writer_in}
 use Rattle.vx_base.proofs.Schedule.{upto, reads_well}
 use Rattle.vx_mixed.proofs.Timetable.{in_words, laid, Timetable}

@@ -13,10 +13,10 @@ use Rattle.vx_mixed.specs.Settled.{InTime}
 use Rattle.vx_flow.specs.Meaning.{Hop}
 use Rattle.vx_mixed.specs.Meaning.{hop}
 use Rattle.vx_mixed.specs.Items.{Marked}
-use Rattle.vx_mixed.specs.Trace.{nth}
+use Rattle.vx_mixed.specs.Trace.{nth, AfterOf}
 use Rattle.vx_mixed.specs.Path.{Path}
 use Rattle.vx_mixed.specs.Facts.{RowFacts, IsSplit, IsFirm, places, row, words_from, ops_of, copies}
-use Rattle.vx_mixed.specs.Alive.{AfterOf, AfterItem}
+use Rattle.vx_mixed.specs.Alive.{AfterItem}
 use Rattle.vx_mixed.specs.Way.{item_latency, LeadsIn, LeadsOut}
 use Rattle.vx_mixed.specs.Replaced.{CellFacts, Join, Replaced, ReplacementLaw, RegionSettled}
 use Rattle.vx_mixed.proofs.Way.{from_here}

@@ -23,7 +23,7 @@ use Rattle.vx_mixed.specs.Layout.{place_of, layout_of}
 use Rattle.vx_mixed.specs.Laid.{moves, some_word_hop, laid_hop, laid_body, laid_program}
 use Rattle.vx_mixed.specs.LayoutLaws.{LaidOut, BothLaidOut, SameFrame, LayoutRuns}
 use Rattle.vx_mixed.proofs.AnyTiming.{any_timing}
-use Rattle.vx_mixed.proofs.Context.{grows}
+use Rattle.vx_mixed.proofs.GraphGrows.{grows}
 use Rattle.vx_mixed.proofs.LaidHops.{Steps, last, on, HopTied, arrives, calls_too, leaves_too, stops_too, wrong, Followed, hop_followed, start_followed}
 use Rattle.vx_mixed.proofs.LaidGrows.{laid_grows}
 

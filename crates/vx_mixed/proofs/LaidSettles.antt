@@ -25,14 +25,14 @@ use Rattle.vx_mixed.specs.Edges.{IsEdge, of_last}
 use Rattle.vx_mixed.specs.Live.{word_reads, word_writes}
 use Rattle.vx_mixed.specs.Settled.{NoTwice, Settled, has_home, home_of, bank_of, stands_for, StandsOn}
 use Rattle.vx_mixed.specs.Valid.{Valid, is_entrance, region_op}
-use Rattle.vx_mixed.specs.Layout.{leave_words, laid, place_of_node, place_of, layout_of}
+use Rattle.vx_mixed.specs.Layout.{leave_words, laid, place_of_node, place_of, layout_of, IsDone}
 use Rattle.vx_mixed.specs.LaidSettled.{laid_reads, laid_writes, or_zero, home_in, bank_in, LeadsTo, cycles_of, LeavesCold, Plans, Pends, written, later, SettledLayout}
-use Rattle.vx_mixed.specs.LayoutLaws.{IsDone, AreItems, SameRoom, LayoutSettles}
+use Rattle.vx_mixed.specs.LayoutLaws.{AreItems, SameRoom, LayoutSettles}
 use Rattle.vx_mixed.proofs.Timed.{writer_of}
-use Rattle.vx_mixed.proofs.Standing.{StandsAt}
+use Rattle.vx_mixed.proofs.Standing.{StandsAt, get_some}
 use Rattle.vx_mixed.proofs.DatedWords.{Dated, word_in, landed, waiting, given_in, given_at, left_before}
 use Rattle.vx_mixed.proofs.LayoutPlaces.{dated, region_stands}
-use Rattle.vx_mixed.proofs.LayoutKinds.{get_some, split_at, begins_at, DrainOf, at_exit, at_split, Kind, plans, drains, jumps, chooses, calls, returns, ends, kind_of, first_leave}
+use Rattle.vx_mixed.proofs.LayoutKinds.{split_at, begins_at, DrainOf, at_exit, at_split, Kind, plans, drains, jumps, chooses, calls, returns, ends, kind_of, first_leave}
 use Rattle.vx_mixed.proofs.LaidSources.{are_items, same_reads, same_writes, plain_from, plain_to, split_from, source_of, word_of, word_there, PlanOf, plan_of, plan_word}
 use Rattle.vx_mixed.proofs.LaidLeft.{max_is, Giver, given_cases, given_covers, none_at_end, none_at_split, none_where_named}
 

@@ -1,6 +1,6 @@
 -- What stands at a place of a layout: a word of a region, the empty cycles behind its last word or behind a split, or a word
 -- by which it is left.
-use Rattle.std.proofs.Common.{◌≡◌, ℕ, zero, suc, ◌+◌, ◌<◌, Bool, Option, Some, List, [], ◌∷◌, ◌++◌, length, map, slice_get, refl, sym, ap, ◌∙◌, subst, inl, inr, arith}
+use Rattle.std.proofs.Common.{◌≡◌, ℕ, zero, suc, ◌+◌, Bool, Option, Some, List, [], ◌∷◌, ◌++◌, length, map, slice_get, refl, sym, ap, ◌∙◌, subst, inl, inr, arith}
 use Rattle.std.proofs.lemmas.Option.{slice_get_within}
 use Rattle.vx_flow.specs.declared.graph.Op.{Op}
 use Rattle.vx_flow.specs.declared.graph.Operand.{Operand}
@@ -19,14 +19,9 @@ use Rattle.vx_mixed.specs.declared.layout.VirtualWord.TheVariants.{Planned, Drai
 use Rattle.vx_mixed.specs.declared.mixed.MixedGraph.{MixedGraph}
 use Rattle.vx_mixed.specs.Edges.{IsEdge, of_split, of_last}
 use Rattle.vx_mixed.specs.Layout.{leave_words, stub, word_stubs, exit_words, laid, region_size, region_place, place_of}
-use Rattle.vx_mixed.proofs.Standing.{StandsAt, stands_front, stands_back, stands_moved, InParts, in_front, in_back, in_parts}
+use Rattle.vx_mixed.proofs.Standing.{StandsAt, stands_front, stands_back, stands_moved, InParts, in_front, in_back, in_parts, get_some}
 use Rattle.vx_mixed.proofs.DatedWords.{Dated, landed, waiting, dated_stub, dated_word_stubs, left_before, dated_words, dated_stubs, dated_exit, dated_region, dated_all}
 use Rattle.vx_mixed.proofs.LayoutPlaces.{dated_stub_size, dated_word_stubs_size, dated_words_size, dated_exit_size, dated_region_size, exit_size, RegionAt, dated, region_stands}
-
-pub get_some : {A : Type 0} (xs : List A) (k : ℕ) → k < length xs → (x : A) × (slice_get xs k ≡ Some x)
-get_some [] k h = absurd (omega arith)
-get_some (x ∷ xs) zero h = (x, refl)
-get_some (x ∷ xs) (suc k) h = get_some xs k (omega arith)
 
 -- the way out of a split of a word, from what is laid out
 pub record SplitAt (whole : List Dated) (place f : ℕ → ℕ) (word : List Item) (test q : ℕ) (y : Bool) : Type 0 where

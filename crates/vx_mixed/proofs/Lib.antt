@@ -88,3 +88,10 @@ pub mod OuterEdges
 pub mod Exchanges
 pub mod BlockReplaced
 pub mod PairReplaced
+pub mod Contents
+pub mod GraphGrows
+pub mod LeaveAlike
+pub mod LiveRegions
+pub mod OrderShape
+pub mod SettledRenamed
+pub mod AliveAt

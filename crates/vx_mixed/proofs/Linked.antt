@@ -27,13 +27,12 @@ use Rattle.vx_mixed.specs.declared.mixed.MixedGraph.{MixedGraph}
 use Rattle.vx_mixed.specs.Edges.{IsEdge, of_block, of_split, of_last}
 use Rattle.vx_mixed.specs.FromGraph.{same_edge}
 use Rattle.vx_mixed.specs.Settled.{NoTwice}
-use Rattle.vx_mixed.specs.Trace.{nth}
 use Rattle.vx_mixed.specs.Way.{Renamed, goto, branch, call, return, stop, LeadsIn, LeadsOut, at_once, by_made}
-use Rattle.vx_mixed.specs.Next.{Replacement, made_on, block_or, new_end, renamed_exit, last_of, exit_in, is_split_edge, rejoin_at, entered_at, trace_node, made_node, next_mixed}
+use Rattle.vx_mixed.specs.Next.{Replacement, made_on, block_or, new_end, renamed_exit, last_of, exit_in, is_split_edge, rejoin_at, entered_at, trace_node, made_node, next_mixed, on_edge}
 use Rattle.vx_mixed.specs.TraceOf.{CanTrace, IsTraceOf, block_at, block_or_none, block_ops, inner_edges, trace_ops, trace_joins, joins_behind}
 use Rattle.vx_mixed.specs.Valid.{Valid, PartsWays, is_entrance, is_in_region}
 use Rattle.vx_mixed.specs.Entrances.{meet_old, edge_of_made, at_split, at_join, meet_new, stays, joined_at, pairs}
-use Rattle.vx_mixed.specs.Compensation.{on_edge, splits_of}
+use Rattle.vx_mixed.specs.TraceItems.{splits_of}
 use Rattle.vx_mixed.proofs.Alike.{in_or}
 use Rattle.vx_mixed.proofs.PathOf.{from_inside, to_inside}
 use Rattle.vx_mixed.proofs.NewNodes.{and_both, same_is, is_same_edge, MadeOn, made_none, made_some, edge_made, edge_old, node_old, node_made}

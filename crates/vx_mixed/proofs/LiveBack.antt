@@ -20,10 +20,13 @@ use Rattle.vx_mixed.specs.Trace.{nth}
 use Rattle.vx_mixed.specs.Facts.{row, words_from, copies, places}
 use Rattle.vx_mixed.specs.Alive.{Alive, AfterItem, AtEnd}
 use Rattle.vx_mixed.specs.Way.{LeadsIn, LeadsOut, at_once, by_made, Renamed, goto, branch, call, return, stop}
-use Rattle.vx_mixed.specs.Unchanged.{rename, Outside, block, region, LiveWithin}
-use Rattle.vx_mixed.proofs.Alive.{live_start, alive_read, alive_edge, alive_end}
-use Rattle.vx_mixed.proofs.Unchanged.{got}
-use Rattle.vx_mixed.proofs.Renames.{reads_first_renamed, reads_first_exit, untouched_renamed, drop_map, take_map, old_word, old_split}
+use Rattle.vx_mixed.specs.Unchanged.{Outside, block, region, LiveWithin}
+use Rattle.vx_mixed.specs.Next.{rename}
+use Rattle.vx_mixed.proofs.Alive.{live_start}
+use Rattle.vx_mixed.proofs.AliveAt.{alive_read, alive_edge, alive_end}
+use Rattle.vx_mixed.proofs.LiveRegions.{got}
+use Rattle.vx_mixed.proofs.Renames.{old_word, old_split}
+use Rattle.vx_mixed.proofs.SettledRenamed.{reads_first_renamed, reads_first_exit, untouched_renamed, drop_map, take_map}
 use Rattle.vx_mixed.proofs.Waits.{word_at, of_mapped, reads_same, writes_same}
 use Rattle.vx_mixed.proofs.Times.{in_places}
 use Rattle.vx_mixed.proofs.Delays.{nth_past}

@@ -24,15 +24,13 @@ use Rattle.vx_mixed.specs.declared.region.Node.TheVariants.{Unused, Enters, Inne
 use Rattle.vx_mixed.specs.declared.region.Region.{Region}
 use Rattle.vx_mixed.specs.declared.mixed.MixedGraph.{MixedGraph}
 use Rattle.vx_mixed.specs.Edges.{IsEdge, of_block, of_split, of_last}
-use Rattle.vx_mixed.specs.Next.{Replacement, InWord, made_on, block_or, new_end, renamed_exit, renamed_region, renamed_node, freed, placed, in_word, last_of, exit_in, new_region, is_split_edge, rejoin_at, entered_at, trace_node, made_node, next_mixed}
+use Rattle.vx_mixed.specs.Next.{Replacement, InWord, made_on, block_or, new_end, renamed_exit, renamed_region, renamed_node, freed, placed, in_word, last_of, exit_in, new_region, is_split_edge, rejoin_at, entered_at, trace_node, made_node, next_mixed, rename}
 use Rattle.vx_mixed.specs.TraceOf.{CanTrace, inner_edges}
-use Rattle.vx_mixed.specs.Unchanged.{rename}
 use Rattle.vx_mixed.specs.Valid.{Valid}
 use Rattle.vx_mixed.proofs.Alike.{in_or}
 use Rattle.vx_mixed.proofs.Linked.{Linkable, InnerEdge, can, unused, no_region, from_below, off_trace, from_outside, targets_renamed, index_in}
-use Rattle.vx_mixed.proofs.NewNodes.{node_new, node_old, node_made}
+use Rattle.vx_mixed.proofs.NewNodes.{node_new, node_old, node_made, of_regions}
 use Rattle.vx_mixed.proofs.Renames.{old_word, old_split}
-use Rattle.vx_mixed.proofs.SettledAfter.{of_regions}
 use Rattle.vx_mixed.proofs.TraceFacts.{in_filter, is_split, last_none}
 
 -- the exit of an unused block that was renamed

@@ -13,9 +13,9 @@ use Rattle.vx_mixed.specs.declared.region.Node.{Node}
 use Rattle.vx_mixed.specs.declared.region.Origin.{Origin}
 use Rattle.vx_mixed.specs.declared.mixed.MixedGraph.{MixedGraph}
 use Rattle.vx_mixed.specs.FromGraph.{same_edge}
-use Rattle.vx_mixed.specs.Next.{Replacement, made_on, block_or, new_end, trace_node, nodes_from, made_node, made_origin, next_mixed}
+use Rattle.vx_mixed.specs.Next.{Replacement, made_on, block_or, new_end, trace_node, nodes_from, made_node, made_origin, next_mixed, on_edge}
 use Rattle.vx_mixed.specs.Entrances.{edge_of_made}
-use Rattle.vx_mixed.specs.Compensation.{on_edge}
+use Rattle.vx_mixed.specs.declared.region.Region.{Region}
 
 pub and_both : (a b : Bool) → a ≡ true → b ≡ true → (a && b) ≡ true
 and_both true b p q = q
@@ -156,3 +156,10 @@ module _ (m : MixedGraph) (r : Replacement) where
 
   pub origin_made : (i : ℕ) (x : Made) → length m.origins ≡ length m.nodes → slice_get r.made i ≡ Some x → slice_get New.origins (length m.nodes + i) ≡ Some (made_origin r.trace.ops x)
   origin_made i x e h = ap (λ z. slice_get New.origins (z + i)) (sym e) ∙ back_get m.origins (map (made_origin r.trace.ops) r.made) i ∙ map_get (made_origin r.trace.ops) r.made i x h
+
+-- one of the old regions, or the last one
+pub of_regions : (f : Region → Region) (gs : List Region) (g g' : Region) (q : ℕ) → slice_get (map f gs ++ g ∷ []) q ≡ Some g' → ((o : Region) × (slice_get gs q ≡ Some o) × (g' ≡ f o)) ⊎ (g' ≡ g)
+of_regions f [] g g' zero e = inr cc
+of_regions f [] g g' (suc q) e = absurd (cc)
+of_regions f (o ∷ gs) g g' zero e = inl (o, refl, cc)
+of_regions f (o ∷ gs) g g' (suc q) e = of_regions f gs g g' q e

@@ -11,8 +11,7 @@ use Rattle.vx_flow.specs.declared.graph.Op.{Op}
 use Rattle.vx_flow.specs.declared.routes.Route.{Route}
 use Rattle.vx_flow.specs.declared.routes.Touch.{Touch}
 use Rattle.vx_flow.specs.Effects.{IsIn}
-use Rattle.vx_flow.specs.Live.{LiveOn, first_touch, touch, reads_of_exit}
-use Rattle.vx_flow.specs.Live.{here as route_here, beyond as route_beyond}
+use Rattle.vx_flow.specs.Live.{LiveOn, first_touch, touch, reads_of_exit, here as route_here, beyond as route_beyond}
 use Rattle.vx_flow.specs.Sound.{targets_of, results_of_exit}
 use Rattle.vx_flow.specs.Walk.{edge}
 use Rattle.vx_flow.proofs.Members.{in_left, in_right, in_either}
@@ -33,7 +32,7 @@ use Rattle.vx_mixed.specs.Routes.{reading_item, writing_item, word_touches, exit
 use Rattle.vx_mixed.proofs.Alike.{in_or}
 use Rattle.vx_mixed.proofs.AliveWords.{OffEdge, AliveWords}
 use Rattle.vx_mixed.proofs.Linked.{in_index, index_in, entrance_there}
-use Rattle.vx_mixed.proofs.Unchanged.{live_region}
+use Rattle.vx_mixed.proofs.LiveRegions.{live_region}
 
 -- the first touch
 

@@ -5,10 +5,9 @@ use Rattle.vx_flow.specs.Sound.{targets_of}
 use Rattle.vx_flow.specs.declared.graph.Edge.{Edge}
 use Rattle.vx_flow.specs.declared.graph.Exit.{Exit}
 use Rattle.vx_flow.specs.declared.graph.Op.{Op}
-use Rattle.vx_mixed.specs.Alive.{AfterOf}
+use Rattle.vx_mixed.specs.Trace.{AfterOf, nth}
 use Rattle.vx_mixed.specs.Facts.{RowFacts, IsSplit, row, words_from, copies}
 use Rattle.vx_mixed.specs.Path.{Path}
-use Rattle.vx_mixed.specs.Trace.{nth}
 use Rattle.vx_mixed.specs.declared.mixed.MixedGraph.{MixedGraph}
 use Rattle.vx_mixed.specs.declared.region.Item.TheVariants.{Split}
 use Rattle.vx_mixed.specs.declared.region.Item.{Item}

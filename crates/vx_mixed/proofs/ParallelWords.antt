@@ -3,9 +3,9 @@ use Rattle.std.proofs.Common.{sym, subst, add-one}
 use Rattle.vx_flow.specs.Effects.{at}
 use Rattle.vx_mixed.specs.Items.{Fine}
 use Rattle.vx_mixed.specs.Trace.{order}
-use Rattle.vx_mixed.specs.Laws.{ParallelWords}
-use Rattle.vx_mixed.proofs.Effect.{same_shape}
-use Rattle.vx_mixed.proofs.Shape.{shape_sym, order_shape}
+use Rattle.vx_mixed.specs.ParallelWords.{ParallelWords}
+use Rattle.vx_mixed.proofs.Contents.{same_shape}
+use Rattle.vx_mixed.proofs.OrderShape.{shape_sym, order_shape}
 use Rattle.vx_mixed.proofs.Word.{run}
 
 pub parallel_words : ParallelWords

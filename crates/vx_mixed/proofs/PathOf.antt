@@ -22,7 +22,7 @@ use Rattle.vx_mixed.specs.Path.{Path, ends, jumps, on_yes, on_no}
 use Rattle.vx_mixed.specs.Next.{last_of, exit_in}
 use Rattle.vx_mixed.specs.Settled.{NoTwice}
 use Rattle.vx_mixed.specs.TraceOf.{block_at, block_or_none, split_between, split_behind, block_ops, trace_ops, inner_edges, EndsWithCall}
-use Rattle.vx_mixed.specs.Compensation.{plain_item, plain_items}
+use Rattle.vx_mixed.specs.TraceItems.{plain_item, plain_items}
 use Rattle.vx_mixed.specs.Valid.{PartsWays}
 
 plain_append : (xs ys : List TraceOp) → plain_items (xs ++ ys) ≡ plain_items xs ++ plain_items ys

@@ -18,7 +18,7 @@ use Rattle.vx_mixed.specs.Items.{Marked, as_it_is, dismissible, split}
 use Rattle.vx_mixed.specs.Trace.{nth, inert}
 use Rattle.vx_mixed.specs.Facts.{IsSplit, places, words_from}
 use Rattle.vx_mixed.specs.Next.{InWord, freed, placed, in_word}
-use Rattle.vx_mixed.specs.Compensation.{items_of}
+use Rattle.vx_mixed.specs.TraceItems.{items_of}
 
 pub length_items : (ops : List TraceOp) (cs : List ℕ) → length (items_of ops cs) ≡ length ops
 length_items [] cs = refl

@@ -5,12 +5,12 @@ use Rattle.vx_flow.specs.Effects.{Setting}
 use Rattle.vx_mixed.specs.Agree.{Apart}
 use Rattle.vx_flow.specs.declared.graph.Op.{Op}
 use Rattle.vx_mixed.specs.declared.mixed.MixedGraph.{MixedGraph}
-use Rattle.vx_mixed.specs.Alive.{AfterOf}
+use Rattle.vx_mixed.specs.Trace.{AfterOf}
 use Rattle.vx_mixed.specs.Way.{item_latency}
 use Rattle.vx_mixed.specs.Replaced.{CellFacts, Join, Replaced}
 use Rattle.vx_mixed.specs.Rows.{below_join}
-use Rattle.vx_mixed.specs.Scheduled.{JoinEdge, Scheduled, HomesStay, Keeps, MotionLaw}
-use Rattle.vx_mixed.specs.Settled.{InTime}
+use Rattle.vx_mixed.specs.Scheduled.{JoinEdge, Scheduled, Keeps, MotionLaw}
+use Rattle.vx_mixed.specs.Settled.{HomesStay, InTime}
 use Rattle.vx_mixed.specs.Unchanged.{LiveWithin}
 use Rattle.vx_mixed.specs.Next.{Replacement, next_mixed}
 use Rattle.vx_mixed.specs.Entrances.{meet_old, meet_new, pairs}

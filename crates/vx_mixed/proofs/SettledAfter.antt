@@ -1,28 +1,21 @@
 -- A graph that was settled is settled after a replacement.
-use Rattle.std.proofs.Common.{◌≡◌, ℕ, zero, suc, Bool, true, false, Option, Some, None, List, [], ◌∷◌, ◌++◌, length, map, slice_get, refl, sym, ap, ◌∙◌, subst, ⊎_elim, inl, inr}
+use Rattle.std.proofs.Common.{◌≡◌, ℕ, Bool, true, false, Option, Some, None, List, [], ◌∷◌, ◌++◌, length, map, slice_get, refl, sym, ap, ◌∙◌, subst, ⊎_elim}
 use Rattle.std.specs.Prelude.{◌⊎◌, ◌-◌, ◌/◌, nat_lt, if◌then◌else◌}
 use Rattle.vx_flow.specs.declared.graph.Bank.{Bank}
 use Rattle.vx_flow.specs.declared.graph.Bank.TheVariants.{General, Branch}
 use Rattle.vx_flow.specs.declared.graph.Op.{Op}
-use Rattle.vx_flow.specs.declared.graph.Op.TheVariants.{Across}
 use Rattle.vx_flow.specs.Effects.{IsIn}
 use Rattle.vx_mixed.specs.declared.region.Item.{Item}
 use Rattle.vx_mixed.specs.declared.region.Item.TheVariants.{Plain, Split}
 use Rattle.vx_mixed.specs.declared.region.Region.{Region}
 use Rattle.vx_mixed.specs.declared.mixed.MixedGraph.{MixedGraph}
-use Rattle.vx_mixed.specs.Unchanged.{rename}
-use Rattle.vx_mixed.specs.Settled.{has_home, home_of, bank_of, stands_for, StandsOn, OnClusters, InTime, Settled}
-use Rattle.vx_mixed.specs.Next.{Replacement, new_end, renamed_region, new_region, next_mixed}
+use Rattle.vx_mixed.specs.Next.{rename, Replacement, new_end, renamed_region, new_region, next_mixed}
+use Rattle.vx_mixed.specs.Settled.{has_home, home_of, bank_of, stands_for, StandsOn, OnClusters, InTime, Settled, HomesStay}
 use Rattle.vx_mixed.specs.Valid.{Valid, region_op}
-use Rattle.vx_mixed.specs.Scheduled.{IsRoom, HomesStay, WordsStand}
-use Rattle.vx_mixed.proofs.Renames.{old_word, old_op, old_split, settled_renamed}
-
--- one of the old regions, or the last one
-pub of_regions : (f : Region → Region) (gs : List Region) (g g' : Region) (q : ℕ) → slice_get (map f gs ++ g ∷ []) q ≡ Some g' → ((o : Region) × (slice_get gs q ≡ Some o) × (g' ≡ f o)) ⊎ (g' ≡ g)
-of_regions f [] g g' zero e = inr cc
-of_regions f [] g g' (suc q) e = absurd (cc)
-of_regions f (o ∷ gs) g g' zero e = inl (o, refl, cc)
-of_regions f (o ∷ gs) g g' (suc q) e = of_regions f gs g g' q e
+use Rattle.vx_mixed.specs.Scheduled.{IsRoom, WordsStand}
+use Rattle.vx_mixed.proofs.Renames.{old_word, old_op, old_split}
+use Rattle.vx_mixed.proofs.SettledRenamed.{settled_renamed}
+use Rattle.vx_mixed.proofs.NewNodes.{of_regions}
 
 last_region : (f : Region → Region) (gs : List Region) (g : Region) → slice_get (map f gs ++ g ∷ []) (length gs) ≡ Some g
 last_region f [] g = refl

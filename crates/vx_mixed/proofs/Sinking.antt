@@ -11,15 +11,14 @@ use Rattle.vx_mixed.specs.Live.{item_reads, item_writes}
 use Rattle.vx_flow.specs.declared.graph.Edge.{Edge}
 use Rattle.vx_flow.specs.Walk.{edge}
 use Rattle.vx_mixed.specs.Items.{item_gives, Marked, as_it_is, split}
-use Rattle.vx_mixed.specs.Trace.{nth, order, inert}
+use Rattle.vx_mixed.specs.Trace.{nth, order, inert, AfterOf}
 use Rattle.vx_mixed.specs.Path.{ends, on_yes}
 use Rattle.vx_mixed.specs.Facts.{RowFacts, IsSplit, IsFirm, Harmless, copies}
-use Rattle.vx_mixed.specs.Alive.{AfterOf}
 use Rattle.vx_mixed.specs.Way.{item_latency, Clustered, return, LeadsIn, LeadsOut, at_once, by_made}
 use Rattle.vx_mixed.specs.Unchanged.{Outside, block}
 use Rattle.vx_mixed.specs.Replaced.{Join, Replaced}
 use Rattle.vx_mixed.specs.Sinking.{sum, old, new, region, meet_old, meet_new, pairs, latency, SumSinks}
-use Rattle.vx_mixed.proofs.Shape.{inert_writes}
+use Rattle.vx_mixed.proofs.OrderShape.{inert_writes}
 use Rattle.vx_mixed.proofs.Hops.{alike_same}
 use Rattle.vx_mixed.proofs.Joins.{replacement_law}
 

@@ -1,5 +1,5 @@
 -- Parts of a list that stand at a place of it.
-use Rattle.std.proofs.Common.{◌≡◌, ℕ, zero, suc, ◌+◌, Some, List, [], ◌∷◌, ◌++◌, length, map, slice_get, refl, ap, ◌∙◌, arith}
+use Rattle.std.proofs.Common.{◌≡◌, ℕ, zero, suc, ◌+◌, Some, List, [], ◌∷◌, ◌++◌, length, map, slice_get, refl, ap, ◌∙◌, arith, ◌<◌}
 use Rattle.std.specs.Option.{option_map}
 use Rattle.std.proofs.lemmas.Option.{slice_get-map}
 
@@ -71,3 +71,8 @@ in_parts (x ∷ xs) ys (suc p) z e = one (in_parts xs ys p z e)
     one : InParts xs ys p z → InParts (x ∷ xs) ys (suc p) z
     one (in_front f) = in_front f
     one (in_back k q f) = in_back k (omega arith) f
+
+pub get_some : {A : Type 0} (xs : List A) (k : ℕ) → k < length xs → (x : A) × (slice_get xs k ≡ Some x)
+get_some [] k h = absurd (omega arith)
+get_some (x ∷ xs) zero h = (x, refl)
+get_some (x ∷ xs) (suc k) h = get_some xs k (omega arith)

@@ -2,8 +2,8 @@
 use Rattle.std.proofs.Common.{◌≡◌, ℕ, None, [], length, slice_index_or, refl, ap}
 use Rattle.std.proofs.lemmas.List.{ext_get_or}
 use Rattle.vx_flow.specs.Effects.{State, row_of, Location, Of, Cell, TheInput, TheOutput, Holds, Left, Printed, at}
-use Rattle.vx_mixed.specs.Agree.{SameWorld, Agree}
-use Rattle.vx_mixed.specs.Items.{Fine, SameShape}
+use Rattle.vx_mixed.specs.Agree.{SameWorld, Agree, SameShape}
+use Rattle.vx_mixed.specs.Items.{Fine}
 use Rattle.vx_mixed.proofs.Step.{cell}
 use Rattle.vx_mixed.proofs.Effect.{grows, fine, left_inj, printed_inj, holds_inj}
 

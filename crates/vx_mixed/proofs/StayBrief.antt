@@ -11,16 +11,15 @@ use Rattle.vx_mixed.specs.declared.region.Region.{Region}
 use Rattle.vx_mixed.specs.declared.mixed.MixedGraph.{MixedGraph}
 use Rattle.vx_mixed.specs.declared.layout.VirtualWord.TheVariants.{Planned, Drain, Transfer, Choice, Call, Return, Ends}
 use Rattle.vx_mixed.specs.Brief.{most_drain, IsBrief, IsBriefLayout, DrainsBriefly, BriefStays, LayoutIsBrief}
-use Rattle.vx_mixed.specs.Next.{Replacement, InWord, new_end, renamed_region, freed, placed, new_region, next_mixed}
+use Rattle.vx_mixed.specs.Next.{Replacement, InWord, new_end, renamed_region, freed, placed, new_region, next_mixed, rename}
 use Rattle.vx_mixed.specs.Layout.{place_of, layout_of}
-use Rattle.vx_mixed.specs.Unchanged.{rename}
 use Rattle.vx_mixed.proofs.DatedWords.{Dated, word_in}
 use Rattle.vx_mixed.proofs.LaidSources.{source_of, plan_word}
 use Rattle.vx_mixed.proofs.LayoutPlaces.{dated}
 use Rattle.vx_mixed.proofs.LayoutKinds.{DrainOf, at_exit, at_split, Kind, plans, drains, jumps, chooses, calls, returns, ends, kind_of}
 use Rattle.vx_mixed.proofs.NewBlocks.{from_placed, word_of}
 use Rattle.vx_mixed.proofs.Renames.{old_word, old_split}
-use Rattle.vx_mixed.proofs.SettledAfter.{of_regions}
+use Rattle.vx_mixed.proofs.NewNodes.{of_regions}
 
 -- Replacements
 

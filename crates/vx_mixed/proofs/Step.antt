@@ -7,8 +7,10 @@ use Rattle.vx_flow.specs.declared.graph.Op.{Op}
 use Rattle.vx_flow.specs.declared.graph.Op.TheVariants.{Compute, Select, Place, Load, Store, More, Input, Text, Decimal, Across}
 use Rattle.vx_flow.specs.declared.graph.Operand.{Operand}
 use Rattle.vx_mixed.specs.declared.region.Item.{Item}
-use Rattle.vx_mixed.specs.Items.{Fine, SameShape, item_effect, calm, Reads, Writes, Marked, as_it_is, dismissible, split, Safe}
-use Rattle.vx_mixed.proofs.Effect.{Grows, grows, none_is, in_append, grows_held, grows_computed, grows_chosen, grows_place, value_there, value_else, same_shape, does_value, one_write, Row, got, loaded_free, cell_from, inside, cell_there, cell_else, cell_shape, stored_is, input_is, printed_is, left_inj, printed_inj, cell_named, names_cell, left_read, right_read}
+use Rattle.vx_mixed.specs.Items.{Fine, item_effect, calm, Reads, Writes, Marked, as_it_is, dismissible, split, Safe}
+use Rattle.vx_mixed.specs.Agree.{SameShape}
+use Rattle.vx_mixed.proofs.Effect.{grows, value_there, value_else, does_value, one_write, Row, got, loaded_free, inside, cell_there, cell_else, cell_shape, stored_is, input_is, printed_is, left_inj, printed_inj, cell_named, names_cell}
+use Rattle.vx_mixed.proofs.Contents.{Grows, none_is, in_append, grows_held, grows_computed, grows_chosen, grows_place, same_shape, cell_from, left_read, right_read}
 use Rattle.vx_mixed.proofs.Does.{Does}
 
 abbrev pub cell : State → ℕ → ℕ → Content

@@ -17,7 +17,7 @@ use Rattle.vx_mixed.specs.Live.{word_reads, word_writes}
 use Rattle.vx_mixed.specs.Meaning.{word_effect, leaves_on, picked, Taken, Stays, Takes, Unsure, taken, after_word, early_words, is_same, InFlight, waited, quiet, drained, given_by, after_timed, issued, timed_words}
 use Rattle.vx_mixed.specs.Agree.{SameWorld}
 use Rattle.vx_mixed.specs.Settled.{WritesIn, ReadsIn, NoTwice, InTime}
-use Rattle.vx_mixed.proofs.Effect.{Grows, in_append}
+use Rattle.vx_mixed.proofs.Contents.{Grows, in_append}
 use Rattle.vx_mixed.proofs.Alike.{Both, Follow, word_follows, in_or, split_in}
 
 pub tells_values : Tells is_same

@@ -21,7 +21,7 @@ use Rattle.vx_mixed.specs.FromGraph.{same_edge}
 use Rattle.vx_mixed.specs.Next.{is_split_edge, last_of}
 use Rattle.vx_mixed.specs.Settled.{NoTwice}
 use Rattle.vx_mixed.specs.TraceOf.{block_at, block_or_none, split_between, split_behind, block_ops, trace_ops, inner_edges, joined, joins_behind, trace_joins}
-use Rattle.vx_mixed.specs.Compensation.{splits_of}
+use Rattle.vx_mixed.specs.TraceItems.{splits_of}
 use Rattle.vx_mixed.specs.Valid.{PartsWays}
 use Rattle.vx_mixed.proofs.NewNodes.{and_both, same_is, is_same_edge}
 use Rattle.vx_mixed.proofs.PathOf.{from_inside, to_inside}

@@ -16,7 +16,7 @@ use Rattle.vx_mixed.specs.Trace.{nth}
 use Rattle.vx_mixed.specs.Facts.{RowFacts, places, row, words_from}
 use Rattle.vx_mixed.specs.Way.{item_latency}
 use Rattle.vx_mixed.specs.Drains.{Drained, LoadsAlike}
-use Rattle.vx_mixed.proofs.Effect.{none_is}
+use Rattle.vx_mixed.proofs.Contents.{none_is}
 use Rattle.vx_mixed.proofs.Times.{in_places}
 use Rattle.vx_mixed.proofs.Alike.{split_in}
 

@@ -14,23 +14,26 @@ use Rattle.vx_mixed.specs.declared.region.Node.TheVariants.{Unused, Enters}
 use Rattle.vx_mixed.specs.declared.mixed.MixedGraph.{MixedGraph}
 use Rattle.vx_flow.specs.Meaning.{Hop, Arrives, Wrong, leave, block_hop}
 use Rattle.vx_mixed.specs.Meaning.{node_hop, in_region, timed_from_start, is_same, hop, leaves_on, early_words}
-use Rattle.vx_mixed.specs.Agree.{Segment, last, on, Agree, Alike}
+use Rattle.vx_mixed.specs.Agree.{Segment, last, on, Agree, Alike, SameShape}
 use Rattle.vx_mixed.specs.Live.{item_reads, item_writes, Live}
 use Rattle.vx_mixed.specs.Settled.{InTime}
-use Rattle.vx_mixed.specs.Items.{Fine, SameShape, Reads, Writes}
-use Rattle.vx_mixed.specs.Trace.{nth, order}
+use Rattle.vx_mixed.specs.Items.{Fine, Reads, Writes}
+use Rattle.vx_mixed.specs.Trace.{nth, order, AfterOf}
 use Rattle.vx_mixed.specs.Path.{trace_hop}
 use Rattle.vx_mixed.specs.Facts.{IsSplit, row, words_from, copies}
-use Rattle.vx_mixed.specs.Alive.{AfterOf, AfterItem, AtEnd, Alive}
+use Rattle.vx_mixed.specs.Alive.{AfterItem, AtEnd, Alive}
 use Rattle.vx_mixed.specs.Way.{item_latency, LeadsIn, LeadsOut, at_once, by_made}
-use Rattle.vx_mixed.proofs.Shape.{shape_trans, shape_sym, order_shape, words_shape}
+use Rattle.vx_mixed.proofs.Shape.{shape_trans}
+use Rattle.vx_mixed.proofs.OrderShape.{shape_sym, order_shape, words_shape}
 use Rattle.vx_mixed.proofs.Blocks.{path_hop, how_it_ends}
 use Rattle.vx_mixed.proofs.Delays.{takes_no_value, gives_no_value, gives_firm}
 use Rattle.vx_mixed.proofs.Exits.{X, Y, by_join, leaves_by, by_edge, at_edge, by_join_, runs_out, at_end}
-use Rattle.vx_mixed.proofs.Alive.{live_start, alive_read, alive_edge, alive_end}
+use Rattle.vx_mixed.proofs.Alive.{live_start}
+use Rattle.vx_mixed.proofs.AliveAt.{alive_read, alive_edge, alive_end}
 use Rattle.vx_mixed.proofs.Timed.{timed_is_early}
 use Rattle.vx_mixed.proofs.States.{shape_of_world, fine_of_agree, agree_of_fine}
-use Rattle.vx_mixed.proofs.Hops.{alike_trans, leave_alike, exit_ends, not_wrong}
+use Rattle.vx_mixed.proofs.Hops.{alike_trans, exit_ends, not_wrong}
+use Rattle.vx_mixed.proofs.LeaveAlike.{leave_alike}
 use Rattle.vx_mixed.proofs.Timetable.{laid}
 use Rattle.vx_mixed.proofs.Passing.{LeavesBy, LeavesAt, RunsOut}
 use Rattle.vx_mixed.proofs.AtTimes.{form, at_time}

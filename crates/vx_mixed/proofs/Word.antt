@@ -9,10 +9,12 @@ use Rattle.vx_mixed.specs.declared.region.Item.{Item}
 use Rattle.vx_mixed.specs.declared.region.Item.TheVariants.{Plain, Split}
 use Rattle.vx_mixed.specs.Meaning.{word_effect, into}
 use Rattle.vx_mixed.specs.Live.{item_writes}
-use Rattle.vx_mixed.specs.Items.{Fine, SameShape, item_effect, Reads, Writes, item_gives, Marked, Safe}
+use Rattle.vx_mixed.specs.Items.{Fine, item_effect, Reads, Writes, item_gives, Marked, Safe}
+use Rattle.vx_mixed.specs.Agree.{SameShape}
 use Rattle.vx_mixed.specs.Trace.{nth, order}
 use Rattle.vx_mixed.proofs.Step.{step}
-use Rattle.vx_mixed.proofs.Shape.{shape_trans, order_next}
+use Rattle.vx_mixed.proofs.Shape.{shape_trans}
+use Rattle.vx_mixed.proofs.OrderShape.{order_next}
 
 loc_eq : (l m : Location) → (l ≡ m) ⊎ (l ≡ m → ⊥)
 loc_eq (Of v) (Of u) = ⊎_elim (λ e. inl (ap Of e)) (λ n. inr (λ (e : Of v ≡ Of u). n (cc))) (cases_eq v u)

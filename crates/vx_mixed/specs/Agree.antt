@@ -1,8 +1,8 @@
 -- When two states agree, and when two graphs of one function have the same meaning: from each entrance that they share, to
 -- the next one.
-use Rattle.std.specs.Prelude.{◌≡◌, ◌≢◌, ℕ, ℤ, Bool, true, false, Option, Some, None, List, []}
+use Rattle.std.specs.Prelude.{◌≡◌, ◌≢◌, ℕ, ℤ, Bool, true, false, Option, Some, None, List, [], length}
 use Rattle.vx_flow.specs.declared.graph.Op.{Op}
-use Rattle.vx_flow.specs.Effects.{State, Setting}
+use Rattle.vx_flow.specs.Effects.{State, Setting, row_of}
 use Rattle.vx_flow.specs.Meaning.{Hop, Arrives, Calls, Leaves, Stops, Wrong}
 use Rattle.vx_mixed.specs.declared.mixed.MixedGraph.{MixedGraph}
 use Rattle.vx_mixed.specs.Meaning.{hop}
@@ -63,3 +63,7 @@ pub record SameMeaning (latency : Op → ℕ) (old new : MixedGraph) (meet_old m
   pub leads : (setting : Setting) (times times' : List ℕ) (b b' : ℕ) (s t : State) (h : Hop) →
       Apart setting → times ≢ [] → times' ≢ [] → pairs b b' ≡ true → Agree (Live old b) s t → Segment (hop setting times latency old) meet_old b s h → h ≢ Wrong →
       (h' : Hop) × Segment (hop setting times' latency new) meet_new b' t h' × Alike old pairs h h'
+
+pub record SameShape (s t : State) : Type 0 where
+  pub arrays : length t.arrays ≡ length s.arrays
+  pub rows : (a : ℕ) → length (row_of t a) ≡ length (row_of s a)

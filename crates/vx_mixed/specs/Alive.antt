@@ -8,15 +8,11 @@ use Rattle.vx_mixed.specs.declared.region.Item.{Item}
 use Rattle.vx_mixed.specs.declared.region.Item.TheVariants.{Plain, Split}
 use Rattle.vx_mixed.specs.declared.mixed.MixedGraph.{MixedGraph}
 use Rattle.vx_mixed.specs.Live.{item_reads, item_writes, Live}
-use Rattle.vx_mixed.specs.Trace.{nth}
 
 -- live at the end of the edge by which a split leaves
 abbrev pub AfterItem : MixedGraph → Item → ℕ → Type 0
 AfterItem m (Plain op cluster) v = ⊥
 AfterItem m (Split p y edge d) v = Live m edge.to v
-
-abbrev pub AfterOf : MixedGraph → List Item → ℕ → ℕ → Type 0
-AfterOf m is e v = AfterItem m (nth is e) v
 
 -- read by the last exit, or live behind it
 abbrev pub AtEnd : MixedGraph → Exit → ℕ → Type 0

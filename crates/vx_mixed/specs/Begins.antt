@@ -6,7 +6,7 @@ use Rattle.vx_flow.specs.Sound.{is_sound}
 use Rattle.vx_mixed.specs.declared.region.Item.{Item}
 use Rattle.vx_mixed.specs.declared.mixed.MixedGraph.{MixedGraph}
 use Rattle.vx_mixed.specs.Settled.{Settled, Tidy}
-use Rattle.vx_mixed.specs.Context.{OfGraph}
+use Rattle.vx_mixed.specs.FromGraph.{OfGraph}
 
 -- the blocks of a sound graph name no copies, so none is live
 abbrev pub BeginsTidy : Type 0

@@ -11,40 +11,22 @@ use Rattle.vx_flow.specs.declared.trace.Join.{Join}
 use Rattle.vx_flow.specs.declared.trace.Trace.{Trace}
 use Rattle.vx_flow.specs.Effects.{Setting, IsIn, writes}
 use Rattle.vx_mixed.specs.declared.region.Item.{Item}
-use Rattle.vx_mixed.specs.declared.region.Item.TheVariants.{Plain, Split}
+use Rattle.vx_mixed.specs.declared.region.Item.TheVariants.{Split}
 use Rattle.vx_mixed.specs.declared.region.Made.{Made}
 use Rattle.vx_mixed.specs.declared.mixed.MixedGraph.{MixedGraph}
 use Rattle.vx_mixed.specs.Agree.{Apart}
-use Rattle.vx_mixed.specs.FromGraph.{same_edge}
 use Rattle.vx_mixed.specs.Trace.{nth}
 use Rattle.vx_mixed.specs.Facts.{copies}
 use Rattle.vx_mixed.specs.Way.{item_latency, Clustered}
 use Rattle.vx_mixed.specs.Drains.{Drained, LoadsAlike}
 use Rattle.vx_mixed.specs.Rows.{Meets, NeverApart}
-use Rattle.vx_mixed.specs.Next.{Replacement, InWord, new_end, placed, last_of, exit_in, is_split_edge, new_region}
-use Rattle.vx_mixed.specs.Scheduled.{HomesStay, Keeps}
-use Rattle.vx_mixed.specs.Settled.{InTime}
+use Rattle.vx_mixed.specs.Next.{Replacement, InWord, new_end, placed, last_of, exit_in, is_split_edge, new_region, on_edge}
+use Rattle.vx_mixed.specs.Scheduled.{Keeps}
+use Rattle.vx_mixed.specs.Settled.{HomesStay, InTime}
 use Rattle.vx_mixed.specs.Valid.{Valid}
 use Rattle.vx_mixed.specs.declared.region.Region.{Region}
 use Rattle.vx_mixed.specs.TraceOf.{CanTrace, IsTraceOf, trace_ops}
-
--- operations of a trace as items: in blocks, and on their clusters
-
-abbrev pub plain_item : TraceOp → Item
-plain_item (TracePlain op) = Plain op 0
-plain_item (TraceSplit p y e live) = Split p y e 0
-
-abbrev pub plain_items : List TraceOp → List Item
-plain_items ops = map plain_item ops
-
-abbrev pub item_of : TraceOp → ℕ → Item
-item_of (TracePlain op) cluster = Plain op cluster
-item_of (TraceSplit p y e live) cluster = Split p y e 0
-
-abbrev pub items_of : List TraceOp → List ℕ → List Item
-items_of [] clusters = []
-items_of (op ∷ ops) [] = item_of op 0 ∷ items_of ops []
-items_of (op ∷ ops) (c ∷ clusters) = item_of op c ∷ items_of ops clusters
+use Rattle.vx_mixed.specs.TraceItems.{items_of, plain_items, splits_of}
 
 abbrev pub items : Replacement → List Item
 items r = items_of r.trace.ops r.clusters
@@ -66,21 +48,10 @@ live_of None = []
 abbrev pub is_join_place : List Join → ℕ → Bool
 is_join_place joins q = list_any (λ (j : Join). j.place == q) joins
 
--- the splits of a trace
-abbrev pub splits_of : List TraceOp → List TraceOp
-splits_of [] = []
-splits_of (TracePlain op ∷ ops) = splits_of ops
-splits_of (TraceSplit p y e live ∷ ops) = TraceSplit p y e live ∷ splits_of ops
-
 -- the blocks of a trace from block b on
 abbrev pub blocks_from : ℕ → List ℕ → List ℕ
 blocks_from b [] = []
 blocks_from b (c ∷ blocks) = if c == b then c ∷ blocks else blocks_from b blocks
-
--- the operations of the block that is made on an edge; none where no block is
-abbrev pub on_edge : List Made → Edge → List Op
-on_edge [] e = []
-on_edge (x ∷ xs) e = if same_edge x.edge e then x.ops else on_edge xs e
 
 -- the first word behind all operations that stand above place q
 abbrev pub IsRejoin : (ℕ → ℕ) → ℕ → ℕ → Type 0

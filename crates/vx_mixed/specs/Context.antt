@@ -1,16 +1,16 @@
 -- Programs in which graphs were replaced by graphs of the same meaning, and programs of graphs without regions.
-use Rattle.std.specs.Prelude.{◌≡◌, ◌≢◌, ℕ, ℤ, Bool, Option, Some, None, List, [], map, slice_get}
+use Rattle.std.specs.Prelude.{◌≡◌, ◌≢◌, ℕ, ℤ, Bool, Option, Some, None, List, [], slice_get}
 use Rattle.vx_base.specs.Outcome.{Same, NeverFails}
 use Rattle.vx_flow.specs.declared.graph.Op.{Op}
 use Rattle.vx_flow.specs.declared.graph.Graph.{Graph}
 use Rattle.vx_flow.specs.declared.graph.Flow.{Flow}
 use Rattle.vx_flow.specs.Effects.{State, Setting}
 use Rattle.vx_flow.specs.Meaning.{hop_of, graph_run}
-use Rattle.vx_mixed.specs.declared.region.Node.TheVariants.{Unused}
 use Rattle.vx_mixed.specs.declared.mixed.MixedGraph.{MixedGraph}
 use Rattle.vx_mixed.specs.Meaning.{hop}
 use Rattle.vx_mixed.specs.Agree.{SameMeaning}
 use Rattle.vx_mixed.specs.Program.{mixed_run}
+use Rattle.vx_mixed.specs.FromGraph.{OfGraph}
 
 -- the same graph, or one of the same function that has the same meaning
 pub data Becomes (latency : Op → ℕ) (m m' : MixedGraph) : Type 0 where
@@ -62,15 +62,6 @@ AllStep latency ms ms' = (f : ℕ) → BothStep latency (slice_get ms f) (slice_
 -- Each graph of a program may have been replaced any number of times.
 abbrev pub StepsLaw : Type 0
 StepsLaw = (flow : Flow) (times : List ℕ) (latency : Op → ℕ) (ms ms' : List MixedGraph) (input : List ℤ) → times ≢ [] → AllStep latency ms ms' → SameRuns flow times latency ms ms' input
-
--- The mixed graph of a function's graph: its blocks, and no regions.
-
-pub record OfGraph (graph : Graph) (m : MixedGraph) : Type 0 where
-  pub nodes : m.nodes ≡ map Unused graph.blocks
-  pub regions : m.regions ≡ []
-  pub banks : m.banks ≡ graph.banks
-  pub parameters : m.parameters ≡ graph.parameters
-  pub arrays : m.arrays ≡ graph.arrays
 
 -- it does block by block what the graph does
 abbrev pub MeansTheGraph : Type 0

@@ -1,5 +1,5 @@
 -- The graph of blocks and regions that a graph begins as: its blocks, and no regions.
-use Rattle.std.specs.Prelude.{◌≡◌, ◌==◌, ◌<◌, ◌&&◌, ℕ, Bool, false, if◌then◌else◌, Option, Some, None, List, [], ◌∷◌, length, replicate, slice_set}
+use Rattle.std.specs.Prelude.{◌≡◌, ◌==◌, ◌<◌, ◌&&◌, ℕ, Bool, false, if◌then◌else◌, Option, Some, None, List, [], ◌∷◌, length, replicate, slice_set, map}
 use Rattle.std.specs.List.{list_any}
 use Rattle.vx_flow.specs.declared.graph.Block.{Block}
 use Rattle.vx_flow.specs.declared.graph.Edge.{Edge}
@@ -12,7 +12,15 @@ use Rattle.vx_mixed.specs.declared.region.Node.TheVariants.{Unused}
 use Rattle.vx_mixed.specs.declared.region.Origin.{Origin}
 use Rattle.vx_mixed.specs.declared.mixed.MixedGraph.{MixedGraph}
 use Rattle.vx_mixed.specs.Settled.{has_home}
-use Rattle.vx_mixed.specs.Context.{OfGraph}
+
+-- The mixed graph of a function's graph: its blocks, and no regions.
+
+pub record OfGraph (graph : Graph) (m : MixedGraph) : Type 0 where
+  pub nodes : m.nodes ≡ map Unused graph.blocks
+  pub regions : m.regions ≡ []
+  pub banks : m.banks ≡ graph.banks
+  pub parameters : m.parameters ≡ graph.parameters
+  pub arrays : m.arrays ≡ graph.arrays
 
 -- The values that stand on cluster 0 from the start: what a choice by a branch value writes, and what comes from the input.
 

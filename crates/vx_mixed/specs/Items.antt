@@ -1,10 +1,10 @@
 -- What an item of a trace does where it stands in trace order, and the form in which it is placed in a word.
-use Rattle.std.specs.Prelude.{◌≡◌, ◌⊎◌, ℕ, ℤ, Bool, true, Option, Some, length}
+use Rattle.std.specs.Prelude.{◌≡◌, ◌⊎◌, ℕ, ℤ, Bool, true, Option, Some}
 use Rattle.vx_flow.specs.declared.graph.Op.{Op}
 use Rattle.vx_flow.specs.declared.graph.Op.TheVariants.{Load}
 use Rattle.vx_flow.specs.declared.graph.Operand.{Operand}
 use Rattle.vx_flow.specs.declared.graph.Edge.{Edge}
-use Rattle.vx_flow.specs.Effects.{State, Setting, effect, calm_effect, row_of, Location, Of, Cell, TheInput, TheOutput, Datum, Holds, IsOf, ReadsBesides, WritesBesides}
+use Rattle.vx_flow.specs.Effects.{State, Setting, effect, calm_effect, Location, Of, Cell, TheInput, TheOutput, Datum, Holds, IsOf, ReadsBesides, WritesBesides}
 use Rattle.vx_mixed.specs.declared.region.Item.{Item}
 use Rattle.vx_mixed.specs.declared.region.Item.TheVariants.{Plain, Split}
 use Rattle.vx_mixed.specs.Live.{item_reads, item_writes}
@@ -15,10 +15,6 @@ Fine (Of v) d e = (n : ℤ) → d ≡ Holds (Some n) → e ≡ Holds (Some n)
 Fine (Cell a i) d e = e ≡ d
 Fine TheInput d e = e ≡ d
 Fine TheOutput d e = e ≡ d
-
-pub record SameShape (s t : State) : Type 0 where
-  pub arrays : length t.arrays ≡ length s.arrays
-  pub rows : (a : ℕ) → length (row_of t a) ≡ length (row_of s a)
 
 abbrev pub item_effect : Setting → State → Item → State → Option State
 item_effect setting s (Plain op cluster) t = effect setting s op t

@@ -1,19 +1,20 @@
 -- A graph of regions laid out as words: the regions in the order in which they were made, each followed by what comes after
 -- its last word, and then by the ways out of its splits.
-use Rattle.std.specs.Prelude.{◌+◌, ℕ, zero, suc, Option, Some, List, [], ◌∷◌, ◌++◌, length, slice_get}
+use Rattle.std.specs.Prelude.{◌+◌, ℕ, zero, suc, Option, Some, List, [], ◌∷◌, ◌++◌, length, slice_get, ◌≢◌}
 use Rattle.vx_flow.specs.declared.graph.Exit.{Exit}
 use Rattle.vx_flow.specs.declared.graph.Exit.TheVariants.{Goto, Split as Branches, Call as Calling, Return as Returning, Ends as Ending}
 use Rattle.vx_mixed.specs.declared.region.Item.{Item}
 use Rattle.vx_mixed.specs.declared.region.Item.TheVariants.{Plain, Split}
 use Rattle.vx_mixed.specs.declared.region.Region.{Region}
 use Rattle.vx_mixed.specs.declared.region.Node.{Node}
-use Rattle.vx_mixed.specs.declared.region.Node.TheVariants.{Enters}
+use Rattle.vx_mixed.specs.declared.region.Node.TheVariants.{Enters, Unused}
 use Rattle.vx_mixed.specs.declared.layout.Laid.{Laid}
 use Rattle.vx_mixed.specs.declared.layout.Laid.TheVariants.{Plain as LaidPlain, Split as LaidSplit}
 use Rattle.vx_mixed.specs.declared.layout.VirtualWord.{VirtualWord}
 use Rattle.vx_mixed.specs.declared.layout.VirtualWord.TheVariants.{Planned, Drain, Transfer, Choice, Call, Return, Ends}
 use Rattle.vx_mixed.specs.declared.layout.VWords.{VWords}
 use Rattle.vx_mixed.specs.declared.mixed.MixedGraph.{MixedGraph}
+use Rattle.vx_flow.specs.declared.graph.Block.{Block}
 
 -- exits, where `place` is the place at which a block is entered
 
@@ -84,3 +85,7 @@ all_words m r at (g ∷ gs) = region_words (place_of m) r at g ++ all_words m (r
 -- the layout of a graph of which no block is left
 abbrev pub layout_of : MixedGraph → VWords
 layout_of m = record { banks = m.banks; homes = m.homes; words = all_words m 0 0 m.regions; entry = place_of m 0; regions = length m.regions }
+
+-- no block is left
+abbrev pub IsDone : MixedGraph → Type 0
+IsDone m = (b : ℕ) (block : Block) → slice_get m.nodes b ≢ Some (Unused block)

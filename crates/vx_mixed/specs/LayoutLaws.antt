@@ -2,12 +2,10 @@
 use Rattle.std.specs.Prelude.{◌≡◌, ◌≢◌, ◌<◌, ℕ, ℤ, Bool, Option, Some, None, List, [], ◌∷◌, length, slice_get}
 use Rattle.vx_base.specs.Outcome.{Same, NeverFails}
 use Rattle.vx_flow.specs.declared.graph.Op.{Op}
-use Rattle.vx_flow.specs.declared.graph.Block.{Block}
 use Rattle.vx_flow.specs.declared.graph.Graph.{Graph}
 use Rattle.vx_flow.specs.declared.graph.Flow.{Flow}
 use Rattle.vx_mixed.specs.declared.region.Item.{Item}
 use Rattle.vx_mixed.specs.declared.region.Item.TheVariants.{Plain as PlainItem, Split as SplitItem}
-use Rattle.vx_mixed.specs.declared.region.Node.TheVariants.{Unused}
 use Rattle.vx_mixed.specs.declared.mixed.MixedGraph.{MixedGraph}
 use Rattle.vx_mixed.specs.declared.layout.Laid.{Laid}
 use Rattle.vx_mixed.specs.declared.layout.Laid.TheVariants.{Plain, Split}
@@ -15,14 +13,10 @@ use Rattle.vx_mixed.specs.declared.layout.VWords.{VWords}
 use Rattle.vx_mixed.specs.Valid.{Valid}
 use Rattle.vx_mixed.specs.Settled.{Settled}
 use Rattle.vx_mixed.specs.Program.{mixed_run}
-use Rattle.vx_mixed.specs.Layout.{layout_of}
+use Rattle.vx_mixed.specs.Layout.{layout_of, IsDone}
 use Rattle.vx_mixed.specs.Laid.{laid_run}
 use Rattle.vx_mixed.specs.LaidSettled.{SettledLayout}
 use Rattle.vx_mixed.specs.Origins.{ComesFromGraph, LaidFromGraph}
-
--- no block is left
-abbrev pub IsDone : MixedGraph → Type 0
-IsDone m = (b : ℕ) (block : Block) → slice_get m.nodes b ≢ Some (Unused block)
 
 -- room for the items of regions as for laid-out ones: neither the edge nor the place of a split comes into it
 abbrev pub as_item : Laid → Item → Type 0

@@ -8,7 +8,7 @@ pub mod Items
 pub mod Trace
 pub mod Path
 pub mod Facts
-pub mod Laws
+pub mod ParallelWords
 pub mod Alive
 pub mod Way
 pub mod Drains
@@ -48,3 +48,5 @@ pub mod Brief
 pub mod OriginLaws
 pub mod Exchanged
 pub mod AloneExample
+pub mod AnyTiming
+pub mod TraceItems

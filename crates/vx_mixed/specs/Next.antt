@@ -23,12 +23,21 @@ use Rattle.vx_mixed.specs.declared.region.Made.{Made}
 use Rattle.vx_mixed.specs.declared.mixed.MixedGraph.{MixedGraph}
 pub use Rattle.vx_mixed.specs.declared.replacement.Replacement.{Replacement}
 use Rattle.vx_mixed.specs.FromGraph.{same_edge}
-use Rattle.vx_mixed.specs.Unchanged.{rename}
+
+-- the edge from b to c goes to (to b c)
+abbrev pub rename : (ℕ → ℕ → ℕ) → Item → Item
+rename to (Plain op cluster) = Plain op cluster
+rename to (Split p y edge d) = Split p y (record edge { to = to edge.from edge.to }) d
 
 -- the number of the block that is made on an edge, where those from b on are made
 abbrev pub made_on : ℕ → List Made → Edge → Option ℕ
 made_on b [] e = None
 made_on b (x ∷ xs) e = if same_edge x.edge e then Some b else made_on (b + 1) xs e
+
+-- the operations of the block that is made on an edge; none where no block is
+abbrev pub on_edge : List Made → Edge → List Op
+on_edge [] e = []
+on_edge (x ∷ xs) e = if same_edge x.edge e then x.ops else on_edge xs e
 
 abbrev pub block_or : Option ℕ → ℕ → ℕ
 block_or None to = to

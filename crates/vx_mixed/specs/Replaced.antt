@@ -12,10 +12,9 @@ use Rattle.vx_mixed.specs.declared.mixed.MixedGraph.{MixedGraph}
 use Rattle.vx_mixed.specs.Agree.{Apart, SameMeaning}
 use Rattle.vx_mixed.specs.Settled.{InTime}
 use Rattle.vx_mixed.specs.Items.{item_takes, item_gives}
-use Rattle.vx_mixed.specs.Trace.{nth, order}
+use Rattle.vx_mixed.specs.Trace.{nth, order, AfterOf}
 use Rattle.vx_mixed.specs.Path.{Path}
 use Rattle.vx_mixed.specs.Facts.{RowFacts, IsSplit, row, words_from, copies}
-use Rattle.vx_mixed.specs.Alive.{AfterOf}
 use Rattle.vx_mixed.specs.Way.{item_latency, Clustered, Renamed, LeadsIn, LeadsOut}
 use Rattle.vx_mixed.specs.Drains.{Drained, LoadsAlike}
 use Rattle.vx_mixed.specs.Unchanged.{Outside, LiveWithin, KeepsTidy}

@@ -11,16 +11,15 @@ use Rattle.vx_mixed.specs.declared.region.Item.TheVariants.{Plain, Split}
 use Rattle.vx_mixed.specs.declared.region.Region.{Region}
 use Rattle.vx_mixed.specs.declared.mixed.MixedGraph.{MixedGraph}
 use Rattle.vx_mixed.specs.Agree.{Apart, SameMeaning}
-use Rattle.vx_mixed.specs.Settled.{has_home, OnClusters, Settled, made_at_split, IsStart, Tidy}
-use Rattle.vx_mixed.specs.Trace.{nth}
+use Rattle.vx_mixed.specs.Settled.{has_home, OnClusters, Settled, made_at_split, IsStart, Tidy, HomesStay}
+use Rattle.vx_mixed.specs.Trace.{nth, AfterOf}
 use Rattle.vx_mixed.specs.Path.{Path}
 use Rattle.vx_mixed.specs.Facts.{row, words_from, copies}
-use Rattle.vx_mixed.specs.Alive.{AfterOf}
 use Rattle.vx_mixed.specs.Way.{item_latency, Clustered, Renamed, LeadsIn, LeadsOut}
 use Rattle.vx_mixed.specs.Drains.{Drained, LoadsAlike}
-use Rattle.vx_mixed.specs.Unchanged.{rename, Outside, LiveWithin}
+use Rattle.vx_mixed.specs.Unchanged.{Outside, LiveWithin}
+use Rattle.vx_mixed.specs.Next.{rename, Replacement, new_region, next_mixed}
 use Rattle.vx_mixed.specs.Rows.{Meets, NeverApart, Placed}
-use Rattle.vx_mixed.specs.Next.{Replacement, new_region, next_mixed}
 use Rattle.vx_mixed.specs.Entrances.{meet_old, meet_new, pairs}
 use Rattle.vx_mixed.specs.Valid.{Valid}
 
@@ -79,10 +78,6 @@ pub record Scheduled (latency : Op → ℕ) (old new : MixedGraph) (meet_old mee
 pub record IsRoom (room : List (Option ℕ) → List Item → Bool) : Type 0 where
   pub edges : (homes : List (Option ℕ)) (to : ℕ → ℕ → ℕ) (word : List Item) → room homes (map (rename to) word) ≡ room homes word
   pub homes : (homes homes' : List (Option ℕ)) (word : List Item) → ((v u cluster : ℕ) → IsIn (Plain (Across v u) cluster) word → has_home homes' u ≡ has_home homes u) → room homes' word ≡ room homes word
-
--- every home so far is kept
-abbrev pub HomesStay : List (Option ℕ) → List (Option ℕ) → Type 0
-HomesStay homes homes' = (v k : ℕ) → has_home homes v ≡ Some k → has_home homes' v ≡ Some k
 
 -- the words of its region have room, and their operations stand where their values do
 pub record WordsStand (room : List (Option ℕ) → List Item → Bool) (old : MixedGraph) (r : Replacement) : Type 0 where

@@ -46,6 +46,10 @@ is_copy values v = if nat_lt v values then false else true
 abbrev pub has_home : List (Option ℕ) → ℕ → Option ℕ
 has_home clusters v = slice_index_or clusters v None
 
+-- every home so far is kept
+abbrev pub HomesStay : List (Option ℕ) → List (Option ℕ) → Type 0
+HomesStay homes homes' = (v k : ℕ) → has_home homes v ≡ Some k → has_home homes' v ≡ Some k
+
 -- the cluster on which a value stands: its home, or the one to which it is a copy
 abbrev pub home_of : MixedGraph → ℕ → Option ℕ
 home_of m v = if nat_lt v (length m.banks) then has_home m.homes.clusters v else Some (v / length m.banks - 1)

@@ -6,6 +6,8 @@ use Rattle.vx_flow.specs.declared.graph.Operand.TheVariants.{Stack}
 use Rattle.vx_mixed.specs.declared.region.Item.{Item}
 use Rattle.vx_mixed.specs.declared.region.Item.TheVariants.{Plain}
 use Rattle.vx_mixed.specs.Items.{calm}
+use Rattle.vx_mixed.specs.Alive.{AfterItem}
+use Rattle.vx_mixed.specs.declared.mixed.MixedGraph.{MixedGraph}
 
 -- reads nothing, writes nothing
 abbrev pub inert : Item
@@ -21,3 +23,6 @@ abbrev pub order : Setting → List Item → State → ℕ → State
 order setting is s zero = s
 order setting [] s (suc k) = s
 order setting (i ∷ is) s (suc k) = order setting is (calm setting s i) k
+
+abbrev pub AfterOf : MixedGraph → List Item → ℕ → ℕ → Type 0
+AfterOf m is e v = AfterItem m (nth is e) v

@@ -6,18 +6,14 @@ use Rattle.vx_flow.specs.declared.graph.Op.{Op}
 use Rattle.vx_flow.specs.Effects.{IsIn}
 use Rattle.vx_flow.specs.Sound.{targets_of}
 use Rattle.vx_mixed.specs.declared.region.Item.{Item}
-use Rattle.vx_mixed.specs.declared.region.Item.TheVariants.{Plain, Split}
+use Rattle.vx_mixed.specs.declared.region.Item.TheVariants.{Split}
 use Rattle.vx_mixed.specs.declared.region.Region.{Region}
 use Rattle.vx_mixed.specs.declared.region.Node.TheVariants.{Unused, Enters}
 use Rattle.vx_mixed.specs.declared.mixed.MixedGraph.{MixedGraph}
 use Rattle.vx_mixed.specs.Live.{Live}
 use Rattle.vx_mixed.specs.Settled.{InTime}
 use Rattle.vx_mixed.specs.Way.{Renamed}
-
--- the edge from b to c goes to (to b c)
-abbrev pub rename : (ℕ → ℕ → ℕ) → Item → Item
-rename to (Plain op cluster) = Plain op cluster
-rename to (Split p y edge d) = Split p y (record edge { to = to edge.from edge.to }) d
+use Rattle.vx_mixed.specs.Next.{rename}
 
 pub record SameRegion (latency : Op → ℕ) (old new : MixedGraph) (meet_old meet_new pairs : ℕ → ℕ → Bool) (g g' : Region) : Type 0 where
   pub to : ℕ → ℕ → ℕ

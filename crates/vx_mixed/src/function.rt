@@ -9,8 +9,7 @@ ghost use Rattle.vx_mixed.specs.CanReplace.{AwayFits, CanReplace, HomesFit, IsFo
 ghost use Rattle.vx_mixed.specs.Edges.{EdgesOf};
 ghost use Rattle.vx_mixed.specs.FromGraph.{FromGraph, origin_edge, same_edge, unused_in};
 ghost use Rattle.vx_mixed.specs.TraceOf.{CanTrace, IsTraceOf};
-ghost use Rattle.vx_mixed.specs.Layout.{layout_of};
-ghost use Rattle.vx_mixed.specs.LayoutLaws.{IsDone};
+ghost use Rattle.vx_mixed.specs.Layout.{layout_of, IsDone};
 ghost use Rattle.vx_mixed.specs.Next.{next_mixed};
 ghost use Rattle.vx_mixed.specs.Valid.{CanBegin, Valid};
 

@@ -4,8 +4,7 @@
 ghost use Rattle.std.specs.Prelude.{◌≡◌, ◌==◌, ◌+◌, ◌<◌, ◌^◌, ◌++◌, ℕ, IfOk, length, map};
 ghost use Rattle.std.specs.List.{list_any};
 ghost use Rattle.vx_flow.specs.Walk.{edge};
-ghost use Rattle.vx_mixed.specs.Next.{made_node, made_on, new_end, nodes_from, rejoin_at, renamed_exit, renamed_node, renamed_region, trace_node};
-ghost use Rattle.vx_mixed.specs.Unchanged.{rename};
+ghost use Rattle.vx_mixed.specs.Next.{made_node, made_on, new_end, nodes_from, rejoin_at, renamed_exit, renamed_node, renamed_region, trace_node, rename};
 
 use crate::copying::{copied_operands, copied_ops, copied_values};
 use crate::mixed::MixedGraph;

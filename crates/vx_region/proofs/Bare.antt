@@ -13,7 +13,7 @@ use Rattle.vx_mixed.specs.Trace.{nth, order}
 use Rattle.vx_mixed.specs.Facts.{IsSplit, ops_of}
 use Rattle.vx_mixed.specs.Rows.{IsObservable, IsLoad, IsStore, Row, reads_last, writes_too, writes_read, store_access, load_store, observables, two_splits, split_held, below_join, split_live, Meets, NeverApart}
 use Rattle.vx_mixed.specs.Way.{item_latency}
-use Rattle.vx_mixed.specs.Compensation.{plain_items, items_of}
+use Rattle.vx_mixed.specs.TraceItems.{plain_items, items_of}
 
 -- on cluster 0
 abbrev pub bare : Item → Item

@@ -17,8 +17,7 @@ use Rattle.vx_flow.proofs.SoundLaw.{sound_is}
 use Rattle.vx_machine.specs.Items.{latency_of_op}
 use Rattle.vx_mixed.specs.declared.region.Origin.{Origin}
 use Rattle.vx_mixed.specs.declared.mixed.MixedGraph.{MixedGraph}
-use Rattle.vx_mixed.specs.FromGraph.{FromGraph, binds, is_some_of, is_bound}
-use Rattle.vx_mixed.specs.Context.{OfGraph}
+use Rattle.vx_mixed.specs.FromGraph.{FromGraph, binds, is_some_of, is_bound, OfGraph}
 use Rattle.vx_mixed.specs.Edges.{IsEdge, of_block, of_split, of_last}
 use Rattle.vx_mixed.specs.OriginLaws.{BeginsWithCode}
 use Rattle.vx_mixed.specs.Origins.{ComesFromGraph}

@@ -11,7 +11,7 @@ use Rattle.vx_mixed.specs.declared.region.Item.{Item}
 use Rattle.vx_mixed.specs.Trace.{nth}
 use Rattle.vx_mixed.specs.Facts.{ops_of, copies}
 use Rattle.vx_mixed.specs.Next.{freed}
-use Rattle.vx_mixed.specs.Compensation.{plain_item, plain_items}
+use Rattle.vx_mixed.specs.TraceItems.{plain_item, plain_items}
 use Rattle.vx_mixed.proofs.PlacedWords.{marks}
 use Rattle.vx_dep.specs.declared.copies.EdgeCopies.{EdgeCopies}
 use Rattle.vx_dep.specs.Compensation.{word_at, splits_from}

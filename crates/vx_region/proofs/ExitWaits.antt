@@ -8,7 +8,7 @@ use Rattle.vx_machine.specs.Items.{latency_of_op}
 use Rattle.vx_mixed.specs.declared.region.Item.TheVariants.{Split}
 use Rattle.vx_mixed.specs.Trace.{nth}
 use Rattle.vx_mixed.specs.Way.{item_latency}
-use Rattle.vx_mixed.specs.Compensation.{plain_item}
+use Rattle.vx_mixed.specs.TraceItems.{plain_item}
 use Rattle.vx_mixed.proofs.PlacedWords.{marks}
 use Rattle.vx_dep.specs.declared.copies.EdgeCopies.{EdgeCopies}
 use Rattle.vx_dep.specs.Delays.{latency_of}

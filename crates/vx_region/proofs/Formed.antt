@@ -12,7 +12,7 @@ use Rattle.vx_flow.specs.Walk.{edge}
 use Rattle.vx_flow.proofs.Members.{in_either}
 use Rattle.vx_mixed.specs.declared.region.Origin.{Origin}
 use Rattle.vx_mixed.specs.declared.mixed.MixedGraph.{MixedGraph}
-use Rattle.vx_mixed.specs.Compensation.{splits_of}
+use Rattle.vx_mixed.specs.TraceItems.{splits_of}
 use Rattle.vx_mixed.specs.FromGraph.{same_edge}
 use Rattle.vx_mixed.specs.TraceOf.{block_at, split_behind, block_ops, trace_ops, clusters_of, trace_fixed, joined, joins_behind, trace_joins}
 use Rattle.vx_mixed.proofs.Linked.{index_in}

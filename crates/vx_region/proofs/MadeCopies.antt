@@ -7,7 +7,7 @@ use Rattle.vx_flow.specs.Effects.{IsIn}
 use Rattle.vx_flow.proofs.Members.{in_either}
 use Rattle.vx_mixed.specs.declared.region.Made.{Made}
 use Rattle.vx_mixed.specs.FromGraph.{same_edge}
-use Rattle.vx_mixed.specs.Compensation.{on_edge}
+use Rattle.vx_mixed.specs.Next.{on_edge}
 use Rattle.vx_mixed.proofs.NewNodes.{is_same_edge, edges_or}
 use Rattle.vx_mixed.proofs.Linked.{index_in}
 use Rattle.vx_region.specs.Planned.{made_of}

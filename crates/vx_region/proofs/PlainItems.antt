@@ -11,7 +11,8 @@ use Rattle.vx_mixed.specs.Trace.{nth, inert}
 use Rattle.vx_mixed.specs.Facts.{IsSplit}
 use Rattle.vx_mixed.specs.Rows.{IsObservable, IsLoad, IsStore}
 use Rattle.vx_mixed.specs.Way.{item_latency}
-use Rattle.vx_mixed.specs.Compensation.{plain_item, plain_items, live_of}
+use Rattle.vx_mixed.specs.Compensation.{live_of}
+use Rattle.vx_mixed.specs.TraceItems.{plain_item, plain_items}
 use Rattle.vx_dep.specs.Delays.{reads_of, writes_of, is_load, is_store, is_observable, leaves, latency_of, live_off}
 
 pub plain_many : (ops : List TraceOp) → length (plain_items ops) ≡ length ops

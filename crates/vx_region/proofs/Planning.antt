@@ -30,9 +30,10 @@ use Rattle.vx_mixed.specs.Rows.{Meets, NeverApart}
 use Rattle.vx_mixed.specs.Settled.{NoTwice}
 use Rattle.vx_mixed.specs.TraceOf.{CanTrace, IsTraceOf, block_at, block_or_none, block_ops, trace_ops, trace_joins, inner_edges}
 use Rattle.vx_mixed.specs.declared.replacement.Replacement.{Replacement}
-use Rattle.vx_mixed.specs.Next.{in_word, placed, new_end, new_region, last_of, exit_in, is_split_edge}
+use Rattle.vx_mixed.specs.Next.{in_word, placed, new_end, new_region, last_of, exit_in, is_split_edge, on_edge}
 use Rattle.vx_mixed.specs.Valid.{Valid, PartsWays}
-use Rattle.vx_mixed.specs.Compensation.{plain_item, plain_items, items, word, mark, live_of, is_join_place, splits_of, blocks_from, on_edge, IsRejoin, exit_of, Compensated}
+use Rattle.vx_mixed.specs.Compensation.{items, word, mark, live_of, is_join_place, blocks_from, IsRejoin, exit_of, Compensated}
+use Rattle.vx_mixed.specs.TraceItems.{plain_item, plain_items, splits_of}
 use Rattle.vx_mixed.proofs.PathOf.{from_inside}
 use Rattle.vx_mixed.proofs.PlacedWords.{numbers_many, split_at}
 use Rattle.vx_mixed.proofs.NewNodes.{map_get}

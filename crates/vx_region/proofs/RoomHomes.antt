@@ -15,7 +15,7 @@ use Rattle.vx_mixed.specs.declared.region.Item.{Item}
 use Rattle.vx_mixed.specs.declared.region.Item.TheVariants.{Plain, Split}
 use Rattle.vx_mixed.specs.Scheduled.{IsRoom}
 use Rattle.vx_mixed.specs.Settled.{has_home}
-use Rattle.vx_mixed.specs.Unchanged.{rename}
+use Rattle.vx_mixed.specs.Next.{rename}
 use Rattle.vx_region.specs.Regions.{item_in, room_in}
 
 renamed_items : (to : ℕ → ℕ → ℕ) (word : List Item) → map item_in (map (rename to) word) ≡ map item_in word

@@ -10,7 +10,7 @@ use Rattle.vx_mixed.specs.declared.mixed.MixedGraph.{MixedGraph}
 use Rattle.vx_mixed.specs.declared.replacement.Replacement.{Replacement}
 use Rattle.vx_mixed.specs.CanReplace.{CanReplace}
 use Rattle.vx_mixed.specs.Context.{Becomes, Stays, Goes}
-use Rattle.vx_mixed.specs.LayoutLaws.{IsDone}
+use Rattle.vx_mixed.specs.Layout.{IsDone}
 use Rattle.vx_mixed.specs.Next.{made_node, nodes_from, next_mixed}
 use Rattle.vx_mixed.specs.Scheduled.{Keeps}
 use Rattle.vx_mixed.specs.TraceOf.{CanTrace, IsTraceOf, EndsWithCall, block_or_none}

@@ -7,7 +7,7 @@ use Rattle.vx_mixed.specs.declared.region.Node.{Node}
 use Rattle.vx_mixed.specs.declared.region.Node.TheVariants.{Unused, Enters, Inner}
 use Rattle.vx_mixed.specs.declared.mixed.MixedGraph.{MixedGraph}
 use Rattle.vx_mixed.specs.declared.replacement.Replacement.{Replacement}
-use Rattle.vx_mixed.specs.LayoutLaws.{IsDone}
+use Rattle.vx_mixed.specs.Layout.{IsDone}
 use Rattle.vx_mixed.specs.Next.{next_mixed}
 use Rattle.vx_mixed.specs.TraceOf.{CanTrace}
 use Rattle.vx_dep.specs.declared.mode.Mode.{Mode}

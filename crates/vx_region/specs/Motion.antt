@@ -16,10 +16,11 @@ use Rattle.vx_mixed.specs.declared.mixed.MixedGraph.{MixedGraph}
 use Rattle.vx_mixed.specs.declared.replacement.Replacement.{Replacement}
 use Rattle.vx_mixed.specs.Agree.{Apart, Agree, Alike}
 use Rattle.vx_mixed.specs.Alive.{Alive, AtEnd}
-use Rattle.vx_mixed.specs.Compensation.{items, plain_items, on_edge}
+use Rattle.vx_mixed.specs.Compensation.{items}
+use Rattle.vx_mixed.specs.TraceItems.{plain_items}
+use Rattle.vx_mixed.specs.Next.{on_edge, last_of, exit_in, new_region}
 use Rattle.vx_mixed.specs.Entrances.{edge_of_made}
 use Rattle.vx_mixed.specs.Meaning.{is_same, timed_from_start}
-use Rattle.vx_mixed.specs.Next.{last_of, exit_in, new_region}
 use Rattle.vx_mixed.specs.Path.{trace_hop}
 use Rattle.vx_mixed.specs.TraceOf.{CanTrace}
 use Rattle.vx_mixed.specs.Valid.{Valid}

@@ -24,7 +24,7 @@ use Rattle.vx_mixed.specs.Brief.{IsBrief}
 use Rattle.vx_mixed.specs.CanReplace.{CanReplace}
 use Rattle.vx_mixed.specs.Context.{Becomes, Steps}
 use Rattle.vx_mixed.specs.FromGraph.{FromGraph, binds}
-use Rattle.vx_mixed.specs.LayoutLaws.{IsDone}
+use Rattle.vx_mixed.specs.Layout.{IsDone}
 use Rattle.vx_mixed.specs.Next.{next_mixed}
 use Rattle.vx_mixed.specs.Origins.{ComesFromGraph}
 use Rattle.vx_mixed.specs.Scheduled.{Keeps, WordsStand}

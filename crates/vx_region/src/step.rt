@@ -3,7 +3,7 @@
 
 ghost use Rattle.std.specs.Prelude.{◌≡◌, ◌<◌, IfOk, OnErr, length};
 ghost use Rattle.vx_flow.specs.declared.graph.Graph.{Graph};
-ghost use Rattle.vx_mixed.specs.LayoutLaws.{IsDone};
+ghost use Rattle.vx_mixed.specs.Layout.{IsDone};
 ghost use Rattle.vx_mixed.specs.TraceOf.{CanTrace};
 ghost use Rattle.vx_mixed.specs.Valid.{Valid};
 ghost use Rattle.vx_trace.specs.Picked.{Picked};

@@ -1,6 +1,5 @@
 use Rattle.std.proofs.Common.{◌≡◌, take, map}
-use Rattle.vx_mixed.specs.Next.{new_end}
-use Rattle.vx_mixed.specs.Unchanged.{rename}
+use Rattle.vx_mixed.specs.Next.{new_end, rename}
 use Rattle.vx_mixed.proofs.renaming.renamed_word.Given as goal
 
 abbrev pub invariant-loop-item : goal.invariant-loop-item

@@ -1,5 +1,5 @@
 use Rattle.std.proofs.Common.{◌<◌, ◌+◌, ◌-◌, sym, ◌∙◌, subst}
-use Rattle.vx_mixed.specs.LayoutLaws.{IsDone}
+use Rattle.vx_mixed.specs.Layout.{IsDone}
 use Rattle.vx_region.specs.declared.budget.Budget.{Budget}
 use Rattle.vx_region.specs.Ending.{unused_in}
 use Rattle.vx_region.specs.Regions.{ReplacesAll, ReplacesOne}
