@@ -19,10 +19,10 @@ use Rattle.vx_lower.specs.FlowOf.{FlowOf, AreNumbers}
 use Rattle.vx_machine.specs.Items.{latency_of_op}
 use Rattle.vx_mixed.specs.declared.mixed.MixedGraph.{MixedGraph}
 use Rattle.vx_mixed.specs.declared.layout.VWords.{VWords}
-use Rattle.vx_mixed.specs.Context.{EachOfGraph, BothStep}
+use Rattle.vx_motion.specs.Context.{EachOfGraph, BothStep}
 use Rattle.vx_mixed.specs.FromGraph.{OfGraph}
-use Rattle.vx_mixed.specs.Laid.{laid_run}
-use Rattle.vx_mixed.specs.LayoutLaws.{SameFrame, BothLaidOut}
+use Rattle.vx_layout.specs.Laid.{laid_run}
+use Rattle.vx_layout.specs.LayoutLaws.{SameFrame, BothLaidOut}
 use Rattle.vx_mixed.specs.Program.{mixed_run}
 use Rattle.vx_mixed.specs.Settled.{Settled}
 use Rattle.vx_region.specs.Regions.{room_in}

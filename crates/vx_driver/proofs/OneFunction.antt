@@ -32,13 +32,13 @@ use Rattle.vx_mixed.specs.declared.region.Node.{Node}
 use Rattle.vx_mixed.specs.declared.region.Node.TheVariants.{Unused}
 use Rattle.vx_mixed.specs.FromGraph.{FromGraph}
 use Rattle.vx_mixed.specs.Layout.{layout_of}
-use Rattle.vx_mixed.specs.LayoutLaws.{AreItems, SameRoom, LaidOut, LayoutSettles, LayoutComesFromGraph}
+use Rattle.vx_layout.specs.LayoutLaws.{AreItems, SameRoom, LaidOut, LayoutSettles, LayoutComesFromGraph}
 use Rattle.vx_mixed.specs.LaidSettled.{item_reads, item_writes, or_zero, home_in, Plans, Pends, written, later, SettledLayout}
-use Rattle.vx_mixed.specs.Brief.{LayoutIsBrief, IsBriefLayout}
-use Rattle.vx_mixed.specs.Origins.{Parts, CallsAs, LaidFromGraph}
+use Rattle.vx_layout.specs.Brief.{LayoutIsBrief, IsBriefLayout}
+use Rattle.vx_layout.specs.Origins.{Parts, CallsAs, LaidFromGraph}
 use Rattle.vx_mixed.specs.Settled.{has_home}
 use Rattle.vx_mixed.specs.Valid.{region_op, names_of}
-use Rattle.vx_mixed.proofs.LaidSources.{plain_from, plan_of}
+use Rattle.vx_layout.proofs.LaidSources.{plain_from, plan_of}
 use Rattle.vx_region.specs.Regions.{item_in, room_in, OnMachine, IsGraphOf}
 use Rattle.vx_region.proofs.ClusteredOps.{value_below}
 use Rattle.vx_regs.specs.Intervals.{word_reads, word_writes, result_of, IsLive, here, beyond, IsBusy, is_live, is_named, is_pending}

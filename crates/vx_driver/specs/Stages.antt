@@ -12,11 +12,11 @@ use Rattle.vx_mixed.specs.declared.mixed.MixedGraph.{MixedGraph}
 use Rattle.vx_mixed.specs.declared.layout.VirtualWord.{VirtualWord}
 use Rattle.vx_mixed.specs.declared.layout.VWords.{VWords}
 use Rattle.vx_mixed.specs.LaidSettled.{LeadsTo}
-use Rattle.vx_mixed.specs.Brief.{LayoutIsBrief}
-use Rattle.vx_mixed.specs.Context.{MeansTheFlow, StepsLaw}
+use Rattle.vx_layout.specs.Brief.{LayoutIsBrief}
+use Rattle.vx_motion.specs.Context.{MeansTheFlow, StepsLaw}
 use Rattle.vx_mixed.specs.FromGraph.{FromGraph}
 use Rattle.vx_mixed.specs.Layout.{layout_of}
-use Rattle.vx_mixed.specs.LayoutLaws.{LayoutRuns, LayoutSettles, LayoutComesFromGraph}
+use Rattle.vx_layout.specs.LayoutLaws.{LayoutRuns, LayoutSettles, LayoutComesFromGraph}
 use Rattle.vx_mixed.specs.Valid.{Valid, CanBegin}
 use Rattle.vx_regs.specs.declared.map.RegMap.{RegMap}
 use Rattle.vx_profile.specs.declared.counts.Counts.{Counts}

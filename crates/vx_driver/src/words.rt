@@ -29,13 +29,11 @@ use vx_frame::{Finished, finish};
 use vx_hoist::{Hoisted, hoist};
 use vx_isa::laws::{any_timing_law, path_strict_law};
 use vx_isa::program::WordProgram;
+use vx_layout::laws::{drains_stay_brief, layouts_keep_the_meaning};
 use vx_lower::lower;
 use vx_machine::Machine;
-use vx_mixed::laws::{
-    blocks_mean_the_graph, drains_stay_brief, layouts_keep_the_meaning,
-    replaced_programs_run_the_same,
-};
 use vx_mixed::layout::VWords;
+use vx_motion::laws::{blocks_mean_the_graph, replaced_programs_run_the_same};
 use vx_profile::counts::Counts;
 use vx_regs::map::{Kept, RegMap};
 use vx_regs::registers;

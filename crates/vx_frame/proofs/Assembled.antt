@@ -21,10 +21,10 @@ use Rattle.vx_machine.specs.Room.{needs, count_in, has_room_at, stand_well}
 use Rattle.vx_mixed.specs.declared.layout.Laid.{Laid}
 use Rattle.vx_mixed.specs.declared.layout.Laid.TheVariants.{Plain, Split}
 use Rattle.vx_mixed.specs.declared.layout.VWords.{VWords}
-use Rattle.vx_mixed.specs.Brief.{IsBriefLayout}
+use Rattle.vx_layout.specs.Brief.{IsBriefLayout}
 use Rattle.vx_mixed.specs.LaidSettled.{SettledLayout, home_in}
-use Rattle.vx_mixed.specs.Numbered.{IsNumbered}
-use Rattle.vx_mixed.specs.Origins.{LaidFromGraph}
+use Rattle.vx_layout.specs.Numbered.{IsNumbered}
+use Rattle.vx_layout.specs.Origins.{LaidFromGraph}
 use Rattle.vx_regs.specs.declared.map.Kept.{Kept}
 use Rattle.vx_regs.specs.declared.map.Kept.TheVariants.{InRegister, InSlot, Nowhere}
 use Rattle.vx_regs.specs.declared.map.RegMap.{RegMap}

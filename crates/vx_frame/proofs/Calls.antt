@@ -32,9 +32,9 @@ use Rattle.vx_isa.specs.declared.program.WordProgram.{WordProgram}
 use Rattle.vx_isa.specs.Machine.{State, To, TrapsBy, register, is_one, lead_of, leads_to, unless_stuck, effect, issue, step}
 use Rattle.vx_mixed.specs.declared.layout.VirtualWord.TheVariants.{Call}
 use Rattle.vx_mixed.specs.declared.layout.VWords.{VWords}
-use Rattle.vx_mixed.specs.Laid.{laid_program, laid_hop, some_word_hop, laid_body}
+use Rattle.vx_layout.specs.Laid.{laid_program, laid_hop, some_word_hop, laid_body}
 use Rattle.vx_mixed.specs.LaidSettled.{bank_in}
-use Rattle.vx_mixed.specs.Origins.{CallsAs}
+use Rattle.vx_layout.specs.Origins.{CallsAs}
 use Rattle.vx_regs.specs.Intervals.{IsLive, here, beyond, is_live, result_of}
 use Rattle.vx_frame.specs.Target.{Target, answer, kept, is_slotted, is_branch, home, holds_branch, branch_of, stack_on, parameters_of, register_of, one, pause, in_flight, bytes, save_words, move_stack, argument_words, call_words, back_words, memory_words}
 use Rattle.vx_frame.specs.Tied.{Tied, AtWord, Shows, Row, Arrays, Waits, Below, IsResult, own_arrays, row_in, begins_at, is_place, moved as moved_number, word_at}

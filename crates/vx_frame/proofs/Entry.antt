@@ -19,7 +19,7 @@ use Rattle.vx_isa.specs.declared.program.Word.{Word}
 use Rattle.vx_isa.specs.declared.program.WordProgram.{WordProgram}
 use Rattle.vx_isa.specs.Machine.{State, register, step}
 use Rattle.vx_mixed.specs.declared.layout.VWords.{VWords}
-use Rattle.vx_mixed.specs.Laid.{laid_hop, laid_body, laid_program}
+use Rattle.vx_layout.specs.Laid.{laid_hop, laid_body, laid_program}
 use Rattle.vx_mixed.specs.LaidSettled.{bank_in}
 use Rattle.vx_regs.specs.Intervals.{IsLive, is_live}
 use Rattle.vx_regs.specs.declared.map.Kept.{Kept}

@@ -18,7 +18,7 @@ use Rattle.vx_flow.specs.declared.graph.Exit.TheVariants.{Split as Branches}
 use Rattle.vx_flow.proofs.Members.{in_left, in_right}
 use Rattle.vx_flow.proofs.SoundLists.{any_in, any_of}
 use Rattle.vx_mixed.specs.LaidSettled.{bank_in}
-use Rattle.vx_mixed.specs.Origins.{whole, whole_operand, whole_op, copy_of, ComesFrom, graph_op, copy, LaidFromGraph}
+use Rattle.vx_layout.specs.Origins.{whole, whole_operand, whole_op, copy_of, ComesFrom, graph_op, copy, LaidFromGraph}
 use Rattle.vx_frame.specs.Target.{Target, is_branch, is_own, holds_branch}
 use Rattle.vx_frame.specs.Tied.{places_own, has_own_place, is_place_value, is_place}
 use Rattle.vx_frame.proofs.Forms.{to_branch}

@@ -18,7 +18,7 @@ use Rattle.vx_isa.proofs.Lists.{count_by-cons}
 use Rattle.vx_mixed.specs.declared.layout.Laid.{Laid}
 use Rattle.vx_mixed.specs.declared.layout.Laid.TheVariants.{Plain, Split}
 use Rattle.vx_mixed.specs.Meaning.{into, leaves_on, picked}
-use Rattle.vx_mixed.specs.Laid.{laid_effect, laid_next}
+use Rattle.vx_layout.specs.Laid.{laid_effect, laid_next}
 use Rattle.vx_mixed.specs.LaidSettled.{laid_reads, laid_writes}
 use Rattle.vx_frame.specs.Target.{Target, branch_of, register_of, carried, carried_items, leads, slotted}
 use Rattle.vx_frame.specs.Tied.{Shows, word_at, row_in}

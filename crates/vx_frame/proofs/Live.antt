@@ -19,7 +19,7 @@ use Rattle.vx_mixed.specs.declared.layout.VirtualWord.{VirtualWord}
 use Rattle.vx_mixed.specs.declared.layout.VirtualWord.TheVariants.{Planned, Drain, Transfer, Choice, Call, Return, Ends}
 use Rattle.vx_mixed.specs.Settled.{stands_for}
 use Rattle.vx_mixed.specs.LaidSettled.{bank_in, home_in, item_reads, item_writes, laid_reads, laid_writes, Plans}
-use Rattle.vx_mixed.specs.Origins.{whole, whole_op, ComesFrom, graph_op, copy}
+use Rattle.vx_layout.specs.Origins.{whole, whole_op, ComesFrom, graph_op, copy}
 use Rattle.vx_regs.specs.Intervals.{IsLive, here, beyond, word_reads}
 use Rattle.vx_frame.specs.Target.{Target}
 use Rattle.vx_frame.specs.Carried.{IsMapped}

@@ -9,7 +9,7 @@ use Rattle.vx_isa.specs.Numbers.{Numbers}
 use Rattle.vx_isa.specs.Machine.{State, Lead, To, lead_of}
 use Rattle.vx_mixed.specs.declared.layout.Laid.{Laid}
 use Rattle.vx_mixed.specs.declared.layout.Laid.TheVariants.{Split}
-use Rattle.vx_mixed.specs.Laid.{laid_effect, laid_next}
+use Rattle.vx_layout.specs.Laid.{laid_effect, laid_next}
 use Rattle.vx_frame.specs.Target.{Target, slotted, past, leads, one, before, behind, if_some, pause, slots_in_flight, store_slots, plan_word, plan_words, memory_words}
 use Rattle.vx_frame.proofs.Calm.{AllFit}
 use Rattle.vx_frame.proofs.Items.{Went, straight, by_split, lead_items}

@@ -24,7 +24,7 @@ use Rattle.vx_mixed.specs.declared.layout.VWords.{VWords}
 use Rattle.vx_mixed.specs.declared.layout.VirtualWord.{VirtualWord}
 use Rattle.vx_mixed.specs.declared.layout.VirtualWord.TheVariants.{Planned, Drain, Transfer, Choice, Call, Return, Ends}
 use Rattle.vx_mixed.specs.Meaning.{leaves_on, picked}
-use Rattle.vx_mixed.specs.Laid.{laid_effect, laid_next, moves_to, laid_hop, some_word_hop, laid_body, laid_program}
+use Rattle.vx_layout.specs.Laid.{laid_effect, laid_next, moves_to, laid_hop, some_word_hop, laid_body, laid_program}
 use Rattle.vx_mixed.specs.LaidSettled.{LeadsTo, laid_reads, laid_writes, bank_in, Plans}
 use Rattle.vx_regs.specs.Intervals.{IsLive, here, beyond, IsBusy, is_live}
 use Rattle.vx_frame.specs.Target.{Target, kept, is_slotted, register_of, past_there, memory_words, plan_words}

@@ -12,7 +12,7 @@ use Rattle.vx_mixed.specs.declared.layout.VirtualWord.{VirtualWord}
 use Rattle.vx_mixed.specs.declared.layout.VirtualWord.TheVariants.{Planned}
 use Rattle.vx_mixed.specs.declared.layout.VWords.{VWords}
 use Rattle.vx_mixed.specs.LaidSettled.{laid_reads}
-use Rattle.vx_mixed.specs.Numbered.{is_word_of, words_in, IsNumbered}
+use Rattle.vx_layout.specs.Numbered.{is_word_of, words_in, IsNumbered}
 use Rattle.vx_frame.specs.declared.finishing.TracePlaces.{TracePlaces}
 use Rattle.vx_frame.specs.declared.gathering.FunctionPlaces.{FunctionPlaces}
 use Rattle.vx_frame.specs.Target.{Target, before, word_words}

@@ -30,9 +30,9 @@ use Rattle.vx_isa.specs.Machine.{State, Halts, register, leads_to, unless_stuck,
 use Rattle.vx_machine.specs.Items.{latency_of_op}
 use Rattle.vx_mixed.specs.declared.layout.VirtualWord.TheVariants.{Call, Return}
 use Rattle.vx_mixed.specs.declared.layout.VWords.{VWords}
-use Rattle.vx_mixed.specs.Laid.{laid_program}
+use Rattle.vx_layout.specs.Laid.{laid_program}
 use Rattle.vx_mixed.specs.LaidSettled.{bank_in}
-use Rattle.vx_mixed.specs.Origins.{CallsAs}
+use Rattle.vx_layout.specs.Origins.{CallsAs}
 use Rattle.vx_regs.specs.Intervals.{IsLive, IsBusy, is_live, is_named, result_of}
 use Rattle.vx_frame.specs.Target.{Target, answer, kept, is_slotted, is_branch, holds_branch, stack_on, register_of, one, bytes, move_stack, result_words, reload_words, call_words, back_words, set_stack, halt_place, memory_words}
 use Rattle.vx_frame.specs.Tied.{Tied, Shows, Arrays, Waits, Below, Deep, IsResult, back_place, row_in, begins_at, is_place, moved as moved_number, holds, word_at}

@@ -21,7 +21,7 @@ use Rattle.vx_isa.specs.Machine.{State, To, TrapsBy, register, is_one, lead_of, 
 use Rattle.vx_mixed.specs.declared.layout.VirtualWord.{VirtualWord}
 use Rattle.vx_mixed.specs.declared.layout.VirtualWord.TheVariants.{Planned, Drain, Transfer, Choice, Call, Return, Ends}
 use Rattle.vx_mixed.specs.declared.layout.VWords.{VWords}
-use Rattle.vx_mixed.specs.Laid.{moves, word_hop, laid_hop, some_word_hop, laid_body, laid_program}
+use Rattle.vx_layout.specs.Laid.{moves, word_hop, laid_hop, some_word_hop, laid_body, laid_program}
 use Rattle.vx_mixed.specs.LaidSettled.{LeadsTo, bank_in}
 use Rattle.vx_regs.specs.Intervals.{IsLive, here, beyond, is_live, word_writes}
 use Rattle.vx_frame.specs.Target.{Target, answer, stack_on, kept, is_slotted, holds_branch, same_file, scratch, general_of, branch_of, register_of, slotted, before, follows, turns, one, waits, pause, word_words, memory_words}

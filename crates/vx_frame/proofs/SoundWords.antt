@@ -37,7 +37,7 @@ use Rattle.vx_mixed.specs.declared.layout.VirtualWord.{VirtualWord}
 use Rattle.vx_mixed.specs.declared.layout.VirtualWord.TheVariants.{Planned, Drain, Transfer, Choice, Call as Calls, Return as Returns, Ends}
 use Rattle.vx_mixed.specs.declared.layout.VWords.{VWords}
 use Rattle.vx_mixed.specs.LaidSettled.{laid_reads, laid_writes, LeadsTo, Plans}
-use Rattle.vx_mixed.specs.Origins.{ComesFrom, graph_op}
+use Rattle.vx_layout.specs.Origins.{ComesFrom, graph_op}
 use Rattle.vx_frame.specs.Target.{Target, answer, general, general_of, branch_of, register_of, stack_on, holds_branch, is_slotted, kept, slotted, once, parameters_of, one, together, pause, in_flight, settled, set_stack, slots_in_flight, load_slot, store_slot, load_slots, store_slots, if_some, before, behind, past, leads, carried, carried_items, plan_word, plan_words, landing_words, on_clusters, move_stack, save_words, reload_words, fetch_words, fetched, cluster_of_operand, argument_words, result_words, call_words, back_words, is_caller, answer_words, return_words, follows, way, link_words, entry_words, turns, idle_words, word_words, start_words, waits, bytes, first_frame, memory_words}
 use Rattle.vx_frame.specs.Placed.{Depth, Labelled, laid_pieces, landing_of, item_landings, word_landings, landing_pieces, function_pieces, functions_pieces, all_pieces, words_of}
 use Rattle.vx_frame.specs.Carried.{Carries, IsFunctionOf, IsMapped, item_of_laid}

@@ -23,7 +23,7 @@ use Rattle.vx_isa.specs.declared.program.Word.{Word}
 use Rattle.vx_isa.specs.declared.program.WordProgram.{WordProgram}
 use Rattle.vx_isa.specs.Machine.{State, register, start, step, memory_at_start}
 use Rattle.vx_mixed.specs.declared.layout.VWords.{VWords}
-use Rattle.vx_mixed.specs.Laid.{laid_hop, laid_body, laid_program, laid_run}
+use Rattle.vx_layout.specs.Laid.{laid_hop, laid_body, laid_program, laid_run}
 use Rattle.vx_frame.specs.Target.{Target, stack_on, one, answer, set_stack, start_words, first_frame, halt_place, bytes, parameters_of}
 use Rattle.vx_frame.specs.Tied.{Tied, Row, Arrays, Deep, row_in, begins_at, word_at, own_arrays}
 use Rattle.vx_frame.specs.Carried.{Carries, IsFunctionOf, words_before, first_or_zero}

@@ -13,8 +13,8 @@ use Rattle.vx_isa.proofs.Steady.{output_grows}
 use Rattle.vx_mixed.specs.declared.layout.VirtualWord.{VirtualWord}
 use Rattle.vx_mixed.specs.declared.layout.VirtualWord.TheVariants.{Planned, Drain, Transfer, Choice, Call, Return, Ends}
 use Rattle.vx_mixed.specs.declared.layout.VWords.{VWords}
-use Rattle.vx_mixed.specs.Laid.{laid_program, laid_hop, laid_body, some_word_hop}
-use Rattle.vx_mixed.proofs.LaidGrows.{laid_grows}
+use Rattle.vx_layout.specs.Laid.{laid_program, laid_hop, laid_body, some_word_hop}
+use Rattle.vx_layout.proofs.LaidGrows.{laid_grows}
 use Rattle.vx_frame.specs.Target.{Target}
 use Rattle.vx_frame.specs.Tied.{Tied, AtWord, AtEntry}
 use Rattle.vx_frame.specs.Carried.{Carries}

@@ -12,7 +12,7 @@ use Rattle.vx_isa.specs.Machine.{State, To, register, takes_input, print_of, lea
 use Rattle.vx_isa.proofs.FitsLaw.{fits_in_words}
 use Rattle.vx_mixed.specs.declared.layout.Laid.{Laid}
 use Rattle.vx_mixed.specs.declared.layout.Laid.TheVariants.{Split}
-use Rattle.vx_mixed.specs.Laid.{laid_effect}
+use Rattle.vx_layout.specs.Laid.{laid_effect}
 use Rattle.vx_mixed.specs.LaidSettled.{laid_reads, laid_writes}
 use Rattle.vx_regs.specs.declared.map.Kept.{Kept}
 use Rattle.vx_regs.specs.declared.map.Kept.TheVariants.{InRegister, InSlot, Nowhere}

@@ -21,10 +21,10 @@ use Rattle.vx_mixed.specs.declared.layout.Laid.{Laid}
 use Rattle.vx_mixed.specs.declared.layout.Laid.TheVariants.{Plain, Split}
 use Rattle.vx_mixed.specs.declared.layout.VirtualWord.TheVariants.{Call}
 use Rattle.vx_mixed.specs.declared.layout.VWords.{VWords}
-use Rattle.vx_mixed.specs.Brief.{IsBriefLayout}
-use Rattle.vx_mixed.specs.Laid.{laid_run}
+use Rattle.vx_layout.specs.Brief.{IsBriefLayout}
+use Rattle.vx_layout.specs.Laid.{laid_run}
 use Rattle.vx_mixed.specs.LaidSettled.{SettledLayout, home_in}
-use Rattle.vx_mixed.specs.Origins.{LaidFromGraph}
+use Rattle.vx_layout.specs.Origins.{LaidFromGraph}
 use Rattle.vx_mixed.specs.Settled.{NoTwice}
 use Rattle.vx_regs.specs.Intervals.{IsLive, IsBusy}
 use Rattle.vx_regs.specs.Mapped.{KeepsApart}

@@ -8,9 +8,9 @@ use Rattle.vx_isa.specs.Numbers.{Numbers}
 use Rattle.vx_isa.specs.Sound.{is_sound, is_start}
 use Rattle.vx_machine.specs.Items.{latency_of_op}
 use Rattle.vx_mixed.specs.declared.layout.VWords.{VWords}
-use Rattle.vx_mixed.specs.Brief.{IsBriefLayout}
+use Rattle.vx_layout.specs.Brief.{IsBriefLayout}
 use Rattle.vx_mixed.specs.LaidSettled.{SettledLayout, home_in}
-use Rattle.vx_mixed.specs.Origins.{LaidFromGraph}
+use Rattle.vx_layout.specs.Origins.{LaidFromGraph}
 use Rattle.vx_regs.specs.Intervals.{IsBusy}
 use Rattle.vx_regs.specs.Mapped.{KeepsApart}
 use Rattle.vx_regs.specs.declared.map.RegMap.{RegMap}

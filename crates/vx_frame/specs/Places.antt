@@ -4,7 +4,7 @@ use Rattle.vx_mixed.specs.declared.layout.Laid.{Laid}
 use Rattle.vx_mixed.specs.declared.layout.VirtualWord.TheVariants.{Planned}
 use Rattle.vx_mixed.specs.declared.layout.VWords.{VWords}
 use Rattle.vx_mixed.specs.LaidSettled.{laid_reads}
-use Rattle.vx_mixed.specs.Numbered.{words_in}
+use Rattle.vx_layout.specs.Numbered.{words_in}
 use Rattle.vx_frame.specs.declared.finishing.TracePlaces.{TracePlaces}
 use Rattle.vx_frame.specs.Target.{Target, before}
 

@@ -15,7 +15,7 @@ use Rattle.vx_mixed.specs.declared.layout.Laid.{Laid}
 use Rattle.vx_mixed.specs.declared.layout.VWords.{VWords}
 use Rattle.vx_mixed.specs.declared.layout.VirtualWord.{VirtualWord}
 use Rattle.vx_mixed.specs.declared.layout.VirtualWord.TheVariants.{Planned, Drain, Transfer, Choice, Call, Return, Ends}
-use Rattle.vx_mixed.specs.Laid.{laid_program, laid_run}
+use Rattle.vx_layout.specs.Laid.{laid_program, laid_run}
 use Rattle.vx_frame.specs.Target.{Target}
 use Rattle.vx_frame.specs.Tied.{Tied}
 use Rattle.vx_frame.specs.Carried.{Carries}

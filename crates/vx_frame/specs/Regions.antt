@@ -4,7 +4,7 @@ use Rattle.vx_flow.specs.Rows.{row_at}
 use Rattle.vx_flow.specs.Walk.{numbers}
 use Rattle.vx_mixed.specs.declared.layout.VirtualWord.{VirtualWord}
 use Rattle.vx_mixed.specs.declared.layout.VWords.{VWords}
-use Rattle.vx_mixed.specs.Numbered.{is_word_of}
+use Rattle.vx_layout.specs.Numbered.{is_word_of}
 use Rattle.vx_frame.specs.declared.finishing.TracePlaces.{TracePlaces}
 use Rattle.vx_frame.specs.declared.gathering.FunctionPlaces.{FunctionPlaces}
 use Rattle.vx_frame.specs.Seen.{no_places}

@@ -17,8 +17,8 @@ use Rattle.vx_isa.specs.declared.operation.Register.TheVariants.{General, Link}
 use Rattle.vx_isa.specs.Machine.{State, register}
 use Rattle.vx_mixed.specs.declared.layout.VirtualWord.TheVariants.{Call}
 use Rattle.vx_mixed.specs.declared.layout.VWords.{VWords}
-use Rattle.vx_mixed.specs.Laid.{laid_program}
-use Rattle.vx_mixed.specs.Origins.{whole}
+use Rattle.vx_layout.specs.Laid.{laid_program}
+use Rattle.vx_layout.specs.Origins.{whole}
 use Rattle.vx_regs.specs.Intervals.{IsLive}
 use Rattle.vx_frame.specs.Target.{Target, parameters_of, is_own, is_slotted, kept, holds_branch, register_of, stack_on, is_caller, halt_place, memory_words}
 

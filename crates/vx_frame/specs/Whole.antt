@@ -5,7 +5,7 @@ use Rattle.vx_flow.specs.declared.graph.Flow.{Flow}
 use Rattle.vx_flow.specs.Sound.{is_sound_flow}
 use Rattle.vx_isa.specs.declared.program.WordProgram.{WordProgram}
 use Rattle.vx_mixed.specs.declared.layout.VWords.{VWords}
-use Rattle.vx_mixed.specs.Laid.{laid_run}
+use Rattle.vx_layout.specs.Laid.{laid_run}
 use Rattle.vx_frame.specs.Target.{Target}
 use Rattle.vx_frame.specs.Carried.{Carries, DoesTheSame}
 use Rattle.vx_frame.specs.Planned.{WordsFit}

@@ -7,7 +7,6 @@ mod edging;
 mod exchanging;
 pub mod function;
 mod joining;
-pub mod laws;
 mod laying;
 pub mod layout;
 pub mod mixed;

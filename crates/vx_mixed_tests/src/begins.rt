@@ -2,7 +2,7 @@
 
 ghost use Rattle.std.specs.Prelude.{◌≡◌, true};
 ghost use Rattle.vx_flow.specs.Sound.{is_sound};
-ghost use Rattle.vx_mixed.specs.CountingExample.{counting_banks, counting_blocks};
+ghost use Rattle.vx_motion.specs.CountingExample.{counting_banks, counting_blocks};
 
 use crate::graphs::counting;
 use std::alloc::Global;
@@ -11,7 +11,7 @@ use vx_base::outcome::NoMemory;
 use vx_flow::graph::{Edge, Graph};
 use vx_mixed::Mixed;
 
-#[tactic(auto, using(vx_mixed::proofs::Counting::counting_begins))]
+#[tactic(auto, using(vx_motion::proofs::Counting::counting_begins))]
 fn begun(alloc: Global, graph: &Graph) -> Result<Mixed, NoMemory>
     requires sound { is_sound graph.now ≡ true }
     requires blocks { graph.now.blocks ≡ counting_blocks }

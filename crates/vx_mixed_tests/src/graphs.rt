@@ -4,9 +4,9 @@ ghost use Rattle.std.specs.Prelude.{◌≡◌, true, IfOk};
 ghost use Rattle.vx_flow.specs.declared.graph.Op.TheVariants.{Compute};
 ghost use Rattle.vx_flow.specs.declared.graph.Operand.TheVariants.{Held};
 ghost use Rattle.vx_flow.specs.Sound.{is_sound};
-ghost use Rattle.vx_mixed.specs.CountingExample.{counting_banks, counting_blocks};
+ghost use Rattle.vx_motion.specs.CountingExample.{counting_banks, counting_blocks};
 ghost use Rattle.vx_mixed.specs.FromGraph.{FromGraph};
-ghost use Rattle.vx_mixed.specs.TraceExample.{if_banks, if_blocks};
+ghost use Rattle.vx_motion.specs.TraceExample.{if_banks, if_blocks};
 
 use std::alloc::Global;
 use vx_base::arithmetic::{Code, Compare};
@@ -128,7 +128,7 @@ pub(crate) fn without_else(alloc: Global) -> Result<Graph, NoMemory>
 }
 
 /// What the `if` begins as.
-#[tactic(auto, using(vx_mixed::proofs::Traced::if_begins))]
+#[tactic(auto, using(vx_motion::proofs::Traced::if_begins))]
 pub(crate) fn if_begun(alloc: Global, graph: &Graph) -> Result<Mixed, NoMemory>
     requires sound { is_sound graph.now ≡ true }
     requires blocks { graph.now.blocks ≡ if_blocks }

@@ -5,9 +5,9 @@ ghost use Rattle.std.specs.Prelude.{◌≡◌, [], ◌∷◌, true, IfOk};
 ghost use Rattle.vx_flow.specs.Sound.{is_sound};
 ghost use Rattle.vx_mixed.specs.CanReplace.{CanReplace};
 ghost use Rattle.vx_mixed.specs.FromGraph.{FromGraph};
-ghost use Rattle.vx_mixed.specs.NextExample.{replacement};
-ghost use Rattle.vx_mixed.specs.ReplaceExample.{if_homes, IsWorked};
-ghost use Rattle.vx_mixed.specs.TraceExample.{if_banks, if_blocks};
+ghost use Rattle.vx_motion.specs.NextExample.{replacement};
+ghost use Rattle.vx_motion.specs.ReplaceExample.{if_homes, IsWorked};
+ghost use Rattle.vx_motion.specs.TraceExample.{if_banks, if_blocks};
 ghost use Rattle.vx_mixed.specs.TraceOf.{CanTrace, IsTraceOf};
 
 use crate::graphs::{if_begun, listed, without_else};
@@ -19,9 +19,9 @@ use vx_base::outcome::NoMemory;
 use vx_flow::graph::{Edge, Graph, Op, Operand};
 use vx_flow::trace::{Homes, Trace};
 use vx_mixed::Mixed;
-use vx_mixed::laws::an_if_is_replaced;
 use vx_mixed::region::Made;
 use vx_mixed::replacement::Replacement;
+use vx_motion::laws::an_if_is_replaced;
 
 fn homes(alloc: Global) -> Result<Homes, NoMemory>
     ensures { IfOk result (λ homes. homes.clusters ≡ if_homes) }

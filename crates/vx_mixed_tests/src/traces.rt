@@ -2,7 +2,7 @@
 
 ghost use Rattle.std.specs.Prelude.{◌≡◌, [], ◌∷◌, true, IfOk};
 ghost use Rattle.vx_flow.specs.Sound.{is_sound};
-ghost use Rattle.vx_mixed.specs.TraceExample.{if_banks, if_blocks};
+ghost use Rattle.vx_motion.specs.TraceExample.{if_banks, if_blocks};
 ghost use Rattle.vx_mixed.specs.TraceOf.{CanTrace};
 
 use crate::graphs::{if_begun, without_else};
@@ -13,7 +13,7 @@ use vx_flow::graph::{Edge, Graph, Op};
 use vx_flow::trace::{Trace, TraceOp};
 use vx_mixed::Mixed;
 
-#[tactic(auto, using(vx_mixed::proofs::Traced::if_traces))]
+#[tactic(auto, using(vx_motion::proofs::Traced::if_traces))]
 fn traced(alloc: Global, graph: &Graph) -> Result<Trace, NoMemory>
     requires sound { is_sound graph.now ≡ true }
     requires blocks { graph.now.blocks ≡ if_blocks }

@@ -8,10 +8,10 @@ use Rattle.vx_flow.specs.Effects.{State, Setting, Cell, IsIn}
 use Rattle.vx_mixed.specs.declared.region.Item.{Item}
 use Rattle.vx_mixed.specs.declared.region.Item.TheVariants.{Plain, Split}
 use Rattle.vx_mixed.specs.Live.{item_reads, item_writes}
-use Rattle.vx_mixed.specs.Items.{calm, item_takes, item_gives}
-use Rattle.vx_mixed.specs.Trace.{nth, order}
-use Rattle.vx_mixed.specs.Facts.{IsSplit, ops_of}
-use Rattle.vx_mixed.specs.Rows.{IsObservable, IsLoad, IsStore, Row, reads_last, writes_too, writes_read, store_access, load_store, observables, two_splits, split_held, below_join, split_live, Meets, NeverApart}
+use Rattle.vx_motion.specs.Items.{calm, item_takes, item_gives}
+use Rattle.vx_motion.specs.Trace.{nth, order}
+use Rattle.vx_motion.specs.Facts.{IsSplit, ops_of}
+use Rattle.vx_motion.specs.Rows.{IsObservable, IsLoad, IsStore, Row, reads_last, writes_too, writes_read, store_access, load_store, observables, two_splits, split_held, below_join, split_live, Meets, NeverApart}
 use Rattle.vx_mixed.specs.Way.{item_latency}
 use Rattle.vx_mixed.specs.TraceItems.{plain_items, items_of}
 

@@ -19,8 +19,8 @@ use Rattle.vx_mixed.specs.declared.region.Origin.{Origin}
 use Rattle.vx_mixed.specs.declared.mixed.MixedGraph.{MixedGraph}
 use Rattle.vx_mixed.specs.FromGraph.{FromGraph, binds, is_some_of, is_bound, OfGraph}
 use Rattle.vx_mixed.specs.Edges.{IsEdge, of_block, of_split, of_last}
-use Rattle.vx_mixed.specs.OriginLaws.{BeginsWithCode}
-use Rattle.vx_mixed.specs.Origins.{ComesFromGraph}
+use Rattle.vx_layout.specs.OriginLaws.{BeginsWithCode}
+use Rattle.vx_layout.specs.Origins.{ComesFromGraph}
 use Rattle.vx_mixed.specs.Settled.{has_home}
 use Rattle.vx_mixed.specs.Valid.{IsOp, block_op, region_op, names_of}
 use Rattle.vx_mixed.proofs.Begins.{op_below, no_region, begins_tidy, begins_settled, node_is, is_block}

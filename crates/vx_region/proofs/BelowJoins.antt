@@ -12,7 +12,7 @@ use Rattle.vx_mixed.specs.declared.mixed.MixedGraph.{MixedGraph}
 use Rattle.vx_mixed.specs.FromGraph.{same_edge}
 use Rattle.vx_mixed.specs.Settled.{NoTwice}
 use Rattle.vx_mixed.specs.TraceOf.{block_ops, trace_ops, joined, joins_behind, trace_joins}
-use Rattle.vx_mixed.specs.Compensation.{blocks_from}
+use Rattle.vx_motion.specs.Compensation.{blocks_from}
 
 -- what stands below a join is the trace of the blocks from its block on
 

@@ -25,8 +25,8 @@ use Rattle.vx_isa.specs.Numbers.{Numbers, IsMachine}
 use Rattle.vx_mixed.specs.declared.mixed.MixedGraph.{MixedGraph}
 use Rattle.vx_mixed.specs.CanReplace.{OnFirst, Stands, AwayFrom}
 use Rattle.vx_mixed.specs.FromGraph.{binds}
-use Rattle.vx_mixed.specs.Origins.{whole, whole_operand, whole_op, ComesFrom, graph_op, copy}
-use Rattle.vx_mixed.specs.Origins.{copy_of as copy_to}
+use Rattle.vx_layout.specs.Origins.{whole, whole_operand, whole_op, ComesFrom, graph_op, copy}
+use Rattle.vx_layout.specs.Origins.{copy_of as copy_to}
 use Rattle.vx_mixed.specs.Settled.{has_home, home_of as home_in, bank_of, stands_for, StandsOn, read_there}
 use Rattle.vx_mixed.specs.TraceOf.{CanTrace, IsTraceOf}
 use Rattle.vx_mixed.specs.Valid.{Valid, IsOp, names_of}

@@ -5,10 +5,10 @@ use Rattle.vx_flow.specs.Meaning.{Hop, Arrives, Calls, Leaves, Stops, Wrong}
 use Rattle.vx_mixed.specs.declared.region.Item.{Item}
 use Rattle.vx_mixed.specs.declared.mixed.MixedGraph.{MixedGraph}
 use Rattle.vx_mixed.specs.Agree.{Agree}
-use Rattle.vx_mixed.specs.Compensation.{items}
+use Rattle.vx_motion.specs.Compensation.{items}
 use Rattle.vx_mixed.specs.TraceItems.{plain_items}
 use Rattle.vx_mixed.specs.Meaning.{is_same}
-use Rattle.vx_mixed.proofs.Hops.{alike_trans}
+use Rattle.vx_motion.proofs.Hops.{alike_trans}
 use Rattle.vx_mixed.proofs.Linked.{index_in}
 use Rattle.vx_region.specs.Motion.{LeavesAlike, in_order, Wanted, KeepsOrder, OrderLaw, SplitsLaw, JoinsLaw, ComposedLaw}
 

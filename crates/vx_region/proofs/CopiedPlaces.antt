@@ -8,11 +8,11 @@ use Rattle.vx_flow.specs.declared.trace.TraceOp.{TraceOp}
 use Rattle.vx_flow.specs.declared.trace.TraceOp.TheVariants.{Plain as TracePlain, Split as TraceSplit}
 use Rattle.vx_flow.specs.Walk.{numbers}
 use Rattle.vx_mixed.specs.declared.region.Item.{Item}
-use Rattle.vx_mixed.specs.Trace.{nth}
-use Rattle.vx_mixed.specs.Facts.{ops_of, copies}
+use Rattle.vx_motion.specs.Trace.{nth}
+use Rattle.vx_motion.specs.Facts.{ops_of, copies}
 use Rattle.vx_mixed.specs.Next.{freed}
 use Rattle.vx_mixed.specs.TraceItems.{plain_item, plain_items}
-use Rattle.vx_mixed.proofs.PlacedWords.{marks}
+use Rattle.vx_motion.proofs.PlacedWords.{marks}
 use Rattle.vx_dep.specs.declared.copies.EdgeCopies.{EdgeCopies}
 use Rattle.vx_dep.specs.Compensation.{word_at, splits_from}
 use Rattle.vx_region.specs.Planned.{op_of, dismissed_if}

@@ -6,10 +6,10 @@ use Rattle.vx_flow.specs.declared.trace.TraceOp.TheVariants.{Plain as TracePlain
 use Rattle.vx_isa.specs.Numbers.{Numbers}
 use Rattle.vx_machine.specs.Items.{latency_of_op}
 use Rattle.vx_mixed.specs.declared.region.Item.TheVariants.{Split}
-use Rattle.vx_mixed.specs.Trace.{nth}
+use Rattle.vx_motion.specs.Trace.{nth}
 use Rattle.vx_mixed.specs.Way.{item_latency}
 use Rattle.vx_mixed.specs.TraceItems.{plain_item}
-use Rattle.vx_mixed.proofs.PlacedWords.{marks}
+use Rattle.vx_motion.proofs.PlacedWords.{marks}
 use Rattle.vx_dep.specs.declared.copies.EdgeCopies.{EdgeCopies}
 use Rattle.vx_dep.specs.Delays.{latency_of}
 use Rattle.vx_dep.specs.Compensation.{splits_from}

@@ -24,40 +24,40 @@ use Rattle.vx_mixed.specs.declared.mixed.MixedGraph.{MixedGraph}
 use Rattle.vx_mixed.specs.declared.replacement.Replacement.{Replacement}
 use Rattle.vx_mixed.specs.Agree.{Apart, Agree, Alike, SameShape}
 use Rattle.vx_mixed.specs.Alive.{AfterItem, AtEnd, Alive}
-use Rattle.vx_mixed.specs.Trace.{AfterOf, nth, order}
-use Rattle.vx_mixed.specs.Compensation.{items, word, mark, live_of, is_join_place, IsRejoin, exit_of, Compensated}
+use Rattle.vx_motion.specs.Trace.{AfterOf, nth, order}
+use Rattle.vx_motion.specs.Compensation.{items, word, mark, live_of, is_join_place, IsRejoin, exit_of, Compensated}
 use Rattle.vx_mixed.specs.Next.{on_edge, made_on, in_word, placed, last_of, exit_in, renamed_exit, new_region, new_end, is_split_edge}
 use Rattle.vx_mixed.specs.Edges.{IsEdge, of_block}
 use Rattle.vx_mixed.specs.Entrances.{edge_of_made}
-use Rattle.vx_mixed.specs.Facts.{RowFacts, IsSplit, places, row, words_from, ops_of, copies}
-use Rattle.vx_mixed.specs.Items.{Fine, Reads, Writes}
+use Rattle.vx_motion.specs.Facts.{RowFacts, IsSplit, places, row, words_from, ops_of, copies}
+use Rattle.vx_motion.specs.Items.{Fine, Reads, Writes}
 use Rattle.vx_mixed.specs.Live.{Live, item_reads, item_writes}
 use Rattle.vx_mixed.specs.Meaning.{is_same, leaves_on, early_words, timed_from_start}
 use Rattle.vx_mixed.specs.Path.{trace_hop}
-use Rattle.vx_mixed.specs.Replaced.{CellFacts}
-use Rattle.vx_mixed.specs.Rows.{Row, reads_last, writes_too, writes_read, store_access, load_store, observables, two_splits, split_held, below_join, split_live, Meets, Placed}
+use Rattle.vx_motion.specs.Replaced.{CellFacts}
+use Rattle.vx_motion.specs.Rows.{Row, reads_last, writes_too, writes_read, store_access, load_store, observables, two_splits, split_held, below_join, split_live, Meets, Placed}
 use Rattle.vx_mixed.specs.Settled.{InTime}
 use Rattle.vx_mixed.specs.Valid.{Valid}
 use Rattle.vx_mixed.specs.Way.{item_latency, Renamed, goto, branch, call, return, stop}
-use Rattle.vx_mixed.proofs.AliveAt.{alive_read, alive_edge, alive_end}
-use Rattle.vx_mixed.proofs.AtTimes.{form, at_time}
-use Rattle.vx_mixed.proofs.Blocks.{how_it_ends}
-use Rattle.vx_mixed.proofs.Delays.{nth_past, takes_no_value, gives_no_value, gives_firm}
-use Rattle.vx_mixed.proofs.Exits.{X, Y, by_join, leaves_by, by_edge, at_edge, by_join_, runs_out, at_end}
+use Rattle.vx_motion.proofs.AliveAt.{alive_read, alive_edge, alive_end}
+use Rattle.vx_motion.proofs.AtTimes.{form, at_time}
+use Rattle.vx_motion.proofs.Blocks.{how_it_ends}
+use Rattle.vx_motion.proofs.Delays.{nth_past, takes_no_value, gives_no_value, gives_firm}
+use Rattle.vx_motion.proofs.Exits.{X, Y, by_join, leaves_by, by_edge, at_edge, by_join_, runs_out, at_end}
 use Rattle.vx_mixed.proofs.LeaveAlike.{leave_alike}
-use Rattle.vx_mixed.proofs.Joins.{nth_drop, below}
+use Rattle.vx_motion.proofs.Joins.{nth_drop, below}
 use Rattle.vx_mixed.proofs.Linked.{Linkable, some_same, index_in, in_plain, can, off_trace, joins, unused, to_below, made_at, at_end as end_of}
 use Rattle.vx_mixed.proofs.NewNodes.{made_none, made_some, edge_old}
-use Rattle.vx_mixed.proofs.Passing.{LeavesBy, LeavesAt, RunsOut}
-use Rattle.vx_mixed.proofs.PlacedWords.{length_items, row_is, words_are, numbers_many, marked_at, freed_at, split_at, split_placed}
-use Rattle.vx_mixed.proofs.Rows.{cell_facts, row_facts}
+use Rattle.vx_motion.proofs.Passing.{LeavesBy, LeavesAt, RunsOut}
+use Rattle.vx_motion.proofs.PlacedWords.{length_items, row_is, words_are, numbers_many, marked_at, freed_at, split_at, split_placed}
+use Rattle.vx_motion.proofs.Rows.{cell_facts, row_facts}
 use Rattle.vx_mixed.proofs.Shape.{shape_trans}
-use Rattle.vx_mixed.proofs.OrderShape.{shape_sym, order_shape, words_shape}
-use Rattle.vx_mixed.proofs.States.{shape_of_world, fine_of_agree, agree_of_fine}
+use Rattle.vx_motion.proofs.OrderShape.{shape_sym, order_shape, words_shape}
+use Rattle.vx_motion.proofs.States.{shape_of_world, fine_of_agree, agree_of_fine}
 use Rattle.vx_mixed.proofs.Timed.{timed_is_early}
-use Rattle.vx_mixed.proofs.Timetable.{laid}
+use Rattle.vx_motion.proofs.Timetable.{laid}
 use Rattle.vx_mixed.proofs.TraceFacts.{is_split, last_among}
-use Rattle.vx_mixed.proofs.Waits.{settled}
+use Rattle.vx_motion.proofs.Waits.{settled}
 use Rattle.vx_region.specs.Motion.{after_ops, along, with_copies}
 
 -- lists

@@ -11,7 +11,7 @@ use Rattle.vx_mixed.specs.declared.region.Item.{Item}
 use Rattle.vx_mixed.specs.declared.mixed.MixedGraph.{MixedGraph}
 use Rattle.vx_mixed.specs.declared.replacement.Replacement.{Replacement}
 use Rattle.vx_mixed.specs.Agree.{Agree, Alike}
-use Rattle.vx_mixed.specs.Compensation.{items}
+use Rattle.vx_motion.specs.Compensation.{items}
 use Rattle.vx_mixed.specs.TraceItems.{items_of, plain_items}
 use Rattle.vx_mixed.specs.Next.{on_edge, last_of, exit_in}
 use Rattle.vx_mixed.specs.Meaning.{is_same}

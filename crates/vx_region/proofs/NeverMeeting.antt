@@ -11,12 +11,12 @@ use Rattle.vx_isa.specs.Numbers.{Numbers}
 use Rattle.vx_linear.specs.InOrder.{in_order, state_before, Touches}
 use Rattle.vx_linear.proofs.Apart.{never_law}
 use Rattle.vx_mixed.specs.Agree.{Apart}
-use Rattle.vx_mixed.specs.Items.{item_takes, item_gives, calm}
-use Rattle.vx_mixed.specs.Trace.{nth, order}
-use Rattle.vx_mixed.specs.Rows.{NeverApart}
-use Rattle.vx_mixed.specs.Compensation.{is_join_place}
+use Rattle.vx_motion.specs.Items.{item_takes, item_gives, calm}
+use Rattle.vx_motion.specs.Trace.{nth, order}
+use Rattle.vx_motion.specs.Rows.{NeverApart}
+use Rattle.vx_motion.specs.Compensation.{is_join_place}
 use Rattle.vx_mixed.specs.TraceItems.{plain_item, plain_items}
-use Rattle.vx_mixed.proofs.OrderShape.{inert_reads, inert_writes}
+use Rattle.vx_motion.proofs.OrderShape.{inert_reads, inert_writes}
 use Rattle.vx_dep.specs.declared.mode.Mode.{Mode}
 use Rattle.vx_dep.specs.Delays.{is_load, is_store, Applies, NeverMeet, access_behind_store, store_behind_load}
 use Rattle.vx_dep.specs.Compensation.{word_at}

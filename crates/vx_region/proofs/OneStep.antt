@@ -18,19 +18,19 @@ use Rattle.vx_mixed.specs.declared.region.Origin.{Origin}
 use Rattle.vx_mixed.specs.declared.region.Region.{Region}
 use Rattle.vx_mixed.specs.declared.mixed.MixedGraph.{MixedGraph}
 use Rattle.vx_mixed.specs.declared.replacement.Replacement.{Replacement}
-use Rattle.vx_mixed.specs.Brief.{BriefStays, DrainsBriefly, most_drain}
+use Rattle.vx_layout.specs.Brief.{BriefStays, DrainsBriefly, most_drain}
 use Rattle.vx_mixed.specs.CanReplace.{IsNamed, in_trace, in_made, CanReplace}
-use Rattle.vx_mixed.specs.Compensation.{Compensated}
-use Rattle.vx_mixed.specs.Context.{Becomes, Changes}
+use Rattle.vx_motion.specs.Compensation.{Compensated}
+use Rattle.vx_motion.specs.Context.{Becomes, Changes}
 use Rattle.vx_mixed.specs.Entrances.{meet_old, meet_new, pairs}
 use Rattle.vx_mixed.specs.Next.{new_end, new_region, renamed_region, made_origin, last_of, exit_in, next_mixed, rename}
-use Rattle.vx_mixed.specs.OriginLaws.{CodeStays}
-use Rattle.vx_mixed.specs.Origins.{whole_op, ComesFrom, graph_op, copy}
-use Rattle.vx_mixed.specs.Scheduled.{Keeps}
+use Rattle.vx_layout.specs.OriginLaws.{CodeStays}
+use Rattle.vx_layout.specs.Origins.{whole_op, ComesFrom, graph_op, copy}
+use Rattle.vx_motion.specs.Scheduled.{Keeps}
 use Rattle.vx_mixed.specs.Settled.{InTime, Tidy, has_home}
 use Rattle.vx_mixed.specs.TraceOf.{CanTrace, IsTraceOf}
 use Rattle.vx_mixed.specs.Valid.{Valid, IsOp, block_op, region_op}
-use Rattle.vx_mixed.proofs.Compensated.{compensation_law}
+use Rattle.vx_motion.proofs.Compensated.{compensation_law}
 use Rattle.vx_mixed.proofs.Linked.{index_in, some_blocks}
 use Rattle.vx_mixed.proofs.NewBlocks.{OldBlock, MadeBlock, new_block}
 use Rattle.vx_mixed.proofs.NewNodes.{origin_old, origin_made, of_regions}

@@ -7,11 +7,11 @@ use Rattle.vx_flow.specs.Effects.{IsIn}
 use Rattle.vx_isa.specs.Numbers.{Numbers}
 use Rattle.vx_machine.specs.Items.{latency_of_op}
 use Rattle.vx_mixed.specs.Live.{item_reads, item_writes}
-use Rattle.vx_mixed.specs.Trace.{nth, inert}
-use Rattle.vx_mixed.specs.Facts.{IsSplit}
-use Rattle.vx_mixed.specs.Rows.{IsObservable, IsLoad, IsStore}
+use Rattle.vx_motion.specs.Trace.{nth, inert}
+use Rattle.vx_motion.specs.Facts.{IsSplit}
+use Rattle.vx_motion.specs.Rows.{IsObservable, IsLoad, IsStore}
 use Rattle.vx_mixed.specs.Way.{item_latency}
-use Rattle.vx_mixed.specs.Compensation.{live_of}
+use Rattle.vx_motion.specs.Compensation.{live_of}
 use Rattle.vx_mixed.specs.TraceItems.{plain_item, plain_items}
 use Rattle.vx_dep.specs.Delays.{reads_of, writes_of, is_load, is_store, is_observable, leaves, latency_of, live_off}
 

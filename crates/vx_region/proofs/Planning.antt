@@ -23,19 +23,19 @@ use Rattle.vx_machine.specs.Items.{latency_of_op}
 use Rattle.vx_mixed.specs.declared.region.Item.TheVariants.{Split}
 use Rattle.vx_mixed.specs.declared.region.Made.{Made}
 use Rattle.vx_mixed.specs.declared.mixed.MixedGraph.{MixedGraph}
-use Rattle.vx_mixed.specs.Trace.{nth}
-use Rattle.vx_mixed.specs.Facts.{ops_of, copies}
+use Rattle.vx_motion.specs.Trace.{nth}
+use Rattle.vx_motion.specs.Facts.{ops_of, copies}
 use Rattle.vx_mixed.specs.Way.{item_latency, Clustered}
-use Rattle.vx_mixed.specs.Rows.{Meets, NeverApart}
+use Rattle.vx_motion.specs.Rows.{Meets, NeverApart}
 use Rattle.vx_mixed.specs.Settled.{NoTwice}
 use Rattle.vx_mixed.specs.TraceOf.{CanTrace, IsTraceOf, block_at, block_or_none, block_ops, trace_ops, trace_joins, inner_edges}
 use Rattle.vx_mixed.specs.declared.replacement.Replacement.{Replacement}
 use Rattle.vx_mixed.specs.Next.{in_word, placed, new_end, new_region, last_of, exit_in, is_split_edge, on_edge}
 use Rattle.vx_mixed.specs.Valid.{Valid, PartsWays}
-use Rattle.vx_mixed.specs.Compensation.{items, word, mark, live_of, is_join_place, blocks_from, IsRejoin, exit_of, Compensated}
+use Rattle.vx_motion.specs.Compensation.{items, word, mark, live_of, is_join_place, blocks_from, IsRejoin, exit_of, Compensated}
 use Rattle.vx_mixed.specs.TraceItems.{plain_item, plain_items, splits_of}
 use Rattle.vx_mixed.proofs.PathOf.{from_inside}
-use Rattle.vx_mixed.proofs.PlacedWords.{numbers_many, split_at}
+use Rattle.vx_motion.proofs.PlacedWords.{numbers_many, split_at}
 use Rattle.vx_mixed.proofs.NewNodes.{map_get}
 use Rattle.vx_mixed.proofs.TraceFacts.{is_split, joins_once}
 use Rattle.vx_mixed.proofs.Linked.{Linkable, some_same, same_image, index_in, in_index, edge_block, joins}

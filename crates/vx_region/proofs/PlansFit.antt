@@ -25,10 +25,10 @@ use Rattle.vx_mixed.specs.declared.region.Made.{Made}
 use Rattle.vx_mixed.specs.declared.mixed.MixedGraph.{MixedGraph}
 use Rattle.vx_mixed.specs.declared.replacement.Replacement.{Replacement}
 use Rattle.vx_mixed.specs.CanReplace.{IsFormed, NamesFit, ListsFit, WordsFit, Stands, MadeStands, IsNamed, in_trace, in_made, AwayFrom, CanReplace}
-use Rattle.vx_mixed.specs.Compensation.{Compensated}
+use Rattle.vx_motion.specs.Compensation.{Compensated}
 use Rattle.vx_mixed.specs.TraceItems.{splits_of}
 use Rattle.vx_mixed.specs.Next.{placed, new_end, new_region, next_mixed, last_of, exit_in}
-use Rattle.vx_mixed.specs.Scheduled.{WordsStand}
+use Rattle.vx_motion.specs.Scheduled.{WordsStand}
 use Rattle.vx_mixed.specs.Settled.{has_home, bank_of, OnClusters}
 use Rattle.vx_mixed.specs.TraceOf.{CanTrace, IsTraceOf, block_at, block_or_none}
 use Rattle.vx_mixed.specs.Valid.{Valid, names_of, TestsBranch}

@@ -13,7 +13,7 @@ use Rattle.vx_machine.specs.Items.{is_observable_item, is_split, general_reads, 
 use Rattle.vx_machine.specs.Room.{source_by, read_clusters, is_at, count_at, needs, writes_at, count_in, stands_well, is_cluster, has_room}
 use Rattle.vx_mixed.specs.declared.region.Item.{Item}
 use Rattle.vx_mixed.specs.declared.region.Item.TheVariants.{Plain, Split}
-use Rattle.vx_mixed.specs.Scheduled.{IsRoom}
+use Rattle.vx_motion.specs.Scheduled.{IsRoom}
 use Rattle.vx_mixed.specs.Settled.{has_home}
 use Rattle.vx_mixed.specs.Next.{rename}
 use Rattle.vx_region.specs.Regions.{item_in, room_in}

@@ -14,7 +14,7 @@ use Rattle.vx_flow.specs.Effects.{IsIn}
 use Rattle.vx_isa.specs.Numbers.{Numbers, is_between, is_machine}
 use Rattle.vx_isa.specs.Operations.{latency_of_code}
 use Rattle.vx_machine.specs.Items.{latency_of_op}
-use Rattle.vx_mixed.specs.Brief.{most_drain}
+use Rattle.vx_layout.specs.Brief.{most_drain}
 use Rattle.vx_dep.specs.Delays.{latency_of}
 use Rattle.vx_dep.specs.Compensation.{greatest, left_at, all_left_at, drain_at}
 

@@ -16,7 +16,7 @@ use Rattle.vx_flow.specs.declared.trace.TraceOp.TheVariants.{Plain}
 use Rattle.vx_flow.specs.Effects.{IsIn, dismissed, is_unary, value_in, reads, writes}
 use Rattle.vx_flow.specs.Sound.{bank_written, operands_of, tests_of, arrays_of, HasOperation, Sound}
 use Rattle.vx_flow.proofs.Members.{in_either}
-use Rattle.vx_mixed.specs.Origins.{whole, whole_operand, whole_op, copy_of, ComesFrom, graph_op, copy}
+use Rattle.vx_layout.specs.Origins.{whole, whole_operand, whole_op, copy_of, ComesFrom, graph_op, copy}
 use Rattle.vx_bug.specs.Clusters.{general_reads}
 
 -- what does not depend on dismissals nor on values

@@ -9,15 +9,15 @@ use Rattle.vx_machine.specs.Items.{latency_of_op}
 use Rattle.vx_mixed.specs.declared.mixed.MixedGraph.{MixedGraph}
 use Rattle.vx_mixed.specs.declared.replacement.Replacement.{Replacement}
 use Rattle.vx_mixed.specs.CanReplace.{CanReplace}
-use Rattle.vx_mixed.specs.Context.{Becomes, Stays, Goes}
+use Rattle.vx_motion.specs.Context.{Becomes, Stays, Goes}
 use Rattle.vx_mixed.specs.Layout.{IsDone}
 use Rattle.vx_mixed.specs.Next.{made_node, nodes_from, next_mixed}
-use Rattle.vx_mixed.specs.Scheduled.{Keeps}
+use Rattle.vx_motion.specs.Scheduled.{Keeps}
 use Rattle.vx_mixed.specs.TraceOf.{CanTrace, IsTraceOf, EndsWithCall, block_or_none}
 use Rattle.vx_mixed.specs.Valid.{Valid}
-use Rattle.vx_mixed.proofs.CodeStays.{code_stays}
+use Rattle.vx_layout.proofs.CodeStays.{code_stays}
 use Rattle.vx_mixed.proofs.NewNodes.{nodes_length}
-use Rattle.vx_mixed.proofs.StayBrief.{brief_stays}
+use Rattle.vx_layout.proofs.StayBrief.{brief_stays}
 use Rattle.vx_mixed.proofs.StaysValid.{stays_valid}
 use Rattle.vx_bug.specs.declared.clusters.Clusters.{Clusters}
 use Rattle.vx_bug.specs.Assigned.{Assigned}

@@ -11,11 +11,11 @@ use Rattle.vx_isa.specs.Numbers.{Numbers}
 use Rattle.vx_machine.specs.Items.{latency_of_op}
 use Rattle.vx_mixed.specs.declared.region.Item.{Item}
 use Rattle.vx_mixed.specs.Live.{item_reads, item_writes}
-use Rattle.vx_mixed.specs.Trace.{nth}
-use Rattle.vx_mixed.specs.Facts.{IsSplit}
-use Rattle.vx_mixed.specs.Rows.{IsObservable, IsLoad, IsStore, Row, reads_last, writes_too, writes_read, store_access, load_store, observables, two_splits, split_held, below_join, split_live, Meets}
+use Rattle.vx_motion.specs.Trace.{nth}
+use Rattle.vx_motion.specs.Facts.{IsSplit}
+use Rattle.vx_motion.specs.Rows.{IsObservable, IsLoad, IsStore, Row, reads_last, writes_too, writes_read, store_access, load_store, observables, two_splits, split_held, below_join, split_live, Meets}
 use Rattle.vx_mixed.specs.Way.{item_latency}
-use Rattle.vx_mixed.specs.Compensation.{live_of, is_join_place}
+use Rattle.vx_motion.specs.Compensation.{live_of, is_join_place}
 use Rattle.vx_mixed.specs.TraceItems.{plain_item, plain_items}
 use Rattle.vx_dep.specs.declared.mode.Mode.{Mode}
 use Rattle.vx_dep.specs.Delays.{writes_of, is_load, is_store, is_observable, leaves, latency_of, JoinBetween, Applies, Row as DelayRow, reads_written, writes_written, writes_read as writes_what_is_read, both_observable, both_splits, seen_behind_split, live_behind_split, seen_behind_join}

@@ -8,7 +8,7 @@ use Rattle.vx_flow.specs.Effects.{IsIn}
 use Rattle.vx_flow.specs.Walk.{edge}
 use Rattle.vx_mixed.specs.Valid.{PartsWays, IsGraphEdge}
 use Rattle.vx_mixed.proofs.BlockEdges.{to_edges, successor_is}
-use Rattle.vx_mixed.proofs.Counting.{no_critical}
+use Rattle.vx_motion.proofs.Counting.{no_critical}
 use Rattle.vx_region.specs.TwoBlocks.{two_blocks, TwoBegin}
 
 abbrev two_edges : List Edge

@@ -7,9 +7,9 @@ use Rattle.vx_flow.specs.Effects.{Setting, IsIn}
 use Rattle.vx_isa.specs.Numbers.{Numbers}
 use Rattle.vx_machine.specs.Items.{latency_of_op}
 use Rattle.vx_mixed.specs.Agree.{Apart}
-use Rattle.vx_mixed.specs.Rows.{Meets, NeverApart}
+use Rattle.vx_motion.specs.Rows.{Meets, NeverApart}
 use Rattle.vx_mixed.specs.Way.{item_latency}
-use Rattle.vx_mixed.specs.Compensation.{live_of, is_join_place}
+use Rattle.vx_motion.specs.Compensation.{live_of, is_join_place}
 use Rattle.vx_mixed.specs.TraceItems.{plain_items}
 use Rattle.vx_dep.specs.declared.mode.Mode.{Mode}
 use Rattle.vx_dep.specs.Delays.{Applies, AreHeights}

@@ -16,7 +16,7 @@ use Rattle.vx_mixed.specs.declared.mixed.MixedGraph.{MixedGraph}
 use Rattle.vx_mixed.specs.declared.replacement.Replacement.{Replacement}
 use Rattle.vx_mixed.specs.Agree.{Apart, Agree, Alike}
 use Rattle.vx_mixed.specs.Alive.{Alive, AtEnd}
-use Rattle.vx_mixed.specs.Compensation.{items}
+use Rattle.vx_motion.specs.Compensation.{items}
 use Rattle.vx_mixed.specs.TraceItems.{plain_items}
 use Rattle.vx_mixed.specs.Next.{on_edge, last_of, exit_in, new_region}
 use Rattle.vx_mixed.specs.Entrances.{edge_of_made}

@@ -4,9 +4,9 @@ use Rattle.vx_flow.specs.declared.graph.Graph.{Graph}
 use Rattle.vx_isa.specs.Numbers.{Numbers}
 use Rattle.vx_machine.specs.Items.{latency_of_op}
 use Rattle.vx_mixed.specs.declared.mixed.MixedGraph.{MixedGraph}
-use Rattle.vx_mixed.specs.Compensation.{Compensated}
+use Rattle.vx_motion.specs.Compensation.{Compensated}
 use Rattle.vx_mixed.specs.declared.replacement.Replacement.{Replacement}
-use Rattle.vx_mixed.specs.Scheduled.{Keeps}
+use Rattle.vx_motion.specs.Scheduled.{Keeps}
 use Rattle.vx_mixed.specs.TraceOf.{CanTrace}
 use Rattle.vx_mixed.specs.Valid.{Valid}
 use Rattle.vx_dep.specs.declared.mode.Mode.{Mode}

@@ -20,14 +20,14 @@ use Rattle.vx_mixed.specs.declared.region.Item.TheVariants.{Plain, Split}
 use Rattle.vx_mixed.specs.declared.region.Node.TheVariants.{Unused}
 use Rattle.vx_mixed.specs.declared.region.Origin.{Origin}
 use Rattle.vx_mixed.specs.declared.replacement.Replacement.{Replacement}
-use Rattle.vx_mixed.specs.Brief.{IsBrief}
+use Rattle.vx_layout.specs.Brief.{IsBrief}
 use Rattle.vx_mixed.specs.CanReplace.{CanReplace}
-use Rattle.vx_mixed.specs.Context.{Becomes, Steps}
+use Rattle.vx_motion.specs.Context.{Becomes, Steps}
 use Rattle.vx_mixed.specs.FromGraph.{FromGraph, binds}
 use Rattle.vx_mixed.specs.Layout.{IsDone}
 use Rattle.vx_mixed.specs.Next.{next_mixed}
-use Rattle.vx_mixed.specs.Origins.{ComesFromGraph}
-use Rattle.vx_mixed.specs.Scheduled.{Keeps, WordsStand}
+use Rattle.vx_layout.specs.Origins.{ComesFromGraph}
+use Rattle.vx_motion.specs.Scheduled.{Keeps, WordsStand}
 use Rattle.vx_mixed.specs.Settled.{Settled, Tidy, has_home}
 use Rattle.vx_mixed.specs.TraceOf.{CanTrace, IsTraceOf}
 use Rattle.vx_mixed.specs.Valid.{Valid, IsOp, names_of}

@@ -13,7 +13,7 @@ use Rattle.vx_mixed.specs.Edges.{edges_from}
 use Rattle.vx_mixed.specs.Valid.{PartsWays, IsGraphEdge, CanBegin}
 use Rattle.vx_mixed.proofs.Begins.{all_in}
 use Rattle.vx_mixed.proofs.BlockEdges.{to_edges, successor_is}
-use Rattle.vx_mixed.proofs.Counting.{no_critical}
+use Rattle.vx_motion.proofs.Counting.{no_critical}
 use Rattle.vx_trace_tests.specs.Beginning.{are_alone, can_begin, enters_none, may_begin, part_ways, parts_ways}
 
 differ : (c d : ℕ) → not (c == d) ≡ true → c ≢ d

@@ -1,4 +1,4 @@
-use Rattle.vx_mixed.proofs.Traced.{if_traces}
+use Rattle.vx_motion.proofs.Traced.{if_traces}
 use Rattle.vx_mixed_tests.proofs.replacing.replace_in.Goals as goal
 
 pub replacement_of-requires : goal.replacement_of-requires

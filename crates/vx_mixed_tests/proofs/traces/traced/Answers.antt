@@ -1,4 +1,4 @@
-use Rattle.vx_mixed.proofs.Traced.{if_traces}
+use Rattle.vx_motion.proofs.Traced.{if_traces}
 use Rattle.vx_mixed_tests.proofs.traces.traced.Goals as goal
 
 pub trace-requires : goal.trace-requires

@@ -1,4 +1,4 @@
-use Rattle.vx_mixed.proofs.CodeBegins.{begins_with_code}
+use Rattle.vx_layout.proofs.CodeBegins.{begins_with_code}
 use Rattle.vx_region.proofs.BeginsOn.{begins_on}
 use Rattle.vx_region.proofs.laws.graphs_begin_so.Goals as goal
 

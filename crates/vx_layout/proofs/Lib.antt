@@ -1,0 +1,11 @@
+pub mod LaidHops
+pub mod LaidGrows
+pub mod LaidRuns
+pub mod LayoutKinds
+pub mod Numbered
+pub mod LaidSources
+pub mod LaidLeft
+pub mod LaidSettles
+pub mod CodeBegins
+pub mod CodeStays
+pub mod StayBrief

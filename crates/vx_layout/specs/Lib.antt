@@ -1,0 +1,6 @@
+pub mod Laid
+pub mod Numbered
+pub mod Origins
+pub mod LayoutLaws
+pub mod Brief
+pub mod OriginLaws

@@ -1,5 +1,0 @@
-use Rattle.vx_mixed.proofs.IfReplaced.{if_is_replaced}
-use Rattle.vx_mixed.proofs.laws.an_if_is_replaced.Goals as goal
-
-pub returns : goal.returns
-returns c = if_is_replaced

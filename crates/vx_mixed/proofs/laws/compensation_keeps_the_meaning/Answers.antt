@@ -1,5 +1,0 @@
-use Rattle.vx_mixed.proofs.laws.compensation_keeps_the_meaning.Goals as goal
-use Rattle.vx_mixed.proofs.Compensated.{compensation_law}
-
-pub returns : goal.returns
-returns c = compensation_law

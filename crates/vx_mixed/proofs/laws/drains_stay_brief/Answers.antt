@@ -1,5 +1,0 @@
-use Rattle.vx_mixed.proofs.laws.drains_stay_brief.Goals as goal
-use Rattle.vx_mixed.proofs.StayBrief.{brief_stays, layout_is_brief}
-
-pub returns : goal.returns
-returns c = record { stays = brief_stays; layout = layout_is_brief }

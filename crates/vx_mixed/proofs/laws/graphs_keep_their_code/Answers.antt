@@ -1,6 +1,0 @@
-use Rattle.vx_mixed.proofs.laws.graphs_keep_their_code.Goals as goal
-use Rattle.vx_mixed.proofs.CodeBegins.{begins_with_code}
-use Rattle.vx_mixed.proofs.CodeStays.{code_stays}
-
-pub returns : goal.returns
-returns c = record { begins = begins_with_code; stays = code_stays }

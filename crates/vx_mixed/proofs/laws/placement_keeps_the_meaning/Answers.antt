@@ -1,5 +1,0 @@
-use Rattle.vx_mixed.proofs.laws.placement_keeps_the_meaning.Goals as goal
-use Rattle.vx_mixed.proofs.Scheduled.{motion_law}
-
-pub returns : goal.returns
-returns c = motion_law
