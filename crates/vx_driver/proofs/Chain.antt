@@ -37,9 +37,7 @@ use Rattle.vx_profile.specs.declared.counts.Counts.{Counts}
 use Rattle.vx_region.specs.declared.trace_plan.TracePlan.{TracePlan}
 use Rattle.vx_driver.specs.Compiled.{AreMapsOf, Compiled, Planned, all_in_slots, layouts_of}
 use Rattle.vx_driver.specs.declared.words.FlowSize.{FlowSize}
-use Rattle.vx_driver.specs.Soaked.{all_blocks}
-use Rattle.vx_driver.specs.SoakSteps.{Sized}
-use Rattle.vx_driver.specs.Stages.{IsInside, AreInside, IsLayoutOf, AreLayoutsFrom, AreLayoutsOf, StageLaws}
+use Rattle.vx_driver.specs.Stages.{all_blocks, Sized, IsInside, AreInside, IsLayoutOf, AreLayoutsFrom, AreLayoutsOf, StageLaws}
 use Rattle.vx_driver.proofs.OneFunction.{Finishable, finishable}
 
 -- inputs

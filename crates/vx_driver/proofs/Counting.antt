@@ -8,9 +8,9 @@ use Rattle.vx_ast.specs.declared.fault.SourceFault.{SourceFault}
 use Rattle.vx_driver.specs.declared.status.Status.{Status}
 use Rattle.vx_driver.specs.declared.status.Status.TheVariants.{Done, Trapped, Usage, Source, Limit, Words, Profile, Machine, NoFile, ReadFault, WriteFault, Stopped, Input, Stuck, NoMemory}
 use Rattle.vx_driver.specs.Command.{Profiling}
-use Rattle.vx_driver.specs.Answers.{HoldsProgram, Accepts, Refuses, RefusesSource, status_of, Effect, ReadsRose, SameFiles, OfFile, SourceAnswers}
-use Rattle.vx_driver.specs.Simulated.{input_in, input_found, Streams, OutRose}
-use Rattle.vx_driver.specs.Executed.{InputAnswers}
+use Rattle.vx_driver.specs.Held.{HoldsProgram, Accepts, Refuses, RefusesSource, status_of, input_in, input_found}
+use Rattle.vx_driver.specs.Effects.{Effect, ReadsRose, SameFiles, OfFile, SourceAnswers, InputAnswers}
+use Rattle.vx_driver.specs.Simulated.{Streams, OutRose}
 use Rattle.vx_driver.specs.Counted.{CountsRead, CountedRun, StopsAtCountsInput, CountsAnswers, ProfilingAnswers, CountsEnd, ProfilingCompletes}
 use Rattle.vx_driver.specs.Counting.{CountedOn, CountedFor, PutsText, over, goes_on, cut, StopsProfiling}
 use Rattle.vx_driver.proofs.Answering.{Since, told_since, accepts_in}

@@ -19,9 +19,11 @@ use Rattle.vx_driver.specs.declared.status.Status.TheVariants.{Done, Trapped, Us
 use Rattle.vx_driver.specs.Command.{Execution}
 use Rattle.vx_driver.specs.Boxes.{Chosen}
 use Rattle.vx_driver.specs.Faithful.{Faithful}
-use Rattle.vx_driver.specs.Answers.{AreCounts, HoldsProgram, ProfileStands, Is, machine_found, Effect, ReadsRose, SourceAnswers, StopsAtProfile, MachineAnswers, StopsAtMachine}
-use Rattle.vx_driver.specs.Simulated.{AreDefaults, Loaded, begun, outcome_within, events_within, reports_of, input_in, input_found, Streams, OutputCut, IsStatusOf}
-use Rattle.vx_driver.specs.Executed.{CompiledBy, Issues, SourceHas, SourceBegins, InSource, AllHeld, Prepared, issued_line, ShowsRun, Runs, RunsCut, InputAnswers, StopsAtInput, ExecutionAnswers}
+use Rattle.vx_driver.specs.Held.{AreCounts, HoldsProgram, ProfileStands, Is, machine_found, input_in, input_found}
+use Rattle.vx_driver.specs.Effects.{Effect, ReadsRose, SourceAnswers, MachineAnswers, InputAnswers}
+use Rattle.vx_driver.specs.Answers.{StopsAtProfile, StopsAtMachine}
+use Rattle.vx_driver.specs.Simulated.{AreDefaults, Loaded, begun, outcome_within, events_within, reports_of, Streams, OutputCut, IsStatusOf}
+use Rattle.vx_driver.specs.Executed.{CompiledBy, Issues, SourceHas, SourceBegins, InSource, AllHeld, Prepared, issued_line, ShowsRun, Runs, RunsCut, StopsAtInput, ExecutionAnswers}
 use Rattle.vx_driver.specs.Ending.{ShowsOf, IsRunOf, UnputLines, LoadedAnswers, LaterStops, AfterSource, StopsBefore}
 use Rattle.vx_driver.proofs.Issued.{issues_comes, issues_within, issues_least, issues_all, issues_seen}
 use Rattle.vx_driver.proofs.Turned.{turned_of, turned_some, outcome_turned}

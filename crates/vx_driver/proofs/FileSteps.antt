@@ -1,8 +1,7 @@
 -- What the reading of the files of a run says, step by step.
-use Rattle.std.proofs.Common.{◌≡◌, ◌∙◌, ◌⊎◌, inl, inr, ℕ, ℤ, Bool, true, false, nat_le, List, length, is_some, Option, Some, None, option_map, Result, Ok, Err, IfSome, MatchOption, refl, sym, subst, ap, arith}
-use Rattle.std.specs.Prelude.{Vec, ◌≤◌, ◌<◌}
+use Rattle.std.proofs.Common.{◌≡◌, ◌∙◌, ◌⊎◌, inl, inr, ℕ, ℤ, Bool, true, List, length, is_some, Option, Some, None, option_map, Result, Ok, Err, IfSome, MatchOption, refl, sym, subst, ap, arith}
+use Rattle.std.specs.Prelude.{Vec, ◌≤◌}
 use Rattle.std.specs.declared.alloc.Global.{Global}
-use Rattle.std.proofs.lemmas.Bool.{leb-true, le-leb}
 use Rattle.vx_base.specs.Outside.{Files}
 use Rattle.vx_base.specs.Reading.{ReadsFile}
 use Rattle.vx_base.specs.declared.reading.FileRead.TheVariants.{Whole, TooLong as FileTooLong}
@@ -14,42 +13,12 @@ use Rattle.vx_machine.specs.declared.description.MachineFault.TheVariants.{Bad}
 use Rattle.vx_words.specs.Text.{Spells, Fault, reading}
 use Rattle.vx_driver.specs.declared.status.Status.{Status}
 use Rattle.vx_driver.specs.declared.status.Status.TheVariants.{Done, Trapped, Usage, Source, Limit, Words, Profile, Machine, NoFile, ReadFault, WriteFault, Stopped, Input, Stuck, NoMemory}
-use Rattle.vx_driver.specs.Answers.{MachineFound, Is, Refused, TooLong, Missing, found_in, machine_found, Effect, ReadsRose, SameFiles, OfFile, MachineAnswers}
-use Rattle.vx_driver.specs.InputText.{input_reading}
-use Rattle.vx_driver.specs.Simulated.{file_in, words_as, words_in, machine_as, input_as, input_found, Loaded, with_input, loading_input, loading_machine, loading, is_named, Stops}
-use Rattle.vx_driver.specs.Executed.{InputAnswers}
+use Rattle.vx_driver.specs.Held.{MachineFound, Is, Refused, TooLong, Missing, found_in, machine_found, input_found}
+use Rattle.vx_driver.specs.Effects.{Effect, ReadsRose, OfFile, MachineAnswers, InputAnswers}
+use Rattle.vx_driver.specs.Simulated.{words_as, words_in, machine_as, Loaded, with_input, loading_input, loading_machine, loading, is_named, Stops}
 use Rattle.vx_driver.proofs.Answering.{Since}
 use Rattle.vx_driver.proofs.Simulating.{stops_on}
-
--- a file that was read whole, one that is too long, and one that is not there
-module _ {A : Type 0} (role : Role) (most : ℕ) (long : Status) (read : List ℕ → Result A Status) where
-  short_in : (content : List ℕ) → length content ≤ most → file_in role most long read (Some content) ≡ read content
-  short_in content le = rw (le-leb (length content) most le) refl
-
-  long_in : (content : List ℕ) → most < length content → file_in role most long read (Some content) ≡ Err long
-  long_in content more = by (nat_le (length content) most) refl
-    where
-      by : (b : Bool) → nat_le (length content) most ≡ b → file_in role most long read (Some content) ≡ Err long
-      by true is = let le = leb-true (length content) most is in absurd (omega arith)
-      by false is = rw is refl
-
-  pub whole : (b : Option Files) (name : List ℕ) (bytes : Vec ℕ Global) (r : Result A Status) → IfSome b (λ held. ReadsFile held name most (Whole bytes)) → read bytes.items ≡ r →
-      IfSome b (λ held. file_in role most long read (held name) ≡ r)
-  whole None name bytes r h is = tt
-  whole (Some held) name bytes r h is = ap (file_in role most long read) h.holds ∙ short_in h.content h.answers.1 ∙ ap read (sym h.answers.0) ∙ is
-
-  pub whole_or : (b : Option Files) (name : List ℕ) (bytes : Vec ℕ Global) (r : Result A Status) → length bytes.items ≤ most → IfSome b (λ held. ReadsFile held name most (Whole bytes)) →
-      read bytes.items ≡ r → OfFile b (λ held. file_in role most long read (held name) ≡ r) (λ content. file_in role most long read (Some content) ≡ r)
-  whole_or None name bytes r short h is = (bytes.items, short_in bytes.items short ∙ is)
-  whole_or (Some held) name bytes r short h is = whole (Some held) name bytes r h is
-
-  pub too_long : (b : Option Files) (name : List ℕ) → IfSome b (λ held. ReadsFile held name most FileTooLong) → IfSome b (λ held. file_in role most long read (held name) ≡ Err long)
-  too_long None name h = tt
-  too_long (Some held) name h = ap (file_in role most long read) h.holds ∙ long_in h.content h.answers
-
-  pub missing : (b : Option Files) (name : List ℕ) (Rises : Type 0) → MatchOption b Rises (λ held. held name ≡ None) → MatchOption b Rises (λ held. file_in role most long read (held name) ≡ Err (NoFile role))
-  missing None name Rises h = h
-  missing (Some held) name Rises h = ap (file_in role most long read) h
+use Rattle.vx_driver.proofs.WholeFile.{whole_or, too_long}
 
 pub spells_in : (b : Option Files) (name : List ℕ) (most : ℕ) (bytes : Vec ℕ Global) (program : WordProgram) → IfSome b (λ held. ReadsFile held name most (Whole bytes)) → Spells bytes.items program →
     IfSome b (λ held. IfSome (held name) (λ content. Spells content program))
@@ -79,32 +48,6 @@ words_long named name e among h =
     (record { role = TheWords; among = among; status_is = refl }, too_long TheWords 536870912 (Limit 9 536870913) (λ content. words_as (reading content)) e.before name h)
 
 -- an input
-
-input_whole : (b : Option Files) (name : List ℕ) (bytes : Vec ℕ Global) (r : Result (List ℤ) Status) → IfSome b (λ held. ReadsFile held name 16777216 (Whole bytes)) → input_as (input_reading bytes.items) ≡ r →
-    IfSome b (λ held. input_found held (Some name) ≡ r)
-input_whole b name bytes r h is = whole TheInput 16777216 (Limit 12 16777217) (λ content. input_as (input_reading content)) b name bytes r h is
-
-pub input_read : (b : Option Files) (name : List ℕ) (bytes : Vec ℕ Global) (numbers : List ℤ) → IfSome b (λ held. ReadsFile held name 16777216 (Whole bytes)) → input_reading bytes.items ≡ Ok numbers →
-    IfSome b (λ held. input_found held (Some name) ≡ Ok numbers)
-input_read b name bytes numbers h is = input_whole b name bytes (Ok numbers) h (ap input_as is)
-
-input_fault : (name : List ℕ) (bytes : Vec ℕ Global) (e : Effect) (r : Result (List ℤ) ℕ) (status : Status) → length bytes.items ≤ 16777216 → SameFiles e → input_reading bytes.items ≡ r → input_as r ≡ Err status →
-    IfSome e.before (λ held. ReadsFile held name 16777216 (Whole bytes)) → InputAnswers (Some name) e status
-input_fault name bytes e (Ok numbers) status short same is bad h = absurd cc
-input_fault name bytes e (Err place) status short same is bad h =
-    let is_input : Input place ≡ status = cc in
-    subst (InputAnswers (Some name) e) is_input (same, whole_or TheInput 16777216 (Limit 12 16777217) (λ content. input_as (input_reading content)) e.before name bytes (Err (Input place)) short h (ap input_as is))
-
-pub input_refused : (name : List ℕ) (bytes : Vec ℕ Global) (e : Effect) (status : Status) → length bytes.items ≤ 16777216 → SameFiles e → IfSome e.before (λ held. ReadsFile held name 16777216 (Whole bytes)) →
-    ((status ≡ NoMemory) ⊎ (input_as (input_reading bytes.items) ≡ Err status)) → InputAnswers (Some name) e status
-input_refused name bytes e status short same h (inl memory) = subst (InputAnswers (Some name) e) (sym memory) same
-input_refused name bytes e status short same h (inr bad) = input_fault name bytes e (input_reading bytes.items) status short same refl bad h
-
-pub input_long : (name : List ℕ) (e : Effect) → SameFiles e → IfSome e.before (λ held. ReadsFile held name 16777216 FileTooLong) → InputAnswers (Some name) e (Limit 12 16777217)
-input_long name e same h = (refl, refl, same, too_long TheInput 16777216 (Limit 12 16777217) (λ content. input_as (input_reading content)) e.before name h)
-
-pub input_missing : (name : List ℕ) (e : Effect) → SameFiles e → MatchOption e.before (ReadsRose e) (λ held. held name ≡ None) → InputAnswers (Some name) e (NoFile TheInput)
-input_missing name e same h = (refl, same, missing TheInput 16777216 (Limit 12 16777217) (λ content. input_as (input_reading content)) e.before name (ReadsRose e) h)
 
 abbrev InputStops : (input : Option (List ℕ)) → Effect → Status → Type 0
 InputStops input e status = Stops (is_named None input) (λ held. input_found held input) e status

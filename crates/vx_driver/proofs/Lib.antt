@@ -8,9 +8,11 @@ pub mod CommandWords
 pub mod ProfileWords
 pub mod SoakWords
 mod SoakRows
+mod SummaryRows
 mod StatusRows
 mod CommandRows
 mod SimRows
+mod InputRows
 mod ExecRows
 pub mod Refusing
 pub mod Answering
@@ -21,6 +23,9 @@ pub mod SourceLaws
 pub mod Completing
 pub mod Simulating
 pub mod FileSteps
+pub mod SourceFile
+pub mod WholeFile
+pub mod InputFile
 pub mod Issued
 pub mod Turned
 pub mod Ends

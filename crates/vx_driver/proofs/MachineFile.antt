@@ -11,7 +11,8 @@ use Rattle.vx_machine.specs.declared.description.MachineFault.TheVariants.{Bad}
 use Rattle.vx_machine.specs.Descriptions.{reading}
 use Rattle.vx_driver.specs.declared.status.Status.{Status}
 use Rattle.vx_driver.specs.declared.status.Status.TheVariants.{Done, Trapped, Usage, Source, Limit, Words, Profile, Machine, NoFile, ReadFault, WriteFault, Stopped, Input, Stuck, NoMemory}
-use Rattle.vx_driver.specs.Answers.{most_description_bytes, MachineFound, Is, Refused, TooLong, Missing, found_by, found_in, machine_found, Effect, SameFiles, OfFile, MachineAnswers, RefusesDescription}
+use Rattle.vx_driver.specs.Held.{most_description_bytes, MachineFound, Is, Refused, TooLong, Missing, found_by, found_in, machine_found, RefusesDescription}
+use Rattle.vx_driver.specs.Effects.{Effect, SameFiles, OfFile, MachineAnswers}
 
 short_found : (content : List ℕ) (found : MachineFound) → length content ≤ most_description_bytes → found_by (reading content) ≡ found → found_in (Some content) ≡ found
 short_found content found le is = rw (le-leb (length content) most_description_bytes le) is

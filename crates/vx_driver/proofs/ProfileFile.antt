@@ -16,7 +16,8 @@ use Rattle.vx_profile.specs.Text.{Row, Reaches, FaultAt, Spells, header, row_tex
 use Rattle.vx_profile.proofs.Once.{spelled_without_fault, fault_once}
 use Rattle.vx_driver.specs.declared.status.Status.{Status}
 use Rattle.vx_driver.specs.declared.status.Status.TheVariants.{Limit, Profile, NoFile, NoMemory}
-use Rattle.vx_driver.specs.Answers.{most_profile_bytes, HoldsCounts, status_of_profile, BadProfile, NoCountsIn, AreCounts, ProfileStands, RefusesProfile, Effect, ReadsRose, SameFiles, OfFile, ProfileAnswers}
+use Rattle.vx_driver.specs.Held.{most_profile_bytes, HoldsCounts, status_of_profile, BadProfile, NoCountsIn, AreCounts, ProfileStands, RefusesProfile}
+use Rattle.vx_driver.specs.Effects.{Effect, ReadsRose, SameFiles, OfFile, ProfileAnswers}
 
 -- the lines of few bytes are few
 

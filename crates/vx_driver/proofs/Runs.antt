@@ -1,8 +1,8 @@
 -- The answers of `sim` from those of its run and its files, and of any run from its boxes.
 use Rattle.std.proofs.Common.{◌≡◌, ◌∙◌, ◌⊎◌, inl, inr, ℕ, ◌++◌, true, false, List, [], ◌∷◌, length, map, is_some, Option, Some, None, option_map, IfSome, refl, sym, subst, ap, arith}
-use Rattle.std.specs.Prelude.{◌<◌, codes}
+use Rattle.std.specs.Prelude.{◌<◌, codes, Ok}
 use Rattle.vx_base.specs.Outcome.{Outcome, Ends, Traps, Goes, Stuck as StuckWith, Wrong}
-use Rattle.vx_base.specs.Outside.{Files}
+use Rattle.vx_base.specs.Outside.{Files, with_bytes}
 use Rattle.vx_words.specs.Text.{Spells}
 use Rattle.vx_probe.specs.Times.{Times}
 use Rattle.vx_probe.specs.Watch.{Watch}
@@ -10,15 +10,13 @@ use Rattle.vx_driver.specs.declared.status.Status.{Status}
 use Rattle.vx_driver.specs.declared.status.Status.TheVariants.{Done, Trapped, Usage, Source, Limit, Words, Profile, Machine, NoFile, ReadFault, WriteFault, Stopped, Input, Stuck, NoMemory}
 use Rattle.vx_driver.specs.Command.{Command, Compile, Simulate, Execute, Count, Soak, Simulation, Execution, Soaking}
 use Rattle.vx_driver.specs.Boxes.{Boxes, ProbeBox, Chosen, chosen, chosen_of, timing_named, probes_named}
-use Rattle.vx_driver.specs.Answers.{Effect, SameFiles}
+use Rattle.vx_driver.specs.Effects.{Effect, SameFiles}
 use Rattle.vx_driver.specs.Simulated.{AreDefaults, Loaded, loading, is_named, Stops, Streams, OutputCut, IsStatusOf, Shows, reports_of, result_line, Loads, RunEnds, RunCut, RunAnswers, BoxAnswers, SimAnswers, is_of_run, outcome_within, events_within}
 use Rattle.vx_driver.specs.Executed.{ExecAnswers, ExecutionAnswers}
 use Rattle.vx_driver.specs.Soaked.{SoakAnswers, SoakedAnswers}
 use Rattle.vx_driver.specs.Ending.{ShowsOf, IsRunOf, UnputLines, LoadedAnswers}
-use Rattle.vx_base.specs.Outside.{with_bytes}
 use Rattle.std.proofs.lemmas.List.{append-nil}
 use Rattle.vx_driver.specs.Commands.{Answers}
-use Rattle.std.specs.Prelude.{Ok}
 
 -- the status of an outcome is one of a run
 of_outcome : (o : Outcome) (status : Status) → IsStatusOf o status → is_of_run status ≡ true

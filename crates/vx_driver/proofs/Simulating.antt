@@ -9,8 +9,9 @@ use Rattle.vx_driver.specs.declared.status.Status.TheVariants.{Done, Trapped, Us
 use Rattle.vx_driver.specs.Command.{Simulation}
 use Rattle.vx_driver.specs.Boxes.{Boxes, Chosen, chosen}
 use Rattle.vx_machine.specs.declared.description.MachineFault.TheVariants.{Bad}
-use Rattle.vx_driver.specs.Answers.{Refused, found_in, Effect, ReadsRose, OfFile}
-use Rattle.vx_driver.specs.Simulated.{loading, words_in, input_in, IsTooLong, Stops, Streams, OutRose, ErrRose, Loads, RunEnds, RunCut, RunAnswers, BoxAnswers, SimAnswers, Due, RunCompletes, SimCompletes}
+use Rattle.vx_driver.specs.Held.{Refused, found_in, input_in}
+use Rattle.vx_driver.specs.Effects.{Effect, ReadsRose, OfFile}
+use Rattle.vx_driver.specs.Simulated.{loading, words_in, IsTooLong, Stops, Streams, OutRose, ErrRose, Loads, RunEnds, RunCut, RunAnswers, BoxAnswers, SimAnswers, Due, RunCompletes, SimCompletes}
 use Rattle.vx_driver.proofs.Answering.{rose_since, Since}
 
 -- where nothing fails

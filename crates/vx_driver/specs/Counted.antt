@@ -17,9 +17,9 @@ use Rattle.vx_profile.specs.Text.{AreAscending, counts_text}
 use Rattle.vx_driver.specs.declared.status.Status.{Status}
 use Rattle.vx_driver.specs.declared.status.Status.TheVariants.{Done, Trapped, Usage, Source, Limit, Words, Profile, Machine, NoFile, ReadFault, WriteFault, Stopped, Input, Stuck, NoMemory}
 use Rattle.vx_driver.specs.Command.{Profiling}
-use Rattle.vx_driver.specs.Answers.{HoldsProgram, Accepts, status_of, Effect, ReadsRose, SameFiles, SourceAnswers}
-use Rattle.vx_driver.specs.Simulated.{EmptyUnless, input_found, Streams, OutRose}
-use Rattle.vx_driver.specs.Executed.{InputAnswers}
+use Rattle.vx_driver.specs.Held.{HoldsProgram, Accepts, status_of, EmptyUnless, input_found}
+use Rattle.vx_driver.specs.Effects.{Effect, ReadsRose, SameFiles, SourceAnswers, InputAnswers}
+use Rattle.vx_driver.specs.Simulated.{Streams, OutRose}
 
 -- what is read for the counts: the program of the source, and the input
 pub record CountsRead (held : Files) (asked : Profiling) (p : Program) (input : List ℤ) : Type 0 where

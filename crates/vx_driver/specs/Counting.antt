@@ -8,8 +8,9 @@ use Rattle.vx_profile.specs.Text.{counts_text}
 use Rattle.vx_driver.specs.declared.status.Status.{Status}
 use Rattle.vx_driver.specs.declared.status.Status.TheVariants.{Done, WriteFault, Stopped, NoMemory}
 use Rattle.vx_driver.specs.Command.{Profiling}
-use Rattle.vx_driver.specs.Answers.{Effect, SourceAnswers}
-use Rattle.vx_driver.specs.Simulated.{EmptyUnless, input_found, Streams, OutRose}
+use Rattle.vx_driver.specs.Effects.{Effect, SourceAnswers}
+use Rattle.vx_driver.specs.Held.{EmptyUnless, input_found}
+use Rattle.vx_driver.specs.Simulated.{Streams, OutRose}
 use Rattle.vx_driver.specs.Counted.{RunOfGraphs, CountedRun, IsEnded, StopsAtCountsInput}
 
 -- the text of the counts of such a run, and whether it is over

@@ -1,6 +1,6 @@
 -- What `exec` does: the word machine, of words that are compiled from the source, on the machine and the input of the
 -- command, with the first boxes of the asked names; and what the source has of that run.
-use Rattle.std.specs.Prelude.{◌≡◌, ◌<◌, ◌≤◌, ◌⊎◌, ℕ, ◌++◌, true, ℤ, List, [], ◌∷◌, codes, decimal, is_some, Option, Some, None, IfSome, MatchOption, Ok, Err}
+use Rattle.std.specs.Prelude.{◌≡◌, ◌<◌, ◌≤◌, ◌⊎◌, ℕ, ◌++◌, true, ℤ, List, [], ◌∷◌, codes, decimal, is_some, Option, Some, None, IfSome, Ok, Err}
 use Rattle.vx_base.specs.Outcome.{Outcome, Ends, Traps, Goes, IsGoing, Begins, output_of}
 use Rattle.vx_base.specs.Outside.{Files, with_bytes}
 use Rattle.vx_base.specs.declared.role.Role.{Role}
@@ -20,8 +20,10 @@ use Rattle.vx_driver.specs.Status.{status_line}
 use Rattle.vx_driver.specs.Command.{Execution}
 use Rattle.vx_driver.specs.Boxes.{Boxes, Chosen, chosen}
 use Rattle.vx_driver.specs.Compiled.{Compiled}
-use Rattle.vx_driver.specs.Answers.{AreCounts, HoldsProgram, Accepts, status_of, Is, machine_found, Effect, ReadsRose, SameFiles, OfFile, SourceAnswers, ProfileStands, RefusesProfile, StopsAtProfile, StopsAtMachine}
-use Rattle.vx_driver.specs.Simulated.{Loaded, with_input, machine_as, input_in, input_found, outcome_within, events_within, reports_of, result_line, AreDefaults, Streams, OutRose, ErrRose, ErrTellsWith, OutputCut, LinesCut, BoxAnswers}
+use Rattle.vx_driver.specs.Held.{AreCounts, HoldsProgram, Accepts, status_of, Is, machine_found, ProfileStands, RefusesProfile, input_found}
+use Rattle.vx_driver.specs.Effects.{Effect, ReadsRose, SameFiles, SourceAnswers, InputAnswers}
+use Rattle.vx_driver.specs.Answers.{StopsAtProfile, StopsAtMachine}
+use Rattle.vx_driver.specs.Simulated.{Loaded, with_input, machine_as, outcome_within, events_within, reports_of, result_line, AreDefaults, Streams, OutRose, ErrRose, ErrTellsWith, OutputCut, LinesCut, BoxAnswers}
 
 -- the run
 
@@ -113,15 +115,6 @@ pub record RunsCut (asked : Execution) (boxes : Chosen) (e : Effect) (s : Stream
   pub cut : OutputCut words boxes.times asked.budget s ⊎ LinesCut words boxes.times asked.budget (issued_line issued) boxes.watches asked.probe s
 
 -- the steps before the run: the source, the profile, the machine, the input, each whole before the next
-
--- of a status that comes from the input of the command
-abbrev pub InputAnswers : (input : Option (List ℕ)) → Effect → Status → Type 0
-InputAnswers input e (Limit number count) = (number ≡ 12) × (count ≡ 16777217) × SameFiles e × IfSome e.before (λ held. input_found held input ≡ Err (Limit 12 16777217))
-InputAnswers input e (NoFile role) = (role ≡ TheInput) × SameFiles e × MatchOption e.before (ReadsRose e) (λ held. input_found held input ≡ Err (NoFile TheInput))
-InputAnswers input e (ReadFault role) = (role ≡ TheInput) × SameFiles e × ReadsRose e
-InputAnswers input e (Input place) = SameFiles e × OfFile e.before (λ held. input_found held input ≡ Err (Input place)) (λ content. input_in (Some content) ≡ Err (Input place))
-InputAnswers input e NoMemory = SameFiles e
-InputAnswers input e status = ⊥
 
 -- the input of a command is looked at only where one is named, the source is accepted and the profile and the machine stand
 pub record StopsAtInput (asked : Execution) (e : Effect) (status : Status) : Type 0 where

@@ -6,6 +6,8 @@ pub mod Command
 pub mod Asked
 pub mod InputText
 pub mod Boxes
+pub mod Held
+pub mod Effects
 pub mod Answers
 pub mod Simulated
 pub mod Executed

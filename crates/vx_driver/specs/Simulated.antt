@@ -1,6 +1,6 @@
 -- What `sim` does: the word machine, of the program that the text of words spells, on the machine and the input of the
 -- command, with the first boxes of the asked names.
-use Rattle.std.specs.Prelude.{◌≡◌, ◌≤◌, ◌⊎◌, ℕ, ◌++◌, Bool, true, false, nat_le, if◌then◌else◌, ℤ, List, [], ◌∷◌, length, codes, is_some, Option, Some, None, IfSome, MatchOption, Result, Ok, Err}
+use Rattle.std.specs.Prelude.{◌≡◌, ◌≤◌, ◌⊎◌, ℕ, ◌++◌, Bool, true, false, ℤ, List, [], ◌∷◌, codes, is_some, Option, Some, None, IfSome, MatchOption, Result, Ok, Err}
 use Rattle.std.specs.List.{flat_map}
 use Rattle.std.specs.Fmt.{signed_decimal}
 use Rattle.vx_base.specs.Outcome.{Outcome, Ends, Traps, Goes, Stuck as StuckAt, Wrong, Begins, output_of}
@@ -8,7 +8,7 @@ use Rattle.vx_base.specs.Outside.{Files, Rose, with_bytes}
 use Rattle.vx_base.specs.declared.role.Role.{Role}
 use Rattle.vx_base.specs.declared.role.Role.TheVariants.{Source as TheSource, Words as TheWords, Profile as TheProfile, Machine as TheMachine, Input as TheInput}
 use Rattle.vx_isa.specs.declared.program.WordProgram.{WordProgram}
-use Rattle.vx_isa.specs.Numbers.{Numbers, vex}
+use Rattle.vx_isa.specs.Numbers.{Numbers}
 use Rattle.vx_isa.specs.Machine.{State, start, words_from}
 use Rattle.vx_machine.specs.declared.description.MachineFault.TheVariants.{Bad, NoMemory as NoRoom}
 use Rattle.vx_probe.specs.Times.{Times, list_of}
@@ -21,16 +21,13 @@ use Rattle.vx_driver.specs.declared.status.Status.TheVariants.{Done, Trapped, Us
 use Rattle.vx_driver.specs.Status.{Tells, TellsWith, status_line}
 use Rattle.vx_driver.specs.Command.{Simulation}
 use Rattle.vx_driver.specs.Boxes.{Boxes, Chosen, chosen, report_line}
-use Rattle.vx_driver.specs.InputText.{input_reading}
-use Rattle.vx_driver.specs.Answers.{MachineFound, Is, Refused, TooLong, Missing, found_in, machine_found, Effect, ReadsRose, SameFiles, OfFile}
+use Rattle.vx_driver.specs.Held.{MachineFound, Is, Refused, TooLong, Missing, found_in, machine_found, file_in, input_in, input_found, DefaultUnless, EmptyUnless}
+use Rattle.vx_driver.specs.Effects.{Effect, ReadsRose, SameFiles, OfFile}
 
 -- what is read before the run, or the status of the first step that stops the command
 
 abbrev pub most_words_bytes : ℕ
 most_words_bytes = 536870912
-
-abbrev pub most_input_bytes : ℕ
-most_input_bytes = 16777216
 
 abbrev pub and_then : {A B : Type 0} → Result A Status → (A → Result B Status) → Result B Status
 and_then (Ok a) more = more a
@@ -39,11 +36,6 @@ and_then (Err status) more = Err status
 abbrev pub words_as : Result WordProgram Fault → Result WordProgram Status
 words_as (Ok program) = Ok program
 words_as (Err fault) = Err (Words fault.code fault.line)
-
--- what a file gives: it is missing, too long, or read
-abbrev pub file_in : {A : Type 0} → Role → (most : ℕ) → Status → (List ℕ → Result A Status) → Option (List ℕ) → Result A Status
-file_in role most too_long read None = Err (NoFile role)
-file_in role most too_long read (Some content) = if nat_le (length content) most then read content else Err too_long
 
 abbrev pub words_in : Option (List ℕ) → Result WordProgram Status
 words_in file = file_in TheWords most_words_bytes (Limit 9 536870913) (λ content. words_as (reading content)) file
@@ -55,18 +47,6 @@ machine_as (Refused NoRoom) = Err NoMemory
 machine_as TooLong = Err (Limit 11 65537)
 machine_as Missing = Err (NoFile TheMachine)
 
-abbrev pub input_as : Result (List ℤ) ℕ → Result (List ℤ) Status
-input_as (Ok numbers) = Ok numbers
-input_as (Err place) = Err (Input place)
-
-abbrev pub input_in : Option (List ℕ) → Result (List ℤ) Status
-input_in file = file_in TheInput most_input_bytes (Limit 12 16777217) (λ content. input_as (input_reading content)) file
-
--- the empty input where none is named
-abbrev pub input_found : Files → Option (List ℕ) → Result (List ℤ) Status
-input_found held None = Ok []
-input_found held (Some name) = input_in (held name)
-
 pub record Loaded : Type 0 where
   pub program : WordProgram
   pub machine : Numbers
@@ -74,16 +54,6 @@ pub record Loaded : Type 0 where
 
 abbrev pub with_input : WordProgram → Numbers → List ℤ → Loaded
 with_input program machine input = record { program = program; machine = machine; input = input }
-
--- where no machine is named, the default one, whatever the depot tells
-abbrev pub DefaultUnless : (machine : Option (List ℕ)) → Numbers → Type 0
-DefaultUnless None m = m ≡ vex 1
-DefaultUnless (Some name) m = Unit {0}
-
--- where no input is named, the empty one
-abbrev pub EmptyUnless : (input : Option (List ℕ)) → List ℤ → Type 0
-EmptyUnless None numbers = numbers ≡ []
-EmptyUnless (Some name) numbers = Unit {0}
 
 -- what stands for the files that are not named
 pub record AreDefaults (machine input : Option (List ℕ)) (x : Loaded) : Type 0 where

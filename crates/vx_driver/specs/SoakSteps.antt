@@ -3,8 +3,7 @@ use Rattle.std.specs.Prelude.{◌≡◌, ℕ, ℤ, List, [], length}
 use Rattle.vx_base.specs.Outside.{PutsFront, with_bytes}
 use Rattle.vx_base.specs.declared.outcome.Trap.{Trap}
 use Rattle.vx_ast.specs.Tree.{Program}
-use Rattle.vx_isa.specs.declared.program.WordProgram.{WordProgram}
-use Rattle.vx_isa.specs.Numbers.{Numbers, vex}
+use Rattle.vx_isa.specs.Numbers.{vex}
 use Rattle.vx_probe.specs.Times.{Times}
 use Rattle.vx_profile.specs.Counts.{CountsOf}
 use Rattle.vx_profile.specs.declared.counts.Counts.{Counts}
@@ -15,17 +14,11 @@ use Rattle.vx_sim.specs.declared.ended.Ended.TheVariants.{Halted, Trapped as Tra
 use Rattle.vx_driver.specs.declared.soak.ProgramSizes.{ProgramSizes}
 use Rattle.vx_driver.specs.declared.status.Status.{Status}
 use Rattle.vx_driver.specs.declared.status.Status.TheVariants.{Done, Trapped, WriteFault, Stopped, NoMemory}
-use Rattle.vx_driver.specs.declared.words.FlowSize.{FlowSize}
 use Rattle.vx_driver.specs.Command.{Soaking}
 use Rattle.vx_driver.specs.Compiled.{Compiled}
 use Rattle.vx_driver.specs.Simulated.{Loaded, Streams, OutRose, with_input, outcome_within, events_within}
-use Rattle.vx_driver.specs.Soaked.{Soaked, SoakRuns, all_blocks, byte_sum, soak_budget, soak_growth, soaked_words, summary, summary_of}
-
--- words that are compiled from a program, with their plan and the size of their graphs
-pub record Sized (p : Program) (counts : Counts) (m : Numbers) (growth : ℕ) (w : WordProgram) (plan : Plan) (size : FlowSize) : Type 0 where
-  pub compiled : Compiled p counts m growth w plan
-  pub functions_are : size.functions ≡ length compiled.flow.functions
-  pub blocks_are : size.blocks ≡ all_blocks compiled.flow.functions
+use Rattle.vx_driver.specs.Soaked.{Soaked, SoakRuns, byte_sum, soak_budget, soak_growth, soaked_words, summary, summary_of}
+use Rattle.vx_driver.specs.Stages.{all_blocks}
 
 -- how much there is of the words that are run
 abbrev pub sizes_of : {asked : Soaking} → Soaked asked → ProgramSizes

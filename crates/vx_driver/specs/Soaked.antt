@@ -6,14 +6,13 @@ use Rattle.vx_base.specs.Outcome.{Outcome, Ends, Traps, Goes, IsGoing}
 use Rattle.vx_base.specs.Outside.{PutsFront, with_bytes}
 use Rattle.vx_ast.specs.Reads.{Reads}
 use Rattle.vx_ast.specs.Tree.{Program}
-use Rattle.vx_flow.specs.declared.graph.Graph.{Graph}
 use Rattle.vx_gen.specs.Program.{program_text}
 use Rattle.vx_isa.specs.declared.program.WordProgram.{WordProgram}
 use Rattle.vx_isa.specs.Numbers.{vex}
 use Rattle.vx_profile.specs.Counts.{CountsOf}
 use Rattle.vx_profile.specs.declared.counts.Counts.{Counts}
 use Rattle.vx_report.specs.declared.plan.Plan.{Plan}
-use Rattle.vx_driver.specs.Answers.{Effect, SameFiles}
+use Rattle.vx_driver.specs.Effects.{Effect, SameFiles}
 use Rattle.vx_driver.specs.Boxes.{Boxes, Chosen, chosen}
 use Rattle.vx_driver.specs.Command.{Soaking}
 use Rattle.vx_driver.specs.Compiled.{Compiled}
@@ -22,6 +21,7 @@ use Rattle.vx_driver.specs.Status.{counted}
 use Rattle.vx_driver.specs.Simulated.{BoxAnswers, Loaded, OutRose, Streams, with_input, outcome_within}
 use Rattle.vx_driver.specs.declared.status.Status.{Status}
 use Rattle.vx_driver.specs.declared.status.Status.TheVariants.{Done, Trapped, WriteFault, Stopped, NoMemory}
+use Rattle.vx_driver.specs.Stages.{all_blocks}
 
 -- the most words that are issued, and the most operations that are copied
 abbrev pub soak_budget : ℕ
@@ -51,9 +51,6 @@ pub record SoakRuns (asked : Soaking) (boxes : Chosen) (outcome : Outcome) : Typ
   pub in_source : InSource soaked.program [] outcome
 
 -- the line
-
-abbrev pub all_blocks : List Graph → ℕ
-all_blocks graphs = sum_by (λ (g : Graph). length g.blocks) graphs
 
 -- the sum of some bytes, modulo 2 ^ 32
 abbrev pub byte_sum : List ℕ → ℕ

@@ -32,6 +32,8 @@ use Rattle.vx_report.specs.Report.{names_of, report_text}
 use Rattle.vx_words.specs.Range.{is_in_range}
 use Rattle.vx_words.specs.Text.{Spells}
 use Rattle.vx_driver.specs.Compiled.{AreMapsOf, Compiled, Planned, all_in_slots, layouts_of}
+use Rattle.std.specs.List.{sum_by}
+use Rattle.vx_driver.specs.declared.words.FlowSize.{FlowSize}
 
 -- the graph can begin as a graph of blocks and regions, and has a block
 pub record Begins (graph : Graph) : Type 0 where
@@ -116,3 +118,13 @@ pub record StageLaws : Type 0 where
   pub spaced : SpacedLaw
   pub paths : PathStrictLaw
   pub timings : AnyTimingLaw
+
+-- the blocks of some graphs
+abbrev pub all_blocks : List Graph → ℕ
+all_blocks graphs = sum_by (λ (g : Graph). length g.blocks) graphs
+
+-- words that are compiled from a program, with their plan and the size of their graphs
+pub record Sized (p : Program) (counts : Counts) (m : Numbers) (growth : ℕ) (w : WordProgram) (plan : Plan) (size : FlowSize) : Type 0 where
+  pub compiled : Compiled p counts m growth w plan
+  pub functions_are : size.functions ≡ length compiled.flow.functions
+  pub blocks_are : size.blocks ≡ all_blocks compiled.flow.functions

@@ -1,134 +1,29 @@
 // The command `compile SRC OUT`: reads a source, a profile and a machine, compiles, and replaces the file of the words, and then that
 // of the report where one is asked.
 
-ghost use Rattle.std.specs.Prelude.{◌≡◌, ◌≢◌, ◌≤◌, ◌⊎◌, ℕ, List, Option, Some, Ok, true, false, length, is_some, option_map, IfOk, IfErr, IfSome};
+ghost use Rattle.std.specs.Prelude.{◌≡◌, ◌≢◌, ◌≤◌, ◌⊎◌, Option, Some, Ok, true, false, is_some, option_map, IfOk};
 ghost use Rattle.vx_ast.specs.View as view;
-ghost use Rattle.vx_driver.specs.Answers.{effect_of, SourceAnswers, MachineAnswers, CompileAnswers, WriteAnswers, ReportAnswers, HoldsSource, HoldsProgram, machine_found, Is, RefusesDescription, PutsTexts, MachineOrTexts, ProgramAnswers};
+ghost use Rattle.vx_driver.specs.Effects.{effect_of};
+ghost use Rattle.vx_driver.specs.Answers.{CompileAnswers, WriteAnswers, ReportAnswers, PutsTexts, MachineOrTexts, ProgramAnswers};
 ghost use Rattle.vx_driver.specs.Asked.{compilation_of};
-ghost use Rattle.vx_driver.specs.Simulated.{DefaultUnless};
 ghost use Rattle.vx_driver.specs.Stages.{MakesTexts};
 ghost use Rattle.vx_report.specs.Report.{names_of, report_text};
 ghost use Rattle.vx_words.specs.Text.{Spells};
-ghost use Rattle.vx_machine.specs.Descriptions.{reading};
 
 use crate::command::CompileWords;
+use crate::machines::machine_for;
 use crate::profiles::counts_for;
-use crate::reading::typed_of;
+use crate::sources::read_through;
 use crate::status::Status;
 use crate::words;
 use std::alloc::Global;
 use vx_ast::typed::Typed;
 use vx_base::depot::{Depot, DepotFault};
 use vx_base::outcome::NoMemory;
-use vx_base::reading::{FileRead, read_file};
-use vx_base::role::Role;
-use vx_machine::{Machine, MachineFault, from_toml};
+use vx_machine::Machine;
 use vx_profile::counts::Counts;
 use vx_report::{Plan, report};
 use vx_words::write;
-
-/// The most bytes of a source.
-pub const MOST_SOURCE_BYTES: u64 = 1048576;
-
-/// The most bytes of a description of a machine.
-pub const MOST_DESCRIPTION_BYTES: u64 = 65536;
-
-/// What a source that is too long is answered.
-const LONG_SOURCE: Status = Status::Limit {
-    number: 1,
-    count: MOST_SOURCE_BYTES + 1,
-};
-
-/// What a description that is too long is answered.
-const LONG_DESCRIPTION: Status = Status::Limit {
-    number: 11,
-    count: MOST_DESCRIPTION_BYTES + 1,
-};
-
-/// Reads the file of the source, whole.
-fn read_source<D: Depot>(alloc: Global, depot: &mut D, source: &str) -> Result<Vec<u8>, Status>
-    ensures same_files { D.files depot.new ≡ D.files depot.old }
-    ensures content { IfOk result (λ bytes. IfSome (D.files depot.old) (λ held. HoldsSource held source.now bytes.items)) }
-    ensures short { IfOk result (λ bytes. length bytes.items ≤ 1048576) }
-    ensures answers { IfErr result (SourceAnswers source.now (effect_of D.files D.failed_reads D.failed_replaces depot.old depot.new)) }
-    ensures reads_never_fall { D.failed_reads depot.old ≤ D.failed_reads depot.new }
-    ensures replaces_never_fall { D.failed_replaces depot.old ≤ D.failed_replaces depot.new }
-{
-    match read_file(alloc, depot, source, MOST_SOURCE_BYTES) {
-        Ok(FileRead::Whole(bytes)) => Ok(bytes),
-        Ok(FileRead::TooLong) => Err(LONG_SOURCE),
-        Err(DepotFault::Failed) => Err(Status::ReadFault(Role::Source)),
-        Err(DepotFault::NoFile) => Err(Status::NoFile(Role::Source)),
-        Err(DepotFault::NoMemory) => Err(Status::NoMemory),
-    }
-}
-
-/// Reads the file of the source through.
-pub(crate) fn read_through<D: Depot>(
-    alloc: Global,
-    depot: &mut D,
-    source: &str,
-) -> Result<Typed, Status>
-    ensures same_files { D.files depot.new ≡ D.files depot.old }
-    ensures program { IfOk result (λ typed. IfSome (D.files depot.old) (λ held. HoldsProgram held source.now (view.program_of typed.program))) }
-    ensures answers { IfErr result (SourceAnswers source.now (effect_of D.files D.failed_reads D.failed_replaces depot.old depot.new)) }
-    ensures reads_never_fall { D.failed_reads depot.old ≤ D.failed_reads depot.new }
-    ensures replaces_never_fall { D.failed_replaces depot.old ≤ D.failed_replaces depot.new }
-{
-    match read_source(alloc, depot, source) {
-        Ok(bytes) => typed_of(alloc, bytes.as_slice()),
-        Err(status) => Err(status),
-    }
-}
-
-/// The machine of a description, or the status of its fault.
-fn machine_of(alloc: Global, bytes: &[u8]) -> Result<Machine, Status>
-    ensures described { IfOk result (λ machine. reading bytes.now ≡ Ok machine) }
-    ensures refused { IfErr result (λ status. RefusesDescription bytes.now status) }
-{
-    match from_toml(alloc, bytes) {
-        Ok(machine) => Ok(machine),
-        Err(MachineFault::Bad { code, field }) => Err(Status::Machine { code, field }),
-        Err(MachineFault::NoMemory) => Err(Status::NoMemory),
-    }
-}
-
-/// Reads the description of a machine, whole.
-fn read_machine<D: Depot>(alloc: Global, depot: &mut D, name: &str) -> Result<Machine, Status>
-    ensures same_files { D.files depot.new ≡ D.files depot.old }
-    ensures machine { IfOk result (λ machine. IfSome (D.files depot.old) (λ held. machine_found held (Some name.now) ≡ Is machine)) }
-    ensures answers { IfErr result (MachineAnswers (Some name.now) (effect_of D.files D.failed_reads D.failed_replaces depot.old depot.new)) }
-    ensures reads_never_fall { D.failed_reads depot.old ≤ D.failed_reads depot.new }
-    ensures replaces_never_fall { D.failed_replaces depot.old ≤ D.failed_replaces depot.new }
-{
-    match read_file(alloc, depot, name, MOST_DESCRIPTION_BYTES) {
-        Ok(FileRead::Whole(bytes)) => machine_of(alloc, bytes.as_slice()),
-        Ok(FileRead::TooLong) => Err(LONG_DESCRIPTION),
-        Err(DepotFault::Failed) => Err(Status::ReadFault(Role::Machine)),
-        Err(DepotFault::NoFile) => Err(Status::NoFile(Role::Machine)),
-        Err(DepotFault::NoMemory) => Err(Status::NoMemory),
-    }
-}
-
-/// The machine that the command names a description of, or the default one.
-pub(crate) fn machine_for<D: Depot>(
-    alloc: Global,
-    depot: &mut D,
-    name: Option<&str>,
-) -> Result<Machine, Status>
-    ensures same_files { D.files depot.new ≡ D.files depot.old }
-    ensures machine { IfOk result (λ machine. IfSome (D.files depot.old) (λ held. machine_found held (option_map (λ s. s.now) name.entry) ≡ Is machine)) }
-    ensures default_machine { IfOk result (λ machine. DefaultUnless (option_map (λ s. s.now) name.entry) machine) }
-    ensures named { IfErr result (λ _. is_some name.entry ≡ true) }
-    ensures answers { IfErr result (MachineAnswers (option_map (λ s. s.now) name.entry) (effect_of D.files D.failed_reads D.failed_replaces depot.old depot.new)) }
-    ensures reads_never_fall { D.failed_reads depot.old ≤ D.failed_reads depot.new }
-    ensures replaces_never_fall { D.failed_replaces depot.old ≤ D.failed_replaces depot.new }
-{
-    match name {
-        Some(name) => read_machine(alloc, depot, name),
-        None => Ok(Machine::vex(1)),
-    }
-}
 
 /// The text of the words of a program, and that of the report, which is empty where none is asked.
 #[derive(Drop)]

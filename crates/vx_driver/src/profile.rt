@@ -4,17 +4,16 @@
 ghost use Rattle.std.specs.Prelude.{◌≡◌, ◌⊎◌, ◌≤◌, true, false, option_map, is_some, IfOk, IfErr};
 ghost use Rattle.vx_base.specs.Outside.{PutsFront, Rose, with_bytes};
 ghost use Rattle.vx_ast.specs.View as view;
-ghost use Rattle.vx_driver.specs.Answers.{effect_of};
+ghost use Rattle.vx_driver.specs.Effects.{effect_of, InputAnswers};
 ghost use Rattle.vx_driver.specs.Asked.{profiling_of};
 ghost use Rattle.vx_driver.specs.Status.{Adds, Tells, status_line};
 ghost use Rattle.vx_driver.specs.Simulated.{is_of_run, streams_of};
-ghost use Rattle.vx_driver.specs.Executed.{InputAnswers};
 ghost use Rattle.vx_driver.specs.Counted.{ProfilingAnswers};
 ghost use Rattle.vx_driver.specs.Counting.{IsCounted, CountedOn, CountedFor, PutsText, StopsProfiling};
 
-use crate::compiling::read_through;
-use crate::loading::input_for;
+use crate::inputs::input_for;
 use crate::profile_words::ProfileWords;
+use crate::sources::read_through;
 use crate::status::{Status, tell};
 use crate::words::flow_of;
 use std::alloc::Global;

@@ -3,7 +3,8 @@
 ghost use Rattle.std.specs.Prelude.{◌≡◌, ◌≢◌, ◌⊎◌, ◌^◌, ◌<◌, ◌≤◌, true, length, option_map, is_some, IfOk, IfErr, IfSome, Some};
 ghost use Rattle.vx_profile.specs.Text.{FaultAt, Spells};
 ghost use Rattle.vx_profile.specs.declared.fault.ProfileFault.TheVariants.{NoMemory as OutOfMemory};
-ghost use Rattle.vx_driver.specs.Answers.{effect_of, status_of_profile, BadProfile, HoldsCounts, AreCounts, ProfileAnswers};
+ghost use Rattle.vx_driver.specs.Effects.{effect_of, ProfileAnswers};
+ghost use Rattle.vx_driver.specs.Held.{status_of_profile, BadProfile, HoldsCounts, AreCounts};
 
 use crate::status::Status;
 use std::alloc::Global;

@@ -4,7 +4,7 @@ ghost use Rattle.std.specs.Prelude.{◌≡◌, ◌≤◌, ◌⊎◌, length, IfO
 ghost use Rattle.vx_ast.specs.Reads.{Reads, Refusal};
 ghost use Rattle.vx_ast.specs.View as view;
 ghost use Rattle.vx_ast.specs.declared.fault.SourceFault.TheVariants.{NoMemory as NoRoom};
-ghost use Rattle.vx_driver.specs.Answers.{RefusesSource, status_of};
+ghost use Rattle.vx_driver.specs.Held.{RefusesSource, status_of};
 
 use crate::status::Status;
 use std::alloc::Global;

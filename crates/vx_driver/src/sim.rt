@@ -4,18 +4,19 @@
 ghost use Rattle.std.specs.Prelude.{◌≡◌, ◌⊎◌, ◌<◌, ◌≤◌, true, false, length, map, option_map, is_some, None, Ok, Err, IfOk, IfErr, IfSome};
 ghost use Rattle.vx_isa.specs.Sound.{is_sound};
 ghost use Rattle.vx_words.specs.Text.{Spells, reading};
-ghost use Rattle.vx_driver.specs.Answers.{effect_of};
+ghost use Rattle.vx_driver.specs.Effects.{effect_of};
 ghost use Rattle.vx_driver.specs.Command.{Simulate};
 ghost use Rattle.vx_driver.specs.Commands.{TellsLine, TellsRun};
 ghost use Rattle.vx_driver.specs.Asked.{simulation_of};
 ghost use Rattle.vx_driver.specs.Status.{Adds};
-ghost use Rattle.vx_driver.specs.Simulated.{DefaultUnless, EmptyUnless, words_as, words_in, loading_input, loading_machine, loading, is_named, Stops, RunAnswers, SimAnswers, is_of_run, streams_of};
+ghost use Rattle.vx_driver.specs.Held.{DefaultUnless, EmptyUnless};
+ghost use Rattle.vx_driver.specs.Simulated.{words_as, words_in, loading_input, loading_machine, loading, is_named, Stops, RunAnswers, SimAnswers, is_of_run, streams_of};
 ghost use Rattle.vx_driver.specs.Ending.{loaded_of};
 
 use crate::boxes::{probes_of, timing_of};
-use crate::compiling::machine_for;
+use crate::inputs::input_for;
 use crate::loaded::LoadedFiles;
-use crate::loading::input_for;
+use crate::machines::machine_for;
 use crate::run_words::RunWords;
 use crate::running::{no_box, no_probe, run_loaded};
 use crate::status::{Status, tell};

@@ -8,7 +8,7 @@ ghost use Rattle.vx_gen.specs.Program.{program_text};
 ghost use Rattle.vx_isa.specs.Sound.{is_sound};
 ghost use Rattle.vx_sim.specs.Ran.{is_fault};
 ghost use Rattle.vx_sim.specs.declared.ended.Ended.TheVariants.{Halted};
-ghost use Rattle.vx_driver.specs.Answers.{Effect, SameFiles};
+ghost use Rattle.vx_driver.specs.Effects.{Effect, SameFiles};
 ghost use Rattle.vx_driver.specs.Asked.{soaking_of};
 ghost use Rattle.vx_driver.specs.Boxes.{ProbeBox};
 ghost use Rattle.vx_driver.specs.Command.{Soak};

@@ -8,9 +8,7 @@ ghost use Rattle.vx_ast.specs.View as view;
 ghost use Rattle.vx_flow.specs.Sound.{is_sound_flow};
 ghost use Rattle.vx_lower.specs.FlowOf.{FlowOf};
 ghost use Rattle.vx_driver.specs.Compiled.{AreMapsOf, Compiled, all_in_slots, in_slots, slot_of};
-ghost use Rattle.vx_driver.specs.Soaked.{all_blocks};
-ghost use Rattle.vx_driver.specs.SoakSteps.{Sized};
-ghost use Rattle.vx_driver.specs.Stages.{AreFinished, AreInside, AreLayoutsOf, StageLaws};
+ghost use Rattle.vx_driver.specs.Stages.{all_blocks, Sized, AreFinished, AreInside, AreLayoutsOf, StageLaws};
 
 use crate::layouts::layouts_of;
 use crate::ranges::numbers_fit;

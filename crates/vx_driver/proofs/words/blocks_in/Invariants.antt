@@ -1,6 +1,6 @@
 -- The blocks so far.
 use Rattle.std.proofs.Common.{◌≡◌, take}
-use Rattle.vx_driver.specs.Soaked.{all_blocks}
+use Rattle.vx_driver.specs.Stages.{all_blocks}
 use Rattle.vx_driver.proofs.words.blocks_in.Given as goal
 
 abbrev pub invariant-loop-graph : goal.invariant-loop-graph

@@ -2,9 +2,10 @@
 use Rattle.std.proofs.Common.{◌≡◌, Ok}
 use Rattle.std.proofs.lemmas.Result.{IfErr-weaker, IfOk-weaker}
 use Rattle.vx_machine.specs.Descriptions.{reading}
-use Rattle.vx_driver.specs.Answers.{effect_of, RefusesDescription}
+use Rattle.vx_driver.specs.Effects.{effect_of}
+use Rattle.vx_driver.specs.Held.{RefusesDescription}
 use Rattle.vx_driver.proofs.MachineFile.{described, undescribed}
-use Rattle.vx_driver.proofs.compiling.read_machine.Goals as goal
+use Rattle.vx_driver.proofs.machines.read_machine.Goals as goal
 
 pub returns-in-Ok-Whole-clause-machine : goal.returns-in-Ok-Whole-clause-machine
 returns-in-Ok-Whole-clause-machine g c =

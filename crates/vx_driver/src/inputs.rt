@@ -2,10 +2,9 @@
 
 ghost use Rattle.std.specs.Prelude.{◌≡◌, ◌⊎◌, ◌≤◌, true, length, option_map, is_some, All, Some, None, Ok, Err, IfOk, IfErr, IfSome};
 ghost use Rattle.vx_base.specs.Arithmetic.{IsNumber};
-ghost use Rattle.vx_driver.specs.Answers.{effect_of};
+ghost use Rattle.vx_driver.specs.Effects.{effect_of, InputAnswers};
 ghost use Rattle.vx_driver.specs.InputText.{input_reading};
-ghost use Rattle.vx_driver.specs.Simulated.{EmptyUnless, input_as, input_found};
-ghost use Rattle.vx_driver.specs.Executed.{InputAnswers};
+ghost use Rattle.vx_driver.specs.Held.{EmptyUnless, input_as, input_found};
 
 use crate::input::{InputFault, read_input};
 use crate::status::Status;

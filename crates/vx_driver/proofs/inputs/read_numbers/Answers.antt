@@ -2,11 +2,11 @@
 use Rattle.std.proofs.Common.{◌≡◌, ◌⊎◌, Ok, Err}
 use Rattle.std.proofs.lemmas.Result.{IfErr-weaker, IfOk-weaker}
 use Rattle.vx_driver.specs.declared.status.Status.TheVariants.{NoMemory}
-use Rattle.vx_driver.specs.Answers.{effect_of}
+use Rattle.vx_driver.specs.Effects.{effect_of}
 use Rattle.vx_driver.specs.InputText.{input_reading}
-use Rattle.vx_driver.specs.Simulated.{input_as}
-use Rattle.vx_driver.proofs.FileSteps.{input_read, input_refused, input_long}
-use Rattle.vx_driver.proofs.loading.read_numbers.Goals as goal
+use Rattle.vx_driver.specs.Held.{input_as}
+use Rattle.vx_driver.proofs.InputFile.{input_read, input_refused, input_long}
+use Rattle.vx_driver.proofs.inputs.read_numbers.Goals as goal
 
 pub returns-in-Ok-Whole-clause-numbers : goal.returns-in-Ok-Whole-clause-numbers
 returns-in-Ok-Whole-clause-numbers g c =

@@ -1,7 +1,7 @@
 -- A source that is too long is over its first limit.
-use Rattle.vx_driver.specs.Answers.{effect_of}
-use Rattle.vx_driver.proofs.Answering.{long_source}
-use Rattle.vx_driver.proofs.compiling.read_source.Goals as goal
+use Rattle.vx_driver.specs.Effects.{effect_of}
+use Rattle.vx_driver.proofs.SourceFile.{long_source}
+use Rattle.vx_driver.proofs.sources.read_source.Goals as goal
 
 pub returns-in-Ok-TooLong-clause-answers : goal.returns-in-Ok-TooLong-clause-answers
 returns-in-Ok-TooLong-clause-answers g c =

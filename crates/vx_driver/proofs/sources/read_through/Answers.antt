@@ -4,9 +4,10 @@ use Rattle.std.proofs.lemmas.Result.{IfErr-weaker, IfOk-weaker}
 use Rattle.vx_ast.specs.Reads.{Reads}
 use Rattle.vx_ast.specs.View.{program_of}
 use Rattle.vx_driver.specs.declared.status.Status.TheVariants.{NoMemory}
-use Rattle.vx_driver.specs.Answers.{effect_of, RefusesSource}
-use Rattle.vx_driver.proofs.Answering.{holds_in, unread}
-use Rattle.vx_driver.proofs.compiling.read_through.Goals as goal
+use Rattle.vx_driver.specs.Effects.{effect_of}
+use Rattle.vx_driver.specs.Held.{RefusesSource}
+use Rattle.vx_driver.proofs.SourceFile.{holds_in, unread}
+use Rattle.vx_driver.proofs.sources.read_through.Goals as goal
 
 pub returns-in-Ok-clause-program : goal.returns-in-Ok-clause-program
 returns-in-Ok-clause-program g c =
