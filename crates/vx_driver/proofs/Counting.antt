@@ -5,8 +5,8 @@ use Rattle.vx_base.specs.declared.role.Role.TheVariants.{Source as TheSource, Wo
 use Rattle.vx_ast.specs.Tree.{Program}
 use Rattle.vx_ast.specs.Reads.{Refusal}
 use Rattle.vx_ast.specs.declared.fault.SourceFault.{SourceFault}
-use Rattle.vx_driver.specs.declared.status.Status.{Status}
-use Rattle.vx_driver.specs.declared.status.Status.TheVariants.{Done, Trapped, Usage, Source, Limit, Words, Profile, Machine, NoFile, ReadFault, WriteFault, Stopped, Input, Stuck, NoMemory}
+use Rattle.vx_status.specs.declared.status.Status.{Status}
+use Rattle.vx_status.specs.declared.status.Status.TheVariants.{Done, Trapped, Usage, Source, Limit, Words, Profile, Machine, NoFile, ReadFault, WriteFault, Stopped, Input, Stuck, NoMemory}
 use Rattle.vx_driver.specs.Command.{Profiling}
 use Rattle.vx_driver.specs.Held.{HoldsProgram, Accepts, Refuses, RefusesSource, status_of, input_in, input_found}
 use Rattle.vx_driver.specs.Effects.{Effect, ReadsRose, SameFiles, OfFile, SourceAnswers, InputAnswers}

@@ -14,15 +14,15 @@ use Rattle.vx_sim.specs.declared.sim.Sim.{Sim}
 use Rattle.vx_base.specs.declared.outcome.Trap.{Trap}
 use Rattle.vx_sim.specs.declared.ended.Ended.{Ended}
 use Rattle.vx_sim.specs.declared.ended.Ended.TheVariants.{Halted, Trapped as TrappedBy, Stopped as StoppedAt, Stuck as StuckAt, SinkFault}
-use Rattle.vx_driver.specs.declared.status.Status.{Status}
-use Rattle.vx_driver.specs.declared.status.Status.TheVariants.{Done, Trapped, WriteFault, Stopped, Stuck}
-use Rattle.vx_driver.specs.Status.{Tells, TellsWith, status_line}
+use Rattle.vx_status.specs.declared.status.Status.{Status}
+use Rattle.vx_status.specs.declared.status.Status.TheVariants.{Done, Trapped, WriteFault, Stopped, Stuck}
+use Rattle.vx_status.specs.Status.{Tells, TellsWith, status_line}
 use Rattle.vx_driver.specs.Boxes.{report_line}
 use Rattle.vx_driver.specs.Simulated.{Loaded, begun, outcome_within, events_within, result_line, Streams, ErrTells, OutRose, IsEnd, IsStatusOf, reports_of, Fronts, BeginsLines, TellsFault, is_of_run}
 use Rattle.vx_driver.specs.Executed.{issued_line}
 use Rattle.vx_driver.specs.Ending.{status_as, end_line, told_line, ShowsLine, ShowsIssued, ShowsEnd, BeginsEnd, CutsEnd, EndFault, ShowsOf, IsHalted, RanWhole, RanPartly, RunOf, Finishes, IsRunOf, LoadedAnswers}
 use Rattle.vx_driver.specs.Commands.{TellsRun}
-use Rattle.vx_driver.proofs.Appending.{with_both, with_none, front_on, front_behind, tells_nothing}
+use Rattle.vx_status.proofs.Appending.{with_both, with_none, front_on, front_behind, tells_nothing}
 use Rattle.vx_base.proofs.Same.{begins_self}
 use Rattle.vx_driver.proofs.Issued.{few_events}
 use Rattle.vx_base.proofs.OutsideLaws.{rose_throughout}

@@ -11,8 +11,8 @@ use Rattle.vx_isa.specs.declared.program.WordProgram.{WordProgram}
 use Rattle.vx_isa.specs.Numbers.{Numbers}
 use Rattle.vx_machine.specs.declared.description.MachineFault.TheVariants.{Bad}
 use Rattle.vx_words.specs.Text.{Spells, Fault, reading}
-use Rattle.vx_driver.specs.declared.status.Status.{Status}
-use Rattle.vx_driver.specs.declared.status.Status.TheVariants.{Done, Trapped, Usage, Source, Limit, Words, Profile, Machine, NoFile, ReadFault, WriteFault, Stopped, Input, Stuck, NoMemory}
+use Rattle.vx_status.specs.declared.status.Status.{Status}
+use Rattle.vx_status.specs.declared.status.Status.TheVariants.{Done, Trapped, Usage, Source, Limit, Words, Profile, Machine, NoFile, ReadFault, WriteFault, Stopped, Input, Stuck, NoMemory}
 use Rattle.vx_driver.specs.Held.{MachineFound, Is, Refused, TooLong, Missing, found_in, machine_found, input_found}
 use Rattle.vx_driver.specs.Effects.{Effect, ReadsRose, OfFile, MachineAnswers, InputAnswers}
 use Rattle.vx_driver.specs.Simulated.{words_as, words_in, machine_as, Loaded, with_input, loading_input, loading_machine, loading, is_named, Stops}

@@ -6,8 +6,8 @@ use Rattle.vx_base.specs.Outside.{Files}
 use Rattle.vx_base.specs.Reading.{ReadsFile}
 use Rattle.vx_base.specs.declared.reading.FileRead.TheVariants.{Whole, TooLong as FileTooLong}
 use Rattle.vx_base.specs.declared.role.Role.TheVariants.{Input as TheInput}
-use Rattle.vx_driver.specs.declared.status.Status.{Status}
-use Rattle.vx_driver.specs.declared.status.Status.TheVariants.{Limit, NoFile, Input, NoMemory}
+use Rattle.vx_status.specs.declared.status.Status.{Status}
+use Rattle.vx_status.specs.declared.status.Status.TheVariants.{Limit, NoFile, Input, NoMemory}
 use Rattle.vx_driver.specs.Held.{input_as, input_found}
 use Rattle.vx_driver.specs.Effects.{Effect, ReadsRose, SameFiles, InputAnswers}
 use Rattle.vx_driver.specs.InputText.{input_reading}

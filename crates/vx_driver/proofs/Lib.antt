@@ -1,4 +1,3 @@
-pub mod Appending
 pub mod Telling
 pub mod Inputs
 pub mod InRange
@@ -9,7 +8,6 @@ pub mod ProfileWords
 pub mod SoakWords
 mod SoakRows
 mod SummaryRows
-mod StatusRows
 mod CommandRows
 mod SimRows
 mod InputRows

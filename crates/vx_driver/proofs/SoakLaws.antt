@@ -18,8 +18,8 @@ use Rattle.vx_sim.specs.Ran.{is_fault, outcome_of}
 use Rattle.vx_sim.specs.declared.ended.Ended.{Ended}
 use Rattle.vx_sim.specs.declared.ended.Ended.TheVariants.{Halted, Trapped as TrappedBy, Stopped as StoppedAt}
 use Rattle.vx_driver.specs.declared.soak.ProgramSizes.{ProgramSizes}
-use Rattle.vx_driver.specs.declared.status.Status.{Status}
-use Rattle.vx_driver.specs.declared.status.Status.TheVariants.{Done, Trapped, Usage, Source, Limit, Words, Profile, Machine, NoFile, ReadFault, WriteFault, Stopped, Input, Stuck, NoMemory}
+use Rattle.vx_status.specs.declared.status.Status.{Status}
+use Rattle.vx_status.specs.declared.status.Status.TheVariants.{Done, Trapped, Usage, Source, Limit, Words, Profile, Machine, NoFile, ReadFault, WriteFault, Stopped, Input, Stuck, NoMemory}
 use Rattle.vx_driver.specs.declared.words.FlowSize.{FlowSize}
 use Rattle.vx_driver.specs.Command.{Soaking}
 use Rattle.vx_driver.specs.Boxes.{Boxes, Chosen, chosen}

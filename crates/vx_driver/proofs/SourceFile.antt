@@ -7,8 +7,8 @@ use Rattle.vx_ast.specs.Tree.{Program}
 use Rattle.vx_ast.specs.Reads.{most_bytes, Reads, too_long}
 use Rattle.vx_base.specs.Reading.{ReadsFile}
 use Rattle.vx_base.specs.declared.reading.FileRead.TheVariants.{TooLong as FileTooLong}
-use Rattle.vx_driver.specs.declared.status.Status.{Status}
-use Rattle.vx_driver.specs.declared.status.Status.TheVariants.{Source, Limit, NoMemory}
+use Rattle.vx_status.specs.declared.status.Status.{Status}
+use Rattle.vx_status.specs.declared.status.Status.TheVariants.{Source, Limit, NoMemory}
 use Rattle.vx_driver.specs.Held.{HoldsSource, HoldsProgram, RefusesSource, Refuses}
 use Rattle.vx_driver.specs.Effects.{Effect, SameFiles, OfFile, SourceAnswers}
 

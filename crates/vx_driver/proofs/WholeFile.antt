@@ -7,8 +7,8 @@ use Rattle.vx_base.specs.Outside.{Files}
 use Rattle.vx_base.specs.Reading.{ReadsFile}
 use Rattle.vx_base.specs.declared.reading.FileRead.TheVariants.{Whole, TooLong as FileTooLong}
 use Rattle.vx_base.specs.declared.role.Role.{Role}
-use Rattle.vx_driver.specs.declared.status.Status.{Status}
-use Rattle.vx_driver.specs.declared.status.Status.TheVariants.{NoFile}
+use Rattle.vx_status.specs.declared.status.Status.{Status}
+use Rattle.vx_status.specs.declared.status.Status.TheVariants.{NoFile}
 use Rattle.vx_driver.specs.Held.{file_in}
 use Rattle.vx_driver.specs.Effects.{OfFile}
 

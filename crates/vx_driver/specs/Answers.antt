@@ -10,8 +10,8 @@ use Rattle.vx_base.specs.declared.role.Role.{Role}
 use Rattle.vx_base.specs.declared.role.Role.TheVariants.{Source as TheSource, Profile as TheProfile, Machine as TheMachine}
 use Rattle.vx_ast.specs.Reads.{Refusal}
 use Rattle.vx_ast.specs.declared.fault.SourceFault.{SourceFault}
-use Rattle.vx_driver.specs.declared.status.Status.{Status}
-use Rattle.vx_driver.specs.declared.status.Status.TheVariants.{Done, Trapped, Usage, Source, Limit, Words, Profile, Machine, NoFile, ReadFault, WriteFault, Stopped, Input, Stuck, NoMemory}
+use Rattle.vx_status.specs.declared.status.Status.{Status}
+use Rattle.vx_status.specs.declared.status.Status.TheVariants.{Done, Trapped, Usage, Source, Limit, Words, Profile, Machine, NoFile, ReadFault, WriteFault, Stopped, Input, Stuck, NoMemory}
 use Rattle.vx_driver.specs.Command.{Compilation}
 use Rattle.vx_driver.specs.Compiled.{Compiled}
 use Rattle.vx_report.specs.declared.plan.Plan.{Plan}

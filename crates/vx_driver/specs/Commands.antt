@@ -1,11 +1,11 @@
 -- What each answer of the top call says, command by command.
 use Rattle.std.specs.Prelude.{◌≡◌, ◌⊎◌, Bool, false, List, ℕ, codes, Option, Some, None, IfSome}
 use Rattle.vx_base.specs.Outside.{with_bytes}
-use Rattle.vx_driver.specs.declared.status.Status.{Status}
-use Rattle.vx_driver.specs.declared.status.Status.TheVariants.{Done, Trapped, Usage, WriteFault, Stopped, Stuck, NoMemory}
+use Rattle.vx_status.specs.declared.status.Status.{Status}
+use Rattle.vx_status.specs.declared.status.Status.TheVariants.{Done, Trapped, Usage, WriteFault, Stopped, Stuck, NoMemory}
 use Rattle.vx_driver.specs.Command.{Command, Compile, Simulate, Execute, Count, Soak}
 use Rattle.vx_driver.specs.Boxes.{Boxes, Chosen, chosen, unknown_name}
-use Rattle.vx_driver.specs.Status.{no_box_line, status_line}
+use Rattle.vx_status.specs.Status.{no_box_line, status_line}
 use Rattle.vx_driver.specs.Effects.{Effect, SameFiles, ReadsRose, ReplacesRose}
 use Rattle.vx_driver.specs.Answers.{CompileAnswers, CompileEnds}
 use Rattle.vx_driver.specs.Simulated.{Streams, ErrRose, ErrTells, SimAnswers, SimCompletes, is_of_run}

@@ -14,8 +14,8 @@ use Rattle.vx_lower.specs.FlowOf.{FlowOf}
 use Rattle.vx_profile.specs.declared.counts.Counts.{Counts}
 use Rattle.vx_profile.specs.Counts.{CountsOf}
 use Rattle.vx_profile.specs.Text.{AreAscending, counts_text}
-use Rattle.vx_driver.specs.declared.status.Status.{Status}
-use Rattle.vx_driver.specs.declared.status.Status.TheVariants.{Done, Trapped, Usage, Source, Limit, Words, Profile, Machine, NoFile, ReadFault, WriteFault, Stopped, Input, Stuck, NoMemory}
+use Rattle.vx_status.specs.declared.status.Status.{Status}
+use Rattle.vx_status.specs.declared.status.Status.TheVariants.{Done, Trapped, Usage, Source, Limit, Words, Profile, Machine, NoFile, ReadFault, WriteFault, Stopped, Input, Stuck, NoMemory}
 use Rattle.vx_driver.specs.Command.{Profiling}
 use Rattle.vx_driver.specs.Held.{HoldsProgram, Accepts, status_of, EmptyUnless, input_found}
 use Rattle.vx_driver.specs.Effects.{Effect, ReadsRose, SameFiles, SourceAnswers, InputAnswers}

@@ -3,8 +3,8 @@ use Rattle.std.specs.Prelude.{◌≡◌, ℕ, List, Option, Some, None, IfSome, 
 use Rattle.vx_base.specs.Outside.{Files, Rose}
 use Rattle.vx_machine.specs.declared.description.MachineFault.TheVariants.{Bad}
 use Rattle.vx_base.specs.declared.role.Role.TheVariants.{Source as TheSource, Profile as TheProfile, Machine as TheMachine, Input as TheInput}
-use Rattle.vx_driver.specs.declared.status.Status.{Status}
-use Rattle.vx_driver.specs.declared.status.Status.TheVariants.{Source, Limit, Profile, Machine, NoFile, ReadFault, Input, NoMemory}
+use Rattle.vx_status.specs.declared.status.Status.{Status}
+use Rattle.vx_status.specs.declared.status.Status.TheVariants.{Source, Limit, Profile, Machine, NoFile, ReadFault, Input, NoMemory}
 use Rattle.vx_driver.specs.Held.{machine_found, RefusesProfile, input_in, input_found, RefusesSource, Refuses, BadProfile, Refused, TooLong, Missing, found_in}
 
 -- what a call was given and left: the files that the depot tells, and its counts of failed reads and replacings

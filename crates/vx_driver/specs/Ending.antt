@@ -7,10 +7,10 @@ use Rattle.vx_probe.specs.Watch.{Watch, shown_all}
 use Rattle.vx_sim.specs.Ran.{is_fault, outcome_of}
 use Rattle.vx_sim.specs.declared.ended.Ended.{Ended}
 use Rattle.vx_sim.specs.declared.ended.Ended.TheVariants.{Halted, Trapped as TrappedBy, Stopped as StoppedAt, Stuck as StuckAt, SinkFault}
-use Rattle.vx_driver.specs.declared.status.Status.{Status}
-use Rattle.vx_driver.specs.declared.status.Status.TheVariants.{Done, Trapped, Usage, WriteFault, Stopped, Stuck, NoMemory}
+use Rattle.vx_status.specs.declared.status.Status.{Status}
+use Rattle.vx_status.specs.declared.status.Status.TheVariants.{Done, Trapped, Usage, WriteFault, Stopped, Stuck, NoMemory}
 use Rattle.vx_driver.specs.declared.loaded.LoadedFiles.{LoadedFiles}
-use Rattle.vx_driver.specs.Status.{Tells, TellsWith, no_box_line, status_line}
+use Rattle.vx_status.specs.Status.{Tells, TellsWith, no_box_line, status_line}
 use Rattle.vx_driver.specs.Command.{Execution}
 use Rattle.vx_driver.specs.Effects.{Effect, SourceAnswers, InputAnswers}
 use Rattle.vx_driver.specs.Held.{ProfileStands, Is, machine_found}

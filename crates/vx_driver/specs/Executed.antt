@@ -14,9 +14,9 @@ use Rattle.vx_ast.specs.declared.fault.SourceFault.{SourceFault}
 use Rattle.vx_probe.specs.Times.{Times}
 use Rattle.vx_profile.specs.declared.counts.Counts.{Counts}
 use Rattle.vx_report.specs.declared.plan.Plan.{Plan}
-use Rattle.vx_driver.specs.declared.status.Status.{Status}
-use Rattle.vx_driver.specs.declared.status.Status.TheVariants.{Done, Trapped, Usage, Source, Limit, Words, Profile, Machine, NoFile, ReadFault, WriteFault, Stopped, Input, Stuck, NoMemory}
-use Rattle.vx_driver.specs.Status.{status_line}
+use Rattle.vx_status.specs.declared.status.Status.{Status}
+use Rattle.vx_status.specs.declared.status.Status.TheVariants.{Done, Trapped, Usage, Source, Limit, Words, Profile, Machine, NoFile, ReadFault, WriteFault, Stopped, Input, Stuck, NoMemory}
+use Rattle.vx_status.specs.Status.{status_line}
 use Rattle.vx_driver.specs.Command.{Execution}
 use Rattle.vx_driver.specs.Boxes.{Boxes, Chosen, chosen}
 use Rattle.vx_driver.specs.Compiled.{Compiled}

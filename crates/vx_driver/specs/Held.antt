@@ -16,8 +16,8 @@ use Rattle.vx_base.specs.declared.role.Role.TheVariants.{Profile as TheProfile, 
 use Rattle.vx_ast.specs.Reads.{most_bytes, Reads, Refusal}
 use Rattle.vx_ast.specs.declared.fault.SourceFault.{SourceFault}
 use Rattle.vx_ast.specs.declared.fault.SourceFault.TheVariants.{Bad as BadSource, Limit as OverLimit, NoMemory as NoRoom}
-use Rattle.vx_driver.specs.declared.status.Status.{Status}
-use Rattle.vx_driver.specs.declared.status.Status.TheVariants.{Source, Limit, Profile, Machine, NoFile, Input, NoMemory}
+use Rattle.vx_status.specs.declared.status.Status.{Status}
+use Rattle.vx_status.specs.declared.status.Status.TheVariants.{Source, Limit, Profile, Machine, NoFile, Input, NoMemory}
 use Rattle.vx_driver.specs.InputText.{input_reading}
 
 -- the most bytes of a description of a machine

@@ -1,7 +1,6 @@
 pub mod Faithful
 pub mod Compiled
 pub mod Stages
-pub mod Status
 pub mod Command
 pub mod Asked
 pub mod InputText

@@ -17,10 +17,10 @@ use Rattle.vx_driver.specs.Boxes.{Boxes, Chosen, chosen}
 use Rattle.vx_driver.specs.Command.{Soaking}
 use Rattle.vx_driver.specs.Compiled.{Compiled}
 use Rattle.vx_driver.specs.Executed.{Issues, InSource, SourceHas}
-use Rattle.vx_driver.specs.Status.{counted}
+use Rattle.vx_status.specs.Status.{counted}
 use Rattle.vx_driver.specs.Simulated.{BoxAnswers, Loaded, OutRose, Streams, with_input, outcome_within}
-use Rattle.vx_driver.specs.declared.status.Status.{Status}
-use Rattle.vx_driver.specs.declared.status.Status.TheVariants.{Done, Trapped, WriteFault, Stopped, NoMemory}
+use Rattle.vx_status.specs.declared.status.Status.{Status}
+use Rattle.vx_status.specs.declared.status.Status.TheVariants.{Done, Trapped, WriteFault, Stopped, NoMemory}
 use Rattle.vx_driver.specs.Stages.{all_blocks}
 
 -- the most words that are issued, and the most operations that are copied

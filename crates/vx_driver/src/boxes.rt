@@ -5,12 +5,12 @@ ghost use Rattle.std.specs.List.{flat_map};
 ghost use Rattle.std.specs.Str.{bytes_eq};
 ghost use Rattle.vx_probe.specs.Watch.{report_of};
 ghost use Rattle.vx_driver.specs.Boxes.{timing_named, probe_named, probes_named, report_line};
-ghost use Rattle.vx_driver.specs.Status.{Puts};
+ghost use Rattle.vx_status.specs.Status.{Puts};
 
-use crate::status::{Status, put};
 use std::alloc::{AllocError, Global};
 use vx_base::sink::{Sink, SinkFault};
 use vx_probe::{Probe, Timing};
+use vx_status::{Status, put};
 
 /// Whether a timing has this name.
 fn timing_is(timing: &Box<dyn Timing>, name: &str) -> bool

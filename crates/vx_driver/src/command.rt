@@ -3,16 +3,16 @@
 ghost use Rattle.std.specs.Prelude.{◌≡◌, ◌≢◌, ◌⊎◌, [], true, unwrap_or, Some, None, map, IfOk, IfErr};
 ghost use Rattle.clap.specs.Words.{app_of, fault_of, first_value, found_of, is_simple, is_simple_and_free, kind_of, matches_of, rows_of};
 ghost use Rattle.clap.specs.declared.error.kind.ErrorKind.TheVariants.{OutOfMemory};
-ghost use Rattle.vx_driver.specs.Status.{Adds, Tells, status_line};
+ghost use Rattle.vx_status.specs.Status.{Adds, Tells, status_line};
 ghost use Rattle.vx_driver.specs.Asked.{compilation_of};
 ghost use Rattle.vx_driver.specs.Command.{Compile, compile_app, compile_of, compile_unless};
 
 use crate::options::{file_command, growth_of, option_of, required_of, with_compiling_options};
-use crate::status::{Status, put, tell};
 use clap::error::ErrorKind;
 use clap::{ArgMatches, Command, Error};
 use std::alloc::{AllocError, Global};
 use vx_base::sink::Sink;
+use vx_status::{Status, put, tell};
 
 /// The words of `compile`.
 #[derive(Drop)]

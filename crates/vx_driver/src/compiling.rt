@@ -14,7 +14,6 @@ use crate::command::CompileWords;
 use crate::machines::machine_for;
 use crate::profiles::counts_for;
 use crate::sources::read_through;
-use crate::status::Status;
 use crate::words;
 use std::alloc::Global;
 use vx_ast::typed::Typed;
@@ -23,6 +22,7 @@ use vx_base::outcome::NoMemory;
 use vx_machine::Machine;
 use vx_profile::counts::Counts;
 use vx_report::{Plan, report};
+use vx_status::Status;
 use vx_words::write;
 
 /// The text of the words of a program, and that of the report, which is empty where none is asked.

@@ -10,7 +10,7 @@ ghost use Rattle.vx_driver.specs.Command.{Execute};
 ghost use Rattle.vx_driver.specs.Commands.{TellsLine, TellsRun};
 ghost use Rattle.vx_driver.specs.Asked.{execution_of};
 ghost use Rattle.vx_driver.specs.Stages.{IsCompiled};
-ghost use Rattle.vx_driver.specs.Status.{Adds};
+ghost use Rattle.vx_status.specs.Status.{Adds};
 ghost use Rattle.vx_driver.specs.Simulated.{is_of_run, streams_of};
 ghost use Rattle.vx_driver.specs.Executed.{CompiledBy, Prepared, ExecutionAnswers, ExecAnswers};
 ghost use Rattle.vx_driver.specs.Ending.{loaded_of, AfterSource, LaterStops, StopsBefore};
@@ -23,7 +23,6 @@ use crate::profiles::counts_for;
 use crate::run_words::ExecWords;
 use crate::running::{no_box, no_probe, run_loaded};
 use crate::sources::read_through;
-use crate::status::{Status, tell};
 use crate::words::compile;
 use std::alloc::Global;
 use vx_ast::typed::Typed;
@@ -32,6 +31,7 @@ use vx_base::sink::Sink;
 use vx_machine::Machine;
 use vx_probe::{Probe, Timing};
 use vx_profile::counts::Counts;
+use vx_status::{Status, tell};
 
 /// Compiles a program that was read, by counts and for a machine and beside an input that were read.
 fn load_words(

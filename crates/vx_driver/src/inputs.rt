@@ -7,11 +7,11 @@ ghost use Rattle.vx_driver.specs.InputText.{input_reading};
 ghost use Rattle.vx_driver.specs.Held.{EmptyUnless, input_as, input_found};
 
 use crate::input::{InputFault, read_input};
-use crate::status::Status;
 use std::alloc::Global;
 use vx_base::depot::{Depot, DepotFault};
 use vx_base::reading::{FileRead, read_file};
 use vx_base::role::Role;
+use vx_status::Status;
 
 /// The most bytes of an input's text.
 pub const MOST_INPUT_BYTES: u64 = 16777216;

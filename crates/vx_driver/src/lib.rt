@@ -24,7 +24,6 @@ mod soak;
 mod soak_words;
 mod soaking;
 mod sources;
-pub mod status;
 pub mod top;
 pub mod words;
 

@@ -5,12 +5,12 @@ ghost use Rattle.vx_driver.specs.Held.{DefaultUnless, RefusesDescription, machin
 ghost use Rattle.vx_driver.specs.Effects.{effect_of, MachineAnswers};
 ghost use Rattle.vx_machine.specs.Descriptions.{reading};
 
-use crate::status::Status;
 use std::alloc::Global;
 use vx_base::depot::{Depot, DepotFault};
 use vx_base::reading::{FileRead, read_file};
 use vx_base::role::Role;
 use vx_machine::{Machine, MachineFault, from_toml};
+use vx_status::Status;
 
 /// The most bytes of a description of a machine.
 pub const MOST_DESCRIPTION_BYTES: u64 = 65536;

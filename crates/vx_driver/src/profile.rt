@@ -6,7 +6,7 @@ ghost use Rattle.vx_base.specs.Outside.{PutsFront, Rose, with_bytes};
 ghost use Rattle.vx_ast.specs.View as view;
 ghost use Rattle.vx_driver.specs.Effects.{effect_of, InputAnswers};
 ghost use Rattle.vx_driver.specs.Asked.{profiling_of};
-ghost use Rattle.vx_driver.specs.Status.{Adds, Tells, status_line};
+ghost use Rattle.vx_status.specs.Status.{Adds, Tells, status_line};
 ghost use Rattle.vx_driver.specs.Simulated.{is_of_run, streams_of};
 ghost use Rattle.vx_driver.specs.Counted.{ProfilingAnswers};
 ghost use Rattle.vx_driver.specs.Counting.{IsCounted, CountedOn, CountedFor, PutsText, StopsProfiling};
@@ -14,7 +14,6 @@ ghost use Rattle.vx_driver.specs.Counting.{IsCounted, CountedOn, CountedFor, Put
 use crate::inputs::input_for;
 use crate::profile_words::ProfileWords;
 use crate::sources::read_through;
-use crate::status::{Status, tell};
 use crate::words::flow_of;
 use std::alloc::Global;
 use vx_ast::typed::Typed;
@@ -22,6 +21,7 @@ use vx_base::depot::Depot;
 use vx_base::outcome::NoMemory;
 use vx_base::sink::{Sink, put_all};
 use vx_profile::{count, write_counts};
+use vx_status::{Status, tell};
 
 /// The text of the counts of a run, and whether the run is over.
 #[derive(Drop)]

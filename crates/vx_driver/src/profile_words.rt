@@ -8,9 +8,9 @@ ghost use Rattle.vx_driver.specs.Asked.{profiling_of};
 use crate::command::{Refused, found_in, text_at, without_text};
 use crate::options::{file_command, input_option, number_of};
 use crate::run_words::{MOST_WORDS, budget_of};
-use crate::status::Status;
 use clap::{ArgMatches, Command};
 use std::alloc::{AllocError, Global};
+use vx_status::Status;
 
 /// The words of `profile`.
 #[derive(Drop)]

@@ -6,13 +6,13 @@ ghost use Rattle.vx_profile.specs.declared.fault.ProfileFault.TheVariants.{NoMem
 ghost use Rattle.vx_driver.specs.Effects.{effect_of, ProfileAnswers};
 ghost use Rattle.vx_driver.specs.Held.{status_of_profile, BadProfile, HoldsCounts, AreCounts};
 
-use crate::status::Status;
 use std::alloc::Global;
 use vx_base::depot::{Depot, DepotFault};
 use vx_base::reading::{FileRead, read_file};
 use vx_base::role::Role;
 use vx_profile::counts::Counts;
 use vx_profile::{ProfileFault, read_counts};
+use vx_status::Status;
 
 /// The most bytes of a profile.
 pub const MOST_PROFILE_BYTES: u64 = 16777216;

@@ -6,12 +6,12 @@ ghost use Rattle.vx_ast.specs.View as view;
 ghost use Rattle.vx_ast.specs.declared.fault.SourceFault.TheVariants.{NoMemory as NoRoom};
 ghost use Rattle.vx_driver.specs.Held.{RefusesSource, status_of};
 
-use crate::status::Status;
 use std::alloc::Global;
 use vx_ast::fault::SourceFault;
 use vx_ast::typed::Typed;
 use vx_lex::tokens;
 use vx_parse::parse;
+use vx_status::Status;
 use vx_types::check;
 
 /// The program that bytes are the source of.

@@ -10,9 +10,9 @@ use crate::options::{
     file_command, growth_of, input_option, machine_option, number_of, option_of,
     with_compiling_options,
 };
-use crate::status::Status;
 use clap::{ArgMatches, Command};
 use std::alloc::{AllocError, Global};
+use vx_status::Status;
 
 /// The words of a run.
 #[derive(Drop)]

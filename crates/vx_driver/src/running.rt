@@ -6,7 +6,7 @@ ghost use Rattle.std.specs.List.{flat_map};
 ghost use Rattle.vx_base.specs.Outside.{PutsFront, Rose};
 ghost use Rattle.vx_sim.specs.Ran.{is_fault};
 ghost use Rattle.vx_driver.specs.Boxes.{report_line};
-ghost use Rattle.vx_driver.specs.Status.{Adds, Puts, Tells, no_box_line, status_line};
+ghost use Rattle.vx_status.specs.Status.{Adds, Puts, Tells, no_box_line, status_line};
 ghost use Rattle.vx_driver.specs.Simulated.{events_within, is_of_run, streams_of, result_line};
 ghost use Rattle.vx_driver.specs.Executed.{issued_line};
 ghost use Rattle.vx_driver.specs.Commands.{TellsRun};
@@ -14,12 +14,12 @@ ghost use Rattle.vx_driver.specs.Ending.{loaded_of, status_as, end_line, told_li
 
 use crate::boxes::put_reports;
 use crate::loaded::LoadedFiles;
-use crate::status::{Status, put, put_counted, put_text, tell};
 use std::alloc::Global;
 use vx_base::outcome::NoMemory;
 use vx_base::sink::{Sink, SinkFault};
 use vx_probe::{Probe, Timing};
 use vx_sim::{Ended, Sim};
+use vx_status::{Status, put, put_counted, put_text, tell};
 
 /// How a run ended, and how many words it issued.
 #[derive(Clone, Copy)]

@@ -8,7 +8,7 @@ ghost use Rattle.vx_driver.specs.Effects.{effect_of};
 ghost use Rattle.vx_driver.specs.Command.{Simulate};
 ghost use Rattle.vx_driver.specs.Commands.{TellsLine, TellsRun};
 ghost use Rattle.vx_driver.specs.Asked.{simulation_of};
-ghost use Rattle.vx_driver.specs.Status.{Adds};
+ghost use Rattle.vx_status.specs.Status.{Adds};
 ghost use Rattle.vx_driver.specs.Held.{DefaultUnless, EmptyUnless};
 ghost use Rattle.vx_driver.specs.Simulated.{words_as, words_in, loading_input, loading_machine, loading, is_named, Stops, RunAnswers, SimAnswers, is_of_run, streams_of};
 ghost use Rattle.vx_driver.specs.Ending.{loaded_of};
@@ -19,7 +19,6 @@ use crate::loaded::LoadedFiles;
 use crate::machines::machine_for;
 use crate::run_words::RunWords;
 use crate::running::{no_box, no_probe, run_loaded};
-use crate::status::{Status, tell};
 use std::alloc::Global;
 use vx_base::depot::{Depot, DepotFault};
 use vx_base::reading::{FileRead, read_file};
@@ -28,6 +27,7 @@ use vx_base::sink::Sink;
 use vx_isa::program::WordProgram;
 use vx_machine::Machine;
 use vx_probe::{Probe, Timing};
+use vx_status::{Status, tell};
 use vx_words::{WordsFault, read};
 
 /// The most bytes of a text of words.

@@ -17,14 +17,13 @@ ghost use Rattle.vx_driver.specs.Ending.{loaded_of};
 ghost use Rattle.vx_driver.specs.Simulated.{streams_of, with_input};
 ghost use Rattle.vx_driver.specs.Soaked.{SoakAnswers, SoakedAnswers, byte_sum, puts_summary};
 ghost use Rattle.vx_driver.specs.SoakSteps.{IsMade, IsMadeFrom, PutsEnd, RunEndsSo, SoakRan, line_of};
-ghost use Rattle.vx_driver.specs.Status.{Adds, Tells, counted, status_line};
+ghost use Rattle.vx_status.specs.Status.{Adds, Tells, counted, status_line};
 
 use crate::boxes::timing_of;
 use crate::loaded::LoadedFiles;
 use crate::reading::typed_of;
 use crate::running::{RunEnd, no_box, run};
 use crate::soaking::SoakWords;
-use crate::status::{Status, tell};
 use crate::words::{CompiledProgram, SizedProgram, compile_sized};
 use itoa::Buffer;
 use std::alloc::Global;
@@ -36,6 +35,7 @@ use vx_machine::Machine;
 use vx_probe::Timing;
 use vx_profile::counts::Counts;
 use vx_sim::Ended;
+use vx_status::{Status, tell};
 
 /// How many operations may be copied.
 const GROWTH: u32 = 4000;

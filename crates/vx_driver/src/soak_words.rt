@@ -9,9 +9,9 @@ ghost use Rattle.vx_driver.specs.Asked.{soaking_of};
 use crate::command::{Refused, found_in, without_text};
 use crate::options::{number_or_least, required_number_of};
 use crate::soaking::SoakWords;
-use crate::status::Status;
 use clap::{ArgMatches, Command};
 use std::alloc::{AllocError, Global};
+use vx_status::Status;
 
 const MOST_SEED: u64 = 1000000000;
 

@@ -6,12 +6,12 @@ ghost use Rattle.vx_driver.specs.Held.{HoldsSource, HoldsProgram};
 ghost use Rattle.vx_driver.specs.Effects.{effect_of, SourceAnswers};
 
 use crate::reading::typed_of;
-use crate::status::Status;
 use std::alloc::Global;
 use vx_ast::typed::Typed;
 use vx_base::depot::{Depot, DepotFault};
 use vx_base::reading::{FileRead, read_file};
 use vx_base::role::Role;
+use vx_status::Status;
 
 /// The most bytes of a source.
 pub const MOST_SOURCE_BYTES: u64 = 1048576;

@@ -1,7 +1,7 @@
 // The top call: from the words of a command line to its answer.
 
 ghost use Rattle.std.specs.Prelude.{◌≡◌, ◌≤◌, ◌∷◌, ℕ, List, Option, false, map, string_bytes, IfOk};
-ghost use Rattle.vx_driver.specs.Status.{Appends, Adds, Tells, status_line};
+ghost use Rattle.vx_status.specs.Status.{Appends, Adds, Tells, status_line};
 ghost use Rattle.vx_driver.specs.Command.{command_of, command_named, is_command, names_command, compile_of, sim_of, exec_of, profile_of, soak_of};
 ghost use Rattle.vx_driver.specs.Effects.{effect_of};
 ghost use Rattle.vx_driver.specs.Simulated.{Streams, streams_of};
@@ -17,11 +17,11 @@ use crate::run_words::{exec_asked, sim_asked};
 use crate::sim::simulate_with;
 use crate::soak::soak;
 use crate::soak_words::soak_asked;
-use crate::status::{Status, tell};
 use std::alloc::{AllocError, Global};
 use vx_base::depot::Depot;
 use vx_base::sink::Sink;
 use vx_probe::{Probe, Timing};
+use vx_status::{Status, tell};
 
 /// The words that clap is handed: all but the second.
 fn without_name<'a>(

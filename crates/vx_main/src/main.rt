@@ -6,9 +6,9 @@ use std::process::ExitCode;
 use std::{env, io};
 use vx_base::real::{RealDepot, RealSink};
 use vx_base::sink::Sink;
-use vx_driver::status::{Status, tell};
 use vx_driver::top::vexc;
 use vx_probe::{Cyclic, Early, Late, Probe, Timing, UnitUse, WordCount};
+use vx_status::{Status, tell};
 
 /// The words of the command line, the program's name first. A word that is no UTF-8 makes no command line.
 fn words_of(rt: &HostRuntime) -> Result<Vec<String>, Status> {

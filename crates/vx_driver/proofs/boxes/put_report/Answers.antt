@@ -1,6 +1,6 @@
 -- The report and the line feed, one behind the other.
 use Rattle.std.proofs.Common.{◌∷◌, []}
-use Rattle.vx_driver.proofs.Appending.{cut_before, fails, puts_behind}
+use Rattle.vx_status.proofs.Appending.{cut_before, fails, puts_behind}
 use Rattle.vx_driver.proofs.boxes.put_report.Goals as goal
 
 pub returns-in_err-put : goal.returns-in_err-put

@@ -1,6 +1,6 @@
 -- The reports so far are put, and of the next one a front.
 use Rattle.vx_driver.specs.Boxes.{report_line}
-use Rattle.vx_driver.proofs.Appending.{pieces_cut}
+use Rattle.vx_status.proofs.Appending.{pieces_cut}
 use Rattle.vx_driver.proofs.boxes.put_reports.Goals as goal
 
 pub returns-in_err-put_report-clause-puts : goal.returns-in_err-put_report-clause-puts

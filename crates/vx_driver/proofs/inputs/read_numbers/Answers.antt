@@ -1,7 +1,7 @@
 -- An input's text that was read whole, one that is too long, and one that is not there.
 use Rattle.std.proofs.Common.{◌≡◌, ◌⊎◌, Ok, Err}
 use Rattle.std.proofs.lemmas.Result.{IfErr-weaker, IfOk-weaker}
-use Rattle.vx_driver.specs.declared.status.Status.TheVariants.{NoMemory}
+use Rattle.vx_status.specs.declared.status.Status.TheVariants.{NoMemory}
 use Rattle.vx_driver.specs.Effects.{effect_of}
 use Rattle.vx_driver.specs.InputText.{input_reading}
 use Rattle.vx_driver.specs.Held.{input_as}

@@ -2,7 +2,7 @@
 use Rattle.std.proofs.Common.{◌≡◌, ◌⊎◌}
 use Rattle.std.proofs.lemmas.Result.{IfErr-weaker, IfOk-weaker}
 use Rattle.vx_profile.specs.Text.{Spells}
-use Rattle.vx_driver.specs.declared.status.Status.TheVariants.{NoMemory}
+use Rattle.vx_status.specs.declared.status.Status.TheVariants.{NoMemory}
 use Rattle.vx_driver.specs.Effects.{effect_of}
 use Rattle.vx_driver.specs.Held.{BadProfile}
 use Rattle.vx_driver.proofs.ProfileFile.{spelled, refused, too_long}

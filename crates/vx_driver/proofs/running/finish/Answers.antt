@@ -1,6 +1,6 @@
 -- The lines of the end are put, or they are not and the fault is told.
 use Rattle.std.proofs.Common.{inl, inr}
-use Rattle.vx_driver.proofs.Appending.{appends_on}
+use Rattle.vx_status.proofs.Appending.{appends_on}
 use Rattle.vx_driver.proofs.Ends.{end_fault, rose_then}
 use Rattle.vx_driver.proofs.running.finish.Goals as goal
 

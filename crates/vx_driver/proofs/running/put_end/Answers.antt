@@ -1,5 +1,5 @@
 -- The line of the end, that of the words and the reports behind it.
-use Rattle.vx_driver.proofs.Appending.{adds_put, appends_on}
+use Rattle.vx_status.proofs.Appending.{adds_put, appends_on}
 use Rattle.vx_driver.proofs.Ends.{cuts_on, issued_cut, line_cut, shows_on}
 use Rattle.vx_sim.proofs.Printing.{on_err}
 use Rattle.vx_driver.proofs.running.put_end.Goals as goal

@@ -1,6 +1,6 @@
 -- The pieces of a line, one behind the other.
 use Rattle.std.proofs.Common.{◌∷◌, []}
-use Rattle.vx_driver.proofs.Appending.{cut_before, fails, puts_behind}
+use Rattle.vx_status.proofs.Appending.{cut_before, fails, puts_behind}
 use Rattle.vx_driver.proofs.running.put_issued_line.Goals as goal
 
 pub returns-in_err-put_counted : goal.returns-in_err-put_counted

@@ -3,7 +3,7 @@ use Rattle.std.proofs.Common.{◌∷◌, []}
 use Rattle.std.specs.Int.{w32}
 use Rattle.std.specs.Fmt.{signed_decimal}
 use Rattle.std.proofs.lemmas.Int.{to_z-of_z}
-use Rattle.vx_driver.proofs.Appending.{cut_before, fails, puts_behind}
+use Rattle.vx_status.proofs.Appending.{cut_before, fails, puts_behind}
 use Rattle.vx_driver.proofs.running.put_result.Goals as goal
 
 pub returns-in_err-put : goal.returns-in_err-put

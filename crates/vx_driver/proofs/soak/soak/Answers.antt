@@ -3,7 +3,7 @@ use Rattle.std.proofs.Common.{map, refl}
 use Rattle.vx_driver.specs.Asked.{soaking_of}
 use Rattle.std.specs.Prelude.{codes, None}
 use Rattle.vx_driver.specs.Simulated.{ErrTells, streams_of}
-use Rattle.vx_driver.specs.Status.{status_line}
+use Rattle.vx_status.specs.Status.{status_line}
 use Rattle.vx_driver.proofs.Telling.{no_timing_told, these_told}
 use Rattle.vx_driver.proofs.Runs.{soak_no_timing, soak_timing_there}
 use Rattle.vx_driver.proofs.soak.soak.Goals as goal

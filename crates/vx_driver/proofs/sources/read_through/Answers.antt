@@ -3,7 +3,7 @@ use Rattle.std.proofs.Common.{ℕ, List, ◌⊎◌, ◌≡◌}
 use Rattle.std.proofs.lemmas.Result.{IfErr-weaker, IfOk-weaker}
 use Rattle.vx_ast.specs.Reads.{Reads}
 use Rattle.vx_ast.specs.View.{program_of}
-use Rattle.vx_driver.specs.declared.status.Status.TheVariants.{NoMemory}
+use Rattle.vx_status.specs.declared.status.Status.TheVariants.{NoMemory}
 use Rattle.vx_driver.specs.Effects.{effect_of}
 use Rattle.vx_driver.specs.Held.{RefusesSource}
 use Rattle.vx_driver.proofs.SourceFile.{holds_in, unread}

@@ -2,7 +2,7 @@
 
 ghost use Rattle.std.specs.Prelude.{◌≡◌, ◌++◌, ◌∷◌, [], codes, decimal};
 ghost use Rattle.vx_machine.specs.Descriptions.{name_of};
-ghost use Rattle.vx_driver.specs.Status.{number_of, role_name, reason_name, counted, twice_counted, field_words, trap_line, status_line, Puts, Tells, Adds};
+ghost use Rattle.vx_status.specs.Status.{number_of, role_name, reason_name, counted, twice_counted, field_words, trap_line, status_line, Puts, Tells, Adds};
 
 use vx_base::outcome::{Reason, Trap};
 use vx_base::role::Role;
@@ -87,14 +87,14 @@ fn role_name(role: Role) -> &'static str
 }
 
 /// Puts bytes.
-pub(crate) fn put<E: Sink>(err: &mut E, bytes: &[u8]) -> Result<(), SinkFault>
+pub fn put<E: Sink>(err: &mut E, bytes: &[u8]) -> Result<(), SinkFault>
     ensures { Puts result bytes.now (E.told err.old) (E.told err.new) (E.faults err.old) (E.faults err.new) }
 {
     put_all(err, bytes)
 }
 
 /// Puts a text.
-pub(crate) fn put_text<E: Sink>(err: &mut E, text: &str) -> Result<(), SinkFault>
+pub fn put_text<E: Sink>(err: &mut E, text: &str) -> Result<(), SinkFault>
     ensures { Puts result text.now (E.told err.old) (E.told err.new) (E.faults err.old) (E.faults err.new) }
 {
     put(err, text.as_bytes())
@@ -109,7 +109,7 @@ fn put_number<E: Sink>(err: &mut E, number: u64) -> Result<(), SinkFault>
 }
 
 /// Puts some words, and a number in decimal behind them.
-pub(crate) fn put_counted<E: Sink>(err: &mut E, words: &[u8], number: u64) -> Result<(), SinkFault>
+pub fn put_counted<E: Sink>(err: &mut E, words: &[u8], number: u64) -> Result<(), SinkFault>
     ensures { Puts result (counted words.now number) (E.told err.old) (E.told err.new) (E.faults err.old) (E.faults err.new) }
 {
     put(err, words)?;

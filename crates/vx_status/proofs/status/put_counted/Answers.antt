@@ -1,7 +1,7 @@
 -- The pieces of a line, one behind the other.
 use Rattle.std.specs.Prelude.{decimal}
-use Rattle.vx_driver.proofs.Appending.{cut_before, fails, puts_behind}
-use Rattle.vx_driver.proofs.status.put_counted.Goals as goal
+use Rattle.vx_status.proofs.Appending.{cut_before, fails, puts_behind}
+use Rattle.vx_status.proofs.status.put_counted.Goals as goal
 
 pub returns-in_err-put : goal.returns-in_err-put
 returns-in_err-put g c = fails _ _ c.from_residual.ensures.0 (cut_before _ (decimal c.args.number) c.in_err-put.ensures)

@@ -1,7 +1,7 @@
 -- The pieces of a line, one behind the other.
 use Rattle.std.proofs.Common.{◌∷◌, []}
-use Rattle.vx_driver.proofs.Appending.{cut_before, fails, puts_behind}
-use Rattle.vx_driver.proofs.status.put_input_line.Goals as goal
+use Rattle.vx_status.proofs.Appending.{cut_before, fails, puts_behind}
+use Rattle.vx_status.proofs.status.put_input_line.Goals as goal
 
 pub returns-in_err-put_counted : goal.returns-in_err-put_counted
 returns-in_err-put_counted g c = rw c.from.ensures at (fails _ _ c.from_residual.ensures.0 (cut_before _ (10 ∷ []) c.in_err-put_counted.ensures))

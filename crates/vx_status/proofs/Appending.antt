@@ -5,7 +5,7 @@ use Rattle.std.specs.List.{flat_map}
 use Rattle.vx_base.specs.Outside.{PutsFront, with_bytes}
 use Rattle.vx_base.proofs.OutsideLaws.{rose_throughout}
 use Rattle.vx_base.proofs.Same.{begins_self}
-use Rattle.vx_driver.specs.Status.{Adds, Puts, Tells}
+use Rattle.vx_status.specs.Status.{Adds, Puts, Tells}
 
 pub with_both : (told : Option (List ℕ)) (xs ys : List ℕ) → with_bytes (with_bytes told xs) ys ≡ with_bytes told (xs ++ ys)
 with_both None xs ys = refl

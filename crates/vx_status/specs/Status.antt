@@ -9,8 +9,8 @@ use Rattle.vx_base.specs.declared.outcome.Trap.TheVariants.{Divide, Index, Input
 use Rattle.vx_machine.specs.Descriptions.{name_of}
 use Rattle.vx_base.specs.declared.role.Role.{Role}
 use Rattle.vx_base.specs.declared.role.Role.TheVariants.{Source as TheSource, Words as TheWords, Profile as TheProfile, Machine as TheMachine, Input as TheInput}
-use Rattle.vx_driver.specs.declared.status.Status.{Status}
-use Rattle.vx_driver.specs.declared.status.Status.TheVariants.{Done, Trapped, Usage, Source, Limit, Words, Profile, Machine, NoFile, ReadFault, WriteFault, Stopped, Input, Stuck, NoMemory}
+use Rattle.vx_status.specs.declared.status.Status.{Status}
+use Rattle.vx_status.specs.declared.status.Status.TheVariants.{Done, Trapped, Usage, Source, Limit, Words, Profile, Machine, NoFile, ReadFault, WriteFault, Stopped, Input, Stuck, NoMemory}
 
 abbrev pub number_of : Status → ℕ
 number_of Done = 0

@@ -1,9 +1,9 @@
 -- The pieces of a line, one behind the other.
 use Rattle.std.proofs.Common.{◌∷◌, []}
 use Rattle.std.specs.Prelude.{codes}
-use Rattle.vx_driver.specs.Status.{counted, reason_name}
-use Rattle.vx_driver.proofs.Appending.{cut_before, fails, puts_behind}
-use Rattle.vx_driver.proofs.status.put_stuck_line.Goals as goal
+use Rattle.vx_status.specs.Status.{counted, reason_name}
+use Rattle.vx_status.proofs.Appending.{cut_before, fails, puts_behind}
+use Rattle.vx_status.proofs.status.put_stuck_line.Goals as goal
 
 pub returns-in_err-put : goal.returns-in_err-put
 returns-in_err-put g c = fails _ _ c.from_residual.ensures.0 (cut_before _ (10 ∷ []) (cut_before _ (counted (codes " at word ") c.args.place) (cut_before _ (reason_name c.args.reason) c.in_err-put.ensures)))

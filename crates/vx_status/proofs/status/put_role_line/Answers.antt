@@ -1,8 +1,8 @@
 -- The pieces of a line, one behind the other.
 use Rattle.std.proofs.Common.{◌∷◌, []}
-use Rattle.vx_driver.specs.Status.{role_name}
-use Rattle.vx_driver.proofs.Appending.{cut_before, fails, puts_behind}
-use Rattle.vx_driver.proofs.status.put_role_line.Goals as goal
+use Rattle.vx_status.specs.Status.{role_name}
+use Rattle.vx_status.proofs.Appending.{cut_before, fails, puts_behind}
+use Rattle.vx_status.proofs.status.put_role_line.Goals as goal
 
 pub returns-in_err-put : goal.returns-in_err-put
 returns-in_err-put g c = fails _ _ c.from_residual.ensures.0 (cut_before _ (10 ∷ []) (cut_before _ (role_name c.args.role) c.in_err-put.ensures))

@@ -6,8 +6,8 @@ use Rattle.vx_base.specs.declared.outcome.Reason.TheVariants.{Overfull}
 use Rattle.vx_base.specs.declared.outcome.Trap.TheVariants.{Divide}
 use Rattle.vx_base.specs.declared.role.Role.TheVariants.{Profile as TheProfile, Source as TheSource}
 use Rattle.vx_machine.specs.Descriptions.{names}
-use Rattle.vx_driver.specs.declared.status.Status.TheVariants.{Trapped, Source, Limit, Words, Profile, Machine, NoFile, ReadFault, Input, Stuck}
-use Rattle.vx_driver.specs.Status.{no_box_line, status_line}
+use Rattle.vx_status.specs.declared.status.Status.TheVariants.{Trapped, Source, Limit, Words, Profile, Machine, NoFile, ReadFault, Input, Stuck}
+use Rattle.vx_status.specs.Status.{no_box_line, status_line}
 
 of_a_trap : status_line (Trapped Divide) ≡ codes "trap 1 divide\n"
 of_a_trap = refl

@@ -1,0 +1,6 @@
+// How a command ends: its status, and the line that it puts for it on the error stream.
+#![tactic(auto)]
+
+mod status;
+
+pub use status::{Status, put, put_counted, put_line, put_text, tell};
