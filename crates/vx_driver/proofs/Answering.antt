@@ -10,7 +10,7 @@ use Rattle.vx_status.specs.declared.status.Status.{Status}
 use Rattle.vx_status.specs.declared.status.Status.TheVariants.{Done, Trapped, Usage, Source, Limit, Words, Profile, Machine, NoFile, ReadFault, WriteFault, Stopped, Input, Stuck, NoMemory}
 use Rattle.vx_profile.specs.declared.counts.Counts.{Counts}
 use Rattle.vx_report.specs.Report.{names_of, report_text}
-use Rattle.vx_driver.specs.Command.{Compilation}
+use Rattle.vx_command.specs.Command.{Compilation}
 use Rattle.vx_driver.specs.Stages.{MakesTexts}
 use Rattle.vx_driver.proofs.ProfileFile.{stands}
 use Rattle.vx_driver.specs.Held.{HoldsProgram, Accepts, BadProfile, Is, Refused, TooLong, Missing, found_in, machine_found, AreCounts, RefusesProfile}

@@ -1,7 +1,7 @@
 -- What the answer of the top call excludes where nothing fails, command by command.
 use Rattle.std.proofs.Common.{Option, Some, None, refl}
 use Rattle.vx_status.specs.declared.status.Status.{Status}
-use Rattle.vx_driver.specs.Command.{Command, Compile, Simulate, Execute, Count, Soak}
+use Rattle.vx_command.specs.Command.{Command, Compile, Simulate, Execute, Count, Soak}
 use Rattle.vx_driver.specs.Boxes.{Boxes}
 use Rattle.vx_driver.specs.Effects.{Effect}
 use Rattle.vx_driver.specs.Simulated.{Streams}

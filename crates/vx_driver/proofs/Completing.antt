@@ -12,7 +12,7 @@ use Rattle.vx_status.specs.declared.status.Status.TheVariants.{Done, Trapped, Us
 use Rattle.vx_ast.specs.Reads.{Reads, Refusal}
 use Rattle.vx_driver.proofs.SourceLaws.{never_both, one_refusal}
 use Rattle.vx_driver.proofs.ProfileFile.{not_both_profiles, one_profile_status}
-use Rattle.vx_driver.specs.Command.{Compilation}
+use Rattle.vx_command.specs.Command.{Compilation}
 use Rattle.vx_driver.specs.Held.{Accepts, status_of, RefusesSource, Refuses, MachineFound, Is, Refused, TooLong, Missing, found_in, machine_found, BadProfile, ProfileStands, RefusesProfile}
 use Rattle.vx_driver.specs.Answers.{Writes, CompileAnswers, CompileEnds}
 use Rattle.vx_driver.specs.Effects.{Effect, ReadsRose, ReplacesRose, OfFile}

@@ -7,7 +7,7 @@ use Rattle.vx_ast.specs.Reads.{Refusal}
 use Rattle.vx_ast.specs.declared.fault.SourceFault.{SourceFault}
 use Rattle.vx_status.specs.declared.status.Status.{Status}
 use Rattle.vx_status.specs.declared.status.Status.TheVariants.{Done, Trapped, Usage, Source, Limit, Words, Profile, Machine, NoFile, ReadFault, WriteFault, Stopped, Input, Stuck, NoMemory}
-use Rattle.vx_driver.specs.Command.{Profiling}
+use Rattle.vx_command.specs.Command.{Profiling}
 use Rattle.vx_driver.specs.Held.{HoldsProgram, Accepts, Refuses, RefusesSource, status_of, input_in, input_found}
 use Rattle.vx_driver.specs.Effects.{Effect, ReadsRose, SameFiles, OfFile, SourceAnswers, InputAnswers}
 use Rattle.vx_driver.specs.Simulated.{Streams, OutRose}

@@ -11,7 +11,7 @@ use Rattle.vx_ast.specs.Tree.{Program}
 use Rattle.vx_ast.specs.Reads.{Reads, Refusal}
 use Rattle.vx_ast.specs.declared.fault.SourceFault.{SourceFault}
 use Rattle.vx_probe.specs.Times.{Times}
-use Rattle.vx_driver.specs.Command.{Execution}
+use Rattle.vx_command.specs.Command.{Execution}
 use Rattle.vx_driver.specs.Boxes.{Boxes, Chosen, chosen}
 use Rattle.vx_driver.specs.Held.{HoldsProgram, Accepts, status_of, RefusesSource, Refuses, MachineFound, BadProfile, ProfileStands, RefusesProfile, Is, Refused, TooLong, Missing, found_in, machine_found, input_in, input_found}
 use Rattle.vx_driver.specs.Effects.{Effect, ReadsRose, OfFile}

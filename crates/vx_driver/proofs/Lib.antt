@@ -1,17 +1,9 @@
 pub mod Telling
 pub mod Inputs
 pub mod InRange
-pub mod RunFound
 pub mod Picking
-pub mod CommandWords
-pub mod ProfileWords
-pub mod SoakWords
-mod SoakRows
 mod SummaryRows
-mod CommandRows
-mod SimRows
 mod InputRows
-mod ExecRows
 pub mod Refusing
 pub mod Answering
 pub mod MachineFile

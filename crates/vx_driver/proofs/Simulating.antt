@@ -6,7 +6,7 @@ use Rattle.vx_base.specs.declared.role.Role.TheVariants.{Machine as TheMachine, 
 use Rattle.vx_probe.specs.Times.{Times}
 use Rattle.vx_status.specs.declared.status.Status.{Status}
 use Rattle.vx_status.specs.declared.status.Status.TheVariants.{Done, Trapped, Usage, Source, Limit, Words, Profile, Machine, NoFile, ReadFault, WriteFault, Stopped, Input, Stuck, NoMemory}
-use Rattle.vx_driver.specs.Command.{Simulation}
+use Rattle.vx_command.specs.Command.{Simulation}
 use Rattle.vx_driver.specs.Boxes.{Boxes, Chosen, chosen}
 use Rattle.vx_machine.specs.declared.description.MachineFault.TheVariants.{Bad}
 use Rattle.vx_driver.specs.Held.{Refused, found_in, input_in}

@@ -21,7 +21,7 @@ use Rattle.vx_driver.specs.declared.soak.ProgramSizes.{ProgramSizes}
 use Rattle.vx_status.specs.declared.status.Status.{Status}
 use Rattle.vx_status.specs.declared.status.Status.TheVariants.{Done, Trapped, Usage, Source, Limit, Words, Profile, Machine, NoFile, ReadFault, WriteFault, Stopped, Input, Stuck, NoMemory}
 use Rattle.vx_driver.specs.declared.words.FlowSize.{FlowSize}
-use Rattle.vx_driver.specs.Command.{Soaking}
+use Rattle.vx_command.specs.Command.{Soaking}
 use Rattle.vx_driver.specs.Boxes.{Boxes, Chosen, chosen}
 use Rattle.vx_driver.specs.Effects.{Effect}
 use Rattle.vx_driver.specs.Ending.{RunOf}

@@ -7,7 +7,7 @@ use Rattle.vx_probe.specs.Times.{Times}
 use Rattle.vx_probe.specs.Watch.{Watch}
 use Rattle.vx_status.specs.Status.{no_box_line, status_line}
 use Rattle.vx_driver.specs.Boxes.{Boxes, Chosen, chosen, chosen_of, timing_named, probes_named, unknown_name, unknown_of}
-use Rattle.vx_driver.specs.Command.{Command, Compile, Simulate, Execute, Count, Soak}
+use Rattle.vx_command.specs.Command.{Command, Compile, Simulate, Execute, Count, Soak}
 use Rattle.vx_driver.specs.Simulated.{Streams, ErrTells}
 use Rattle.vx_driver.specs.Commands.{TellsRun, TellsBox, TellsLine}
 use Rattle.vx_driver.specs.Ending.{TellsProbe}

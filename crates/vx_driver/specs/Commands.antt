@@ -3,7 +3,7 @@ use Rattle.std.specs.Prelude.{◌≡◌, ◌⊎◌, Bool, false, List, ℕ, code
 use Rattle.vx_base.specs.Outside.{with_bytes}
 use Rattle.vx_status.specs.declared.status.Status.{Status}
 use Rattle.vx_status.specs.declared.status.Status.TheVariants.{Done, Trapped, Usage, WriteFault, Stopped, Stuck, NoMemory}
-use Rattle.vx_driver.specs.Command.{Command, Compile, Simulate, Execute, Count, Soak}
+use Rattle.vx_command.specs.Command.{Command, Compile, Simulate, Execute, Count, Soak}
 use Rattle.vx_driver.specs.Boxes.{Boxes, Chosen, chosen, unknown_name}
 use Rattle.vx_status.specs.Status.{no_box_line, status_line}
 use Rattle.vx_driver.specs.Effects.{Effect, SameFiles, ReadsRose, ReplacesRose}

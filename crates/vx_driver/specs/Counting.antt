@@ -7,7 +7,7 @@ use Rattle.vx_flow.specs.Meaning.{graph_run}
 use Rattle.vx_profile.specs.Text.{counts_text}
 use Rattle.vx_status.specs.declared.status.Status.{Status}
 use Rattle.vx_status.specs.declared.status.Status.TheVariants.{Done, WriteFault, Stopped, NoMemory}
-use Rattle.vx_driver.specs.Command.{Profiling}
+use Rattle.vx_command.specs.Command.{Profiling}
 use Rattle.vx_driver.specs.Effects.{Effect, SourceAnswers}
 use Rattle.vx_driver.specs.Held.{EmptyUnless, input_found}
 use Rattle.vx_driver.specs.Simulated.{Streams, OutRose}

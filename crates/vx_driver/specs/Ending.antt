@@ -11,7 +11,7 @@ use Rattle.vx_status.specs.declared.status.Status.{Status}
 use Rattle.vx_status.specs.declared.status.Status.TheVariants.{Done, Trapped, Usage, WriteFault, Stopped, Stuck, NoMemory}
 use Rattle.vx_driver.specs.declared.loaded.LoadedFiles.{LoadedFiles}
 use Rattle.vx_status.specs.Status.{Tells, TellsWith, no_box_line, status_line}
-use Rattle.vx_driver.specs.Command.{Execution}
+use Rattle.vx_command.specs.Command.{Execution}
 use Rattle.vx_driver.specs.Effects.{Effect, SourceAnswers, InputAnswers}
 use Rattle.vx_driver.specs.Held.{ProfileStands, Is, machine_found}
 use Rattle.vx_driver.specs.Answers.{StopsAtProfile, StopsAtMachine, NoProfile, NoMachine}

@@ -17,7 +17,7 @@ use Rattle.vx_report.specs.declared.plan.Plan.{Plan}
 use Rattle.vx_status.specs.declared.status.Status.{Status}
 use Rattle.vx_status.specs.declared.status.Status.TheVariants.{Done, Trapped, Usage, Source, Limit, Words, Profile, Machine, NoFile, ReadFault, WriteFault, Stopped, Input, Stuck, NoMemory}
 use Rattle.vx_status.specs.Status.{status_line}
-use Rattle.vx_driver.specs.Command.{Execution}
+use Rattle.vx_command.specs.Command.{Execution}
 use Rattle.vx_driver.specs.Boxes.{Boxes, Chosen, chosen}
 use Rattle.vx_driver.specs.Compiled.{Compiled}
 use Rattle.vx_driver.specs.Held.{AreCounts, HoldsProgram, Accepts, status_of, Is, machine_found, ProfileStands, RefusesProfile, input_found}

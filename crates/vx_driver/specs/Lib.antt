@@ -1,8 +1,6 @@
 pub mod Faithful
 pub mod Compiled
 pub mod Stages
-pub mod Command
-pub mod Asked
 pub mod InputText
 pub mod Boxes
 pub mod Held

@@ -19,7 +19,7 @@ use Rattle.vx_words.specs.Text.{Spells, Fault, reading}
 use Rattle.vx_status.specs.declared.status.Status.{Status}
 use Rattle.vx_status.specs.declared.status.Status.TheVariants.{Done, Trapped, Usage, Source, Limit, Words, Profile, Machine, NoFile, ReadFault, WriteFault, Stopped, Input, Stuck, NoMemory}
 use Rattle.vx_status.specs.Status.{Tells, TellsWith, status_line}
-use Rattle.vx_driver.specs.Command.{Simulation}
+use Rattle.vx_command.specs.Command.{Simulation}
 use Rattle.vx_driver.specs.Boxes.{Boxes, Chosen, chosen, report_line}
 use Rattle.vx_driver.specs.Held.{MachineFound, Is, Refused, TooLong, Missing, found_in, machine_found, file_in, input_in, input_found, DefaultUnless, EmptyUnless}
 use Rattle.vx_driver.specs.Effects.{Effect, ReadsRose, SameFiles, OfFile}

@@ -14,7 +14,7 @@ use Rattle.vx_sim.specs.declared.ended.Ended.TheVariants.{Halted, Trapped as Tra
 use Rattle.vx_driver.specs.declared.soak.ProgramSizes.{ProgramSizes}
 use Rattle.vx_status.specs.declared.status.Status.{Status}
 use Rattle.vx_status.specs.declared.status.Status.TheVariants.{Done, Trapped, WriteFault, Stopped, NoMemory}
-use Rattle.vx_driver.specs.Command.{Soaking}
+use Rattle.vx_command.specs.Command.{Soaking}
 use Rattle.vx_driver.specs.Compiled.{Compiled}
 use Rattle.vx_driver.specs.Simulated.{Loaded, Streams, OutRose, with_input, outcome_within, events_within}
 use Rattle.vx_driver.specs.Soaked.{Soaked, SoakRuns, byte_sum, soak_budget, soak_growth, soaked_words, summary, summary_of}

@@ -5,12 +5,11 @@ ghost use Rattle.std.specs.Prelude.{◌≡◌, ◌≢◌, ◌≤◌, ◌⊎◌, 
 ghost use Rattle.vx_ast.specs.View as view;
 ghost use Rattle.vx_driver.specs.Effects.{effect_of};
 ghost use Rattle.vx_driver.specs.Answers.{CompileAnswers, WriteAnswers, ReportAnswers, PutsTexts, MachineOrTexts, ProgramAnswers};
-ghost use Rattle.vx_driver.specs.Asked.{compilation_of};
+ghost use Rattle.vx_command.specs.Asked.{compilation_of};
 ghost use Rattle.vx_driver.specs.Stages.{MakesTexts};
 ghost use Rattle.vx_report.specs.Report.{names_of, report_text};
 ghost use Rattle.vx_words.specs.Text.{Spells};
 
-use crate::command::CompileWords;
 use crate::machines::machine_for;
 use crate::profiles::counts_for;
 use crate::sources::read_through;
@@ -19,6 +18,7 @@ use std::alloc::Global;
 use vx_ast::typed::Typed;
 use vx_base::depot::{Depot, DepotFault};
 use vx_base::outcome::NoMemory;
+use vx_command::CompileWords;
 use vx_machine::Machine;
 use vx_profile::counts::Counts;
 use vx_report::{Plan, report};

@@ -2,7 +2,6 @@
 #![tactic(auto)]
 
 mod boxes;
-mod command;
 mod compiling;
 mod exec;
 mod input;
@@ -11,18 +10,13 @@ pub mod laws;
 mod layouts;
 mod loaded;
 mod machines;
-mod options;
 mod profile;
-mod profile_words;
 mod profiles;
 mod ranges;
 mod reading;
-mod run_words;
 mod running;
 mod sim;
 mod soak;
-mod soak_words;
-mod soaking;
 mod sources;
 pub mod top;
 pub mod words;

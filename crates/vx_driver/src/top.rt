@@ -2,24 +2,21 @@
 
 ghost use Rattle.std.specs.Prelude.{◌≡◌, ◌≤◌, ◌∷◌, ℕ, List, Option, false, map, string_bytes, IfOk};
 ghost use Rattle.vx_status.specs.Status.{Appends, Adds, Tells, status_line};
-ghost use Rattle.vx_driver.specs.Command.{command_of, command_named, is_command, names_command, compile_of, sim_of, exec_of, profile_of, soak_of};
+ghost use Rattle.vx_command.specs.Command.{command_of, command_named, is_command, names_command, compile_of, sim_of, exec_of, profile_of, soak_of};
 ghost use Rattle.vx_driver.specs.Effects.{effect_of};
 ghost use Rattle.vx_driver.specs.Simulated.{Streams, streams_of};
 ghost use Rattle.vx_driver.specs.Boxes.{Boxes};
 ghost use Rattle.vx_driver.specs.Commands.{Answers, Completes, TellsLine, puts_output};
 
-use crate::command::{asked_of, refuse};
 use crate::compiling::compile;
 use crate::exec::execute_with;
 use crate::profile::profile;
-use crate::profile_words::profile_asked;
-use crate::run_words::{exec_asked, sim_asked};
 use crate::sim::simulate_with;
 use crate::soak::soak;
-use crate::soak_words::soak_asked;
 use std::alloc::{AllocError, Global};
 use vx_base::depot::Depot;
 use vx_base::sink::Sink;
+use vx_command::{asked_of, exec_asked, profile_asked, refuse, sim_asked, soak_asked};
 use vx_probe::{Probe, Timing};
 use vx_status::{Status, tell};
 

@@ -1,5 +1,5 @@
 -- What was read and compiled is run, or a step before stopped the command.
-use Rattle.vx_driver.specs.Asked.{execution_of}
+use Rattle.vx_command.specs.Asked.{execution_of}
 use Rattle.vx_driver.specs.Ending.{loaded_of}
 use Rattle.vx_driver.proofs.Runs.{wanted_for}
 use Rattle.vx_driver.proofs.Executing.{run_executed, stops_told}

@@ -1,6 +1,6 @@
 -- The boxes are there, or they are not and the name is told.
 use Rattle.std.proofs.Common.{refl, map}
-use Rattle.vx_driver.specs.Asked.{execution_of}
+use Rattle.vx_command.specs.Asked.{execution_of}
 use Rattle.vx_driver.specs.Commands.{TellsRun}
 use Rattle.vx_driver.specs.Simulated.{streams_of}
 use Rattle.vx_driver.proofs.Telling.{timing_told, probe_told, these_told}

@@ -1,5 +1,5 @@
 -- The text of the counts is put, or a step before stopped the command.
-use Rattle.vx_driver.specs.Asked.{profiling_of}
+use Rattle.vx_command.specs.Asked.{profiling_of}
 use Rattle.vx_driver.proofs.Counting.{text_answers, stops_answers}
 use Rattle.vx_driver.proofs.profile.profile.Goals as goal
 

@@ -1,6 +1,6 @@
 -- The timing is there, or it is not and its name is told.
 use Rattle.std.proofs.Common.{map, refl}
-use Rattle.vx_driver.specs.Asked.{soaking_of}
+use Rattle.vx_command.specs.Asked.{soaking_of}
 use Rattle.std.specs.Prelude.{codes, None}
 use Rattle.vx_driver.specs.Simulated.{ErrTells, streams_of}
 use Rattle.vx_status.specs.Status.{status_line}

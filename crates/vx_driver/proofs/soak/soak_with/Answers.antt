@@ -1,5 +1,5 @@
 -- What is put of the run's end.
-use Rattle.vx_driver.specs.Asked.{soaking_of}
+use Rattle.vx_command.specs.Asked.{soaking_of}
 use Rattle.vx_driver.proofs.SoakLaws.{soaked_answers}
 use Rattle.vx_driver.proofs.soak.soak_with.Goals as goal
 

@@ -1,6 +1,6 @@
 -- What the words ask for is done, or they are refused.
 use Rattle.std.proofs.Common.{refl, map}
-use Rattle.vx_driver.specs.Command.{exec_of}
+use Rattle.vx_command.specs.Command.{exec_of}
 use Rattle.vx_driver.specs.Simulated.{streams_of}
 use Rattle.vx_driver.proofs.Runs.{refused_answers}
 use Rattle.vx_driver.proofs.Telling.{refused_line}

@@ -1,0 +1,87 @@
+-- What words ask for, worked out by hand.
+use Rattle.std.proofs.Common.{◌≡◌, refl, [], ◌∷◌, Some, None, codes}
+use Rattle.clap.proofs.OnLiterals.{clap_on_literals}
+use Rattle.vx_command.specs.Command.{Compile, compile_app, compile_of, exec_app, exec_of, command_of}
+
+plain : command_of (codes "vexc" ∷ codes "compile" ∷ codes "a.c" ∷ codes "b" ∷ []) ≡ Some (Compile (record { source = codes "a.c"; out = codes "b"; profile = None; machine = None; growth = 4000; report = None }))
+unfolding clap_on_literals compile_app compile_of
+plain = refl
+
+with_machine : command_of (codes "vexc" ∷ codes "compile" ∷ codes "--machine" ∷ codes "m" ∷ codes "a.c" ∷ codes "b" ∷ []) ≡ Some (Compile (record { source = codes "a.c"; out = codes "b"; profile = None; machine = Some (codes "m"); growth = 4000; report = None }))
+unfolding clap_on_literals compile_app compile_of
+with_machine = refl
+
+attached : command_of (codes "vexc" ∷ codes "compile" ∷ codes "a.c" ∷ codes "--machine=m" ∷ codes "b" ∷ []) ≡ Some (Compile (record { source = codes "a.c"; out = codes "b"; profile = None; machine = Some (codes "m"); growth = 4000; report = None }))
+unfolding clap_on_literals compile_app compile_of
+attached = refl
+
+twice : command_of (codes "vexc" ∷ codes "compile" ∷ codes "--machine=m" ∷ codes "a.c" ∷ codes "b" ∷ codes "--machine=m" ∷ []) ≡ None
+unfolding clap_on_literals compile_app compile_of
+twice = refl
+
+no_out : command_of (codes "vexc" ∷ codes "compile" ∷ codes "a.c" ∷ []) ≡ None
+unfolding clap_on_literals compile_app compile_of
+no_out = refl
+
+too_many : command_of (codes "vexc" ∷ codes "compile" ∷ codes "a.c" ∷ codes "b" ∷ codes "c" ∷ []) ≡ None
+unfolding clap_on_literals compile_app compile_of
+too_many = refl
+
+help : command_of (codes "vexc" ∷ codes "compile" ∷ codes "a.c" ∷ codes "b" ∷ codes "--help" ∷ []) ≡ None
+unfolding clap_on_literals compile_app compile_of
+help = refl
+
+unknown : command_of (codes "vexc" ∷ codes "compile" ∷ codes "a.c" ∷ codes "b" ∷ codes "--words" ∷ codes "1" ∷ []) ≡ None
+unfolding clap_on_literals compile_app compile_of
+unknown = refl
+
+no_machine : command_of (codes "vexc" ∷ codes "compile" ∷ codes "a.c" ∷ codes "b" ∷ codes "--machine" ∷ []) ≡ None
+unfolding clap_on_literals compile_app compile_of
+no_machine = refl
+
+no_growth_at_all : command_of (codes "vexc" ∷ codes "compile" ∷ codes "a.c" ∷ codes "b" ∷ codes "--growth" ∷ codes "0" ∷ []) ≡ Some (Compile (record { source = codes "a.c"; out = codes "b"; profile = None; machine = None; growth = 0; report = None }))
+unfolding clap_on_literals compile_app compile_of
+no_growth_at_all = refl
+
+most_growth : command_of (codes "vexc" ∷ codes "compile" ∷ codes "a.c" ∷ codes "b" ∷ codes "--growth=1000000" ∷ []) ≡ Some (Compile (record { source = codes "a.c"; out = codes "b"; profile = None; machine = None; growth = 1000000; report = None }))
+unfolding clap_on_literals compile_app compile_of
+most_growth = refl
+
+too_much_growth : command_of (codes "vexc" ∷ codes "compile" ∷ codes "a.c" ∷ codes "b" ∷ codes "--growth" ∷ codes "1000001" ∷ []) ≡ None
+unfolding clap_on_literals compile_app compile_of
+too_much_growth = refl
+
+growth_of_no_number : command_of (codes "vexc" ∷ codes "compile" ∷ codes "a.c" ∷ codes "b" ∷ codes "--growth=-1" ∷ []) ≡ None
+unfolding clap_on_literals compile_app compile_of
+growth_of_no_number = refl
+
+machine_and_growth : command_of (codes "vexc" ∷ codes "compile" ∷ codes "a.c" ∷ codes "b" ∷ codes "--growth" ∷ codes "12" ∷ codes "--machine" ∷ codes "m" ∷ []) ≡ Some (Compile (record { source = codes "a.c"; out = codes "b"; profile = None; machine = Some (codes "m"); growth = 12; report = None }))
+unfolding clap_on_literals compile_app compile_of
+machine_and_growth = refl
+
+growth_twice : command_of (codes "vexc" ∷ codes "compile" ∷ codes "a.c" ∷ codes "b" ∷ codes "--growth=1" ∷ codes "--growth=1" ∷ []) ≡ None
+unfolding clap_on_literals compile_app compile_of
+growth_twice = refl
+
+with_profile : command_of (codes "vexc" ∷ codes "compile" ∷ codes "a.c" ∷ codes "b" ∷ codes "--machine=m" ∷ codes "--profile" ∷ codes "p" ∷ []) ≡ Some (Compile (record { source = codes "a.c"; out = codes "b"; profile = Some (codes "p"); machine = Some (codes "m"); growth = 4000; report = None }))
+unfolding clap_on_literals compile_app compile_of
+with_profile = refl
+
+profile_twice : command_of (codes "vexc" ∷ codes "compile" ∷ codes "a.c" ∷ codes "b" ∷ codes "--profile=p" ∷ codes "--profile=p" ∷ []) ≡ None
+unfolding clap_on_literals compile_app compile_of
+profile_twice = refl
+
+with_report : command_of (codes "vexc" ∷ codes "compile" ∷ codes "--report" ∷ codes "r" ∷ codes "a.c" ∷ codes "b" ∷ []) ≡ Some (Compile (record { source = codes "a.c"; out = codes "b"; profile = None; machine = None; growth = 4000; report = Some (codes "r") }))
+unfolding clap_on_literals compile_app compile_of
+with_report = refl
+
+report_twice : command_of (codes "vexc" ∷ codes "compile" ∷ codes "a.c" ∷ codes "b" ∷ codes "--report=r" ∷ codes "--report=r" ∷ []) ≡ None
+unfolding clap_on_literals compile_app compile_of
+report_twice = refl
+
+no_report_of_a_run : command_of (codes "vexc" ∷ codes "exec" ∷ codes "a.c" ∷ codes "--report=r" ∷ []) ≡ None
+unfolding clap_on_literals exec_app exec_of
+no_report_of_a_run = refl
+
+another : command_of (codes "vexc" ∷ codes "run" ∷ codes "a.c" ∷ codes "b" ∷ []) ≡ None
+another = refl

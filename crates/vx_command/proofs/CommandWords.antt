@@ -1,0 +1,73 @@
+-- What clap finds in the words of a command, as the definition of the command says it.
+use Rattle.std.proofs.Common.{◌≡◌, ◌≢◌, ◌∙◌, ℕ, Bool, true, false, List, [], ◌∷◌, map, Option, Some, None, option_map, refl, subst, ap}
+use Rattle.std.specs.Prelude.{codes, find, option_and_then, slice_get, unwrap_or}
+use Rattle.std.specs.Borrow.{Bor}
+use Rattle.std.specs.Str.{bytes_eq}
+use Rattle.clap.specs.Facts.{Entry}
+use Rattle.clap.specs.Walk.{Row, row_of, first_of, rows_of}
+use Rattle.clap.specs.Matches.{first_value}
+use Rattle.clap.specs.Simple.{App, is_simple, matches_of}
+use Rattle.clap.specs.Faults.{fault_of, is_simple_and_free}
+use Rattle.clap.specs.Kinds.{Kinds, IsAmong}
+use Rattle.clap.specs.declared.error.kind.ErrorKind.{ErrorKind}
+use Rattle.clap.specs.declared.parser.matches.Found.{Found}
+use Rattle.vx_command.specs.Command.{Compile, compile_app, compile_found, compile_unless, compile_of, growth_of}
+
+-- the first value of an id, read from the entries or from their rows
+
+first_text : (vs : List (Bor (List ℕ))) → option_map (λ s. s.now) (slice_get vs 0) ≡ slice_get (map (λ s. s.now) vs) 0
+first_text [] = refl
+first_text (v ∷ vs) = refl
+
+first_in : (es : List Entry) (id : List ℕ) →
+    option_and_then (λ a. option_map (λ s. s.now) (slice_get a.vals.items 0)) (option_map (λ e. e.1) (find (λ e. bytes_eq e.0.now id) es)) ≡ first_of id (map row_of es)
+first_in [] id = refl
+first_in (e ∷ es) id = by (bytes_eq e.0.now id) refl (first_in es id)
+  where
+    by : (b : Bool) → bytes_eq e.0.now id ≡ b →
+        option_and_then (λ a. option_map (λ s. s.now) (slice_get a.vals.items 0)) (option_map (λ x. x.1) (find (λ x. bytes_eq x.0.now id) es)) ≡ first_of id (map row_of es) →
+        option_and_then (λ a. option_map (λ s. s.now) (slice_get a.vals.items 0)) (option_map (λ x. x.1) (find (λ x. bytes_eq x.0.now id) (e ∷ es))) ≡ first_of id (map row_of (e ∷ es))
+    by true is more = rw is (first_text e.1.vals.items)
+    by false is more = rw is more
+
+pub first_of_rows : (f : Found) (id : List ℕ) → first_value f id ≡ first_of id (rows_of f)
+first_of_rows f id = first_in f.entries.items id
+
+pub compile_is_simple : is_simple compile_app ≡ true
+unfolding compile_app
+compile_is_simple = refl
+
+pub compile_is_free : is_simple_and_free compile_app ≡ true
+unfolding compile_app
+compile_is_free = refl
+
+pub fault_then : (kinds : Kinds) (k : ErrorKind) → IsAmong k kinds → kinds ≢ []
+fault_then [] k h is = h
+fault_then (other ∷ more) k h is = absurd cc
+
+unless_rows : (kinds : Kinds) (rows found : List Row) → kinds ≡ [] → found ≡ rows → compile_unless kinds rows ≡ compile_unless [] found
+unless_rows kinds rows found none same = rw (none, same) refl
+
+unless_none : (kinds : Kinds) (rows : List Row) → kinds ≢ [] → compile_unless kinds rows ≡ None
+unless_none [] rows some = absurd (some refl)
+unless_none (kind ∷ kinds) rows some = refl
+
+module _ (app : App) (is : app ≡ compile_app) (words : List (List ℕ)) where
+  pub taken : (found : List Row) → fault_of app words ≡ [] → found ≡ matches_of app words → compile_of words ≡ compile_unless [] found
+  unfolding compile_of
+  taken found none same = unless_rows (fault_of compile_app words) (matches_of compile_app words) found (subst (λ (a : App). fault_of a words ≡ []) is none) (subst (λ (a : App). found ≡ matches_of a words) is same)
+
+  pub refused : fault_of app words ≢ [] → compile_of words ≡ None
+  unfolding compile_of
+  refused some = unless_none (fault_of compile_app words) (matches_of compile_app words) (subst (λ (a : App). fault_of a words ≢ []) is some)
+
+pub found_is : (f : Found) (s o : List ℕ) (p m r : Option (List ℕ)) (growth : ℕ) → s ≡ unwrap_or (first_value f (codes "SRC")) [] → o ≡ unwrap_or (first_value f (codes "OUT")) [] →
+    p ≡ first_value f (codes "profile") → m ≡ first_value f (codes "machine") → r ≡ first_value f (codes "report") → Some growth ≡ growth_of (first_value f (codes "growth")) →
+    Some (Compile (record { source = s; out = o; profile = p; machine = m; growth = growth; report = r })) ≡ compile_unless [] (rows_of f)
+found_is f s o p m r growth a b d c t g =
+    let same : Compile (record { source = s; out = o; profile = p; machine = m; growth = growth; report = r }) ≡ compile_found (rows_of f) growth =
+    rw (a, b, d, c, t, first_of_rows f (codes "SRC"), first_of_rows f (codes "OUT"), first_of_rows f (codes "profile"), first_of_rows f (codes "machine"), first_of_rows f (codes "report")) refl in
+    ap Some same ∙ ap (option_map (compile_found (rows_of f))) (g ∙ ap growth_of (first_of_rows f (codes "growth")))
+
+pub none_found : (f : Found) → None ≡ growth_of (first_value f (codes "growth")) → None ≡ compile_unless [] (rows_of f)
+none_found f g = ap (option_map (compile_found (rows_of f))) (g ∙ ap growth_of (first_of_rows f (codes "growth")))

@@ -1,0 +1,176 @@
+// The words of a command line: the second names the command, and clap reads the others.
+
+ghost use Rattle.std.specs.Prelude.{◌≡◌, ◌≢◌, ◌⊎◌, [], true, unwrap_or, Some, None, map, IfOk, IfErr};
+ghost use Rattle.clap.specs.Words.{app_of, fault_of, first_value, found_of, is_simple, is_simple_and_free, kind_of, matches_of, rows_of};
+ghost use Rattle.clap.specs.declared.error.kind.ErrorKind.TheVariants.{OutOfMemory};
+ghost use Rattle.vx_status.specs.Status.{Adds, Tells, status_line};
+ghost use Rattle.vx_command.specs.Asked.{compilation_of};
+ghost use Rattle.vx_command.specs.Command.{Compile, compile_app, compile_of, compile_unless};
+
+use crate::options::{file_command, growth_of, option_of, required_of, with_compiling_options};
+use clap::error::ErrorKind;
+use clap::{ArgMatches, Command, Error};
+use std::alloc::{AllocError, Global};
+use vx_base::sink::Sink;
+use vx_status::{Status, put, tell};
+
+/// The words of `compile`.
+#[derive(Drop)]
+pub struct CompileWords<'a> {
+    /// The name of the source's file.
+    pub source: &'a str,
+    /// The name of the output's file.
+    pub out: &'a str,
+    /// The name of the file of the profile.
+    pub profile: Option<&'a str>,
+    /// The name of the file with the description of the machine.
+    pub machine: Option<&'a str>,
+    /// How many operations may be copied.
+    pub growth: u32,
+    /// The name of the file of the report.
+    pub report: Option<&'a str>,
+}
+
+/// `compile SRC OUT [--profile P] [--machine M] [--growth G] [--report R]`.
+fn compile_command<'a>(alloc: Global) -> Result<Command<'a>, AllocError>
+    ensures { IfOk result (λ command. app_of command ≡ compile_app) }
+{
+    with_compiling_options(
+        alloc,
+        file_command(
+            alloc,
+            "compile",
+            "Compiles a source, and replaces a file by its words",
+            "SRC",
+            "The file of the source",
+        )?
+        .arg(required_of(alloc, "OUT", "The file that the words go to"))?,
+    )?
+    .arg(option_of(
+        alloc,
+        "report",
+        "The file that the report of the plan goes to [default: none]",
+    ))
+}
+
+/// The text at a word that has to be there.
+pub(crate) fn text_at<'a>(found: &ArgMatches<'a>, name: &str) -> &'a str
+    ensures { result.now ≡ unwrap_or (first_value (found_of found.now) name.now) [] }
+{
+    match found.get_str(name) {
+        Some(text) => text,
+        None => "",
+    }
+}
+
+/// Why words are refused: the status, and the text that clap gives, where there is one and memory for it.
+#[derive(Drop)]
+pub struct Refused {
+    /// The status, which is that of no command line, or that of want of memory.
+    pub status: Status,
+    /// The text of clap, help included.
+    pub text: Option<String>,
+}
+
+/// A refusal without a text of clap's.
+pub(crate) fn without_text(status: Status) -> Refused
+    ensures { result.status ≡ status }
+{
+    Refused { status, text: None }
+}
+
+/// The text that clap gives for its refusal.
+fn text_of(alloc: Global, error: &Error) -> Option<String> {
+    error.to_string(alloc).ok()
+}
+
+/// The refusal of clap. Where memory is wanted, the line of that status is put in place of clap's text.
+pub(crate) fn refusal_of(alloc: Global, error: &Error) -> Refused
+    ensures { ((kind_of error.now ≡ OutOfMemory) × (result.status ≡ Status.NoMemory)) ⊎ ((kind_of error.now ≢ OutOfMemory) × (result.status ≡ Status.Usage)) }
+{
+    match error.kind() {
+        ErrorKind::OutOfMemory => without_text(Status::NoMemory),
+        _ => Refused {
+            status: Status::Usage,
+            text: text_of(alloc, error),
+        },
+    }
+}
+
+/// What clap finds in the words of a command, or its refusal.
+pub(crate) fn found_in<'a>(
+    alloc: Global,
+    command: Command<'a>,
+    words: &'a [&'a str],
+) -> Result<ArgMatches<'a>, Refused>
+    requires simple { is_simple (app_of command) ≡ true }
+    requires free { is_simple_and_free (app_of command) ≡ true }
+    ensures none { IfOk result (λ found. fault_of (app_of command.entry) (map (λ w. w.now) words.now) ≡ []) }
+    ensures rows { IfOk result (λ found. rows_of (found_of found) ≡ matches_of (app_of command.entry) (map (λ w. w.now) words.now)) }
+    ensures refused { IfErr result (λ refused. (refused.status ≡ Status.NoMemory) ⊎ ((refused.status ≡ Status.Usage) × (fault_of (app_of command.entry) (map (λ w. w.now) words.now) ≢ []))) }
+{
+    match command.try_get_matches_from(words) {
+        Ok(found) => Ok(found),
+        Err(error) => Err(refusal_of(alloc, &error)),
+    }
+}
+
+/// What was found in the words of `compile`, where the number of operations is in its range.
+fn compile_found<'a>(found: &ArgMatches<'a>) -> Result<CompileWords<'a>, Refused>
+    ensures asked { IfOk result (λ asked. Some (Compile (compilation_of asked)) ≡ compile_unless [] (rows_of (found_of found.now))) }
+    ensures refused { IfErr result (λ refused. (refused.status ≡ Status.Usage) × (None ≡ compile_unless [] (rows_of (found_of found.now)))) }
+{
+    match growth_of(found.get_str("growth")) {
+        Some(growth) => Ok(CompileWords {
+            source: text_at(found, "SRC"),
+            out: text_at(found, "OUT"),
+            profile: found.get_str("profile"),
+            machine: found.get_str("machine"),
+            growth,
+            report: found.get_str("report"),
+        }),
+        None => Err(without_text(Status::Usage)),
+    }
+}
+
+/// What clap finds in the words of `compile`, or their refusal.
+fn read_words<'a>(
+    alloc: Global,
+    command: Command<'a>,
+    words: &'a [&'a str],
+) -> Result<CompileWords<'a>, Refused>
+    requires { app_of command ≡ compile_app }
+    ensures asked { IfOk result (λ asked. compile_of (map (λ w. w.now) words.now) ≡ Some (Compile (compilation_of asked))) }
+    ensures refused { IfErr result (λ refused. (refused.status ≡ Status.NoMemory) ⊎ ((refused.status ≡ Status.Usage) × (compile_of (map (λ w. w.now) words.now) ≡ None))) }
+{
+    match found_in(alloc, command, words) {
+        Ok(found) => compile_found(&found),
+        Err(refused) => Err(refused),
+    }
+}
+
+/// What the words of `compile` ask for, the program's name first, or their refusal.
+pub fn asked_of<'a>(alloc: Global, words: &'a [&'a str]) -> Result<CompileWords<'a>, Refused>
+    ensures asked { IfOk result (λ asked. compile_of (map (λ w. w.now) words.now) ≡ Some (Compile (compilation_of asked))) }
+    ensures refused { IfErr result (λ refused. (refused.status ≡ Status.NoMemory) ⊎ ((refused.status ≡ Status.Usage) × (compile_of (map (λ w. w.now) words.now) ≡ None))) }
+{
+    match compile_command(alloc) {
+        Ok(command) => read_words(alloc, command, words),
+        Err(_) => Err(without_text(Status::NoMemory)),
+    }
+}
+
+/// Puts the text that clap gives for its refusal, or the line of its status.
+pub fn refuse<E: Sink>(err: &mut E, refused: &Refused) -> Status
+    ensures same { result ≡ refused.now.status }
+    ensures tells { result ≢ Status.Usage → Tells (status_line result) (E.told err.old) (E.told err.new) (E.faults err.old) (E.faults err.new) }
+    ensures adds { Adds (E.told err.old) (E.told err.new) (E.faults err.old) (E.faults err.new) }
+{
+    match (refused.status, &refused.text) {
+        (Status::Usage, Some(text)) => {
+            let _ = put(err, text.as_bytes());
+            Status::Usage
+        }
+        (status, _) => tell(err, status),
+    }
+}

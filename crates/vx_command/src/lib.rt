@@ -1,0 +1,15 @@
+// The words of a command line: what each command asks for, as clap finds it in them, or their refusal.
+#![tactic(auto)]
+
+mod command;
+mod options;
+mod profile_words;
+mod run_words;
+mod soak_words;
+mod soaking;
+
+pub use command::{CompileWords, Refused, asked_of, refuse};
+pub use profile_words::{ProfileWords, profile_asked};
+pub use run_words::{ExecWords, RunWords, exec_asked, sim_asked};
+pub use soak_words::soak_asked;
+pub use soaking::SoakWords;

@@ -1,0 +1,261 @@
+// The words of `sim` and of `exec`, as clap reads them.
+
+ghost use Rattle.std.specs.Prelude.{◌≡◌, ◌⊎◌, ◌≤◌, true, false, [], unwrap_or, Some, None, map, option_map, codes, IfOk, IfErr, MatchOption};
+ghost use Rattle.clap.specs.Words.{app_of, rows_of, first_value, found_of};
+ghost use Rattle.vx_command.specs.Command.{with_run_options, sim_app, exec_app, run_unless, Makes, Simulate, Execute, executes, sim_of, exec_of, exec_unless, budget_of};
+ghost use Rattle.vx_command.specs.Asked.{asks, simulation_of, execution_of};
+
+use crate::command::{Refused, found_in, text_at, without_text};
+use crate::options::{
+    file_command, growth_of, input_option, machine_option, number_of, option_of,
+    with_compiling_options,
+};
+use clap::{ArgMatches, Command};
+use std::alloc::{AllocError, Global};
+use vx_status::Status;
+
+/// The words of a run.
+#[derive(Drop)]
+pub struct RunWords<'a> {
+    /// The name of the file of the words, or of the source.
+    pub file: &'a str,
+    /// The name of the file with the description of the machine.
+    pub machine: Option<&'a str>,
+    /// The name of the file of the input.
+    pub input: Option<&'a str>,
+    /// The most words that are issued.
+    pub budget: u64,
+    /// The name of the timing.
+    pub timing: &'a str,
+    /// The name of the probe.
+    pub probe: Option<&'a str>,
+}
+
+/// The words of `exec`.
+#[derive(Drop)]
+pub struct ExecWords<'a> {
+    /// The words of its run.
+    pub run: RunWords<'a>,
+    /// The name of the file of the profile.
+    pub profile: Option<&'a str>,
+    /// How many operations may be copied.
+    pub growth: u32,
+}
+
+pub(crate) const MOST_WORDS: u64 = 1000000000000;
+
+const DEFAULT_WORDS: u64 = 1000000000;
+
+/// The words of a command, and after them `[--input I] [--words N] [--timing T] [--probe B]`.
+fn with_run_options<'a>(alloc: Global, command: Command<'a>) -> Result<Command<'a>, AllocError>
+    ensures { IfOk result (λ whole. app_of whole ≡ with_run_options (app_of command.entry)) }
+{
+    command
+        .arg(input_option(alloc))?
+        .arg(number_of(
+            alloc,
+            "words",
+            "How many words are run at most, from 1 to 1000000000000 [default: 1000000000]",
+            1,
+            MOST_WORDS,
+        ))?
+        .arg(option_of(
+            alloc,
+            "timing",
+            "When results land: late, early or cyclic [default: late]",
+        ))?
+        .arg(option_of(
+            alloc,
+            "probe",
+            "Who reports at the end: units, words or all [default: none]",
+        ))
+}
+
+/// `sim WORDS [--machine M]` with these options.
+fn sim_command<'a>(alloc: Global) -> Result<Command<'a>, AllocError>
+    ensures { IfOk result (λ command. app_of command ≡ sim_app) }
+{
+    with_run_options(
+        alloc,
+        file_command(
+            alloc,
+            "sim",
+            "Runs a text of words",
+            "WORDS",
+            "The file of the words",
+        )?
+        .arg(machine_option(alloc))?,
+    )
+}
+
+/// `exec SRC [--profile P] [--machine M] [--growth G]` with these options.
+fn exec_command<'a>(alloc: Global) -> Result<Command<'a>, AllocError>
+    ensures { IfOk result (λ command. app_of command ≡ exec_app) }
+{
+    with_run_options(
+        alloc,
+        with_compiling_options(
+            alloc,
+            file_command(
+                alloc,
+                "exec",
+                "Compiles a source and runs its words",
+                "SRC",
+                "The file of the source",
+            )?,
+        )?,
+    )
+}
+
+/// A number from 1 to the most words, or blocks.
+fn within(number: u64) -> Option<u64>
+    ensures { MatchOption result ((1 ≤ number → number ≤ 1000000000000 → ⊥)) (λ n. (n ≡ number) × (1 ≤ number) × (number ≤ 1000000000000)) }
+{
+    if 1 <= number && number <= MOST_WORDS {
+        Some(number)
+    } else {
+        None
+    }
+}
+
+/// The number of words, or blocks, that a text asks for.
+fn budget_in(text: &str) -> Option<u64>
+    ensures { result ≡ budget_of (Some text.now) }
+{
+    match text.parse::<u64>() {
+        Ok(number) => within(number),
+        Err(_) => None,
+    }
+}
+
+/// The number of words, or blocks, that a text asks for, or the default.
+pub(crate) fn budget_of(text: Option<&str>) -> Option<u64>
+    ensures { result ≡ budget_of (option_map (λ s. s.now) text.entry) }
+{
+    match text {
+        Some(text) => budget_in(text),
+        None => Some(DEFAULT_WORDS),
+    }
+}
+
+/// The text at a word that may be left out, or what stands for it.
+fn text_or<'a>(found: &ArgMatches<'a>, name: &str, other: &'a str) -> &'a str
+    ensures { result.now ≡ unwrap_or (first_value (found_of found.now) name.now) other.entry.now }
+{
+    match found.get_str(name) {
+        Some(text) => text,
+        None => other,
+    }
+}
+
+/// What was found in the words of a run, whose file stands under this name.
+fn words_found<'a>(found: &ArgMatches<'a>, file: &str) -> Option<RunWords<'a>>
+    ensures { (makes : Makes) → option_map (asks makes) result ≡ run_unless makes file.now [] (rows_of (found_of found.now)) }
+{
+    match budget_of(found.get_str("words")) {
+        Some(budget) => Some(RunWords {
+            file: text_at(found, file),
+            machine: found.get_str("machine"),
+            input: found.get_str("input"),
+            budget,
+            timing: text_or(found, "timing", "late"),
+            probe: found.get_str("probe"),
+        }),
+        None => None,
+    }
+}
+
+/// What was found in the words of a run, where the number of words is one.
+fn asked_in<'a>(found: &ArgMatches<'a>, file: &str) -> Result<RunWords<'a>, Refused>
+    ensures asked { (makes : Makes) → IfOk result (λ asked. Some (asks makes asked) ≡ run_unless makes file.now [] (rows_of (found_of found.now))) }
+    ensures refused { (makes : Makes) → IfErr result (λ refused. (refused.status ≡ Status.Usage) × (None ≡ run_unless makes file.now [] (rows_of (found_of found.now)))) }
+{
+    match words_found(found, file) {
+        Some(asked) => Ok(asked),
+        None => Err(without_text(Status::Usage)),
+    }
+}
+
+/// What was found in the words of `exec`, with this profile and at this number of operations.
+fn exec_with<'a>(
+    found: &ArgMatches<'a>,
+    profile: Option<&'a str>,
+    growth: u32,
+) -> Result<ExecWords<'a>, Refused>
+    ensures asked { IfOk result (λ asked. Some (Execute (execution_of asked)) ≡ run_unless (executes (option_map (λ s. s.now) profile.entry) growth) (codes "SRC") [] (rows_of (found_of found.now))) }
+    ensures refused { IfErr result (λ refused. (refused.status ≡ Status.Usage) × (None ≡ run_unless (executes (option_map (λ s. s.now) profile.entry) growth) (codes "SRC") [] (rows_of (found_of found.now)))) }
+{
+    match asked_in(found, "SRC") {
+        Ok(run) => Ok(ExecWords {
+            run,
+            profile,
+            growth,
+        }),
+        Err(refused) => Err(refused),
+    }
+}
+
+/// What was found in the words of `exec`, where its numbers are in their ranges.
+fn exec_found<'a>(found: &ArgMatches<'a>) -> Result<ExecWords<'a>, Refused>
+    ensures asked { IfOk result (λ asked. Some (Execute (execution_of asked)) ≡ exec_unless [] (rows_of (found_of found.now))) }
+    ensures refused { IfErr result (λ refused. (refused.status ≡ Status.Usage) × (None ≡ exec_unless [] (rows_of (found_of found.now)))) }
+{
+    match growth_of(found.get_str("growth")) {
+        Some(growth) => exec_with(found, found.get_str("profile"), growth),
+        None => Err(without_text(Status::Usage)),
+    }
+}
+
+/// What clap finds in the words of `sim`, or their refusal.
+fn read_sim<'a>(
+    alloc: Global,
+    command: Command<'a>,
+    words: &'a [&'a str],
+) -> Result<RunWords<'a>, Refused>
+    requires { app_of command ≡ sim_app }
+    ensures asked { IfOk result (λ asked. sim_of (map (λ w. w.now) words.now) ≡ Some (Simulate (simulation_of asked))) }
+    ensures refused { IfErr result (λ refused. (refused.status ≡ Status.NoMemory) ⊎ ((refused.status ≡ Status.Usage) × (sim_of (map (λ w. w.now) words.now) ≡ None))) }
+{
+    match found_in(alloc, command, words) {
+        Ok(found) => asked_in(&found, "WORDS"),
+        Err(refused) => Err(refused),
+    }
+}
+
+/// What clap finds in the words of `exec`, or their refusal.
+fn read_exec<'a>(
+    alloc: Global,
+    command: Command<'a>,
+    words: &'a [&'a str],
+) -> Result<ExecWords<'a>, Refused>
+    requires { app_of command ≡ exec_app }
+    ensures asked { IfOk result (λ asked. exec_of (map (λ w. w.now) words.now) ≡ Some (Execute (execution_of asked))) }
+    ensures refused { IfErr result (λ refused. (refused.status ≡ Status.NoMemory) ⊎ ((refused.status ≡ Status.Usage) × (exec_of (map (λ w. w.now) words.now) ≡ None))) }
+{
+    match found_in(alloc, command, words) {
+        Ok(found) => exec_found(&found),
+        Err(refused) => Err(refused),
+    }
+}
+
+/// What the words of `sim` ask for, the program's name first, or their refusal.
+pub fn sim_asked<'a>(alloc: Global, words: &'a [&'a str]) -> Result<RunWords<'a>, Refused>
+    ensures asked { IfOk result (λ asked. sim_of (map (λ w. w.now) words.now) ≡ Some (Simulate (simulation_of asked))) }
+    ensures refused { IfErr result (λ refused. (refused.status ≡ Status.NoMemory) ⊎ ((refused.status ≡ Status.Usage) × (sim_of (map (λ w. w.now) words.now) ≡ None))) }
+{
+    match sim_command(alloc) {
+        Ok(command) => read_sim(alloc, command, words),
+        Err(_) => Err(without_text(Status::NoMemory)),
+    }
+}
+
+/// What the words of `exec` ask for, the program's name first, or their refusal.
+pub fn exec_asked<'a>(alloc: Global, words: &'a [&'a str]) -> Result<ExecWords<'a>, Refused>
+    ensures asked { IfOk result (λ asked. exec_of (map (λ w. w.now) words.now) ≡ Some (Execute (execution_of asked))) }
+    ensures refused { IfErr result (λ refused. (refused.status ≡ Status.NoMemory) ⊎ ((refused.status ≡ Status.Usage) × (exec_of (map (λ w. w.now) words.now) ≡ None))) }
+{
+    match exec_command(alloc) {
+        Ok(command) => read_exec(alloc, command, words),
+        Err(_) => Err(without_text(Status::NoMemory)),
+    }
+}
