@@ -12,10 +12,10 @@ use Rattle.vx_profile.specs.declared.counts.Counts.{Counts}
 use Rattle.vx_report.specs.Report.{names_of, report_text}
 use Rattle.vx_command.specs.Command.{Compilation}
 use Rattle.vx_driver.specs.Stages.{MakesTexts}
-use Rattle.vx_driver.proofs.ProfileFile.{stands}
-use Rattle.vx_driver.specs.Held.{HoldsProgram, Accepts, BadProfile, Is, Refused, TooLong, Missing, found_in, machine_found, AreCounts, RefusesProfile}
+use Rattle.vx_files.proofs.ProfileFile.{stands}
+use Rattle.vx_files.specs.Held.{HoldsProgram, Accepts, BadProfile, Is, Refused, TooLong, Missing, found_in, machine_found, AreCounts, RefusesProfile}
 use Rattle.vx_driver.specs.Answers.{TextsOf, Compiles, Writes, WritesWords, with_report, ReportsPartly, WritesPartly, StopsAtProfile, StopsAtMachine, CompileAnswers, WriteAnswers, once_written, ReportAnswers, PutsTexts, MachineOrTexts, ProgramAnswers}
-use Rattle.vx_driver.specs.Effects.{Effect, ReadsRose, ReplacesRose, SameFiles, OfFile, SourceAnswers, ProfileAnswers, MachineAnswers}
+use Rattle.vx_files.specs.Effects.{Effect, ReadsRose, ReplacesRose, SameFiles, OfFile, SourceAnswers, ProfileAnswers, MachineAnswers}
 
 pub rose_since : (before mid after : ℕ) → before ≤ mid → Rose mid after → Rose before after
 rose_since before mid after le (inl more) = inl (omega arith)

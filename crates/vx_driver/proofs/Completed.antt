@@ -3,7 +3,7 @@ use Rattle.std.proofs.Common.{Option, Some, None, refl}
 use Rattle.vx_status.specs.declared.status.Status.{Status}
 use Rattle.vx_command.specs.Command.{Command, Compile, Simulate, Execute, Count, Soak}
 use Rattle.vx_driver.specs.Boxes.{Boxes}
-use Rattle.vx_driver.specs.Effects.{Effect}
+use Rattle.vx_files.specs.Effects.{Effect}
 use Rattle.vx_driver.specs.Simulated.{Streams}
 use Rattle.vx_driver.specs.Commands.{Answers, Completes}
 use Rattle.vx_driver.proofs.Completing.{complete_in}

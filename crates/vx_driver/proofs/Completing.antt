@@ -10,12 +10,12 @@ use Rattle.vx_base.specs.declared.role.Role.TheVariants.{Source as TheSource, Wo
 use Rattle.vx_status.specs.declared.status.Status.{Status}
 use Rattle.vx_status.specs.declared.status.Status.TheVariants.{Done, Trapped, Usage, Source, Limit, Words, Profile, Machine, NoFile, ReadFault, WriteFault, Stopped, Input, Stuck, NoMemory}
 use Rattle.vx_ast.specs.Reads.{Reads, Refusal}
-use Rattle.vx_driver.proofs.SourceLaws.{never_both, one_refusal}
-use Rattle.vx_driver.proofs.ProfileFile.{not_both_profiles, one_profile_status}
+use Rattle.vx_files.proofs.SourceLaws.{never_both, one_refusal}
+use Rattle.vx_files.proofs.ProfileFile.{not_both_profiles, one_profile_status}
 use Rattle.vx_command.specs.Command.{Compilation}
-use Rattle.vx_driver.specs.Held.{Accepts, status_of, RefusesSource, Refuses, MachineFound, Is, Refused, TooLong, Missing, found_in, machine_found, BadProfile, ProfileStands, RefusesProfile}
+use Rattle.vx_files.specs.Held.{Accepts, status_of, RefusesSource, Refuses, MachineFound, Is, Refused, TooLong, Missing, found_in, machine_found, BadProfile, ProfileStands, RefusesProfile}
 use Rattle.vx_driver.specs.Answers.{Writes, CompileAnswers, CompileEnds}
-use Rattle.vx_driver.specs.Effects.{Effect, ReadsRose, ReplacesRose, OfFile}
+use Rattle.vx_files.specs.Effects.{Effect, ReadsRose, ReplacesRose, OfFile}
 
 -- a source's file is one of accepted, refused and missing
 

@@ -19,8 +19,8 @@ use Rattle.vx_status.specs.declared.status.Status.TheVariants.{Done, Trapped, Us
 use Rattle.vx_command.specs.Command.{Execution}
 use Rattle.vx_driver.specs.Boxes.{Chosen}
 use Rattle.vx_driver.specs.Faithful.{Faithful}
-use Rattle.vx_driver.specs.Held.{AreCounts, HoldsProgram, ProfileStands, Is, machine_found, input_in, input_found}
-use Rattle.vx_driver.specs.Effects.{Effect, ReadsRose, SourceAnswers, MachineAnswers, InputAnswers}
+use Rattle.vx_files.specs.Held.{AreCounts, HoldsProgram, ProfileStands, Is, machine_found, input_in, input_found}
+use Rattle.vx_files.specs.Effects.{Effect, ReadsRose, SourceAnswers, MachineAnswers, InputAnswers}
 use Rattle.vx_driver.specs.Answers.{StopsAtProfile, StopsAtMachine}
 use Rattle.vx_driver.specs.Simulated.{AreDefaults, Loaded, begun, outcome_within, events_within, reports_of, Streams, OutputCut, IsStatusOf}
 use Rattle.vx_driver.specs.Executed.{CompiledBy, Issues, SourceHas, SourceBegins, InSource, AllHeld, Prepared, issued_line, ShowsRun, Runs, RunsCut, StopsAtInput, ExecutionAnswers}

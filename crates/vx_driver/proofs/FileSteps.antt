@@ -13,12 +13,12 @@ use Rattle.vx_machine.specs.declared.description.MachineFault.TheVariants.{Bad}
 use Rattle.vx_words.specs.Text.{Spells, Fault, reading}
 use Rattle.vx_status.specs.declared.status.Status.{Status}
 use Rattle.vx_status.specs.declared.status.Status.TheVariants.{Done, Trapped, Usage, Source, Limit, Words, Profile, Machine, NoFile, ReadFault, WriteFault, Stopped, Input, Stuck, NoMemory}
-use Rattle.vx_driver.specs.Held.{MachineFound, Is, Refused, TooLong, Missing, found_in, machine_found, input_found}
-use Rattle.vx_driver.specs.Effects.{Effect, ReadsRose, OfFile, MachineAnswers, InputAnswers}
+use Rattle.vx_files.specs.Held.{MachineFound, Is, Refused, TooLong, Missing, found_in, machine_found, input_found}
+use Rattle.vx_files.specs.Effects.{Effect, ReadsRose, OfFile, MachineAnswers, InputAnswers}
 use Rattle.vx_driver.specs.Simulated.{words_as, words_in, machine_as, Loaded, with_input, loading_input, loading_machine, loading, is_named, Stops}
 use Rattle.vx_driver.proofs.Answering.{Since}
 use Rattle.vx_driver.proofs.Simulating.{stops_on}
-use Rattle.vx_driver.proofs.WholeFile.{whole_or, too_long}
+use Rattle.vx_files.proofs.WholeFile.{whole_or, too_long}
 
 pub spells_in : (b : Option Files) (name : List ℕ) (most : ℕ) (bytes : Vec ℕ Global) (program : WordProgram) → IfSome b (λ held. ReadsFile held name most (Whole bytes)) → Spells bytes.items program →
     IfSome b (λ held. IfSome (held name) (λ content. Spells content program))

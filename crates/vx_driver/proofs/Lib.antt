@@ -1,21 +1,10 @@
 pub mod Telling
-pub mod Inputs
-pub mod InRange
 pub mod Picking
 mod SummaryRows
-mod InputRows
-pub mod Refusing
 pub mod Answering
-pub mod MachineFile
-pub mod ProfileFile
-pub mod Fronts
-pub mod SourceLaws
 pub mod Completing
 pub mod Simulating
 pub mod FileSteps
-pub mod SourceFile
-pub mod WholeFile
-pub mod InputFile
 pub mod Issued
 pub mod Turned
 pub mod Ends

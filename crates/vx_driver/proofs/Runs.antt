@@ -10,7 +10,7 @@ use Rattle.vx_status.specs.declared.status.Status.{Status}
 use Rattle.vx_status.specs.declared.status.Status.TheVariants.{Done, Trapped, Usage, Source, Limit, Words, Profile, Machine, NoFile, ReadFault, WriteFault, Stopped, Input, Stuck, NoMemory}
 use Rattle.vx_command.specs.Command.{Command, Compile, Simulate, Execute, Count, Soak, Simulation, Execution, Soaking}
 use Rattle.vx_driver.specs.Boxes.{Boxes, ProbeBox, Chosen, chosen, chosen_of, timing_named, probes_named}
-use Rattle.vx_driver.specs.Effects.{Effect, SameFiles}
+use Rattle.vx_files.specs.Effects.{Effect, SameFiles}
 use Rattle.vx_driver.specs.Simulated.{AreDefaults, Loaded, loading, is_named, Stops, Streams, OutputCut, IsStatusOf, Shows, reports_of, result_line, Loads, RunEnds, RunCut, RunAnswers, BoxAnswers, SimAnswers, is_of_run, outcome_within, events_within}
 use Rattle.vx_driver.specs.Executed.{ExecAnswers, ExecutionAnswers}
 use Rattle.vx_driver.specs.Soaked.{SoakAnswers, SoakedAnswers}

@@ -9,8 +9,8 @@ use Rattle.vx_status.specs.declared.status.Status.TheVariants.{Done, Trapped, Us
 use Rattle.vx_command.specs.Command.{Simulation}
 use Rattle.vx_driver.specs.Boxes.{Boxes, Chosen, chosen}
 use Rattle.vx_machine.specs.declared.description.MachineFault.TheVariants.{Bad}
-use Rattle.vx_driver.specs.Held.{Refused, found_in, input_in}
-use Rattle.vx_driver.specs.Effects.{Effect, ReadsRose, OfFile}
+use Rattle.vx_files.specs.Held.{Refused, found_in, input_in}
+use Rattle.vx_files.specs.Effects.{Effect, ReadsRose, OfFile}
 use Rattle.vx_driver.specs.Simulated.{loading, words_in, IsTooLong, Stops, Streams, OutRose, ErrRose, Loads, RunEnds, RunCut, RunAnswers, BoxAnswers, SimAnswers, Due, RunCompletes, SimCompletes}
 use Rattle.vx_driver.proofs.Answering.{rose_since, Since}
 

@@ -6,7 +6,7 @@ use Rattle.vx_status.specs.declared.status.Status.TheVariants.{Done, Trapped, Us
 use Rattle.vx_command.specs.Command.{Command, Compile, Simulate, Execute, Count, Soak}
 use Rattle.vx_driver.specs.Boxes.{Boxes, Chosen, chosen, unknown_name}
 use Rattle.vx_status.specs.Status.{no_box_line, status_line}
-use Rattle.vx_driver.specs.Effects.{Effect, SameFiles, ReadsRose, ReplacesRose}
+use Rattle.vx_files.specs.Effects.{Effect, SameFiles, ReadsRose, ReplacesRose}
 use Rattle.vx_driver.specs.Answers.{CompileAnswers, CompileEnds}
 use Rattle.vx_driver.specs.Simulated.{Streams, ErrRose, ErrTells, SimAnswers, SimCompletes, is_of_run}
 use Rattle.vx_driver.specs.Executed.{ExecAnswers, ExecCompletes}

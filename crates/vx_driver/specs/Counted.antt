@@ -17,8 +17,8 @@ use Rattle.vx_profile.specs.Text.{AreAscending, counts_text}
 use Rattle.vx_status.specs.declared.status.Status.{Status}
 use Rattle.vx_status.specs.declared.status.Status.TheVariants.{Done, Trapped, Usage, Source, Limit, Words, Profile, Machine, NoFile, ReadFault, WriteFault, Stopped, Input, Stuck, NoMemory}
 use Rattle.vx_command.specs.Command.{Profiling}
-use Rattle.vx_driver.specs.Held.{HoldsProgram, Accepts, status_of, EmptyUnless, input_found}
-use Rattle.vx_driver.specs.Effects.{Effect, ReadsRose, SameFiles, SourceAnswers, InputAnswers}
+use Rattle.vx_files.specs.Held.{HoldsProgram, Accepts, status_of, EmptyUnless, input_found}
+use Rattle.vx_files.specs.Effects.{Effect, ReadsRose, SameFiles, SourceAnswers, InputAnswers}
 use Rattle.vx_driver.specs.Simulated.{Streams, OutRose}
 
 -- what is read for the counts: the program of the source, and the input

@@ -8,8 +8,8 @@ use Rattle.vx_profile.specs.Text.{counts_text}
 use Rattle.vx_status.specs.declared.status.Status.{Status}
 use Rattle.vx_status.specs.declared.status.Status.TheVariants.{Done, WriteFault, Stopped, NoMemory}
 use Rattle.vx_command.specs.Command.{Profiling}
-use Rattle.vx_driver.specs.Effects.{Effect, SourceAnswers}
-use Rattle.vx_driver.specs.Held.{EmptyUnless, input_found}
+use Rattle.vx_files.specs.Effects.{Effect, SourceAnswers}
+use Rattle.vx_files.specs.Held.{EmptyUnless, input_found}
 use Rattle.vx_driver.specs.Simulated.{Streams, OutRose}
 use Rattle.vx_driver.specs.Counted.{RunOfGraphs, CountedRun, IsEnded, StopsAtCountsInput}
 

@@ -12,8 +12,8 @@ use Rattle.vx_status.specs.declared.status.Status.TheVariants.{Done, Trapped, Us
 use Rattle.vx_driver.specs.declared.loaded.LoadedFiles.{LoadedFiles}
 use Rattle.vx_status.specs.Status.{Tells, TellsWith, no_box_line, status_line}
 use Rattle.vx_command.specs.Command.{Execution}
-use Rattle.vx_driver.specs.Effects.{Effect, SourceAnswers, InputAnswers}
-use Rattle.vx_driver.specs.Held.{ProfileStands, Is, machine_found}
+use Rattle.vx_files.specs.Effects.{Effect, SourceAnswers, InputAnswers}
+use Rattle.vx_files.specs.Held.{ProfileStands, Is, machine_found}
 use Rattle.vx_driver.specs.Answers.{StopsAtProfile, StopsAtMachine, NoProfile, NoMachine}
 use Rattle.vx_driver.specs.Simulated.{Loaded, with_input, outcome_within, events_within, result_line, Streams, ErrRose, ErrTellsWith, OutputCut, IsEnd, IsStatusOf, reports_of, Fronts, TellsFault}
 use Rattle.vx_driver.specs.Executed.{issued_line, StopsAtInput}

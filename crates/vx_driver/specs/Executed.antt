@@ -20,8 +20,8 @@ use Rattle.vx_status.specs.Status.{status_line}
 use Rattle.vx_command.specs.Command.{Execution}
 use Rattle.vx_driver.specs.Boxes.{Boxes, Chosen, chosen}
 use Rattle.vx_driver.specs.Compiled.{Compiled}
-use Rattle.vx_driver.specs.Held.{AreCounts, HoldsProgram, Accepts, status_of, Is, machine_found, ProfileStands, RefusesProfile, input_found}
-use Rattle.vx_driver.specs.Effects.{Effect, ReadsRose, SameFiles, SourceAnswers, InputAnswers}
+use Rattle.vx_files.specs.Held.{AreCounts, HoldsProgram, Accepts, status_of, Is, machine_found, ProfileStands, RefusesProfile, input_found}
+use Rattle.vx_files.specs.Effects.{Effect, ReadsRose, SameFiles, SourceAnswers, InputAnswers}
 use Rattle.vx_driver.specs.Answers.{StopsAtProfile, StopsAtMachine}
 use Rattle.vx_driver.specs.Simulated.{Loaded, with_input, machine_as, outcome_within, events_within, reports_of, result_line, AreDefaults, Streams, OutRose, ErrRose, ErrTellsWith, OutputCut, LinesCut, BoxAnswers}
 

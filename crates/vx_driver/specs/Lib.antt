@@ -1,10 +1,7 @@
 pub mod Faithful
 pub mod Compiled
 pub mod Stages
-pub mod InputText
 pub mod Boxes
-pub mod Held
-pub mod Effects
 pub mod Answers
 pub mod Simulated
 pub mod Executed
@@ -14,4 +11,3 @@ pub mod Ending
 pub mod Counting
 pub mod SoakSteps
 pub mod Commands
-pub mod Laws

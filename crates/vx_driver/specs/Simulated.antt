@@ -21,8 +21,8 @@ use Rattle.vx_status.specs.declared.status.Status.TheVariants.{Done, Trapped, Us
 use Rattle.vx_status.specs.Status.{Tells, TellsWith, status_line}
 use Rattle.vx_command.specs.Command.{Simulation}
 use Rattle.vx_driver.specs.Boxes.{Boxes, Chosen, chosen, report_line}
-use Rattle.vx_driver.specs.Held.{MachineFound, Is, Refused, TooLong, Missing, found_in, machine_found, file_in, input_in, input_found, DefaultUnless, EmptyUnless}
-use Rattle.vx_driver.specs.Effects.{Effect, ReadsRose, SameFiles, OfFile}
+use Rattle.vx_files.specs.Held.{MachineFound, Is, Refused, TooLong, Missing, found_in, machine_found, file_in, input_in, input_found, DefaultUnless, EmptyUnless}
+use Rattle.vx_files.specs.Effects.{Effect, ReadsRose, SameFiles, OfFile}
 
 -- what is read before the run, or the status of the first step that stops the command
 

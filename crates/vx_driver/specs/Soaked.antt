@@ -12,7 +12,7 @@ use Rattle.vx_isa.specs.Numbers.{vex}
 use Rattle.vx_profile.specs.Counts.{CountsOf}
 use Rattle.vx_profile.specs.declared.counts.Counts.{Counts}
 use Rattle.vx_report.specs.declared.plan.Plan.{Plan}
-use Rattle.vx_driver.specs.Effects.{Effect, SameFiles}
+use Rattle.vx_files.specs.Effects.{Effect, SameFiles}
 use Rattle.vx_driver.specs.Boxes.{Boxes, Chosen, chosen}
 use Rattle.vx_command.specs.Command.{Soaking}
 use Rattle.vx_driver.specs.Compiled.{Compiled}

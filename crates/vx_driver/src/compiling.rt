@@ -3,22 +3,20 @@
 
 ghost use Rattle.std.specs.Prelude.{◌≡◌, ◌≢◌, ◌≤◌, ◌⊎◌, Option, Some, Ok, true, false, is_some, option_map, IfOk};
 ghost use Rattle.vx_ast.specs.View as view;
-ghost use Rattle.vx_driver.specs.Effects.{effect_of};
+ghost use Rattle.vx_files.specs.Effects.{effect_of};
 ghost use Rattle.vx_driver.specs.Answers.{CompileAnswers, WriteAnswers, ReportAnswers, PutsTexts, MachineOrTexts, ProgramAnswers};
 ghost use Rattle.vx_command.specs.Asked.{compilation_of};
 ghost use Rattle.vx_driver.specs.Stages.{MakesTexts};
 ghost use Rattle.vx_report.specs.Report.{names_of, report_text};
 ghost use Rattle.vx_words.specs.Text.{Spells};
 
-use crate::machines::machine_for;
-use crate::profiles::counts_for;
-use crate::sources::read_through;
 use crate::words;
 use std::alloc::Global;
 use vx_ast::typed::Typed;
 use vx_base::depot::{Depot, DepotFault};
 use vx_base::outcome::NoMemory;
 use vx_command::CompileWords;
+use vx_files::{counts_for, machine_for, read_through};
 use vx_machine::Machine;
 use vx_profile::counts::Counts;
 use vx_report::{Plan, report};

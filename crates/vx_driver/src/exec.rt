@@ -4,8 +4,8 @@
 ghost use Rattle.std.specs.Prelude.{◌≡◌, ◌⊎◌, ◌<◌, ◌≤◌, true, false, length, map, option_map, is_some, All, Ok, IfOk, IfErr, IfSome};
 ghost use Rattle.vx_base.specs.Arithmetic.{IsNumber};
 ghost use Rattle.vx_ast.specs.View as view;
-ghost use Rattle.vx_driver.specs.Effects.{effect_of, InputAnswers};
-ghost use Rattle.vx_driver.specs.Held.{machine_found, Is, ProfileStands, DefaultUnless, EmptyUnless, input_found};
+ghost use Rattle.vx_files.specs.Effects.{effect_of, InputAnswers};
+ghost use Rattle.vx_files.specs.Held.{machine_found, Is, ProfileStands, DefaultUnless, EmptyUnless, input_found};
 ghost use Rattle.vx_command.specs.Command.{Execute};
 ghost use Rattle.vx_driver.specs.Commands.{TellsLine, TellsRun};
 ghost use Rattle.vx_command.specs.Asked.{execution_of};
@@ -17,17 +17,14 @@ ghost use Rattle.vx_driver.specs.Ending.{loaded_of, AfterSource, LaterStops, Sto
 
 use crate::boxes::{probes_of, timing_of};
 use crate::loaded::LoadedFiles;
-use crate::inputs::input_for;
-use crate::machines::machine_for;
-use crate::profiles::counts_for;
 use crate::running::{no_box, no_probe, run_loaded};
-use crate::sources::read_through;
 use crate::words::compile;
 use std::alloc::Global;
 use vx_ast::typed::Typed;
 use vx_base::depot::Depot;
 use vx_base::sink::Sink;
 use vx_command::ExecWords;
+use vx_files::{counts_for, input_for, machine_for, read_through};
 use vx_machine::Machine;
 use vx_probe::{Probe, Timing};
 use vx_profile::counts::Counts;

@@ -4,20 +4,13 @@
 mod boxes;
 mod compiling;
 mod exec;
-mod input;
-mod inputs;
-pub mod laws;
 mod layouts;
 mod loaded;
-mod machines;
 mod profile;
-mod profiles;
 mod ranges;
-mod reading;
 mod running;
 mod sim;
 mod soak;
-mod sources;
 pub mod top;
 pub mod words;
 

@@ -4,15 +4,13 @@
 ghost use Rattle.std.specs.Prelude.{◌≡◌, ◌⊎◌, ◌≤◌, true, false, option_map, is_some, IfOk, IfErr};
 ghost use Rattle.vx_base.specs.Outside.{PutsFront, Rose, with_bytes};
 ghost use Rattle.vx_ast.specs.View as view;
-ghost use Rattle.vx_driver.specs.Effects.{effect_of, InputAnswers};
+ghost use Rattle.vx_files.specs.Effects.{effect_of, InputAnswers};
 ghost use Rattle.vx_command.specs.Asked.{profiling_of};
 ghost use Rattle.vx_status.specs.Status.{Adds, Tells, status_line};
 ghost use Rattle.vx_driver.specs.Simulated.{is_of_run, streams_of};
 ghost use Rattle.vx_driver.specs.Counted.{ProfilingAnswers};
 ghost use Rattle.vx_driver.specs.Counting.{IsCounted, CountedOn, CountedFor, PutsText, StopsProfiling};
 
-use crate::inputs::input_for;
-use crate::sources::read_through;
 use crate::words::flow_of;
 use std::alloc::Global;
 use vx_ast::typed::Typed;
@@ -20,6 +18,7 @@ use vx_base::depot::Depot;
 use vx_base::outcome::NoMemory;
 use vx_base::sink::{Sink, put_all};
 use vx_command::ProfileWords;
+use vx_files::{input_for, read_through};
 use vx_profile::{count, write_counts};
 use vx_status::{Status, tell};
 

@@ -3,7 +3,7 @@
 ghost use Rattle.std.specs.Prelude.{◌≡◌, ◌≤◌, ◌∷◌, ℕ, List, Option, false, map, string_bytes, IfOk};
 ghost use Rattle.vx_status.specs.Status.{Appends, Adds, Tells, status_line};
 ghost use Rattle.vx_command.specs.Command.{command_of, command_named, is_command, names_command, compile_of, sim_of, exec_of, profile_of, soak_of};
-ghost use Rattle.vx_driver.specs.Effects.{effect_of};
+ghost use Rattle.vx_files.specs.Effects.{effect_of};
 ghost use Rattle.vx_driver.specs.Simulated.{Streams, streams_of};
 ghost use Rattle.vx_driver.specs.Boxes.{Boxes};
 ghost use Rattle.vx_driver.specs.Commands.{Answers, Completes, TellsLine, puts_output};

@@ -1,7 +1,7 @@
 -- The source was read through before all else, and that changed no file.
 use Rattle.std.proofs.Common.{refl, sym}
 use Rattle.vx_ast.specs.View.{program_of}
-use Rattle.vx_driver.specs.Effects.{effect_of}
+use Rattle.vx_files.specs.Effects.{effect_of}
 use Rattle.vx_command.specs.Asked.{compilation_of}
 use Rattle.vx_driver.proofs.Answering.{compiled_answers, stops_at_source}
 use Rattle.vx_driver.proofs.compiling.compile.Goals as goal

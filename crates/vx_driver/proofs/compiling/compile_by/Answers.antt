@@ -1,7 +1,7 @@
 -- The machine was found before the texts were written, and finding it changed no file.
 use Rattle.std.proofs.Common.{refl, sym}
 use Rattle.vx_ast.specs.View.{program_of}
-use Rattle.vx_driver.specs.Effects.{effect_of}
+use Rattle.vx_files.specs.Effects.{effect_of}
 use Rattle.vx_command.specs.Asked.{compilation_of}
 use Rattle.vx_driver.proofs.Answering.{for_machine}
 use Rattle.vx_driver.proofs.compiling.compile_by.Goals as goal

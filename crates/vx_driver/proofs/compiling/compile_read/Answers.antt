@@ -1,7 +1,7 @@
 -- The profile was read before the machine, and reading it changed no file.
 use Rattle.std.proofs.Common.{inl, refl, sym}
 use Rattle.vx_ast.specs.View.{program_of}
-use Rattle.vx_driver.specs.Effects.{effect_of}
+use Rattle.vx_files.specs.Effects.{effect_of}
 use Rattle.vx_command.specs.Asked.{compilation_of}
 use Rattle.vx_driver.proofs.Answering.{by_profile}
 use Rattle.vx_driver.proofs.FileSteps.{still_some}

@@ -1,11 +1,11 @@
 -- The profile was read before the machine, and reading it changed no file.
 use Rattle.std.proofs.Common.{◌≡◌, inl, refl, sym, subst, option_map, IfSome, Ok}
 use Rattle.std.proofs.lemmas.Result.{IfErr-weaker, IfOk-weaker}
-use Rattle.vx_driver.specs.Effects.{effect_of}
-use Rattle.vx_driver.specs.Held.{machine_found, Is, input_found}
+use Rattle.vx_files.specs.Effects.{effect_of}
+use Rattle.vx_files.specs.Held.{machine_found, Is, input_found}
 use Rattle.vx_driver.proofs.Executing.{after_profile}
 use Rattle.vx_driver.proofs.FileSteps.{still_some}
-use Rattle.vx_driver.proofs.ProfileFile.{stands}
+use Rattle.vx_files.proofs.ProfileFile.{stands}
 use Rattle.vx_driver.proofs.exec.load_profile.Goals as goal
 
 pub returns-in-Ok-clause-profiled : goal.returns-in-Ok-clause-profiled

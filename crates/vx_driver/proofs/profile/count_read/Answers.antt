@@ -2,7 +2,7 @@
 use Rattle.std.proofs.Common.{inl, inr, refl, sym}
 use Rattle.std.proofs.lemmas.Result.{IfErr-weaker, IfOk-weaker}
 use Rattle.vx_ast.specs.View.{program_of}
-use Rattle.vx_driver.specs.Effects.{effect_of}
+use Rattle.vx_files.specs.Effects.{effect_of}
 use Rattle.vx_command.specs.Asked.{profiling_of}
 use Rattle.vx_driver.proofs.Counting.{counted_for, stops_later}
 use Rattle.vx_driver.proofs.profile.count_read.Goals as goal

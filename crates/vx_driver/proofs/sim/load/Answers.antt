@@ -2,7 +2,7 @@
 use Rattle.std.proofs.Common.{IfSome, refl, sym, subst}
 use Rattle.std.proofs.lemmas.Result.{IfErr-weaker, IfOk-weaker}
 use Rattle.vx_words.specs.Text.{Spells}
-use Rattle.vx_driver.specs.Effects.{effect_of}
+use Rattle.vx_files.specs.Effects.{effect_of}
 use Rattle.vx_driver.specs.Ending.{loaded_of}
 use Rattle.vx_driver.proofs.FileSteps.{words_loaded, after_words, at_words}
 use Rattle.vx_driver.proofs.sim.load.Goals as goal

@@ -1,6 +1,6 @@
 -- The input is read for what was read before.
 use Rattle.std.proofs.Common.{option_map}
-use Rattle.vx_driver.specs.Effects.{effect_of}
+use Rattle.vx_files.specs.Effects.{effect_of}
 use Rattle.vx_driver.proofs.FileSteps.{input_loaded, input_stops, input_answers_stop, still_some}
 use Rattle.vx_driver.proofs.sim.load_input.Goals as goal
 

@@ -1,9 +1,9 @@
 -- The machine was read before the input, and reading it changed no file.
 use Rattle.std.proofs.Common.{refl, subst, sym, option_map}
 use Rattle.std.proofs.lemmas.Result.{IfErr-weaker, IfOk-weaker}
-use Rattle.vx_driver.specs.Effects.{effect_of}
+use Rattle.vx_files.specs.Effects.{effect_of}
 use Rattle.vx_driver.specs.Ending.{loaded_of}
-use Rattle.vx_driver.specs.Held.{DefaultUnless}
+use Rattle.vx_files.specs.Held.{DefaultUnless}
 use Rattle.vx_driver.proofs.FileSteps.{machine_loaded, after_machine, at_machine, still_some}
 use Rattle.vx_driver.proofs.sim.load_machine.Goals as goal
 

@@ -4,9 +4,9 @@ use Rattle.std.proofs.lemmas.Result.{IfErr-weaker, IfOk-weaker}
 use Rattle.vx_base.specs.declared.role.Role.TheVariants.{Words as TheWords}
 use Rattle.vx_words.specs.Text.{Spells, reading}
 use Rattle.vx_status.specs.declared.status.Status.TheVariants.{Limit, NoMemory}
-use Rattle.vx_driver.specs.Effects.{effect_of}
+use Rattle.vx_files.specs.Effects.{effect_of}
 use Rattle.vx_driver.specs.Simulated.{words_as, is_named}
-use Rattle.vx_driver.proofs.WholeFile.{whole}
+use Rattle.vx_files.proofs.WholeFile.{whole}
 use Rattle.vx_driver.proofs.FileSteps.{spells_in, words_refused, words_long}
 use Rattle.vx_driver.proofs.sim.read_words.Goals as goal
 

@@ -1,5 +1,5 @@
 -- What was read is run, or the reading of the files stopped the command.
-use Rattle.vx_driver.specs.Effects.{effect_of}
+use Rattle.vx_files.specs.Effects.{effect_of}
 use Rattle.vx_command.specs.Asked.{simulation_of}
 use Rattle.vx_driver.specs.Ending.{loaded_of}
 use Rattle.vx_driver.proofs.Runs.{run_loaded_answers, stops_told, wanted_for}

@@ -1,6 +1,6 @@
 -- What the words ask for is done; no file is asked for, so none has changed.
 use Rattle.std.proofs.Common.{map, refl}
-use Rattle.vx_driver.specs.Effects.{effect_of}
+use Rattle.vx_files.specs.Effects.{effect_of}
 use Rattle.vx_driver.proofs.top.perform_soak.Goals as goal
 
 pub returns-in-Ok-clause-answers : goal.returns-in-Ok-clause-answers

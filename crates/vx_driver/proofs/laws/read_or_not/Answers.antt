@@ -1,5 +1,0 @@
-use Rattle.vx_driver.proofs.SourceLaws.{never_both}
-use Rattle.vx_driver.proofs.laws.read_or_not.Goals as goal
-
-pub returns : goal.returns
-returns c = never_both

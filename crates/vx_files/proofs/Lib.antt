@@ -1,0 +1,11 @@
+pub mod Inputs
+pub mod InRange
+mod InputRows
+pub mod Refusing
+pub mod MachineFile
+pub mod ProfileFile
+pub mod Fronts
+pub mod SourceLaws
+pub mod SourceFile
+pub mod WholeFile
+pub mod InputFile

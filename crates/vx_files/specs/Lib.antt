@@ -1,0 +1,4 @@
+pub mod InputText
+pub mod Held
+pub mod Effects
+pub mod Laws

@@ -1,0 +1,59 @@
+// The source of a command: a file that is read whole and through.
+
+ghost use Rattle.std.specs.Prelude.{◌≡◌, ◌≤◌, length, IfOk, IfErr, IfSome};
+ghost use Rattle.vx_ast.specs.View as view;
+ghost use Rattle.vx_files.specs.Held.{HoldsSource, HoldsProgram};
+ghost use Rattle.vx_files.specs.Effects.{effect_of, SourceAnswers};
+
+use crate::reading::typed_of;
+use std::alloc::Global;
+use vx_ast::typed::Typed;
+use vx_base::depot::{Depot, DepotFault};
+use vx_base::reading::{FileRead, read_file};
+use vx_base::role::Role;
+use vx_status::Status;
+
+/// The most bytes of a source.
+pub const MOST_SOURCE_BYTES: u64 = 1048576;
+
+/// What a source that is too long is answered.
+const LONG_SOURCE: Status = Status::Limit {
+    number: 1,
+    count: MOST_SOURCE_BYTES + 1,
+};
+
+/// Reads the file of the source, whole.
+fn read_source<D: Depot>(alloc: Global, depot: &mut D, source: &str) -> Result<Vec<u8>, Status>
+    ensures same_files { D.files depot.new ≡ D.files depot.old }
+    ensures content { IfOk result (λ bytes. IfSome (D.files depot.old) (λ held. HoldsSource held source.now bytes.items)) }
+    ensures short { IfOk result (λ bytes. length bytes.items ≤ 1048576) }
+    ensures answers { IfErr result (SourceAnswers source.now (effect_of D.files D.failed_reads D.failed_replaces depot.old depot.new)) }
+    ensures reads_never_fall { D.failed_reads depot.old ≤ D.failed_reads depot.new }
+    ensures replaces_never_fall { D.failed_replaces depot.old ≤ D.failed_replaces depot.new }
+{
+    match read_file(alloc, depot, source, MOST_SOURCE_BYTES) {
+        Ok(FileRead::Whole(bytes)) => Ok(bytes),
+        Ok(FileRead::TooLong) => Err(LONG_SOURCE),
+        Err(DepotFault::Failed) => Err(Status::ReadFault(Role::Source)),
+        Err(DepotFault::NoFile) => Err(Status::NoFile(Role::Source)),
+        Err(DepotFault::NoMemory) => Err(Status::NoMemory),
+    }
+}
+
+/// Reads the file of the source through.
+pub fn read_through<D: Depot>(
+    alloc: Global,
+    depot: &mut D,
+    source: &str,
+) -> Result<Typed, Status>
+    ensures same_files { D.files depot.new ≡ D.files depot.old }
+    ensures program { IfOk result (λ typed. IfSome (D.files depot.old) (λ held. HoldsProgram held source.now (view.program_of typed.program))) }
+    ensures answers { IfErr result (SourceAnswers source.now (effect_of D.files D.failed_reads D.failed_replaces depot.old depot.new)) }
+    ensures reads_never_fall { D.failed_reads depot.old ≤ D.failed_reads depot.new }
+    ensures replaces_never_fall { D.failed_replaces depot.old ≤ D.failed_replaces depot.new }
+{
+    match read_source(alloc, depot, source) {
+        Ok(bytes) => typed_of(alloc, bytes.as_slice()),
+        Err(status) => Err(status),
+    }
+}
