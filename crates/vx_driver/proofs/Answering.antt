@@ -11,7 +11,7 @@ use Rattle.vx_status.specs.declared.status.Status.TheVariants.{Done, Trapped, Us
 use Rattle.vx_profile.specs.declared.counts.Counts.{Counts}
 use Rattle.vx_report.specs.Report.{names_of, report_text}
 use Rattle.vx_command.specs.Command.{Compilation}
-use Rattle.vx_driver.specs.Stages.{MakesTexts}
+use Rattle.vx_compile.specs.Stages.{MakesTexts}
 use Rattle.vx_files.proofs.ProfileFile.{stands}
 use Rattle.vx_files.specs.Held.{HoldsProgram, Accepts, BadProfile, Is, Refused, TooLong, Missing, found_in, machine_found, AreCounts, RefusesProfile}
 use Rattle.vx_driver.specs.Answers.{TextsOf, Compiles, Writes, WritesWords, with_report, ReportsPartly, WritesPartly, StopsAtProfile, StopsAtMachine, CompileAnswers, WriteAnswers, once_written, ReportAnswers, PutsTexts, MachineOrTexts, ProgramAnswers}

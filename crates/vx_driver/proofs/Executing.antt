@@ -18,7 +18,7 @@ use Rattle.vx_status.specs.declared.status.Status.{Status}
 use Rattle.vx_status.specs.declared.status.Status.TheVariants.{Done, Trapped, Usage, Source, Limit, Words, Profile, Machine, NoFile, ReadFault, WriteFault, Stopped, Input, Stuck, NoMemory}
 use Rattle.vx_command.specs.Command.{Execution}
 use Rattle.vx_driver.specs.Boxes.{Chosen}
-use Rattle.vx_driver.specs.Faithful.{Faithful}
+use Rattle.vx_compile.specs.Faithful.{Faithful}
 use Rattle.vx_files.specs.Held.{AreCounts, HoldsProgram, ProfileStands, Is, machine_found, input_in, input_found}
 use Rattle.vx_files.specs.Effects.{Effect, ReadsRose, SourceAnswers, MachineAnswers, InputAnswers}
 use Rattle.vx_driver.specs.Answers.{StopsAtProfile, StopsAtMachine}

@@ -15,8 +15,3 @@ pub mod Counting
 pub mod Summing
 pub mod SoakLaws
 pub mod Completed
-pub mod Beginning
-pub mod OneFunction
-pub mod Chain
-pub mod LaidOut
-pub mod NumbersFit

@@ -20,7 +20,7 @@ use Rattle.vx_sim.specs.declared.ended.Ended.TheVariants.{Halted, Trapped as Tra
 use Rattle.vx_driver.specs.declared.soak.ProgramSizes.{ProgramSizes}
 use Rattle.vx_status.specs.declared.status.Status.{Status}
 use Rattle.vx_status.specs.declared.status.Status.TheVariants.{Done, Trapped, Usage, Source, Limit, Words, Profile, Machine, NoFile, ReadFault, WriteFault, Stopped, Input, Stuck, NoMemory}
-use Rattle.vx_driver.specs.declared.words.FlowSize.{FlowSize}
+use Rattle.vx_compile.specs.declared.words.FlowSize.{FlowSize}
 use Rattle.vx_command.specs.Command.{Soaking}
 use Rattle.vx_driver.specs.Boxes.{Boxes, Chosen, chosen}
 use Rattle.vx_files.specs.Effects.{Effect}
@@ -28,7 +28,7 @@ use Rattle.vx_driver.specs.Ending.{RunOf}
 use Rattle.vx_driver.specs.Executed.{Issues, SourceHas}
 use Rattle.vx_driver.specs.Simulated.{Loaded, Streams, OutRose, with_input, outcome_within, events_within}
 use Rattle.vx_driver.specs.Soaked.{Soaked, SoakRuns, SoakedAnswers, SoakAnswers, SoakGoesOn, SoakEnds, SoakCompletes, byte_sum, soak_budget, soak_growth, soaked_words, summary_of}
-use Rattle.vx_driver.specs.Stages.{Sized}
+use Rattle.vx_compile.specs.Stages.{Sized}
 use Rattle.vx_driver.specs.SoakSteps.{IsMade, IsMadeFrom, RunEndsSo, SoakRan, PutsEnd, whole, cut, trapped, stopped, no_memory, line_of, sizes_of}
 use Rattle.vx_files.proofs.SourceLaws.{one_program}
 use Rattle.vx_driver.proofs.Executing.{in_source, issues_of}

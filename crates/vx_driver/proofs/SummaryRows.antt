@@ -1,7 +1,7 @@
 -- The line of `soak` and the sum of bytes, worked out by hand.
 use Rattle.std.proofs.Common.{◌≡◌, refl, [], ◌∷◌, codes}
 use Rattle.std.specs.Fmt.{digits}
-use Rattle.vx_driver.specs.Stages.{all_blocks}
+use Rattle.vx_compile.specs.Stages.{all_blocks}
 use Rattle.vx_driver.specs.Soaked.{byte_sum, summary}
 
 -- the line

@@ -13,7 +13,7 @@ use Rattle.vx_ast.specs.declared.fault.SourceFault.{SourceFault}
 use Rattle.vx_status.specs.declared.status.Status.{Status}
 use Rattle.vx_status.specs.declared.status.Status.TheVariants.{Done, Trapped, Usage, Source, Limit, Words, Profile, Machine, NoFile, ReadFault, WriteFault, Stopped, Input, Stuck, NoMemory}
 use Rattle.vx_command.specs.Command.{Compilation}
-use Rattle.vx_driver.specs.Compiled.{Compiled}
+use Rattle.vx_compile.specs.Compiled.{Compiled}
 use Rattle.vx_report.specs.declared.plan.Plan.{Plan}
 use Rattle.vx_report.specs.Report.{names_of, report_text}
 use Rattle.vx_words.specs.Text.{Spells}

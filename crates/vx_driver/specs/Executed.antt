@@ -19,7 +19,7 @@ use Rattle.vx_status.specs.declared.status.Status.TheVariants.{Done, Trapped, Us
 use Rattle.vx_status.specs.Status.{status_line}
 use Rattle.vx_command.specs.Command.{Execution}
 use Rattle.vx_driver.specs.Boxes.{Boxes, Chosen, chosen}
-use Rattle.vx_driver.specs.Compiled.{Compiled}
+use Rattle.vx_compile.specs.Compiled.{Compiled}
 use Rattle.vx_files.specs.Held.{AreCounts, HoldsProgram, Accepts, status_of, Is, machine_found, ProfileStands, RefusesProfile, input_found}
 use Rattle.vx_files.specs.Effects.{Effect, ReadsRose, SameFiles, SourceAnswers, InputAnswers}
 use Rattle.vx_driver.specs.Answers.{StopsAtProfile, StopsAtMachine}

@@ -1,6 +1,3 @@
-pub mod Faithful
-pub mod Compiled
-pub mod Stages
 pub mod Boxes
 pub mod Answers
 pub mod Simulated

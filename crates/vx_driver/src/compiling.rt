@@ -6,11 +6,10 @@ ghost use Rattle.vx_ast.specs.View as view;
 ghost use Rattle.vx_files.specs.Effects.{effect_of};
 ghost use Rattle.vx_driver.specs.Answers.{CompileAnswers, WriteAnswers, ReportAnswers, PutsTexts, MachineOrTexts, ProgramAnswers};
 ghost use Rattle.vx_command.specs.Asked.{compilation_of};
-ghost use Rattle.vx_driver.specs.Stages.{MakesTexts};
+ghost use Rattle.vx_compile.specs.Stages.{MakesTexts};
 ghost use Rattle.vx_report.specs.Report.{names_of, report_text};
 ghost use Rattle.vx_words.specs.Text.{Spells};
 
-use crate::words;
 use std::alloc::Global;
 use vx_ast::typed::Typed;
 use vx_base::depot::{Depot, DepotFault};
@@ -52,7 +51,7 @@ fn texts_of(
 ) -> Result<Texts, NoMemory>
     ensures { IfOk result (λ texts. MakesTexts (view.program_of program.now.program) counts.now machine.now growth reports texts.words.items texts.report.items) }
 {
-    let compiled = words::compile(alloc, program, counts, machine, growth)?;
+    let compiled = vx_compile::compile(alloc, program, counts, machine, growth)?;
     let words = write(alloc, &compiled.words)?;
     let report = report_for(alloc, &compiled.plan, program, reports)?;
     Ok(Texts { words, report })

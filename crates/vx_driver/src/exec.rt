@@ -9,7 +9,7 @@ ghost use Rattle.vx_files.specs.Held.{machine_found, Is, ProfileStands, DefaultU
 ghost use Rattle.vx_command.specs.Command.{Execute};
 ghost use Rattle.vx_driver.specs.Commands.{TellsLine, TellsRun};
 ghost use Rattle.vx_command.specs.Asked.{execution_of};
-ghost use Rattle.vx_driver.specs.Stages.{IsCompiled};
+ghost use Rattle.vx_compile.specs.Stages.{IsCompiled};
 ghost use Rattle.vx_status.specs.Status.{Adds};
 ghost use Rattle.vx_driver.specs.Simulated.{is_of_run, streams_of};
 ghost use Rattle.vx_driver.specs.Executed.{CompiledBy, Prepared, ExecutionAnswers, ExecAnswers};
@@ -18,12 +18,12 @@ ghost use Rattle.vx_driver.specs.Ending.{loaded_of, AfterSource, LaterStops, Sto
 use crate::boxes::{probes_of, timing_of};
 use crate::loaded::LoadedFiles;
 use crate::running::{no_box, no_probe, run_loaded};
-use crate::words::compile;
 use std::alloc::Global;
 use vx_ast::typed::Typed;
 use vx_base::depot::Depot;
 use vx_base::sink::Sink;
 use vx_command::ExecWords;
+use vx_compile::compile;
 use vx_files::{counts_for, input_for, machine_for, read_through};
 use vx_machine::Machine;
 use vx_probe::{Probe, Timing};

@@ -4,16 +4,13 @@
 mod boxes;
 mod compiling;
 mod exec;
-mod layouts;
 mod loaded;
 mod profile;
-mod ranges;
 mod running;
 mod sim;
 mod soak;
 pub mod top;
-pub mod words;
 
 pub use top::vexc;
+pub use vx_compile::{CompiledProgram, compile};
 pub use vx_report::{Plan, report};
-pub use words::{CompiledProgram, compile};

@@ -11,13 +11,13 @@ ghost use Rattle.vx_driver.specs.Simulated.{is_of_run, streams_of};
 ghost use Rattle.vx_driver.specs.Counted.{ProfilingAnswers};
 ghost use Rattle.vx_driver.specs.Counting.{IsCounted, CountedOn, CountedFor, PutsText, StopsProfiling};
 
-use crate::words::flow_of;
 use std::alloc::Global;
 use vx_ast::typed::Typed;
 use vx_base::depot::Depot;
 use vx_base::outcome::NoMemory;
 use vx_base::sink::{Sink, put_all};
 use vx_command::ProfileWords;
+use vx_compile::flow_of;
 use vx_files::{input_for, read_through};
 use vx_profile::{count, write_counts};
 use vx_status::{Status, tell};

@@ -2,7 +2,7 @@
 use Rattle.std.proofs.Common.{◌∙◌, inr, option_map, subst}
 use Rattle.vx_ast.specs.View.{program_of}
 use Rattle.vx_files.specs.Effects.{effect_of}
-use Rattle.vx_driver.specs.Stages.{MakesTexts}
+use Rattle.vx_compile.specs.Stages.{MakesTexts}
 use Rattle.vx_driver.proofs.Answering.{some_named, texts_made}
 use Rattle.vx_driver.proofs.compiling.compile_for.Goals as goal
 

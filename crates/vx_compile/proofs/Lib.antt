@@ -1,0 +1,5 @@
+pub mod Beginning
+pub mod OneFunction
+pub mod Chain
+pub mod LaidOut
+pub mod NumbersFit

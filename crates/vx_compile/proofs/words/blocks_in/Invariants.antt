@@ -1,0 +1,7 @@
+-- The blocks so far.
+use Rattle.std.proofs.Common.{◌≡◌, take}
+use Rattle.vx_compile.specs.Stages.{all_blocks}
+use Rattle.vx_compile.proofs.words.blocks_in.Given as goal
+
+abbrev pub invariant-loop-graph : goal.invariant-loop-graph
+invariant-loop-graph l = l.count ≡ all_blocks (take l.graph-index l.graphs)

@@ -1,0 +1,130 @@
+-- What holds between the graphs of a program and its words: layouts of the graphs, and maps for the layouts; and the laws by which
+-- each of them does what the one before does.
+use Rattle.std.specs.Prelude.{◌≡◌, ◌<◌, ◌+◌, ℕ, Bool, true, List, [], ◌∷◌, length, Some, slice_get}
+use Rattle.vx_base.specs.Outcome.{SameIsTransitive}
+use Rattle.vx_flow.specs.declared.graph.Flow.{Flow}
+use Rattle.vx_flow.specs.declared.graph.Graph.{Graph}
+use Rattle.vx_flow.specs.Sound.{is_sound}
+use Rattle.vx_isa.specs.declared.program.WordProgram.{WordProgram}
+use Rattle.vx_isa.specs.Numbers.{Numbers}
+use Rattle.vx_isa.specs.Paths.{PathStrictLaw, AnyTimingLaw}
+use Rattle.vx_mixed.specs.declared.mixed.MixedGraph.{MixedGraph}
+use Rattle.vx_mixed.specs.declared.layout.VirtualWord.{VirtualWord}
+use Rattle.vx_mixed.specs.declared.layout.VWords.{VWords}
+use Rattle.vx_mixed.specs.LaidSettled.{LeadsTo}
+use Rattle.vx_layout.specs.Brief.{LayoutIsBrief}
+use Rattle.vx_motion.specs.Context.{MeansTheFlow, StepsLaw}
+use Rattle.vx_mixed.specs.FromGraph.{FromGraph}
+use Rattle.vx_mixed.specs.Layout.{layout_of}
+use Rattle.vx_layout.specs.LayoutLaws.{LayoutRuns, LayoutSettles, LayoutComesFromGraph}
+use Rattle.vx_mixed.specs.Valid.{Valid, CanBegin}
+use Rattle.vx_regs.specs.declared.map.RegMap.{RegMap}
+use Rattle.vx_profile.specs.declared.counts.Counts.{Counts}
+use Rattle.vx_region.specs.declared.trace_plan.TracePlan.{TracePlan}
+use Rattle.vx_region.specs.Regions.{AllReplaced, ReplacesAll}
+use Rattle.vx_frame.specs.Carried.{FrameLaw}
+use Rattle.vx_frame.specs.declared.finishing.Finished.{Finished}
+use Rattle.vx_frame.specs.Finish.{Finishes}
+use Rattle.vx_frame.specs.Plans.{PlanLaw, SpacedLaw}
+use Rattle.vx_ast.specs.Tree.{Program}
+use Rattle.vx_report.specs.declared.plan.Plan.{Plan}
+use Rattle.vx_report.specs.Report.{names_of, report_text}
+use Rattle.vx_words.specs.Range.{is_in_range}
+use Rattle.vx_words.specs.Text.{Spells}
+use Rattle.vx_compile.specs.Compiled.{AreMapsOf, Compiled, Planned, all_in_slots, layouts_of}
+use Rattle.std.specs.List.{sum_by}
+use Rattle.vx_compile.specs.declared.words.FlowSize.{FlowSize}
+
+-- the graph can begin as a graph of blocks and regions, and has a block
+pub record Begins (graph : Graph) : Type 0 where
+  pub sound : is_sound graph ≡ true
+  pub can : CanBegin graph
+  pub some : 0 < length graph.blocks
+
+abbrev pub AllBegin : List Graph → Type 0
+AllBegin graphs = (f : ℕ) (graph : Graph) → slice_get graphs f ≡ Some graph → Begins graph
+
+-- the layout of regions that took the place of all blocks of a graph, that of the function with this number
+pub record IsLayoutOf (machine : Numbers) (function : ℕ) (graph : Graph) (l : VWords) : Type 0 where
+  pub begun : MixedGraph
+  pub from : FromGraph graph begun
+  pub done : MixedGraph
+  pub valid : Valid done
+  pub some : 0 < length done.nodes
+  pub replaced : AllReplaced machine graph (record begun { function = function }) done
+  pub is : l ≡ layout_of done
+
+-- graph by graph, from the function with this number on
+abbrev pub AreLayoutsFrom : (function : ℕ) → Numbers → List Graph → List VWords → Type 0
+AreLayoutsFrom f machine [] [] = Unit {0}
+AreLayoutsFrom f machine (graph ∷ graphs) (l ∷ ls) = IsLayoutOf machine f graph l × AreLayoutsFrom (f + 1) machine graphs ls
+AreLayoutsFrom f machine [] (l ∷ ls) = ⊥
+AreLayoutsFrom f machine (graph ∷ graphs) [] = ⊥
+
+abbrev pub AreLayoutsOf : Numbers → List Graph → List VWords → Type 0
+AreLayoutsOf machine graphs ls = AreLayoutsFrom 0 machine graphs ls
+
+-- each word of a layout leads to words of it, and so does its entry
+pub record IsInside (l : VWords) : Type 0 where
+  pub words : (p q : ℕ) (word : VirtualWord) → slice_get l.words p ≡ Some word → LeadsTo p word q → q < length l.words
+  pub entry : l.entry < length l.words
+
+abbrev pub AreInside : List VWords → Type 0
+AreInside ls = (f : ℕ) (l : VWords) → slice_get ls f ≡ Some l → IsInside l
+
+-- A function that is laid out: its traces became regions by these plans, and this is the layout of what is left.
+pub record IsLaidOut (machine : Numbers) (counts : Counts) (cap function : ℕ) (graph : Graph) (used : ℕ) (traces : List TracePlan) (l : VWords) (used' : ℕ) : Type 0 where
+  pub laid : IsLayoutOf machine function graph l
+  pub all : ReplacesAll machine counts cap (record laid.begun { function = function }) used traces laid.done used'
+
+-- functions that are laid out, by these plans and with so many copies
+pub record AreLaidOut (machine : Numbers) (counts : Counts) (cap : ℕ) (graphs : List Graph) (traces : List TracePlan) (ls : List VWords) (used : ℕ) : Type 0 where
+  pub laid : AreLayoutsOf machine graphs ls
+  pub planned : Planned machine counts cap graphs traces used
+  pub layouts_are : ls ≡ layouts_of planned.functions
+
+-- layouts that are finished as words, which stand at these places, with so many values in slots
+pub record AreFinished (machine : Numbers) (flow : Flow) (ls : List VWords) (x : Finished) (spilled : ℕ) : Type 0 where
+  pub maps : List RegMap
+  pub kept : AreMapsOf machine ls maps
+  pub spilled_is : spilled ≡ all_in_slots maps
+  pub finished : Finishes machine flow ls maps x
+  pub in_range : is_in_range x.program ≡ true
+
+-- the texts of a compiled program, of which that of the report is made where one is asked
+pub record MakesTexts (p : Program) (counts : Counts) (machine : Numbers) (growth : ℕ) (asked : Bool) (text report : List ℕ) : Type 0 where
+  pub words : WordProgram
+  pub plan : Plan
+  pub compiled : Compiled p counts machine growth words plan
+  pub spells : Spells text words
+  pub reports : asked ≡ true → report ≡ report_text plan (names_of p)
+
+-- words that are compiled from a program, by some plan
+pub record IsCompiled (p : Program) (counts : Counts) (machine : Numbers) (growth : ℕ) (w : WordProgram) : Type 0 where
+  pub plan : Plan
+  pub compiled : Compiled p counts machine growth w plan
+
+-- the laws of the stages
+pub record StageLaws : Type 0 where
+  pub transitive : SameIsTransitive
+  pub means : MeansTheFlow
+  pub steps : StepsLaw
+  pub layouts : LayoutRuns
+  pub settles : LayoutSettles
+  pub comes : LayoutComesFromGraph
+  pub brief : LayoutIsBrief
+  pub frames : FrameLaw
+  pub plans : PlanLaw
+  pub spaced : SpacedLaw
+  pub paths : PathStrictLaw
+  pub timings : AnyTimingLaw
+
+-- the blocks of some graphs
+abbrev pub all_blocks : List Graph → ℕ
+all_blocks graphs = sum_by (λ (g : Graph). length g.blocks) graphs
+
+-- words that are compiled from a program, with their plan and the size of their graphs
+pub record Sized (p : Program) (counts : Counts) (m : Numbers) (growth : ℕ) (w : WordProgram) (plan : Plan) (size : FlowSize) : Type 0 where
+  pub compiled : Compiled p counts m growth w plan
+  pub functions_are : size.functions ≡ length compiled.flow.functions
+  pub blocks_are : size.blocks ≡ all_blocks compiled.flow.functions

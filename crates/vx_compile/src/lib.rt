@@ -1,0 +1,8 @@
+// The compiler: from an accepted program to its words and the plan of them.
+#![tactic(auto)]
+
+mod layouts;
+mod ranges;
+mod words;
+
+pub use words::{CompiledProgram, FlowSize, SizedProgram, compile, compile_sized, flow_of};
