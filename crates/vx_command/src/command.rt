@@ -150,7 +150,7 @@ fn read_words<'a>(
 }
 
 /// What the words of `compile` ask for, the program's name first, or their refusal.
-pub fn asked_of<'a>(alloc: Global, words: &'a [&'a str]) -> Result<CompileWords<'a>, Refused>
+pub fn compile_asked<'a>(alloc: Global, words: &'a [&'a str]) -> Result<CompileWords<'a>, Refused>
     ensures asked { IfOk result (λ asked. compile_of (map (λ w. w.now) words.now) ≡ Some (Compile (compilation_of asked))) }
     ensures refused { IfErr result (λ refused. (refused.status ≡ Status.NoMemory) ⊎ ((refused.status ≡ Status.Usage) × (compile_of (map (λ w. w.now) words.now) ≡ None))) }
 {

@@ -8,7 +8,7 @@ mod run_words;
 mod soak_words;
 mod soaking;
 
-pub use command::{CompileWords, Refused, asked_of, refuse};
+pub use command::{CompileWords, Refused, compile_asked, refuse};
 pub use profile_words::{ProfileWords, profile_asked};
 pub use run_words::{ExecWords, RunWords, exec_asked, sim_asked};
 pub use soak_words::soak_asked;

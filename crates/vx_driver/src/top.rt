@@ -16,7 +16,7 @@ use crate::soak::soak;
 use std::alloc::{AllocError, Global};
 use vx_base::depot::Depot;
 use vx_base::sink::Sink;
-use vx_command::{asked_of, exec_asked, profile_asked, refuse, sim_asked, soak_asked};
+use vx_command::{compile_asked, exec_asked, profile_asked, refuse, sim_asked, soak_asked};
 use vx_probe::{Probe, Timing};
 use vx_status::{Status, tell};
 
@@ -49,7 +49,7 @@ fn perform_compile<D: Depot, E: Sink>(
     ensures reads_never_fall { D.failed_reads depot.old ≤ D.failed_reads depot.new }
     ensures replaces_never_fall { D.failed_replaces depot.old ≤ D.failed_replaces depot.new }
 {
-    match asked_of(alloc, words) {
+    match compile_asked(alloc, words) {
         Ok(asked) => {
             let status = compile(alloc, depot, &asked);
             tell(err, status)
