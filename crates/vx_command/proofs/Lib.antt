@@ -1,7 +1,7 @@
 pub mod RunFound
 pub mod CommandWords
-pub mod ProfileWords
-pub mod SoakWords
+pub mod ProfileFound
+pub mod SoakFound
 mod SoakRows
 mod CommandRows
 mod SimRows

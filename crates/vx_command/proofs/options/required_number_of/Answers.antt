@@ -1,6 +1,6 @@
 -- The word's rule with the parser of its numbers.
 use Rattle.std.proofs.Common.{◌∙◌, ap, Some}
-use Rattle.vx_command.proofs.SoakWords.{numbered}
+use Rattle.vx_command.proofs.SoakFound.{numbered}
 use Rattle.vx_command.proofs.options.required_number_of.Goals as goal
 
 pub returns-clause-rule : goal.returns-clause-rule

@@ -2,7 +2,7 @@
 use Rattle.std.proofs.Common.{◌∙◌, ap}
 use Rattle.clap.specs.Words.{found_of}
 use Rattle.vx_command.specs.Command.{budget_of}
-use Rattle.vx_command.proofs.ProfileWords.{found_is, none_found}
+use Rattle.vx_command.proofs.ProfileFound.{found_is, none_found}
 use Rattle.vx_command.proofs.profile_words.profile_found.Goals as goal
 
 pub returns-in-Some-clause-asked : goal.returns-in-Some-clause-asked

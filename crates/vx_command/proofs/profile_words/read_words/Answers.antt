@@ -2,7 +2,7 @@
 use Rattle.std.proofs.Common.{◌∙◌, inl, inr, ap, map, sym}
 use Rattle.std.proofs.lemmas.Result.{IfOk-weaker, IfErr-weaker}
 use Rattle.clap.specs.Words.{app_of, found_of, is_simple, is_simple_and_free, rows_of}
-use Rattle.vx_command.proofs.ProfileWords.{profile_is_simple, profile_is_free, profile_taken, profile_refused}
+use Rattle.vx_command.proofs.ProfileFound.{profile_is_simple, profile_is_free, profile_taken, profile_refused}
 use Rattle.vx_command.proofs.profile_words.read_words.Goals as goal
 
 pub found_in-requires : goal.found_in-requires

@@ -2,7 +2,7 @@
 use Rattle.std.proofs.Common.{◌∙◌, ap}
 use Rattle.clap.specs.Words.{found_of}
 use Rattle.vx_command.specs.Command.{number_in}
-use Rattle.vx_command.proofs.SoakWords.{size_found}
+use Rattle.vx_command.proofs.SoakFound.{size_found}
 use Rattle.vx_command.proofs.soak_words.with_seed.Goals as goal
 
 pub returns-in-Some : goal.returns-in-Some
