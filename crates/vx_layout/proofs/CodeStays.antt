@@ -21,7 +21,8 @@ use Rattle.vx_mixed.specs.declared.region.Node.TheVariants.{Unused}
 use Rattle.vx_mixed.specs.declared.region.Region.{Region}
 use Rattle.vx_mixed.specs.declared.mixed.MixedGraph.{MixedGraph}
 use Rattle.vx_mixed.specs.CanReplace.{CanReplace, IsNamed, in_trace, in_made}
-use Rattle.vx_mixed.specs.Next.{Replacement, new_end, renamed_exit, renamed_region, freed, placed, last_of, exit_in, new_region, next_mixed, rename}
+use Rattle.vx_mixed.specs.declared.replacement.Replacement.{Replacement}
+use Rattle.vx_mixed.specs.Next.{new_end, renamed_exit, renamed_region, freed, placed, last_of, exit_in, new_region, next_mixed, rename}
 use Rattle.vx_layout.specs.Origins.{whole_op, ComesFrom, graph_op, copy, ExitComesFrom, Parts, ComesFromGraph}
 use Rattle.vx_layout.specs.OriginLaws.{CodeStays}
 use Rattle.vx_mixed.specs.TraceOf.{block_or_none, block_at, split_between, block_ops, trace_ops}

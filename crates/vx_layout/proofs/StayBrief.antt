@@ -11,7 +11,8 @@ use Rattle.vx_mixed.specs.declared.region.Region.{Region}
 use Rattle.vx_mixed.specs.declared.mixed.MixedGraph.{MixedGraph}
 use Rattle.vx_mixed.specs.declared.layout.VirtualWord.TheVariants.{Planned, Drain, Transfer, Choice, Call, Return, Ends}
 use Rattle.vx_layout.specs.Brief.{most_drain, IsBrief, IsBriefLayout, DrainsBriefly, BriefStays, LayoutIsBrief}
-use Rattle.vx_mixed.specs.Next.{Replacement, InWord, new_end, renamed_region, freed, placed, new_region, next_mixed, rename}
+use Rattle.vx_mixed.specs.declared.replacement.Replacement.{Replacement}
+use Rattle.vx_mixed.specs.Next.{InWord, new_end, renamed_region, freed, placed, new_region, next_mixed, rename}
 use Rattle.vx_mixed.specs.Layout.{place_of, layout_of}
 use Rattle.vx_mixed.proofs.DatedWords.{Dated, word_in}
 use Rattle.vx_layout.proofs.LaidSources.{source_of, plan_word}

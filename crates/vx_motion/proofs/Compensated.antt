@@ -36,7 +36,8 @@ use Rattle.vx_motion.specs.Rows.{Row, reads_last, writes_too, writes_read, store
 use Rattle.vx_mixed.specs.Settled.{InTime, IsStart, block, region, made_at_split}
 use Rattle.vx_motion.specs.Unchanged.{Outside, SameRegion, block as as_block, region as as_region}
 use Rattle.vx_mixed.specs.Way.{item_latency, Renamed, LeadsIn, LeadsOut, at_once}
-use Rattle.vx_mixed.specs.Next.{Replacement, made_on, InWord, in_word, placed, last_of, exit_in, is_split_edge, rejoin_at, entered_at, renamed_exit, renamed_region, renamed_node, new_region, trace_node, made_node, made_origin, on_edge}
+use Rattle.vx_mixed.specs.declared.replacement.Replacement.{Replacement}
+use Rattle.vx_mixed.specs.Next.{made_on, InWord, in_word, placed, last_of, exit_in, is_split_edge, rejoin_at, entered_at, renamed_exit, renamed_region, renamed_node, new_region, trace_node, made_node, made_origin, on_edge}
 use Rattle.vx_mixed.specs.TraceOf.{trace_ops, inner_edges}
 use Rattle.vx_mixed.specs.Valid.{Valid, is_entrance, is_in_region}
 use Rattle.vx_mixed.specs.Entrances.{stays, joined_at}

@@ -22,7 +22,7 @@ use Rattle.vx_mixed.specs.TraceItems.{splits_of}
 use Rattle.vx_mixed.specs.Edges.{Before, Ascending}
 use Rattle.vx_motion.specs.Example.{sum, test, step, product, total}
 use Rattle.vx_mixed.specs.FromGraph.{FromGraph, is_bound}
-use Rattle.vx_mixed.specs.Next.{Replacement}
+use Rattle.vx_mixed.specs.declared.replacement.Replacement.{Replacement}
 use Rattle.vx_motion.specs.ReplaceExample.{if_homes, IsWorked, IfIsReplaced}
 use Rattle.vx_mixed.specs.Settled.{StandsOn, has_home}
 use Rattle.vx_motion.specs.TraceExample.{if_blocks, if_banks}

@@ -22,7 +22,7 @@ use Rattle.vx_mixed.specs.TraceItems.{splits_of}
 use Rattle.vx_mixed.specs.Edges.{IsEdge, of_block}
 use Rattle.vx_motion.specs.Example.{sum, test, step}
 use Rattle.vx_mixed.specs.FromGraph.{FromGraph, is_bound}
-use Rattle.vx_mixed.specs.Next.{Replacement}
+use Rattle.vx_mixed.specs.declared.replacement.Replacement.{Replacement}
 use Rattle.vx_mixed.specs.Settled.{has_home}
 use Rattle.vx_motion.specs.TraceExample.{if_blocks, if_banks}
 use Rattle.vx_mixed.specs.TraceOf.{CanTrace, EndsWithCall, IsTraceOf, trace_ops, trace_fixed, trace_joins}

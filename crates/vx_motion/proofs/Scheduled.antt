@@ -12,7 +12,8 @@ use Rattle.vx_motion.specs.Rows.{below_join}
 use Rattle.vx_motion.specs.Scheduled.{JoinEdge, Scheduled, Keeps, MotionLaw}
 use Rattle.vx_mixed.specs.Settled.{HomesStay, InTime}
 use Rattle.vx_motion.specs.Unchanged.{LiveWithin}
-use Rattle.vx_mixed.specs.Next.{Replacement, next_mixed}
+use Rattle.vx_mixed.specs.declared.replacement.Replacement.{Replacement}
+use Rattle.vx_mixed.specs.Next.{next_mixed}
 use Rattle.vx_mixed.specs.Entrances.{meet_old, meet_new, pairs}
 use Rattle.vx_mixed.specs.Valid.{Valid}
 use Rattle.vx_motion.proofs.SettledAfter.{settled_after, the_region}

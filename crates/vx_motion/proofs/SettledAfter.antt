@@ -9,7 +9,8 @@ use Rattle.vx_mixed.specs.declared.region.Item.{Item}
 use Rattle.vx_mixed.specs.declared.region.Item.TheVariants.{Plain, Split}
 use Rattle.vx_mixed.specs.declared.region.Region.{Region}
 use Rattle.vx_mixed.specs.declared.mixed.MixedGraph.{MixedGraph}
-use Rattle.vx_mixed.specs.Next.{rename, Replacement, new_end, renamed_region, new_region, next_mixed}
+use Rattle.vx_mixed.specs.declared.replacement.Replacement.{Replacement}
+use Rattle.vx_mixed.specs.Next.{rename, new_end, renamed_region, new_region, next_mixed}
 use Rattle.vx_mixed.specs.Settled.{has_home, home_of, bank_of, stands_for, StandsOn, OnClusters, InTime, Settled, HomesStay}
 use Rattle.vx_mixed.specs.Valid.{Valid, region_op}
 use Rattle.vx_motion.specs.Scheduled.{IsRoom, WordsStand}

@@ -20,7 +20,8 @@ use Rattle.vx_motion.specs.Facts.{copies}
 use Rattle.vx_mixed.specs.Way.{item_latency, Clustered}
 use Rattle.vx_motion.specs.Drains.{Drained, LoadsAlike}
 use Rattle.vx_motion.specs.Rows.{Meets, NeverApart}
-use Rattle.vx_mixed.specs.Next.{Replacement, InWord, new_end, placed, last_of, exit_in, is_split_edge, new_region, on_edge}
+use Rattle.vx_mixed.specs.declared.replacement.Replacement.{Replacement}
+use Rattle.vx_mixed.specs.Next.{InWord, new_end, placed, last_of, exit_in, is_split_edge, new_region, on_edge}
 use Rattle.vx_motion.specs.Scheduled.{Keeps}
 use Rattle.vx_mixed.specs.Settled.{HomesStay, InTime}
 use Rattle.vx_mixed.specs.Valid.{Valid}

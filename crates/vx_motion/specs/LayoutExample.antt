@@ -5,7 +5,8 @@ use Rattle.vx_flow.specs.declared.trace.TraceOp.TheVariants.{Plain as TracePlain
 use Rattle.vx_mixed.specs.declared.layout.Laid.TheVariants.{Plain as LaidPlain, Split as LaidSplit}
 use Rattle.vx_mixed.specs.declared.layout.VirtualWord.TheVariants.{Planned, Drain, Transfer, Return}
 use Rattle.vx_motion.specs.Example.{new, sum, test, step, product, total}
-use Rattle.vx_mixed.specs.Next.{Replacement, next_mixed}
+use Rattle.vx_mixed.specs.declared.replacement.Replacement.{Replacement}
+use Rattle.vx_mixed.specs.Next.{next_mixed}
 use Rattle.vx_mixed.specs.Layout.{layout_of}
 
 -- block 3 and the block of copies behind it

@@ -4,7 +4,8 @@ use Rattle.vx_flow.specs.declared.trace.TraceOp.TheVariants.{Plain as TracePlain
 use Rattle.vx_flow.specs.declared.trace.Trace.{Trace}
 use Rattle.vx_flow.specs.Walk.{edge}
 use Rattle.vx_motion.specs.Example.{old, new, sum, test, step, product, total}
-use Rattle.vx_mixed.specs.Next.{Replacement, next_mixed}
+use Rattle.vx_mixed.specs.declared.replacement.Replacement.{Replacement}
+use Rattle.vx_mixed.specs.Next.{next_mixed}
 use Rattle.vx_mixed.specs.Entrances.{meet_old, meet_new, pairs}
 
 -- blocks 0, 1 and 2: the join at block 2 is reached from block 3

@@ -4,7 +4,7 @@ use Rattle.vx_flow.specs.declared.graph.Graph.{Graph}
 use Rattle.vx_mixed.specs.declared.mixed.MixedGraph.{MixedGraph}
 use Rattle.vx_mixed.specs.CanReplace.{CanReplace}
 use Rattle.vx_mixed.specs.FromGraph.{FromGraph}
-use Rattle.vx_mixed.specs.Next.{Replacement}
+use Rattle.vx_mixed.specs.declared.replacement.Replacement.{Replacement}
 use Rattle.vx_motion.specs.NextExample.{replacement}
 use Rattle.vx_motion.specs.TraceExample.{if_banks, if_blocks}
 use Rattle.vx_mixed.specs.TraceOf.{IsTraceOf}

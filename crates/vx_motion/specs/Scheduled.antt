@@ -18,7 +18,8 @@ use Rattle.vx_motion.specs.Facts.{row, words_from, copies}
 use Rattle.vx_mixed.specs.Way.{item_latency, Clustered, Renamed, LeadsIn, LeadsOut}
 use Rattle.vx_motion.specs.Drains.{Drained, LoadsAlike}
 use Rattle.vx_motion.specs.Unchanged.{Outside, LiveWithin}
-use Rattle.vx_mixed.specs.Next.{rename, Replacement, new_region, next_mixed}
+use Rattle.vx_mixed.specs.declared.replacement.Replacement.{Replacement}
+use Rattle.vx_mixed.specs.Next.{rename, new_region, next_mixed}
 use Rattle.vx_motion.specs.Rows.{Meets, NeverApart, Placed}
 use Rattle.vx_mixed.specs.Entrances.{meet_old, meet_new, pairs}
 use Rattle.vx_mixed.specs.Valid.{Valid}
