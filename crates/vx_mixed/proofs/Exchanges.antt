@@ -279,6 +279,12 @@ put_is m r valid c none nodes regions n g =
     let b = some_blocks r.trace.blocks c.trace.can.some in
     ap (λ z. record m { nodes = z; regions = regions; homes = r.homes }) n ∙ ap (λ z. record m { nodes = exchanged (length m.regions) r m.nodes; regions = z; homes = r.homes }) g ∙ changed_is m r valid c none b.0 b.1 b.2
 
+-- the same where the region was put first
+pub put_behind : (m g : MixedGraph) (r : Replacement) → Valid m → CanReplace m r → r.made ≡ [] → (nodes : List Node) → g ≡ record m { regions = m.regions ++ new_region m r ∷ [] } → nodes ≡ exchanged (length m.regions) r g.nodes → record g { nodes = nodes; homes = r.homes } ≡ next_mixed m r
+put_behind m g r valid c none nodes e n =
+    ap (λ (z : MixedGraph). record z { nodes = nodes; homes = r.homes }) e
+    ∙ put_is m r valid c none nodes (m.regions ++ new_region m r ∷ []) (n ∙ ap (λ (z : MixedGraph). exchanged (length m.regions) r z.nodes) e) refl
+
 -- Edges
 
 no_inner : (blocks : List ℕ) (e : Edge) → length blocks < 2 → IsIn e (inner_edges blocks) → ⊥
@@ -332,6 +338,10 @@ module _ (m : MixedGraph) (r : Replacement) (valid : Valid m) (c : CanReplace m 
 pub either : {A B : Type 0} (P : MixedGraph → Type 0) (result : Result A B) (new next old : MixedGraph) → OnOk result (new ≡ next) → OnErr result (new ≡ old) → P next → P old → P new
 either P (Ok a) new next old ok err after before = subst P (sym ok) after
 either P (Err e) new next old ok err after before = subst P (sym err) before
+
+-- where no block is made there are as few as before
+pub few_alone : (m : MixedGraph) (r : Replacement) (n : ℕ) → n ≡ length m.nodes → n < 4294967296 → r.made ≡ [] → length m.nodes + length r.made < 4294967296
+few_alone m r n many few none = let one = many in let two = few in let no : length r.made ≡ 0 = ap length none in omega arith
 
 abbrev pub Whole : List Edge → MixedGraph → Type 0
 Whole edges m = EdgesOf m edges × Valid m

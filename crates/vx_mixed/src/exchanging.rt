@@ -1,12 +1,12 @@
 // A trace that becomes a region where no block is made: no edge goes elsewhere, so that the nodes of its blocks alone change,
 // in the graph itself. The clause of `put_region` carries the promise.
 
-ghost use Rattle.std.specs.Prelude.{◌≡◌, ◌+◌, ◌<◌, ◌^◌, [], ℕ, OnErr, OnOk, length};
+ghost use Rattle.std.specs.Prelude.{◌≡◌, ◌+◌, ◌<◌, ◌^◌, [], ◌∷◌, ◌++◌, ℕ, OnErr, OnOk, length};
 ghost use Rattle.vx_flow.specs.declared.trace.Join.{Join};
 ghost use Rattle.vx_flow.specs.Effects.{IsIn};
-ghost use Rattle.vx_mixed.specs.CanReplace.{CanReplace};
+ghost use Rattle.vx_mixed.specs.CanReplace.{CanReplace, ListsFit, WordsFit};
 ghost use Rattle.vx_mixed.specs.Exchanged.{exchanged, with_inner, with_rejoins};
-ghost use Rattle.vx_mixed.specs.Next.{next_mixed};
+ghost use Rattle.vx_mixed.specs.Next.{new_region, next_mixed};
 ghost use Rattle.vx_mixed.specs.Valid.{Valid};
 
 use crate::mixed::MixedGraph;
@@ -33,10 +33,26 @@ pub(crate) fn put_region(
     ensures unchanged { OnErr result (graph.new ≡ graph.old) }
 {
     let number = graph.regions.len() as u32;
-    let region = region_of(alloc, graph, &replacement)?;
-    graph.regions.push(region)?;
+    push_region(alloc, graph, &replacement)?;
     exchange(&mut graph.nodes, number, &replacement);
     graph.homes = replacement.homes;
+    Ok(())
+}
+
+/// Puts the region of a trace behind the others.
+fn push_region(
+    alloc: Global,
+    graph: &mut MixedGraph,
+    replacement: &Replacement,
+) -> Result<(), NoMemory>
+    requires few { length graph.old.nodes + length replacement.now.made < 2 ^ 32 }
+    requires lists { ListsFit replacement.now }
+    requires words { WordsFit replacement.now }
+    ensures next { OnOk result (graph.new ≡ record graph.old { regions = graph.old.regions ++ new_region graph.old replacement.now ∷ [] }) }
+    ensures unchanged { OnErr result (graph.new ≡ graph.old) }
+{
+    let region = region_of(alloc, graph, replacement)?;
+    graph.regions.push(region)?;
     Ok(())
 }
 

@@ -16,7 +16,7 @@ ghost use Rattle.vx_mixed.specs.Valid.{CanBegin, Valid};
 use crate::copying::{
     block_edges, copied_arrays, copied_banks, copied_values, no_origins, start_homes, unused_nodes,
 };
-use crate::edging::{edges_after, outer_edges};
+use crate::edging::outer_edges;
 use crate::exchanging::put_region;
 use crate::laying::laid_out;
 use crate::layout::VWords;
@@ -192,36 +192,30 @@ impl Mixed {
         ensures next { OnOk result (self.new ≡ next_mixed self.old replacement) }
         ensures unchanged { OnErr result (self.new ≡ self.old) }
     {
-        let blocks = self.graph.nodes.len() as u64 + replacement.made.len() as u64;
-        if blocks > u64::from(u32::MAX) {
-            return Err(NoMemory);
-        }
         if replacement.made.is_empty() {
             return self.put(alloc, replacement);
         }
-        let parts = parts_after(alloc, &self.graph, &replacement)?;
-        let edges = edges_after(alloc, &self.graph, self.edges.as_slice(), &replacement)?;
+        let parts = parts_after(alloc, &self.graph, self.edges.as_slice(), &replacement)?;
         self.graph.nodes = parts.nodes;
         self.graph.regions = parts.regions;
         self.graph.origins = parts.origins;
         self.graph.homes = replacement.homes;
-        self.edges = edges;
+        self.edges = parts.edges;
         Ok(())
     }
 
     /// A trace becomes a region where no block is made, in the graph itself: the work is that of the trace, and of one pass over
     /// the edges where the trace has more than one block. Without memory the graph stays as it was.
     fn put(&mut self, alloc: Global, replacement: Replacement) -> Result<(), NoMemory>
-        requires few { length self.old.nodes + length replacement.made < 2 ^ 32 }
         requires can { CanReplace self.old replacement }
         requires none { replacement.made ≡ [] }
         ensures next { OnOk result (self.new ≡ next_mixed self.old replacement) }
         ensures unchanged { OnErr result (self.new ≡ self.old) }
     {
+        let nodes = self.graph.nodes.len();
         if replacement.trace.blocks.len() < 2 {
             return put_region(alloc, &mut self.graph, replacement);
         }
-        let nodes = self.graph.nodes.len();
         let blocks = replacement.trace.blocks.as_slice();
         let kept = outer_edges(alloc, nodes, self.edges.as_slice(), blocks)?;
         put_region(alloc, &mut self.graph, replacement)?;

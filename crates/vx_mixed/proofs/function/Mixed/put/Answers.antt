@@ -4,7 +4,7 @@ use Rattle.vx_flow.specs.Effects.{IsIn}
 use Rattle.vx_mixed.specs.CanReplace.{CanReplace}
 use Rattle.vx_mixed.specs.Settled.{NoTwice}
 use Rattle.vx_mixed.specs.Next.{next_mixed}
-use Rattle.vx_mixed.proofs.Exchanges.{Whole, block_low, put_alone, put_whole}
+use Rattle.vx_mixed.proofs.Exchanges.{Whole, block_low, few_alone, put_alone, put_whole}
 use Rattle.vx_mixed.proofs.function.Mixed.put.Goals as goal
 
 pub put_region-requires-clause-can : goal.put_region-requires-clause-can
@@ -30,10 +30,10 @@ pub returns-clause-next : goal.returns-clause-next
 returns-clause-next c = c.in_ok-put_region.ensures.next ∙ ap (λ m. next_mixed m c.args.replacement) c.self.view_is
 
 pub put_region-requires-clause-few : goal.put_region-requires-clause-few
-put_region-requires-clause-few c = subst (λ (m : MixedGraph). length m.nodes + length c.args.replacement.made < 4294967296) (sym c.self.view_is) c.requires.few
+put_region-requires-clause-few c = few_alone c.self.inside.graph c.args.replacement c.len-nodes.result c.len-nodes.ensures.len c.len-nodes.ensures.few c.requires.none
 
 pub put_region-requires-2-clause-few : goal.put_region-requires-2-clause-few
-put_region-requires-2-clause-few c = subst (λ (m : MixedGraph). length m.nodes + length c.args.replacement.made < 4294967296) (sym c.self.view_is) c.requires.few
+put_region-requires-2-clause-few c = few_alone c.self.inside.graph c.args.replacement c.len-nodes.result c.len-nodes.ensures.len c.len-nodes.ensures.few c.requires.none
 
 pub outer_edges-requires-clause-there : goal.outer_edges-requires-clause-there
 outer_edges-requires-clause-there c = λ b h.
