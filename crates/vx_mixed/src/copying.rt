@@ -12,7 +12,7 @@ use crate::region::{Node, Origin};
 use std::alloc::Global;
 use vx_base::listed::Listed;
 use vx_base::outcome::NoMemory;
-use vx_flow::graph::{Array, Bank, Block, BlockId, Edge, Exit, Op, Operand, Value};
+use vx_flow::graph::{Array, Bank, Block, BlockId, Edge, Exit, Graph, Op, Operand, Value};
 use vx_flow::trace::Homes;
 
 pub(crate) fn copied_banks(alloc: Global, banks: &[Bank]) -> Result<Listed<Bank>, NoMemory>
@@ -87,8 +87,60 @@ fn copied_block(alloc: Global, block: &Block) -> Result<Block, NoMemory>
     Ok(Block { ops, exit })
 }
 
+/// What is made of the blocks of a graph: what stands at their numbers, the edges, and that none was made.
+#[derive(Drop)]
+pub(crate) struct Begun {
+    pub(crate) nodes: Nodes,
+    pub(crate) edges: Listed<Edge>,
+    pub(crate) origins: Listed<Option<Origin>>,
+}
+
+/// The blocks of a graph, of which none is in a region.
+pub(crate) fn begun_blocks(alloc: Global, blocks: &[Block]) -> Result<Begun, NoMemory>
+    ensures nodes { IfOk result (λ begun. begun.nodes ≡ map Unused blocks.now) }
+    ensures edges { IfOk result (λ begun. begun.edges ≡ edges_from 0 blocks.now) }
+    ensures origins { IfOk result (λ begun. begun.origins ≡ replicate (length blocks.now) None) }
+{
+    let nodes = unused_nodes(alloc, blocks)?;
+    let edges = block_edges(alloc, blocks)?;
+    let origins = no_origins(alloc, blocks.len())?;
+    Ok(Begun {
+        nodes,
+        edges,
+        origins,
+    })
+}
+
+/// What is told of the values of a graph, and of its arrays.
+#[derive(Drop)]
+pub(crate) struct Told {
+    pub(crate) clusters: Listed<Option<u32>>,
+    pub(crate) banks: Listed<Bank>,
+    pub(crate) parameters: Listed<Value>,
+    pub(crate) arrays: Listed<Array>,
+}
+
+/// The values of a graph with the clusters on which they stand from the start.
+pub(crate) fn told_values(alloc: Global, graph: &Graph) -> Result<Told, NoMemory>
+    ensures clusters { IfOk result (λ told. told.clusters ≡ bound_by graph.now.blocks (replicate (length graph.now.banks) None)) }
+    ensures banks { IfOk result (λ told. told.banks ≡ graph.now.banks) }
+    ensures parameters { IfOk result (λ told. told.parameters ≡ graph.now.parameters) }
+    ensures arrays { IfOk result (λ told. told.arrays ≡ graph.now.arrays) }
+{
+    let clusters = start_homes(alloc, graph.banks.len(), graph.blocks.as_slice())?;
+    let banks = copied_banks(alloc, graph.banks.as_slice())?;
+    let parameters = copied_values(alloc, graph.parameters.as_slice())?;
+    let arrays = copied_arrays(alloc, graph.arrays.as_slice())?;
+    Ok(Told {
+        clusters,
+        banks,
+        parameters,
+        arrays,
+    })
+}
+
 /// The blocks, each in no region.
-pub(crate) fn unused_nodes(alloc: Global, blocks: &[Block]) -> Result<Nodes, NoMemory>
+fn unused_nodes(alloc: Global, blocks: &[Block]) -> Result<Nodes, NoMemory>
     ensures { IfOk result (λ nodes. nodes ≡ map Unused blocks.now) }
 {
     let mut nodes = Nodes::new(alloc);
@@ -100,7 +152,7 @@ pub(crate) fn unused_nodes(alloc: Global, blocks: &[Block]) -> Result<Nodes, NoM
 }
 
 /// No block was made.
-pub(crate) fn no_origins(alloc: Global, blocks: usize) -> Result<Listed<Option<Origin>>, NoMemory>
+fn no_origins(alloc: Global, blocks: usize) -> Result<Listed<Option<Origin>>, NoMemory>
     ensures { IfOk result (λ origins. origins ≡ replicate blocks None) }
 {
     let mut origins = Listed::new(alloc);
@@ -111,7 +163,7 @@ pub(crate) fn no_origins(alloc: Global, blocks: usize) -> Result<Listed<Option<O
 }
 
 /// The edges of blocks, ascending.
-pub(crate) fn block_edges(alloc: Global, blocks: &[Block]) -> Result<Listed<Edge>, NoMemory>
+fn block_edges(alloc: Global, blocks: &[Block]) -> Result<Listed<Edge>, NoMemory>
     requires { length blocks.now < 2 ^ 32 }
     ensures { IfOk result (λ edges. edges ≡ edges_from 0 blocks.now) }
 {
@@ -153,7 +205,7 @@ fn push_edge(edges: &mut Listed<Edge>, from: BlockId, to: BlockId) -> Result<(),
 }
 
 /// The clusters on which values stand from the start.
-pub(crate) fn start_homes(
+fn start_homes(
     alloc: Global,
     banks: usize,
     blocks: &[Block],

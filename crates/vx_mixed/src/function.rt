@@ -13,9 +13,7 @@ ghost use Rattle.vx_mixed.specs.Layout.{layout_of, IsDone};
 ghost use Rattle.vx_mixed.specs.Next.{next_mixed};
 ghost use Rattle.vx_mixed.specs.Valid.{CanBegin, Valid};
 
-use crate::copying::{
-    block_edges, copied_arrays, copied_banks, copied_values, no_origins, start_homes, unused_nodes,
-};
+use crate::copying::{begun_blocks, told_values};
 use crate::edging::outer_edges;
 use crate::exchanging::put_region;
 use crate::laying::laid_out;
@@ -66,26 +64,26 @@ impl Mixed {
         sound_graph_leads_within();
         let back = Listed::from_vec(back_edges(alloc, graph)?)?;
         let headers = Listed::from_vec(headers(alloc, graph)?)?;
-        let nodes = unused_nodes(alloc, graph.blocks.as_slice())?;
-        let edges = block_edges(alloc, graph.blocks.as_slice())?;
-        let origins = no_origins(alloc, graph.blocks.len())?;
-        let clusters = start_homes(alloc, graph.banks.len(), graph.blocks.as_slice())?;
-        let banks = copied_banks(alloc, graph.banks.as_slice())?;
-        let parameters = copied_values(alloc, graph.parameters.as_slice())?;
-        let arrays = copied_arrays(alloc, graph.arrays.as_slice())?;
+        let begun = begun_blocks(alloc, graph.blocks.as_slice())?;
+        let told = told_values(alloc, graph)?;
         let graph = MixedGraph {
             function: 0,
-            nodes,
+            nodes: begun.nodes,
             regions: Listed::new(alloc),
-            origins,
+            origins: begun.origins,
             headers,
             back,
-            banks,
-            parameters,
-            arrays,
-            homes: Homes { clusters },
+            banks: told.banks,
+            parameters: told.parameters,
+            arrays: told.arrays,
+            homes: Homes {
+                clusters: told.clusters,
+            },
         };
-        Ok(Mixed { graph, edges })
+        Ok(Mixed {
+            graph,
+            edges: begun.edges,
+        })
     }
 
     /// What holds of such a graph at all times. It does nothing.
