@@ -1,12 +1,11 @@
 -- What is live on the routes of a graph of blocks and regions is live in it.
-use Rattle.std.proofs.Common.{◌≡◌, ℕ, zero, suc, ◌+◌, ◌<◌, ◌≤◌, Bool, true, false, Option, Some, None, List, [], ◌∷◌, ◌++◌, length, map, drop, slice_get, slice_index_or, refl, sym, ap, ◌∙◌, subst, ⊎_elim, inl, inr, arith}
-use Rattle.std.specs.Prelude.{◌⊎◌, ◌↔◌}
+use Rattle.std.proofs.Common.{◌≡◌, ℕ, zero, suc, ◌+◌, ◌<◌, ◌≤◌, true, Some, None, List, [], ◌∷◌, length, map, drop, slice_get, refl, sym, ap, ◌∙◌, subst, ⊎_elim, inl, inr, arith}
+use Rattle.std.specs.Prelude.{◌↔◌}
 use Rattle.vx_flow.specs.declared.graph.Block.{Block}
 use Rattle.vx_flow.specs.declared.graph.Exit.{Exit}
 use Rattle.vx_flow.specs.declared.routes.Route.{Route}
 use Rattle.vx_flow.specs.Effects.{IsIn}
 use Rattle.vx_flow.specs.Live.{LiveOn, first_touch, here as route_here, beyond as route_beyond}
-use Rattle.vx_flow.specs.Sound.{targets_of}
 use Rattle.vx_flow.specs.Walk.{edge}
 use Rattle.vx_flow.proofs.Members.{in_either}
 use Rattle.vx_flow.proofs.IndexSteps.{get_below}
@@ -18,11 +17,11 @@ use Rattle.vx_mixed.specs.declared.region.Region.{Region}
 use Rattle.vx_mixed.specs.declared.mixed.MixedGraph.{MixedGraph}
 use Rattle.vx_mixed.specs.Alive.{AtEnd}
 use Rattle.vx_mixed.specs.Edges.{IsEdge, of_block, of_split, of_last}
-use Rattle.vx_mixed.specs.Live.{Live, here, beyond, through_block, single, word_reads, word_writes}
+use Rattle.vx_mixed.specs.Live.{Live, here, beyond, through_block, single}
 use Rattle.vx_mixed.specs.Routes.{off_ends, word_route, exit_route, word_routes, behind, region_routes, region_starts, node_route, node_routes, routes}
 use Rattle.vx_mixed.specs.Valid.{Valid}
 use Rattle.vx_mixed.proofs.AliveWords.{OffEdge, AliveWords}
-use Rattle.vx_mixed.proofs.Linked.{in_index, index_in, entrance_there, some_same}
+use Rattle.vx_mixed.proofs.Linked.{index_in, entrance_there, some_same}
 use Rattle.vx_mixed.proofs.OnRoutes.{word_firsts, exit_firsts, first_read, left_first, reads_whole, whole_left, block_touches, has_off, start, on_routes}
 use Rattle.vx_mixed.proofs.LiveRegions.{live_region}
 

@@ -1,6 +1,6 @@
 -- The edges after a replacement are the kept ones and those from made blocks.
-use Rattle.std.proofs.Common.{◌≡◌, ◌≢◌, ℕ, zero, suc, ◌+◌, ◌<◌, ◌≤◌, Bool, true, false, Option, Some, None, List, [], ◌∷◌, ◌++◌, length, map, drop, slice_get, slice_index_or, refl, sym, ap, ◌∙◌, subst, ⊎_elim, inl, inr, arith}
-use Rattle.std.specs.Prelude.{◌⊎◌, ◌↔◌, ◌==◌, if◌then◌else◌}
+use Rattle.std.proofs.Common.{◌≡◌, ◌≢◌, ℕ, zero, suc, ◌+◌, ◌<◌, Bool, true, false, Some, List, [], ◌∷◌, length, map, drop, slice_get, slice_index_or, refl, sym, ap, ◌∙◌, subst, ⊎_elim, inl, inr, arith}
+use Rattle.std.specs.Prelude.{◌⊎◌, ◌==◌, if◌then◌else◌}
 use Rattle.std.specs.List.{filter}
 use Rattle.std.proofs.lemmas.Bool.{eq-eqb, ne_eqb, cases_eq}
 use Rattle.vx_flow.specs.declared.graph.Block.{Block}
@@ -13,21 +13,16 @@ use Rattle.vx_flow.specs.Effects.{IsIn}
 use Rattle.vx_flow.specs.Sound.{targets_of}
 use Rattle.vx_flow.specs.Walk.{edge, numbers}
 use Rattle.vx_flow.proofs.Members.{in_left, in_right}
-use Rattle.vx_mixed.specs.declared.region.Item.{Item}
-use Rattle.vx_mixed.specs.declared.region.Item.TheVariants.{Plain, Split}
-use Rattle.vx_mixed.specs.declared.region.Made.{Made}
-use Rattle.vx_mixed.specs.declared.region.Node.{Node}
-use Rattle.vx_mixed.specs.declared.region.Node.TheVariants.{Unused, Enters, Inner}
-use Rattle.vx_mixed.specs.declared.region.Region.{Region}
+use Rattle.vx_mixed.specs.declared.region.Item.TheVariants.{Split}
+use Rattle.vx_mixed.specs.declared.region.Node.TheVariants.{Unused}
 use Rattle.vx_mixed.specs.declared.mixed.MixedGraph.{MixedGraph}
 use Rattle.vx_mixed.specs.CanReplace.{CanReplace}
-use Rattle.vx_mixed.specs.TraceItems.{splits_of}
 use Rattle.vx_mixed.specs.Edges.{IsEdge, of_block, of_split, of_last}
-use Rattle.vx_mixed.specs.Next.{Replacement, InWord, new_end, renamed_exit, renamed_region, placed, in_word, freed, last_of, exit_in, new_region, trace_node, next_mixed, rename}
+use Rattle.vx_mixed.specs.Next.{Replacement, InWord, new_end, renamed_exit, renamed_region, placed, in_word, last_of, exit_in, new_region, trace_node, next_mixed, rename}
 use Rattle.vx_mixed.specs.NextEdges.{IsNextEdge, kept, from_made, EdgesAfter}
-use Rattle.vx_mixed.specs.TraceOf.{CanTrace, block_at, block_or_none, split_between, split_behind, block_ops, trace_ops, inner_edges}
+use Rattle.vx_mixed.specs.TraceOf.{block_at, block_or_none, split_between, block_ops, trace_ops, inner_edges}
 use Rattle.vx_mixed.specs.Valid.{Valid}
-use Rattle.vx_mixed.proofs.Linked.{Linkable, some_blocks, index_in, can, edge_block}
+use Rattle.vx_mixed.proofs.Linked.{Linkable, some_blocks, can, edge_block}
 use Rattle.vx_mixed.proofs.NewBlocks.{AtNode, first_one, further, outside, node_kind, NewEdge, renamed, new_edge, from_made as by_made}
 use Rattle.vx_mixed.proofs.NewNodes.{node_old, node_made, map_get}
 use Rattle.vx_mixed.proofs.StaysValid.{linkable, region_kept, region_made}

@@ -1,10 +1,9 @@
 -- Where no block is made, a replacement changes the nodes of the trace's blocks alone.
 use Rattle.std.proofs.Common.{◌≡◌, ◌≢◌, ℕ, zero, suc, ◌+◌, ◌<◌, Bool, true, false, Option, Some, None, List, [], ◌∷◌, ◌++◌, length, map, slice_get, slice_set, refl, sym, ap, ◌∙◌, subst, ⊎_elim, inl, inr, arith, append-nil, Result, Ok, Err, OnOk}
-use Rattle.std.specs.Prelude.{◌⊎◌, ◌==◌, not, if◌then◌else◌, OnErr}
+use Rattle.std.specs.Prelude.{not, if◌then◌else◌, OnErr}
 use Rattle.std.specs.List.{filter}
 use Rattle.std.specs.Option.{option_map}
 use Rattle.std.proofs.lemmas.Bool.{cases_eq, eq-eqb, ne_eqb}
-use Rattle.vx_flow.specs.declared.graph.Block.{Block}
 use Rattle.vx_flow.specs.declared.graph.Edge.{Edge}
 use Rattle.vx_flow.specs.declared.graph.Exit.{Exit}
 use Rattle.vx_flow.specs.declared.graph.Exit.TheVariants.{Goto, Split as Branches, Call, Return, Ends}
@@ -14,7 +13,6 @@ use Rattle.vx_flow.specs.Walk.{edge}
 use Rattle.vx_flow.proofs.IndexSteps.{get_below}
 use Rattle.vx_mixed.specs.declared.region.Item.{Item}
 use Rattle.vx_mixed.specs.declared.region.Item.TheVariants.{Plain, Split}
-use Rattle.vx_mixed.specs.declared.region.Made.{Made}
 use Rattle.vx_mixed.specs.declared.region.Node.{Node}
 use Rattle.vx_mixed.specs.declared.region.Node.TheVariants.{Unused, Enters, Inner}
 use Rattle.vx_mixed.specs.declared.region.Region.{Region}
@@ -23,7 +21,7 @@ use Rattle.vx_mixed.specs.CanReplace.{CanReplace}
 use Rattle.vx_mixed.specs.Edges.{Ascending, IsEdge, EdgesOf}
 use Rattle.vx_mixed.specs.Exchanged.{with_inner, with_rejoins, with_blocks, exchanged}
 use Rattle.vx_mixed.specs.MovedEdges.{is_inner}
-use Rattle.vx_mixed.specs.Next.{Replacement, made_on, new_end, renamed_exit, renamed_region, renamed_node, new_region, rejoin_at, entered_at, trace_node, nodes_from, made_node, made_origin, next_mixed, rename}
+use Rattle.vx_mixed.specs.Next.{Replacement, new_end, renamed_exit, renamed_region, renamed_node, new_region, rejoin_at, entered_at, trace_node, nodes_from, made_node, made_origin, next_mixed, rename}
 use Rattle.vx_mixed.specs.NextEdges.{IsNextEdge, kept, from_made}
 use Rattle.vx_mixed.specs.Settled.{NoTwice}
 use Rattle.vx_mixed.specs.TraceOf.{block_ops, inner_edges, joins_behind, trace_joins}

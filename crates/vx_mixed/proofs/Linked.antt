@@ -1,14 +1,12 @@
 -- The arguments of a replacement give what the law of motion asks.
-use Rattle.std.proofs.Common.{◌≡◌, ◌≢◌, ℕ, zero, suc, ◌+◌, ◌-◌, ◌<◌, ◌≤◌, Bool, true, false, ◌&&◌, Option, Some, None, List, [], ◌∷◌, ◌++◌, cond, length, map, drop, slice_get, refl, sym, ap, ◌∙◌, subst, ⊎_elim, inl, inr, arith}
-use Rattle.std.specs.Prelude.{◌⊎◌, ◌==◌, ◌||◌, not, nat_lt, if◌then◌else◌}
+use Rattle.std.proofs.Common.{◌≡◌, ◌≢◌, ℕ, zero, suc, ◌<◌, ◌≤◌, Bool, true, false, ◌&&◌, Option, Some, None, List, [], ◌∷◌, length, map, drop, slice_get, refl, sym, ap, ◌∙◌, subst, ⊎_elim, inl, inr, arith}
+use Rattle.std.specs.Prelude.{◌⊎◌, ◌==◌, not, if◌then◌else◌}
 use Rattle.std.specs.List.{list_any}
-use Rattle.std.proofs.lemmas.Bool.{and_parts, or_cases, eqb-true, eq-eqb, ne_eqb, le-ltb, cases_Bool, cases_eq, not-true}
+use Rattle.std.proofs.lemmas.Bool.{eqb-true, eq-eqb, ne_eqb, cases_Bool}
 use Rattle.vx_flow.specs.declared.graph.Block.{Block}
 use Rattle.vx_flow.specs.declared.graph.Edge.{Edge}
 use Rattle.vx_flow.specs.declared.graph.Exit.{Exit}
 use Rattle.vx_flow.specs.declared.graph.Exit.TheVariants.{Goto, Split as Branches, Call, Return, Ends}
-use Rattle.vx_flow.specs.declared.graph.Op.{Op}
-use Rattle.vx_flow.specs.declared.trace.TraceOp.{TraceOp}
 use Rattle.vx_flow.specs.declared.trace.TraceOp.TheVariants.{Split as TraceSplit}
 use Rattle.vx_flow.specs.declared.trace.Join.{Join}
 use Rattle.vx_flow.specs.declared.trace.Trace.{Trace}
@@ -17,26 +15,23 @@ use Rattle.vx_flow.specs.Sound.{targets_of}
 use Rattle.vx_flow.specs.Walk.{edge}
 use Rattle.vx_flow.proofs.SoundLists.{any_in, any_of, or_left, or_right}
 use Rattle.vx_flow.proofs.IndexSteps.{get_below}
-use Rattle.vx_mixed.specs.declared.region.Item.{Item}
-use Rattle.vx_mixed.specs.declared.region.Item.TheVariants.{Plain, Split}
 use Rattle.vx_mixed.specs.declared.region.Made.{Made}
 use Rattle.vx_mixed.specs.declared.region.Node.{Node}
-use Rattle.vx_mixed.specs.declared.region.Node.TheVariants.{Unused, Enters, Inner}
-use Rattle.vx_mixed.specs.declared.region.Region.{Region}
+use Rattle.vx_mixed.specs.declared.region.Node.TheVariants.{Unused, Enters}
 use Rattle.vx_mixed.specs.declared.mixed.MixedGraph.{MixedGraph}
 use Rattle.vx_mixed.specs.Edges.{IsEdge, of_block, of_split, of_last}
 use Rattle.vx_mixed.specs.FromGraph.{same_edge}
 use Rattle.vx_mixed.specs.Settled.{NoTwice}
 use Rattle.vx_mixed.specs.Way.{Renamed, goto, branch, call, return, stop, LeadsIn, LeadsOut, at_once, by_made}
-use Rattle.vx_mixed.specs.Next.{Replacement, made_on, block_or, new_end, renamed_exit, last_of, exit_in, is_split_edge, rejoin_at, entered_at, trace_node, made_node, next_mixed, on_edge}
+use Rattle.vx_mixed.specs.Next.{Replacement, made_on, block_or, new_end, renamed_exit, last_of, is_split_edge, rejoin_at, entered_at, trace_node, next_mixed, on_edge}
 use Rattle.vx_mixed.specs.TraceOf.{CanTrace, IsTraceOf, block_at, block_or_none, block_ops, inner_edges, trace_ops, trace_joins, joins_behind}
 use Rattle.vx_mixed.specs.Valid.{Valid, PartsWays, is_entrance, is_in_region}
 use Rattle.vx_mixed.specs.Entrances.{meet_old, edge_of_made, at_split, at_join, meet_new, stays, joined_at, pairs}
 use Rattle.vx_mixed.specs.TraceItems.{splits_of}
 use Rattle.vx_mixed.proofs.Alike.{in_or}
 use Rattle.vx_mixed.proofs.PathOf.{from_inside, to_inside}
-use Rattle.vx_mixed.proofs.NewNodes.{and_both, same_is, is_same_edge, MadeOn, made_none, made_some, edge_made, edge_old, node_old, node_made}
-use Rattle.vx_mixed.proofs.TraceFacts.{is_split, SplitOn, split_on, in_splits, of_splits, SplitFact, split_fact, inner_from, inner_to, last_none, last_among, JoinFact, join_fact, joins_there, joins_once}
+use Rattle.vx_mixed.proofs.NewNodes.{and_both, same_is, is_same_edge, made_none, made_some, edge_made, edge_old, node_old, node_made}
+use Rattle.vx_mixed.proofs.TraceFacts.{split_on, in_splits, of_splits, SplitFact, split_fact, inner_from, inner_to, last_none, join_fact, joins_there, joins_once}
 
 pub some_blocks : (bs : List ℕ) → bs ≢ [] → (first : ℕ) × (others : List ℕ) × (bs ≡ first ∷ others)
 some_blocks [] n = absurd (n refl)

@@ -1,21 +1,18 @@
 -- What stands at a block's number after a replacement, and which blocks and edges there are.
-use Rattle.std.proofs.Common.{◌≡◌, ◌≢◌, ℕ, zero, suc, ◌+◌, ◌<◌, ◌≤◌, Bool, true, false, Option, Some, None, List, [], ◌∷◌, ◌++◌, length, map, slice_get, slice_index_or, drop, refl, sym, ap, ◌∙◌, subst, ⊎_elim, inl, inr, arith}
+use Rattle.std.proofs.Common.{◌≡◌, ℕ, zero, suc, ◌+◌, Bool, false, Option, Some, None, List, [], ◌∷◌, length, map, slice_get, slice_index_or, drop, refl, sym, ap, ◌∙◌, subst, ⊎_elim, inl, inr}
 use Rattle.std.specs.Prelude.{◌⊎◌, ◌==◌, if◌then◌else◌}
 use Rattle.std.specs.List.{list_any, filter}
 use Rattle.std.proofs.lemmas.Bool.{cases_Bool, cases_eq, eq-eqb, ne_eqb, eqb-true}
 use Rattle.vx_flow.specs.declared.graph.Block.{Block}
 use Rattle.vx_flow.specs.declared.graph.Edge.{Edge}
-use Rattle.vx_flow.specs.declared.graph.Exit.{Exit}
 use Rattle.vx_flow.specs.declared.graph.Exit.TheVariants.{Goto}
 use Rattle.vx_flow.specs.declared.graph.Op.{Op}
 use Rattle.vx_flow.specs.declared.trace.TraceOp.{TraceOp}
 use Rattle.vx_flow.specs.declared.trace.TraceOp.TheVariants.{Plain as TracePlain, Split as TraceSplit}
-use Rattle.vx_flow.specs.declared.trace.Join.{Join}
 use Rattle.vx_flow.specs.Effects.{IsIn}
 use Rattle.vx_flow.specs.Sound.{targets_of}
 use Rattle.vx_flow.specs.Walk.{edge, numbers}
 use Rattle.vx_flow.proofs.SoundLists.{any_in, any_of}
-use Rattle.vx_flow.proofs.IndexSteps.{get_below}
 use Rattle.vx_mixed.specs.declared.region.Item.{Item}
 use Rattle.vx_mixed.specs.declared.region.Item.TheVariants.{Plain, Split}
 use Rattle.vx_mixed.specs.declared.region.Made.{Made}
@@ -24,12 +21,12 @@ use Rattle.vx_mixed.specs.declared.region.Node.TheVariants.{Unused, Enters, Inne
 use Rattle.vx_mixed.specs.declared.region.Region.{Region}
 use Rattle.vx_mixed.specs.declared.mixed.MixedGraph.{MixedGraph}
 use Rattle.vx_mixed.specs.Edges.{IsEdge, of_block, of_split, of_last}
-use Rattle.vx_mixed.specs.Next.{Replacement, InWord, made_on, block_or, new_end, renamed_exit, renamed_region, renamed_node, freed, placed, in_word, last_of, exit_in, new_region, is_split_edge, rejoin_at, entered_at, trace_node, made_node, next_mixed, rename}
-use Rattle.vx_mixed.specs.TraceOf.{CanTrace, inner_edges}
+use Rattle.vx_mixed.specs.Next.{Replacement, InWord, new_end, renamed_exit, renamed_region, renamed_node, freed, placed, in_word, last_of, exit_in, new_region, rejoin_at, entered_at, trace_node, next_mixed, rename}
+use Rattle.vx_mixed.specs.TraceOf.{inner_edges}
 use Rattle.vx_mixed.specs.Valid.{Valid}
 use Rattle.vx_mixed.proofs.Alike.{in_or}
-use Rattle.vx_mixed.proofs.Linked.{Linkable, InnerEdge, can, unused, no_region, from_below, off_trace, from_outside, targets_renamed, index_in}
-use Rattle.vx_mixed.proofs.NewNodes.{node_new, node_old, node_made, of_regions}
+use Rattle.vx_mixed.proofs.Linked.{Linkable, can, unused, no_region, off_trace, from_outside, targets_renamed}
+use Rattle.vx_mixed.proofs.NewNodes.{node_new, of_regions}
 use Rattle.vx_mixed.proofs.Renames.{old_word, old_split}
 use Rattle.vx_mixed.proofs.TraceFacts.{in_filter, is_split, last_none}
 

@@ -1,9 +1,8 @@
 -- What is live in a graph of blocks and regions is live on its routes.
-use Rattle.std.proofs.Common.{◌≡◌, ℕ, zero, suc, ◌+◌, ◌-◌, ◌<◌, ◌≤◌, Bool, true, false, Option, Some, None, List, [], ◌∷◌, ◌++◌, cond, length, map, take, drop, slice_get, slice_index_or, refl, sym, ap, ◌∙◌, subst, ⊎_elim, inl, inr, arith, append_assoc}
-use Rattle.std.specs.Prelude.{◌⊎◌, ◌↔◌, ◌==◌, if◌then◌else◌}
+use Rattle.std.proofs.Common.{◌≡◌, ℕ, zero, suc, ◌+◌, ◌-◌, ◌≤◌, Bool, true, false, Option, Some, None, List, [], ◌∷◌, ◌++◌, length, map, take, drop, slice_get, slice_index_or, refl, sym, ap, ◌∙◌, subst, ⊎_elim, inl, inr, arith, append_assoc}
+use Rattle.std.specs.Prelude.{◌⊎◌, if◌then◌else◌}
 use Rattle.std.specs.List.{flat_map}
-use Rattle.std.proofs.lemmas.Bool.{cases_eq, eq-eqb, ne_eqb, cases_lt}
-use Rattle.vx_flow.specs.declared.graph.Block.{Block}
+use Rattle.std.proofs.lemmas.Bool.{cases_eq, eq-eqb, ne_eqb}
 use Rattle.vx_flow.specs.declared.graph.Edge.{Edge}
 use Rattle.vx_flow.specs.declared.graph.Exit.{Exit}
 use Rattle.vx_flow.specs.declared.graph.Exit.TheVariants.{Goto}
@@ -13,26 +12,20 @@ use Rattle.vx_flow.specs.declared.routes.Touch.{Touch}
 use Rattle.vx_flow.specs.Effects.{IsIn}
 use Rattle.vx_flow.specs.Live.{LiveOn, first_touch, touch, reads_of_exit, here as route_here, beyond as route_beyond}
 use Rattle.vx_flow.specs.Sound.{targets_of, results_of_exit}
-use Rattle.vx_flow.specs.Walk.{edge}
-use Rattle.vx_flow.proofs.Members.{in_left, in_right, in_either}
-use Rattle.vx_flow.proofs.IndexSteps.{get_below}
+use Rattle.vx_flow.proofs.Members.{in_left, in_right}
 use Rattle.vx_mixed.specs.declared.region.Item.{Item}
 use Rattle.vx_mixed.specs.declared.region.Item.TheVariants.{Plain, Split}
 use Rattle.vx_mixed.specs.declared.region.Node.{Node}
-use Rattle.vx_mixed.specs.declared.region.Node.TheVariants.{Unused, Enters, Inner}
+use Rattle.vx_mixed.specs.declared.region.Node.TheVariants.{Unused, Enters}
 use Rattle.vx_mixed.specs.declared.region.Region.{Region}
 use Rattle.vx_mixed.specs.declared.mixed.MixedGraph.{MixedGraph}
-use Rattle.vx_mixed.specs.Alive.{AtEnd}
-use Rattle.vx_mixed.specs.Edges.{IsEdge, of_block, of_split, of_last}
 use Rattle.std.proofs.lemmas.List.{map-append}
 use Rattle.std.proofs.lemmas.List.Folds.{flat_map-map}
-use Rattle.vx_mixed.specs.Live.{item_reads, item_writes, Live, here, beyond, Passage, IsPassage, through_block, by_split, to_the_end, ReadsFirst, Untouched, single, word_reads, word_writes}
-use Rattle.vx_mixed.specs.Valid.{Valid, is_entrance}
+use Rattle.vx_mixed.specs.Live.{item_reads, item_writes, Live, here, beyond, through_block, by_split, to_the_end, ReadsFirst, Untouched, single, word_reads, word_writes}
+use Rattle.vx_mixed.specs.Valid.{Valid}
 use Rattle.vx_mixed.specs.Routes.{reading_item, writing_item, word_touches, exit_touches, op_touches, route, off_ends, word_routes, behind, region_routes, region_starts, node_route, node_routes, routes}
 use Rattle.vx_mixed.proofs.Alike.{in_or}
-use Rattle.vx_mixed.proofs.AliveWords.{OffEdge, AliveWords}
-use Rattle.vx_mixed.proofs.Linked.{in_index, index_in, entrance_there}
-use Rattle.vx_mixed.proofs.LiveRegions.{live_region}
+use Rattle.vx_mixed.proofs.Linked.{in_index}
 
 -- the first touch
 

@@ -1,7 +1,7 @@
 -- The blocks of a trace are a path through the graph.
-use Rattle.std.proofs.Common.{◌≡◌, ◌≢◌, ℕ, zero, suc, Bool, true, false, Option, Some, None, List, [], ◌∷◌, ◌++◌, cond, map, slice_get, refl, sym, ap, ◌∙◌, subst, ⊎_elim, inl, inr}
-use Rattle.std.specs.Prelude.{◌⊎◌, ◌==◌, if◌then◌else◌}
-use Rattle.std.proofs.lemmas.Bool.{cases_eq, eq-eqb, ne_eqb, eqb-true}
+use Rattle.std.proofs.Common.{◌≡◌, ◌≢◌, ℕ, Bool, true, false, Some, List, [], ◌∷◌, ◌++◌, map, slice_get, refl, sym, ap, ◌∙◌, subst, ⊎_elim, inl, inr}
+use Rattle.std.specs.Prelude.{if◌then◌else◌}
+use Rattle.std.proofs.lemmas.Bool.{cases_eq, eq-eqb, ne_eqb}
 use Rattle.vx_flow.specs.declared.graph.Block.{Block}
 use Rattle.vx_flow.specs.declared.graph.Edge.{Edge}
 use Rattle.vx_flow.specs.declared.graph.Exit.{Exit}
@@ -13,15 +13,13 @@ use Rattle.vx_flow.specs.Effects.{IsIn}
 use Rattle.vx_flow.specs.Sound.{targets_of}
 use Rattle.vx_flow.specs.Walk.{edge}
 use Rattle.vx_mixed.specs.declared.region.Item.{Item}
-use Rattle.vx_mixed.specs.declared.region.Item.TheVariants.{Split}
-use Rattle.vx_mixed.specs.declared.region.Node.{Node}
 use Rattle.vx_mixed.specs.declared.region.Node.TheVariants.{Unused}
 use Rattle.vx_mixed.specs.declared.mixed.MixedGraph.{MixedGraph}
 use Rattle.vx_mixed.specs.Live.{plain}
 use Rattle.vx_mixed.specs.Path.{Path, ends, jumps, on_yes, on_no}
 use Rattle.vx_mixed.specs.Next.{last_of, exit_in}
 use Rattle.vx_mixed.specs.Settled.{NoTwice}
-use Rattle.vx_mixed.specs.TraceOf.{block_at, block_or_none, split_between, split_behind, block_ops, trace_ops, inner_edges, EndsWithCall}
+use Rattle.vx_mixed.specs.TraceOf.{block_at, block_or_none, split_between, trace_ops, inner_edges, EndsWithCall}
 use Rattle.vx_mixed.specs.TraceItems.{plain_item, plain_items}
 use Rattle.vx_mixed.specs.Valid.{PartsWays}
 

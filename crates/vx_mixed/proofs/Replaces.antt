@@ -1,5 +1,5 @@
 -- The call that replaces: its demands come to those of a replacement, and the parts that it puts in place make the graph after it.
-use Rattle.std.proofs.Common.{◌≡◌, ℕ, Option, List, sym, ap, ◌∙◌, subst}
+use Rattle.std.proofs.Common.{◌≡◌, Option, List, sym, ap, ◌∙◌, subst}
 use Rattle.vx_flow.specs.declared.graph.Edge.{Edge}
 use Rattle.vx_mixed.specs.declared.region.Node.{Node}
 use Rattle.vx_mixed.specs.declared.region.Origin.{Origin}

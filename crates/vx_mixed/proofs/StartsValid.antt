@@ -1,6 +1,6 @@
 -- What a sound graph begins as is valid.
-use Rattle.std.proofs.Common.{◌≡◌, ◌≢◌, ℕ, zero, suc, ◌<◌, ◌≤◌, Bool, true, false, ◌&&◌, Option, Some, None, List, [], ◌∷◌, ◌++◌, length, map, replicate, slice_get, refl, sym, ap, ◌∙◌, subst, ⊎_elim, inl, inr, arith}
-use Rattle.std.specs.Prelude.{◌⊎◌, ◌*◌, ◌^◌, ◌%◌, nat_lt}
+use Rattle.std.proofs.Common.{◌≡◌, ℕ, zero, suc, ◌<◌, true, ◌&&◌, Option, Some, None, List, [], ◌∷◌, length, replicate, slice_get, refl, sym, ap, ◌∙◌, subst, inl, inr, arith}
+use Rattle.std.specs.Prelude.{◌*◌, ◌^◌, ◌%◌, nat_lt}
 use Rattle.std.specs.List.{list_all}
 use Rattle.std.specs.Option.{option_map}
 use Rattle.std.proofs.Math.Nat.{mod-eq_of_lt}
@@ -21,15 +21,12 @@ use Rattle.vx_flow.specs.declared.graph.Operand.{Operand}
 use Rattle.vx_flow.specs.Effects.{IsIn, reads, writes}
 use Rattle.vx_flow.specs.Live.{reads_of_exit}
 use Rattle.vx_flow.specs.Sound.{is_bank, is_general, is_branch, is_operand, is_right, is_written, is_sound_operation, is_sound_exit, is_sound_in, is_sound_block, is_sound, is_kept, is_access_placed, is_general_or_none, targets_of, results_of_exit}
-use Rattle.vx_flow.proofs.Members.{in_either}
-use Rattle.vx_flow.proofs.IndexSteps.{get_below}
 use Rattle.vx_mixed.specs.declared.region.Node.TheVariants.{Unused, Inner}
 use Rattle.vx_mixed.specs.declared.region.Origin.{Origin}
 use Rattle.vx_mixed.specs.declared.mixed.MixedGraph.{MixedGraph}
 use Rattle.vx_mixed.specs.Edges.{IsEdge, of_block, of_split, of_last}
 use Rattle.vx_mixed.specs.FromGraph.{FromGraph}
-use Rattle.vx_mixed.specs.Settled.{bank_of}
-use Rattle.vx_mixed.specs.Valid.{NoCritical, PartsWays, TestsBranch, is_entrance, IsMade, IsOp, block_op, region_op, names_of, Names, Valid, IsGraphEdge, CanBegin}
+use Rattle.vx_mixed.specs.Valid.{TestsBranch, is_entrance, IsOp, block_op, region_op, Names, Valid, IsGraphEdge, CanBegin}
 use Rattle.vx_mixed.proofs.Begins.{bank_below, Below, both_below, op_below, exit_below, get_in, all_in, node_is, is_block, no_entry, no_region}
 
 module _ (banks : List Bank) where

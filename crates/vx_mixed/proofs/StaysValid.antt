@@ -1,8 +1,8 @@
 -- A graph after a replacement whose arguments fit is valid.
 use Rattle.std.proofs.Common.{◌≡◌, ◌≢◌, ℕ, zero, suc, ◌+◌, ◌-◌, ◌<◌, ◌≤◌, Bool, true, false, Option, Some, None, List, [], ◌∷◌, ◌++◌, length, map, slice_get, refl, sym, ap, ◌∙◌, subst, ⊎_elim, inl, inr, arith}
-use Rattle.std.specs.Prelude.{◌⊎◌, ◌==◌, ◌/◌, nat_lt, nat_le, if◌then◌else◌}
+use Rattle.std.specs.Prelude.{◌⊎◌, ◌==◌, ◌/◌, nat_le, if◌then◌else◌}
 use Rattle.std.specs.List.{list_any}
-use Rattle.std.proofs.lemmas.Bool.{le-ltb, cases_Bool}
+use Rattle.std.proofs.lemmas.Bool.{le-ltb}
 use Rattle.std.proofs.lemmas.List.{length-append, length-map}
 use Rattle.vx_flow.specs.declared.graph.Block.{Block}
 use Rattle.vx_flow.specs.declared.graph.Edge.{Edge}
@@ -25,13 +25,13 @@ use Rattle.vx_mixed.specs.declared.region.Node.TheVariants.{Unused, Enters, Inne
 use Rattle.vx_mixed.specs.declared.region.Origin.{Origin}
 use Rattle.vx_mixed.specs.declared.region.Region.{Region}
 use Rattle.vx_mixed.specs.declared.mixed.MixedGraph.{MixedGraph}
-use Rattle.vx_mixed.specs.CanReplace.{CanReplace, IsNamed, in_trace, in_made, AwayFrom, StaysValid}
-use Rattle.vx_mixed.specs.Edges.{IsEdge, of_block, of_split, of_last}
-use Rattle.vx_mixed.specs.Next.{Replacement, made_on, new_end, renamed_exit, renamed_region, renamed_node, freed, placed, in_word, last_of, exit_in, new_region, is_split_edge, rejoin_at, entered_at, trace_node, made_node, made_origin, nodes_from, next_mixed, rename}
+use Rattle.vx_mixed.specs.CanReplace.{CanReplace, IsNamed, in_trace, in_made, StaysValid}
+use Rattle.vx_mixed.specs.Edges.{IsEdge, of_block, of_last}
+use Rattle.vx_mixed.specs.Next.{Replacement, made_on, new_end, renamed_exit, renamed_region, renamed_node, freed, placed, in_word, last_of, exit_in, new_region, rejoin_at, entered_at, trace_node, made_node, made_origin, nodes_from, next_mixed, rename}
 use Rattle.vx_mixed.specs.Settled.{has_home, home_of}
-use Rattle.vx_mixed.specs.TraceOf.{CanTrace, inner_edges}
+use Rattle.vx_mixed.specs.TraceOf.{inner_edges}
 use Rattle.vx_mixed.specs.Valid.{PartsWays, TestsBranch, is_entrance, is_in_region, IsMade, IsOp, block_op, region_op, Names, Valid}
-use Rattle.vx_mixed.proofs.Linked.{Linkable, some_blocks, in_index, index_in, some_same, in_edge, can, unused, no_region, from_below, to_below, off_trace, joins, joins_at, join_node, first_node, made_number, at_end, entrance_there, region_there}
+use Rattle.vx_mixed.proofs.Linked.{Linkable, some_blocks, in_index, index_in, some_same, in_edge, can, unused, no_region, from_below, to_below, off_trace, joins, joins_at, join_node, made_number, at_end, entrance_there, region_there}
 use Rattle.vx_mixed.proofs.NewBlocks.{AtNode, first_one, further, outside, node_kind, OldBlock, MadeBlock, new_block, NewEdge, renamed, from_made, new_edge, from_placed, split_of, op_of, word_of, last_in}
 use Rattle.vx_mixed.proofs.NewNodes.{nodes_length, made_some, made_here, node_new, node_old, node_made, origin_old, origin_made, of_regions}
 use Rattle.vx_mixed.proofs.Renames.{old_word, old_split, old_op}

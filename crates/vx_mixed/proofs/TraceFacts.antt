@@ -1,9 +1,8 @@
 -- What is known of the splits and the joins of a trace.
-use Rattle.std.proofs.Common.{◌≡◌, ◌≢◌, ℕ, zero, suc, ◌+◌, ◌<◌, Bool, true, false, ◌&&◌, Option, Some, None, List, [], ◌∷◌, ◌++◌, length, map, slice_get, refl, sym, ap, ◌∙◌, subst, ⊎_elim, inl, inr, arith}
-use Rattle.std.specs.Prelude.{◌⊎◌, ◌==◌, not, if◌then◌else◌}
-use Rattle.std.specs.List.{filter, list_any}
+use Rattle.std.proofs.Common.{◌≡◌, ◌≢◌, ℕ, ◌+◌, Bool, true, false, ◌&&◌, List, [], ◌∷◌, ◌++◌, length, map, refl, sym, ap, ◌∙◌, subst, ⊎_elim, inl, inr}
+use Rattle.std.specs.Prelude.{◌==◌, not, if◌then◌else◌}
+use Rattle.std.specs.List.{filter}
 use Rattle.std.proofs.lemmas.Bool.{and_parts, eqb-true, eq-eqb, ne_eqb, cases_eq, cases_Bool, not-true}
-use Rattle.vx_flow.specs.declared.graph.Block.{Block}
 use Rattle.vx_flow.specs.declared.graph.Edge.{Edge}
 use Rattle.vx_flow.specs.declared.graph.Exit.{Exit}
 use Rattle.vx_flow.specs.declared.graph.Exit.TheVariants.{Goto, Split as Branches, Call, Return, Ends}
@@ -15,12 +14,11 @@ use Rattle.vx_flow.specs.Effects.{IsIn}
 use Rattle.vx_flow.specs.Sound.{targets_of}
 use Rattle.vx_flow.specs.Walk.{edge}
 use Rattle.vx_flow.proofs.Members.{in_left, in_right, in_either}
-use Rattle.vx_mixed.specs.declared.region.Node.TheVariants.{Unused}
 use Rattle.vx_mixed.specs.declared.mixed.MixedGraph.{MixedGraph}
 use Rattle.vx_mixed.specs.FromGraph.{same_edge}
 use Rattle.vx_mixed.specs.Next.{is_split_edge, last_of}
 use Rattle.vx_mixed.specs.Settled.{NoTwice}
-use Rattle.vx_mixed.specs.TraceOf.{block_at, block_or_none, split_between, split_behind, block_ops, trace_ops, inner_edges, joined, joins_behind, trace_joins}
+use Rattle.vx_mixed.specs.TraceOf.{block_at, split_between, block_ops, trace_ops, inner_edges, joined, joins_behind}
 use Rattle.vx_mixed.specs.TraceItems.{splits_of}
 use Rattle.vx_mixed.specs.Valid.{PartsWays}
 use Rattle.vx_mixed.proofs.NewNodes.{and_both, same_is, is_same_edge}

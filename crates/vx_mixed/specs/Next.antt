@@ -9,8 +9,6 @@ use Rattle.vx_flow.specs.declared.graph.Edge.{Edge}
 use Rattle.vx_flow.specs.declared.trace.TraceOp.{TraceOp}
 use Rattle.vx_flow.specs.declared.trace.TraceOp.TheVariants.{Plain as TracePlain, Split as TraceSplit}
 use Rattle.vx_flow.specs.declared.trace.Join.{Join}
-use Rattle.vx_flow.specs.declared.trace.Trace.{Trace}
-use Rattle.vx_flow.specs.declared.trace.Homes.{Homes}
 use Rattle.vx_flow.specs.Effects.{dismissed}
 use Rattle.vx_flow.specs.Walk.{edge, numbers}
 use Rattle.vx_mixed.specs.declared.region.Item.{Item}

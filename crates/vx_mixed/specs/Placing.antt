@@ -1,5 +1,5 @@
 -- The items of a trace in its order, each with its word, where a number above the words of the splits so far stands for these.
-use Rattle.std.specs.Prelude.{◌+◌, ℕ, Bool, if◌then◌else◌, nat_lt, List, [], ◌∷◌, drop, slice_index_or}
+use Rattle.std.specs.Prelude.{◌+◌, ℕ, if◌then◌else◌, nat_lt, List, [], ◌∷◌, drop, slice_index_or}
 use Rattle.vx_flow.specs.declared.graph.Op.{Op}
 use Rattle.vx_flow.specs.declared.trace.TraceOp.{TraceOp}
 use Rattle.vx_flow.specs.declared.trace.TraceOp.TheVariants.{Plain as TracePlain, Split as TraceSplit}

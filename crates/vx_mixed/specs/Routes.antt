@@ -15,7 +15,7 @@ use Rattle.vx_mixed.specs.declared.region.Node.{Node}
 use Rattle.vx_mixed.specs.declared.region.Node.TheVariants.{Unused, Enters, Inner}
 use Rattle.vx_mixed.specs.declared.region.Region.{Region}
 use Rattle.vx_mixed.specs.declared.mixed.MixedGraph.{MixedGraph}
-use Rattle.vx_mixed.specs.Live.{single, item_reads, item_writes, word_reads, word_writes}
+use Rattle.vx_mixed.specs.Live.{single, item_reads, item_writes}
 
 abbrev pub reading : List ℕ → List Touch
 reading values = map (touch true) values

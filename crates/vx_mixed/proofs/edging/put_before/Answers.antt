@@ -1,4 +1,4 @@
-use Rattle.std.proofs.Common.{◌<◌, length, slice_index_or, sym, subst, vec_len, arith}
+use Rattle.std.proofs.Common.{◌<◌, length, slice_index_or, sym, subst, arith}
 use Rattle.vx_mixed.proofs.PutSteps.{item_in}
 use Rattle.vx_mixed.proofs.edging.put_before.Goals as goal
 

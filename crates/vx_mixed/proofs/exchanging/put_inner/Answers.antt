@@ -1,4 +1,4 @@
-use Rattle.std.proofs.Common.{◌<◌, length, slice_index_or, sym, subst}
+use Rattle.std.proofs.Common.{◌<◌, slice_index_or, sym, subst}
 use Rattle.vx_mixed.proofs.PutSteps.{item_in}
 use Rattle.vx_mixed.proofs.exchanging.put_inner.Goals as goal
 

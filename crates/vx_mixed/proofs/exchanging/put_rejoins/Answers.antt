@@ -1,4 +1,4 @@
-use Rattle.std.proofs.Common.{◌<◌, length, sym, subst}
+use Rattle.std.proofs.Common.{◌<◌, sym, subst}
 use Rattle.vx_mixed.proofs.PutSteps.{item_is}
 use Rattle.vx_mixed.proofs.exchanging.put_rejoins.Goals as goal
 

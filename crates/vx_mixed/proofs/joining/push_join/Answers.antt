@@ -1,4 +1,4 @@
-use Rattle.std.proofs.Common.{◌≡◌, ◌∙◌, ◌++◌, [], sym, ap, append-nil}
+use Rattle.std.proofs.Common.{◌∙◌, ◌++◌, sym, ap, append-nil}
 use Rattle.vx_mixed.specs.TraceOf.{joined}
 use Rattle.vx_mixed.proofs.TraceSteps.{others_are, no_join, one_join}
 use Rattle.vx_mixed.proofs.joining.push_join.Goals as goal

@@ -1,4 +1,4 @@
-use Rattle.std.proofs.Common.{◌≡◌, ◌∙◌, ◌<◌, ◌≤◌, ◌+◌, length, get_or, slice_index_or, sym, ap, subst, arith}
+use Rattle.std.proofs.Common.{◌≡◌, ◌∙◌, ◌<◌, ◌≤◌, length, get_or, slice_index_or, sym, ap, subst, arith}
 use Rattle.vx_flow.specs.Effects.{IsIn}
 use Rattle.vx_mixed.specs.Next.{new_end}
 use Rattle.vx_mixed.specs.Placing.{placed_item}

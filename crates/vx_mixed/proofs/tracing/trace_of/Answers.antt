@@ -1,4 +1,4 @@
-use Rattle.std.proofs.Common.{◌≡◌, ◌∙◌, refl, subst}
+use Rattle.std.proofs.Common.{◌∙◌, refl, subst}
 use Rattle.vx_flow.specs.declared.trace.TraceOp.TheVariants.{Split}
 use Rattle.vx_flow.specs.Effects.{IsIn}
 use Rattle.vx_mixed.specs.Routes.{live_values}

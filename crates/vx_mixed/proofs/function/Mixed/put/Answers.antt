@@ -1,5 +1,4 @@
-use Rattle.std.proofs.Common.{◌≡◌, ◌<◌, ◌+◌, ◌∙◌, length, sym, ap, subst}
-use Rattle.vx_mixed.specs.declared.mixed.MixedGraph.{MixedGraph}
+use Rattle.std.proofs.Common.{◌<◌, ◌∙◌, sym, ap, subst}
 use Rattle.vx_flow.specs.Effects.{IsIn}
 use Rattle.vx_mixed.specs.CanReplace.{CanReplace}
 use Rattle.vx_mixed.specs.Settled.{NoTwice}
