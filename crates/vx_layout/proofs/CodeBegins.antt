@@ -1,5 +1,5 @@
 -- A graph of blocks begins with the code of the function's graph.
-use Rattle.std.proofs.Common.{◌≡◌, ℕ, pos, zero, suc, ◌*◌, ◌<◌, ◌%◌, Bool, true, false, ◌&&◌, Option, Some, None, List, [], ◌∷◌, ◌++◌, length, slice_get, refl, sym, ap, ◌∙◌, subst, inl, inr, arith}
+use Rattle.std.proofs.Common.{◌≡◌, ℕ, ◌<◌, true, ◌&&◌, Some, List, length, slice_get, refl, sym, ap, ◌∙◌, arith}
 use Rattle.std.specs.Prelude.{nat_lt}
 use Rattle.std.specs.List.{list_all}
 use Rattle.std.proofs.lemmas.Bool.{and_parts}
@@ -23,10 +23,10 @@ use Rattle.vx_flow.proofs.SoundLaw.{sound_is}
 use Rattle.vx_mixed.specs.declared.region.Node.TheVariants.{Unused}
 use Rattle.vx_mixed.specs.declared.mixed.MixedGraph.{MixedGraph}
 use Rattle.vx_mixed.specs.FromGraph.{OfGraph}
-use Rattle.vx_layout.specs.Origins.{whole, whole_operand, whole_op, ComesFrom, graph_op, ExitComesFrom, Parts, CallsAs, ComesFromGraph}
+use Rattle.vx_layout.specs.Origins.{whole, whole_operand, whole_op, ComesFrom, graph_op, ExitComesFrom, ComesFromGraph}
 use Rattle.vx_layout.specs.OriginLaws.{BeginsWithCode}
 use Rattle.vx_mixed.specs.Valid.{IsOp, block_op, region_op, names_of}
-use Rattle.vx_mixed.proofs.Begins.{bank_below, Below, both_below, op_below, all_in, node_is, is_block, no_region}
+use Rattle.vx_mixed.proofs.Begins.{bank_below, both_below, op_below, all_in, node_is, is_block, no_region}
 use Rattle.vx_mixed.proofs.Linked.{index_in}
 
 -- an operation that names values of the graph alone names no copies

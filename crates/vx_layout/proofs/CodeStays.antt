@@ -1,8 +1,7 @@
 -- A graph of blocks and regions keeps the code of the function's graph where a trace is replaced by operations of it.
-use Rattle.std.proofs.Common.{◌≡◌, ℕ, zero, suc, Bool, true, false, Option, Some, List, [], ◌∷◌, ◌++◌, length, map, slice_get, refl, sym, ap, ◌∙◌, subst, ⊎_elim, inl, inr}
+use Rattle.std.proofs.Common.{◌≡◌, ℕ, Bool, true, false, Some, List, [], ◌∷◌, length, map, slice_get, refl, sym, ap, ◌∙◌, subst, ⊎_elim, inl, inr}
 use Rattle.std.specs.Prelude.{◌⊎◌, ◌==◌, nat_le, if◌then◌else◌}
 use Rattle.std.specs.List.{list_any}
-use Rattle.std.proofs.lemmas.Bool.{cases_Bool}
 use Rattle.vx_flow.specs.declared.graph.Block.{Block}
 use Rattle.vx_flow.specs.declared.graph.Edge.{Edge}
 use Rattle.vx_flow.specs.declared.graph.Exit.{Exit}
@@ -10,7 +9,6 @@ use Rattle.vx_flow.specs.declared.graph.Exit.TheVariants.{Goto, Split as Branche
 use Rattle.vx_flow.specs.declared.graph.Graph.{Graph}
 use Rattle.vx_flow.specs.declared.graph.Op.{Op}
 use Rattle.vx_flow.specs.declared.graph.Op.TheVariants.{Compute, Select, Place, Load, Store, More, Input, Text, Decimal, Across}
-use Rattle.vx_flow.specs.declared.trace.TraceOp.{TraceOp}
 use Rattle.vx_flow.specs.declared.trace.TraceOp.TheVariants.{Plain as TracePlain, Split as TraceSplit}
 use Rattle.vx_flow.specs.Effects.{IsIn, dismissed, writes}
 use Rattle.vx_flow.specs.Walk.{edge}
@@ -27,7 +25,7 @@ use Rattle.vx_layout.specs.Origins.{whole_op, ComesFrom, graph_op, copy, ExitCom
 use Rattle.vx_layout.specs.OriginLaws.{CodeStays}
 use Rattle.vx_mixed.specs.TraceOf.{block_or_none, block_at, split_between, block_ops, trace_ops}
 use Rattle.vx_mixed.specs.Valid.{IsOp, block_op, region_op, names_of, Valid}
-use Rattle.vx_mixed.proofs.Linked.{Linkable, some_blocks, index_in, can, unused, in_plain}
+use Rattle.vx_mixed.proofs.Linked.{Linkable, some_blocks, index_in, unused, in_plain}
 use Rattle.vx_mixed.proofs.NewBlocks.{OldBlock, MadeBlock, new_block, from_placed, split_of, op_of, word_of, last_in}
 use Rattle.vx_mixed.proofs.Renames.{old_word, old_split, old_op}
 use Rattle.vx_mixed.proofs.NewNodes.{of_regions}

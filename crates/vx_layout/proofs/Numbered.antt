@@ -1,5 +1,5 @@
 -- The planned words of the layout of a graph are numbered: region by region, and in each from 0 on.
-use Rattle.std.proofs.Common.{◌≡◌, ℕ, zero, suc, ◌+◌, ◌<◌, Bool, true, false, Option, Some, None, List, [], ◌∷◌, ◌++◌, length, take, slice_get, refl, sym, ap, ◌∙◌, subst, ⊎_elim, arith, append_assoc}
+use Rattle.std.proofs.Common.{◌≡◌, ℕ, zero, suc, ◌+◌, ◌<◌, true, false, Some, List, [], ◌∷◌, ◌++◌, length, take, slice_get, refl, sym, ap, ◌∙◌, subst, ⊎_elim, arith, append_assoc}
 use Rattle.std.specs.Prelude.{◌==◌, if◌then◌else◌}
 use Rattle.std.specs.List.{filter}
 use Rattle.std.proofs.lemmas.Bool.{cases_eq, eq-eqb, ne_eqb}
@@ -10,9 +10,9 @@ use Rattle.vx_mixed.specs.declared.region.Item.TheVariants.{Plain, Split}
 use Rattle.vx_mixed.specs.declared.region.Region.{Region}
 use Rattle.vx_mixed.specs.declared.layout.Laid.{Laid}
 use Rattle.vx_mixed.specs.declared.layout.VirtualWord.{VirtualWord}
-use Rattle.vx_mixed.specs.declared.layout.VirtualWord.TheVariants.{Planned, Drain, Transfer, Choice, Call, Return, Ends}
+use Rattle.vx_mixed.specs.declared.layout.VirtualWord.TheVariants.{Planned, Transfer}
 use Rattle.vx_mixed.specs.declared.mixed.MixedGraph.{MixedGraph}
-use Rattle.vx_mixed.specs.Layout.{drain_words, leave_words, stub, word_stubs, stubs, exit_words, laid, laid_words, region_words, region_size, place_of, all_words, layout_of}
+use Rattle.vx_mixed.specs.Layout.{drain_words, leave_words, stub, word_stubs, stubs, exit_words, laid, laid_words, region_size, place_of, all_words, layout_of}
 use Rattle.vx_layout.specs.Numbered.{is_word_of, words_in, IsNumbered}
 
 -- so many words of each region stand before some others, which are numbered from there on, and are words of regions below one

@@ -1,5 +1,5 @@
 -- A graph of blocks and regions has the code of a function's graph from its begin on, whatever is replaced.
-use Rattle.std.specs.Prelude.{◌≡◌, ◌<◌, ◌*◌, ◌^◌, true, length}
+use Rattle.std.specs.Prelude.{◌≡◌, true}
 use Rattle.vx_flow.specs.declared.graph.Op.{Op}
 use Rattle.vx_flow.specs.declared.graph.Graph.{Graph}
 use Rattle.vx_flow.specs.Sound.{is_sound}

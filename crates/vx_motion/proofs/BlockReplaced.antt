@@ -1,14 +1,12 @@
 -- Block 1 of the worked `if` without `else` can be traced by itself, and replaced.
-use Rattle.std.proofs.Common.{◌≡◌, ◌≢◌, ℕ, zero, suc, ◌+◌, ◌<◌, ◌≤◌, Bool, true, false, Option, Some, None, List, [], ◌∷◌, length, map, slice_get, refl, sym, ap, ◌∙◌, subst, ⊎_elim, inl, inr, arith}
-use Rattle.std.specs.Prelude.{◌⊎◌, ◌*◌, if◌then◌else◌, replicate}
+use Rattle.std.proofs.Common.{◌≡◌, ℕ, ◌<◌, Some, None, [], ◌∷◌, length, map, slice_get, refl, sym, ap, ◌∙◌, subst, ⊎_elim, inl, inr, arith}
+use Rattle.std.specs.Prelude.{◌*◌, if◌then◌else◌, replicate}
 use Rattle.std.proofs.lemmas.Bool.{cases_lt}
 use Rattle.vx_flow.specs.declared.graph.Block.{Block}
-use Rattle.vx_flow.specs.declared.graph.Edge.{Edge}
 use Rattle.vx_flow.specs.declared.graph.Graph.{Graph}
 use Rattle.vx_flow.specs.declared.graph.Op.{Op}
 use Rattle.vx_flow.specs.declared.graph.Op.TheVariants.{Across}
-use Rattle.vx_flow.specs.declared.trace.TraceOp.{TraceOp}
-use Rattle.vx_flow.specs.declared.trace.TraceOp.TheVariants.{Plain, Split}
+use Rattle.vx_flow.specs.declared.trace.TraceOp.TheVariants.{Plain}
 use Rattle.vx_flow.specs.declared.trace.Join.{Join}
 use Rattle.vx_flow.specs.Effects.{IsIn}
 use Rattle.vx_flow.specs.Sound.{arrays_of}
@@ -16,14 +14,14 @@ use Rattle.vx_mixed.specs.declared.region.Made.{Made}
 use Rattle.vx_mixed.specs.declared.region.Node.TheVariants.{Unused}
 use Rattle.vx_mixed.specs.declared.mixed.MixedGraph.{MixedGraph}
 use Rattle.vx_motion.specs.AloneExample.{alone, IsAlone, BlockIsTraced, BlockIsReplaced}
-use Rattle.vx_mixed.specs.CanReplace.{CanReplace, TraceFits, IsFormed, NamesFit, ListsFit, WordsFit, MadeFits, MadeStands, HomesFit, IsNamed, in_trace, in_made, AwayFits}
+use Rattle.vx_mixed.specs.CanReplace.{CanReplace, IsNamed, in_trace, in_made}
 use Rattle.vx_mixed.specs.TraceItems.{splits_of}
 use Rattle.vx_motion.specs.Example.{step}
 use Rattle.vx_mixed.specs.FromGraph.{FromGraph, is_bound}
 use Rattle.vx_mixed.specs.declared.replacement.Replacement.{Replacement}
 use Rattle.vx_mixed.specs.Settled.{has_home}
 use Rattle.vx_motion.specs.TraceExample.{if_blocks, if_banks}
-use Rattle.vx_mixed.specs.TraceOf.{CanTrace, IsTraceOf, trace_ops, trace_fixed, trace_joins}
+use Rattle.vx_mixed.specs.TraceOf.{CanTrace, IsTraceOf, trace_ops, trace_fixed}
 use Rattle.vx_mixed.specs.Valid.{names_of}
 use Rattle.vx_motion.proofs.IfReplaced.{beyond}
 

@@ -1,16 +1,14 @@
 -- A compensated placement keeps the meaning, tidy and settled.
 use Rattle.std.proofs.Common.{◌≡◌, ◌≢◌, ℕ, zero, suc, ◌+◌, ◌-◌, ◌<◌, ◌≤◌, Bool, true, false, ◌&&◌, Option, Some, None, List, [], ◌∷◌, ◌++◌, cond, length, map, drop, slice_get, slice_index_or, refl, sym, ap, ◌∙◌, subst, ⊎_elim, inl, inr, arith}
-use Rattle.std.specs.Prelude.{◌⊎◌, ◌==◌, ◌||◌, not, nat_lt, if◌then◌else◌}
+use Rattle.std.specs.Prelude.{◌⊎◌, ◌==◌, not, nat_lt, if◌then◌else◌}
 use Rattle.std.specs.List.{list_any}
 use Rattle.std.proofs.lemmas.Bool.{and_parts, or_cases, eqb-true, eq-eqb, ne_eqb, le-ltb, cases_Bool, cases_eq, cases_lt}
 use Rattle.std.proofs.lemmas.List.{length-map}
 use Rattle.vx_flow.specs.declared.graph.Block.{Block}
 use Rattle.vx_flow.specs.declared.graph.Edge.{Edge}
-use Rattle.vx_flow.specs.declared.graph.Exit.{Exit}
 use Rattle.vx_flow.specs.declared.graph.Op.{Op}
 use Rattle.vx_flow.specs.declared.graph.Op.TheVariants.{Load}
 use Rattle.vx_flow.specs.declared.graph.Operand.{Operand}
-use Rattle.vx_flow.specs.declared.trace.TraceOp.{TraceOp}
 use Rattle.vx_flow.specs.declared.trace.TraceOp.TheVariants.{Split as TraceSplit}
 use Rattle.vx_flow.specs.declared.trace.Join.{Join}
 use Rattle.vx_flow.specs.Effects.{IsIn}
@@ -27,17 +25,17 @@ use Rattle.vx_mixed.specs.declared.region.Origin.{Origin}
 use Rattle.vx_mixed.specs.declared.region.Region.{Region}
 use Rattle.vx_mixed.specs.declared.mixed.MixedGraph.{MixedGraph}
 use Rattle.vx_mixed.specs.Alive.{AfterItem}
-use Rattle.vx_motion.specs.Trace.{AfterOf, nth, inert}
+use Rattle.vx_motion.specs.Trace.{AfterOf, nth}
 use Rattle.vx_mixed.specs.Edges.{IsEdge, of_block, of_split, of_last}
 use Rattle.vx_motion.specs.Facts.{IsSplit, places, row, words_from, ops_of, copies}
-use Rattle.vx_mixed.specs.Live.{Live, item_writes}
+use Rattle.vx_mixed.specs.Live.{item_writes}
 use Rattle.vx_mixed.specs.Path.{Path}
 use Rattle.vx_motion.specs.Rows.{Row, reads_last, writes_too, writes_read, store_access, load_store, observables, two_splits, split_held, below_join, split_live, Meets, Placed}
 use Rattle.vx_mixed.specs.Settled.{InTime, IsStart, block, region, made_at_split}
-use Rattle.vx_motion.specs.Unchanged.{Outside, SameRegion, block as as_block, region as as_region}
+use Rattle.vx_motion.specs.Unchanged.{Outside, block as as_block, region as as_region}
 use Rattle.vx_mixed.specs.Way.{item_latency, Renamed, LeadsIn, LeadsOut, at_once}
 use Rattle.vx_mixed.specs.declared.replacement.Replacement.{Replacement}
-use Rattle.vx_mixed.specs.Next.{made_on, InWord, in_word, placed, last_of, exit_in, is_split_edge, rejoin_at, entered_at, renamed_exit, renamed_region, renamed_node, new_region, trace_node, made_node, made_origin, on_edge}
+use Rattle.vx_mixed.specs.Next.{made_on, in_word, placed, last_of, exit_in, is_split_edge, rejoin_at, entered_at, renamed_exit, renamed_region, renamed_node, new_region, trace_node, made_origin, on_edge}
 use Rattle.vx_mixed.specs.TraceOf.{trace_ops, inner_edges}
 use Rattle.vx_mixed.specs.Valid.{Valid, is_entrance, is_in_region}
 use Rattle.vx_mixed.specs.Entrances.{stays, joined_at}
@@ -48,9 +46,9 @@ use Rattle.vx_mixed.proofs.Alike.{in_or}
 use Rattle.vx_motion.proofs.Delays.{nth_past}
 use Rattle.vx_mixed.proofs.PathOf.{Ways, ways_behind, path_of}
 use Rattle.vx_motion.proofs.PlacedWords.{length_items, row_is, words_are, numbers_many, marked_at, freed_at, split_at, split_placed}
-use Rattle.vx_mixed.proofs.NewNodes.{made_none, made_some, made_here, node_old, node_new, origin_old, origin_made, front_get, map_get}
+use Rattle.vx_mixed.proofs.NewNodes.{made_some, made_here, node_old, node_new, origin_old, origin_made, front_get, map_get}
 use Rattle.vx_mixed.proofs.TraceFacts.{is_split, last_none, last_among}
-use Rattle.vx_mixed.proofs.Linked.{Linkable, some_blocks, in_index, index_in, in_edge, New, N, To, MeetOld, MeetNew, Pairs, InnerEdge, can, meets_not, meets, pair_stays, pair_joined, unused, no_region, edge_block, in_plain, off_trace, Joins, joins, some_edge, at_end, leads_out, first_node, leads_in, exit_renamed, from_outside, arrives}
+use Rattle.vx_mixed.proofs.Linked.{Linkable, some_blocks, in_index, index_in, in_edge, New, To, MeetOld, MeetNew, Pairs, InnerEdge, can, meets_not, meets, pair_stays, pair_joined, unused, no_region, edge_block, in_plain, off_trace, Joins, joins, some_edge, at_end, leads_out, first_node, leads_in, exit_renamed, from_outside, arrives}
 use Rattle.vx_motion.proofs.Scheduled.{motion}
 
 there : (xs : List ℕ) (k d : ℕ) → k < length xs → (w : ℕ) × (slice_get xs k ≡ Some w) × (slice_index_or xs k d ≡ w)

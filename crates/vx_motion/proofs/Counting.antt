@@ -1,6 +1,6 @@
 -- The graph that counts can begin.
-use Rattle.std.proofs.Common.{◌≡◌, ◌≢◌, ℕ, zero, suc, ◌+◌, ◌<◌, Bool, true, false, ◌&&◌, Option, Some, None, List, [], ◌∷◌, length, slice_get, refl, sym, ap, ◌∙◌, subst, ⊎_elim, inl, inr, arith}
-use Rattle.std.specs.Prelude.{◌⊎◌, ◌==◌, ◌||◌, ◌*◌, ◌^◌, not}
+use Rattle.std.proofs.Common.{◌≡◌, ◌≢◌, ℕ, zero, suc, ◌+◌, ◌<◌, Bool, true, false, ◌&&◌, Option, Some, None, List, length, slice_get, refl, sym, ap, ◌∙◌, subst, ⊎_elim, inl, inr, arith}
+use Rattle.std.specs.Prelude.{◌==◌, ◌||◌, ◌*◌, ◌^◌, not}
 use Rattle.std.specs.List.{list_all}
 use Rattle.std.proofs.lemmas.Bool.{or_cases, eq-eqb}
 use Rattle.vx_flow.specs.declared.graph.Block.{Block}
@@ -8,7 +8,6 @@ use Rattle.vx_flow.specs.declared.graph.Edge.{Edge}
 use Rattle.vx_flow.specs.declared.graph.Graph.{Graph}
 use Rattle.vx_flow.specs.Effects.{IsIn}
 use Rattle.vx_flow.specs.Walk.{edge}
-use Rattle.vx_mixed.specs.Edges.{edges_from}
 use Rattle.vx_mixed.specs.FromGraph.{same_edge}
 use Rattle.vx_motion.specs.CountingExample.{counting_blocks, counting_banks, counting_edges, CountingBegins}
 use Rattle.vx_mixed.specs.Valid.{NoCritical, PartsWays, IsGraphEdge, CanBegin}

@@ -1,6 +1,6 @@
 -- One operation, where what it reads is as in trace order.
 use Rattle.std.proofs.Common.{◌≡◌, ℕ, ◌/◌, ◌%◌, ◌<◌, ℤ, pos, negsuc, Bool, true, false, Option, Some, None, List, [], ◌∷◌, cond, ◌&&◌, length, slice_index_or, slice_set, refl, sym, ap, ◌∙◌, subst, ⊎_elim, inl, inr, arith, length-set}
-use Rattle.std.specs.Prelude.{◌⊎◌, ◌==◌, nat_lt, if◌then◌else◌}
+use Rattle.std.specs.Prelude.{◌==◌, nat_lt, if◌then◌else◌}
 use Rattle.std.proofs.lemmas.Bool.{cases_eq, eq-eqb, ne_eqb, and_parts, ltb-true, cases_lt}
 use Rattle.std.proofs.lemmas.List.{get_or-set_same, get_or-set_other, get_or_past}
 use Rattle.vx_flow.specs.Effects.{Content, State, Setting, IsCell, Left, Printed, cell_in, row_of, with_value, with_cell, loaded, stored, next_input, printed, IsIn, Location, Of, Cell, TheInput, TheOutput, Holds, at}

@@ -1,5 +1,5 @@
 -- The worked replacement fits the graph of the worked `if` without `else`.
-use Rattle.std.proofs.Common.{◌≡◌, ℕ, zero, suc, ◌+◌, ◌<◌, ◌≤◌, Bool, true, false, Option, Some, None, List, [], ◌∷◌, length, map, slice_get, slice_index_or, refl, sym, ap, ◌∙◌, subst, ⊎_elim, inl, inr, arith}
+use Rattle.std.proofs.Common.{◌≡◌, ℕ, zero, suc, ◌+◌, ◌<◌, ◌≤◌, Bool, false, Option, Some, None, List, [], ◌∷◌, length, map, slice_get, slice_index_or, refl, sym, ap, ◌∙◌, subst, ⊎_elim, inl, inr, arith}
 use Rattle.std.specs.Prelude.{◌⊎◌, ◌*◌, if◌then◌else◌, replicate}
 use Rattle.std.proofs.lemmas.Bool.{cases_lt}
 use Rattle.vx_flow.specs.declared.graph.Bank.{Bank}
@@ -10,7 +10,7 @@ use Rattle.vx_flow.specs.declared.graph.Op.TheVariants.{Across}
 use Rattle.vx_flow.specs.declared.trace.TraceOp.{TraceOp}
 use Rattle.vx_flow.specs.declared.trace.TraceOp.TheVariants.{Plain, Split}
 use Rattle.vx_flow.specs.declared.trace.Join.{Join}
-use Rattle.vx_flow.specs.Effects.{IsIn, writes}
+use Rattle.vx_flow.specs.Effects.{IsIn}
 use Rattle.vx_flow.specs.Sound.{arrays_of}
 use Rattle.vx_flow.specs.Walk.{edge}
 use Rattle.vx_flow.proofs.IndexSteps.{get_below}

@@ -1,5 +1,5 @@
 -- Blocks 0 and 1 of the worked `if` without `else` can be traced, and replaced with no block made.
-use Rattle.std.proofs.Common.{◌≡◌, ℕ, zero, suc, ◌+◌, ◌<◌, ◌≤◌, Bool, true, false, Option, Some, None, List, [], ◌∷◌, length, map, slice_get, refl, sym, ap, ◌∙◌, subst, ⊎_elim, inl, inr, arith}
+use Rattle.std.proofs.Common.{◌≡◌, ℕ, ◌<◌, Bool, false, Some, None, List, [], ◌∷◌, length, map, slice_get, refl, sym, ap, ◌∙◌, subst, ⊎_elim, inl, inr, arith}
 use Rattle.std.specs.Prelude.{◌⊎◌, ◌*◌, if◌then◌else◌, replicate}
 use Rattle.std.proofs.lemmas.Bool.{cases_lt}
 use Rattle.vx_flow.specs.declared.graph.Block.{Block}
@@ -17,7 +17,7 @@ use Rattle.vx_mixed.specs.declared.region.Made.{Made}
 use Rattle.vx_mixed.specs.declared.region.Node.TheVariants.{Unused}
 use Rattle.vx_mixed.specs.declared.mixed.MixedGraph.{MixedGraph}
 use Rattle.vx_motion.specs.AloneExample.{two, IsPair, PairIsTraced, PairIsReplaced}
-use Rattle.vx_mixed.specs.CanReplace.{CanReplace, TraceFits, IsFormed, NamesFit, ListsFit, WordsFit, MadeFits, MadeStands, HomesFit, IsNamed, in_trace, in_made, AwayFits}
+use Rattle.vx_mixed.specs.CanReplace.{CanReplace, IsNamed, in_trace, in_made}
 use Rattle.vx_mixed.specs.TraceItems.{splits_of}
 use Rattle.vx_mixed.specs.Edges.{IsEdge, of_block}
 use Rattle.vx_motion.specs.Example.{sum, test, step}

@@ -1,5 +1,5 @@
 -- The items of a trace as they are placed in words.
-use Rattle.std.proofs.Common.{◌≡◌, ℕ, zero, suc, ◌+◌, ◌<◌, ◌≤◌, Bool, true, false, Option, Some, None, List, [], ◌∷◌, cond, length, map, drop, slice_get, slice_index_or, refl, sym, ap, ◌∙◌, subst, ⊎_elim, inl, inr, arith}
+use Rattle.std.proofs.Common.{◌≡◌, ℕ, zero, suc, ◌+◌, ◌<◌, ◌≤◌, Bool, true, false, Some, List, [], ◌∷◌, cond, length, map, drop, slice_get, slice_index_or, refl, sym, ap, ◌∙◌, subst, inl, inr, arith}
 use Rattle.std.specs.Prelude.{◌⊎◌, ◌==◌, nat_eq, nat_le, if◌then◌else◌}
 use Rattle.std.specs.List.{filter, list_any}
 use Rattle.std.proofs.lemmas.Bool.{le-leb}
@@ -15,7 +15,7 @@ use Rattle.vx_flow.proofs.SoundLists.{any_of}
 use Rattle.vx_mixed.specs.declared.region.Item.{Item}
 use Rattle.vx_mixed.specs.declared.region.Item.TheVariants.{Plain, Split}
 use Rattle.vx_motion.specs.Items.{Marked, as_it_is, dismissible, split}
-use Rattle.vx_motion.specs.Trace.{nth, inert}
+use Rattle.vx_motion.specs.Trace.{nth}
 use Rattle.vx_motion.specs.Facts.{IsSplit, places, words_from}
 use Rattle.vx_mixed.specs.Next.{InWord, freed, placed, in_word}
 use Rattle.vx_mixed.specs.TraceItems.{items_of}

@@ -1,6 +1,6 @@
 -- The worked `if` without `else` can begin, and its three blocks can be traced.
-use Rattle.std.proofs.Common.{◌≡◌, ◌≢◌, ℕ, zero, suc, ◌+◌, ◌<◌, Bool, true, false, Option, Some, None, List, [], ◌∷◌, length, map, slice_get, refl, sym, ap, ◌∙◌, subst, ⊎_elim, inl, inr, arith}
-use Rattle.std.specs.Prelude.{◌⊎◌, ◌*◌, ◌^◌}
+use Rattle.std.proofs.Common.{◌≡◌, ◌≢◌, ℕ, zero, suc, ◌+◌, ◌<◌, Option, Some, None, List, [], ◌∷◌, length, map, slice_get, refl, sym, ap, ◌∙◌, subst, inl, inr, arith}
+use Rattle.std.specs.Prelude.{◌*◌, ◌^◌}
 use Rattle.std.specs.Option.{option_map}
 use Rattle.std.proofs.lemmas.Option.{slice_get-map}
 use Rattle.vx_flow.specs.declared.graph.Block.{Block}
@@ -14,7 +14,7 @@ use Rattle.vx_mixed.specs.declared.mixed.MixedGraph.{MixedGraph}
 use Rattle.vx_mixed.specs.Edges.{IsEdge, of_block, of_split, of_last}
 use Rattle.vx_mixed.specs.FromGraph.{FromGraph}
 use Rattle.vx_motion.specs.TraceExample.{if_blocks, if_banks, IfIsTraced}
-use Rattle.vx_mixed.specs.TraceOf.{CanTrace, EndsWithCall, inner_edges}
+use Rattle.vx_mixed.specs.TraceOf.{CanTrace, EndsWithCall}
 use Rattle.vx_mixed.specs.Valid.{PartsWays, IsGraphEdge, CanBegin}
 use Rattle.vx_mixed.proofs.Begins.{no_region}
 use Rattle.vx_mixed.proofs.BlockEdges.{to_edges, successor_is}

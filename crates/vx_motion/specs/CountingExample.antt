@@ -1,5 +1,5 @@
 -- A graph that counts up to 10, worked by hand: it can begin.
-use Rattle.std.specs.Prelude.{◌≡◌, ℕ, pos, Some, List, [], ◌∷◌}
+use Rattle.std.specs.Prelude.{◌≡◌, pos, List, [], ◌∷◌}
 use Rattle.vx_base.specs.declared.arithmetic.Code.TheVariants.{Add, ToBranch}
 use Rattle.vx_base.specs.declared.arithmetic.Compare.TheVariants.{Lt}
 use Rattle.vx_flow.specs.declared.graph.Bank.{Bank}

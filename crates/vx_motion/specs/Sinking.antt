@@ -1,5 +1,5 @@
 -- A sum that sinks below a split: the region splits first, and a made block on the edge that leaves holds the copy.
-use Rattle.std.specs.Prelude.{◌≡◌, ℕ, pos, Bool, true, false, [], ◌∷◌, nat_eq, ◌&&◌, not, ◌||◌}
+use Rattle.std.specs.Prelude.{ℕ, pos, Bool, false, [], ◌∷◌, nat_eq, ◌&&◌, not, ◌||◌}
 use Rattle.vx_base.specs.declared.arithmetic.Code.TheVariants.{Add}
 use Rattle.vx_flow.specs.declared.graph.Exit.TheVariants.{Goto, Split as Branches, Return}
 use Rattle.vx_flow.specs.declared.graph.Op.{Op}
