@@ -1,7 +1,7 @@
 // The graph of a function of which some blocks are words already, as callers hold it: with the list of its edges, which is
 // kept beside it so that it can be given without memory.
 
-ghost use Rattle.std.specs.Prelude.{◌≡◌, ◌==◌, ◌+◌, ◌<◌, ◌^◌, [], ℕ, true, IfOk, OnErr, OnOk, length, slice_get};
+ghost use Rattle.std.specs.Prelude.{◌≡◌, ◌==◌, ◌<◌, [], ℕ, true, IfOk, OnErr, OnOk, length, slice_get};
 ghost use Rattle.std.specs.List.{list_any};
 ghost use Rattle.std.specs.Option.{option_map};
 ghost use Rattle.vx_flow.specs.Sound.{is_sound};
