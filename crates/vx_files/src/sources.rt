@@ -41,11 +41,7 @@ fn read_source<D: Depot>(alloc: Global, depot: &mut D, source: &str) -> Result<V
 }
 
 /// Reads the file of the source through.
-pub fn read_through<D: Depot>(
-    alloc: Global,
-    depot: &mut D,
-    source: &str,
-) -> Result<Typed, Status>
+pub fn read_through<D: Depot>(alloc: Global, depot: &mut D, source: &str) -> Result<Typed, Status>
     ensures same_files { D.files depot.new ≡ D.files depot.old }
     ensures program { IfOk result (λ typed. IfSome (D.files depot.old) (λ held. HoldsProgram held source.now (view.program_of typed.program))) }
     ensures answers { IfErr result (SourceAnswers source.now (effect_of D.files D.failed_reads D.failed_replaces depot.old depot.new)) }
