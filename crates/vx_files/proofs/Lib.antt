@@ -1,4 +1,4 @@
-pub mod Inputs
+pub mod Pieces
 pub mod InRange
 mod InputRows
 pub mod Refusing

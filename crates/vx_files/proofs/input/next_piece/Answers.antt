@@ -1,5 +1,5 @@
 -- The first piece and what stands behind it are shorter than the text by a blank, where it has one.
-use Rattle.vx_files.proofs.Inputs.{pieces_first}
+use Rattle.vx_files.proofs.Pieces.{pieces_first}
 use Rattle.vx_files.proofs.input.next_piece.Goals as goal
 
 pub returns-clause-pieces : goal.returns-clause-pieces

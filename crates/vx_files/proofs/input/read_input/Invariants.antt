@@ -1,7 +1,7 @@
 -- The numbers so far, and those of the rest.
 use Rattle.std.proofs.Common.{◌≡◌, ◌≤◌, ◌<◌, ◌+◌, length}
 use Rattle.vx_files.specs.InputText.{pieces, numbers_from, input_reading}
-use Rattle.vx_files.proofs.Inputs.{behind}
+use Rattle.vx_files.proofs.Pieces.{behind}
 use Rattle.vx_files.proofs.input.read_input.Given as goal
 
 abbrev pub invariant-pieces : goal.invariant-pieces
