@@ -13,10 +13,10 @@ use std::alloc::Global;
 use vx_ast::typed::Typed;
 use vx_base::outcome::NoMemory;
 use vx_clean::clean;
-use vx_facts::narrow;
 use vx_flow::graph::Flow;
 use vx_hoist::{Hoisted, hoist};
 use vx_lower::lower;
+use vx_narrow::narrow;
 
 /// The graphs of a program in one state.
 #[derive(Clone, Copy)]

@@ -2,15 +2,15 @@
 // the entry are never joined.
 
 use crate::reaching::Reached;
-use crate::shape_test::MOST_OPS;
 use crate::skipping::is_trap_at;
 use crate::table::{MANY, NONE, at, filled, number_at, put};
 use std::alloc::Global;
 use vx_base::outcome::NoMemory;
 use vx_flow::graph::{Block, BlockId, Exit};
+use vx_shape::shape_test::MOST_OPS;
 
 /// For each block that stays the block that is joined to it, or `NONE`.
-pub fn joins(
+pub(crate) fn joins(
     alloc: Global,
     blocks: &[Block],
     reached: &Reached,

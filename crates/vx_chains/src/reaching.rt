@@ -15,7 +15,7 @@ pub struct Reached {
 }
 
 /// Follows the edges from the entry on.
-pub fn reach(alloc: Global, blocks: &[Block]) -> Result<Reached, NoMemory> {
+pub(crate) fn reach(alloc: Global, blocks: &[Block]) -> Result<Reached, NoMemory> {
     let mut entries = filled(alloc, blocks.len(), 0)?;
     let mut sides = filled(alloc, blocks.len(), 0)?;
     follow_all(alloc, blocks, &mut entries, &mut sides)?;

@@ -2,13 +2,12 @@
 // a block with others before it; it is skipped only where it leads to a trap that nothing else leads to, or where both sides of
 // the split come to one block.
 
-use crate::link_test::has_no_ops;
 use crate::reaching::Reached;
-use crate::shape_test::is_trap;
 use crate::table::{NONE, at, filled, number_at, put};
 use std::alloc::Global;
 use vx_base::outcome::NoMemory;
 use vx_flow::graph::{Block, BlockId, Exit};
+use vx_shape::shape_test::{has_no_ops, is_trap};
 
 /// The blocks that are skipped.
 #[derive(Drop)]
@@ -20,7 +19,7 @@ pub struct Skipped {
 }
 
 /// Finds the blocks that are skipped, with time linear in the blocks. Of a circle of such blocks one stays.
-pub fn find_skipped(
+pub(crate) fn find_skipped(
     alloc: Global,
     blocks: &[Block],
     reached: &Reached,
@@ -90,7 +89,7 @@ fn jump_of(blocks: &[Block], block: BlockId) -> BlockId {
 }
 
 /// Whether a block ends by a trap.
-pub fn is_trap_at(blocks: &[Block], block: BlockId) -> bool {
+pub(crate) fn is_trap_at(blocks: &[Block], block: BlockId) -> bool {
     match blocks.get(block as usize) {
         Some(found) => is_trap(&found.exit),
         None => false,

@@ -11,7 +11,7 @@ pub const NONE: BlockId = u32::MAX;
 pub const MANY: BlockId = u32::MAX - 1;
 
 /// The number of the block at a place.
-pub fn number_at(place: usize) -> BlockId {
+pub(crate) fn number_at(place: usize) -> BlockId {
     if place < MANY as usize {
         place as u32
     } else {
@@ -20,12 +20,12 @@ pub fn number_at(place: usize) -> BlockId {
 }
 
 /// A table that has the number everywhere.
-pub fn filled(alloc: Global, count: usize, number: u32) -> Result<Vec<u32>, NoMemory> {
+pub(crate) fn filled(alloc: Global, count: usize, number: u32) -> Result<Vec<u32>, NoMemory> {
     Ok(vec![in alloc; number; count]?)
 }
 
 /// The number of a block.
-pub fn at(table: &[u32], block: BlockId) -> u32 {
+pub(crate) fn at(table: &[u32], block: BlockId) -> u32 {
     match table.get(block as usize) {
         Some(number) => *number,
         None => NONE,
@@ -33,7 +33,7 @@ pub fn at(table: &[u32], block: BlockId) -> u32 {
 }
 
 /// Gives a block another number.
-pub fn put(table: &mut Vec<u32>, block: BlockId, number: u32) {
+pub(crate) fn put(table: &mut Vec<u32>, block: BlockId, number: u32) {
     if (block as usize) < table.len() {
         table[block as usize] = number;
     }

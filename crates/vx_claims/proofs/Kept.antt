@@ -6,14 +6,14 @@ use Rattle.std.proofs.lemmas.List.{append_assoc, append-nil}
 use Rattle.std.proofs.lemmas.Bool.{false≢true}
 use Rattle.vx_flow.specs.declared.graph.Op.{Op}
 use Rattle.vx_flow.specs.declared.graph.Op.TheVariants.{Compute, Select, Place, Load, Store, More, Input, Text, Decimal, Across}
-use Rattle.vx_facts.specs.declared.intervals.Interval.{Interval}
-use Rattle.vx_facts.specs.declared.fact.Fact.{Fact}
-use Rattle.vx_facts.specs.declared.fact.Fact.TheVariants.{Between, Equals}
-use Rattle.vx_facts.specs.declared.access.Access.{Access}
-use Rattle.vx_facts.specs.Facts.{range_of, times_if, bit, result_within, is_held, is_full, names, kept_if, without, equals_if, between_unless, lies_in, after}
-use Rattle.vx_facts.specs.Accesses.{place_known}
-use Rattle.vx_facts.specs.Forming.{after_known, most_equals, newest, said_unless, same_form}
-use Rattle.vx_facts.specs.Keeping.{all_said, has_more, left_by, said_by}
+use Rattle.vx_claims.specs.declared.intervals.Interval.{Interval}
+use Rattle.vx_claims.specs.declared.fact.Fact.{Fact}
+use Rattle.vx_claims.specs.declared.fact.Fact.TheVariants.{Between, Equals}
+use Rattle.vx_claims.specs.declared.access.Access.{Access}
+use Rattle.vx_claims.specs.Facts.{range_of, times_if, bit, result_within, is_held, is_full, names, kept_if, without, equals_if, between_unless, lies_in, after}
+use Rattle.vx_claims.specs.Accesses.{place_known}
+use Rattle.vx_claims.specs.Forming.{after_known, most_equals, newest, said_unless, same_form}
+use Rattle.vx_claims.specs.Keeping.{all_said, has_more, left_by, said_by}
 
 lies_before : (v : ℕ) (i : Interval) (a b : List Fact) → lies_in v i (a ++ b) ≡ lies_in v i a ++ b
 lies_before v i a b = by (is_full i)

@@ -7,11 +7,11 @@ use Rattle.vx_flow.specs.declared.graph.Operand.TheVariants.{Held, Number}
 use Rattle.vx_flow.specs.declared.graph.Op.{Op}
 use Rattle.vx_flow.specs.declared.graph.Op.TheVariants.{Compute, Select, Place, Load, Store, More, Input, Text, Decimal, Across}
 use Rattle.vx_flow.specs.Effects.{State, Setting, held, place_of, row_of, cell_of}
-use Rattle.vx_facts.specs.declared.access.Access.{Access}
-use Rattle.vx_facts.specs.declared.access.Access.TheVariants.{Placed, Stored}
-use Rattle.vx_facts.specs.declared.fact.Fact.{Fact}
-use Rattle.vx_facts.specs.declared.fact.Fact.TheVariants.{Equals}
-use Rattle.vx_facts.specs.Facts.{is_held, same_operand}
+use Rattle.vx_claims.specs.declared.access.Access.{Access}
+use Rattle.vx_claims.specs.declared.access.Access.TheVariants.{Placed, Stored}
+use Rattle.vx_claims.specs.declared.fact.Fact.{Fact}
+use Rattle.vx_claims.specs.declared.fact.Fact.TheVariants.{Equals}
+use Rattle.vx_claims.specs.Facts.{is_held, same_operand}
 
 -- the word of array a at place p, where it has one, holds what x holds
 abbrev pub HoldsWord : Setting → State → ℕ → Operand → Operand → Type 0

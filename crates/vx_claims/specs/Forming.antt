@@ -7,12 +7,12 @@ use Rattle.vx_flow.specs.declared.graph.Operand.{Operand}
 use Rattle.vx_flow.specs.declared.graph.Operand.TheVariants.{Held, Number, Stack}
 use Rattle.vx_flow.specs.declared.graph.Op.{Op}
 use Rattle.vx_flow.specs.declared.graph.Op.TheVariants.{Compute, Select, Place, Load, Store, More, Input, Text, Decimal, Across}
-use Rattle.vx_facts.specs.declared.fact.Fact.{Fact}
-use Rattle.vx_facts.specs.declared.fact.Fact.TheVariants.{Between, Equals}
-use Rattle.vx_facts.specs.declared.access.Access.{Access}
-use Rattle.vx_facts.specs.declared.claim.Claim.{Claim}
-use Rattle.vx_facts.specs.Facts.{range_of, times_if, result_within, is_held, equals_if, lies_in, after, same_code, same_operand, found}
-use Rattle.vx_facts.specs.Accesses.{accessed, with_words, place_known}
+use Rattle.vx_claims.specs.declared.fact.Fact.{Fact}
+use Rattle.vx_claims.specs.declared.fact.Fact.TheVariants.{Between, Equals}
+use Rattle.vx_claims.specs.declared.access.Access.{Access}
+use Rattle.vx_claims.specs.declared.claim.Claim.{Claim}
+use Rattle.vx_claims.specs.Facts.{range_of, times_if, result_within, is_held, equals_if, lies_in, after, same_code, same_operand, found}
+use Rattle.vx_claims.specs.Accesses.{accessed, with_words, place_known}
 
 -- whether the code is a move, into v
 abbrev pub moves : ℕ → ℕ → Code → Bool

@@ -2,12 +2,12 @@
 use Rattle.std.specs.Prelude.{ℕ, zero, suc, Bool, true, false, ◌||◌, pos, List, [], ◌∷◌, ◌++◌}
 use Rattle.vx_flow.specs.declared.graph.Op.{Op}
 use Rattle.vx_flow.specs.declared.graph.Op.TheVariants.{Compute, Select, Place, Load, Store, More, Input, Text, Decimal, Across}
-use Rattle.vx_facts.specs.declared.fact.Fact.{Fact}
-use Rattle.vx_facts.specs.declared.fact.Fact.TheVariants.{Between, Equals}
-use Rattle.vx_facts.specs.declared.access.Access.{Access}
-use Rattle.vx_facts.specs.Facts.{range_of, times_if, bit, result_within, is_held, equals_if, lies_in, without}
-use Rattle.vx_facts.specs.Accesses.{place_known}
-use Rattle.vx_facts.specs.Forming.{same_form, said_unless}
+use Rattle.vx_claims.specs.declared.fact.Fact.{Fact}
+use Rattle.vx_claims.specs.declared.fact.Fact.TheVariants.{Between, Equals}
+use Rattle.vx_claims.specs.declared.access.Access.{Access}
+use Rattle.vx_claims.specs.Facts.{range_of, times_if, bit, result_within, is_held, equals_if, lies_in, without}
+use Rattle.vx_claims.specs.Accesses.{place_known}
+use Rattle.vx_claims.specs.Forming.{same_form, said_unless}
 
 -- what an operation says of the value that it writes
 abbrev pub said_by : List Fact → Op → List Fact

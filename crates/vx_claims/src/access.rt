@@ -2,7 +2,7 @@
 // a value what speaks of it; nothing is known at the start of a block, and so nothing behind a call.
 
 ghost use Rattle.std.specs.Prelude.{◌≡◌, ◌++◌, IfOk};
-ghost use Rattle.vx_facts.specs.Accesses.{accessed, is_told, loaded_as, mentions, moved_from, moved_or, place_in, place_known, same_access, tell, touches, unless, unmentioned, untouched, value_if, with_words, word_in};
+ghost use Rattle.vx_claims.specs.Accesses.{accessed, is_told, loaded_as, mentions, moved_from, moved_or, place_in, place_known, same_access, tell, touches, unless, unmentioned, untouched, value_if, with_words, word_in};
 
 use crate::fact::Fact;
 use crate::known::same_operand;

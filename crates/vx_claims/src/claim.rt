@@ -1,7 +1,7 @@
 // What is claimed at the start of a block.
 
 ghost use Rattle.std.specs.Prelude.{◌≡◌};
-ghost use Rattle.vx_facts.specs.Narrowing.{listed_claims};
+ghost use Rattle.vx_claims.specs.Claims.{listed_claims};
 
 use crate::access::Access;
 use crate::fact::Fact;

@@ -2,7 +2,7 @@
 // already is moved from there.
 
 ghost use Rattle.std.specs.Prelude.{◌≡◌};
-ghost use Rattle.vx_facts.specs.Forming.{computed_as, form, formed, is_readable, moves, read, read_if, source_of};
+ghost use Rattle.vx_claims.specs.Forming.{computed_as, form, formed, is_readable, moves, read, read_if, source_of};
 
 use crate::access::{Access, with_words};
 use crate::fact::Fact;

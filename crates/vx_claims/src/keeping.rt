@@ -5,9 +5,9 @@ ghost use Rattle.std.specs.Prelude.{◌≡◌, ◌++◌, true, IfOk};
 ghost use Rattle.std.specs.List.{list_any};
 ghost use Rattle.std.specs.Option.{option_to_list};
 ghost use Rattle.vx_flow.specs.declared.graph.Op.TheVariants.{Compute};
-ghost use Rattle.vx_facts.specs.Facts.{names, without};
-ghost use Rattle.vx_facts.specs.Forming.{after_known, most_equals, newest};
-ghost use Rattle.vx_facts.specs.Keeping.{all_said, has_more, left_by, said_by};
+ghost use Rattle.vx_claims.specs.Facts.{names, without};
+ghost use Rattle.vx_claims.specs.Forming.{after_known, most_equals, newest};
+ghost use Rattle.vx_claims.specs.Keeping.{all_said, has_more, left_by, said_by};
 
 use crate::access::{Access, append_place};
 use crate::fact::Fact;

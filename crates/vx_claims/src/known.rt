@@ -2,8 +2,8 @@
 
 ghost use Rattle.std.specs.Prelude.{◌≡◌};
 ghost use Rattle.std.specs.List.{list_all};
-ghost use Rattle.vx_facts.specs.Facts.{decided, decided_by, decided_if, found, has_equals, is_claimed, range, range_of, same_code, same_compare, same_operand};
-ghost use Rattle.vx_facts.specs.Checking.{give, gives, is_inside};
+ghost use Rattle.vx_claims.specs.Facts.{decided, decided_by, decided_if, found, has_equals, is_claimed, range, range_of, same_code, same_compare, same_operand};
+ghost use Rattle.vx_claims.specs.Claims.{give, gives, is_inside};
 
 use crate::fact::Fact;
 use crate::intervals::{Interval, compare_decided, full, meet};

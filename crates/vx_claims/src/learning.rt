@@ -1,9 +1,9 @@
 // What an operation leaves of a list of facts, and what the answer of a test adds to it.
 
 ghost use Rattle.std.specs.Prelude.{◌≡◌, ◌==◌, ◌||◌, ◌++◌, false, [], ◌∷◌, IfOk};
-ghost use Rattle.vx_facts.specs.declared.fact.Fact.TheVariants.{Between};
-ghost use Rattle.vx_facts.specs.Forming.{facts_if, is_test, newest, said_unless, same_form};
-ghost use Rattle.vx_facts.specs.Facts.{came_out, compared, equals_if, is_full, is_held, learned, learned_if, lies_in, names, on_side, operand_between, without};
+ghost use Rattle.vx_claims.specs.declared.fact.Fact.TheVariants.{Between};
+ghost use Rattle.vx_claims.specs.Forming.{facts_if, is_test, newest, said_unless, same_form};
+ghost use Rattle.vx_claims.specs.Facts.{came_out, compared, equals_if, is_full, is_held, learned, learned_if, lies_in, names, on_side, operand_between, without};
 
 use crate::fact::Fact;
 use crate::intervals::{Interval, left_within, opposite, result_within, right_within, times_if};

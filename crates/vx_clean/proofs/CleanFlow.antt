@@ -5,7 +5,8 @@ use Rattle.vx_base.proofs.Same.{same_on}
 use Rattle.vx_ast.specs.Meaning.{source}
 use Rattle.vx_flow.specs.Meaning.{graph_run}
 use Rattle.vx_lower.specs.FlowOf.{AreNumbers}
-use Rattle.vx_clean.specs.Cleaning.{with_graphs, CleanedFlow}
+use Rattle.vx_shape.specs.Flows.{with_graphs}
+use Rattle.vx_clean.specs.Cleaning.{CleanedFlow}
 use Rattle.vx_clean.proofs.Cleans.{cleaned_runs}
 
 pub cleaned_flow : CleanedFlow

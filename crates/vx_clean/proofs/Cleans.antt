@@ -17,7 +17,8 @@ use Rattle.vx_flow.specs.declared.graph.Array.{Array}
 use Rattle.vx_flow.specs.declared.graph.Flow.{Flow}
 use Rattle.vx_flow.specs.Effects.{Content, State, Setting, held, is_one, effect, IsIn}
 use Rattle.vx_flow.specs.Meaning.{Hop, Arrives, Wrong, known, by_test, calls, leaves, leave, and_then, block_hop, hop_of, Body, Program, Frame, Active, deepest, undefined, at_entry, entered, enters, returned, waits, after_hop, body_hop, hop, next, body_of, program_of, setting_of, globals_at_start, entered_or, start, graph_run}
-use Rattle.vx_clean.specs.Cleaning.{Place, Heads, ExitMeets, Comes, GoesOn, Stands, GraphCleaned, FunctionCleaned, Cleaned, with_graphs, CleanedRuns}
+use Rattle.vx_clean.specs.Cleaning.{Place, Heads, ExitMeets, Comes, GoesOn, Stands, GraphCleaned, FunctionCleaned, Cleaned, CleanedRuns}
+use Rattle.vx_shape.specs.Flows.{with_graphs}
 use Rattle.vx_clean.proofs.Growing.{flow_grows}
 
 -- ---- operations that stand in a longer row

@@ -13,11 +13,6 @@ last_at to blocks (b ∷ c ∷ bs) h =
     let e : length (b ∷ c ∷ bs) - 1 ≡ suc (length (c ∷ bs) - 1) = omega arith in
     ap (λ n. exit_at to (slice_get blocks (get_or (b ∷ c ∷ bs) n 0))) e ∙ last_at to blocks (c ∷ bs) (omega arith)
 
-pub take_more : {A : Type 0} (xs : List A) (i : ℕ) (x : A) → i < length xs → x ≡ get_or xs i x → take (suc i) xs ≡ take i xs ++ x ∷ []
-take_more [] i x h e = absurd (omega arith)
-take_more (y ∷ ys) zero x h e = ap (λ z. z ∷ []) (sym e)
-take_more (y ∷ ys) (suc i) x h e = ap (λ l. y ∷ l) (take_more ys i x (omega arith) e)
-
 pub graphs_next : (gs hs : List Graph) (i : ℕ) (g h : Graph) → i < length gs → g ≡ get_or gs i g → GraphsStay (take i gs) hs → GraphStays g h → GraphsStay (take (i + 1) gs) (hs ++ h ∷ [])
 graphs_next gs hs i g h l e s t =
     let a : suc i ≡ i + 1 = omega arith in

@@ -7,7 +7,8 @@ use Rattle.vx_flow.specs.declared.graph.Graph.{Graph}
 use Rattle.vx_lower.specs.FlowOf.{GraphOf}
 use Rattle.vx_clean.specs.Cleaning.{Place, FunctionCleaned, Cleaned}
 use Rattle.vx_clean.specs.Laying.{laid, places_from}
-use Rattle.vx_clean.specs.LaidFlows.{Shaped, FunctionLaid, laid_functions, LaidFlow}
+use Rattle.vx_shape.specs.Shape.{Shaped}
+use Rattle.vx_clean.specs.LaidFlows.{FunctionLaid, laid_functions, LaidFlow}
 use Rattle.vx_clean.proofs.CleanFlow.{cleaned_flow}
 use Rattle.vx_clean.proofs.Lays.{laid_cleaned}
 

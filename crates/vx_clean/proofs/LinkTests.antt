@@ -8,7 +8,8 @@ use Rattle.vx_flow.specs.declared.graph.Block.{Block}
 use Rattle.vx_flow.specs.Effects.{IsIn}
 use Rattle.vx_flow.specs.Sound.{targets_of}
 use Rattle.vx_clean.specs.Laying.{ops_at, Near, Begun, ExitLinked, Linked}
-use Rattle.vx_clean.specs.LinkTest.{is_none_left, is_near, is_near_in, are_begun, is_exit_linked, is_linked_at, is_linked, LinkedWhereTested}
+use Rattle.vx_shape.specs.ShapeTest.{is_none_left}
+use Rattle.vx_clean.specs.LinkTest.{is_near, is_near_in, are_begun, is_exit_linked, is_linked_at, is_linked, LinkedWhereTested}
 
 both_true : (a b : Bool) → (a && b) ≡ true → (a ≡ true) × (b ≡ true)
 both_true true b e = (refl, e)
@@ -20,10 +21,6 @@ either_true false b e = inr e
 
 never : {A : Type 0} → false ≡ true → A
 never e = let d : false ≡ true = e in absurd (cc)
-
-pub none_left : (ops : List Op) → is_none_left ops ≡ true → ops ≡ []
-none_left [] e = refl
-none_left (op ∷ ops) e = never e
 
 module _ (to : ℕ → ℕ) (blocks : List Block) (chains : List (List ℕ)) where
   near_if : (c : ℕ) (bs : List ℕ) → is_near blocks c bs ≡ true → Near blocks c bs

@@ -12,17 +12,20 @@ use Rattle.vx_flow.specs.Effects.{IsIn}
 use Rattle.vx_flow.specs.Sound.{is_sound_flow}
 use Rattle.vx_flow.proofs.SoundLists.{all_at}
 use Rattle.vx_lower.specs.FlowOf.{GraphOf, FlowOf}
-use Rattle.vx_clean.specs.Cleaning.{Place, Heads, ExitMeets, Stands, FunctionCleaned, Cleaned, with_graphs}
+use Rattle.vx_clean.specs.Cleaning.{Place, Heads, ExitMeets, Stands, FunctionCleaned, Cleaned}
+use Rattle.vx_shape.specs.Flows.{with_graphs}
 use Rattle.vx_clean.specs.Laying.{laid, places_from}
-use Rattle.vx_clean.specs.LaidFlows.{Shaped, FunctionLaid}
+use Rattle.vx_shape.specs.Shape.{Shaped}
+use Rattle.vx_clean.specs.LaidFlows.{FunctionLaid}
 use Rattle.vx_clean.specs.LinkTest.{is_near_in, is_linked, moves, is_laid_out}
-use Rattle.vx_clean.specs.ShapeTest.{is_shaped}
-use Rattle.vx_clean.specs.Staying.{GraphStays, GraphsStay, FlowStays, StaysByGraphs}
+use Rattle.vx_shape.specs.ShapeTest.{is_shaped}
+use Rattle.vx_clean.specs.Staying.{GraphStays, GraphsStay, StaysByGraphs}
+use Rattle.vx_shape.specs.Flows.{FlowStays}
 use Rattle.vx_clean.proofs.CleanFlow.{cleaned_flow}
 use Rattle.vx_clean.proofs.Lays.{laid_cleaned}
 use Rattle.vx_clean.proofs.LaysFlow.{shape_kept}
 use Rattle.vx_clean.proofs.LinkTests.{begun_if, linked_if}
-use Rattle.vx_clean.proofs.ShapeTests.{shaped_where_tested}
+use Rattle.vx_shape.proofs.ShapeTests.{shaped_where_tested}
 
 -- ---- a graph as it is
 

@@ -8,18 +8,8 @@ use Rattle.vx_flow.specs.declared.graph.Graph.{Graph}
 use Rattle.vx_flow.specs.declared.graph.Flow.{Flow}
 use Rattle.vx_flow.specs.Sound.{is_sound_flow}
 use Rattle.vx_lower.specs.FlowOf.{EndsBy, IsEdge, FlowOf}
-use Rattle.vx_clean.specs.Cleaning.{with_graphs}
+use Rattle.vx_shape.specs.Flows.{with_graphs}
 use Rattle.vx_clean.specs.Laying.{laid, Begun, Linked}
-
--- the shape of a graph by itself
-pub record Shaped (g : Graph) : Type 0 where
-  pub trap_empty : (b : ℕ) (k : Trap) → (e : EndsBy g b k) → e.block.ops ≡ []
-  pub trap_alone : (b c : ℕ) (k : Trap) → EndsBy g b k → EndsBy g c k → b ≡ c
-  pub traps_last : (b c : ℕ) (k : Trap) → EndsBy g b k → b < c → c < length g.blocks → (j : Trap) × EndsBy g c j
-  pub short : (b : ℕ) (block : Block) → slice_get g.blocks b ≡ Some block → length block.ops ≤ 512
-  pub apart : (b : ℕ) (block : Block) (test yes no : ℕ) → slice_get g.blocks b ≡ Some block → block.exit ≡ Split test yes no → yes ≡ no → ⊥
-  pub uncritical : (b c d e : ℕ) → IsEdge g b c → IsEdge g b d → (c ≡ d → ⊥) → IsEdge g e d → e ≡ b
-  pub entry : (b : ℕ) → IsEdge g b 0 → ⊥
 
 pub record FunctionLaid (to : ℕ → ℕ) (chains : List (List ℕ)) (g : Graph) : Type 0 where
   pub first : to 0 ≡ 0

@@ -8,10 +8,6 @@ use Rattle.vx_flow.specs.declared.graph.Block.{Block}
 use Rattle.vx_flow.specs.Sound.{targets_of}
 use Rattle.vx_clean.specs.Laying.{ops_at, Linked}
 
-abbrev pub is_none_left : List Op → Bool
-is_none_left [] = true
-is_none_left (op ∷ ops) = false
-
 abbrev pub is_near : List Block → ℕ → List ℕ → Bool
 is_near blocks c [] = false
 is_near blocks c (b ∷ bs) = (b == c) || (is_none_left (ops_at (slice_get blocks b)) && is_near blocks c bs)

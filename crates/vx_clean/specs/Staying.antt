@@ -5,7 +5,8 @@ use Rattle.vx_flow.specs.declared.graph.Graph.{Graph}
 use Rattle.vx_flow.specs.declared.graph.Flow.{Flow}
 use Rattle.vx_flow.specs.Sound.{is_sound_flow}
 use Rattle.vx_lower.specs.FlowOf.{GraphOf, FlowOf}
-use Rattle.vx_clean.specs.Cleaning.{Place, GraphCleaned, with_graphs}
+use Rattle.vx_clean.specs.Cleaning.{Place, GraphCleaned}
+use Rattle.vx_shape.specs.Flows.{with_graphs}
 
 -- the new graph is the old one cleaned, and keeps the shape that the graph of a function has
 pub record GraphStays (old new : Graph) : Type 0 where
@@ -18,10 +19,6 @@ GraphsStay [] [] = Unit {0}
 GraphsStay [] (h ∷ hs) = ⊥
 GraphsStay (g ∷ gs) [] = ⊥
 GraphsStay (g ∷ gs) (h ∷ hs) = GraphStays g h × GraphsStay gs hs
-
--- a flow of a program stays one
-abbrev pub FlowStays : Flow → Flow → Type 0
-FlowStays old new = (p : Program) → FlowOf p old → FlowOf p new
 
 abbrev pub StaysByGraphs : Type 0
 StaysByGraphs = (flow : Flow) (graphs : List Graph) → GraphsStay flow.functions graphs → is_sound_flow (with_graphs flow graphs) ≡ true → FlowStays flow (with_graphs flow graphs)

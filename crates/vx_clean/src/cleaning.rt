@@ -6,21 +6,22 @@ ghost use Rattle.vx_ast.specs.Tree.{Program};
 ghost use Rattle.vx_flow.specs.Sound.{is_sound_flow};
 ghost use Rattle.vx_lower.specs.FlowOf.{FlowOf};
 ghost use Rattle.vx_clean.specs.LinkTest.{is_laid_out};
-ghost use Rattle.vx_clean.specs.Staying.{FlowStays, GraphStays, GraphsStay};
+ghost use Rattle.vx_shape.specs.Flows.{FlowStays};
+ghost use Rattle.vx_clean.specs.Staying.{GraphStays, GraphsStay};
 
-use crate::copying::{copied_graph, with_graphs};
-use crate::folding::folded_once;
 use crate::laying::laid;
-use crate::layout::find_layout;
 use crate::link_test::is_laid_out;
-use crate::origins::origins;
-use crate::shape_test::is_shaped;
-use crate::thinning::thinned_once;
 use std::alloc::Global;
 use vx_base::listed::Listed;
 use vx_base::outcome::NoMemory;
 use vx_flow::graph::{BlockId, Flow, Graph};
+use vx_fold::folded_once;
+use vx_chains::find_layout;
+use vx_shape::copying::{copied_graph, with_graphs};
+use vx_shape::origins::origins;
+use vx_shape::shape_test::is_shaped;
 use vx_sound::is_sound;
+use vx_thin::thinned_once;
 
 /// How often the graphs are cleaned at most.
 const MOST_ROUNDS: u32 = 8;

@@ -1,13 +1,10 @@
 // Laws of cleaning, each the clause of a function that does nothing.
 
 ghost use Rattle.vx_clean.specs.Cleaning.{CleanedFlow, CleanedRuns};
-ghost use Rattle.vx_clean.specs.Folding.{FoldedRuns, FoldedStays};
 ghost use Rattle.vx_clean.specs.LaidFlows.{LaidFlow};
 ghost use Rattle.vx_clean.specs.Laying.{LaidCleaned};
 ghost use Rattle.vx_clean.specs.LinkTest.{LinkedWhereTested};
-ghost use Rattle.vx_clean.specs.ShapeTest.{ShapedWhereTested};
 ghost use Rattle.vx_clean.specs.Staying.{StaysByGraphs};
-ghost use Rattle.vx_clean.specs.Thinning.{ThinnedRuns, ThinnedStays};
 
 /// With blocks skipped and merged a flow that never fails does the same, and never fails.
 pub fn cleaned_runs()
@@ -34,32 +31,7 @@ pub fn linked_where_tested()
     ensures { LinkedWhereTested }
 {}
 
-/// A graph that passes the test has its shape.
-pub fn shaped_where_tested()
-    ensures { ShapedWhereTested }
-{}
-
 /// A flow of a program stays one where each of its graphs is exchanged for one that is that graph cleaned.
 pub fn stays_by_graphs()
     ensures { StaysByGraphs }
-{}
-
-/// Without the operations whose results are not read a flow that never fails comes to the same, at every bound.
-pub fn thinned_runs()
-    ensures { ThinnedRuns }
-{}
-
-/// A flow of a program stays one without them.
-pub fn thinned_stays()
-    ensures { ThinnedStays }
-{}
-
-/// With values that only ever hold one number read as that number a flow that never fails comes to the same, at every bound.
-pub fn folded_runs()
-    ensures { FoldedRuns }
-{}
-
-/// A flow of a program stays one with them.
-pub fn folded_stays()
-    ensures { FoldedStays }
 {}

@@ -4,12 +4,12 @@ ghost use Rattle.std.specs.Prelude.{◌≡◌, ◌==◌, ◌++◌, IfOk, map, sl
 ghost use Rattle.vx_clean.specs.Laying.{exit_at, joined, laid, last_exit, moved, one_way, ops_at, ops_of};
 ghost use Rattle.vx_clean.specs.LinkTest.{moves};
 
-use crate::copying::{copied_operands, with_blocks};
 use crate::link_test::target;
 use std::alloc::Global;
 use vx_base::listed::Listed;
 use vx_base::outcome::NoMemory;
 use vx_flow::graph::{Block, BlockId, Exit, Graph, Op, Value};
+use vx_shape::copying::{copied_operands, with_blocks};
 
 /// The graph whose blocks are the chains, with each target moved.
 pub fn laid(

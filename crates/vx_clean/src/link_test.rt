@@ -5,10 +5,12 @@ ghost use Rattle.std.specs.Prelude.{◌≡◌, slice_get};
 ghost use Rattle.std.specs.List.{list_all};
 ghost use Rattle.vx_flow.specs.Sound.{targets_of};
 ghost use Rattle.vx_clean.specs.Laying.{ops_at};
-ghost use Rattle.vx_clean.specs.LinkTest.{are_begun, is_exit_linked, is_laid_out, is_linked, is_linked_at, is_near, is_near_in, is_none_left, moves};
+ghost use Rattle.vx_clean.specs.LinkTest.{are_begun, is_exit_linked, is_laid_out, is_linked, is_linked_at, is_near, is_near_in, moves};
+ghost use Rattle.vx_shape.specs.ShapeTest.{is_none_left};
 
 use vx_base::listed::Listed;
 use vx_flow::graph::{Block, BlockId, Exit};
+use vx_shape::shape_test::has_no_ops;
 
 /// Whether every chain is linked, and the first begins as the graph.
 pub fn is_laid_out(to: &[BlockId], blocks: &[Block], chains: &[Listed<BlockId>]) -> bool
@@ -148,15 +150,5 @@ pub fn is_empty(blocks: &[Block], block: BlockId) -> bool
     match blocks.get(block as usize) {
         Some(block) => has_no_ops(block),
         None => true,
-    }
-}
-
-/// Whether a block has no operations.
-pub fn has_no_ops(block: &Block) -> bool
-    ensures { result ≡ is_none_left block.now.ops }
-{
-    match block.ops.as_slice() {
-        [] => true,
-        _ => false,
     }
 }

@@ -18,7 +18,6 @@ use vx_base::laws::same_is_transitive;
 use vx_base::listed::Listed;
 use vx_base::outcome::NoMemory;
 use vx_clean::clean;
-use vx_facts::narrow;
 use vx_flow::graph::{Flow, Graph};
 use vx_frame::laws::{
     finished_programs_carry_their_plan, frames_keep_to_the_machine, layouts_are_spaced,
@@ -32,6 +31,7 @@ use vx_lower::lower;
 use vx_machine::Machine;
 use vx_mixed::layout::VWords;
 use vx_motion::laws::{blocks_mean_the_graph, replaced_programs_run_the_same};
+use vx_narrow::narrow;
 use vx_profile::counts::Counts;
 use vx_regs::map::{Kept, RegMap};
 use vx_regs::registers;

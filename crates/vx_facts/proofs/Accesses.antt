@@ -8,10 +8,10 @@ use Rattle.vx_flow.specs.declared.graph.Operand.TheVariants.{Held, Number, Stack
 use Rattle.vx_flow.specs.declared.graph.Op.{Op}
 use Rattle.vx_flow.specs.declared.graph.Op.TheVariants.{Compute, Select, Place, Load, Store, More, Input, Text, Decimal, Across}
 use Rattle.vx_flow.specs.Effects.{Content, State, Setting, held, computed, chosen, is_left, place_of, row_of, cell_in, cell_of, loaded, next_input, printed, text_at, with_value, with_cell, effect}
-use Rattle.vx_facts.specs.declared.access.Access.{Access}
-use Rattle.vx_facts.specs.declared.access.Access.TheVariants.{Placed, Stored}
-use Rattle.vx_facts.specs.Facts.{AllHold, is_held, same_operand}
-use Rattle.vx_facts.specs.Accesses.{HoldsWord, Tells, AllTell, SpotsDiffer, same_access, is_told, tell, mentions, unless, unmentioned, touches, untouched, accessed, value_if, first_or, place_in, held_if, word_in, moved_from, place_known}
+use Rattle.vx_claims.specs.declared.access.Access.{Access}
+use Rattle.vx_claims.specs.declared.access.Access.TheVariants.{Placed, Stored}
+use Rattle.vx_claims.specs.Facts.{AllHold, is_held, same_operand}
+use Rattle.vx_claims.specs.Accesses.{HoldsWord, Tells, AllTell, SpotsDiffer, same_access, is_told, tell, mentions, unless, unmentioned, touches, untouched, accessed, value_if, first_or, place_in, held_if, word_in, moved_from, place_known}
 use Rattle.vx_facts.proofs.Ranges.{and_one, and_two}
 use Rattle.vx_facts.proofs.Equal.{operand_is}
 use Rattle.vx_facts.proofs.Operations.{or_one, or_two}

@@ -6,15 +6,15 @@ use Rattle.vx_flow.specs.declared.graph.Operand.TheVariants.{Number}
 use Rattle.vx_flow.specs.declared.graph.Op.{Op}
 use Rattle.vx_flow.specs.declared.graph.Op.TheVariants.{Compute, Place, Load}
 use Rattle.vx_flow.specs.Effects.{Content, State, Setting, held, row_of, cell_of, loaded, with_value, effect}
-use Rattle.vx_facts.specs.declared.intervals.Interval.{Interval}
-use Rattle.vx_facts.specs.declared.access.Access.{Access}
-use Rattle.vx_facts.specs.declared.claim.Claim.{Claim}
-use Rattle.vx_facts.specs.declared.fact.Fact.{Fact}
-use Rattle.vx_facts.specs.declared.fact.Fact.TheVariants.{Between, Equals}
-use Rattle.vx_facts.specs.Facts.{full, Within, AllHold, range_of, times_if, result_within, is_held, without, equals_if, is_full, between_unless, after}
+use Rattle.vx_claims.specs.declared.intervals.Interval.{Interval}
+use Rattle.vx_claims.specs.declared.access.Access.{Access}
+use Rattle.vx_claims.specs.declared.claim.Claim.{Claim}
+use Rattle.vx_claims.specs.declared.fact.Fact.{Fact}
+use Rattle.vx_claims.specs.declared.fact.Fact.TheVariants.{Between, Equals}
+use Rattle.vx_claims.specs.Facts.{full, Within, AllHold, range_of, times_if, result_within, is_held, without, equals_if, is_full, between_unless, after}
 use Rattle.vx_facts.specs.Checking.{has_numbers}
-use Rattle.vx_facts.specs.Accesses.{HoldsWord, AllTell, SpotsDiffer, accessed, word_in, moved_or, with_words, place_known}
-use Rattle.vx_facts.specs.Forming.{formed, form, same_form, is_test, facts_if, said_unless, most_equals, newest, after_known}
+use Rattle.vx_claims.specs.Accesses.{HoldsWord, AllTell, SpotsDiffer, accessed, word_in, moved_or, with_words, place_known}
+use Rattle.vx_claims.specs.Forming.{formed, form, same_form, is_test, facts_if, said_unless, most_equals, newest, after_known}
 use Rattle.vx_facts.proofs.Tests.{append_holds}
 use Rattle.vx_facts.proofs.Operations.{Good, Keeps, OpFits, StateFit, numbers_fit, number_fits, op_good, held_is}
 use Rattle.vx_facts.proofs.Forms.{formed_same, formed_fits}

@@ -4,7 +4,7 @@ use Rattle.vx_flow.specs.declared.graph.Operand.{Operand}
 use Rattle.vx_flow.specs.declared.graph.Operand.TheVariants.{Held, Number, Stack}
 use Rattle.vx_flow.specs.declared.graph.Op.TheVariants.{Store}
 use Rattle.vx_flow.specs.Effects.{Content, State, Setting, held, row_of, cell_in, cell_of, stored, with_cell, effect}
-use Rattle.vx_facts.specs.Accesses.{HoldsWord}
+use Rattle.vx_claims.specs.Accesses.{HoldsWord}
 use Rattle.vx_facts.proofs.Ranges.{and_two}
 
 -- ---- lists

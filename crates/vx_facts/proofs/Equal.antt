@@ -9,9 +9,9 @@ use Rattle.vx_base.specs.declared.arithmetic.Code.TheVariants.{Add, Sub, And, Or
 use Rattle.vx_flow.specs.declared.graph.Operand.{Operand}
 use Rattle.vx_flow.specs.declared.graph.Operand.TheVariants.{Held, Number}
 use Rattle.vx_flow.specs.Effects.{Content, computed}
-use Rattle.vx_facts.specs.declared.fact.Fact.{Fact}
-use Rattle.vx_facts.specs.declared.fact.Fact.TheVariants.{Between, Equals}
-use Rattle.vx_facts.specs.Facts.{content, Holds, AllHold, same_compare, same_code, same_operand, is_claimed, has_equals, found_if, found}
+use Rattle.vx_claims.specs.declared.fact.Fact.{Fact}
+use Rattle.vx_claims.specs.declared.fact.Fact.TheVariants.{Between, Equals}
+use Rattle.vx_claims.specs.Facts.{content, Holds, AllHold, same_compare, same_code, same_operand, is_claimed, has_equals, found_if, found}
 use Rattle.vx_facts.proofs.Ranges.{and_one, and_two}
 
 compare_is : (c d : Compare) → same_compare c d ≡ true → c ≡ d

@@ -8,10 +8,10 @@ use Rattle.vx_flow.specs.declared.graph.Operand.TheVariants.{Held, Number, Stack
 use Rattle.vx_flow.specs.declared.graph.Op.{Op}
 use Rattle.vx_flow.specs.declared.graph.Op.TheVariants.{Compute, Select, Place, Load, Store, More, Input, Text, Decimal, Across}
 use Rattle.vx_flow.specs.Effects.{Content, State, Setting, held, computed, chosen, place_of, row_of, cell_in, loaded, stored, printed, with_value, effect}
-use Rattle.vx_facts.specs.declared.fact.Fact.{Fact}
-use Rattle.vx_facts.specs.declared.fact.Fact.TheVariants.{Between, Equals}
-use Rattle.vx_facts.specs.Facts.{full, Within, content, Holds, AllHold, found}
-use Rattle.vx_facts.specs.Forming.{moves, operand_if, source_of, read, is_readable, read_if, computed_as, formed}
+use Rattle.vx_claims.specs.declared.fact.Fact.{Fact}
+use Rattle.vx_claims.specs.declared.fact.Fact.TheVariants.{Between, Equals}
+use Rattle.vx_claims.specs.Facts.{full, Within, content, Holds, AllHold, found}
+use Rattle.vx_claims.specs.Forming.{moves, operand_if, source_of, read, is_readable, read_if, computed_as, formed}
 use Rattle.vx_facts.proofs.Ranges.{Fit}
 use Rattle.vx_facts.proofs.Equal.{found_holds}
 use Rattle.vx_facts.proofs.Operations.{OpFits, number_fits, held_is}

@@ -9,10 +9,10 @@ use Rattle.vx_flow.specs.declared.graph.Operand.TheVariants.{Held, Number, Stack
 use Rattle.vx_flow.specs.declared.graph.Op.{Op}
 use Rattle.vx_flow.specs.declared.graph.Op.TheVariants.{Compute, Select, Place, Load, Store, More, Input, Text, Decimal, Across}
 use Rattle.vx_flow.specs.Effects.{Content, State, Setting, held, computed, chosen, is_one, is_left, place_of, row_of, cell_of, loaded, stored, next_input, printed, with_value, effect}
-use Rattle.vx_facts.specs.declared.intervals.Interval.{Interval}
-use Rattle.vx_facts.specs.declared.fact.Fact.{Fact}
-use Rattle.vx_facts.specs.declared.fact.Fact.TheVariants.{Between, Equals}
-use Rattle.vx_facts.specs.Facts.{least, greatest, full, Within, content, Holds, AllHold, range_of, times_if, bit, result_within, is_held, names, kept_if, without, equals_if, is_full, between_unless, lies_in, after}
+use Rattle.vx_claims.specs.declared.intervals.Interval.{Interval}
+use Rattle.vx_claims.specs.declared.fact.Fact.{Fact}
+use Rattle.vx_claims.specs.declared.fact.Fact.TheVariants.{Between, Equals}
+use Rattle.vx_claims.specs.Facts.{least, greatest, full, Within, content, Holds, AllHold, range_of, times_if, bit, result_within, is_held, names, kept_if, without, equals_if, is_full, between_unless, lies_in, after}
 use Rattle.vx_facts.specs.Checking.{is_number, has_number, has_numbers}
 use Rattle.vx_facts.proofs.Ranges.{number_within, and_one, and_two, le_holds, Fit, computed_fits, range_of_holds, bit_holds, times_holds, computed_holds}
 use Rattle.std.proofs.Math.IntN.{*ℤ_comm}

@@ -14,10 +14,10 @@ use Rattle.vx_base.proofs.ArithmeticLaws.{value_fits_law}
 use Rattle.vx_flow.specs.declared.graph.Operand.{Operand}
 use Rattle.vx_flow.specs.declared.graph.Operand.TheVariants.{Held, Number, Stack}
 use Rattle.vx_flow.specs.Effects.{Content, both, computed, is_unary}
-use Rattle.vx_facts.specs.declared.intervals.Interval.{Interval}
-use Rattle.vx_facts.specs.declared.fact.Fact.{Fact}
-use Rattle.vx_facts.specs.declared.fact.Fact.TheVariants.{Between, Equals}
-use Rattle.vx_facts.specs.Facts.{least, greatest, full, Within, content, AllHold, meet, meet_if, range, range_of, fitting, sum_within, difference_within, up_to, is_above, and_within, remainder_within, times_if, product_if, is_half, times_or_product, low_product_within, high_product_within, zero_only, bit, shifted_within, result_within}
+use Rattle.vx_claims.specs.declared.intervals.Interval.{Interval}
+use Rattle.vx_claims.specs.declared.fact.Fact.{Fact}
+use Rattle.vx_claims.specs.declared.fact.Fact.TheVariants.{Between, Equals}
+use Rattle.vx_claims.specs.Facts.{least, greatest, full, Within, content, AllHold, meet, meet_if, range, range_of, fitting, sum_within, difference_within, up_to, is_above, and_within, remainder_within, times_if, product_if, is_half, times_or_product, low_product_within, high_product_within, zero_only, bit, shifted_within, result_within}
 
 pub number_within : (z : ℤ) → IsNumber z → Within full (Some z)
 number_within (pos n) f = (omega (arith, ints), omega (arith, ints, f.sfits))

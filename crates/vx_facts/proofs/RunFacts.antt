@@ -15,15 +15,16 @@ use Rattle.vx_flow.specs.declared.graph.Global.{Global}
 use Rattle.vx_flow.specs.declared.graph.Flow.{Flow}
 use Rattle.vx_flow.specs.Effects.{Content, State, Setting, IsIn, held, is_one, effect}
 use Rattle.vx_flow.specs.Meaning.{Hop, Arrives, Calls, Leaves, Stops, Wrong, known, with_front, by_test, calls, leaves, leave, and_then, block_hop, hop_of, Body, Frame, Active, deepest, undefined, at_entry, entered, enters, with_result, returned, waits, after_hop, body_hop, hop, next, body_of, program_of, setting_of, words_at_start, globals_at_start, entered_or, start}
-use Rattle.vx_facts.specs.declared.claim.Claim.{Claim}
-use Rattle.vx_facts.specs.declared.intervals.Interval.{Interval}
-use Rattle.vx_facts.specs.declared.fact.Fact.{Fact}
-use Rattle.vx_facts.specs.declared.fact.Fact.TheVariants.{Between, Equals}
-use Rattle.vx_facts.specs.Facts.{full, Within, AllHold, range, range_of, names, kept_if, without, is_full, between_unless, on_side}
-use Rattle.vx_facts.specs.declared.access.Access.{Access}
-use Rattle.vx_facts.specs.Accesses.{SpotsDiffer, AllTell, tell, accessed}
-use Rattle.vx_facts.specs.Forming.{form, after_known, after_from, accessed_from, after_all, accessed_all}
-use Rattle.vx_facts.specs.Checking.{is_number, has_number, has_numbers, is_inside, gives, give, without_result, are_given, are_given_behind, are_passed, lie_in, is_entry_checked, parameters_of, is_exit_checked, is_block_checked, Checked, Leads, FactsHold}
+use Rattle.vx_claims.specs.declared.claim.Claim.{Claim}
+use Rattle.vx_claims.specs.declared.intervals.Interval.{Interval}
+use Rattle.vx_claims.specs.declared.fact.Fact.{Fact}
+use Rattle.vx_claims.specs.declared.fact.Fact.TheVariants.{Between, Equals}
+use Rattle.vx_claims.specs.Facts.{full, Within, AllHold, range, range_of, names, kept_if, without, is_full, between_unless, on_side}
+use Rattle.vx_claims.specs.declared.access.Access.{Access}
+use Rattle.vx_claims.specs.Accesses.{SpotsDiffer, AllTell, tell, accessed}
+use Rattle.vx_claims.specs.Forming.{form, after_known, after_from, accessed_from, after_all, accessed_all}
+use Rattle.vx_facts.specs.Checking.{is_number, has_number, has_numbers, without_result, are_given, are_given_behind, are_passed, lie_in, is_entry_checked, parameters_of, is_exit_checked, is_block_checked, Checked, Leads, FactsHold}
+use Rattle.vx_claims.specs.Claims.{is_inside, gives, give}
 use Rattle.vx_facts.proofs.Ranges.{number_within, and_one, and_two, le_holds, Fit, range_holds, range_of_holds}
 use Rattle.vx_facts.proofs.Equal.{has_holds}
 use Rattle.vx_facts.proofs.Tests.{side_holds}

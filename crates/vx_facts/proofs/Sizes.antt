@@ -15,7 +15,7 @@ use Rattle.vx_flow.specs.declared.graph.Graph.{Graph}
 use Rattle.vx_flow.specs.declared.graph.Flow.{Flow}
 use Rattle.vx_flow.specs.Effects.{Content, State, Setting, held, is_one, row_of, cell_of, loaded, stored, next_input, printed, effect}
 use Rattle.vx_flow.specs.Meaning.{Hop, Arrives, Calls, Leaves, Stops, Wrong, known, by_test, calls, leaves, leave, and_then, block_hop, hop_of, Body, Frame, Active, deepest, undefined, spot_of, enters, returned, waits, after_hop, body_hop, hop, next, words_at_start, body_of, program_of, setting_of, globals_at_start, entered_or, start}
-use Rattle.vx_facts.specs.Accesses.{SpotsDiffer}
+use Rattle.vx_claims.specs.Accesses.{SpotsDiffer}
 use Rattle.vx_facts.proofs.Cells.{set_length}
 
 -- ---- places

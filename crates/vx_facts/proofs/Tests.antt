@@ -12,10 +12,10 @@ use Rattle.vx_base.proofs.ArithmeticLaws.{opposite as opposite_there, compare_of
 use Rattle.vx_flow.specs.declared.graph.Operand.{Operand}
 use Rattle.vx_flow.specs.declared.graph.Operand.TheVariants.{Held, Number, Stack}
 use Rattle.vx_flow.specs.Effects.{Content, both, computed, is_one}
-use Rattle.vx_facts.specs.declared.intervals.Interval.{Interval}
-use Rattle.vx_facts.specs.declared.fact.Fact.{Fact}
-use Rattle.vx_facts.specs.declared.fact.Fact.TheVariants.{Between, Equals}
-use Rattle.vx_facts.specs.Facts.{least, greatest, full, Within, content, AllHold, range_of, opposite, is_above, one_less, one_more, below_unsigned, left_within, right_within, operand_between, compared, came_out, learned_if, learned, on_side, always, answer_of, compare_decided, first_of, decided_if, decided_by, decided}
+use Rattle.vx_claims.specs.declared.intervals.Interval.{Interval}
+use Rattle.vx_claims.specs.declared.fact.Fact.{Fact}
+use Rattle.vx_claims.specs.declared.fact.Fact.TheVariants.{Between, Equals}
+use Rattle.vx_claims.specs.Facts.{least, greatest, full, Within, content, AllHold, range_of, opposite, is_above, one_less, one_more, below_unsigned, left_within, right_within, operand_between, compared, came_out, learned_if, learned, on_side, always, answer_of, compare_decided, first_of, decided_if, decided_by, decided}
 use Rattle.vx_facts.proofs.Ranges.{and_one, and_two, le_holds, lt_holds, within_number, Fit, range_of_holds, above_holds}
 
 opposite_is : (c : Compare) → opposite c ≡ opposite_there c

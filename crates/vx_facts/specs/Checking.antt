@@ -15,14 +15,14 @@ use Rattle.vx_flow.specs.declared.graph.Global.{Global}
 use Rattle.vx_flow.specs.declared.graph.Flow.{Flow}
 use Rattle.vx_flow.specs.Effects.{IsIn, State}
 use Rattle.vx_flow.specs.Meaning.{Hop, Arrives, Wrong, Active, hop, next, program_of, start}
-use Rattle.vx_facts.specs.declared.claim.Claim.{Claim}
-use Rattle.vx_facts.specs.declared.intervals.Interval.{Interval}
-use Rattle.vx_facts.specs.declared.fact.Fact.{Fact}
-use Rattle.vx_facts.specs.declared.fact.Fact.TheVariants.{Between, Equals}
-use Rattle.vx_facts.specs.Facts.{AllHold, least, greatest, range, range_of, without, lies_in, on_side, decided, has_equals}
-use Rattle.vx_facts.specs.Forming.{after_all, accessed_all}
-use Rattle.vx_facts.specs.declared.access.Access.{Access}
-use Rattle.vx_facts.specs.Accesses.{tell}
+use Rattle.vx_claims.specs.declared.claim.Claim.{Claim}
+use Rattle.vx_claims.specs.declared.intervals.Interval.{Interval}
+use Rattle.vx_claims.specs.declared.fact.Fact.{Fact}
+use Rattle.vx_claims.specs.declared.fact.Fact.TheVariants.{Between, Equals}
+use Rattle.vx_claims.specs.Facts.{AllHold, least, greatest, range, range_of, without, lies_in, on_side, decided, has_equals}
+use Rattle.vx_claims.specs.Forming.{after_all, accessed_all}
+use Rattle.vx_claims.specs.declared.access.Access.{Access}
+use Rattle.vx_claims.specs.Accesses.{tell}
 
 -- the check of one block, where so much is given of the parameters of each function: an interval for each place, and nothing of
 -- the places behind the last interval
@@ -48,24 +48,9 @@ has_numbers (Text n) = true
 has_numbers (Decimal x) = true
 has_numbers (Across v u) = true
 
-abbrev pub is_inside : Interval → Interval → Bool
-is_inside i j = int_le j.low i.low && int_le i.high j.high
-
--- the facts give the claim
-abbrev pub gives : List Fact → Fact → Bool
-gives fs (Between v i) = is_inside (range fs v) i
-gives fs (Equals v code a b) = has_equals fs v code a b
-
-abbrev pub give : List Fact → List Fact → Bool
-give fs claims = list_all (gives fs) claims
-
 abbrev pub without_result : Option ℕ → List Fact → List Fact
 without_result None fs = fs
 without_result (Some v) fs = without v fs
-
--- where nothing is claimed
-abbrev pub nothing : Claim
-nothing = record { facts = []; accesses = [] }
 
 abbrev pub are_given : List Fact → List Access → Claim → Bool
 are_given fs xs claim = give fs claim.facts && tell xs claim.accesses
@@ -107,6 +92,10 @@ abbrev pub parameters_of : Option Graph → List ℕ
 parameters_of None = []
 parameters_of (Some g) = g.parameters
 
+-- what a table gives of the parameters of a function: nothing where it has no row
+abbrev pub listed_given : List (List Interval) → ℕ → List Interval
+listed_given table f = slice_index_or table f []
+
 -- the check of a program: what is given of the parameters of each function, and what is claimed in it at the start of each block;
 -- where `main` begins the program it has no arguments, and what holds no number lies in every interval
 
@@ -124,18 +113,3 @@ Leads flow (suc n) r q = (m : Active) × (next (program_of flow) r ≡ On m) × 
 abbrev pub FactsHold : Type 0
 FactsHold = (flow : Flow) (given : ℕ → List Interval) (claims : ℕ → ℕ → Claim) → Checked flow given claims → (input : List ℤ) → ((n : ℤ) → IsIn n input → IsNumber n) →
     (n : ℕ) (r : Active) → Leads flow n (start flow input) r → AllHold r.state.values (claims r.function r.block).facts
-
-abbrev pub side_of : Bool → ℕ → ℕ → ℕ
-side_of true c d = c
-side_of false c d = d
-
-abbrev pub GoesTo : ℕ → ℕ → Hop → Type 0
-GoesTo b c h = (h ≡ Wrong) ⊎ ((s : State) × (h ≡ Arrives b c s))
-
--- where the facts behind the operations of a block decide the test of its split, it is left by that side
-abbrev pub DecidedGoes : Type 0
-DecidedGoes = (flow : Flow) (given : ℕ → List Interval) (claims : ℕ → ℕ → Claim) → Checked flow given claims → (input : List ℤ) → ((n : ℤ) → IsIn n input → IsNumber n) →
-    (n : ℕ) (r : Active) → Leads flow n (start flow input) r →
-    (g : Graph) (block : Block) (p c d : ℕ) (answer : Bool) → slice_get flow.functions r.function ≡ Some g → slice_get g.blocks r.block ≡ Some block →
-    block.exit ≡ Split p c d → decided (after_all (claims r.function r.block) block.ops) p ≡ Some answer →
-    GoesTo r.block (side_of answer c d) (hop (program_of flow) r)

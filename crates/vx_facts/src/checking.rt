@@ -1,28 +1,21 @@
-// The pass over one block: what is known behind its operations, the block narrowed, and whether it passes.
+// Whether a block passes by what is known behind its operations: its exit gives what is claimed at the blocks to which it leads.
 
-ghost use Rattle.std.specs.Prelude.{◌≡◌, true, IfOk, IfSome};
+ghost use Rattle.std.specs.Prelude.{◌≡◌, ◌&&◌, IfOk};
 ghost use Rattle.std.specs.List.{list_all};
-ghost use Rattle.vx_facts.specs.Facts.{on_side};
-ghost use Rattle.vx_facts.specs.Forming.{accessed_from, after_from};
-ghost use Rattle.vx_facts.specs.Shortening.{improved_from};
-ghost use Rattle.vx_facts.specs.Checking.{are_given, are_given_behind, has_number, has_numbers, is_block_checked, is_exit_checked, is_number, without_result};
-ghost use Rattle.vx_facts.specs.Rewriting.{narrowed_block, narrowed_exit};
-ghost use Rattle.vx_facts.specs.Narrowing.{listed_claims, listed_given};
+ghost use Rattle.vx_claims.specs.Facts.{on_side};
+ghost use Rattle.vx_claims.specs.Claims.{listed_claims};
+ghost use Rattle.vx_facts.specs.Checking.{are_given, are_given_behind, has_number, has_numbers, is_exit_checked, is_number, listed_given, without_result};
 
-use crate::access::{Access, accessed, copied_accesses, tell};
-use crate::claim::{Claim, accesses_in, facts_in};
-use crate::copying::copied_operands;
-use crate::fact::Fact;
-use crate::forming::form;
 use crate::given::{are_passed, given_of};
-use crate::intervals::Interval;
-use crate::keeping::learn;
-use crate::known::{decided, give};
-use crate::learning::{on_side, without};
-use crate::shortening::shortened;
 use std::alloc::Global;
 use vx_base::listed::Listed;
 use vx_base::outcome::NoMemory;
+use vx_claims::access::{Access, tell};
+use vx_claims::claim::{Claim, accesses_in, facts_in};
+use vx_claims::fact::Fact;
+use vx_claims::intervals::Interval;
+use vx_claims::known::give;
+use vx_claims::learning::{on_side, without};
 use vx_flow::graph::{Block, BlockId, Exit, Op, Operand, Value};
 
 /// Whether a number has 32 bits.
@@ -83,75 +76,6 @@ fn are_given_behind(facts: &[Fact], table: &[Claim], block: BlockId) -> bool
     ensures { result ≡ are_given_behind facts.now (listed_claims table.now block) }
 {
     give(facts, facts_in(table, block as usize)) && tell(&[], accesses_in(table, block as usize))
-}
-
-/// What stands behind the operations of a block.
-#[derive(Drop)]
-pub struct Passed {
-    pub facts: Listed<Fact>,
-    pub accesses: Listed<Access>,
-    pub ops: Listed<Op>,
-}
-
-/// Goes over operations from what is known before them.
-pub fn pass_ops(
-    alloc: Global,
-    claims: &[Fact],
-    accesses: &[Access],
-    ops: &[Op],
-) -> Result<Passed, NoMemory>
-    ensures facts { IfOk result (λ passed. passed.facts ≡ after_from claims.now accesses.now ops.now) }
-    ensures accesses { IfOk result (λ passed. passed.accesses ≡ accessed_from claims.now accesses.now ops.now) }
-    ensures ops { IfOk result (λ passed. passed.ops ≡ improved_from claims.now accesses.now ops.now) }
-{
-    let mut facts = claims.to_vec(alloc)?;
-    let mut known = copied_accesses(alloc, accesses)?;
-    let mut made = Listed::new(alloc);
-    for op in ops {
-        let form = form(facts.as_slice(), known.as_slice(), op);
-        made.push(shortened(facts.as_slice(), form))?;
-        learn(alloc, &mut facts, known.as_slice(), op, &form)?;
-        known = accessed(alloc, known.as_slice(), &form)?;
-    }
-    Ok(Passed {
-        facts: Listed::from_vec(facts)?,
-        accesses: known,
-        ops: made,
-    })
-}
-
-/// The exit, where a decided split is a jump.
-fn narrowed_exit(alloc: Global, facts: &[Fact], exit: &Exit) -> Result<Exit, NoMemory>
-    ensures { IfOk result (λ made. made ≡ narrowed_exit facts.now exit.now) }
-{
-    match exit {
-        Exit::Goto(next) => Ok(Exit::Goto(*next)),
-        Exit::Split { test, yes, no } => match decided(facts, *test) {
-            Some(true) => Ok(Exit::Goto(*yes)),
-            Some(false) => Ok(Exit::Goto(*no)),
-            None => Ok(Exit::Split {
-                test: *test,
-                yes: *yes,
-                no: *no,
-            }),
-        },
-        Exit::Call {
-            function,
-            arguments,
-            result: held,
-            next,
-        } => {
-            let arguments = copied_operands(alloc, arguments.as_slice())?;
-            Ok(Exit::Call {
-                function: *function,
-                arguments,
-                result: *held,
-                next: *next,
-            })
-        }
-        Exit::Return(operand) => Ok(Exit::Return(*operand)),
-        Exit::Ends(trap) => Ok(Exit::Ends(*trap)),
-    }
 }
 
 /// Whether what holds on a side of a split gives what is claimed at a block.
@@ -224,38 +148,20 @@ fn is_exit_checked(
     }
 }
 
-/// The block at a place narrowed, where it passes.
-pub fn narrowed_block(
+/// Whether a block passes, where so much is known behind its operations: its numbers have 32 bits, and its exit gives what is
+/// claimed at the blocks to which it leads.
+pub fn is_left_checked(
     alloc: Global,
     given: &[Listed<Interval>],
     table: &[Claim],
-    place: usize,
+    facts: &[Fact],
+    known: &[Access],
     block: &Block,
-) -> Result<Option<Block>, NoMemory>
-    ensures narrowed { IfOk result (λ found. IfSome found (λ made. made ≡ narrowed_block (listed_claims table.now) place block.now)) }
-    ensures checked { IfOk result (λ found. IfSome found (λ _. is_block_checked (listed_given given.now) (listed_claims table.now) place block.now ≡ true)) }
+) -> Result<bool, NoMemory>
+    ensures { IfOk result (λ passes. passes ≡ (list_all has_numbers block.now.ops && is_exit_checked (listed_given given.now) (listed_claims table.now) facts.now known.now block.now.exit)) }
 {
-    let passed = pass_ops(
-        alloc,
-        facts_in(table, place),
-        accesses_in(table, place),
-        block.ops.as_slice(),
-    )?;
-    let passes = have_numbers(block.ops.as_slice())
-        && is_exit_checked(
-            alloc,
-            given,
-            table,
-            passed.facts.as_slice(),
-            passed.accesses.as_slice(),
-            &block.exit,
-        )?;
-    if !passes {
-        return Ok(None);
-    }
-    let exit = narrowed_exit(alloc, passed.facts.as_slice(), &block.exit)?;
-    Ok(Some(Block {
-        ops: passed.ops,
-        exit,
-    }))
+    Ok(
+        have_numbers(block.ops.as_slice())
+            && is_exit_checked(alloc, given, table, facts, known, &block.exit)?,
+    )
 }

@@ -2,17 +2,18 @@
 
 ghost use Rattle.std.specs.Prelude.{◌≡◌, IfOk};
 ghost use Rattle.vx_facts.specs.Checking.{are_passed, is_entry_checked, lie_in};
-ghost use Rattle.vx_facts.specs.Narrowing.{listed_claims, listed_given};
+ghost use Rattle.vx_claims.specs.Claims.{listed_claims};
+ghost use Rattle.vx_facts.specs.Checking.{listed_given};
 
-use crate::access::tell;
-use crate::claim::{Claim, accesses_in, facts_in};
-use crate::fact::Fact;
-use crate::intervals::Interval;
-use crate::known::{give, is_inside, range_of};
-use crate::learning::append_within;
 use std::alloc::Global;
 use vx_base::listed::Listed;
 use vx_base::outcome::NoMemory;
+use vx_claims::access::tell;
+use vx_claims::claim::{Claim, accesses_in, facts_in};
+use vx_claims::fact::Fact;
+use vx_claims::intervals::Interval;
+use vx_claims::known::{give, is_inside, range_of};
+use vx_claims::learning::append_within;
 use vx_flow::graph::{Graph, Operand, Value};
 
 /// What a table gives of the parameters of a function, nothing where it has no row.

@@ -17,14 +17,14 @@ use Rattle.vx_flow.specs.Effects.{is_unary}
 use Rattle.vx_flow.specs.Meaning.{graph_run}
 use Rattle.vx_flow.specs.Sound.{is_sound_flow}
 use Rattle.vx_lower.specs.FlowOf.{AreNumbers, GraphOf, FlowOf}
-use Rattle.vx_clean.specs.Cleaning.{with_graphs}
-use Rattle.vx_clean.specs.LaidFlows.{Shaped}
-use Rattle.vx_clean.specs.ShapeTest.{is_shaped}
-use Rattle.vx_clean.specs.Staying.{FlowStays}
-use Rattle.vx_clean.specs.Folding.{no_number, settles, is_free, settles_exit, settles_block, settles_graph, folded, folded_right, folded_op, folded_exit, folded_block, folded_graph, numbers_of, GraphFolds, GraphsFold, FoldedStays}
-use Rattle.vx_clean.proofs.ShapeTests.{shaped_where_tested}
-use Rattle.vx_clean.proofs.FoldRuns.{FoldsAt, folds_at, folded_runs}
-use Rattle.vx_clean.proofs.Laid.{take_more}
+use Rattle.vx_shape.specs.Flows.{with_graphs}
+use Rattle.vx_shape.specs.Shape.{Shaped}
+use Rattle.vx_shape.specs.ShapeTest.{is_shaped}
+use Rattle.vx_shape.specs.Flows.{FlowStays}
+use Rattle.vx_fold.specs.Folding.{no_number, settles, is_free, settles_exit, settles_block, settles_graph, folded, folded_right, folded_op, folded_exit, folded_block, folded_graph, numbers_of, GraphFolds, GraphsFold, FoldedStays}
+use Rattle.vx_shape.proofs.ShapeTests.{shaped_where_tested}
+use Rattle.vx_fold.proofs.FoldRuns.{FoldsAt, folds_at, folded_runs}
+use Rattle.vx_shape.proofs.Lists.{take_more}
 
 folds_length : (gs hs : List Graph) → GraphsFold gs hs → length hs ≡ length gs
 folds_length [] [] s = refl

@@ -15,9 +15,9 @@ use Rattle.vx_flow.specs.Effects.{Content, State, Setting}
 use Rattle.vx_flow.specs.Meaning.{Hop, Wrong, hop_of, Body, Program, Frame, Active, deepest, undefined, at_entry, entered, enters, with_result, returned, waits, after_hop, body_hop, hop, next, body_of, program_of, setting_of, globals_at_start, entered_or, start, graph_run}
 use Rattle.vx_flow.specs.Agree.{SameWorld, Agree}
 use Rattle.vx_flow.proofs.SoundLists.{all_at}
-use Rattle.vx_clean.specs.Cleaning.{with_graphs}
-use Rattle.vx_clean.specs.Folding.{no_number, settles, is_free, settles_exit, settles_block, settles_graph, folded_block, folded_graph, GraphFolds, GraphsFold, FoldedRuns}
-use Rattle.vx_clean.proofs.Folds.{All, Settled, Alikes, wrong, arrives, called, left, stopped, ops_alike, none_by}
+use Rattle.vx_shape.specs.Flows.{with_graphs}
+use Rattle.vx_fold.specs.Folding.{no_number, settles, is_free, settles_exit, settles_block, settles_graph, folded_block, folded_graph, GraphFolds, GraphsFold, FoldedRuns}
+use Rattle.vx_fold.proofs.Folds.{All, Settled, Alikes, wrong, arrives, called, left, stopped, ops_alike, none_by}
 
 abbrev pub FoldsAt : Option Graph → Option Graph → Type 0
 FoldsAt None None = Unit {0}

@@ -17,7 +17,7 @@ use Rattle.vx_flow.specs.Effects.{Content, State, Setting, held, is_unary, both,
 use Rattle.vx_flow.specs.Meaning.{Hop, Arrives, Calls, Leaves, Stops, Wrong, with_front, known, by_test, calls, leaves, leave, and_then, block_hop}
 use Rattle.vx_flow.specs.Agree.{SameWorld, Agree}
 use Rattle.vx_flow.proofs.EffectsAlike.{Refined, Done, effect_alike}
-use Rattle.vx_clean.specs.Folding.{no_number, number_in, is_content, gives, settles, is_free, settles_exit, operand_by, folded, folded_right, select_by, folded_op, split_by, folded_exit}
+use Rattle.vx_fold.specs.Folding.{no_number, number_in, is_content, gives, settles, is_free, settles_exit, operand_by, folded, folded_right, select_by, folded_op, split_by, folded_exit}
 
 abbrev pub All : ℕ → Type 0
 All v = Unit {0}

@@ -19,7 +19,7 @@ use Rattle.vx_flow.specs.Effects.{Content, is_unary, is_one, computed}
 use Rattle.vx_flow.specs.Meaning.{graph_run}
 use Rattle.vx_flow.specs.Sound.{is_sound_flow}
 use Rattle.vx_lower.specs.FlowOf.{GraphOf, FlowOf}
-use Rattle.vx_clean.specs.Cleaning.{with_graphs}
+use Rattle.vx_shape.specs.Flows.{with_graphs}
 
 -- each value with the one number that it holds, None where it may hold others
 

@@ -6,19 +6,19 @@ ghost use Rattle.std.specs.Prelude.{◌≡◌, true, if◌then◌else◌, IfOk, 
 ghost use Rattle.vx_flow.specs.declared.graph.Op.TheVariants.{Compute, Load, Select, Store};
 ghost use Rattle.vx_flow.specs.Effects.{is_one, is_unary};
 ghost use Rattle.vx_flow.specs.Sound.{is_sound_flow};
-ghost use Rattle.vx_clean.specs.Folding.{folded, folded_block, folded_exit, folded_graph, folded_op, folded_right, GraphFolds, GraphsFold, numbers_of, select_by, settles_graph, split_by};
-ghost use Rattle.vx_clean.specs.Staying.{FlowStays};
+ghost use Rattle.vx_fold.specs.Folding.{folded, folded_block, folded_exit, folded_graph, folded_op, folded_right, GraphFolds, GraphsFold, numbers_of, select_by, settles_graph, split_by};
+ghost use Rattle.vx_shape.specs.Flows.{FlowStays};
 
-use crate::copying::{copied_graph, with_blocks, with_graphs};
 use crate::numbering::find_numbers;
-use crate::origins::origins;
 use crate::settling::{number_of, settles_graph};
-use crate::shape_test::is_shaped;
 use std::alloc::Global;
 use vx_base::arithmetic::Code;
 use vx_base::listed::Listed;
 use vx_base::outcome::NoMemory;
 use vx_flow::graph::{ArrayId, Block, BlockId, Exit, Flow, Graph, Op, Operand, Value};
+use vx_shape::copying::{copied_graph, with_blocks, with_graphs};
+use vx_shape::origins::origins;
+use vx_shape::shape_test::is_shaped;
 use vx_sound::is_sound;
 
 /// The flow with numbers in place of values that hold them, where it is sound.

@@ -11,7 +11,7 @@ const MOST_PASSES: u32 = 16;
 
 /// For each value of a graph the one number that it holds, where that was found. The time is that of a few passes over the
 /// blocks.
-pub fn find_numbers(alloc: Global, graph: &Graph) -> Result<Vec<Option<i32>>, NoMemory> {
+pub(crate) fn find_numbers(alloc: Global, graph: &Graph) -> Result<Vec<Option<i32>>, NoMemory> {
     let mut writers = vec![in alloc; 0u32; graph.banks.len()]?;
     count_all(&mut writers, graph);
     let mut numbers = vec![in alloc; None; graph.banks.len()]?;

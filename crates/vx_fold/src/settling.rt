@@ -4,7 +4,7 @@ ghost use Rattle.std.specs.Prelude.{◌≡◌, Some};
 ghost use Rattle.std.specs.List.{list_all};
 ghost use Rattle.vx_base.specs.Arithmetic.{value_of};
 ghost use Rattle.vx_flow.specs.Effects.{both, computed};
-ghost use Rattle.vx_clean.specs.Folding.{gives, is_free, no_number, number_in, numbers_of, settles, settles_block, settles_exit, settles_graph};
+ghost use Rattle.vx_fold.specs.Folding.{gives, is_free, no_number, number_in, numbers_of, settles, settles_block, settles_exit, settles_graph};
 
 use vx_base::arithmetic::{Code, value};
 use vx_flow::graph::{Block, Exit, Graph, Op, Operand, Value};

@@ -13,12 +13,12 @@ use Rattle.vx_flow.specs.Live.{reads_of_exit}
 use Rattle.vx_flow.specs.Meaning.{graph_run}
 use Rattle.vx_flow.specs.Sound.{is_sound_flow}
 use Rattle.vx_lower.specs.FlowOf.{AreNumbers, GraphOf, FlowOf}
-use Rattle.vx_clean.specs.Cleaning.{with_graphs}
-use Rattle.vx_clean.specs.LaidFlows.{Shaped}
-use Rattle.vx_clean.specs.ShapeTest.{is_shaped}
-use Rattle.vx_clean.specs.Thinning.{are_read}
-use Rattle.vx_clean.proofs.ShapeTests.{shaped_where_tested}
-use Rattle.vx_clean.proofs.Laid.{take_more}
+use Rattle.vx_shape.specs.Flows.{with_graphs}
+use Rattle.vx_shape.specs.Shape.{Shaped}
+use Rattle.vx_shape.specs.ShapeTest.{is_shaped}
+use Rattle.vx_thin.specs.Thinning.{are_read}
+use Rattle.vx_shape.proofs.ShapeTests.{shaped_where_tested}
+use Rattle.vx_shape.proofs.Lists.{take_more}
 use Rattle.vx_hoist.specs.Growing.{block_reads, BlockGrows, BlocksGrow, GraphGrows, GraphsGrow, FlowStays, GrownStays}
 use Rattle.vx_hoist.proofs.GrowRuns.{GrowsGraph, grows_at, grown_runs}
 

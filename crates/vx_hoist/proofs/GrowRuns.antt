@@ -11,9 +11,9 @@ use Rattle.vx_flow.specs.declared.graph.Flow.{Flow}
 use Rattle.vx_flow.specs.Effects.{Content, State, Setting}
 use Rattle.vx_flow.specs.Meaning.{Hop, Wrong, hop_of, Body, Program, Frame, Active, deepest, undefined, entered, enters, with_result, returned, waits, after_hop, body_hop, hop, next, body_of, program_of, setting_of, globals_at_start, entered_or, start, graph_run}
 use Rattle.vx_flow.specs.Agree.{SameWorld, Agree}
-use Rattle.vx_clean.specs.Cleaning.{with_graphs}
+use Rattle.vx_shape.specs.Flows.{with_graphs}
 use Rattle.vx_hoist.specs.Growing.{BlocksGrow, GraphGrows, GraphsGrow, GrownRuns}
-use Rattle.vx_clean.proofs.Thins.{Alikes, wrong, arrives, called, left, stopped}
+use Rattle.vx_thin.proofs.Thins.{Alikes, wrong, arrives, called, left, stopped}
 use Rattle.vx_hoist.proofs.Grows.{GrowsAt, at_alike}
 
 abbrev pub GrowsGraph : Option Graph → Option Graph → Type 0

@@ -14,8 +14,8 @@ use Rattle.vx_flow.specs.Live.{reads_of_exit}
 use Rattle.vx_flow.specs.Meaning.{graph_run}
 use Rattle.vx_flow.specs.Sound.{is_sound_flow}
 use Rattle.vx_lower.specs.FlowOf.{GraphOf, FlowOf}
-use Rattle.vx_clean.specs.Cleaning.{with_graphs}
-use Rattle.vx_clean.specs.Thinning.{result_alone, is_unread, are_read}
+use Rattle.vx_shape.specs.Flows.{with_graphs}
+use Rattle.vx_thin.specs.Thinning.{result_alone, is_unread, are_read}
 
 -- the operation has a meaning wherever it is executed
 abbrev pub is_total : Op → Bool

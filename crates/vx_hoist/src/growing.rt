@@ -8,19 +8,19 @@ ghost use Rattle.vx_ast.specs.Tree.{Program};
 ghost use Rattle.vx_flow.specs.Effects.{reads};
 ghost use Rattle.vx_flow.specs.Sound.{is_sound_flow};
 ghost use Rattle.vx_lower.specs.FlowOf.{FlowOf};
-ghost use Rattle.vx_clean.specs.Thinning.{are_read, unread_of};
+ghost use Rattle.vx_thin.specs.Thinning.{are_read, unread_of};
 ghost use Rattle.vx_hoist.specs.Growing.{block_reads, is_silent, is_total, BlockGrows, BlocksGrow, FlowStays, GraphGrows, GraphsGrow};
 
 use crate::search::{Addition, Found, find_all, has_additions, ops_at};
 use std::alloc::Global;
 use vx_base::listed::Listed;
 use vx_base::outcome::NoMemory;
-use vx_clean::copying::{copied_exit, copied_graph, with_blocks, with_graphs};
-use vx_clean::origins::origins;
-use vx_clean::reading::{are_reads_needed, exit_reads_needed, is_dropped};
-use vx_clean::shape_test::is_shaped;
 use vx_flow::graph::{Block, Flow, Graph, Op};
+use vx_shape::copying::{copied_exit, copied_graph, with_blocks, with_graphs};
+use vx_shape::origins::origins;
+use vx_shape::shape_test::is_shaped;
 use vx_sound::is_sound;
+use vx_thin::reading::{are_reads_needed, exit_reads_needed, is_dropped};
 
 /// The graphs of a program, with operations put before loops where there are such.
 #[derive(Drop)]

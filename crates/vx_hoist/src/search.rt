@@ -5,8 +5,8 @@ use std::alloc::Global;
 use vx_base::arithmetic::Code;
 use vx_base::listed::Listed;
 use vx_base::outcome::NoMemory;
-use vx_facts::loops::{Loops, loop_at, loops_of, spine_of};
 use vx_flow::graph::{Bank, Block, BlockId, Exit, Graph, Op, Operand, Value};
+use vx_loops::{Loops, loop_at, loops_of, spine_of};
 
 /// How many operations are put before a loop at most.
 const MOST_ADDED: usize = 8;
@@ -36,7 +36,7 @@ struct Copied {
 }
 
 /// What may be put in each of the graphs of a program.
-pub fn find_all(alloc: Global, graphs: &[Graph]) -> Result<Vec<Found>, NoMemory> {
+pub(crate) fn find_all(alloc: Global, graphs: &[Graph]) -> Result<Vec<Found>, NoMemory> {
     let mut all = Vec::new(alloc);
     for graph in graphs {
         all.push(find_additions(alloc, graph)?)?;
@@ -45,7 +45,7 @@ pub fn find_all(alloc: Global, graphs: &[Graph]) -> Result<Vec<Found>, NoMemory>
 }
 
 /// Whether anything may be put.
-pub fn has_additions(all: &[Found]) -> bool {
+pub(crate) fn has_additions(all: &[Found]) -> bool {
     all.iter().any(|found| !found.additions.is_empty())
 }
 
@@ -72,7 +72,7 @@ fn find_additions(alloc: Global, graph: &Graph) -> Result<Found, NoMemory> {
 }
 
 /// The operations that are put at the end of a block.
-pub fn ops_at(alloc: Global, additions: &[Addition], block: usize) -> Result<Listed<Op>, NoMemory> {
+pub(crate) fn ops_at(alloc: Global, additions: &[Addition], block: usize) -> Result<Listed<Op>, NoMemory> {
     let mut ops = Listed::new(alloc);
     for addition in additions {
         if addition.block == block {

@@ -1,8 +1,6 @@
 // The loops of a graph: for a header the blocks of its loop, what is written in it, and the blocks that each turn passes. Nothing
 // is owed here.
 
-use crate::access::Access;
-use crate::fact::Fact;
 use crate::ordering::order_of;
 use std::alloc::Global;
 use vx_base::outcome::NoMemory;
@@ -47,46 +45,25 @@ impl Loops {
         }
     }
 
-    /// Whether each turn leaves what a fact says.
-    pub fn keeps_fact(&self, fact: Fact) -> bool {
-        match fact {
-            Fact::Between { value, .. } => !self.is_written(value),
-            Fact::Equals {
-                value,
-                left,
-                right,
-                ..
-            } => !self.is_written(value) && self.keeps(left) && self.keeps(right),
-        }
-    }
-
-    /// Whether each turn leaves what is known of an array.
-    pub fn keeps_access(&self, access: Access) -> bool {
-        match access {
-            Access::Placed { value, index, .. } => {
-                !self.is_written(value) && self.keeps(index) && self.calls != self.number
-            }
-            Access::Stored { array, place, from } => {
-                self.keeps(place)
-                    && self.keeps(from)
-                    && !self.is_stored(array)
-                    && self.calls != self.number
-            }
-        }
-    }
-
-    fn keeps(&self, operand: Operand) -> bool {
+    /// Whether each turn leaves what an operand holds.
+    pub fn keeps(&self, operand: Operand) -> bool {
         match operand {
             Operand::Held(value) => !self.is_written(value),
             _ => true,
         }
     }
 
-    fn is_stored(&self, array: ArrayId) -> bool {
+    /// Whether a store of the loop that is looked at goes to an array.
+    pub fn is_stored(&self, array: ArrayId) -> bool {
         match self.stores.get(array as usize) {
             Some(number) => *number == self.number,
             None => true,
         }
+    }
+
+    /// Whether a block of the loop that is looked at ends by a call.
+    pub fn has_call(&self) -> bool {
+        self.calls == self.number
     }
 
     /// Whether one edge leads to a block.

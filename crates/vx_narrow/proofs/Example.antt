@@ -11,14 +11,15 @@ use Rattle.vx_flow.specs.declared.graph.Op.{Op}
 use Rattle.vx_flow.specs.declared.graph.Op.TheVariants.{Compute, Place, Load, Store}
 use Rattle.vx_flow.specs.declared.graph.Exit.TheVariants.{Goto, Split, Call}
 use Rattle.vx_flow.specs.declared.graph.Block.{Block}
-use Rattle.vx_facts.specs.declared.intervals.Interval.{Interval}
-use Rattle.vx_facts.specs.declared.fact.Fact.{Fact}
-use Rattle.vx_facts.specs.declared.fact.Fact.TheVariants.{Between, Equals}
-use Rattle.vx_facts.specs.Facts.{decided}
-use Rattle.vx_facts.specs.Forming.{after_all}
-use Rattle.vx_facts.specs.declared.claim.Claim.{Claim}
-use Rattle.vx_facts.specs.Checking.{nothing, lie_in, is_entry_checked, is_block_checked}
-use Rattle.vx_facts.specs.Shortening.{improved_all, shift_of, shift_below}
+use Rattle.vx_claims.specs.declared.intervals.Interval.{Interval}
+use Rattle.vx_claims.specs.declared.fact.Fact.{Fact}
+use Rattle.vx_claims.specs.declared.fact.Fact.TheVariants.{Between, Equals}
+use Rattle.vx_claims.specs.Facts.{decided}
+use Rattle.vx_claims.specs.Forming.{after_all}
+use Rattle.vx_claims.specs.declared.claim.Claim.{Claim}
+use Rattle.vx_claims.specs.Claims.{nothing}
+use Rattle.vx_facts.specs.Checking.{lie_in, is_entry_checked, is_block_checked}
+use Rattle.vx_narrow.specs.Shortening.{improved_all, shift_of, shift_below}
 
 abbrev begins : Block
 begins = record { ops = Compute Mov 0 (Number (pos 0)) (Number (pos 0)) ∷ []; exit = Goto 1 }

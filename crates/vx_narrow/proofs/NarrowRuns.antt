@@ -12,18 +12,19 @@ use Rattle.vx_flow.specs.declared.graph.Graph.{Graph}
 use Rattle.vx_flow.specs.declared.graph.Flow.{Flow}
 use Rattle.vx_flow.specs.Effects.{State, Setting}
 use Rattle.vx_flow.specs.Meaning.{Hop, Arrives, Calls, Leaves, Stops, Wrong, hop_of, block_hop, Body, Program, Frame, Active, deepest, enters, waits, after_hop, body_hop, hop, next, body_of, program_of, setting_of, globals_at_start, entered_or, start}
-use Rattle.vx_facts.specs.declared.claim.Claim.{Claim}
-use Rattle.vx_facts.specs.declared.intervals.Interval.{Interval}
-use Rattle.vx_facts.specs.declared.fact.Fact.{Fact}
-use Rattle.vx_facts.specs.Facts.{decided}
-use Rattle.vx_facts.specs.Forming.{after_all, accessed_all}
-use Rattle.vx_facts.specs.Checking.{has_numbers, is_exit_checked, Checked, side_of, GoesTo, DecidedGoes}
-use Rattle.vx_facts.specs.Rewriting.{split_by, narrowed_exit, narrowed_block, narrowed_from, narrowed_graph, narrowed, NarrowedRuns}
-use Rattle.vx_facts.specs.Shortening.{improved_all}
+use Rattle.vx_claims.specs.declared.claim.Claim.{Claim}
+use Rattle.vx_claims.specs.declared.intervals.Interval.{Interval}
+use Rattle.vx_claims.specs.declared.fact.Fact.{Fact}
+use Rattle.vx_claims.specs.Facts.{decided}
+use Rattle.vx_claims.specs.Forming.{after_all, accessed_all}
+use Rattle.vx_facts.specs.Checking.{has_numbers, is_exit_checked, Checked}
+use Rattle.vx_narrow.specs.Rewriting.{side_of, GoesTo, DecidedGoes}
+use Rattle.vx_narrow.specs.Rewriting.{split_by, narrowed_exit, narrowed_block, narrowed_from, narrowed_graph, narrowed, NarrowedRuns}
+use Rattle.vx_narrow.specs.Shortening.{improved_all}
 use Rattle.vx_facts.proofs.Ranges.{and_one}
 use Rattle.vx_facts.proofs.Sizes.{sized_differ}
 use Rattle.vx_facts.proofs.RunFacts.{ActiveGood, next_good, start_good, reached_good}
-use Rattle.vx_facts.proofs.Narrows.{Refines, block_refines, get_block, get_function, goes}
+use Rattle.vx_narrow.proofs.Narrows.{Refines, block_refines, get_block, get_function, goes}
 
 module _ (flow : Flow) (given : ℕ → List Interval) (claims : ℕ → ℕ → Claim) (checked : Checked flow given claims) where
   abbrev old : Program

@@ -10,20 +10,21 @@ use Rattle.vx_flow.specs.declared.graph.Block.{Block}
 use Rattle.vx_flow.specs.declared.graph.Graph.{Graph}
 use Rattle.vx_flow.specs.Effects.{Content, State, Setting, effect}
 use Rattle.vx_flow.specs.Meaning.{Hop, Arrives, Wrong, by_test, leave, and_then, block_hop, hop_of}
-use Rattle.vx_facts.specs.declared.claim.Claim.{Claim}
-use Rattle.vx_facts.specs.declared.fact.Fact.{Fact}
-use Rattle.vx_facts.specs.Facts.{decided}
-use Rattle.vx_facts.specs.declared.access.Access.{Access}
-use Rattle.vx_facts.specs.Accesses.{SpotsDiffer, accessed}
-use Rattle.vx_facts.specs.Forming.{form, after_known, after_from}
-use Rattle.vx_facts.specs.Checking.{has_numbers, side_of, GoesTo}
-use Rattle.vx_facts.specs.Rewriting.{split_by, narrowed_exit, narrowed_block, narrowed_from, narrowed_graph, narrowed_functions}
-use Rattle.vx_facts.specs.Shortening.{improved, improved_from}
+use Rattle.vx_claims.specs.declared.claim.Claim.{Claim}
+use Rattle.vx_claims.specs.declared.fact.Fact.{Fact}
+use Rattle.vx_claims.specs.Facts.{decided}
+use Rattle.vx_claims.specs.declared.access.Access.{Access}
+use Rattle.vx_claims.specs.Accesses.{SpotsDiffer, accessed}
+use Rattle.vx_claims.specs.Forming.{form, after_known, after_from}
+use Rattle.vx_facts.specs.Checking.{has_numbers}
+use Rattle.vx_narrow.specs.Rewriting.{side_of, GoesTo}
+use Rattle.vx_narrow.specs.Rewriting.{split_by, narrowed_exit, narrowed_block, narrowed_from, narrowed_graph, narrowed_functions}
+use Rattle.vx_narrow.specs.Shortening.{improved, improved_from}
 use Rattle.vx_facts.proofs.Ranges.{and_one, and_two}
 use Rattle.vx_facts.proofs.Tests.{decided_holds}
 use Rattle.vx_facts.proofs.Operations.{Good}
 use Rattle.vx_facts.proofs.Behind.{Follows, Known, KeepsKnown, Claimed, form_follows, form_known}
-use Rattle.vx_facts.proofs.Products.{shortened_same}
+use Rattle.vx_narrow.proofs.Products.{shortened_same}
 
 -- the first has no meaning, or the second is the same
 abbrev pub Refines : Hop → Hop → Type 0

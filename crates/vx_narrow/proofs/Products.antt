@@ -16,12 +16,12 @@ use Rattle.vx_flow.specs.declared.graph.Operand.TheVariants.{Held, Number, Stack
 use Rattle.vx_flow.specs.declared.graph.Op.{Op}
 use Rattle.vx_flow.specs.declared.graph.Op.TheVariants.{Compute}
 use Rattle.vx_flow.specs.Effects.{Content, State, Setting, held, both, computed, with_value, effect}
-use Rattle.vx_facts.specs.declared.intervals.Interval.{Interval}
-use Rattle.vx_facts.specs.declared.fact.Fact.{Fact}
-use Rattle.vx_facts.specs.declared.fact.Fact.TheVariants.{Between, Equals}
-use Rattle.vx_facts.specs.declared.shortening.Factors.{Factors}
-use Rattle.vx_facts.specs.Facts.{Within, content, Holds, AllHold, range_of, is_half, has_equals}
-use Rattle.vx_facts.specs.Shortening.{shift_if, shift_below, shift_of, shift_in, shifted_or, low_or, names_number, product_or, is_low, factors_if, factors_of, product_if, sum_as, short_sum, shortened}
+use Rattle.vx_claims.specs.declared.intervals.Interval.{Interval}
+use Rattle.vx_claims.specs.declared.fact.Fact.{Fact}
+use Rattle.vx_claims.specs.declared.fact.Fact.TheVariants.{Between, Equals}
+use Rattle.vx_narrow.specs.declared.shortening.Factors.{Factors}
+use Rattle.vx_claims.specs.Facts.{Within, content, Holds, AllHold, range_of, is_half, has_equals}
+use Rattle.vx_narrow.specs.Shortening.{shift_if, shift_below, shift_of, shift_in, shifted_or, low_or, names_number, product_or, is_low, factors_if, factors_of, product_if, sum_as, short_sum, shortened}
 use Rattle.vx_facts.proofs.Ranges.{and_one, and_two, le_holds, range_of_holds, small_product, shifted_whole}
 use Rattle.vx_facts.proofs.Equal.{has_holds}
 use Rattle.vx_facts.proofs.Operations.{Good, held_is}

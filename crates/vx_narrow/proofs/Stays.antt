@@ -14,17 +14,17 @@ use Rattle.vx_flow.specs.Effects.{IsIn}
 use Rattle.vx_flow.specs.Meaning.{graph_run}
 use Rattle.vx_flow.specs.Sound.{targets_of}
 use Rattle.vx_lower.specs.FlowOf.{AreNumbers, EndsBy, IsEdge, GraphOf}
-use Rattle.vx_facts.specs.declared.claim.Claim.{Claim}
-use Rattle.vx_facts.specs.declared.fact.Fact.{Fact}
-use Rattle.vx_facts.specs.Facts.{decided}
-use Rattle.vx_facts.specs.declared.access.Access.{Access}
-use Rattle.vx_facts.specs.Accesses.{accessed}
-use Rattle.vx_facts.specs.Forming.{form, after_known, after_all}
-use Rattle.vx_facts.specs.Rewriting.{split_by, narrowed_exit, narrowed_block, narrowed_from, narrowed_graph, narrowed_functions, narrowed}
-use Rattle.vx_facts.specs.Shortening.{improved_from, improved_all}
-use Rattle.vx_facts.proofs.Narrows.{get_block, get_function}
-use Rattle.vx_facts.proofs.NarrowRuns.{narrowed_runs}
-use Rattle.vx_facts.specs.Staying.{StaysFlow}
+use Rattle.vx_claims.specs.declared.claim.Claim.{Claim}
+use Rattle.vx_claims.specs.declared.fact.Fact.{Fact}
+use Rattle.vx_claims.specs.Facts.{decided}
+use Rattle.vx_claims.specs.declared.access.Access.{Access}
+use Rattle.vx_claims.specs.Accesses.{accessed}
+use Rattle.vx_claims.specs.Forming.{form, after_known, after_all}
+use Rattle.vx_narrow.specs.Rewriting.{split_by, narrowed_exit, narrowed_block, narrowed_from, narrowed_graph, narrowed_functions, narrowed}
+use Rattle.vx_narrow.specs.Shortening.{improved_from, improved_all}
+use Rattle.vx_narrow.proofs.Narrows.{get_block, get_function}
+use Rattle.vx_narrow.proofs.NarrowRuns.{narrowed_runs}
+use Rattle.vx_narrow.specs.Staying.{StaysFlow}
 
 -- ---- lengths
 

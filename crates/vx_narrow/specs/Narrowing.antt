@@ -9,18 +9,11 @@ use Rattle.vx_flow.specs.declared.graph.Global.{Global}
 use Rattle.vx_flow.specs.declared.graph.Flow.{Flow}
 use Rattle.vx_flow.specs.Sound.{is_sound_flow}
 use Rattle.vx_lower.specs.FlowOf.{FlowOf}
-use Rattle.vx_facts.specs.declared.claim.Claim.{Claim}
-use Rattle.vx_facts.specs.declared.intervals.Interval.{Interval}
-use Rattle.vx_facts.specs.Checking.{is_number, nothing, is_entry_checked, is_block_checked}
-use Rattle.vx_facts.specs.Rewriting.{narrowed_graph}
-
--- what a table claims at the start of a block: nothing where it has no row
-abbrev pub listed_claims : List Claim → ℕ → Claim
-listed_claims table b = slice_index_or table b nothing
-
--- what a table gives of the parameters of a function: nothing where it has no row
-abbrev pub listed_given : List (List Interval) → ℕ → List Interval
-listed_given table f = slice_index_or table f []
+use Rattle.vx_claims.specs.declared.claim.Claim.{Claim}
+use Rattle.vx_claims.specs.declared.intervals.Interval.{Interval}
+use Rattle.vx_facts.specs.Checking.{is_number, is_entry_checked, is_block_checked}
+use Rattle.vx_claims.specs.Claims.{nothing}
+use Rattle.vx_narrow.specs.Rewriting.{narrowed_graph}
 
 -- whether the blocks from block b on pass
 abbrev pub are_blocks_checked : (given : ℕ → List Interval) → (ℕ → Claim) → ℕ → List Block → Bool
@@ -44,13 +37,6 @@ NarrowedWith given f (g ∷ gs) (h ∷ hs) = GraphNarrowed given f g h × Narrow
 -- the graphs of a program, with something given of the parameters of each function
 abbrev pub GraphsNarrowed : List Graph → List Graph → Type 0
 GraphsNarrowed gs hs = (given : ℕ → List Interval) × NarrowedWith given 0 gs hs
-
-abbrev pub with_graphs : Flow → List Graph → Flow
-with_graphs flow graphs = record flow { functions = graphs }
-
--- a flow of a program stays one
-abbrev pub FlowStays : Flow → Flow → Type 0
-FlowStays old new = (p : Program) → FlowOf p old → FlowOf p new
 
 abbrev pub are_numbers : List Global → Bool
 are_numbers globals = list_all (λ (g : Global). is_number g.first) globals

@@ -10,13 +10,29 @@ use Rattle.vx_flow.specs.declared.graph.Graph.{Graph}
 use Rattle.vx_flow.specs.declared.graph.Flow.{Flow}
 use Rattle.vx_flow.specs.Effects.{IsIn}
 use Rattle.vx_flow.specs.Meaning.{graph_run}
-use Rattle.vx_facts.specs.declared.claim.Claim.{Claim}
-use Rattle.vx_facts.specs.declared.intervals.Interval.{Interval}
-use Rattle.vx_facts.specs.declared.fact.Fact.{Fact}
-use Rattle.vx_facts.specs.Facts.{decided}
-use Rattle.vx_facts.specs.Forming.{after_all}
-use Rattle.vx_facts.specs.Shortening.{improved_all}
-use Rattle.vx_facts.specs.Checking.{Checked, side_of}
+use Rattle.vx_claims.specs.declared.claim.Claim.{Claim}
+use Rattle.vx_claims.specs.declared.intervals.Interval.{Interval}
+use Rattle.vx_claims.specs.declared.fact.Fact.{Fact}
+use Rattle.vx_claims.specs.Facts.{decided}
+use Rattle.vx_claims.specs.Forming.{after_all}
+use Rattle.vx_narrow.specs.Shortening.{improved_all}
+use Rattle.vx_facts.specs.Checking.{Checked}
+use Rattle.vx_narrow.specs.Rewriting.{side_of}
+
+abbrev pub side_of : Bool → ℕ → ℕ → ℕ
+side_of true c d = c
+side_of false c d = d
+
+abbrev pub GoesTo : ℕ → ℕ → Hop → Type 0
+GoesTo b c h = (h ≡ Wrong) ⊎ ((s : State) × (h ≡ Arrives b c s))
+
+-- where the facts behind the operations of a block decide the test of its split, it is left by that side
+abbrev pub DecidedGoes : Type 0
+DecidedGoes = (flow : Flow) (given : ℕ → List Interval) (claims : ℕ → ℕ → Claim) → Checked flow given claims → (input : List ℤ) → ((n : ℤ) → IsIn n input → IsNumber n) →
+    (n : ℕ) (r : Active) → Leads flow n (start flow input) r →
+    (g : Graph) (block : Block) (p c d : ℕ) (answer : Bool) → slice_get flow.functions r.function ≡ Some g → slice_get g.blocks r.block ≡ Some block →
+    block.exit ≡ Split p c d → decided (after_all (claims r.function r.block) block.ops) p ≡ Some answer →
+    GoesTo r.block (side_of answer c d) (hop (program_of flow) r)
 
 abbrev pub split_by : Option Bool → ℕ → ℕ → ℕ → Exit
 split_by None p c d = Split p c d

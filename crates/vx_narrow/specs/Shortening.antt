@@ -9,14 +9,14 @@ use Rattle.vx_flow.specs.declared.graph.Operand.{Operand}
 use Rattle.vx_flow.specs.declared.graph.Operand.TheVariants.{Held, Number, Stack}
 use Rattle.vx_flow.specs.declared.graph.Op.{Op}
 use Rattle.vx_flow.specs.declared.graph.Op.TheVariants.{Compute}
-use Rattle.vx_facts.specs.declared.fact.Fact.{Fact}
-use Rattle.vx_facts.specs.declared.fact.Fact.TheVariants.{Between, Equals}
-use Rattle.vx_facts.specs.declared.shortening.Factors.{Factors}
-use Rattle.vx_facts.specs.Facts.{range_of, is_half, has_equals}
-use Rattle.vx_facts.specs.Forming.{form, after_known}
-use Rattle.vx_facts.specs.declared.access.Access.{Access}
-use Rattle.vx_facts.specs.declared.claim.Claim.{Claim}
-use Rattle.vx_facts.specs.Accesses.{accessed}
+use Rattle.vx_claims.specs.declared.fact.Fact.{Fact}
+use Rattle.vx_claims.specs.declared.fact.Fact.TheVariants.{Between, Equals}
+use Rattle.vx_narrow.specs.declared.shortening.Factors.{Factors}
+use Rattle.vx_claims.specs.Facts.{range_of, is_half, has_equals}
+use Rattle.vx_claims.specs.Forming.{form, after_known}
+use Rattle.vx_claims.specs.declared.access.Access.{Access}
+use Rattle.vx_claims.specs.declared.claim.Claim.{Claim}
+use Rattle.vx_claims.specs.Accesses.{accessed}
 
 abbrev pub shift_if : Bool → ℕ → Option ℕ → Option ℕ
 shift_if true k otherwise = Some k

@@ -4,10 +4,10 @@ use Rattle.vx_ast.specs.Tree.{Program}
 use Rattle.vx_flow.specs.declared.graph.Flow.{Flow}
 use Rattle.vx_flow.specs.Sound.{is_sound_flow}
 use Rattle.vx_lower.specs.FlowOf.{FlowOf}
-use Rattle.vx_facts.specs.declared.claim.Claim.{Claim}
-use Rattle.vx_facts.specs.declared.intervals.Interval.{Interval}
+use Rattle.vx_claims.specs.declared.claim.Claim.{Claim}
+use Rattle.vx_claims.specs.declared.intervals.Interval.{Interval}
 use Rattle.vx_facts.specs.Checking.{Checked}
-use Rattle.vx_facts.specs.Rewriting.{narrowed}
+use Rattle.vx_narrow.specs.Rewriting.{narrowed}
 
 -- where what comes out is sound, which is tested
 abbrev pub StaysFlow : Type 0

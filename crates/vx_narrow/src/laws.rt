@@ -1,14 +1,8 @@
-// Laws of checked facts, each the clause of a function that does nothing.
+// Laws of graphs that go by checked facts, each the clause of a function that does nothing.
 
-ghost use Rattle.vx_facts.specs.Checking.{DecidedGoes, FactsHold};
-ghost use Rattle.vx_facts.specs.Narrowing.{NarrowedStays};
-ghost use Rattle.vx_facts.specs.Rewriting.{NarrowedRuns};
-ghost use Rattle.vx_facts.specs.Staying.{StaysFlow};
-
-/// Checked facts hold on every run: wherever a block is entered, the values satisfy what is claimed at its start.
-pub fn checked_facts_hold()
-    ensures { FactsHold }
-{}
+ghost use Rattle.vx_narrow.specs.Narrowing.{NarrowedStays};
+ghost use Rattle.vx_narrow.specs.Rewriting.{DecidedGoes, NarrowedRuns};
+ghost use Rattle.vx_narrow.specs.Staying.{StaysFlow};
 
 /// Where the facts at a split decide its test, the run goes that way or has no meaning.
 pub fn decided_splits_go_one_way()

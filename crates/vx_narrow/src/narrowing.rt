@@ -7,20 +7,23 @@ ghost use Rattle.std.specs.Prelude.{◌≡◌, true, IfOk, IfSome};
 ghost use Rattle.vx_ast.specs.Tree.{Program};
 ghost use Rattle.vx_flow.specs.Sound.{is_sound_flow};
 ghost use Rattle.vx_lower.specs.FlowOf.{FlowOf};
-ghost use Rattle.vx_facts.specs.Rewriting.{narrowed_from};
-ghost use Rattle.vx_facts.specs.Narrowing.{are_blocks_checked, are_numbers, listed_claims, listed_given, FlowStays, GraphNarrowed, GraphsNarrowed, NarrowedWith};
+ghost use Rattle.vx_narrow.specs.Rewriting.{narrowed_from};
+ghost use Rattle.vx_narrow.specs.Narrowing.{are_blocks_checked, are_numbers, GraphNarrowed, GraphsNarrowed, NarrowedWith};
+ghost use Rattle.vx_claims.specs.Claims.{listed_claims};
+ghost use Rattle.vx_facts.specs.Checking.{listed_given};
+ghost use Rattle.vx_shape.specs.Flows.{FlowStays};
 
-use crate::calling::{Kept, find_given};
-use crate::claim::Claim;
-use crate::copying::{with_blocks, with_graphs};
-use crate::given::{given_of, is_entry_checked};
-use crate::intervals::Interval;
-use crate::passing::{is_number, narrowed_block};
-use crate::search::find_claims;
+use crate::passing::narrowed_block;
 use std::alloc::Global;
 use vx_base::listed::Listed;
 use vx_base::outcome::NoMemory;
+use vx_claims::claim::Claim;
+use vx_claims::intervals::Interval;
+use vx_facts::checking::is_number;
+use vx_facts::given::{given_of, is_entry_checked};
 use vx_flow::graph::{Block, Flow, Global as Variable, Graph};
+use vx_search::{Kept, find_claims, find_given};
+use vx_shape::copying::{with_blocks, with_graphs};
 use vx_sound::is_sound;
 
 /// How many sweeps give back what is taken too much.

@@ -2,12 +2,12 @@
 // 2 ^ 16, and one shift where one of them is a power of 2; the half products are then not read.
 
 ghost use Rattle.std.specs.Prelude.{◌≡◌};
-ghost use Rattle.vx_facts.specs.Shortening.{factors_of, is_low, low_or, names_number, product_if, product_or, shift_below, shift_in, shift_of, shifted_or, short_sum, shortened, sum_as};
+ghost use Rattle.vx_narrow.specs.Shortening.{factors_of, is_low, low_or, names_number, product_if, product_or, shift_below, shift_in, shift_of, shifted_or, short_sum, shortened, sum_as};
 
-use crate::fact::Fact;
-use crate::intervals::is_half;
-use crate::known::{has_equals, range_of};
 use vx_base::arithmetic::{Code, value};
+use vx_claims::fact::Fact;
+use vx_claims::intervals::is_half;
+use vx_claims::known::{has_equals, range_of};
 use vx_flow::graph::{Op, Operand, Value};
 
 /// Two operands of which a product is made.

@@ -79,7 +79,7 @@ fn sink_of(alloc: Global, step: &Step<'_>, stream: Stream) -> Result<MemSink, Ha
 }
 
 /// Makes a call of a step that finds these files.
-pub fn outcome_of(
+pub(crate) fn outcome_of(
     alloc: Global,
     step: &Step<'_>,
     statement: &Statement,

@@ -104,7 +104,7 @@ fn meets(bytes: &[u8], content: &[Piece]) -> bool {
 }
 
 /// The bytes of an output behind a call.
-pub fn bytes_of(outcome: &Outcome, stream: Stream) -> &[u8] {
+pub(crate) fn bytes_of(outcome: &Outcome, stream: Stream) -> &[u8] {
     match stream {
         Stream::Out => outcome.out.bytes(),
         Stream::Err => outcome.err.bytes(),
@@ -112,7 +112,7 @@ pub fn bytes_of(outcome: &Outcome, stream: Stream) -> &[u8] {
 }
 
 /// Whether an output holds what the step wants.
-pub fn puts_as_wanted(step: &Step<'_>, outcome: &Outcome, stream: Stream) -> bool {
+pub(crate) fn puts_as_wanted(step: &Step<'_>, outcome: &Outcome, stream: Stream) -> bool {
     let bytes = bytes_of(outcome, stream);
     match step.wanted(Topic::Puts(stream)) {
         Some(statement) => meets(bytes, statement.content.as_slice()),
@@ -121,7 +121,7 @@ pub fn puts_as_wanted(step: &Step<'_>, outcome: &Outcome, stream: Stream) -> boo
 }
 
 /// Whether what a statement says of a file behind the call is so. A statement on something else says nothing of files.
-pub fn is_so(statement: &Statement, depot: &MemDepot) -> bool {
+pub(crate) fn is_so(statement: &Statement, depot: &MemDepot) -> bool {
     match &statement.what {
         What::After(name) => match depot.file(name.as_str()) {
             Some(bytes) => meets(bytes, statement.content.as_slice()),
@@ -144,7 +144,7 @@ fn files_as_wanted(step: &Step<'_>, depot: &MemDepot) -> bool {
 }
 
 /// Whether the output is what stands under the name that keeps it, where the call found something there.
-pub fn puts_as_kept(step: &Step<'_>, outcome: &Outcome, found: &[Stored]) -> bool {
+pub(crate) fn puts_as_kept(step: &Step<'_>, outcome: &Outcome, found: &[Stored]) -> bool {
     match step.kept() {
         Some(name) => match bytes_under(found, name) {
             Some(bytes) => bytes == outcome.out.bytes(),
@@ -155,7 +155,7 @@ pub fn puts_as_kept(step: &Step<'_>, outcome: &Outcome, found: &[Stored]) -> boo
 }
 
 /// Whether a call left what its step wants.
-pub fn is_as_wanted(step: &Step<'_>, outcome: &Outcome, found: &[Stored]) -> bool {
+pub(crate) fn is_as_wanted(step: &Step<'_>, outcome: &Outcome, found: &[Stored]) -> bool {
     outcome.status == step.status()
         && puts_as_wanted(step, outcome, Stream::Out)
         && puts_as_wanted(step, outcome, Stream::Err)

@@ -94,7 +94,7 @@ fn with_line_feed(alloc: Global, text: &[u8]) -> Result<Vec<u8>, Why> {
 }
 
 /// A number in decimal.
-pub fn number_of(digits: &[u8]) -> Result<u32, Why> {
+pub(crate) fn number_of(digits: &[u8]) -> Result<u32, Why> {
     match str::from_utf8(digits) {
         Ok(digits) => digits.parse::<u32>().map_err(|_| Why::BadContent),
         Err(_) => Err(Why::BadContent),
@@ -142,7 +142,7 @@ fn bytes_of(alloc: Global, line: &[u8]) -> Result<Vec<u8>, Why> {
 }
 
 /// Whether a line begins with a mark of content. The line that begins a row does not, though it begins with `=`.
-pub fn is_content(line: &[u8]) -> bool {
+pub(crate) fn is_content(line: &[u8]) -> bool {
     match line {
         [b'=', b'=', b' ', ..] => false,
         [b'.', b'.', b'.'] => true,
@@ -162,7 +162,7 @@ fn behind_of(line: &[u8]) -> Result<Behind, Why> {
 }
 
 /// The content that a line gives.
-pub fn piece_of(alloc: Global, line: &[u8]) -> Result<Piece, Why> {
+pub(crate) fn piece_of(alloc: Global, line: &[u8]) -> Result<Piece, Why> {
     let bytes = bytes_of(alloc, line)?;
     let behind = behind_of(line)?;
     Ok(Piece { bytes, behind })

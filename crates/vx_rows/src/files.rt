@@ -38,7 +38,7 @@ fn put_file(
 }
 
 /// Puts the files among statements behind others.
-pub fn put_files(
+pub(crate) fn put_files(
     alloc: Global,
     files: &mut Vec<Stored>,
     statements: &[Statement],
@@ -53,7 +53,7 @@ pub fn put_files(
 }
 
 /// The files that the first step of a row finds.
-pub fn first_files(alloc: Global, row: &Row<'_>) -> Result<Vec<Stored>, NoMemory> {
+pub(crate) fn first_files(alloc: Global, row: &Row<'_>) -> Result<Vec<Stored>, NoMemory> {
     let mut files = Vec::new(alloc);
     put_files(alloc, &mut files, row.common)?;
     put_files(alloc, &mut files, row.head())?;
@@ -83,7 +83,7 @@ fn empty_depot(alloc: Global, failing: Vec<u64>) -> Result<MemDepot, NoMemory> {
 }
 
 /// A depot that holds files. The calls of it that are listed fail, counted from the first behind its making.
-pub fn depot_of(alloc: Global, files: &[Stored], failing: &[u64]) -> Result<MemDepot, Halt> {
+pub(crate) fn depot_of(alloc: Global, files: &[Stored], failing: &[u64]) -> Result<MemDepot, Halt> {
     let failing = later(alloc, failing, files.len())?;
     let mut depot = empty_depot(alloc, failing)?;
     fill(&mut depot, files)?;
@@ -91,7 +91,7 @@ pub fn depot_of(alloc: Global, files: &[Stored], failing: &[u64]) -> Result<MemD
 }
 
 /// What stands under a name. Of two files of a name the later one counts.
-pub fn bytes_under<'a>(files: &'a [Stored], name: &str) -> Option<&'a [u8]> {
+pub(crate) fn bytes_under<'a>(files: &'a [Stored], name: &str) -> Option<&'a [u8]> {
     for file in files.iter().rev() {
         if file.name.as_str() == name {
             return Some(file.bytes.as_slice());
@@ -101,7 +101,7 @@ pub fn bytes_under<'a>(files: &'a [Stored], name: &str) -> Option<&'a [u8]> {
 }
 
 /// Puts what a call put on its output behind files, under the name that keeps it.
-pub fn keep_output(
+pub(crate) fn keep_output(
     alloc: Global,
     files: &mut Vec<Stored>,
     name: Option<&str>,
@@ -161,7 +161,7 @@ fn keep_words(
 }
 
 /// The words of a call.
-pub fn words_of(statement: &Statement) -> &[String] {
+pub(crate) fn words_of(statement: &Statement) -> &[String] {
     match &statement.what {
         What::Call(words) => words.as_slice(),
         _ => &[],
@@ -169,7 +169,7 @@ pub fn words_of(statement: &Statement) -> &[String] {
 }
 
 /// The files that a depot holds behind a call that found files: those under the names of what it found, and of its words.
-pub fn left_files(
+pub(crate) fn left_files(
     alloc: Global,
     found: &[Stored],
     call: &Statement,

@@ -285,7 +285,7 @@ fn take_lines(alloc: Global, reader: &mut Reader, text: &[u8]) -> Result<(), Mis
 }
 
 /// The statements of a text.
-pub fn read_sheet(alloc: Global, text: &[u8]) -> Result<Vec<Statement>, Misread> {
+pub(crate) fn read_sheet(alloc: Global, text: &[u8]) -> Result<Vec<Statement>, Misread> {
     let mut reader = Reader {
         statements: Vec::new(alloc),
         takes_content: false,

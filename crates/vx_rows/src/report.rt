@@ -37,7 +37,7 @@ impl Tally {
     };
 
     /// It with that of other rows.
-    pub fn with(self, other: Tally) -> Tally {
+    pub(crate) fn with(self, other: Tally) -> Tally {
         Tally {
             rows: self.rows.saturating_add(other.rows),
             calls: self.calls.saturating_add(other.calls),
@@ -65,7 +65,7 @@ fn put_place<K: Sink>(out: &mut K, file: &str, line: usize) -> Result<(), Halt> 
 }
 
 /// Prints why a file is no file of rows.
-pub fn tell_misread<K: Sink>(out: &mut K, file: &str, misread: Misread) -> Result<(), Halt> {
+pub(crate) fn tell_misread<K: Sink>(out: &mut K, file: &str, misread: Misread) -> Result<(), Halt> {
     put_place(out, file, misread.line)?;
     put(out, ": ")?;
     put(out, misread.why.text())?;
@@ -73,13 +73,13 @@ pub fn tell_misread<K: Sink>(out: &mut K, file: &str, misread: Misread) -> Resul
 }
 
 /// Prints that a file cannot be read.
-pub fn tell_unread<K: Sink>(out: &mut K, file: &str) -> Result<(), Halt> {
+pub(crate) fn tell_unread<K: Sink>(out: &mut K, file: &str) -> Result<(), Halt> {
     put(out, file)?;
     put(out, ": cannot be read\n")
 }
 
 /// Prints the counts of a file, or of all.
-pub fn tell_tally<K: Sink>(out: &mut K, file: &str, tally: Tally) -> Result<(), Halt> {
+pub(crate) fn tell_tally<K: Sink>(out: &mut K, file: &str, tally: Tally) -> Result<(), Halt> {
     put(out, file)?;
     put(out, ": ")?;
     put_number(out, tally.rows)?;
@@ -245,7 +245,7 @@ fn tell_kept<K: Sink>(
 }
 
 /// Prints a call that differs from what its step wants.
-pub fn tell_call<K: Sink>(
+pub(crate) fn tell_call<K: Sink>(
     out: &mut K,
     file: &str,
     row: &Row<'_>,

@@ -33,13 +33,13 @@ pub struct Rows<'a> {
 
 impl<'a> Rows<'a> {
     /// The rows of a file.
-    pub fn make(statements: &'a [Statement]) -> Rows<'a> {
+    pub(crate) fn make(statements: &'a [Statement]) -> Rows<'a> {
         let (common, rest) = before_row(statements);
         Rows { common, rest }
     }
 
     /// The next row.
-    pub fn next_row(&mut self) -> Option<Row<'a>> {
+    pub(crate) fn next_row(&mut self) -> Option<Row<'a>> {
         let (first, others) = self.rest.split_first()?;
         let (own, rest) = before_row(others);
         self.rest = rest;
@@ -80,7 +80,7 @@ impl<'a> Row<'a> {
     }
 
     /// Whether it is a row that can be run.
-    pub fn check(&self) -> Result<(), Misread> {
+    pub(crate) fn check(&self) -> Result<(), Misread> {
         if self.has_calls() {
             return match late_file(before_call(self.own).1) {
                 Some(line) => Err(Misread {
@@ -100,12 +100,12 @@ impl<'a> Row<'a> {
     }
 
     /// What of it holds before its first call: the files that stand there are those that its first step finds.
-    pub fn head(&self) -> &'a [Statement] {
+    pub(crate) fn head(&self) -> &'a [Statement] {
         before_call(self.own).0
     }
 
     /// Its steps.
-    pub fn steps(&self) -> Steps<'a> {
+    pub(crate) fn steps(&self) -> Steps<'a> {
         let is_own = self.has_calls();
         let (head, rest) = before_call(if is_own { self.own } else { self.common });
         Steps {
@@ -150,12 +150,12 @@ pub struct Step<'a> {
 
 impl<'a> Steps<'a> {
     /// At least as many as there are steps left.
-    pub fn most(&self) -> usize {
+    pub(crate) fn most(&self) -> usize {
         self.rest.len()
     }
 
     /// The next step.
-    pub fn next_step(&mut self) -> Option<Step<'a>> {
+    pub(crate) fn next_step(&mut self) -> Option<Step<'a>> {
         if self.rest.is_empty() {
             return None;
         }
@@ -204,7 +204,7 @@ impl<'a> Step<'a> {
 
     /// What is said of a topic that a call leaves. What is said before the first row holds only where the row says
     /// nothing of the topic.
-    pub fn wanted(&self, topic: Topic<'_>) -> Option<&'a Statement> {
+    pub(crate) fn wanted(&self, topic: Topic<'_>) -> Option<&'a Statement> {
         match self.said(topic) {
             Some(statement) => Some(statement),
             None => match first_on(self.own, topic) {
@@ -215,7 +215,7 @@ impl<'a> Step<'a> {
     }
 
     /// Whether a statement is the one that holds of its topic.
-    pub fn holds(&self, statement: &Statement) -> bool {
+    pub(crate) fn holds(&self, statement: &Statement) -> bool {
         match self.wanted(statement.what.topic()) {
             Some(other) => other.line == statement.line,
             None => false,
@@ -223,7 +223,7 @@ impl<'a> Step<'a> {
     }
 
     /// The boxes that are handed in.
-    pub fn boxes(&self) -> Boxes {
+    pub(crate) fn boxes(&self) -> Boxes {
         match self.found(Topic::Boxes) {
             Some(statement) => match &statement.what {
                 What::Hands(boxes) => *boxes,
@@ -234,7 +234,7 @@ impl<'a> Step<'a> {
     }
 
     /// The calls that fail.
-    pub fn failing(&self, faulty: Faulty) -> &'a [u64] {
+    pub(crate) fn failing(&self, faulty: Faulty) -> &'a [u64] {
         match self.found(Topic::Fails(faulty)) {
             Some(statement) => match &statement.what {
                 What::Fails(_, numbers) => numbers.as_slice(),
@@ -245,7 +245,7 @@ impl<'a> Step<'a> {
     }
 
     /// The room of an output.
-    pub fn room(&self, stream: Stream) -> usize {
+    pub(crate) fn room(&self, stream: Stream) -> usize {
         match self.found(Topic::Room(stream)) {
             Some(statement) => match &statement.what {
                 What::Room(_, room) => *room,
@@ -256,7 +256,7 @@ impl<'a> Step<'a> {
     }
 
     /// The name that keeps the output.
-    pub fn kept(&self) -> Option<&'a str> {
+    pub(crate) fn kept(&self) -> Option<&'a str> {
         match self.found(Topic::Keeps) {
             Some(statement) => match &statement.what {
                 What::Keeps(name) => Some(name.as_str()),
@@ -267,7 +267,7 @@ impl<'a> Step<'a> {
     }
 
     /// The status that is wanted.
-    pub fn status(&self) -> u8 {
+    pub(crate) fn status(&self) -> u8 {
         match self.wanted(Topic::Status) {
             Some(statement) => match &statement.what {
                 What::Ends(number) => *number,

@@ -82,7 +82,7 @@ fn run_row<K: Sink>(alloc: Global, out: &mut K, file: &str, row: &Row<'_>) -> Re
 }
 
 /// Whether each row of a file can be run.
-pub fn check_rows(statements: &[Statement]) -> Result<(), Misread> {
+pub(crate) fn check_rows(statements: &[Statement]) -> Result<(), Misread> {
     let mut rows = Rows::make(statements);
     for _ in 0..statements.len() {
         match rows.next_row() {
@@ -94,7 +94,7 @@ pub fn check_rows(statements: &[Statement]) -> Result<(), Misread> {
 }
 
 /// Runs the rows of a file.
-pub fn run_rows<K: Sink>(
+pub(crate) fn run_rows<K: Sink>(
     alloc: Global,
     out: &mut K,
     file: &str,

@@ -118,7 +118,7 @@ pub enum Topic<'a> {
 
 impl What {
     /// What it speaks of.
-    pub fn topic(&self) -> Topic<'_> {
+    pub(crate) fn topic(&self) -> Topic<'_> {
         match self {
             What::Row(_) | What::Call(_) | What::File(_) => Topic::Own,
             What::Hands(_) => Topic::Boxes,
@@ -134,22 +134,22 @@ impl What {
     }
 
     /// Whether content may stand behind it.
-    pub fn has_content(&self) -> bool {
+    pub(crate) fn has_content(&self) -> bool {
         matches!(self, What::File(_) | What::Puts(_) | What::After(_))
     }
 
     /// Whether it is a row's beginning.
-    pub fn is_row(&self) -> bool {
+    pub(crate) fn is_row(&self) -> bool {
         matches!(self, What::Row(_))
     }
 
     /// Whether it is a call.
-    pub fn is_call(&self) -> bool {
+    pub(crate) fn is_call(&self) -> bool {
         matches!(self, What::Call(_))
     }
 
     /// Whether it is a file before the call.
-    pub fn is_file(&self) -> bool {
+    pub(crate) fn is_file(&self) -> bool {
         matches!(self, What::File(_))
     }
 }
@@ -160,13 +160,13 @@ fn is_gap(piece: &Piece) -> bool {
 }
 
 /// The pieces before the first `...`, and those from it on.
-pub fn before_gap(content: &[Piece]) -> (&[Piece], &[Piece]) {
+pub(crate) fn before_gap(content: &[Piece]) -> (&[Piece], &[Piece]) {
     let count = content.iter().take_while(|piece| !is_gap(piece)).count();
     content.split_at(count)
 }
 
 /// The first statement on a topic.
-pub fn first_on<'a>(statements: &'a [Statement], topic: Topic<'_>) -> Option<&'a Statement> {
+pub(crate) fn first_on<'a>(statements: &'a [Statement], topic: Topic<'_>) -> Option<&'a Statement> {
     for statement in statements {
         if statement.what.topic() == topic {
             return Some(statement);
@@ -176,7 +176,7 @@ pub fn first_on<'a>(statements: &'a [Statement], topic: Topic<'_>) -> Option<&'a
 }
 
 /// The statements before the first row, or before the next one.
-pub fn before_row(statements: &[Statement]) -> (&[Statement], &[Statement]) {
+pub(crate) fn before_row(statements: &[Statement]) -> (&[Statement], &[Statement]) {
     let count = statements
         .iter()
         .take_while(|statement| !statement.what.is_row())
@@ -185,7 +185,7 @@ pub fn before_row(statements: &[Statement]) -> (&[Statement], &[Statement]) {
 }
 
 /// The statements before the first call, and those from it on.
-pub fn before_call(statements: &[Statement]) -> (&[Statement], &[Statement]) {
+pub(crate) fn before_call(statements: &[Statement]) -> (&[Statement], &[Statement]) {
     let count = statements
         .iter()
         .take_while(|statement| !statement.what.is_call())
@@ -194,7 +194,7 @@ pub fn before_call(statements: &[Statement]) -> (&[Statement], &[Statement]) {
 }
 
 /// The calls at the front, and what stands behind them.
-pub fn calls_at_front(statements: &[Statement]) -> (&[Statement], &[Statement]) {
+pub(crate) fn calls_at_front(statements: &[Statement]) -> (&[Statement], &[Statement]) {
     let count = statements
         .iter()
         .take_while(|statement| statement.what.is_call())

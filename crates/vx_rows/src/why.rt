@@ -35,7 +35,7 @@ pub enum Why {
 
 impl Why {
     /// It in words.
-    pub fn text(self) -> &'static str {
+    pub(crate) fn text(self) -> &'static str {
         match self {
             Why::NoMemory => "no memory",
             Why::NotEnded => "no line feed at the end",

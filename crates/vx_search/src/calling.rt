@@ -5,17 +5,17 @@
 // of its blocks are looked for with that. A function that calls itself is given what others pass to it, where its own calls stay in
 // that. Where functions call each other in a ring, nothing is given of the first of them.
 
-use crate::claim::Claim;
-use crate::fact::Fact;
 use crate::inheriting::passed_over;
-use crate::intervals::{Interval, full};
-use crate::known::{is_inside, range_of};
-use crate::learning::is_full;
 use crate::search::{block_number, find_claims};
 use crate::sweeping::{hull, none};
 use std::alloc::Global;
 use vx_base::listed::Listed;
 use vx_base::outcome::NoMemory;
+use vx_claims::claim::Claim;
+use vx_claims::fact::Fact;
+use vx_claims::intervals::{Interval, full};
+use vx_claims::known::{is_inside, range_of};
+use vx_claims::learning::is_full;
 use vx_flow::graph::{Block, Exit, Graph, Operand};
 
 /// How many facts of all claims are kept at most. The claims of the other functions are looked for once more.

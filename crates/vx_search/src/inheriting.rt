@@ -1,18 +1,18 @@
 // What a block takes over from the blocks that lead to it: what its values hold, and what is known of places and words of
 // arrays. It is looked for and owes nothing, since what does not pass is not used.
 
-use crate::access::{Access, tell};
-use crate::claim::{Claim, accesses_in, facts_in};
-use crate::fact::Fact;
-use crate::known::give;
-use crate::learning::without;
-use crate::loops::{Loops, entries_at, loops_of};
-use crate::passing::{Passed, pass_ops};
 use std::alloc::Global;
 use vx_base::arithmetic::Code;
 use vx_base::listed::Listed;
 use vx_base::outcome::NoMemory;
+use vx_claims::access::{Access, tell};
+use vx_claims::behind::known_behind;
+use vx_claims::claim::{Claim, accesses_in, facts_in};
+use vx_claims::fact::Fact;
+use vx_claims::known::give;
+use vx_claims::learning::without;
 use vx_flow::graph::{Block, BlockId, Exit, Graph};
+use vx_loops::{Loops, entries_at, loops_of};
 
 /// How many of the facts and of what is known of arrays are looked at at most, the newest first.
 const MOST: usize = 48;
@@ -23,7 +23,7 @@ const LONGEST: usize = 64;
 /// Adds to what is claimed at each block what is known at the ends of all blocks before it; at the first block of a loop, what the
 /// loop does not change of that. Without joins a block with one way in alone takes over. Each block stands behind those before it
 /// in the order, but for the edges that close loops.
-pub fn inherit(
+pub(crate) fn inherit(
     alloc: Global,
     claims: &mut Vec<Claim>,
     order: &[BlockId],
@@ -87,21 +87,18 @@ fn end_of(
             facts: passed.facts,
             accesses: Listed::new(alloc),
         }),
-        _ => Ok(Claim {
-            facts: passed.facts,
-            accesses: passed.accesses,
-        }),
+        _ => Ok(passed),
     }
 }
 
 /// Goes over the operations of a block from what is claimed at its start.
-pub fn passed_over(
+pub(crate) fn passed_over(
     alloc: Global,
     claims: &[Claim],
     place: BlockId,
     block: &Block,
-) -> Result<Passed, NoMemory> {
-    pass_ops(
+) -> Result<Claim, NoMemory> {
+    known_behind(
         alloc,
         facts_in(claims, place as usize),
         accesses_in(claims, place as usize),
@@ -139,7 +136,7 @@ fn take_facts(
     facts: &[Fact],
 ) -> Result<(), NoMemory> {
     for fact in facts.iter().take(MOST) {
-        if is_general(*fact) && loops.keeps_fact(*fact) && all_give(ends, before, *fact) {
+        if is_general(*fact) && keeps_fact(loops, *fact) && all_give(ends, before, *fact) {
             take_fact(claims, place, *fact)?;
         }
     }
@@ -155,11 +152,36 @@ fn take_accesses(
     accesses: &[Access],
 ) -> Result<(), NoMemory> {
     for access in accesses.iter().take(MOST) {
-        if loops.keeps_access(*access) && all_tell(ends, before, *access) {
+        if keeps_access(loops, *access) && all_tell(ends, before, *access) {
             take_access(claims, place, *access)?;
         }
     }
     Ok(())
+}
+
+/// Whether each turn of a loop leaves what a fact says.
+fn keeps_fact(loops: &Loops, fact: Fact) -> bool {
+    match fact {
+        Fact::Between { value, .. } => !loops.is_written(value),
+        Fact::Equals {
+            value,
+            left,
+            right,
+            ..
+        } => !loops.is_written(value) && loops.keeps(left) && loops.keeps(right),
+    }
+}
+
+/// Whether each turn of a loop leaves what is known of an array.
+fn keeps_access(loops: &Loops, access: Access) -> bool {
+    match access {
+        Access::Placed { value, index, .. } => {
+            !loops.is_written(value) && loops.keeps(index) && !loops.has_call()
+        }
+        Access::Stored { array, place, from } => {
+            loops.keeps(place) && loops.keeps(from) && !loops.is_stored(array) && !loops.has_call()
+        }
+    }
 }
 
 fn all_give(ends: &[Claim], before: &[BlockId], fact: Fact) -> bool {

@@ -5,18 +5,18 @@
 // are closed, is taken to be nothing at first. Where they give more, more is taken: from the third sweep on up to 0, or to the
 // least and the greatest number (Cousot and Cousot, 1977). Where they give no more, what was taken too much is given back.
 
-use crate::claim::Claim;
-use crate::fact::Fact;
 use crate::inheriting::inherit;
-use crate::intervals::{Interval, full};
-use crate::ordering::order_of;
 use crate::sweeping::{Cell, Mark, Tables, cell_at, hull, put_cell, sweep, unknown};
 use std::alloc::Global;
 use vx_base::listed::Listed;
 use vx_base::outcome::NoMemory;
+use vx_claims::claim::Claim;
+use vx_claims::fact::Fact;
+use vx_claims::intervals::{Interval, full};
 use vx_flow::graph::{Bank, Block, BlockId, Graph, Value};
 use vx_flow::live;
 use vx_flow::live_rows::Live;
+use vx_loops::order_of;
 
 /// How many sweeps there are at most until nothing more comes in.
 const MOST_SWEEPS: u32 = 16;
@@ -115,7 +115,7 @@ fn interval_of(parameters: &[Value], intervals: &[Interval], value: Value) -> In
 }
 
 /// The number of the block at a place.
-pub fn block_number(place: usize) -> BlockId {
+pub(crate) fn block_number(place: usize) -> BlockId {
     if place < u32::MAX as usize {
         place as u32
     } else {

@@ -1,11 +1,11 @@
 // One sweep over the blocks of a graph: where values lie at the start of each block, by what its predecessors give.
 
-use crate::intervals::{
-    Interval, bit, full, left_within, meet, opposite, result_within, right_within, times_if,
-};
-use crate::learning::is_held;
 use crate::search::block_number;
 use vx_base::arithmetic::{Code, Compare};
+use vx_claims::intervals::{
+    Interval, bit, full, left_within, meet, opposite, result_within, right_within, times_if,
+};
+use vx_claims::learning::is_held;
 use vx_flow::graph::{Block, BlockId, Exit, Op, Operand, Value};
 use vx_flow::live_rows::Live;
 
@@ -66,7 +66,7 @@ struct Tested {
 }
 
 /// No number.
-pub fn none() -> Interval {
+pub(crate) fn none() -> Interval {
     Interval {
         low: i32::MAX,
         high: i32::MIN,
@@ -74,7 +74,7 @@ pub fn none() -> Interval {
 }
 
 /// A cell of which nothing is known.
-pub fn unknown() -> Cell {
+pub(crate) fn unknown() -> Cell {
     Cell {
         forward: none(),
         back: none(),
@@ -84,7 +84,7 @@ pub fn unknown() -> Cell {
 }
 
 /// The cell at a place.
-pub fn cell_at(cells: &[Cell], place: usize) -> Cell {
+pub(crate) fn cell_at(cells: &[Cell], place: usize) -> Cell {
     match cells.get(place) {
         Some(cell) => *cell,
         None => unknown(),
@@ -92,7 +92,7 @@ pub fn cell_at(cells: &[Cell], place: usize) -> Cell {
 }
 
 /// Puts a cell at a place, if there is such a place.
-pub fn put_cell(cells: &mut Vec<Cell>, place: usize, cell: Cell) {
+pub(crate) fn put_cell(cells: &mut Vec<Cell>, place: usize, cell: Cell) {
     if place < cells.len() {
         cells[place] = cell;
     }
@@ -134,7 +134,7 @@ fn put_range(tables: &mut Tables, value: Value, interval: Interval) {
 }
 
 /// Goes over all blocks in an order. Sweeps have ascending numbers from 1 on.
-pub fn sweep(tables: &mut Tables, order: &[BlockId], blocks: &[Block], live: &Live, number: u32) {
+pub(crate) fn sweep(tables: &mut Tables, order: &[BlockId], blocks: &[Block], live: &Live, number: u32) {
     for place in order {
         match blocks.get(*place as usize) {
             Some(block) => visit(tables, *place as usize, block, live, number),
@@ -372,7 +372,7 @@ fn lead_forward(tables: &mut Tables, start: usize, values: &[Value], side: Side,
 }
 
 /// The least interval that has both.
-pub fn hull(i: Interval, j: Interval) -> Interval {
+pub(crate) fn hull(i: Interval, j: Interval) -> Interval {
     Interval {
         low: i.low.min(j.low),
         high: i.high.max(j.high),

@@ -14,12 +14,15 @@ use Rattle.vx_flow.specs.Effects.{IsIn}
 use Rattle.vx_flow.specs.Sound.{targets_of}
 use Rattle.vx_flow.proofs.SoundLists.{or_parts, not_both, differs, all_in, all_at}
 use Rattle.vx_lower.specs.FlowOf.{EndsBy, IsEdge}
-use Rattle.vx_clean.specs.LaidFlows.{Shaped}
-use Rattle.vx_clean.specs.LinkTest.{is_none_left}
-use Rattle.vx_clean.specs.ShapeTest.{is_trap, is_apart, is_shaped_block, are_traps_last, is_trap_of, is_trap_alone, are_traps_alone, is_this, is_noted, is_uncritical, are_uncritical, is_shaped, ShapedWhereTested}
-use Rattle.vx_clean.proofs.LinkTests.{none_left}
+use Rattle.vx_shape.specs.Shape.{Shaped}
+use Rattle.vx_shape.specs.ShapeTest.{is_none_left}
+use Rattle.vx_shape.specs.ShapeTest.{is_trap, is_apart, is_shaped_block, are_traps_last, is_trap_of, is_trap_alone, are_traps_alone, is_this, is_noted, is_uncritical, are_uncritical, is_shaped, ShapedWhereTested}
 
 -- ---- each block by itself
+
+pub none_left : (ops : List Op) → is_none_left ops ≡ true → ops ≡ []
+none_left [] e = refl
+none_left (op ∷ ops) e = absurd (false≢true e)
 
 record BlockShaped (block : Block) : Type 0 where
   short : nat_le (length block.ops) 512 ≡ true

@@ -4,15 +4,19 @@ use Rattle.std.specs.Prelude.{◌≡◌, ◌==◌, ℕ, suc, Bool, true, false, 
 use Rattle.std.specs.List.{list_all}
 use Rattle.vx_base.specs.declared.outcome.Trap.{Trap}
 use Rattle.vx_base.specs.declared.outcome.Trap.TheVariants.{Divide, Index, Input, Depth}
+use Rattle.vx_flow.specs.declared.graph.Op.{Op}
 use Rattle.vx_flow.specs.declared.graph.Exit.{Exit}
 use Rattle.vx_flow.specs.declared.graph.Exit.TheVariants.{Goto, Split, Call, Return, Ends}
 use Rattle.vx_flow.specs.declared.graph.Block.{Block}
 use Rattle.vx_flow.specs.declared.graph.Graph.{Graph}
 use Rattle.vx_flow.specs.Sound.{targets_of}
-use Rattle.vx_clean.specs.LaidFlows.{Shaped}
-use Rattle.vx_clean.specs.LinkTest.{is_none_left}
+use Rattle.vx_shape.specs.Shape.{Shaped}
 
 -- each block by itself
+
+abbrev pub is_none_left : List Op → Bool
+is_none_left [] = true
+is_none_left (op ∷ ops) = false
 
 abbrev pub is_trap : Exit → Bool
 is_trap (Goto c) = false

@@ -1,7 +1,7 @@
 // Copies of graphs and of what a flow has beside them. Each call fails only for want of memory.
 
 ghost use Rattle.std.specs.Prelude.{◌≡◌, IfOk};
-ghost use Rattle.vx_clean.specs.Cleaning.{with_graphs};
+ghost use Rattle.vx_shape.specs.Flows.{with_graphs};
 
 use std::alloc::Global;
 use vx_base::listed::{Bytes, Listed};

@@ -4,9 +4,8 @@
 ghost use Rattle.std.specs.Prelude.{◌≡◌, ◌==◌, false, not, slice_get};
 ghost use Rattle.std.specs.List.{list_all};
 ghost use Rattle.vx_flow.specs.Sound.{targets_of};
-ghost use Rattle.vx_clean.specs.ShapeTest.{are_traps_alone, are_traps_last, are_uncritical, is_apart, is_noted, is_shaped, is_shaped_block, is_this, is_trap, is_trap_alone, is_trap_of, is_uncritical};
+ghost use Rattle.vx_shape.specs.ShapeTest.{are_traps_alone, are_traps_last, are_uncritical, is_apart, is_noted, is_shaped, is_shaped_block, is_this, is_trap, is_trap_alone, is_trap_of, is_uncritical};
 
-use crate::link_test::has_no_ops;
 use vx_base::outcome::Trap;
 use vx_flow::graph::{Block, BlockId, Exit};
 
@@ -37,6 +36,16 @@ fn is_shaped_block(block: &Block) -> bool
         && (!is_trap(&block.exit) || has_no_ops(block))
         && is_apart(&block.exit)
         && leaves_entry(&block.exit)
+}
+
+/// Whether a block has no operations.
+pub fn has_no_ops(block: &Block) -> bool
+    ensures { result ≡ is_none_left block.now.ops }
+{
+    match block.ops.as_slice() {
+        [] => true,
+        _ => false,
+    }
 }
 
 /// Whether an exit is a trap.

@@ -15,14 +15,14 @@ use Rattle.vx_flow.specs.Live.{reads_of_exit}
 use Rattle.vx_flow.specs.Meaning.{graph_run}
 use Rattle.vx_flow.specs.Sound.{is_sound_flow}
 use Rattle.vx_lower.specs.FlowOf.{AreNumbers, GraphOf, FlowOf}
-use Rattle.vx_clean.specs.Cleaning.{with_graphs}
-use Rattle.vx_clean.specs.LaidFlows.{Shaped}
-use Rattle.vx_clean.specs.ShapeTest.{is_shaped}
-use Rattle.vx_clean.specs.Staying.{FlowStays}
-use Rattle.vx_clean.specs.Thinning.{result_alone, is_unread, op_unless, thinned_ops, thinned_block, thinned, are_read, reads_read, block_reads_read, unread_of, GraphThins, GraphsThin, ThinnedStays}
-use Rattle.vx_clean.proofs.ShapeTests.{shaped_where_tested}
-use Rattle.vx_clean.proofs.ThinRuns.{ThinsAt, thins_at, thinned_runs}
-use Rattle.vx_clean.proofs.Laid.{take_more}
+use Rattle.vx_shape.specs.Flows.{with_graphs}
+use Rattle.vx_shape.specs.Shape.{Shaped}
+use Rattle.vx_shape.specs.ShapeTest.{is_shaped}
+use Rattle.vx_shape.specs.Flows.{FlowStays}
+use Rattle.vx_thin.specs.Thinning.{result_alone, is_unread, op_unless, thinned_ops, thinned_block, thinned, are_read, reads_read, block_reads_read, unread_of, GraphThins, GraphsThin, ThinnedStays}
+use Rattle.vx_shape.proofs.ShapeTests.{shaped_where_tested}
+use Rattle.vx_thin.proofs.ThinRuns.{ThinsAt, thins_at, thinned_runs}
+use Rattle.vx_shape.proofs.Lists.{take_more}
 
 thins_length : (gs hs : List Graph) → GraphsThin gs hs → length hs ≡ length gs
 thins_length [] [] s = refl

@@ -16,9 +16,9 @@ use Rattle.vx_flow.specs.Live.{reads_of_exit}
 use Rattle.vx_flow.specs.Meaning.{Hop, Wrong, hop_of, Body, Program, Frame, Active, deepest, undefined, entered, enters, with_result, returned, waits, after_hop, body_hop, hop, next, body_of, program_of, setting_of, globals_at_start, entered_or, start, graph_run}
 use Rattle.vx_flow.specs.Agree.{SameWorld, Agree}
 use Rattle.vx_flow.proofs.SoundLists.{all_at}
-use Rattle.vx_clean.specs.Cleaning.{with_graphs}
-use Rattle.vx_clean.specs.Thinning.{thinned_block, thinned, are_read, reads_read, block_reads_read, GraphThins, GraphsThin, ThinnedRuns}
-use Rattle.vx_clean.proofs.Thins.{Alikes, wrong, arrives, called, left, stopped, ops_alike}
+use Rattle.vx_shape.specs.Flows.{with_graphs}
+use Rattle.vx_thin.specs.Thinning.{thinned_block, thinned, are_read, reads_read, block_reads_read, GraphThins, GraphsThin, ThinnedRuns}
+use Rattle.vx_thin.proofs.Thins.{Alikes, wrong, arrives, called, left, stopped, ops_alike}
 
 abbrev pub ThinsAt : Option Graph → Option Graph → Type 0
 ThinsAt None None = Unit {0}

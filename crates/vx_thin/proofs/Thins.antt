@@ -17,7 +17,7 @@ use Rattle.vx_flow.specs.Meaning.{Hop, Arrives, Calls, Leaves, Stops, Wrong, wit
 use Rattle.vx_flow.specs.Agree.{SameWorld, Agree}
 use Rattle.vx_flow.proofs.EffectsAlike.{Refined, Knows, knows_left, knows_right, held_refined, Done, effect_alike}
 use Rattle.vx_flow.proofs.SoundLists.{all_in}
-use Rattle.vx_clean.specs.Thinning.{result_alone, is_unread, op_unless, thinned_ops, are_read, reads_read}
+use Rattle.vx_thin.specs.Thinning.{result_alone, is_unread, op_unless, thinned_ops, are_read, reads_read}
 
 -- both leave in one way, with states that agree on what is read; where the first has no meaning nothing is said
 pub data Alikes (lives : ℕ → Type 0) : Hop → Hop → Type 0 where

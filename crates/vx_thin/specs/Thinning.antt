@@ -13,7 +13,7 @@ use Rattle.vx_flow.specs.Live.{reads_of_exit}
 use Rattle.vx_flow.specs.Meaning.{graph_run}
 use Rattle.vx_flow.specs.Sound.{is_sound_flow}
 use Rattle.vx_lower.specs.FlowOf.{GraphOf, FlowOf}
-use Rattle.vx_clean.specs.Cleaning.{with_graphs}
+use Rattle.vx_shape.specs.Flows.{with_graphs}
 
 -- the value that an operation writes, where it does nothing else
 abbrev pub result_alone : Op → Option ℕ

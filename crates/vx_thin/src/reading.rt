@@ -4,7 +4,7 @@ ghost use Rattle.std.specs.Prelude.{◌≡◌, ◌++◌, [], ◌∷◌, if◌the
 ghost use Rattle.std.specs.List.{list_all};
 ghost use Rattle.vx_flow.specs.Effects.{is_unary, reads, value_in};
 ghost use Rattle.vx_flow.specs.Live.{reads_of_exit};
-ghost use Rattle.vx_clean.specs.Thinning.{are_read, block_reads_read, is_unread, reads_read, result_alone, unread_of};
+ghost use Rattle.vx_thin.specs.Thinning.{are_read, block_reads_read, is_unread, reads_read, result_alone, unread_of};
 
 use vx_base::arithmetic::Code;
 use vx_flow::graph::{Block, Exit, Op, Operand, Value};

@@ -4,18 +4,18 @@
 ghost use Rattle.std.specs.Prelude.{◌≡◌, true, IfOk, IfSome, map};
 ghost use Rattle.std.specs.List.{list_all};
 ghost use Rattle.vx_flow.specs.Sound.{is_sound_flow};
-ghost use Rattle.vx_clean.specs.Staying.{FlowStays};
-ghost use Rattle.vx_clean.specs.Thinning.{block_reads_read, GraphsThin, GraphThins, thinned, thinned_block, thinned_ops, unread_of};
+ghost use Rattle.vx_shape.specs.Flows.{FlowStays};
+ghost use Rattle.vx_thin.specs.Thinning.{block_reads_read, GraphsThin, GraphThins, thinned, thinned_block, thinned_ops, unread_of};
 
-use crate::copying::{copied_exit, copied_graph, with_blocks, with_graphs};
 use crate::needing::find_needed;
-use crate::origins::origins;
 use crate::reading::{blocks_read_needed, is_dropped};
-use crate::shape_test::is_shaped;
 use std::alloc::Global;
 use vx_base::listed::Listed;
 use vx_base::outcome::NoMemory;
 use vx_flow::graph::{Block, Flow, Graph, Op};
+use vx_shape::copying::{copied_exit, copied_graph, with_blocks, with_graphs};
+use vx_shape::origins::origins;
+use vx_shape::shape_test::is_shaped;
 use vx_sound::is_sound;
 
 /// The flow with fewer operations, where there is such a one.

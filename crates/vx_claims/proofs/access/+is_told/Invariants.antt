@@ -1,5 +1,5 @@
 use Rattle.std.proofs.Common.{length}
-use Rattle.vx_facts.proofs.access.+is_told.Given as goal
+use Rattle.vx_claims.proofs.access.+is_told.Given as goal
 
 abbrev pub decreases-is_told : goal.decreases-is_told
 decreases-is_told l = length l.known.now

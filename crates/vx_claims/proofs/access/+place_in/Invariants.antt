@@ -1,5 +1,5 @@
 use Rattle.std.proofs.Common.{length}
-use Rattle.vx_facts.proofs.access.+place_in.Given as goal
+use Rattle.vx_claims.proofs.access.+place_in.Given as goal
 
 abbrev pub decreases-place_in : goal.decreases-place_in
 decreases-place_in l = length l.known.now

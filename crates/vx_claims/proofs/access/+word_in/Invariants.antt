@@ -1,5 +1,5 @@
 use Rattle.std.proofs.Common.{length}
-use Rattle.vx_facts.proofs.access.+word_in.Given as goal
+use Rattle.vx_claims.proofs.access.+word_in.Given as goal
 
 abbrev pub decreases-word_in : goal.decreases-word_in
 decreases-word_in l = length l.known.now

@@ -1,7 +1,7 @@
 -- what lies behind the facts that do not speak of the value says the same
 use Rattle.std.proofs.Common.{◌≡◌, ◌≤◌, length}
-use Rattle.vx_facts.specs.Facts.{range}
-use Rattle.vx_facts.proofs.known.+range.Given as goal
+use Rattle.vx_claims.specs.Facts.{range}
+use Rattle.vx_claims.proofs.known.+range.Given as goal
 
 abbrev pub decreases-range : goal.decreases-range
 decreases-range l = length l.facts.now

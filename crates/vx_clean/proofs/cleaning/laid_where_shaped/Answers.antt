@@ -1,6 +1,6 @@
 use Rattle.std.proofs.Common.{◌≡◌, ◌∙◌, ap, sym, true}
 use Rattle.vx_flow.specs.declared.graph.Graph.{Graph}
-use Rattle.vx_clean.specs.ShapeTest.{is_shaped}
+use Rattle.vx_shape.specs.ShapeTest.{is_shaped}
 use Rattle.vx_clean.proofs.Stays.{tested_stays}
 use Rattle.vx_clean.proofs.cleaning.laid_where_shaped.Goals as goal
 

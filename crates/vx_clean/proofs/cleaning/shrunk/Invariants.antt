@@ -1,6 +1,6 @@
 use Rattle.std.proofs.Common.{◌≡◌, true}
 use Rattle.vx_flow.specs.Sound.{is_sound_flow}
-use Rattle.vx_clean.specs.Staying.{FlowStays}
+use Rattle.vx_shape.specs.Flows.{FlowStays}
 use Rattle.vx_clean.proofs.cleaning.shrunk.Given as goal
 
 abbrev pub invariant-loop-round : goal.invariant-loop-round

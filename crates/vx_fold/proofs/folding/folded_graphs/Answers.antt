@@ -1,7 +1,7 @@
 use Rattle.std.proofs.Common.{sym, take, ◌+◌, subst}
-use Rattle.vx_clean.specs.Folding.{GraphsFold}
-use Rattle.vx_clean.proofs.FoldFlow.{folds_next}
-use Rattle.vx_clean.proofs.folding.folded_graphs.Goals as goal
+use Rattle.vx_fold.specs.Folding.{GraphsFold}
+use Rattle.vx_fold.proofs.FoldFlow.{folds_next}
+use Rattle.vx_fold.proofs.folding.folded_graphs.Goals as goal
 
 pub loop-graph-preserved : goal.loop-graph-preserved
 loop-graph-preserved c =

@@ -1,8 +1,8 @@
 use Rattle.std.proofs.Common.{◌≡◌, ◌∙◌, subst, sym, true}
 use Rattle.vx_flow.specs.Sound.{is_sound_flow}
-use Rattle.vx_clean.specs.Folding.{GraphsFold}
-use Rattle.vx_clean.proofs.FoldFlow.{once_folded}
-use Rattle.vx_clean.proofs.folding.folded_once.Goals as goal
+use Rattle.vx_fold.specs.Folding.{GraphsFold}
+use Rattle.vx_fold.proofs.FoldFlow.{once_folded}
+use Rattle.vx_fold.proofs.folding.folded_once.Goals as goal
 
 pub returns-then-branch-clause-flow : goal.returns-then-branch-clause-flow
 returns-then-branch-clause-flow c =

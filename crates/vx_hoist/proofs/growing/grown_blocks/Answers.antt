@@ -1,6 +1,6 @@
 use Rattle.std.proofs.Common.{◌≡◌, ◌+◌, ◌<◌, ℕ, Bool, List, IfSome, sym, take, length, get_or, subst}
 use Rattle.vx_flow.specs.declared.graph.Block.{Block}
-use Rattle.vx_clean.specs.Thinning.{unread_of}
+use Rattle.vx_thin.specs.Thinning.{unread_of}
 use Rattle.vx_hoist.specs.Growing.{BlockGrows, BlocksGrow}
 use Rattle.vx_hoist.proofs.GrowFlow.{blocks_next}
 use Rattle.vx_hoist.proofs.growing.grown_blocks.Goals as goal

@@ -1,5 +1,5 @@
 use Rattle.std.proofs.Common.{take}
-use Rattle.vx_clean.specs.Thinning.{unread_of}
+use Rattle.vx_thin.specs.Thinning.{unread_of}
 use Rattle.vx_hoist.specs.Growing.{BlocksGrow}
 use Rattle.vx_hoist.proofs.growing.grown_blocks.Given as goal
 

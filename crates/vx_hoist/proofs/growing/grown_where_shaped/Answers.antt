@@ -1,7 +1,7 @@
 use Rattle.std.proofs.Common.{◌≡◌, ◌∙◌, ap, sym, true}
 use Rattle.vx_flow.specs.declared.graph.Graph.{Graph}
-use Rattle.vx_clean.specs.ShapeTest.{is_shaped}
-use Rattle.vx_clean.specs.Thinning.{unread_of}
+use Rattle.vx_shape.specs.ShapeTest.{is_shaped}
+use Rattle.vx_thin.specs.Thinning.{unread_of}
 use Rattle.vx_hoist.proofs.GrowFlow.{tested_grows}
 use Rattle.vx_hoist.proofs.growing.grown_where_shaped.Goals as goal
 

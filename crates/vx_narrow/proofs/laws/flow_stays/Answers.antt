@@ -1,5 +1,5 @@
-use Rattle.vx_facts.proofs.Stays.{stays_flow}
-use Rattle.vx_facts.proofs.laws.flow_stays.Goals as goal
+use Rattle.vx_narrow.proofs.Stays.{stays_flow}
+use Rattle.vx_narrow.proofs.laws.flow_stays.Goals as goal
 
 pub returns : goal.returns
 returns c = stays_flow

@@ -1,5 +1,5 @@
-use Rattle.vx_facts.proofs.Staged.{narrowed_stays}
-use Rattle.vx_facts.proofs.laws.narrowed_graphs_stay.Goals as goal
+use Rattle.vx_narrow.proofs.Staged.{narrowed_stays}
+use Rattle.vx_narrow.proofs.laws.narrowed_graphs_stay.Goals as goal
 
 pub returns : goal.returns
 returns c = narrowed_stays

@@ -1,5 +1,5 @@
-use Rattle.vx_facts.proofs.NarrowRuns.{narrowed_runs}
-use Rattle.vx_facts.proofs.laws.narrowed_runs_stay.Goals as goal
+use Rattle.vx_narrow.proofs.NarrowRuns.{narrowed_runs}
+use Rattle.vx_narrow.proofs.laws.narrowed_runs_stay.Goals as goal
 
 pub returns : goal.returns
 returns c = narrowed_runs

@@ -1,7 +1,9 @@
 use Rattle.std.proofs.Common.{◌≡◌, ◌++◌, drop}
-use Rattle.vx_facts.specs.Narrowing.{are_blocks_checked, listed_claims, listed_given}
-use Rattle.vx_facts.specs.Rewriting.{narrowed_from}
-use Rattle.vx_facts.proofs.narrowing.narrowed_blocks.Given as goal
+use Rattle.vx_narrow.specs.Narrowing.{are_blocks_checked}
+use Rattle.vx_claims.specs.Claims.{listed_claims}
+use Rattle.vx_facts.specs.Checking.{listed_given}
+use Rattle.vx_narrow.specs.Rewriting.{narrowed_from}
+use Rattle.vx_narrow.proofs.narrowing.narrowed_blocks.Given as goal
 
 abbrev pub invariant-loop-place : goal.invariant-loop-place
 invariant-loop-place l = record {

@@ -1,10 +1,12 @@
 use Rattle.std.proofs.Common.{◌≡◌, ◌∙◌, sym, true, subst, IfSome, Option, List}
 use Rattle.vx_flow.specs.declared.graph.Block.{Block}
-use Rattle.vx_facts.specs.Rewriting.{narrowed_from}
-use Rattle.vx_facts.specs.Narrowing.{are_blocks_checked, listed_claims, listed_given}
+use Rattle.vx_narrow.specs.Rewriting.{narrowed_from}
+use Rattle.vx_narrow.specs.Narrowing.{are_blocks_checked}
+use Rattle.vx_claims.specs.Claims.{listed_claims}
+use Rattle.vx_facts.specs.Checking.{listed_given}
 use Rattle.vx_facts.specs.Checking.{is_entry_checked}
-use Rattle.vx_facts.proofs.Staged.{graph_by_table, with_blocks_is}
-use Rattle.vx_facts.proofs.narrowing.narrowed_by.Goals as goal
+use Rattle.vx_narrow.proofs.Staged.{graph_by_table, with_blocks_is}
+use Rattle.vx_narrow.proofs.narrowing.narrowed_by.Goals as goal
 
 pub returns-in_ok-narrowed-in-Some : goal.returns-in_ok-narrowed-in-Some
 returns-in_ok-narrowed-in-Some c =

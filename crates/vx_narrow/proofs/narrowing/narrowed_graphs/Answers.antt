@@ -1,8 +1,9 @@
 use Rattle.std.proofs.Common.{sym, take, ◌+◌, subst, IfSome}
 use Rattle.vx_flow.specs.declared.graph.Graph.{Graph}
-use Rattle.vx_facts.specs.Narrowing.{listed_given, GraphNarrowed, NarrowedWith}
-use Rattle.vx_facts.proofs.Staged.{graphs_next}
-use Rattle.vx_facts.proofs.narrowing.narrowed_graphs.Goals as goal
+use Rattle.vx_facts.specs.Checking.{listed_given}
+use Rattle.vx_narrow.specs.Narrowing.{GraphNarrowed, NarrowedWith}
+use Rattle.vx_narrow.proofs.Staged.{graphs_next}
+use Rattle.vx_narrow.proofs.narrowing.narrowed_graphs.Goals as goal
 
 pub loop-function-preserved : goal.loop-function-preserved
 loop-function-preserved c =

@@ -1,7 +1,7 @@
 use Rattle.std.proofs.Common.{◌≡◌, ◌++◌, drop}
-use Rattle.vx_facts.specs.Forming.{after_from, accessed_from}
-use Rattle.vx_facts.specs.Shortening.{improved_from}
-use Rattle.vx_facts.proofs.passing.pass_ops.Given as goal
+use Rattle.vx_claims.specs.Forming.{after_from, accessed_from}
+use Rattle.vx_narrow.specs.Shortening.{improved_from}
+use Rattle.vx_narrow.proofs.passing.pass_ops.Given as goal
 
 abbrev pub invariant-loop-op : goal.invariant-loop-op
 invariant-loop-op l = record {

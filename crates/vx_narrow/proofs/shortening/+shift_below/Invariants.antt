@@ -1,4 +1,4 @@
-use Rattle.vx_facts.proofs.shortening.+shift_below.Given as goal
+use Rattle.vx_narrow.proofs.shortening.+shift_below.Given as goal
 
 abbrev pub decreases-shift_below : goal.decreases-shift_below
 decreases-shift_below l = l.most

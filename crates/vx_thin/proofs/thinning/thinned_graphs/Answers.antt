@@ -1,7 +1,7 @@
 use Rattle.std.proofs.Common.{sym, take, ◌+◌, subst}
-use Rattle.vx_clean.specs.Thinning.{GraphsThin}
-use Rattle.vx_clean.proofs.ThinFlow.{thins_next}
-use Rattle.vx_clean.proofs.thinning.thinned_graphs.Goals as goal
+use Rattle.vx_thin.specs.Thinning.{GraphsThin}
+use Rattle.vx_thin.proofs.ThinFlow.{thins_next}
+use Rattle.vx_thin.proofs.thinning.thinned_graphs.Goals as goal
 
 pub loop-graph-preserved : goal.loop-graph-preserved
 loop-graph-preserved c =

@@ -1,8 +1,8 @@
 use Rattle.std.proofs.Common.{◌≡◌, ◌∙◌, subst, sym, true}
 use Rattle.vx_flow.specs.Sound.{is_sound_flow}
-use Rattle.vx_clean.specs.Thinning.{GraphsThin}
-use Rattle.vx_clean.proofs.ThinFlow.{once_thinned}
-use Rattle.vx_clean.proofs.thinning.thinned_once.Goals as goal
+use Rattle.vx_thin.specs.Thinning.{GraphsThin}
+use Rattle.vx_thin.proofs.ThinFlow.{once_thinned}
+use Rattle.vx_thin.proofs.thinning.thinned_once.Goals as goal
 
 pub returns-then-branch-clause-flow : goal.returns-then-branch-clause-flow
 returns-then-branch-clause-flow c =

@@ -1,8 +1,8 @@
 use Rattle.std.proofs.Common.{◌≡◌, ◌∙◌, ap, sym, true}
 use Rattle.vx_flow.specs.declared.graph.Graph.{Graph}
-use Rattle.vx_clean.specs.ShapeTest.{is_shaped}
-use Rattle.vx_clean.proofs.ThinFlow.{tested_thins}
-use Rattle.vx_clean.proofs.thinning.thinned_where_shaped.Goals as goal
+use Rattle.vx_shape.specs.ShapeTest.{is_shaped}
+use Rattle.vx_thin.proofs.ThinFlow.{tested_thins}
+use Rattle.vx_thin.proofs.thinning.thinned_where_shaped.Goals as goal
 
 pub returns-then-is_shaped : goal.returns-then-is_shaped
 returns-then-is_shaped c =

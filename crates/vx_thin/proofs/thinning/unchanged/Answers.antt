@@ -1,5 +1,5 @@
-use Rattle.vx_clean.proofs.ThinFlow.{thin_itself}
-use Rattle.vx_clean.proofs.thinning.unchanged.Goals as goal
+use Rattle.vx_thin.proofs.ThinFlow.{thin_itself}
+use Rattle.vx_thin.proofs.thinning.unchanged.Goals as goal
 
 pub returns : goal.returns
 returns c = thin_itself c.args.graph.now c.in_ok-copy.copy c.in_ok-copy.ensures

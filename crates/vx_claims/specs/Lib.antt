@@ -1,0 +1,5 @@
+pub mod Facts
+pub mod Accesses
+pub mod Forming
+pub mod Keeping
+pub mod Claims

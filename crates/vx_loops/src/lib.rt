@@ -1,0 +1,8 @@
+// The order of the blocks of a graph, and its loops.
+#![tactic(auto)]
+
+mod loops;
+mod ordering;
+
+pub use crate::loops::{Loops, entries_at, loop_at, loops_of, spine_of};
+pub use crate::ordering::order_of;

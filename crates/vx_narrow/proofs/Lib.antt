@@ -1,0 +1,6 @@
+mod Products
+mod Narrows
+mod NarrowRuns
+mod Example
+mod Stays
+mod Staged

@@ -1,0 +1,4 @@
+pub mod Shortening
+pub mod Rewriting
+pub mod Staying
+pub mod Narrowing

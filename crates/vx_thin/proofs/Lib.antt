@@ -1,0 +1,3 @@
+pub mod Thins
+mod ThinRuns
+mod ThinFlow
