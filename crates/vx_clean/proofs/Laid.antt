@@ -1,10 +1,11 @@
 -- Steps of loops over chains and graphs.
-use Rattle.std.proofs.Common.{◌≡◌, ℕ, zero, suc, ◌+◌, ◌-◌, ◌<◌, ◌≤◌, List, [], ◌∷◌, ◌++◌, length, take, get_or, slice_get, refl, sym, ap, ◌∙◌, arith, subst}
+use Rattle.std.proofs.Common.{◌≡◌, ℕ, suc, ◌+◌, ◌-◌, ◌<◌, ◌≤◌, List, [], ◌∷◌, ◌++◌, length, take, get_or, slice_get, refl, sym, ap, ◌∙◌, arith, subst}
 use Rattle.vx_flow.specs.declared.graph.Block.{Block}
 use Rattle.vx_flow.specs.declared.graph.Graph.{Graph}
 use Rattle.vx_clean.specs.Laying.{exit_at, last_exit}
 use Rattle.vx_clean.specs.Staying.{GraphStays, GraphsStay}
 use Rattle.vx_clean.proofs.Stays.{graphs_more}
+use Rattle.vx_shape.proofs.Lists.{take_more}
 
 pub last_at : (to : ℕ → ℕ) (blocks : List Block) (chain : List ℕ) → 1 ≤ length chain → exit_at to (slice_get blocks (get_or chain (length chain - 1) 0)) ≡ last_exit to blocks chain
 last_at to blocks [] h = absurd (omega arith)

@@ -1,7 +1,6 @@
 -- Chains that pass the test are linked.
 use Rattle.std.proofs.Common.{◌≡◌, ◌⊎◌, inl, inr, ℕ, ◌==◌, Bool, true, false, ◌&&◌, ◌||◌, List, [], ◌∷◌, slice_get, Option, Some, None, refl, sym, ap, ◌∙◌, subst}
 use Rattle.std.proofs.lemmas.Bool.{eqb-true}
-use Rattle.vx_flow.specs.declared.graph.Op.{Op}
 use Rattle.vx_flow.specs.declared.graph.Exit.{Exit}
 use Rattle.vx_flow.specs.declared.graph.Exit.TheVariants.{Goto, Split, Call, Return, Ends}
 use Rattle.vx_flow.specs.declared.graph.Block.{Block}
@@ -10,6 +9,7 @@ use Rattle.vx_flow.specs.Sound.{targets_of}
 use Rattle.vx_clean.specs.Laying.{ops_at, Near, Begun, ExitLinked, Linked}
 use Rattle.vx_shape.specs.ShapeTest.{is_none_left}
 use Rattle.vx_clean.specs.LinkTest.{is_near, is_near_in, are_begun, is_exit_linked, is_linked_at, is_linked, LinkedWhereTested}
+use Rattle.vx_shape.proofs.ShapeTests.{none_left}
 
 both_true : (a b : Bool) → (a && b) ≡ true → (a ≡ true) × (b ≡ true)
 both_true true b e = (refl, e)

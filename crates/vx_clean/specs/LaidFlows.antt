@@ -1,15 +1,13 @@
 -- A flow of a program whose graphs are laid out as linked chains stays one, where what comes out has the shape.
-use Rattle.std.specs.Prelude.{◌≡◌, ◌<◌, ◌≤◌, ℕ, suc, true, List, [], ◌∷◌, length, slice_get, Some}
-use Rattle.vx_base.specs.declared.outcome.Trap.{Trap}
+use Rattle.std.specs.Prelude.{◌≡◌, ℕ, suc, true, List, [], ◌∷◌, slice_get, Some}
 use Rattle.vx_ast.specs.Tree.{Program}
-use Rattle.vx_flow.specs.declared.graph.Exit.TheVariants.{Split}
-use Rattle.vx_flow.specs.declared.graph.Block.{Block}
 use Rattle.vx_flow.specs.declared.graph.Graph.{Graph}
 use Rattle.vx_flow.specs.declared.graph.Flow.{Flow}
 use Rattle.vx_flow.specs.Sound.{is_sound_flow}
-use Rattle.vx_lower.specs.FlowOf.{EndsBy, IsEdge, FlowOf}
+use Rattle.vx_lower.specs.FlowOf.{FlowOf}
 use Rattle.vx_shape.specs.Flows.{with_graphs}
 use Rattle.vx_clean.specs.Laying.{laid, Begun, Linked}
+use Rattle.vx_shape.specs.Shape.{Shaped}
 
 pub record FunctionLaid (to : ℕ → ℕ) (chains : List (List ℕ)) (g : Graph) : Type 0 where
   pub first : to 0 ≡ 0

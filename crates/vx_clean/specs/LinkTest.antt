@@ -1,12 +1,12 @@
 -- Whether chains are linked, as a test of numbers of blocks and of which blocks are empty.
 use Rattle.std.specs.Prelude.{◌≡◌, ◌==◌, ℕ, Bool, true, false, ◌&&◌, ◌||◌, Option, Some, None, List, [], ◌∷◌, slice_get}
 use Rattle.std.specs.List.{list_all}
-use Rattle.vx_flow.specs.declared.graph.Op.{Op}
 use Rattle.vx_flow.specs.declared.graph.Exit.{Exit}
 use Rattle.vx_flow.specs.declared.graph.Exit.TheVariants.{Goto, Split, Call, Return, Ends}
 use Rattle.vx_flow.specs.declared.graph.Block.{Block}
 use Rattle.vx_flow.specs.Sound.{targets_of}
 use Rattle.vx_clean.specs.Laying.{ops_at, Linked}
+use Rattle.vx_shape.specs.ShapeTest.{is_none_left}
 
 abbrev pub is_near : List Block → ℕ → List ℕ → Bool
 is_near blocks c [] = false

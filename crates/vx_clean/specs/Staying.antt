@@ -4,9 +4,9 @@ use Rattle.vx_ast.specs.Tree.{Function, Program}
 use Rattle.vx_flow.specs.declared.graph.Graph.{Graph}
 use Rattle.vx_flow.specs.declared.graph.Flow.{Flow}
 use Rattle.vx_flow.specs.Sound.{is_sound_flow}
-use Rattle.vx_lower.specs.FlowOf.{GraphOf, FlowOf}
+use Rattle.vx_lower.specs.FlowOf.{GraphOf}
 use Rattle.vx_clean.specs.Cleaning.{Place, GraphCleaned}
-use Rattle.vx_shape.specs.Flows.{with_graphs}
+use Rattle.vx_shape.specs.Flows.{with_graphs, FlowStays}
 
 -- the new graph is the old one cleaned, and keeps the shape that the graph of a function has
 pub record GraphStays (old new : Graph) : Type 0 where

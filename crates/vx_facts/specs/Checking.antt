@@ -1,5 +1,5 @@
 -- When facts claimed at the starts of the blocks of a program are checked, and the laws of checked facts.
-use Rattle.std.specs.Prelude.{◌≡◌, ◌⊎◌, ℕ, zero, suc, Bool, true, false, ◌&&◌, ℤ, int_le, Option, Some, None, List, [], ◌∷◌, slice_get}
+use Rattle.std.specs.Prelude.{◌≡◌, ℕ, zero, suc, Bool, true, false, ◌&&◌, ℤ, int_le, Option, Some, None, List, [], ◌∷◌, slice_get, slice_index_or}
 use Rattle.std.specs.List.{list_all}
 use Rattle.vx_base.specs.Arithmetic.{IsNumber}
 use Rattle.vx_base.specs.Outcome.{On}
@@ -13,16 +13,16 @@ use Rattle.vx_flow.specs.declared.graph.Block.{Block}
 use Rattle.vx_flow.specs.declared.graph.Graph.{Graph}
 use Rattle.vx_flow.specs.declared.graph.Global.{Global}
 use Rattle.vx_flow.specs.declared.graph.Flow.{Flow}
-use Rattle.vx_flow.specs.Effects.{IsIn, State}
-use Rattle.vx_flow.specs.Meaning.{Hop, Arrives, Wrong, Active, hop, next, program_of, start}
+use Rattle.vx_flow.specs.Effects.{IsIn}
+use Rattle.vx_flow.specs.Meaning.{Active, next, program_of, start}
 use Rattle.vx_claims.specs.declared.claim.Claim.{Claim}
 use Rattle.vx_claims.specs.declared.intervals.Interval.{Interval}
 use Rattle.vx_claims.specs.declared.fact.Fact.{Fact}
-use Rattle.vx_claims.specs.declared.fact.Fact.TheVariants.{Between, Equals}
-use Rattle.vx_claims.specs.Facts.{AllHold, least, greatest, range, range_of, without, lies_in, on_side, decided, has_equals}
+use Rattle.vx_claims.specs.Facts.{AllHold, least, greatest, range_of, without, lies_in, on_side}
 use Rattle.vx_claims.specs.Forming.{after_all, accessed_all}
 use Rattle.vx_claims.specs.declared.access.Access.{Access}
 use Rattle.vx_claims.specs.Accesses.{tell}
+use Rattle.vx_claims.specs.Claims.{is_inside, give}
 
 -- the check of one block, where so much is given of the parameters of each function: an interval for each place, and nothing of
 -- the places behind the last interval

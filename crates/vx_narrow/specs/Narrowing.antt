@@ -1,19 +1,17 @@
 -- Graphs exchanged for narrowed ones: each graph by claims of its own, that its entry and its blocks pass with what is given of the
 -- parameters of all.
-use Rattle.std.specs.Prelude.{◌≡◌, ◌+◌, ℕ, Bool, true, ◌&&◌, List, [], ◌∷◌, slice_get, slice_index_or, Some}
+use Rattle.std.specs.Prelude.{◌≡◌, ◌+◌, ℕ, Bool, true, ◌&&◌, List, [], ◌∷◌, slice_get, Some}
 use Rattle.std.specs.List.{list_all}
-use Rattle.vx_ast.specs.Tree.{Program}
 use Rattle.vx_flow.specs.declared.graph.Block.{Block}
 use Rattle.vx_flow.specs.declared.graph.Graph.{Graph}
 use Rattle.vx_flow.specs.declared.graph.Global.{Global}
 use Rattle.vx_flow.specs.declared.graph.Flow.{Flow}
 use Rattle.vx_flow.specs.Sound.{is_sound_flow}
-use Rattle.vx_lower.specs.FlowOf.{FlowOf}
 use Rattle.vx_claims.specs.declared.claim.Claim.{Claim}
 use Rattle.vx_claims.specs.declared.intervals.Interval.{Interval}
 use Rattle.vx_facts.specs.Checking.{is_number, is_entry_checked, is_block_checked}
-use Rattle.vx_claims.specs.Claims.{nothing}
 use Rattle.vx_narrow.specs.Rewriting.{narrowed_graph}
+use Rattle.vx_shape.specs.Flows.{with_graphs, FlowStays}
 
 -- whether the blocks from block b on pass
 abbrev pub are_blocks_checked : (given : ℕ → List Interval) → (ℕ → Claim) → ℕ → List Block → Bool

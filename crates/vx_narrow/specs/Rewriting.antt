@@ -1,6 +1,6 @@
 -- A program whose decided splits go one way and whose results are read where they stand already, and the law that its runs
 -- stay the same.
-use Rattle.std.specs.Prelude.{◌≡◌, ◌+◌, ℕ, Bool, ℤ, Option, Some, None, List, [], ◌∷◌}
+use Rattle.std.specs.Prelude.{◌≡◌, ◌+◌, ℕ, Bool, ℤ, Option, Some, None, List, [], ◌∷◌, ◌⊎◌, true, false, slice_get}
 use Rattle.vx_base.specs.Arithmetic.{IsNumber}
 use Rattle.vx_base.specs.Outcome.{NeverFails}
 use Rattle.vx_flow.specs.declared.graph.Exit.{Exit}
@@ -8,16 +8,15 @@ use Rattle.vx_flow.specs.declared.graph.Exit.TheVariants.{Goto, Split}
 use Rattle.vx_flow.specs.declared.graph.Block.{Block}
 use Rattle.vx_flow.specs.declared.graph.Graph.{Graph}
 use Rattle.vx_flow.specs.declared.graph.Flow.{Flow}
-use Rattle.vx_flow.specs.Effects.{IsIn}
-use Rattle.vx_flow.specs.Meaning.{graph_run}
+use Rattle.vx_flow.specs.Effects.{IsIn, State}
+use Rattle.vx_flow.specs.Meaning.{graph_run, Hop, Arrives, Wrong, Active, hop, program_of, start}
 use Rattle.vx_claims.specs.declared.claim.Claim.{Claim}
 use Rattle.vx_claims.specs.declared.intervals.Interval.{Interval}
 use Rattle.vx_claims.specs.declared.fact.Fact.{Fact}
 use Rattle.vx_claims.specs.Facts.{decided}
 use Rattle.vx_claims.specs.Forming.{after_all}
 use Rattle.vx_narrow.specs.Shortening.{improved_all}
-use Rattle.vx_facts.specs.Checking.{Checked}
-use Rattle.vx_narrow.specs.Rewriting.{side_of}
+use Rattle.vx_facts.specs.Checking.{Checked, Leads}
 
 abbrev pub side_of : Bool → ℕ → ℕ → ℕ
 side_of true c d = c

@@ -4,7 +4,7 @@
 ghost use Rattle.std.specs.Prelude.{◌≡◌, ◌==◌, false, not, slice_get};
 ghost use Rattle.std.specs.List.{list_all};
 ghost use Rattle.vx_flow.specs.Sound.{targets_of};
-ghost use Rattle.vx_shape.specs.ShapeTest.{are_traps_alone, are_traps_last, are_uncritical, is_apart, is_noted, is_shaped, is_shaped_block, is_this, is_trap, is_trap_alone, is_trap_of, is_uncritical};
+ghost use Rattle.vx_shape.specs.ShapeTest.{are_traps_alone, are_traps_last, are_uncritical, is_apart, is_noted, is_none_left, is_shaped, is_shaped_block, is_this, is_trap, is_trap_alone, is_trap_of, is_uncritical};
 
 use vx_base::outcome::Trap;
 use vx_flow::graph::{Block, BlockId, Exit};
