@@ -25,7 +25,7 @@ struct Rows {
     next: Vec<BlockId>,
 }
 
-/// Finds the chains, with time linear in the blocks.
+/// Finds the chains, with time linear in the blocks. What is found owes nothing: it is tested before it is used.
 pub fn find_layout(alloc: Global, blocks: &[Block]) -> Result<Layout, NoMemory> {
     let reached = reach(alloc, blocks)?;
     let skipped = find_skipped(alloc, blocks, &reached)?;

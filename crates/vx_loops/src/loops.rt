@@ -9,7 +9,8 @@ use vx_flow::graph::{ArrayId, Block, BlockId, Exit, Graph, Op, Operand, Value};
 /// How many edges of a loop are gone over at most.
 const MOST_EDGES: usize = 512;
 
-/// What is noted of the blocks of a graph, and of the loop that is looked at.
+/// What is noted of the blocks of a graph, and of the loop that is looked at. Neither this nor its methods owe anything: what is
+/// made of them is tested by those who ask.
 #[derive(Drop)]
 pub struct Loops {
     /// The place of each block in an order in which each stands behind those that lead to it, but for the edges that close loops.
@@ -89,7 +90,7 @@ impl Loops {
     }
 }
 
-/// The edges and the order of the blocks of a graph.
+/// The edges and the order of the blocks of a graph. It owes nothing.
 pub fn loops_of(alloc: Global, graph: &Graph) -> Result<Loops, NoMemory> {
     let blocks = graph.blocks.as_slice();
     let order = order_of(alloc, blocks)?;
@@ -155,7 +156,7 @@ fn note(sources: &mut Vec<Vec<BlockId>>, from: BlockId, to: BlockId) -> Result<(
 }
 
 /// Looks at the loop of a header. Answers the block before it, where it is a header, and one block alone leads to it from outside,
-/// by a jump.
+/// by a jump. It owes nothing.
 pub fn loop_at(
     alloc: Global,
     blocks: &[Block],
@@ -174,7 +175,7 @@ pub fn loop_at(
 }
 
 /// Looks at the loop of a block, which is empty where the block is no header. Answers the blocks that lead to it from outside, none
-/// where the loop is too long.
+/// where the loop is too long. It owes nothing.
 pub fn entries_at(
     alloc: Global,
     blocks: &[Block],
@@ -326,7 +327,8 @@ fn write(loops: &mut Loops, value: Value) {
     }
 }
 
-/// The blocks that each turn passes from the header on, up to the first from which it may go on in two ways.
+/// The blocks that each turn passes from the header on, up to the first from which it may go on in two ways. It
+/// owes nothing.
 pub fn spine_of(
     alloc: Global,
     blocks: &[Block],

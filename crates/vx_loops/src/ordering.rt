@@ -13,6 +13,7 @@ struct Stop {
 }
 
 /// The blocks in their order; those that no path from the entry reaches come last. The time is linear in the blocks.
+/// It owes nothing.
 pub fn order_of(alloc: Global, blocks: &[Block]) -> Result<Vec<BlockId>, NoMemory> {
     let mut seen = vec![in alloc; false; blocks.len()]?;
     let left = walked(alloc, blocks, &mut seen)?;

@@ -51,7 +51,7 @@ struct Calls {
 }
 
 /// Looks for what is given of the parameters of all functions. The time is linear in the calls, beside that of looking for claims
-/// once for each function, and once more for one that passes itself something else.
+/// once for each function, and once more for one that passes itself something else. What is found owes nothing: it is checked.
 pub fn find_given(alloc: Global, functions: &[Graph], rounds: u32) -> Result<Found, NoMemory> {
     let mut calls = calls_of(alloc, functions)?;
     let mut found = nothing_found(alloc, functions.len())?;

@@ -27,7 +27,7 @@ const WIDENS: u32 = 3;
 const GIVES_UP: u32 = 10;
 
 /// Claims at the starts of the blocks of a graph, where its parameters lie in intervals, with so many sweeps that give back. Blocks
-/// with several ways in take over what the blocks before them give where that is wanted.
+/// with several ways in take over what the blocks before them give where that is wanted. They owe nothing: each is checked.
 pub fn find_claims(
     alloc: Global,
     graph: &Graph,

@@ -134,7 +134,13 @@ fn put_range(tables: &mut Tables, value: Value, interval: Interval) {
 }
 
 /// Goes over all blocks in an order. Sweeps have ascending numbers from 1 on.
-pub(crate) fn sweep(tables: &mut Tables, order: &[BlockId], blocks: &[Block], live: &Live, number: u32) {
+pub(crate) fn sweep(
+    tables: &mut Tables,
+    order: &[BlockId],
+    blocks: &[Block],
+    live: &Live,
+    number: u32,
+) {
     for place in order {
         match blocks.get(*place as usize) {
             Some(block) => visit(tables, *place as usize, block, live, number),

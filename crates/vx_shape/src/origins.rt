@@ -5,6 +5,7 @@ use vx_base::outcome::NoMemory;
 use vx_flow::graph::{Block, BlockId, Exit};
 
 /// For each block the number of the one from which edges lead to it, or how many blocks there are where they come from many.
+/// It owes nothing: the test of a shape looks up what it rests on.
 pub fn origins(alloc: Global, blocks: &[Block]) -> Result<Vec<usize>, NoMemory> {
     let mut origins = vec![in alloc; usize::MAX; blocks.len()]?;
     for (from, block) in blocks.iter().enumerate() {
