@@ -8,6 +8,7 @@ ghost use Rattle.vx_ast.specs.Derivations.{unary_of, operator_of, binary_by, joi
 ghost use Rattle.vx_parse.specs.declared.stop.Stop.TheVariants.{NoMemory};
 ghost use Rattle.vx_parse.specs.Choices.{FollowedBy, begins_simple};
 
+use crate::memory::boxed;
 use crate::stop::Stop;
 use std::alloc::Global;
 use vx_ast::syntax::Expression;
@@ -86,8 +87,8 @@ fn binary(
     match operator {
         Some(operator) => Ok(Expression::Binary(
             operator,
-            Box::new(alloc, left)?,
-            Box::new(alloc, right)?,
+            boxed(alloc, left)?,
+            boxed(alloc, right)?,
         )),
         None => Ok(left),
     }
@@ -105,12 +106,12 @@ pub fn join(
 {
     match kind {
         TokenKind::Mark(Mark::AmpersandAmpersand) => Ok(Expression::Both(
-            Box::new(alloc, left)?,
-            Box::new(alloc, right)?,
+            boxed(alloc, left)?,
+            boxed(alloc, right)?,
         )),
         TokenKind::Mark(Mark::BarBar) => Ok(Expression::Either(
-            Box::new(alloc, left)?,
-            Box::new(alloc, right)?,
+            boxed(alloc, left)?,
+            boxed(alloc, right)?,
         )),
         _ => binary(alloc, binary_operator(kind), left, right),
     }

@@ -9,6 +9,7 @@ ghost use Rattle.vx_ast.specs.Phrases.{AfterName, GlobalValue, SignedNumber, Mor
 ghost use Rattle.vx_parse.specs.Reading.{Ended, next_kind, Stops, IsPhrase, Continues};
 ghost use Rattle.vx_parse.specs.Definitions.{MeansSigned, MeansGlobal, MeansGlobals, MeansParameter, MeansParameters, MeansDefinitions, GlobalsBehind, ParametersBehind, Heading, IsFunction, IsAfterName, Defines};
 
+use crate::memory::append;
 use crate::statement::read_block;
 use crate::stop::Stop;
 use crate::token::{
@@ -148,7 +149,7 @@ fn read_more_globals(
             return Ok(all);
         }
         let global = read_next_global(alloc, tokens, all.next)?;
-        all.definitions.push(global.definition)?;
+        append(&mut all.definitions, global.definition)?;
         all.next = global.next;
     }
 }
@@ -168,7 +169,7 @@ fn read_globals(
 {
     let first = read_global(tokens, before.next, name)?;
     let mut definitions = before.definitions;
-    definitions.push(first.definition)?;
+    append(&mut definitions, first.definition)?;
     let all = Definitions {
         definitions,
         next: first.next,
@@ -299,7 +300,7 @@ fn read_int_function(
     let function = read_function(alloc, tokens, before.next, name, Gives::Int)?;
     let mut definitions = before.definitions;
     let next = function.next;
-    definitions.push(Definition::Function(function.function))?;
+    append(&mut definitions, Definition::Function(function.function))?;
     Ok(Definitions { definitions, next })
 }
 
@@ -350,6 +351,6 @@ pub fn read_void(alloc: Global, tokens: &[Token], before: Definitions) -> Result
     let function = read_function(alloc, tokens, name.next, name.name, Gives::Nothing)?;
     let mut definitions = before.definitions;
     let next = function.next;
-    definitions.push(Definition::Function(function.function))?;
+    append(&mut definitions, Definition::Function(function.function))?;
     Ok(Definitions { definitions, next })
 }

@@ -7,6 +7,7 @@ ghost use Rattle.vx_ast.specs.Phrases.{Level, LevelRest, Primary, NameRest, Argu
 ghost use Rattle.vx_parse.specs.Reading.{Ended, Stops, IsOperand, IsBehind, IsNamed, AreOperands, AreMore};
 
 use crate::choice::{join, strength, unary_operator};
+use crate::memory::{append, boxed};
 use crate::stop::Stop;
 use crate::token::{is_mark, kind_at, read_mark, read_name};
 use std::alloc::Global;
@@ -59,12 +60,12 @@ pub fn read_expression(
     if depth + test.height >= DEEPEST {
         return Err(Stop::TooDeep);
     }
-    let condition = Box::new(alloc, test.expression)?;
+    let condition = boxed(alloc, test.expression)?;
     let chosen = read_expression(alloc, tokens, test.next + 1, depth + 1)?;
-    let taken = Box::new(alloc, chosen.expression)?;
+    let taken = boxed(alloc, chosen.expression)?;
     let other_place = read_mark(tokens, chosen.next, Mark::Colon)?;
     let other = read_expression(alloc, tokens, other_place, depth + 1)?;
-    let left = Box::new(alloc, other.expression)?;
+    let left = boxed(alloc, other.expression)?;
     Ok(Operand {
         expression: Expression::Choice(condition, taken, left),
         height: 1 + test.height.max(chosen.height).max(other.height),
@@ -142,7 +143,7 @@ fn read_unary(alloc: Global, tokens: &[Token], place: usize, depth: u32) -> Resu
             }
             let operand = read_unary(alloc, tokens, place + 1, depth + 1)?;
             Ok(Operand {
-                expression: Expression::Unary(operator, Box::new(alloc, operand.expression)?),
+                expression: Expression::Unary(operator, boxed(alloc, operand.expression)?),
                 height: 1 + operand.height,
                 next: operand.next,
             })
@@ -207,7 +208,7 @@ fn read_named(
         }
         let index = read_expression(alloc, tokens, place + 1, depth + 1)?;
         return Ok(Operand {
-            expression: Expression::Element(name, Box::new(alloc, index.expression)?),
+            expression: Expression::Element(name, boxed(alloc, index.expression)?),
             height: 1 + index.height,
             next: read_mark(tokens, index.next, Mark::CloseBracket)?,
         });
@@ -253,7 +254,7 @@ fn read_arguments(
         });
     }
     let first = read_expression(alloc, tokens, place, depth)?;
-    expressions.push(first.expression)?;
+    append(&mut expressions, first.expression)?;
     let before = Operands {
         expressions,
         height: first.height,
@@ -282,7 +283,7 @@ pub fn read_more(
             return Ok(all);
         }
         let next = read_expression(alloc, tokens, all.next + 1, depth)?;
-        all.expressions.push(next.expression)?;
+        append(&mut all.expressions, next.expression)?;
         all.height = all.height.max(next.height);
         all.next = next.next;
     }

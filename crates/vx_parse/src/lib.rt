@@ -5,6 +5,7 @@
 pub mod choice;
 pub mod definition;
 pub mod expression;
+mod memory;
 pub mod opening;
 pub mod parser;
 pub mod phrase_laws;

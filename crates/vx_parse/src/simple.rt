@@ -13,6 +13,7 @@ ghost use Rattle.vx_parse.specs.Statements.{MeansAction, MeansDone, MeansItem, M
 
 use crate::choice::{Following, binary_operator, is_step, what_follows};
 use crate::expression::{read_expression, read_level};
+use crate::memory::append;
 use crate::stop::Stop;
 use crate::token::{is_mark, kind_at, place_at, read_mark, read_name, read_size};
 use std::alloc::Global;
@@ -232,7 +233,7 @@ fn read_more_items(
             return Ok(all);
         }
         let item = read_next_item(alloc, tokens, all.next, depth)?;
-        all.items.push(item.item)?;
+        append(&mut all.items, item.item)?;
         all.next = item.next;
     }
 }
@@ -252,7 +253,7 @@ pub fn read_items(
 {
     let first = read_item(alloc, tokens, place, depth)?;
     let mut items = Vec::new(alloc);
-    items.push(first.item)?;
+    append(&mut items, first.item)?;
     let before = ItemsRead {
         items,
         next: first.next,

@@ -10,12 +10,12 @@ ghost use Rattle.vx_ast.specs.SyntaxView.{phrase_of};
 ghost use Rattle.vx_ast.specs.Phrases as phrases;
 ghost use Rattle.vx_ast.specs.Phrases.{ElsePart, OptionalExpression, OptionalSimple, Print, Block, Items, A, AName, Fits, parts_of, mark};
 ghost use Rattle.vx_ast.specs.Derivations.{returned};
-ghost use Rattle.vx_parse.specs.declared.stop.Stop.TheVariants.{NoMemory};
 ghost use Rattle.vx_parse.specs.Reading.{Ended, next_kind, Stops, IsPhrase, Continues};
 ghost use Rattle.vx_parse.specs.Choices.{begins_simple};
 ghost use Rattle.vx_parse.specs.Statements.{MeansAction, MeansFirst, MeansTest, MeansStep, MeansElse, MeansPrint, MeansCode, MeansBlock, MeansAll, if_with, Test, Head, IsTest, IsHead};
 
 use crate::expression::{DEEPEST, Operands, read_expression, read_more};
+use crate::memory::{append, boxed};
 use crate::opening::{Opening, opening_of};
 use crate::simple::{read_items, read_simple};
 use crate::stop::Stop;
@@ -146,7 +146,7 @@ fn read_test(alloc: Global, tokens: &[Token], place: usize, depth: u32) -> Resul
     let test = read_expression(alloc, tokens, inner, depth)?;
     let next = read_mark(tokens, test.next, Mark::CloseParenthesis)?;
     Ok(TestRead {
-        test: Box::new(alloc, test.expression)?,
+        test: boxed(alloc, test.expression)?,
         next,
     })
 }
@@ -168,7 +168,7 @@ fn read_first_items(
     let items = read_items(alloc, tokens, place + 1, depth)?;
     let next = items.next;
     Ok(FirstRead {
-        first: Box::new(alloc, First::Items(items.items))?,
+        first: boxed(alloc, First::Items(items.items))?,
         next,
     })
 }
@@ -184,7 +184,7 @@ fn read_first(alloc: Global, tokens: &[Token], place: usize, depth: u32) -> Resu
     let kind = kind_at(tokens, place);
     if is_mark(kind, Mark::Semicolon) {
         return Ok(FirstRead {
-            first: Box::new(alloc, First::Nothing)?,
+            first: boxed(alloc, First::Nothing)?,
             next: place,
         });
     }
@@ -194,7 +194,7 @@ fn read_first(alloc: Global, tokens: &[Token], place: usize, depth: u32) -> Resu
     let simple = read_simple(alloc, tokens, place, depth)?;
     let next = simple.next;
     Ok(FirstRead {
-        first: Box::new(alloc, First::Simple(simple.simple))?,
+        first: boxed(alloc, First::Simple(simple.simple))?,
         next,
     })
 }
@@ -214,14 +214,14 @@ fn read_optional(
 {
     if is_mark(kind_at(tokens, place), Mark::Semicolon) {
         return Ok(OptionalRead {
-            expression: Box::new(alloc, None)?,
+            expression: boxed(alloc, None)?,
             next: place,
         });
     }
     let value = read_expression(alloc, tokens, place, depth)?;
     let next = value.next;
     Ok(OptionalRead {
-        expression: Box::new(alloc, Some(value.expression))?,
+        expression: boxed(alloc, Some(value.expression))?,
         next,
     })
 }
@@ -236,14 +236,14 @@ fn read_step(alloc: Global, tokens: &[Token], place: usize, depth: u32) -> Resul
 {
     if is_mark(kind_at(tokens, place), Mark::CloseParenthesis) {
         return Ok(StepRead {
-            step: Box::new(alloc, None)?,
+            step: boxed(alloc, None)?,
             next: place,
         });
     }
     let simple = read_simple(alloc, tokens, place, depth)?;
     let next = simple.next;
     Ok(StepRead {
-        step: Box::new(alloc, Some(simple.simple))?,
+        step: boxed(alloc, Some(simple.simple))?,
         next,
     })
 }
@@ -345,7 +345,7 @@ fn read_boxed(alloc: Global, tokens: &[Token], place: usize, depth: u32) -> Resu
     let simple = read_simple(alloc, tokens, place, depth)?;
     let next = simple.next;
     Ok(BoxedRead {
-        simple: Box::new(alloc, simple.simple)?,
+        simple: boxed(alloc, simple.simple)?,
         next,
     })
 }
@@ -494,13 +494,6 @@ pub fn read_statement(
         Opening::Simple => read_simple_statement(alloc, tokens, place, depth),
         Opening::Nothing => Err(Stop::Unexpected(place)),
     }
-}
-
-fn boxed(alloc: Global, statement: Statement) -> Result<Box<Statement>, Stop>
-    ensures ok { IfOk result (λ body. body.value ≡ statement) }
-    ensures stop { IfErr result (λ stop. stop ≡ NoMemory) }
-{
-    Ok(Box::new(alloc, statement)?)
 }
 
 // A statement inside another.
@@ -741,7 +734,7 @@ fn read_entries(
             return Ok(all);
         }
         let entry = read_entry(alloc, tokens, all.next, depth)?;
-        all.statements.push(entry.statement)?;
+        append(&mut all.statements, entry.statement)?;
         all.next = entry.next;
     }
 }

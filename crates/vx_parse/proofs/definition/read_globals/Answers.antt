@@ -28,4 +28,4 @@ returns-in_err-next-clause-stop c =
 
 pub returns-clause-ok : goal.returns-clause-ok
 returns-clause-ok c =
-    globals_are c.args.tokens.now c.args.name c.args.before _ c.in_ok-more.more _ _ _ c.in_ok-first.first.definition c.requires.within c.requires.here c.in_ok-first.ensures.ok c.in_ok-push.ensures.items refl c.in_ok-more.ensures.ok c.in_ok-next.ensures.ok refl refl
+    globals_are c.args.tokens.now c.args.name c.args.before _ c.in_ok-more.more _ _ _ c.in_ok-first.first.definition c.requires.within c.requires.here c.in_ok-first.ensures.ok c.in_ok-append.ensures.ok refl c.in_ok-more.ensures.ok c.in_ok-next.ensures.ok refl refl

@@ -15,4 +15,4 @@ returns-then-not-is_mark-clause-ok c =
 
 pub globals-preserved : goal.globals-preserved
 globals-preserved c =
-    gathers_next c.in_ok-global.global.definition c.globals.invariant c.in_ok-global.ensures.ok c.in_ok-push.ensures.items
+    gathers_next c.in_ok-global.global.definition c.globals.invariant c.in_ok-global.ensures.ok c.in_ok-append.ensures.ok

@@ -32,4 +32,4 @@ returns-in_err-function-clause-stop c =
 pub returns-clause-ok : goal.returns-clause-ok
 returns-clause-ok c =
     let p = passes_word c.args.tokens.now c.args.before.next words.Void c.requires.ended c.requires.within c.requires.here in
-    void_is c.args.tokens.now c.args.before _ c.in_ok-name.name c.in_ok-function.function (definitions.Function c.in_ok-function.function.function) p c.requires.within c.requires.here c.in_ok-name.ensures.ok c.in_ok-function.ensures.ok c.in_ok-push.ensures.items refl refl
+    void_is c.args.tokens.now c.args.before _ c.in_ok-name.name c.in_ok-function.function (definitions.Function c.in_ok-function.function.function) p c.requires.within c.requires.here c.in_ok-name.ensures.ok c.in_ok-function.ensures.ok c.in_ok-append.ensures.ok refl refl

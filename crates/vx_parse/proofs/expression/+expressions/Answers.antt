@@ -37,7 +37,7 @@ read_arguments-returns-in_err-first-clause-stop t c =
 pub read_arguments-returns-clause-ok : goal.read_arguments-returns-clause-ok
 read_arguments-returns-clause-ok t c =
     let n : next_kind (drop c.args.place c.args.tokens.now) ≡ kinds.Mark marks.CloseParenthesis → ⊥ = λ e. c.is_mark.ensures.no c.if-is_mark.false (c.kind_at.ensures ∙ e) in
-    let items : c.push.new.self.items ≡ c.in_ok-first.first.expression ∷ [] = c.in_ok-push.ensures.items ∙ ap (λ l. l ++ (c.in_ok-first.first.expression ∷ [])) c.new-expressions.ensures.items in
+    let items : c.append.new.items.items ≡ c.in_ok-first.first.expression ∷ [] = c.in_ok-append.ensures.ok ∙ ap (λ l. l ++ (c.in_ok-first.first.expression ∷ [])) c.new-expressions.ensures.items in
     map_ok c.read_more.result (λ r. arguments_are c.args.tokens.now c.args.place c.args.depth c.in_ok-first.first _ r c.requires.within n c.in_ok-first.ensures.ok items refl refl) c.read_more.ensures.ok
 
 pub read_arguments-returns-clause-stop : goal.read_arguments-returns-clause-stop
@@ -187,7 +187,7 @@ pub read_more-more-preserved : goal.read_more-more-preserved
 read_more-more-preserved t c =
     let q : next_kind (drop c.more.all.next c.args.tokens.now) ≡ kinds.Mark marks.Comma = sym c.kind_at.ensures ∙ c.is_mark.ensures.yes c.if-not-is_mark.false in
     let o = comma_opens c.args.tokens.now c.more.all.next c.requires.ended c.more.invariant.within q in
-    gathers_more c.args.before c.args.tokens.now c.args.depth c.more.all _ c.in_ok-next.next c.requires.ended c.more.invariant q c.in_ok-next.ensures.ok c.in_ok-push.ensures.items c.max.ensures refl
+    gathers_more c.args.before c.args.tokens.now c.args.depth c.more.all _ c.in_ok-next.next c.requires.ended c.more.invariant q c.in_ok-next.ensures.ok c.in_ok-append.ensures.ok c.max.ensures refl
 
 pub read_named-returns-then-depth-ge-DEEPEST-clause-stop : goal.read_named-returns-then-depth-ge-DEEPEST-clause-stop
 read_named-returns-then-depth-ge-DEEPEST-clause-stop t c =
@@ -222,7 +222,7 @@ pub read_named-returns-then-is_mark-clause-ok : goal.read_named-returns-then-is_
 read_named-returns-then-is_mark-clause-ok t c =
     let k : next_kind (drop c.args.place c.args.tokens.now) ≡ kinds.Mark marks.OpenBracket = sym c.kind_at-kind.ensures ∙ c.is_mark.ensures.yes c.if-is_mark.true in
     let o = bracket_opens c.args.tokens.now c.args.place c.requires.ended c.requires.within k in
-    element_is c.args.tokens.now c.args.place c.args.depth c.args.name c.in_ok-index.index _ o c.in_ok-index.ensures.ok c.in_ok-read_mark.ensures.ok (ap (λ z. syntax.Element c.args.name (phrase_of z)) c.in_ok-new.ensures.ok) refl
+    element_is c.args.tokens.now c.args.place c.args.depth c.args.name c.in_ok-index.index _ o c.in_ok-index.ensures.ok c.in_ok-read_mark.ensures.ok (ap (λ z. syntax.Element c.args.name (phrase_of z)) c.in_ok-boxed.ensures.ok) refl
 
 pub read_named-returns-then-depth-ge-DEEPEST-2-clause-stop : goal.read_named-returns-then-depth-ge-DEEPEST-2-clause-stop
 read_named-returns-then-depth-ge-DEEPEST-2-clause-stop t c =
@@ -337,12 +337,12 @@ read_unary-returns-in_err-operand-in-Some-clause-stop t c =
     let h : Stops (A (Level 0) ∷ []) (drop c.args.place c.args.tokens.now) c.args.tokens.now c.args.depth 0 c.in_err-operand-in-Some.field-0.0 = stops_opened c.args.depth _ o c.in_err-operand-in-Some.ensures.stop in
     search rules
 
-pub read_unary-returns-in_ok-new-in-Some-clause-ok : goal.read_unary-returns-in_ok-new-in-Some-clause-ok
-read_unary-returns-in_ok-new-in-Some-clause-ok t c =
+pub read_unary-returns-in_ok-boxed-in-Some-clause-ok : goal.read_unary-returns-in_ok-boxed-in-Some-clause-ok
+read_unary-returns-in_ok-boxed-in-Some-clause-ok t c =
     let p : parts_of (Level 0) (next_kind (drop c.args.place c.args.tokens.now)) ≡ Some (phrases.The (next_kind (drop c.args.place c.args.tokens.now)) ∷ A (Level 0) ∷ []) = subst (λ z. parts_of (Level 0) z ≡ Some (phrases.The z ∷ A (Level 0) ∷ [])) c.kind_at.ensures c.in-Some.ensures.operator.1 in
     let o = unary_opens c.args.tokens.now c.args.place c.requires.ended c.requires.within p in
     let e : c.in-Some.operator ≡ unary_of (next_kind (drop c.args.place c.args.tokens.now)) = c.in-Some.ensures.operator.0 ∙ ap unary_of c.kind_at.ensures in
-    let f : syntax.Unary c.in-Some.operator (phrase_of c.in_ok-new-in-Some.field-0.value) ≡ syntax.Unary (unary_of (next_kind (drop c.args.place c.args.tokens.now))) (phrase_of c.in_ok-operand-in-Some.operand.expression) = two e (ap phrase_of c.in_ok-new-in-Some.ensures.ok) in
+    let f : syntax.Unary c.in-Some.operator (phrase_of c.in_ok-boxed-in-Some.field-0.value) ≡ syntax.Unary (unary_of (next_kind (drop c.args.place c.args.tokens.now))) (phrase_of c.in_ok-operand-in-Some.operand.expression) = two e (ap phrase_of c.in_ok-boxed-in-Some.ensures.ok) in
     unary_is c.args.tokens.now c.args.place c.args.depth c.in_ok-operand-in-Some.operand _ o c.in_ok-operand-in-Some.ensures.ok f refl refl
 
 pub read_unary-returns-in-None-clause-ok : goal.read_unary-returns-in-None-clause-ok

@@ -15,7 +15,7 @@ returns-in_err-first-clause-stop c =
 
 pub returns-clause-ok : goal.returns-clause-ok
 returns-clause-ok c =
-    let items : c.push.new.self.items ≡ c.in_ok-first.first.item ∷ [] = c.in_ok-push.ensures.items ∙ ap (λ l. l ++ (c.in_ok-first.first.item ∷ [])) c.new-items.ensures.items in
+    let items : c.append.new.items.items ≡ c.in_ok-first.first.item ∷ [] = c.in_ok-append.ensures.ok ∙ ap (λ l. l ++ (c.in_ok-first.first.item ∷ [])) c.new-items.ensures.items in
     map_ok c.read_more_items.result (λ r w. items_are c.args.tokens.now c.args.place c.args.depth c.in_ok-first.first _ r c.requires.within c.requires.depth c.in_ok-first.ensures.ok items refl w) c.read_more_items.ensures.ok
 
 pub returns-clause-stop : goal.returns-clause-stop

@@ -14,4 +14,4 @@ returns-then-not-is_mark-clause-ok c =
     record { more = g.more; joined = g.joined; phrase = continues_end g.continues w.derivation w.parted w.means }
 
 pub items-preserved : goal.items-preserved
-items-preserved c = gathers_next c.in_ok-item.item.item c.items.invariant c.in_ok-item.ensures.ok c.in_ok-push.ensures.items
+items-preserved c = gathers_next c.in_ok-item.item.item c.items.invariant c.in_ok-item.ensures.ok c.in_ok-append.ensures.ok

@@ -248,7 +248,7 @@ read_entries-entries-init t c =
 
 pub read_entries-entries-preserved : goal.read_entries-entries-preserved
 read_entries-entries-preserved t c =
-    gathers_next c.in_ok-entry.entry.statement c.entries.invariant c.in_ok-entry.ensures.ok c.in_ok-push.ensures.items
+    gathers_next c.in_ok-entry.entry.statement c.entries.invariant c.in_ok-entry.ensures.ok c.in_ok-append.ensures.ok
 
 pub read_block-returns-in_err-inner-clause-stop : goal.read_block-returns-in_err-inner-clause-stop
 read_block-returns-in_err-inner-clause-stop t c =

@@ -12,7 +12,7 @@ use Rattle.vx_parse.proofs.statement.read_first.Goals as goal
 
 pub returns-then-is_mark-clause-ok : goal.returns-then-is_mark-clause-ok
 returns-then-is_mark-clause-ok c =
-    first_nothing c.args.tokens.now c.args.place c.args.depth c.in_ok-new.field-0.value c.requires.within c.requires.depth (sym c.kind_at-kind.ensures ∙ c.is_mark.ensures.yes c.if-is_mark.true) (ap view.first_of c.in_ok-new.ensures.ok)
+    first_nothing c.args.tokens.now c.args.place c.args.depth c.in_ok-boxed.field-0.value c.requires.within c.requires.depth (sym c.kind_at-kind.ensures ∙ c.is_mark.ensures.yes c.if-is_mark.true) (ap view.first_of c.in_ok-boxed.ensures.ok)
 
 pub read_first_items-requires-clause-here : goal.read_first_items-requires-clause-here
 read_first_items-requires-clause-here c =
@@ -30,4 +30,4 @@ pub returns-clause-ok : goal.returns-clause-ok
 returns-clause-ok c =
     let n1 : next_kind (drop c.args.place c.args.tokens.now) ≡ kinds.Mark marks.Semicolon → ⊥ = λ e. c.is_mark.ensures.no c.if-is_mark.false (c.kind_at-kind.ensures ∙ e) in
     let n2 : next_kind (drop c.args.place c.args.tokens.now) ≡ kinds.Keyword words.Int → ⊥ = λ e. c.is_word.ensures.no c.if-is_word.false (c.kind_at-kind.ensures ∙ e) in
-    first_is_simple c.args.tokens.now c.args.place c.args.depth _ c.in_ok-simple.simple.simple c.in_ok-new-2.field-0.value c.requires.within c.requires.depth n1 n2 c.in_ok-simple.ensures.ok (ap view.first_of c.in_ok-new-2.ensures.ok)
+    first_is_simple c.args.tokens.now c.args.place c.args.depth _ c.in_ok-simple.simple.simple c.in_ok-boxed-2.field-0.value c.requires.within c.requires.depth n1 n2 c.in_ok-simple.ensures.ok (ap view.first_of c.in_ok-boxed-2.ensures.ok)

@@ -10,7 +10,7 @@ use Rattle.vx_parse.proofs.statement.read_optional.Goals as goal
 
 pub returns-then-is_mark-clause-ok : goal.returns-then-is_mark-clause-ok
 returns-then-is_mark-clause-ok c =
-    subst (λ z. IsPhrase OptionalExpression c.args.tokens.now c.args.place c.args.place c.args.place c.args.depth (MeansTest z)) (sym c.in_ok-new.ensures.ok) (no_test c.args.tokens.now c.args.place c.args.depth c.requires.within c.requires.depth (sym c.kind_at.ensures ∙ c.is_mark.ensures.yes c.if-is_mark.true))
+    subst (λ z. IsPhrase OptionalExpression c.args.tokens.now c.args.place c.args.place c.args.place c.args.depth (MeansTest z)) (sym c.in_ok-boxed.ensures.ok) (no_test c.args.tokens.now c.args.place c.args.depth c.requires.within c.requires.depth (sym c.kind_at.ensures ∙ c.is_mark.ensures.yes c.if-is_mark.true))
 
 pub returns-in_err-value-clause-stop : goal.returns-in_err-value-clause-stop
 returns-in_err-value-clause-stop c =
@@ -22,4 +22,4 @@ returns-in_err-value-clause-stop c =
 pub returns-clause-ok : goal.returns-clause-ok
 returns-clause-ok c =
     let n1 : next_kind (drop c.args.place c.args.tokens.now) ≡ kinds.Mark marks.Semicolon → ⊥ = λ e. c.is_mark.ensures.no c.if-is_mark.false (c.kind_at.ensures ∙ e) in
-    subst (λ z. IsPhrase OptionalExpression c.args.tokens.now c.args.place c.args.place c.in_ok-value.value.next c.args.depth (MeansTest z)) (sym c.in_ok-new-2.ensures.ok) (some_test c.args.tokens.now c.args.place c.args.depth c.in_ok-value.value c.requires.within c.requires.depth n1 c.in_ok-value.ensures.ok)
+    subst (λ z. IsPhrase OptionalExpression c.args.tokens.now c.args.place c.args.place c.in_ok-value.value.next c.args.depth (MeansTest z)) (sym c.in_ok-boxed-2.ensures.ok) (some_test c.args.tokens.now c.args.place c.args.depth c.in_ok-value.value c.requires.within c.requires.depth n1 c.in_ok-value.ensures.ok)

@@ -10,7 +10,7 @@ use Rattle.vx_parse.proofs.statement.read_step.Goals as goal
 
 pub returns-then-is_mark-clause-ok : goal.returns-then-is_mark-clause-ok
 returns-then-is_mark-clause-ok c =
-    subst (λ z. IsPhrase OptionalSimple c.args.tokens.now c.args.place c.args.place c.args.place c.args.depth (MeansStep z)) (sym c.in_ok-new.ensures.ok) (no_step c.args.tokens.now c.args.place c.args.depth c.requires.within c.requires.depth (sym c.kind_at.ensures ∙ c.is_mark.ensures.yes c.if-is_mark.true))
+    subst (λ z. IsPhrase OptionalSimple c.args.tokens.now c.args.place c.args.place c.args.place c.args.depth (MeansStep z)) (sym c.in_ok-boxed.ensures.ok) (no_step c.args.tokens.now c.args.place c.args.depth c.requires.within c.requires.depth (sym c.kind_at.ensures ∙ c.is_mark.ensures.yes c.if-is_mark.true))
 
 pub returns-in_err-simple-clause-stop : goal.returns-in_err-simple-clause-stop
 returns-in_err-simple-clause-stop c =
@@ -22,4 +22,4 @@ returns-in_err-simple-clause-stop c =
 pub returns-clause-ok : goal.returns-clause-ok
 returns-clause-ok c =
     let n1 : next_kind (drop c.args.place c.args.tokens.now) ≡ kinds.Mark marks.CloseParenthesis → ⊥ = λ e. c.is_mark.ensures.no c.if-is_mark.false (c.kind_at.ensures ∙ e) in
-    subst (λ z. IsPhrase OptionalSimple c.args.tokens.now c.args.place c.args.place c.in_ok-simple.simple.next c.args.depth (MeansStep z)) (sym c.in_ok-new-2.ensures.ok) (some_step c.args.tokens.now c.args.place c.args.depth _ c.in_ok-simple.simple.simple c.requires.within c.requires.depth n1 c.in_ok-simple.ensures.ok)
+    subst (λ z. IsPhrase OptionalSimple c.args.tokens.now c.args.place c.args.place c.in_ok-simple.simple.next c.args.depth (MeansStep z)) (sym c.in_ok-boxed-2.ensures.ok) (some_step c.args.tokens.now c.args.place c.args.depth _ c.in_ok-simple.simple.simple c.requires.within c.requires.depth n1 c.in_ok-simple.ensures.ok)
