@@ -75,22 +75,40 @@ pub fn binary_operator(kind: &TokenKind) -> Option<BinaryOperator>
     Some(operator)
 }
 
-fn binary(
-    alloc: Global,
-    operator: Option<BinaryOperator>,
-    left: Expression,
-    right: Expression,
-) -> Result<Expression, Stop>
-    ensures ok { IfOk result (λ e. phrase_of e ≡ binary_by operator (phrase_of left) (phrase_of right)) }
+/// Two operands, each in a box.
+#[derive(Drop)]
+struct Pair {
+    left: Box<Expression>,
+    right: Box<Expression>,
+}
+
+fn hold(alloc: Global, left: Expression, right: Expression) -> Result<Pair, Stop>
+    ensures left { IfOk result (λ held. held.left.value ≡ left) }
+    ensures right { IfOk result (λ held. held.right.value ≡ right) }
     ensures stop { IfErr result (λ stop. stop ≡ NoMemory) }
 {
+    let left = boxed(alloc, left)?;
+    let right = boxed(alloc, right)?;
+    Ok(Pair { left, right })
+}
+
+fn binary(operator: Option<BinaryOperator>, held: Pair) -> Expression
+    ensures { phrase_of result ≡ binary_by operator (phrase_of held.left.value) (phrase_of held.right.value) }
+{
     match operator {
-        Some(operator) => Ok(Expression::Binary(
-            operator,
-            boxed(alloc, left)?,
-            boxed(alloc, right)?,
-        )),
-        None => Ok(left),
+        Some(operator) => Expression::Binary(operator, held.left, held.right),
+        None => Box::into_inner(held.left),
+    }
+}
+
+// The expression of an operator between two others that are held.
+fn joined(kind: &TokenKind, held: Pair) -> Expression
+    ensures { phrase_of result ≡ joined kind.now (phrase_of held.left.value) (phrase_of held.right.value) }
+{
+    match kind {
+        TokenKind::Mark(Mark::AmpersandAmpersand) => Expression::Both(held.left, held.right),
+        TokenKind::Mark(Mark::BarBar) => Expression::Either(held.left, held.right),
+        _ => binary(binary_operator(kind), held),
     }
 }
 
@@ -104,17 +122,8 @@ pub fn join(
     ensures ok { IfOk result (λ e. phrase_of e ≡ joined kind.now (phrase_of left) (phrase_of right)) }
     ensures stop { IfErr result (λ stop. stop ≡ NoMemory) }
 {
-    match kind {
-        TokenKind::Mark(Mark::AmpersandAmpersand) => Ok(Expression::Both(
-            boxed(alloc, left)?,
-            boxed(alloc, right)?,
-        )),
-        TokenKind::Mark(Mark::BarBar) => Ok(Expression::Either(
-            boxed(alloc, left)?,
-            boxed(alloc, right)?,
-        )),
-        _ => binary(alloc, binary_operator(kind), left, right),
-    }
+    let held = hold(alloc, left, right)?;
+    Ok(joined(kind, held))
 }
 
 /// Whether a token is `++` or `--`.
