@@ -19,6 +19,7 @@ use Rattle.vx_parse.specs.declared.token.SizeRead.{SizeRead}
 use Rattle.vx_parse.specs.declared.token.TextRead.{TextRead}
 use Rattle.vx_parse.specs.declared.expression.Operand.{Operand}
 use Rattle.vx_parse.specs.declared.expression.Operands.{Operands}
+use Rattle.vx_parse.specs.declared.expression.IndexRead.{IndexRead}
 
 abbrev pub next_kind : List Token → TokenKind
 next_kind [] = kinds.End
@@ -156,3 +157,11 @@ pub record AreMore (before : Operands) (tokens : List Token) (depth : ℕ) (r : 
   pub shallow : depth + r.height ≤ 200
   pub further : before.next ≤ r.next
   pub within : r.next < length tokens
+
+-- an index with its brackets: the element that a name makes with it is that name with what stands behind it
+abbrev pub IsIndex : (tokens : List Token) (place depth : ℕ) → IndexRead → Type 0
+IsIndex tokens place depth r = (name : Name) (made : Operand) → phrase_of made.expression ≡ syntax.Element name (phrase_of r.index.value) → made.height ≡ r.height → made.next ≡ r.next → IsNamed name tokens place depth made
+
+-- arguments with their parentheses: the call that a name makes with them is that name with what stands behind it
+abbrev pub AreCalled : (tokens : List Token) (place depth : ℕ) → Operands → Type 0
+AreCalled tokens place depth r = (name : Name) (made : Operand) → phrase_of made.expression ≡ syntax.Call name (row_in r.expressions.items) → made.height ≡ r.height → made.next ≡ r.next → IsNamed name tokens place depth made

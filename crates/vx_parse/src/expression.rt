@@ -1,10 +1,12 @@
 // Expressions.
 
 ghost use Rattle.std.specs.Prelude.{◌≡◌, ◌<◌, ◌≤◌, ◌+◌, length, drop, IfOk, IfErr, ◌∷◌, []};
+ghost use Rattle.vx_ast.specs.declared.token.Mark.TheVariants as marks;
+ghost use Rattle.vx_ast.specs.declared.token.TokenKind.TheVariants as kinds;
 ghost use Rattle.vx_ast.specs.SyntaxView.{phrase_of, row_in};
 ghost use Rattle.vx_ast.specs.Phrases as phrases;
 ghost use Rattle.vx_ast.specs.Phrases.{Level, LevelRest, Primary, NameRest, Arguments, MoreExpressions, A};
-ghost use Rattle.vx_parse.specs.Reading.{Ended, Stops, IsOperand, IsBehind, IsNamed, AreOperands, AreMore};
+ghost use Rattle.vx_parse.specs.Reading.{Ended, next_kind, Stops, IsOperand, IsBehind, IsNamed, IsIndex, AreCalled, AreOperands, AreMore};
 
 use crate::choice::{join, strength, unary_operator};
 use crate::memory::{append, boxed};
@@ -26,6 +28,17 @@ pub struct Operand {
     pub height: u32,
     /// How many tokens stand before what comes next.
     pub next: usize,
+}
+
+/// The index of an element.
+#[derive(Drop)]
+struct IndexRead {
+    /// The index.
+    index: Box<Expression>,
+    /// How deep its constructs stand in each other, with the element itself.
+    height: u32,
+    /// How many tokens stand before what comes next.
+    next: usize,
 }
 
 /// A row of expressions.
@@ -203,31 +216,67 @@ fn read_named(
 {
     let kind = kind_at(tokens, place);
     if is_mark(kind, Mark::OpenBracket) {
-        if depth >= DEEPEST {
-            return Err(Stop::TooDeep);
-        }
-        let index = read_expression(alloc, tokens, place + 1, depth + 1)?;
+        let index = read_index(alloc, tokens, place, depth)?;
         return Ok(Operand {
-            expression: Expression::Element(name, boxed(alloc, index.expression)?),
-            height: 1 + index.height,
-            next: read_mark(tokens, index.next, Mark::CloseBracket)?,
+            expression: Expression::Element(name, index.index),
+            height: index.height,
+            next: index.next,
         });
     }
     if is_mark(kind, Mark::OpenParenthesis) {
-        if depth >= DEEPEST {
-            return Err(Stop::TooDeep);
-        }
-        let arguments = read_arguments(alloc, tokens, place + 1, depth + 1)?;
+        let arguments = read_called(alloc, tokens, place, depth)?;
         return Ok(Operand {
             expression: Expression::Call(name, arguments.expressions),
-            height: 1 + arguments.height,
-            next: read_mark(tokens, arguments.next, Mark::CloseParenthesis)?,
+            height: arguments.height,
+            next: arguments.next,
         });
     }
     Ok(Operand {
         expression: Expression::Name(name),
         height: 0,
         next: place,
+    })
+}
+
+/// The index of an element, with its brackets.
+#[cycle(expressions)]
+fn read_index(alloc: Global, tokens: &[Token], place: usize, depth: u32) -> Result<IndexRead, Stop>
+    requires ended { Ended tokens.now }
+    requires within { place < length tokens.now }
+    requires depth { depth ≤ 200 }
+    requires here { next_kind (drop place tokens.now) ≡ kinds.Mark marks.OpenBracket }
+    ensures ok { IfOk result (λ r. IsIndex tokens.now place depth r) }
+    ensures stop { IfErr result (λ stop. Stops (A NameRest ∷ []) (drop place tokens.now) tokens.now depth 0 stop) }
+{
+    if depth >= DEEPEST {
+        return Err(Stop::TooDeep);
+    }
+    let index = read_expression(alloc, tokens, place + 1, depth + 1)?;
+    Ok(IndexRead {
+        index: boxed(alloc, index.expression)?,
+        height: 1 + index.height,
+        next: read_mark(tokens, index.next, Mark::CloseBracket)?,
+    })
+}
+
+/// The arguments of a call, with their parentheses, which are a construct.
+#[cycle(expressions)]
+fn read_called(alloc: Global, tokens: &[Token], place: usize, depth: u32) -> Result<Operands, Stop>
+    requires ended { Ended tokens.now }
+    requires within { place < length tokens.now }
+    requires depth { depth ≤ 200 }
+    requires here { next_kind (drop place tokens.now) ≡ kinds.Mark marks.OpenParenthesis }
+    ensures ok { IfOk result (λ r. AreCalled tokens.now place depth r) }
+    ensures stop { IfErr result (λ stop. Stops (A NameRest ∷ []) (drop place tokens.now) tokens.now depth 0 stop) }
+{
+    if depth >= DEEPEST {
+        return Err(Stop::TooDeep);
+    }
+    let arguments = read_arguments(alloc, tokens, place + 1, depth + 1)?;
+    Ok(Operands {
+        expressions: arguments.expressions,
+        height: 1 + arguments.height,
+        next: read_mark(tokens, arguments.next, Mark::CloseParenthesis)?,
     })
 }
 

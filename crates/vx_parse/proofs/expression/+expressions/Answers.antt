@@ -5,12 +5,12 @@ use Rattle.vx_ast.specs.declared.token.TokenKind.TheVariants as kinds
 use Rattle.vx_ast.specs.Syntax as syntax
 use Rattle.vx_ast.specs.SyntaxView.{phrase_of}
 use Rattle.vx_ast.specs.Phrases as phrases
-use Rattle.vx_ast.specs.Phrases.{Level, LevelRest, Primary, NameRest, Arguments, MoreExpressions, ChoiceRest, A, parts_of, strength}
+use Rattle.vx_ast.specs.Phrases.{Level, LevelRest, Primary, NameRest, Arguments, MoreExpressions, ChoiceRest, A, mark, parts_of, strength}
 use Rattle.vx_ast.specs.Tree.{One}
 use Rattle.vx_ast.specs.declared.tree.UnaryOperator.{UnaryOperator}
 use Rattle.vx_ast.specs.Derivations.{unary_of, joined}
 use Rattle.vx_parse.specs.declared.expression.Operand.{Operand}
-use Rattle.vx_parse.specs.Reading.{next_kind, Stops, IsOperand}
+use Rattle.vx_parse.specs.Reading.{next_kind, Stops, IsOperand, Passed}
 use Rattle.vx_parse.proofs.Views.{view-Call}
 use Rattle.vx_parse.proofs.Expressions.{map_ok, map_err, enclosed_inner, enclosed_end, bracket_opens, call_opens, nested_opens, unary_opens, nested_is, element_is, call_is, use_is, no_rest, number_is, name_is, name_stops, no_primary, unary_is, primary_is, primary_stops, operates, rest_is_none, rest_too_deep, right_stops, more_is, more_stops, level_is, level_first, level_then, test_is, test_stops, asks, choice_too_deep, chosen_stops, colon_stops, other_stops, choice_is}
 use Rattle.vx_parse.proofs.Steps.{stops_no_phrase, too_deep, stops_opened}
@@ -189,75 +189,72 @@ read_more-more-preserved t c =
     let o = comma_opens c.args.tokens.now c.more.all.next c.requires.ended c.more.invariant.within q in
     gathers_more c.args.before c.args.tokens.now c.args.depth c.more.all _ c.in_ok-next.next c.requires.ended c.more.invariant q c.in_ok-next.ensures.ok c.in_ok-append.ensures.ok c.max.ensures refl
 
-pub read_named-returns-then-depth-ge-DEEPEST-clause-stop : goal.read_named-returns-then-depth-ge-DEEPEST-clause-stop
-read_named-returns-then-depth-ge-DEEPEST-clause-stop t c =
-    let k : next_kind (drop c.args.place c.args.tokens.now) ≡ kinds.Mark marks.OpenBracket = sym c.kind_at-kind.ensures ∙ c.is_mark.ensures.yes c.if-is_mark.true in
-    let o = bracket_opens c.args.tokens.now c.args.place c.requires.ended c.requires.within k in
+pub read_index-returns-then-depth-ge-DEEPEST-clause-stop : goal.read_index-returns-then-depth-ge-DEEPEST-clause-stop
+read_index-returns-then-depth-ge-DEEPEST-clause-stop t c =
+    let o = bracket_opens c.args.tokens.now c.args.place c.requires.ended c.requires.within c.requires.here in
     too_deep c.args.depth o (let h = c.if-depth-ge-DEEPEST.true in omega arith)
 
-pub read_named-read_expression-requires : goal.read_named-read_expression-requires
-read_named-read_expression-requires t c =
-    let k : next_kind (drop c.args.place c.args.tokens.now) ≡ kinds.Mark marks.OpenBracket = sym c.kind_at-kind.ensures ∙ c.is_mark.ensures.yes c.if-is_mark.true in
-    let o = bracket_opens c.args.tokens.now c.args.place c.requires.ended c.requires.within k in
+pub read_index-read_expression-requires : goal.read_index-read_expression-requires
+read_index-read_expression-requires t c =
+    let o = bracket_opens c.args.tokens.now c.args.place c.requires.ended c.requires.within c.requires.here in
     let w : c.args.place + 1 < length c.args.tokens.now = o.passed.within in
     search rules
 
-pub read_named-returns-in_err-index-clause-stop : goal.read_named-returns-in_err-index-clause-stop
-read_named-returns-in_err-index-clause-stop t c =
-    let k : next_kind (drop c.args.place c.args.tokens.now) ≡ kinds.Mark marks.OpenBracket = sym c.kind_at-kind.ensures ∙ c.is_mark.ensures.yes c.if-is_mark.true in
-    let o = bracket_opens c.args.tokens.now c.args.place c.requires.ended c.requires.within k in
+pub read_index-returns-in_err-index-clause-stop : goal.read_index-returns-in_err-index-clause-stop
+read_index-returns-in_err-index-clause-stop t c =
+    let o = bracket_opens c.args.tokens.now c.args.place c.requires.ended c.requires.within c.requires.here in
     let h : Stops (A NameRest ∷ []) (drop c.args.place c.args.tokens.now) c.args.tokens.now c.args.depth 0 c.in_err-index.field-0.0 = enclosed_inner c.args.depth _ o c.in_err-index.ensures.stop in
     search rules
 
-pub read_named-returns-in_err-read_mark-clause-stop : goal.read_named-returns-in_err-read_mark-clause-stop
-read_named-returns-in_err-read_mark-clause-stop t c =
-    let k : next_kind (drop c.args.place c.args.tokens.now) ≡ kinds.Mark marks.OpenBracket = sym c.kind_at-kind.ensures ∙ c.is_mark.ensures.yes c.if-is_mark.true in
-    let o = bracket_opens c.args.tokens.now c.args.place c.requires.ended c.requires.within k in
+pub read_index-returns-in_err-read_mark-clause-stop : goal.read_index-returns-in_err-read_mark-clause-stop
+read_index-returns-in_err-read_mark-clause-stop t c =
+    let o = bracket_opens c.args.tokens.now c.args.place c.requires.ended c.requires.within c.requires.here in
     let a = c.in_ok-index.ensures.ok in
     let b = a.height in let d = a.shallow in
     let h : Stops (A NameRest ∷ []) (drop c.args.place c.args.tokens.now) c.args.tokens.now c.args.depth 0 c.in_err-read_mark.field-0.0 = enclosed_end c.args.depth _ o a.is (omega arith) a.within c.in_err-read_mark.ensures.stop in
     search rules
 
-pub read_named-returns-then-is_mark-clause-ok : goal.read_named-returns-then-is_mark-clause-ok
-read_named-returns-then-is_mark-clause-ok t c =
-    let k : next_kind (drop c.args.place c.args.tokens.now) ≡ kinds.Mark marks.OpenBracket = sym c.kind_at-kind.ensures ∙ c.is_mark.ensures.yes c.if-is_mark.true in
-    let o = bracket_opens c.args.tokens.now c.args.place c.requires.ended c.requires.within k in
-    element_is c.args.tokens.now c.args.place c.args.depth c.args.name c.in_ok-index.index _ o c.in_ok-index.ensures.ok c.in_ok-read_mark.ensures.ok (ap (λ z. syntax.Element c.args.name (phrase_of z)) c.in_ok-boxed.ensures.ok) refl
+pub read_index-returns-clause-ok : goal.read_index-returns-clause-ok
+read_index-returns-clause-ok t c =
+    let o = bracket_opens c.args.tokens.now c.args.place c.requires.ended c.requires.within c.requires.here in
+    λ name made e h n. element_is c.args.tokens.now c.args.place c.args.depth name c.in_ok-index.index made o c.in_ok-index.ensures.ok (subst (λ z. Passed (mark marks.CloseBracket) c.args.tokens.now c.in_ok-index.index.next z) (sym n) c.in_ok-read_mark.ensures.ok) (e ∙ ap (λ z. syntax.Element name (phrase_of z)) c.in_ok-boxed.ensures.ok) h
 
-pub read_named-returns-then-depth-ge-DEEPEST-2-clause-stop : goal.read_named-returns-then-depth-ge-DEEPEST-2-clause-stop
-read_named-returns-then-depth-ge-DEEPEST-2-clause-stop t c =
-    let k : next_kind (drop c.args.place c.args.tokens.now) ≡ kinds.Mark marks.OpenParenthesis = sym c.kind_at-kind.ensures ∙ c.is_mark-2.ensures.yes c.if-is_mark-2.true in
-    let o = call_opens c.args.tokens.now c.args.place c.requires.ended c.requires.within k in
-    too_deep c.args.depth o (let h = c.if-depth-ge-DEEPEST-2.true in omega arith)
+pub read_called-returns-then-depth-ge-DEEPEST-clause-stop : goal.read_called-returns-then-depth-ge-DEEPEST-clause-stop
+read_called-returns-then-depth-ge-DEEPEST-clause-stop t c =
+    let o = call_opens c.args.tokens.now c.args.place c.requires.ended c.requires.within c.requires.here in
+    too_deep c.args.depth o (let h = c.if-depth-ge-DEEPEST.true in omega arith)
 
-pub read_named-read_arguments-requires : goal.read_named-read_arguments-requires
-read_named-read_arguments-requires t c =
-    let k : next_kind (drop c.args.place c.args.tokens.now) ≡ kinds.Mark marks.OpenParenthesis = sym c.kind_at-kind.ensures ∙ c.is_mark-2.ensures.yes c.if-is_mark-2.true in
-    let o = call_opens c.args.tokens.now c.args.place c.requires.ended c.requires.within k in
+pub read_called-read_arguments-requires : goal.read_called-read_arguments-requires
+read_called-read_arguments-requires t c =
+    let o = call_opens c.args.tokens.now c.args.place c.requires.ended c.requires.within c.requires.here in
     let w : c.args.place + 1 < length c.args.tokens.now = o.passed.within in
     search rules
 
-pub read_named-returns-in_err-arguments-clause-stop : goal.read_named-returns-in_err-arguments-clause-stop
-read_named-returns-in_err-arguments-clause-stop t c =
-    let k : next_kind (drop c.args.place c.args.tokens.now) ≡ kinds.Mark marks.OpenParenthesis = sym c.kind_at-kind.ensures ∙ c.is_mark-2.ensures.yes c.if-is_mark-2.true in
-    let o = call_opens c.args.tokens.now c.args.place c.requires.ended c.requires.within k in
+pub read_called-returns-in_err-arguments-clause-stop : goal.read_called-returns-in_err-arguments-clause-stop
+read_called-returns-in_err-arguments-clause-stop t c =
+    let o = call_opens c.args.tokens.now c.args.place c.requires.ended c.requires.within c.requires.here in
     let h : Stops (A NameRest ∷ []) (drop c.args.place c.args.tokens.now) c.args.tokens.now c.args.depth 0 c.in_err-arguments.field-0.0 = enclosed_inner c.args.depth _ o c.in_err-arguments.ensures.stop in
     search rules
 
-pub read_named-returns-in_err-read_mark-2-clause-stop : goal.read_named-returns-in_err-read_mark-2-clause-stop
-read_named-returns-in_err-read_mark-2-clause-stop t c =
-    let k : next_kind (drop c.args.place c.args.tokens.now) ≡ kinds.Mark marks.OpenParenthesis = sym c.kind_at-kind.ensures ∙ c.is_mark-2.ensures.yes c.if-is_mark-2.true in
-    let o = call_opens c.args.tokens.now c.args.place c.requires.ended c.requires.within k in
+pub read_called-returns-in_err-read_mark-clause-stop : goal.read_called-returns-in_err-read_mark-clause-stop
+read_called-returns-in_err-read_mark-clause-stop t c =
+    let o = call_opens c.args.tokens.now c.args.place c.requires.ended c.requires.within c.requires.here in
     let a = c.in_ok-arguments.ensures.ok in
     let b = a.height in let d = a.shallow in
-    let h : Stops (A NameRest ∷ []) (drop c.args.place c.args.tokens.now) c.args.tokens.now c.args.depth 0 c.in_err-read_mark-2.field-0.0 = enclosed_end c.args.depth _ o a.is (omega arith) a.within c.in_err-read_mark-2.ensures.stop in
+    let h : Stops (A NameRest ∷ []) (drop c.args.place c.args.tokens.now) c.args.tokens.now c.args.depth 0 c.in_err-read_mark.field-0.0 = enclosed_end c.args.depth _ o a.is (omega arith) a.within c.in_err-read_mark.ensures.stop in
     search rules
+
+pub read_called-returns-clause-ok : goal.read_called-returns-clause-ok
+read_called-returns-clause-ok t c =
+    let o = call_opens c.args.tokens.now c.args.place c.requires.ended c.requires.within c.requires.here in
+    λ name made e h n. call_is c.args.tokens.now c.args.place c.args.depth name c.in_ok-arguments.arguments made o c.in_ok-arguments.ensures.ok (subst (λ z. Passed (mark marks.CloseParenthesis) c.args.tokens.now c.in_ok-arguments.arguments.next z) (sym n) c.in_ok-read_mark.ensures.ok) e h
+
+pub read_named-returns-then-is_mark-clause-ok : goal.read_named-returns-then-is_mark-clause-ok
+read_named-returns-then-is_mark-clause-ok t c = c.in_ok-index.ensures.ok c.args.name _ refl refl refl
 
 pub read_named-returns-then-is_mark-2-clause-ok : goal.read_named-returns-then-is_mark-2-clause-ok
 read_named-returns-then-is_mark-2-clause-ok t c =
-    let k : next_kind (drop c.args.place c.args.tokens.now) ≡ kinds.Mark marks.OpenParenthesis = sym c.kind_at-kind.ensures ∙ c.is_mark-2.ensures.yes c.if-is_mark-2.true in
-    let o = call_opens c.args.tokens.now c.args.place c.requires.ended c.requires.within k in
-    call_is c.args.tokens.now c.args.place c.args.depth c.args.name c.in_ok-arguments.arguments _ o c.in_ok-arguments.ensures.ok c.in_ok-read_mark-2.ensures.ok (view-Call c.args.name c.in_ok-arguments.arguments.expressions) refl
+    c.in_ok-arguments.ensures.ok c.args.name _ (view-Call c.args.name c.in_ok-arguments.arguments.expressions) refl refl
 
 pub read_named-returns-clause-ok : goal.read_named-returns-clause-ok
 read_named-returns-clause-ok t c =

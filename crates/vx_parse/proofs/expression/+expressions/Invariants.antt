@@ -11,6 +11,12 @@ decreases-read_behind l = 32 * (length l.tokens.now - l.left.next) + 19
 abbrev pub decreases-read_expression : goal.decreases-read_expression
 decreases-read_expression l = 32 * (length l.tokens.now - l.place) + 20
 
+abbrev pub decreases-read_index : goal.decreases-read_index
+decreases-read_index l = 32 * (length l.tokens.now - l.place) + 3
+
+abbrev pub decreases-read_called : goal.decreases-read_called
+decreases-read_called l = 32 * (length l.tokens.now - l.place) + 3
+
 abbrev pub decreases-read_level : goal.decreases-read_level
 decreases-read_level l = 32 * (length l.tokens.now - l.place) + (8 + l.level)
 
