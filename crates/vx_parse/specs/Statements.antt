@@ -3,6 +3,7 @@ use Rattle.std.specs.Prelude.{◌≡◌, ℕ, ◌++◌, List, [], ◌∷◌, Opt
 use Rattle.vx_ast.specs.declared.syntax.Name.{Name}
 use Rattle.vx_ast.specs.declared.syntax.Simple.{Simple}
 use Rattle.vx_ast.specs.declared.syntax.Item.{Item}
+use Rattle.vx_ast.specs.declared.syntax.Item.TheVariants as items
 use Rattle.vx_ast.specs.declared.syntax.Expression.{Expression}
 use Rattle.vx_ast.specs.declared.syntax.First.{First}
 use Rattle.vx_ast.specs.declared.syntax.Statement.{Statement}
@@ -15,6 +16,9 @@ use Rattle.vx_ast.specs.Phrases as phrases
 use Rattle.vx_ast.specs.Phrases.{Phrase, MoreItems, OptionalExpression, OptionalSimple, Part, A, mark, Derivation, Leaf, Node, NoMore, Then}
 use Rattle.vx_ast.specs.Derivations.{name_of, target_of, done_to, action_of, valued, item_of, more_items_of, items_of, expression_of, first_of, test_of, step_of, if_of, print_of, code_of, block_of, all_of}
 use Rattle.vx_parse.specs.declared.simple.ItemsRead.{ItemsRead}
+use Rattle.vx_parse.specs.declared.simple.Given.{Given}
+use Rattle.vx_parse.specs.declared.simple.Given.TheVariants as givens
+use Rattle.vx_parse.specs.declared.simple.GivenRead.{GivenRead}
 use Rattle.vx_parse.specs.declared.statement.TestRead.{TestRead}
 use Rattle.vx_parse.specs.declared.statement.HeadRead.{HeadRead}
 use Rattle.vx_parse.specs.declared.statement.BodyRead.{BodyRead}
@@ -39,6 +43,16 @@ MeansItem item d = item_of d ≡ view.item_of item
 -- behind each token that is this name
 abbrev pub MeansValue : Name → Item → Derivation One → Type 0
 MeansValue name item d = (t : Token) → name ≡ name_of t → valued t (row_inside d) ≡ view.item_of item
+
+-- the item of a name with what stands behind it
+abbrev pub item_with : Name → Given → Item
+item_with name givens.Nothing = items.Scalar name
+item_with name (givens.Value value) = items.ScalarWith name value
+item_with name (givens.Words size) = items.Array name size
+
+-- what stands behind the name of an item, whatever the name is
+abbrev pub IsGiven : (tokens : List Token) (place depth : ℕ) → GivenRead → Type 0
+IsGiven tokens place depth r = (name : Name) → IsPhrase phrases.ItemValue tokens place place r.next depth (MeansValue name (item_with name r.given))
 
 -- items, each behind a comma
 abbrev pub MeansItems : List Item → Derivation One → Type 0

@@ -9,7 +9,7 @@ ghost use Rattle.vx_ast.specs.Phrases as phrases;
 ghost use Rattle.vx_ast.specs.Phrases.{Level, SimpleRest, ItemValue, MoreItems, A, The, parts_of};
 ghost use Rattle.vx_ast.specs.Derivations.{stepped, assigned};
 ghost use Rattle.vx_parse.specs.Reading.{Ended, next_kind, Stops, IsPhrase, Continues};
-ghost use Rattle.vx_parse.specs.Statements.{MeansAction, MeansDone, MeansItem, MeansValue, MeansItems, AreItems, ItemsBehind};
+ghost use Rattle.vx_parse.specs.Statements.{MeansAction, MeansDone, MeansItem, MeansItems, IsGiven, item_with, AreItems, ItemsBehind};
 
 use crate::choice::{Following, binary_operator, is_step, what_follows};
 use crate::expression::{read_expression, read_level};
@@ -17,7 +17,7 @@ use crate::memory::append;
 use crate::stop::Stop;
 use crate::token::{is_mark, kind_at, place_at, read_mark, read_name, read_size};
 use std::alloc::Global;
-use vx_ast::syntax::{Expression, Item, Name, Simple, Target};
+use vx_ast::syntax::{Expression, Item, Name, Simple, Size, Target};
 use vx_ast::token::{Mark, Token, TokenKind};
 
 /// A statement that may stand in the head of a `for`, and the place behind it.
@@ -36,6 +36,26 @@ pub struct ItemRead {
     pub item: Item,
     /// How many tokens stand before what comes next.
     pub next: usize,
+}
+
+/// What stands behind the name of an item.
+#[derive(Drop)]
+enum Given {
+    /// Nothing.
+    Nothing,
+    /// `=` and a value.
+    Value(Expression),
+    /// The number of words of an array in brackets.
+    Words(Size),
+}
+
+/// What stands behind the name of an item, and the place behind it.
+#[derive(Drop)]
+struct GivenRead {
+    /// What stands there.
+    given: Given,
+    /// How many tokens stand before what comes next.
+    next: usize,
 }
 
 /// Items of a declaration, and the place behind them.
@@ -151,38 +171,43 @@ pub fn read_simple(
 }
 
 // What stands behind the name of an item: a value, a size or nothing.
-fn read_value(
-    alloc: Global,
-    tokens: &[Token],
-    place: usize,
-    depth: u32,
-    name: Name,
-) -> Result<ItemRead, Stop>
+fn read_given(alloc: Global, tokens: &[Token], place: usize, depth: u32) -> Result<GivenRead, Stop>
     requires ended { Ended tokens.now }
     requires within { place < length tokens.now }
     requires depth { depth ≤ 200 }
-    ensures ok { IfOk result (λ r. IsPhrase ItemValue tokens.now place place r.next depth (MeansValue name r.item)) }
+    ensures ok { IfOk result (λ r. IsGiven tokens.now place depth r) }
     ensures stop { IfErr result (λ stop. Stops (A ItemValue ∷ []) (drop place tokens.now) tokens.now depth 0 stop) }
 {
     let kind = kind_at(tokens, place);
     if is_mark(kind, Mark::Equal) {
         let value = read_expression(alloc, tokens, place + 1, depth)?;
-        return Ok(ItemRead {
-            item: Item::ScalarWith(name, value.expression),
+        return Ok(GivenRead {
+            given: Given::Value(value.expression),
             next: value.next,
         });
     }
     if is_mark(kind, Mark::OpenBracket) {
         let size = read_size(tokens, place + 1)?;
-        return Ok(ItemRead {
-            item: Item::Array(name, size.size),
+        return Ok(GivenRead {
+            given: Given::Words(size.size),
             next: read_mark(tokens, size.next, Mark::CloseBracket)?,
         });
     }
-    Ok(ItemRead {
-        item: Item::Scalar(name),
+    Ok(GivenRead {
+        given: Given::Nothing,
         next: place,
     })
+}
+
+// The item of a name with what stands behind it.
+fn item_with(name: Name, given: Given) -> Item
+    ensures { result ≡ item_with name given }
+{
+    match given {
+        Given::Nothing => Item::Scalar(name),
+        Given::Value(value) => Item::ScalarWith(name, value),
+        Given::Words(size) => Item::Array(name, size),
+    }
 }
 
 fn read_item(alloc: Global, tokens: &[Token], place: usize, depth: u32) -> Result<ItemRead, Stop>
@@ -193,7 +218,11 @@ fn read_item(alloc: Global, tokens: &[Token], place: usize, depth: u32) -> Resul
     ensures stop { IfErr result (λ stop. Stops (A phrases.Item ∷ []) (drop place tokens.now) tokens.now depth 0 stop) }
 {
     let name = read_name(alloc, tokens, place)?;
-    read_value(alloc, tokens, name.next, depth, name.name)
+    let given = read_given(alloc, tokens, name.next, depth)?;
+    Ok(ItemRead {
+        item: item_with(name.name, given.given),
+        next: given.next,
+    })
 }
 
 // An item behind a comma.

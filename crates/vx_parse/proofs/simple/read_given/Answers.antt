@@ -7,7 +7,7 @@ use Rattle.vx_parse.specs.Reading.{next_kind, Stops}
 use Rattle.vx_parse.proofs.Tokens.{passes_mark}
 use Rattle.vx_parse.proofs.Parts.{past_token, within_phrase, misfit, misfit_number}
 use Rattle.vx_parse.proofs.Simples.{no_value_parts, equal_before, bracket_before, valued_is, sized_is, scalar_is}
-use Rattle.vx_parse.proofs.simple.read_value.Goals as goal
+use Rattle.vx_parse.proofs.simple.read_given.Goals as goal
 
 pub read_expression-requires-clause-within : goal.read_expression-requires-clause-within
 read_expression-requires-clause-within c =
@@ -26,7 +26,7 @@ pub returns-then-is_mark-clause-ok : goal.returns-then-is_mark-clause-ok
 returns-then-is_mark-clause-ok c =
     let e : next_kind (drop c.args.place c.args.tokens.now) ≡ kinds.Mark marks.Equal = sym c.kind_at-kind.ensures ∙ c.is_mark.ensures.yes c.if-is_mark.true in
     let p = passes_mark c.args.tokens.now c.args.place marks.Equal c.requires.ended c.requires.within e in
-    valued_is c.args.tokens.now c.args.place c.args.depth c.args.name c.in_ok-value.value (items.ScalarWith c.args.name c.in_ok-value.value.expression) p c.requires.within c.requires.depth e c.in_ok-value.ensures.ok refl
+    λ name. valued_is c.args.tokens.now c.args.place c.args.depth name c.in_ok-value.value (items.ScalarWith name c.in_ok-value.value.expression) p c.requires.within c.requires.depth e c.in_ok-value.ensures.ok refl
 
 pub read_size-requires-clause-within : goal.read_size-requires-clause-within
 read_size-requires-clause-within c =
@@ -53,10 +53,10 @@ pub returns-then-is_mark-2-clause-ok : goal.returns-then-is_mark-2-clause-ok
 returns-then-is_mark-2-clause-ok c =
     let e : next_kind (drop c.args.place c.args.tokens.now) ≡ kinds.Mark marks.OpenBracket = sym c.kind_at-kind.ensures ∙ c.is_mark-2.ensures.yes c.if-is_mark-2.true in
     let p = passes_mark c.args.tokens.now c.args.place marks.OpenBracket c.requires.ended c.requires.within e in
-    sized_is c.args.tokens.now c.args.place c.args.depth _ c.args.name c.in_ok-size.size (items.Array c.args.name c.in_ok-size.size.size) p c.requires.within c.requires.depth e c.in_ok-size.ensures.ok c.in_ok-read_mark.ensures.ok refl
+    λ name. sized_is c.args.tokens.now c.args.place c.args.depth _ name c.in_ok-size.size (items.Array name c.in_ok-size.size.size) p c.requires.within c.requires.depth e c.in_ok-size.ensures.ok c.in_ok-read_mark.ensures.ok refl
 
 pub returns-clause-ok : goal.returns-clause-ok
 returns-clause-ok c =
     let n1 : next_kind (drop c.args.place c.args.tokens.now) ≡ kinds.Mark marks.Equal → ⊥ = λ e. c.is_mark.ensures.no c.if-is_mark.false (c.kind_at-kind.ensures ∙ e) in
     let n2 : next_kind (drop c.args.place c.args.tokens.now) ≡ kinds.Mark marks.OpenBracket → ⊥ = λ e. c.is_mark-2.ensures.no c.if-is_mark-2.false (c.kind_at-kind.ensures ∙ e) in
-    scalar_is c.args.tokens.now c.args.place c.args.depth c.args.name (items.Scalar c.args.name) c.requires.within c.requires.depth (no_value_parts (next_kind (drop c.args.place c.args.tokens.now)) n1 n2) refl
+    λ name. scalar_is c.args.tokens.now c.args.place c.args.depth name (items.Scalar name) c.requires.within c.requires.depth (no_value_parts (next_kind (drop c.args.place c.args.tokens.now)) n1 n2) refl
