@@ -6,6 +6,7 @@ ghost use Rattle.vx_ast.specs.SyntaxView.{phrase_of, row_in};
 ghost use Rattle.vx_ast.specs.View.{place_of, tree_of};
 ghost use Rattle.vx_ast.specs.View as view;
 
+use crate::memory::{append, boxed};
 use crate::names::Names;
 use std::alloc::Global;
 use vx_ast::names::Named;
@@ -144,8 +145,8 @@ fn resolve_boxed(
     ensures { IfOk result (λ made. tree_of made.value ≡ tree_in names.now (phrase_of expression.now)) }
 {
     let made = resolve(alloc, names, expression)?;
-    let boxed = Box::new(alloc, made)?;
-    Ok(boxed)
+    let held = boxed(alloc, made)?;
+    Ok(held)
 }
 
 /// A row of arguments with what their names stand for.
@@ -160,7 +161,7 @@ pub fn resolve_row(
     let mut made = Vec::new(alloc);
     for argument in row {
         let one = resolve(alloc, names, argument)?;
-        made.push(one)?;
+        append(&mut made, one)?;
     }
     Ok(made)
 }

@@ -9,6 +9,7 @@ mod kinds;
 pub mod laws;
 mod limits;
 mod local;
+mod memory;
 mod names;
 mod node_counts;
 mod program;

@@ -18,6 +18,7 @@ use crate::items::{
     resolve_test,
 };
 use crate::kinds::{gives_int, note, note_expression, note_row};
+use crate::memory::{append, boxed};
 use crate::names::{Names, bytes_of};
 use std::alloc::Global;
 use vx_ast::names::Fault;
@@ -51,16 +52,51 @@ struct Tested {
 /// The head of a `for`.
 #[derive(Drop)]
 struct Head {
-    start: First,
-    test: Option<Expression>,
-    step: Option<Simple>,
+    start: Box<First>,
+    test: Box<Option<Expression>>,
+    step: Box<Option<Simple>>,
 }
 
 /// The condition and the step of a `for`.
 #[derive(Drop)]
 struct Ends {
-    test: Option<Expression>,
-    step: Option<Simple>,
+    test: Box<Option<Expression>>,
+    step: Box<Option<Simple>>,
+}
+
+/// The parts of a `for`.
+#[derive(Drop)]
+struct ForParts {
+    start: Box<First>,
+    test: Box<Option<Expression>>,
+    step: Box<Option<Simple>>,
+    body: Box<Statement>,
+}
+
+/// The condition of a `for` in a box, with what its names stand for.
+fn held_test(
+    alloc: Global,
+    names: &Names,
+    test: &Option<syntax::Expression>,
+) -> Result<Box<Option<Expression>>, NoMemory>
+    ensures { IfOk result (λ made. option_map view.tree_of made.value ≡ test_in names.now (option_map phrase_of test.now)) }
+{
+    let made = resolve_test(alloc, names, test)?;
+    let held = boxed(alloc, made)?;
+    Ok(held)
+}
+
+/// The step of a `for` in a box, with what its names stand for.
+fn held_step(
+    alloc: Global,
+    names: &Names,
+    step: &Option<syntax::Simple>,
+) -> Result<Box<Option<Simple>>, NoMemory>
+    ensures { IfOk result (λ made. view.step_of made.value ≡ code_in names.now (step_of step.now)) }
+{
+    let made = resolve_step(alloc, names, step)?;
+    let held = boxed(alloc, made)?;
+    Ok(held)
 }
 
 /// The condition and the step of a `for`, with what their names stand for.
@@ -70,12 +106,28 @@ fn ends_of_for(
     test: &Option<syntax::Expression>,
     step: &Option<syntax::Simple>,
 ) -> Result<Ends, NoMemory>
-    ensures test { IfOk result (λ made. option_map view.tree_of made.test ≡ test_in names.now (option_map phrase_of test.now)) }
-    ensures step { IfOk result (λ made. view.step_of made.step ≡ code_in names.now (step_of step.now)) }
+    ensures test { IfOk result (λ made. option_map view.tree_of made.test.value ≡ test_in names.now (option_map phrase_of test.now)) }
+    ensures step { IfOk result (λ made. view.step_of made.step.value ≡ code_in names.now (step_of step.now)) }
 {
-    let test = resolve_test(alloc, names, test)?;
-    let step = resolve_step(alloc, names, step)?;
+    let test = held_test(alloc, names, test)?;
+    let step = held_step(alloc, names, step)?;
     Ok(Ends { test, step })
+}
+
+/// The first part of the head of a `for` in a box: its faults, and what it is with its names declared.
+fn held_start(
+    alloc: Global,
+    names: &mut Names,
+    first: &mut Option<Fault>,
+    start: &syntax::First,
+) -> Result<Box<First>, NoMemory>
+    ensures made { IfOk result (λ made. view.first_of made.value ≡ code_in names.old (first_of start.now)) }
+    ensures known { OnOk result (names.new ≡ behind (first_of start.now) names.old) }
+    ensures faults { OnOk result (first.new ≡ least first.old (code_faults Int false names.old (first_of start.now))) }
+{
+    let made = first_part(alloc, names, first, start)?;
+    let held = boxed(alloc, made)?;
+    Ok(held)
 }
 
 /// The head of a `for`: its faults, and what it is with its names declared.
@@ -87,13 +139,13 @@ fn head_of_for(
     test: &Option<syntax::Expression>,
     step: &Option<syntax::Simple>,
 ) -> Result<Head, NoMemory>
-    ensures start { IfOk result (λ made. view.first_of made.start ≡ code_in names.old (first_of start.now)) }
-    ensures test { IfOk result (λ made. option_map view.tree_of made.test ≡ test_in (behind (first_of start.now) names.old) (option_map phrase_of test.now)) }
-    ensures step { IfOk result (λ made. view.step_of made.step ≡ code_in (behind (first_of start.now) names.old) (step_of step.now)) }
+    ensures start { IfOk result (λ made. view.first_of made.start.value ≡ code_in names.old (first_of start.now)) }
+    ensures test { IfOk result (λ made. option_map view.tree_of made.test.value ≡ test_in (behind (first_of start.now) names.old) (option_map phrase_of test.now)) }
+    ensures step { IfOk result (λ made. view.step_of made.step.value ≡ code_in (behind (first_of start.now) names.old) (step_of step.now)) }
     ensures known { OnOk result (names.new ≡ behind (first_of start.now) names.old) }
     ensures faults { OnOk result (first.new ≡ least (least (least first.old (code_faults Int false names.old (first_of start.now))) (test_faults (behind (first_of start.now) names.old) (option_map phrase_of test.now))) (code_faults Int false (behind (first_of start.now) names.old) (step_of step.now))) }
 {
-    let start = first_part(alloc, names, first, start)?;
+    let start = held_start(alloc, names, first, start)?;
     let before = note_test(names, test, *first);
     *first = note_step(names, step, before);
     let made = ends_of_for(alloc, names, test, step)?;
@@ -102,6 +154,18 @@ fn head_of_for(
         test: made.test,
         step: made.step,
     })
+}
+
+/// A `for` of its parts.
+fn for_of(made: ForParts) -> Statement
+    ensures { view.code_of result ≡ tree.For (view.first_of made.start.value) (option_map view.tree_of made.test.value) (view.step_of made.step.value) (view.code_of made.body.value) }
+{
+    Statement::For(
+        Box::into_inner(made.start),
+        Box::into_inner(made.test),
+        Box::into_inner(made.step),
+        made.body,
+    )
 }
 
 /// What is printed, by a format and its arguments.
@@ -155,14 +219,6 @@ fn returning(
 {
     let value = resolve(alloc, names, value)?;
     Ok(Statement::ReturnValue(value))
-}
-
-/// One more statement.
-fn append(made: &mut Vec<Statement>, done: Statement) -> Result<(), NoMemory>
-    ensures { OnOk result (made.new.items ≡ made.old.items ++ done ∷ []) }
-{
-    made.push(done)?;
-    Ok(())
 }
 
 /// A statement of a function that gives so, inside of a loop or not.
@@ -252,10 +308,28 @@ fn alone(
 {
     let count = names.count();
     names.enter()?;
-    let made = statement(alloc, gives, loops, names, first, branch)?;
-    let boxed = Box::new(alloc, made)?;
+    let made = held(alloc, gives, loops, names, first, branch)?;
     names.leave(alloc, count)?;
-    Ok(boxed)
+    Ok(made)
+}
+
+/// A statement in a box.
+#[cycle(statements)]
+fn held(
+    alloc: Global,
+    gives: Gives,
+    loops: bool,
+    names: &mut Names,
+    first: &mut Option<Fault>,
+    written: &syntax::Statement,
+) -> Result<Box<Statement>, NoMemory>
+    ensures made { IfOk result (λ made. view.code_of made.value ≡ code_in names.old (code_of written.now)) }
+    ensures known { OnOk result (names.new ≡ behind (code_of written.now) names.old) }
+    ensures faults { OnOk result (first.new ≡ least first.old (code_faults gives loops names.old (code_of written.now))) }
+{
+    let made = statement(alloc, gives, loops, names, first, written)?;
+    let held = boxed(alloc, made)?;
+    Ok(held)
 }
 
 /// A condition, and a branch or a body behind it in a scope of its own.
@@ -299,6 +373,38 @@ fn otherwise(
     Ok(Statement::IfElse(before.test, before.body, right))
 }
 
+/// The parts of a `for`, its head and its body, in a scope of its own.
+#[cycle(statements)]
+fn parts_of_for(
+    alloc: Global,
+    gives: Gives,
+    names: &mut Names,
+    first: &mut Option<Fault>,
+    body: &syntax::Statement,
+    start: &syntax::First,
+    test: &Option<syntax::Expression>,
+    step: &Option<syntax::Simple>,
+) -> Result<ForParts, NoMemory>
+    ensures start { IfOk result (λ made. view.first_of made.start.value ≡ code_in (inside names.old) (first_of start.now)) }
+    ensures test { IfOk result (λ made. option_map view.tree_of made.test.value ≡ test_in (behind (first_of start.now) (inside names.old)) (option_map phrase_of test.now)) }
+    ensures step { IfOk result (λ made. view.step_of made.step.value ≡ code_in (behind (first_of start.now) (inside names.old)) (step_of step.now)) }
+    ensures body { IfOk result (λ made. view.code_of made.body.value ≡ code_in (inside (behind (first_of start.now) (inside names.old))) (code_of body.now)) }
+    ensures known { OnOk result (names.new ≡ behind (spec.For (first_of start.now) (option_map phrase_of test.now) (step_of step.now) (code_of body.now)) names.old) }
+    ensures faults { OnOk result (first.new ≡ least first.old (code_faults Int false (inside names.old) (first_of start.now) ++ (test_faults (behind (first_of start.now) (inside names.old)) (option_map phrase_of test.now) ++ (code_faults Int false (behind (first_of start.now) (inside names.old)) (step_of step.now) ++ code_faults gives true (inside (behind (first_of start.now) (inside names.old))) (code_of body.now))))) }
+{
+    let count = names.count();
+    names.enter()?;
+    let head = head_of_for(alloc, names, first, start, test, step)?;
+    let body = alone(alloc, gives, true, names, first, body)?;
+    names.leave(alloc, count)?;
+    Ok(ForParts {
+        start: head.start,
+        test: head.test,
+        step: head.step,
+        body,
+    })
+}
+
 /// A `for`: its head and its body, in a scope of its own.
 #[cycle(statements)]
 fn repeated(
@@ -315,14 +421,8 @@ fn repeated(
     ensures known { OnOk result (names.new ≡ behind (spec.For (first_of start.now) (option_map phrase_of test.now) (step_of step.now) (code_of body.now)) names.old) }
     ensures faults { OnOk result (first.new ≡ least first.old (code_faults Int false (inside names.old) (first_of start.now) ++ (test_faults (behind (first_of start.now) (inside names.old)) (option_map phrase_of test.now) ++ (code_faults Int false (behind (first_of start.now) (inside names.old)) (step_of step.now) ++ code_faults gives true (inside (behind (first_of start.now) (inside names.old))) (code_of body.now))))) }
 {
-    let count = names.count();
-    names.enter()?;
-    let made = head_of_for(alloc, names, first, start, test, step)?;
-    let boxed = Box::new(alloc, made)?;
-    let body = alone(alloc, gives, true, names, first, body)?;
-    names.leave(alloc, count)?;
-    let made = Box::into_inner(boxed);
-    Ok(Statement::For(made.start, made.test, made.step, body))
+    let made = parts_of_for(alloc, gives, names, first, body, start, test, step)?;
+    Ok(for_of(made))
 }
 
 // The statements of a block, in a scope of its own.

@@ -16,7 +16,7 @@ resolve-returns-in_ok-row-in-Call t c =
 
 pub resolve_row-loop-argument-preserved : goal.resolve_row-loop-argument-preserved
 resolve_row-loop-argument-preserved t c =
-    row_made_step c.args.names.now c.loop-argument.made.items c.push.new.self.items c.in_ok-one.one c.args.row.now c.loop-argument.argument-index c.argument-item.result _ c.loop-argument-test.true c.argument-item.is c.loop-argument.invariant c.in_ok-push.ensures.items c.in_ok-one.ensures
+    row_made_step c.args.names.now c.loop-argument.made.items c.append.new.made.items c.in_ok-one.one c.args.row.now c.loop-argument.argument-index c.argument-item.result _ c.loop-argument-test.true c.argument-item.is c.loop-argument.invariant c.in_ok-append.ensures c.in_ok-one.ensures
 
 pub resolve_row-returns : goal.resolve_row-returns
 resolve_row-returns t c = row_made_end c.args.names.now c.loop-argument.made.items (drop c.loop-argument.argument-index c.args.row.now) _ (drop_whole c.args.row.now c.loop-argument.argument-index c.loop-argument-test.false) c.loop-argument.invariant

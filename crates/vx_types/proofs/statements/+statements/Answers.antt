@@ -24,11 +24,11 @@ alone-returns-clause-known t c = grind (arith, leaves_block)
 pub block-returns-clause-known : goal.block-returns-clause-known
 block-returns-clause-known t c = grind (arith, leaves_block)
 
-pub repeated-returns-clause-known : goal.repeated-returns-clause-known
-repeated-returns-clause-known t c = grind (arith, leaves_for)
+pub parts_of_for-returns-clause-known : goal.parts_of_for-returns-clause-known
+parts_of_for-returns-clause-known t c = grind (arith, leaves_for)
 
-pub repeated-returns-clause-faults : goal.repeated-returns-clause-faults
-repeated-returns-clause-faults t c = grind (arith, least_append)
+pub parts_of_for-returns-clause-faults : goal.parts_of_for-returns-clause-faults
+parts_of_for-returns-clause-faults t c = grind (arith, least_append)
 
 pub statement-returns-in_ok-made-in-Block-clause-made : goal.statement-returns-in_ok-made-in-Block-clause-made
 statement-returns-in_ok-made-in-Block-clause-made t c = grind (arith, block_written, block_view)
