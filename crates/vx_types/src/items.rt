@@ -3,21 +3,45 @@
 ghost use Rattle.std.specs.Prelude.{◌≡◌, IfOk, OnOk, option_map, false};
 ghost use Rattle.vx_ast.specs.declared.tree.Gives.TheVariants.{Int};
 ghost use Rattle.vx_ast.specs.Faults.{action_faults, code_faults, declares, least, sizes_faults, test_faults};
-ghost use Rattle.vx_ast.specs.Resolved.{action_in, code_in, test_in};
-ghost use Rattle.vx_ast.specs.Scopes.{behind};
+ghost use Rattle.vx_ast.specs.Resolved.{action_in, code_in, target_in, test_in, tree_in};
+ghost use Rattle.vx_ast.specs.Scopes.{behind, with_scalar};
 ghost use Rattle.vx_ast.specs.SyntaxView.{action_of, first_of, item_of, items_of, phrase_of, step_of};
+ghost use Rattle.vx_ast.specs.Tree as tree;
 ghost use Rattle.vx_ast.specs.View as view;
 ghost use Rattle.vx_ast.specs.View.{tree_of};
 
 use crate::expressions::{resolve, resolve_target};
 use crate::kinds::{note, note_expression, note_target, note_whole};
+use crate::memory::append;
 use crate::names::Names;
 use std::alloc::Global;
 use vx_ast::names::Fault;
 use vx_ast::syntax;
 use vx_ast::syntax::{Name, Size};
-use vx_ast::tree::{Expression, First, Item, Simple};
+use vx_ast::tree::{Expression, First, Item, Simple, Target};
 use vx_base::outcome::NoMemory;
+
+/// A target and a value.
+#[derive(Drop)]
+struct Assignment {
+    target: Target,
+    value: Expression,
+}
+
+/// A target and a value with what their names stand for.
+fn assigned(
+    alloc: Global,
+    names: &Names,
+    target: &syntax::Expression,
+    value: &syntax::Expression,
+) -> Result<Assignment, NoMemory>
+    ensures target { IfOk result (λ made. view.place_of made.target ≡ target_in names.now (phrase_of target.now)) }
+    ensures value { IfOk result (λ made. tree_of made.value ≡ tree_in names.now (phrase_of value.now)) }
+{
+    let target = resolve_target(alloc, names, target)?;
+    let value = resolve(alloc, names, value)?;
+    Ok(Assignment { target, value })
+}
 
 /// A simple statement with what its names stand for.
 pub fn resolve_simple(
@@ -33,14 +57,12 @@ pub fn resolve_simple(
             Ok(Simple::Evaluate(value))
         }
         syntax::Simple::Assign(target, value) => {
-            let target = resolve_target(alloc, names, &target.expression)?;
-            let value = resolve(alloc, names, value)?;
-            Ok(Simple::Assign(target, value))
+            let made = assigned(alloc, names, &target.expression, value)?;
+            Ok(Simple::Assign(made.target, made.value))
         }
         syntax::Simple::Compound(target, operator, value) => {
-            let target = resolve_target(alloc, names, &target.expression)?;
-            let value = resolve(alloc, names, value)?;
-            Ok(Simple::Compound(target, *operator, value))
+            let made = assigned(alloc, names, &target.expression, value)?;
+            Ok(Simple::Compound(made.target, *operator, made.value))
         }
         syntax::Simple::Increase(target) => {
             let target = resolve_target(alloc, names, &target.expression)?;
@@ -97,6 +119,21 @@ pub fn note_size(size: Size, first: Option<Fault>) -> Option<Fault>
     note(first, size.words == 0, 13, size.place)
 }
 
+// A declared scalar with a value, which does not know the name.
+fn valued(
+    alloc: Global,
+    names: &mut Names,
+    name: &Name,
+    value: &syntax::Expression,
+) -> Result<Item, NoMemory>
+    ensures made { IfOk result (λ made. view.item_of made ≡ tree.Declare names.old.scalars (tree_in names.old (phrase_of value.now))) }
+    ensures known { OnOk result (names.new ≡ with_scalar name.now names.old) }
+{
+    let value = resolve(alloc, names, value)?;
+    let number = names.scalar(alloc, name)?;
+    Ok(Item::ScalarWith(number, value))
+}
+
 // An item of a declaration, whose name is known behind it.
 #[tactic(auto, using(crate::proofs::Leasts::least_append))]
 fn item(
@@ -118,9 +155,7 @@ fn item(
         syntax::Item::ScalarWith(name, value) => {
             let before = note_expression(names, value, *first);
             *first = note_name(names, name, before);
-            let value = resolve(alloc, names, value)?;
-            let number = names.scalar(alloc, name)?;
-            Ok(Item::ScalarWith(number, value))
+            valued(alloc, names, name, value)
         }
         syntax::Item::Array(name, size) => {
             let before = note_name(names, name, *first);
@@ -145,7 +180,7 @@ pub fn items(
     let mut made = Vec::new(alloc);
     for one in all {
         let declared = item(alloc, names, first, one)?;
-        made.push(declared)?;
+        append(&mut made, declared)?;
     }
     Ok(made)
 }
