@@ -3,6 +3,7 @@ pub mod Picking
 mod SummaryRows
 pub mod Answering
 pub mod Completing
+mod Always
 pub mod Simulating
 pub mod FileSteps
 pub mod Issued

@@ -8,3 +8,4 @@ pub mod Ending
 pub mod Counting
 pub mod SoakSteps
 pub mod Commands
+pub mod Always

@@ -4,6 +4,7 @@
 mod boxes;
 mod compiling;
 mod exec;
+pub mod laws;
 mod loaded;
 mod profile;
 mod running;
