@@ -7,6 +7,8 @@ mod header_blocks;
 pub mod laws;
 pub mod live_rows;
 mod liveness;
+pub mod named;
+pub mod program_names;
 mod route_index;
 pub mod routes;
 mod rows;

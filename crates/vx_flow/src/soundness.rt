@@ -2,11 +2,15 @@
 // specs/Sound.antt, and the tests there. Nothing here takes memory: each operation is tested once with what it names, and each place of, and
 // each access to, a local array by at most one pass over the operations of its graph.
 
-ghost use Rattle.std.specs.Prelude.{◌≡◌, ◌↔◌, ◌==◌, true, not, length, slice_get};
+ghost use Rattle.std.specs.Prelude.{◌≡◌, ◌↔◌, ◌==◌, true, not};
 ghost use Rattle.std.specs.List.{list_all, list_any};
-ghost use Rattle.vx_flow.specs.Sound.{are_distinct, begins_with, block_keeps, has_parameters, has_place_in, is_access_placed, is_block_there, is_branch, is_call_there, is_general, is_general_or_none, is_global, is_kept, is_local, is_operand, is_place_in, is_placed, is_result, is_right, is_right_value, is_sound, is_sound_block, is_sound_exit, is_sound_flow, is_sound_function, is_sound_in, is_sound_operation, is_text_there, is_value, is_written, is_zero, keeps_place, leaves_alone, Sound, SoundFlow};
+ghost use Rattle.vx_flow.specs.Sound.{block_keeps, has_place_in, is_access_placed, is_kept, is_place_in, is_placed, is_result, is_right_value, is_sound, is_sound_block, is_sound_flow, is_sound_function, is_sound_in, is_value, keeps_place, leaves_alone, Sound, SoundFlow};
 
-use crate::graph::{Array, Bank, Block, Exit, Flow, Global, Graph, Op, Operand, Value};
+use crate::graph::{Block, Exit, Flow, Graph, Op, Operand, Value};
+use crate::named::{are_general, is_local, is_place_in, is_sound_exit, is_sound_operation};
+use crate::program_names::{
+    are_blocks_there, are_distinct, are_others, begins_with, has_parameters,
+};
 use vx_base::arithmetic::Code;
 
 impl Graph {
@@ -82,171 +86,12 @@ fn are_sound_in(graph: &Graph, ops: &[Op]) -> bool
     ops.iter().all(|op| is_sound_in(graph, op))
 }
 
-fn are_general(banks: &[Bank], values: &[Value]) -> bool
-    ensures { result ≡ list_all (is_general banks.now) values.now }
-{
-    values.iter().all(|value| is_general(banks, *value))
-}
-
-fn are_operands(banks: &[Bank], operands: &[Operand]) -> bool
-    ensures { result ≡ list_all (is_operand banks.now) operands.now }
-{
-    operands.iter().all(|operand| is_operand(banks, operand))
-}
-
 fn is_sound_in(graph: &Graph, op: &Op) -> bool
     ensures { result ≡ is_sound_in graph.now op.now }
 {
     is_sound_operation(graph.banks.as_slice(), graph.arrays.len(), op)
         && is_kept(graph, op)
         && is_access_placed(graph, op)
-}
-
-/// Whether what an operation names is there and of its kind.
-fn is_sound_operation(banks: &[Bank], arrays: usize, op: &Op) -> bool
-    ensures { result ≡ is_sound_operation banks.now arrays op.now }
-{
-    match op {
-        Op::Compute {
-            code,
-            to,
-            left,
-            right,
-        } => {
-            is_written(banks, *code, *to)
-                && is_operand(banks, left)
-                && is_right(banks, *code, right)
-        }
-        Op::Select {
-            to,
-            test,
-            left,
-            right,
-        } => {
-            is_general(banks, *to)
-                && is_branch(banks, *test)
-                && is_operand(banks, left)
-                && is_operand(banks, right)
-        }
-        Op::Place { to, array, index } => {
-            is_general(banks, *to) && (*array as usize) < arrays && is_operand(banks, index)
-        }
-        Op::Load {
-            to,
-            array,
-            place,
-            ..
-        } => is_general(banks, *to) && (*array as usize) < arrays && is_operand(banks, place),
-        Op::Store { array, place, from } => {
-            (*array as usize) < arrays && is_operand(banks, place) && is_operand(banks, from)
-        }
-        Op::More { to } => is_general(banks, *to),
-        Op::Input { to } => is_general(banks, *to),
-        Op::Text { .. } => true,
-        Op::Decimal { from } => is_operand(banks, from),
-        Op::Across { .. } => false,
-    }
-}
-
-/// Whether what an exit names is there and of its kind.
-fn is_sound_exit(banks: &[Bank], blocks: usize, exit: &Exit) -> bool
-    ensures { result ≡ is_sound_exit banks.now blocks exit.now }
-{
-    match exit {
-        Exit::Goto(to) => (*to as usize) < blocks,
-        Exit::Split { test, yes, no } => {
-            is_branch(banks, *test) && (*yes as usize) < blocks && (*no as usize) < blocks
-        }
-        Exit::Call {
-            arguments,
-            result,
-            next,
-            ..
-        } => {
-            are_operands(banks, arguments.as_slice())
-                && is_general_or_none(banks, *result)
-                && (*next as usize) < blocks
-        }
-        Exit::Return(operand) => is_operand(banks, operand),
-        Exit::Ends(_) => true,
-    }
-}
-
-/// A number, or a general value that is there.
-fn is_operand(banks: &[Bank], operand: &Operand) -> bool
-    ensures { result ≡ is_operand banks.now operand.now }
-{
-    match operand {
-        Operand::Held(value) => is_general(banks, *value),
-        Operand::Number(_) => true,
-        Operand::Stack => false,
-    }
-}
-
-/// What stands as the right operand of a move is no operand.
-fn is_right(banks: &[Bank], code: Code, operand: &Operand) -> bool
-    ensures { result ≡ is_right banks.now code operand.now }
-{
-    match code {
-        Code::Mov => is_zero(operand),
-        _ => is_operand(banks, operand),
-    }
-}
-
-fn is_zero(operand: &Operand) -> bool
-    ensures { result ≡ is_zero operand.now }
-{
-    match operand {
-        Operand::Number(number) => *number == 0,
-        _ => false,
-    }
-}
-
-/// A compare to a branch value writes one, every other code a general value.
-fn is_written(banks: &[Bank], code: Code, value: Value) -> bool
-    ensures { result ≡ is_written banks.now code value }
-{
-    match code {
-        Code::ToBranch(_) => is_branch(banks, value),
-        _ => is_general(banks, value),
-    }
-}
-
-fn is_general_or_none(banks: &[Bank], value: Option<Value>) -> bool
-    ensures { result ≡ is_general_or_none banks.now value }
-{
-    match value {
-        Some(value) => is_general(banks, value),
-        None => true,
-    }
-}
-
-fn is_general(banks: &[Bank], value: Value) -> bool
-    ensures { result ≡ is_general banks.now value }
-{
-    match banks.get(value as usize) {
-        Some(Bank::General) => true,
-        _ => false,
-    }
-}
-
-fn is_branch(banks: &[Bank], value: Value) -> bool
-    ensures { result ≡ is_branch banks.now value }
-{
-    match banks.get(value as usize) {
-        Some(Bank::Branch) => true,
-        _ => false,
-    }
-}
-
-/// Whether an array is there and is the function's own.
-fn is_local(arrays: &[Array], array: u32) -> bool
-    ensures { result ≡ is_local arrays.now array }
-{
-    match arrays.get(array as usize) {
-        Some(array) => !array.global,
-        None => false,
-    }
 }
 
 /// Where the operation is a place of a local array, whether its value is only that.
@@ -279,13 +124,6 @@ fn keep_place(value: Value, array: u32, ops: &[Op]) -> bool
     ensures { result ≡ list_all (keeps_place value array) ops.now }
 {
     ops.iter().all(|op| keeps_place(value, array, op))
-}
-
-/// Whether no value of a list is this one.
-fn are_others(value: Value, values: &[Value]) -> bool
-    ensures { result ≡ list_all (λ u. not (u == value)) values.now }
-{
-    values.iter().all(|other| *other != value)
 }
 
 fn are_not_held(value: Value, operands: &[Operand]) -> bool
@@ -424,19 +262,6 @@ fn is_place_among(value: Value, array: u32, ops: &[Op]) -> bool
     ops.iter().any(|op| is_place_in(value, array, op))
 }
 
-fn is_place_in(value: Value, array: u32, op: &Op) -> bool
-    ensures { result ≡ is_place_in value array op.now }
-{
-    match op {
-        Op::Place {
-            to,
-            array: other,
-            ..
-        } => *to == value && *other == array,
-        _ => false,
-    }
-}
-
 /// Whether a graph is sound, and what it names of the program is there.
 fn is_sound_function(flow: &Flow, graph: &Graph) -> bool
     ensures { result ≡ is_sound_function flow.now graph.now }
@@ -452,98 +277,4 @@ fn are_sound_functions(flow: &Flow, graphs: &[Graph]) -> bool
     ensures { result ≡ list_all (is_sound_function flow.now) graphs.now }
 {
     graphs.iter().all(|graph| is_sound_function(flow, graph))
-}
-
-fn are_blocks_there(flow: &Flow, blocks: &[Block]) -> bool
-    ensures { result ≡ list_all (is_block_there flow.now) blocks.now }
-{
-    blocks.iter().all(|block| is_block_there(flow, block))
-}
-
-fn are_texts_there(flow: &Flow, ops: &[Op]) -> bool
-    ensures { result ≡ list_all (is_text_there flow.now) ops.now }
-{
-    ops.iter().all(|op| is_text_there(flow, op))
-}
-
-fn is_block_there(flow: &Flow, block: &Block) -> bool
-    ensures { result ≡ is_block_there flow.now block.now }
-{
-    are_texts_there(flow, block.ops.as_slice()) && is_call_there(flow, &block.exit)
-}
-
-fn is_text_there(flow: &Flow, op: &Op) -> bool
-    ensures { result ≡ is_text_there flow.now op.now }
-{
-    match op {
-        Op::Text { number } => (*number as usize) < flow.texts.len(),
-        _ => true,
-    }
-}
-
-/// The function that is called is there, with one parameter for each argument.
-fn is_call_there(flow: &Flow, exit: &Exit) -> bool
-    ensures { result ≡ is_call_there flow.now exit.now }
-{
-    match exit {
-        Exit::Call {
-            function,
-            arguments,
-            ..
-        } => has_parameters(arguments.len(), flow.functions.as_slice(), *function),
-        _ => true,
-    }
-}
-
-/// Whether the function is there and has so many parameters.
-fn has_parameters(count: usize, functions: &[Graph], function: u32) -> bool
-    ensures { result ≡ has_parameters count (slice_get functions.now function) }
-{
-    match functions.get(function as usize) {
-        Some(graph) => graph.parameters.len() == count,
-        None => false,
-    }
-}
-
-/// Whether no value stands twice. A function has few parameters.
-fn are_distinct(values: &[Value]) -> bool
-    ensures { result ≡ are_distinct values.now }
-{
-    for (place, value) in values.iter().enumerate() {
-        if !are_others(*value, &values[place + 1..]) {
-            return false;
-        }
-    }
-    true
-}
-
-/// The globals in their order, with their words, and then local arrays.
-fn begins_with(globals: &[Global], arrays: &[Array]) -> bool
-    ensures { result ≡ begins_with globals.now arrays.now }
-{
-    let mut left = arrays;
-    for global in globals {
-        match left {
-            [array, later @ ..] => {
-                if !is_global(array, global.words) {
-                    return false;
-                }
-                left = later;
-            }
-            [] => return false,
-        }
-    }
-    are_own(left)
-}
-
-fn is_global(array: &Array, words: u32) -> bool
-    ensures { result ≡ is_global words array.now }
-{
-    array.global && array.words == words
-}
-
-fn are_own(arrays: &[Array]) -> bool
-    ensures { result ≡ list_all (λ array. not array.global) arrays.now }
-{
-    arrays.iter().all(|array| !array.global)
 }

@@ -1,8 +1,6 @@
 // Whether the graphs of a program are sound, by a table of the values that are places of local arrays.
 #![tactic(auto)]
 
-mod calling;
-mod naming;
 mod origins;
 mod places;
 mod sound;

@@ -1,12 +1,12 @@
 // The values that are places of local arrays. Whatever is noted here is tested before it is used.
 
 ghost use Rattle.std.specs.Prelude.{◌≡◌};
-ghost use Rattle.vx_flow.specs.Sound.{is_local};
 ghost use Rattle.vx_sound.specs.Origins.{noted};
 
 use std::alloc::Global;
 use vx_base::outcome::NoMemory;
 use vx_flow::graph::{Array, ArrayId, Graph, Op, Value};
+use vx_flow::named::is_local;
 
 /// Which array a value is a place of, and where a place that writes it stands.
 #[derive(Clone, Copy, Debug)]
@@ -20,7 +20,7 @@ pub struct Origin {
 }
 
 /// For each value of a graph the origin that was found last. The time is that of one pass over the blocks.
-pub fn find_origins(alloc: Global, graph: &Graph) -> Result<Vec<Option<Origin>>, NoMemory> {
+pub(crate) fn find_origins(alloc: Global, graph: &Graph) -> Result<Vec<Option<Origin>>, NoMemory> {
     let mut origins = vec![in alloc; None; graph.banks.len()]?;
     for (block, found) in graph.blocks.as_slice().iter().enumerate() {
         note_ops(
@@ -67,15 +67,5 @@ pub fn noted(origins: &[Option<Origin>], value: Value) -> Option<Origin>
     match origins.get(value as usize) {
         Some(origin) => *origin,
         None => None,
-    }
-}
-
-/// Whether an array is there and is the function's own.
-pub fn is_local(arrays: &[Array], array: ArrayId) -> bool
-    ensures { result ≡ is_local arrays.now array }
-{
-    match arrays.get(array as usize) {
-        Some(array) => !array.global,
-        None => false,
     }
 }

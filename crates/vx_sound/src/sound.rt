@@ -5,12 +5,12 @@ ghost use Rattle.std.specs.Prelude.{◌≡◌, true, IfOk};
 ghost use Rattle.std.specs.List.{list_all};
 ghost use Rattle.vx_flow.specs.Sound.{is_sound, is_sound_flow, is_sound_function};
 
-use crate::calling::{are_blocks_there, are_distinct, begins_with, has_parameters};
 use crate::origins::{Origin, find_origins};
 use crate::places::is_shown;
 use std::alloc::Global;
 use vx_base::outcome::NoMemory;
 use vx_flow::graph::{Flow, Graph};
+use vx_flow::program_names::{are_blocks_there, are_distinct, begins_with, has_parameters};
 
 /// Whether the graphs of a program are sound: what `Flow::sound` tells. Where they are, the time is that of a few passes over the
 /// graphs, and a graph takes memory for each of its values.

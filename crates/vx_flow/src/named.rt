@@ -2,11 +2,12 @@
 
 ghost use Rattle.std.specs.Prelude.{◌≡◌};
 ghost use Rattle.std.specs.List.{list_all};
-ghost use Rattle.vx_flow.specs.Sound.{is_branch, is_general, is_general_or_none, is_operand, is_right, is_sound_exit, is_sound_operation, is_written, is_zero};
+ghost use Rattle.vx_flow.specs.Sound.{is_branch, is_general, is_general_or_none, is_local, is_operand, is_place_in, is_right, is_sound_exit, is_sound_operation, is_written, is_zero};
 
+use crate::graph::{Array, ArrayId, Bank, Exit, Op, Operand, Value};
 use vx_base::arithmetic::Code;
-use vx_flow::graph::{Bank, Exit, Op, Operand, Value};
 
+/// Whether these are general values that are there.
 pub fn are_general(banks: &[Bank], values: &[Value]) -> bool
     ensures { result ≡ list_all (is_general banks.now) values.now }
 {
@@ -152,6 +153,30 @@ fn is_branch(banks: &[Bank], value: Value) -> bool
 {
     match banks.get(value as usize) {
         Some(Bank::Branch) => true,
+        _ => false,
+    }
+}
+
+/// Whether an array is there and is the function's own.
+pub fn is_local(arrays: &[Array], array: u32) -> bool
+    ensures { result ≡ is_local arrays.now array }
+{
+    match arrays.get(array as usize) {
+        Some(array) => !array.global,
+        None => false,
+    }
+}
+
+/// Whether the operation is a place of the array, and writes it into the value.
+pub fn is_place_in(value: Value, array: u32, op: &Op) -> bool
+    ensures { result ≡ is_place_in value array op.now }
+{
+    match op {
+        Op::Place {
+            to,
+            array: other,
+            ..
+        } => *to == value && *other == array,
         _ => false,
     }
 }

@@ -4,7 +4,7 @@ ghost use Rattle.std.specs.Prelude.{◌≡◌, ◌==◌, not, slice_get};
 ghost use Rattle.std.specs.List.{list_all};
 ghost use Rattle.vx_flow.specs.Sound.{are_distinct, begins_with, has_parameters, is_block_there, is_call_there, is_global, is_text_there};
 
-use vx_flow::graph::{Array, Block, Exit, Flow, Global, Graph, Op, Value};
+use crate::graph::{Array, Block, Exit, Flow, Global, Graph, Op, Value};
 
 /// Whether the function is there and has so many parameters.
 pub fn has_parameters(count: usize, functions: &[Graph], function: u32) -> bool
@@ -16,6 +16,7 @@ pub fn has_parameters(count: usize, functions: &[Graph], function: u32) -> bool
     }
 }
 
+/// Whether the texts that blocks print and the functions that they call are there, with a parameter for each argument.
 pub fn are_blocks_there(flow: &Flow, blocks: &[Block]) -> bool
     ensures { result ≡ list_all (is_block_there flow.now) blocks.now }
 {
@@ -70,7 +71,7 @@ pub fn are_distinct(values: &[Value]) -> bool
 }
 
 /// Whether no value of a list is this one.
-fn are_others(value: Value, values: &[Value]) -> bool
+pub(crate) fn are_others(value: Value, values: &[Value]) -> bool
     ensures { result ≡ list_all (λ u. not (u == value)) values.now }
 {
     values.iter().all(|other| *other != value)

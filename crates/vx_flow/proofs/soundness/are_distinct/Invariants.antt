@@ -1,6 +1,0 @@
-use Rattle.std.proofs.Common.{◌≡◌, drop}
-use Rattle.vx_flow.specs.Sound.{are_distinct}
-use Rattle.vx_flow.proofs.soundness.are_distinct.Given as goal
-
-abbrev pub invariant-loop-place : goal.invariant-loop-place
-invariant-loop-place l = are_distinct l.values ≡ are_distinct (drop l.place l.values)
