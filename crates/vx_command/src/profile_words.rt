@@ -76,10 +76,7 @@ fn read_words<'a>(
 }
 
 /// What the words of `profile` ask for, the program's name first, or their refusal.
-pub fn profile_asked<'a>(
-    alloc: Global,
-    words: &'a [&'a str],
-) -> Result<ProfileWords<'a>, Refused>
+pub fn profile_asked<'a>(alloc: Global, words: &'a [&'a str]) -> Result<ProfileWords<'a>, Refused>
     ensures asked { IfOk result (λ asked. profile_of (map (λ w. w.now) words.now) ≡ Some (Count (profiling_of asked))) }
     ensures refused { IfErr result (λ refused. (refused.status ≡ Status.NoMemory) ⊎ ((refused.status ≡ Status.Usage) × (profile_of (map (λ w. w.now) words.now) ≡ None))) }
 {

@@ -72,7 +72,11 @@ fn find_additions(alloc: Global, graph: &Graph) -> Result<Found, NoMemory> {
 }
 
 /// The operations that are put at the end of a block.
-pub(crate) fn ops_at(alloc: Global, additions: &[Addition], block: usize) -> Result<Listed<Op>, NoMemory> {
+pub(crate) fn ops_at(
+    alloc: Global,
+    additions: &[Addition],
+    block: usize,
+) -> Result<Listed<Op>, NoMemory> {
     let mut ops = Listed::new(alloc);
     for addition in additions {
         if addition.block == block {

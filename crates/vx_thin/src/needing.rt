@@ -10,7 +10,11 @@ use vx_flow::graph::{Block, Exit, Op, Operand, Value};
 const MOST_PASSES: u32 = 16;
 
 /// A mark for each of so many values: whether it is needed. The time is that of a few passes over the blocks.
-pub(crate) fn find_needed(alloc: Global, blocks: &[Block], values: usize) -> Result<Vec<bool>, NoMemory> {
+pub(crate) fn find_needed(
+    alloc: Global,
+    blocks: &[Block],
+    values: usize,
+) -> Result<Vec<bool>, NoMemory> {
     let mut needed = vec![in alloc; false; values]?;
     for _ in 0..MOST_PASSES {
         if !mark_blocks(&mut needed, blocks) {
