@@ -1,8 +1,9 @@
-// Laws of sources: every list of bytes has one answer, the program that it reads as or why it is refused. Each law is the
-// clause of a function that does nothing.
+// Laws of sources: every list of bytes has one answer, the program that it reads as or why it is refused; the table by which
+// the grammar is read derives what its productions do. Each law is the clause of a function that does nothing.
 #![tactic(auto)]
 
 ghost use Rattle.vx_sources.specs.Answers.{AnsweredOnce, EverySourceIsAnswered, TokensAreParsedOrNot};
+ghost use Rattle.vx_sources.specs.Productions.{TableIsProductions};
 
 /// Every list of tokens that ends with the end token, and holds no other, is a program or is none for a reason.
 #[tactic(auto, using(crate::proofs::Sources::tokens_are_parsed_or_not))]
@@ -20,4 +21,11 @@ pub fn every_source_is_answered()
 #[tactic(auto, using(crate::proofs::Sources::answered_once))]
 pub fn answered_once()
     ensures { AnsweredOnce }
+{}
+
+/// The table of predictions derives a program, with the end token behind it, exactly as the productions of the grammar do, where
+/// each `else` belongs to the nearest `if` and `printf` begins no simple statement.
+#[tactic(auto, using(crate::proofs::Predicted::table_is_productions))]
+pub fn table_is_productions()
+    ensures { TableIsProductions }
 {}
