@@ -10,17 +10,17 @@ use Rattle.vx_parse.proofs.Ways.{never, SameNext, chosen, two_fronts, same_next}
 use Rattle.vx_parse.proofs.Fills.{Ok, Good, fill, fill_part, first_kind, fill_all, closed, a_token}
 
 -- what is still to be read behind a front
-record Left (parts : List Part) (front : List Token) : Type 0 where
-  left : List Part
-  good : (k : TokenKind) → Good parts k → Good left k
-  resume : (other r : List Token) (e : Derivation Row) → Is left other e r → (f : Derivation Row) × Is parts (front ++ other) f r
+pub record Left (parts : List Part) (front : List Token) : Type 0 where
+  pub left : List Part
+  pub good : (k : TokenKind) → Good parts k → Good left k
+  pub resume : (other r : List Token) (e : Derivation Row) → Is left other e r → (f : Derivation Row) × Is parts (front ++ other) f r
 
 -- the tokens of a phrase, which is there whatever comes behind the next token
-record Front (parts : List Part) (ts : List Token) (d : Derivation Row) (rest : List Token) : Type 0 where
-  front : List Token
-  is : ts ≡ front ++ rest
-  again : (other : List Token) → SameNext rest other → Is parts (front ++ other) d other
-  more : Left parts front
+pub record Front (parts : List Part) (ts : List Token) (d : Derivation Row) (rest : List Token) : Type 0 where
+  pub front : List Token
+  pub is : ts ≡ front ++ rest
+  pub again : (other : List Token) → SameNext rest other → Is parts (front ++ other) d other
+  pub more : Left parts front
 
 -- the tokens up to where a list is stuck
 record Halt (parts : List Part) (ts : List Token) (d : Derivation Row) (rest : List Token) : Type 0 where
@@ -29,7 +29,7 @@ record Halt (parts : List Part) (ts : List Token) (d : Derivation Row) (rest : L
   again : (other : List Token) → SameNext rest other → Stuck parts (front ++ other) d other
   more : Left parts front
 
-none_left : (parts : List Part) → Left parts []
+pub none_left : (parts : List Part) → Left parts []
 none_left parts = record { left = parts; good = λ k g. g; resume = λ other r e i. (e, i) }
 
 good_tail : (q : Part) (ps : List Part) (t k : TokenKind) → Fits q t → Good (q ∷ ps) k → Good ps k
@@ -67,7 +67,7 @@ split [] qs {a} {d} i = record { mid = a; first = NoMore; second = d; is_first =
 split (q ∷ ps) qs (token {t} f i) = let x = split ps qs i in record { mid = x.mid; first = Then (Leaf t) x.first; second = x.second; is_first = token f x.is_first; is_second = x.is_second }
 split (q ∷ ps) qs (phrase p inner {d} k j i) = let x = split ps qs i in record { mid = x.mid; first = Then (Node p d) x.first; second = x.second; is_first = phrase p inner k j x.is_first; is_second = x.is_second }
 
-token_left : {q : Part} {ps : List Part} {front : List Token} (t : Token) → Fits q t.kind → Left ps front → Left (q ∷ ps) (t ∷ front)
+pub token_left : {q : Part} {ps : List Part} {front : List Token} (t : Token) → Fits q t.kind → Left ps front → Left (q ∷ ps) (t ∷ front)
 token_left {q} {ps} t f x = record {
   left = x.left;
   good = λ k g. x.good k (good_tail q ps t.kind k f g);
@@ -86,14 +86,14 @@ inside_left p inner parts t front e x = record {
 }
 
 -- the same, or nothing of it
-begun_left : (p : Phrase) (inner parts : List Part) (t : Token) (ts rest front : List Token) → parts_of p t.kind ≡ Some inner → t ∷ ts ≡ front ++ rest → Left inner front → Left (A p ∷ parts) front
+pub begun_left : (p : Phrase) (inner parts : List Part) (t : Token) (ts rest front : List Token) → parts_of p t.kind ≡ Some inner → t ∷ ts ≡ front ++ rest → Left inner front → Left (A p ∷ parts) front
 begun_left p inner parts t ts rest [] e is x = none_left (A p ∷ parts)
 begun_left p inner parts t ts rest (u ∷ us) e is x =
     let same : t ≡ u = cc in
     inside_left p inner parts u us (subst (λ (z : Token). parts_of p z.kind ≡ Some inner) same e) x
 
 -- behind a phrase
-after_left : (p : Phrase) (inner parts : List Part) (t : Token) (ts mid rest front : List Token) (d : Derivation Row) → parts_of p t.kind ≡ Some inner → (y : Front inner (t ∷ ts) d mid) → mid ≡ front ++ rest → Left parts front
+pub after_left : (p : Phrase) (inner parts : List Part) (t : Token) (ts mid rest front : List Token) (d : Derivation Row) → parts_of p t.kind ≡ Some inner → (y : Front inner (t ∷ ts) d mid) → mid ≡ front ++ rest → Left parts front
     → Left (A p ∷ parts) (y.front ++ front)
 after_left p inner parts t ts mid rest [] d e y m x = subst (λ l. Left (A p ∷ parts) l) (sym (append-nil y.front)) (begun_left p inner parts t ts mid y.front e y.is y.more)
 after_left p inner parts t ts mid rest (u ∷ us) d e y m x = record {
@@ -107,7 +107,7 @@ after_left p inner parts t ts mid rest (u ∷ us) d e y m x = record {
       (Then (Node p d) z.0, subst (λ l. Is (A p ∷ parts) l (Then (Node p d) z.0) r) (sym (append_assoc y.front (u ∷ us) other)) (chosen t ts e whole (y.again all next) z.1));
 }
 
-front_of : {parts : List Part} {ts rest : List Token} {d : Derivation Row} → Is parts ts d rest → Front parts ts d rest
+pub front_of : {parts : List Part} {ts rest : List Token} {d : Derivation Row} → Is parts ts d rest → Front parts ts d rest
 front_of nothing = record { front = []; is = refl; again = λ other h. nothing; more = none_left [] }
 front_of (token {t} f a) =
     let x = front_of a in record { front = t ∷ x.front; is = ap (λ l. t ∷ l) x.is; again = λ other h. token f (x.again other h); more = token_left t f x.more }
