@@ -6,3 +6,4 @@ pub mod Produced
 pub mod Firsts
 pub mod Followers
 pub mod Predicted
+pub mod Fronts

@@ -27,7 +27,7 @@ use Rattle.vx_sources.proofs.Totals.{Tried, read, stuck, tried}
 
 -- what is read or stuck is begun
 
-begun : {ps : List Part} {ts rest : List Token} {d : Derivation Row} → Is ps ts d rest → Begins ps ts d rest
+pub begun : {ps : List Part} {ts rest : List Token} {d : Derivation Row} → Is ps ts d rest → Begins ps ts d rest
 begun nothing = reached
 begun (token f i) = reached_behind f (begun i)
 begun (phrase p inner k j i) = reached_after p inner k j (begun i)
@@ -92,7 +92,7 @@ behind_phrase p inner [] t ts mid rest d e k h j i within more =
     ap next_kind (sym (none_read i)) ∙ in_program t ts mid inner d rule j within
 behind_phrase p inner (r ∷ ps) t ts mid rest d e k h j i within more = more h
 
-ends : {ps : List Part} {ts rest : List Token} {d : Derivation Row} → Is ps ts d rest → ends_in_program ps ≡ true → next_kind rest ≡ kinds.End
+pub ends : {ps : List Part} {ts rest : List Token} {d : Derivation Row} → Is ps ts d rest → ends_in_program ps ≡ true → next_kind rest ≡ kinds.End
 ends nothing h = let e : false ≡ true = h in cc
 ends {rest} (token {part} {parts} {t} f i) h = behind_token part parts t.kind (next_kind rest ≡ kinds.End) f h (λ l. ends i l)
 ends {rest} (phrase p inner {parts} {t} {ts} {mid} {d} {e} k j i) h = behind_phrase p inner parts t ts mid rest d e k h j i (λ l. ends j l) (λ l. ends i l)

@@ -3,6 +3,7 @@
 #![tactic(auto)]
 
 ghost use Rattle.vx_sources.specs.Answers.{AnsweredOnce, EverySourceIsAnswered, TokensAreParsedOrNot};
+ghost use Rattle.vx_sources.specs.Fronts.{BegunIsFront, FaultIsFirst, FirstIsFault, FrontIsBegun};
 ghost use Rattle.vx_sources.specs.Productions.{TableIsProductions};
 
 /// Every list of tokens that ends with the end token, and holds no other, is a program or is none for a reason.
@@ -28,4 +29,28 @@ pub fn answered_once()
 #[tactic(auto, using(crate::proofs::Predicted::table_is_productions))]
 pub fn table_is_productions()
     ensures { TableIsProductions }
+{}
+
+/// Tokens that begin a program go on to one: there are tokens that, put behind them, make a program.
+#[tactic(auto, using(crate::proofs::Fronts::begun_is_front))]
+pub fn begun_is_front()
+    ensures { BegunIsFront }
+{}
+
+/// Up to each of its tokens a program is begun.
+#[tactic(auto, using(crate::proofs::Fronts::front_is_begun))]
+pub fn front_is_begun()
+    ensures { FrontIsBegun }
+{}
+
+/// S4 stands at the first token with which no program goes on.
+#[tactic(auto, using(crate::proofs::Fronts::fault_is_first))]
+pub fn fault_is_first()
+    ensures { FaultIsFirst }
+{}
+
+/// Where tokens have a first token with which no program goes on, S4 stands there, or a construct is too deep.
+#[tactic(auto, using(crate::proofs::Fronts::first_is_fault))]
+pub fn first_is_fault()
+    ensures { FirstIsFault }
 {}
