@@ -7,3 +7,4 @@ pub mod Firsts
 pub mod Followers
 pub mod Predicted
 pub mod Fronts
+pub mod GrammarRows
