@@ -17,7 +17,7 @@ use Rattle.vx_linear.specs.declared.form.Form.{Form}
 use Rattle.vx_linear.specs.declared.linear.Linear.{Linear}
 use Rattle.vx_linear.specs.declared.follow.Half.{Half}
 use Rattle.vx_linear.specs.declared.follow.Known.{Known}
-use Rattle.vx_linear.specs.Forms.{is_before, is_same, is_before_all, is_ordered}
+use Rattle.vx_linear.specs.Forms.{is_before, is_same, is_before_all, is_ordered, AreOrdered}
 use Rattle.vx_linear.specs.Linear.{constant, symbol, unless_zero, with_term, with_terms, scaled, plus, minus}
 use Rattle.vx_linear.specs.Followed.{Above, At, Joined, writes_it, made_or_entry, plain, number_in, common, are_halves, by_number, product_or, times_or, by_half, computed, made, known, index_made, index_of, above_of, access_form, form_at, forms_from, forms_of}
 use Rattle.vx_linear.proofs.Symbols.{ordered_rest, ordered_first, before_all_trans}
@@ -247,6 +247,9 @@ from_ordered t k (op ∷ ops) zero form e = at_ordered t k op form (some e)
     some e = cc
 from_ordered t k (op ∷ ops) (suc i) form e = from_ordered t (suc k) ops i form e
 
-pub forms_ordered : (t : Trace) (i : ℕ) (form : Form) → slice_get (forms_of t) i ≡ Some (Some form) → is_ordered form.terms ≡ true
+forms_ordered : (t : Trace) → AreOrdered (forms_of t)
 unfolding forms_of
 forms_ordered t i form e = from_ordered t 0 t.ops i form e
+
+pub all_ordered : (t : Trace) (forms : List (Option Form)) → forms ≡ forms_of t → AreOrdered forms
+all_ordered t forms e = subst AreOrdered (sym e) (forms_ordered t)

@@ -2,7 +2,7 @@
 use Rattle.std.proofs.Common.{◌≡◌, ◌⊎◌, inl, inr, ℕ, suc, ◌+◌, ◌<◌, ◌≤◌, refl, sym, ◌∙◌, ap, arith, Bool, true, false, ◌&&◌, ◌||◌, nat_lt, nat_eq, if◌then◌else◌, Option, Some, None, List, [], ◌∷◌, ◌++◌, length, drop, slice_get, subst}
 use Rattle.std.proofs.lemmas.Bool.{cases_lt}
 use Rattle.std.proofs.lemmas.Bool.Decides.{nat_tests}
-use Rattle.std.proofs.lemmas.List.{length-append, append_assoc}
+use Rattle.std.proofs.lemmas.List.{length-append, append_assoc, append-nil}
 use Rattle.std.specs.Map.{lookup}
 use Rattle.vx_flow.specs.declared.trace.TraceOp.{TraceOp}
 use Rattle.vx_flow.specs.declared.trace.Join.{Join}
@@ -11,7 +11,7 @@ use Rattle.vx_linear.specs.declared.form.Form.{Form}
 use Rattle.vx_linear.specs.declared.linear.Linear.{Linear}
 use Rattle.vx_linear.specs.declared.follow.Known.{Known}
 use Rattle.vx_linear.specs.declared.passed.Passed.{Passed}
-use Rattle.vx_linear.specs.Followed.{writes_it, made, known, index_made, is_join, above_of, form_at, forms_from}
+use Rattle.vx_linear.specs.Followed.{writes_it, made, known, index_made, is_join, above_of, form_at, forms_from, forms_of}
 use Rattle.vx_linear.specs.Writers.{writes_there, writer, has_join, made_there, made_at, index_there}
 use Rattle.vx_linear.specs.Passed.{Passes, IsFollowed}
 use Rattle.vx_linear.proofs.Writing.{joins_there, joins_same, all_forms, at_drop, of_longer}
@@ -91,6 +91,10 @@ passes_next t i p op found index passes there is_made is_index next e f g h =
 
 pub none_followed : (t : Trace) (p : Passed) (found : List (Option Form)) (left : List TraceOp) → Passes t 0 p → found ≡ [] → left ≡ t.ops → IsFollowed t p found left
 none_followed t p found left passes e f = subst (λ fs. IsFollowed t p fs left) (sym e) (subst (λ ops. IsFollowed t p [] ops) (sym f) (record { passed = passes; forms = all_forms t; rest = refl }))
+
+pub all_followed : (t : Trace) (p : Passed) (found : List (Option Form)) (left : List TraceOp) → IsFollowed t p found left → length left ≡ 0 → found ≡ forms_of t
+all_followed t p found [] f e = sym (append-nil found) ∙ f.forms
+all_followed t p found (op ∷ ops) f e = absurd (omega (arith, e))
 
 pub stands_there : (t : Trace) (p : Passed) (found : List (Option Form)) (left others : List TraceOp) (op : TraceOp) → IsFollowed t p found left → left ≡ op ∷ others → slice_get t.ops (length found) ≡ Some op
 stands_there t p found left others op f e = (at_drop t.ops others (length found) op (f.rest ∙ e)).get

@@ -1,5 +1,5 @@
 -- What a form stands for, and when two accesses can name one word.
-use Rattle.std.specs.Prelude.{◌≡◌, ◌⊎◌, ℕ, ◌^◌, ℤ, pos, ◌+ℤ◌, ◌*ℤ◌, Bool, true, ◌&&◌, ◌||◌, not, nat_lt, nat_eq, List, [], ◌∷◌}
+use Rattle.std.specs.Prelude.{◌≡◌, ◌⊎◌, ℕ, ◌^◌, ℤ, pos, ◌+ℤ◌, ◌*ℤ◌, Bool, true, ◌&&◌, ◌||◌, not, nat_lt, nat_eq, Option, Some, List, [], ◌∷◌, slice_get}
 use Rattle.std.specs.List.{list_all}
 use Rattle.std.specs.Ordering.{int_eq}
 use Rattle.vx_linear.specs.declared.form.Symbol.{Symbol}
@@ -58,3 +58,7 @@ is_before_all x ts = list_all (λ t. is_before x t.symbol) ts
 abbrev pub is_ordered : List Term → Bool
 is_ordered [] = true
 is_ordered (t ∷ ts) = (not (int_eq t.factor (pos 0)) && is_before_all t.symbol ts) && is_ordered ts
+
+-- so they do in each form of a row
+abbrev pub AreOrdered : List (Option Form) → Type 0
+AreOrdered forms = (i : ℕ) (form : Form) → slice_get forms i ≡ Some (Some form) → is_ordered form.terms ≡ true

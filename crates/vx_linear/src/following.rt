@@ -1,6 +1,7 @@
 // The index forms of a trace: what each operation makes is found once, in trace order, from what those above it make.
 
 ghost use Rattle.std.specs.Prelude.{◌≡◌, ◌+◌, ◌^◌, ◌<◌, ◌≤◌, ℕ, Some, IfOk, slice_get, OnOk};
+ghost use Rattle.vx_linear.specs.Forms.{AreOrdered};
 ghost use Rattle.vx_linear.specs.Followed.{made, known, index_of, index_made, array_of, access_form, form_at, above_of, forms_of};
 ghost use Rattle.vx_linear.specs.Writers.{writer, has_join, made_at, index_there};
 ghost use Rattle.vx_linear.specs.Passed.{Passes, JoinsAre};
@@ -42,9 +43,10 @@ fn follow(
 
 /// The index forms of the loads and stores of a trace, by the places of its operations; None exactly for the other
 /// operations. A form follows sums, differences, moves, shifts by a number and multiplications by a number, as far as no
-/// join stands between (specs/Followed.antt).
+/// join stands between (specs/Followed.antt). The symbols of each form ascend, as `differs` asks.
 pub fn forms(alloc: Global, trace: &Trace) -> Result<Listed<Option<Form>>, NoMemory>
-    ensures { IfOk result (λ forms. forms ≡ forms_of trace.now) }
+    ensures forms { IfOk result (λ forms. forms ≡ forms_of trace.now) }
+    ensures ordered { IfOk result AreOrdered }
 {
     let joins = join_places(alloc, trace.joins.as_slice())?;
     let mut passed = none_passed(alloc);

@@ -1,7 +1,8 @@
 use Rattle.std.proofs.Common.{rules, ◌≡◌, ◌+◌, ◌++◌, [], ◌∷◌, sym, ◌∙◌, ap, subst, length, slice_get}
 use Rattle.vx_linear.specs.Followed.{form_at}
+use Rattle.vx_linear.proofs.Ordered.{all_ordered}
 use Rattle.vx_linear.specs.Passed.{Passes, IsFollowed}
-use Rattle.vx_linear.proofs.Passing.{none_followed, stands_there, one_more}
+use Rattle.vx_linear.proofs.Passing.{all_followed, none_followed, stands_there, one_more}
 use Rattle.vx_linear.proofs.following.forms.Goals as goal
 
 pub follow-init : goal.follow-init
@@ -25,3 +26,8 @@ follow-preserved c =
     one_more t c.follow.passed c.follow-in-Some.new.passed c.follow.forms c.follow.rest.now c.in-Some.others.now c.in-Some.op.now form c.follow.invariant rest (form_is ∙ ap (λ n. form_at t n c.in-Some.op.now) place) passes in
     let forms_are : c.push.new.self ≡ c.follow.forms ++ form ∷ [] = search rules in
     subst (λ fs. IsFollowed t c.follow-in-Some.new.passed fs c.in-Some.others.now) (sym forms_are) next
+
+pub returns-in-None-clause-ordered : goal.returns-in-None-clause-ordered
+returns-in-None-clause-ordered c =
+    let none : length c.follow.rest.now ≡ 0 = search rules in
+    all_ordered c.args.trace.now c.follow.forms (all_followed c.args.trace.now c.follow.passed c.follow.forms c.follow.rest.now c.follow.invariant none)
