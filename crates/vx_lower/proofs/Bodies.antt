@@ -51,6 +51,18 @@ pub length_arrays : (globals place : ℕ) (ns : List ℕ) → length (arrays_fro
 length_arrays globals place [] = refl
 length_arrays globals place (n ∷ ns) = ap suc (length_arrays globals (suc place) ns)
 
+pub arrays_named : (globals place : ℕ) (ns : List ℕ) (a : ℕ) (array : Array) → slice_get (arrays_from globals place ns) a ≡ Some array → array.named ≡ place + a
+arrays_named globals place [] a array e = absurd (cc)
+arrays_named globals place (n ∷ ns) zero array e =
+    let first : Array = record { words = n; global = nat_lt place globals; named = place } in
+    let is : Some first ≡ Some array = e in
+    let same : first ≡ array = cc in
+    let h : place ≡ place + 0 = omega arith in
+    sym (ap (λ z. z.named) same) ∙ h
+arrays_named globals place (n ∷ ns) (suc a) array e =
+    let h : suc place + a ≡ place + suc a = omega arith in
+    arrays_named globals (suc place) ns a array e ∙ h
+
 pub arrays_words : (globals place : ℕ) (ns : List ℕ) → map (λ a. a.words) (arrays_from globals place ns) ≡ ns
 arrays_words globals place [] = refl
 arrays_words globals place (n ∷ ns) = ap (λ z. n ∷ z) (arrays_words globals (suc place) ns)

@@ -108,7 +108,7 @@ module _ (k : Known) (texts : ℕ) where
   op_on roles later kept (Compute code t a b) h = (kept t (role_written code) h.0, operand_on roles later kept a h.1, right_on roles later kept code b h.2)
   op_on roles later kept (Select t test a b) h = h
   op_on roles later kept (Place t a i) h = (kept t (PlaceOf a) h.0, h.1, operand_on roles later kept i h.2)
-  op_on roles later kept (Load t a p dismissible) h = (kept t Scalar h.0, h.1, place_on roles later kept a p h.2)
+  op_on roles later kept (Load t a p dismissible) h = (kept t Scalar h.0, h.1, place_on roles later kept a p h.2, h.3)
   op_on roles later kept (Store a p o) h = (h.0, place_on roles later kept a p h.1, operand_on roles later kept o h.2)
   op_on roles later kept (More t) h = kept t Scalar h
   op_on roles later kept (Input t) h = kept t Scalar h

@@ -113,7 +113,7 @@ change_local_well x t c b0 b1 al k texts roles s is =
 pub change_global_well : (a u t : ℕ) (c : Change) (b0 b1 b2 b3 : Builder) → Last (Load u a (Number (pos 0)) false) None u b0 b1 → AltersWell c (Held u) None t b1 b2 → Added (Store a (Number (pos 0)) (Held t)) b2 b3 → ActsWell (action_of (InGlobal a) c) b0 b3
 change_global_well a u t c b0 b1 b2 b3 pl al ps k texts roles s is =
     let n = split_named k (InGlobal a) c is in
-    let x = last pl s tt (λ later kept h. (h, n.0, tt)) in
+    let x = last pl s tt (λ later kept h. (h, n.0, tt, refl)) in
     let w = al k texts x.later x.keeps.shaped n.1 x.has tt in
     let z = keeps_added ps w.keeps.shaped (n.0, tt, w.has) in
     let e = global_nodes a c in
@@ -124,7 +124,7 @@ change_element_well a t u v i oi c b0 b1 b2 b3 b4 b5 ei ck pl al ps k texts role
     let n = split_named k (InElement a i) c is in
     let x = ei k texts roles s n.0.1 tt in
     let y = ck k texts x.later x.keeps.shaped n.0.0 x.operand in
-    let l = last pl y.keeps.shaped tt (λ later kept h. (h, n.0.0, kept t (PlaceOf a) y.has)) in
+    let l = last pl y.keeps.shaped tt (λ later kept h. (h, n.0.0, kept t (PlaceOf a) y.has, refl)) in
     let w = al k texts l.later l.keeps.shaped n.1 l.has tt in
     let z = keeps_added ps w.keeps.shaped (n.0.0, w.keeps.kept t (PlaceOf a) (l.keeps.kept t (PlaceOf a) y.has), w.has) in
     let e = element_nodes a i c in

@@ -71,7 +71,7 @@ operand_well e (Some t) o r b b1 fits one d k texts roles s is w =
 
 pub global_well : (a t : ℕ) (dest : Option ℕ) (b b1 : Builder) → Last (Load t a (Number (pos 0)) false) dest t b b1 → EmitsWell (Global a) dest (Held t) b b1
 global_well a t dest b b1 p k texts roles s is d =
-    let z = last p s d (λ later kept h. (h, is, tt)) in
+    let z = last p s d (λ later kept h. (h, is, tt, refl)) in
     gives 1 (Held t) z.keeps z.has (omega arith) (omega arith)
 
 pub more_well : (t : ℕ) (dest : Option ℕ) (b b1 : Builder) → Last (More t) dest t b b1 → EmitsWell MoreInput dest (Held t) b b1
@@ -83,7 +83,7 @@ pub element_well : (a t place : ℕ) (dest : Option ℕ) (i : Tree One) (index :
 element_well a t place dest i index b0 b1 b2 b3 ei ck pl k texts roles s is d =
     let x = ei k texts roles s is.1 tt in
     let y = ck k texts x.later x.keeps.shaped is.0 x.operand in
-    let z = last pl y.keeps.shaped (dest_on x.later y.later y.keeps.kept dest (dest_on roles x.later x.keeps.kept dest d)) (λ later kept h. (h, is.0, kept place (PlaceOf a) y.has)) in
+    let z = last pl y.keeps.shaped (dest_on x.later y.later y.keeps.kept dest (dest_on roles x.later x.keeps.kept dest d)) (λ later kept h. (h, is.0, kept place (PlaceOf a) y.has, refl)) in
     let p = x.few_generals in let q = x.few_branches in
     gives (1 + nodes_of i) (Held t) (keeps_on x.keeps (keeps_on y.keeps z.keeps)) z.has (omega arith) (omega arith)
 

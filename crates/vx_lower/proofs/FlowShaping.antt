@@ -17,8 +17,10 @@ use Rattle.vx_flow.specs.declared.graph.Graph.{Graph}
 use Rattle.vx_flow.specs.declared.graph.Flow.{Flow}
 use Rattle.vx_flow.specs.Effects.{IsIn}
 use Rattle.vx_flow.specs.Sound.{has_parameters, is_text_there, is_call_there, is_block_there, begins_with, is_sound_function, is_sound_flow}
+use Rattle.vx_flow.proofs.SoundFlowLaw.{flow_is}
 use Rattle.vx_flow.proofs.SoundLists.{all_of, all_of_at, differs_of}
 use Rattle.vx_lower.specs.FlowOf.{FlowOf}
+use Rattle.vx_lower.specs.LoweredGraphs.{NamedByNumber, NoneDismissible, SoundInWords}
 use Rattle.vx_lower.specs.Graphs.{ShapeOf}
 use Rattle.vx_lower.specs.Lowered.{AllLowered}
 use Rattle.vx_lower.specs.Named.{TakesArguments}
@@ -27,7 +29,7 @@ use Rattle.vx_lower.proofs.Base.{and_two}
 use Rattle.vx_lower.proofs.Facts.{function_suits, main_suits}
 use Rattle.vx_lower.proofs.Naming.{stepped_in, function_named}
 use Rattle.vx_lower.proofs.Programs.{runs_as, words_declared}
-use Rattle.vx_lower.proofs.Shaping.{get_there}
+use Rattle.vx_lower.proofs.Shaping.{get_there, in_at}
 use Rattle.vx_lower.proofs.TrapBlocks.{got_map}
 
 -- the functions of an accepted program name what is there
@@ -95,6 +97,12 @@ module _ (p : Program) (flow : Flow) (accepted : is_accepted p ≡ true) (all : 
   pub flow_sound : is_sound_flow flow ≡ true
   flow_sound = both_true main_takes (all_of_at (is_sound_function flow) flow.functions function_sound)
 
+  pub all_named : (g : Graph) → IsIn g flow.functions → NamedByNumber g
+  all_named g m = let at = in_at flow.functions g m in (graph_shape at.0 g at.1).1.named
+
+  pub none_dismissible : (g : Graph) → IsIn g flow.functions → NoneDismissible g
+  none_dismissible g m = let at = in_at flow.functions g m in (graph_shape at.0 g at.1).1.shape.loads
+
   pub flow_of : FlowOf p flow
   flow_of = record {
     sound = flow_sound;
@@ -119,3 +127,7 @@ module _ (p : Program) (flow : Flow) (accepted : is_accepted p ≡ true) (all : 
     main = all.main;
     runs = runs_as p flow accepted all;
   }
+
+-- what the test says in words
+pub in_words : SoundInWords
+in_words p flow o = flow_is flow o.sound

@@ -32,7 +32,7 @@ use Rattle.vx_lower.specs.declared.builder.Builder.{Builder}
 use Rattle.vx_lower.proofs.Places.{take_next}
 use Rattle.vx_lower.proofs.Fitting.{get_more}
 use Rattle.vx_lower.proofs.Shaping.{shape}
-use Rattle.vx_lower.proofs.Bodies.{length_arrays}
+use Rattle.vx_lower.proofs.Bodies.{length_arrays, arrays_named}
 
 -- where every function begins
 
@@ -137,6 +137,7 @@ graph_well p f words b g after ew ep ea eb body settled is =
       branch_values = omega arith;
       distinct = subst (λ z. are_distinct z ≡ true) (sym ep) (numbers_distinct 0 f.parameters);
       globals = subst (λ z. begins_with (map global_of p.globals) z ≡ true) whole (globals_first p.globals (length p.globals) 0 f.arrays (omega arith));
+      named = λ a array e. let z : 0 + a ≡ a = omega arith in arrays_named (length p.globals) 0 words a array (subst (λ z. slice_get z a ≡ Some array) ea e) ∙ z;
     }
 
 -- all functions of a program
@@ -146,11 +147,12 @@ graph_on p f g before after e w is =
     let x = w is in
     let l : length after ≡ length before + length e.more = ap length e.is ∙ length-append before e.more in
     record {
-      shape = record { sound = x.shape.sound; some = x.shape.some; texts_there = λ n h. let u = x.shape.texts_there n h in omega arith; calls = x.shape.calls; apart = x.shape.apart; uncritical = x.shape.uncritical; entry = x.shape.entry };
+      shape = record { sound = x.shape.sound; some = x.shape.some; loads = x.shape.loads; texts_there = λ n h. let u = x.shape.texts_there n h in omega arith; calls = x.shape.calls; apart = x.shape.apart; uncritical = x.shape.uncritical; entry = x.shape.entry };
       general_values = x.general_values;
       branch_values = x.branch_values;
       distinct = x.distinct;
       globals = x.globals;
+      named = x.named;
     }
 
 pub no_graphs : (p : Program) (ts : List (List ℕ)) → GraphsWell p [] [] ts

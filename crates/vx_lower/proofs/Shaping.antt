@@ -30,7 +30,7 @@ use Rattle.vx_lower.proofs.Fitting.{target_fits, split_is_target, fits_closed}
 
 -- lists
 
-in_at : {A : Type 0} (xs : List A) (x : A) → IsIn x xs → (i : ℕ) × (slice_get xs i ≡ Some x)
+pub in_at : {A : Type 0} (xs : List A) (x : A) → IsIn x xs → (i : ℕ) × (slice_get xs i ≡ Some x)
 in_at [] x m = absurd m
 in_at (y ∷ xs) x (inl e) = (0, ap Some (sym e))
 in_at (y ∷ xs) x (inr m) = let w = in_at xs x m in (suc w.0, w.1)
@@ -429,6 +429,7 @@ module _ (k : Known) (texts : ℕ) (roles : List Role) (b : Builder) (g : Graph)
   well_shaped = let l = s.longer in let h = f.some in record {
     sound = sound_of g is_sound;
     some = omega arith;
+    loads = λ v a p dismissible at. (op_fits (Load v a p dismissible) at).3;
     texts_there = λ n at. op_fits (Text n) at;
     calls = λ n os result next at. called (Call n os result next) n os result next (exit_fits (Call n os result next) at) refl;
     apart = λ i block test y z e q. apart test y z block.exit (exit_at i block e) q;

@@ -1,6 +1,6 @@
 -- A graph that is being made is well shaped at all times: what its operations and exits name is there and of its kind,
 -- and where a split leads no other edge leads.
-use Rattle.std.specs.Prelude.{◌≡◌, ℕ, suc, ◌+◌, ◌*◌, ◌<◌, ◌≤◌, pos, Option, Some, None, List, [], ◌∷◌, length, map, count_by, slice_get}
+use Rattle.std.specs.Prelude.{◌≡◌, ℕ, suc, ◌+◌, ◌*◌, ◌<◌, ◌≤◌, pos, false, Option, Some, None, List, [], ◌∷◌, length, map, count_by, slice_get}
 use Rattle.vx_base.specs.declared.arithmetic.Code.{Code}
 use Rattle.vx_base.specs.declared.arithmetic.Code.TheVariants.{Mov, ToBranch}
 use Rattle.vx_ast.specs.Accepted.{nodes_of, action_nodes, row_length}
@@ -65,7 +65,7 @@ abbrev pub OpFits : Known → (texts : ℕ) → List Role → Op → Type 0
 OpFits k texts roles (Compute code t a b) = HasRole roles t (role_written code) × OperandFits roles a × RightFits roles code b
 OpFits k texts roles (Select t test a b) = ⊥
 OpFits k texts roles (Place t a i) = HasRole roles t (PlaceOf a) × (a < k.arrays) × OperandFits roles i
-OpFits k texts roles (Load t a p dismissible) = HasRole roles t Scalar × (a < k.arrays) × PlaceFits roles a p
+OpFits k texts roles (Load t a p dismissible) = HasRole roles t Scalar × (a < k.arrays) × PlaceFits roles a p × (dismissible ≡ false)
 OpFits k texts roles (Store a p o) = (a < k.arrays) × PlaceFits roles a p × OperandFits roles o
 OpFits k texts roles (More t) = HasRole roles t Scalar
 OpFits k texts roles (Input t) = HasRole roles t Scalar

@@ -5,6 +5,7 @@ use Rattle.vx_ast.specs.Tree.{Function, Program}
 use Rattle.vx_flow.specs.declared.graph.Graph.{Graph}
 use Rattle.vx_flow.specs.Sound.{are_distinct, begins_with}
 use Rattle.vx_lower.specs.FlowOf.{is_general, is_branch}
+use Rattle.vx_lower.specs.LoweredGraphs.{NamedByNumber}
 use Rattle.vx_lower.specs.Lowered.{global_of}
 use Rattle.vx_lower.specs.Named.{Known, CodeNamed}
 use Rattle.vx_lower.specs.Fits.{Role, Shaped}
@@ -39,6 +40,7 @@ pub record GraphShape (p : Program) (f : Function) (g : Graph) (texts : ℕ) : T
   pub branch_values : count_by is_branch g.banks ≤ 2 * function_nodes f
   pub distinct : are_distinct g.parameters ≡ true
   pub globals : begins_with (map global_of p.globals) g.arrays ≡ true
+  pub named : NamedByNumber g
 
 abbrev pub GraphWell : Program → Function → Graph → (after : List (List ℕ)) → Type 0
 GraphWell p f g after = FunctionNamed p f → GraphShape p f g (length after)

@@ -1,4 +1,5 @@
 pub mod FlowOf
+pub mod LoweredGraphs
 pub mod Holds
 pub mod Does
 pub mod Lowered

@@ -10,6 +10,7 @@ use Rattle.vx_flow.specs.declared.graph.Graph.{Graph}
 use Rattle.vx_flow.specs.Effects.{IsIn}
 use Rattle.vx_flow.specs.Sound.{HasOperation, HasExit, is_sound}
 use Rattle.vx_lower.specs.FlowOf.{IsEdge}
+use Rattle.vx_lower.specs.LoweredGraphs.{NoneDismissible}
 use Rattle.vx_lower.specs.Holds.{ends, jump}
 use Rattle.vx_lower.specs.Builds.{closed}
 use Rattle.vx_lower.specs.Named.{Known, TakesArguments}
@@ -32,6 +33,7 @@ finally b = closed b (Return (Number (pos 0))) b.current
 pub record WellShaped (k : Known) (texts : ℕ) (g : Graph) : Type 0 where
   pub sound : is_sound g ≡ true
   pub some : 0 < length g.blocks
+  pub loads : NoneDismissible g
   pub texts_there : (n : ℕ) → HasOperation g (Text n) → n < texts
   pub calls : (f : ℕ) (arguments : List Operand) (result : Option ℕ) (next : ℕ) → HasExit g (Call f arguments result next) → TakesArguments k f (length arguments)
   pub apart : (b : ℕ) (block : Block) (test y z : ℕ) → slice_get g.blocks b ≡ Some block → block.exit ≡ Split test y z → y ≡ z → ⊥

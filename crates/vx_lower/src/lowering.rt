@@ -7,11 +7,14 @@ ghost use Rattle.vx_ast.specs.Tree.{Function as AFunction};
 ghost use Rattle.vx_ast.specs.View.{function_of, program_of};
 ghost use Rattle.vx_flow.specs.declared.graph.Bank.TheVariants.{General};
 ghost use Rattle.vx_flow.specs.declared.graph.Graph.{Graph as AGraph};
+ghost use Rattle.vx_flow.specs.Effects.{IsIn};
+ghost use Rattle.vx_flow.specs.Sound.{SoundFlow};
 ghost use Rattle.vx_lower.specs.Builds.{closed};
 ghost use Rattle.vx_lower.specs.Emits.{are_small};
 ghost use Rattle.vx_lower.specs.FlowOf.{FlowOf, RunsAs};
 ghost use Rattle.vx_lower.specs.FunctionShape.{BodyWell, GraphWell, GraphsWell};
 ghost use Rattle.vx_lower.specs.Graphs.{AllGraphed, Built, Graphed, ShapeOf, arrays_from, back_with_zero, beginning};
+ghost use Rattle.vx_lower.specs.LoweredGraphs.{NamedByNumber, NoneDismissible};
 ghost use Rattle.vx_lower.specs.Lowered.{AllLowered, global_of as global_in, numbers_from, words_seen as all_words};
 
 use crate::builder::Builder;
@@ -216,6 +219,9 @@ pub fn lower(alloc: Heap, program: &Typed) -> Result<Flow, NoMemory>
     ensures count { IfOk result (λ flow. length flow.functions ≡ length (program_of program.now.program).functions) }
     ensures graphs { IfOk result (λ flow. (i : ℕ) (f : AFunction) (g : AGraph) → slice_get (program_of program.now.program).functions i ≡ Some f → slice_get flow.functions i ≡ Some g → ShapeOf (program_of program.now.program) f g) }
     ensures flow { IfOk result (λ flow. FlowOf (program_of program.now.program) flow) }
+    ensures sound { IfOk result SoundFlow }
+    ensures named { IfOk result (λ flow. (g : AGraph) → IsIn g flow.functions → NamedByNumber g) }
+    ensures loads { IfOk result (λ flow. (g : AGraph) → IsIn g flow.functions → NoneDismissible g) }
 {
     let flow = lower_program(alloc, &program.program)?;
     Ok(flow)

@@ -1,6 +1,6 @@
 use Rattle.vx_ast.specs.View.{program_of}
 use Rattle.vx_lower.proofs.Programs.{runs_as, words_declared}
-use Rattle.vx_lower.proofs.FlowShaping.{flow_of, functions_named}
+use Rattle.vx_lower.proofs.FlowShaping.{all_named, flow_of, functions_named, in_words, none_dismissible}
 use Rattle.vx_lower.proofs.lowering.lower.Goals as goal
 
 pub returns-clause-runs : goal.returns-clause-runs
@@ -17,3 +17,12 @@ returns-clause-graphs c = c.in_ok-flow.ensures.shapes
 
 pub returns-clause-flow : goal.returns-clause-flow
 returns-clause-flow c = flow_of (program_of c.args.program.now.program) c.in_ok-flow.flow c.args.program.now.accepted c.in_ok-flow.ensures.lowered c.in_ok-flow.ensures.shapes c.in_ok-flow.ensures.fits (functions_named c.args.program.now.program c.args.program.now.accepted)
+
+pub returns-clause-sound : goal.returns-clause-sound
+returns-clause-sound c = in_words (program_of c.args.program.now.program) c.in_ok-flow.flow (flow_of (program_of c.args.program.now.program) c.in_ok-flow.flow c.args.program.now.accepted c.in_ok-flow.ensures.lowered c.in_ok-flow.ensures.shapes c.in_ok-flow.ensures.fits (functions_named c.args.program.now.program c.args.program.now.accepted))
+
+pub returns-clause-named : goal.returns-clause-named
+returns-clause-named c = all_named (program_of c.args.program.now.program) c.in_ok-flow.flow c.args.program.now.accepted c.in_ok-flow.ensures.lowered c.in_ok-flow.ensures.shapes c.in_ok-flow.ensures.fits (functions_named c.args.program.now.program c.args.program.now.accepted)
+
+pub returns-clause-loads : goal.returns-clause-loads
+returns-clause-loads c = none_dismissible (program_of c.args.program.now.program) c.in_ok-flow.flow c.args.program.now.accepted c.in_ok-flow.ensures.lowered c.in_ok-flow.ensures.shapes c.in_ok-flow.ensures.fits (functions_named c.args.program.now.program c.args.program.now.accepted)
