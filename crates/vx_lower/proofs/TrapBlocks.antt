@@ -1,9 +1,9 @@
 -- The finished blocks stand where they were made, and the trap blocks behind them.
 use Rattle.std.proofs.Common.{◌≡◌, ◌⊎◌, ℕ, zero, suc, ◌+◌, ◌-◌, ◌<◌, ◌≤◌, Bool, true, false, ◌||◌, List, [], ◌∷◌, ◌++◌, length, map, Option, Some, None, refl, sym, ap, ◌∙◌, subst, inl, inr, arith, append_assoc}
-use Rattle.std.specs.Prelude.{slice_get}
+use Rattle.std.specs.Prelude.{slice_get, if◌then◌else◌}
 use Rattle.std.specs.List.{list_any}
 use Rattle.std.proofs.lemmas.Bool.{cases_lt, eqb-true}
-use Rattle.std.proofs.lemmas.List.{length-map}
+use Rattle.std.proofs.lemmas.List.{length-append, length-map}
 use Rattle.std.proofs.lemmas.Option.{slice_get_within}
 use Rattle.vx_base.specs.declared.outcome.Trap.{Trap}
 use Rattle.vx_base.specs.declared.outcome.Trap.TheVariants.{Divide, Index, Input, Depth}
@@ -115,6 +115,30 @@ growing_when false lo k kinds h g = growing_less lo (suc (number_of k)) kinds (o
 growing_last : (b : Bool) (lo : ℕ) (k : Trap) → lo ≤ number_of k → Growing lo (when b k)
 growing_last true lo k h = (h, tt)
 growing_last false lo k h = tt
+
+-- there are four kinds
+
+few_of_kind : (slots : List (Option Block)) (k : Trap) → length (where_used slots k) ≤ 1
+few_of_kind slots k = by (list_any (traps_by k) slots)
+  where
+    by : (b : Bool) → length (if b then k ∷ [] else []) ≤ 1
+    by true = omega arith
+    by false = omega arith
+
+pub few_kinds : (slots : List (Option Block)) (kinds : List Trap) → kinds ≡ kinds_in slots → length kinds ≤ 4
+few_kinds slots kinds e =
+    let a = where_used slots Divide in
+    let b = where_used slots Index in
+    let c = where_used slots Input in
+    let d = where_used slots Depth in
+    let all : length kinds ≡ length a + length (b ++ (c ++ d)) = ap length e ∙ length-append a (b ++ (c ++ d)) in
+    let three : length (b ++ (c ++ d)) ≡ length b + length (c ++ d) = length-append b (c ++ d) in
+    let two : length (c ++ d) ≡ length c + length d = length-append c d in
+    let one : length a ≤ 1 = few_of_kind slots Divide in
+    let other : length b ≤ 1 = few_of_kind slots Index in
+    let third : length c ≤ 1 = few_of_kind slots Input in
+    let fourth : length d ≤ 1 = few_of_kind slots Depth in
+    omega (arith, all, three, two, one, other, third, fourth)
 
 when_used : (slots : List (Option Block)) (k : Trap) → where_used slots k ≡ when (list_any (traps_by k) slots) k
 when_used slots k = by (list_any (traps_by k) slots) refl

@@ -16,9 +16,6 @@ use vx_base::listed::{Listed, MOST_ITEMS};
 use vx_base::outcome::{NoMemory, Trap};
 use vx_flow::graph::{Block, Exit, Operand};
 
-/// How many kinds of traps there are.
-const MOST_KINDS: usize = 4;
-
 fn empty(alloc: Global, exit: Exit) -> Block
     ensures { result ≡ ends exit }
 {
@@ -119,16 +116,18 @@ fn settle(alloc: Global, slot: Option<Block>, count: u32, kinds: &[Trap]) -> Blo
     }
 }
 
-/// All blocks with jumps in place of their traps.
+/// All blocks with jumps in place of their traps. Want of memory also where they and the trap blocks, of which there are four
+/// kinds, would be more than a list holds.
 fn settle_all(
     alloc: Global,
     slots: Vec<Option<Block>>,
     kinds: &[Trap],
 ) -> Result<Vec<Block>, NoMemory>
+    requires { length kinds.now ≤ 4 }
     ensures { IfOk result (λ blocks. blocks.items ≡ map (settled (length slots.items) kinds.now) slots.items) }
 {
     let count = slots.len();
-    if kinds.len() > MOST_KINDS || count > MOST_ITEMS - MOST_KINDS {
+    if count > MOST_ITEMS - kinds.len() {
         return Err(NoMemory);
     }
     let mut blocks = Vec::new(alloc);
@@ -148,6 +147,7 @@ fn add_traps(alloc: Global, blocks: &mut Vec<Block>, kinds: &[Trap]) -> Result<(
     Ok(())
 }
 
+#[tactic(auto, using(crate::proofs::TrapBlocks::few_kinds))]
 fn finish_all(alloc: Global, slots: Vec<Option<Block>>) -> Result<Listed<Block>, NoMemory>
     ensures { IfOk result (λ blocks. blocks ≡ finished slots.items) }
 {
