@@ -5,8 +5,6 @@ use Rattle.vx_isa.specs.Numbers.{Numbers}
 use Rattle.vx_linear.specs.declared.form.Form.{Form}
 use Rattle.vx_linear.specs.Forms.{NeverSame}
 use Rattle.vx_linear.specs.Followed.{forms_of}
-use Rattle.vx_linear.proofs.Ordered.{forms_ordered as each_ordered}
-use Rattle.vx_dep.specs.Sights.{AreOrdered}
 use Rattle.vx_dep.specs.declared.mode.Mode.{Mode}
 use Rattle.vx_dep.specs.Delays.{NeverMeet, IsDelay}
 
@@ -28,6 +26,3 @@ no_form_above t forms i j e apart n = apart n.one (ap (λ fs. slice_get fs i) e 
 
 pub no_form_below : (t : Trace) (forms : List (Option Form)) (i j : ℕ) → forms ≡ forms_of t → ((form : Form) → slice_get forms j ≡ Some (Some form) → ⊥) → NeverMeet t i j → ⊥
 no_form_below t forms i j e apart n = apart n.two (ap (λ fs. slice_get fs j) e ∙ n.form_two)
-
-pub forms_ordered : (t : Trace) (forms : List (Option Form)) → forms ≡ forms_of t → AreOrdered forms
-forms_ordered t forms e i form f = each_ordered t i form (ap (λ fs. slice_get fs i) (sym e) ∙ f)

@@ -1,12 +1,6 @@
 -- What the tables of a trace tell of a pair of places.
-use Rattle.std.specs.Prelude.{◌≡◌, ◌-◌, ℕ, Bool, true, false, nat_lt, nat_le, Option, Some, None, List, slice_get, slice_index_or}
-use Rattle.vx_linear.specs.declared.form.Form.{Form}
-use Rattle.vx_linear.specs.Forms.{is_ordered}
+use Rattle.std.specs.Prelude.{◌-◌, ℕ, Bool, false, nat_lt, nat_le, Option, Some, None, List, slice_index_or}
 use Rattle.vx_dep.specs.declared.tables.Standing.{Standing}
-
--- the symbols of each form ascend
-abbrev pub AreOrdered : List (Option Form) → Type 0
-AreOrdered forms = (i : ℕ) (form : Form) → slice_get forms i ≡ Some (Some form) → is_ordered form.terms ≡ true
 
 -- from place i down to place j nothing writes what the operation at i writes, whose entry is given
 abbrev pub reaches : Standing → (i j : ℕ) → Bool

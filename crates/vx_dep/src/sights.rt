@@ -2,14 +2,14 @@
 
 ghost use Rattle.std.specs.Prelude.{◌≡◌, ◌<◌, ◌≤◌, ℕ, ◌||◌, ◌&&◌, IfOk, IfSome, IfNone, Some, None, true, false, map, slice_get};
 ghost use Rattle.vx_linear.specs.declared.form.Form.{Form};
-ghost use Rattle.vx_linear.specs.Forms.{NeverSame, is_ordered};
+ghost use Rattle.vx_linear.specs.Forms.{AreOrdered, NeverSame, is_ordered};
 ghost use Rattle.vx_linear.specs.Followed.{forms_of};
 ghost use Rattle.vx_dep.specs.Tables.{standings_of, lives_of};
 ghost use Rattle.vx_dep.specs.Keys.{key_of, can_pass};
 ghost use Rattle.vx_dep.specs.Rows.{split_delay_of, Tells, MayTouch};
 ghost use Rattle.vx_dep.specs.Delays.{IsDelay, NeverMeet};
 ghost use Rattle.vx_dep.specs.Earlier.{NoneBetween};
-ghost use Rattle.vx_dep.specs.Sights.{AreOrdered, reaches, has_join, is_live};
+ghost use Rattle.vx_dep.specs.Sights.{reaches, has_join, is_live};
 
 use crate::keys::{Key, apart_delay, are_apart, can_pass, keys};
 use crate::mode::Mode;
@@ -45,7 +45,6 @@ pub(crate) struct Sight<'a> {
 
 impl<'a> Sight<'a> {
     /// Finds all that is found once.
-    #[tactic(auto, using(crate::proofs::Nowhere::forms_ordered))]
     pub(crate) fn make(
         alloc: Global,
         trace: &'a Trace,
