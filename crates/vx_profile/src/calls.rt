@@ -222,7 +222,8 @@ fn is_full(waiting: usize) -> bool
     waiting >= DEEPEST - 1
 }
 
-/// What the values hold at the entry: the parameters their arguments. A function has few parameters.
+/// What the values hold at the entry: the parameters their arguments. It goes one call deeper for each parameter, of which a
+/// function of an accepted program has at most 8 (L4 of docs/LANGUAGE.md).
 fn entry_values(
     alloc: Global,
     parameters: &[Value],

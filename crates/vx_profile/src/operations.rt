@@ -1,7 +1,7 @@
 // What one operation does, and what operations do one after the other. The clauses are `effect` of the graph's meaning; the
 // answer is false where an operation has no meaning.
 
-ghost use Rattle.std.specs.Prelude.{◌≡◌, ◌+◌, ◌++◌, [], IfOk, OnOk, None, Some, length, slice_index_or};
+ghost use Rattle.std.specs.Prelude.{◌≡◌, ◌<◌, ◌+◌, ◌++◌, [], IfOk, OnOk, None, Some, length, slice_index_or};
 ghost use Rattle.std.specs.Fmt.{signed_decimal};
 ghost use Rattle.vx_base.specs.Arithmetic.{one_if, value_of};
 ghost use Rattle.vx_flow.specs.declared.graph.Op.TheVariants.{Text};
@@ -250,8 +250,7 @@ fn input(storage: &mut Storage, to: Value) -> Result<bool, NoMemory>
     let number = storage.next();
     match number {
         Some(_) => {
-            let read = one_more(storage.read)?;
-            storage.read = read;
+            storage.read = with_next(storage.input.as_slice(), storage.read);
             storage.write(to, number)?;
             Ok(true)
         }
@@ -259,13 +258,12 @@ fn input(storage: &mut Storage, to: Value) -> Result<bool, NoMemory>
     }
 }
 
-fn one_more(count: usize) -> Result<usize, NoMemory>
-    ensures { IfOk result (λ next. next ≡ count + 1) }
+/// How many numbers of the input are read with the next one, which is there.
+fn with_next(input: &[i32], read: usize) -> usize
+    requires { read < length input.now }
+    ensures { result ≡ read + 1 }
 {
-    match count.checked_add(1) {
-        Some(next) => Ok(next),
-        None => Err(NoMemory),
-    }
+    read + 1
 }
 
 fn text(storage: &mut Storage, flow: &Flow, number: u32) -> Result<bool, NoMemory>
