@@ -1,8 +1,10 @@
--- No status is always an answer: for each but want of memory there are files over which a command may not be answered so.
+-- No status is always an answer: for each command that reads a file, and each number of a status but that of want of memory, there
+-- are files over which the command may not be answered by a status of that number.
 use Rattle.std.specs.Prelude.{◌≡◌, ◌≢◌, ℕ, Option, Some, None, List}
 use Rattle.vx_base.specs.Outside.{Files}
 use Rattle.vx_status.specs.declared.status.Status.{Status}
 use Rattle.vx_status.specs.declared.status.Status.TheVariants.{NoMemory}
+use Rattle.vx_status.specs.Status.{number_of}
 use Rattle.vx_command.specs.Command.{Command, Compile, Simulate, Execute, Count, Soak}
 use Rattle.vx_driver.specs.Boxes.{Boxes, Chosen, chosen}
 use Rattle.vx_files.specs.Effects.{Effect, ReadsRose, ReplacesRose}
@@ -29,8 +31,8 @@ CanRead (Execute asked) boxes = (these : Chosen) × (chosen asked.timing asked.p
 CanRead (Count asked) boxes = Unit {0}
 CanRead (Soak asked) boxes = ⊥
 
--- so a body that always gives one status meets the clauses of the top call for no command but where memory is wanted
+-- so no body that always gives a status of one number meets the clauses of the top call for a command that reads a file
 abbrev pub NoStatusIsAlways : Type 0
 NoStatusIsAlways =
-    (command : Command) (boxes : Boxes) (status : Status) → CanRead command boxes → status ≢ NoMemory →
-    (held : Files) × (MayAnswer command boxes held status → ⊥)
+    (command : Command) (boxes : Boxes) (number : ℕ) → CanRead command boxes → number ≢ number_of NoMemory →
+    (held : Files) × ((status : Status) → number_of status ≡ number → MayAnswer command boxes held status → ⊥)

@@ -2,8 +2,8 @@
 
 ghost use Rattle.vx_driver.specs.Always.{NoStatusIsAlways};
 
-/// Of each status but want of memory there are files over which no command that reads a file may be answered so: a body that always
-/// gives one status does not meet the clauses of the top call.
+/// For each command that reads a file, and each number of a status but that of want of memory, there are files over which the command
+/// may not be answered by a status of that number: a body that always gives one meets the clauses of the top call for no such command.
 #[tactic(auto, using(crate::proofs::Always::no_status_is_always))]
 pub fn no_status_is_always()
     ensures { NoStatusIsAlways }
