@@ -92,10 +92,7 @@ module _ (role : Role) where
     where
       by : (r : Result (List ℤ) Status) → input_found all_empty input ≡ r → and_then r (λ numbers. Ok (with_input program m numbers)) ≡ Err (NoFile role) → ⊥
       by (Ok numbers) is e = absurd (cc)
-      by (Err why) is e = no_input input (is ∙ as_err why e)
-        where
-          as_err : (why : Status) → and_then (Err why) (λ numbers. Ok (with_input program m numbers)) ≡ Err (NoFile role) → Err {List ℤ} {Status} why ≡ Err (NoFile role)
-          as_err why e = cc
+      by (Err why) is e = let w : why ≡ NoFile role = cc in no_input input (is ∙ ap Err w)
 
   from_machine : (program : WordProgram) (machine input : Option (List ℕ)) → loading_machine all_empty program machine input ≡ Err (NoFile role) → ⊥
   from_machine program machine input h = by (machine_found all_empty machine) refl h
