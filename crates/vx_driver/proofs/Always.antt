@@ -28,14 +28,14 @@ use Rattle.vx_driver.specs.Always.{MayAnswer, CanRead, NoStatusIsAlways}
 use Rattle.vx_driver.proofs.Completing.{told, told_or, not_missing}
 
 -- no file, and an empty one under each name
-nothing : Files
+abbrev nothing : Files
 nothing name = None
 
-all_empty : Files
+abbrev all_empty : Files
 all_empty name = Some []
 
 -- the role of the file that a command reads first
-first_role : Command → Role
+abbrev first_role : Command → Role
 first_role (Compile asked) = TheSource
 first_role (Simulate asked) = TheWords
 first_role (Execute asked) = TheSource
