@@ -1,0 +1,67 @@
+-- Worked causes of lines, by computation.
+use Rattle.std.proofs.Common.{inl, inr, ℕ, List, [], ◌∷◌, refl, arith}
+use Rattle.std.specs.Prelude.{codes}
+use Rattle.std.specs.Fmt.{digits}
+use Rattle.vx_isa.specs.declared.operation.Operation.TheVariants.{Goto}
+use Rattle.vx_words.specs.declared.form.Form.TheVariants.{PrintsText}
+use Rattle.vx_words.specs.Forms.{form_of}
+use Rattle.vx_words.specs.Reading.{has_operands}
+use Rattle.vx_causes.specs.Lines.{Label, MayStand, behind_size, behind_memory, behind_texts}
+use Rattle.vx_causes.specs.Causes.{Repeated, MemoryTooLarge, UnknownOperation, BadOperand, UnknownLabel, Applies, FirstCause, memory, label, goes}
+use Rattle.vx_causes.proofs.Sorts.{first_repeated}
+use Rattle.vx_causes.proofs.Operations.{unknown_of}
+
+abbrev header : List (List ℕ)
+header = codes ".vexwords 1" ∷ codes ".memory 8" ∷ []
+
+-- a second size of the memory, whatever stands behind the field
+second_memory : (all : List (List ℕ)) → FirstCause all header (codes ".memory x") Repeated
+second_memory all = first_repeated all header (codes ".memory x") (memory refl (record { other = codes ".memory 8"; stood = inr (inl refl); same = refl }))
+
+-- a second label of the same number
+second_label : (all : List (List ℕ)) → Applies Repeated all (codes "L0:" ∷ []) (codes "L0:")
+unfolding digits
+second_label all = label 0 refl (inl refl)
+
+large_memory : (all : List (List ℕ)) → Applies MemoryTooLarge all [] (codes ".memory 134217732")
+large_memory all = record { digits = codes "134217732"; is = refl; number = refl; multiple = refl; large = omega arith }
+
+-- a size of seventy digits
+long_memory : (all : List (List ℕ)) → Applies MemoryTooLarge all [] (codes ".memory 4000000000000000000000000000000000000000000000000000000000000000000000")
+long_memory all = record { digits = codes "4000000000000000000000000000000000000000000000000000000000000000000000"; is = refl; number = refl; multiple = refl; large = omega arith }
+
+no_operation : (all : List (List ℕ)) → Applies UnknownOperation all header (codes "c3 jump L0")
+unfolding digits form_of
+no_operation all = (codes "jump L0", record { cluster = 3; small = omega arith; is = refl }, unknown_of (codes "jump L0") refl)
+
+-- a text that does not stand before it
+no_text : (all : List (List ℕ)) → Applies BadOperand all header (codes "c0 outs T0")
+unfolding digits has_operands
+no_text all = (
+  codes "outs T0",
+  record { cluster = 0; small = omega arith; is = refl },
+  record { form = PrintsText; named = refl },
+  inr (record { number = 0; is = record { spellable = record { operands = refl; numbers = refl }; is = refl }; missing = omega arith }),
+)
+
+-- a place that is no word of the text, of any length
+no_place : Applies UnknownLabel (codes ";;" ∷ codes ".end" ∷ []) header (codes "c0 goto L100000000000000000000000000000000000000000000000000000000000000000000000")
+unfolding digits
+no_place = (
+  codes "goto L100000000000000000000000000000000000000000000000000000000000000000000000",
+  record { cluster = 0; small = omega arith; is = refl },
+  record {
+    place = 100000000000000000000000000000000000000000000000000000000000000000000000;
+    names = record { front = codes "goto L"; digits = codes "100000000000000000000000000000000000000000000000000000000000000000000000"; is = refl; jump = goes refl; number = refl; value = refl };
+    missing = omega arith;
+  },
+)
+
+-- a label that an operation names, in its place
+label_stands : MayStand (codes ".vexwords 1" ∷ codes ".memory 8" ∷ codes "L0:" ∷ codes "c0 goto L0" ∷ codes ";;" ∷ codes ".end" ∷ []) header (Label 0)
+unfolding digits has_operands
+label_stands = (
+  behind_texts (behind_memory (behind_size 8 (record { front = codes ".vexwords 1" ∷ []; is = refl }))),
+  refl,
+  record { op = Goto 0; spellable = record { operands = refl; numbers = refl }; stands = inr (inr (inr (inl refl))); names = refl },
+)
