@@ -6,4 +6,6 @@ pub mod Directives
 pub mod Header
 pub mod Words
 pub mod OperationStep
+pub mod Found
+pub mod Refused
 mod Rows

@@ -4,12 +4,16 @@ use Rattle.std.specs.Prelude.{codes}
 use Rattle.std.specs.Fmt.{digits}
 use Rattle.vx_isa.specs.declared.operation.Operation.TheVariants.{Goto}
 use Rattle.vx_words.specs.declared.form.Form.TheVariants.{PrintsText}
-use Rattle.vx_words.specs.Forms.{form_of}
-use Rattle.vx_words.specs.Reading.{has_operands}
+use Rattle.vx_words.specs.Fields.{number_at, signed_at, numbers_at, general_at, branch_at, register_at, source_at}
+use Rattle.vx_words.specs.Forms.{form_of, candidate, compute_of, move_of, select_of, load_of, store_of, branch_on_of}
+use Rattle.vx_words.specs.Reading.{operation_of, operation_by, has_form, has_operands}
+use Rattle.vx_words.specs.Steps.{version_step, memory_step, start_step, entry_at, text_step, unquoted, label_step, label_by, idle_step, word_end_step, operation_by_stage, operation_step, step}
+use Rattle.vx_words.specs.Text.{line_operation, reading}
 use Rattle.vx_causes.specs.Lines.{Label, MayStand, behind_size, behind_memory, behind_texts}
-use Rattle.vx_causes.specs.Causes.{Repeated, MemoryTooLarge, UnknownOperation, BadOperand, UnknownLabel, Applies, FirstCause, memory, label, goes}
+use Rattle.vx_causes.specs.Causes.{Repeated, MemoryTooLarge, UnknownOperation, BadOperand, UnknownLabel, Applies, FirstCause, memory, label, goes, IsFault}
 use Rattle.vx_causes.proofs.Sorts.{first_repeated}
 use Rattle.vx_causes.proofs.Operations.{unknown_of}
+use Rattle.vx_causes.proofs.Refused.{found_is_fault}
 
 abbrev header : List (List ℕ)
 header = codes ".vexwords 1" ∷ codes ".memory 8" ∷ []
@@ -65,3 +69,20 @@ label_stands = (
   refl,
   record { op = Goto 0; spellable = record { operands = refl; numbers = refl }; stands = inr (inr (inr (inl refl))); names = refl },
 )
+
+-- whole texts
+
+-- a label that nothing names
+unused_label : IsFault (codes ".vexwords 1\n.memory 0\nL0:\n;;\n.end\n") (record { code = 1; line = 3 })
+unfolding reading line_operation step operation_step operation_of operation_by operation_by_stage has_form has_operands form_of candidate compute_of move_of select_of load_of store_of branch_on_of number_at signed_at numbers_at general_at branch_at register_at source_at version_step memory_step start_step entry_at text_step unquoted label_step label_by idle_step word_end_step digits
+unused_label = found_is_fault (codes ".vexwords 1\n.memory 0\nL0:\n;;\n.end\n") (omega arith) (record { code = 1; line = 3 }) refl
+
+-- a register that no text can name
+large_register : IsFault (codes ".vexwords 1\n.memory 0\nc0 mov $r0.64 = 1\n;;\n.end\n") (record { code = 3; line = 3 })
+unfolding reading line_operation step operation_step operation_of operation_by operation_by_stage has_form has_operands form_of candidate compute_of move_of select_of load_of store_of branch_on_of number_at signed_at numbers_at general_at branch_at register_at source_at version_step memory_step start_step entry_at text_step unquoted label_step label_by idle_step word_end_step digits
+large_register = found_is_fault (codes ".vexwords 1\n.memory 0\nc0 mov $r0.64 = 1\n;;\n.end\n") (omega arith) (record { code = 3; line = 3 }) refl
+
+-- no last line
+missing_end : IsFault (codes ".vexwords 1\n.memory 0\n;;\n") (record { code = 7; line = 0 })
+unfolding reading line_operation step operation_step operation_of operation_by operation_by_stage has_form has_operands form_of candidate compute_of move_of select_of load_of store_of branch_on_of number_at signed_at numbers_at general_at branch_at register_at source_at version_step memory_step start_step entry_at text_step unquoted label_step label_by idle_step word_end_step digits
+missing_end = found_is_fault (codes ".vexwords 1\n.memory 0\n;;\n") (omega arith) (record { code = 7; line = 0 }) refl
