@@ -1,5 +1,6 @@
 pub mod Named
 pub mod Visiting
+pub mod Tasks
 pub mod Giving
 pub mod ByCycle
 pub mod FirstCycle

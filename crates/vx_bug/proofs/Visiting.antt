@@ -1,20 +1,10 @@
--- Visits one after the other, and the visit of one place.
-use Rattle.std.proofs.Common.{◌≡◌, ◌<◌, ◌+◌, ◌-◌, refl, sym, ◌∙◌, ap, arith, true, false, nat_eq, if◌then◌else◌, ℕ, zero, suc, Option, Some, None, List, [], ◌∷◌, ◌++◌, reverse, slice_get}
-use Rattle.std.specs.List.{list_any, flat_map}
+-- The visit of one place, and of one more.
+use Rattle.std.proofs.Common.{◌≡◌, ◌<◌, ◌+◌, ◌-◌, refl, sym, ◌∙◌, ap, arith, true, false, nat_eq, if◌then◌else◌, ℕ, zero, suc, List, [], ◌∷◌, ◌++◌, reverse, slice_get}
+use Rattle.std.specs.List.{list_any}
 use Rattle.std.proofs.lemmas.List.{reverse-append}
-use Rattle.std.proofs.lemmas.List.Concat.{flat_map-append}
-use Rattle.vx_flow.specs.declared.trace.TraceOp.{TraceOp}
 use Rattle.vx_flow.specs.declared.trace.Trace.{Trace}
 use Rattle.vx_flow.specs.Walk.{numbers}
-use Rattle.vx_linear.specs.Writers.{writer}
-use Rattle.vx_dep.specs.Delays.{reads_of}
-use Rattle.vx_bug.specs.declared.naming.Reads.{Reads}
-use Rattle.vx_bug.specs.Clusters.{some_of, writers_of, visit_each, visit}
-use Rattle.vx_bug.specs.Naming.{AreReads}
-
-pub each_append : (f : ℕ → List ℕ → List ℕ) (xs ys l : List ℕ) → visit_each f (xs ++ ys) l ≡ visit_each f ys (visit_each f xs l)
-each_append f [] ys l = refl
-each_append f (x ∷ xs) ys l = each_append f xs ys (f x l)
+use Rattle.vx_bug.specs.Clusters.{writers_of, visit_each, visit}
 
 -- a place
 
@@ -35,33 +25,6 @@ pub visit_new : (t : Trace) (d i : ℕ) (l between : List ℕ) → 0 < d → lis
 visit_new t d i l between h e f =
     let k : d ≡ suc (d - 1) = omega (arith, h) in
     ap (λ x. x ++ i ∷ []) f ∙ sym (visit_suc t (d - 1) i l e) ∙ sym (ap (λ x. visit x t i l) k)
-
--- the writers of the operands
-
-pub no_writers : (t : Trace) (f : ℕ → List ℕ → List ℕ) (i : ℕ) (op : Option TraceOp) (l : List ℕ) → op ≡ None → visit_each f (writers_of t i op) l ≡ l
-no_writers t f i op l e = ap (λ o. visit_each f (writers_of t i o) l) e
-
-abbrev pub above : Trace → ℕ → Option ℕ → List ℕ
-above t i value = flat_map (λ v. some_of (writer t.ops i v)) (some_of value)
-
-pub all_writers : (t : Trace) (f : ℕ → List ℕ → List ℕ) (i : ℕ) (there : Option TraceOp) (op : TraceOp) (r : Reads) (l one two three : List ℕ) → there ≡ Some op → AreReads op r →
-    one ≡ visit_each f (above t i r.test) l → two ≡ visit_each f (above t i r.left) one → three ≡ visit_each f (above t i r.right) two →
-    three ≡ visit_each f (writers_of t i there) l
-all_writers t f i there op r l one two three e a p q s =
-    let w : ℕ → List ℕ = λ v. some_of (writer t.ops i v) in
-    let cut : flat_map w (reads_of op) ≡ above t i r.test ++ (above t i r.left ++ above t i r.right) =
-    ap (flat_map w) a.all ∙ flat_map-append w (some_of r.test) (some_of r.left ++ some_of r.right) ∙ ap (λ x. above t i r.test ++ x) (flat_map-append w (some_of r.left) (some_of r.right)) in
-    s ∙ ap (visit_each f (above t i r.right)) (q ∙ ap (visit_each f (above t i r.left)) p)
-    ∙ sym (each_append f (above t i r.left) (above t i r.right) (visit_each f (above t i r.test) l))
-    ∙ sym (each_append f (above t i r.test) (above t i r.left ++ above t i r.right) l)
-    ∙ ap (λ x. visit_each f x l) (sym cut)
-    ∙ ap (λ o. visit_each f (writers_of t i o) l) (sym e)
-
-pub no_writer : (t : Trace) (f : ℕ → List ℕ → List ℕ) (i v : ℕ) (l : List ℕ) → writer t.ops i v ≡ None → visit_each f (above t i (Some v)) l ≡ l
-no_writer t f i v l e = ap (λ o. visit_each f (some_of o ++ []) l) e
-
-pub one_writer : (t : Trace) (f : ℕ → List ℕ → List ℕ) (i v j : ℕ) (l : List ℕ) → writer t.ops i v ≡ Some j → visit_each f (above t i (Some v)) l ≡ f j l
-one_writer t f i v j l e = ap (λ o. visit_each f (some_of o ++ []) l) e
 
 -- the whole trace
 

@@ -2,6 +2,7 @@ pub mod Clusters
 pub mod Copies
 pub mod Assigned
 pub mod Naming
+pub mod Tasks
 pub mod Booked
 pub mod Ledgers
 pub mod Sources

@@ -1,17 +1,18 @@
 // The order in which the operations of a trace take their clusters: from the last operation to the first, the writers of
 // an operation's operands before it (Ellis, 1985). The clause of `listed` is the definition of specs/Clusters.antt.
 
-ghost use Rattle.std.specs.Prelude.{◌≡◌, IfOk, nat_eq, slice_get};
+ghost use Rattle.std.specs.Prelude.{◌≡◌, ◌<◌, ◌≤◌, ◌+◌, ◌*◌, ◌++◌, IfOk, IfSome, IfNone, Some, None, nat_eq, slice_get};
 ghost use Rattle.std.specs.List.{list_any, flat_map};
 ghost use Rattle.vx_linear.specs.Writers.{writer};
-ghost use Rattle.vx_bug.specs.Clusters.{some_of, writers_of, visit_each, visit, listed};
+ghost use Rattle.vx_bug.specs.Clusters.{some_of, writers_of, visit, listed};
+ghost use Rattle.vx_bug.specs.Tasks.{done, all_done, entries, turns, weight, all_weight};
 
 use crate::naming::{values_read, writer};
 use std::alloc::Global;
 use vx_base::listed::Listed;
 use vx_base::outcome::NoMemory;
 use vx_flow::graph::Value;
-use vx_flow::trace::Trace;
+use vx_flow::trace::{Trace, TraceOp};
 
 /// The places of the operations in the order in which they take their clusters.
 pub(crate) fn listed(alloc: Global, trace: &Trace) -> Result<Listed<u32>, NoMemory>
@@ -22,16 +23,71 @@ pub(crate) fn listed(alloc: Global, trace: &Trace) -> Result<Listed<u32>, NoMemo
     let mut place = trace.ops.len() as u32;
     'walk: while place > 0 {
         place -= 1;
-        visit(trace, depth, place, &mut order)?;
+        visit(alloc, trace, depth, place, &mut order)?;
     }
     Ok(order)
 }
 
+/// What is left to do of a visit.
+#[derive(Clone, Copy, Debug)]
+pub(crate) enum Task {
+    /// A place is visited, with at most so many visits inside each other.
+    Enter { depth: usize, place: u32 },
+    /// The operation at a place is listed; the writers of its operands are.
+    Leave(u32),
+}
+
 /// Lists the writers of an operation's operands and the operation itself, unless it is listed. Writers stand at smaller
-/// places, so that a depth of more than the place is enough.
-#[cycle(visits)]
-fn visit(trace: &Trace, depth: usize, place: u32, order: &mut Listed<u32>) -> Result<(), NoMemory>
+/// places, so that a depth of more than the place is enough. It keeps a list of tasks in place of a recursion, which would be
+/// as deep as the trace is long where each operation reads what the one above it writes.
+fn visit(
+    alloc: Global,
+    trace: &Trace,
+    depth: usize,
+    place: u32,
+    order: &mut Listed<u32>,
+) -> Result<(), NoMemory>
     ensures { IfOk result (λ _. order.new ≡ visit depth trace.now place order.old) }
+{
+    let mut tasks = Vec::new(alloc);
+    tasks.push(Task::Enter { depth, place })?;
+    'turns: loop {
+        match tasks.pop() {
+            None => return Ok(()),
+            Some(task) => turn(trace, task, &mut tasks, order)?,
+        }
+    }
+}
+
+/// Does a task, from which others may come.
+fn turn(
+    trace: &Trace,
+    task: Task,
+    tasks: &mut Vec<Task>,
+    order: &mut Listed<u32>,
+) -> Result<(), NoMemory>
+    ensures done { IfOk result (λ _. all_done trace.now tasks.new.items order.new ≡ all_done trace.now tasks.old.items (done trace.now task order.old)) }
+    ensures fewer { IfOk result (λ _. all_weight tasks.new.items < all_weight tasks.old.items + weight task) }
+{
+    match task {
+        Task::Enter { depth, place } => enter(trace, depth, place, tasks, order),
+        Task::Leave(place) => {
+            order.push(place)?;
+            Ok(())
+        }
+    }
+}
+
+/// Enters a place: its writers come first, and then it is left.
+fn enter(
+    trace: &Trace,
+    depth: usize,
+    place: u32,
+    tasks: &mut Vec<Task>,
+    order: &Listed<u32>,
+) -> Result<(), NoMemory>
+    ensures done { IfOk result (λ _. all_done trace.now tasks.new.items order.now ≡ all_done trace.now tasks.old.items (visit depth trace.now place order.now)) }
+    ensures fewer { IfOk result (λ _. all_weight tasks.new.items < all_weight tasks.old.items + turns depth) }
 {
     if depth == 0 {
         return Ok(());
@@ -39,48 +95,61 @@ fn visit(trace: &Trace, depth: usize, place: u32, order: &mut Listed<u32>) -> Re
     if is_listed(order, place) {
         return Ok(());
     }
-    visit_writers(trace, depth - 1, place, order)?;
-    order.push(place)?;
+    tasks.push(Task::Leave(place))?;
+    enter_writers(trace, depth - 1, place, tasks)?;
     Ok(())
 }
 
-/// Visits the writers of the operands of the operation at a place, in the order of the operands.
-#[cycle(visits)]
-fn visit_writers(
+/// The visits of the writers of the operands of the operation at a place. The last one is done first, so that they are done
+/// in the order of the operands.
+fn enter_writers(
     trace: &Trace,
     depth: usize,
     place: u32,
-    order: &mut Listed<u32>,
+    tasks: &mut Vec<Task>,
 ) -> Result<(), NoMemory>
-    ensures { IfOk result (λ _. order.new ≡ visit_each (visit depth trace.now) (writers_of trace.now place (slice_get trace.now.ops place)) order.old) }
+    ensures tasks { IfOk result (λ _. tasks.new.items ≡ tasks.old.items ++ entries depth (writers_of trace.now place (slice_get trace.now.ops place))) }
+    ensures few { IfOk result (λ _. all_weight tasks.new.items ≤ all_weight tasks.old.items + 3 * turns depth) }
 {
-    match trace.ops.as_slice().get(place as usize) {
+    match op_at(trace, place) {
         None => Ok(()),
         Some(op) => {
             let read = values_read(op);
-            visit_writer(trace, depth, place, read.test, order)?;
-            visit_writer(trace, depth, place, read.left, order)?;
-            visit_writer(trace, depth, place, read.right, order)
+            enter_writer(trace, depth, place, read.right, tasks)?;
+            enter_writer(trace, depth, place, read.left, tasks)?;
+            enter_writer(trace, depth, place, read.test, tasks)?;
+            Ok(())
         }
     }
 }
 
-/// Visits the operation above a place that wrote an operand last, if there is one.
-#[cycle(visits)]
-fn visit_writer(
+fn op_at(trace: &Trace, place: u32) -> Option<&TraceOp>
+    ensures some { IfSome result (λ op. slice_get trace.now.ops place ≡ Some op.now) }
+    ensures none { IfNone result (slice_get trace.now.ops place ≡ None) }
+{
+    trace.ops.as_slice().get(place as usize)
+}
+
+/// The visit of the operation above a place that wrote an operand last, if there is one.
+#[tactic(auto, using(crate::proofs::Tasks::no_entry, crate::proofs::Tasks::none_above, crate::proofs::Tasks::one_entry, crate::proofs::Tasks::entered_few))]
+fn enter_writer(
     trace: &Trace,
     depth: usize,
     place: u32,
     value: Option<Value>,
-    order: &mut Listed<u32>,
+    tasks: &mut Vec<Task>,
 ) -> Result<(), NoMemory>
-    ensures { IfOk result (λ _. order.new ≡ visit_each (visit depth trace.now) (flat_map (λ v. some_of (writer trace.now.ops place v)) (some_of value)) order.old) }
+    ensures tasks { IfOk result (λ _. tasks.new.items ≡ tasks.old.items ++ entries depth (flat_map (λ v. some_of (writer trace.now.ops place v)) (some_of value))) }
+    ensures few { IfOk result (λ _. all_weight tasks.new.items ≤ all_weight tasks.old.items + turns depth) }
 {
     match value {
         None => Ok(()),
         Some(value) => match writer(trace.ops.as_slice(), place, value) {
             None => Ok(()),
-            Some(above) => visit(trace, depth, above, order),
+            Some(place) => {
+                tasks.push(Task::Enter { depth, place })?;
+                Ok(())
+            }
         },
     }
 }
