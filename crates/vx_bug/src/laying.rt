@@ -13,6 +13,7 @@ use crate::served::Served;
 use std::alloc::{AllocError, Global};
 use vx_base::listed::Listed;
 use vx_base::outcome::NoMemory;
+use vx_flow::graph::{Array, BlockId};
 use vx_flow::trace::{Clustered, Join, Trace};
 
 /// The operations of a clustered trace, with the places at which those begin that stand for one operation of the trace,
@@ -21,6 +22,14 @@ use vx_flow::trace::{Clustered, Join, Trace};
 pub struct Laid {
     pub(crate) out: Standings,
     pub(crate) starts: Listed<u32>,
+}
+
+/// What a clustered trace has of its trace: the joins, each where it stands then, the blocks and the arrays.
+#[derive(Drop)]
+struct Kept {
+    joins: Listed<Join>,
+    blocks: Listed<BlockId>,
+    arrays: Listed<Array>,
 }
 
 fn no_standings(alloc: Global) -> Standings
@@ -135,6 +144,22 @@ fn moved_joins(alloc: Global, joins: &[Join], starts: &[u32]) -> Result<Listed<J
     }
 }
 
+/// The lists of a clustered trace that are not laid down.
+fn lists_kept(alloc: Global, trace: &Trace, starts: &[u32]) -> Result<Kept, NoMemory>
+    ensures joins { IfOk result (λ kept. kept.joins ≡ map (λ (join : Join). record join { place = start_in starts.now join.place }) trace.now.joins) }
+    ensures blocks { IfOk result (λ kept. kept.blocks ≡ trace.now.blocks) }
+    ensures arrays { IfOk result (λ kept. kept.arrays ≡ trace.now.arrays) }
+{
+    let joins = moved_joins(alloc, trace.joins.as_slice(), starts)?;
+    let blocks = copy_list(alloc, trace.blocks.as_slice())?;
+    let arrays = copy_list(alloc, trace.arrays.as_slice())?;
+    Ok(Kept {
+        joins,
+        blocks,
+        arrays,
+    })
+}
+
 /// The trace with the copies that its operations need, by the homes and the clusters.
 pub(crate) fn with_copies(
     alloc: Global,
@@ -147,18 +172,16 @@ pub(crate) fn with_copies(
     ensures { IfOk result (λ clustered. clustered ≡ with_copies trace.now (homes_in homes.now) chosen.now) }
 {
     let laid = lay(alloc, trace, homes, chosen)?;
-    let joins = moved_joins(alloc, trace.joins.as_slice(), laid.starts.as_slice())?;
-    let blocks = copy_list(alloc, trace.blocks.as_slice())?;
-    let arrays = copy_list(alloc, trace.arrays.as_slice())?;
+    let kept = lists_kept(alloc, trace, laid.starts.as_slice())?;
     Ok(Clustered {
         trace: Trace {
             function: trace.function,
-            blocks,
+            blocks: kept.blocks,
             ops: laid.out.ops,
             fixed: laid.out.fixed,
-            joins,
+            joins: kept.joins,
             values: trace.values,
-            arrays,
+            arrays: kept.arrays,
         },
         clusters: laid.out.clusters,
     })
