@@ -3,7 +3,7 @@ use Rattle.std.proofs.Common.{◌≡◌, ℕ, Bool, true, false, List, [], ◌�
 use Rattle.std.specs.Prelude.{find, option_map, codes}
 use Rattle.std.specs.Str.{bytes_eq}
 use Rattle.vx_probe.specs.Watch.{Watch}
-use Rattle.vx_driver.specs.Boxes.{ProbeBox, probes_named}
+use Rattle.vx_driver.specs.Boxes.{ProbeBox, probe_boxes, probes_named}
 
 abbrev pub first_or : {A : Type 0} → Option A → Option A → Option A
 first_or None other = other
@@ -47,5 +47,5 @@ map_map box view [] = refl
 map_map box view (x ∷ items) = ap (λ l. view (box x) ∷ l) (map_map box view items)
 
 -- every box is asked for
-pub every_probe : {T : Type 0} (box : T → ProbeBox) (asked : Option (List ℕ)) (name : List ℕ) (items : List T) → asked ≡ Some name → bytes_eq name (codes "all") ≡ true → probes_named asked (map box items) ≡ Some (map (λ x. (box x).watch) items)
-every_probe box asked name items asks is = ap (λ (a : Option (List ℕ)). probes_named a (map box items)) asks ∙ rw is (ap (λ (l : List Watch). Some l) (map_map box (λ (b : ProbeBox). b.watch) items))
+pub every_probe : {T : Type 0} (called : T → List ℕ) (watch : T → Watch) (asked : Option (List ℕ)) (name : List ℕ) (items : List T) → asked ≡ Some name → bytes_eq name (codes "all") ≡ true → probes_named asked (probe_boxes called watch items) ≡ Some (map watch items)
+every_probe called watch asked name items asks is = ap (λ (a : Option (List ℕ)). probes_named a (probe_boxes called watch items)) asks ∙ rw is (ap (λ (l : List Watch). Some l) (map_map (λ x. record { name = called x; watch = watch x }) (λ (b : ProbeBox). b.watch) items))

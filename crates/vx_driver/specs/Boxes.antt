@@ -16,6 +16,17 @@ pub record Boxes : Type 0 where
   pub probes : List ProbeBox
   pub timings : List TimingBox
 
+-- the boxes by what each tells: its name, and what it watches or which times it gives
+
+abbrev pub probe_boxes : {P : Type 0} → (called : P → List ℕ) → (watch : P → Watch) → List P → List ProbeBox
+probe_boxes called watch probes = map (λ b. record { name = called b; watch = watch b }) probes
+
+abbrev pub timing_boxes : {T : Type 0} → (named : T → List ℕ) → (times : T → Times) → List T → List TimingBox
+timing_boxes named times timings = map (λ b. record { name = named b; times = times b }) timings
+
+abbrev pub boxes_of : {P T : Type 0} → (called : P → List ℕ) → (watch : P → Watch) → (named : T → List ℕ) → (times : T → Times) → List P → List T → Boxes
+boxes_of called watch named times probes timings = record { probes = probe_boxes called watch probes; timings = timing_boxes named times timings }
+
 -- those of a run
 pub record Chosen : Type 0 where
   pub times : Times

@@ -7,6 +7,7 @@ ghost use Rattle.vx_ast.specs.View as view;
 ghost use Rattle.vx_files.specs.Effects.{effect_of, InputAnswers};
 ghost use Rattle.vx_files.specs.Held.{machine_found, Is, ProfileStands, DefaultUnless, EmptyUnless, input_found};
 ghost use Rattle.vx_command.specs.Command.{Execute};
+ghost use Rattle.vx_driver.specs.Boxes.{boxes_of};
 ghost use Rattle.vx_driver.specs.Commands.{TellsLine, TellsRun};
 ghost use Rattle.vx_command.specs.Asked.{execution_of};
 ghost use Rattle.vx_compile.specs.Stages.{IsCompiled};
@@ -200,8 +201,8 @@ pub(crate) fn execute_with<D: Depot, K: Sink, E: Sink>(
     probes: Vec<Box<dyn Probe>>,
     timings: Vec<Box<dyn Timing>>,
 ) -> Status
-    ensures answers { ExecAnswers (execution_of asked.now) (record { probes = map (λ b. record { name = (⟦<dyn Probe as Probe>⟧ b.vtable).called b.value; watch = watch b }) probes.items; timings = map (λ b. record { name = (⟦<dyn Timing as Timing>⟧ b.vtable).called b.value; times = times b }) timings.items }) (effect_of D.files D.failed_reads D.failed_replaces depot.old depot.new) (streams_of K.told K.faults E.told E.faults out.old out.new err.old err.new) result }
-    ensures line { TellsLine (Some (Execute (execution_of asked.now))) (record { probes = map (λ b. record { name = (⟦<dyn Probe as Probe>⟧ b.vtable).called b.value; watch = watch b }) probes.items; timings = map (λ b. record { name = (⟦<dyn Timing as Timing>⟧ b.vtable).called b.value; times = times b }) timings.items }) (streams_of K.told K.faults E.told E.faults out.old out.new err.old err.new) result }
+    ensures answers { ExecAnswers (execution_of asked.now) (boxes_of (λ b. called b) (λ b. watch b) (λ b. named b) (λ b. times b) probes.items timings.items) (effect_of D.files D.failed_reads D.failed_replaces depot.old depot.new) (streams_of K.told K.faults E.told E.faults out.old out.new err.old err.new) result }
+    ensures line { TellsLine (Some (Execute (execution_of asked.now))) (boxes_of (λ b. called b) (λ b. watch b) (λ b. named b) (λ b. times b) probes.items timings.items) (streams_of K.told K.faults E.told E.faults out.old out.new err.old err.new) result }
     ensures adds { Adds (E.told err.old) (E.told err.new) (E.faults err.old) (E.faults err.new) }
     ensures nothing { is_of_run result ≡ false → K.told out.new ≡ K.told out.old }
     ensures reads_never_fall { D.failed_reads depot.old ≤ D.failed_reads depot.new }

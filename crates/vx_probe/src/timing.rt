@@ -11,18 +11,18 @@ pub trait Timing: Drop {
     ghost times: { Self → Times };
 
     /// The bytes of its name.
-    ghost called: { Self → List ℕ };
+    ghost named: { Self → List ℕ };
 
     /// Its name, by which it is asked for.
     fn name(&self) -> &str
-        ensures { result.now ≡ called self.now };
+        ensures { result.now ≡ named self.now };
 
     /// The number at the place, cut to 1 to the latency. The place moves on, cyclically, and the list stays.
     fn lands(&mut self, latency: u32) -> u32
         requires { 1 ≤ latency }
         ensures number { result ≡ landing_time (list_of (times self.old)) (times self.old).place latency }
         ensures moves_on { times self.new ≡ moved_on (times self.old) }
-        ensures name_stays { called self.new ≡ called self.old };
+        ensures name_stays { named self.new ≡ named self.old };
 }
 
 /// Every result lands as late as its latency lets it: the list of the one number 16, the greatest latency.
@@ -71,7 +71,7 @@ impl Cyclic {
 impl Timing for Late {
     ghost times = { λ late. always 16 };
 
-    ghost called = { λ late. codes "late" };
+    ghost named = { λ late. codes "late" };
 
     fn name(&self) -> &str {
         "late"
@@ -85,7 +85,7 @@ impl Timing for Late {
 impl Timing for Early {
     ghost times = { λ early. always 1 };
 
-    ghost called = { λ early. codes "early" };
+    ghost named = { λ early. codes "early" };
 
     fn name(&self) -> &str {
         "early"
@@ -99,7 +99,7 @@ impl Timing for Early {
 impl Timing for Cyclic {
     ghost times = { λ cyclic. cycling cyclic.list.items cyclic.place };
 
-    ghost called = { λ cyclic. codes "cyclic" };
+    ghost named = { λ cyclic. codes "cyclic" };
 
     fn name(&self) -> &str {
         "cyclic"

@@ -6,4 +6,4 @@ use Rattle.vx_driver.proofs.boxes.probes_of.Goals as goal
 
 pub returns-then-is_all-clause-picked : goal.returns-then-is_all-clause-picked
 returns-then-is_all-clause-picked g c =
-    every_probe (λ b. record { name = (goal.Probe-dyn g (b.vtable, b.value)).called b.value; watch = (goal.Probe-dyn g (b.vtable, b.value)).watch b.value }) _ c.in-Some.name.now c.args.probes.items (ap (option_map (λ s. s.now)) c.in-Some.is) (sym c.is_all.ensures ∙ c.if-is_all.true)
+    every_probe (λ b. (goal.Probe-dyn g (b.vtable, b.value)).called b.value) (λ b. (goal.Probe-dyn g (b.vtable, b.value)).watch b.value) _ c.in-Some.name.now c.args.probes.items (ap (option_map (λ s. s.now)) c.in-Some.is) (sym c.is_all.ensures ∙ c.if-is_all.true)
