@@ -18,9 +18,9 @@ use Rattle.vx_status.specs.declared.status.Status.{Status}
 use Rattle.vx_status.specs.declared.status.Status.TheVariants.{Done, Trapped, WriteFault, Stopped, Stuck}
 use Rattle.vx_status.specs.Status.{Tells, TellsWith, status_line}
 use Rattle.vx_driver.specs.Boxes.{report_line}
-use Rattle.vx_driver.specs.Simulated.{Loaded, begun, outcome_within, events_within, result_line, Streams, ErrTells, OutRose, IsEnd, IsStatusOf, reports_of, Fronts, BeginsLines, TellsFault, is_of_run}
+use Rattle.vx_driver.specs.Simulated.{Loaded, begun, outcome_within, events_within, result_line, Streams, ErrTells, OutRose, IsEnd, IsStatusOf, Shows, reports_of, Fronts, BeginsLines, TellsFault, is_of_run}
 use Rattle.vx_driver.specs.Executed.{issued_line}
-use Rattle.vx_driver.specs.Ending.{status_as, end_line, told_line, ShowsLine, ShowsIssued, ShowsEnd, BeginsEnd, CutsEnd, EndFault, ShowsOf, IsHalted, RanWhole, RanPartly, RunOf, Finishes, IsRunOf, LoadedAnswers}
+use Rattle.vx_driver.specs.Ending.{status_as, end_line, told_line, ShowsLine, ShowsIssued, ShowsEnd, CutsEnd, EndFault, IsHalted, RanWhole, RanPartly, RunOf, Finishes, IsRunOf, LoadedAnswers}
 use Rattle.vx_driver.specs.Commands.{TellsRun}
 use Rattle.vx_status.proofs.Appending.{with_both, with_none, front_on, front_behind, tells_nothing}
 use Rattle.vx_base.proofs.Same.{begins_self}
@@ -132,18 +132,18 @@ none_between b c g h grows same = record {
 }
 
 module _ (a b c d : Option (List ℕ)) (line reports : List ℕ) (f g h i : ℕ) (le : f ≤ g) (grows : g ≤ h) (more : h ≤ i) (is : d ≡ with_bytes c reports) where
-  shows_ok : (ended : Ended) → ShowsLine ended a b f g → ShowsIssued ended line b c g h → ShowsEnd ended line reports a d f i
-  shows_ok (Halted z) first second =
+  shows_ok : (ended : Ended) → is_fault ended ≡ false → ShowsLine ended a b f g → ShowsIssued ended line b c g h → ShowsEnd ended line reports a d f i
+  shows_ok (Halted z) unfaulted first second =
       is ∙ ap (λ told. with_bytes told reports) (second ∙ ap (λ told. with_bytes told line) first ∙ with_both a (result_line z) line) ∙ with_both a (result_line z ++ line) reports
-  shows_ok (TrappedBy trap) first second = tells_with a b c d (status_line (Trapped trap)) line reports f g h i le grows more first second is
-  shows_ok StoppedAt first second = tells_with a b c d (status_line Stopped) [] reports f g h i le grows more first (none_between b c g h grows second) is
-  shows_ok (StuckAt reason place) first second = tells_with a b c d (status_line (Stuck reason place)) [] reports f g h i le grows more first (none_between b c g h grows second) is
-  shows_ok SinkFault first second = tells_with a b c d (status_line WriteFault) [] reports f g h i le grows more first (none_between b c g h grows second) is
+  shows_ok (TrappedBy trap) unfaulted first second = tells_with a b c d (status_line (Trapped trap)) line reports f g h i le grows more first second is
+  shows_ok StoppedAt unfaulted first second = tells_with a b c d (status_line Stopped) [] reports f g h i le grows more first (none_between b c g h grows second) is
+  shows_ok (StuckAt reason place) unfaulted first second = tells_with a b c d (status_line (Stuck reason place)) [] reports f g h i le grows more first (none_between b c g h grows second) is
+  shows_ok SinkFault unfaulted first second = absurd cc
 
-pub shows_on : {T E : Type 0} (r : Result T E) (ended : Ended) (a b c d : Option (List ℕ)) (line reports : List ℕ) (f g h i : ℕ) → f ≤ g → g ≤ h → h ≤ i → ShowsLine ended a b f g → ShowsIssued ended line b c g h → OnOk r (d ≡ with_bytes c reports) →
+pub shows_on : {T E : Type 0} (r : Result T E) (ended : Ended) (a b c d : Option (List ℕ)) (line reports : List ℕ) (f g h i : ℕ) → is_fault ended ≡ false → f ≤ g → g ≤ h → h ≤ i → ShowsLine ended a b f g → ShowsIssued ended line b c g h → OnOk r (d ≡ with_bytes c reports) →
     OnOk r (ShowsEnd ended line reports a d f i)
-shows_on (Ok x) ended a b c d line reports f g h i le grows more first second is = shows_ok a b c d line reports f g h i le grows more is ended first second
-shows_on (Err e) ended a b c d line reports f g h i le grows more first second is = tt
+shows_on (Ok x) ended a b c d line reports f g h i unfaulted le grows more first second is = shows_ok a b c d line reports f g h i le grows more is ended unfaulted first second
+shows_on (Err e) ended a b c d line reports f g h i unfaulted le grows more first second is = tt
 
 -- the lines of an end of which one is not put
 
@@ -170,39 +170,35 @@ module _ (a b c d : Option (List ℕ)) (line reports : List ℕ) (f g h : ℕ) (
   abbrev nothing_between : c ≡ b → PutsFront b c []
   nothing_between same = record { front = []; begins = begins_self []; put = same ∙ with_none b }
 
-  reports_cut : (ended : Ended) → ShowsLine ended a b f g → ShowsIssued ended line b c g h → CutsEnd ended line reports a d
-  reports_cut (Halted z) first second =
+  reports_cut : (ended : Ended) → is_fault ended ≡ false → ShowsLine ended a b f g → ShowsIssued ended line b c g h → CutsEnd ended line reports a d
+  reports_cut (Halted z) unfaulted first second =
       let q = front_behind a c d (result_line z ++ line) reports (second ∙ ap (λ told. with_bytes told line) first ∙ with_both a (result_line z) line) last in
       record { front = q.front; begins = q.begins; put = q.put }
-  reports_cut (TrappedBy trap) first second = record {
+  reports_cut (TrappedBy trap) unfaulted first second = record {
     front = first.part.front ++ second.part.front ++ last.front;
     begins = three_fronts (status_line (Trapped trap)) line first.part second.part;
     put = three_pieces a b c d first.part.front second.part.front last.front first.part.put second.part.put last.put;
   }
-  reports_cut StoppedAt first second = record {
+  reports_cut StoppedAt unfaulted first second = record {
     front = first.part.front ++ [] ++ last.front;
     begins = three_fronts (status_line Stopped) [] first.part (nothing_between second);
     put = three_pieces a b c d first.part.front [] last.front first.part.put (second ∙ with_none b) last.put;
   }
-  reports_cut (StuckAt reason place) first second = record {
+  reports_cut (StuckAt reason place) unfaulted first second = record {
     front = first.part.front ++ [] ++ last.front;
     begins = three_fronts (status_line (Stuck reason place)) [] first.part (nothing_between second);
     put = three_pieces a b c d first.part.front [] last.front first.part.put (second ∙ with_none b) last.put;
   }
-  reports_cut SinkFault first second = record {
-    front = first.part.front ++ [] ++ last.front;
-    begins = three_fronts (status_line WriteFault) [] first.part (nothing_between second);
-    put = three_pieces a b c d first.part.front [] last.front first.part.put (second ∙ with_none b) last.put;
-  }
+  reports_cut SinkFault unfaulted first second = absurd cc
 
-pub cuts_on : {T E : Type 0} (r : Result T E) (ended : Ended) (a b c d : Option (List ℕ)) (line reports : List ℕ) (f g h : ℕ) → ShowsLine ended a b f g → ShowsIssued ended line b c g h → OnErr r (PutsFront c d reports) →
+pub cuts_on : {T E : Type 0} (r : Result T E) (ended : Ended) (a b c d : Option (List ℕ)) (line reports : List ℕ) (f g h : ℕ) → is_fault ended ≡ false → ShowsLine ended a b f g → ShowsIssued ended line b c g h → OnErr r (PutsFront c d reports) →
     OnErr r (CutsEnd ended line reports a d)
-cuts_on (Ok x) ended a b c d line reports f g h first second p = tt
-cuts_on (Err e) ended a b c d line reports f g h first second p = reports_cut a b c d line reports f g h p ended first second
+cuts_on (Ok x) ended a b c d line reports f g h unfaulted first second p = tt
+cuts_on (Err e) ended a b c d line reports f g h unfaulted first second p = reports_cut a b c d line reports f g h p ended unfaulted first second
 
 -- the fault is told behind them
-pub end_fault : (ended : Ended) (line reports : List ℕ) {a b c : Option (List ℕ)} {f g : ℕ} (status : Status) → status ≡ WriteFault → CutsEnd ended line reports a b → Tells (status_line status) b c f g → EndFault ended line reports a c
-end_fault ended line reports {a} {b} {c} status is cut told = record {
+pub end_fault : (ended : Ended) (line reports : List ℕ) {a b c : Option (List ℕ)} {f g h : ℕ} (status : Status) → status ≡ WriteFault → CutsEnd ended line reports a b → Tells (status_line status) b c g h → EndFault ended line reports a c f h
+end_fault ended line reports {a} {b} {c} {f} {g} {h} status is cut told = record {
   front = cut.front;
   begins = cut.begins;
   back = told.part.front;
@@ -229,24 +225,24 @@ status_of_end StoppedAt o unfaulted is = subst (λ p. IsStatusOf p Stopped) (sym
 status_of_end (StuckAt reason place) o unfaulted is = subst (λ p. IsStatusOf p (Stuck reason place)) (sym is) refl
 status_of_end SinkFault o unfaulted is = absurd cc
 
-shows_outcome : (ended : Ended) (o : Outcome) (line reports : List ℕ) (s : Streams) → is_fault ended ≡ false → o ≡ outcome_of ended (output_of o) →
-    ShowsEnd ended line reports s.err_before s.err_after s.err_faults_before s.err_faults_after → ShowsOf o line reports s
-shows_outcome (Halted z) o line reports s unfaulted is h = subst (λ p. ShowsOf p line reports s) (sym is) h
-shows_outcome (TrappedBy trap) o line reports s unfaulted is h = subst (λ p. ShowsOf p line reports s) (sym is) h
-shows_outcome StoppedAt o line reports s unfaulted is h = subst (λ p. ShowsOf p line reports s) (sym is) h
-shows_outcome (StuckAt reason place) o line reports s unfaulted is h = subst (λ p. ShowsOf p line reports s) (sym is) h
-shows_outcome SinkFault o line reports s unfaulted is h = absurd cc
+shows_outcome : (ended : Ended) (o : Outcome) (line reports : List ℕ) (s : Streams) → o ≡ outcome_of ended (output_of o) →
+    ShowsEnd ended line reports s.err_before s.err_after s.err_faults_before s.err_faults_after → Shows o line reports s
+shows_outcome (Halted z) o line reports s is h = subst (λ p. Shows p line reports s) (sym is) h
+shows_outcome (TrappedBy trap) o line reports s is h = subst (λ p. Shows p line reports s) (sym is) h
+shows_outcome StoppedAt o line reports s is h = subst (λ p. Shows p line reports s) (sym is) h
+shows_outcome (StuckAt reason place) o line reports s is h = subst (λ p. Shows p line reports s) (sym is) h
+shows_outcome SinkFault o line reports s is h = subst (λ p. Shows p line reports s) (sym is) h
 
-begins_outcome : (ended : Ended) (o : Outcome) (line reports bytes : List ℕ) → is_fault ended ≡ false → o ≡ outcome_of ended (output_of o) → BeginsEnd ended line reports bytes → BeginsLines o line reports bytes
-begins_outcome (Halted z) o line reports bytes unfaulted is h = subst (λ p. BeginsLines p line reports bytes) (sym is) h
-begins_outcome (TrappedBy trap) o line reports bytes unfaulted is h = subst (λ p. BeginsLines p line reports bytes) (sym is) h
-begins_outcome StoppedAt o line reports bytes unfaulted is h = subst (λ p. BeginsLines p line reports bytes) (sym is) h
-begins_outcome (StuckAt reason place) o line reports bytes unfaulted is h = subst (λ p. BeginsLines p line reports bytes) (sym is) h
-begins_outcome SinkFault o line reports bytes unfaulted is h = absurd cc
+begins_outcome : (ended : Ended) (o : Outcome) (line reports bytes : List ℕ) → o ≡ outcome_of ended (output_of o) → BeginsLines (outcome_of ended []) line reports bytes → BeginsLines o line reports bytes
+begins_outcome (Halted z) o line reports bytes is h = subst (λ p. BeginsLines p line reports bytes) (sym is) h
+begins_outcome (TrappedBy trap) o line reports bytes is h = subst (λ p. BeginsLines p line reports bytes) (sym is) h
+begins_outcome StoppedAt o line reports bytes is h = subst (λ p. BeginsLines p line reports bytes) (sym is) h
+begins_outcome (StuckAt reason place) o line reports bytes is h = subst (λ p. BeginsLines p line reports bytes) (sym is) h
+begins_outcome SinkFault o line reports bytes is h = subst (λ p. BeginsLines p line reports bytes) (sym is) h
 
-fault_outcome : (ended : Ended) (o : Outcome) (line reports : List ℕ) (s : Streams) → is_fault ended ≡ false → o ≡ outcome_of ended (output_of o) → EndFault ended line reports s.err_before s.err_after → TellsFault o line reports s
-fault_outcome ended o line reports s unfaulted is h =
-    record { front = h.front; begins = begins_outcome ended o line reports h.front unfaulted is h.begins; back = h.back; follows = h.follows; put = h.put }
+fault_outcome : (ended : Ended) (o : Outcome) (line reports : List ℕ) (s : Streams) → o ≡ outcome_of ended (output_of o) → EndFault ended line reports s.err_before s.err_after s.err_faults_before s.err_faults_after → TellsFault o line reports s
+fault_outcome ended o line reports s is h =
+    record { front = h.front; begins = begins_outcome ended o line reports h.front is h.begins; back = h.back; follows = h.follows; put = h.put }
 
 -- a run's answer by its status
 by_status : (x : Loaded) (times : Times) (budget : ℕ) (tells : Bool) (watches : List Watch) (s : Streams) (ended : Ended) → is_fault ended ≡ false → IsRunOf x times budget tells watches s (status_as ended) →
@@ -285,7 +281,7 @@ module _ (x : Loaded) (times : Times) (budget : ℕ) (tells : Bool) (watches wat
       subst (LoadedAnswers x times budget tells watches s) (sym done.0) (by_status x times budget tells watches s ended unfaulted (record {
         status_is = status_of_end ended (outcome_within x times budget) unfaulted whole.outcome;
         put = whole.put;
-        shown = shows_outcome ended (outcome_within x times budget) (told_line tells (length (events_within x times budget))) (reports_of watches (events_within x times budget)) s unfaulted whole.outcome shown;
+        shown = shows_outcome ended (outcome_within x times budget) (told_line tells (length (events_within x times budget))) (reports_of watches (events_within x times budget)) s whole.outcome shown;
       }))
   whole_answers status n all unfaulted (inr cut) =
       let whole = r.whole unfaulted in
@@ -294,8 +290,8 @@ module _ (x : Loaded) (times : Times) (budget : ℕ) (tells : Bool) (watches wat
         rose = cut.1;
         wanted = elim cut.2 [ inl halted ↦ inl (is_end_of ended (outcome_within x times budget) whole.outcome halted) | inr some ↦ inr (subst (λ m. 0 < m) count some) ];
         put = whole.put;
-        told = fault_outcome ended (outcome_within x times budget) (told_line tells (length (events_within x times budget))) (reports_of watches (events_within x times budget)) s unfaulted whole.outcome
-            (of_events (λ line reports. EndFault ended line reports s.err_before s.err_after) unfaulted cut.3);
+        told = fault_outcome ended (outcome_within x times budget) (told_line tells (length (events_within x times budget))) (reports_of watches (events_within x times budget)) s whole.outcome
+            (of_events (λ line reports. EndFault ended line reports s.err_before s.err_after s.err_faults_before s.err_faults_after) unfaulted cut.3);
       }))
 
   partly_answers : (status : Status) → is_fault ended ≡ true → OutRose s → ErrTells (status_line WriteFault) s → status ≡ WriteFault → LoadedAnswers x times budget tells watches s status

@@ -22,9 +22,9 @@ use Rattle.vx_compile.specs.Faithful.{Faithful}
 use Rattle.vx_files.specs.Held.{AreCounts, HoldsProgram, ProfileStands, Is, machine_found, input_in, input_found}
 use Rattle.vx_files.specs.Effects.{Effect, ReadsRose, SourceAnswers, MachineAnswers, InputAnswers}
 use Rattle.vx_driver.specs.Answers.{StopsAtProfile, StopsAtMachine}
-use Rattle.vx_driver.specs.Simulated.{AreDefaults, Loaded, begun, outcome_within, events_within, reports_of, Streams, OutputCut, IsStatusOf}
-use Rattle.vx_driver.specs.Executed.{CompiledBy, Issues, SourceHas, SourceBegins, InSource, AllHeld, Prepared, issued_line, ShowsRun, Runs, RunsCut, StopsAtInput, ExecutionAnswers}
-use Rattle.vx_driver.specs.Ending.{ShowsOf, IsRunOf, UnputLines, LoadedAnswers, LaterStops, AfterSource, StopsBefore}
+use Rattle.vx_driver.specs.Simulated.{AreDefaults, Loaded, begun, outcome_within, events_within, reports_of, Streams, Shows, OutputCut, IsStatusOf}
+use Rattle.vx_driver.specs.Executed.{CompiledBy, Issues, SourceHas, SourceBegins, InSource, AllHeld, Prepared, issued_line, Runs, RunsCut, StopsAtInput, ExecutionAnswers}
+use Rattle.vx_driver.specs.Ending.{IsRunOf, UnputLines, LoadedAnswers, LaterStops, AfterSource, StopsBefore}
 use Rattle.vx_driver.proofs.Issued.{issues_comes, issues_within, issues_least, issues_all, issues_seen}
 use Rattle.vx_driver.proofs.Turned.{turned_of, turned_some, outcome_turned}
 use Rattle.vx_driver.proofs.Runs.{no_run}
@@ -71,13 +71,6 @@ module _ (p : Program) (x : Loaded) (times : Times) (faithful : Faithful p x.mac
 
 -- the run and its lines
 
-shows_run : (o : Outcome) (issued : ℕ) (reports : List ℕ) (s : Streams) → (IsFailure o → ⊥) → ShowsOf o (issued_line issued) reports s → ShowsRun o issued reports s
-shows_run (Ends z out) issued reports s safe h = h
-shows_run (Traps k out) issued reports s safe h = h
-shows_run (Goes out) issued reports s safe h = h
-shows_run (StuckWith why place out) issued reports s safe h = absurd (safe tt)
-shows_run (Wrong out) issued reports s safe h = absurd (safe tt)
-
 module _ (asked : Execution) (x : Loaded) (times : Times) (watches : List Watch) (e : Effect) (s : Streams) (ready : Prepared asked e x) (numbers : All IsNumber x.input)
     (wanted : 0 < length watches → is_some asked.probe ≡ true) where
   abbrev the_boxes : Chosen
@@ -92,11 +85,10 @@ module _ (asked : Execution) (x : Loaded) (times : Times) (watches : List Watch)
   no_failure : (n : ℕ) → IsFailure (outcome_within x times n) → ⊥
   no_failure n f = safe ready.source_program x times ready.by.compiled.faithful numbers n f
 
-  shown : (o : Outcome) → the_outcome ≡ o → ShowsOf the_outcome (issued_line the_count) (reports_of watches (events_within x times asked.budget)) s → ShowsRun o the_count (reports_of watches (events_within x times the_count)) s
+  shown : (o : Outcome) → the_outcome ≡ o → Shows the_outcome (issued_line the_count) (reports_of watches (events_within x times asked.budget)) s → Shows o (issued_line the_count) (reports_of watches (events_within x times the_count)) s
   shown o is h =
-      shows_run o the_count (reports_of watches (events_within x times the_count)) s (λ f. no_failure asked.budget (subst IsFailure (sym is) f))
-      (subst (λ y. ShowsOf y (issued_line the_count) (reports_of watches (events_within x times the_count)) s) is
-      (subst (λ es. ShowsOf the_outcome (issued_line the_count) (reports_of watches es) s) (sym (issues_seen x.machine (list_of times) x.program asked.budget (begun x times) (no_failure asked.budget))) h))
+      subst (λ y. Shows y (issued_line the_count) (reports_of watches (events_within x times the_count)) s) is
+      (subst (λ es. Shows the_outcome (issued_line the_count) (reports_of watches es) s) (sym (issues_seen x.machine (list_of times) x.program asked.budget (begun x times) (no_failure asked.budget))) h)
 
   runs : (status : Status) (o : Outcome) → the_outcome ≡ o → IsRunOf x times asked.budget true watches s status → Runs asked the_boxes e s o
   runs status o is a = record {

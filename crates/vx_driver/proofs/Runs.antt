@@ -1,8 +1,8 @@
 -- The answers of `sim` from those of its run and its files, and of any run from its boxes.
-use Rattle.std.proofs.Common.{◌≡◌, ◌∙◌, ◌⊎◌, inl, inr, ℕ, ◌++◌, true, false, List, [], ◌∷◌, length, map, is_some, Option, Some, None, option_map, IfSome, refl, sym, subst, ap, arith}
+use Rattle.std.proofs.Common.{◌≡◌, ◌∙◌, ◌⊎◌, inl, inr, ℕ, true, false, List, [], ◌∷◌, length, map, is_some, Option, Some, None, option_map, IfSome, refl, sym, subst, ap, arith}
 use Rattle.std.specs.Prelude.{◌<◌, codes, Ok}
 use Rattle.vx_base.specs.Outcome.{Outcome, Ends, Traps, Goes, Stuck as StuckWith, Wrong}
-use Rattle.vx_base.specs.Outside.{Files, with_bytes}
+use Rattle.vx_base.specs.Outside.{Files}
 use Rattle.vx_words.specs.Text.{Spells}
 use Rattle.vx_probe.specs.Times.{Times}
 use Rattle.vx_probe.specs.Watch.{Watch}
@@ -11,11 +11,10 @@ use Rattle.vx_status.specs.declared.status.Status.TheVariants.{Done, Trapped, Us
 use Rattle.vx_command.specs.Command.{Command, Compile, Simulate, Execute, Count, Soak, Simulation, Execution, Soaking}
 use Rattle.vx_driver.specs.Boxes.{Boxes, ProbeBox, Chosen, chosen, chosen_of, timing_named, probes_named}
 use Rattle.vx_files.specs.Effects.{Effect, SameFiles}
-use Rattle.vx_driver.specs.Simulated.{AreDefaults, Loaded, loading, is_named, Stops, Streams, OutputCut, IsStatusOf, Shows, reports_of, result_line, Loads, RunEnds, RunCut, RunAnswers, BoxAnswers, SimAnswers, is_of_run, outcome_within, events_within}
+use Rattle.vx_driver.specs.Simulated.{AreDefaults, Loaded, loading, is_named, Stops, Streams, OutputCut, IsStatusOf, Loads, RunEnds, RunCut, RunAnswers, BoxAnswers, SimAnswers, is_of_run, outcome_within}
 use Rattle.vx_driver.specs.Executed.{ExecAnswers, ExecutionAnswers}
 use Rattle.vx_driver.specs.Soaked.{SoakAnswers, SoakedAnswers}
-use Rattle.vx_driver.specs.Ending.{ShowsOf, IsRunOf, UnputLines, LoadedAnswers}
-use Rattle.std.proofs.lemmas.List.{append-nil}
+use Rattle.vx_driver.specs.Ending.{IsRunOf, UnputLines, LoadedAnswers}
 use Rattle.vx_driver.specs.Commands.{Answers}
 
 -- the status of an outcome is one of a run
@@ -34,14 +33,6 @@ loads_in : (asked : Simulation) (x : Loaded) (b : Option Files) → IfSome b (λ
 loads_in asked x None is spells = tt
 loads_in asked x (Some held) is spells = record { is = is; spells = spells }
 
--- the lines without that of the words
-shows_plain : (o : Outcome) (reports : List ℕ) (s : Streams) → ShowsOf o [] reports s → Shows o reports s
-shows_plain (Ends z out) reports s is = is ∙ ap (λ line. with_bytes s.err_before (line ++ reports)) (append-nil (result_line z))
-shows_plain (Traps k out) reports s is = is
-shows_plain (Goes out) reports s is = is
-shows_plain (StuckWith why p out) reports s is = is
-shows_plain (Wrong out) reports s is = absurd is
-
 module _ (asked : Simulation) (x : Loaded) (times : Times) (watches : List Watch) (e : Effect) (s : Streams)
     (is : IfSome e.before (λ held. loading held asked.words asked.machine asked.input ≡ Ok x))
     (spells : IfSome e.before (λ held. IfSome (held asked.words) (λ content. Spells content x.program)))
@@ -57,7 +48,7 @@ module _ (asked : Simulation) (x : Loaded) (times : Times) (watches : List Watch
     defaults = defaults;
     status_is = a.status_is;
     put = a.put;
-    shown = shows_plain (outcome_within x times asked.budget) (reports_of watches (events_within x times asked.budget)) s a.shown;
+    shown = a.shown;
   }
 
   cut : OutputCut x times asked.budget s ⊎ UnputLines x times asked.budget false watches s → RunCut asked the_boxes e s

@@ -1,6 +1,6 @@
 -- How a run of the simulator ends, as a status and as lines.
-use Rattle.std.specs.Prelude.{◌≡◌, ◌<◌, ◌⊎◌, ℕ, ◌+◌, ◌++◌, Bool, true, false, List, [], length, map, is_some, Option, Some, IfSome}
-use Rattle.vx_base.specs.Outcome.{Outcome, Ends, Traps, Goes, Stuck as StuckWith, Wrong, Begins, output_of}
+use Rattle.std.specs.Prelude.{◌≡◌, ◌<◌, ◌⊎◌, ℕ, ◌+◌, Bool, true, false, List, [], length, map, is_some, Option, Some, None, IfSome}
+use Rattle.vx_base.specs.Outcome.{Begins, output_of}
 use Rattle.vx_base.specs.Outside.{Rose, with_bytes}
 use Rattle.vx_probe.specs.Times.{Times}
 use Rattle.vx_probe.specs.Watch.{Watch, shown_all}
@@ -10,12 +10,12 @@ use Rattle.vx_sim.specs.declared.ended.Ended.TheVariants.{Halted, Trapped as Tra
 use Rattle.vx_status.specs.declared.status.Status.{Status}
 use Rattle.vx_status.specs.declared.status.Status.TheVariants.{Done, Trapped, Usage, WriteFault, Stopped, Stuck, NoMemory}
 use Rattle.vx_driver.specs.declared.loaded.LoadedFiles.{LoadedFiles}
-use Rattle.vx_status.specs.Status.{Tells, TellsWith, no_box_line, status_line}
+use Rattle.vx_status.specs.Status.{Tells, no_box_line, status_line}
 use Rattle.vx_command.specs.Command.{Execution}
 use Rattle.vx_files.specs.Effects.{Effect, SourceAnswers, InputAnswers}
 use Rattle.vx_files.specs.Held.{ProfileStands, Is, machine_found}
 use Rattle.vx_driver.specs.Answers.{StopsAtProfile, StopsAtMachine, NoProfile, NoMachine}
-use Rattle.vx_driver.specs.Simulated.{Loaded, with_input, outcome_within, events_within, result_line, Streams, ErrRose, ErrTellsWith, OutputCut, IsEnd, IsStatusOf, reports_of, Fronts, TellsFault}
+use Rattle.vx_driver.specs.Simulated.{Loaded, with_input, outcome_within, events_within, result_line, Streams, ErrRose, Shows, OutputCut, IsEnd, IsStatusOf, reports_of, BeginsLines, TellsFault}
 use Rattle.vx_driver.specs.Executed.{issued_line, StopsAtInput}
 use Rattle.vx_isa.specs.Numbers.{Numbers}
 
@@ -51,40 +51,32 @@ ShowsIssued (Halted z) line before after faults faults' = after ≡ with_bytes b
 ShowsIssued (TrappedBy trap) line before after faults faults' = Tells line before after faults faults'
 ShowsIssued ended line before after faults faults' = after ≡ before
 
--- what the lines of an end put: the result, the words and the reports; of a trap its line, the words and the reports; else the
--- line of its status and the reports
+-- the error stream, beside an output on which nothing is told
+abbrev pub err_alone : (before after : Option (List ℕ)) → (faults faults' : ℕ) → Streams
+err_alone before after faults faults' = record {
+  out_before = None;
+  out_after = None;
+  err_before = before;
+  err_after = after;
+  out_faults_before = 0;
+  out_faults_after = 0;
+  err_faults_before = faults;
+  err_faults_after = faults';
+}
+
+-- what the lines of an end put, whatever its output
 abbrev pub ShowsEnd : Ended → (line reports : List ℕ) → (before after : Option (List ℕ)) → (faults faults' : ℕ) → Type 0
-ShowsEnd (Halted z) line reports before after faults faults' = after ≡ with_bytes before (result_line z ++ line ++ reports)
-ShowsEnd (TrappedBy trap) line reports before after faults faults' = TellsWith (status_line (Trapped trap)) line reports before after faults faults'
-ShowsEnd ended line reports before after faults faults' = TellsWith (status_line (status_as ended)) [] reports before after faults faults'
+ShowsEnd ended line reports before after faults faults' = Shows (outcome_of ended []) line reports (err_alone before after faults faults')
 
--- bytes begin the lines of an end
-abbrev pub BeginsEnd : Ended → (line reports bytes : List ℕ) → Type 0
-BeginsEnd (Halted z) line reports bytes = Begins bytes (result_line z ++ line ++ reports)
-BeginsEnd (TrappedBy trap) line reports bytes = Fronts (status_line (Trapped trap)) line reports bytes
-BeginsEnd ended line reports bytes = Fronts (status_line (status_as ended)) [] reports bytes
-
--- such bytes were put
+-- bytes that begin the lines of an end were put
 pub record CutsEnd (ended : Ended) (line reports : List ℕ) (before after : Option (List ℕ)) : Type 0 where
   pub front : List ℕ
-  pub begins : BeginsEnd ended line reports front
+  pub begins : BeginsLines (outcome_of ended []) line reports front
   pub put : after ≡ with_bytes before front
 
 -- and behind them a front of `write fault`
-pub record EndFault (ended : Ended) (line reports : List ℕ) (before after : Option (List ℕ)) : Type 0 where
-  pub front : List ℕ
-  pub begins : BeginsEnd ended line reports front
-  pub back : List ℕ
-  pub follows : Begins back (status_line WriteFault)
-  pub put : after ≡ with_bytes before (front ++ back)
-
--- what the lines of an end put, told of an outcome
-abbrev pub ShowsOf : Outcome → (line reports : List ℕ) → Streams → Type 0
-ShowsOf (Ends z out) line reports s = s.err_after ≡ with_bytes s.err_before (result_line z ++ line ++ reports)
-ShowsOf (Traps k out) line reports s = ErrTellsWith (status_line (Trapped k)) line reports s
-ShowsOf (Goes out) line reports s = ErrTellsWith (status_line Stopped) [] reports s
-ShowsOf (StuckWith why p out) line reports s = ErrTellsWith (status_line (Stuck why p)) [] reports s
-ShowsOf (Wrong out) line reports s = ⊥
+abbrev pub EndFault : Ended → (line reports : List ℕ) → (before after : Option (List ℕ)) → (faults faults' : ℕ) → Type 0
+EndFault ended line reports before after faults faults' = TellsFault (outcome_of ended []) line reports (err_alone before after faults faults')
 
 abbrev pub IsHalted : Ended → Type 0
 IsHalted (Halted z) = Unit {0}
@@ -112,7 +104,7 @@ pub record RunOf (x : Loaded) (times : Times) (budget : ℕ) (watches watches' :
 abbrev pub Finishes : Ended → (line reports : List ℕ) → (probes : ℕ) → (before after : Option (List ℕ)) → (faults faults' : ℕ) → Status → Type 0
 Finishes ended line reports probes before after faults faults' status =
     ((status ≡ status_as ended) × ShowsEnd ended line reports before after faults faults')
-    ⊎ ((status ≡ WriteFault) × Rose faults faults' × (IsHalted ended ⊎ (0 < probes)) × EndFault ended line reports before after)
+    ⊎ ((status ≡ WriteFault) × Rose faults faults' × (IsHalted ended ⊎ (0 < probes)) × EndFault ended line reports before after faults faults')
 
 -- the output is put, whole, and the result, the line behind it or a report is not
 pub record UnputLines (x : Loaded) (times : Times) (budget : ℕ) (tells : Bool) (watches : List Watch) (s : Streams) : Type 0 where
@@ -125,7 +117,7 @@ pub record UnputLines (x : Loaded) (times : Times) (budget : ℕ) (tells : Bool)
 pub record IsRunOf (x : Loaded) (times : Times) (budget : ℕ) (tells : Bool) (watches : List Watch) (s : Streams) (status : Status) : Type 0 where
   pub status_is : IsStatusOf (outcome_within x times budget) status
   pub put : s.out_after ≡ with_bytes s.out_before (output_of (outcome_within x times budget))
-  pub shown : ShowsOf (outcome_within x times budget) (told_line tells (length (events_within x times budget))) (reports_of watches (events_within x times budget)) s
+  pub shown : Shows (outcome_within x times budget) (told_line tells (length (events_within x times budget))) (reports_of watches (events_within x times budget)) s
 
 -- the run of what was read, with its lines
 abbrev pub LoadedAnswers : Loaded → Times → (budget : ℕ) → Bool → List Watch → Streams → Status → Type 0

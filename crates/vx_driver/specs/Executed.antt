@@ -16,14 +16,13 @@ use Rattle.vx_profile.specs.declared.counts.Counts.{Counts}
 use Rattle.vx_report.specs.declared.plan.Plan.{Plan}
 use Rattle.vx_status.specs.declared.status.Status.{Status}
 use Rattle.vx_status.specs.declared.status.Status.TheVariants.{Done, Trapped, Usage, Source, Limit, Words, Profile, Machine, NoFile, ReadFault, WriteFault, Stopped, Input, Stuck, NoMemory}
-use Rattle.vx_status.specs.Status.{status_line}
 use Rattle.vx_command.specs.Command.{Execution}
 use Rattle.vx_driver.specs.Boxes.{Boxes, Chosen, chosen}
 use Rattle.vx_compile.specs.Compiled.{Compiled}
 use Rattle.vx_files.specs.Held.{AreCounts, HoldsProgram, Accepts, status_of, Is, machine_found, ProfileStands, RefusesProfile, input_found}
 use Rattle.vx_files.specs.Effects.{Effect, ReadsRose, SameFiles, SourceAnswers, InputAnswers}
 use Rattle.vx_driver.specs.Answers.{StopsAtProfile, StopsAtMachine}
-use Rattle.vx_driver.specs.Simulated.{Loaded, with_input, machine_as, outcome_within, events_within, reports_of, result_line, AreDefaults, Streams, OutRose, ErrRose, ErrTellsWith, OutputCut, LinesCut, BoxAnswers}
+use Rattle.vx_driver.specs.Simulated.{Loaded, with_input, machine_as, outcome_within, events_within, reports_of, AreDefaults, Streams, Shows, OutRose, ErrRose, OutputCut, LinesCut, BoxAnswers}
 
 -- the run
 
@@ -74,18 +73,9 @@ pub record Prepared (asked : Execution) (e : Effect) (x : Loaded) : Type 0 where
   pub defaults : AreDefaults asked.machine asked.input x
   pub by : CompiledBy e.before asked.profile asked.growth source_program x.machine x.program
 
--- the lines
-
+-- the line of the words that a run issued, behind that of its end
 abbrev pub issued_line : ℕ → List ℕ
 issued_line n = codes "issued " ++ decimal n ++ 10 ∷ []
-
--- behind an end with a result stand exactly the result, the words and the reports; behind one by a trap its line, the words and
--- the reports; behind a run that goes on its line and the reports
-abbrev pub ShowsRun : Outcome → (issued : ℕ) → (reports : List ℕ) → Streams → Type 0
-ShowsRun (Ends z out) issued reports s = s.err_after ≡ with_bytes s.err_before (result_line z ++ issued_line issued ++ reports)
-ShowsRun (Traps k out) issued reports s = ErrTellsWith (status_line (Trapped k)) (issued_line issued) reports s
-ShowsRun (Goes out) issued reports s = ErrTellsWith (status_line Stopped) [] reports s
-ShowsRun other issued reports s = ⊥
 
 -- the run of such words comes to this outcome within the budget of the command, and so does the source; its output is
 -- put, whole, and its lines, with the reports of the probes over the words that were issued
@@ -96,7 +86,7 @@ pub record Runs (asked : Execution) (boxes : Chosen) (e : Effect) (s : Streams) 
   pub issues : Issues (outcome_within words boxes.times) asked.budget outcome issued
   pub in_source : InSource ready.source_program words.input outcome
   pub put : s.out_after ≡ with_bytes s.out_before (output_of outcome)
-  pub shown : ShowsRun outcome issued (reports_of boxes.watches (events_within words boxes.times issued)) s
+  pub shown : Shows outcome (issued_line issued) (reports_of boxes.watches (events_within words boxes.times issued)) s
 
 -- a front of an output of the source is put
 pub record PutsFront (p : Program) (input : List ℤ) (s : Streams) : Type 0 where

@@ -177,13 +177,14 @@ ErrTells line s = Tells line s.err_before s.err_after s.err_faults_before s.err_
 abbrev pub ErrTellsWith : (line next reports : List ℕ) → Streams → Type 0
 ErrTellsWith line next reports s = TellsWith line next reports s.err_before s.err_after s.err_faults_before s.err_faults_after
 
--- what the lines of a run put: the result and the reports, else the line of the status and the reports
-abbrev pub Shows : Outcome → (reports : List ℕ) → Streams → Type 0
-Shows (Ends z out) reports s = s.err_after ≡ with_bytes s.err_before (result_line z ++ reports)
-Shows (Traps k out) reports s = ErrTellsWith (status_line (Trapped k)) [] reports s
-Shows (Goes out) reports s = ErrTellsWith (status_line Stopped) [] reports s
-Shows (StuckAt why p out) reports s = ErrTellsWith (status_line (Stuck why p)) [] reports s
-Shows (Wrong out) reports s = ⊥
+-- what the lines of a run put: the result, the line behind it and the reports; of a trap its line, the one behind it and the
+-- reports; else the line of the status and the reports
+abbrev pub Shows : Outcome → (line reports : List ℕ) → Streams → Type 0
+Shows (Ends z out) line reports s = s.err_after ≡ with_bytes s.err_before (result_line z ++ line ++ reports)
+Shows (Traps k out) line reports s = ErrTellsWith (status_line (Trapped k)) line reports s
+Shows (Goes out) line reports s = ErrTellsWith (status_line Stopped) [] reports s
+Shows (StuckAt why p out) line reports s = ErrTellsWith (status_line (Stuck why p)) [] reports s
+Shows (Wrong out) line reports s = ⊥
 
 -- what was read is what the files hold, and the file of the words is the text of the program
 pub record Loads (held : Files) (asked : Simulation) (x : Loaded) : Type 0 where
@@ -197,7 +198,7 @@ pub record RunEnds (asked : Simulation) (boxes : Chosen) (e : Effect) (s : Strea
   pub defaults : AreDefaults asked.machine asked.input loaded
   pub status_is : IsStatusOf (outcome_within loaded boxes.times asked.budget) status
   pub put : s.out_after ≡ with_bytes s.out_before (output_of (outcome_within loaded boxes.times asked.budget))
-  pub shown : Shows (outcome_within loaded boxes.times asked.budget) (reports_of boxes.watches (events_within loaded boxes.times asked.budget)) s
+  pub shown : Shows (outcome_within loaded boxes.times asked.budget) [] (reports_of boxes.watches (events_within loaded boxes.times asked.budget)) s
 
 -- the output is cut: a front of what the run prints within the budget is put, and the line of that status
 pub record OutputCut (x : Loaded) (times : Times) (budget : ℕ) (s : Streams) : Type 0 where

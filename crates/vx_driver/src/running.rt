@@ -138,13 +138,14 @@ fn put_told<E: Sink>(err: &mut E, end: RunEnd, tells: bool) -> Result<(), SinkFa
     }
 }
 
-/// Puts the lines of an end, and the reports.
+/// Puts the lines of an end that no sink cut, and the reports.
 fn put_end<E: Sink>(
     err: &mut E,
     end: RunEnd,
     tells: bool,
     probes: &[Box<dyn Probe>],
 ) -> Result<(), SinkFault>
+    requires { is_fault end.ended ≡ false }
     ensures shows { OnOk result (ShowsEnd end.ended (told_line tells end.issued) (flat_map report_line (map (λ b. watch b) probes.now)) (E.told err.old) (E.told err.new) (E.faults err.old) (E.faults err.new)) }
     ensures wanted { OnErr result (IsHalted end.ended ⊎ (0 < length probes.now)) }
     ensures cut { OnErr result (CutsEnd end.ended (told_line tells end.issued) (flat_map report_line (map (λ b. watch b) probes.now)) (E.told err.old) (E.told err.new)) }
@@ -158,6 +159,7 @@ fn put_end<E: Sink>(
 
 /// Puts how a run ended that its sink did not cut, and answers its status, or that it could not be put.
 fn finish<E: Sink>(err: &mut E, end: RunEnd, tells: bool, probes: &[Box<dyn Probe>]) -> Status
+    requires { is_fault end.ended ≡ false }
     ensures finishes { Finishes end.ended (told_line tells end.issued) (flat_map report_line (map (λ b. watch b) probes.now)) (length probes.now) (E.told err.old) (E.told err.new) (E.faults err.old) (E.faults err.new) result }
     ensures adds { Adds (E.told err.old) (E.told err.new) (E.faults err.old) (E.faults err.new) }
 {

@@ -1,7 +1,7 @@
 // The command `soak SEED SIZE`: makes a source, compiles it for the default machine by no counts, runs its words on the empty
 // input, and puts one line that says how much there was of everything (specs/Soaked.antt).
 
-ghost use Rattle.std.specs.Prelude.{◌≡◌, ◌≤◌, ◌++◌, ℤ, List, [], true, false, length, map, Some, IfOk, OnOk};
+ghost use Rattle.std.specs.Prelude.{◌≡◌, ◌≤◌, ◌++◌, ℤ, List, [], true, false, length, Some, IfOk, OnOk};
 ghost use Rattle.vx_ast.specs.Reads.{Reads};
 ghost use Rattle.vx_ast.specs.View as view;
 ghost use Rattle.vx_gen.specs.Program.{program_text};
