@@ -21,7 +21,7 @@ fn timing_is(timing: &Box<dyn Timing>, name: &str) -> bool
 
 /// The first timing with this name. The others are dropped, the last one first.
 pub(crate) fn timing_of(mut timings: Vec<Box<dyn Timing>>, name: &str) -> Option<Box<dyn Timing>>
-    ensures { option_map (λ b. times b) result ≡ timing_named name.now (timing_boxes (λ b. named b) (λ b. times b) timings.items) }
+    ensures { option_map (λ b. times b) result ≡ timing_named name.now (timing_boxes named times timings.items) }
 {
     let mut found = None;
     'boxes: loop {
@@ -45,7 +45,7 @@ fn probe_is(probe: &Box<dyn Probe>, name: &str) -> bool
 
 /// The first probe with this name. The others are dropped, the last one first.
 fn probe_of(mut probes: Vec<Box<dyn Probe>>, name: &str) -> Option<Box<dyn Probe>>
-    ensures { option_map (λ b. watch b) result ≡ probe_named name.now (probe_boxes (λ b. called b) (λ b. watch b) probes.items) }
+    ensures { option_map (λ b. watch b) result ≡ probe_named name.now (probe_boxes called watch probes.items) }
 {
     let mut found = None;
     'boxes: loop {
@@ -83,8 +83,8 @@ pub(crate) fn probes_of(
     probes: Vec<Box<dyn Probe>>,
     name: Option<&str>,
 ) -> Result<Vec<Box<dyn Probe>>, Status>
-    ensures picked { IfOk result (λ picked. probes_named (option_map (λ s. s.now) name.entry) (probe_boxes (λ b. called b) (λ b. watch b) probes.items) ≡ Some (map (λ b. watch b) picked.items)) }
-    ensures missing { IfErr result (λ status. (status ≡ Status.NoMemory) ⊎ ((status ≡ Status.Usage) × (probes_named (option_map (λ s. s.now) name.entry) (probe_boxes (λ b. called b) (λ b. watch b) probes.items) ≡ None))) }
+    ensures picked { IfOk result (λ picked. probes_named (option_map (λ s. s.now) name.entry) (probe_boxes called watch probes.items) ≡ Some (map (λ b. watch b) picked.items)) }
+    ensures missing { IfErr result (λ status. (status ≡ Status.NoMemory) ⊎ ((status ≡ Status.Usage) × (probes_named (option_map (λ s. s.now) name.entry) (probe_boxes called watch probes.items) ≡ None))) }
 {
     let name = match name {
         Some(name) => name,

@@ -278,8 +278,8 @@ pub(crate) fn soak<K: Sink, E: Sink>(
     asked: &SoakWords,
     timings: Vec<Box<dyn Timing>>,
 ) -> Status
-    ensures answers { ((e : Effect) (probes : List ProbeBox) → SameFiles e → SoakAnswers (soaking_of asked.now) (record { probes = probes; timings = timing_boxes (λ b. named b) (λ b. times b) timings.items }) e (streams_of K.told K.faults E.told E.faults out.old out.new err.old err.new) result) }
-    ensures line { ((probes : List ProbeBox) → TellsLine (Some (Soak (soaking_of asked.now))) (record { probes = probes; timings = timing_boxes (λ b. named b) (λ b. times b) timings.items }) (streams_of K.told K.faults E.told E.faults out.old out.new err.old err.new) result) }
+    ensures answers { ((e : Effect) (probes : List ProbeBox) → SameFiles e → SoakAnswers (soaking_of asked.now) (record { probes = probes; timings = timing_boxes named times timings.items }) e (streams_of K.told K.faults E.told E.faults out.old out.new err.old err.new) result) }
+    ensures line { ((probes : List ProbeBox) → TellsLine (Some (Soak (soaking_of asked.now))) (record { probes = probes; timings = timing_boxes named times timings.items }) (streams_of K.told K.faults E.told E.faults out.old out.new err.old err.new) result) }
     ensures adds { Adds (E.told err.old) (E.told err.new) (E.faults err.old) (E.faults err.new) }
     ensures nothing { puts_summary result ≡ false → K.told out.new ≡ K.told out.old }
     ensures out_never_falls { K.faults out.old ≤ K.faults out.new }

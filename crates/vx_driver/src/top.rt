@@ -68,8 +68,8 @@ fn perform_sim<D: Depot, K: Sink, E: Sink>(
     probes: Vec<Box<dyn Probe>>,
     timings: Vec<Box<dyn Timing>>,
 ) -> Status
-    ensures answers { Answers (sim_of (map (λ w. w.now) words.now)) (boxes_of (λ b. called b) (λ b. watch b) (λ b. named b) (λ b. times b) probes.items timings.items) (effect_of D.files D.failed_reads D.failed_replaces depot.old depot.new) (streams_of K.told K.faults E.told E.faults out.old out.new err.old err.new) result }
-    ensures line { TellsLine (sim_of (map (λ w. w.now) words.now)) (boxes_of (λ b. called b) (λ b. watch b) (λ b. named b) (λ b. times b) probes.items timings.items) (streams_of K.told K.faults E.told E.faults out.old out.new err.old err.new) result }
+    ensures answers { Answers (sim_of (map (λ w. w.now) words.now)) (boxes_of called watch named times probes.items timings.items) (effect_of D.files D.failed_reads D.failed_replaces depot.old depot.new) (streams_of K.told K.faults E.told E.faults out.old out.new err.old err.new) result }
+    ensures line { TellsLine (sim_of (map (λ w. w.now) words.now)) (boxes_of called watch named times probes.items timings.items) (streams_of K.told K.faults E.told E.faults out.old out.new err.old err.new) result }
     ensures adds { Adds (E.told err.old) (E.told err.new) (E.faults err.old) (E.faults err.new) }
     ensures nothing { puts_output (sim_of (map (λ w. w.now) words.now)) result ≡ false → K.told out.new ≡ K.told out.old }
     ensures reads_never_fall { D.failed_reads depot.old ≤ D.failed_reads depot.new }
@@ -92,8 +92,8 @@ fn perform_exec<D: Depot, K: Sink, E: Sink>(
     probes: Vec<Box<dyn Probe>>,
     timings: Vec<Box<dyn Timing>>,
 ) -> Status
-    ensures answers { Answers (exec_of (map (λ w. w.now) words.now)) (boxes_of (λ b. called b) (λ b. watch b) (λ b. named b) (λ b. times b) probes.items timings.items) (effect_of D.files D.failed_reads D.failed_replaces depot.old depot.new) (streams_of K.told K.faults E.told E.faults out.old out.new err.old err.new) result }
-    ensures line { TellsLine (exec_of (map (λ w. w.now) words.now)) (boxes_of (λ b. called b) (λ b. watch b) (λ b. named b) (λ b. times b) probes.items timings.items) (streams_of K.told K.faults E.told E.faults out.old out.new err.old err.new) result }
+    ensures answers { Answers (exec_of (map (λ w. w.now) words.now)) (boxes_of called watch named times probes.items timings.items) (effect_of D.files D.failed_reads D.failed_replaces depot.old depot.new) (streams_of K.told K.faults E.told E.faults out.old out.new err.old err.new) result }
+    ensures line { TellsLine (exec_of (map (λ w. w.now) words.now)) (boxes_of called watch named times probes.items timings.items) (streams_of K.told K.faults E.told E.faults out.old out.new err.old err.new) result }
     ensures adds { Adds (E.told err.old) (E.told err.new) (E.faults err.old) (E.faults err.new) }
     ensures nothing { puts_output (exec_of (map (λ w. w.now) words.now)) result ≡ false → K.told out.new ≡ K.told out.old }
     ensures reads_never_fall { D.failed_reads depot.old ≤ D.failed_reads depot.new }
@@ -138,8 +138,8 @@ fn perform_soak<D: Depot, K: Sink, E: Sink>(
     probes: Vec<Box<dyn Probe>>,
     timings: Vec<Box<dyn Timing>>,
 ) -> Status
-    ensures answers { Answers (soak_of (map (λ w. w.now) words.now)) (boxes_of (λ b. called b) (λ b. watch b) (λ b. named b) (λ b. times b) probes.items timings.items) (effect_of D.files D.failed_reads D.failed_replaces depot.old depot.new) (streams_of K.told K.faults E.told E.faults out.old out.new err.old err.new) result }
-    ensures line { TellsLine (soak_of (map (λ w. w.now) words.now)) (boxes_of (λ b. called b) (λ b. watch b) (λ b. named b) (λ b. times b) probes.items timings.items) (streams_of K.told K.faults E.told E.faults out.old out.new err.old err.new) result }
+    ensures answers { Answers (soak_of (map (λ w. w.now) words.now)) (boxes_of called watch named times probes.items timings.items) (effect_of D.files D.failed_reads D.failed_replaces depot.old depot.new) (streams_of K.told K.faults E.told E.faults out.old out.new err.old err.new) result }
+    ensures line { TellsLine (soak_of (map (λ w. w.now) words.now)) (boxes_of called watch named times probes.items timings.items) (streams_of K.told K.faults E.told E.faults out.old out.new err.old err.new) result }
     ensures adds { Adds (E.told err.old) (E.told err.new) (E.faults err.old) (E.faults err.new) }
     ensures nothing { puts_output (soak_of (map (λ w. w.now) words.now)) result ≡ false → K.told out.new ≡ K.told out.old }
     ensures reads_never_fall { D.failed_reads depot.old ≤ D.failed_reads depot.new }
@@ -163,8 +163,8 @@ fn perform_named<D: Depot, K: Sink, E: Sink>(
     probes: Vec<Box<dyn Probe>>,
     timings: Vec<Box<dyn Timing>>,
 ) -> Status
-    ensures answers { Answers (command_named name.now (map (λ w. w.now) words.now)) (boxes_of (λ b. called b) (λ b. watch b) (λ b. named b) (λ b. times b) probes.items timings.items) (effect_of D.files D.failed_reads D.failed_replaces depot.old depot.new) (streams_of K.told K.faults E.told E.faults out.old out.new err.old err.new) result }
-    ensures line { TellsLine (command_named name.now (map (λ w. w.now) words.now)) (boxes_of (λ b. called b) (λ b. watch b) (λ b. named b) (λ b. times b) probes.items timings.items) (streams_of K.told K.faults E.told E.faults out.old out.new err.old err.new) result }
+    ensures answers { Answers (command_named name.now (map (λ w. w.now) words.now)) (boxes_of called watch named times probes.items timings.items) (effect_of D.files D.failed_reads D.failed_replaces depot.old depot.new) (streams_of K.told K.faults E.told E.faults out.old out.new err.old err.new) result }
+    ensures line { TellsLine (command_named name.now (map (λ w. w.now) words.now)) (boxes_of called watch named times probes.items timings.items) (streams_of K.told K.faults E.told E.faults out.old out.new err.old err.new) result }
     ensures no_command { is_command name.now ≡ false → Tells (status_line result) (E.told err.old) (E.told err.new) (E.faults err.old) (E.faults err.new) }
     ensures adds { Adds (E.told err.old) (E.told err.new) (E.faults err.old) (E.faults err.new) }
     ensures nothing { puts_output (command_named name.now (map (λ w. w.now) words.now)) result ≡ false → K.told out.new ≡ K.told out.old }
@@ -197,8 +197,8 @@ fn perform<D: Depot, K: Sink, E: Sink>(
     probes: Vec<Box<dyn Probe>>,
     timings: Vec<Box<dyn Timing>>,
 ) -> Status
-    ensures answers { Answers (command_of (map string_bytes words.now)) (boxes_of (λ b. called b) (λ b. watch b) (λ b. named b) (λ b. times b) probes.items timings.items) (effect_of D.files D.failed_reads D.failed_replaces depot.old depot.new) (streams_of K.told K.faults E.told E.faults out.old out.new err.old err.new) result }
-    ensures line { TellsLine (command_of (map string_bytes words.now)) (boxes_of (λ b. called b) (λ b. watch b) (λ b. named b) (λ b. times b) probes.items timings.items) (streams_of K.told K.faults E.told E.faults out.old out.new err.old err.new) result }
+    ensures answers { Answers (command_of (map string_bytes words.now)) (boxes_of called watch named times probes.items timings.items) (effect_of D.files D.failed_reads D.failed_replaces depot.old depot.new) (streams_of K.told K.faults E.told E.faults out.old out.new err.old err.new) result }
+    ensures line { TellsLine (command_of (map string_bytes words.now)) (boxes_of called watch named times probes.items timings.items) (streams_of K.told K.faults E.told E.faults out.old out.new err.old err.new) result }
 
     ensures nothing_on_out { puts_output (command_of (map string_bytes words.now)) result ≡ false → K.told out.new ≡ K.told out.old }
     ensures no_command { names_command (map string_bytes words.now) ≡ false → Tells (status_line result) (E.told err.old) (E.told err.new) (E.faults err.old) (E.faults err.new) }
@@ -238,17 +238,17 @@ pub fn vexc<D: Depot, K: Sink, E: Sink>(
     timings: Vec<Box<dyn Timing>>,
 ) -> Status
     // Each status has its cause, and says what stands after it.
-    ensures answers { Answers (command_of (map string_bytes words.now)) (boxes_of (λ b. called b) (λ b. watch b) (λ b. named b) (λ b. times b) probes.items timings.items) (effect_of D.files D.failed_reads D.failed_replaces depot.old depot.new) (streams_of K.told K.faults E.told E.faults out.old out.new err.old err.new) result }
+    ensures answers { Answers (command_of (map string_bytes words.now)) (boxes_of called watch named times probes.items timings.items) (effect_of D.files D.failed_reads D.failed_replaces depot.old depot.new) (streams_of K.told K.faults E.told E.faults out.old out.new err.old err.new) result }
 
     // Where nothing fails, the command does its work, unless memory is wanted.
-    ensures complete { Completes (command_of (map string_bytes words.now)) (boxes_of (λ b. called b) (λ b. watch b) (λ b. named b) (λ b. times b) probes.items timings.items) (effect_of D.files D.failed_reads D.failed_replaces depot.old depot.new) (streams_of K.told K.faults E.told E.faults out.old out.new err.old err.new) result }
+    ensures complete { Completes (command_of (map string_bytes words.now)) (boxes_of called watch named times probes.items timings.items) (effect_of D.files D.failed_reads D.failed_replaces depot.old depot.new) (streams_of K.told K.faults E.told E.faults out.old out.new err.old err.new) result }
 
     // Only a run puts anything on `out`, its output, its counts or its summary.
     ensures nothing_on_out { puts_output (command_of (map string_bytes words.now)) result ≡ false → K.told out.new ≡ K.told out.old }
 
     // What `err` gains: the line of the status, or a front of it where a put fails. Of the lines of a run `answers` speak,
     // and of words that clap refuses nothing is said.
-    ensures line { TellsLine (command_of (map string_bytes words.now)) (boxes_of (λ b. called b) (λ b. watch b) (λ b. named b) (λ b. times b) probes.items timings.items) (streams_of K.told K.faults E.told E.faults out.old out.new err.old err.new) result }
+    ensures line { TellsLine (command_of (map string_bytes words.now)) (boxes_of called watch named times probes.items timings.items) (streams_of K.told K.faults E.told E.faults out.old out.new err.old err.new) result }
 
     // Where the second word is absent or names no command, that is its line: `no command`, or `no memory`.
     ensures no_command { names_command (map string_bytes words.now) ≡ false → Tells (status_line result) (E.told err.old) (E.told err.new) (E.faults err.old) (E.faults err.new) }
