@@ -1,5 +1,5 @@
 -- Over no files the one status is that of the missing file, and over files with all names it is another.
-use Rattle.std.proofs.Common.{◌≡◌, ◌≢◌, ◌⊎◌, inl, inr, ℕ, List, [], Option, Some, None, IfSome, MatchOption, Err, Result, Ok, ℤ, refl, sym, ◌∙◌, ap, subst, ⊎_elim}
+use Rattle.std.proofs.Common.{◌≡◌, ◌≢◌, ◌⊎◌, inl, inr, ℕ, List, [], Option, Some, None, Err, Result, Ok, ℤ, refl, sym, ◌∙◌, ap, subst, ⊎_elim}
 use Rattle.std.proofs.lemmas.Bool.{cases_eq}
 use Rattle.vx_base.specs.Outside.{Files}
 use Rattle.vx_base.specs.declared.role.Role.{Role}
