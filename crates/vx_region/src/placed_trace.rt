@@ -5,7 +5,7 @@ ghost use Rattle.std.specs.Prelude.{◌≡◌, length, IfOk, IfSome, IfNone};
 ghost use Rattle.vx_sched.specs.Placement.{HaveRoomAlone};
 ghost use Rattle.vx_dep.specs.declared.mode.Mode.{Mode};
 ghost use Rattle.vx_region.specs.Growth.{HasMode};
-ghost use Rattle.vx_region.specs.Owed.{IsPlacedWithin};
+ghost use Rattle.vx_region.specs.Owed.{IsOwed, IsPlacedWithin};
 ghost use Rattle.vx_region.specs.RegionPlans.{IsPlaced};
 
 use crate::budget::Budget;
@@ -62,17 +62,17 @@ fn place_free(
     ensures some { IfOk result (λ found. IfSome found (λ x. IsPlacedWithin clustered.now machine.now homes.now budget.cap budget.used x)) }
     ensures none { IfOk result (λ found. IfNone found (HasMode clustered.now machine.now homes.now budget.cap budget.used Mode.Barred)) }
 {
-    let placed = place(alloc, clustered, homes, machine, Mode::Free)?;
-    let owed = owed_of(alloc, machine, &placed)?;
-    let used = u64::from(budget.used).saturating_add(owed.copies);
+    let owing = place_owing(alloc, clustered, homes, machine, Mode::Free)?;
+    let used = u64::from(budget.used).saturating_add(owing.owed.copies);
     if used <= u64::from(budget.cap) {
         Ok(Some(PlacedTrace {
             mode: Mode::Free,
-            placed,
-            owed,
+            placed: owing.placed,
+            owed: owing.owed,
             used: used as u32,
         }))
     } else {
+        drop(owing);
         Ok(None)
     }
 }
@@ -90,14 +90,43 @@ fn place_barred(
     requires mode { HasMode clustered.now machine.now homes.now budget.cap budget.used Mode.Barred }
     ensures { IfOk result (λ x. IsPlacedWithin clustered.now machine.now homes.now budget.cap budget.used x) }
 {
-    let placed = place(alloc, clustered, homes, machine, Mode::Barred)?;
-    let owed = owed_of(alloc, machine, &placed)?;
+    let owing = place_owing(alloc, clustered, homes, machine, Mode::Barred)?;
     Ok(PlacedTrace {
         mode: Mode::Barred,
-        placed,
-        owed,
+        placed: owing.placed,
+        owed: owing.owed,
         used: budget.used,
     })
+}
+
+/// The words of a trace in one mode, and what they owe.
+#[derive(Drop)]
+struct PlacedOwing {
+    placed: Placed,
+    owed: Owed,
+}
+
+/// The placement in this mode.
+fn place_owing(
+    alloc: Global,
+    clustered: &Clustered,
+    homes: &Homes,
+    machine: &Machine,
+    mode: Mode,
+) -> Result<PlacedOwing, NoMemory>
+    requires each { length clustered.now.clusters ≡ length clustered.now.trace.ops }
+    requires alone { HaveRoomAlone machine.now homes.now clustered.now }
+    ensures placed { IfOk result (λ x. IsPlaced clustered.now machine.now homes.now mode x.placed) }
+    ensures owed { IfOk result (λ x. IsOwed machine.now x.placed x.owed) }
+{
+    let placed = place(alloc, clustered, homes, machine, mode)?;
+    match owed_of(alloc, machine, &placed) {
+        Ok(owed) => Ok(PlacedOwing { placed, owed }),
+        Err(error) => {
+            drop(placed);
+            Err(error)
+        }
+    }
 }
 
 /// The words of a trace, in this mode.

@@ -5,5 +5,5 @@ use Rattle.vx_region.proofs.placed_trace.place_barred.Goals as goal
 
 pub returns : goal.returns
 returns c =
-    let none : copies_of c.in_ok-placed.placed ≡ 0 = barred_none c.args.clustered.now c.args.machine.now c.args.homes.now c.in_ok-placed.placed c.in_ok-placed.ensures in
-    record { mode = c.requires.mode; placed = c.in_ok-placed.ensures; owed = c.in_ok-owed.ensures; rises = omega (arith, none) }
+    let none : copies_of c.in_ok-owing.owing.placed ≡ 0 = barred_none c.args.clustered.now c.args.machine.now c.args.homes.now c.in_ok-owing.owing.placed c.in_ok-owing.ensures.placed in
+    record { mode = c.requires.mode; placed = c.in_ok-owing.ensures.placed; owed = c.in_ok-owing.ensures.owed; rises = omega (arith, none) }
