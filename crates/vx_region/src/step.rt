@@ -7,6 +7,7 @@ ghost use Rattle.vx_mixed.specs.Layout.{IsDone};
 ghost use Rattle.vx_mixed.specs.TraceOf.{CanTrace};
 ghost use Rattle.vx_mixed.specs.Valid.{Valid};
 ghost use Rattle.vx_trace.specs.Picked.{Picked};
+ghost use Rattle.vx_sched.specs.Placement.{HaveRoomAlone};
 ghost use Rattle.vx_region.specs.Owed.{IsPlacedWithin};
 ghost use Rattle.vx_region.specs.Regions.{IsGraphOf, ReplacesAll, ReplacesOne};
 ghost use Rattle.vx_region.specs.Stepping.{IsNext, IsNextBy, IsOnClusters, OnFinished, OnReplaced};
@@ -90,20 +91,41 @@ pub fn all_regions(
     ensures same_cap { budget.new.cap ≡ budget.old.cap }
     ensures unchanged { OnErr result (budget.new ≡ budget.old) }
 {
-    mixed.keeps_valid();
-    assigned_operations_stand();
     let mut regions = mixed;
     let mut spent = *budget;
+    match replace_all(alloc, &mut regions, counts, machine, &mut spent) {
+        Ok(plans) => {
+            *budget = spent;
+            Ok(Regions {
+                mixed: regions,
+                plans,
+            })
+        }
+        Err(error) => {
+            drop(regions);
+            Err(error)
+        }
+    }
+}
+
+/// All blocks become regions, one picked trace after the other. The plans of the regions come in that order.
+fn replace_all(
+    alloc: Global,
+    mixed: &mut Mixed,
+    counts: &Counts,
+    machine: &Machine,
+    budget: &mut Budget,
+) -> Result<Listed<TracePlan>, NoMemory>
+    requires graph { (graph : Graph) × IsGraphOf machine.now graph mixed.old }
+    ensures regions { IfOk result (λ plans. ReplacesAll machine.now counts.now budget.old.cap mixed.old budget.old.used plans mixed.new budget.new.used) }
+    ensures same_cap { budget.new.cap ≡ budget.old.cap }
+{
+    mixed.keeps_valid();
+    assigned_operations_stand();
     let mut plans = Listed::new(alloc);
     'step: loop {
-        match replace_one(alloc, &mut regions, counts, machine, &mut spent)? {
-            Step::Finished => {
-                *budget = spent;
-                return Ok(Regions {
-                    mixed: regions,
-                    plans,
-                })
-            }
+        match replace_one(alloc, mixed, counts, machine, budget)? {
+            Step::Finished => return Ok(plans),
             Step::Replaced(plan) => plans.push(plan)?,
         }
     }
@@ -133,10 +155,21 @@ fn replace_picked(
     ensures same_cap { budget.new.cap ≡ budget.old.cap }
     ensures unchanged { OnErr result ((mixed.new ≡ mixed.old) × (budget.new ≡ budget.old)) }
 {
-    let next = next_of(alloc, mixed, counts, blocks, machine, *budget)?;
-    mixed.replace(alloc, next.replacement)?;
-    budget.used = next.used;
-    Ok(next.plan)
+    let Next {
+        plan,
+        replacement,
+        used,
+    } = next_of(alloc, mixed, counts, blocks, machine, *budget)?;
+    match mixed.replace(alloc, replacement) {
+        Ok(()) => {
+            budget.used = used;
+            Ok(plan)
+        }
+        Err(error) => {
+            drop(plan);
+            Err(error)
+        }
+    }
 }
 
 /// The region that the picked blocks become.
@@ -156,13 +189,18 @@ fn next_of(
     machine.keeps_ranges();
     assigned_operations_stand();
     let on = on_clusters(alloc, mixed, blocks.as_slice(), machine)?;
-    let placed = place_within(alloc, &on.clustered, &on.homes, machine, budget)?;
-    let count = count_of_trace(mixed, counts, blocks.as_slice());
-    let OnClusters {
-        clustered: _,
-        homes,
-    } = on;
-    next_by(alloc, mixed.function(), blocks, count, homes, placed)
+    match placed_twice(alloc, &on, machine, budget) {
+        Ok(twice) => {
+            let count = count_of_trace(mixed, counts, blocks.as_slice());
+            let OnClusters { clustered, homes } = on;
+            drop(clustered);
+            Ok(next_by(mixed.function(), blocks, count, homes, twice))
+        }
+        Err(error) => {
+            drop(on);
+            Err(error)
+        }
+    }
 }
 
 /// A trace on its clusters, and the homes by then.
@@ -186,14 +224,15 @@ fn on_clusters(
     ensures { IfOk result (λ x. IsOnClusters machine.now mixed.now blocks.now x) }
 {
     let trace = mixed.trace(alloc, blocks)?;
-    let clusters = assign(alloc, &trace, machine, mixed.homes())?;
+    let clusters = assign(alloc, &trace, machine, mixed.homes());
+    drop(trace);
     let Clusters {
         order: _,
         estimates: _,
         chosen: _,
         clustered,
         homes,
-    } = clusters;
+    } = clusters?;
     Ok(OnClusters { clustered, homes })
 }
 
@@ -217,24 +256,55 @@ fn copied(alloc: Global, placed: &Placed) -> Result<PlacedCopy, NoMemory>
     })
 }
 
+/// A placed trace for the plan of a region, and its lists once more for what takes the place of its blocks.
+#[derive(Drop)]
+struct PlacedTwice {
+    trace: PlacedTrace,
+    copy: PlacedCopy,
+}
+
+/// The placement of a trace on its clusters.
+fn placed_twice(
+    alloc: Global,
+    on: &OnClusters,
+    machine: &Machine,
+    budget: Budget,
+) -> Result<PlacedTwice, NoMemory>
+    requires each { length on.now.clustered.clusters ≡ length on.now.clustered.trace.ops }
+    requires alone { HaveRoomAlone machine.now on.now.homes on.now.clustered }
+    ensures placed { IfOk result (λ x. IsPlacedWithin on.now.clustered machine.now on.now.homes budget.cap budget.used x.trace) }
+    ensures clustered { IfOk result (λ x. x.copy.clustered ≡ x.trace.placed.clustered) }
+    ensures words { IfOk result (λ x. x.copy.words ≡ x.trace.placed.words) }
+{
+    let trace = place_within(alloc, &on.clustered, &on.homes, machine, budget)?;
+    match copied(alloc, &trace.placed) {
+        Ok(copy) => Ok(PlacedTwice { trace, copy }),
+        Err(error) => {
+            drop(trace);
+            Err(error)
+        }
+    }
+}
+
 /// What is made of a placed trace: its plan, and what takes the place of its blocks.
 fn next_by(
-    alloc: Global,
     function: u32,
     blocks: Listed<BlockId>,
     count: u64,
     homes: Homes,
-    placed: PlacedTrace,
-) -> Result<Next, NoMemory>
-    ensures { IfOk result (λ next. IsNextBy function blocks count homes placed next) }
+    twice: PlacedTwice,
+) -> Next
+    requires clustered { twice.copy.clustered ≡ twice.trace.placed.clustered }
+    requires words { twice.copy.words ≡ twice.trace.placed.words }
+    ensures { IsNextBy function blocks count homes twice.trace result }
 {
-    let copy = copied(alloc, &placed.placed)?;
+    let PlacedTwice { trace, copy } = twice;
     let PlacedTrace {
         mode,
         placed,
         owed,
         used,
-    } = placed;
+    } = trace;
     let Owed {
         splits,
         rejoins,
@@ -264,9 +334,9 @@ fn next_by(
         splits,
         rejoins,
     };
-    Ok(Next {
+    Next {
         plan,
         replacement,
         used,
-    })
+    }
 }

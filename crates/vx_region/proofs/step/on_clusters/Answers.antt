@@ -3,23 +3,23 @@ use Rattle.vx_bug.specs.CanAssign.{BoundAtHome, FixedAtHome, FixedReadsHere, Clu
 use Rattle.vx_region.proofs.Assignable.{bound_at_home, fixed_at_home, fixed_reads_here, clusters_are_there, values_are_there, copies_have_numbers, is_well_formed}
 use Rattle.vx_region.proofs.step.on_clusters.Goals as goal
 
-pub assign-requires-clause-bound_at_home : goal.assign-requires-clause-bound_at_home
-assign-requires-clause-bound_at_home c = subst (BoundAtHome c.in_ok-trace.trace) (sym c.homes.ensures) (bound_at_home c.args.machine.now c.requires.graph.0 c.args.mixed.now c.args.blocks.now c.in_ok-trace.trace c.requires.valid c.requires.graph.1 c.requires.can c.in_ok-trace.ensures)
+pub assign-clusters-requires-clause-bound_at_home : goal.assign-clusters-requires-clause-bound_at_home
+assign-clusters-requires-clause-bound_at_home c = subst (BoundAtHome c.in_ok-trace.trace) (sym c.homes.ensures) (bound_at_home c.args.machine.now c.requires.graph.0 c.args.mixed.now c.args.blocks.now c.in_ok-trace.trace c.requires.valid c.requires.graph.1 c.requires.can c.in_ok-trace.ensures)
 
-pub assign-requires-clause-fixed_at_home : goal.assign-requires-clause-fixed_at_home
-assign-requires-clause-fixed_at_home c = subst (FixedAtHome c.in_ok-trace.trace) (sym c.homes.ensures) (fixed_at_home c.args.machine.now c.requires.graph.0 c.args.mixed.now c.args.blocks.now c.in_ok-trace.trace c.requires.valid c.requires.graph.1 c.requires.can c.in_ok-trace.ensures)
+pub assign-clusters-requires-clause-fixed_at_home : goal.assign-clusters-requires-clause-fixed_at_home
+assign-clusters-requires-clause-fixed_at_home c = subst (FixedAtHome c.in_ok-trace.trace) (sym c.homes.ensures) (fixed_at_home c.args.machine.now c.requires.graph.0 c.args.mixed.now c.args.blocks.now c.in_ok-trace.trace c.requires.valid c.requires.graph.1 c.requires.can c.in_ok-trace.ensures)
 
-pub assign-requires-clause-fixed_reads_here : goal.assign-requires-clause-fixed_reads_here
-assign-requires-clause-fixed_reads_here c = subst (FixedReadsHere c.in_ok-trace.trace) (sym c.homes.ensures) (fixed_reads_here c.args.machine.now c.requires.graph.0 c.args.mixed.now c.args.blocks.now c.in_ok-trace.trace c.requires.valid c.requires.graph.1 c.requires.can c.in_ok-trace.ensures)
+pub assign-clusters-requires-clause-fixed_reads_here : goal.assign-clusters-requires-clause-fixed_reads_here
+assign-clusters-requires-clause-fixed_reads_here c = subst (FixedReadsHere c.in_ok-trace.trace) (sym c.homes.ensures) (fixed_reads_here c.args.machine.now c.requires.graph.0 c.args.mixed.now c.args.blocks.now c.in_ok-trace.trace c.requires.valid c.requires.graph.1 c.requires.can c.in_ok-trace.ensures)
 
-pub assign-requires-clause-clusters : goal.assign-requires-clause-clusters
-assign-requires-clause-clusters c = subst (ClustersAreThere c.args.machine.now c.in_ok-trace.trace) (sym c.homes.ensures) (clusters_are_there c.args.machine.now c.requires.graph.0 c.args.mixed.now c.args.blocks.now c.in_ok-trace.trace c.requires.valid c.requires.graph.1 c.requires.can c.in_ok-trace.ensures)
+pub assign-clusters-requires-clause-clusters : goal.assign-clusters-requires-clause-clusters
+assign-clusters-requires-clause-clusters c = subst (ClustersAreThere c.args.machine.now c.in_ok-trace.trace) (sym c.homes.ensures) (clusters_are_there c.args.machine.now c.requires.graph.0 c.args.mixed.now c.args.blocks.now c.in_ok-trace.trace c.requires.valid c.requires.graph.1 c.requires.can c.in_ok-trace.ensures)
 
-pub assign-requires-clause-values : goal.assign-requires-clause-values
-assign-requires-clause-values c = values_are_there c.args.machine.now c.requires.graph.0 c.args.mixed.now c.args.blocks.now c.in_ok-trace.trace c.requires.valid c.requires.graph.1 c.requires.can c.in_ok-trace.ensures
+pub assign-clusters-requires-clause-values : goal.assign-clusters-requires-clause-values
+assign-clusters-requires-clause-values c = values_are_there c.args.machine.now c.requires.graph.0 c.args.mixed.now c.args.blocks.now c.in_ok-trace.trace c.requires.valid c.requires.graph.1 c.requires.can c.in_ok-trace.ensures
 
-pub assign-requires-clause-copies : goal.assign-requires-clause-copies
-assign-requires-clause-copies c = copies_have_numbers c.args.machine.now c.requires.graph.0 c.args.mixed.now c.args.blocks.now c.in_ok-trace.trace c.requires.valid c.requires.graph.1 c.requires.can c.in_ok-trace.ensures
+pub assign-clusters-requires-clause-copies : goal.assign-clusters-requires-clause-copies
+assign-clusters-requires-clause-copies c = copies_have_numbers c.args.machine.now c.requires.graph.0 c.args.mixed.now c.args.blocks.now c.in_ok-trace.trace c.requires.valid c.requires.graph.1 c.requires.can c.in_ok-trace.ensures
 
-pub assign-requires-clause-well_formed : goal.assign-requires-clause-well_formed
-assign-requires-clause-well_formed c = is_well_formed c.args.machine.now c.requires.graph.0 c.args.mixed.now c.args.blocks.now c.in_ok-trace.trace c.requires.valid c.requires.graph.1 c.requires.can c.in_ok-trace.ensures
+pub assign-clusters-requires-clause-well_formed : goal.assign-clusters-requires-clause-well_formed
+assign-clusters-requires-clause-well_formed c = is_well_formed c.args.machine.now c.requires.graph.0 c.args.mixed.now c.args.blocks.now c.in_ok-trace.trace c.requires.valid c.requires.graph.1 c.requires.can c.in_ok-trace.ensures

@@ -6,7 +6,7 @@ use Rattle.vx_region.specs.Regions.{ReplacesAll, ReplacesOne}
 use Rattle.vx_region.specs.Stepping.{Stepped}
 use Rattle.vx_region.proofs.Falls.{plans_grow, measure_falls}
 use Rattle.vx_region.proofs.Steps.{stepped_all, stepped_more}
-use Rattle.vx_region.proofs.step.all_regions.Goals as goal
+use Rattle.vx_region.proofs.step.replace_all.Goals as goal
 
 pub returns-in-Finished-clause-regions : goal.returns-in-Finished-clause-regions
 returns-in-Finished-clause-regions c =
@@ -14,22 +14,22 @@ returns-in-Finished-clause-regions c =
     let counts = c.args.counts.now in
     let cap = c.args.budget.now.cap in
     let used = c.args.budget.now.used in
-    let first = c.args.mixed in
-    let m = c.step.regions in
+    let first = c.args.mixed.now in
+    let m = c.step.mixed in
     let last = c.replace_one.new.mixed in
     let finished = rw c.in-Finished.is at c.in_ok-replace_one.ensures.finished in
-    let all : ReplacesAll machine counts cap first used c.step.plans m c.step.spent.used = stepped_all machine counts cap used first m c.step.spent.used c.step.plans c.step.invariant.0 (subst IsDone finished.1 finished.0) in
+    let all : ReplacesAll machine counts cap first used c.step.plans m c.step.budget.used = stepped_all machine counts cap used first m c.step.budget.used c.step.plans c.step.invariant.0 (subst IsDone finished.1 finished.0) in
     subst (λ (b : Budget). ReplacesAll machine counts cap first used c.step.plans last b.used) (sym finished.2)
-    (subst (λ z. ReplacesAll machine counts cap first used c.step.plans z c.step.spent.used) (sym finished.1) all)
+    (subst (λ z. ReplacesAll machine counts cap first used c.step.plans z c.step.budget.used) (sym finished.1) all)
 
 pub step-smaller : goal.step-smaller
 step-smaller c =
     let machine = c.args.machine.now in
     let counts = c.args.counts.now in
-    let cap = c.step.spent.cap in
-    let used = c.step.spent.used in
+    let cap = c.step.budget.cap in
+    let used = c.step.budget.used in
     let more = c.replace_one.new.budget.used in
-    let m = c.step.regions in
+    let m = c.step.mixed in
     let next = c.replace_one.new.mixed in
     let s = c.step.invariant.0 in
     let one : ReplacesOne machine counts cap m used c.in-Replaced.plan next more = rw c.in-Replaced.is at c.in_ok-replace_one.ensures.replaced in
@@ -42,10 +42,10 @@ step-preserved c =
     let counts = c.args.counts.now in
     let cap = c.args.budget.now.cap in
     let used = c.args.budget.now.used in
-    let first = c.args.mixed in
-    let m = c.step.regions in
+    let first = c.args.mixed.now in
+    let m = c.step.mixed in
     let next = c.replace_one.new.mixed in
     let more = c.replace_one.new.budget.used in
-    let one : ReplacesOne machine counts c.step.spent.cap m c.step.spent.used c.in-Replaced.plan next more = rw c.in-Replaced.is at c.in_ok-replace_one.ensures.replaced in
-    let here : ReplacesOne machine counts cap m c.step.spent.used c.in-Replaced.plan next more = subst (λ k. ReplacesOne machine counts k m c.step.spent.used c.in-Replaced.plan next more) c.step.invariant.1 one in
-    (subst (λ z. Stepped machine counts cap first used z next more) (sym c.in_ok-push-in-Replaced.ensures.ok) (stepped_more machine counts cap used first c.assigned_operations_stand.ensures m next c.step.spent.used more c.step.plans c.in-Replaced.plan c.step.invariant.0 here), c.in_ok-replace_one.ensures.same_cap ∙ c.step.invariant.1, c.step.invariant.2)
+    let one : ReplacesOne machine counts c.step.budget.cap m c.step.budget.used c.in-Replaced.plan next more = rw c.in-Replaced.is at c.in_ok-replace_one.ensures.replaced in
+    let here : ReplacesOne machine counts cap m c.step.budget.used c.in-Replaced.plan next more = subst (λ k. ReplacesOne machine counts k m c.step.budget.used c.in-Replaced.plan next more) c.step.invariant.1 one in
+    (subst (λ z. Stepped machine counts cap first used z next more) (sym c.in_ok-push-in-Replaced.ensures.ok) (stepped_more machine counts cap used first c.assigned_operations_stand.ensures m next c.step.budget.used more c.step.plans c.in-Replaced.plan c.step.invariant.0 here), c.in_ok-replace_one.ensures.same_cap ∙ c.step.invariant.1)
