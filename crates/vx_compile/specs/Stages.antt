@@ -91,6 +91,12 @@ pub record AreFinished (machine : Numbers) (flow : Flow) (ls : List VWords) (x :
   pub finished : Finishes machine flow ls maps x
   pub in_range : is_in_range x.program ≡ true
 
+-- words and their plan, of layouts of graphs that are finished
+pub record IsCompiledFlow (machine : Numbers) (counts : Counts) (growth : ℕ) (flow : Flow) (w : WordProgram) (plan : Plan) : Type 0 where
+  pub layouts : List VWords
+  pub laid : AreLaidOut machine counts growth flow.functions plan.traces layouts plan.copies
+  pub finished : AreFinished machine flow layouts (record { program = w; places = plan.places }) plan.spilled
+
 -- the texts of a compiled program, of which that of the report is made where one is asked
 pub record MakesTexts (p : Program) (counts : Counts) (machine : Numbers) (growth : ℕ) (asked : Bool) (text report : List ℕ) : Type 0 where
   pub words : WordProgram

@@ -2,6 +2,7 @@
 // over values. What a laid out function owes stands in specs/Stages.antt, and its plan in specs/Compiled.antt.
 
 ghost use Rattle.std.specs.Prelude.{◌≡◌, ◌∷◌, [], ◌++◌, length, IfOk, OnOk};
+ghost use Rattle.vx_mixed.specs.Layout.{IsDone, layout_of};
 ghost use Rattle.vx_compile.specs.Stages.{AllBegin, AreLaidOut, Begins, IsLaidOut};
 
 use std::alloc::Global;
@@ -13,7 +14,7 @@ use vx_mixed::Mixed;
 use vx_mixed::layout::VWords;
 use vx_profile::counts::Counts;
 use vx_region::laws::{all_steps_keep_the_graph, graphs_begin_so};
-use vx_region::{Budget, TracePlan, all_regions};
+use vx_region::{Budget, Regions, TracePlan, all_regions};
 
 /// A function that is laid out.
 #[derive(Drop)]
@@ -56,12 +57,23 @@ fn layout_of(
     begun.set_function(function);
     begun.keeps_valid();
     let regions = all_regions(alloc, begun, counts, machine, budget)?;
-    regions.mixed.keeps_valid();
-    let layout = regions.mixed.lay_out(alloc)?;
-    Ok(LaidFunction {
-        layout,
-        traces: regions.plans,
-    })
+    let Regions {
+        mixed,
+        plans: traces,
+    } = regions;
+    mixed.keeps_valid();
+    let layout = laid_out(alloc, mixed)?;
+    Ok(LaidFunction { layout, traces })
+}
+
+/// The layout of the regions of a graph, of which nothing else is needed any more.
+fn laid_out(alloc: Global, mixed: Mixed) -> Result<VWords, NoMemory>
+    requires { IsDone mixed }
+    ensures { IfOk result (λ layout. layout ≡ layout_of mixed) }
+{
+    let layout = mixed.lay_out(alloc);
+    drop(mixed);
+    layout
 }
 
 /// The number of the function whose layout comes behind these.

@@ -8,7 +8,7 @@ ghost use Rattle.vx_ast.specs.View as view;
 ghost use Rattle.vx_flow.specs.Sound.{is_sound_flow};
 ghost use Rattle.vx_lower.specs.FlowOf.{FlowOf};
 ghost use Rattle.vx_compile.specs.Compiled.{AreMapsOf, Compiled, all_in_slots, in_slots, slot_of};
-ghost use Rattle.vx_compile.specs.Stages.{all_blocks, Sized, AreFinished, AreInside, AreLayoutsOf, StageLaws};
+ghost use Rattle.vx_compile.specs.Stages.{AllBegin, AreFinished, AreInside, AreLayoutsOf, IsCompiledFlow, Sized, StageLaws, all_blocks};
 
 use crate::layouts::layouts_of;
 use crate::ranges::numbers_fit;
@@ -215,6 +215,31 @@ fn finished_of(
     Ok(FinishedProgram { finished, spilled })
 }
 
+/// The words of the graphs of a program, and how they were planned.
+fn compiled_of(
+    alloc: Global,
+    flow: &Flow,
+    counts: &Counts,
+    machine: &Machine,
+    growth: u32,
+) -> Result<CompiledProgram, NoMemory>
+    requires sound { is_sound_flow flow.now ≡ true }
+    requires begin { AllBegin flow.now.functions }
+    ensures { IfOk result (λ x. IsCompiledFlow machine.now counts.now growth flow.now x.words x.plan) }
+{
+    let laid = layouts_of(alloc, flow.functions.as_slice(), counts, machine, growth)?;
+    let done = finished_of(alloc, flow, laid.layouts.as_slice(), machine)?;
+    Ok(CompiledProgram {
+        words: done.finished.program,
+        plan: Plan {
+            traces: laid.traces,
+            places: done.finished.places,
+            spilled: done.spilled,
+            copies: laid.copies,
+        },
+    })
+}
+
 /// What `compile` answers, and how large the graphs are.
 pub fn compile_sized(
     alloc: Global,
@@ -229,20 +254,8 @@ pub fn compile_sized(
     machine.keeps_ranges();
     let flow = flow_of(alloc, program)?;
     let size = size_of(&flow)?;
-    let laid = layouts_of(alloc, flow.functions.as_slice(), counts, machine, growth)?;
-    let done = finished_of(alloc, &flow, laid.layouts.as_slice(), machine)?;
-    Ok(SizedProgram {
-        compiled: CompiledProgram {
-            words: done.finished.program,
-            plan: Plan {
-                traces: laid.traces,
-                places: done.finished.places,
-                spilled: done.spilled,
-                copies: laid.copies,
-            },
-        },
-        size,
-    })
+    let compiled = compiled_of(alloc, &flow, counts, machine, growth)?;
+    Ok(SizedProgram { compiled, size })
 }
 
 /// The words of an accepted program for a machine, and how they were planned. Its traces are picked by counts of blocks and edges,

@@ -13,8 +13,8 @@ all_regions-requires c = record {
   );
 }
 
-pub lay_out-requires : goal.lay_out-requires
-lay_out-requires c =
+pub laid_out-requires : goal.laid_out-requires
+laid_out-requires c =
     let begun : IsGraphOf c.args.machine.now c.args.graph.now c.set_function.new.self =
     subst (IsGraphOf c.args.machine.now c.args.graph.now) (sym c.set_function.ensures)
     (c.graphs_begin_so.ensures c.args.machine.now c.args.graph.now c.in_ok-begun.begun c.args.function c.keeps_ranges.ensures c.requires.sound c.in_ok-begun.ensures) in
