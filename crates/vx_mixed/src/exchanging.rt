@@ -1,41 +1,74 @@
 // A trace that becomes a region where no block is made: no edge goes elsewhere, so that the nodes of its blocks alone change,
-// in the graph itself. The clause of `put_region` carries the promise.
+// in the graph itself. The clauses of `put_trace` carry the promise.
 
 ghost use Rattle.std.specs.Prelude.{◌≡◌, ◌+◌, ◌<◌, ◌^◌, [], ◌∷◌, ◌++◌, ℕ, OnErr, OnOk, length};
 ghost use Rattle.vx_flow.specs.declared.trace.Join.{Join};
 ghost use Rattle.vx_flow.specs.Effects.{IsIn};
 ghost use Rattle.vx_mixed.specs.CanReplace.{CanReplace, ListsFit, WordsFit};
+ghost use Rattle.vx_mixed.specs.Edges.{EdgesOf};
 ghost use Rattle.vx_mixed.specs.Exchanged.{exchanged, with_inner, with_rejoins};
 ghost use Rattle.vx_mixed.specs.Next.{new_region, next_mixed};
 ghost use Rattle.vx_mixed.specs.Valid.{Valid};
 
+use crate::edging::outer_edges;
 use crate::mixed::MixedGraph;
 use crate::nodes::Nodes;
 use crate::placing::region_of;
 use crate::region::Node;
 use crate::replacement::Replacement;
 use std::alloc::Global;
+use std::mem::swap;
+use vx_base::listed::Listed;
 use vx_base::outcome::NoMemory;
-use vx_flow::graph::BlockId;
+use vx_flow::graph::{BlockId, Edge};
 use vx_flow::trace::Join;
 
-/// Puts a trace into the graph as a region, where no block is made. All memory is taken before the first change.
-pub(crate) fn put_region(
+/// Puts a trace into a graph that has these edges as a region, where no block is made: the work is that of the trace, and of one
+/// pass over the edges where the trace has more than one block. The homes of the graph and of the replacement change places.
+/// Without memory all stays as it was.
+pub(crate) fn put_trace(
     alloc: Global,
     graph: &mut MixedGraph,
-    replacement: Replacement,
+    edges: &mut Listed<Edge>,
+    replacement: &mut Replacement,
 ) -> Result<(), NoMemory>
-    requires few { length graph.old.nodes + length replacement.made < 2 ^ 32 }
     requires valid { Valid graph.old }
-    requires can { CanReplace graph.old replacement }
-    requires none { replacement.made ≡ [] }
-    ensures next { OnOk result (graph.new ≡ next_mixed graph.old replacement) }
+    requires edges { EdgesOf graph.old edges.old }
+    requires can { CanReplace graph.old replacement.old }
+    requires none { replacement.old.made ≡ [] }
+    ensures next { OnOk result (graph.new ≡ next_mixed graph.old replacement.old) }
+    ensures unchanged { OnErr result (graph.new ≡ graph.old) }
+    ensures edges { EdgesOf graph.new edges.new }
+    ensures valid { Valid graph.new }
+{
+    let nodes = graph.nodes.len();
+    if replacement.trace.blocks.len() < 2 {
+        return put_region(alloc, graph, replacement);
+    }
+    let blocks = replacement.trace.blocks.as_slice();
+    let kept = outer_edges(alloc, nodes, edges.as_slice(), blocks)?;
+    put_region(alloc, graph, replacement)?;
+    *edges = kept;
+    Ok(())
+}
+
+/// Puts a trace into the graph as a region, where no block is made. All memory is taken before the first change.
+fn put_region(
+    alloc: Global,
+    graph: &mut MixedGraph,
+    replacement: &mut Replacement,
+) -> Result<(), NoMemory>
+    requires few { length graph.old.nodes + length replacement.old.made < 2 ^ 32 }
+    requires valid { Valid graph.old }
+    requires can { CanReplace graph.old replacement.old }
+    requires none { replacement.old.made ≡ [] }
+    ensures next { OnOk result (graph.new ≡ next_mixed graph.old replacement.old) }
     ensures unchanged { OnErr result (graph.new ≡ graph.old) }
 {
     let number = graph.regions.len() as u32;
-    push_region(alloc, graph, &replacement)?;
-    exchange(&mut graph.nodes, number, &replacement);
-    graph.homes = replacement.homes;
+    push_region(alloc, graph, replacement)?;
+    exchange(&mut graph.nodes, number, replacement);
+    swap(&mut graph.homes, &mut replacement.homes);
     Ok(())
 }
 

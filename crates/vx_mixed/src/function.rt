@@ -1,11 +1,11 @@
 // The graph of a function of which some blocks are words already, as callers hold it: with the list of its edges, which is
 // kept beside it so that it can be given without memory.
 
-ghost use Rattle.std.specs.Prelude.{◌≡◌, ◌==◌, ◌<◌, [], ℕ, true, IfOk, OnErr, OnOk, length, slice_get};
+ghost use Rattle.std.specs.Prelude.{◌≡◌, ◌==◌, ◌<◌, ℕ, true, IfOk, OnErr, OnOk, length, slice_get};
 ghost use Rattle.std.specs.List.{list_any};
 ghost use Rattle.std.specs.Option.{option_map};
 ghost use Rattle.vx_flow.specs.Sound.{is_sound};
-ghost use Rattle.vx_mixed.specs.CanReplace.{AwayFits, CanReplace, HomesFit, IsFormed, ListsFit, MadeFits, MadeStands, NamesFit, TraceFits, WordsFit};
+ghost use Rattle.vx_mixed.specs.CanReplace.{AwayFits, HomesFit, IsFormed, ListsFit, MadeFits, MadeStands, NamesFit, TraceFits, WordsFit};
 ghost use Rattle.vx_mixed.specs.Edges.{EdgesOf};
 ghost use Rattle.vx_mixed.specs.FromGraph.{FromGraph, origin_edge, same_edge, unused_in};
 ghost use Rattle.vx_mixed.specs.TraceOf.{CanTrace, IsTraceOf};
@@ -14,14 +14,12 @@ ghost use Rattle.vx_mixed.specs.Next.{next_mixed};
 ghost use Rattle.vx_mixed.specs.Valid.{CanBegin, Valid};
 
 use crate::copying::{begun_blocks, told_values};
-use crate::edging::outer_edges;
-use crate::exchanging::put_region;
 use crate::laying::laid_out;
 use crate::layout::VWords;
 use crate::mixed::MixedGraph;
 use crate::region::Node;
 use crate::replacement::Replacement;
-use crate::replacing::parts_after;
+use crate::replacing::replace_trace;
 use crate::tracing::trace_of;
 use std::alloc::Global;
 use std::marker::Model;
@@ -190,35 +188,8 @@ impl Mixed {
         ensures next { OnOk result (self.new ≡ next_mixed self.old replacement) }
         ensures unchanged { OnErr result (self.new ≡ self.old) }
     {
-        if replacement.made.is_empty() {
-            return self.put(alloc, replacement);
-        }
-        let parts = parts_after(alloc, &self.graph, self.edges.as_slice(), &replacement)?;
-        self.graph.nodes = parts.nodes;
-        self.graph.regions = parts.regions;
-        self.graph.origins = parts.origins;
-        self.graph.homes = replacement.homes;
-        self.edges = parts.edges;
-        Ok(())
-    }
-
-    /// A trace becomes a region where no block is made, in the graph itself: the work is that of the trace, and of one pass over
-    /// the edges where the trace has more than one block. Without memory the graph stays as it was.
-    fn put(&mut self, alloc: Global, replacement: Replacement) -> Result<(), NoMemory>
-        requires can { CanReplace self.old replacement }
-        requires none { replacement.made ≡ [] }
-        ensures next { OnOk result (self.new ≡ next_mixed self.old replacement) }
-        ensures unchanged { OnErr result (self.new ≡ self.old) }
-    {
-        let nodes = self.graph.nodes.len();
-        if replacement.trace.blocks.len() < 2 {
-            return put_region(alloc, &mut self.graph, replacement);
-        }
-        let blocks = replacement.trace.blocks.as_slice();
-        let kept = outer_edges(alloc, nodes, self.edges.as_slice(), blocks)?;
-        put_region(alloc, &mut self.graph, replacement)?;
-        self.edges = kept;
-        Ok(())
+        let mut replacement = replacement;
+        replace_trace(alloc, &mut self.graph, &mut self.edges, &mut replacement)
     }
 
     /// Gives the function its number in the program.

@@ -18,17 +18,18 @@ use vx_flow::graph::{Block, BlockId, Edge, Exit};
 use vx_flow::trace::Join;
 
 /// What stands at each block's number: the blocks so far, and then those that are made.
-pub(crate) fn push_nodes_after(
+pub(crate) fn nodes_after(
     alloc: Global,
-    nodes: &mut Nodes,
     graph: &MixedGraph,
     replacement: &Replacement,
-) -> Result<(), NoMemory>
+) -> Result<Nodes, NoMemory>
     requires { length graph.now.nodes + length replacement.now.made < 2 ^ 32 }
-    ensures { IfOk result (λ _. nodes.new ≡ nodes.old ++ (nodes_from graph.now replacement.now 0 graph.now.nodes ++ map made_node replacement.now.made)) }
+    ensures { IfOk result (λ nodes. nodes ≡ nodes_from graph.now replacement.now 0 graph.now.nodes ++ map made_node replacement.now.made) }
 {
-    push_old_nodes(alloc, nodes, graph, replacement)?;
-    push_made_nodes(alloc, nodes, replacement.made.as_slice())
+    let mut nodes = Nodes::new(alloc);
+    push_old_nodes(alloc, &mut nodes, graph, replacement)?;
+    push_made_nodes(alloc, &mut nodes, replacement.made.as_slice())?;
+    Ok(nodes)
 }
 
 fn push_old_nodes(

@@ -7,7 +7,7 @@ ghost use Rattle.vx_flow.specs.declared.trace.TraceOp.TheVariants.{Plain};
 ghost use Rattle.vx_mixed.specs.Edges.{EdgesOf};
 ghost use Rattle.vx_mixed.specs.FromGraph.{unused_in};
 ghost use Rattle.vx_mixed.specs.Routes.{live_values};
-ghost use Rattle.vx_mixed.specs.TraceLists.{LiveAtSplits, block_fixed, has_split};
+ghost use Rattle.vx_mixed.specs.TraceLists.{IsOpsOf, LiveAtSplits, block_fixed, has_split};
 ghost use Rattle.vx_mixed.specs.TraceOf.{CanTrace, IsTraceOf, block_at, block_ops, clusters_of, split_behind, trace_fixed, trace_ops};
 ghost use Rattle.vx_mixed.specs.Valid.{Valid};
 
@@ -35,8 +35,7 @@ pub(crate) fn trace_of(
     requires can { CanTrace graph.now blocks.now }
     ensures { IfOk result (λ trace. IsTraceOf graph.now blocks.now trace) }
 {
-    let live = live_at_splits(alloc, graph, blocks)?;
-    let ops = ops_of(alloc, graph, &live, blocks)?;
+    let ops = ops_of(alloc, graph, blocks)?;
     let fixed = fixed_of(alloc, graph, blocks)?;
     let joins = joins_of(alloc, graph, edges, blocks)?;
     let arrays = copied_arrays(alloc, graph.arrays.as_slice())?;
@@ -97,8 +96,23 @@ pub(crate) fn rest_of(blocks: &[BlockId], place: usize) -> &[BlockId]
     &blocks[place..]
 }
 
-/// The operations of the blocks, with the splits between them.
+/// The operations of the blocks, with the splits between them and the values that are live where these leave.
 fn ops_of(
+    alloc: Global,
+    graph: &MixedGraph,
+    blocks: &[BlockId],
+) -> Result<Listed<TraceOp>, NoMemory>
+    requires valid { Valid graph.now }
+    requires can { CanTrace graph.now blocks.now }
+    ensures { IfOk result (λ ops. IsOpsOf graph.now blocks.now ops) }
+{
+    let live = live_at_splits(alloc, graph, blocks)?;
+    let ops = ops_with(alloc, graph, &live, blocks)?;
+    Ok(ops)
+}
+
+/// The same, where these values are live.
+fn ops_with(
     alloc: Global,
     graph: &MixedGraph,
     live: &Live,

@@ -9,13 +9,14 @@ use Rattle.vx_mixed.proofs.exchanging.put_region.Goals as goal
 
 pub exchange-requires-clause-blocks : goal.exchange-requires-clause-blocks
 exchange-requires-clause-blocks c =
-    subst (λ (m : MixedGraph). (b : ℕ) → IsIn b c.args.replacement.trace.blocks → b < length m.nodes) (sym c.in_ok-push_region.ensures.next) (block_low c.args.graph.now c.args.replacement c.requires.can)
+    subst (λ (m : MixedGraph). (b : ℕ) → IsIn b c.args.replacement.now.trace.blocks → b < length m.nodes) (sym c.in_ok-push_region.ensures.next) (block_low c.args.graph.now c.args.replacement.now c.requires.can)
 
 pub exchange-requires-clause-joins : goal.exchange-requires-clause-joins
 exchange-requires-clause-joins c =
-    subst (λ (m : MixedGraph). (j : Join) → IsIn j c.args.replacement.trace.joins → j.block < length m.nodes) (sym c.in_ok-push_region.ensures.next) (join_low c.args.graph.now c.args.replacement c.requires.valid c.requires.can)
+    subst (λ (m : MixedGraph). (j : Join) → IsIn j c.args.replacement.now.trace.joins → j.block < length m.nodes) (sym c.in_ok-push_region.ensures.next) (join_low c.args.graph.now c.args.replacement.now c.requires.valid c.requires.can)
 
 pub returns-clause-next : goal.returns-clause-next
 returns-clause-next c =
-    put_behind c.args.graph.now c.push_region.new.graph c.args.replacement c.requires.valid c.requires.can c.requires.none c.exchange.new.nodes c.in_ok-push_region.ensures.next
-    (c.exchange.ensures ∙ ap (λ q. exchanged q c.args.replacement c.push_region.new.graph.nodes) c.len-number.ensures.len)
+    ap (λ homes. record c.push_region.new.graph { nodes = c.exchange.new.nodes; homes = homes }) c.swap.ensures.x_after
+    ∙ put_behind c.args.graph.now c.push_region.new.graph c.args.replacement.now c.requires.valid c.requires.can c.requires.none c.exchange.new.nodes c.in_ok-push_region.ensures.next
+    (c.exchange.ensures ∙ ap (λ q. exchanged q c.args.replacement.now c.push_region.new.graph.nodes) c.len-number.ensures.len)
