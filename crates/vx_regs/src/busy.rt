@@ -10,6 +10,7 @@ ghost use Rattle.vx_mixed.specs.declared.layout.VirtualWord.{VirtualWord as AWor
 ghost use Rattle.vx_regs.specs.BusyPlaces.{AmongAt, AreHulls, InFlight, InFlights, LiveAmong, LiveBelow, LiveNear, NamedBelow, OneBelow, OpWrote, WordWrote, Wrote, WroteBelow, leads_list, nodes_near, split_places};
 ghost use Rattle.vx_regs.specs.Hulls.{Notes};
 ghost use Rattle.vx_regs.specs.Intervals.{word_reads, word_writes};
+ghost use Rattle.vx_regs.specs.Ways.{LivesAtNodes};
 
 use crate::entering::{Nodes, push_node, push_ways};
 use crate::hulls::{Hull, note};
@@ -171,6 +172,38 @@ fn push_splits(places: &mut Listed<u32>, items: &[Laid]) -> Result<(), NoMemory>
     }
 }
 
+/// Adds the place behind a word.
+fn push_next(places: &mut Listed<u32>, place: u32) -> Result<(), NoMemory>
+    ensures { IfOk result (λ _. places.new ≡ places.old ++ (place + 1) ∷ []) }
+{
+    places.push(sum(place, 1)?)?;
+    Ok(())
+}
+
+/// Adds where a word at a place leads.
+fn push_leads(places: &mut Listed<u32>, place: u32, word: &VirtualWord) -> Result<(), NoMemory>
+    ensures { IfOk result (λ _. places.new ≡ places.old ++ leads_list place word.now) }
+{
+    match word {
+        VirtualWord::Planned { items, .. } => {
+            push_splits(places, items.as_slice())?;
+            push_next(places, place)
+        }
+        VirtualWord::Drain(_) => push_next(places, place),
+        VirtualWord::Transfer(to) => {
+            places.push(*to)?;
+            Ok(())
+        }
+        VirtualWord::Choice { place: to, .. } => {
+            places.push(*to)?;
+            push_next(places, place)
+        }
+        VirtualWord::Call { .. } => push_next(places, place),
+        VirtualWord::Return(_) => Ok(()),
+        VirtualWord::Ends(_) => Ok(()),
+    }
+}
+
 /// Where a word at a place leads.
 pub(crate) fn leads_list(
     alloc: Global,
@@ -180,21 +213,7 @@ pub(crate) fn leads_list(
     ensures { IfOk result (λ places. places ≡ leads_list place word.now) }
 {
     let mut places = Listed::new(alloc);
-    match word {
-        VirtualWord::Planned { items, .. } => {
-            push_splits(&mut places, items.as_slice())?;
-            places.push(sum(place, 1)?)?;
-        }
-        VirtualWord::Drain(_) => places.push(sum(place, 1)?)?,
-        VirtualWord::Transfer(to) => places.push(*to)?,
-        VirtualWord::Choice { place: to, .. } => {
-            places.push(*to)?;
-            places.push(sum(place, 1)?)?;
-        }
-        VirtualWord::Call { .. } => places.push(sum(place, 1)?)?,
-        VirtualWord::Return(_) => {}
-        VirtualWord::Ends(_) => {}
-    }
+    push_leads(&mut places, place, word)?;
     Ok(places)
 }
 
@@ -385,12 +404,26 @@ pub(crate) fn hulls_of(
     requires inside { (p q : ℕ) (word : AWord) → slice_get layout.now.words p ≡ Some word → LeadsTo p word q → q < length layout.now.words }
     ensures { IfOk result (λ hulls. AreHulls (latency_of_op machine.now) layout.now hulls.items) }
 {
-    let words = layout.words.as_slice();
     let living = living_of(alloc, layout)?;
+    hulls_with(alloc, layout, machine, &living)
+}
+
+/// The same, where this is what is live.
+fn hulls_with(
+    alloc: Global,
+    layout: &VWords,
+    machine: &Machine,
+    living: &Living,
+) -> Result<Vec<Option<Hull>>, NoMemory>
+    requires inside { (p q : ℕ) (word : AWord) → slice_get layout.now.words p ≡ Some word → LeadsTo p word q → q < length layout.now.words }
+    requires living { LivesAtNodes layout.now living.now }
+    ensures { IfOk result (λ hulls. AreHulls (latency_of_op machine.now) layout.now hulls.items) }
+{
+    let words = layout.words.as_slice();
     let mut hulls = Vec::new(alloc);
     note_names(alloc, &mut hulls, words)?;
     let count = number_of(hulls.len())?;
-    note_lives(alloc, &mut hulls, &living, words, count)?;
+    note_lives(alloc, &mut hulls, living, words, count)?;
     note_pending(alloc, &mut hulls, machine, words)?;
     Ok(hulls)
 }

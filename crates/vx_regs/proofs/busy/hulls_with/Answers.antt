@@ -5,14 +5,14 @@ use Rattle.vx_regs.specs.declared.hulls.Hull.{Hull}
 use Rattle.vx_regs.specs.BusyPlaces.{NamedBelow, LiveNear, WroteBelow}
 use Rattle.vx_regs.specs.Hulls.{Notes}
 use Rattle.vx_regs.proofs.BusyHulls.{are_hulls}
-use Rattle.vx_regs.proofs.busy.hulls_of.Goals as goal
+use Rattle.vx_regs.proofs.busy.hulls_with.Goals as goal
 
 pub returns : goal.returns
 returns c =
     let l = c.args.layout.now in
     let latency = latency_of_op c.args.machine.now in
     let words : c.as_slice-words.result.now ≡ l.words = c.as_slice-words.ensures in
-    let living = c.in_ok-living.living in
+    let living = c.args.living.now in
     let a = c.note_names.new.hulls.items in
     let b = c.note_lives.new.hulls.items in
     let d = c.note_pending.new.hulls.items in
@@ -25,4 +25,4 @@ returns c =
     subst (λ (z : List VirtualWord). Notes (LiveNear living.live living.nodes.numbers z c.in_ok-count.count (length z)) a b) words c.in_ok-note_lives.ensures in
     let pending : Notes (WroteBelow latency l.words (length l.words)) b d =
     subst (λ (z : List VirtualWord). Notes (WroteBelow latency z (length z)) b d) words c.in_ok-note_pending.ensures in
-    are_hulls latency l living c.in_ok-living.ensures c.requires.inside a b d c.in_ok-count.count count names lively pending
+    are_hulls latency l living c.requires.living c.requires.inside a b d c.in_ok-count.count count names lively pending
