@@ -163,6 +163,20 @@ fn form_made(
     }
 }
 
+/// What is known of what such an operation makes: its form alone.
+fn plain_made(
+    alloc: Global,
+    place: u32,
+    code: Code,
+    left: &Read,
+    right: &Read,
+) -> Result<Known, AllocError>
+    ensures { IfOk result (λ known. code ≢ Code.Mpylu → code ≢ Code.Mpyhs → computed place code left.now.operand right.now.operand left.now.known right.now.known ≡ known) }
+{
+    let linear = form_made(alloc, place, code, left, right)?;
+    Ok(plain(linear))
+}
+
 /// What is known of the value that an operation makes of two operands, of which this is known.
 pub(crate) fn computed(
     alloc: Global,
@@ -176,7 +190,7 @@ pub(crate) fn computed(
     match code {
         Code::Mpylu => half_product(alloc, false, place, code, left, right),
         Code::Mpyhs => half_product(alloc, true, place, code, left, right),
-        _ => Ok(plain(form_made(alloc, place, code, &left, &right)?)),
+        _ => plain_made(alloc, place, code, &left, &right),
     }
 }
 

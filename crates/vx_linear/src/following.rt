@@ -50,6 +50,21 @@ pub fn forms(alloc: Global, trace: &Trace) -> Result<Listed<Option<Form>>, NoMem
 {
     let joins = join_places(alloc, trace.joins.as_slice())?;
     let mut passed = none_passed(alloc);
+    follow_all(alloc, trace, &joins, &mut passed)
+}
+
+/// The forms of all operations, of which none is passed yet.
+fn follow_all(
+    alloc: Global,
+    trace: &Trace,
+    joins: &Places,
+    passed: &mut Passed,
+) -> Result<Listed<Option<Form>>, NoMemory>
+    requires passed { Passes trace.now 0 passed.old }
+    requires joins { JoinsAre trace.now.joins joins.now.entries.entries }
+    ensures forms { IfOk result (λ forms. forms ≡ forms_of trace.now) }
+    ensures ordered { IfOk result AreOrdered }
+{
     let mut forms = Listed::new(alloc);
     let mut rest = trace.ops.as_slice();
     'follow: loop {
@@ -57,7 +72,7 @@ pub fn forms(alloc: Global, trace: &Trace) -> Result<Listed<Option<Form>>, NoMem
             None => return Ok(forms),
             Some((op, others)) => {
                 let place = forms.len();
-                let form = follow(alloc, trace, &joins, &mut passed, place, op)?;
+                let form = follow(alloc, trace, joins, passed, place, op)?;
                 forms.push(form)?;
                 rest = others;
             }

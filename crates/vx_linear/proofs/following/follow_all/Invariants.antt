@@ -1,7 +1,7 @@
 -- what is kept of the operations so far, what forms they have, and what is left
 use Rattle.std.proofs.Common.{length}
 use Rattle.vx_linear.specs.Passed.{IsFollowed}
-use Rattle.vx_linear.proofs.following.forms.Given as goal
+use Rattle.vx_linear.proofs.following.follow_all.Given as goal
 
 abbrev pub invariant-follow : goal.invariant-follow
 invariant-follow l = IsFollowed l.fn.trace l.passed l.forms l.rest
