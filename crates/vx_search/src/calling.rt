@@ -55,16 +55,28 @@ struct Calls {
 pub fn find_given(alloc: Global, functions: &[Graph], rounds: u32) -> Result<Found, NoMemory> {
     let mut calls = calls_of(alloc, functions)?;
     let mut found = nothing_found(alloc, functions.len())?;
+    go_over_all(alloc, &mut calls, &mut found, functions, rounds)?;
+    Ok(found)
+}
+
+/// Goes over all functions: those that are ready, and where none is, the first that is left, of which nothing is given.
+fn go_over_all(
+    alloc: Global,
+    calls: &mut Calls,
+    found: &mut Found,
+    functions: &[Graph],
+    rounds: u32,
+) -> Result<(), NoMemory> {
     let mut ready = ready_at_first(alloc, calls.waiting.as_slice())?;
-    go_over_ready(alloc, &mut calls, &mut found, &mut ready, functions, rounds)?;
+    go_over_ready(alloc, calls, found, &mut ready, functions, rounds)?;
     for (function, graph) in functions.iter().enumerate() {
-        if !was_gone_over(&calls, function) {
-            give_up(&mut calls, function, graph.parameters.len());
+        if !was_gone_over(calls, function) {
+            give_up(calls, function, graph.parameters.len());
             ready.push(function)?;
-            go_over_ready(alloc, &mut calls, &mut found, &mut ready, functions, rounds)?;
+            go_over_ready(alloc, calls, found, &mut ready, functions, rounds)?;
         }
     }
-    Ok(found)
+    Ok(())
 }
 
 /// Goes over the functions that are ready, and those that then are.

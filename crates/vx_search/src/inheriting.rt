@@ -11,7 +11,7 @@ use vx_claims::claim::{Claim, accesses_in, facts_in};
 use vx_claims::fact::Fact;
 use vx_claims::known::give;
 use vx_claims::learning::without;
-use vx_flow::graph::{Block, BlockId, Exit, Graph};
+use vx_flow::graph::{Block, BlockId, Exit, Graph, Value};
 use vx_loops::{Loops, entries_at, loops_of};
 
 /// How many of the facts and of what is known of arrays are looked at at most, the newest first.
@@ -32,23 +32,43 @@ pub(crate) fn inherit(
 ) -> Result<(), NoMemory> {
     let blocks = graph.blocks.as_slice();
     let mut loops = loops_of(alloc, graph)?;
-    let mut ends = Vec::new(alloc);
-    for _ in 0..blocks.len() {
-        ends.push(nothing_known(alloc))?;
-    }
+    let mut ends = nothing_at_ends(alloc, blocks.len())?;
     for place in order {
-        match blocks.get(*place as usize) {
-            Some(block) => {
-                if joins || loops.is_single(*place) {
-                    take_over(alloc, claims, &mut loops, ends.as_slice(), blocks, *place)?;
-                }
-                let end = end_of(alloc, claims.as_slice(), *place, block)?;
-                put_end(&mut ends, *place, end);
-            }
-            None => {}
-        }
+        inherit_at(alloc, claims, &mut loops, &mut ends, blocks, *place, joins)?;
     }
     Ok(())
+}
+
+/// Lets a block take over, and notes what is known at its end.
+fn inherit_at(
+    alloc: Global,
+    claims: &mut Vec<Claim>,
+    loops: &mut Loops,
+    ends: &mut Vec<Claim>,
+    blocks: &[Block],
+    place: BlockId,
+    joins: bool,
+) -> Result<(), NoMemory> {
+    match blocks.get(place as usize) {
+        Some(block) => {
+            if joins || loops.is_single(place) {
+                take_over(alloc, claims, loops, ends.as_slice(), blocks, place)?;
+            }
+            let end = end_of(alloc, claims.as_slice(), place, block)?;
+            put_end(ends, place, end);
+            Ok(())
+        }
+        None => Ok(()),
+    }
+}
+
+/// Nothing is known at the ends of so many blocks.
+fn nothing_at_ends(alloc: Global, blocks: usize) -> Result<Vec<Claim>, NoMemory> {
+    let mut ends = Vec::new(alloc);
+    for _ in 0..blocks {
+        ends.push(nothing_known(alloc))?;
+    }
+    Ok(ends)
 }
 
 fn nothing_known(alloc: Global) -> Claim {
@@ -77,17 +97,25 @@ fn end_of(
     let passed = passed_over(alloc, claims, place, block)?;
     match &block.exit {
         Exit::Call {
-            result: Some(value),
+            result: written,
             ..
         } => Ok(Claim {
-            facts: without(alloc, passed.facts.as_slice(), *value)?,
-            accesses: Listed::new(alloc),
-        }),
-        Exit::Call { .. } => Ok(Claim {
-            facts: passed.facts,
+            facts: without_result(alloc, passed.facts, *written)?,
             accesses: Listed::new(alloc),
         }),
         _ => Ok(passed),
+    }
+}
+
+/// The facts that are left behind a call that writes this value, if any.
+fn without_result(
+    alloc: Global,
+    facts: Listed<Fact>,
+    written: Option<Value>,
+) -> Result<Listed<Fact>, NoMemory> {
+    match written {
+        Some(value) => Ok(without(alloc, facts.as_slice(), value)?),
+        None => Ok(facts),
     }
 }
 

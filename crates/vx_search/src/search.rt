@@ -37,28 +37,51 @@ pub fn find_claims(
 ) -> Result<Vec<Claim>, NoMemory> {
     let live = live(alloc, graph)?;
     let order = order_of(alloc, graph.blocks.as_slice())?;
-    let mut tables = new_tables(alloc, graph, &live)?;
-    put_parameters(&mut tables, graph.parameters.as_slice(), intervals, &live);
-    rank(&mut tables, order.as_slice());
-    if settles(
-        &mut tables,
+    claims_in_order(
+        alloc,
+        graph,
+        intervals,
+        rounds,
+        joins,
         order.as_slice(),
-        graph.blocks.as_slice(),
         &live,
-    ) {
-        shrink(
-            &mut tables,
-            order.as_slice(),
-            graph.blocks.as_slice(),
-            &live,
-            rounds,
-        );
-        let mut claims = claims_of(alloc, graph, &live, &tables)?;
-        inherit(alloc, &mut claims, order.as_slice(), graph, joins)?;
-        Ok(claims)
+    )
+}
+
+/// The claims, where blocks are gone over in this order, and these values are live. There are none where sweeps do not settle.
+fn claims_in_order(
+    alloc: Global,
+    graph: &Graph,
+    intervals: &[Interval],
+    rounds: u32,
+    joins: bool,
+    order: &[BlockId],
+    live: &Live,
+) -> Result<Vec<Claim>, NoMemory> {
+    let blocks = graph.blocks.as_slice();
+    let mut tables = new_tables(alloc, graph, live)?;
+    put_parameters(&mut tables, graph.parameters.as_slice(), intervals, live);
+    rank(&mut tables, order);
+    if settles(&mut tables, order, blocks, live) {
+        shrink(&mut tables, order, blocks, live, rounds);
+        settled_claims(alloc, graph, joins, order, live, &tables)
     } else {
         Ok(Vec::new(alloc))
     }
+}
+
+/// What settled tables say at the start of each block, and what the block takes over.
+fn settled_claims(
+    alloc: Global,
+    graph: &Graph,
+    joins: bool,
+    order: &[BlockId],
+    live: &Live,
+    tables: &Tables,
+) -> Result<Vec<Claim>, NoMemory> {
+    let mut claims = claims_of(alloc, graph, live, tables)?;
+    inherit(alloc, &mut claims, order, graph, joins)?;
+    Ok(claims)
 }
 
 fn new_tables(alloc: Global, graph: &Graph, live: &Live) -> Result<Tables, NoMemory> {
