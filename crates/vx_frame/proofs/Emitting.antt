@@ -52,6 +52,18 @@ emits_next T f p m all rest word first words more starts marks e w k =
       marks_are = e.marks_are ∙ ap (λ i. marks ++ i ∷ marks_from T f (length words + length here) (suc p) rest) (sym k) ∙ ap (λ i. marks ++ m ∷ marks_from T f i (suc p) rest) (sym n) ∙ ap (λ i. marks ++ m ∷ marks_from T f (length more) i rest) s ∙ sym (append_assoc marks (m ∷ []) (marks_from T f (length more) (p + 1) rest));
     }
 
+-- one word more, as the steps of the loop give it
+pub emits_turn : (T : Target) (f p q m begin : ℕ) (all left rest : List VirtualWord) (word : VirtualWord) (first words more : List Word) (starts marks new_starts new_marks : List ℕ) → Emits T f all first words starts marks p left → left ≡ word ∷ rest → more ≡ words ++ word_words T f p word → m ≡ mark_of T f (length words) p word → begin ≡ length words → new_starts ≡ starts ++ begin ∷ [] → new_marks ≡ marks ++ m ∷ [] → q ≡ p + 1 → Emits T f all first more new_starts new_marks q rest
+emits_turn T f p q m begin all left rest word first words more starts marks new_starts new_marks e l w k b x y z =
+    let here : Emits T f all first words starts marks p (word ∷ rest) = subst (λ ws. Emits T f all first words starts marks p ws) l e in
+    let next : Emits T f all first more (starts ++ length words ∷ []) (marks ++ m ∷ []) (p + 1) rest = emits_next T f p m all rest word first words more starts marks here w k in
+    let by_starts : Emits T f all first more new_starts (marks ++ m ∷ []) (p + 1) rest = subst (λ xs. Emits T f all first more xs (marks ++ m ∷ []) (p + 1) rest) (sym (x ∙ ap (λ n. starts ++ n ∷ []) b)) next in
+    let by_marks : Emits T f all first more new_starts new_marks (p + 1) rest = subst (λ xs. Emits T f all first more new_starts xs (p + 1) rest) (sym y) by_starts in
+    subst (λ i. Emits T f all first more new_starts new_marks i rest) (sym z) by_marks
+
+pub emits_none : (T : Target) (f : ℕ) (all : List VirtualWord) (first : List Word) (starts marks : List ℕ) → starts ≡ [] → marks ≡ [] → Emits T f all first first starts marks 0 all
+emits_none T f all first starts marks s m = subst (λ xs. Emits T f all first first xs marks 0 all) (sym s) (subst (λ xs. Emits T f all first first [] xs 0 all) (sym m) (emits_first T f all first))
+
 pub emits_words : (T : Target) (f p : ℕ) (all : List VirtualWord) (first words : List Word) (starts marks : List ℕ) → Emits T f all first words starts marks p [] → words ≡ first ++ words_of (laid_pieces T f 0 all)
 emits_words T f p all first words starts marks e = sym (append-nil words) ∙ sym e.words_are
 

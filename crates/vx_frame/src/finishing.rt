@@ -5,7 +5,8 @@ ghost use Rattle.std.specs.Prelude.{◌≡◌, ◌<◌, ◌≤◌, ℕ, true, []
 ghost use Rattle.vx_flow.specs.Sound.{is_sound_flow};
 ghost use Rattle.vx_frame.specs.Finish.{AllCanFinish, Finishes};
 ghost use Rattle.vx_frame.specs.Found.{Found, Made};
-ghost use Rattle.vx_frame.specs.Placing.{OneSplit, all_places, functions_begin};
+ghost use Rattle.vx_frame.specs.Placed.{IsPlaced};
+ghost use Rattle.vx_frame.specs.Placing.{OneSplit, all_places, functions_begin, standing};
 ghost use Rattle.vx_frame.specs.Regions.{all_traces};
 ghost use Rattle.vx_frame.specs.Seen.{seen};
 
@@ -19,7 +20,7 @@ use std::alloc::Global;
 use vx_base::listed::{Bytes, Listed};
 use vx_base::outcome::NoMemory;
 use vx_flow::graph::Flow;
-use vx_isa::program::WordProgram;
+use vx_isa::program::{Word, WordProgram};
 use vx_machine::Machine;
 use vx_mixed::layout::VWords;
 use vx_regs::map::RegMap;
@@ -75,13 +76,29 @@ fn program_of(alloc: Global, whole: &Whole, flow: &Flow) -> Result<Finished, NoM
     let functions = flow.functions.len() as u32;
     let pieces = pieces_that_stand(alloc, whole, flow.main, functions)?;
     let places = region_places(alloc, whole.layouts, pieces.places.as_slice())?;
-    let program = WordProgram {
-        memory: memory_bytes(&whole.sizes)?,
-        start: first_words(alloc, flow.globals.as_slice())?,
-        texts: copied_texts(alloc, flow.texts.as_slice())?,
-        words: pieces.words,
-    };
+    let program = program_with(alloc, whole, flow, pieces.words)?;
     Ok(Finished { program, places })
+}
+
+/// The program of such a whole with the words that were found.
+fn program_with(
+    alloc: Global,
+    whole: &Whole,
+    flow: &Flow,
+    words: Listed<Word>,
+) -> Result<WordProgram, NoMemory>
+    requires { IsPlaced (standing (seen whole.now) flow.now.main (length flow.now.functions)) flow.now.main (length flow.now.functions) words }
+    ensures { IfOk result (λ program. Made whole.now flow.now program) }
+{
+    let memory = memory_bytes(&whole.sizes)?;
+    let start = first_words(alloc, flow.globals.as_slice())?;
+    let texts = copied_texts(alloc, flow.texts.as_slice())?;
+    Ok(WordProgram {
+        memory,
+        start,
+        texts,
+        words,
+    })
 }
 
 /// The same, where frames and sizes are as they should be.

@@ -1,8 +1,10 @@
 // The words of a whole program, one piece after the other, and where each piece begins. How many words a piece has does not
 // depend on places, so a first pass finds the places and a second one makes the words. specs/Placing.antt has the places.
 
-ghost use Rattle.std.specs.Prelude.{◌≡◌, ◌<◌, ◌≤◌, ◌++◌, ◌∷◌, ◌-◌, ℕ, [], IfOk, if◌then◌else◌, length};
-ghost use Rattle.vx_frame.specs.Target.{pause, start_words, turns, turns_word, waits, word_words};
+ghost use Rattle.std.specs.Prelude.{◌≡◌, ◌<◌, ◌≤◌, ◌++◌, ◌∷◌, ◌+◌, ◌-◌, ℕ, [], IfOk, if◌then◌else◌, length};
+ghost use Rattle.vx_mixed.specs.declared.layout.VirtualWord.TheVariants.{Call};
+ghost use Rattle.vx_mixed.specs.LaidSettled.{laid_reads};
+ghost use Rattle.vx_frame.specs.Target.{before, pause, plan_words, start_words, turns, turns_word, waits, word_words};
 ghost use Rattle.vx_frame.specs.Placed.{laid_pieces, word_landings, landing_pieces, function_pieces, functions_pieces, all_pieces, words_of, IsPlaced};
 ghost use Rattle.vx_frame.specs.Placing.{starts_from, landings_from, mark_of, marks_from, places_at, all_places, functions_begin, functions_end, at_spots, spots_of, standing, OneSplit};
 ghost use Rattle.vx_frame.specs.Seen.{seen};
@@ -16,9 +18,10 @@ use crate::slotting::{push_idle, push_one, push_pause, sum};
 use std::alloc::Global;
 use vx_base::listed::Listed;
 use vx_base::outcome::{NoMemory, Trap};
+use vx_flow::graph::{Operand, Value};
 use vx_isa::operation::Operation;
 use vx_isa::program::Word;
-use vx_mixed::layout::VirtualWord;
+use vx_mixed::layout::{Laid, VirtualWord};
 
 /// The words of a program, and where they stand.
 #[derive(Drop)]
@@ -78,6 +81,42 @@ fn push_idles(
     push_idle(alloc, cycles, words)
 }
 
+/// The words that carry a planned one; gives the place of its operations.
+fn push_planned(
+    alloc: Global,
+    whole: &Whole,
+    function: u32,
+    place: u32,
+    items: &[Laid],
+    words: &mut Listed<Word>,
+) -> Result<u32, NoMemory>
+    ensures words { IfOk result (λ _. words.new ≡ words.old ++ plan_words (seen whole.now) function place items.now) }
+    ensures mark { IfOk result (λ mark. mark ≡ length words.old + length (before (seen whole.now) function (laid_reads items.now))) }
+{
+    let plan = plan_of(alloc, whole, function, place, items)?;
+    push_plan(alloc, whole, &plan, words)
+}
+
+/// The words that carry a call and what stands behind it; gives the place to which it returns.
+fn push_called(
+    alloc: Global,
+    whole: &Whole,
+    function: u32,
+    place: u32,
+    called: u32,
+    arguments: &[Operand],
+    taken: Option<Value>,
+    words: &mut Listed<Word>,
+) -> Result<u32, NoMemory>
+    ensures words { IfOk result (λ _. words.new ≡ words.old ++ word_words (seen whole.now) function place (Call called arguments.now taken)) }
+    ensures mark { IfOk result (λ mark. mark ≡ mark_of (seen whole.now) function (length words.old) place (Call called arguments.now taken)) }
+{
+    push_call(alloc, whole, function, place, called, arguments, words)?;
+    let back = words.len() as u32;
+    push_back(alloc, whole, function, place, taken, words)?;
+    Ok(back)
+}
+
 /// The words that carry one of a layout; gives the place of a planned word's operations, or of the return of a call.
 fn push_word(
     alloc: Global,
@@ -92,8 +131,7 @@ fn push_word(
 {
     match word {
         VirtualWord::Planned { items, .. } => {
-            let plan = plan_of(alloc, whole, function, place, items.as_slice())?;
-            push_plan(alloc, whole, &plan, words)
+            push_planned(alloc, whole, function, place, items.as_slice(), words)
         }
         VirtualWord::Drain(cycles) => {
             push_idles(alloc, whole, function, sum(place, 1)?, *cycles, words)?;
@@ -111,20 +149,16 @@ fn push_word(
             function: called,
             arguments,
             result: taken,
-        } => {
-            push_call(
-                alloc,
-                whole,
-                function,
-                place,
-                *called,
-                arguments.as_slice(),
-                words,
-            )?;
-            let back = words.len() as u32;
-            push_back(alloc, whole, function, place, *taken, words)?;
-            Ok(back)
-        }
+        } => push_called(
+            alloc,
+            whole,
+            function,
+            place,
+            *called,
+            arguments.as_slice(),
+            *taken,
+            words,
+        ),
         VirtualWord::Return(operand) => {
             push_return(alloc, whole, function, *operand, words)?;
             Ok(0)
@@ -137,7 +171,6 @@ fn push_word(
 }
 
 /// The words of a layout, one after the other.
-#[tactic(auto, using(crate::proofs::Emitting::emits_first, crate::proofs::Emitting::emits_next, crate::proofs::Emitting::emits_words, crate::proofs::Emitting::emits_starts, crate::proofs::Emitting::emits_marks))]
 fn push_laid(
     alloc: Global,
     whole: &Whole,
@@ -151,6 +184,27 @@ fn push_laid(
 {
     let mut starts = Listed::new(alloc);
     let mut marks = Listed::new(alloc);
+    note_laid(alloc, whole, function, laid, words, &mut starts, &mut marks)?;
+    Ok(LaidPlaces { starts, marks })
+}
+
+/// The same, where the places are noted in lists that hold none yet.
+#[tactic(auto, using(crate::proofs::Emitting::emits_words, crate::proofs::Emitting::emits_starts, crate::proofs::Emitting::emits_marks))]
+fn note_laid(
+    alloc: Global,
+    whole: &Whole,
+    function: u32,
+    laid: &[VirtualWord],
+    words: &mut Listed<Word>,
+    starts: &mut Listed<u32>,
+    marks: &mut Listed<u32>,
+) -> Result<(), NoMemory>
+    requires no_starts { starts.old ≡ [] }
+    requires no_marks { marks.old ≡ [] }
+    ensures words { IfOk result (λ _. words.new ≡ words.old ++ words_of (laid_pieces (seen whole.now) function 0 laid.now)) }
+    ensures starts { IfOk result (λ _. starts.new ≡ starts_from (seen whole.now) function (length words.old) 0 laid.now) }
+    ensures marks { IfOk result (λ _. marks.new ≡ marks_from (seen whole.now) function (length words.old) 0 laid.now) }
+{
     let mut place = 0;
     let mut rest = laid;
     'laid: loop {
@@ -158,7 +212,7 @@ fn push_laid(
         match rest.split_first() {
             None => {
                 starts.push(begin)?;
-                return Ok(LaidPlaces { starts, marks });
+                return Ok(());
             }
             Some((word, others)) => {
                 let mark = push_word(alloc, whole, function, place, word, words)?;

@@ -5,6 +5,7 @@ ghost use Rattle.std.specs.Prelude.{◌≡◌, ◌<◌, ◌++◌, ◌==◌, ℕ,
 ghost use Rattle.std.specs.List.{flat_map, list_any};
 ghost use Rattle.vx_mixed.specs.declared.layout.VirtualWord.{VirtualWord};
 ghost use Rattle.vx_mixed.specs.LaidSettled.{LeadsTo};
+ghost use Rattle.vx_regs.specs.Ways.{LivesAt};
 ghost use Rattle.vx_frame.specs.Framing.{SavesIn};
 ghost use Rattle.vx_frame.specs.Saves.{arrival, arrives, in_register, in_registers, is_result, saved_from, saved_round, survives, survivor};
 
@@ -196,9 +197,23 @@ pub(crate) fn saves_of(
     ensures { IfOk result (λ saves. SavesIn graph.now.parameters layout.now map.now saves.saved saves.brought) }
 {
     let living = living_of(alloc, layout)?;
+    saves_with(alloc, graph, layout, map, &living)
+}
+
+/// The same, where this is what is live.
+fn saves_with(
+    alloc: Global,
+    graph: &Graph,
+    layout: &VWords,
+    map: &RegMap,
+    living: &Living,
+) -> Result<Saves, NoMemory>
+    requires { LivesAt layout.now living.now }
+    ensures { IfOk result (λ saves. SavesIn graph.now.parameters layout.now map.now saves.saved saves.brought) }
+{
     let values = in_registers(alloc, map.values.as_slice())?;
-    let saved = saved(alloc, &living, values.as_slice(), layout.words.as_slice())?;
+    let saved = saved(alloc, living, values.as_slice(), layout.words.as_slice())?;
     let parameters = graph.parameters.as_slice();
-    let brought = brought(alloc, &living, layout.entry, parameters, values.as_slice())?;
+    let brought = brought(alloc, living, layout.entry, parameters, values.as_slice())?;
     Ok(Saves { saved, brought })
 }

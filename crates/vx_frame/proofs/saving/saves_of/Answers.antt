@@ -1,13 +1,5 @@
-use Rattle.std.proofs.Common.{ap, ◌∙◌}
-use Rattle.std.specs.List.{flat_map}
 use Rattle.vx_regs.proofs.WayLives.{lives_entered}
-use Rattle.vx_frame.specs.Saves.{arrival, saved_from}
-use Rattle.vx_frame.proofs.SavedLists.{saves_in}
 use Rattle.vx_frame.proofs.saving.saves_of.Goals as goal
 
-pub returns : goal.returns
-returns c =
-    let lives = lives_entered c.args.layout.now c.in_ok-living.living c.requires.inside c.requires.entry c.in_ok-living.ensures in
-    saves_in c.args.graph.now.parameters c.args.layout.now c.args.map.now c.in_ok-living.living c.in_ok-values.values c.as_slice.result.now c.as_slice-3.result.now c.as_slice-parameters.result.now c.in_ok-saved.saved c.in_ok-brought.brought lives c.as_slice.ensures c.as_slice-3.ensures c.as_slice-parameters.ensures c.in_ok-values.ensures
-    (c.in_ok-saved.ensures ∙ ap (λ x. saved_from c.in_ok-living.living x 0 c.as_slice-3.result.now) c.as_slice-2.ensures)
-    (c.in_ok-brought.ensures ∙ ap (flat_map (arrival c.in_ok-living.living c.args.layout.now.entry c.as_slice-parameters.result.now)) c.as_slice-4.ensures)
+pub saves_with-requires : goal.saves_with-requires
+saves_with-requires c = lives_entered c.args.layout.now c.in_ok-living.living c.requires.inside c.requires.entry c.in_ok-living.ensures

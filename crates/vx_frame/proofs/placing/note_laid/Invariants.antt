@@ -1,7 +1,7 @@
 use Rattle.std.proofs.Common.{length}
 use Rattle.vx_frame.specs.Seen.{seen}
 use Rattle.vx_frame.proofs.Emitting.{Emits}
-use Rattle.vx_frame.proofs.placing.push_laid.Given as goal
+use Rattle.vx_frame.proofs.placing.note_laid.Given as goal
 
 abbrev pub invariant-laid : goal.invariant-laid
 invariant-laid l = Emits (seen l.whole) l.function l.laid l.initial.words l.words l.starts l.marks l.place l.rest
