@@ -91,6 +91,14 @@ lands_next T f p all rest word first words more landings e w =
       landings_are = e.landings_are ∙ ap (λ i. landings ++ length words ∷ landings_from T f i (suc p) rest) (sym n) ∙ ap (λ i. landings ++ length words ∷ landings_from T f (length more) i rest) s ∙ sym (append_assoc landings (length words ∷ []) (landings_from T f (length more) (p + 1) rest));
     }
 
+-- one word more, as the steps of the loop give it
+pub lands_turn : (T : Target) (f p q begin : ℕ) (all left rest : List VirtualWord) (word : VirtualWord) (first words more : List Word) (landings new : List ℕ) → Lands T f all first words landings p left → left ≡ word ∷ rest → more ≡ words ++ words_of (word_landings T f p word) → begin ≡ length words → new ≡ landings ++ begin ∷ [] → q ≡ p + 1 → Lands T f all first more new q rest
+lands_turn T f p q begin all left rest word first words more landings new e l w b x z =
+    let here : Lands T f all first words landings p (word ∷ rest) = subst (λ ws. Lands T f all first words landings p ws) l e in
+    let next : Lands T f all first more (landings ++ length words ∷ []) (p + 1) rest = lands_next T f p all rest word first words more landings here w in
+    let by_landings : Lands T f all first more new (p + 1) rest = subst (λ xs. Lands T f all first more xs (p + 1) rest) (sym (x ∙ ap (λ n. landings ++ n ∷ []) b)) next in
+    subst (λ i. Lands T f all first more new i rest) (sym z) by_landings
+
 pub lands_words : (T : Target) (f p : ℕ) (all : List VirtualWord) (first words : List Word) (landings : List ℕ) → Lands T f all first words landings p [] → words ≡ first ++ words_of (landing_pieces T f 0 all)
 lands_words T f p all first words landings e = sym (append-nil words) ∙ sym e.words_are
 

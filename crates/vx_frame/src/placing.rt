@@ -251,7 +251,7 @@ fn push_word_landings(
 }
 
 /// The landings of a layout, one after the other; gives where those of each word begin.
-#[tactic(auto, using(crate::proofs::Emitting::lands_first, crate::proofs::Emitting::lands_next, crate::proofs::Emitting::lands_words, crate::proofs::Emitting::lands_landings))]
+#[tactic(auto, using(crate::proofs::Emitting::lands_first, crate::proofs::Emitting::lands_words, crate::proofs::Emitting::lands_landings))]
 fn push_landings(
     alloc: Global,
     whole: &Whole,
@@ -280,7 +280,6 @@ fn push_landings(
 }
 
 /// The words of a function: its entry, its layout and its landings.
-#[tactic(auto, using(crate::proofs::Emitting::function_words, crate::proofs::Emitting::places_are_at))]
 fn push_function(
     alloc: Global,
     whole: &Whole,
@@ -327,7 +326,6 @@ fn push_functions(
 }
 
 /// The words of a program of so many functions.
-#[tactic(auto, using(crate::proofs::Emitting::program_words, crate::proofs::Emitting::trap_is))]
 pub(crate) fn pieces_of(
     alloc: Global,
     whole: &Whole,
