@@ -1,10 +1,10 @@
 // The words of a whole program, one piece after the other, and where each piece begins. How many words a piece has does not
 // depend on places, so a first pass finds the places and a second one makes the words. specs/Placing.antt has the places.
 
-ghost use Rattle.std.specs.Prelude.{◌≡◌, ◌<◌, ◌≤◌, ◌++◌, ◌∷◌, ◌+◌, ◌-◌, ℕ, [], IfOk, if◌then◌else◌, length};
+ghost use Rattle.std.specs.Prelude.{◌≡◌, ◌<◌, ◌≤◌, ◌++◌, ◌+◌, ℕ, [], IfOk, length};
 ghost use Rattle.vx_mixed.specs.declared.layout.VirtualWord.TheVariants.{Call};
 ghost use Rattle.vx_mixed.specs.LaidSettled.{laid_reads};
-ghost use Rattle.vx_frame.specs.Target.{before, pause, plan_words, start_words, turns, turns_word, waits, word_words};
+ghost use Rattle.vx_frame.specs.Target.{before, idle_words, plan_words, start_words, turns, turns_word, word_words};
 ghost use Rattle.vx_frame.specs.Placed.{laid_pieces, word_landings, landing_pieces, function_pieces, functions_pieces, all_pieces, words_of, IsPlaced};
 ghost use Rattle.vx_frame.specs.Placing.{starts_from, landings_from, mark_of, marks_from, places_at, all_places, functions_begin, functions_end, at_spots, spots_of, standing, OneSplit};
 ghost use Rattle.vx_frame.specs.Seen.{seen};
@@ -64,17 +64,18 @@ fn turns_at(whole: &Whole, function: u32, place: u32) -> Result<bool, NoMemory>
     }
 }
 
-/// Empty cycles in front of a place of a layout; where a goto stands there, it is the last of them.
+/// Empty cycles at a place of a layout; where a goto stands behind them, it is the last of them.
 fn push_idles(
     alloc: Global,
     whole: &Whole,
     function: u32,
-    next: u32,
+    place: u32,
     cycles: u32,
     words: &mut Listed<Word>,
 ) -> Result<(), NoMemory>
-    ensures { IfOk result (λ _. words.new ≡ words.old ++ (if turns (seen whole.now) function next then pause (cycles - 1) else waits cycles ∷ [])) }
+    ensures { IfOk result (λ _. words.new ≡ words.old ++ idle_words (seen whole.now) function place cycles) }
 {
+    let next = sum(place, 1)?;
     if turns_at(whole, function, next)? {
         return push_pause(alloc, cycles.saturating_sub(1), words);
     }
@@ -134,7 +135,7 @@ fn push_word(
             push_planned(alloc, whole, function, place, items.as_slice(), words)
         }
         VirtualWord::Drain(cycles) => {
-            push_idles(alloc, whole, function, sum(place, 1)?, *cycles, words)?;
+            push_idles(alloc, whole, function, place, *cycles, words)?;
             Ok(0)
         }
         VirtualWord::Transfer(to) => {
