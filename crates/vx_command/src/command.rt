@@ -7,7 +7,9 @@ ghost use Rattle.vx_status.specs.Status.{Adds, Tells, status_line};
 ghost use Rattle.vx_command.specs.Asked.{compilation_of};
 ghost use Rattle.vx_command.specs.Command.{Compile, compile_app, compile_of, compile_unless};
 
-use crate::options::{file_command, growth_of, option_of, required_of, with_compiling_options};
+use crate::options::{
+    file_command, growth_of, option_of, required_of, with_compiling_options, with_word,
+};
 use clap::error::ErrorKind;
 use clap::{ArgMatches, Command, Error};
 use std::alloc::{AllocError, Global};
@@ -35,22 +37,26 @@ pub struct CompileWords<'a> {
 fn compile_command<'a>(alloc: Global) -> Result<Command<'a>, AllocError>
     ensures { IfOk result (λ command. app_of command ≡ compile_app) }
 {
-    with_compiling_options(
+    let command = file_command(
         alloc,
-        file_command(
+        "compile",
+        "Compiles a source, and replaces a file by its words",
+        "SRC",
+        "The file of the source",
+    );
+    let command = with_word(
+        command,
+        required_of(alloc, "OUT", "The file that the words go to"),
+    );
+    let command = with_compiling_options(alloc, command);
+    with_word(
+        command,
+        option_of(
             alloc,
-            "compile",
-            "Compiles a source, and replaces a file by its words",
-            "SRC",
-            "The file of the source",
-        )?
-        .arg(required_of(alloc, "OUT", "The file that the words go to"))?,
-    )?
-    .arg(option_of(
-        alloc,
-        "report",
-        "The file that the report of the plan goes to [default: none]",
-    ))
+            "report",
+            "The file that the report of the plan goes to [default: none]",
+        ),
+    )
 }
 
 /// The text at a word that has to be there.

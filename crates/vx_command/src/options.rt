@@ -1,7 +1,7 @@
 // The words and options of a command, each with its line of help, and how many operations may be copied.
 
 ghost use Rattle.std.specs.Prelude.{◌≡◌, ◌≤◌, ℕ, false, codes, Some, option_map, IfOk, IfSome, MatchOption};
-ghost use Rattle.clap.specs.Words.{app_of, rule_of};
+ghost use Rattle.clap.specs.Words.{App, Rule, app_of, rule_of, with_rule};
 ghost use Rattle.vx_command.specs.Command.{required_word, required_number, option_word, number_word, number_in, growth_word, growth_of, file_app, with_compiling_options};
 
 use clap::builder::ValueParser;
@@ -100,6 +100,20 @@ fn growth_option<'a>(alloc: Global) -> Arg<'a>
     )
 }
 
+/// A command, where there was memory for it, and behind its words this one.
+pub(crate) fn with_word<'a>(
+    command: Result<Command<'a>, AllocError>,
+    word: Arg<'a>,
+) -> Result<Command<'a>, AllocError>
+    requires { word.global ≡ false }
+    ensures { (app : App) (rule : Rule) → IfOk command.entry (λ made. app_of made ≡ app) → rule_of word.entry ≡ rule → IfOk result (λ whole. app_of whole ≡ with_rule app rule) }
+{
+    match command {
+        Ok(command) => command.arg(word),
+        Err(error) => Err(error),
+    }
+}
+
 /// `NAME FILE`, with what the command does and the line of help of the file.
 pub(crate) fn file_command<'a>(
     alloc: Global,
@@ -115,21 +129,23 @@ pub(crate) fn file_command<'a>(
         .arg(required_of(alloc, file, help))
 }
 
-/// The words of a command, and after them `[--profile P] [--machine M] [--growth G]`.
+/// The words of a command, where there was memory for it, and after them `[--profile P] [--machine M] [--growth G]`.
 pub(crate) fn with_compiling_options<'a>(
     alloc: Global,
-    command: Command<'a>,
+    command: Result<Command<'a>, AllocError>,
 ) -> Result<Command<'a>, AllocError>
-    ensures { IfOk result (λ whole. app_of whole ≡ with_compiling_options (app_of command.entry)) }
+    ensures { (app : App) → IfOk command.entry (λ made. app_of made ≡ app) → IfOk result (λ whole. app_of whole ≡ with_compiling_options app) }
 {
-    command
-        .arg(option_of(
+    let command = with_word(
+        command,
+        option_of(
             alloc,
             "profile",
             "The file of a profile, whose counts pick the traces [default: no counts]",
-        ))?
-        .arg(machine_option(alloc))?
-        .arg(growth_option(alloc))
+        ),
+    );
+    let command = with_word(command, machine_option(alloc));
+    with_word(command, growth_option(alloc))
 }
 
 /// A number from 0 to the most operations that may be copied.

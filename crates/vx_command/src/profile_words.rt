@@ -6,7 +6,7 @@ ghost use Rattle.vx_command.specs.Command.{Count, profile_app, profile_of, profi
 ghost use Rattle.vx_command.specs.Asked.{profiling_of};
 
 use crate::command::{Refused, found_in, text_at, without_text};
-use crate::options::{file_command, input_option, number_of};
+use crate::options::{file_command, input_option, number_of, with_word};
 use crate::run_words::{MOST_WORDS, budget_of};
 use clap::{ArgMatches, Command};
 use std::alloc::{AllocError, Global};
@@ -27,21 +27,24 @@ pub struct ProfileWords<'a> {
 fn profile_command<'a>(alloc: Global) -> Result<Command<'a>, AllocError>
     ensures { IfOk result (λ command. app_of command ≡ profile_app) }
 {
-    file_command(
+    let command = file_command(
         alloc,
         "profile",
         "Puts how often each block and edge of a source is passed",
         "SRC",
         "The file of the source",
-    )?
-    .arg(input_option(alloc))?
-    .arg(number_of(
-        alloc,
-        "blocks",
-        "How many blocks are run at most, from 1 to 1000000000000 [default: 1000000000]",
-        1,
-        MOST_WORDS,
-    ))
+    );
+    let command = with_word(command, input_option(alloc));
+    with_word(
+        command,
+        number_of(
+            alloc,
+            "blocks",
+            "How many blocks are run at most, from 1 to 1000000000000 [default: 1000000000]",
+            1,
+            MOST_WORDS,
+        ),
+    )
 }
 
 /// What was found in the words of `profile`, where the number of blocks is in its range.

@@ -1,14 +1,14 @@
 // The words of `sim` and of `exec`, as clap reads them.
 
 ghost use Rattle.std.specs.Prelude.{◌≡◌, ◌⊎◌, ◌≤◌, true, false, [], unwrap_or, Some, None, map, option_map, codes, IfOk, IfErr, MatchOption};
-ghost use Rattle.clap.specs.Words.{app_of, rows_of, first_value, found_of};
+ghost use Rattle.clap.specs.Words.{App, app_of, rows_of, first_value, found_of};
 ghost use Rattle.vx_command.specs.Command.{with_run_options, sim_app, exec_app, run_unless, Makes, Simulate, Execute, executes, sim_of, exec_of, exec_unless, budget_of};
 ghost use Rattle.vx_command.specs.Asked.{asks, simulation_of, execution_of};
 
 use crate::command::{Refused, found_in, text_at, without_text};
 use crate::options::{
     file_command, growth_of, input_option, machine_option, number_of, option_of,
-    with_compiling_options,
+    with_compiling_options, with_word,
 };
 use clap::{ArgMatches, Command};
 use std::alloc::{AllocError, Global};
@@ -46,65 +46,71 @@ pub(crate) const MOST_WORDS: u64 = 1000000000000;
 
 const DEFAULT_WORDS: u64 = 1000000000;
 
-/// The words of a command, and after them `[--input I] [--words N] [--timing T] [--probe B]`.
-fn with_run_options<'a>(alloc: Global, command: Command<'a>) -> Result<Command<'a>, AllocError>
-    ensures { IfOk result (λ whole. app_of whole ≡ with_run_options (app_of command.entry)) }
+/// The words of a command, where there was memory for it, and after them
+/// `[--input I] [--words N] [--timing T] [--probe B]`.
+fn with_run_options<'a>(
+    alloc: Global,
+    command: Result<Command<'a>, AllocError>,
+) -> Result<Command<'a>, AllocError>
+    ensures { (app : App) → IfOk command.entry (λ made. app_of made ≡ app) → IfOk result (λ whole. app_of whole ≡ with_run_options app) }
 {
-    command
-        .arg(input_option(alloc))?
-        .arg(number_of(
+    let command = with_word(command, input_option(alloc));
+    let command = with_word(
+        command,
+        number_of(
             alloc,
             "words",
             "How many words are run at most, from 1 to 1000000000000 [default: 1000000000]",
             1,
             MOST_WORDS,
-        ))?
-        .arg(option_of(
+        ),
+    );
+    let command = with_word(
+        command,
+        option_of(
             alloc,
             "timing",
             "When results land: late, early or cyclic [default: late]",
-        ))?
-        .arg(option_of(
+        ),
+    );
+    with_word(
+        command,
+        option_of(
             alloc,
             "probe",
             "Who reports at the end: units, words or all [default: none]",
-        ))
+        ),
+    )
 }
 
 /// `sim WORDS [--machine M]` with these options.
 fn sim_command<'a>(alloc: Global) -> Result<Command<'a>, AllocError>
     ensures { IfOk result (λ command. app_of command ≡ sim_app) }
 {
-    with_run_options(
+    let command = file_command(
         alloc,
-        file_command(
-            alloc,
-            "sim",
-            "Runs a text of words",
-            "WORDS",
-            "The file of the words",
-        )?
-        .arg(machine_option(alloc))?,
-    )
+        "sim",
+        "Runs a text of words",
+        "WORDS",
+        "The file of the words",
+    );
+    let command = with_word(command, machine_option(alloc));
+    with_run_options(alloc, command)
 }
 
 /// `exec SRC [--profile P] [--machine M] [--growth G]` with these options.
 fn exec_command<'a>(alloc: Global) -> Result<Command<'a>, AllocError>
     ensures { IfOk result (λ command. app_of command ≡ exec_app) }
 {
-    with_run_options(
+    let command = file_command(
         alloc,
-        with_compiling_options(
-            alloc,
-            file_command(
-                alloc,
-                "exec",
-                "Compiles a source and runs its words",
-                "SRC",
-                "The file of the source",
-            )?,
-        )?,
-    )
+        "exec",
+        "Compiles a source and runs its words",
+        "SRC",
+        "The file of the source",
+    );
+    let command = with_compiling_options(alloc, command);
+    with_run_options(alloc, command)
 }
 
 /// A number from 1 to the most words, or blocks.

@@ -7,7 +7,7 @@ ghost use Rattle.vx_command.specs.Command.{Soak, number_in, soak_app, soak_found
 ghost use Rattle.vx_command.specs.Asked.{soaking_of};
 
 use crate::command::{Refused, found_in, without_text};
-use crate::options::{number_or_least, required_number_of};
+use crate::options::{number_or_least, required_number_of, with_word};
 use crate::soaking::SoakWords;
 use clap::{ArgMatches, Command};
 use std::alloc::{AllocError, Global};
@@ -21,7 +21,7 @@ const MOST_SIZE: u64 = 10000;
 fn soak_command<'a>(alloc: Global) -> Result<Command<'a>, AllocError>
     ensures { IfOk result (λ command. app_of command ≡ soak_app) }
 {
-    Command::new(alloc, "soak")
+    let command = Command::new(alloc, "soak")
         .about("Makes a source, compiles and runs it, and puts one line of it")
         .arg(required_number_of(
             alloc,
@@ -29,14 +29,17 @@ fn soak_command<'a>(alloc: Global) -> Result<Command<'a>, AllocError>
             "Where the draws begin, from 0 to 1000000000",
             0,
             MOST_SEED,
-        ))?
-        .arg(required_number_of(
+        ));
+    with_word(
+        command,
+        required_number_of(
             alloc,
             "SIZE",
             "How many statements are made, from 1 to 10000",
             1,
             MOST_SIZE,
-        ))
+        ),
+    )
 }
 
 /// The size that was found, beside a seed.

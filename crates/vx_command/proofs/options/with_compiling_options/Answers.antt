@@ -1,14 +1,8 @@
 -- The options are those of the definition, one after the other.
-use Rattle.std.proofs.Common.{ap₂, ◌≡◌, ◌∙◌, refl}
-use Rattle.std.proofs.lemmas.Result.{IfOk-weaker}
-use Rattle.clap.specs.Words.{with_rule, app_of}
-use Rattle.vx_command.specs.Command.{with_compiling_options}
 use Rattle.vx_command.proofs.options.with_compiling_options.Goals as goal
 
 pub returns : goal.returns
-returns c =
-    let begun : app_of c.args.command ≡ app_of c.args.command = refl in
-    let first = c.in_ok-arg.ensures.shape c.option_of.ensures.local ∙ ap₂ with_rule begun c.option_of.ensures.rule in
-    let second = c.in_ok-arg-2.ensures.shape c.machine_option.ensures.local ∙ ap₂ with_rule first c.machine_option.ensures.rule in
-    IfOk-weaker c.arg-3.result _ (λ whole. app_of whole ≡ with_compiling_options (app_of c.args.command))
-    (λ whole added. added.shape c.growth_option.ensures.local ∙ ap₂ with_rule second c.growth_option.ensures.rule) c.arg-3.ensures
+returns c = λ app is.
+    let first = c.with_word-command.ensures _ _ is c.option_of.ensures.rule in
+    let second = c.with_word-command-2.ensures _ _ first c.machine_option.ensures.rule in
+    c.with_word.ensures _ _ second c.growth_option.ensures.rule

@@ -2,13 +2,14 @@
 use Rattle.std.proofs.Common.{ap, ap₂, ◌≡◌, ◌∙◌}
 use Rattle.std.proofs.lemmas.Result.{IfOk-weaker}
 use Rattle.clap.specs.Simple.{app_of_fields}
-use Rattle.clap.specs.Words.{with_rule, app_of}
-use Rattle.vx_command.specs.Command.{soak_app}
+use Rattle.clap.specs.Words.{new_app, with_rule, app_of}
+use Rattle.std.specs.Prelude.{codes}
+use Rattle.vx_command.specs.Command.{required_number, soak_app}
 use Rattle.vx_command.proofs.soak_words.soak_command.Goals as goal
 
 pub returns : goal.returns
 unfolding soak_app
 returns c =
-    let seed = c.in_ok-arg.ensures.shape c.required_number_of.ensures.local ∙ ap₂ with_rule (ap app_of_fields c.about.ensures ∙ c.new.ensures.app) c.required_number_of.ensures.rule in
-    IfOk-weaker c.arg-2.result _ (λ command. app_of command ≡ soak_app)
-    (λ command added. added.shape c.required_number_of-2.ensures.local ∙ ap₂ with_rule seed c.required_number_of-2.ensures.rule) c.arg-2.ensures
+    let seed = IfOk-weaker c.arg-command.result _ (λ made. app_of made ≡ with_rule (new_app (codes "soak")) (required_number (codes "SEED") 0 1000000000))
+    (λ made added. added.shape c.required_number_of.ensures.local ∙ ap₂ with_rule (ap app_of_fields c.about.ensures ∙ c.new.ensures.app) c.required_number_of.ensures.rule) c.arg-command.ensures in
+    c.with_word.ensures _ _ seed c.required_number_of-2.ensures.rule
