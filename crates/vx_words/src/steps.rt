@@ -88,8 +88,8 @@ pub fn is_same(text: &[u8], other: &[u8]) -> bool
 }
 
 #[tactic(auto, unfolding(crate::specs::Steps::version_step))]
-fn take_version(mut before: Before, text: &[u8]) -> Result<Before, LineFault>
-    ensures { Gives (λ x. x) result (version_step before text.now) }
+fn take_version(before: &mut Before, text: &[u8]) -> Result<(), LineFault>
+    ensures { Gives (λ _. before.new) result (version_step before.old text.now) }
 {
     if !is_at_start(before.stage) {
         return Err(LineFault::Code(5));
@@ -98,7 +98,7 @@ fn take_version(mut before: Before, text: &[u8]) -> Result<Before, LineFault>
         return Err(LineFault::Code(1));
     }
     before.stage = Stage::Version;
-    Ok(before)
+    Ok(())
 }
 
 // The value of digits: what is 2^32 or more keeps only that and what is left by a division by 4.
@@ -127,8 +127,8 @@ fn with_digit(value: u64, digit: u8) -> u64
 }
 
 #[tactic(auto, unfolding(crate::specs::Steps::memory_step))]
-fn take_memory(mut before: Before, digits: &[u8]) -> Result<Before, LineFault>
-    ensures { Gives (λ x. x) result (memory_step before digits.now) }
+fn take_memory(before: &mut Before, digits: &[u8]) -> Result<(), LineFault>
+    ensures { Gives (λ _. before.new) result (memory_step before.old digits.now) }
 {
     let at_version = is_at_version(before.stage);
     if !is_at_start(before.stage) && !at_version {
@@ -149,7 +149,7 @@ fn take_memory(mut before: Before, digits: &[u8]) -> Result<Before, LineFault>
     }
     before.stage = Stage::Memory;
     before.memory = size as u32;
-    Ok(before)
+    Ok(())
 }
 
 #[tactic(auto, unfolding(crate::specs::Steps::entry_at))]
@@ -180,16 +180,16 @@ fn is_start_text(alloc: Global, entry: (u32, i32), text: &[u8]) -> Result<bool, 
 }
 
 #[tactic(auto, unfolding(crate::specs::Steps::start_step))]
-fn take_start(alloc: Global, mut before: Before, text: &[u8]) -> Result<Before, LineFault>
-    ensures { Gives (λ x. x) result (start_step before text.now) }
+fn take_start(alloc: Global, before: &mut Before, text: &[u8]) -> Result<(), LineFault>
+    ensures { Gives (λ _. before.new) result (start_step before.old text.now) }
 {
     let entry = entry_of(text);
-    if !fits_start(&before, entry) || !is_start_text(alloc, entry, text)? {
+    if !fits_start(before, entry) || !is_start_text(alloc, entry, text)? {
         return Err(LineFault::Code(1));
     }
     before.start.push(entry)?;
     before.least = entry.0 + 1;
-    Ok(before)
+    Ok(())
 }
 
 fn is_quoted(alloc: Global, bytes: &Bytes, text: &[u8]) -> Result<bool, NoMemory>
@@ -201,8 +201,8 @@ fn is_quoted(alloc: Global, bytes: &Bytes, text: &[u8]) -> Result<bool, NoMemory
 }
 
 #[tactic(auto, unfolding(crate::specs::Steps::text_step))]
-fn take_text(alloc: Global, mut before: Before, text: &[u8]) -> Result<Before, LineFault>
-    ensures { Gives (λ x. x) result (text_step before text.now) }
+fn take_text(alloc: Global, before: &mut Before, text: &[u8]) -> Result<(), LineFault>
+    ensures { Gives (λ _. before.new) result (text_step before.old text.now) }
 {
     let bytes = text_of_line(alloc, text)?;
     if !is_at_texts(before.stage) || !is_quoted(alloc, &bytes, text)? {
@@ -210,7 +210,7 @@ fn take_text(alloc: Global, mut before: Before, text: &[u8]) -> Result<Before, L
     }
     before.stage = Stage::Texts;
     before.texts.push(bytes)?;
-    Ok(before)
+    Ok(())
 }
 
 fn is_label_before(marks: &[bool], before: &Before, place: u32) -> bool
@@ -225,10 +225,10 @@ fn is_label_before(marks: &[bool], before: &Before, place: u32) -> bool
 }
 
 #[tactic(auto, unfolding(crate::specs::Steps::label_by))]
-fn take_place(marks: &[bool], mut before: Before, place: u32) -> Result<Before, LineFault>
-    ensures { Gives (λ x. x) result (label_by marks.now before place) }
+fn take_place(marks: &[bool], before: &mut Before, place: u32) -> Result<(), LineFault>
+    ensures { Gives (λ _. before.new) result (label_by marks.now before.old place) }
 {
-    if is_label_before(marks, &before, place) {
+    if is_label_before(marks, before, place) {
         return Err(LineFault::Code(5));
     }
     let here = before.words.len();
@@ -236,7 +236,7 @@ fn take_place(marks: &[bool], mut before: Before, place: u32) -> Result<Before, 
         return Err(LineFault::Code(1));
     }
     before.stage = Stage::Label;
-    Ok(before)
+    Ok(())
 }
 
 fn is_place_text(alloc: Global, place: u32, text: &[u8]) -> Result<bool, NoMemory>
@@ -251,10 +251,10 @@ fn is_place_text(alloc: Global, place: u32, text: &[u8]) -> Result<bool, NoMemor
 fn take_label(
     alloc: Global,
     marks: &[bool],
-    before: Before,
+    before: &mut Before,
     text: &[u8],
-) -> Result<Before, LineFault>
-    ensures { Gives (λ x. x) result (label_step marks.now before text.now) }
+) -> Result<(), LineFault>
+    ensures { Gives (λ _. before.new) result (label_step marks.now before.old text.now) }
 {
     let (place, _) = number(skip(text, 1));
     if is_place_text(alloc, place, text)? {
@@ -276,13 +276,13 @@ fn is_idle_text(alloc: Global, cycles: u32, text: &[u8]) -> Result<bool, NoMemor
 fn take_idle(
     alloc: Global,
     marks: &[bool],
-    mut before: Before,
+    before: &mut Before,
     text: &[u8],
-) -> Result<Before, LineFault>
-    ensures { Gives (λ x. x) result (idle_step marks.now before text.now) }
+) -> Result<(), LineFault>
+    ensures { Gives (λ _. before.new) result (idle_step marks.now before.old text.now) }
 {
     let (cycles, _) = number(skip(text, 5));
-    if !word_begins(marks, &before)
+    if !word_begins(marks, before)
         || cycles < 1
         || cycles > 255
         || !is_idle_text(alloc, cycles, text)?
@@ -291,17 +291,14 @@ fn take_idle(
     }
     before.stage = Stage::Idle;
     before.idle = cycles;
-    Ok(before)
+    Ok(())
 }
 
 #[tactic(auto, unfolding(crate::specs::Steps::word_end_step))]
-fn take_word_end(alloc: Global, marks: &[bool], mut before: Before) -> Result<Before, LineFault>
-    ensures { Gives (λ x. x) result (word_end_step marks.now before) }
+fn take_word_end(alloc: Global, marks: &[bool], before: &mut Before) -> Result<(), LineFault>
+    ensures { Gives (λ _. before.new) result (word_end_step marks.now before.old) }
 {
-    if !word_begins(marks, &before)
-        && !is_at_operations(before.stage)
-        && !is_at_idle(before.stage)
-    {
+    if !word_begins(marks, before) && !is_at_operations(before.stage) && !is_at_idle(before.stage) {
         return Err(LineFault::Code(1));
     }
     let ops = std::mem::replace(&mut before.ops, Listed::new(alloc));
@@ -311,7 +308,7 @@ fn take_word_end(alloc: Global, marks: &[bool], mut before: Before) -> Result<Be
     })?;
     before.stage = Stage::WordEnd;
     before.idle = 0;
-    Ok(before)
+    Ok(())
 }
 
 fn is_beyond_words(total: usize, operation: Operation) -> bool
@@ -352,18 +349,18 @@ fn operation_fault(
 fn add_operation(
     marks: &[bool],
     total: usize,
-    mut before: Before,
+    before: &mut Before,
     cluster: u32,
     operation: Operation,
-) -> Result<Before, LineFault>
-    ensures { Gives (λ x. x) result (operation_by_stage marks.now total before cluster operation) }
+) -> Result<(), LineFault>
+    ensures { Gives (λ _. before.new) result (operation_by_stage marks.now total before.old cluster operation) }
 {
-    if let Some(code) = operation_fault(marks, total, &before, cluster, operation) {
+    if let Some(code) = operation_fault(marks, total, before, cluster, operation) {
         return Err(LineFault::Code(code));
     }
     before.stage = Stage::Operations;
     before.ops.push(operation)?;
-    Ok(before)
+    Ok(())
 }
 
 #[tactic(auto, unfolding(crate::specs::Steps::operation_step))]
@@ -371,11 +368,11 @@ fn take_operation(
     alloc: Global,
     marks: &[bool],
     total: usize,
-    before: Before,
+    before: &mut Before,
     cluster: u32,
     text: &[u8],
-) -> Result<Before, LineFault>
-    ensures { Gives (λ x. x) result (operation_step marks.now total before cluster text.now) }
+) -> Result<(), LineFault>
+    ensures { Gives (λ _. before.new) result (operation_step marks.now total before.old cluster text.now) }
 {
     let operation = read_operation(alloc, cluster, text)?;
     add_operation(marks, total, before, cluster, operation)
@@ -393,16 +390,16 @@ pub fn cluster_of_line(text: &[u8]) -> Option<u32>
     }
 }
 
-/// What stood before the next line, or the code of this line's fault.
+// Takes one line into what stood before it, or gives the code of its fault.
 #[tactic(auto, unfolding(crate::specs::Steps::step))]
-pub fn take_line(
+fn take(
     alloc: Global,
     marks: &[bool],
     total: usize,
-    before: Before,
+    before: &mut Before,
     text: &[u8],
-) -> Result<Before, LineFault>
-    ensures { Gives (λ x. x) result (step marks.now total before text.now) }
+) -> Result<(), LineFault>
+    ensures { Gives (λ _. before.new) result (step marks.now total before.old text.now) }
 {
     if let Some(cluster) = cluster_of_line(text) {
         return take_operation(alloc, marks, total, before, cluster, skip(text, 3));
@@ -424,4 +421,19 @@ pub fn take_line(
     } else {
         take_label(alloc, marks, before, text)
     }
+}
+
+/// What stood before the next line, or the code of this line's fault.
+pub fn take_line(
+    alloc: Global,
+    marks: &[bool],
+    total: usize,
+    before: Before,
+    text: &[u8],
+) -> Result<Before, LineFault>
+    ensures { Gives (λ x. x) result (step marks.now total before text.now) }
+{
+    let mut before = before;
+    take(alloc, marks, total, &mut before, text)?;
+    Ok(before)
 }
