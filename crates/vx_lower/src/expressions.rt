@@ -161,14 +161,8 @@ pub fn emit_value(
     ensures fits { IfOk result (λ o. EmitsWell (tree_of e.now) dest o b.old b.new) }
 {
     match e {
-        Expression::Number(n) => {
-            let r = deliver(b, alloc, Operand::Number(*n), dest)?;
-            Ok(r)
-        }
-        Expression::Scalar(x) => {
-            let r = deliver(b, alloc, Operand::Held(*x), dest)?;
-            Ok(r)
-        }
+        Expression::Number(n) => deliver(b, alloc, Operand::Number(*n), dest),
+        Expression::Scalar(x) => deliver(b, alloc, Operand::Held(*x), dest),
         Expression::Global(array) => {
             let t = load(b, alloc, *array, Operand::Number(0), dest)?;
             Ok(Operand::Held(t))
@@ -410,11 +404,7 @@ pub fn emit_test(
                 let yes = b.turn(no);
                 Ok(yes)
             }
-            _ => {
-                let o = emit_value(b, alloc, words, e, None)?;
-                let no = truth(b, alloc, o)?;
-                Ok(no)
-            }
+            _ => test_value(b, alloc, words, e),
         },
         Expression::Binary(operator, x, y) => match comparison(*operator) {
             Some(compare) => {
@@ -423,11 +413,7 @@ pub fn emit_test(
                 let no = compared(b, alloc, compare, left, right)?;
                 Ok(no)
             }
-            None => {
-                let o = emit_value(b, alloc, words, e, None)?;
-                let no = truth(b, alloc, o)?;
-                Ok(no)
-            }
+            None => test_value(b, alloc, words, e),
         },
         Expression::Both(x, y) => {
             let first = emit_test(b, alloc, words, x)?;
@@ -442,12 +428,24 @@ pub fn emit_test(
             b.close(alloc, Exit::Goto(yes), yes);
             Ok(no)
         }
-        _ => {
-            let o = emit_value(b, alloc, words, e, None)?;
-            let no = truth(b, alloc, o)?;
-            Ok(no)
-        }
+        _ => test_value(b, alloc, words, e),
     }
+}
+
+/// The test of the value of an expression.
+#[cycle(values)]
+fn test_value(
+    b: &mut Builder,
+    alloc: Global,
+    words: &Sizes,
+    e: &Expression,
+) -> Result<BlockId, NoMemory>
+    ensures code { IfOk result (λ n. Ready b.old → EmitsTest words.now (tree_of e.now) n b.old b.new) }
+    ensures fits { IfOk result (λ n. TestsWell (tree_of e.now) n b.old b.new) }
+{
+    let o = emit_value(b, alloc, words, e, None)?;
+    let no = truth(b, alloc, o)?;
+    Ok(no)
 }
 
 /// The code of a row of arguments, and where their values are.

@@ -355,26 +355,18 @@ pub fn emit_statement(
 {
     match s {
         Statement::Empty => Ok(()),
-        Statement::Block(all) => {
-            emit_all(b, alloc, words, texts, all.as_slice(), leaves, again)?;
-            Ok(())
-        }
-        Statement::Declaration(items) => {
-            emit_items(b, alloc, words, items.as_slice())?;
-            Ok(())
-        }
-        Statement::Simple(action) => {
-            emit_action(b, alloc, words, action)?;
-            Ok(())
-        }
-        Statement::Print(format, all) => {
-            emit_print(b, alloc, words, texts, format.as_slice(), all.as_slice())?;
-            Ok(())
-        }
-        Statement::If(e, one) => {
-            emit_if(b, alloc, words, texts, one, e, leaves, again)?;
-            Ok(())
-        }
+        Statement::Block(all) => emit_all(b, alloc, words, texts, all.as_slice(), leaves, again),
+        Statement::Declaration(items) => emit_items(b, alloc, words, items.as_slice()),
+        Statement::Simple(action) => emit_action(b, alloc, words, action),
+        Statement::Print(format, all) => emit_print(
+            b,
+            alloc,
+            words,
+            texts,
+            format.as_slice(),
+            all.as_slice(),
+        ),
+        Statement::If(e, one) => emit_if(b, alloc, words, texts, one, e, leaves, again),
         Statement::IfElse(e, one, two) => {
             let no = emit_test(b, alloc, words, e)?;
             emit_statement(b, alloc, words, texts, one, leaves, again)?;
@@ -383,34 +375,15 @@ pub fn emit_statement(
             b.close(alloc, Exit::Goto(both), both);
             Ok(())
         }
-        Statement::While(e, body) => {
-            emit_while(b, alloc, words, texts, body, e)?;
-            Ok(())
-        }
-        Statement::DoWhile(body, e) => {
-            emit_do_while(b, alloc, words, texts, body, e)?;
-            Ok(())
-        }
-        Statement::For(first, test, step, body) => {
-            emit_for(b, alloc, words, texts, body, first, test, step)?;
-            Ok(())
-        }
-        Statement::Break => {
-            end_with(b, alloc, way(leaves))?;
-            Ok(())
-        }
-        Statement::Continue => {
-            end_with(b, alloc, way(again))?;
-            Ok(())
-        }
-        Statement::Return => {
-            end_with(b, alloc, Exit::Return(Operand::Number(0)))?;
-            Ok(())
-        }
-        Statement::ReturnValue(e) => {
-            emit_return(b, alloc, words, e)?;
-            Ok(())
-        }
+        Statement::While(e, body) => emit_while(b, alloc, words, texts, body, e),
+        Statement::DoWhile(body, e) => emit_do_while(b, alloc, words, texts, body, e),
+        Statement::For(first, test, step, body) => emit_for(
+            b, alloc, words, texts, body, first, test, step,
+        ),
+        Statement::Break => end_with(b, alloc, way(leaves)),
+        Statement::Continue => end_with(b, alloc, way(again)),
+        Statement::Return => end_with(b, alloc, Exit::Return(Operand::Number(0))),
+        Statement::ReturnValue(e) => emit_return(b, alloc, words, e),
     }
 }
 

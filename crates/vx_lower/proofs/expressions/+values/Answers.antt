@@ -20,29 +20,31 @@ map_ok : {A E : Type 0} {P Q : A → Type 0} (r : Result A E) → ((a : A) → P
 map_ok (Ok a) f h = f a h
 map_ok (Err e) f h = tt
 
-pub emit_value-returns-in_ok-r-in-Number-clause-code : goal.emit_value-returns-in_ok-r-in-Number-clause-code
-emit_value-returns-in_ok-r-in-Number-clause-code t c =
+pub emit_value-returns-in-Number-clause-code : goal.emit_value-returns-in-Number-clause-code
+emit_value-returns-in-Number-clause-code t c =
     let f : FitsSigned w32 c.in-Number.n = search rules in
-    let d = subst (λ z. Ready c.args.b.now → Delivers c.args.dest (Number z) c.in_ok-r-in-Number.r c.args.b.now c.deliver.new.b) (to_z-of_z w32 c.in-Number.n f) c.in_ok-r-in-Number.ensures.code in
-    emits_as c.args.words.now c.args.dest c.in_ok-r-in-Number.r c.args.b.now c.deliver.new.b (Literal c.in-Number.n) (tree_of c.args.e.now) (ap tree_of (sym c.in-Number.is))
-    (emits_operand c.args.words.now (Literal c.in-Number.n) c.args.dest (Number c.in-Number.n) c.in_ok-r-in-Number.r c.args.b.now c.deliver.new.b (λ B m. literal) (λ is. tt) d)
+    map_ok c.deliver.result (λ r h.
+    let d = subst (λ z. Ready c.args.b.now → Delivers c.args.dest (Number z) r c.args.b.now c.deliver.new.b) (to_z-of_z w32 c.in-Number.n f) h in
+    emits_as c.args.words.now c.args.dest r c.args.b.now c.deliver.new.b (Literal c.in-Number.n) (tree_of c.args.e.now) (ap tree_of (sym c.in-Number.is))
+    (emits_operand c.args.words.now (Literal c.in-Number.n) c.args.dest (Number c.in-Number.n) r c.args.b.now c.deliver.new.b (λ B m. literal) (λ is. tt) d)) c.deliver.ensures.code
 
-pub emit_value-returns-in_ok-r-in-Number-clause-fits : goal.emit_value-returns-in_ok-r-in-Number-clause-fits
-emit_value-returns-in_ok-r-in-Number-clause-fits t c =
+pub emit_value-returns-in-Number-clause-fits : goal.emit_value-returns-in-Number-clause-fits
+emit_value-returns-in-Number-clause-fits t c =
     let f : FitsSigned w32 c.in-Number.n = search rules in
-    let d = subst (λ z. Delivered c.args.dest (Number z) c.in_ok-r-in-Number.r c.args.b.now c.deliver.new.b) (to_z-of_z w32 c.in-Number.n f) c.in_ok-r-in-Number.ensures.steps in
-    well_as c.args.dest c.in_ok-r-in-Number.r c.args.b.now c.deliver.new.b (Literal c.in-Number.n) (tree_of c.args.e.now) (ap tree_of (sym c.in-Number.is))
-    (operand_well (Literal c.in-Number.n) c.args.dest (Number c.in-Number.n) c.in_ok-r-in-Number.r c.args.b.now c.deliver.new.b (λ k texts roles f is. tt) refl d)
+    map_ok c.deliver.result (λ r h.
+    let d = subst (λ z. Delivered c.args.dest (Number z) r c.args.b.now c.deliver.new.b) (to_z-of_z w32 c.in-Number.n f) h in
+    well_as c.args.dest r c.args.b.now c.deliver.new.b (Literal c.in-Number.n) (tree_of c.args.e.now) (ap tree_of (sym c.in-Number.is))
+    (operand_well (Literal c.in-Number.n) c.args.dest (Number c.in-Number.n) r c.args.b.now c.deliver.new.b (λ k texts roles f is. tt) refl d)) c.deliver.ensures.steps
 
-pub emit_value-returns-in_ok-r-in-Scalar-clause-code : goal.emit_value-returns-in_ok-r-in-Scalar-clause-code
-emit_value-returns-in_ok-r-in-Scalar-clause-code t c =
-    emits_as c.args.words.now c.args.dest c.in_ok-r-in-Scalar.r c.args.b.now c.deliver-in-Scalar.new.b (Local c.in-Scalar.x) (tree_of c.args.e.now) (ap tree_of (sym c.in-Scalar.is))
-    (emits_operand c.args.words.now (Local c.in-Scalar.x) c.args.dest (Held c.in-Scalar.x) c.in_ok-r-in-Scalar.r c.args.b.now c.deliver-in-Scalar.new.b (λ B m. local) (λ is. is) c.in_ok-r-in-Scalar.ensures.code)
+pub emit_value-returns-in-Scalar-clause-code : goal.emit_value-returns-in-Scalar-clause-code
+emit_value-returns-in-Scalar-clause-code t c =
+    map_ok c.deliver-in-Scalar.result (λ r d. emits_as c.args.words.now c.args.dest r c.args.b.now c.deliver-in-Scalar.new.b (Local c.in-Scalar.x) (tree_of c.args.e.now) (ap tree_of (sym c.in-Scalar.is))
+    (emits_operand c.args.words.now (Local c.in-Scalar.x) c.args.dest (Held c.in-Scalar.x) r c.args.b.now c.deliver-in-Scalar.new.b (λ B m. local) (λ is. is) d)) c.deliver-in-Scalar.ensures.code
 
-pub emit_value-returns-in_ok-r-in-Scalar-clause-fits : goal.emit_value-returns-in_ok-r-in-Scalar-clause-fits
-emit_value-returns-in_ok-r-in-Scalar-clause-fits t c =
-    well_as c.args.dest c.in_ok-r-in-Scalar.r c.args.b.now c.deliver-in-Scalar.new.b (Local c.in-Scalar.x) (tree_of c.args.e.now) (ap tree_of (sym c.in-Scalar.is))
-    (operand_well (Local c.in-Scalar.x) c.args.dest (Held c.in-Scalar.x) c.in_ok-r-in-Scalar.r c.args.b.now c.deliver-in-Scalar.new.b (λ k texts roles f is. f.scalars c.in-Scalar.x is) refl c.in_ok-r-in-Scalar.ensures.steps)
+pub emit_value-returns-in-Scalar-clause-fits : goal.emit_value-returns-in-Scalar-clause-fits
+emit_value-returns-in-Scalar-clause-fits t c =
+    map_ok c.deliver-in-Scalar.result (λ r d. well_as c.args.dest r c.args.b.now c.deliver-in-Scalar.new.b (Local c.in-Scalar.x) (tree_of c.args.e.now) (ap tree_of (sym c.in-Scalar.is))
+    (operand_well (Local c.in-Scalar.x) c.args.dest (Held c.in-Scalar.x) r c.args.b.now c.deliver-in-Scalar.new.b (λ k texts roles f is. f.scalars c.in-Scalar.x is) refl d)) c.deliver-in-Scalar.ensures.steps
 
 pub emit_value-returns-in_ok-t-in-Global-clause-code : goal.emit_value-returns-in_ok-t-in-Global-clause-code
 emit_value-returns-in_ok-t-in-Global-clause-code t c =
@@ -188,31 +190,15 @@ emit_test-returns-in_ok-no-in-Not-clause-fits t c =
     tests_well_as c.turn-yes.result c.args.b.now c.turn-yes.new.self (Unary Not (tree_of c.deref.result.now)) (tree_of c.args.e.now) (ap (λ z. Unary Not (tree_of z)) c.deref.ensures ∙ ap (λ z. Unary z (tree_of c.in-Unary.x.value)) (sym c.in-Not.is) ∙ ap tree_of (sym c.in-Unary.is))
     (not_tested c.in_ok-no-in-Not.no c.turn-yes.result (tree_of c.deref.result.now) c.args.b.now c.emit_test.new.b c.turn-yes.new.self c.in_ok-no-in-Not.ensures.fits c.turn-yes.ensures)
 
-pub emit_test-returns-in_ok-no-in_default-operator-clause-code : goal.emit_test-returns-in_ok-no-in_default-operator-clause-code
-emit_test-returns-in_ok-no-in_default-operator-clause-code t c =
-    tests_value c.args.words.now c.in_ok-no-in_default-operator.no (tree_of c.args.e.now) c.in_ok-o-in_default-operator.o c.args.b.now c.emit_value.new.b c.truth.new.b c.in_ok-o-in_default-operator.ensures.code c.in_ok-no-in_default-operator.ensures.code
-
-pub emit_test-returns-in_ok-no-in_default-operator-clause-fits : goal.emit_test-returns-in_ok-no-in_default-operator-clause-fits
-emit_test-returns-in_ok-no-in_default-operator-clause-fits t c =
-    value_tested c.in_ok-no-in_default-operator.no (tree_of c.args.e.now) c.in_ok-o-in_default-operator.o c.args.b.now c.emit_value.new.b c.truth.new.b c.in_ok-o-in_default-operator.ensures.fits c.in_ok-no-in_default-operator.ensures.steps
-
 pub emit_test-returns-in_ok-no-in-Some-clause-code : goal.emit_test-returns-in_ok-no-in-Some-clause-code
 emit_test-returns-in_ok-no-in-Some-clause-code t c =
     tests_as c.args.words.now c.in_ok-no-in-Some.no c.args.b.now c.compared.new.b (Binary c.in-Binary.operator (tree_of c.deref-in-Some.result.now) (tree_of c.deref-in-Some-2.result.now)) (tree_of c.args.e.now) (ap (λ z. Binary c.in-Binary.operator (tree_of z) (tree_of c.deref-in-Some-2.result.now)) c.deref-in-Some.ensures ∙ ap (λ z. Binary c.in-Binary.operator (tree_of c.in-Binary.x.value) (tree_of z)) c.deref-in-Some-2.ensures ∙ ap tree_of (sym c.in-Binary.is))
-    (tests_compare c.args.words.now c.in-Binary.operator c.in-Some.compare c.in_ok-no-in-Some.no (tree_of c.deref-in-Some.result.now) (tree_of c.deref-in-Some-2.result.now) c.in_ok-left-in-Some.left c.in_ok-right-in-Some.right c.args.b.now c.emit_value-in-Some.new.b c.emit_value-in-Some-2.new.b c.compared.new.b (sym c.comparison.ensures ∙ c.in-Some.is) c.in_ok-left-in-Some.ensures.code c.in_ok-right-in-Some.ensures.code c.in_ok-no-in-Some.ensures.code)
+    (tests_compare c.args.words.now c.in-Binary.operator c.in-Some.compare c.in_ok-no-in-Some.no (tree_of c.deref-in-Some.result.now) (tree_of c.deref-in-Some-2.result.now) c.in_ok-left-in-Some.left c.in_ok-right-in-Some.right c.args.b.now c.emit_value.new.b c.emit_value-in-Some.new.b c.compared.new.b (sym c.comparison.ensures ∙ c.in-Some.is) c.in_ok-left-in-Some.ensures.code c.in_ok-right-in-Some.ensures.code c.in_ok-no-in-Some.ensures.code)
 
 pub emit_test-returns-in_ok-no-in-Some-clause-fits : goal.emit_test-returns-in_ok-no-in-Some-clause-fits
 emit_test-returns-in_ok-no-in-Some-clause-fits t c =
     tests_well_as c.in_ok-no-in-Some.no c.args.b.now c.compared.new.b (Binary c.in-Binary.operator (tree_of c.deref-in-Some.result.now) (tree_of c.deref-in-Some-2.result.now)) (tree_of c.args.e.now) (ap (λ z. Binary c.in-Binary.operator (tree_of z) (tree_of c.deref-in-Some-2.result.now)) c.deref-in-Some.ensures ∙ ap (λ z. Binary c.in-Binary.operator (tree_of c.in-Binary.x.value) (tree_of z)) c.deref-in-Some-2.ensures ∙ ap tree_of (sym c.in-Binary.is))
-    (compare_tested c.in-Binary.operator c.in-Some.compare c.in_ok-no-in-Some.no (tree_of c.deref-in-Some.result.now) (tree_of c.deref-in-Some-2.result.now) c.in_ok-left-in-Some.left c.in_ok-right-in-Some.right c.args.b.now c.emit_value-in-Some.new.b c.emit_value-in-Some-2.new.b c.compared.new.b c.in_ok-left-in-Some.ensures.fits c.in_ok-right-in-Some.ensures.fits c.in_ok-no-in-Some.ensures.steps)
-
-pub emit_test-returns-in_ok-no-in-None-clause-code : goal.emit_test-returns-in_ok-no-in-None-clause-code
-emit_test-returns-in_ok-no-in-None-clause-code t c =
-    tests_value c.args.words.now c.in_ok-no-in-None.no (tree_of c.args.e.now) c.in_ok-o-in-None.o c.args.b.now c.emit_value-in-None.new.b c.truth-in-None.new.b c.in_ok-o-in-None.ensures.code c.in_ok-no-in-None.ensures.code
-
-pub emit_test-returns-in_ok-no-in-None-clause-fits : goal.emit_test-returns-in_ok-no-in-None-clause-fits
-emit_test-returns-in_ok-no-in-None-clause-fits t c =
-    value_tested c.in_ok-no-in-None.no (tree_of c.args.e.now) c.in_ok-o-in-None.o c.args.b.now c.emit_value-in-None.new.b c.truth-in-None.new.b c.in_ok-o-in-None.ensures.fits c.in_ok-no-in-None.ensures.steps
+    (compare_tested c.in-Binary.operator c.in-Some.compare c.in_ok-no-in-Some.no (tree_of c.deref-in-Some.result.now) (tree_of c.deref-in-Some-2.result.now) c.in_ok-left-in-Some.left c.in_ok-right-in-Some.right c.args.b.now c.emit_value.new.b c.emit_value-in-Some.new.b c.compared.new.b c.in_ok-left-in-Some.ensures.fits c.in_ok-right-in-Some.ensures.fits c.in_ok-no-in-Some.ensures.steps)
 
 pub emit_test-returns-in_ok-no-in-Both-clause-code : goal.emit_test-returns-in_ok-no-in-Both-clause-code
 emit_test-returns-in_ok-no-in-Both-clause-code t c =
@@ -234,13 +220,13 @@ emit_test-returns-in_ok-no-in-Either-clause-fits t c =
     tests_well_as c.in_ok-no-in-Either.no c.args.b.now c.close.new.self (Either (tree_of c.deref-in-Either.result.now) (tree_of c.deref-in-Either-2.result.now)) (tree_of c.args.e.now) (ap (λ z. Either (tree_of z) (tree_of c.deref-in-Either-2.result.now)) c.deref-in-Either.ensures ∙ ap (λ z. Either (tree_of c.in-Either.x.value) (tree_of z)) c.deref-in-Either-2.ensures ∙ ap tree_of (sym c.in-Either.is))
     (either_asked c.in_ok-first-in-Either.first c.in_ok-no-in-Either.no c.in_ok-yes-in-Either.yes (tree_of c.deref-in-Either.result.now) (tree_of c.deref-in-Either-2.result.now) c.args.b.now c.emit_test-in-Either.new.b c.join.new.b c.emit_test-in-Either-2.new.b c.close.new.self c.in_ok-first-in-Either.ensures.fits c.in_ok-yes-in-Either.ensures c.in_ok-no-in-Either.ensures.fits c.close.ensures)
 
-pub emit_test-returns-in_ok-no-in_default-clause-code : goal.emit_test-returns-in_ok-no-in_default-clause-code
-emit_test-returns-in_ok-no-in_default-clause-code t c =
-    tests_value c.args.words.now c.in_ok-no-in_default.no (tree_of c.args.e.now) c.in_ok-o-in_default.o c.args.b.now c.emit_value-in_default.new.b c.truth-in_default.new.b c.in_ok-o-in_default.ensures.code c.in_ok-no-in_default.ensures.code
+pub test_value-returns-clause-code : goal.test_value-returns-clause-code
+test_value-returns-clause-code t c =
+    tests_value c.args.words.now c.in_ok-no.no (tree_of c.args.e.now) c.in_ok-o.o c.args.b.now c.emit_value.new.b c.truth.new.b c.in_ok-o.ensures.code c.in_ok-no.ensures.code
 
-pub emit_test-returns-in_ok-no-in_default-clause-fits : goal.emit_test-returns-in_ok-no-in_default-clause-fits
-emit_test-returns-in_ok-no-in_default-clause-fits t c =
-    value_tested c.in_ok-no-in_default.no (tree_of c.args.e.now) c.in_ok-o-in_default.o c.args.b.now c.emit_value-in_default.new.b c.truth-in_default.new.b c.in_ok-o-in_default.ensures.fits c.in_ok-no-in_default.ensures.steps
+pub test_value-returns-clause-fits : goal.test_value-returns-clause-fits
+test_value-returns-clause-fits t c =
+    value_tested c.in_ok-no.no (tree_of c.args.e.now) c.in_ok-o.o c.args.b.now c.emit_value.new.b c.truth.new.b c.in_ok-o.ensures.fits c.in_ok-no.ensures.steps
 
 pub emit_row-loop-e-init : goal.emit_row-loop-e-init
 emit_row-loop-e-init t c = (
