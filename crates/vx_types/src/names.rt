@@ -108,23 +108,24 @@ fn first_table(alloc: Global, names: &[FileName]) -> Result<Table, NoMemory>
     Ok(table)
 }
 
-// One more definition stands above: its name is known from now on, unless it stood already above.
+// How many definitions stand above with one more, whose name is known from now on, unless it stood already above.
 fn pass_name(
     alloc: Global,
     table: &mut Table,
     seen: &mut Table,
     names: &[FileName],
     above: usize,
-) -> Result<(), NoMemory>
+) -> Result<usize, NoMemory>
     requires there { above < length names.now }
     requires known { (x : List ℕ) → entry_of x table.old.entries.entries ≡ find x (predeclared ++ known_of above names.now) }
     requires sees { Sees (λ x. entry_of x seen.old.entries.entries) (take above names.now) }
+    ensures more { IfOk result (λ more. more ≡ above + 1) }
     ensures known { OnOk result ((x : List ℕ) → entry_of x table.new.entries.entries ≡ find x (predeclared ++ known_of (above + 1) names.now)) }
     ensures sees { OnOk result (Sees (λ x. entry_of x seen.new.entries.entries) (take (above + 1) names.now)) }
 {
     let name = &names[above];
     match seen.look(name.name.as_slice()) {
-        Some(_) => Ok(()),
+        Some(_) => Ok(above + 1),
         None => {
             let meant = Meant {
                 depth: 0,
@@ -132,7 +133,7 @@ fn pass_name(
             };
             seen.put(alloc, name.name.as_slice(), Some(meant))?;
             table.put(alloc, name.name.as_slice(), Some(meant))?;
-            Ok(())
+            Ok(above + 1)
         }
     }
 }
@@ -195,21 +196,18 @@ impl Names {
         } = self;
         let mut table = table;
         let mut seen = seen;
-        pass_name(alloc, &mut table, &mut seen, names.as_slice(), above)?;
-        match above.checked_add(1) {
-            Some(above) => Ok(Names {
-                table,
-                seen,
-                locals,
-                names,
-                above,
-                depth,
-                scalars,
-                arrays,
-                sizes,
-            }),
-            None => Err(NoMemory),
-        }
+        let more = pass_name(alloc, &mut table, &mut seen, names.as_slice(), above)?;
+        Ok(Names {
+            table,
+            seen,
+            locals,
+            names,
+            above: more,
+            depth,
+            scalars,
+            arrays,
+            sizes,
+        })
     }
 
     /// Whether a name is predeclared or stands already above.

@@ -1,9 +1,10 @@
 // Statements: their faults, and what they are with their names declared. A branch, a body of a loop and a block are
 // scopes of their own.
 
-ghost use Rattle.std.specs.Prelude.{◌≡◌, ◌++◌, ◌∷◌, [], IfOk, OnOk, false, true, length, option_map};
+ghost use Rattle.std.specs.Prelude.{◌≡◌, ◌++◌, ◌∷◌, [], IfOk, OnOk, false, true, length, not, option_map};
 ghost use Rattle.vx_ast.specs.declared.tree.Gives.TheVariants.{Int};
-ghost use Rattle.vx_ast.specs.Faults.{code_faults, least, phrase_faults, prints, test_faults};
+ghost use Rattle.vx_ast.specs.Accepted.{gives_int};
+ghost use Rattle.vx_ast.specs.Faults.{action_faults, code_faults, fault_if, least, phrase_faults, prints, row_length, test_faults};
 ghost use Rattle.vx_ast.specs.Resolved.{action_in, code_in, test_in, tree_in};
 ghost use Rattle.vx_ast.specs.Scopes.{behind, inside, outside};
 ghost use Rattle.vx_ast.specs.Syntax as spec;
@@ -168,15 +169,22 @@ fn for_of(made: ForParts) -> Statement
     )
 }
 
-/// What is printed, by a format and its arguments.
+/// What is printed, by a format and its arguments: its faults, and what it is with its names declared.
+#[tactic(auto, using(crate::proofs::Leasts::least_append, crate::proofs::Rows::row_count))]
 fn printing(
     alloc: Global,
     names: &Names,
+    first: &mut Option<Fault>,
+    place: Place,
+    format_place: Place,
     format: &[u8],
     row: &[syntax::Expression],
 ) -> Result<Statement, NoMemory>
-    ensures { IfOk result (λ made. view.code_of made ≡ tree.Print format.now (tree_in names.now (row_in row.now))) }
+    ensures made { IfOk result (λ made. view.code_of made ≡ tree.Print format.now (tree_in names.now (row_in row.now))) }
+    ensures faults { OnOk result (first.new ≡ least first.old (prints place format_place format.now (row_length (row_in row.now)) ++ phrase_faults names.now (row_in row.now))) }
 {
+    let before = note_format(place, format_place, format, row.len(), *first);
+    *first = note_row(names, row, before);
     let format = bytes_of(alloc, format)?;
     let row = resolve_row(alloc, names, row)?;
     Ok(Statement::Print(format, row))
@@ -197,26 +205,36 @@ fn declaration(
     Ok(Statement::Declaration(made))
 }
 
-/// A simple statement with what its names stand for.
+/// A simple statement: its faults, and what it is with its names declared.
 fn simple_alone(
     alloc: Global,
     names: &Names,
+    first: &mut Option<Fault>,
     simple: &syntax::Simple,
 ) -> Result<Statement, NoMemory>
-    ensures { IfOk result (λ made. view.code_of made ≡ tree.Simply (action_in names.now (action_of simple.now))) }
+    ensures made { IfOk result (λ made. view.code_of made ≡ tree.Simply (action_in names.now (action_of simple.now))) }
+    ensures faults { OnOk result (first.new ≡ least first.old (action_faults names.now (action_of simple.now))) }
 {
+    *first = note_simple(names, simple, *first);
     let simple = resolve_simple(alloc, names, simple)?;
     Ok(Statement::Simple(simple))
 }
 
-/// A `return` with a value with what its names stand for.
+/// A `return` with a value: its faults, and what it is with its names declared.
+#[tactic(auto, using(crate::proofs::Leasts::least_append))]
 fn returning(
     alloc: Global,
+    gives: Gives,
     names: &Names,
+    first: &mut Option<Fault>,
+    place: Place,
     value: &syntax::Expression,
 ) -> Result<Statement, NoMemory>
-    ensures { IfOk result (λ made. view.code_of made ≡ tree.ReturnValue (tree_in names.now (phrase_of value.now))) }
+    ensures made { IfOk result (λ made. view.code_of made ≡ tree.ReturnValue (tree_in names.now (phrase_of value.now))) }
+    ensures faults { OnOk result (first.new ≡ least first.old (fault_if (not (gives_int gives)) 7 place ++ phrase_faults names.now (phrase_of value.now))) }
 {
+    let before = note(*first, !gives_int(gives), 7, place);
+    *first = note_expression(names, value, before);
     let value = resolve(alloc, names, value)?;
     Ok(Statement::ReturnValue(value))
 }
@@ -242,17 +260,16 @@ pub fn statement(
             Ok(Statement::Block(made))
         }
         syntax::Statement::Declaration(all) => { declaration(alloc, names, first, all.as_slice()) }
-        syntax::Statement::Simple(simple) => {
-            *first = note_simple(names, simple, *first);
-            simple_alone(alloc, names, simple)
-        }
-        syntax::Statement::Print(place, format_place, format, row) => {
-            let format = format.as_slice();
-            let row = row.as_slice();
-            let before = note_format(*place, *format_place, format, row.len(), *first);
-            *first = note_row(names, row, before);
-            printing(alloc, names, format, row)
-        }
+        syntax::Statement::Simple(simple) => simple_alone(alloc, names, first, simple),
+        syntax::Statement::Print(place, format_place, format, row) => printing(
+            alloc,
+            names,
+            first,
+            *place,
+            *format_place,
+            format.as_slice(),
+            row.as_slice(),
+        ),
         syntax::Statement::If(test, branch) => {
             let made = test_and_body(alloc, gives, loops, names, first, branch, test)?;
             Ok(Statement::If(made.test, made.body))
@@ -284,11 +301,9 @@ pub fn statement(
             *first = note(*first, gives_int(gives), 7, *place);
             Ok(Statement::Return)
         }
-        syntax::Statement::ReturnValue(place, value) => {
-            let before = note(*first, !gives_int(gives), 7, *place);
-            *first = note_expression(names, value, before);
-            returning(alloc, names, value)
-        }
+        syntax::Statement::ReturnValue(place, value) => returning(
+            alloc, gives, names, first, *place, value,
+        ),
     }
 }
 

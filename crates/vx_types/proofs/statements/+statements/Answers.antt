@@ -1,7 +1,6 @@
 use Rattle.std.proofs.Common.{drop, ◌+◌, arith}
 use Rattle.vx_types.proofs.Lists.{list_step, list_end}
 use Rattle.vx_types.proofs.Leasts.{drop_next, drop_whole, least_append}
-use Rattle.vx_types.proofs.Rows.{row_count}
 use Rattle.vx_types.proofs.Scoping.{leaves_block, leaves_for}
 use Rattle.vx_types.proofs.Declarations.{items_alike, first_alike, step_alike}
 use Rattle.vx_types.proofs.Views.{block_written, block_view}
@@ -41,9 +40,6 @@ statement-returns-in_ok-made-in-Block-clause-faults t c = grind (arith, block_wr
 
 pub statement-returns-in-Declaration-clause-faults : goal.statement-returns-in-Declaration-clause-faults
 statement-returns-in-Declaration-clause-faults t c = grind (arith, items_alike)
-
-pub statement-returns-in-Print-clause-faults : goal.statement-returns-in-Print-clause-faults
-statement-returns-in-Print-clause-faults t c = grind (arith, least_append, row_count)
 
 pub statement-returns-in_ok-made-in-If-clause-faults : goal.statement-returns-in_ok-made-in-If-clause-faults
 statement-returns-in_ok-made-in-If-clause-faults t c = grind (arith, least_append)
