@@ -144,11 +144,9 @@ fn read_test(alloc: Global, tokens: &[Token], place: usize, depth: u32) -> Resul
 {
     let inner = read_mark(tokens, place, Mark::OpenParenthesis)?;
     let test = read_expression(alloc, tokens, inner, depth)?;
+    let held = boxed(alloc, test.expression)?;
     let next = read_mark(tokens, test.next, Mark::CloseParenthesis)?;
-    Ok(TestRead {
-        test: boxed(alloc, test.expression)?,
-        next,
-    })
+    Ok(TestRead { test: held, next })
 }
 
 // The items that `int` begins in the head of a `for`.

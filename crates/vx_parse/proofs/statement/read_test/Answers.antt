@@ -30,4 +30,4 @@ returns-in_err-next-clause-stop c =
 
 pub returns-clause-ok : goal.returns-clause-ok
 returns-clause-ok c =
-    test_is c.args.tokens.now c.args.place c.args.depth _ c.in_ok-test.test _ c.in_ok-inner.ensures.ok c.requires.within c.requires.depth c.in_ok-test.ensures.ok c.in_ok-next.ensures.ok (ap view.phrase_of c.in_ok-boxed.ensures.ok)
+    test_is c.args.tokens.now c.args.place c.args.depth _ c.in_ok-test.test _ c.in_ok-inner.ensures.ok c.requires.within c.requires.depth c.in_ok-test.ensures.ok c.in_ok-next.ensures.ok (ap view.phrase_of c.in_ok-held.ensures.ok)
