@@ -145,8 +145,7 @@ fn resolve_boxed(
     ensures { IfOk result (λ made. tree_of made.value ≡ tree_in names.now (phrase_of expression.now)) }
 {
     let made = resolve(alloc, names, expression)?;
-    let held = boxed(alloc, made)?;
-    Ok(held)
+    boxed(alloc, made)
 }
 
 /// A row of arguments with what their names stand for.

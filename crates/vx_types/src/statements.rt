@@ -83,8 +83,7 @@ fn held_test(
     ensures { IfOk result (λ made. option_map view.tree_of made.value ≡ test_in names.now (option_map phrase_of test.now)) }
 {
     let made = resolve_test(alloc, names, test)?;
-    let held = boxed(alloc, made)?;
-    Ok(held)
+    boxed(alloc, made)
 }
 
 /// The step of a `for` in a box, with what its names stand for.
@@ -96,8 +95,7 @@ fn held_step(
     ensures { IfOk result (λ made. view.step_of made.value ≡ code_in names.now (step_of step.now)) }
 {
     let made = resolve_step(alloc, names, step)?;
-    let held = boxed(alloc, made)?;
-    Ok(held)
+    boxed(alloc, made)
 }
 
 /// The condition and the step of a `for`, with what their names stand for.
@@ -127,8 +125,7 @@ fn held_start(
     ensures faults { OnOk result (first.new ≡ least first.old (code_faults Int false names.old (first_of start.now))) }
 {
     let made = first_part(alloc, names, first, start)?;
-    let held = boxed(alloc, made)?;
-    Ok(held)
+    boxed(alloc, made)
 }
 
 /// The head of a `for`: its faults, and what it is with its names declared.
@@ -343,8 +340,7 @@ fn held(
     ensures faults { OnOk result (first.new ≡ least first.old (code_faults gives loops names.old (code_of written.now))) }
 {
     let made = statement(alloc, gives, loops, names, first, written)?;
-    let held = boxed(alloc, made)?;
-    Ok(held)
+    boxed(alloc, made)
 }
 
 /// A condition, and a branch or a body behind it in a scope of its own.

@@ -1,4 +1,7 @@
-use Rattle.std.proofs.Common.{drop, ◌+◌, arith}
+use Rattle.std.proofs.Common.{ap, sym, ◌∙◌, ◌++◌, drop, ◌+◌, arith}
+use Rattle.std.proofs.lemmas.Result.{on_ok_weaker}
+use Rattle.vx_ast.specs.Faults.{code_faults, least, phrase_faults, prints, row_length}
+use Rattle.vx_ast.specs.SyntaxView.{code_of, row_in}
 use Rattle.vx_types.proofs.Lists.{list_step, list_end}
 use Rattle.vx_types.proofs.Leasts.{drop_next, drop_whole, least_append}
 use Rattle.vx_types.proofs.Scoping.{leaves_block, leaves_for}
@@ -40,6 +43,21 @@ statement-returns-in_ok-made-in-Block-clause-faults t c = grind (arith, block_wr
 
 pub statement-returns-in-Declaration-clause-faults : goal.statement-returns-in-Declaration-clause-faults
 statement-returns-in-Declaration-clause-faults t c = grind (arith, items_alike)
+
+pub statement-returns-in-Simple-clause-faults : goal.statement-returns-in-Simple-clause-faults
+statement-returns-in-Simple-clause-faults t c =
+    on_ok_weaker c.simple_alone.result (λ h. h ∙ ap (λ z. least c.args.first.now (code_faults c.args.gives c.args.loops c.args.names.now (code_of z))) (sym c.in-Simple.is)) c.simple_alone.ensures.faults
+
+pub statement-returns-in-Print-clause-faults : goal.statement-returns-in-Print-clause-faults
+statement-returns-in-Print-clause-faults t c =
+    on_ok_weaker c.printing.result (λ h.
+    h ∙ ap (λ z. least c.args.first.now (prints c.in-Print.place c.in-Print.format_place z (row_length (row_in c.as_slice-in-Print-2.result.now)) ++ phrase_faults c.args.names.now (row_in c.as_slice-in-Print-2.result.now))) c.as_slice-in-Print.ensures
+    ∙ ap (λ z. least c.args.first.now (prints c.in-Print.place c.in-Print.format_place c.in-Print.format (row_length (row_in z)) ++ phrase_faults c.args.names.now (row_in z))) c.as_slice-in-Print-2.ensures.value
+    ∙ ap (λ z. least c.args.first.now (code_faults c.args.gives c.args.loops c.args.names.now (code_of z))) (sym c.in-Print.is)) c.printing.ensures.faults
+
+pub statement-returns-in-ReturnValue-clause-faults : goal.statement-returns-in-ReturnValue-clause-faults
+statement-returns-in-ReturnValue-clause-faults t c =
+    on_ok_weaker c.returning.result (λ h. h ∙ ap (λ z. least c.args.first.now (code_faults c.args.gives c.args.loops c.args.names.now (code_of z))) (sym c.in-ReturnValue.is)) c.returning.ensures.faults
 
 pub statement-returns-in_ok-made-in-If-clause-faults : goal.statement-returns-in_ok-made-in-If-clause-faults
 statement-returns-in_ok-made-in-If-clause-faults t c = grind (arith, least_append)
