@@ -65,10 +65,7 @@ fn evaluate(b: &mut Builder, alloc: Global, words: &Sizes, e: &Expression) -> Re
     ensures fits { OnOk result (ActsWell (Evaluate (tree_of e.now)) b.old b.new) }
 {
     match e {
-        Expression::Call(function, all) => {
-            emit_call(b, alloc, words, *function, all.as_slice())?;
-            Ok(())
-        }
+        Expression::Call(function, all) => emit_call(b, alloc, words, *function, all.as_slice()),
         Expression::Number(_)
         | Expression::Scalar(_)
         | Expression::Global(_)
@@ -104,15 +101,13 @@ fn assign(
         }
         Target::Global(array) => {
             let from = emit_value(b, alloc, words, e, None)?;
-            store(b, alloc, *array, Operand::Number(0), from)?;
-            Ok(())
+            store(b, alloc, *array, Operand::Number(0), from)
         }
         Target::Element(array, i) => {
             let index = emit_value(b, alloc, words, i, None)?;
             let place = check(b, alloc, words, *array, index)?;
             let from = emit_value(b, alloc, words, e, None)?;
-            store(b, alloc, *array, Operand::Held(place), from)?;
-            Ok(())
+            store(b, alloc, *array, Operand::Held(place), from)
         }
     }
 }
@@ -155,16 +150,14 @@ fn compound(
         Target::Global(array) => {
             let old = load(b, alloc, *array, Operand::Number(0), None)?;
             let new = combined(b, alloc, words, Operand::Held(old), operator, e, None)?;
-            store(b, alloc, *array, Operand::Number(0), Operand::Held(new))?;
-            Ok(())
+            store(b, alloc, *array, Operand::Number(0), Operand::Held(new))
         }
         Target::Element(array, i) => {
             let index = emit_value(b, alloc, words, i, None)?;
             let place = check(b, alloc, words, *array, index)?;
             let old = load(b, alloc, *array, Operand::Held(place), None)?;
             let new = combined(b, alloc, words, Operand::Held(old), operator, e, None)?;
-            store(b, alloc, *array, Operand::Held(place), Operand::Held(new))?;
-            Ok(())
+            store(b, alloc, *array, Operand::Held(place), Operand::Held(new))
         }
     }
 }
@@ -204,16 +197,14 @@ fn step(
         Target::Global(array) => {
             let old = load(b, alloc, *array, Operand::Number(0), None)?;
             let new = stepped(b, alloc, Operand::Held(old), up, None)?;
-            store(b, alloc, *array, Operand::Number(0), Operand::Held(new))?;
-            Ok(())
+            store(b, alloc, *array, Operand::Number(0), Operand::Held(new))
         }
         Target::Element(array, i) => {
             let index = emit_value(b, alloc, words, i, None)?;
             let place = check(b, alloc, words, *array, index)?;
             let old = load(b, alloc, *array, Operand::Held(place), None)?;
             let new = stepped(b, alloc, Operand::Held(old), up, None)?;
-            store(b, alloc, *array, Operand::Held(place), Operand::Held(new))?;
-            Ok(())
+            store(b, alloc, *array, Operand::Held(place), Operand::Held(new))
         }
     }
 }

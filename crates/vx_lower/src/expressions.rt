@@ -410,8 +410,7 @@ pub fn emit_test(
             Some(compare) => {
                 let left = emit_value(b, alloc, words, x, None)?;
                 let right = emit_value(b, alloc, words, y, None)?;
-                let no = compared(b, alloc, compare, left, right)?;
-                Ok(no)
+                compared(b, alloc, compare, left, right)
             }
             None => test_value(b, alloc, words, e),
         },

@@ -1,4 +1,5 @@
 use Rattle.std.proofs.Common.{ap, sym}
+use Rattle.std.proofs.lemmas.Result.{on_ok_weaker}
 use Rattle.vx_ast.specs.Tree.{InLocal, InGlobal, InElement}
 use Rattle.vx_ast.specs.View.{tree_of, place_of}
 use Rattle.vx_lower.specs.Does.{By, action_of}
@@ -16,22 +17,22 @@ returns-in_ok-combined-in-Scalar-clause-fits c =
     acts_well_as c.args.b.now c.combined.new.b (action_of (InLocal c.in-Scalar.x) (By c.args.operator (tree_of c.args.e.now))) (action_of (place_of c.args.target.now) (By c.args.operator (tree_of c.args.e.now))) (ap (λ z. action_of (place_of z) (By c.args.operator (tree_of c.args.e.now))) (sym c.in-Scalar.is))
     (change_local_well c.in-Scalar.x c.in_ok-combined-in-Scalar.field-0 (By c.args.operator (tree_of c.args.e.now)) c.args.b.now c.combined.new.b c.in_ok-combined-in-Scalar.ensures.fits)
 
-pub returns-in_ok-store-in-Global-clause-code : goal.returns-in_ok-store-in-Global-clause-code
-returns-in_ok-store-in-Global-clause-code c =
-    acted_as c.args.words.now c.args.b.now c.store.new.b (action_of (InGlobal c.in-Global.array) (By c.args.operator (tree_of c.args.e.now))) (action_of (place_of c.args.target.now) (By c.args.operator (tree_of c.args.e.now))) (ap (λ z. action_of (place_of z) (By c.args.operator (tree_of c.args.e.now))) (sym c.in-Global.is))
-    (changes_global c.args.words.now c.in-Global.array c.in_ok-old-in-Global.old c.in_ok-new-in-Global.new (By c.args.operator (tree_of c.args.e.now)) c.args.b.now c.load.new.b c.combined-in-Global.new.b c.store.new.b c.in_ok-old-in-Global.ensures.code (c.in_ok-new-in-Global.ensures.code) c.in_ok-store-in-Global.ensures.code)
+pub returns-in_ok-new-in-Global-clause-code : goal.returns-in_ok-new-in-Global-clause-code
+returns-in_ok-new-in-Global-clause-code c =
+    on_ok_weaker c.store.result (λ h. acted_as c.args.words.now c.args.b.now c.store.new.b (action_of (InGlobal c.in-Global.array) (By c.args.operator (tree_of c.args.e.now))) (action_of (place_of c.args.target.now) (By c.args.operator (tree_of c.args.e.now))) (ap (λ z. action_of (place_of z) (By c.args.operator (tree_of c.args.e.now))) (sym c.in-Global.is))
+    (changes_global c.args.words.now c.in-Global.array c.in_ok-old-in-Global.old c.in_ok-new-in-Global.new (By c.args.operator (tree_of c.args.e.now)) c.args.b.now c.load.new.b c.combined-in-Global.new.b c.store.new.b c.in_ok-old-in-Global.ensures.code (c.in_ok-new-in-Global.ensures.code) h)) c.store.ensures.code
 
-pub returns-in_ok-store-in-Global-clause-fits : goal.returns-in_ok-store-in-Global-clause-fits
-returns-in_ok-store-in-Global-clause-fits c =
-    acts_well_as c.args.b.now c.store.new.b (action_of (InGlobal c.in-Global.array) (By c.args.operator (tree_of c.args.e.now))) (action_of (place_of c.args.target.now) (By c.args.operator (tree_of c.args.e.now))) (ap (λ z. action_of (place_of z) (By c.args.operator (tree_of c.args.e.now))) (sym c.in-Global.is))
-    (change_global_well c.in-Global.array c.in_ok-old-in-Global.old c.in_ok-new-in-Global.new (By c.args.operator (tree_of c.args.e.now)) c.args.b.now c.load.new.b c.combined-in-Global.new.b c.store.new.b c.in_ok-old-in-Global.ensures.steps (c.in_ok-new-in-Global.ensures.fits) c.in_ok-store-in-Global.ensures.steps)
+pub returns-in_ok-new-in-Global-clause-fits : goal.returns-in_ok-new-in-Global-clause-fits
+returns-in_ok-new-in-Global-clause-fits c =
+    on_ok_weaker c.store.result (λ h. acts_well_as c.args.b.now c.store.new.b (action_of (InGlobal c.in-Global.array) (By c.args.operator (tree_of c.args.e.now))) (action_of (place_of c.args.target.now) (By c.args.operator (tree_of c.args.e.now))) (ap (λ z. action_of (place_of z) (By c.args.operator (tree_of c.args.e.now))) (sym c.in-Global.is))
+    (change_global_well c.in-Global.array c.in_ok-old-in-Global.old c.in_ok-new-in-Global.new (By c.args.operator (tree_of c.args.e.now)) c.args.b.now c.load.new.b c.combined-in-Global.new.b c.store.new.b c.in_ok-old-in-Global.ensures.steps (c.in_ok-new-in-Global.ensures.fits) h)) c.store.ensures.steps
 
-pub returns-in_ok-store-in-Element-clause-code : goal.returns-in_ok-store-in-Element-clause-code
-returns-in_ok-store-in-Element-clause-code c =
-    acted_as c.args.words.now c.args.b.now c.store-in-Element.new.b (action_of (InElement c.in-Element.array (tree_of c.in-Element.i)) (By c.args.operator (tree_of c.args.e.now))) (action_of (place_of c.args.target.now) (By c.args.operator (tree_of c.args.e.now))) (ap (λ z. action_of (place_of z) (By c.args.operator (tree_of c.args.e.now))) (sym c.in-Element.is))
-    (changes_element c.args.words.now c.in-Element.array c.in_ok-place-in-Element.place c.in_ok-old-in-Element.old c.in_ok-new-in-Element.new (tree_of c.in-Element.i) c.in_ok-index-in-Element.index (By c.args.operator (tree_of c.args.e.now)) c.args.b.now c.emit_value.new.b c.check.new.b c.load-in-Element.new.b c.combined-in-Element.new.b c.store-in-Element.new.b c.in_ok-index-in-Element.ensures.code c.in_ok-place-in-Element.ensures.code c.in_ok-old-in-Element.ensures.code (c.in_ok-new-in-Element.ensures.code) c.in_ok-store-in-Element.ensures.code)
+pub returns-in_ok-new-in-Element-clause-code : goal.returns-in_ok-new-in-Element-clause-code
+returns-in_ok-new-in-Element-clause-code c =
+    on_ok_weaker c.store-in-Element.result (λ h. acted_as c.args.words.now c.args.b.now c.store-in-Element.new.b (action_of (InElement c.in-Element.array (tree_of c.in-Element.i)) (By c.args.operator (tree_of c.args.e.now))) (action_of (place_of c.args.target.now) (By c.args.operator (tree_of c.args.e.now))) (ap (λ z. action_of (place_of z) (By c.args.operator (tree_of c.args.e.now))) (sym c.in-Element.is))
+    (changes_element c.args.words.now c.in-Element.array c.in_ok-place-in-Element.place c.in_ok-old-in-Element.old c.in_ok-new-in-Element.new (tree_of c.in-Element.i) c.in_ok-index-in-Element.index (By c.args.operator (tree_of c.args.e.now)) c.args.b.now c.emit_value.new.b c.check.new.b c.load-in-Element.new.b c.combined-in-Element.new.b c.store-in-Element.new.b c.in_ok-index-in-Element.ensures.code c.in_ok-place-in-Element.ensures.code c.in_ok-old-in-Element.ensures.code (c.in_ok-new-in-Element.ensures.code) h)) c.store-in-Element.ensures.code
 
-pub returns-in_ok-store-in-Element-clause-fits : goal.returns-in_ok-store-in-Element-clause-fits
-returns-in_ok-store-in-Element-clause-fits c =
-    acts_well_as c.args.b.now c.store-in-Element.new.b (action_of (InElement c.in-Element.array (tree_of c.in-Element.i)) (By c.args.operator (tree_of c.args.e.now))) (action_of (place_of c.args.target.now) (By c.args.operator (tree_of c.args.e.now))) (ap (λ z. action_of (place_of z) (By c.args.operator (tree_of c.args.e.now))) (sym c.in-Element.is))
-    (change_element_well c.in-Element.array c.in_ok-place-in-Element.place c.in_ok-old-in-Element.old c.in_ok-new-in-Element.new (tree_of c.in-Element.i) c.in_ok-index-in-Element.index (By c.args.operator (tree_of c.args.e.now)) c.args.b.now c.emit_value.new.b c.check.new.b c.load-in-Element.new.b c.combined-in-Element.new.b c.store-in-Element.new.b c.in_ok-index-in-Element.ensures.fits c.in_ok-place-in-Element.ensures.fits c.in_ok-old-in-Element.ensures.steps (c.in_ok-new-in-Element.ensures.fits) c.in_ok-store-in-Element.ensures.steps)
+pub returns-in_ok-new-in-Element-clause-fits : goal.returns-in_ok-new-in-Element-clause-fits
+returns-in_ok-new-in-Element-clause-fits c =
+    on_ok_weaker c.store-in-Element.result (λ h. acts_well_as c.args.b.now c.store-in-Element.new.b (action_of (InElement c.in-Element.array (tree_of c.in-Element.i)) (By c.args.operator (tree_of c.args.e.now))) (action_of (place_of c.args.target.now) (By c.args.operator (tree_of c.args.e.now))) (ap (λ z. action_of (place_of z) (By c.args.operator (tree_of c.args.e.now))) (sym c.in-Element.is))
+    (change_element_well c.in-Element.array c.in_ok-place-in-Element.place c.in_ok-old-in-Element.old c.in_ok-new-in-Element.new (tree_of c.in-Element.i) c.in_ok-index-in-Element.index (By c.args.operator (tree_of c.args.e.now)) c.args.b.now c.emit_value.new.b c.check.new.b c.load-in-Element.new.b c.combined-in-Element.new.b c.store-in-Element.new.b c.in_ok-index-in-Element.ensures.fits c.in_ok-place-in-Element.ensures.fits c.in_ok-old-in-Element.ensures.steps (c.in_ok-new-in-Element.ensures.fits) h)) c.store-in-Element.ensures.steps

@@ -190,15 +190,15 @@ emit_test-returns-in_ok-no-in-Not-clause-fits t c =
     tests_well_as c.turn-yes.result c.args.b.now c.turn-yes.new.self (Unary Not (tree_of c.deref.result.now)) (tree_of c.args.e.now) (ap (λ z. Unary Not (tree_of z)) c.deref.ensures ∙ ap (λ z. Unary z (tree_of c.in-Unary.x.value)) (sym c.in-Not.is) ∙ ap tree_of (sym c.in-Unary.is))
     (not_tested c.in_ok-no-in-Not.no c.turn-yes.result (tree_of c.deref.result.now) c.args.b.now c.emit_test.new.b c.turn-yes.new.self c.in_ok-no-in-Not.ensures.fits c.turn-yes.ensures)
 
-pub emit_test-returns-in_ok-no-in-Some-clause-code : goal.emit_test-returns-in_ok-no-in-Some-clause-code
-emit_test-returns-in_ok-no-in-Some-clause-code t c =
-    tests_as c.args.words.now c.in_ok-no-in-Some.no c.args.b.now c.compared.new.b (Binary c.in-Binary.operator (tree_of c.deref-in-Some.result.now) (tree_of c.deref-in-Some-2.result.now)) (tree_of c.args.e.now) (ap (λ z. Binary c.in-Binary.operator (tree_of z) (tree_of c.deref-in-Some-2.result.now)) c.deref-in-Some.ensures ∙ ap (λ z. Binary c.in-Binary.operator (tree_of c.in-Binary.x.value) (tree_of z)) c.deref-in-Some-2.ensures ∙ ap tree_of (sym c.in-Binary.is))
-    (tests_compare c.args.words.now c.in-Binary.operator c.in-Some.compare c.in_ok-no-in-Some.no (tree_of c.deref-in-Some.result.now) (tree_of c.deref-in-Some-2.result.now) c.in_ok-left-in-Some.left c.in_ok-right-in-Some.right c.args.b.now c.emit_value.new.b c.emit_value-in-Some.new.b c.compared.new.b (sym c.comparison.ensures ∙ c.in-Some.is) c.in_ok-left-in-Some.ensures.code c.in_ok-right-in-Some.ensures.code c.in_ok-no-in-Some.ensures.code)
+pub emit_test-returns-in_ok-right-in-Some-clause-code : goal.emit_test-returns-in_ok-right-in-Some-clause-code
+emit_test-returns-in_ok-right-in-Some-clause-code t c =
+    map_ok c.compared.result (λ n h. tests_as c.args.words.now n c.args.b.now c.compared.new.b (Binary c.in-Binary.operator (tree_of c.deref-in-Some.result.now) (tree_of c.deref-in-Some-2.result.now)) (tree_of c.args.e.now) (ap (λ z. Binary c.in-Binary.operator (tree_of z) (tree_of c.deref-in-Some-2.result.now)) c.deref-in-Some.ensures ∙ ap (λ z. Binary c.in-Binary.operator (tree_of c.in-Binary.x.value) (tree_of z)) c.deref-in-Some-2.ensures ∙ ap tree_of (sym c.in-Binary.is))
+    (tests_compare c.args.words.now c.in-Binary.operator c.in-Some.compare n (tree_of c.deref-in-Some.result.now) (tree_of c.deref-in-Some-2.result.now) c.in_ok-left-in-Some.left c.in_ok-right-in-Some.right c.args.b.now c.emit_value.new.b c.emit_value-in-Some.new.b c.compared.new.b (sym c.comparison.ensures ∙ c.in-Some.is) c.in_ok-left-in-Some.ensures.code c.in_ok-right-in-Some.ensures.code h)) c.compared.ensures.code
 
-pub emit_test-returns-in_ok-no-in-Some-clause-fits : goal.emit_test-returns-in_ok-no-in-Some-clause-fits
-emit_test-returns-in_ok-no-in-Some-clause-fits t c =
-    tests_well_as c.in_ok-no-in-Some.no c.args.b.now c.compared.new.b (Binary c.in-Binary.operator (tree_of c.deref-in-Some.result.now) (tree_of c.deref-in-Some-2.result.now)) (tree_of c.args.e.now) (ap (λ z. Binary c.in-Binary.operator (tree_of z) (tree_of c.deref-in-Some-2.result.now)) c.deref-in-Some.ensures ∙ ap (λ z. Binary c.in-Binary.operator (tree_of c.in-Binary.x.value) (tree_of z)) c.deref-in-Some-2.ensures ∙ ap tree_of (sym c.in-Binary.is))
-    (compare_tested c.in-Binary.operator c.in-Some.compare c.in_ok-no-in-Some.no (tree_of c.deref-in-Some.result.now) (tree_of c.deref-in-Some-2.result.now) c.in_ok-left-in-Some.left c.in_ok-right-in-Some.right c.args.b.now c.emit_value.new.b c.emit_value-in-Some.new.b c.compared.new.b c.in_ok-left-in-Some.ensures.fits c.in_ok-right-in-Some.ensures.fits c.in_ok-no-in-Some.ensures.steps)
+pub emit_test-returns-in_ok-right-in-Some-clause-fits : goal.emit_test-returns-in_ok-right-in-Some-clause-fits
+emit_test-returns-in_ok-right-in-Some-clause-fits t c =
+    map_ok c.compared.result (λ n h. tests_well_as n c.args.b.now c.compared.new.b (Binary c.in-Binary.operator (tree_of c.deref-in-Some.result.now) (tree_of c.deref-in-Some-2.result.now)) (tree_of c.args.e.now) (ap (λ z. Binary c.in-Binary.operator (tree_of z) (tree_of c.deref-in-Some-2.result.now)) c.deref-in-Some.ensures ∙ ap (λ z. Binary c.in-Binary.operator (tree_of c.in-Binary.x.value) (tree_of z)) c.deref-in-Some-2.ensures ∙ ap tree_of (sym c.in-Binary.is))
+    (compare_tested c.in-Binary.operator c.in-Some.compare n (tree_of c.deref-in-Some.result.now) (tree_of c.deref-in-Some-2.result.now) c.in_ok-left-in-Some.left c.in_ok-right-in-Some.right c.args.b.now c.emit_value.new.b c.emit_value-in-Some.new.b c.compared.new.b c.in_ok-left-in-Some.ensures.fits c.in_ok-right-in-Some.ensures.fits h)) c.compared.ensures.steps
 
 pub emit_test-returns-in_ok-no-in-Both-clause-code : goal.emit_test-returns-in_ok-no-in-Both-clause-code
 emit_test-returns-in_ok-no-in-Both-clause-code t c =
