@@ -1,16 +1,12 @@
 // What a token begins or joins.
 
-ghost use Rattle.std.specs.Prelude.{◌≡◌, ◌∷◌, [], Some, IfOk, IfErr, IfSome, IfNone, true, false};
+ghost use Rattle.std.specs.Prelude.{◌≡◌, ◌∷◌, [], Some, IfSome, IfNone, true, false};
 ghost use Rattle.vx_ast.specs.SyntaxView.{phrase_of};
 ghost use Rattle.vx_ast.specs.Phrases as phrases;
 ghost use Rattle.vx_ast.specs.Phrases.{parts_of, strength, Level, Primary, SimpleRest, The, A};
 ghost use Rattle.vx_ast.specs.Derivations.{unary_of, operator_of, binary_by, joined};
-ghost use Rattle.vx_parse.specs.declared.stop.Stop.TheVariants.{NoMemory};
 ghost use Rattle.vx_parse.specs.Choices.{FollowedBy, begins_simple};
 
-use crate::memory::boxed;
-use crate::stop::Stop;
-use std::alloc::Global;
 use vx_ast::syntax::Expression;
 use vx_ast::token::{Mark, TokenKind};
 use vx_ast::tree::{BinaryOperator, UnaryOperator};
@@ -76,54 +72,28 @@ pub fn binary_operator(kind: &TokenKind) -> Option<BinaryOperator>
 }
 
 /// Two operands, each in a box.
-#[derive(Drop)]
-struct Pair {
+fn binary(
+    operator: Option<BinaryOperator>,
     left: Box<Expression>,
     right: Box<Expression>,
-}
-
-fn hold(alloc: Global, left: Expression, right: Expression) -> Result<Pair, Stop>
-    ensures left { IfOk result (λ held. held.left.value ≡ left) }
-    ensures right { IfOk result (λ held. held.right.value ≡ right) }
-    ensures stop { IfErr result (λ stop. stop ≡ NoMemory) }
-{
-    let left = boxed(alloc, left)?;
-    let right = boxed(alloc, right)?;
-    Ok(Pair { left, right })
-}
-
-fn binary(operator: Option<BinaryOperator>, held: Pair) -> Expression
-    ensures { phrase_of result ≡ binary_by operator (phrase_of held.left.value) (phrase_of held.right.value) }
+) -> Expression
+    ensures { phrase_of result ≡ binary_by operator (phrase_of left.value) (phrase_of right.value) }
 {
     match operator {
-        Some(operator) => Expression::Binary(operator, held.left, held.right),
-        None => Box::into_inner(held.left),
-    }
-}
-
-// The expression of an operator between two others that are held.
-fn joined(kind: &TokenKind, held: Pair) -> Expression
-    ensures { phrase_of result ≡ joined kind.now (phrase_of held.left.value) (phrase_of held.right.value) }
-{
-    match kind {
-        TokenKind::Mark(Mark::AmpersandAmpersand) => Expression::Both(held.left, held.right),
-        TokenKind::Mark(Mark::BarBar) => Expression::Either(held.left, held.right),
-        _ => binary(binary_operator(kind), held),
+        Some(operator) => Expression::Binary(operator, left, right),
+        None => Box::into_inner(left),
     }
 }
 
 /// The expression of an operator between two others.
-pub fn join(
-    alloc: Global,
-    kind: &TokenKind,
-    left: Expression,
-    right: Expression,
-) -> Result<Expression, Stop>
-    ensures ok { IfOk result (λ e. phrase_of e ≡ joined kind.now (phrase_of left) (phrase_of right)) }
-    ensures stop { IfErr result (λ stop. stop ≡ NoMemory) }
+pub fn join(kind: &TokenKind, left: Box<Expression>, right: Box<Expression>) -> Expression
+    ensures { phrase_of result ≡ joined kind.now (phrase_of left.value) (phrase_of right.value) }
 {
-    let held = hold(alloc, left, right)?;
-    Ok(joined(kind, held))
+    match kind {
+        TokenKind::Mark(Mark::AmpersandAmpersand) => Expression::Both(left, right),
+        TokenKind::Mark(Mark::BarBar) => Expression::Either(left, right),
+        _ => binary(binary_operator(kind), left, right),
+    }
 }
 
 /// Whether a token is `++` or `--`.

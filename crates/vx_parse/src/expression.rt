@@ -132,9 +132,11 @@ fn read_behind(
     if depth + left.height >= DEEPEST {
         return Err(Stop::TooDeep);
     }
+    let before = boxed(alloc, left.expression)?;
     let right = read_level(alloc, tokens, left.next + 1, depth + 1, level)?;
+    let behind = boxed(alloc, right.expression)?;
     let both = Operand {
-        expression: join(alloc, kind, left.expression, right.expression)?,
+        expression: join(kind, before, behind),
         height: 1 + left.height.max(right.height),
         next: right.next,
     };

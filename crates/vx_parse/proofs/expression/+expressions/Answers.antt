@@ -75,8 +75,9 @@ pub read_behind-returns-clause-ok : goal.read_behind-returns-clause-ok
 read_behind-returns-clause-ok t c =
     let e : strength (next_kind (drop c.args.left.next c.args.tokens.now)) ≡ c.strength.result = sym (c.strength.ensures ∙ ap strength c.kind_at-kind.ensures) in
     let o = operates c.args.level c.args.tokens.now c.args.left.next c.requires.ended c.requires.within c.requires.level (e ∙ c.if-strength-level.false) in
-    let both : Operand = record { expression = c.in_ok-join.field-0; height = 1 + c.max.result; next = c.in_ok-right.right.next } in
-    let kind : phrase_of c.in_ok-join.field-0 ≡ joined (next_kind (drop c.args.left.next c.args.tokens.now)) (phrase_of c.args.left.expression) (phrase_of c.in_ok-right.right.expression) = subst (λ z. phrase_of c.in_ok-join.field-0 ≡ joined z (phrase_of c.args.left.expression) (phrase_of c.in_ok-right.right.expression)) c.kind_at-kind.ensures c.in_ok-join.ensures.ok in
+    let both : Operand = record { expression = c.join.result; height = 1 + c.max.result; next = c.in_ok-right.right.next } in
+    let kind : phrase_of c.join.result ≡ joined (next_kind (drop c.args.left.next c.args.tokens.now)) (phrase_of c.args.left.expression) (phrase_of c.in_ok-right.right.expression) =
+    c.join.ensures ∙ ap (λ z. joined z (phrase_of c.in_ok-before.before.value) (phrase_of c.in_ok-behind.behind.value)) c.kind_at-kind.ensures ∙ ap (λ z. joined (next_kind (drop c.args.left.next c.args.tokens.now)) (phrase_of z) (phrase_of c.in_ok-behind.behind.value)) c.in_ok-before.ensures.ok ∙ ap (λ z. joined (next_kind (drop c.args.left.next c.args.tokens.now)) (phrase_of c.args.left.expression) (phrase_of z)) c.in_ok-behind.ensures.ok in
     let high : 1 + c.max.result ≡ 1 + max c.args.left.height c.in_ok-right.right.height = let x = c.max.ensures in omega arith in
     map_ok c.read_behind.result (λ r. more_is c.args.level c.args.tokens.now c.args.left.next c.args.depth (phrase_of c.args.left.expression) c.args.left.height c.in_ok-right.right both r o c.in_ok-right.ensures.ok kind high refl) c.read_behind.ensures.ok
 
@@ -84,8 +85,9 @@ pub read_behind-returns-clause-stop : goal.read_behind-returns-clause-stop
 read_behind-returns-clause-stop t c =
     let e : strength (next_kind (drop c.args.left.next c.args.tokens.now)) ≡ c.strength.result = sym (c.strength.ensures ∙ ap strength c.kind_at-kind.ensures) in
     let o = operates c.args.level c.args.tokens.now c.args.left.next c.requires.ended c.requires.within c.requires.level (e ∙ c.if-strength-level.false) in
-    let both : Operand = record { expression = c.in_ok-join.field-0; height = 1 + c.max.result; next = c.in_ok-right.right.next } in
-    let kind : phrase_of c.in_ok-join.field-0 ≡ joined (next_kind (drop c.args.left.next c.args.tokens.now)) (phrase_of c.args.left.expression) (phrase_of c.in_ok-right.right.expression) = subst (λ z. phrase_of c.in_ok-join.field-0 ≡ joined z (phrase_of c.args.left.expression) (phrase_of c.in_ok-right.right.expression)) c.kind_at-kind.ensures c.in_ok-join.ensures.ok in
+    let both : Operand = record { expression = c.join.result; height = 1 + c.max.result; next = c.in_ok-right.right.next } in
+    let kind : phrase_of c.join.result ≡ joined (next_kind (drop c.args.left.next c.args.tokens.now)) (phrase_of c.args.left.expression) (phrase_of c.in_ok-right.right.expression) =
+    c.join.ensures ∙ ap (λ z. joined z (phrase_of c.in_ok-before.before.value) (phrase_of c.in_ok-behind.behind.value)) c.kind_at-kind.ensures ∙ ap (λ z. joined (next_kind (drop c.args.left.next c.args.tokens.now)) (phrase_of z) (phrase_of c.in_ok-behind.behind.value)) c.in_ok-before.ensures.ok ∙ ap (λ z. joined (next_kind (drop c.args.left.next c.args.tokens.now)) (phrase_of c.args.left.expression) (phrase_of z)) c.in_ok-behind.ensures.ok in
     let high : 1 + c.max.result ≡ 1 + max c.args.left.height c.in_ok-right.right.height = let x = c.max.ensures in omega arith in
     map_err c.read_behind.result (λ s. more_stops c.args.level c.args.tokens.now c.args.left.next c.args.depth c.args.left.height c.in_ok-right.right both s o c.in_ok-right.ensures.ok high refl) c.read_behind.ensures.stop
 
