@@ -67,10 +67,10 @@ fn function(
         first,
         function.body.as_slice(),
     )?;
-    let scalars = names.scalars();
-    let arrays = names.take_sizes(alloc);
     names.leave(alloc, 0)?;
     let name = bytes_of(alloc, function.name.bytes.as_slice())?;
+    let scalars = names.scalars();
+    let arrays = names.take_sizes(alloc);
     Ok(Function {
         name,
         gives: function.gives,
@@ -363,11 +363,11 @@ pub fn resolve_program(alloc: Global, program: &syntax::Program) -> Result<Resol
     ensures fault { IfOk result (λ made. made.first ≡ first_fault (program_of program.now)) }
 {
     let definitions = program.definitions.as_slice();
+    let main = main_number(definitions)?;
     let file = file_names(alloc, definitions)?;
     let globals = globals(alloc, definitions)?;
     let names = Names::new(alloc, file)?;
     let made = make_functions(alloc, names, globals.len() as u32, program)?;
-    let main = main_number(definitions)?;
     let first = note(made.first, !has_main(definitions), 10, program.end);
     Ok(Resolved {
         program: Program {
