@@ -1,7 +1,7 @@
 // The words of a command line: the second names the command, and clap reads the others.
 
 ghost use Rattle.std.specs.Prelude.{◌≡◌, ◌≢◌, ◌⊎◌, [], true, unwrap_or, Some, None, map, IfOk, IfErr};
-ghost use Rattle.clap.specs.Words.{app_of, fault_of, first_value, found_of, is_simple, is_simple_and_free, kind_of, matches_of, rows_of};
+ghost use Rattle.clap.specs.Words.{App, app_of, fault_of, first_value, found_of, is_simple, is_simple_and_free, kind_of, matches_of, rows_of};
 ghost use Rattle.clap.specs.declared.error.kind.ErrorKind.TheVariants.{OutOfMemory};
 ghost use Rattle.vx_status.specs.Status.{Adds, Tells, status_line};
 ghost use Rattle.vx_command.specs.Asked.{compilation_of};
@@ -104,7 +104,7 @@ pub(crate) fn refusal_of(alloc: Global, error: &Error) -> Refused
 }
 
 /// What clap finds in the words of a command, or its refusal.
-pub(crate) fn found_in<'a>(
+fn found_in<'a>(
     alloc: Global,
     command: Command<'a>,
     words: &'a [&'a str],
@@ -118,6 +118,24 @@ pub(crate) fn found_in<'a>(
     match command.try_get_matches_from(words) {
         Ok(found) => Ok(found),
         Err(error) => Err(refusal_of(alloc, &error)),
+    }
+}
+
+/// What clap finds in the words of a command, where there was memory for the command, or its refusal.
+pub(crate) fn found_or_refused<'a>(
+    alloc: Global,
+    command: Result<Command<'a>, AllocError>,
+    words: &'a [&'a str],
+) -> Result<ArgMatches<'a>, Refused>
+    requires simple { IfOk command (λ made. is_simple (app_of made) ≡ true) }
+    requires free { IfOk command (λ made. is_simple_and_free (app_of made) ≡ true) }
+    ensures none { (app : App) → IfOk command.entry (λ made. app_of made ≡ app) → IfOk result (λ found. fault_of app (map (λ w. w.now) words.now) ≡ []) }
+    ensures rows { (app : App) → IfOk command.entry (λ made. app_of made ≡ app) → IfOk result (λ found. rows_of (found_of found) ≡ matches_of app (map (λ w. w.now) words.now)) }
+    ensures refused { (app : App) → IfOk command.entry (λ made. app_of made ≡ app) → IfErr result (λ refused. (refused.status ≡ Status.NoMemory) ⊎ ((refused.status ≡ Status.Usage) × (fault_of app (map (λ w. w.now) words.now) ≢ []))) }
+{
+    match command {
+        Ok(command) => found_in(alloc, command, words),
+        Err(_) => Err(without_text(Status::NoMemory)),
     }
 }
 
@@ -139,30 +157,14 @@ fn compile_found<'a>(found: &ArgMatches<'a>) -> Result<CompileWords<'a>, Refused
     }
 }
 
-/// What clap finds in the words of `compile`, or their refusal.
-fn read_words<'a>(
-    alloc: Global,
-    command: Command<'a>,
-    words: &'a [&'a str],
-) -> Result<CompileWords<'a>, Refused>
-    requires { app_of command ≡ compile_app }
-    ensures asked { IfOk result (λ asked. compile_of (map (λ w. w.now) words.now) ≡ Some (Compile (compilation_of asked))) }
-    ensures refused { IfErr result (λ refused. (refused.status ≡ Status.NoMemory) ⊎ ((refused.status ≡ Status.Usage) × (compile_of (map (λ w. w.now) words.now) ≡ None))) }
-{
-    match found_in(alloc, command, words) {
-        Ok(found) => compile_found(&found),
-        Err(refused) => Err(refused),
-    }
-}
-
 /// What the words of `compile` ask for, the program's name first, or their refusal.
 pub fn compile_asked<'a>(alloc: Global, words: &'a [&'a str]) -> Result<CompileWords<'a>, Refused>
     ensures asked { IfOk result (λ asked. compile_of (map (λ w. w.now) words.now) ≡ Some (Compile (compilation_of asked))) }
     ensures refused { IfErr result (λ refused. (refused.status ≡ Status.NoMemory) ⊎ ((refused.status ≡ Status.Usage) × (compile_of (map (λ w. w.now) words.now) ≡ None))) }
 {
-    match compile_command(alloc) {
-        Ok(command) => read_words(alloc, command, words),
-        Err(_) => Err(without_text(Status::NoMemory)),
+    match found_or_refused(alloc, compile_command(alloc), words) {
+        Ok(found) => compile_found(&found),
+        Err(refused) => Err(refused),
     }
 }
 

@@ -5,7 +5,7 @@ ghost use Rattle.clap.specs.Words.{app_of, rows_of, found_of};
 ghost use Rattle.vx_command.specs.Command.{Count, profile_app, profile_of, profile_unless};
 ghost use Rattle.vx_command.specs.Asked.{profiling_of};
 
-use crate::command::{Refused, found_in, text_at, without_text};
+use crate::command::{Refused, found_or_refused, text_at, without_text};
 use crate::options::{file_command, input_option, number_of, with_word};
 use crate::run_words::{MOST_WORDS, budget_of};
 use clap::{ArgMatches, Command};
@@ -62,29 +62,13 @@ fn profile_found<'a>(found: &ArgMatches<'a>) -> Result<ProfileWords<'a>, Refused
     }
 }
 
-/// What clap finds in the words of `profile`, or their refusal.
-fn read_words<'a>(
-    alloc: Global,
-    command: Command<'a>,
-    words: &'a [&'a str],
-) -> Result<ProfileWords<'a>, Refused>
-    requires { app_of command ≡ profile_app }
-    ensures asked { IfOk result (λ asked. profile_of (map (λ w. w.now) words.now) ≡ Some (Count (profiling_of asked))) }
-    ensures refused { IfErr result (λ refused. (refused.status ≡ Status.NoMemory) ⊎ ((refused.status ≡ Status.Usage) × (profile_of (map (λ w. w.now) words.now) ≡ None))) }
-{
-    match found_in(alloc, command, words) {
-        Ok(found) => profile_found(&found),
-        Err(refused) => Err(refused),
-    }
-}
-
 /// What the words of `profile` ask for, the program's name first, or their refusal.
 pub fn profile_asked<'a>(alloc: Global, words: &'a [&'a str]) -> Result<ProfileWords<'a>, Refused>
     ensures asked { IfOk result (λ asked. profile_of (map (λ w. w.now) words.now) ≡ Some (Count (profiling_of asked))) }
     ensures refused { IfErr result (λ refused. (refused.status ≡ Status.NoMemory) ⊎ ((refused.status ≡ Status.Usage) × (profile_of (map (λ w. w.now) words.now) ≡ None))) }
 {
-    match profile_command(alloc) {
-        Ok(command) => read_words(alloc, command, words),
-        Err(_) => Err(without_text(Status::NoMemory)),
+    match found_or_refused(alloc, profile_command(alloc), words) {
+        Ok(found) => profile_found(&found),
+        Err(refused) => Err(refused),
     }
 }

@@ -5,7 +5,7 @@ ghost use Rattle.clap.specs.Words.{App, app_of, rows_of, first_value, found_of};
 ghost use Rattle.vx_command.specs.Command.{with_run_options, sim_app, exec_app, run_unless, Makes, Simulate, Execute, executes, sim_of, exec_of, exec_unless, budget_of};
 ghost use Rattle.vx_command.specs.Asked.{asks, simulation_of, execution_of};
 
-use crate::command::{Refused, found_in, text_at, without_text};
+use crate::command::{Refused, found_or_refused, text_at, without_text};
 use crate::options::{
     file_command, growth_of, input_option, machine_option, number_of, option_of,
     with_compiling_options, with_word,
@@ -212,46 +212,14 @@ fn exec_found<'a>(found: &ArgMatches<'a>) -> Result<ExecWords<'a>, Refused>
     }
 }
 
-/// What clap finds in the words of `sim`, or their refusal.
-fn read_sim<'a>(
-    alloc: Global,
-    command: Command<'a>,
-    words: &'a [&'a str],
-) -> Result<RunWords<'a>, Refused>
-    requires { app_of command ≡ sim_app }
-    ensures asked { IfOk result (λ asked. sim_of (map (λ w. w.now) words.now) ≡ Some (Simulate (simulation_of asked))) }
-    ensures refused { IfErr result (λ refused. (refused.status ≡ Status.NoMemory) ⊎ ((refused.status ≡ Status.Usage) × (sim_of (map (λ w. w.now) words.now) ≡ None))) }
-{
-    match found_in(alloc, command, words) {
-        Ok(found) => asked_in(&found, "WORDS"),
-        Err(refused) => Err(refused),
-    }
-}
-
-/// What clap finds in the words of `exec`, or their refusal.
-fn read_exec<'a>(
-    alloc: Global,
-    command: Command<'a>,
-    words: &'a [&'a str],
-) -> Result<ExecWords<'a>, Refused>
-    requires { app_of command ≡ exec_app }
-    ensures asked { IfOk result (λ asked. exec_of (map (λ w. w.now) words.now) ≡ Some (Execute (execution_of asked))) }
-    ensures refused { IfErr result (λ refused. (refused.status ≡ Status.NoMemory) ⊎ ((refused.status ≡ Status.Usage) × (exec_of (map (λ w. w.now) words.now) ≡ None))) }
-{
-    match found_in(alloc, command, words) {
-        Ok(found) => exec_found(&found),
-        Err(refused) => Err(refused),
-    }
-}
-
 /// What the words of `sim` ask for, the program's name first, or their refusal.
 pub fn sim_asked<'a>(alloc: Global, words: &'a [&'a str]) -> Result<RunWords<'a>, Refused>
     ensures asked { IfOk result (λ asked. sim_of (map (λ w. w.now) words.now) ≡ Some (Simulate (simulation_of asked))) }
     ensures refused { IfErr result (λ refused. (refused.status ≡ Status.NoMemory) ⊎ ((refused.status ≡ Status.Usage) × (sim_of (map (λ w. w.now) words.now) ≡ None))) }
 {
-    match sim_command(alloc) {
-        Ok(command) => read_sim(alloc, command, words),
-        Err(_) => Err(without_text(Status::NoMemory)),
+    match found_or_refused(alloc, sim_command(alloc), words) {
+        Ok(found) => asked_in(&found, "WORDS"),
+        Err(refused) => Err(refused),
     }
 }
 
@@ -260,8 +228,8 @@ pub fn exec_asked<'a>(alloc: Global, words: &'a [&'a str]) -> Result<ExecWords<'
     ensures asked { IfOk result (λ asked. exec_of (map (λ w. w.now) words.now) ≡ Some (Execute (execution_of asked))) }
     ensures refused { IfErr result (λ refused. (refused.status ≡ Status.NoMemory) ⊎ ((refused.status ≡ Status.Usage) × (exec_of (map (λ w. w.now) words.now) ≡ None))) }
 {
-    match exec_command(alloc) {
-        Ok(command) => read_exec(alloc, command, words),
-        Err(_) => Err(without_text(Status::NoMemory)),
+    match found_or_refused(alloc, exec_command(alloc), words) {
+        Ok(found) => exec_found(&found),
+        Err(refused) => Err(refused),
     }
 }

@@ -6,7 +6,7 @@ ghost use Rattle.clap.specs.Words.{app_of, rows_of, found_of};
 ghost use Rattle.vx_command.specs.Command.{Soak, number_in, soak_app, soak_found, soak_of, soak_unless};
 ghost use Rattle.vx_command.specs.Asked.{soaking_of};
 
-use crate::command::{Refused, found_in, without_text};
+use crate::command::{Refused, found_or_refused, without_text};
 use crate::options::{number_or_least, required_number_of, with_word};
 use crate::soaking::SoakWords;
 use clap::{ArgMatches, Command};
@@ -76,29 +76,13 @@ fn asked_in(found: &ArgMatches) -> Result<SoakWords, Refused>
     }
 }
 
-/// What clap finds in the words of `soak`, or their refusal.
-fn read_words<'a>(
-    alloc: Global,
-    command: Command<'a>,
-    words: &'a [&'a str],
-) -> Result<SoakWords, Refused>
-    requires { app_of command ≡ soak_app }
-    ensures asked { IfOk result (λ asked. soak_of (map (λ w. w.now) words.now) ≡ Some (Soak (soaking_of asked))) }
-    ensures refused { IfErr result (λ refused. (refused.status ≡ Status.NoMemory) ⊎ ((refused.status ≡ Status.Usage) × (soak_of (map (λ w. w.now) words.now) ≡ None))) }
-{
-    match found_in(alloc, command, words) {
-        Ok(found) => asked_in(&found),
-        Err(refused) => Err(refused),
-    }
-}
-
 /// What the words of `soak` ask for, the program's name first, or their refusal.
 pub fn soak_asked<'a>(alloc: Global, words: &'a [&'a str]) -> Result<SoakWords, Refused>
     ensures asked { IfOk result (λ asked. soak_of (map (λ w. w.now) words.now) ≡ Some (Soak (soaking_of asked))) }
     ensures refused { IfErr result (λ refused. (refused.status ≡ Status.NoMemory) ⊎ ((refused.status ≡ Status.Usage) × (soak_of (map (λ w. w.now) words.now) ≡ None))) }
 {
-    match soak_command(alloc) {
-        Ok(command) => read_words(alloc, command, words),
-        Err(_) => Err(without_text(Status::NoMemory)),
+    match found_or_refused(alloc, soak_command(alloc), words) {
+        Ok(found) => asked_in(&found),
+        Err(refused) => Err(refused),
     }
 }
