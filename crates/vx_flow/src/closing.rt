@@ -2,7 +2,7 @@
 // what holds meanwhile. Then the value is listed under them, and no node is marked again. The time is that of looking at the
 // routes into the nodes that are marked.
 
-ghost use Rattle.std.specs.Prelude.{◌≡◌, ◌↔◌, ◌==◌, ◌<◌, ℕ, true, false, [], IfOk, Some, None, length, slice_get};
+ghost use Rattle.std.specs.Prelude.{◌≡◌, ◌↔◌, ◌==◌, ◌<◌, ℕ, true, false, [], if◌then◌else◌, IfOk, Some, None, length, slice_get};
 ghost use Rattle.vx_flow.specs.declared.routes.Route.{Route};
 ghost use Rattle.vx_flow.specs.Effects.{IsIn};
 ghost use Rattle.std.specs.List.{list_any};
@@ -70,6 +70,25 @@ fn mark(row: &mut Vec<bool>, pending: &mut Vec<BlockId>, node: BlockId) -> Resul
     Ok(())
 }
 
+/// Marks a node that is not marked yet, if this is asked.
+fn mark_if(
+    row: &mut Vec<bool>,
+    pending: &mut Vec<BlockId>,
+    node: BlockId,
+    asked: bool,
+) -> Result<(), NoMemory>
+    requires { node < length row.old.items }
+    ensures row { IfOk result (λ _. row.new.items ≡ (if asked then marked_row row.old.items node else row.old.items)) }
+    ensures pending { IfOk result (λ _. pending.new.items ≡ (if asked then marked_pending row.old.items pending.old.items node else pending.old.items)) }
+    ensures len { length row.new.items ≡ length row.old.items }
+{
+    if asked {
+        mark(row, pending, node)
+    } else {
+        Ok(())
+    }
+}
+
 /// Marks the beginning of a route that reads the value first.
 fn start(
     routes: &[Route],
@@ -84,12 +103,7 @@ fn start(
     ensures len { length row.new.items ≡ length row.old.items }
 {
     match routes.get(index as usize) {
-        Some(route) => {
-            if starts(route, value) {
-                mark(row, pending, route.from)?;
-            }
-            Ok(())
-        }
+        Some(route) => mark_if(row, pending, route.from, starts(route, value)),
         None => Ok(()),
     }
 }
@@ -109,12 +123,7 @@ fn follow(
     ensures len { length row.new.items ≡ length row.old.items }
 {
     match routes.get(index as usize) {
-        Some(route) => {
-            if passes(route, value, node) {
-                mark(row, pending, route.from)?;
-            }
-            Ok(())
-        }
+        Some(route) => mark_if(row, pending, route.from, passes(route, value, node)),
         None => Ok(()),
     }
 }
