@@ -1,12 +1,12 @@
 // Which values are live at the start of each node of a graph. The solver goes over routes, so that it serves blocks and
 // regions alike; `live` is for the blocks of a graph.
 
-ghost use Rattle.std.specs.Prelude.{◌≡◌, ◌↔◌, ℕ, length, ◌<◌, ◌^◌, ◌++◌, ◌∷◌, [], IfOk, IsTrue};
+ghost use Rattle.std.specs.Prelude.{◌≡◌, ◌↔◌, ℕ, length, ◌<◌, ◌^◌, ◌++◌, ◌∷◌, [], true, IfOk, IsTrue};
 ghost use Rattle.std.specs.List.{flat_map};
 ghost use Rattle.vx_flow.specs.Sound.{targets_of};
 ghost use Rattle.vx_flow.specs.Live.{IsLive, LiveOn, operand_touches, right_touches, route_of, routes_from, touch, touches_of, touches_of_exit};
-ghost use Rattle.vx_flow.specs.Rows.{lives};
-ghost use Rattle.vx_flow.specs.Closing.{BeginWithin};
+ghost use Rattle.vx_flow.specs.Rows.{lives, row_at, Rising};
+ghost use Rattle.vx_flow.specs.Closing.{BeginWithin, EnteringFound, ReadersFound};
 
 use crate::closing::{list_found, live_nodes, unmarked};
 use crate::graph::{Block, BlockId, Exit, Graph, Op, Operand, Value};
@@ -39,6 +39,24 @@ pub fn live_on(alloc: Global, nodes: usize, routes: &Listed<Route>) -> Result<Li
     let _count = routes.len();
     let entering = entering_of(alloc, routes.as_slice())?;
     let readers = readers_of(alloc, routes.as_slice())?;
+    let rows = rows_of(alloc, nodes, routes.as_slice(), &entering, &readers)?;
+    Ok(Live::from_rows(rows))
+}
+
+/// The values under the nodes where they are live, one value after the other.
+fn rows_of(
+    alloc: Global,
+    nodes: usize,
+    routes: &[Route],
+    entering: &Rows,
+    readers: &Rows,
+) -> Result<Rows, NoMemory>
+    requires within { BeginWithin nodes routes.now }
+    requires entering { EnteringFound routes.now entering.now }
+    requires readers { ReadersFound routes.now readers.now }
+    ensures exact { IfOk result (λ rows. (b : ℕ) (v : ℕ) → IsTrue (lives rows b v) ↔ LiveOn routes.now b v) }
+    ensures rising { IfOk result (λ rows. (b : ℕ) → Rising (row_at rows b)) }
+{
     let values = match u32::try_from(readers.len()) {
         Ok(values) => values,
         Err(_) => return Err(NoMemory),
@@ -47,17 +65,10 @@ pub fn live_on(alloc: Global, nodes: usize, routes: &Listed<Route>) -> Result<Li
     let mut marks = unmarked(alloc, nodes)?;
     for value in 0..values {
         let read_by = readers.of(value as usize);
-        let found = live_nodes(
-            alloc,
-            routes.as_slice(),
-            &entering,
-            read_by,
-            value,
-            &mut marks,
-        )?;
+        let found = live_nodes(alloc, routes, entering, read_by, value, &mut marks)?;
         list_found(&mut rows, &mut marks, found.as_slice(), value)?;
     }
-    Ok(Live::from_rows(rows))
+    Ok(rows)
 }
 
 /// The blocks as routes.

@@ -1,0 +1,24 @@
+use Rattle.std.proofs.Common.{◌≡◌, length, subst, ◌∙◌, arith}
+use Rattle.vx_flow.specs.Effects.{IsIn}
+use Rattle.vx_flow.proofs.ClosingSteps.{marked_below}
+use Rattle.vx_flow.proofs.LiveRoutes.{rows_all, rows_more}
+use Rattle.vx_flow.proofs.liveness.rows_of.Goals as goal
+
+pub list_found-requires-clause-within : goal.list_found-requires-clause-within
+list_found-requires-clause-within c = λ b m. marked_below c.live_nodes.new.row.items b ((c.in_ok-found.ensures.found b).1 (subst (IsIn b) c.as_slice.ensures.value m))
+
+pub loop-value-preserved : goal.loop-value-preserved
+loop-value-preserved c = record {
+  so_far = rows_more c.args.routes.now c.loop-value.rows c.list_found.new.rows c.live_nodes.new.row.items c.loop-value.value c.loop-value.invariant.so_far
+      c.in_ok-found.ensures.exact c.in_ok-list_found.ensures.listed;
+  none = c.in_ok-list_found.ensures.none;
+  len = c.list_found.ensures.len ∙ c.in_ok-found.ensures.len ∙ c.loop-value.invariant.len;
+}
+
+pub returns : goal.returns
+returns c =
+    let z : length c.args.readers.now ≡ c.loop-value.value = omega (arith, c.in-Ok.ensures, c.len.ensures) in
+    record {
+      exact = rows_all c.args.routes.now c.args.readers.now c.loop-value.rows c.loop-value.value c.requires.readers z c.loop-value.invariant.so_far;
+      rising = c.loop-value.invariant.so_far.rising;
+    }
