@@ -4,7 +4,7 @@
 ghost use Rattle.std.specs.Prelude.{◌≡◌, ◌↔◌, ℕ, length, ◌<◌, ◌^◌, ◌++◌, ◌∷◌, [], true, IfOk, IsTrue};
 ghost use Rattle.std.specs.List.{flat_map};
 ghost use Rattle.vx_flow.specs.Sound.{targets_of};
-ghost use Rattle.vx_flow.specs.Live.{IsLive, LiveOn, operand_touches, right_touches, route_of, routes_from, touch, touches_of, touches_of_exit};
+ghost use Rattle.vx_flow.specs.Live.{IsLive, LiveOn, operand_touches, right_touches, route_of, routes_from, touch, touches_of, touches_of_exit, written};
 ghost use Rattle.vx_flow.specs.Rows.{lives, row_at, Rising};
 ghost use Rattle.vx_flow.specs.Closing.{BeginWithin, EnteringFound, ReadersFound};
 
@@ -133,43 +133,76 @@ fn push_op(touches: &mut Listed<Touch>, op: &Op) -> Result<(), NoMemory>
             to,
             left,
             right,
-        } => {
-            push_operand(touches, left)?;
-            push_right(touches, *code, right)?;
-            push_touch(touches, false, *to)
-        }
+        } => push_compute(touches, *code, *to, left, right),
         Op::Select {
             to,
             test,
             left,
             right,
-        } => {
-            push_touch(touches, true, *test)?;
-            push_operand(touches, left)?;
-            push_operand(touches, right)?;
-            push_touch(touches, false, *to)
-        }
-        Op::Place { to, index, .. } => {
-            push_operand(touches, index)?;
-            push_touch(touches, false, *to)
-        }
-        Op::Load { to, place, .. } => {
-            push_operand(touches, place)?;
-            push_touch(touches, false, *to)
-        }
-        Op::Store { place, from, .. } => {
-            push_operand(touches, place)?;
-            push_operand(touches, from)
-        }
+        } => push_select(touches, *to, *test, left, right),
+        Op::Place { to, index, .. } => push_from(touches, *to, index),
+        Op::Load { to, place, .. } => push_from(touches, *to, place),
+        Op::Store { place, from, .. } => push_both(touches, place, from),
         Op::More { to } => push_touch(touches, false, *to),
         Op::Input { to } => push_touch(touches, false, *to),
         Op::Text { .. } => Ok(()),
         Op::Decimal { from } => push_operand(touches, from),
-        Op::Across { to, from } => {
-            push_touch(touches, true, *from)?;
-            push_touch(touches, false, *to)
-        }
+        Op::Across { to, from } => push_copy(touches, *to, *from),
     }
+}
+
+/// Arithmetic reads its operands, and then writes.
+fn push_compute(
+    touches: &mut Listed<Touch>,
+    code: Code,
+    to: Value,
+    left: &Operand,
+    right: &Operand,
+) -> Result<(), NoMemory>
+    ensures { IfOk result (λ _. touches.new ≡ touches.old ++ (operand_touches left.now ++ (right_touches code right.now ++ written to))) }
+{
+    push_operand(touches, left)?;
+    push_right(touches, code, right)?;
+    push_touch(touches, false, to)
+}
+
+/// A choice reads its test and both operands, and then writes.
+fn push_select(
+    touches: &mut Listed<Touch>,
+    to: Value,
+    test: Value,
+    left: &Operand,
+    right: &Operand,
+) -> Result<(), NoMemory>
+    ensures { IfOk result (λ _. touches.new ≡ touches.old ++ touch true test ∷ (operand_touches left.now ++ (operand_touches right.now ++ written to))) }
+{
+    push_touch(touches, true, test)?;
+    push_both(touches, left, right)?;
+    push_touch(touches, false, to)
+}
+
+/// Reads an operand, and then writes.
+fn push_from(touches: &mut Listed<Touch>, to: Value, operand: &Operand) -> Result<(), NoMemory>
+    ensures { IfOk result (λ _. touches.new ≡ touches.old ++ (operand_touches operand.now ++ written to)) }
+{
+    push_operand(touches, operand)?;
+    push_touch(touches, false, to)
+}
+
+/// Reads two operands.
+fn push_both(touches: &mut Listed<Touch>, left: &Operand, right: &Operand) -> Result<(), NoMemory>
+    ensures { IfOk result (λ _. touches.new ≡ touches.old ++ (operand_touches left.now ++ operand_touches right.now)) }
+{
+    push_operand(touches, left)?;
+    push_operand(touches, right)
+}
+
+/// A copy of a value reads it, and then writes.
+fn push_copy(touches: &mut Listed<Touch>, to: Value, from: Value) -> Result<(), NoMemory>
+    ensures { IfOk result (λ _. touches.new ≡ touches.old ++ touch true from ∷ written to) }
+{
+    push_touch(touches, true, from)?;
+    push_touch(touches, false, to)
 }
 
 /// What an exit does to values: it reads, and a call then writes its result.
