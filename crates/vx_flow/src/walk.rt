@@ -25,9 +25,26 @@ pub fn back_edges(alloc: Global, graph: &Graph) -> Result<Vec<Edge>, NoMemory>
     requires { LeadWithin graph.now }
     ensures { IfOk result (λ back. BackEdges graph.now back.items) }
 {
-    let blocks = graph.blocks.len() as u32;
     let mut seen = unmarked(alloc, graph.blocks.len())?;
     let mut on_path = unmarked(alloc, graph.blocks.len())?;
+    walk(alloc, graph, &mut seen, &mut on_path)
+}
+
+/// Walks the whole graph, of which no block is marked as reached or as on the path.
+fn walk(
+    alloc: Global,
+    graph: &Graph,
+    seen: &mut Vec<bool>,
+    on_path: &mut Vec<bool>,
+) -> Result<Vec<Edge>, NoMemory>
+    requires within { LeadWithin graph.now }
+    requires none_seen { (b : ℕ) → is_marked seen.old.items b ≡ true → ⊥ }
+    requires none_on_path { (b : ℕ) → is_marked on_path.old.items b ≡ true → ⊥ }
+    requires seen_len { length seen.old.items ≡ length graph.now.blocks }
+    requires path_len { length on_path.old.items ≡ length graph.now.blocks }
+    ensures { IfOk result (λ back. BackEdges graph.now back.items) }
+{
+    let blocks = graph.blocks.len() as u32;
     let mut places: Vec<Place> = Vec::new(alloc);
     let mut back: Vec<Edge> = Vec::new(alloc);
     let mut root: BlockId = 0;
@@ -35,13 +52,13 @@ pub fn back_edges(alloc: Global, graph: &Graph) -> Result<Vec<Edge>, NoMemory>
         match places.pop() {
             Some(place) => {
                 let next = successor(graph, place.block, place.taken);
-                step(place, next, &mut seen, &mut on_path, &mut places, &mut back)?;
+                step(place, next, seen, on_path, &mut places, &mut back)?;
             }
             None => {
                 if root >= blocks {
                     return Ok(back);
                 }
-                begin(root, &mut seen, &mut on_path, &mut places)?;
+                begin(root, seen, on_path, &mut places)?;
                 root += 1;
             }
         }

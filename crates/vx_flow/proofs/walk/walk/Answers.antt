@@ -1,26 +1,29 @@
-use Rattle.std.proofs.Common.{◌≡◌, ◌∙◌, ◌+◌, ◌<◌, ◌≤◌, [], length, refl, sym, subst, arith}
+use Rattle.std.proofs.Common.{◌≡◌, ◌+◌, ◌<◌, ◌≤◌, [], length, refl, sym, subst, arith}
 use Rattle.vx_flow.specs.Walking.{back_after, path_after, path_begun, places_after, places_begun, seen_after, seen_begun}
 use Rattle.vx_flow.proofs.ClosingSteps.{empty_list}
 use Rattle.vx_flow.proofs.WalkSteps.{walking_first, walking_step, walking_begin, walking_last, walking_same, last_below, next_below}
-use Rattle.vx_flow.proofs.walk.back_edges.Goals as goal
-use Rattle.vx_flow.proofs.walk.back_edges.Goals.{in-Some+in_ok-step-in-Some, in-None+else-root-blocks+in_ok-begin-in-None}
+use Rattle.vx_flow.proofs.walk.walk.Goals as goal
+use Rattle.vx_flow.proofs.walk.walk.Goals.{in-Some+in_ok-step-in-Some, in-None+else-root-blocks+in_ok-begin-in-None}
 
 pub steps-init : goal.steps-init
-steps-init c = record {
-  walking = walking_same c.args.graph.now 0 0 c.in_ok-seen.seen.items c.in_ok-seen.seen.items c.in_ok-on_path.on_path.items c.in_ok-on_path.on_path.items [] c.new-places.result.items [] c.new-back.result.items
-      (walking_first c.args.graph.now c.in_ok-seen.seen.items c.in_ok-on_path.on_path.items c.in_ok-seen.ensures.none c.in_ok-on_path.ensures.none) refl refl refl c.new-places.ensures.items c.new-back.ensures.items;
-  seen_len = c.in_ok-seen.ensures.len ∙ c.len.ensures.len;
-  path_len = c.in_ok-on_path.ensures.len ∙ c.len-2.ensures.len;
-}
+steps-init c =
+    let seen = c.args.seen.now.items in
+    let on_path = c.args.on_path.now.items in
+    record {
+      walking = walking_same c.args.graph.now 0 0 seen seen on_path on_path [] c.new-places.result.items [] c.new-back.result.items
+          (walking_first c.args.graph.now seen on_path c.requires.none_seen c.requires.none_on_path) refl refl refl c.new-places.ensures.items c.new-back.ensures.items;
+      seen_len = c.requires.seen_len;
+      path_len = c.requires.path_len;
+    }
 
 pub step-requires-clause-block : goal.step-requires-clause-block
 step-requires-clause-block c = last_below c.args.graph.now c.steps.root c.steps.seen.items c.steps.on_path.items c.steps.places.items c.pop.new.self.items c.in-Some.place c.steps.back.items c.steps.invariant.walking c.in-Some.ensures.items
 
 pub step-requires-clause-seen_has : goal.step-requires-clause-seen_has
-step-requires-clause-seen_has c = next_below c.args.graph.now c.in-Some.place.block c.in-Some.place.taken (length c.steps.seen.items) c.successor-next.result c.requires (sym c.steps.invariant.seen_len) c.successor-next.ensures
+step-requires-clause-seen_has c = next_below c.args.graph.now c.in-Some.place.block c.in-Some.place.taken (length c.steps.seen.items) c.successor-next.result c.requires.within (sym c.steps.invariant.seen_len) c.successor-next.ensures
 
 pub step-requires-clause-path_has : goal.step-requires-clause-path_has
-step-requires-clause-path_has c = next_below c.args.graph.now c.in-Some.place.block c.in-Some.place.taken (length c.steps.on_path.items) c.successor-next.result c.requires (sym c.steps.invariant.path_len) c.successor-next.ensures
+step-requires-clause-path_has c = next_below c.args.graph.now c.in-Some.place.block c.in-Some.place.taken (length c.steps.on_path.items) c.successor-next.result c.requires.within (sym c.steps.invariant.path_len) c.successor-next.ensures
 
 pub returns-then-root-blocks : goal.returns-then-root-blocks
 returns-then-root-blocks c =
@@ -37,8 +40,8 @@ steps-preserved c = elim c.match-pop.branch [
       let p = w.in-Some.place in
       let next = w.successor-next.result in
       let walk = walking_step g c.steps.root c.steps.seen.items c.steps.on_path.items c.steps.places.items c.pop.new.self.items p c.steps.back.items next c.steps.invariant.walking w.in-Some.ensures.items w.successor-next.ensures
-      (next_below g p.block p.taken (length c.steps.seen.items) next c.requires (sym c.steps.invariant.seen_len) w.successor-next.ensures)
-      (next_below g p.block p.taken (length c.steps.on_path.items) next c.requires (sym c.steps.invariant.path_len) w.successor-next.ensures) in
+      (next_below g p.block p.taken (length c.steps.seen.items) next c.requires.within (sym c.steps.invariant.seen_len) w.successor-next.ensures)
+      (next_below g p.block p.taken (length c.steps.on_path.items) next c.requires.within (sym c.steps.invariant.path_len) w.successor-next.ensures) in
       let e = w.in_ok-step-in-Some.ensures in
       let a : c.match-pop.root ≡ c.steps.root = cc in
       let s : c.match-pop.seen.items ≡ seen_after next c.steps.seen.items c.steps.on_path.items = cc (e.seen) in

@@ -1,6 +1,6 @@
 use Rattle.std.proofs.Common.{◌≡◌, length}
 use Rattle.vx_flow.specs.Walking.{Walking}
-use Rattle.vx_flow.proofs.walk.back_edges.Given as goal
+use Rattle.vx_flow.proofs.walk.walk.Given as goal
 
 abbrev pub invariant-steps : goal.invariant-steps
 invariant-steps l = record { walking : Walking l.graph l.root l.seen.items l.on_path.items l.places.items l.back.items; seen_len : length l.seen.items ≡ length l.graph.blocks; path_len : length l.on_path.items ≡ length l.graph.blocks }
