@@ -1,5 +1,5 @@
 -- The holders of registers, one after the other.
-use Rattle.std.proofs.Common.{◌≡◌, ◌⊎◌, ◌<◌, ◌≤◌, ◌+◌, ◌==◌, ◌&&◌, ◌||◌, ℕ, zero, suc, Bool, true, false, Option, Some, None, List, [], ◌∷◌, length, inl, inr, sym, ap, subst, refl, arith, ◌∙◌, nat_lt, lt-ltb}
+use Rattle.std.proofs.Common.{◌≡◌, ◌⊎◌, ◌<◌, ◌≤◌, ◌+◌, ◌==◌, ◌&&◌, ◌||◌, ℕ, zero, suc, Bool, true, false, Option, Some, None, List, [], ◌∷◌, ◌++◌, length, inl, inr, sym, ap, subst, refl, arith, ◌∙◌, nat_lt, lt-ltb}
 use Rattle.std.specs.Prelude.{if◌then◌else◌, slice_get, slice_index_or, slice_set}
 use Rattle.std.proofs.lemmas.Option.{slice_get_within}
 use Rattle.vx_regs.specs.declared.map.Kept.{Kept}
@@ -159,3 +159,10 @@ gives_slot span first next new held kept new_kept last all l e k n =
 pub gives_its : (span : Span) (first next new : ℕ) (held new_held : List (Option Span)) (kept between new_kept : List Kept) (last : Last) (i : ℕ) → AllHeld held span.from → IsLast held span (length held) last → last.register ≡ Some i → between ≡ slice_set kept last.span.value (InSlot next) → new_held ≡ slice_set held i (Some span) → new_kept ≡ slice_set between span.value (InRegister (first + i)) → new ≡ next + 1 → Gives span first held kept next new_held new_kept new
 gives_its span first next new held new_held kept between new_kept last i all l e b h k n =
     evicts i last.span all (l.holds i e) (l.longer i e) (λ j s a o. l.none j s (let x = a.holder in slice_get_within held j (Some s) x) a o) h (k ∙ ap (λ z. slice_set z span.value (InRegister (first + i))) b) (omega arith)
+
+-- one free register more
+pub none_held : (held : List (Option Span)) → ((i : ℕ) (s : Span) → Holds held i s → ⊥) → (i : ℕ) (s : Span) → Holds (held ++ None ∷ []) i s → ⊥
+none_held [] free zero s h = let e : Some None ≡ Some (Some s) = h.holder in absurd (cc)
+none_held [] free (suc i) s h = let e : None ≡ Some (Some s) = h.holder in absurd (cc)
+none_held (x ∷ held) free zero s h = free 0 s (record { holder = h.holder })
+none_held (x ∷ held) free (suc i) s h = none_held held (λ j t k. free (suc j) t (record { holder = k.holder })) i s (record { holder = h.holder })

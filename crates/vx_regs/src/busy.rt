@@ -40,7 +40,6 @@ fn note_values(hulls: &mut Vec<Option<Hull>>, values: &[Value], place: u32) -> R
 }
 
 /// Notes the values that a word names.
-#[tactic(auto, using(crate::proofs::BusyNotes::values_two))]
 fn note_named(
     alloc: Global,
     hulls: &mut Vec<Option<Hull>>,
