@@ -1,4 +1,4 @@
-use Rattle.std.proofs.Common.{◌≡◌, ◌++◌, length, ap, ◌∙◌}
+use Rattle.std.proofs.Common.{◌++◌, length, ap, ◌∙◌}
 use Rattle.vx_frame.specs.declared.gathering.FunctionPlaces.{FunctionPlaces}
 use Rattle.vx_frame.specs.Placed.{laid_pieces, landing_pieces, words_of}
 use Rattle.vx_frame.specs.Placing.{landings_from, marks_from, starts_from}

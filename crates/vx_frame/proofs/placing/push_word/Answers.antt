@@ -1,5 +1,4 @@
 use Rattle.std.proofs.Common.{◌≡◌, ◌+◌, ◌++◌, IfOk, length, sym, subst}
-use Rattle.vx_mixed.specs.declared.layout.VirtualWord.TheVariants.{Planned}
 use Rattle.vx_mixed.specs.LaidSettled.{laid_reads}
 use Rattle.vx_frame.specs.Placing.{mark_of}
 use Rattle.vx_frame.specs.Seen.{seen}
