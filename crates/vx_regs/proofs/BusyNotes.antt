@@ -1,5 +1,5 @@
 -- Which places the notes of a layout's words are, one after the other.
-use Rattle.std.proofs.Common.{◌==◌, zero, length, ◌≡◌, ◌≢◌, ◌⊎◌, ◌<◌, ◌≤◌, ◌+◌, ◌-◌, ℕ, suc, Bool, true, false, Option, Some, None, List, [], ◌∷◌, ◌++◌, inl, inr, sym, ap, subst, refl, arith, ◌∙◌, slice_get}
+use Rattle.std.proofs.Common.{◌==◌, zero, length, ◌≡◌, ◌≢◌, ◌⊎◌, ◌<◌, ◌≤◌, ◌+◌, ◌-◌, ℕ, suc, Bool, true, Option, Some, None, List, [], ◌∷◌, ◌++◌, inl, inr, sym, ap, subst, refl, arith, ◌∙◌, slice_get}
 use Rattle.std.specs.List.{list_any}
 use Rattle.std.specs.Prelude.{IsTrue}
 use Rattle.std.proofs.lemmas.Bool.{cases_lt}

@@ -1,4 +1,4 @@
-use Rattle.std.proofs.Common.{◌≡◌, ◌+◌, ◌++◌, ◌∷◌, [], None, Option, List, ap, sym, subst, length, length-append, arith}
+use Rattle.std.proofs.Common.{◌≡◌, ◌++◌, ◌∷◌, [], None, Option, List, ap, sym, subst, length, length-append, arith}
 use Rattle.std.specs.Prelude.{ℕ}
 use Rattle.vx_regs.specs.declared.spans.Span.{Span}
 use Rattle.vx_regs.specs.Spans.{Holds}
