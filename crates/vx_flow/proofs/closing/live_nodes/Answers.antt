@@ -2,7 +2,7 @@ use Rattle.std.proofs.Common.{◌≡◌, true, [], subst, sym, ◌∙◌, arith}
 use Rattle.vx_flow.specs.Effects.{IsIn}
 use Rattle.vx_flow.specs.Rows.{is_marked, row_at}
 use Rattle.vx_flow.specs.Closing.{BeginWithin, Closing}
-use Rattle.vx_flow.proofs.ClosingSteps.{closing_any, closing_exact, closing_next, empty_list, tracked_next}
+use Rattle.vx_flow.proofs.ClosingSteps.{closing_any, closing_exact, closing_next, empty_list, Tracked, tracked_all, tracked_next}
 use Rattle.vx_flow.proofs.Members.{in_last}
 use Rattle.vx_flow.proofs.closing.live_nodes.Goals as goal
 
@@ -31,3 +31,9 @@ pending-preserved c =
       tracked = tracked_next c.pending.row.items c.follow_all.new.row.items c.pending.pending.items rest c.follow_all.new.pending.items c.pending.found.items c.push.new.self.items node c.pending.invariant.tracked m e c.in_ok-push-in-Some.ensures.items c.in_ok-follow_all-in-Some.ensures.spreads;
       len = c.follow_all.ensures.len ∙ c.pending.invariant.len;
     }
+
+pub returns-in-None-clause-found : goal.returns-in-None-clause-found
+returns-in-None-clause-found c =
+    let h = c.in-None.ensures.cases in
+    let e : c.pending.pending.items ≡ [] = empty_list c.pending.pending.items (omega arith) in
+    tracked_all c.pending.row.items c.pending.found.items (subst (λ p. Tracked c.pending.row.items p c.pending.found.items) e c.pending.invariant.tracked)

@@ -1,7 +1,7 @@
-use Rattle.std.proofs.Common.{◌≡◌, length, subst, ◌∙◌, arith}
+use Rattle.std.proofs.Common.{◌≡◌, length, subst, sym, ◌∙◌, arith}
 use Rattle.vx_flow.specs.Effects.{IsIn}
 use Rattle.vx_flow.proofs.ClosingSteps.{marked_below}
-use Rattle.vx_flow.proofs.LiveRoutes.{rows_all, rows_more}
+use Rattle.vx_flow.proofs.LiveRoutes.{RowsBelow, rows_all, rows_more, rows_none}
 use Rattle.vx_flow.proofs.liveness.rows_of.Goals as goal
 
 pub list_found-requires-clause-within : goal.list_found-requires-clause-within
@@ -22,3 +22,16 @@ returns c =
       exact = rows_all c.args.routes.now c.args.readers.now c.loop-value.rows c.loop-value.value c.requires.readers z c.loop-value.invariant.so_far;
       rising = c.loop-value.invariant.so_far.rising;
     }
+
+pub loop-value-init : goal.loop-value-init
+loop-value-init c = record {
+  so_far = subst (λ rows. RowsBelow c.args.routes.now rows 0) (sym c.new-rows.ensures) (rows_none c.args.routes.now);
+  none = c.in_ok-marks.ensures.none;
+  len = c.in_ok-marks.ensures.len;
+}
+
+pub live_nodes-requires-clause-readers : goal.live_nodes-requires-clause-readers
+live_nodes-requires-clause-readers c = λ i r there first. subst (IsIn i) (sym c.of-read_by.ensures) (c.requires.readers i c.loop-value.value r there first)
+
+pub list_found-requires-clause-found : goal.list_found-requires-clause-found
+list_found-requires-clause-found c = λ b m. subst (IsIn b) (sym c.as_slice.ensures.value) ((c.in_ok-found.ensures.found b).0 m)
