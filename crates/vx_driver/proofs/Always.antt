@@ -17,11 +17,11 @@ use Rattle.vx_status.specs.declared.status.Status.TheVariants.{Done, Trapped, Us
 use Rattle.vx_status.specs.Status.{number_of}
 use Rattle.vx_command.specs.Command.{Compilation, Execution, Profiling, Command, Compile, Simulate, Execute, Count, Soak}
 use Rattle.vx_files.specs.InputText.{input_reading}
-use Rattle.vx_driver.specs.Boxes.{Boxes, Chosen, chosen}
+use Rattle.vx_runs.specs.Boxes.{Boxes, Chosen, chosen}
 use Rattle.vx_files.specs.Held.{MachineFound, Is, Refused, TooLong, Missing, found_by, machine_found, input_as, input_found, RefusesProfile, status_of_profile}
 use Rattle.vx_files.specs.Effects.{Effect, ReadsRose, SourceAnswers, ProfileAnswers, MachineAnswers, InputAnswers}
 use Rattle.vx_driver.specs.Answers.{CompileAnswers, CompileEnds}
-use Rattle.vx_driver.specs.Simulated.{Streams, BoxAnswers, Due, and_then, words_as, machine_as, with_input, loading, loading_machine, loading_input, RunAnswers, RunCompletes}
+use Rattle.vx_runs.specs.Simulated.{Streams, BoxAnswers, Due, and_then, words_as, machine_as, with_input, loading, loading_machine, loading_input, RunAnswers, RunCompletes}
 use Rattle.vx_driver.specs.Executed.{ExecEnds, ExecutionCompletes, ExecutionAnswers}
 use Rattle.vx_driver.specs.Counted.{CountsAnswers, CountsEnd}
 use Rattle.vx_driver.specs.Always.{MayAnswer, CanRead, NoStatusIsAlways}

@@ -1,7 +1,7 @@
 -- The answers of a command from those of its steps.
-use Rattle.std.proofs.Common.{◌≡◌, ◌≢◌, ◌⊎◌, inl, inr, ℕ, List, Option, Some, None, is_some, option_map, IfSome, MatchOption, refl, sym, subst, ap, ◌∙◌, arith}
-use Rattle.std.specs.Prelude.{IsSomeAnd, ◌≤◌}
-use Rattle.vx_base.specs.Outside.{Files, Rose, held_with, with_file, ReplacesPartly}
+use Rattle.std.proofs.Common.{◌≡◌, ◌≢◌, ◌⊎◌, inl, inr, ℕ, List, Option, Some, None, is_some, option_map, IfSome, MatchOption, refl, sym, subst, ap, ◌∙◌}
+use Rattle.std.specs.Prelude.{IsSomeAnd}
+use Rattle.vx_base.specs.Outside.{Files, held_with, with_file, ReplacesPartly}
 use Rattle.vx_isa.specs.Numbers.{Numbers}
 use Rattle.vx_machine.specs.declared.description.MachineFault.TheVariants.{Bad}
 use Rattle.vx_ast.specs.Tree.{Program}
@@ -15,39 +15,8 @@ use Rattle.vx_compile.specs.Stages.{MakesTexts}
 use Rattle.vx_files.proofs.ProfileFile.{stands}
 use Rattle.vx_files.specs.Held.{HoldsProgram, Accepts, BadProfile, Is, Refused, TooLong, Missing, found_in, machine_found, AreCounts, RefusesProfile}
 use Rattle.vx_driver.specs.Answers.{TextsOf, Compiles, Writes, WritesWords, with_report, ReportsPartly, WritesPartly, StopsAtProfile, StopsAtMachine, CompileAnswers, WriteAnswers, once_written, ReportAnswers, PutsTexts, MachineOrTexts, ProgramAnswers}
-use Rattle.vx_files.specs.Effects.{Effect, ReadsRose, ReplacesRose, SameFiles, OfFile, SourceAnswers, ProfileAnswers, MachineAnswers}
-
-pub rose_since : (before mid after : ℕ) → before ≤ mid → Rose mid after → Rose before after
-rose_since before mid after le (inl more) = inl (omega arith)
-rose_since before mid after le (inr most) = inr most
-
--- the same call, looked at from an earlier moment from which on no file has changed
-pub record Since (e f : Effect) : Type 0 where
-  pub before : f.before ≡ e.before
-  pub after : f.after ≡ e.after
-  pub reads : f.reads_before ≤ e.reads_before
-  pub reads_after : f.reads_after ≡ e.reads_after
-  pub replaces : f.replaces_before ≤ e.replaces_before
-  pub replaces_after : f.replaces_after ≡ e.replaces_after
-
-pub same_since : (e f : Effect) → Since e f → SameFiles e → SameFiles f
-same_since e f s same = s.after ∙ same ∙ sym s.before
-
-pub reads_since : (e f : Effect) → Since e f → ReadsRose e → ReadsRose f
-reads_since e f s rose = rose_since f.reads_before e.reads_before f.reads_after s.reads (subst (λ n. Rose e.reads_before n) (sym s.reads_after) rose)
-
-replaces_since : (e f : Effect) → Since e f → ReplacesRose e → ReplacesRose f
-replaces_since e f s rose = rose_since f.replaces_before e.replaces_before f.replaces_after s.replaces (subst (λ n. Rose e.replaces_before n) (sym s.replaces_after) rose)
-
-pub told_since : (e f : Effect) (P : Files → Type 0) → Since e f → IfSome e.before P → IfSome f.before P
-told_since e f P s h = subst (λ b. IfSome b P) (sym s.before) h
-
-pub said_since : (e f : Effect) (P : Files → Type 0) (Q : List ℕ → Type 0) → Since e f → OfFile e.before P Q → OfFile f.before P Q
-said_since e f P Q s h = subst (λ b. OfFile b P Q) (sym s.before) h
-
-pub missing_since : (e f : Effect) (P : Files → Type 0) (b : Option Files) → Since e f → MatchOption b (ReadsRose e) P → MatchOption b (ReadsRose f) P
-missing_since e f P None s h = reads_since e f s h
-missing_since e f P (Some held) s h = h
+use Rattle.vx_files.specs.Effects.{Effect, ReadsRose, SameFiles, SourceAnswers, ProfileAnswers, MachineAnswers}
+use Rattle.vx_runs.proofs.Since.{Since, same_since, reads_since, replaces_since, told_since, said_since, missing_since}
 
 pub machine_since : (machine : Option (List ℕ)) (e f : Effect) (status : Status) → Since e f → MachineAnswers machine e status → MachineAnswers machine f status
 machine_since machine e f Done s a = absurd a

@@ -2,12 +2,12 @@
 use Rattle.std.proofs.Common.{Option, Some, None, refl}
 use Rattle.vx_status.specs.declared.status.Status.{Status}
 use Rattle.vx_command.specs.Command.{Command, Compile, Simulate, Execute, Count, Soak}
-use Rattle.vx_driver.specs.Boxes.{Boxes}
+use Rattle.vx_runs.specs.Boxes.{Boxes}
 use Rattle.vx_files.specs.Effects.{Effect}
-use Rattle.vx_driver.specs.Simulated.{Streams}
+use Rattle.vx_runs.specs.Simulated.{Streams}
 use Rattle.vx_driver.specs.Commands.{Answers, Completes}
 use Rattle.vx_driver.proofs.Completing.{complete_in}
-use Rattle.vx_driver.proofs.Simulating.{sim_completes}
+use Rattle.vx_runs.proofs.Simulating.{sim_completes}
 use Rattle.vx_driver.proofs.Executed.{exec_completes}
 use Rattle.vx_driver.proofs.Counting.{profile_completes}
 use Rattle.vx_driver.proofs.SoakLaws.{soak_completes}

@@ -10,10 +10,11 @@ use Rattle.vx_status.specs.declared.status.Status.TheVariants.{Done, Trapped, Us
 use Rattle.vx_command.specs.Command.{Profiling}
 use Rattle.vx_files.specs.Held.{HoldsProgram, Accepts, Refuses, RefusesSource, status_of, input_in, input_found}
 use Rattle.vx_files.specs.Effects.{Effect, ReadsRose, SameFiles, OfFile, SourceAnswers, InputAnswers}
-use Rattle.vx_driver.specs.Simulated.{Streams, OutRose}
+use Rattle.vx_runs.specs.Simulated.{Streams, OutRose}
 use Rattle.vx_driver.specs.Counted.{CountsRead, CountedRun, StopsAtCountsInput, CountsAnswers, ProfilingAnswers, CountsEnd, ProfilingCompletes}
 use Rattle.vx_driver.specs.Counting.{CountedOn, CountedFor, PutsText, over, goes_on, cut, StopsProfiling}
-use Rattle.vx_driver.proofs.Answering.{Since, told_since, accepts_in}
+use Rattle.vx_runs.proofs.Since.{Since, told_since}
+use Rattle.vx_driver.proofs.Answering.{accepts_in}
 use Rattle.vx_driver.proofs.Executing.{input_since}
 use Rattle.vx_driver.proofs.Completing.{same_content, not_missing, told, told_of, told_or, refused_told, not_both, one_status, not_faulty}
 

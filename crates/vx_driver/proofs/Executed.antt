@@ -12,15 +12,15 @@ use Rattle.vx_ast.specs.Reads.{Reads, Refusal}
 use Rattle.vx_ast.specs.declared.fault.SourceFault.{SourceFault}
 use Rattle.vx_probe.specs.Times.{Times}
 use Rattle.vx_command.specs.Command.{Execution}
-use Rattle.vx_driver.specs.Boxes.{Boxes, Chosen, chosen}
+use Rattle.vx_runs.specs.Boxes.{Boxes, Chosen, chosen}
 use Rattle.vx_files.specs.Held.{HoldsProgram, Accepts, status_of, RefusesSource, Refuses, MachineFound, BadProfile, ProfileStands, RefusesProfile, Is, Refused, TooLong, Missing, found_in, machine_found, input_in, input_found}
 use Rattle.vx_files.specs.Effects.{Effect, ReadsRose, OfFile}
-use Rattle.vx_driver.specs.Simulated.{Loaded, machine_as, outcome_within, Streams, OutRose, ErrRose}
+use Rattle.vx_runs.specs.Simulated.{Loaded, machine_as, outcome_within, Streams, OutRose, ErrRose}
 use Rattle.vx_driver.specs.Executed.{AllHeld, CompiledBy, Prepared, Runs, RunsCut, ExecutionAnswers, ExecAnswers, GoesOn, EndsAs, ExecEnds, ExecutionCompletes, ExecCompletes}
 use Rattle.vx_files.proofs.SourceLaws.{one_program}
 use Rattle.vx_driver.proofs.Completing.{same_content, not_missing, told, told_of, told_or, refused_told, not_both, one_status, not_faulty}
 use Rattle.vx_files.proofs.ProfileFile.{not_both_profiles, one_profile_status}
-use Rattle.vx_driver.proofs.Simulating.{box_completes}
+use Rattle.vx_runs.proofs.Simulating.{box_completes}
 
 -- an answer, where nothing failed
 data Ended (asked : Execution) (times : Times) (held : Files) : Status → Type 0 where

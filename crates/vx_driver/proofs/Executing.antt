@@ -17,18 +17,20 @@ use Rattle.vx_base.specs.declared.role.Role.TheVariants.{Source as TheSource, Wo
 use Rattle.vx_status.specs.declared.status.Status.{Status}
 use Rattle.vx_status.specs.declared.status.Status.TheVariants.{Done, Trapped, Usage, Source, Limit, Words, Profile, Machine, NoFile, ReadFault, WriteFault, Stopped, Input, Stuck, NoMemory}
 use Rattle.vx_command.specs.Command.{Execution}
-use Rattle.vx_driver.specs.Boxes.{Chosen}
+use Rattle.vx_runs.specs.Boxes.{Chosen}
 use Rattle.vx_compile.specs.Faithful.{Faithful}
 use Rattle.vx_files.specs.Held.{AreCounts, HoldsProgram, ProfileStands, Is, machine_found, input_in, input_found}
 use Rattle.vx_files.specs.Effects.{Effect, ReadsRose, SourceAnswers, MachineAnswers, InputAnswers}
 use Rattle.vx_driver.specs.Answers.{StopsAtProfile, StopsAtMachine}
-use Rattle.vx_driver.specs.Simulated.{AreDefaults, Loaded, begun, outcome_within, events_within, reports_of, Streams, Shows, OutputCut, IsStatusOf}
-use Rattle.vx_driver.specs.Executed.{CompiledBy, Issues, SourceHas, SourceBegins, InSource, AllHeld, Prepared, issued_line, Runs, RunsCut, StopsAtInput, ExecutionAnswers}
-use Rattle.vx_driver.specs.Ending.{IsRunOf, UnputLines, LoadedAnswers, LaterStops, AfterSource, StopsBefore}
-use Rattle.vx_driver.proofs.Issued.{issues_comes, issues_within, issues_least, issues_all, issues_seen}
-use Rattle.vx_driver.proofs.Turned.{turned_of, turned_some, outcome_turned}
-use Rattle.vx_driver.proofs.Runs.{no_run}
-use Rattle.vx_driver.proofs.Answering.{Since, profile_since, machine_since, told_since, said_since, accepts_in, same_since, reads_since, missing_since}
+use Rattle.vx_runs.specs.Simulated.{AreDefaults, Loaded, begun, outcome_within, events_within, reports_of, Streams, Shows, OutputCut, IsStatusOf}
+use Rattle.vx_driver.specs.Executed.{CompiledBy, Issues, SourceHas, SourceBegins, InSource, AllHeld, Prepared, Runs, RunsCut, StopsAtInput, ExecutionAnswers}
+use Rattle.vx_runs.specs.Ending.{issued_line, IsRunOf, UnputLines, LoadedAnswers}
+use Rattle.vx_driver.specs.Stopping.{LaterStops, AfterSource, StopsBefore}
+use Rattle.vx_runs.proofs.Issued.{issues_comes, issues_within, issues_least, issues_all, issues_seen}
+use Rattle.vx_runs.proofs.Turned.{turned_of, turned_some, outcome_turned}
+use Rattle.vx_runs.proofs.Runs.{no_run}
+use Rattle.vx_runs.proofs.Since.{Since, told_since, said_since, same_since, reads_since, missing_since}
+use Rattle.vx_driver.proofs.Answering.{profile_since, machine_since, accepts_in}
 
 -- a run of words in the terms of the source
 

@@ -22,17 +22,17 @@ use Rattle.vx_status.specs.declared.status.Status.{Status}
 use Rattle.vx_status.specs.declared.status.Status.TheVariants.{Done, Trapped, Usage, Source, Limit, Words, Profile, Machine, NoFile, ReadFault, WriteFault, Stopped, Input, Stuck, NoMemory}
 use Rattle.vx_compile.specs.declared.words.FlowSize.{FlowSize}
 use Rattle.vx_command.specs.Command.{Soaking}
-use Rattle.vx_driver.specs.Boxes.{Boxes, Chosen, chosen}
+use Rattle.vx_runs.specs.Boxes.{Boxes, Chosen, chosen}
 use Rattle.vx_files.specs.Effects.{Effect}
-use Rattle.vx_driver.specs.Ending.{RunOf}
+use Rattle.vx_runs.specs.Ending.{RunOf}
 use Rattle.vx_driver.specs.Executed.{Issues, SourceHas}
-use Rattle.vx_driver.specs.Simulated.{Loaded, Streams, OutRose, with_input, outcome_within, events_within}
+use Rattle.vx_runs.specs.Simulated.{Loaded, Streams, OutRose, with_input, outcome_within, events_within}
 use Rattle.vx_driver.specs.Soaked.{Soaked, SoakRuns, SoakedAnswers, SoakAnswers, SoakGoesOn, SoakEnds, SoakCompletes, byte_sum, soak_budget, soak_growth, soaked_words, summary_of}
 use Rattle.vx_compile.specs.Stages.{Sized}
 use Rattle.vx_driver.specs.SoakSteps.{IsMade, IsMadeFrom, RunEndsSo, SoakRan, PutsEnd, whole, cut, trapped, stopped, no_memory, line_of, sizes_of}
 use Rattle.vx_files.proofs.SourceLaws.{one_program}
 use Rattle.vx_driver.proofs.Executing.{in_source, issues_of}
-use Rattle.vx_driver.proofs.Simulating.{box_completes}
+use Rattle.vx_runs.proofs.Simulating.{box_completes}
 
 -- one step after the other
 

@@ -6,9 +6,9 @@ use Rattle.vx_status.specs.declared.status.Status.{Status}
 use Rattle.vx_status.specs.declared.status.Status.TheVariants.{NoMemory}
 use Rattle.vx_status.specs.Status.{number_of}
 use Rattle.vx_command.specs.Command.{Command, Compile, Simulate, Execute, Count, Soak}
-use Rattle.vx_driver.specs.Boxes.{Boxes, Chosen, chosen}
+use Rattle.vx_runs.specs.Boxes.{Boxes, Chosen, chosen}
 use Rattle.vx_files.specs.Effects.{Effect, ReadsRose, ReplacesRose}
-use Rattle.vx_driver.specs.Simulated.{Streams, OutRose, ErrRose}
+use Rattle.vx_runs.specs.Simulated.{Streams, OutRose, ErrRose}
 use Rattle.vx_driver.specs.Commands.{Answers, Completes}
 
 -- the top call may answer a command so over these files: the depot tells them, and no reading, replacing or putting fails

@@ -19,7 +19,7 @@ use Rattle.vx_status.specs.declared.status.Status.TheVariants.{Done, Trapped, Us
 use Rattle.vx_command.specs.Command.{Profiling}
 use Rattle.vx_files.specs.Held.{HoldsProgram, Accepts, status_of, EmptyUnless, input_found}
 use Rattle.vx_files.specs.Effects.{Effect, ReadsRose, SameFiles, SourceAnswers, InputAnswers}
-use Rattle.vx_driver.specs.Simulated.{Streams, OutRose}
+use Rattle.vx_runs.specs.Simulated.{Streams, OutRose}
 
 -- what is read for the counts: the program of the source, and the input
 pub record CountsRead (held : Files) (asked : Profiling) (p : Program) (input : List ℤ) : Type 0 where

@@ -10,7 +10,7 @@ use Rattle.vx_status.specs.declared.status.Status.TheVariants.{Done, WriteFault,
 use Rattle.vx_command.specs.Command.{Profiling}
 use Rattle.vx_files.specs.Effects.{Effect, SourceAnswers}
 use Rattle.vx_files.specs.Held.{EmptyUnless, input_found}
-use Rattle.vx_driver.specs.Simulated.{Streams, OutRose}
+use Rattle.vx_runs.specs.Simulated.{Streams, OutRose}
 use Rattle.vx_driver.specs.Counted.{RunOfGraphs, CountedRun, IsEnded, StopsAtCountsInput}
 
 -- the text of the counts of such a run, and whether it is over

@@ -1,6 +1,6 @@
 -- What `exec` does: the word machine, of words that are compiled from the source, on the machine and the input of the
 -- command, with the first boxes of the asked names; and what the source has of that run.
-use Rattle.std.specs.Prelude.{◌≡◌, ◌<◌, ◌≤◌, ◌⊎◌, ℕ, ◌++◌, true, ℤ, List, [], ◌∷◌, codes, decimal, is_some, Option, Some, None, IfSome, Ok, Err}
+use Rattle.std.specs.Prelude.{◌≡◌, ◌<◌, ◌≤◌, ◌⊎◌, ℕ, true, ℤ, List, is_some, Option, Some, None, IfSome, Ok, Err}
 use Rattle.vx_base.specs.Outcome.{Outcome, Ends, Traps, Goes, IsGoing, Begins, output_of}
 use Rattle.vx_base.specs.Outside.{Files, with_bytes}
 use Rattle.vx_base.specs.declared.role.Role.{Role}
@@ -17,12 +17,13 @@ use Rattle.vx_report.specs.declared.plan.Plan.{Plan}
 use Rattle.vx_status.specs.declared.status.Status.{Status}
 use Rattle.vx_status.specs.declared.status.Status.TheVariants.{Done, Trapped, Usage, Source, Limit, Words, Profile, Machine, NoFile, ReadFault, WriteFault, Stopped, Input, Stuck, NoMemory}
 use Rattle.vx_command.specs.Command.{Execution}
-use Rattle.vx_driver.specs.Boxes.{Boxes, Chosen, chosen}
+use Rattle.vx_runs.specs.Boxes.{Boxes, Chosen, chosen}
 use Rattle.vx_compile.specs.Compiled.{Compiled}
 use Rattle.vx_files.specs.Held.{AreCounts, HoldsProgram, Accepts, status_of, Is, machine_found, ProfileStands, RefusesProfile, input_found}
 use Rattle.vx_files.specs.Effects.{Effect, ReadsRose, SameFiles, SourceAnswers, InputAnswers}
 use Rattle.vx_driver.specs.Answers.{StopsAtProfile, StopsAtMachine}
-use Rattle.vx_driver.specs.Simulated.{Loaded, with_input, machine_as, outcome_within, events_within, reports_of, AreDefaults, Streams, Shows, OutRose, ErrRose, OutputCut, LinesCut, BoxAnswers}
+use Rattle.vx_runs.specs.Simulated.{Loaded, with_input, machine_as, outcome_within, events_within, reports_of, AreDefaults, Streams, Shows, OutRose, ErrRose, OutputCut, LinesCut, BoxAnswers}
+use Rattle.vx_runs.specs.Ending.{issued_line}
 
 -- the run
 
@@ -72,10 +73,6 @@ pub record Prepared (asked : Execution) (e : Effect) (x : Loaded) : Type 0 where
   pub read : IfSome e.before (λ held. AllHeld held asked source_program x.machine x.input)
   pub defaults : AreDefaults asked.machine asked.input x
   pub by : CompiledBy e.before asked.profile asked.growth source_program x.machine x.program
-
--- the line of the words that a run issued, behind that of its end
-abbrev pub issued_line : ℕ → List ℕ
-issued_line n = codes "issued " ++ decimal n ++ 10 ∷ []
 
 -- the run of such words comes to this outcome within the budget of the command, and so does the source; its output is
 -- put, whole, and its lines, with the reports of the probes over the words that were issued

@@ -1,10 +1,8 @@
-pub mod Boxes
 pub mod Answers
-pub mod Simulated
 pub mod Executed
 pub mod Counted
 pub mod Soaked
-pub mod Ending
+pub mod Stopping
 pub mod Counting
 pub mod SoakSteps
 pub mod Commands

@@ -16,7 +16,7 @@ use Rattle.vx_status.specs.declared.status.Status.{Status}
 use Rattle.vx_status.specs.declared.status.Status.TheVariants.{Done, Trapped, WriteFault, Stopped, NoMemory}
 use Rattle.vx_command.specs.Command.{Soaking}
 use Rattle.vx_compile.specs.Compiled.{Compiled}
-use Rattle.vx_driver.specs.Simulated.{Loaded, Streams, OutRose, with_input, outcome_within, events_within}
+use Rattle.vx_runs.specs.Simulated.{Loaded, Streams, OutRose, with_input, outcome_within, events_within}
 use Rattle.vx_driver.specs.Soaked.{Soaked, SoakRuns, byte_sum, soak_budget, soak_growth, soaked_words, summary, summary_of}
 use Rattle.vx_compile.specs.Stages.{all_blocks}
 

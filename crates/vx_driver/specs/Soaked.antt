@@ -13,12 +13,12 @@ use Rattle.vx_profile.specs.Counts.{CountsOf}
 use Rattle.vx_profile.specs.declared.counts.Counts.{Counts}
 use Rattle.vx_report.specs.declared.plan.Plan.{Plan}
 use Rattle.vx_files.specs.Effects.{Effect, SameFiles}
-use Rattle.vx_driver.specs.Boxes.{Boxes, Chosen, chosen}
+use Rattle.vx_runs.specs.Boxes.{Boxes, Chosen, chosen}
 use Rattle.vx_command.specs.Command.{Soaking}
 use Rattle.vx_compile.specs.Compiled.{Compiled}
 use Rattle.vx_driver.specs.Executed.{Issues, InSource, SourceHas}
 use Rattle.vx_status.specs.Status.{counted}
-use Rattle.vx_driver.specs.Simulated.{BoxAnswers, Loaded, OutRose, Streams, with_input, outcome_within}
+use Rattle.vx_runs.specs.Simulated.{BoxAnswers, Loaded, OutRose, Streams, with_input, outcome_within}
 use Rattle.vx_status.specs.declared.status.Status.{Status}
 use Rattle.vx_status.specs.declared.status.Status.TheVariants.{Done, Trapped, WriteFault, Stopped, NoMemory}
 use Rattle.vx_compile.specs.Stages.{all_blocks}

@@ -7,18 +7,16 @@ ghost use Rattle.vx_ast.specs.View as view;
 ghost use Rattle.vx_files.specs.Effects.{effect_of, InputAnswers};
 ghost use Rattle.vx_files.specs.Held.{machine_found, Is, ProfileStands, DefaultUnless, EmptyUnless, input_found};
 ghost use Rattle.vx_command.specs.Command.{Execute};
-ghost use Rattle.vx_driver.specs.Boxes.{boxes_of};
-ghost use Rattle.vx_driver.specs.Commands.{TellsLine, TellsRun};
+ghost use Rattle.vx_runs.specs.Boxes.{boxes_of};
+ghost use Rattle.vx_runs.specs.Lines.{TellsLine, TellsRun};
 ghost use Rattle.vx_command.specs.Asked.{execution_of};
 ghost use Rattle.vx_compile.specs.Stages.{IsCompiled};
 ghost use Rattle.vx_status.specs.Status.{Adds};
-ghost use Rattle.vx_driver.specs.Simulated.{is_of_run, streams_of};
+ghost use Rattle.vx_runs.specs.Simulated.{is_of_run, streams_of};
 ghost use Rattle.vx_driver.specs.Executed.{CompiledBy, Prepared, ExecutionAnswers, ExecAnswers};
-ghost use Rattle.vx_driver.specs.Ending.{loaded_of, AfterSource, LaterStops, StopsBefore};
+ghost use Rattle.vx_runs.specs.Ending.{loaded_of};
+ghost use Rattle.vx_driver.specs.Stopping.{AfterSource, LaterStops, StopsBefore};
 
-use crate::boxes::{probes_of, timing_of};
-use crate::loaded::LoadedFiles;
-use crate::running::{no_box, no_probe, run_loaded};
 use std::alloc::Global;
 use vx_ast::typed::Typed;
 use vx_base::depot::Depot;
@@ -29,6 +27,7 @@ use vx_files::{counts_for, input_for, machine_for, read_through};
 use vx_machine::Machine;
 use vx_probe::{Probe, Timing};
 use vx_profile::counts::Counts;
+use vx_runs::{LoadedFiles, no_box, no_probe, probes_of, run_loaded, timing_of};
 use vx_status::{Status, tell};
 
 /// Compiles a program that was read, by counts and for a machine and beside an input that were read.

@@ -1,14 +1,10 @@
 // The compiler: from the words of a command line to its answer, from the bytes of a source to the bytes of its words.
 #![tactic(auto)]
 
-mod boxes;
 mod compiling;
 mod exec;
 pub mod laws;
-mod loaded;
 mod profile;
-mod running;
-mod sim;
 mod soak;
 pub mod top;
 

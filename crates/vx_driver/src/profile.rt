@@ -7,7 +7,7 @@ ghost use Rattle.vx_ast.specs.View as view;
 ghost use Rattle.vx_files.specs.Effects.{effect_of, InputAnswers};
 ghost use Rattle.vx_command.specs.Asked.{profiling_of};
 ghost use Rattle.vx_status.specs.Status.{Adds, Tells, status_line};
-ghost use Rattle.vx_driver.specs.Simulated.{is_of_run, streams_of};
+ghost use Rattle.vx_runs.specs.Simulated.{is_of_run, streams_of};
 ghost use Rattle.vx_driver.specs.Counted.{ProfilingAnswers};
 ghost use Rattle.vx_driver.specs.Counting.{IsCounted, CountedOn, CountedFor, PutsText, StopsProfiling};
 

@@ -10,18 +10,15 @@ ghost use Rattle.vx_sim.specs.Ran.{is_fault};
 ghost use Rattle.vx_sim.specs.declared.ended.Ended.TheVariants.{Halted};
 ghost use Rattle.vx_files.specs.Effects.{Effect, SameFiles};
 ghost use Rattle.vx_command.specs.Asked.{soaking_of};
-ghost use Rattle.vx_driver.specs.Boxes.{ProbeBox, timing_boxes};
+ghost use Rattle.vx_runs.specs.Boxes.{ProbeBox, timing_boxes};
 ghost use Rattle.vx_command.specs.Command.{Soak};
-ghost use Rattle.vx_driver.specs.Commands.{TellsLine};
-ghost use Rattle.vx_driver.specs.Ending.{loaded_of};
-ghost use Rattle.vx_driver.specs.Simulated.{streams_of, with_input};
+ghost use Rattle.vx_runs.specs.Lines.{TellsLine};
+ghost use Rattle.vx_runs.specs.Ending.{loaded_of};
+ghost use Rattle.vx_runs.specs.Simulated.{streams_of, with_input};
 ghost use Rattle.vx_driver.specs.Soaked.{SoakAnswers, SoakedAnswers, byte_sum, puts_summary};
 ghost use Rattle.vx_driver.specs.SoakSteps.{IsMade, IsMadeFrom, PutsEnd, RunEndsSo, SoakRan, line_of};
 ghost use Rattle.vx_status.specs.Status.{Adds, Tells, counted, status_line};
 
-use crate::boxes::timing_of;
-use crate::loaded::LoadedFiles;
-use crate::running::{RunEnd, no_box, run};
 use itoa::Buffer;
 use std::alloc::Global;
 use vx_ast::typed::Typed;
@@ -34,6 +31,7 @@ use vx_gen::program;
 use vx_machine::Machine;
 use vx_probe::Timing;
 use vx_profile::counts::Counts;
+use vx_runs::{LoadedFiles, RunEnd, no_box, run_alone, timing_of};
 use vx_sim::Ended;
 use vx_status::{Status, tell};
 
@@ -157,13 +155,12 @@ fn byte_sum(bytes: &[u8]) -> u32
 fn run_made(
     alloc: Global,
     loaded: LoadedFiles,
-    timing: &mut Box<dyn Timing>,
+    timing: Box<dyn Timing>,
 ) -> Result<SummedEnd, NoMemory>
-    ensures { IfOk result (λ x. is_fault x.end.ended ≡ false → RunEndsSo (loaded_of loaded) (times timing.old) x.end.ended x.end.issued x.sum) }
+    ensures { IfOk result (λ x. is_fault x.end.ended ≡ false → RunEndsSo (loaded_of loaded) (times timing) x.end.ended x.end.issued x.sum) }
 {
     let mut sink = MemSink::make(alloc, ROOM, Vec::new(alloc))?;
-    let mut probes = Vec::new(alloc);
-    let end = run(alloc, loaded, BUDGET, &mut sink, timing, &mut probes)?;
+    let end = run_alone(alloc, loaded, BUDGET, &mut sink, timing)?;
     let sum = byte_sum(sink.bytes());
     Ok(SummedEnd { end, sum })
 }
@@ -202,12 +199,8 @@ fn line_of(alloc: Global, sizes: ProgramSizes, sum: u32, issued: u64) -> Result<
 }
 
 /// Makes words, runs them, and writes the line of the run.
-fn soaked(
-    alloc: Global,
-    asked: &SoakWords,
-    timing: &mut Box<dyn Timing>,
-) -> Result<SoakReport, NoMemory>
-    ensures { IfOk result (λ report. is_fault report.ended ≡ false → SoakRan (soaking_of asked.now) (times timing.old) report.ended report.line.items) }
+fn soaked(alloc: Global, asked: &SoakWords, timing: Box<dyn Timing>) -> Result<SoakReport, NoMemory>
+    ensures { IfOk result (λ report. is_fault report.ended ≡ false → SoakRan (soaking_of asked.now) (times timing) report.ended report.line.items) }
 {
     let made = words_made(alloc, asked.seed, asked.size)?;
     let sizes = made.sizes;
@@ -256,7 +249,7 @@ fn soak_with<K: Sink, E: Sink>(
     out: &mut K,
     err: &mut E,
     asked: &SoakWords,
-    mut timing: Box<dyn Timing>,
+    timing: Box<dyn Timing>,
 ) -> Status
     ensures answers { SoakedAnswers (soaking_of asked.now) (streams_of K.told K.faults E.told E.faults out.old out.new err.old err.new) result (record { times = times timing; watches = [] }) }
     ensures tells { Tells (status_line result) (E.told err.old) (E.told err.new) (E.faults err.old) (E.faults err.new) }
@@ -264,7 +257,7 @@ fn soak_with<K: Sink, E: Sink>(
     ensures nothing { puts_summary result ≡ false → K.told out.new ≡ K.told out.old }
     ensures out_never_falls { K.faults out.old ≤ K.faults out.new }
 {
-    match soaked(alloc, asked, &mut timing) {
+    match soaked(alloc, asked, timing) {
         Ok(report) => put_end(out, err, &report),
         Err(_) => tell(err, Status::NoMemory),
     }

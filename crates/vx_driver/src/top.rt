@@ -4,20 +4,21 @@ ghost use Rattle.std.specs.Prelude.{◌≡◌, ◌≤◌, ◌∷◌, ℕ, List, 
 ghost use Rattle.vx_status.specs.Status.{Appends, Adds, Tells, status_line};
 ghost use Rattle.vx_command.specs.Command.{command_of, command_named, is_command, names_command, compile_of, sim_of, exec_of, profile_of, soak_of};
 ghost use Rattle.vx_files.specs.Effects.{effect_of};
-ghost use Rattle.vx_driver.specs.Simulated.{Streams, streams_of};
-ghost use Rattle.vx_driver.specs.Boxes.{Boxes, boxes_of};
-ghost use Rattle.vx_driver.specs.Commands.{Answers, Completes, TellsLine, puts_output};
+ghost use Rattle.vx_runs.specs.Simulated.{Streams, streams_of};
+ghost use Rattle.vx_runs.specs.Boxes.{Boxes, boxes_of};
+ghost use Rattle.vx_driver.specs.Commands.{Answers, Completes, puts_output};
+ghost use Rattle.vx_runs.specs.Lines.{TellsLine};
 
 use crate::compiling::compile;
 use crate::exec::execute_with;
 use crate::profile::profile;
-use crate::sim::simulate_with;
 use crate::soak::soak;
 use std::alloc::{AllocError, Global};
 use vx_base::depot::Depot;
 use vx_base::sink::Sink;
 use vx_command::{compile_asked, exec_asked, profile_asked, refuse, sim_asked, soak_asked};
 use vx_probe::{Probe, Timing};
+use vx_runs::simulate_with;
 use vx_status::{Status, tell};
 
 /// The words that clap is handed: all but the second.

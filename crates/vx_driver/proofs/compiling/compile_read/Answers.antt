@@ -4,7 +4,7 @@ use Rattle.vx_ast.specs.View.{program_of}
 use Rattle.vx_files.specs.Effects.{effect_of}
 use Rattle.vx_command.specs.Asked.{compilation_of}
 use Rattle.vx_driver.proofs.Answering.{by_profile}
-use Rattle.vx_driver.proofs.FileSteps.{still_some}
+use Rattle.vx_runs.proofs.FileSteps.{still_some}
 use Rattle.vx_driver.proofs.compiling.compile_read.Goals as goal
 
 pub returns-in-Ok-clause-answers : goal.returns-in-Ok-clause-answers

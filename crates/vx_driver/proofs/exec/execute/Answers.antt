@@ -1,7 +1,7 @@
 -- What was read and compiled is run, or a step before stopped the command.
 use Rattle.vx_command.specs.Asked.{execution_of}
-use Rattle.vx_driver.specs.Ending.{loaded_of}
-use Rattle.vx_driver.proofs.Runs.{wanted_for}
+use Rattle.vx_runs.specs.Ending.{loaded_of}
+use Rattle.vx_runs.proofs.Runs.{wanted_for}
 use Rattle.vx_driver.proofs.Executing.{run_executed, stops_told}
 use Rattle.vx_driver.proofs.exec.execute.Goals as goal
 

@@ -1,11 +1,11 @@
 -- The boxes are there, or they are not and the name is told.
 use Rattle.std.proofs.Common.{refl}
 use Rattle.vx_command.specs.Asked.{execution_of}
-use Rattle.vx_driver.specs.Boxes.{boxes_of}
-use Rattle.vx_driver.specs.Commands.{TellsRun}
-use Rattle.vx_driver.specs.Simulated.{streams_of}
-use Rattle.vx_driver.proofs.Telling.{timing_told, probe_told, these_told}
-use Rattle.vx_driver.proofs.Runs.{exec_no_timing, exec_no_probes, exec_boxes_there}
+use Rattle.vx_runs.specs.Boxes.{boxes_of}
+use Rattle.vx_runs.specs.Lines.{TellsRun}
+use Rattle.vx_runs.specs.Simulated.{streams_of}
+use Rattle.vx_runs.proofs.Telling.{timing_told, probe_told, these_told}
+use Rattle.vx_driver.proofs.Boxed.{exec_no_timing, exec_no_probes, exec_boxes_there}
 use Rattle.vx_driver.proofs.exec.execute_with.Goals as goal
 
 pub returns-in-None-clause-answers : goal.returns-in-None-clause-answers

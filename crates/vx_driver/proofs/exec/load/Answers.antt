@@ -4,7 +4,7 @@ use Rattle.std.proofs.lemmas.Result.{IfErr-weaker, IfOk-weaker}
 use Rattle.vx_ast.specs.View.{program_of}
 use Rattle.vx_files.specs.Effects.{effect_of}
 use Rattle.vx_command.specs.Asked.{execution_of}
-use Rattle.vx_driver.specs.Ending.{loaded_of}
+use Rattle.vx_runs.specs.Ending.{loaded_of}
 use Rattle.vx_driver.proofs.Executing.{after_source, prepared, both_ok}
 use Rattle.vx_driver.proofs.exec.load.Goals as goal
 

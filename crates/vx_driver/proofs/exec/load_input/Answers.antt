@@ -2,7 +2,7 @@
 use Rattle.std.proofs.Common.{◌≡◌, inl, inr, subst, sym, IfSome, Ok, option_map}
 use Rattle.std.proofs.lemmas.Result.{IfErr-weaker, IfOk-weaker}
 use Rattle.vx_files.specs.Held.{EmptyUnless, input_found}
-use Rattle.vx_driver.proofs.FileSteps.{still_some}
+use Rattle.vx_runs.proofs.FileSteps.{still_some}
 use Rattle.vx_driver.proofs.exec.load_input.Goals as goal
 
 pub returns-in-Ok-clause-input : goal.returns-in-Ok-clause-input

@@ -3,7 +3,7 @@ use Rattle.std.proofs.Common.{◌≡◌, Ok, IfSome, refl, sym, subst, option_ma
 use Rattle.std.proofs.lemmas.Result.{IfErr-weaker, IfOk-weaker}
 use Rattle.vx_files.specs.Effects.{effect_of}
 use Rattle.vx_files.specs.Held.{machine_found, Is, DefaultUnless, input_found}
-use Rattle.vx_driver.proofs.FileSteps.{still_some}
+use Rattle.vx_runs.proofs.FileSteps.{still_some}
 use Rattle.vx_driver.proofs.Executing.{later_input, later_machine}
 use Rattle.vx_driver.proofs.exec.load_machine.Goals as goal
 

@@ -4,7 +4,7 @@ use Rattle.std.proofs.lemmas.Result.{IfErr-weaker, IfOk-weaker}
 use Rattle.vx_files.specs.Effects.{effect_of}
 use Rattle.vx_files.specs.Held.{machine_found, Is, input_found}
 use Rattle.vx_driver.proofs.Executing.{after_profile}
-use Rattle.vx_driver.proofs.FileSteps.{still_some}
+use Rattle.vx_runs.proofs.FileSteps.{still_some}
 use Rattle.vx_files.proofs.ProfileFile.{stands}
 use Rattle.vx_driver.proofs.exec.load_profile.Goals as goal
 

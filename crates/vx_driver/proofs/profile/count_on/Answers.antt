@@ -1,7 +1,7 @@
 -- The input was read before the run.
 use Rattle.std.proofs.Common.{inl, inr}
 use Rattle.std.proofs.lemmas.Result.{IfErr-weaker, IfOk-weaker}
-use Rattle.vx_driver.proofs.FileSteps.{still_some}
+use Rattle.vx_runs.proofs.FileSteps.{still_some}
 use Rattle.vx_driver.proofs.profile.count_on.Goals as goal
 
 pub returns-in-Ok-clause-counted : goal.returns-in-Ok-clause-counted

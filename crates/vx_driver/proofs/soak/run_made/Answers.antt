@@ -1,6 +1,6 @@
 -- What is in memory behind the run is its output.
 use Rattle.std.proofs.Common.{◌∙◌, ap}
-use Rattle.vx_driver.specs.Ending.{loaded_of}
+use Rattle.vx_runs.specs.Ending.{loaded_of}
 use Rattle.vx_driver.specs.Soaked.{byte_sum}
 use Rattle.vx_driver.proofs.SoakLaws.{run_ends}
 use Rattle.vx_driver.proofs.soak.run_made.Goals as goal

@@ -2,11 +2,11 @@
 use Rattle.std.proofs.Common.{refl}
 use Rattle.vx_command.specs.Asked.{soaking_of}
 use Rattle.std.specs.Prelude.{codes, None}
-use Rattle.vx_driver.specs.Boxes.{timing_boxes}
-use Rattle.vx_driver.specs.Simulated.{ErrTells, streams_of}
+use Rattle.vx_runs.specs.Boxes.{timing_boxes}
+use Rattle.vx_runs.specs.Simulated.{ErrTells, streams_of}
 use Rattle.vx_status.specs.Status.{status_line}
-use Rattle.vx_driver.proofs.Telling.{no_timing_told, these_told}
-use Rattle.vx_driver.proofs.Runs.{soak_no_timing, soak_timing_there}
+use Rattle.vx_runs.proofs.Telling.{no_timing_told, these_told}
+use Rattle.vx_driver.proofs.Boxed.{soak_no_timing, soak_timing_there}
 use Rattle.vx_driver.proofs.soak.soak.Goals as goal
 
 pub returns-in-Some-clause-answers : goal.returns-in-Some-clause-answers

@@ -1,6 +1,6 @@
 -- The line of the run of the words that were made.
 use Rattle.vx_command.specs.Asked.{soaking_of}
-use Rattle.vx_driver.specs.Ending.{loaded_of}
+use Rattle.vx_runs.specs.Ending.{loaded_of}
 use Rattle.vx_driver.proofs.SoakLaws.{ran}
 use Rattle.vx_driver.proofs.soak.soaked.Goals as goal
 

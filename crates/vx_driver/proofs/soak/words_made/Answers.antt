@@ -1,7 +1,7 @@
 -- The words of the program that was made.
 use Rattle.std.proofs.lemmas.Result.{IfOk-weaker}
 use Rattle.vx_ast.specs.View.{program_of}
-use Rattle.vx_driver.specs.Ending.{loaded_of}
+use Rattle.vx_runs.specs.Ending.{loaded_of}
 use Rattle.vx_driver.proofs.SoakLaws.{made_of}
 use Rattle.vx_driver.proofs.soak.words_made.Goals as goal
 

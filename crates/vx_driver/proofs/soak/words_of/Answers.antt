@@ -1,6 +1,6 @@
 -- The words and the sizes are those of one compilation.
 use Rattle.vx_ast.specs.View.{program_of}
-use Rattle.vx_driver.specs.Ending.{loaded_of}
+use Rattle.vx_runs.specs.Ending.{loaded_of}
 use Rattle.vx_driver.proofs.SoakLaws.{made_from}
 use Rattle.vx_driver.proofs.soak.words_of.Goals as goal
 

@@ -1,7 +1,7 @@
 -- What the words ask for is done, or they are refused.
 use Rattle.std.proofs.Common.{refl}
-use Rattle.vx_driver.proofs.Runs.{refused_answers}
-use Rattle.vx_driver.proofs.Telling.{refused_line}
+use Rattle.vx_driver.proofs.Boxed.{refused_answers}
+use Rattle.vx_runs.proofs.Telling.{refused_line}
 use Rattle.vx_driver.proofs.top.perform_profile.Goals as goal
 
 pub returns-in-Ok-clause-answers : goal.returns-in-Ok-clause-answers

@@ -1,7 +1,7 @@
 -- What the words ask for is done; no file is asked for, so none has changed.
 use Rattle.std.proofs.Common.{refl}
 use Rattle.vx_files.specs.Effects.{effect_of}
-use Rattle.vx_driver.specs.Boxes.{probe_boxes}
+use Rattle.vx_runs.specs.Boxes.{probe_boxes}
 use Rattle.vx_driver.proofs.top.perform_soak.Goals as goal
 
 pub returns-in-Ok-clause-answers : goal.returns-in-Ok-clause-answers

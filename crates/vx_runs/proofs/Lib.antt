@@ -1,0 +1,9 @@
+pub mod Telling
+pub mod Picking
+pub mod Since
+pub mod Simulating
+pub mod FileSteps
+pub mod Issued
+pub mod Turned
+pub mod Ends
+pub mod Runs

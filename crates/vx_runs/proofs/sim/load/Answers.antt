@@ -1,0 +1,42 @@
+-- The words were read before all else, and reading them changed no file.
+use Rattle.std.proofs.Common.{IfSome, refl, sym, subst}
+use Rattle.std.proofs.lemmas.Result.{IfErr-weaker, IfOk-weaker}
+use Rattle.vx_words.specs.Text.{Spells}
+use Rattle.vx_files.specs.Effects.{effect_of}
+use Rattle.vx_runs.specs.Ending.{loaded_of}
+use Rattle.vx_runs.proofs.FileSteps.{words_loaded, after_words, at_words}
+use Rattle.vx_runs.proofs.sim.load.Goals as goal
+
+pub returns-in-Ok-clause-loaded : goal.returns-in-Ok-clause-loaded
+returns-in-Ok-clause-loaded g c =
+    IfOk-weaker c.load_machine.result _ _
+    (λ loaded more. words_loaded (g.D.Depot.files c.args.depot.now) (g.D.Depot.files c.read_words.new.depot) c.args.words.now _ _ c.in-Ok.program (loaded_of loaded) c.in-Ok.ensures.same_files c.in-Ok.ensures.program more)
+    c.load_machine.ensures.loaded
+
+pub returns-in-Ok-clause-spells : goal.returns-in-Ok-clause-spells
+returns-in-Ok-clause-spells g c =
+    IfOk-weaker c.load_machine.result _ _
+    (λ loaded same. subst (λ p. IfSome (g.D.Depot.files c.args.depot.now) (λ held. IfSome (held c.args.words.now) (λ content. Spells content p))) (sym same) c.in-Ok.ensures.spells)
+    c.load_machine.ensures.program
+
+pub returns-in-Ok-clause-stops : goal.returns-in-Ok-clause-stops
+returns-in-Ok-clause-stops g c =
+    let depot = g.D.Depot in
+    IfErr-weaker c.load_machine.result _ _
+    (λ status why. after_words c.args.words.now _ _ c.in-Ok.program
+    (effect_of depot.files depot.failed_reads depot.failed_replaces c.read_words.new.depot c.load_machine.new.depot)
+    (effect_of depot.files depot.failed_reads depot.failed_replaces c.args.depot.now c.load_machine.new.depot)
+    status
+    (record {
+      before = sym c.in-Ok.ensures.same_files;
+      after = refl;
+      reads = c.in-Ok.ensures.reads_never_fall;
+      reads_after = refl;
+      replaces = c.in-Ok.ensures.replaces_never_fall;
+      replaces_after = refl;
+    }) c.in-Ok.ensures.program why)
+    c.load_machine.ensures.stops
+
+pub returns-in-Err-clause-stops : goal.returns-in-Err-clause-stops
+returns-in-Err-clause-stops g c = at_words c.args.words.now _ _
+    (effect_of g.D.Depot.files g.D.Depot.failed_reads g.D.Depot.failed_replaces c.args.depot.now c.read_words.new.depot) c.in-Err.status c.in-Err.ensures.stops

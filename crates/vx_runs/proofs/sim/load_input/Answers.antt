@@ -1,0 +1,14 @@
+-- The input is read for what was read before.
+use Rattle.std.proofs.Common.{option_map}
+use Rattle.vx_files.specs.Effects.{effect_of}
+use Rattle.vx_runs.proofs.FileSteps.{input_loaded, input_stops, input_answers_stop, still_some}
+use Rattle.vx_runs.proofs.sim.load_input.Goals as goal
+
+pub returns-in-Ok-clause-loaded : goal.returns-in-Ok-clause-loaded
+returns-in-Ok-clause-loaded g c = input_loaded (g.D.Depot.files c.args.depot.now) c.args.program c.args.machine _ c.in-Ok.input.items c.in-Ok.ensures.numbers
+
+pub returns-in-Err-clause-stops : goal.returns-in-Err-clause-stops
+returns-in-Err-clause-stops g c =
+    let e = effect_of g.D.Depot.files g.D.Depot.failed_reads g.D.Depot.failed_replaces c.args.depot.now c.input_for.new.depot in
+    input_stops c.args.program c.args.machine (option_map (λ s. s.now) c.args.name) e c.in-Err.status
+    (input_answers_stop (option_map (λ s. s.now) c.args.name) e c.in-Err.status (still_some _ c.args.name c.in-Err.ensures.named) c.in-Err.ensures.answers)

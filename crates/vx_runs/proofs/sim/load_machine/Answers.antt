@@ -1,0 +1,39 @@
+-- The machine was read before the input, and reading it changed no file.
+use Rattle.std.proofs.Common.{refl, subst, sym, option_map}
+use Rattle.std.proofs.lemmas.Result.{IfErr-weaker, IfOk-weaker}
+use Rattle.vx_files.specs.Effects.{effect_of}
+use Rattle.vx_runs.specs.Ending.{loaded_of}
+use Rattle.vx_files.specs.Held.{DefaultUnless}
+use Rattle.vx_runs.proofs.FileSteps.{machine_loaded, after_machine, at_machine, still_some}
+use Rattle.vx_runs.proofs.sim.load_machine.Goals as goal
+
+pub returns-in-Ok-clause-loaded : goal.returns-in-Ok-clause-loaded
+returns-in-Ok-clause-loaded g c =
+    IfOk-weaker c.load_input.result _ _
+    (λ loaded more. machine_loaded (g.D.Depot.files c.args.depot.now) (g.D.Depot.files c.machine_for.new.depot) c.args.program _ _ c.in-Ok.machine (loaded_of loaded) c.in-Ok.ensures.same_files c.in-Ok.ensures.machine more)
+    c.load_input.ensures.loaded
+
+pub returns-in-Ok-clause-default_machine : goal.returns-in-Ok-clause-default_machine
+returns-in-Ok-clause-default_machine g c = IfOk-weaker c.load_input.result _ _ (λ loaded same. subst (DefaultUnless (option_map (λ s. s.now) c.args.machine)) (sym same) c.in-Ok.ensures.default_machine) c.load_input.ensures.machine
+
+pub returns-in-Ok-clause-stops : goal.returns-in-Ok-clause-stops
+returns-in-Ok-clause-stops g c =
+    let depot = g.D.Depot in
+    IfErr-weaker c.load_input.result _ _
+    (λ status why. after_machine c.args.program _ _ c.in-Ok.machine
+    (effect_of depot.files depot.failed_reads depot.failed_replaces c.machine_for.new.depot c.load_input.new.depot)
+    (effect_of depot.files depot.failed_reads depot.failed_replaces c.args.depot.now c.load_input.new.depot)
+    status
+    (record {
+      before = sym c.in-Ok.ensures.same_files;
+      after = refl;
+      reads = c.in-Ok.ensures.reads_never_fall;
+      reads_after = refl;
+      replaces = c.in-Ok.ensures.replaces_never_fall;
+      replaces_after = refl;
+    }) c.in-Ok.ensures.machine why)
+    c.load_input.ensures.stops
+
+pub returns-in-Err-clause-stops : goal.returns-in-Err-clause-stops
+returns-in-Err-clause-stops g c = at_machine c.args.program (option_map (λ s. s.now) c.args.machine) (option_map (λ s. s.now) c.args.input)
+    (effect_of g.D.Depot.files g.D.Depot.failed_reads g.D.Depot.failed_replaces c.args.depot.now c.machine_for.new.depot) c.in-Err.status (still_some _ c.args.machine c.in-Err.ensures.named) c.in-Err.ensures.answers

@@ -1,0 +1,4 @@
+pub mod Boxes
+pub mod Simulated
+pub mod Lines
+pub mod Ending

@@ -1,0 +1,12 @@
+// Runs of words with the boxes that a caller hands in: what is read for them, their output, and the lines of their end.
+#![tactic(auto)]
+
+mod boxes;
+mod loaded;
+mod running;
+mod sim;
+
+pub use boxes::{probes_of, timing_of};
+pub use loaded::LoadedFiles;
+pub use running::{RunEnd, no_box, no_probe, run_alone, run_loaded};
+pub use sim::simulate_with;
