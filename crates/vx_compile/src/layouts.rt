@@ -9,12 +9,13 @@ use std::alloc::Global;
 use vx_base::listed::Listed;
 use vx_base::outcome::NoMemory;
 use vx_flow::graph::Graph;
+use vx_layout::lay_out;
 use vx_machine::Machine;
-use vx_mixed::Mixed;
 use vx_mixed::layout::VWords;
 use vx_profile::counts::Counts;
 use vx_region::laws::{all_steps_keep_the_graph, graphs_begin_so};
 use vx_region::{Budget, Regions, TracePlan, all_regions};
+use vx_replace::Mixed;
 
 /// A function that is laid out.
 #[derive(Drop)]
@@ -71,7 +72,7 @@ fn laid_out(alloc: Global, mixed: Mixed) -> Result<VWords, NoMemory>
     requires { IsDone mixed }
     ensures { IfOk result (λ layout. layout ≡ layout_of mixed) }
 {
-    let layout = mixed.lay_out(alloc);
+    let layout = lay_out(alloc, mixed.graph());
     drop(mixed);
     layout
 }

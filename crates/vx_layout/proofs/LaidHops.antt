@@ -22,8 +22,8 @@ use Rattle.vx_mixed.specs.Valid.{Valid}
 use Rattle.vx_mixed.specs.Layout.{drain_words, leave_words, stub, word_stubs, exit_words, laid, region_place, place_of_node, place_of, layout_of, IsDone}
 use Rattle.vx_layout.specs.Laid.{laid_effect, laid_next, moves, moves_to, word_hop, some_word_hop, laid_hop}
 use Rattle.vx_mixed.proofs.Standing.{StandsAt, stands_front, stands_back, stands_here, stands_next, stands_moved, stands_mapped, get_mapped}
-use Rattle.vx_mixed.proofs.DatedWords.{Dated, word_in, dated_exit, dated_word_stubs, left_before, exit_is, word_stub_words}
-use Rattle.vx_mixed.proofs.LayoutPlaces.{stub_size, word_stands, dated, dated_is, region_stands}
+use Rattle.vx_layout.proofs.DatedWords.{Dated, word_in, dated_exit, dated_word_stubs, left_before, exit_is, word_stub_words}
+use Rattle.vx_layout.proofs.LayoutPlaces.{stub_size, word_stands, dated, dated_is, region_stands}
 
 -- a planned word does what the word does
 pub same_effect : (setting : Setting) (s : State) (at : ℕ) (word : List Item) (t : State) → laid_effect setting s (laid at word) t ≡ word_effect setting s word t

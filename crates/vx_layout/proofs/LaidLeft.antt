@@ -9,7 +9,7 @@ use Rattle.vx_mixed.specs.declared.region.Item.{Item}
 use Rattle.vx_mixed.specs.declared.region.Item.TheVariants.{Plain, Split}
 use Rattle.vx_mixed.specs.declared.region.Region.{Region}
 use Rattle.vx_mixed.specs.Settled.{WritesIn, InTime}
-use Rattle.vx_mixed.proofs.DatedWords.{lands_in, given_in, given_at, left_before}
+use Rattle.vx_layout.proofs.DatedWords.{lands_in, given_in, given_at, left_before}
 
 pub max_is : (a b : ℕ) → (max a b ≡ a) ⊎ (max a b ≡ b)
 max_is a b = ⊎_elim (λ l. let q : max a b ≡ b = omega arith in inr q) (λ g. let q : max a b ≡ a = omega arith in inl q) (cases_lt a b)

@@ -30,8 +30,8 @@ use Rattle.vx_mixed.specs.LaidSettled.{laid_reads, laid_writes, or_zero, home_in
 use Rattle.vx_layout.specs.LayoutLaws.{AreItems, SameRoom, LayoutSettles}
 use Rattle.vx_mixed.proofs.Timed.{writer_of}
 use Rattle.vx_mixed.proofs.Standing.{StandsAt, get_some}
-use Rattle.vx_mixed.proofs.DatedWords.{Dated, word_in, landed, waiting, given_in, given_at, left_before}
-use Rattle.vx_mixed.proofs.LayoutPlaces.{dated, region_stands}
+use Rattle.vx_layout.proofs.DatedWords.{Dated, word_in, landed, waiting, given_in, given_at, left_before}
+use Rattle.vx_layout.proofs.LayoutPlaces.{dated, region_stands}
 use Rattle.vx_layout.proofs.LayoutKinds.{split_at, begins_at, DrainOf, at_exit, at_split, Kind, plans, drains, jumps, chooses, calls, returns, ends, kind_of, first_leave}
 use Rattle.vx_layout.proofs.LaidSources.{are_items, same_reads, same_writes, plain_from, plain_to, split_from, source_of, word_of, word_there, PlanOf, plan_of, plan_word}
 use Rattle.vx_layout.proofs.LaidLeft.{max_is, Giver, given_cases, given_covers, none_at_end, none_at_split, none_where_named}

@@ -23,8 +23,8 @@ use Rattle.vx_mixed.specs.LaidSettled.{laid_reads, laid_writes, Plans}
 use Rattle.vx_layout.specs.LayoutLaws.{AreItems, LayoutComesFromGraph}
 use Rattle.vx_layout.specs.Origins.{ComesFromGraph, LaidFromGraph, ExitComesFrom}
 use Rattle.vx_mixed.proofs.Standing.{Source, mapped_from, get_mapped}
-use Rattle.vx_mixed.proofs.DatedWords.{Dated, word_in, left_before}
-use Rattle.vx_mixed.proofs.LayoutPlaces.{WordAt, word_stands, dated, dated_is, region_stands}
+use Rattle.vx_layout.proofs.DatedWords.{Dated, word_in, left_before}
+use Rattle.vx_layout.proofs.LayoutPlaces.{WordAt, word_stands, dated, dated_is, region_stands}
 use Rattle.vx_layout.proofs.Numbered.{layout_numbered}
 use Rattle.vx_layout.proofs.LayoutKinds.{begins_at, Kind, plans, drains, jumps, chooses, calls, returns, ends, kind_of}
 

@@ -20,8 +20,8 @@ use Rattle.vx_mixed.specs.declared.mixed.MixedGraph.{MixedGraph}
 use Rattle.vx_mixed.specs.Edges.{IsEdge, of_split, of_last}
 use Rattle.vx_mixed.specs.Layout.{leave_words, stub, word_stubs, exit_words, laid, region_size, region_place, place_of}
 use Rattle.vx_mixed.proofs.Standing.{StandsAt, stands_front, stands_back, stands_moved, InParts, in_front, in_back, in_parts, get_some}
-use Rattle.vx_mixed.proofs.DatedWords.{Dated, landed, waiting, dated_stub, dated_word_stubs, left_before, dated_words, dated_stubs, dated_exit, dated_region, dated_all}
-use Rattle.vx_mixed.proofs.LayoutPlaces.{dated_stub_size, dated_word_stubs_size, dated_words_size, dated_exit_size, dated_region_size, exit_size, RegionAt, dated, region_stands}
+use Rattle.vx_layout.proofs.DatedWords.{Dated, landed, waiting, dated_stub, dated_word_stubs, left_before, dated_words, dated_stubs, dated_exit, dated_region, dated_all}
+use Rattle.vx_layout.proofs.LayoutPlaces.{dated_stub_size, dated_word_stubs_size, dated_words_size, dated_exit_size, dated_region_size, exit_size, RegionAt, dated, region_stands}
 
 -- the way out of a split of a word, from what is laid out
 pub record SplitAt (whole : List Dated) (place f : ℕ → ℕ) (word : List Item) (test q : ℕ) (y : Bool) : Type 0 where

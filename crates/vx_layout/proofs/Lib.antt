@@ -1,3 +1,6 @@
+pub mod DatedWords
+pub mod LayoutPlaces
+pub mod LayingSteps
 pub mod LaidHops
 pub mod LaidGrows
 pub mod LaidRuns

@@ -14,9 +14,9 @@ use Rattle.vx_layout.specs.Brief.{most_drain, IsBrief, IsBriefLayout, DrainsBrie
 use Rattle.vx_mixed.specs.declared.replacement.Replacement.{Replacement}
 use Rattle.vx_mixed.specs.Next.{InWord, new_end, renamed_region, freed, placed, new_region, next_mixed, rename}
 use Rattle.vx_mixed.specs.Layout.{place_of, layout_of}
-use Rattle.vx_mixed.proofs.DatedWords.{Dated, word_in}
+use Rattle.vx_layout.proofs.DatedWords.{Dated, word_in}
 use Rattle.vx_layout.proofs.LaidSources.{source_of, plan_word}
-use Rattle.vx_mixed.proofs.LayoutPlaces.{dated}
+use Rattle.vx_layout.proofs.LayoutPlaces.{dated}
 use Rattle.vx_layout.proofs.LayoutKinds.{DrainOf, at_exit, at_split, Kind, plans, drains, jumps, chooses, calls, returns, ends, kind_of}
 use Rattle.vx_mixed.proofs.NewBlocks.{from_placed, word_of}
 use Rattle.vx_mixed.proofs.Renames.{old_word, old_split}

@@ -1,3 +1,4 @@
+pub mod Laying
 pub mod Laid
 pub mod Numbered
 pub mod Origins

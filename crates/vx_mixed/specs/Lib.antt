@@ -15,13 +15,9 @@ pub mod Layout
 pub mod TraceOf
 pub mod Valid
 pub mod LaidSettled
-pub mod Laying
 pub mod Routes
-pub mod TraceLists
 pub mod CanReplace
 pub mod NextEdges
 pub mod MovedEdges
-pub mod Placing
-pub mod Exchanged
 pub mod AnyTiming
 pub mod TraceItems

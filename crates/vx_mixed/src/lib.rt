@@ -1,24 +1,12 @@
-// A function of which some blocks are words already and others are blocks still: what it means, and what a step from one
-// such graph to the next keeps.
+// A function of which some blocks are words already and others are blocks still: what it means, what a step from one such graph
+// to the next keeps, and which values are live in it.
 #![tactic(auto)]
 
-mod copying;
-mod edging;
-mod exchanging;
-pub mod function;
-mod joining;
-mod laying;
+pub mod copying;
 pub mod layout;
 pub mod mixed;
 pub mod nodes;
-mod origins;
-mod placing;
 pub mod region;
-mod renaming;
 pub mod replacement;
-mod replacing;
-mod routing;
+pub mod routing;
 mod touching;
-mod tracing;
-
-pub use function::Mixed;

@@ -25,7 +25,7 @@ use vx_flow::live_rows::Live;
 use vx_flow::routes::Route;
 
 /// The values that are live at each block: on some way from there the value is read before it is written.
-pub(crate) fn live_at_blocks(alloc: Global, graph: &MixedGraph) -> Result<Live, NoMemory>
+pub fn live_at_blocks(alloc: Global, graph: &MixedGraph) -> Result<Live, NoMemory>
     requires { Valid graph.now }
     ensures { IfOk result (λ live. (b : ℕ) (v : ℕ) → b < length graph.now.nodes → (IsIn v (live_values live b) ↔ IsLive graph.now b v)) }
 {
@@ -35,11 +35,7 @@ pub(crate) fn live_at_blocks(alloc: Global, graph: &MixedGraph) -> Result<Live, 
 }
 
 /// The values that are live at a block, ascending.
-pub(crate) fn values_at(
-    alloc: Global,
-    live: &Live,
-    block: BlockId,
-) -> Result<Listed<Value>, NoMemory>
+pub fn values_at(alloc: Global, live: &Live, block: BlockId) -> Result<Listed<Value>, NoMemory>
     ensures { IfOk result (λ values. values ≡ live_values live.now block) }
 {
     copied_values(alloc, live.values_at(block))

@@ -9,7 +9,7 @@ use std::alloc::Global;
 use std::test::Fail;
 use vx_base::outcome::NoMemory;
 use vx_flow::graph::{Edge, Graph};
-use vx_mixed::Mixed;
+use vx_replace::Mixed;
 
 #[tactic(auto, using(vx_motion::proofs::Counting::counting_begins))]
 fn begun(alloc: Global, graph: &Graph) -> Result<Mixed, NoMemory>

@@ -13,7 +13,7 @@ use vx_base::arithmetic::{Code, Compare};
 use vx_base::listed::Listed;
 use vx_base::outcome::NoMemory;
 use vx_flow::graph::{Bank, Block, Exit, Graph, Op, Operand};
-use vx_mixed::Mixed;
+use vx_replace::Mixed;
 
 pub(crate) fn listed<T: Copy>(alloc: Global, items: &[T]) -> Result<Listed<T>, NoMemory>
     ensures { IfOk result (λ list. list ≡ items.now) }

@@ -18,10 +18,10 @@ use vx_base::listed::Listed;
 use vx_base::outcome::NoMemory;
 use vx_flow::graph::{Edge, Graph, Op, Operand};
 use vx_flow::trace::{Homes, Trace};
-use vx_mixed::Mixed;
 use vx_mixed::region::Made;
 use vx_mixed::replacement::Replacement;
 use vx_motion::laws::an_if_is_replaced;
+use vx_replace::Mixed;
 
 fn homes(alloc: Global) -> Result<Homes, NoMemory>
     ensures { IfOk result (λ homes. homes.clusters ≡ if_homes) }

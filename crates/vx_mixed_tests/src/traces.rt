@@ -11,7 +11,7 @@ use std::test::Fail;
 use vx_base::outcome::NoMemory;
 use vx_flow::graph::{Edge, Graph, Op};
 use vx_flow::trace::{Trace, TraceOp};
-use vx_mixed::Mixed;
+use vx_replace::Mixed;
 
 #[tactic(auto, using(vx_motion::proofs::Traced::if_traces))]
 fn traced(alloc: Global, graph: &Graph) -> Result<Trace, NoMemory>

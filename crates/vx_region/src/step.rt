@@ -26,9 +26,9 @@ use vx_copies::assigned_operations_stand;
 use vx_flow::graph::BlockId;
 use vx_flow::trace::{Clustered, Homes, Placed};
 use vx_machine::Machine;
-use vx_mixed::Mixed;
 use vx_mixed::replacement::Replacement;
 use vx_profile::counts::Counts;
+use vx_replace::Mixed;
 use vx_trace::{count_of_trace, pick};
 
 /// Where a step leads.

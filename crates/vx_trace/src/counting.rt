@@ -5,8 +5,8 @@ ghost use Rattle.std.specs.Prelude.{◌≡◌};
 ghost use Rattle.vx_trace.specs.Picked.{count_of_block, count_of_edge, counted, made_later, made_on};
 
 use vx_flow::graph::{BlockId, Edge};
-use vx_mixed::Mixed;
 use vx_profile::counts::Counts;
+use vx_replace::Mixed;
 
 /// The count of an edge of the graph.
 #[tactic(auto, unfolding(crate::specs::Picked::count_of_edge))]

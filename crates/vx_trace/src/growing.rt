@@ -10,7 +10,7 @@ use crate::reading::{calls, contains, is_back, is_header, is_unused, ops_of};
 use std::alloc::Global;
 use vx_base::outcome::NoMemory;
 use vx_flow::graph::{BlockId, Edge};
-use vx_mixed::Mixed;
+use vx_replace::Mixed;
 
 /// The most operations of a trace of more than one block.
 const MOST_OPS: u64 = 512;

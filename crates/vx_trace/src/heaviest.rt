@@ -9,8 +9,8 @@ use crate::reading::is_unused;
 use std::alloc::Global;
 use vx_base::outcome::NoMemory;
 use vx_flow::graph::BlockId;
-use vx_mixed::Mixed;
 use vx_profile::counts::Counts;
+use vx_replace::Mixed;
 
 /// The best of several blocks, or of several edges at a block.
 #[derive(Clone, Copy, Debug)]

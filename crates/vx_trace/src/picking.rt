@@ -13,8 +13,8 @@ use std::alloc::Global;
 use vx_base::listed::Listed;
 use vx_base::outcome::NoMemory;
 use vx_flow::graph::{BlockId, Edge};
-use vx_mixed::Mixed;
 use vx_profile::counts::Counts;
+use vx_replace::Mixed;
 
 /// The blocks of the trace that is picked in a graph by these counts, in its order; `None` where no block is unused. It looks
 /// at each block and at the ends of each edge, and where the seed can grow once at the count of each edge.

@@ -8,7 +8,7 @@ ghost use Rattle.vx_trace.specs.Growing.{is_left, leads_on};
 ghost use Rattle.vx_trace.specs.Picked.{IsUnused};
 
 use vx_flow::graph::{BlockId, Edge, Exit};
-use vx_mixed::Mixed;
+use vx_replace::Mixed;
 
 /// Whether the block is in no region.
 pub(crate) fn is_unused(mixed: &Mixed, block: BlockId) -> bool

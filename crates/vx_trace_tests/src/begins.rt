@@ -12,7 +12,7 @@ use std::alloc::Global;
 use vx_base::listed::Listed;
 use vx_base::outcome::NoMemory;
 use vx_flow::graph::{Block, BlockId, Edge, Exit, Graph};
-use vx_mixed::Mixed;
+use vx_replace::Mixed;
 
 fn push_edge(edges: &mut Listed<Edge>, from: BlockId, to: BlockId) -> Result<(), NoMemory>
     ensures { IfOk result (λ _. edges.new ≡ edges.old ++ edge from to ∷ []) }

@@ -11,8 +11,8 @@ use std::alloc::Global;
 use std::test::Fail;
 use vx_base::outcome::NoMemory;
 use vx_flow::graph::{BlockId, Graph};
-use vx_mixed::Mixed;
 use vx_profile::counts::Counts;
+use vx_replace::Mixed;
 use vx_trace::{count_of_trace, pick};
 
 /// A graph with its counts; then the trace that is picked, and the count of its seed.

@@ -16,10 +16,10 @@ use vx_dep::mode::Mode;
 use vx_flow::graph::{BlockId, Edge, Graph, Op, Operand, Value};
 use vx_flow::trace::{Homes, Placed, TraceOp};
 use vx_machine::Machine;
-use vx_mixed::Mixed;
 use vx_profile::counts::Counts;
 use vx_region::laws::{graphs_begin_so, steps_keep_the_graph};
 use vx_region::{Budget, Step, TracePlan, replace_one};
+use vx_replace::Mixed;
 
 /// What is owed at a split: its place, the edge by which it leaves, the places of what is copied onto that, and its empty cycles.
 pub(crate) type AtSplit<'a> = (u32, Edge, &'a [u32], u32);

@@ -1,0 +1,10 @@
+pub mod StartHomes
+pub mod StartsValid
+pub mod Renumbered
+pub mod TraceSteps
+pub mod TraceLives
+pub mod Replaces
+pub mod PlacingSteps
+pub mod PutSteps
+pub mod OuterEdges
+pub mod Exchanges

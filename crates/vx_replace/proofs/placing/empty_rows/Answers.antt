@@ -1,0 +1,10 @@
+use Rattle.std.proofs.Common.{◌++◌, ◌∷◌, [], ◌∙◌, ap}
+use Rattle.std.proofs.lemmas.List.{replicate-append-replicate}
+use Rattle.vx_replace.proofs.placing.empty_rows.Goals as goal
+
+pub loop-row-preserved : goal.loop-row-preserved
+loop-row-preserved c =
+    c.in_ok-push.ensures.items
+    ∙ ap (λ row. c.loop-row.rows.items ++ row ∷ []) c.new.ensures
+    ∙ ap (λ rows. rows ++ [] ∷ []) c.loop-row.invariant
+    ∙ replicate-append-replicate c.loop-row._row 1 []

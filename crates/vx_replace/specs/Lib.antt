@@ -1,0 +1,3 @@
+pub mod TraceLists
+pub mod Placing
+pub mod Exchanged
