@@ -6,13 +6,11 @@ use Rattle.std.proofs.lemmas.Bool.{eqb-true, eq-eqb}
 use Rattle.std.proofs.lemmas.List.{append_assoc, map-append}
 use Rattle.vx_flow.specs.declared.trace.TraceOp.{TraceOp}
 use Rattle.vx_dep.specs.Delays.{writes_of}
-use Rattle.vx_bug.specs.declared.naming.Reads.{Reads}
 use Rattle.vx_bug.specs.declared.copying.Standings.{Standings}
 use Rattle.vx_bug.specs.declared.served.Served.{Served}
 use Rattle.vx_bug.specs.Clusters.{some_of, general_reads}
 use Rattle.vx_bug.specs.Copies.{is_away, reads_copies, is_served, serve, copied_for, renamed_op, here, Standing, across, with_its_copies, served_behind}
 use Rattle.vx_bug.specs.Laying.{standing, Adds, served_with}
-use Rattle.vx_bug.specs.Naming.{AreReads}
 
 abbrev needs : (homes : ℕ → Option ℕ) → (cluster : ℕ) → List Served → (v : ℕ) → Bool
 needs homes cluster served v = is_away (homes v) cluster && not (is_served served v cluster)
@@ -93,14 +91,14 @@ copied_two : (homes : ℕ → Option ℕ) (cluster : ℕ) (served : List Served)
 copied_two homes cluster served None ys = refl
 copied_two homes cluster served (Some v) ys = by_test homes cluster served v ys (needs homes cluster served v) refl
 
-pub both_needed : (homes : ℕ → Option ℕ) (cluster : ℕ) (served : List Served) (op : TraceOp) (r : Reads) (first second : Option ℕ) → AreReads op r →
-    some_of first ≡ copied_for homes cluster served (some_of r.left) → some_of second ≡ copied_for homes cluster (serve cluster (some_of first) ++ served) (some_of r.right) →
+pub both_needed : (homes : ℕ → Option ℕ) (cluster : ℕ) (served : List Served) (op : TraceOp) (left right first second : Option ℕ) → general_reads op ≡ some_of left ++ some_of right →
+    some_of first ≡ copied_for homes cluster served (some_of left) → some_of second ≡ copied_for homes cluster (serve cluster (some_of first) ++ served) (some_of right) →
     some_of first ++ some_of second ≡ copied_for homes cluster served (general_reads op)
-both_needed homes cluster served op r first second a p q =
+both_needed homes cluster served op left right first second a p q =
     ap (λ x. some_of first ++ x) q
-    ∙ ap (λ x. x ++ copied_for homes cluster (serve cluster x ++ served) (some_of r.right)) p
-    ∙ sym (copied_two homes cluster served r.left (some_of r.right))
-    ∙ ap (copied_for homes cluster served) (sym a.general)
+    ∙ ap (λ x. x ++ copied_for homes cluster (serve cluster x ++ served) (some_of right)) p
+    ∙ sym (copied_two homes cluster served left (some_of right))
+    ∙ ap (copied_for homes cluster served) (sym a)
 
 -- what is laid down
 

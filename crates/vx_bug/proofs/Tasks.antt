@@ -4,13 +4,13 @@ use Rattle.std.specs.List.{list_any, flat_map}
 use Rattle.std.proofs.lemmas.List.Concat.{flat_map-append}
 use Rattle.vx_flow.specs.declared.trace.TraceOp.{TraceOp}
 use Rattle.vx_flow.specs.declared.trace.Trace.{Trace}
+use Rattle.vx_flow.specs.declared.operands.Reads.{Reads}
+use Rattle.vx_flow.specs.Operands.{values_read}
 use Rattle.vx_linear.specs.Writers.{writer}
 use Rattle.vx_dep.specs.Delays.{reads_of}
-use Rattle.vx_bug.specs.declared.naming.Reads.{Reads}
 use Rattle.vx_bug.specs.declared.order.Task.{Task}
 use Rattle.vx_bug.specs.declared.order.Task.TheVariants.{Enter, Leave}
 use Rattle.vx_bug.specs.Clusters.{some_of, writers_of, visit_each, visit}
-use Rattle.vx_bug.specs.Naming.{AreReads}
 use Rattle.vx_bug.specs.Tasks.{done, all_done, entries, turns, weight, all_weight}
 use Rattle.vx_bug.proofs.Visiting.{visit_new}
 
@@ -54,21 +54,21 @@ entries_end : (d : ℕ) (is js : List ℕ) → entries d (is ++ js) ≡ entries 
 entries_end d [] js = sym (append-nil (entries d js))
 entries_end d (i ∷ is) js = ap (λ ts. ts ++ Enter d i ∷ []) (entries_end d is js) ∙ append_assoc (entries d js) (entries d is) (Enter d i ∷ [])
 
-pub all_entries : (t : Trace) (d i : ℕ) (there : Option TraceOp) (op : TraceOp) (r : Reads) (tasks one two three : List Task) → there ≡ Some op → AreReads op r →
-    one ≡ tasks ++ entries d (above t i r.right) → two ≡ one ++ entries d (above t i r.left) → three ≡ two ++ entries d (above t i r.test) →
+pub all_entries : (t : Trace) (d i : ℕ) (there : Option TraceOp) (op : TraceOp) (r : Reads) (tasks one two three : List Task) → there ≡ Some op → reads_of op ≡ values_read r →
+    one ≡ tasks ++ entries d (above t i r.third) → two ≡ one ++ entries d (above t i r.second) → three ≡ two ++ entries d (above t i r.first) →
     three ≡ tasks ++ entries d (writers_of t i there)
 all_entries t d i there op r tasks one two three e a p q s =
     let w : ℕ → List ℕ = λ v. some_of (writer t.ops i v) in
-    let first : List Task = entries d (above t i r.test) in
-    let left : List Task = entries d (above t i r.left) in
-    let right : List Task = entries d (above t i r.right) in
-    let cut : flat_map w (reads_of op) ≡ above t i r.test ++ (above t i r.left ++ above t i r.right) =
-    ap (flat_map w) a.all ∙ flat_map-append w (some_of r.test) (some_of r.left ++ some_of r.right) ∙ ap (λ x. above t i r.test ++ x) (flat_map-append w (some_of r.left) (some_of r.right)) in
-    let whole : entries d (writers_of t i there) ≡ (right ++ left) ++ first =
-    ap (λ o. entries d (writers_of t i o)) e ∙ ap (entries d) cut ∙ entries_end d (above t i r.test) (above t i r.left ++ above t i r.right)
-    ∙ ap (λ x. x ++ first) (entries_end d (above t i r.left) (above t i r.right)) in
-    s ∙ ap (λ x. x ++ first) (q ∙ ap (λ x. x ++ left) p ∙ append_assoc tasks right left)
-    ∙ append_assoc tasks (right ++ left) first
+    let first : List Task = entries d (above t i r.first) in
+    let second : List Task = entries d (above t i r.second) in
+    let third : List Task = entries d (above t i r.third) in
+    let cut : flat_map w (reads_of op) ≡ above t i r.first ++ (above t i r.second ++ above t i r.third) =
+    ap (flat_map w) a ∙ flat_map-append w (some_of r.first) (some_of r.second ++ some_of r.third) ∙ ap (λ x. above t i r.first ++ x) (flat_map-append w (some_of r.second) (some_of r.third)) in
+    let whole : entries d (writers_of t i there) ≡ (third ++ second) ++ first =
+    ap (λ o. entries d (writers_of t i o)) e ∙ ap (entries d) cut ∙ entries_end d (above t i r.first) (above t i r.second ++ above t i r.third)
+    ∙ ap (λ x. x ++ first) (entries_end d (above t i r.second) (above t i r.third)) in
+    s ∙ ap (λ x. x ++ first) (q ∙ ap (λ x. x ++ second) p ∙ append_assoc tasks third second)
+    ∙ append_assoc tasks (third ++ second) first
     ∙ ap (λ x. tasks ++ x) (sym whole)
 
 -- a place

@@ -9,6 +9,7 @@ use Rattle.vx_flow.specs.declared.trace.TraceOp.TheVariants.{Plain, Split}
 use Rattle.vx_flow.specs.declared.trace.Trace.{Trace}
 use Rattle.vx_flow.specs.declared.trace.Homes.{Homes}
 use Rattle.vx_flow.specs.Effects.{IsIn, value_in}
+use Rattle.vx_flow.specs.Operands.{value_list}
 use Rattle.vx_flow.specs.Walk.{numbers}
 use Rattle.vx_isa.specs.declared.operation.UnitKind.{UnitKind}
 use Rattle.vx_isa.specs.declared.operation.UnitKind.TheVariants.{Alu, Multiply, Memory, Copies, Control}
@@ -52,8 +53,7 @@ is_across op = false
 
 -- the operations above place i that wrote its operands last, in the order of the operands
 abbrev pub some_of : Option ℕ → List ℕ
-some_of None = []
-some_of (Some i) = i ∷ []
+some_of held = value_list held
 
 abbrev pub writers_of : Trace → ℕ → Option TraceOp → List ℕ
 writers_of t i None = []

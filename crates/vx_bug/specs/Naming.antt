@@ -1,10 +1,10 @@
--- The values that an operation reads, as its test and its operands.
-use Rattle.std.specs.Prelude.{◌≡◌, ◌++◌}
+-- Whether an operation reads a test, which is a branch value.
+use Rattle.std.specs.Prelude.{Bool, true, false}
+use Rattle.vx_flow.specs.declared.graph.Op.TheVariants.{Select}
 use Rattle.vx_flow.specs.declared.trace.TraceOp.{TraceOp}
-use Rattle.vx_dep.specs.Delays.{reads_of}
-use Rattle.vx_bug.specs.declared.naming.Reads.{Reads}
-use Rattle.vx_bug.specs.Clusters.{general_reads, some_of}
+use Rattle.vx_flow.specs.declared.trace.TraceOp.TheVariants.{Plain, Split}
 
-pub record AreReads (op : TraceOp) (r : Reads) : Type 0 where
-  pub all : reads_of op ≡ some_of r.test ++ (some_of r.left ++ some_of r.right)
-  pub general : general_reads op ≡ some_of r.left ++ some_of r.right
+abbrev pub has_test : TraceOp → Bool
+has_test (Plain (Select v test a b)) = true
+has_test (Plain op) = false
+has_test (Split test leaves_when edge live) = true

@@ -15,7 +15,7 @@ there_on m cluster None = 0
 there_on m cluster (Some s) = s.written + way_from m s.home cluster
 
 abbrev pub earliest_on : Numbers → (cluster : ℕ) → Sources → ℕ
-earliest_on m cluster s = max (max (there_on m cluster s.test) (there_on m cluster s.left)) (there_on m cluster s.right)
+earliest_on m cluster s = max (max (there_on m cluster s.first) (there_on m cluster s.second)) (there_on m cluster s.third)
 
 -- on each cluster it tells from which cycle on the values are there
 abbrev pub IsSource : Numbers → Trace → Books → (i : ℕ) → TraceOp → (values : List ℕ) → Option Source → Type 0

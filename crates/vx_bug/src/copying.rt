@@ -9,7 +9,7 @@ ghost use Rattle.vx_bug.specs.Ledgers.{homes_in};
 ghost use Rattle.vx_bug.specs.Laying.{Adds, standing, right_renamed, served_with};
 
 use crate::homes::home_in;
-use crate::naming::{Reads, values_read, written};
+use crate::naming::{general_reads, written};
 use crate::served::Served;
 use std::alloc::{AllocError, Global};
 use vx_base::arithmetic::Code;
@@ -271,7 +271,7 @@ fn needed_behind(
 fn copies_needed(site: &Site, served: &[Served], op: &TraceOp) -> Needed
     ensures { some_of result.first ++ some_of result.second ≡ copied_for (homes_in site.now.homes.now) site.now.cluster served.now (general_reads op.now) }
 {
-    let read = values_read(op);
+    let read = general_reads(op);
     let first = copy_needed(site, served, read.left);
     let second = needed_behind(site, served, first, read.right);
     Needed { first, second }

@@ -1,135 +1,71 @@
 // What an operation of a trace names: the values that it reads and writes, whether it can stand on cluster 0 alone, and
 // which operation above it wrote a value. specs/Clusters.antt says the same.
 
-ghost use Rattle.std.specs.Prelude.{◌≡◌, slice_get};
-ghost use Rattle.vx_flow.specs.Effects.{is_unary, value_in};
+ghost use Rattle.std.specs.Prelude.{◌≡◌, ◌++◌, slice_get};
+ghost use Rattle.vx_flow.specs.Operands.{values_read};
 ghost use Rattle.vx_linear.specs.Writers.{writes_there, writer};
 ghost use Rattle.vx_linear.specs.Followed.{writes_it};
-ghost use Rattle.vx_dep.specs.Delays.{writes_of};
-ghost use Rattle.vx_bug.specs.Clusters.{general_writes, names_branch, is_bound, is_across, some_of};
-ghost use Rattle.vx_bug.specs.Naming.{AreReads};
+ghost use Rattle.vx_dep.specs.Delays.{reads_of, writes_of};
+ghost use Rattle.vx_bug.specs.Clusters.{general_reads, general_writes, names_branch, is_bound, is_across, some_of};
+ghost use Rattle.vx_bug.specs.Naming.{has_test};
 
 use vx_base::arithmetic::Code;
-use vx_flow::graph::{Op, Operand, Value};
+use vx_dep::traits::read;
+use vx_flow::graph::{Op, Value};
+use vx_flow::operands::Reads;
 use vx_flow::trace::TraceOp;
 use vx_machine::items::Item;
 
-/// The values that an operation reads, in the order of its operands.
+/// The values that an operation reads.
+#[tactic(auto, using(crate::proofs::Named::reads_by))]
+pub(crate) fn values_read(op: &TraceOp) -> Reads
+    ensures { reads_of op.now ≡ values_read result }
+{
+    read(op)
+}
+
+/// The general values that an operation reads, in the order of its operands.
 #[derive(Clone, Copy, Debug)]
-pub(crate) struct Reads {
-    /// The branch value that it tests.
-    pub(crate) test: Option<Value>,
-    /// The general values among its operands.
+pub(crate) struct Operands {
     pub(crate) left: Option<Value>,
     pub(crate) right: Option<Value>,
 }
 
-/// The values that an operation of a trace reads.
-pub(crate) fn values_read(op: &TraceOp) -> Reads
-    ensures { AreReads op.now result }
+/// The general values that an operation reads: those behind its test, where it has one.
+#[tactic(auto, using(crate::proofs::Named::behind_test, crate::proofs::Named::without_test))]
+pub(crate) fn general_reads(op: &TraceOp) -> Operands
+    ensures { general_reads op.now ≡ some_of result.left ++ some_of result.right }
 {
-    match op {
-        TraceOp::Plain(op) => reads_by(op),
-        TraceOp::Split { test, .. } => Reads {
-            test: Some(*test),
-            left: None,
-            right: None,
-        },
-    }
-}
-
-fn reads_by(op: &Op) -> Reads
-    ensures { AreReads (TraceOp.Plain op.now) result }
-{
-    match op {
-        Op::Compute {
-            code,
-            left,
-            right,
-            ..
-        } => {
-            if is_unary(*code) {
-                one(held(left))
-            } else {
-                two(held(left), held(right))
-            }
+    let values = read(op);
+    if has_test(op) {
+        Operands {
+            left: values.second,
+            right: values.third,
         }
-        Op::Select {
-            test,
-            left,
-            right,
-            ..
-        } => Reads {
-            test: Some(*test),
-            left: held(left),
-            right: held(right),
-        },
-        Op::Place { index, .. } => one(held(index)),
-        Op::Load { place, .. } => one(held(place)),
-        Op::Store { place, from, .. } => two(held(place), held(from)),
-        Op::Decimal { from } => one(held(from)),
-        Op::Across { from, .. } => one(Some(*from)),
-        Op::More { .. } | Op::Input { .. } | Op::Text { .. } => one(None),
+    } else {
+        Operands {
+            left: values.first,
+            right: values.second,
+        }
     }
 }
 
-fn one(value: Option<Value>) -> Reads
-    ensures { result ≡ record { test = None; left = value; right = None } }
+fn has_test(op: &TraceOp) -> bool
+    ensures { result ≡ has_test op.now }
 {
-    two(value, None)
-}
-
-fn two(left: Option<Value>, right: Option<Value>) -> Reads
-    ensures { result ≡ record { test = None; left = left; right = right } }
-{
-    Reads {
-        test: None,
-        left,
-        right,
-    }
-}
-
-fn is_unary(code: Code) -> bool
-    ensures { result ≡ is_unary code }
-{
-    match code {
-        Code::Mov => true,
-        _ => false,
-    }
-}
-
-fn held(operand: &Operand) -> Option<Value>
-    ensures { some_of result ≡ value_in operand.now }
-{
-    match operand {
-        Operand::Held(value) => Some(*value),
-        Operand::Number(_) | Operand::Stack => None,
+    match op {
+        TraceOp::Plain(Op::Select { .. }) => true,
+        TraceOp::Plain(_) => false,
+        TraceOp::Split { .. } => true,
     }
 }
 
 /// The value that an operation writes.
+#[tactic(auto, using(crate::proofs::Named::writes_by))]
 pub(crate) fn written(op: &TraceOp) -> Option<Value>
     ensures { some_of result ≡ writes_of op.now }
 {
-    match op {
-        TraceOp::Plain(op) => written_by(op),
-        TraceOp::Split { .. } => None,
-    }
-}
-
-fn written_by(op: &Op) -> Option<Value>
-    ensures { some_of result ≡ writes_of (TraceOp.Plain op.now) }
-{
-    match op {
-        Op::Compute { to, .. }
-        | Op::Select { to, .. }
-        | Op::Place { to, .. }
-        | Op::Load { to, .. }
-        | Op::More { to }
-        | Op::Input { to }
-        | Op::Across { to, .. } => Some(*to),
-        Op::Store { .. } | Op::Text { .. } | Op::Decimal { .. } => None,
-    }
+    vx_dep::traits::written(op)
 }
 
 /// The general value that an operation writes.

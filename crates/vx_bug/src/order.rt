@@ -115,9 +115,9 @@ fn enter_writers(
         None => Ok(()),
         Some(op) => {
             let read = values_read(op);
-            enter_writer(trace, depth, place, read.right, tasks)?;
-            enter_writer(trace, depth, place, read.left, tasks)?;
-            enter_writer(trace, depth, place, read.test, tasks)?;
+            enter_writer(trace, depth, place, read.third, tasks)?;
+            enter_writer(trace, depth, place, read.second, tasks)?;
+            enter_writer(trace, depth, place, read.first, tasks)?;
             Ok(())
         }
     }

@@ -9,7 +9,7 @@ ghost use Rattle.vx_bug.specs.Sources.{there_on, earliest_on, IsSource, AreSourc
 use crate::bookings::{Booking, estimate_in, free_cycle};
 use crate::homes::{give_home, home_in};
 use crate::ledger::Ledger;
-use crate::naming::{general_result, is_across, values_read, writer};
+use crate::naming::{general_reads, general_result, is_across, values_read, writer};
 use std::alloc::Global;
 use vx_base::outcome::NoMemory;
 use vx_flow::graph::Value;
@@ -38,9 +38,9 @@ pub(crate) struct Source {
 /// Where the operands of an operation come from, found once for all clusters; None where an operand is no value.
 #[derive(Clone, Copy, Debug)]
 pub(crate) struct Sources {
-    pub(crate) test: Option<Source>,
-    pub(crate) left: Option<Source>,
-    pub(crate) right: Option<Source>,
+    pub(crate) first: Option<Source>,
+    pub(crate) second: Option<Source>,
+    pub(crate) third: Option<Source>,
 }
 
 /// How many cycles later an operand that stands on another cluster is there.
@@ -106,10 +106,14 @@ pub(crate) fn find_sources(turn: &Turn, ledger: &Ledger) -> Sources
     ensures { AreSources turn.now.machine turn.now.trace.now (books_of ledger.now) turn.now.place turn.now.op.now result }
 {
     let read = values_read(turn.op);
-    let test = find_source_if(turn, ledger, read.test);
-    let left = find_source_if(turn, ledger, read.left);
-    let right = find_source_if(turn, ledger, read.right);
-    Sources { test, left, right }
+    let first = find_source_if(turn, ledger, read.first);
+    let second = find_source_if(turn, ledger, read.second);
+    let third = find_source_if(turn, ledger, read.third);
+    Sources {
+        first,
+        second,
+        third,
+    }
 }
 
 /// The cycle from which an operand is there on a cluster; 0 where it is no value.
@@ -128,10 +132,10 @@ fn there_on(machine: &Machine, cluster: u32, source: Option<Source>) -> u64
 pub(crate) fn earliest(machine: &Machine, cluster: u32, sources: Sources) -> u64
     ensures { result ≡ earliest_on machine.now cluster sources }
 {
-    let test = there_on(machine, cluster, sources.test);
-    let left = there_on(machine, cluster, sources.left);
-    let right = there_on(machine, cluster, sources.right);
-    test.max(left).max(right)
+    let first = there_on(machine, cluster, sources.first);
+    let second = there_on(machine, cluster, sources.second);
+    let third = there_on(machine, cluster, sources.third);
+    first.max(second).max(third)
 }
 
 /// The cycle in which the operation would be issued on a cluster.
@@ -201,7 +205,7 @@ fn later(cycle: u32, latency: u32) -> Result<u32, NoMemory>
 fn give_homes(homes: &mut Vec<Option<u32>>, op: &TraceOp, cluster: u32) -> Result<(), NoMemory>
     ensures { OnOk result (homes_in homes.new.items ≡ with_homes cluster (homes_in homes.old.items) (general_reads op.now ++ general_writes op.now)) }
 {
-    let read = values_read(op);
+    let read = general_reads(op);
     give_home(homes, read.left, cluster)?;
     give_home(homes, read.right, cluster)?;
     give_home(homes, general_result(op), cluster)

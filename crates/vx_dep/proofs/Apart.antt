@@ -3,6 +3,7 @@ use Rattle.std.proofs.Common.{◌≡◌, ◌<◌, ◌≤◌, ◌⊎◌, inl, inr
 use Rattle.std.proofs.lemmas.Bool.{false≢true, true≢false}
 use Rattle.std.specs.List.{list_any}
 use Rattle.vx_flow.specs.declared.trace.Trace.{Trace}
+use Rattle.vx_flow.specs.Operands.{value_list, values_read}
 use Rattle.vx_isa.specs.Numbers.{Numbers}
 use Rattle.vx_dep.specs.declared.keys.Key.{Key}
 use Rattle.vx_dep.specs.declared.mode.Mode.{Mode}
@@ -11,7 +12,7 @@ use Rattle.vx_dep.specs.declared.tables.Standing.{Standing}
 use Rattle.vx_dep.specs.declared.rows.Ways.{Ways}
 use Rattle.vx_dep.specs.Delays.{Applies, IsDelay}
 use Rattle.vx_dep.specs.Earlier.{NoneBetween}
-use Rattle.vx_dep.specs.Traits.{value_list, values_read, has}
+use Rattle.vx_dep.specs.Traits.{has}
 use Rattle.vx_dep.specs.Tables.{standings_of, lives_of}
 use Rattle.vx_dep.specs.Rows.{is_barred, are_tied, stays_behind_split, stays_behind_join, stays_below, at_least, row_of, delay_of}
 use Rattle.vx_dep.specs.Sights.{reaches, has_join, is_live}

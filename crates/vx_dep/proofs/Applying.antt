@@ -7,13 +7,14 @@ use Rattle.vx_flow.specs.declared.trace.TraceOp.{TraceOp}
 use Rattle.vx_flow.specs.declared.trace.TraceOp.TheVariants.{Plain, Split}
 use Rattle.vx_flow.specs.declared.trace.Trace.{Trace}
 use Rattle.vx_flow.specs.Effects.{IsIn}
+use Rattle.vx_flow.specs.Operands.{value_list, values_read}
 use Rattle.vx_isa.specs.Numbers.{Numbers}
 use Rattle.vx_dep.specs.declared.mode.Mode.{Mode}
 use Rattle.vx_dep.specs.declared.mode.Mode.TheVariants.{Free, Barred}
 use Rattle.vx_dep.specs.declared.rows.Ways.{Ways}
 use Rattle.vx_dep.specs.Delays.{Stands, reads_of, writes_of, is_load, is_store, is_observable, leaves, latency_of, live_off, IsLastWriter, JoinBetween, Row, reads_written, writes_written, writes_read, access_behind_store, store_behind_load, both_observable, both_splits, seen_behind_split, live_behind_split, split_behind_observable, seen_behind_join, barred_above_split, barred_below_split, barred_below_join, Applies, IsGreatest, IsDelay}
 use Rattle.vx_dep.specs.declared.traits.Traits.{Traits}
-use Rattle.vx_dep.specs.Traits.{written, read, value_list, values_read, has, traits_of}
+use Rattle.vx_dep.specs.Traits.{written, read, has, traits_of}
 use Rattle.vx_dep.specs.Rows.{is_barred, are_tied, stays_behind_split, stays_behind_join, stays_behind, stays_below, at_least, delay_of, MayTouch, AreWays}
 use Rattle.vx_dep.proofs.Written.{reads_are, writes_are, has_value, value_has}
 

@@ -4,13 +4,14 @@ use Rattle.std.proofs.lemmas.Bool.{or_left, or_right, false≢true, true≢false
 use Rattle.vx_flow.specs.declared.trace.TraceOp.{TraceOp}
 use Rattle.vx_flow.specs.declared.trace.TraceOp.TheVariants.{Plain, Split}
 use Rattle.vx_flow.specs.declared.trace.Trace.{Trace}
+use Rattle.vx_flow.specs.Operands.{values_read}
 use Rattle.vx_isa.specs.Numbers.{Numbers}
 use Rattle.vx_dep.specs.declared.mode.Mode.{Mode}
 use Rattle.vx_dep.specs.declared.traits.Traits.{Traits}
 use Rattle.vx_dep.specs.declared.tables.Standing.{Standing}
 use Rattle.vx_dep.specs.declared.rows.Ways.{Ways}
 use Rattle.vx_dep.specs.Delays.{is_observable, leaves, IsDelay}
-use Rattle.vx_dep.specs.Traits.{values_read, has, is_fixed, traits_of}
+use Rattle.vx_dep.specs.Traits.{has, is_fixed, traits_of}
 use Rattle.vx_dep.specs.Tables.{standings_of, lives_of}
 use Rattle.vx_dep.specs.Rows.{is_barred, are_tied, stays_behind_split, stays_behind_join, stays_behind, stays_below, at_least, delay_of, are_quiet, quiet_delay_of, is_seen, split_delay_of}
 use Rattle.vx_dep.specs.Sights.{reaches, has_join, is_live}

@@ -3,12 +3,13 @@ use Rattle.std.specs.Prelude.{◌≡◌, not, ◌&&◌, ◌||◌, ℕ, max, Bool
 use Rattle.vx_flow.specs.declared.trace.TraceOp.{TraceOp}
 use Rattle.vx_flow.specs.declared.trace.Trace.{Trace}
 use Rattle.vx_flow.specs.Effects.{IsIn}
+use Rattle.vx_flow.specs.Operands.{values_read}
 use Rattle.vx_dep.specs.declared.mode.Mode.{Mode}
 use Rattle.vx_dep.specs.declared.mode.Mode.TheVariants.{Free, Barred}
 use Rattle.vx_dep.specs.declared.rows.Ways.{Ways}
 use Rattle.vx_dep.specs.declared.traits.Traits.{Traits}
 use Rattle.vx_dep.specs.Delays.{Stands, writes_of, leaves, live_off, IsLastWriter, JoinBetween, NeverMeet}
-use Rattle.vx_dep.specs.Traits.{values_read, has}
+use Rattle.vx_dep.specs.Traits.{has}
 use Rattle.vx_dep.specs.Tables.{write_alike}
 
 abbrev pub is_barred : Mode → Bool

@@ -5,10 +5,11 @@ use Rattle.vx_flow.specs.declared.trace.TraceOp.{TraceOp}
 use Rattle.vx_flow.specs.declared.trace.TraceOp.TheVariants.{Plain, Split}
 use Rattle.vx_flow.specs.declared.trace.Join.{Join}
 use Rattle.vx_flow.specs.declared.trace.Trace.{Trace}
+use Rattle.vx_flow.specs.Operands.{value_list}
 use Rattle.vx_isa.specs.Numbers.{Numbers}
 use Rattle.vx_dep.specs.declared.traits.Traits.{Traits}
 use Rattle.vx_dep.specs.declared.tables.Standing.{Standing}
-use Rattle.vx_dep.specs.Traits.{written, has, value_list, traits_of}
+use Rattle.vx_dep.specs.Traits.{written, has, traits_of}
 
 -- the second operation writes the value that the first one writes
 abbrev pub write_alike : Traits → Traits → Bool

@@ -11,7 +11,7 @@ pub mod mode;
 mod rows;
 mod sights;
 mod tables;
-mod traits;
+pub mod traits;
 
 pub use deps::{Deps, pairs};
 pub use earlier::Earlier;

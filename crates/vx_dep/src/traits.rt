@@ -3,23 +3,15 @@
 
 ghost use Rattle.std.specs.Prelude.{◌≡◌, ◌++◌, nat_eq};
 ghost use Rattle.std.specs.List.{list_any};
-ghost use Rattle.vx_flow.specs.Effects.{is_unary};
+ghost use Rattle.vx_flow.specs.Operands.{value_list, values_read};
 ghost use Rattle.vx_dep.specs.Delays.{is_load, is_store};
-ghost use Rattle.vx_dep.specs.Traits.{written, written_by, held_by, reads_three, read, read_by, value_list, values_read, has, traits_of};
+ghost use Rattle.vx_dep.specs.Traits.{written, read, has, traits_of};
 
-use vx_base::arithmetic::Code;
-use vx_flow::graph::{Op, Operand, Value};
+use vx_flow::graph::{Op, Value};
+use vx_flow::operands::{Reads, read_by, reads_three, written_by};
 use vx_flow::trace::TraceOp;
 use vx_machine::Machine;
 use vx_machine::items::Item;
-
-/// The values that an operation reads.
-#[derive(Clone, Copy, Debug)]
-pub(crate) struct Reads {
-    pub(crate) first: Option<Value>,
-    pub(crate) second: Option<Value>,
-    pub(crate) third: Option<Value>,
-}
 
 /// What delays ask of an operation.
 #[derive(Clone, Copy, Debug)]
@@ -61,7 +53,7 @@ pub(crate) fn traits_of(machine: &Machine, op: &TraceOp) -> Traits
 }
 
 /// The value that an operation writes.
-pub(crate) fn written(op: &TraceOp) -> Option<Value>
+pub fn written(op: &TraceOp) -> Option<Value>
     ensures { result ≡ written op.now }
 {
     match op {
@@ -70,86 +62,13 @@ pub(crate) fn written(op: &TraceOp) -> Option<Value>
     }
 }
 
-fn written_by(op: &Op) -> Option<Value>
-    ensures { result ≡ written_by op.now }
-{
-    match op {
-        Op::Compute { to, .. }
-        | Op::Select { to, .. }
-        | Op::Place { to, .. }
-        | Op::Load { to, .. }
-        | Op::More { to }
-        | Op::Input { to }
-        | Op::Across { to, .. } => Some(*to),
-        Op::Store { .. } | Op::Text { .. } | Op::Decimal { .. } => None,
-    }
-}
-
-fn read(op: &TraceOp) -> Reads
+/// The values that an operation reads; a split reads its test.
+pub fn read(op: &TraceOp) -> Reads
     ensures { result ≡ read op.now }
 {
     match op {
         TraceOp::Plain(op) => read_by(op),
         TraceOp::Split { test, .. } => reads_three(Some(*test), None, None),
-    }
-}
-
-fn read_by(op: &Op) -> Reads
-    ensures { result ≡ read_by op.now }
-{
-    match op {
-        Op::Compute {
-            code,
-            left,
-            right,
-            ..
-        } => {
-            if is_unary(*code) {
-                reads_three(held_by(left), None, None)
-            } else {
-                reads_three(held_by(left), held_by(right), None)
-            }
-        }
-        Op::Select {
-            test,
-            left,
-            right,
-            ..
-        } => reads_three(Some(*test), held_by(left), held_by(right)),
-        Op::Place { index, .. } => reads_three(held_by(index), None, None),
-        Op::Load { place, .. } => reads_three(held_by(place), None, None),
-        Op::Store { place, from, .. } => reads_three(held_by(place), held_by(from), None),
-        Op::Decimal { from } => reads_three(held_by(from), None, None),
-        Op::Across { from, .. } => reads_three(Some(*from), None, None),
-        Op::More { .. } | Op::Input { .. } | Op::Text { .. } => reads_three(None, None, None),
-    }
-}
-
-fn reads_three(first: Option<Value>, second: Option<Value>, third: Option<Value>) -> Reads
-    ensures { result ≡ reads_three first second third }
-{
-    Reads {
-        first,
-        second,
-        third,
-    }
-}
-
-fn is_unary(code: Code) -> bool
-    ensures { result ≡ is_unary code }
-{
-    match code {
-        Code::Mov => true,
-        _ => false,
-    }
-}
-
-fn held_by(operand: &Operand) -> Option<Value>
-    ensures { result ≡ held_by operand.now }
-{
-    match operand {
-        Operand::Held(held) => Some(*held),
-        Operand::Number(_) | Operand::Stack => None,
     }
 }
 

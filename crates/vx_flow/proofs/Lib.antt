@@ -1,6 +1,7 @@
 mod RunRows
 pub mod RunLaws
 pub mod Members
+pub mod OperandLaws
 pub mod IndexSteps
 pub mod LiveRoutes
 pub mod ClosingSteps

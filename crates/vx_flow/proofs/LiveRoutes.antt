@@ -2,20 +2,15 @@
 use Rattle.std.proofs.Common.{◌≡◌, ◌⊎◌, inl, inr, ◌↔◌, ℕ, zero, suc, ◌+◌, ◌<◌, ◌≤◌, Bool, true, false, cond, map, take, List, [], ◌∷◌, ◌++◌, length, slice_get, get_or, Option, Some, None, refl, sym, ap, subst, ◌∙◌, arith, append_assoc}
 use Rattle.std.specs.List.{flat_map}
 use Rattle.std.proofs.lemmas.Bool.Decides.{eqb_tells}
-use Rattle.vx_base.specs.declared.arithmetic.Code.TheVariants.{Mov}
-use Rattle.vx_flow.specs.declared.graph.Operand.{Operand}
-use Rattle.vx_flow.specs.declared.graph.Operand.TheVariants.{Held, Number, Stack}
 use Rattle.vx_flow.specs.declared.graph.Op.{Op}
-use Rattle.vx_flow.specs.declared.graph.Op.TheVariants.{Compute, Select, Place, Load, Store, More, Input, Text, Decimal, Across}
 use Rattle.vx_flow.specs.declared.graph.Exit.{Exit}
-use Rattle.vx_flow.specs.declared.graph.Exit.TheVariants.{Goto, Split, Call, Return, Ends}
 use Rattle.vx_flow.specs.declared.graph.Block.{Block}
 use Rattle.vx_flow.specs.declared.graph.Graph.{Graph}
 use Rattle.vx_flow.specs.declared.routes.Touch.{Touch}
 use Rattle.vx_flow.specs.declared.routes.Route.{Route}
-use Rattle.vx_flow.specs.Effects.{IsIn, value_in, reads, writes}
+use Rattle.vx_flow.specs.Effects.{IsIn, reads, writes}
 use Rattle.vx_flow.specs.Sound.{targets_of, results_of_exit}
-use Rattle.vx_flow.specs.Live.{IsLive, LiveOn, ReadsFirst, NeverWrites, reads_of_exit, first_touch, touch, operand_touches, touches_of, touches_of_exit, route_of, routes_from}
+use Rattle.vx_flow.specs.Live.{IsLive, LiveOn, ReadsFirst, NeverWrites, reads_of_exit, first_touch, touch, touches_of, touches_of_exit, route_of, routes_from}
 use Rattle.vx_flow.specs.Closing.{BeginWithin, PutUnder, ReadersFound}
 use Rattle.vx_flow.specs.Rows.{Rising, is_marked, lives, row_at}
 use Rattle.vx_flow.proofs.ClosingSteps.{any_in, in_any}
@@ -49,69 +44,6 @@ routes_begin_within blocks i r e =
     let h : i < length blocks = get_below blocks i w.0 w.1 in
     let q : r.from ≡ 0 + i = ap (λ (x : Route). x.from) w.2 in
     omega arith
-
--- what operations and exits do to values
-
-touches_split : (op : Op) → touches_of op ≡ map (touch true) (reads op) ++ map (touch false) (writes op)
-touches_split (Compute Mov v (Held u) b) = refl
-touches_split (Compute Mov v (Number n) b) = refl
-touches_split (Compute Mov v Stack b) = refl
-touches_split (Compute code v (Held u) (Held w)) = refl
-touches_split (Compute code v (Held u) (Number n)) = refl
-touches_split (Compute code v (Held u) Stack) = refl
-touches_split (Compute code v (Number n) (Held w)) = refl
-touches_split (Compute code v (Number n) (Number m)) = refl
-touches_split (Compute code v (Number n) Stack) = refl
-touches_split (Compute code v Stack (Held w)) = refl
-touches_split (Compute code v Stack (Number m)) = refl
-touches_split (Compute code v Stack Stack) = refl
-touches_split (Select v p (Held u) (Held w)) = refl
-touches_split (Select v p (Held u) (Number n)) = refl
-touches_split (Select v p (Held u) Stack) = refl
-touches_split (Select v p (Number n) (Held w)) = refl
-touches_split (Select v p (Number n) (Number m)) = refl
-touches_split (Select v p (Number n) Stack) = refl
-touches_split (Select v p Stack (Held w)) = refl
-touches_split (Select v p Stack (Number m)) = refl
-touches_split (Select v p Stack Stack) = refl
-touches_split (Place v a (Held u)) = refl
-touches_split (Place v a (Number n)) = refl
-touches_split (Place v a Stack) = refl
-touches_split (Load v a (Held u) d) = refl
-touches_split (Load v a (Number n) d) = refl
-touches_split (Load v a Stack d) = refl
-touches_split (Store a (Held u) (Held w)) = refl
-touches_split (Store a (Held u) (Number n)) = refl
-touches_split (Store a (Held u) Stack) = refl
-touches_split (Store a (Number n) (Held w)) = refl
-touches_split (Store a (Number n) (Number m)) = refl
-touches_split (Store a (Number n) Stack) = refl
-touches_split (Store a Stack (Held w)) = refl
-touches_split (Store a Stack (Number m)) = refl
-touches_split (Store a Stack Stack) = refl
-touches_split (More v) = refl
-touches_split (Input v) = refl
-touches_split (Text n) = refl
-touches_split (Decimal (Held u)) = refl
-touches_split (Decimal (Number n)) = refl
-touches_split (Decimal Stack) = refl
-touches_split (Across v u) = refl
-
-arguments_split : (xs : List Operand) (rest : List Touch) → flat_map operand_touches xs ++ rest ≡ map (touch true) (flat_map value_in xs) ++ rest
-arguments_split [] rest = refl
-arguments_split (Held v ∷ xs) rest = ap (λ l. touch true v ∷ l) (arguments_split xs rest)
-arguments_split (Number n ∷ xs) rest = arguments_split xs rest
-arguments_split (Stack ∷ xs) rest = arguments_split xs rest
-
-exit_split : (exit : Exit) → touches_of_exit exit ≡ map (touch true) (reads_of_exit exit) ++ map (touch false) (results_of_exit exit)
-exit_split (Goto c) = refl
-exit_split (Split p c d) = refl
-exit_split (Call g arguments None next) = arguments_split arguments []
-exit_split (Call g arguments (Some v) next) = arguments_split arguments (touch false v ∷ [])
-exit_split (Return (Held v)) = refl
-exit_split (Return (Number n)) = refl
-exit_split (Return Stack) = refl
-exit_split (Ends k) = refl
 
 -- the first touch of some values, and then of the rest
 
@@ -153,7 +85,7 @@ firsts v rs ws rest = elim (in_or_not v rs) [
 
 op_firsts : (v : ℕ) (op : Op) (rest : List Touch) → Firsts v (reads op) (writes op) (first_touch v rest) (first_touch v (touches_of op ++ rest))
 op_firsts v op rest =
-    let e : touches_of op ++ rest ≡ map (touch true) (reads op) ++ (map (touch false) (writes op) ++ rest) = ap (λ l. l ++ rest) (touches_split op) ∙ append_assoc (map (touch true) (reads op)) (map (touch false) (writes op)) rest in
+    let e : touches_of op ++ rest ≡ map (touch true) (reads op) ++ (map (touch false) (writes op) ++ rest) = append_assoc (map (touch true) (reads op)) (map (touch false) (writes op)) rest in
     subst (λ l. Firsts v (reads op) (writes op) (first_touch v rest) (first_touch v l)) (sym e) (firsts v (reads op) (writes op) rest)
 
 append_none : (xs ys : List Touch) → xs ++ ys ≡ xs ++ (ys ++ [])
@@ -163,7 +95,7 @@ append_none (x ∷ xs) ys = ap (λ l. x ∷ l) (append_none xs ys)
 
 exit_firsts : (v : ℕ) (exit : Exit) → Firsts v (reads_of_exit exit) (results_of_exit exit) None (first_touch v (touches_of_exit exit))
 exit_firsts v exit =
-    let e : touches_of_exit exit ≡ map (touch true) (reads_of_exit exit) ++ (map (touch false) (results_of_exit exit) ++ []) = exit_split exit ∙ append_none (map (touch true) (reads_of_exit exit)) (map (touch false) (results_of_exit exit)) in
+    let e : touches_of_exit exit ≡ map (touch true) (reads_of_exit exit) ++ (map (touch false) (results_of_exit exit) ++ []) = append_none (map (touch true) (reads_of_exit exit)) (map (touch false) (results_of_exit exit)) in
     subst (λ l. Firsts v (reads_of_exit exit) (results_of_exit exit) None (first_touch v l)) (sym e) (firsts v (reads_of_exit exit) (results_of_exit exit) [])
 
 touches : List Op → Exit → List Touch

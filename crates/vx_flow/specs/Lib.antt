@@ -1,4 +1,5 @@
 pub mod Effects
+pub mod Operands
 pub mod Meaning
 pub mod Sound
 pub mod Live

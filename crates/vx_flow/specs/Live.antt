@@ -1,12 +1,7 @@
 -- Which values are live at the start of a block: some path from there reads the value before writing it.
-use Rattle.std.specs.Prelude.{◌≡◌, ◌⊎◌, ◌+◌, ◌==◌, ℕ, Bool, true, false, if◌then◌else◌, List, [], ◌∷◌, ◌++◌, Option, Some, None, slice_get}
+use Rattle.std.specs.Prelude.{◌≡◌, ◌⊎◌, ◌+◌, ◌==◌, ℕ, Bool, true, false, if◌then◌else◌, List, [], ◌∷◌, ◌++◌, Option, Some, None, map, slice_get}
 use Rattle.std.specs.List.{flat_map}
-use Rattle.vx_base.specs.declared.arithmetic.Code.{Code}
-use Rattle.vx_base.specs.declared.arithmetic.Code.TheVariants.{Mov}
-use Rattle.vx_flow.specs.declared.graph.Operand.{Operand}
-use Rattle.vx_flow.specs.declared.graph.Operand.TheVariants.{Held, Number, Stack}
 use Rattle.vx_flow.specs.declared.graph.Op.{Op}
-use Rattle.vx_flow.specs.declared.graph.Op.TheVariants.{Compute, Select, Place, Load, Store, More, Input, Text, Decimal, Across}
 use Rattle.vx_flow.specs.declared.graph.Exit.{Exit}
 use Rattle.vx_flow.specs.declared.graph.Exit.TheVariants.{Goto, Split, Call, Return, Ends}
 use Rattle.vx_flow.specs.declared.graph.Block.{Block}
@@ -56,42 +51,19 @@ pub data LiveOn (routes : List Route) : ℕ → ℕ → Type 0 where
 abbrev pub touch : Bool → ℕ → Touch
 touch is_read v = record { value = v; reads = is_read }
 
-abbrev pub operand_touches : Operand → List Touch
-operand_touches (Held v) = touch true v ∷ []
-operand_touches (Number n) = []
-operand_touches Stack = []
+abbrev pub reading : List ℕ → List Touch
+reading values = map (touch true) values
 
-abbrev pub right_touches : Code → Operand → List Touch
-right_touches Mov x = []
-right_touches code x = operand_touches x
-
-abbrev pub written : ℕ → List Touch
-written v = touch false v ∷ []
+abbrev pub writing : List ℕ → List Touch
+writing values = map (touch false) values
 
 -- what an operation does to values: it reads, and then writes
 abbrev pub touches_of : Op → List Touch
-touches_of (Compute code v a b) = operand_touches a ++ (right_touches code b ++ written v)
-touches_of (Select v p a b) = touch true p ∷ (operand_touches a ++ (operand_touches b ++ written v))
-touches_of (Place v a i) = operand_touches i ++ written v
-touches_of (Load v a p dismissible) = operand_touches p ++ written v
-touches_of (Store a p x) = operand_touches p ++ operand_touches x
-touches_of (More v) = written v
-touches_of (Input v) = written v
-touches_of (Text n) = []
-touches_of (Decimal x) = operand_touches x
-touches_of (Across v u) = touch true u ∷ written v
-
-abbrev pub result_touches : Option ℕ → List Touch
-result_touches None = []
-result_touches (Some v) = written v
+touches_of op = reading (reads op) ++ writing (writes op)
 
 -- an exit reads, and a call then writes its result
 abbrev pub touches_of_exit : Exit → List Touch
-touches_of_exit (Goto c) = []
-touches_of_exit (Split p c d) = touch true p ∷ []
-touches_of_exit (Call g arguments result next) = flat_map operand_touches arguments ++ result_touches result
-touches_of_exit (Return x) = operand_touches x
-touches_of_exit (Ends k) = []
+touches_of_exit exit = reading (reads_of_exit exit) ++ writing (results_of_exit exit)
 
 abbrev pub route_of : ℕ → Block → Route
 route_of b block = record { from = b; to = targets_of block.exit; touches = flat_map touches_of block.ops ++ touches_of_exit block.exit }

@@ -8,11 +8,13 @@ pub mod laws;
 pub mod live_rows;
 mod liveness;
 pub mod named;
+pub mod operands;
 pub mod program_names;
 mod route_index;
 pub mod routes;
 mod rows;
 mod soundness;
+pub mod touching;
 pub mod trace;
 mod walk;
 

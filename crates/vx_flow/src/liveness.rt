@@ -1,21 +1,21 @@
 // Which values are live at the start of each node of a graph. The solver goes over routes, so that it serves blocks and
 // regions alike; `live` is for the blocks of a graph.
 
-ghost use Rattle.std.specs.Prelude.{◌≡◌, ◌↔◌, ℕ, length, ◌<◌, ◌^◌, ◌++◌, ◌∷◌, [], true, IfOk, IsTrue};
+ghost use Rattle.std.specs.Prelude.{◌≡◌, ◌↔◌, ℕ, length, ◌<◌, ◌^◌, ◌++◌, IfOk, IsTrue};
 ghost use Rattle.std.specs.List.{flat_map};
 ghost use Rattle.vx_flow.specs.Sound.{targets_of};
-ghost use Rattle.vx_flow.specs.Live.{IsLive, LiveOn, operand_touches, right_touches, route_of, routes_from, touch, touches_of, touches_of_exit, written};
+ghost use Rattle.vx_flow.specs.Live.{IsLive, LiveOn, route_of, routes_from, touches_of};
 ghost use Rattle.vx_flow.specs.Rows.{lives, row_at, Rising};
 ghost use Rattle.vx_flow.specs.Closing.{BeginWithin, EnteringFound, ReadersFound};
 
 use crate::closing::{list_found, live_nodes, unmarked};
-use crate::graph::{Block, BlockId, Exit, Graph, Op, Operand, Value};
+use crate::graph::{Block, BlockId, Exit, Graph, Op};
 use crate::live_rows::Live;
 use crate::route_index::{entering_of, readers_of};
 use crate::routes::{Route, Touch};
 use crate::rows::Rows;
+use crate::touching::{touch_exit, touch_reads, touch_writes};
 use std::alloc::Global;
-use vx_base::arithmetic::Code;
 use vx_base::listed::Listed;
 use vx_base::outcome::NoMemory;
 
@@ -91,7 +91,7 @@ fn route_of(alloc: Global, from: BlockId, block: &Block) -> Result<Route, NoMemo
     let to = targets_of(alloc, &block.exit)?;
     let mut touches = Listed::new(alloc);
     push_ops(&mut touches, block.ops.as_slice())?;
-    push_exit(&mut touches, &block.exit)?;
+    touch_exit(&mut touches, &block.exit)?;
     Ok(Route { from, to, touches })
 }
 
@@ -127,139 +127,6 @@ fn push_ops(touches: &mut Listed<Touch>, ops: &[Op]) -> Result<(), NoMemory>
 fn push_op(touches: &mut Listed<Touch>, op: &Op) -> Result<(), NoMemory>
     ensures { IfOk result (λ _. touches.new ≡ touches.old ++ touches_of op.now) }
 {
-    match op {
-        Op::Compute {
-            code,
-            to,
-            left,
-            right,
-        } => push_compute(touches, *code, *to, left, right),
-        Op::Select {
-            to,
-            test,
-            left,
-            right,
-        } => push_select(touches, *to, *test, left, right),
-        Op::Place { to, index, .. } => push_from(touches, *to, index),
-        Op::Load { to, place, .. } => push_from(touches, *to, place),
-        Op::Store { place, from, .. } => push_both(touches, place, from),
-        Op::More { to } => push_touch(touches, false, *to),
-        Op::Input { to } => push_touch(touches, false, *to),
-        Op::Text { .. } => Ok(()),
-        Op::Decimal { from } => push_operand(touches, from),
-        Op::Across { to, from } => push_copy(touches, *to, *from),
-    }
-}
-
-/// Arithmetic reads its operands, and then writes.
-fn push_compute(
-    touches: &mut Listed<Touch>,
-    code: Code,
-    to: Value,
-    left: &Operand,
-    right: &Operand,
-) -> Result<(), NoMemory>
-    ensures { IfOk result (λ _. touches.new ≡ touches.old ++ (operand_touches left.now ++ (right_touches code right.now ++ written to))) }
-{
-    push_operand(touches, left)?;
-    push_right(touches, code, right)?;
-    push_touch(touches, false, to)
-}
-
-/// A choice reads its test and both operands, and then writes.
-fn push_select(
-    touches: &mut Listed<Touch>,
-    to: Value,
-    test: Value,
-    left: &Operand,
-    right: &Operand,
-) -> Result<(), NoMemory>
-    ensures { IfOk result (λ _. touches.new ≡ touches.old ++ touch true test ∷ (operand_touches left.now ++ (operand_touches right.now ++ written to))) }
-{
-    push_touch(touches, true, test)?;
-    push_both(touches, left, right)?;
-    push_touch(touches, false, to)
-}
-
-/// Reads an operand, and then writes.
-fn push_from(touches: &mut Listed<Touch>, to: Value, operand: &Operand) -> Result<(), NoMemory>
-    ensures { IfOk result (λ _. touches.new ≡ touches.old ++ (operand_touches operand.now ++ written to)) }
-{
-    push_operand(touches, operand)?;
-    push_touch(touches, false, to)
-}
-
-/// Reads two operands.
-fn push_both(touches: &mut Listed<Touch>, left: &Operand, right: &Operand) -> Result<(), NoMemory>
-    ensures { IfOk result (λ _. touches.new ≡ touches.old ++ (operand_touches left.now ++ operand_touches right.now)) }
-{
-    push_operand(touches, left)?;
-    push_operand(touches, right)
-}
-
-/// A copy of a value reads it, and then writes.
-fn push_copy(touches: &mut Listed<Touch>, to: Value, from: Value) -> Result<(), NoMemory>
-    ensures { IfOk result (λ _. touches.new ≡ touches.old ++ touch true from ∷ written to) }
-{
-    push_touch(touches, true, from)?;
-    push_touch(touches, false, to)
-}
-
-/// What an exit does to values: it reads, and a call then writes its result.
-fn push_exit(touches: &mut Listed<Touch>, exit: &Exit) -> Result<(), NoMemory>
-    ensures { IfOk result (λ _. touches.new ≡ touches.old ++ touches_of_exit exit.now) }
-{
-    match exit {
-        Exit::Goto(_) => Ok(()),
-        Exit::Split { test, .. } => push_touch(touches, true, *test),
-        Exit::Call {
-            arguments,
-            result,
-            ..
-        } => {
-            push_operands(touches, arguments.as_slice())?;
-            match result {
-                Some(written) => push_touch(touches, false, *written),
-                None => Ok(()),
-            }
-        }
-        Exit::Return(operand) => push_operand(touches, operand),
-        Exit::Ends(_) => Ok(()),
-    }
-}
-
-fn push_operands(touches: &mut Listed<Touch>, operands: &[Operand]) -> Result<(), NoMemory>
-    ensures { IfOk result (λ _. touches.new ≡ touches.old ++ flat_map operand_touches operands.now) }
-{
-    for operand in operands {
-        push_operand(touches, operand)?;
-    }
-    Ok(())
-}
-
-/// The right operand of a move is not read.
-fn push_right(touches: &mut Listed<Touch>, code: Code, operand: &Operand) -> Result<(), NoMemory>
-    ensures { IfOk result (λ _. touches.new ≡ touches.old ++ right_touches code operand.now) }
-{
-    match code {
-        Code::Mov => Ok(()),
-        _ => push_operand(touches, operand),
-    }
-}
-
-fn push_operand(touches: &mut Listed<Touch>, operand: &Operand) -> Result<(), NoMemory>
-    ensures { IfOk result (λ _. touches.new ≡ touches.old ++ operand_touches operand.now) }
-{
-    match operand {
-        Operand::Held(value) => push_touch(touches, true, *value),
-        Operand::Number(_) => Ok(()),
-        Operand::Stack => Ok(()),
-    }
-}
-
-fn push_touch(touches: &mut Listed<Touch>, reads: bool, value: Value) -> Result<(), NoMemory>
-    ensures { IfOk result (λ _. touches.new ≡ touches.old ++ touch reads value ∷ []) }
-{
-    touches.push(Touch { value, reads })?;
-    Ok(())
+    touch_reads(touches, op)?;
+    touch_writes(touches, op)
 }

@@ -7,14 +7,28 @@ use Rattle.std.proofs.lemmas.List.{length-drop}
 use Rattle.std.proofs.lemmas.Option.{slice_get-get_or}
 use Rattle.std.specs.List.{list_any}
 use Rattle.vx_flow.specs.declared.graph.Operand.TheVariants.{Held}
+use Rattle.vx_flow.specs.declared.graph.Op.{Op}
 use Rattle.vx_flow.specs.declared.trace.TraceOp.{TraceOp}
+use Rattle.vx_flow.specs.declared.trace.TraceOp.TheVariants.{Plain}
 use Rattle.vx_flow.specs.declared.trace.Join.{Join}
 use Rattle.vx_flow.specs.declared.trace.Trace.{Trace}
+use Rattle.vx_flow.specs.Operands.{value_list, written_by}
+use Rattle.vx_flow.proofs.OperandLaws.{writes_listed}
 use Rattle.vx_linear.specs.declared.form.Symbol.{Symbol}
 use Rattle.vx_linear.specs.declared.form.Symbol.TheVariants.{Entry, Made, EntryPlace, MadePlace}
 use Rattle.vx_linear.specs.Linear.{symbol}
 use Rattle.vx_linear.specs.Followed.{Above, At, writes_it, made_or_entry, made_or_entry_place, plain, made, known, index_made, index_of, is_join, join_at, at_place, above_of, forms_from, forms_of}
+use Rattle.vx_linear.specs.Passed.{is_target}
 use Rattle.vx_linear.specs.Writers.{writes_there, writer, is_between, has_join, made_there, made_at, index_there, known_by, index_by}
+
+-- the value that an operation writes
+
+target_by : (v : ℕ) (w : Option ℕ) → list_any (nat_eq v) (value_list w) ≡ is_target v w
+target_by v None = refl
+target_by v (Some u) = refl
+
+pub target_is : (op : Op) (w : Option ℕ) → w ≡ written_by op → (v : ℕ) → writes_it v (Plain op) ≡ is_target v w
+target_is op w e v = ap (list_any (nat_eq v)) (sym (writes_listed op w e)) ∙ target_by v w
 
 -- joins
 

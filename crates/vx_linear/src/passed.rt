@@ -1,9 +1,7 @@
 // What is kept of the operations of a trace that stand above a place.
 
 ghost use Rattle.std.specs.Prelude.{◌≡◌, ◌+◌, ◌^◌, ◌<◌, ℕ, Some, if◌then◌else◌, is_some, nat_eq, OnOk, IfOk, slice_get};
-ghost use Rattle.std.specs.List.{list_any};
 ghost use Rattle.std.specs.Map.{lookup};
-ghost use Rattle.vx_flow.specs.Effects.{writes};
 ghost use Rattle.vx_flow.specs.declared.trace.Trace.{Trace as ATrace};
 ghost use Rattle.vx_linear.specs.Followed.{writes_it, made, known, index_made, above_of, is_join};
 ghost use Rattle.vx_linear.specs.Passed.{Passes, is_target, JoinsAre};
@@ -14,7 +12,8 @@ use crate::places::Places;
 use std::alloc::Global;
 use vx_base::listed::Listed;
 use vx_base::outcome::NoMemory;
-use vx_flow::graph::{Op, Value};
+use vx_flow::graph::Value;
+use vx_flow::operands::written_by;
 use vx_flow::trace::{Join, Trace, TraceOp};
 
 /// What is kept of the operations above a place: what each makes, and the index of the place that it makes; where each
@@ -57,26 +56,12 @@ pub(crate) fn join_places(alloc: Global, joins: &[Join]) -> Result<Places, NoMem
 }
 
 /// The value that an operation writes.
-fn target_of(op: &Op) -> Option<Value>
-    ensures { (v : ℕ) → list_any (nat_eq v) (writes op.now) ≡ is_target v result }
-{
-    match op {
-        Op::Compute { to, .. }
-        | Op::Select { to, .. }
-        | Op::Place { to, .. }
-        | Op::Load { to, .. }
-        | Op::More { to }
-        | Op::Input { to }
-        | Op::Across { to, .. } => Some(*to),
-        Op::Store { .. } | Op::Text { .. } | Op::Decimal { .. } => None,
-    }
-}
-
+#[tactic(auto, using(crate::proofs::Writing::target_is))]
 fn target(op: &TraceOp) -> Option<Value>
     ensures { (v : ℕ) → writes_it v op.now ≡ is_target v result }
 {
     match op {
-        TraceOp::Plain(op) => target_of(op),
+        TraceOp::Plain(op) => written_by(op),
         TraceOp::Split { .. } => None,
     }
 }

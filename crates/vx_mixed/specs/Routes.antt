@@ -1,14 +1,14 @@
 -- The ways through a graph of blocks and regions as routes between nodes, for the solver of liveness: a block is a route, and
 -- so is each word of a region. The nodes are the blocks' numbers, and behind them one for each word and each exit of a region.
-use Rattle.std.specs.Prelude.{◌+◌, ℕ, true, false, List, [], ◌∷◌, ◌++◌, length, map, slice_index_or}
+use Rattle.std.specs.Prelude.{◌+◌, ℕ, List, [], ◌∷◌, ◌++◌, length, slice_index_or}
 use Rattle.std.specs.List.{flat_map}
 use Rattle.vx_flow.specs.declared.graph.Exit.{Exit}
 use Rattle.vx_flow.specs.declared.graph.Op.{Op}
 use Rattle.vx_flow.specs.declared.routes.Route.{Route}
 use Rattle.vx_flow.specs.declared.routes.Touch.{Touch}
-use Rattle.vx_flow.specs.Live.{touch, reads_of_exit}
+use Rattle.vx_flow.specs.Live.{reading, touches_of_exit, writing}
 use Rattle.vx_flow.specs.Rows.{row_at}
-use Rattle.vx_flow.specs.Sound.{targets_of, results_of_exit}
+use Rattle.vx_flow.specs.Sound.{targets_of}
 use Rattle.vx_mixed.specs.declared.region.Item.{Item}
 use Rattle.vx_mixed.specs.declared.region.Item.TheVariants.{Plain, Split}
 use Rattle.vx_mixed.specs.declared.region.Node.{Node}
@@ -16,12 +16,6 @@ use Rattle.vx_mixed.specs.declared.region.Node.TheVariants.{Unused, Enters, Inne
 use Rattle.vx_mixed.specs.declared.region.Region.{Region}
 use Rattle.vx_mixed.specs.declared.mixed.MixedGraph.{MixedGraph}
 use Rattle.vx_mixed.specs.Live.{single, item_reads, item_writes}
-
-abbrev pub reading : List ℕ → List Touch
-reading values = map (touch true) values
-
-abbrev pub writing : List ℕ → List Touch
-writing values = map (touch false) values
 
 abbrev pub reading_item : Item → List Touch
 reading_item item = reading (item_reads item)
@@ -34,7 +28,7 @@ abbrev pub word_touches : List Item → List Touch
 word_touches word = flat_map reading_item word ++ flat_map writing_item word
 
 abbrev pub exit_touches : Exit → List Touch
-exit_touches exit = reading (reads_of_exit exit) ++ writing (results_of_exit exit)
+exit_touches exit = touches_of_exit exit
 
 abbrev pub op_touches : Op → List Touch
 op_touches op = word_touches (single op)

@@ -1,0 +1,127 @@
+// The values that an operation reads and the one that it writes: the one place in code that knows them operation by
+// operation. specs/Operands.antt says the same, and what is added to a list is `reads` of specs/Effects.antt.
+
+ghost use Rattle.std.specs.Prelude.{◌≡◌, ◌++◌, IfOk};
+ghost use Rattle.vx_flow.specs.Effects.{is_unary, reads, value_in};
+ghost use Rattle.vx_flow.specs.Operands.{held_by, read_by, reads_three, value_list, values_read, written_by};
+
+use crate::graph::{Op, Operand, Value};
+use vx_base::arithmetic::Code;
+use vx_base::listed::Listed;
+use vx_base::outcome::NoMemory;
+
+/// The values that an operation reads, in the order of its operands; the test of a choice is the first.
+#[derive(Clone, Copy, Debug)]
+pub struct Reads {
+    pub first: Option<Value>,
+    pub second: Option<Value>,
+    pub third: Option<Value>,
+}
+
+/// The values of an operation that reads these.
+pub fn reads_three(first: Option<Value>, second: Option<Value>, third: Option<Value>) -> Reads
+    ensures { result ≡ reads_three first second third }
+{
+    Reads {
+        first,
+        second,
+        third,
+    }
+}
+
+/// The value that an operand holds; none where it is a number or the stack pointer.
+pub fn held_by(operand: &Operand) -> Option<Value>
+    ensures { result ≡ held_by operand.now }
+{
+    match operand {
+        Operand::Held(value) => Some(*value),
+        Operand::Number(_) | Operand::Stack => None,
+    }
+}
+
+/// The values that an operation reads. The right operand of a move is not read.
+pub fn read_by(op: &Op) -> Reads
+    ensures { result ≡ read_by op.now }
+{
+    match op {
+        Op::Compute {
+            code,
+            left,
+            right,
+            ..
+        } => {
+            if is_unary(*code) {
+                reads_three(held_by(left), None, None)
+            } else {
+                reads_three(held_by(left), held_by(right), None)
+            }
+        }
+        Op::Select {
+            test,
+            left,
+            right,
+            ..
+        } => reads_three(Some(*test), held_by(left), held_by(right)),
+        Op::Place { index, .. } => reads_three(held_by(index), None, None),
+        Op::Load { place, .. } => reads_three(held_by(place), None, None),
+        Op::Store { place, from, .. } => reads_three(held_by(place), held_by(from), None),
+        Op::Decimal { from } => reads_three(held_by(from), None, None),
+        Op::Across { from, .. } => reads_three(Some(*from), None, None),
+        Op::More { .. } | Op::Input { .. } | Op::Text { .. } => reads_three(None, None, None),
+    }
+}
+
+fn is_unary(code: Code) -> bool
+    ensures { result ≡ is_unary code }
+{
+    match code {
+        Code::Mov => true,
+        _ => false,
+    }
+}
+
+/// The value that an operation writes, if it writes one.
+pub fn written_by(op: &Op) -> Option<Value>
+    ensures { result ≡ written_by op.now }
+{
+    match op {
+        Op::Compute { to, .. }
+        | Op::Select { to, .. }
+        | Op::Place { to, .. }
+        | Op::Load { to, .. }
+        | Op::More { to }
+        | Op::Input { to }
+        | Op::Across { to, .. } => Some(*to),
+        Op::Store { .. } | Op::Text { .. } | Op::Decimal { .. } => None,
+    }
+}
+
+/// Adds a value, if there is one.
+pub fn push_value(values: &mut Listed<Value>, value: Option<Value>) -> Result<(), NoMemory>
+    ensures { IfOk result (λ _. values.new ≡ values.old ++ value_list value) }
+{
+    match value {
+        Some(value) => values.push(value)?,
+        None => {}
+    }
+    Ok(())
+}
+
+/// Adds the value that an operand holds, if it holds one.
+#[tactic(auto, using(crate::proofs::OperandLaws::held_added))]
+pub fn push_operand(values: &mut Listed<Value>, operand: &Operand) -> Result<(), NoMemory>
+    ensures { IfOk result (λ _. values.new ≡ values.old ++ value_in operand.now) }
+{
+    push_value(values, held_by(operand))
+}
+
+/// Adds the values that an operation reads, in the order of its operands.
+#[tactic(auto, using(crate::proofs::OperandLaws::reads_added))]
+pub fn push_reads(values: &mut Listed<Value>, op: &Op) -> Result<(), NoMemory>
+    ensures { IfOk result (λ _. values.new ≡ values.old ++ reads op.now) }
+{
+    let read = read_by(op);
+    push_value(values, read.first)?;
+    push_value(values, read.second)?;
+    push_value(values, read.third)
+}
