@@ -1,7 +1,7 @@
 // Intervals of numbers of 32 bits: what operations give, and what a test says of its operands.
 
 ghost use Rattle.std.specs.Prelude.{◌≡◌, ◌+ℤ◌, ◌-ℤ◌, ◌*ℤ◌, ◌&&◌, int_le};
-ghost use Rattle.vx_claims.specs.Facts.{always, and_within, answer_of, below_unsigned, bit, compare_decided, difference_within, fitting, full, high_product_within, is_above, is_half, left_within, low_product_within, meet, one_less, one_more, opposite, product_if, remainder_within, result_within, right_within, shifted_within, sum_within, times_if, times_or_product, up_to};
+ghost use Rattle.vx_claims.specs.Facts.{always, and_within, answer_of, below_unsigned, bit, compare_decided, difference_within, fitting, full, high_product_within, is_above, is_half, left_within, low_product_within, meet, one_less, one_more, opposite, product_if, remainder_within, result_within, right_within, shifted_within, sum_within, times_if, times_or_product, unequal_within, up_to, without_end};
 
 use vx_base::arithmetic::{Code, Compare, value};
 
@@ -291,13 +291,45 @@ fn at_least(low: i32) -> Interval
     }
 }
 
-/// Where the left operand lies if a compare with a number of the interval holds.
-pub fn left_within(compare: Compare, j: Interval) -> Interval
-    ensures { result ≡ left_within compare j }
+/// The numbers of an interval without one that is the lowest or the highest of several.
+fn without_end(i: Interval, number: i32) -> Interval
+    ensures { result ≡ without_end i number }
+{
+    if i.high <= i.low {
+        i
+    } else if i.low == number {
+        Interval {
+            low: i.low + 1,
+            high: i.high,
+        }
+    } else if i.high == number {
+        Interval {
+            low: i.low,
+            high: i.high - 1,
+        }
+    } else {
+        i
+    }
+}
+
+/// Where a number of one interval lies that is not equal to a number of the other.
+fn unequal(i: Interval, j: Interval) -> Interval
+    ensures { result ≡ unequal_within i j }
+{
+    if j.low == j.high {
+        without_end(i, j.low)
+    } else {
+        i
+    }
+}
+
+/// Where the left operand lies if a compare of numbers of two intervals holds.
+pub fn left_within(compare: Compare, i: Interval, j: Interval) -> Interval
+    ensures { result ≡ left_within compare i j }
 {
     match compare {
         Compare::Eq => j,
-        Compare::Ne => full(),
+        Compare::Ne => unequal(i, j),
         Compare::Lt => at_most(one_less(j.high)),
         Compare::Le => at_most(j.high),
         Compare::Gt => at_least(one_more(j.low)),
@@ -307,13 +339,13 @@ pub fn left_within(compare: Compare, j: Interval) -> Interval
     }
 }
 
-/// Where the right operand lies if a compare of a number of the interval holds.
-pub fn right_within(compare: Compare, i: Interval) -> Interval
-    ensures { result ≡ right_within compare i }
+/// Where the right operand lies if a compare of numbers of two intervals holds.
+pub fn right_within(compare: Compare, i: Interval, j: Interval) -> Interval
+    ensures { result ≡ right_within compare i j }
 {
     match compare {
         Compare::Eq => i,
-        Compare::Ne => full(),
+        Compare::Ne => unequal(j, i),
         Compare::Lt => at_least(one_more(i.low)),
         Compare::Le => at_least(i.low),
         Compare::Gt => at_most(one_less(i.high)),

@@ -240,8 +240,10 @@ fn append_compared(
 ) -> Result<(), NoMemory>
     ensures { IfOk result (λ _. list.new ≡ list.old ++ compared facts.now compare left right) }
 {
-    append_between(list, left, left_within(compare, range_of(facts, right)))?;
-    append_between(list, right, right_within(compare, range_of(facts, left)))
+    let left_range = range_of(facts, left);
+    let right_range = range_of(facts, right);
+    append_between(list, left, left_within(compare, left_range, right_range))?;
+    append_between(list, right, right_within(compare, left_range, right_range))
 }
 
 fn append_learned_if(

@@ -1,5 +1,6 @@
 -- Tests: what a compare that came out says of its operands, and when facts decide it.
 use Rattle.std.proofs.Common.{◌≡◌, ◌⊎◌, inl, inr, ℕ, ◌^◌, ◌<◌, ◌==◌, Bool, true, false, cond, not, ◌&&◌, ◌||◌, ◌≤ℤ◌, ◌<ℤ◌, ℤ, pos, negsuc, ◌+ℤ◌, ◌-ℤ◌, int_le, int_lt, List, [], ◌∷◌, ◌++◌, Option, Some, None, refl, sym, ap, ◌∙◌, subst, arith}
+use Rattle.std.specs.Ordering.{int_eq}
 use Rattle.std.proofs.lemmas.Int.{ints}
 use Rattle.std.proofs.lemmas.Bool.{eqb-true}
 use mathlib.Core.Bool.{true≢false}
@@ -8,14 +9,14 @@ use Rattle.vx_base.specs.declared.arithmetic.Compare.{Compare}
 use Rattle.vx_base.specs.declared.arithmetic.Compare.TheVariants.{Eq, Ne, Lt, Le, Gt, Ge, Ltu, Geu}
 use Rattle.vx_base.specs.declared.arithmetic.Code.{Code}
 use Rattle.vx_base.specs.declared.arithmetic.Code.TheVariants.{Add, Sub, And, Or, Xor, Shl, Shr, Shru, Sh2add, Max, Min, Mov, ToGeneral, ToBranch, Mpylu, Mpyhs, Div, Rem}
-use Rattle.vx_base.proofs.ArithmeticLaws.{opposite as opposite_there, compare_of-opposite, index_check_law, equal-true}
+use Rattle.vx_base.proofs.ArithmeticLaws.{opposite as opposite_there, compare_of-opposite, index_check_law, equal-true, equal-same}
 use Rattle.vx_flow.specs.declared.graph.Operand.{Operand}
 use Rattle.vx_flow.specs.declared.graph.Operand.TheVariants.{Held, Number, Stack}
 use Rattle.vx_flow.specs.Effects.{Content, both, computed, is_one}
 use Rattle.vx_claims.specs.declared.intervals.Interval.{Interval}
 use Rattle.vx_claims.specs.declared.fact.Fact.{Fact}
 use Rattle.vx_claims.specs.declared.fact.Fact.TheVariants.{Between, Equals}
-use Rattle.vx_claims.specs.Facts.{least, greatest, full, Within, content, AllHold, range_of, opposite, is_above, one_less, one_more, below_unsigned, left_within, right_within, operand_between, compared, came_out, learned_if, learned, on_side, always, answer_of, compare_decided, first_of, decided_if, decided_by, decided}
+use Rattle.vx_claims.specs.Facts.{least, greatest, full, Within, content, AllHold, range_of, opposite, is_above, one_less, one_more, below_unsigned, without_end, unequal_within, left_within, right_within, operand_between, compared, came_out, learned_if, learned, on_side, always, answer_of, compare_decided, first_of, decided_if, decided_by, decided}
 use Rattle.vx_facts.proofs.Ranges.{and_one, and_two, le_holds, lt_holds, within_number, Fit, range_of_holds, above_holds}
 
 opposite_is : (c : Compare) → opposite c ≡ opposite_there c
@@ -72,25 +73,64 @@ more_holds x n f l = by (int_le greatest n) refl
     by true e = let a : greatest ≤ℤ n = le_holds greatest n e in absurd (omega (arith, ints))
     by false e = omega (arith, ints)
 
-pub left_holds : (c : Compare) (x y : ℤ) (j : Interval) → compare_of c x y ≡ true → Within j (Some y) → Within full (Some x) → Within (left_within c j) (Some x)
-left_holds Eq x y j e k f = subst (λ z. Within j (Some z)) (sym (equal-true x y e)) k
-left_holds Ne x y j e k f = f
-left_holds Lt x y j e k f = let l : x <ℤ y = lt_holds x y e in let k1 : y ≤ℤ j.high = k.1 in let m : x <ℤ j.high = omega (arith, ints) in (f.0, less_holds x j.high f.0 m)
-left_holds Le x y j e k f = let l : x ≤ℤ y = le_holds x y e in (f.0, omega (arith, ints, k.1))
-left_holds Gt x y j e k f = let l : y <ℤ x = lt_holds y x e in let k0 : j.low ≤ℤ y = k.0 in let m : j.low <ℤ x = omega (arith, ints) in (more_holds x j.low f.1 m, f.1)
-left_holds Ge x y j e k f = let l : y ≤ℤ x = le_holds y x e in (omega (arith, ints, k.0), f.1)
-left_holds Ltu x y j e k f = below_holds x y j e k f
-left_holds Geu x y j e k f = f
+differs : (x y : ℤ) → compare_of Ne x y ≡ true → x ≡ y → ⊥
+differs x y e q = true≢false (sym e ∙ ap not (equal-same x y q))
 
-pub right_holds : (c : Compare) (x y : ℤ) (i : Interval) → compare_of c x y ≡ true → Within i (Some x) → Within full (Some y) → Within (right_within c i) (Some y)
-right_holds Eq x y i e k f = subst (λ z. Within i (Some z)) (equal-true x y e) k
-right_holds Ne x y i e k f = f
-right_holds Lt x y i e k f = let l : x <ℤ y = lt_holds x y e in let k0 : i.low ≤ℤ x = k.0 in let m : i.low <ℤ y = omega (arith, ints) in (more_holds y i.low f.1 m, f.1)
-right_holds Le x y i e k f = let l : x ≤ℤ y = le_holds x y e in (omega (arith, ints, k.0), f.1)
-right_holds Gt x y i e k f = let l : y <ℤ x = lt_holds y x e in let k1 : x ≤ℤ i.high = k.1 in let m : y <ℤ i.high = omega (arith, ints) in (f.0, less_holds y i.high f.0 m)
-right_holds Ge x y i e k f = let l : y ≤ℤ x = le_holds y x e in (f.0, omega (arith, ints, k.1))
-right_holds Ltu x y i e k f = f
-right_holds Geu x y i e k f = f
+above_lowest : (x low : ℤ) → low ≤ℤ x → (x ≡ low → ⊥) → (low +ℤ pos 1) ≤ℤ x
+above_lowest x low l apart = by (int_le (low +ℤ pos 1) x) refl
+  where
+    by : (t : Bool) → int_le (low +ℤ pos 1) x ≡ t → (low +ℤ pos 1) ≤ℤ x
+    by true e = le_holds (low +ℤ pos 1) x e
+    by false e = let q : x ≡ low = omega (arith, ints) in absurd (apart q)
+
+below_highest : (x high : ℤ) → x ≤ℤ high → (x ≡ high → ⊥) → x ≤ℤ (high -ℤ pos 1)
+below_highest x high l apart = by (int_le x (high -ℤ pos 1)) refl
+  where
+    by : (t : Bool) → int_le x (high -ℤ pos 1) ≡ t → x ≤ℤ (high -ℤ pos 1)
+    by true e = le_holds x (high -ℤ pos 1) e
+    by false e = let q : x ≡ high = omega (arith, ints) in absurd (apart q)
+
+without_end_holds : (x n : ℤ) (i : Interval) → (x ≡ n → ⊥) → Within i (Some x) → Within (without_end i n) (Some x)
+without_end_holds x n i apart h = by (int_le i.high i.low) (int_eq i.low n) (int_eq i.high n) refl refl
+  where
+    by : (one lowest highest : Bool) → int_eq i.low n ≡ lowest → int_eq i.high n ≡ highest
+        → Within (cond one i (cond lowest (record { low = i.low +ℤ pos 1; high = i.high }) (cond highest (record { low = i.low; high = i.high -ℤ pos 1 }) i))) (Some x)
+    by true lowest highest p q = h
+    by false true highest p q = (above_lowest x i.low h.0 (λ r. apart (r ∙ equal-true i.low n p)), h.1)
+    by false false true p q = (h.0, below_highest x i.high h.1 (λ r. apart (r ∙ equal-true i.high n q)))
+    by false false false p q = h
+
+unequal_holds : (x y : ℤ) (i j : Interval) → (x ≡ y → ⊥) → Within i (Some x) → Within j (Some y) → Within (unequal_within i j) (Some x)
+unequal_holds x y i j apart h k = by (int_eq j.low j.high) refl
+  where
+    by : (t : Bool) → int_eq j.low j.high ≡ t → Within (cond t (without_end i j.low) i) (Some x)
+    by true e =
+        let one : j.low ≡ j.high = equal-true j.low j.high e in
+        let a : j.low ≤ℤ y = k.0 in
+        let b : y ≤ℤ j.high = k.1 in
+        let q : j.low ≡ y = omega (arith, ints) in
+        without_end_holds x j.low i (λ r. apart (r ∙ q)) h
+    by false e = h
+
+pub left_holds : (c : Compare) (x y : ℤ) (i j : Interval) → compare_of c x y ≡ true → Within i (Some x) → Within j (Some y) → Within full (Some x) → Within (left_within c i j) (Some x)
+left_holds Eq x y i j e h k f = subst (λ z. Within j (Some z)) (sym (equal-true x y e)) k
+left_holds Ne x y i j e h k f = unequal_holds x y i j (differs x y e) h k
+left_holds Lt x y i j e h k f = let l : x <ℤ y = lt_holds x y e in let k1 : y ≤ℤ j.high = k.1 in let m : x <ℤ j.high = omega (arith, ints) in (f.0, less_holds x j.high f.0 m)
+left_holds Le x y i j e h k f = let l : x ≤ℤ y = le_holds x y e in (f.0, omega (arith, ints, k.1))
+left_holds Gt x y i j e h k f = let l : y <ℤ x = lt_holds y x e in let k0 : j.low ≤ℤ y = k.0 in let m : j.low <ℤ x = omega (arith, ints) in (more_holds x j.low f.1 m, f.1)
+left_holds Ge x y i j e h k f = let l : y ≤ℤ x = le_holds y x e in (omega (arith, ints, k.0), f.1)
+left_holds Ltu x y i j e h k f = below_holds x y j e k f
+left_holds Geu x y i j e h k f = f
+
+pub right_holds : (c : Compare) (x y : ℤ) (i j : Interval) → compare_of c x y ≡ true → Within i (Some x) → Within j (Some y) → Within full (Some y) → Within (right_within c i j) (Some y)
+right_holds Eq x y i j e h k f = subst (λ z. Within i (Some z)) (equal-true x y e) h
+right_holds Ne x y i j e h k f = unequal_holds y x j i (λ q. differs x y e (sym q)) k h
+right_holds Lt x y i j e h k f = let l : x <ℤ y = lt_holds x y e in let h0 : i.low ≤ℤ x = h.0 in let m : i.low <ℤ y = omega (arith, ints) in (more_holds y i.low f.1 m, f.1)
+right_holds Le x y i j e h k f = let l : x ≤ℤ y = le_holds x y e in (omega (arith, ints, h.0), f.1)
+right_holds Gt x y i j e h k f = let l : y <ℤ x = lt_holds y x e in let h1 : x ≤ℤ i.high = h.1 in let m : y <ℤ i.high = omega (arith, ints) in (f.0, less_holds y i.high f.0 m)
+right_holds Ge x y i j e h k f = let l : y ≤ℤ x = le_holds y x e in (f.0, omega (arith, ints, h.1))
+right_holds Ltu x y i j e h k f = f
+right_holds Geu x y i j e h k f = f
 
 or_cases : (a b : Bool) → (a || b) ≡ true → (a ≡ true) ⊎ (b ≡ true)
 or_cases true b h = inl refl
@@ -187,9 +227,13 @@ module _ (values : ℕ → Content) (fit : Fit values) (all : List Fact) (hold :
 
   compared_holds : (c : Compare) (a b : Operand) → CameOut c (content values a) (content values b) true → AllHold values (compared all c a b)
   compared_holds c a b o =
-      append_holds values (operand_between a (left_within c (range_of all b))) (operand_between b (right_within c (range_of all a)))
-      (operand_holds a (left_within c (range_of all b)) o.left o.is_left (left_holds c o.left o.right (range_of all b) o.comes (subst (Within (range_of all b)) o.is_right (range_of_holds values all b fit hold))))
-      (operand_holds b (right_within c (range_of all a)) o.right o.is_right (right_holds c o.left o.right (range_of all a) o.comes (subst (Within (range_of all a)) o.is_left (range_of_holds values all a fit hold))))
+      let i : Interval = range_of all a in
+      let j : Interval = range_of all b in
+      let h : Within i (Some o.left) = subst (Within i) o.is_left (range_of_holds values all a fit hold) in
+      let k : Within j (Some o.right) = subst (Within j) o.is_right (range_of_holds values all b fit hold) in
+      append_holds values (operand_between a (left_within c i j)) (operand_between b (right_within c i j))
+      (operand_holds a (left_within c i j) o.left o.is_left (left_holds c o.left o.right i j o.comes h k))
+      (operand_holds b (right_within c i j) o.right o.is_right (right_holds c o.left o.right i j o.comes h k))
 
   came_out_holds : (answer : Bool) (c : Compare) (a b : Operand) → CameOut c (content values a) (content values b) answer → AllHold values (came_out all answer c a b)
   came_out_holds true c a b o = compared_holds c a b o

@@ -298,11 +298,13 @@ fn side_of(tables: &Tables, tested: Option<Tested>, answer: bool) -> Side {
             } else {
                 opposite(found.compare)
             };
+            let left_range = range_of(tables, found.left);
+            let right_range = range_of(tables, found.right);
             Side {
                 left: found.left,
-                left_within: left_within(compare, range_of(tables, found.right)),
+                left_within: left_within(compare, left_range, right_range),
                 right: found.right,
-                right_within: right_within(compare, range_of(tables, found.left)),
+                right_within: right_within(compare, left_range, right_range),
             }
         }
         None => nothing(),
