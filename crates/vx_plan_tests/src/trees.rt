@@ -4,8 +4,8 @@ use crate::sources::program_of;
 use std::alloc::Global;
 use std::test::Fail;
 use vx_base::outcome::{NoMemory, Trap};
+use vx_limits::nodes;
 use vx_plain::interpreter::{End, interpret};
-use vx_types::nodes;
 
 /// A source, its input, how many turns a loop may take, how it ends and what it prints.
 type Row = (&'static str, &'static [i32], u64, End, &'static str);

@@ -12,8 +12,5 @@ pub mod SuitsCode
 pub mod Passing
 pub mod SuitsProgram
 pub mod Wholes
-pub mod Caps
-pub mod Limited
 mod FaultRows
 pub mod Firsts
-pub mod Counting

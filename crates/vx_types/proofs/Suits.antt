@@ -16,7 +16,7 @@ use Rattle.vx_ast.specs.Syntax.{Phrase, Number, Use, Element, Call, Unary, Binar
 use Rattle.vx_ast.specs.Scopes.{Environment, Known, find, look, named, named_in, same_name, file_in}
 use Rattle.vx_ast.specs.Faults.{fault_if, used, indexed, called, changed, row_length, phrase_faults, whole_faults, target_faults, action_faults, test_faults}
 use Rattle.vx_ast.specs.Resolved.{number_named, array_named, call_named, place_named, tree_in, target_in, action_in, test_in}
-use Rattle.vx_types.specs.Words.{tree_words, place_words, action_words, test_words}
+use Rattle.vx_limits.specs.Words.{tree_words, place_words, action_words, test_words}
 
 -- small facts
 

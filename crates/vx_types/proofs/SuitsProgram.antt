@@ -15,7 +15,7 @@ use Rattle.vx_ast.specs.Syntax.{Function, Definition, GlobalScalar, GlobalArray,
 use Rattle.vx_ast.specs.Scopes.{Environment, Known, same_name, predeclared, known_of, names_from, names_of, globals_of, at_function, with_scalar, with_parameters, behind, in_file}
 use Rattle.vx_ast.specs.Faults.{fault_if, sizes_faults, is_repeated, parameter_faults, code_faults, function_faults, definition_faults, definitions_faults, is_main, faults_of, least, first_fault, stands_before}
 use Rattle.vx_ast.specs.Resolved.{function_in, functions_from, main_from, resolved, code_in}
-use Rattle.vx_types.specs.Words.{function_words, global_words, program_words}
+use Rattle.vx_limits.specs.Words.{function_words, global_words, program_words}
 use Rattle.vx_types.proofs.Scoping.{declared_counts}
 use Rattle.vx_types.proofs.Numbered.{in_below, lt_true, numbers_all, numbers_rise}
 use Rattle.vx_types.proofs.Suits.{and_both, and_left, and_right, none_left, none_right, no_fault, not_false, Fits, AllFit}

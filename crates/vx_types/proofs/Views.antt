@@ -1,10 +1,10 @@
--- The trees of a call and of a block, and of lists that are made item by item.
-use Rattle.std.proofs.Common.{◌≡◌, ℕ, List, [], ◌∷◌, ◌++◌, refl, ap, rules, Vec, Global}
+-- The written trees of a call and of a block, and the trees of lists that are made item by item.
+use Rattle.std.proofs.Common.{◌≡◌, List, [], ◌∷◌, ◌++◌, refl, ap, rules, Vec, Global}
 use Rattle.vx_ast.specs.declared.syntax.Name.{Name}
 use Rattle.vx_ast.specs.declared.syntax.Expression.{Expression as Written, Row_of-Expression as RowWritten, end_of-Expression as end_written, more_of-Expression as more_written, items-the_row-Expression as items_written, the_lemmas as written_lemmas, Call as CallWritten}
 use Rattle.vx_ast.specs.declared.syntax.Statement.{Statement as WrittenStatement, Row_of-Statement as RowWrittenStatement, end_of-Statement as end_statement, more_of-Statement as more_statement, items-the_row-Statement as items_statement, the_lemmas as statement_lemmas, Block as BlockWritten}
-use Rattle.vx_ast.specs.declared.tree.Expression.{Expression, Row_of-Expression, end_of-Expression, more_of-Expression, items-the_row-Expression, the_lemmas, Call}
-use Rattle.vx_ast.specs.declared.tree.Statement.{Statement, Row_of-Statement, end_of-Statement, more_of-Statement, items-the_row-Statement, the_lemmas as tree_statement_lemmas, Block}
+use Rattle.vx_ast.specs.declared.tree.Expression.{Expression}
+use Rattle.vx_ast.specs.declared.tree.Statement.{Statement}
 use Rattle.vx_ast.specs.declared.tree.Item.{Item}
 use Rattle.vx_ast.specs.Syntax as syntax
 use Rattle.vx_ast.specs.SyntaxView as written
@@ -26,20 +26,6 @@ all_written n (more_statement a rest) = ap (syntax.Seq (written.code_of a)) (all
 
 pub block_written : (all : Vec WrittenStatement Global) → written.code_of (BlockWritten all) ≡ syntax.Block (written.all_in all.items)
 block_written all = search (rules, statement_lemmas, all_written)
-
-rows_are : (n : _) (k : Row_of-Expression n) → view.row_of k ≡ view.row_in (items-the_row-Expression n k)
-rows_are n end_of-Expression = refl
-rows_are n (more_of-Expression a rest) = ap (tree.Then (view.tree_of a)) (rows_are _ rest)
-
-pub call_view : (f : ℕ) (all : Vec Expression Global) → view.tree_of (Call f all) ≡ tree.Apply f (view.row_in all.items)
-call_view f all = search (rules, the_lemmas, rows_are)
-
-all_are : (n : _) (k : Row_of-Statement n) → view.all_of k ≡ view.all_in (items-the_row-Statement n k)
-all_are n end_of-Statement = refl
-all_are n (more_of-Statement a rest) = ap (tree.Seq (view.code_of a)) (all_are _ rest)
-
-pub block_view : (all : Vec Statement Global) → view.code_of (Block all) ≡ tree.Block (view.all_in all.items)
-block_view all = search (rules, tree_statement_lemmas, all_are)
 
 -- what is made so far, and what is still to be made
 

@@ -9,7 +9,7 @@ ghost use Rattle.vx_ast.specs.Resolved.{resolved};
 ghost use Rattle.vx_ast.specs.SyntaxView.{program_of};
 ghost use Rattle.vx_ast.specs.View as view;
 
-use crate::limits::limit;
+use vx_limits::limits::limit;
 use crate::program::resolve_program;
 use std::alloc::Global;
 use vx_ast::fault::SourceFault;

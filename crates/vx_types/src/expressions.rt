@@ -51,7 +51,7 @@ fn array_named(named: Option<Named>) -> u32
 }
 
 // A name with arguments.
-#[tactic(auto, using(crate::proofs::Views::call_view))]
+#[tactic(auto, using(vx_limits::proofs::Views::call_view))]
 fn call_named(named: Option<Named>, row: Vec<Expression>) -> Expression
     ensures { tree_of result ≡ call_named named (view.row_in row.items) }
 {

@@ -7,14 +7,11 @@ mod formats;
 mod items;
 mod kinds;
 pub mod laws;
-mod limits;
 mod local;
 mod memory;
 mod names;
-mod node_counts;
 mod program;
 mod statements;
 mod table;
 
 pub use checker::check;
-pub use node_counts::nodes;

@@ -5,8 +5,8 @@ use Rattle.vx_ast.specs.Reads.{faulty, over}
 use Rattle.vx_ast.specs.Tree as tree
 use Rattle.vx_ast.specs.SyntaxView.{program_of}
 use Rattle.vx_ast.specs.View as view
-use Rattle.vx_types.specs.declared.limits.Over.{Over}
-use Rattle.vx_types.specs.Capped.{over_is}
+use Rattle.vx_limits.specs.declared.limits.Over.{Over}
+use Rattle.vx_limits.specs.Capped.{over_is}
 use Rattle.vx_types.proofs.SuitsProgram.{accepts}
 use Rattle.vx_types.proofs.checker.check.Goals as goal
 

@@ -6,7 +6,8 @@ use Rattle.vx_types.proofs.Lists.{list_step, list_end}
 use Rattle.vx_types.proofs.Leasts.{drop_next, drop_whole, least_append}
 use Rattle.vx_types.proofs.Scoping.{leaves_block, leaves_for}
 use Rattle.vx_types.proofs.Declarations.{items_alike, first_alike, step_alike}
-use Rattle.vx_types.proofs.Views.{block_written, block_view}
+use Rattle.vx_limits.proofs.Views.{block_view}
+use Rattle.vx_types.proofs.Views.{block_written}
 use Rattle.vx_types.proofs.statements.+statements.Goals as goal
 
 pub statements-loop-one-preserved : goal.statements-loop-one-preserved

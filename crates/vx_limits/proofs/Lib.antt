@@ -1,0 +1,4 @@
+pub mod Views
+pub mod Caps
+pub mod Limited
+pub mod Counting
