@@ -1,5 +1,3 @@
-pub mod Lookups
-pub mod Agreeing
 pub mod Leasts
 pub mod Scoping
 pub mod Views
@@ -9,7 +7,6 @@ pub mod Lists
 pub mod Suits
 pub mod Numbered
 pub mod SuitsCode
-pub mod Passing
 pub mod SuitsProgram
 pub mod Wholes
 mod FaultRows

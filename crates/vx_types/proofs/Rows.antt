@@ -13,7 +13,8 @@ use Rattle.vx_ast.specs.Scopes.{Environment, named}
 use Rattle.vx_ast.specs.SyntaxView.{phrase_of, row_in}
 use Rattle.vx_ast.specs.View as view
 use Rattle.vx_types.specs.Onto.{row_onto}
-use Rattle.vx_types.proofs.Leasts.{least_append, drop_next}
+use Rattle.vx_names.proofs.Lists.{drop_next}
+use Rattle.vx_types.proofs.Leasts.{least_append}
 use Rattle.vx_types.proofs.Views.{row_onto_push, row_onto_end}
 
 pub row_count : (row : List Expression) → row_length (row_in row) ≡ length row

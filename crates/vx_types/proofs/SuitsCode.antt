@@ -20,7 +20,8 @@ use Rattle.vx_ast.specs.Scopes.{Environment, Known, is_at, look, declared, with_
 use Rattle.vx_ast.specs.Faults.{fault_if, declares, sizes_faults, prints, row_length, phrase_faults, test_faults, code_faults}
 use Rattle.vx_ast.specs.Resolved.{tree_in, test_in, code_in}
 use Rattle.vx_limits.specs.Words.{tree_words, test_words, code_words}
-use Rattle.vx_types.proofs.Scoping.{behind_keeps, declared_counts}
+use Rattle.vx_names.proofs.Declaring.{declared_counts}
+use Rattle.vx_types.proofs.Scoping.{behind_keeps}
 use Rattle.vx_types.proofs.Numbered.{in_front, in_more, lt_true, lt_false, Numbers, numbers_none, numbers_one, numbers_on, numbers_rise}
 use Rattle.vx_types.proofs.Suits.{and_both, and_left, and_right, none_left, none_right, no_fault, not_false, Fits, AllFit, KnownFit, phrase_suits, action_suits, test_suits, lengths}
 

@@ -16,7 +16,7 @@ use Rattle.vx_ast.specs.Scopes.{Environment, Known, same_name, predeclared, know
 use Rattle.vx_ast.specs.Faults.{fault_if, sizes_faults, is_repeated, parameter_faults, code_faults, function_faults, definition_faults, definitions_faults, is_main, faults_of, least, first_fault, stands_before}
 use Rattle.vx_ast.specs.Resolved.{function_in, functions_from, main_from, resolved, code_in}
 use Rattle.vx_limits.specs.Words.{function_words, global_words, program_words}
-use Rattle.vx_types.proofs.Scoping.{declared_counts}
+use Rattle.vx_names.proofs.Declaring.{declared_counts}
 use Rattle.vx_types.proofs.Numbered.{in_below, lt_true, numbers_all, numbers_rise}
 use Rattle.vx_types.proofs.Suits.{and_both, and_left, and_right, none_left, none_right, no_fault, not_false, Fits, AllFit}
 use Rattle.vx_types.proofs.SuitsCode.{Ties, code_suits, declared_fits, scalars_numbered, arrays_numbered, sized, over_zero}

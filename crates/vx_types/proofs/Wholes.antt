@@ -11,7 +11,8 @@ use Rattle.vx_ast.specs.Faults.{declares, parameter_faults, is_main, definition_
 use Rattle.vx_ast.specs.Resolved.{function_in, functions_from, main_from, resolved}
 use Rattle.vx_ast.specs.SyntaxView.{definition_of}
 use Rattle.vx_types.specs.Whole.{at_start, own_faults, own_functions}
-use Rattle.vx_types.proofs.Leasts.{least_append, drop_next}
+use Rattle.vx_names.proofs.Lists.{drop_next}
+use Rattle.vx_types.proofs.Leasts.{least_append}
 
 -- parameters
 

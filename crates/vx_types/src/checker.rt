@@ -9,12 +9,12 @@ ghost use Rattle.vx_ast.specs.Resolved.{resolved};
 ghost use Rattle.vx_ast.specs.SyntaxView.{program_of};
 ghost use Rattle.vx_ast.specs.View as view;
 
-use vx_limits::limits::limit;
 use crate::program::resolve_program;
 use std::alloc::Global;
 use vx_ast::fault::SourceFault;
 use vx_ast::syntax;
 use vx_ast::typed::Typed;
+use vx_limits::limits::limit;
 
 /// The program of a parsed source, in which each name stands with its declaration.
 ///

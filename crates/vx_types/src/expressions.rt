@@ -7,12 +7,12 @@ ghost use Rattle.vx_ast.specs.View.{place_of, tree_of};
 ghost use Rattle.vx_ast.specs.View as view;
 
 use crate::memory::{append, boxed};
-use crate::names::Names;
 use std::alloc::Global;
 use vx_ast::names::Named;
 use vx_ast::syntax;
 use vx_ast::tree::{Expression, Target};
 use vx_base::outcome::NoMemory;
+use vx_names::names::Names;
 
 // A name that is used as a number.
 fn number_named(named: Option<Named>) -> Expression

@@ -13,13 +13,13 @@ ghost use Rattle.vx_ast.specs.View.{tree_of};
 use crate::expressions::{resolve, resolve_target};
 use crate::kinds::{note, note_expression, note_target, note_whole};
 use crate::memory::append;
-use crate::names::Names;
 use std::alloc::Global;
 use vx_ast::names::Fault;
 use vx_ast::syntax;
 use vx_ast::syntax::{Name, Size};
 use vx_ast::tree::{Expression, First, Item, Simple, Target};
 use vx_base::outcome::NoMemory;
+use vx_names::names::Names;
 
 /// A target and a value.
 #[derive(Drop)]

@@ -5,10 +5,10 @@ ghost use Rattle.vx_ast.specs.Faults.{called, changed, earlier, fault_if, stands
 ghost use Rattle.vx_ast.specs.Accepted.{gives_int};
 ghost use Rattle.vx_ast.specs.SyntaxView.{phrase_of, row_in};
 
-use crate::names::Names;
 use vx_ast::names::{Fault, Named};
 use vx_ast::syntax::{Expression, Name, Place};
 use vx_ast::tree::Gives;
+use vx_names::names::Names;
 
 // Whether a fault stands before another.
 fn stands_before(left: Fault, right: Fault) -> bool

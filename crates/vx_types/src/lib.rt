@@ -7,11 +7,8 @@ mod formats;
 mod items;
 mod kinds;
 pub mod laws;
-mod local;
 mod memory;
-mod names;
 mod program;
 mod statements;
-mod table;
 
 pub use checker::check;

@@ -13,7 +13,6 @@ ghost use Rattle.vx_types.specs.Whole.{at_start, own_faults, own_functions};
 
 use crate::items::{note_name, note_size};
 use crate::kinds::{gives_int, note};
-use crate::names::{Names, bytes_of};
 use crate::statements::statements;
 use std::alloc::Global;
 use vx_ast::names::{Fault, FileName, Named};
@@ -22,6 +21,7 @@ use vx_ast::syntax::{Definition, Name};
 use vx_ast::tree::{Function, GlobalVariable, Program};
 use vx_base::listed::Listed;
 use vx_base::outcome::NoMemory;
+use vx_names::names::{Names, bytes_of};
 
 // The parameters of a function, in their order.
 fn parameters(

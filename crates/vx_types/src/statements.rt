@@ -20,13 +20,13 @@ use crate::items::{
 };
 use crate::kinds::{gives_int, note, note_expression, note_row};
 use crate::memory::{append, boxed};
-use crate::names::{Names, bytes_of};
 use std::alloc::Global;
 use vx_ast::names::Fault;
 use vx_ast::syntax;
 use vx_ast::syntax::Place;
 use vx_ast::tree::{Expression, First, Gives, Simple, Statement};
 use vx_base::outcome::NoMemory;
+use vx_names::names::{Names, bytes_of};
 
 // The faults of a format with so many arguments.
 #[tactic(auto, using(crate::proofs::Leasts::least_append))]

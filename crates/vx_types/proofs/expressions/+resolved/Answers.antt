@@ -3,7 +3,7 @@ use Rattle.vx_ast.specs.Resolved.{tree_in}
 use Rattle.vx_ast.specs.Syntax.{Phrase}
 use Rattle.vx_ast.specs.Tree.{One}
 use Rattle.vx_ast.specs.SyntaxView.{phrase_of}
-use Rattle.vx_types.proofs.Leasts.{drop_whole}
+use Rattle.std.proofs.lemmas.List.{drop_all}
 use Rattle.vx_types.proofs.Rows.{call_made, row_made_step, row_made_end}
 use Rattle.vx_types.proofs.Views.{call_written}
 use Rattle.vx_types.proofs.expressions.+resolved.Goals as goal
@@ -19,4 +19,4 @@ resolve_row-loop-argument-preserved t c =
     row_made_step c.args.names.now c.loop-argument.made.items c.append.new.made.items c.in_ok-one.one c.args.row.now c.loop-argument.argument-index c.argument-item.result _ c.loop-argument-test.true c.argument-item.is c.loop-argument.invariant c.in_ok-append.ensures c.in_ok-one.ensures
 
 pub resolve_row-returns : goal.resolve_row-returns
-resolve_row-returns t c = row_made_end c.args.names.now c.loop-argument.made.items (drop c.loop-argument.argument-index c.args.row.now) _ (drop_whole c.args.row.now c.loop-argument.argument-index c.loop-argument-test.false) c.loop-argument.invariant
+resolve_row-returns t c = row_made_end c.args.names.now c.loop-argument.made.items (drop c.loop-argument.argument-index c.args.row.now) _ (drop_all c.loop-argument.argument-index c.args.row.now c.loop-argument-test.false) c.loop-argument.invariant

@@ -1,7 +1,8 @@
 use Rattle.std.proofs.Common.{drop, false, ◌+◌}
 use Rattle.vx_ast.specs.declared.tree.Gives.TheVariants.{Int}
 use Rattle.vx_types.proofs.Declarations.{items_step, items_end}
-use Rattle.vx_types.proofs.Leasts.{drop_next, drop_whole}
+use Rattle.std.proofs.lemmas.List.{drop_all}
+use Rattle.vx_names.proofs.Lists.{drop_next}
 use Rattle.vx_types.proofs.items.items.Goals as goal
 
 pub loop-one-preserved : goal.loop-one-preserved
@@ -13,4 +14,4 @@ loop-one-preserved c =
 pub returns-clause-made : goal.returns-clause-made
 returns-clause-made c =
     (items_end Int false c.loop-one.made.items c.loop-one.names c.loop-one.first (drop c.loop-one.one-index c.args.all.now) c.args.names.now c.args.first.now c.args.all.now c.loop-one.invariant
-    (drop_whole c.args.all.now c.loop-one.one-index c.loop-one-test.false)).0
+    (drop_all c.loop-one.one-index c.args.all.now c.loop-one-test.false)).0

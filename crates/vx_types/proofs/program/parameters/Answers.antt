@@ -1,5 +1,5 @@
 use Rattle.std.proofs.Common.{drop, ◌+◌}
-use Rattle.vx_types.proofs.Leasts.{drop_next}
+use Rattle.vx_names.proofs.Lists.{drop_next}
 use Rattle.vx_types.proofs.Wholes.{parameters_step}
 use Rattle.vx_types.proofs.program.parameters.Goals as goal
 

@@ -3,7 +3,9 @@ use Rattle.std.proofs.lemmas.Result.{on_ok_weaker}
 use Rattle.vx_ast.specs.Faults.{code_faults, least, phrase_faults, prints, row_length}
 use Rattle.vx_ast.specs.SyntaxView.{code_of, row_in}
 use Rattle.vx_types.proofs.Lists.{list_step, list_end}
-use Rattle.vx_types.proofs.Leasts.{drop_next, drop_whole, least_append}
+use Rattle.std.proofs.lemmas.List.{drop_all}
+use Rattle.vx_names.proofs.Lists.{drop_next}
+use Rattle.vx_types.proofs.Leasts.{least_append}
 use Rattle.vx_types.proofs.Scoping.{leaves_block, leaves_for}
 use Rattle.vx_types.proofs.Declarations.{items_alike, first_alike, step_alike}
 use Rattle.vx_limits.proofs.Views.{block_view}
@@ -19,7 +21,7 @@ statements-loop-one-preserved t c =
 pub statements-returns-clause-made : goal.statements-returns-clause-made
 statements-returns-clause-made t c =
     (list_end c.args.gives c.args.loops c.loop-one.made.items c.loop-one.names c.loop-one.first (drop c.loop-one.one-index c.args.all.now) c.args.names.now c.args.first.now c.args.all.now c.loop-one.invariant
-    (drop_whole c.args.all.now c.loop-one.one-index c.loop-one-test.false)).0
+    (drop_all c.loop-one.one-index c.args.all.now c.loop-one-test.false)).0
 
 pub alone-returns-clause-known : goal.alone-returns-clause-known
 alone-returns-clause-known t c = grind (arith, leaves_block)

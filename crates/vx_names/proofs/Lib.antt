@@ -1,0 +1,5 @@
+pub mod Lists
+pub mod Lookups
+pub mod Agreeing
+pub mod Passing
+pub mod Declaring
