@@ -8,8 +8,8 @@ use vx_ast::typed::Typed;
 use vx_base::outcome::NoMemory;
 use vx_flow::graph::{Flow, Graph};
 use vx_lower::lower;
-use vx_profile::count;
 use vx_profile::counts::Counts;
+use vx_tally::count;
 
 /// The most blocks of a run.
 const MOST_BLOCKS: u64 = 100000000;

@@ -19,8 +19,9 @@ use vx_base::sink::{Sink, put_all};
 use vx_command::ProfileWords;
 use vx_compile::flow_of;
 use vx_files::{input_for, read_through};
-use vx_profile::{count, write_counts};
+use vx_profile::write_counts;
 use vx_status::{Status, tell};
+use vx_tally::count;
 
 /// The text of the counts of a run, and whether the run is over.
 #[derive(Drop)]

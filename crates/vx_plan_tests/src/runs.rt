@@ -7,7 +7,7 @@ use vx_base::arithmetic::{Code, Compare};
 use vx_base::outcome::{NoMemory, Trap};
 use vx_flow::graph::{Op, Operand};
 use vx_profile::counts::Counts;
-use vx_profile::{Ending, count, run_plain};
+use vx_tally::{Ending, count, run_plain};
 
 /// The program gives what 40 and 7 give.
 const MAIN: Shape<'static> = Shape {

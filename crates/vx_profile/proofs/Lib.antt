@@ -1,8 +1,4 @@
-pub mod Storing
-pub mod Running
 pub mod Counting
-pub mod Tallying
-pub mod Gathering
 pub mod Decimals
 pub mod Numbers
 pub mod Replacing

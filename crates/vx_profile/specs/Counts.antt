@@ -1,14 +1,12 @@
 -- How often blocks and edges stand in a path of blocks.
-use Rattle.std.specs.Prelude.{◌≡◌, ◌+◌, ◌==◌, ◌&&◌, ℕ, Bool, false, if◌then◌else◌, List, [], ◌∷◌}
+use Rattle.std.specs.Prelude.{◌≡◌, ◌+◌, ◌==◌, ◌&&◌, ℕ, Bool, false, if◌then◌else◌, List}
 use Rattle.std.specs.List.{count_by}
 use Rattle.std.specs.Option.{unwrap_or}
 use Rattle.std.specs.declared.cmp.Ordering.{Ordering}
 use Rattle.std.specs.Ordering.{nat_cmp, ordering_then}
 use Rattle.std.specs.BTreeMap.{get}
-use Rattle.vx_flow.specs.Meaning.{Visit, AtBlock, AlongEdge, Frame, Active, Program, edge_back, edge_taken, hop}
+use Rattle.vx_flow.specs.Meaning.{Visit, AtBlock, AlongEdge}
 use Rattle.vx_profile.specs.declared.counts.Counts.{Counts}
-use Rattle.vx_profile.specs.declared.ending.Left.{Left}
-use Rattle.vx_profile.specs.declared.ending.Left.TheVariants.{Arrives, Calls, Leaves, Stops, Wrong}
 
 -- the order of the keys
 
@@ -52,19 +50,12 @@ pub record CountsMore (old new : Counts) (visits : List Visit) : Type 0 where
   pub blocks : (f b : ℕ) → block_count new f b ≡ block_count old f b + count_by (is_block f b) visits
   pub edges : (f b d : ℕ) → edge_count new f b d ≡ edge_count old f b d + count_by (is_edge f b d) visits
 
+-- new counts what old does, and a block or an edge so many times more
+pub record MoreTimes (old new : Counts) (visit : Visit) (more : ℕ) : Type 0 where
+  pub blocks : (f b : ℕ) → block_count new f b ≡ block_count old f b + (if is_block f b visit then more else 0)
+  pub edges : (f b d : ℕ) → edge_count new f b d ≡ edge_count old f b d + (if is_edge f b d visit then more else 0)
+
 -- new has this count for a block or an edge, and for each other one what old has
 pub record CountsReplaced (old new : Counts) (visit : Visit) (count : ℕ) : Type 0 where
   pub blocks : (f b : ℕ) → block_count new f b ≡ (if is_block f b visit then count else block_count old f b)
   pub edges : (f b d : ℕ) → edge_count new f b d ≡ (if is_edge f b d visit then count else edge_count old f b d)
-
--- what one step of a run adds to its path
-abbrev pub visits : Program → Active → List Visit
-visits p r = AtBlock r.function r.block ∷ edge_taken r (hop p r)
-
--- the edge that is taken as block b of function f is left
-abbrev pub taken_by : (f b : ℕ) → List Frame → Left → List Visit
-taken_by f b waiting (Arrives c) = AlongEdge f b c ∷ []
-taken_by f b waiting (Calls g arguments result next) = []
-taken_by f b waiting (Leaves n) = edge_back waiting
-taken_by f b waiting (Stops k) = []
-taken_by f b waiting Wrong = []

@@ -2,8 +2,7 @@
 
 ghost use Rattle.std.specs.Prelude.{◌≡◌, ◌+◌, ◌∷◌, [], IfOk, OnOk};
 ghost use Rattle.vx_flow.specs.Meaning.{AlongEdge, AtBlock};
-ghost use Rattle.vx_profile.specs.Counts.{block_count, edge_count, CountsMore, CountsOf, CountsReplaced};
-ghost use Rattle.vx_profile.specs.Tally.{MoreTimes};
+ghost use Rattle.vx_profile.specs.Counts.{block_count, edge_count, CountsMore, CountsOf, CountsReplaced, MoreTimes};
 
 use std::alloc::Global;
 use std::collections::BTreeMap;
@@ -60,7 +59,7 @@ impl Counts {
     }
 
     /// Counts a block so many times more.
-    pub(crate) fn add_block_times(
+    pub fn add_block_times(
         &mut self,
         function: u32,
         block: BlockId,
@@ -77,7 +76,7 @@ impl Counts {
     }
 
     /// Counts an edge so many times more.
-    pub(crate) fn add_edge_times(
+    pub fn add_edge_times(
         &mut self,
         function: u32,
         from: BlockId,
@@ -132,7 +131,7 @@ impl Counts {
 }
 
 /// No count comes to its bound, since that many blocks are never run.
-pub(crate) fn with_more(count: u64, more: u64) -> Result<u64, NoMemory>
+pub fn with_more(count: u64, more: u64) -> Result<u64, NoMemory>
     ensures { IfOk result (λ next. next ≡ count + more) }
 {
     match count.checked_add(more) {

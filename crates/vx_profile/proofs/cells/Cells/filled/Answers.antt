@@ -1,6 +1,0 @@
-use Rattle.std.proofs.Common.{◌++◌, ◌∷◌, [], ◌∙◌, ap}
-use Rattle.std.proofs.lemmas.List.{replicate_more}
-use Rattle.vx_profile.proofs.cells.Cells.filled.Goals as goal
-
-pub words-preserved : goal.words-preserved
-words-preserved c = c.in_ok-push.ensures.items ∙ ap (λ words. words ++ c.args.content ∷ []) c.words.invariant ∙ replicate_more c.words.counter c.args.content

@@ -1,7 +1,0 @@
-use Rattle.std.proofs.Common.{◌++◌, ◌∷◌, [], ◌∙◌, ap, replicate}
-use Rattle.std.proofs.lemmas.List.{replicate_more}
-use Rattle.vx_profile.specs.Tally.{never}
-use Rattle.vx_profile.proofs.tally.Row.empty.Goals as goal
-
-pub entries-preserved : goal.entries-preserved
-entries-preserved c = c.in_ok-push.ensures.items ∙ ap (λ entries. entries ++ c.none.result ∷ []) c.entries.invariant ∙ ap (λ entry. replicate c.entries.counter never ++ entry ∷ []) c.none.ensures ∙ replicate_more c.entries.counter never

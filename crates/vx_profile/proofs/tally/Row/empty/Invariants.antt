@@ -1,6 +1,0 @@
-use Rattle.std.proofs.Common.{◌≡◌, replicate}
-use Rattle.vx_profile.specs.Tally.{never}
-use Rattle.vx_profile.proofs.tally.Row.empty.Given as goal
-
-abbrev pub invariant-entries : goal.invariant-entries
-invariant-entries l = l.entries.items ≡ replicate l.counter never

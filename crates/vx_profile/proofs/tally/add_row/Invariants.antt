@@ -1,6 +1,0 @@
-use Rattle.std.proofs.Common.{take}
-use Rattle.vx_profile.specs.Tally.{MoreByRow}
-use Rattle.vx_profile.proofs.tally.add_row.Given as goal
-
-abbrev pub invariant-loop-index : goal.invariant-loop-index
-invariant-loop-index l = MoreByRow l.initial.counts l.counts l.function (take l.index l.row)

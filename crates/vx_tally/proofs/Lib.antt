@@ -1,0 +1,5 @@
+pub mod Storing
+pub mod Running
+pub mod Paths
+pub mod Tallying
+pub mod Gathering

@@ -1,0 +1,172 @@
+-- Steps of a run: operations, blocks, calls.
+use Rattle.std.proofs.Common.{◌≡◌, ℕ, suc, ◌+◌, ◌≤◌, ℤ, Bool, true, false, cond, nat_le, List, [], ◌∷◌, ◌++◌, length, map, drop, slice_get, Option, Some, None, refl, sym, ap, subst, ◌∙◌, append-nil, arith}
+use Rattle.std.proofs.Math.Path.{fun_ext}
+use Rattle.std.proofs.lemmas.Bool.{false≢true, leb-true, le-leb}
+use Rattle.std.specs.Option.{option_map}
+use Rattle.vx_base.specs.Outcome.{Outcome, Ends, Traps, Goes, Step, On, Over, step_then}
+use Rattle.vx_base.specs.declared.outcome.Trap.TheVariants.{Depth}
+use Rattle.vx_flow.specs.declared.graph.Op.{Op}
+use Rattle.vx_flow.specs.declared.graph.Exit.{Exit}
+use Rattle.vx_flow.specs.declared.graph.Array.{Array}
+use Rattle.vx_flow.specs.declared.graph.Graph.{Graph}
+use Rattle.vx_flow.specs.declared.graph.Flow.{Flow}
+use Rattle.vx_flow.specs.Effects.{Content, State, Setting, effect}
+use Rattle.vx_flow.specs.Meaning.{Hop, Frame, Active, Program, leave, and_then, block_hop, deepest, waits, undefined, at_entry, after_hop, body_hop, body_of, hop, next, program_of, program_run, returned, entered_or, start, globals_at_start, words_at_start}
+use Rattle.vx_tally.specs.declared.ending.Ending.{Ending}
+use Rattle.vx_tally.specs.declared.calls.Waiting.{Waiting}
+use Rattle.vx_tally.specs.declared.calls.Machine.{Machine}
+use Rattle.vx_tally.specs.Storage.{came, and_after, effects}
+use Rattle.vx_tally.specs.Machine.{graph_hop, frame_of, stacked, active_of, undefined_all, own_in, entered_by, called_by, IsStep, IsOutcome}
+
+-- operations
+
+and_then_after : (o : Option State) (f : State → Hop) (g : State → Option State) (h : State → Hop) → ((t : State) → f t ≡ and_then (g t) h) → and_then o f ≡ and_then (and_after o g) h
+and_then_after None f g h k = refl
+and_then_after (Some t) f g h k = k t
+
+pub block_by_effects : (setting : Setting) (b : ℕ) (ops : List Op) (exit : Exit) (s : State) → block_hop setting b ops exit s ≡ and_then (effects setting s ops) (leave b exit)
+block_by_effects setting b [] exit s = refl
+block_by_effects setting b (op ∷ ops) exit s = and_then_after (effect setting s op s) (block_hop setting b ops exit) (λ t. effects setting t ops) (leave b exit) (block_by_effects setting b ops exit)
+
+pub through : (setting : Setting) (b : ℕ) (ops : List Op) (exit : Exit) (s t : State) (done : Bool) (h : Hop) → effects setting s ops ≡ came done t → done ≡ true → leave b exit t ≡ h → block_hop setting b ops exit s ≡ h
+through setting b ops exit s t done h e d k = block_by_effects setting b ops exit s ∙ ap (λ o. and_then o (leave b exit)) (e ∙ ap (λ x. came x t) d) ∙ k
+
+pub not_through : (setting : Setting) (b : ℕ) (ops : List Op) (exit : Exit) (s t : State) (done : Bool) → effects setting s ops ≡ came done t → done ≡ false → block_hop setting b ops exit s ≡ Hop.Wrong
+not_through setting b ops exit s t done e d = block_by_effects setting b ops exit s ∙ ap (λ o. and_then o (leave b exit)) (e ∙ ap (λ x. came x t) d)
+
+-- numbers that operands are
+
+abbrev pub with_all : List ℤ → Option (List ℤ) → Option (List ℤ)
+with_all ns None = None
+with_all ns (Some ms) = Some (ns ++ ms)
+
+-- functions that wait
+
+pub stacked_push : (below : List Frame) (ws : List Waiting) (w : Waiting) → stacked below (ws ++ w ∷ []) ≡ frame_of w ∷ stacked below ws
+stacked_push below [] w = refl
+stacked_push below (u ∷ ws) w = stacked_push (frame_of u ∷ below) ws w
+
+pub stacked_length : (below : List Frame) (ws : List Waiting) → length (stacked below ws) ≡ length below + length ws
+stacked_length below [] = omega arith
+stacked_length below (u ∷ ws) = let h = stacked_length (frame_of u ∷ below) ws in omega arith
+
+pub gave_back : (n : ℤ) (s : State) (base : ℕ) (items rest : List Waiting) (w : Waiting) (a : Active) → items ≡ rest ++ w ∷ [] → On a ≡ returned n s base (frame_of w ∷ stacked [] rest) → returned n s base (stacked [] items) ≡ On a
+gave_back n s base items rest w a e k = ap (λ ws. returned n s base (stacked [] ws)) e ∙ ap (returned n s base) (stacked_push [] rest w) ∙ sym k
+
+-- the most that may wait
+pub full_is : (n : ℕ) → nat_le 511 n ≡ nat_le deepest (n + 1)
+unfolding deepest
+full_is n = by (nat_le 511 n) (nat_le 512 (n + 1)) refl refl
+  where
+    by : (s t : Bool) → nat_le 511 n ≡ s → nat_le 512 (n + 1) ≡ t → nat_le 511 n ≡ nat_le 512 (n + 1)
+    by true true e f = e ∙ sym f
+    by false false e f = e ∙ sym f
+    by true false e f = let h : 511 ≤ n = leb-true 511 n e in absurd (false≢true (sym f ∙ le-leb 512 (n + 1) (omega arith)))
+    by false true e f = let h : 512 ≤ n + 1 = leb-true 512 (n + 1) f in absurd (false≢true (sym e ∙ le-leb 511 n (omega arith)))
+
+-- the start
+
+pub own_is : (arrays : List Array) → map undefined (map (λ a. a.words) arrays) ≡ undefined_all arrays
+own_is [] = refl
+own_is (a ∷ arrays) = ap (λ rows. undefined a.words ∷ rows) (own_is arrays)
+
+no_arguments : (qs : List ℕ) (v : ℕ) → at_entry qs [] v ≡ None
+no_arguments [] v = refl
+no_arguments (q ∷ qs) v = refl
+
+start_by : (flow : Flow) (o : Option Graph) (s : State) → s.values ≡ (λ v. None) → record s { arrays = s.arrays ++ undefined_all (own_in flow o) } ≡ entered_or (option_map (body_of (length flow.globals)) o) s
+start_by flow None s h = ap (λ rows. record s { arrays = rows }) (append-nil s.arrays)
+start_by flow (Some g) s h =
+    ap (λ f. record s { values = f; arrays = s.arrays ++ undefined_all (drop (length flow.globals) g.arrays) }) (h ∙ fun_ext (λ v. sym (no_arguments g.parameters v)))
+    ∙ ap (λ rows. record s { values = at_entry g.parameters []; arrays = s.arrays ++ rows }) (sym (own_is (drop (length flow.globals) g.arrays)))
+
+pub start_is : (flow : Flow) (input : List ℤ) (f : ℕ → Content) (rows arrays : List (List Content)) (base : ℕ) → ((v : ℕ) → f v ≡ None) → rows ≡ map words_at_start flow.globals → arrays ≡ rows ++ undefined_all (own_in flow (slice_get flow.functions flow.main)) → base ≡ length rows →
+    record { function = flow.main; block = 0; base = base; state = record { values = f; arrays = arrays; input = input; out = [] }; waiting = [] } ≡ start flow input
+start_is flow input f rows arrays base h r a b =
+    let f_is : f ≡ (λ v. None) = fun_ext h in
+    let s : State = globals_at_start flow input in
+    let arrays_is : arrays ≡ s.arrays ++ undefined_all (own_in flow (slice_get flow.functions flow.main)) = a ∙ ap (λ q. q ++ undefined_all (own_in flow (slice_get flow.functions flow.main))) r in
+    ap (λ g. record { function = flow.main; block = 0; base = base; state = record { values = g; arrays = arrays; input = input; out = [] }; waiting = [] }) f_is
+    ∙ ap (λ q. record { function = flow.main; block = 0; base = base; state = record { values = λ v. None; arrays = q; input = input; out = [] }; waiting = [] }) arrays_is
+    ∙ ap (λ n. record { function = flow.main; block = 0; base = n; state = record { values = λ v. None; arrays = s.arrays ++ undefined_all (own_in flow (slice_get flow.functions flow.main)); input = input; out = [] }; waiting = [] }) (b ∙ ap length r)
+    ∙ ap (λ q. record { function = flow.main; block = 0; base = length s.arrays; state = q; waiting = [] }) (start_by flow (slice_get flow.functions flow.main) s refl)
+
+pub begin_is : (flow : Flow) (input : List ℤ) (f : ℕ → Content) (rows arrays : List (List Content)) (base : ℕ) (left : List ℤ) (out : List ℕ) (ws : List Waiting) → ((v : ℕ) → f v ≡ None) → rows ≡ map words_at_start flow.globals →
+    arrays ≡ rows ++ undefined_all (own_in flow (slice_get flow.functions flow.main)) → base ≡ length rows → left ≡ input → out ≡ [] → ws ≡ [] →
+    record { function = flow.main; block = 0; base = base; state = record { values = f; arrays = arrays; input = left; out = out }; waiting = stacked [] ws } ≡ start flow input
+begin_is flow input f rows arrays base left out ws h r a b i o w =
+    ap (λ q. record { function = flow.main; block = 0; base = base; state = record { values = f; arrays = arrays; input = q; out = out }; waiting = stacked [] ws }) i
+    ∙ ap (λ q. record { function = flow.main; block = 0; base = base; state = record { values = f; arrays = arrays; input = input; out = q }; waiting = stacked [] ws }) o
+    ∙ ap (λ q. record { function = flow.main; block = 0; base = base; state = record { values = f; arrays = arrays; input = input; out = [] }; waiting = stacked [] q }) w
+    ∙ start_is flow input f rows arrays base h r a b
+
+-- steps
+
+hop_by : (flow : Flow) (r : Active) (o : Option Graph) → body_hop (program_of flow) r (option_map (body_of (length flow.globals)) o) ≡ graph_hop flow o r.base r.block r.state
+hop_by flow r None = refl
+hop_by flow r (Some g) = refl
+
+pub hop_is : (flow : Flow) (r : Active) → hop (program_of flow) r ≡ graph_hop flow (slice_get flow.functions r.function) r.base r.block r.state
+hop_is flow r = hop_by flow r (slice_get flow.functions r.function)
+
+wrong_ends : (ending : Option Ending) (out other : List ℕ) (m : Machine) → IsStep ending (Over (Outcome.Wrong out)) m → IsStep ending (Over (Outcome.Wrong other)) m
+wrong_ends None out other m h = absurd (cc)
+wrong_ends (Some (Ending.Ends n)) out other m h = absurd (cc)
+wrong_ends (Some (Ending.Traps k)) out other m h = absurd (cc)
+wrong_ends (Some Ending.Wrong) out other m h = (other, refl)
+
+-- what follows a block does not depend on the state before it, but for the output where it has no meaning
+pub step_after : (ending : Option Ending) (p : Program) (r : Active) (t : State) (h : Hop) (m : Machine) → IsStep ending (after_hop p (record r { state = t }) h) m → IsStep ending (after_hop p r h) m
+step_after ending p r t (Hop.Arrives b c s) m k = k
+step_after ending p r t (Hop.Calls g arguments result b next s) m k = k
+step_after ending p r t (Hop.Leaves n s) m k = k
+step_after ending p r t (Hop.Stops trap s) m k = k
+step_after ending p r t Hop.Wrong m k = wrong_ends ending t.out r.state.out m k
+
+pub entered_is : (a : Active) (g : ℕ) (values : ℕ → Content) (own : List Array) (result : Option ℕ) (to base : ℕ) (f : ℕ → Content) (arrays : List (List Content)) (ws : List Frame) → base ≡ length a.state.arrays → f ≡ values →
+    arrays ≡ a.state.arrays ++ undefined_all own → ws ≡ waits a result a.block to a.state ∷ a.waiting →
+    record { function = g; block = 0; base = base; state = record (a.state) { values = f; arrays = arrays }; waiting = ws } ≡ entered_by a g values own result to
+entered_is a g values own result to base f arrays ws b v r w =
+    ap (λ q. record { function = g; block = 0; base = q; state = record (a.state) { values = f; arrays = arrays }; waiting = ws }) b
+    ∙ ap (λ q. record { function = g; block = 0; base = length a.state.arrays; state = record (a.state) { values = q; arrays = arrays }; waiting = ws }) v
+    ∙ ap (λ q. record { function = g; block = 0; base = length a.state.arrays; state = record (a.state) { values = values; arrays = q }; waiting = ws }) r
+    ∙ ap (λ q. record { function = g; block = 0; base = length a.state.arrays; state = record (a.state) { values = values; arrays = a.state.arrays ++ undefined_all own }; waiting = q }) w
+
+pub enters_is : (globals : ℕ) (r : Active) (g : ℕ) (graph : Graph) (arguments : List ℤ) (result : Option ℕ) (to : ℕ) (f : ℕ → Content) (own : List Array) (a : Active) → ((v : ℕ) → f v ≡ at_entry graph.parameters arguments v) → own ≡ drop globals graph.arrays → a ≡ entered_by r g f own result to →
+    called_by r globals g (Some graph) arguments result to ≡ On a
+enters_is globals r g graph arguments result to f own a v o e =
+    ap (λ rows. Step.On (record { function = g; block = 0; base = length r.state.arrays; state = record (r.state) { values = at_entry graph.parameters arguments; arrays = r.state.arrays ++ rows }; waiting = waits r result r.block to r.state ∷ r.waiting })) (own_is (drop globals graph.arrays))
+    ∙ ap (λ q. Step.On (entered_by r g (at_entry graph.parameters arguments) q result to)) (sym o)
+    ∙ ap (λ q. Step.On (entered_by r g q own result to)) (sym (fun_ext v))
+    ∙ ap Step.On (sym e)
+
+pub full_stops : (flow : Flow) (r : Active) (g : ℕ) (arguments : List ℤ) (result : Option ℕ) (to : ℕ) → nat_le deepest (length r.waiting + 1) ≡ true → after_hop (program_of flow) r (Hop.Calls g arguments result r.block to r.state) ≡ Over (Traps Depth r.state.out)
+full_stops flow r g arguments result to e = ap (λ b. cond b (Step.Over (Traps Depth r.state.out)) (called_by r (length flow.globals) g (slice_get flow.functions g) arguments result to)) e
+
+pub calls_on : (flow : Flow) (r : Active) (g : ℕ) (arguments : List ℤ) (result : Option ℕ) (to : ℕ) → nat_le deepest (length r.waiting + 1) ≡ false →
+    after_hop (program_of flow) r (Hop.Calls g arguments result r.block to r.state) ≡ called_by r (length flow.globals) g (slice_get flow.functions g) arguments result to
+calls_on flow r g arguments result to e = ap (λ b. cond b (Step.Over (Traps Depth r.state.out)) (called_by r (length flow.globals) g (slice_get flow.functions g) arguments result to)) e
+
+-- runs
+
+pub run_on : (p : Program) (n k : ℕ) (r s : Active) → n ≡ suc k → next p r ≡ On s → program_run p n r ≡ program_run p k s
+run_on p n k r s e f = ap (λ m. program_run p m r) e ∙ ap (λ x. step_then (program_run p k) x) f
+
+pub run_over : (p : Program) (n k : ℕ) (r : Active) (o : Outcome) → n ≡ suc k → next p r ≡ Over o → program_run p n r ≡ o
+run_over p n k r o e f = ap (λ m. program_run p m r) e ∙ ap (λ x. step_then (program_run p k) x) f
+
+pub run_none : (p : Program) (n : ℕ) (r : Active) → n ≡ 0 → program_run p n r ≡ Goes r.state.out
+run_none p n r e = ap (λ m. program_run p m r) e
+
+-- a step that goes on
+pub step_on : (ending : Option Ending) (step : Step Active) (m : Machine) → ending ≡ None → IsStep ending step m → step ≡ On (active_of m)
+step_on ending step m e h = subst (λ x. IsStep x step m) e h
+
+-- a step that ends the run
+ends_so : (how : Ending) (p : Program) (n k : ℕ) (r : Active) (m : Machine) → n ≡ suc k → IsStep (Some how) (next p r) m → IsOutcome (Some how) m.storage.out.items (program_run p n r)
+ends_so (Ending.Ends x) p n k r m e h = run_over p n k r (Ends x m.storage.out.items) e h
+ends_so (Ending.Traps t) p n k r m e h = run_over p n k r (Traps t m.storage.out.items) e h
+ends_so Ending.Wrong p n k r m e h = let (out, is) = h in (out, run_over p n k r (Outcome.Wrong out) e is)
+
+pub run_ends : (ending : Option Ending) (how : Ending) (p : Program) (n k : ℕ) (r : Active) (m : Machine) → n ≡ suc k → ending ≡ Some how → IsStep ending (next p r) m → IsOutcome (Some how) m.storage.out.items (program_run p n r)
+run_ends ending how p n k r m e s h = ends_so how p n k r m e (subst (λ x. IsStep x (next p r) m) s h)

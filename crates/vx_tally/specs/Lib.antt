@@ -1,0 +1,3 @@
+pub mod Storage
+pub mod Machine
+pub mod Tally
