@@ -1,5 +1,5 @@
 -- The answers of a command from those of its steps.
-use Rattle.std.proofs.Common.{◌≡◌, ◌≢◌, ◌⊎◌, inl, inr, ℕ, List, Option, Some, None, is_some, option_map, IfSome, MatchOption, refl, sym, subst, ap, ◌∙◌}
+use Rattle.std.proofs.Common.{◌≡◌, ◌≢◌, ◌⊎◌, inl, inr, ℕ, List, Option, Some, None, is_some, option_map, Result, Ok, Err, IfOk, IfSome, MatchOption, refl, sym, subst, ap, ◌∙◌}
 use Rattle.std.specs.Prelude.{IsSomeAnd}
 use Rattle.vx_base.specs.Outside.{Files, held_with, with_file, ReplacesPartly}
 use Rattle.vx_isa.specs.Numbers.{Numbers}
@@ -355,3 +355,8 @@ compiled_answers asked program e f status s h (inl none) =
     at_profile asked f status (record { named = none.named; accepted = accepts_in asked.source program f.before h; answers = profile_since asked.profile e f status s none.answers })
 compiled_answers asked program e f status s h (inr by) =
     counted_answers program by.counts asked e f status s h (told_since e f (λ held. AreCounts held asked.profile by.counts) s by.counted) by.answers
+
+-- two facts of one answer
+pub both_ok : {T E : Type 0} (r : Result T E) (P Q : T → Type 0) → IfOk r P → IfOk r Q → IfOk r (λ t. P t × Q t)
+both_ok (Ok t) P Q p q = (p, q)
+both_ok (Err e) P Q p q = tt

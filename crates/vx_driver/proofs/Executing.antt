@@ -1,5 +1,5 @@
 -- The answers of `exec` from those of its run and of the steps before it.
-use Rattle.std.proofs.Common.{◌≡◌, ◌∙◌, ◌⊎◌, inl, inr, ℕ, ℤ, true, List, length, is_some, Option, Some, None, Result, Ok, Err, IfOk, IfSome, MatchOption, refl, sym, subst, ap}
+use Rattle.std.proofs.Common.{◌≡◌, ◌∙◌, ◌⊎◌, inl, inr, ℕ, ℤ, true, List, length, is_some, Option, Some, None, Ok, Err, IfSome, MatchOption, refl, sym, subst, ap}
 use Rattle.std.specs.Prelude.{◌<◌, All}
 use Rattle.vx_base.specs.Arithmetic.{IsNumber}
 use Rattle.vx_base.specs.Outcome.{Outcome, Ends, Traps, Goes, Stuck as StuckWith, Wrong, IsOver, IsFailure, IsGoing, Begins, Within, output_of}
@@ -22,9 +22,10 @@ use Rattle.vx_compile.specs.Faithful.{Faithful}
 use Rattle.vx_files.specs.Held.{AreCounts, HoldsProgram, ProfileStands, Is, machine_found, input_in, input_found}
 use Rattle.vx_files.specs.Effects.{Effect, ReadsRose, SourceAnswers, MachineAnswers, InputAnswers}
 use Rattle.vx_driver.specs.Answers.{StopsAtProfile, StopsAtMachine}
-use Rattle.vx_runs.specs.Simulated.{AreDefaults, Loaded, begun, outcome_within, events_within, reports_of, Streams, Shows, OutputCut, IsStatusOf}
-use Rattle.vx_driver.specs.Executed.{CompiledBy, Issues, SourceHas, SourceBegins, InSource, AllHeld, Prepared, Runs, RunsCut, StopsAtInput, ExecutionAnswers}
+use Rattle.vx_runs.specs.Simulated.{Loaded, begun, outcome_within, events_within, reports_of, Streams, Shows, OutputCut, IsStatusOf}
+use Rattle.vx_driver.specs.Executed.{Issues, SourceHas, SourceBegins, InSource, AllHeld, Prepared, Runs, RunsCut, StopsAtInput, ExecutionAnswers}
 use Rattle.vx_runs.specs.Ending.{issued_line, IsRunOf, UnputLines, LoadedAnswers}
+use Rattle.vx_driver.specs.Loading.{LoadedProfile}
 use Rattle.vx_driver.specs.Stopping.{LaterStops, AfterSource, StopsBefore}
 use Rattle.vx_runs.proofs.Issued.{issues_comes, issues_within, issues_least, issues_all, issues_seen}
 use Rattle.vx_runs.proofs.Turned.{turned_of, turned_some, outcome_turned}
@@ -360,17 +361,11 @@ all_held asked program m numbers None holds stands machine input = tt
 all_held asked program m numbers (Some held) holds stands machine input = record { program_is = holds; profiled = stands; machine_is = machine; input_is = input }
 
 pub prepared : (asked : Execution) (program : Program) (x : Loaded) (e f : Effect) → Since e f → IfSome f.before (λ held. HoldsProgram held asked.source program) →
-    IfSome e.before (λ held. ProfileStands held asked.profile) → IfSome e.before (λ held. machine_found held asked.machine ≡ Is x.machine) → IfSome e.before (λ held. input_found held asked.input ≡ Ok x.input) →
-    CompiledBy e.before asked.profile asked.growth program x.machine x.program → AreDefaults asked.machine asked.input x → Prepared asked f x
-prepared asked program x e f since holds stands machine input by defaults = record {
+    LoadedProfile program asked.growth e.before asked.profile asked.machine asked.input x → Prepared asked f x
+prepared asked program x e f since holds l = record {
   source_program = program;
-  read = all_held asked program x.machine x.input f.before holds (told_since e f (λ held. ProfileStands held asked.profile) since stands)
-      (told_since e f (λ held. machine_found held asked.machine ≡ Is x.machine) since machine) (told_since e f (λ held. input_found held asked.input ≡ Ok x.input) since input);
-  defaults = defaults;
-  by = record { counts = by.counts; counted = told_since e f (λ held. AreCounts held asked.profile by.counts) since by.counted; plan = by.plan; compiled = by.compiled };
+  read = all_held asked program x.machine x.input f.before holds (told_since e f (λ held. ProfileStands held asked.profile) since l.profiled)
+      (told_since e f (λ held. machine_found held asked.machine ≡ Is x.machine) since l.machine_is) (told_since e f (λ held. input_found held asked.input ≡ Ok x.input) since l.input_is);
+  defaults = l.defaults;
+  by = record { counts = l.by.counts; counted = told_since e f (λ held. AreCounts held asked.profile l.by.counts) since l.by.counted; plan = l.by.plan; compiled = l.by.compiled };
 }
-
--- several facts of one answer
-pub both_ok : {T E : Type 0} (r : Result T E) (P Q : T → Type 0) → IfOk r P → IfOk r Q → IfOk r (λ t. P t × Q t)
-both_ok (Ok t) P Q p q = (p, q)
-both_ok (Err e) P Q p q = tt

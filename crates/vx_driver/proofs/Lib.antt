@@ -4,6 +4,9 @@ pub mod Completing
 mod Always
 pub mod Boxed
 pub mod Executing
+pub mod Loading
+pub mod Performing
+pub mod Naming
 pub mod Executed
 pub mod Counting
 pub mod Summing

@@ -3,7 +3,9 @@ pub mod Executed
 pub mod Counted
 pub mod Soaked
 pub mod Stopping
+pub mod Loading
 pub mod Counting
 pub mod SoakSteps
 pub mod Commands
+pub mod Performed
 pub mod Always

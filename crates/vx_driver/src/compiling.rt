@@ -9,12 +9,14 @@ ghost use Rattle.vx_command.specs.Asked.{compilation_of};
 ghost use Rattle.vx_compile.specs.Stages.{MakesTexts};
 ghost use Rattle.vx_report.specs.Report.{names_of, report_text};
 ghost use Rattle.vx_words.specs.Text.{Spells};
+ghost use Rattle.vx_isa.specs.Sound.{is_sound};
 
 use std::alloc::Global;
 use vx_ast::typed::Typed;
 use vx_base::depot::{Depot, DepotFault};
 use vx_base::outcome::NoMemory;
 use vx_command::CompileWords;
+use vx_compile::CompiledProgram;
 use vx_files::{counts_for, machine_for, read_through};
 use vx_machine::Machine;
 use vx_profile::counts::Counts;
@@ -40,6 +42,22 @@ fn report_for(alloc: Global, plan: &Plan, program: &Typed, asked: bool) -> Resul
     }
 }
 
+/// The texts of a compiled program.
+fn texts_in(
+    alloc: Global,
+    program: &Typed,
+    compiled: &CompiledProgram,
+    reports: bool,
+) -> Result<Texts, NoMemory>
+    requires { is_sound compiled.now.words ≡ true }
+    ensures words { IfOk result (λ texts. Spells texts.words.items compiled.now.words) }
+    ensures report { IfOk result (λ texts. reports ≡ true → texts.report.items ≡ report_text compiled.now.plan (names_of (view.program_of program.now.program))) }
+{
+    let words = write(alloc, &compiled.words)?;
+    let report = report_for(alloc, &compiled.plan, program, reports)?;
+    Ok(Texts { words, report })
+}
+
 /// The texts of a program, by counts and for a machine.
 fn texts_of(
     alloc: Global,
@@ -52,9 +70,7 @@ fn texts_of(
     ensures { IfOk result (λ texts. MakesTexts (view.program_of program.now.program) counts.now machine.now growth reports texts.words.items texts.report.items) }
 {
     let compiled = vx_compile::compile(alloc, program, counts, machine, growth)?;
-    let words = write(alloc, &compiled.words)?;
-    let report = report_for(alloc, &compiled.plan, program, reports)?;
-    Ok(Texts { words, report })
+    texts_in(alloc, program, &compiled, reports)
 }
 
 /// Puts a text under a name.

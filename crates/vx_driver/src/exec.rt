@@ -1,20 +1,18 @@
 // The command `exec SRC`: reads a source, a profile, a machine and an input, compiles the source, runs its words with the boxes that
 // are asked for, and puts how the run ended and how many words it issued.
 
-ghost use Rattle.std.specs.Prelude.{◌≡◌, ◌⊎◌, ◌<◌, ◌≤◌, true, false, length, map, option_map, is_some, All, Ok, IfOk, IfErr, IfSome};
+ghost use Rattle.std.specs.Prelude.{◌≡◌, ◌⊎◌, ◌<◌, true, length, map, option_map, is_some, All, IfOk, IfErr};
 ghost use Rattle.vx_base.specs.Arithmetic.{IsNumber};
 ghost use Rattle.vx_ast.specs.View as view;
 ghost use Rattle.vx_files.specs.Effects.{effect_of, InputAnswers};
-ghost use Rattle.vx_files.specs.Held.{machine_found, Is, ProfileStands, DefaultUnless, EmptyUnless, input_found};
 ghost use Rattle.vx_command.specs.Command.{Execute};
-ghost use Rattle.vx_runs.specs.Boxes.{boxes_of};
-ghost use Rattle.vx_runs.specs.Lines.{TellsLine, TellsRun};
 ghost use Rattle.vx_command.specs.Asked.{execution_of};
-ghost use Rattle.vx_compile.specs.Stages.{IsCompiled};
-ghost use Rattle.vx_status.specs.Status.{Adds};
-ghost use Rattle.vx_runs.specs.Simulated.{is_of_run, streams_of};
-ghost use Rattle.vx_driver.specs.Executed.{CompiledBy, Prepared, ExecutionAnswers, ExecAnswers};
+ghost use Rattle.vx_runs.specs.Boxes.{boxes_of};
 ghost use Rattle.vx_runs.specs.Ending.{loaded_of};
+ghost use Rattle.vx_runs.specs.Simulated.{streams_of};
+ghost use Rattle.vx_driver.specs.Executed.{Prepared};
+ghost use Rattle.vx_driver.specs.Loading.{LoadedInput, LoadedMachine, LoadedProfile, LoadedWords, OnlyReads};
+ghost use Rattle.vx_driver.specs.Performed.{ExecutionPerformed, Performed};
 ghost use Rattle.vx_driver.specs.Stopping.{AfterSource, LaterStops, StopsBefore};
 
 use std::alloc::Global;
@@ -40,9 +38,7 @@ fn load_words(
     input: Vec<i32>,
 ) -> Result<LoadedFiles, Status>
     requires { All IsNumber input.items }
-    ensures machine { IfOk result (λ loaded. loaded.machine ≡ machine) }
-    ensures input { IfOk result (λ loaded. loaded.input.items ≡ input.items) }
-    ensures compiled { IfOk result (λ loaded. IsCompiled (view.program_of program.now.program) counts.now loaded.machine growth loaded.program) }
+    ensures loaded { IfOk result (λ loaded. LoadedWords (view.program_of program.now.program) counts.now growth machine input.items (loaded_of loaded)) }
     ensures memory { IfErr result (λ status. status ≡ Status.NoMemory) }
 {
     match compile(alloc, program, counts, &machine, growth) {
@@ -65,14 +61,9 @@ fn load_input<D: Depot>(
     growth: u32,
     name: Option<&str>,
 ) -> Result<LoadedFiles, Status>
-    ensures same_files { D.files depot.new ≡ D.files depot.old }
-    ensures machine { IfOk result (λ loaded. loaded.machine ≡ machine) }
-    ensures input { IfOk result (λ loaded. IfSome (D.files depot.old) (λ held. input_found held (option_map (λ s. s.now) name.entry) ≡ Ok loaded.input.items)) }
-    ensures unnamed { IfOk result (λ loaded. EmptyUnless (option_map (λ s. s.now) name.entry) loaded.input.items) }
-    ensures compiled { IfOk result (λ loaded. IsCompiled (view.program_of program.now.program) counts.now loaded.machine growth loaded.program) }
+    ensures only_reads { OnlyReads (effect_of D.files D.failed_reads D.failed_replaces depot.old depot.new) }
+    ensures loaded { IfOk result (λ loaded. LoadedInput (view.program_of program.now.program) counts.now growth machine (D.files depot.old) (option_map (λ s. s.now) name.entry) (loaded_of loaded)) }
     ensures stops { IfErr result (λ status. (status ≡ Status.NoMemory) ⊎ ((is_some (option_map (λ s. s.now) name.entry) ≡ true) × InputAnswers (option_map (λ s. s.now) name.entry) (effect_of D.files D.failed_reads D.failed_replaces depot.old depot.new) status)) }
-    ensures reads_never_fall { D.failed_reads depot.old ≤ D.failed_reads depot.new }
-    ensures replaces_never_fall { D.failed_replaces depot.old ≤ D.failed_replaces depot.new }
 {
     match input_for(alloc, depot, name) {
         Ok(input) => load_words(alloc, program, counts, machine, growth, input),
@@ -90,15 +81,9 @@ fn load_machine<D: Depot>(
     growth: u32,
     input: Option<&str>,
 ) -> Result<LoadedFiles, Status>
-    ensures same_files { D.files depot.new ≡ D.files depot.old }
-    ensures machine { IfOk result (λ loaded. IfSome (D.files depot.old) (λ held. machine_found held (option_map (λ s. s.now) machine.entry) ≡ Is loaded.machine)) }
-    ensures default_machine { IfOk result (λ loaded. DefaultUnless (option_map (λ s. s.now) machine.entry) loaded.machine) }
-    ensures input { IfOk result (λ loaded. IfSome (D.files depot.old) (λ held. input_found held (option_map (λ s. s.now) input.entry) ≡ Ok loaded.input.items)) }
-    ensures unnamed { IfOk result (λ loaded. EmptyUnless (option_map (λ s. s.now) input.entry) loaded.input.items) }
-    ensures compiled { IfOk result (λ loaded. IsCompiled (view.program_of program.now.program) counts.now loaded.machine growth loaded.program) }
+    ensures only_reads { OnlyReads (effect_of D.files D.failed_reads D.failed_replaces depot.old depot.new) }
+    ensures loaded { IfOk result (λ loaded. LoadedMachine (view.program_of program.now.program) counts.now growth (D.files depot.old) (option_map (λ s. s.now) machine.entry) (option_map (λ s. s.now) input.entry) (loaded_of loaded)) }
     ensures stops { IfErr result (LaterStops (option_map (λ s. s.now) machine.entry) (option_map (λ s. s.now) input.entry) (effect_of D.files D.failed_reads D.failed_replaces depot.old depot.new)) }
-    ensures reads_never_fall { D.failed_reads depot.old ≤ D.failed_reads depot.new }
-    ensures replaces_never_fall { D.failed_replaces depot.old ≤ D.failed_replaces depot.new }
 {
     match machine_for(alloc, depot, machine) {
         Ok(machine) => load_input(alloc, depot, program, counts, machine, growth, input),
@@ -116,16 +101,9 @@ fn load_profile<D: Depot>(
     growth: u32,
     input: Option<&str>,
 ) -> Result<LoadedFiles, Status>
-    ensures same_files { D.files depot.new ≡ D.files depot.old }
-    ensures profiled { IfOk result (λ _. IfSome (D.files depot.old) (λ held. ProfileStands held (option_map (λ s. s.now) profile.entry))) }
-    ensures machine { IfOk result (λ loaded. IfSome (D.files depot.old) (λ held. machine_found held (option_map (λ s. s.now) machine.entry) ≡ Is loaded.machine)) }
-    ensures default_machine { IfOk result (λ loaded. DefaultUnless (option_map (λ s. s.now) machine.entry) loaded.machine) }
-    ensures input { IfOk result (λ loaded. IfSome (D.files depot.old) (λ held. input_found held (option_map (λ s. s.now) input.entry) ≡ Ok loaded.input.items)) }
-    ensures unnamed { IfOk result (λ loaded. EmptyUnless (option_map (λ s. s.now) input.entry) loaded.input.items) }
-    ensures compiled { IfOk result (λ loaded. CompiledBy (D.files depot.old) (option_map (λ s. s.now) profile.entry) growth (view.program_of program.now.program) loaded.machine loaded.program) }
+    ensures only_reads { OnlyReads (effect_of D.files D.failed_reads D.failed_replaces depot.old depot.new) }
+    ensures loaded { IfOk result (λ loaded. LoadedProfile (view.program_of program.now.program) growth (D.files depot.old) (option_map (λ s. s.now) profile.entry) (option_map (λ s. s.now) machine.entry) (option_map (λ s. s.now) input.entry) (loaded_of loaded)) }
     ensures stops { IfErr result (AfterSource (option_map (λ s. s.now) profile.entry) (option_map (λ s. s.now) machine.entry) (option_map (λ s. s.now) input.entry) (effect_of D.files D.failed_reads D.failed_replaces depot.old depot.new)) }
-    ensures reads_never_fall { D.failed_reads depot.old ≤ D.failed_reads depot.new }
-    ensures replaces_never_fall { D.failed_replaces depot.old ≤ D.failed_replaces depot.new }
 {
     match counts_for(alloc, depot, profile) {
         Ok(counts) => load_machine(alloc, depot, program, &counts, machine, growth, input),
@@ -135,11 +113,9 @@ fn load_profile<D: Depot>(
 
 /// Reads the source, the profile, the machine and the input, each whole before the next, and compiles.
 fn load<D: Depot>(alloc: Global, depot: &mut D, asked: &ExecWords) -> Result<LoadedFiles, Status>
-    ensures same_files { D.files depot.new ≡ D.files depot.old }
+    ensures only_reads { OnlyReads (effect_of D.files D.failed_reads D.failed_replaces depot.old depot.new) }
     ensures loaded { IfOk result (λ loaded. Prepared (execution_of asked.now) (effect_of D.files D.failed_reads D.failed_replaces depot.old depot.new) (loaded_of loaded)) }
     ensures stops { IfErr result (StopsBefore (execution_of asked.now) (effect_of D.files D.failed_reads D.failed_replaces depot.old depot.new)) }
-    ensures reads_never_fall { D.failed_reads depot.old ≤ D.failed_reads depot.new }
-    ensures replaces_never_fall { D.failed_replaces depot.old ≤ D.failed_replaces depot.new }
 {
     match read_through(alloc, depot, asked.run.file) {
         Ok(program) => load_profile(
@@ -166,14 +142,7 @@ fn execute<D: Depot, K: Sink, E: Sink>(
     probes: Vec<Box<dyn Probe>>,
 ) -> Status
     requires wanted { 0 < length probes.items → is_some asked.now.run.probe ≡ true }
-    ensures same_files { D.files depot.new ≡ D.files depot.old }
-    ensures answers { ExecutionAnswers (execution_of asked.now) (effect_of D.files D.failed_reads D.failed_replaces depot.old depot.new) (streams_of K.told K.faults E.told E.faults out.old out.new err.old err.new) result (record { times = times timing; watches = map (λ b. watch b) probes.items }) }
-    ensures line { TellsRun (streams_of K.told K.faults E.told E.faults out.old out.new err.old err.new) result }
-    ensures adds { Adds (E.told err.old) (E.told err.new) (E.faults err.old) (E.faults err.new) }
-    ensures nothing { is_of_run result ≡ false → K.told out.new ≡ K.told out.old }
-    ensures reads_never_fall { D.failed_reads depot.old ≤ D.failed_reads depot.new }
-    ensures replaces_never_fall { D.failed_replaces depot.old ≤ D.failed_replaces depot.new }
-    ensures out_never_falls { K.faults out.old ≤ K.faults out.new }
+    ensures { ExecutionPerformed (execution_of asked.now) (record { times = times timing; watches = map (λ b. watch b) probes.items }) (effect_of D.files D.failed_reads D.failed_replaces depot.old depot.new) (streams_of K.told K.faults E.told E.faults out.old out.new err.old err.new) result }
 {
     match load(alloc, depot, asked) {
         Ok(loaded) => run_loaded(
@@ -200,13 +169,7 @@ pub(crate) fn execute_with<D: Depot, K: Sink, E: Sink>(
     probes: Vec<Box<dyn Probe>>,
     timings: Vec<Box<dyn Timing>>,
 ) -> Status
-    ensures answers { ExecAnswers (execution_of asked.now) (boxes_of called watch named times probes.items timings.items) (effect_of D.files D.failed_reads D.failed_replaces depot.old depot.new) (streams_of K.told K.faults E.told E.faults out.old out.new err.old err.new) result }
-    ensures line { TellsLine (Some (Execute (execution_of asked.now))) (boxes_of called watch named times probes.items timings.items) (streams_of K.told K.faults E.told E.faults out.old out.new err.old err.new) result }
-    ensures adds { Adds (E.told err.old) (E.told err.new) (E.faults err.old) (E.faults err.new) }
-    ensures nothing { is_of_run result ≡ false → K.told out.new ≡ K.told out.old }
-    ensures reads_never_fall { D.failed_reads depot.old ≤ D.failed_reads depot.new }
-    ensures replaces_never_fall { D.failed_replaces depot.old ≤ D.failed_replaces depot.new }
-    ensures out_never_falls { K.faults out.old ≤ K.faults out.new }
+    ensures { Performed (Some (Execute (execution_of asked.now))) (boxes_of called watch named times probes.items timings.items) (effect_of D.files D.failed_reads D.failed_replaces depot.old depot.new) (streams_of K.told K.faults E.told E.faults out.old out.new err.old err.new) result }
 {
     let timing = match timing_of(timings, asked.run.timing) {
         Some(timing) => timing,

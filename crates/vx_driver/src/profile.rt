@@ -5,10 +5,13 @@ ghost use Rattle.std.specs.Prelude.{◌≡◌, ◌⊎◌, ◌≤◌, true, false
 ghost use Rattle.vx_base.specs.Outside.{PutsFront, Rose, with_bytes};
 ghost use Rattle.vx_ast.specs.View as view;
 ghost use Rattle.vx_files.specs.Effects.{effect_of, InputAnswers};
+ghost use Rattle.vx_command.specs.Command.{Count};
 ghost use Rattle.vx_command.specs.Asked.{profiling_of};
 ghost use Rattle.vx_status.specs.Status.{Adds, Tells, status_line};
+ghost use Rattle.vx_runs.specs.Boxes.{Boxes};
 ghost use Rattle.vx_runs.specs.Simulated.{is_of_run, streams_of};
-ghost use Rattle.vx_driver.specs.Counted.{ProfilingAnswers};
+ghost use Rattle.vx_driver.specs.Loading.{OnlyReads};
+ghost use Rattle.vx_driver.specs.Performed.{Performed};
 ghost use Rattle.vx_driver.specs.Counting.{IsCounted, CountedOn, CountedFor, PutsText, StopsProfiling};
 
 use std::alloc::Global;
@@ -40,7 +43,9 @@ fn counted(
     ensures { IfOk result (λ counted. IsCounted (view.program_of program.now.program) input.now blocks counted.text.items counted.complete) }
 {
     let flow = flow_of(alloc, program)?;
-    let counted = count(alloc, &flow, input, blocks)?;
+    let counted = count(alloc, &flow, input, blocks);
+    drop(flow);
+    let counted = counted?;
     let text = write_counts(alloc, &counted.counts)?;
     Ok(CountsText {
         text,
@@ -72,11 +77,9 @@ fn count_on<D: Depot>(
     name: Option<&str>,
     blocks: u64,
 ) -> Result<CountsText, Status>
-    ensures same_files { D.files depot.new ≡ D.files depot.old }
+    ensures only_reads { OnlyReads (effect_of D.files D.failed_reads D.failed_replaces depot.old depot.new) }
     ensures counted { IfOk result (λ counted. CountedOn (view.program_of program.now.program) (option_map (λ s. s.now) name.entry) blocks (effect_of D.files D.failed_reads D.failed_replaces depot.old depot.new) counted.text.items counted.complete) }
     ensures stops { IfErr result (λ status. (status ≡ Status.NoMemory) ⊎ ((is_some (option_map (λ s. s.now) name.entry) ≡ true) × InputAnswers (option_map (λ s. s.now) name.entry) (effect_of D.files D.failed_reads D.failed_replaces depot.old depot.new) status)) }
-    ensures reads_never_fall { D.failed_reads depot.old ≤ D.failed_reads depot.new }
-    ensures replaces_never_fall { D.failed_replaces depot.old ≤ D.failed_replaces depot.new }
 {
     match input_for(alloc, depot, name) {
         Ok(input) => counted_or(alloc, program, input.as_slice(), blocks),
@@ -90,11 +93,9 @@ fn count_read<D: Depot>(
     depot: &mut D,
     asked: &ProfileWords,
 ) -> Result<CountsText, Status>
-    ensures same_files { D.files depot.new ≡ D.files depot.old }
+    ensures only_reads { OnlyReads (effect_of D.files D.failed_reads D.failed_replaces depot.old depot.new) }
     ensures counted { IfOk result (λ counted. CountedFor (profiling_of asked.now) (effect_of D.files D.failed_reads D.failed_replaces depot.old depot.new) counted.text.items counted.complete) }
     ensures stops { IfErr result (StopsProfiling (profiling_of asked.now) (effect_of D.files D.failed_reads D.failed_replaces depot.old depot.new)) }
-    ensures reads_never_fall { D.failed_reads depot.old ≤ D.failed_reads depot.new }
-    ensures replaces_never_fall { D.failed_replaces depot.old ≤ D.failed_replaces depot.new }
 {
     match read_through(alloc, depot, asked.source) {
         Ok(program) => count_on(alloc, depot, &program, asked.input, asked.blocks),
@@ -139,13 +140,7 @@ pub(crate) fn profile<D: Depot, K: Sink, E: Sink>(
     err: &mut E,
     asked: &ProfileWords,
 ) -> Status
-    ensures answers { ProfilingAnswers (profiling_of asked.now) (effect_of D.files D.failed_reads D.failed_replaces depot.old depot.new) (streams_of K.told K.faults E.told E.faults out.old out.new err.old err.new) result }
-    ensures tells { Tells (status_line result) (E.told err.old) (E.told err.new) (E.faults err.old) (E.faults err.new) }
-    ensures adds { Adds (E.told err.old) (E.told err.new) (E.faults err.old) (E.faults err.new) }
-    ensures nothing { is_of_run result ≡ false → K.told out.new ≡ K.told out.old }
-    ensures reads_never_fall { D.failed_reads depot.old ≤ D.failed_reads depot.new }
-    ensures replaces_never_fall { D.failed_replaces depot.old ≤ D.failed_replaces depot.new }
-    ensures out_never_falls { K.faults out.old ≤ K.faults out.new }
+    ensures { ((boxes : Boxes) → Performed (Some (Count (profiling_of asked.now))) boxes (effect_of D.files D.failed_reads D.failed_replaces depot.old depot.new) (streams_of K.told K.faults E.told E.faults out.old out.new err.old err.new) result) }
 {
     match count_read(alloc, depot, asked) {
         Ok(counted) => put_counts(out, err, &counted),

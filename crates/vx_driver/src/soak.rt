@@ -8,14 +8,15 @@ ghost use Rattle.vx_gen.specs.Program.{program_text};
 ghost use Rattle.vx_isa.specs.Sound.{is_sound};
 ghost use Rattle.vx_sim.specs.Ran.{is_fault};
 ghost use Rattle.vx_sim.specs.declared.ended.Ended.TheVariants.{Halted};
-ghost use Rattle.vx_files.specs.Effects.{Effect, SameFiles};
+ghost use Rattle.vx_files.specs.Effects.{Effect};
 ghost use Rattle.vx_command.specs.Asked.{soaking_of};
 ghost use Rattle.vx_runs.specs.Boxes.{ProbeBox, timing_boxes};
 ghost use Rattle.vx_command.specs.Command.{Soak};
-ghost use Rattle.vx_runs.specs.Lines.{TellsLine};
 ghost use Rattle.vx_runs.specs.Ending.{loaded_of};
 ghost use Rattle.vx_runs.specs.Simulated.{streams_of, with_input};
-ghost use Rattle.vx_driver.specs.Soaked.{SoakAnswers, SoakedAnswers, byte_sum, puts_summary};
+ghost use Rattle.vx_driver.specs.Soaked.{SoakedAnswers, byte_sum, puts_summary};
+ghost use Rattle.vx_driver.specs.Loading.{OnlyReads};
+ghost use Rattle.vx_driver.specs.Performed.{Performed};
 ghost use Rattle.vx_driver.specs.SoakSteps.{IsMade, IsMadeFrom, PutsEnd, RunEndsSo, SoakRan, line_of};
 ghost use Rattle.vx_status.specs.Status.{Adds, Tells, counted, status_line};
 
@@ -271,11 +272,7 @@ pub(crate) fn soak<K: Sink, E: Sink>(
     asked: &SoakWords,
     timings: Vec<Box<dyn Timing>>,
 ) -> Status
-    ensures answers { ((e : Effect) (probes : List ProbeBox) → SameFiles e → SoakAnswers (soaking_of asked.now) (record { probes = probes; timings = timing_boxes named times timings.items }) e (streams_of K.told K.faults E.told E.faults out.old out.new err.old err.new) result) }
-    ensures line { ((probes : List ProbeBox) → TellsLine (Some (Soak (soaking_of asked.now))) (record { probes = probes; timings = timing_boxes named times timings.items }) (streams_of K.told K.faults E.told E.faults out.old out.new err.old err.new) result) }
-    ensures adds { Adds (E.told err.old) (E.told err.new) (E.faults err.old) (E.faults err.new) }
-    ensures nothing { puts_summary result ≡ false → K.told out.new ≡ K.told out.old }
-    ensures out_never_falls { K.faults out.old ≤ K.faults out.new }
+    ensures { ((e : Effect) (probes : List ProbeBox) → OnlyReads e → Performed (Some (Soak (soaking_of asked.now))) (record { probes = probes; timings = timing_boxes named times timings.items }) e (streams_of K.told K.faults E.told E.faults out.old out.new err.old err.new) result) }
 {
     match timing_of(timings, TIMING) {
         Some(timing) => soak_with(alloc, out, err, asked, timing),

@@ -1,12 +1,14 @@
 // The top call: from the words of a command line to its answer.
 
 ghost use Rattle.std.specs.Prelude.{◌≡◌, ◌≤◌, ◌∷◌, ℕ, List, Option, false, map, string_bytes, IfOk};
-ghost use Rattle.vx_status.specs.Status.{Appends, Adds, Tells, status_line};
+ghost use Rattle.vx_status.specs.Status.{Appends, Tells, status_line};
 ghost use Rattle.vx_command.specs.Command.{command_of, command_named, is_command, names_command, compile_of, sim_of, exec_of, profile_of, soak_of};
-ghost use Rattle.vx_files.specs.Effects.{effect_of};
-ghost use Rattle.vx_runs.specs.Simulated.{Streams, streams_of};
-ghost use Rattle.vx_runs.specs.Boxes.{Boxes, boxes_of};
+ghost use Rattle.vx_files.specs.Effects.{Effect, effect_of};
+ghost use Rattle.vx_runs.specs.Simulated.{streams_of};
+ghost use Rattle.vx_runs.specs.Boxes.{Boxes, ProbeBox, boxes_of, timing_boxes};
 ghost use Rattle.vx_driver.specs.Commands.{Answers, Completes, puts_output};
+ghost use Rattle.vx_driver.specs.Performed.{IsNamed, Performed, PerformedAs};
+ghost use Rattle.vx_driver.specs.Loading.{OnlyReads};
 ghost use Rattle.vx_runs.specs.Lines.{TellsLine};
 
 use crate::compiling::compile;
@@ -44,11 +46,7 @@ fn perform_compile<D: Depot, E: Sink>(
     depot: &mut D,
     err: &mut E,
 ) -> Status
-    ensures answers { ((boxes : Boxes) (streams : Streams) → Answers (compile_of (map (λ w. w.now) words.now)) boxes (effect_of D.files D.failed_reads D.failed_replaces depot.old depot.new) streams result) }
-    ensures line { ((boxes : Boxes) (before after : Option (List ℕ)) (faults faults' : ℕ) → TellsLine (compile_of (map (λ w. w.now) words.now)) boxes (record { out_before = before; out_after = after; out_faults_before = faults; out_faults_after = faults'; err_before = E.told err.old; err_after = E.told err.new; err_faults_before = E.faults err.old; err_faults_after = E.faults err.new }) result) }
-    ensures adds { Adds (E.told err.old) (E.told err.new) (E.faults err.old) (E.faults err.new) }
-    ensures reads_never_fall { D.failed_reads depot.old ≤ D.failed_reads depot.new }
-    ensures replaces_never_fall { D.failed_replaces depot.old ≤ D.failed_replaces depot.new }
+    ensures { ((boxes : Boxes) (told : Option (List ℕ)) (faults : ℕ) → Performed (compile_of (map (λ w. w.now) words.now)) boxes (effect_of D.files D.failed_reads D.failed_replaces depot.old depot.new) (record { out_before = told; out_after = told; out_faults_before = faults; out_faults_after = faults; err_before = E.told err.old; err_after = E.told err.new; err_faults_before = E.faults err.old; err_faults_after = E.faults err.new }) result) }
 {
     match compile_asked(alloc, words) {
         Ok(asked) => {
@@ -69,13 +67,7 @@ fn perform_sim<D: Depot, K: Sink, E: Sink>(
     probes: Vec<Box<dyn Probe>>,
     timings: Vec<Box<dyn Timing>>,
 ) -> Status
-    ensures answers { Answers (sim_of (map (λ w. w.now) words.now)) (boxes_of called watch named times probes.items timings.items) (effect_of D.files D.failed_reads D.failed_replaces depot.old depot.new) (streams_of K.told K.faults E.told E.faults out.old out.new err.old err.new) result }
-    ensures line { TellsLine (sim_of (map (λ w. w.now) words.now)) (boxes_of called watch named times probes.items timings.items) (streams_of K.told K.faults E.told E.faults out.old out.new err.old err.new) result }
-    ensures adds { Adds (E.told err.old) (E.told err.new) (E.faults err.old) (E.faults err.new) }
-    ensures nothing { puts_output (sim_of (map (λ w. w.now) words.now)) result ≡ false → K.told out.new ≡ K.told out.old }
-    ensures reads_never_fall { D.failed_reads depot.old ≤ D.failed_reads depot.new }
-    ensures replaces_never_fall { D.failed_replaces depot.old ≤ D.failed_replaces depot.new }
-    ensures out_never_falls { K.faults out.old ≤ K.faults out.new }
+    ensures { Performed (sim_of (map (λ w. w.now) words.now)) (boxes_of called watch named times probes.items timings.items) (effect_of D.files D.failed_reads D.failed_replaces depot.old depot.new) (streams_of K.told K.faults E.told E.faults out.old out.new err.old err.new) result }
 {
     match sim_asked(alloc, words) {
         Ok(asked) => simulate_with(alloc, depot, out, err, &asked, probes, timings),
@@ -93,13 +85,7 @@ fn perform_exec<D: Depot, K: Sink, E: Sink>(
     probes: Vec<Box<dyn Probe>>,
     timings: Vec<Box<dyn Timing>>,
 ) -> Status
-    ensures answers { Answers (exec_of (map (λ w. w.now) words.now)) (boxes_of called watch named times probes.items timings.items) (effect_of D.files D.failed_reads D.failed_replaces depot.old depot.new) (streams_of K.told K.faults E.told E.faults out.old out.new err.old err.new) result }
-    ensures line { TellsLine (exec_of (map (λ w. w.now) words.now)) (boxes_of called watch named times probes.items timings.items) (streams_of K.told K.faults E.told E.faults out.old out.new err.old err.new) result }
-    ensures adds { Adds (E.told err.old) (E.told err.new) (E.faults err.old) (E.faults err.new) }
-    ensures nothing { puts_output (exec_of (map (λ w. w.now) words.now)) result ≡ false → K.told out.new ≡ K.told out.old }
-    ensures reads_never_fall { D.failed_reads depot.old ≤ D.failed_reads depot.new }
-    ensures replaces_never_fall { D.failed_replaces depot.old ≤ D.failed_replaces depot.new }
-    ensures out_never_falls { K.faults out.old ≤ K.faults out.new }
+    ensures { Performed (exec_of (map (λ w. w.now) words.now)) (boxes_of called watch named times probes.items timings.items) (effect_of D.files D.failed_reads D.failed_replaces depot.old depot.new) (streams_of K.told K.faults E.told E.faults out.old out.new err.old err.new) result }
 {
     match exec_asked(alloc, words) {
         Ok(asked) => execute_with(alloc, depot, out, err, &asked, probes, timings),
@@ -115,13 +101,7 @@ fn perform_profile<D: Depot, K: Sink, E: Sink>(
     out: &mut K,
     err: &mut E,
 ) -> Status
-    ensures answers { ((boxes : Boxes) → Answers (profile_of (map (λ w. w.now) words.now)) boxes (effect_of D.files D.failed_reads D.failed_replaces depot.old depot.new) (streams_of K.told K.faults E.told E.faults out.old out.new err.old err.new) result) }
-    ensures line { ((boxes : Boxes) → TellsLine (profile_of (map (λ w. w.now) words.now)) boxes (streams_of K.told K.faults E.told E.faults out.old out.new err.old err.new) result) }
-    ensures adds { Adds (E.told err.old) (E.told err.new) (E.faults err.old) (E.faults err.new) }
-    ensures nothing { puts_output (profile_of (map (λ w. w.now) words.now)) result ≡ false → K.told out.new ≡ K.told out.old }
-    ensures reads_never_fall { D.failed_reads depot.old ≤ D.failed_reads depot.new }
-    ensures replaces_never_fall { D.failed_replaces depot.old ≤ D.failed_replaces depot.new }
-    ensures out_never_falls { K.faults out.old ≤ K.faults out.new }
+    ensures { ((boxes : Boxes) → Performed (profile_of (map (λ w. w.now) words.now)) boxes (effect_of D.files D.failed_reads D.failed_replaces depot.old depot.new) (streams_of K.told K.faults E.told E.faults out.old out.new err.old err.new) result) }
 {
     match profile_asked(alloc, words) {
         Ok(asked) => profile(alloc, depot, out, err, &asked),
@@ -130,26 +110,48 @@ fn perform_profile<D: Depot, K: Sink, E: Sink>(
 }
 
 /// Does what the words of `soak` ask for, the program's name first, and puts its line or the line of its answer.
-fn perform_soak<D: Depot, K: Sink, E: Sink>(
+fn perform_soak<K: Sink, E: Sink>(
     alloc: Global,
     words: &[&str],
-    depot: &mut D,
     out: &mut K,
     err: &mut E,
-    probes: Vec<Box<dyn Probe>>,
     timings: Vec<Box<dyn Timing>>,
 ) -> Status
-    ensures answers { Answers (soak_of (map (λ w. w.now) words.now)) (boxes_of called watch named times probes.items timings.items) (effect_of D.files D.failed_reads D.failed_replaces depot.old depot.new) (streams_of K.told K.faults E.told E.faults out.old out.new err.old err.new) result }
-    ensures line { TellsLine (soak_of (map (λ w. w.now) words.now)) (boxes_of called watch named times probes.items timings.items) (streams_of K.told K.faults E.told E.faults out.old out.new err.old err.new) result }
-    ensures adds { Adds (E.told err.old) (E.told err.new) (E.faults err.old) (E.faults err.new) }
-    ensures nothing { puts_output (soak_of (map (λ w. w.now) words.now)) result ≡ false → K.told out.new ≡ K.told out.old }
-    ensures reads_never_fall { D.failed_reads depot.old ≤ D.failed_reads depot.new }
-    ensures replaces_never_fall { D.failed_replaces depot.old ≤ D.failed_replaces depot.new }
-    ensures out_never_falls { K.faults out.old ≤ K.faults out.new }
+    ensures { ((e : Effect) (probes : List ProbeBox) → OnlyReads e → Performed (soak_of (map (λ w. w.now) words.now)) (record { probes = probes; timings = timing_boxes named times timings.items }) e (streams_of K.told K.faults E.told E.faults out.old out.new err.old err.new) result) }
 {
     match soak_asked(alloc, words) {
         Ok(asked) => soak(alloc, out, err, &asked, timings),
         Err(refused) => refuse(err, &refused),
+    }
+}
+
+/// The command that a word names, or that it names none.
+#[derive(Clone, Copy)]
+pub(crate) enum Named {
+    Compile,
+    Sim,
+    Exec,
+    Profile,
+    Soak,
+    Nothing,
+}
+
+/// What a word names.
+fn lookup(name: &str) -> Named
+    ensures { IsNamed name.now result }
+{
+    if name == "compile" {
+        Named::Compile
+    } else if name == "sim" {
+        Named::Sim
+    } else if name == "exec" {
+        Named::Exec
+    } else if name == "profile" {
+        Named::Profile
+    } else if name == "soak" {
+        Named::Soak
+    } else {
+        Named::Nothing
     }
 }
 
@@ -164,27 +166,15 @@ fn perform_named<D: Depot, K: Sink, E: Sink>(
     probes: Vec<Box<dyn Probe>>,
     timings: Vec<Box<dyn Timing>>,
 ) -> Status
-    ensures answers { Answers (command_named name.now (map (λ w. w.now) words.now)) (boxes_of called watch named times probes.items timings.items) (effect_of D.files D.failed_reads D.failed_replaces depot.old depot.new) (streams_of K.told K.faults E.told E.faults out.old out.new err.old err.new) result }
-    ensures line { TellsLine (command_named name.now (map (λ w. w.now) words.now)) (boxes_of called watch named times probes.items timings.items) (streams_of K.told K.faults E.told E.faults out.old out.new err.old err.new) result }
-    ensures no_command { is_command name.now ≡ false → Tells (status_line result) (E.told err.old) (E.told err.new) (E.faults err.old) (E.faults err.new) }
-    ensures adds { Adds (E.told err.old) (E.told err.new) (E.faults err.old) (E.faults err.new) }
-    ensures nothing { puts_output (command_named name.now (map (λ w. w.now) words.now)) result ≡ false → K.told out.new ≡ K.told out.old }
-    ensures reads_never_fall { D.failed_reads depot.old ≤ D.failed_reads depot.new }
-    ensures replaces_never_fall { D.failed_replaces depot.old ≤ D.failed_replaces depot.new }
-    ensures out_never_falls { K.faults out.old ≤ K.faults out.new }
+    ensures { PerformedAs (is_command name.now) (command_named name.now (map (λ w. w.now) words.now)) (boxes_of called watch named times probes.items timings.items) (effect_of D.files D.failed_reads D.failed_replaces depot.old depot.new) (streams_of K.told K.faults E.told E.faults out.old out.new err.old err.new) result }
 {
-    if name == "compile" {
-        perform_compile(alloc, words, depot, err)
-    } else if name == "sim" {
-        perform_sim(alloc, words, depot, out, err, probes, timings)
-    } else if name == "exec" {
-        perform_exec(alloc, words, depot, out, err, probes, timings)
-    } else if name == "profile" {
-        perform_profile(alloc, words, depot, out, err)
-    } else if name == "soak" {
-        perform_soak(alloc, words, depot, out, err, probes, timings)
-    } else {
-        tell(err, Status::Usage)
+    match lookup(name) {
+        Named::Compile => perform_compile(alloc, words, depot, err),
+        Named::Sim => perform_sim(alloc, words, depot, out, err, probes, timings),
+        Named::Exec => perform_exec(alloc, words, depot, out, err, probes, timings),
+        Named::Profile => perform_profile(alloc, words, depot, out, err),
+        Named::Soak => perform_soak(alloc, words, out, err, timings),
+        Named::Nothing => tell(err, Status::Usage),
     }
 }
 
@@ -198,15 +188,7 @@ fn perform<D: Depot, K: Sink, E: Sink>(
     probes: Vec<Box<dyn Probe>>,
     timings: Vec<Box<dyn Timing>>,
 ) -> Status
-    ensures answers { Answers (command_of (map string_bytes words.now)) (boxes_of called watch named times probes.items timings.items) (effect_of D.files D.failed_reads D.failed_replaces depot.old depot.new) (streams_of K.told K.faults E.told E.faults out.old out.new err.old err.new) result }
-    ensures line { TellsLine (command_of (map string_bytes words.now)) (boxes_of called watch named times probes.items timings.items) (streams_of K.told K.faults E.told E.faults out.old out.new err.old err.new) result }
-
-    ensures nothing_on_out { puts_output (command_of (map string_bytes words.now)) result ≡ false → K.told out.new ≡ K.told out.old }
-    ensures no_command { names_command (map string_bytes words.now) ≡ false → Tells (status_line result) (E.told err.old) (E.told err.new) (E.faults err.old) (E.faults err.new) }
-    ensures adds { Adds (E.told err.old) (E.told err.new) (E.faults err.old) (E.faults err.new) }
-    ensures reads_never_fall { D.failed_reads depot.old ≤ D.failed_reads depot.new }
-    ensures replaces_never_fall { D.failed_replaces depot.old ≤ D.failed_replaces depot.new }
-    ensures out_never_falls { K.faults out.old ≤ K.faults out.new }
+    ensures { PerformedAs (names_command (map string_bytes words.now)) (command_of (map string_bytes words.now)) (boxes_of called watch named times probes.items timings.items) (effect_of D.files D.failed_reads D.failed_replaces depot.old depot.new) (streams_of K.told K.faults E.told E.faults out.old out.new err.old err.new) result }
 {
     match words {
         [program, name, others @ ..] => match without_name(alloc, program, others) {

@@ -1,14 +1,13 @@
 -- Compiled words are sound, and so have a text.
+use Rattle.std.proofs.lemmas.Result.{IfOk-weaker}
+use Rattle.vx_driver.proofs.Answering.{both_ok}
 use Rattle.vx_driver.proofs.compiling.texts_of.Goals as goal
 
-pub write-requires : goal.write-requires
-write-requires c = c.in_ok-compiled.ensures.sound
+pub texts_in-requires : goal.texts_in-requires
+texts_in-requires c = c.in_ok-compiled.ensures.sound
 
 pub returns : goal.returns
-returns c = record {
-  words = c.in_ok-compiled.compiled.words;
-  plan = c.in_ok-compiled.compiled.plan;
-  compiled = c.in_ok-compiled.ensures;
-  spells = c.in_ok-words.ensures;
-  reports = c.in_ok-report.ensures;
-}
+returns c =
+    IfOk-weaker c.texts_in.result _ _
+    (λ texts is. record { words = c.in_ok-compiled.compiled.words; plan = c.in_ok-compiled.compiled.plan; compiled = c.in_ok-compiled.ensures; spells = is.0; reports = is.1 })
+    (both_ok c.texts_in.result _ _ c.texts_in.ensures.words c.texts_in.ensures.report)

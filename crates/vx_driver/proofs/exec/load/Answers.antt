@@ -5,14 +5,21 @@ use Rattle.vx_ast.specs.View.{program_of}
 use Rattle.vx_files.specs.Effects.{effect_of}
 use Rattle.vx_command.specs.Asked.{execution_of}
 use Rattle.vx_runs.specs.Ending.{loaded_of}
-use Rattle.vx_driver.proofs.Executing.{after_source, prepared, both_ok}
+use Rattle.vx_driver.proofs.Executing.{after_source, prepared}
+use Rattle.vx_driver.proofs.Loading.{read_on}
 use Rattle.vx_driver.proofs.exec.load.Goals as goal
+
+pub returns-in-Ok-clause-only_reads : goal.returns-in-Ok-clause-only_reads
+returns-in-Ok-clause-only_reads g c = read_on _ _ _ _ _ _ _ _ _ c.in-Ok.ensures.same_files c.in-Ok.ensures.reads_never_fall c.in-Ok.ensures.replaces_never_fall c.load_profile.ensures.only_reads
+
+pub returns-in-Err-clause-only_reads : goal.returns-in-Err-clause-only_reads
+returns-in-Err-clause-only_reads g c = record { files = c.in-Err.ensures.same_files; reads = c.in-Err.ensures.reads_never_fall; replaces = c.in-Err.ensures.replaces_never_fall }
 
 pub returns-in-Ok-clause-loaded : goal.returns-in-Ok-clause-loaded
 returns-in-Ok-clause-loaded g c =
     let depot = g.D.Depot in
     IfOk-weaker c.load_profile.result _ _
-    (λ loaded facts. prepared (execution_of c.args.asked.now) (program_of c.in-Ok.program.program) (loaded_of loaded)
+    (λ loaded is. prepared (execution_of c.args.asked.now) (program_of c.in-Ok.program.program) (loaded_of loaded)
     (effect_of depot.files depot.failed_reads depot.failed_replaces c.read_through.new.depot c.load_profile.new.depot)
     (effect_of depot.files depot.failed_reads depot.failed_replaces c.args.depot.now c.load_profile.new.depot)
     (record {
@@ -22,8 +29,8 @@ returns-in-Ok-clause-loaded g c =
       reads_after = refl;
       replaces = c.in-Ok.ensures.replaces_never_fall;
       replaces_after = refl;
-    }) c.in-Ok.ensures.program facts.0 facts.1.0 facts.1.1.0 facts.1.1.1.0 (record { machine_is = facts.1.1.1.1.0; input_is = facts.1.1.1.1.1 }))
-    (both_ok c.load_profile.result _ _ c.load_profile.ensures.profiled (both_ok c.load_profile.result _ _ c.load_profile.ensures.machine (both_ok c.load_profile.result _ _ c.load_profile.ensures.input (both_ok c.load_profile.result _ _ c.load_profile.ensures.compiled (both_ok c.load_profile.result _ _ c.load_profile.ensures.default_machine c.load_profile.ensures.unnamed)))))
+    }) c.in-Ok.ensures.program is)
+    c.load_profile.ensures.loaded
 
 pub returns-in-Ok-clause-stops : goal.returns-in-Ok-clause-stops
 returns-in-Ok-clause-stops g c =

@@ -1,26 +1,26 @@
 -- The machine was read before the input, and reading it changed no file.
-use Rattle.std.proofs.Common.{◌≡◌, Ok, IfSome, refl, sym, subst, option_map}
+use Rattle.std.proofs.Common.{refl, sym, option_map}
 use Rattle.std.proofs.lemmas.Result.{IfErr-weaker, IfOk-weaker}
+use Rattle.vx_ast.specs.View.{program_of}
 use Rattle.vx_files.specs.Effects.{effect_of}
-use Rattle.vx_files.specs.Held.{machine_found, Is, DefaultUnless, input_found}
+use Rattle.vx_runs.specs.Ending.{loaded_of}
 use Rattle.vx_runs.proofs.FileSteps.{still_some}
 use Rattle.vx_driver.proofs.Executing.{later_input, later_machine}
+use Rattle.vx_driver.proofs.Loading.{machine_loaded, read_on}
 use Rattle.vx_driver.proofs.exec.load_machine.Goals as goal
 
-pub returns-in-Ok-clause-machine : goal.returns-in-Ok-clause-machine
-returns-in-Ok-clause-machine g c =
-    IfOk-weaker c.load_input.result _ _
-    (λ loaded same. subst (λ m. IfSome (g.D.Depot.files c.args.depot.now) (λ held. machine_found held (option_map (λ s. s.now) c.args.machine) ≡ Is m)) (sym same) c.in-Ok.ensures.machine)
-    c.load_input.ensures.machine
+pub returns-in-Ok-clause-only_reads : goal.returns-in-Ok-clause-only_reads
+returns-in-Ok-clause-only_reads g c = read_on _ _ _ _ _ _ _ _ _ c.in-Ok.ensures.same_files c.in-Ok.ensures.reads_never_fall c.in-Ok.ensures.replaces_never_fall c.load_input.ensures.only_reads
 
-pub returns-in-Ok-clause-input : goal.returns-in-Ok-clause-input
-returns-in-Ok-clause-input g c =
-    IfOk-weaker c.load_input.result _ _
-    (λ loaded is. subst (λ b. IfSome b (λ held. input_found held (option_map (λ s. s.now) c.args.input) ≡ Ok loaded.input.items)) c.in-Ok.ensures.same_files is)
-    c.load_input.ensures.input
+pub returns-in-Err-clause-only_reads : goal.returns-in-Err-clause-only_reads
+returns-in-Err-clause-only_reads g c = record { files = c.in-Err.ensures.same_files; reads = c.in-Err.ensures.reads_never_fall; replaces = c.in-Err.ensures.replaces_never_fall }
 
-pub returns-in-Ok-clause-default_machine : goal.returns-in-Ok-clause-default_machine
-returns-in-Ok-clause-default_machine g c = IfOk-weaker c.load_input.result _ _ (λ loaded same. subst (DefaultUnless (option_map (λ s. s.now) c.args.machine)) (sym same) c.in-Ok.ensures.default_machine) c.load_input.ensures.machine
+pub returns-in-Ok-clause-loaded : goal.returns-in-Ok-clause-loaded
+returns-in-Ok-clause-loaded g c =
+    IfOk-weaker c.load_input.result _ _
+    (λ loaded is. machine_loaded (program_of c.args.program.now.program) c.args.counts.now c.args.growth (loaded_of loaded) (g.D.Depot.files c.args.depot.now) (g.D.Depot.files c.machine_for.new.depot)
+    (option_map (λ s. s.now) c.args.machine) (option_map (λ s. s.now) c.args.input) c.in-Ok.machine c.in-Ok.ensures.same_files c.in-Ok.ensures.machine c.in-Ok.ensures.default_machine is)
+    c.load_input.ensures.loaded
 
 pub returns-in-Ok-clause-stops : goal.returns-in-Ok-clause-stops
 returns-in-Ok-clause-stops g c =

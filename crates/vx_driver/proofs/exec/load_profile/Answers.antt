@@ -1,32 +1,27 @@
 -- The profile was read before the machine, and reading it changed no file.
-use Rattle.std.proofs.Common.{◌≡◌, inl, refl, sym, subst, option_map, IfSome, Ok}
+use Rattle.std.proofs.Common.{inl, refl, sym, option_map}
 use Rattle.std.proofs.lemmas.Result.{IfErr-weaker, IfOk-weaker}
+use Rattle.vx_ast.specs.View.{program_of}
 use Rattle.vx_files.specs.Effects.{effect_of}
-use Rattle.vx_files.specs.Held.{machine_found, Is, input_found}
-use Rattle.vx_driver.proofs.Executing.{after_profile}
-use Rattle.vx_runs.proofs.FileSteps.{still_some}
 use Rattle.vx_files.proofs.ProfileFile.{stands}
+use Rattle.vx_runs.specs.Ending.{loaded_of}
+use Rattle.vx_runs.proofs.FileSteps.{still_some}
+use Rattle.vx_driver.proofs.Executing.{after_profile}
+use Rattle.vx_driver.proofs.Loading.{profile_loaded, read_on}
 use Rattle.vx_driver.proofs.exec.load_profile.Goals as goal
 
-pub returns-in-Ok-clause-profiled : goal.returns-in-Ok-clause-profiled
-returns-in-Ok-clause-profiled g c =
-    IfOk-weaker c.load_machine.result _ _ (λ loaded is. stands (option_map (λ s. s.now) c.args.profile) (g.D.Depot.files c.args.depot.now) c.in-Ok.counts c.in-Ok.ensures.counts) c.load_machine.ensures.machine
+pub returns-in-Ok-clause-only_reads : goal.returns-in-Ok-clause-only_reads
+returns-in-Ok-clause-only_reads g c = read_on _ _ _ _ _ _ _ _ _ c.in-Ok.ensures.same_files c.in-Ok.ensures.reads_never_fall c.in-Ok.ensures.replaces_never_fall c.load_machine.ensures.only_reads
 
-pub returns-in-Ok-clause-machine : goal.returns-in-Ok-clause-machine
-returns-in-Ok-clause-machine g c =
+pub returns-in-Err-clause-only_reads : goal.returns-in-Err-clause-only_reads
+returns-in-Err-clause-only_reads g c = record { files = c.in-Err.ensures.same_files; reads = c.in-Err.ensures.reads_never_fall; replaces = c.in-Err.ensures.replaces_never_fall }
+
+pub returns-in-Ok-clause-loaded : goal.returns-in-Ok-clause-loaded
+returns-in-Ok-clause-loaded g c =
     IfOk-weaker c.load_machine.result _ _
-    (λ loaded is. subst (λ b. IfSome b (λ held. machine_found held (option_map (λ s. s.now) c.args.machine) ≡ Is loaded.machine)) c.in-Ok.ensures.same_files is)
-    c.load_machine.ensures.machine
-
-pub returns-in-Ok-clause-input : goal.returns-in-Ok-clause-input
-returns-in-Ok-clause-input g c =
-    IfOk-weaker c.load_machine.result _ _
-    (λ loaded is. subst (λ b. IfSome b (λ held. input_found held (option_map (λ s. s.now) c.args.input) ≡ Ok loaded.input.items)) c.in-Ok.ensures.same_files is)
-    c.load_machine.ensures.input
-
-pub returns-in-Ok-clause-compiled : goal.returns-in-Ok-clause-compiled
-returns-in-Ok-clause-compiled g c =
-    IfOk-weaker c.load_machine.result _ _ (λ loaded is. record { counts = c.in-Ok.counts; counted = c.in-Ok.ensures.counts; plan = is.plan; compiled = is.compiled }) c.load_machine.ensures.compiled
+    (λ loaded is. profile_loaded (program_of c.args.program.now.program) c.in-Ok.counts c.args.growth (loaded_of loaded) (g.D.Depot.files c.args.depot.now) (g.D.Depot.files c.counts_for.new.depot)
+    (option_map (λ s. s.now) c.args.profile) (option_map (λ s. s.now) c.args.machine) (option_map (λ s. s.now) c.args.input) c.in-Ok.ensures.same_files c.in-Ok.ensures.counts is)
+    c.load_machine.ensures.loaded
 
 pub returns-in-Ok-clause-stops : goal.returns-in-Ok-clause-stops
 returns-in-Ok-clause-stops g c =

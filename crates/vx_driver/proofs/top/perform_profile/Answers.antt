@@ -1,17 +1,10 @@
 -- What the words ask for is done, or they are refused.
 use Rattle.std.proofs.Common.{refl}
-use Rattle.vx_driver.proofs.Boxed.{refused_answers}
-use Rattle.vx_runs.proofs.Telling.{refused_line}
+use Rattle.vx_driver.proofs.Performing.{performed_of, performed_refused}
 use Rattle.vx_driver.proofs.top.perform_profile.Goals as goal
 
-pub returns-in-Ok-clause-answers : goal.returns-in-Ok-clause-answers
-returns-in-Ok-clause-answers g c = λ boxes. rw c.in-Ok.ensures.asked c.profile.ensures.answers
+pub returns-in-Ok : goal.returns-in-Ok
+returns-in-Ok g c = λ boxes. performed_of _ boxes _ _ _ _ c.in-Ok.ensures.asked (c.profile.ensures boxes)
 
-pub returns-in-Err-clause-answers : goal.returns-in-Err-clause-answers
-returns-in-Err-clause-answers g c = λ boxes. refused_answers _ boxes _ _ _ refl (rw c.refuse.ensures.same c.in-Err.ensures.refused)
-
-pub returns-in-Ok-clause-line : goal.returns-in-Ok-clause-line
-returns-in-Ok-clause-line g c = λ boxes. rw c.in-Ok.ensures.asked c.profile.ensures.tells
-
-pub returns-in-Err-clause-line : goal.returns-in-Err-clause-line
-returns-in-Err-clause-line g c = λ boxes. refused_line _ boxes _ _ (rw c.refuse.ensures.same c.in-Err.ensures.refused) c.refuse.ensures.tells
+pub returns-in-Err : goal.returns-in-Err
+returns-in-Err g c = λ boxes. performed_refused _ boxes _ _ _ (record { files = refl; reads = refl; replaces = refl; output = refl; faults = refl }) (rw c.refuse.ensures.same c.in-Err.ensures.refused) c.refuse.ensures.tells c.refuse.ensures.adds
