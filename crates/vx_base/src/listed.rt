@@ -92,3 +92,12 @@ impl<T: Drop> Listed<T> {
         }
     }
 }
+
+/// A list of copies of the items of a slice.
+pub fn copied<T: Copy>(alloc: Global, items: &[T]) -> Result<Listed<T>, AllocError>
+    ensures { IfOk result (λ copy. copy ≡ items.now) }
+{
+    let mut copy = Vec::new(alloc);
+    copy.extend_from_slice(items)?;
+    Listed::from_vec(copy)
+}

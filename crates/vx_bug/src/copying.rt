@@ -11,10 +11,11 @@ ghost use Rattle.vx_bug.specs.Laying.{Adds, standing, right_renamed, served_with
 use crate::homes::home_in;
 use crate::naming::{general_reads, written};
 use crate::served::Served;
-use std::alloc::{AllocError, Global};
+use std::alloc::Global;
 use vx_base::arithmetic::Code;
 use vx_base::listed::Listed;
 use vx_base::outcome::NoMemory;
+use vx_flow::copies::copied_op;
 use vx_flow::graph::{Op, Operand, Value};
 use vx_flow::trace::TraceOp;
 
@@ -169,35 +170,8 @@ fn op_here(alloc: Global, site: &Site, op: &TraceOp) -> Result<TraceOp, NoMemory
 {
     match op {
         TraceOp::Plain(plain) => Ok(TraceOp::Plain(plain_here(site, plain)?)),
-        TraceOp::Split { .. } => Ok(copy_op(alloc, op)?),
+        TraceOp::Split { .. } => copied_op(alloc, op),
     }
-}
-
-fn copy_op(alloc: Global, op: &TraceOp) -> Result<TraceOp, AllocError>
-    ensures { IfOk result (λ copy. copy ≡ op.now) }
-{
-    match op {
-        TraceOp::Plain(op) => Ok(TraceOp::Plain(*op)),
-        TraceOp::Split {
-            test,
-            leaves_when,
-            edge,
-            live,
-        } => Ok(TraceOp::Split {
-            test: *test,
-            leaves_when: *leaves_when,
-            edge: *edge,
-            live: copy_list(alloc, live.as_slice())?,
-        }),
-    }
-}
-
-pub(crate) fn copy_list<T: Copy>(alloc: Global, items: &[T]) -> Result<Listed<T>, AllocError>
-    ensures { IfOk result (λ copy. copy ≡ items.now) }
-{
-    let mut copy = Vec::new(alloc);
-    copy.extend_from_slice(items)?;
-    Listed::from_vec(copy)
 }
 
 /// Whether the operation reads copies that are made for it.
@@ -369,7 +343,7 @@ fn stand_with_copies(
         add_served(served, needed.second, site.cluster)?;
         add_served(served, needed.first, site.cluster)
     } else {
-        let op = copy_op(alloc, op)?;
+        let op = copied_op(alloc, op)?;
         put(out, op, site.cluster, fixed)
     }
 }

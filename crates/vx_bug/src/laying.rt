@@ -8,10 +8,10 @@ ghost use Rattle.vx_bug.specs.Copies.{pieces_of, with_copies};
 ghost use Rattle.vx_bug.specs.Ledgers.{homes_in};
 ghost use Rattle.vx_bug.specs.Laying.{IsLaidOne, AreLaid, start_in};
 
-use crate::copying::{Site, Standings, copy_list, stand};
+use crate::copying::{Site, Standings, stand};
 use crate::served::Served;
 use std::alloc::{AllocError, Global};
-use vx_base::listed::Listed;
+use vx_base::listed::{Listed, copied};
 use vx_base::outcome::NoMemory;
 use vx_flow::graph::{Array, BlockId};
 use vx_flow::trace::{Clustered, Join, Trace};
@@ -136,7 +136,7 @@ fn moved_joins(alloc: Global, joins: &[Join], starts: &[u32]) -> Result<Listed<J
                 moved.push(Join {
                     place: start_in(starts, join.place),
                     block: join.block,
-                    edges: copy_list(alloc, join.edges.as_slice())?,
+                    edges: copied(alloc, join.edges.as_slice())?,
                 })?;
                 rest = others;
             }
@@ -151,8 +151,8 @@ fn lists_kept(alloc: Global, trace: &Trace, starts: &[u32]) -> Result<Kept, NoMe
     ensures arrays { IfOk result (λ kept. kept.arrays ≡ trace.now.arrays) }
 {
     let joins = moved_joins(alloc, trace.joins.as_slice(), starts)?;
-    let blocks = copy_list(alloc, trace.blocks.as_slice())?;
-    let arrays = copy_list(alloc, trace.arrays.as_slice())?;
+    let blocks = copied(alloc, trace.blocks.as_slice())?;
+    let arrays = copied(alloc, trace.arrays.as_slice())?;
     Ok(Kept {
         joins,
         blocks,

@@ -6,10 +6,10 @@ ghost use Rattle.vx_clean.specs.LinkTest.{moves};
 
 use crate::link_test::target;
 use std::alloc::Global;
-use vx_base::listed::Listed;
+use vx_base::listed::{Listed, copied};
 use vx_base::outcome::NoMemory;
+use vx_flow::copies::with_blocks;
 use vx_flow::graph::{Block, BlockId, Exit, Graph, Op, Value};
-use vx_shape::copying::{copied_operands, with_blocks};
 
 /// The graph whose blocks are the chains, with each target moved.
 pub fn laid(
@@ -122,7 +122,7 @@ fn moved(alloc: Global, to: &[BlockId], exit: &Exit) -> Result<Exit, NoMemory>
             result,
             next,
         } => {
-            let arguments = copied_operands(alloc, arguments.as_slice())?;
+            let arguments = copied(alloc, arguments.as_slice())?;
             Ok(Exit::Call {
                 function: *function,
                 arguments,

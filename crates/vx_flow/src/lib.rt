@@ -2,6 +2,7 @@
 #![tactic(auto)]
 
 mod closing;
+pub mod copies;
 pub mod graph;
 mod header_blocks;
 pub mod laws;

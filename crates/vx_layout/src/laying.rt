@@ -8,10 +8,10 @@ ghost use Rattle.vx_mixed.specs.Layout.{IsDone, all_words, drain_words, exit_wor
 ghost use Rattle.vx_layout.specs.Laying.{place_in, places_of, starts_of};
 
 use std::alloc::Global;
-use vx_base::listed::Listed;
+use vx_base::listed::{Listed, copied};
 use vx_base::outcome::NoMemory;
+use vx_flow::copies::copied_homes;
 use vx_flow::graph::{BlockId, Exit};
-use vx_mixed::copying::{copied_banks, copied_homes, copied_operands};
 use vx_mixed::layout::{Laid, VWords, VirtualWord};
 use vx_mixed::mixed::MixedGraph;
 use vx_mixed::region::{Item, Node, Region};
@@ -201,7 +201,7 @@ fn push_leave(
             result,
             next,
         } => {
-            let arguments = copied_operands(alloc, arguments.as_slice())?;
+            let arguments = copied(alloc, arguments.as_slice())?;
             let call = VirtualWord::Call {
                 function: *function,
                 arguments,
@@ -385,7 +385,7 @@ pub fn lay_out(alloc: Global, graph: &MixedGraph) -> Result<VWords, NoMemory>
 {
     let places = block_places(alloc, graph)?;
     let words = graph_words(alloc, graph, &places)?;
-    let banks = copied_banks(alloc, graph.banks.as_slice())?;
+    let banks = copied(alloc, graph.banks.as_slice())?;
     let homes = copied_homes(alloc, &graph.homes)?;
     Ok(VWords {
         banks,

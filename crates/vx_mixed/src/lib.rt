@@ -2,7 +2,6 @@
 // to the next keeps, and which values are live in it.
 #![tactic(auto)]
 
-pub mod copying;
 pub mod layout;
 pub mod mixed;
 pub mod nodes;

@@ -12,12 +12,11 @@ ghost use Rattle.vx_mixed.specs.Live.{Live as IsLive};
 ghost use Rattle.vx_mixed.specs.Routes.{behind, exit_route, live_values, node_route, node_routes, off_end, off_ends, region_routes, region_starts, routes, word_route, word_routes};
 ghost use Rattle.vx_mixed.specs.Valid.{Valid};
 
-use crate::copying::copied_values;
 use crate::mixed::MixedGraph;
 use crate::region::{Item, Node, Region};
 use crate::touching::{push_exit, push_ops, push_word};
 use std::alloc::Global;
-use vx_base::listed::Listed;
+use vx_base::listed::{Listed, copied};
 use vx_base::outcome::NoMemory;
 use vx_flow::graph::{Block, BlockId, Exit, Value};
 use vx_flow::live_on;
@@ -38,7 +37,7 @@ pub fn live_at_blocks(alloc: Global, graph: &MixedGraph) -> Result<Live, NoMemor
 pub fn values_at(alloc: Global, live: &Live, block: BlockId) -> Result<Listed<Value>, NoMemory>
     ensures { IfOk result (λ values. values ≡ live_values live.now block) }
 {
-    copied_values(alloc, live.values_at(block))
+    Ok(copied(alloc, live.values_at(block))?)
 }
 
 fn routes_of(alloc: Global, graph: &MixedGraph) -> Result<Listed<Route>, NoMemory>

@@ -21,9 +21,10 @@ use vx_claims::claim::Claim;
 use vx_claims::intervals::Interval;
 use vx_facts::checking::is_number;
 use vx_facts::given::{given_of, is_entry_checked};
+use vx_flow::copies::with_blocks;
 use vx_flow::graph::{Block, Flow, Global as Variable, Graph};
 use vx_search::{Kept, find_claims, find_given};
-use vx_shape::copying::{with_blocks, with_graphs};
+use vx_shape::copying::with_graphs;
 use vx_sound::is_sound;
 
 /// How many sweeps give back what is taken too much.

@@ -9,7 +9,7 @@ ghost use Rattle.vx_narrow.specs.Rewriting.{narrowed_block, narrowed_exit};
 
 use crate::shortening::shortened;
 use std::alloc::Global;
-use vx_base::listed::Listed;
+use vx_base::listed::{Listed, copied};
 use vx_base::outcome::NoMemory;
 use vx_claims::access::{Access, accessed, copied_accesses};
 use vx_claims::claim::{Claim, accesses_in, facts_in};
@@ -20,7 +20,6 @@ use vx_claims::keeping::learn;
 use vx_claims::known::decided;
 use vx_facts::checking::is_left_checked;
 use vx_flow::graph::{Block, Exit, Op};
-use vx_shape::copying::copied_operands;
 
 /// What stands behind the operations of a block.
 #[derive(Drop)]
@@ -78,7 +77,7 @@ fn narrowed_exit(alloc: Global, facts: &[Fact], exit: &Exit) -> Result<Exit, NoM
             result: held,
             next,
         } => {
-            let arguments = copied_operands(alloc, arguments.as_slice())?;
+            let arguments = copied(alloc, arguments.as_slice())?;
             Ok(Exit::Call {
                 function: *function,
                 arguments,

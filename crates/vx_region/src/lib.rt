@@ -3,7 +3,6 @@
 #![tactic(auto)]
 
 pub mod budget;
-mod copying;
 pub mod laws;
 mod made;
 mod owed;

@@ -13,16 +13,16 @@ ghost use Rattle.vx_region.specs.Regions.{IsGraphOf, ReplacesAll, ReplacesOne};
 ghost use Rattle.vx_region.specs.Stepping.{IsNext, IsNextBy, IsOnClusters, OnFinished, OnReplaced};
 
 use crate::budget::Budget;
-use crate::copying::{copied_list, copied_trace};
 use crate::owed::Owed;
 use crate::placed_trace::{PlacedTrace, place_within};
 use crate::trace_plan::TracePlan;
 use std::alloc::Global;
-use vx_base::listed::Listed;
+use vx_base::listed::{Listed, copied};
 use vx_base::outcome::NoMemory;
 use vx_bug::assign;
 use vx_bug::clusters::Clusters;
 use vx_copies::assigned_operations_stand;
+use vx_flow::copies::copied_clustered;
 use vx_flow::graph::BlockId;
 use vx_flow::trace::{Clustered, Homes, Placed};
 use vx_machine::Machine;
@@ -243,17 +243,13 @@ struct PlacedCopy {
     words: Listed<u32>,
 }
 
-fn copied(alloc: Global, placed: &Placed) -> Result<PlacedCopy, NoMemory>
+fn placed_copy(alloc: Global, placed: &Placed) -> Result<PlacedCopy, NoMemory>
     ensures clustered { IfOk result (λ copy. copy.clustered ≡ placed.now.clustered) }
     ensures words { IfOk result (λ copy. copy.words ≡ placed.now.words) }
 {
-    let words = copied_list(alloc, placed.words.as_slice())?;
-    let clusters = copied_list(alloc, placed.clustered.clusters.as_slice())?;
-    let trace = copied_trace(alloc, &placed.clustered.trace)?;
-    Ok(PlacedCopy {
-        clustered: Clustered { trace, clusters },
-        words,
-    })
+    let words = copied(alloc, placed.words.as_slice())?;
+    let clustered = copied_clustered(alloc, &placed.clustered)?;
+    Ok(PlacedCopy { clustered, words })
 }
 
 /// A placed trace for the plan of a region, and its lists once more for what takes the place of its blocks.
@@ -277,7 +273,7 @@ fn placed_twice(
     ensures words { IfOk result (λ x. x.copy.words ≡ x.trace.placed.words) }
 {
     let trace = place_within(alloc, &on.clustered, &on.homes, machine, budget)?;
-    match copied(alloc, &trace.placed) {
+    match placed_copy(alloc, &trace.placed) {
         Ok(copy) => Ok(PlacedTwice { trace, copy }),
         Err(error) => {
             drop(trace);

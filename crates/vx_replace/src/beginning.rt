@@ -8,51 +8,12 @@ ghost use Rattle.vx_mixed.specs.Edges.{edges_from};
 ghost use Rattle.vx_mixed.specs.FromGraph.{binds, bound_by, bound_in, bound_to};
 
 use std::alloc::Global;
-use vx_base::listed::Listed;
+use vx_base::listed::{Listed, copied};
 use vx_base::outcome::NoMemory;
+use vx_flow::copies::copied_block;
 use vx_flow::graph::{Array, Bank, Block, BlockId, Edge, Exit, Graph, Op, Value};
-use vx_mixed::copying::{copied_arrays, copied_banks, copied_operands, copied_ops, copied_values};
 use vx_mixed::nodes::Nodes;
 use vx_mixed::region::{Node, Origin};
-
-/// A copy of an exit.
-fn copied_exit(alloc: Global, exit: &Exit) -> Result<Exit, NoMemory>
-    ensures { IfOk result (λ copy. copy ≡ exit.now) }
-{
-    match exit {
-        Exit::Goto(to) => Ok(Exit::Goto(*to)),
-        Exit::Split { test, yes, no } => Ok(Exit::Split {
-            test: *test,
-            yes: *yes,
-            no: *no,
-        }),
-        Exit::Call {
-            function,
-            arguments,
-            result,
-            next,
-        } => {
-            let arguments = copied_operands(alloc, arguments.as_slice())?;
-            Ok(Exit::Call {
-                function: *function,
-                arguments,
-                result: *result,
-                next: *next,
-            })
-        }
-        Exit::Return(operand) => Ok(Exit::Return(*operand)),
-        Exit::Ends(trap) => Ok(Exit::Ends(*trap)),
-    }
-}
-
-/// A copy of a block.
-fn copied_block(alloc: Global, block: &Block) -> Result<Block, NoMemory>
-    ensures { IfOk result (λ copy. copy ≡ block.now) }
-{
-    let ops = copied_ops(alloc, block.ops.as_slice())?;
-    let exit = copied_exit(alloc, &block.exit)?;
-    Ok(Block { ops, exit })
-}
 
 /// What is made of the blocks of a graph: what stands at their numbers, the edges, and that none was made.
 #[derive(Drop)]
@@ -95,9 +56,9 @@ pub(crate) fn told_values(alloc: Global, graph: &Graph) -> Result<Told, NoMemory
     ensures arrays { IfOk result (λ told. told.arrays ≡ graph.now.arrays) }
 {
     let clusters = start_homes(alloc, graph.banks.len(), graph.blocks.as_slice())?;
-    let banks = copied_banks(alloc, graph.banks.as_slice())?;
-    let parameters = copied_values(alloc, graph.parameters.as_slice())?;
-    let arrays = copied_arrays(alloc, graph.arrays.as_slice())?;
+    let banks = copied(alloc, graph.banks.as_slice())?;
+    let parameters = copied(alloc, graph.parameters.as_slice())?;
+    let arrays = copied(alloc, graph.arrays.as_slice())?;
     Ok(Told {
         clusters,
         banks,

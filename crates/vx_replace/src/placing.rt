@@ -11,11 +11,10 @@ ghost use Rattle.vx_replace.specs.Placing.{bound_behind, drains_behind, freed_be
 use crate::renaming::{new_end, renamed_exit};
 use crate::tracing::unused_at;
 use std::alloc::Global;
-use vx_base::listed::Listed;
+use vx_base::listed::{Listed, copied};
 use vx_base::outcome::NoMemory;
 use vx_flow::graph::{BlockId, Edge, Exit, Op};
 use vx_flow::trace::TraceOp;
-use vx_mixed::copying::copied_values;
 use vx_mixed::mixed::MixedGraph;
 use vx_mixed::region::{Item, Region};
 use vx_mixed::replacement::Replacement;
@@ -32,7 +31,7 @@ pub(crate) fn region_of(
     ensures { IfOk result (λ region. region ≡ new_region graph.now replacement.now) }
 {
     let words = words_of(alloc, graph, replacement)?;
-    let blocks = copied_values(alloc, replacement.trace.blocks.as_slice())?;
+    let blocks = copied(alloc, replacement.trace.blocks.as_slice())?;
     let from = last_of(replacement.trace.blocks.as_slice());
     let last = last_exit(alloc, graph, replacement, from)?;
     Ok(Region {

@@ -7,11 +7,10 @@ ghost use Rattle.vx_flow.specs.Walk.{edge};
 ghost use Rattle.vx_mixed.specs.Next.{made_node, made_on, new_end, nodes_from, rejoin_at, renamed_exit, renamed_node, renamed_region, trace_node, rename};
 
 use std::alloc::Global;
-use vx_base::listed::Listed;
+use vx_base::listed::{Listed, copied};
 use vx_base::outcome::NoMemory;
 use vx_flow::graph::{Block, BlockId, Edge, Exit};
 use vx_flow::trace::Join;
-use vx_mixed::copying::{copied_operands, copied_ops, copied_values};
 use vx_mixed::mixed::MixedGraph;
 use vx_mixed::nodes::Nodes;
 use vx_mixed::region::{Item, Made, Node, Region};
@@ -53,7 +52,7 @@ fn push_made_nodes(alloc: Global, nodes: &mut Nodes, made: &[Made]) -> Result<()
     ensures { IfOk result (λ _. nodes.new ≡ nodes.old ++ map made_node made.now) }
 {
     for block in made {
-        let ops = copied_ops(alloc, block.ops.as_slice())?;
+        let ops = copied(alloc, block.ops.as_slice())?;
         let exit = Exit::Goto(block.edge.to);
         nodes.push(Node::Unused(Block { ops, exit }))?;
     }
@@ -124,7 +123,7 @@ fn renamed_node(
 {
     match node {
         Node::Unused(unused) => {
-            let ops = copied_ops(alloc, unused.ops.as_slice())?;
+            let ops = copied(alloc, unused.ops.as_slice())?;
             let exit = renamed_exit(alloc, graph, replacement, block, &unused.exit)?;
             Ok(Node::Unused(Block { ops, exit }))
         }
@@ -160,7 +159,7 @@ pub(crate) fn renamed_exit(
             result,
             next,
         } => {
-            let arguments = copied_operands(alloc, arguments.as_slice())?;
+            let arguments = copied(alloc, arguments.as_slice())?;
             Ok(Exit::Call {
                 function: *function,
                 arguments,
@@ -229,7 +228,7 @@ fn renamed_region(
     requires { length graph.now.nodes + length replacement.now.made < 2 ^ 32 }
     ensures { IfOk result (λ after. after ≡ renamed_region (new_end graph.now replacement.now.made) region.now) }
 {
-    let blocks = copied_values(alloc, region.blocks.as_slice())?;
+    let blocks = copied(alloc, region.blocks.as_slice())?;
     let words = renamed_words(alloc, graph, replacement, region.words.as_slice())?;
     let last = renamed_exit(alloc, graph, replacement, region.from, &region.last)?;
     Ok(Region {

@@ -13,12 +13,11 @@ ghost use Rattle.vx_mixed.specs.Valid.{Valid};
 
 use crate::joining::joins_of;
 use std::alloc::Global;
-use vx_base::listed::Listed;
+use vx_base::listed::{Listed, copied};
 use vx_base::outcome::NoMemory;
 use vx_flow::graph::{Block, BlockId, Edge, Exit, Op};
 use vx_flow::live_rows::Live;
 use vx_flow::trace::{Trace, TraceOp};
-use vx_mixed::copying::{copied_arrays, copied_values};
 use vx_mixed::mixed::MixedGraph;
 use vx_mixed::region::{Node, Origin};
 use vx_mixed::routing::{live_at_blocks, values_at};
@@ -38,8 +37,8 @@ pub(crate) fn trace_of(
     let ops = ops_of(alloc, graph, blocks)?;
     let fixed = fixed_of(alloc, graph, blocks)?;
     let joins = joins_of(alloc, graph, edges, blocks)?;
-    let arrays = copied_arrays(alloc, graph.arrays.as_slice())?;
-    let blocks = copied_values(alloc, blocks)?;
+    let arrays = copied(alloc, graph.arrays.as_slice())?;
+    let blocks = copied(alloc, blocks)?;
     Ok(Trace {
         function: graph.function,
         blocks,

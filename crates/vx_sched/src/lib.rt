@@ -1,7 +1,6 @@
 // Where the operations of a clustered trace are placed.
 #![tactic(auto)]
 
-mod copying;
 mod crowding;
 pub mod laws;
 mod placing;

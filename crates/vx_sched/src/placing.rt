@@ -7,7 +7,6 @@ ghost use Rattle.vx_dep.specs.Deps.{height_in};
 ghost use Rattle.vx_sched.specs.Placement.{PlacedBy, length_of, mode_in, AreDeps, HaveRoomAlone};
 ghost use Rattle.vx_sched.specs.Filling.{AreWithout, word_or_0, IsItem};
 
-use crate::copying::copy_clustered;
 use crate::ranking::{behind, in_order, next};
 use crate::ready::ready;
 use crate::rows::{first_word, following, put};
@@ -15,6 +14,7 @@ use std::alloc::Global;
 use vx_base::listed::Listed;
 use vx_base::outcome::NoMemory;
 use vx_dep::Deps;
+use vx_flow::copies::copied_clustered;
 use vx_flow::trace::{Clustered, Homes, Placed};
 use vx_machine::Machine;
 use vx_machine::items::{ClusteredItem, Item};
@@ -39,7 +39,7 @@ pub fn schedule(
     let words = place_all(alloc, trace, homes, deps, machine)?;
     let length = length_of(words.as_slice())?;
     Ok(Placed {
-        clustered: copy_clustered(alloc, trace)?,
+        clustered: copied_clustered(alloc, trace)?,
         words,
         length,
     })

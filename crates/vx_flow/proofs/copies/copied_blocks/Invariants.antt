@@ -1,5 +1,5 @@
 use Rattle.std.proofs.Common.{◌≡◌, take}
-use Rattle.vx_shape.proofs.copying.copied_blocks.Given as goal
+use Rattle.vx_flow.proofs.copies.copied_blocks.Given as goal
 
 abbrev pub invariant-loop-block : goal.invariant-loop-block
 invariant-loop-block l = l.copies ≡ take l.block-index l.blocks

@@ -1,9 +1,0 @@
--- what is copied and what is left
-use Rattle.std.proofs.Common.{◌≡◌, ◌++◌, length}
-use Rattle.vx_region.proofs.copying.copied_ops.Given as goal
-
-abbrev pub invariant-copy : goal.invariant-copy
-invariant-copy l = l.copy ++ l.rest ≡ l.fn.ops
-
-abbrev pub decreases-copy : goal.decreases-copy
-decreases-copy l = length l.rest
