@@ -21,7 +21,8 @@ use Rattle.vx_mixed.specs.CanReplace.{CanReplace}
 use Rattle.vx_mixed.specs.Edges.{Ascending, IsEdge, EdgesOf}
 use Rattle.vx_replace.specs.Exchanged.{with_inner, with_rejoins, with_blocks, exchanged}
 use Rattle.vx_mixed.specs.MovedEdges.{is_inner}
-use Rattle.vx_mixed.specs.Next.{Replacement, new_end, renamed_exit, renamed_region, renamed_node, new_region, rejoin_at, entered_at, trace_node, nodes_from, made_node, made_origin, next_mixed, rename}
+use Rattle.vx_mixed.specs.declared.replacement.Replacement.{Replacement}
+use Rattle.vx_mixed.specs.Next.{new_end, renamed_exit, renamed_region, renamed_node, new_region, rejoin_at, entered_at, trace_node, nodes_from, made_node, made_origin, next_mixed, rename}
 use Rattle.vx_mixed.specs.NextEdges.{IsNextEdge, kept, from_made}
 use Rattle.vx_mixed.specs.Settled.{NoTwice}
 use Rattle.vx_mixed.specs.TraceOf.{block_ops, inner_edges, joins_behind, trace_joins}

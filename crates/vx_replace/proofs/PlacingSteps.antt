@@ -13,7 +13,8 @@ use Rattle.vx_flow.proofs.Members.{set_there}
 use Rattle.vx_mixed.specs.declared.region.Item.{Item}
 use Rattle.vx_mixed.specs.declared.region.Item.TheVariants.{Plain, Split}
 use Rattle.vx_mixed.specs.declared.mixed.MixedGraph.{MixedGraph}
-use Rattle.vx_mixed.specs.Next.{Replacement, InWord, new_end, freed, placed, in_word, last_of, new_region}
+use Rattle.vx_mixed.specs.declared.replacement.Replacement.{Replacement}
+use Rattle.vx_mixed.specs.Next.{InWord, new_end, freed, placed, in_word, last_of, new_region}
 use Rattle.vx_replace.specs.Placing.{placed_item, drains_behind, bound_behind, placed_by}
 use Rattle.vx_mixed.proofs.RouteSteps.{left_at, left_from, none_left}
 use Rattle.vx_replace.proofs.TraceSteps.{set_elsewhere, take_more}

@@ -6,7 +6,8 @@ use Rattle.vx_mixed.specs.declared.region.Origin.{Origin}
 use Rattle.vx_mixed.specs.declared.region.Region.{Region}
 use Rattle.vx_mixed.specs.declared.mixed.MixedGraph.{MixedGraph}
 use Rattle.vx_mixed.specs.CanReplace.{TraceFits, IsFormed, NamesFit, ListsFit, WordsFit, MadeFits, MadeStands, HomesFit, AwayFits, CanReplace}
-use Rattle.vx_mixed.specs.Next.{Replacement, next_mixed}
+use Rattle.vx_mixed.specs.declared.replacement.Replacement.{Replacement}
+use Rattle.vx_mixed.specs.Next.{next_mixed}
 use Rattle.vx_mixed.specs.Valid.{Valid}
 use Rattle.vx_mixed.proofs.StaysValid.{stays_valid}
 

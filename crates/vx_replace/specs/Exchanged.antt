@@ -4,7 +4,7 @@ use Rattle.std.specs.Prelude.{ℕ, List, [], ◌∷◌, slice_set}
 use Rattle.vx_flow.specs.declared.trace.Join.{Join}
 use Rattle.vx_mixed.specs.declared.region.Node.{Node}
 use Rattle.vx_mixed.specs.declared.region.Node.TheVariants.{Enters, Inner}
-use Rattle.vx_mixed.specs.Next.{Replacement}
+use Rattle.vx_mixed.specs.declared.replacement.Replacement.{Replacement}
 
 abbrev pub with_inner : List ℕ → List Node → List Node
 with_inner [] nodes = nodes

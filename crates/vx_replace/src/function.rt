@@ -193,7 +193,9 @@ impl Mixed {
         ensures unchanged { OnErr result (self.new ≡ self.old) }
     {
         let mut replacement = replacement;
-        replace_trace(alloc, &mut self.graph, &mut self.edges, &mut replacement)
+        let replaced = replace_trace(alloc, &mut self.graph, &mut self.edges, &mut replacement);
+        drop(replacement);
+        replaced
     }
 
     /// Gives the function its number in the program.
