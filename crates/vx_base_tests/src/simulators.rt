@@ -10,8 +10,8 @@ use vx_isa::program::WordProgram;
 use vx_isa::sound;
 use vx_machine::Machine;
 use vx_probe::{Early, Late, Probe, Timing, WordCount};
+use vx_reader::read;
 use vx_sim::{Ended, Sim};
-use vx_words::read;
 
 /// The product is there a word later under one timing, and not under the other.
 const PRODUCT: &[u8] =

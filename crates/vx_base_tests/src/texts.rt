@@ -8,7 +8,8 @@ use vx_base::outcome::NoMemory;
 use vx_isa::operation::{GeneralRegister, Operation, Register, Source};
 use vx_isa::program::WordProgram;
 use vx_isa::sound;
-use vx_words::{WordsFault, read, write};
+use vx_reader::{WordsFault, read};
+use vx_words::write;
 
 /// Lines of one word each, at least one for each form of an operation.
 const FORMS: [&[u8]; 62] = [

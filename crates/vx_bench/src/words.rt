@@ -7,7 +7,8 @@ use vx_base::reading::{FileRead, read_file};
 use vx_base::real::RealDepot;
 use vx_isa::program::WordProgram;
 use vx_isa::sound;
-use vx_words::{read, write};
+use vx_reader::read;
+use vx_words::write;
 
 /// The most bytes of a text of words.
 const MOST_BYTES: u64 = 536870912;

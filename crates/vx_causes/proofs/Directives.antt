@@ -10,18 +10,18 @@ use Rattle.std.proofs.lemmas.List.Elements.{All-cons, All-head, All-tail, All-ni
 use borrow.Author.Tests.{eqb-true, leb-true, ltb-true}
 use Rattle.vx_isa.specs.Sound.{is_not_zero}
 use Rattle.vx_isa.specs.Range.{fits_signed}
-use Rattle.vx_words.specs.declared.before.Stage.{Stage}
-use Rattle.vx_words.specs.declared.before.Stage.TheVariants.{Memory as AtMemory, Texts as AtTexts}
-use Rattle.vx_words.specs.declared.before.Before.{Before}
-use Rattle.vx_words.specs.declared.quoted.Escape.TheVariants.{Plain}
+use Rattle.vx_reader.specs.declared.before.Stage.{Stage}
+use Rattle.vx_reader.specs.declared.before.Stage.TheVariants.{Memory as AtMemory, Texts as AtTexts}
+use Rattle.vx_reader.specs.declared.before.Before.{Before}
+use Rattle.vx_reader.specs.declared.quoted.Escape.TheVariants.{Plain}
 use Rattle.vx_words.specs.Spelling.{start_text, quoted_text, byte_text, is_plain}
-use Rattle.vx_words.specs.Fields.{number_at, signed_at}
-use Rattle.vx_words.specs.Steps.{accepted, is_memory_stage, is_text_stage, start_step, text_step, entry_at, is_entry, unquoted, unquoted_from, hexadecimal_value}
-use Rattle.vx_words.specs.Text.{word_count, is_word_end}
-use Rattle.vx_words.proofs.Numbers.{both_true}
-use Rattle.vx_words.proofs.FieldsAgain.{number_read, signed_read}
-use Rattle.vx_words.proofs.LinesAgain.{quoted_again}
-use Rattle.vx_words.proofs.OperationsAgain.{same_text}
+use Rattle.vx_reader.specs.Fields.{number_at, signed_at}
+use Rattle.vx_reader.specs.Steps.{accepted, is_memory_stage, is_text_stage, start_step, text_step, entry_at, is_entry, unquoted, unquoted_from, hexadecimal_value}
+use Rattle.vx_reader.specs.Text.{word_count, is_word_end}
+use Rattle.vx_reader.proofs.Numbers.{both_true}
+use Rattle.vx_reader.proofs.FieldsAgain.{number_read, signed_read}
+use Rattle.vx_reader.proofs.LinesAgain.{quoted_again}
+use Rattle.vx_reader.proofs.OperationsAgain.{same_text}
 use Rattle.vx_causes.specs.Lines.{Line, Memory, Start, Quoted, text_of, is_quoted, IsAscending, lowest, higher, StartStands, MayStand}
 use Rattle.vx_causes.specs.Causes.{Cause, BadLine, code_of, Applies, FirstCause}
 use Rattle.vx_causes.proofs.Sorts.{Kind, AStart, AText, kind, told, ends_by, quoted_by, ends_kind, quoted_kind, Own, bad_line, bad_alone, none_applies, is_quiet, quiet_absent, same_bytes}

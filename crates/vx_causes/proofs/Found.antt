@@ -11,15 +11,15 @@ use borrow.Author.Tests.{eqb-true}
 use Rattle.vx_isa.specs.declared.operation.Operation.{Operation}
 use Rattle.vx_isa.specs.declared.program.WordProgram.{WordProgram}
 use Rattle.vx_isa.specs.Operations.{cluster_of}
-use Rattle.vx_words.specs.declared.before.Before.{Before}
+use Rattle.vx_reader.specs.declared.before.Before.{Before}
 use Rattle.vx_words.specs.Spelling.{target_of, body_text, operation_text, names}
-use Rattle.vx_words.specs.Reading.{has_operands, texts_named, operation_of}
-use Rattle.vx_words.specs.Steps.{beginning, is_between_words, is_operation_line, line_cluster, is_beyond, step}
-use Rattle.vx_words.specs.Text.{Fault, is_word_end, word_count, on_its_cluster, line_operation, line_names, marks_from, followed, run_lines, program_of, ended}
-use Rattle.vx_words.proofs.ReadLemmas.{marks_at}
-use Rattle.vx_words.proofs.OperationLemmas.{operation_spelled}
-use Rattle.vx_words.proofs.OperationsAgain.{operation_again}
-use Rattle.vx_words.proofs.WordsAgain.{operation_begins}
+use Rattle.vx_reader.specs.Reading.{has_operands, texts_named, operation_of}
+use Rattle.vx_reader.specs.Steps.{beginning, is_between_words, is_operation_line, line_cluster, is_beyond, step}
+use Rattle.vx_reader.specs.Text.{Fault, is_word_end, word_count, on_its_cluster, line_operation, line_names, marks_from, followed, run_lines, program_of, ended}
+use Rattle.vx_reader.proofs.ReadLemmas.{marks_at}
+use Rattle.vx_reader.proofs.OperationLemmas.{operation_spelled}
+use Rattle.vx_reader.proofs.OperationsAgain.{operation_again}
+use Rattle.vx_reader.proofs.WordsAgain.{operation_begins}
 use Rattle.vx_causes.specs.Lines.{Version, Memory, Start, Quoted, Label, Operates, Idle, WordEnd, End, IsSpellable, IsAmong, IsNamed, IsBetweenWords}
 use Rattle.vx_causes.specs.Causes.{Cause, BadLine, code_of, Applies, FirstCause, AreFaultless, IsRepeated, version, memory, label}
 use Rattle.vx_causes.proofs.Sorts.{Kind, AnOperation, AnEnd, AVersion, AMemory, AStart, AText, AnIdle, Another, kind, outcome, step_is, spelled_bytes, spelled_cluster, Absent, bad_alone, none_applies}

@@ -7,15 +7,15 @@ use Rattle.std.proofs.lemmas.Bool.{lt-ltb, eq-eqb, and_from}
 use Rattle.std.proofs.lemmas.Bool.Decides.{nat_tests}
 use Rattle.std.proofs.lemmas.Fmt.{decimal-digits_value, decimal_injective, digits_value-decimal}
 use borrow.Author.Tests.{eqb-true, ltb-true, ltb-false}
-use Rattle.vx_words.specs.declared.before.Stage.{Stage}
-use Rattle.vx_words.specs.declared.before.Stage.TheVariants.{Start as AtStart, Version as AtVersion, Memory as AtMemory}
-use Rattle.vx_words.specs.declared.before.Before.{Before}
-use Rattle.vx_words.specs.Fields.{is_digit}
-use Rattle.vx_words.specs.Reading.{is_number}
-use Rattle.vx_words.specs.Steps.{accepted, is_start_stage, is_version_stage, version_step, memory_step, is_size, value_from}
-use Rattle.vx_words.specs.Text.{is_word_end}
-use Rattle.vx_words.proofs.Numbers.{own, both_true, is_number_digits}
-use Rattle.vx_words.proofs.FieldsAgain.{decimal_is_number}
+use Rattle.vx_reader.specs.declared.before.Stage.{Stage}
+use Rattle.vx_reader.specs.declared.before.Stage.TheVariants.{Start as AtStart, Version as AtVersion, Memory as AtMemory}
+use Rattle.vx_reader.specs.declared.before.Before.{Before}
+use Rattle.vx_reader.specs.Fields.{is_digit}
+use Rattle.vx_reader.specs.Reading.{is_number}
+use Rattle.vx_reader.specs.Steps.{accepted, is_start_stage, is_version_stage, version_step, memory_step, is_size, value_from}
+use Rattle.vx_reader.specs.Text.{is_word_end}
+use Rattle.vx_reader.proofs.Numbers.{own, both_true, is_number_digits}
+use Rattle.vx_reader.proofs.FieldsAgain.{decimal_is_number}
 use Rattle.vx_causes.specs.Lines.{Version, Memory, text_of, IsAmong, first_field, is_quoted, MayStand}
 use Rattle.vx_causes.specs.Causes.{Cause, Repeated, MemoryTooLarge, UnknownOperation, BadOperand, UnknownLabel, BadLine, rank, Applies, FirstCause, FieldStood, IsRepeated, version, memory, label, IsTooLarge, OnCluster}
 use Rattle.vx_causes.proofs.Sorts.{Kind, AnOperation, AVersion, AMemory, Another, kind, told, version_kind, label_kind, cluster_kind, large_kind, bad_line, Absent, bad_alone, none_applies, first_repeated, by_field, same_bytes}

@@ -2,7 +2,7 @@
 use Rattle.std.proofs.Common.{◌≡◌, ◌⊎◌, inl, inr, ℕ, ◌+◌, Bool, cond, List, [], ◌∷◌, ◌++◌, refl, ap, ◌∙◌}
 use Rattle.std.specs.Prelude.{nat_eq, if◌then◌else◌}
 use Rattle.std.proofs.lemmas.List.Sums.{sum_by_push}
-use Rattle.vx_words.specs.Text.{word_count, is_word_end}
+use Rattle.vx_reader.specs.Text.{word_count, is_word_end}
 use Rattle.vx_causes.specs.Lines.{Line, Version, Memory, Start, Quoted, Label, Operates, Idle, WordEnd, End, text_of, IsLast, IsAmong, is_quoted, text_count}
 
 -- the first letter of a line, behind a point

@@ -7,15 +7,15 @@ use borrow.Author.Tests.{leb-true, ltb-true, ltb-false}
 use Rattle.vx_isa.specs.declared.operation.Operation.{Operation}
 use Rattle.vx_isa.specs.declared.operation.Operation.TheVariants.{Compute, Move, Select, Load, Store, OutText}
 use Rattle.vx_isa.specs.Operations.{cluster_of}
-use Rattle.vx_words.specs.declared.before.Stage.TheVariants.{Operations as AtOperations}
-use Rattle.vx_words.specs.declared.before.Before.{Before}
+use Rattle.vx_reader.specs.declared.before.Stage.TheVariants.{Operations as AtOperations}
+use Rattle.vx_reader.specs.declared.before.Before.{Before}
 use Rattle.vx_words.specs.Spelling.{target_of, body_text, operation_text}
-use Rattle.vx_words.specs.Fields.{number_at}
-use Rattle.vx_words.specs.Reading.{texts_named, operation_of}
-use Rattle.vx_words.specs.Steps.{accepted, is_operations_stage, is_idle_stage, begins_word, is_beyond, is_operation_line, line_cluster, operation_by_stage, operation_added, operation_step}
-use Rattle.vx_words.specs.Text.{word_count}
-use Rattle.vx_words.proofs.Numbers.{both_true}
-use Rattle.vx_words.proofs.OperationLemmas.{operation_spelled}
+use Rattle.vx_reader.specs.Fields.{number_at}
+use Rattle.vx_reader.specs.Reading.{texts_named, operation_of}
+use Rattle.vx_reader.specs.Steps.{accepted, is_operations_stage, is_idle_stage, begins_word, is_beyond, is_operation_line, line_cluster, operation_by_stage, operation_added, operation_step}
+use Rattle.vx_reader.specs.Text.{word_count}
+use Rattle.vx_reader.proofs.Numbers.{both_true}
+use Rattle.vx_reader.proofs.OperationLemmas.{operation_spelled}
 use Rattle.vx_causes.specs.Lines.{Line, Operates, text_of, IsSpellable, text_count, OperationStands, begins, goes_on, MayStand}
 use Rattle.vx_causes.specs.Causes.{Cause, Repeated, MemoryTooLarge, UnknownOperation, BadOperand, UnknownLabel, BadLine, rank, Applies, FirstCause, IsRepeated, version, memory, label, IsTooLarge, OnCluster, IsKnown, IsOperation, NamesNoText, HasForm, NamesNoPlace}
 use Rattle.vx_causes.proofs.Sorts.{Kind, AnOperation, AVersion, AMemory, Another, kind, told, version_kind, memory_kind, label_kind, large_kind, bad_line, spelled_bytes, spelled_cluster}

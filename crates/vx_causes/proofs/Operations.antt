@@ -18,16 +18,16 @@ use Rattle.vx_isa.specs.declared.operation.Operation.TheVariants.{Compute, Move,
 use Rattle.vx_isa.specs.Operations.{cluster_of}
 use Rattle.vx_isa.specs.Range.{fits_signed, fits_source, fits_operation}
 use Rattle.vx_isa.specs.Sound.{can_name, can_name_branch, can_name_cluster, can_spell, is_destination}
-use Rattle.vx_words.specs.declared.form.Form.{Form}
-use Rattle.vx_words.specs.declared.form.Form.TheVariants.{Computes, Moves, Selects, Loads, Stores, TakesInput, AsksInput, PrintsText, PrintsDecimal, PrintsByte, Goes, Branches, Calls, Returns, FromLink, ToLink, Traps, Halts}
+use Rattle.vx_reader.specs.declared.form.Form.{Form}
+use Rattle.vx_reader.specs.declared.form.Form.TheVariants.{Computes, Moves, Selects, Loads, Stores, TakesInput, AsksInput, PrintsText, PrintsDecimal, PrintsByte, Goes, Branches, Calls, Returns, FromLink, ToLink, Traps, Halts}
 use Rattle.vx_words.specs.Spelling.{target_of, body_text}
-use Rattle.vx_words.specs.Fields.{is_digit, number_from, number_at, signed_at, negative, general_at, branch_at, register_at, source_at}
-use Rattle.vx_words.specs.Forms.{form_name, forms, form_of, candidate, compute_of, move_of, select_of, load_of, store_of, branch_on_of}
-use Rattle.vx_words.specs.Reading.{is_number, is_numbered, branch_front, has_form, has_operands, texts_named, operation_by, operation_of}
-use Rattle.vx_words.specs.Steps.{is_operation_line, line_cluster, value_from}
-use Rattle.vx_words.proofs.Numbers.{own, both_true, number_exact, number_below, number_again, is_number_digits}
-use Rattle.vx_words.proofs.OperationLemmas.{three_bytes}
-use Rattle.vx_words.proofs.OperationsAgain.{operation_again}
+use Rattle.vx_reader.specs.Fields.{is_digit, number_from, number_at, signed_at, negative, general_at, branch_at, register_at, source_at}
+use Rattle.vx_reader.specs.Forms.{form_name, forms, form_of, candidate, compute_of, move_of, select_of, load_of, store_of, branch_on_of}
+use Rattle.vx_reader.specs.Reading.{is_number, is_numbered, branch_front, has_form, has_operands, texts_named, operation_by, operation_of}
+use Rattle.vx_reader.specs.Steps.{is_operation_line, line_cluster, value_from}
+use Rattle.vx_reader.proofs.Numbers.{own, both_true, number_exact, number_below, number_again, is_number_digits}
+use Rattle.vx_reader.proofs.OperationLemmas.{three_bytes}
+use Rattle.vx_reader.proofs.OperationsAgain.{operation_again}
 use Rattle.vx_causes.specs.Lines.{first_field, is_no_blank}
 use Rattle.vx_causes.specs.Causes.{OnCluster, IsKnown, IsOperation, IsJump, goes, branches, calls, NamesPlace, HasForm, operates, jumps}
 use Rattle.vx_causes.proofs.Sorts.{same_bytes, on_cluster_bytes}

@@ -11,12 +11,12 @@ use Rattle.std.proofs.lemmas.List.Sums.{count_by-le-length}
 use Rattle.std.proofs.lemmas.Grind.{flat_map-append}
 use Rattle.vx_isa.specs.declared.program.WordProgram.{WordProgram}
 use Rattle.vx_words.specs.Spelling.{line}
-use Rattle.vx_words.specs.Steps.{beginning}
-use Rattle.vx_words.specs.Text.{Fault, lines, cons_first, is_not_feed, is_word_end, word_count, marks_from, run_lines, end_bytes, reading, fault_in, text_fault}
-use Rattle.vx_words.proofs.Numbers.{both_true}
-use Rattle.vx_words.proofs.LineLemmas.{unlines, lines_joined, length_lines}
-use Rattle.vx_words.proofs.ReadLemmas.{front_of}
-use Rattle.vx_words.proofs.LinesAgain.{lines_again}
+use Rattle.vx_reader.specs.Steps.{beginning}
+use Rattle.vx_reader.specs.Text.{Fault, lines, cons_first, is_not_feed, is_word_end, word_count, marks_from, run_lines, end_bytes, reading, fault_in, text_fault}
+use Rattle.vx_reader.proofs.Numbers.{both_true}
+use Rattle.vx_reader.proofs.LineLemmas.{unlines, lines_joined, length_lines}
+use Rattle.vx_reader.proofs.ReadLemmas.{front_of}
+use Rattle.vx_reader.proofs.LinesAgain.{lines_again}
 use Rattle.vx_causes.specs.Causes.{Cause, Repeated, MemoryTooLarge, UnknownOperation, BadOperand, UnknownLabel, BadLine, code_of, rank, FirstCause, AreLines, EndsWell, FirstFaulty, IsFault, no_end, faulty}
 use Rattle.vx_causes.specs.Laws.{FoundIsFault, FaultIsFound}
 use Rattle.vx_causes.proofs.Stands.{no_test}

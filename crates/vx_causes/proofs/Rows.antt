@@ -3,12 +3,12 @@ use Rattle.std.proofs.Common.{inl, inr, ℕ, List, [], ◌∷◌, refl, arith}
 use Rattle.std.specs.Prelude.{codes}
 use Rattle.std.specs.Fmt.{digits}
 use Rattle.vx_isa.specs.declared.operation.Operation.TheVariants.{Goto}
-use Rattle.vx_words.specs.declared.form.Form.TheVariants.{PrintsText}
-use Rattle.vx_words.specs.Fields.{number_at, signed_at, numbers_at, general_at, branch_at, register_at, source_at}
-use Rattle.vx_words.specs.Forms.{form_of, candidate, compute_of, move_of, select_of, load_of, store_of, branch_on_of}
-use Rattle.vx_words.specs.Reading.{operation_of, operation_by, has_form, has_operands}
-use Rattle.vx_words.specs.Steps.{version_step, memory_step, start_step, entry_at, text_step, unquoted, label_step, label_by, idle_step, word_end_step, operation_by_stage, operation_step, step}
-use Rattle.vx_words.specs.Text.{line_operation, reading}
+use Rattle.vx_reader.specs.declared.form.Form.TheVariants.{PrintsText}
+use Rattle.vx_reader.specs.Fields.{number_at, signed_at, numbers_at, general_at, branch_at, register_at, source_at}
+use Rattle.vx_reader.specs.Forms.{form_of, candidate, compute_of, move_of, select_of, load_of, store_of, branch_on_of}
+use Rattle.vx_reader.specs.Reading.{operation_of, operation_by, has_form, has_operands}
+use Rattle.vx_reader.specs.Steps.{version_step, memory_step, start_step, entry_at, text_step, unquoted, label_step, label_by, idle_step, word_end_step, operation_by_stage, operation_step, step}
+use Rattle.vx_reader.specs.Text.{line_operation, reading}
 use Rattle.vx_causes.specs.Lines.{Label, MayStand, behind_size, behind_memory, behind_texts}
 use Rattle.vx_causes.specs.Causes.{Repeated, MemoryTooLarge, UnknownOperation, BadOperand, UnknownLabel, Applies, FirstCause, memory, label, goes, IsFault}
 use Rattle.vx_causes.proofs.Sorts.{first_repeated}

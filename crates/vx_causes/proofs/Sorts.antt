@@ -8,15 +8,15 @@ use Rattle.std.proofs.lemmas.Fmt.{decimal_digit}
 use borrow.Author.Tests.{eqb-true}
 use Rattle.vx_isa.specs.declared.operation.Operation.{Operation}
 use Rattle.vx_isa.specs.Operations.{cluster_of}
-use Rattle.vx_words.specs.declared.before.Before.{Before}
+use Rattle.vx_reader.specs.declared.before.Before.{Before}
 use Rattle.vx_words.specs.Spelling.{target_of, body_text, operation_text, place_text, start_text, quoted_text, idle_text}
-use Rattle.vx_words.specs.Reading.{has_operands, texts_named}
+use Rattle.vx_reader.specs.Reading.{has_operands, texts_named}
 use Rattle.std.specs.Prelude.{unwrap_or}
-use Rattle.vx_words.specs.Steps.{is_operation_line, line_cluster, step, operation_step, word_end_step, version_step, memory_step, start_step, text_step, idle_step, label_step}
-use Rattle.vx_words.specs.Text.{is_word_end}
-use Rattle.vx_words.proofs.OperationLemmas.{three_bytes}
-use Rattle.vx_words.proofs.WordsAgain.{operation_bytes, operation_begins}
-use Rattle.vx_words.proofs.LinesAgain.{cluster_bound}
+use Rattle.vx_reader.specs.Steps.{is_operation_line, line_cluster, step, operation_step, word_end_step, version_step, memory_step, start_step, text_step, idle_step, label_step}
+use Rattle.vx_reader.specs.Text.{is_word_end}
+use Rattle.vx_reader.proofs.OperationLemmas.{three_bytes}
+use Rattle.vx_reader.proofs.WordsAgain.{operation_bytes, operation_begins}
+use Rattle.vx_reader.proofs.LinesAgain.{cluster_bound}
 use Rattle.vx_causes.specs.Lines.{Line, Version, Memory, Start, Quoted, Label, Operates, Idle, WordEnd, End, text_of, is_no_blank, first_field, is_quoted, MayStand}
 use Rattle.vx_causes.specs.Causes.{Cause, Repeated, MemoryTooLarge, UnknownOperation, BadOperand, UnknownLabel, BadLine, rank, Applies, FirstCause, IsRepeated, version, memory, label, IsTooLarge, OnCluster}
 

@@ -5,13 +5,13 @@ use Rattle.std.proofs.lemmas.Bool.{lt-ltb, eq-eqb, cases_lt}
 use Rattle.std.proofs.lemmas.Bool.Decides.{nat_tests}
 use borrow.Author.Tests.{eqb-true, ltb-true}
 use Rattle.vx_isa.specs.declared.operation.Operation.{Operation}
-use Rattle.vx_words.specs.declared.before.Stage.{Stage}
-use Rattle.vx_words.specs.declared.before.Stage.TheVariants.{Start as AtStart, Version as AtVersion, Memory as AtMemory, Texts as AtTexts, WordEnd as AtWordEnd, Label as AtLabel, Operations as AtOperations, Idle as AtIdle}
-use Rattle.vx_words.specs.declared.before.Before.{Before}
+use Rattle.vx_reader.specs.declared.before.Stage.{Stage}
+use Rattle.vx_reader.specs.declared.before.Stage.TheVariants.{Start as AtStart, Version as AtVersion, Memory as AtMemory, Texts as AtTexts, WordEnd as AtWordEnd, Label as AtLabel, Operations as AtOperations, Idle as AtIdle}
+use Rattle.vx_reader.specs.declared.before.Before.{Before}
 use Rattle.vx_words.specs.Spelling.{place_text}
-use Rattle.vx_words.specs.Steps.{is_start_stage, is_version_stage, is_memory_stage, is_text_stage, is_between_words, is_label_stage, is_operations_stage, is_idle_stage, is_marked, begins_word, label_stood}
-use Rattle.vx_words.specs.Text.{word_count, is_word_end}
-use Rattle.vx_words.proofs.Numbers.{both_true}
+use Rattle.vx_reader.specs.Steps.{is_start_stage, is_version_stage, is_memory_stage, is_text_stage, is_between_words, is_label_stage, is_operations_stage, is_idle_stage, is_marked, begins_word, label_stood}
+use Rattle.vx_reader.specs.Text.{word_count, is_word_end}
+use Rattle.vx_reader.proofs.Numbers.{both_true}
 use Rattle.vx_causes.specs.Lines.{Version, Memory, Start, Quoted, Label, Operates, Idle, WordEnd, text_of, IsLast, IsAmong, IsNamed, is_quoted, text_count, InMemory, behind_size, behind_start, TextsBegin, behind_memory, behind_text, IsBetweenWords, behind_texts, behind_word, BeginsWord, behind_label, unnamed}
 use Rattle.vx_causes.proofs.Lasts.{initial, last_initial, is_last_initial, among_more, among_last, among_split, one_of, word_count_more, text_count_more}
 

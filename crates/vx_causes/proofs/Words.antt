@@ -6,16 +6,16 @@ use Rattle.std.proofs.lemmas.Bool.{le-leb, eq-eqb, and_from}
 use Rattle.std.proofs.lemmas.List.{append-nil, length-append}
 use borrow.Author.Tests.{eqb-true, leb-true}
 use Rattle.vx_isa.specs.declared.program.Word.{Word}
-use Rattle.vx_words.specs.declared.before.Stage.{Stage}
-use Rattle.vx_words.specs.declared.before.Stage.TheVariants.{WordEnd as AtWordEnd, Label as AtLabel, Idle as AtIdle}
-use Rattle.vx_words.specs.declared.before.Before.{Before}
+use Rattle.vx_reader.specs.declared.before.Stage.{Stage}
+use Rattle.vx_reader.specs.declared.before.Stage.TheVariants.{WordEnd as AtWordEnd, Label as AtLabel, Idle as AtIdle}
+use Rattle.vx_reader.specs.declared.before.Before.{Before}
 use Rattle.vx_words.specs.Spelling.{place_text, idle_text}
-use Rattle.vx_words.specs.Fields.{number_at}
-use Rattle.vx_words.specs.Steps.{accepted, is_between_words, is_operations_stage, is_idle_stage, is_marked, begins_word, label_stood, label_by, label_step, idle_step, word_end_step}
-use Rattle.vx_words.specs.Text.{word_count, is_word_end}
-use Rattle.vx_words.proofs.Numbers.{both_true}
-use Rattle.vx_words.proofs.FieldsAgain.{number_read}
-use Rattle.vx_words.proofs.OperationsAgain.{same_text}
+use Rattle.vx_reader.specs.Fields.{number_at}
+use Rattle.vx_reader.specs.Steps.{accepted, is_between_words, is_operations_stage, is_idle_stage, is_marked, begins_word, label_stood, label_by, label_step, idle_step, word_end_step}
+use Rattle.vx_reader.specs.Text.{word_count, is_word_end}
+use Rattle.vx_reader.proofs.Numbers.{both_true}
+use Rattle.vx_reader.proofs.FieldsAgain.{number_read}
+use Rattle.vx_reader.proofs.OperationsAgain.{same_text}
 use Rattle.vx_causes.specs.Lines.{Label, Operates, Idle, WordEnd, IsAmong, WordEnds, empty, behind_operation, behind_idle, MayStand}
 use Rattle.vx_causes.specs.Causes.{Repeated, BadLine, FirstCause, IsRepeated, version, memory, label}
 use Rattle.vx_causes.proofs.Sorts.{Kind, AnOperation, AnEnd, AVersion, AMemory, AnIdle, Another, kind, told, ends_by, version_kind, memory_kind, cluster_kind, large_kind, bad_line, Absent, bad_alone, none_applies, first_repeated, same_bytes}

@@ -4,11 +4,11 @@ use Rattle.std.specs.List.{list_all, flat_map}
 use Rattle.std.specs.Str.Parse.{digits_value}
 use Rattle.vx_isa.specs.declared.operation.Operation.{Operation}
 use Rattle.vx_isa.specs.declared.operation.Operation.TheVariants.{OutText}
-use Rattle.vx_words.specs.declared.form.Form.{Form}
+use Rattle.vx_reader.specs.declared.form.Form.{Form}
 use Rattle.vx_words.specs.Spelling.{body_text, line}
-use Rattle.vx_words.specs.Forms.{form_name}
-use Rattle.vx_words.specs.Reading.{is_number, branch_front}
-use Rattle.vx_words.specs.Text.{Fault, word_count, is_not_feed}
+use Rattle.vx_reader.specs.Forms.{form_name}
+use Rattle.vx_reader.specs.Reading.{is_number, branch_front}
+use Rattle.vx_reader.specs.Text.{Fault, word_count, is_not_feed}
 use Rattle.vx_causes.specs.Lines.{Line, Label, text_of, IsSpellable, IsAmong, first_field, text_count, MayStand}
 
 pub data Cause : Type 0 where

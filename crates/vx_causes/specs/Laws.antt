@@ -1,6 +1,6 @@
 -- The laws of refused texts of words, each the clause of a public function.
 use Rattle.std.specs.Prelude.{◌≡◌, ℕ, ◌^◌, ◌<◌, List, length, Some}
-use Rattle.vx_words.specs.Text.{Fault, text_fault}
+use Rattle.vx_reader.specs.Text.{Fault, text_fault}
 use Rattle.vx_causes.specs.Causes.{IsFault}
 
 -- what a reader finds in a text of less than 4 GiB is its fault

@@ -6,8 +6,8 @@ use Rattle.std.specs.Str.{bytes_eq}
 use Rattle.vx_isa.specs.declared.operation.Operation.{Operation}
 use Rattle.vx_isa.specs.Range.{fits_signed, fits_operation}
 use Rattle.vx_words.specs.Spelling.{target_of, operation_text, start_text, quoted_text, idle_text, place_text}
-use Rattle.vx_words.specs.Reading.{has_operands}
-use Rattle.vx_words.specs.Text.{word_count}
+use Rattle.vx_reader.specs.Reading.{has_operands}
+use Rattle.vx_reader.specs.Text.{word_count}
 
 pub data Line : Type 0 where
   Version : Line

@@ -32,7 +32,7 @@ use Rattle.vx_frame.specs.Carried.{DoesTheSame, KeepsTo}
 use Rattle.vx_frame.specs.declared.finishing.Finished.{Finished}
 use Rattle.vx_frame.specs.Finish.{CanFinish, AllCanFinish, IsFinished, Finishes}
 use Rattle.vx_frame.specs.Plans.{AreSpaced, IsSpaced, SpacedLaw}
-use Rattle.vx_words.specs.Range.{is_in_range}
+use Rattle.vx_isa.specs.Range.{is_in_range}
 use Rattle.vx_profile.specs.declared.counts.Counts.{Counts}
 use Rattle.vx_region.specs.declared.trace_plan.TracePlan.{TracePlan}
 use Rattle.vx_compile.specs.Compiled.{AreMapsOf, Compiled, Planned, all_in_slots, layouts_of}

@@ -6,7 +6,7 @@ use Rattle.vx_isa.specs.Numbers.{Numbers}
 use Rattle.vx_isa.specs.Sound.{is_sound}
 use Rattle.vx_isa.specs.Strict.{Strict}
 use Rattle.vx_isa.specs.Paths.{PathStrict}
-use Rattle.vx_words.specs.Range.{is_in_range}
+use Rattle.vx_isa.specs.Range.{is_in_range}
 use Rattle.vx_ast.specs.Tree.{Program}
 use Rattle.vx_flow.specs.declared.graph.Flow.{Flow}
 use Rattle.vx_flow.specs.declared.graph.Graph.{Graph}

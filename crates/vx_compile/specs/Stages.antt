@@ -29,8 +29,8 @@ use Rattle.vx_frame.specs.Plans.{PlanLaw, SpacedLaw}
 use Rattle.vx_ast.specs.Tree.{Program}
 use Rattle.vx_report.specs.declared.plan.Plan.{Plan}
 use Rattle.vx_report.specs.Report.{names_of, report_text}
-use Rattle.vx_words.specs.Range.{is_in_range}
-use Rattle.vx_words.specs.Text.{Spells}
+use Rattle.vx_isa.specs.Range.{is_in_range}
+use Rattle.vx_words.specs.Spelling.{Spells}
 use Rattle.vx_compile.specs.Compiled.{AreMapsOf, Compiled, Planned, all_in_slots, layouts_of}
 use Rattle.std.specs.List.{sum_by}
 use Rattle.vx_compile.specs.declared.words.FlowSize.{FlowSize}

@@ -5,7 +5,7 @@ ghost use Rattle.std.specs.Prelude.{◌≡◌, ℕ, ℤ, true, nat_lt};
 ghost use Rattle.std.specs.List.{list_all};
 ghost use Rattle.vx_isa.specs.declared.program.Word.{Word as AWord};
 ghost use Rattle.vx_isa.specs.Range.{fits_operation, fits_signed, fits_source, fits_unsigned};
-ghost use Rattle.vx_words.specs.Range.{is_in_range};
+ghost use Rattle.vx_isa.specs.Range.{is_in_range};
 
 use vx_base::listed::Bytes;
 use vx_isa::operation::{Operation, Source};

@@ -11,7 +11,7 @@ use Rattle.vx_machine.specs.declared.description.MachineFault.TheVariants.{Bad, 
 use Rattle.vx_machine.specs.Descriptions.{reading as reading_machine}
 use Rattle.vx_profile.specs.declared.fault.ProfileFault.{ProfileFault}
 use Rattle.vx_profile.specs.declared.fault.ProfileFault.TheVariants.{BadLine, CountTooLarge, NoMemory as NoRoomForCounts}
-use Rattle.vx_words.specs.Text.{Fault as WordFault, reading}
+use Rattle.vx_reader.specs.Text.{Fault as WordFault, reading}
 use Rattle.vx_status.specs.declared.status.Status.{Status}
 use Rattle.vx_status.specs.declared.status.Status.TheVariants.{Done, Trapped, Usage, Source, Limit, Words, Profile, Machine, NoFile, ReadFault, WriteFault, Stopped, Input, Stuck, NoMemory}
 use Rattle.vx_status.specs.Status.{number_of}

@@ -16,7 +16,7 @@ use Rattle.vx_command.specs.Command.{Compilation}
 use Rattle.vx_compile.specs.Compiled.{Compiled}
 use Rattle.vx_report.specs.declared.plan.Plan.{Plan}
 use Rattle.vx_report.specs.Report.{names_of, report_text}
-use Rattle.vx_words.specs.Text.{Spells}
+use Rattle.vx_words.specs.Spelling.{Spells}
 use Rattle.vx_files.specs.Held.{HoldsProgram, Accepts, status_of, AreCounts, ProfileStands, RefusesProfile, Is, Refused, TooLong, Missing, machine_found}
 use Rattle.vx_files.specs.Effects.{Effect, ReplacesRose, SameFiles, SourceAnswers, ProfileAnswers, MachineAnswers}
 

@@ -8,7 +8,7 @@ ghost use Rattle.vx_driver.specs.Answers.{CompileAnswers, WriteAnswers, ReportAn
 ghost use Rattle.vx_command.specs.Asked.{compilation_of};
 ghost use Rattle.vx_compile.specs.Stages.{MakesTexts};
 ghost use Rattle.vx_report.specs.Report.{names_of, report_text};
-ghost use Rattle.vx_words.specs.Text.{Spells};
+ghost use Rattle.vx_words.specs.Spelling.{Spells};
 ghost use Rattle.vx_isa.specs.Sound.{is_sound};
 
 use std::alloc::Global;

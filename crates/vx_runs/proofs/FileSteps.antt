@@ -10,7 +10,8 @@ use Rattle.vx_base.specs.declared.role.Role.TheVariants.{Source as TheSource, Wo
 use Rattle.vx_isa.specs.declared.program.WordProgram.{WordProgram}
 use Rattle.vx_isa.specs.Numbers.{Numbers}
 use Rattle.vx_machine.specs.declared.description.MachineFault.TheVariants.{Bad}
-use Rattle.vx_words.specs.Text.{Spells, Fault, reading}
+use Rattle.vx_words.specs.Spelling.{Spells}
+use Rattle.vx_reader.specs.Text.{Fault, reading}
 use Rattle.vx_status.specs.declared.status.Status.{Status}
 use Rattle.vx_status.specs.declared.status.Status.TheVariants.{Done, Trapped, Usage, Source, Limit, Words, Profile, Machine, NoFile, ReadFault, WriteFault, Stopped, Input, Stuck, NoMemory}
 use Rattle.vx_files.specs.Held.{MachineFound, Is, Refused, TooLong, Missing, found_in, machine_found, input_found}

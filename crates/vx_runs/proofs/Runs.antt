@@ -3,7 +3,7 @@ use Rattle.std.proofs.Common.{◌≡◌, ◌∙◌, ◌⊎◌, inl, inr, ℕ, tr
 use Rattle.std.specs.Prelude.{◌<◌, Ok}
 use Rattle.vx_base.specs.Outcome.{Outcome, Ends, Traps, Goes, Stuck as StuckWith, Wrong}
 use Rattle.vx_base.specs.Outside.{Files}
-use Rattle.vx_words.specs.Text.{Spells}
+use Rattle.vx_words.specs.Spelling.{Spells}
 use Rattle.vx_probe.specs.Times.{Times}
 use Rattle.vx_probe.specs.Watch.{Watch}
 use Rattle.vx_status.specs.declared.status.Status.{Status}

@@ -15,7 +15,8 @@ use Rattle.vx_probe.specs.Times.{Times, list_of}
 use Rattle.vx_probe.specs.Watch.{Watch, shown_all}
 use Rattle.vx_probe.specs.declared.event.Event.{Event}
 use Rattle.vx_sim.specs.Passed.{events_from}
-use Rattle.vx_words.specs.Text.{Spells, Fault, reading}
+use Rattle.vx_words.specs.Spelling.{Spells}
+use Rattle.vx_reader.specs.Text.{Fault, reading}
 use Rattle.vx_status.specs.declared.status.Status.{Status}
 use Rattle.vx_status.specs.declared.status.Status.TheVariants.{Done, Trapped, Usage, Source, Limit, Words, Profile, Machine, NoFile, ReadFault, WriteFault, Stopped, Input, Stuck, NoMemory}
 use Rattle.vx_status.specs.Status.{Tells, TellsWith, status_line}

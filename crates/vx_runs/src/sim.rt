@@ -3,7 +3,8 @@
 
 ghost use Rattle.std.specs.Prelude.{◌≡◌, ◌⊎◌, ◌<◌, ◌≤◌, true, false, length, map, option_map, is_some, None, Ok, Err, IfOk, IfErr, IfSome};
 ghost use Rattle.vx_isa.specs.Sound.{is_sound};
-ghost use Rattle.vx_words.specs.Text.{Spells, reading};
+ghost use Rattle.vx_words.specs.Spelling.{Spells};
+ghost use Rattle.vx_reader.specs.Text.{reading};
 ghost use Rattle.vx_files.specs.Effects.{effect_of};
 ghost use Rattle.vx_command.specs.Command.{Simulate};
 ghost use Rattle.vx_runs.specs.Boxes.{boxes_of};
@@ -27,8 +28,8 @@ use vx_files::{input_for, machine_for};
 use vx_isa::program::WordProgram;
 use vx_machine::Machine;
 use vx_probe::{Probe, Timing};
+use vx_reader::{WordsFault, read};
 use vx_status::{Status, tell};
-use vx_words::{WordsFault, read};
 
 /// The most bytes of a text of words.
 pub const MOST_WORDS_BYTES: u64 = 536870912;

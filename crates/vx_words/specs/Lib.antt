@@ -1,8 +1,1 @@
 pub mod Spelling
-pub mod Fields
-pub mod Forms
-pub mod Range
-pub mod Reading
-pub mod Steps
-pub mod Text
-pub mod Laws

@@ -1,6 +1,6 @@
 -- The text of a program of words, version 1. Every line ends with one line feed; fields stand apart by one blank;
 -- numbers are decimal without leading zeros. There is one spelling for each program.
-use Rattle.std.specs.Prelude.{ℕ, ◌+◌, ◌/◌, ◌%◌, ℤ, Bool, false, ◌&&◌, ◌==◌, nat_lt, nat_le, if◌then◌else◌, not, List, [], ◌∷◌, ◌++◌, Option, Some, None, codes, decimal}
+use Rattle.std.specs.Prelude.{◌≡◌, ℕ, ◌+◌, ◌/◌, ◌%◌, ℤ, Bool, true, false, ◌&&◌, ◌==◌, nat_lt, nat_le, if◌then◌else◌, not, List, [], ◌∷◌, ◌++◌, Option, Some, None, codes, decimal}
 use Rattle.std.specs.List.{flat_map, list_any}
 use Rattle.std.specs.Fmt.{signed_decimal}
 use Rattle.std.specs.Option.{option_map_or}
@@ -21,6 +21,7 @@ use Rattle.vx_isa.specs.declared.operation.Operation.TheVariants.{Compute, Move,
 use Rattle.vx_isa.specs.declared.program.Word.{Word}
 use Rattle.vx_isa.specs.declared.program.WordProgram.{WordProgram}
 use Rattle.vx_isa.specs.Operations.{cluster_of}
+use Rattle.vx_isa.specs.Sound.{is_sound}
 
 -- registers and sources
 
@@ -195,3 +196,7 @@ header memory = line (codes ".vexwords 1") ++ line (codes ".memory " ++ decimal 
 abbrev pub spelling : WordProgram → List ℕ
 spelling w =
     header w.memory ++ flat_map start_line w.start ++ flat_map text_line w.texts ++ words_from w.words 0 w.words ++ line (codes ".end")
+
+-- the bytes are the text of the program
+abbrev pub Spells : List ℕ → WordProgram → Type 0
+Spells bytes w = (is_sound w ≡ true) × (bytes ≡ spelling w)

@@ -1,18 +1,7 @@
-// The word text: how a program of words is spelled as a text, and how a text is read back.
+// The word text: how a program of words is spelled as a text. vx_reader reads such texts.
 #![tactic(auto)]
 
-mod before;
-mod fault;
-mod fields;
-mod form;
-pub mod laws;
-mod operation_reader;
-mod operation_text;
-mod program_text;
-mod quoted;
-mod reader;
-mod steps;
+pub mod operation_text;
+pub mod program_text;
 
-pub use fault::WordsFault;
 pub use program_text::write;
-pub use reader::read;

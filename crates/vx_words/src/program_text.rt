@@ -3,8 +3,7 @@
 ghost use Rattle.std.specs.Prelude.{◌≡◌, ℕ, ◌<◌, ◌≤◌, ◌/◌, ◌++◌, true, length, get_or, false, ◌||◌, vec_len, OnOk, IfOk};
 ghost use Rattle.std.specs.List.{flat_map, list_any};
 ghost use Rattle.vx_isa.specs.Sound.{is_sound};
-ghost use Rattle.vx_words.specs.Text.{Spells};
-ghost use Rattle.vx_words.specs.Spelling.{target_of, names, is_named, hexadecimal_digit, byte_text, quoted_text, text_line, start_text, start_line, idle_text, word_lines, operation_line, place_text, label_line, words_from, header, spelling};
+ghost use Rattle.vx_words.specs.Spelling.{Spells, target_of, names, is_named, hexadecimal_digit, byte_text, quoted_text, text_line, start_text, start_line, idle_text, word_lines, operation_line, place_text, label_line, words_from, header, spelling};
 
 use crate::operation_text::{
     push_bytes, push_label, push_number, push_operation_line, push_signed,

@@ -1,7 +1,7 @@
 -- The words were read before all else, and reading them changed no file.
 use Rattle.std.proofs.Common.{IfSome, refl, sym, subst}
 use Rattle.std.proofs.lemmas.Result.{IfErr-weaker, IfOk-weaker}
-use Rattle.vx_words.specs.Text.{Spells}
+use Rattle.vx_words.specs.Spelling.{Spells}
 use Rattle.vx_files.specs.Effects.{effect_of}
 use Rattle.vx_runs.specs.Ending.{loaded_of}
 use Rattle.vx_runs.proofs.FileSteps.{words_loaded, after_words, at_words}

@@ -2,7 +2,8 @@
 use Rattle.std.proofs.Common.{◌≡◌, ◌⊎◌, Ok, Err, None, ap, refl}
 use Rattle.std.proofs.lemmas.Result.{IfErr-weaker, IfOk-weaker}
 use Rattle.vx_base.specs.declared.role.Role.TheVariants.{Words as TheWords}
-use Rattle.vx_words.specs.Text.{Spells, reading}
+use Rattle.vx_words.specs.Spelling.{Spells}
+use Rattle.vx_reader.specs.Text.{reading}
 use Rattle.vx_status.specs.declared.status.Status.TheVariants.{Limit, NoMemory}
 use Rattle.vx_files.specs.Effects.{effect_of}
 use Rattle.vx_runs.specs.Simulated.{words_as, is_named}

@@ -1,0 +1,14 @@
+pub mod Counting
+pub mod LineLemmas
+mod TextRows
+pub mod Numbers
+pub mod Advance
+pub mod StepLemmas
+pub mod OperationLemmas
+pub mod ReadLemmas
+pub mod FieldsAgain
+pub mod OperationsAgain
+pub mod LinesAgain
+pub mod ProgramAgain
+pub mod WordsAgain
+pub mod RoundTrip
