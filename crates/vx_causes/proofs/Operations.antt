@@ -1,6 +1,6 @@
 -- The operation of a line: what a reader takes it for, and what the line says of itself.
-use Rattle.std.proofs.Common.{◌≡◌, inl, inr, ℕ, zero, suc, ◌+◌, ◌-◌, ◌*◌, ◌≤◌, min, Bool, true, false, ◌&&◌, List, [], ◌∷◌, ◌++◌, length, get_or, drop, Option, Some, None, Result, Ok, Err, refl, sym, ap, subst, ◌∙◌, append_assoc, arith}
-use Rattle.std.specs.Prelude.{codes, decimal, nat_eq, nat_lt, nat_le, find, unwrap_or, if◌then◌else◌}
+use Rattle.std.proofs.Common.{◌≡◌, inl, inr, ℕ, zero, suc, ◌+◌, ◌-◌, ◌*◌, ◌≤◌, min, Bool, true, false, ◌&&◌, List, [], ◌∷◌, ◌++◌, length, get_or, drop, Option, Some, None, Result, Ok, Err, refl, sym, ap, subst, ◌∙◌, arith}
+use Rattle.std.specs.Prelude.{codes, decimal, nat_eq, nat_lt, nat_le, find, unwrap_or}
 use Rattle.std.specs.Option.{option_map_or}
 use Rattle.std.specs.List.{prefix_len, starts_with}
 use Rattle.std.specs.Str.{bytes_eq}
@@ -25,8 +25,8 @@ use Rattle.vx_reader.specs.Fields.{is_digit, number_from, number_at, signed_at, 
 use Rattle.vx_reader.specs.Forms.{form_name, forms, form_of, candidate, compute_of, move_of, select_of, load_of, store_of, branch_on_of}
 use Rattle.vx_reader.specs.Reading.{is_number, is_numbered, branch_front, has_form, has_operands, texts_named, operation_by, operation_of}
 use Rattle.vx_reader.specs.Steps.{is_operation_line, line_cluster, value_from}
-use Rattle.vx_reader.proofs.Numbers.{own, both_true, number_exact, number_below, number_again, is_number_digits}
-use Rattle.vx_reader.proofs.OperationLemmas.{three_bytes}
+use Rattle.vx_reader.proofs.Numbers.{own, both_true, number_exact, number_below, is_number_digits}
+use Rattle.vx_reader.proofs.OperationLemmas.{three_bytes, numbered_parts, branch_number, kept, cluster_range}
 use Rattle.vx_reader.proofs.OperationsAgain.{operation_again}
 use Rattle.vx_causes.specs.Lines.{first_field, is_no_blank}
 use Rattle.vx_causes.specs.Causes.{OnCluster, IsKnown, IsOperation, IsJump, goes, branches, calls, NamesPlace, HasForm, operates, jumps}
@@ -153,10 +153,6 @@ found op = Ok op
 abbrev lost : ℕ → Result Operation ℕ
 lost code = Err code
 
-kept : (b : Bool) (x op : Operation) → (if b then found x else lost 3) ≡ found op → (b ≡ true) × (x ≡ op)
-kept true x op e = (refl, cc)
-kept false x op e = absurd cc
-
 abbrev operands : List ℕ → List ℕ
 operands text = drop (prefix_len is_no_blank text + 1) text
 
@@ -257,20 +253,11 @@ read_cases k rest = read_by k rest (form_of (first_field rest)) refl
 
 -- a front and a number
 
-numbered_parts : (front text : List ℕ) → is_numbered front text ≡ true → (text ≡ front ++ drop (length front) text) × (is_number (drop (length front) text) ≡ true)
-numbered_parts front text e =
-    let b = both_true (starts_with nat_eq text front) (is_number (drop (length front) text)) e in
-    ((starts_is Decides-eqb text front (starts_with nat_eq text front) refl).0 b.0, b.1)
-
 numbered : (front digits text : List ℕ) → text ≡ front ++ digits → is_number digits ≡ true → is_numbered front text ≡ true
 numbered front digits text e number =
     let begins : starts_with nat_eq text front ≡ true = (starts_is Decides-eqb text front (starts_with nat_eq text front) refl).1 digits e in
     let rest : drop (length front) text ≡ digits = ap (drop (length front)) e ∙ drop_at front digits (length front) refl in
     rw (begins, rest) number
-
-branch_number : (t : ℕ) (ds : List ℕ) → t ≤ 7 → number_at ((decimal t ++ codes ", L") ++ ds) ≡ (t, codes ", L" ++ ds)
-unfolding number_at
-branch_number t ds le = ap (number_from 4294967295 0) (append_assoc (decimal t) (codes ", L") ds) ∙ number_again 4294967295 t (codes ", L" ++ ds) (omega arith) (omega arith) refl
 
 abbrev test_of : List ℕ → ℕ
 test_of text = (number_at (drop 4 (operands text))).0
@@ -451,13 +438,6 @@ value_beyond total ds e small le =
     ]
 
 -- the cluster of a line
-
-cluster_range : (text : List ℕ) → is_operation_line text ≡ true → (48 ≤ get_or text 1 0) × (get_or text 1 0 ≤ 51)
-cluster_range text e =
-    let b = both_true (nat_eq (get_or text 0 0) 99 && nat_le 48 (get_or text 1 0) && nat_le (get_or text 1 0) 51) (nat_eq (get_or text 2 0) 32) e in
-    let c = both_true (nat_eq (get_or text 0 0) 99 && nat_le 48 (get_or text 1 0)) (nat_le (get_or text 1 0) 51) b.0 in
-    let d = both_true (nat_eq (get_or text 0 0) 99) (nat_le 48 (get_or text 1 0)) c.0 in
-    (leb-true _ _ d.1, leb-true _ _ c.1)
 
 pub line_cluster_small : (text : List ℕ) → is_operation_line text ≡ true → line_cluster text ≤ 3
 line_cluster_small text e = let r = cluster_range text e in let high = r.1 in omega (arith, high)

@@ -1,11 +1,11 @@
 -- What a reader finds in a text is its fault, and the fault of a text is what a reader finds.
-use Rattle.std.proofs.Common.{◌≡◌, ◌⊎◌, inl, inr, ℕ, ◌+◌, ◌-◌, ◌^◌, ◌<◌, Bool, true, false, List, [], ◌∷◌, ◌++◌, length, take, Some, None, Result, Ok, Err, refl, sym, ap, subst, ◌∙◌, append_assoc, arith}
+use Rattle.std.proofs.Common.{◌≡◌, ◌⊎◌, inl, inr, ℕ, ◌+◌, ◌-◌, ◌^◌, ◌<◌, Bool, true, false, List, [], ◌∷◌, ◌++◌, length, take, Some, None, Result, Ok, Err, refl, sym, ap, subst, ◌∙◌, arith}
 use Rattle.std.specs.Prelude.{All, codes, nat_eq, if◌then◌else◌}
 use Rattle.std.specs.List.{list_all, flat_map, ends_with}
 use Rattle.std.proofs.lemmas.Slice.Eq.{ends_is}
 use Rattle.std.proofs.lemmas.Bool.Decides.{Decides-eqb}
 use Rattle.std.proofs.lemmas.Bool.{cases_lt}
-use Rattle.std.proofs.lemmas.List.{append-nil, length-append, take_at}
+use Rattle.std.proofs.lemmas.List.{append-nil, length-append}
 use Rattle.std.proofs.lemmas.List.Elements.{All-cons, All-head, All-tail, All-nil}
 use Rattle.std.proofs.lemmas.List.Sums.{count_by-le-length}
 use Rattle.std.proofs.lemmas.Grind.{flat_map-append}
@@ -14,8 +14,8 @@ use Rattle.vx_words.specs.Spelling.{line}
 use Rattle.vx_reader.specs.Steps.{beginning}
 use Rattle.vx_reader.specs.Text.{Fault, lines, cons_first, is_not_feed, is_word_end, word_count, marks_from, run_lines, end_bytes, reading, fault_in, text_fault}
 use Rattle.vx_reader.proofs.Numbers.{both_true}
-use Rattle.vx_reader.proofs.LineLemmas.{unlines, lines_joined, length_lines}
-use Rattle.vx_reader.proofs.ReadLemmas.{front_of}
+use Rattle.vx_reader.proofs.LineLemmas.{unlines, length_lines}
+use Rattle.vx_reader.proofs.ReadLemmas.{front_of, ends_front}
 use Rattle.vx_reader.proofs.LinesAgain.{lines_again}
 use Rattle.vx_causes.specs.Causes.{Cause, Repeated, MemoryTooLarge, UnknownOperation, BadOperand, UnknownLabel, BadLine, code_of, rank, FirstCause, AreLines, EndsWell, FirstFaulty, IsFault, no_end, faulty}
 use Rattle.vx_causes.specs.Laws.{FoundIsFault, FaultIsFound}
@@ -58,18 +58,6 @@ ends_well bytes e = record { front = take (length bytes - 6) bytes; is = (ends_i
 
 well_ends : (bytes : List ℕ) → EndsWell bytes → ends_with nat_eq bytes end_bytes ≡ true
 well_ends bytes x = (ends_is Decides-eqb bytes end_bytes (ends_with nat_eq bytes end_bytes) refl).1 x.front x.is
-
-ends_front : (bytes : List ℕ) → ends_with nat_eq bytes end_bytes ≡ true
-    → (bytes ≡ front_of bytes ++ line (codes ".end")) × (unlines (lines (front_of bytes)) ≡ front_of bytes)
-ends_front bytes e =
-    let xs = take (length bytes - 6) bytes in
-    let split : bytes ≡ xs ++ end_bytes = (ends_is Decides-eqb bytes end_bytes (ends_with nat_eq bytes end_bytes) refl).0 e in
-    let regrouped : bytes ≡ (xs ++ 10 ∷ []) ++ line (codes ".end") = split ∙ sym (append_assoc xs (10 ∷ []) (line (codes ".end"))) in
-    let long : length bytes ≡ length (xs ++ 10 ∷ []) + 5 = ap length regrouped ∙ length-append (xs ++ 10 ∷ []) (line (codes ".end")) in
-    let five : length bytes - 5 ≡ length (xs ++ 10 ∷ []) = omega (arith, long) in
-    let front : front_of bytes ≡ xs ++ 10 ∷ [] =
-    ap (λ n. take n bytes) five ∙ ap (take (length (xs ++ 10 ∷ []))) regrouped ∙ take_at (xs ++ 10 ∷ []) (line (codes ".end")) (length (xs ++ 10 ∷ [])) refl in
-    (regrouped ∙ ap (λ x. x ++ line (codes ".end")) (sym front), ap (λ x. unlines (lines x)) front ∙ lines_joined xs ∙ sym front)
 
 abbrev lines_of : List ℕ → List (List ℕ)
 lines_of bytes = lines (front_of bytes) ++ codes ".end" ∷ []

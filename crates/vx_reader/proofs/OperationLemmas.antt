@@ -29,7 +29,7 @@ is_same_text : (xs ys : List ℕ) → bytes_eq xs ys ≡ true → xs ≡ ys
 is_same_text xs ys e = (bytes_eq-Decides xs ys).0 e
 
 -- a front and a number
-numbered_parts : (front text : List ℕ) → is_numbered front text ≡ true → (text ≡ front ++ drop (length front) text) × (is_number (drop (length front) text) ≡ true)
+pub numbered_parts : (front text : List ℕ) → is_numbered front text ≡ true → (text ≡ front ++ drop (length front) text) × (is_number (drop (length front) text) ≡ true)
 numbered_parts front text e =
     let b = both_true (starts_with nat_eq text front) (is_number (drop (length front) text)) e in
     ((starts_is Decides-eqb text front (starts_with nat_eq text front) refl).0 b.0, b.1)
@@ -53,7 +53,7 @@ calls_spelled text ds e number lt =
     subst (λ x. (number_at (drop 9 (operands x))).0 < most → body_text (Call (number_at (drop 9 (operands x))).0) ≡ x) (sym e)
     (λ h. ap (λ d. codes "call $l0.0 = L" ++ d) (written_below ds number h)) lt
 
-branch_number : (t : ℕ) (ds : List ℕ) → t ≤ 7 → number_at ((decimal t ++ codes ", L") ++ ds) ≡ (t, codes ", L" ++ ds)
+pub branch_number : (t : ℕ) (ds : List ℕ) → t ≤ 7 → number_at ((decimal t ++ codes ", L") ++ ds) ≡ (t, codes ", L" ++ ds)
 unfolding number_at
 branch_number t ds le = ap (number_from most 0) (append_assoc (decimal t) (codes ", L") ds) ∙ number_again most t (codes ", L" ++ ds) (omega arith) (omega arith) refl
 
@@ -118,7 +118,7 @@ found op = Ok op
 abbrev lost : ℕ → Result Operation ℕ
 lost code = Err code
 
-kept : (b : Bool) (x op : Operation) → (if b then found x else lost 3) ≡ found op → (b ≡ true) × (x ≡ op)
+pub kept : (b : Bool) (x op : Operation) → (if b then found x else lost 3) ≡ found op → (b ≡ true) × (x ≡ op)
 kept true x op e = (refl, cc)
 kept false x op e = absurd cc
 
@@ -153,7 +153,7 @@ three_bytes (x ∷ y ∷ z ∷ rest) e =
     let z-is : z ≡ 32 = eqb-true _ _ b.1 in
     cc
 
-cluster_range : (text : List ℕ) → is_operation_line text ≡ true → (48 ≤ get_or text 1 0) × (get_or text 1 0 ≤ 51)
+pub cluster_range : (text : List ℕ) → is_operation_line text ≡ true → (48 ≤ get_or text 1 0) × (get_or text 1 0 ≤ 51)
 cluster_range text e =
     let b = both_true (nat_eq (get_or text 0 0) 99 && nat_le 48 (get_or text 1 0) && nat_le (get_or text 1 0) 51) (nat_eq (get_or text 2 0) 32) e in
     let c = both_true (nat_eq (get_or text 0 0) 99 && nat_le 48 (get_or text 1 0)) (nat_le (get_or text 1 0) 51) b.0 in

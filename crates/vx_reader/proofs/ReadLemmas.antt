@@ -306,7 +306,7 @@ abbrev pub front_of : List ℕ → List ℕ
 front_of bytes = take (length bytes - 5) bytes
 
 -- the front of a text that ends with its last line
-ends_front : (bytes : List ℕ) → ends_with nat_eq bytes end_bytes ≡ true
+pub ends_front : (bytes : List ℕ) → ends_with nat_eq bytes end_bytes ≡ true
     → (bytes ≡ front_of bytes ++ line (codes ".end")) × (unlines (lines (front_of bytes)) ≡ front_of bytes)
 ends_front bytes e =
     let xs = take (length bytes - 6) bytes in
