@@ -28,10 +28,10 @@ use Rattle.vx_mixed.specs.Settled.{Settled}
 use Rattle.vx_region.specs.Regions.{room_in}
 use Rattle.vx_regs.specs.declared.map.RegMap.{RegMap}
 use Rattle.vx_regs.specs.Mapped.{KeepsApart, Mapped}
-use Rattle.vx_frame.specs.Carried.{DoesTheSame, KeepsTo}
-use Rattle.vx_frame.specs.declared.finishing.Finished.{Finished}
-use Rattle.vx_frame.specs.Finish.{CanFinish, AllCanFinish, IsFinished, Finishes}
-use Rattle.vx_frame.specs.Plans.{AreSpaced, IsSpaced, SpacedLaw}
+use Rattle.vx_target.specs.Carried.{DoesTheSame, KeepsTo}
+use Rattle.vx_target.specs.declared.finished.Finished.{Finished}
+use Rattle.vx_target.specs.Finish.{CanFinish, AllCanFinish, IsFinished, Finishes}
+use Rattle.vx_tie.specs.Plans.{AreSpaced, IsSpaced, SpacedLaw}
 use Rattle.vx_isa.specs.Range.{is_in_range}
 use Rattle.vx_profile.specs.declared.counts.Counts.{Counts}
 use Rattle.vx_region.specs.declared.trace_plan.TracePlan.{TracePlan}

@@ -3,3 +3,4 @@ pub mod OneFunction
 pub mod Chain
 pub mod LaidOut
 pub mod NumbersFit
+pub mod FrameLaws

@@ -42,7 +42,7 @@ use Rattle.vx_layout.proofs.LaidSources.{plain_from, plan_of}
 use Rattle.vx_region.specs.Regions.{item_in, room_in, OnMachine, IsGraphOf}
 use Rattle.vx_region.proofs.ClusteredOps.{value_below}
 use Rattle.vx_regs.specs.Intervals.{word_reads, word_writes, result_of, IsLive, here, beyond, IsBusy, is_live, is_named, is_pending}
-use Rattle.vx_frame.specs.Carried.{item_of_laid, room_of}
+use Rattle.vx_target.specs.Carried.{item_of_laid, room_of}
 use Rattle.vx_compile.specs.Stages.{IsLayoutOf}
 
 -- room

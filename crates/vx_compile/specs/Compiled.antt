@@ -23,8 +23,8 @@ use Rattle.vx_regs.specs.declared.map.Kept.{Kept}
 use Rattle.vx_regs.specs.declared.map.Kept.TheVariants.{InRegister, InSlot, Nowhere}
 use Rattle.vx_regs.specs.declared.map.RegMap.{RegMap}
 use Rattle.vx_regs.specs.Mapped.{Mapped}
-use Rattle.vx_frame.specs.Finish.{Finishes}
-use Rattle.vx_frame.specs.Plans.{CarriesPlan}
+use Rattle.vx_target.specs.Finish.{Finishes}
+use Rattle.vx_tie.specs.Plans.{CarriesPlan}
 use Rattle.vx_report.specs.declared.plan.Plan.{Plan}
 use Rattle.vx_compile.specs.Faithful.{Faithful}
 

@@ -22,10 +22,10 @@ use Rattle.vx_regs.specs.declared.map.RegMap.{RegMap}
 use Rattle.vx_profile.specs.declared.counts.Counts.{Counts}
 use Rattle.vx_region.specs.declared.trace_plan.TracePlan.{TracePlan}
 use Rattle.vx_region.specs.Regions.{AllReplaced, ReplacesAll}
-use Rattle.vx_frame.specs.Carried.{FrameLaw}
-use Rattle.vx_frame.specs.declared.finishing.Finished.{Finished}
-use Rattle.vx_frame.specs.Finish.{Finishes}
-use Rattle.vx_frame.specs.Plans.{PlanLaw, SpacedLaw}
+use Rattle.vx_target.specs.Carried.{FrameLaw}
+use Rattle.vx_target.specs.declared.finished.Finished.{Finished}
+use Rattle.vx_target.specs.Finish.{Finishes}
+use Rattle.vx_tie.specs.Plans.{PlanLaw, SpacedLaw}
 use Rattle.vx_ast.specs.Tree.{Program}
 use Rattle.vx_report.specs.declared.plan.Plan.{Plan}
 use Rattle.vx_report.specs.Report.{names_of, report_text}

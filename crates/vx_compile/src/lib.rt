@@ -1,6 +1,7 @@
 // The compiler: from an accepted program to its words and the plan of them.
 #![tactic(auto)]
 
+pub mod laws;
 mod layouts;
 mod ranges;
 mod words;

@@ -10,6 +10,7 @@ ghost use Rattle.vx_lower.specs.FlowOf.{FlowOf};
 ghost use Rattle.vx_compile.specs.Compiled.{AreMapsOf, Compiled, all_in_slots, in_slots, slot_of};
 ghost use Rattle.vx_compile.specs.Stages.{AllBegin, AreFinished, AreInside, AreLayoutsOf, IsCompiledFlow, Sized, StageLaws, all_blocks};
 
+use crate::laws::frames_keep_to_the_machine;
 use crate::layouts::layouts_of;
 use crate::ranges::numbers_fit;
 use std::alloc::Global;
@@ -19,10 +20,7 @@ use vx_base::listed::Listed;
 use vx_base::outcome::NoMemory;
 use vx_clean::clean;
 use vx_flow::graph::{Flow, Graph};
-use vx_frame::laws::{
-    finished_programs_carry_their_plan, frames_keep_to_the_machine, layouts_are_spaced,
-};
-use vx_frame::{Finished, finish};
+use vx_frame::finish;
 use vx_hoist::{Hoisted, hoist};
 use vx_isa::laws::{any_timing_law, path_strict_law};
 use vx_isa::program::WordProgram;
@@ -36,6 +34,8 @@ use vx_profile::counts::Counts;
 use vx_regs::map::{Kept, RegMap};
 use vx_regs::registers;
 use vx_report::Plan;
+use vx_target::finished::Finished;
+use vx_tie::laws::{finished_programs_carry_their_plan, layouts_are_spaced};
 
 /// The words of a program, and how they were planned.
 #[derive(Drop)]

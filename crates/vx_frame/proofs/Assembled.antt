@@ -30,20 +30,21 @@ use Rattle.vx_regs.specs.declared.map.Kept.TheVariants.{InRegister, InSlot, Nowh
 use Rattle.vx_regs.specs.declared.map.RegMap.{RegMap}
 use Rattle.vx_regs.specs.Intervals.{IsBusy}
 use Rattle.vx_regs.specs.Mapped.{KeepsApart, kept_of}
-use Rattle.vx_frame.specs.declared.finishing.Finished.{Finished}
-use Rattle.vx_frame.specs.declared.gathering.FunctionFrame.{FunctionFrame}
-use Rattle.vx_frame.specs.declared.gathering.Whole.{Whole}
-use Rattle.vx_frame.specs.Target.{Target, is_slotted}
-use Rattle.vx_frame.specs.Tied.{IsFunction}
-use Rattle.vx_frame.specs.Carried.{room_of, item_of_laid, IsMapped, IsSaved, NeedsSlot, is_passed, is_spilled, is_saved, HasWord, IsFramed, words_before, Carries}
-use Rattle.vx_frame.specs.Finish.{CanFinish, AllCanFinish, Finishes, SoundLaw}
+use Rattle.vx_target.specs.declared.finished.Finished.{Finished}
+use Rattle.vx_slots.specs.declared.gathering.FunctionFrame.{FunctionFrame}
+use Rattle.vx_slots.specs.declared.gathering.Whole.{Whole}
+use Rattle.vx_target.specs.Target.{Target, is_slotted}
+use Rattle.vx_target.specs.Tied.{IsFunction}
+use Rattle.vx_target.specs.Carried.{room_of, item_of_laid, IsMapped, IsSaved, NeedsSlot, is_passed, is_spilled, is_saved, HasWord, IsFramed, words_before, Carries}
+use Rattle.vx_target.specs.Finish.{CanFinish, AllCanFinish, Finishes}
+use Rattle.vx_heat.specs.Fitted.{SoundLaw}
 use Rattle.vx_frame.specs.Found.{Found, Made}
-use Rattle.vx_frame.specs.Framing.{IsFrameOf, SlotNeeded, is_passed as is_passed_there, is_kept, is_saved as is_saved_there}
-use Rattle.vx_frame.specs.Places.{ArePlaces}
+use Rattle.vx_memory.specs.Framing.{IsFrameOf, SlotNeeded, is_passed as is_passed_there, is_kept, is_saved as is_saved_there}
+use Rattle.vx_target.specs.Places.{ArePlaces}
 use Rattle.vx_frame.specs.Placing.{splits, OneSplit, all_places, functions_begin, standing}
 use Rattle.vx_frame.specs.Regions.{all_traces}
-use Rattle.vx_frame.specs.Seen.{no_graph, no_layout, no_map, no_frame, seen}
-use Rattle.vx_frame.proofs.Frames.{get_some, get_in}
+use Rattle.vx_slots.specs.Seen.{no_graph, no_layout, no_map, no_frame, seen}
+use Rattle.vx_target.proofs.Frames.{get_some, get_in}
 use Rattle.vx_frame.proofs.RegionPlaces.{are_places}
 
 -- lists

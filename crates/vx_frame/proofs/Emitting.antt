@@ -1,30 +1,13 @@
--- The steps by which words are put together: one cluster, word or function more.
-use Rattle.std.proofs.Common.{◌≡◌, ◌<◌, ℕ, zero, suc, ◌+◌, ◌-◌, ◌==◌, true, false, subst, List, [], ◌∷◌, ◌++◌, length, map, refl, sym, ap, ◌∙◌, arith, append_assoc, length-append, append-nil}
-use Rattle.std.specs.Prelude.{if◌then◌else◌}
-use Rattle.vx_flow.specs.Walk.{numbers}
-use Rattle.vx_isa.specs.Fits.{fits}
-use Rattle.vx_isa.specs.Numbers.{Numbers}
-use Rattle.vx_isa.specs.declared.operation.Operation.{Operation}
+-- The steps by which words are put together: one word or function more.
+use Rattle.std.proofs.Common.{◌≡◌, ◌<◌, ℕ, zero, suc, ◌+◌, ◌-◌, subst, List, [], ◌∷◌, ◌++◌, length, refl, sym, ap, ◌∙◌, arith, append_assoc, length-append, append-nil}
 use Rattle.vx_isa.specs.declared.program.Word.{Word}
 use Rattle.vx_mixed.specs.declared.layout.VirtualWord.{VirtualWord}
-use Rattle.vx_frame.specs.declared.gathering.FunctionPlaces.{FunctionPlaces}
+use Rattle.vx_slots.specs.declared.gathering.FunctionPlaces.{FunctionPlaces}
 use Rattle.vx_base.specs.declared.outcome.Trap.TheVariants.{Depth as ByDepth}
 use Rattle.vx_isa.specs.declared.operation.Operation.TheVariants.{EndByTrap}
-use Rattle.vx_frame.specs.Target.{Target, on_clusters, word_words, entry_words, start_words, one, together, waits, pause}
-use Rattle.vx_frame.specs.Placed.{laid_pieces, landing_pieces, word_landings, function_pieces, functions_pieces, all_pieces, Labelled, Depth, words_of}
+use Rattle.vx_target.specs.Target.{Target, word_words, entry_words, start_words, one}
+use Rattle.vx_target.specs.Placed.{laid_pieces, landing_pieces, word_landings, function_pieces, functions_pieces, all_pieces, Labelled, Depth, words_of}
 use Rattle.vx_frame.specs.Placing.{starts_from, landings_from, mark_of, marks_from, laid_begin, landings_begin, places_at, all_places, functions_end}
-
--- clusters
-
-on_more : (op : ℕ → Operation) (b n : ℕ) → map op (numbers b (suc n)) ≡ map op (numbers b n) ++ op (b + n) ∷ []
-on_more op b zero = let z : b ≡ b + 0 = omega arith in ap (λ k. op k ∷ []) z
-on_more op b (suc n) = let z : b + 1 + n ≡ b + suc n = omega arith in ap (λ q. op b ∷ q) (on_more op (b + 1) n ∙ ap (λ k. map op (numbers (b + 1) n) ++ op k ∷ []) z)
-
-pub clusters_none : (op : ℕ → Operation) → on_clusters 0 op ≡ []
-clusters_none op = refl
-
-pub clusters_more : (op : ℕ → Operation) (n : ℕ) → on_clusters (n + 1) op ≡ on_clusters n op ++ op n ∷ []
-clusters_more op n = let s : n + 1 ≡ suc n = omega arith in let z : 0 + n ≡ n = omega arith in ap (λ k. map op (numbers 0 k)) s ∙ on_more op 0 n ∙ ap (λ k. map op (numbers 0 n) ++ op k ∷ []) z
 
 -- pieces
 
@@ -166,20 +149,3 @@ program_words T main n started given ended a b c =
 
 pub trap_is : (T : Target) (main n k : ℕ) (started given : List Word) → started ≡ start_words T main → given ≡ started ++ words_of (functions_pieces T 0 n) → k ≡ length given → k ≡ functions_end T main n
 trap_is T main n k started given a b c = c ∙ ap length (b ∙ ap (λ z. z ++ words_of (functions_pieces T 0 n)) a) ∙ length-append (start_words T main) (words_of (functions_pieces T 0 n))
-
--- pauses
-
-pub some_pause : (n : ℕ) → (n == 0) ≡ false → pause n ≡ waits n ∷ []
-some_pause zero e = let z : true ≡ false = e in cc
-some_pause (suc n) e = refl
-
--- two operations
-
-pub beside : (m : Numbers) (a b : Operation) → fits m (a ∷ b ∷ []) ≡ true → together m a b ≡ record { ops = a ∷ b ∷ []; idle = 0 } ∷ []
-beside m a b e = ap (λ c. if c then record { ops = a ∷ b ∷ []; idle = 0 } ∷ [] else one a ∷ one b ∷ []) e
-
-pub apart : (m : Numbers) (a b : Operation) → fits m (a ∷ b ∷ []) ≡ false → together m a b ≡ one a ∷ one b ∷ []
-apart m a b e = ap (λ c. if c then record { ops = a ∷ b ∷ []; idle = 0 } ∷ [] else one a ∷ one b ∷ []) e
-
-pub behind_both : (old more new xs ys : List Word) → more ≡ old ++ xs → new ≡ more ++ ys → new ≡ old ++ (xs ++ ys)
-behind_both old more new xs ys a b = b ∙ ap (λ z. z ++ ys) a ∙ append_assoc old xs ys

@@ -16,8 +16,8 @@ use Rattle.vx_mixed.specs.declared.layout.Laid.TheVariants.{Plain, Split}
 use Rattle.vx_mixed.specs.declared.layout.VirtualWord.{VirtualWord}
 use Rattle.vx_mixed.specs.declared.layout.VirtualWord.TheVariants.{Planned, Drain, Transfer, Choice, Call as Calls, Return as Returns, Ends}
 use Rattle.vx_mixed.specs.LaidSettled.{laid_reads, laid_writes}
-use Rattle.vx_frame.specs.Target.{Target, answer, bytes, one, set_stack, start_words, stack_on, move_stack, parameters_of, slotted, general_of, branch_of, load_slot, store_slot, load_slots, store_slots, if_some, once, pause, settled, if_any, slots_in_flight, before, behind, plan_word, plan_words, past, landing_words, fetch_words, fetched, cluster_of_operand, argument_words, result_words, save_words, reload_words, call_words, back_words, return_words, follows, way, link_words, entry_words, word_words}
-use Rattle.vx_frame.specs.Placed.{landing_of, item_landings, word_landings, words_of}
+use Rattle.vx_target.specs.Target.{Target, answer, bytes, one, set_stack, start_words, stack_on, move_stack, parameters_of, slotted, general_of, branch_of, load_slot, store_slot, load_slots, store_slots, if_some, once, pause, settled, if_any, slots_in_flight, before, behind, plan_word, plan_words, past, landing_words, fetch_words, fetched, cluster_of_operand, argument_words, result_words, save_words, reload_words, call_words, back_words, return_words, follows, way, link_words, entry_words, word_words}
+use Rattle.vx_target.specs.Placed.{landing_of, item_landings, word_landings, words_of}
 use Rattle.vx_frame.specs.Placing.{Spots, at_spots}
 use Rattle.vx_frame.proofs.Emitting.{words_of_append}
 

@@ -6,12 +6,12 @@ use Rattle.vx_mixed.specs.declared.layout.Laid.TheVariants.{Plain, Split}
 use Rattle.vx_mixed.specs.declared.layout.VirtualWord.{VirtualWord}
 use Rattle.vx_mixed.specs.declared.layout.VirtualWord.TheVariants.{Planned, Drain, Transfer, Choice, Call as Calls, Return as Returns, Ends}
 use Rattle.vx_mixed.specs.LaidSettled.{laid_writes}
-use Rattle.vx_frame.specs.declared.gathering.FunctionPlaces.{FunctionPlaces}
-use Rattle.vx_frame.specs.Target.{Target, one as single, slotted, word_words, call_words, entry_words, start_words}
-use Rattle.vx_frame.specs.Placed.{Labelled, Depth, PlacedAt, laid_pieces, landing_of, item_landings, word_landings, landing_pieces, function_pieces, functions_pieces, all_pieces, words_of, IsPlaced}
+use Rattle.vx_slots.specs.declared.gathering.FunctionPlaces.{FunctionPlaces}
+use Rattle.vx_target.specs.Target.{Target, one as single, slotted, word_words, call_words, entry_words, start_words}
+use Rattle.vx_target.specs.Placed.{Labelled, Depth, PlacedAt, laid_pieces, landing_of, item_landings, word_landings, landing_pieces, function_pieces, functions_pieces, all_pieces, words_of, IsPlaced}
 use Rattle.std.proofs.lemmas.Bool.{cases_lt}
 use Rattle.vx_frame.specs.Placing.{Spots, at_spots, splits, OneSplit, starts_from, landings_from, mark_of, marks_from, laid_begin, landings_begin, places_at, all_places, spots_of, functions_begin, functions_end, standing}
-use Rattle.vx_frame.specs.Seen.{no_places}
+use Rattle.vx_slots.specs.Seen.{no_places}
 use Rattle.vx_base.specs.declared.outcome.Trap.TheVariants.{Depth as ByDepth}
 use Rattle.vx_isa.specs.declared.operation.Operation.TheVariants.{EndByTrap}
 use Rattle.vx_isa.specs.declared.program.Word.{Word}

@@ -7,13 +7,13 @@ use Rattle.vx_isa.specs.declared.program.WordProgram.{WordProgram}
 use Rattle.vx_isa.specs.Machine.{memory_at_start}
 use Rattle.vx_isa.specs.Numbers.{IsMachine}
 use Rattle.vx_isa.specs.Sound.{is_start}
-use Rattle.vx_frame.specs.declared.gathering.Whole.{Whole}
-use Rattle.vx_frame.specs.Placed.{IsPlaced}
-use Rattle.vx_frame.specs.Carried.{words_before, first_or_zero}
-use Rattle.vx_frame.specs.Finish.{AllCanFinish}
-use Rattle.vx_frame.specs.Framing.{IsFrameOf}
+use Rattle.vx_slots.specs.declared.gathering.Whole.{Whole}
+use Rattle.vx_target.specs.Placed.{IsPlaced}
+use Rattle.vx_target.specs.Carried.{words_before, first_or_zero}
+use Rattle.vx_target.specs.Finish.{AllCanFinish}
+use Rattle.vx_memory.specs.Framing.{IsFrameOf}
 use Rattle.vx_frame.specs.Placing.{standing}
-use Rattle.vx_frame.specs.Seen.{no_graph, no_layout, no_map, no_frame, seen}
+use Rattle.vx_slots.specs.Seen.{no_graph, no_layout, no_map, no_frame, seen}
 
 -- what stands in the frame of each function, where each global begins, and the sizes of all
 pub record Found (W : Whole) (flow : Flow) : Type 0 where

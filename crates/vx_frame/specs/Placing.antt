@@ -5,10 +5,10 @@ use Rattle.vx_mixed.specs.declared.layout.Laid.TheVariants.{Plain, Split}
 use Rattle.vx_mixed.specs.declared.layout.VirtualWord.{VirtualWord}
 use Rattle.vx_mixed.specs.declared.layout.VirtualWord.TheVariants.{Planned, Drain, Transfer, Choice, Call, Return, Ends}
 use Rattle.vx_mixed.specs.LaidSettled.{laid_reads}
-use Rattle.vx_frame.specs.declared.gathering.FunctionPlaces.{FunctionPlaces}
-use Rattle.vx_frame.specs.Target.{Target, before, call_words, word_words, entry_words, start_words}
-use Rattle.vx_frame.specs.Seen.{no_places}
-use Rattle.vx_frame.specs.Placed.{laid_pieces, word_landings, function_pieces, functions_pieces, words_of}
+use Rattle.vx_slots.specs.declared.gathering.FunctionPlaces.{FunctionPlaces}
+use Rattle.vx_target.specs.Target.{Target, before, call_words, word_words, entry_words, start_words}
+use Rattle.vx_slots.specs.Seen.{no_places}
+use Rattle.vx_target.specs.Placed.{laid_pieces, word_landings, function_pieces, functions_pieces, words_of}
 
 -- the words of a layout from place p on, of which the first one's words begin at q
 abbrev pub starts_from : Target → (function q p : ℕ) → List VirtualWord → List ℕ

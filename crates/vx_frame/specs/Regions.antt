@@ -5,9 +5,9 @@ use Rattle.vx_flow.specs.Walk.{numbers}
 use Rattle.vx_mixed.specs.declared.layout.VirtualWord.{VirtualWord}
 use Rattle.vx_mixed.specs.declared.layout.VWords.{VWords}
 use Rattle.vx_layout.specs.Numbered.{is_word_of}
-use Rattle.vx_frame.specs.declared.finishing.TracePlaces.{TracePlaces}
-use Rattle.vx_frame.specs.declared.gathering.FunctionPlaces.{FunctionPlaces}
-use Rattle.vx_frame.specs.Seen.{no_places}
+use Rattle.vx_target.specs.declared.finished.TracePlaces.{TracePlaces}
+use Rattle.vx_slots.specs.declared.gathering.FunctionPlaces.{FunctionPlaces}
+use Rattle.vx_slots.specs.Seen.{no_places}
 
 -- the mark of a word, where it is one of region r
 abbrev pub mark_in : (r : ℕ) → VirtualWord → (mark : ℕ) → List ℕ

@@ -1,45 +1,30 @@
 // From the layouts and maps of a program's functions to its words: what stands in frames and memory, and then the words,
-// first to find their places and then for good. specs/Finish.antt says what is asked and what is promised.
+// first to find their places and then for good. specs/Finish.antt of vx_target says what is asked and what is promised.
 
 ghost use Rattle.std.specs.Prelude.{◌≡◌, ◌<◌, ◌≤◌, ℕ, true, [], IfOk, length};
 ghost use Rattle.vx_flow.specs.Sound.{is_sound_flow};
-ghost use Rattle.vx_frame.specs.Finish.{AllCanFinish, Finishes};
+ghost use Rattle.vx_target.specs.Finish.{AllCanFinish, Finishes};
 ghost use Rattle.vx_frame.specs.Found.{Found, Made};
-ghost use Rattle.vx_frame.specs.Placed.{IsPlaced};
+ghost use Rattle.vx_target.specs.Placed.{IsPlaced};
 ghost use Rattle.vx_frame.specs.Placing.{OneSplit, all_places, functions_begin, standing};
 ghost use Rattle.vx_frame.specs.Regions.{all_traces};
-ghost use Rattle.vx_frame.specs.Seen.{seen};
+ghost use Rattle.vx_slots.specs.Seen.{seen};
 
-use crate::addressing::{addresses_of, first_words, memory_bytes};
-use crate::framing::{frame_size, frames};
-use crate::gathering::{Sizes, Whole};
-use crate::laws::words_are_sound;
 use crate::placing::pieces_that_stand;
 use crate::regions::region_places;
 use std::alloc::Global;
 use vx_base::listed::{Bytes, Listed};
 use vx_base::outcome::NoMemory;
 use vx_flow::graph::Flow;
+use vx_heat::laws::words_are_sound;
 use vx_isa::program::{Word, WordProgram};
 use vx_machine::Machine;
+use vx_memory::addressing::{addresses_of, first_words, memory_bytes};
+use vx_memory::framing::{frame_size, frames};
 use vx_mixed::layout::VWords;
 use vx_regs::map::RegMap;
-
-/// The places of the words of a region.
-#[derive(Drop, Debug)]
-pub struct TracePlaces {
-    /// For each word of the region, in order, the place in the program of the word that has its operations.
-    pub places: Listed<u32>,
-}
-
-/// A program of words, and where the words of its regions stand.
-#[derive(Drop, Debug)]
-pub struct Finished {
-    /// The program.
-    pub program: WordProgram,
-    /// The regions of all functions, the functions in order, with those that have no words.
-    pub places: Listed<TracePlaces>,
-}
+use vx_slots::gathering::{Sizes, Whole};
+use vx_target::finished::Finished;
 
 fn copied_text(alloc: Global, text: &[u8]) -> Result<Bytes, NoMemory>
     ensures { IfOk result (λ copy. copy ≡ text.now) }

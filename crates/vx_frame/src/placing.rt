@@ -4,24 +4,25 @@
 ghost use Rattle.std.specs.Prelude.{◌≡◌, ◌<◌, ◌≤◌, ◌++◌, ◌+◌, ℕ, [], IfOk, length};
 ghost use Rattle.vx_mixed.specs.declared.layout.VirtualWord.TheVariants.{Call};
 ghost use Rattle.vx_mixed.specs.LaidSettled.{laid_reads};
-ghost use Rattle.vx_frame.specs.Target.{before, idle_words, plan_words, start_words, turns, turns_word, word_words};
-ghost use Rattle.vx_frame.specs.Placed.{laid_pieces, word_landings, landing_pieces, function_pieces, functions_pieces, all_pieces, words_of, IsPlaced};
+ghost use Rattle.vx_target.specs.Target.{before, idle_words, plan_words, start_words, turns, turns_word, word_words};
+ghost use Rattle.vx_target.specs.Placed.{laid_pieces, word_landings, landing_pieces, function_pieces, functions_pieces, all_pieces, words_of, IsPlaced};
 ghost use Rattle.vx_frame.specs.Placing.{starts_from, landings_from, mark_of, marks_from, places_at, all_places, functions_begin, functions_end, at_spots, spots_of, standing, OneSplit};
-ghost use Rattle.vx_frame.specs.Seen.{seen};
+ghost use Rattle.vx_slots.specs.Seen.{seen};
 
-use crate::calling::{
-    follows, push_back, push_call, push_entry, push_return, push_start, push_way,
-};
-use crate::gathering::{FunctionPlaces, Sizes, Whole, words_of};
-use crate::planning::{plan_of, push_choice, push_item_landings, push_plan};
-use crate::slotting::{push_idle, push_one, push_pause, sum};
 use std::alloc::Global;
 use vx_base::listed::Listed;
 use vx_base::outcome::{NoMemory, Trap};
+use vx_calls::calling::{
+    follows, push_back, push_call, push_entry, push_return, push_start, push_way,
+};
+use vx_carry::planning::{plan_of, push_choice, push_item_landings, push_plan};
 use vx_flow::graph::{Operand, Value};
 use vx_isa::operation::Operation;
 use vx_isa::program::Word;
 use vx_mixed::layout::{Laid, VirtualWord};
+use vx_slots::gathering::{FunctionPlaces, Sizes, Whole, words_of};
+use vx_slots::numbers::sum;
+use vx_slots::slotting::{push_idle, push_one, push_pause};
 
 /// The words of a program, and where they stand.
 #[derive(Drop)]

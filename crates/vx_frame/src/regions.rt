@@ -4,15 +4,15 @@
 ghost use Rattle.std.specs.Prelude.{◌≡◌, ◌<◌, ◌++◌, ◌∷◌, [], IfOk, length, map, replicate, slice_index_or, slice_set};
 ghost use Rattle.vx_flow.specs.Rows.{row_at};
 ghost use Rattle.vx_frame.specs.Regions.{Noted, all_traces, rows_of, traced};
-ghost use Rattle.vx_frame.specs.Seen.{no_places};
+ghost use Rattle.vx_slots.specs.Seen.{no_places};
 
-use crate::finishing::TracePlaces;
-use crate::gathering::{FunctionPlaces, number_at};
-use crate::slotting::sum;
 use std::alloc::Global;
 use vx_base::listed::Listed;
 use vx_base::outcome::NoMemory;
 use vx_mixed::layout::{VWords, VirtualWord};
+use vx_slots::gathering::{FunctionPlaces, number_at};
+use vx_slots::numbers::sum;
+use vx_target::finished::TracePlaces;
 
 fn empty_rows(alloc: Global, count: u32) -> Result<Vec<Listed<u32>>, NoMemory>
     ensures { IfOk result (λ rows. rows.items ≡ replicate count []) }

@@ -9,7 +9,7 @@ use Rattle.vx_dep.specs.declared.copies.Rejoin.{Rejoin}
 use Rattle.vx_dep.specs.declared.mode.Mode.{Mode}
 use Rattle.vx_dep.specs.declared.mode.Mode.TheVariants.{Free, Barred}
 use Rattle.vx_dep.specs.Compensation.{word_at}
-use Rattle.vx_frame.specs.declared.finishing.TracePlaces.{TracePlaces}
+use Rattle.vx_target.specs.declared.finished.TracePlaces.{TracePlaces}
 use Rattle.vx_region.specs.declared.trace_plan.TracePlan.{TracePlan}
 use Rattle.vx_report.specs.declared.plan.Plan.{Plan}
 

@@ -1,8 +1,8 @@
 // What was decided when a program was compiled.
 
 use vx_base::listed::Listed;
-use vx_frame::TracePlaces;
 use vx_region::TracePlan;
+use vx_target::finished::TracePlaces;
 
 /// How a program was compiled: its traces, function by function and in each in the order in which they became regions.
 #[derive(Drop)]

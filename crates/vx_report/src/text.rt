@@ -13,8 +13,8 @@ use std::alloc::Global;
 use vx_ast::typed::Typed;
 use vx_base::outcome::NoMemory;
 use vx_flow::trace::TraceOp;
-use vx_frame::TracePlaces;
 use vx_region::TracePlan;
+use vx_target::finished::TracePlaces;
 
 /// The name of a function. One that the program does not have has no letter.
 fn name_of(program: &Typed, function: u32) -> &[u8]

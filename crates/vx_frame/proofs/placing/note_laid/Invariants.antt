@@ -1,5 +1,5 @@
 use Rattle.std.proofs.Common.{length}
-use Rattle.vx_frame.specs.Seen.{seen}
+use Rattle.vx_slots.specs.Seen.{seen}
 use Rattle.vx_frame.proofs.Emitting.{Emits}
 use Rattle.vx_frame.proofs.placing.note_laid.Given as goal
 

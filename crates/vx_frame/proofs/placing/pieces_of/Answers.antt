@@ -1,7 +1,7 @@
 use Rattle.std.proofs.Common.{◌≡◌, ◌++◌, length, ap, ◌∙◌}
 use Rattle.vx_frame.specs.Placing.{all_places}
-use Rattle.vx_frame.specs.Seen.{seen}
-use Rattle.vx_frame.specs.Target.{start_words}
+use Rattle.vx_slots.specs.Seen.{seen}
+use Rattle.vx_target.specs.Target.{start_words}
 use Rattle.vx_frame.proofs.Emitting.{program_words, trap_is}
 use Rattle.vx_frame.proofs.placing.pieces_of.Goals as goal
 

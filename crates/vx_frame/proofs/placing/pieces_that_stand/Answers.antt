@@ -1,6 +1,6 @@
 use Rattle.std.proofs.Common.{ap, ◌∙◌}
 use Rattle.vx_frame.specs.Placing.{at_spots, spots_of}
-use Rattle.vx_frame.specs.Seen.{seen}
+use Rattle.vx_slots.specs.Seen.{seen}
 use Rattle.vx_frame.proofs.Standing.{second_pass}
 use Rattle.vx_frame.proofs.placing.pieces_that_stand.Goals as goal
 

@@ -1,8 +1,8 @@
 use Rattle.std.proofs.Common.{◌++◌, length, ap, ◌∙◌}
-use Rattle.vx_frame.specs.declared.gathering.FunctionPlaces.{FunctionPlaces}
-use Rattle.vx_frame.specs.Placed.{laid_pieces, landing_pieces, words_of}
+use Rattle.vx_slots.specs.declared.gathering.FunctionPlaces.{FunctionPlaces}
+use Rattle.vx_target.specs.Placed.{laid_pieces, landing_pieces, words_of}
 use Rattle.vx_frame.specs.Placing.{landings_from, marks_from, starts_from}
-use Rattle.vx_frame.specs.Seen.{seen}
+use Rattle.vx_slots.specs.Seen.{seen}
 use Rattle.vx_frame.proofs.Emitting.{function_words, places_are_at}
 use Rattle.vx_frame.proofs.placing.push_function.Goals as goal
 

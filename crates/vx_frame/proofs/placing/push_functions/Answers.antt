@@ -1,4 +1,4 @@
-use Rattle.vx_frame.specs.Seen.{seen}
+use Rattle.vx_slots.specs.Seen.{seen}
 use Rattle.vx_frame.proofs.Emitting.{gives_turn}
 use Rattle.vx_frame.proofs.placing.push_functions.Goals as goal
 

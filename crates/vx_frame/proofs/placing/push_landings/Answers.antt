@@ -1,5 +1,5 @@
 use Rattle.std.proofs.Common.{◌≡◌, ◌∷◌, rules}
-use Rattle.vx_frame.specs.Seen.{seen}
+use Rattle.vx_slots.specs.Seen.{seen}
 use Rattle.vx_frame.proofs.Emitting.{lands_turn}
 use Rattle.vx_frame.proofs.placing.push_landings.Goals as goal
 

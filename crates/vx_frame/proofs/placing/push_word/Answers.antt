@@ -1,8 +1,8 @@
 use Rattle.std.proofs.Common.{◌≡◌, ◌+◌, ◌++◌, IfOk, length, sym, subst}
 use Rattle.vx_mixed.specs.LaidSettled.{laid_reads}
 use Rattle.vx_frame.specs.Placing.{mark_of}
-use Rattle.vx_frame.specs.Seen.{seen}
-use Rattle.vx_frame.specs.Target.{before, plan_words, word_words}
+use Rattle.vx_slots.specs.Seen.{seen}
+use Rattle.vx_target.specs.Target.{before, plan_words, word_words}
 use Rattle.vx_frame.proofs.placing.push_word.Goals as goal
 
 pub returns-in-Planned-clause-words : goal.returns-in-Planned-clause-words

@@ -1,0 +1,23 @@
+-- The steps by which the words of calls are put together: an operation on one cluster more, and words behind words.
+use Rattle.std.proofs.Common.{◌≡◌, ℕ, zero, suc, ◌+◌, List, [], ◌∷◌, ◌++◌, map, refl, ap, ◌∙◌, arith, append_assoc}
+use Rattle.vx_flow.specs.Walk.{numbers}
+use Rattle.vx_isa.specs.declared.operation.Operation.{Operation}
+use Rattle.vx_isa.specs.declared.program.Word.{Word}
+use Rattle.vx_target.specs.Target.{on_clusters}
+
+-- clusters
+
+on_more : (op : ℕ → Operation) (b n : ℕ) → map op (numbers b (suc n)) ≡ map op (numbers b n) ++ op (b + n) ∷ []
+on_more op b zero = let z : b ≡ b + 0 = omega arith in ap (λ k. op k ∷ []) z
+on_more op b (suc n) = let z : b + 1 + n ≡ b + suc n = omega arith in ap (λ q. op b ∷ q) (on_more op (b + 1) n ∙ ap (λ k. map op (numbers (b + 1) n) ++ op k ∷ []) z)
+
+pub clusters_none : (op : ℕ → Operation) → on_clusters 0 op ≡ []
+clusters_none op = refl
+
+pub clusters_more : (op : ℕ → Operation) (n : ℕ) → on_clusters (n + 1) op ≡ on_clusters n op ++ op n ∷ []
+clusters_more op n = let s : n + 1 ≡ suc n = omega arith in let z : 0 + n ≡ n = omega arith in ap (λ k. map op (numbers 0 k)) s ∙ on_more op 0 n ∙ ap (λ k. map op (numbers 0 n) ++ op k ∷ []) z
+
+-- words behind words
+
+pub behind_both : (old more new xs ys : List Word) → more ≡ old ++ xs → new ≡ more ++ ys → new ≡ old ++ (xs ++ ys)
+behind_both old more new xs ys a b = b ∙ ap (λ z. z ++ ys) a ∙ append_assoc old xs ys

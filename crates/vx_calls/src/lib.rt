@@ -1,0 +1,4 @@
+// The words of calls, returns, entries and of a program's start.
+#![tactic(auto)]
+
+pub mod calling;

@@ -1,5 +1,0 @@
-use Rattle.vx_frame.proofs.WholePlan.{plan_law}
-use Rattle.vx_frame.proofs.laws.finished_programs_carry_their_plan.Goals as goal
-
-pub returns : goal.returns
-returns c = plan_law

@@ -1,5 +1,0 @@
-use Rattle.vx_frame.proofs.Whole.{whole_law}
-use Rattle.vx_frame.proofs.laws.programs_do_the_same.Goals as goal
-
-pub returns : goal.returns
-returns c = whole_law

@@ -1,5 +1,0 @@
-use Rattle.vx_frame.proofs.Returning.{return_law}
-use Rattle.vx_frame.proofs.laws.returns_are_carried.Goals as goal
-
-pub returns : goal.returns
-returns c = return_law

@@ -1,5 +1,0 @@
-use Rattle.vx_frame.proofs.Start.{start_law}
-use Rattle.vx_frame.proofs.laws.starts_are_tied.Goals as goal
-
-pub returns : goal.returns
-returns c = start_law

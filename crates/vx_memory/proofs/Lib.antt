@@ -1,0 +1,5 @@
+pub mod Globals
+pub mod Offsets
+pub mod FrameLists
+pub mod SavedLists
+pub mod LeadsWithin

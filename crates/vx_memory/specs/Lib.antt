@@ -1,0 +1,5 @@
+pub mod Framing
+pub mod Saves
+pub mod LoopExample
+pub mod Globals
+pub mod Slots

@@ -1,0 +1,275 @@
+-- Where the words of frames are: within the memory, apart from each other and from the globals.
+use Rattle.std.proofs.Common.{◌≡◌, ◌≢◌, ◌<◌, ◌≤◌, ◌⊎◌, inl, inr, ⊎_elim, ◌+◌, ◌-◌, ◌*◌, ℕ, zero, suc, ℤ, Bool, true, false, not, ◌||◌, Option, Some, None, List, [], ◌∷◌, length, refl, sym, ap, ◌∙◌, subst, arith, ltb}
+use Rattle.std.specs.Prelude.{if◌then◌else◌, slice_get, slice_index_or}
+use Rattle.std.specs.List.{list_any}
+use Rattle.std.proofs.lemmas.Bool.{ltb-true, ltb-false}
+use Rattle.vx_flow.specs.declared.graph.Array.{Array}
+use Rattle.vx_flow.specs.declared.graph.Global.{Global}
+use Rattle.vx_flow.specs.declared.graph.Flow.{Flow}
+use Rattle.vx_flow.specs.Effects.{Content, IsIn}
+use Rattle.vx_flow.specs.Meaning.{Frame, spot_of, deepest}
+use Rattle.vx_flow.specs.Sound.{is_own as is_own_array, SoundFlow}
+use Rattle.vx_flow.specs.declared.graph.Operand.{Operand}
+use Rattle.vx_isa.specs.declared.operation.Register.TheVariants.{Link}
+use Rattle.vx_isa.specs.Machine.{State}
+use Rattle.vx_mixed.specs.declared.layout.VirtualWord.{VirtualWord}
+use Rattle.vx_mixed.specs.declared.layout.VirtualWord.TheVariants.{Planned, Drain, Transfer, Choice, Call, Return, Ends}
+use Rattle.vx_mixed.specs.declared.layout.VWords.{VWords}
+use Rattle.vx_mixed.specs.LaidSettled.{LeadsTo}
+use Rattle.vx_target.specs.Target.{Target, is_own, is_call_word, is_caller, past_there, past, memory_words}
+use Rattle.vx_target.specs.Tied.{Row, row_in, begins_at, Arrays, IsFunction, Below, Deep, own_arrays, word_at, link_in}
+use Rattle.vx_target.specs.Carried.{NeedsSlot, HasWord, IsFramed, words_before}
+
+pub get_below : {A : Type 0} (xs : List A) (i : ℕ) (x : A) → slice_get xs i ≡ Some x → i < length xs
+get_below [] i x e = absurd (cc)
+get_below (y ∷ ys) zero x e = omega arith
+get_below (y ∷ ys) (suc i) x e = let h = get_below ys i x e in omega arith
+
+pub get_some : {A : Type 0} (xs : List A) (i : ℕ) → i < length xs → (x : A) × (slice_get xs i ≡ Some x)
+get_some [] i h = absurd (omega arith)
+get_some (y ∷ ys) zero h = (y, refl)
+get_some (y ∷ ys) (suc i) h = get_some ys i (omega arith)
+
+pub get_beyond : {A : Type 0} (xs : List A) (i : ℕ) → length xs ≤ i → slice_get xs i ≡ None
+get_beyond [] i le = refl
+get_beyond (x ∷ xs) zero le = absurd (omega arith)
+get_beyond (x ∷ xs) (suc i) le = get_beyond xs i (omega arith)
+
+-- a place past a transfer is in the layout
+
+pub past_below : (T : Target) (f : ℕ) → ((p q : ℕ) (word : VirtualWord) → slice_get (T.layout f).words p ≡ Some word → LeadsTo p word q → q < length (T.layout f).words) → (q : ℕ) → q < length (T.layout f).words → past T f q < length (T.layout f).words
+past_below T f inside q below = by (slice_get (T.layout f).words q) refl
+  where
+    by : (o : Option VirtualWord) → slice_get (T.layout f).words q ≡ o → past_there q o < length (T.layout f).words
+    by None e = below
+    by (Some (Planned r w items)) e = below
+    by (Some (Drain n)) e = below
+    by (Some (Transfer to)) e = inside q to (Transfer to) e refl
+    by (Some (Choice test to)) e = below
+    by (Some (Call g arguments result)) e = below
+    by (Some (Return x)) e = below
+    by (Some (Ends k)) e = below
+
+pub get_in : {A : Type 0} (xs : List A) (i : ℕ) (x : A) → slice_get xs i ≡ Some x → IsIn x xs
+get_in [] i x e = absurd (cc)
+get_in (y ∷ ys) zero x e = inl (cc)
+get_in (y ∷ ys) (suc i) x e = inr (get_in ys i x e)
+
+-- where the link is
+
+any_call : (xs : List VirtualWord) (i : ℕ) (x : VirtualWord) → slice_get xs i ≡ Some x → is_call_word x ≡ true → list_any is_call_word xs ≡ true
+any_call [] i x e h = absurd (cc)
+any_call (y ∷ ys) zero x e h = let s : y ≡ x = cc in ap (λ b. b || list_any is_call_word ys) (ap is_call_word s ∙ h)
+any_call (y ∷ ys) (suc i) x e h = ap (λ b. is_call_word y || b) (any_call ys i x e h) ∙ or_true (is_call_word y)
+  where
+    or_true : (b : Bool) → (b || true) ≡ true
+    or_true true = refl
+    or_true false = refl
+
+-- a function that calls keeps it in its frame
+pub link_in_frame : (T : Target) (u : State) (sp f p g : ℕ) (arguments : List Operand) (result : Option ℕ) → slice_get (T.layout f).words p ≡ Some (Call g arguments result) → link_in T u sp f ≡ word_at u.memory sp
+link_in_frame T u sp f p g arguments result e = ap (λ b. if b then word_at u.memory sp else u.registers Link) (any_call (T.layout f).words p (Call g arguments result) e refl)
+
+pub link_stays : (T : Target) (u v : State) (sp f : ℕ) → word_at v.memory sp ≡ word_at u.memory sp → v.registers Link ≡ u.registers Link → link_in T v sp f ≡ link_in T u sp f
+link_stays T u v sp f memory register = by (is_caller T f)
+  where
+    by : (b : Bool) → (if b then word_at v.memory sp else v.registers Link) ≡ (if b then word_at u.memory sp else u.registers Link)
+    by true = memory
+    by false = register
+
+-- the globals stand one after the other
+
+pub before_all : (gs : List Global) (a i : ℕ) (x : Global) → slice_get gs a ≡ Some x → i < x.words → words_before gs a + i < words_before gs (length gs)
+before_all [] a i x e h = absurd (cc)
+before_all (g ∷ gs) zero i x e h = let q : g.words ≡ x.words = (let z : g ≡ x = cc in ap (λ y. y.words) z) in omega arith
+before_all (g ∷ gs) (suc a) i x e h = let k = before_all gs a i x e h in omega arith
+
+before_apart : (gs : List Global) (a b i j : ℕ) (x y : Global) → slice_get gs a ≡ Some x → slice_get gs b ≡ Some y → i < x.words → j < y.words → words_before gs a + i ≡ words_before gs b + j → (a ≡ b) × (i ≡ j)
+before_apart [] a b i j x y ea eb hi hj e = absurd (cc)
+before_apart (g ∷ gs) zero zero i j x y ea eb hi hj e = (refl, omega arith)
+before_apart (g ∷ gs) zero (suc b) i j x y ea eb hi hj e = absurd (let q : g.words ≡ x.words = (let z : g ≡ x = cc in ap (λ y. y.words) z) in omega arith)
+before_apart (g ∷ gs) (suc a) zero i j x y ea eb hi hj e = absurd (let q : g.words ≡ y.words = (let z : g ≡ y = cc in ap (λ y. y.words) z) in omega arith)
+before_apart (g ∷ gs) (suc a) (suc b) i j x y ea eb hi hj e = let k = before_apart gs a b i j x y ea eb hi hj (omega arith) in (ap suc k.0, k.1)
+
+not_false : (b : Bool) → b ≡ true → not b ≡ false
+not_false true e = refl
+not_false false e = absurd (cc)
+
+not_true : (b : Bool) → b ≡ false → not b ≡ true
+not_true true e = absurd (cc)
+not_true false e = refl
+
+module _ (T : Target) (flow : Flow) (some_frame : 1 ≤ T.frame) (globals_are : T.globals ≡ words_before flow.globals (length flow.globals)) (sound : SoundFlow flow) where
+  abbrev pub Globals : ℕ
+  Globals = length flow.globals
+
+  abbrev pub HasArray : ℕ → ℕ → Array → Type 0
+  HasArray f a array = slice_get (T.graph f).arrays a ≡ Some array
+
+  -- the frame of the active function is within the memory and above the globals
+  pub frame_room : (sp k : ℕ) → Deep T sp (suc k) → sp + T.frame ≤ memory_words T
+  frame_room sp k d = let e = d.is in let m : T.frame * suc k ≡ T.frame * k + T.frame = grind arith in omega arith
+
+  pub above_globals : (sp k : ℕ) → Deep T sp (suc k) → T.globals ≤ sp
+  above_globals sp k d =
+      let e = d.is in
+      let most = d.most in
+      let j : ℕ = deepest - suc k in
+      let q : deepest ≡ suc k + j = omega arith in
+      let m : T.frame * deepest ≡ T.frame * suc k + T.frame * j = ap (λ x. T.frame * x) q ∙ grind arith in
+      omega arith
+
+  module _ (f : ℕ) (ls : List VWords) (is : IsFunction T flow ls f) (framed : IsFramed T flow f) where
+    graph_in : IsIn (T.graph f) flow.functions
+    graph_in = get_in flow.functions f (T.graph f) is.graph
+
+    pub record IsGlobal (a : ℕ) (array : Array) : Type 0 where
+      pub below : a < Globals
+      pub item : Global
+      pub has : slice_get flow.globals a ≡ Some item
+      pub words : array.words ≡ item.words
+      pub begins : (sp : ℕ) → begins_at T sp f a ≡ words_before flow.globals a
+      pub spot : (base : ℕ) → spot_of Globals base a ≡ a
+
+    pub record IsLocal (a : ℕ) : Type 0 where
+      pub from : Globals ≤ a
+      pub begins : (sp : ℕ) → begins_at T sp f a ≡ sp + T.array_at f a
+      pub spot : (base : ℕ) → spot_of Globals base a ≡ base + (a - Globals)
+
+    pub array_kind : (a : ℕ) (array : Array) → HasArray f a array → IsGlobal a array ⊎ IsLocal a
+    array_kind a array has = by (ltb a Globals) refl
+      where
+        by : (b : Bool) → ltb a Globals ≡ b → IsGlobal a array ⊎ IsLocal a
+        by true e =
+            let lt = ltb-true a Globals e in
+            let x = get_some flow.globals a lt in
+            let g = sound.globals (T.graph f) a x.0 graph_in x.1 in
+            let same : g.array ≡ array = (let z : Some g.array ≡ Some array = sym g.is ∙ has in cc) in
+            let own : is_own T f a ≡ false = ap is_own_array has ∙ not_false array.global (ap (λ y. y.global) (sym same) ∙ g.global) in
+            inl (record {
+              below = lt;
+              item = x.0;
+              has = x.1;
+              words = ap (λ y. y.words) (sym same) ∙ g.size;
+              begins = λ sp. ap (λ b. if b then sp + T.array_at f a else T.array_at f a) own ∙ framed.globals a lt;
+              spot = λ base. ap (λ b. if b then a else base + (a - Globals)) e;
+            })
+        by false e =
+            let ge : Globals ≤ a = ltb-false a Globals e in
+            let own : is_own T f a ≡ true = ap is_own_array has ∙ not_true array.global (sound.own (T.graph f) a array graph_in has ge) in
+            inr (record {
+              from = ge;
+              begins = λ sp. ap (λ b. if b then sp + T.array_at f a else T.array_at f a) own;
+              spot = λ base. ap (λ b. if b then a else base + (a - Globals)) e;
+            })
+
+    global_below : (a i : ℕ) (array : Array) → IsGlobal a array → i < array.words → words_before flow.globals a + i < T.globals
+    global_below a i array g lt = let k = before_all flow.globals a i g.item g.has (subst (λ n. i < n) g.words lt) in omega arith
+
+    has_word : (a i : ℕ) (array : Array) → HasArray f a array → i < array.words → HasWord T f a i
+    has_word a i array has lt = record { array = array; is = has; below = lt }
+
+    pub inside : (sp k : ℕ) → Deep T sp (suc k) → (a i : ℕ) (array : Array) → HasArray f a array → i < array.words → begins_at T sp f a + i < memory_words T
+    inside sp k d a i array has lt = ⊎_elim
+        (λ g. let b = g.begins sp in let c = global_below a i array g lt in let x = above_globals sp k d in let y = frame_room sp k d in omega arith)
+        (λ l. let b = l.begins sp in let c = framed.own_to a i l.from (has_word a i array has lt) in let y = frame_room sp k d in omega arith)
+        (array_kind a array has)
+
+    pub apart : (sp k : ℕ) → Deep T sp (suc k) → (a b i j : ℕ) (x y : Array) → HasArray f a x → HasArray f b y → i < x.words → j < y.words → begins_at T sp f a + i ≡ begins_at T sp f b + j → (a ≡ b) × (i ≡ j)
+    apart sp k d a b i j x y hx hy lx ly e = ⊎_elim
+        (λ g. ⊎_elim
+        (λ h. let p = g.begins sp in let q = h.begins sp in before_apart flow.globals a b i j g.item h.item g.has h.has (subst (λ n. i < n) g.words lx) (subst (λ n. j < n) h.words ly) (omega arith))
+        (λ h. absurd (let p = g.begins sp in let q = h.begins sp in let c = global_below a i x g lx in let z = above_globals sp k d in omega arith))
+        (array_kind b y hy))
+        (λ l. ⊎_elim
+        (λ h. absurd (let p = l.begins sp in let q = h.begins sp in let c = global_below b j y h ly in let z = above_globals sp k d in omega arith))
+        (λ h. let p = l.begins sp in let q = h.begins sp in framed.own_apart a b i j l.from h.from (has_word a i x hx lx) (has_word b j y hy ly) (omega arith))
+        (array_kind b y hy))
+        (array_kind a x hx)
+
+    pub one_spot : (base : ℕ) → Globals ≤ base → (a b : ℕ) (x y : Array) → HasArray f a x → HasArray f b y → spot_of Globals base a ≡ spot_of Globals base b → a ≡ b
+    one_spot base first a b x y hx hy e = ⊎_elim
+        (λ g. ⊎_elim (λ h. sym (g.spot base) ∙ e ∙ h.spot base) (λ h. absurd (let p = g.spot base in let q = h.spot base in let c = g.below in omega arith)) (array_kind b y hy))
+        (λ l. ⊎_elim (λ h. absurd (let p = l.spot base in let q = h.spot base in let c = h.below in omega arith)) (λ h. let p = l.spot base in let q = h.spot base in let c = l.from in let z = h.from in omega arith) (array_kind b y hy))
+        (array_kind a x hx)
+
+    pub slot_free : (sp k v : ℕ) → Deep T sp (suc k) → NeedsSlot T f v → (a i : ℕ) (array : Array) → HasArray f a array → i < array.words → sp + T.slot f v ≢ begins_at T sp f a + i
+    slot_free sp k v d needs a i array has lt e = ⊎_elim
+        (λ g. let b = g.begins sp in let c = global_below a i array g lt in let x = above_globals sp k d in omega arith)
+        (λ l. let b = l.begins sp in framed.slot_own v a i needs l.from (has_word a i array has lt) (omega arith))
+        (array_kind a array has)
+
+    pub link_free : (sp k : ℕ) → Deep T sp (suc k) → (a i : ℕ) (array : Array) → HasArray f a array → i < array.words → sp ≢ begins_at T sp f a + i
+    link_free sp k d a i array has lt e = ⊎_elim
+        (λ g. let b = g.begins sp in let c = global_below a i array g lt in let x = above_globals sp k d in omega arith)
+        (λ l. let b = l.begins sp in let c = framed.own_from a i l.from (has_word a i array has lt) in omega arith)
+        (array_kind a array has)
+
+    pub above_free : (sp k x : ℕ) → Deep T sp (suc k) → sp + T.frame ≤ x → (a i : ℕ) (array : Array) → HasArray f a array → i < array.words → x ≢ begins_at T sp f a + i
+    above_free sp k x d le a i array has lt e = ⊎_elim
+        (λ g. let b = g.begins sp in let c = global_below a i array g lt in let y = above_globals sp k d in omega arith)
+        (λ l. let b = l.begins sp in let c = framed.own_to a i l.from (has_word a i array has lt) in omega arith)
+        (array_kind a array has)
+
+    -- rows of the functions that wait are no rows of the active one
+    pub waiting_row : (base j : ℕ) → Globals ≤ j → j < base → (a : ℕ) (array : Array) → HasArray f a array → j ≢ spot_of Globals base a
+    waiting_row base j from below a array has e = ⊎_elim (λ g. let p = g.spot base in let c = g.below in omega arith) (λ l. let p = l.spot base in omega arith) (array_kind a array has)
+
+    -- a global's row is where it is for every function
+    pub global_row : (memory : ℕ → ℤ) (sp base : ℕ) (rows : List (List Content)) → Arrays T Globals memory sp base f rows → (a : ℕ) (x : Global) → slice_get flow.globals a ≡ Some x → Row memory (words_before flow.globals a) x.words (row_in rows a)
+    global_row memory sp base rows arrays a x e =
+        let g = sound.globals (T.graph f) a x graph_in e in
+        by (array_kind a g.array g.is) (arrays.row a g.array g.is) (get_below flow.globals a x e)
+      where
+        by : IsGlobal a (sound.globals (T.graph f) a x graph_in e).array ⊎ IsLocal a → Row memory (begins_at T sp f a) (sound.globals (T.graph f) a x graph_in e).array.words (row_in rows (spot_of Globals base a)) → a < Globals → Row memory (words_before flow.globals a) x.words (row_in rows a)
+        by (inl g) r lt = subst (λ n. Row memory (words_before flow.globals a) n (row_in rows a)) (sound.globals (T.graph f) a x graph_in e).size
+            (subst (λ b. Row memory b (sound.globals (T.graph f) a x graph_in e).array.words (row_in rows a)) (g.begins sp)
+            (subst (λ k. Row memory (begins_at T sp f a) (sound.globals (T.graph f) a x graph_in e).array.words (row_in rows k)) (g.spot base) r))
+        by (inr l) r lt = absurd (let c = l.from in omega arith)
+
+  -- what changes globals, and the frame and rows of the active function alone, keeps the functions that wait
+  module _ (ls : List VWords) (each : (f : ℕ) → IsFunction T flow ls f → IsFramed T flow f) where
+    waits_arrays : (rows rows' : List (List Content)) (memory memory' : ℕ → ℤ) (sp base behind f : ℕ) → IsFunction T flow ls f → base + own_arrays T Globals f ≡ behind → Globals ≤ base →
+        ((a : ℕ) (x : Global) → slice_get flow.globals a ≡ Some x → Row memory' (words_before flow.globals a) x.words (row_in rows' a)) → ((j : ℕ) → Globals ≤ j → j < behind → row_in rows' j ≡ row_in rows j) → ((x : ℕ) → sp ≤ x → word_at memory' x ≡ word_at memory x) →
+        Arrays T Globals memory sp base f rows → Arrays T Globals memory' sp base f rows'
+    waits_arrays rows rows' memory memory' sp base behind f is last first globals others above arrays = record { row = λ a array has. by a array has (array_kind f ls is (each f is) a array has) }
+      where
+        by : (a : ℕ) (array : Array) → HasArray f a array → IsGlobal f ls is (each f is) a array ⊎ IsLocal f ls is (each f is) a → Row memory' (begins_at T sp f a) array.words (row_in rows' (spot_of Globals base a))
+        by a array has (inl g) =
+            subst (λ k. Row memory' (begins_at T sp f a) array.words (row_in rows' k)) (sym (g.spot base))
+            (subst (λ b. Row memory' b array.words (row_in rows' a)) (sym (g.begins sp))
+            (subst (λ n. Row memory' (words_before flow.globals a) n (row_in rows' a)) (sym g.words) (globals a g.item g.has)))
+        by a array has (inr l) =
+            let r = arrays.row a array has in
+            let b = l.begins sp in
+            let p = l.spot base in
+            let below = get_below (T.graph f).arrays a array has in
+            let from = l.from in
+            let same : row_in rows' (spot_of Globals base a) ≡ row_in rows (spot_of Globals base a) = others (spot_of Globals base a) (omega arith) (omega arith) in
+            record {
+              size = ap length same ∙ r.size;
+              is = λ i n lt e. above (begins_at T sp f a + i) (omega arith) ∙ r.is i n lt (ap (λ y. slice_index_or y i None) (sym same) ∙ e);
+            }
+
+    pub below_keep : (frs : List Frame) (rows rows' : List (List Content)) (memory memory' : ℕ → ℤ) (sp behind : ℕ) →
+        ((a : ℕ) (x : Global) → slice_get flow.globals a ≡ Some x → Row memory' (words_before flow.globals a) x.words (row_in rows' a)) → ((j : ℕ) → Globals ≤ j → j < behind → row_in rows' j ≡ row_in rows j) → ((x : ℕ) → sp + T.frame ≤ x → word_at memory' x ≡ word_at memory x) →
+        Below T flow ls rows memory sp behind frs → Below T flow ls rows' memory' sp behind frs
+    below_keep [] rows rows' memory memory' sp behind globals others above b = tt
+    below_keep (fr ∷ frs) rows rows' memory memory' sp behind globals others above b =
+        let last = b.0.last in (
+          record {
+            is = b.0.is;
+            caller = b.0.caller;
+            callee = b.0.callee;
+            arguments = b.0.arguments;
+            called = b.0.called;
+            from = b.0.from;
+            next = b.0.next;
+            values = λ v n live no_ e. let s = b.0.values v n live no_ e in record { answer = s.answer; is = above (sp + T.frame + T.slot fr.function v) (omega arith) ∙ s.is };
+            arrays = waits_arrays rows rows' memory memory' (sp + T.frame) fr.base behind fr.function b.0.is b.0.last b.0.first globals others (λ x le. above x le) b.0.arrays;
+            first = b.0.first;
+            last = b.0.last;
+            link = above (sp + T.frame) (omega arith) ∙ b.0.link;
+          },
+          below_keep frs rows rows' memory memory' (sp + T.frame) fr.base globals (λ j le lt. others j le (omega arith)) (λ x le. above x (omega arith)) b.1,
+        )

@@ -1,0 +1,141 @@
+-- How long the writes of words are in flight: never as long as the greatest latency of a machine, which is 16 at most.
+use Rattle.std.proofs.Common.{◌≡◌, ◌≤◌, ⊎_elim, ◌+◌, ◌-◌, ℕ, zero, suc, Bool, true, false, if◌then◌else◌, List, [], ◌∷◌, ◌++◌, refl, subst, arith}
+use Rattle.std.specs.Prelude.{max}
+use Rattle.std.proofs.lemmas.Bool.{and_parts, leb-true}
+use Rattle.vx_base.specs.declared.arithmetic.Code.{Code}
+use Rattle.vx_base.specs.declared.arithmetic.Code.TheVariants.{Mpylu, Mpyhs, Div, Rem, ToBranch}
+use Rattle.vx_flow.specs.declared.graph.Op.{Op}
+use Rattle.vx_flow.specs.declared.graph.Op.TheVariants.{Compute as Computes, Select as Selects, Place, Load as Loads, Store as Stores, More as Asks, Input as Takes, Text, Decimal, Across}
+use Rattle.vx_flow.specs.Effects.{IsIn, writes}
+use Rattle.vx_isa.specs.declared.operation.Operation.{Operation}
+use Rattle.vx_isa.specs.declared.operation.Operation.TheVariants.{Compute, Move, Select, Load, Store, Input, More, OutText, OutDecimal, OutByte, Goto, BranchOn, Call, Return, FromLink, ToLink, EndByTrap, Halt}
+use Rattle.vx_isa.specs.declared.program.Word.{Word}
+use Rattle.vx_isa.specs.Numbers.{Numbers, IsMachine}
+use Rattle.vx_isa.specs.Operations.{comes_from, latency_of, latency_of_code}
+use Rattle.vx_isa.specs.Machine.{cycles_of}
+use Rattle.vx_machine.specs.Items.{latency_of_op}
+use Rattle.vx_mixed.specs.declared.layout.Laid.{Laid}
+use Rattle.vx_mixed.specs.declared.layout.Laid.TheVariants.{Plain, Split}
+use Rattle.vx_target.specs.Target.{Target, kept, is_slotted, slotted, latest, in_flight, pause, if_any, slots_in_flight}
+use Rattle.vx_target.proofs.Word.{slotted_in}
+
+-- words one behind the other
+pub flight_append : (m : Numbers) (n : ℕ) (a b : List Word) → in_flight m n (a ++ b) ≡ in_flight m (in_flight m n a) b
+flight_append m n [] b = refl
+flight_append m n (w ∷ a) b = flight_append m (max n (latest m w.ops) - cycles_of w) a b
+
+-- a pause of so many cycles
+pub flight_pause : (m : Numbers) (n k : ℕ) → in_flight m n (pause k) ≡ n - k
+flight_pause m n zero = omega arith
+flight_pause m n (suc k) = omega arith
+
+-- no latency is more than 16
+
+record Quick (m : Numbers) : Type 0 where
+  alu : m.latency_alu ≤ 16
+  compare : m.latency_compare ≤ 16
+  multiply : m.latency_multiply ≤ 16
+  load : m.latency_load ≤ 16
+  divide : m.latency_divide ≤ 16
+  copy : m.latency_copy ≤ 16
+
+quick : (m : Numbers) → IsMachine m → Quick m
+quick m h =
+    let a15 = (and_parts _ _ h).0 in
+    let a14 = (and_parts _ _ a15).0 in
+    let a13 = (and_parts _ _ a14).0 in
+    let a12 = (and_parts _ _ a13).0 in
+    let a11 = (and_parts _ _ a12).0 in
+    record {
+      alu = leb-true m.latency_alu 16 (and_parts _ _ (and_parts _ _ a11).1).1;
+      compare = leb-true m.latency_compare 16 (and_parts _ _ (and_parts _ _ a12).1).1;
+      multiply = leb-true m.latency_multiply 16 (and_parts _ _ (and_parts _ _ a13).1).1;
+      load = leb-true m.latency_load 16 (and_parts _ _ (and_parts _ _ a14).1).1;
+      divide = leb-true m.latency_divide 16 (and_parts _ _ (and_parts _ _ a15).1).1;
+      copy = leb-true m.latency_copy 16 (and_parts _ _ (and_parts _ _ h).1).1;
+    }
+
+few_of_code : (m : Numbers) → Quick m → (code : Code) → latency_of_code m code ≤ 16
+few_of_code m q (ToBranch compare) = q.compare
+few_of_code m q Mpylu = q.multiply
+few_of_code m q Mpyhs = q.multiply
+few_of_code m q Div = q.divide
+few_of_code m q Rem = q.divide
+few_of_code m q code = q.alu
+
+few_of : (m : Numbers) → Quick m → (op : Operation) → latency_of m op ≤ 16
+few_of m q (Compute k code to a b) = few_of_code m q code
+few_of m q (Move k to a) = by (comes_from k a)
+  where
+    by : (b : Bool) → (if b then m.latency_alu else m.latency_copy) ≤ 16
+    by true = q.alu
+    by false = q.copy
+few_of m q (Select k to u a b) = q.alu
+few_of m q (Load k to o r d) = q.load
+few_of m q (Input to) = q.load
+few_of m q (More to) = q.load
+few_of m q (Call p) = omega arith
+few_of m q (FromLink to) = q.alu
+few_of m q (ToLink a) = q.alu
+few_of m q (Store k o r a) = omega arith
+few_of m q (OutText n) = omega arith
+few_of m q (OutDecimal a) = omega arith
+few_of m q (OutByte a) = omega arith
+few_of m q (Goto p) = omega arith
+few_of m q (BranchOn u w p) = omega arith
+few_of m q Return = omega arith
+few_of m q (EndByTrap k) = omega arith
+few_of m q (Halt a) = omega arith
+
+few_of_op : (m : Numbers) → Quick m → (op : Op) → latency_of_op m op ≤ 16
+few_of_op m q (Computes code v a b) = few_of_code m q code
+few_of_op m q (Selects v p a b) = q.alu
+few_of_op m q (Place v a i) = q.alu
+few_of_op m q (Loads v a p d) = q.load
+few_of_op m q (Stores a p x) = omega arith
+few_of_op m q (Asks v) = q.load
+few_of_op m q (Takes v) = q.load
+few_of_op m q (Text n) = omega arith
+few_of_op m q (Decimal x) = omega arith
+few_of_op m q (Across v u) = q.copy
+
+module _ (m : Numbers) (is_one : IsMachine m) where
+  latest_few : (ops : List Operation) → latest m ops ≤ 16
+  latest_few [] = omega arith
+  latest_few (op ∷ ops) = let a = few_of m (quick m is_one) op in let b = latest_few ops in omega arith
+
+  pub flight_few : (n : ℕ) (ws : List Word) → n ≤ 16 → in_flight m n ws ≤ 16
+  flight_few n [] le = le
+  flight_few n (w ∷ ws) le = flight_few (max n (latest m w.ops) - cycles_of w) ws (let a = latest_few w.ops in omega arith)
+
+-- results that go to slots
+
+any_few : (vs : List ℕ) (n most : ℕ) → n ≤ most → if_any vs n ≤ most
+any_few [] n most le = omega arith
+any_few (v ∷ vs) n most le = le
+
+pub slots_few : (T : Target) → IsMachine T.machine → (f : ℕ) (items : List Laid) → slots_in_flight T f items ≤ 16
+slots_few T is_one f [] = omega arith
+slots_few T is_one f (Plain op k ∷ items) =
+    let l : latency_of_op T.machine op - 1 ≤ 16 = (let x = few_of_op T.machine (quick T.machine is_one) op in omega arith) in
+    let a = any_few (slotted T f (writes op)) (latency_of_op T.machine op - 1) 16 l in
+    let b = slots_few T is_one f items in omega arith
+slots_few T is_one f (Split test y q ∷ items) = slots_few T is_one f items
+
+any_some : (vs : List ℕ) (n v : ℕ) → IsIn v vs → if_any vs n ≡ n
+any_some [] n v i = absurd i
+any_some (u ∷ vs) n v i = refl
+
+-- each of them has landed by then
+pub slots_land : (T : Target) (f v : ℕ) (op : Op) (k : ℕ) (items : List Laid) → IsIn (Plain op k) items → IsIn v (writes op) → is_slotted (kept T f v) ≡ true → latency_of_op T.machine op ≤ slots_in_flight T f items + 1
+slots_land T f v op k [] i w s = absurd i
+slots_land T f v op k (x ∷ items) i w s = ⊎_elim
+    (λ e. subst (λ y. latency_of_op T.machine op ≤ slots_in_flight T f (y ∷ items) + 1) e (
+    let a = any_some (slotted T f (writes op)) (latency_of_op T.machine op - 1) v (slotted_in T f v (writes op) w s) in
+    let q : slots_in_flight T f (Plain op k ∷ items) ≡ max (if_any (slotted T f (writes op)) (latency_of_op T.machine op - 1)) (slots_in_flight T f items) = refl in omega arith))
+    (λ j. let a = slots_land T f v op k items j w s in let b = more x in omega arith)
+    i
+  where
+    more : (y : Laid) → slots_in_flight T f items ≤ slots_in_flight T f (y ∷ items)
+    more (Plain o c) = omega arith
+    more (Split test y q) = omega arith

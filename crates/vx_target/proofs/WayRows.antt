@@ -1,0 +1,108 @@
+-- Worked rows: ways from place to place of a layout, and how many cycles a call and its return take on the default machine.
+use Rattle.std.proofs.Common.{◌≡◌, ◌+◌, ℕ, suc, pos, Some, List, [], ◌∷◌, ◌++◌, refl}
+use Rattle.vx_base.specs.declared.outcome.Trap.TheVariants.{Index}
+use Rattle.vx_flow.specs.declared.graph.Bank.TheVariants.{General}
+use Rattle.vx_flow.specs.declared.graph.Operand.TheVariants.{Number}
+use Rattle.vx_isa.specs.declared.operation.Operation.TheVariants.{Goto}
+use Rattle.vx_isa.specs.declared.program.Word.{Word}
+use Rattle.vx_isa.specs.Machine.{cycles_of}
+use Rattle.vx_isa.specs.Numbers.{vex}
+use Rattle.vx_mixed.specs.declared.layout.VirtualWord.{VirtualWord}
+use Rattle.vx_mixed.specs.declared.layout.VirtualWord.TheVariants.{Drain, Transfer, Call, Return, Ends}
+use Rattle.vx_regs.specs.declared.map.Kept.TheVariants.{InRegister}
+use Rattle.vx_target.specs.Target.{Target, past, one, waits, word_words, call_words, back_words, entry_words, return_words}
+
+-- three values in registers, of which two are saved round a call, and the first is a parameter; the layout of every function has
+-- these words, and word p of function f begins at place 10 + p
+abbrev laid : List VirtualWord → Target
+laid words = record {
+  machine = vex 1;
+  graph = λ f. record { blocks = []; banks = []; parameters = 0 ∷ []; arrays = [] };
+  layout = λ f. record { banks = General ∷ General ∷ General ∷ []; homes = record { clusters = [] }; words = words; entry = 0; regions = 0 };
+  maps = λ f. record { values = InRegister 11 ∷ InRegister 12 ∷ InRegister 13 ∷ [] };
+  globals = 0;
+  frame = 4;
+  slot = λ f v. suc v;
+  array_at = λ f a. 0;
+  saved = λ f p. 0 ∷ 1 ∷ [];
+  brought = λ f. 0 ∷ [];
+  entry = λ f. 1;
+  starts = λ f p. 10 + p;
+  landing = λ f p to. 0;
+  back = λ f p. 0;
+  depth_trap = 0;
+}
+
+-- a transfer needs a word where it does not go to the next place, or where empty cycles stand there
+
+to_next : word_words (laid (Transfer 1 ∷ Ends Index ∷ [])) 0 0 (Transfer 1) ≡ []
+to_next = refl
+
+to_itself : word_words (laid (Transfer 0 ∷ Ends Index ∷ [])) 0 0 (Transfer 0) ≡ one (Goto 10) ∷ []
+to_itself = refl
+
+to_another : word_words (laid (Transfer 2 ∷ Ends Index ∷ Ends Index ∷ [])) 0 0 (Transfer 2) ≡ one (Goto 12) ∷ []
+to_another = refl
+
+to_empty_cycles : word_words (laid (Transfer 1 ∷ Drain 1 ∷ Ends Index ∷ [])) 0 0 (Transfer 1) ≡ one (Goto 11) ∷ []
+to_empty_cycles = refl
+
+-- the last of some empty cycles is the goto behind them
+
+before_goto : word_words (laid (Drain 3 ∷ Transfer 0 ∷ [])) 0 0 (Drain 3) ≡ waits 2 ∷ []
+before_goto = refl
+
+one_before_goto : word_words (laid (Drain 1 ∷ Transfer 0 ∷ [])) 0 0 (Drain 1) ≡ []
+one_before_goto = refl
+
+before_next : word_words (laid (Drain 3 ∷ Transfer 2 ∷ Ends Index ∷ [])) 0 0 (Drain 3) ≡ waits 3 ∷ []
+before_next = refl
+
+before_return : word_words (laid (Drain 1 ∷ Return (Number (pos 0)) ∷ [])) 0 0 (Drain 1) ≡ waits 1 ∷ []
+before_return = refl
+
+-- a split goes past a transfer, and past no other word
+
+past_transfer : past (laid (Ends Index ∷ Transfer 0 ∷ [])) 0 1 ≡ 0
+past_transfer = refl
+
+past_empty_cycles : past (laid (Ends Index ∷ Drain 1 ∷ Transfer 0 ∷ [])) 0 1 ≡ 1
+past_empty_cycles = refl
+
+-- a call with two values saved and one argument
+
+abbrev lasts : List Word → ℕ
+lasts [] = 0
+lasts (word ∷ words) = cycles_of word + lasts words
+
+-- where the function that is called calls nothing, or calls
+abbrev leaf : Target
+leaf = laid (Return (Number (pos 0)) ∷ [])
+
+abbrev caller : Target
+caller = laid (Call 0 [] (Some 2) ∷ Transfer 1 ∷ [])
+
+call_lasts : lasts (call_words caller 0 0 0 (Number (pos 7) ∷ [])) ≡ 7
+call_lasts = refl
+
+leaf_entry_lasts : lasts (entry_words leaf 0) ≡ 3
+leaf_entry_lasts = refl
+
+caller_entry_lasts : lasts (entry_words caller 0) ≡ 3
+caller_entry_lasts = refl
+
+leaf_return_lasts : lasts (return_words leaf 0 (Number (pos 0))) ≡ 2
+leaf_return_lasts = refl
+
+caller_return_lasts : lasts (return_words caller 0 (Number (pos 0))) ≡ 5
+caller_return_lasts = refl
+
+back_lasts : lasts (back_words caller 0 0 (Some 2)) ≡ 6
+back_lasts = refl
+
+-- together
+leaf_called : lasts (call_words caller 0 0 0 (Number (pos 7) ∷ []) ++ (entry_words leaf 0 ++ (return_words leaf 0 (Number (pos 0)) ++ back_words caller 0 0 (Some 2)))) ≡ 18
+leaf_called = refl
+
+caller_called : lasts (call_words caller 0 0 0 (Number (pos 7) ∷ []) ++ (entry_words caller 0 ++ (return_words caller 0 (Number (pos 0)) ++ back_words caller 0 0 (Some 2)))) ≡ 21
+caller_called = refl

@@ -1,0 +1,656 @@
+-- A call: what is live behind it is saved, the depth is tested, the stack pointers go down, and the arguments are passed.
+use Rattle.std.proofs.Common.{◌≡◌, ◌≢◌, ◌<◌, ◌≤◌, ◌⊎◌, inl, inr, ⊎_elim, ◌+◌, ◌-◌, ◌*◌, ◌^◌, ℕ, suc, ℤ, pos, neg_ℤ, Bool, true, false, Option, Some, None, List, [], ◌∷◌, ◌++◌, length, length-append, map, drop, refl, sym, ap, ◌∙◌, subst, arith}
+use Rattle.std.specs.Prelude.{slice_get, if◌then◌else◌, nat_lt, nat_le, slice_index_or}
+use Rattle.std.proofs.lemmas.Bool.{lt-ltb, le-ltb, le-leb, lt-leb, leb-true, leb-false, false_from_ne_true}
+use Rattle.std.proofs.lemmas.List.{append-nil, length-map, length-drop}
+use Rattle.vx_base.specs.Arithmetic.{one_if, compare_of, unsigned, wrap, sum_of}
+use Rattle.vx_base.specs.declared.arithmetic.Code.TheVariants.{Add, ToBranch}
+use Rattle.vx_base.specs.declared.arithmetic.Compare.TheVariants.{Ltu}
+use Rattle.vx_base.specs.Outcome.{Outcome, Traps, On, Over}
+use Rattle.vx_base.specs.declared.outcome.Trap.TheVariants.{Depth}
+use Rattle.vx_base.proofs.Runs.{run_reach, run_ends, safe_after, safe_end, reach_one}
+use Rattle.vx_flow.specs.declared.graph.Bank.{Bank}
+use Rattle.vx_flow.specs.declared.graph.Flow.{Flow}
+use Rattle.vx_flow.specs.declared.graph.Bank.TheVariants.{General as GeneralBank}
+use Rattle.vx_flow.specs.declared.graph.Operand.{Operand}
+use Rattle.vx_flow.specs.declared.graph.Operand.TheVariants.{Held as HeldValue, Number as AsNumber, Stack}
+use Rattle.vx_flow.specs.declared.graph.Exit.{Exit}
+use Rattle.vx_flow.specs.declared.graph.Exit.TheVariants.{Call as Calling}
+use Rattle.vx_flow.proofs.Members.{in_left, in_right}
+use Rattle.std.specs.List.{flat_map}
+use Rattle.vx_flow.specs.Effects.{Content, State as VState, IsIn, held, value_in}
+use Rattle.vx_flow.specs.Meaning.{Active, Body, Frame, Hop, deepest, known, with_front, undefined, own_of, spot_of, setting_of, calls, enters, entered, waits, body_hop, after_hop, next}
+use Rattle.vx_flow.specs.Sound.{Sound, SoundFlow, Callable, IsPlace, is_sound_flow}
+use Rattle.vx_flow.proofs.SoundFlowLaw.{told}
+use Rattle.vx_isa.specs.declared.operation.Register.{Register}
+use Rattle.vx_isa.specs.declared.operation.Register.TheVariants.{General, Branch, Link}
+use Rattle.vx_isa.specs.declared.operation.Source.TheVariants.{Held, Number}
+use Rattle.vx_isa.specs.declared.operation.Operation.{Operation}
+use Rattle.vx_isa.specs.declared.operation.Operation.TheVariants.{Compute, BranchOn, EndByTrap, Call as Jumps}
+use Rattle.vx_isa.specs.declared.program.Word.{Word}
+use Rattle.vx_isa.specs.declared.program.WordProgram.{WordProgram}
+use Rattle.vx_isa.specs.Machine.{State, To, TrapsBy, register, is_one, lead_of, leads_to, unless_stuck, effect, issue, step}
+use Rattle.vx_mixed.specs.declared.layout.VirtualWord.TheVariants.{Call}
+use Rattle.vx_mixed.specs.declared.layout.VWords.{VWords}
+use Rattle.vx_layout.specs.Laid.{laid_program, laid_hop, some_word_hop, laid_body}
+use Rattle.vx_mixed.specs.LaidSettled.{bank_in}
+use Rattle.vx_layout.specs.Origins.{CallsAs}
+use Rattle.vx_regs.specs.Intervals.{IsLive, here, beyond, is_live, result_of}
+use Rattle.vx_target.specs.Target.{Target, answer, kept, is_slotted, is_branch, home, holds_branch, branch_of, stack_on, parameters_of, register_of, one, pause, in_flight, bytes, save_words, move_stack, argument_words, call_words, back_words, memory_words}
+use Rattle.vx_target.specs.Tied.{Tied, AtWord, Shows, Row, Arrays, Waits, Below, IsResult, own_arrays, row_in, begins_at, is_place, moved as moved_number, word_at}
+use Rattle.vx_target.specs.Carried.{Carries, IsFunctionOf, NeedsSlot, is_passed, is_saved, is_spilled, Survives, words_before}
+use Rattle.vx_target.proofs.Bytes.{unsigned_small}
+use Rattle.vx_target.proofs.Calm.{seen, AllFit, after, put_at, put_off, not_stuck, effect_is}
+use Rattle.vx_target.proofs.Frames.{get_below, get_in, frame_room, before_all, array_kind, IsGlobal, IsLocal, global_row, slot_free, link_in_frame, below_keep}
+use Rattle.vx_target.proofs.Live.{live_bank}
+use Rattle.vx_target.proofs.Names.{in_register, named, number_at, apart_mixed, not_zero, not_general, not_first_branch}
+use Rattle.vx_target.proofs.FromGraph.{branch_plain, place_made, whole_bank, has_whole, whole_is}
+use Rattle.vx_tie.proofs.Passing.{CanFetch, OperandAt, OperandsAt, Passed as Given, pass_run}
+use Rattle.vx_tie.proofs.Simple.{few_one}
+use Rattle.vx_tie.proofs.Start.{row_left, row_right, own_row, undefined_row}
+use Rattle.vx_mixed.specs.Settled.{NoTwice}
+use Rattle.vx_flow.specs.declared.graph.Array.{Array}
+use Rattle.vx_flow.specs.declared.graph.Global.{Global}
+use Rattle.vx_target.proofs.Enough.{some_cluster, some_issue}
+use Rattle.vx_tie.proofs.Moves.{Moved, move_run, down}
+use Rattle.vx_target.proofs.Slots.{Usable, Stored, as_kept, store_list, stack_no_answer}
+use Rattle.vx_target.proofs.Stands.{word_stands, depth_stands}
+use Rattle.vx_target.proofs.Word.{own_name, kept_shows}
+use Rattle.vx_tie.specs.Planned.{CarriesOn, EndsAlike, CallLaw}
+use Rattle.vx_target.proofs.Steps.{Stands, stands_left, stands_right, Quiet, quiet_on, Comes, Forth, comes_on, then_forth, forth_comes, Set, set_step, Paused, pause_step, word_step}
+
+abbrev is_branch_register : Register → Bool
+is_branch_register (General r) = false
+is_branch_register (Branch r) = true
+is_branch_register Link = false
+
+one_of : (b : Bool) → is_one (one_if b) ≡ b
+one_of true = refl
+one_of false = refl
+
+index_in : (v : ℕ) (vs : List ℕ) → IsIn v vs → (j : ℕ) × (slice_get vs j ≡ Some v)
+index_in v [] i = absurd i
+index_in v (x ∷ xs) i = ⊎_elim (λ e. (0, ap (λ y. Some y) (sym e))) (λ j. let k = index_in v xs j in (suc k.0, k.1)) i
+
+no_twice : (vs : List ℕ) → ((i j v : ℕ) → i < j → slice_get vs i ≡ Some v → slice_get vs j ≡ Some v → ⊥) → NoTwice vs
+no_twice [] h = tt
+no_twice (v ∷ vs) h = ((λ i. let k = index_in v vs i in h 0 (suc k.0) v (omega arith) refl k.1), no_twice vs (λ i j x lt a b. h (suc i) (suc j) x (omega arith) a b))
+
+module _ (T : Target) (flow : Flow) (ls : List VWords) (w : WordProgram) (sound : SoundFlow flow) (carries : Carries T flow ls w) (fit : AllFit T.machine w) (r : Active) (u : State) (tied : Tied T flow ls r u) (p g : ℕ) (arguments : List Operand) (result : Option ℕ) (block : r.block ≡ suc p) (plan : slice_get (T.layout r.function).words p ≡ Some (Call g arguments result)) where
+  abbrev F : ℕ
+  F = r.function
+
+  abbrev S : VState
+  S = r.state
+
+  abbrev Sp : ℕ
+  Sp = tied.sp
+
+  abbrev Saved : List ℕ
+  Saved = T.saved F p
+
+  below : F < length flow.functions
+  below = get_below flow.functions F (T.graph F) tied.is.graph
+
+  of : IsFunctionOf T flow ls F
+  of = carries.functions F below
+
+  graph_sound : Sound (T.graph F)
+  graph_sound = sound.graphs (T.graph F) (get_in flow.functions F (T.graph F) tied.is.graph)
+
+  at_word : AtWord T Sp p r u
+  at_word = ⊎_elim (λ a. absurd (let z : suc p ≡ 0 = sym block ∙ a.block in omega arith)) (λ a. let z : suc a.0 ≡ suc p = sym a.1.block ∙ block in let q : a.0 ≡ p = omega arith in subst (λ x. AtWord T Sp x r u) q a.1) tied.at
+
+  hop_to : (h : Hop) → calls g (known (map (held S) arguments)) result (suc p) (suc (suc p)) S ≡ h → next (laid_program flow ls) r ≡ after_hop (laid_program flow ls) r h
+  hop_to h e =
+      ap (after_hop (laid_program flow ls) r)
+      (ap (body_hop (laid_program flow ls) r) (ap (λ x. laid_body (length flow.globals) x (slice_get ls F)) tied.is.graph ∙ ap (λ l. laid_body (length flow.globals) (Some (T.graph F)) l) tied.is.layout)
+      ∙ ap (λ b. laid_hop (setting_of (laid_program flow ls) r.base) (T.layout F) b S) block ∙ ap (λ x. some_word_hop (setting_of (laid_program flow ls) r.base) p x S) plan ∙ e)
+
+  small : 4 * memory_words T < 2 ^ 32
+  small = let c = carries.small in omega arith
+
+  some : 0 < T.machine.clusters
+  some = some_cluster T.machine carries.machine
+
+  room : Sp + T.frame ≤ memory_words T
+  room = frame_room T flow carries.some_frame carries.globals sound Sp (length r.waiting) tied.deep
+
+  abbrev Down : List Word
+  Down = move_stack T (neg_ℤ (bytes T.frame))
+
+  abbrev Passes : List Word
+  Passes = argument_words T F g (parameters_of T g) arguments ++ one (Jumps (T.entry g)) ∷ []
+
+  abbrev Compares : Word
+  Compares = one (Compute 0 (ToBranch Ltu) (Branch (record { cluster = 0; number = 0 })) (Held (stack_on 0)) (Number (bytes (T.globals + T.frame))))
+
+  abbrev Saves : List Word
+  Saves = save_words T F Saved
+
+  abbrev Pause : ℕ
+  Pause = in_flight T.machine 0 (Compares ∷ Saves)
+
+  abbrev Late : List Word
+  Late = pause Pause
+
+  abbrev Branching : List Word
+  Branching = one (BranchOn 0 true T.depth_trap) ∷ (Down ++ Passes)
+
+  stands_call : Stands w.words u.place (Compares ∷ ((Saves ++ Late) ++ Branching))
+  stands_call = stands_left w.words u.place (call_words T F p g arguments) (back_words T F p result) (subst (λ q. Stands w.words q (call_words T F p g arguments ++ back_words T F p result)) (sym at_word.place) (word_stands T flow.main (length flow.functions) w.words carries.placed F p (Call g arguments result) below plan))
+
+  -- saved values
+
+  survives : (v : ℕ) → IsIn v Saved → Survives T F p result v
+  survives v i = of.saved.saved p g v arguments result plan i
+
+  bank : (v : ℕ) → IsIn v Saved → (b : Bank) × (bank_in (T.layout F) v ≡ Some b)
+  bank v i = live_bank T F of.mapped graph_sound (suc p) v (survives v i).live
+
+  needs : (v : ℕ) → IsIn v Saved → NeedsSlot T F v
+  needs v i = is_saved p g arguments result plan i
+
+  usable : (v : ℕ) → IsIn v Saved → Usable T.machine w fit T F Sp carries.memory small some Saved v
+  usable v i = record {
+    cluster = of.mapped.homes (suc p) v (is_live (survives v i).live);
+    not_zero = not_zero T F of.mapped Saved v (bank v i);
+    not_answer = not_general T F of.mapped Saved v 0 2 (bank v i) (omega arith);
+    not_stack = λ k. not_general T F of.mapped Saved v k 1 (bank v i) (omega arith);
+  }
+
+  -- the test of the depth
+
+  abbrev Flag : Register
+  Flag = Branch (record { cluster = 0; number = 0 })
+
+  below_limit : Bool
+  below_limit = nat_lt (4 * Sp) (4 * (T.globals + T.frame))
+
+  compared_is : one_if (compare_of Ltu (register u (General (stack_on 0))) (bytes (T.globals + T.frame))) ≡ one_if below_limit
+  unfolding below_limit
+  compared_is =
+      let c = carries.small in
+      let x = room in
+      let y = within_memory in
+      ap (λ z. one_if (compare_of Ltu z (bytes (T.globals + T.frame)))) (tied.stack 0 some)
+      ∙ ap (λ n. one_if (nat_lt n (unsigned (bytes (T.globals + T.frame))))) (unsigned_small (4 * Sp) (omega arith))
+      ∙ ap (λ n. one_if (nat_lt (4 * Sp) n)) (unsigned_small (4 * (T.globals + T.frame)) (omega arith))
+    where
+      within_memory : T.globals + T.frame ≤ memory_words T
+      within_memory = let d = tied.deep.most in let j : ℕ = deepest - 1 in let q : deepest ≡ suc j = omega arith in let m : T.frame * deepest ≡ T.frame * j + T.frame = ap (λ y. T.frame * y) q ∙ grind arith in omega arith
+
+  compared : Set T.machine w fit u Flag (one_if below_limit)
+  compared = set_step T.machine w fit u (Compute 0 (ToBranch Ltu) Flag (Held (stack_on 0)) (Number (bytes (T.globals + T.frame)))) Flag (one_if below_limit) tied.calm stands_call.0 (record { bad = refl; takes = refl; prints = refl; stores = λ m. refl; leads = λ ops. refl }) refl refl compared_is
+
+  abbrev B : State
+  B = compared.to
+
+  stack_b : (k : ℕ) → k < T.machine.clusters → register B (General (stack_on k)) ≡ pos (4 * Sp)
+  stack_b k lt = compared.others (General (stack_on k)) (λ e. absurd (cc)) ∙ tied.stack k lt
+
+  -- values are saved meanwhile
+
+  saving : Stands w.words (u.place + 1) (Saves ++ Late)
+  saving = stands_left w.words (u.place + 1) (Saves ++ Late) Branching stands_call.1
+
+  saved : Stored T.machine w fit T F Sp carries.memory small some Saved B Saved (length Saves)
+  saved = store_list T.machine w fit T F Sp carries.memory small some Saved Saved B compared.quiet.calm (subst (λ q. Stands w.words q Saves) (sym compared.place) (stands_left w.words (u.place + 1) Saves Late saving)) stack_b usable
+      (λ v i. let a = of.framed.slot_to v (needs v i) in let b = room in omega arith) (λ x y i j e. of.framed.slots x y (needs x i) (needs y j) e)
+
+  abbrev A : State
+  A = saved.to
+
+  saved_at : (v : ℕ) → IsIn v Saved → word_at A.memory (Sp + T.slot F v) ≡ as_kept (holds_branch T F v) (seen u.registers (register_of T F Saved v))
+  saved_at v i = saved.at v i ∙ ap (as_kept (holds_branch T F v)) (compared.others (register_of T F Saved v) (not_first_branch T F of.mapped Saved v (bank v i) (ap is_slotted (survives v i).register) (some_issue T.machine carries.machine)))
+
+  saved_elsewhere : (x : ℕ) → ((v : ℕ) → IsIn v Saved → x ≢ Sp + T.slot F v) → word_at A.memory x ≡ word_at u.memory x
+  saved_elsewhere x h = saved.elsewhere x h ∙ ap (λ m. word_at m x) compared.memory
+
+  place_a : A.place ≡ (u.place + 1) + length Saves
+  place_a = let x = saved.place in let y = compared.place in omega arith
+
+  paused : Paused T.machine w fit A (A.place + length Late)
+  paused = pause_step T.machine w fit A Pause saved.quiet.calm (subst (λ q. Stands w.words q Late) (sym place_a) (stands_right w.words (u.place + 1) Saves Late saving))
+
+  branching : Stands w.words ((u.place + 1) + length (Saves ++ Late)) Branching
+  branching = stands_right w.words (u.place + 1) (Saves ++ Late) Branching stands_call.1
+
+  abbrev C : State
+  C = paused.to
+
+  place_c : C.place ≡ (u.place + 1) + length (Saves ++ Late)
+  place_c = let x = paused.place in let y = place_a in let z = length-append Saves Late in omega arith
+
+  comes_c : Comes T.machine w fit u C
+  comes_c = comes_on T.machine w fit u B C (forth_comes T.machine w fit u B compared.forth) (comes_on T.machine w fit B A C saved.comes paused.comes)
+
+  quiet_c : Quiet u C
+  quiet_c = quiet_on u B C compared.quiet (quiet_on B A C saved.quiet paused.quiet)
+
+  memory_c : C.memory ≡ A.memory
+  memory_c = paused.memory
+
+  others_c : (q : Register) → (q ≢ Flag) → (q ≢ General answer) → seen C.registers q ≡ seen u.registers q
+  others_c q nf na = ap (λ x. seen x q) paused.registers ∙ saved.others q na ∙ compared.others q nf
+
+  abbrev Branches : Word
+  Branches = one (BranchOn 0 true T.depth_trap)
+
+  branch_at : slice_get w.words C.place ≡ Some Branches
+  branch_at = subst (λ q. slice_get w.words q ≡ Some Branches) (sym place_c) branching.0
+
+  lead_is : lead_of C (BranchOn 0 true T.depth_trap ∷ []) ≡ (if below_limit then To T.depth_trap else To (C.place + 1))
+  lead_is = ap (λ z. if is_one z then To T.depth_trap else To (C.place + 1)) (ap (λ x. seen x Flag) paused.registers ∙ saved.others Flag (λ e. absurd (cc)) ∙ compared.at) ∙ ap (λ b. if b then To T.depth_trap else To (C.place + 1)) (one_of below_limit)
+
+  -- where one more function may be active, the frame of the next one is there
+
+  module _ (more : suc (suc (length r.waiting)) ≤ deepest) where
+    enough : T.globals + T.frame ≤ Sp
+    enough =
+        let e = tied.deep.is in
+        let k : ℕ = length r.waiting in
+        let j : ℕ = deepest - suc (suc k) in
+        let q : deepest ≡ suc k + suc j = omega arith in
+        let m : T.frame * deepest ≡ T.frame * suc k + (T.frame + T.frame * j) = ap (λ x. T.frame * x) q ∙ grind arith in
+        omega arith
+
+    abbrev Base : ℕ
+    Base = Sp - T.frame
+
+    base_is : Base + T.frame ≡ Sp
+    base_is = let d = enough in omega arith
+
+    not_below : below_limit ≡ false
+    unfolding below_limit
+    not_below = let d = enough in le-ltb (4 * Sp) (4 * (T.globals + T.frame)) (omega arith)
+
+    abbrev D : State
+    D = after w C Branches (C.place + 1)
+
+    falls : Forth T.machine w fit C D
+    falls = word_step T.machine w fit C Branches (C.place + 1) quiet_c.calm branch_at (record { addresses = refl; input = refl }) (lead_is ∙ ap (λ b. if b then To T.depth_trap else To (C.place + 1)) not_below)
+
+    abbrev op : ℕ → Operation
+    op k = Compute k Add (General (stack_on k)) (Held (stack_on k)) (Number (neg_ℤ (bytes T.frame)))
+
+    abbrev Lower : ℕ → ℤ
+    Lower k = sum_of (register D (General (stack_on k))) (neg_ℤ (bytes T.frame))
+
+    go_down : Stands w.words D.place (Down ++ Passes)
+    go_down = subst (λ q. Stands w.words q (Down ++ Passes)) (ap (λ q. q + 1) (sym place_c)) branching.1
+
+    moved : Moved T.machine w fit D op Lower (λ k. refl) (λ k. refl) (λ k. record { bad = refl; takes = refl; prints = refl; stores = λ m. refl; leads = λ ops. refl }) T.machine.clusters
+    moved = move_run T.machine w fit D op Lower (λ k. refl) (λ k. refl) (λ k. record { bad = refl; takes = refl; prints = refl; stores = λ m. refl; leads = λ ops. refl }) T.machine.clusters refl (stands_left w.words D.place Down Passes go_down)
+
+    abbrev E : State
+    E = moved.to
+
+    stack_d : (k : ℕ) → k < T.machine.clusters → register D (General (stack_on k)) ≡ pos (4 * Sp)
+    stack_d k lt = others_c (General (stack_on k)) (λ e. absurd (cc)) (stack_no_answer k) ∙ tied.stack k lt
+
+    stack_e : (k : ℕ) → k < T.machine.clusters → register E (General (stack_on k)) ≡ pos (4 * Base)
+    stack_e k lt = moved.stack k lt ∙ ap (λ z. sum_of z (neg_ℤ (bytes T.frame))) (stack_d k lt) ∙ down Sp Base T.frame base_is (let c = carries.small in let x = room in omega arith)
+
+    comes_e : Comes T.machine w fit u E
+    comes_e = comes_on T.machine w fit u C E comes_c (comes_on T.machine w fit C D E (forth_comes T.machine w fit C D falls) (forth_comes T.machine w fit D E moved.forth))
+
+    memory_e : E.memory ≡ A.memory
+    memory_e = moved.memory ∙ memory_c
+
+    others_e : (q : Register) → (q ≢ Flag) → (q ≢ General answer) → ((k : ℕ) → q ≢ General (stack_on k)) → seen E.registers q ≡ seen u.registers q
+    others_e q nf na ns = moved.others q ns ∙ others_c q nf na
+
+    -- the arguments
+
+    module _ (ns : List ℤ) (are : known (map (held S) arguments) ≡ Some ns) where
+      abbrev Any : ℕ → Type 0
+      Any a = Unit {0}
+
+      site : CallsAs (T.graph F) g arguments result
+      site = of.mapped.code.calls p g arguments result plan
+
+      abbrev Exiting : Exit
+      Exiting = Calling g arguments result site.next
+
+      general : (v : ℕ) → IsIn (HeldValue v) arguments → slice_get (T.graph F).banks v ≡ Some GeneralBank
+      general v i = graph_sound.exit_operands Exiting (HeldValue v) site.has i
+
+      plain : (v : ℕ) → IsIn (HeldValue v) arguments → (is_place T F v ≡ false) × (holds_branch T F v ≡ false)
+      plain v i =
+          let h = general v i in
+          let whole = whole_is T F Any graph_sound of.mapped.code (λ a lt. tt) v GeneralBank h in (
+            false_from_ne_true (is_place T F v) (λ e. let m = place_made T F Any graph_sound of.mapped.code v e in graph_sound.place_exit v m.0 Exiting (subst (λ x. IsPlace (T.graph F) x m.0) whole m.1) site.has (inl i)),
+            ap is_branch (whole_bank T F Any graph_sound of.mapped.code v GeneralBank (has_whole T F Any graph_sound of.mapped.code (λ a lt. tt) v GeneralBank h)),
+          )
+
+      in_operands : (v : ℕ) (xs : List Operand) → IsIn (HeldValue v) xs → IsIn v (flat_map value_in xs)
+      in_operands v [] i = absurd i
+      in_operands v (x ∷ xs) i = ⊎_elim (λ e. in_left v (value_in x) (flat_map value_in xs) (subst (λ y. IsIn v (value_in y)) e (inl refl))) (λ j. in_right v (value_in x) (flat_map value_in xs) (in_operands v xs j)) i
+
+      live : (v : ℕ) → IsIn (HeldValue v) arguments → IsLive (T.layout F) p v
+      live v i = here plan (in_operands v arguments i)
+
+      its_bank : (v : ℕ) → IsIn (HeldValue v) arguments → (b : Bank) × (bank_in (T.layout F) v ≡ Some b)
+      its_bank v i = live_bank T F of.mapped graph_sound p v (live v i)
+
+      low : 4 * Base < 2 ^ 32
+      low = let c = carries.small in let x = room in let y = base_is in omega arith
+
+      can : (v : ℕ) → IsIn (HeldValue v) arguments → CanFetch T.machine w fit T F Base carries.memory small some T.frame v
+      can v i = record {
+        general = (plain v i).1;
+        usable = record {
+          cluster = of.mapped.homes p v (is_live (live v i));
+          not_zero = not_zero T F of.mapped (v ∷ []) v (its_bank v i);
+          not_answer = not_general T F of.mapped (v ∷ []) v 0 2 (its_bank v i) (omega arith);
+          not_stack = λ k. not_general T F of.mapped (v ∷ []) v k 1 (its_bank v i) (omega arith);
+        };
+        inside = λ e. let a = of.framed.slot_to v (is_spilled p (is_live (live v i)) e) in let b = room in let c = base_is in omega arith;
+      }
+
+      -- slots of values that are not saved stay
+      slot_same : (v : ℕ) → NeedsSlot T F v → is_slotted (kept T F v) ≡ true → word_at A.memory (Sp + T.slot F v) ≡ word_at u.memory (Sp + T.slot F v)
+      slot_same v n e = saved_elsewhere (Sp + T.slot F v) (λ x i q.
+          let same : v ≡ x = of.framed.slots v x n (needs x i) (omega arith) in
+          let z : is_slotted (kept T F v) ≡ false = ap (λ y. is_slotted (kept T F y)) same ∙ ap is_slotted (survives x i).register in
+          let y : true ≡ false = sym e ∙ z in cc)
+
+      operand_at : (a : Operand) (n : ℤ) → IsIn a arguments → held S a ≡ Some n → OperandAt T.machine w fit T F Base carries.memory small some E T.frame a n
+      operand_at (AsNumber z) n i e = cc
+      operand_at Stack n i e = absurd (cc)
+      operand_at (HeldValue v) n i e = (can v i, by (is_slotted (kept T F v)) refl (at_word.values v n (live v i) e))
+        where
+          by : (b : Bool) → is_slotted (kept T F v) ≡ b → Shows T Sp F v n (if b then word_at u.memory (Sp + T.slot F v) else register u (register_of T F (v ∷ []) v)) → (if b then word_at E.memory (Base + (T.frame + T.slot F v)) else seen E.registers (register_of T F (v ∷ []) v)) ≡ n
+          by true h k =
+              let place : Base + (T.frame + T.slot F v) ≡ Sp + T.slot F v = (let c = base_is in omega arith) in
+              ap (word_at E.memory) place ∙ ap (λ m. word_at m (Sp + T.slot F v)) memory_e ∙ slot_same v (is_spilled p (is_live (live v i)) h) h ∙ k.is ∙ ap (λ c. moved_number Sp c n) (plain v i).0
+          by false h k =
+              others_e (register_of T F (v ∷ []) v) (λ q. let z : is_branch_register (register_of T F (v ∷ []) v) ≡ false = ap (λ b. is_branch_register (named b (home T F v) (branch_of T F (v ∷ []) v) (number_at T F of.mapped (v ∷ []) v))) (plain v i).1 in let y : true ≡ false = sym (ap is_branch_register q) ∙ z in cc)
+              (not_general T F of.mapped (v ∷ []) v 0 2 (its_bank v i) (omega arith)) (λ k. not_general T F of.mapped (v ∷ []) v k 1 (its_bank v i) (omega arith)) ∙ k.is ∙ ap (λ c. moved_number Sp c n) (plain v i).0
+
+      operands_from : (xs : List Operand) (ms : List ℤ) → ((x : Operand) → IsIn x xs → IsIn x arguments) → known (map (held S) xs) ≡ Some ms → OperandsAt T.machine w fit T F Base carries.memory small some E xs ms
+      operands_from [] [] h e = tt
+      operands_from [] (n ∷ ms) h e = absurd (cc)
+      operands_from (a ∷ xs) ms h e = by (held S a) refl (known (map (held S) xs)) refl e (λ ks ek. operands_from xs ks (λ x i. h x (inr i)) ek)
+        where
+          by : (x : Content) → held S a ≡ x → (y : Option (List ℤ)) → known (map (held S) xs) ≡ y → known (x ∷ map (held S) xs) ≡ Some ms → ((ks : List ℤ) → known (map (held S) xs) ≡ Some ks → OperandsAt T.machine w fit T F Base carries.memory small some E xs ks) → OperandsAt T.machine w fit T F Base carries.memory small some E (a ∷ xs) ms
+          by None ex y ey k more = absurd (cc)
+          by (Some n) ex None ey k more = absurd (let z : with_front n None ≡ Some ms = ap (with_front n) (sym ey) ∙ k in cc)
+          by (Some n) ex (Some ks) ey k more =
+              let z : with_front n (Some ks) ≡ Some ms = ap (with_front n) (sym ey) ∙ k in
+              let q : n ∷ ks ≡ ms = cc in
+              subst (λ l. OperandsAt T.machine w fit T F Base carries.memory small some E (a ∷ xs) l) q (operand_at a n (h a (inl refl)) ex, more ks ey)
+
+      -- the function that is called
+
+      callable : Callable flow g (length arguments)
+      callable = sound.calls (T.graph F) g site.next arguments result (get_in flow.functions F (T.graph F) tied.is.graph) site.has
+
+      called_below : g < length flow.functions
+      called_below = get_below flow.functions g callable.graph callable.is
+
+      its : IsFunctionOf T flow ls g
+      its = carries.functions g called_below
+
+      abbrev Parameters : List ℕ
+      Parameters = parameters_of T g
+
+      passing : Stands w.words E.place Passes
+      passing = subst (λ q. Stands w.words q Passes) (sym moved.place) (stands_right w.words D.place Down Passes go_down)
+
+      passed : Given T.machine w fit T F Base carries.memory small some E g Parameters ns (length (argument_words T F g Parameters arguments))
+      passed = pass_run T.machine w fit T F Base carries.memory small some g Parameters arguments ns E moved.quiet.calm stack_e (stands_left w.words E.place (argument_words T F g Parameters arguments) (one (Jumps (T.entry g)) ∷ []) passing)
+          (operands_from arguments ns (λ x i. i) are)
+          (λ x y i j sx sy. apart_mixed T F of.mapped (x ∷ []) (y ∷ []) x y (its_bank x i) (few_one T F of.mapped y (some_issue T.machine carries.machine)) (inl refl) sx sy)
+          (λ v i. let a = its.framed.slot_to v (is_passed i) in let b = room in let c = base_is in omega arith)
+          (λ v i. its.framed.slot_to v (is_passed i)) (λ x y i j e. its.framed.slots x y (is_passed i) (is_passed j) e)
+          (no_twice Parameters (λ i j v lt a b. sound.parameters (T.graph g) i j v (get_in flow.functions g (T.graph g) its.is.graph) lt a b))
+
+      abbrev P : State
+      P = passed.to
+
+      abbrev Jump : Word
+      Jump = one (Jumps (T.entry g))
+
+      jump_at : slice_get w.words P.place ≡ Some Jump
+      jump_at = subst (λ q. slice_get w.words q ≡ Some Jump) (sym passed.place) (stands_right w.words E.place (argument_words T F g Parameters arguments) (Jump ∷ []) passing).0
+
+      abbrev G : State
+      G = after w P Jump (T.entry g)
+
+      forth_g : Forth T.machine w fit u G
+      forth_g = then_forth T.machine w fit u P G (comes_on T.machine w fit u E P comes_e passed.comes) (word_step T.machine w fit P Jump (T.entry g) passed.quiet.calm jump_at (record { addresses = refl; input = refl }) refl)
+
+      back_is : P.place + 1 ≡ T.back F p
+      back_is =
+          let a = passed.place in
+          let c = place_c in
+          let d : E.place ≡ D.place + length Down = moved.place in
+          let e : T.back F p ≡ T.starts F p + suc (length ((Saves ++ Late) ++ Branching)) = carries.placed.backs F p g arguments result plan in
+          let h = at_word.place in
+          let l1 : length ((Saves ++ Late) ++ Branching) ≡ length (Saves ++ Late) + suc (length (Down ++ Passes)) = length-append (Saves ++ Late) Branching in
+          let l2 : length Passes ≡ length (argument_words T F g Parameters arguments) + 1 = length-append (argument_words T F g Parameters arguments) (Jump ∷ []) in
+          let l3 : length (Down ++ Passes) ≡ length Down + length Passes = length-append Down Passes in
+          omega arith
+
+      link_is : G.registers Link ≡ wrap (pos (T.back F p))
+      link_is = put_at Link (wrap (pos (P.place + 1))) P.registers refl ∙ ap (λ n. wrap (pos n)) back_is
+
+      stack_g : (k : ℕ) → k < T.machine.clusters → register G (General (stack_on k)) ≡ pos (4 * Base)
+      stack_g k lt = put_off Link (wrap (pos (P.place + 1))) P.registers (General (stack_on k)) (λ e. absurd (cc)) ∙ passed.stack k lt
+
+      -- memory
+
+      above_base : (x : ℕ) → Sp ≤ x → word_at G.memory x ≡ word_at A.memory x
+      above_base x le = passed.elsewhere x (λ v i e. let a = its.framed.slot_to v (is_passed i) in let c = base_is in omega arith) ∙ ap (λ m. word_at m x) memory_e
+
+      in_globals : (x : ℕ) → x < T.globals → word_at G.memory x ≡ word_at u.memory x
+      in_globals x lt = passed.elsewhere x (λ v i e. let a = enough in let c = base_is in omega arith) ∙ ap (λ m. word_at m x) memory_e ∙ saved_elsewhere x (λ v i e. let a = enough in omega arith)
+
+      free_above : (x : ℕ) → Sp ≤ x → ((v : ℕ) → NeedsSlot T F v → x ≢ Sp + T.slot F v) → word_at G.memory x ≡ word_at u.memory x
+      free_above x le h = above_base x le ∙ saved_elsewhere x (λ v i. h v (needs v i))
+
+      -- rows
+
+      abbrev Globals : ℕ
+      Globals = length flow.globals
+
+      abbrev Rows : List (List Content)
+      Rows = S.arrays ++ map undefined (own_of Globals (T.graph g))
+
+      global_rows : (a : ℕ) (x : Global) → slice_get flow.globals a ≡ Some x → Row G.memory (words_before flow.globals a) x.words (row_in Rows a)
+      global_rows a x e =
+          let old = global_row T flow carries.some_frame carries.globals sound F ls tied.is of.framed u.memory Sp r.base S.arrays tied.arrays a x e in
+          let lt : a < length S.arrays = (let b = get_below flow.globals a x e in let c = tied.first in let d = tied.last in omega arith) in
+          let same : row_in Rows a ≡ row_in S.arrays a = row_left S.arrays (map undefined (own_of Globals (T.graph g))) a lt in
+          record {
+            size = ap length same ∙ old.size;
+            is = λ i n l k. in_globals (words_before flow.globals a + i) (let z = carries.globals in let b = before_all flow.globals a i x e l in omega arith) ∙ old.is i n l (ap (λ y. slice_index_or y i None) (sym same) ∙ k);
+          }
+
+      callee_arrays : Arrays T Globals G.memory Base (length S.arrays) g Rows
+      callee_arrays = record { row = λ a array has. by a array has (array_kind T flow carries.some_frame carries.globals sound g ls its.is its.framed a array has) }
+        where
+          by : (a : ℕ) (array : Array) → slice_get (T.graph g).arrays a ≡ Some array → IsGlobal T flow carries.some_frame carries.globals sound g ls its.is its.framed a array ⊎ IsLocal T flow carries.some_frame carries.globals sound g ls its.is its.framed a → Row G.memory (begins_at T Base g a) array.words (row_in Rows (spot_of Globals (length S.arrays) a))
+          by a array has (inl k) =
+              subst (λ j. Row G.memory (begins_at T Base g a) array.words (row_in Rows j)) (sym (k.spot (length S.arrays)))
+              (subst (λ b. Row G.memory b array.words (row_in Rows a)) (sym (k.begins Base)) (subst (λ n. Row G.memory (words_before flow.globals a) n (row_in Rows a)) (sym k.words) (global_rows a k.item k.has)))
+          by a array has (inr l) =
+              let row_is : row_in Rows (spot_of Globals (length S.arrays) a) ≡ undefined array.words =
+              ap (row_in Rows) (l.spot (length S.arrays)) ∙ row_right S.arrays (map undefined (own_of Globals (T.graph g))) (a - Globals) ∙ own_row Globals a (T.graph g) array l.from has in
+              subst (λ y. Row G.memory (begins_at T Base g a) array.words y) (sym row_is) (undefined_row G.memory (begins_at T Base g a) array.words)
+
+      -- the caller waits
+
+      abbrev Waiter : Frame
+      Waiter = record { function = F; from = suc p; next = suc (suc p); result = result; base = r.base; values = S.values }
+
+      result_in : (res : Option ℕ) (v : ℕ) → IsIn v (result_of res) → IsResult res v
+      result_in None v i = i
+      result_in (Some x) v i = ⊎_elim (λ e. e) (λ j. absurd j) i
+
+      waiting_values : (v : ℕ) (n : ℤ) → IsLive (T.layout F) (suc p) v → (IsResult result v → ⊥) → S.values v ≡ Some n → Shows T Sp F v n (word_at G.memory (Sp + T.slot F v))
+      waiting_values v n lives no_ e = by (is_slotted (kept T F v)) refl (at_word.values v n (beyond plan (λ i. no_ (result_in result v i)) refl lives) e)
+        where
+          by : (b : Bool) → is_slotted (kept T F v) ≡ b → Shows T Sp F v n (if b then word_at u.memory (Sp + T.slot F v) else register u (register_of T F (v ∷ []) v)) → Shows T Sp F v n (word_at G.memory (Sp + T.slot F v))
+          by true h k = subst (λ x. Shows T Sp F v n x) (sym (above_base (Sp + T.slot F v) (omega arith) ∙ slot_same v (is_spilled (suc p) (is_live lives) h) h)) k
+          by false h k =
+              let number = in_register (kept T F v) h in
+              let there : IsIn v Saved = of.saved.saves p g v arguments result plan (record { live = lives; other = no_; number = number.0; register = number.1 }) in
+              let was : Shows T Sp F v n (seen u.registers (register_of T F Saved v)) = subst (λ x. Shows T Sp F v n x) (ap (register u) (own_name T F v (v ∷ []) Saved h)) k in
+              subst (λ x. Shows T Sp F v n x) (sym (above_base (Sp + T.slot F v) (omega arith) ∙ saved_at v there)) (kept_shows T Sp F v n (seen u.registers (register_of T F Saved v)) (branch_plain T F Any graph_sound of.mapped.code v) was)
+
+      waiting_arrays : Arrays T Globals G.memory Sp r.base F Rows
+      waiting_arrays = record { row = λ a array has. by a array has (array_kind T flow carries.some_frame carries.globals sound F ls tied.is of.framed a array has) (tied.arrays.row a array has) }
+        where
+          by : (a : ℕ) (array : Array) → slice_get (T.graph F).arrays a ≡ Some array → IsGlobal T flow carries.some_frame carries.globals sound F ls tied.is of.framed a array ⊎ IsLocal T flow carries.some_frame carries.globals sound F ls tied.is of.framed a → Row u.memory (begins_at T Sp F a) array.words (row_in S.arrays (spot_of Globals r.base a)) → Row G.memory (begins_at T Sp F a) array.words (row_in Rows (spot_of Globals r.base a))
+          by a array has (inl k) old =
+              subst (λ j. Row G.memory (begins_at T Sp F a) array.words (row_in Rows j)) (sym (k.spot r.base))
+              (subst (λ b. Row G.memory b array.words (row_in Rows a)) (sym (k.begins Sp)) (subst (λ n. Row G.memory (words_before flow.globals a) n (row_in Rows a)) (sym k.words) (global_rows a k.item k.has)))
+          by a array has (inr l) old =
+              let lt : spot_of Globals r.base a < length S.arrays = (let b = get_below (T.graph F).arrays a array has in let c = l.spot r.base in let d = tied.last in let e = l.from in omega arith) in
+              let same : row_in Rows (spot_of Globals r.base a) ≡ row_in S.arrays (spot_of Globals r.base a) = row_left S.arrays (map undefined (own_of Globals (T.graph g))) (spot_of Globals r.base a) lt in
+              record {
+                size = ap length same ∙ old.size;
+                is = λ i n li e. free_above (begins_at T Sp F a + i) (let b = l.begins Sp in omega arith) (λ v needed q. slot_free T flow carries.some_frame carries.globals sound F ls tied.is of.framed Sp (length r.waiting) v tied.deep needed a i array has li (sym q)) ∙ old.is i n li (ap (λ y. slice_index_or y i None) (sym same) ∙ e);
+              }
+
+      waits_at : Waits T flow ls Rows G.memory Sp (length S.arrays) Waiter r.waiting
+      waits_at = record {
+        is = tied.is;
+        caller = p;
+        callee = g;
+        arguments = arguments;
+        called = plan;
+        from = refl;
+        next = refl;
+        values = waiting_values;
+        arrays = waiting_arrays;
+        first = tied.first;
+        last = tied.last;
+        link = free_above Sp (omega arith) (λ v needed e. let a = of.framed.slot_from v needed in omega arith) ∙ sym (link_in_frame T u Sp F p g arguments result plan) ∙ at_word.link;
+      }
+
+      rest_below : Below T flow ls Rows G.memory Sp r.base r.waiting
+      rest_below = below_keep T flow carries.some_frame carries.globals sound ls (λ f is. (carries.functions f (get_below flow.functions f (T.graph f) is.graph)).framed) r.waiting S.arrays Rows u.memory G.memory Sp r.base
+          global_rows
+          (λ j from lt. row_left S.arrays (map undefined (own_of Globals (T.graph g))) j (let d = tied.last in omega arith))
+          (λ x le. free_above x (omega arith) (λ v needed e. let a = of.framed.slot_to v needed in omega arith)) tied.below
+
+      all_below : Below T flow ls Rows G.memory Base (length S.arrays) (Waiter ∷ r.waiting)
+      all_below = subst (λ x. Waits T flow ls Rows G.memory x (length S.arrays) Waiter r.waiting × Below T flow ls Rows G.memory x r.base r.waiting) (sym base_is) (waits_at, rest_below)
+
+      -- the step over values
+
+      abbrev TheBody : Body
+      TheBody = record { parameters = Parameters; own = own_of Globals (T.graph g); hop = λ setting b s. laid_hop setting (T.layout g) b s }
+
+      abbrev Entered : Active
+      Entered = record { function = g; block = 0; base = length S.arrays; state = entered TheBody ns S; waiting = Waiter ∷ r.waiting }
+
+      body_is : (laid_program flow ls).body g ≡ Some TheBody
+      body_is = ap (λ x. laid_body Globals x (slice_get ls g)) its.is.graph ∙ ap (λ l. laid_body Globals (Some (T.graph g)) l) its.is.layout
+
+      not_full : nat_le deepest (length r.waiting + 1) ≡ false
+      not_full = lt-leb deepest (length r.waiting + 1) (omega arith)
+
+      steps : next (laid_program flow ls) r ≡ On Entered
+      steps =
+          hop_to (Hop.Calls g ns result (suc p) (suc (suc p)) S) (ap (λ x. calls g x result (suc p) (suc (suc p)) S) are)
+          ∙ ap (λ b. if b then Over (Traps Depth S.out) else enters g ((laid_program flow ls).body g) ns S (Waiter ∷ r.waiting)) not_full
+          ∙ ap (λ x. enters g x ns S (Waiter ∷ r.waiting)) body_is
+
+      own_count : length (map undefined (own_of Globals (T.graph g))) ≡ own_arrays T Globals g
+      own_count = length-map (own_of Globals (T.graph g)) undefined ∙ length-map (drop Globals (T.graph g).arrays) (λ (x : Array). x.words) ∙ length-drop Globals (T.graph g).arrays
+
+      called_on : CarriesOn T flow ls w r u
+      called_on = record {
+        after = Entered;
+        to = G;
+        words = forth_g.0;
+        over_values = steps;
+        over_registers = λ n. run_reach (step T.machine (1 ∷ []) w) (λ x. x.out) (suc forth_g.0) n u G forth_g.1;
+        tied = record {
+          sp = Base;
+          is = its.is;
+          calm = refl;
+          deep = record { is = (let e = tied.deep.is in let b = base_is in let k : ℕ = length r.waiting in let m : T.frame * suc (suc k) ≡ T.frame * suc k + T.frame = grind arith in omega arith); most = more };
+          stack = stack_g;
+          at = inl (record { block = refl; place = refl; values = passed.values; link = link_is ∙ (let q : suc p - 1 ≡ p = omega arith in ap (λ n. wrap (pos (T.back F n))) (sym q)) });
+          arrays = callee_arrays;
+          first = (let a = tied.first in let b = tied.last in omega arith);
+          last = (let a = length-append S.arrays (map undefined (own_of Globals (T.graph g))) in let b = own_count in omega arith);
+          below = all_below;
+          input = passed.quiet.input ∙ moved.quiet.input ∙ quiet_c.input ∙ tied.input;
+          out = append-nil P.out ∙ passed.quiet.out ∙ moved.quiet.out ∙ append-nil C.out ∙ quiet_c.out ∙ tied.out;
+          safe = safe_after (next (laid_program flow ls)) (λ x. x.state.out) 1 r Entered (reach_one (next (laid_program flow ls)) r Entered steps) tied.safe;
+        };
+      }
+
+  -- where no further function may be active both runs end by the trap of the depth
+
+  module _ (full : deepest ≤ suc (length r.waiting)) where
+    at_globals : Sp ≡ T.globals
+    at_globals =
+        let e = tied.deep.is in
+        let most = tied.deep.most in
+        let q : deepest ≡ suc (length r.waiting) = omega arith in
+        let m : T.frame * deepest ≡ T.frame * suc (length r.waiting) = ap (λ x. T.frame * x) q in
+        omega arith
+
+    is_below : below_limit ≡ true
+    unfolding below_limit
+    is_below = let d = at_globals in let f = carries.some_frame in lt-ltb (4 * Sp) (4 * (T.globals + T.frame)) (omega arith)
+
+    abbrev Trapped : State
+    Trapped = after w C Branches T.depth_trap
+
+    jumps : Forth T.machine w fit C Trapped
+    jumps = word_step T.machine w fit C Branches T.depth_trap quiet_c.calm branch_at (record { addresses = refl; input = refl }) (lead_is ∙ ap (λ b. if b then To T.depth_trap else To (C.place + 1)) is_below)
+
+    all_the_way : Forth T.machine w fit u Trapped
+    all_the_way = then_forth T.machine w fit u C Trapped comes_c jumps
+
+    abbrev Trapping : Word
+    Trapping = one (EndByTrap Depth)
+
+    trap_at : slice_get w.words T.depth_trap ≡ Some Trapping
+    trap_at = (depth_stands T flow.main (length flow.functions) w.words carries.placed).0
+
+    ends : step T.machine (1 ∷ []) w Trapped ≡ Over (Traps Depth (after w Trapped Trapping Trapped.place).out)
+    ends =
+        let f = fit T.depth_trap Trapping trap_at in
+        ap (issue T.machine (1 ∷ []) w Trapped) trap_at
+        ∙ ap (λ why. unless_stuck why Trapped (leads_to (TrapsBy Depth) (effect T.machine (1 ∷ []) w Trapped Trapping))) (not_stuck T.machine w Trapped Trapping f.0 f.1 (record { addresses = refl; input = refl }))
+        ∙ ap (λ t. leads_to (TrapsBy Depth) t) (effect_is T.machine w Trapped Trapping refl)
+
+    out_is : (after w Trapped Trapping Trapped.place).out ≡ S.out
+    out_is = append-nil Trapped.out ∙ append-nil C.out ∙ quiet_c.out ∙ tied.out
+
+    is_full : nat_le deepest (length r.waiting + 1) ≡ true
+    is_full = le-leb deepest (length r.waiting + 1) (omega arith)
+
+    ends_alike : (ns : List ℤ) → known (map (held S) arguments) ≡ Some ns → EndsAlike T flow ls w r u
+    ends_alike ns are = record {
+      outcome = Traps Depth S.out;
+      over = tt;
+      words = suc all_the_way.0 + 1;
+      over_values = hop_to (Hop.Calls g ns result (suc p) (suc (suc p)) S) (ap (λ x. calls g x result (suc p) (suc (suc p)) S) are)
+          ∙ ap (λ b. if b then Over (Traps Depth S.out) else enters g ((laid_program flow ls).body g) ns S (waits r result (suc p) (suc (suc p)) S ∷ r.waiting)) is_full;
+      over_registers = run_ends (step T.machine (1 ∷ []) w) (λ t. t.out) (suc all_the_way.0) u Trapped (Traps Depth (after w Trapped Trapping Trapped.place).out) all_the_way.1 ends ∙ ap (Traps Depth) out_is;
+    }
+
+  by_depth : (ns : List ℤ) → known (map (held S) arguments) ≡ Some ns → (b : Bool) → nat_le deepest (length r.waiting + 1) ≡ b → CarriesOn T flow ls w r u ⊎ EndsAlike T flow ls w r u
+  by_depth ns are true e = inr (ends_alike (let l = leb-true deepest (length r.waiting + 1) e in omega arith) ns are)
+  by_depth ns are false e = inl (called_on (let l = leb-false deepest (length r.waiting + 1) e in omega arith) ns are)
+
+  by_known : (x : Option (List ℤ)) → known (map (held S) arguments) ≡ x → CarriesOn T flow ls w r u ⊎ EndsAlike T flow ls w r u
+  by_known None e = absurd (safe_end (next (laid_program flow ls)) (λ q. q.state.out) r (Outcome.Wrong S.out) (hop_to Hop.Wrong (ap (λ x. calls g x result (suc p) (suc (suc p)) S) e)) tied.safe tt)
+  by_known (Some ns) e = by_depth ns e (nat_le deepest (length r.waiting + 1)) refl
+
+  pub call_word : CarriesOn T flow ls w r u ⊎ EndsAlike T flow ls w r u
+  call_word = by_known (known (map (held S) arguments)) refl
+
+pub call_law : CallLaw
+call_law T flow ls w sound carries fit r u tied p g arguments result block plan = call_word T flow ls w ((told flow (is_sound_flow flow) refl).0 sound) carries fit r u tied p g arguments result block plan

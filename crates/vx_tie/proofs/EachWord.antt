@@ -1,0 +1,435 @@
+-- Each word of a program that carries a flow is one of its plan, or of one of the other kinds.
+use Rattle.std.proofs.Common.{◌≡◌, ◌<◌, ◌≤◌, ◌⊎◌, inl, inr, ◌+◌, ◌-◌, ℕ, zero, suc, ℤ, pos, neg_ℤ, Bool, true, false, Option, Some, None, List, [], ◌∷◌, ◌++◌, length, refl, sym, ap, ◌∙◌, subst, arith}
+use Rattle.std.specs.Prelude.{if◌then◌else◌, slice_get}
+use Rattle.vx_base.specs.declared.arithmetic.Code.TheVariants.{Add, ToBranch}
+use Rattle.vx_base.specs.declared.arithmetic.Compare.TheVariants.{Ltu, Ne}
+use Rattle.vx_base.specs.declared.outcome.Trap.TheVariants.{Depth as ByDepth}
+use Rattle.vx_flow.specs.declared.graph.Flow.{Flow}
+use Rattle.vx_flow.specs.declared.graph.Operand.{Operand}
+use Rattle.vx_flow.specs.declared.graph.Operand.TheVariants.{Held as HeldValue, Number as AsNumber, Stack}
+use Rattle.vx_flow.specs.Effects.{IsIn, value_in}
+use Rattle.vx_flow.specs.Sound.{SoundFlow}
+use Rattle.vx_flow.proofs.Members.{in_left, in_right}
+use Rattle.vx_isa.specs.declared.operation.GeneralRegister.{GeneralRegister}
+use Rattle.vx_isa.specs.declared.operation.Register.TheVariants.{General as InGeneral, Branch as InBranch}
+use Rattle.vx_isa.specs.declared.operation.Source.TheVariants.{Held, Number}
+use Rattle.vx_isa.specs.declared.operation.Operation.{Operation}
+use Rattle.vx_isa.specs.declared.operation.Operation.TheVariants.{Compute, Move, Select, Load, Store, Goto, BranchOn, Call, Return, FromLink, ToLink, EndByTrap, Halt}
+use Rattle.vx_isa.specs.declared.program.Word.{Word}
+use Rattle.vx_isa.specs.declared.program.WordProgram.{WordProgram}
+use Rattle.vx_isa.specs.Fits.{fits}
+use Rattle.vx_isa.specs.Paths.{WordAt}
+use Rattle.vx_mixed.specs.declared.layout.Laid.{Laid}
+use Rattle.vx_mixed.specs.declared.layout.Laid.TheVariants.{Plain, Split}
+use Rattle.vx_mixed.specs.declared.layout.VirtualWord.{VirtualWord}
+use Rattle.vx_mixed.specs.declared.layout.VirtualWord.TheVariants.{Planned, Drain, Transfer, Choice, Call as Calls, Return as Returns, Ends}
+use Rattle.vx_mixed.specs.declared.layout.VWords.{VWords}
+use Rattle.vx_mixed.specs.LaidSettled.{laid_reads, laid_writes}
+use Rattle.vx_regs.specs.Intervals.{is_named, word_reads, word_writes}
+use Rattle.vx_target.specs.Target.{Target, answer, general, general_of, branch_of, stack_on, holds_branch, is_slotted, kept, slotted, once, parameters_of, one, together, pause, in_flight, settled, set_stack, slots_in_flight, load_slot, store_slot, load_slots, store_slots, if_some, before, behind, plan_word, plan_words, past_there, past, landing_words, on_clusters, move_stack, save_words, reload_words, fetch_words, fetched, cluster_of_operand, argument_words, result_words, call_words, back_words, is_caller, answer_words, return_words, follows, way, link_words, entry_words, turns, idle_words, word_words, start_words, waits, bytes, first_frame}
+use Rattle.vx_target.specs.Placed.{Depth, Labelled, PlacedAt, place_of, laid_pieces, landing_of, item_landings, word_landings, landing_pieces, function_pieces, functions_pieces, all_pieces, words_of}
+use Rattle.vx_target.specs.Carried.{Carries, IsFunctionOf, IsMapped, NeedsSlot, is_passed, is_spilled, is_saved}
+use Rattle.vx_target.specs.Places.{plan_place}
+use Rattle.vx_tie.specs.Plans.{IsOther, loads_slot, stores_slot, picks_number, tests_number, moves, tests_depth, leaves_by_depth, moves_stacks, calls, takes_link, stores_link, sets_stacks, loads_link, moves_and_loads_link, gives_link, returns, traps, halts, idles, goes, branches, IsTurnedTo, at_entry, by_transfer, by_choice, by_split}
+use Rattle.vx_target.proofs.Enough.{in_all_of}
+use Rattle.vx_target.proofs.Frames.{get_below, get_in}
+use Rattle.vx_target.proofs.Once.{once_in}
+use Rattle.vx_target.proofs.Pauses.{flight_few, slots_few}
+use Rattle.vx_target.proofs.Stands.{word_stands}
+use Rattle.vx_target.proofs.Steps.{Stands}
+use Rattle.vx_target.proofs.Word.{slotted_from}
+
+-- the word at a place is that of a planned word
+pub record IsPlanWord (T : Target) (count q : ℕ) : Type 0 where
+  pub function : ℕ
+  pub place : ℕ
+  pub region : ℕ
+  pub number : ℕ
+  pub items : List Laid
+  pub low : function < count
+  pub planned : slice_get (T.layout function).words place ≡ Some (Planned region number items)
+  pub at : plan_place T function place items ≡ q
+
+module _ (T : Target) (count : ℕ) where
+  abbrev AllOther : List Word → Type 0
+  AllOther [] = Unit {0}
+  AllOther (w ∷ ws) = IsOther T count w × AllOther ws
+
+  other_append : (xs ys : List Word) → AllOther xs → AllOther ys → AllOther (xs ++ ys)
+  other_append [] ys a b = b
+  other_append (x ∷ xs) ys a b = (a.0, other_append xs ys a.1 b)
+
+  some_other : (vs : List ℕ) (ws : List Word) → AllOther ws → AllOther (if_some vs ws)
+  some_other [] ws g = tt
+  some_other (v ∷ vs) ws g = g
+
+  abbrev KindsAt : ℕ → List Word → Type 0
+  KindsAt q [] = Unit {0}
+  KindsAt q (w ∷ ws) = (IsPlanWord T count q ⊎ IsOther T count w) × KindsAt (suc q) ws
+
+  kinds_other : (q : ℕ) (ws : List Word) → AllOther ws → KindsAt q ws
+  kinds_other q [] h = tt
+  kinds_other q (w ∷ ws) h = (inr h.0, kinds_other (suc q) ws h.1)
+
+  kinds_append : (q : ℕ) (xs ys : List Word) → KindsAt q xs → KindsAt (q + length xs) ys → KindsAt q (xs ++ ys)
+  kinds_append q [] ys a b = let z : q + 0 ≡ q = omega arith in subst (λ n. KindsAt n ys) z b
+  kinds_append q (x ∷ xs) ys a b = let z : q + suc (length xs) ≡ suc q + length xs = omega arith in (a.0, kinds_append (suc q) xs ys a.1 (subst (λ n. KindsAt n ys) z b))
+
+  kind_at : (q : ℕ) (ws : List Word) (p : ℕ) (w : Word) → KindsAt q ws → slice_get ws p ≡ Some w → IsPlanWord T count (q + p) ⊎ IsOther T count w
+  kind_at q [] p w h e = absurd (cc)
+  kind_at q (x ∷ ws) zero w h e =
+      let s : x ≡ w = cc in
+      let z : q ≡ q + 0 = omega arith in
+      subst (λ y. IsPlanWord T count (q + 0) ⊎ IsOther T count y) s (subst (λ n. IsPlanWord T count n ⊎ IsOther T count x) z h.0)
+  kind_at q (x ∷ ws) (suc p) w h e = let z : suc q + p ≡ q + suc p = omega arith in subst (λ n. IsPlanWord T count n ⊎ IsOther T count w) z (kind_at (suc q) ws p w h.1 e)
+
+  abbrev KindPieces : List Labelled → Type 0
+  KindPieces [] = Unit {0}
+  KindPieces (x ∷ xs) = KindsAt (place_of T x.label) x.words × KindPieces xs
+
+  pieces_append : (xs ys : List Labelled) → KindPieces xs → KindPieces ys → KindPieces (xs ++ ys)
+  pieces_append [] ys a b = b
+  pieces_append (x ∷ xs) ys a b = (a.0, pieces_append xs ys a.1 b)
+
+  pieces_kinds : (q : ℕ) (xs : List Labelled) → PlacedAt T q xs → KindPieces xs → KindsAt q (words_of xs)
+  pieces_kinds q [] p a = tt
+  pieces_kinds q (x ∷ xs) p a = kinds_append q x.words (words_of xs) (subst (λ n. KindsAt n x.words) p.0 a.0) (pieces_kinds (q + length x.words) xs p.1 a.1)
+
+module _ (T : Target) (flow : Flow) (ls : List VWords) (w : WordProgram) (sound : SoundFlow flow) (carries : Carries T flow ls w) where
+  abbrev Count : ℕ
+  Count = length flow.functions
+
+  abbrev Words : List Word → Type 0
+  Words ws = AllOther T Count ws
+
+  abbrev Kinds : ℕ → List Word → Type 0
+  Kinds q ws = KindsAt T Count q ws
+
+  abbrev Pieces : List Labelled → Type 0
+  Pieces xs = KindPieces T Count xs
+
+  append : (xs ys : List Word) → Words xs → Words ys → Words (xs ++ ys)
+  append xs ys a b = other_append T Count xs ys a b
+
+  pause_other : (n : ℕ) → n ≤ 16 → Words (pause n)
+  pause_other zero le = tt
+  pause_other (suc n) le = (idles (suc n) le, tt)
+
+  settled_other : (ws : List Word) → Words ws → Words (settled T ws)
+  settled_other ws h = let n = in_flight T.machine 0 ws in append ws (pause n) h (pause_other n (flight_few T.machine carries.machine 0 ws (omega arith)))
+
+  -- a word, a pause, and what follows
+  one_settled : (word : Word) (ws : List Word) → IsOther T Count word → Words ws → Words (settled T (word ∷ []) ++ ws)
+  one_settled word ws g h = append (settled T (word ∷ [])) ws (settled_other (word ∷ []) (g, tt)) h
+
+  -- an operation on each cluster
+
+  move_stack_other : (z : ℤ) → (z ≡ bytes T.frame) ⊎ (z ≡ neg_ℤ (bytes T.frame)) → Words (move_stack T z)
+  move_stack_other z h = settled_other (record { ops = on_clusters T.machine.clusters (λ k. Compute k Add (InGeneral (stack_on k)) (Held (stack_on k)) (Number z)); idle = 0 } ∷ []) (moves_stacks z h, tt)
+
+  start_other : Words (start_words T flow.main)
+  start_other = append (set_stack T) (one (Call (T.entry flow.main)) ∷ one (Halt (Held answer)) ∷ [])
+      (settled_other (record { ops = on_clusters T.machine.clusters (λ k. Move k (stack_on k) (Number (bytes (first_frame T)))); idle = 0 } ∷ []) (sets_stacks, tt))
+      (calls flow.main (get_below flow.functions flow.main sound.main.graph sound.main.is), (halts, tt))
+
+  module _ (f : ℕ) (lt : f < Count) where
+    of : IsFunctionOf T flow ls f
+    of = carries.functions f lt
+
+    mapped : IsMapped T f
+    mapped = of.mapped
+
+    abbrev HasWordAt : ℕ → VirtualWord → Type 0
+    HasWordAt p word = slice_get (T.layout f).words p ≡ Some word
+
+    -- values that need slots
+
+    abbrev IfSlotted : ℕ → Type 0
+    IfSlotted v = is_slotted (kept T f v) ≡ true → NeedsSlot T f v
+
+    abbrev AllNeed : List ℕ → Type 0
+    AllNeed vs = (v : ℕ) → IsIn v vs → NeedsSlot T f v
+
+    abbrev AllIfSlotted : List ℕ → Type 0
+    AllIfSlotted vs = (v : ℕ) → IsIn v vs → IfSlotted v
+
+    abbrev Fetches : Operand → Type 0
+    Fetches x = AllIfSlotted (value_in x)
+
+    slotted_need : (vs : List ℕ) → AllIfSlotted vs → AllNeed (slotted T f vs)
+    slotted_need vs h v i = let a = slotted_from T f v vs i in h v a.0 a.1
+
+    word_needs : (p : ℕ) (word : VirtualWord) → HasWordAt p word → (v : ℕ) → IsIn v (word_reads word ++ word_writes word) → IfSlotted v
+    word_needs p word e v i h = is_spilled p (is_named e i) h
+
+    reads_need : (p : ℕ) (word : VirtualWord) → HasWordAt p word → AllIfSlotted (word_reads word)
+    reads_need p word e v i = word_needs p word e v (in_left v (word_reads word) (word_writes word) i)
+
+    writes_need : (p : ℕ) (word : VirtualWord) → HasWordAt p word → AllIfSlotted (word_writes word)
+    writes_need p word e v i = word_needs p word e v (in_right v (word_reads word) (word_writes word) i)
+
+    saved_need : (p g : ℕ) (arguments : List Operand) (result : Option ℕ) → HasWordAt p (Calls g arguments result) → AllNeed (T.saved f p)
+    saved_need p g arguments result e v i = is_saved p g arguments result e i
+
+    brought_need : AllNeed (T.brought f)
+    brought_need v i = is_passed (of.saved.brought v i).passed
+
+    -- slots
+
+    load_slot_other : (up v : ℕ) (to : GeneralRegister) (b : ℕ) → NeedsSlot T f v → (up ≡ 0) ⊎ (up ≡ T.frame) → Words (load_slot T f up v to b)
+    load_slot_other up v to b needs h = by (holds_branch T f v)
+      where
+        by : (c : Bool) → Words (if c
+            then settled T (one (Load 0 answer (bytes (up + T.slot f v)) (stack_on 0) false) ∷ []) ++ one (Compute 0 (ToBranch Ne) (InBranch (record { cluster = 0; number = b })) (Held answer) (Number (pos 0))) ∷ []
+            else one (Load to.cluster to (bytes (up + T.slot f v)) (stack_on to.cluster) false) ∷ [])
+        by true = one_settled (one (Load 0 answer (bytes (up + T.slot f v)) (stack_on 0) false)) (one (Compute 0 (ToBranch Ne) (InBranch (record { cluster = 0; number = b })) (Held answer) (Number (pos 0))) ∷ []) (loads_slot f v up answer lt needs h) (tests_number b, tt)
+        by false = (loads_slot f v up to lt needs h, tt)
+
+    store_slot_other : (v : ℕ) (from : GeneralRegister) (b : ℕ) → NeedsSlot T f v → Words (store_slot T f v from b)
+    store_slot_other v from b needs = by (holds_branch T f v)
+      where
+        by : (c : Bool) → Words (if c
+            then settled T (one (Select 0 answer (record { cluster = 0; number = b }) (Number (pos 1)) (Number (pos 0))) ∷ []) ++ one (Store 0 (bytes (T.slot f v)) (stack_on 0) (Held answer)) ∷ []
+            else one (Store from.cluster (bytes (T.slot f v)) (stack_on from.cluster) (Held from)) ∷ [])
+        by true = one_settled (one (Select 0 answer (record { cluster = 0; number = b }) (Number (pos 1)) (Number (pos 0)))) (one (Store 0 (bytes (T.slot f v)) (stack_on 0) (Held answer)) ∷ []) (picks_number b) (stores_slot f v 0 (Held answer) lt needs, tt)
+        by false = (stores_slot f v from.cluster (Held from) lt needs, tt)
+
+    load_slots_other : (names vs : List ℕ) → AllNeed vs → Words (load_slots T f names vs)
+    load_slots_other names [] h = tt
+    load_slots_other names (v ∷ vs) h = append (load_slot T f 0 v (general_of T f names v) (branch_of T f names v)) (load_slots T f names vs) (load_slot_other 0 v (general_of T f names v) (branch_of T f names v) (h v (inl refl)) (inl refl)) (load_slots_other names vs (λ x i. h x (inr i)))
+
+    store_slots_other : (names vs : List ℕ) → AllNeed vs → Words (store_slots T f names vs)
+    store_slots_other names [] h = tt
+    store_slots_other names (v ∷ vs) h = append (store_slot T f v (general_of T f names v) (branch_of T f names v)) (store_slots T f names vs) (store_slot_other v (general_of T f names v) (branch_of T f names v) (h v (inl refl))) (store_slots_other names vs (λ x i. h x (inr i)))
+
+    loads_other : (names vs : List ℕ) → AllNeed vs → Words (settled T (load_slots T f names vs))
+    loads_other names vs h = settled_other (load_slots T f names vs) (load_slots_other names vs h)
+
+    before_other : (names : List ℕ) → AllIfSlotted names → Words (before T f names)
+    before_other names h = some_other T Count (slotted T f names) (settled T (load_slots T f names (once (slotted T f names))))
+        (loads_other names (once (slotted T f names)) (λ v i. slotted_need names h v (once_in v (slotted T f names) i)))
+
+    behind_other : (items : List Laid) → AllIfSlotted (laid_writes items) → Words (behind T f items)
+    behind_other items h =
+        let ws : List ℕ = laid_writes items in
+        some_other T Count (slotted T f ws) (pause (slots_in_flight T f items) ++ store_slots T f ws (slotted T f ws))
+        (append (pause (slots_in_flight T f items)) (store_slots T f ws (slotted T f ws)) (pause_other (slots_in_flight T f items) (slots_few T carries.machine f items)) (store_slots_other ws (slotted T f ws) (slotted_need ws h)))
+
+    reload_other : (vs : List ℕ) → AllNeed vs → Words (reload_words T f vs)
+    reload_other vs h = some_other T Count vs (settled T (load_slots T f vs vs)) (loads_other vs vs h)
+
+    -- calls, returns and entries
+
+    fetch_other : (up : ℕ) (x : Operand) → Fetches x → (up ≡ 0) ⊎ (up ≡ T.frame) → Words (fetch_words T f up x)
+    fetch_other up (HeldValue v) n h = by (is_slotted (kept T f v)) refl
+      where
+        by : (b : Bool) → is_slotted (kept T f v) ≡ b → Words (if b then settled T (load_slot T f up v (general_of T f (v ∷ []) v) (branch_of T f (v ∷ []) v)) else [])
+        by true e = settled_other (load_slot T f up v (general_of T f (v ∷ []) v) (branch_of T f (v ∷ []) v)) (load_slot_other up v (general_of T f (v ∷ []) v) (branch_of T f (v ∷ []) v) (n v (inl refl) e) h)
+        by false e = tt
+    fetch_other up (AsNumber z) n h = tt
+    fetch_other up Stack n h = tt
+
+    arguments_other : (g : ℕ) (vs : List ℕ) (xs : List Operand) → g < Count → ((v : ℕ) → IsIn v vs → NeedsSlot T g v) → ((x : Operand) → IsIn x xs → Fetches x) → Words (argument_words T f g vs xs)
+    arguments_other g [] xs below h n = tt
+    arguments_other g (v ∷ vs) [] below h n = tt
+    arguments_other g (v ∷ vs) (x ∷ xs) below h n =
+        append (fetch_words T f T.frame x) (one (Store (cluster_of_operand T f x) (bytes (T.slot g v)) (stack_on (cluster_of_operand T f x)) (fetched T f x)) ∷ argument_words T f g vs xs)
+        (fetch_other T.frame x (n x (inl refl)) (inr refl)) (stores_slot g v (cluster_of_operand T f x) (fetched T f x) below (h v (inl refl)), arguments_other g vs xs below (λ u i. h u (inr i)) (λ y i. n y (inr i)))
+
+    result_other : (result : Option ℕ) → ((v : ℕ) → result ≡ Some v → IfSlotted v) → Words (result_words T f result)
+    result_other None n = tt
+    result_other (Some v) n = by (is_slotted (kept T f v)) refl
+      where
+        by : (b : Bool) → is_slotted (kept T f v) ≡ b → Words (if b then one (Store 0 (bytes (T.slot f v)) (stack_on 0) (Held answer)) ∷ [] else settled T (one (Move (general_of T f (v ∷ []) v).cluster (general_of T f (v ∷ []) v) (Held answer)) ∷ []))
+        by true e = (stores_slot f v 0 (Held answer) lt (n v refl e), tt)
+        by false e = settled_other (one (Move (general_of T f (v ∷ []) v).cluster (general_of T f (v ∷ []) v) (Held answer)) ∷ []) (moves (general_of T f (v ∷ []) v).cluster (general_of T f (v ∷ []) v) (Held answer), tt)
+
+    call_other : (p g : ℕ) (xs : List Operand) → g < Count → AllNeed (T.saved f p) → ((x : Operand) → IsIn x xs → Fetches x) → Words (call_words T f p g xs)
+    call_other p g xs below saved n =
+        let test : Operation = Compute 0 (ToBranch Ltu) (InBranch (record { cluster = 0; number = 0 })) (Held (stack_on 0)) (Number (bytes (T.globals + T.frame))) in
+        let down : List Word = move_stack T (neg_ℤ (bytes T.frame)) in
+        let passes : List Word = argument_words T f g (parameters_of T g) xs in
+        let jumps : List Word = one (Call (T.entry g)) ∷ [] in
+        let leaves : List Word = one (BranchOn 0 true T.depth_trap) ∷ (down ++ (passes ++ jumps)) in
+        let passed : Words (passes ++ jumps) = append passes jumps (arguments_other g (parameters_of T g) xs below (λ v i. is_passed i) n) (calls g below, tt) in
+        let branched : Words leaves = (leaves_by_depth, append down (passes ++ jumps) (move_stack_other (neg_ℤ (bytes T.frame)) (inr refl)) passed) in
+        let saves : List Word = save_words T f (T.saved f p) in
+        append (settled T (one test ∷ saves)) leaves (settled_other (one test ∷ saves) (tests_depth, store_slots_other (T.saved f p) (T.saved f p) saved)) branched
+
+    back_other : (p : ℕ) (result : Option ℕ) → AllNeed (T.saved f p) → ((v : ℕ) → result ≡ Some v → IfSlotted v) → Words (back_words T f p result)
+    back_other p result saved n =
+        append (move_stack T (bytes T.frame)) (result_words T f result ++ reload_words T f (T.saved f p)) (move_stack_other (bytes T.frame) (inl refl))
+        (append (result_words T f result) (reload_words T f (T.saved f p)) (result_other result n) (reload_other (T.saved f p) saved))
+
+    answer_other : (x : Operand) → Words (answer_words T f x)
+    answer_other x = by (is_caller T f)
+      where
+        move : Operation
+        move = Move 0 answer (fetched T f x)
+
+        load : Operation
+        load = Load 0 (general 0 3) (pos 0) (stack_on 0) false
+
+        both : (c : Bool) → Words (if c then record { ops = Move 0 answer (fetched T f x) ∷ Load 0 (general 0 3) (pos 0) (stack_on 0) false ∷ []; idle = 0 } ∷ [] else one (Move 0 answer (fetched T f x)) ∷ one (Load 0 (general 0 3) (pos 0) (stack_on 0) false) ∷ [])
+        both true = (moves_and_loads_link (fetched T f x), tt)
+        both false = (moves 0 answer (fetched T f x), (loads_link, tt))
+
+        by : (b : Bool) → Words (if b then settled T (together T.machine (Move 0 answer (fetched T f x)) (Load 0 (general 0 3) (pos 0) (stack_on 0) false)) ++ settled T (one (ToLink (Held (general 0 3))) ∷ []) else settled T (one (Move 0 answer (fetched T f x)) ∷ []))
+        by true =
+            let loads : List Word = together T.machine (Move 0 answer (fetched T f x)) (Load 0 (general 0 3) (pos 0) (stack_on 0) false) in
+            append (settled T loads) (settled T (one (ToLink (Held (general 0 3))) ∷ [])) (settled_other loads (both (fits T.machine (Move 0 answer (fetched T f x) ∷ Load 0 (general 0 3) (pos 0) (stack_on 0) false ∷ [])))) (settled_other (one (ToLink (Held (general 0 3))) ∷ []) (gives_link, tt))
+        by false = settled_other (one (Move 0 answer (fetched T f x)) ∷ []) (moves 0 answer (fetched T f x), tt)
+
+    return_other : (x : Operand) → Fetches x → Words (return_words T f x)
+    return_other x n = append (fetch_words T f 0 x) (answer_words T f x ++ one Return ∷ []) (fetch_other 0 x n (inl refl))
+        (append (answer_words T f x) (one Return ∷ []) (answer_other x) (returns, tt))
+
+    link_other : Words (link_words T f)
+    link_other = by (is_caller T f)
+      where
+        by : (b : Bool) → Words (if b then settled T (one (FromLink (general 0 3)) ∷ []) ++ one (Store 0 (pos 0) (stack_on 0) (Held (general 0 3))) ∷ [] else [])
+        by true = one_settled (one (FromLink (general 0 3))) (one (Store 0 (pos 0) (stack_on 0) (Held (general 0 3))) ∷ []) takes_link (stores_link, tt)
+        by false = tt
+
+    -- ways
+
+    -- a way past a transfer leads where that does
+    turned_past : (q : ℕ) → IsTurnedTo T f q → IsTurnedTo T f (past T f q)
+    turned_past q turned = by (slice_get (T.layout f).words q) refl
+      where
+        by : (o : Option VirtualWord) → slice_get (T.layout f).words q ≡ o → IsTurnedTo T f (past_there q o)
+        by None e = turned
+        by (Some (Planned rg wd items)) e = turned
+        by (Some (Drain n)) e = turned
+        by (Some (Transfer to)) e = by_transfer q e
+        by (Some (Choice test to)) e = turned
+        by (Some (Calls g arguments result)) e = turned
+        by (Some (Returns x)) e = turned
+        by (Some (Ends k)) e = turned
+
+    goto_other : (q : ℕ) → IsTurnedTo T f q → Words (one (Goto (T.starts f q)) ∷ [])
+    goto_other q turned = (goes f q lt turned, tt)
+
+    way_other : (next q : ℕ) → IsTurnedTo T f q → Words (way T f next q)
+    way_other next q turned = by (follows T f next q)
+      where
+        by : (b : Bool) → Words (if b then [] else one (Goto (T.starts f q)) ∷ [])
+        by true = tt
+        by false = goto_other q turned
+
+    entry_other : Words (entry_words T f)
+    entry_other =
+        let next : List Word = way T f 0 (T.layout f).entry in
+        let loads : List Word = load_slots T f (T.brought f) (T.brought f) in
+        let begins : List Word = loads ++ link_words T f in
+        append (settled T begins) next (settled_other begins (append loads (link_words T f) (load_slots_other (T.brought f) (T.brought f) brought_need) link_other)) (way_other 0 (T.layout f).entry (at_entry refl))
+
+    -- words of a layout
+
+    module _ (p rg wd : ℕ) (items : List Laid) (plan : HasWordAt p (Planned rg wd items)) where
+      planned_kinds : Kinds (T.starts f p) (plan_words T f p items)
+      planned_kinds =
+          let loads : List Word = before T f (laid_reads items) in
+          let there : IsPlanWord T Count (T.starts f p + length loads) = record { function = f; place = p; region = rg; number = wd; items = items; low = lt; planned = plan; at = refl } in
+          kinds_append T Count (T.starts f p) loads (plan_word T f p items ∷ behind T f items) (kinds_other T Count (T.starts f p) loads (before_other (laid_reads items) (reads_need p (Planned rg wd items) plan)))
+          (inl there, kinds_other T Count (suc (T.starts f p + length loads)) (behind T f items) (behind_other items (writes_need p (Planned rg wd items) plan)))
+
+      landing_other : (test q : ℕ) (y : Bool) → IsIn (Split test y q) items → Words (landing_words T f items q)
+      landing_other test q y i = append (behind T f items) (one (Goto (T.starts f (past T f q))) ∷ []) (behind_other items (writes_need p (Planned rg wd items) plan)) (goto_other (past T f q) (turned_past q (by_split p rg wd test y items plan i)))
+
+      landing_of_kinds : (vs : List ℕ) (test q : ℕ) (y : Bool) → IsIn (Split test y q) items → Pieces (landing_of T f p items vs q)
+      landing_of_kinds [] test q y i = tt
+      landing_of_kinds (v ∷ vs) test q y i = (kinds_other T Count (T.landing f p q) (landing_words T f items q) (landing_other test q y i), tt)
+
+      landings_kinds : (xs : List Laid) → ((x : Laid) → IsIn x xs → IsIn x items) → Pieces (item_landings T f p items xs)
+      landings_kinds [] h = tt
+      landings_kinds (Plain op k ∷ xs) h = landings_kinds xs (λ x i. h x (inr i))
+      landings_kinds (Split test y q ∷ xs) h = pieces_append T Count (landing_of T f p items (slotted T f (laid_writes items)) q) (item_landings T f p items xs) (landing_of_kinds (slotted T f (laid_writes items)) test q y (h (Split test y q) (inl refl))) (landings_kinds xs (λ x i. h x (inr i)))
+
+    called_below : (p g : ℕ) (arguments : List Operand) (result : Option ℕ) → HasWordAt p (Calls g arguments result) → g < Count
+    called_below p g arguments result e =
+        let c = mapped.code.calls p g arguments result e in
+        let there = sound.calls (T.graph f) g c.next arguments result (get_in flow.functions f (T.graph f) of.is.graph) c.has in
+        get_below flow.functions g there.graph there.is
+
+    called_other : (p g : ℕ) (arguments : List Operand) (result : Option ℕ) → HasWordAt p (Calls g arguments result) → Words (word_words T f p (Calls g arguments result))
+    called_other p g arguments result e =
+        append (call_words T f p g arguments) (back_words T f p result)
+        (call_other p g arguments (called_below p g arguments result e) (saved_need p g arguments result e) fetches) (back_other p result (saved_need p g arguments result e) (results result e))
+      where
+        fetches : (x : Operand) → IsIn x arguments → Fetches x
+        fetches x i v j = reads_need p (Calls g arguments result) e v (in_all_of value_in x v arguments i j)
+
+        results : (r : Option ℕ) → HasWordAt p (Calls g arguments r) → (v : ℕ) → r ≡ Some v → IfSlotted v
+        results None at v s = absurd (let z : None ≡ Some v = s in cc)
+        results (Some u) at v s = let same : v ≡ u = cc in writes_need p (Calls g arguments (Some u)) at v (inl same)
+
+    idle_other : (p n : ℕ) → HasWordAt p (Drain n) → Words (idle_words T f p n)
+    idle_other p n e = by (turns T f (p + 1))
+      where
+        by : (b : Bool) → Words (if b then pause (n - 1) else waits n ∷ [])
+        by true = pause_other (n - 1) (let a = mapped.brief p n e in omega arith)
+        by false = (idles n (let a = mapped.brief p n e in omega arith), tt)
+
+    word_kinds : (p : ℕ) (word : VirtualWord) → HasWordAt p word → Kinds (T.starts f p) (word_words T f p word)
+    word_kinds p (Planned rg wd items) e = planned_kinds p rg wd items e
+    word_kinds p (Drain n) e = kinds_other T Count (T.starts f p) (idle_words T f p n) (idle_other p n e)
+    word_kinds p (Transfer q) e = kinds_other T Count (T.starts f p) (way T f (p + 1) q) (way_other (p + 1) q (by_transfer p e))
+    word_kinds p (Choice test q) e =
+        kinds_other T Count (T.starts f p) (word_words T f p (Choice test q))
+        (append (before T f (test ∷ [])) (one (BranchOn (branch_of T f (test ∷ []) test) true (T.starts f q)) ∷ []) (before_other (test ∷ []) (reads_need p (Choice test q) e)) (branches f q (branch_of T f (test ∷ []) test) lt (by_choice p test e), tt))
+    word_kinds p (Calls g arguments result) e = kinds_other T Count (T.starts f p) (word_words T f p (Calls g arguments result)) (called_other p g arguments result e)
+    word_kinds p (Returns x) e = kinds_other T Count (T.starts f p) (return_words T f x) (return_other x (reads_need p (Returns x) e))
+    word_kinds p (Ends k) e = (inr (traps k), tt)
+
+    landing_word_kinds : (p : ℕ) (word : VirtualWord) → HasWordAt p word → Pieces (word_landings T f p word)
+    landing_word_kinds p (Planned rg wd items) e = landings_kinds p rg wd items e items (λ x i. i)
+    landing_word_kinds p (Drain n) e = tt
+    landing_word_kinds p (Transfer q) e = tt
+    landing_word_kinds p (Choice test q) e = tt
+    landing_word_kinds p (Calls g arguments result) e = tt
+    landing_word_kinds p (Returns x) e = tt
+    landing_word_kinds p (Ends k) e = tt
+
+    abbrev Stand : ℕ → List VirtualWord → Type 0
+    Stand p words = (i : ℕ) (word : VirtualWord) → slice_get words i ≡ Some word → HasWordAt (p + i) word
+
+    stand_here : (p : ℕ) (word : VirtualWord) (words : List VirtualWord) → Stand p (word ∷ words) → HasWordAt p word
+    stand_here p word words h = let z : p + 0 ≡ p = omega arith in subst (λ n. HasWordAt n word) z (h 0 word refl)
+
+    stand_on : (p : ℕ) (word : VirtualWord) (words : List VirtualWord) → Stand p (word ∷ words) → Stand (suc p) words
+    stand_on p word words h i x e = let z : p + suc i ≡ suc p + i = omega arith in subst (λ n. HasWordAt n x) z (h (suc i) x e)
+
+    laid_kinds : (p : ℕ) (words : List VirtualWord) → Stand p words → Pieces (laid_pieces T f p words)
+    laid_kinds p [] h = (tt, tt)
+    laid_kinds p (word ∷ words) h = (word_kinds p word (stand_here p word words h), laid_kinds (suc p) words (stand_on p word words h))
+
+    laid_landings : (p : ℕ) (words : List VirtualWord) → Stand p words → Pieces (landing_pieces T f p words)
+    laid_landings p [] h = tt
+    laid_landings p (word ∷ words) h = pieces_append T Count (word_landings T f p word) (landing_pieces T f (suc p) words) (landing_word_kinds p word (stand_here p word words h)) (laid_landings (suc p) words (stand_on p word words h))
+
+    all_stand : Stand 0 (T.layout f).words
+    all_stand i word e = let z : i ≡ 0 + i = omega arith in subst (λ n. HasWordAt n word) z e
+
+    function_kinds : Pieces (function_pieces T f)
+    function_kinds = (kinds_other T Count (T.entry f) (entry_words T f) entry_other, pieces_append T Count (laid_pieces T f 0 (T.layout f).words) (landing_pieces T f 0 (T.layout f).words) (laid_kinds 0 (T.layout f).words all_stand) (laid_landings 0 (T.layout f).words all_stand))
+
+  functions_kinds : (f n : ℕ) → f + n ≤ Count → Pieces (functions_pieces T f n)
+  functions_kinds f zero h = tt
+  functions_kinds f (suc n) h = pieces_append T Count (function_pieces T f) (functions_pieces T (suc f) n) (function_kinds f (omega arith)) (functions_kinds (suc f) n (omega arith))
+
+  all_kinds : Kinds 0 w.words
+  all_kinds = subst (Kinds 0) (sym carries.placed.is) (pieces_kinds T Count 0 (all_pieces T flow.main Count) carries.placed.places
+      (kinds_other T Count 0 (start_words T flow.main) start_other, pieces_append T Count (functions_pieces T 0 Count) (record { label = Depth; words = one (EndByTrap ByDepth) ∷ [] } ∷ []) (functions_kinds 0 Count (omega arith)) ((inr (traps ByDepth), tt), tt)))
+
+  pub word_kind : (q : ℕ) (word : Word) → WordAt w q word → IsPlanWord T Count q ⊎ IsOther T Count word
+  word_kind q word e = let z : 0 + q ≡ q = omega arith in subst (λ n. IsPlanWord T Count n ⊎ IsOther T Count word) z (kind_at T Count 0 w.words q word all_kinds e)
+
+  -- the word of a planned one stands at its place
+
+  behind_some : (words : List Word) (q : ℕ) (xs : List Word) (x : Word) (ys : List Word) → Stands words q (xs ++ x ∷ ys) → slice_get words (q + length xs) ≡ Some x
+  behind_some words q [] x ys h = let z : q + 0 ≡ q = omega arith in ap (slice_get words) z ∙ h.0
+  behind_some words q (y ∷ xs) x ys h = let z : q + suc (length xs) ≡ q + 1 + length xs = omega arith in ap (slice_get words) z ∙ behind_some words (q + 1) xs x ys h.1
+
+  pub plan_stands : (f p r i : ℕ) (items : List Laid) → f < Count → slice_get (T.layout f).words p ≡ Some (Planned r i items) → WordAt w (plan_place T f p items) (plan_word T f p items)
+  plan_stands f p r i items lt e = behind_some w.words (T.starts f p) (before T f (laid_reads items)) (plan_word T f p items) (behind T f items) (word_stands T flow.main Count w.words carries.placed f p (Planned r i items) lt e)

@@ -1,0 +1,17 @@
+pub mod Plan
+pub mod Planned
+pub mod Simple
+pub mod Entry
+pub mod Moves
+pub mod Start
+pub mod Stacks
+pub mod Passing
+pub mod Calls
+pub mod Resulted
+pub mod Leaving
+pub mod Returning
+pub mod Whole
+pub mod EachWord
+pub mod Spaced
+pub mod IdleWords
+pub mod WholePlan

@@ -1,0 +1,227 @@
+-- The first words of a program come to a state that is tied to the start over values.
+use Rattle.std.proofs.Common.{◌≡◌, ◌<◌, ◌≤◌, ◌⊎◌, inl, inr, ◌+◌, ◌-◌, ◌*◌, ℕ, zero, suc, ℤ, pos, false, Some, None, List, [], ◌∷◌, ◌++◌, length, length-append, map, drop, replicate, eqb, refl, sym, ap, ◌∙◌, subst, arith}
+use Rattle.std.specs.Prelude.{slice_get, slice_index_or, if◌then◌else◌}
+use Rattle.std.proofs.lemmas.List.{length-map, length-drop, length-replicate, length-set, get_or-replicate, get_or_append_left, get_or-append-add, get_or-drop, get_or-map, get_or-set_same, get_or-set_other, append-nil}
+use Rattle.std.proofs.lemmas.Option.{get_or_from_slice_get}
+use Rattle.std.proofs.lemmas.Bool.{ne_eqb}
+use Rattle.vx_base.specs.Arithmetic.{wrap}
+use Rattle.vx_base.specs.Outcome.{NeverFails}
+use Rattle.vx_base.proofs.Runs.{run_reach}
+use Rattle.vx_flow.specs.declared.graph.Array.{Array}
+use Rattle.vx_flow.specs.declared.graph.Global.{Global}
+use Rattle.vx_flow.specs.declared.graph.Graph.{Graph}
+use Rattle.vx_flow.specs.declared.graph.Flow.{Flow}
+use Rattle.vx_flow.specs.Effects.{Content, State as VState}
+use Rattle.vx_flow.specs.Meaning.{Active, Body, undefined, own_of, entered, entered_or, at_entry, at_start, words_at_start, globals_at_start, deepest, spot_of, program_run}
+use Rattle.vx_flow.specs.Sound.{SoundFlow, is_sound_flow}
+use Rattle.vx_flow.proofs.SoundFlowLaw.{told}
+use Rattle.vx_isa.specs.declared.operation.Register.TheVariants.{General, Link}
+use Rattle.vx_isa.specs.declared.operation.Source.TheVariants.{Held, Number}
+use Rattle.vx_isa.specs.declared.operation.Operation.{Operation}
+use Rattle.vx_isa.specs.declared.operation.Operation.TheVariants.{Move, Call, Halt}
+use Rattle.vx_isa.specs.declared.program.Word.{Word}
+use Rattle.vx_isa.specs.declared.program.WordProgram.{WordProgram}
+use Rattle.vx_isa.specs.Machine.{State, register, start, step, memory_at_start}
+use Rattle.vx_mixed.specs.declared.layout.VWords.{VWords}
+use Rattle.vx_layout.specs.Laid.{laid_hop, laid_body, laid_program, laid_run}
+use Rattle.vx_target.specs.Target.{Target, stack_on, one, answer, set_stack, start_words, first_frame, halt_place, bytes, parameters_of}
+use Rattle.vx_target.specs.Tied.{Tied, Row, Arrays, Deep, row_in, begins_at, word_at, own_arrays}
+use Rattle.vx_target.specs.Carried.{Carries, IsFunctionOf, words_before, first_or_zero}
+use Rattle.vx_tie.specs.Planned.{StartsTied, StartLaw}
+use Rattle.vx_target.proofs.Calm.{after, AllFit, put_at, put_off}
+use Rattle.vx_target.proofs.Frames.{get_below, array_kind, IsGlobal, IsLocal}
+use Rattle.vx_tie.proofs.Moves.{Moved, move_run}
+use Rattle.vx_target.proofs.Steps.{Stands, stands_left, stands_right, Forth, forth_comes, then_forth, word_step}
+use Rattle.vx_target.proofs.Stands.{start_stands}
+
+-- rows of lists of arrays
+
+pub row_left : (xs ys : List (List Content)) (k : ℕ) → k < length xs → row_in (xs ++ ys) k ≡ row_in xs k
+row_left xs ys k lt = get_or_append_left xs ys [] k lt
+
+pub row_right : (xs ys : List (List Content)) (k : ℕ) → row_in (xs ++ ys) (length xs + k) ≡ row_in ys k
+row_right xs ys k = get_or-append-add xs ys k []
+
+-- the own arrays of a function that is entered are undefined
+pub own_row : (G a : ℕ) (graph : Graph) (array : Array) → G ≤ a → slice_get graph.arrays a ≡ Some array → row_in (map undefined (own_of G graph)) (a - G) ≡ undefined array.words
+own_row G a graph array from has =
+    let below : a < length graph.arrays = get_below graph.arrays a array has in
+    let len : length (drop G graph.arrays) ≡ length graph.arrays - G = length-drop G graph.arrays in
+    let lm : length (own_of G graph) ≡ length (drop G graph.arrays) = length-map (drop G graph.arrays) (λ (x : Array). x.words) in
+    let lt : a - G < length (drop G graph.arrays) = omega arith in
+    let lt2 : a - G < length (own_of G graph) = omega arith in
+    let place : G + (a - G) ≡ a = omega arith in
+    let item : slice_index_or graph.arrays a array ≡ array = get_or_from_slice_get graph.arrays a array array has in
+    get_or-map undefined (own_of G graph) (a - G) 0 [] lt2
+    ∙ ap undefined (get_or-map (λ (x : Array). x.words) (drop G graph.arrays) (a - G) array 0 lt ∙ ap (λ (x : Array). x.words) (get_or-drop G graph.arrays (a - G) array ∙ ap (λ k. slice_index_or graph.arrays k array) place ∙ item))
+
+pub undefined_row : (memory : ℕ → ℤ) (at words : ℕ) → Row memory at words (undefined words)
+undefined_row memory at words = record {
+  size = length-replicate words None;
+  is = λ i n lt e. absurd (let z : None ≡ Some n = sym (get_or-replicate words i None None lt) ∙ e in cc);
+}
+
+-- a global at the start
+
+global_cell : (x : Global) (i : ℕ) (n : ℤ) → i < x.words → slice_index_or (words_at_start x) i None ≡ Some n → first_or_zero x.first i ≡ n
+global_cell x zero n lt e =
+    let l : length (replicate x.words (Some (pos 0))) ≡ x.words = length-replicate x.words (Some (pos 0)) in
+    let z : Some x.first ≡ Some n = sym (get_or-set_same (replicate x.words (Some (pos 0))) 0 (Some x.first) None (omega arith)) ∙ e in cc
+global_cell x (suc i) n lt e =
+    let z : Some (pos 0) ≡ Some n = sym (get_or-set_other (replicate x.words (Some (pos 0))) 0 (suc i) (Some x.first) None (λ q. omega arith) ∙ get_or-replicate x.words (suc i) (Some (pos 0)) None lt) ∙ e in
+    let k : pos 0 ≡ n = cc in
+    let q : eqb (suc i) 0 ≡ false = ne_eqb (suc i) 0 (λ y. omega arith) in
+    ap (λ b. if b then x.first else pos 0) q ∙ k
+
+no_arguments : (vs : List ℕ) (v : ℕ) (n : ℤ) → at_entry vs [] v ≡ Some n → ⊥
+no_arguments [] v n e = absurd (cc)
+no_arguments (q ∷ qs) v n e = absurd (cc)
+
+some_depth : 1 ≤ deepest
+unfolding deepest
+some_depth = omega arith
+
+module _ (T : Target) (flow : Flow) (ls : List VWords) (w : WordProgram) (sound : SoundFlow flow) (carries : Carries T flow ls w) (fit : AllFit T.machine w) (input : List ℤ) (safe : NeverFails (laid_run flow ls input)) where
+  abbrev Main : ℕ
+  Main = flow.main
+
+  abbrev Globals : ℕ
+  Globals = length flow.globals
+
+  abbrev First : ℕ
+  First = first_frame T
+
+  below : Main < length flow.functions
+  below = get_below flow.functions Main sound.main.graph sound.main.is
+
+  of : IsFunctionOf T flow ls Main
+  of = carries.functions Main below
+
+  -- over values
+
+  abbrev Begin : VState
+  Begin = globals_at_start flow input
+
+  abbrev TheBody : Body
+  TheBody = record { parameters = parameters_of T Main; own = own_of Globals (T.graph Main); hop = λ setting b s. laid_hop setting (T.layout Main) b s }
+
+  body_is : (laid_program flow ls).body Main ≡ Some TheBody
+  body_is = ap (λ g. laid_body Globals g (slice_get ls Main)) of.is.graph ∙ ap (λ l. laid_body Globals (Some (T.graph Main)) l) of.is.layout
+
+  abbrev Entered : Active
+  Entered = record { function = Main; block = 0; base = length Begin.arrays; state = entered TheBody [] Begin; waiting = [] }
+
+  starts_as : at_start (laid_program flow ls) Main Begin ≡ Entered
+  starts_as = ap (λ b. record { function = Main; block = 0; base = length Begin.arrays; state = entered_or b Begin; waiting = [] }) body_is
+
+  -- over registers
+
+  abbrev U : State
+  U = start w input
+
+  abbrev Ends : List Word
+  Ends = one (Call (T.entry Main)) ∷ one (Halt (Held answer)) ∷ []
+
+  stands : Stands w.words 0 (start_words T Main)
+  stands = start_stands T Main (length flow.functions) w.words carries.placed
+
+  abbrev op : ℕ → Operation
+  op k = Move k (stack_on k) (Number (bytes First))
+
+  moved : Moved T.machine w fit U op (λ k. bytes First) (λ k. refl) (λ k. refl) (λ k. record { bad = refl; takes = refl; prints = refl; stores = λ m. refl; leads = λ ops. refl }) T.machine.clusters
+  moved = move_run T.machine w fit U op (λ k. bytes First) (λ k. refl) (λ k. refl) (λ k. record { bad = refl; takes = refl; prints = refl; stores = λ m. refl; leads = λ ops. refl }) T.machine.clusters refl (stands_left w.words 0 (set_stack T) Ends stands)
+
+  abbrev A : State
+  A = moved.to
+
+  abbrev Calls : Word
+  Calls = one (Call (T.entry Main))
+
+  place_a : A.place ≡ 0 + length (set_stack T)
+  place_a = moved.place
+
+  call_at : slice_get w.words A.place ≡ Some Calls
+  call_at = subst (λ q. slice_get w.words q ≡ Some Calls) (sym place_a) (stands_right w.words 0 (set_stack T) Ends stands).0
+
+  abbrev B : State
+  B = after w A Calls (T.entry Main)
+
+  forth : Forth T.machine w fit U B
+  forth = then_forth T.machine w fit U A B (forth_comes T.machine w fit U A moved.forth) (word_step T.machine w fit A Calls (T.entry Main) moved.quiet.calm call_at (record { addresses = refl; input = refl }) refl)
+
+  link_is : B.registers Link ≡ wrap (pos (halt_place T))
+  link_is = put_at Link (wrap (pos (A.place + 1))) A.registers refl ∙ ap (λ n. wrap (pos n)) (let x = place_a in let y : A.place + 1 ≡ halt_place T = omega arith in y)
+
+  stack_is : (k : ℕ) → k < T.machine.clusters → register B (General (stack_on k)) ≡ pos (4 * First)
+  stack_is k lt = put_off Link (wrap (pos (A.place + 1))) A.registers (General (stack_on k)) (λ e. absurd (cc)) ∙ moved.stack k lt
+
+  deep : Deep T First 1
+  deep = record {
+    is = (let x = some_depth in let j : ℕ = deepest - 1 in let q : deepest ≡ j + 1 = omega arith in let m : T.frame * deepest ≡ T.frame * j + T.frame * 1 = ap (λ y. T.frame * y) q ∙ grind arith in omega arith);
+    most = some_depth;
+  }
+
+  -- arrays
+
+  abbrev Firsts : List (List Content)
+  Firsts = map words_at_start flow.globals
+
+  abbrev Owns : List (List Content)
+  Owns = map undefined (own_of Globals (T.graph Main))
+
+  firsts_count : length Firsts ≡ Globals
+  firsts_count = length-map flow.globals words_at_start
+
+  memory_is : B.memory ≡ memory_at_start w.start
+  memory_is = moved.memory
+
+  arrays : Arrays T Globals B.memory First (length Firsts) Main (Firsts ++ Owns)
+  arrays = record { row = λ a array has. by a array has (array_kind T flow carries.some_frame carries.globals sound Main ls of.is of.framed a array has) }
+    where
+      by : (a : ℕ) (array : Array) → slice_get (T.graph Main).arrays a ≡ Some array → IsGlobal T flow carries.some_frame carries.globals sound Main ls of.is of.framed a array ⊎ IsLocal T flow carries.some_frame carries.globals sound Main ls of.is of.framed a → Row B.memory (begins_at T First Main a) array.words (row_in (Firsts ++ Owns) (spot_of Globals (length Firsts) a))
+      by a array has (inl g) =
+          let lt : a < length Firsts = (let c = firsts_count in let x = g.below in omega arith) in
+          let row_is : row_in (Firsts ++ Owns) (spot_of Globals (length Firsts) a) ≡ words_at_start g.item =
+          ap (row_in (Firsts ++ Owns)) (g.spot (length Firsts)) ∙ row_left Firsts Owns a lt ∙ get_or-map words_at_start flow.globals a g.item [] g.below ∙ ap words_at_start (get_or_from_slice_get flow.globals a g.item g.item g.has) in
+          record {
+            size = ap length row_is ∙ length-set (replicate g.item.words (Some (pos 0))) 0 (Some g.item.first) ∙ length-replicate g.item.words (Some (pos 0)) ∙ sym g.words;
+            is = λ i n l e.
+                let li : i < g.item.words = subst (λ x. i < x) g.words l in
+                ap (λ b. word_at B.memory (b + i)) (g.begins First) ∙ ap (λ m. word_at m (words_before flow.globals a + i)) memory_is ∙ carries.start a i g.item g.has li
+                ∙ global_cell g.item i n li (ap (λ r. slice_index_or r i None) (sym row_is) ∙ e);
+          }
+      by a array has (inr l) =
+          let row_is : row_in (Firsts ++ Owns) (spot_of Globals (length Firsts) a) ≡ undefined array.words =
+          ap (row_in (Firsts ++ Owns)) (l.spot (length Firsts)) ∙ row_right Firsts Owns (a - Globals) ∙ own_row Globals a (T.graph Main) array l.from has in
+          subst (λ r. Row B.memory (begins_at T First Main a) array.words r) (sym row_is) (undefined_row B.memory (begins_at T First Main a) array.words)
+
+  own_count : length Owns ≡ own_arrays T Globals Main
+  own_count = length-map (own_of Globals (T.graph Main)) undefined ∙ length-map (drop Globals (T.graph Main).arrays) (λ (x : Array). x.words) ∙ length-drop Globals (T.graph Main).arrays
+
+  tied : Tied T flow ls Entered B
+  tied = record {
+    sp = First;
+    is = of.is;
+    calm = refl;
+    deep = deep;
+    stack = stack_is;
+    at = inl (record { block = refl; place = refl; values = λ v n e. absurd (no_arguments (parameters_of T Main) v n e); link = link_is });
+    arrays = arrays;
+    first = (let c = firsts_count in omega arith);
+    last = (let a = length-append Firsts Owns in let b = own_count in omega arith);
+    below = tt;
+    input = moved.quiet.input;
+    out = append-nil A.out ∙ moved.quiet.out;
+    safe = subst (λ r. NeverFails (λ n. program_run (laid_program flow ls) n r)) starts_as safe;
+  }
+
+  pub started : StartsTied T flow ls w input
+  started = record {
+    to = B;
+    words = forth.0;
+    over_registers = λ n. run_reach (step T.machine (1 ∷ []) w) (λ x. x.out) (suc forth.0) n U B forth.1;
+    tied = subst (λ r. Tied T flow ls r B) (sym starts_as) tied;
+  }
+
+pub start_law : StartLaw
+start_law T flow ls w sound carries fit input safe = started T flow ls w ((told flow (is_sound_flow flow) refl).0 sound) carries fit input safe

@@ -1,0 +1,5 @@
+pub mod Planned
+pub mod Moved
+pub mod Returned
+pub mod Whole
+pub mod Plans

@@ -1,0 +1,70 @@
+// Laws of the words that carry layouts, each the clause of a function that does nothing.
+
+ghost use Rattle.vx_tie.specs.Moved.{StackLaw};
+ghost use Rattle.vx_tie.specs.Plans.{PlanLaw, SpacedLaw};
+ghost use Rattle.vx_tie.specs.Planned.{CallLaw, EntryLaw, PlannedLaw, SimpleLaw, StartLaw};
+ghost use Rattle.vx_tie.specs.Returned.{ReturnLaw};
+ghost use Rattle.vx_tie.specs.Whole.{WholeLaw};
+
+/// Where the words of a program fit and stand where its target says, each planned word of a layout is carried by its words: all
+/// operations on values, in the registers or slots where these are kept, and the splits with their landings. From tied states
+/// both come to tied states; a split over registers goes past a transfer, which is one step more over values.
+pub fn planned_words_are_carried()
+    ensures { PlannedLaw }
+{}
+
+/// So are drains, transfers, choices and ends: from tied states both come to tied states, or end alike. A transfer to the next place
+/// has no word, and neither has one empty cycle in front of a `goto`.
+pub fn other_words_are_carried()
+    ensures { SimpleLaw }
+{}
+
+/// And so is the start of a function: its link is stored in its frame where it calls, and parameters come to their registers;
+/// where nothing is to be done, no word stands there.
+pub fn starts_of_functions_are_carried()
+    ensures { EntryLaw }
+{}
+
+/// The first words of a program come to a state that is tied to the start over values: the globals stand in memory, and the stack
+/// pointers of all clusters begin the first frame.
+pub fn starts_are_tied()
+    ensures { StartLaw }
+{}
+
+/// The words that move the stack pointers add a number to each of them, and change nothing else.
+pub fn stack_pointers_move()
+    ensures { StackLaw }
+{}
+
+/// So is a call: what is live behind it is saved, the depth is tested, and its arguments are passed to the slots of the
+/// parameters. One that is too deep ends both runs by the trap.
+pub fn calls_are_carried()
+    ensures { CallLaw }
+{}
+
+/// And so is a return: the result comes to where the caller keeps it, and what was saved is back. With no function waiting both
+/// runs end with the result.
+pub fn returns_are_carried()
+    ensures { ReturnLaw }
+{}
+
+/// Together: with every input with which the laid-out words never fail, the words of the program end as they do and print what they
+/// print, and are never stuck.
+pub fn programs_do_the_same()
+    ensures { WholeLaw }
+{}
+
+/// A program that is finished from spaced layouts carries its plan: at the place of each planned word stands a word with exactly its
+/// operations, in their order, each on its cluster, with its numbers and the registers of its values. Every other word is of one of
+/// some kinds: a load or store of the slot of a value that needs one, a move, a step of a call of a function, an entry, a return or
+/// an end, empty cycles, or a jump to where a layout turns or is entered. And other words without an operation, one behind the
+/// other, last at most 16 cycles together.
+pub fn finished_programs_carry_their_plan()
+    ensures { PlanLaw }
+{}
+
+/// Each layout of a graph of regions is spaced: behind its empty cycles and behind its calls a word stands that is none of empty
+/// cycles.
+pub fn layouts_are_spaced()
+    ensures { SpacedLaw }
+{}
