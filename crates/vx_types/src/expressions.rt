@@ -3,6 +3,7 @@
 ghost use Rattle.std.specs.Prelude.{◌≡◌, IfOk};
 ghost use Rattle.vx_ast.specs.Resolved.{array_named, call_named, number_named, place_named, target_in, tree_in};
 ghost use Rattle.vx_ast.specs.SyntaxView.{phrase_of, row_in};
+ghost use Rattle.vx_ast.specs.Tree as tree;
 ghost use Rattle.vx_ast.specs.View.{place_of, tree_of};
 ghost use Rattle.vx_ast.specs.View as view;
 
@@ -13,6 +14,13 @@ use vx_ast::syntax;
 use vx_ast::tree::{Expression, Target};
 use vx_base::outcome::NoMemory;
 use vx_names::names::Names;
+
+/// Two operands, each in a box.
+#[derive(Drop)]
+struct Operands {
+    left: Box<Expression>,
+    right: Box<Expression>,
+}
 
 // A name that is used as a number.
 fn number_named(named: Option<Named>) -> Expression
@@ -114,26 +122,55 @@ pub fn resolve(
         }
         syntax::Expression::Binary(operator, left, right) => {
             let left = resolve_boxed(alloc, names, left)?;
-            let right = resolve_boxed(alloc, names, right)?;
-            Ok(Expression::Binary(*operator, left, right))
+            let both = resolve_behind(alloc, names, right, left)?;
+            Ok(Expression::Binary(*operator, both.left, both.right))
         }
         syntax::Expression::Both(left, right) => {
             let left = resolve_boxed(alloc, names, left)?;
-            let right = resolve_boxed(alloc, names, right)?;
-            Ok(Expression::Both(left, right))
+            let both = resolve_behind(alloc, names, right, left)?;
+            Ok(Expression::Both(both.left, both.right))
         }
         syntax::Expression::Either(left, right) => {
             let left = resolve_boxed(alloc, names, left)?;
-            let right = resolve_boxed(alloc, names, right)?;
-            Ok(Expression::Either(left, right))
+            let both = resolve_behind(alloc, names, right, left)?;
+            Ok(Expression::Either(both.left, both.right))
         }
         syntax::Expression::Choice(test, left, right) => {
             let test = resolve_boxed(alloc, names, test)?;
             let left = resolve_boxed(alloc, names, left)?;
-            let right = resolve_boxed(alloc, names, right)?;
-            Ok(Expression::Choice(test, left, right))
+            choice_behind(alloc, names, right, test, left)
         }
     }
+}
+
+/// The right operand behind the left one.
+#[cycle(resolved)]
+fn resolve_behind(
+    alloc: Global,
+    names: &Names,
+    right: &syntax::Expression,
+    left: Box<Expression>,
+) -> Result<Operands, NoMemory>
+    ensures left { IfOk result (λ made. tree_of made.left.value ≡ tree_of left.value) }
+    ensures right { IfOk result (λ made. tree_of made.right.value ≡ tree_in names.now (phrase_of right.now)) }
+{
+    let right = resolve_boxed(alloc, names, right)?;
+    Ok(Operands { left, right })
+}
+
+/// A choice, by what is taken where its test does not hold, behind the test and what is taken where it holds.
+#[cycle(resolved)]
+fn choice_behind(
+    alloc: Global,
+    names: &Names,
+    right: &syntax::Expression,
+    test: Box<Expression>,
+    left: Box<Expression>,
+) -> Result<Expression, NoMemory>
+    ensures { IfOk result (λ made. tree_of made ≡ tree.Choice (tree_of test.value) (tree_of left.value) (tree_in names.now (phrase_of right.now))) }
+{
+    let right = resolve_boxed(alloc, names, right)?;
+    Ok(Expression::Choice(test, left, right))
 }
 
 #[cycle(resolved)]

@@ -312,15 +312,20 @@ fn pass_definition(
     ensures above { IfOk result (λ behind. behind.above ≡ names.above + 1) }
 {
     let mut names = names;
-    definition(
+    match definition(
         alloc,
         arrays,
         &mut names,
         &mut made.first,
         &mut made.all,
         one,
-    )?;
-    names.pass(alloc)
+    ) {
+        Ok(()) => names.pass(alloc),
+        Err(fault) => {
+            drop(names);
+            Err(fault)
+        }
+    }
 }
 
 // All functions of a program, with the first of the faults of all its definitions.
@@ -344,6 +349,7 @@ fn make_functions(
         let behind = pass_definition(alloc, arrays, names, &mut made, one)?;
         names = behind;
     }
+    drop(names);
     Ok(made)
 }
 

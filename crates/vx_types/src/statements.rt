@@ -252,10 +252,7 @@ pub fn statement(
 {
     match statement {
         syntax::Statement::Empty => Ok(Statement::Empty),
-        syntax::Statement::Block(all) => {
-            let made = block(alloc, gives, loops, names, first, all.as_slice())?;
-            Ok(Statement::Block(made))
-        }
+        syntax::Statement::Block(all) => block(alloc, gives, loops, names, first, all.as_slice()),
         syntax::Statement::Declaration(all) => { declaration(alloc, names, first, all.as_slice()) }
         syntax::Statement::Simple(simple) => simple_alone(alloc, names, first, simple),
         syntax::Statement::Print(place, format_place, format, row) => printing(
@@ -436,7 +433,7 @@ fn repeated(
     Ok(for_of(made))
 }
 
-// The statements of a block, in a scope of its own.
+// A block, in a scope of its own.
 #[cycle(statements)]
 fn block(
     alloc: Global,
@@ -445,8 +442,8 @@ fn block(
     names: &mut Names,
     first: &mut Option<Fault>,
     all: &[syntax::Statement],
-) -> Result<Vec<Statement>, NoMemory>
-    ensures made { IfOk result (λ made. view.all_in made.items ≡ code_in (inside names.old) (all_in all.now)) }
+) -> Result<Statement, NoMemory>
+    ensures made { IfOk result (λ made. view.code_of made ≡ tree.Block (code_in (inside names.old) (all_in all.now))) }
     ensures known { OnOk result (names.new ≡ outside names.old (behind (all_in all.now) (inside names.old))) }
     ensures faults { OnOk result (first.new ≡ least first.old (code_faults gives loops (inside names.old) (all_in all.now))) }
 {
@@ -454,7 +451,7 @@ fn block(
     names.enter()?;
     let made = statements(alloc, gives, loops, names, first, all)?;
     names.leave(alloc, count)?;
-    Ok(made)
+    Ok(Statement::Block(made))
 }
 
 /// The statements of a list, one after the other.

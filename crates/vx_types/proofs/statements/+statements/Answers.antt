@@ -35,14 +35,17 @@ parts_of_for-returns-clause-known t c = grind (arith, leaves_for)
 pub parts_of_for-returns-clause-faults : goal.parts_of_for-returns-clause-faults
 parts_of_for-returns-clause-faults t c = grind (arith, least_append)
 
-pub statement-returns-in_ok-made-in-Block-clause-made : goal.statement-returns-in_ok-made-in-Block-clause-made
-statement-returns-in_ok-made-in-Block-clause-made t c = grind (arith, block_written, block_view)
+pub block-returns-clause-made : goal.block-returns-clause-made
+block-returns-clause-made t c = grind (arith, block_view)
 
-pub statement-returns-in_ok-made-in-Block-clause-known : goal.statement-returns-in_ok-made-in-Block-clause-known
-statement-returns-in_ok-made-in-Block-clause-known t c = grind (arith, block_written)
+pub statement-returns-in-Block-clause-made : goal.statement-returns-in-Block-clause-made
+statement-returns-in-Block-clause-made t c = grind (arith, block_written)
 
-pub statement-returns-in_ok-made-in-Block-clause-faults : goal.statement-returns-in_ok-made-in-Block-clause-faults
-statement-returns-in_ok-made-in-Block-clause-faults t c = grind (arith, block_written)
+pub statement-returns-in-Block-clause-known : goal.statement-returns-in-Block-clause-known
+statement-returns-in-Block-clause-known t c = grind (arith, block_written)
+
+pub statement-returns-in-Block-clause-faults : goal.statement-returns-in-Block-clause-faults
+statement-returns-in-Block-clause-faults t c = grind (arith, block_written)
 
 pub statement-returns-in-Declaration-clause-faults : goal.statement-returns-in-Declaration-clause-faults
 statement-returns-in-Declaration-clause-faults t c = grind (arith, items_alike)
