@@ -10,22 +10,8 @@ use vx_flow::graph::Edge;
 use vx_flow::trace::TraceOp;
 use vx_mixed::region::{Made, Origin};
 
-/// The origins of the blocks so far, and then of those that are made.
-pub(crate) fn origins_after(
-    alloc: Global,
-    origins: &[Option<Origin>],
-    ops: &[TraceOp],
-    made: &[Made],
-) -> Result<Listed<Option<Origin>>, NoMemory>
-    ensures { IfOk result (λ after. after ≡ origins.now ++ map (made_origin ops.now) made.now) }
-{
-    let mut after = Listed::new(alloc);
-    push_origins(alloc, &mut after, origins)?;
-    push_made_origins(alloc, &mut after, ops, made)?;
-    Ok(after)
-}
-
-fn push_origins(
+/// The origins of the blocks so far.
+pub(crate) fn push_origins(
     alloc: Global,
     after: &mut Listed<Option<Origin>>,
     origins: &[Option<Origin>],
@@ -61,7 +47,8 @@ fn copied_clusters(alloc: Global, clusters: &[u32]) -> Result<Listed<u32>, NoMem
     Ok(Listed::from_vec(clusters.to_vec(alloc)?)?)
 }
 
-fn push_made_origins(
+/// The origins of the blocks that are made.
+pub(crate) fn push_made_origins(
     alloc: Global,
     after: &mut Listed<Option<Origin>>,
     ops: &[TraceOp],

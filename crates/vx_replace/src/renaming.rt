@@ -16,22 +16,8 @@ use vx_mixed::nodes::Nodes;
 use vx_mixed::region::{Item, Made, Node, Region};
 use vx_mixed::replacement::Replacement;
 
-/// What stands at each block's number: the blocks so far, and then those that are made.
-pub(crate) fn nodes_after(
-    alloc: Global,
-    graph: &MixedGraph,
-    replacement: &Replacement,
-) -> Result<Nodes, NoMemory>
-    requires { length graph.now.nodes + length replacement.now.made < 2 ^ 32 }
-    ensures { IfOk result (λ nodes. nodes ≡ nodes_from graph.now replacement.now 0 graph.now.nodes ++ map made_node replacement.now.made) }
-{
-    let mut nodes = Nodes::new(alloc);
-    push_old_nodes(alloc, &mut nodes, graph, replacement)?;
-    push_made_nodes(alloc, &mut nodes, replacement.made.as_slice())?;
-    Ok(nodes)
-}
-
-fn push_old_nodes(
+/// What stands at the numbers of the blocks so far.
+pub(crate) fn push_old_nodes(
     alloc: Global,
     nodes: &mut Nodes,
     graph: &MixedGraph,
@@ -48,7 +34,12 @@ fn push_old_nodes(
     Ok(())
 }
 
-fn push_made_nodes(alloc: Global, nodes: &mut Nodes, made: &[Made]) -> Result<(), NoMemory>
+/// The blocks that are made.
+pub(crate) fn push_made_nodes(
+    alloc: Global,
+    nodes: &mut Nodes,
+    made: &[Made],
+) -> Result<(), NoMemory>
     ensures { IfOk result (λ _. nodes.new ≡ nodes.old ++ map made_node made.now) }
 {
     for block in made {

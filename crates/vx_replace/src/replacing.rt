@@ -1,7 +1,7 @@
 // A trace that becomes a region of a graph, with the blocks that are made of its copies. The parts of the graph that change are
 // made before the first change, so that want of memory leaves it as it was. The clauses of `replace_trace` carry the promise.
 
-ghost use Rattle.std.specs.Prelude.{◌≡◌, ◌+◌, ◌<◌, ◌^◌, IfOk, OnErr, OnOk, length};
+ghost use Rattle.std.specs.Prelude.{◌≡◌, [], OnErr, OnOk};
 ghost use Rattle.vx_mixed.specs.CanReplace.{CanReplace};
 ghost use Rattle.vx_mixed.specs.Edges.{EdgesOf};
 ghost use Rattle.vx_mixed.specs.Next.{next_mixed};
@@ -9,9 +9,9 @@ ghost use Rattle.vx_mixed.specs.Valid.{Valid};
 
 use crate::edging::edges_after;
 use crate::exchanging::put_trace;
-use crate::origins::origins_after;
+use crate::origins::{push_made_origins, push_origins};
 use crate::placing::region_of;
-use crate::renaming::{nodes_after, push_old_regions};
+use crate::renaming::{push_made_nodes, push_old_nodes, push_old_regions};
 use std::alloc::Global;
 use std::mem::swap;
 use vx_base::listed::Listed;
@@ -50,7 +50,8 @@ pub(crate) fn replace_trace(
     if replacement.made.is_empty() {
         return put_trace(alloc, graph, edges, replacement);
     }
-    let parts = parts_after(alloc, graph, edges.as_slice(), replacement)?;
+    let mut parts = no_parts(alloc);
+    make_parts(alloc, &mut parts, graph, edges.as_slice(), replacement)?;
     graph.nodes = parts.nodes;
     graph.regions = parts.regions;
     graph.origins = parts.origins;
@@ -59,55 +60,53 @@ pub(crate) fn replace_trace(
     Ok(())
 }
 
-/// The parts after a replacement of a graph that has these edges. Where there would be 2^32 blocks or more that is want of memory.
-fn parts_after(
+/// No parts, which take no memory.
+fn no_parts(alloc: Global) -> Parts
+    ensures nodes { result.nodes ≡ [] }
+    ensures regions { result.regions ≡ [] }
+    ensures origins { result.origins ≡ [] }
+{
+    Parts {
+        nodes: Nodes::new(alloc),
+        regions: Listed::new(alloc),
+        origins: Listed::new(alloc),
+        edges: Listed::new(alloc),
+    }
+}
+
+/// Makes the parts after a replacement of a graph that has these edges, where there are none yet. Where there would be 2^32
+/// blocks or more that is want of memory.
+fn make_parts(
     alloc: Global,
+    parts: &mut Parts,
     graph: &MixedGraph,
     edges: &[Edge],
     replacement: &Replacement,
-) -> Result<Parts, NoMemory>
+) -> Result<(), NoMemory>
     requires valid { Valid graph.now }
     requires edges { EdgesOf graph.now edges.now }
     requires can { CanReplace graph.now replacement.now }
-    ensures nodes { IfOk result (λ parts. parts.nodes ≡ (next_mixed graph.now replacement.now).nodes) }
-    ensures regions { IfOk result (λ parts. parts.regions ≡ (next_mixed graph.now replacement.now).regions) }
-    ensures origins { IfOk result (λ parts. parts.origins ≡ (next_mixed graph.now replacement.now).origins) }
-    ensures edges { IfOk result (λ parts. EdgesOf (next_mixed graph.now replacement.now) parts.edges) }
+    requires no_nodes { parts.old.nodes ≡ [] }
+    requires no_regions { parts.old.regions ≡ [] }
+    requires no_origins { parts.old.origins ≡ [] }
+    ensures nodes { OnOk result (parts.new.nodes ≡ (next_mixed graph.now replacement.now).nodes) }
+    ensures regions { OnOk result (parts.new.regions ≡ (next_mixed graph.now replacement.now).regions) }
+    ensures origins { OnOk result (parts.new.origins ≡ (next_mixed graph.now replacement.now).origins) }
+    ensures edges { OnOk result (EdgesOf (next_mixed graph.now replacement.now) parts.new.edges) }
 {
-    let blocks = graph.nodes.len() as u64 + replacement.made.len() as u64;
+    let made = replacement.made.as_slice();
+    let blocks = graph.nodes.len() as u64 + made.len() as u64;
     if blocks > u64::from(u32::MAX) {
         return Err(NoMemory);
     }
-    let nodes = nodes_after(alloc, graph, replacement)?;
-    let regions = regions_after(alloc, graph, replacement)?;
-    let origins = origins_after(
-        alloc,
-        graph.origins.as_slice(),
-        replacement.trace.ops.as_slice(),
-        replacement.made.as_slice(),
-    )?;
-    let edges = edges_after(alloc, graph, edges, replacement)?;
-    Ok(Parts {
-        nodes,
-        regions,
-        origins,
-        edges,
-    })
-}
-
-/// The regions after a replacement: the old ones with their new ends, and that of the trace.
-fn regions_after(
-    alloc: Global,
-    graph: &MixedGraph,
-    replacement: &Replacement,
-) -> Result<Listed<Region>, NoMemory>
-    requires few { length graph.now.nodes + length replacement.now.made < 2 ^ 32 }
-    requires can { CanReplace graph.now replacement.now }
-    ensures { IfOk result (λ regions. regions ≡ (next_mixed graph.now replacement.now).regions) }
-{
-    let mut regions = Listed::new(alloc);
-    push_old_regions(alloc, &mut regions, graph, replacement)?;
+    push_old_nodes(alloc, &mut parts.nodes, graph, replacement)?;
+    push_made_nodes(alloc, &mut parts.nodes, made)?;
+    push_old_regions(alloc, &mut parts.regions, graph, replacement)?;
     let region = region_of(alloc, graph, replacement)?;
-    regions.push(region)?;
-    Ok(regions)
+    parts.regions.push(region)?;
+    push_origins(alloc, &mut parts.origins, graph.origins.as_slice())?;
+    let ops = replacement.trace.ops.as_slice();
+    push_made_origins(alloc, &mut parts.origins, ops, made)?;
+    parts.edges = edges_after(alloc, graph, edges, replacement)?;
+    Ok(())
 }
