@@ -21,8 +21,8 @@ fn words_of(rt: &HostRuntime) -> Result<Vec<String>, Status> {
     }
 }
 
-/// Calls the compiler with the boxes that a command may ask for: the timings `late`, `early` and `cyclic`, which goes by the
-/// numbers 1, 2 and 3, and the probes `units` and `words`.
+/// Calls the compiler with the timings that a command may ask for, `late`, `early` and `cyclic`, which goes by the numbers 1, 2 and
+/// 3, and with its probes.
 fn call<K: Sink, E: Sink>(
     rt: &HostRuntime,
     words: &[String],
@@ -30,18 +30,30 @@ fn call<K: Sink, E: Sink>(
     err: &mut E,
 ) -> Result<Status, AllocError> {
     let alloc = rt.alloc();
+    let mut timings = Vec::new(alloc);
     let late: Box<dyn Timing> = Box::new(alloc, Late::make())?;
+    timings.push(late)?;
     let early: Box<dyn Timing> = Box::new(alloc, Early::make())?;
+    timings.push(early)?;
     let numbers = Vec::from_slice(alloc, &[1, 2, 3])?;
     let cyclic: Box<dyn Timing> = Box::new(alloc, Cyclic::make(numbers))?;
-    let units: Box<dyn Probe> = Box::new(alloc, UnitUse::make())?;
-    let count: Box<dyn Probe> = Box::new(alloc, WordCount::make())?;
-    let mut timings = Vec::new(alloc);
-    timings.push(late)?;
-    timings.push(early)?;
     timings.push(cyclic)?;
+    call_with(rt, words, out, err, timings)
+}
+
+/// Calls it with these timings and the probes that a command may ask for, `units` and `words`.
+fn call_with<K: Sink, E: Sink>(
+    rt: &HostRuntime,
+    words: &[String],
+    out: &mut K,
+    err: &mut E,
+    timings: Vec<Box<dyn Timing>>,
+) -> Result<Status, AllocError> {
+    let alloc = rt.alloc();
     let mut probes = Vec::new(alloc);
+    let units: Box<dyn Probe> = Box::new(alloc, UnitUse::make())?;
     probes.push(units)?;
+    let count: Box<dyn Probe> = Box::new(alloc, WordCount::make())?;
     probes.push(count)?;
     let mut depot = RealDepot::make(rt);
     Ok(vexc(alloc, words, &mut depot, out, err, probes, timings))
