@@ -9,6 +9,7 @@ ghost use Rattle.vx_isa.specs.declared.operation.Source.TheVariants.{Held, Numbe
 ghost use Rattle.vx_target.specs.Target.{bytes, general, one, together, settled, stack_on, on_clusters, parameters_of, first_frame, fetch_words, fetched, cluster_of_operand, argument_words, result_words, save_words, reload_words, move_stack, call_words, back_words, answer_words, return_words, follows, way, link_words, entry_words, set_stack, start_words, load_slots};
 ghost use Rattle.vx_slots.specs.Seen.{seen};
 
+use crate::gathering::{brought, entered_at, entry, is_caller, is_drain_at, parameters, saved};
 use std::alloc::Global;
 use vx_base::arithmetic::{Code, Compare};
 use vx_base::listed::Listed;
@@ -16,9 +17,7 @@ use vx_base::outcome::NoMemory;
 use vx_flow::graph::{Operand, Value};
 use vx_isa::operation::{BranchRegister, GeneralRegister, Operation, Register, Source};
 use vx_isa::program::Word;
-use vx_slots::gathering::{
-    Whole, brought, entered_at, entry, is_caller, is_drain_at, parameters, saved, slot, start,
-};
+use vx_slots::gathering::{Whole, slot, start};
 use vx_slots::naming::{general, general_of, home, is_slotted, stack_on};
 use vx_slots::numbers::{DEEPEST, bytes, sum};
 use vx_slots::slotting::{

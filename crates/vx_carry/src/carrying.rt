@@ -6,12 +6,13 @@ ghost use Rattle.vx_isa.specs.declared.operation.Source.TheVariants.{Held, Numbe
 ghost use Rattle.vx_target.specs.Target.{bytes, stack_on, base_of, access_base, access_offset, computes, carried, general_of, branch_of, source_of, is_own};
 ghost use Rattle.vx_slots.specs.Seen.{seen};
 
+use crate::gathering::{array_at, is_own};
 use crate::word_plan::Site;
 use vx_base::arithmetic::{Code, add32};
 use vx_base::outcome::NoMemory;
 use vx_flow::graph::{ArrayId, Op, Operand, Value};
 use vx_isa::operation::{BranchRegister, GeneralRegister, Operation, Register, Source};
-use vx_slots::gathering::{Whole, array_at, is_own};
+use vx_slots::gathering::Whole;
 use vx_slots::naming::{branch_of, general, general_of, register_of, source_of, stack_on};
 use vx_slots::numbers::bytes;
 

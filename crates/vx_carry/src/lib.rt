@@ -3,5 +3,6 @@
 #![tactic(auto)]
 
 mod carrying;
+mod gathering;
 pub mod planning;
 pub mod word_plan;

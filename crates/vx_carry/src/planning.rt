@@ -11,6 +11,7 @@ ghost use Rattle.vx_slots.specs.Seen.{seen};
 ghost use Rattle.vx_carry.specs.Planning.{IsPlan};
 
 use crate::carrying::carried;
+use crate::gathering::{landing, past};
 use crate::word_plan::{Plan, Site};
 use std::alloc::Global;
 use vx_base::arithmetic::Code;
@@ -22,7 +23,7 @@ use vx_isa::program::Word;
 use vx_machine::Machine;
 use vx_mixed::layout::Laid;
 use vx_regs::touching::{read_by, written, written_by};
-use vx_slots::gathering::{Whole, landing, past, start};
+use vx_slots::gathering::{Whole, start};
 use vx_slots::naming::{branch_of, is_slotted, once, slotted};
 use vx_slots::numbers::MOST_NAMES;
 use vx_slots::slotting::{load_slots, push_one, push_pause, push_wait, store_slots};
