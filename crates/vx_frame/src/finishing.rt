@@ -29,9 +29,7 @@ use vx_target::finished::Finished;
 fn copied_text(alloc: Global, text: &[u8]) -> Result<Bytes, NoMemory>
     ensures { IfOk result (λ copy. copy ≡ text.now) }
 {
-    let mut copy = Vec::new(alloc);
-    copy.extend_from_slice(text)?;
-    Ok(Listed::from_vec(copy)?)
+    Ok(Listed::from_vec(text.to_vec(alloc)?)?)
 }
 
 /// A copy of the texts of a program.
