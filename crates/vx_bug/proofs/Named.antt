@@ -27,7 +27,7 @@ writes_by op w e = ap value_list e ∙ writes_are op
 
 -- the general values among those that it reads
 
-general_of : Bool → Reads → List ℕ
+abbrev general_of : Bool → Reads → List ℕ
 general_of true r = value_list r.second ++ value_list r.third
 general_of false r = value_list r.first ++ value_list r.second
 

@@ -5,7 +5,6 @@ use crate::ordering::order_of;
 use std::alloc::Global;
 use vx_base::outcome::NoMemory;
 use vx_flow::graph::{ArrayId, Block, BlockId, Exit, Graph, Op, Operand, Value};
-use vx_flow::operands::written_by;
 
 /// How many edges of a loop are gone over at most.
 const MOST_EDGES: usize = 512;
@@ -283,12 +282,15 @@ fn mark(loops: &mut Loops, blocks: &[Block], block: usize) {
 
 fn mark_writes(loops: &mut Loops, block: &Block) {
     for op in block.ops.as_slice() {
-        match written_by(op) {
-            Some(to) => write(loops, to),
-            None => {}
-        }
-        match op {
-            Op::Store { array, .. } => store(loops, *array),
+        match *op {
+            Op::Compute { to, .. } => write(loops, to),
+            Op::Select { to, .. } => write(loops, to),
+            Op::Place { to, .. } => write(loops, to),
+            Op::Load { to, .. } => write(loops, to),
+            Op::More { to } => write(loops, to),
+            Op::Input { to } => write(loops, to),
+            Op::Across { to, .. } => write(loops, to),
+            Op::Store { array, .. } => store(loops, array),
             _ => {}
         }
     }

@@ -8,7 +8,6 @@ use vx_claims::intervals::{
 use vx_claims::learning::is_held;
 use vx_flow::graph::{Block, BlockId, Exit, Op, Operand, Value};
 use vx_flow::live_rows::Live;
-use vx_flow::operands::written_by;
 
 /// What is noted of a block.
 #[derive(Clone, Copy)]
@@ -200,10 +199,11 @@ fn step(tables: &mut Tables, op: Op) {
             put_range(tables, to, interval);
         }
         Op::More { to } => put_range(tables, to, bit()),
-        _ => match written_by(&op) {
-            Some(to) => put_range(tables, to, full()),
-            None => {}
-        },
+        Op::Select { to, .. } => put_range(tables, to, full()),
+        Op::Load { to, .. } => put_range(tables, to, full()),
+        Op::Input { to } => put_range(tables, to, full()),
+        Op::Across { to, .. } => put_range(tables, to, full()),
+        _ => {}
     }
 }
 
@@ -260,10 +260,14 @@ fn tested_after(before: Option<Tested>, test: Value, op: Op) -> Option<Tested> {
                 before
             }
         }
-        _ => match written_by(&op) {
-            Some(to) => kept(before, to),
-            None => before,
-        },
+        Op::Compute { to, .. } => kept(before, to),
+        Op::Select { to, .. } => kept(before, to),
+        Op::Place { to, .. } => kept(before, to),
+        Op::Load { to, .. } => kept(before, to),
+        Op::More { to } => kept(before, to),
+        Op::Input { to } => kept(before, to),
+        Op::Across { to, .. } => kept(before, to),
+        _ => before,
     }
 }
 
