@@ -2,7 +2,9 @@
 #![tactic(auto)]
 
 mod loops;
+mod notes;
 mod ordering;
 
-pub use crate::loops::{Loops, entries_at, loop_at, loops_of, spine_of};
+pub use crate::loops::{entries_at, loop_at, loops_of, spine_of};
+pub use crate::notes::Loops;
 pub use crate::ordering::order_of;

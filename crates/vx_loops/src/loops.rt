@@ -1,102 +1,34 @@
-// The loops of a graph: for a header the blocks of its loop, what is written in it, and the blocks that each turn passes. Nothing
-// is owed here.
+// The loops of a graph: for a header the blocks of its loop, what these do, and the blocks that each turn passes. Which blocks are
+// found owes nothing: what is made of them is tested by those who ask.
 
+ghost use Rattle.std.specs.Prelude.{◌≡◌, ◌<◌, ◌-◌, ◌^◌, ◌∷◌, ℕ, List, [], false, IfOk, IfSome, length, replicate};
+ghost use Rattle.vx_flow.specs.Rows.{row_at};
+ghost use Rattle.vx_flow.specs.Effects.{IsIn};
+ghost use Rattle.vx_flow.specs.Sound.{targets_of};
+ghost use Rattle.vx_loops.specs.Noted.{Gains, LooksAt, Notes, NotesOf, TablesOf};
+ghost use Rattle.vx_loops.specs.Path.{all_targets, EachFrom, HasWay, Jumps, Leads};
+
+use crate::notes::Loops;
 use crate::ordering::order_of;
 use std::alloc::Global;
+use vx_base::listed::Listed;
 use vx_base::outcome::NoMemory;
-use vx_flow::graph::{ArrayId, Block, BlockId, Exit, Graph, Op, Operand, Value};
+use vx_flow::graph::{Block, BlockId, Exit, Graph};
 
-/// How many edges of a loop are gone over at most.
+/// How many edges of a loop are gone over at most, and how many blocks each turn passes.
 const MOST_EDGES: usize = 512;
 
-/// What is noted of the blocks of a graph, and of the loop that is looked at. Neither this nor its methods owe anything: what is
-/// made of them is tested by those who ask.
-#[derive(Drop)]
-pub struct Loops {
-    /// The place of each block in an order in which each stands behind those that lead to it, but for the edges that close loops.
-    ranks: Vec<usize>,
-    /// The edges, by the block to which they lead.
-    sources: Vec<Vec<BlockId>>,
-    /// The loop in which a block was found last.
-    members: Vec<usize>,
-    /// The loop in which a value was found to be written last, and how often it is.
-    writers: Vec<usize>,
-    times: Vec<u32>,
-    /// The loop in which an array was found to be stored to last, and the one in which a call was.
-    stores: Vec<usize>,
-    calls: usize,
-    /// The loop that is looked at.
-    number: usize,
-}
-
-impl Loops {
-    /// Whether the loop that is looked at writes a value.
-    pub fn is_written(&self, value: Value) -> bool {
-        match self.writers.get(value as usize) {
-            Some(number) => *number == self.number,
-            None => true,
-        }
-    }
-
-    /// Whether it does so at one place.
-    pub fn is_written_once(&self, value: Value) -> bool {
-        match self.times.get(value as usize) {
-            Some(times) => self.is_written(value) && *times == 1,
-            None => false,
-        }
-    }
-
-    /// Whether each turn leaves what an operand holds.
-    pub fn keeps(&self, operand: Operand) -> bool {
-        match operand {
-            Operand::Held(value) => !self.is_written(value),
-            _ => true,
-        }
-    }
-
-    /// Whether a store of the loop that is looked at goes to an array.
-    pub fn is_stored(&self, array: ArrayId) -> bool {
-        match self.stores.get(array as usize) {
-            Some(number) => *number == self.number,
-            None => true,
-        }
-    }
-
-    /// Whether a block of the loop that is looked at ends by a call.
-    pub fn has_call(&self) -> bool {
-        self.calls == self.number
-    }
-
-    /// Whether one edge leads to a block.
-    pub fn is_single(&self, block: BlockId) -> bool {
-        match self.sources.get(block as usize) {
-            Some(sources) => sources.len() == 1,
-            None => false,
-        }
-    }
-
-    fn is_inside(&self, block: BlockId) -> bool {
-        match self.members.get(block as usize) {
-            Some(number) => *number == self.number,
-            None => false,
-        }
-    }
-
-    fn rank(&self, block: usize) -> usize {
-        match self.ranks.get(block) {
-            Some(rank) => *rank,
-            None => usize::MAX,
-        }
-    }
-}
-
-/// The edges and the order of the blocks of a graph. It owes nothing.
-pub fn loops_of(alloc: Global, graph: &Graph) -> Result<Loops, NoMemory> {
+/// The edges and the order of the blocks of a graph. No loop is looked at.
+pub fn loops_of(alloc: Global, graph: &Graph) -> Result<Loops, NoMemory>
+    ensures tables { IfOk result (λ loops. TablesOf graph.now loops) }
+    ensures nothing { IfOk result (λ loops. Notes [] [] [] false loops) }
+{
+    let count = graph.blocks.len();
     let blocks = graph.blocks.as_slice();
     let order = order_of(alloc, blocks)?;
-    let ranks = ranks_of(alloc, order.as_slice(), blocks.len())?;
+    let ranks = ranks_of(alloc, order.as_slice(), count)?;
     let sources = sources_of(alloc, blocks)?;
-    let members = vec![in alloc; usize::MAX; blocks.len()]?;
+    let members = vec![in alloc; usize::MAX; count]?;
     let writers = vec![in alloc; usize::MAX; graph.banks.len()]?;
     let times = vec![in alloc; 0u32; graph.banks.len()]?;
     let stores = vec![in alloc; usize::MAX; graph.arrays.len()]?;
@@ -122,20 +54,40 @@ fn ranks_of(alloc: Global, order: &[BlockId], blocks: usize) -> Result<Vec<usize
     Ok(ranks)
 }
 
-fn sources_of(alloc: Global, blocks: &[Block]) -> Result<Vec<Vec<BlockId>>, NoMemory> {
-    let mut sources = Vec::new(alloc);
-    for _ in 0..blocks.len() {
-        sources.push(Vec::new(alloc))?;
-    }
+/// The edges of a graph, by the blocks to which they lead.
+fn sources_of(alloc: Global, blocks: &[Block]) -> Result<Vec<Listed<BlockId>>, NoMemory>
+    ensures { length blocks.now < 2 ^ 32 → IfOk result (λ sources. Gains (all_targets blocks.now) (replicate (length blocks.now) []) sources.items) }
+{
+    let mut sources = no_sources(alloc, blocks.len())?;
     for (place, block) in blocks.iter().enumerate() {
-        if place < u32::MAX as usize {
-            note_exit(&mut sources, place as BlockId, &block.exit)?;
-        }
+        note_block(&mut sources, place, &block.exit)?;
     }
     Ok(sources)
 }
 
-fn note_exit(sources: &mut Vec<Vec<BlockId>>, from: BlockId, exit: &Exit) -> Result<(), NoMemory> {
+fn note_block(sources: &mut Vec<Listed<BlockId>>, place: usize, exit: &Exit) -> Result<(), NoMemory>
+    ensures { place < 2 ^ 32 → IfOk result (λ _. Gains (targets_of exit.now) sources.old.items sources.new.items) }
+{
+    if place <= u32::MAX as usize {
+        note_exit(sources, place as BlockId, exit)
+    } else {
+        Ok(())
+    }
+}
+
+fn no_sources(alloc: Global, count: usize) -> Result<Vec<Listed<BlockId>>, NoMemory>
+    ensures { IfOk result (λ sources. sources.items ≡ replicate count []) }
+{
+    let mut sources = Vec::new(alloc);
+    for _block in 0..count {
+        sources.push(Listed::new(alloc))?;
+    }
+    Ok(sources)
+}
+
+fn note_exit(sources: &mut Vec<Listed<BlockId>>, from: BlockId, exit: &Exit) -> Result<(), NoMemory>
+    ensures { IfOk result (λ _. Gains (targets_of exit.now) sources.old.items sources.new.items) }
+{
     match exit {
         Exit::Goto(next) => note(sources, from, *next),
         Exit::Split { yes, no, .. } => {
@@ -143,26 +95,34 @@ fn note_exit(sources: &mut Vec<Vec<BlockId>>, from: BlockId, exit: &Exit) -> Res
             note(sources, from, *no)
         }
         Exit::Call { next, .. } => note(sources, from, *next),
-        _ => Ok(()),
+        Exit::Return(_) => Ok(()),
+        Exit::Ends(_) => Ok(()),
     }
 }
 
-fn note(sources: &mut Vec<Vec<BlockId>>, from: BlockId, to: BlockId) -> Result<(), NoMemory> {
+fn note(sources: &mut Vec<Listed<BlockId>>, from: BlockId, to: BlockId) -> Result<(), NoMemory>
+    ensures { IfOk result (λ _. Gains (to ∷ []) sources.old.items sources.new.items) }
+{
     let place = to as usize;
     if place < sources.len() {
-        sources[place].push(from)?;
+        let row = &mut sources[place];
+        row.push(from)?;
     }
     Ok(())
 }
 
 /// Looks at the loop of a header. Answers the block before it, where it is a header, and one block alone leads to it from outside,
-/// by a jump. It owes nothing.
+/// by a jump; the notes then tell what the blocks of its loop do. After 2^64 - 2 loops they tell nothing.
 pub fn loop_at(
     alloc: Global,
     blocks: &[Block],
     loops: &mut Loops,
     header: usize,
-) -> Result<Option<usize>, NoMemory> {
+) -> Result<Option<usize>, NoMemory>
+    ensures before { IfOk result (λ found. IfSome found (λ before. Jumps blocks.now before)) }
+    ensures source { IfOk result (λ found. IfSome found (λ before. IsIn before (row_at loops.old.sources.items header))) }
+    ensures looks { IfOk result (λ found. IfSome found (λ _. loops.new.number < 2 ^ 64 - 1 → LooksAt blocks.now loops.new)) }
+{
     let ends = split_sources(alloc, loops, header)?;
     let [before] = ends.before.as_slice() else {
         return Ok(None);
@@ -175,17 +135,21 @@ pub fn loop_at(
 }
 
 /// Looks at the loop of a block, which is empty where the block is no header. Answers the blocks that lead to it from outside, none
-/// where the loop is too long. It owes nothing.
+/// where the loop is too long. The notes tell what the blocks of the loop do, as far as these were found; after 2^64 - 2 loops they
+/// tell nothing.
 pub fn entries_at(
     alloc: Global,
     blocks: &[Block],
     loops: &mut Loops,
     header: usize,
-) -> Result<Vec<BlockId>, NoMemory> {
+) -> Result<Vec<BlockId>, NoMemory>
+    ensures sources { IfOk result (λ entries. EachFrom (row_at loops.old.sources.items header) entries.items) }
+    ensures looks { IfOk result (λ _. loops.new.number < 2 ^ 64 - 1 → LooksAt blocks.now loops.new) }
+{
     let ends = split_sources(alloc, loops, header)?;
     let before = ends.before;
     if ends.inside.len() == 0 {
-        loops.number = loops.number.saturating_add(1);
+        loops.begin();
         Ok(before)
     } else if gather(loops, blocks, header, ends.inside)? {
         Ok(before)
@@ -201,28 +165,28 @@ struct Sources {
     inside: Vec<BlockId>,
 }
 
-fn split_sources(alloc: Global, loops: &Loops, block: usize) -> Result<Sources, NoMemory> {
+fn split_sources(alloc: Global, loops: &Loops, block: usize) -> Result<Sources, NoMemory>
+    ensures { IfOk result (λ sources. EachFrom (row_at loops.now.sources.items block) sources.before.items) }
+{
     let mut sources = Sources {
         before: Vec::new(alloc),
         inside: Vec::new(alloc),
     };
-    match loops.sources.get(block) {
-        Some(all) => {
-            for source in all.as_slice() {
-                if loops.rank(*source as usize) >= loops.rank(block) {
-                    sources.inside.push(*source)?;
-                } else {
-                    sources.before.push(*source)?;
-                }
-            }
+    for source in loops.leading_to(block) {
+        if loops.rank(*source as usize) >= loops.rank(block) {
+            sources.inside.push(*source)?;
+        } else {
+            sources.before.push(*source)?;
         }
-        None => {}
     }
     Ok(sources)
 }
 
 /// The block, where it ends by a jump.
-fn jumping(blocks: &[Block], found: usize) -> Option<usize> {
+fn jumping(blocks: &[Block], found: usize) -> Option<usize>
+    ensures jumps { IfSome result (λ before. Jumps blocks.now before) }
+    ensures same { IfSome result (λ before. before ≡ found) }
+{
     match blocks.get(found) {
         Some(block) => match &block.exit {
             Exit::Goto(_) => Some(found),
@@ -239,15 +203,28 @@ fn gather(
     blocks: &[Block],
     header: usize,
     inside: Vec<BlockId>,
-) -> Result<bool, NoMemory> {
-    loops.number = loops.number.saturating_add(1);
+) -> Result<bool, NoMemory>
+    ensures { IfOk result (λ _. loops.new.number < 2 ^ 64 - 1 → LooksAt blocks.now loops.new) }
+{
+    loops.begin();
+    loops.mark(blocks, header);
+    let whole = gather_behind(loops, blocks, inside)?;
+    Ok(whole)
+}
+
+fn gather_behind(
+    loops: &mut Loops,
+    blocks: &[Block],
+    inside: Vec<BlockId>,
+) -> Result<bool, NoMemory>
+    ensures number { IfOk result (λ _. loops.new.number ≡ loops.old.number) }
+    ensures looks { IfOk result (λ _. (members : List ℕ) → NotesOf blocks.now members loops.old → LooksAt blocks.now loops.new) }
+{
     let mut waiting = inside;
-    mark(loops, blocks, header);
     for _ in 0..MOST_EDGES {
         match waiting.pop() {
             Some(block) => {
-                if !loops.is_inside(block) {
-                    mark(loops, blocks, block as usize);
+                if loops.mark(blocks, block as usize) {
                     push_sources(loops, &mut waiting, block as usize)?;
                 }
             }
@@ -258,116 +235,81 @@ fn gather(
 }
 
 fn push_sources(loops: &Loops, waiting: &mut Vec<BlockId>, block: usize) -> Result<(), NoMemory> {
-    match loops.sources.get(block) {
-        Some(sources) => {
-            for source in sources.as_slice() {
-                waiting.push(*source)?;
-            }
-            Ok(())
-        }
-        None => Ok(()),
+    for source in loops.leading_to(block) {
+        waiting.push(*source)?;
     }
+    Ok(())
 }
 
-/// Marks a block and what it writes.
-fn mark(loops: &mut Loops, blocks: &[Block], block: usize) {
-    if block < loops.members.len() {
-        loops.members[block] = loops.number;
-    }
-    match blocks.get(block) {
-        Some(found) => mark_writes(loops, found),
-        None => {}
-    }
-}
-
-fn mark_writes(loops: &mut Loops, block: &Block) {
-    for op in block.ops.as_slice() {
-        match *op {
-            Op::Compute { to, .. } => write(loops, to),
-            Op::Select { to, .. } => write(loops, to),
-            Op::Place { to, .. } => write(loops, to),
-            Op::Load { to, .. } => write(loops, to),
-            Op::More { to } => write(loops, to),
-            Op::Input { to } => write(loops, to),
-            Op::Across { to, .. } => write(loops, to),
-            Op::Store { array, .. } => store(loops, array),
-            _ => {}
-        }
-    }
-    match &block.exit {
-        Exit::Call { result: held, .. } => mark_call(loops, *held),
-        _ => {}
-    }
-}
-
-fn mark_call(loops: &mut Loops, held: Option<Value>) {
-    loops.calls = loops.number;
-    match held {
-        Some(value) => write(loops, value),
-        None => {}
-    }
-}
-
-fn store(loops: &mut Loops, array: ArrayId) {
-    let place = array as usize;
-    if place < loops.stores.len() {
-        loops.stores[place] = loops.number;
-    }
-}
-
-fn write(loops: &mut Loops, value: Value) {
-    let place = value as usize;
-    if place < loops.writers.len() && place < loops.times.len() {
-        loops.times[place] = if loops.writers[place] == loops.number {
-            loops.times[place].saturating_add(1)
-        } else {
-            1
-        };
-        loops.writers[place] = loops.number;
-    }
-}
-
-/// The blocks that each turn passes from the header on, up to the first from which it may go on in two ways. It
-/// owes nothing.
+/// The blocks that each turn passes from the header on, up to the first from which it may go on in two ways: an edge leads from
+/// each to the next. There are none where the header has no number of 32 bits.
 pub fn spine_of(
     alloc: Global,
     blocks: &[Block],
     loops: &Loops,
     header: usize,
-) -> Result<Vec<BlockId>, NoMemory> {
+) -> Result<Vec<BlockId>, NoMemory>
+    ensures { IfOk result (λ spine. header < 2 ^ 32 → HasWay blocks.now header spine.items) }
+{
     let mut spine = Vec::new(alloc);
-    let mut at = Some(header);
-    for _ in 0..MOST_EDGES {
-        match at {
-            Some(place) => {
-                if place < u32::MAX as usize {
-                    spine.push(place as BlockId)?;
-                }
-                at = following(blocks, loops, header, place);
-            }
-            None => return Ok(spine),
-        }
+    if header <= u32::MAX as usize {
+        let first = header as BlockId;
+        spine.push(first)?;
+        follow(blocks, loops, first, &mut spine)?;
     }
     Ok(spine)
 }
 
+fn follow(
+    blocks: &[Block],
+    loops: &Loops,
+    first: BlockId,
+    spine: &mut Vec<BlockId>,
+) -> Result<(), NoMemory>
+    requires { spine.old.items ≡ first ∷ [] }
+    ensures { IfOk result (λ _. HasWay blocks.now first spine.new.items) }
+{
+    let mut last = first;
+    for _ in 1..MOST_EDGES {
+        match following(blocks, loops, first, last) {
+            Some(next) => {
+                spine.push(next)?;
+                last = next;
+            }
+            None => return Ok(()),
+        }
+    }
+    Ok(())
+}
+
 /// The block of the loop to which alone a block leads inside of it, but for the header.
-fn following(blocks: &[Block], loops: &Loops, header: usize, place: usize) -> Option<usize> {
-    let next = match blocks.get(place) {
-        Some(block) => match &block.exit {
-            Exit::Goto(next) => Some(*next),
-            Exit::Split { yes, no, .. } => one_inside(loops, *yes, *no),
-            Exit::Call { next, .. } => Some(*next),
-            _ => None,
-        },
+fn following(blocks: &[Block], loops: &Loops, header: BlockId, block: BlockId) -> Option<BlockId>
+    ensures { IfSome result (λ next. Leads blocks.now block next) }
+{
+    let next = match blocks.get(block as usize) {
+        Some(found) => inner_target(loops, &found.exit),
         None => None,
     };
-    let found = next? as usize;
+    let found = next?;
     if found == header { None } else { Some(found) }
 }
 
-fn one_inside(loops: &Loops, yes: BlockId, no: BlockId) -> Option<BlockId> {
-    match (loops.is_inside(yes), loops.is_inside(no)) {
+/// The block to which alone an exit leads inside of the loop; where it leads to one block, that one.
+fn inner_target(loops: &Loops, exit: &Exit) -> Option<BlockId>
+    ensures { IfSome result (λ next. IsIn next (targets_of exit.now)) }
+{
+    match exit {
+        Exit::Goto(next) => Some(*next),
+        Exit::Split { yes, no, .. } => one_inside(loops, *yes, *no),
+        Exit::Call { next, .. } => Some(*next),
+        _ => None,
+    }
+}
+
+fn one_inside(loops: &Loops, yes: BlockId, no: BlockId) -> Option<BlockId>
+    ensures { IfSome result (λ next. IsIn next (yes ∷ no ∷ [])) }
+{
+    match (loops.is_inside(yes as usize), loops.is_inside(no as usize)) {
         (true, false) => Some(yes),
         (false, true) => Some(no),
         _ => None,

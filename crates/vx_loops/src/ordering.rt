@@ -1,5 +1,10 @@
 // The blocks of a graph in an order in which each stands behind those that lead to it, but for the edges that close loops: the
-// reverse of the order in which a walk from the entry leaves them.
+// reverse of the order in which a walk from the entry leaves them. Where a block stands owes nothing; that each stands there once
+// does, and is tested as the order is made.
+
+ghost use Rattle.std.specs.Prelude.{◌≡◌, ◌<◌, ◌^◌, ℕ, true, [], IfOk, length, min};
+ghost use Rattle.vx_flow.specs.Rows.{is_marked};
+ghost use Rattle.vx_loops.specs.Order.{HasEachOnce, MarksStay, Placed};
 
 use std::alloc::Global;
 use vx_base::outcome::NoMemory;
@@ -12,25 +17,24 @@ struct Stop {
     followed: u32,
 }
 
-/// The blocks in their order; those that no path from the entry reaches come last. The time is linear in the blocks.
-/// It owes nothing.
-pub fn order_of(alloc: Global, blocks: &[Block]) -> Result<Vec<BlockId>, NoMemory> {
-    let mut seen = vec![in alloc; false; blocks.len()]?;
-    let left = walked(alloc, blocks, &mut seen)?;
-    let mut order = Vec::new(alloc);
-    append_reversed(&mut order, left.as_slice())?;
-    append_others(&mut order, seen.as_slice())?;
-    Ok(order)
+/// The blocks in their order, each once; those that no path from the entry reaches come last. Of more than 2^32 blocks these are
+/// the first. The time is linear in the blocks.
+pub fn order_of(alloc: Global, blocks: &[Block]) -> Result<Vec<BlockId>, NoMemory>
+    ensures { IfOk result (λ order. HasEachOnce (min (length blocks.now) (2 ^ 32)) order.items) }
+{
+    let left = walked(alloc, blocks)?;
+    ordered(alloc, left.as_slice(), blocks.len())
 }
 
 /// The blocks in the order in which the walk leaves them. It stops at each block once more than the block has edges.
-fn walked(alloc: Global, blocks: &[Block], seen: &mut Vec<bool>) -> Result<Vec<BlockId>, NoMemory> {
+fn walked(alloc: Global, blocks: &[Block]) -> Result<Vec<BlockId>, NoMemory> {
+    let mut seen = vec![in alloc; false; blocks.len()]?;
     let mut left = Vec::new(alloc);
     let mut path = Vec::new(alloc);
-    enter(seen, &mut path, 0)?;
+    enter(&mut seen, &mut path, 0)?;
     for _ in 0..blocks.len().saturating_mul(3) {
         match path.pop() {
-            Some(stop) => go_on(blocks, seen, &mut path, &mut left, stop)?,
+            Some(stop) => go_on(blocks, &mut seen, &mut path, &mut left, stop)?,
             None => return Ok(left),
         }
     }
@@ -91,18 +95,62 @@ fn first_edge(next: BlockId, followed: u32) -> Option<BlockId> {
     if followed == 0 { Some(next) } else { None }
 }
 
-fn append_reversed(order: &mut Vec<BlockId>, left: &[BlockId]) -> Result<(), NoMemory> {
+/// So many blocks: the reverse of those that were left, and the others behind them.
+fn ordered(alloc: Global, left: &[BlockId], count: usize) -> Result<Vec<BlockId>, NoMemory>
+    ensures { IfOk result (λ order. HasEachOnce (min count (2 ^ 32)) order.items) }
+{
+    let mut placed = vec![in alloc; false; count]?;
+    let mut order = Vec::new(alloc);
+    append_reversed(&mut order, &mut placed, left)?;
+    append_others(&mut order, &mut placed)?;
+    Ok(order)
+}
+
+fn append_reversed(
+    order: &mut Vec<BlockId>,
+    placed: &mut Vec<bool>,
+    left: &[BlockId],
+) -> Result<(), NoMemory>
+    requires { Placed placed.old.items order.old.items }
+    ensures placed { IfOk result (λ _. Placed placed.new.items order.new.items) }
+    ensures count { IfOk result (λ _. length placed.new.items ≡ length placed.old.items) }
+{
     for block in left.iter().rev() {
-        order.push(*block)?;
+        place_once(order, placed, *block)?;
     }
     Ok(())
 }
 
-fn append_others(order: &mut Vec<BlockId>, seen: &[bool]) -> Result<(), NoMemory> {
-    for (place, reached) in seen.iter().enumerate() {
-        if !*reached && place < u32::MAX as usize {
-            order.push(place as u32)?;
+fn append_others(order: &mut Vec<BlockId>, placed: &mut Vec<bool>) -> Result<(), NoMemory>
+    requires { Placed placed.old.items order.old.items }
+    ensures placed { IfOk result (λ _. Placed placed.new.items order.new.items) }
+    ensures count { IfOk result (λ _. length placed.new.items ≡ length placed.old.items) }
+    ensures all { IfOk result (λ _. (b : ℕ) → b < length placed.old.items → b < 2 ^ 32 → is_marked placed.new.items b ≡ true) }
+{
+    for place in 0..placed.len() {
+        if place <= u32::MAX as usize {
+            place_once(order, placed, place as u32)?;
         }
+    }
+    Ok(())
+}
+
+/// Puts a block behind the others, where it is there and not among them yet.
+fn place_once(
+    order: &mut Vec<BlockId>,
+    placed: &mut Vec<bool>,
+    block: BlockId,
+) -> Result<(), NoMemory>
+    requires { Placed placed.old.items order.old.items }
+    ensures placed { IfOk result (λ _. Placed placed.new.items order.new.items) }
+    ensures count { IfOk result (λ _. length placed.new.items ≡ length placed.old.items) }
+    ensures stays { IfOk result (λ _. MarksStay placed.old.items placed.new.items) }
+    ensures marked { IfOk result (λ _. block < length placed.old.items → is_marked placed.new.items block ≡ true) }
+{
+    let place = block as usize;
+    if place < placed.len() && !placed[place] {
+        placed[place] = true;
+        order.push(block)?;
     }
     Ok(())
 }

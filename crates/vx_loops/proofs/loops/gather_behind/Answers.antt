@@ -1,0 +1,8 @@
+use Rattle.vx_loops.proofs.Notings.{looks}
+use Rattle.vx_loops.proofs.loops.gather_behind.Goals as goal
+
+pub returns-in-None-clause-looks : goal.returns-in-None-clause-looks
+returns-in-None-clause-looks c = λ members h. let found = c.loop.invariant.notes members h in looks c.args.blocks.now found.0 c.loop.loops found.1
+
+pub returns-clause-looks : goal.returns-clause-looks
+returns-clause-looks c = λ members h. let found = c.loop.invariant.notes members h in looks c.args.blocks.now found.0 c.loop.loops found.1

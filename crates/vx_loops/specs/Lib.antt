@@ -1,0 +1,4 @@
+pub mod Order
+pub mod Path
+pub mod Past
+pub mod Noted
