@@ -5,6 +5,9 @@
 // of its blocks are looked for with that. A function that calls itself is given what others pass to it, where its own calls stay in
 // that. Where functions call each other in a ring, nothing is given of the first of them.
 
+ghost use Rattle.std.specs.Prelude.{◌≡◌, IfOk, length};
+ghost use Rattle.vx_search.specs.Rows.{HasRows, SameRows};
+
 use crate::inheriting::passed_over;
 use crate::search::{block_number, find_claims};
 use crate::sweeping::{hull, none};
@@ -51,8 +54,11 @@ struct Calls {
 }
 
 /// Looks for what is given of the parameters of all functions. The time is linear in the calls, beside that of looking for claims
-/// once for each function, and once more for one that passes itself something else. What is found owes nothing: it is checked.
-pub fn find_given(alloc: Global, functions: &[Graph], rounds: u32) -> Result<Found, NoMemory> {
+/// once for each function, and once more for one that passes itself something else. There is a row for each function; what stands
+/// in it owes nothing, and is checked.
+pub fn find_given(alloc: Global, functions: &[Graph], rounds: u32) -> Result<Found, NoMemory>
+    ensures { IfOk result (λ found. HasRows (length functions.now) found) }
+{
     let mut calls = calls_of(alloc, functions)?;
     let mut found = nothing_found(alloc, functions.len())?;
     go_over_all(alloc, &mut calls, &mut found, functions, rounds)?;
@@ -66,15 +72,28 @@ fn go_over_all(
     found: &mut Found,
     functions: &[Graph],
     rounds: u32,
-) -> Result<(), NoMemory> {
+) -> Result<(), NoMemory>
+    ensures { IfOk result (λ _. SameRows found.old found.new) }
+{
     let mut ready = ready_at_first(alloc, calls.waiting.as_slice())?;
     go_over_ready(alloc, calls, found, &mut ready, functions, rounds)?;
     for (function, graph) in functions.iter().enumerate() {
-        if !was_gone_over(calls, function) {
-            give_up(calls, function, graph.parameters.len());
-            ready.push(function)?;
-            go_over_ready(alloc, calls, found, &mut ready, functions, rounds)?;
-        }
+        ready_if_left(calls, &mut ready, function, graph.parameters.len())?;
+        go_over_ready(alloc, calls, found, &mut ready, functions, rounds)?;
+    }
+    Ok(())
+}
+
+/// Makes a function ready that was not gone over, of which nothing is given.
+fn ready_if_left(
+    calls: &mut Calls,
+    ready: &mut Vec<usize>,
+    function: usize,
+    parameters: usize,
+) -> Result<(), NoMemory> {
+    if !was_gone_over(calls, function) {
+        give_up(calls, function, parameters);
+        ready.push(function)?;
     }
     Ok(())
 }
@@ -87,20 +106,39 @@ fn go_over_ready(
     ready: &mut Vec<usize>,
     functions: &[Graph],
     rounds: u32,
-) -> Result<(), NoMemory> {
-    for _ in 0..functions.len() {
+) -> Result<(), NoMemory>
+    ensures { IfOk result (λ _. SameRows found.old found.new) }
+{
+    'going: for _ in 0..functions.len() {
         match ready.pop() {
-            Some(function) => match functions.get(function) {
-                Some(graph) => {
-                    go_over(alloc, calls, found, function, graph, rounds)?;
-                    release(calls, ready, function, graph.blocks.as_slice())?;
-                }
-                None => {}
-            },
+            Some(function) => {
+                go_over_one(alloc, calls, found, ready, functions, function, rounds)?;
+            }
             None => return Ok(()),
         }
     }
     Ok(())
+}
+
+/// Goes over a function, and makes those ready that only it kept waiting.
+fn go_over_one(
+    alloc: Global,
+    calls: &mut Calls,
+    found: &mut Found,
+    ready: &mut Vec<usize>,
+    functions: &[Graph],
+    function: usize,
+    rounds: u32,
+) -> Result<(), NoMemory>
+    ensures { IfOk result (λ _. SameRows found.old found.new) }
+{
+    match functions.get(function) {
+        Some(graph) => {
+            go_over(alloc, calls, found, function, graph, rounds)?;
+            release(calls, ready, function, graph.blocks.as_slice())
+        }
+        None => Ok(()),
+    }
 }
 
 fn was_gone_over(calls: &Calls, function: usize) -> bool {
@@ -166,10 +204,12 @@ fn count_calls(waiting: &mut Vec<usize>, caller: usize, blocks: &[Block]) {
     }
 }
 
-fn nothing_found(alloc: Global, functions: usize) -> Result<Found, NoMemory> {
+fn nothing_found(alloc: Global, functions: usize) -> Result<Found, NoMemory>
+    ensures { IfOk result (λ found. HasRows functions found) }
+{
     let mut given = Vec::new(alloc);
     let mut kept = Vec::new(alloc);
-    for _ in 0..functions {
+    for _function in 0..functions {
         given.push(Listed::new(alloc))?;
         kept.push(Kept {
             claims: Vec::new(alloc),
@@ -265,7 +305,9 @@ fn go_over(
     function: usize,
     graph: &Graph,
     rounds: u32,
-) -> Result<(), NoMemory> {
+) -> Result<(), NoMemory>
+    ensures { IfOk result (λ _. SameRows found.old found.new) }
+{
     let row = row_of(alloc, calls, function, graph.parameters.len())?;
     let claims = passing_on(alloc, calls, graph, row.as_slice(), rounds)?;
     let left = left_of(alloc, calls, function, row.as_slice())?;
@@ -383,7 +425,9 @@ fn keep(
     function: usize,
     row: Listed<Interval>,
     claims: Vec<Claim>,
-) {
+)
+    ensures { SameRows found.old found.new }
+{
     if function < found.given.len() && function < found.kept.len() {
         found.given[function] = row;
         let facts = calls.facts.saturating_add(facts_of(claims.as_slice()));

@@ -1,6 +1,8 @@
 // What a block takes over from the blocks that lead to it: what its values hold, and what is known of places and words of
 // arrays. It is looked for and owes nothing, since what does not pass is not used.
 
+ghost use Rattle.std.specs.Prelude.{◌≡◌, IfOk, length};
+
 use std::alloc::Global;
 use vx_base::arithmetic::Code;
 use vx_base::listed::Listed;
@@ -29,10 +31,12 @@ pub(crate) fn inherit(
     order: &[BlockId],
     graph: &Graph,
     joins: bool,
-) -> Result<(), NoMemory> {
+) -> Result<(), NoMemory>
+    ensures { IfOk result (λ _. length claims.new.items ≡ length claims.old.items) }
+{
     let blocks = graph.blocks.as_slice();
     let mut loops = loops_of(alloc, graph)?;
-    let mut ends = nothing_at_ends(alloc, blocks.len())?;
+    let mut ends = nothing_everywhere(alloc, blocks.len())?;
     for place in order {
         inherit_at(alloc, claims, &mut loops, &mut ends, blocks, *place, joins)?;
     }
@@ -48,12 +52,12 @@ fn inherit_at(
     blocks: &[Block],
     place: BlockId,
     joins: bool,
-) -> Result<(), NoMemory> {
+) -> Result<(), NoMemory>
+    ensures { IfOk result (λ _. length claims.new.items ≡ length claims.old.items) }
+{
     match blocks.get(place as usize) {
         Some(block) => {
-            if joins || loops.is_single(place) {
-                take_over(alloc, claims, loops, ends.as_slice(), blocks, place)?;
-            }
+            take_if(alloc, claims, loops, ends.as_slice(), blocks, place, joins)?;
             let end = end_of(alloc, claims.as_slice(), place, block)?;
             put_end(ends, place, end);
             Ok(())
@@ -62,10 +66,31 @@ fn inherit_at(
     }
 }
 
-/// Nothing is known at the ends of so many blocks.
-fn nothing_at_ends(alloc: Global, blocks: usize) -> Result<Vec<Claim>, NoMemory> {
+/// Lets a block take over where it may: with joins, or with one way in.
+fn take_if(
+    alloc: Global,
+    claims: &mut Vec<Claim>,
+    loops: &mut Loops,
+    ends: &[Claim],
+    blocks: &[Block],
+    place: BlockId,
+    joins: bool,
+) -> Result<(), NoMemory>
+    ensures { IfOk result (λ _. length claims.new.items ≡ length claims.old.items) }
+{
+    if joins || loops.is_single(place) {
+        take_over(alloc, claims, loops, ends, blocks, place)
+    } else {
+        Ok(())
+    }
+}
+
+/// Nothing is known at so many blocks.
+pub(crate) fn nothing_everywhere(alloc: Global, blocks: usize) -> Result<Vec<Claim>, NoMemory>
+    ensures { IfOk result (λ claims. length claims.items ≡ blocks) }
+{
     let mut ends = Vec::new(alloc);
-    for _ in 0..blocks {
+    for _block in 0..blocks {
         ends.push(nothing_known(alloc))?;
     }
     Ok(ends)
@@ -142,7 +167,9 @@ fn take_over(
     ends: &[Claim],
     blocks: &[Block],
     place: BlockId,
-) -> Result<(), NoMemory> {
+) -> Result<(), NoMemory>
+    ensures { IfOk result (λ _. length claims.new.items ≡ length claims.old.items) }
+{
     let before = entries_at(alloc, blocks, loops, place as usize)?;
     match before.as_slice() {
         [] => Ok(()),
@@ -162,7 +189,9 @@ fn take_facts(
     before: &[BlockId],
     place: BlockId,
     facts: &[Fact],
-) -> Result<(), NoMemory> {
+) -> Result<(), NoMemory>
+    ensures { IfOk result (λ _. length claims.new.items ≡ length claims.old.items) }
+{
     for fact in facts.iter().take(MOST) {
         if is_general(*fact) && keeps_fact(loops, *fact) && all_give(ends, before, *fact) {
             take_fact(claims, place, *fact)?;
@@ -178,7 +207,9 @@ fn take_accesses(
     before: &[BlockId],
     place: BlockId,
     accesses: &[Access],
-) -> Result<(), NoMemory> {
+) -> Result<(), NoMemory>
+    ensures { IfOk result (λ _. length claims.new.items ≡ length claims.old.items) }
+{
     for access in accesses.iter().take(MOST) {
         if keeps_access(loops, *access) && all_tell(ends, before, *access) {
             take_access(claims, place, *access)?;
@@ -222,7 +253,9 @@ fn all_tell(ends: &[Claim], before: &[BlockId], access: Access) -> bool {
     before.iter().all(|block| tell(accesses_in(ends, *block as usize), &[access]))
 }
 
-fn take_fact(claims: &mut Vec<Claim>, block: BlockId, fact: Fact) -> Result<(), NoMemory> {
+fn take_fact(claims: &mut Vec<Claim>, block: BlockId, fact: Fact) -> Result<(), NoMemory>
+    ensures { IfOk result (λ _. length claims.new.items ≡ length claims.old.items) }
+{
     let place = block as usize;
     if place < claims.len() {
         claims[place].facts.push(fact)?;
@@ -230,7 +263,9 @@ fn take_fact(claims: &mut Vec<Claim>, block: BlockId, fact: Fact) -> Result<(), 
     Ok(())
 }
 
-fn take_access(claims: &mut Vec<Claim>, block: BlockId, access: Access) -> Result<(), NoMemory> {
+fn take_access(claims: &mut Vec<Claim>, block: BlockId, access: Access) -> Result<(), NoMemory>
+    ensures { IfOk result (λ _. length claims.new.items ≡ length claims.old.items) }
+{
     let place = block as usize;
     if place < claims.len() {
         claims[place].accesses.push(access)?;

@@ -5,7 +5,9 @@
 // are closed, is taken to be nothing at first. Where they give more, more is taken: from the third sweep on up to 0, or to the
 // least and the greatest number (Cousot and Cousot, 1977). Where they give no more, what was taken too much is given back.
 
-use crate::inheriting::inherit;
+ghost use Rattle.std.specs.Prelude.{◌≡◌, IfOk, length};
+
+use crate::inheriting::{inherit, nothing_everywhere};
 use crate::sweeping::{Cell, Mark, Tables, cell_at, hull, put_cell, sweep, unknown};
 use std::alloc::Global;
 use vx_base::listed::Listed;
@@ -27,14 +29,17 @@ const WIDENS: u32 = 3;
 const GIVES_UP: u32 = 10;
 
 /// Claims at the starts of the blocks of a graph, where its parameters lie in intervals, with so many sweeps that give back. Blocks
-/// with several ways in take over what the blocks before them give where that is wanted. They owe nothing: each is checked.
+/// with several ways in take over what the blocks before them give where that is wanted. There is one list of claims for each
+/// block; what they say owes nothing, and is checked.
 pub fn find_claims(
     alloc: Global,
     graph: &Graph,
     intervals: &[Interval],
     rounds: u32,
     joins: bool,
-) -> Result<Vec<Claim>, NoMemory> {
+) -> Result<Vec<Claim>, NoMemory>
+    ensures { IfOk result (λ claims. length claims.items ≡ length graph.now.blocks) }
+{
     let live = live(alloc, graph)?;
     let order = order_of(alloc, graph.blocks.as_slice())?;
     claims_in_order(
@@ -48,7 +53,7 @@ pub fn find_claims(
     )
 }
 
-/// The claims, where blocks are gone over in this order, and these values are live. There are none where sweeps do not settle.
+/// The claims, where blocks are gone over in this order, and these values are live. They say nothing where sweeps do not settle.
 fn claims_in_order(
     alloc: Global,
     graph: &Graph,
@@ -57,7 +62,9 @@ fn claims_in_order(
     joins: bool,
     order: &[BlockId],
     live: &Live,
-) -> Result<Vec<Claim>, NoMemory> {
+) -> Result<Vec<Claim>, NoMemory>
+    ensures { IfOk result (λ claims. length claims.items ≡ length graph.now.blocks) }
+{
     let blocks = graph.blocks.as_slice();
     let mut tables = new_tables(alloc, graph, live)?;
     put_parameters(&mut tables, graph.parameters.as_slice(), intervals, live);
@@ -66,7 +73,7 @@ fn claims_in_order(
         shrink(&mut tables, order, blocks, live, rounds);
         settled_claims(alloc, graph, joins, order, live, &tables)
     } else {
-        Ok(Vec::new(alloc))
+        nothing_everywhere(alloc, blocks.len())
     }
 }
 
@@ -78,7 +85,9 @@ fn settled_claims(
     order: &[BlockId],
     live: &Live,
     tables: &Tables,
-) -> Result<Vec<Claim>, NoMemory> {
+) -> Result<Vec<Claim>, NoMemory>
+    ensures { IfOk result (λ claims. length claims.items ≡ length graph.now.blocks) }
+{
     let mut claims = claims_of(alloc, graph, live, tables)?;
     inherit(alloc, &mut claims, order, graph, joins)?;
     Ok(claims)
@@ -264,7 +273,9 @@ fn claims_of(
     graph: &Graph,
     live: &Live,
     tables: &Tables,
-) -> Result<Vec<Claim>, NoMemory> {
+) -> Result<Vec<Claim>, NoMemory>
+    ensures { IfOk result (λ claims. length claims.items ≡ length graph.now.blocks) }
+{
     let mut claims = Vec::new(alloc);
     for block in 0..graph.blocks.len() {
         let facts = claims_at(alloc, graph.banks.as_slice(), live, tables, block)?;
