@@ -1,3 +1,4 @@
 pub mod Flows
 pub mod Shape
 pub mod ShapeTest
+pub mod Origins
