@@ -1,6 +1,8 @@
 // Blocks that are joined to the block before them: those with one entry, by a jump, while the whole is short. A trap block and
 // the entry are never joined.
 
+ghost use Rattle.std.specs.Prelude.{◌≡◌, IfOk, length};
+
 use crate::reaching::Reached;
 use crate::skipping::is_trap_at;
 use crate::table::{MANY, NONE, at, filled, number_at, put};
@@ -15,7 +17,9 @@ pub(crate) fn joins(
     blocks: &[Block],
     reached: &Reached,
     stays: &[BlockId],
-) -> Result<Vec<BlockId>, NoMemory> {
+) -> Result<Vec<BlockId>, NoMemory>
+    ensures { IfOk result (λ after. length after.items ≡ length blocks.now) }
+{
     let mut before = filled(alloc, blocks.len(), NONE)?;
     note_all(&mut before, blocks, reached, stays);
     let mut after = filled(alloc, blocks.len(), NONE)?;
@@ -60,7 +64,9 @@ fn note_jump(before: &mut Vec<BlockId>, next: BlockId, from: BlockId) {
     }
 }
 
-fn join_all(after: &mut Vec<BlockId>, blocks: &[Block], before: &[BlockId]) {
+fn join_all(after: &mut Vec<BlockId>, blocks: &[Block], before: &[BlockId])
+    ensures { length after.new.items ≡ length after.old.items }
+{
     for place in 1..blocks.len() {
         let block = number_at(place);
         let from = at(before, block);
@@ -71,7 +77,9 @@ fn join_all(after: &mut Vec<BlockId>, blocks: &[Block], before: &[BlockId]) {
 }
 
 /// Parts blocks where the whole would be too long.
-fn cut_all(after: &mut Vec<BlockId>, blocks: &[Block], before: &[BlockId]) {
+fn cut_all(after: &mut Vec<BlockId>, blocks: &[Block], before: &[BlockId])
+    ensures { length after.new.items ≡ length after.old.items }
+{
     for place in 0..blocks.len() {
         let block = number_at(place);
         if at(after.as_slice(), at(before, block)) != block {
@@ -80,10 +88,12 @@ fn cut_all(after: &mut Vec<BlockId>, blocks: &[Block], before: &[BlockId]) {
     }
 }
 
-fn cut(after: &mut Vec<BlockId>, blocks: &[Block], first: BlockId) {
+fn cut(after: &mut Vec<BlockId>, blocks: &[Block], first: BlockId)
+    ensures { length after.new.items ≡ length after.old.items }
+{
     let mut block = first;
     let mut size = size_of(blocks, first);
-    for _ in 0..blocks.len() {
+    'cutting: for _ in 0..blocks.len() {
         let next = at(after.as_slice(), block);
         if next == NONE {
             return;

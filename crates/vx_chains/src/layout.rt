@@ -1,5 +1,8 @@
 // Which blocks of a graph become one block: chains of them, by number. Whatever is found here is tested before it is used.
 
+ghost use Rattle.std.specs.Prelude.{◌≡◌, ◌<◌, ◌≤◌, IfOk, length};
+ghost use Rattle.vx_chains.specs.Chains.{AreFilled};
+
 use crate::joining::joins;
 use crate::reaching::{Reached, reach};
 use crate::skipping::{Skipped, find_skipped};
@@ -25,8 +28,12 @@ struct Rows {
     next: Vec<BlockId>,
 }
 
-/// Finds the chains, with time linear in the blocks. What is found owes nothing: it is tested before it is used.
-pub fn find_layout(alloc: Global, blocks: &[Block]) -> Result<Layout, NoMemory> {
+/// Finds the chains, with time linear in the blocks. Each block has a number of a chain, and no chain is empty; which blocks are
+/// joined owes nothing, and is tested before it is used.
+pub fn find_layout(alloc: Global, blocks: &[Block]) -> Result<Layout, NoMemory>
+    ensures numbers { IfOk result (λ layout. length layout.to.items ≡ length blocks.now) }
+    ensures chains { IfOk result (λ layout. AreFilled layout.chains.items) }
+{
     let reached = reach(alloc, blocks)?;
     let skipped = find_skipped(alloc, blocks, &reached)?;
     let after = joins(alloc, blocks, &reached, skipped.stays.as_slice())?;
@@ -38,7 +45,10 @@ fn chained(
     reached: &Reached,
     skipped: &Skipped,
     after: &[BlockId],
-) -> Result<Layout, NoMemory> {
+) -> Result<Layout, NoMemory>
+    ensures numbers { IfOk result (λ layout. length layout.to.items ≡ length after.now) }
+    ensures chains { IfOk result (λ layout. AreFilled layout.chains.items) }
+{
     let mut firsts = filled(alloc, after.len(), NONE)?;
     mark_firsts(&mut firsts, reached, skipped.stays.as_slice());
     unmark_joined(&mut firsts, after);
@@ -49,7 +59,9 @@ fn chained(
 }
 
 /// Marks the blocks that are reached and stay.
-fn mark_firsts(firsts: &mut Vec<BlockId>, reached: &Reached, stays: &[BlockId]) {
+fn mark_firsts(firsts: &mut Vec<BlockId>, reached: &Reached, stays: &[BlockId])
+    ensures { length firsts.new.items ≡ length firsts.old.items }
+{
     for place in 0..stays.len() {
         let block = number_at(place);
         if at(reached.entries.as_slice(), block) != 0 && at(stays, block) == block {
@@ -58,7 +70,9 @@ fn mark_firsts(firsts: &mut Vec<BlockId>, reached: &Reached, stays: &[BlockId]) 
     }
 }
 
-fn unmark_joined(firsts: &mut Vec<BlockId>, after: &[BlockId]) {
+fn unmark_joined(firsts: &mut Vec<BlockId>, after: &[BlockId])
+    ensures { length firsts.new.items ≡ length firsts.old.items }
+{
     for joined in after {
         put(firsts, *joined, NONE);
     }
@@ -81,13 +95,18 @@ fn list_all(first: &mut Vec<BlockId>, next: &mut Vec<BlockId>, skipped: &Skipped
 }
 
 /// The chain of each first block, and for each block the number of its chain.
+#[tactic(auto, using(crate::proofs::Filled::filled_more))]
 fn chains(
     alloc: Global,
     firsts: &[BlockId],
     rows: &Rows,
     after: &[BlockId],
     to: &mut Vec<BlockId>,
-) -> Result<Vec<Listed<BlockId>>, NoMemory> {
+) -> Result<Vec<Listed<BlockId>>, NoMemory>
+    requires { length firsts.now ≡ length after.now }
+    ensures numbers { IfOk result (λ _. length to.new.items ≡ length to.old.items) }
+    ensures chains { IfOk result (λ chains. AreFilled chains.items) }
+{
     let mut chains = Vec::new(alloc);
     for first in firsts {
         if *first != NONE {
@@ -99,7 +118,9 @@ fn chains(
     Ok(chains)
 }
 
-fn move_all(to: &mut Vec<BlockId>, chain: &[BlockId], number: u32) {
+fn move_all(to: &mut Vec<BlockId>, chain: &[BlockId], number: u32)
+    ensures { length to.new.items ≡ length to.old.items }
+{
     for block in chain {
         put(to, *block, number);
     }
@@ -111,10 +132,12 @@ fn chain(
     rows: &Rows,
     after: &[BlockId],
     first: BlockId,
-) -> Result<Listed<BlockId>, NoMemory> {
+) -> Result<Listed<BlockId>, NoMemory>
+    ensures { 0 < length after.now → IfOk result (λ chain. 0 < length chain) }
+{
     let mut chain = Listed::new(alloc);
     let mut block = first;
-    for _ in 0..after.len() {
+    for _turn in 0..after.len() {
         push_skipped(&mut chain, rows, block)?;
         chain.push(block)?;
         block = at(after, block);

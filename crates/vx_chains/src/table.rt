@@ -1,5 +1,7 @@
 // Tables of numbers by the number of a block. What is not there reads as `NONE`, and is not set.
 
+ghost use Rattle.std.specs.Prelude.{◌≡◌, IfOk, length, replicate};
+
 use std::alloc::Global;
 use vx_base::outcome::NoMemory;
 use vx_flow::graph::BlockId;
@@ -20,7 +22,9 @@ pub(crate) fn number_at(place: usize) -> BlockId {
 }
 
 /// A table that has the number everywhere.
-pub(crate) fn filled(alloc: Global, count: usize, number: u32) -> Result<Vec<u32>, NoMemory> {
+pub(crate) fn filled(alloc: Global, count: usize, number: u32) -> Result<Vec<u32>, NoMemory>
+    ensures { IfOk result (λ table. table.items ≡ replicate count number) }
+{
     Ok(vec![in alloc; number; count]?)
 }
 
@@ -33,7 +37,9 @@ pub(crate) fn at(table: &[u32], block: BlockId) -> u32 {
 }
 
 /// Gives a block another number.
-pub(crate) fn put(table: &mut Vec<u32>, block: BlockId, number: u32) {
+pub(crate) fn put(table: &mut Vec<u32>, block: BlockId, number: u32)
+    ensures { length table.new.items ≡ length table.old.items }
+{
     if (block as usize) < table.len() {
         table[block as usize] = number;
     }
