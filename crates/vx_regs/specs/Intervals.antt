@@ -3,6 +3,7 @@ use Rattle.std.specs.Prelude.{◌≡◌, ◌≤◌, ℕ, suc, Option, Some, None
 use Rattle.std.specs.List.{flat_map}
 use Rattle.vx_flow.specs.declared.graph.Op.{Op}
 use Rattle.vx_flow.specs.Effects.{IsIn, value_in}
+use Rattle.vx_flow.specs.Operands.{value_list}
 use Rattle.vx_mixed.specs.declared.layout.VirtualWord.{VirtualWord}
 use Rattle.vx_mixed.specs.declared.layout.VirtualWord.TheVariants.{Planned, Drain, Transfer, Choice, Call, Return, Ends}
 use Rattle.vx_mixed.specs.declared.layout.VWords.{VWords}
@@ -18,8 +19,7 @@ word_reads (Return x) = value_in x
 word_reads (Ends k) = []
 
 abbrev pub result_of : Option ℕ → List ℕ
-result_of None = []
-result_of (Some v) = v ∷ []
+result_of result = value_list result
 
 abbrev pub word_writes : VirtualWord → List ℕ
 word_writes (Planned r w items) = laid_writes items

@@ -1,101 +1,24 @@
 // The values that words read and write, in the order of their items.
 
-ghost use Rattle.std.specs.Prelude.{◌≡◌, ◌++◌, if◌then◌else◌, IfOk};
+ghost use Rattle.std.specs.Prelude.{◌≡◌, ◌++◌, IfOk};
 ghost use Rattle.std.specs.List.{flat_map};
-ghost use Rattle.vx_flow.specs.Effects.{is_unary, reads, value_in, writes};
+ghost use Rattle.vx_flow.specs.Effects.{value_in, writes};
 ghost use Rattle.vx_mixed.specs.LaidSettled.{item_reads, item_writes, laid_reads, laid_writes};
 ghost use Rattle.vx_regs.specs.Intervals.{result_of, word_reads, word_writes};
 
 use std::alloc::Global;
-use vx_base::arithmetic::Code;
 use vx_base::listed::Listed;
 use vx_base::outcome::NoMemory;
 use vx_flow::graph::{Op, Operand, Value};
+use vx_flow::operands::{push_operand, push_reads, push_value};
 use vx_mixed::layout::{Laid, VirtualWord};
 
-fn push_operand(values: &mut Listed<Value>, operand: Operand) -> Result<(), NoMemory>
-    ensures { IfOk result (λ _. values.new ≡ values.old ++ value_in operand) }
-{
-    match operand {
-        Operand::Held(value) => values.push(value)?,
-        Operand::Number(_) => {}
-        Operand::Stack => {}
-    }
-    Ok(())
-}
-
-fn push_two(values: &mut Listed<Value>, left: Operand, right: Operand) -> Result<(), NoMemory>
-    ensures { IfOk result (λ _. values.new ≡ values.old ++ (value_in left ++ value_in right)) }
-{
-    push_operand(values, left)?;
-    push_operand(values, right)
-}
-
-/// The right operand of a move is not read.
-fn push_computed(
-    values: &mut Listed<Value>,
-    code: Code,
-    left: Operand,
-    right: Operand,
-) -> Result<(), NoMemory>
-    ensures { IfOk result (λ _. values.new ≡ values.old ++ (if is_unary code then value_in left else value_in left ++ value_in right)) }
-{
-    match code {
-        Code::Mov => push_operand(values, left),
-        _ => push_two(values, left, right),
-    }
-}
-
-/// Adds the values that an operation reads.
-fn push_reads(values: &mut Listed<Value>, op: &Op) -> Result<(), NoMemory>
-    ensures { IfOk result (λ _. values.new ≡ values.old ++ reads op.now) }
-{
-    match op {
-        Op::Compute {
-            code,
-            left,
-            right,
-            ..
-        } => push_computed(values, *code, *left, *right),
-        Op::Select {
-            test,
-            left,
-            right,
-            ..
-        } => {
-            values.push(*test)?;
-            push_two(values, *left, *right)
-        }
-        Op::Place { index, .. } => push_operand(values, *index),
-        Op::Load { place, .. } => push_operand(values, *place),
-        Op::Store { place, from, .. } => push_two(values, *place, *from),
-        Op::More { .. } => Ok(()),
-        Op::Input { .. } => Ok(()),
-        Op::Text { .. } => Ok(()),
-        Op::Decimal { from } => push_operand(values, *from),
-        Op::Across { from, .. } => {
-            values.push(*from)?;
-            Ok(())
-        }
-    }
-}
-
 /// The value that an operation writes, if any.
+#[tactic(auto, using(vx_flow::proofs::OperandLaws::writes_listed))]
 pub fn written(op: &Op) -> Option<Value>
     ensures { result_of result ≡ writes op.now }
 {
-    match op {
-        Op::Compute { to, .. } => Some(*to),
-        Op::Select { to, .. } => Some(*to),
-        Op::Place { to, .. } => Some(*to),
-        Op::Load { to, .. } => Some(*to),
-        Op::Store { .. } => None,
-        Op::More { to } => Some(*to),
-        Op::Input { to } => Some(*to),
-        Op::Text { .. } => None,
-        Op::Decimal { .. } => None,
-        Op::Across { to, .. } => Some(*to),
-    }
+    vx_flow::operands::written_by(op)
 }
 
 fn push_item_reads(values: &mut Listed<Value>, item: &Laid) -> Result<(), NoMemory>
@@ -103,10 +26,7 @@ fn push_item_reads(values: &mut Listed<Value>, item: &Laid) -> Result<(), NoMemo
 {
     match item {
         Laid::Plain { op, .. } => push_reads(values, op),
-        Laid::Split { test, .. } => {
-            values.push(*test)?;
-            Ok(())
-        }
+        Laid::Split { test, .. } => push_value(values, Some(*test)),
     }
 }
 
@@ -114,13 +34,7 @@ fn push_item_writes(values: &mut Listed<Value>, item: &Laid) -> Result<(), NoMem
     ensures { IfOk result (λ _. values.new ≡ values.old ++ item_writes item.now) }
 {
     match item {
-        Laid::Plain { op, .. } => {
-            match written(op) {
-                Some(value) => values.push(value)?,
-                None => {}
-            }
-            Ok(())
-        }
+        Laid::Plain { op, .. } => push_value(values, written(op)),
         Laid::Split { .. } => Ok(()),
     }
 }
@@ -173,7 +87,7 @@ fn push_operands(values: &mut Listed<Value>, operands: &[Operand]) -> Result<(),
     match operands.split_first() {
         None => Ok(()),
         Some((operand, rest)) => {
-            push_operand(values, *operand)?;
+            push_operand(values, operand)?;
             push_operands(values, rest)
         }
     }
@@ -190,7 +104,7 @@ pub fn word_reads(alloc: Global, word: &VirtualWord) -> Result<Listed<Value>, No
         VirtualWord::Transfer(_) => {}
         VirtualWord::Choice { test, .. } => values.push(*test)?,
         VirtualWord::Call { arguments, .. } => push_operands(&mut values, arguments.as_slice())?,
-        VirtualWord::Return(operand) => push_operand(&mut values, *operand)?,
+        VirtualWord::Return(operand) => push_operand(&mut values, operand)?,
         VirtualWord::Ends(_) => {}
     }
     Ok(values)
