@@ -2,12 +2,14 @@
 // call is checked against it.
 //
 // Functions are gone over such that a function comes behind those that call it. What its calls pass is then known, and the claims
-// of its blocks are looked for with that. A function that calls itself is given what others pass to it, where its own calls stay in
-// that. Where functions call each other in a ring, nothing is given of the first of them.
+// of its blocks are looked for with that. A function that calls itself is given what others pass to it where its own calls stay in
+// that, else that up to the next numbers with which it compares. Where functions call each other in a ring, nothing is given of the
+// first of them.
 
 ghost use Rattle.std.specs.Prelude.{◌≡◌, IfOk, length};
 ghost use Rattle.vx_search.specs.Rows.{HasRows, SameRows};
 
+use crate::compared::up_to_compared;
 use crate::inheriting::passed_over;
 use crate::search::{block_number, find_claims};
 use crate::sweeping::{hull, none};
@@ -23,6 +25,12 @@ use vx_flow::graph::{Block, Exit, Graph, Operand};
 
 /// How many facts of all claims are kept at most. The claims of the other functions are looked for once more.
 const MOST_KEPT: usize = 1_000_000;
+
+/// How often the claims of a function that passes itself more are looked for.
+const MOST_TURNS: u32 = 4;
+
+/// In how many turns what it passes itself is taken up to the next number with which it compares.
+const COMPARED_TURNS: u32 = 2;
 
 /// Claims that were looked for, where they are kept.
 #[derive(Drop)]
@@ -54,7 +62,7 @@ struct Calls {
 }
 
 /// Looks for what is given of the parameters of all functions. The time is linear in the calls, beside that of looking for claims
-/// once for each function, and once more for one that passes itself something else. There is a row for each function; what stands
+/// once for each function, and up to four times more for one that passes itself more. There is a row for each function; what stands
 /// in it owes nothing, and is checked.
 pub fn find_given(alloc: Global, functions: &[Graph], rounds: u32) -> Result<Found, NoMemory>
     ensures { IfOk result (λ found. HasRows (length functions.now) found) }
@@ -296,8 +304,14 @@ fn says_something(row: &[Interval]) -> bool {
     row.iter().all(|within| within.low <= within.high) && !row.iter().all(|within| is_full(*within))
 }
 
-/// Looks for the claims of a function with what is given of its parameters, and notes what it passes. Where it passes itself something
-/// else, that is given up, and they are looked for anew.
+/// What is given of the parameters of a function, and the claims that were looked for with that.
+#[derive(Drop)]
+struct Settled {
+    row: Listed<Interval>,
+    claims: Vec<Claim>,
+}
+
+/// Looks for the claims of a function with what is given of its parameters, and notes what it passes.
 fn go_over(
     alloc: Global,
     calls: &mut Calls,
@@ -308,16 +322,42 @@ fn go_over(
 ) -> Result<(), NoMemory>
     ensures { IfOk result (λ _. SameRows found.old found.new) }
 {
-    let row = row_of(alloc, calls, function, graph.parameters.len())?;
-    let claims = passing_on(alloc, calls, graph, row.as_slice(), rounds)?;
-    let left = left_of(alloc, calls, function, row.as_slice())?;
-    if are_same(row.as_slice(), left.as_slice()) {
-        keep(calls, found, function, row, claims);
-    } else {
-        let later = passing_on(alloc, calls, graph, left.as_slice(), rounds)?;
-        keep(calls, found, function, left, later);
-    }
+    let Settled { row, claims } = settle(alloc, calls, function, graph, rounds)?;
+    keep(calls, found, function, row, claims);
     Ok(())
+}
+
+/// What is given of the parameters of a function. Where it passes itself more, the intervals are made wider and the claims are looked
+/// for anew; where it passes itself more in the last turn too, nothing is given.
+fn settle(
+    alloc: Global,
+    calls: &mut Calls,
+    function: usize,
+    graph: &Graph,
+    rounds: u32,
+) -> Result<Settled, NoMemory> {
+    let mut row = row_of(alloc, calls, function, graph.parameters.len())?;
+    for turn in 0..MOST_TURNS {
+        let claims = passing_on(alloc, calls, graph, row.as_slice(), rounds)?;
+        let wider = wider_row(alloc, calls, function, graph, row.as_slice(), turn)?;
+        if are_same(row.as_slice(), wider.as_slice()) {
+            return Ok(Settled { row, claims });
+        }
+        row = wider;
+    }
+    give_up(calls, function, graph.parameters.len());
+    nothing_given(alloc, calls, graph, rounds)
+}
+
+fn nothing_given(
+    alloc: Global,
+    calls: &mut Calls,
+    graph: &Graph,
+    rounds: u32,
+) -> Result<Settled, NoMemory> {
+    let row = Listed::new(alloc);
+    let claims = passing_on(alloc, calls, graph, row.as_slice(), rounds)?;
+    Ok(Settled { row, claims })
 }
 
 /// The claims of a function with what is given of its parameters. What its calls then pass is noted.
@@ -385,22 +425,28 @@ fn put_hull(calls: &mut Calls, function: usize, place: usize, within: Interval) 
     }
 }
 
-/// What is left of a row where more than it says was passed: nothing at such a place.
-fn left_of(
+/// A row that is wider where more than it says was passed: up to the next numbers with which the function compares in the first turns,
+/// and then up to every number.
+fn wider_row(
     alloc: Global,
     calls: &Calls,
     function: usize,
+    graph: &Graph,
     row: &[Interval],
+    turn: u32,
 ) -> Result<Listed<Interval>, NoMemory> {
-    let mut left = Listed::new(alloc);
+    let mut wider = Listed::new(alloc);
     for (place, within) in row.iter().enumerate() {
-        if is_inside(hull_at(calls, function, place), *within) {
-            left.push(*within)?;
+        let passed = hull_at(calls, function, place);
+        if is_inside(passed, *within) {
+            wider.push(*within)?;
+        } else if turn < COMPARED_TURNS {
+            wider.push(up_to_compared(graph.blocks.as_slice(), passed))?;
         } else {
-            left.push(full())?;
+            wider.push(full())?;
         }
     }
-    Ok(left)
+    Ok(wider)
 }
 
 /// Whether each interval lies in that at the same place.

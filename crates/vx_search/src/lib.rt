@@ -2,6 +2,7 @@
 #![tactic(auto)]
 
 mod calling;
+mod compared;
 mod inheriting;
 mod search;
 mod sweeping;
