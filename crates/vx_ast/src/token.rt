@@ -3,7 +3,7 @@
 use vx_base::listed::Bytes;
 
 /// A keyword of C90. The grammar uses some of them; none is a name.
-#[derive(Clone, Copy, PartialEq, Eq, Debug)]
+#[derive(Clone, Copy, PartialEq, Eq)]
 pub enum Keyword {
     /// `auto`
     Auto,
@@ -72,7 +72,7 @@ pub enum Keyword {
 }
 
 /// A mark of the source language.
-#[derive(Clone, Copy, PartialEq, Eq, Debug)]
+#[derive(Clone, Copy, PartialEq, Eq)]
 pub enum Mark {
     /// `++`
     PlusPlus,
@@ -163,7 +163,7 @@ pub enum Mark {
 }
 
 /// What a token is.
-#[derive(Drop, Debug)]
+#[derive(Drop)]
 pub enum TokenKind {
     /// A keyword.
     Keyword(Keyword),
@@ -180,7 +180,7 @@ pub enum TokenKind {
 }
 
 /// A token, and where it stands.
-#[derive(Drop, Debug)]
+#[derive(Drop)]
 pub struct Token {
     /// What it is.
     pub kind: TokenKind,
@@ -195,7 +195,7 @@ pub struct Token {
 }
 
 /// What stands first in a source, from some place on.
-#[derive(Drop, Debug)]
+#[derive(Drop)]
 pub enum Piece {
     /// So many bytes that are no token: a blank, a comment, or an include line without its line feed.
     Skipped(usize),

@@ -1,7 +1,7 @@
 // What one can tell of two accesses to memory before the program runs.
 
 /// Whether two accesses name one word.
-#[derive(Clone, Copy, PartialEq, Eq, Debug)]
+#[derive(Clone, Copy, PartialEq, Eq)]
 pub enum Answer {
     /// They never do.
     Never,

@@ -6,7 +6,7 @@ ghost use Rattle.std.specs.Prelude.{◌≡◌};
 ghost use Rattle.vx_base.specs.Arithmetic.{and_of, compare_of, difference_of, mpyhs_of, mpylu_of, or_of, product_of, quotient_of, remainder_of, sh2add_of, shl_of, shr_of, shru_of, sum_of, unsigned, value_of, xor_of, DivisionLaw, IndexCheck, ProductByHalves, ValueFits, WrapReduces, WrapsAlike};
 
 /// How two numbers are compared: signed, but for the last two, which read both without sign.
-#[derive(Clone, Copy, PartialEq, Eq, Debug)]
+#[derive(Clone, Copy, PartialEq, Eq)]
 pub enum Compare {
     /// Equal.
     Eq,
@@ -27,7 +27,7 @@ pub enum Compare {
 }
 
 /// An operation of the units alu and multiply on two numbers.
-#[derive(Clone, Copy, PartialEq, Eq, Debug)]
+#[derive(Clone, Copy, PartialEq, Eq)]
 pub enum Code {
     /// The sum.
     Add,

@@ -81,7 +81,7 @@ pub trait Depot {
 }
 
 /// A depot in memory, which tells its files.
-#[derive(Drop, Debug)]
+#[derive(Drop)]
 pub struct MemDepot {
     alloc: Global,
     files: Vec<(String, Vec<u8>)>,

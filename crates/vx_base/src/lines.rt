@@ -6,7 +6,7 @@ ghost use Rattle.vx_base.specs.Lines.{line_text, lines_of};
 use std::marker::Model;
 
 /// A line of a text.
-#[derive(Clone, Copy, Debug)]
+#[derive(Clone, Copy)]
 pub struct Line<'a> {
     /// The line without its line feed.
     pub bytes: &'a [u8],
@@ -15,7 +15,7 @@ pub struct Line<'a> {
 }
 
 /// The lines of a text that are not handed out yet.
-#[derive(Drop, Debug)]
+#[derive(Drop)]
 pub struct Lines<'a> {
     rest: &'a [u8],
 }

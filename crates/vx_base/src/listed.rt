@@ -14,7 +14,7 @@ pub type Bytes = Listed<u8>;
 
 /// A growable list of at most 2^32 - 1 items. Its value in a contract is the list of its items, first item first.
 /// A growth past its room is want of memory.
-#[derive(Drop, Debug)]
+#[derive(Drop)]
 pub struct Listed<T: Drop> {
     items: Vec<T>,
 }

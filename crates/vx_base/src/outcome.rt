@@ -4,7 +4,7 @@ use std::alloc::{AllocError, AllocFailed};
 use thiserror::Error;
 
 /// Why a program is ended before `main` returns.
-#[derive(Clone, Copy, PartialEq, Eq, Debug)]
+#[derive(Clone, Copy, PartialEq, Eq)]
 pub enum Trap {
     /// A division or a remainder by 0.
     Divide,
@@ -17,7 +17,7 @@ pub enum Trap {
 }
 
 /// Why a word of a word program cannot be issued. The reasons are tested in this order.
-#[derive(Clone, Copy, PartialEq, Eq, Debug)]
+#[derive(Clone, Copy, PartialEq, Eq)]
 pub enum Reason {
     /// The place to be issued is not below the number of words.
     BadTarget,

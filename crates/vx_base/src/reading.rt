@@ -11,7 +11,7 @@ use std::alloc::Global;
 const PIECE: usize = 4096;
 
 /// A file that was read up to a bound on its length.
-#[derive(Drop, Debug)]
+#[derive(Drop)]
 pub enum FileRead {
     /// All its bytes, which are at most as many as the bound says.
     Whole(Vec<u8>),

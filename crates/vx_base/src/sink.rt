@@ -56,7 +56,7 @@ pub fn put_all<K: Sink>(out: &mut K, bytes: &[u8]) -> Result<(), SinkFault>
 }
 
 /// A sink in memory. It takes its room when it is made, and no memory afterwards.
-#[derive(Drop, Debug)]
+#[derive(Drop)]
 pub struct MemSink {
     held: Vec<u8>,
     room: usize,

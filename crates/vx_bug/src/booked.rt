@@ -10,7 +10,7 @@ use vx_base::listed::Listed;
 use vx_base::outcome::NoMemory;
 
 /// The operations that have a cluster.
-#[derive(Drop, Debug)]
+#[derive(Drop)]
 pub struct Booked {
     /// All of them, the latest first.
     pub(crate) bookings: Vec<Booking>,

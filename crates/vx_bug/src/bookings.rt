@@ -14,7 +14,7 @@ use vx_isa::operation::UnitKind;
 use vx_machine::Machine;
 
 /// An operation that has its cluster.
-#[derive(Clone, Copy, Debug)]
+#[derive(Clone, Copy)]
 pub struct Booking {
     /// Its place in the trace.
     pub place: u32,
@@ -29,7 +29,7 @@ pub struct Booking {
 }
 
 /// What an operation takes in its cycle.
-#[derive(Clone, Copy, Debug)]
+#[derive(Clone, Copy)]
 pub enum Resource {
     /// An issue slot of its cluster.
     IssueSlot,

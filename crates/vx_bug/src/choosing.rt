@@ -19,21 +19,21 @@ use vx_flow::trace::Trace;
 use vx_machine::Machine;
 
 /// Clusters that follow each other.
-#[derive(Clone, Copy, Debug)]
+#[derive(Clone, Copy)]
 pub(crate) struct Span {
     pub(crate) first: u32,
     pub(crate) count: u32,
 }
 
 /// A cluster, and the cycle in which the operation would be issued there.
-#[derive(Clone, Copy, Debug)]
+#[derive(Clone, Copy)]
 pub(crate) struct Choice {
     pub(crate) cluster: u32,
     pub(crate) cycle: u64,
 }
 
 /// The cluster that an operation has taken, and its estimate there.
-#[derive(Clone, Copy, Debug)]
+#[derive(Clone, Copy)]
 pub(crate) struct Chosen {
     pub(crate) cluster: u32,
     pub(crate) estimate: u32,

@@ -4,7 +4,7 @@ use vx_base::listed::Listed;
 use vx_flow::trace::{Clustered, Homes};
 
 /// The clusters of the operations of a trace.
-#[derive(Drop, Debug)]
+#[derive(Drop)]
 pub struct Clusters {
     /// The places of the operations in the order in which they took their clusters.
     pub order: Listed<u32>,

@@ -28,7 +28,7 @@ pub(crate) struct Site<'a> {
 }
 
 /// Operations as they stand in the clustered trace, one entry for each in each list.
-#[derive(Drop, Debug)]
+#[derive(Drop)]
 pub struct Standings {
     pub(crate) ops: Listed<TraceOp>,
     pub(crate) clusters: Listed<u32>,
@@ -36,7 +36,7 @@ pub struct Standings {
 }
 
 /// The values of which an operation needs copies, in the order of its operands.
-#[derive(Clone, Copy, Debug)]
+#[derive(Clone, Copy)]
 pub(crate) struct Needed {
     pub(crate) first: Option<Value>,
     pub(crate) second: Option<Value>,

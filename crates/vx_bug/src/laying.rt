@@ -18,7 +18,7 @@ use vx_flow::trace::{Clustered, Join, Trace};
 
 /// The operations of a clustered trace, with the places at which those begin that stand for one operation of the trace,
 /// and the place behind the last.
-#[derive(Drop, Debug)]
+#[derive(Drop)]
 pub struct Laid {
     pub(crate) out: Standings,
     pub(crate) starts: Listed<u32>,

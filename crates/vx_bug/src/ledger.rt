@@ -3,7 +3,7 @@
 use crate::booked::Booked;
 
 /// The homes and the bookings so far.
-#[derive(Drop, Debug)]
+#[derive(Drop)]
 pub struct Ledger {
     /// The home of each value that has one, by value.
     pub(crate) homes: Vec<Option<u32>>,

@@ -25,7 +25,7 @@ pub(crate) fn values_read(op: &TraceOp) -> Reads
 }
 
 /// The general values that an operation reads, in the order of its operands.
-#[derive(Clone, Copy, Debug)]
+#[derive(Clone, Copy)]
 pub(crate) struct Operands {
     pub(crate) left: Option<Value>,
     pub(crate) right: Option<Value>,

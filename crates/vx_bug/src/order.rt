@@ -29,7 +29,7 @@ pub(crate) fn listed(alloc: Global, trace: &Trace) -> Result<Listed<u32>, NoMemo
 }
 
 /// What is left to do of a visit.
-#[derive(Clone, Copy, Debug)]
+#[derive(Clone, Copy)]
 pub(crate) enum Task {
     /// A place is visited, with at most so many visits inside each other.
     Enter { depth: usize, place: u32 },

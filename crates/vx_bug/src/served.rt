@@ -3,7 +3,7 @@
 use vx_flow::graph::Value;
 
 /// A copy that serves.
-#[derive(Clone, Copy, Debug)]
+#[derive(Clone, Copy)]
 pub struct Served {
     /// The value.
     pub value: Value,

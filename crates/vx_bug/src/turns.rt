@@ -27,7 +27,7 @@ pub(crate) struct Turn<'a> {
 }
 
 /// Where an operand of an operation comes from.
-#[derive(Clone, Copy, Debug)]
+#[derive(Clone, Copy)]
 pub(crate) struct Source {
     /// The cycle at which it is expected, 0 where no operation above that has its cluster wrote it.
     pub(crate) written: u32,
@@ -36,7 +36,7 @@ pub(crate) struct Source {
 }
 
 /// Where the operands of an operation come from, found once for all clusters; None where an operand is no value.
-#[derive(Clone, Copy, Debug)]
+#[derive(Clone, Copy)]
 pub(crate) struct Sources {
     pub(crate) first: Option<Source>,
     pub(crate) second: Option<Source>,

@@ -14,7 +14,7 @@ use vx_base::outcome::NoMemory;
 use vx_flow::graph::{ArrayId, Op, Operand, Value};
 
 /// What is known of an array.
-#[derive(Clone, Copy, Debug)]
+#[derive(Clone, Copy)]
 pub enum Access {
     /// A value is the place of the element at an index.
     Placed {

@@ -5,7 +5,7 @@ use vx_base::arithmetic::Code;
 use vx_flow::graph::{Operand, Value};
 
 /// What is said of a value.
-#[derive(Clone, Copy, Debug)]
+#[derive(Clone, Copy)]
 pub enum Fact {
     /// It lies in an interval.
     Between {

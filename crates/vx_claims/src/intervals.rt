@@ -6,7 +6,7 @@ ghost use Rattle.vx_claims.specs.Facts.{always, and_within, answer_of, below_uns
 use vx_base::arithmetic::{Code, Compare, value};
 
 /// The numbers from one to another.
-#[derive(Clone, Copy, Debug)]
+#[derive(Clone, Copy)]
 pub struct Interval {
     pub low: i32,
     pub high: i32,

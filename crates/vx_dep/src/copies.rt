@@ -4,7 +4,7 @@ use vx_base::listed::Listed;
 use vx_flow::graph::{BlockId, Edge};
 
 /// The operations that are copied onto the edge by which a split leaves its trace.
-#[derive(Drop, Debug)]
+#[derive(Drop)]
 pub struct EdgeCopies {
     /// The place of the split in the clustered trace.
     pub split: u32,
@@ -17,7 +17,7 @@ pub struct EdgeCopies {
 }
 
 /// Where a joining edge enters the words of its trace, and what is copied onto it.
-#[derive(Drop, Debug)]
+#[derive(Drop)]
 pub struct Rejoin {
     /// The block of the join.
     pub block: BlockId,

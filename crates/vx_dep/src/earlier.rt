@@ -9,7 +9,7 @@ use vx_base::listed::Listed;
 use vx_base::outcome::NoMemory;
 
 /// An operation of a trace that another one below it has to stand behind.
-#[derive(Clone, Copy, Debug)]
+#[derive(Clone, Copy)]
 pub struct Earlier {
     /// Its place.
     pub place: u32,

@@ -13,7 +13,7 @@ use vx_base::outcome::NoMemory;
 use vx_flow::graph::Value;
 
 /// What is asked first of an operation.
-#[derive(Clone, Copy, Debug)]
+#[derive(Clone, Copy)]
 pub(crate) struct Key {
     /// The value that it writes. Where it writes none, a number that stands for no value that is read.
     pub(crate) written: u32,

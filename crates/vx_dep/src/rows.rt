@@ -8,7 +8,7 @@ use crate::mode::Mode;
 use crate::traits::{Traits, reads_written, write_alike};
 
 /// What is known of two operations of a trace, one above the other, by where they stand.
-#[derive(Clone, Copy, Debug)]
+#[derive(Clone, Copy)]
 pub(crate) struct Ways {
     /// No operation between them writes what the upper one writes.
     pub(crate) last: bool,

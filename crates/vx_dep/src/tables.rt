@@ -16,7 +16,7 @@ use vx_flow::trace::{Join, Trace, TraceOp};
 use vx_machine::Machine;
 
 /// What is known of an operation and of where it stands in its trace.
-#[derive(Clone, Copy, Debug)]
+#[derive(Clone, Copy)]
 pub(crate) struct Standing {
     /// What delays ask of it.
     pub(crate) traits: Traits,

@@ -14,7 +14,7 @@ use vx_machine::Machine;
 use vx_machine::items::Item;
 
 /// What delays ask of an operation.
-#[derive(Clone, Copy, Debug)]
+#[derive(Clone, Copy)]
 pub(crate) struct Traits {
     /// The value that it writes.
     pub(crate) written: Option<Value>,

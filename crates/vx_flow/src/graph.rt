@@ -18,7 +18,7 @@ pub type BlockId = u32;
 pub type ArrayId = u32;
 
 /// What an operation reads.
-#[derive(Clone, Copy, PartialEq, Eq, Debug)]
+#[derive(Clone, Copy, PartialEq, Eq)]
 pub enum Operand {
     /// What a general value holds.
     Held(Value),
@@ -29,7 +29,7 @@ pub enum Operand {
 }
 
 /// The kind of a value.
-#[derive(Clone, Copy, PartialEq, Eq, Debug)]
+#[derive(Clone, Copy, PartialEq, Eq)]
 pub enum Bank {
     /// A number of 32 bits.
     General,
@@ -38,7 +38,7 @@ pub enum Bank {
 }
 
 /// An operation of a block.
-#[derive(Clone, Copy, Debug)]
+#[derive(Clone, Copy)]
 pub enum Op {
     /// Arithmetic and compares. What stands as the right operand of a move is not read.
     Compute {
@@ -97,7 +97,7 @@ pub enum Op {
 }
 
 /// How a block ends.
-#[derive(Drop, Debug)]
+#[derive(Drop)]
 pub enum Exit {
     /// On to a block.
     Goto(BlockId),
@@ -121,14 +121,14 @@ pub enum Exit {
 }
 
 /// A block: its operations, one after the other, and its exit.
-#[derive(Drop, Debug)]
+#[derive(Drop)]
 pub struct Block {
     pub ops: Listed<Op>,
     pub exit: Exit,
 }
 
 /// An array, as a function sees it.
-#[derive(Clone, Copy, Debug)]
+#[derive(Clone, Copy)]
 pub struct Array {
     /// Its words.
     pub words: u32,
@@ -139,7 +139,7 @@ pub struct Array {
 }
 
 /// The graph of a function.
-#[derive(Drop, Debug)]
+#[derive(Drop)]
 pub struct Graph {
     /// The blocks by number.
     pub blocks: Listed<Block>,
@@ -152,7 +152,7 @@ pub struct Graph {
 }
 
 /// A global variable.
-#[derive(Clone, Copy, Debug)]
+#[derive(Clone, Copy)]
 pub struct Global {
     /// Its words.
     pub words: u32,
@@ -161,7 +161,7 @@ pub struct Global {
 }
 
 /// The graphs of a program.
-#[derive(Drop, Debug)]
+#[derive(Drop)]
 pub struct Flow {
     /// The functions by number.
     pub functions: Listed<Graph>,
@@ -174,7 +174,7 @@ pub struct Flow {
 }
 
 /// An edge from a block to a block.
-#[derive(Clone, Copy, PartialEq, Eq, Debug)]
+#[derive(Clone, Copy, PartialEq, Eq)]
 pub struct Edge {
     pub from: BlockId,
     pub to: BlockId,

@@ -11,7 +11,7 @@ use vx_base::listed::Listed;
 use vx_base::outcome::NoMemory;
 
 /// The values that an operation reads, in the order of its operands; the test of a choice is the first.
-#[derive(Clone, Copy, Debug)]
+#[derive(Clone, Copy)]
 pub struct Reads {
     pub first: Option<Value>,
     pub second: Option<Value>,

@@ -5,7 +5,7 @@ use crate::graph::{BlockId, Value};
 use vx_base::listed::Listed;
 
 /// A value that is read or written on a route.
-#[derive(Clone, Copy, Debug)]
+#[derive(Clone, Copy)]
 pub struct Touch {
     /// The value.
     pub value: Value,
@@ -14,7 +14,7 @@ pub struct Touch {
 }
 
 /// A route.
-#[derive(Drop, Debug)]
+#[derive(Drop)]
 pub struct Route {
     /// The node where it begins.
     pub from: BlockId,

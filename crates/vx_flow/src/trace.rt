@@ -4,7 +4,7 @@ use crate::graph::{Array, BlockId, Edge, Op, Value};
 use vx_base::listed::Listed;
 
 /// An operation of a trace.
-#[derive(Drop, Debug)]
+#[derive(Drop)]
 pub enum TraceOp {
     /// An operation of a block.
     Plain(Op),
@@ -22,7 +22,7 @@ pub enum TraceOp {
 }
 
 /// A block of a trace, not its first, to which edges lead from outside the trace.
-#[derive(Drop, Debug)]
+#[derive(Drop)]
 pub struct Join {
     /// How many operations of the trace stand above it.
     pub place: u32,
@@ -33,7 +33,7 @@ pub struct Join {
 }
 
 /// A trace.
-#[derive(Drop, Debug)]
+#[derive(Drop)]
 pub struct Trace {
     /// The number of the function.
     pub function: u32,
@@ -52,7 +52,7 @@ pub struct Trace {
 }
 
 /// A trace with a cluster for each of its operations, and with the copies that they need.
-#[derive(Drop, Debug)]
+#[derive(Drop)]
 pub struct Clustered {
     pub trace: Trace,
     /// The cluster of each operation.
@@ -60,7 +60,7 @@ pub struct Clustered {
 }
 
 /// A clustered trace with a word for each of its operations.
-#[derive(Drop, Debug)]
+#[derive(Drop)]
 pub struct Placed {
     pub clustered: Clustered,
     /// The word of each operation, from 0.
@@ -71,7 +71,7 @@ pub struct Placed {
 
 /// The clusters on which values stand: a finite map from values to clusters, as the list of what the values 0, 1, ..
 /// have. A value beyond the list has no home.
-#[derive(Drop, Debug)]
+#[derive(Drop)]
 pub struct Homes {
     pub clusters: Listed<Option<u32>>,
 }

@@ -4,7 +4,7 @@ use crate::operation::Operation;
 use vx_base::listed::{Bytes, Listed};
 
 /// A word: the operations that are issued in one cycle, or a number of empty cycles.
-#[derive(Drop, Debug)]
+#[derive(Drop)]
 pub struct Word {
     /// The operations, in the order of the list.
     pub ops: Listed<Operation>,
@@ -13,7 +13,7 @@ pub struct Word {
 }
 
 /// A program of words. It starts at word 0.
-#[derive(Drop, Debug)]
+#[derive(Drop)]
 pub struct WordProgram {
     /// The bytes of the memory.
     pub memory: u32,

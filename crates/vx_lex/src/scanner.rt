@@ -10,7 +10,7 @@ use vx_ast::fault::SourceFault;
 use vx_ast::token::{Piece, Token, TokenKind};
 
 /// A place in a source.
-#[derive(Clone, Copy, Debug)]
+#[derive(Clone, Copy)]
 pub struct Spot {
     /// How many bytes stand before it.
     pub place: usize,

@@ -11,14 +11,14 @@ use vx_base::arithmetic::{Code, value};
 use vx_flow::graph::Operand;
 
 /// An operand of a half multiplication: its form, and the number that it is, if it is one.
-#[derive(Drop, Debug)]
+#[derive(Drop)]
 pub(crate) struct Factor {
     pub(crate) number: Option<i32>,
     pub(crate) linear: Linear,
 }
 
 /// A half multiplication, by the high or the low half of its right operand.
-#[derive(Drop, Debug)]
+#[derive(Drop)]
 pub(crate) struct Half {
     pub(crate) is_high: bool,
     pub(crate) left: Factor,
@@ -26,14 +26,14 @@ pub(crate) struct Half {
 }
 
 /// What is known of a value: its form, and the half multiplication that made it, if one did.
-#[derive(Drop, Debug)]
+#[derive(Drop)]
 pub(crate) struct Known {
     pub(crate) linear: Linear,
     pub(crate) half: Option<Half>,
 }
 
 /// An operand, and what is known of it.
-#[derive(Drop, Debug)]
+#[derive(Drop)]
 pub(crate) struct Read {
     pub(crate) operand: Operand,
     pub(crate) known: Known,

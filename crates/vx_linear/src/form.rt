@@ -9,7 +9,7 @@ use vx_flow::graph::{Array, Value};
 
 /// What stands for a number that a form does not follow further. Symbols ascend as they stand here, and then by their
 /// numbers.
-#[derive(Clone, Copy, PartialEq, Eq, Debug)]
+#[derive(Clone, Copy, PartialEq, Eq)]
 pub enum Symbol {
     /// What a value holds at the start of the trace.
     Entry(Value),
@@ -61,7 +61,7 @@ impl Symbol {
 }
 
 /// A symbol with its factor.
-#[derive(Clone, Copy, PartialEq, Eq, Debug)]
+#[derive(Clone, Copy, PartialEq, Eq)]
 pub struct Term {
     /// The symbol.
     pub symbol: Symbol,
@@ -70,7 +70,7 @@ pub struct Term {
 }
 
 /// The index form of an access.
-#[derive(Drop, Debug)]
+#[derive(Drop)]
 pub struct Form {
     /// The array of the access.
     pub array: Array,

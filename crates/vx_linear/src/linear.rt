@@ -15,7 +15,7 @@ use vx_base::arithmetic::{add32, mul32};
 use vx_base::listed::Listed;
 
 /// A constant and a sum of symbols with factors, the symbols ascending.
-#[derive(Drop, Debug)]
+#[derive(Drop)]
 pub(crate) struct Linear {
     pub(crate) constant: i32,
     pub(crate) terms: Listed<Term>,

@@ -10,7 +10,7 @@ use vx_flow::trace::TraceOp;
 use vx_isa::operation::{UnitKind, unit_of_code};
 
 /// What a word of a trace can hold.
-#[derive(Clone, Copy, Debug)]
+#[derive(Clone, Copy)]
 pub enum Item {
     /// An operation on values.
     Plain(Op),
@@ -19,7 +19,7 @@ pub enum Item {
 }
 
 /// An item with the cluster on which it stands.
-#[derive(Clone, Copy, Debug)]
+#[derive(Clone, Copy)]
 pub struct ClusteredItem {
     /// The cluster, from 0.
     pub cluster: u32,

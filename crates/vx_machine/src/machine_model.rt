@@ -13,7 +13,7 @@ use vx_flow::graph::Op;
 use vx_isa::operation::Operation;
 
 /// The numbers of a machine. All counts but `clusters` and `copy_paths` are per cluster.
-#[derive(Clone, Copy, PartialEq, Eq, Debug)]
+#[derive(Clone, Copy, PartialEq, Eq)]
 pub struct Machine {
     pub(crate) clusters: u32,
     pub(crate) issue: u32,

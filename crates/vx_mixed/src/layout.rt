@@ -6,7 +6,7 @@ use vx_flow::graph::{Bank, Op, Operand, Value};
 use vx_flow::trace::Homes;
 
 /// What stands in a word of a region that is laid out.
-#[derive(Clone, Copy, Debug)]
+#[derive(Clone, Copy)]
 pub enum Laid {
     /// An operation, and the cluster on which it is done.
     Plain {
@@ -22,7 +22,7 @@ pub enum Laid {
 }
 
 /// A word of a function that is laid out.
-#[derive(Drop, Debug)]
+#[derive(Drop)]
 pub enum VirtualWord {
     /// A word of a region, by the region's number and the word's in it.
     Planned {
@@ -52,7 +52,7 @@ pub enum VirtualWord {
 }
 
 /// A function that is laid out.
-#[derive(Drop, Debug)]
+#[derive(Drop)]
 pub struct VWords {
     /// The bank of each value of the function's graph.
     pub banks: Listed<Bank>,

@@ -8,7 +8,7 @@ use vx_flow::graph::{Array, Bank, BlockId, Edge, Value};
 use vx_flow::trace::Homes;
 
 /// A graph of blocks and regions.
-#[derive(Drop, Debug)]
+#[derive(Drop)]
 pub struct MixedGraph {
     /// The number of the function.
     pub function: u32,

@@ -11,7 +11,7 @@ const MOST_NODES: usize = 4294967295;
 
 /// A growable list of nodes. Its value in a contract is the list of them, that of block 0 first. A growth past its room is
 /// want of memory.
-#[derive(Drop, Debug)]
+#[derive(Drop)]
 pub struct Nodes {
     nodes: Vec<Node>,
 }

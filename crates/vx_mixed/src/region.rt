@@ -5,7 +5,7 @@ use vx_base::listed::Listed;
 use vx_flow::graph::{Block, BlockId, Edge, Exit, Op, Value};
 
 /// What stands in a word of a region.
-#[derive(Clone, Copy, Debug)]
+#[derive(Clone, Copy)]
 pub enum Item {
     /// An operation, and the cluster on which it is done.
     Plain {
@@ -23,7 +23,7 @@ pub enum Item {
 }
 
 /// A region: the words of a trace.
-#[derive(Drop, Debug)]
+#[derive(Drop)]
 pub struct Region {
     /// The blocks of the trace, in its order.
     pub blocks: Listed<BlockId>,
@@ -38,7 +38,7 @@ pub struct Region {
 }
 
 /// What an edge to a block comes to.
-#[derive(Drop, Debug)]
+#[derive(Drop)]
 pub enum Node {
     /// A block that is in no region yet.
     Unused(Block),
@@ -49,7 +49,7 @@ pub enum Node {
 }
 
 /// Where the operations of a made block come from.
-#[derive(Drop, Debug)]
+#[derive(Drop)]
 pub struct Origin {
     /// The edge on which the block was made.
     pub edge: Edge,
@@ -60,7 +60,7 @@ pub struct Origin {
 }
 
 /// A block that is to be made: copies of operations on an edge.
-#[derive(Drop, Debug)]
+#[derive(Drop)]
 pub struct Made {
     pub edge: Edge,
     pub ops: Listed<Op>,

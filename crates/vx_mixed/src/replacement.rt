@@ -6,7 +6,7 @@ use vx_base::listed::Listed;
 use vx_flow::trace::{Homes, Trace};
 
 /// A trace that becomes a region.
-#[derive(Drop, Debug)]
+#[derive(Drop)]
 pub struct Replacement {
     /// The trace, with the copies of values that its clusters need.
     pub trace: Trace,

@@ -11,7 +11,7 @@ use vx_claims::known::{has_equals, range_of};
 use vx_flow::graph::{Op, Operand, Value};
 
 /// Two operands of which a product is made.
-#[derive(Clone, Copy, Debug)]
+#[derive(Clone, Copy)]
 pub struct Factors {
     pub left: Operand,
     pub right: Operand,

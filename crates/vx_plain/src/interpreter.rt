@@ -27,7 +27,7 @@ const DEEPEST: u32 = 512;
 const ROOM: u32 = 20000;
 
 /// How a run comes to its end.
-#[derive(Clone, Copy, PartialEq, Eq, Debug)]
+#[derive(Clone, Copy, PartialEq, Eq)]
 pub enum End {
     /// `main` gave this result.
     Result(i32),
@@ -38,7 +38,7 @@ pub enum End {
 }
 
 /// What a program did.
-#[derive(Drop, Debug)]
+#[derive(Drop)]
 pub struct Ending {
     /// How it came to its end.
     pub end: End,

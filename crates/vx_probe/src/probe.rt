@@ -32,7 +32,7 @@ pub trait Probe: Drop {
 }
 
 /// Counts words, and cycles up to the one behind the last word's first. Each count stays at the greatest `u64`.
-#[derive(Drop, Debug)]
+#[derive(Drop)]
 pub struct WordCount {
     words: u64,
     cycles: u64,
@@ -74,7 +74,7 @@ impl Probe for WordCount {
 
 /// Sums up the operations of each kind: those of an ALU, a multiplier, a memory unit, a copy path and the control place.
 /// Each sum stays at the greatest `u64`, and one of more than ten digits is reported as 9999999999.
-#[derive(Drop, Debug)]
+#[derive(Drop)]
 pub struct UnitUse {
     alu: u64,
     multiply: u64,

@@ -26,15 +26,15 @@ pub trait Timing: Drop {
 }
 
 /// Every result lands as late as its latency lets it: the list of the one number 16, the greatest latency.
-#[derive(Drop, Debug)]
+#[derive(Drop)]
 pub struct Late;
 
 /// Every result lands one cycle after its issue: the list of the one number 1.
-#[derive(Drop, Debug)]
+#[derive(Drop)]
 pub struct Early;
 
 /// Results land by the numbers of a list, one after the other, and behind the last by the first again.
-#[derive(Drop, Debug)]
+#[derive(Drop)]
 pub struct Cyclic {
     list: Vec<u32>,
     /// The place of the number that comes next, from 0.

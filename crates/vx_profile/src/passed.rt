@@ -3,7 +3,7 @@
 use vx_flow::graph::BlockId;
 
 /// A block or an edge of a function.
-#[derive(Clone, Copy, PartialEq, Eq, Debug)]
+#[derive(Clone, Copy, PartialEq, Eq)]
 pub enum Passed {
     Block {
         function: u32,

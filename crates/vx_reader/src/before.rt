@@ -9,7 +9,7 @@ use vx_isa::operation::Operation;
 use vx_isa::program::Word;
 
 /// What stood last.
-#[derive(Clone, Copy, PartialEq, Eq, Debug)]
+#[derive(Clone, Copy, PartialEq, Eq)]
 pub enum Stage {
     /// Nothing.
     Start,
@@ -30,7 +30,7 @@ pub enum Stage {
 }
 
 /// What stood before a line.
-#[derive(Drop, Debug)]
+#[derive(Drop)]
 pub struct Before {
     pub stage: Stage,
     /// The bytes of the memory.

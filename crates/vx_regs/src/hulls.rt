@@ -8,7 +8,7 @@ use vx_base::outcome::NoMemory;
 use vx_flow::graph::Value;
 
 /// The first and the last of some places.
-#[derive(Clone, Copy, Debug)]
+#[derive(Clone, Copy)]
 pub struct Hull {
     pub from: u32,
     pub to: u32,

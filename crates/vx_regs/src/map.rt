@@ -3,7 +3,7 @@
 use vx_base::listed::Listed;
 
 /// Where a value is kept.
-#[derive(Clone, Copy, Debug)]
+#[derive(Clone, Copy)]
 pub enum Kept {
     /// In the register of this number, of the value's bank and of the cluster on which it stands.
     InRegister(u32),
@@ -14,7 +14,7 @@ pub enum Kept {
 }
 
 /// Where each value of a function is kept, and each copy of one, by its number. A value beyond the list is kept nowhere.
-#[derive(Drop, Debug)]
+#[derive(Drop)]
 pub struct RegMap {
     pub values: Listed<Kept>,
 }

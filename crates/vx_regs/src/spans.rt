@@ -3,7 +3,7 @@
 
 /// The span of a value. Files are numbered: 0 has the branch registers, those behind it the general registers of cluster 0, of
 /// cluster 1 and so on.
-#[derive(Clone, Copy, Debug)]
+#[derive(Clone, Copy)]
 pub struct Span {
     /// The number of the file.
     pub file: u32,

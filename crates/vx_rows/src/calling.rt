@@ -11,7 +11,7 @@ use vx_driver::top::vexc;
 use vx_probe::{Cyclic, Early, Late, Probe, Timing, UnitUse, WordCount};
 
 /// What a call left.
-#[derive(Drop, Debug)]
+#[derive(Drop)]
 pub struct Outcome {
     /// Its status.
     pub status: u8,

@@ -8,7 +8,7 @@ use vx_base::depot::{Depot, MemDepot};
 use vx_base::outcome::NoMemory;
 
 /// A file.
-#[derive(Drop, Debug)]
+#[derive(Drop)]
 pub struct Stored {
     /// Its name.
     pub name: String,

@@ -6,7 +6,7 @@ use vx_base::outcome::NoMemory;
 use vx_base::sink::SinkFault;
 
 /// Why the program cannot go on.
-#[derive(Clone, Copy, PartialEq, Eq, Debug)]
+#[derive(Clone, Copy, PartialEq, Eq)]
 pub enum Halt {
     /// Memory is wanted and not there.
     NoMemory,

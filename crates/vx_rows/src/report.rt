@@ -18,7 +18,7 @@ const MOST_LINES: u32 = 20;
 const MOST_BYTES: usize = 2000;
 
 /// How many rows and calls there were, and how many of the rows differ.
-#[derive(Clone, Copy, PartialEq, Eq, Debug)]
+#[derive(Clone, Copy, PartialEq, Eq)]
 pub struct Tally {
     /// The rows.
     pub rows: u64,

@@ -1,7 +1,7 @@
 // A file of rows as the list of its statements, and what a statement speaks of.
 
 /// One of the two outputs of a call.
-#[derive(Clone, Copy, PartialEq, Eq, Debug)]
+#[derive(Clone, Copy, PartialEq, Eq)]
 pub enum Stream {
     /// The output.
     Out,
@@ -10,7 +10,7 @@ pub enum Stream {
 }
 
 /// What may be told to fail.
-#[derive(Clone, Copy, PartialEq, Eq, Debug)]
+#[derive(Clone, Copy, PartialEq, Eq)]
 pub enum Faulty {
     /// The calls of the depot.
     Depot,
@@ -19,7 +19,7 @@ pub enum Faulty {
 }
 
 /// The boxes that are handed in.
-#[derive(Clone, Copy, PartialEq, Eq, Debug)]
+#[derive(Clone, Copy, PartialEq, Eq)]
 pub struct Boxes {
     /// The timing `late`.
     pub late: bool,
@@ -34,7 +34,7 @@ pub struct Boxes {
 }
 
 /// What a line that is no content says.
-#[derive(Drop, Debug)]
+#[derive(Drop)]
 pub enum What {
     /// A row of this name begins.
     Row(String),
@@ -63,7 +63,7 @@ pub enum What {
 }
 
 /// What may stand behind the bytes of a line of content, beside what the next one gives.
-#[derive(Clone, Copy, PartialEq, Eq, Debug)]
+#[derive(Clone, Copy, PartialEq, Eq)]
 pub enum Behind {
     /// Nothing.
     Nothing,
@@ -76,7 +76,7 @@ pub enum Behind {
 }
 
 /// A line's worth of content.
-#[derive(Drop, Debug)]
+#[derive(Drop)]
 pub struct Piece {
     /// Its bytes.
     pub bytes: Vec<u8>,
@@ -85,7 +85,7 @@ pub struct Piece {
 }
 
 /// A line that is no content, with the content behind it.
-#[derive(Drop, Debug)]
+#[derive(Drop)]
 pub struct Statement {
     /// The number of the line, from 1.
     pub line: usize,
@@ -96,7 +96,7 @@ pub struct Statement {
 }
 
 /// What a statement speaks of. Of two statements on the same thing one holds.
-#[derive(Clone, Copy, PartialEq, Eq, Debug)]
+#[derive(Clone, Copy, PartialEq, Eq)]
 pub enum Topic<'a> {
     /// A row, a call or a file before the call: each is for itself.
     Own,

@@ -3,7 +3,7 @@
 use std::alloc::{AllocError, AllocFailed};
 
 /// What is wrong with a line of a file of rows.
-#[derive(Clone, Copy, PartialEq, Eq, Debug)]
+#[derive(Clone, Copy, PartialEq, Eq)]
 pub enum Why {
     /// Memory is wanted and not there.
     NoMemory,
@@ -67,7 +67,7 @@ impl<T: Drop> From<AllocFailed<T>> for Why {
 }
 
 /// A text that is no file of rows: its first wrong line, from 1, and what is wrong with it.
-#[derive(Clone, Copy, PartialEq, Eq, Debug)]
+#[derive(Clone, Copy, PartialEq, Eq)]
 pub struct Misread {
     /// The number of the line.
     pub line: usize,

@@ -12,7 +12,7 @@ use vx_base::outcome::NoMemory;
 use vx_dep::Deps;
 
 /// A place of a trace with the number by which it is sorted.
-#[derive(Clone, Copy, Debug)]
+#[derive(Clone, Copy)]
 pub(crate) struct Ranked {
     pub(crate) place: u32,
     pub(crate) rank: u64,

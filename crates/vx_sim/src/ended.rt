@@ -3,7 +3,7 @@
 use vx_base::outcome::{Reason, Trap};
 
 /// How a call of `Sim::run` ended.
-#[derive(Clone, Copy, PartialEq, Eq, Debug)]
+#[derive(Clone, Copy, PartialEq, Eq)]
 pub enum Ended {
     /// `halt` was issued, with this result.
     Halted(i32),

@@ -6,7 +6,7 @@ ghost use Rattle.vx_sim.specs.Named.{is_register};
 use vx_isa::operation::Register;
 
 /// A write in flight.
-#[derive(Clone, Copy, Drop, Debug)]
+#[derive(Clone, Copy, Drop)]
 pub(crate) struct Flight {
     /// The register that is written, one that a text can name.
     pub(crate) to: Register,

@@ -10,7 +10,7 @@ ghost use Rattle.vx_sim.specs.Named.{is_register};
 use vx_isa::operation::{BranchRegister, GeneralRegister, Register};
 
 /// The registers that a word text can name.
-#[derive(Drop, Debug)]
+#[derive(Drop)]
 pub(crate) struct Registers {
     general: [i32; 256],
     branch: [i32; 32],

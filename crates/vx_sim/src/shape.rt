@@ -12,7 +12,7 @@ use vx_isa::program::Word;
 use vx_machine::{Machine, fits, is_bad_word};
 
 /// How many operations of a word take each kind of unit.
-#[derive(Clone, Copy, Drop, Debug)]
+#[derive(Clone, Copy, Drop)]
 pub(crate) struct UnitCounts {
     pub(crate) alu: u32,
     pub(crate) multiply: u32,
@@ -22,7 +22,7 @@ pub(crate) struct UnitCounts {
 }
 
 /// What a word is whatever the state.
-#[derive(Clone, Copy, Drop, Debug)]
+#[derive(Clone, Copy, Drop)]
 pub(crate) struct Shape {
     /// The reason for which it is stuck wherever it is issued.
     pub(crate) unfit: Option<Reason>,

@@ -21,7 +21,7 @@ use vx_machine::Machine;
 use vx_probe::{Probe, Timing};
 
 /// A simulator of a program of words on a machine.
-#[derive(Drop, Debug)]
+#[derive(Drop)]
 pub struct Sim {
     program: WordProgram,
     machine: Machine,

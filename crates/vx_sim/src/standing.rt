@@ -9,7 +9,7 @@ use vx_base::arithmetic::{add32, unsigned32, value};
 use vx_isa::operation::{BranchRegister, GeneralRegister, Operation, Register, Source};
 
 /// All that words read and change, but for the writes in flight.
-#[derive(Drop, Debug)]
+#[derive(Drop)]
 pub(crate) struct Standing {
     /// The place of the word to be issued.
     pub(crate) place: u32,

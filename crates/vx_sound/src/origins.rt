@@ -9,7 +9,7 @@ use vx_flow::graph::{Array, ArrayId, Graph, Op, Value};
 use vx_flow::named::is_local;
 
 /// Which array a value is a place of, and where a place that writes it stands.
-#[derive(Clone, Copy, Debug)]
+#[derive(Clone, Copy)]
 pub struct Origin {
     /// The array.
     pub array: ArrayId,

@@ -5,7 +5,7 @@ use vx_base::outcome::Trap;
 use vx_flow::graph::{BlockId, Value};
 
 /// How a run ends.
-#[derive(Clone, Copy, PartialEq, Eq, Debug)]
+#[derive(Clone, Copy, PartialEq, Eq)]
 pub enum Ending {
     /// `main` returned this result.
     Ends(i32),
@@ -16,7 +16,7 @@ pub enum Ending {
 }
 
 /// What a run within a bound came to.
-#[derive(Drop, Debug)]
+#[derive(Drop)]
 pub struct Ran {
     /// How it ended; `None` where it goes on.
     pub ending: Option<Ending>,

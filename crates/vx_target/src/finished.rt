@@ -4,14 +4,14 @@ use vx_base::listed::Listed;
 use vx_isa::program::WordProgram;
 
 /// The places of the words of a region.
-#[derive(Drop, Debug)]
+#[derive(Drop)]
 pub struct TracePlaces {
     /// For each word of the region, in order, the place in the program of the word that has its operations.
     pub places: Listed<u32>,
 }
 
 /// A program of words, and where the words of its regions stand.
-#[derive(Drop, Debug)]
+#[derive(Drop)]
 pub struct Finished {
     /// The program.
     pub program: WordProgram,

@@ -13,7 +13,7 @@ use vx_profile::counts::Counts;
 use vx_replace::Mixed;
 
 /// The best of several blocks, or of several edges at a block.
-#[derive(Clone, Copy, Debug)]
+#[derive(Clone, Copy)]
 pub struct Best {
     /// The block, or the other block of the edge.
     pub other: BlockId,
