@@ -3,8 +3,8 @@
 //
 // Functions are gone over such that a function comes behind those that call it. What its calls pass is then known, and the claims
 // of its blocks are looked for with that. A function that calls itself is given what others pass to it where its own calls stay in
-// that, else that up to the next numbers with which it compares. Where functions call each other in a ring, nothing is given of the
-// first of them.
+// that, else that up to the next numbers with which it compares, else what others pass to the parameters that its own calls keep, and
+// at the end nothing. Where functions call each other in a ring, nothing is given of the first of them.
 
 ghost use Rattle.std.specs.Prelude.{◌≡◌, IfOk, length};
 ghost use Rattle.vx_search.specs.Rows.{HasRows, SameRows};
@@ -26,7 +26,7 @@ use vx_flow::graph::{Block, Exit, Graph, Operand};
 /// How many facts of all claims are kept at most. The claims of the other functions are looked for once more.
 const MOST_KEPT: usize = 1_000_000;
 
-/// How often the claims of a function that passes itself more are looked for.
+/// How often the claims of a function that passes itself more are looked for before nothing is given.
 const MOST_TURNS: u32 = 4;
 
 /// In how many turns what it passes itself is taken up to the next number with which it compares.
@@ -336,14 +336,18 @@ fn settle(
     graph: &Graph,
     rounds: u32,
 ) -> Result<Settled, NoMemory> {
+    let begun = row_of(alloc, calls, function, graph.parameters.len())?;
     let mut row = row_of(alloc, calls, function, graph.parameters.len())?;
     for turn in 0..MOST_TURNS {
         let claims = passing_on(alloc, calls, graph, row.as_slice(), rounds)?;
-        let wider = wider_row(alloc, calls, function, graph, row.as_slice(), turn)?;
-        if are_same(row.as_slice(), wider.as_slice()) {
+        if is_all_inside(calls, function, row.as_slice()) {
             return Ok(Settled { row, claims });
         }
-        row = wider;
+        row = if turn < COMPARED_TURNS {
+            row_to_compared(alloc, calls, function, graph, row.as_slice())?
+        } else {
+            row_kept(alloc, calls, function, begun.as_slice())?
+        };
     }
     give_up(calls, function, graph.parameters.len());
     nothing_given(alloc, calls, graph, rounds)
@@ -425,43 +429,48 @@ fn put_hull(calls: &mut Calls, function: usize, place: usize, within: Interval) 
     }
 }
 
-/// A row that is wider where more than it says was passed: up to the next numbers with which the function compares in the first turns,
-/// and then up to every number.
-fn wider_row(
+/// Whether what was passed lies in a row.
+fn is_all_inside(calls: &Calls, function: usize, row: &[Interval]) -> bool {
+    for (place, within) in row.iter().enumerate() {
+        if !is_inside(hull_at(calls, function, place), *within) {
+            return false;
+        }
+    }
+    true
+}
+
+/// A row whose ends are at the next numbers with which the function compares where more than it says was passed.
+fn row_to_compared(
     alloc: Global,
     calls: &Calls,
     function: usize,
     graph: &Graph,
     row: &[Interval],
-    turn: u32,
 ) -> Result<Listed<Interval>, NoMemory> {
     let mut wider = Listed::new(alloc);
     for (place, within) in row.iter().enumerate() {
         let passed = hull_at(calls, function, place);
-        if is_inside(passed, *within) {
-            wider.push(*within)?;
-        } else if turn < COMPARED_TURNS {
-            wider.push(up_to_compared(graph.blocks.as_slice(), passed))?;
-        } else {
-            wider.push(full())?;
-        }
+        wider.push(up_to_compared(graph.blocks.as_slice(), *within, passed))?;
     }
     Ok(wider)
 }
 
-/// Whether each interval lies in that at the same place.
-fn are_same(row: &[Interval], left: &[Interval]) -> bool {
-    for (place, within) in left.iter().enumerate() {
-        match row.get(place) {
-            Some(before) => {
-                if !is_inside(*within, *before) {
-                    return false;
-                }
-            }
-            None => return false,
+/// What is left of a row: nothing where more than it says was passed.
+fn row_kept(
+    alloc: Global,
+    calls: &Calls,
+    function: usize,
+    row: &[Interval],
+) -> Result<Listed<Interval>, NoMemory> {
+    let mut left = Listed::new(alloc);
+    for (place, within) in row.iter().enumerate() {
+        if is_inside(hull_at(calls, function, place), *within) {
+            left.push(*within)?;
+        } else {
+            left.push(full())?;
         }
     }
-    true
+    Ok(left)
 }
 
 /// Keeps what was found for a function, the claims only where they are not too many.

@@ -4,11 +4,29 @@ use vx_base::arithmetic::Code;
 use vx_claims::intervals::Interval;
 use vx_flow::graph::{Block, Op, Operand};
 
-/// The interval with its ends at the next numbers with which the blocks compare, or 0; without a bound where there is none.
-pub(crate) fn up_to_compared(blocks: &[Block], within: Interval) -> Interval {
-    let mut wider = Interval {
-        low: if within.low < 0 { i32::MIN } else { 0 },
-        high: if within.high > 0 { i32::MAX } else { 0 },
+/// The interval, where what was passed goes past an end with that end at the next number with which the blocks compare, or 0; without
+/// a bound where there is none.
+pub(crate) fn up_to_compared(blocks: &[Block], within: Interval, passed: Interval) -> Interval {
+    let next = next_compared(blocks, passed);
+    Interval {
+        low: if passed.low < within.low {
+            next.low
+        } else {
+            within.low
+        },
+        high: if passed.high > within.high {
+            next.high
+        } else {
+            within.high
+        },
+    }
+}
+
+/// The next numbers with which the blocks compare, or 0, below and above an interval.
+fn next_compared(blocks: &[Block], passed: Interval) -> Interval {
+    let mut next = Interval {
+        low: if passed.low < 0 { i32::MIN } else { 0 },
+        high: if passed.high > 0 { i32::MAX } else { 0 },
     };
     for block in blocks {
         for op in block.ops.as_slice() {
@@ -19,30 +37,30 @@ pub(crate) fn up_to_compared(blocks: &[Block], within: Interval) -> Interval {
                     right,
                     ..
                 } => {
-                    wider = nearer(nearer(wider, within, *left), within, *right);
+                    next = nearer(nearer(next, passed, *left), passed, *right);
                 }
                 _ => {}
             }
         }
     }
-    wider
+    next
 }
 
-/// The ends at a number where it is nearer to the interval.
-fn nearer(wider: Interval, within: Interval, operand: Operand) -> Interval {
+/// The ends at a number where it is nearer to what was passed.
+fn nearer(next: Interval, passed: Interval, operand: Operand) -> Interval {
     match operand {
         Operand::Number(number) => Interval {
-            low: if number <= within.low && number > wider.low {
+            low: if number <= passed.low && number > next.low {
                 number
             } else {
-                wider.low
+                next.low
             },
-            high: if number >= within.high && number < wider.high {
+            high: if number >= passed.high && number < next.high {
                 number
             } else {
-                wider.high
+                next.high
             },
         },
-        _ => wider,
+        _ => next,
     }
 }
