@@ -5,6 +5,7 @@ use crate::settling::{computed, number_in};
 use std::alloc::Global;
 use vx_base::outcome::NoMemory;
 use vx_flow::graph::{Block, Exit, Graph, Op, Value};
+use vx_flow::operands::written_by;
 
 /// How often the blocks are gone through at most.
 const MOST_PASSES: u32 = 16;
@@ -46,15 +47,9 @@ fn count_blocks(writers: &mut Vec<u32>, blocks: &[Block]) {
 
 fn count_ops(writers: &mut Vec<u32>, ops: &[Op]) {
     for op in ops {
-        match op {
-            Op::Compute { to, .. } => count(writers, *to, 1),
-            Op::Select { to, .. } => count(writers, *to, 1),
-            Op::Place { to, .. } => count(writers, *to, 1),
-            Op::Load { to, .. } => count(writers, *to, 1),
-            Op::More { to } => count(writers, *to, 1),
-            Op::Input { to } => count(writers, *to, 1),
-            Op::Across { to, .. } => count(writers, *to, 1),
-            _ => {}
+        match written_by(op) {
+            Some(to) => count(writers, to, 1),
+            None => {}
         }
     }
 }

@@ -6,6 +6,7 @@ use vx_base::arithmetic::Code;
 use vx_base::listed::Listed;
 use vx_base::outcome::NoMemory;
 use vx_flow::graph::{Bank, Block, BlockId, Exit, Graph, Op, Operand, Value};
+use vx_flow::operands::{held_by, read_by, written_by};
 use vx_loops::{Loops, loop_at, loops_of, spine_of};
 
 /// How many operations are put before a loop at most.
@@ -105,64 +106,26 @@ fn name(named: &mut Vec<bool>, value: Value) {
     }
 }
 
-fn name_operand(named: &mut Vec<bool>, operand: Operand) {
-    match operand {
-        Operand::Held(value) => name(named, value),
-        _ => {}
+fn name_if(named: &mut Vec<bool>, value: Option<Value>) {
+    match value {
+        Some(value) => name(named, value),
+        None => {}
     }
 }
 
 fn name_block(named: &mut Vec<bool>, block: &Block) {
     for op in block.ops.as_slice() {
-        name_op(named, *op);
+        name_op(named, op);
     }
     name_exit(named, &block.exit);
 }
 
-fn name_op(named: &mut Vec<bool>, op: Op) {
-    match op {
-        Op::Compute {
-            to,
-            left,
-            right,
-            ..
-        } => {
-            name(named, to);
-            name_operand(named, left);
-            name_operand(named, right);
-        }
-        Op::Select {
-            to,
-            test,
-            left,
-            right,
-        } => {
-            name(named, to);
-            name(named, test);
-            name_operand(named, left);
-            name_operand(named, right);
-        }
-        Op::Place { to, index, .. } => {
-            name(named, to);
-            name_operand(named, index);
-        }
-        Op::Load { to, place, .. } => {
-            name(named, to);
-            name_operand(named, place);
-        }
-        Op::Store { place, from, .. } => {
-            name_operand(named, place);
-            name_operand(named, from);
-        }
-        Op::More { to } => name(named, to),
-        Op::Input { to } => name(named, to),
-        Op::Text { .. } => {}
-        Op::Decimal { from } => name_operand(named, from),
-        Op::Across { to, from } => {
-            name(named, to);
-            name(named, from);
-        }
-    }
+fn name_op(named: &mut Vec<bool>, op: &Op) {
+    let read = read_by(op);
+    name_if(named, written_by(op));
+    name_if(named, read.first);
+    name_if(named, read.second);
+    name_if(named, read.third);
 }
 
 fn name_exit(named: &mut Vec<bool>, exit: &Exit) {
@@ -174,14 +137,11 @@ fn name_exit(named: &mut Vec<bool>, exit: &Exit) {
             ..
         } => {
             for argument in arguments.as_slice() {
-                name_operand(named, *argument);
+                name_if(named, held_by(argument));
             }
-            match held {
-                Some(value) => name(named, *value),
-                None => {}
-            }
+            name_if(named, *held);
         }
-        Exit::Return(operand) => name_operand(named, *operand),
+        Exit::Return(operand) => name_if(named, held_by(operand)),
         _ => {}
     }
 }

@@ -8,6 +8,7 @@ use vx_claims::intervals::{
 use vx_claims::learning::is_held;
 use vx_flow::graph::{Block, BlockId, Exit, Op, Operand, Value};
 use vx_flow::live_rows::Live;
+use vx_flow::operands::written_by;
 
 /// What is noted of a block.
 #[derive(Clone, Copy)]
@@ -199,11 +200,10 @@ fn step(tables: &mut Tables, op: Op) {
             put_range(tables, to, interval);
         }
         Op::More { to } => put_range(tables, to, bit()),
-        Op::Select { to, .. } => put_range(tables, to, full()),
-        Op::Load { to, .. } => put_range(tables, to, full()),
-        Op::Input { to } => put_range(tables, to, full()),
-        Op::Across { to, .. } => put_range(tables, to, full()),
-        _ => {}
+        _ => match written_by(&op) {
+            Some(to) => put_range(tables, to, full()),
+            None => {}
+        },
     }
 }
 
@@ -260,14 +260,10 @@ fn tested_after(before: Option<Tested>, test: Value, op: Op) -> Option<Tested> {
                 before
             }
         }
-        Op::Compute { to, .. } => kept(before, to),
-        Op::Select { to, .. } => kept(before, to),
-        Op::Place { to, .. } => kept(before, to),
-        Op::Load { to, .. } => kept(before, to),
-        Op::More { to } => kept(before, to),
-        Op::Input { to } => kept(before, to),
-        Op::Across { to, .. } => kept(before, to),
-        _ => before,
+        _ => match written_by(&op) {
+            Some(to) => kept(before, to),
+            None => before,
+        },
     }
 }
 

@@ -8,9 +8,12 @@ use Rattle.vx_ast.specs.Meaning.{source}
 use Rattle.vx_flow.specs.declared.graph.Op.{Op}
 use Rattle.vx_flow.specs.declared.graph.Operand.{Operand}
 use Rattle.vx_flow.specs.declared.graph.Block.{Block}
+use Rattle.vx_flow.specs.declared.operands.Reads.{Reads}
 use Rattle.vx_flow.specs.declared.graph.Graph.{Graph}
 use Rattle.vx_flow.specs.declared.graph.Flow.{Flow}
 use Rattle.vx_flow.specs.Effects.{reads, value_in}
+use Rattle.vx_flow.specs.Operands.{read_by, values_read}
+use Rattle.vx_flow.proofs.OperandLaws.{reads_listed}
 use Rattle.vx_flow.specs.Live.{reads_of_exit}
 use Rattle.vx_flow.specs.Meaning.{graph_run}
 use Rattle.vx_flow.specs.Sound.{is_sound_flow}
@@ -147,6 +150,9 @@ read_both unread (x ∷ xs) ys = by (not (unread x)) (read_both unread xs ys)
     by : (b : Bool) → are_read unread (xs ++ ys) ≡ (are_read unread xs && are_read unread ys) → (b && are_read unread (xs ++ ys)) ≡ ((b && are_read unread xs) && are_read unread ys)
     by true e = e
     by false e = refl
+
+pub read_by_op : (unread : ℕ → Bool) (op : Op) (r : Reads) (b : Bool) → r ≡ read_by op → b ≡ are_read unread (values_read r) → b ≡ are_read unread (reads op)
+read_by_op unread op r b e h = h ∙ ap (are_read unread) (reads_listed op r e)
 
 pub read_all : (unread : ℕ → Bool) (xs : List Operand) → are_read unread (flat_map value_in xs) ≡ list_all (λ x. are_read unread (value_in x)) xs
 read_all unread [] = refl

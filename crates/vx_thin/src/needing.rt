@@ -5,6 +5,7 @@ use crate::reading::is_dropped;
 use std::alloc::Global;
 use vx_base::outcome::NoMemory;
 use vx_flow::graph::{Block, Exit, Op, Operand, Value};
+use vx_flow::operands::{held_by, read_by};
 
 /// How often the blocks are gone through at most.
 const MOST_PASSES: u32 = 16;
@@ -64,35 +65,21 @@ fn mark_all(needed: &mut Vec<bool>, operands: &[Operand]) -> bool {
 }
 
 fn mark_reads(needed: &mut Vec<bool>, op: &Op) -> bool {
-    match op {
-        Op::Compute { left, right, .. } => mark_both(needed, left, right),
-        Op::Select {
-            test,
-            left,
-            right,
-            ..
-        } => {
-            let by_test = mark(needed, *test);
-            mark_both(needed, left, right) || by_test
-        }
-        Op::Place { index, .. } => mark_operand(needed, index),
-        Op::Load { place, .. } => mark_operand(needed, place),
-        Op::Store { place, from, .. } => mark_both(needed, place, from),
-        Op::Decimal { from } => mark_operand(needed, from),
-        Op::Across { from, .. } => mark(needed, *from),
-        _ => false,
-    }
-}
-
-fn mark_both(needed: &mut Vec<bool>, left: &Operand, right: &Operand) -> bool {
-    let by_left = mark_operand(needed, left);
-    mark_operand(needed, right) || by_left
+    let read = read_by(op);
+    let first = mark_if(needed, read.first);
+    let second = mark_if(needed, read.second);
+    let third = mark_if(needed, read.third);
+    first || second || third
 }
 
 fn mark_operand(needed: &mut Vec<bool>, operand: &Operand) -> bool {
-    match operand {
-        Operand::Held(value) => mark(needed, *value),
-        _ => false,
+    mark_if(needed, held_by(operand))
+}
+
+fn mark_if(needed: &mut Vec<bool>, value: Option<Value>) -> bool {
+    match value {
+        Some(value) => mark(needed, value),
+        None => false,
     }
 }
 

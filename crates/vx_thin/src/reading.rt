@@ -1,29 +1,22 @@
 // Which values are read, and whether what stays of a graph reads values that are needed alone.
 
-ghost use Rattle.std.specs.Prelude.{◌≡◌, ◌++◌, [], ◌∷◌, if◌then◌else◌};
+ghost use Rattle.std.specs.Prelude.{◌≡◌, ◌++◌, [], ◌∷◌};
 ghost use Rattle.std.specs.List.{list_all};
-ghost use Rattle.vx_flow.specs.Effects.{is_unary, reads, value_in};
+ghost use Rattle.vx_flow.specs.Effects.{reads, value_in};
 ghost use Rattle.vx_flow.specs.Live.{reads_of_exit};
+ghost use Rattle.vx_flow.specs.Operands.{value_list, values_read};
 ghost use Rattle.vx_thin.specs.Thinning.{are_read, block_reads_read, is_unread, reads_read, result_alone, unread_of};
 
-use vx_base::arithmetic::Code;
 use vx_flow::graph::{Block, Exit, Op, Operand, Value};
+use vx_flow::operands::{Reads, read_by, written_by};
 
 /// The value that an operation writes, where it does nothing else.
 pub fn result_alone(op: &Op) -> Option<Value>
     ensures { result ≡ result_alone op.now }
 {
     match op {
-        Op::Compute { to, .. } => Some(*to),
-        Op::Select { to, .. } => Some(*to),
-        Op::Place { to, .. } => Some(*to),
-        Op::Load { to, .. } => Some(*to),
-        Op::Store { .. } => None,
-        Op::More { to } => Some(*to),
         Op::Input { .. } => None,
-        Op::Text { .. } => None,
-        Op::Decimal { .. } => None,
-        Op::Across { to, .. } => Some(*to),
+        _ => written_by(op),
     }
 }
 
@@ -63,48 +56,35 @@ fn is_read(needed: &[bool], operand: &Operand) -> bool
     }
 }
 
-#[tactic(auto, using(crate::proofs::ThinFlow::read_both))]
-fn are_both_read(needed: &[bool], left: &Operand, right: &Operand) -> bool
-    ensures { result ≡ are_read (unread_of needed.now) (value_in left.now ++ value_in right.now) }
+fn is_none_or_read(needed: &[bool], value: Option<Value>) -> bool
+    ensures { result ≡ are_read (unread_of needed.now) (value_list value) }
 {
-    is_read(needed, left) && is_read(needed, right)
+    match value {
+        Some(value) => is_value_read(needed, value),
+        None => true,
+    }
 }
 
-fn are_computed_read(needed: &[bool], code: Code, left: &Operand, right: &Operand) -> bool
-    ensures { result ≡ are_read (unread_of needed.now) (if is_unary code then value_in left.now else value_in left.now ++ value_in right.now) }
+#[tactic(auto, using(crate::proofs::ThinFlow::read_both))]
+fn are_both_read(needed: &[bool], one: Option<Value>, other: Option<Value>) -> bool
+    ensures { result ≡ are_read (unread_of needed.now) (value_list one ++ value_list other) }
 {
-    match code {
-        Code::Mov => is_read(needed, left),
-        _ => are_both_read(needed, left, right),
-    }
+    is_none_or_read(needed, one) && is_none_or_read(needed, other)
+}
+
+#[tactic(auto, using(crate::proofs::ThinFlow::read_both))]
+fn are_all_three_read(needed: &[bool], reads: &Reads) -> bool
+    ensures { result ≡ are_read (unread_of needed.now) (values_read reads.now) }
+{
+    is_none_or_read(needed, reads.first) && are_both_read(needed, reads.second, reads.third)
 }
 
 /// Whether the values that an operation reads are needed.
+#[tactic(auto, using(crate::proofs::ThinFlow::read_by_op))]
 pub fn are_reads_needed(needed: &[bool], op: &Op) -> bool
     ensures { result ≡ are_read (unread_of needed.now) (reads op.now) }
 {
-    match op {
-        Op::Compute {
-            code,
-            left,
-            right,
-            ..
-        } => are_computed_read(needed, *code, left, right),
-        Op::Select {
-            test,
-            left,
-            right,
-            ..
-        } => is_value_read(needed, *test) && are_both_read(needed, left, right),
-        Op::Place { index, .. } => is_read(needed, index),
-        Op::Load { place, .. } => is_read(needed, place),
-        Op::Store { place, from, .. } => are_both_read(needed, place, from),
-        Op::More { .. } => true,
-        Op::Input { .. } => true,
-        Op::Text { .. } => true,
-        Op::Decimal { from } => is_read(needed, from),
-        Op::Across { from, .. } => is_value_read(needed, *from),
-    }
+    are_all_three_read(needed, &read_by(op))
 }
 
 /// Whether an operation is dropped or reads needed values alone.
