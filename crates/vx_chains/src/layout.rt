@@ -28,7 +28,7 @@ struct Rows {
     next: Vec<BlockId>,
 }
 
-/// Finds the chains, with time linear in the blocks. Each block has a number of a chain, and no chain is empty; which blocks are
+/// Finds the chains, with time linear in the blocks. There is a number for each block, and no chain is empty; which blocks are
 /// joined owes nothing, and is tested before it is used.
 pub fn find_layout(alloc: Global, blocks: &[Block]) -> Result<Layout, NoMemory>
     ensures numbers { IfOk result (λ layout. length layout.to.items ≡ length blocks.now) }

@@ -1,4 +1,4 @@
-// Which blocks of a graph become one block, looked for.
+// Chains of the blocks of a graph, each of which may become one block, looked for; vx_clean tests them.
 #![tactic(auto)]
 
 mod joining;

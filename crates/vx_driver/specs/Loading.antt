@@ -10,7 +10,7 @@ use Rattle.vx_compile.specs.Stages.{IsCompiled}
 use Rattle.vx_runs.specs.Simulated.{AreDefaults, Loaded}
 use Rattle.vx_driver.specs.Executed.{CompiledBy}
 
--- files were read and none was replaced; no count of failures fell
+-- no file was replaced, and no count of failures fell
 pub record OnlyReads (e : Effect) : Type 0 where
   pub files : SameFiles e
   pub reads : e.reads_before ≤ e.reads_after

@@ -1,4 +1,4 @@
-// The compiler: from the words of a command line to its answer, from the bytes of a source to the bytes of its words.
+// The top call `vexc`: from the words of a command line to its answer, from the bytes of a source to the bytes of its words.
 #![tactic(auto)]
 
 mod compiling;

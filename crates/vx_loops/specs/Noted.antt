@@ -99,7 +99,7 @@ Notes members written stored called l = NotesIn members written stored called l.
 abbrev pub NotesOf : List Block → List ℕ → Loops → Type 0
 NotesOf blocks numbers l = Notes numbers (writes_in blocks numbers) (stores_in blocks numbers) (calls_in blocks numbers) l
 
--- the notes tell the blocks of a loop, each once, and what these do
+-- the notes tell some blocks, each once, and what these do
 pub record LooksAt (blocks : List Block) (l : Loops) : Type 0 where
   pub members : List ℕ
   pub inside : (b : ℕ) → times_in b members ≡ (if is_inside l b then 1 else 0)
@@ -108,14 +108,14 @@ pub record LooksAt (blocks : List Block) (l : Loops) : Type 0 where
   pub stores : (a : ℕ) → a < length l.stores.items → is_stored l a ≡ nat_lt 0 (times_in a (stores_in blocks members))
   pub calls : has_call l ≡ calls_in blocks members
 
--- the tables are those of a graph
+-- the tables have a place for each block, value and array of a graph, and for each block as many edges as lead to it
 pub record TablesOf (g : Graph) (l : Loops) : Type 0 where
   pub members : length l.members.items ≡ length g.blocks
   pub values : length l.writers.items ≡ length g.banks
   pub arrays : length l.stores.items ≡ length g.arrays
   pub edges : (b : ℕ) → b < length g.blocks → length (row_at l.sources.items b) ≡ times_in b (all_targets g.blocks)
 
--- more edges are noted: those that lead to these blocks
+-- as many more edges are noted as lead to these blocks
 pub record Gains (targets : List ℕ) (before after : List (List ℕ)) : Type 0 where
   pub rows : length after ≡ length before
   pub more : (b : ℕ) → b < length before → length (row_at after b) ≡ length (row_at before b) + times_in b targets

@@ -17,11 +17,11 @@ pub data Way (blocks : List Block) (first : ℕ) : ℕ → List ℕ → Type 0 w
   begun : Way blocks first first (first ∷ [])
   longer : {last next : ℕ} {way : List ℕ} → Way blocks first last way → Leads blocks last next → Way blocks first next (way ++ next ∷ [])
 
--- there is such a list that ends somewhere
+-- the list is such a way, wherever it ends
 abbrev pub HasWay : List Block → ℕ → List ℕ → Type 0
 HasWay blocks first way = (last : ℕ) × Way blocks first last way
 
--- each of these stands among those
+-- each of some numbers is one of all
 abbrev pub EachFrom : List ℕ → List ℕ → Type 0
 EachFrom all some = (b : ℕ) → IsIn b some → IsIn b all
 

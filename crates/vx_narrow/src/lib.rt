@@ -1,4 +1,4 @@
-// A flow whose operations and splits go by what is known there does what it did.
+// The graphs of a program by what checked facts say: a flow whose operations and splits go by what is known there does what it did.
 #![tactic(auto)]
 
 pub mod laws;

@@ -1,4 +1,4 @@
-// Claims that a graph may pass with, looked for.
+// Claims that a graph may pass with, and what all calls give of parameters, looked for; vx_facts checks them.
 #![tactic(auto)]
 
 mod calling;

@@ -1,4 +1,4 @@
-// The shape of graphs: its test, and copies of graphs.
+// The shape that later passes ask of graphs: its test, when a flow stays one of its program, and copies of flows with other graphs.
 #![tactic(auto)]
 
 pub mod copying;

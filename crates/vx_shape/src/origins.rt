@@ -9,7 +9,7 @@ use vx_base::outcome::NoMemory;
 use vx_flow::graph::{Block, BlockId, Exit};
 
 /// For each block the number of the one from which edges lead to it, or how many blocks there are where they come from many; the
-/// greatest number where none does.
+/// greatest number where none does. That no other block leads to one of the first kind is promised; many may be told of any.
 pub fn origins(alloc: Global, blocks: &[Block]) -> Result<Vec<usize>, NoMemory>
     ensures { IfOk result (λ origins. AreOrigins blocks.now origins.items) }
 {
