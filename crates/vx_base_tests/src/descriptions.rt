@@ -1,26 +1,9 @@
-// The numbers of two descriptions of machines.
+// The numbers of descriptions of machines.
 
 use std::alloc::Global;
+use vx_base::outcome::NoMemory;
 use vx_machine::{Machine, MachineFault, field_name, from_toml};
-
-/// One cluster that issues one operation a word.
-const NARROW: &[u8] = b"clusters = 1
-issue = 1
-alus = 1
-multipliers = 1
-memory_units = 1
-registers = 16
-branch_registers = 2
-read_ports = 2
-write_ports = 1
-copy_paths = 1
-latency_alu = 1
-latency_compare = 2
-latency_multiply = 2
-latency_load = 3
-latency_divide = 8
-latency_copy = 1
-";
+use vx_test_machines::{Kind, machine};
 
 /// The default machine with four clusters.
 const WIDE: &[u8] = b"clusters = 4
@@ -63,17 +46,17 @@ fn numbers_of(machine: &Machine) -> [u32; 16] {
     ]
 }
 
-fn has_numbers(alloc: Global, text: &[u8], wanted: &[u32; 16]) -> bool {
-    match from_toml(alloc, text) {
+fn has_numbers(alloc: Global, kind: Kind, wanted: &[u32; 16]) -> bool {
+    match machine(alloc, kind) {
         Ok(machine) => numbers_of(&machine) == *wanted,
-        Err(_) => false,
+        Err(NoMemory) => false,
     }
 }
 
 #[test]
 fn two_descriptions(rt: HostRuntime) {
     let narrow = [1, 1, 1, 1, 1, 16, 2, 2, 1, 1, 1, 2, 2, 3, 8, 1];
-    assert!(rt; has_numbers(rt.alloc(), NARROW, &narrow));
+    assert!(rt; has_numbers(rt.alloc(), Kind::Narrow, &narrow));
     assert!(rt; from_toml(rt.alloc(), WIDE) == Ok(Machine::vex(4)));
 }
 

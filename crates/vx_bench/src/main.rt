@@ -7,7 +7,6 @@ mod flow;
 mod lowering;
 mod making;
 mod operations;
-mod plannable;
 mod planning;
 mod source;
 mod stages;

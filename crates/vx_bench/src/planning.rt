@@ -1,24 +1,20 @@
 // A trace through all calls of planning on the default machine with four clusters: clusters, delays, words, copies at splits and
 // at joins. The lengths are put as a line.
 
-ghost use Rattle.std.specs.Prelude.{◌≡◌, true, [], length, IfOk};
+ghost use Rattle.std.specs.Prelude.{◌≡◌, length};
 ghost use Rattle.vx_bug.specs.Further.{RoomForEach};
-ghost use Rattle.vx_bench.specs.Plannable.{is_plannable};
 
 use crate::ending::Ended;
 use crate::making::trace;
-use crate::plannable::is_plannable;
 use std::alloc::Global;
 use vx_base::listed::Listed;
 use vx_base::outcome::NoMemory;
-use vx_bug::assign;
 use vx_bug::clusters::Clusters;
 use vx_dep::mode::Mode;
-use vx_dep::pairs;
 use vx_flow::trace::{Homes, Placed, Trace};
 use vx_join::at_joins;
 use vx_machine::Machine;
-use vx_sched::schedule;
+use vx_plannable::{clustered, placed};
 use vx_split::at_splits;
 
 /// What is planned for a trace.
@@ -54,13 +50,13 @@ fn planned(alloc: Global, count: u32) -> Result<Option<Lengths>, NoMemory> {
     plan(alloc, &trace, &Machine::vex(4))
 }
 
-/// The lengths of a trace in words. None where a condition of a call does not hold.
+/// The lengths of a trace in words, where no value has a home yet. None where a condition of a call does not hold.
 fn plan(alloc: Global, trace: &Trace, machine: &Machine) -> Result<Option<Lengths>, NoMemory> {
-    if !is_plannable(trace) {
-        return Ok(None);
+    let homes = no_homes(alloc);
+    match clustered(alloc, trace, machine, &homes)? {
+        Some(clusters) => lengths_of(alloc, &clusters, machine),
+        None => Ok(None),
     }
-    let clusters = clusters_of(alloc, trace, machine)?;
-    lengths_of(alloc, &clusters, machine)
 }
 
 fn lengths_of(
@@ -79,19 +75,7 @@ fn lengths_of(
     }))
 }
 
-/// The clusters of a trace where no value has a home yet.
-#[tactic(auto, using(crate::proofs::Conditions::bound_at_home, crate::proofs::Conditions::fixed_at_home, crate::proofs::Conditions::fixed_reads_here, crate::proofs::Conditions::clusters_are_there, crate::proofs::Conditions::values_are_there, crate::proofs::Conditions::copies_have_numbers, crate::proofs::Conditions::is_well_formed))]
-fn clusters_of(alloc: Global, trace: &Trace, machine: &Machine) -> Result<Clusters, NoMemory>
-    requires { is_plannable trace.now ≡ true }
-    ensures { IfOk result (λ r. RoomForEach machine.now r) }
-{
-    let homes = no_homes(alloc);
-    assign(alloc, trace, machine, &homes)
-}
-
-fn no_homes(alloc: Global) -> Homes
-    ensures { result.clusters ≡ [] }
-{
+fn no_homes(alloc: Global) -> Homes {
     Homes {
         clusters: Listed::new(alloc),
     }
@@ -115,18 +99,4 @@ fn with_copies(alloc: Global, placed: &Placed) -> Result<u32, NoMemory> {
     let _edges = at_splits(alloc, placed)?;
     let _rejoins = at_joins(alloc, placed)?;
     Ok(placed.length)
-}
-
-#[tactic(auto, using(crate::proofs::Conditions::own_mode, crate::proofs::Conditions::alone))]
-fn placed(
-    alloc: Global,
-    clusters: &Clusters,
-    machine: &Machine,
-    mode: Mode,
-) -> Result<Placed, NoMemory>
-    requires each { length clusters.now.clustered.clusters ≡ length clusters.now.clustered.trace.ops }
-    requires room { RoomForEach machine.now clusters.now }
-{
-    let deps = pairs(alloc, &clusters.clustered.trace, machine, mode)?;
-    schedule(alloc, &clusters.clustered, &clusters.homes, &deps, machine)
 }

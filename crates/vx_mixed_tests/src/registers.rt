@@ -5,29 +5,11 @@ use crate::layouts::{few, many};
 use std::alloc::Global;
 use std::test::Fail;
 use vx_base::outcome::NoMemory;
-use vx_machine::{Machine, from_toml};
+use vx_machine::Machine;
 use vx_mixed::layout::VWords;
 use vx_regs::map::{Kept, RegMap};
 use vx_regs::registers;
-
-/// One operation a word, and 11 allocatable general registers: 5 to 15.
-const NARROW: &[u8] = b"clusters = 1
-issue = 1
-alus = 1
-multipliers = 1
-memory_units = 1
-registers = 16
-branch_registers = 2
-read_ports = 2
-write_ports = 1
-copy_paths = 1
-latency_alu = 1
-latency_compare = 2
-latency_multiply = 2
-latency_load = 3
-latency_divide = 8
-latency_copy = 1
-";
+use vx_test_machines::{Kind, machine};
 
 /// The registers of a layout, if its words lead to words of it.
 fn map_of(alloc: Global, machine: &Machine, layout: &VWords) -> Result<Option<RegMap>, NoMemory> {
@@ -39,11 +21,10 @@ fn map_of(alloc: Global, machine: &Machine, layout: &VWords) -> Result<Option<Re
     }
 }
 
+/// The same for the narrow machine, which has 11 allocatable general registers: 5 to 15.
 fn narrow_map(alloc: Global, layout: &VWords) -> Result<Option<RegMap>, NoMemory> {
-    match from_toml(alloc, NARROW) {
-        Ok(machine) => map_of(alloc, &machine, layout),
-        Err(_) => Ok(None),
-    }
+    let machine = machine(alloc, Kind::Narrow)?;
+    map_of(alloc, &machine, layout)
 }
 
 fn is_in_register(kept: &Kept) -> bool {

@@ -1,50 +1,20 @@
 // Clusters and copies of small traces on two clusters that issue one operation a word each, worked out by hand. The copies to
 // cluster 0 are the values 20, 21, .., those to cluster 1 40, 41, ..
 
-ghost use Rattle.std.specs.Prelude.{◌≡◌, true, IfOk, IfSome};
-ghost use Rattle.std.specs.List.{list_all};
+ghost use Rattle.std.specs.Prelude.{IfOk, IfSome};
 ghost use Rattle.vx_bug.specs.Further.{RoomForEach};
-ghost use Rattle.vx_plan_tests.specs.Plannable.{is_plannable, is_there};
 
-use crate::plannable::{are_there, is_plannable};
-use crate::traces::{Kind, Step, homes, machine, trace};
+use crate::traces::{Step, trace};
 use std::alloc::Global;
 use std::test::Fail;
+use vx_base::listed::copied;
 use vx_base::outcome::NoMemory;
-use vx_bug::assign;
 use vx_bug::clusters::Clusters;
 use vx_flow::graph::{Op, Operand, Value};
 use vx_flow::trace::{Homes, Trace, TraceOp};
 use vx_machine::Machine;
-
-#[tactic(auto, using(crate::proofs::Conditions::bound_at_home, crate::proofs::Conditions::fixed_at_home, crate::proofs::Conditions::fixed_reads_here, crate::proofs::Conditions::clusters_are_there, crate::proofs::Conditions::values_are_there, crate::proofs::Conditions::copies_have_numbers, crate::proofs::Conditions::is_well_formed))]
-fn assigned(
-    alloc: Global,
-    trace: &Trace,
-    machine: &Machine,
-    homes: &Homes,
-) -> Result<Clusters, NoMemory>
-    requires plannable { is_plannable trace.now ≡ true }
-    requires there { list_all (is_there machine.now.clusters) homes.now.clusters ≡ true }
-    ensures { IfOk result (λ r. RoomForEach machine.now r) }
-{
-    assign(alloc, trace, machine, homes)
-}
-
-fn found(
-    alloc: Global,
-    trace: &Trace,
-    machine: &Machine,
-    homes: &Homes,
-) -> Result<Option<Clusters>, NoMemory>
-    ensures { IfOk result (λ found. IfSome found (λ r. RoomForEach machine.now r)) }
-{
-    if is_plannable(trace) && are_there(machine.clusters(), homes.clusters.as_slice()) {
-        Ok(Some(assigned(alloc, trace, machine, homes)?))
-    } else {
-        Ok(None)
-    }
-}
+use vx_plannable::clustered;
+use vx_test_machines::{Kind, machine};
 
 /// The clusters of a trace, where values have these homes.
 pub(crate) fn clusters_of(
@@ -57,8 +27,10 @@ pub(crate) fn clusters_of(
     ensures { IfOk result (λ found. IfSome found (λ r. RoomForEach machine.now r)) }
 {
     let trace = trace(alloc, steps, joins)?;
-    let homes = homes(alloc, at_first)?;
-    found(alloc, &trace, machine, &homes)
+    let homes = Homes {
+        clusters: copied(alloc, at_first)?,
+    };
+    clustered(alloc, &trace, machine, &homes)
 }
 
 /// v3 = v1 + 1; v4 = v2 + 1; v5 = v3 + v4.

@@ -1,10 +1,9 @@
 // Copies at splits and at joins of placements that were made by hand.
 
-use crate::graphs::listed;
 use crate::traces::{Step, trace};
 use std::alloc::Global;
 use std::test::Fail;
-use vx_base::listed::Listed;
+use vx_base::listed::{Listed, copied};
 use vx_base::outcome::NoMemory;
 use vx_dep::copies::{EdgeCopies, Rejoin};
 use vx_flow::graph::{Edge, Op};
@@ -17,7 +16,7 @@ const TEXT: Step<'static> = Step::Plain(Op::Text { number: 0 });
 const SPLIT: Step<'static> = Step::Split(1, &[]);
 
 fn placed(alloc: Global, steps: &[Step], joins: &[u32], words: &[u32]) -> Result<Placed, NoMemory> {
-    let words = listed(alloc, words)?;
+    let words = copied(alloc, words)?;
     let trace = trace(alloc, steps, joins)?;
     let clustered = Clustered {
         trace,

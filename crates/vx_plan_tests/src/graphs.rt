@@ -2,7 +2,7 @@
 
 use std::alloc::Global as Heap;
 use vx_base::arithmetic::{Code, Compare};
-use vx_base::listed::{Bytes, Listed};
+use vx_base::listed::{Bytes, Listed, copied};
 use vx_base::outcome::{NoMemory, Trap};
 use vx_flow::graph::{Array, Bank, Block, Exit, Flow, Global, Graph, Op, Operand, Value};
 
@@ -58,12 +58,6 @@ fn add_all<T: Copy + Drop>(list: &mut Listed<T>, items: &[T]) -> Result<(), NoMe
         list.push(*item)?;
     }
     Ok(())
-}
-
-pub(crate) fn listed<T: Copy + Drop>(alloc: Heap, items: &[T]) -> Result<Listed<T>, NoMemory> {
-    let mut list = Listed::new(alloc);
-    add_all(&mut list, items)?;
-    Ok(list)
 }
 
 fn op(act: Act) -> Op {
@@ -182,7 +176,7 @@ fn add_functions(
 }
 
 fn fill_program(alloc: Heap, flow: &mut Flow, whole: &Whole) -> Result<(), NoMemory> {
-    let line: Bytes = listed(alloc, b"\n")?;
+    let line: Bytes = copied(alloc, b"\n")?;
     flow.texts.push(line)?;
     add_all(&mut flow.globals, whole.globals)?;
     add_functions(alloc, &mut flow.functions, whole.functions)

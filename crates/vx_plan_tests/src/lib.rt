@@ -1,5 +1,5 @@
-// Tests of what plans the words of a function, up to the placed trace: each public call with ample memory, and rows worked out by
-// hand. This crate has no code of its own.
+// Tests of the road from a source to a placed trace: each public call with ample memory, and rows worked out by hand. This crate
+// has no code of its own.
 #![tactic(auto)]
 
 #[cfg(test)]
@@ -20,8 +20,6 @@ mod graphs;
 mod liveness;
 #[cfg(test)]
 mod loops;
-#[cfg(test)]
-mod plannable;
 #[cfg(test)]
 mod routes;
 #[cfg(test)]

@@ -3,10 +3,9 @@
 ghost use Rattle.std.specs.Prelude.{◌≡◌, ◌<◌, IfOk};
 ghost use Rattle.vx_flow.specs.Closing.{BeginWithin};
 
-use crate::graphs::listed;
 use std::alloc::Global;
 use std::test::Fail;
-use vx_base::listed::Listed;
+use vx_base::listed::{Listed, copied};
 use vx_base::outcome::NoMemory;
 use vx_flow::live_on;
 use vx_flow::live_rows::Live;
@@ -16,8 +15,8 @@ use vx_flow::routes::{Route, Touch};
 fn route(alloc: Global, from: u32, to: u32, touch: Touch) -> Result<Route, NoMemory>
     ensures { IfOk result (λ route. route.from ≡ from) }
 {
-    let to = listed(alloc, &[to])?;
-    let touches = listed(alloc, &[touch])?;
+    let to = copied(alloc, &[to])?;
+    let touches = copied(alloc, &[touch])?;
     Ok(Route { from, to, touches })
 }
 

@@ -1,13 +1,11 @@
-// Traces and machines, written as constants.
+// Traces, written as constants.
 
-use crate::graphs::listed;
 use std::alloc::Global;
 use vx_base::arithmetic::{Code, Compare};
-use vx_base::listed::Listed;
+use vx_base::listed::{Listed, copied};
 use vx_base::outcome::NoMemory;
 use vx_flow::graph::{Array, Edge, Op, Operand, Value};
-use vx_flow::trace::{Homes, Join, Trace, TraceOp};
-use vx_machine::{Machine, from_toml};
+use vx_flow::trace::{Join, Trace, TraceOp};
 
 /// An operation of a trace, of which the usual ones are written short.
 #[derive(Clone, Copy)]
@@ -84,7 +82,7 @@ fn trace_op(alloc: Global, step: &Step) -> Result<TraceOp, NoMemory> {
             test: *test,
             leaves_when: false,
             edge: Edge { from: 0, to: 3 },
-            live: listed(alloc, live)?,
+            live: copied(alloc, live)?,
         }),
         _ => Ok(TraceOp::Plain(plain(step))),
     }
@@ -97,7 +95,7 @@ fn add_step(alloc: Global, trace: &mut Trace, step: &Step) -> Result<(), NoMemor
 }
 
 fn join(alloc: Global, place: u32) -> Result<Join, NoMemory> {
-    let edges = listed(alloc, &[Edge { from: 3, to: 2 }])?;
+    let edges = copied(alloc, &[Edge { from: 3, to: 2 }])?;
     Ok(Join {
         place,
         block: 2,
@@ -138,12 +136,6 @@ pub(crate) fn trace(alloc: Global, steps: &[Step], joins: &[u32]) -> Result<Trac
     Ok(trace)
 }
 
-/// The homes of the values 0, 1, ..
-pub(crate) fn homes(alloc: Global, clusters: &[Option<u32>]) -> Result<Homes, NoMemory> {
-    let clusters = listed(alloc, clusters)?;
-    Ok(Homes { clusters })
-}
-
 /// An `if` without `else`: v3 = v1 + 5; p6 = v1 < 10; leave unless p6; v2 = v2 + 1; join; v4 = v3 * v1; v5 = v2 + v4.
 pub(crate) const WITHOUT_ELSE: [Step<'static>; 6] = [
     Step::More(3, 1, 5),
@@ -173,65 +165,3 @@ pub(crate) const PRINTING: [Step<'static>; 5] = [
     Step::Split(5, &[4]),
     Step::Print(3),
 ];
-
-/// A machine of a test.
-#[derive(Clone, Copy)]
-pub(crate) enum Kind {
-    /// The default one, with one cluster.
-    Vex,
-    /// One cluster that issues one operation a word.
-    Narrow,
-    /// Two of them.
-    TwoNarrow,
-}
-
-fn described(alloc: Global, text: &[u8]) -> Result<Machine, NoMemory> {
-    match from_toml(alloc, text) {
-        Ok(machine) => Ok(machine),
-        Err(_) => Err(NoMemory),
-    }
-}
-
-pub(crate) fn machine(alloc: Global, kind: Kind) -> Result<Machine, NoMemory> {
-    match kind {
-        Kind::Vex => Ok(Machine::vex(1)),
-        Kind::Narrow => described(alloc, NARROW),
-        Kind::TwoNarrow => described(alloc, TWO_NARROW),
-    }
-}
-
-const NARROW: &[u8] = b"clusters = 1
-issue = 1
-alus = 1
-multipliers = 1
-memory_units = 1
-registers = 16
-branch_registers = 2
-read_ports = 2
-write_ports = 1
-copy_paths = 1
-latency_alu = 1
-latency_compare = 2
-latency_multiply = 2
-latency_load = 3
-latency_divide = 8
-latency_copy = 1
-";
-
-const TWO_NARROW: &[u8] = b"clusters = 2
-issue = 1
-alus = 1
-multipliers = 1
-memory_units = 1
-registers = 16
-branch_registers = 2
-read_ports = 2
-write_ports = 1
-copy_paths = 1
-latency_alu = 1
-latency_compare = 2
-latency_multiply = 2
-latency_load = 3
-latency_divide = 8
-latency_copy = 1
-";

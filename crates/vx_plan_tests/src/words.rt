@@ -1,35 +1,19 @@
 // Words of small traces, worked out by hand.
 
-ghost use Rattle.std.specs.Prelude.{◌≡◌, length};
 ghost use Rattle.vx_bug.specs.Further.{RoomForEach};
 
 use crate::clusters::{SUMS, clusters_of};
-use crate::traces::{Kind, PRINTING, SINKING, Step, WITHOUT_ELSE, machine};
+use crate::traces::{PRINTING, SINKING, Step, WITHOUT_ELSE};
 use std::alloc::Global;
 use std::test::Fail;
 use vx_base::arithmetic::Code;
 use vx_base::outcome::NoMemory;
 use vx_bug::clusters::Clusters;
 use vx_dep::mode::Mode;
-use vx_dep::pairs;
 use vx_flow::graph::Operand;
-use vx_flow::trace::Placed;
 use vx_machine::Machine;
-use vx_sched::schedule;
-
-#[tactic(auto, using(crate::proofs::Conditions::own_mode, crate::proofs::Conditions::alone))]
-fn placed(
-    alloc: Global,
-    clusters: &Clusters,
-    machine: &Machine,
-    mode: Mode,
-) -> Result<Placed, NoMemory>
-    requires each { length clusters.now.clustered.clusters ≡ length clusters.now.clustered.trace.ops }
-    requires room { RoomForEach machine.now clusters.now }
-{
-    let deps = pairs(alloc, &clusters.clustered.trace, machine, mode)?;
-    schedule(alloc, &clusters.clustered, &clusters.homes, &deps, machine)
-}
+use vx_plannable::placed;
+use vx_test_machines::{Kind, machine};
 
 /// The `if` without `else` up to the product, with the join behind the sum.
 const WITHOUT_TOTAL: [Step<'static>; 5] = [

@@ -1,11 +1,10 @@
-// Graphs, counts and machines, written as constants.
+// Graphs and counts, written as constants.
 
 use std::alloc::Global;
 use vx_base::arithmetic::Code;
 use vx_base::listed::Listed;
 use vx_base::outcome::NoMemory;
 use vx_flow::graph::{Bank, Block, BlockId, Exit, Graph, Op, Operand, Value};
-use vx_machine::{Machine, from_toml};
 use vx_profile::counts::Counts;
 
 /// An operation.
@@ -133,67 +132,4 @@ pub(crate) fn counts(alloc: Global, passed: &Passed) -> Result<Counts, NoMemory>
     let mut counts = Counts::new(alloc);
     pass(&mut counts, passed)?;
     Ok(counts)
-}
-
-/// A machine.
-#[derive(Clone, Copy)]
-pub(crate) enum Kind {
-    /// The default one, with one cluster.
-    Vex,
-    /// One cluster that issues one operation a word.
-    Narrow,
-    /// Two such clusters.
-    TwoNarrow,
-}
-
-const NARROW: &[u8] = b"clusters = 1
-issue = 1
-alus = 1
-multipliers = 1
-memory_units = 1
-registers = 16
-branch_registers = 2
-read_ports = 2
-write_ports = 1
-copy_paths = 1
-latency_alu = 1
-latency_compare = 2
-latency_multiply = 2
-latency_load = 3
-latency_divide = 8
-latency_copy = 1
-";
-
-const TWO_NARROW: &[u8] = b"clusters = 2
-issue = 1
-alus = 1
-multipliers = 1
-memory_units = 1
-registers = 16
-branch_registers = 2
-read_ports = 2
-write_ports = 1
-copy_paths = 1
-latency_alu = 1
-latency_compare = 2
-latency_multiply = 2
-latency_load = 3
-latency_divide = 8
-latency_copy = 1
-";
-
-fn described(alloc: Global, description: &[u8]) -> Result<Machine, NoMemory> {
-    match from_toml(alloc, description) {
-        Ok(machine) => Ok(machine),
-        Err(_) => Err(NoMemory),
-    }
-}
-
-/// A machine of this kind.
-pub(crate) fn machine(alloc: Global, kind: Kind) -> Result<Machine, NoMemory> {
-    match kind {
-        Kind::Vex => Ok(Machine::vex(1)),
-        Kind::Narrow => described(alloc, NARROW),
-        Kind::TwoNarrow => described(alloc, TWO_NARROW),
-    }
 }

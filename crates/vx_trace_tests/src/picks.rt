@@ -2,7 +2,7 @@
 
 ghost use Rattle.std.specs.Prelude.{◌≡◌, true};
 ghost use Rattle.vx_flow.specs.Sound.{is_sound};
-ghost use Rattle.vx_trace_tests.specs.Beginning.{can_begin};
+ghost use Rattle.vx_mixed.specs.Valid.{CanBegin};
 
 use crate::begins::{begun, can_begin};
 use crate::graphs::{Passed, Shape, counts, graph};
@@ -163,7 +163,7 @@ fn has_first(
 
 fn is_picked(alloc: Global, graph: &Graph, counts: &Counts, row: &Row) -> Result<bool, NoMemory>
     requires sound { is_sound graph.now ≡ true }
-    requires begins { can_begin graph.now ≡ true }
+    requires begins { CanBegin graph.now }
 {
     let mixed = begun(alloc, graph)?;
     has_first(alloc, &mixed, counts, row.trace, row.count)

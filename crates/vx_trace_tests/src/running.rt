@@ -3,11 +3,11 @@
 ghost use Rattle.std.specs.Prelude.{◌≡◌, true, IfOk, OnOk};
 ghost use Rattle.vx_flow.specs.declared.graph.Graph.{Graph};
 ghost use Rattle.vx_flow.specs.Sound.{is_sound};
+ghost use Rattle.vx_mixed.specs.Valid.{CanBegin};
 ghost use Rattle.vx_region.specs.Regions.{IsGraphOf};
-ghost use Rattle.vx_trace_tests.specs.Beginning.{can_begin};
 
 use crate::begins::{begun, can_begin};
-use crate::graphs::{Act, Kind, Passed, Shape, counts, graph, machine, op};
+use crate::graphs::{Act, Passed, Shape, counts, graph, op};
 use std::alloc::Global;
 use vx_base::arithmetic::Code;
 use vx_base::outcome::NoMemory;
@@ -20,6 +20,7 @@ use vx_profile::counts::Counts;
 use vx_region::laws::{graphs_begin_so, steps_keep_the_graph};
 use vx_region::{Budget, Step, TracePlan, replace_one};
 use vx_replace::Mixed;
+use vx_test_machines::{Kind, machine};
 
 /// What is owed at a split: its place, the edge by which it leaves, the places of what is copied onto that, and its empty cycles.
 pub(crate) type AtSplit<'a> = (u32, Edge, &'a [u32], u32);
@@ -149,7 +150,7 @@ fn is_wanted(plan: &TracePlan, wanted: &Wanted) -> bool {
 /// What the graph begins as, from which steps can be taken.
 fn begun_for(alloc: Global, graph: &Graph, machine: &Machine) -> Result<Mixed, NoMemory>
     requires sound { is_sound graph.now ≡ true }
-    requires begins { can_begin graph.now ≡ true }
+    requires begins { CanBegin graph.now }
     ensures { IfOk result (λ mixed. IsGraphOf machine.now graph.now mixed) }
 {
     machine.keeps_ranges();
@@ -258,7 +259,7 @@ fn runs_so(
     row: &Row,
 ) -> Result<bool, NoMemory>
     requires sound { is_sound graph.now ≡ true }
-    requires begins { can_begin graph.now ≡ true }
+    requires begins { CanBegin graph.now }
 {
     let mut mixed = begun_for(alloc, graph, machine)?;
     let mut budget = Budget::make(row.cap);

@@ -1,4 +1,4 @@
-use Rattle.std.proofs.Common.{◌≡◌, sym, subst}
+use Rattle.std.proofs.Common.{sym, subst}
 use Rattle.vx_region.specs.Regions.{IsGraphOf, ReplacesOne}
 use Rattle.vx_trace_tests.proofs.running.step.Goals as goal
 

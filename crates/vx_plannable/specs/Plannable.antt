@@ -1,5 +1,5 @@
--- Which traces the tests plan: those whose operations are all without a cluster, name values of the graph alone, and are neither
--- selections nor read the input; and with which homes.
+-- Which traces are planned by themselves: those whose operations are all without a cluster, name values of the graph alone, and
+-- are neither selections nor read the input; and with which homes.
 use Rattle.std.specs.Prelude.{◌&&◌, ◌==◌, ℕ, Bool, true, false, nat_lt, nat_le, Option, Some, None, List, [], ◌∷◌, length}
 use Rattle.std.specs.List.{list_all}
 use Rattle.vx_flow.specs.declared.graph.Op.TheVariants.{Select, More, Input}

@@ -1,5 +1,5 @@
 use Rattle.std.proofs.Common.{length}
-use Rattle.vx_plan_tests.proofs.plannable.+ascend.Given as goal
+use Rattle.vx_plannable.proofs.plannable.+ascend.Given as goal
 
 abbrev pub decreases-ascend : goal.decreases-ascend
 decreases-ascend l = length l.joins.now

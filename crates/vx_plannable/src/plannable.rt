@@ -1,11 +1,11 @@
-// Whether the conditions under which a trace is planned hold, by one pass over its operations and its joins. What is tested
-// is `is_plannable` of specs/Plannable.antt; that it gives the conditions is proved in proofs/Conditions.antt.
+// Whether a trace keeps the conditions under which traces are planned, by one pass over its operations and its joins. What is
+// tested is `is_plannable` of specs/Plannable.antt; that it gives the conditions is proved in proofs/Conditions.antt.
 
 ghost use Rattle.std.specs.Prelude.{◌≡◌};
 ghost use Rattle.std.specs.List.{list_all};
 ghost use Rattle.vx_flow.specs.Effects.{reads, writes, value_in};
 ghost use Rattle.vx_dep.specs.Delays.{reads_of, writes_of};
-ghost use Rattle.vx_bench.specs.Plannable.{all_are_below, is_unbound, names_below, is_plannable_op, is_free, ascend, are_within, is_plannable};
+ghost use Rattle.vx_plannable.specs.Plannable.{all_are_below, is_unbound, names_below, is_plannable_op, is_free, ascend, are_within, is_plannable, is_there};
 
 use vx_base::arithmetic::Code;
 use vx_flow::graph::{Op, Operand, Value};
@@ -14,8 +14,8 @@ use vx_flow::trace::{Join, Trace, TraceOp};
 /// The most values of a graph of which each has a number for each of its copies.
 const MOST_VALUES: u32 = 858993459;
 
-/// Whether a trace can be planned where no value has a home.
-pub(crate) fn is_plannable(trace: &Trace) -> bool
+/// Whether a trace can be planned where the homes are clusters of the machine.
+pub fn is_plannable(trace: &Trace) -> bool
     ensures { result ≡ is_plannable trace.now }
 {
     let count = trace.ops.len();
@@ -157,4 +157,20 @@ fn are_within(count: usize, joins: &[Join]) -> bool
     ensures { result ≡ are_within count joins.now }
 {
     joins.iter().all(|join| join.place as usize <= count)
+}
+
+/// Whether homes are among so many clusters.
+pub fn are_there(clusters: u32, homes: &[Option<u32>]) -> bool
+    ensures { result ≡ list_all (is_there clusters) homes.now }
+{
+    homes.iter().all(|home| is_there(clusters, home))
+}
+
+fn is_there(clusters: u32, home: &Option<u32>) -> bool
+    ensures { result ≡ is_there clusters home.now }
+{
+    match home {
+        None => true,
+        Some(cluster) => *cluster < clusters,
+    }
 }

@@ -1,5 +1,5 @@
 -- A trace that can be planned keeps the conditions of the calls.
-use Rattle.std.proofs.Common.{◌≡◌, ◌<◌, ◌≤◌, inl, inr, ◌&&◌, ◌==◌, ℕ, zero, suc, Bool, true, false, nat_le, Option, Some, None, List, [], ◌∷◌, ◌++◌, length, slice_get, slice_index_or, refl, sym, ap, subst, arith}
+use Rattle.std.proofs.Common.{◌≡◌, ◌<◌, ◌≤◌, inl, inr, ◌&&◌, ◌==◌, ℕ, zero, suc, Bool, true, false, nat_le, Option, Some, None, List, [], ◌∷◌, ◌++◌, length, slice_get, slice_index_or, refl, sym, subst, arith}
 use Rattle.std.specs.List.{list_all}
 use Rattle.std.proofs.lemmas.Bool.{ltb-true, leb-true, eqb-true}
 use Rattle.std.proofs.lemmas.List.Folds.{list_all-append}
@@ -12,7 +12,7 @@ use Rattle.vx_flow.specs.declared.trace.Trace.{Trace}
 use Rattle.vx_flow.specs.declared.trace.Homes.{Homes}
 use Rattle.vx_flow.specs.Effects.{IsIn, value_in}
 use Rattle.vx_isa.specs.Numbers.{Numbers}
-use Rattle.vx_machine.specs.Room.{home_of, has_room}
+use Rattle.vx_machine.specs.Room.{has_room}
 use Rattle.vx_dep.specs.declared.mode.Mode.{Mode}
 use Rattle.vx_dep.specs.declared.deps.Deps.{Deps}
 use Rattle.vx_dep.specs.Deps.{IsDeps}
@@ -21,7 +21,7 @@ use Rattle.vx_bug.specs.declared.clusters.Clusters.{Clusters}
 use Rattle.vx_bug.specs.CanAssign.{IsFixed, bound_writes, BoundAtHome, FixedAtHome, FixedReadsHere, ClustersAreThere, ValuesAreThere, CopiesHaveNumbers, IsWellFormed}
 use Rattle.vx_bug.specs.Further.{RoomForEach}
 use Rattle.vx_sched.specs.Placement.{items_at, AreDeps, HaveRoomAlone}
-use Rattle.vx_plan_tests.specs.Plannable.{is_below, all_are_below, is_unbound, names_below, is_plannable_op, is_free, ascend, are_within, most_values, is_plannable, is_there}
+use Rattle.vx_plannable.specs.Plannable.{is_below, all_are_below, is_unbound, names_below, is_plannable_op, is_free, ascend, are_within, most_values, is_plannable, is_there}
 
 -- the reads of two operands
 pub both_below : (values : ℕ) (a b : Operand) → all_are_below values (value_in a ++ value_in b) ≡ (all_are_below values (value_in a) && all_are_below values (value_in b))
