@@ -1,4 +1,4 @@
-// The source language: the tokens and the tree of a program, and what a program does.
+// The source language: its tokens and grammar, the tree of a program, names, faults and limits, and what a program does.
 #![tactic(auto)]
 
 pub mod fault;

@@ -1,4 +1,5 @@
-// The cluster of each operation of a trace, and the copies that the operations need of each other.
+// The cluster of each operation of a trace, from the bottom up by estimates (Ellis, 1985), and the copies of values that they need
+// of other clusters.
 #![tactic(auto)]
 
 mod assigning;

@@ -1,4 +1,5 @@
-// Delays between the operations of a trace, their heights, and what a placement owes at splits and joins.
+// Delays between the operations of a trace, their heights, and the definition of what a placement owes, which vx_split and vx_join
+// meet.
 #![tactic(auto)]
 
 pub mod copies;

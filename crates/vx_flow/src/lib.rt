@@ -1,4 +1,5 @@
-// Graphs of blocks: what a graph is, when it is sound, what it does, which values are live in it, and its back edges and headers.
+// Graphs of blocks, and traces of them: what a graph is, when it is sound, what it does, which values are live in it, its back
+// edges and headers.
 #![tactic(auto)]
 
 mod closing;

@@ -1,5 +1,5 @@
-// The values that an operation reads and the one that it writes: the one place in code that knows them operation by
-// operation. specs/Operands.antt says the same, and what is added to a list is `reads` of specs/Effects.antt.
+// The values that an operation reads and the one that it writes, for passes that ask nothing else of it. specs/Operands.antt
+// says the same, and what is added to a list is `reads` of specs/Effects.antt.
 
 ghost use Rattle.std.specs.Prelude.{◌≡◌, ◌++◌, IfOk};
 ghost use Rattle.vx_flow.specs.Effects.{is_unary, reads, value_in};

@@ -1,4 +1,5 @@
-// The word machine: its operations and words, what a word needs of a machine, and what a program of words does.
+// The word machine: the numbers of machines, operations and words, what a word needs of a machine, and what a program of words
+// does.
 #![tactic(auto)]
 
 pub mod laws;

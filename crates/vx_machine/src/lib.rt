@@ -1,4 +1,4 @@
-// Machines: their numbers, how a description gives them, and whether a word fits.
+// Machines: how a description gives one, whether a word fits it, and whether operations over values have room in one word.
 #![tactic(auto)]
 
 mod bad_word;

@@ -1,4 +1,5 @@
-// Runs of words with the boxes that a caller hands in: what is read for them, their output, and the lines of their end.
+// Runs of words with the boxes that a caller hands in, and the command `sim`: what is read for them, their output, and the lines of
+// their end.
 #![tactic(auto)]
 
 mod boxes;

@@ -1,5 +1,5 @@
-// The words of a program do what its layouts do: from tied states both come to tied states, kind of word by kind of word, and then in
-// whole runs. And they carry the plan: each planned word's operations stand at its place.
+// Laws of words that carry layouts: from tied states both come to tied states, kind of word by kind of word, then in whole runs;
+// and the words carry the plan.
 #![tactic(auto)]
 
 pub mod laws;

@@ -1,4 +1,5 @@
-// The trace that is picked in a graph of blocks and regions, by how often its blocks and edges were passed.
+// The trace that is picked in a graph of blocks and regions, by how often its blocks and edges were passed. What a trace is,
+// vx_flow says.
 #![tactic(auto)]
 
 mod counting;

@@ -1,4 +1,4 @@
-// Kinds and names: the faults S5 to S13 of a parsed source, its limits L3 to L8, and the program that it is.
+// The check of a parsed source: its first fault S5 to S13, else the lowest limit L3 to L8 that is over, or the program that it is.
 #![tactic(auto)]
 
 mod checker;
