@@ -11,6 +11,7 @@ use vx_base::listed::Listed;
 use vx_base::outcome::NoMemory;
 use vx_flow::graph::{Bank, Block, Exit, Graph, Op, Operand};
 use vx_flow::{back_edges, headers, live};
+use vx_sound::graph_is_sound;
 
 const BLOCKS: u32 = 4000;
 
@@ -93,7 +94,7 @@ fn ops(alloc: Global, number: u32) -> Result<Listed<Op>, NoMemory> {
 
 /// Whether the graph is sound, and what is found in it as it should be.
 fn found_in(alloc: Global, graph: &Graph) -> Result<bool, NoMemory> {
-    if !graph.sound() {
+    if !graph_is_sound(graph) {
         return Ok(false);
     }
     Ok(

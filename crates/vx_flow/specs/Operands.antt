@@ -1,6 +1,7 @@
--- The values that an operation reads and the one that it writes, in the order of its operands: what code notes of an
--- operation. As lists they are the `reads` and `writes` of Effects (proofs/OperandLaws).
-use Rattle.std.specs.Prelude.{ℕ, if◌then◌else◌, Option, Some, None, List, [], ◌∷◌, ◌++◌}
+-- What an operation is made of, for whoever asks nothing else of it: the values that it reads and the one that it writes, in
+-- the order of its operands, and the same operation with other operands or other values. As lists the values are the `reads`
+-- and `writes` of Effects (proofs/OperandLaws).
+use Rattle.std.specs.Prelude.{ℕ, pos, Bool, true, false, if◌then◌else◌, Option, Some, None, List, [], ◌∷◌, ◌++◌}
 use Rattle.vx_flow.specs.declared.graph.Operand.{Operand}
 use Rattle.vx_flow.specs.declared.graph.Operand.TheVariants.{Held, Number, Stack}
 use Rattle.vx_flow.specs.declared.graph.Op.{Op}
@@ -52,3 +53,63 @@ value_list (Some v) = v ∷ []
 
 abbrev pub values_read : Reads → List ℕ
 values_read r = value_list r.first ++ (value_list r.second ++ value_list r.third)
+
+-- the operands that an operation reads, in their order, and 0 for one that it has not. The right operand of a move is not read,
+-- but is there; the test of a choice and the value of a copy across are no operands
+
+abbrev pub first_operand : Op → Operand
+first_operand (Compute code v a b) = a
+first_operand (Select v p a b) = a
+first_operand (Place v a i) = i
+first_operand (Load v a p dismissible) = p
+first_operand (Store a p x) = p
+first_operand (Decimal x) = x
+first_operand op = Number (pos 0)
+
+abbrev pub second_operand : Op → Operand
+second_operand (Compute code v a b) = b
+second_operand (Select v p a b) = b
+second_operand (Store a p x) = x
+second_operand op = Number (pos 0)
+
+-- the operation with others in their places; the right operand of a move stays
+
+abbrev pub with_two : Op → (first second : Operand) → Op
+with_two (Compute code v a b) x y = Compute code v x (if is_unary code then b else y)
+with_two (Select v p a b) x y = Select v p x y
+with_two (Place v a i) x y = Place v a x
+with_two (Load v a p dismissible) x y = Load v a x dismissible
+with_two (Store a p z) x y = Store a x y
+with_two (Decimal z) x y = Decimal x
+with_two op x y = op
+
+abbrev pub with_operands : (Operand → Operand) → Op → Op
+with_operands f op = with_two op (f (first_operand op)) (f (second_operand op))
+
+-- the operation with other values throughout
+
+abbrev pub with_value_in : (ℕ → ℕ) → Operand → Operand
+with_value_in to (Held v) = Held (to v)
+with_value_in to (Number n) = Number n
+with_value_in to Stack = Stack
+
+abbrev pub with_values : (ℕ → ℕ) → Op → Op
+with_values to (Compute code v a b) = Compute code (to v) (with_value_in to a) (with_value_in to b)
+with_values to (Select v p a b) = Select (to v) (to p) (with_value_in to a) (with_value_in to b)
+with_values to (Place v a i) = Place (to v) a (with_value_in to i)
+with_values to (Load v a p dismissible) = Load (to v) a (with_value_in to p) dismissible
+with_values to (Store a p x) = Store a (with_value_in to p) (with_value_in to x)
+with_values to (More v) = More (to v)
+with_values to (Input v) = Input (to v)
+with_values to (Text n) = Text n
+with_values to (Decimal x) = Decimal (with_value_in to x)
+with_values to (Across v u) = Across (to v) (to u)
+
+-- it reads or writes the streams of the program, so that its order among others can be seen
+
+abbrev pub is_observable : Op → Bool
+is_observable (More v) = true
+is_observable (Input v) = true
+is_observable (Text n) = true
+is_observable (Decimal x) = true
+is_observable op = false

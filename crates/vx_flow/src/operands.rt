@@ -3,7 +3,7 @@
 
 ghost use Rattle.std.specs.Prelude.{◌≡◌, ◌++◌, IfOk};
 ghost use Rattle.vx_flow.specs.Effects.{is_unary, reads, value_in};
-ghost use Rattle.vx_flow.specs.Operands.{held_by, read_by, reads_three, value_list, values_read, written_by};
+ghost use Rattle.vx_flow.specs.Operands.{first_operand, held_by, is_observable, read_by, reads_three, second_operand, value_list, values_read, with_two, written_by};
 
 use crate::graph::{Op, Operand, Value};
 use vx_base::arithmetic::Code;
@@ -124,4 +124,86 @@ pub fn push_reads(values: &mut Listed<Value>, op: &Op) -> Result<(), NoMemory>
     push_value(values, read.first)?;
     push_value(values, read.second)?;
     push_value(values, read.third)
+}
+
+/// The first operand that an operation reads; 0 where it reads none.
+pub fn first_operand(op: &Op) -> Operand
+    ensures { result ≡ first_operand op.now }
+{
+    match op {
+        Op::Compute { left, .. } | Op::Select { left, .. } => *left,
+        Op::Place { index, .. } => *index,
+        Op::Load { place, .. } | Op::Store { place, .. } => *place,
+        Op::Decimal { from } => *from,
+        _ => Operand::Number(0),
+    }
+}
+
+/// The second operand of an operation; 0 where it has none. That of a move is not read.
+pub fn second_operand(op: &Op) -> Operand
+    ensures { result ≡ second_operand op.now }
+{
+    match op {
+        Op::Compute { right, .. } | Op::Select { right, .. } => *right,
+        Op::Store { from, .. } => *from,
+        _ => Operand::Number(0),
+    }
+}
+
+/// The operation with others in place of the operands that it reads.
+pub fn with_two(op: &Op, first: Operand, second: Operand) -> Op
+    ensures { result ≡ with_two op.now first second }
+{
+    match *op {
+        Op::Compute {
+            code,
+            to,
+            right,
+            ..
+        } => Op::Compute {
+            code,
+            to,
+            left: first,
+            right: if is_unary(code) { right } else { second },
+        },
+        Op::Select { to, test, .. } => Op::Select {
+            to,
+            test,
+            left: first,
+            right: second,
+        },
+        Op::Place { to, array, .. } => Op::Place {
+            to,
+            array,
+            index: first,
+        },
+        Op::Load {
+            to,
+            array,
+            dismissible,
+            ..
+        } => Op::Load {
+            to,
+            array,
+            place: first,
+            dismissible,
+        },
+        Op::Store { array, .. } => Op::Store {
+            array,
+            place: first,
+            from: second,
+        },
+        Op::Decimal { .. } => Op::Decimal { from: first },
+        _ => *op,
+    }
+}
+
+/// Whether an operation reads or writes the streams of the program, so that its order among others can be seen.
+pub fn is_observable(op: &Op) -> bool
+    ensures { result ≡ is_observable op.now }
+{
+    match op {
+        Op::More { .. } | Op::Input { .. } | Op::Text { .. } | Op::Decimal { .. } => true,
+        _ => false,
+    }
 }

@@ -10,6 +10,7 @@ use std::test::Fail;
 use vx_base::outcome::NoMemory;
 use vx_flow::graph::{Edge, Graph};
 use vx_replace::Mixed;
+use vx_sound::graph_is_sound;
 
 #[tactic(auto, using(vx_motion::proofs::Counting::counting_begins))]
 fn begun(alloc: Global, graph: &Graph) -> Result<Mixed, NoMemory>
@@ -63,7 +64,7 @@ fn stands_so(mixed: &mut Mixed) -> bool {
 
 fn begins_so(alloc: Global) -> Result<bool, NoMemory> {
     let graph = counting(alloc)?;
-    if !graph.sound() {
+    if !graph_is_sound(&graph) {
         return Ok(false);
     }
     let mut mixed = begun(alloc, &graph)?;

@@ -22,6 +22,7 @@ use vx_mixed::region::Made;
 use vx_mixed::replacement::Replacement;
 use vx_motion::laws::an_if_is_replaced;
 use vx_replace::Mixed;
+use vx_sound::graph_is_sound;
 
 fn homes(alloc: Global) -> Result<Homes, NoMemory>
     ensures { IfOk result (λ homes. homes.clusters ≡ if_homes) }
@@ -151,7 +152,7 @@ fn stands_so(mixed: &Mixed) -> bool {
 
 fn is_replaced(alloc: Global) -> Result<bool, NoMemory> {
     let graph = without_else(alloc)?;
-    if !graph.sound() {
+    if !graph_is_sound(&graph) {
         return Ok(false);
     }
     let mixed = replaced(alloc, &graph)?;

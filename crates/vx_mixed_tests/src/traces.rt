@@ -12,6 +12,7 @@ use vx_base::outcome::NoMemory;
 use vx_flow::graph::{Edge, Graph, Op};
 use vx_flow::trace::{Trace, TraceOp};
 use vx_replace::Mixed;
+use vx_sound::graph_is_sound;
 
 #[tactic(auto, using(vx_motion::proofs::Traced::if_traces))]
 fn traced(alloc: Global, graph: &Graph) -> Result<Trace, NoMemory>
@@ -83,7 +84,7 @@ fn is_worked(trace: &Trace) -> bool {
 
 fn is_traced(alloc: Global) -> Result<bool, NoMemory> {
     let graph = without_else(alloc)?;
-    if !graph.sound() {
+    if !graph_is_sound(&graph) {
         return Ok(false);
     }
     let trace = traced(alloc, &graph)?;

@@ -8,6 +8,7 @@ use std::test::Fail;
 use vx_base::outcome::NoMemory;
 use vx_flow::graph::{Bank, Edge, Graph, Operand};
 use vx_flow::{back_edges, headers};
+use vx_sound::graph_is_sound;
 
 const RETURNS: Way = Way::Return(Operand::Number(0));
 
@@ -45,7 +46,7 @@ fn are_headers(alloc: Global, graph: &Graph, wanted: &[u32]) -> Result<bool, NoM
 
 /// Whether a graph is sound and has these back edges and headers.
 fn has(alloc: Global, graph: &Graph, back: &[Edge], headers: &[u32]) -> Result<bool, NoMemory> {
-    if !graph.sound() {
+    if !graph_is_sound(graph) {
         return Ok(false);
     }
     Ok(are_back(alloc, graph, back)? && are_headers(alloc, graph, headers)?)

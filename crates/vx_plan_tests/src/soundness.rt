@@ -6,6 +6,7 @@ use std::test::Fail;
 use vx_base::arithmetic::{Code, Compare};
 use vx_base::outcome::NoMemory;
 use vx_flow::graph::{Array, Bank, Global, Op, Operand};
+use vx_sound::{flow_is_sound, graph_is_sound};
 
 const GLOBAL: u32 = 0;
 
@@ -61,7 +62,7 @@ fn is_sound(alloc: Heap, parameter: u32, act: Act, way: Way) -> Result<bool, NoM
         parameters: &parameters,
         arrays: &ARRAYS,
     };
-    Ok(graph(alloc, &shape)?.sound())
+    Ok(graph_is_sound(&graph(alloc, &shape)?))
 }
 
 const TEXT: Act = Act::Plain(Op::Text { number: 0 });
@@ -240,7 +241,7 @@ fn is_sound_program(alloc: Heap, row: &Row) -> Result<bool, NoMemory> {
         globals: &globals,
         main: row.4,
     };
-    Ok(program(alloc, &whole)?.sound())
+    Ok(flow_is_sound(&program(alloc, &whole)?))
 }
 
 fn first_wrong_program(alloc: Heap) -> Result<usize, NoMemory> {

@@ -45,14 +45,18 @@ pub struct Cyclic {
 
 impl Late {
     /// The timing, at its first number.
-    pub fn make() -> Late {
+    pub fn make() -> Late
+        ensures { ⟦<Late as Timing>⟧.times result ≡ always 16 }
+    {
         Late
     }
 }
 
 impl Early {
     /// The timing, at its first number.
-    pub fn make() -> Early {
+    pub fn make() -> Early
+        ensures { ⟦<Early as Timing>⟧.times result ≡ always 1 }
+    {
         Early
     }
 }

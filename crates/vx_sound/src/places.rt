@@ -5,10 +5,10 @@ ghost use Rattle.std.specs.Prelude.{◌≡◌, slice_get};
 ghost use Rattle.std.specs.List.{list_all};
 ghost use Rattle.vx_sound.specs.Origins.{is_array, is_found, is_free, is_free_operand, is_free_result, is_free_right, is_origin, is_place_at, is_place_of, is_place_or_free, is_shown, is_shown_block, is_shown_in, is_shown_place, keeps_origins, leaves_origins};
 
+use crate::named::{are_general, is_local, is_place_in, is_sound_exit, is_sound_operation};
 use crate::origins::{Origin, noted};
 use vx_base::arithmetic::Code;
 use vx_flow::graph::{ArrayId, Block, Exit, Graph, Op, Operand, Value};
-use vx_flow::named::{are_general, is_local, is_place_in, is_sound_exit, is_sound_operation};
 
 /// Whether a table shows that a graph is sound.
 pub fn is_shown(origins: &[Option<Origin>], graph: &Graph) -> bool

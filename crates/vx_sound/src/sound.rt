@@ -7,12 +7,13 @@ ghost use Rattle.vx_flow.specs.Sound.{is_sound, is_sound_flow, is_sound_function
 
 use crate::origins::{Origin, find_origins};
 use crate::places::is_shown;
+use crate::program_names::{are_blocks_there, are_distinct, begins_with, has_parameters};
+use crate::soundness::graph_is_sound;
 use std::alloc::Global;
 use vx_base::outcome::NoMemory;
 use vx_flow::graph::{Flow, Graph};
-use vx_flow::program_names::{are_blocks_there, are_distinct, begins_with, has_parameters};
 
-/// Whether the graphs of a program are sound: what `Flow::sound` tells. Where they are, the time is that of a few passes over the
+/// Whether the graphs of a program are sound: what `flow_is_sound` tells. Where they are, the time is that of a few passes over the
 /// graphs, and a graph takes memory for each of its values.
 pub fn is_sound(alloc: Global, flow: &Flow) -> Result<bool, NoMemory>
     ensures { IfOk result (λ answer. answer ≡ is_sound_flow flow.now) }
@@ -57,5 +58,5 @@ fn is_sound_graph(alloc: Global, graph: &Graph) -> Result<bool, NoMemory>
 fn is_sound_with(origins: &[Option<Origin>], graph: &Graph) -> bool
     ensures { result ≡ is_sound graph.now }
 {
-    is_shown(origins, graph) || graph.sound()
+    is_shown(origins, graph) || graph_is_sound(graph)
 }

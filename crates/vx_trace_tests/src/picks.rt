@@ -13,6 +13,7 @@ use vx_base::outcome::NoMemory;
 use vx_flow::graph::{BlockId, Graph};
 use vx_profile::counts::Counts;
 use vx_replace::Mixed;
+use vx_sound::graph_is_sound;
 use vx_trace::{count_of_trace, pick};
 
 /// A graph with its counts; then the trace that is picked, and the count of its seed.
@@ -176,7 +177,7 @@ fn is_so(alloc: Global, row: &Row) -> Result<bool, NoMemory> {
     };
     let counts = counts(alloc, &passed)?;
     let graph = graph(alloc, &row.shape)?;
-    if !graph.sound() {
+    if !graph_is_sound(&graph) {
         return Ok(false);
     }
     if !can_begin(alloc, &graph)? {

@@ -20,6 +20,7 @@ use vx_profile::counts::Counts;
 use vx_region::laws::{graphs_begin_so, steps_keep_the_graph};
 use vx_region::{Budget, Step, TracePlan, replace_one};
 use vx_replace::Mixed;
+use vx_sound::graph_is_sound;
 use vx_test_machines::{Kind, machine};
 
 /// What is owed at a split: its place, the edge by which it leaves, the places of what is copied onto that, and its empty cycles.
@@ -273,7 +274,7 @@ pub(crate) fn is_so(alloc: Global, row: &Row) -> Result<bool, NoMemory> {
     let machine = machine(alloc, row.kind)?;
     let counts = counts(alloc, &row.passed)?;
     let graph = graph(alloc, &row.shape)?;
-    if !graph.sound() {
+    if !graph_is_sound(&graph) {
         return Ok(false);
     }
     if !can_begin(alloc, &graph)? {

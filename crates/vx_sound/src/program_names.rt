@@ -4,7 +4,7 @@ ghost use Rattle.std.specs.Prelude.{◌≡◌, ◌==◌, not, slice_get};
 ghost use Rattle.std.specs.List.{list_all};
 ghost use Rattle.vx_flow.specs.Sound.{are_distinct, begins_with, has_parameters, is_block_there, is_call_there, is_global, is_text_there};
 
-use crate::graph::{Array, Block, Exit, Flow, Global, Graph, Op, Value};
+use vx_flow::graph::{Array, Block, Exit, Flow, Global, Graph, Op, Value};
 
 /// Whether the function is there and has so many parameters.
 pub fn has_parameters(count: usize, functions: &[Graph], function: u32) -> bool

@@ -6,50 +6,46 @@ ghost use Rattle.std.specs.Prelude.{◌≡◌, ◌↔◌, ◌==◌, true, not};
 ghost use Rattle.std.specs.List.{list_all, list_any};
 ghost use Rattle.vx_flow.specs.Sound.{block_keeps, has_place_in, is_access_placed, is_kept, is_place_in, is_placed, is_result, is_right_value, is_sound, is_sound_block, is_sound_flow, is_sound_function, is_sound_in, is_value, keeps_place, leaves_alone, Sound, SoundFlow};
 
-use crate::graph::{Block, Exit, Flow, Graph, Op, Operand, Value};
 use crate::named::{are_general, is_local, is_place_in, is_sound_exit, is_sound_operation};
 use crate::program_names::{
     are_blocks_there, are_distinct, are_others, begins_with, has_parameters,
 };
 use vx_base::arithmetic::Code;
+use vx_flow::graph::{Block, Exit, Flow, Graph, Op, Operand, Value};
 
-impl Graph {
-    /// Whether all of this holds.
-    ///
-    /// - The blocks, values and arrays that are named are there, and kinds agree: parameters, operands and the results
-    ///   of calls are general values, tests are branch values, and a compare to a branch value writes one.
-    /// - No operand is the stack pointer, and no block holds an `Across`.
-    /// - A value that a `Place` of a local array writes is written only by `Place`s of that array. It is no parameter
-    ///   and no result of a call, and it is used only as the place of that array's loads and stores.
-    /// - A load or store of a local array has such a value or a number as its place.
-    /// - What stands as the right operand of a move is `Number(0)`.
-    ///
-    /// It takes no memory. The time is that of one pass over the graph, and of one more for each place of, and each
-    /// access to, a local array.
-    pub fn sound(&self) -> bool
-        ensures test { result ≡ is_sound self.now }
-        ensures words { (result ≡ true) ↔ Sound self.now }
-    {
-        is_sound_graph(self)
-    }
+/// Whether all of this holds of a graph.
+///
+/// - The blocks, values and arrays that are named are there, and kinds agree: parameters, operands and the results
+///   of calls are general values, tests are branch values, and a compare to a branch value writes one.
+/// - No operand is the stack pointer, and no block holds an `Across`.
+/// - A value that a `Place` of a local array writes is written only by `Place`s of that array. It is no parameter
+///   and no result of a call, and it is used only as the place of that array's loads and stores.
+/// - A load or store of a local array has such a value or a number as its place.
+/// - What stands as the right operand of a move is `Number(0)`.
+///
+/// It takes no memory. The time is that of one pass over the graph, and of one more for each place of, and each
+/// access to, a local array.
+pub fn graph_is_sound(graph: &Graph) -> bool
+    ensures test { result ≡ is_sound graph.now }
+    ensures words { (result ≡ true) ↔ Sound graph.now }
+{
+    is_sound_graph(graph)
 }
 
-impl Flow {
-    /// Whether all of this holds.
-    ///
-    /// - Every graph is sound, has at least one block and has no parameter twice.
-    /// - `main`, every function that is called and every text that is named are there.
-    /// - `main` has no parameter, and a call has one argument for each parameter of its function.
-    /// - The arrays of every graph begin with the globals in their order, with their words, and no later array is
-    ///   global.
-    ///
-    /// It takes no memory.
-    pub fn sound(&self) -> bool
-        ensures test { result ≡ is_sound_flow self.now }
-        ensures words { (result ≡ true) ↔ SoundFlow self.now }
-    {
-        is_sound_flow(self)
-    }
+/// Whether all of this holds of the graphs of a program.
+///
+/// - Every graph is sound, has at least one block and has no parameter twice.
+/// - `main`, every function that is called and every text that is named are there.
+/// - `main` has no parameter, and a call has one argument for each parameter of its function.
+/// - The arrays of every graph begin with the globals in their order, with their words, and no later array is
+///   global.
+///
+/// It takes no memory.
+pub fn flow_is_sound(flow: &Flow) -> bool
+    ensures test { result ≡ is_sound_flow flow.now }
+    ensures words { (result ≡ true) ↔ SoundFlow flow.now }
+{
+    is_sound_flow(flow)
 }
 
 fn is_sound_graph(graph: &Graph) -> bool

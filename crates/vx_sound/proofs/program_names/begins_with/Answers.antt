@@ -2,7 +2,7 @@ use Rattle.std.proofs.Common.{◌≡◌, ℕ, zero, suc, ◌<◌, List, [], ◌�
 use Rattle.vx_flow.specs.declared.graph.Array.{Array}
 use Rattle.vx_flow.specs.declared.graph.Global.{Global}
 use Rattle.vx_flow.specs.Sound.{begins_with}
-use Rattle.vx_flow.proofs.program_names.begins_with.Goals as goal
+use Rattle.vx_sound.proofs.program_names.begins_with.Goals as goal
 
 -- a global without an array
 none_left : (gs : List Global) (i : ℕ) (xs : List Array) → i < length gs → length xs < 1 → begins_with (drop i gs) xs ≡ false

@@ -4,8 +4,8 @@ ghost use Rattle.std.specs.Prelude.{◌≡◌};
 ghost use Rattle.std.specs.List.{list_all};
 ghost use Rattle.vx_flow.specs.Sound.{is_branch, is_general, is_general_or_none, is_local, is_operand, is_place_in, is_right, is_sound_exit, is_sound_operation, is_written, is_zero};
 
-use crate::graph::{Array, ArrayId, Bank, Exit, Op, Operand, Value};
 use vx_base::arithmetic::Code;
+use vx_flow::graph::{Array, ArrayId, Bank, Exit, Op, Operand, Value};
 
 /// Whether these are general values that are there.
 pub fn are_general(banks: &[Bank], values: &[Value]) -> bool

@@ -1,5 +1,0 @@
-use Rattle.vx_flow.proofs.SoundFlowLaw.{told}
-use Rattle.vx_flow.proofs.graph.Flow.sound.Goals as goal
-
-pub returns-clause-words : goal.returns-clause-words
-returns-clause-words c = told c.args.self.now c.is_sound_flow.result c.is_sound_flow.ensures

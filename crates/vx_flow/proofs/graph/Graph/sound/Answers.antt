@@ -1,5 +1,0 @@
-use Rattle.vx_flow.proofs.SoundLaw.{told}
-use Rattle.vx_flow.proofs.graph.Graph.sound.Goals as goal
-
-pub returns-clause-words : goal.returns-clause-words
-returns-clause-words c = told c.args.self.now c.is_sound_graph.result c.is_sound_graph.ensures
