@@ -262,7 +262,7 @@ fn is_place_among(value: Value, array: u32, ops: &[Op]) -> bool
 fn is_sound_function(flow: &Flow, graph: &Graph) -> bool
     ensures { result ≡ is_sound_function flow.now graph.now }
 {
-    graph.sound()
+    is_sound_graph(graph)
         && !graph.blocks.is_empty()
         && are_distinct(graph.parameters.as_slice())
         && begins_with(flow.globals.as_slice(), graph.arrays.as_slice())
