@@ -1,6 +1,5 @@
 pub mod ArithmeticLaws
 mod ArithmeticRows
-pub mod ArithmeticSteps
 pub mod WrapLaws
 pub mod Same
 pub mod Following
@@ -16,9 +15,3 @@ pub mod InFlight
 pub mod Pieces
 pub mod Schedule
 pub mod Leaving
-pub mod FileSoFar
-pub mod LineLemmas
-pub mod MemFiles
-pub mod OutsideLaws
-mod OutsideRows
-pub mod PutSoFar

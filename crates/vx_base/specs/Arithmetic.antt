@@ -121,7 +121,7 @@ value_of Mpyhs a b = mpyhs_of a b
 value_of Div a b = quotient_of a b
 value_of Rem a b = remainder_of a b
 
--- the laws of the arithmetic, each the clause of a public function of this crate
+-- the laws of the arithmetic, each the clause of a public function of vx_arithmetic
 
 -- a product is the sum of what the two half multiplications give
 abbrev pub ProductByHalves : Type 0

@@ -1,8 +1,7 @@
 // The arithmetic of 32 bits at its edges.
 
-use vx_base::arithmetic::{
-    Code, Compare, add32, cmp32, div32, mul32, rem32, shl32, shr32, sub32, unsigned32, value,
-};
+use vx_arithmetic::{add32, cmp32, div32, mul32, rem32, shl32, shr32, sub32, unsigned32, value};
+use vx_base::arithmetic::{Code, Compare};
 
 #[test]
 fn the_parts_at_their_edges(rt: HostRuntime) {

@@ -2,10 +2,10 @@
 
 use std::alloc::{AllocError, Global};
 use std::test::Fail;
-use vx_base::depot::{Depot, DepotFault, MemDepot};
 use vx_base::outcome::NoMemory;
-use vx_base::reading::{FileRead, read_file};
-use vx_base::real::RealDepot;
+use vx_io::depot::{Depot, DepotFault, MemDepot};
+use vx_io::reading::{FileRead, read_file};
+use vx_io::real::RealDepot;
 
 /// A file under a name.
 fn file(alloc: Global, name: &str, content: &[u8]) -> Result<(String, Vec<u8>), AllocError> {

@@ -5,7 +5,7 @@ ghost use Rattle.std.specs.Prelude.{◌≡◌, false, IfOk};
 use std::alloc::{AllocError, Global};
 use std::test::Fail;
 use vx_base::outcome::NoMemory;
-use vx_base::sink::MemSink;
+use vx_io::sink::MemSink;
 use vx_isa::program::WordProgram;
 use vx_isa::sound;
 use vx_machine::Machine;

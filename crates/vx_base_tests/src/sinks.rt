@@ -2,10 +2,10 @@
 
 use std::alloc::Global;
 use std::test::Fail;
-use vx_base::lines::Lines;
 use vx_base::outcome::NoMemory;
-use vx_base::real::RealSink;
-use vx_base::sink::{MemSink, Sink, SinkFault, put_all};
+use vx_io::lines::Lines;
+use vx_io::real::RealSink;
+use vx_io::sink::{MemSink, Sink, SinkFault, put_all};
 
 /// A sink with room for five bytes, of which the second put fails.
 fn sink(alloc: Global) -> Result<MemSink, NoMemory> {

@@ -15,8 +15,8 @@ mod words;
 use crate::ending::Ended;
 use std::env;
 use std::process::ExitCode;
-use vx_base::real::RealSink;
-use vx_base::sink::put_all;
+use vx_io::real::RealSink;
+use vx_io::sink::put_all;
 
 const USAGE: &[u8] = b"usage: vx_bench flow
        vx_bench lowering SOURCE

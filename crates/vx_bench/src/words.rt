@@ -3,8 +3,8 @@
 use crate::ending::{Ended, ended_by};
 use std::alloc::Global;
 use vx_base::outcome::NoMemory;
-use vx_base::reading::{FileRead, read_file};
-use vx_base::real::RealDepot;
+use vx_io::reading::{FileRead, read_file};
+use vx_io::real::RealDepot;
 use vx_isa::program::WordProgram;
 use vx_isa::sound;
 use vx_reader::read;

@@ -8,7 +8,8 @@ ghost use Rattle.vx_slots.specs.Seen.{seen};
 
 use crate::gathering::{array_at, is_own};
 use crate::word_plan::Site;
-use vx_base::arithmetic::{Code, add32};
+use vx_arithmetic::add32;
+use vx_base::arithmetic::Code;
 use vx_base::outcome::NoMemory;
 use vx_flow::graph::{ArrayId, Op, Operand, Value};
 use vx_isa::operation::{BranchRegister, GeneralRegister, Operation, Register, Source};

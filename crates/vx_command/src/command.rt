@@ -13,7 +13,7 @@ use crate::options::{
 use clap::error::ErrorKind;
 use clap::{ArgMatches, Command, Error};
 use std::alloc::{AllocError, Global};
-use vx_base::sink::Sink;
+use vx_io::sink::Sink;
 use vx_status::{Status, put, tell};
 
 /// The words of `compile`.

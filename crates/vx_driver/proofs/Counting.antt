@@ -1,7 +1,7 @@
 -- The answers of `profile` from those of its steps, and what they exclude where nothing fails.
 use Rattle.std.proofs.Common.{◌≡◌, ◌⊎◌, inl, inr, ℕ, ℤ, Bool, true, false, List, is_some, Option, Some, None, Result, Ok, Err, IfSome, refl, sym, subst, ap, ◌∙◌}
-use Rattle.vx_base.specs.Outside.{Files, PutsFront, with_bytes}
-use Rattle.vx_base.specs.declared.role.Role.TheVariants.{Source as TheSource, Words as TheWords, Profile as TheProfile, Machine as TheMachine, Input as TheInput}
+use Rattle.vx_io.specs.Outside.{Files, PutsFront, with_bytes}
+use Rattle.vx_io.specs.declared.role.Role.TheVariants.{Source as TheSource, Words as TheWords, Profile as TheProfile, Machine as TheMachine, Input as TheInput}
 use Rattle.vx_ast.specs.Tree.{Program}
 use Rattle.vx_ast.specs.Reads.{Refusal}
 use Rattle.vx_ast.specs.declared.fault.SourceFault.{SourceFault}

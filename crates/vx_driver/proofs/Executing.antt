@@ -3,7 +3,7 @@ use Rattle.std.proofs.Common.{◌≡◌, ◌∙◌, ◌⊎◌, inl, inr, ℕ, �
 use Rattle.std.specs.Prelude.{◌<◌, All}
 use Rattle.vx_base.specs.Arithmetic.{IsNumber}
 use Rattle.vx_base.specs.Outcome.{Outcome, Ends, Traps, Goes, Stuck as StuckWith, Wrong, IsOver, IsFailure, IsGoing, Begins, Within, output_of}
-use Rattle.vx_base.specs.Outside.{Files, with_bytes}
+use Rattle.vx_io.specs.Outside.{Files, with_bytes}
 use Rattle.vx_base.specs.declared.outcome.Trap.{Trap}
 use Rattle.vx_base.specs.declared.outcome.Reason.{Reason}
 use Rattle.vx_base.proofs.Same.{begins_on}
@@ -13,7 +13,7 @@ use Rattle.vx_ast.specs.Tree.{Program}
 use Rattle.vx_ast.specs.Meaning.{source}
 use Rattle.vx_probe.specs.Times.{Times, list_of}
 use Rattle.vx_probe.specs.Watch.{Watch}
-use Rattle.vx_base.specs.declared.role.Role.TheVariants.{Source as TheSource, Words as TheWords, Profile as TheProfile, Machine as TheMachine, Input as TheInput}
+use Rattle.vx_io.specs.declared.role.Role.TheVariants.{Source as TheSource, Words as TheWords, Profile as TheProfile, Machine as TheMachine, Input as TheInput}
 use Rattle.vx_status.specs.declared.status.Status.{Status}
 use Rattle.vx_status.specs.declared.status.Status.TheVariants.{Done, Trapped, Usage, Source, Limit, Words, Profile, Machine, NoFile, ReadFault, WriteFault, Stopped, Input, Stuck, NoMemory}
 use Rattle.vx_command.specs.Command.{Execution}

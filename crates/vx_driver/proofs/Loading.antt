@@ -1,7 +1,7 @@
 -- What is read and compiled for an execution, step by step.
 use Rattle.std.proofs.Common.{◌≡◌, ◌∙◌, ℕ, ℤ, List, Option, Ok, IfSome, refl, sym, subst, arith}
 use Rattle.std.specs.Prelude.{◌≤◌}
-use Rattle.vx_base.specs.Outside.{Files}
+use Rattle.vx_io.specs.Outside.{Files}
 use Rattle.vx_isa.specs.Numbers.{Numbers}
 use Rattle.vx_ast.specs.Tree.{Program}
 use Rattle.vx_profile.specs.declared.counts.Counts.{Counts}

@@ -3,7 +3,7 @@ use Rattle.std.proofs.Common.{◌≡◌, ◌∙◌, ℕ, ℤ, false, List, [], l
 use Rattle.std.specs.Prelude.{All, codes}
 use Rattle.vx_base.specs.Arithmetic.{IsNumber}
 use Rattle.vx_base.specs.Outcome.{Outcome, Ends, Traps, Goes, IsGoing, output_of}
-use Rattle.vx_base.specs.Outside.{with_bytes}
+use Rattle.vx_io.specs.Outside.{with_bytes}
 use Rattle.vx_ast.specs.Tree.{Program}
 use Rattle.vx_ast.specs.Reads.{Reads}
 use Rattle.vx_gen.specs.Program.{program_text}

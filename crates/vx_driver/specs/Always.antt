@@ -1,7 +1,7 @@
 -- No status is always an answer: for each command that reads a file, and each number of a status but that of want of memory, there
 -- are files over which the command may not be answered by a status of that number.
 use Rattle.std.specs.Prelude.{◌≡◌, ◌≢◌, ℕ, Some}
-use Rattle.vx_base.specs.Outside.{Files}
+use Rattle.vx_io.specs.Outside.{Files}
 use Rattle.vx_status.specs.declared.status.Status.{Status}
 use Rattle.vx_status.specs.declared.status.Status.TheVariants.{NoMemory}
 use Rattle.vx_status.specs.Status.{number_of}

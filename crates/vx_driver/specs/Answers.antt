@@ -1,13 +1,13 @@
 -- What each answer of the top call says of the words, the files and the counts of faults, before the call and after it.
 use Rattle.std.specs.Prelude.{◌≡◌, ◌≢◌, ◌⊎◌, ℕ, List, true, is_some, Option, Some, None, IfSome, IsSomeAnd}
-use Rattle.vx_base.specs.Outside.{Files, held_with, with_file, ReplacesPartly}
+use Rattle.vx_io.specs.Outside.{Files, held_with, with_file, ReplacesPartly}
 use Rattle.vx_isa.specs.declared.program.WordProgram.{WordProgram}
 use Rattle.vx_isa.specs.Numbers.{Numbers}
 use Rattle.vx_machine.specs.declared.description.MachineFault.TheVariants.{Bad}
 use Rattle.vx_profile.specs.declared.counts.Counts.{Counts}
 use Rattle.vx_ast.specs.Tree.{Program}
-use Rattle.vx_base.specs.declared.role.Role.{Role}
-use Rattle.vx_base.specs.declared.role.Role.TheVariants.{Source as TheSource, Profile as TheProfile, Machine as TheMachine}
+use Rattle.vx_io.specs.declared.role.Role.{Role}
+use Rattle.vx_io.specs.declared.role.Role.TheVariants.{Source as TheSource, Profile as TheProfile, Machine as TheMachine}
 use Rattle.vx_ast.specs.Reads.{Refusal}
 use Rattle.vx_ast.specs.declared.fault.SourceFault.{SourceFault}
 use Rattle.vx_status.specs.declared.status.Status.{Status}

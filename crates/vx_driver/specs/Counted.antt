@@ -2,9 +2,9 @@
 -- often each block and each edge was passed.
 use Rattle.std.specs.Prelude.{◌≡◌, ◌⊎◌, true, ℕ, ℤ, List, is_some, Some, None, IfSome, Ok, Err}
 use Rattle.vx_base.specs.Outcome.{IsOver}
-use Rattle.vx_base.specs.Outside.{Files, PutsFront, with_bytes}
-use Rattle.vx_base.specs.declared.role.Role.{Role}
-use Rattle.vx_base.specs.declared.role.Role.TheVariants.{Source as TheSource, Input as TheInput}
+use Rattle.vx_io.specs.Outside.{Files, PutsFront, with_bytes}
+use Rattle.vx_io.specs.declared.role.Role.{Role}
+use Rattle.vx_io.specs.declared.role.Role.TheVariants.{Source as TheSource, Input as TheInput}
 use Rattle.vx_ast.specs.Tree.{Program}
 use Rattle.vx_ast.specs.Reads.{Refusal}
 use Rattle.vx_ast.specs.declared.fault.SourceFault.{SourceFault}

@@ -1,7 +1,7 @@
 -- What the steps of `profile` hand on.
 use Rattle.std.specs.Prelude.{◌≡◌, ◌↔◌, ◌⊎◌, ℕ, ℤ, Bool, true, false, List, Option, IfSome, Ok}
 use Rattle.vx_base.specs.Outcome.{IsOver}
-use Rattle.vx_base.specs.Outside.{PutsFront, with_bytes}
+use Rattle.vx_io.specs.Outside.{PutsFront, with_bytes}
 use Rattle.vx_ast.specs.Tree.{Program}
 use Rattle.vx_flow.specs.Meaning.{graph_run}
 use Rattle.vx_profile.specs.Text.{counts_text}

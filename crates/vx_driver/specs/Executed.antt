@@ -2,9 +2,9 @@
 -- command, with the first boxes of the asked names; and what the source has of that run.
 use Rattle.std.specs.Prelude.{◌≡◌, ◌<◌, ◌≤◌, ◌⊎◌, ℕ, true, ℤ, List, is_some, Option, Some, None, IfSome, Ok, Err}
 use Rattle.vx_base.specs.Outcome.{Outcome, Ends, Traps, Goes, IsGoing, Begins, output_of}
-use Rattle.vx_base.specs.Outside.{Files, with_bytes}
-use Rattle.vx_base.specs.declared.role.Role.{Role}
-use Rattle.vx_base.specs.declared.role.Role.TheVariants.{Source as TheSource, Profile as TheProfile, Machine as TheMachine, Input as TheInput}
+use Rattle.vx_io.specs.Outside.{Files, with_bytes}
+use Rattle.vx_io.specs.declared.role.Role.{Role}
+use Rattle.vx_io.specs.declared.role.Role.TheVariants.{Source as TheSource, Profile as TheProfile, Machine as TheMachine, Input as TheInput}
 use Rattle.vx_isa.specs.declared.program.WordProgram.{WordProgram}
 use Rattle.vx_isa.specs.Numbers.{Numbers}
 use Rattle.vx_ast.specs.Tree.{Program}

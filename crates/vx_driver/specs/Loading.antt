@@ -1,6 +1,6 @@
 -- What is read and compiled for an execution, from its last step to its first: each finds what the steps behind it left.
 use Rattle.std.specs.Prelude.{◌≡◌, ◌≤◌, ℕ, ℤ, List, Option, Ok, IfSome}
-use Rattle.vx_base.specs.Outside.{Files}
+use Rattle.vx_io.specs.Outside.{Files}
 use Rattle.vx_isa.specs.Numbers.{Numbers}
 use Rattle.vx_ast.specs.Tree.{Program}
 use Rattle.vx_profile.specs.declared.counts.Counts.{Counts}

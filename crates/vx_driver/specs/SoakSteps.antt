@@ -1,6 +1,6 @@
 -- What the steps of `soak` hand on.
 use Rattle.std.specs.Prelude.{◌≡◌, ℕ, ℤ, List, [], length}
-use Rattle.vx_base.specs.Outside.{PutsFront, with_bytes}
+use Rattle.vx_io.specs.Outside.{PutsFront, with_bytes}
 use Rattle.vx_base.specs.declared.outcome.Trap.{Trap}
 use Rattle.vx_ast.specs.Tree.{Program}
 use Rattle.vx_isa.specs.Numbers.{vex}

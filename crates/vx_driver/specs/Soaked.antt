@@ -3,7 +3,7 @@
 use Rattle.std.specs.Prelude.{◌≡◌, ◌%◌, ◌^◌, ℕ, ℤ, Bool, true, false, List, [], ◌∷◌, ◌++◌, length, codes, None}
 use Rattle.std.specs.List.{sum_by}
 use Rattle.vx_base.specs.Outcome.{Outcome, Ends, Traps, Goes, IsGoing}
-use Rattle.vx_base.specs.Outside.{PutsFront, with_bytes}
+use Rattle.vx_io.specs.Outside.{PutsFront, with_bytes}
 use Rattle.vx_ast.specs.Reads.{Reads}
 use Rattle.vx_ast.specs.Tree.{Program}
 use Rattle.vx_gen.specs.Program.{program_text}

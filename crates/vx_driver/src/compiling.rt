@@ -13,11 +13,11 @@ ghost use Rattle.vx_isa.specs.Sound.{is_sound};
 
 use std::alloc::Global;
 use vx_ast::typed::Typed;
-use vx_base::depot::{Depot, DepotFault};
 use vx_base::outcome::NoMemory;
 use vx_command::CompileWords;
 use vx_compile::CompiledProgram;
 use vx_files::{counts_for, machine_for, read_through};
+use vx_io::depot::{Depot, DepotFault};
 use vx_machine::Machine;
 use vx_profile::counts::Counts;
 use vx_report::{Plan, report};

@@ -17,11 +17,11 @@ ghost use Rattle.vx_driver.specs.Stopping.{AfterSource, LaterStops, StopsBefore}
 
 use std::alloc::Global;
 use vx_ast::typed::Typed;
-use vx_base::depot::Depot;
-use vx_base::sink::Sink;
 use vx_command::ExecWords;
 use vx_compile::compile;
 use vx_files::{counts_for, input_for, machine_for, read_through};
+use vx_io::depot::Depot;
+use vx_io::sink::Sink;
 use vx_machine::Machine;
 use vx_probe::{Probe, Timing};
 use vx_profile::counts::Counts;

@@ -2,7 +2,7 @@
 // each edge was passed.
 
 ghost use Rattle.std.specs.Prelude.{◌≡◌, ◌⊎◌, ◌≤◌, true, false, option_map, is_some, IfOk, IfErr};
-ghost use Rattle.vx_base.specs.Outside.{PutsFront, Rose, with_bytes};
+ghost use Rattle.vx_io.specs.Outside.{PutsFront, Rose, with_bytes};
 ghost use Rattle.vx_ast.specs.View as view;
 ghost use Rattle.vx_files.specs.Effects.{effect_of, InputAnswers};
 ghost use Rattle.vx_command.specs.Command.{Count};
@@ -16,12 +16,12 @@ ghost use Rattle.vx_driver.specs.Counting.{IsCounted, CountedOn, CountedFor, Put
 
 use std::alloc::Global;
 use vx_ast::typed::Typed;
-use vx_base::depot::Depot;
 use vx_base::outcome::NoMemory;
-use vx_base::sink::{Sink, put_all};
 use vx_command::ProfileWords;
 use vx_compile::flow_of;
 use vx_files::{input_for, read_through};
+use vx_io::depot::Depot;
+use vx_io::sink::{Sink, put_all};
 use vx_profile::write_counts;
 use vx_status::{Status, tell};
 use vx_tally::count;

@@ -2,10 +2,10 @@
 use Rattle.std.proofs.Common.{◌≡◌, ◌⊎◌, inl, inr, ℕ, ℤ, List, length, Option, Some, None, Result, Ok, Err, IfSome, MatchOption, refl, sym, subst, ap}
 use Rattle.std.specs.Prelude.{Vec, ◌≤◌}
 use Rattle.std.specs.declared.alloc.Global.{Global}
-use Rattle.vx_base.specs.Outside.{Files}
-use Rattle.vx_base.specs.Reading.{ReadsFile}
-use Rattle.vx_base.specs.declared.reading.FileRead.TheVariants.{Whole, TooLong as FileTooLong}
-use Rattle.vx_base.specs.declared.role.Role.TheVariants.{Input as TheInput}
+use Rattle.vx_io.specs.Outside.{Files}
+use Rattle.vx_io.specs.Reading.{ReadsFile}
+use Rattle.vx_io.specs.declared.reading.FileRead.TheVariants.{Whole, TooLong as FileTooLong}
+use Rattle.vx_io.specs.declared.role.Role.TheVariants.{Input as TheInput}
 use Rattle.vx_status.specs.declared.status.Status.{Status}
 use Rattle.vx_status.specs.declared.status.Status.TheVariants.{Limit, NoFile, Input, NoMemory}
 use Rattle.vx_files.specs.Held.{input_as, input_found}

@@ -3,9 +3,9 @@ use Rattle.std.proofs.Common.{◌≡◌, ◌∙◌, ℕ, Bool, true, false, nat_
 use Rattle.std.specs.Prelude.{Vec, ◌≤◌, ◌<◌}
 use Rattle.std.specs.declared.alloc.Global.{Global}
 use Rattle.std.proofs.lemmas.Bool.{leb-true, le-leb}
-use Rattle.vx_base.specs.Outside.{Files}
-use Rattle.vx_base.specs.Reading.{ReadsFile}
-use Rattle.vx_base.specs.declared.reading.FileRead.TheVariants.{Whole, TooLong as FileTooLong}
+use Rattle.vx_io.specs.Outside.{Files}
+use Rattle.vx_io.specs.Reading.{ReadsFile}
+use Rattle.vx_io.specs.declared.reading.FileRead.TheVariants.{Whole, TooLong as FileTooLong}
 use Rattle.vx_isa.specs.Numbers.{Numbers, vex}
 use Rattle.vx_machine.specs.declared.description.MachineFault.TheVariants.{Bad}
 use Rattle.vx_machine.specs.Descriptions.{reading}

@@ -4,10 +4,10 @@ use Rattle.std.specs.Prelude.{Vec, ◌≤◌, ◌<◌, ◌^◌}
 use Rattle.std.specs.List.{flat_map}
 use Rattle.std.specs.declared.alloc.Global.{Global}
 use Rattle.std.proofs.lemmas.Bool.{ltb-true}
-use Rattle.vx_base.specs.Outside.{Files}
-use Rattle.vx_base.specs.Reading.{ReadsFile}
-use Rattle.vx_base.specs.declared.reading.FileRead.TheVariants.{Whole, TooLong as FileTooLong}
-use Rattle.vx_base.specs.declared.role.Role.TheVariants.{Profile as TheProfile}
+use Rattle.vx_io.specs.Outside.{Files}
+use Rattle.vx_io.specs.Reading.{ReadsFile}
+use Rattle.vx_io.specs.declared.reading.FileRead.TheVariants.{Whole, TooLong as FileTooLong}
+use Rattle.vx_io.specs.declared.role.Role.TheVariants.{Profile as TheProfile}
 use Rattle.vx_profile.specs.declared.counts.Counts.{Counts}
 use Rattle.vx_profile.specs.declared.fault.ProfileFault.{ProfileFault}
 use Rattle.vx_profile.specs.declared.fault.ProfileFault.TheVariants.{BadLine, CountTooLarge, NoMemory as NoRoomForCounts}

@@ -2,11 +2,11 @@
 use Rattle.std.proofs.Common.{◌≡◌, ◌⊎◌, inl, inr, ℕ, List, Option, Some, None, IfSome, sym, subst, arith}
 use Rattle.std.specs.Prelude.{◌<◌, suc, length, replicate}
 use Rattle.std.proofs.lemmas.List.{length-replicate}
-use Rattle.vx_base.specs.Outside.{Files}
+use Rattle.vx_io.specs.Outside.{Files}
 use Rattle.vx_ast.specs.Tree.{Program}
 use Rattle.vx_ast.specs.Reads.{most_bytes, Reads, too_long}
-use Rattle.vx_base.specs.Reading.{ReadsFile}
-use Rattle.vx_base.specs.declared.reading.FileRead.TheVariants.{TooLong as FileTooLong}
+use Rattle.vx_io.specs.Reading.{ReadsFile}
+use Rattle.vx_io.specs.declared.reading.FileRead.TheVariants.{TooLong as FileTooLong}
 use Rattle.vx_status.specs.declared.status.Status.{Status}
 use Rattle.vx_status.specs.declared.status.Status.TheVariants.{Source, Limit, NoMemory}
 use Rattle.vx_files.specs.Held.{HoldsSource, HoldsProgram, RefusesSource, Refuses}

@@ -3,10 +3,10 @@ use Rattle.std.proofs.Common.{◌≡◌, ◌∙◌, ℕ, Bool, true, false, nat_
 use Rattle.std.specs.Prelude.{Vec, ◌≤◌, ◌<◌}
 use Rattle.std.specs.declared.alloc.Global.{Global}
 use Rattle.std.proofs.lemmas.Bool.{leb-true, le-leb}
-use Rattle.vx_base.specs.Outside.{Files}
-use Rattle.vx_base.specs.Reading.{ReadsFile}
-use Rattle.vx_base.specs.declared.reading.FileRead.TheVariants.{Whole, TooLong as FileTooLong}
-use Rattle.vx_base.specs.declared.role.Role.{Role}
+use Rattle.vx_io.specs.Outside.{Files}
+use Rattle.vx_io.specs.Reading.{ReadsFile}
+use Rattle.vx_io.specs.declared.reading.FileRead.TheVariants.{Whole, TooLong as FileTooLong}
+use Rattle.vx_io.specs.declared.role.Role.{Role}
 use Rattle.vx_status.specs.declared.status.Status.{Status}
 use Rattle.vx_status.specs.declared.status.Status.TheVariants.{NoFile}
 use Rattle.vx_files.specs.Held.{file_in}

@@ -1,8 +1,8 @@
 -- What a call was given and left of the files, and what each status says that comes from the reading of one.
 use Rattle.std.specs.Prelude.{◌≡◌, ℕ, List, Option, Some, None, IfSome, MatchOption, Err}
-use Rattle.vx_base.specs.Outside.{Files, Rose}
+use Rattle.vx_io.specs.Outside.{Files, Rose}
 use Rattle.vx_machine.specs.declared.description.MachineFault.TheVariants.{Bad}
-use Rattle.vx_base.specs.declared.role.Role.TheVariants.{Source as TheSource, Profile as TheProfile, Machine as TheMachine, Input as TheInput}
+use Rattle.vx_io.specs.declared.role.Role.TheVariants.{Source as TheSource, Profile as TheProfile, Machine as TheMachine, Input as TheInput}
 use Rattle.vx_status.specs.declared.status.Status.{Status}
 use Rattle.vx_status.specs.declared.status.Status.TheVariants.{Source, Limit, Profile, Machine, NoFile, ReadFault, Input, NoMemory}
 use Rattle.vx_files.specs.Held.{machine_found, RefusesProfile, input_in, input_found, RefusesSource, Refuses, BadProfile, Refused, TooLong, Missing, found_in}

@@ -1,6 +1,6 @@
 -- What the files of a command hold: a source, the counts of a profile, a machine, the numbers of an input; and why they do not.
 use Rattle.std.specs.Prelude.{◌≡◌, ◌≤◌, ◌<◌, ◌⊎◌, ℕ, List, [], length, nat_le, if◌then◌else◌, Option, Some, None, Result, Ok, Err, ℤ}
-use Rattle.vx_base.specs.Outside.{Files}
+use Rattle.vx_io.specs.Outside.{Files}
 use Rattle.vx_isa.specs.Numbers.{Numbers, vex}
 use Rattle.vx_machine.specs.declared.description.MachineFault.{MachineFault}
 use Rattle.vx_machine.specs.declared.description.MachineFault.TheVariants.{Bad}
@@ -11,8 +11,8 @@ use Rattle.vx_profile.specs.declared.fault.ProfileFault.TheVariants.{BadLine, Co
 use Rattle.vx_profile.specs.Counts.{CountsOf}
 use Rattle.vx_profile.specs.Text.{FaultAt, Spells as SpellsCounts}
 use Rattle.vx_ast.specs.Tree.{Program}
-use Rattle.vx_base.specs.declared.role.Role.{Role}
-use Rattle.vx_base.specs.declared.role.Role.TheVariants.{Profile as TheProfile, Input as TheInput}
+use Rattle.vx_io.specs.declared.role.Role.{Role}
+use Rattle.vx_io.specs.declared.role.Role.TheVariants.{Profile as TheProfile, Input as TheInput}
 use Rattle.vx_ast.specs.Reads.{most_bytes, Reads, Refusal}
 use Rattle.vx_ast.specs.declared.fault.SourceFault.{SourceFault}
 use Rattle.vx_ast.specs.declared.fault.SourceFault.TheVariants.{Bad as BadSource, Limit as OverLimit, NoMemory as NoRoom}

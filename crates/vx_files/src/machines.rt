@@ -6,9 +6,9 @@ ghost use Rattle.vx_files.specs.Effects.{effect_of, MachineAnswers};
 ghost use Rattle.vx_machine.specs.Descriptions.{reading};
 
 use std::alloc::Global;
-use vx_base::depot::{Depot, DepotFault};
-use vx_base::reading::{FileRead, read_file};
-use vx_base::role::Role;
+use vx_io::depot::{Depot, DepotFault};
+use vx_io::reading::{FileRead, read_file};
+use vx_io::role::Role;
 use vx_machine::{Machine, MachineFault, from_toml};
 use vx_status::Status;
 

@@ -7,9 +7,9 @@ ghost use Rattle.vx_files.specs.Effects.{effect_of, ProfileAnswers};
 ghost use Rattle.vx_files.specs.Held.{status_of_profile, BadProfile, HoldsCounts, AreCounts};
 
 use std::alloc::Global;
-use vx_base::depot::{Depot, DepotFault};
-use vx_base::reading::{FileRead, read_file};
-use vx_base::role::Role;
+use vx_io::depot::{Depot, DepotFault};
+use vx_io::reading::{FileRead, read_file};
+use vx_io::role::Role;
 use vx_profile::counts::Counts;
 use vx_profile::{ProfileFault, read_counts};
 use vx_status::Status;

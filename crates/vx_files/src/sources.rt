@@ -8,9 +8,9 @@ ghost use Rattle.vx_files.specs.Effects.{effect_of, SourceAnswers};
 use crate::reading::typed_of;
 use std::alloc::Global;
 use vx_ast::typed::Typed;
-use vx_base::depot::{Depot, DepotFault};
-use vx_base::reading::{FileRead, read_file};
-use vx_base::role::Role;
+use vx_io::depot::{Depot, DepotFault};
+use vx_io::reading::{FileRead, read_file};
+use vx_io::role::Role;
 use vx_status::Status;
 
 /// The most bytes of a source.

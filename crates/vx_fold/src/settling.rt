@@ -6,7 +6,8 @@ ghost use Rattle.vx_base.specs.Arithmetic.{value_of};
 ghost use Rattle.vx_flow.specs.Effects.{both, computed};
 ghost use Rattle.vx_fold.specs.Folding.{gives, is_free, no_number, number_in, numbers_of, settles, settles_block, settles_exit, settles_graph};
 
-use vx_base::arithmetic::{Code, value};
+use vx_arithmetic::value;
+use vx_base::arithmetic::Code;
 use vx_flow::graph::{Block, Exit, Graph, Op, Operand, Value};
 
 /// The one number that a value holds; none where it may hold others.

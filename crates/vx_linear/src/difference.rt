@@ -11,8 +11,8 @@ ghost use Rattle.vx_linear.specs.Steps.{IsStep, Narrows, Steps};
 
 use crate::form::{Form, Term};
 use crate::linear::have_equal_terms;
+use vx_arithmetic::{sub32, unsigned32};
 use vx_base::answer::Answer;
-use vx_base::arithmetic::{sub32, unsigned32};
 
 /// Whether two accesses name one word: never, exactly where their arrays are two or no numbers of the symbols make both
 /// places equal; always, exactly where the array is one and the forms are equal. The terms of both must ascend by their

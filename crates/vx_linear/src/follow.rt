@@ -7,7 +7,8 @@ ghost use Rattle.vx_linear.specs.Linear.{plus, symbol};
 use crate::form::Symbol;
 use crate::linear::{Linear, are_same, copy, minus, plus, symbol, times};
 use std::alloc::{AllocError, Global};
-use vx_base::arithmetic::{Code, value};
+use vx_arithmetic::value;
+use vx_base::arithmetic::Code;
 use vx_flow::graph::Operand;
 
 /// An operand of a half multiplication: its form, and the number that it is, if it is one.

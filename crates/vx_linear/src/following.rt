@@ -12,7 +12,7 @@ use crate::linear::{Linear, constant, copy, symbol};
 use crate::passed::{Passed, join_places, none_passed, pass};
 use crate::places::Places;
 use std::alloc::{AllocError, Global};
-use vx_base::arithmetic::div32;
+use vx_arithmetic::div32;
 use vx_base::listed::Listed;
 use vx_base::outcome::NoMemory;
 use vx_flow::graph::{Array, ArrayId, Op, Operand, Value};

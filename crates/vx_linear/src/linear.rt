@@ -11,7 +11,7 @@ ghost use Rattle.vx_linear.specs.Linear.{constant, symbol, unless_zero, with_ter
 
 use crate::form::{Symbol, Term};
 use std::alloc::{AllocError, Global};
-use vx_base::arithmetic::{add32, mul32};
+use vx_arithmetic::{add32, mul32};
 use vx_base::listed::Listed;
 
 /// A constant and a sum of symbols with factors, the symbols ascending.

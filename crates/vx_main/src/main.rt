@@ -4,9 +4,9 @@
 use std::alloc::AllocError;
 use std::process::ExitCode;
 use std::{env, io};
-use vx_base::real::{RealDepot, RealSink};
-use vx_base::sink::Sink;
 use vx_driver::top::vexc;
+use vx_io::real::{RealDepot, RealSink};
+use vx_io::sink::Sink;
 use vx_probe::{Cyclic, Early, Late, Probe, Timing, UnitUse, WordCount};
 use vx_status::{Status, tell};
 

@@ -4,7 +4,8 @@
 ghost use Rattle.std.specs.Prelude.{◌≡◌};
 ghost use Rattle.vx_narrow.specs.Shortening.{factors_of, is_low, low_or, names_number, product_if, product_or, shift_below, shift_in, shift_of, shifted_or, short_sum, shortened, sum_as};
 
-use vx_base::arithmetic::{Code, value};
+use vx_arithmetic::value;
+use vx_base::arithmetic::Code;
 use vx_claims::fact::Fact;
 use vx_claims::intervals::is_half;
 use vx_claims::known::{has_equals, range_of};

@@ -11,12 +11,11 @@ ghost use Rattle.vx_base.specs.declared.outcome.Trap.TheVariants.{Index as ByInd
 
 use crate::store::Memory;
 use std::alloc::{AllocFailed, Global};
+use vx_arithmetic::{add32, cmp32, div32, mul32, rem32, shl32, shr32, sub32, value};
 use vx_ast::tree::{
     BinaryOperator, Expression, First, Item, Program, Simple, Statement, Target, UnaryOperator,
 };
-use vx_base::arithmetic::{
-    Code, Compare, add32, cmp32, div32, mul32, rem32, shl32, shr32, sub32, value,
-};
+use vx_base::arithmetic::{Code, Compare};
 use vx_base::listed::{Bytes, Listed};
 use vx_base::outcome::{NoMemory, Trap};
 

@@ -2,7 +2,7 @@
 -- of 64 bits.
 use Rattle.std.specs.Prelude.{◌≡◌, refl, false, ℕ, ◌+◌, ◌-◌, ◌^◌, min, List, [], ◌∷◌, ◌++◌, slice_index, codes, decimal}
 use Rattle.std.specs.List.{flat_map}
-use Rattle.vx_base.specs.Outside.{one_more}
+use Rattle.vx_io.specs.Outside.{one_more}
 use Rattle.vx_probe.specs.declared.event.Event.{Event}
 use Rattle.vx_probe.specs.Watch.{Watch}
 

@@ -5,9 +5,9 @@ use crate::halt::Halt;
 use crate::rows::Step;
 use crate::sheet::{Boxes, Faulty, Statement, Stream};
 use std::alloc::{AllocError, Global};
-use vx_base::depot::{Depot, MemDepot};
-use vx_base::sink::{MemSink, Sink};
 use vx_driver::top::vexc;
+use vx_io::depot::{Depot, MemDepot};
+use vx_io::sink::{MemSink, Sink};
 use vx_probe::{Cyclic, Early, Late, Probe, Timing, UnitUse, WordCount};
 
 /// What a call left.

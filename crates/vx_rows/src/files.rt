@@ -4,8 +4,8 @@ use crate::halt::Halt;
 use crate::rows::Row;
 use crate::sheet::{Piece, Statement, What};
 use std::alloc::{AllocError, Global};
-use vx_base::depot::{Depot, MemDepot};
 use vx_base::outcome::NoMemory;
+use vx_io::depot::{Depot, MemDepot};
 
 /// A file.
 #[derive(Drop)]

@@ -1,9 +1,9 @@
 // Why the program ends before it is through.
 
 use std::alloc::{AllocError, AllocFailed};
-use vx_base::depot::DepotFault;
 use vx_base::outcome::NoMemory;
-use vx_base::sink::SinkFault;
+use vx_io::depot::DepotFault;
+use vx_io::sink::SinkFault;
 
 /// Why the program cannot go on.
 #[derive(Clone, Copy, PartialEq, Eq)]

@@ -25,9 +25,9 @@ use std::alloc::Global;
 use std::env;
 use std::process::ExitCode;
 use std::rt::Files;
-use vx_base::reading::{FileRead, read_file};
-use vx_base::real::{RealDepot, RealSink};
-use vx_base::sink::Sink;
+use vx_io::reading::{FileRead, read_file};
+use vx_io::real::{RealDepot, RealSink};
+use vx_io::sink::Sink;
 
 /// The most bytes of a file of rows.
 const MOST_BYTES: u64 = 1 << 26;

@@ -9,7 +9,7 @@ use crate::rows::{Row, Rows, Step};
 use crate::sheet::Statement;
 use crate::why::Misread;
 use std::alloc::Global;
-use vx_base::sink::Sink;
+use vx_io::sink::Sink;
 
 /// The files that a call left, and whether it left what was wanted.
 #[derive(Drop)]

@@ -3,7 +3,7 @@ use Rattle.std.proofs.Common.{◌≡◌, ◌∙◌, inl, inr, ℕ, ℤ, ◌+◌,
 use Rattle.std.specs.Prelude.{◌≤◌, ◌<◌, ◌-◌, ◌^◌, min, suc}
 use Rattle.std.specs.List.{flat_map}
 use Rattle.vx_base.specs.Outcome.{Outcome, Begins, output_of}
-use Rattle.vx_base.specs.Outside.{PutsFront, Rose, with_bytes}
+use Rattle.vx_io.specs.Outside.{PutsFront, Rose, with_bytes}
 use Rattle.vx_isa.specs.Machine.{State, start, words_from}
 use Rattle.vx_probe.specs.Times.{Times, list_of}
 use Rattle.vx_probe.specs.Watch.{Watch, shown_all}
@@ -24,7 +24,7 @@ use Rattle.vx_runs.specs.Lines.{TellsRun}
 use Rattle.vx_status.proofs.Appending.{with_both, with_none, front_on, front_behind, tells_nothing}
 use Rattle.vx_base.proofs.Same.{begins_self}
 use Rattle.vx_runs.proofs.Issued.{few_events}
-use Rattle.vx_base.proofs.OutsideLaws.{rose_throughout}
+use Rattle.vx_io.proofs.OutsideLaws.{rose_throughout}
 
 -- the simulator's run is that of the definition
 

@@ -2,7 +2,7 @@
 use Rattle.std.proofs.Common.{◌≡◌, ◌∙◌, ◌⊎◌, inl, inr, ℕ, true, false, List, [], ◌∷◌, length, map, is_some, Option, Some, None, option_map, IfSome, refl, sym, subst, ap, arith}
 use Rattle.std.specs.Prelude.{◌<◌, Ok}
 use Rattle.vx_base.specs.Outcome.{Outcome, Ends, Traps, Goes, Stuck as StuckWith, Wrong}
-use Rattle.vx_base.specs.Outside.{Files}
+use Rattle.vx_io.specs.Outside.{Files}
 use Rattle.vx_words.specs.Spelling.{Spells}
 use Rattle.vx_probe.specs.Times.{Times}
 use Rattle.vx_probe.specs.Watch.{Watch}

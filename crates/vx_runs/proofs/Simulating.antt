@@ -1,8 +1,8 @@
 -- The answers of `sim` from those of its steps, and what they exclude where nothing fails.
 use Rattle.std.proofs.Common.{◌≡◌, ◌⊎◌, inl, inr, ℕ, List, Option, Some, None, true, Bool, Result, Err, IfSome, MatchOption, refl, sym, subst}
-use Rattle.vx_base.specs.Outside.{Files, Rose}
-use Rattle.vx_base.specs.declared.role.Role.{Role}
-use Rattle.vx_base.specs.declared.role.Role.TheVariants.{Machine as TheMachine, Input as TheInput}
+use Rattle.vx_io.specs.Outside.{Files, Rose}
+use Rattle.vx_io.specs.declared.role.Role.{Role}
+use Rattle.vx_io.specs.declared.role.Role.TheVariants.{Machine as TheMachine, Input as TheInput}
 use Rattle.vx_probe.specs.Times.{Times}
 use Rattle.vx_status.specs.declared.status.Status.{Status}
 use Rattle.vx_status.specs.declared.status.Status.TheVariants.{Done, Trapped, Usage, Source, Limit, Words, Profile, Machine, NoFile, ReadFault, WriteFault, Stopped, Input, Stuck, NoMemory}

@@ -1,7 +1,7 @@
 -- A call, looked at from an earlier moment.
 use Rattle.std.proofs.Common.{◌≡◌, inl, inr, ℕ, List, Option, Some, None, IfSome, MatchOption, sym, subst, ◌∙◌, arith}
 use Rattle.std.specs.Prelude.{◌≤◌}
-use Rattle.vx_base.specs.Outside.{Files, Rose}
+use Rattle.vx_io.specs.Outside.{Files, Rose}
 use Rattle.vx_files.specs.Effects.{Effect, ReadsRose, ReplacesRose, SameFiles, OfFile}
 
 pub rose_since : (before mid after : ℕ) → before ≤ mid → Rose mid after → Rose before after

@@ -1,7 +1,7 @@
 -- How a run of the simulator ends, as a status and as lines.
 use Rattle.std.specs.Prelude.{◌≡◌, ◌<◌, ◌⊎◌, ℕ, ◌+◌, ◌++◌, Bool, true, false, List, [], ◌∷◌, codes, decimal, length, map, Option, Some, None}
 use Rattle.vx_base.specs.Outcome.{Begins, output_of}
-use Rattle.vx_base.specs.Outside.{Rose, with_bytes}
+use Rattle.vx_io.specs.Outside.{Rose, with_bytes}
 use Rattle.vx_probe.specs.Times.{Times}
 use Rattle.vx_probe.specs.Watch.{Watch, shown_all}
 use Rattle.vx_sim.specs.Ran.{is_fault, outcome_of}

@@ -1,6 +1,6 @@
 -- What an answer puts on the error stream, command by command.
 use Rattle.std.specs.Prelude.{◌≡◌, List, ℕ, codes, Option, Some, None}
-use Rattle.vx_base.specs.Outside.{with_bytes}
+use Rattle.vx_io.specs.Outside.{with_bytes}
 use Rattle.vx_status.specs.declared.status.Status.{Status}
 use Rattle.vx_status.specs.declared.status.Status.TheVariants.{Done, Trapped, Usage, WriteFault, Stopped, Stuck}
 use Rattle.vx_status.specs.Status.{no_box_line, status_line}

@@ -8,7 +8,7 @@ ghost use Rattle.vx_runs.specs.Boxes.{probe_boxes, timing_boxes, timing_named, p
 ghost use Rattle.vx_status.specs.Status.{Puts};
 
 use std::alloc::{AllocError, Global};
-use vx_base::sink::{Sink, SinkFault};
+use vx_io::sink::{Sink, SinkFault};
 use vx_probe::{Probe, Timing};
 use vx_status::{Status, put};
 

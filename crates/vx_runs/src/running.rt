@@ -3,7 +3,7 @@
 ghost use Rattle.std.specs.Prelude.{◌≡◌, ◌⊎◌, ◌<◌, ◌≤◌, [], true, false, length, map, option_map, IfOk, OnOk, OnErr};
 ghost use Rattle.std.specs.Fmt.{signed_decimal};
 ghost use Rattle.std.specs.List.{flat_map};
-ghost use Rattle.vx_base.specs.Outside.{PutsFront, Rose};
+ghost use Rattle.vx_io.specs.Outside.{PutsFront, Rose};
 ghost use Rattle.vx_sim.specs.Ran.{is_fault};
 ghost use Rattle.vx_runs.specs.Boxes.{report_line};
 ghost use Rattle.vx_status.specs.Status.{Adds, Puts, Tells, no_box_line, status_line};
@@ -15,7 +15,7 @@ use crate::boxes::put_reports;
 use crate::loaded::LoadedFiles;
 use std::alloc::Global;
 use vx_base::outcome::NoMemory;
-use vx_base::sink::{Sink, SinkFault};
+use vx_io::sink::{Sink, SinkFault};
 use vx_probe::{Probe, Timing};
 use vx_sim::{Ended, Sim};
 use vx_status::{Status, put, put_counted, put_text, tell};

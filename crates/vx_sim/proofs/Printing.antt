@@ -3,9 +3,9 @@ use Rattle.std.proofs.Common.{◌≡◌, ℕ, ◌+◌, ◌<◌, List, ◌++◌, 
 use Rattle.std.specs.List.{flat_map}
 use Rattle.vx_isa.specs.declared.operation.Operation.{Operation}
 use Rattle.vx_sim.proofs.Operations.{operation_here}
-use Rattle.vx_base.specs.Outside.{with_bytes, PutsFront}
-use Rattle.vx_base.proofs.OutsideLaws.{pieces_join}
-use Rattle.vx_base.proofs.PutSoFar.{PutSoFar}
+use Rattle.vx_io.specs.Outside.{with_bytes, PutsFront}
+use Rattle.vx_io.proofs.OutsideLaws.{pieces_join}
+use Rattle.vx_io.proofs.PutSoFar.{PutSoFar}
 
 pub put_more : (before middle after : Option (List ℕ)) (bytes piece later : List ℕ) → PutSoFar before middle bytes (piece ++ later) → after ≡ with_bytes middle piece → PutSoFar before after bytes later
 put_more before middle after bytes piece later so_far put = record {

@@ -2,8 +2,8 @@
 use Rattle.std.proofs.Common.{◌≡◌, ℕ, zero, suc, ◌+◌, ◌-◌, ◌%◌, ◌<◌, ◌≤◌, true, false, Option, Some, None, List, [], ◌∷◌, ◌++◌, length, length-append, map, refl, sym, ap, subst, ◌∙◌, arith, append_assoc, append-nil}
 use Rattle.std.proofs.Math.Nat.{mod-mod, add-mod}
 use Rattle.vx_base.specs.Outcome.{Outcome, Ends, Traps, Stuck, Goes, IsGoing, Begins, output_of, Over, step_then}
-use Rattle.vx_base.specs.Outside.{with_bytes}
-use Rattle.vx_base.proofs.OutsideLaws.{pieces_join}
+use Rattle.vx_io.specs.Outside.{with_bytes}
+use Rattle.vx_io.proofs.OutsideLaws.{pieces_join}
 use Rattle.vx_isa.specs.declared.program.WordProgram.{WordProgram}
 use Rattle.vx_isa.specs.Numbers.{Numbers}
 use Rattle.vx_isa.specs.Machine.{State, step, words_from}

@@ -1,6 +1,6 @@
 -- A word that takes effect in the simulator takes effect in the word machine.
 use Rattle.std.proofs.Common.{◌≡◌, ℕ, ◌+◌, ◌-◌, Option, Some, None, List, [], ◌++◌, map, drop, count_by, slice_get, refl, sym, ap, subst, ◌∙◌, arith}
-use Rattle.vx_base.specs.Outside.{with_bytes}
+use Rattle.vx_io.specs.Outside.{with_bytes}
 use Rattle.vx_base.specs.Flight.{landed_in, flying_in}
 use Rattle.vx_isa.specs.declared.program.Word.{Word}
 use Rattle.vx_isa.specs.declared.program.WordProgram.{WordProgram}

@@ -2,7 +2,7 @@
 -- place on.
 use Rattle.std.specs.Prelude.{◌≡◌, ◌<◌, ℕ, ◌+◌, ◌-◌, Bool, true, false, List, ◌++◌, Option, length, map}
 use Rattle.vx_base.specs.Outcome.{Outcome, Ends, Traps, Stuck, Goes, IsGoing, Begins, output_of}
-use Rattle.vx_base.specs.Outside.{with_bytes}
+use Rattle.vx_io.specs.Outside.{with_bytes}
 use Rattle.vx_isa.specs.Machine.{State, words_from}
 use Rattle.vx_probe.specs.Times.{Times, list_of, moved_by}
 use Rattle.vx_probe.specs.Watch.{Watch, shown_all}

@@ -1,7 +1,7 @@
 -- What one step of the simulator leaves: the step of the word machine from where the simulator stands.
 use Rattle.std.specs.Prelude.{◌≡◌, ℕ, ◌+◌, ◌-◌, Bool, true, false, List, [], Option, Some, None, map}
 use Rattle.vx_base.specs.Outcome.{Outcome, Ends, Traps, Stuck, Step, On, Over}
-use Rattle.vx_base.specs.Outside.{with_bytes, PutsFront}
+use Rattle.vx_io.specs.Outside.{with_bytes, PutsFront}
 use Rattle.vx_isa.specs.declared.program.WordProgram.{WordProgram}
 use Rattle.vx_isa.specs.Numbers.{Numbers}
 use Rattle.vx_isa.specs.Machine.{State, step}

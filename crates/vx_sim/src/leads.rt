@@ -11,7 +11,7 @@ ghost use Rattle.vx_sim.specs.Standing.{state_of};
 
 use crate::shape::UnitCounts;
 use crate::standing::Standing;
-use vx_base::arithmetic::unsigned32;
+use vx_arithmetic::unsigned32;
 use vx_base::outcome::Trap;
 use vx_isa::operation::{BranchRegister, Operation};
 use vx_isa::program::{Word, WordProgram};

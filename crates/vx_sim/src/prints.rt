@@ -2,7 +2,7 @@
 
 ghost use Rattle.std.specs.Prelude.{◌≡◌, ◌≤◌, OnOk, OnErr, [], count_by};
 ghost use Rattle.std.specs.List.{flat_map};
-ghost use Rattle.vx_base.specs.Outside.{Rose, with_bytes, PutsFront};
+ghost use Rattle.vx_io.specs.Outside.{Rose, with_bytes, PutsFront};
 ghost use Rattle.vx_isa.specs.declared.operation.UnitKind.TheVariants.{Memory};
 ghost use Rattle.vx_isa.specs.Fits.{is_of};
 ghost use Rattle.vx_isa.specs.Machine.{print_of};
@@ -10,8 +10,8 @@ ghost use Rattle.vx_sim.specs.Standing.{state_of};
 
 use crate::standing::Standing;
 use itoa::Buffer;
-use vx_base::arithmetic::unsigned32;
-use vx_base::sink::{Sink, SinkFault, put_all};
+use vx_arithmetic::unsigned32;
+use vx_io::sink::{Sink, SinkFault, put_all};
 use vx_isa::operation::Operation;
 use vx_isa::program::WordProgram;
 

@@ -15,7 +15,7 @@ use crate::standing::Standing;
 use crate::steps::step;
 use std::alloc::Global;
 use vx_base::outcome::NoMemory;
-use vx_base::sink::Sink;
+use vx_io::sink::Sink;
 use vx_isa::program::WordProgram;
 use vx_machine::Machine;
 use vx_probe::{Probe, Timing};
@@ -38,7 +38,7 @@ pub struct Sim {
 
 impl Sim {
     ghost use Rattle.std.specs.Prelude.{false, IfOk};
-    ghost use Rattle.vx_base.specs.Outside.{Rose};
+    ghost use Rattle.vx_io.specs.Outside.{Rose};
     ghost use Rattle.vx_isa.specs.Machine.{start};
     ghost use Rattle.vx_sim.specs.Ran.{stands, Ran, is_fault};
 

@@ -5,7 +5,7 @@ ghost use Rattle.vx_isa.specs.Machine.{source, register, address, is_word_of, lo
 ghost use Rattle.vx_sim.specs.Standing.{state_of};
 
 use crate::registers::Registers;
-use vx_base::arithmetic::{add32, unsigned32, value};
+use vx_arithmetic::{add32, unsigned32, value};
 use vx_isa::operation::{BranchRegister, GeneralRegister, Operation, Register, Source};
 
 /// All that words read and change, but for the writes in flight.

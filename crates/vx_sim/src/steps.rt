@@ -1,7 +1,7 @@
 // One step of the simulator: one word is issued, or it is told why none was. The clause is the step of the word machine.
 
 ghost use Rattle.std.specs.Prelude.{◌≡◌, ◌≤◌, ◌<◌, ◌+◌, ◌*◌, ◌^◌, ℕ, [], Some, None, true, false, map, length, vec_len, slice_get, OnOk, OnErr};
-ghost use Rattle.vx_base.specs.Outside.{Rose};
+ghost use Rattle.vx_io.specs.Outside.{Rose};
 ghost use Rattle.vx_isa.specs.Machine.{stuck_by};
 ghost use Rattle.vx_isa.specs.Sound.{is_sound};
 ghost use Rattle.vx_probe.specs.Times.{list_of};
@@ -21,7 +21,7 @@ use crate::shape::{Shape, UnitCounts, shape_at};
 use crate::standing::Standing;
 use crate::stuck::stuck_by;
 use vx_base::outcome::Reason;
-use vx_base::sink::Sink;
+use vx_io::sink::Sink;
 use vx_isa::program::{Word, WordProgram};
 use vx_machine::Machine;
 use vx_probe::{Event, Probe, Timing};

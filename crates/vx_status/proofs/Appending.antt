@@ -2,8 +2,8 @@
 use Rattle.std.proofs.Common.{◌≡◌, ◌<◌, ◌≤◌, ℕ, zero, suc, true, false, List, [], ◌∷◌, ◌++◌, length, map, take, get_or, Option, Some, None, Result, Ok, Err, refl, sym, subst, ap, ◌∙◌, append_assoc, append-nil, arith}
 use Rattle.std.specs.Prelude.{is_err}
 use Rattle.std.specs.List.{flat_map}
-use Rattle.vx_base.specs.Outside.{PutsFront, with_bytes}
-use Rattle.vx_base.proofs.OutsideLaws.{rose_throughout}
+use Rattle.vx_io.specs.Outside.{PutsFront, with_bytes}
+use Rattle.vx_io.proofs.OutsideLaws.{rose_throughout}
 use Rattle.vx_base.proofs.Same.{begins_self}
 use Rattle.vx_status.specs.Status.{Adds, Puts, Tells}
 

@@ -4,7 +4,7 @@ use Rattle.std.specs.Fmt.{digits}
 use Rattle.std.specs.Prelude.{codes}
 use Rattle.vx_base.specs.declared.outcome.Reason.TheVariants.{Overfull}
 use Rattle.vx_base.specs.declared.outcome.Trap.TheVariants.{Divide}
-use Rattle.vx_base.specs.declared.role.Role.TheVariants.{Profile as TheProfile, Source as TheSource}
+use Rattle.vx_io.specs.declared.role.Role.TheVariants.{Profile as TheProfile, Source as TheSource}
 use Rattle.vx_machine.specs.Descriptions.{names}
 use Rattle.vx_status.specs.declared.status.Status.TheVariants.{Trapped, Source, Limit, Words, Profile, Machine, NoFile, ReadFault, Input, Stuck}
 use Rattle.vx_status.specs.Status.{no_box_line, status_line}

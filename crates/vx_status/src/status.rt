@@ -5,8 +5,8 @@ ghost use Rattle.vx_machine.specs.Descriptions.{name_of};
 ghost use Rattle.vx_status.specs.Status.{number_of, role_name, reason_name, counted, twice_counted, field_words, trap_line, status_line, Puts, Tells, Adds};
 
 use vx_base::outcome::{Reason, Trap};
-use vx_base::role::Role;
-use vx_base::sink::{Sink, SinkFault, put_all};
+use vx_io::role::Role;
+use vx_io::sink::{Sink, SinkFault, put_all};
 use vx_machine::field_name;
 
 /// How a command ended. docs/PROMISES.md says when each comes.

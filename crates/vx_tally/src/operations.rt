@@ -11,7 +11,8 @@ ghost use Rattle.vx_tally.specs.Storage.{came, effects, setting_in, state_of};
 
 use crate::storage::Storage;
 use itoa::Buffer;
-use vx_base::arithmetic::{Code, mul32, value};
+use vx_arithmetic::{mul32, value};
+use vx_base::arithmetic::Code;
 use vx_base::outcome::NoMemory;
 use vx_flow::graph::{ArrayId, Flow, Op, Operand, Value};
 

@@ -1,6 +1,6 @@
 -- The words are put, and then the report from there on.
 use Rattle.std.proofs.Common.{◌≡◌, inl, inr, refl, subst, sym}
-use Rattle.vx_base.specs.Outside.{with_file}
+use Rattle.vx_io.specs.Outside.{with_file}
 use Rattle.vx_files.specs.Effects.{effect_of}
 use Rattle.vx_driver.specs.Answers.{once_written, WriteAnswers}
 use Rattle.vx_driver.proofs.Answering.{write_since}

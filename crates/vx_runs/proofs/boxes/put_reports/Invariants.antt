@@ -1,7 +1,7 @@
 -- The reports so far are put.
 use Rattle.std.proofs.Common.{◌≡◌, ◌≤◌, map, take}
 use Rattle.std.specs.List.{flat_map}
-use Rattle.vx_base.specs.Outside.{with_bytes}
+use Rattle.vx_io.specs.Outside.{with_bytes}
 use Rattle.vx_runs.specs.Boxes.{report_line}
 use Rattle.vx_runs.proofs.boxes.put_reports.Given as goal
 

@@ -1,7 +1,7 @@
 -- A text of words that was read whole, one that is too long, and one that is not there.
 use Rattle.std.proofs.Common.{◌≡◌, ◌⊎◌, Ok, Err, None, ap, refl}
 use Rattle.std.proofs.lemmas.Result.{IfErr-weaker, IfOk-weaker}
-use Rattle.vx_base.specs.declared.role.Role.TheVariants.{Words as TheWords}
+use Rattle.vx_io.specs.declared.role.Role.TheVariants.{Words as TheWords}
 use Rattle.vx_words.specs.Spelling.{Spells}
 use Rattle.vx_reader.specs.Text.{reading}
 use Rattle.vx_status.specs.declared.status.Status.TheVariants.{Limit, NoMemory}

@@ -1,5 +1,5 @@
 use Rattle.std.proofs.Common.{◌≡◌, List, ℕ, OnOk, OnErr, [], subst}
-use Rattle.vx_base.specs.Outside.{with_bytes, PutsFront}
+use Rattle.vx_io.specs.Outside.{with_bytes, PutsFront}
 use Rattle.vx_sim.specs.Standing.{state_of}
 use Rattle.vx_sim.proofs.Touching.{no_text}
 use Rattle.vx_sim.proofs.prints.print.Goals as goal

@@ -1,6 +1,6 @@
 use Rattle.std.proofs.Common.{◌≤◌, [], drop}
 use Rattle.std.specs.List.{flat_map}
-use Rattle.vx_base.proofs.PutSoFar.{PutSoFar}
+use Rattle.vx_io.proofs.PutSoFar.{PutSoFar}
 use Rattle.vx_isa.specs.Machine.{print_of}
 use Rattle.vx_sim.specs.Standing.{state_of}
 use Rattle.vx_sim.proofs.prints.print_each.Given as goal

@@ -1,6 +1,6 @@
 use Rattle.std.proofs.Common.{◌≡◌, ◌∙◌, [], List, count_by, None, refl, sym, ap, subst}
 use Rattle.std.specs.List.{flat_map}
-use Rattle.vx_base.specs.Outside.{with_bytes, PutsFront}
+use Rattle.vx_io.specs.Outside.{with_bytes, PutsFront}
 use Rattle.vx_isa.specs.declared.operation.Operation.{Operation}
 use Rattle.vx_isa.specs.declared.operation.UnitKind.TheVariants.{Memory}
 use Rattle.vx_isa.specs.Fits.{is_of}

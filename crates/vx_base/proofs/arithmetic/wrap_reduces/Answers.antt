@@ -1,5 +1,0 @@
-use Rattle.vx_base.proofs.WrapLaws.{wrap_reduces_law}
-use Rattle.vx_base.proofs.arithmetic.wrap_reduces.Goals as goal
-
-pub returns : goal.returns
-returns c = wrap_reduces_law

@@ -1,9 +1,0 @@
-use Rattle.std.proofs.Common.{◌≡◌, false, rules}
-use Rattle.vx_base.specs.Outside.{next_fails}
-use Rattle.vx_base.proofs.MemFiles.{neither}
-use Rattle.vx_base.proofs.depot.MemDepotDepot.read_at.Goals as goal
-
-pub returns-clause-fails_as_listed : goal.returns-clause-fails_as_listed
-returns-clause-fails_as_listed c =
-    let quiet : next_fails c.args.self.now ≡ false = search rules in
-    neither (next_fails c.args.self.now) quiet (λ failed. search rules)

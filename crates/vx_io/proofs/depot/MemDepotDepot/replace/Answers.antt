@@ -1,0 +1,14 @@
+use Rattle.std.proofs.Common.{◌≡◌, false, rules}
+use Rattle.vx_io.specs.Outside.{next_fails}
+use Rattle.vx_io.proofs.MemFiles.{neither}
+use Rattle.vx_io.proofs.depot.MemDepotDepot.replace.Goals as goal
+
+pub returns-in_err-content-clause-fails_as_listed : goal.returns-in_err-content-clause-fails_as_listed
+returns-in_err-content-clause-fails_as_listed c =
+    let quiet : next_fails c.args.self.now ≡ false = search rules in
+    neither (next_fails c.args.self.now) quiet (λ failed. search rules)
+
+pub returns-clause-fails_as_listed : goal.returns-clause-fails_as_listed
+returns-clause-fails_as_listed c =
+    let quiet : next_fails c.args.self.now ≡ false = search rules in
+    neither (next_fails c.args.self.now) quiet (λ failed. search rules)
