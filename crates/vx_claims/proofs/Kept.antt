@@ -6,14 +6,15 @@ use Rattle.std.proofs.lemmas.List.{append_assoc, append-nil}
 use Rattle.std.proofs.lemmas.Bool.{false≢true}
 use Rattle.vx_flow.specs.declared.graph.Op.{Op}
 use Rattle.vx_flow.specs.declared.graph.Op.TheVariants.{Compute, Select, Place, Load, Store, More, Input, Text, Decimal, Across}
+use Rattle.vx_flow.specs.Operands.{written_by}
 use Rattle.vx_claims.specs.declared.intervals.Interval.{Interval}
 use Rattle.vx_claims.specs.declared.fact.Fact.{Fact}
 use Rattle.vx_claims.specs.declared.fact.Fact.TheVariants.{Between, Equals}
 use Rattle.vx_claims.specs.declared.access.Access.{Access}
-use Rattle.vx_claims.specs.Facts.{range_of, times_if, bit, result_within, is_held, is_full, names, kept_if, without, equals_if, between_unless, lies_in, after}
+use Rattle.vx_claims.specs.Facts.{range_of, times_if, bit, result_within, is_held, is_full, names, kept_if, without, without_written, equals_if, between_unless, lies_in, after}
 use Rattle.vx_claims.specs.Accesses.{place_known}
 use Rattle.vx_claims.specs.Forming.{after_known, most_equals, newest, said_unless, same_form}
-use Rattle.vx_claims.specs.Keeping.{all_said, has_more, left_by, said_by}
+use Rattle.vx_claims.specs.Keeping.{all_said, has_more, said_by}
 
 lies_before : (v : ℕ) (i : Interval) (a b : List Fact) → lies_in v i (a ++ b) ≡ lies_in v i a ++ b
 lies_before v i a b = by (is_full i)
@@ -22,7 +23,7 @@ lies_before v i a b = by (is_full i)
     by true = refl
     by false = refl
 
-after_parts : (fs : List Fact) (op : Op) → after fs op ≡ said_by fs op ++ left_by op fs
+after_parts : (fs : List Fact) (op : Op) → after fs op ≡ said_by fs op ++ without_written (written_by op) fs
 after_parts fs (Compute code v a b) = lies_before v (result_within code (range_of fs a) (range_of fs b)) (equals_if (is_held v a || is_held v b) v code a b) (without v fs)
 after_parts fs (Select v p a b) = refl
 after_parts fs (Place v a i) = lies_before v (times_if true (range_of fs i) (pos 4)) [] (without v fs)
@@ -34,12 +35,12 @@ after_parts fs (Text n) = refl
 after_parts fs (Decimal x) = refl
 after_parts fs (Across v u) = refl
 
-pub known_parts : (fs : List Fact) (xs : List Access) (op op' : Op) → newest most_equals (all_said fs xs op op' ++ left_by op' fs) ≡ after_known fs xs op op'
+pub known_parts : (fs : List Fact) (xs : List Access) (op op' : Op) → newest most_equals (all_said fs xs op op' ++ without_written (written_by op') fs) ≡ after_known fs xs op op'
 known_parts fs xs op op' =
     let p : List Fact = place_known xs op' in
     let s : List Fact = said_unless (same_form op op') fs op in
     let w : List Fact = said_by fs op' in
-    let l : List Fact = left_by op' fs in
+    let l : List Fact = without_written (written_by op') fs in
     let inner : (s ++ w) ++ l ≡ s ++ after fs op' = append_assoc s w l ∙ ap (λ x. s ++ x) (sym (after_parts fs op')) in
     let outer : (p ++ (s ++ w)) ++ l ≡ p ++ (s ++ after fs op') = append_assoc p (s ++ w) l ∙ ap (λ x. p ++ x) inner in
     ap (newest most_equals) outer

@@ -1,2 +1,3 @@
+mod Formed
 mod Kept
 mod IntervalRows

@@ -5,8 +5,9 @@ use Rattle.vx_base.specs.declared.arithmetic.Code.TheVariants.{Mov}
 use Rattle.vx_flow.specs.declared.graph.Operand.{Operand}
 use Rattle.vx_flow.specs.declared.graph.Operand.TheVariants.{Held, Number}
 use Rattle.vx_flow.specs.declared.graph.Op.{Op}
-use Rattle.vx_flow.specs.declared.graph.Op.TheVariants.{Compute, Select, Place, Load, Store, More, Input, Text, Decimal, Across}
+use Rattle.vx_flow.specs.declared.graph.Op.TheVariants.{Compute, Place, Load, Store}
 use Rattle.vx_flow.specs.Effects.{State, Setting, held, place_of, row_of, cell_of}
+use Rattle.vx_flow.specs.Operands.{written_by}
 use Rattle.vx_claims.specs.declared.access.Access.{Access}
 use Rattle.vx_claims.specs.declared.access.Access.TheVariants.{Placed, Stored}
 use Rattle.vx_claims.specs.declared.fact.Fact.{Fact}
@@ -56,6 +57,11 @@ abbrev pub unmentioned : ℕ → List Access → List Access
 unmentioned v [] = []
 unmentioned v (x ∷ xs) = unless (mentions v x) x (unmentioned v xs)
 
+-- those that stay where a value is written, and all of them where none is
+abbrev pub unmentioned_written : Option ℕ → List Access → List Access
+unmentioned_written None xs = xs
+unmentioned_written (Some v) xs = unmentioned v xs
+
 -- whether a store to array a may change it
 abbrev pub touches : ℕ → Access → Bool
 touches a (Placed v b i) = false
@@ -67,16 +73,10 @@ untouched a (x ∷ xs) = unless (touches a x) x (untouched a xs)
 
 -- what is known behind an operation
 abbrev pub accessed : List Access → Op → List Access
-accessed xs (Compute code v a b) = unmentioned v xs
-accessed xs (Select v p a b) = unmentioned v xs
 accessed xs (Place v a i) = unless (is_held v i) (Placed v a i) (unmentioned v xs)
 accessed xs (Load v a p dismissible) = unless (is_held v p) (Stored a p (Held v)) (unmentioned v xs)
 accessed xs (Store a p x) = Stored a p x ∷ untouched a xs
-accessed xs (More v) = unmentioned v xs
-accessed xs (Input v) = unmentioned v xs
-accessed xs (Text n) = xs
-accessed xs (Decimal x) = xs
-accessed xs (Across v u) = unmentioned v xs
+accessed xs op = unmentioned_written (written_by op) xs
 
 abbrev pub value_if : Bool → ℕ → Option ℕ
 value_if true v = Some v

@@ -6,7 +6,8 @@ use Rattle.vx_base.specs.declared.arithmetic.Code.TheVariants.{Mov, ToBranch}
 use Rattle.vx_flow.specs.declared.graph.Operand.{Operand}
 use Rattle.vx_flow.specs.declared.graph.Operand.TheVariants.{Held, Number, Stack}
 use Rattle.vx_flow.specs.declared.graph.Op.{Op}
-use Rattle.vx_flow.specs.declared.graph.Op.TheVariants.{Compute, Select, Place, Load, Store, More, Input, Text, Decimal, Across}
+use Rattle.vx_flow.specs.declared.graph.Op.TheVariants.{Compute, Place}
+use Rattle.vx_flow.specs.Operands.{with_operands}
 use Rattle.vx_claims.specs.declared.fact.Fact.{Fact}
 use Rattle.vx_claims.specs.declared.fact.Fact.TheVariants.{Between, Equals}
 use Rattle.vx_claims.specs.declared.access.Access.{Access}
@@ -51,15 +52,7 @@ computed_as fs code v a b = read_if (is_readable code) code v a b (found fs code
 
 abbrev pub formed : List Fact → Op → Op
 formed fs (Compute code v a b) = computed_as fs code v (read fs a) (read fs b)
-formed fs (Select v p a b) = Select v p (read fs a) (read fs b)
-formed fs (Place v a i) = Place v a (read fs i)
-formed fs (Load v a p dismissible) = Load v a (read fs p) dismissible
-formed fs (Store a p x) = Store a (read fs p) (read fs x)
-formed fs (More v) = More v
-formed fs (Input v) = Input v
-formed fs (Text n) = Text n
-formed fs (Decimal x) = Decimal (read fs x)
-formed fs (Across v u) = Across v u
+formed fs op = with_operands (read fs) op
 
 -- the same, and a load of a known word is a move
 abbrev pub form : List Fact → List Access → Op → Op

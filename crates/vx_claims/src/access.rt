@@ -12,6 +12,7 @@ use vx_base::arithmetic::Code;
 use vx_base::listed::Listed;
 use vx_base::outcome::NoMemory;
 use vx_flow::graph::{ArrayId, Op, Operand, Value};
+use vx_flow::operands::written_by;
 
 /// What is known of an array.
 #[derive(Clone, Copy)]
@@ -155,14 +156,14 @@ fn append_unless(
     append_unmentioned(list, known, value)
 }
 
-fn append_accessed(list: &mut Listed<Access>, known: &[Access], op: &Op) -> Result<(), NoMemory>
-    ensures { IfOk result (λ _. list.new ≡ list.old ++ accessed known.now op.now) }
+/// What is known behind an operation.
+pub fn accessed(alloc: Global, known: &[Access], op: &Op) -> Result<Listed<Access>, NoMemory>
+    ensures { IfOk result (λ behind. behind ≡ accessed known.now op.now) }
 {
+    let mut behind = Listed::new(alloc);
     match *op {
-        Op::Compute { to, .. } => append_unmentioned(list, known, to),
-        Op::Select { to, .. } => append_unmentioned(list, known, to),
         Op::Place { to, array, index } => append_unless(
-            list,
+            &mut behind,
             known,
             is_held(to, index),
             Access::Placed {
@@ -171,14 +172,14 @@ fn append_accessed(list: &mut Listed<Access>, known: &[Access], op: &Op) -> Resu
                 index,
             },
             to,
-        ),
+        )?,
         Op::Load {
             to,
             array,
             place,
             ..
         } => append_unless(
-            list,
+            &mut behind,
             known,
             is_held(to, place),
             Access::Stored {
@@ -187,25 +188,16 @@ fn append_accessed(list: &mut Listed<Access>, known: &[Access], op: &Op) -> Resu
                 from: Operand::Held(to),
             },
             to,
-        ),
+        )?,
         Op::Store { array, place, from } => {
-            list.push(Access::Stored { array, place, from })?;
-            append_untouched(list, known, array)
+            behind.push(Access::Stored { array, place, from })?;
+            append_untouched(&mut behind, known, array)?;
         }
-        Op::More { to } => append_unmentioned(list, known, to),
-        Op::Input { to } => append_unmentioned(list, known, to),
-        Op::Text { .. } => append_known(list, known),
-        Op::Decimal { .. } => append_known(list, known),
-        Op::Across { to, .. } => append_unmentioned(list, known, to),
+        _ => match written_by(op) {
+            Some(to) => append_unmentioned(&mut behind, known, to)?,
+            None => append_known(&mut behind, known)?,
+        },
     }
-}
-
-/// What is known behind an operation.
-pub fn accessed(alloc: Global, known: &[Access], op: &Op) -> Result<Listed<Access>, NoMemory>
-    ensures { IfOk result (λ behind. behind ≡ accessed known.now op.now) }
-{
-    let mut behind = Listed::new(alloc);
-    append_accessed(&mut behind, known, op)?;
     Ok(behind)
 }
 

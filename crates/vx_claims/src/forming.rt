@@ -9,6 +9,7 @@ use crate::fact::Fact;
 use crate::known::found;
 use vx_base::arithmetic::Code;
 use vx_flow::graph::{Op, Operand, Value};
+use vx_flow::operands::{first_operand, second_operand, with_two};
 
 /// Whether a code is a move into a value.
 fn moves(value: Value, to: Value, code: Code) -> bool
@@ -117,45 +118,11 @@ fn formed(facts: &[Fact], op: &Op) -> Op
             left,
             right,
         } => computed_as(facts, code, to, read(facts, left), read(facts, right)),
-        Op::Select {
-            to,
-            test,
-            left,
-            right,
-        } => Op::Select {
-            to,
-            test,
-            left: read(facts, left),
-            right: read(facts, right),
-        },
-        Op::Place { to, array, index } => Op::Place {
-            to,
-            array,
-            index: read(facts, index),
-        },
-        Op::Load {
-            to,
-            array,
-            place,
-            dismissible,
-        } => Op::Load {
-            to,
-            array,
-            place: read(facts, place),
-            dismissible,
-        },
-        Op::Store { array, place, from } => Op::Store {
-            array,
-            place: read(facts, place),
-            from: read(facts, from),
-        },
-        Op::More { to } => Op::More { to },
-        Op::Input { to } => Op::Input { to },
-        Op::Text { number } => Op::Text { number },
-        Op::Decimal { from } => Op::Decimal {
-            from: read(facts, from),
-        },
-        Op::Across { to, from } => Op::Across { to, from },
+        _ => with_two(
+            op,
+            read(facts, first_operand(op)),
+            read(facts, second_operand(op)),
+        ),
     }
 }
 

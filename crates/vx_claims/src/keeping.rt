@@ -5,9 +5,9 @@ ghost use Rattle.std.specs.Prelude.{◌≡◌, ◌++◌, true, IfOk};
 ghost use Rattle.std.specs.List.{list_any};
 ghost use Rattle.std.specs.Option.{option_to_list};
 ghost use Rattle.vx_flow.specs.declared.graph.Op.TheVariants.{Compute};
-ghost use Rattle.vx_claims.specs.Facts.{names, without};
+ghost use Rattle.vx_claims.specs.Facts.{names, without_written};
 ghost use Rattle.vx_claims.specs.Forming.{after_known, most_equals, newest};
-ghost use Rattle.vx_claims.specs.Keeping.{all_said, has_more, left_by, said_by};
+ghost use Rattle.vx_claims.specs.Keeping.{all_said, has_more, said_by};
 
 use crate::access::{Access, append_place};
 use crate::fact::Fact;
@@ -21,6 +21,7 @@ use vx_base::arithmetic::Code;
 use vx_base::listed::Listed;
 use vx_base::outcome::NoMemory;
 use vx_flow::graph::{Op, Operand, Value};
+use vx_flow::operands::written_by;
 
 /// How many facts on what operations give are kept.
 const MOST_EQUALS: usize = 64;
@@ -37,7 +38,7 @@ pub fn learn(
     ensures { IfOk result (λ _. facts.new.items ≡ after_known facts.old.items known.now op.now form.now) }
 {
     let said = all_said(alloc, facts.as_slice(), known, op, form)?;
-    forget(alloc, facts, form)?;
+    forget(alloc, facts, written_by(form))?;
     put_before(facts, said.as_slice())?;
     keep_newest(alloc, facts)
 }
@@ -102,28 +103,14 @@ fn append_computed(
     Ok(())
 }
 
-/// Forgets what speaks of the value that an operation writes.
-fn forget(alloc: Global, facts: &mut Vec<Fact>, op: &Op) -> Result<(), NoMemory>
-    ensures { IfOk result (λ _. facts.new.items ≡ left_by op.now facts.old.items) }
-{
-    match *op {
-        Op::Compute { to, .. } => forget_value(alloc, facts, to),
-        Op::Select { to, .. } => forget_value(alloc, facts, to),
-        Op::Place { to, .. } => forget_value(alloc, facts, to),
-        Op::Load { to, .. } => forget_value(alloc, facts, to),
-        Op::Store { .. } => Ok(()),
-        Op::More { to } => forget_value(alloc, facts, to),
-        Op::Input { to } => forget_value(alloc, facts, to),
-        Op::Text { .. } => Ok(()),
-        Op::Decimal { .. } => Ok(()),
-        Op::Across { to, .. } => forget_value(alloc, facts, to),
-    }
-}
-
+/// Forgets what speaks of the value that is written, if one is.
 #[tactic(auto, using(crate::proofs::Kept::none_named))]
-fn forget_value(alloc: Global, facts: &mut Vec<Fact>, value: Value) -> Result<(), NoMemory>
-    ensures { IfOk result (λ _. facts.new.items ≡ without value facts.old.items) }
+fn forget(alloc: Global, facts: &mut Vec<Fact>, written: Option<Value>) -> Result<(), NoMemory>
+    ensures { IfOk result (λ _. facts.new.items ≡ without_written written facts.old.items) }
 {
+    let Some(value) = written else {
+        return Ok(());
+    };
     if !any_names(facts.as_slice(), value) {
         return Ok(());
     }

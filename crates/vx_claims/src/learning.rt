@@ -1,6 +1,6 @@
 // What an operation leaves of a list of facts, and what the answer of a test adds to it.
 
-ghost use Rattle.std.specs.Prelude.{◌≡◌, ◌==◌, ◌||◌, ◌++◌, false, [], ◌∷◌, IfOk};
+ghost use Rattle.std.specs.Prelude.{◌≡◌, ◌==◌, ◌||◌, ◌++◌, [], ◌∷◌, IfOk};
 ghost use Rattle.vx_claims.specs.declared.fact.Fact.TheVariants.{Between};
 ghost use Rattle.vx_claims.specs.Forming.{facts_if, is_test, newest, said_unless, same_form};
 ghost use Rattle.vx_claims.specs.Facts.{came_out, compared, equals_if, is_full, is_held, learned, learned_if, lies_in, names, on_side, operand_between, without};
@@ -144,9 +144,18 @@ fn append_test(
     Ok(())
 }
 
-fn append_said(list: &mut Listed<Fact>, facts: &[Fact], op: &Op) -> Result<(), NoMemory>
-    ensures { IfOk result (λ _. list.new ≡ list.old ++ said_unless false facts.now op.now) }
+/// Puts at the end of a list what an operation says in the words it had, where its form has others.
+pub fn append_said_unless(
+    list: &mut Listed<Fact>,
+    facts: &[Fact],
+    test: bool,
+    op: &Op,
+) -> Result<(), NoMemory>
+    ensures { IfOk result (λ _. list.new ≡ list.old ++ said_unless test facts.now op.now) }
 {
+    if test {
+        return Ok(());
+    }
     match *op {
         Op::Compute {
             code,
@@ -163,22 +172,6 @@ fn append_said(list: &mut Listed<Fact>, facts: &[Fact], op: &Op) -> Result<(), N
             append_lies(list, to, within)
         }
         _ => Ok(()),
-    }
-}
-
-/// Puts at the end of a list what an operation says in the words it had, where its form has others.
-pub fn append_said_unless(
-    list: &mut Listed<Fact>,
-    facts: &[Fact],
-    test: bool,
-    op: &Op,
-) -> Result<(), NoMemory>
-    ensures { IfOk result (λ _. list.new ≡ list.old ++ said_unless test facts.now op.now) }
-{
-    if test {
-        Ok(())
-    } else {
-        append_said(list, facts, op)
     }
 }
 
