@@ -19,11 +19,11 @@ use Rattle.vx_claims.specs.declared.claim.Claim.{Claim}
 use Rattle.vx_claims.specs.declared.intervals.Interval.{Interval}
 use Rattle.vx_claims.specs.declared.fact.Fact.{Fact}
 use Rattle.vx_claims.specs.declared.fact.Fact.TheVariants.{Between, Equals}
-use Rattle.vx_claims.specs.Facts.{full, Within, AllHold, range, range_of, names, kept_if, without, is_full, between_unless, on_side}
+use Rattle.vx_claims.specs.Facts.{full, Within, AllHold, range, range_of, names, kept_if, without, without_written, is_full, between_unless, on_side}
 use Rattle.vx_claims.specs.declared.access.Access.{Access}
 use Rattle.vx_claims.specs.Accesses.{SpotsDiffer, AllTell, tell, accessed}
 use Rattle.vx_claims.specs.Forming.{form, after_known, after_from, accessed_from, after_all, accessed_all}
-use Rattle.vx_facts.specs.Checking.{is_number, has_number, has_numbers, without_result, are_given, are_given_behind, are_passed, lie_in, is_entry_checked, parameters_of, is_exit_checked, is_block_checked, Checked, Leads, FactsHold}
+use Rattle.vx_facts.specs.Checking.{is_number, has_number, has_numbers, are_given, are_given_behind, are_passed, lie_in, is_entry_checked, parameters_of, is_exit_checked, is_block_checked, Checked, Leads, FactsHold}
 use Rattle.vx_claims.specs.Claims.{is_inside, gives, give}
 use Rattle.vx_facts.proofs.Ranges.{number_within, and_one, and_two, le_holds, Fit, range_holds, range_of_holds}
 use Rattle.vx_facts.proofs.Equal.{has_holds}
@@ -152,7 +152,7 @@ known_fit : (s : State) (xs : List Operand) → Fit s.values → list_all has_nu
 known_fit s [] fit e = tt
 known_fit s (x ∷ xs) fit e = known_step (held s x) (map (held s) xs) (held_fits s x fit (and_one (has_number x) (list_all has_number xs) e)) (known_fit s xs fit (and_two (has_number x) (list_all has_number xs) e))
 
-result_holds : (values : ℕ → Content) (result : Option ℕ) (n : ℤ) (fs : List Fact) → AllHold values fs → AllHold (with_result values result n) (without_result result fs)
+result_holds : (values : ℕ → Content) (result : Option ℕ) (n : ℤ) (fs : List Fact) → AllHold values fs → AllHold (with_result values result n) (without_written result fs)
 result_holds values None n fs h = h
 result_holds values (Some r) n fs h = without_holds values r (Some n) fs h
 
@@ -160,10 +160,10 @@ pub result_fits : (values : ℕ → Content) (result : Option ℕ) (n : ℤ) →
 result_fits values None n fit f = fit
 result_fits values (Some r) n fit f = written_fits values r (Some n) fit f
 
-calls_good : (given : ℕ → List Interval) (claims : ℕ → Claim) (setting : Setting) (g : ℕ) (o : Option (List ℤ)) (result : Option ℕ) (b to : ℕ) (s : State) (fs : List Fact) → Good fs s → KnownFit o → KnownWithin o (given g) → are_given_behind (without_result result fs) (claims to) ≡ true → HopGood given claims setting (calls g o result b to s)
+calls_good : (given : ℕ → List Interval) (claims : ℕ → Claim) (setting : Setting) (g : ℕ) (o : Option (List ℤ)) (result : Option ℕ) (b to : ℕ) (s : State) (fs : List Fact) → Good fs s → KnownFit o → KnownWithin o (given g) → are_given_behind (without_written result fs) (claims to) ≡ true → HopGood given claims setting (calls g o result b to s)
 calls_good given claims setting g None result b to s fs good k w e = tt
 calls_good given claims setting g (Some ns) result b to s fs good k w e =
-    let behind = without_result result fs in
+    let behind = without_written result fs in
     let e1 = and_one (give behind (claims to).facts) (tell [] (claims to).accesses) e in
     let resumed : IsResumed (claims to) s.values result =
     ((λ n f. give_holds (with_result s.values result n) behind (claims to).facts (result_fits s.values result n good.fits.values f) (result_holds s.values result n fs good.facts) e1), and_two (give behind (claims to).facts) (tell [] (claims to).accesses) e) in
@@ -184,7 +184,7 @@ leave_good given claims setting b (Split p c d) s fs xs g h e =
 leave_good given claims setting b (Call f arguments result to) s fs xs g h e =
     let one = list_all has_number arguments in
     let two = are_passed fs arguments (given f) in
-    let three = are_given_behind (without_result result fs) (claims to) in
+    let three = are_given_behind (without_written result fs) (claims to) in
     let rest = and_two one (two && three) e in
     calls_good given claims setting f (known (map (held s) arguments)) result b to s fs g (known_fit s arguments g.fits.values (and_one one (two && three) e)) (passed_within s fs arguments (given f) g (and_one two three rest)) (and_two two three rest)
 leave_good given claims setting b (Return x) s fs xs g h e = leaves_good given claims setting (held s x) s (held_fits s x g.fits.values e) g.fits

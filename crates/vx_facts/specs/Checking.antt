@@ -6,7 +6,7 @@ use Rattle.vx_base.specs.Outcome.{On}
 use Rattle.vx_flow.specs.declared.graph.Operand.{Operand}
 use Rattle.vx_flow.specs.declared.graph.Operand.TheVariants.{Held, Number, Stack}
 use Rattle.vx_flow.specs.declared.graph.Op.{Op}
-use Rattle.vx_flow.specs.declared.graph.Op.TheVariants.{Compute, Select, Place, Load, Store, More, Input, Text, Decimal, Across}
+use Rattle.vx_flow.specs.declared.graph.Op.TheVariants.{Compute, Select, Store}
 use Rattle.vx_flow.specs.declared.graph.Exit.{Exit}
 use Rattle.vx_flow.specs.declared.graph.Exit.TheVariants.{Goto, Split, Call, Return, Ends}
 use Rattle.vx_flow.specs.declared.graph.Block.{Block}
@@ -18,7 +18,7 @@ use Rattle.vx_flow.specs.Meaning.{Active, next, program_of, start}
 use Rattle.vx_claims.specs.declared.claim.Claim.{Claim}
 use Rattle.vx_claims.specs.declared.intervals.Interval.{Interval}
 use Rattle.vx_claims.specs.declared.fact.Fact.{Fact}
-use Rattle.vx_claims.specs.Facts.{AllHold, least, greatest, range_of, without, lies_in, on_side}
+use Rattle.vx_claims.specs.Facts.{AllHold, least, greatest, range_of, without, without_written, lies_in, on_side}
 use Rattle.vx_claims.specs.Forming.{after_all, accessed_all}
 use Rattle.vx_claims.specs.declared.access.Access.{Access}
 use Rattle.vx_claims.specs.Accesses.{tell}
@@ -35,22 +35,13 @@ has_number (Held v) = true
 has_number (Number n) = is_number n
 has_number Stack = true
 
--- each number that the operation names has 32 bits
+-- each number that the operation computes with, chooses or stores has 32 bits; of an index, of a place and of what is printed
+-- nothing is asked
 abbrev pub has_numbers : Op → Bool
 has_numbers (Compute code v a b) = has_number a && has_number b
 has_numbers (Select v p a b) = has_number a && has_number b
-has_numbers (Place v a i) = true
-has_numbers (Load v a p dismissible) = true
 has_numbers (Store a p x) = has_number x
-has_numbers (More v) = true
-has_numbers (Input v) = true
-has_numbers (Text n) = true
-has_numbers (Decimal x) = true
-has_numbers (Across v u) = true
-
-abbrev pub without_result : Option ℕ → List Fact → List Fact
-without_result None fs = fs
-without_result (Some v) fs = without v fs
+has_numbers op = true
 
 abbrev pub are_given : List Fact → List Access → Claim → Bool
 are_given fs xs claim = give fs claim.facts && tell xs claim.accesses
@@ -68,7 +59,7 @@ are_passed fs (x ∷ xs) (i ∷ is) = is_inside (range_of fs x) i && are_passed 
 abbrev pub is_exit_checked : (given : ℕ → List Interval) → (ℕ → Claim) → List Fact → List Access → Exit → Bool
 is_exit_checked given claims fs xs (Goto c) = are_given fs xs (claims c)
 is_exit_checked given claims fs xs (Split p c d) = are_given (on_side fs true p) xs (claims c) && are_given (on_side fs false p) xs (claims d)
-is_exit_checked given claims fs xs (Call g arguments result next) = list_all has_number arguments && (are_passed fs arguments (given g) && are_given_behind (without_result result fs) (claims next))
+is_exit_checked given claims fs xs (Call g arguments result next) = list_all has_number arguments && (are_passed fs arguments (given g) && are_given_behind (without_written result fs) (claims next))
 is_exit_checked given claims fs xs (Return x) = has_number x
 is_exit_checked given claims fs xs (Ends k) = true
 

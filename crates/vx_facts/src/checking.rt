@@ -2,9 +2,9 @@
 
 ghost use Rattle.std.specs.Prelude.{◌≡◌, ◌&&◌, IfOk};
 ghost use Rattle.std.specs.List.{list_all};
-ghost use Rattle.vx_claims.specs.Facts.{on_side};
+ghost use Rattle.vx_claims.specs.Facts.{on_side, without_written};
 ghost use Rattle.vx_claims.specs.Claims.{listed_claims};
-ghost use Rattle.vx_facts.specs.Checking.{are_given, are_given_behind, has_number, has_numbers, is_exit_checked, is_number, listed_given, without_result};
+ghost use Rattle.vx_facts.specs.Checking.{are_given, are_given_behind, has_number, has_numbers, is_exit_checked, is_number, listed_given};
 
 use crate::given::{are_passed, given_of};
 use std::alloc::Global;
@@ -39,16 +39,11 @@ fn has_numbers(op: &Op) -> bool
     ensures { result ≡ has_numbers op.now }
 {
     match *op {
-        Op::Compute { left, right, .. } => has_number(left) && has_number(right),
-        Op::Select { left, right, .. } => has_number(left) && has_number(right),
-        Op::Place { .. } => true,
-        Op::Load { .. } => true,
+        Op::Compute { left, right, .. } | Op::Select { left, right, .. } => {
+            has_number(left) && has_number(right)
+        }
         Op::Store { from, .. } => has_number(from),
-        Op::More { .. } => true,
-        Op::Input { .. } => true,
-        Op::Text { .. } => true,
-        Op::Decimal { .. } => true,
-        Op::Across { .. } => true,
+        _ => true,
     }
 }
 
@@ -102,7 +97,7 @@ fn are_given_after(
     table: &[Claim],
     block: BlockId,
 ) -> Result<bool, NoMemory>
-    ensures { IfOk result (λ given. given ≡ are_given_behind (without_result held facts.now) (listed_claims table.now block)) }
+    ensures { IfOk result (λ given. given ≡ are_given_behind (without_written held facts.now) (listed_claims table.now block)) }
 {
     match held {
         Some(value) => {
