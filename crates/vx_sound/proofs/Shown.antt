@@ -1,5 +1,5 @@
 -- A graph that a table shows sound is sound.
-use Rattle.std.proofs.Common.{◌≡◌, inl, inr, ℕ, zero, suc, Bool, true, false, ◌==◌, ◌||◌, List, [], ◌∷◌, Option, Some, None, slice_get, refl, subst, eq-eqb, ◌&&◌}
+use Rattle.std.proofs.Common.{◌≡◌, inl, inr, ℕ, zero, suc, Bool, true, false, ◌==◌, ◌||◌, List, [], ◌∷◌, Option, Some, None, slice_get, refl, subst, eq-eqb, ◌&&◌, if◌then◌else◌}
 use Rattle.std.proofs.lemmas.Bool.{and_parts, false≢true, eqb-true}
 use Rattle.std.specs.Cmp.Derive.{both_true}
 use Rattle.std.specs.List.{list_all, list_any}
@@ -14,10 +14,12 @@ use Rattle.vx_flow.specs.declared.graph.Exit.{Exit}
 use Rattle.vx_flow.specs.declared.graph.Exit.TheVariants.{Goto, Split, Call, Return, Ends}
 use Rattle.vx_flow.specs.declared.graph.Block.{Block}
 use Rattle.vx_flow.specs.declared.graph.Graph.{Graph}
+use Rattle.vx_flow.specs.Effects.{is_unary}
+use Rattle.vx_flow.specs.Operands.{held_by, reads_three}
 use Rattle.vx_flow.specs.Sound.{is_local, is_value, is_right_value, keeps_place, is_result, leaves_alone, block_keeps, is_kept, is_place_in, has_place_in, is_placed, is_access_placed, is_sound_in, is_sound_block, is_sound}
 use Rattle.vx_flow.proofs.SoundLists.{or_parts, or_left, or_right, differs_of, all_in, all_of}
 use Rattle.vx_sound.specs.declared.origins.Origin.{Origin}
-use Rattle.vx_sound.specs.Origins.{noted, is_nothing, is_for, is_free, is_array, is_free_operand, is_free_right, is_place_or_free, keeps_origins, is_free_result, leaves_origins, is_place_of, is_place_at, is_found, is_shown_place, is_origin, is_shown_in, is_shown_block, is_shown}
+use Rattle.vx_sound.specs.Origins.{noted, is_nothing, is_for, is_free, is_array, is_free_operand, is_free_or_none, are_free_reads, is_place_or_free, keeps_origins, leaves_origins, is_place_of, is_place_at, is_found, is_shown_place, is_origin, is_shown_in, is_shown_block, is_shown}
 
 -- a value that is noted for an array
 
@@ -40,9 +42,22 @@ not_held ts v a (Held u) h k = other ts v a u h k
 not_held ts v a (Number n) h k = refl
 not_held ts v a Stack h k = refl
 
-not_right : (ts : List (Option Origin)) (v a : ℕ) (code : Code) (x : Operand) → is_array ts a v ≡ true → is_free_right ts code x ≡ true → not (is_right_value v code x) ≡ true
+not_read : (ts : List (Option Origin)) (v a : ℕ) (x : Operand) → is_array ts a v ≡ true → is_free_or_none ts (held_by x) ≡ true → not (is_value v x) ≡ true
+not_read ts v a (Held u) h k = other ts v a u h k
+not_read ts v a (Number n) h k = refl
+not_read ts v a Stack h k = refl
+
+not_right : (ts : List (Option Origin)) (v a : ℕ) (code : Code) (x : Operand) → is_array ts a v ≡ true → is_free_or_none ts (held_by x) ≡ true → not (is_right_value v code x) ≡ true
 not_right ts v a Mov x h k = refl
-not_right ts v a code x h k = not_held ts v a x h k
+not_right ts v a code x h k = not_read ts v a x h k
+
+-- the operands of an operation of which nothing is noted
+both_read : (ts : List (Option Origin)) (first second : Option ℕ) → are_free_reads ts (reads_three first second None) ≡ true → (is_free_or_none ts first ≡ true) × (is_free_or_none ts second ≡ true)
+both_read ts first second k = and_parts _ _ (and_parts _ _ k).0
+
+not_computed : (ts : List (Option Origin)) (v a : ℕ) (code : Code) (x y : Operand) → is_array ts a v ≡ true → are_free_reads ts (if is_unary code then reads_three (held_by x) None None else reads_three (held_by x) (held_by y) None) ≡ true → (not (is_value v x) && not (is_right_value v code y)) ≡ true
+not_computed ts v a Mov x y h k = both_true (not_read ts v a x h (both_read ts (held_by x) None k).0) refl
+not_computed ts v a code x y h k = let (f, g) = both_read ts (held_by x) (held_by y) k in both_true (not_read ts v a x h f) (not_right ts v a code y h g)
 
 same_where : (a b : Bool) → (a ≡ true → b ≡ true) → (not a || b) ≡ true
 same_where true b f = f refl
@@ -62,14 +77,14 @@ held_or_other ts v a Stack b h k = refl
 
 keeps : (ts : List (Option Origin)) (v a : ℕ) (op : Op) → is_array ts a v ≡ true → keeps_origins ts op ≡ true → keeps_place v a op ≡ true
 keeps ts v a (Compute code u x y) h k =
-    let (ab, c) = and_parts _ _ k in
-    let (f, g) = and_parts _ _ ab in
-    both_true (both_true (other ts v a u h f) (not_held ts v a x h g)) (not_right ts v a code y h c)
+    let (f, g) = and_parts _ _ k in
+    let (l, r) = and_parts _ _ (not_computed ts v a code x y h g) in
+    both_true (both_true (other ts v a u h f) l) r
 keeps ts v a (Select u p x y) h k =
-    let (abc, d) = and_parts _ _ k in
-    let (ab, c) = and_parts _ _ abc in
-    let (f, g) = and_parts _ _ ab in
-    both_true (both_true (both_true (other ts v a u h f) (other ts v a p h g)) (not_held ts v a x h c)) (not_held ts v a y h d)
+    let (f, g) = and_parts _ _ k in
+    let (pq, r) = and_parts _ _ g in
+    let (q, l) = and_parts _ _ pq in
+    both_true (both_true (both_true (other ts v a u h f) (other ts v a p h q)) (not_read ts v a x h l)) (not_read ts v a y h r)
 keeps ts v a (Place u b i) h k =
     let (f, g) = and_parts _ _ k in
     both_true (same_or_other ts v a u b h f) (not_held ts v a i h g)
@@ -79,15 +94,15 @@ keeps ts v a (Load u b p dismissible) h k =
 keeps ts v a (Store b p x) h k =
     let (f, g) = and_parts _ _ k in
     both_true (held_or_other ts v a p b h f) (not_held ts v a x h g)
-keeps ts v a (More u) h k = other ts v a u h k
-keeps ts v a (Input u) h k = other ts v a u h k
+keeps ts v a (More u) h k = other ts v a u h (and_parts _ _ k).0
+keeps ts v a (Input u) h k = other ts v a u h (and_parts _ _ k).0
 keeps ts v a (Text n) h k = refl
-keeps ts v a (Decimal x) h k = not_held ts v a x h k
+keeps ts v a (Decimal x) h k = not_read ts v a x h (both_read ts (held_by x) None k).0
 keeps ts v a (Across u w) h k =
     let (f, g) = and_parts _ _ k in
-    both_true (other ts v a u h f) (other ts v a w h g)
+    both_true (other ts v a u h f) (other ts v a w h (both_read ts (Some w) None g).0)
 
-no_result : (ts : List (Option Origin)) (v a : ℕ) (result : Option ℕ) → is_array ts a v ≡ true → is_free_result ts result ≡ true → not (is_result v result) ≡ true
+no_result : (ts : List (Option Origin)) (v a : ℕ) (result : Option ℕ) → is_array ts a v ≡ true → is_free_or_none ts result ≡ true → not (is_result v result) ≡ true
 no_result ts v a None h k = refl
 no_result ts v a (Some u) h k = other ts v a u h k
 

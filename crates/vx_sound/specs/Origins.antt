@@ -2,16 +2,16 @@
 -- stands; each operation and exit is then tested by itself.
 use Rattle.std.specs.Prelude.{ℕ, Bool, true, false, ◌&&◌, ◌||◌, not, ◌==◌, List, length, Option, Some, None, slice_get}
 use Rattle.std.specs.List.{list_all}
-use Rattle.vx_base.specs.declared.arithmetic.Code.{Code}
-use Rattle.vx_base.specs.declared.arithmetic.Code.TheVariants.{Mov}
 use Rattle.vx_flow.specs.declared.graph.Operand.{Operand}
 use Rattle.vx_flow.specs.declared.graph.Operand.TheVariants.{Held, Number, Stack}
 use Rattle.vx_flow.specs.declared.graph.Op.{Op}
-use Rattle.vx_flow.specs.declared.graph.Op.TheVariants.{Compute, Select, Place, Load, Store, More, Input, Text, Decimal, Across}
+use Rattle.vx_flow.specs.declared.graph.Op.TheVariants.{Place, Load, Store}
 use Rattle.vx_flow.specs.declared.graph.Exit.{Exit}
 use Rattle.vx_flow.specs.declared.graph.Exit.TheVariants.{Goto, Split, Call, Return, Ends}
 use Rattle.vx_flow.specs.declared.graph.Block.{Block}
 use Rattle.vx_flow.specs.declared.graph.Graph.{Graph}
+use Rattle.vx_flow.specs.declared.operands.Reads.{Reads}
+use Rattle.vx_flow.specs.Operands.{read_by, written_by}
 use Rattle.vx_flow.specs.Sound.{is_general, is_local, is_sound_operation, is_sound_exit, is_place_in}
 use Rattle.vx_sound.specs.declared.origins.Origin.{Origin}
 
@@ -47,36 +47,30 @@ is_free_operand origins (Held v) = is_free origins v
 is_free_operand origins (Number n) = true
 is_free_operand origins Stack = true
 
--- what stands as the right operand of a move is not read
-abbrev pub is_free_right : List (Option Origin) → Code → Operand → Bool
-is_free_right origins Mov x = true
-is_free_right origins code x = is_free_operand origins x
-
 abbrev pub is_place_or_free : List (Option Origin) → ℕ → Operand → Bool
 is_place_or_free origins a (Held v) = is_free origins v || is_array origins a v
 is_place_or_free origins a (Number n) = true
 is_place_or_free origins a Stack = true
 
+-- nothing is noted of the value, if there is one
+abbrev pub is_free_or_none : List (Option Origin) → Option ℕ → Bool
+is_free_or_none origins None = true
+is_free_or_none origins (Some v) = is_free origins v
+
+abbrev pub are_free_reads : List (Option Origin) → Reads → Bool
+are_free_reads origins r = is_free_or_none origins r.first && is_free_or_none origins r.second && is_free_or_none origins r.third
+
+-- only places of an array, and its loads and stores, write and read what is noted
 abbrev pub keeps_origins : List (Option Origin) → Op → Bool
-keeps_origins origins (Compute code v a b) = is_free origins v && is_free_operand origins a && is_free_right origins code b
-keeps_origins origins (Select v p a b) = is_free origins v && is_free origins p && is_free_operand origins a && is_free_operand origins b
 keeps_origins origins (Place v a i) = (is_free origins v || is_array origins a v) && is_free_operand origins i
 keeps_origins origins (Load v a p dismissible) = is_free origins v && is_place_or_free origins a p
 keeps_origins origins (Store a p x) = is_place_or_free origins a p && is_free_operand origins x
-keeps_origins origins (More v) = is_free origins v
-keeps_origins origins (Input v) = is_free origins v
-keeps_origins origins (Text n) = true
-keeps_origins origins (Decimal x) = is_free_operand origins x
-keeps_origins origins (Across v u) = is_free origins v && is_free origins u
-
-abbrev pub is_free_result : List (Option Origin) → Option ℕ → Bool
-is_free_result origins None = true
-is_free_result origins (Some v) = is_free origins v
+keeps_origins origins op = is_free_or_none origins (written_by op) && are_free_reads origins (read_by op)
 
 abbrev pub leaves_origins : List (Option Origin) → Exit → Bool
 leaves_origins origins (Goto c) = true
 leaves_origins origins (Split p c d) = is_free origins p
-leaves_origins origins (Call g arguments result next) = list_all (is_free_operand origins) arguments && is_free_result origins result
+leaves_origins origins (Call g arguments result next) = list_all (is_free_operand origins) arguments && is_free_or_none origins result
 leaves_origins origins (Return x) = is_free_operand origins x
 leaves_origins origins (Ends k) = true
 

@@ -1,8 +1,10 @@
-// Whether what an operation or an exit names is there and of its kind. Nothing here takes memory.
+// The tests of an operation by itself: whether what it names is there and of its kind, and whether it leaves a value to the places
+// of one array. Every other file asks an operation what it reads and writes. The exits are tested for what they name. Nothing here
+// takes memory.
 
-ghost use Rattle.std.specs.Prelude.{◌≡◌};
+ghost use Rattle.std.specs.Prelude.{◌≡◌, ◌==◌, not};
 ghost use Rattle.std.specs.List.{list_all};
-ghost use Rattle.vx_flow.specs.Sound.{is_branch, is_general, is_general_or_none, is_local, is_operand, is_place_in, is_right, is_sound_exit, is_sound_operation, is_written, is_zero};
+ghost use Rattle.vx_flow.specs.Sound.{is_branch, is_general, is_general_or_none, is_local, is_operand, is_place_in, is_right, is_right_value, is_sound_exit, is_sound_operation, is_value, is_written, is_zero, keeps_place};
 
 use vx_base::arithmetic::Code;
 use vx_flow::graph::{Array, ArrayId, Bank, Exit, Op, Operand, Value};
@@ -57,6 +59,48 @@ pub fn is_sound_operation(banks: &[Bank], arrays: usize, op: &Op) -> bool
         Op::Text { .. } => true,
         Op::Decimal { from } => is_operand(banks, from),
         Op::Across { .. } => false,
+    }
+}
+
+/// Whether the operation writes the value only as a place of the array, and reads it only as the place of a load or store
+/// of the array.
+pub fn keeps_place(value: Value, array: u32, op: &Op) -> bool
+    ensures { result ≡ keeps_place value array op.now }
+{
+    match op {
+        Op::Compute {
+            code,
+            to,
+            left,
+            right,
+        } => *to != value && !is_value(value, left) && !is_right_value(value, *code, right),
+        Op::Select {
+            to,
+            test,
+            left,
+            right,
+        } => *to != value && *test != value && !is_value(value, left) && !is_value(value, right),
+        Op::Place {
+            to,
+            array: other,
+            index,
+        } => (*to != value || *other == array) && !is_value(value, index),
+        Op::Load {
+            to,
+            array: other,
+            place,
+            ..
+        } => *to != value && (!is_value(value, place) || *other == array),
+        Op::Store {
+            array: other,
+            place,
+            from,
+        } => (!is_value(value, place) || *other == array) && !is_value(value, from),
+        Op::More { to } => *to != value,
+        Op::Input { to } => *to != value,
+        Op::Text { .. } => true,
+        Op::Decimal { from } => !is_value(value, from),
+        Op::Across { to, from } => *to != value && *from != value,
     }
 }
 
@@ -127,6 +171,26 @@ fn is_written(banks: &[Bank], code: Code, value: Value) -> bool
     match code {
         Code::ToBranch(_) => is_branch(banks, value),
         _ => is_general(banks, value),
+    }
+}
+
+/// Whether an operand holds the value.
+pub fn is_value(value: Value, operand: &Operand) -> bool
+    ensures { result ≡ is_value value operand.now }
+{
+    match operand {
+        Operand::Held(held) => *held == value,
+        _ => false,
+    }
+}
+
+/// What stands as the right operand of a move is not read.
+fn is_right_value(value: Value, code: Code, operand: &Operand) -> bool
+    ensures { result ≡ is_right_value value code operand.now }
+{
+    match code {
+        Code::Mov => false,
+        _ => is_value(value, operand),
     }
 }
 

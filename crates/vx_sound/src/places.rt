@@ -3,12 +3,12 @@
 
 ghost use Rattle.std.specs.Prelude.{◌≡◌, slice_get};
 ghost use Rattle.std.specs.List.{list_all};
-ghost use Rattle.vx_sound.specs.Origins.{is_array, is_found, is_free, is_free_operand, is_free_result, is_free_right, is_origin, is_place_at, is_place_of, is_place_or_free, is_shown, is_shown_block, is_shown_in, is_shown_place, keeps_origins, leaves_origins};
+ghost use Rattle.vx_sound.specs.Origins.{are_free_reads, is_array, is_found, is_free, is_free_operand, is_free_or_none, is_origin, is_place_at, is_place_of, is_place_or_free, is_shown, is_shown_block, is_shown_in, is_shown_place, keeps_origins, leaves_origins};
 
 use crate::named::{are_general, is_local, is_place_in, is_sound_exit, is_sound_operation};
 use crate::origins::{Origin, noted};
-use vx_base::arithmetic::Code;
 use vx_flow::graph::{ArrayId, Block, Exit, Graph, Op, Operand, Value};
+use vx_flow::operands::{Reads, read_by, written_by};
 
 /// Whether a table shows that a graph is sound.
 pub fn is_shown(origins: &[Option<Origin>], graph: &Graph) -> bool
@@ -84,16 +84,6 @@ fn is_free_operand(origins: &[Option<Origin>], operand: &Operand) -> bool
     }
 }
 
-/// What stands as the right operand of a move is not read.
-fn is_free_right(origins: &[Option<Origin>], code: Code, operand: &Operand) -> bool
-    ensures { result ≡ is_free_right origins.now code operand.now }
-{
-    match code {
-        Code::Mov => true,
-        _ => is_free_operand(origins, operand),
-    }
-}
-
 /// Whether an operand may be the place of a load or store of the array.
 fn is_place_or_free(origins: &[Option<Origin>], array: ArrayId, operand: &Operand) -> bool
     ensures { result ≡ is_place_or_free origins.now array operand.now }
@@ -110,27 +100,6 @@ fn keeps_origins(origins: &[Option<Origin>], op: &Op) -> bool
     ensures { result ≡ keeps_origins origins.now op.now }
 {
     match op {
-        Op::Compute {
-            code,
-            to,
-            left,
-            right,
-        } => {
-            is_free(origins, *to)
-                && is_free_operand(origins, left)
-                && is_free_right(origins, *code, right)
-        }
-        Op::Select {
-            to,
-            test,
-            left,
-            right,
-        } => {
-            is_free(origins, *to)
-                && is_free(origins, *test)
-                && is_free_operand(origins, left)
-                && is_free_operand(origins, right)
-        }
         Op::Place { to, array, index } => {
             (is_free(origins, *to) || is_array(origins, *array, *to))
                 && is_free_operand(origins, index)
@@ -144,12 +113,17 @@ fn keeps_origins(origins: &[Option<Origin>], op: &Op) -> bool
         Op::Store { array, place, from } => {
             is_place_or_free(origins, *array, place) && is_free_operand(origins, from)
         }
-        Op::More { to } => is_free(origins, *to),
-        Op::Input { to } => is_free(origins, *to),
-        Op::Text { .. } => true,
-        Op::Decimal { from } => is_free_operand(origins, from),
-        Op::Across { to, from } => is_free(origins, *to) && is_free(origins, *from),
+        _ => is_free_or_none(origins, written_by(op)) && are_free_reads(origins, &read_by(op)),
     }
+}
+
+/// Whether nothing is noted of the values that are read.
+fn are_free_reads(origins: &[Option<Origin>], read: &Reads) -> bool
+    ensures { result ≡ are_free_reads origins.now read.now }
+{
+    is_free_or_none(origins, read.first)
+        && is_free_or_none(origins, read.second)
+        && is_free_or_none(origins, read.third)
 }
 
 /// Whether the exit neither reads nor writes what is noted.
@@ -164,7 +138,7 @@ fn leaves_origins(origins: &[Option<Origin>], exit: &Exit) -> bool
             result,
             ..
         } => {
-            are_free_operands(origins, arguments.as_slice()) && is_free_result(origins, *result)
+            are_free_operands(origins, arguments.as_slice()) && is_free_or_none(origins, *result)
         }
         Exit::Return(operand) => is_free_operand(origins, operand),
         Exit::Ends(_) => true,
@@ -179,10 +153,11 @@ fn are_free_operands(origins: &[Option<Origin>], operands: &[Operand]) -> bool
         .all(|operand| is_free_operand(origins, operand))
 }
 
-fn is_free_result(origins: &[Option<Origin>], result_of_call: Option<Value>) -> bool
-    ensures { result ≡ is_free_result origins.now result_of_call }
+/// Whether nothing is noted of the value, if there is one.
+fn is_free_or_none(origins: &[Option<Origin>], value: Option<Value>) -> bool
+    ensures { result ≡ is_free_or_none origins.now value }
 {
-    match result_of_call {
+    match value {
         Some(value) => is_free(origins, value),
         None => true,
     }

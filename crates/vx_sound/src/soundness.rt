@@ -4,13 +4,14 @@
 
 ghost use Rattle.std.specs.Prelude.{◌≡◌, ◌↔◌, ◌==◌, true, not};
 ghost use Rattle.std.specs.List.{list_all, list_any};
-ghost use Rattle.vx_flow.specs.Sound.{block_keeps, has_place_in, is_access_placed, is_kept, is_place_in, is_placed, is_result, is_right_value, is_sound, is_sound_block, is_sound_flow, is_sound_function, is_sound_in, is_value, keeps_place, leaves_alone, Sound, SoundFlow};
+ghost use Rattle.vx_flow.specs.Sound.{block_keeps, has_place_in, is_access_placed, is_kept, is_place_in, is_placed, is_result, is_sound, is_sound_block, is_sound_flow, is_sound_function, is_sound_in, is_value, keeps_place, leaves_alone, Sound, SoundFlow};
 
-use crate::named::{are_general, is_local, is_place_in, is_sound_exit, is_sound_operation};
+use crate::named::{
+    are_general, is_local, is_place_in, is_sound_exit, is_sound_operation, is_value, keeps_place,
+};
 use crate::program_names::{
     are_blocks_there, are_distinct, are_others, begins_with, has_parameters,
 };
-use vx_base::arithmetic::Code;
 use vx_flow::graph::{Block, Exit, Flow, Graph, Op, Operand, Value};
 
 /// Whether all of this holds of a graph.
@@ -128,48 +129,6 @@ fn are_not_held(value: Value, operands: &[Operand]) -> bool
     operands.iter().all(|operand| !is_value(value, operand))
 }
 
-/// Whether the operation writes the value only as a place of the array, and reads it only as the place of a load or store
-/// of the array.
-fn keeps_place(value: Value, array: u32, op: &Op) -> bool
-    ensures { result ≡ keeps_place value array op.now }
-{
-    match op {
-        Op::Compute {
-            code,
-            to,
-            left,
-            right,
-        } => *to != value && !is_value(value, left) && !is_right_value(value, *code, right),
-        Op::Select {
-            to,
-            test,
-            left,
-            right,
-        } => *to != value && *test != value && !is_value(value, left) && !is_value(value, right),
-        Op::Place {
-            to,
-            array: other,
-            index,
-        } => (*to != value || *other == array) && !is_value(value, index),
-        Op::Load {
-            to,
-            array: other,
-            place,
-            ..
-        } => *to != value && (!is_value(value, place) || *other == array),
-        Op::Store {
-            array: other,
-            place,
-            from,
-        } => (!is_value(value, place) || *other == array) && !is_value(value, from),
-        Op::More { to } => *to != value,
-        Op::Input { to } => *to != value,
-        Op::Text { .. } => true,
-        Op::Decimal { from } => !is_value(value, from),
-        Op::Across { to, from } => *to != value && *from != value,
-    }
-}
-
 /// Whether the exit neither reads nor writes the value.
 fn leaves_alone(value: Value, exit: &Exit) -> bool
     ensures { result ≡ leaves_alone value exit.now }
@@ -184,24 +143,6 @@ fn leaves_alone(value: Value, exit: &Exit) -> bool
         } => { are_not_held(value, arguments.as_slice()) && !is_result(value, *result) }
         Exit::Return(operand) => !is_value(value, operand),
         Exit::Ends(_) => true,
-    }
-}
-
-fn is_value(value: Value, operand: &Operand) -> bool
-    ensures { result ≡ is_value value operand.now }
-{
-    match operand {
-        Operand::Held(held) => *held == value,
-        _ => false,
-    }
-}
-
-fn is_right_value(value: Value, code: Code, operand: &Operand) -> bool
-    ensures { result ≡ is_right_value value code operand.now }
-{
-    match code {
-        Code::Mov => false,
-        _ => is_value(value, operand),
     }
 }
 
