@@ -16,6 +16,7 @@ use Rattle.vx_flow.specs.declared.graph.Op.{Op}
 use Rattle.vx_flow.specs.declared.graph.Op.TheVariants.{Compute as Computes, Select as Selects, Place, Load as Loads, Store as Stores, More as Asks, Input as Takes, Text, Decimal, Across}
 use Rattle.vx_flow.specs.declared.trace.Homes.{Homes}
 use Rattle.vx_flow.specs.Effects.{IsIn, is_unary, value_in, reads, writes}
+use Rattle.vx_flow.specs.Operands.{is_observable as is_observable_op}
 use Rattle.vx_flow.specs.Sound.{Sound}
 use Rattle.vx_flow.proofs.Members.{in_left, in_right}
 use Rattle.vx_isa.specs.declared.operation.GeneralRegister.{GeneralRegister}
@@ -30,7 +31,7 @@ use Rattle.vx_isa.specs.Fits.{keeps_to_cluster, all_on, is_in_file, takes_read_p
 use Rattle.vx_isa.proofs.Lists.{count_by-append, count_by-cons, count_by-none}
 use Rattle.vx_machine.specs.declared.items.ClusteredItem.{ClusteredItem}
 use Rattle.vx_machine.specs.declared.items.Item.TheVariants.{Plain as PlainItem}
-use Rattle.vx_machine.specs.Items.{base_of as base_operand, general_reads_of_op, takes_port, writes_general_op, unit_of_item, is_observable_op}
+use Rattle.vx_machine.specs.Items.{base_of as base_operand, general_reads_of_op, takes_port, writes_general_op, unit_of_item}
 use Rattle.vx_machine.specs.Needs.{Needs}
 use Rattle.vx_machine.specs.Room.{home_of, source_of as room_source, read_clusters, is_at, stands_well}
 use Rattle.vx_mixed.specs.declared.layout.Laid.{Laid}

@@ -7,6 +7,7 @@ use Rattle.vx_flow.specs.declared.graph.Op.{Op}
 use Rattle.vx_flow.specs.declared.graph.Op.TheVariants.{Compute, Select, Place, Load, Store, More, Input, Text, Decimal, Across}
 use Rattle.vx_flow.specs.declared.trace.TraceOp.{TraceOp}
 use Rattle.vx_flow.specs.declared.trace.TraceOp.TheVariants.{Plain as PlainOf, Split as SplitOf}
+use Rattle.vx_flow.specs.Operands.{is_observable}
 use Rattle.vx_flow.specs.Sound.{operands_of}
 use Rattle.vx_isa.specs.declared.operation.UnitKind.{UnitKind}
 use Rattle.vx_isa.specs.declared.operation.UnitKind.TheVariants.{Alu, Memory, Copies, Control}
@@ -54,16 +55,9 @@ abbrev pub latency_of_item : Numbers → Item → ℕ
 latency_of_item m (Plain op) = latency_of_op m op
 latency_of_item m (Split p) = 0
 
--- the operations by which a program meets its input and its output
-abbrev pub is_observable_op : Op → Bool
-is_observable_op (More v) = true
-is_observable_op (Input v) = true
-is_observable_op (Text n) = true
-is_observable_op (Decimal x) = true
-is_observable_op op = false
-
+-- a program meets its input and its output by it
 abbrev pub is_observable_item : Item → Bool
-is_observable_item (Plain op) = is_observable_op op
+is_observable_item (Plain op) = is_observable op
 is_observable_item (Split p) = false
 
 abbrev pub is_split : Item → Bool

@@ -2,10 +2,12 @@
 // specs/Items.antt says the same.
 
 ghost use Rattle.std.specs.Prelude.{◌≡◌, ◌≤◌, ◌∷◌, [], count_by};
-ghost use Rattle.vx_machine.specs.Items.{item_of, unit_of_op, unit_of_item, is_observable_op, is_observable_item, is_split, base_of, general_reads_of_op, general_reads, takes_port, writes_general_op, writes_general};
+ghost use Rattle.vx_machine.specs.Items.{item_of, unit_of_op, unit_of_item, latency_of_op, is_observable_item, is_split, base_of, general_reads_of_op, general_reads, takes_port, writes_general_op, writes_general};
 
+use crate::machine_model::Machine;
 use vx_base::arithmetic::Code;
 use vx_flow::graph::{Op, Operand, Value};
+use vx_flow::operands::is_observable;
 use vx_flow::trace::TraceOp;
 use vx_isa::operation::{UnitKind, unit_of_code};
 
@@ -63,7 +65,7 @@ impl Item {
         ensures { result ≡ is_observable_item self.now }
     {
         match self {
-            Item::Plain(op) => is_observable_op(op),
+            Item::Plain(op) => is_observable(op),
             Item::Split { .. } => false,
         }
     }
@@ -103,15 +105,19 @@ fn unit_of_op(op: &Op) -> UnitKind
     }
 }
 
-fn is_observable_op(op: &Op) -> bool
-    ensures { result ≡ is_observable_op op.now }
+/// The cycles until the result of an operation has landed at the latest; 0 where it has none.
+pub(crate) fn latency_of_op(machine: &Machine, op: &Op) -> u32
+    ensures { result ≡ latency_of_op machine.now op.now }
 {
     match op {
-        Op::More { .. } => true,
-        Op::Input { .. } => true,
-        Op::Text { .. } => true,
-        Op::Decimal { .. } => true,
-        _ => false,
+        Op::Compute { code, .. } => machine.latency_of_code(*code),
+        Op::Select { .. } => machine.latency_alu(),
+        Op::Place { .. } => machine.latency_alu(),
+        Op::Load { .. } => machine.latency_load(),
+        Op::More { .. } => machine.latency_load(),
+        Op::Input { .. } => machine.latency_load(),
+        Op::Across { .. } => machine.latency_copy(),
+        _ => 0,
     }
 }
 

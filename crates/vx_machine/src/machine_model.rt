@@ -4,12 +4,11 @@
 ghost use Rattle.std.specs.Prelude.{◌≡◌, ◌≤◌};
 ghost use Rattle.vx_isa.specs.Numbers.{IsMachine, vex};
 ghost use Rattle.vx_isa.specs.Operations.{latency_of_code, latency_of};
-ghost use Rattle.vx_machine.specs.Items.{latency_of_op, latency_of_item};
+ghost use Rattle.vx_machine.specs.Items.{latency_of_item};
 
-use crate::items::Item;
+use crate::items::{Item, latency_of_op};
 use std::marker::Model;
 use vx_base::arithmetic::Code;
-use vx_flow::graph::Op;
 use vx_isa::operation::Operation;
 
 /// The numbers of a machine. All counts but `clusters` and `copy_paths` are per cluster.
@@ -271,28 +270,13 @@ impl Machine {
         ensures { result ≡ latency_of_item self.now item.now }
     {
         match item {
-            Item::Plain(op) => self.latency_of_op(op),
+            Item::Plain(op) => latency_of_op(self, op),
             Item::Split { .. } => 0,
         }
     }
 
-    fn latency_of_op(&self, op: &Op) -> u32
-        ensures { result ≡ latency_of_op self.now op.now }
-    {
-        match op {
-            Op::Compute { code, .. } => self.latency_of_code(*code),
-            Op::Select { .. } => self.latency_alu,
-            Op::Place { .. } => self.latency_alu,
-            Op::Load { .. } => self.latency_load,
-            Op::More { .. } => self.latency_load,
-            Op::Input { .. } => self.latency_load,
-            Op::Across { .. } => self.latency_copy,
-            _ => 0,
-        }
-    }
-
     /// The cycles until the result of a computation has landed at the latest.
-    fn latency_of_code(&self, code: Code) -> u32
+    pub(crate) fn latency_of_code(&self, code: Code) -> u32
         ensures { result ≡ latency_of_code self.now code }
     {
         match code {
