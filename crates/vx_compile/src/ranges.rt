@@ -32,12 +32,7 @@ fn operation_fits(op: &Operation)
     ensures { fits_operation op.now ≡ true }
 {
     match op {
-        Operation::Compute { left, right, .. } => {
-            source_fits(left);
-            source_fits(right);
-        }
-        Operation::Move { from, .. } => source_fits(from),
-        Operation::Select { left, right, .. } => {
+        Operation::Compute { left, right, .. } | Operation::Select { left, right, .. } => {
             source_fits(left);
             source_fits(right);
         }
@@ -46,19 +41,16 @@ fn operation_fits(op: &Operation)
             signed_fits(*offset);
             source_fits(from);
         }
-        Operation::Input { .. } => {}
-        Operation::More { .. } => {}
+        Operation::Move { from, .. }
+        | Operation::OutDecimal { from }
+        | Operation::OutByte { from }
+        | Operation::ToLink { from }
+        | Operation::Halt { from } => source_fits(from),
         Operation::OutText { text } => unsigned_fits(*text),
-        Operation::OutDecimal { from } => source_fits(from),
-        Operation::OutByte { from } => source_fits(from),
-        Operation::Goto { target } => unsigned_fits(*target),
-        Operation::BranchOn { target, .. } => unsigned_fits(*target),
-        Operation::Call { target } => unsigned_fits(*target),
-        Operation::Return => {}
-        Operation::FromLink { .. } => {}
-        Operation::ToLink { from } => source_fits(from),
-        Operation::EndByTrap { .. } => {}
-        Operation::Halt { from } => source_fits(from),
+        Operation::Goto { target }
+        | Operation::BranchOn { target, .. }
+        | Operation::Call { target } => unsigned_fits(*target),
+        _ => {}
     }
 }
 
