@@ -10,7 +10,7 @@ use Rattle.vx_flow.specs.declared.graph.Bank.TheVariants.{General, Branch}
 use Rattle.vx_flow.specs.declared.graph.Operand.{Operand}
 use Rattle.vx_flow.specs.declared.graph.Operand.TheVariants.{Held, Number, Stack}
 use Rattle.vx_flow.specs.declared.graph.Op.{Op}
-use Rattle.vx_flow.specs.declared.graph.Op.TheVariants.{Compute, Select, Place, Load, Store, More, Input, Text, Decimal, Across}
+use Rattle.vx_flow.specs.declared.graph.Op.TheVariants.{Compute, Place, Load, Store, More, Input, Text, Decimal}
 use Rattle.vx_flow.specs.declared.graph.Exit.{Exit}
 use Rattle.vx_flow.specs.declared.graph.Exit.TheVariants.{Goto, Split, Call, Return, Ends}
 use Rattle.vx_flow.specs.declared.graph.Block.{Block}
@@ -63,7 +63,6 @@ RightFits roles code o = OperandFits roles o
 -- there are so many texts
 abbrev pub OpFits : Known → (texts : ℕ) → List Role → Op → Type 0
 OpFits k texts roles (Compute code t a b) = HasRole roles t (role_written code) × OperandFits roles a × RightFits roles code b
-OpFits k texts roles (Select t test a b) = ⊥
 OpFits k texts roles (Place t a i) = HasRole roles t (PlaceOf a) × (a < k.arrays) × OperandFits roles i
 OpFits k texts roles (Load t a p dismissible) = HasRole roles t Scalar × (a < k.arrays) × PlaceFits roles a p × (dismissible ≡ false)
 OpFits k texts roles (Store a p o) = (a < k.arrays) × PlaceFits roles a p × OperandFits roles o
@@ -71,7 +70,7 @@ OpFits k texts roles (More t) = HasRole roles t Scalar
 OpFits k texts roles (Input t) = HasRole roles t Scalar
 OpFits k texts roles (Text n) = n < texts
 OpFits k texts roles (Decimal o) = OperandFits roles o
-OpFits k texts roles (Across t v) = ⊥
+OpFits k texts roles op = ⊥
 
 -- an operation of the open block, or of one that is finished
 pub data Has (blocks : List (Option Block)) (ops : List Op) (op : Op) : Type 0 where

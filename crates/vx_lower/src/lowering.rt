@@ -1,19 +1,17 @@
 // Whole functions and whole programs. The clause `flow` of `lower` is the promise of this crate: the graphs do what the
 // program does, and are sound and well shaped (specs/FlowOf.antt).
 
-ghost use Rattle.std.specs.Prelude.{◌≡◌, ℕ, ◌++◌, length, map, replicate, slice_get, true, Some, pos, IfOk, OnOk};
+ghost use Rattle.std.specs.Prelude.{◌≡◌, ℕ, ◌++◌, length, map, slice_get, true, Some, pos, IfOk};
 ghost use Rattle.vx_ast.specs.Accepted.{global_words, is_accepted};
 ghost use Rattle.vx_ast.specs.Tree.{Function as AFunction};
 ghost use Rattle.vx_ast.specs.View.{function_of, program_of};
-ghost use Rattle.vx_flow.specs.declared.graph.Bank.TheVariants.{General};
 ghost use Rattle.vx_flow.specs.declared.graph.Graph.{Graph as AGraph};
 ghost use Rattle.vx_flow.specs.Effects.{IsIn};
 ghost use Rattle.vx_flow.specs.Sound.{SoundFlow};
-ghost use Rattle.vx_lower.specs.Builds.{closed};
 ghost use Rattle.vx_lower.specs.Emits.{are_small};
 ghost use Rattle.vx_lower.specs.FlowOf.{FlowOf, RunsAs};
 ghost use Rattle.vx_lower.specs.FunctionShape.{BodyWell, GraphWell, GraphsWell};
-ghost use Rattle.vx_lower.specs.Graphs.{AllGraphed, Built, Graphed, ShapeOf, arrays_from, back_with_zero, beginning};
+ghost use Rattle.vx_lower.specs.Graphs.{AllGraphed, Built, Graphed, ShapeOf, arrays_from, beginning};
 ghost use Rattle.vx_lower.specs.LoweredGraphs.{NamedByNumber, NoneDismissible};
 ghost use Rattle.vx_lower.specs.Lowered.{AllLowered, global_of as global_in, numbers_from, words_seen as all_words};
 
@@ -47,22 +45,14 @@ fn global_of(global: GlobalVariable) -> Global
     }
 }
 
-/// The words of the globals.
-fn words_of_globals(alloc: Heap, globals: &[GlobalVariable]) -> Result<Vec<u32>, NoMemory>
-    ensures { IfOk result (λ words. words.items ≡ map global_words globals.now) }
+/// The words of the arrays that a function sees: the globals, and then its own.
+fn words_seen(alloc: Heap, globals: &[GlobalVariable], own: &[u32]) -> Result<Vec<u32>, NoMemory>
+    ensures { IfOk result (λ words. words.items ≡ map global_words globals.now ++ own.now) }
 {
     let mut words = Vec::new(alloc);
     for global in globals {
         words.push(words_of(*global))?;
     }
-    Ok(words)
-}
-
-/// The words of the arrays that a function sees: the globals, and then its own.
-fn words_seen(alloc: Heap, globals: &[GlobalVariable], own: &[u32]) -> Result<Vec<u32>, NoMemory>
-    ensures { IfOk result (λ words. words.items ≡ map global_words globals.now ++ own.now) }
-{
-    let mut words = words_of_globals(alloc, globals)?;
     words.extend_from_slice(own)?;
     Ok(words)
 }
@@ -83,14 +73,6 @@ fn arrays_of(alloc: Heap, words: &[u32], globals: usize) -> Result<Listed<Array>
     Ok(arrays)
 }
 
-/// A bank for each scalar.
-fn scalar_banks(alloc: Heap, count: u32) -> Result<Listed<Bank>, NoMemory>
-    ensures { IfOk result (λ banks. banks ≡ replicate count General) }
-{
-    let banks = vec![in alloc; Bank::General; count as usize]?;
-    Ok(Listed::from_vec(banks)?)
-}
-
 /// The first values.
 fn first_values(alloc: Heap, count: u32) -> Result<Listed<Value>, NoMemory>
     ensures { IfOk result (λ values. values ≡ numbers_from 0 count) }
@@ -108,23 +90,16 @@ fn begin(alloc: Heap, scalars: u32) -> Result<Builder, NoMemory>
 {
     let mut blocks = Slots::new(alloc);
     blocks.push(None)?;
+    let banks = vec![in alloc; Bank::General; scalars as usize]?;
     Ok(Builder {
         blocks,
         current: 0,
         ops: Listed::new(alloc),
-        banks: scalar_banks(alloc, scalars)?,
+        banks: Listed::from_vec(banks)?,
     })
 }
 
-/// The open block returns 0, and nothing is open.
-fn end(b: &mut Builder, alloc: Heap)
-    ensures { b.new ≡ closed b.old back_with_zero b.old.current }
-{
-    let place = b.current;
-    b.close(alloc, Exit::Return(Operand::Number(0)), place);
-}
-
-/// The blocks of a function.
+/// The blocks of a function. The last that is open returns 0, and none is open then.
 fn build(
     alloc: Heap,
     words: &Sizes,
@@ -136,7 +111,8 @@ fn build(
 {
     let mut b = begin(alloc, f.scalars)?;
     emit_all(&mut b, alloc, words, texts, f.body.as_slice(), None, None)?;
-    end(&mut b, alloc);
+    let place = b.current;
+    b.close(alloc, Exit::Return(Operand::Number(0)), place);
     Ok(b)
 }
 

@@ -8,7 +8,7 @@ use Rattle.vx_lower.proofs.FunctionShaping.{body_well}
 use Rattle.vx_lower.proofs.lowering.build.Goals as goal
 
 pub returns-clause-code : goal.returns-clause-code
-returns-clause-code c = built_is c.args.words.now (function_of c.args.f.now) c.in_ok-b.b c.emit_all.new.b c.end.new.b c.args.texts.now c.emit_all.new.texts c.in_ok-b.ensures (subst (λ z. Ready c.in_ok-b.b → Makes c.args.words.now (all_in z) None None c.in_ok-b.b c.emit_all.new.b c.args.texts.now c.emit_all.new.texts) c.as_slice.ensures.value c.in_ok-emit_all.ensures.code) c.end.ensures
+returns-clause-code c = built_is c.args.words.now (function_of c.args.f.now) c.in_ok-b.b c.emit_all.new.b c.close.new.self c.args.texts.now c.emit_all.new.texts c.in_ok-b.ensures (subst (λ z. Ready c.in_ok-b.b → Makes c.args.words.now (all_in z) None None c.in_ok-b.b c.emit_all.new.b c.args.texts.now c.emit_all.new.texts) c.as_slice.ensures.value c.in_ok-emit_all.ensures.code) c.close.ensures
 
 pub returns-clause-fits : goal.returns-clause-fits
-returns-clause-fits c = body_well (function_of c.args.f.now) c.in_ok-b.b c.emit_all.new.b c.end.new.b c.args.texts.now c.emit_all.new.texts c.in_ok-b.ensures (subst (λ z. StatementWell (all_in z) None None c.in_ok-b.b c.emit_all.new.b c.args.texts.now c.emit_all.new.texts) c.as_slice.ensures.value c.in_ok-emit_all.ensures.fits) c.end.ensures
+returns-clause-fits c = body_well (function_of c.args.f.now) c.in_ok-b.b c.emit_all.new.b c.close.new.self c.args.texts.now c.emit_all.new.texts c.in_ok-b.ensures (subst (λ z. StatementWell (all_in z) None None c.in_ok-b.b c.emit_all.new.b c.args.texts.now c.emit_all.new.texts) c.as_slice.ensures.value c.in_ok-emit_all.ensures.fits) c.close.ensures
