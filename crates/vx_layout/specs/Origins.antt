@@ -3,15 +3,15 @@
 use Rattle.std.specs.Prelude.{◌≡◌, ◌<◌, ◌*◌, ◌+◌, ◌%◌, ℕ, suc, Bool, Option, Some, List, length, slice_get}
 use Rattle.vx_flow.specs.declared.graph.Bank.TheVariants.{General}
 use Rattle.vx_flow.specs.declared.graph.Operand.{Operand}
-use Rattle.vx_flow.specs.declared.graph.Operand.TheVariants.{Held, Number, Stack}
 use Rattle.vx_flow.specs.declared.graph.Op.{Op}
-use Rattle.vx_flow.specs.declared.graph.Op.TheVariants.{Compute, Select, Place, Load, Store, More, Input, Text, Decimal, Across}
+use Rattle.vx_flow.specs.declared.graph.Op.TheVariants.{Across}
 use Rattle.vx_flow.specs.declared.graph.Edge.{Edge}
 use Rattle.vx_flow.specs.declared.graph.Exit.{Exit}
 use Rattle.vx_flow.specs.declared.graph.Exit.TheVariants.{Goto, Split as Branches, Call as Calls, Return as Returns, Ends as Stops}
 use Rattle.vx_flow.specs.declared.graph.Block.{Block}
 use Rattle.vx_flow.specs.declared.graph.Graph.{Graph}
 use Rattle.vx_flow.specs.Effects.{IsIn, dismissed, writes}
+use Rattle.vx_flow.specs.Operands.{with_value_in, with_values}
 use Rattle.vx_flow.specs.Sound.{HasOperation, HasExit}
 use Rattle.vx_mixed.specs.declared.region.Item.{Item}
 use Rattle.vx_mixed.specs.declared.region.Item.TheVariants.{Split as SplitItem}
@@ -31,22 +31,11 @@ abbrev pub whole : (values : ℕ) → ℕ → ℕ
 whole values v = v % values
 
 abbrev pub whole_operand : ℕ → Operand → Operand
-whole_operand values (Held v) = Held (whole values v)
-whole_operand values (Number n) = Number n
-whole_operand values Stack = Stack
+whole_operand values = with_value_in (whole values)
 
 -- the operation with values in place of their copies
 abbrev pub whole_op : ℕ → Op → Op
-whole_op values (Compute code v a b) = Compute code (whole values v) (whole_operand values a) (whole_operand values b)
-whole_op values (Select v p a b) = Select (whole values v) (whole values p) (whole_operand values a) (whole_operand values b)
-whole_op values (Place v a i) = Place (whole values v) a (whole_operand values i)
-whole_op values (Load v a p d) = Load (whole values v) a (whole_operand values p) d
-whole_op values (Store a p x) = Store a (whole_operand values p) (whole_operand values x)
-whole_op values (More v) = More (whole values v)
-whole_op values (Input v) = Input (whole values v)
-whole_op values (Text n) = Text n
-whole_op values (Decimal x) = Decimal (whole_operand values x)
-whole_op values (Across v u) = Across (whole values v) (whole values u)
+whole_op values = with_values (whole values)
 
 -- the copy of value u to cluster k
 abbrev pub copy_of : (values u k : ℕ) → ℕ
