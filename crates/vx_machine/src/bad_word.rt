@@ -28,7 +28,12 @@ pub fn is_bad_word(machine: &Machine, word: &Word) -> bool
 fn keep_to_clusters(ops: &[Operation]) -> bool
     ensures { result ≡ list_all keeps_to_cluster ops.now }
 {
-    ops.iter().all(|op| op.keeps_to_cluster())
+    for op in ops {
+        if !op.keeps_to_cluster() {
+            return false;
+        }
+    }
+    true
 }
 
 /// Whether a register is a destination twice.

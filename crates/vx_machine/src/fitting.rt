@@ -47,19 +47,34 @@ pub(crate) fn has_registers(machine: &Machine, ops: &[Operation]) -> bool
 fn has_clusters(machine: &Machine, ops: &[Operation]) -> bool
     ensures { result ≡ list_all (λ op. nat_lt (cluster_of op) machine.now.clusters) ops.now }
 {
-    ops.iter().all(|op| op.cluster() < machine.clusters())
+    for op in ops {
+        if op.cluster() >= machine.clusters() {
+            return false;
+        }
+    }
+    true
 }
 
 fn has_operands(machine: &Machine, ops: &[Operation]) -> bool
     ensures { result ≡ list_all (λ op. list_all (is_in_file machine.now) (reads_of op)) ops.now }
 {
-    ops.iter().all(|op| has_reads(machine, op))
+    for op in ops {
+        if !has_reads(machine, op) {
+            return false;
+        }
+    }
+    true
 }
 
 fn has_destinations(machine: &Machine, ops: &[Operation]) -> bool
     ensures { result ≡ list_all (λ op. list_all (is_in_file machine.now) (list_of (destination_of op))) ops.now }
 {
-    ops.iter().all(|op| has_named(machine, op.destination()))
+    for op in ops {
+        if !has_named(machine, op.destination()) {
+            return false;
+        }
+    }
+    true
 }
 
 fn has_reads(machine: &Machine, op: &Operation) -> bool
@@ -109,33 +124,61 @@ fn fits_cluster(machine: &Machine, ops: &[Operation], cluster: u32) -> bool
 fn count_on(ops: &[Operation], cluster: u32) -> usize
     ensures { result ≡ count_on cluster (λ op. true) ops.now }
 {
-    ops.iter().filter(|op| op.cluster() == cluster).count()
+    let mut count = 0;
+    for op in ops {
+        if op.cluster() == cluster {
+            count += 1;
+        }
+    }
+    count
 }
 
 fn count_of_on(ops: &[Operation], unit: UnitKind, cluster: u32) -> usize
     ensures { result ≡ count_on cluster (is_of unit) ops.now }
 {
-    ops.iter()
-        .filter(|op| op.cluster() == cluster && is_of(unit, op))
-        .count()
+    let mut count = 0;
+    for op in ops {
+        if op.cluster() == cluster && is_of(unit, op) {
+            count += 1;
+        }
+    }
+    count
 }
 
 fn count_of(ops: &[Operation], unit: UnitKind) -> usize
     ensures { result ≡ count_by (is_of unit) ops.now }
 {
-    ops.iter().filter(|op| is_of(unit, op)).count()
+    let mut count = 0;
+    for op in ops {
+        if is_of(unit, op) {
+            count += 1;
+        }
+    }
+    count
 }
 
 fn count_of_control(ops: &[Operation]) -> usize
     ensures { result ≡ count_by is_control ops.now }
 {
-    ops.iter().filter(|op| op.is_control()).count()
+    let mut count = 0;
+    for op in ops {
+        if op.is_control() {
+            count += 1;
+        }
+    }
+    count
 }
 
 fn count_of_observable(ops: &[Operation]) -> usize
     ensures { result ≡ count_by is_observable ops.now }
 {
-    ops.iter().filter(|op| op.is_observable()).count()
+    let mut count = 0;
+    for op in ops {
+        if op.is_observable() {
+            count += 1;
+        }
+    }
+    count
 }
 
 fn is_of(unit: UnitKind, op: &Operation) -> bool

@@ -67,22 +67,37 @@ fn have_room_in_whole(machine: &Machine, items: &[ClusteredItem]) -> bool
 fn count_of_copies(items: &[ClusteredItem]) -> usize
     ensures { result ≡ count_in (needs Copies) items.now }
 {
-    items
-        .iter()
-        .filter(|x| x.item.unit() == UnitKind::Copies)
-        .count()
+    let mut count = 0;
+    for x in items {
+        if x.item.unit() == UnitKind::Copies {
+            count += 1;
+        }
+    }
+    count
 }
 
 fn count_of_splits(items: &[ClusteredItem]) -> usize
     ensures { result ≡ count_in is_split items.now }
 {
-    items.iter().filter(|x| x.item.is_split()).count()
+    let mut count = 0;
+    for x in items {
+        if x.item.is_split() {
+            count += 1;
+        }
+    }
+    count
 }
 
 fn count_of_observable(items: &[ClusteredItem]) -> usize
     ensures { result ≡ count_in is_observable_item items.now }
 {
-    items.iter().filter(|x| x.item.is_observable()).count()
+    let mut count = 0;
+    for x in items {
+        if x.item.is_observable() {
+            count += 1;
+        }
+    }
+    count
 }
 
 /// Whether each item, and what it reads, stands on a cluster where it may.
@@ -95,7 +110,12 @@ fn stand_well(machine: &Machine, homes: &Homes, items: &[ClusteredItem]) -> bool
 fn all_stand_well(machine: &Machine, items: &[ClusteredItem]) -> bool
     ensures { result ≡ list_all (stands_well machine.now) items.now }
 {
-    items.iter().all(|x| stands_well(machine, x))
+    for x in items {
+        if !stands_well(machine, x) {
+            return false;
+        }
+    }
+    true
 }
 
 fn stands_well(machine: &Machine, x: &ClusteredItem) -> bool
@@ -108,7 +128,12 @@ fn stands_well(machine: &Machine, x: &ClusteredItem) -> bool
 fn all_read_well(machine: &Machine, homes: &Homes, items: &[ClusteredItem]) -> bool
     ensures { result ≡ list_all (λ x. list_all (is_cluster machine.now) (read_clusters homes.now x)) items.now }
 {
-    items.iter().all(|x| reads_well(machine, homes, x))
+    for x in items {
+        if !reads_well(machine, homes, x) {
+            return false;
+        }
+    }
+    true
 }
 
 #[tactic(auto, using(crate::proofs::RoomSteps::reads_pass))]
