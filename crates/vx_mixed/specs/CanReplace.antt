@@ -1,11 +1,12 @@
 -- What is asked of the arguments of a replacement.
 use Rattle.std.specs.Prelude.{◌≡◌, ◌≢◌, ◌<◌, ◌≤◌, ◌⊎◌, ◌+◌, ◌*◌, ℕ, true, Option, Some, List, length, map, slice_get}
 use Rattle.vx_flow.specs.declared.graph.Op.{Op}
-use Rattle.vx_flow.specs.declared.graph.Op.TheVariants.{Compute, Select, Place, Load, Store, More, Input, Text, Decimal, Across}
+use Rattle.vx_flow.specs.declared.graph.Op.TheVariants.{Across}
 use Rattle.vx_flow.specs.declared.trace.TraceOp.TheVariants.{Plain}
 use Rattle.vx_flow.specs.declared.trace.Join.{Join}
 use Rattle.vx_flow.specs.declared.trace.Trace.{Trace}
 use Rattle.vx_flow.specs.Effects.{IsIn, writes}
+use Rattle.vx_flow.specs.Operands.{is_observable}
 use Rattle.vx_flow.specs.Sound.{arrays_of}
 use Rattle.vx_mixed.specs.declared.region.Made.{Made}
 use Rattle.vx_mixed.specs.declared.mixed.MixedGraph.{MixedGraph}
@@ -61,16 +62,7 @@ pub record MadeFits (r : Replacement) : Type 0 where
 
 -- what can be observed is done on cluster 0
 abbrev pub OnFirst : Op → ℕ → Type 0
-OnFirst (More v) cluster = cluster ≡ 0
-OnFirst (Input v) cluster = cluster ≡ 0
-OnFirst (Text n) cluster = cluster ≡ 0
-OnFirst (Decimal x) cluster = cluster ≡ 0
-OnFirst (Compute code v a b) cluster = Unit {0}
-OnFirst (Select v p a b) cluster = Unit {0}
-OnFirst (Place v a i) cluster = Unit {0}
-OnFirst (Load v a p dismissible) cluster = Unit {0}
-OnFirst (Store a p x) cluster = Unit {0}
-OnFirst (Across v u) cluster = Unit {0}
+OnFirst op cluster = is_observable op ≡ true → cluster ≡ 0
 
 -- the operation may be done on the cluster, with the homes of the graph
 pub record Stands (m : MixedGraph) (op : Op) (cluster : ℕ) : Type 0 where

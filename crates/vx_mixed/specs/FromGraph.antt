@@ -4,8 +4,9 @@ use Rattle.std.specs.List.{list_any}
 use Rattle.vx_flow.specs.declared.graph.Block.{Block}
 use Rattle.vx_flow.specs.declared.graph.Edge.{Edge}
 use Rattle.vx_flow.specs.declared.graph.Op.{Op}
-use Rattle.vx_flow.specs.declared.graph.Op.TheVariants.{Select, More, Input}
+use Rattle.vx_flow.specs.declared.graph.Op.TheVariants.{Select}
 use Rattle.vx_flow.specs.declared.graph.Graph.{Graph}
+use Rattle.vx_flow.specs.Operands.{is_observable, written_by}
 use Rattle.vx_flow.specs.Walk.{BackEdges, Headers}
 use Rattle.vx_mixed.specs.declared.region.Node.{Node}
 use Rattle.vx_mixed.specs.declared.region.Node.TheVariants.{Unused}
@@ -26,9 +27,7 @@ pub record OfGraph (graph : Graph) (m : MixedGraph) : Type 0 where
 
 abbrev pub binds : Op → Option ℕ
 binds (Select v p a b) = Some v
-binds (More v) = Some v
-binds (Input v) = Some v
-binds op = None
+binds op = if is_observable op then written_by op else None
 
 abbrev pub is_some_of : Option ℕ → ℕ → Bool
 is_some_of None v = false

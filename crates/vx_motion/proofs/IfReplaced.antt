@@ -249,7 +249,7 @@ module _ (graph : Graph) (m : MixedGraph) (r : Replacement) (blocks : graph.bloc
   product_writes v (inr h) = absurd h
 
   product_stands : Stands After product 0
-  product_stands = record { reads = product_reads; writes = product_writes; bound = λ v q. absurd (cc); first = tt }
+  product_stands = record { reads = product_reads; writes = product_writes; bound = λ v q. absurd (cc); first = λ e. refl }
 
   stand : MadeStands m r
   stand x i cluster op h o k = by i (subst (λ (z : Made). slice_get z.ops i ≡ Some op) (sym (made_is x h)) o) (subst (λ (z : Made). slice_get z.clusters i ≡ Some cluster) (sym (made_is x h)) k)

@@ -155,16 +155,16 @@ bound_written (Decimal x) v e = absurd (cc)
 bound_written (Across w u) v e = absurd (cc)
 
 first_is : (op : Op) (k : ℕ) → (is_bound (TracePlain op) ≡ true → k ≡ 0) → OnFirst op k
-first_is (Compute code v a b) k h = tt
-first_is (Select v p a b) k h = tt
-first_is (Place v a i) k h = tt
-first_is (Load v a p d) k h = tt
-first_is (Store a p x) k h = tt
-first_is (More v) k h = h refl
-first_is (Input v) k h = h refl
-first_is (Text n) k h = h refl
-first_is (Decimal x) k h = h refl
-first_is (Across v u) k h = tt
+first_is (Compute code v a b) k h = λ e. absurd (cc)
+first_is (Select v p a b) k h = λ e. absurd (cc)
+first_is (Place v a i) k h = λ e. absurd (cc)
+first_is (Load v a p d) k h = λ e. absurd (cc)
+first_is (Store a p x) k h = λ e. absurd (cc)
+first_is (More v) k h = λ e. h refl
+first_is (Input v) k h = λ e. h refl
+first_is (Text n) k h = λ e. h refl
+first_is (Decimal x) k h = λ e. h refl
+first_is (Across v u) k h = λ e. absurd (cc)
 
 -- a load that may be dismissed is at home where the load is
 pub dismissed_at_home : (home : ℕ → Option ℕ) (op : Op) (k : ℕ) → IsAtHome home (TracePlain op) k → IsAtHome home (TracePlain (dismissed op)) k

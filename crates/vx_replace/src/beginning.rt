@@ -12,6 +12,7 @@ use vx_base::listed::{Listed, copied};
 use vx_base::outcome::NoMemory;
 use vx_flow::copies::copied_block;
 use vx_flow::graph::{Array, Bank, Block, BlockId, Edge, Exit, Graph, Op, Value};
+use vx_flow::operands::{is_observable, written_by};
 use vx_mixed::nodes::Nodes;
 use vx_mixed::region::{Node, Origin};
 
@@ -178,9 +179,13 @@ fn bound_value(op: &Op) -> Option<Value>
 {
     match op {
         Op::Select { to, .. } => Some(*to),
-        Op::More { to } => Some(*to),
-        Op::Input { to } => Some(*to),
-        _ => None,
+        _ => {
+            if is_observable(op) {
+                written_by(op)
+            } else {
+                None
+            }
+        }
     }
 }
 
