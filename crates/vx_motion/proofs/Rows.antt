@@ -26,9 +26,9 @@ gives_kind setting s (Plain (Place v a i) cluster) l h = absurd h
 gives_kind setting s (Plain (Load v a p d) cluster) l h = absurd h
 gives_kind setting s (Plain (Store a p x) cluster) l k = let h = cell_named (setting.spot a) (cell_of setting s a p) l k in inl (setting.spot a, h.0, h.2, tt)
 gives_kind setting s (Plain (More v) cluster) l h = absurd h
-gives_kind setting s (Plain (Input v) cluster) l h = inr (inl h, tt)
-gives_kind setting s (Plain (Text n) cluster) l h = inr (inr h, tt)
-gives_kind setting s (Plain (Decimal x) cluster) l h = inr (inr h, tt)
+gives_kind setting s (Plain (Input v) cluster) l h = inr (inl h, refl)
+gives_kind setting s (Plain (Text n) cluster) l h = inr (inr h, refl)
+gives_kind setting s (Plain (Decimal x) cluster) l h = inr (inr h, refl)
 gives_kind setting s (Plain (Across v u) cluster) l h = absurd h
 gives_kind setting s (Split p y edge d) l h = absurd h
 
@@ -38,10 +38,10 @@ takes_kind setting s (Plain (Select v p a b) cluster) l h = absurd h
 takes_kind setting s (Plain (Place v a i) cluster) l h = absurd h
 takes_kind setting s (Plain (Load v a p d) cluster) l k = let h = cell_named (setting.spot a) (cell_of setting s a p) l k in inl (setting.spot a, h.0, h.2, tt)
 takes_kind setting s (Plain (Store a p x) cluster) l h = absurd h
-takes_kind setting s (Plain (More v) cluster) l h = inr (inl h, tt)
-takes_kind setting s (Plain (Input v) cluster) l h = inr (inl h, tt)
-takes_kind setting s (Plain (Text n) cluster) l h = inr (inr h, tt)
-takes_kind setting s (Plain (Decimal x) cluster) l h = inr (inr h, tt)
+takes_kind setting s (Plain (More v) cluster) l h = inr (inl h, refl)
+takes_kind setting s (Plain (Input v) cluster) l h = inr (inl h, refl)
+takes_kind setting s (Plain (Text n) cluster) l h = inr (inr h, refl)
+takes_kind setting s (Plain (Decimal x) cluster) l h = inr (inr h, refl)
 takes_kind setting s (Plain (Across v u) cluster) l h = absurd h
 takes_kind setting s (Split p y edge d) l h = absurd h
 
@@ -104,9 +104,9 @@ module _ (setting : Setting) (is : List Item) (latency : Item → ℕ) (live : �
       firm (Plain (Load v a p d) cluster) h = absurd h
       firm (Plain (Store a p x) cluster) h = inl tt
       firm (Plain (More v) cluster) h = absurd h
-      firm (Plain (Input v) cluster) h = inr tt
-      firm (Plain (Text n) cluster) h = inr tt
-      firm (Plain (Decimal x) cluster) h = inr tt
+      firm (Plain (Input v) cluster) h = inr refl
+      firm (Plain (Text n) cluster) h = inr refl
+      firm (Plain (Decimal x) cluster) h = inr refl
       firm (Plain (Across v u) cluster) h = absurd h
       firm (Split p y edge d) h = absurd h
 

@@ -1,7 +1,7 @@
 -- A trace placed in words, what met delays give, and the copies on its edges.
 use Rattle.std.specs.Prelude.{◌≡◌, ◌<◌, ◌≤◌, ◌+◌, ℕ, zero, suc, Bool, true, List, [], ◌∷◌, ◌++◌, map, length, cond, nat_eq}
 use Rattle.vx_flow.specs.declared.graph.Op.{Op}
-use Rattle.vx_flow.specs.declared.graph.Op.TheVariants.{Compute, Select, Place, Load, Store, More, Input, Text, Decimal, Across}
+use Rattle.vx_flow.specs.declared.graph.Op.TheVariants.{Load, Store, Input, Text, Decimal}
 use Rattle.vx_flow.specs.Effects.{State, Setting, IsIn, Location}
 use Rattle.vx_mixed.specs.declared.region.Item.{Item}
 use Rattle.vx_mixed.specs.declared.region.Item.TheVariants.{Plain, Split}
@@ -15,31 +15,19 @@ IsSplit (Split p y edge d) = Unit {0}
 
 -- stores, and what reads the input away or prints
 abbrev pub IsFirm : Item → Type 0
-IsFirm (Plain (Compute c v a b) cluster) = ⊥
-IsFirm (Plain (Select v p a b) cluster) = ⊥
-IsFirm (Plain (Place v a i) cluster) = ⊥
-IsFirm (Plain (Load v a p d) cluster) = ⊥
 IsFirm (Plain (Store a p x) cluster) = Unit {0}
-IsFirm (Plain (More v) cluster) = ⊥
 IsFirm (Plain (Input v) cluster) = Unit {0}
 IsFirm (Plain (Text n) cluster) = Unit {0}
 IsFirm (Plain (Decimal x) cluster) = Unit {0}
-IsFirm (Plain (Across v u) cluster) = ⊥
-IsFirm (Split p y edge d) = ⊥
+IsFirm item = ⊥
 
 -- never wrong, whatever it reads
 abbrev pub Harmless : Item → Type 0
-Harmless (Plain (Compute c v a b) cluster) = Unit {0}
-Harmless (Plain (Select v p a b) cluster) = Unit {0}
-Harmless (Plain (Place v a i) cluster) = Unit {0}
 Harmless (Plain (Load v a p d) cluster) = d ≡ true
 Harmless (Plain (Store a p x) cluster) = ⊥
-Harmless (Plain (More v) cluster) = Unit {0}
 Harmless (Plain (Input v) cluster) = ⊥
-Harmless (Plain (Text n) cluster) = Unit {0}
 Harmless (Plain (Decimal x) cluster) = ⊥
-Harmless (Plain (Across v u) cluster) = Unit {0}
-Harmless (Split p y edge d) = Unit {0}
+Harmless item = Unit {0}
 
 -- What the delay table gives for the items of a trace (or of its part below a join), placed in the words 0 to last - 1.
 -- After e v: v is live on the off-trace edge of the split at place e. What is said of cells and of the input and output

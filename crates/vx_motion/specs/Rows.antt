@@ -1,8 +1,9 @@
 -- The rows of the delay table that let every operation move, and placements that meet them.
 use Rattle.std.specs.Prelude.{◌≡◌, ◌<◌, ◌≤◌, ◌⊎◌, ◌+◌, ℕ, Bool, true, false, List, length, drop}
-use Rattle.vx_flow.specs.declared.graph.Op.TheVariants.{Compute, Select, Place, Load, Store, More, Input, Text, Decimal, Across}
+use Rattle.vx_flow.specs.declared.graph.Op.TheVariants.{Load, Store}
 use Rattle.vx_flow.specs.declared.graph.Operand.{Operand}
 use Rattle.vx_flow.specs.Effects.{State, Setting, IsIn, Cell}
+use Rattle.vx_flow.specs.Operands.{is_observable}
 use Rattle.vx_mixed.specs.declared.region.Item.{Item}
 use Rattle.vx_mixed.specs.declared.region.Item.TheVariants.{Plain, Split}
 use Rattle.vx_mixed.specs.Live.{item_reads, item_writes}
@@ -11,43 +12,16 @@ use Rattle.vx_motion.specs.Trace.{nth, order}
 use Rattle.vx_motion.specs.Facts.{IsSplit}
 
 abbrev pub IsObservable : Item → Type 0
-IsObservable (Plain (Compute c v a b) cluster) = ⊥
-IsObservable (Plain (Select v p a b) cluster) = ⊥
-IsObservable (Plain (Place v a i) cluster) = ⊥
-IsObservable (Plain (Load v a p d) cluster) = ⊥
-IsObservable (Plain (Store a p x) cluster) = ⊥
-IsObservable (Plain (More v) cluster) = Unit {0}
-IsObservable (Plain (Input v) cluster) = Unit {0}
-IsObservable (Plain (Text n) cluster) = Unit {0}
-IsObservable (Plain (Decimal x) cluster) = Unit {0}
-IsObservable (Plain (Across v u) cluster) = ⊥
+IsObservable (Plain op cluster) = is_observable op ≡ true
 IsObservable (Split p y edge d) = ⊥
 
 abbrev pub IsLoad : Item → Type 0
-IsLoad (Plain (Compute c v a b) cluster) = ⊥
-IsLoad (Plain (Select v p a b) cluster) = ⊥
-IsLoad (Plain (Place v a i) cluster) = ⊥
 IsLoad (Plain (Load v a p d) cluster) = Unit {0}
-IsLoad (Plain (Store a p x) cluster) = ⊥
-IsLoad (Plain (More v) cluster) = ⊥
-IsLoad (Plain (Input v) cluster) = ⊥
-IsLoad (Plain (Text n) cluster) = ⊥
-IsLoad (Plain (Decimal x) cluster) = ⊥
-IsLoad (Plain (Across v u) cluster) = ⊥
-IsLoad (Split p y edge d) = ⊥
+IsLoad item = ⊥
 
 abbrev pub IsStore : Item → Type 0
-IsStore (Plain (Compute c v a b) cluster) = ⊥
-IsStore (Plain (Select v p a b) cluster) = ⊥
-IsStore (Plain (Place v a i) cluster) = ⊥
-IsStore (Plain (Load v a p d) cluster) = ⊥
 IsStore (Plain (Store a p x) cluster) = Unit {0}
-IsStore (Plain (More v) cluster) = ⊥
-IsStore (Plain (Input v) cluster) = ⊥
-IsStore (Plain (Text n) cluster) = ⊥
-IsStore (Plain (Decimal x) cluster) = ⊥
-IsStore (Plain (Across v u) cluster) = ⊥
-IsStore (Split p y edge d) = ⊥
+IsStore item = ⊥
 
 -- a row of the table that applies to places i and j of the trace, with its delay. `live e v`: v is live on the off-trace
 -- edge of the split at e; `never i j`: the accesses at i and j never touch one word; `joins q`: a join stands at place q

@@ -101,16 +101,7 @@ bare_store (Plain (Across v u) cluster) h = h
 bare_store (Split p y edge d) h = h
 
 bare_observable : (i : Item) → IsObservable i → IsObservable (bare i)
-bare_observable (Plain (Compute c v a b) cluster) h = h
-bare_observable (Plain (Select v p a b) cluster) h = h
-bare_observable (Plain (Place v a i) cluster) h = h
-bare_observable (Plain (Load v a p d) cluster) h = h
-bare_observable (Plain (Store a p x) cluster) h = h
-bare_observable (Plain (More v) cluster) h = h
-bare_observable (Plain (Input v) cluster) h = h
-bare_observable (Plain (Text n) cluster) h = h
-bare_observable (Plain (Decimal x) cluster) h = h
-bare_observable (Plain (Across v u) cluster) h = h
+bare_observable (Plain op cluster) h = h
 bare_observable (Split p y edge d) h = h
 
 -- the rows

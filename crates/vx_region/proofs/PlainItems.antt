@@ -92,14 +92,14 @@ load_there (TracePlain (Across v u)) h = absurd h
 load_there (TraceSplit p y e live) h = absurd h
 
 pub observable_there : (op : TraceOp) → IsObservable (plain_item op) → is_observable op ≡ true
-observable_there (TracePlain (Compute code v a b)) h = absurd h
-observable_there (TracePlain (Select v p a b)) h = absurd h
-observable_there (TracePlain (Place v a i)) h = absurd h
-observable_there (TracePlain (Load v a p d)) h = absurd h
-observable_there (TracePlain (Store a p x)) h = absurd h
+observable_there (TracePlain (Compute code v a b)) h = absurd (cc)
+observable_there (TracePlain (Select v p a b)) h = absurd (cc)
+observable_there (TracePlain (Place v a i)) h = absurd (cc)
+observable_there (TracePlain (Load v a p d)) h = absurd (cc)
+observable_there (TracePlain (Store a p x)) h = absurd (cc)
 observable_there (TracePlain (More v)) h = refl
 observable_there (TracePlain (Input v)) h = refl
 observable_there (TracePlain (Text n)) h = refl
 observable_there (TracePlain (Decimal x)) h = refl
-observable_there (TracePlain (Across v u)) h = absurd h
+observable_there (TracePlain (Across v u)) h = absurd (cc)
 observable_there (TraceSplit p y e live) h = absurd h
