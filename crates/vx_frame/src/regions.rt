@@ -1,8 +1,7 @@
 // The places of the words of all regions: one pass over the words of each layout, in which the mark of each planned word is put
 // behind those of its region. specs/Regions.antt has the lists.
 
-ghost use Rattle.std.specs.Prelude.{◌≡◌, ◌<◌, ◌++◌, ◌∷◌, [], IfOk, length, map, replicate, slice_index_or, slice_set};
-ghost use Rattle.vx_flow.specs.Rows.{row_at};
+ghost use Rattle.std.specs.Prelude.{◌≡◌, ◌++◌, IfOk, map, slice_index_or};
 ghost use Rattle.vx_frame.specs.Regions.{Noted, all_traces, rows_of, traced};
 ghost use Rattle.vx_slots.specs.Seen.{no_places};
 
@@ -10,29 +9,10 @@ use std::alloc::Global;
 use vx_base::listed::Listed;
 use vx_base::outcome::NoMemory;
 use vx_mixed::layout::{VWords, VirtualWord};
+use vx_mixed::rows::{empty_rows, put};
 use vx_slots::gathering::{FunctionPlaces, number_at};
 use vx_slots::numbers::sum;
 use vx_target::finished::TracePlaces;
-
-fn empty_rows(alloc: Global, count: u32) -> Result<Vec<Listed<u32>>, NoMemory>
-    ensures { IfOk result (λ rows. rows.items ≡ replicate count []) }
-{
-    let mut rows = Vec::new(alloc);
-    for _row in 0..count {
-        rows.push(Listed::new(alloc))?;
-    }
-    Ok(rows)
-}
-
-/// Puts a place at the end of a region's.
-fn put(rows: &mut Vec<Listed<u32>>, region: u32, place: u32) -> Result<(), NoMemory>
-    requires { region < length rows.old.items }
-    ensures { IfOk result (λ _. rows.new.items ≡ slice_set rows.old.items region (row_at rows.old.items region ++ place ∷ [])) }
-{
-    let row = &mut rows[region as usize];
-    row.push(place)?;
-    Ok(())
-}
 
 /// Puts the mark of a planned word behind those of its region.
 #[tactic(auto, using(crate::proofs::RegionPlaces::noted_there, crate::proofs::RegionPlaces::noted_beyond))]

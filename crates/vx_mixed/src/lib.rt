@@ -8,4 +8,5 @@ pub mod nodes;
 pub mod region;
 pub mod replacement;
 pub mod routing;
+pub mod rows;
 mod touching;

@@ -3,7 +3,6 @@
 
 ghost use Rattle.std.specs.Prelude.{◌≡◌, ◌++◌, ◌&&◌, ◌∷◌, [], nat_lt, nat_le, map, slice_get, slice_index_or, IfOk, IfSome, IfNone, Some, None};
 ghost use Rattle.std.specs.List.{flat_map, list_any};
-ghost use Rattle.vx_flow.specs.Effects.{dismissed};
 ghost use Rattle.vx_dep.specs.declared.copies.EdgeCopies.{EdgeCopies};
 ghost use Rattle.vx_dep.specs.Compensation.{word_at, at_splits_of, is_freed};
 ghost use Rattle.vx_region.specs.Planned.{op_of, ops_at, cluster_of, clusters_at, dismissed_if, placed_at, made_of, made_at_splits, made_at_joins};
@@ -16,6 +15,7 @@ use vx_dep::copies::{EdgeCopies, Rejoin};
 use vx_flow::graph::{Edge, Op};
 use vx_flow::trace::{Join, Placed, TraceOp};
 use vx_mixed::region::Made;
+use vx_replace::placing::dismissed;
 
 /// All of them.
 pub(crate) fn made_blocks(
@@ -286,24 +286,4 @@ fn dismissed_if(freed: bool, op: Op) -> Op
     ensures { result ≡ dismissed_if freed op }
 {
     if freed { dismissed(op) } else { op }
-}
-
-/// The operation, dismissible if it is a load.
-fn dismissed(op: Op) -> Op
-    ensures { result ≡ dismissed op }
-{
-    match op {
-        Op::Load {
-            to,
-            array,
-            place,
-            ..
-        } => Op::Load {
-            to,
-            array,
-            place,
-            dismissible: true,
-        },
-        _ => op,
-    }
 }

@@ -8,7 +8,7 @@ mod exchanging;
 pub mod function;
 mod joining;
 mod origins;
-mod placing;
+pub mod placing;
 mod renaming;
 mod replacing;
 mod tracing;

@@ -1,9 +1,8 @@
 // The words of a region: each operation of the trace in its word, in the order of the trace. specs/Next.antt says what they
 // are; the clause of `region_of` carries the promise.
 
-ghost use Rattle.std.specs.Prelude.{◌≡◌, ◌+◌, ◌<◌, ◌^◌, ◌++◌, ◌∷◌, [], ℕ, IfOk, List, drop, length, replicate, slice_get, slice_index_or, slice_set, ◌≤◌};
+ghost use Rattle.std.specs.Prelude.{◌≡◌, ◌+◌, ◌<◌, ◌^◌, ℕ, IfOk, List, drop, length, slice_get, slice_index_or, ◌≤◌};
 ghost use Rattle.vx_flow.specs.Effects.{dismissed};
-ghost use Rattle.vx_flow.specs.Rows.{row_at};
 ghost use Rattle.vx_mixed.specs.CanReplace.{ListsFit, WordsFit};
 ghost use Rattle.vx_mixed.specs.Next.{exit_in, last_of, new_end, new_region, renamed_exit};
 ghost use Rattle.vx_replace.specs.Placing.{bound_behind, drains_behind, freed_below, placed_item};
@@ -18,6 +17,7 @@ use vx_flow::trace::TraceOp;
 use vx_mixed::mixed::MixedGraph;
 use vx_mixed::region::{Item, Region};
 use vx_mixed::replacement::Replacement;
+use vx_mixed::rows::{empty_rows, put};
 
 /// The region that a trace becomes.
 pub(crate) fn region_of(
@@ -140,7 +140,8 @@ fn freed_below(word: u32, bound: u32, op: Op) -> Op
     if word < bound { dismissed(op) } else { op }
 }
 
-fn dismissed(op: Op) -> Op
+/// The operation, dismissible if it is a load.
+pub fn dismissed(op: Op) -> Op
     ensures { result ≡ dismissed op }
 {
     match op {
@@ -155,7 +156,7 @@ fn dismissed(op: Op) -> Op
             place,
             dismissible: true,
         },
-        other => other,
+        _ => op,
     }
 }
 
@@ -194,24 +195,4 @@ fn drain_at(drains: &[u32], split: usize) -> u32
         Some(drain) => *drain,
         None => 0,
     }
-}
-
-fn empty_rows(alloc: Global, count: u32) -> Result<Vec<Listed<Item>>, NoMemory>
-    ensures { IfOk result (λ rows. rows.items ≡ replicate count []) }
-{
-    let mut rows = Vec::new(alloc);
-    for _row in 0..count {
-        rows.push(Listed::new(alloc))?;
-    }
-    Ok(rows)
-}
-
-/// Puts an item at the end of a word.
-fn put(rows: &mut Vec<Listed<Item>>, word: u32, item: Item) -> Result<(), NoMemory>
-    requires { word < length rows.old.items }
-    ensures { IfOk result (λ _. rows.new.items ≡ slice_set rows.old.items word (row_at rows.old.items word ++ item ∷ [])) }
-{
-    let row = &mut rows[word as usize];
-    row.push(item)?;
-    Ok(())
 }

@@ -9,6 +9,7 @@ ghost use Rattle.vx_mixed.specs.Next.{made_node, made_on, new_end, nodes_from, r
 use std::alloc::Global;
 use vx_base::listed::{Listed, copied};
 use vx_base::outcome::NoMemory;
+use vx_flow::copies::copied_exit;
 use vx_flow::graph::{Block, BlockId, Edge, Exit};
 use vx_flow::trace::Join;
 use vx_mixed::mixed::MixedGraph;
@@ -137,29 +138,25 @@ pub(crate) fn renamed_exit(
     requires { length graph.now.nodes + length replacement.now.made < 2 ^ 32 }
     ensures { IfOk result (λ after. after ≡ renamed_exit (new_end graph.now replacement.now.made from) exit.now) }
 {
-    match exit {
-        Exit::Goto(to) => Ok(Exit::Goto(new_end(graph, replacement, from, *to))),
+    match copied_exit(alloc, exit)? {
+        Exit::Goto(to) => Ok(Exit::Goto(new_end(graph, replacement, from, to))),
         Exit::Split { test, yes, no } => Ok(Exit::Split {
-            test: *test,
-            yes: new_end(graph, replacement, from, *yes),
-            no: new_end(graph, replacement, from, *no),
+            test,
+            yes: new_end(graph, replacement, from, yes),
+            no: new_end(graph, replacement, from, no),
         }),
         Exit::Call {
             function,
             arguments,
             result,
             next,
-        } => {
-            let arguments = copied(alloc, arguments.as_slice())?;
-            Ok(Exit::Call {
-                function: *function,
-                arguments,
-                result: *result,
-                next: new_end(graph, replacement, from, *next),
-            })
-        }
-        Exit::Return(operand) => Ok(Exit::Return(*operand)),
-        Exit::Ends(trap) => Ok(Exit::Ends(*trap)),
+        } => Ok(Exit::Call {
+            function,
+            arguments,
+            result,
+            next: new_end(graph, replacement, from, next),
+        }),
+        other => Ok(other),
     }
 }
 

@@ -1,9 +1,9 @@
 use Rattle.std.proofs.Common.{◌++◌, ◌∷◌, [], ◌∙◌, ap}
 use Rattle.std.proofs.lemmas.List.{replicate-append-replicate}
-use Rattle.vx_replace.proofs.placing.empty_rows.Goals as goal
+use Rattle.vx_mixed.proofs.rows.empty_rows.Goals as goal
 
 pub loop-row-preserved : goal.loop-row-preserved
-loop-row-preserved c =
+loop-row-preserved g c =
     c.in_ok-push.ensures.items
     ∙ ap (λ row. c.loop-row.rows.items ++ row ∷ []) c.new.ensures
     ∙ ap (λ rows. rows ++ [] ∷ []) c.loop-row.invariant

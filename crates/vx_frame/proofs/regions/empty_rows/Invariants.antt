@@ -1,6 +1,0 @@
-use Rattle.std.proofs.Common.{◌≡◌, []}
-use Rattle.std.specs.Prelude.{replicate}
-use Rattle.vx_frame.proofs.regions.empty_rows.Given as goal
-
-abbrev pub invariant-loop-row : goal.invariant-loop-row
-invariant-loop-row l = l.rows.items ≡ replicate l._row []
