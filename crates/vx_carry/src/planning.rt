@@ -2,7 +2,6 @@
 
 ghost use Rattle.std.specs.Prelude.{◌≡◌, ◌++◌, ◌∷◌, ◌+◌, ◌-◌, [], IfOk, length};
 ghost use Rattle.vx_flow.specs.Effects.{writes};
-ghost use Rattle.vx_isa.specs.Operations.{latency_of_code};
 ghost use Rattle.vx_machine.specs.Items.{latency_of_op};
 ghost use Rattle.vx_mixed.specs.LaidSettled.{laid_reads, laid_writes};
 ghost use Rattle.vx_target.specs.Target.{carried_items, plan_word, plan_words, landing_words, choice_words, slotted, before, behind, if_any, leads, slots_in_flight};
@@ -14,47 +13,18 @@ use crate::carrying::carried;
 use crate::gathering::{landing, past};
 use crate::word_plan::{Plan, Site};
 use std::alloc::Global;
-use vx_base::arithmetic::Code;
 use vx_base::listed::Listed;
 use vx_base::outcome::NoMemory;
 use vx_flow::graph::{Op, Value};
 use vx_isa::operation::Operation;
 use vx_isa::program::Word;
-use vx_machine::Machine;
+use vx_machine::items::Item;
 use vx_mixed::layout::Laid;
 use vx_regs::touching::{read_by, written, written_by};
 use vx_slots::gathering::{Whole, start};
 use vx_slots::naming::{branch_of, is_slotted, once, slotted};
 use vx_slots::numbers::MOST_NAMES;
 use vx_slots::slotting::{load_slots, push_one, push_pause, push_wait, store_slots};
-
-/// The cycles until the result of a computation has landed.
-fn latency_of_code(machine: &Machine, code: Code) -> u32
-    ensures { result ≡ latency_of_code machine.now code }
-{
-    match code {
-        Code::ToBranch(_) => machine.latency_compare(),
-        Code::Mpylu | Code::Mpyhs => machine.latency_multiply(),
-        Code::Div | Code::Rem => machine.latency_divide(),
-        _ => machine.latency_alu(),
-    }
-}
-
-/// The cycles until the result of an operation on values has landed.
-fn latency_of_op(machine: &Machine, op: &Op) -> u32
-    ensures { result ≡ latency_of_op machine.now op.now }
-{
-    match op {
-        Op::Compute { code, .. } => latency_of_code(machine, *code),
-        Op::Select { .. } => machine.latency_alu(),
-        Op::Place { .. } => machine.latency_alu(),
-        Op::Load { .. } => machine.latency_load(),
-        Op::More { .. } => machine.latency_load(),
-        Op::Input { .. } => machine.latency_load(),
-        Op::Across { .. } => machine.latency_copy(),
-        _ => 0,
-    }
-}
 
 /// How many cycles behind its word the result of an operation is in flight, where it goes to a slot; else 0.
 fn slot_in_flight(whole: &Whole, function: u32, op: &Op) -> u32
@@ -63,7 +33,10 @@ fn slot_in_flight(whole: &Whole, function: u32, op: &Op) -> u32
     match written(op) {
         Some(value) => {
             if is_slotted(whole, function, value) {
-                latency_of_op(whole.machine, op).saturating_sub(1)
+                whole
+                    .machine
+                    .latency_of_item(&Item::Plain(*op))
+                    .saturating_sub(1)
             } else {
                 0
             }
