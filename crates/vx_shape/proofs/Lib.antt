@@ -1,3 +1,5 @@
 pub mod Lists
+pub mod Pairs
 pub mod ShapeTests
+pub mod FlowsStay
 pub mod Noting
