@@ -1,10 +1,7 @@
 -- A flow of a program without the operations whose results are not read stays one; and steps of the pass.
-use Rattle.std.proofs.Common.{◌≡◌, ℕ, suc, ◌+◌, ◌<◌, ◌&&◌, ◌||◌, Bool, true, false, ℤ, List, [], ◌∷◌, ◌++◌, length, map, take, get_or, slice_get, Option, Some, None, refl, sym, ap, ◌∙◌, subst, arith}
+use Rattle.std.proofs.Common.{◌≡◌, ℕ, ◌&&◌, ◌||◌, Bool, true, false, List, [], ◌∷◌, ◌++◌, map, Option, Some, None, refl, sym, ap, ◌∙◌, subst}
 use Rattle.std.specs.List.{list_all, flat_map}
 use Rattle.std.specs.Prelude.{not}
-use Rattle.vx_base.specs.Outcome.{Same, NeverFails}
-use Rattle.vx_ast.specs.Tree.{Function, Program}
-use Rattle.vx_ast.specs.Meaning.{source}
 use Rattle.vx_flow.specs.declared.graph.Op.{Op}
 use Rattle.vx_flow.specs.declared.graph.Operand.{Operand}
 use Rattle.vx_flow.specs.declared.graph.Block.{Block}
@@ -15,51 +12,19 @@ use Rattle.vx_flow.specs.Effects.{reads, value_in}
 use Rattle.vx_flow.specs.Operands.{read_by, values_read}
 use Rattle.vx_flow.proofs.OperandLaws.{reads_listed}
 use Rattle.vx_flow.specs.Live.{reads_of_exit}
-use Rattle.vx_flow.specs.Meaning.{graph_run}
 use Rattle.vx_flow.specs.Sound.{is_sound_flow}
-use Rattle.vx_lower.specs.FlowOf.{AreNumbers, GraphOf, FlowOf}
-use Rattle.vx_shape.specs.Flows.{with_graphs}
+use Rattle.vx_lower.specs.FlowOf.{GraphOf, FlowOf}
+use Rattle.vx_shape.specs.Flows.{with_graphs, Each, OrSame, FlowStays}
 use Rattle.vx_shape.specs.Shape.{Shaped}
 use Rattle.vx_shape.specs.ShapeTest.{is_shaped}
-use Rattle.vx_shape.specs.Flows.{FlowStays}
-use Rattle.vx_thin.specs.Thinning.{result_alone, is_unread, op_unless, thinned_ops, thinned_block, thinned, are_read, reads_read, block_reads_read, unread_of, GraphThins, GraphsThin, ThinnedStays}
+use Rattle.vx_thin.specs.Thinning.{result_alone, is_unread, op_unless, thinned_ops, thinned_block, thinned, are_read, reads_read, block_reads_read, unread_of, GraphThins, ThinnedStays}
 use Rattle.vx_shape.proofs.ShapeTests.{shaped_where_tested}
-use Rattle.vx_thin.proofs.ThinRuns.{ThinsAt, thins_at, thinned_runs}
-use Rattle.vx_shape.proofs.Lists.{take_more}
-
-thins_length : (gs hs : List Graph) → GraphsThin gs hs → length hs ≡ length gs
-thins_length [] [] s = refl
-thins_length [] (h ∷ hs) s = absurd s
-thins_length (g ∷ gs) [] s = absurd s
-thins_length (g ∷ gs) (h ∷ hs) s = ap suc (thins_length gs hs s.1)
-
-shape_by : (p : Program) (function : Function) (o q : Option Graph) → ThinsAt o q → ((g : Graph) → o ≡ Some g → GraphOf p function g) → (h : Graph) → q ≡ Some h → GraphOf p function h
-shape_by p function None None s k h e = absurd (cc)
-shape_by p function None (Some y) s k h e = absurd s
-shape_by p function (Some g) None s k h e = absurd s
-shape_by p function (Some g) (Some y) s k h e = let q : y ≡ h = cc in subst (GraphOf p function) q (s.shape p function (k g refl))
+use Rattle.vx_shape.proofs.Pairs.{each_related}
+use Rattle.vx_shape.proofs.FlowsStay.{shape_kept, runs_stay}
+use Rattle.vx_thin.proofs.ThinRuns.{thinned_runs}
 
 pub thinned_stays : ThinnedStays
-thinned_stays p flow graphs s sound o =
-    let at : (f : ℕ) → ThinsAt (slice_get flow.functions f) (slice_get graphs f) = thins_at flow.functions graphs s in
-    let runs : (input : List ℤ) → AreNumbers input → graph_run (with_graphs flow graphs) input ≡ graph_run flow input =
-    λ input numbers. (λ i n. thinned_runs flow graphs s input (o.runs.never_wrong input numbers) n i) in
-    record {
-      sound = sound;
-      count = thins_length flow.functions graphs s ∙ o.count;
-      graphs = λ f function graph e q. shape_by p function (slice_get flow.functions f) (slice_get graphs f) (at f) (λ g r. o.graphs f function g e r) graph q;
-      globals = o.globals;
-      main = o.main;
-      runs = record {
-        same = λ input numbers. subst (Same (source p input)) (sym (runs input numbers)) (o.runs.same input numbers);
-        never_wrong = λ input numbers. subst NeverFails (sym (runs input numbers)) (o.runs.never_wrong input numbers);
-      };
-    }
-
-pub once_thinned : (flow new : Flow) (graphs : List Graph) → GraphsThin flow.functions graphs → new ≡ with_graphs flow graphs → is_sound_flow new ≡ true → FlowStays flow new
-once_thinned flow new graphs s e sound p o =
-    let t : is_sound_flow (with_graphs flow graphs) ≡ true = subst (λ f. is_sound_flow f ≡ true) e sound in
-    subst (FlowOf p) (sym e) (thinned_stays p flow graphs s t o)
+thinned_stays p flow graphs s sound o = runs_stay GraphThins (λ g h t. t.shape) flow graphs s (λ input safe n. thinned_runs flow graphs s input safe n) sound p o
 
 -- ---- a graph as it is
 
@@ -97,49 +62,27 @@ same_blocks [] = refl
 same_blocks (block ∷ blocks) =
     ap (λ ops. record { ops = ops; exit = block.exit } ∷ map (thinned_block none) blocks) (same_ops block.ops) ∙ ap (λ l. block ∷ l) (same_blocks blocks)
 
-pub thin_itself : (g h : Graph) → h ≡ g → GraphThins g h
-thin_itself g h e = subst (GraphThins g) (sym e) (record {
+thin_itself : (g : Graph) → GraphThins g g
+thin_itself g = record {
   unread = none;
   reads = blocks_read g.blocks;
   is = ap (λ bs. record g { blocks = bs }) (sym (same_blocks g.blocks));
   shape = λ p function o. o;
-})
+}
 
 -- ---- a graph that passes the tests
-
-shape_kept : (p : Program) (function : Function) (unread : ℕ → Bool) (g : Graph) → GraphOf p function g → Shaped (thinned unread g) → GraphOf p function (thinned unread g)
-shape_kept p function unread g o s = record {
-  parameters = o.parameters;
-  arrays = o.arrays;
-  trap_empty = s.trap_empty;
-  trap_alone = s.trap_alone;
-  traps_last = s.traps_last;
-  short = s.short;
-  apart = s.apart;
-  uncritical = s.uncritical;
-  entry = s.entry;
-  general_values = o.general_values;
-  branch_values = o.branch_values;
-}
 
 pub tested_thins : (needed : List Bool) (g h : Graph) (origins : List ℕ) → h ≡ thinned (unread_of needed) g → list_all (block_reads_read (unread_of needed)) g.blocks ≡ true → is_shaped origins h.blocks ≡ true → GraphThins g h
 tested_thins needed g h origins e t s =
     let shaped : Shaped (thinned (unread_of needed) g) = subst Shaped e (shaped_where_tested h origins s) in
-    record { unread = unread_of needed; reads = t; is = e; shape = λ p function o. subst (GraphOf p function) (sym e) (shape_kept p function (unread_of needed) g o shaped) }
+    record { unread = unread_of needed; reads = t; is = e; shape = λ p function o. subst (GraphOf p function) (sym e) (shape_kept p function (map (thinned_block (unread_of needed)) g.blocks) g o shaped) }
 
--- ---- the graphs of a flow
+-- ---- the graphs of a flow, each thinned or as it is
 
-thins_more : (gs hs : List Graph) (g h : Graph) → GraphsThin gs hs → GraphThins g h → GraphsThin (gs ++ g ∷ []) (hs ++ h ∷ [])
-thins_more [] [] g h s t = (t, tt)
-thins_more [] (y ∷ ys) g h s t = absurd s
-thins_more (x ∷ xs) [] g h s t = absurd s
-thins_more (x ∷ xs) (y ∷ ys) g h s t = (s.0, thins_more xs ys g h s.1 t)
-
-pub thins_next : (gs hs : List Graph) (i : ℕ) (g h : Graph) → i < length gs → g ≡ get_or gs i g → GraphsThin (take i gs) hs → GraphThins g h → GraphsThin (take (i + 1) gs) (hs ++ h ∷ [])
-thins_next gs hs i g h l e s t =
-    let a : suc i ≡ i + 1 = omega arith in
-    let q : take i gs ++ g ∷ [] ≡ take (i + 1) gs = sym (take_more gs i g l e) ∙ ap (λ j. take j gs) a in
-    subst (λ k. GraphsThin k (hs ++ h ∷ [])) q (thins_more (take i gs) hs g h s t)
+pub once_thinned : (flow new : Flow) (graphs : List Graph) → Each (OrSame GraphThins) flow.functions graphs → new ≡ with_graphs flow graphs → is_sound_flow new ≡ true → FlowStays flow new
+once_thinned flow new graphs s e sound p o =
+    let t : is_sound_flow (with_graphs flow graphs) ≡ true = subst (λ f. is_sound_flow f ≡ true) e sound in
+    subst (FlowOf p) (sym e) (thinned_stays p flow graphs (each_related GraphThins flow.functions graphs thin_itself s) t o)
 
 -- ---- what is read
 

@@ -16,24 +16,12 @@ use Rattle.vx_flow.specs.Live.{reads_of_exit}
 use Rattle.vx_flow.specs.Meaning.{Hop, Wrong, hop_of, Body, Program, Frame, Active, deepest, undefined, entered, enters, with_result, returned, waits, after_hop, body_hop, hop, next, body_of, program_of, setting_of, globals_at_start, entered_or, start, graph_run}
 use Rattle.vx_flow.specs.Agree.{SameWorld, Agree}
 use Rattle.vx_flow.proofs.SoundLists.{all_at}
-use Rattle.vx_shape.specs.Flows.{with_graphs}
-use Rattle.vx_thin.specs.Thinning.{thinned_block, thinned, are_read, reads_read, block_reads_read, GraphThins, GraphsThin, ThinnedRuns}
+use Rattle.vx_shape.specs.Flows.{with_graphs, Each}
+use Rattle.vx_shape.proofs.Pairs.{At, each_at}
+use Rattle.vx_thin.specs.Thinning.{thinned_block, thinned, are_read, reads_read, block_reads_read, GraphThins, ThinnedRuns}
 use Rattle.vx_thin.proofs.Thins.{Alikes, wrong, arrives, called, left, stopped, ops_alike}
 
-abbrev pub ThinsAt : Option Graph → Option Graph → Type 0
-ThinsAt None None = Unit {0}
-ThinsAt None (Some h) = ⊥
-ThinsAt (Some g) None = ⊥
-ThinsAt (Some g) (Some h) = GraphThins g h
-
-pub thins_at : (gs hs : List Graph) → GraphsThin gs hs → (f : ℕ) → ThinsAt (slice_get gs f) (slice_get hs f)
-thins_at [] [] s f = tt
-thins_at [] (h ∷ hs) s f = absurd s
-thins_at (g ∷ gs) [] s f = absurd s
-thins_at (g ∷ gs) (h ∷ hs) s zero = s.0
-thins_at (g ∷ gs) (h ∷ hs) s (suc f) = thins_at gs hs s.1 f
-
-abbrev unread_by : (o q : Option Graph) → ThinsAt o q → ℕ → Bool
+abbrev unread_by : (o q : Option Graph) → At GraphThins o q → ℕ → Bool
 unread_by None None s = λ v. false
 unread_by None (Some h) s = λ v. false
 unread_by (Some g) None s = λ v. false
@@ -54,7 +42,7 @@ holds_result unread x y (Some r) n h v m l e = by (v == r) e
     by true q = q
     by false q = h v m l q
 
-module _ (flow : Flow) (graphs : List Graph) (thins : GraphsThin flow.functions graphs) where
+module _ (flow : Flow) (graphs : List Graph) (thins : Each GraphThins flow.functions graphs) where
   abbrev old : Program
   old = program_of flow
 
@@ -65,7 +53,7 @@ module _ (flow : Flow) (graphs : List Graph) (thins : GraphsThin flow.functions 
   as_body o = option_map (body_of (length flow.globals)) o
 
   abbrev unread_in : ℕ → ℕ → Bool
-  unread_in f = unread_by (slice_get flow.functions f) (slice_get graphs f) (thins_at flow.functions graphs thins f)
+  unread_in f = unread_by (slice_get flow.functions f) (slice_get graphs f) (each_at GraphThins flow.functions graphs thins f)
 
   abbrev out_of : Active → List ℕ
   out_of r = r.state.out
@@ -111,7 +99,7 @@ module _ (flow : Flow) (graphs : List Graph) (thins : GraphsThin flow.functions 
       subst (λ o. Alikes (Lives thin.unread) (hop_of setting b (slice_get g.blocks b) s) (hop_of setting b o t)) (sym e)
       (block_alike thin.unread setting b (slice_get g.blocks b) s t (λ block q. all_at (block_reads_read thin.unread) g.blocks b block thin.reads q) a)
 
-  hop_alike : (r : Active) (t : State) (ws : List Frame) (o q : Option Graph) (thin : ThinsAt o q) → Agree (Lives (unread_by o q thin)) r.state t →
+  hop_alike : (r : Active) (t : State) (ws : List Frame) (o q : Option Graph) (thin : At GraphThins o q) → Agree (Lives (unread_by o q thin)) r.state t →
       Alikes (Lives (unread_by o q thin)) (body_hop old r (as_body o)) (body_hop new (record r { state = t; waiting = ws }) (as_body q))
   hop_alike r t ws None None thin a = wrong
   hop_alike r t ws None (Some h) thin a = absurd thin
@@ -138,7 +126,7 @@ module _ (flow : Flow) (graphs : List Graph) (thins : GraphsThin flow.functions 
       (entered body ns t, gs, ap (λ n. record { function = g; block = 0; base = n; state = entered body ns t; waiting = gs }) (ap length w.arrays), entered_agree (unread_in g) ns s t x w, k) in
       subst (λ z. StepJoined (enters g (as_body (Some x)) ns s fs) (enters g (as_body (Some z)) ns t gs)) (sym e) made
 
-  body_joined : (g : ℕ) (ns : List ℤ) (s t : State) (fs gs : List Frame) (o q : Option Graph) (thin : ThinsAt o q) → SameWorld s t → FramesTied fs gs → unread_in g ≡ unread_by o q thin → StepJoined (enters g (as_body o) ns s fs) (enters g (as_body q) ns t gs)
+  body_joined : (g : ℕ) (ns : List ℤ) (s t : State) (fs gs : List Frame) (o q : Option Graph) (thin : At GraphThins o q) → SameWorld s t → FramesTied fs gs → unread_in g ≡ unread_by o q thin → StepJoined (enters g (as_body o) ns s fs) (enters g (as_body q) ns t gs)
   body_joined g ns s t fs gs None None thin w k u = ap Outcome.Wrong (sym w.out)
   body_joined g ns s t fs gs None (Some h) thin w k u = absurd thin
   body_joined g ns s t fs gs (Some x) None thin w k u = absurd thin
@@ -171,7 +159,7 @@ module _ (flow : Flow) (graphs : List Graph) (thins : GraphsThin flow.functions 
       let inside : FramesTied fs gs = (t.values, refl, a.values, tied) in
       cond_joined (nat_le deepest (length r.waiting + 1)) (nat_le deepest (length ws + 1)) (Over (Outcome.Traps Depth s.out)) (enters f (old.body f) ns s fs) (Over (Outcome.Traps Depth t.out)) (enters f (new.body f) ns t gs) many
       (ap (Outcome.Traps Depth) (sym a.world.out))
-      (body_joined f ns s t fs gs (slice_get flow.functions f) (slice_get graphs f) (thins_at flow.functions graphs thins f) a.world inside refl)
+      (body_joined f ns s t fs gs (slice_get flow.functions f) (slice_get graphs f) (each_at GraphThins flow.functions graphs thins f) a.world inside refl)
   after_joined r u ws _ _ (left {n} {s} {t} w) safe tied = returned_joined n s t r.base r.waiting ws w tied
   after_joined r u ws _ _ (stopped {k} {s} {t} w) safe tied = ap (Outcome.Traps k) (sym w.out)
 
@@ -179,7 +167,7 @@ module _ (flow : Flow) (graphs : List Graph) (thins : GraphsThin flow.functions 
   next_joined r q j safe =
       subst (λ p. StepJoined (next old r) (next new p)) (sym j.2)
       (after_joined r j.0 j.1 (hop old r) (hop new (record r { state = j.0; waiting = j.1 }))
-      (hop_alike r j.0 j.1 (slice_get flow.functions r.function) (slice_get graphs r.function) (thins_at flow.functions graphs thins r.function) j.3) (never_wrong r safe) j.4)
+      (hop_alike r j.0 j.1 (slice_get flow.functions r.function) (slice_get graphs r.function) (each_at GraphThins flow.functions graphs thins r.function) j.3) (never_wrong r safe) j.4)
 
   -- ---- runs
 
@@ -194,7 +182,7 @@ module _ (flow : Flow) (graphs : List Graph) (thins : GraphsThin flow.functions 
       by (Over o) (On q') e k rec = absurd k
       by (Over o) (Over p) e k rec = sym k
 
-  start_joined : (s : State) (o q : Option Graph) (thin : ThinsAt o q) → (o ≡ None → ⊥) →
+  start_joined : (s : State) (o q : Option Graph) (thin : At GraphThins o q) → (o ≡ None → ⊥) →
       Joined (record { function = flow.main; block = 0; base = length s.arrays; state = entered_or (as_body o) s; waiting = [] }) (record { function = flow.main; block = 0; base = length s.arrays; state = entered_or (as_body q) s; waiting = [] })
   start_joined s None q thin some = absurd (some refl)
   start_joined s (Some g) None thin some = absurd thin
@@ -209,7 +197,7 @@ module _ (flow : Flow) (graphs : List Graph) (thins : GraphsThin flow.functions 
       let r : Active = start flow input in
       let q : Active = start (with_graphs flow graphs) input in
       let some : slice_get flow.functions flow.main ≡ None → ⊥ = λ e. never_wrong r safe (ap (λ o. body_hop old r (as_body o)) e) in
-      runs_same n r q (start_joined (globals_at_start flow input) (slice_get flow.functions flow.main) (slice_get graphs flow.main) (thins_at flow.functions graphs thins flow.main) some) safe
+      runs_same n r q (start_joined (globals_at_start flow input) (slice_get flow.functions flow.main) (slice_get graphs flow.main) (each_at GraphThins flow.functions graphs thins flow.main) some) safe
 
 pub thinned_runs : ThinnedRuns
 thinned_runs flow graphs thins input safe n = all_runs flow graphs thins input safe n

@@ -4,29 +4,22 @@ use Rattle.std.specs.List.{list_all}
 use Rattle.vx_base.specs.Outcome.{NeverFails}
 use Rattle.vx_ast.specs.Tree.{Function, Program}
 use Rattle.vx_flow.specs.declared.graph.Op.{Op}
-use Rattle.vx_flow.specs.declared.graph.Op.TheVariants.{Compute, Select, Place, Load, Store, More, Input, Text, Decimal, Across}
+use Rattle.vx_flow.specs.declared.graph.Op.TheVariants.{Input}
 use Rattle.vx_flow.specs.declared.graph.Block.{Block}
 use Rattle.vx_flow.specs.declared.graph.Graph.{Graph}
 use Rattle.vx_flow.specs.declared.graph.Flow.{Flow}
 use Rattle.vx_flow.specs.Effects.{reads}
 use Rattle.vx_flow.specs.Live.{reads_of_exit}
+use Rattle.vx_flow.specs.Operands.{written_by}
 use Rattle.vx_flow.specs.Meaning.{graph_run}
 use Rattle.vx_flow.specs.Sound.{is_sound_flow}
 use Rattle.vx_lower.specs.FlowOf.{GraphOf, FlowOf}
-use Rattle.vx_shape.specs.Flows.{with_graphs}
+use Rattle.vx_shape.specs.Flows.{with_graphs, Each}
 
 -- the value that an operation writes, where it does nothing else
 abbrev pub result_alone : Op → Option ℕ
-result_alone (Compute code v a b) = Some v
-result_alone (Select v p a b) = Some v
-result_alone (Place v a i) = Some v
-result_alone (Load v a p dismissible) = Some v
-result_alone (Store a p x) = None
-result_alone (More v) = Some v
 result_alone (Input v) = None
-result_alone (Text n) = None
-result_alone (Decimal x) = None
-result_alone (Across v u) = Some v
+result_alone op = written_by op
 
 abbrev pub is_unread : (ℕ → Bool) → Option ℕ → Bool
 is_unread unread None = false
@@ -73,15 +66,9 @@ pub record GraphThins (old new : Graph) : Type 0 where
   pub is : new ≡ thinned unread old
   pub shape : (p : Program) (function : Function) → GraphOf p function old → GraphOf p function new
 
-abbrev pub GraphsThin : List Graph → List Graph → Type 0
-GraphsThin [] [] = Unit {0}
-GraphsThin [] (h ∷ hs) = ⊥
-GraphsThin (g ∷ gs) [] = ⊥
-GraphsThin (g ∷ gs) (h ∷ hs) = GraphThins g h × GraphsThin gs hs
-
 -- on every input where the old flow never fails, the new one comes to the same at every bound
 abbrev pub ThinnedRuns : Type 0
-ThinnedRuns = (flow : Flow) (graphs : List Graph) → GraphsThin flow.functions graphs → (input : List ℤ) → NeverFails (graph_run flow input) → (n : ℕ) → graph_run (with_graphs flow graphs) input n ≡ graph_run flow input n
+ThinnedRuns = (flow : Flow) (graphs : List Graph) → Each GraphThins flow.functions graphs → (input : List ℤ) → NeverFails (graph_run flow input) → (n : ℕ) → graph_run (with_graphs flow graphs) input n ≡ graph_run flow input n
 
 abbrev pub ThinnedStays : Type 0
-ThinnedStays = (p : Program) (flow : Flow) (graphs : List Graph) → GraphsThin flow.functions graphs → is_sound_flow (with_graphs flow graphs) ≡ true → FlowOf p flow → FlowOf p (with_graphs flow graphs)
+ThinnedStays = (p : Program) (flow : Flow) (graphs : List Graph) → Each GraphThins flow.functions graphs → is_sound_flow (with_graphs flow graphs) ≡ true → FlowOf p flow → FlowOf p (with_graphs flow graphs)

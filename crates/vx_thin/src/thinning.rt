@@ -5,17 +5,18 @@ ghost use Rattle.std.specs.Prelude.{◌≡◌, true, IfOk, IfSome, map};
 ghost use Rattle.std.specs.List.{list_all};
 ghost use Rattle.vx_flow.specs.Sound.{is_sound_flow};
 ghost use Rattle.vx_shape.specs.Flows.{FlowStays};
-ghost use Rattle.vx_thin.specs.Thinning.{block_reads_read, GraphsThin, GraphThins, thinned, thinned_block, thinned_ops, unread_of};
+ghost use Rattle.vx_thin.specs.Thinning.{block_reads_read, GraphThins, thinned, thinned_block, thinned_ops, unread_of};
 
 use crate::needing::find_needed;
 use crate::reading::{blocks_read_needed, is_dropped};
 use std::alloc::Global;
 use vx_base::listed::Listed;
 use vx_base::outcome::NoMemory;
-use vx_flow::copies::{copied_exit, copied_graph, with_blocks};
+use vx_flow::copies::{copied_exit, with_blocks};
 use vx_flow::graph::{Block, Flow, Graph, Op};
 use vx_shape::copying::with_graphs;
 use vx_shape::origins::origins;
+use vx_shape::passes::{GraphPass, each_made};
 use vx_shape::shape_test::is_shaped;
 use vx_sound::is_sound;
 
@@ -24,7 +25,7 @@ pub fn thinned_once(alloc: Global, flow: &Flow) -> Result<Option<Flow>, NoMemory
     ensures sound { IfOk result (λ found. IfSome found (λ thinned. is_sound_flow thinned ≡ true)) }
     ensures flow { IfOk result (λ found. IfSome found (λ thinned. FlowStays flow.now thinned)) }
 {
-    let functions = thinned_graphs(alloc, flow.functions.as_slice())?;
+    let functions = each_made(alloc, &ThinPass, flow.functions.as_slice())?;
     if ops_of(functions.as_slice()) >= ops_of(flow.functions.as_slice()) {
         return Ok(None);
     }
@@ -53,38 +54,21 @@ fn ops_in(blocks: &[Block]) -> usize {
     count
 }
 
-fn thinned_graphs(alloc: Global, graphs: &[Graph]) -> Result<Listed<Graph>, NoMemory>
-    ensures { IfOk result (λ thinned. GraphsThin graphs.now thinned) }
-{
-    let mut thinned = Listed::new(alloc);
-    for graph in graphs {
-        thinned.push(thinned_graph(alloc, graph)?)?;
+/// The pass over one graph: what is needed is looked for, and the other results go.
+struct ThinPass;
+
+impl GraphPass for ThinPass {
+    ghost makes = { GraphThins };
+
+    fn made(
+        &self,
+        alloc: Global,
+        _function: usize,
+        graph: &Graph,
+    ) -> Result<Option<Graph>, NoMemory> {
+        let needed = find_needed(alloc, graph.blocks.as_slice(), graph.banks.len())?;
+        thinned_where_read(alloc, graph, needed.as_slice())
     }
-    Ok(thinned)
-}
-
-fn thinned_graph(alloc: Global, graph: &Graph) -> Result<Graph, NoMemory>
-    ensures { IfOk result (λ thinned. GraphThins graph.now thinned) }
-{
-    match thinned_where_fit(alloc, graph)? {
-        Some(thinned) => Ok(thinned),
-        None => unchanged(alloc, graph),
-    }
-}
-
-fn unchanged(alloc: Global, graph: &Graph) -> Result<Graph, NoMemory>
-    ensures { IfOk result (λ copy. GraphThins graph.now copy) }
-{
-    let copy = copied_graph(alloc, graph)?;
-    Ok(copy)
-}
-
-/// The graph without operations whose results are not needed, where what is needed was found.
-fn thinned_where_fit(alloc: Global, graph: &Graph) -> Result<Option<Graph>, NoMemory>
-    ensures { IfOk result (λ found. IfSome found (λ thinned. GraphThins graph.now thinned)) }
-{
-    let needed = find_needed(alloc, graph.blocks.as_slice(), graph.banks.len())?;
-    thinned_where_read(alloc, graph, needed.as_slice())
 }
 
 fn thinned_where_read(
