@@ -15,24 +15,12 @@ use Rattle.vx_flow.specs.Effects.{Content, State, Setting}
 use Rattle.vx_flow.specs.Meaning.{Hop, Wrong, hop_of, Body, Program, Frame, Active, deepest, undefined, at_entry, entered, enters, with_result, returned, waits, after_hop, body_hop, hop, next, body_of, program_of, setting_of, globals_at_start, entered_or, start, graph_run}
 use Rattle.vx_flow.specs.Agree.{SameWorld, Agree}
 use Rattle.vx_flow.proofs.SoundLists.{all_at}
-use Rattle.vx_shape.specs.Flows.{with_graphs}
-use Rattle.vx_fold.specs.Folding.{no_number, settles, is_free, settles_exit, settles_block, settles_graph, folded_block, folded_graph, GraphFolds, GraphsFold, FoldedRuns}
+use Rattle.vx_shape.specs.Flows.{with_graphs, Each}
+use Rattle.vx_shape.proofs.Pairs.{At, each_at}
+use Rattle.vx_fold.specs.Folding.{no_number, settles, is_free, settles_exit, settles_block, settles_graph, folded_block, folded_graph, GraphFolds, FoldedRuns}
 use Rattle.vx_fold.proofs.Folds.{All, Settled, Alikes, wrong, arrives, called, left, stopped, ops_alike, none_by}
 
-abbrev pub FoldsAt : Option Graph → Option Graph → Type 0
-FoldsAt None None = Unit {0}
-FoldsAt None (Some h) = ⊥
-FoldsAt (Some g) None = ⊥
-FoldsAt (Some g) (Some h) = GraphFolds g h
-
-pub folds_at : (gs hs : List Graph) → GraphsFold gs hs → (f : ℕ) → FoldsAt (slice_get gs f) (slice_get hs f)
-folds_at [] [] s f = tt
-folds_at [] (h ∷ hs) s f = absurd s
-folds_at (g ∷ gs) [] s f = absurd s
-folds_at (g ∷ gs) (h ∷ hs) s zero = s.0
-folds_at (g ∷ gs) (h ∷ hs) s (suc f) = folds_at gs hs s.1 f
-
-abbrev numbers_by : (o q : Option Graph) → FoldsAt o q → ℕ → Option ℤ
+abbrev numbers_by : (o q : Option Graph) → At GraphFolds o q → ℕ → Option ℤ
 numbers_by None None s = λ v. None
 numbers_by None (Some h) s = λ v. None
 numbers_by (Some g) None s = λ v. None
@@ -71,7 +59,7 @@ settled_entry numbers (p ∷ ps) (n ∷ ns) h v k m e q = by (v == p) refl q (se
     by true s f i = absurd (no_other numbers p v k (and_parts _ _ h).0 s e)
     by false s f i = i v k m e f
 
-module _ (flow : Flow) (graphs : List Graph) (folds : GraphsFold flow.functions graphs) where
+module _ (flow : Flow) (graphs : List Graph) (folds : Each GraphFolds flow.functions graphs) where
   abbrev old : Program
   old = program_of flow
 
@@ -82,7 +70,7 @@ module _ (flow : Flow) (graphs : List Graph) (folds : GraphsFold flow.functions 
   as_body o = option_map (body_of (length flow.globals)) o
 
   abbrev numbers_in : ℕ → ℕ → Option ℤ
-  numbers_in f = numbers_by (slice_get flow.functions f) (slice_get graphs f) (folds_at flow.functions graphs folds f)
+  numbers_in f = numbers_by (slice_get flow.functions f) (slice_get graphs f) (each_at GraphFolds flow.functions graphs folds f)
 
   abbrev out_of : Active → List ℕ
   out_of r = r.state.out
@@ -130,7 +118,7 @@ module _ (flow : Flow) (graphs : List Graph) (folds : GraphsFold flow.functions 
       subst (λ o. Alikes fold.numbers (hop_of setting b (slice_get g.blocks b) s) (hop_of setting b o t)) (sym e)
       (block_alike fold.numbers setting b (slice_get g.blocks b) s t (λ block q. all_at (settles_block fold.numbers) g.blocks b block k.1 q) i a)
 
-  hop_alike : (r : Active) (t : State) (ws : List Frame) (o q : Option Graph) (fold : FoldsAt o q) → Settled (numbers_by o q fold) r.state.values → Agree All r.state t →
+  hop_alike : (r : Active) (t : State) (ws : List Frame) (o q : Option Graph) (fold : At GraphFolds o q) → Settled (numbers_by o q fold) r.state.values → Agree All r.state t →
       Alikes (numbers_by o q fold) (body_hop old r (as_body o)) (body_hop new (record r { state = t; waiting = ws }) (as_body q))
   hop_alike r t ws None None fold i a = wrong
   hop_alike r t ws None (Some h) fold i a = absurd fold
@@ -161,7 +149,7 @@ module _ (flow : Flow) (graphs : List Graph) (folds : GraphsFold flow.functions 
       (entered body ns t, gs, ap (λ n. record { function = g; block = 0; base = n; state = entered body ns t; waiting = gs }) (ap length w.arrays), entered_agree ns s t x w, i, k) in
       subst (λ z. StepJoined (enters g (as_body (Some x)) ns s fs) (enters g (as_body (Some z)) ns t gs)) (sym e) made
 
-  body_joined : (g : ℕ) (ns : List ℤ) (s t : State) (fs gs : List Frame) (o q : Option Graph) (fold : FoldsAt o q) → SameWorld s t → FramesTied fs gs → numbers_in g ≡ numbers_by o q fold → StepJoined (enters g (as_body o) ns s fs) (enters g (as_body q) ns t gs)
+  body_joined : (g : ℕ) (ns : List ℤ) (s t : State) (fs gs : List Frame) (o q : Option Graph) (fold : At GraphFolds o q) → SameWorld s t → FramesTied fs gs → numbers_in g ≡ numbers_by o q fold → StepJoined (enters g (as_body o) ns s fs) (enters g (as_body q) ns t gs)
   body_joined g ns s t fs gs None None fold w k u = ap Outcome.Wrong (sym w.out)
   body_joined g ns s t fs gs None (Some h) fold w k u = absurd fold
   body_joined g ns s t fs gs (Some x) None fold w k u = absurd fold
@@ -195,7 +183,7 @@ module _ (flow : Flow) (graphs : List Graph) (folds : GraphsFold flow.functions 
       let inside : FramesTied fs gs = (t.values, refl, (λ v n e. a.values v n tt e), i, h, tied) in
       cond_joined (nat_le deepest (length r.waiting + 1)) (nat_le deepest (length ws + 1)) (Over (Outcome.Traps Depth s.out)) (enters f (old.body f) ns s fs) (Over (Outcome.Traps Depth t.out)) (enters f (new.body f) ns t gs) many
       (ap (Outcome.Traps Depth) (sym a.world.out))
-      (body_joined f ns s t fs gs (slice_get flow.functions f) (slice_get graphs f) (folds_at flow.functions graphs folds f) a.world inside refl)
+      (body_joined f ns s t fs gs (slice_get flow.functions f) (slice_get graphs f) (each_at GraphFolds flow.functions graphs folds f) a.world inside refl)
   after_joined r u ws _ _ (left {n} {s} {t} w) safe tied = returned_joined n s t r.base r.waiting ws w tied
   after_joined r u ws _ _ (stopped {k} {s} {t} w) safe tied = ap (Outcome.Traps k) (sym w.out)
 
@@ -203,7 +191,7 @@ module _ (flow : Flow) (graphs : List Graph) (folds : GraphsFold flow.functions 
   next_joined r q j safe =
       subst (λ p. StepJoined (next old r) (next new p)) (sym j.2)
       (after_joined r j.0 j.1 (hop old r) (hop new (record r { state = j.0; waiting = j.1 }))
-      (hop_alike r j.0 j.1 (slice_get flow.functions r.function) (slice_get graphs r.function) (folds_at flow.functions graphs folds r.function) j.4 j.3) (never_wrong r safe) j.5)
+      (hop_alike r j.0 j.1 (slice_get flow.functions r.function) (slice_get graphs r.function) (each_at GraphFolds flow.functions graphs folds r.function) j.4 j.3) (never_wrong r safe) j.5)
 
   -- ---- runs
 
@@ -218,7 +206,7 @@ module _ (flow : Flow) (graphs : List Graph) (folds : GraphsFold flow.functions 
       by (Over o) (On q') e k rec = absurd k
       by (Over o) (Over p) e k rec = sym k
 
-  start_joined : (s : State) (o q : Option Graph) (fold : FoldsAt o q) → numbers_in flow.main ≡ numbers_by o q fold → (o ≡ None → ⊥) →
+  start_joined : (s : State) (o q : Option Graph) (fold : At GraphFolds o q) → numbers_in flow.main ≡ numbers_by o q fold → (o ≡ None → ⊥) →
       Joined (record { function = flow.main; block = 0; base = length s.arrays; state = entered_or (as_body o) s; waiting = [] }) (record { function = flow.main; block = 0; base = length s.arrays; state = entered_or (as_body q) s; waiting = [] })
   start_joined s None q fold u some = absurd (some refl)
   start_joined s (Some g) None fold u some = absurd fold
@@ -235,7 +223,7 @@ module _ (flow : Flow) (graphs : List Graph) (folds : GraphsFold flow.functions 
       let r : Active = start flow input in
       let q : Active = start (with_graphs flow graphs) input in
       let some : slice_get flow.functions flow.main ≡ None → ⊥ = λ e. never_wrong r safe (ap (λ o. body_hop old r (as_body o)) e) in
-      runs_same n r q (start_joined (globals_at_start flow input) (slice_get flow.functions flow.main) (slice_get graphs flow.main) (folds_at flow.functions graphs folds flow.main) refl some) safe
+      runs_same n r q (start_joined (globals_at_start flow input) (slice_get flow.functions flow.main) (slice_get graphs flow.main) (each_at GraphFolds flow.functions graphs folds flow.main) refl some) safe
 
 pub folded_runs : FoldedRuns
 folded_runs flow graphs folds input safe n = all_runs flow graphs folds input safe n

@@ -17,7 +17,7 @@ use Rattle.vx_flow.specs.Effects.{Content, State, Setting, held, is_unary, both,
 use Rattle.vx_flow.specs.Meaning.{Hop, Arrives, Calls, Leaves, Stops, Wrong, with_front, known, by_test, calls, leaves, leave, and_then, block_hop}
 use Rattle.vx_flow.specs.Agree.{SameWorld, Agree}
 use Rattle.vx_flow.proofs.EffectsAlike.{Refined, Done, effect_alike}
-use Rattle.vx_fold.specs.Folding.{no_number, number_in, is_content, gives, settles, is_free, settles_exit, operand_by, folded, folded_right, select_by, folded_op, split_by, folded_exit}
+use Rattle.vx_fold.specs.Folding.{no_number, number_in, is_content, gives, settles, is_free, settles_exit, operand_by, folded, select_by, folded_op, split_by, folded_exit}
 
 abbrev pub All : ℕ → Type 0
 All v = Unit {0}
@@ -84,7 +84,7 @@ module _ (numbers : ℕ → Option ℤ) where
   -- ---- what a folded operation does
 
   computed_folded : (u : Bool) (f : ℤ → ℤ → ℤ) (t : State) (a b : Operand) →
-      cond u (held t (folded numbers a)) (both f (held t (folded numbers a)) (held t (folded_right u numbers b))) ≡ cond u (held (over t) a) (both f (held (over t) a) (held (over t) b))
+      cond u (held t (folded numbers a)) (both f (held t (folded numbers a)) (held t (cond u b (folded numbers b)))) ≡ cond u (held (over t) a) (both f (held (over t) a) (held (over t) b))
   computed_folded true f t a b = held_folded t a
   computed_folded false f t a b = ap (λ x. both f x (held t (folded numbers b))) (held_folded t a) ∙ ap (both f (held (over t) a)) (held_folded t b)
 

@@ -1,6 +1,6 @@
 -- A flow in which values that only ever hold one number are read as that number, and the laws that it does the same and stays a
 -- flow of its program.
-use Rattle.std.specs.Prelude.{◌≡◌, ℕ, ℤ, pos, Bool, true, false, ◌&&◌, if◌then◌else◌, Option, Some, None, List, [], ◌∷◌, map, slice_get}
+use Rattle.std.specs.Prelude.{◌≡◌, ℕ, ℤ, pos, Bool, true, false, ◌&&◌, if◌then◌else◌, Option, Some, None, List, map, slice_get}
 use Rattle.std.specs.List.{list_all}
 use Rattle.std.specs.Ordering.{int_eq}
 use Rattle.vx_base.specs.Outcome.{NeverFails}
@@ -9,17 +9,18 @@ use Rattle.vx_ast.specs.Tree.{Function, Program}
 use Rattle.vx_flow.specs.declared.graph.Operand.{Operand}
 use Rattle.vx_flow.specs.declared.graph.Operand.TheVariants.{Held, Number, Stack}
 use Rattle.vx_flow.specs.declared.graph.Op.{Op}
-use Rattle.vx_flow.specs.declared.graph.Op.TheVariants.{Compute, Select, Place, Load, Store, More, Input, Text, Decimal, Across}
+use Rattle.vx_flow.specs.declared.graph.Op.TheVariants.{Compute, Select, Across}
 use Rattle.vx_flow.specs.declared.graph.Exit.{Exit}
 use Rattle.vx_flow.specs.declared.graph.Exit.TheVariants.{Goto, Split, Call, Return, Ends}
 use Rattle.vx_flow.specs.declared.graph.Block.{Block}
 use Rattle.vx_flow.specs.declared.graph.Graph.{Graph}
 use Rattle.vx_flow.specs.declared.graph.Flow.{Flow}
-use Rattle.vx_flow.specs.Effects.{Content, is_unary, is_one, computed}
+use Rattle.vx_flow.specs.Effects.{Content, is_one, computed}
+use Rattle.vx_flow.specs.Operands.{written_by, with_operands}
 use Rattle.vx_flow.specs.Meaning.{graph_run}
 use Rattle.vx_flow.specs.Sound.{is_sound_flow}
 use Rattle.vx_lower.specs.FlowOf.{GraphOf, FlowOf}
-use Rattle.vx_shape.specs.Flows.{with_graphs}
+use Rattle.vx_shape.specs.Flows.{with_graphs, Each}
 
 -- each value with the one number that it holds, None where it may hold others
 
@@ -40,22 +41,15 @@ abbrev pub gives : Option ℤ → Content → Bool
 gives None x = true
 gives (Some n) x = is_content n x
 
--- what writes a value with a number computes that number
-abbrev pub settles : (ℕ → Option ℤ) → Op → Bool
-settles numbers (Compute code v a b) = gives (numbers v) (computed code (number_in numbers a) (number_in numbers b))
-settles numbers (Select v p a b) = no_number (numbers v)
-settles numbers (Place v a i) = no_number (numbers v)
-settles numbers (Load v a p dismissible) = no_number (numbers v)
-settles numbers (Store a p x) = true
-settles numbers (More v) = no_number (numbers v)
-settles numbers (Input v) = no_number (numbers v)
-settles numbers (Text n) = true
-settles numbers (Decimal x) = true
-settles numbers (Across v u) = no_number (numbers v) && no_number (numbers u)
-
 abbrev pub is_free : (ℕ → Option ℤ) → Option ℕ → Bool
 is_free numbers None = true
 is_free numbers (Some v) = no_number (numbers v)
+
+-- what writes a value with a number computes that number, and a copy across reads no such value
+abbrev pub settles : (ℕ → Option ℤ) → Op → Bool
+settles numbers (Compute code v a b) = gives (numbers v) (computed code (number_in numbers a) (number_in numbers b))
+settles numbers (Across v u) = no_number (numbers v) && no_number (numbers u)
+settles numbers op = is_free numbers (written_by op)
 
 abbrev pub settles_exit : (ℕ → Option ℤ) → Exit → Bool
 settles_exit numbers (Goto c) = true
@@ -81,25 +75,13 @@ folded numbers (Held v) = operand_by (numbers v) v
 folded numbers (Number n) = Number n
 folded numbers Stack = Stack
 
--- what stands as the right operand of a move is not read
-abbrev pub folded_right : Bool → (ℕ → Option ℤ) → Operand → Operand
-folded_right unary numbers x = if unary then x else folded numbers x
-
 abbrev pub select_by : Option ℤ → (v p : ℕ) → Operand → Operand → Op
 select_by None v p a b = Select v p a b
 select_by (Some z) v p a b = Compute Mov v (if is_one z then a else b) (Number (pos 0))
 
 abbrev pub folded_op : (ℕ → Option ℤ) → Op → Op
-folded_op numbers (Compute code v a b) = Compute code v (folded numbers a) (folded_right (is_unary code) numbers b)
 folded_op numbers (Select v p a b) = select_by (numbers p) v p (folded numbers a) (folded numbers b)
-folded_op numbers (Place v a i) = Place v a (folded numbers i)
-folded_op numbers (Load v a p dismissible) = Load v a (folded numbers p) dismissible
-folded_op numbers (Store a p x) = Store a (folded numbers p) (folded numbers x)
-folded_op numbers (More v) = More v
-folded_op numbers (Input v) = Input v
-folded_op numbers (Text n) = Text n
-folded_op numbers (Decimal x) = Decimal (folded numbers x)
-folded_op numbers (Across v u) = Across v u
+folded_op numbers op = with_operands (folded numbers) op
 
 abbrev pub split_by : Option ℤ → (p c d : ℕ) → Exit
 split_by None p c d = Split p c d
@@ -133,15 +115,9 @@ pub record GraphFolds (old new : Graph) : Type 0 where
   pub is : new ≡ folded_graph numbers old
   pub shape : (p : Program) (function : Function) → GraphOf p function old → GraphOf p function new
 
-abbrev pub GraphsFold : List Graph → List Graph → Type 0
-GraphsFold [] [] = Unit {0}
-GraphsFold [] (h ∷ hs) = ⊥
-GraphsFold (g ∷ gs) [] = ⊥
-GraphsFold (g ∷ gs) (h ∷ hs) = GraphFolds g h × GraphsFold gs hs
-
 -- on every input where the old flow never fails, the new one comes to the same at every bound
 abbrev pub FoldedRuns : Type 0
-FoldedRuns = (flow : Flow) (graphs : List Graph) → GraphsFold flow.functions graphs → (input : List ℤ) → NeverFails (graph_run flow input) → (n : ℕ) → graph_run (with_graphs flow graphs) input n ≡ graph_run flow input n
+FoldedRuns = (flow : Flow) (graphs : List Graph) → Each GraphFolds flow.functions graphs → (input : List ℤ) → NeverFails (graph_run flow input) → (n : ℕ) → graph_run (with_graphs flow graphs) input n ≡ graph_run flow input n
 
 abbrev pub FoldedStays : Type 0
-FoldedStays = (p : Program) (flow : Flow) (graphs : List Graph) → GraphsFold flow.functions graphs → is_sound_flow (with_graphs flow graphs) ≡ true → FlowOf p flow → FlowOf p (with_graphs flow graphs)
+FoldedStays = (p : Program) (flow : Flow) (graphs : List Graph) → Each GraphFolds flow.functions graphs → is_sound_flow (with_graphs flow graphs) ≡ true → FlowOf p flow → FlowOf p (with_graphs flow graphs)

@@ -3,10 +3,10 @@
 // they are.
 
 ghost use Rattle.std.specs.Prelude.{◌≡◌, true, if◌then◌else◌, IfOk, IfSome, map};
-ghost use Rattle.vx_flow.specs.declared.graph.Op.TheVariants.{Compute, Load, Select, Store};
-ghost use Rattle.vx_flow.specs.Effects.{is_one, is_unary};
+ghost use Rattle.vx_flow.specs.declared.graph.Op.TheVariants.{Select};
+ghost use Rattle.vx_flow.specs.Effects.{is_one};
 ghost use Rattle.vx_flow.specs.Sound.{is_sound_flow};
-ghost use Rattle.vx_fold.specs.Folding.{folded, folded_block, folded_exit, folded_graph, folded_op, folded_right, GraphFolds, GraphsFold, numbers_of, select_by, settles_graph, split_by};
+ghost use Rattle.vx_fold.specs.Folding.{folded, folded_block, folded_exit, folded_graph, folded_op, GraphFolds, numbers_of, select_by, settles_graph, split_by};
 ghost use Rattle.vx_shape.specs.Flows.{FlowStays};
 
 use crate::numbering::find_numbers;
@@ -15,10 +15,12 @@ use std::alloc::Global;
 use vx_base::arithmetic::Code;
 use vx_base::listed::Listed;
 use vx_base::outcome::NoMemory;
-use vx_flow::copies::{copied_graph, with_blocks};
-use vx_flow::graph::{ArrayId, Block, BlockId, Exit, Flow, Graph, Op, Operand, Value};
+use vx_flow::copies::with_blocks;
+use vx_flow::graph::{Block, BlockId, Exit, Flow, Graph, Op, Operand, Value};
+use vx_flow::operands::{first_operand, second_operand, with_two};
 use vx_shape::copying::with_graphs;
 use vx_shape::origins::origins;
+use vx_shape::passes::{GraphPass, each_made};
 use vx_shape::shape_test::is_shaped;
 use vx_sound::is_sound;
 
@@ -27,7 +29,7 @@ pub fn folded_once(alloc: Global, flow: &Flow) -> Result<Option<Flow>, NoMemory>
     ensures sound { IfOk result (λ found. IfSome found (λ folded. is_sound_flow folded ≡ true)) }
     ensures flow { IfOk result (λ found. IfSome found (λ folded. FlowStays flow.now folded)) }
 {
-    let functions = folded_graphs(alloc, flow.functions.as_slice())?;
+    let functions = each_made(alloc, &FoldPass, flow.functions.as_slice())?;
     let folded = with_graphs(alloc, flow, functions)?;
     if is_sound(alloc, &folded)? {
         Ok(Some(folded))
@@ -36,37 +38,21 @@ pub fn folded_once(alloc: Global, flow: &Flow) -> Result<Option<Flow>, NoMemory>
     }
 }
 
-fn folded_graphs(alloc: Global, graphs: &[Graph]) -> Result<Listed<Graph>, NoMemory>
-    ensures { IfOk result (λ folded. GraphsFold graphs.now folded) }
-{
-    let mut folded = Listed::new(alloc);
-    for graph in graphs {
-        folded.push(folded_or_same(alloc, graph)?)?;
+/// The pass over one graph: the numbers are looked for, and take the places of the values that hold them.
+struct FoldPass;
+
+impl GraphPass for FoldPass {
+    ghost makes = { GraphFolds };
+
+    fn made(
+        &self,
+        alloc: Global,
+        _function: usize,
+        graph: &Graph,
+    ) -> Result<Option<Graph>, NoMemory> {
+        let numbers = find_numbers(alloc, graph)?;
+        folded_where_settled(alloc, graph, numbers.as_slice())
     }
-    Ok(folded)
-}
-
-fn folded_or_same(alloc: Global, graph: &Graph) -> Result<Graph, NoMemory>
-    ensures { IfOk result (λ folded. GraphFolds graph.now folded) }
-{
-    match folded_where_fit(alloc, graph)? {
-        Some(folded) => Ok(folded),
-        None => unchanged(alloc, graph),
-    }
-}
-
-fn unchanged(alloc: Global, graph: &Graph) -> Result<Graph, NoMemory>
-    ensures { IfOk result (λ copy. GraphFolds graph.now copy) }
-{
-    let copy = copied_graph(alloc, graph)?;
-    Ok(copy)
-}
-
-fn folded_where_fit(alloc: Global, graph: &Graph) -> Result<Option<Graph>, NoMemory>
-    ensures { IfOk result (λ found. IfSome found (λ folded. GraphFolds graph.now folded)) }
-{
-    let numbers = find_numbers(alloc, graph)?;
-    folded_where_settled(alloc, graph, numbers.as_slice())
 }
 
 fn folded_where_settled(
@@ -144,54 +130,17 @@ fn folded_op(op: &Op, numbers: &[Option<i32>]) -> Op
     ensures { result ≡ folded_op (numbers_of numbers.now) op.now }
 {
     match op {
-        Op::Compute {
-            code,
-            to,
-            left,
-            right,
-        } => folded_compute(*code, *to, left, right, numbers),
         Op::Select {
             to,
             test,
             left,
             right,
         } => folded_select(*to, *test, left, right, numbers),
-        Op::Place { to, array, index } => Op::Place {
-            to: *to,
-            array: *array,
-            index: folded(index, numbers),
-        },
-        Op::Load {
-            to,
-            array,
-            place,
-            dismissible,
-        } => folded_load(*to, *array, place, *dismissible, numbers),
-        Op::Store { array, place, from } => folded_store(*array, place, from, numbers),
-        Op::More { .. } => *op,
-        Op::Input { .. } => *op,
-        Op::Text { .. } => *op,
-        Op::Decimal { from } => Op::Decimal {
-            from: folded(from, numbers),
-        },
-        Op::Across { .. } => *op,
-    }
-}
-
-fn folded_compute(
-    code: Code,
-    to: Value,
-    left: &Operand,
-    right: &Operand,
-    numbers: &[Option<i32>],
-) -> Op
-    ensures { result ≡ folded_op (numbers_of numbers.now) (Compute code to left.now right.now) }
-{
-    Op::Compute {
-        code,
-        to,
-        left: folded(left, numbers),
-        right: folded_right(code, right, numbers),
+        _ => with_two(
+            op,
+            folded(&first_operand(op), numbers),
+            folded(&second_operand(op), numbers),
+        ),
     }
 }
 
@@ -209,33 +158,6 @@ fn folded_select(
     select_by(number_of(numbers, test), to, test, left, right)
 }
 
-fn folded_load(
-    to: Value,
-    array: ArrayId,
-    place: &Operand,
-    dismissible: bool,
-    numbers: &[Option<i32>],
-) -> Op
-    ensures { result ≡ folded_op (numbers_of numbers.now) (Load to array place.now dismissible) }
-{
-    Op::Load {
-        to,
-        array,
-        place: folded(place, numbers),
-        dismissible,
-    }
-}
-
-fn folded_store(array: ArrayId, place: &Operand, from: &Operand, numbers: &[Option<i32>]) -> Op
-    ensures { result ≡ folded_op (numbers_of numbers.now) (Store array place.now from.now) }
-{
-    Op::Store {
-        array,
-        place: folded(place, numbers),
-        from: folded(from, numbers),
-    }
-}
-
 fn folded(operand: &Operand, numbers: &[Option<i32>]) -> Operand
     ensures { result ≡ folded (numbers_of numbers.now) operand.now }
 {
@@ -246,16 +168,6 @@ fn folded(operand: &Operand, numbers: &[Option<i32>]) -> Operand
         },
         Operand::Number(number) => Operand::Number(*number),
         Operand::Stack => Operand::Stack,
-    }
-}
-
-/// What stands as the right operand of a move stays.
-fn folded_right(code: Code, operand: &Operand, numbers: &[Option<i32>]) -> Operand
-    ensures { result ≡ folded_right (is_unary code) (numbers_of numbers.now) operand.now }
-{
-    match code {
-        Code::Mov => *operand,
-        _ => folded(operand, numbers),
     }
 }
 

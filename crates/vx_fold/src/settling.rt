@@ -9,6 +9,7 @@ ghost use Rattle.vx_fold.specs.Folding.{gives, is_free, no_number, number_in, nu
 use vx_arithmetic::value;
 use vx_base::arithmetic::Code;
 use vx_flow::graph::{Block, Exit, Graph, Op, Operand, Value};
+use vx_flow::operands::written_by;
 
 /// The one number that a value holds; none where it may hold others.
 pub fn number_of(numbers: &[Option<i32>], value: Value) -> Option<i32>
@@ -71,6 +72,16 @@ fn is_without(numbers: &[Option<i32>], value: Value) -> bool
     }
 }
 
+/// Whether a value, if there is one, may hold other numbers.
+fn is_free(numbers: &[Option<i32>], value: Option<Value>) -> bool
+    ensures { result ≡ is_free (numbers_of numbers.now) value }
+{
+    match value {
+        Some(value) => is_without(numbers, value),
+        None => true,
+    }
+}
+
 fn settles(numbers: &[Option<i32>], op: &Op) -> bool
     ensures { result ≡ settles (numbers_of numbers.now) op.now }
 {
@@ -84,15 +95,8 @@ fn settles(numbers: &[Option<i32>], op: &Op) -> bool
             number_of(numbers, *to),
             computed(*code, number_in(numbers, left), number_in(numbers, right)),
         ),
-        Op::Select { to, .. } => is_without(numbers, *to),
-        Op::Place { to, .. } => is_without(numbers, *to),
-        Op::Load { to, .. } => is_without(numbers, *to),
-        Op::Store { .. } => true,
-        Op::More { to } => is_without(numbers, *to),
-        Op::Input { to } => is_without(numbers, *to),
-        Op::Text { .. } => true,
-        Op::Decimal { .. } => true,
         Op::Across { to, from } => is_without(numbers, *to) && is_without(numbers, *from),
+        _ => is_free(numbers, written_by(op)),
     }
 }
 
@@ -100,15 +104,6 @@ fn all_settle(numbers: &[Option<i32>], ops: &[Op]) -> bool
     ensures { result ≡ list_all (settles (numbers_of numbers.now)) ops.now }
 {
     ops.iter().all(|op| settles(numbers, op))
-}
-
-fn is_free(numbers: &[Option<i32>], result_of_call: Option<Value>) -> bool
-    ensures { result ≡ is_free (numbers_of numbers.now) result_of_call }
-{
-    match result_of_call {
-        Some(value) => is_without(numbers, value),
-        None => true,
-    }
 }
 
 fn settles_exit(numbers: &[Option<i32>], exit: &Exit) -> bool
