@@ -4,7 +4,6 @@
 ghost use Rattle.std.specs.Prelude.{IfOk, IfSome};
 ghost use Rattle.vx_bug.specs.Further.{RoomForEach};
 
-use crate::traces::{Step, trace};
 use std::alloc::Global;
 use std::test::Fail;
 use vx_base::listed::copied;
@@ -14,6 +13,7 @@ use vx_flow::graph::{Op, Operand, Value};
 use vx_flow::trace::{Homes, Trace, TraceOp};
 use vx_machine::Machine;
 use vx_plannable::clustered;
+use vx_test_graphs::{Step, trace};
 use vx_test_machines::{Kind, machine};
 
 /// The clusters of a trace, where values have these homes.

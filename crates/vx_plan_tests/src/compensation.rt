@@ -1,6 +1,5 @@
 // Copies at splits and at joins of placements that were made by hand.
 
-use crate::traces::{Step, trace};
 use std::alloc::Global;
 use std::test::Fail;
 use vx_base::listed::{Listed, copied};
@@ -10,6 +9,7 @@ use vx_flow::graph::{Edge, Op};
 use vx_flow::trace::{Clustered, Placed};
 use vx_join::at_joins;
 use vx_split::at_splits;
+use vx_test_graphs::{Step, trace};
 
 const TEXT: Step<'static> = Step::Plain(Op::Text { number: 0 });
 

@@ -1,6 +1,6 @@
 // Delays and heights of small traces, worked out by hand from the table of delays.
 
-use crate::traces::{PRINTING, SINKING, Step, WITHOUT_ELSE, trace};
+use crate::traces::{PRINTING, SINKING, WITHOUT_ELSE};
 use std::alloc::Global;
 use std::test::Fail;
 use vx_base::arithmetic::Code;
@@ -8,6 +8,7 @@ use vx_base::outcome::NoMemory;
 use vx_dep::mode::Mode;
 use vx_dep::{Deps, pairs};
 use vx_flow::graph::{Op, Operand};
+use vx_test_graphs::{Step, trace};
 use vx_test_machines::{Kind, machine};
 
 /// v2 = 4 * v1; load; store; load there; the other array; the next word.

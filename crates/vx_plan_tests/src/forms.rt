@@ -1,6 +1,5 @@
 // The index forms of the accesses of small traces, worked out by hand.
 
-use crate::traces::{Step, trace};
 use std::alloc::Global;
 use std::test::Fail;
 use vx_base::arithmetic::Code;
@@ -8,6 +7,7 @@ use vx_base::outcome::NoMemory;
 use vx_flow::graph::{Op, Operand};
 use vx_linear::form::{Form, Symbol, Term};
 use vx_linear::forms;
+use vx_test_graphs::{Step, trace};
 
 /// v4 = v1 + 1; v5 = v4 << 2; v6 and v7 = low and high half of v5 times 10; v8 their sum; v9 the place v8, of which the word is
 /// loaded.

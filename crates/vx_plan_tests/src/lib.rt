@@ -1,5 +1,5 @@
-// Tests of the road from a source to a placed trace: each public call with ample memory, and rows worked out by hand. This crate
-// has no code of its own.
+// Tests of the road from a source to a placed trace: each public call with ample memory, and rows worked out by hand. What
+// is compiled always is what tests make and rest on.
 #![tactic(auto)]
 
 #[cfg(test)]
@@ -15,12 +15,11 @@ mod forms;
 #[cfg(test)]
 mod generated;
 #[cfg(test)]
-mod graphs;
+mod live_routes;
 #[cfg(test)]
 mod liveness;
 #[cfg(test)]
 mod loops;
-#[cfg(test)]
 mod routes;
 #[cfg(test)]
 mod runs;
@@ -36,3 +35,5 @@ mod traces;
 mod trees;
 #[cfg(test)]
 mod words;
+
+pub use routes::{past_a_write, through_a_write};

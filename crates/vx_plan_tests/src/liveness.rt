@@ -1,11 +1,11 @@
 // What is live in a graph worked out by hand, an `if` without `else`.
 
-use crate::graphs::{WITHOUT_ELSE, graph};
 use std::alloc::Global;
 use std::test::Fail;
 use vx_base::outcome::NoMemory;
 use vx_flow::live;
 use vx_flow::live_rows::Live;
+use vx_test_graphs::{WITHOUT_ELSE, graph};
 
 /// The values that are live at the start of each block, and of a block that is not there.
 const ROWS: [&[u32]; 5] = [&[1, 2], &[1, 2, 3], &[1, 2, 3], &[1, 2, 3], &[]];

@@ -2,13 +2,13 @@
 
 ghost use Rattle.vx_flow.specs.Walking.{LeadWithin};
 
-use crate::graphs::{Part, Shape, Way, graph};
 use std::alloc::Global;
 use std::test::Fail;
 use vx_base::outcome::NoMemory;
 use vx_flow::graph::{Bank, Edge, Graph, Operand};
 use vx_flow::{back_edges, headers};
 use vx_sound::graph_is_sound;
+use vx_test_graphs::{Part, Shape, Way, graph};
 
 const RETURNS: Way = Way::Return(Operand::Number(0));
 

@@ -1,6 +1,5 @@
 // Runs and counts of small programs, worked out by hand.
 
-use crate::graphs::{Act, BANKS, Part, Shape, WITHOUT_ELSE, Way, Whole, program};
 use std::alloc::Global;
 use std::test::Fail;
 use vx_base::arithmetic::{Code, Compare};
@@ -8,6 +7,7 @@ use vx_base::outcome::{NoMemory, Trap};
 use vx_flow::graph::{Op, Operand};
 use vx_profile::counts::Counts;
 use vx_tally::{Ending, count, run_plain};
+use vx_test_graphs::{Act, BANKS, Part, Shape, WITHOUT_ELSE, Way, Whole, program};
 
 /// The program gives what 40 and 7 give.
 const MAIN: Shape<'static> = Shape {

@@ -1,12 +1,12 @@
 // Graphs and programs of which each breaks one of the rules of soundness.
 
-use crate::graphs::{Act, Part, Shape, Way, Whole, graph, program};
 use std::alloc::Global as Heap;
 use std::test::Fail;
 use vx_base::arithmetic::{Code, Compare};
 use vx_base::outcome::NoMemory;
 use vx_flow::graph::{Array, Bank, Global, Op, Operand};
 use vx_sound::{flow_is_sound, graph_is_sound};
+use vx_test_graphs::{Act, Part, Shape, Way, Whole, graph, program};
 
 const GLOBAL: u32 = 0;
 

@@ -3,7 +3,7 @@
 ghost use Rattle.vx_bug.specs.Further.{RoomForEach};
 
 use crate::clusters::{SUMS, clusters_of};
-use crate::traces::{PRINTING, SINKING, Step, WITHOUT_ELSE};
+use crate::traces::{PRINTING, SINKING, WITHOUT_ELSE};
 use std::alloc::Global;
 use std::test::Fail;
 use vx_base::arithmetic::Code;
@@ -13,6 +13,7 @@ use vx_dep::mode::Mode;
 use vx_flow::graph::Operand;
 use vx_machine::Machine;
 use vx_plannable::placed;
+use vx_test_graphs::Step;
 use vx_test_machines::{Kind, machine};
 
 /// The `if` without `else` up to the product, with the join behind the sum.

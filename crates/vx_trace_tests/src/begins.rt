@@ -17,7 +17,7 @@ use vx_shape::shape_test::is_shaped;
 const MOST_VALUES: usize = 858993459;
 
 /// Whether the graph may begin: it has few values, and the shape that the graph of a function has.
-pub(crate) fn can_begin(alloc: Global, graph: &Graph) -> Result<bool, NoMemory>
+pub fn can_begin(alloc: Global, graph: &Graph) -> Result<bool, NoMemory>
     ensures { IfOk result (λ can. can ≡ true → CanBegin graph.now) }
 {
     if graph.banks.len() < MOST_VALUES {
@@ -36,7 +36,7 @@ fn has_shape(alloc: Global, graph: &Graph) -> Result<bool, NoMemory>
 }
 
 /// What the graph begins as.
-pub(crate) fn begun(alloc: Global, graph: &Graph) -> Result<Mixed, NoMemory>
+pub fn begun(alloc: Global, graph: &Graph) -> Result<Mixed, NoMemory>
     requires sound { is_sound graph.now ≡ true }
     requires begins { CanBegin graph.now }
     ensures { IfOk result (λ mixed. FromGraph graph.now mixed) }

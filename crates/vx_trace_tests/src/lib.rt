@@ -1,11 +1,11 @@
 // Tests of the traces of a function, on rows worked out by hand: which trace is picked, the words in which its operations stand, what
-// is copied at its splits and joins, and the text of the counts by which traces are picked. This crate has no code of its own.
+// is copied at its splits and joins, and the text of the counts by which traces are picked. What is compiled
+// always is what tests rest on.
 #![tactic(auto)]
 
-#[cfg(test)]
 mod begins;
 #[cfg(test)]
-mod graphs;
+mod passes;
 #[cfg(test)]
 mod picks;
 #[cfg(test)]
@@ -16,3 +16,5 @@ mod running;
 mod shapes;
 #[cfg(test)]
 mod steps;
+
+pub use begins::{begun, can_begin};

@@ -5,8 +5,8 @@ ghost use Rattle.vx_flow.specs.Sound.{is_sound};
 ghost use Rattle.vx_mixed.specs.Valid.{CanBegin};
 
 use crate::begins::{begun, can_begin};
-use crate::graphs::{Passed, Shape, counts, graph};
-use crate::shapes::{CALLING, FULL, LONG, LOOP, WITHOUT_ELSE};
+use crate::passes::{Passed, counts};
+use crate::shapes::{CALLING, FULL, LONG, LOOP};
 use std::alloc::Global;
 use std::test::Fail;
 use vx_base::outcome::NoMemory;
@@ -14,6 +14,7 @@ use vx_flow::graph::{BlockId, Graph};
 use vx_profile::counts::Counts;
 use vx_replace::Mixed;
 use vx_sound::graph_is_sound;
+use vx_test_graphs::{Shape, WITHOUT_ELSE, graph};
 use vx_trace::{count_of_trace, pick};
 
 /// A graph with its counts; then the trace that is picked, and the count of its seed.

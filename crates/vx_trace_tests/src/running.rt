@@ -7,7 +7,7 @@ ghost use Rattle.vx_mixed.specs.Valid.{CanBegin};
 ghost use Rattle.vx_region.specs.Regions.{IsGraphOf};
 
 use crate::begins::{begun, can_begin};
-use crate::graphs::{Act, Passed, Shape, counts, graph, op};
+use crate::passes::{Passed, counts};
 use std::alloc::Global;
 use vx_base::arithmetic::Code;
 use vx_base::outcome::NoMemory;
@@ -21,6 +21,7 @@ use vx_region::laws::{graphs_begin_so, steps_keep_the_graph};
 use vx_region::{Budget, Step, TracePlan, replace_one};
 use vx_replace::Mixed;
 use vx_sound::graph_is_sound;
+use vx_test_graphs::{Act, Shape, graph, op};
 use vx_test_machines::{Kind, machine};
 
 /// What is owed at a split: its place, the edge by which it leaves, the places of what is copied onto that, and its empty cycles.

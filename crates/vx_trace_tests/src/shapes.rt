@@ -1,18 +1,8 @@
 // The worked graphs. Values 0 to 5 are general ones, and value 6 is the branch value of a test.
 
-use crate::graphs::{Act, Part, Shape, Way};
 use vx_base::arithmetic::{Code, Compare};
-use vx_flow::graph::{Bank, Op, Operand};
-
-const BANKS: &[Bank] = &[
-    Bank::General,
-    Bank::General,
-    Bank::General,
-    Bank::General,
-    Bank::General,
-    Bank::General,
-    Bank::Branch,
-];
+use vx_flow::graph::{Op, Operand};
+use vx_test_graphs::{Act, BANKS, Part, Shape, Way};
 
 /// v6 = v1 < 10
 const TEST: Act = Act::On(Code::ToBranch(Compare::Lt), 6, 1, Operand::Number(10));
@@ -26,24 +16,6 @@ const DIFFERENCE: Act = Act::On(Code::Sub, 4, 1, Operand::Number(5));
 /// v2 = v2 + 1
 const STEP: Act = Act::On(Code::Add, 2, 2, Operand::Number(1));
 
-/// v4 = v3 * v1
-const PRODUCT: Act = Act::On(Code::Mpylu, 4, 3, Operand::Held(1));
-
-/// v5 = v2 + v4
-const TOTAL: Act = Act::On(Code::Add, 5, 2, Operand::Held(4));
-
-/// v3 = v1 + 5; if (v1 < 10) v2 = v2 + 1; return v2 + v3 * v1.
-pub(crate) const WITHOUT_ELSE: Shape<'static> = Shape {
-    parts: &[
-        Part(&[SUM, TEST], Way::Split(6, 1, 3)),
-        Part(&[STEP], Way::Goto(2)),
-        Part(&[PRODUCT, TOTAL], Way::Return(5)),
-        Part(&[], Way::Goto(2)),
-    ],
-    banks: BANKS,
-    parameters: &[1, 2],
-};
-
 /// v3 = v1 + 5; v4 = v1 - 5; if (v1 < 10) v2 = v2 + 1; v5 = v2 + v3; return v5 + v4 in v0.
 pub(crate) const SINKING: Shape<'static> = Shape {
     parts: &[
@@ -54,12 +26,13 @@ pub(crate) const SINKING: Shape<'static> = Shape {
                 Act::On(Code::Add, 5, 2, Operand::Held(3)),
                 Act::On(Code::Add, 0, 5, Operand::Held(4)),
             ],
-            Way::Return(0),
+            Way::Return(Operand::Held(0)),
         ),
         Part(&[], Way::Goto(2)),
     ],
-    banks: BANKS,
+    banks: &BANKS,
     parameters: &[1, 2],
+    arrays: &[],
 };
 
 /// v3 = v1 + 5; v4 = v1 - 5; if (v1 < 10) print v3; return v4.
@@ -70,12 +43,13 @@ pub(crate) const PRINTING: Shape<'static> = Shape {
             &[Act::Plain(Op::Decimal {
                 from: Operand::Held(3),
             })],
-            Way::Return(4),
+            Way::Return(Operand::Held(4)),
         ),
-        Part(&[], Way::Return(4)),
+        Part(&[], Way::Return(Operand::Held(4))),
     ],
-    banks: BANKS,
+    banks: &BANKS,
     parameters: &[1],
+    arrays: &[],
 };
 
 /// v0 = 7; v1 = v0 * v0; v2 = v1 + 1; then v3 = v2 * v0, which is returned.
@@ -96,11 +70,12 @@ pub(crate) const IN_LINE: Shape<'static> = Shape {
         ),
         Part(
             &[Act::On(Code::Mpylu, 3, 2, Operand::Held(0))],
-            Way::Return(3),
+            Way::Return(Operand::Held(3)),
         ),
     ],
-    banks: BANKS,
+    banks: &BANKS,
     parameters: &[],
+    arrays: &[],
 };
 
 /// v3 = v1 + 1
@@ -138,39 +113,55 @@ const TO_A_HOME: Act = Act::Plain(Op::Compute {
 
 /// v3 = v1 + 1; v4 = v2 + 1; v5 = v3 + v4, which is returned.
 pub(crate) const SUMS: Shape<'static> = Shape {
-    parts: &[Part(&[NEXT_LEFT, NEXT_RIGHT, BOTH], Way::Return(5))],
-    banks: BANKS,
+    parts: &[Part(
+        &[NEXT_LEFT, NEXT_RIGHT, BOTH],
+        Way::Return(Operand::Held(5)),
+    )],
+    banks: &BANKS,
     parameters: &[1, 2],
+    arrays: &[],
 };
 
 /// v2 = 9; v1 = 7; and behind a call the same sums.
 pub(crate) const SUMS_BEHIND_A_CALL: Shape<'static> = Shape {
     parts: &[
-        Part(&[RIGHT, LEFT], Way::Call(1)),
-        Part(&[NEXT_LEFT, NEXT_RIGHT, BOTH], Way::Return(5)),
+        Part(&[RIGHT, LEFT], Way::Call(0, None, None, None, 1)),
+        Part(
+            &[NEXT_LEFT, NEXT_RIGHT, BOTH],
+            Way::Return(Operand::Held(5)),
+        ),
     ],
-    banks: BANKS,
+    banks: &BANKS,
     parameters: &[],
+    arrays: &[],
 };
 
 /// v1 = 7; v2 = 9; and behind a call the same sums.
 pub(crate) const SUMS_TURNED: Shape<'static> = Shape {
     parts: &[
-        Part(&[LEFT, RIGHT], Way::Call(1)),
-        Part(&[NEXT_LEFT, NEXT_RIGHT, BOTH], Way::Return(5)),
+        Part(&[LEFT, RIGHT], Way::Call(0, None, None, None, 1)),
+        Part(
+            &[NEXT_LEFT, NEXT_RIGHT, BOTH],
+            Way::Return(Operand::Held(5)),
+        ),
     ],
-    banks: BANKS,
+    banks: &BANKS,
     parameters: &[],
+    arrays: &[],
 };
 
 /// v5 = 3; v1 = 7; and behind a call the same sums.
 pub(crate) const SUMS_TO_A_HOME: Shape<'static> = Shape {
     parts: &[
-        Part(&[TO_A_HOME, LEFT], Way::Call(1)),
-        Part(&[NEXT_LEFT, NEXT_RIGHT, BOTH], Way::Return(5)),
+        Part(&[TO_A_HOME, LEFT], Way::Call(0, None, None, None, 1)),
+        Part(
+            &[NEXT_LEFT, NEXT_RIGHT, BOTH],
+            Way::Return(Operand::Held(5)),
+        ),
     ],
-    banks: BANKS,
+    banks: &BANKS,
     parameters: &[2],
+    arrays: &[],
 };
 
 /// While v1 < 10, v1 = v1 + 1; return v1. Block 1 is the header.
@@ -178,21 +169,26 @@ pub(crate) const LOOP: Shape<'static> = Shape {
     parts: &[
         Part(&[], Way::Goto(1)),
         Part(&[TEST], Way::Split(6, 3, 2)),
-        Part(&[], Way::Return(1)),
+        Part(&[], Way::Return(Operand::Held(1))),
         Part(
             &[Act::On(Code::Add, 1, 1, Operand::Number(1))],
             Way::Goto(1),
         ),
     ],
-    banks: BANKS,
+    banks: &BANKS,
     parameters: &[1],
+    arrays: &[],
 };
 
 /// A call between two blocks.
 pub(crate) const CALLING: Shape<'static> = Shape {
-    parts: &[Part(&[SUM], Way::Call(1)), Part(&[], Way::Return(1))],
-    banks: BANKS,
+    parts: &[
+        Part(&[SUM], Way::Call(0, None, None, None, 1)),
+        Part(&[], Way::Return(Operand::Held(1))),
+    ],
+    banks: &BANKS,
     parameters: &[1],
+    arrays: &[],
 };
 
 /// Blocks of 256, 256, 1 and 0 operations, one after the other.
@@ -201,10 +197,11 @@ pub(crate) const LONG: Shape<'static> = Shape {
         Part(&[SUM; 256], Way::Goto(1)),
         Part(&[SUM; 256], Way::Goto(2)),
         Part(&[SUM], Way::Goto(3)),
-        Part(&[], Way::Return(1)),
+        Part(&[], Way::Return(Operand::Held(1))),
     ],
-    banks: BANKS,
+    banks: &BANKS,
     parameters: &[1],
+    arrays: &[],
 };
 
 /// Blocks of 256, 256 and 0 operations, one after the other.
@@ -212,8 +209,9 @@ pub(crate) const FULL: Shape<'static> = Shape {
     parts: &[
         Part(&[SUM; 256], Way::Goto(1)),
         Part(&[SUM; 256], Way::Goto(2)),
-        Part(&[], Way::Return(1)),
+        Part(&[], Way::Return(Operand::Held(1))),
     ],
-    banks: BANKS,
+    banks: &BANKS,
     parameters: &[1],
+    arrays: &[],
 };

@@ -1,9 +1,9 @@
 // Steps on worked graphs: the traces that are picked, their modes, words and copies, one after the other until no block is left.
 
-use crate::graphs::{Act, Passed};
+use crate::passes::Passed;
 use crate::running::{Row, Wanted, is_so};
 use crate::shapes::{
-    IN_LINE, PRINTING, SINKING, SUMS, SUMS_BEHIND_A_CALL, SUMS_TO_A_HOME, SUMS_TURNED, WITHOUT_ELSE,
+    IN_LINE, PRINTING, SINKING, SUMS, SUMS_BEHIND_A_CALL, SUMS_TO_A_HOME, SUMS_TURNED,
 };
 use std::alloc::Global;
 use std::test::Fail;
@@ -11,6 +11,7 @@ use vx_base::arithmetic::Code;
 use vx_base::outcome::NoMemory;
 use vx_dep::mode::Mode;
 use vx_flow::graph::{Edge, Op, Operand};
+use vx_test_graphs::{Act, WITHOUT_ELSE};
 use vx_test_machines::Kind;
 
 const ZERO_THREE: Edge = Edge { from: 0, to: 3 };

@@ -1,0 +1,13 @@
+// Graphs, programs of graphs and traces, written as constants, for the crates of tests: what is made is exactly what the constant
+// says.
+#![tactic(auto)]
+
+mod making;
+mod shapes;
+mod traces;
+mod worked;
+
+pub use making::{graph, op, program};
+pub use shapes::{Act, Part, Shape, Way, Whole};
+pub use traces::{Step, trace};
+pub use worked::{BANKS, WITHOUT_ELSE};
