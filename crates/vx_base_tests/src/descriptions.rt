@@ -1,5 +1,6 @@
 // The numbers of descriptions of machines.
 
+use crate::fields::fields_of;
 use std::alloc::Global;
 use vx_base::outcome::NoMemory;
 use vx_machine::{Machine, MachineFault, field_name, from_toml};
@@ -24,31 +25,9 @@ latency_divide = 8
 latency_copy = 1
 ";
 
-/// The counts of a machine, and then its latencies, in the order of their fields.
-fn numbers_of(machine: &Machine) -> [u32; 16] {
-    [
-        machine.clusters(),
-        machine.issue(),
-        machine.alus(),
-        machine.multipliers(),
-        machine.memory_units(),
-        machine.registers(),
-        machine.branch_registers(),
-        machine.read_ports(),
-        machine.write_ports(),
-        machine.copy_paths(),
-        machine.latency_alu(),
-        machine.latency_compare(),
-        machine.latency_multiply(),
-        machine.latency_load(),
-        machine.latency_divide(),
-        machine.latency_copy(),
-    ]
-}
-
 fn has_numbers(alloc: Global, kind: Kind, wanted: &[u32; 16]) -> bool {
     match machine(alloc, kind) {
-        Ok(machine) => numbers_of(&machine) == *wanted,
+        Ok(machine) => fields_of(&machine) == *wanted,
         Err(NoMemory) => false,
     }
 }

@@ -1,5 +1,5 @@
 // Tests of the base and of the word machine with its text, its descriptions and its simulator: each public call with ample
-// memory, and rows worked out by hand. This crate has no code of its own.
+// memory, and rows worked out by hand. What is compiled always is what the tests make and rest on.
 #![tactic(auto)]
 
 #[cfg(test)]
@@ -8,9 +8,9 @@ mod arithmetic;
 mod boxes;
 #[cfg(test)]
 mod descriptions;
+mod fields;
 #[cfg(test)]
 mod files;
-#[cfg(test)]
 mod programs;
 #[cfg(test)]
 mod rooms;
@@ -19,6 +19,11 @@ mod simulators;
 #[cfg(test)]
 mod sinks;
 #[cfg(test)]
+mod soundness;
+#[cfg(test)]
 mod texts;
 #[cfg(test)]
 mod words;
+
+pub use fields::fields_of;
+pub use programs::{program, word};

@@ -1,6 +1,7 @@
 // Programs as text: every form of an operation read and written again, one program written, and a few faulty texts.
 
-use crate::programs::{HALT, program};
+use crate::programs::program;
+use crate::soundness::HALT;
 use std::alloc::{AllocError, Global};
 use std::test::Fail;
 use vx_base::arithmetic::Code;
