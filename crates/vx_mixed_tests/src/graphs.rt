@@ -1,4 +1,5 @@
-// The worked graphs: a loop, and an `if` without `else`.
+// The worked graphs: a loop, and an `if` without `else`. They are those of the examples of vx_motion, of which traces and replacements
+// are proved.
 
 ghost use Rattle.std.specs.Prelude.{◌≡◌, true, IfOk};
 ghost use Rattle.vx_flow.specs.declared.graph.Op.TheVariants.{Compute};
@@ -10,23 +11,15 @@ ghost use Rattle.vx_motion.specs.TraceExample.{if_banks, if_blocks};
 
 use std::alloc::Global;
 use vx_base::arithmetic::{Code, Compare};
-use vx_base::listed::Listed;
+use vx_base::listed::{Listed, copied};
 use vx_base::outcome::NoMemory;
 use vx_flow::graph::{Bank, Block, Exit, Graph, Op, Operand};
 use vx_replace::Mixed;
 
-pub(crate) fn listed<T: Copy>(alloc: Global, items: &[T]) -> Result<Listed<T>, NoMemory>
-    ensures { IfOk result (λ list. list ≡ items.now) }
-{
-    let mut copy = Vec::new(alloc);
-    copy.extend_from_slice(items)?;
-    Ok(Listed::from_vec(copy)?)
-}
-
 fn block(alloc: Global, ops: &[Op], exit: Exit) -> Result<Block, NoMemory>
     ensures { IfOk result (λ block. block ≡ record { ops = ops.now; exit = exit }) }
 {
-    let ops = Listed::from_vec(ops.to_vec(alloc)?)?;
+    let ops = copied(alloc, ops)?;
     Ok(Block { ops, exit })
 }
 
@@ -60,12 +53,12 @@ fn counting_blocks(alloc: Global) -> Result<Listed<Block>, NoMemory>
 }
 
 /// v0 is read; while v0 < 10, v0 = v0 + 1; return v0, with the test in value 2. v1 is left.
-pub(crate) fn counting(alloc: Global) -> Result<Graph, NoMemory>
+pub fn counting(alloc: Global) -> Result<Graph, NoMemory>
     ensures blocks { IfOk result (λ graph. graph.blocks ≡ counting_blocks) }
     ensures banks { IfOk result (λ graph. graph.banks ≡ counting_banks) }
 {
     let banks = [Bank::General, Bank::General, Bank::Branch];
-    let banks = listed(alloc, &banks)?;
+    let banks = copied(alloc, &banks)?;
     let blocks = counting_blocks(alloc)?;
     Ok(Graph {
         blocks,
@@ -108,16 +101,16 @@ fn if_values(alloc: Global) -> Result<Listed<Bank>, NoMemory>
         Bank::General,
         Bank::Branch,
     ];
-    listed(alloc, &banks)
+    Ok(copied(alloc, &banks)?)
 }
 
 /// v3 = v1 + 5; if (v1 < 10) v2 = v2 + 1; return v2 + v3 * v1, with the test in value 6.
-pub(crate) fn without_else(alloc: Global) -> Result<Graph, NoMemory>
+pub fn without_else(alloc: Global) -> Result<Graph, NoMemory>
     ensures blocks { IfOk result (λ graph. graph.blocks ≡ if_blocks) }
     ensures banks { IfOk result (λ graph. graph.banks ≡ if_banks) }
 {
     let banks = if_values(alloc)?;
-    let parameters = listed(alloc, &[1, 2])?;
+    let parameters = copied(alloc, &[1, 2])?;
     let blocks = if_blocks(alloc)?;
     Ok(Graph {
         blocks,
@@ -129,7 +122,7 @@ pub(crate) fn without_else(alloc: Global) -> Result<Graph, NoMemory>
 
 /// What the `if` begins as.
 #[tactic(auto, using(vx_motion::proofs::Traced::if_begins))]
-pub(crate) fn if_begun(alloc: Global, graph: &Graph) -> Result<Mixed, NoMemory>
+pub fn if_begun(alloc: Global, graph: &Graph) -> Result<Mixed, NoMemory>
     requires sound { is_sound graph.now ≡ true }
     requires blocks { graph.now.blocks ≡ if_blocks }
     requires banks { graph.now.banks ≡ if_banks }

@@ -51,7 +51,8 @@ fn all_lead(place: usize, count: usize, words: &[VirtualWord]) -> bool
     }
 }
 
-pub(crate) fn lead_inside(words: &[VirtualWord]) -> bool
+/// Whether each word leads to words among these.
+pub fn lead_inside(words: &[VirtualWord]) -> bool
     ensures { result ≡ true → (p q : ℕ) (word : AWord) → slice_get words.now p ≡ Some word → LeadsTo p word q → q < length words.now }
 {
     all_lead(0, words.len(), words)

@@ -1,12 +1,10 @@
 // Tests of what turns a function's graph into words over values, and of where these are kept: each public call with ample memory,
-// and rows worked out by hand. This crate has no code of its own.
+// and rows worked out by hand. What is compiled always is what tests make and rest on.
 #![tactic(auto)]
 
 #[cfg(test)]
 mod begins;
-#[cfg(test)]
 mod graphs;
-#[cfg(test)]
 mod inside;
 #[cfg(test)]
 mod layouts;
@@ -16,3 +14,6 @@ mod registers;
 mod replacing;
 #[cfg(test)]
 mod traces;
+
+pub use graphs::{counting, if_begun, without_else};
+pub use inside::lead_inside;

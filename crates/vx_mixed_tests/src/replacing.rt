@@ -10,11 +10,11 @@ ghost use Rattle.vx_motion.specs.ReplaceExample.{if_homes, IsWorked};
 ghost use Rattle.vx_motion.specs.TraceExample.{if_banks, if_blocks};
 ghost use Rattle.vx_mixed.specs.TraceOf.{CanTrace, IsTraceOf};
 
-use crate::graphs::{if_begun, listed, without_else};
+use crate::graphs::{if_begun, without_else};
 use std::alloc::Global;
 use std::test::Fail;
 use vx_base::arithmetic::Code;
-use vx_base::listed::Listed;
+use vx_base::listed::{Listed, copied};
 use vx_base::outcome::NoMemory;
 use vx_flow::graph::{Edge, Graph, Op, Operand};
 use vx_flow::trace::{Homes, Trace};
@@ -27,7 +27,7 @@ use vx_sound::graph_is_sound;
 fn homes(alloc: Global) -> Result<Homes, NoMemory>
     ensures { IfOk result (λ homes. homes.clusters ≡ if_homes) }
 {
-    let clusters = listed(alloc, &[Some(0); 7])?;
+    let clusters = copied(alloc, &[Some(0); 7])?;
     Ok(Homes { clusters })
 }
 
@@ -41,8 +41,8 @@ fn product(alloc: Global) -> Result<Listed<Made>, NoMemory>
         left: Operand::Held(3),
         right: Operand::Held(1),
     };
-    let ops = listed(alloc, &[product])?;
-    let clusters = listed(alloc, &[0])?;
+    let ops = copied(alloc, &[product])?;
+    let clusters = copied(alloc, &[0])?;
     let mut made = Listed::new(alloc);
     made.push(Made {
         edge: Edge { from: 3, to: 2 },
@@ -64,10 +64,10 @@ fn with_words(
     ensures trace { IfOk result (λ replaced. replaced.trace ≡ trace) }
     ensures worked { IfOk result (λ replaced. IsWorked replaced) }
 {
-    let clusters = listed(alloc, &[0, 0, 0, 0, 0, 0])?;
-    let words = listed(alloc, &[0, 0, 2, 3, 1, 4])?;
-    let drains = listed(alloc, &[0])?;
-    let rejoins = listed(alloc, &[4])?;
+    let clusters = copied(alloc, &[0, 0, 0, 0, 0, 0])?;
+    let words = copied(alloc, &[0, 0, 2, 3, 1, 4])?;
+    let drains = copied(alloc, &[0])?;
+    let rejoins = copied(alloc, &[4])?;
     Ok(Replacement {
         trace,
         clusters,
