@@ -3,9 +3,10 @@
 use std::alloc::{AllocError, Global};
 use std::test::Fail;
 use vx_base::outcome::NoMemory;
-use vx_io::depot::{Depot, DepotFault, MemDepot};
+use vx_io::depot::{Depot, DepotFault};
 use vx_io::reading::{FileRead, read_file};
 use vx_io::real::RealDepot;
+use vx_test_files::depot::MemDepot;
 
 /// A file under a name.
 fn file(alloc: Global, name: &str, content: &[u8]) -> Result<(String, Vec<u8>), AllocError> {

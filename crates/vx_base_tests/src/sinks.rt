@@ -3,9 +3,9 @@
 use std::alloc::Global;
 use std::test::Fail;
 use vx_base::outcome::NoMemory;
-use vx_io::lines::Lines;
 use vx_io::real::RealSink;
 use vx_io::sink::{MemSink, Sink, SinkFault, put_all};
+use vx_test_files::lines::Lines;
 
 /// A sink with room for five bytes, of which the second put fails.
 fn sink(alloc: Global) -> Result<MemSink, NoMemory> {

@@ -1,10 +1,9 @@
-// The files and streams of the outside: depots and sinks, in memory and of the system, the reading of a whole file, and
-// the lines of a text.
+// The files and streams of the outside: what a depot and a sink are, those of the system, a sink in memory, and the
+// reading of a whole file.
 #![tactic(auto)]
 
 pub mod depot;
 pub mod laws;
-pub mod lines;
 pub mod reading;
 pub mod real;
 pub mod role;

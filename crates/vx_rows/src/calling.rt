@@ -6,9 +6,10 @@ use crate::rows::Step;
 use crate::sheet::{Boxes, Faulty, Statement, Stream};
 use std::alloc::{AllocError, Global};
 use vx_driver::top::vexc;
-use vx_io::depot::{Depot, MemDepot};
+use vx_io::depot::Depot;
 use vx_io::sink::{MemSink, Sink};
 use vx_probe::{Cyclic, Early, Late, Probe, Timing, UnitUse, WordCount};
+use vx_test_files::depot::MemDepot;
 
 /// What a call left.
 #[derive(Drop)]

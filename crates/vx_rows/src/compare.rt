@@ -5,7 +5,7 @@ use crate::content::number_of;
 use crate::files::{Stored, bytes_under};
 use crate::rows::Step;
 use crate::sheet::{Behind, Piece, Statement, Stream, Topic, What, before_gap};
-use vx_io::depot::MemDepot;
+use vx_test_files::depot::MemDepot;
 
 /// What stands behind the end of a line.
 fn behind_line(bytes: &[u8]) -> Option<&[u8]> {

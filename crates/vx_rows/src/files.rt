@@ -5,7 +5,8 @@ use crate::rows::Row;
 use crate::sheet::{Piece, Statement, What};
 use std::alloc::{AllocError, Global};
 use vx_base::outcome::NoMemory;
-use vx_io::depot::{Depot, MemDepot};
+use vx_io::depot::Depot;
+use vx_test_files::depot::MemDepot;
 
 /// A file.
 #[derive(Drop)]

@@ -4,7 +4,7 @@ use crate::content::{is_content, piece_of};
 use crate::sheet::{Behind, Boxes, Faulty, Piece, Statement, Stream, Topic, What};
 use crate::why::{Misread, Why};
 use std::alloc::Global;
-use vx_io::lines::{Line, Lines};
+use vx_test_files::lines::{Line, Lines};
 
 /// The name that stands first among the words of each call.
 const PROGRAM: &str = "vexc";

@@ -7,9 +7,9 @@ use crate::halt::Halt;
 use crate::rows::{Row, Step};
 use crate::sheet::{Statement, Stream, What};
 use crate::why::Misread;
-use vx_io::depot::MemDepot;
-use vx_io::lines::{Line, Lines};
 use vx_io::sink::{Sink, put_all};
+use vx_test_files::depot::MemDepot;
+use vx_test_files::lines::{Line, Lines};
 
 /// How many lines of what came are printed.
 const MOST_LINES: u32 = 20;

@@ -1,8 +1,8 @@
 use Rattle.std.proofs.Common.{◌≡◌, ◌≢◌, ◌<◌, ◌≤◌, ◌+◌, ℕ, List, All, length, take_all, arith, subst, add-one}
 use Rattle.std.specs.List.{prefix_len}
 use Rattle.vx_io.proofs.PutSoFar.{slice_from}
-use Rattle.vx_io.proofs.LineLemmas.{lines_of-ended, lines_of-last, is_inside}
-use Rattle.vx_io.proofs.lines.split_line.Goals as goal
+use Rattle.vx_test_files.proofs.LineLemmas.{lines_of-ended, lines_of-last, is_inside}
+use Rattle.vx_test_files.proofs.lines.split_line.Goals as goal
 
 pub returns-then-length-text-clause-first : goal.returns-then-length-text-clause-first
 returns-then-length-text-clause-first c =

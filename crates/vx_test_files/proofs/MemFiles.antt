@@ -7,7 +7,8 @@ use Rattle.std.specs.Str.{bytes_eq}
 use Rattle.std.proofs.lemmas.Bool.{cases_Bool, false≢true}
 use Rattle.std.proofs.lemmas.Slice.Eq.{bytes_eq-Decides}
 use Rattle.std.proofs.lemmas.List.Sums.{prefix_len_stops}
-use Rattle.vx_io.specs.Outside.{content_in, named_files, held_with, Files, ReadsAt}
+use Rattle.vx_io.specs.Outside.{held_with, Files, ReadsAt}
+use Rattle.vx_test_files.specs.Memory.{content_in, named_files}
 
 abbrev pub Stored : Type 0
 Stored = String Global × Vec ℕ Global

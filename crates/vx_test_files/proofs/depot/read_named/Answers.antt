@@ -1,7 +1,7 @@
 use Rattle.std.proofs.Common.{sym, arith}
-use Rattle.vx_io.specs.Outside.{content_in, named_files}
-use Rattle.vx_io.proofs.MemFiles.{ReadsAt-copied}
-use Rattle.vx_io.proofs.depot.read_named.Goals as goal
+use Rattle.vx_test_files.specs.Memory.{content_in, named_files}
+use Rattle.vx_test_files.proofs.MemFiles.{ReadsAt-copied}
+use Rattle.vx_test_files.proofs.depot.read_named.Goals as goal
 
 pub returns-in-Some-clause-bytes : goal.returns-in-Some-clause-bytes
 returns-in-Some-clause-bytes c =

@@ -1,7 +1,7 @@
 use Rattle.std.proofs.Common.{◌≡◌, false, rules}
-use Rattle.vx_io.specs.Outside.{next_fails}
-use Rattle.vx_io.proofs.MemFiles.{neither}
-use Rattle.vx_io.proofs.depot.MemDepotDepot.replace.Goals as goal
+use Rattle.vx_test_files.specs.Memory.{next_fails}
+use Rattle.vx_test_files.proofs.MemFiles.{neither}
+use Rattle.vx_test_files.proofs.depot.MemDepotDepot.replace.Goals as goal
 
 pub returns-in_err-content-clause-fails_as_listed : goal.returns-in_err-content-clause-fails_as_listed
 returns-in_err-content-clause-fails_as_listed c =

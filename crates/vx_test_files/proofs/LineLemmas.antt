@@ -2,7 +2,7 @@
 use Rattle.std.proofs.Common.{◌≡◌, ◌<◌, ◌≤◌, ◌==◌, ℕ, suc, Bool, true, false, not, List, [], ◌∷◌, length, take, drop, refl, arith, inl, inr, one-add}
 use Rattle.std.specs.List.{prefix_len}
 use Rattle.std.proofs.lemmas.Bool.{cases_Bool}
-use Rattle.vx_io.specs.Lines.{lines_of}
+use Rattle.vx_test_files.specs.Lines.{lines_of}
 
 -- a byte that ends no line
 abbrev pub is_inside : ℕ → Bool

@@ -1,7 +1,7 @@
 use Rattle.std.proofs.Common.{◌∙◌, sym, ap, ◌<◌, ◌≤◌, length, arith, Some, List, ℕ}
 use Rattle.std.specs.List.{prefix_len}
-use Rattle.vx_io.proofs.MemFiles.{content-here, content-none, is_other}
-use Rattle.vx_io.proofs.depot.content_of.Goals as goal
+use Rattle.vx_test_files.proofs.MemFiles.{content-here, content-none, is_other}
+use Rattle.vx_test_files.proofs.depot.content_of.Goals as goal
 
 pub returns-then-at-files : goal.returns-then-at-files
 returns-then-at-files c =

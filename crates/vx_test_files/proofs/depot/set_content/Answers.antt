@@ -2,8 +2,8 @@ use Rattle.std.proofs.Common.{◌≡◌, ◌<◌, ◌≤◌, ◌∙◌, List, le
 use Rattle.std.specs.List.{prefix_len}
 use Rattle.std.specs.Prelude.{string_bytes}
 use Rattle.std.proofs.Math.Path.{fun_ext}
-use Rattle.vx_io.proofs.MemFiles.{content-set, content-push, name-here, is_other, Stored}
-use Rattle.vx_io.proofs.depot.set_content.Goals as goal
+use Rattle.vx_test_files.proofs.MemFiles.{content-set, content-push, name-here, is_other, Stored}
+use Rattle.vx_test_files.proofs.depot.set_content.Goals as goal
 
 pub returns-then-at-len-clause-set : goal.returns-then-at-len-clause-set
 returns-then-at-len-clause-set c =

@@ -1,7 +1,7 @@
 use Rattle.std.proofs.Common.{◌≡◌, false, rules}
-use Rattle.vx_io.specs.Outside.{next_fails}
-use Rattle.vx_io.proofs.MemFiles.{neither}
-use Rattle.vx_io.proofs.depot.MemDepotDepot.read_at.Goals as goal
+use Rattle.vx_test_files.specs.Memory.{next_fails}
+use Rattle.vx_test_files.proofs.MemFiles.{neither}
+use Rattle.vx_test_files.proofs.depot.MemDepotDepot.read_at.Goals as goal
 
 pub returns-clause-fails_as_listed : goal.returns-clause-fails_as_listed
 returns-clause-fails_as_listed c =

@@ -1,0 +1,4 @@
+pub mod MemFiles
+pub mod LineLemmas
+pub mod LinesLaw
+mod MemoryRows
