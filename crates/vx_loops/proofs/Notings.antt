@@ -11,6 +11,8 @@ use Rattle.vx_flow.specs.declared.graph.Op.{Op}
 use Rattle.vx_flow.specs.declared.graph.Exit.{Exit}
 use Rattle.vx_flow.specs.declared.graph.Exit.TheVariants.{Call}
 use Rattle.vx_flow.specs.Effects.{writes}
+use Rattle.vx_flow.specs.Operands.{value_list, written_by}
+use Rattle.vx_flow.proofs.OperandLaws.{writes_are}
 use Rattle.vx_flow.specs.Sound.{results_of_exit}
 use Rattle.vx_flow.specs.declared.graph.Block.{Block}
 use Rattle.vx_loops.specs.declared.notes.Loops.{Loops}
@@ -169,17 +171,21 @@ again_is writers times n p last before x lt same a b e =
 
 -- operations and exits
 
-pub op_wrote : (m w s : List ℕ) (c : Bool) (l : Loops) (op made : Op) (v : ℕ) → op ≡ made → writes made ≡ v ∷ [] → stores_of made ≡ [] → Notes m (w ++ v ∷ []) s c l → Notes m (w ++ writes op) (s ++ stores_of op) c l
-op_wrote m w s c l op made v e ws ss h =
-    subst (λ z. Notes m (w ++ writes z) (s ++ stores_of z) c l) (sym e) (subst (λ z. Notes m (w ++ z) (s ++ stores_of made) c l) (sym ws) (subst (λ z. Notes m (w ++ v ∷ []) (s ++ z) c l) (sym ss) (subst (λ z. Notes m (w ++ v ∷ []) z c l) (sym (append-nil s)) h)))
+pub op_noted : (m w s : List ℕ) (c : Bool) (l : Loops) (op : Op) (v a : Option ℕ) → v ≡ written_by op → value_list a ≡ stores_of op → Notes m (w ++ value_list v) (s ++ value_list a) c l → Notes m (w ++ writes op) (s ++ stores_of op) c l
+op_noted m w s c l op v a e f h =
+    subst (λ z. Notes m (w ++ writes op) (s ++ z) c l) f (subst (λ z. Notes m (w ++ z) (s ++ value_list a) c l) (ap value_list e ∙ writes_are op) h)
 
-pub op_stored : (m w s : List ℕ) (c : Bool) (l : Loops) (op made : Op) (a : ℕ) → op ≡ made → writes made ≡ [] → stores_of made ≡ a ∷ [] → Notes m w (s ++ a ∷ []) c l → Notes m (w ++ writes op) (s ++ stores_of op) c l
-op_stored m w s c l op made a e ws ss h =
-    subst (λ z. Notes m (w ++ writes z) (s ++ stores_of z) c l) (sym e) (subst (λ z. Notes m (w ++ z) (s ++ stores_of made) c l) (sym ws) (subst (λ z. Notes m (w ++ []) (s ++ z) c l) (sym ss) (subst (λ z. Notes m z (s ++ a ∷ []) c l) (sym (append-nil w)) h)))
+pub some_written : (m w s : List ℕ) (c : Bool) (l : Loops) (value : Option ℕ) (v : ℕ) → value ≡ Some v → Notes m (w ++ v ∷ []) s c l → Notes m (w ++ value_list value) s c l
+some_written m w s c l value v e h = subst (λ z. Notes m (w ++ value_list z) s c l) (sym e) h
 
-pub op_quiet : (m w s : List ℕ) (c : Bool) (l : Loops) (op made : Op) → op ≡ made → writes made ≡ [] → stores_of made ≡ [] → Notes m w s c l → Notes m (w ++ writes op) (s ++ stores_of op) c l
-op_quiet m w s c l op made e ws ss h =
-    subst (λ z. Notes m (w ++ writes z) (s ++ stores_of z) c l) (sym e) (subst (λ z. Notes m (w ++ z) (s ++ stores_of made) c l) (sym ws) (subst (λ z. Notes m (w ++ []) (s ++ z) c l) (sym ss) (subst (λ z. Notes m z (s ++ []) c l) (sym (append-nil w)) (subst (λ z. Notes m w z c l) (sym (append-nil s)) h))))
+pub none_written : (m w s : List ℕ) (c : Bool) (l : Loops) (value : Option ℕ) → value ≡ None → Notes m w s c l → Notes m (w ++ value_list value) s c l
+none_written m w s c l value e h = subst (λ z. Notes m (w ++ value_list z) s c l) (sym e) (subst (λ z. Notes m z s c l) (sym (append-nil w)) h)
+
+pub some_stored : (m w s : List ℕ) (c : Bool) (l : Loops) (array : Option ℕ) (a : ℕ) → array ≡ Some a → Notes m w (s ++ a ∷ []) c l → Notes m w (s ++ value_list array) c l
+some_stored m w s c l array a e h = subst (λ z. Notes m w (s ++ value_list z) c l) (sym e) h
+
+pub none_stored : (m w s : List ℕ) (c : Bool) (l : Loops) (array : Option ℕ) → array ≡ None → Notes m w s c l → Notes m w (s ++ value_list array) c l
+none_stored m w s c l array e h = subst (λ z. Notes m w (s ++ value_list z) c l) (sym e) (subst (λ z. Notes m w z c l) (sym (append-nil s)) h)
 
 or_true : (c : Bool) → true ≡ (c || true)
 or_true true = refl
@@ -189,13 +195,13 @@ or_false : (c : Bool) → c ≡ (c || false)
 or_false true = refl
 or_false false = refl
 
-pub exit_wrote : (m w s : List ℕ) (c : Bool) (l : Loops) (exit : Exit) (f : ℕ) (arguments : List Operand) (held : Option ℕ) (next v : ℕ) → exit ≡ Call f arguments held next → held ≡ Some v → Notes m (w ++ v ∷ []) s true l → Notes m (w ++ results_of_exit exit) s (c || is_call exit) l
-exit_wrote m w s c l exit f arguments held next v e k h =
-    subst (λ z. Notes m (w ++ results_of_exit z) s (c || is_call z) l) (sym e) (subst (λ z. Notes m (w ++ results_of_exit (Call f arguments z next)) s (c || is_call (Call f arguments z next)) l) (sym k) (subst (λ z. Notes m (w ++ v ∷ []) s z l) (or_true c) h))
+result_is : (f : ℕ) (arguments : List Operand) (held : Option ℕ) (next : ℕ) → value_list held ≡ results_of_exit (Call f arguments held next)
+result_is f arguments None next = refl
+result_is f arguments (Some v) next = refl
 
-pub exit_called : (m w s : List ℕ) (c : Bool) (l : Loops) (exit : Exit) (f : ℕ) (arguments : List Operand) (held : Option ℕ) (next : ℕ) → exit ≡ Call f arguments held next → held ≡ None → Notes m w s true l → Notes m (w ++ results_of_exit exit) s (c || is_call exit) l
-exit_called m w s c l exit f arguments held next e k h =
-    subst (λ z. Notes m (w ++ results_of_exit z) s (c || is_call z) l) (sym e) (subst (λ z. Notes m (w ++ results_of_exit (Call f arguments z next)) s (c || is_call (Call f arguments z next)) l) (sym k) (subst (λ z. Notes m (w ++ []) s z l) (or_true c) (subst (λ z. Notes m z s true l) (sym (append-nil w)) h)))
+pub exit_called : (m w s : List ℕ) (c : Bool) (l : Loops) (exit : Exit) (f : ℕ) (arguments : List Operand) (held : Option ℕ) (next : ℕ) → exit ≡ Call f arguments held next → Notes m (w ++ value_list held) s true l → Notes m (w ++ results_of_exit exit) s (c || is_call exit) l
+exit_called m w s c l exit f arguments held next e h =
+    subst (λ z. Notes m (w ++ results_of_exit z) s (c || is_call z) l) (sym e) (subst (λ z. Notes m (w ++ z) s (c || true) l) (result_is f arguments held next) (subst (λ z. Notes m (w ++ value_list held) s z l) (or_true c) h))
 
 pub exit_quiet : (m w s : List ℕ) (c : Bool) (l : Loops) (exit made : Exit) → exit ≡ made → results_of_exit made ≡ [] → is_call made ≡ false → Notes m w s c l → Notes m (w ++ results_of_exit exit) s (c || is_call exit) l
 exit_quiet m w s c l exit made e r k h =

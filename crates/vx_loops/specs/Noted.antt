@@ -1,6 +1,6 @@
 -- What is noted of the loop that is looked at. The loops that are looked at are numbered one after the other. In each row of notes
 -- stands, at the number of a block, a value or an array, the number of the loop for which it was noted last.
-use Rattle.std.specs.Prelude.{◌≡◌, ◌==◌, ◌+◌, ◌-◌, ◌^◌, ◌<◌, ◌≤◌, ◌&&◌, ◌||◌, ℕ, Bool, true, false, if◌then◌else◌, List, [], ◌∷◌, ◌++◌, Option, Some, None, slice_get, slice_index_or, length, min, nat_lt}
+use Rattle.std.specs.Prelude.{◌≡◌, ◌⊎◌, ◌==◌, ◌+◌, ◌-◌, ◌^◌, ◌<◌, ◌≤◌, ◌&&◌, ◌||◌, ℕ, Bool, true, false, if◌then◌else◌, List, [], ◌∷◌, ◌++◌, Option, Some, None, slice_get, slice_index_or, length, min, nat_lt}
 use Rattle.std.specs.List.{flat_map}
 use Rattle.vx_flow.specs.declared.graph.Operand.{Operand}
 use Rattle.vx_flow.specs.declared.graph.Operand.TheVariants.{Held, Number, Stack}
@@ -10,12 +10,12 @@ use Rattle.vx_flow.specs.declared.graph.Exit.{Exit}
 use Rattle.vx_flow.specs.declared.graph.Exit.TheVariants.{Call}
 use Rattle.vx_flow.specs.declared.graph.Block.{Block}
 use Rattle.vx_flow.specs.declared.graph.Graph.{Graph}
-use Rattle.vx_flow.specs.Effects.{writes}
+use Rattle.vx_flow.specs.Effects.{IsIn, writes}
 use Rattle.vx_flow.specs.Sound.{results_of_exit}
 use Rattle.vx_flow.specs.Rows.{row_at}
 use Rattle.vx_loops.specs.declared.notes.Loops.{Loops}
 use Rattle.vx_loops.specs.Order.{times_in}
-use Rattle.vx_loops.specs.Path.{all_targets}
+use Rattle.vx_loops.specs.Path.{all_targets, Leads}
 
 -- what the notes say
 
@@ -108,14 +108,27 @@ pub record LooksAt (blocks : List Block) (l : Loops) : Type 0 where
   pub stores : (a : ℕ) → a < length l.stores.items → is_stored l a ≡ nat_lt 0 (times_in a (stores_in blocks members))
   pub calls : has_call l ≡ calls_in blocks members
 
--- the tables have a place for each block, value and array of a graph, and for each block as many edges as lead to it
-pub record TablesOf (g : Graph) (l : Loops) : Type 0 where
-  pub members : length l.members.items ≡ length g.blocks
-  pub values : length l.writers.items ≡ length g.banks
-  pub arrays : length l.stores.items ≡ length g.arrays
-  pub edges : (b : ℕ) → b < length g.blocks → length (row_at l.sources.items b) ≡ times_in b (all_targets g.blocks)
+-- for each block the blocks from which edges lead to it: no others stand in its row, and there are as many as the first blocks have
+-- such edges
+pub record SourcesOf (blocks first : List Block) (sources : List (List ℕ)) : Type 0 where
+  pub rows : length sources ≡ length blocks
+  pub count : (b : ℕ) → b < length blocks → length (row_at sources b) ≡ times_in b (all_targets first)
+  pub leads : (from b : ℕ) → IsIn from (row_at sources b) → Leads blocks from b
 
--- as many more edges are noted as lead to these blocks
-pub record Gains (targets : List ℕ) (before after : List (List ℕ)) : Type 0 where
+-- the tables have a place for each block, value and array of a graph, and for each block those from which edges lead to it, one for
+-- each edge
+pub record TablesIn (g : Graph) (member_row writer_row store_row : List ℕ) (sources : List (List ℕ)) : Type 0 where
+  pub members : length member_row ≡ length g.blocks
+  pub values : length writer_row ≡ length g.banks
+  pub arrays : length store_row ≡ length g.arrays
+  pub edges : (b : ℕ) → b < length g.blocks → length (row_at sources b) ≡ times_in b (all_targets g.blocks)
+  pub leads : (from b : ℕ) → IsIn from (row_at sources b) → Leads g.blocks from b
+
+abbrev pub TablesOf : Graph → Loops → Type 0
+TablesOf g l = TablesIn g l.members.items l.writers.items l.stores.items l.sources.items
+
+-- as many more edges are noted as lead from a block to these, and no others
+pub record Gains (from : ℕ) (targets : List ℕ) (before after : List (List ℕ)) : Type 0 where
   pub rows : length after ≡ length before
   pub more : (b : ℕ) → b < length before → length (row_at after b) ≡ length (row_at before b) + times_in b targets
+  pub leads : (other b : ℕ) → IsIn other (row_at after b) → IsIn other (row_at before b) ⊎ ((other ≡ from) × IsIn b targets)

@@ -25,10 +25,9 @@ HasWay blocks first way = (last : ℕ) × Way blocks first last way
 abbrev pub EachFrom : List ℕ → List ℕ → Type 0
 EachFrom all some = (b : ℕ) → IsIn b some → IsIn b all
 
--- a block is there and ends by a jump
-pub record Jumps (blocks : List Block) (place : ℕ) : Type 0 where
+-- a block is there and ends by a jump to another
+pub record Jumps (blocks : List Block) (place next : ℕ) : Type 0 where
   pub block : Block
-  pub next : ℕ
   pub there : slice_get blocks place ≡ Some block
   pub jumps : block.exit ≡ Goto next
 

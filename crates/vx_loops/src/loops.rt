@@ -1,12 +1,13 @@
 // The loops of a graph: for a header the blocks of its loop, what these do, and the blocks that each turn passes. Which blocks are
 // found owes nothing: what is made of them is tested by those who ask.
 
-ghost use Rattle.std.specs.Prelude.{◌≡◌, ◌<◌, ◌-◌, ◌^◌, ◌∷◌, ℕ, List, [], false, IfOk, IfSome, length, replicate};
+ghost use Rattle.std.specs.Prelude.{◌≡◌, ◌<◌, ◌≤◌, ◌+◌, ◌-◌, ◌^◌, ◌∷◌, ℕ, List, [], false, IfOk, IfSome, length, replicate};
+ghost use Rattle.vx_flow.specs.declared.graph.Graph.{Graph};
 ghost use Rattle.vx_flow.specs.Rows.{row_at};
 ghost use Rattle.vx_flow.specs.Effects.{IsIn};
 ghost use Rattle.vx_flow.specs.Sound.{targets_of};
-ghost use Rattle.vx_loops.specs.Noted.{Gains, LooksAt, Notes, NotesOf, TablesOf};
-ghost use Rattle.vx_loops.specs.Path.{all_targets, EachFrom, HasWay, Jumps, Leads};
+ghost use Rattle.vx_loops.specs.Noted.{Gains, LooksAt, Notes, NotesOf, SourcesOf, TablesOf};
+ghost use Rattle.vx_loops.specs.Path.{EachFrom, HasWay, Jumps, Leads};
 
 use crate::notes::Loops;
 use crate::ordering::order_of;
@@ -22,6 +23,7 @@ const MOST_EDGES: usize = 512;
 pub fn loops_of(alloc: Global, graph: &Graph) -> Result<Loops, NoMemory>
     ensures tables { IfOk result (λ loops. TablesOf graph.now loops) }
     ensures nothing { IfOk result (λ loops. Notes [] [] [] false loops) }
+    ensures number { IfOk result (λ loops. loops.number ≡ 0) }
 {
     let count = graph.blocks.len();
     let blocks = graph.blocks.as_slice();
@@ -56,7 +58,7 @@ fn ranks_of(alloc: Global, order: &[BlockId], blocks: usize) -> Result<Vec<usize
 
 /// The edges of a graph, by the blocks to which they lead.
 fn sources_of(alloc: Global, blocks: &[Block]) -> Result<Vec<Listed<BlockId>>, NoMemory>
-    ensures { length blocks.now < 2 ^ 32 → IfOk result (λ sources. Gains (all_targets blocks.now) (replicate (length blocks.now) []) sources.items) }
+    ensures { length blocks.now < 2 ^ 32 → IfOk result (λ sources. SourcesOf blocks.now blocks.now sources.items) }
 {
     let mut sources = no_sources(alloc, blocks.len())?;
     for (place, block) in blocks.iter().enumerate() {
@@ -66,7 +68,7 @@ fn sources_of(alloc: Global, blocks: &[Block]) -> Result<Vec<Listed<BlockId>>, N
 }
 
 fn note_block(sources: &mut Vec<Listed<BlockId>>, place: usize, exit: &Exit) -> Result<(), NoMemory>
-    ensures { place < 2 ^ 32 → IfOk result (λ _. Gains (targets_of exit.now) sources.old.items sources.new.items) }
+    ensures { place < 2 ^ 32 → IfOk result (λ _. Gains place (targets_of exit.now) sources.old.items sources.new.items) }
 {
     if place <= u32::MAX as usize {
         note_exit(sources, place as BlockId, exit)
@@ -86,7 +88,7 @@ fn no_sources(alloc: Global, count: usize) -> Result<Vec<Listed<BlockId>>, NoMem
 }
 
 fn note_exit(sources: &mut Vec<Listed<BlockId>>, from: BlockId, exit: &Exit) -> Result<(), NoMemory>
-    ensures { IfOk result (λ _. Gains (targets_of exit.now) sources.old.items sources.new.items) }
+    ensures { IfOk result (λ _. Gains from (targets_of exit.now) sources.old.items sources.new.items) }
 {
     match exit {
         Exit::Goto(next) => note(sources, from, *next),
@@ -101,7 +103,7 @@ fn note_exit(sources: &mut Vec<Listed<BlockId>>, from: BlockId, exit: &Exit) -> 
 }
 
 fn note(sources: &mut Vec<Listed<BlockId>>, from: BlockId, to: BlockId) -> Result<(), NoMemory>
-    ensures { IfOk result (λ _. Gains (to ∷ []) sources.old.items sources.new.items) }
+    ensures { IfOk result (λ _. Gains from (to ∷ []) sources.old.items sources.new.items) }
 {
     let place = to as usize;
     if place < sources.len() {
@@ -112,16 +114,19 @@ fn note(sources: &mut Vec<Listed<BlockId>>, from: BlockId, to: BlockId) -> Resul
 }
 
 /// Looks at the loop of a header. Answers the block before it, where it is a header, and one block alone leads to it from outside,
-/// by a jump; the notes then tell what the blocks of its loop do. After 2^64 - 2 loops they tell nothing.
+/// by a jump to it; the notes then tell what the blocks of its loop do. After 2^64 - 2 loops they tell nothing: the number of a loop
+/// is at most that of the calls so far, and so of the blocks where each is asked of once.
 pub fn loop_at(
     alloc: Global,
     blocks: &[Block],
     loops: &mut Loops,
     header: usize,
 ) -> Result<Option<usize>, NoMemory>
-    ensures before { IfOk result (λ found. IfSome found (λ before. Jumps blocks.now before)) }
+    ensures before { IfOk result (λ found. IfSome found (λ before. Jumps blocks.now before header)) }
     ensures source { IfOk result (λ found. IfSome found (λ before. IsIn before (row_at loops.old.sources.items header))) }
     ensures looks { IfOk result (λ found. IfSome found (λ _. loops.new.number < 2 ^ 64 - 1 → LooksAt blocks.now loops.new)) }
+    ensures tables { IfOk result (λ _. (g : Graph) → TablesOf g loops.old → TablesOf g loops.new) }
+    ensures number { IfOk result (λ _. loops.new.number ≤ loops.old.number + 1) }
 {
     let ends = split_sources(alloc, loops, header)?;
     let [before] = ends.before.as_slice() else {
@@ -131,7 +136,7 @@ pub fn loop_at(
     if ends.inside.len() == 0 || !gather(loops, blocks, header, ends.inside)? {
         return Ok(None);
     }
-    Ok(jumping(blocks, entry))
+    Ok(jumping(blocks, entry, header))
 }
 
 /// Looks at the loop of a block, which is empty where the block is no header. Answers the blocks that lead to it from outside, none
@@ -145,6 +150,8 @@ pub fn entries_at(
 ) -> Result<Vec<BlockId>, NoMemory>
     ensures sources { IfOk result (λ entries. EachFrom (row_at loops.old.sources.items header) entries.items) }
     ensures looks { IfOk result (λ _. loops.new.number < 2 ^ 64 - 1 → LooksAt blocks.now loops.new) }
+    ensures tables { IfOk result (λ _. (g : Graph) → TablesOf g loops.old → TablesOf g loops.new) }
+    ensures number { IfOk result (λ _. loops.new.number ≤ loops.old.number + 1) }
 {
     let ends = split_sources(alloc, loops, header)?;
     let before = ends.before;
@@ -182,14 +189,20 @@ fn split_sources(alloc: Global, loops: &Loops, block: usize) -> Result<Sources, 
     Ok(sources)
 }
 
-/// The block, where it ends by a jump.
-fn jumping(blocks: &[Block], found: usize) -> Option<usize>
-    ensures jumps { IfSome result (λ before. Jumps blocks.now before) }
+/// The block, where it ends by a jump to the header.
+fn jumping(blocks: &[Block], found: usize, header: usize) -> Option<usize>
+    ensures jumps { IfSome result (λ before. Jumps blocks.now before header) }
     ensures same { IfSome result (λ before. before ≡ found) }
 {
     match blocks.get(found) {
         Some(block) => match &block.exit {
-            Exit::Goto(_) => Some(found),
+            Exit::Goto(next) => {
+                if *next as usize == header {
+                    Some(found)
+                } else {
+                    None
+                }
+            }
             _ => None,
         },
         None => None,
@@ -204,7 +217,9 @@ fn gather(
     header: usize,
     inside: Vec<BlockId>,
 ) -> Result<bool, NoMemory>
-    ensures { IfOk result (λ _. loops.new.number < 2 ^ 64 - 1 → LooksAt blocks.now loops.new) }
+    ensures looks { IfOk result (λ _. loops.new.number < 2 ^ 64 - 1 → LooksAt blocks.now loops.new) }
+    ensures tables { IfOk result (λ _. (g : Graph) → TablesOf g loops.old → TablesOf g loops.new) }
+    ensures number { IfOk result (λ _. loops.new.number ≤ loops.old.number + 1) }
 {
     loops.begin();
     loops.mark(blocks, header);
@@ -218,6 +233,7 @@ fn gather_behind(
     inside: Vec<BlockId>,
 ) -> Result<bool, NoMemory>
     ensures number { IfOk result (λ _. loops.new.number ≡ loops.old.number) }
+    ensures tables { IfOk result (λ _. (g : Graph) → TablesOf g loops.old → TablesOf g loops.new) }
     ensures looks { IfOk result (λ _. (members : List ℕ) → NotesOf blocks.now members loops.old → LooksAt blocks.now loops.new) }
 {
     let mut waiting = inside;

@@ -1,11 +1,13 @@
 // What is noted of the blocks of a graph, and of the loop that is looked at: its blocks, and what these do. In specs/Noted.antt
 // stands what the notes say.
 
-ghost use Rattle.std.specs.Prelude.{◌≡◌, ◌<◌, ◌-◌, ◌^◌, ℕ, length};
+ghost use Rattle.std.specs.Prelude.{◌≡◌, ◌<◌, ◌≤◌, ◌+◌, ◌-◌, ◌^◌, ℕ, length};
 ghost use Rattle.vx_loops.specs.Past.{NamesPast, counted_again};
 
+use crate::storing::stored_by;
 use vx_base::listed::Listed;
 use vx_flow::graph::{ArrayId, Block, BlockId, Exit, Op, Operand, Value};
+use vx_flow::operands::written_by;
 
 /// What is noted of the blocks of a graph, and of the loop that is looked at: none at first. Loops are told apart by their
 /// numbers, so that nothing is taken back for the next one; the greatest number is that of no loop.
@@ -35,10 +37,12 @@ pub struct Loops {
 impl Loops {
     ghost use Rattle.std.specs.Prelude.{◌==◌, ◌++◌, ◌∷◌, ◌||◌, Bool, List, [], true, false, Some, if◌then◌else◌, slice_get};
     ghost use Rattle.std.specs.List.{flat_map};
+    ghost use Rattle.vx_flow.specs.declared.graph.Graph.{Graph};
     ghost use Rattle.vx_flow.specs.Effects.{writes};
+    ghost use Rattle.vx_flow.specs.Operands.{value_list};
     ghost use Rattle.vx_flow.specs.Sound.{results_of_exit};
     ghost use Rattle.vx_flow.specs.Rows.{row_at};
-    ghost use Rattle.vx_loops.specs.Noted.{has_call, is_call, is_inside, is_stored, is_written, is_written_once, keeps, stores_of, writes_at, stores_at, calls_at, Notes, NotesOf};
+    ghost use Rattle.vx_loops.specs.Noted.{has_call, is_call, is_inside, is_stored, is_written, is_written_once, keeps, stores_of, writes_at, stores_at, calls_at, Notes, NotesOf, TablesOf};
 
     /// Whether the loop that is looked at writes a value.
     pub fn is_written(&self, value: Value) -> bool
@@ -123,7 +127,9 @@ impl Loops {
 
     /// Goes on to a loop of which nothing is noted.
     pub(crate) fn begin(&mut self)
-        ensures { self.new.number < 2 ^ 64 - 1 → Notes [] [] [] false self.new }
+        ensures number { self.new.number ≤ self.old.number + 1 }
+        ensures notes { self.new.number < 2 ^ 64 - 1 → Notes [] [] [] false self.new }
+        ensures tables { (g : Graph) → TablesOf g self.old → TablesOf g self.new }
     {
         self.number = self.number.saturating_add(1);
     }
@@ -131,6 +137,7 @@ impl Loops {
     /// Notes a block that is there and does not belong to the loop yet, with all that it does. Answers whether it is one.
     pub(crate) fn mark(&mut self, blocks: &[Block], block: usize) -> bool
         ensures number { self.new.number ≡ self.old.number }
+        ensures tables { (g : Graph) → TablesOf g self.old → TablesOf g self.new }
         ensures notes { (members : List ℕ) → NotesOf blocks.now members self.old → NotesOf blocks.now (members ++ (if result then block ∷ [] else [])) self.new }
     {
         if block < self.members.len() && !self.is_inside(block) {
@@ -146,6 +153,7 @@ impl Loops {
         requires inside { block < length self.old.members.items }
         requires new { is_inside self.old block ≡ false }
         ensures number { self.new.number ≡ self.old.number }
+        ensures tables { (g : Graph) → TablesOf g self.old → TablesOf g self.new }
         ensures notes { (m w s : List ℕ) (c : Bool) → Notes m w s c self.old → Notes (m ++ block ∷ []) w s c self.new }
     {
         self.members[block] = self.number;
@@ -153,6 +161,7 @@ impl Loops {
 
     fn mark_found(&mut self, blocks: &[Block], block: usize)
         ensures number { self.new.number ≡ self.old.number }
+        ensures tables { (g : Graph) → TablesOf g self.old → TablesOf g self.new }
         ensures notes { (m w s : List ℕ) (c : Bool) → Notes m w s c self.old → Notes m (w ++ writes_at (slice_get blocks.now block)) (s ++ stores_at (slice_get blocks.now block)) (c || calls_at (slice_get blocks.now block)) self.new }
     {
         match blocks.get(block) {
@@ -163,6 +172,7 @@ impl Loops {
 
     fn mark_block(&mut self, block: &Block)
         ensures number { self.new.number ≡ self.old.number }
+        ensures tables { (g : Graph) → TablesOf g self.old → TablesOf g self.new }
         ensures notes { (m w s : List ℕ) (c : Bool) → Notes m w s c self.old → Notes m (w ++ writes_at (Some block.now)) (s ++ stores_at (Some block.now)) (c || calls_at (Some block.now)) self.new }
     {
         self.mark_ops(block.ops.as_slice());
@@ -171,6 +181,7 @@ impl Loops {
 
     fn mark_ops(&mut self, ops: &[Op])
         ensures number { self.new.number ≡ self.old.number }
+        ensures tables { (g : Graph) → TablesOf g self.old → TablesOf g self.new }
         ensures notes { (m w s : List ℕ) (c : Bool) → Notes m w s c self.old → Notes m (w ++ flat_map writes ops.now) (s ++ flat_map stores_of ops.now) c self.new }
     {
         for op in ops {
@@ -180,33 +191,22 @@ impl Loops {
 
     fn mark_op(&mut self, op: Op)
         ensures number { self.new.number ≡ self.old.number }
+        ensures tables { (g : Graph) → TablesOf g self.old → TablesOf g self.new }
         ensures notes { (m w s : List ℕ) (c : Bool) → Notes m w s c self.old → Notes m (w ++ writes op) (s ++ stores_of op) c self.new }
     {
-        match op {
-            Op::Compute { to, .. } => self.write(to),
-            Op::Select { to, .. } => self.write(to),
-            Op::Place { to, .. } => self.write(to),
-            Op::Load { to, .. } => self.write(to),
-            Op::More { to } => self.write(to),
-            Op::Input { to } => self.write(to),
-            Op::Across { to, .. } => self.write(to),
-            Op::Store { array, .. } => self.store(array),
-            Op::Text { .. } => {}
-            Op::Decimal { .. } => {}
-        }
+        self.write_some(written_by(&op));
+        self.store_some(stored_by(&op));
     }
 
     fn mark_exit(&mut self, exit: &Exit)
         ensures number { self.new.number ≡ self.old.number }
+        ensures tables { (g : Graph) → TablesOf g self.old → TablesOf g self.new }
         ensures notes { (m w s : List ℕ) (c : Bool) → Notes m w s c self.old → Notes m (w ++ results_of_exit exit.now) s (c || is_call exit.now) self.new }
     {
         match exit {
             Exit::Call { result: held, .. } => {
                 self.call();
-                match *held {
-                    Some(value) => self.write(value),
-                    None => {}
-                }
+                self.write_some(*held);
             }
             Exit::Goto(_) => {}
             Exit::Split { .. } => {}
@@ -217,13 +217,37 @@ impl Loops {
 
     fn call(&mut self)
         ensures number { self.new.number ≡ self.old.number }
+        ensures tables { (g : Graph) → TablesOf g self.old → TablesOf g self.new }
         ensures notes { (m w s : List ℕ) (c : Bool) → Notes m w s c self.old → Notes m w s true self.new }
     {
         self.calls = self.number;
     }
 
+    fn store_some(&mut self, array: Option<ArrayId>)
+        ensures number { self.new.number ≡ self.old.number }
+        ensures tables { (g : Graph) → TablesOf g self.old → TablesOf g self.new }
+        ensures notes { (m w s : List ℕ) (c : Bool) → Notes m w s c self.old → Notes m w (s ++ value_list array) c self.new }
+    {
+        match array {
+            Some(array) => self.store(array),
+            None => {}
+        }
+    }
+
+    fn write_some(&mut self, value: Option<Value>)
+        ensures number { self.new.number ≡ self.old.number }
+        ensures tables { (g : Graph) → TablesOf g self.old → TablesOf g self.new }
+        ensures notes { (m w s : List ℕ) (c : Bool) → Notes m w s c self.old → Notes m (w ++ value_list value) s c self.new }
+    {
+        match value {
+            Some(value) => self.write(value),
+            None => {}
+        }
+    }
+
     fn store(&mut self, array: ArrayId)
         ensures number { self.new.number ≡ self.old.number }
+        ensures tables { (g : Graph) → TablesOf g self.old → TablesOf g self.new }
         ensures notes { (m w s : List ℕ) (c : Bool) → Notes m w s c self.old → Notes m w (s ++ array ∷ []) c self.new }
     {
         let place = array as usize;
@@ -234,6 +258,7 @@ impl Loops {
 
     fn write(&mut self, value: Value)
         ensures number { self.new.number ≡ self.old.number }
+        ensures tables { (g : Graph) → TablesOf g self.old → TablesOf g self.new }
         ensures notes { (m w s : List ℕ) (c : Bool) → Notes m w s c self.old → Notes m (w ++ value ∷ []) s c self.new }
     {
         let place = value as usize;

@@ -1,12 +1,9 @@
 use Rattle.std.proofs.Common.{refl, true}
-use Rattle.vx_loops.proofs.Notings.{exit_called, exit_quiet, exit_wrote}
+use Rattle.vx_loops.proofs.Notings.{exit_called, exit_quiet}
 use Rattle.vx_loops.proofs.notes.Loops.mark_exit.Goals as goal
 
-pub returns-in-Some-clause-notes : goal.returns-in-Some-clause-notes
-returns-in-Some-clause-notes c = λ m w s called h. exit_wrote m w s called c.write.new.self c.args.exit.now c.in-Call.function c.in-Call.arguments c.in-Call.held c.in-Call.next c.in-Some.value c.in-Call.is c.in-Some.is (c.write.ensures.notes m w s true (c.call.ensures.notes m w s called h))
-
-pub returns-in-None-clause-notes : goal.returns-in-None-clause-notes
-returns-in-None-clause-notes c = λ m w s called h. exit_called m w s called c.call.new.self c.args.exit.now c.in-Call.function c.in-Call.arguments c.in-Call.held c.in-Call.next c.in-Call.is c.in-None.is (c.call.ensures.notes m w s called h)
+pub returns-in-Call-clause-notes : goal.returns-in-Call-clause-notes
+returns-in-Call-clause-notes c = λ m w s called h. exit_called m w s called c.write_some.new.self c.args.exit.now c.in-Call.function c.in-Call.arguments c.in-Call.held c.in-Call.next c.in-Call.is (c.write_some.ensures.notes m w s true (c.call.ensures.notes m w s called h))
 
 pub returns-in-Goto-clause-notes : goal.returns-in-Goto-clause-notes
 returns-in-Goto-clause-notes c = λ m w s called h. exit_quiet m w s called c.args.self.now c.args.exit.now _ c.in-Goto.is refl refl h

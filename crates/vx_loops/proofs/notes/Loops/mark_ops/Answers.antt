@@ -11,6 +11,7 @@ use Rattle.vx_loops.proofs.notes.Loops.mark_ops.Goals as goal
 pub loop-op-preserved : goal.loop-op-preserved
 loop-op-preserved c = record {
   number = c.mark_op.ensures.number ∙ c.loop-op.invariant.number;
+  tables = λ g t. c.mark_op.ensures.tables g (c.loop-op.invariant.tables g t);
   notes = λ m w s called h.
       let done = take c.loop-op.op-index c.args.ops.now in
       ops_noted m w s called c.mark_op.new.self c.args.ops.now c.loop-op.op-index (Compute Add 0 (Held 0) (Held 0)) c.loop-op-test.true
