@@ -1,15 +1,15 @@
 // Which block comes before each block of a graph.
 
-ghost use Rattle.std.specs.Prelude.{◌≡◌, ◌<◌, ◌-◌, ◌^◌, ◌⊎◌, [], ◌∷◌, IfOk, length};
+ghost use Rattle.std.specs.Prelude.{◌≡◌, ◌<◌, ◌-◌, ◌^◌, [], ◌∷◌, IfOk, length};
 ghost use Rattle.vx_flow.specs.Sound.{targets_of};
-ghost use Rattle.vx_shape.specs.Origins.{AreOrigins, Takes};
+ghost use Rattle.vx_shape.specs.Origins.{AreOrigins, IsJoined, Takes};
 
 use std::alloc::Global;
 use vx_base::outcome::NoMemory;
 use vx_flow::graph::{Block, BlockId, Exit};
 
 /// For each block the number of the one from which edges lead to it, or how many blocks there are where they come from many; the
-/// greatest number where none does. That no other block leads to one of the first kind is promised; many may be told of any.
+/// greatest number where none does. Many are told only where edges come from two blocks.
 pub fn origins(alloc: Global, blocks: &[Block]) -> Result<Vec<usize>, NoMemory>
     ensures { IfOk result (λ origins. AreOrigins blocks.now origins.items) }
 {
@@ -50,8 +50,9 @@ fn note(origins: &mut Vec<usize>, from: usize, block: BlockId)
 }
 
 /// What is noted where a block is known from which edges come, and one more is found.
+#[tactic(auto, using(crate::proofs::Noting::joins_this, crate::proofs::Noting::joins_many))]
 fn joined(known: usize, from: usize, many: usize) -> usize
-    ensures either { (result ≡ from) ⊎ (result ≡ many) }
+    ensures either { IsJoined many known from result }
     ensures other { known < 2 ^ 64 - 1 → (known ≡ from → ⊥) → result ≡ many }
 {
     if known == usize::MAX || known == from {
