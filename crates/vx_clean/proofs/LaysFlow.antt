@@ -1,13 +1,13 @@
 -- A flow of a program, laid out as linked chains, stays one.
-use Rattle.std.proofs.Common.{◌≡◌, ℕ, zero, suc, ◌+◌, List, [], ◌∷◌, length, slice_get, Option, Some, None, refl, sym, ap, ◌∙◌, subst, arith}
+use Rattle.std.proofs.Common.{◌≡◌, ℕ, zero, suc, ◌+◌, List, [], ◌∷◌, length, map, slice_get, Option, Some, None, refl, sym, ap, ◌∙◌, subst, arith}
 use Rattle.std.specs.Option.{option_map}
 use Rattle.vx_ast.specs.Tree.{Function, Program}
 use Rattle.vx_flow.specs.declared.graph.Block.{Block}
 use Rattle.vx_flow.specs.declared.graph.Graph.{Graph}
 use Rattle.vx_lower.specs.FlowOf.{GraphOf}
 use Rattle.vx_clean.specs.Cleaning.{Place, FunctionCleaned, Cleaned}
-use Rattle.vx_clean.specs.Laying.{laid, places_from}
-use Rattle.vx_shape.specs.Shape.{Shaped}
+use Rattle.vx_clean.specs.Laying.{joined, laid, places_from}
+use Rattle.vx_shape.proofs.FlowsStay.{shape_kept}
 use Rattle.vx_clean.specs.LaidFlows.{FunctionLaid, laid_functions, LaidFlow}
 use Rattle.vx_clean.proofs.CleanFlow.{cleaned_flow}
 use Rattle.vx_clean.proofs.Lays.{laid_cleaned}
@@ -23,21 +23,6 @@ laid_length : (to : ℕ → ℕ → ℕ) (chains : ℕ → List (List ℕ)) (n :
 laid_length to chains n [] = refl
 laid_length to chains n (g ∷ gs) = ap suc (laid_length to chains (suc n) gs)
 
-pub shape_kept : (p : Program) (function : Function) (to : ℕ → ℕ) (chains : List (List ℕ)) (g : Graph) → GraphOf p function g → Shaped (laid to chains g) → GraphOf p function (laid to chains g)
-shape_kept p function to chains g o s = record {
-  parameters = o.parameters;
-  arrays = o.arrays;
-  trap_empty = s.trap_empty;
-  trap_alone = s.trap_alone;
-  traps_last = s.traps_last;
-  short = s.short;
-  apart = s.apart;
-  uncritical = s.uncritical;
-  entry = s.entry;
-  general_values = o.general_values;
-  branch_values = o.branch_values;
-}
-
 abbrev blocks_of : Option Graph → List Block
 blocks_of None = []
 blocks_of (Some g) = g.blocks
@@ -51,7 +36,7 @@ graph_by p function to chains graph None h k e = absurd (cc)
 graph_by p function to chains graph (Some g) h k e =
     let q : laid to chains g ≡ graph = cc in
     let l : FunctionLaid to chains g = h g refl in
-    subst (GraphOf p function) q (shape_kept p function to chains g (k g refl) l.shaped)
+    subst (GraphOf p function) q (shape_kept p function (map (joined to g.blocks) chains) g (k g refl) l.shaped)
 
 pub laid_stays : LaidFlow
 laid_stays p flow to chains o h sound =

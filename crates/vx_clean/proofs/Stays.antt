@@ -1,8 +1,7 @@
 -- A flow of a program stays one where each of its graphs is exchanged for one that is that graph cleaned; a graph is itself
 -- cleaned, and so is one that passes the tests.
-use Rattle.std.proofs.Common.{◌≡◌, inl, inr, ℕ, zero, suc, true, List, [], ◌∷◌, ◌++◌, length, slice_get, Option, Some, None, refl, sym, ap, ◌∙◌, subst, append-nil}
+use Rattle.std.proofs.Common.{◌≡◌, inl, inr, ℕ, true, List, [], ◌∷◌, map, slice_get, Option, Some, None, refl, sym, ap, ◌∙◌, subst, append-nil}
 use Rattle.std.proofs.lemmas.Bool.{and_parts, eqb-true}
-use Rattle.vx_ast.specs.Tree.{Function, Program}
 use Rattle.vx_flow.specs.declared.graph.Exit.{Exit}
 use Rattle.vx_flow.specs.declared.graph.Exit.TheVariants.{Goto, Split, Call, Return, Ends}
 use Rattle.vx_flow.specs.declared.graph.Block.{Block}
@@ -11,21 +10,21 @@ use Rattle.vx_flow.specs.declared.graph.Flow.{Flow}
 use Rattle.vx_flow.specs.Effects.{IsIn}
 use Rattle.vx_flow.specs.Sound.{is_sound_flow}
 use Rattle.vx_flow.proofs.SoundLists.{all_at}
-use Rattle.vx_lower.specs.FlowOf.{GraphOf, FlowOf}
+use Rattle.vx_lower.specs.FlowOf.{FlowOf}
 use Rattle.vx_clean.specs.Cleaning.{Place, Heads, ExitMeets, Stands, FunctionCleaned, Cleaned}
-use Rattle.vx_shape.specs.Flows.{with_graphs}
-use Rattle.vx_clean.specs.Laying.{laid, places_from}
+use Rattle.vx_shape.specs.Flows.{with_graphs, Each, OrSame, FlowStays}
+use Rattle.vx_clean.specs.Laying.{joined, laid, places_from}
 use Rattle.vx_shape.specs.Shape.{Shaped}
 use Rattle.vx_clean.specs.LaidFlows.{FunctionLaid}
 use Rattle.vx_clean.specs.LinkTest.{is_near_in, is_linked, moves, is_laid_out}
 use Rattle.vx_shape.specs.ShapeTest.{is_shaped}
-use Rattle.vx_clean.specs.Staying.{GraphStays, GraphsStay, StaysByGraphs}
-use Rattle.vx_shape.specs.Flows.{FlowStays}
+use Rattle.vx_clean.specs.Staying.{GraphStays, StaysByGraphs}
 use Rattle.vx_clean.proofs.CleanFlow.{cleaned_flow}
 use Rattle.vx_clean.proofs.Lays.{laid_cleaned}
-use Rattle.vx_clean.proofs.LaysFlow.{shape_kept}
 use Rattle.vx_clean.proofs.LinkTests.{begun_if, linked_if}
 use Rattle.vx_shape.proofs.ShapeTests.{shaped_where_tested}
+use Rattle.vx_shape.proofs.Pairs.{At, each_at, each_length, each_related}
+use Rattle.vx_shape.proofs.FlowsStay.{shape_kept, shape_by}
 
 -- ---- a graph as it is
 
@@ -52,15 +51,12 @@ same_stands g b block p (inl e) has = subst (Stands same_place g block) (sym e) 
 })
 same_stands g b block p (inr m) has = absurd m
 
-pub graph_itself : (g : Graph) → GraphStays g g
+graph_itself : (g : Graph) → GraphStays g g
 graph_itself g = record {
   at = same_place;
   cleaned = record { parameters = refl; arrays = refl; entry = same_heads 0; blocks = λ b block p m has. same_stands g b block p m has };
   shape = λ p function o. o;
 }
-
-pub graph_same : (g h : Graph) → h ≡ g → GraphStays g h
-graph_same g h e = subst (GraphStays g) (sym e) (graph_itself g)
 
 -- ---- a graph that passes the tests
 
@@ -68,7 +64,7 @@ pub laid_stays_by : (to : ℕ → ℕ) (chains : List (List ℕ)) (g : Graph) �
 laid_stays_by to chains g l = record {
   at = places_from g.blocks 0 chains;
   cleaned = laid_cleaned to chains g l.first l.begun l.linked;
-  shape = λ p function o. shape_kept p function to chains g o l.shaped;
+  shape = λ p function o. shape_kept p function (map (joined to g.blocks) chains) g o l.shaped;
 }
 
 laid_out : (to : List ℕ) (chains : List (List ℕ)) (g : Graph) → is_laid_out to g.blocks chains ≡ true → Shaped (laid (moves to) chains g) → FunctionLaid (moves to) chains g
@@ -90,61 +86,30 @@ tested_stays to chains g h origins e t s =
 
 -- ---- the graphs of a flow
 
-pub graphs_more : (gs hs : List Graph) (g h : Graph) → GraphsStay gs hs → GraphStays g h → GraphsStay (gs ++ g ∷ []) (hs ++ h ∷ [])
-graphs_more [] [] g h s t = (t, tt)
-graphs_more [] (y ∷ ys) g h s t = absurd s
-graphs_more (x ∷ xs) [] g h s t = absurd s
-graphs_more (x ∷ xs) (y ∷ ys) g h s t = (s.0, graphs_more xs ys g h s.1 t)
-
-abbrev StaysAt : Option Graph → Option Graph → Type 0
-StaysAt None None = Unit {0}
-StaysAt None (Some h) = ⊥
-StaysAt (Some g) None = ⊥
-StaysAt (Some g) (Some h) = GraphStays g h
-
-stays_at : (gs hs : List Graph) → GraphsStay gs hs → (f : ℕ) → StaysAt (slice_get gs f) (slice_get hs f)
-stays_at [] [] s f = tt
-stays_at [] (h ∷ hs) s f = absurd s
-stays_at (g ∷ gs) [] s f = absurd s
-stays_at (g ∷ gs) (h ∷ hs) s zero = s.0
-stays_at (g ∷ gs) (h ∷ hs) s (suc f) = stays_at gs hs s.1 f
-
-stays_length : (gs hs : List Graph) → GraphsStay gs hs → length hs ≡ length gs
-stays_length [] [] s = refl
-stays_length [] (h ∷ hs) s = absurd s
-stays_length (g ∷ gs) [] s = absurd s
-stays_length (g ∷ gs) (h ∷ hs) s = ap suc (stays_length gs hs s.1)
-
-abbrev places_by : (o q : Option Graph) → StaysAt o q → ℕ → List Place
+abbrev places_by : (o q : Option Graph) → At GraphStays o q → ℕ → List Place
 places_by None None s = λ b. []
 places_by None (Some h) s = λ b. []
 places_by (Some g) None s = λ b. []
 places_by (Some g) (Some h) s = s.at
 
-cleaned_by : (o q : Option Graph) (s : StaysAt o q) → FunctionCleaned (places_by o q s) o q
+cleaned_by : (o q : Option Graph) (s : At GraphStays o q) → FunctionCleaned (places_by o q s) o q
 cleaned_by None None s = tt
 cleaned_by None (Some h) s = absurd s
 cleaned_by (Some g) None s = absurd s
 cleaned_by (Some g) (Some h) s = s.cleaned
 
-shape_by : (p : Program) (function : Function) (o q : Option Graph) → StaysAt o q → ((g : Graph) → o ≡ Some g → GraphOf p function g) → (h : Graph) → q ≡ Some h → GraphOf p function h
-shape_by p function None None s k h e = absurd (cc)
-shape_by p function None (Some y) s k h e = absurd s
-shape_by p function (Some g) None s k h e = absurd s
-shape_by p function (Some g) (Some y) s k h e = let q : y ≡ h = cc in subst (GraphOf p function) q (s.shape p function (k g refl))
-
 pub stays_by_graphs : StaysByGraphs
 stays_by_graphs flow graphs s sound p o =
-    let at : (f : ℕ) → StaysAt (slice_get flow.functions f) (slice_get graphs f) = stays_at flow.functions graphs s in
+    let at : (f : ℕ) → At GraphStays (slice_get flow.functions f) (slice_get graphs f) = each_at GraphStays flow.functions graphs s in
     let places : ℕ → ℕ → List Place = λ f. places_by (slice_get flow.functions f) (slice_get graphs f) (at f) in
     let cleaned : Cleaned places flow graphs = λ f. cleaned_by (slice_get flow.functions f) (slice_get graphs f) (at f) in
-    cleaned_flow p flow graphs places cleaned o sound (stays_length flow.functions graphs s ∙ o.count)
-    (λ f function graph e q. shape_by p function (slice_get flow.functions f) (slice_get graphs f) (at f) (λ g r. o.graphs f function g e r) graph q)
+    cleaned_flow p flow graphs places cleaned o sound (each_length GraphStays flow.functions graphs s ∙ o.count)
+    (λ f function graph e q. shape_by GraphStays (λ g h t. t.shape) p function (slice_get flow.functions f) (slice_get graphs f) (at f) (λ g r. o.graphs f function g e r) graph q)
 
-pub once_stays : (flow new : Flow) (graphs : List Graph) → GraphsStay flow.functions graphs → new ≡ with_graphs flow graphs → is_sound_flow new ≡ true → FlowStays flow new
+pub once_stays : (flow new : Flow) (graphs : List Graph) → Each (OrSame GraphStays) flow.functions graphs → new ≡ with_graphs flow graphs → is_sound_flow new ≡ true → FlowStays flow new
 once_stays flow new graphs s e sound p o =
     let t : is_sound_flow (with_graphs flow graphs) ≡ true = subst (λ f. is_sound_flow f ≡ true) e sound in
-    subst (FlowOf p) (sym e) (stays_by_graphs flow graphs s t p o)
+    subst (FlowOf p) (sym e) (stays_by_graphs flow graphs (each_related GraphStays flow.functions graphs graph_itself s) t p o)
 
 -- ---- flow after flow
 

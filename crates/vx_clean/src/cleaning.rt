@@ -7,7 +7,7 @@ ghost use Rattle.vx_flow.specs.Sound.{is_sound_flow};
 ghost use Rattle.vx_lower.specs.FlowOf.{FlowOf};
 ghost use Rattle.vx_clean.specs.LinkTest.{is_laid_out};
 ghost use Rattle.vx_shape.specs.Flows.{FlowStays};
-ghost use Rattle.vx_clean.specs.Staying.{GraphStays, GraphsStay};
+ghost use Rattle.vx_clean.specs.Staying.{GraphStays};
 
 use crate::laying::laid;
 use crate::link_test::is_laid_out;
@@ -15,11 +15,11 @@ use std::alloc::Global;
 use vx_base::listed::Listed;
 use vx_base::outcome::NoMemory;
 use vx_chains::find_layout;
-use vx_flow::copies::copied_graph;
 use vx_flow::graph::{BlockId, Flow, Graph};
 use vx_fold::folded_once;
 use vx_shape::copying::with_graphs;
 use vx_shape::origins::origins;
+use vx_shape::passes::{GraphPass, each_made};
 use vx_shape::shape_test::is_shaped;
 use vx_sound::is_sound;
 use vx_thin::thinned_once;
@@ -85,7 +85,7 @@ fn cleaned_once(alloc: Global, flow: &Flow) -> Result<Option<Flow>, NoMemory>
     ensures sound { IfOk result (λ found. IfSome found (λ cleaned. is_sound_flow cleaned ≡ true)) }
     ensures flow { IfOk result (λ found. IfSome found (λ cleaned. FlowStays flow.now cleaned)) }
 {
-    let functions = cleaned_graphs(alloc, flow.functions.as_slice())?;
+    let functions = each_made(alloc, &LayoutPass, flow.functions.as_slice())?;
     if blocks_of(functions.as_slice()) >= blocks_of(flow.functions.as_slice()) {
         return Ok(None);
     }
@@ -106,37 +106,21 @@ fn blocks_of(graphs: &[Graph]) -> usize {
     count
 }
 
-fn cleaned_graphs(alloc: Global, graphs: &[Graph]) -> Result<Listed<Graph>, NoMemory>
-    ensures { IfOk result (λ cleaned. GraphsStay graphs.now cleaned) }
-{
-    let mut cleaned = Listed::new(alloc);
-    for graph in graphs {
-        cleaned.push(cleaned_graph(alloc, graph)?)?;
+/// The pass over one graph: a layout is looked for, and the blocks of its chains become one.
+struct LayoutPass;
+
+impl GraphPass for LayoutPass {
+    ghost makes = { GraphStays };
+
+    fn made(
+        &self,
+        alloc: Global,
+        _function: usize,
+        graph: &Graph,
+    ) -> Result<Option<Graph>, NoMemory> {
+        let layout = find_layout(alloc, graph.blocks.as_slice())?;
+        laid_where_fit(alloc, graph, layout.to.as_slice(), layout.chains.as_slice())
     }
-    Ok(cleaned)
-}
-
-fn cleaned_graph(alloc: Global, graph: &Graph) -> Result<Graph, NoMemory>
-    ensures { IfOk result (λ cleaned. GraphStays graph.now cleaned) }
-{
-    match laid_out(alloc, graph)? {
-        Some(cleaned) => Ok(cleaned),
-        None => unchanged(alloc, graph),
-    }
-}
-
-fn unchanged(alloc: Global, graph: &Graph) -> Result<Graph, NoMemory>
-    ensures { IfOk result (λ copy. GraphStays graph.now copy) }
-{
-    let copy = copied_graph(alloc, graph)?;
-    Ok(copy)
-}
-
-fn laid_out(alloc: Global, graph: &Graph) -> Result<Option<Graph>, NoMemory>
-    ensures { IfOk result (λ found. IfSome found (λ cleaned. GraphStays graph.now cleaned)) }
-{
-    let layout = find_layout(alloc, graph.blocks.as_slice())?;
-    laid_where_fit(alloc, graph, layout.to.as_slice(), layout.chains.as_slice())
 }
 
 /// The graph whose blocks are the chains, where they are linked and it has its shape.

@@ -6,9 +6,9 @@ ghost use Rattle.vx_clean.specs.LinkTest.{moves};
 
 use crate::link_test::target;
 use std::alloc::Global;
-use vx_base::listed::{Listed, copied};
+use vx_base::listed::Listed;
 use vx_base::outcome::NoMemory;
-use vx_flow::copies::with_blocks;
+use vx_flow::copies::{copied_exit, with_blocks};
 use vx_flow::graph::{Block, BlockId, Exit, Graph, Op, Value};
 
 /// The graph whose blocks are the chains, with each target moved.
@@ -113,25 +113,29 @@ fn exit_at(
 fn moved(alloc: Global, to: &[BlockId], exit: &Exit) -> Result<Exit, NoMemory>
     ensures { IfOk result (λ new. new ≡ moved (moves to.now) exit.now) }
 {
+    let copy = copied_exit(alloc, exit)?;
+    Ok(moved_to(to, copy))
+}
+
+fn moved_to(to: &[BlockId], exit: Exit) -> Exit
+    ensures { result ≡ moved (moves to.now) exit }
+{
     match exit {
-        Exit::Goto(next) => Ok(Exit::Goto(target(to, *next))),
-        Exit::Split { test, yes, no } => Ok(one_way(*test, target(to, *yes), target(to, *no))),
+        Exit::Goto(next) => Exit::Goto(target(to, next)),
+        Exit::Split { test, yes, no } => one_way(test, target(to, yes), target(to, no)),
         Exit::Call {
             function,
             arguments,
             result,
             next,
-        } => {
-            let arguments = copied(alloc, arguments.as_slice())?;
-            Ok(Exit::Call {
-                function: *function,
-                arguments,
-                result: *result,
-                next: target(to, *next),
-            })
-        }
-        Exit::Return(operand) => Ok(Exit::Return(*operand)),
-        Exit::Ends(trap) => Ok(Exit::Ends(*trap)),
+        } => Exit::Call {
+            function,
+            arguments,
+            result,
+            next: target(to, next),
+        },
+        Exit::Return(operand) => Exit::Return(operand),
+        Exit::Ends(trap) => Exit::Ends(trap),
     }
 }
 
