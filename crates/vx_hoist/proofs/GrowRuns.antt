@@ -4,39 +4,19 @@ use Rattle.std.specs.Option.{option_map}
 use Rattle.vx_base.specs.Outcome.{Outcome, NeverFails, Step, On, Over, step_then, run}
 use Rattle.vx_base.specs.declared.outcome.Trap.TheVariants.{Depth}
 use Rattle.vx_base.proofs.Runs.{runs_from, safe_after, safe_end, reach_one}
-use Rattle.vx_flow.specs.declared.graph.Block.{Block}
 use Rattle.vx_flow.specs.declared.graph.Graph.{Graph}
 use Rattle.vx_flow.specs.declared.graph.Array.{Array}
 use Rattle.vx_flow.specs.declared.graph.Flow.{Flow}
 use Rattle.vx_flow.specs.Effects.{Content, State, Setting}
 use Rattle.vx_flow.specs.Meaning.{Hop, Wrong, hop_of, Body, Program, Frame, Active, deepest, undefined, entered, enters, with_result, returned, waits, after_hop, body_hop, hop, next, body_of, program_of, setting_of, globals_at_start, entered_or, start, graph_run}
 use Rattle.vx_flow.specs.Agree.{SameWorld, Agree}
-use Rattle.vx_shape.specs.Flows.{with_graphs}
-use Rattle.vx_hoist.specs.Growing.{BlocksGrow, GraphGrows, GraphsGrow, GrownRuns}
+use Rattle.vx_shape.specs.Flows.{with_graphs, Each}
+use Rattle.vx_shape.proofs.Pairs.{At, each_at}
+use Rattle.vx_hoist.specs.Growing.{BlockGrows, GraphGrows, GrownRuns}
 use Rattle.vx_thin.proofs.Thins.{Alikes, wrong, arrives, called, left, stopped}
-use Rattle.vx_hoist.proofs.Grows.{GrowsAt, at_alike}
+use Rattle.vx_hoist.proofs.Grows.{at_alike}
 
-abbrev pub GrowsGraph : Option Graph → Option Graph → Type 0
-GrowsGraph None None = Unit {0}
-GrowsGraph None (Some h) = ⊥
-GrowsGraph (Some g) None = ⊥
-GrowsGraph (Some g) (Some h) = GraphGrows g h
-
-pub grows_at : (gs hs : List Graph) → GraphsGrow gs hs → (f : ℕ) → GrowsGraph (slice_get gs f) (slice_get hs f)
-grows_at [] [] s f = tt
-grows_at [] (h ∷ hs) s f = absurd s
-grows_at (g ∷ gs) [] s f = absurd s
-grows_at (g ∷ gs) (h ∷ hs) s zero = s.0
-grows_at (g ∷ gs) (h ∷ hs) s (suc f) = grows_at gs hs s.1 f
-
-blocks_at : (unread : ℕ → Bool) (bs ks : List Block) → BlocksGrow unread bs ks → (b : ℕ) → GrowsAt unread (slice_get bs b) (slice_get ks b)
-blocks_at unread [] [] g b = tt
-blocks_at unread [] (k ∷ ks) g b = absurd g
-blocks_at unread (x ∷ bs) [] g b = absurd g
-blocks_at unread (x ∷ bs) (k ∷ ks) g zero = g.0
-blocks_at unread (x ∷ bs) (k ∷ ks) g (suc b) = blocks_at unread bs ks g.1 b
-
-abbrev unread_by : (o q : Option Graph) → GrowsGraph o q → ℕ → Bool
+abbrev unread_by : (o q : Option Graph) → At GraphGrows o q → ℕ → Bool
 unread_by None None s = λ v. false
 unread_by None (Some h) s = λ v. false
 unread_by (Some g) None s = λ v. false
@@ -57,7 +37,7 @@ holds_result unread x y (Some r) n h v m l e = by (v == r) e
     by true q = q
     by false q = h v m l q
 
-module _ (flow : Flow) (graphs : List Graph) (grows : GraphsGrow flow.functions graphs) where
+module _ (flow : Flow) (graphs : List Graph) (grows : Each GraphGrows flow.functions graphs) where
   abbrev old : Program
   old = program_of flow
 
@@ -68,7 +48,7 @@ module _ (flow : Flow) (graphs : List Graph) (grows : GraphsGrow flow.functions 
   as_body o = option_map (body_of (length flow.globals)) o
 
   abbrev unread_in : ℕ → ℕ → Bool
-  unread_in f = unread_by (slice_get flow.functions f) (slice_get graphs f) (grows_at flow.functions graphs grows f)
+  unread_in f = unread_by (slice_get flow.functions f) (slice_get graphs f) (each_at GraphGrows flow.functions graphs grows f)
 
   abbrev out_of : Active → List ℕ
   out_of r = r.state.out
@@ -102,9 +82,9 @@ module _ (flow : Flow) (graphs : List Graph) (grows : GraphsGrow flow.functions 
 
   graph_alike : (setting : Setting) (b : ℕ) (g h : Graph) (grow : GraphGrows g h) (s t : State) → Agree (Lives grow.unread) s t →
       Alikes (Lives grow.unread) (hop_of setting b (slice_get g.blocks b) s) (hop_of setting b (slice_get h.blocks b) t)
-  graph_alike setting b g h grow s t a = at_alike grow.unread setting b (slice_get g.blocks b) (slice_get h.blocks b) (blocks_at grow.unread g.blocks h.blocks grow.blocks b) s t a
+  graph_alike setting b g h grow s t a = at_alike grow.unread setting b (slice_get g.blocks b) (slice_get h.blocks b) (each_at (BlockGrows grow.unread) g.blocks h.blocks grow.blocks b) s t a
 
-  hop_alike : (r : Active) (t : State) (ws : List Frame) (o q : Option Graph) (grow : GrowsGraph o q) → Agree (Lives (unread_by o q grow)) r.state t →
+  hop_alike : (r : Active) (t : State) (ws : List Frame) (o q : Option Graph) (grow : At GraphGrows o q) → Agree (Lives (unread_by o q grow)) r.state t →
       Alikes (Lives (unread_by o q grow)) (body_hop old r (as_body o)) (body_hop new (record r { state = t; waiting = ws }) (as_body q))
   hop_alike r t ws None None grow a = wrong
   hop_alike r t ws None (Some h) grow a = absurd grow
@@ -131,7 +111,7 @@ module _ (flow : Flow) (graphs : List Graph) (grows : GraphsGrow flow.functions 
       (entered body ns t, gs, ap (λ n. record { function = g; block = 0; base = n; state = entered body ns t; waiting = gs }) (ap length w.arrays), entered_agree (unread_in g) ns s t x w, k) in
       subst (λ z. StepJoined (enters g (as_body (Some x)) ns s fs) (enters g (as_body (Some z)) ns t gs)) (sym e) made
 
-  body_joined : (g : ℕ) (ns : List ℤ) (s t : State) (fs gs : List Frame) (o q : Option Graph) (grow : GrowsGraph o q) → SameWorld s t → FramesTied fs gs → unread_in g ≡ unread_by o q grow → StepJoined (enters g (as_body o) ns s fs) (enters g (as_body q) ns t gs)
+  body_joined : (g : ℕ) (ns : List ℤ) (s t : State) (fs gs : List Frame) (o q : Option Graph) (grow : At GraphGrows o q) → SameWorld s t → FramesTied fs gs → unread_in g ≡ unread_by o q grow → StepJoined (enters g (as_body o) ns s fs) (enters g (as_body q) ns t gs)
   body_joined g ns s t fs gs None None grow w k u = ap Outcome.Wrong (sym w.out)
   body_joined g ns s t fs gs None (Some h) grow w k u = absurd grow
   body_joined g ns s t fs gs (Some x) None grow w k u = absurd grow
@@ -164,7 +144,7 @@ module _ (flow : Flow) (graphs : List Graph) (grows : GraphsGrow flow.functions 
       let inside : FramesTied fs gs = (t.values, refl, a.values, tied) in
       cond_joined (nat_le deepest (length r.waiting + 1)) (nat_le deepest (length ws + 1)) (Over (Outcome.Traps Depth s.out)) (enters f (old.body f) ns s fs) (Over (Outcome.Traps Depth t.out)) (enters f (new.body f) ns t gs) many
       (ap (Outcome.Traps Depth) (sym a.world.out))
-      (body_joined f ns s t fs gs (slice_get flow.functions f) (slice_get graphs f) (grows_at flow.functions graphs grows f) a.world inside refl)
+      (body_joined f ns s t fs gs (slice_get flow.functions f) (slice_get graphs f) (each_at GraphGrows flow.functions graphs grows f) a.world inside refl)
   after_joined r u ws _ _ (left {n} {s} {t} w) safe tied = returned_joined n s t r.base r.waiting ws w tied
   after_joined r u ws _ _ (stopped {k} {s} {t} w) safe tied = ap (Outcome.Traps k) (sym w.out)
 
@@ -172,7 +152,7 @@ module _ (flow : Flow) (graphs : List Graph) (grows : GraphsGrow flow.functions 
   next_joined r q j safe =
       subst (λ p. StepJoined (next old r) (next new p)) (sym j.2)
       (after_joined r j.0 j.1 (hop old r) (hop new (record r { state = j.0; waiting = j.1 }))
-      (hop_alike r j.0 j.1 (slice_get flow.functions r.function) (slice_get graphs r.function) (grows_at flow.functions graphs grows r.function) j.3) (never_wrong r safe) j.4)
+      (hop_alike r j.0 j.1 (slice_get flow.functions r.function) (slice_get graphs r.function) (each_at GraphGrows flow.functions graphs grows r.function) j.3) (never_wrong r safe) j.4)
 
   -- ---- runs
 
@@ -187,7 +167,7 @@ module _ (flow : Flow) (graphs : List Graph) (grows : GraphsGrow flow.functions 
       by (Over o) (On q') e k rec = absurd k
       by (Over o) (Over p) e k rec = sym k
 
-  start_joined : (s : State) (o q : Option Graph) (grow : GrowsGraph o q) → (o ≡ None → ⊥) →
+  start_joined : (s : State) (o q : Option Graph) (grow : At GraphGrows o q) → (o ≡ None → ⊥) →
       Joined (record { function = flow.main; block = 0; base = length s.arrays; state = entered_or (as_body o) s; waiting = [] }) (record { function = flow.main; block = 0; base = length s.arrays; state = entered_or (as_body q) s; waiting = [] })
   start_joined s None q grow some = absurd (some refl)
   start_joined s (Some g) None grow some = absurd grow
@@ -202,7 +182,7 @@ module _ (flow : Flow) (graphs : List Graph) (grows : GraphsGrow flow.functions 
       let r : Active = start flow input in
       let q : Active = start (with_graphs flow graphs) input in
       let some : slice_get flow.functions flow.main ≡ None → ⊥ = λ e. never_wrong r safe (ap (λ o. body_hop old r (as_body o)) e) in
-      runs_same n r q (start_joined (globals_at_start flow input) (slice_get flow.functions flow.main) (slice_get graphs flow.main) (grows_at flow.functions graphs grows flow.main) some) safe
+      runs_same n r q (start_joined (globals_at_start flow input) (slice_get flow.functions flow.main) (slice_get graphs flow.main) (each_at GraphGrows flow.functions graphs grows flow.main) some) safe
 
 pub grown_runs : GrownRuns
 grown_runs flow graphs grows input safe n = all_runs flow graphs grows input safe n

@@ -13,6 +13,7 @@ use Rattle.vx_flow.specs.Agree.{Agree}
 use Rattle.vx_flow.proofs.EffectsAlike.{effect_alike}
 use Rattle.vx_thin.specs.Thinning.{result_alone, is_unread, are_read}
 use Rattle.vx_thin.proofs.Thins.{Alikes, wrong, knows, exit_alike, then_alike}
+use Rattle.vx_shape.proofs.Pairs.{At}
 use Rattle.vx_hoist.specs.Growing.{is_total, is_silent, BlockGrows}
 
 module _ (unread : ℕ → Bool) where
@@ -84,13 +85,7 @@ module _ (unread : ℕ → Bool) where
       let ended : Alikes Lives (block_hop setting b old.ops old.exit s) (block_hop setting b (old.ops ++ grows.added) new.exit t) = subst (λ e. Alikes Lives (block_hop setting b old.ops old.exit s) (block_hop setting b (old.ops ++ grows.added) e t)) (sym grows.exit) made in
       subst (λ ops. Alikes Lives (block_hop setting b old.ops old.exit s) (block_hop setting b ops new.exit t)) (sym grows.ops) ended
 
-  abbrev pub GrowsAt : Option Block → Option Block → Type 0
-  GrowsAt None None = Unit {0}
-  GrowsAt None (Some k) = ⊥
-  GrowsAt (Some b) None = ⊥
-  GrowsAt (Some b) (Some k) = BlockGrows unread b k
-
-  pub at_alike : (setting : Setting) (b : ℕ) (o q : Option Block) → GrowsAt o q → (s t : State) → Agree Lives s t → Alikes Lives (hop_of setting b o s) (hop_of setting b q t)
+  pub at_alike : (setting : Setting) (b : ℕ) (o q : Option Block) → At (BlockGrows unread) o q → (s t : State) → Agree Lives s t → Alikes Lives (hop_of setting b o s) (hop_of setting b q t)
   at_alike setting b None None g s t a = wrong
   at_alike setting b None (Some k) g s t a = absurd g
   at_alike setting b (Some x) None g s t a = absurd g

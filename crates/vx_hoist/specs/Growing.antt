@@ -1,34 +1,29 @@
 -- A flow with more operations at the ends of its blocks, each of which always has a meaning and only writes a value that nothing
 -- of the old flow reads: when a graph is such a one, and the laws that it does the same and stays a flow of its program.
-use Rattle.std.specs.Prelude.{◌≡◌, ℕ, ℤ, Bool, true, false, ◌&&◌, List, [], ◌∷◌, ◌++◌}
+use Rattle.std.specs.Prelude.{◌≡◌, ℕ, ℤ, Bool, true, false, ◌&&◌, not, List, ◌++◌}
 use Rattle.std.specs.List.{list_all}
 use Rattle.vx_base.specs.Outcome.{NeverFails}
 use Rattle.vx_ast.specs.Tree.{Function, Program}
 use Rattle.vx_flow.specs.declared.graph.Op.{Op}
-use Rattle.vx_flow.specs.declared.graph.Op.TheVariants.{Compute, Select, Place, Load, Store, More, Input, Text, Decimal, Across}
+use Rattle.vx_flow.specs.declared.graph.Op.TheVariants.{Load, Store, Across}
 use Rattle.vx_flow.specs.declared.graph.Block.{Block}
 use Rattle.vx_flow.specs.declared.graph.Graph.{Graph}
 use Rattle.vx_flow.specs.declared.graph.Flow.{Flow}
 use Rattle.vx_flow.specs.Effects.{reads}
 use Rattle.vx_flow.specs.Live.{reads_of_exit}
+use Rattle.vx_flow.specs.Operands.{is_observable}
 use Rattle.vx_flow.specs.Meaning.{graph_run}
 use Rattle.vx_flow.specs.Sound.{is_sound_flow}
-use Rattle.vx_lower.specs.FlowOf.{GraphOf, FlowOf}
-use Rattle.vx_shape.specs.Flows.{with_graphs}
+use Rattle.vx_lower.specs.FlowOf.{GraphOf}
+use Rattle.vx_shape.specs.Flows.{with_graphs, Each, FlowStays}
 use Rattle.vx_thin.specs.Thinning.{result_alone, is_unread, are_read}
 
--- the operation has a meaning wherever it is executed
+-- the operation has a meaning wherever it is executed, and its order among others cannot be seen; a copy across is none of these
 abbrev pub is_total : Op → Bool
-is_total (Compute code v a b) = true
-is_total (Select v p a b) = true
-is_total (Place v a i) = true
 is_total (Load v a p dismissible) = dismissible
 is_total (Store a p x) = false
-is_total (More v) = false
-is_total (Input v) = false
-is_total (Text n) = false
-is_total (Decimal x) = false
 is_total (Across v u) = false
+is_total op = not (is_observable op)
 
 -- it does nothing but write an unread value
 abbrev pub is_silent : (ℕ → Bool) → Op → Bool
@@ -45,32 +40,16 @@ pub record BlockGrows (unread : ℕ → Bool) (old new : Block) : Type 0 where
   pub ops : new.ops ≡ old.ops ++ added
   pub exit : new.exit ≡ old.exit
 
-abbrev pub BlocksGrow : (ℕ → Bool) → List Block → List Block → Type 0
-BlocksGrow unread [] [] = Unit {0}
-BlocksGrow unread [] (k ∷ ks) = ⊥
-BlocksGrow unread (b ∷ bs) [] = ⊥
-BlocksGrow unread (b ∷ bs) (k ∷ ks) = BlockGrows unread b k × BlocksGrow unread bs ks
-
 -- the new graph is the old one with such blocks, and keeps the shape that the graph of a function has
 pub record GraphGrows (old new : Graph) : Type 0 where
   pub unread : ℕ → Bool
-  pub blocks : BlocksGrow unread old.blocks new.blocks
+  pub blocks : Each (BlockGrows unread) old.blocks new.blocks
   pub is : new ≡ record old { blocks = new.blocks }
   pub shape : (p : Program) (function : Function) → GraphOf p function old → GraphOf p function new
 
-abbrev pub GraphsGrow : List Graph → List Graph → Type 0
-GraphsGrow [] [] = Unit {0}
-GraphsGrow [] (h ∷ hs) = ⊥
-GraphsGrow (g ∷ gs) [] = ⊥
-GraphsGrow (g ∷ gs) (h ∷ hs) = GraphGrows g h × GraphsGrow gs hs
-
--- a flow of a program stays one
-abbrev pub FlowStays : Flow → Flow → Type 0
-FlowStays old new = (p : Program) → FlowOf p old → FlowOf p new
-
 -- on every input where the old flow never fails, the new one comes to the same at every bound
 abbrev pub GrownRuns : Type 0
-GrownRuns = (flow : Flow) (graphs : List Graph) → GraphsGrow flow.functions graphs → (input : List ℤ) → NeverFails (graph_run flow input) → (n : ℕ) → graph_run (with_graphs flow graphs) input n ≡ graph_run flow input n
+GrownRuns = (flow : Flow) (graphs : List Graph) → Each GraphGrows flow.functions graphs → (input : List ℤ) → NeverFails (graph_run flow input) → (n : ℕ) → graph_run (with_graphs flow graphs) input n ≡ graph_run flow input n
 
 abbrev pub GrownStays : Type 0
-GrownStays = (flow : Flow) (graphs : List Graph) → GraphsGrow flow.functions graphs → is_sound_flow (with_graphs flow graphs) ≡ true → FlowStays flow (with_graphs flow graphs)
+GrownStays = (flow : Flow) (graphs : List Graph) → Each GraphGrows flow.functions graphs → is_sound_flow (with_graphs flow graphs) ≡ true → FlowStays flow (with_graphs flow graphs)

@@ -8,17 +8,20 @@ ghost use Rattle.vx_ast.specs.Tree.{Program};
 ghost use Rattle.vx_flow.specs.Effects.{reads};
 ghost use Rattle.vx_flow.specs.Sound.{is_sound_flow};
 ghost use Rattle.vx_lower.specs.FlowOf.{FlowOf};
+ghost use Rattle.vx_shape.specs.Flows.{Each, FlowStays};
 ghost use Rattle.vx_thin.specs.Thinning.{are_read, unread_of};
-ghost use Rattle.vx_hoist.specs.Growing.{block_reads, is_silent, is_total, BlockGrows, BlocksGrow, FlowStays, GraphGrows, GraphsGrow};
+ghost use Rattle.vx_hoist.specs.Growing.{block_reads, is_silent, is_total, BlockGrows, GraphGrows};
 
 use crate::search::{Addition, Found, find_all, has_additions, ops_at};
 use std::alloc::Global;
 use vx_base::listed::Listed;
 use vx_base::outcome::NoMemory;
-use vx_flow::copies::{copied_exit, copied_graph, with_blocks};
+use vx_flow::copies::{copied_exit, with_blocks};
 use vx_flow::graph::{Block, Flow, Graph, Op};
+use vx_flow::operands::is_observable;
 use vx_shape::copying::with_graphs;
 use vx_shape::origins::origins;
+use vx_shape::passes::{GraphPass, each_made};
 use vx_shape::shape_test::is_shaped;
 use vx_sound::is_sound;
 use vx_thin::reading::{are_reads_needed, exit_reads_needed, is_dropped};
@@ -70,7 +73,7 @@ fn grown_where_sound(alloc: Global, flow: &Flow, found: &[Found]) -> Result<Opti
     ensures sound { IfOk result (λ answer. IfSome answer (λ grown. is_sound_flow grown ≡ true)) }
     ensures flow { IfOk result (λ answer. IfSome answer (λ grown. FlowStays flow.now grown)) }
 {
-    let functions = grown_graphs(alloc, flow.functions.as_slice(), found)?;
+    let functions = each_made(alloc, &GrowPass { found }, flow.functions.as_slice())?;
     let grown = with_graphs(alloc, flow, functions)?;
     if is_sound(alloc, &grown)? {
         Ok(Some(grown))
@@ -79,49 +82,25 @@ fn grown_where_sound(alloc: Global, flow: &Flow, found: &[Found]) -> Result<Opti
     }
 }
 
-fn grown_graphs(alloc: Global, graphs: &[Graph], found: &[Found]) -> Result<Listed<Graph>, NoMemory>
-    ensures { IfOk result (λ grown. GraphsGrow graphs.now grown) }
-{
-    let mut grown = Listed::new(alloc);
-    for (place, graph) in graphs.iter().enumerate() {
-        grown.push(grown_graph(alloc, graph, found, place)?)?;
-    }
-    Ok(grown)
+/// The pass over one graph: what was looked for is put, where there is such and it passes.
+#[derive(Drop)]
+struct GrowPass<'a> {
+    found: &'a [Found],
 }
 
-fn grown_graph(
-    alloc: Global,
-    graph: &Graph,
-    found: &[Found],
-    place: usize,
-) -> Result<Graph, NoMemory>
-    ensures { IfOk result (λ grown. GraphGrows graph.now grown) }
-{
-    match grown_where_found(alloc, graph, found, place)? {
-        Some(grown) => Ok(grown),
-        None => unchanged(alloc, graph),
-    }
-}
+impl<'a> GraphPass for GrowPass<'a> {
+    ghost makes = { GraphGrows };
 
-fn unchanged(alloc: Global, graph: &Graph) -> Result<Graph, NoMemory>
-    ensures { IfOk result (λ copy. GraphGrows graph.now copy) }
-{
-    let copy = copied_graph(alloc, graph)?;
-    Ok(copy)
-}
-
-/// The graph with the operations that were looked for, where there are such and they pass.
-fn grown_where_found(
-    alloc: Global,
-    graph: &Graph,
-    found: &[Found],
-    place: usize,
-) -> Result<Option<Graph>, NoMemory>
-    ensures { IfOk result (λ answer. IfSome answer (λ grown. GraphGrows graph.now grown)) }
-{
-    match found.get(place) {
-        Some(found) => grown_by(alloc, graph, found),
-        None => Ok(None),
+    fn made(
+        &self,
+        alloc: Global,
+        function: usize,
+        graph: &Graph,
+    ) -> Result<Option<Graph>, NoMemory> {
+        match self.found.get(function) {
+            Some(found) => grown_by(alloc, graph, found),
+            None => Ok(None),
+        }
     }
 }
 
@@ -160,7 +139,7 @@ fn grown_where_shaped(
     named: &[bool],
     blocks: Listed<Block>,
 ) -> Result<Option<Graph>, NoMemory>
-    requires { BlocksGrow (unread_of named.now) graph.now.blocks blocks }
+    requires { Each (BlockGrows (unread_of named.now)) graph.now.blocks blocks }
     ensures { IfOk result (λ found. IfSome found (λ grown. GraphGrows graph.now grown)) }
 {
     let grown = with_blocks(alloc, graph, blocks)?;
@@ -179,7 +158,7 @@ fn grown_blocks(
     blocks: &[Block],
     additions: &[Addition],
 ) -> Result<Option<Listed<Block>>, NoMemory>
-    ensures { IfOk result (λ found. IfSome found (λ grown. BlocksGrow (unread_of named.now) blocks.now grown)) }
+    ensures { IfOk result (λ found. IfSome found (λ grown. Each (BlockGrows (unread_of named.now)) blocks.now grown)) }
 {
     let mut grown = Listed::new(alloc);
     for (place, block) in blocks.iter().enumerate() {
@@ -261,15 +240,8 @@ fn is_total(op: &Op) -> bool
     ensures { result ≡ is_total op.now }
 {
     match op {
-        Op::Compute { .. } => true,
-        Op::Select { .. } => true,
-        Op::Place { .. } => true,
         Op::Load { dismissible, .. } => *dismissible,
-        Op::Store { .. } => false,
-        Op::More { .. } => false,
-        Op::Input { .. } => false,
-        Op::Text { .. } => false,
-        Op::Decimal { .. } => false,
-        Op::Across { .. } => false,
+        Op::Store { .. } | Op::Across { .. } => false,
+        _ => !is_observable(op),
     }
 }

@@ -1,8 +1,9 @@
 use Rattle.std.proofs.Common.{◌≡◌, ◌+◌, ◌<◌, ℕ, Bool, List, IfSome, sym, take, length, get_or, subst}
 use Rattle.vx_flow.specs.declared.graph.Block.{Block}
 use Rattle.vx_thin.specs.Thinning.{unread_of}
-use Rattle.vx_hoist.specs.Growing.{BlockGrows, BlocksGrow}
-use Rattle.vx_hoist.proofs.GrowFlow.{blocks_next}
+use Rattle.vx_shape.specs.Flows.{Each}
+use Rattle.vx_shape.proofs.Pairs.{each_next}
+use Rattle.vx_hoist.specs.Growing.{BlockGrows}
 use Rattle.vx_hoist.proofs.growing.grown_blocks.Goals as goal
 
 pub loop-place-preserved : goal.loop-place-preserved
@@ -15,5 +16,5 @@ loop-place-preserved c =
     let l : i < length blocks = search in
     let e : b ≡ get_or blocks i b = search in
     let g : BlockGrows unread b k = subst (λ o. IfSome o (λ x. BlockGrows unread b x)) c.in-Some.is c.in_ok-new.ensures in
-    let s = blocks_next unread blocks c.loop-place.grown i b k l e c.loop-place.invariant g in
-    subst (BlocksGrow unread (take (i + 1) blocks)) (sym c.in_ok-push-in-Some.ensures.ok) s
+    let s = each_next (BlockGrows unread) blocks c.loop-place.grown i b k l e c.loop-place.invariant g in
+    subst (Each (BlockGrows unread) (take (i + 1) blocks)) (sym c.in_ok-push-in-Some.ensures.ok) s
