@@ -3,16 +3,15 @@
 
 ghost use Rattle.std.specs.Prelude.{◌≡◌, ◌↔◌, ℕ, length, ◌<◌, ◌^◌, ◌++◌, IfOk, IsTrue};
 ghost use Rattle.std.specs.List.{flat_map};
-ghost use Rattle.vx_flow.specs.Sound.{targets_of};
 ghost use Rattle.vx_flow.specs.Live.{IsLive, LiveOn, route_of, routes_from, touches_of};
 ghost use Rattle.vx_flow.specs.Rows.{lives, row_at, Rising};
 ghost use Rattle.vx_flow.specs.Closing.{BeginWithin, EnteringFound, ReadersFound};
 
 use crate::closing::{list_found, live_nodes, unmarked};
-use crate::graph::{Block, BlockId, Exit, Graph, Op};
+use crate::graph::{Block, BlockId, Graph, Op};
 use crate::live_rows::Live;
 use crate::route_index::{entering_of, readers_of};
-use crate::routes::{Route, Touch};
+use crate::routes::{Route, Touch, targets_of};
 use crate::rows::Rows;
 use crate::touching::{touch_exit, touch_reads, touch_writes};
 use std::alloc::Global;
@@ -93,24 +92,6 @@ fn route_of(alloc: Global, from: BlockId, block: &Block) -> Result<Route, NoMemo
     push_ops(&mut touches, block.ops.as_slice())?;
     touch_exit(&mut touches, &block.exit)?;
     Ok(Route { from, to, touches })
-}
-
-/// The blocks to which an exit leads.
-fn targets_of(alloc: Global, exit: &Exit) -> Result<Listed<BlockId>, NoMemory>
-    ensures { IfOk result (λ targets. targets ≡ targets_of exit.now) }
-{
-    let mut targets = Listed::new(alloc);
-    match exit {
-        Exit::Goto(to) => targets.push(*to)?,
-        Exit::Split { yes, no, .. } => {
-            targets.push(*yes)?;
-            targets.push(*no)?;
-        }
-        Exit::Call { next, .. } => targets.push(*next)?,
-        Exit::Return(_) => {}
-        Exit::Ends(_) => {}
-    }
-    Ok(targets)
 }
 
 /// What operations do to values, in order.

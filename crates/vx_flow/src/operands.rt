@@ -2,7 +2,7 @@
 // says the same, and what is added to a list is `reads` of specs/Effects.antt.
 
 ghost use Rattle.std.specs.Prelude.{◌≡◌, ◌++◌, IfOk};
-ghost use Rattle.vx_flow.specs.Effects.{is_unary, reads, value_in};
+ghost use Rattle.vx_flow.specs.Effects.{dismissed, is_unary, reads, value_in};
 ghost use Rattle.vx_flow.specs.Operands.{first_operand, held_by, is_observable, read_by, reads_three, second_operand, value_list, values_read, with_two, written_by};
 
 use crate::graph::{Op, Operand, Value};
@@ -195,6 +195,26 @@ pub fn with_two(op: &Op, first: Operand, second: Operand) -> Op
         },
         Op::Decimal { .. } => Op::Decimal { from: first },
         _ => *op,
+    }
+}
+
+/// The operation, dismissible if it is a load.
+pub fn dismissed(op: Op) -> Op
+    ensures { result ≡ dismissed op }
+{
+    match op {
+        Op::Load {
+            to,
+            array,
+            place,
+            ..
+        } => Op::Load {
+            to,
+            array,
+            place,
+            dismissible: true,
+        },
+        _ => op,
     }
 }
 

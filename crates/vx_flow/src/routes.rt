@@ -1,8 +1,13 @@
 // Routes: ways from a node of a graph to others, each with the values that it reads and writes on the way. A block is a
 // route; so is each way through a region of words from where it is entered to where it is left.
 
-use crate::graph::{BlockId, Value};
+ghost use Rattle.std.specs.Prelude.{◌≡◌, IfOk};
+ghost use Rattle.vx_flow.specs.Sound.{targets_of};
+
+use crate::graph::{BlockId, Exit, Value};
+use std::alloc::Global;
 use vx_base::listed::Listed;
+use vx_base::outcome::NoMemory;
 
 /// A value that is read or written on a route.
 #[derive(Clone, Copy)]
@@ -22,4 +27,22 @@ pub struct Route {
     pub to: Listed<BlockId>,
     /// What is read and written on the way, in order.
     pub touches: Listed<Touch>,
+}
+
+/// The blocks to which an exit leads.
+pub fn targets_of(alloc: Global, exit: &Exit) -> Result<Listed<BlockId>, NoMemory>
+    ensures { IfOk result (λ targets. targets ≡ targets_of exit.now) }
+{
+    let mut targets = Listed::new(alloc);
+    match exit {
+        Exit::Goto(to) => targets.push(*to)?,
+        Exit::Split { yes, no, .. } => {
+            targets.push(*yes)?;
+            targets.push(*no)?;
+        }
+        Exit::Call { next, .. } => targets.push(*next)?,
+        Exit::Return(_) => {}
+        Exit::Ends(_) => {}
+    }
+    Ok(targets)
 }

@@ -6,7 +6,6 @@ ghost use Rattle.std.specs.List.{flat_map};
 ghost use Rattle.vx_flow.specs.declared.graph.Exit.{Exit};
 ghost use Rattle.vx_flow.specs.declared.routes.Route.{Route};
 ghost use Rattle.vx_flow.specs.Effects.{IsIn};
-ghost use Rattle.vx_flow.specs.Sound.{targets_of};
 ghost use Rattle.vx_mixed.specs.declared.region.Node.TheVariants.{Unused};
 ghost use Rattle.vx_mixed.specs.Live.{Live as IsLive};
 ghost use Rattle.vx_mixed.specs.Routes.{behind, exit_route, live_values, node_route, node_routes, off_end, off_ends, region_routes, region_starts, routes, word_route, word_routes};
@@ -21,7 +20,7 @@ use vx_base::outcome::NoMemory;
 use vx_flow::graph::{Block, BlockId, Exit, Value};
 use vx_flow::live_on;
 use vx_flow::live_rows::Live;
-use vx_flow::routes::Route;
+use vx_flow::routes::{Route, targets_of};
 
 /// The values that are live at each block: on some way from there the value is read before it is written.
 pub fn live_at_blocks(alloc: Global, graph: &MixedGraph) -> Result<Live, NoMemory>
@@ -134,24 +133,6 @@ fn block_route(alloc: Global, from: BlockId, block: &Block) -> Result<Route, NoM
     push_ops(&mut touches, block.ops.as_slice())?;
     push_exit(&mut touches, &block.exit)?;
     Ok(Route { from, to, touches })
-}
-
-/// The blocks to which an exit leads.
-fn targets_of(alloc: Global, exit: &Exit) -> Result<Listed<BlockId>, NoMemory>
-    ensures { IfOk result (λ targets. targets ≡ targets_of exit.now) }
-{
-    let mut targets = Listed::new(alloc);
-    match exit {
-        Exit::Goto(to) => targets.push(*to)?,
-        Exit::Split { yes, no, .. } => {
-            targets.push(*yes)?;
-            targets.push(*no)?;
-        }
-        Exit::Call { next, .. } => targets.push(*next)?,
-        Exit::Return(_) => {}
-        Exit::Ends(_) => {}
-    }
-    Ok(targets)
 }
 
 /// The words of regions and their exits as routes.

@@ -13,9 +13,9 @@ use vx_base::listed::Listed;
 use vx_base::outcome::NoMemory;
 use vx_dep::copies::{EdgeCopies, Rejoin};
 use vx_flow::graph::{Edge, Op};
+use vx_flow::operands::dismissed;
 use vx_flow::trace::{Join, Placed, TraceOp};
 use vx_mixed::region::Made;
-use vx_replace::placing::dismissed;
 
 /// All of them.
 pub(crate) fn made_blocks(

@@ -8,7 +8,7 @@ mod exchanging;
 pub mod function;
 mod joining;
 mod origins;
-pub mod placing;
+mod placing;
 mod renaming;
 mod replacing;
 mod tracing;

@@ -2,7 +2,6 @@
 // are; the clause of `region_of` carries the promise.
 
 ghost use Rattle.std.specs.Prelude.{◌≡◌, ◌+◌, ◌<◌, ◌^◌, ℕ, IfOk, List, drop, length, slice_get, slice_index_or, ◌≤◌};
-ghost use Rattle.vx_flow.specs.Effects.{dismissed};
 ghost use Rattle.vx_mixed.specs.CanReplace.{ListsFit, WordsFit};
 ghost use Rattle.vx_mixed.specs.Next.{exit_in, last_of, new_end, new_region, renamed_exit};
 ghost use Rattle.vx_replace.specs.Placing.{bound_behind, drains_behind, freed_below, placed_item};
@@ -13,6 +12,7 @@ use std::alloc::Global;
 use vx_base::listed::{Listed, copied};
 use vx_base::outcome::NoMemory;
 use vx_flow::graph::{BlockId, Edge, Exit, Op};
+use vx_flow::operands::dismissed;
 use vx_flow::trace::TraceOp;
 use vx_mixed::mixed::MixedGraph;
 use vx_mixed::region::{Item, Region};
@@ -138,26 +138,6 @@ fn freed_below(word: u32, bound: u32, op: Op) -> Op
     ensures { result ≡ freed_below word bound op }
 {
     if word < bound { dismissed(op) } else { op }
-}
-
-/// The operation, dismissible if it is a load.
-pub fn dismissed(op: Op) -> Op
-    ensures { result ≡ dismissed op }
-{
-    match op {
-        Op::Load {
-            to,
-            array,
-            place,
-            ..
-        } => Op::Load {
-            to,
-            array,
-            place,
-            dismissible: true,
-        },
-        _ => op,
-    }
 }
 
 fn splits_in(op: &TraceOp) -> usize
