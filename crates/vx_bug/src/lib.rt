@@ -1,5 +1,5 @@
-// The cluster of each operation of a trace, from the bottom up by estimates (Ellis, 1985), and the copies of values that they need
-// of other clusters.
+// The cluster of each operation of a trace, bottom up and greedily (BUG, after Ellis, 1985), and the copies of values of other
+// clusters that the operations need.
 #![tactic(auto)]
 
 mod assigning;

@@ -1,5 +1,5 @@
-// The words that carry a planned word: its operations, in the registers by which it names values, with what comes from slots and goes
-// there, and its landings.
+// One planned word over values made into words over registers: what it reads from slots of the frame before it, its operations, what
+// goes to slots behind it, and its landings.
 #![tactic(auto)]
 
 mod carrying;

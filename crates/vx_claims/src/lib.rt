@@ -1,4 +1,5 @@
-// What may be claimed of the values and arrays of a graph, and what is known behind its operations.
+// Claims, the facts of the analysis: where numbers lie, what values hold, which words of arrays are known; and what operations and the
+// sides of splits make of them.
 #![tactic(auto)]
 
 pub mod access;

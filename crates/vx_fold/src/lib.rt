@@ -1,4 +1,4 @@
-// A flow with numbers in place of values that only ever hold them does what it did.
+// A pass over the graphs of a program: a value that only ever holds one number is read as that number. The flow does what it did.
 #![tactic(auto)]
 
 mod folding;

@@ -1,4 +1,5 @@
-// From functions that are laid out as words over values to a program of words over registers: all pieces at their places.
+// The last pass: the layouts of all functions, words over values, become one program of words over registers. Frames of the stack
+// are vx_memory's.
 #![tactic(auto)]
 
 mod finishing;

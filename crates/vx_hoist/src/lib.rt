@@ -1,4 +1,5 @@
-// A flow with what loops need not do again done before them does what it did.
+// A pass over the graphs of a program: what each turn of a loop computes anew is computed before the loop too, for vx_narrow to read
+// there. The flow does what it did.
 #![tactic(auto)]
 
 mod growing;

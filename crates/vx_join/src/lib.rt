@@ -1,4 +1,5 @@
-// What a placement owes to those who enter its trace at a join.
+// Compensation at joins: at which word of a placed trace an edge into its middle enters, and which operations are copied onto that
+// edge.
 #![tactic(auto)]
 
 mod joins;

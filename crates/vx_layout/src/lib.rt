@@ -1,5 +1,5 @@
-// A graph of which no block is left, laid out as words. The layout keeps its meaning, is settled where the graph is, and has its
-// code.
+// The regions of a function, into which all of its blocks went, set one behind the other as one row of words over values; and the laws
+// that this row does what the graph does.
 #![tactic(auto)]
 
 pub mod laws;

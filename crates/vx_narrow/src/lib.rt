@@ -1,4 +1,5 @@
-// The graphs of a program by what checked facts say: a flow whose operations and splits go by what is known there does what it did.
+// A pass over the graphs of a program, by checked facts: index checks and splits that are decided go, results and loaded words are
+// read again, and products by small numbers are cheap. The flow does what it did.
 #![tactic(auto)]
 
 pub mod laws;

@@ -1,4 +1,5 @@
-// Claims that a graph may pass with, and what all calls give of parameters, looked for; vx_facts checks them.
+// A search for claims (vx_claims) at the starts of blocks and for parameters, by sweeps over the graphs. It owes nothing: vx_facts
+// checks what it finds.
 #![tactic(auto)]
 
 mod calling;

@@ -1,5 +1,5 @@
-// A whole program while it is finished, the registers by which its words name values, and the words that bring values from their slots
-// and to them.
+// The words that bring values from slots of the frame to registers and back, and the register of each value that has one. What is
+// known of a whole program while its words are made stands here too (`Whole`).
 #![tactic(auto)]
 
 pub mod gathering;

@@ -1,4 +1,5 @@
-// What a placement owes to those who leave its trace at a split.
+// Compensation at splits: which operations of a placed trace are copied onto the edges that leave it, since they were placed behind
+// the split.
 #![tactic(auto)]
 
 mod splits;

@@ -1,5 +1,5 @@
-// Where the values, frames and words of a program are (specs/Target.antt), the words that carry a laid-out word, when a state of words
-// over values and one of words over registers are tied, and when a program carries layouts; with what all proofs of them share.
+// What a finished program is: where values, frames and words are (specs/Target.antt), which words stand for a word of a layout (they
+// carry it), and when two states are tied (they hold the same values). The laws of vx_tie and vx_heat and the code of vx_frame meet here.
 #![tactic(auto)]
 
 pub mod finished;

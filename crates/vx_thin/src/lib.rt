@@ -1,4 +1,4 @@
-// A flow without the operations whose results are not read does what it did.
+// A pass over the graphs of a program: operations whose results are never read are dropped. The flow does what it did.
 #![tactic(auto)]
 
 pub mod laws;
