@@ -18,7 +18,7 @@ use Rattle.vx_lower.specs.FlowOf.{GraphOf}
 use Rattle.vx_shape.specs.Flows.{with_graphs, Each, FlowStays}
 use Rattle.vx_thin.specs.Thinning.{result_alone, is_unread, are_read}
 
--- the operation has a meaning wherever it is executed, and its order among others cannot be seen; a copy across is none of these
+-- the operation has a meaning wherever it is executed, and its order among others cannot be seen; and it is no copy across
 abbrev pub is_total : Op → Bool
 is_total (Load v a p dismissible) = dismissible
 is_total (Store a p x) = false

@@ -1,4 +1,4 @@
-// The limits L3 to L8 of a program, and the nodes of its functions.
+// The limits on how many things a program has (L3 to L8 of docs/LANGUAGE.md: functions to bytes of a format), and nodes of functions.
 #![tactic(auto)]
 
 pub mod limits;

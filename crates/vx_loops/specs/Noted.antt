@@ -115,8 +115,8 @@ pub record SourcesOf (blocks first : List Block) (sources : List (List ℕ)) : T
   pub count : (b : ℕ) → b < length blocks → length (row_at sources b) ≡ times_in b (all_targets first)
   pub leads : (from b : ℕ) → IsIn from (row_at sources b) → Leads blocks from b
 
--- the tables have a place for each block, value and array of a graph, and for each block those from which edges lead to it, one for
--- each edge
+-- the tables have a place for each block, value and array of a graph, and for each block as many blocks as edges lead to it, none of
+-- them without such an edge
 pub record TablesIn (g : Graph) (member_row writer_row store_row : List ℕ) (sources : List (List ℕ)) : Type 0 where
   pub members : length member_row ≡ length g.blocks
   pub values : length writer_row ≡ length g.banks

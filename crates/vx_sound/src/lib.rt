@@ -1,4 +1,4 @@
-// Whether the graphs of a program are sound, by a table of the values that are places of local arrays.
+// Whether a graph, and the graphs of a program, are sound: tests without memory, and one by a table of the places of local arrays.
 #![tactic(auto)]
 
 mod named;

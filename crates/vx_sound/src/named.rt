@@ -1,5 +1,5 @@
 // The tests of an operation by itself: whether what it names is there and of its kind, and whether it leaves a value to the places
-// of one array. Every other file asks an operation what it reads and writes. The exits are tested for what they name. Nothing here
+// of one array. The other files name only places, loads, stores and texts. The exits are tested for what they name. Nothing here
 // takes memory.
 
 ghost use Rattle.std.specs.Prelude.{◌≡◌, ◌==◌, not};

@@ -1,6 +1,6 @@
-// Whether graphs are ones that the calls on graphs and flows ask for. The clauses are `Sound` and `SoundFlow` of
-// specs/Sound.antt, and the tests there. Nothing here takes memory: each operation is tested once with what it names, and each place of, and
-// each access to, a local array by at most one pass over the operations of its graph.
+// Whether graphs are ones that the calls on graphs and flows ask for. The clauses are `Sound` and `SoundFlow` of vx_flow's
+// specs/Sound.antt, and the tests there. Nothing here takes memory: each operation is tested once with what it names, and each place
+// of, and each access to, a local array by at most one pass over the operations of its graph.
 
 ghost use Rattle.std.specs.Prelude.{◌≡◌, ◌↔◌, ◌==◌, true, not};
 ghost use Rattle.std.specs.List.{list_all, list_any};

@@ -1,5 +1,5 @@
 -- A graph that has the shape of a function's graph, and few values, can begin.
-use Rattle.std.proofs.Common.{◌≡◌, ◌⊎◌, inl, inr, ℕ, ◌<◌, true, List, length, refl, subst, arith}
+use Rattle.std.proofs.Common.{◌≡◌, ◌⊎◌, inl, inr, ℕ, ◌<◌, ◌≤◌, true, List, length, refl, subst, arith}
 use Rattle.std.specs.Prelude.{◌*◌, ◌^◌}
 use Rattle.std.proofs.lemmas.Bool.{cases_eq}
 use Rattle.vx_flow.specs.declared.graph.Edge.{Edge}
@@ -12,7 +12,7 @@ use Rattle.vx_shape.specs.Shape.{Shaped}
 use Rattle.vx_shape.specs.ShapeTest.{is_shaped}
 use Rattle.vx_shape.proofs.ShapeTests.{shaped_where_tested}
 
-few : (n : ℕ) → n < 858993459 → 5 * n < 2 ^ 32
+few : (n : ℕ) → n ≤ 858993459 → 5 * n < 2 ^ 32
 few n h = omega arith
 
 apart : (exit : Exit) → ((test c d : ℕ) → exit ≡ Split test c d → c ≡ d → ⊥) → PartsWays exit
@@ -39,7 +39,7 @@ uncritical g shape e f h at_e at_f at_h from to = by (cases_eq f.to e.to)
         let before : IsEdge g h.from e.to = subst (λ z. IsEdge g h.from z) to (there g h at_h) in
         inr (same e h (shape.uncritical e.from f.to e.to h.from beside (there g e at_e) n before) to)
 
-pub begins : (g : Graph) (origins : List ℕ) → is_shaped origins g.blocks ≡ true → length g.banks < 858993459 → CanBegin g
+pub begins : (g : Graph) (origins : List ℕ) → is_shaped origins g.blocks ≡ true → length g.banks ≤ 858993459 → CanBegin g
 begins g origins shaped small =
     let shape : Shaped g = shaped_where_tested g origins shaped in
     record {

@@ -1,6 +1,6 @@
 // Tests of the traces of a function, on rows worked out by hand: which trace is picked, the words in which its operations stand, what
-// is copied at its splits and joins, and the text of the counts by which traces are picked. What is compiled
-// always is what tests rest on.
+// is copied at its splits and joins, and the text of the counts by which traces are picked. What is compiled always is what tests
+// rest on.
 #![tactic(auto)]
 
 mod begins;
