@@ -24,7 +24,6 @@ use Rattle.vx_bug.specs.CanAssign.{FixedAtHome, ClustersAreThere}
 use Rattle.vx_bug.specs.Assigned.{last_books, Assigned}
 use Rattle.vx_bug.specs.Further.{IsHoused, ChosenAreThere, HomesAreThere, HomesStay, AcrossHasHome, RoomForEach}
 use Rattle.vx_bug.proofs.Best.{some_clusters}
-use Rattle.vx_bug.proofs.Renaming.{computed}
 use Rattle.vx_bug.proofs.Making.{stays, reading_is_none}
 use Rattle.vx_bug.proofs.Housed.{housed, housed_lists, Makes, Leaves, either}
 use Rattle.vx_bug.proofs.Everyone.{listed_all}
@@ -67,7 +66,7 @@ stays_at_zero op = is_split (item_of op) || is_observable_item (item_of op)
 
 same_kind : (to : ℕ → ℕ) (op : TraceOp) → stays_at_zero (renamed_op to op) ≡ stays_at_zero op
 same_kind to (Split test leaves_when edge live) = refl
-same_kind to (Plain (Compute code v a b)) = ap (λ x. stays_at_zero (Plain x)) (sym (computed to code v a b))
+same_kind to (Plain (Compute code v a b)) = refl
 same_kind to (Plain (Select v test a b)) = refl
 same_kind to (Plain (Place v a i)) = refl
 same_kind to (Plain (Load v a p dismissible)) = refl

@@ -9,7 +9,6 @@ pub mod Sourced
 pub mod Best
 pub mod Listing
 pub mod Taking
-pub mod Renaming
 pub mod Needing
 pub mod Pieces
 pub mod Housed

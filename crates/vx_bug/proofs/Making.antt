@@ -13,7 +13,6 @@ use Rattle.vx_bug.specs.Copies.{copy_of, is_away, reads_copies, is_served, copie
 use Rattle.vx_bug.specs.Laying.{standing, served_at}
 use Rattle.vx_bug.specs.CanAssign.{ValuesAreThere}
 use Rattle.vx_bug.proofs.Listing.{in_append}
-use Rattle.vx_bug.proofs.Renaming.{computed}
 use Rattle.vx_bug.proofs.Housed.{Bounded}
 
 -- the values that are copied are read
@@ -50,7 +49,7 @@ across_in values k (u ∷ us) l v h = ⊎_elim (λ e. let q : v ≡ u = the_valu
 
 pub stays : (to : ℕ → ℕ) (op : TraceOp) → is_across (renamed_op to op) ≡ is_across op
 stays to (Split test leaves_when edge live) = refl
-stays to (Plain (Compute code v a b)) = ap (λ x. is_across (Plain x)) (sym (computed to code v a b))
+stays to (Plain (Compute code v a b)) = refl
 stays to (Plain (Select v test a b)) = refl
 stays to (Plain (Place v a i)) = refl
 stays to (Plain (Load v a p dismissible)) = refl

@@ -2,16 +2,14 @@
 -- them.
 use Rattle.std.specs.Prelude.{◌+◌, ◌*◌, ◌&&◌, ◌==◌, not, ℕ, Bool, true, false, if◌then◌else◌, nat_eq, Option, Some, None, List, [], ◌∷◌, ◌++◌, length, map, take, flat_map}
 use Rattle.std.specs.List.{list_any, filter}
-use Rattle.vx_base.specs.declared.arithmetic.Code.TheVariants.{Mov}
-use Rattle.vx_flow.specs.declared.graph.Operand.{Operand}
-use Rattle.vx_flow.specs.declared.graph.Operand.TheVariants.{Held, Number, Stack}
 use Rattle.vx_flow.specs.declared.graph.Op.{Op}
-use Rattle.vx_flow.specs.declared.graph.Op.TheVariants.{Compute, Select, Place, Load, Store, More, Input, Text, Decimal, Across}
+use Rattle.vx_flow.specs.declared.graph.Op.TheVariants.{Across}
 use Rattle.vx_flow.specs.declared.trace.TraceOp.{TraceOp}
 use Rattle.vx_flow.specs.declared.trace.TraceOp.TheVariants.{Plain, Split}
 use Rattle.vx_flow.specs.declared.trace.Join.{Join}
 use Rattle.vx_flow.specs.declared.trace.Trace.{Trace}
 use Rattle.vx_flow.specs.declared.trace.Clustered.{Clustered}
+use Rattle.vx_flow.specs.Operands.{with_value_in, with_operands}
 use Rattle.vx_linear.specs.Followed.{is_join}
 use Rattle.vx_dep.specs.Delays.{writes_of}
 use Rattle.vx_bug.specs.declared.served.Served.{Served}
@@ -50,23 +48,8 @@ copied_for homes cluster served (v ∷ vs) =
 
 -- the operation with other general values among its operands
 
-abbrev pub renamed_operand : (ℕ → ℕ) → Operand → Operand
-renamed_operand to (Held v) = Held (to v)
-renamed_operand to (Number n) = Number n
-renamed_operand to Stack = Stack
-
 abbrev pub renamed : (ℕ → ℕ) → Op → Op
-renamed to (Compute Mov v a b) = Compute Mov v (renamed_operand to a) b
-renamed to (Compute code v a b) = Compute code v (renamed_operand to a) (renamed_operand to b)
-renamed to (Select v test a b) = Select v test (renamed_operand to a) (renamed_operand to b)
-renamed to (Place v a i) = Place v a (renamed_operand to i)
-renamed to (Load v a p dismissible) = Load v a (renamed_operand to p) dismissible
-renamed to (Store a p x) = Store a (renamed_operand to p) (renamed_operand to x)
-renamed to (More v) = More v
-renamed to (Input v) = Input v
-renamed to (Text n) = Text n
-renamed to (Decimal x) = Decimal (renamed_operand to x)
-renamed to (Across v u) = Across v u
+renamed to op = with_operands (with_value_in to) op
 
 abbrev pub renamed_op : (ℕ → ℕ) → TraceOp → TraceOp
 renamed_op to (Plain op) = Plain (renamed to op)

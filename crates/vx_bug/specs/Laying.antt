@@ -1,8 +1,5 @@
 -- The clustered trace as it is laid down, piece by piece.
 use Rattle.std.specs.Prelude.{◌≡◌, ◌+◌, ◌-◌, ◌==◌, ℕ, min, if◌then◌else◌, Option, Some, None, List, [], ◌∷◌, ◌++◌, length, map, slice_index_or}
-use Rattle.vx_base.specs.declared.arithmetic.Code.{Code}
-use Rattle.vx_base.specs.declared.arithmetic.Code.TheVariants.{Mov}
-use Rattle.vx_flow.specs.declared.graph.Operand.{Operand}
 use Rattle.vx_flow.specs.declared.graph.Op.TheVariants.{Across}
 use Rattle.vx_flow.specs.declared.trace.TraceOp.{TraceOp}
 use Rattle.vx_flow.specs.declared.trace.TraceOp.TheVariants.{Plain}
@@ -13,7 +10,7 @@ use Rattle.vx_bug.specs.declared.copying.Standings.{Standings}
 use Rattle.vx_bug.specs.declared.served.Served.{Served}
 use Rattle.vx_bug.specs.Clusters.{general_reads}
 use Rattle.vx_bug.specs.Ledgers.{placed}
-use Rattle.vx_bug.specs.Copies.{Standing, copy_of, renamed_operand, reads_copies, serve, copied_for, with_its_copies, served_behind, joined}
+use Rattle.vx_bug.specs.Copies.{Standing, copy_of, reads_copies, serve, copied_for, with_its_copies, served_behind, joined}
 
 abbrev pub standing : TraceOp → (cluster : ℕ) → (fixed : Option ℕ) → Standing
 standing op cluster fixed = record { op = op; cluster = cluster; fixed = fixed }
@@ -23,11 +20,6 @@ pub record Adds (old new : Standings) (standings : List Standing) : Type 0 where
   pub ops : new.ops ≡ old.ops ++ map (λ (s : Standing). s.op) standings
   pub clusters : new.clusters ≡ old.clusters ++ map (λ (s : Standing). s.cluster) standings
   pub fixed : new.fixed ≡ old.fixed ++ map (λ (s : Standing). s.fixed) standings
-
--- the right operand of a computation
-abbrev pub right_renamed : (ℕ → ℕ) → Code → Operand → Operand
-right_renamed to Mov b = b
-right_renamed to code b = renamed_operand to b
 
 -- with the copies that are made for an operation
 abbrev pub served_with : (homes : ℕ → Option ℕ) → List Served → TraceOp → (cluster : ℕ) → (fixed : Option ℕ) → List Served

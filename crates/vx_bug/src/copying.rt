@@ -3,20 +3,21 @@
 
 ghost use Rattle.std.specs.Prelude.{◌≡◌, ◌++◌, ◌+◌, ◌*◌, [], ◌∷◌, IfOk, OnOk, map, not, nat_eq, ◌==◌};
 ghost use Rattle.std.specs.List.{list_any, filter};
+ghost use Rattle.vx_flow.specs.Operands.{with_value_in};
 ghost use Rattle.vx_bug.specs.Clusters.{some_of, general_reads};
-ghost use Rattle.vx_bug.specs.Copies.{copy_of, is_away, reads_copies, is_served, serve, copied_for, renamed_operand, renamed, renamed_op, here, across, with_its_copies, served_behind};
+ghost use Rattle.vx_bug.specs.Copies.{copy_of, is_away, reads_copies, is_served, serve, copied_for, renamed, renamed_op, here, across, with_its_copies, served_behind};
 ghost use Rattle.vx_bug.specs.Ledgers.{homes_in};
-ghost use Rattle.vx_bug.specs.Laying.{Adds, standing, right_renamed, served_with};
+ghost use Rattle.vx_bug.specs.Laying.{Adds, standing, served_with};
 
 use crate::homes::home_in;
 use crate::naming::{general_reads, written};
 use crate::served::Served;
 use std::alloc::Global;
-use vx_base::arithmetic::Code;
 use vx_base::listed::Listed;
 use vx_base::outcome::NoMemory;
 use vx_flow::copies::copied_op;
 use vx_flow::graph::{Op, Operand, Value};
+use vx_flow::operands::{first_operand, second_operand, with_two};
 use vx_flow::trace::TraceOp;
 
 /// Where an operation stands: its cluster, with the homes of values and how many values the function's graph has.
@@ -90,7 +91,7 @@ fn value_here(site: &Site, value: Value) -> Result<Value, NoMemory>
 }
 
 fn operand_here(site: &Site, operand: &Operand) -> Result<Operand, NoMemory>
-    ensures { IfOk result (λ found. found ≡ renamed_operand (here site.now.values (homes_in site.now.homes.now) site.now.cluster) operand.now) }
+    ensures { IfOk result (λ found. found ≡ with_value_in (here site.now.values (homes_in site.now.homes.now) site.now.cluster) operand.now) }
 {
     match operand {
         Operand::Held(value) => Ok(Operand::Held(value_here(site, *value)?)),
@@ -99,70 +100,13 @@ fn operand_here(site: &Site, operand: &Operand) -> Result<Operand, NoMemory>
     }
 }
 
-/// The right operand of a computation; that of a move is not read, and stays.
-fn right_here(site: &Site, code: Code, operand: &Operand) -> Result<Operand, NoMemory>
-    ensures { IfOk result (λ found. found ≡ right_renamed (here site.now.values (homes_in site.now.homes.now) site.now.cluster) code operand.now) }
-{
-    match code {
-        Code::Mov => Ok(*operand),
-        _ => operand_here(site, operand),
-    }
-}
-
 /// The operation with the copies of values that stand on other clusters.
-#[tactic(auto, using(crate::proofs::Renaming::computed_here))]
 fn plain_here(site: &Site, op: &Op) -> Result<Op, NoMemory>
     ensures { IfOk result (λ found. found ≡ renamed (here site.now.values (homes_in site.now.homes.now) site.now.cluster) op.now) }
 {
-    match op {
-        Op::Compute {
-            code,
-            to,
-            left,
-            right,
-        } => Ok(Op::Compute {
-            code: *code,
-            to: *to,
-            left: operand_here(site, left)?,
-            right: right_here(site, *code, right)?,
-        }),
-        Op::Select {
-            to,
-            test,
-            left,
-            right,
-        } => Ok(Op::Select {
-            to: *to,
-            test: *test,
-            left: operand_here(site, left)?,
-            right: operand_here(site, right)?,
-        }),
-        Op::Place { to, array, index } => Ok(Op::Place {
-            to: *to,
-            array: *array,
-            index: operand_here(site, index)?,
-        }),
-        Op::Load {
-            to,
-            array,
-            place,
-            dismissible,
-        } => Ok(Op::Load {
-            to: *to,
-            array: *array,
-            place: operand_here(site, place)?,
-            dismissible: *dismissible,
-        }),
-        Op::Store { array, place, from } => Ok(Op::Store {
-            array: *array,
-            place: operand_here(site, place)?,
-            from: operand_here(site, from)?,
-        }),
-        Op::Decimal { from } => Ok(Op::Decimal {
-            from: operand_here(site, from)?,
-        }),
-        Op::More { .. } | Op::Input { .. } | Op::Text { .. } | Op::Across { .. } => Ok(*op),
-    }
+    let first = operand_here(site, &first_operand(op))?;
+    let second = operand_here(site, &second_operand(op))?;
+    Ok(with_two(op, first, second))
 }
 
 fn op_here(alloc: Global, site: &Site, op: &TraceOp) -> Result<TraceOp, NoMemory>

@@ -18,7 +18,7 @@ use vx_machine::items::Item;
 
 /// The values that an operation reads.
 #[tactic(auto, using(crate::proofs::Named::reads_by))]
-pub(crate) fn values_read(op: &TraceOp) -> Reads
+pub(crate) fn reads_of(op: &TraceOp) -> Reads
     ensures { reads_of op.now ≡ values_read result }
 {
     read(op)
@@ -26,24 +26,24 @@ pub(crate) fn values_read(op: &TraceOp) -> Reads
 
 /// The general values that an operation reads, in the order of its operands.
 #[derive(Clone, Copy)]
-pub(crate) struct Operands {
+pub(crate) struct GeneralReads {
     pub(crate) left: Option<Value>,
     pub(crate) right: Option<Value>,
 }
 
 /// The general values that an operation reads: those behind its test, where it has one.
 #[tactic(auto, using(crate::proofs::Named::behind_test, crate::proofs::Named::without_test))]
-pub(crate) fn general_reads(op: &TraceOp) -> Operands
+pub(crate) fn general_reads(op: &TraceOp) -> GeneralReads
     ensures { general_reads op.now ≡ some_of result.left ++ some_of result.right }
 {
     let values = read(op);
     if has_test(op) {
-        Operands {
+        GeneralReads {
             left: values.second,
             right: values.third,
         }
     } else {
-        Operands {
+        GeneralReads {
             left: values.first,
             right: values.second,
         }

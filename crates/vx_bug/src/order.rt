@@ -7,7 +7,7 @@ ghost use Rattle.vx_linear.specs.Writers.{writer};
 ghost use Rattle.vx_bug.specs.Clusters.{some_of, writers_of, visit, listed};
 ghost use Rattle.vx_bug.specs.Tasks.{done, all_done, entries, turns, weight, all_weight};
 
-use crate::naming::{values_read, writer};
+use crate::naming::{reads_of, writer};
 use std::alloc::Global;
 use vx_base::listed::Listed;
 use vx_base::outcome::NoMemory;
@@ -114,7 +114,7 @@ fn enter_writers(
     match op_at(trace, place) {
         None => Ok(()),
         Some(op) => {
-            let read = values_read(op);
+            let read = reads_of(op);
             enter_writer(trace, depth, place, read.third, tasks)?;
             enter_writer(trace, depth, place, read.second, tasks)?;
             enter_writer(trace, depth, place, read.first, tasks)?;

@@ -9,7 +9,7 @@ ghost use Rattle.vx_bug.specs.Sources.{there_on, earliest_on, IsSource, AreSourc
 use crate::bookings::{Booking, estimate_in, free_cycle};
 use crate::homes::{give_home, home_in};
 use crate::ledger::Ledger;
-use crate::naming::{general_reads, general_result, is_across, values_read, writer};
+use crate::naming::{general_reads, general_result, is_across, reads_of, writer};
 use std::alloc::Global;
 use vx_base::outcome::NoMemory;
 use vx_flow::graph::Value;
@@ -105,7 +105,7 @@ fn find_source_if(turn: &Turn, ledger: &Ledger, value: Option<Value>) -> Option<
 pub(crate) fn find_sources(turn: &Turn, ledger: &Ledger) -> Sources
     ensures { AreSources turn.now.machine turn.now.trace.now (books_of ledger.now) turn.now.place turn.now.op.now result }
 {
-    let read = values_read(turn.op);
+    let read = reads_of(turn.op);
     let first = find_source_if(turn, ledger, read.first);
     let second = find_source_if(turn, ledger, read.second);
     let third = find_source_if(turn, ledger, read.third);

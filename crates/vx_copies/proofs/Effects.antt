@@ -1,26 +1,23 @@
 -- One operation that reads the same contents in two states.
-use Rattle.std.proofs.Common.{◌≡◌, inl, inr, refl, sym, ◌∙◌, ap, subst, Bool, true, false, if◌then◌else◌, nat_eq, ℕ, ℤ, Option, Some, None, List, [], ◌∷◌, ◌++◌, length, slice_set, slice_index_or}
+use Rattle.std.proofs.Common.{◌≡◌, inl, inr, refl, sym, ◌∙◌, ap, subst, Bool, true, false, if◌then◌else◌, nat_eq, ℕ, ℤ, Option, Some, None, List, [], ◌∷◌, ◌++◌, length, map, slice_set, slice_index_or}
 use Rattle.std.specs.List.{list_any}
 use Rattle.vx_base.specs.Arithmetic.{value_of, one_if}
 use Rattle.vx_base.specs.declared.arithmetic.Code.{Code}
-use Rattle.vx_base.specs.declared.arithmetic.Code.TheVariants.{Add, Sub, And, Or, Xor, Shl, Shr, Shru, Sh2add, Max, Min, Mov, ToGeneral, ToBranch, Mpylu, Mpyhs, Div, Rem}
 use Rattle.vx_flow.specs.declared.graph.Operand.{Operand}
 use Rattle.vx_flow.specs.declared.graph.Operand.TheVariants.{Held, Number, Stack}
 use Rattle.vx_flow.specs.declared.graph.Op.{Op}
 use Rattle.vx_flow.specs.declared.graph.Op.TheVariants.{Compute, Select, Place, Load, Store, More, Input, Text, Decimal, Across}
 use Rattle.vx_flow.specs.declared.trace.TraceOp.{TraceOp}
 use Rattle.vx_flow.specs.declared.trace.TraceOp.TheVariants.{Plain, Split}
-use Rattle.vx_flow.specs.Effects.{Content, State, Setting, IsIn, held, is_unary, both, computed, chosen, place_of, row_of, cell_in, cell_of, is_left, text_at, with_value, with_cell, loaded, stored, next_input, printed, state_or, effect, calm_effect, value_in, writes}
+use Rattle.vx_flow.specs.Effects.{Content, State, Setting, IsIn, held, is_unary, both, computed, chosen, place_of, row_of, cell_in, cell_of, is_left, text_at, with_value, with_cell, loaded, stored, next_input, printed, state_or, effect, calm_effect, value_in, reads, writes}
+use Rattle.vx_flow.specs.Operands.{with_value_in}
 use Rattle.vx_flow.specs.Agree.{SameWorld}
-use Rattle.vx_flow.proofs.Members.{in_left, in_right}
 use Rattle.vx_linear.specs.InOrder.{in_order}
 use Rattle.vx_linear.proofs.InOrder.{with_value_kept, with_value_there}
 use Rattle.vx_dep.specs.Delays.{reads_of, writes_of}
 use Rattle.vx_bug.specs.Clusters.{general_reads}
-use Rattle.vx_bug.specs.Copies.{renamed_operand, renamed_op}
-use Rattle.vx_bug.specs.Laying.{right_renamed}
-use Rattle.vx_bug.proofs.Renaming.{computed as computed_renamed}
-use Rattle.vx_copies.specs.Beside.{SameReads, computes, selects, finds, loads, stores, asks, takes, says, shows, brings, SameReadsOf, executes, tests}
+use Rattle.vx_bug.specs.Copies.{renamed, renamed_op}
+use Rattle.vx_copies.specs.Beside.{SameReads, SameReadsOf, executes, tests}
 
 -- what is written is the same, all else stays
 pub record Moved (written : List ℕ) (s s' t t' : State) : Type 0 where
@@ -46,14 +43,7 @@ After written s s' None (Some t') = ⊥
 After written s s' (Some t) None = ⊥
 After written s s' (Some t) (Some t') = Moved written s s' t t'
 
--- what is computed
-
-computed_same : (code : Code) (a b a' b' : Content) → a' ≡ a → (is_unary code ≡ false → b' ≡ b) → computed code a' b' ≡ computed code a b
-computed_same code a b a' b' p q = by (is_unary code) refl
-  where
-    by : (u : Bool) → is_unary code ≡ u → computed code a' b' ≡ computed code a b
-    by true e = ap (λ z. if z then a' else both (value_of code) a' b') e ∙ p ∙ sym (ap (λ z. if z then a else both (value_of code) a b) e)
-    by false e = ap (λ z. if z then a' else both (value_of code) a' b') e ∙ ap (λ z. both (value_of code) z b') p ∙ ap (λ z. both (value_of code) a z) (q e) ∙ sym (ap (λ z. if z then a else both (value_of code) a b) e)
+-- what is chosen
 
 chosen_same : (p a b p' a' b' : Content) → p' ≡ p → a' ≡ a → b' ≡ b → chosen p' a' b' ≡ chosen p a b
 chosen_same p a b p' a' b' x y z = ap (λ i. chosen i a' b') x ∙ ap (λ i. chosen p i b') y ∙ ap (λ i. chosen p a i) z
@@ -123,31 +113,83 @@ calm_or s s' None (Some t') w m = absurd m
 calm_or s s' (Some t) None w m = absurd m
 calm_or s s' (Some t) (Some t') w m = m
 
+-- what is read, from what both states hold
+
+one_held : (s s' : State) (to : ℕ → ℕ) (x : Operand) → map s'.values (value_in (with_value_in to x)) ≡ map s.values (value_in x) → held s' (with_value_in to x) ≡ held s x
+one_held s s' to (Held v) e = let f : s'.values (to v) ∷ [] ≡ s.values v ∷ [] = e in cc
+one_held s s' to (Number n) e = refl
+one_held s s' to Stack e = refl
+
+two_held : (s s' : State) (to : ℕ → ℕ) (a b : Operand) → map s'.values (value_in (with_value_in to a) ++ value_in (with_value_in to b)) ≡ map s.values (value_in a ++ value_in b) →
+    (held s' (with_value_in to a) ≡ held s a) × (held s' (with_value_in to b) ≡ held s b)
+two_held s s' to (Held v) b e =
+    let f : s'.values (to v) ∷ map s'.values (value_in (with_value_in to b)) ≡ s.values v ∷ map s.values (value_in b) = e in
+    let first : s'.values (to v) ≡ s.values v = cc in
+    let others : map s'.values (value_in (with_value_in to b)) ≡ map s.values (value_in b) = cc in
+    (first, one_held s s' to b others)
+two_held s s' to (Number n) b e = (refl, one_held s s' to b e)
+two_held s s' to Stack b e = (refl, one_held s s' to b e)
+
+computed_held : (code : Code) (s s' : State) (to : ℕ → ℕ) (a b : Operand) →
+    map s'.values (if is_unary code then value_in (with_value_in to a) else value_in (with_value_in to a) ++ value_in (if is_unary code then b else with_value_in to b)) ≡ map s.values (if is_unary code then value_in a else value_in a ++ value_in b) →
+    computed code (held s' (with_value_in to a)) (held s' (if is_unary code then b else with_value_in to b)) ≡ computed code (held s a) (held s b)
+computed_held code s s' to a b = by (is_unary code)
+  where
+    by : (u : Bool) → map s'.values (if u then value_in (with_value_in to a) else value_in (with_value_in to a) ++ value_in (if u then b else with_value_in to b)) ≡ map s.values (if u then value_in a else value_in a ++ value_in b) →
+        (if u then held s' (with_value_in to a) else both (value_of code) (held s' (with_value_in to a)) (held s' (if u then b else with_value_in to b))) ≡ (if u then held s a else both (value_of code) (held s a) (held s b))
+    by true e = one_held s s' to a e
+    by false e =
+        let p = two_held s s' to a b e in
+        ap (λ z. both (value_of code) z (held s' (with_value_in to b))) p.0 ∙ ap (λ z. both (value_of code) (held s a) z) p.1
+
 -- all operations
 
+abbrev Contents : (s s' : State) → (to : ℕ → ℕ) → Op → Type 0
+Contents s s' to op = map s'.values (reads (renamed to op)) ≡ map s.values (reads op)
+
+renamed_effects : (setting : Setting) (s s' : State) (to : ℕ → ℕ) (op : Op) → Contents s s' to op → SameWorld s s' → After (writes op) s s' (effect setting s op s) (effect setting s' (renamed to op) s')
+renamed_effects setting s s' to (Compute code v a b) e w =
+    moved_value s s' v (computed code (held s a) (held s b)) (computed code (held s' (with_value_in to a)) (held s' (if is_unary code then b else with_value_in to b))) w (computed_held code s s' to a b e)
+renamed_effects setting s s' to (Select v p a b) e w =
+    let f : s'.values p ∷ map s'.values (value_in (with_value_in to a) ++ value_in (with_value_in to b)) ≡ s.values p ∷ map s.values (value_in a ++ value_in b) = e in
+    let test : s'.values p ≡ s.values p = cc in
+    let others : map s'.values (value_in (with_value_in to a) ++ value_in (with_value_in to b)) ≡ map s.values (value_in a ++ value_in b) = cc in
+    let held_both = two_held s s' to a b others in
+    moved_value s s' v (chosen (s.values p) (held s a) (held s b)) (chosen (s'.values p) (held s' (with_value_in to a)) (held s' (with_value_in to b))) w
+    (chosen_same (s.values p) (held s a) (held s b) (s'.values p) (held s' (with_value_in to a)) (held s' (with_value_in to b)) test held_both.0 held_both.1)
+renamed_effects setting s s' to (Place v a i) e w = moved_value s s' v (place_of (held s i)) (place_of (held s' (with_value_in to i))) w (ap place_of (one_held s s' to i e))
+renamed_effects setting s s' to (Load v a p dismissible) e w =
+    loaded_after s s' v (row_of s (setting.spot a)) (row_of s' (setting.spot a)) (cell_of setting s a p) (cell_of setting s' a (with_value_in to p)) dismissible w (row_same s s' (setting.spot a) w) (cell_same setting s s' a p (with_value_in to p) w (one_held s s' to p e))
+renamed_effects setting s s' to (Store a p x) e w =
+    let held_both = two_held s s' to p x e in
+    stored_after s s' (setting.spot a) (cell_of setting s a p) (cell_of setting s' a (with_value_in to p)) (held s x) (held s' (with_value_in to x)) w (cell_same setting s s' a p (with_value_in to p) w held_both.0) held_both.1
+renamed_effects setting s s' to (More v) e w = moved_value s s' v (Some (one_if (is_left s.input))) (Some (one_if (is_left s'.input))) w (ap (λ ns. Some (one_if (is_left ns))) w.input)
+renamed_effects setting s s' to (Input v) e w = subst (λ ns. After (v ∷ []) s s' (next_input s v s.input) (next_input s' v ns)) (sym w.input) (input_after s s' v s.input w)
+renamed_effects setting s s' to (Text n) e w = record { same = λ u h. let f : false ≡ true = h in absurd cc; kept = λ u h. refl; kept_there = λ u h. refl; world = record { arrays = w.arrays; input = w.input; out = ap (λ o. o ++ text_at setting n) w.out } }
+renamed_effects setting s s' to (Decimal x) e w = printed_after s s' (held s x) (held s' (with_value_in to x)) w (one_held s s' to x e)
+renamed_effects setting s s' to (Across v u) e w = let f : s'.values u ∷ [] ≡ s.values u ∷ [] = e in let same : s'.values u ≡ s.values u = cc in moved_value s s' v (s.values u) (s'.values u) w same
+
+renamed_calm : (setting : Setting) (s s' : State) (to : ℕ → ℕ) (op : Op) → Contents s s' to op → SameWorld s s' → Moved (writes op) s s' (calm_effect setting s op s) (calm_effect setting s' (renamed to op) s')
+renamed_calm setting s s' to (Compute code v a b) e w = renamed_effects setting s s' to (Compute code v a b) e w
+renamed_calm setting s s' to (Select v p a b) e w = renamed_effects setting s s' to (Select v p a b) e w
+renamed_calm setting s s' to (Place v a i) e w = renamed_effects setting s s' to (Place v a i) e w
+renamed_calm setting s s' to (Load v a p dismissible) e w =
+    loaded_calm_after s s' v (row_of s (setting.spot a)) (row_of s' (setting.spot a)) (cell_of setting s a p) (cell_of setting s' a (with_value_in to p)) w (row_same s s' (setting.spot a) w) (cell_same setting s s' a p (with_value_in to p) w (one_held s s' to p e))
+renamed_calm setting s s' to (Store a p x) e w = calm_or s s' (effect setting s (Store a p x) s) (effect setting s' (renamed to (Store a p x)) s') w (renamed_effects setting s s' to (Store a p x) e w)
+renamed_calm setting s s' to (More v) e w = renamed_effects setting s s' to (More v) e w
+renamed_calm setting s s' to (Input v) e w = subst (λ ns. Moved (v ∷ []) s s' (state_or (with_value s v None) (next_input s v s.input)) (state_or (with_value s' v None) (next_input s' v ns))) (sym w.input) (input_calm s s' v s.input w)
+renamed_calm setting s s' to (Text n) e w = renamed_effects setting s s' to (Text n) e w
+renamed_calm setting s s' to (Decimal x) e w = calm_or s s' (effect setting s (Decimal x) s) (effect setting s' (renamed to (Decimal x)) s') w (renamed_effects setting s s' to (Decimal x) e w)
+renamed_calm setting s s' to (Across v u) e w = renamed_effects setting s s' to (Across v u) e w
+
+contents_of : (s s' : State) (op op' : Op) (r : SameReads s s' op op') → Contents s s' r.to op
+contents_of s s' op op' r = ap (λ o. map s'.values (reads o)) (sym r.is) ∙ r.contents
+
 pub effects : (setting : Setting) (s s' : State) (op op' : Op) → SameReads s s' op op' → SameWorld s s' → After (writes op) s s' (effect setting s op s) (effect setting s' op' s')
-effects setting s s' op op' (computes {code} {v} {a} {b} {a'} {b'} p q) w = moved_value s s' v (computed code (held s a) (held s b)) (computed code (held s' a') (held s' b')) w (computed_same code (held s a) (held s b) (held s' a') (held s' b') p q)
-effects setting s s' op op' (selects {v} {p} {a} {b} {a'} {b'} e g h) w = moved_value s s' v (chosen (s.values p) (held s a) (held s b)) (chosen (s'.values p) (held s' a') (held s' b')) w (chosen_same (s.values p) (held s a) (held s b) (s'.values p) (held s' a') (held s' b') e g h)
-effects setting s s' op op' (finds {v} {a} {i} {i'} p) w = moved_value s s' v (place_of (held s i)) (place_of (held s' i')) w (ap place_of p)
-effects setting s s' op op' (loads {v} {a} {p} {p'} {dismissible} e) w = loaded_after s s' v (row_of s (setting.spot a)) (row_of s' (setting.spot a)) (cell_of setting s a p) (cell_of setting s' a p') dismissible w (row_same s s' (setting.spot a) w) (cell_same setting s s' a p p' w e)
-effects setting s s' op op' (stores {a} {p} {x} {p'} {x'} e g) w = stored_after s s' (setting.spot a) (cell_of setting s a p) (cell_of setting s' a p') (held s x) (held s' x') w (cell_same setting s s' a p p' w e) g
-effects setting s s' op op' (asks {v}) w = moved_value s s' v (Some (one_if (is_left s.input))) (Some (one_if (is_left s'.input))) w (ap (λ ns. Some (one_if (is_left ns))) w.input)
-effects setting s s' op op' (takes {v}) w = subst (λ ns. After (v ∷ []) s s' (next_input s v s.input) (next_input s' v ns)) (sym w.input) (input_after s s' v s.input w)
-effects setting s s' op op' (says {n}) w = record { same = λ u h. let e : false ≡ true = h in absurd cc; kept = λ u h. refl; kept_there = λ u h. refl; world = record { arrays = w.arrays; input = w.input; out = ap (λ o. o ++ text_at setting n) w.out } }
-effects setting s s' op op' (shows {x} {x'} p) w = printed_after s s' (held s x) (held s' x') w p
-effects setting s s' op op' (brings {v} {u} {u'} p) w = moved_value s s' v (s.values u) (s'.values u') w p
+effects setting s s' op op' r w = subst (λ o. After (writes op) s s' (effect setting s op s) (effect setting s' o s')) (sym r.is) (renamed_effects setting s s' r.to op (contents_of s s' op op' r) w)
 
 pub calm_effects : (setting : Setting) (s s' : State) (op op' : Op) → SameReads s s' op op' → SameWorld s s' → Moved (writes op) s s' (calm_effect setting s op s) (calm_effect setting s' op' s')
-calm_effects setting s s' op op' (computes {code} {v} {a} {b} {a'} {b'} p q) w = effects setting s s' (Compute code v a b) (Compute code v a' b') (computes p q) w
-calm_effects setting s s' op op' (selects {v} {p} {a} {b} {a'} {b'} e g h) w = effects setting s s' (Select v p a b) (Select v p a' b') (selects e g h) w
-calm_effects setting s s' op op' (finds {v} {a} {i} {i'} p) w = effects setting s s' (Place v a i) (Place v a i') (finds p) w
-calm_effects setting s s' op op' (loads {v} {a} {p} {p'} {dismissible} e) w = loaded_calm_after s s' v (row_of s (setting.spot a)) (row_of s' (setting.spot a)) (cell_of setting s a p) (cell_of setting s' a p') w (row_same s s' (setting.spot a) w) (cell_same setting s s' a p p' w e)
-calm_effects setting s s' op op' (stores {a} {p} {x} {p'} {x'} e g) w = calm_or s s' (effect setting s (Store a p x) s) (effect setting s' (Store a p' x') s') w (effects setting s s' (Store a p x) (Store a p' x') (stores e g) w)
-calm_effects setting s s' op op' (asks {v}) w = effects setting s s' (More v) (More v) asks w
-calm_effects setting s s' op op' (takes {v}) w = subst (λ ns. Moved (v ∷ []) s s' (state_or (with_value s v None) (next_input s v s.input)) (state_or (with_value s' v None) (next_input s' v ns))) (sym w.input) (input_calm s s' v s.input w)
-calm_effects setting s s' op op' (says {n}) w = effects setting s s' (Text n) (Text n) says w
-calm_effects setting s s' op op' (shows {x} {x'} p) w = calm_or s s' (effect setting s (Decimal x) s) (effect setting s' (Decimal x') s') w (effects setting s s' (Decimal x) (Decimal x') (shows p) w)
-calm_effects setting s s' op op' (brings {v} {u} {u'} p) w = effects setting s s' (Across v u) (Across v u') (brings p) w
+calm_effects setting s s' op op' r w = subst (λ o. Moved (writes op) s s' (calm_effect setting s op s) (calm_effect setting s' o s')) (sym r.is) (renamed_calm setting s s' r.to op (contents_of s s' op op' r) w)
 
 pub in_orders : (setting : Setting) (s s' : State) (op op' : TraceOp) → SameReadsOf s s' op op' → SameWorld s s' → Moved (writes_of op) s s' (in_order setting s op) (in_order setting s' op')
 in_orders setting s s' one other (executes {op} {op'} r) w = calm_effects setting s s' op op' r w
@@ -159,82 +201,64 @@ in_orders setting s s' one other (tests {op} {op'} {p} {y} {edge} {live} r e e')
 abbrev Same : (s s' : State) → (to : ℕ → ℕ) → List ℕ → Type 0
 Same s s' to vs = (v : ℕ) → IsIn v vs → s'.values (to v) ≡ s.values v
 
-held_same : (s s' : State) (to : ℕ → ℕ) (x : Operand) → Same s s' to (value_in x) → held s' (renamed_operand to x) ≡ held s x
-held_same s s' to (Held v) h = h v (inl refl)
-held_same s s' to (Number n) h = refl
-held_same s s' to Stack h = refl
+one_same : (s s' : State) (to : ℕ → ℕ) (x : Operand) → Same s s' to (value_in x) → map s'.values (value_in (with_value_in to x)) ≡ map s.values (value_in x)
+one_same s s' to (Held v) h = ap (λ c. c ∷ []) (h v (inl refl))
+one_same s s' to (Number n) h = refl
+one_same s s' to Stack h = refl
 
-same_left : (s s' : State) (to : ℕ → ℕ) (xs ys : List ℕ) → Same s s' to (xs ++ ys) → Same s s' to xs
-same_left s s' to xs ys h v m = h v (in_left v xs ys m)
+two_same : (s s' : State) (to : ℕ → ℕ) (a b : Operand) → Same s s' to (value_in a ++ value_in b) → map s'.values (value_in (with_value_in to a) ++ value_in (with_value_in to b)) ≡ map s.values (value_in a ++ value_in b)
+two_same s s' to (Held v) b h = ap (λ c. c ∷ map s'.values (value_in (with_value_in to b))) (h v (inl refl)) ∙ ap (λ cs. s.values v ∷ cs) (one_same s s' to b (λ u i. h u (inr i)))
+two_same s s' to (Number n) b h = one_same s s' to b h
+two_same s s' to Stack b h = one_same s s' to b h
 
-same_right : (s s' : State) (to : ℕ → ℕ) (xs ys : List ℕ) → Same s s' to (xs ++ ys) → Same s s' to ys
-same_right s s' to xs ys h v m = h v (in_right v xs ys m)
+computed_same_reads : (s s' : State) (to : ℕ → ℕ) (a b : Operand) (u : Bool) → Same s s' to (if u then value_in a else value_in a ++ value_in b) →
+    map s'.values (if u then value_in (with_value_in to a) else value_in (with_value_in to a) ++ value_in (if u then b else with_value_in to b)) ≡ map s.values (if u then value_in a else value_in a ++ value_in b)
+computed_same_reads s s' to a b true h = one_same s s' to a h
+computed_same_reads s s' to a b false h = two_same s s' to a b h
 
-pub binary : (to : ℕ → ℕ) (code : Code) (b : Operand) → is_unary code ≡ false → right_renamed to code b ≡ renamed_operand to b
-binary to Mov b e = let f : true ≡ false = e in absurd cc
-binary to Add b e = refl
-binary to Sub b e = refl
-binary to And b e = refl
-binary to Or b e = refl
-binary to Xor b e = refl
-binary to Shl b e = refl
-binary to Shr b e = refl
-binary to Shru b e = refl
-binary to Sh2add b e = refl
-binary to Max b e = refl
-binary to Min b e = refl
-binary to (ToGeneral c) b e = refl
-binary to (ToBranch c) b e = refl
-binary to Mpylu b e = refl
-binary to Mpyhs b e = refl
-binary to Div b e = refl
-binary to Rem b e = refl
-
-left_held : (s s' : State) (to : ℕ → ℕ) (a b : Operand) (u : Bool) → Same s s' to (if u then value_in a else value_in a ++ value_in b) → Same s s' to (value_in a)
-left_held s s' to a b true h = h
-left_held s s' to a b false h = same_left s s' to (value_in a) (value_in b) h
-
-right_held : (s s' : State) (to : ℕ → ℕ) (a b : Operand) (u : Bool) → u ≡ false → Same s s' to (if u then value_in a else value_in a ++ value_in b) → Same s s' to (value_in b)
-right_held s s' to a b true e h = let f : true ≡ false = e in absurd cc
-right_held s s' to a b false e h = same_right s s' to (value_in a) (value_in b) h
-
-computed_reads : (s s' : State) (to : ℕ → ℕ) (code : Code) (v : ℕ) (a b : Operand) → Same s s' to (if is_unary code then value_in a else value_in a ++ value_in b) → SameReads s s' (Compute code v a b) (Compute code v (renamed_operand to a) (right_renamed to code b))
-computed_reads s s' to code v a b h = computes
-    (held_same s s' to a (left_held s s' to a b (is_unary code) h))
-    (λ e. ap (λ x. held s' x) (binary to code b e) ∙ held_same s s' to b (right_held s s' to a b (is_unary code) e h))
+same_contents : (s s' : State) (to : ℕ → ℕ) (op : Op) → Same s s' to (general_reads (Plain op)) → Same s s' (λ v. v) (reads op) → Contents s s' to op
+same_contents s s' to (Compute code v a b) h g = computed_same_reads s s' to a b (is_unary code) h
+same_contents s s' to (Select v p a b) h g = ap (λ c. c ∷ map s'.values (value_in (with_value_in to a) ++ value_in (with_value_in to b))) (g p (inl refl)) ∙ ap (λ cs. s.values p ∷ cs) (two_same s s' to a b h)
+same_contents s s' to (Place v a i) h g = one_same s s' to i h
+same_contents s s' to (Load v a p d) h g = one_same s s' to p h
+same_contents s s' to (Store a p x) h g = two_same s s' to p x h
+same_contents s s' to (More v) h g = refl
+same_contents s s' to (Input v) h g = refl
+same_contents s s' to (Text n) h g = refl
+same_contents s s' to (Decimal x) h g = one_same s s' to x h
+same_contents s s' to (Across v u) h g = ap (λ c. c ∷ []) (g u (inl refl))
 
 pub renamed_reads : (s s' : State) (to : ℕ → ℕ) (op : TraceOp) → Same s s' to (general_reads op) → Same s s' (λ v. v) (reads_of op) → SameReadsOf s s' op (renamed_op to op)
-renamed_reads s s' to (Plain (Compute code v a b)) h g = executes (subst (λ o. SameReads s s' (Compute code v a b) o) (computed_renamed to code v a b) (computed_reads s s' to code v a b h))
-renamed_reads s s' to (Plain (Select v p a b)) h g = executes (selects (g p (inl refl)) (held_same s s' to a (same_left s s' to (value_in a) (value_in b) h)) (held_same s s' to b (same_right s s' to (value_in a) (value_in b) h)))
-renamed_reads s s' to (Plain (Place v a i)) h g = executes (finds (held_same s s' to i h))
-renamed_reads s s' to (Plain (Load v a p d)) h g = executes (loads (held_same s s' to p h))
-renamed_reads s s' to (Plain (Store a p x)) h g = executes (stores (held_same s s' to p (same_left s s' to (value_in p) (value_in x) h)) (held_same s s' to x (same_right s s' to (value_in p) (value_in x) h)))
-renamed_reads s s' to (Plain (More v)) h g = executes asks
-renamed_reads s s' to (Plain (Input v)) h g = executes takes
-renamed_reads s s' to (Plain (Text n)) h g = executes says
-renamed_reads s s' to (Plain (Decimal x)) h g = executes (shows (held_same s s' to x h))
-renamed_reads s s' to (Plain (Across v u)) h g = executes (brings (g u (inl refl)))
+renamed_reads s s' to (Plain op) h g = executes (record { to = to; is = refl; contents = same_contents s s' to op h g })
 renamed_reads s s' to (Split p y edge live) h g = tests (g p (inl refl)) refl refl
 
 -- the operation itself
 
-itself : (x : Operand) → renamed_operand (λ v. v) x ≡ x
+itself : (x : Operand) → with_value_in (λ v. v) x ≡ x
 itself (Held v) = refl
 itself (Number n) = refl
 itself Stack = refl
 
-own : (s s' : State) (x : Operand) → Same s s' (λ v. v) (value_in x) → held s' x ≡ held s x
-own s s' x h = sym (ap (λ o. held s' o) (itself x)) ∙ held_same s s' (λ v. v) x h
+right_itself : (u : Bool) (x : Operand) → (if u then x else with_value_in (λ v. v) x) ≡ x
+right_itself true x = refl
+right_itself false x = itself x
+
+op_itself : (op : Op) → op ≡ renamed (λ v. v) op
+op_itself (Compute code v a b) = sym (ap (λ x. Compute code v x (if is_unary code then b else with_value_in (λ w. w) b)) (itself a) ∙ ap (λ x. Compute code v a x) (right_itself (is_unary code) b))
+op_itself (Select v p a b) = sym (ap (λ x. Select v p x (with_value_in (λ w. w) b)) (itself a) ∙ ap (λ x. Select v p a x) (itself b))
+op_itself (Place v a i) = sym (ap (λ x. Place v a x) (itself i))
+op_itself (Load v a p d) = sym (ap (λ x. Load v a x d) (itself p))
+op_itself (Store a p x) = sym (ap (λ y. Store a y (with_value_in (λ w. w) x)) (itself p) ∙ ap (λ y. Store a p y) (itself x))
+op_itself (More v) = refl
+op_itself (Input v) = refl
+op_itself (Text n) = refl
+op_itself (Decimal x) = sym (ap (λ y. Decimal y) (itself x))
+op_itself (Across v u) = refl
+
+same_values : (s s' : State) (vs : List ℕ) → Same s s' (λ v. v) vs → map s'.values vs ≡ map s.values vs
+same_values s s' [] h = refl
+same_values s s' (v ∷ vs) h = ap (λ c. c ∷ map s'.values vs) (h v (inl refl)) ∙ ap (λ cs. s.values v ∷ cs) (same_values s s' vs (λ u i. h u (inr i)))
 
 pub same_reads : (s s' : State) (op : TraceOp) → Same s s' (λ v. v) (reads_of op) → SameReadsOf s s' op op
-same_reads s s' (Plain (Compute code v a b)) g = executes (computes (own s s' a (left_held s s' (λ v. v) a b (is_unary code) g)) (λ e. own s s' b (right_held s s' (λ v. v) a b (is_unary code) e g)))
-same_reads s s' (Plain (Select v p a b)) g = executes (selects (g p (inl refl)) (own s s' a (λ v m. g v (inr (in_left v (value_in a) (value_in b) m)))) (own s s' b (λ v m. g v (inr (in_right v (value_in a) (value_in b) m)))))
-same_reads s s' (Plain (Place v a i)) g = executes (finds (own s s' i g))
-same_reads s s' (Plain (Load v a p d)) g = executes (loads (own s s' p g))
-same_reads s s' (Plain (Store a p x)) g = executes (stores (own s s' p (same_left s s' (λ v. v) (value_in p) (value_in x) g)) (own s s' x (same_right s s' (λ v. v) (value_in p) (value_in x) g)))
-same_reads s s' (Plain (More v)) g = executes asks
-same_reads s s' (Plain (Input v)) g = executes takes
-same_reads s s' (Plain (Text n)) g = executes says
-same_reads s s' (Plain (Decimal x)) g = executes (shows (own s s' x g))
-same_reads s s' (Plain (Across v u)) g = executes (brings (g u (inl refl)))
+same_reads s s' (Plain op) g = executes (record { to = λ v. v; is = op_itself op; contents = same_values s s' (reads op) g })
 same_reads s s' (Split p y edge live) g = tests (g p (inl refl)) refl refl

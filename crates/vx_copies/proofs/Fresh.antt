@@ -1,7 +1,6 @@
 -- Nothing more is wanted of a trace with copies.
 use Rattle.std.proofs.Common.{◌≡◌, ◌⊎◌, inl, inr, ⊎_elim, refl, sym, ◌∙◌, ap, subst, arith, Bool, true, false, not, if◌then◌else◌, nat_eq, ℕ, zero, suc, ◌+◌, Option, List, [], ◌∷◌, ◌++◌, length, map, drop}
 use Rattle.std.specs.List.{list_any}
-use Rattle.vx_base.specs.declared.arithmetic.Code.{Code}
 use Rattle.vx_flow.specs.declared.graph.Edge.{Edge}
 use Rattle.vx_flow.specs.declared.graph.Operand.{Operand}
 use Rattle.vx_flow.specs.declared.graph.Operand.TheVariants.{Held, Number, Stack}
@@ -9,19 +8,18 @@ use Rattle.vx_flow.specs.declared.graph.Op.TheVariants.{Compute, Select, Place, 
 use Rattle.vx_flow.specs.declared.trace.TraceOp.{TraceOp}
 use Rattle.vx_flow.specs.declared.trace.TraceOp.TheVariants.{Plain, Split}
 use Rattle.vx_flow.specs.declared.trace.Trace.{Trace}
-use Rattle.vx_flow.specs.Effects.{IsIn, is_unary, value_in, reads, writes}
+use Rattle.vx_flow.specs.Effects.{IsIn, is_unary, value_in}
+use Rattle.vx_flow.specs.Operands.{with_value_in}
 use Rattle.vx_flow.proofs.Members.{in_left, in_right}
 use Rattle.vx_linear.specs.Followed.{is_join}
 use Rattle.vx_linear.specs.InOrder.{IsEntrance}
 use Rattle.vx_dep.specs.Delays.{reads_of, writes_of}
 use Rattle.vx_bug.specs.declared.served.Served.{Served}
 use Rattle.vx_bug.specs.Clusters.{general_reads}
-use Rattle.vx_bug.specs.Copies.{Standing, copy_of, is_away, serve, copied_for, reads_copies, served_behind, here, renamed_operand, renamed_op, pieces_from, pieces_of, joined}
-use Rattle.vx_bug.specs.Laying.{right_renamed, served_at, served_with}
+use Rattle.vx_bug.specs.Copies.{Standing, copy_of, is_away, serve, copied_for, reads_copies, served_behind, here, renamed_op, pieces_from, pieces_of, joined}
+use Rattle.vx_bug.specs.Laying.{served_at, served_with}
 use Rattle.vx_bug.proofs.Listing.{in_append}
-use Rattle.vx_bug.proofs.Renaming.{computed as computed_renamed}
 use Rattle.vx_copies.specs.Beside.{Off, Wanted, NothingNewFor, NothingNew}
-use Rattle.vx_copies.proofs.Effects.{binary}
 use Rattle.vx_copies.proofs.Lists.{entry, in_filter, copied_in, covered, general_in_reads}
 use Rattle.vx_copies.proofs.Steps.{copying, copied_here, op_here}
 use Rattle.vx_copies.proofs.Runs.{op_of, ops_are, moved_entrance}
@@ -36,23 +34,23 @@ pub record InPlace (to : ℕ → ℕ) (vs : List ℕ) (v : ℕ) : Type 0 where
 more_places : (to : ℕ → ℕ) (xs ys : List ℕ) (v : ℕ) → ((w : ℕ) → IsIn w xs → IsIn w ys) → InPlace to xs v → InPlace to ys v
 more_places to xs ys v f p = record { value = p.value; is_read = f p.value p.is_read; is = p.is }
 
-operand_read : (to : ℕ → ℕ) (x : Operand) (v : ℕ) → IsIn v (value_in (renamed_operand to x)) → InPlace to (value_in x) v
+operand_read : (to : ℕ → ℕ) (x : Operand) (v : ℕ) → IsIn v (value_in (with_value_in to x)) → InPlace to (value_in x) v
 operand_read to (Held w) v h = record { value = w; is_read = inl refl; is = ⊎_elim (λ q. q) (λ n. absurd n) h }
 operand_read to (Number n) v h = absurd h
 operand_read to Stack v h = absurd h
 
-two_read : (to : ℕ → ℕ) (a b : Operand) (v : ℕ) → IsIn v (value_in (renamed_operand to a) ++ value_in (renamed_operand to b)) → InPlace to (value_in a ++ value_in b) v
+two_read : (to : ℕ → ℕ) (a b : Operand) (v : ℕ) → IsIn v (value_in (with_value_in to a) ++ value_in (with_value_in to b)) → InPlace to (value_in a ++ value_in b) v
 two_read to a b v h = ⊎_elim
     (λ i. more_places to (value_in a) (value_in a ++ value_in b) v (λ w m. in_left w (value_in a) (value_in b) m) (operand_read to a v i))
     (λ i. more_places to (value_in b) (value_in a ++ value_in b) v (λ w m. in_right w (value_in a) (value_in b) m) (operand_read to b v i))
-    (in_append v (value_in (renamed_operand to a)) (value_in (renamed_operand to b)) h)
+    (in_append v (value_in (with_value_in to a)) (value_in (with_value_in to b)) h)
 
-computed_read : (to : ℕ → ℕ) (code : Code) (a b : Operand) (v : ℕ) (u : Bool) → is_unary code ≡ u → IsIn v (if u then value_in (renamed_operand to a) else value_in (renamed_operand to a) ++ value_in (right_renamed to code b)) → InPlace to (if u then value_in a else value_in a ++ value_in b) v
-computed_read to code a b v true e h = operand_read to a v h
-computed_read to code a b v false e h = two_read to a b v (subst (λ x. IsIn v (value_in (renamed_operand to a) ++ value_in x)) (binary to code b e) h)
+computed_read : (to : ℕ → ℕ) (a b : Operand) (v : ℕ) (u : Bool) → IsIn v (if u then value_in (with_value_in to a) else value_in (with_value_in to a) ++ value_in (if u then b else with_value_in to b)) → InPlace to (if u then value_in a else value_in a ++ value_in b) v
+computed_read to a b v true h = operand_read to a v h
+computed_read to a b v false h = two_read to a b v h
 
 pub renamed_read : (to : ℕ → ℕ) (op : TraceOp) (v : ℕ) → IsIn v (reads_of (renamed_op to op)) → InPlace to (general_reads op) v ⊎ IsIn v (reads_of op)
-renamed_read to (Plain (Compute code w a b)) v h = inl (computed_read to code a b v (is_unary code) refl (subst (λ o. IsIn v (reads o)) (sym (computed_renamed to code w a b)) h))
+renamed_read to (Plain (Compute code w a b)) v h = inl (computed_read to a b v (is_unary code) h)
 renamed_read to (Plain (Select w p a b)) v h = ⊎_elim (λ q. inr (inl q)) (λ i. inl (two_read to a b v i)) h
 renamed_read to (Plain (Place w a i)) v h = inl (operand_read to i v h)
 renamed_read to (Plain (Load w a p d)) v h = inl (operand_read to p v h)
@@ -65,7 +63,7 @@ renamed_read to (Plain (Across w u)) v h = inr h
 renamed_read to (Split p y edge live) v h = inr h
 
 pub renamed_writes : (to : ℕ → ℕ) (op : TraceOp) → writes_of (renamed_op to op) ≡ writes_of op
-renamed_writes to (Plain (Compute code w a b)) = ap writes (sym (computed_renamed to code w a b))
+renamed_writes to (Plain (Compute code w a b)) = refl
 renamed_writes to (Plain (Select w p a b)) = refl
 renamed_writes to (Plain (Place w a i)) = refl
 renamed_writes to (Plain (Load w a p d)) = refl

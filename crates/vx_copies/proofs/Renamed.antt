@@ -8,15 +8,13 @@ use Rattle.vx_flow.specs.declared.graph.Op.TheVariants.{Compute, Select, Place, 
 use Rattle.vx_flow.specs.declared.trace.TraceOp.{TraceOp}
 use Rattle.vx_flow.specs.declared.trace.TraceOp.TheVariants.{Plain, Split}
 use Rattle.vx_flow.specs.Effects.{IsIn, is_unary, value_in}
+use Rattle.vx_flow.specs.Operands.{with_value_in}
 use Rattle.vx_machine.specs.Items.{writes_general_op}
 use Rattle.vx_dep.specs.Delays.{writes_of}
 use Rattle.vx_bug.specs.CanAssign.{bound_writes}
 use Rattle.vx_bug.specs.Clusters.{general_reads, general_writes, is_bound, is_across}
-use Rattle.vx_bug.specs.Copies.{reads_copies, renamed_operand, renamed_op}
-use Rattle.vx_bug.specs.Laying.{right_renamed}
+use Rattle.vx_bug.specs.Copies.{reads_copies, renamed_op}
 use Rattle.vx_bug.proofs.Listing.{in_append, append_in_left, append_in_right}
-use Rattle.vx_bug.proofs.Renaming.{computed}
-use Rattle.vx_copies.proofs.Effects.{binary}
 
 -- what is read is what stands for a value that was read
 
@@ -25,24 +23,24 @@ pub record IsNamed (to : ℕ → ℕ) (vs : List ℕ) (x : ℕ) : Type 0 where
   pub member : IsIn value vs
   pub is : x ≡ to value
 
-operand_named : (to : ℕ → ℕ) (a : Operand) (x : ℕ) → IsIn x (value_in (renamed_operand to a)) → IsNamed to (value_in a) x
+operand_named : (to : ℕ → ℕ) (a : Operand) (x : ℕ) → IsIn x (value_in (with_value_in to a)) → IsNamed to (value_in a) x
 operand_named to (Held v) x h = ⊎_elim (λ e. record { value = v; member = inl refl; is = e }) (λ z. absurd z) h
 operand_named to (Number n) x h = absurd h
 operand_named to Stack x h = absurd h
 
-both_named : (to : ℕ → ℕ) (a b : Operand) (x : ℕ) → IsIn x (value_in (renamed_operand to a) ++ value_in (renamed_operand to b)) → IsNamed to (value_in a ++ value_in b) x
+both_named : (to : ℕ → ℕ) (a b : Operand) (x : ℕ) → IsIn x (value_in (with_value_in to a) ++ value_in (with_value_in to b)) → IsNamed to (value_in a ++ value_in b) x
 both_named to a b x h = ⊎_elim
     (λ i. let n = operand_named to a x i in record { value = n.value; member = append_in_left n.value (value_in a) (value_in b) n.member; is = n.is })
     (λ i. let n = operand_named to b x i in record { value = n.value; member = append_in_right n.value (value_in a) (value_in b) n.member; is = n.is })
-    (in_append x (value_in (renamed_operand to a)) (value_in (renamed_operand to b)) h)
+    (in_append x (value_in (with_value_in to a)) (value_in (with_value_in to b)) h)
 
-computed_named : (to : ℕ → ℕ) (code : Code) (a b : Operand) (x : ℕ) (u : Bool) → is_unary code ≡ u →
-    IsIn x (if u then value_in (renamed_operand to a) else value_in (renamed_operand to a) ++ value_in (right_renamed to code b)) → IsNamed to (if u then value_in a else value_in a ++ value_in b) x
-computed_named to code a b x true e h = operand_named to a x h
-computed_named to code a b x false e h = both_named to a b x (subst (λ o. IsIn x (value_in (renamed_operand to a) ++ value_in o)) (binary to code b e) h)
+computed_named : (to : ℕ → ℕ) (a b : Operand) (x : ℕ) (u : Bool) →
+    IsIn x (if u then value_in (with_value_in to a) else value_in (with_value_in to a) ++ value_in (if u then b else with_value_in to b)) → IsNamed to (if u then value_in a else value_in a ++ value_in b) x
+computed_named to a b x true h = operand_named to a x h
+computed_named to a b x false h = both_named to a b x h
 
 pub reads_named : (to : ℕ → ℕ) (op : TraceOp) (x : ℕ) → is_across op ≡ false → IsIn x (general_reads (renamed_op to op)) → IsNamed to (general_reads op) x
-reads_named to (Plain (Compute code v a b)) x n h = computed_named to code a b x (is_unary code) refl (subst (λ o. IsIn x (general_reads (Plain o))) (sym (computed to code v a b)) h)
+reads_named to (Plain (Compute code v a b)) x n h = computed_named to a b x (is_unary code) h
 reads_named to (Plain (Select v test a b)) x n h = both_named to a b x h
 reads_named to (Plain (Place v a i)) x n h = operand_named to i x h
 reads_named to (Plain (Load v a p dismissible)) x n h = operand_named to p x h
@@ -84,8 +82,7 @@ kind Rem v a b = (refl, refl)
 
 pub writes_stay : (to : ℕ → ℕ) (op : TraceOp) → general_writes (renamed_op to op) ≡ general_writes op
 writes_stay to (Plain (Compute code v a b)) =
-    ap (λ o. general_writes (Plain o)) (sym (computed to code v a b))
-    ∙ ap (λ x. if x then v ∷ [] else []) ((kind code v (renamed_operand to a) (right_renamed to code b)).0 ∙ sym ((kind code v a b).0))
+    ap (λ x. if x then v ∷ [] else []) ((kind code v (with_value_in to a) (if is_unary code then b else with_value_in to b)).0 ∙ sym ((kind code v a b).0))
 writes_stay to (Plain (Select v test a b)) = refl
 writes_stay to (Plain (Place v a i)) = refl
 writes_stay to (Plain (Load v a p dismissible)) = refl
@@ -98,8 +95,7 @@ writes_stay to (Plain (Across v u)) = refl
 writes_stay to (Split test leaves_when edge live) = refl
 
 pub bound_stays : (to : ℕ → ℕ) (op : TraceOp) → is_bound (renamed_op to op) ≡ is_bound op
-bound_stays to (Plain (Compute code v a b)) =
-    ap (λ o. is_bound (Plain o)) (sym (computed to code v a b)) ∙ (kind code v (renamed_operand to a) (right_renamed to code b)).1 ∙ sym ((kind code v a b).1)
+bound_stays to (Plain (Compute code v a b)) = (kind code v (with_value_in to a) (if is_unary code then b else with_value_in to b)).1 ∙ sym ((kind code v a b).1)
 bound_stays to (Plain (Select v test a b)) = refl
 bound_stays to (Plain (Place v a i)) = refl
 bound_stays to (Plain (Load v a p dismissible)) = refl
@@ -160,7 +156,7 @@ writes_in (Plain (Decimal y)) w h = absurd h
 writes_in (Plain (Across v u)) w h = h
 writes_in (Split test leaves_when edge live) w h = absurd h
 
--- a general value written on cluster 0 alone is that of a selection, a test for input or a reading of it
+-- a general value written on cluster 0 alone is that of a selection or of an operation that meets the input
 pub bound_written : (op : TraceOp) (w : ℕ) → is_bound op ≡ true → IsIn w (general_writes op) → IsIn w (bound_writes op)
 bound_written (Plain (Compute code v a b)) w e h =
     let branch : makes_branch code ≡ true = sym ((kind code v a b).1) ∙ e in

@@ -1,31 +1,41 @@
 -- A trace that can be planned keeps the conditions of the calls.
-use Rattle.std.proofs.Common.{◌≡◌, ◌<◌, ◌≤◌, inl, inr, ◌&&◌, ◌==◌, ℕ, zero, suc, Bool, true, false, nat_le, Option, Some, None, List, [], ◌∷◌, ◌++◌, length, slice_get, slice_index_or, refl, sym, subst, arith}
+use Rattle.std.proofs.Common.{ap, ◌∙◌, ◌≡◌, ◌<◌, ◌≤◌, inl, inr, ◌&&◌, ◌==◌, ℕ, zero, suc, Bool, true, false, nat_le, Option, Some, None, List, [], ◌∷◌, ◌++◌, length, slice_get, slice_index_or, refl, sym, subst, arith}
 use Rattle.std.specs.List.{list_all}
 use Rattle.std.proofs.lemmas.Bool.{ltb-true, leb-true, eqb-true}
 use Rattle.std.proofs.lemmas.List.Folds.{list_all-append}
-use Rattle.vx_flow.specs.declared.graph.Operand.{Operand}
 use Rattle.vx_flow.specs.declared.graph.Op.TheVariants.{Compute, Select, Place, Load, Store, More, Input, Text, Decimal, Across}
+use Rattle.vx_flow.specs.declared.operands.Reads.{Reads}
 use Rattle.vx_flow.specs.declared.trace.TraceOp.{TraceOp}
 use Rattle.vx_flow.specs.declared.trace.TraceOp.TheVariants.{Plain, Split}
 use Rattle.vx_flow.specs.declared.trace.Join.{Join}
 use Rattle.vx_flow.specs.declared.trace.Trace.{Trace}
 use Rattle.vx_flow.specs.declared.trace.Homes.{Homes}
-use Rattle.vx_flow.specs.Effects.{IsIn, value_in}
+use Rattle.vx_flow.specs.Effects.{IsIn}
+use Rattle.vx_flow.specs.Operands.{value_list, values_read}
 use Rattle.vx_isa.specs.Numbers.{Numbers}
 use Rattle.vx_machine.specs.Room.{has_room}
 use Rattle.vx_dep.specs.declared.mode.Mode.{Mode}
 use Rattle.vx_dep.specs.declared.deps.Deps.{Deps}
 use Rattle.vx_dep.specs.Deps.{IsDeps}
 use Rattle.vx_dep.specs.Delays.{Stands, reads_of, writes_of}
+use Rattle.vx_dep.specs.Traits.{read, written}
+use Rattle.vx_dep.proofs.Written.{reads_are, writes_are}
 use Rattle.vx_bug.specs.declared.clusters.Clusters.{Clusters}
 use Rattle.vx_bug.specs.CanAssign.{IsFixed, bound_writes, BoundAtHome, FixedAtHome, FixedReadsHere, ClustersAreThere, ValuesAreThere, CopiesHaveNumbers, IsWellFormed}
 use Rattle.vx_bug.specs.Further.{RoomForEach}
 use Rattle.vx_sched.specs.Placement.{items_at, AreDeps, HaveRoomAlone}
 use Rattle.vx_plannable.specs.Plannable.{is_below, all_are_below, is_unbound, names_below, is_plannable_op, is_free, ascend, are_within, most_values, is_plannable, is_there}
 
--- the reads of two operands
-pub both_below : (values : ℕ) (a b : Operand) → all_are_below values (value_in a ++ value_in b) ≡ (all_are_below values (value_in a) && all_are_below values (value_in b))
-both_below values a b = list_all-append (is_below values) (value_in a) (value_in b)
+-- what an operation names, value by value
+
+pub both_below : (values : ℕ) (xs ys : List ℕ) → all_are_below values (xs ++ ys) ≡ (all_are_below values xs && all_are_below values ys)
+both_below values xs ys = list_all-append (is_below values) xs ys
+
+pub reads_are_below : (values : ℕ) (op : TraceOp) (r : Reads) → r ≡ read op → all_are_below values (values_read r) ≡ all_are_below values (reads_of op)
+reads_are_below values op r e = ap (all_are_below values) (ap values_read e ∙ reads_are op)
+
+pub writes_are_below : (values : ℕ) (op : TraceOp) (w : Option ℕ) → w ≡ written op → all_are_below values (value_list w) ≡ all_are_below values (writes_of op)
+writes_are_below values op w e = ap (all_are_below values) (ap value_list e ∙ writes_are op)
 
 pub own_mode : (m : Numbers) (mode : Mode) (t : Trace) (deps : Deps) → IsDeps m mode t deps → AreDeps m t deps
 own_mode m mode t deps is = subst (λ x. IsDeps m x t deps) (sym is.mode_is) is

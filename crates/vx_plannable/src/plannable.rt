@@ -1,14 +1,15 @@
 // Whether a trace keeps the conditions under which traces are planned, by one pass over its operations and its joins. What is
 // tested is `is_plannable` of specs/Plannable.antt; that it gives the conditions is proved in proofs/Conditions.antt.
 
-ghost use Rattle.std.specs.Prelude.{◌≡◌};
+ghost use Rattle.std.specs.Prelude.{◌≡◌, ◌++◌};
 ghost use Rattle.std.specs.List.{list_all};
-ghost use Rattle.vx_flow.specs.Effects.{reads, writes, value_in};
+ghost use Rattle.vx_flow.specs.Operands.{value_list, values_read};
 ghost use Rattle.vx_dep.specs.Delays.{reads_of, writes_of};
 ghost use Rattle.vx_plannable.specs.Plannable.{all_are_below, is_unbound, names_below, is_plannable_op, is_free, ascend, are_within, is_plannable, is_there};
 
-use vx_base::arithmetic::Code;
-use vx_flow::graph::{Op, Operand, Value};
+use vx_dep::traits::{read, written};
+use vx_flow::graph::{Op, Value};
+use vx_flow::operands::{Reads, is_observable, written_by};
 use vx_flow::trace::{Join, Trace, TraceOp};
 
 /// The most values of a graph of which each has a number for each of its copies.
@@ -43,10 +44,9 @@ fn is_unbound(op: &TraceOp) -> bool
     ensures { result ≡ is_unbound op.now }
 {
     match op {
-        TraceOp::Plain(Op::Select { .. })
-        | TraceOp::Plain(Op::More { .. })
-        | TraceOp::Plain(Op::Input { .. }) => false,
-        _ => true,
+        TraceOp::Plain(Op::Select { .. }) => false,
+        TraceOp::Plain(op) => !(is_observable(op) && written_by(op).is_some()),
+        TraceOp::Split { .. } => true,
     }
 }
 
@@ -57,74 +57,40 @@ fn names_below(values: u32, op: &TraceOp) -> bool
     reads_below(values, op) && writes_below(values, op)
 }
 
+#[tactic(auto, using(crate::proofs::Conditions::reads_are_below))]
 fn reads_below(values: u32, op: &TraceOp) -> bool
     ensures { result ≡ all_are_below values (reads_of op.now) }
 {
-    match op {
-        TraceOp::Plain(op) => op_reads_below(values, op),
-        TraceOp::Split { test, .. } => *test < values,
-    }
+    are_below(values, &read(op))
 }
 
-#[tactic(auto, using(crate::proofs::Conditions::both_below))]
-fn op_reads_below(values: u32, op: &Op) -> bool
-    ensures { result ≡ all_are_below values (reads op.now) }
-{
-    match op {
-        Op::Compute {
-            code,
-            left,
-            right,
-            ..
-        } => match code {
-            Code::Mov => is_below(values, left),
-            _ => is_below(values, left) && is_below(values, right),
-        },
-        Op::Select {
-            test,
-            left,
-            right,
-            ..
-        } => *test < values && (is_below(values, left) && is_below(values, right)),
-        Op::Place { index, .. } => is_below(values, index),
-        Op::Load { place, .. } => is_below(values, place),
-        Op::Store { place, from, .. } => is_below(values, place) && is_below(values, from),
-        Op::Decimal { from } => is_below(values, from),
-        Op::Across { from, .. } => *from < values,
-        Op::More { .. } | Op::Input { .. } | Op::Text { .. } => true,
-    }
-}
-
-fn is_below(values: u32, operand: &Operand) -> bool
-    ensures { result ≡ all_are_below values (value_in operand.now) }
-{
-    match operand {
-        Operand::Held(value) => *value < values,
-        Operand::Number(_) | Operand::Stack => true,
-    }
-}
-
+#[tactic(auto, using(crate::proofs::Conditions::writes_are_below))]
 fn writes_below(values: u32, op: &TraceOp) -> bool
     ensures { result ≡ all_are_below values (writes_of op.now) }
 {
-    match op {
-        TraceOp::Plain(op) => op_writes_below(values, op),
-        TraceOp::Split { .. } => true,
-    }
+    is_below(values, written(op))
 }
 
-fn op_writes_below(values: u32, op: &Op) -> bool
-    ensures { result ≡ all_are_below values (writes op.now) }
+#[tactic(auto, using(crate::proofs::Conditions::both_below))]
+fn are_below(values: u32, reads: &Reads) -> bool
+    ensures { result ≡ all_are_below values (values_read reads.now) }
 {
-    match op {
-        Op::Compute { to, .. }
-        | Op::Select { to, .. }
-        | Op::Place { to, .. }
-        | Op::Load { to, .. }
-        | Op::More { to }
-        | Op::Input { to }
-        | Op::Across { to, .. } => *to < values,
-        Op::Store { .. } | Op::Text { .. } | Op::Decimal { .. } => true,
+    is_below(values, reads.first) && two_below(values, reads.second, reads.third)
+}
+
+#[tactic(auto, using(crate::proofs::Conditions::both_below))]
+fn two_below(values: u32, one: Option<Value>, other: Option<Value>) -> bool
+    ensures { result ≡ all_are_below values (value_list one ++ value_list other) }
+{
+    is_below(values, one) && is_below(values, other)
+}
+
+fn is_below(values: u32, value: Option<Value>) -> bool
+    ensures { result ≡ all_are_below values (value_list value) }
+{
+    match value {
+        Some(value) => value < values,
+        None => true,
     }
 }
 

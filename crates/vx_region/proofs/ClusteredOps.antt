@@ -17,7 +17,8 @@ use Rattle.vx_flow.specs.declared.graph.Operand.TheVariants.{Held, Number, Stack
 use Rattle.vx_flow.specs.declared.trace.TraceOp.{TraceOp}
 use Rattle.vx_flow.specs.declared.trace.TraceOp.TheVariants.{Plain as TracePlain, Split as TraceSplit}
 use Rattle.vx_flow.specs.declared.trace.Trace.{Trace}
-use Rattle.vx_flow.specs.Effects.{IsIn, dismissed, reads, writes}
+use Rattle.vx_flow.specs.Effects.{IsIn, is_unary, dismissed, reads, writes}
+use Rattle.vx_flow.specs.Operands.{with_value_in}
 use Rattle.vx_flow.specs.Sound.{bank_written, tests_of, Sound}
 use Rattle.vx_flow.proofs.Members.{in_left, in_right, in_either}
 use Rattle.vx_flow.proofs.SoundLaw.{sound_is}
@@ -36,7 +37,7 @@ use Rattle.vx_bug.specs.declared.clusters.Clusters.{Clusters}
 use Rattle.vx_bug.specs.Assigned.{last_books, Assigned}
 use Rattle.vx_bug.specs.CanAssign.{IsFree}
 use Rattle.vx_bug.specs.Clusters.{general_reads, general_writes, is_bound, is_across}
-use Rattle.vx_bug.specs.Copies.{copy_of, is_away, here, renamed_operand, renamed, renamed_op}
+use Rattle.vx_bug.specs.Copies.{copy_of, is_away, here, renamed, renamed_op}
 use Rattle.vx_bug.proofs.Best.{four_clusters}
 use Rattle.vx_copies.specs.AtHome.{IsAtHome, CopiesAtHome, StandsFor, copies, stays, renames, StandsWell, AllStand}
 use Rattle.vx_copies.proofs.Fresh.{InPlace, renamed_read, renamed_writes}
@@ -206,37 +207,21 @@ module _ (graph : Graph) (M : MixedGraph) (banks : M.banks ≡ graph.banks) (cop
 
 -- an operation with copies among its operands is that operation, but for them
 
-whole_operand_same : (n : ℕ) (to : ℕ → ℕ) → ((v : ℕ) → to v % n ≡ v % n) → (x : Operand) → whole_operand n (renamed_operand to x) ≡ whole_operand n x
+whole_operand_same : (n : ℕ) (to : ℕ → ℕ) → ((v : ℕ) → to v % n ≡ v % n) → (x : Operand) → whole_operand n (with_value_in to x) ≡ whole_operand n x
 whole_operand_same n to h (Held v) = ap Held (h v)
 whole_operand_same n to h (Number k) = refl
 whole_operand_same n to h Stack = refl
 
-both_same : (n : ℕ) (to : ℕ → ℕ) → ((v : ℕ) → to v % n ≡ v % n) → (code : Code) (v : ℕ) (a b : Operand) → Compute code (whole n v) (whole_operand n (renamed_operand to a)) (whole_operand n (renamed_operand to b)) ≡ Compute code (whole n v) (whole_operand n a) (whole_operand n b)
-both_same n to h code v a b = ap (λ z. Compute code (whole n v) z (whole_operand n (renamed_operand to b))) (whole_operand_same n to h a) ∙ ap (λ z. Compute code (whole n v) (whole_operand n a) z) (whole_operand_same n to h b)
+right_same : (n : ℕ) (to : ℕ → ℕ) → ((v : ℕ) → to v % n ≡ v % n) → (unary : Bool) (x : Operand) → whole_operand n (if unary then x else with_value_in to x) ≡ whole_operand n x
+right_same n to h true x = refl
+right_same n to h false x = whole_operand_same n to h x
 
 whole_same : (n : ℕ) (to : ℕ → ℕ) → ((v : ℕ) → to v % n ≡ v % n) → (op : Op) → whole_op n (renamed to op) ≡ whole_op n op
-whole_same n to h (Compute Mov v a b) = ap (λ z. Compute Mov (whole n v) z (whole_operand n b)) (whole_operand_same n to h a)
-whole_same n to h (Compute Add v a b) = both_same n to h Add v a b
-whole_same n to h (Compute Sub v a b) = both_same n to h Sub v a b
-whole_same n to h (Compute And v a b) = both_same n to h And v a b
-whole_same n to h (Compute Or v a b) = both_same n to h Or v a b
-whole_same n to h (Compute Xor v a b) = both_same n to h Xor v a b
-whole_same n to h (Compute Shl v a b) = both_same n to h Shl v a b
-whole_same n to h (Compute Shr v a b) = both_same n to h Shr v a b
-whole_same n to h (Compute Shru v a b) = both_same n to h Shru v a b
-whole_same n to h (Compute Sh2add v a b) = both_same n to h Sh2add v a b
-whole_same n to h (Compute Max v a b) = both_same n to h Max v a b
-whole_same n to h (Compute Min v a b) = both_same n to h Min v a b
-whole_same n to h (Compute (ToGeneral c) v a b) = both_same n to h (ToGeneral c) v a b
-whole_same n to h (Compute (ToBranch c) v a b) = both_same n to h (ToBranch c) v a b
-whole_same n to h (Compute Mpylu v a b) = both_same n to h Mpylu v a b
-whole_same n to h (Compute Mpyhs v a b) = both_same n to h Mpyhs v a b
-whole_same n to h (Compute Div v a b) = both_same n to h Div v a b
-whole_same n to h (Compute Rem v a b) = both_same n to h Rem v a b
-whole_same n to h (Select v p a b) = ap (λ z. Select (whole n v) (whole n p) z (whole_operand n (renamed_operand to b))) (whole_operand_same n to h a) ∙ ap (λ z. Select (whole n v) (whole n p) (whole_operand n a) z) (whole_operand_same n to h b)
+whole_same n to h (Compute code v a b) = ap (λ z. Compute code (whole n v) z (whole_operand n (if is_unary code then b else with_value_in to b))) (whole_operand_same n to h a) ∙ ap (λ z. Compute code (whole n v) (whole_operand n a) z) (right_same n to h (is_unary code) b)
+whole_same n to h (Select v p a b) = ap (λ z. Select (whole n v) (whole n p) z (whole_operand n (with_value_in to b))) (whole_operand_same n to h a) ∙ ap (λ z. Select (whole n v) (whole n p) (whole_operand n a) z) (whole_operand_same n to h b)
 whole_same n to h (Place v a i) = ap (λ z. Place (whole n v) a z) (whole_operand_same n to h i)
 whole_same n to h (Load v a p d) = ap (λ z. Load (whole n v) a z d) (whole_operand_same n to h p)
-whole_same n to h (Store a p x) = ap (λ z. Store a z (whole_operand n (renamed_operand to x))) (whole_operand_same n to h p) ∙ ap (λ z. Store a (whole_operand n p) z) (whole_operand_same n to h x)
+whole_same n to h (Store a p x) = ap (λ z. Store a z (whole_operand n (with_value_in to x))) (whole_operand_same n to h p) ∙ ap (λ z. Store a (whole_operand n p) z) (whole_operand_same n to h x)
 whole_same n to h (More v) = refl
 whole_same n to h (Input v) = refl
 whole_same n to h (Text k) = refl
@@ -256,24 +241,7 @@ of_renamed to op (TracePlain o) e = let q : op ≡ renamed to o = cc in (o, refl
 of_renamed to op (TraceSplit p y f live) e = absurd cc
 
 renamed_across : (to : ℕ → ℕ) (o : Op) (v u : ℕ) → Across v u ≡ renamed to o → o ≡ Across v u
-renamed_across to (Compute Mov w a b) v u e = absurd cc
-renamed_across to (Compute Add w a b) v u e = absurd cc
-renamed_across to (Compute Sub w a b) v u e = absurd cc
-renamed_across to (Compute And w a b) v u e = absurd cc
-renamed_across to (Compute Or w a b) v u e = absurd cc
-renamed_across to (Compute Xor w a b) v u e = absurd cc
-renamed_across to (Compute Shl w a b) v u e = absurd cc
-renamed_across to (Compute Shr w a b) v u e = absurd cc
-renamed_across to (Compute Shru w a b) v u e = absurd cc
-renamed_across to (Compute Sh2add w a b) v u e = absurd cc
-renamed_across to (Compute Max w a b) v u e = absurd cc
-renamed_across to (Compute Min w a b) v u e = absurd cc
-renamed_across to (Compute (ToGeneral c) w a b) v u e = absurd cc
-renamed_across to (Compute (ToBranch c) w a b) v u e = absurd cc
-renamed_across to (Compute Mpylu w a b) v u e = absurd cc
-renamed_across to (Compute Mpyhs w a b) v u e = absurd cc
-renamed_across to (Compute Div w a b) v u e = absurd cc
-renamed_across to (Compute Rem w a b) v u e = absurd cc
+renamed_across to (Compute code w a b) v u e = absurd cc
 renamed_across to (Select w p a b) v u e = absurd cc
 renamed_across to (Place w a i) v u e = absurd cc
 renamed_across to (Load w a p d) v u e = absurd cc

@@ -13,5 +13,5 @@ pub returns-in_ok-enter_writer-in-Some-3-clause-tasks :
 returns-in_ok-enter_writer-in-Some-3-clause-tasks c =
     let t = c.args.trace.now in
     let there : slice_get t.ops c.args.place ≡ Some c.in-Some.op.now = search rules in
-    all_entries t c.args.depth c.args.place (slice_get t.ops c.args.place) c.in-Some.op.now c.values_read-read.result c.args.tasks.now.items c.enter_writer.new.tasks.items c.enter_writer-in-Some.new.tasks.items c.enter_writer-in-Some-2.new.tasks.items
-    there c.values_read-read.ensures c.in_ok-enter_writer-in-Some.ensures.tasks c.in_ok-enter_writer-in-Some-2.ensures.tasks c.in_ok-enter_writer-in-Some-3.ensures.tasks
+    all_entries t c.args.depth c.args.place (slice_get t.ops c.args.place) c.in-Some.op.now c.reads_of-read.result c.args.tasks.now.items c.enter_writer.new.tasks.items c.enter_writer-in-Some.new.tasks.items c.enter_writer-in-Some-2.new.tasks.items
+    there c.reads_of-read.ensures c.in_ok-enter_writer-in-Some.ensures.tasks c.in_ok-enter_writer-in-Some-2.ensures.tasks c.in_ok-enter_writer-in-Some-3.ensures.tasks
