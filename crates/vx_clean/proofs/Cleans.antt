@@ -16,10 +16,10 @@ use Rattle.vx_flow.specs.declared.graph.Graph.{Graph}
 use Rattle.vx_flow.specs.declared.graph.Array.{Array}
 use Rattle.vx_flow.specs.declared.graph.Flow.{Flow}
 use Rattle.vx_flow.specs.Effects.{Content, State, Setting, held, is_one, effect, IsIn}
-use Rattle.vx_flow.specs.Meaning.{Hop, Arrives, Wrong, known, by_test, calls, leaves, leave, and_then, block_hop, hop_of, Body, Program, Frame, Active, deepest, undefined, at_entry, entered, enters, returned, waits, after_hop, body_hop, hop, next, body_of, program_of, setting_of, globals_at_start, entered_or, start, graph_run}
+use Rattle.vx_flow.specs.Meaning.{Hop, Arrives, Wrong, known, by_test, calls, leaves, leave, and_then, block_hop, hop_of, Body, Program, Frame, Active, deepest, undefined, at_entry, entered, enters, returned, waits, after_hop, body_hop, hop, next, body_of, program_of, setting_with, globals_at_start, entered_or, start, graph_run}
+use Rattle.vx_flow.proofs.RunLaws.{flow_grows}
 use Rattle.vx_clean.specs.Cleaning.{Place, Heads, ExitMeets, Comes, GoesOn, Stands, GraphCleaned, FunctionCleaned, Cleaned, CleanedRuns}
 use Rattle.vx_shape.specs.Flows.{with_graphs}
-use Rattle.vx_clean.proofs.Growing.{flow_grows}
 
 -- ---- operations that stand in a longer row
 
@@ -141,7 +141,7 @@ module _ (flow : Flow) (graphs : List Graph) (at : ℕ → ℕ → List Place) (
   body_joined g ns s fs gs None (Some h) c k = absurd c
   body_joined g ns s fs gs (Some x) None c k = absurd c
   body_joined g ns s fs gs (Some x) (Some y) c k =
-      (0, gs, ap (λ (u : State). record { function = g; block = 0; base = length s.arrays; state = u; waiting = gs }) (entered_same ns s x y c.parameters c.arrays), c.entry, k)
+      (0, gs, ap (λ (u : State). record { function = g; block = 0; passed = []; base = length s.arrays; state = u; waiting = gs }) (entered_same ns s x y c.parameters c.arrays), c.entry, k)
 
   returned_joined : (n : ℤ) (s : State) (base : ℕ) (fs gs : List Frame) → FramesTied fs gs → StepJoined (returned n s base fs) (returned n s base gs)
   returned_joined n s base [] [] k = (refl, λ h. h)
@@ -208,12 +208,12 @@ module _ (flow : Flow) (graphs : List Graph) (at : ℕ → ℕ → List Place) (
   -- from the start of an old block at a place of it in the new one, with less than n left
   abbrev Chained : ℕ → Type 0
   Chained n = (r : Active) (p : Place) (t : State) (ws : List Frame) → p.left < n → IsIn p (at r.function r.block) → FramesTied r.waiting ws → Safe r →
-      hop new (mid r p t ws) ≡ rest_in (setting_of old r.base) p (slice_get graphs r.function) r.state → MeetsHere r (mid r p t ws)
+      hop new (mid r p t ws) ≡ rest_in (setting_with old r.passed r.base) p (slice_get graphs r.function) r.state → MeetsHere r (mid r p t ws)
 
   module _ (n : ℕ) (hyp : Chained n) (r : Active) (p : Place) (t : State) (ws : List Frame) (lt : p.left < suc n) (w : IsIn p (at r.function r.block)) (f : FramesTied r.waiting ws) (safe : Safe r)
-      (e : hop new (mid r p t ws) ≡ rest_in (setting_of old r.base) p (slice_get graphs r.function) r.state) where
+      (e : hop new (mid r p t ws) ≡ rest_in (setting_with old r.passed r.base) p (slice_get graphs r.function) r.state) where
     abbrev setting : Setting
-    setting = setting_of old r.base
+    setting = setting_with old r.passed r.base
 
     abbrev here : Active
     here = mid r p t ws
@@ -291,9 +291,9 @@ module _ (flow : Flow) (graphs : List Graph) (at : ℕ → ℕ → List Place) (
 
   -- ---- runs
 
-  whole_in : (b left : ℕ) (r : Active) (ws : List Frame) (o : Option Graph) → body_hop new (record r { block = b; waiting = ws }) (as_body o) ≡ rest_in (setting_of old r.base) (record { block = b; before = 0; left = left }) o r.state
+  whole_in : (b left : ℕ) (r : Active) (ws : List Frame) (o : Option Graph) → body_hop new (record r { block = b; waiting = ws }) (as_body o) ≡ rest_in (setting_with old r.passed r.base) (record { block = b; before = 0; left = left }) o r.state
   whole_in b left r ws None = refl
-  whole_in b left r ws (Some g) = whole_block (setting_of old r.base) b left (slice_get g.blocks b) r.state
+  whole_in b left r ws (Some g) = whole_block (setting_with old r.passed r.base) b left (slice_get g.blocks b) r.state
 
   meets : (r q : Active) → Tied r q → MeetsHere r q
   meets r q tie =
@@ -306,11 +306,11 @@ module _ (flow : Flow) (graphs : List Graph) (at : ℕ → ℕ → List Place) (
   alike r q tie = sym (ap out_of tie.joined.2)
 
   start_joined : (s : State) (o o' : Option Graph) → FunctionCleaned (at flow.main) o o' → (o ≡ None → ⊥) →
-      Joined (record { function = flow.main; block = 0; base = length s.arrays; state = entered_or (as_body o) s; waiting = [] }) (record { function = flow.main; block = 0; base = length s.arrays; state = entered_or (as_body o') s; waiting = [] })
+      Joined (record { function = flow.main; block = 0; passed = []; base = length s.arrays; state = entered_or (as_body o) s; waiting = [] }) (record { function = flow.main; block = 0; passed = []; base = length s.arrays; state = entered_or (as_body o') s; waiting = [] })
   start_joined s None o' c some = absurd (some refl)
   start_joined s (Some g) None c some = absurd c
   start_joined s (Some g) (Some h) c some =
-      (0, [], ap (λ (u : State). record { function = flow.main; block = 0; base = length s.arrays; state = u; waiting = [] }) (entered_same [] s g h c.parameters c.arrays), c.entry, tt)
+      (0, [], ap (λ (u : State). record { function = flow.main; block = 0; passed = []; base = length s.arrays; state = u; waiting = [] }) (entered_same [] s g h c.parameters c.arrays), c.entry, tt)
 
   pub runs_same : (input : List ℤ) → NeverFails (graph_run flow input) → Same (graph_run flow input) (graph_run (with_graphs flow graphs) input) × NeverFails (graph_run (with_graphs flow graphs) input)
   runs_same input safe =

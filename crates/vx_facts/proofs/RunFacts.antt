@@ -14,7 +14,7 @@ use Rattle.vx_flow.specs.declared.graph.Graph.{Graph}
 use Rattle.vx_flow.specs.declared.graph.Global.{Global}
 use Rattle.vx_flow.specs.declared.graph.Flow.{Flow}
 use Rattle.vx_flow.specs.Effects.{Content, State, Setting, IsIn, held, is_one, effect}
-use Rattle.vx_flow.specs.Meaning.{Hop, Arrives, Calls, Leaves, Stops, Wrong, known, with_front, by_test, calls, leaves, leave, and_then, block_hop, hop_of, Body, Frame, Active, deepest, undefined, at_entry, entered, enters, with_result, returned, waits, after_hop, body_hop, hop, next, body_of, program_of, setting_of, words_at_start, globals_at_start, entered_or, start}
+use Rattle.vx_flow.specs.Meaning.{Hop, Arrives, Calls, Leaves, Stops, Wrong, known, with_front, by_test, calls, leaves, leave, and_then, block_hop, hop_of, Body, Frame, Active, deepest, undefined, at_entry, entered, enters, with_result, returned, waits, after_hop, body_hop, hop, next, body_of, program_of, setting_with, setting_of, words_at_start, globals_at_start, entered_or, start}
 use Rattle.vx_claims.specs.declared.claim.Claim.{Claim}
 use Rattle.vx_claims.specs.declared.intervals.Interval.{Interval}
 use Rattle.vx_claims.specs.declared.fact.Fact.{Fact}
@@ -31,7 +31,7 @@ use Rattle.vx_facts.proofs.Tests.{side_holds}
 use Rattle.vx_facts.proofs.Operations.{number_fits, held_is, held_fits, RowsFit, NumbersFit, StateFit, rows_append, rows_take, without_holds, lies_hold, written_fits, Good}
 use Rattle.vx_facts.proofs.Behind.{Known, KeepsKnown, Claimed, form_known}
 use Rattle.vx_facts.proofs.Accesses.{tell_holds}
-use Rattle.vx_facts.proofs.Sizes.{Sized, sized_differ, next_sized, start_sized}
+use Rattle.vx_facts.proofs.Sizes.{Sized, next_sized, start_sized}
 
 -- ---- claims
 
@@ -219,7 +219,7 @@ module _ (flow : Flow) (given : ℕ → List Interval) (claims : ℕ → ℕ →
   FramesGood (f ∷ fs) = Fit f.values × IsResumed (claims f.function f.next) f.values f.result × FramesGood fs
 
   abbrev pub ClaimedAt : Active → Type 0
-  ClaimedAt r = Claimed (setting_of (program_of flow) r.base) (claims r.function r.block) r.state
+  ClaimedAt r = Claimed (setting_with (program_of flow) r.passed r.base) (claims r.function r.block) r.state
 
   pub record ActiveGood (r : Active) : Type 0 where
     pub known : ClaimedAt r
@@ -234,14 +234,14 @@ module _ (flow : Flow) (given : ℕ → List Interval) (claims : ℕ → ℕ →
   StepGood (On q) = StandsGood q
   StepGood (Over o) = Unit {0}
 
-  hop_good : (r : Active) → ActiveGood r → HopGood given (claims r.function) (setting_of (program_of flow) r.base) (hop (program_of flow) r)
+  hop_good : (r : Active) → ActiveGood r → HopGood given (claims r.function) (setting_with (program_of flow) r.passed r.base) (hop (program_of flow) r)
   hop_good r a = by (slice_get flow.functions r.function) refl
     where
-      inner : (g : Graph) → slice_get flow.functions r.function ≡ Some g → (o : Option Block) → slice_get g.blocks r.block ≡ o → HopGood given (claims r.function) (setting_of (program_of flow) r.base) (hop_of (setting_of (program_of flow) r.base) r.block o r.state)
+      inner : (g : Graph) → slice_get flow.functions r.function ≡ Some g → (o : Option Block) → slice_get g.blocks r.block ≡ o → HopGood given (claims r.function) (setting_with (program_of flow) r.passed r.base) (hop_of (setting_with (program_of flow) r.passed r.base) r.block o r.state)
       inner g e None q = tt
-      inner g e (Some block) q = block_good given (claims r.function) (setting_of (program_of flow) r.base) (sized_differ flow r a.sized) r.block block r.state a.known (checked.blocks r.function r.block g block e q)
+      inner g e (Some block) q = block_good given (claims r.function) (setting_with (program_of flow) r.passed r.base) a.sized.differ r.block block r.state a.known (checked.blocks r.function r.block g block e q)
 
-      by : (o : Option Graph) → slice_get flow.functions r.function ≡ o → HopGood given (claims r.function) (setting_of (program_of flow) r.base) (body_hop (program_of flow) r (option_map (body_of (length flow.globals)) o))
+      by : (o : Option Graph) → slice_get flow.functions r.function ≡ o → HopGood given (claims r.function) (setting_with (program_of flow) r.passed r.base) (body_hop (program_of flow) r (option_map (body_of (length flow.globals)) o))
       by None e = tt
       by (Some g) e = inner g e (slice_get g.blocks r.block) refl
 
@@ -281,7 +281,7 @@ module _ (flow : Flow) (given : ℕ → List Interval) (claims : ℕ → ℕ →
   returned_good n s base [] f k h = tt
   returned_good n s base (g ∷ fs) f k h =
       let t : State = record s { values = with_result g.values g.result n; arrays = take base s.arrays } in
-      let setting : Setting = setting_of (program_of flow) g.base in
+      let setting : Setting = setting_with (program_of flow) g.passed g.base in
       record {
         known = record {
           good = record { facts = h.1.0 n f; fits = record { values = result_fits g.values g.result n h.0 f; rows = rows_take base s.arrays k.rows; input = k.input } };
@@ -294,7 +294,7 @@ module _ (flow : Flow) (given : ℕ → List Interval) (claims : ℕ → ℕ →
   cond_good true a b h k = h
   cond_good false a b h k = k
 
-  after_good : (r : Active) (h : Hop) → ActiveGood r → HopGood given (claims r.function) (setting_of (program_of flow) r.base) h → StepGood (after_hop (program_of flow) r h)
+  after_good : (r : Active) (h : Hop) → ActiveGood r → HopGood given (claims r.function) (setting_with (program_of flow) r.passed r.base) h → StepGood (after_hop (program_of flow) r h)
   after_good r (Arrives from to s) a k = record { known = k; frames = a.frames }
   after_good r (Calls g ns result from to s) a k =
       let p = program_of flow in

@@ -1,8 +1,6 @@
 -- Where the arrays of the active functions stand: the globals first, then the own ones of each, so that different arrays of a
 -- function stand at different places.
-use Rattle.std.proofs.Common.{◌≡◌, ℕ, zero, suc, ◌+◌, ◌-◌, ◌<◌, ◌≤◌, Bool, true, false, cond, nat_le, ℤ, List, [], ◌∷◌, ◌++◌, length, map, take, slice_set, slice_get, Option, Some, None, refl, sym, ap, ◌∙◌, subst, ⊎_elim, arith}
-use Rattle.std.specs.Prelude.{if◌then◌else◌}
-use Rattle.std.proofs.lemmas.Bool.{cases_lt, lt-ltb, le-ltb}
+use Rattle.std.proofs.Common.{◌≡◌, ℕ, zero, suc, ◌+◌, ◌≤◌, Bool, true, false, cond, nat_le, ℤ, List, [], ◌∷◌, ◌++◌, length, map, take, slice_set, slice_get, Option, Some, None, refl, sym, ap, subst, arith}
 use Rattle.std.proofs.lemmas.List.{length-map, length-append}
 use Rattle.std.specs.Option.{option_map}
 use Rattle.vx_base.specs.Outcome.{Step, On, Over}
@@ -14,30 +12,12 @@ use Rattle.vx_flow.specs.declared.graph.Block.{Block}
 use Rattle.vx_flow.specs.declared.graph.Graph.{Graph}
 use Rattle.vx_flow.specs.declared.graph.Flow.{Flow}
 use Rattle.vx_flow.specs.Effects.{Content, State, Setting, held, is_one, row_of, cell_of, loaded, stored, next_input, printed, effect}
-use Rattle.vx_flow.specs.Meaning.{Hop, Arrives, Calls, Leaves, Stops, Wrong, known, by_test, calls, leaves, leave, and_then, block_hop, hop_of, Body, Frame, Active, deepest, undefined, spot_of, enters, returned, waits, after_hop, body_hop, hop, next, words_at_start, body_of, program_of, setting_of, globals_at_start, entered_or, start}
+use Rattle.vx_flow.specs.Meaning.{Hop, Arrives, Calls, Leaves, Stops, Wrong, known, by_test, calls, leaves, leave, and_then, block_hop, hop_of, Body, Frame, Active, deepest, undefined, enters, returned, waits, after_hop, body_hop, hop, next, words_at_start, body_of, program_of, setting_with, globals_at_start, entered_or, start}
+use Rattle.vx_flow.proofs.Apart.{spots_differ}
 use Rattle.vx_claims.specs.Accesses.{SpotsDiffer}
 use Rattle.vx_facts.proofs.Cells.{set_length}
 
--- ---- places
-
-spots_differ : (globals base : ℕ) → globals ≤ base → (a b : ℕ) → spot_of globals base a ≡ spot_of globals base b → a ≡ b
-spots_differ globals base le a b e =
-    ⊎_elim
-    (λ la. ⊎_elim
-    (λ lb. sym (low a la) ∙ e ∙ low b lb)
-    (λ gb. absurd (let q = sym (low a la) ∙ e ∙ high b gb in omega arith))
-    (cases_lt b globals))
-    (λ ga. ⊎_elim
-    (λ lb. absurd (let q = sym (high a ga) ∙ e ∙ low b lb in omega arith))
-    (λ gb. let q = sym (high a ga) ∙ e ∙ high b gb in omega arith)
-    (cases_lt b globals))
-    (cases_lt a globals)
-  where
-    low : (c : ℕ) → c < globals → spot_of globals base c ≡ c
-    low c h = ap (λ z. if z then c else base + (c - globals)) (lt-ltb c globals h)
-
-    high : (c : ℕ) → globals ≤ c → spot_of globals base c ≡ base + (c - globals)
-    high c h = ap (λ z. if z then c else base + (c - globals)) (le-ltb c globals h)
+-- ---- rows
 
 length_take : {A : Type 0} → (n : ℕ) (xs : List A) → n ≤ length xs → length (take n xs) ≡ n
 length_take zero xs h = refl
@@ -127,16 +107,15 @@ module _ (flow : Flow) where
 
   abbrev FramesSized : ℕ → List Frame → Type 0
   FramesSized base [] = Unit {0}
-  FramesSized base (f ∷ fs) = (Globals ≤ f.base) × (f.base ≤ base) × FramesSized f.base fs
+  FramesSized base (f ∷ fs) = (Globals ≤ f.base) × (f.base ≤ base) × SpotsDiffer (setting_with (program_of flow) f.passed f.base) × FramesSized f.base fs
 
-  -- the own arrays of each active function begin behind the globals, and behind those of the one that called it
+  -- the own arrays of each active function begin behind the globals, and behind those of the one that called it, and
+  -- different arrays of it stand at different spots
   pub record Sized (r : Active) : Type 0 where
     pub low : Globals ≤ r.base
     pub high : r.base ≤ length r.state.arrays
+    pub differ : SpotsDiffer (setting_with (program_of flow) r.passed r.base)
     pub frames : FramesSized r.base r.waiting
-
-  pub sized_differ : (r : Active) → Sized r → SpotsDiffer (setting_of (program_of flow) r.base)
-  sized_differ r z a b e = spots_differ Globals r.base z.low a b e
 
   abbrev StepSized : Step Active → Type 0
   StepSized (On q) = Sized q
@@ -145,9 +124,9 @@ module _ (flow : Flow) where
   hop_sized : (r : Active) → Sized r → HopSized r.base (hop (program_of flow) r)
   hop_sized r z = by (slice_get flow.functions r.function)
     where
-      inner : (o : Option Block) → HopSized r.base (hop_of (setting_of (program_of flow) r.base) r.block o r.state)
+      inner : (o : Option Block) → HopSized r.base (hop_of (setting_with (program_of flow) r.passed r.base) r.block o r.state)
       inner None = tt
-      inner (Some block) = block_sized r.base (setting_of (program_of flow) r.base) r.block block.ops block.exit r.state z.high
+      inner (Some block) = block_sized r.base (setting_with (program_of flow) r.passed r.base) r.block block.ops block.exit r.state z.high
 
       by : (o : Option Graph) → HopSized r.base (body_hop (program_of flow) r (option_map (body_of Globals) o))
       by None = tt
@@ -158,23 +137,23 @@ module _ (flow : Flow) where
 
   enters_sized : (g : ℕ) (o : Option Body) (ns : List ℤ) (s : State) (fs : List Frame) → Globals ≤ length s.arrays → FramesSized (length s.arrays) fs → StepSized (enters g o ns s fs)
   enters_sized g None ns s fs l f = tt
-  enters_sized g (Some body) ns s fs l f = record { low = l; high = longer s.arrays (map undefined body.own); frames = f }
+  enters_sized g (Some body) ns s fs l f = record { low = l; high = longer s.arrays (map undefined body.own); differ = spots_differ Globals (length s.arrays) l; frames = f }
 
   returned_sized : (n : ℤ) (s : State) (base : ℕ) (fs : List Frame) → base ≤ length s.arrays → FramesSized base fs → StepSized (returned n s base fs)
   returned_sized n s base [] h f = tt
-  returned_sized n s base (g ∷ fs) h f = record { low = f.0; high = subst (λ k. g.base ≤ k) (sym (length_take base s.arrays h)) f.1; frames = f.2 }
+  returned_sized n s base (g ∷ fs) h f = record { low = f.0; high = subst (λ k. g.base ≤ k) (sym (length_take base s.arrays h)) f.1; differ = f.2; frames = f.3 }
 
   cond_sized : (t : Bool) (a b : Step Active) → StepSized a → StepSized b → StepSized (cond t a b)
   cond_sized true a b h k = h
   cond_sized false a b h k = k
 
   after_sized : (r : Active) (h : Hop) → Sized r → HopSized r.base h → StepSized (after_hop (program_of flow) r h)
-  after_sized r (Arrives from to s) z k = record { low = z.low; high = k; frames = z.frames }
+  after_sized r (Arrives from to s) z k = record { low = z.low; high = k; differ = z.differ; frames = z.frames }
   after_sized r (Calls g ns result from to s) z k =
       let p = program_of flow in
       let low : Globals ≤ length s.arrays = (let a = z.low in omega arith) in
       cond_sized (nat_le deepest (length r.waiting + 1)) _ (enters g (p.body g) ns s (waits r result from to s ∷ r.waiting)) tt
-      (enters_sized g (p.body g) ns s (waits r result from to s ∷ r.waiting) low (z.low, k, z.frames))
+      (enters_sized g (p.body g) ns s (waits r result from to s ∷ r.waiting) low (z.low, k, z.differ, z.frames))
   after_sized r (Leaves n s) z k = returned_sized n s r.base r.waiting k z.frames
   after_sized r (Stops t s) z k = tt
   after_sized r Wrong z k = tt
@@ -194,4 +173,5 @@ module _ (flow : Flow) where
       let p = program_of flow in
       let s = globals_at_start flow input in
       let e : length s.arrays ≡ Globals = length-map flow.globals words_at_start in
-      record { low = omega arith; high = start_by (p.body flow.main) s; frames = tt }
+      let low : Globals ≤ length s.arrays = omega arith in
+      record { low = low; high = start_by (p.body flow.main) s; differ = spots_differ Globals (length s.arrays) low; frames = tt }

@@ -12,7 +12,7 @@ use Rattle.vx_flow.specs.declared.graph.Block.{Block}
 use Rattle.vx_flow.specs.declared.graph.Graph.{Graph}
 use Rattle.vx_flow.specs.declared.graph.Flow.{Flow}
 use Rattle.vx_flow.specs.Effects.{Content, State, Setting, held, is_one, effect, loaded, stored, next_input, printed, text_at}
-use Rattle.vx_flow.specs.Meaning.{Hop, Arrives, Calls, Leaves, Stops, Wrong, known, by_test, calls, leaves, leave, and_then, block_hop, hop_of, Body, Program, Frame, Active, deepest, enters, returned, waits, after_hop, body_hop, hop, next, body_of, program_of, setting_of, start, graph_run}
+use Rattle.vx_flow.specs.Meaning.{Hop, Arrives, Calls, Leaves, Stops, Wrong, known, by_test, calls, leaves, leave, and_then, block_hop, hop_of, Body, Program, Frame, Active, deepest, enters, returned, waits, after_hop, body_hop, hop, next, body_of, program_of, setting_with, start, graph_run}
 use Rattle.std.specs.Fmt.{signed_decimal}
 
 longer : (xs ys : List ℕ) → Begins xs (xs ++ ys)
@@ -110,7 +110,7 @@ StepKeeps out (Over o) = Begins out (output_of o)
 
 body_keeps : (p : Program) (r : Active) (o : Option Body) → BodyKeeps o → HopKeeps r.state.out (body_hop p r o)
 body_keeps p r None k = tt
-body_keeps p r (Some body) k = k (setting_of p r.base) r.block r.state
+body_keeps p r (Some body) k = k (setting_with p r.passed r.base) r.block r.state
 
 enters_keeps : (out : List ℕ) (g : ℕ) (o : Option Body) (xs : List ℤ) (s : State) (fs : List Frame) → Begins out s.out → StepKeeps out (enters g o xs s fs)
 enters_keeps out g None xs s fs k = k
@@ -148,5 +148,8 @@ graph_body_keeps : (globals : ℕ) (o : Option Graph) → BodyKeeps (option_map 
 graph_body_keeps globals None = tt
 graph_body_keeps globals (Some g) = λ setting b s. hop_of_keeps setting b (slice_get g.blocks b) s
 
+pub flow_grows : (flow : Flow) → Grows (next (program_of flow)) (λ r. r.state.out)
+flow_grows flow = program_grows (program_of flow) (λ f. graph_body_keeps (length flow.globals) (slice_get flow.functions f))
+
 pub graph_run_steady : (flow : Flow) (input : List ℤ) → Steady (graph_run flow input)
-graph_run_steady flow input = run_steady (next (program_of flow)) (λ r. r.state.out) (program_grows (program_of flow) (λ f. graph_body_keeps (length flow.globals) (slice_get flow.functions f))) (start flow input)
+graph_run_steady flow input = run_steady (next (program_of flow)) (λ r. r.state.out) (flow_grows flow) (start flow input)

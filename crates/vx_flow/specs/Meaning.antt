@@ -81,12 +81,14 @@ pub record Program : Type 0 where
   pub body : (function : ℕ) → Option Body
 
 -- a function that waits for a call to return: its block that called, the block with which it goes on, the value that
--- gets the result, and where its own arrays begin
+-- gets the result, the spots of the arrays that were passed to it, by their places behind the globals, and where its own arrays
+-- begin
 pub record Frame : Type 0 where
   pub function : ℕ
   pub from : ℕ
   pub next : ℕ
   pub result : Option ℕ
+  pub passed : List (Option ℕ)
   pub base : ℕ
   pub values : ℕ → Content
 
@@ -94,6 +96,9 @@ pub record Frame : Type 0 where
 pub record Active : Type 0 where
   pub function : ℕ
   pub block : ℕ
+  -- by the places behind the globals the spots of the arrays that were passed to it
+  pub passed : List (Option ℕ)
+  -- where its own arrays begin
   pub base : ℕ
   pub state : State
   -- those that wait, the latest first
@@ -103,12 +108,29 @@ pub record Active : Type 0 where
 unfoldable pub deepest : ℕ
 deepest = 512
 
--- where array a of a function stands, with so many globals and its own arrays from base on
+-- where array k behind the globals stands: at its spot where it was passed, else among the function's own, which stand from a
+-- base on
+abbrev pub spot_behind : (passed : List (Option ℕ)) → (base : ℕ) → ℕ → ℕ
+spot_behind [] base k = base + k
+spot_behind (Some spot ∷ rest) base zero = spot
+spot_behind (Some spot ∷ rest) base (suc k) = spot_behind rest base k
+spot_behind (None ∷ rest) base zero = base
+spot_behind (None ∷ rest) base (suc k) = spot_behind rest (base + 1) k
+
+-- where array a of a function stands: a global, of so many, at its number, the others behind them
+abbrev pub spot_in : (globals : ℕ) → (passed : List (Option ℕ)) → (base : ℕ) → ℕ → ℕ
+spot_in globals passed base a = if nat_lt a globals then a else spot_behind passed base (a - globals)
+
+-- the same where nothing was passed
 abbrev pub spot_of : (globals base : ℕ) → ℕ → ℕ
-spot_of globals base a = if nat_lt a globals then a else base + (a - globals)
+spot_of globals base a = spot_in globals [] base a
+
+-- what the operations of a function depend on besides, where these arrays were passed to it and its own begin at base
+abbrev pub setting_with : Program → (passed : List (Option ℕ)) → (base : ℕ) → Setting
+setting_with p passed base = record { spot = spot_in p.globals passed base; texts = p.texts }
 
 abbrev pub setting_of : Program → ℕ → Setting
-setting_of p base = record { spot = spot_of p.globals base; texts = p.texts }
+setting_of p base = setting_with p [] base
 
 -- what the values hold at the entry: the parameters their arguments
 abbrev pub at_entry : (parameters : List ℕ) → (arguments : List ℤ) → ℕ → Content
@@ -124,7 +146,7 @@ entered body arguments s = record s { values = at_entry body.parameters argument
 
 abbrev pub enters : ℕ → Option Body → List ℤ → State → List Frame → Step Active
 enters g None arguments s waiting = Over (Outcome.Wrong s.out)
-enters g (Some body) arguments s waiting = On (record { function = g; block = 0; base = length s.arrays; state = entered body arguments s; waiting = waiting })
+enters g (Some body) arguments s waiting = On (record { function = g; block = 0; passed = []; base = length s.arrays; state = entered body arguments s; waiting = waiting })
 
 abbrev pub with_result : (ℕ → Content) → Option ℕ → ℤ → ℕ → Content
 with_result values None n v = values v
@@ -136,13 +158,14 @@ returned n s base [] = Over (EndsWith n s.out)
 returned n s base (f ∷ fs) = On (record {
   function = f.function;
   block = f.next;
+  passed = f.passed;
   base = f.base;
   state = record s { values = with_result f.values f.result n; arrays = take base s.arrays };
   waiting = fs;
 })
 
 abbrev pub waits : Active → Option ℕ → ℕ → ℕ → State → Frame
-waits r result from next s = record { function = r.function; from = from; next = next; result = result; base = r.base; values = s.values }
+waits r result from next s = record { function = r.function; from = from; next = next; result = result; passed = r.passed; base = r.base; values = s.values }
 
 abbrev pub after_hop : Program → Active → Hop → Step Active
 after_hop p r (Arrives from to s) = On (record r { block = to; state = s })
@@ -154,7 +177,7 @@ after_hop p r Wrong = Over (Outcome.Wrong r.state.out)
 
 abbrev pub body_hop : Program → Active → Option Body → Hop
 body_hop p r None = Wrong
-body_hop p r (Some body) = body.hop (setting_of p r.base) r.block r.state
+body_hop p r (Some body) = body.hop (setting_with p r.passed r.base) r.block r.state
 
 abbrev pub hop : Program → Active → Hop
 hop p r = body_hop p r (p.body r.function)
@@ -217,7 +240,7 @@ entered_or (Some body) s = entered body [] s
 
 -- the first active function at its entry
 abbrev pub at_start : Program → (main : ℕ) → State → Active
-at_start p main s = record { function = main; block = 0; base = length s.arrays; state = entered_or (p.body main) s; waiting = [] }
+at_start p main s = record { function = main; block = 0; passed = []; base = length s.arrays; state = entered_or (p.body main) s; waiting = [] }
 
 abbrev pub start : Flow → List ℤ → Active
 start flow input = at_start (program_of flow) flow.main (globals_at_start flow input)

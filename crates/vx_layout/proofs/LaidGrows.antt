@@ -5,7 +5,7 @@ use Rattle.vx_base.proofs.Same.{begins_self}
 use Rattle.vx_flow.specs.declared.graph.Graph.{Graph}
 use Rattle.vx_flow.specs.declared.graph.Flow.{Flow}
 use Rattle.vx_flow.specs.Effects.{State, Setting, effect, held}
-use Rattle.vx_flow.specs.Meaning.{known, and_then, Active, setting_of, body_hop, next}
+use Rattle.vx_flow.specs.Meaning.{known, and_then, Active, setting_with, body_hop, next}
 use Rattle.vx_mixed.specs.declared.region.Item.{Item}
 use Rattle.vx_mixed.specs.declared.region.Item.TheVariants.{Plain as PlainItem, Split as SplitItem}
 use Rattle.vx_mixed.specs.declared.layout.Laid.{Laid}
@@ -63,7 +63,7 @@ module _ (flow : Flow) (ls : List VWords) where
   at_body : (r : Active) (graph : Option Graph) (l : Option VWords) → HopGood r.state.out (length r.state.arrays) (body_hop (laid_program flow ls) r (laid_body (length flow.globals) graph l))
   at_body r None l = tt
   at_body r (Some graph) None = tt
-  at_body r (Some graph) (Some l) = hop_good r.state.out (length r.state.arrays) (setting_of (laid_program flow ls) r.base) l r.block r.state (begins_self r.state.out, refl)
+  at_body r (Some graph) (Some l) = hop_good r.state.out (length r.state.arrays) (setting_with (laid_program flow ls) r.passed r.base) l r.block r.state (begins_self r.state.out, refl)
 
   pub laid_grows : Grows (next (laid_program flow ls)) (λ r. r.state.out)
   laid_grows = program_grows (laid_program flow ls) (λ r. at_body r (slice_get flow.functions r.function) (slice_get ls r.function))

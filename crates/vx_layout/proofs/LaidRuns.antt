@@ -11,7 +11,7 @@ use Rattle.vx_flow.specs.declared.graph.Array.{Array}
 use Rattle.vx_flow.specs.declared.graph.Graph.{Graph}
 use Rattle.vx_flow.specs.declared.graph.Flow.{Flow}
 use Rattle.vx_flow.specs.Effects.{Content, State}
-use Rattle.vx_flow.specs.Meaning.{Hop, Arrives, Program, Frame, Active, deepest, setting_of, at_entry, undefined, enters, with_result, returned, waits, after_hop, body_hop, next, globals_at_start, entered_or, at_start}
+use Rattle.vx_flow.specs.Meaning.{Hop, Arrives, Program, Frame, Active, deepest, setting_with, at_entry, undefined, enters, with_result, returned, waits, after_hop, body_hop, next, globals_at_start, entered_or, at_start}
 use Rattle.vx_mixed.specs.declared.region.Item.{Item}
 use Rattle.vx_mixed.specs.declared.layout.VirtualWord.TheVariants.{Transfer}
 use Rattle.vx_mixed.specs.declared.layout.VWords.{VWords}
@@ -53,6 +53,7 @@ module _ (flow : Flow) (times : List ℕ) (latency : Op → ℕ) (room : List (O
 
   record TiedFrame (w u : Frame) : Type 0 where
     function : u.function ≡ w.function
+    passed : u.passed ≡ w.passed
     base : u.base ≡ w.base
     result : u.result ≡ w.result
     values : u.values ≡ w.values
@@ -115,11 +116,11 @@ module _ (flow : Flow) (times : List ℕ) (latency : Op → ℕ) (room : List (O
   abbrev at_b : Active → Option Graph → Option VWords → Hop
   at_b r graph l = body_hop B r (laid_body G graph l)
 
-  step_is : (n : Active) (graph : Graph) (l : VWords) (b : ℕ) (s : State) (h : Hop) → slice_get flow.functions n.function ≡ Some graph → slice_get ls n.function ≡ Some l → laid_hop (setting_of B n.base) l b s ≡ h → next B (moved n b s) ≡ after_hop B (moved n b s) h
+  step_is : (n : Active) (graph : Graph) (l : VWords) (b : ℕ) (s : State) (h : Hop) → slice_get flow.functions n.function ≡ Some graph → slice_get ls n.function ≡ Some l → laid_hop (setting_with B n.passed n.base) l b s ≡ h → next B (moved n b s) ≡ after_hop B (moved n b s) h
   step_is n graph l b s h e f r =
       ap (λ o. after_hop B (moved n b s) (at_b (moved n b s) o (slice_get ls n.function))) e ∙ ap (λ o. after_hop B (moved n b s) (at_b (moved n b s) (Some graph) o)) f ∙ ap (after_hop B (moved n b s)) r
 
-  inside : (n : Active) (graph : Graph) (l : VWords) (b : ℕ) (s : State) (h : Hop) → slice_get flow.functions n.function ≡ Some graph → slice_get ls n.function ≡ Some l → Steps (laid_hop (setting_of B n.base) l) b s h → Inside n b s h
+  inside : (n : Active) (graph : Graph) (l : VWords) (b : ℕ) (s : State) (h : Hop) → slice_get flow.functions n.function ≡ Some graph → slice_get ls n.function ≡ Some l → Steps (laid_hop (setting_with B n.passed n.base) l) b s h → Inside n b s h
   inside n graph l b s h e f (last r) = record { count = 0; place = b; state = s; reach = refl; ends = step_is n graph l b s h e f r }
   inside n graph l b s h e f (on {from = c} {to = d} {t = t} r more) =
       let i = inside n graph l d t h e f more in
@@ -167,8 +168,8 @@ module _ (flow : Flow) (times : List ℕ) (latency : Op → ℕ) (room : List (O
         next A n ≡ enters g (A.body g) args s (w ∷ ws) → next B m ≡ enters g (B.body g) args s (u ∷ us) → (slice_get ms g ≡ None) ⊎ There g → MeetsHere n m
     enter_step n m g args w u s ws us stack safe e d (inl gone) = failed n m s.out (e ∙ ap (λ o. enters g (option_map (body_of G times latency) o) args s (w ∷ ws)) gone) safe
     enter_step n m g args w u s ws us stack safe e d (inr x) =
-        let n' : Active = record { function = g; block = 0; base = length s.arrays; state = begun x.mixed.parameters x.mixed.arrays args s; waiting = w ∷ ws } in
-        let m' : Active = record { function = g; block = 0; base = length s.arrays; state = begun x.graph.parameters x.graph.arrays args s; waiting = u ∷ us } in
+        let n' : Active = record { function = g; block = 0; passed = []; base = length s.arrays; state = begun x.mixed.parameters x.mixed.arrays args s; waiting = w ∷ ws } in
+        let m' : Active = record { function = g; block = 0; passed = []; base = length s.arrays; state = begun x.graph.parameters x.graph.arrays args s; waiting = u ∷ us } in
         let to_a : next A n ≡ On n' = e ∙ ap (λ o. enters g (option_map (body_of G times latency) o) args s (w ∷ ws)) x.in_mixed in
         let to_b : next B m ≡ On m' = d ∙ ap (λ o. enters g (laid_body G o (slice_get ls g)) args s (u ∷ us)) x.in_flow ∙ ap (λ o. enters g (laid_body G (Some x.graph) o) args s (u ∷ us)) x.in_laid in
         again n n' m m' m' to_a to_b 0 refl safe (λ later. record {
@@ -181,7 +182,7 @@ module _ (flow : Flow) (times : List ℕ) (latency : Op → ℕ) (room : List (O
         })
       where
         entry : State → Active
-        entry z = record { function = g; block = 0; base = length s.arrays; state = z; waiting = u ∷ us }
+        entry z = record { function = g; block = 0; passed = []; base = length s.arrays; state = z; waiting = u ∷ us }
 
     call_step : (deep deep' : Bool) (n m : Active) (g : ℕ) (args : List ℤ) (w u : Frame) (s : State) (ws us : List Frame) → deep' ≡ deep → TiedStack (w ∷ ws) (u ∷ us) → NeverFails (λ k. run (next A) out k n) →
         next A n ≡ (if deep then Over (Traps Depth s.out) else enters g (A.body g) args s (w ∷ ws)) → next B m ≡ (if deep' then Over (Traps Depth s.out) else enters g (B.body g) args s (u ∷ us)) → MeetsHere n m
@@ -197,15 +198,15 @@ module _ (flow : Flow) (times : List ℕ) (latency : Op → ℕ) (room : List (O
         next A n ≡ returned r s base (x ∷ ws) → next B m ≡ returned r s base (y ∷ us) → (slice_get ms x.function ≡ None) ⊎ There x.function → MeetsHere n m
     resumed n m x y ws us r s base t stack safe e d (inl gone) = absurd (subst (λ o. Behind o (slice_get ls x.function) x.next y.next) gone t.behind)
     resumed n m x y ws us r s base t stack safe e d (inr c) =
-        let n' : Active = record { function = x.function; block = x.next; base = x.base; state = after x.result x.values r base s; waiting = ws } in
+        let n' : Active = record { function = x.function; block = x.next; passed = x.passed; base = x.base; state = after x.result x.values r base s; waiting = ws } in
         let behind : Behind (Some c.mixed) (Some c.laid) x.next y.next = subst (λ o. Behind o (Some c.laid) x.next y.next) c.in_mixed (subst (λ o. Behind (slice_get ms x.function) o x.next y.next) c.in_laid t.behind) in
         let p = behind.0 in
         let m' : Active = other n' (suc p) us in
         let to : Active = other n' (suc (place_of c.mixed x.next)) us in
         let there_b : next B m ≡ On m' =
-        d ∙ ap (λ z. On (back z y.next y.base y.result y.values)) t.function ∙ ap (λ z. On (back x.function z y.base y.result y.values)) behind.1 ∙ ap (λ z. On (back x.function (suc p) z y.result y.values)) t.base
-        ∙ ap (λ z. On (back x.function (suc p) x.base z y.values)) t.result ∙ ap (λ z. On (back x.function (suc p) x.base x.result z)) t.values in
-        let on_b : next B m' ≡ On to = step_is m' c.graph c.laid (suc p) n'.state (moves p (place_of c.mixed x.next) n'.state) c.in_flow c.in_laid (ap (λ o. some_word_hop (setting_of B x.base) p o n'.state) behind.2) in
+        d ∙ ap (λ z. On (back z y.next y.passed y.base y.result y.values)) t.function ∙ ap (λ z. On (back x.function z y.passed y.base y.result y.values)) behind.1 ∙ ap (λ z. On (back x.function (suc p) z y.base y.result y.values)) t.passed
+        ∙ ap (λ z. On (back x.function (suc p) x.passed z y.result y.values)) t.base ∙ ap (λ z. On (back x.function (suc p) x.passed x.base z y.values)) t.result ∙ ap (λ z. On (back x.function (suc p) x.passed x.base x.result z)) t.values in
+        let on_b : next B m' ≡ On to = step_is m' c.graph c.laid (suc p) n'.state (moves p (place_of c.mixed x.next) n'.state) c.in_flow c.in_laid (ap (λ o. some_word_hop (setting_with B x.passed x.base) p o n'.state) behind.2) in
         again n n' m m' to e there_b 1 (to, on_b, refl) safe (λ later. record {
           block = suc (place_of c.mixed x.next);
           waiting = us;
@@ -215,8 +216,8 @@ module _ (flow : Flow) (times : List ℕ) (latency : Op → ℕ) (room : List (O
           safe = later;
         })
       where
-        back : ℕ → ℕ → ℕ → Option ℕ → (ℕ → Content) → Active
-        back function block ground result values = record { function = function; block = block; base = ground; state = after result values r base s; waiting = us }
+        back : ℕ → ℕ → List (Option ℕ) → ℕ → Option ℕ → (ℕ → Content) → Active
+        back function block passed ground result values = record { function = function; block = block; passed = passed; base = ground; state = after result values r base s; waiting = us }
 
     return_step : (n m : Active) (ws us : List Frame) (r : ℤ) (s : State) (base : ℕ) → TiedStack ws us → NeverFails (λ k. run (next A) out k n) → next A n ≡ returned r s base ws → next B m ≡ returned r s base us → MeetsHere n m
     return_step n m [] [] r s base stack safe e d = ended n m (EndsWith r s.out) e d tt
@@ -241,6 +242,7 @@ module _ (flow : Flow) (times : List ℕ) (latency : Op → ℕ) (room : List (O
         call_step (nat_le deepest (length n.waiting + 1)) (nat_le deepest (length us + 1)) n (moved (other n b us) b t) g args (waits n result from to s) (waits (other n b us) result (suc p) (suc (suc p)) s) s n.waiting us (ap (λ x. nat_le deepest (x + 1)) len) (
           record {
             function = refl;
+            passed = refl;
             base = refl;
             result = refl;
             values = refl;
@@ -253,15 +255,15 @@ module _ (flow : Flow) (times : List ℕ) (latency : Op → ℕ) (room : List (O
     last_step n b t us c stack safe h h' (stops_too {k = k} {s = s}) e d = ended n (moved (other n b us) b t) (Traps k s.out) e d tt
     last_step n b t us c stack safe h h' wrong e d = failed n (moved (other n b us) b t) n.state.out e safe
 
-    followed : (f : ℕ) (c : There f) (base b b' : ℕ) (s : State) → Near (Some c.mixed) b b' → Followed (setting_of B base) c.laid (place_of c.mixed) b' s (early_hop (setting_of A base) c.mixed b s)
-    followed f c base b b' s near =
-        subst (λ z. Followed (setting_of B base) z (place_of c.mixed) b' s (early_hop (setting_of A base) c.mixed b s)) (sym c.laid_out.is) (by near)
+    followed : (f : ℕ) (c : There f) (passed : List (Option ℕ)) (base b b' : ℕ) (s : State) → Near (Some c.mixed) b b' → Followed (setting_with B passed base) c.laid (place_of c.mixed) b' s (early_hop (setting_with A passed base) c.mixed b s)
+    followed f c passed base b b' s near =
+        subst (λ z. Followed (setting_with B passed base) z (place_of c.mixed) b' s (early_hop (setting_with A passed base) c.mixed b s)) (sym c.laid_out.is) (by near)
       where
-        by : Near (Some c.mixed) b b' → Followed (setting_of B base) (layout_of c.mixed) (place_of c.mixed) b' s (early_hop (setting_of A base) c.mixed b s)
-        by (inl q) = subst (λ z. Followed (setting_of B base) (layout_of c.mixed) (place_of c.mixed) z s (early_hop (setting_of A base) c.mixed b s)) (sym q) (hop_followed latency c.mixed c.laid_out.valid c.laid_out.done (setting_of A base) b s)
+        by : Near (Some c.mixed) b b' → Followed (setting_with B passed base) (layout_of c.mixed) (place_of c.mixed) b' s (early_hop (setting_with A passed base) c.mixed b s)
+        by (inl q) = subst (λ z. Followed (setting_with B passed base) (layout_of c.mixed) (place_of c.mixed) z s (early_hop (setting_with A passed base) c.mixed b s)) (sym q) (hop_followed latency c.mixed c.laid_out.valid c.laid_out.done (setting_with A passed base) b s)
         by (inr q) =
-            subst (λ z. Followed (setting_of B base) (layout_of c.mixed) (place_of c.mixed) z s (early_hop (setting_of A base) c.mixed b s)) (sym q.1)
-            (subst (λ z. Followed (setting_of B base) (layout_of c.mixed) (place_of c.mixed) 0 s (early_hop (setting_of A base) c.mixed z s)) (sym q.0) (start_followed latency c.mixed c.laid_out.valid c.laid_out.done (setting_of A base) s))
+            subst (λ z. Followed (setting_with B passed base) (layout_of c.mixed) (place_of c.mixed) z s (early_hop (setting_with A passed base) c.mixed b s)) (sym q.1)
+            (subst (λ z. Followed (setting_with B passed base) (layout_of c.mixed) (place_of c.mixed) 0 s (early_hop (setting_with A passed base) c.mixed z s)) (sym q.0) (start_followed latency c.mixed c.laid_out.valid c.laid_out.done (setting_with A passed base) s))
 
     abbrev at_a : Active → Option MixedGraph → Hop
     at_a r o = body_hop A r (option_map (body_of G times latency) o)
@@ -269,10 +271,10 @@ module _ (flow : Flow) (times : List ℕ) (latency : Op → ℕ) (room : List (O
     meets_there : (n : Active) (b : ℕ) (us : List Frame) → Near (slice_get ms n.function) n.block b → TiedStack n.waiting us → NeverFails (λ k. run (next A) out k n) → (slice_get ms n.function ≡ None) ⊎ There n.function → MeetsHere n (other n b us)
     meets_there n b us near stack safe (inl gone) = failed n (other n b us) n.state.out (ap (λ o. after_hop A n (at_a n o)) gone) safe
     meets_there n b us near stack safe (inr c) =
-        let h : Hop = early_hop (setting_of A n.base) c.mixed n.block n.state in
-        let f : Followed (setting_of B n.base) c.laid (place_of c.mixed) b n.state h = followed n.function c n.base n.block b n.state (subst (λ o. Near o n.block b) c.in_mixed near) in
+        let h : Hop = early_hop (setting_with A n.passed n.base) c.mixed n.block n.state in
+        let f : Followed (setting_with B n.passed n.base) c.laid (place_of c.mixed) b n.state h = followed n.function c n.passed n.base n.block b n.state (subst (λ o. Near o n.block b) c.in_mixed near) in
         let i : Inside (other n b us) b n.state f.way = inside (other n b us) c.graph c.laid b n.state f.way c.in_flow c.in_laid f.steps in
-        let e : next A n ≡ after_hop A n h = ap (λ o. after_hop A n (at_a n o)) c.in_mixed ∙ ap (after_hop A n) (any_timing room latency c.mixed (settled n.function c.mixed c.in_mixed) (setting_of A n.base) times n.block n.state) in
+        let e : next A n ≡ after_hop A n h = ap (λ o. after_hop A n (at_a n o)) c.in_mixed ∙ ap (after_hop A n) (any_timing room latency c.mixed (settled n.function c.mixed c.in_mixed) (setting_with A n.passed n.base) times n.block n.state) in
         meets_behind i.count n (other n b us) (moved (other n b us) i.place i.state) i.reach (last_step n i.place i.state us c stack safe h f.way f.tied e i.ends)
 
     meets : (n m : Active) → Tied n m → MeetsHere n m
@@ -313,4 +315,4 @@ layout_runs flow times latency room ms ls input some frames each settled safe =
     same_from_meeting (next a) (λ r. r.state.out) (next b) (λ r. r.state.out) (Tied flow times latency room ms ls) (grows flow times latency ms) (laid_grows flow ls) (meets flow times latency room ms ls frames each settled) (λ n m t. ap (λ (r : Active). r.state.out) (sym t.is)) (at_start a flow.main s) (at_start b flow.main s) tie
   where
     first_of : Flow → State → State → Active
-    first_of fl start z = record { function = fl.main; block = 0; base = length start.arrays; state = z; waiting = [] }
+    first_of fl start z = record { function = fl.main; block = 0; passed = []; base = length start.arrays; state = z; waiting = [] }

@@ -9,10 +9,11 @@ use Rattle.vx_flow.specs.declared.trace.TraceOp.{TraceOp}
 use Rattle.vx_flow.specs.declared.trace.TraceOp.TheVariants.{Plain, Split}
 use Rattle.vx_flow.specs.declared.trace.Trace.{Trace}
 use Rattle.vx_flow.specs.Effects.{Content, State, Setting, held, row_of, cell_in, cell_of, Cell, IsCell}
+use Rattle.vx_flow.specs.Apart.{array_in, AreApart, StandApart}
 use Rattle.vx_linear.specs.declared.form.Form.{Form}
 use Rattle.vx_linear.specs.Forms.{value_at, NeverSame}
-use Rattle.vx_linear.specs.Followed.{above_of, index_of, array_of, access_form, form_at, forms_from, forms_of}
-use Rattle.vx_linear.specs.InOrder.{state_before, Touches, IsEntrance, ArraysApart, NeverLaw}
+use Rattle.vx_linear.specs.Followed.{above_of, index_of, access_form, form_at, forms_from, forms_of}
+use Rattle.vx_linear.specs.InOrder.{state_before, Touches, IsEntrance, NeverLaw}
 use Rattle.vx_linear.proofs.Symbols.{first-true}
 use Rattle.vx_linear.proofs.Writing.{all_forms}
 use Rattle.vx_linear.proofs.InOrder.{get_drop, state_at}
@@ -100,10 +101,6 @@ place_there words (Some (pos p)) c e = by ((p % 4 == 0) && nat_lt (p / 4) words)
 
 -- ---- the law
 
-named_is : (a : ℕ) (array : Option Array) → (array_of a array).named ≡ a
-named_is a None = refl
-named_is a (Some array) = refl
-
 meet : (x y m n z : ℤ) → z ≡ x +ℤ m *ℤ pos (2 ^ 30) → z ≡ y +ℤ n *ℤ pos (2 ^ 30) → x ≡ y +ℤ (n -ℤ m) *ℤ pos (2 ^ 30)
 meet x y m n z e h = omega (arith, ints, e, h)
 
@@ -112,13 +109,17 @@ module _ (t : Trace) (setting : Setting) (q : ℕ) (s : State) where
   record Comes (n a c : ℕ) (f : Form) : Type 0 where
     multiple : ℤ
     is : pos c ≡ value_at (stands setting t q s) f +ℤ multiple *ℤ pos (2 ^ 30)
-    spot : a ≡ setting.spot f.array.named
+    array : ℕ
+    of : f.array ≡ array_in t.arrays array
+    spot : a ≡ setting.spot array
 
   comes_accessed : (n a c : ℕ) (f : Form) → IsEntrance t q → q ≤ n → Accessed t setting (state_at setting t q s n) n a c f → Comes n a c f
   comes_accessed n a c f enters h x = subst (Comes n a c) x.form (record {
     multiple = index.multiple;
     is = ap pos (sym there.word) ∙ index.is;
-    spot = x.spot ∙ ap setting.spot (sym (named_is x.array (slice_get t.arrays x.array)));
+    array = x.array;
+    of = refl;
+    spot = x.spot;
   })
     where
       there : PlaceOf (held (state_at setting t q s n) x.place) c
@@ -136,8 +137,9 @@ module _ (t : Trace) (setting : Setting) (q : ℕ) (s : State) where
       let at_place = subst (λ k. Touches setting (state_before setting (drop q t.ops) s k) (Some o.of) (Cell a c)) same at_op in
       comes_accessed (q + i) a c f enters (omega arith) (accessed t setting (state_at setting t q s (q + i)) (q + i) a c f o.of o.form at_place)
 
-  never_both : (i j : ℕ) (f g : Form) → ArraysApart setting → NeverSame f g → (a c : ℕ) → Comes i a c f → Comes j a c g → ⊥
-  never_both i j f g apart (inl two) a c x y = two (apart f.array.named g.array.named (sym x.spot ∙ y.spot))
+  never_both : (i j : ℕ) (f g : Form) → StandApart t.arrays setting.spot → NeverSame f g → (a c : ℕ) → Comes i a c f → Comes j a c g → ⊥
+  never_both i j f g apart (inl two) a c x y =
+      apart x.array y.array (subst (λ z. AreApart (array_in t.arrays x.array) z) y.of (subst (λ z. AreApart z g.array) x.of two)) (sym x.spot ∙ y.spot)
   never_both i j f g apart (inr never) a c x y =
       never (stands setting t q s) (record {
         multiple = y.multiple -ℤ x.multiple;

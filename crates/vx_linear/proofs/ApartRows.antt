@@ -12,13 +12,14 @@ use Rattle.vx_flow.specs.declared.trace.TraceOp.TheVariants.{Plain}
 use Rattle.vx_flow.specs.declared.trace.Join.{Join}
 use Rattle.vx_flow.specs.declared.trace.Trace.{Trace}
 use Rattle.vx_flow.specs.Effects.{Content, State, Setting, Cell}
+use Rattle.vx_flow.specs.Apart.{StandApart}
 use Rattle.vx_linear.specs.declared.form.Symbol.{Symbol}
 use Rattle.vx_linear.specs.declared.form.Symbol.TheVariants.{Entry, Made}
 use Rattle.vx_linear.specs.declared.form.Term.{Term}
 use Rattle.vx_linear.specs.declared.form.Form.{Form}
 use Rattle.vx_linear.specs.Forms.{NeverSame}
 use Rattle.vx_linear.specs.Followed.{forms_of}
-use Rattle.vx_linear.specs.InOrder.{state_before, Touches, Apart, ArraysApart}
+use Rattle.vx_linear.specs.InOrder.{state_before, Touches, Apart}
 use Rattle.vx_linear.proofs.Apart.{never_law}
 
 abbrev array : Array
@@ -70,7 +71,7 @@ i_and_next = inr (λ s m. apart (s (Entry 1)) m.multiple m.equal)
     apart x m e = omega (arith, ints, e)
 
 -- and in every run two words
-next_apart : (anywhere : Setting) (s : State) → ArraysApart anywhere → Apart anywhere next s 3 4
+next_apart : (anywhere : Setting) (s : State) → StandApart (array ∷ []) anywhere.spot → Apart anywhere next s 3 4
 unfolding sum_of int_wrap forms_of
 next_apart anywhere s apart = never_law (trace next []) anywhere 0 s 3 4 _ _ apart (inl refl) refl refl i_and_next
 
@@ -87,7 +88,7 @@ even_and_odd = inr (λ s m. apart (s (Entry 1)) (s (Entry 2)) m.multiple m.equal
     apart : (x y m : ℤ) → pos 0 +ℤ (pos 2 *ℤ x +ℤ pos 0) ≡ (pos 1 +ℤ (pos 2 *ℤ y +ℤ pos 0)) +ℤ m *ℤ pos (2 ^ 30) → ⊥
     apart x y m e = omega (arith, ints, e)
 
-evens_apart : (anywhere : Setting) (s : State) → ArraysApart anywhere → Apart anywhere evens s 5 6
+evens_apart : (anywhere : Setting) (s : State) → StandApart (array ∷ []) anywhere.spot → Apart anywhere evens s 5 6
 unfolding sum_of product_of shl_of int_wrap forms_of
 evens_apart anywhere s apart = never_law (trace evens []) anywhere 0 s 5 6 _ _ apart (inl refl) refl refl even_and_odd
 

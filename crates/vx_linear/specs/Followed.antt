@@ -15,6 +15,7 @@ use Rattle.vx_flow.specs.declared.trace.TraceOp.{TraceOp}
 use Rattle.vx_flow.specs.declared.trace.TraceOp.TheVariants.{Plain, Split}
 use Rattle.vx_flow.specs.declared.trace.Trace.{Trace}
 use Rattle.vx_flow.specs.Effects.{writes}
+use Rattle.vx_flow.specs.Apart.{array_in}
 use Rattle.vx_linear.specs.declared.form.Symbol.{Symbol}
 use Rattle.vx_linear.specs.declared.form.Symbol.TheVariants.{Entry, Made, EntryPlace, MadePlace}
 use Rattle.vx_linear.specs.declared.form.Form.{Form}
@@ -147,17 +148,12 @@ abbrev pub above_of : Trace → ℕ → List Above
 above_of t zero = join_at (is_join t 0) []
 above_of t (suc i) = join_at (is_join t (suc i)) (at_place i (slice_get t.ops i) (above_of t i))
 
--- the array of an access is told apart by its number in the function
-abbrev pub array_of : ℕ → Option Array → Array
-array_of a None = record { words = 0; global = false; named = a }
-array_of a (Some array) = record { words = array.words; global = array.global; named = a }
-
 abbrev pub form_with : Array → Linear → Form
 form_with array a = record { array = array; constant = a.constant; terms = a.terms }
 
 -- of the operation at place i, which names the array at p
 abbrev pub access_form : Trace → ℕ → ℕ → Operand → Form
-access_form t i a p = form_with (array_of a (slice_get t.arrays a)) (index_of (above_of t i) p)
+access_form t i a p = form_with (array_in t.arrays a) (index_of (above_of t i) p)
 
 abbrev pub form_at : Trace → ℕ → TraceOp → Option Form
 form_at t i (Plain (Load v a p dismissible)) = Some (access_form t i a p)

@@ -2,6 +2,7 @@
 use Rattle.std.specs.Prelude.{◌≡◌, ◌⊎◌, ℕ, ◌^◌, ℤ, pos, ◌+ℤ◌, ◌*ℤ◌, Bool, true, ◌&&◌, ◌||◌, not, nat_lt, nat_eq, Option, Some, List, [], ◌∷◌, slice_get}
 use Rattle.std.specs.List.{list_all}
 use Rattle.std.specs.Ordering.{int_eq}
+use Rattle.vx_flow.specs.Apart.{AreApart}
 use Rattle.vx_linear.specs.declared.form.Symbol.{Symbol}
 use Rattle.vx_linear.specs.declared.form.Symbol.TheVariants.{Entry, Made, EntryPlace, MadePlace}
 use Rattle.vx_linear.specs.declared.form.Term.{Term}
@@ -21,9 +22,9 @@ pub record Meet (s : Symbol → ℤ) (a b : Form) : Type 0 where
   pub multiple : ℤ
   pub equal : value_at s a ≡ value_at s b +ℤ multiple *ℤ pos (2 ^ 30)
 
--- the arrays are two, or no numbers of the symbols make both places equal
+-- the arrays are apart, or no numbers of the symbols make both places equal
 abbrev pub NeverSame : Form → Form → Type 0
-NeverSame a b = (a.array.named ≡ b.array.named → ⊥) ⊎ ((s : Symbol → ℤ) → Meet s a b → ⊥)
+NeverSame a b = AreApart a.array b.array ⊎ ((s : Symbol → ℤ) → Meet s a b → ⊥)
 
 -- the same array, and equal forms
 pub record AlwaysSame (a b : Form) : Type 0 where

@@ -5,6 +5,7 @@ use Rattle.vx_flow.specs.declared.trace.TraceOp.{TraceOp}
 use Rattle.vx_flow.specs.declared.trace.TraceOp.TheVariants.{Plain, Split}
 use Rattle.vx_flow.specs.declared.trace.Trace.{Trace}
 use Rattle.vx_flow.specs.Effects.{State, Setting, calm_effect, Location, Cell, ReadsBesides, WritesBesides}
+use Rattle.vx_flow.specs.Apart.{StandApart}
 use Rattle.vx_linear.specs.declared.form.Form.{Form}
 use Rattle.vx_linear.specs.Forms.{NeverSame}
 use Rattle.vx_linear.specs.Followed.{is_join, forms_of}
@@ -37,15 +38,11 @@ Apart setting ops s i j =
 abbrev pub IsEntrance : Trace → ℕ → Type 0
 IsEntrance t q = (q ≡ 0) ⊎ (is_join t q ≡ true)
 
--- different arrays of the function stand at different spots
-abbrev pub ArraysApart : Setting → Type 0
-ArraysApart setting = (a b : ℕ) → setting.spot a ≡ setting.spot b → a ≡ b
-
 -- The never law: accesses whose forms never name one word touch none in common, from whatever state and by whichever
 -- entrance the trace is entered. i and j are counted from the entrance.
 abbrev pub NeverLaw : Type 0
 NeverLaw =
     (t : Trace) (setting : Setting) (q : ℕ) (s : State) (i j : ℕ) (f g : Form) →
-    ArraysApart setting → IsEntrance t q →
+    StandApart t.arrays setting.spot → IsEntrance t q →
     slice_get (forms_of t) (q + i) ≡ Some (Some f) → slice_get (forms_of t) (q + j) ≡ Some (Some g) → NeverSame f g →
     Apart setting (drop q t.ops) s i j

@@ -2,7 +2,8 @@
 
 ghost use Rattle.std.specs.Prelude.{◌≡◌, ◌+◌, ◌^◌, ◌<◌, ◌≤◌, ℕ, Some, IfOk, slice_get, OnOk};
 ghost use Rattle.vx_linear.specs.Forms.{AreOrdered};
-ghost use Rattle.vx_linear.specs.Followed.{made, known, index_of, index_made, array_of, access_form, form_at, above_of, forms_of};
+ghost use Rattle.vx_linear.specs.Followed.{made, known, index_of, index_made, access_form, form_at, above_of, forms_of};
+ghost use Rattle.vx_flow.specs.Apart.{array_in};
 ghost use Rattle.vx_linear.specs.Writers.{writer, has_join, made_at, index_there};
 ghost use Rattle.vx_linear.specs.Passed.{Passes, JoinsAre};
 
@@ -272,8 +273,8 @@ fn index(
 }
 
 /// The array of an access, told apart by its number.
-fn array_of(arrays: &[Array], array: ArrayId) -> Array
-    ensures { result ≡ array_of array (slice_get arrays.now array) }
+fn array_in(arrays: &[Array], array: ArrayId) -> Array
+    ensures { result ≡ array_in arrays.now array }
 {
     match arrays.get(array as usize) {
         Some(found) => Array {
@@ -304,7 +305,7 @@ fn form(
     let (array, operand) = access;
     let index = index(alloc, trace, passed, place, &operand)?;
     Ok(Form {
-        array: array_of(trace.arrays.as_slice(), array),
+        array: array_in(trace.arrays.as_slice(), array),
         constant: index.constant,
         terms: index.terms,
     })

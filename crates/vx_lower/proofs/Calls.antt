@@ -179,7 +179,7 @@ module _ (flow : Flow) (p : TreeProgram) (accepted : is_accepted p ≡ true) (al
 
   -- at a call: where the callee begins
   abbrev inner_here : Here → ℕ → Option ℕ → ℕ → State → Here
-  inner_here h f result to s = record { function = f; base = length s.arrays; waiting = record { function = h.function; from = 0; next = to; result = result; base = h.base; values = s.values } ∷ h.waiting }
+  inner_here h f result to s = record { function = f; base = length s.arrays; waiting = record { function = h.function; from = 0; next = to; result = result; passed = []; base = h.base; values = s.values } ∷ h.waiting }
 
   pub body_there : (f : ℕ) (g : Graph) → slice_get flow.functions f ≡ Some g → P.body f ≡ Some (body_of (length flow.globals) g)
   body_there f g at = ap (option_map (body_of (length flow.globals))) at
@@ -189,7 +189,7 @@ module _ (flow : Flow) (p : TreeProgram) (accepted : is_accepted p ≡ true) (al
       ap (λ o. step_then (run (next P) (λ r. r.state.out) (suc k)) (after_hop P (active_at h e) (calls f o result e.block to s))) vals
       ∙ ap (λ b. step_then (run (next P) (λ r. r.state.out) (suc k)) (cond b (Over (Traps Depth s.out)) (enters f (P.body f) args s (waits (active_at h e) result e.block to s ∷ h.waiting)))) room
       ∙ ap (λ o. step_then (run (next P) (λ r. r.state.out) (suc k)) (enters f o args s (waits (active_at h e) result e.block to s ∷ h.waiting))) (body_there f g at)
-      ∙ run_alike P (suc k) (record { function = f; block = 0; base = length s.arrays; state = start_state g args s; waiting = waits (active_at h e) result e.block to s ∷ h.waiting }) (record { function = h.function; from = 0; next = to; result = result; base = h.base; values = s.values } ∷ h.waiting) (refl, alike_self h.waiting)
+      ∙ run_alike P (suc k) (record { function = f; block = 0; passed = []; base = length s.arrays; state = start_state g args s; waiting = waits (active_at h e) result e.block to s ∷ h.waiting }) (record { function = h.function; from = 0; next = to; result = result; passed = []; base = h.base; values = s.values } ∷ h.waiting) (refl, alike_self h.waiting)
       ∙ arrival P (inner_here h f result to s) g.blocks (has_blocks flow (inner_here h f result to s) g at) e 0 k start (start_state g args s) at_start
 
   abbrev back_state : Option ℕ → ℤ → State → State → State

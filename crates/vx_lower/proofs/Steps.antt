@@ -25,7 +25,7 @@ pub record Entry : Type 0 where
   pub state : State
 
 abbrev pub active_at : Here → Entry → Active
-active_at h e = record { function = h.function; block = e.block; base = h.base; state = e.state; waiting = h.waiting }
+active_at h e = record { function = h.function; block = e.block; passed = []; base = h.base; state = e.state; waiting = h.waiting }
 
 module _ (P : Program) (h : Here) where
   abbrev pub output_at : Active → List ℕ

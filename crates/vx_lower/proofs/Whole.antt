@@ -104,7 +104,7 @@ module _ (p : TreeProgram) (flow : Flow) (accepted : is_accepted p ≡ true) (al
 
   begins : (n k : ℕ) (g : Graph) (start : Block) → (at : slice_get flow.functions flow.main ≡ Some g) → slice_get g.blocks 0 ≡ Some start → graph_run flow input (suc k) ≡ rest_run P here k (record { block = 0; state = start_state flow p accepted all n g [] state }) start (start_state flow p accepted all n g [] state)
   begins n k g start at at_start =
-      ap (λ o. run (next P) (λ q. q.state.out) (suc k) (record { function = flow.main; block = 0; base = length (map graph_words flow.globals); state = entered_or o state; waiting = [] })) (body_there flow p accepted all n flow.main g at)
+      ap (λ o. run (next P) (λ q. q.state.out) (suc k) (record { function = flow.main; block = 0; passed = []; base = length (map graph_words flow.globals); state = entered_or o state; waiting = [] })) (body_there flow p accepted all n flow.main g at)
       ∙ arrival P here g.blocks (has_blocks flow here g at) (record { block = 0; state = state }) 0 k start (start_state flow p accepted all n g [] state) at_start
 
   run_ends : (n : ℕ) (g : Graph) (start : Block) (shapes : List ℕ) (r : ℤ) (σ : Store) → (at : slice_get flow.functions flow.main ≡ Some g) → slice_get g.blocks 0 ≡ Some start → Ended flow p accepted all n here start (start_state flow p accepted all n g [] state) none_kept shapes r σ → (m : ℕ) × (graph_run flow input m ≡ Ends r σ.out)

@@ -5,7 +5,7 @@ use Rattle.vx_base.proofs.Runs.{Grows, Reach}
 use Rattle.vx_flow.specs.declared.graph.Op.{Op}
 use Rattle.vx_flow.specs.declared.graph.Flow.{Flow}
 use Rattle.vx_flow.specs.Effects.{State}
-use Rattle.vx_flow.specs.Meaning.{Hop, Arrives, Program, Active, setting_of, after_hop, body_hop, next}
+use Rattle.vx_flow.specs.Meaning.{Hop, Arrives, Program, Active, setting_with, after_hop, body_hop, next}
 use Rattle.vx_mixed.specs.declared.mixed.MixedGraph.{MixedGraph}
 use Rattle.vx_mixed.specs.Meaning.{hop}
 use Rattle.vx_mixed.specs.Agree.{Segment, last, on}
@@ -28,7 +28,7 @@ module _ (flow : Flow) (times : List ℕ) (latency : Op → ℕ) (ms : List Mixe
 
   hop_grown : (r : Active) (o : Option MixedGraph) → HopGood r.state.out (length r.state.arrays) (at_hop r o)
   hop_grown r None = tt
-  hop_grown r (Some m) = hop_good (setting_of P r.base) times latency m r.block r.state
+  hop_grown r (Some m) = hop_good (setting_with P r.passed r.base) times latency m r.block r.state
 
   pub grows : Grows (next P) out_of
   grows = program_grows P (λ r. hop_grown r (slice_get ms r.function))
@@ -47,10 +47,10 @@ module _ (flow : Flow) (times : List ℕ) (latency : Op → ℕ) (ms : List Mixe
     pub out : List ℕ
     pub good : HopGood out (length s.arrays) h
 
-  step_is : (n : Active) (m : MixedGraph) (b : ℕ) (s : State) (h : Hop) → slice_get ms n.function ≡ Some m → hop (setting_of P n.base) times latency m b s ≡ h → next P (moved n b s) ≡ after_hop P (moved n b s) h
+  step_is : (n : Active) (m : MixedGraph) (b : ℕ) (s : State) (h : Hop) → slice_get ms n.function ≡ Some m → hop (setting_with P n.passed n.base) times latency m b s ≡ h → next P (moved n b s) ≡ after_hop P (moved n b s) h
   step_is n m b s h e r = ap (λ o. after_hop P (moved n b s) (at_hop (moved n b s) o)) e ∙ ap (after_hop P (moved n b s)) r
 
-  pub inside : (n : Active) (m : MixedGraph) (meet : ℕ → ℕ → Bool) (b : ℕ) (s : State) (h : Hop) → slice_get ms n.function ≡ Some m → Segment (hop (setting_of P n.base) times latency m) meet b s h → Inside n b s h
+  pub inside : (n : Active) (m : MixedGraph) (meet : ℕ → ℕ → Bool) (b : ℕ) (s : State) (h : Hop) → slice_get ms n.function ≡ Some m → Segment (hop (setting_with P n.passed n.base) times latency m) meet b s h → Inside n b s h
   inside n m meet b s h e (last r v) = record {
     count = 0;
     place = b;
@@ -58,11 +58,11 @@ module _ (flow : Flow) (times : List ℕ) (latency : Op → ℕ) (ms : List Mixe
     reach = refl;
     ends = step_is n m b s h e r;
     out = s.out;
-    good = subst (HopGood s.out (length s.arrays)) r (hop_good (setting_of P n.base) times latency m b s);
+    good = subst (HopGood s.out (length s.arrays)) r (hop_good (setting_with P n.passed n.base) times latency m b s);
   }
   inside n m meet b s h e (on {from = c} {to = d} {t = t} r q more) =
       let i = inside n m meet d t h e more in
-      let kept : Good s.out (length s.arrays) t = subst (HopGood s.out (length s.arrays)) r (hop_good (setting_of P n.base) times latency m b s) in
+      let kept : Good s.out (length s.arrays) t = subst (HopGood s.out (length s.arrays)) r (hop_good (setting_with P n.passed n.base) times latency m b s) in
       record {
         count = suc i.count;
         place = i.place;

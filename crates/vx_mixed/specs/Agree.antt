@@ -3,6 +3,7 @@
 use Rattle.std.specs.Prelude.{◌≡◌, ◌≢◌, ℕ, ℤ, Bool, true, false, Option, Some, None, List, [], length}
 use Rattle.vx_flow.specs.declared.graph.Op.{Op}
 use Rattle.vx_flow.specs.Effects.{State, Setting, row_of}
+use Rattle.vx_flow.specs.Apart.{StandApart}
 use Rattle.vx_flow.specs.Meaning.{Hop, Arrives, Calls, Leaves, Stops, Wrong}
 use Rattle.vx_mixed.specs.declared.mixed.MixedGraph.{MixedGraph}
 use Rattle.vx_mixed.specs.Meaning.{hop}
@@ -50,18 +51,14 @@ Alike old pairs (Calls g arguments result from next s) h = ⊥
 Alike old pairs (Leaves n s) h = ⊥
 Alike old pairs (Stops k s) h = ⊥
 
--- different arrays of a function stand at different places
-abbrev pub Apart : Setting → Type 0
-Apart setting = (a b : ℕ) → setting.spot a ≡ setting.spot b → a ≡ b
-
 -- The entrances that two graphs share come in pairs, with the edges where each arrives at one. From each pair, wherever the
--- arrays stand and whenever the writes of each land, new does what old does where that has a meaning.
+-- arrays of old stand apart and whenever the writes of each land, new does what old does where that has a meaning.
 pub record SameMeaning (latency : Op → ℕ) (old new : MixedGraph) (meet_old meet_new pairs : ℕ → ℕ → Bool) : Type 0 where
   pub start : pairs 0 0 ≡ true
   -- from each shared entrance old comes to the next one
   pub ends : (setting : Setting) (times : List ℕ) (b b' : ℕ) (s : State) → pairs b b' ≡ true → (h : Hop) × Segment (hop setting times latency old) meet_old b s h
   pub leads : (setting : Setting) (times times' : List ℕ) (b b' : ℕ) (s t : State) (h : Hop) →
-      Apart setting → times ≢ [] → times' ≢ [] → pairs b b' ≡ true → Agree (Live old b) s t → Segment (hop setting times latency old) meet_old b s h → h ≢ Wrong →
+      StandApart old.arrays setting.spot → times ≢ [] → times' ≢ [] → pairs b b' ≡ true → Agree (Live old b) s t → Segment (hop setting times latency old) meet_old b s h → h ≢ Wrong →
       (h' : Hop) × Segment (hop setting times' latency new) meet_new b' t h' × Alike old pairs h h'
 
 pub record SameShape (s t : State) : Type 0 where

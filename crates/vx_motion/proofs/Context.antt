@@ -1,8 +1,8 @@
 -- Replaced graphs of the same meaning leave a program's runs the same.
-use Rattle.std.proofs.Common.{◌≡◌, ◌≢◌, ℕ, zero, suc, ◌+◌, ◌-◌, ◌<◌, ◌≤◌, ℤ, Bool, true, false, Option, Some, None, List, [], ◌∷◌, ◌++◌, length, slice_get, take, drop, map, refl, sym, ap, ◌∙◌, subst, ⊎_elim, inl, inr, arith}
+use Rattle.std.proofs.Common.{◌≡◌, ◌≢◌, ℕ, zero, suc, ◌+◌, ◌≤◌, ℤ, Bool, true, false, Option, Some, None, List, [], ◌∷◌, ◌++◌, length, slice_get, take, drop, map, refl, sym, ap, ◌∙◌, subst, ⊎_elim, inl, inr, arith}
 use Rattle.std.specs.Prelude.{◌⊎◌, ◌==◌, if◌then◌else◌, nat_le}
 use Rattle.std.specs.Option.{option_map}
-use Rattle.std.proofs.lemmas.Bool.{cases_lt, lt-ltb, le-ltb, eq-eqb}
+use Rattle.std.proofs.lemmas.Bool.{eq-eqb}
 use Rattle.vx_base.specs.Outcome.{Outcome, Ends as EndsWith, Traps, IsOver, IsFailure, NeverFails, On, Over, step_then, run}
 use Rattle.vx_base.specs.declared.outcome.Trap.{Trap}
 use Rattle.vx_base.specs.declared.outcome.Trap.TheVariants.{Depth}
@@ -12,11 +12,13 @@ use Rattle.vx_flow.specs.declared.graph.Op.{Op}
 use Rattle.vx_flow.specs.declared.graph.Array.{Array}
 use Rattle.vx_flow.specs.declared.graph.Flow.{Flow}
 use Rattle.vx_flow.specs.Effects.{Content, State}
-use Rattle.vx_flow.specs.Meaning.{Hop, Arrives, Calls, Leaves, Stops, Wrong, Program, Frame, Active, deepest, spot_of, setting_of, at_entry, undefined, entered, enters, with_result, returned, waits, after_hop, body_hop, next, words_at_start, globals_at_start, entered_or, at_start}
+use Rattle.vx_flow.specs.Apart.{StandApart}
+use Rattle.vx_flow.specs.Meaning.{Hop, Arrives, Calls, Leaves, Stops, Wrong, Program, Frame, Active, deepest, spot_in, setting_with, at_entry, undefined, entered, enters, with_result, returned, waits, after_hop, body_hop, next, words_at_start, globals_at_start, entered_or, at_start}
+use Rattle.vx_flow.proofs.Apart.{spots_apart}
 use Rattle.vx_mixed.specs.declared.mixed.MixedGraph.{MixedGraph}
 use Rattle.vx_mixed.specs.Meaning.{hop}
 use Rattle.vx_mixed.specs.Live.{Live}
-use Rattle.vx_mixed.specs.Agree.{Apart, Segment, SameWorld, Agree, Alike, SameMeaning, not_the_result}
+use Rattle.vx_mixed.specs.Agree.{Segment, SameWorld, Agree, Alike, SameMeaning, not_the_result}
 use Rattle.vx_mixed.specs.Program.{body_of}
 use Rattle.vx_motion.specs.Context.{Becomes, Remains, Changes, Both, AllBecome, SameRuns, InContext}
 use Rattle.vx_mixed.proofs.Keeps.{HopGood, hop_good}
@@ -24,29 +26,6 @@ use Rattle.vx_mixed.proofs.GraphGrows.{P, grows, inside, moved}
 
 same_world : (s : State) → SameWorld s s
 same_world s = record { arrays = refl; input = refl; out = refl }
-
--- different arrays stand at different places, where the own ones stand behind the globals
-spots_differ : (globals base : ℕ) → globals ≤ base → (a b : ℕ) → spot_of globals base a ≡ spot_of globals base b → a ≡ b
-spots_differ globals base le a b e =
-    ⊎_elim
-    (λ la. ⊎_elim
-    (λ lb. sym (low a la) ∙ e ∙ low b lb)
-    (λ gb. absurd (let q = sym (low a la) ∙ e ∙ high b gb in omega arith))
-    (cases_lt b globals))
-    (λ ga. ⊎_elim
-    (λ lb. absurd (let q = sym (high a ga) ∙ e ∙ low b lb in omega arith))
-    (λ gb. let q = sym (high a ga) ∙ e ∙ high b gb in omega arith)
-    (cases_lt b globals))
-    (cases_lt a globals)
-  where
-    low : (c : ℕ) → c < globals → spot_of globals base c ≡ c
-    low c h = ap (λ z. if z then c else base + (c - globals)) (lt-ltb c globals h)
-
-    high : (c : ℕ) → globals ≤ c → spot_of globals base c ≡ base + (c - globals)
-    high c h = ap (λ z. if z then c else base + (c - globals)) (le-ltb c globals h)
-
-apart : (globals base : ℕ) (texts : List (List ℕ)) → globals ≤ base → Apart (record { spot = spot_of globals base; texts = texts })
-apart globals base texts le a b same = spots_differ globals base le a b same
 
 wrong_or : (h : Hop) → (h ≡ Wrong) ⊎ (h ≢ Wrong)
 wrong_or (Arrives b c s) = inr (λ (e : Arrives b c s ≡ Wrong). cc)
@@ -142,32 +121,45 @@ module _ (flow : Flow) (times : List ℕ) (latency : Op → ℕ) (some : times �
   abbrev out : Active → List ℕ
   out r = r.state.out
 
+  -- a function's arrays stand apart, with those that it was passed and its own from base on
+  abbrev FarIn : Option MixedGraph → List (Option ℕ) → ℕ → Type 0
+  FarIn None passed base = Unit {0}
+  FarIn (Some m) passed base = StandApart m.arrays (spot_in Globals passed base)
+
+  far_all : (o : Option MixedGraph) (base : ℕ) → Globals ≤ base → FarIn o [] base
+  far_all None base le = tt
+  far_all (Some m) base le = spots_apart m.arrays Globals base le
+
   record TiedFrame (w u : Frame) : Type 0 where
     function : u.function ≡ w.function
+    passed : u.passed ≡ w.passed
     base : u.base ≡ w.base
     result : u.result ≡ w.result
     rest : RestIn latency (slice_get ms w.function) (slice_get ns w.function) (each w.function) w.result w.next w.values u.next u.values
 
-  -- each waiting function's own arrays begin behind the globals, and before those of the one that it called
+  -- each waiting function's own arrays begin behind the globals, and before those of the one that it called, and its arrays
+  -- stand apart
   abbrev TiedStack : ℕ → List Frame → List Frame → Type 0
   TiedStack base [] [] = Unit {0}
-  TiedStack base (w ∷ ws) (u ∷ us) = TiedFrame w u × (Globals ≤ w.base) × (w.base ≤ base) × TiedStack w.base ws us
+  TiedStack base (w ∷ ws) (u ∷ us) = TiedFrame w u × (Globals ≤ w.base) × (w.base ≤ base) × FarIn (slice_get ms w.function) w.passed w.base × TiedStack w.base ws us
   TiedStack base [] (u ∷ us) = ⊥
   TiedStack base (w ∷ ws) [] = ⊥
 
   record Tied (n m : Active) : Type 0 where
     function : m.function ≡ n.function
+    passed : m.passed ≡ n.passed
     base : m.base ≡ n.base
     near : NearIn latency (slice_get ms n.function) (slice_get ns n.function) (each n.function) n.block n.state m.block m.state
     world : SameWorld n.state m.state
     stack : TiedStack n.base n.waiting m.waiting
     low : Globals ≤ n.base
+    far : FarIn (slice_get ms n.function) n.passed n.base
     high : n.base ≤ length n.state.arrays
     safe : NeverFails (λ k. run (next A) out k n)
 
   same_length : (base : ℕ) (ws us : List Frame) → TiedStack base ws us → length us ≡ length ws
   same_length base [] [] h = refl
-  same_length base (w ∷ ws) (u ∷ us) h = ap suc (same_length w.base ws us h.3)
+  same_length base (w ∷ ws) (u ∷ us) h = ap suc (same_length w.base ws us h.4)
   same_length base [] (u ∷ us) h = absurd h
   same_length base (w ∷ ws) [] h = absurd h
 
@@ -231,11 +223,13 @@ module _ (flow : Flow) (times : List ℕ) (latency : Op → ℕ) (some : times �
       let y = ties.0 in
       again n _ m _ e d safe (λ later. record {
         function = y.function;
+        passed = y.passed;
         base = y.base;
         near = resumed (slice_get ms x.function) (slice_get ns x.function) (each x.function) x.result u.result x.next x.values u.next u.values n.base m.base r s t y.result eb y.rest w;
         world = record { arrays = ap (λ q. take q t.arrays) eb ∙ ap (take n.base) w.arrays; input = w.input; out = w.out };
-        stack = ties.3;
+        stack = ties.4;
         low = ties.1;
+        far = ties.3;
         high = let l = length_take n.base s.arrays hi in let a = ties.2 in omega arith;
         safe = later;
       })
@@ -279,11 +273,13 @@ module _ (flow : Flow) (times : List ℕ) (latency : Op → ℕ) (some : times �
       let start = entry_near m1 m' l args s t world in
       again n _ m _ e d safe (λ later. record {
         function = refl;
+        passed = refl;
         base = ap length world.arrays;
         near = near (entry m1 args s) (entry m' args t) start.0;
         world = start.1;
         stack = st;
         low = lo;
+        far = far_all (slice_get ms g) (length s.arrays) lo;
         high = length_both s.arrays (own m1);
         safe = later;
       })
@@ -297,19 +293,19 @@ module _ (flow : Flow) (times : List ℕ) (latency : Op → ℕ) (some : times �
       enter_step n m g (slice_get ms g) (slice_get ns g) (each g) args w u s t (λ s' t' x. x) st lo safe world e (d ∙ ap (λ z. if z then Over (Traps Depth t.out) else enters g (B.body g) args t (u ∷ m.waiting)) q)
 
   -- the last hop of a segment; behind it there are k arrays
-  last_step : (n m : Active) → m.function ≡ n.function → m.base ≡ n.base → TiedStack n.base n.waiting m.waiting → Globals ≤ n.base → NeverFails (λ j. run (next A) out j n) → (xs : List ℕ) (k : ℕ) → n.base ≤ k → (h h' : Hop) → HopGood xs k h → next A n ≡ after_hop A n h → next B m ≡ after_hop B m h' →
+  last_step : (n m : Active) → m.function ≡ n.function → m.passed ≡ n.passed → m.base ≡ n.base → TiedStack n.base n.waiting m.waiting → Globals ≤ n.base → FarIn (slice_get ms n.function) n.passed n.base → NeverFails (λ j. run (next A) out j n) → (xs : List ℕ) (k : ℕ) → n.base ≤ k → (h h' : Hop) → HopGood xs k h → next A n ≡ after_hop A n h → next B m ≡ after_hop B m h' →
       Exits (NearIn latency (slice_get ms n.function) (slice_get ns n.function) (each n.function)) (RestIn latency (slice_get ms n.function) (slice_get ns n.function) (each n.function)) h h' → MeetsHere n m
-  last_step n m ef eb st lo safe xs k hi h h' good e d (ByEdge near w) =
-      again n _ m _ e d safe (λ later. record { function = ef; base = eb; near = near; world = w; stack = st; low = lo; high = let g = good.1 in omega arith; safe = later })
-  last_step n m ef eb st lo safe xs k hi h h' good e d (ByCall {g = g} {from = from} {from' = from'} {c = c} {c' = c'} {args = args} {result = result} {s = s} {t = t} rest w) =
+  last_step n m ef el eb st lo far safe xs k hi h h' good e d (ByEdge near w) =
+      again n _ m _ e d safe (λ later. record { function = ef; passed = el; base = eb; near = near; world = w; stack = st; low = lo; far = far; high = let g = good.1 in omega arith; safe = later })
+  last_step n m ef el eb st lo far safe xs k hi h h' good e d (ByCall {g = g} {from = from} {from' = from'} {c = c} {c' = c'} {args = args} {result = result} {s = s} {t = t} rest w) =
       let len : length m.waiting ≡ length n.waiting = same_length n.base n.waiting m.waiting st in
       let more = good.1 in
       call_step (nat_le deepest (length n.waiting + 1)) (nat_le deepest (length m.waiting + 1)) n m g args (waits n result from c s) (waits m result from' c' t) s t (ap (λ x. nat_le deepest (x + 1)) len)
-      (record { function = ef; base = eb; result = refl; rest = rest }, lo, omega arith, st)
+      (record { function = ef; passed = el; base = eb; result = refl; rest = rest }, lo, omega arith, far, st)
       (omega arith) safe w e d
-  last_step n m ef eb st lo safe xs k hi h h' good e d (ByReturn {r = r} {s = s} {t = t} w) = return_step n m n.waiting m.waiting r s t st eb (let g = good.1 in omega arith) e d w safe
-  last_step n m ef eb st lo safe xs k hi h h' good e d (ByTrap {k = q} {s = s} w) = ended n m (Traps q s.out) e (d ∙ ap (λ o. Over (Traps q o)) w.out) tt
-  last_step n m ef eb st lo safe xs k hi h h' good e d IsWrong = failed n m n.state.out e safe
+  last_step n m ef el eb st lo far safe xs k hi h h' good e d (ByReturn {r = r} {s = s} {t = t} w) = return_step n m n.waiting m.waiting r s t st eb (let g = good.1 in omega arith) e d w safe
+  last_step n m ef el eb st lo far safe xs k hi h h' good e d (ByTrap {k = q} {s = s} w) = ended n m (Traps q s.out) e (d ∙ ap (λ o. Over (Traps q o)) w.out) tt
+  last_step n m ef el eb st lo far safe xs k hi h h' good e d IsWrong = failed n m n.state.out e safe
 
   record Ran (n m : Active) (N : ℕ → State → ℕ → State → Type 0) (R : Option ℕ → ℕ → (ℕ → Content) → ℕ → (ℕ → Content) → Type 0) : Type 0 where
     count : ℕ
@@ -328,9 +324,10 @@ module _ (flow : Flow) (times : List ℕ) (latency : Op → ℕ) (some : times �
     ends' : next B (moved flow times latency ns m place' state') ≡ after_hop B (moved flow times latency ns m place' state') way'
     exits : Exits N R way way'
 
-  same_hop : (f f' : MixedGraph) (base base' b b' : ℕ) (s t : State) → f' ≡ f → base' ≡ base → b' ≡ b → t ≡ s → hop (setting_of B base') times latency f' b' t ≡ hop (setting_of A base) times latency f b s
-  same_hop f f' base base' b b' s t e1 e2 e3 e4 =
-      ap (λ x. hop (setting_of B base') times latency x b' t) e1 ∙ ap (λ x. hop (setting_of B x) times latency f b' t) e2 ∙ ap (λ x. hop (setting_of A base) times latency f x t) e3 ∙ ap (hop (setting_of A base) times latency f b) e4
+  same_hop : (f f' : MixedGraph) (passed passed' : List (Option ℕ)) (base base' b b' : ℕ) (s t : State) → f' ≡ f → passed' ≡ passed → base' ≡ base → b' ≡ b → t ≡ s → hop (setting_with B passed' base') times latency f' b' t ≡ hop (setting_with A passed base) times latency f b s
+  same_hop f f' passed passed' base base' b b' s t e1 e2 e3 e4 e5 =
+      ap (λ x. hop (setting_with B passed' base') times latency x b' t) e1 ∙ ap (λ x. hop (setting_with B x base') times latency f b' t) e2 ∙ ap (λ x. hop (setting_with B passed x) times latency f b' t) e3
+      ∙ ap (λ x. hop (setting_with A passed base) times latency f x t) e4 ∙ ap (hop (setting_with A passed base) times latency f b) e5
 
   abbrev at_a : Active → Option MixedGraph → Hop
   at_a r o = body_hop A r (option_map (body_of Globals times latency) o)
@@ -338,8 +335,8 @@ module _ (flow : Flow) (times : List ℕ) (latency : Op → ℕ) (some : times �
   abbrev at_b : Active → Option MixedGraph → Hop
   at_b r o = body_hop B r (option_map (body_of Globals times latency) o)
 
-  ran : (n m : Active) (o o' : Option MixedGraph) (l : Both latency o o') → m.function ≡ n.function → m.base ≡ n.base → Globals ≤ n.base → slice_get ms n.function ≡ o → slice_get ns n.function ≡ o' → NearIn latency o o' l n.block n.state m.block m.state → Ran n m (NearIn latency o o' l) (RestIn latency o o' l)
-  ran n m None None l ef eb lo e e' near = record {
+  ran : (n m : Active) (o o' : Option MixedGraph) (l : Both latency o o') → m.function ≡ n.function → m.passed ≡ n.passed → m.base ≡ n.base → FarIn o n.passed n.base → slice_get ms n.function ≡ o → slice_get ns n.function ≡ o' → NearIn latency o o' l n.block n.state m.block m.state → Ran n m (NearIn latency o o' l) (RestIn latency o o' l)
+  ran n m None None l ef el eb far e e' near = record {
     count = 0;
     count' = 0;
     place = n.block;
@@ -356,10 +353,10 @@ module _ (flow : Flow) (times : List ℕ) (latency : Op → ℕ) (some : times �
     ends' = refl;
     exits = IsWrong;
   }
-  ran n m None (Some f') l ef eb lo e e' near = absurd l
-  ran n m (Some f) None l ef eb lo e e' near = absurd l
-  ran n m (Some f) (Some f') (Remains same) ef eb lo e e' near =
-      let h = hop (setting_of A n.base) times latency f n.block n.state in
+  ran n m None (Some f') l ef el eb far e e' near = absurd l
+  ran n m (Some f) None l ef el eb far e e' near = absurd l
+  ran n m (Some f) (Some f') (Remains same) ef el eb far e e' near =
+      let h = hop (setting_with A n.passed n.base) times latency f n.block n.state in
       record {
         count = 0;
         count' = 0;
@@ -372,13 +369,13 @@ module _ (flow : Flow) (times : List ℕ) (latency : Op → ℕ) (some : times �
         xs = n.state.out;
         reach = refl;
         reach' = refl;
-        good = hop_good (setting_of A n.base) times latency f n.block n.state;
+        good = hop_good (setting_with A n.passed n.base) times latency f n.block n.state;
         ends = ap (λ x. after_hop A n (at_a n x)) e;
-        ends' = ap (λ x. after_hop B m (at_b m x)) (ap (slice_get ns) ef ∙ e') ∙ ap (after_hop B m) (same_hop f f' n.base m.base n.block m.block n.state m.state same eb near.0 near.1);
+        ends' = ap (λ x. after_hop B m (at_b m x)) (ap (slice_get ns) ef ∙ e') ∙ ap (after_hop B m) (same_hop f f' n.passed m.passed n.base m.base n.block m.block n.state m.state same el eb near.0 near.1);
         exits = exits_remain latency f f' same h;
       }
-  ran n m (Some f) (Some f') (Changes ps ars meet meet' pairs c) ef eb lo e e' near =
-      let setting = setting_of A n.base in
+  ran n m (Some f) (Some f') (Changes ps ars meet meet' pairs c) ef el eb far e e' near =
+      let setting = setting_with A n.passed n.base in
       let old = c.ends setting times n.block m.block n.state near.0 in
       let a = inside flow times latency ms n f meet n.block n.state old.0 e old.1 in
       ⊎_elim
@@ -400,8 +397,8 @@ module _ (flow : Flow) (times : List ℕ) (latency : Op → ℕ) (some : times �
         exits = IsWrong;
       } in w)
       (λ right.
-      let new = c.leads setting times times n.block m.block n.state m.state old.0 (apart Globals n.base flow.texts lo) some some near.0 near.1 old.1 right in
-      let b = inside flow times latency ns m f' meet' m.block m.state new.0 (ap (slice_get ns) ef ∙ e') (subst (λ x. Segment (hop (setting_of A x) times latency f') meet' m.block m.state new.0) (sym eb) new.1) in
+      let new = c.leads setting times times n.block m.block n.state m.state old.0 far some some near.0 near.1 old.1 right in
+      let b = inside flow times latency ns m f' meet' m.block m.state new.0 (ap (slice_get ns) ef ∙ e') (subst (λ x. Segment (hop (setting_with A m.passed x) times latency f') meet' m.block m.state new.0) (sym eb) (subst (λ x. Segment (hop (setting_with A x n.base) times latency f') meet' m.block m.state new.0) (sym el) new.1)) in
       record {
         count = a.count;
         count' = b.count;
@@ -423,12 +420,12 @@ module _ (flow : Flow) (times : List ℕ) (latency : Op → ℕ) (some : times �
 
   meets : (n m : Active) → Tied n m → MeetsHere n m
   meets n m t =
-      let r = ran n m (slice_get ms n.function) (slice_get ns n.function) (each n.function) t.function t.base t.low refl refl t.near in
+      let r = ran n m (slice_get ms n.function) (slice_get ns n.function) (each n.function) t.function t.passed t.base t.far refl refl t.near in
       let n' = moved flow times latency ms n r.place r.state in
       let m' = moved flow times latency ns m r.place' r.state' in
       let safe = safe_after (next A) out r.count n n' r.reach t.safe in
       meets_after r.count r.count' n n' m m' r.reach r.reach'
-      (last_step n' m' t.function t.base t.stack t.low safe r.xs (length n.state.arrays) t.high r.way r.way' r.good r.ends r.ends' r.exits)
+      (last_step n' m' t.function t.passed t.base t.stack t.low t.far safe r.xs (length n.state.arrays) t.high r.way r.way' r.good r.ends r.ends' r.exits)
 
   -- main, ars it is begun
   abbrev first : Option MixedGraph → State → State
@@ -449,13 +446,16 @@ module _ (flow : Flow) (times : List ℕ) (latency : Op → ℕ) (some : times �
   same_runs input safe =
       let s = globals_at_start flow input in
       let b = begun (slice_get ms flow.main) (slice_get ns flow.main) (each flow.main) s in
+      let low : Globals ≤ length s.arrays = let l = length_mapped words_at_start flow.globals in omega arith in
       let tie : Tied (at_start A flow.main s) (at_start B flow.main s) = record {
         function = refl;
+        passed = refl;
         base = refl;
         near = b.near;
         world = b.world;
         stack = tt;
-        low = let l = length_mapped words_at_start flow.globals in omega arith;
+        low = low;
+        far = far_all (slice_get ms flow.main) (length s.arrays) low;
         high = b.high;
         safe = safe;
       } in

@@ -6,9 +6,11 @@ use Rattle.vx_flow.specs.declared.graph.Op.{Op}
 use Rattle.vx_mixed.specs.declared.region.Item.{Item}
 use Rattle.vx_mixed.specs.declared.region.Item.TheVariants.{Split}
 use Rattle.vx_mixed.specs.declared.mixed.MixedGraph.{MixedGraph}
+use Rattle.vx_flow.specs.Apart.{StandApart}
 use Rattle.vx_flow.specs.Effects.{State, Setting, IsIn}
+use Rattle.vx_flow.proofs.Apart.{itself_apart}
 use Rattle.vx_mixed.specs.Live.{item_reads, item_writes}
-use Rattle.vx_mixed.specs.Agree.{Apart, Segment}
+use Rattle.vx_mixed.specs.Agree.{Segment}
 use Rattle.vx_mixed.specs.Settled.{InTime}
 use Rattle.vx_flow.specs.Meaning.{Hop}
 use Rattle.vx_mixed.specs.Meaning.{hop}
@@ -82,7 +84,52 @@ words_cong : (f g : ℕ → List Item) (m w : ℕ) → ((j : ℕ) → w ≤ j �
 words_cong f g zero w h = refl
 words_cong f g (suc m) w h = ap (λ z. z ∷ words_from f (suc w) m) (h w (omega arith)) ∙ ap (λ z. g w ∷ z) (words_cong f g m (suc w) (λ j lo. h j (omega arith)))
 
-module _ (setting : Setting) (is : List Item) (word : ℕ → ℕ) (mark : ℕ → Item) (latency : Item → ℕ) (last : ℕ) (After : ℕ → ℕ → Type 0) (facts : RowFacts setting is word mark latency last After) (q : ℕ) (inside : q ≤ length is) (cells : CellFacts setting (drop q is) (λ k. word (q + k))) where
+pub no_copies : (chosen : ℕ → Bool) (put : ℕ → Item) → ((k : ℕ) → chosen k ≡ false) → (n k : ℕ) → copies chosen put k n ≡ []
+no_copies chosen put none zero k = refl
+no_copies chosen put none (suc n) k = ap (λ b. cond b (ops_of (put k)) [] ++ copies chosen put (suc k) n) (none k) ∙ no_copies chosen put none n (suc k)
+
+-- the copies on an edge into the trace are those of its part below place q
+pub join_copies : (is : List Item) (word : ℕ → ℕ) (mark : ℕ → Item) (q rejoin : ℕ) → copies (λ k. nat_lt (word k) rejoin) mark q (length is - q) ≡ copies (λ k. nat_lt (word (q + k)) rejoin) (λ k. mark (q + k)) 0 (length (drop q is))
+join_copies is word mark q rejoin =
+    let n : length is - q ≡ length (drop q is) = sym (length-drop q is) in
+    let z : q ≡ q + 0 = omega arith in
+    ap (copies (λ k. nat_lt (word k) rejoin) mark q) n
+    ∙ ap (λ i. copies (λ k. nat_lt (word k) rejoin) mark i (length (drop q is))) z
+    ∙ copies_shift (λ k. nat_lt (word k) rejoin) (λ k. nat_lt (word (q + k)) rejoin) mark (λ k. mark (q + k)) q (λ k. refl) (λ k. refl) (length (drop q is)) 0
+
+-- where a trace is entered at place q and at a word behind all that stands above it
+module _ (is : List Item) (word : ℕ → ℕ) (q rejoin : ℕ) (inside : q ≤ length is) (above : (k : ℕ) → k < q → word k < rejoin) where
+  rows_below : (mark : ℕ → Item) (w : ℕ) → rejoin ≤ w → row word mark 0 (length is) w ≡ row (λ k. word (q + k)) (λ k. mark (q + k)) 0 (length (drop q is)) w
+  rows_below mark w le =
+      let l = length-drop q is in
+      let i = inside in
+      let size : length is ≡ q + length (drop q is) = omega arith in
+      let z : 0 + q ≡ q + 0 = omega arith in
+      ap (λ m. map mark (places word w 0 m)) size
+      ∙ ap (map mark) (places_skip word w q (length (drop q is)) 0 (λ k lo hi e. let a = above k (omega arith) in omega arith))
+      ∙ ap (λ i. map mark (places word w i (length (drop q is)))) z
+      ∙ row_shift word mark q w (length (drop q is)) 0
+
+  -- the words from there on are those of its part
+  pub words_below : (mark : ℕ → Item) (words : List (List Item)) → words ≡ words_from (row word mark 0 (length is)) 0 (length words) → rejoin ≤ length words →
+      drop rejoin words ≡ words_from (row (λ k. word (q + k)) (λ k. mark (q + k)) 0 (length (drop q is))) rejoin (length words - rejoin)
+  words_below mark words are low =
+      let total : length words ≡ rejoin + (length words - rejoin) = omega arith in
+      let z : 0 + rejoin ≡ rejoin = omega arith in
+      ap (drop rejoin) (are ∙ ap (words_from (row word mark 0 (length is)) 0) total)
+      ∙ words_drop (row word mark 0 (length is)) rejoin (length words - rejoin) 0
+      ∙ ap (λ i. words_from (row word mark 0 (length is)) i (length words - rejoin)) z
+      ∙ words_cong (row word mark 0 (length is)) (row (λ k. word (q + k)) (λ k. mark (q + k)) 0 (length (drop q is))) (length words - rejoin) rejoin (rows_below mark)
+
+  -- the copies on the edge out of a split
+  pub split_copies : (e : ℕ) → rejoin ≤ word (q + e) → copies (λ k. nat_lt (word (q + e)) (word k)) (nth is) 0 (q + e) ≡ copies (λ k. nat_lt (word (q + e)) (word (q + k))) (nth (drop q is)) 0 e
+  split_copies e lo =
+      let z : 0 + q ≡ q + 0 = omega arith in
+      copies_skip (λ k. nat_lt (word (q + e)) (word k)) (nth is) q e 0 (λ k a b. le-ltb (word (q + e)) (word k) (let h = above k (omega arith) in omega arith))
+      ∙ ap (λ i. copies (λ k. nat_lt (word (q + e)) (word k)) (nth is) i e) z
+      ∙ copies_shift (λ k. nat_lt (word (q + e)) (word k)) (λ k. nat_lt (word (q + e)) (word (q + k))) (nth is) (nth (drop q is)) q (λ k. refl) (λ k. sym (nth_drop is q k)) e 0
+
+module _ (setting : Setting) (is : List Item) (word : ℕ → ℕ) (mark : ℕ → Item) (latency : Item → ℕ) (last : ℕ) (m : MixedGraph) (facts : RowFacts setting is word mark latency last (AfterOf m is)) (q : ℕ) (inside : q ≤ length is) (cells : CellFacts setting (drop q is) (λ k. word (q + k))) where
   at : (P : Item → Type 0) (k : ℕ) → P (nth (drop q is) k) → P (nth is (q + k))
   at P k h = subst P (nth_drop is q k) h
 
@@ -90,7 +137,7 @@ module _ (setting : Setting) (is : List Item) (word : ℕ → ℕ) (mark : ℕ �
   back P k h = subst P (sym (nth_drop is q k)) h
 
   -- what holds of the trace holds of its part below a join
-  pub below : RowFacts setting (drop q is) (λ k. word (q + k)) (λ k. mark (q + k)) latency last (λ e v. After (q + e) v)
+  pub below : RowFacts setting (drop q is) (λ k. word (q + k)) (λ k. mark (q + k)) latency last (AfterOf m (drop q is))
   below = record {
     inside = λ k lt. facts.inside (q + k) (let l = length-drop q is in omega arith);
     beyond = λ k le. facts.beyond (q + k) (let l = length-drop q is in omega arith);
@@ -104,11 +151,11 @@ module _ (setting : Setting) (is : List Item) (word : ℕ → ℕ) (mark : ℕ �
     cell_output = λ s i k l lt a b. cells.output s i k l lt a b;
     splits = λ i k lt a b. facts.splits (q + i) (q + k) (omega arith) (at IsSplit i a) (at IsSplit k b);
     held = λ e k lt a b. facts.held (q + e) (q + k) (omega arith) (at IsSplit e a) (at IsFirm k b);
-    kept = λ e k v lt a l w. facts.kept (q + e) (q + k) v (omega arith) (at IsSplit e a) l (at (λ z. IsIn v (item_writes z)) k w);
+    kept = λ e k v lt a l w. facts.kept (q + e) (q + k) v (omega arith) (at IsSplit e a) (at (λ z. AfterItem m z v) e l) (at (λ z. IsIn v (item_writes z)) k w);
     early = λ e k lt a le. facts.early (q + e) (q + k) (omega arith) (at IsSplit e a) le;
   }
 
-module _ (latency : Op → ℕ) (old new : MixedGraph) (meet_old meet_new pairs : ℕ → ℕ → Bool) (r : Replaced latency old new meet_old meet_new pairs) (setting : Setting) (apart : Apart setting) where
+module _ (latency : Op → ℕ) (old new : MixedGraph) (meet_old meet_new pairs : ℕ → ℕ → Bool) (r : Replaced latency old new meet_old meet_new pairs) (setting : Setting) (apart : StandApart old.arrays setting.spot) where
   abbrev Ways : ℕ → ℕ → Type 0
   Ways b b' = Way setting latency old new meet_old meet_new pairs r.n r.reg b b'
 
@@ -143,43 +190,6 @@ module _ (latency : Op → ℕ) (old new : MixedGraph) (meet_old meet_new pairs 
     abbrev mark' : ℕ → Item
     mark' k = r.mark (Q + k)
 
-    size : length r.items ≡ Q + length (drop Q r.items)
-    size = let l = length-drop Q r.items in let i = join.inside in omega arith
-
-    rows : (w : ℕ) → join.rejoin ≤ w → row r.word r.mark 0 (length r.items) w ≡ row word' mark' 0 (length (drop Q r.items)) w
-    rows w le =
-        let z : 0 + Q ≡ Q + 0 = omega arith in
-        ap (λ m. map r.mark (places r.word w 0 m)) size
-        ∙ ap (map r.mark) (places_skip r.word w Q (length (drop Q r.items)) 0 (λ k lo hi e. let a = join.above k (omega arith) in omega arith))
-        ∙ ap (λ i. map r.mark (places r.word w i (length (drop Q r.items)))) z
-        ∙ row_shift r.word r.mark Q w (length (drop Q r.items)) 0
-
-    the_words : drop join.rejoin r.reg.words ≡ words_from (row word' mark' 0 (length (drop Q r.items))) join.rejoin (length r.reg.words - join.rejoin)
-    the_words =
-        let lo = join.low in
-        let total : length r.reg.words ≡ join.rejoin + (length r.reg.words - join.rejoin) = omega arith in
-        let z : 0 + join.rejoin ≡ join.rejoin = omega arith in
-        ap (drop join.rejoin) (r.words ∙ ap (words_from (row r.word r.mark 0 (length r.items)) 0) total)
-        ∙ words_drop (row r.word r.mark 0 (length r.items)) join.rejoin (length r.reg.words - join.rejoin) 0
-        ∙ ap (λ i. words_from (row r.word r.mark 0 (length r.items)) i (length r.reg.words - join.rejoin)) z
-        ∙ words_cong (row r.word r.mark 0 (length r.items)) (row word' mark' 0 (length (drop Q r.items))) (length r.reg.words - join.rejoin) join.rejoin rows
-
-    join_copies : copies (λ k. nat_lt (r.word k) join.rejoin) r.mark Q (length r.items - Q) ≡ copies (λ k. nat_lt (word' k) join.rejoin) mark' 0 (length (drop Q r.items))
-    join_copies =
-        let n : length r.items - Q ≡ length (drop Q r.items) = sym (length-drop Q r.items) in
-        let z : Q ≡ Q + 0 = omega arith in
-        ap (copies (λ k. nat_lt (r.word k) join.rejoin) r.mark Q) n
-        ∙ ap (λ i. copies (λ k. nat_lt (r.word k) join.rejoin) r.mark i (length (drop Q r.items))) z
-        ∙ copies_shift (λ k. nat_lt (r.word k) join.rejoin) (λ k. nat_lt (word' k) join.rejoin) r.mark mark' Q (λ k. refl) (λ k. refl) (length (drop Q r.items)) 0
-
-    split_copies : (e : ℕ) → IsSplit (nth r.items (Q + e)) → copies (λ k. nat_lt (r.word (Q + e)) (r.word k)) (nth r.items) 0 (Q + e) ≡ copies (λ k. nat_lt (word' e) (word' k)) (nth (drop Q r.items)) 0 e
-    split_copies e s =
-        let z : 0 + Q ≡ Q + 0 = omega arith in
-        let lo = join.splits_below (Q + e) (omega arith) s in
-        copies_skip (λ k. nat_lt (r.word (Q + e)) (r.word k)) (nth r.items) Q e 0 (λ k a b. le-ltb (r.word (Q + e)) (r.word k) (let h = join.above k (omega arith) in omega arith))
-        ∙ ap (λ i. copies (λ k. nat_lt (r.word (Q + e)) (r.word k)) (nth r.items) i e) z
-        ∙ copies_shift (λ k. nat_lt (r.word (Q + e)) (r.word k)) (λ k. nat_lt (word' e) (word' k)) (nth r.items) (nth (drop Q r.items)) Q (λ k. refl) (λ k. sym (nth_drop r.items Q k)) e 0
-
     from_join : Ways j j'
     from_join = record {
       items = drop Q r.items;
@@ -191,35 +201,17 @@ module _ (latency : Op → ℕ) (old new : MixedGraph) (meet_old meet_new pairs 
       plain = join.plain;
       path = join.path;
       clustered = join.clustered setting apart;
-      facts = after_same (below setting r.items r.word r.mark (item_latency latency) (length r.reg.words) (AfterOf old r.items) (r.facts setting apart) Q join.inside (join.cells setting apart));
+      facts = below setting r.items r.word r.mark (item_latency latency) (length r.reg.words) old (r.facts setting apart) Q join.inside (join.cells setting apart);
       low = join.low;
       late = λ k s. join.splits_below (Q + k) (omega arith) (subst IsSplit (nth_drop r.items Q k) s);
-      words = the_words;
-      enters = subst (λ z. LeadsIn new meet_new r.n join.rejoin z j') join_copies join.enters;
+      words = words_below r.items r.word Q join.rejoin join.inside join.above r.mark r.reg.words r.words join.low;
+      enters = subst (λ z. LeadsIn new meet_new r.n join.rejoin z j') (join_copies r.items r.word r.mark Q join.rejoin) join.enters;
       leaves = λ e p d g y edge edge' at_e m.
           let at' : nth r.items (Q + e) ≡ Split p y edge d = sym (nth_drop r.items Q e) ∙ at_e in
-          subst (λ z. LeadsOut new meet_new pairs z edge'.from edge'.to edge.to) (split_copies e (subst IsSplit (sym at') tt)) (r.leaves (Q + e) p d g y edge edge' at' m);
+          subst (λ z. LeadsOut new meet_new pairs z edge'.from edge'.to edge.to) (split_copies r.items r.word Q join.rejoin join.inside join.above e (join.splits_below (Q + e) (omega arith) (subst IsSplit (sym at') tt))) (r.leaves (Q + e) p d g y edge edge' at' m);
       last_exit = r.last_exit;
       last_meets = r.last_meets;
     }
-      where
-        after_same : RowFacts setting (drop Q r.items) word' mark' (item_latency latency) (length r.reg.words) (λ e v. AfterOf old r.items (Q + e) v) → RowFacts setting (drop Q r.items) word' mark' (item_latency latency) (length r.reg.words) (AfterOf old (drop Q r.items))
-        after_same f = record {
-          inside = f.inside;
-          beyond = f.beyond;
-          marked = f.marked;
-          takes_time = f.takes_time;
-          flow = f.flow;
-          anti = f.anti;
-          output = f.output;
-          cell_flow = f.cell_flow;
-          cell_anti = f.cell_anti;
-          cell_output = f.cell_output;
-          splits = f.splits;
-          held = f.held;
-          kept = λ e k v lt s a w. f.kept e k v lt s (subst (λ z. AfterItem old z v) (nth_drop r.items Q e) a) w;
-          early = f.early;
-        }
 
   pub ways : (b b' : ℕ) → pairs b b' ≡ true → Ways b b' ⊎ Outside latency old new meet_old meet_new pairs b b'
   ways b b' pair =
@@ -254,8 +246,5 @@ replacement_law latency old new meet_old meet_new pairs r = record {
 abbrev pub in_order : Setting
 in_order = record { spot = λ a. a; texts = [] }
 
-pub in_order_apart : Apart in_order
-in_order_apart a b same = same
-
 pub region_is_settled : RegionSettled
-region_is_settled latency old new meet_old meet_new pairs r = region_settled latency old new meet_old meet_new pairs r in_order in_order_apart
+region_is_settled latency old new meet_old meet_new pairs r = region_settled latency old new meet_old meet_new pairs r in_order (itself_apart old.arrays)

@@ -1,8 +1,8 @@
 -- A placement that meets the delays gives a replacement.
-use Rattle.std.proofs.Common.{◌≡◌, ℕ, ◌+◌, ◌<◌, ◌≤◌, Bool, true, [], length, drop, refl, subst, ⊎_elim, inl, inr, arith}
+use Rattle.std.proofs.Common.{◌≡◌, ℕ, ◌+◌, ◌<◌, ◌≤◌, Bool, true, length, drop, refl, subst, ⊎_elim, inl, inr, arith}
 use Rattle.std.specs.Prelude.{◌⊎◌}
+use Rattle.vx_flow.specs.Apart.{StandApart}
 use Rattle.vx_flow.specs.Effects.{Setting}
-use Rattle.vx_mixed.specs.Agree.{Apart}
 use Rattle.vx_flow.specs.declared.graph.Op.{Op}
 use Rattle.vx_mixed.specs.declared.mixed.MixedGraph.{MixedGraph}
 use Rattle.vx_motion.specs.Trace.{AfterOf}
@@ -17,19 +17,16 @@ use Rattle.vx_mixed.specs.Next.{next_mixed}
 use Rattle.vx_mixed.specs.Entrances.{meet_old, meet_new, pairs}
 use Rattle.vx_mixed.specs.Valid.{Valid}
 use Rattle.vx_motion.proofs.SettledAfter.{settled_after, the_region}
-use Rattle.vx_motion.proofs.Rows.{cell_facts, row_facts, split_in_trace}
+use Rattle.vx_motion.proofs.Delays.{split_in_trace}
+use Rattle.vx_motion.proofs.Rows.{cell_facts, row_facts}
 use Rattle.vx_motion.proofs.Joins.{replacement_law, region_is_settled}
 use Rattle.vx_motion.proofs.Kept.{liveness_kept}
 
--- a split stands in the trace, whatever the arrays
-abbrev anywhere : Setting
-anywhere = record { spot = λ a. a; texts = [] }
-
 module _ (latency : Op → ℕ) (old new : MixedGraph) (meet_old meet_new pairs : ℕ → ℕ → Bool) (r : Scheduled latency old new meet_old meet_new pairs) where
-  cells : (setting : Setting) → Apart setting → (q : ℕ) → q ≤ length r.items → ((q ≡ 0) ⊎ (r.joins q ≡ true)) → CellFacts setting (drop q r.items) (λ k. r.word (q + k))
+  cells : (setting : Setting) → StandApart old.arrays setting.spot → (q : ℕ) → q ≤ length r.items → ((q ≡ 0) ⊎ (r.joins q ≡ true)) → CellFacts setting (drop q r.items) (λ k. r.word (q + k))
   cells setting apart q le h = cell_facts setting r.items (item_latency latency) (AfterOf old r.items) r.never r.joins r.word r.mark (length r.reg.words) r.meets r.placed q le (r.apart setting apart q h)
 
-  all_cells : (setting : Setting) → Apart setting → CellFacts setting r.items r.word
+  all_cells : (setting : Setting) → StandApart old.arrays setting.spot → CellFacts setting r.items r.word
   all_cells setting apart =
       let c = cells setting apart 0 (omega arith) (inl refl) in
       record {
@@ -51,7 +48,7 @@ module _ (latency : Op → ℕ) (old new : MixedGraph) (meet_old meet_new pairs 
     splits_below = λ k le s. ⊎_elim (λ z. omega arith) (λ x.
         let a = x.1 in
         let b = x.2 in
-        let h = r.meets x.0 k 1 (omega arith) (split_in_trace anywhere r.items (item_latency latency) (AfterOf old r.items) r.never r.joins r.word r.mark (length r.reg.words) r.meets r.placed k s) (below_join e.place e.is_join a le (inl s)) in
+        let h = r.meets x.0 k 1 (omega arith) (split_in_trace r.items k s) (below_join e.place e.is_join a le (inl s)) in
         omega arith) e.least;
     cells = λ setting apart. cells setting apart e.place e.inside (inr e.is_join);
     enters = e.enters;

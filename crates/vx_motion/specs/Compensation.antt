@@ -9,12 +9,12 @@ use Rattle.vx_flow.specs.declared.trace.TraceOp.{TraceOp}
 use Rattle.vx_flow.specs.declared.trace.TraceOp.TheVariants.{Plain as TracePlain, Split as TraceSplit}
 use Rattle.vx_flow.specs.declared.trace.Join.{Join}
 use Rattle.vx_flow.specs.declared.trace.Trace.{Trace}
+use Rattle.vx_flow.specs.Apart.{StandApart}
 use Rattle.vx_flow.specs.Effects.{Setting, IsIn, writes}
 use Rattle.vx_mixed.specs.declared.region.Item.{Item}
 use Rattle.vx_mixed.specs.declared.region.Item.TheVariants.{Split}
 use Rattle.vx_mixed.specs.declared.region.Made.{Made}
 use Rattle.vx_mixed.specs.declared.mixed.MixedGraph.{MixedGraph}
-use Rattle.vx_mixed.specs.Agree.{Apart}
 use Rattle.vx_motion.specs.Trace.{nth}
 use Rattle.vx_motion.specs.Facts.{copies}
 use Rattle.vx_mixed.specs.Way.{item_latency, Clustered}
@@ -72,15 +72,15 @@ pub record Compensated (latency : Op → ℕ) (m : MixedGraph) (r : Replacement)
   pub join_blocks : map (λ (j : Join). j.block) r.trace.joins ≡ map (λ (j : Join). j.block) plain.joins
   pub join_edges : map (λ (j : Join). j.edges) r.trace.joins ≡ map (λ (j : Join). j.edges) plain.joins
   pub join_places : (j : Join) → IsIn j r.trace.joins → j.place ≤ length r.trace.ops
-  pub clustered : (setting : Setting) → Apart setting → Clustered setting m (plain_items plain.ops) (items r) (last_of r.trace.blocks) (exit_of m r)
-  pub clustered_below : (setting : Setting) → Apart setting → (j : Join) → IsIn j r.trace.joins →
+  pub clustered : (setting : Setting) → StandApart m.arrays setting.spot → Clustered setting m (plain_items plain.ops) (items r) (last_of r.trace.blocks) (exit_of m r)
+  pub clustered_below : (setting : Setting) → StandApart m.arrays setting.spot → (j : Join) → IsIn j r.trace.joins →
       Clustered setting m (plain_items (trace_ops m is_trace.live (blocks_from j.block r.trace.blocks))) (drop j.place (items r)) (last_of r.trace.blocks) (exit_of m r)
   -- its words meet the delays
   pub clusters_fit : length r.clusters ≡ length r.trace.ops
   pub words_fit : length r.words ≡ length r.trace.ops
   pub within : (k w : ℕ) → slice_get r.words k ≡ Some w → w < r.length
   pub never : ℕ → ℕ → Bool
-  pub apart : (setting : Setting) → Apart setting → (q : ℕ) → ((q ≡ 0) ⊎ (is_join_place r.trace.joins q ≡ true)) → NeverApart setting (items r) never q
+  pub apart : (setting : Setting) → StandApart m.arrays setting.spot → (q : ℕ) → ((q ≡ 0) ⊎ (is_join_place r.trace.joins q ≡ true)) → NeverApart setting (items r) never q
   pub meets : Meets (items r) (item_latency latency) (λ e v. IsIn v (live_of (slice_get r.trace.ops e))) never (is_join_place r.trace.joins) (word r)
   pub takes_time : (op : Op) (v : ℕ) → IsIn v (writes op) → 1 ≤ latency op
   pub loads : LoadsAlike latency

@@ -3,13 +3,14 @@ use Rattle.std.specs.Prelude.{◌≡◌, ◌<◌, ◌≤◌, ◌⊎◌, ◌-◌,
 use Rattle.vx_flow.specs.declared.graph.Edge.{Edge}
 use Rattle.vx_flow.specs.declared.graph.Exit.{Exit}
 use Rattle.vx_flow.specs.declared.graph.Op.{Op}
+use Rattle.vx_flow.specs.Apart.{StandApart}
 use Rattle.vx_flow.specs.Effects.{State, Setting, Location, IsIn}
 use Rattle.vx_flow.specs.Sound.{targets_of}
 use Rattle.vx_mixed.specs.declared.region.Item.{Item}
 use Rattle.vx_mixed.specs.declared.region.Item.TheVariants.{Split}
 use Rattle.vx_mixed.specs.declared.region.Region.{Region}
 use Rattle.vx_mixed.specs.declared.mixed.MixedGraph.{MixedGraph}
-use Rattle.vx_mixed.specs.Agree.{Apart, SameMeaning}
+use Rattle.vx_mixed.specs.Agree.{SameMeaning}
 use Rattle.vx_mixed.specs.Settled.{InTime}
 use Rattle.vx_motion.specs.Items.{item_takes, item_gives}
 use Rattle.vx_motion.specs.Trace.{nth, order, AfterOf}
@@ -33,10 +34,10 @@ pub record Join (latency : Op → ℕ) (old new : MixedGraph) (meet_old meet_new
   pub low : rejoin ≤ length reg.words
   pub plain : List Item
   pub path : Path old meet_old j plain end exit
-  pub clustered : (setting : Setting) → Apart setting → Clustered setting old plain (drop place items) end exit
+  pub clustered : (setting : Setting) → StandApart old.arrays setting.spot → Clustered setting old plain (drop place items) end exit
   pub above : (k : ℕ) → k < place → word k < rejoin
   pub splits_below : (k : ℕ) → place ≤ k → IsSplit (nth items k) → rejoin ≤ word k
-  pub cells : (setting : Setting) → Apart setting → CellFacts setting (drop place items) (λ k. word (place + k))
+  pub cells : (setting : Setting) → StandApart old.arrays setting.spot → CellFacts setting (drop place items) (λ k. word (place + k))
   pub enters : LeadsIn new meet_new n rejoin (copies (λ k. nat_lt (word k) rejoin) mark place (length items - place)) j'
 
 pub record Replaced (latency : Op → ℕ) (old new : MixedGraph) (meet_old meet_new : ℕ → ℕ → Bool) (pairs : ℕ → ℕ → Bool) : Type 0 where
@@ -49,7 +50,7 @@ pub record Replaced (latency : Op → ℕ) (old new : MixedGraph) (meet_old meet
   pub exit : Exit
   pub plain : List Item
   pub path : Path old meet_old start plain end exit
-  pub clustered : (setting : Setting) → Apart setting → Clustered setting old plain items end exit
+  pub clustered : (setting : Setting) → StandApart old.arrays setting.spot → Clustered setting old plain items end exit
   -- its words
   pub word : ℕ → ℕ
   pub mark : ℕ → Item
@@ -57,7 +58,7 @@ pub record Replaced (latency : Op → ℕ) (old new : MixedGraph) (meet_old meet
   pub reg : Region
   pub is_region : slice_get new.regions n ≡ Some reg
   pub words : reg.words ≡ words_from (row word mark 0 (length items)) 0 (length reg.words)
-  pub facts : (setting : Setting) → Apart setting → RowFacts setting items word mark (item_latency latency) (length reg.words) (AfterOf old items)
+  pub facts : (setting : Setting) → StandApart old.arrays setting.spot → RowFacts setting items word mark (item_latency latency) (length reg.words) (AfterOf old items)
   pub drained : Drained items word mark (item_latency latency) reg
   pub loads : LoadsAlike latency
   -- its edges
@@ -67,7 +68,7 @@ pub record Replaced (latency : Op → ℕ) (old new : MixedGraph) (meet_old meet
   -- the entrances: the start of the trace, its joins, and what is left as it is
   pub entrances : (b b' : ℕ) → (pairs b b' ≡ true) → ((b ≡ start) × LeadsIn new meet_new n 0 (copies (λ k. nat_lt (word k) 0) mark 0 (length items)) b') ⊎ (Join latency old new meet_old meet_new items end exit word mark n reg b b' ⊎ Outside latency old new meet_old meet_new pairs b b')
 
--- A replacement keeps the meaning, wherever the arrays stand and whenever the writes of either graph land.
+-- A replacement keeps the meaning, wherever the arrays of the old graph stand apart and whenever the writes of either graph land.
 abbrev pub ReplacementLaw : Type 0
 ReplacementLaw =
     (latency : Op → ℕ) (old new : MixedGraph) (meet_old meet_new pairs : ℕ → ℕ → Bool) →

@@ -1,6 +1,7 @@
 -- One replacement by a placement that meets the delays, with the copies, marks and empty cycles of compensation.
 use Rattle.std.specs.Prelude.{◌≡◌, ◌<◌, ◌≤◌, ◌⊎◌, ◌+◌, ◌-◌, ℕ, Bool, true, false, Option, Some, List, length, drop, map, slice_get, nat_lt}
 use Rattle.vx_flow.specs.declared.graph.Edge.{Edge}
+use Rattle.vx_flow.specs.Apart.{StandApart}
 use Rattle.vx_flow.specs.Effects.{Setting, IsIn}
 use Rattle.vx_flow.specs.Sound.{targets_of}
 use Rattle.vx_flow.specs.declared.graph.Op.{Op}
@@ -10,7 +11,7 @@ use Rattle.vx_mixed.specs.declared.region.Item.{Item}
 use Rattle.vx_mixed.specs.declared.region.Item.TheVariants.{Plain, Split}
 use Rattle.vx_mixed.specs.declared.region.Region.{Region}
 use Rattle.vx_mixed.specs.declared.mixed.MixedGraph.{MixedGraph}
-use Rattle.vx_mixed.specs.Agree.{Apart, SameMeaning}
+use Rattle.vx_mixed.specs.Agree.{SameMeaning}
 use Rattle.vx_mixed.specs.Settled.{has_home, OnClusters, Settled, made_at_split, IsStart, Tidy, HomesStay}
 use Rattle.vx_motion.specs.Trace.{nth, AfterOf}
 use Rattle.vx_mixed.specs.Path.{Path}
@@ -32,7 +33,7 @@ pub record JoinEdge (old new : MixedGraph) (meet_old meet_new : ℕ → ℕ → 
   pub is_join : joins place ≡ true
   pub plain : List Item
   pub path : Path old meet_old j plain end exit
-  pub clustered : (setting : Setting) → Apart setting → Clustered setting old plain (drop place items) end exit
+  pub clustered : (setting : Setting) → StandApart old.arrays setting.spot → Clustered setting old plain (drop place items) end exit
   pub rejoin : ℕ
   pub above : (k : ℕ) → k < place → word k < rejoin
   pub least : (rejoin ≡ 0) ⊎ ((i : ℕ) × (i < place) × (rejoin ≡ word i + 1))
@@ -48,10 +49,10 @@ pub record Scheduled (latency : Op → ℕ) (old new : MixedGraph) (meet_old mee
   pub exit : Exit
   pub plain : List Item
   pub path : Path old meet_old start plain end exit
-  pub clustered : (setting : Setting) → Apart setting → Clustered setting old plain items end exit
+  pub clustered : (setting : Setting) → StandApart old.arrays setting.spot → Clustered setting old plain items end exit
   pub joins : ℕ → Bool
   pub never : ℕ → ℕ → Bool
-  pub apart : (setting : Setting) → Apart setting → (q : ℕ) → ((q ≡ 0) ⊎ (joins q ≡ true)) → NeverApart setting items never q
+  pub apart : (setting : Setting) → StandApart old.arrays setting.spot → (q : ℕ) → ((q ≡ 0) ⊎ (joins q ≡ true)) → NeverApart setting items never q
   -- its words
   pub word : ℕ → ℕ
   pub mark : ℕ → Item

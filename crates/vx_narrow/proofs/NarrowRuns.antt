@@ -11,7 +11,7 @@ use Rattle.vx_flow.specs.declared.graph.Block.{Block}
 use Rattle.vx_flow.specs.declared.graph.Graph.{Graph}
 use Rattle.vx_flow.specs.declared.graph.Flow.{Flow}
 use Rattle.vx_flow.specs.Effects.{State, Setting}
-use Rattle.vx_flow.specs.Meaning.{Hop, Arrives, Calls, Leaves, Stops, Wrong, hop_of, block_hop, Body, Program, Frame, Active, deepest, enters, waits, after_hop, body_hop, hop, next, body_of, program_of, setting_of, globals_at_start, entered_or, start}
+use Rattle.vx_flow.specs.Meaning.{Hop, Arrives, Calls, Leaves, Stops, Wrong, hop_of, block_hop, Body, Program, Frame, Active, deepest, enters, waits, after_hop, body_hop, hop, next, body_of, program_of, setting_with, globals_at_start, entered_or, start}
 use Rattle.vx_claims.specs.declared.claim.Claim.{Claim}
 use Rattle.vx_claims.specs.declared.intervals.Interval.{Interval}
 use Rattle.vx_claims.specs.declared.fact.Fact.{Fact}
@@ -22,7 +22,6 @@ use Rattle.vx_narrow.specs.Rewriting.{side_of, GoesTo, DecidedGoes}
 use Rattle.vx_narrow.specs.Rewriting.{split_by, narrowed_exit, narrowed_block, narrowed_from, narrowed_graph, narrowed, NarrowedRuns}
 use Rattle.vx_narrow.specs.Shortening.{improved_all}
 use Rattle.vx_facts.proofs.Ranges.{and_one}
-use Rattle.vx_facts.proofs.Sizes.{sized_differ}
 use Rattle.vx_facts.proofs.RunFacts.{ActiveGood, next_good, start_good, reached_good}
 use Rattle.vx_narrow.proofs.Narrows.{Refines, block_refines, get_block, get_function, goes}
 
@@ -46,10 +45,10 @@ module _ (flow : Flow) (given : ℕ → List Interval) (claims : ℕ → ℕ →
       subst (λ o. Refines (hop old r) (body_hop old r (as_body o))) (sym (function_is r.function)) (by (slice_get flow.functions r.function) refl)
     where
       inner : (g : Graph) → slice_get flow.functions r.function ≡ Some g → (o : Option Block) → slice_get g.blocks r.block ≡ o →
-          Refines (hop_of (setting_of old r.base) r.block o r.state) (hop_of (setting_of old r.base) r.block (option_map (narrowed_block (claims r.function) r.block) o) r.state)
+          Refines (hop_of (setting_with old r.passed r.base) r.block o r.state) (hop_of (setting_with old r.passed r.base) r.block (option_map (narrowed_block (claims r.function) r.block) o) r.state)
       inner g e None q = inl refl
       inner g e (Some block) q =
-          block_refines (claims r.function) (setting_of old r.base) (sized_differ flow r a.sized) r.block block r.state a.known
+          block_refines (claims r.function) (setting_with old r.passed r.base) a.sized.differ r.block block r.state a.known
           (and_one (list_all has_numbers block.ops) (is_exit_checked given (claims r.function) (after_all (claims r.function r.block) block.ops) (accessed_all (claims r.function r.block) block.ops) block.exit) (checked.blocks r.function r.block g block e q))
 
       block_is : (g : Graph) → slice_get (narrowed_from (claims r.function) 0 g.blocks) r.block ≡ option_map (narrowed_block (claims r.function) r.block) (slice_get g.blocks r.block)
@@ -58,7 +57,7 @@ module _ (flow : Flow) (given : ℕ → List Interval) (claims : ℕ → ℕ →
       by : (o : Option Graph) → slice_get flow.functions r.function ≡ o → Refines (body_hop old r (as_body o)) (body_hop old r (as_body (option_map (narrowed_graph (claims r.function)) o)))
       by None e = inl refl
       by (Some g) e =
-          subst (λ o. Refines (hop_of (setting_of old r.base) r.block (slice_get g.blocks r.block) r.state) (hop_of (setting_of old r.base) r.block o r.state)) (sym (block_is g)) (inner g e (slice_get g.blocks r.block) refl)
+          subst (λ o. Refines (hop_of (setting_with old r.passed r.base) r.block (slice_get g.blocks r.block) r.state) (hop_of (setting_with old r.passed r.base) r.block o r.state)) (sym (block_is g)) (inner g e (slice_get g.blocks r.block) refl)
 
   -- ---- behind it
 
@@ -107,7 +106,7 @@ module _ (flow : Flow) (given : ℕ → List Interval) (claims : ℕ → ℕ →
   start_same input =
       let s = globals_at_start flow input in
       let e : entered_or (new.body flow.main) s ≡ entered_or (old.body flow.main) s = ap (λ o. entered_or (as_body o) s) (function_is flow.main) ∙ start_alike (claims flow.main) (slice_get flow.functions flow.main) s in
-      ap (λ (t : State). record { function = flow.main; block = 0; base = length s.arrays; state = t; waiting = [] }) e
+      ap (λ (t : State). record { function = flow.main; block = 0; passed = []; base = length s.arrays; state = t; waiting = [] }) e
 
 pub narrowed_runs : NarrowedRuns
 narrowed_runs flow given claims checked input numbers safe n =
@@ -125,15 +124,15 @@ module _ (flow : Flow) (given : ℕ → List Interval) (claims : ℕ → ℕ →
       subst (GoesTo b (side_of answer c d)) (ap (λ y. block_hop setting b ops y s) (sym x) ∙ w) (goes setting b (side_of answer c d) ops s)
 
   hop_by : (r : Active) (g : Graph) (block : Block) → slice_get flow.functions r.function ≡ Some g → slice_get g.blocks r.block ≡ Some block →
-      hop (program_of flow) r ≡ hop_of (setting_of (program_of flow) r.base) r.block (Some block) r.state
-  hop_by r g block e q = let setting = setting_of (program_of flow) r.base in
+      hop (program_of flow) r ≡ hop_of (setting_with (program_of flow) r.passed r.base) r.block (Some block) r.state
+  hop_by r g block e q = let setting = setting_with (program_of flow) r.passed r.base in
       ap (λ o. body_hop (program_of flow) r (as_body flow given claims checked o)) e ∙ ap (λ o. hop_of setting r.block o r.state) q
 
 pub decided_goes : DecidedGoes
 decided_goes flow given claims checked input numbers n r l g block p c d answer e q x w =
     let a = reached_good flow given claims checked input numbers n r l in
-    let setting = setting_of (program_of flow) r.base in
+    let setting = setting_with (program_of flow) r.passed r.base in
     let fs = after_all (claims r.function r.block) block.ops in
-    let k = block_refines (claims r.function) setting (sized_differ flow r a.sized) r.block block r.state a.known (and_one (list_all has_numbers block.ops) (is_exit_checked given (claims r.function) fs (accessed_all (claims r.function r.block) block.ops) block.exit) (checked.blocks r.function r.block g block e q)) in
+    let k = block_refines (claims r.function) setting a.sized.differ r.block block r.state a.known (and_one (list_all has_numbers block.ops) (is_exit_checked given (claims r.function) fs (accessed_all (claims r.function r.block) block.ops) block.exit) (checked.blocks r.function r.block g block e q)) in
     subst (GoesTo r.block (side_of answer c d)) (sym (hop_by flow given claims checked r g block e q))
     (narrow_goes flow given claims checked fs setting r.block p c d answer block (improved_all (claims r.function r.block) block.ops) r.state (hop_of setting r.block (Some block) r.state) x w k)

@@ -1,20 +1,18 @@
 -- The three laws of motion: what a compensated replacement's words leave, from its start and from each joining edge.
-use Rattle.std.proofs.Common.{◌≡◌, ℕ, zero, suc, ◌+◌, ◌-◌, ◌<◌, ◌≤◌, Bool, true, false, Option, Some, None, List, [], ◌∷◌, ◌++◌, cond, length, map, drop, slice_get, slice_index_or, length-drop, refl, sym, ap, ◌∙◌, subst, ⊎_elim, inl, inr, arith}
-use Rattle.std.specs.Prelude.{◌⊎◌, ◌==◌, ℤ, nat_eq, nat_lt, if◌then◌else◌}
-use Rattle.std.proofs.lemmas.Bool.{eq-eqb, ne_eqb, le-ltb, cases_lt, cases_order}
-use Rattle.std.proofs.lemmas.List.{length-map}
+use Rattle.std.proofs.Common.{◌≡◌, ℕ, ◌+◌, ◌-◌, ◌<◌, ◌≤◌, Bool, true, false, Option, Some, None, List, [], ◌∷◌, length, map, drop, slice_get, refl, sym, ap, ◌∙◌, subst, ⊎_elim, inl, inr, arith}
+use Rattle.std.specs.Prelude.{◌⊎◌, ◌==◌, ℤ, nat_lt, if◌then◌else◌}
+use Rattle.std.proofs.lemmas.Bool.{eq-eqb, le-ltb, cases_order}
 use Rattle.vx_flow.specs.declared.graph.Edge.{Edge}
 use Rattle.vx_flow.specs.declared.graph.Exit.{Exit}
 use Rattle.vx_flow.specs.declared.graph.Exit.TheVariants.{Goto, Split as Branch, Call, Return, Ends}
 use Rattle.vx_flow.specs.declared.graph.Op.{Op}
-use Rattle.vx_flow.specs.declared.graph.Op.TheVariants.{Load}
-use Rattle.vx_flow.specs.declared.graph.Operand.{Operand}
 use Rattle.vx_flow.specs.declared.trace.TraceOp.TheVariants.{Split as TraceSplit}
 use Rattle.vx_flow.specs.declared.trace.Join.{Join}
+use Rattle.vx_flow.specs.Apart.{StandApart}
 use Rattle.vx_flow.specs.Effects.{Content, State, Setting, Location, Of, Cell, TheInput, TheOutput, IsIn, at, held, is_one, effect}
 use Rattle.vx_flow.specs.Meaning.{Hop, Arrives, Calls, Wrong, known, calls, leaves, by_test, leave, and_then, block_hop}
 use Rattle.vx_flow.specs.Sound.{targets_of}
-use Rattle.vx_flow.specs.Walk.{edge, numbers}
+use Rattle.vx_flow.specs.Walk.{edge}
 use Rattle.vx_flow.proofs.SoundLists.{any_of}
 use Rattle.vx_mixed.specs.declared.region.Item.{Item}
 use Rattle.vx_mixed.specs.declared.region.Item.TheVariants.{Plain, Split}
@@ -22,34 +20,35 @@ use Rattle.vx_mixed.specs.declared.region.Node.TheVariants.{Unused}
 use Rattle.vx_mixed.specs.declared.region.Region.{Region}
 use Rattle.vx_mixed.specs.declared.mixed.MixedGraph.{MixedGraph}
 use Rattle.vx_mixed.specs.declared.replacement.Replacement.{Replacement}
-use Rattle.vx_mixed.specs.Agree.{Apart, Agree, Alike, SameShape}
+use Rattle.vx_mixed.specs.Agree.{Agree, Alike, SameShape}
 use Rattle.vx_mixed.specs.Alive.{AfterItem, AtEnd, Alive}
 use Rattle.vx_motion.specs.Trace.{AfterOf, nth, order}
-use Rattle.vx_motion.specs.Compensation.{items, word, mark, live_of, is_join_place, IsRejoin, exit_of, Compensated}
-use Rattle.vx_mixed.specs.Next.{on_edge, made_on, in_word, placed, last_of, exit_in, renamed_exit, new_region, new_end, is_split_edge}
+use Rattle.vx_motion.specs.Compensation.{items, word, mark, is_join_place, IsRejoin, exit_of, Compensated}
+use Rattle.vx_mixed.specs.Next.{on_edge, made_on, last_of, exit_in, renamed_exit, new_region, new_end, is_split_edge}
 use Rattle.vx_mixed.specs.Edges.{IsEdge, of_block}
 use Rattle.vx_mixed.specs.Entrances.{edge_of_made}
-use Rattle.vx_motion.specs.Facts.{RowFacts, IsSplit, places, row, words_from, ops_of, copies}
+use Rattle.vx_motion.specs.Facts.{RowFacts, IsSplit, row, words_from, copies}
 use Rattle.vx_motion.specs.Items.{Fine, Reads, Writes}
 use Rattle.vx_mixed.specs.Live.{Live, item_reads, item_writes}
 use Rattle.vx_mixed.specs.Meaning.{is_same, leaves_on, early_words, timed_from_start}
 use Rattle.vx_mixed.specs.Path.{trace_hop}
 use Rattle.vx_motion.specs.Replaced.{CellFacts}
-use Rattle.vx_motion.specs.Rows.{Row, reads_last, writes_too, writes_read, store_access, load_store, observables, two_splits, split_held, below_join, split_live, Meets, Placed}
+use Rattle.vx_motion.specs.Rows.{below_join, Meets, Placed}
 use Rattle.vx_mixed.specs.Settled.{InTime}
 use Rattle.vx_mixed.specs.Valid.{Valid}
 use Rattle.vx_mixed.specs.Way.{item_latency, Renamed, goto, branch, call, return, stop}
 use Rattle.vx_motion.proofs.AliveAt.{alive_read, alive_edge, alive_end}
 use Rattle.vx_motion.proofs.AtTimes.{form, at_time}
 use Rattle.vx_motion.proofs.Blocks.{how_it_ends}
-use Rattle.vx_motion.proofs.Delays.{nth_past, takes_no_value, gives_no_value, gives_firm}
+use Rattle.vx_motion.proofs.Delays.{split_in_trace, takes_no_value, gives_no_value, gives_firm}
 use Rattle.vx_motion.proofs.Exits.{X, Y, by_join, leaves_by, by_edge, at_edge, by_join_, runs_out, at_end}
 use Rattle.vx_mixed.proofs.LeaveAlike.{leave_alike}
-use Rattle.vx_motion.proofs.Joins.{nth_drop, below}
-use Rattle.vx_mixed.proofs.Linked.{Linkable, some_same, index_in, in_plain, can, off_trace, joins, unused, to_below, made_at, at_end as end_of}
+use Rattle.vx_motion.proofs.Joins.{nth_drop, no_copies, join_copies, words_below, split_copies, below}
+use Rattle.vx_mixed.proofs.Linked.{Linkable, some_same, index_in, can, off_trace, joins, unused, to_below, made_at, at_end as end_of}
 use Rattle.vx_mixed.proofs.NewNodes.{made_none, made_some, edge_old}
 use Rattle.vx_motion.proofs.Passing.{LeavesBy, LeavesAt, RunsOut}
-use Rattle.vx_motion.proofs.PlacedWords.{length_items, row_is, words_are, numbers_many, marked_at, freed_at, split_at, split_placed}
+use Rattle.vx_motion.proofs.PlacedWords.{length_items, split_at, split_placed}
+use Rattle.vx_motion.proofs.Replacements.{linkable, words_are_rows, is_placed, is_met}
 use Rattle.vx_motion.proofs.Rows.{cell_facts, row_facts}
 use Rattle.vx_mixed.proofs.Shape.{shape_trans}
 use Rattle.vx_motion.proofs.OrderShape.{shape_sym, order_shape, words_shape}
@@ -59,84 +58,6 @@ use Rattle.vx_motion.proofs.Timetable.{laid}
 use Rattle.vx_mixed.proofs.TraceFacts.{is_split, last_among}
 use Rattle.vx_motion.proofs.Waits.{settled}
 use Rattle.vx_region.specs.Motion.{after_ops, along, with_copies}
-
--- lists
-
-there : (xs : List ℕ) (k d : ℕ) → k < length xs → (w : ℕ) × (slice_get xs k ≡ Some w) × (slice_index_or xs k d ≡ w)
-there [] k d lt = absurd (omega arith)
-there (x ∷ xs) zero d lt = (x, refl, refl)
-there (x ∷ xs) (suc k) d lt = there xs k d (omega arith)
-
-not_there : (xs : List ℕ) (k d : ℕ) → length xs ≤ k → slice_index_or xs k d ≡ d
-not_there [] k d le = refl
-not_there (x ∷ xs) zero d le = absurd (omega arith)
-not_there (x ∷ xs) (suc k) d le = not_there xs k d (omega arith)
-
--- copies, places and words below a join
-
-copies_skip : (chosen : ℕ → Bool) (put : ℕ → Item) (a m k : ℕ) → ((j : ℕ) → k ≤ j → j < k + a → chosen j ≡ false) → copies chosen put k (a + m) ≡ copies chosen put (k + a) m
-copies_skip chosen put zero m k none = let x : 0 + m ≡ m = omega arith in let y : k ≡ k + 0 = omega arith in ap (copies chosen put k) x ∙ ap (λ z. copies chosen put z m) y
-copies_skip chosen put (suc a) m k none =
-    let x : suc a + m ≡ suc (a + m) = omega arith in
-    let y : suc k + a ≡ k + suc a = omega arith in
-    ap (copies chosen put k) x
-    ∙ ap (λ b. cond b (ops_of (put k)) [] ++ copies chosen put (suc k) (a + m)) (none k (omega arith) (omega arith))
-    ∙ copies_skip chosen put a m (suc k) (λ j lo hi. none j (omega arith) (omega arith))
-    ∙ ap (λ z. copies chosen put z m) y
-
-copies_shift : (chosen chosen' : ℕ → Bool) (put put' : ℕ → Item) (q : ℕ) → ((j : ℕ) → chosen (q + j) ≡ chosen' j) → ((j : ℕ) → put (q + j) ≡ put' j) → (m k : ℕ) → copies chosen put (q + k) m ≡ copies chosen' put' k m
-copies_shift chosen chosen' put put' q c p zero k = refl
-copies_shift chosen chosen' put put' q c p (suc m) k =
-    let y : suc (q + k) ≡ q + suc k = omega arith in
-    ap (λ b. cond b (ops_of (put (q + k))) [] ++ copies chosen put (suc (q + k)) m) (c k)
-    ∙ ap (λ i. cond (chosen' k) (ops_of i) [] ++ copies chosen put (suc (q + k)) m) (p k)
-    ∙ ap (λ z. cond (chosen' k) (ops_of (put' k)) [] ++ copies chosen put z m) y
-    ∙ ap (λ z. cond (chosen' k) (ops_of (put' k)) [] ++ z) (copies_shift chosen chosen' put put' q c p m (suc k))
-
-places_skip : (word : ℕ → ℕ) (w a m k : ℕ) → ((j : ℕ) → k ≤ j → j < k + a → word j ≡ w → ⊥) → places word w k (a + m) ≡ places word w (k + a) m
-places_skip word w zero m k none = let x : 0 + m ≡ m = omega arith in let y : k ≡ k + 0 = omega arith in ap (places word w k) x ∙ ap (λ z. places word w z m) y
-places_skip word w (suc a) m k none =
-    let x : suc a + m ≡ suc (a + m) = omega arith in
-    let y : suc k + a ≡ k + suc a = omega arith in
-    ap (places word w k) x
-    ∙ ap (λ b. cond b (k ∷ places word w (suc k) (a + m)) (places word w (suc k) (a + m))) (ne_eqb (word k) w (none k (omega arith) (omega arith)))
-    ∙ places_skip word w a m (suc k) (λ j lo hi. none j (omega arith) (omega arith))
-    ∙ ap (λ z. places word w z m) y
-
-row_shift : (word : ℕ → ℕ) (mark : ℕ → Item) (q w m k : ℕ) → map mark (places word w (q + k) m) ≡ map (λ j. mark (q + j)) (places (λ j. word (q + j)) w k m)
-row_shift word mark q w zero k = refl
-row_shift word mark q w (suc m) k =
-    let y : suc (q + k) ≡ q + suc k = omega arith in
-    ap (λ z. map mark (cond (nat_eq (word (q + k)) w) ((q + k) ∷ places word w z m) (places word w z m))) y
-    ∙ by (nat_eq (word (q + k)) w) (row_shift word mark q w m (suc k))
-  where
-    by : (b : Bool) → map mark (places word w (q + suc k) m) ≡ map (λ j. mark (q + j)) (places (λ j. word (q + j)) w (suc k) m) → map mark (cond b ((q + k) ∷ places word w (q + suc k) m) (places word w (q + suc k) m)) ≡ map (λ j. mark (q + j)) (cond b (k ∷ places (λ j. word (q + j)) w (suc k) m) (places (λ j. word (q + j)) w (suc k) m))
-    by true h = ap (λ z. mark (q + k) ∷ z) h
-    by false h = h
-
-words_drop : (f : ℕ → List Item) (r m w : ℕ) → drop r (words_from f w (r + m)) ≡ words_from f (w + r) m
-words_drop f zero m w = let x : 0 + m ≡ m = omega arith in let y : w ≡ w + 0 = omega arith in ap (words_from f w) x ∙ ap (λ z. words_from f z m) y
-words_drop f (suc r) m w =
-    let x : suc r + m ≡ suc (r + m) = omega arith in
-    let y : suc w + r ≡ w + suc r = omega arith in
-    ap (λ z. drop (suc r) (words_from f w z)) x ∙ words_drop f r m (suc w) ∙ ap (λ z. words_from f z m) y
-
-words_cong : (f g : ℕ → List Item) (m w : ℕ) → ((j : ℕ) → w ≤ j → f j ≡ g j) → words_from f w m ≡ words_from g w m
-words_cong f g zero w h = refl
-words_cong f g (suc m) w h = ap (λ z. z ∷ words_from f (suc w) m) (h w (omega arith)) ∙ ap (λ z. g w ∷ z) (words_cong f g m (suc w) (λ j lo. h j (omega arith)))
-
--- a row of the table where other values count as live
-row_moved : (is : List Item) (latency : Item → ℕ) (live live' : ℕ → ℕ → Type 0) (never : ℕ → ℕ → Bool) (joins : ℕ → Bool) (i j d : ℕ) → ((v : ℕ) → live i v → live' i v) → Row is latency live never joins i j d → Row is latency live' never joins i j d
-row_moved is latency live live' never joins i j d f (reads_last v a b n) = reads_last v a b n
-row_moved is latency live live' never joins i j d f (writes_too v a b) = writes_too v a b
-row_moved is latency live live' never joins i j d f (writes_read v a b) = writes_read v a b
-row_moved is latency live live' never joins i j d f (store_access a b n) = store_access a b n
-row_moved is latency live live' never joins i j d f (load_store a b n) = load_store a b n
-row_moved is latency live live' never joins i j d f (observables a b) = observables a b
-row_moved is latency live live' never joins i j d f (two_splits a b) = two_splits a b
-row_moved is latency live live' never joins i j d f (split_held a b) = split_held a b
-row_moved is latency live live' never joins i j d f (below_join q a lt le b) = below_join q a lt le b
-row_moved is latency live live' never joins i j d f (split_live v a l b) = split_live v a (f v l) b
 
 split_by : (i : Item) (s : State) (h : Hop) → LeavesBy s i h → (p : ℕ) × (edge : Edge) × (d : ℕ) × (y : Bool) × (i ≡ Split p y edge d) × (leaves_on (s.values p) y ≡ Some true) × (h ≡ Arrives edge.from edge.to s)
 split_by (Plain op cluster) s h x = absurd x
@@ -196,7 +117,7 @@ module _ (setting : Setting) (m : MixedGraph) (r : Replacement) where
 
 module _ (latency : Op → ℕ) (m : MixedGraph) (r : Replacement) (valid : Valid m) (c : Compensated latency m r) (first : ℕ) (others : List ℕ) (blocks_are : r.trace.blocks ≡ first ∷ others) where
   abbrev Link : Linkable m r
-  Link = record { can = c.can; plain = c.plain; is_trace = c.is_trace; splits = c.splits; join_blocks = c.join_blocks; join_edges = c.join_edges; made_where = c.made_where }
+  Link = linkable c
 
   abbrev I : List Item
   I = items r
@@ -216,72 +137,21 @@ module _ (latency : Op → ℕ) (m : MixedGraph) (r : Replacement) (valid : Vali
   abbrev End : ℕ
   End = last_of r.trace.blocks
 
-  size : length I ≡ length r.trace.ops
-  size = length_items r.trace.ops r.clusters
-
-  words_many : length Reg.words ≡ r.length
-  words_many = length-map (numbers 0 r.length) (in_word (placed To_ r.trace.ops r.clusters r.words r.drains [])) ∙ numbers_many r.length 0
-
-  words : Reg.words ≡ words_from (row W M 0 (length I)) 0 (length Reg.words)
-  words =
-      words_are (in_word (placed To_ r.trace.ops r.clusters r.words r.drains [])) (row W M 0 (length I))
-      (λ w. row_is W M w To_ r.trace.ops r.clusters r.words r.drains [] (r.length + 1) 0 c.clusters_fit c.words_fit (λ j lt. let z : 0 + j ≡ j = omega arith in ap W z) (λ j lt. let z : 0 + j ≡ j = omega arith in ap M z) ∙ ap (λ n. map M (places W w 0 n)) (sym size))
-      r.length 0
-      ∙ ap (words_from (row W M 0 (length I)) 0) (sym words_many)
-
-  inside : (k : ℕ) → k < length I → W k < length Reg.words
-  inside k lt =
-      let s = size in
-      let f = c.words_fit in
-      let t = there r.words k (r.length + 1) (omega arith) in
-      let h = c.within k t.0 t.1 in
-      let e = t.2 in
-      let n = words_many in
-      omega arith
-
-  beyond : (k : ℕ) → length I ≤ k → length Reg.words < W k
-  beyond k le = let s = size in let f = c.words_fit in let e = not_there r.words k (r.length + 1) (omega arith) in let n = words_many in omega arith
-
-  takes_time : (i v : ℕ) → IsIn v (item_writes (nth I i)) → 1 ≤ item_latency latency (nth I i)
-  takes_time i v h = by (nth I i) h
-    where
-      by : (x : Item) → IsIn v (item_writes x) → 1 ≤ item_latency latency x
-      by (Plain op cluster) h = c.takes_time op v h
-      by (Split p y e d) h = absurd h
-
-  split_inside : (e : ℕ) → IsSplit (nth I e) → e < length I
-  split_inside e s = ⊎_elim (λ a. a) (λ a. absurd (subst IsSplit (nth_past I e a) s)) (cases_lt e (length I))
-
-  freed : (e k v a cluster : ℕ) (p : Operand) (d : Bool) → e < k → IsSplit (nth I e) → W k ≤ W e → M k ≡ Plain (Load v a p d) cluster → d ≡ true
-  freed e k v a cluster p d lt s le h =
-      let lo = inside e (split_inside e s) in
-      let in_trace : k < length I = ⊎_elim (λ a. a) (λ a. let hi = beyond k a in absurd (omega arith)) (cases_lt k (length I)) in
-      let z = size in
-      freed_at To_ r.trace.ops r.clusters r.words r.drains [] (r.length + 1) (W e) k v a cluster p d c.clusters_fit c.words_fit (inr (e, lt, s, refl)) (omega arith) le h
-
-  is_placed : Placed I (item_latency latency) W M (length Reg.words)
-  is_placed = record { inside = inside; beyond = beyond; marked = marked_at To_ r.trace.ops r.clusters r.words r.drains [] c.clusters_fit c.words_fit; takes_time = takes_time; freed = freed }
-
-  -- what is live behind a split is listed at it
-  listed : (e v : ℕ) → AfterOf m I e v → IsIn v (live_of (slice_get r.trace.ops e))
-  listed e v h = by (nth I e) refl h
-    where
-      by : (x : Item) → nth I e ≡ x → AfterItem m x v → IsIn v (live_of (slice_get r.trace.ops e))
-      by (Plain op cluster) q a = absurd a
-      by (Split p y off d) q a =
-          let s = split_at r.trace.ops r.clusters e p d y off q in
-          let i = in_plain m r valid Link first others blocks_are p y off s.0 (index_in r.trace.ops e (TraceSplit p y off s.0) s.1) in
-          subst (λ z. IsIn v (live_of z)) (sym s.1) ((c.is_trace.lives p v y off s.0 i).1 a)
-
-  is_met : Meets I (item_latency latency) (AfterOf m I) c.never (is_join_place r.trace.joins) W
-  is_met i j d lt hi row = c.meets i j d lt hi (row_moved I (item_latency latency) (AfterOf m I) (λ e v. IsIn v (live_of (slice_get r.trace.ops e))) c.never (is_join_place r.trace.joins) i j d (λ v. listed i v) row)
-
   -- what the delays give
 
-  cells : (setting : Setting) → Apart setting → (q : ℕ) → q ≤ length I → ((q ≡ 0) ⊎ (is_join_place r.trace.joins q ≡ true)) → CellFacts setting (drop q I) (λ k. W (q + k))
-  cells setting apart q le h = cell_facts setting I (item_latency latency) (AfterOf m I) c.never (is_join_place r.trace.joins) W M (length Reg.words) is_met is_placed q le (c.apart setting apart q h)
+  words : Reg.words ≡ words_from (row W M 0 (length I)) 0 (length Reg.words)
+  words = words_are_rows latency m r c
 
-  all_cells : (setting : Setting) → Apart setting → CellFacts setting I W
+  placed : Placed I (item_latency latency) W M (length Reg.words)
+  placed = is_placed latency m r c
+
+  meets : Meets I (item_latency latency) (AfterOf m I) c.never (is_join_place r.trace.joins) W
+  meets = is_met latency m r c valid first others blocks_are
+
+  cells : (setting : Setting) → StandApart m.arrays setting.spot → (q : ℕ) → q ≤ length I → ((q ≡ 0) ⊎ (is_join_place r.trace.joins q ≡ true)) → CellFacts setting (drop q I) (λ k. W (q + k))
+  cells setting apart q le h = cell_facts setting I (item_latency latency) (AfterOf m I) c.never (is_join_place r.trace.joins) W M (length Reg.words) meets placed q le (c.apart setting apart q h)
+
+  all_cells : (setting : Setting) → StandApart m.arrays setting.spot → CellFacts setting I W
   all_cells setting apart =
       let f = cells setting apart 0 (omega arith) (inl refl) in
       record {
@@ -290,10 +160,10 @@ module _ (latency : Op → ℕ) (m : MixedGraph) (r : Replacement) (valid : Vali
         output = λ s i k l lt a b. let x : 0 + i ≡ i = omega arith in let y : 0 + k ≡ k = omega arith in subst (λ z. W z < W k) x (subst (λ z. W (0 + i) < W z) y (f.output s i k l lt a b));
       }
 
-  facts : (setting : Setting) → Apart setting → RowFacts setting I W M (item_latency latency) (length Reg.words) (AfterOf m I)
-  facts setting apart = row_facts setting I (item_latency latency) (AfterOf m I) c.never (is_join_place r.trace.joins) W M (length Reg.words) is_met is_placed (all_cells setting apart)
+  facts : (setting : Setting) → StandApart m.arrays setting.spot → RowFacts setting I W M (item_latency latency) (length Reg.words) (AfterOf m I)
+  facts setting apart = row_facts setting I (item_latency latency) (AfterOf m I) c.never (is_join_place r.trace.joins) W M (length Reg.words) meets placed (all_cells setting apart)
 
-  in_time : (setting : Setting) → Apart setting → InTime latency Reg
+  in_time : (setting : Setting) → StandApart m.arrays setting.spot → InTime latency Reg
   in_time setting apart = settled setting I W M latency c.loads Reg (AfterOf m I) (facts setting apart) c.drained words
 
   -- edges out
@@ -351,68 +221,13 @@ module _ (latency : Op → ℕ) (m : MixedGraph) (r : Replacement) (valid : Vali
     abbrev Copies : List Op
     Copies = copies (λ k. nat_lt (W_ k) rejoin) M_ 0 (length Part)
 
-    part_many : length I ≡ place + length Part
-    part_many = let l = length-drop place I in let i = within in omega arith
-
-    rows : (w : ℕ) → rejoin ≤ w → row W M 0 (length I) w ≡ row W_ M_ 0 (length Part) w
-    rows w le =
-        let z : 0 + place ≡ place + 0 = omega arith in
-        ap (λ n. map M (places W w 0 n)) part_many
-        ∙ ap (map M) (places_skip W w place (length Part) 0 (λ k lo hi e. let a = above k (omega arith) in omega arith))
-        ∙ ap (λ i. map M (places W w i (length Part))) z
-        ∙ row_shift W M place w (length Part) 0
-
-    the_words : drop rejoin Reg.words ≡ words_from (row W_ M_ 0 (length Part)) rejoin (length Reg.words - rejoin)
-    the_words =
-        let lo = low in
-        let total : length Reg.words ≡ rejoin + (length Reg.words - rejoin) = omega arith in
-        let z : 0 + rejoin ≡ rejoin = omega arith in
-        ap (drop rejoin) (words ∙ ap (words_from (row W M 0 (length I)) 0) total)
-        ∙ words_drop (row W M 0 (length I)) rejoin (length Reg.words - rejoin) 0
-        ∙ ap (λ i. words_from (row W M 0 (length I)) i (length Reg.words - rejoin)) z
-        ∙ words_cong (row W M 0 (length I)) (row W_ M_ 0 (length Part)) (length Reg.words - rejoin) rejoin rows
-
-    pub join_copies : copies (λ k. nat_lt (W k) rejoin) M place (length I - place) ≡ Copies
-    join_copies =
-        let n : length I - place ≡ length Part = sym (length-drop place I) in
-        let z : place ≡ place + 0 = omega arith in
-        ap (copies (λ k. nat_lt (W k) rejoin) M place) n
-        ∙ ap (λ i. copies (λ k. nat_lt (W k) rejoin) M i (length Part)) z
-        ∙ copies_shift (λ k. nat_lt (W k) rejoin) (λ k. nat_lt (W_ k) rejoin) M M_ place (λ k. refl) (λ k. refl) (length Part) 0
-
-    split_copies : (e : ℕ) → IsSplit (nth I (place + e)) → copies (λ k. nat_lt (W (place + e)) (W k)) (nth I) 0 (place + e) ≡ copies (λ k. nat_lt (W_ e) (W_ k)) (nth Part) 0 e
-    split_copies e s =
-        let z : 0 + place ≡ place + 0 = omega arith in
-        let lo = splits_below (place + e) (omega arith) s in
-        copies_skip (λ k. nat_lt (W (place + e)) (W k)) (nth I) place e 0 (λ k a b. le-ltb (W (place + e)) (W k) (let h = above k (omega arith) in omega arith))
-        ∙ ap (λ i. copies (λ k. nat_lt (W (place + e)) (W k)) (nth I) i e) z
-        ∙ copies_shift (λ k. nat_lt (W (place + e)) (W k)) (λ k. nat_lt (W_ e) (W_ k)) (nth I) (nth Part) place (λ k. refl) (λ k. sym (nth_drop I place k)) e 0
-
-    after_same : (setting : Setting) → RowFacts setting Part W_ M_ (item_latency latency) (length Reg.words) (λ e v. AfterOf m I (place + e) v) → RowFacts setting Part W_ M_ (item_latency latency) (length Reg.words) (AfterOf m Part)
-    after_same setting f = record {
-      inside = f.inside;
-      beyond = f.beyond;
-      marked = f.marked;
-      takes_time = f.takes_time;
-      flow = f.flow;
-      anti = f.anti;
-      output = f.output;
-      cell_flow = f.cell_flow;
-      cell_anti = f.cell_anti;
-      cell_output = f.cell_output;
-      splits = f.splits;
-      held = f.held;
-      kept = λ e k v lt s a w. f.kept e k v lt s (subst (λ z. AfterItem m z v) (nth_drop I place e) a) w;
-      early = f.early;
-    }
-
-    part_facts : (setting : Setting) → Apart setting → RowFacts setting Part W_ M_ (item_latency latency) (length Reg.words) (AfterOf m Part)
-    part_facts setting apart = after_same setting (below setting I W M (item_latency latency) (length Reg.words) (AfterOf m I) (facts setting apart) place within (cells setting apart place within entered))
+    part_facts : (setting : Setting) → StandApart m.arrays setting.spot → RowFacts setting Part W_ M_ (item_latency latency) (length Reg.words) (AfterOf m Part)
+    part_facts setting apart = below setting I W M (item_latency latency) (length Reg.words) m (facts setting apart) place within (cells setting apart place within entered)
 
     late : (k : ℕ) → IsSplit (nth Part k) → rejoin ≤ W_ k
     late k s = splits_below (place + k) (omega arith) (subst IsSplit (nth_drop I place k) s)
 
-    module _ (setting : Setting) (apart : Apart setting) (times : List ℕ) (s t : State) (agree : Agree (λ v. Alive m Part v (AtEnd m (exit_of m r) v)) s t) where
+    module _ (setting : Setting) (apart : StandApart m.arrays setting.spot) (times : List ℕ) (s t : State) (agree : Agree (λ v. Alive m Part v (AtEnd m (exit_of m r) v)) s t) where
       abbrev Ends_ : ℕ → Type 0
       Ends_ v = AtEnd m (exit_of m r) v
 
@@ -445,7 +260,7 @@ module _ (latency : Op → ℕ) (m : MixedGraph) (r : Replacement) (valid : Vali
       T u = timed_from_start setting times latency Reg (drop rejoin Reg.words) u
 
       region_early : (u : State) (h : Hop) → early_words setting Reg (words_from (row W_ M_ 0 (length Part)) rejoin (length Reg.words - rejoin)) u ≡ h → T u ≡ h
-      region_early u h e = timed_is_early setting times latency Reg (in_time setting apart) rejoin u ∙ ap (λ z. early_words setting Reg z u) the_words ∙ e
+      region_early u h e = timed_is_early setting times latency Reg (in_time setting apart) rejoin u ∙ ap (λ z. early_words setting Reg z u) (words_below I W place rejoin within above M Reg.words words low) ∙ e
 
       -- what is left, once the copies on the way in are done
       abbrev Left : Hop
@@ -511,7 +326,7 @@ module _ (latency : Op → ℕ) (m : MixedGraph) (r : Replacement) (valid : Vali
         by_split =
             let x = leaves_by setting Part W_ M_ (item_latency latency) (length Reg.words) (AfterOf m Part) F rejoin s t same Wanted start wants e p off d y at_e left.inside lo left.passes out Reg in
             let other : x.0 ≡ record off { to = To_ off.from off.to } = split_placed To_ r.trace.ops r.clusters r.words r.drains [] (place + e) p d x.1 y off x.0 c.clusters_fit c.words_fit whole_e x.2 in
-            let on_it : on_edge r.made off ≡ copies (λ k. nat_lt (W_ e) (W_ k)) (nth Part) 0 e = c.at_splits (place + e) p d y off whole_e ∙ split_copies e (subst IsSplit (sym whole_e) tt) in
+            let on_it : on_edge r.made off ≡ copies (λ k. nat_lt (W_ e) (W_ k)) (nth Part) 0 e = c.at_splits (place + e) p d y off whole_e ∙ split_copies I W place rejoin within above e (splits_below (place + e) (omega arith) (subst IsSplit (sym whole_e) tt)) in
             let copied : block_hop setting 0 (on_edge r.made off) (Goto 0) (Z (length Part + (W_ e + 1))) ≡ leave 0 (Goto 0) (Z Last) =
             ap (λ z. block_hop setting 0 z (Goto 0) (Z (length Part + (W_ e + 1)))) on_it
             ∙ by_edge setting Part W_ M_ (item_latency latency) (length Reg.words) (AfterOf m Part) F rejoin s t same Wanted start wants e p off d y at_e left.inside lo left.passes 0 (Goto 0) in
@@ -574,20 +389,16 @@ module _ (latency : Op → ℕ) (m : MixedGraph) (r : Replacement) (valid : Vali
 
   -- from the start, and from each joining edge
 
-  none_copied : (chosen : ℕ → Bool) (put : ℕ → Item) → ((k : ℕ) → chosen k ≡ false) → (n k : ℕ) → copies chosen put k n ≡ []
-  none_copied chosen put none zero k = refl
-  none_copied chosen put none (suc n) k = ap (λ b. cond b (ops_of (put k)) [] ++ copies chosen put (suc k) n) (none k) ∙ none_copied chosen put none n (suc k)
-
-  pub from_start : (setting : Setting) → Apart setting → (times : List ℕ) (s t : State) → Agree (λ v. Alive m I v (AtEnd m (exit_of m r) v)) s t →
+  pub from_start : (setting : Setting) → StandApart m.arrays setting.spot → (times : List ℕ) (s t : State) → Agree (λ v. Alive m I v (AtEnd m (exit_of m r) v)) s t →
       Alike m is_same (trace_hop setting I End (exit_of m r) s) (with_copies setting m r (timed_from_start setting times latency Reg (drop 0 Reg.words) t))
   from_start setting apart times s t agree =
       let low : 0 ≤ length Reg.words = omega arith in
       let h = leaves_so 0 0 (omega arith) low (λ k lt. absurd (omega arith)) (λ k le sp. omega arith) (inl refl) setting apart times s t agree in
-      let none : copies (λ k. nat_lt (W (0 + k)) 0) (λ k. M (0 + k)) 0 (length I) ≡ [] = none_copied (λ k. nat_lt (W (0 + k)) 0) (λ k. M (0 + k)) (λ k. le-ltb (W (0 + k)) 0 (omega arith)) (length I) 0 in
+      let none : copies (λ k. nat_lt (W (0 + k)) 0) (λ k. M (0 + k)) 0 (length I) ≡ [] = no_copies (λ k. nat_lt (W (0 + k)) 0) (λ k. M (0 + k)) (λ k. le-ltb (W (0 + k)) 0 (omega arith)) (length I) 0 in
       subst (λ z. Alike m is_same (trace_hop setting I End (exit_of m r) s) (after_ops setting z t (λ u. with_copies setting m r (timed_from_start setting times latency Reg (drop 0 Reg.words) u)))) none h
 
   rejoin_low : (q rejoin : ℕ) → q ≤ length I → IsRejoin W q rejoin → rejoin ≤ length Reg.words
-  rejoin_low q rejoin le h = ⊎_elim (λ z. omega arith) (λ x. let a = x.1 in let b = x.2 in let i = inside x.0 (omega arith) in omega arith) h.1
+  rejoin_low q rejoin le h = ⊎_elim (λ z. omega arith) (λ x. let a = x.1 in let b = x.2 in let i = placed.inside x.0 (omega arith) in omega arith) h.1
 
   rejoin_splits : (q rejoin : ℕ) → is_join_place r.trace.joins q ≡ true → IsRejoin W q rejoin → (k : ℕ) → q ≤ k → IsSplit (nth I k) → rejoin ≤ W k
   rejoin_splits q rejoin join h k le s =
@@ -596,21 +407,21 @@ module _ (latency : Op → ℕ) (m : MixedGraph) (r : Replacement) (valid : Vali
       (λ x.
       let a = x.1 in
       let b = x.2 in
-      let f = is_met x.0 k 1 (omega arith) (split_inside k s) (below_join q join a le (inl s)) in
+      let f = meets x.0 k 1 (omega arith) (split_in_trace I k s) (below_join q join a le (inl s)) in
       omega arith)
       h.1
 
   pub from_edge : (i rejoin : ℕ) (j : Join) (e : Edge) → slice_get r.trace.joins i ≡ Some j → slice_get r.rejoins i ≡ Some rejoin → IsIn e j.edges →
-      (setting : Setting) → Apart setting → (times : List ℕ) (s t : State) → Agree (λ v. Alive m (drop j.place I) v (AtEnd m (exit_of m r) v)) s t →
+      (setting : Setting) → StandApart m.arrays setting.spot → (times : List ℕ) (s t : State) → Agree (λ v. Alive m (drop j.place I) v (AtEnd m (exit_of m r) v)) s t →
       Alike m is_same (trace_hop setting (drop j.place I) End (exit_of m r) s) (after_ops setting (on_edge r.made e) t (λ u. with_copies setting m r (timed_from_start setting times latency Reg (drop rejoin Reg.words) u)))
   from_edge i rejoin j e at_j at_w on setting apart times s t agree =
       let w = c.rejoins i j at_j in
       let same_word : w.0 ≡ rejoin = some_same (slice_get r.rejoins i) w.0 rejoin w.1 at_w in
       let is : IsRejoin W j.place rejoin = subst (IsRejoin W j.place) same_word w.2 in
       let has = index_in r.trace.joins i j at_j in
-      let within : j.place ≤ length I = let z = size in let p = c.join_places j has in omega arith in
+      let within : j.place ≤ length I = let z = length_items r.trace.ops r.clusters in let p = c.join_places j has in omega arith in
       let join : is_join_place r.trace.joins j.place ≡ true = any_of (λ (x : Join). x.place == j.place) r.trace.joins j has (eq-eqb j.place j.place refl) in
       let low = rejoin_low j.place rejoin within is in
       let h = leaves_so j.place rejoin within low is.0 (rejoin_splits j.place rejoin join is) (inr join) setting apart times s t agree in
-      let on_it = c.at_joins i rejoin j e at_j at_w on ∙ join_copies j.place rejoin within low is.0 (rejoin_splits j.place rejoin join is) (inr join) in
+      let on_it = c.at_joins i rejoin j e at_j at_w on ∙ join_copies I W M j.place rejoin in
       subst (λ z. Alike m is_same (trace_hop setting (drop j.place I) End (exit_of m r) s) (after_ops setting z t (λ u. with_copies setting m r (timed_from_start setting times latency Reg (drop rejoin Reg.words) u)))) (sym on_it) h

@@ -5,12 +5,12 @@ use Rattle.std.proofs.lemmas.Bool.{false≢true, ltb-true, and_parts}
 use Rattle.vx_flow.specs.declared.trace.TraceOp.{TraceOp}
 use Rattle.vx_flow.specs.declared.trace.TraceOp.TheVariants.{Plain, Split}
 use Rattle.vx_flow.specs.declared.trace.Trace.{Trace}
+use Rattle.vx_flow.specs.Apart.{StandApart}
 use Rattle.vx_flow.specs.Effects.{State, Setting, Location, Cell}
 use Rattle.vx_flow.proofs.SoundLists.{or_parts}
 use Rattle.vx_isa.specs.Numbers.{Numbers}
 use Rattle.vx_linear.specs.InOrder.{in_order, state_before, Touches}
 use Rattle.vx_linear.proofs.Apart.{never_law}
-use Rattle.vx_mixed.specs.Agree.{Apart}
 use Rattle.vx_motion.specs.Items.{item_takes, item_gives, calm}
 use Rattle.vx_motion.specs.Trace.{nth, order}
 use Rattle.vx_motion.specs.Rows.{NeverApart}
@@ -85,7 +85,7 @@ module _ (m : Numbers) (mode : Mode) (t : Trace) (words : List ℕ) (met : (i j 
           let k = met i j 0 (record { one = u.one; two = u.two; in_order = lt; stands_one = u.is_one; stands_two = u.is_two; row = store_behind_load x y not }) in
           omega (arith, less, k)
 
-  pub never_apart : (setting : Setting) → Apart setting → (q : ℕ) → ((q ≡ 0) ⊎ (is_join_place t.joins q ≡ true)) → NeverApart setting (plain_items t.ops) (never_at t.ops words) q
+  pub never_apart : (setting : Setting) → StandApart t.arrays setting.spot → (q : ℕ) → ((q ≡ 0) ⊎ (is_join_place t.joins q ≡ true)) → NeverApart setting (plain_items t.ops) (never_at t.ops words) q
   never_apart setting far q enters s i j a c lt never at_i at_j = never_meets (q + i) (q + j) (omega (arith, lt)) never meets
     where
       part : List TraceOp

@@ -14,6 +14,7 @@ use Rattle.vx_flow.specs.declared.trace.Clustered.{Clustered as ClusteredTrace}
 use Rattle.vx_flow.specs.declared.trace.Trace.{Trace}
 use Rattle.vx_flow.specs.declared.trace.Placed.{Placed}
 use Rattle.vx_flow.specs.declared.trace.Homes.{Homes}
+use Rattle.vx_flow.specs.Apart.{StandApart}
 use Rattle.vx_flow.specs.Effects.{Setting, IsIn}
 use Rattle.vx_flow.specs.Sound.{targets_of}
 use Rattle.vx_flow.specs.Walk.{edge, numbers}
@@ -102,7 +103,7 @@ splits_once (TraceSplit p y e live ∷ ops) h = ((λ q z f l i. h.0 q z f l (to_
 -- a trace of these blocks, with clusters, placed
 
 module _ (m : MixedGraph) (machine : Numbers) (mode : Mode) (homes : Homes) (t : Trace) (c : ClusteredTrace) (words : List ℕ) (height : ℕ → ℕ) (one : is_machine machine ≡ true) (is : IsTraceOf m c.trace.blocks t) (heights : AreHeights machine mode c.trace height)
-    (placed_by : PlacedBy c machine homes mode height words) (valid : Valid m) (can : CanTrace m c.trace.blocks) (first : ℕ) (others : List ℕ) (are : c.trace.blocks ≡ first ∷ others) (fits : ClusteredFits m (last_of c.trace.blocks) (exit_in (slice_get m.nodes (last_of c.trace.blocks))) t c) where
+    (placed_by : PlacedBy c machine homes mode height words) (valid : Valid m) (can : CanTrace m c.trace.blocks) (first : ℕ) (others : List ℕ) (are : c.trace.blocks ≡ first ∷ others) (fits : ClusteredFits m (last_of c.trace.blocks) (exit_in (slice_get m.nodes (last_of c.trace.blocks))) t c) (same_arrays : c.trace.arrays ≡ m.arrays) where
   abbrev P : Placed
   P = placed_in c words
 
@@ -359,7 +360,7 @@ module _ (m : MixedGraph) (machine : Numbers) (mode : Mode) (homes : Homes) (t :
     words_fit = many;
     within = all_below words;
     never = table.never;
-    apart = λ setting far q enters. bare_apart setting (items R) table.never q (subst (λ z. NeverApart setting z table.never q) (sym items_are) (table.apart setting far q enters));
+    apart = λ setting far q enters. bare_apart setting (items R) table.never q (subst (λ z. NeverApart setting z table.never q) (sym items_are) (table.apart setting (subst (λ xs. StandApart xs setting.spot) (sym same_arrays) far) q enters));
     meets = bare_meets (latency_of_op machine) (λ e v. IsIn v (live_of (slice_get c.trace.ops e))) table.never (is_join_place c.trace.joins) (items R) (word R)
         (subst (λ z. Meets z (item_latency (latency_of_op machine)) (λ e v. IsIn v (live_of (slice_get c.trace.ops e))) table.never (is_join_place c.trace.joins) (word R)) (sym items_are) (table.meets (word R) word_in));
     takes_time = takes_time machine one;

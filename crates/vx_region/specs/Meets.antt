@@ -3,10 +3,10 @@ use Rattle.std.specs.Prelude.{◌≡◌, ◌<◌, ◌≤◌, ◌⊎◌, ◌+◌,
 use Rattle.vx_flow.specs.declared.trace.Trace.{Trace}
 use Rattle.vx_flow.specs.declared.trace.Clustered.{Clustered}
 use Rattle.vx_flow.specs.declared.trace.Homes.{Homes}
+use Rattle.vx_flow.specs.Apart.{StandApart}
 use Rattle.vx_flow.specs.Effects.{Setting, IsIn}
 use Rattle.vx_isa.specs.Numbers.{Numbers}
 use Rattle.vx_machine.specs.Items.{latency_of_op}
-use Rattle.vx_mixed.specs.Agree.{Apart}
 use Rattle.vx_motion.specs.Rows.{Meets, NeverApart}
 use Rattle.vx_mixed.specs.Way.{item_latency}
 use Rattle.vx_motion.specs.Compensation.{live_of, is_join_place}
@@ -28,7 +28,7 @@ pub record MeetsTable (m : Numbers) (t : Trace) (words : List ℕ) : Type 0 wher
   pub never : ℕ → ℕ → Bool
   pub meets : (word : ℕ → ℕ) → ((k : ℕ) → k < length t.ops → word k ≡ word_at words k) →
       Meets (plain_items t.ops) (item_latency (latency_of_op m)) (λ e v. IsIn v (live_of (slice_get t.ops e))) never (is_join_place t.joins) word
-  pub apart : (setting : Setting) → Apart setting → (q : ℕ) → ((q ≡ 0) ⊎ (is_join_place t.joins q ≡ true)) → NeverApart setting (plain_items t.ops) never q
+  pub apart : (setting : Setting) → StandApart t.arrays setting.spot → (q : ℕ) → ((q ≡ 0) ⊎ (is_join_place t.joins q ≡ true)) → NeverApart setting (plain_items t.ops) never q
 
 abbrev pub TableMet : Type 0
 TableMet =

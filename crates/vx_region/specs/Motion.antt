@@ -6,6 +6,7 @@ use Rattle.vx_flow.specs.declared.graph.Edge.{Edge}
 use Rattle.vx_flow.specs.declared.graph.Graph.{Graph}
 use Rattle.vx_flow.specs.declared.graph.Op.{Op}
 use Rattle.vx_flow.specs.declared.trace.Join.{Join}
+use Rattle.vx_flow.specs.Apart.{StandApart}
 use Rattle.vx_flow.specs.Effects.{State, Setting, IsIn, effect}
 use Rattle.vx_flow.specs.Meaning.{Hop, Arrives, and_then}
 use Rattle.vx_isa.specs.Numbers.{Numbers}
@@ -14,7 +15,7 @@ use Rattle.vx_mixed.specs.declared.region.Item.{Item}
 use Rattle.vx_mixed.specs.declared.region.Made.{Made}
 use Rattle.vx_mixed.specs.declared.mixed.MixedGraph.{MixedGraph}
 use Rattle.vx_mixed.specs.declared.replacement.Replacement.{Replacement}
-use Rattle.vx_mixed.specs.Agree.{Apart, Agree, Alike}
+use Rattle.vx_mixed.specs.Agree.{Agree, Alike}
 use Rattle.vx_mixed.specs.Alive.{Alive, AtEnd}
 use Rattle.vx_motion.specs.Compensation.{items}
 use Rattle.vx_mixed.specs.TraceItems.{plain_items}
@@ -81,14 +82,14 @@ OrderLaw =
 abbrev pub SplitsLaw : Type 0
 SplitsLaw =
     (graph : Graph) (m : MixedGraph) (blocks : List ℕ) (machine : Numbers) (mode : Mode) (r : Replacement) → Valid m → CanTrace m blocks → IsGraphOf machine graph m → Planned m blocks machine mode r →
-    (setting : Setting) (times : List ℕ) (s t : State) → Apart setting → Agree (Wanted m blocks (items r)) s t →
+    (setting : Setting) (times : List ℕ) (s t : State) → StandApart m.arrays setting.spot → Agree (Wanted m blocks (items r)) s t →
     LeavesAlike m (in_order setting m blocks (items r) s) (in_words setting times machine m r 0 t)
 
 abbrev pub JoinsLaw : Type 0
 JoinsLaw =
     (graph : Graph) (m : MixedGraph) (blocks : List ℕ) (machine : Numbers) (mode : Mode) (r : Replacement) → Valid m → CanTrace m blocks → IsGraphOf machine graph m → Planned m blocks machine mode r →
     (i rejoin : ℕ) (j : Join) (e : Edge) → slice_get r.trace.joins i ≡ Some j → slice_get r.rejoins i ≡ Some rejoin → IsIn e j.edges →
-    (setting : Setting) (times : List ℕ) (s t : State) → Apart setting → Agree (Wanted m blocks (drop j.place (items r))) s t →
+    (setting : Setting) (times : List ℕ) (s t : State) → StandApart m.arrays setting.spot → Agree (Wanted m blocks (drop j.place (items r))) s t →
     LeavesAlike m (in_order setting m blocks (drop j.place (items r)) s) (after_ops setting (on_edge r.made e) t (in_words setting times machine m r rejoin))
 
 -- The three together: from its start, and from each joining edge, the words leave what the trace of blocks leaves, where the states
@@ -96,7 +97,7 @@ JoinsLaw =
 abbrev pub ComposedLaw : Type 0
 ComposedLaw =
     (graph : Graph) (m : MixedGraph) (blocks : List ℕ) (machine : Numbers) (mode : Mode) (r : Replacement) → Valid m → CanTrace m blocks → IsGraphOf machine graph m → (plan : Planned m blocks machine mode r) →
-    (setting : Setting) (times : List ℕ) (s t : State) → Apart setting →
+    (setting : Setting) (times : List ℕ) (s t : State) → StandApart m.arrays setting.spot →
     (Agree (Wanted m blocks (plain_items plan.trace.ops)) s t → LeavesAlike m (in_order setting m blocks (plain_items plan.trace.ops) s) (in_words setting times machine m r 0 t)) ×
     ((i rejoin : ℕ) (j j' : Join) (e : Edge) → IsIn j plan.trace.joins → slice_get r.trace.joins i ≡ Some j' → j.block ≡ j'.block → slice_get r.rejoins i ≡ Some rejoin → IsIn e j'.edges → Agree (Wanted m blocks (plain_items (drop j.place plan.trace.ops))) s t →
     LeavesAlike m (in_order setting m blocks (plain_items (drop j.place plan.trace.ops)) s) (after_ops setting (on_edge r.made e) t (in_words setting times machine m r rejoin)))

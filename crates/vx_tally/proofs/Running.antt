@@ -15,7 +15,7 @@ use Rattle.vx_flow.specs.Meaning.{Hop, Frame, Active, Program, leave, and_then, 
 use Rattle.vx_tally.specs.declared.ending.Ending.{Ending}
 use Rattle.vx_tally.specs.declared.calls.Waiting.{Waiting}
 use Rattle.vx_tally.specs.declared.calls.Machine.{Machine}
-use Rattle.vx_tally.specs.Storage.{came, and_after, effects}
+use Rattle.vx_tally.specs.Storage.{state_of, came, and_after, effects}
 use Rattle.vx_tally.specs.Machine.{graph_hop, frame_of, stacked, active_of, undefined_all, own_in, entered_by, called_by, IsStep, IsOutcome}
 
 -- operations
@@ -81,33 +81,33 @@ start_by flow (Some g) s h =
     ∙ ap (λ rows. record s { values = at_entry g.parameters []; arrays = s.arrays ++ rows }) (sym (own_is (drop (length flow.globals) g.arrays)))
 
 pub start_is : (flow : Flow) (input : List ℤ) (f : ℕ → Content) (rows arrays : List (List Content)) (base : ℕ) → ((v : ℕ) → f v ≡ None) → rows ≡ map words_at_start flow.globals → arrays ≡ rows ++ undefined_all (own_in flow (slice_get flow.functions flow.main)) → base ≡ length rows →
-    record { function = flow.main; block = 0; base = base; state = record { values = f; arrays = arrays; input = input; out = [] }; waiting = [] } ≡ start flow input
+    record { function = flow.main; block = 0; passed = []; base = base; state = record { values = f; arrays = arrays; input = input; out = [] }; waiting = [] } ≡ start flow input
 start_is flow input f rows arrays base h r a b =
     let f_is : f ≡ (λ v. None) = fun_ext h in
     let s : State = globals_at_start flow input in
     let arrays_is : arrays ≡ s.arrays ++ undefined_all (own_in flow (slice_get flow.functions flow.main)) = a ∙ ap (λ q. q ++ undefined_all (own_in flow (slice_get flow.functions flow.main))) r in
-    ap (λ g. record { function = flow.main; block = 0; base = base; state = record { values = g; arrays = arrays; input = input; out = [] }; waiting = [] }) f_is
-    ∙ ap (λ q. record { function = flow.main; block = 0; base = base; state = record { values = λ v. None; arrays = q; input = input; out = [] }; waiting = [] }) arrays_is
-    ∙ ap (λ n. record { function = flow.main; block = 0; base = n; state = record { values = λ v. None; arrays = s.arrays ++ undefined_all (own_in flow (slice_get flow.functions flow.main)); input = input; out = [] }; waiting = [] }) (b ∙ ap length r)
-    ∙ ap (λ q. record { function = flow.main; block = 0; base = length s.arrays; state = q; waiting = [] }) (start_by flow (slice_get flow.functions flow.main) s refl)
+    ap (λ g. record { function = flow.main; block = 0; passed = []; base = base; state = record { values = g; arrays = arrays; input = input; out = [] }; waiting = [] }) f_is
+    ∙ ap (λ q. record { function = flow.main; block = 0; passed = []; base = base; state = record { values = λ v. None; arrays = q; input = input; out = [] }; waiting = [] }) arrays_is
+    ∙ ap (λ n. record { function = flow.main; block = 0; passed = []; base = n; state = record { values = λ v. None; arrays = s.arrays ++ undefined_all (own_in flow (slice_get flow.functions flow.main)); input = input; out = [] }; waiting = [] }) (b ∙ ap length r)
+    ∙ ap (λ q. record { function = flow.main; block = 0; passed = []; base = length s.arrays; state = q; waiting = [] }) (start_by flow (slice_get flow.functions flow.main) s refl)
 
 pub begin_is : (flow : Flow) (input : List ℤ) (f : ℕ → Content) (rows arrays : List (List Content)) (base : ℕ) (left : List ℤ) (out : List ℕ) (ws : List Waiting) → ((v : ℕ) → f v ≡ None) → rows ≡ map words_at_start flow.globals →
     arrays ≡ rows ++ undefined_all (own_in flow (slice_get flow.functions flow.main)) → base ≡ length rows → left ≡ input → out ≡ [] → ws ≡ [] →
-    record { function = flow.main; block = 0; base = base; state = record { values = f; arrays = arrays; input = left; out = out }; waiting = stacked [] ws } ≡ start flow input
+    record { function = flow.main; block = 0; passed = []; base = base; state = record { values = f; arrays = arrays; input = left; out = out }; waiting = stacked [] ws } ≡ start flow input
 begin_is flow input f rows arrays base left out ws h r a b i o w =
-    ap (λ q. record { function = flow.main; block = 0; base = base; state = record { values = f; arrays = arrays; input = q; out = out }; waiting = stacked [] ws }) i
-    ∙ ap (λ q. record { function = flow.main; block = 0; base = base; state = record { values = f; arrays = arrays; input = input; out = q }; waiting = stacked [] ws }) o
-    ∙ ap (λ q. record { function = flow.main; block = 0; base = base; state = record { values = f; arrays = arrays; input = input; out = [] }; waiting = stacked [] q }) w
+    ap (λ q. record { function = flow.main; block = 0; passed = []; base = base; state = record { values = f; arrays = arrays; input = q; out = out }; waiting = stacked [] ws }) i
+    ∙ ap (λ q. record { function = flow.main; block = 0; passed = []; base = base; state = record { values = f; arrays = arrays; input = input; out = q }; waiting = stacked [] ws }) o
+    ∙ ap (λ q. record { function = flow.main; block = 0; passed = []; base = base; state = record { values = f; arrays = arrays; input = input; out = [] }; waiting = stacked [] q }) w
     ∙ start_is flow input f rows arrays base h r a b
 
 -- steps
 
-hop_by : (flow : Flow) (r : Active) (o : Option Graph) → body_hop (program_of flow) r (option_map (body_of (length flow.globals)) o) ≡ graph_hop flow o r.base r.block r.state
-hop_by flow r None = refl
-hop_by flow r (Some g) = refl
+hop_by : (flow : Flow) (m : Machine) (o : Option Graph) → body_hop (program_of flow) (active_of m) (option_map (body_of (length flow.globals)) o) ≡ graph_hop flow o m.base m.block (state_of m.storage)
+hop_by flow m None = refl
+hop_by flow m (Some g) = refl
 
-pub hop_is : (flow : Flow) (r : Active) → hop (program_of flow) r ≡ graph_hop flow (slice_get flow.functions r.function) r.base r.block r.state
-hop_is flow r = hop_by flow r (slice_get flow.functions r.function)
+pub hop_is : (flow : Flow) (m : Machine) → hop (program_of flow) (active_of m) ≡ graph_hop flow (slice_get flow.functions m.function) m.base m.block (state_of m.storage)
+hop_is flow m = hop_by flow m (slice_get flow.functions m.function)
 
 wrong_ends : (ending : Option Ending) (out other : List ℕ) (m : Machine) → IsStep ending (Over (Outcome.Wrong out)) m → IsStep ending (Over (Outcome.Wrong other)) m
 wrong_ends None out other m h = absurd (cc)
@@ -125,17 +125,17 @@ step_after ending p r t Hop.Wrong m k = wrong_ends ending t.out r.state.out m k
 
 pub entered_is : (a : Active) (g : ℕ) (values : ℕ → Content) (own : List Array) (result : Option ℕ) (to base : ℕ) (f : ℕ → Content) (arrays : List (List Content)) (ws : List Frame) → base ≡ length a.state.arrays → f ≡ values →
     arrays ≡ a.state.arrays ++ undefined_all own → ws ≡ waits a result a.block to a.state ∷ a.waiting →
-    record { function = g; block = 0; base = base; state = record (a.state) { values = f; arrays = arrays }; waiting = ws } ≡ entered_by a g values own result to
+    record { function = g; block = 0; passed = []; base = base; state = record (a.state) { values = f; arrays = arrays }; waiting = ws } ≡ entered_by a g values own result to
 entered_is a g values own result to base f arrays ws b v r w =
-    ap (λ q. record { function = g; block = 0; base = q; state = record (a.state) { values = f; arrays = arrays }; waiting = ws }) b
-    ∙ ap (λ q. record { function = g; block = 0; base = length a.state.arrays; state = record (a.state) { values = q; arrays = arrays }; waiting = ws }) v
-    ∙ ap (λ q. record { function = g; block = 0; base = length a.state.arrays; state = record (a.state) { values = values; arrays = q }; waiting = ws }) r
-    ∙ ap (λ q. record { function = g; block = 0; base = length a.state.arrays; state = record (a.state) { values = values; arrays = a.state.arrays ++ undefined_all own }; waiting = q }) w
+    ap (λ q. record { function = g; block = 0; passed = []; base = q; state = record (a.state) { values = f; arrays = arrays }; waiting = ws }) b
+    ∙ ap (λ q. record { function = g; block = 0; passed = []; base = length a.state.arrays; state = record (a.state) { values = q; arrays = arrays }; waiting = ws }) v
+    ∙ ap (λ q. record { function = g; block = 0; passed = []; base = length a.state.arrays; state = record (a.state) { values = values; arrays = q }; waiting = ws }) r
+    ∙ ap (λ q. record { function = g; block = 0; passed = []; base = length a.state.arrays; state = record (a.state) { values = values; arrays = a.state.arrays ++ undefined_all own }; waiting = q }) w
 
 pub enters_is : (globals : ℕ) (r : Active) (g : ℕ) (graph : Graph) (arguments : List ℤ) (result : Option ℕ) (to : ℕ) (f : ℕ → Content) (own : List Array) (a : Active) → ((v : ℕ) → f v ≡ at_entry graph.parameters arguments v) → own ≡ drop globals graph.arrays → a ≡ entered_by r g f own result to →
     called_by r globals g (Some graph) arguments result to ≡ On a
 enters_is globals r g graph arguments result to f own a v o e =
-    ap (λ rows. Step.On (record { function = g; block = 0; base = length r.state.arrays; state = record (r.state) { values = at_entry graph.parameters arguments; arrays = r.state.arrays ++ rows }; waiting = waits r result r.block to r.state ∷ r.waiting })) (own_is (drop globals graph.arrays))
+    ap (λ rows. Step.On (record { function = g; block = 0; passed = []; base = length r.state.arrays; state = record (r.state) { values = at_entry graph.parameters arguments; arrays = r.state.arrays ++ rows }; waiting = waits r result r.block to r.state ∷ r.waiting })) (own_is (drop globals graph.arrays))
     ∙ ap (λ q. Step.On (entered_by r g (at_entry graph.parameters arguments) q result to)) (sym o)
     ∙ ap (λ q. Step.On (entered_by r g q own result to)) (sym (fun_ext v))
     ∙ ap Step.On (sym e)

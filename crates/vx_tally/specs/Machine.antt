@@ -40,7 +40,7 @@ graph_hop flow None base b s = Hop.Wrong
 graph_hop flow (Some g) base b s = hop_of (setting_in flow base) b (slice_get g.blocks b) s
 
 abbrev pub frame_of : Waiting → Frame
-frame_of w = record { function = w.function; from = w.from; next = w.next; result = w.result; base = w.base; values = value_at w.values.items }
+frame_of w = record { function = w.function; from = w.from; next = w.next; result = w.result; passed = []; base = w.base; values = value_at w.values.items }
 
 -- the last that began to wait stands in front
 abbrev pub stacked : List Frame → List Waiting → List Frame
@@ -48,7 +48,7 @@ stacked below [] = below
 stacked below (w ∷ ws) = stacked (frame_of w ∷ below) ws
 
 abbrev pub active_of : Machine → Active
-active_of m = record { function = m.function; block = m.block; base = m.base; state = state_of m.storage; waiting = stacked [] m.waiting.items }
+active_of m = record { function = m.function; block = m.block; passed = []; base = m.base; state = state_of m.storage; waiting = stacked [] m.waiting.items }
 
 -- arrays that are undefined
 abbrev pub undefined_all : List Array → List (List Content)
@@ -64,6 +64,7 @@ abbrev pub entered_by : Active → (function : ℕ) → (values : ℕ → Conten
 entered_by r g values own result next = record {
   function = g;
   block = 0;
+  passed = [];
   base = length r.state.arrays;
   state = record (r.state) { values = values; arrays = r.state.arrays ++ undefined_all own };
   waiting = waits r result r.block next r.state ∷ r.waiting;

@@ -266,6 +266,7 @@ module _ (T : Target) (flow : Flow) (some_frame : 1 ≤ T.frame) (globals_are : 
             from = b.0.from;
             next = b.0.next;
             values = λ v n live no_ e. let s = b.0.values v n live no_ e in record { answer = s.answer; is = above (sp + T.frame + T.slot fr.function v) (omega arith) ∙ s.is };
+            passed = b.0.passed;
             arrays = waits_arrays rows rows' memory memory' (sp + T.frame) fr.base behind fr.function b.0.is b.0.last b.0.first globals others (λ x le. above x le) b.0.arrays;
             first = b.0.first;
             last = b.0.last;

@@ -155,7 +155,7 @@ module _ (T : Target) (w : WordProgram) (f sp : ℕ) (setting : Setting) (IsArra
     pub texts : w.texts ≡ setting.texts
     pub inside : (a i : ℕ) → IsArray a → i < Size a → At a i < memory_words T
     pub distinct : (a b i j : ℕ) → IsArray a → IsArray b → i < Size a → j < Size b → At a i ≡ At b j → (setting.spot a ≡ setting.spot b) × (i ≡ j)
-    pub one_spot : (a b : ℕ) → IsArray a → IsArray b → setting.spot a ≡ setting.spot b → a ≡ b
+    pub one_spot : (a b : ℕ) → IsArray a → IsArray b → setting.spot a ≡ setting.spot b → (i : ℕ) → At a i ≡ At b i
     pub start : Spotted s.arrays u.memory
     pub stack : (k : ℕ) → k < T.machine.clusters → register u (General (stack_on k)) ≡ pos (4 * sp)
     pub input : u.input ≡ s.input
@@ -336,7 +336,7 @@ module _ (T : Target) (w : WordProgram) (f sp : ℕ) (setting : Setting) (IsArra
             ∙ ap (λ k. slice_index_or (row_in (set_cell rows (setting.spot a) i (Some n)) k) j None) (sym q) ∙ e
 
         same_place : setting.spot b ≡ setting.spot a → j ≡ i → At b j ≡ At a i
-        same_place r c = ap (λ x. At x j) (ready.one_spot b a isb is r) ∙ ap (At a) c
+        same_place r c = ready.one_spot b a isb is r j ∙ ap (At a) c
 
         there : (eqb (At b j) (At a i) ≡ false) × (At b j ≢ At a i) → word_at (stored memory (4 * At a i) n) (At b j) ≡ z
         there q = store_off memory (At a i) (At b j) n q.1 ∙ h b j z isb ltb (⊎_elim

@@ -102,7 +102,7 @@ module _ (m : Numbers) (w : WordProgram) (fit : AllFit m w) (T : Target) (f sp p
     pub texts : w.texts ≡ setting.texts
     pub inside : (a i : ℕ) → IsArray a → i < WordsOf a → begins_at T sp f a + i < memory_words T
     pub distinct : (a b i j : ℕ) → IsArray a → IsArray b → i < WordsOf a → j < WordsOf b → begins_at T sp f a + i ≡ begins_at T sp f b + j → (setting.spot a ≡ setting.spot b) × (i ≡ j)
-    pub one_spot : (a b : ℕ) → IsArray a → IsArray b → setting.spot a ≡ setting.spot b → a ≡ b
+    pub one_spot : (a b : ℕ) → IsArray a → IsArray b → setting.spot a ≡ setting.spot b → (i : ℕ) → begins_at T sp f a + i ≡ begins_at T sp f b + i
     pub start : (a i : ℕ) (n : ℤ) → IsArray a → i < WordsOf a → slice_index_or (row_in s.arrays (setting.spot a)) i None ≡ Some n → word_at u.memory (begins_at T sp f a + i) ≡ n
     pub input : u.input ≡ s.input
     pub out : u.out ≡ s.out

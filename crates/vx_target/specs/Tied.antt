@@ -94,8 +94,8 @@ IsResult (Some r) v = v ≡ r
 abbrev pub own_arrays : Target → (globals f : ℕ) → ℕ
 own_arrays T globals f = length (T.graph f).arrays - globals
 
--- a function that waits: its values live behind the call stand in their slots; its own arrays end where those of the function that
--- it called begin
+-- a function that waits: its values live behind the call stand in their slots; it was passed no arrays, and its own end where those
+-- of the function that it called begin
 pub record Waits (T : Target) (flow : Flow) (ls : List VWords) (rows : List (List Content)) (memory : ℕ → ℤ) (sp behind : ℕ) (fr : Frame) (frs : List Frame) : Type 0 where
   pub is : IsFunction T flow ls fr.function
   pub caller : ℕ
@@ -105,6 +105,7 @@ pub record Waits (T : Target) (flow : Flow) (ls : List VWords) (rows : List (Lis
   pub from : fr.from ≡ suc caller
   pub next : fr.next ≡ suc (suc caller)
   pub values : (v : ℕ) (n : ℤ) → IsLive (T.layout fr.function) (suc caller) v → (IsResult fr.result v → ⊥) → fr.values v ≡ Some n → Shows T sp fr.function v n (word_at memory (sp + T.slot fr.function v))
+  pub passed : fr.passed ≡ []
   pub arrays : Arrays T (length flow.globals) memory sp fr.base fr.function rows
   pub first : length flow.globals ≤ fr.base
   pub last : fr.base + own_arrays T (length flow.globals) fr.function ≡ behind
@@ -149,6 +150,8 @@ pub record Tied (T : Target) (flow : Flow) (ls : List VWords) (r : Active) (u : 
   -- the stack pointers of all clusters
   pub stack : (k : ℕ) → k < T.machine.clusters → register u (General (stack_on k)) ≡ pos (4 * sp)
   pub at : AtEntry T sp r u ⊎ ((p : ℕ) × AtWord T sp p r u)
+  -- it was passed no arrays
+  pub passed : r.passed ≡ []
   pub arrays : Arrays T (length flow.globals) u.memory sp r.base r.function r.state.arrays
   pub first : length flow.globals ≤ r.base
   pub last : r.base + own_arrays T (length flow.globals) r.function ≡ length r.state.arrays

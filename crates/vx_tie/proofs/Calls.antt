@@ -19,7 +19,7 @@ use Rattle.vx_flow.specs.declared.graph.Exit.TheVariants.{Call as Calling}
 use Rattle.vx_flow.proofs.Members.{in_left, in_right}
 use Rattle.std.specs.List.{flat_map}
 use Rattle.vx_flow.specs.Effects.{Content, State as VState, IsIn, held, value_in}
-use Rattle.vx_flow.specs.Meaning.{Active, Body, Frame, Hop, deepest, known, with_front, undefined, own_of, spot_of, setting_of, calls, enters, entered, waits, body_hop, after_hop, next}
+use Rattle.vx_flow.specs.Meaning.{Active, Body, Frame, Hop, deepest, known, with_front, undefined, own_of, spot_of, setting_with, setting_of, calls, enters, entered, waits, body_hop, after_hop, next}
 use Rattle.vx_flow.specs.Sound.{Sound, SoundFlow, Callable, IsPlace, is_sound_flow}
 use Rattle.vx_flow.proofs.SoundFlowLaw.{told}
 use Rattle.vx_isa.specs.declared.operation.Register.{Register}
@@ -105,6 +105,7 @@ module _ (T : Target) (flow : Flow) (ls : List VWords) (w : WordProgram) (sound 
   hop_to h e =
       ap (after_hop (laid_program flow ls) r)
       (ap (body_hop (laid_program flow ls) r) (ap (λ x. laid_body (length flow.globals) x (slice_get ls F)) tied.is.graph ∙ ap (λ l. laid_body (length flow.globals) (Some (T.graph F)) l) tied.is.layout)
+      ∙ ap (λ z. laid_hop (setting_with (laid_program flow ls) z r.base) (T.layout F) r.block S) tied.passed
       ∙ ap (λ b. laid_hop (setting_of (laid_program flow ls) r.base) (T.layout F) b S) block ∙ ap (λ x. some_word_hop (setting_of (laid_program flow ls) r.base) p x S) plan ∙ e)
 
   small : 4 * memory_words T < 2 ^ 32
@@ -484,7 +485,7 @@ module _ (T : Target) (flow : Flow) (ls : List VWords) (w : WordProgram) (sound 
       -- the caller waits
 
       abbrev Waiter : Frame
-      Waiter = record { function = F; from = suc p; next = suc (suc p); result = result; base = r.base; values = S.values }
+      Waiter = record { function = F; from = suc p; next = suc (suc p); result = result; passed = r.passed; base = r.base; values = S.values }
 
       result_in : (res : Option ℕ) (v : ℕ) → IsIn v (result_of res) → IsResult res v
       result_in None v i = i
@@ -526,6 +527,7 @@ module _ (T : Target) (flow : Flow) (ls : List VWords) (w : WordProgram) (sound 
         from = refl;
         next = refl;
         values = waiting_values;
+        passed = tied.passed;
         arrays = waiting_arrays;
         first = tied.first;
         last = tied.last;
@@ -547,7 +549,7 @@ module _ (T : Target) (flow : Flow) (ls : List VWords) (w : WordProgram) (sound 
       TheBody = record { parameters = Parameters; own = own_of Globals (T.graph g); hop = λ setting b s. laid_hop setting (T.layout g) b s }
 
       abbrev Entered : Active
-      Entered = record { function = g; block = 0; base = length S.arrays; state = entered TheBody ns S; waiting = Waiter ∷ r.waiting }
+      Entered = record { function = g; block = 0; passed = []; base = length S.arrays; state = entered TheBody ns S; waiting = Waiter ∷ r.waiting }
 
       body_is : (laid_program flow ls).body g ≡ Some TheBody
       body_is = ap (λ x. laid_body Globals x (slice_get ls g)) its.is.graph ∙ ap (λ l. laid_body Globals (Some (T.graph g)) l) its.is.layout
@@ -578,6 +580,7 @@ module _ (T : Target) (flow : Flow) (ls : List VWords) (w : WordProgram) (sound 
           deep = record { is = (let e = tied.deep.is in let b = base_is in let k : ℕ = length r.waiting in let m : T.frame * suc (suc k) ≡ T.frame * suc k + T.frame = grind arith in omega arith); most = more };
           stack = stack_g;
           at = inl (record { block = refl; place = refl; values = passed.values; link = link_is ∙ (let q : suc p - 1 ≡ p = omega arith in ap (λ n. wrap (pos (T.back F n))) (sym q)) });
+          passed = refl;
           arrays = callee_arrays;
           first = (let a = tied.first in let b = tied.last in omega arith);
           last = (let a = length-append S.arrays (map undefined (own_of Globals (T.graph g))) in let b = own_count in omega arith);

@@ -8,7 +8,7 @@ use Rattle.vx_flow.specs.declared.graph.Bank.{Bank}
 use Rattle.vx_flow.specs.declared.graph.Bank.TheVariants.{General as GeneralBank}
 use Rattle.vx_flow.specs.declared.graph.Flow.{Flow}
 use Rattle.vx_flow.specs.Effects.{IsIn}
-use Rattle.vx_flow.specs.Meaning.{Active, setting_of, body_hop, after_hop, next}
+use Rattle.vx_flow.specs.Meaning.{Active, setting_with, setting_of, body_hop, after_hop, next}
 use Rattle.vx_flow.specs.Sound.{Sound, SoundFlow, is_sound_flow, IsPlace}
 use Rattle.vx_flow.proofs.SoundFlowLaw.{told}
 use Rattle.vx_isa.specs.declared.operation.Register.{Register}
@@ -326,6 +326,7 @@ module _ (T : Target) (flow : Flow) (ls : List VWords) (w : WordProgram) (sound 
   steps =
       ap (after_hop (laid_program flow ls) r)
       (ap (body_hop (laid_program flow ls) r) (ap (λ g. laid_body (length flow.globals) g (slice_get ls F)) tied.is.graph ∙ ap (λ l. laid_body (length flow.globals) (Some (T.graph F)) l) tied.is.layout)
+      ∙ ap (λ z. laid_hop (setting_with (laid_program flow ls) z r.base) (T.layout F) r.block r.state) tied.passed
       ∙ ap (λ b. laid_hop (setting_of (laid_program flow ls) r.base) (T.layout F) b r.state) block)
 
   same_slot : (v : ℕ) → IsIn v (parameters_of T F) → word_at done.to.memory (Sp + T.slot F v) ≡ word_at u.memory (Sp + T.slot F v)
@@ -368,6 +369,7 @@ module _ (T : Target) (flow : Flow) (ls : List VWords) (w : WordProgram) (sound 
     deep = tied.deep;
     stack = done.stack;
     at = inr (Entry, record { block = refl; place = done.place; values = values; link = done.link ∙ at_entry.link });
+    passed = tied.passed;
     arrays = arrays;
     first = tied.first;
     last = tied.last;

@@ -12,7 +12,7 @@ use Rattle.vx_flow.specs.declared.graph.Operand.{Operand}
 use Rattle.vx_flow.specs.declared.graph.Operand.TheVariants.{Held as HeldValue, Number as AsNumber, Stack}
 use Rattle.vx_flow.specs.declared.graph.Exit.TheVariants.{Return as Returning}
 use Rattle.vx_flow.specs.Effects.{State as VState, held}
-use Rattle.vx_flow.specs.Meaning.{Active, Hop, leaves, setting_of, body_hop, after_hop, next}
+use Rattle.vx_flow.specs.Meaning.{Active, Hop, leaves, setting_with, setting_of, body_hop, after_hop, next}
 use Rattle.vx_flow.specs.Sound.{Sound, SoundFlow, IsPlace, HasExit}
 use Rattle.vx_isa.specs.declared.operation.Register.{Register}
 use Rattle.vx_isa.specs.declared.operation.Register.TheVariants.{General, Link}
@@ -90,6 +90,7 @@ module _ (T : Target) (flow : Flow) (ls : List VWords) (w : WordProgram) (sound 
   hop_to h e =
       ap (after_hop (laid_program flow ls) r)
       (ap (body_hop (laid_program flow ls) r) (ap (λ y. laid_body (length flow.globals) y (slice_get ls F)) tied.is.graph ∙ ap (λ l. laid_body (length flow.globals) (Some (T.graph F)) l) tied.is.layout)
+      ∙ ap (λ z. laid_hop (setting_with (laid_program flow ls) z r.base) (T.layout F) r.block S) tied.passed
       ∙ ap (λ b. laid_hop (setting_of (laid_program flow ls) r.base) (T.layout F) b S) block ∙ ap (λ y. some_word_hop (setting_of (laid_program flow ls) r.base) p y S) plan ∙ e)
 
   small : 4 * memory_words T < 2 ^ 32

@@ -9,7 +9,7 @@ use Rattle.vx_flow.specs.declared.graph.Bank.{Bank}
 use Rattle.vx_flow.specs.declared.graph.Flow.{Flow}
 use Rattle.vx_flow.specs.declared.graph.Op.{Op}
 use Rattle.vx_flow.specs.Effects.{State as VState, Setting, IsIn}
-use Rattle.vx_flow.specs.Meaning.{Hop, Active, setting_of, and_then, body_hop, hop, after_hop, next, program_run}
+use Rattle.vx_flow.specs.Meaning.{Hop, Active, setting_with, setting_of, and_then, body_hop, hop, after_hop, next, program_run}
 use Rattle.vx_flow.specs.Sound.{Sound, SoundFlow, is_sound_flow}
 use Rattle.vx_flow.proofs.SoundFlowLaw.{told}
 use Rattle.vx_flow.proofs.SoundLists.{all_in}
@@ -173,7 +173,7 @@ module _ (T : Target) (flow : Flow) (ls : List VWords) (w : WordProgram) (sound 
     texts = carries.texts;
     inside = λ a i is lt. inside T flow carries.some_frame carries.globals sound F ls tied.is of.framed Sp (length r.waiting) tied.deep a i is.0 is.1 (word_below a i is lt);
     distinct = λ a b i j is js li lj e. (let q = apart T flow carries.some_frame carries.globals sound F ls tied.is of.framed Sp (length r.waiting) tied.deep a b i j is.0 js.0 is.1 js.1 (word_below a i is li) (word_below b j js lj) e in (ap TheSetting.spot q.0, q.1));
-    one_spot = λ a b is js e. one_spot T flow carries.some_frame carries.globals sound F ls tied.is of.framed r.base tied.first a b is.0 js.0 is.1 js.1 e;
+    one_spot = λ a b is js e i. ap (λ x. begins_at T Sp F x + i) (one_spot T flow carries.some_frame carries.globals sound F ls tied.is of.framed r.base tied.first a b is.0 js.0 is.1 js.1 e);
     start = λ a i n is lt e. (tied.arrays.row a is.0 is.1).is i n (word_below a i is lt) e;
     input = tied.input;
     out = tied.out;
@@ -214,7 +214,7 @@ module _ (T : Target) (flow : Flow) (ls : List VWords) (w : WordProgram) (sound 
   body_is = ap (λ g. laid_body Globals g (slice_get ls F)) tied.is.graph ∙ ap (λ l. laid_body Globals (Some (T.graph F)) l) tied.is.layout
 
   hop_is : hop (laid_program flow ls) r ≡ and_then (laid_effect TheSetting S items S) (moves_to p (laid_next S (suc p) items))
-  hop_is = ap (body_hop (laid_program flow ls) r) body_is ∙ ap (λ b. laid_hop TheSetting (T.layout F) b S) block ∙ ap (λ x. some_word_hop TheSetting p x S) plan
+  hop_is = ap (body_hop (laid_program flow ls) r) body_is ∙ ap (λ z. laid_hop (setting_with (laid_program flow ls) z r.base) (T.layout F) r.block S) tied.passed ∙ ap (λ b. laid_hop TheSetting (T.layout F) b S) block ∙ ap (λ x. some_word_hop TheSetting p x S) plan
 
   next_is : (h : Hop) → and_then (laid_effect TheSetting S items S) (moves_to p (laid_next S (suc p) items)) ≡ h → next (laid_program flow ls) r ≡ after_hop (laid_program flow ls) r h
   next_is h e = ap (after_hop (laid_program flow ls) r) (hop_is ∙ e)
@@ -298,6 +298,7 @@ module _ (T : Target) (flow : Flow) (ls : List VWords) (w : WordProgram) (sound 
       deep = tied.deep;
       stack = arrived.stack;
       at = inr (d, record { block = refl; place = place; values = shown; link = link_stays T u To Sp F link arrived.link ∙ at_word.link });
+      passed = tied.passed;
       arrays = rows;
       first = tied.first;
       last = tied.last ∙ sym shape.count;
@@ -329,7 +330,7 @@ module _ (T : Target) (flow : Flow) (ls : List VWords) (w : WordProgram) (sound 
     Behind d = record r { block = suc d; state = t }
 
     transferred : (d : ℕ) → slice_get (T.layout F).words q ≡ Some (Transfer d) → next (laid_program flow ls) After ≡ On (Behind d)
-    transferred d e = ap (after_hop (laid_program flow ls) After) (ap (body_hop (laid_program flow ls) After) body_is ∙ ap (λ x. some_word_hop TheSetting q x t) e)
+    transferred d e = ap (after_hop (laid_program flow ls) After) (ap (body_hop (laid_program flow ls) After) body_is ∙ ap (λ z. laid_hop (setting_with (laid_program flow ls) z r.base) (T.layout F) (suc q) t) tied.passed ∙ ap (λ x. some_word_hop TheSetting q x t) e)
 
     carried_past : (d : ℕ) → slice_get (T.layout F).words q ≡ Some (Transfer d) → To.place ≡ T.starts F d → CarriesPast T flow ls w r u
     carried_past d e place = record {

@@ -384,7 +384,7 @@ module _ (T : Target) (flow : Flow) (ls : List VWords) (w : WordProgram) (sound 
     -- the step over values
 
     abbrev After : Active
-    After = record { function = F; block = fr.next; base = fr.base; state = record S { values = with_result fr.values fr.result n; arrays = Rows }; waiting = frs }
+    After = record { function = F; block = fr.next; passed = fr.passed; base = fr.base; state = record S { values = with_result fr.values fr.result n; arrays = Rows }; waiting = frs }
 
     goes : next (laid_program flow ls) r ≡ On After
     goes = steps ∙ ap (returned n S r.base) waiting
@@ -403,6 +403,7 @@ module _ (T : Target) (flow : Flow) (ls : List VWords) (w : WordProgram) (sound 
         deep = deep_back;
         stack = stack_c;
         at = inr (suc P, record { block = waits.next; place = place_c; values = values; link = link_in_frame T C Sp F P waits.callee waits.arguments fr.result waits.called ∙ link_c });
+        passed = waits.passed;
         arrays = arrays;
         first = waits.first;
         last = waits.last ∙ sym base_length;

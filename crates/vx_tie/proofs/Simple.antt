@@ -10,7 +10,7 @@ use Rattle.vx_base.proofs.Runs.{run_reach, safe_after, safe_end, reach_one}
 use Rattle.vx_flow.specs.declared.graph.Bank.{Bank}
 use Rattle.vx_flow.specs.declared.graph.Flow.{Flow}
 use Rattle.vx_flow.specs.Effects.{Content, State as VState, Setting, IsIn}
-use Rattle.vx_flow.specs.Meaning.{Hop, Active, setting_of, by_test, body_hop, hop, after_hop, next}
+use Rattle.vx_flow.specs.Meaning.{Hop, Active, setting_with, setting_of, by_test, body_hop, hop, after_hop, next}
 use Rattle.vx_flow.specs.Sound.{Sound, SoundFlow, is_sound_flow}
 use Rattle.vx_flow.proofs.SoundFlowLaw.{told}
 use Rattle.vx_isa.specs.declared.operation.Register.TheVariants.{General, Branch, Link}
@@ -68,6 +68,7 @@ module _ (T : Target) (flow : Flow) (ls : List VWords) (w : WordProgram) (sound 
   hop_is : hop (laid_program flow ls) r ≡ word_hop TheSetting p word S
   hop_is =
       ap (body_hop (laid_program flow ls) r) (ap (λ g. laid_body (length flow.globals) g (slice_get ls F)) tied.is.graph ∙ ap (λ l. laid_body (length flow.globals) (Some (T.graph F)) l) tied.is.layout)
+      ∙ ap (λ z. laid_hop (setting_with (laid_program flow ls) z r.base) (T.layout F) r.block S) tied.passed
       ∙ ap (λ b. laid_hop TheSetting (T.layout F) b S) block ∙ ap (λ x. some_word_hop TheSetting p x S) plan
 
   next_is : (h : Hop) → word_hop TheSetting p word S ≡ h → next (laid_program flow ls) r ≡ after_hop (laid_program flow ls) r h
@@ -90,6 +91,7 @@ module _ (T : Target) (flow : Flow) (ls : List VWords) (w : WordProgram) (sound 
     deep = tied.deep;
     stack = λ c lt. k.stack c lt ∙ tied.stack c lt;
     at = inr (q, record { block = refl; place = k.place; values = values; link = link_stays T u v tied.sp F (ap (λ g. word_at g tied.sp) k.memory) k.link ∙ at_word.link });
+    passed = tied.passed;
     arrays = record { row = λ a array has. let x = tied.arrays.row a array has in record { size = x.size; is = λ i n lt e. ap (λ g. word_at g (begins_at T tied.sp F a + i)) k.memory ∙ x.is i n lt e } };
     first = tied.first;
     last = tied.last;

@@ -109,10 +109,10 @@ module _ (T : Target) (flow : Flow) (ls : List VWords) (w : WordProgram) (sound 
   body_is = ap (λ g. laid_body Globals g (slice_get ls Main)) of.is.graph ∙ ap (λ l. laid_body Globals (Some (T.graph Main)) l) of.is.layout
 
   abbrev Entered : Active
-  Entered = record { function = Main; block = 0; base = length Begin.arrays; state = entered TheBody [] Begin; waiting = [] }
+  Entered = record { function = Main; block = 0; passed = []; base = length Begin.arrays; state = entered TheBody [] Begin; waiting = [] }
 
   starts_as : at_start (laid_program flow ls) Main Begin ≡ Entered
-  starts_as = ap (λ b. record { function = Main; block = 0; base = length Begin.arrays; state = entered_or b Begin; waiting = [] }) body_is
+  starts_as = ap (λ b. record { function = Main; block = 0; passed = []; base = length Begin.arrays; state = entered_or b Begin; waiting = [] }) body_is
 
   -- over registers
 
@@ -206,6 +206,7 @@ module _ (T : Target) (flow : Flow) (ls : List VWords) (w : WordProgram) (sound 
     deep = deep;
     stack = stack_is;
     at = inl (record { block = refl; place = refl; values = λ v n e. absurd (no_arguments (parameters_of T Main) v n e); link = link_is });
+    passed = refl;
     arrays = arrays;
     first = (let c = firsts_count in omega arith);
     last = (let a = length-append Firsts Owns in let b = own_count in omega arith);

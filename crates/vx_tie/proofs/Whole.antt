@@ -5,7 +5,7 @@ use Rattle.vx_base.specs.Outcome.{Outcome, Goes, Same, NeverFails, On, Over, ste
 use Rattle.vx_base.proofs.Meeting.{MeetsAt, Far, Done, meeting_same}
 use Rattle.vx_base.proofs.Runs.{run_steady, safe_end}
 use Rattle.vx_flow.specs.declared.graph.Flow.{Flow}
-use Rattle.vx_flow.specs.Meaning.{Active, at_start, globals_at_start, setting_of, body_hop, after_hop, next}
+use Rattle.vx_flow.specs.Meaning.{Active, at_start, globals_at_start, setting_with, setting_of, body_hop, after_hop, next}
 use Rattle.vx_flow.specs.Sound.{is_sound_flow}
 use Rattle.vx_isa.specs.declared.program.WordProgram.{WordProgram}
 use Rattle.vx_isa.specs.Machine.{State, step, start}
@@ -46,7 +46,7 @@ module _ (T : Target) (flow : Flow) (ls : List VWords) (w : WordProgram) (sound 
       let steps : next P r ≡ Over (Outcome.Wrong r.state.out) =
       ap (after_hop P r)
       (ap (body_hop P r) (ap (λ y. laid_body (length flow.globals) y (slice_get ls r.function)) tied.is.graph ∙ ap (λ l. laid_body (length flow.globals) (Some (T.graph r.function)) l) tied.is.layout)
-      ∙ ap (λ b. laid_hop (setting_of P r.base) (T.layout r.function) b r.state) block ∙ ap (λ y. some_word_hop (setting_of P r.base) p y r.state) plan) in
+      ∙ ap (λ z. laid_hop (setting_with P z r.base) (T.layout r.function) r.block r.state) tied.passed ∙ ap (λ b. laid_hop (setting_of P r.base) (T.layout r.function) b r.state) block ∙ ap (λ y. some_word_hop (setting_of P r.base) p y r.state) plan) in
       safe_end (next P) (λ q. q.state.out) r (Outcome.Wrong r.state.out) steps tied.safe tt
 
   simple : (r : Active) (u : State) (p : ℕ) → Meets r u ⊎ FallsNext T flow ls p r u → (Meets r u ⊎ CarriesPast T flow ls w r u) ⊎ FallsNext T flow ls p r u

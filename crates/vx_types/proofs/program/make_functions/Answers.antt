@@ -1,9 +1,11 @@
-use Rattle.std.proofs.Common.{◌≡◌, ap, ◌∙◌, ◌+◌, ◌<◌, drop, map, length, List, arith, get_or, subst}
+use Rattle.std.proofs.Common.{◌≡◌, ap, sym, ◌∙◌, ◌+◌, ◌<◌, ◌≤◌, None, drop, map, length, List, arith, get_or, subst}
+use Rattle.std.proofs.lemmas.List.{drop_all}
+use Rattle.vx_ast.specs.declared.tree.Function.{Function}
 use Rattle.vx_ast.specs.declared.syntax.Definition.{Definition as Written}
 use Rattle.vx_ast.specs.declared.names.FileName.{FileName}
 use Rattle.vx_ast.specs.SyntaxView.{definition_of, program_of}
 use Rattle.vx_ast.specs.View as view
-use Rattle.vx_types.proofs.Wholes.{next_seen, names_length, seen_length, passed_step}
+use Rattle.vx_types.proofs.Wholes.{PassedSo, passed_begin, passed_end, next_seen, names_length, seen_length, passed_step}
 use Rattle.vx_types.proofs.program.make_functions.Goals as goal
 
 pub pass_definition-requires-clause-there : goal.pass_definition-requires-clause-there
@@ -24,3 +26,20 @@ loop-one-preserved c =
     passed_step (program_of c.args.program.now) c.args.arrays (map view.function_of c.loop-one.made.all.items) (map view.function_of c.pass_definition.new.made.all.items) c.loop-one.names c.in_ok-behind.behind c.loop-one.made.first c.pass_definition.new.made.first c.loop-one.one-index
     (map definition_of (drop c.loop-one.one-index c.args.program.now.definitions.items)) (map definition_of (drop (c.loop-one.one-index + 1) c.args.program.now.definitions.items)) (definition_of c.one-item.result)
     c.loop-one.invariant (next_seen c.args.program.now.definitions.items c.loop-one.one-index c.one-item.result h e) c.in_ok-behind.ensures.made c.in_ok-behind.ensures.faults c.in_ok-behind.ensures.locals c.in_ok-behind.ensures.names c.in_ok-behind.ensures.above
+
+pub loop-one-init : goal.loop-one-init
+loop-one-init c =
+    subst (λ (z : List Function). PassedSo (program_of c.args.program.now) c.args.arrays (map view.function_of z) c.args.names None 0 (map definition_of c.args.program.now.definitions.items)) (sym c.new.ensures.items)
+    (passed_begin (program_of c.args.program.now) c.args.arrays c.args.names c.requires.start c.requires.arrays)
+
+pub returns-clause-made : goal.returns-clause-made
+returns-clause-made c =
+    let h : length c.args.program.now.definitions.items ≤ c.loop-one.one-index = subst (λ (z : List Written). length z ≤ c.loop-one.one-index) c.as_slice-one-items.ensures.value c.loop-one-test.false in
+    let e = ap (λ (z : List Written). map definition_of z) (drop_all c.loop-one.one-index c.args.program.now.definitions.items h) in
+    (passed_end (program_of c.args.program.now) c.args.arrays (map view.function_of c.loop-one.made.all.items) c.loop-one.names c.loop-one.made.first c.loop-one.one-index _ c.loop-one.invariant e).0
+
+pub returns-clause-faults : goal.returns-clause-faults
+returns-clause-faults c =
+    let h : length c.args.program.now.definitions.items ≤ c.loop-one.one-index = subst (λ (z : List Written). length z ≤ c.loop-one.one-index) c.as_slice-one-items.ensures.value c.loop-one-test.false in
+    let e = ap (λ (z : List Written). map definition_of z) (drop_all c.loop-one.one-index c.args.program.now.definitions.items h) in
+    (passed_end (program_of c.args.program.now) c.args.arrays (map view.function_of c.loop-one.made.all.items) c.loop-one.names c.loop-one.made.first c.loop-one.one-index _ c.loop-one.invariant e).1
