@@ -5,7 +5,7 @@ use Rattle.vx_base.specs.declared.arithmetic.Code.TheVariants.{Add, Sub, And, Or
 use Rattle.std.specs.Int.{w32, cast_unsigned}
 use Rattle.std.proofs.lemmas.Int.{ints, int_wrap_fits, int_wrap-add_left, int_wrap-add_right, int_wrap-mul_left, int_wrap-add_same, quot-rem}
 use Rattle.std.proofs.lemmas.Nat.{div-add-mod'}
-use Rattle.vx_base.specs.Arithmetic.{IsNumber, wrap, unsigned, shift_by, unless_zero, one_if, sum_of, difference_of, product_of, quotient_of, remainder_of, shl_of, shr_of, shru_of, and_of, or_of, xor_of, sh2add_of, mpylu_of, mpyhs_of, compare_of, ProductByHalves, ValueFits, DivisionLaw, IndexCheck}
+use Rattle.vx_base.specs.Arithmetic.{opposite, IsNumber, wrap, unsigned, shift_by, unless_zero, one_if, sum_of, difference_of, product_of, quotient_of, remainder_of, shl_of, shr_of, shru_of, and_of, or_of, xor_of, sh2add_of, mpylu_of, mpyhs_of, compare_of, ProductByHalves, ValueFits, DivisionLaw, IndexCheck}
 use Rattle.vx_base.specs.declared.arithmetic.Compare.TheVariants.{Eq, Ne, Lt, Le, Gt, Ge, Ltu, Geu}
 use Rattle.vx_base.specs.declared.arithmetic.Compare.{Compare}
 use borrow.Author.Tests.{lt-leb}
@@ -82,17 +82,6 @@ equal-same a b e = (signed_Decides a b).1 e
 
 pub equal-false : (a b : ℤ) → compare_of Eq a b ≡ false → a ≡ b → ⊥
 equal-false a b t e = absurd (true≢false (sym (equal-same a b e) ∙ t))
-
--- a compare fails exactly where the opposite one holds
-abbrev pub opposite : Compare → Compare
-opposite Eq = Ne
-opposite Ne = Eq
-opposite Lt = Ge
-opposite Le = Gt
-opposite Gt = Le
-opposite Ge = Lt
-opposite Ltu = Geu
-opposite Geu = Ltu
 
 le-not_lt : (a b : ℤ) → int_le a b ≡ not (int_lt b a)
 le-not_lt a b = by (int_lt b a) refl

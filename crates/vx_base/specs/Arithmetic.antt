@@ -100,6 +100,17 @@ compare_of Ge a b = int_le b a
 compare_of Ltu a b = nat_lt (unsigned a) (unsigned b)
 compare_of Geu a b = nat_le (unsigned b) (unsigned a)
 
+-- a compare fails exactly where the opposite one holds
+abbrev pub opposite : Compare → Compare
+opposite Eq = Ne
+opposite Ne = Eq
+opposite Lt = Ge
+opposite Le = Gt
+opposite Gt = Le
+opposite Ge = Lt
+opposite Ltu = Geu
+opposite Geu = Ltu
+
 -- the result of each operation
 abbrev pub value_of : Code → ℤ → ℤ → ℤ
 value_of Add a b = sum_of a b

@@ -101,3 +101,12 @@ pub fn copied<T: Copy>(alloc: Global, items: &[T]) -> Result<Listed<T>, AllocErr
     copy.extend_from_slice(items)?;
     Listed::from_vec(copy)
 }
+
+/// A list of copies of the items of a slice, and an item behind them.
+pub fn with_item<T: Copy>(alloc: Global, items: &[T], item: T) -> Result<Listed<T>, AllocError>
+    ensures { IfOk result (λ longer. longer ≡ items.now ++ item ∷ []) }
+{
+    let mut longer = copied(alloc, items)?;
+    longer.push(item)?;
+    Ok(longer)
+}

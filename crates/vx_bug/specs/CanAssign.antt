@@ -1,13 +1,12 @@
 -- What a trace, a machine and homes keep where clusters are to be chosen.
-use Rattle.std.specs.Prelude.{◌≡◌, ◌<◌, ◌≤◌, ◌*◌, ◌^◌, ℕ, true, false, if◌then◌else◌, Some, None, List, [], ◌∷◌, length, slice_get, slice_index_or}
-use Rattle.vx_flow.specs.declared.graph.Op.TheVariants.{Select}
+use Rattle.std.specs.Prelude.{◌≡◌, ◌<◌, ◌≤◌, ◌*◌, ◌^◌, ℕ, true, false, Some, None, List, [], ◌∷◌, length, slice_get, slice_index_or}
 use Rattle.vx_flow.specs.declared.trace.TraceOp.{TraceOp}
 use Rattle.vx_flow.specs.declared.trace.TraceOp.TheVariants.{Plain, Split}
 use Rattle.vx_flow.specs.declared.trace.Join.{Join}
 use Rattle.vx_flow.specs.declared.trace.Trace.{Trace}
 use Rattle.vx_flow.specs.declared.trace.Homes.{Homes}
-use Rattle.vx_flow.specs.Effects.{IsIn, writes}
-use Rattle.vx_flow.specs.Operands.{is_observable}
+use Rattle.vx_flow.specs.Effects.{IsIn}
+use Rattle.vx_flow.specs.Operands.{binds, value_list}
 use Rattle.vx_isa.specs.Numbers.{Numbers}
 use Rattle.vx_machine.specs.Room.{home_of}
 use Rattle.vx_dep.specs.Delays.{Stands, reads_of, writes_of}
@@ -22,8 +21,7 @@ IsFree t i = slice_index_or t.fixed i None ≡ None
 
 -- the general value that a selection, or an operation that meets the input, writes on cluster 0 alone
 abbrev pub bound_writes : TraceOp → List ℕ
-bound_writes (Plain (Select v test a b)) = v ∷ []
-bound_writes (Plain op) = if is_observable op then writes op else []
+bound_writes (Plain op) = value_list (binds op)
 bound_writes (Split test leaves_when edge live) = []
 
 -- it has the home 0 from the start

@@ -6,7 +6,7 @@ ghost use Rattle.vx_bug.specs.Booked.{row_at, AreRows};
 
 use crate::bookings::Booking;
 use std::alloc::Global;
-use vx_base::listed::Listed;
+use vx_base::listed::{Listed, with_item};
 use vx_base::outcome::NoMemory;
 
 /// The operations that have a cluster.
@@ -38,7 +38,7 @@ impl Booked {
     {
         let cycle = booking.cycle as usize;
         reach(alloc, &mut self.rows, cycle)?;
-        let row = with_booking(alloc, row_at(self.rows.as_slice(), cycle), booking)?;
+        let row = with_item(alloc, row_at(self.rows.as_slice(), cycle), booking)?;
         self.bookings.insert(0, booking)?;
         self.rows[cycle] = row;
         Ok(())
@@ -55,20 +55,6 @@ fn reach(alloc: Global, rows: &mut Vec<Listed<Booking>>, cycle: usize) -> Result
         rows.push(Listed::new(alloc))?;
     }
     Ok(())
-}
-
-/// A row with a booking behind it.
-fn with_booking(
-    alloc: Global,
-    row: &[Booking],
-    booking: Booking,
-) -> Result<Listed<Booking>, NoMemory>
-    ensures { IfOk result (λ longer. longer ≡ row.now ++ booking ∷ []) }
-{
-    let mut longer = Vec::new(alloc);
-    longer.extend_from_slice(row)?;
-    longer.push(booking)?;
-    Ok(Listed::from_vec(longer)?)
 }
 
 /// The rows from a cycle on.

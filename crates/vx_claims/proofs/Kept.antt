@@ -7,11 +7,12 @@ use Rattle.std.proofs.lemmas.Bool.{false≢true}
 use Rattle.vx_flow.specs.declared.graph.Op.{Op}
 use Rattle.vx_flow.specs.declared.graph.Op.TheVariants.{Compute, Select, Place, Load, Store, More, Input, Text, Decimal, Across}
 use Rattle.vx_flow.specs.Operands.{written_by}
+use Rattle.vx_flow.specs.Sound.{is_value}
 use Rattle.vx_claims.specs.declared.intervals.Interval.{Interval}
 use Rattle.vx_claims.specs.declared.fact.Fact.{Fact}
 use Rattle.vx_claims.specs.declared.fact.Fact.TheVariants.{Between, Equals}
 use Rattle.vx_claims.specs.declared.access.Access.{Access}
-use Rattle.vx_claims.specs.Facts.{range_of, times_if, bit, result_within, is_held, is_full, names, kept_if, without, without_written, equals_if, between_unless, lies_in, after}
+use Rattle.vx_claims.specs.Facts.{range_of, times_if, bit, result_within, is_full, names, kept_if, without, without_written, equals_if, between_unless, lies_in, after}
 use Rattle.vx_claims.specs.Accesses.{place_known}
 use Rattle.vx_claims.specs.Forming.{after_known, most_equals, newest, said_unless, same_form}
 use Rattle.vx_claims.specs.Keeping.{all_said, has_more, said_by}
@@ -24,7 +25,7 @@ lies_before v i a b = by (is_full i)
     by false = refl
 
 after_parts : (fs : List Fact) (op : Op) → after fs op ≡ said_by fs op ++ without_written (written_by op) fs
-after_parts fs (Compute code v a b) = lies_before v (result_within code (range_of fs a) (range_of fs b)) (equals_if (is_held v a || is_held v b) v code a b) (without v fs)
+after_parts fs (Compute code v a b) = lies_before v (result_within code (range_of fs a) (range_of fs b)) (equals_if (is_value v a || is_value v b) v code a b) (without v fs)
 after_parts fs (Select v p a b) = refl
 after_parts fs (Place v a i) = lies_before v (times_if true (range_of fs i) (pos 4)) [] (without v fs)
 after_parts fs (Load v a p dismissible) = refl

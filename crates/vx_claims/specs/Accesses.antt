@@ -8,11 +8,12 @@ use Rattle.vx_flow.specs.declared.graph.Op.{Op}
 use Rattle.vx_flow.specs.declared.graph.Op.TheVariants.{Compute, Place, Load, Store}
 use Rattle.vx_flow.specs.Effects.{State, Setting, held, place_of, row_of, cell_of}
 use Rattle.vx_flow.specs.Operands.{written_by}
+use Rattle.vx_flow.specs.Sound.{is_value}
 use Rattle.vx_claims.specs.declared.access.Access.{Access}
 use Rattle.vx_claims.specs.declared.access.Access.TheVariants.{Placed, Stored}
 use Rattle.vx_claims.specs.declared.fact.Fact.{Fact}
 use Rattle.vx_claims.specs.declared.fact.Fact.TheVariants.{Equals}
-use Rattle.vx_claims.specs.Facts.{is_held, same_operand}
+use Rattle.vx_claims.specs.Facts.{same_operand}
 
 -- the word of array a at place p, where it has one, holds what x holds
 abbrev pub HoldsWord : Setting → State → ℕ → Operand → Operand → Type 0
@@ -26,7 +27,7 @@ abbrev pub AllTell : Setting → State → List Access → Type 0
 AllTell setting s [] = Unit {0}
 AllTell setting s (x ∷ xs) = Tells setting s x × AllTell setting s xs
 
--- different arrays stand at different places
+-- different arrays stand at different spots
 abbrev pub SpotsDiffer : Setting → Type 0
 SpotsDiffer setting = (a b : ℕ) → setting.spot a ≡ setting.spot b → a ≡ b
 
@@ -45,8 +46,8 @@ abbrev pub tell : List Access → List Access → Bool
 tell xs ys = list_all (is_told xs) ys
 
 abbrev pub mentions : ℕ → Access → Bool
-mentions v (Placed u a i) = (u == v) || is_held v i
-mentions v (Stored a p x) = is_held v p || is_held v x
+mentions v (Placed u a i) = (u == v) || is_value v i
+mentions v (Stored a p x) = is_value v p || is_value v x
 
 abbrev pub unless : Bool → Access → List Access → List Access
 unless true x xs = xs
@@ -73,8 +74,8 @@ untouched a (x ∷ xs) = unless (touches a x) x (untouched a xs)
 
 -- what is known behind an operation
 abbrev pub accessed : List Access → Op → List Access
-accessed xs (Place v a i) = unless (is_held v i) (Placed v a i) (unmentioned v xs)
-accessed xs (Load v a p dismissible) = unless (is_held v p) (Stored a p (Held v)) (unmentioned v xs)
+accessed xs (Place v a i) = unless (is_value v i) (Placed v a i) (unmentioned v xs)
+accessed xs (Load v a p dismissible) = unless (is_value v p) (Stored a p (Held v)) (unmentioned v xs)
 accessed xs (Store a p x) = Stored a p x ∷ untouched a xs
 accessed xs op = unmentioned_written (written_by op) xs
 

@@ -8,11 +8,12 @@ use Rattle.vx_flow.specs.declared.graph.Operand.TheVariants.{Held, Number, Stack
 use Rattle.vx_flow.specs.declared.graph.Op.{Op}
 use Rattle.vx_flow.specs.declared.graph.Op.TheVariants.{Compute, Place}
 use Rattle.vx_flow.specs.Operands.{with_operands}
+use Rattle.vx_flow.specs.Sound.{is_value}
 use Rattle.vx_claims.specs.declared.fact.Fact.{Fact}
 use Rattle.vx_claims.specs.declared.fact.Fact.TheVariants.{Between, Equals}
 use Rattle.vx_claims.specs.declared.access.Access.{Access}
 use Rattle.vx_claims.specs.declared.claim.Claim.{Claim}
-use Rattle.vx_claims.specs.Facts.{range_of, times_if, result_within, is_held, equals_if, lies_in, after, same_code, same_operand, found}
+use Rattle.vx_claims.specs.Facts.{range_of, times_if, result_within, equals_if, lies_in, after, same_code, same_operand, found}
 use Rattle.vx_claims.specs.Accesses.{accessed, with_words, place_known}
 
 -- whether the code is a move, into v
@@ -75,7 +76,7 @@ facts_if false fs = []
 
 abbrev pub said_unless : Bool → List Fact → Op → List Fact
 said_unless true fs op = []
-said_unless false fs (Compute code v a b) = lies_in v (result_within code (range_of fs a) (range_of fs b)) (facts_if (is_test code) (equals_if (is_held v a || is_held v b) v code a b))
+said_unless false fs (Compute code v a b) = lies_in v (result_within code (range_of fs a) (range_of fs b)) (facts_if (is_test code) (equals_if (is_value v a || is_value v b) v code a b))
 said_unless false fs (Place v a i) = lies_in v (times_if true (range_of fs i) (pos 4)) []
 said_unless false fs op = []
 

@@ -3,16 +3,17 @@
 use Rattle.std.specs.Prelude.{ℕ, zero, suc, Bool, true, false, ◌||◌, pos, List, [], ◌∷◌, ◌++◌}
 use Rattle.vx_flow.specs.declared.graph.Op.{Op}
 use Rattle.vx_flow.specs.declared.graph.Op.TheVariants.{Compute, Place, More}
+use Rattle.vx_flow.specs.Sound.{is_value}
 use Rattle.vx_claims.specs.declared.fact.Fact.{Fact}
 use Rattle.vx_claims.specs.declared.fact.Fact.TheVariants.{Between, Equals}
 use Rattle.vx_claims.specs.declared.access.Access.{Access}
-use Rattle.vx_claims.specs.Facts.{range_of, times_if, bit, result_within, is_held, equals_if, lies_in}
+use Rattle.vx_claims.specs.Facts.{range_of, times_if, bit, result_within, equals_if, lies_in}
 use Rattle.vx_claims.specs.Accesses.{place_known}
 use Rattle.vx_claims.specs.Forming.{same_form, said_unless}
 
 -- what an operation says of the value that it writes
 abbrev pub said_by : List Fact → Op → List Fact
-said_by fs (Compute code v a b) = lies_in v (result_within code (range_of fs a) (range_of fs b)) (equals_if (is_held v a || is_held v b) v code a b)
+said_by fs (Compute code v a b) = lies_in v (result_within code (range_of fs a) (range_of fs b)) (equals_if (is_value v a || is_value v b) v code a b)
 said_by fs (Place v a i) = lies_in v (times_if true (range_of fs i) (pos 4)) []
 said_by fs (More v) = lies_in v bit []
 said_by fs op = []

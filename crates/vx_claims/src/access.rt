@@ -6,13 +6,12 @@ ghost use Rattle.vx_claims.specs.Accesses.{accessed, is_told, loaded_as, mention
 
 use crate::fact::Fact;
 use crate::known::same_operand;
-use crate::learning::is_held;
 use std::alloc::Global;
 use vx_base::arithmetic::Code;
 use vx_base::listed::Listed;
 use vx_base::outcome::NoMemory;
 use vx_flow::graph::{ArrayId, Op, Operand, Value};
-use vx_flow::operands::written_by;
+use vx_flow::operands::{is_value, written_by};
 
 /// What is known of an array.
 #[derive(Clone, Copy)]
@@ -39,8 +38,8 @@ fn mentions(value: Value, access: Access) -> bool
             value: named,
             index,
             ..
-        } => named == value || is_held(value, index),
-        Access::Stored { place, from, .. } => is_held(value, place) || is_held(value, from),
+        } => named == value || is_value(value, &index),
+        Access::Stored { place, from, .. } => is_value(value, &place) || is_value(value, &from),
     }
 }
 
@@ -165,7 +164,7 @@ pub fn accessed(alloc: Global, known: &[Access], op: &Op) -> Result<Listed<Acces
         Op::Place { to, array, index } => append_unless(
             &mut behind,
             known,
-            is_held(to, index),
+            is_value(to, &index),
             Access::Placed {
                 value: to,
                 array,
@@ -181,7 +180,7 @@ pub fn accessed(alloc: Global, known: &[Access], op: &Op) -> Result<Listed<Acces
         } => append_unless(
             &mut behind,
             known,
-            is_held(to, place),
+            is_value(to, &place),
             Access::Stored {
                 array,
                 place,

@@ -1,7 +1,8 @@
 // Intervals of numbers of 32 bits: what operations give, and what a test says of its operands.
 
 ghost use Rattle.std.specs.Prelude.{◌≡◌, ◌+ℤ◌, ◌-ℤ◌, ◌*ℤ◌, ◌&&◌, int_le};
-ghost use Rattle.vx_claims.specs.Facts.{always, and_within, answer_of, below_unsigned, bit, compare_decided, difference_within, fitting, full, high_product_within, is_above, is_half, left_within, low_product_within, meet, one_less, one_more, opposite, product_if, remainder_within, result_within, right_within, shifted_within, sum_within, times_if, times_or_product, unequal_within, up_to, without_end};
+ghost use Rattle.vx_base.specs.Arithmetic.{opposite};
+ghost use Rattle.vx_claims.specs.Facts.{always, and_within, answer_of, below_unsigned, bit, compare_decided, difference_within, fitting, full, high_product_within, is_above, is_half, left_within, low_product_within, meet, one_less, one_more, product_if, remainder_within, result_within, right_within, shifted_within, sum_within, times_if, times_or_product, unequal_within, up_to, without_end};
 
 use vx_arithmetic::value;
 use vx_base::arithmetic::{Code, Compare};

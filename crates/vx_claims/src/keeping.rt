@@ -13,15 +13,13 @@ use crate::access::{Access, append_place};
 use crate::fact::Fact;
 use crate::intervals::{bit, result_within, times_if};
 use crate::known::range_of;
-use crate::learning::{
-    append_lies, append_newest, append_said_unless, is_held, names, same_form, without,
-};
+use crate::learning::{append_lies, append_newest, append_said_unless, names, same_form, without};
 use std::alloc::Global;
 use vx_base::arithmetic::Code;
 use vx_base::listed::Listed;
 use vx_base::outcome::NoMemory;
 use vx_flow::graph::{Op, Operand, Value};
-use vx_flow::operands::written_by;
+use vx_flow::operands::{is_value, written_by};
 
 /// How many facts on what operations give are kept.
 const MOST_EQUALS: usize = 64;
@@ -92,7 +90,7 @@ fn append_computed(
 {
     let within = result_within(code, range_of(facts, left), range_of(facts, right));
     append_lies(list, to, within)?;
-    if !(is_held(to, left) || is_held(to, right)) {
+    if !(is_value(to, &left) || is_value(to, &right)) {
         list.push(Fact::Equals {
             value: to,
             code,

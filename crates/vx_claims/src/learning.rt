@@ -1,9 +1,10 @@
 // What an operation leaves of a list of facts, and what the answer of a test adds to it.
 
 ghost use Rattle.std.specs.Prelude.{◌≡◌, ◌==◌, ◌||◌, ◌++◌, [], ◌∷◌, IfOk};
+ghost use Rattle.vx_flow.specs.Sound.{is_value};
 ghost use Rattle.vx_claims.specs.declared.fact.Fact.TheVariants.{Between};
 ghost use Rattle.vx_claims.specs.Forming.{facts_if, is_test, newest, said_unless, same_form};
-ghost use Rattle.vx_claims.specs.Facts.{came_out, compared, equals_if, is_full, is_held, learned, learned_if, lies_in, names, on_side, operand_between, without};
+ghost use Rattle.vx_claims.specs.Facts.{came_out, compared, equals_if, is_full, learned, learned_if, lies_in, names, on_side, operand_between, without};
 
 use crate::fact::Fact;
 use crate::intervals::{Interval, left_within, opposite, result_within, right_within, times_if};
@@ -13,16 +14,7 @@ use vx_base::arithmetic::{Code, Compare};
 use vx_base::listed::Listed;
 use vx_base::outcome::NoMemory;
 use vx_flow::graph::{Op, Operand, Value};
-
-pub fn is_held(value: Value, operand: Operand) -> bool
-    ensures { result ≡ is_held value operand }
-{
-    match operand {
-        Operand::Held(other) => other == value,
-        Operand::Number(_) => false,
-        Operand::Stack => false,
-    }
-}
+use vx_flow::operands::is_value;
 
 /// Whether a fact is about a value, or about an operation that reads it.
 pub fn names(value: Value, fact: Fact) -> bool
@@ -35,7 +27,7 @@ pub fn names(value: Value, fact: Fact) -> bool
             left,
             right,
             ..
-        } => named == value || (is_held(value, left) || is_held(value, right)),
+        } => named == value || (is_value(value, &left) || is_value(value, &right)),
     }
 }
 
@@ -131,9 +123,9 @@ fn append_test(
     left: Operand,
     right: Operand,
 ) -> Result<(), NoMemory>
-    ensures { IfOk result (λ _. list.new ≡ list.old ++ facts_if (is_test code) (equals_if (is_held to left || is_held to right) to code left right)) }
+    ensures { IfOk result (λ _. list.new ≡ list.old ++ facts_if (is_test code) (equals_if (is_value to left || is_value to right) to code left right)) }
 {
-    if is_test(code) && !(is_held(to, left) || is_held(to, right)) {
+    if is_test(code) && !(is_value(to, &left) || is_value(to, &right)) {
         list.push(Fact::Equals {
             value: to,
             code,

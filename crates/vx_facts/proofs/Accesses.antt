@@ -8,9 +8,10 @@ use Rattle.vx_flow.specs.declared.graph.Operand.TheVariants.{Held, Number, Stack
 use Rattle.vx_flow.specs.declared.graph.Op.{Op}
 use Rattle.vx_flow.specs.declared.graph.Op.TheVariants.{Compute, Select, Place, Load, Store, More, Input, Text, Decimal, Across}
 use Rattle.vx_flow.specs.Effects.{Content, State, Setting, held, computed, chosen, is_left, place_of, row_of, cell_in, cell_of, loaded, next_input, printed, text_at, with_value, with_cell, effect}
+use Rattle.vx_flow.specs.Sound.{is_value}
 use Rattle.vx_claims.specs.declared.access.Access.{Access}
 use Rattle.vx_claims.specs.declared.access.Access.TheVariants.{Placed, Stored}
-use Rattle.vx_claims.specs.Facts.{AllHold, is_held, same_operand}
+use Rattle.vx_claims.specs.Facts.{AllHold, same_operand}
 use Rattle.vx_claims.specs.Accesses.{HoldsWord, Tells, AllTell, SpotsDiffer, same_access, is_told, tell, mentions, unless, unmentioned, touches, untouched, accessed, value_if, first_or, place_in, held_if, word_in, moved_from, place_known}
 use Rattle.vx_facts.proofs.Ranges.{and_one, and_two}
 use Rattle.vx_facts.proofs.Equal.{operand_is}
@@ -37,14 +38,14 @@ module _ (setting : Setting) (s t : State) (rows : t.arrays ≡ s.arrays) (v : �
       let row : row_of t (setting.spot a) ≡ row_of s (setting.spot a) = ap (λ (r : List (List Content)). slice_index_or r (setting.spot a) []) rows in
       ap (λ (r : List Content). slice_index_or r i None) row ∙ h i (sym (cell_same a p e) ∙ c) ∙ sym q
 
-  held_other : (x : Operand) → is_held v x ≡ false → held t x ≡ held s x
+  held_other : (x : Operand) → is_value v x ≡ false → held t x ≡ held s x
   held_other (Held u) e = others u e
   held_other (Number n) e = refl
   held_other Stack e = refl
 
   tells_other : (x : Access) → mentions v x ≡ false → Tells setting s x → Tells setting t x
-  tells_other (Placed u a i) e h = others u (or_one (u == v) (is_held v i) e) ∙ h ∙ sym (ap place_of (held_other i (or_two (u == v) (is_held v i) e)))
-  tells_other (Stored a p x) e h = word_same a p x (held_other p (or_one (is_held v p) (is_held v x) e)) (held_other x (or_two (is_held v p) (is_held v x) e)) h
+  tells_other (Placed u a i) e h = others u (or_one (u == v) (is_value v i) e) ∙ h ∙ sym (ap place_of (held_other i (or_two (u == v) (is_value v i) e)))
+  tells_other (Stored a p x) e h = word_same a p x (held_other p (or_one (is_value v p) (is_value v x) e)) (held_other x (or_two (is_value v p) (is_value v x) e)) h
 
   unmentioned_tell : (xs : List Access) → AllTell setting s xs → AllTell setting t (unmentioned v xs)
   unmentioned_tell [] h = tt
@@ -63,28 +64,28 @@ module _ (setting : Setting) (s : State) (v : ℕ) (c : Content) where
   wrote_tell : (xs : List Access) → AllTell setting s xs → AllTell setting wrote (unmentioned v xs)
   wrote_tell xs h = unmentioned_tell setting s wrote refl v others_stay xs h
 
-  wrote_held : (x : Operand) → is_held v x ≡ false → held wrote x ≡ held s x
+  wrote_held : (x : Operand) → is_value v x ≡ false → held wrote x ≡ held s x
   wrote_held x e = held_other setting s wrote refl v others_stay x e
 
-  wrote_place : (a : ℕ) (i : Operand) → c ≡ place_of (held s i) → is_held v i ≡ false → Tells setting wrote (Placed v a i)
+  wrote_place : (a : ℕ) (i : Operand) → c ≡ place_of (held s i) → is_value v i ≡ false → Tells setting wrote (Placed v a i)
   wrote_place a i q e = wrote_it ∙ q ∙ sym (ap place_of (wrote_held i e))
 
-  wrote_word : (a : ℕ) (p : Operand) → ((j : ℕ) → cell_of setting s a p ≡ Some j → slice_index_or (row_of s (setting.spot a)) j None ≡ c) → is_held v p ≡ false → Tells setting wrote (Stored a p (Held v))
+  wrote_word : (a : ℕ) (p : Operand) → ((j : ℕ) → cell_of setting s a p ≡ Some j → slice_index_or (row_of s (setting.spot a)) j None ≡ c) → is_value v p ≡ false → Tells setting wrote (Stored a p (Held v))
   wrote_word a p h e j q = h j (sym (cell_same setting s wrote refl v others_stay a p (wrote_held p e)) ∙ q) ∙ sym wrote_it
 
 loaded_tell : (setting : Setting) (s t : State) (v a : ℕ) (p : Operand) (o : Option ℕ) (d : Bool) (xs : List Access) → AllTell setting s xs → cell_of setting s a p ≡ o → loaded s v (row_of s (setting.spot a)) o d ≡ Some t →
-    AllTell setting t (unless (is_held v p) (Stored a p (Held v)) (unmentioned v xs))
+    AllTell setting t (unless (is_value v p) (Stored a p (Held v)) (unmentioned v xs))
 loaded_tell setting s t v a p None true xs h q e =
-    subst (λ (u : State). AllTell setting u (unless (is_held v p) (Stored a p (Held v)) (unmentioned v xs))) (some_is (with_value s v None) t e)
-    (unless_tells setting (with_value s v None) (is_held v p) (Stored a p (Held v)) (unmentioned v xs) (wrote_word setting s v None a p (λ j r. absurd (none_some j (sym q ∙ r)))) (wrote_tell setting s v None xs h))
+    subst (λ (u : State). AllTell setting u (unless (is_value v p) (Stored a p (Held v)) (unmentioned v xs))) (some_is (with_value s v None) t e)
+    (unless_tells setting (with_value s v None) (is_value v p) (Stored a p (Held v)) (unmentioned v xs) (wrote_word setting s v None a p (λ j r. absurd (none_some j (sym q ∙ r)))) (wrote_tell setting s v None xs h))
   where
     none_some : (j : ℕ) → Option.None ≡ Some j → ⊥
     none_some j r = cc
 loaded_tell setting s t v a p None false xs h q e = absurd (cc)
 loaded_tell setting s t v a p (Some i) d xs h q e =
     let c : Content = slice_index_or (row_of s (setting.spot a)) i None in
-    subst (λ (u : State). AllTell setting u (unless (is_held v p) (Stored a p (Held v)) (unmentioned v xs))) (some_is (with_value s v c) t e)
-    (unless_tells setting (with_value s v c) (is_held v p) (Stored a p (Held v)) (unmentioned v xs)
+    subst (λ (u : State). AllTell setting u (unless (is_value v p) (Stored a p (Held v)) (unmentioned v xs))) (some_is (with_value s v c) t e)
+    (unless_tells setting (with_value s v c) (is_value v p) (Stored a p (Held v)) (unmentioned v xs)
     (wrote_word setting s v c a p (λ j r. ap (λ k. slice_index_or (row_of s (setting.spot a)) k None) (sym (some_is i j (sym q ∙ r)))))
     (wrote_tell setting s v c xs h))
 
@@ -138,8 +139,8 @@ accessed_tell setting differ s t (Compute code v a b) xs h e = written_tell sett
 accessed_tell setting differ s t (Select v p a b) xs h e = written_tell setting s t v (chosen (s.values p) (held s a) (held s b)) xs h e
 accessed_tell setting differ s t (Place v a i) xs h e =
     let c : Content = place_of (held s i) in
-    subst (λ (u : State). AllTell setting u (unless (is_held v i) (Placed v a i) (unmentioned v xs))) (some_is (with_value s v c) t e)
-    (unless_tells setting (with_value s v c) (is_held v i) (Placed v a i) (unmentioned v xs) (wrote_place setting s v c a i refl) (wrote_tell setting s v c xs h))
+    subst (λ (u : State). AllTell setting u (unless (is_value v i) (Placed v a i) (unmentioned v xs))) (some_is (with_value s v c) t e)
+    (unless_tells setting (with_value s v c) (is_value v i) (Placed v a i) (unmentioned v xs) (wrote_place setting s v c a i refl) (wrote_tell setting s v c xs h))
 accessed_tell setting differ s t (Load v a p d) xs h e = loaded_tell setting s t v a p (cell_of setting s a p) d xs h refl e
 accessed_tell setting differ s t (Store a p x) xs h e = stored_tell setting differ s t a p x e xs h
 accessed_tell setting differ s t (More v) xs h e = written_tell setting s t v (Some (one_if (is_left s.input))) xs h e

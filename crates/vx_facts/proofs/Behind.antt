@@ -6,12 +6,13 @@ use Rattle.vx_flow.specs.declared.graph.Operand.TheVariants.{Number}
 use Rattle.vx_flow.specs.declared.graph.Op.{Op}
 use Rattle.vx_flow.specs.declared.graph.Op.TheVariants.{Compute, Place, Load}
 use Rattle.vx_flow.specs.Effects.{Content, State, Setting, held, row_of, cell_of, loaded, with_value, effect}
+use Rattle.vx_flow.specs.Sound.{is_value}
 use Rattle.vx_claims.specs.declared.intervals.Interval.{Interval}
 use Rattle.vx_claims.specs.declared.access.Access.{Access}
 use Rattle.vx_claims.specs.declared.claim.Claim.{Claim}
 use Rattle.vx_claims.specs.declared.fact.Fact.{Fact}
 use Rattle.vx_claims.specs.declared.fact.Fact.TheVariants.{Between, Equals}
-use Rattle.vx_claims.specs.Facts.{full, Within, AllHold, range_of, times_if, result_within, is_held, without, equals_if, is_full, between_unless, after}
+use Rattle.vx_claims.specs.Facts.{full, Within, AllHold, range_of, times_if, result_within, without, equals_if, is_full, between_unless, after}
 use Rattle.vx_facts.specs.Checking.{has_numbers}
 use Rattle.vx_claims.specs.Accesses.{HoldsWord, AllTell, SpotsDiffer, accessed, word_in, moved_or, with_words, place_known}
 use Rattle.vx_claims.specs.Forming.{formed, form, same_form, is_test, facts_if, said_unless, most_equals, newest, after_known}
@@ -73,7 +74,7 @@ said_holds : (values : ℕ → Content) (t : Bool) (fs : List Fact) (op : Op) �
 said_holds values true fs op h = tt
 said_holds values false fs (Compute code v a b) h =
     let i = result_within code (range_of fs a) (range_of fs b) in
-    let equals = equals_if (is_held v a || is_held v b) v code a b in
+    let equals = equals_if (is_value v a || is_value v b) v code a b in
     let rest : AllHold values (equals ++ without v fs) = lie_rest values (is_full i) v i (equals ++ without v fs) h in
     lie_other values (is_full i) v i (equals ++ without v fs) (facts_if (is_test code) equals) h (facts_hold_if values (is_test code) equals (first_hold values equals (without v fs) rest))
 said_holds values false fs (Place v a i) h = let j = times_if true (range_of fs i) (pos 4) in lie_other values (is_full j) v j (without v fs) [] h tt

@@ -9,10 +9,11 @@ use Rattle.vx_flow.specs.declared.graph.Operand.TheVariants.{Held, Number, Stack
 use Rattle.vx_flow.specs.declared.graph.Op.{Op}
 use Rattle.vx_flow.specs.declared.graph.Op.TheVariants.{Compute, Select, Place, Load, Store, More, Input, Text, Decimal, Across}
 use Rattle.vx_flow.specs.Effects.{Content, State, Setting, held, computed, chosen, is_one, is_left, place_of, row_of, cell_of, loaded, stored, next_input, printed, with_value, effect}
+use Rattle.vx_flow.specs.Sound.{is_value}
 use Rattle.vx_claims.specs.declared.intervals.Interval.{Interval}
 use Rattle.vx_claims.specs.declared.fact.Fact.{Fact}
 use Rattle.vx_claims.specs.declared.fact.Fact.TheVariants.{Between, Equals}
-use Rattle.vx_claims.specs.Facts.{least, greatest, full, Within, content, Holds, AllHold, range_of, times_if, bit, result_within, is_held, names, kept_if, without, equals_if, is_full, between_unless, lies_in, after}
+use Rattle.vx_claims.specs.Facts.{least, greatest, full, Within, content, Holds, AllHold, range_of, times_if, bit, result_within, names, kept_if, without, equals_if, is_full, between_unless, lies_in, after}
 use Rattle.vx_facts.specs.Checking.{is_number, has_number, has_numbers}
 use Rattle.vx_facts.proofs.Ranges.{number_within, and_one, and_two, le_holds, Fit, computed_fits, range_of_holds, bit_holds, times_holds, computed_holds}
 use Rattle.std.proofs.Math.IntN.{*ℤ_comm}
@@ -94,7 +95,7 @@ module _ (values : ℕ → Content) (v : ℕ) (x : Content) where
   itself : written v x values v ≡ x
   itself = let e : (v == v) ≡ true = eq-eqb v v refl in ap (λ t. cond t x (values v)) e
 
-  content_other : (a : Operand) → is_held v a ≡ false → content (written v x values) a ≡ content values a
+  content_other : (a : Operand) → is_value v a ≡ false → content (written v x values) a ≡ content values a
   content_other (Held u) e = other u e
   content_other (Number n) e = refl
   content_other Stack e = refl
@@ -102,9 +103,9 @@ module _ (values : ℕ → Content) (v : ℕ) (x : Content) where
   other_holds : (f : Fact) → names v f ≡ false → Holds values f → Holds (written v x values) f
   other_holds (Between u i) e h = subst (Within i) (sym (other u e)) h
   other_holds (Equals u code a b) e h =
-      let e1 = or_one (u == v) (is_held v a || is_held v b) e in
-      let e2 = or_two (u == v) (is_held v a || is_held v b) e in
-      other u e1 ∙ h ∙ sym (ap (λ c. computed code c (content (written v x values) b)) (content_other a (or_one (is_held v a) (is_held v b) e2)) ∙ ap (λ c. computed code (content values a) c) (content_other b (or_two (is_held v a) (is_held v b) e2)))
+      let e1 = or_one (u == v) (is_value v a || is_value v b) e in
+      let e2 = or_two (u == v) (is_value v a || is_value v b) e in
+      other u e1 ∙ h ∙ sym (ap (λ c. computed code c (content (written v x values) b)) (content_other a (or_one (is_value v a) (is_value v b) e2)) ∙ ap (λ c. computed code (content values a) c) (content_other b (or_two (is_value v a) (is_value v b) e2)))
 
   kept_holds : (t : Bool) (f : Fact) (fs : List Fact) → (t ≡ false → Holds (written v x values) f) → AllHold (written v x values) fs → AllHold (written v x values) (kept_if t f fs)
   kept_holds true f fs h k = k
@@ -118,9 +119,9 @@ module _ (values : ℕ → Content) (v : ℕ) (x : Content) where
   equals_holds true code a b h = tt
   equals_holds false code a b h = (h refl, tt)
 
-  new_equals : (code : Code) (a b : Operand) → x ≡ computed code (content values a) (content values b) → (is_held v a || is_held v b) ≡ false → Holds (written v x values) (Equals v code a b)
+  new_equals : (code : Code) (a b : Operand) → x ≡ computed code (content values a) (content values b) → (is_value v a || is_value v b) ≡ false → Holds (written v x values) (Equals v code a b)
   new_equals code a b h e =
-      itself ∙ h ∙ sym (ap (λ c. computed code c (content (written v x values) b)) (content_other a (or_one (is_held v a) (is_held v b) e)) ∙ ap (λ c. computed code (content values a) c) (content_other b (or_two (is_held v a) (is_held v b) e)))
+      itself ∙ h ∙ sym (ap (λ c. computed code c (content (written v x values) b)) (content_other a (or_one (is_value v a) (is_value v b) e)) ∙ ap (λ c. computed code (content values a) c) (content_other b (or_two (is_value v a) (is_value v b) e)))
 
   new_between : (i : Interval) → Within i x → Within i (written v x values v)
   new_between i h = subst (Within i) (sym itself) h
@@ -140,12 +141,12 @@ module _ (values : ℕ → Content) (v : ℕ) (x : Content) where
       by false = (new_between i h, k)
 
   pub computed_new : (fs : List Fact) (code : Code) (a b : Operand) → Fit values → AllHold values fs → Within full (content values a) → Within full (content values b) → x ≡ computed code (content values a) (content values b) →
-      AllHold (written v x values) (lies_in v (result_within code (range_of fs a) (range_of fs b)) (equals_if (is_held v a || is_held v b) v code a b ++ without v fs))
+      AllHold (written v x values) (lies_in v (result_within code (range_of fs a) (range_of fs b)) (equals_if (is_value v a || is_value v b) v code a b ++ without v fs))
   computed_new fs code a b fit h p q e =
-      lies_hold (result_within code (range_of fs a) (range_of fs b)) (equals_if (is_held v a || is_held v b) v code a b ++ without v fs)
+      lies_hold (result_within code (range_of fs a) (range_of fs b)) (equals_if (is_value v a || is_value v b) v code a b ++ without v fs)
       (subst (Within (result_within code (range_of fs a) (range_of fs b))) (sym e)
       (computed_holds code (range_of fs a) (range_of fs b) (content values a) (content values b) (range_of_holds values fs a fit h) (range_of_holds values fs b fit h) p q))
-      (append_holds (written v x values) (equals_if (is_held v a || is_held v b) v code a b) (without v fs) (equals_holds (is_held v a || is_held v b) code a b (new_equals code a b e)) (without_holds fs h))
+      (append_holds (written v x values) (equals_if (is_value v a || is_value v b) v code a b) (without v fs) (equals_holds (is_value v a || is_value v b) code a b (new_equals code a b e)) (without_holds fs h))
 
 -- ---- states
 

@@ -4,33 +4,23 @@ use Rattle.std.specs.Ordering.{int_eq}
 use Rattle.std.proofs.lemmas.Int.{ints}
 use Rattle.std.proofs.lemmas.Bool.{eqb-true}
 use mathlib.Core.Bool.{true≢false}
-use Rattle.vx_base.specs.Arithmetic.{IsNumber, one_if, compare_of}
+use Rattle.vx_base.specs.Arithmetic.{opposite, IsNumber, one_if, compare_of}
 use Rattle.vx_base.specs.declared.arithmetic.Compare.{Compare}
 use Rattle.vx_base.specs.declared.arithmetic.Compare.TheVariants.{Eq, Ne, Lt, Le, Gt, Ge, Ltu, Geu}
 use Rattle.vx_base.specs.declared.arithmetic.Code.{Code}
 use Rattle.vx_base.specs.declared.arithmetic.Code.TheVariants.{Add, Sub, And, Or, Xor, Shl, Shr, Shru, Sh2add, Max, Min, Mov, ToGeneral, ToBranch, Mpylu, Mpyhs, Div, Rem}
-use Rattle.vx_base.proofs.ArithmeticLaws.{opposite as opposite_there, compare_of-opposite, index_check_law, equal-true, equal-same}
+use Rattle.vx_base.proofs.ArithmeticLaws.{compare_of-opposite, index_check_law, equal-true, equal-same}
 use Rattle.vx_flow.specs.declared.graph.Operand.{Operand}
 use Rattle.vx_flow.specs.declared.graph.Operand.TheVariants.{Held, Number, Stack}
 use Rattle.vx_flow.specs.Effects.{Content, both, computed, is_one}
 use Rattle.vx_claims.specs.declared.intervals.Interval.{Interval}
 use Rattle.vx_claims.specs.declared.fact.Fact.{Fact}
 use Rattle.vx_claims.specs.declared.fact.Fact.TheVariants.{Between, Equals}
-use Rattle.vx_claims.specs.Facts.{least, greatest, full, Within, content, AllHold, range_of, opposite, is_above, one_less, one_more, below_unsigned, without_end, unequal_within, left_within, right_within, operand_between, compared, came_out, learned_if, learned, on_side, always, answer_of, compare_decided, first_of, decided_if, decided_by, decided}
+use Rattle.vx_claims.specs.Facts.{least, greatest, full, Within, content, AllHold, range_of, is_above, one_less, one_more, below_unsigned, without_end, unequal_within, left_within, right_within, operand_between, compared, came_out, learned_if, learned, on_side, always, answer_of, compare_decided, first_of, decided_if, decided_by, decided}
 use Rattle.vx_facts.proofs.Ranges.{and_one, and_two, le_holds, lt_holds, within_number, Fit, range_of_holds, above_holds}
 
-opposite_is : (c : Compare) → opposite c ≡ opposite_there c
-opposite_is Eq = refl
-opposite_is Ne = refl
-opposite_is Lt = refl
-opposite_is Le = refl
-opposite_is Gt = refl
-opposite_is Ge = refl
-opposite_is Ltu = refl
-opposite_is Geu = refl
-
 opposite_comes : (c : Compare) (x y : ℤ) → compare_of (opposite c) x y ≡ not (compare_of c x y)
-opposite_comes c x y = ap (λ d. compare_of d x y) (opposite_is c) ∙ compare_of-opposite c x y
+opposite_comes c x y = compare_of-opposite c x y
 
 opposite_holds : (c : Compare) (x y : ℤ) → compare_of c x y ≡ false → compare_of (opposite c) x y ≡ true
 opposite_holds c x y e = opposite_comes c x y ∙ ap not e

@@ -113,3 +113,9 @@ is_observable (Input v) = true
 is_observable (Text n) = true
 is_observable (Decimal x) = true
 is_observable op = false
+
+-- the value that an operation writes on cluster 0 alone, if any: a choice's, whether input is left, the number read
+
+abbrev pub binds : Op → Option ℕ
+binds (Select v p a b) = Some v
+binds op = if is_observable op then written_by op else None

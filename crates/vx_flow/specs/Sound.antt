@@ -253,6 +253,12 @@ targets_of (Call g arguments result next) = next ∷ []
 targets_of (Return x) = []
 targets_of (Ends k) = []
 
+-- an edge leads from one block to the other
+pub record Leads (blocks : List Block) (from to : ℕ) : Type 0 where
+  pub block : Block
+  pub has : slice_get blocks from ≡ Some block
+  pub leads : IsIn to (targets_of block.exit)
+
 abbrev pub arrays_of : Op → List ℕ
 arrays_of (Place v a i) = a ∷ []
 arrays_of (Load v a p dismissible) = a ∷ []

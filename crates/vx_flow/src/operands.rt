@@ -3,7 +3,8 @@
 
 ghost use Rattle.std.specs.Prelude.{◌≡◌, ◌++◌, IfOk};
 ghost use Rattle.vx_flow.specs.Effects.{dismissed, is_unary, reads, value_in};
-ghost use Rattle.vx_flow.specs.Operands.{first_operand, held_by, is_observable, read_by, reads_three, second_operand, value_list, values_read, with_two, written_by};
+ghost use Rattle.vx_flow.specs.Operands.{binds, first_operand, held_by, is_observable, read_by, reads_three, second_operand, value_list, values_read, with_two, written_by};
+ghost use Rattle.vx_flow.specs.Sound.{is_value};
 
 use crate::graph::{Op, Operand, Value};
 use vx_base::arithmetic::Code;
@@ -224,6 +225,32 @@ pub fn is_observable(op: &Op) -> bool
 {
     match op {
         Op::More { .. } | Op::Input { .. } | Op::Text { .. } | Op::Decimal { .. } => true,
+        _ => false,
+    }
+}
+
+/// The value that an operation writes on cluster 0 alone, if any: a choice's, whether input is left, the number read.
+pub fn binds(op: &Op) -> Option<Value>
+    ensures { result ≡ binds op.now }
+{
+    match op {
+        Op::Select { to, .. } => Some(*to),
+        _ => {
+            if is_observable(op) {
+                written_by(op)
+            } else {
+                None
+            }
+        }
+    }
+}
+
+/// Whether an operand holds the value.
+pub fn is_value(value: Value, operand: &Operand) -> bool
+    ensures { result ≡ is_value value operand.now }
+{
+    match operand {
+        Operand::Held(held) => *held == value,
         _ => false,
     }
 }

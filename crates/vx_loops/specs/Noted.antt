@@ -11,11 +11,11 @@ use Rattle.vx_flow.specs.declared.graph.Exit.TheVariants.{Call}
 use Rattle.vx_flow.specs.declared.graph.Block.{Block}
 use Rattle.vx_flow.specs.declared.graph.Graph.{Graph}
 use Rattle.vx_flow.specs.Effects.{IsIn, writes}
-use Rattle.vx_flow.specs.Sound.{results_of_exit}
+use Rattle.vx_flow.specs.Sound.{Leads, results_of_exit}
 use Rattle.vx_flow.specs.Rows.{row_at}
 use Rattle.vx_loops.specs.declared.notes.Loops.{Loops}
 use Rattle.vx_loops.specs.Order.{times_in}
-use Rattle.vx_loops.specs.Path.{all_targets, Leads}
+use Rattle.vx_loops.specs.Path.{all_targets}
 
 -- what the notes say
 

@@ -4,13 +4,7 @@ use Rattle.std.specs.List.{flat_map}
 use Rattle.vx_flow.specs.declared.graph.Block.{Block}
 use Rattle.vx_flow.specs.declared.graph.Exit.TheVariants.{Goto}
 use Rattle.vx_flow.specs.Effects.{IsIn}
-use Rattle.vx_flow.specs.Sound.{targets_of}
-
--- an edge leads from one block to the other
-pub record Leads (blocks : List Block) (from to : ℕ) : Type 0 where
-  pub block : Block
-  pub there : slice_get blocks from ≡ Some block
-  pub leads : IsIn to (targets_of block.exit)
+use Rattle.vx_flow.specs.Sound.{Leads, targets_of}
 
 -- a list of blocks from the first to the last, where an edge leads from each to the next
 pub data Way (blocks : List Block) (first : ℕ) : ℕ → List ℕ → Type 0 where

@@ -7,7 +7,8 @@ ghost use Rattle.vx_flow.specs.Rows.{row_at};
 ghost use Rattle.vx_flow.specs.Effects.{IsIn};
 ghost use Rattle.vx_flow.specs.Sound.{targets_of};
 ghost use Rattle.vx_loops.specs.Noted.{Gains, LooksAt, Notes, NotesOf, SourcesOf, TablesOf};
-ghost use Rattle.vx_loops.specs.Path.{EachFrom, HasWay, Jumps, Leads};
+ghost use Rattle.vx_flow.specs.Sound.{Leads};
+ghost use Rattle.vx_loops.specs.Path.{EachFrom, HasWay, Jumps};
 
 use crate::notes::Loops;
 use crate::ordering::order_of;
@@ -25,15 +26,12 @@ pub fn loops_of(alloc: Global, graph: &Graph) -> Result<Loops, NoMemory>
     ensures nothing { IfOk result (λ loops. Notes [] [] [] false loops) }
     ensures number { IfOk result (λ loops. loops.number ≡ 0) }
 {
-    let count = graph.blocks.len();
-    let blocks = graph.blocks.as_slice();
-    let order = order_of(alloc, blocks)?;
-    let ranks = ranks_of(alloc, order.as_slice(), count)?;
-    let sources = sources_of(alloc, blocks)?;
-    let members = vec![in alloc; usize::MAX; count]?;
+    let ranks = ranks_of(alloc, graph.blocks.as_slice())?;
+    let members = vec![in alloc; usize::MAX; graph.blocks.len()]?;
     let writers = vec![in alloc; usize::MAX; graph.banks.len()]?;
     let times = vec![in alloc; 0u32; graph.banks.len()]?;
     let stores = vec![in alloc; usize::MAX; graph.arrays.len()]?;
+    let sources = sources_of(alloc, graph.blocks.as_slice())?;
     Ok(Loops {
         ranks,
         sources,
@@ -46,8 +44,10 @@ pub fn loops_of(alloc: Global, graph: &Graph) -> Result<Loops, NoMemory>
     })
 }
 
-fn ranks_of(alloc: Global, order: &[BlockId], blocks: usize) -> Result<Vec<usize>, NoMemory> {
-    let mut ranks = vec![in alloc; usize::MAX; blocks]?;
+/// The place of each block in the order.
+fn ranks_of(alloc: Global, blocks: &[Block]) -> Result<Vec<usize>, NoMemory> {
+    let order = order_of(alloc, blocks)?;
+    let mut ranks = vec![in alloc; usize::MAX; blocks.len()]?;
     for (rank, block) in order.iter().enumerate() {
         if (*block as usize) < ranks.len() {
             ranks[*block as usize] = rank;

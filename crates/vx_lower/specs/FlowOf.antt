@@ -14,7 +14,7 @@ use Rattle.vx_flow.specs.declared.graph.Graph.{Graph}
 use Rattle.vx_flow.specs.declared.graph.Flow.{Flow}
 use Rattle.vx_flow.specs.Effects.{IsIn}
 use Rattle.vx_flow.specs.Meaning.{graph_run}
-use Rattle.vx_flow.specs.Sound.{targets_of, is_sound_flow}
+use Rattle.vx_flow.specs.Sound.{Leads, is_sound_flow}
 
 -- numbers of 32 bits
 abbrev pub AreNumbers : List ℤ → Type 0
@@ -27,10 +27,8 @@ pub record EndsBy (g : Graph) (b : ℕ) (trap : Trap) : Type 0 where
   pub ends : block.exit ≡ Ends trap
 
 -- an edge from block b to block c
-pub record IsEdge (g : Graph) (b c : ℕ) : Type 0 where
-  pub block : Block
-  pub has : slice_get g.blocks b ≡ Some block
-  pub leads : IsIn c (targets_of block.exit)
+abbrev pub IsEdge : Graph → (b c : ℕ) → Type 0
+IsEdge g b c = Leads g.blocks b c
 
 abbrev pub is_general : Bank → Bool
 is_general General = true

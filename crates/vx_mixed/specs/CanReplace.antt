@@ -6,12 +6,11 @@ use Rattle.vx_flow.specs.declared.trace.TraceOp.TheVariants.{Plain}
 use Rattle.vx_flow.specs.declared.trace.Join.{Join}
 use Rattle.vx_flow.specs.declared.trace.Trace.{Trace}
 use Rattle.vx_flow.specs.Effects.{IsIn, writes}
-use Rattle.vx_flow.specs.Operands.{is_observable}
+use Rattle.vx_flow.specs.Operands.{binds, is_observable}
 use Rattle.vx_flow.specs.Sound.{arrays_of}
 use Rattle.vx_mixed.specs.declared.region.Made.{Made}
 use Rattle.vx_mixed.specs.declared.mixed.MixedGraph.{MixedGraph}
 use Rattle.vx_mixed.specs.TraceItems.{splits_of}
-use Rattle.vx_mixed.specs.FromGraph.{binds}
 use Rattle.vx_mixed.specs.Next.{Replacement, is_split_edge, next_mixed}
 use Rattle.vx_mixed.specs.Settled.{HomesStay, StandsOn, has_home, home_of, read_there}
 use Rattle.vx_mixed.specs.TraceOf.{CanTrace, IsTraceOf}

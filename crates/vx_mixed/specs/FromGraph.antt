@@ -4,9 +4,8 @@ use Rattle.std.specs.List.{list_any}
 use Rattle.vx_flow.specs.declared.graph.Block.{Block}
 use Rattle.vx_flow.specs.declared.graph.Edge.{Edge}
 use Rattle.vx_flow.specs.declared.graph.Op.{Op}
-use Rattle.vx_flow.specs.declared.graph.Op.TheVariants.{Select}
 use Rattle.vx_flow.specs.declared.graph.Graph.{Graph}
-use Rattle.vx_flow.specs.Operands.{is_observable, written_by}
+use Rattle.vx_flow.specs.Operands.{binds}
 use Rattle.vx_flow.specs.Walk.{BackEdges, Headers}
 use Rattle.vx_mixed.specs.declared.region.Node.{Node}
 use Rattle.vx_mixed.specs.declared.region.Node.TheVariants.{Unused}
@@ -24,10 +23,6 @@ pub record OfGraph (graph : Graph) (m : MixedGraph) : Type 0 where
   pub arrays : m.arrays ≡ graph.arrays
 
 -- The values that stand on cluster 0 from the start: what a choice by a branch value writes, and what comes from the input.
-
-abbrev pub binds : Op → Option ℕ
-binds (Select v p a b) = Some v
-binds op = if is_observable op then written_by op else None
 
 abbrev pub is_some_of : Option ℕ → ℕ → Bool
 is_some_of None v = false

@@ -10,7 +10,7 @@ use Rattle.vx_flow.specs.declared.graph.Op.{Op}
 use Rattle.vx_flow.specs.declared.graph.Op.TheVariants.{Across}
 use Rattle.vx_flow.specs.Effects.{IsIn, reads, writes}
 use Rattle.vx_flow.specs.Live.{reads_of_exit}
-use Rattle.vx_flow.specs.Sound.{targets_of, results_of_exit}
+use Rattle.vx_flow.specs.Sound.{Leads, results_of_exit}
 use Rattle.vx_mixed.specs.declared.region.Item.{Item}
 use Rattle.vx_mixed.specs.declared.region.Item.TheVariants.{Plain, Split}
 use Rattle.vx_mixed.specs.declared.region.Node.{Node}
@@ -97,10 +97,8 @@ pub record Valid (m : MixedGraph) : Type 0 where
   pub away : (v u : ℕ) → IsOp m (Across v u) → (u < length m.banks) × (k : ℕ) × (has_home m.homes.clusters u ≡ Some k) × (home_of m v ≢ Some k)
 
 -- an edge of a graph of blocks
-pub record IsGraphEdge (graph : Graph) (e : Edge) : Type 0 where
-  pub block : Block
-  pub has : slice_get graph.blocks e.from ≡ Some block
-  pub leads : IsIn e.to (targets_of block.exit)
+abbrev pub IsGraphEdge : Graph → Edge → Type 0
+IsGraphEdge graph e = Leads graph.blocks e.from e.to
 
 -- what a sound graph has besides, from which a graph of blocks and regions begins
 pub record CanBegin (graph : Graph) : Type 0 where

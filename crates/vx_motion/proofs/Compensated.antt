@@ -1,85 +1,53 @@
 -- A compensated placement keeps the meaning, tidy and settled.
-use Rattle.std.proofs.Common.{◌≡◌, ◌≢◌, ℕ, zero, suc, ◌+◌, ◌-◌, ◌<◌, ◌≤◌, Bool, true, false, ◌&&◌, Option, Some, None, List, [], ◌∷◌, ◌++◌, cond, length, map, drop, slice_get, slice_index_or, refl, sym, ap, ◌∙◌, subst, ⊎_elim, inl, inr, arith}
+use Rattle.std.proofs.Common.{◌≡◌, ◌≢◌, ℕ, suc, ◌+◌, ◌-◌, ◌<◌, Bool, true, false, ◌&&◌, Option, Some, None, List, [], ◌∷◌, ◌++◌, length, map, drop, slice_get, refl, sym, ap, ◌∙◌, subst, ⊎_elim, inl, inr, arith}
 use Rattle.std.specs.Prelude.{◌⊎◌, ◌==◌, not, nat_lt, if◌then◌else◌}
 use Rattle.std.specs.List.{list_any}
-use Rattle.std.proofs.lemmas.Bool.{and_parts, or_cases, eqb-true, eq-eqb, ne_eqb, le-ltb, cases_Bool, cases_eq, cases_lt}
-use Rattle.std.proofs.lemmas.List.{length-map}
+use Rattle.std.proofs.lemmas.Bool.{and_parts, or_cases, eqb-true, eq-eqb, ne_eqb, le-ltb, cases_Bool, cases_eq}
 use Rattle.vx_flow.specs.declared.graph.Block.{Block}
 use Rattle.vx_flow.specs.declared.graph.Edge.{Edge}
 use Rattle.vx_flow.specs.declared.graph.Op.{Op}
-use Rattle.vx_flow.specs.declared.graph.Op.TheVariants.{Load}
-use Rattle.vx_flow.specs.declared.graph.Operand.{Operand}
 use Rattle.vx_flow.specs.declared.trace.TraceOp.TheVariants.{Split as TraceSplit}
 use Rattle.vx_flow.specs.declared.trace.Join.{Join}
 use Rattle.vx_flow.specs.Effects.{IsIn}
 use Rattle.vx_flow.specs.Sound.{targets_of}
-use Rattle.vx_flow.specs.Walk.{edge, numbers}
+use Rattle.vx_flow.specs.Walk.{edge}
 use Rattle.vx_flow.proofs.SoundLists.{any_in, any_of}
 use Rattle.vx_flow.proofs.IndexSteps.{get_below}
 use Rattle.vx_mixed.specs.declared.region.Item.{Item}
-use Rattle.vx_mixed.specs.declared.region.Item.TheVariants.{Plain, Split}
+use Rattle.vx_mixed.specs.declared.region.Item.TheVariants.{Split}
 use Rattle.vx_mixed.specs.declared.region.Made.{Made}
 use Rattle.vx_mixed.specs.declared.region.Node.{Node}
 use Rattle.vx_mixed.specs.declared.region.Node.TheVariants.{Unused, Enters, Inner}
 use Rattle.vx_mixed.specs.declared.region.Origin.{Origin}
 use Rattle.vx_mixed.specs.declared.region.Region.{Region}
 use Rattle.vx_mixed.specs.declared.mixed.MixedGraph.{MixedGraph}
-use Rattle.vx_mixed.specs.Alive.{AfterItem}
-use Rattle.vx_motion.specs.Trace.{AfterOf, nth}
+use Rattle.vx_motion.specs.Trace.{nth}
 use Rattle.vx_mixed.specs.Edges.{IsEdge, of_block, of_split, of_last}
-use Rattle.vx_motion.specs.Facts.{IsSplit, places, row, words_from, ops_of, copies}
-use Rattle.vx_mixed.specs.Live.{item_writes}
+use Rattle.vx_motion.specs.Facts.{copies}
 use Rattle.vx_mixed.specs.Path.{Path}
-use Rattle.vx_motion.specs.Rows.{Row, reads_last, writes_too, writes_read, store_access, load_store, observables, two_splits, split_held, below_join, split_live, Meets, Placed}
 use Rattle.vx_mixed.specs.Settled.{InTime, IsStart, block, region, made_at_split}
 use Rattle.vx_motion.specs.Unchanged.{Outside, block as as_block, region as as_region}
-use Rattle.vx_mixed.specs.Way.{item_latency, Renamed, LeadsIn, LeadsOut, at_once}
+use Rattle.vx_mixed.specs.Way.{Renamed, LeadsIn, LeadsOut, at_once}
 use Rattle.vx_mixed.specs.declared.replacement.Replacement.{Replacement}
-use Rattle.vx_mixed.specs.Next.{made_on, in_word, placed, last_of, exit_in, is_split_edge, rejoin_at, entered_at, renamed_exit, renamed_region, renamed_node, new_region, trace_node, made_origin, on_edge}
+use Rattle.vx_mixed.specs.Next.{made_on, last_of, exit_in, is_split_edge, rejoin_at, entered_at, renamed_exit, renamed_region, renamed_node, new_region, trace_node, made_origin, on_edge}
 use Rattle.vx_mixed.specs.TraceOf.{trace_ops, inner_edges}
 use Rattle.vx_mixed.specs.Valid.{Valid, is_entrance, is_in_region}
 use Rattle.vx_mixed.specs.Entrances.{stays, joined_at}
 use Rattle.vx_motion.specs.Scheduled.{JoinEdge, Scheduled}
-use Rattle.vx_motion.specs.Compensation.{items, word, mark, live_of, is_join_place, blocks_from, exit_of, Compensated, CompensationLaw}
+use Rattle.vx_motion.specs.Compensation.{items, word, mark, is_join_place, blocks_from, exit_of, Compensated, CompensationLaw}
 use Rattle.vx_mixed.specs.TraceItems.{plain_items}
 use Rattle.vx_mixed.proofs.Alike.{in_or}
-use Rattle.vx_motion.proofs.Delays.{nth_past}
 use Rattle.vx_mixed.proofs.PathOf.{Ways, ways_behind, path_of}
-use Rattle.vx_motion.proofs.PlacedWords.{length_items, row_is, words_are, numbers_many, marked_at, freed_at, split_at, split_placed}
+use Rattle.vx_motion.proofs.PlacedWords.{length_items, split_at, split_placed}
 use Rattle.vx_mixed.proofs.NewNodes.{made_some, made_here, node_old, node_new, origin_old, origin_made, front_get, map_get}
 use Rattle.vx_mixed.proofs.TraceFacts.{is_split, last_none, last_among}
-use Rattle.vx_mixed.proofs.Linked.{Linkable, some_blocks, in_index, index_in, in_edge, New, To, MeetOld, MeetNew, Pairs, InnerEdge, can, meets_not, meets, pair_stays, pair_joined, unused, no_region, edge_block, in_plain, off_trace, Joins, joins, some_edge, at_end, leads_out, first_node, leads_in, exit_renamed, from_outside, arrives}
+use Rattle.vx_mixed.proofs.Linked.{some_blocks, in_index, index_in, in_edge, New, To, MeetOld, MeetNew, Pairs, InnerEdge, can, meets_not, meets, pair_stays, pair_joined, unused, no_region, edge_block, off_trace, Joins, joins, some_edge, at_end, leads_out, first_node, leads_in, exit_renamed, from_outside, arrives}
 use Rattle.vx_motion.proofs.Scheduled.{motion}
-
-there : (xs : List ℕ) (k d : ℕ) → k < length xs → (w : ℕ) × (slice_get xs k ≡ Some w) × (slice_index_or xs k d ≡ w)
-there [] k d lt = absurd (omega arith)
-there (x ∷ xs) zero d lt = (x, refl, refl)
-there (x ∷ xs) (suc k) d lt = there xs k d (omega arith)
-
-not_there : (xs : List ℕ) (k d : ℕ) → length xs ≤ k → slice_index_or xs k d ≡ d
-not_there [] k d le = refl
-not_there (x ∷ xs) zero d le = absurd (omega arith)
-not_there (x ∷ xs) (suc k) d le = not_there xs k d (omega arith)
-
-no_copies : (chosen : ℕ → Bool) (put : ℕ → Item) → ((k : ℕ) → chosen k ≡ false) → (n k : ℕ) → copies chosen put k n ≡ []
-no_copies chosen put none zero k = refl
-no_copies chosen put none (suc n) k = ap (λ b. cond b (ops_of (put k)) [] ++ copies chosen put (suc k) n) (none k) ∙ no_copies chosen put none n (suc k)
+use Rattle.vx_motion.proofs.Joins.{no_copies}
+use Rattle.vx_motion.proofs.Replacements.{linkable, words_are_rows, is_placed, is_met}
 
 none_any : (b : ℕ) (xs : List ℕ) → (IsIn b xs → ⊥) → list_any (λ x. x == b) xs ≡ false
 none_any b xs n = ⊎_elim (λ t. let f = any_in (λ x. x == b) xs t in absurd (n (subst (λ z. IsIn z xs) (eqb-true f.item b f.holds) f.has))) (λ f. f) (cases_Bool (list_any (λ x. x == b) xs))
-
--- a row of the table where other values count as live
-row_moved : (is : List Item) (latency : Item → ℕ) (live live' : ℕ → ℕ → Type 0) (never : ℕ → ℕ → Bool) (joins : ℕ → Bool) (i j d : ℕ) → ((v : ℕ) → live i v → live' i v) → Row is latency live never joins i j d → Row is latency live' never joins i j d
-row_moved is latency live live' never joins i j d f (reads_last v a b n) = reads_last v a b n
-row_moved is latency live live' never joins i j d f (writes_too v a b) = writes_too v a b
-row_moved is latency live live' never joins i j d f (writes_read v a b) = writes_read v a b
-row_moved is latency live live' never joins i j d f (store_access a b n) = store_access a b n
-row_moved is latency live live' never joins i j d f (load_store a b n) = load_store a b n
-row_moved is latency live live' never joins i j d f (observables a b) = observables a b
-row_moved is latency live live' never joins i j d f (two_splits a b) = two_splits a b
-row_moved is latency live live' never joins i j d f (split_held a b) = split_held a b
-row_moved is latency live live' never joins i j d f (below_join q a lt le b) = below_join q a lt le b
-row_moved is latency live live' never joins i j d f (split_live v a l b) = split_live v a (f v l) b
 
 split_origin : (o : Option (Option Origin)) → made_at_split o ≡ true → (origin : Origin) × (o ≡ Some (Some origin))
 split_origin None h = absurd (cc)
@@ -94,17 +62,6 @@ rejoin_of (j ∷ js) (v ∷ ws) b w h =
     (λ t. let q : Some v ≡ Some w = sym (ap (λ z. if z then Some v else rejoin_at js ws b) t) ∙ h in (0, j, refl, q, eqb-true j.block b t))
     (λ f. let x = rejoin_of js ws b w (sym (ap (λ z. if z then Some v else rejoin_at js ws b) f) ∙ h) in (suc x.0, x.1, x.2, x.3, x.4))
     (cases_Bool (j.block == b))
-
-abbrev linkable : {latency : Op → ℕ} {m : MixedGraph} {r : Replacement} → Compensated latency m r → Linkable m r
-linkable c = record {
-  can = c.can;
-  plain = c.plain;
-  is_trace = c.is_trace;
-  splits = c.splits;
-  join_blocks = c.join_blocks;
-  join_edges = c.join_edges;
-  made_where = c.made_where;
-}
 
 module _ (latency : Op → ℕ) (m : MixedGraph) (r : Replacement) (valid : Valid m) (in_time : (q : ℕ) (g : Region) → slice_get m.regions q ≡ Some g → InTime latency g) (c : Compensated latency m r) (first : ℕ) (others : List ℕ) (blocks_are : r.trace.blocks ≡ first ∷ others) where
   abbrev NewM : MixedGraph
@@ -136,66 +93,6 @@ module _ (latency : Op → ℕ) (m : MixedGraph) (r : Replacement) (valid : Vali
 
   abbrev L : ℕ → List ℕ
   L = c.is_trace.live
-
-  size : length I ≡ length r.trace.ops
-  size = length_items r.trace.ops r.clusters
-
-  words_many : length Reg.words ≡ r.length
-  words_many = length-map (numbers 0 r.length) (in_word (placed To_ r.trace.ops r.clusters r.words r.drains [])) ∙ numbers_many r.length 0
-
-  words : Reg.words ≡ words_from (row W M 0 (length I)) 0 (length Reg.words)
-  words =
-      words_are (in_word (placed To_ r.trace.ops r.clusters r.words r.drains [])) (row W M 0 (length I))
-      (λ w. row_is W M w To_ r.trace.ops r.clusters r.words r.drains [] (r.length + 1) 0 c.clusters_fit c.words_fit (λ j lt. let z : 0 + j ≡ j = omega arith in ap W z) (λ j lt. let z : 0 + j ≡ j = omega arith in ap M z) ∙ ap (λ n. map M (places W w 0 n)) (sym size))
-      r.length 0
-      ∙ ap (words_from (row W M 0 (length I)) 0) (sym words_many)
-
-  inside : (k : ℕ) → k < length I → W k < length Reg.words
-  inside k lt =
-      let s = size in
-      let f = c.words_fit in
-      let t = there r.words k (r.length + 1) (omega arith) in
-      let h = c.within k t.0 t.1 in
-      let e = t.2 in
-      let n = words_many in
-      omega arith
-
-  beyond : (k : ℕ) → length I ≤ k → length Reg.words < W k
-  beyond k le = let s = size in let f = c.words_fit in let e = not_there r.words k (r.length + 1) (omega arith) in let n = words_many in omega arith
-
-  takes_time : (i v : ℕ) → IsIn v (item_writes (nth I i)) → 1 ≤ item_latency latency (nth I i)
-  takes_time i v h = by (nth I i) h
-    where
-      by : (x : Item) → IsIn v (item_writes x) → 1 ≤ item_latency latency x
-      by (Plain op cluster) h = c.takes_time op v h
-      by (Split p y e d) h = absurd h
-
-  split_inside : (e : ℕ) → IsSplit (nth I e) → e < length I
-  split_inside e s = ⊎_elim (λ a. a) (λ a. absurd (subst IsSplit (nth_past I e a) s)) (cases_lt e (length I))
-
-  freed : (e k v a cluster : ℕ) (p : Operand) (d : Bool) → e < k → IsSplit (nth I e) → W k ≤ W e → M k ≡ Plain (Load v a p d) cluster → d ≡ true
-  freed e k v a cluster p d lt s le h =
-      let lo = inside e (split_inside e s) in
-      let in_trace : k < length I = ⊎_elim (λ a. a) (λ a. let hi = beyond k a in absurd (omega arith)) (cases_lt k (length I)) in
-      let z = size in
-      freed_at To_ r.trace.ops r.clusters r.words r.drains [] (r.length + 1) (W e) k v a cluster p d c.clusters_fit c.words_fit (inr (e, lt, s, refl)) (omega arith) le h
-
-  is_placed : Placed I (item_latency latency) W M (length Reg.words)
-  is_placed = record { inside = inside; beyond = beyond; marked = marked_at To_ r.trace.ops r.clusters r.words r.drains [] c.clusters_fit c.words_fit; takes_time = takes_time; freed = freed }
-
-  -- what is live behind a split is listed at it
-  listed : (e v : ℕ) → AfterOf m I e v → IsIn v (live_of (slice_get r.trace.ops e))
-  listed e v h = by (nth I e) refl h
-    where
-      by : (x : Item) → nth I e ≡ x → AfterItem m x v → IsIn v (live_of (slice_get r.trace.ops e))
-      by (Plain op cluster) q a = absurd a
-      by (Split p y off d) q a =
-          let s = split_at r.trace.ops r.clusters e p d y off q in
-          let i = in_plain m r valid (linkable c) first others blocks_are p y off s.0 (index_in r.trace.ops e (TraceSplit p y off s.0) s.1) in
-          subst (λ z. IsIn v (live_of z)) (sym s.1) ((c.is_trace.lives p v y off s.0 i).1 a)
-
-  is_met : Meets I (item_latency latency) (AfterOf m I) c.never (is_join_place r.trace.joins) W
-  is_met i j d lt hi row = c.meets i j d lt hi (row_moved I (item_latency latency) (AfterOf m I) (λ e v. IsIn v (live_of (slice_get r.trace.ops e))) c.never (is_join_place r.trace.joins) i j d (λ v. listed i v) row)
 
   -- paths
 
@@ -308,7 +205,7 @@ module _ (latency : Op → ℕ) (m : MixedGraph) (r : Replacement) (valid : Vali
       let J = joins m r valid (linkable c) first others blocks_are j a b there on in
       record {
         place = j.place;
-        inside = let s = size in let p = c.join_places j there in omega arith;
+        inside = let s = length_items r.trace.ops r.clusters in let p = c.join_places j there in omega arith;
         is_join = any_of (λ (x : Join). x.place == j.place) r.trace.joins j there (eq-eqb j.place j.place refl);
         plain = plain_items (trace_ops m L (blocks_from j.block r.trace.blocks));
         path = subst (λ z. Path m Old z (plain_items (trace_ops m L (blocks_from j.block r.trace.blocks))) (last_of r.trace.blocks) (exit_of m r)) same (path_at j.block (subst (λ z. IsIn z (first ∷ others)) J.block (inr J.behind)));
@@ -500,9 +397,9 @@ module _ (latency : Op → ℕ) (m : MixedGraph) (r : Replacement) (valid : Vali
     reg = Reg;
     is_region = last_one m.regions;
     is_last = refl;
-    words = words;
-    placed = is_placed;
-    meets = is_met;
+    words = words_are_rows latency m r c;
+    placed = is_placed latency m r c;
+    meets = is_met latency m r c valid first others blocks_are;
     drained = c.drained;
     loads = c.loads;
     leaves = leaves;

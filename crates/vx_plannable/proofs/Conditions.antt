@@ -1,9 +1,9 @@
 -- A trace that can be planned keeps the conditions of the calls.
 use Rattle.std.proofs.Common.{ap, ◌∙◌, ◌≡◌, ◌<◌, ◌≤◌, inl, inr, ◌&&◌, ◌==◌, ℕ, zero, suc, Bool, true, false, nat_le, Option, Some, None, List, [], ◌∷◌, ◌++◌, length, slice_get, slice_index_or, refl, sym, subst, arith}
+use Rattle.std.specs.Prelude.{is_some, not}
 use Rattle.std.specs.List.{list_all}
 use Rattle.std.proofs.lemmas.Bool.{ltb-true, leb-true, eqb-true}
 use Rattle.std.proofs.lemmas.List.Folds.{list_all-append}
-use Rattle.vx_flow.specs.declared.graph.Op.TheVariants.{Compute, Select, Place, Load, Store, More, Input, Text, Decimal, Across}
 use Rattle.vx_flow.specs.declared.operands.Reads.{Reads}
 use Rattle.vx_flow.specs.declared.trace.TraceOp.{TraceOp}
 use Rattle.vx_flow.specs.declared.trace.TraceOp.TheVariants.{Plain, Split}
@@ -11,7 +11,7 @@ use Rattle.vx_flow.specs.declared.trace.Join.{Join}
 use Rattle.vx_flow.specs.declared.trace.Trace.{Trace}
 use Rattle.vx_flow.specs.declared.trace.Homes.{Homes}
 use Rattle.vx_flow.specs.Effects.{IsIn}
-use Rattle.vx_flow.specs.Operands.{value_list, values_read}
+use Rattle.vx_flow.specs.Operands.{binds, value_list, values_read}
 use Rattle.vx_isa.specs.Numbers.{Numbers}
 use Rattle.vx_machine.specs.Room.{has_room}
 use Rattle.vx_dep.specs.declared.mode.Mode.{Mode}
@@ -24,7 +24,7 @@ use Rattle.vx_bug.specs.declared.clusters.Clusters.{Clusters}
 use Rattle.vx_bug.specs.CanAssign.{IsFixed, bound_writes, BoundAtHome, FixedAtHome, FixedReadsHere, ClustersAreThere, ValuesAreThere, CopiesHaveNumbers, IsWellFormed}
 use Rattle.vx_bug.specs.Further.{RoomForEach}
 use Rattle.vx_sched.specs.Placement.{items_at, AreDeps, HaveRoomAlone}
-use Rattle.vx_plannable.specs.Plannable.{is_below, all_are_below, is_unbound, names_below, is_plannable_op, is_free, ascend, are_within, most_values, is_plannable, is_there}
+use Rattle.vx_plannable.specs.Plannable.{is_below, all_are_below, binds_none, names_below, is_plannable_op, is_free, ascend, are_within, most_values, is_plannable, is_there}
 
 -- what an operation names, value by value
 
@@ -105,17 +105,12 @@ not_fixed_in (x ∷ xs) (suc i) cluster h e = not_fixed_in xs i cluster (both_ho
 not_fixed : (t : Trace) (i cluster : ℕ) → Parts t → IsFixed t i cluster → ⊥
 not_fixed t i cluster parts e = not_fixed_in t.fixed i cluster parts.free e
 
-not_bound : (op : TraceOp) (v : ℕ) → is_unbound op ≡ true → IsIn v (bound_writes op) → ⊥
-not_bound (Plain (Compute code u a b)) v h i = i
-not_bound (Plain (Select u test a b)) v h i = cc
-not_bound (Plain (Place u a x)) v h i = i
-not_bound (Plain (Load u a p dismissible)) v h i = i
-not_bound (Plain (Store a p x)) v h i = i
-not_bound (Plain (More u)) v h i = cc
-not_bound (Plain (Input u)) v h i = cc
-not_bound (Plain (Text n)) v h i = i
-not_bound (Plain (Decimal x)) v h i = i
-not_bound (Plain (Across u w)) v h i = i
+not_among : (o : Option ℕ) (v : ℕ) → not (is_some o) ≡ true → IsIn v (value_list o) → ⊥
+not_among None v h i = i
+not_among (Some u) v h i = cc
+
+not_bound : (op : TraceOp) (v : ℕ) → binds_none op ≡ true → IsIn v (bound_writes op) → ⊥
+not_bound (Plain op) v h i = not_among (binds op) v h i
 not_bound (Split test leaves_when edge live) v h i = i
 
 -- the conditions of the assignment of clusters
@@ -123,7 +118,7 @@ not_bound (Split test leaves_when edge live) v h i = i
 pub bound_at_home : (t : Trace) (homes : Homes) → is_plannable t ≡ true → BoundAtHome t homes
 bound_at_home t homes h i op v stands is =
     let passes : is_plannable_op t.values op ≡ true = passes_at (is_plannable_op t.values) t.ops i op (parts_of t h).ops stands in
-    absurd (not_bound op v (both_hold (is_unbound op) (names_below t.values op) passes).0 is)
+    absurd (not_bound op v (both_hold (binds_none op) (names_below t.values op) passes).0 is)
 
 pub fixed_at_home : (t : Trace) (homes : Homes) → is_plannable t ≡ true → FixedAtHome t homes
 fixed_at_home t homes h = record {
@@ -143,7 +138,7 @@ clusters_are_there m t homes h e = record {
 names_at : (t : Trace) (i : ℕ) (op : TraceOp) → is_plannable t ≡ true → Stands t i op → (all_are_below t.values (reads_of op) ≡ true) × (all_are_below t.values (writes_of op) ≡ true)
 names_at t i op h stands =
     let passes : is_plannable_op t.values op ≡ true = passes_at (is_plannable_op t.values) t.ops i op (parts_of t h).ops stands in
-    both_hold (all_are_below t.values (reads_of op)) (all_are_below t.values (writes_of op)) (both_hold (is_unbound op) (names_below t.values op) passes).1
+    both_hold (all_are_below t.values (reads_of op)) (all_are_below t.values (writes_of op)) (both_hold (binds_none op) (names_below t.values op) passes).1
 
 pub values_are_there : (t : Trace) → is_plannable t ≡ true → ValuesAreThere t
 values_are_there t h = record {

@@ -2,12 +2,11 @@
 -- are neither selections nor read the input; and with which homes.
 use Rattle.std.specs.Prelude.{◌&&◌, ◌==◌, not, ℕ, Bool, true, false, nat_lt, nat_le, Option, Some, None, is_some, List, [], ◌∷◌, length}
 use Rattle.std.specs.List.{list_all}
-use Rattle.vx_flow.specs.declared.graph.Op.TheVariants.{Select}
 use Rattle.vx_flow.specs.declared.trace.TraceOp.{TraceOp}
 use Rattle.vx_flow.specs.declared.trace.TraceOp.TheVariants.{Plain, Split}
 use Rattle.vx_flow.specs.declared.trace.Join.{Join}
 use Rattle.vx_flow.specs.declared.trace.Trace.{Trace}
-use Rattle.vx_flow.specs.Operands.{written_by, is_observable}
+use Rattle.vx_flow.specs.Operands.{binds}
 use Rattle.vx_dep.specs.Delays.{reads_of, writes_of}
 
 abbrev pub is_below : (values v : ℕ) → Bool
@@ -16,18 +15,17 @@ is_below values v = nat_lt v values
 abbrev pub all_are_below : (values : ℕ) → List ℕ → Bool
 all_are_below values vs = list_all (is_below values) vs
 
--- neither a selection nor what takes a result from the input: these want a home on cluster 0 for it
-abbrev pub is_unbound : TraceOp → Bool
-is_unbound (Plain (Select v test a b)) = false
-is_unbound (Plain op) = not (is_observable op && is_some (written_by op))
-is_unbound (Split test leaves_when edge live) = true
+-- it writes no value on cluster 0 alone
+abbrev pub binds_none : TraceOp → Bool
+binds_none (Plain op) = not (is_some (binds op))
+binds_none (Split test leaves_when edge live) = true
 
 -- it names values of the graph alone
 abbrev pub names_below : (values : ℕ) → TraceOp → Bool
 names_below values op = all_are_below values (reads_of op) && all_are_below values (writes_of op)
 
 abbrev pub is_plannable_op : (values : ℕ) → TraceOp → Bool
-is_plannable_op values op = is_unbound op && names_below values op
+is_plannable_op values op = binds_none op && names_below values op
 
 -- it has no cluster yet
 abbrev pub is_free : Option ℕ → Bool

@@ -5,11 +5,11 @@ ghost use Rattle.std.specs.Prelude.{◌≡◌, ◌++◌};
 ghost use Rattle.std.specs.List.{list_all};
 ghost use Rattle.vx_flow.specs.Operands.{value_list, values_read};
 ghost use Rattle.vx_dep.specs.Delays.{reads_of, writes_of};
-ghost use Rattle.vx_plannable.specs.Plannable.{all_are_below, is_unbound, names_below, is_plannable_op, is_free, ascend, are_within, is_plannable, is_there};
+ghost use Rattle.vx_plannable.specs.Plannable.{all_are_below, binds_none, names_below, is_plannable_op, is_free, ascend, are_within, is_plannable, is_there};
 
 use vx_dep::traits::{read, written};
-use vx_flow::graph::{Op, Value};
-use vx_flow::operands::{Reads, is_observable, written_by};
+use vx_flow::graph::Value;
+use vx_flow::operands::{Reads, binds};
 use vx_flow::trace::{Join, Trace, TraceOp};
 
 /// The most values of a graph of which each has a number for each of its copies.
@@ -37,15 +37,14 @@ fn are_plannable(values: u32, ops: &[TraceOp]) -> bool
 fn is_plannable_op(values: u32, op: &TraceOp) -> bool
     ensures { result ≡ is_plannable_op values op.now }
 {
-    is_unbound(op) && names_below(values, op)
+    binds_none(op) && names_below(values, op)
 }
 
-fn is_unbound(op: &TraceOp) -> bool
-    ensures { result ≡ is_unbound op.now }
+fn binds_none(op: &TraceOp) -> bool
+    ensures { result ≡ binds_none op.now }
 {
     match op {
-        TraceOp::Plain(Op::Select { .. }) => false,
-        TraceOp::Plain(op) => !(is_observable(op) && written_by(op).is_some()),
+        TraceOp::Plain(op) => binds(op).is_none(),
         TraceOp::Split { .. } => true,
     }
 }

@@ -15,12 +15,12 @@ use Rattle.vx_flow.specs.Effects.{IsIn}
 use Rattle.vx_flow.specs.Live.{reads_of_exit}
 use Rattle.vx_flow.specs.Sound.{results_of_exit}
 use Rattle.vx_flow.specs.Walk.{edge}
+use Rattle.vx_flow.specs.Operands.{binds}
 use Rattle.vx_flow.proofs.Members.{in_left, in_right}
 use Rattle.vx_isa.specs.Numbers.{Numbers}
 use Rattle.vx_mixed.specs.declared.region.Origin.{Origin}
 use Rattle.vx_mixed.specs.declared.region.Node.TheVariants.{Unused}
 use Rattle.vx_mixed.specs.declared.mixed.MixedGraph.{MixedGraph}
-use Rattle.vx_mixed.specs.FromGraph.{binds}
 use Rattle.vx_mixed.specs.Settled.{has_home}
 use Rattle.vx_mixed.specs.TraceOf.{CanTrace, IsTraceOf, block_at, block_or_none, split_between, split_behind, clusters_of}
 use Rattle.vx_mixed.specs.Valid.{Valid}

@@ -10,6 +10,7 @@ use Rattle.vx_flow.specs.declared.graph.Op.{Op}
 use Rattle.vx_flow.specs.declared.graph.Op.TheVariants.{Compute, Select, Place, Load, Store, More, Input, Text, Decimal, Across}
 use Rattle.vx_flow.specs.Effects.{IsIn, reads, writes}
 use Rattle.vx_flow.specs.Sound.{HasOperation, Sound, is_sound, is_general, is_sound_operation, is_sound_exit, is_sound_in, is_sound_block, is_kept, is_access_placed, bank_written}
+use Rattle.vx_flow.specs.Operands.{binds}
 use Rattle.vx_flow.proofs.IndexSteps.{get_below}
 use Rattle.vx_flow.proofs.Members.{in_right, in_either}
 use Rattle.vx_flow.proofs.SoundLists.{all_in}
@@ -17,7 +18,7 @@ use Rattle.vx_flow.proofs.SoundLaw.{sound_is}
 use Rattle.vx_machine.specs.Items.{latency_of_op}
 use Rattle.vx_mixed.specs.declared.region.Origin.{Origin}
 use Rattle.vx_mixed.specs.declared.mixed.MixedGraph.{MixedGraph}
-use Rattle.vx_mixed.specs.FromGraph.{FromGraph, binds, is_some_of, is_bound, OfGraph}
+use Rattle.vx_mixed.specs.FromGraph.{FromGraph, is_some_of, is_bound, OfGraph}
 use Rattle.vx_mixed.specs.Edges.{IsEdge, of_block, of_split, of_last}
 use Rattle.vx_layout.specs.OriginLaws.{BeginsWithCode}
 use Rattle.vx_layout.specs.Origins.{ComesFromGraph}

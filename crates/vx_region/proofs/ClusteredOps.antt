@@ -18,14 +18,13 @@ use Rattle.vx_flow.specs.declared.trace.TraceOp.{TraceOp}
 use Rattle.vx_flow.specs.declared.trace.TraceOp.TheVariants.{Plain as TracePlain, Split as TraceSplit}
 use Rattle.vx_flow.specs.declared.trace.Trace.{Trace}
 use Rattle.vx_flow.specs.Effects.{IsIn, is_unary, dismissed, reads, writes}
-use Rattle.vx_flow.specs.Operands.{with_value_in}
+use Rattle.vx_flow.specs.Operands.{binds, with_value_in}
 use Rattle.vx_flow.specs.Sound.{bank_written, tests_of, Sound}
 use Rattle.vx_flow.proofs.Members.{in_left, in_right, in_either}
 use Rattle.vx_flow.proofs.SoundLaw.{sound_is}
 use Rattle.vx_isa.specs.Numbers.{Numbers, IsMachine}
 use Rattle.vx_mixed.specs.declared.mixed.MixedGraph.{MixedGraph}
 use Rattle.vx_mixed.specs.CanReplace.{OnFirst, Stands, AwayFrom}
-use Rattle.vx_mixed.specs.FromGraph.{binds}
 use Rattle.vx_layout.specs.Origins.{whole, whole_operand, whole_op, ComesFrom, graph_op, copy}
 use Rattle.vx_layout.specs.Origins.{copy_of as copy_to}
 use Rattle.vx_mixed.specs.Settled.{has_home, home_of as home_in, bank_of, stands_for, StandsOn, read_there}

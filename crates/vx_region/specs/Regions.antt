@@ -9,6 +9,7 @@ use Rattle.vx_flow.specs.declared.trace.Trace.{Trace}
 use Rattle.vx_flow.specs.declared.trace.TraceOp.TheVariants.{Plain as TracePlain}
 use Rattle.vx_flow.specs.Effects.{IsIn}
 use Rattle.vx_flow.specs.Sound.{is_sound}
+use Rattle.vx_flow.specs.Operands.{binds}
 use Rattle.vx_isa.specs.Numbers.{Numbers, is_machine}
 use Rattle.vx_machine.specs.declared.items.Item.TheVariants.{Plain as PlainItem, Split as SplitItem}
 use Rattle.vx_machine.specs.declared.items.ClusteredItem.{ClusteredItem}
@@ -23,7 +24,7 @@ use Rattle.vx_mixed.specs.declared.replacement.Replacement.{Replacement}
 use Rattle.vx_layout.specs.Brief.{IsBrief}
 use Rattle.vx_mixed.specs.CanReplace.{CanReplace}
 use Rattle.vx_motion.specs.Context.{Becomes, Steps}
-use Rattle.vx_mixed.specs.FromGraph.{FromGraph, binds}
+use Rattle.vx_mixed.specs.FromGraph.{FromGraph}
 use Rattle.vx_mixed.specs.Layout.{IsDone}
 use Rattle.vx_mixed.specs.Next.{next_mixed}
 use Rattle.vx_layout.specs.Origins.{ComesFromGraph}

@@ -7,8 +7,9 @@ use Rattle.std.proofs.lemmas.List.{get_or-set_same, get_or-set_other}
 use Rattle.vx_flow.specs.declared.graph.Block.{Block}
 use Rattle.vx_flow.specs.declared.graph.Graph.{Graph}
 use Rattle.vx_flow.specs.declared.graph.Op.{Op}
+use Rattle.vx_flow.specs.Operands.{binds}
 use Rattle.vx_mixed.specs.Settled.{has_home}
-use Rattle.vx_mixed.specs.FromGraph.{binds, is_some_of, is_bound, StartHomes, bound_to, bound_in, bound_by}
+use Rattle.vx_mixed.specs.FromGraph.{is_some_of, is_bound, StartHomes, bound_to, bound_in, bound_by}
 
 pub bound_in_more : (ops : List Op) (i : ℕ) (d : Op) (homes : List (Option ℕ)) → i < length ops → bound_in (take (suc i) ops) homes ≡ bound_to (binds (get_or ops i d)) (bound_in (take i ops) homes)
 bound_in_more [] i d homes h = absurd (omega arith)

@@ -5,14 +5,14 @@ ghost use Rattle.std.specs.Prelude.{◌≡◌, ◌++◌, ◌∷◌, [], ◌<◌,
 ghost use Rattle.vx_flow.specs.Walk.{edge, successors_of};
 ghost use Rattle.vx_mixed.specs.declared.region.Node.TheVariants.{Unused};
 ghost use Rattle.vx_mixed.specs.Edges.{edges_from};
-ghost use Rattle.vx_mixed.specs.FromGraph.{binds, bound_by, bound_in, bound_to};
+ghost use Rattle.vx_mixed.specs.FromGraph.{bound_by, bound_in, bound_to};
 
 use std::alloc::Global;
 use vx_base::listed::{Listed, copied};
 use vx_base::outcome::NoMemory;
 use vx_flow::copies::copied_block;
 use vx_flow::graph::{Array, Bank, Block, BlockId, Edge, Exit, Graph, Op, Value};
-use vx_flow::operands::{is_observable, written_by};
+use vx_flow::operands::binds;
 use vx_mixed::nodes::Nodes;
 use vx_mixed::region::{Node, Origin};
 
@@ -169,23 +169,7 @@ fn bind_ops(homes: &mut Vec<Option<u32>>, ops: &[Op])
     ensures { homes.new.items ≡ bound_in ops.now homes.old.items }
 {
     for op in ops {
-        bind(homes, bound_value(op));
-    }
-}
-
-/// The value that an operation binds to cluster 0.
-fn bound_value(op: &Op) -> Option<Value>
-    ensures { result ≡ binds op.now }
-{
-    match op {
-        Op::Select { to, .. } => Some(*to),
-        _ => {
-            if is_observable(op) {
-                written_by(op)
-            } else {
-                None
-            }
-        }
+        bind(homes, binds(op));
     }
 }
 

@@ -6,7 +6,7 @@ ghost use Rattle.vx_sched.specs.Filling.{row_of, IsFirstWith, Puts};
 
 use crate::crowding::is_crowded;
 use std::alloc::Global;
-use vx_base::listed::Listed;
+use vx_base::listed::{Listed, with_item};
 use vx_base::outcome::NoMemory;
 use vx_flow::trace::Homes;
 use vx_machine::items::ClusteredItem;
@@ -48,20 +48,6 @@ fn fits(
     }
     let longer = with_item(alloc, row, item)?;
     Ok(has_room(machine, homes, longer.as_slice()))
-}
-
-/// A row with an item behind it.
-fn with_item(
-    alloc: Global,
-    row: &[ClusteredItem],
-    item: ClusteredItem,
-) -> Result<Listed<ClusteredItem>, NoMemory>
-    ensures { IfOk result (λ longer. longer ≡ row.now ++ item ∷ []) }
-{
-    let mut longer = Vec::new(alloc);
-    longer.extend_from_slice(row)?;
-    longer.push(item)?;
-    Ok(Listed::from_vec(longer)?)
 }
 
 /// The word behind a word. One past `u32` is want of memory.

@@ -5,10 +5,9 @@ use vx_base::arithmetic::{Code, Compare};
 use vx_claims::intervals::{
     Interval, bit, full, left_within, meet, opposite, result_within, right_within, times_if,
 };
-use vx_claims::learning::is_held;
 use vx_flow::graph::{Block, BlockId, Exit, Op, Operand, Value};
 use vx_flow::live_rows::Live;
-use vx_flow::operands::written_by;
+use vx_flow::operands::{is_value, written_by};
 
 /// What is noted of a block.
 #[derive(Clone, Copy)]
@@ -271,7 +270,7 @@ fn tested_after(before: Option<Tested>, test: Value, op: Op) -> Option<Tested> {
 fn kept(before: Option<Tested>, value: Value) -> Option<Tested> {
     match before {
         Some(tested) => {
-            if is_held(value, tested.left) || is_held(value, tested.right) {
+            if is_value(value, &tested.left) || is_value(value, &tested.right) {
                 None
             } else {
                 before
@@ -314,10 +313,10 @@ fn side_of(tables: &Tables, tested: Option<Tested>, answer: bool) -> Side {
 /// Where a value lies on a side.
 fn range_on(tables: &Tables, side: Side, value: Value) -> Interval {
     let mut interval = range(tables, value);
-    if is_held(value, side.right) {
+    if is_value(value, &side.right) {
         interval = meet(side.right_within, interval);
     }
-    if is_held(value, side.left) {
+    if is_value(value, &side.left) {
         interval = meet(side.left_within, interval);
     }
     interval

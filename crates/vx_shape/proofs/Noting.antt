@@ -9,7 +9,7 @@ use Rattle.vx_flow.specs.Effects.{IsIn}
 use Rattle.vx_flow.specs.Sound.{targets_of}
 use Rattle.vx_flow.proofs.IndexSteps.{get_some}
 use Rattle.vx_flow.proofs.Members.{in_either, in_left, in_right}
-use Rattle.vx_shape.specs.Origins.{AreOrigins, IsBefore, IsJoined, IsNoted, IsTrue, NotedBefore, Takes, TrueBefore}
+use Rattle.vx_shape.specs.Origins.{AreOrigins, LeadsBefore, IsJoined, IsNoted, NoteIsTrue, NotedBefore, Takes, TrueBefore}
 
 same_or_not : (m n : ℕ) → (m ≡ n) ⊎ (m ≡ n → ⊥)
 same_or_not m n = elim (eqb_tells m n) [ inl t ↦ inl t.1 | inr t ↦ inr t.1 ]
@@ -114,10 +114,10 @@ noted_more blocks i block before after lt is many h t from b found lo at leads b
 
 -- what is noted stays true
 
-later : (blocks : List Block) (i from b : ℕ) → IsBefore blocks i from b → IsBefore blocks (i + 1) from b
-later blocks i from b h = let s : from < i = h.small in record { block = h.block; small = omega arith; there = h.there; leads = h.leads }
+later : (blocks : List Block) (i from b : ℕ) → LeadsBefore blocks i from b → LeadsBefore blocks (i + 1) from b
+later blocks i from b h = let s : from < i = h.0 in (omega arith, h.1)
 
-true_later : (blocks : List Block) (i many b noted : ℕ) → IsTrue blocks i many b noted → IsTrue blocks (i + 1) many b noted
+true_later : (blocks : List Block) (i many b noted : ℕ) → NoteIsTrue blocks i many b noted → NoteIsTrue blocks (i + 1) many b noted
 true_later blocks i many b noted (inl e) = inl e
 true_later blocks i many b noted (inr (inl h)) = inr (inl (later blocks i noted b h))
 true_later blocks i many b noted (inr (inr h)) = inr (inr (
@@ -131,13 +131,13 @@ true_later blocks i many b noted (inr (inr h)) = inr (inr (
   },
 ))
 
-true_joined : (blocks : List Block) (i many b known x : ℕ) → IsBefore blocks (i + 1) i b → IsTrue blocks (i + 1) many b known → IsJoined many known i x → IsTrue blocks (i + 1) many b x
-true_joined blocks i many b known x leads t (inl e) = inr (inl (subst (λ z. IsBefore blocks (i + 1) z b) (sym e) leads))
+true_joined : (blocks : List Block) (i many b known x : ℕ) → LeadsBefore blocks (i + 1) i b → NoteIsTrue blocks (i + 1) many b known → IsJoined many known i x → NoteIsTrue blocks (i + 1) many b x
+true_joined blocks i many b known x leads t (inl e) = inr (inl (subst (λ z. LeadsBefore blocks (i + 1) z b) (sym e) leads))
 true_joined blocks i many b known x leads (inl none) (inr j) = let small : known < 2 ^ 64 - 1 = j.1 in absurd (omega arith)
 true_joined blocks i many b known x leads (inr (inl h)) (inr j) = inr (inr (j.0, record { one = known; other = i; differ = j.2; from_one = h; from_other = leads }))
 true_joined blocks i many b known x leads (inr (inr h)) (inr j) = inr (inr (j.0, h.1))
 
-pub true_none : (blocks : List Block) (n b : ℕ) → b < n → IsTrue blocks 0 (length blocks) b (slice_index_or (replicate n (2 ^ 64 - 1)) b 0)
+pub true_none : (blocks : List Block) (n b : ℕ) → b < n → NoteIsTrue blocks 0 (length blocks) b (slice_index_or (replicate n (2 ^ 64 - 1)) b 0)
 true_none blocks n b lt = inl (get_or-replicate n b (2 ^ 64 - 1) 0 lt)
 
 pub none_before : (blocks : List Block) (n : ℕ) → n ≡ length blocks → TrueBefore blocks 0 (replicate n (2 ^ 64 - 1))
@@ -145,13 +145,13 @@ none_before blocks n e b lt = true_none blocks n b (subst (λ z. b < z) (sym e) 
 
 pub true_more : (blocks : List Block) (i : ℕ) (block : Block) (before after : List ℕ) → i < length blocks → block ≡ get_or blocks i block → length before ≡ length blocks → TrueBefore blocks i before → Takes i (targets_of block.exit) before after → TrueBefore blocks (i + 1) after
 true_more blocks i block before after lt is many h t b below = elim (t.joins b (omega arith)) [
-  | inl e ↦ subst (IsTrue blocks (i + 1) (length blocks) b) (sym e) old
+  | inl e ↦ subst (NoteIsTrue blocks (i + 1) (length blocks) b) (sym e) old
   | inr j ↦ true_joined blocks i (length blocks) b (slice_index_or before b 0) (slice_index_or after b 0)
-      (record { block = block; small = omega arith; there = get_some blocks i block lt is; leads = j.0 })
+      (let at : i < i + 1 = omega arith in at, record { block = block; has = get_some blocks i block lt is; leads = j.0 })
       old (subst (λ z. IsJoined z (slice_index_or before b 0) i (slice_index_or after b 0)) many j.1)
 ]
   where
-    old : IsTrue blocks (i + 1) (length blocks) b (slice_index_or before b 0)
+    old : NoteIsTrue blocks (i + 1) (length blocks) b (slice_index_or before b 0)
     old = true_later blocks i (length blocks) b (slice_index_or before b 0) (h b below)
 
 pub true_all : (blocks : List Block) (i : ℕ) (origins : List ℕ) → i ≡ length blocks → TrueBefore blocks i origins → TrueBefore blocks (length blocks) origins

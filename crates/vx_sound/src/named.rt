@@ -4,16 +4,22 @@
 
 ghost use Rattle.std.specs.Prelude.{◌≡◌, ◌==◌, not};
 ghost use Rattle.std.specs.List.{list_all};
-ghost use Rattle.vx_flow.specs.Sound.{is_branch, is_general, is_general_or_none, is_local, is_operand, is_place_in, is_right, is_right_value, is_sound_exit, is_sound_operation, is_value, is_written, is_zero, keeps_place};
+ghost use Rattle.vx_flow.specs.Sound.{is_branch, is_general, is_general_or_none, is_local, is_operand, is_place_in, is_right, is_right_value, is_sound_exit, is_sound_operation, is_written, is_zero, keeps_place};
 
 use vx_base::arithmetic::Code;
 use vx_flow::graph::{Array, ArrayId, Bank, Exit, Op, Operand, Value};
+use vx_flow::operands::is_value;
 
 /// Whether these are general values that are there.
 pub fn are_general(banks: &[Bank], values: &[Value]) -> bool
     ensures { result ≡ list_all (is_general banks.now) values.now }
 {
-    values.iter().all(|value| is_general(banks, *value))
+    for value in values {
+        if !is_general(banks, *value) {
+            return false;
+        }
+    }
+    true
 }
 
 /// Whether what an operation names is there and of its kind.
@@ -131,7 +137,12 @@ pub fn is_sound_exit(banks: &[Bank], blocks: usize, exit: &Exit) -> bool
 fn are_operands(banks: &[Bank], operands: &[Operand]) -> bool
     ensures { result ≡ list_all (is_operand banks.now) operands.now }
 {
-    operands.iter().all(|operand| is_operand(banks, operand))
+    for operand in operands {
+        if !is_operand(banks, operand) {
+            return false;
+        }
+    }
+    true
 }
 
 /// A number, or a general value that is there.
@@ -171,16 +182,6 @@ fn is_written(banks: &[Bank], code: Code, value: Value) -> bool
     match code {
         Code::ToBranch(_) => is_branch(banks, value),
         _ => is_general(banks, value),
-    }
-}
-
-/// Whether an operand holds the value.
-pub fn is_value(value: Value, operand: &Operand) -> bool
-    ensures { result ≡ is_value value operand.now }
-{
-    match operand {
-        Operand::Held(held) => *held == value,
-        _ => false,
     }
 }
 

@@ -7,12 +7,13 @@ ghost use Rattle.std.specs.List.{list_all, list_any};
 ghost use Rattle.vx_flow.specs.Sound.{block_keeps, has_place_in, is_access_placed, is_kept, is_place_in, is_placed, is_result, is_sound, is_sound_block, is_sound_flow, is_sound_function, is_sound_in, is_value, keeps_place, leaves_alone, Sound, SoundFlow};
 
 use crate::named::{
-    are_general, is_local, is_place_in, is_sound_exit, is_sound_operation, is_value, keeps_place,
+    are_general, is_local, is_place_in, is_sound_exit, is_sound_operation, keeps_place,
 };
 use crate::program_names::{
     are_blocks_there, are_distinct, are_others, begins_with, has_parameters,
 };
 use vx_flow::graph::{Block, Exit, Flow, Graph, Op, Operand, Value};
+use vx_flow::operands::is_value;
 
 /// Whether all of this holds of a graph.
 ///
@@ -74,13 +75,23 @@ fn is_sound_block(graph: &Graph, block: &Block) -> bool
 fn are_sound_blocks(graph: &Graph, blocks: &[Block]) -> bool
     ensures { result ≡ list_all (is_sound_block graph.now) blocks.now }
 {
-    blocks.iter().all(|block| is_sound_block(graph, block))
+    for block in blocks {
+        if !is_sound_block(graph, block) {
+            return false;
+        }
+    }
+    true
 }
 
 fn are_sound_in(graph: &Graph, ops: &[Op]) -> bool
     ensures { result ≡ list_all (is_sound_in graph.now) ops.now }
 {
-    ops.iter().all(|op| is_sound_in(graph, op))
+    for op in ops {
+        if !is_sound_in(graph, op) {
+            return false;
+        }
+    }
+    true
 }
 
 fn is_sound_in(graph: &Graph, op: &Op) -> bool
@@ -114,19 +125,34 @@ fn block_keeps(value: Value, array: u32, block: &Block) -> bool
 fn blocks_keep(value: Value, array: u32, blocks: &[Block]) -> bool
     ensures { result ≡ list_all (block_keeps value array) blocks.now }
 {
-    blocks.iter().all(|block| block_keeps(value, array, block))
+    for block in blocks {
+        if !block_keeps(value, array, block) {
+            return false;
+        }
+    }
+    true
 }
 
 fn keep_place(value: Value, array: u32, ops: &[Op]) -> bool
     ensures { result ≡ list_all (keeps_place value array) ops.now }
 {
-    ops.iter().all(|op| keeps_place(value, array, op))
+    for op in ops {
+        if !keeps_place(value, array, op) {
+            return false;
+        }
+    }
+    true
 }
 
 fn are_not_held(value: Value, operands: &[Operand]) -> bool
     ensures { result ≡ list_all (λ x. not (is_value value x)) operands.now }
 {
-    operands.iter().all(|operand| !is_value(value, operand))
+    for operand in operands {
+        if is_value(value, operand) {
+            return false;
+        }
+    }
+    true
 }
 
 /// Whether the exit neither reads nor writes the value.
@@ -190,13 +216,23 @@ fn has_place_in(value: Value, array: u32, block: &Block) -> bool
 fn have_place_in(value: Value, array: u32, blocks: &[Block]) -> bool
     ensures { result ≡ list_any (has_place_in value array) blocks.now }
 {
-    blocks.iter().any(|block| has_place_in(value, array, block))
+    for block in blocks {
+        if has_place_in(value, array, block) {
+            return true;
+        }
+    }
+    false
 }
 
 fn is_place_among(value: Value, array: u32, ops: &[Op]) -> bool
     ensures { result ≡ list_any (is_place_in value array) ops.now }
 {
-    ops.iter().any(|op| is_place_in(value, array, op))
+    for op in ops {
+        if is_place_in(value, array, op) {
+            return true;
+        }
+    }
+    false
 }
 
 /// Whether a graph is sound, and what it names of the program is there.
@@ -213,5 +249,10 @@ fn is_sound_function(flow: &Flow, graph: &Graph) -> bool
 fn are_sound_functions(flow: &Flow, graphs: &[Graph]) -> bool
     ensures { result ≡ list_all (is_sound_function flow.now) graphs.now }
 {
-    graphs.iter().all(|graph| is_sound_function(flow, graph))
+    for graph in graphs {
+        if !is_sound_function(flow, graph) {
+            return false;
+        }
+    }
+    true
 }

@@ -10,4 +10,4 @@ loop-op-preserved c =
     let homes = c.args.homes.now.items in
     let a : suc i ≡ i + 1 = omega arith in
     let m = bound_in_more ops i _ homes c.loop-op-test.true in
-    c.bind.ensures ∙ ap (λ o. bound_to o c.loop-op.homes.items) c.bound_value.ensures ∙ ap (bound_to _) c.loop-op.invariant ∙ sym m ∙ ap (λ j. bound_in (take j ops) homes) a
+    c.bind.ensures ∙ ap (λ o. bound_to o c.loop-op.homes.items) c.binds.ensures ∙ ap (bound_to _) c.loop-op.invariant ∙ sym m ∙ ap (λ j. bound_in (take j ops) homes) a
