@@ -1,7 +1,8 @@
 -- An operation on states that agree on what it reads leaves alike. It reads in s and t and writes onto s0 and t0, so that it
 -- serves the operations of a word too.
-use Rattle.std.proofs.Common.{◌≡◌, inl, inr, ℕ, ℤ, Bool, true, false, cond, ◌==◌, List, [], ◌∷◌, ◌++◌, length, slice_set, slice_index_or, Option, Some, None, refl, sym, ap, subst, ◌∙◌, eq-eqb}
+use Rattle.std.proofs.Common.{◌≡◌, inl, inr, ℕ, ℤ, Bool, true, false, cond, ◌==◌, List, [], ◌∷◌, ◌++◌, length, map, slice_set, slice_index_or, Option, Some, None, refl, sym, ap, subst, ◌∙◌, eq-eqb}
 use Rattle.std.proofs.lemmas.Bool.{false≢true}
+use Rattle.std.specs.List.{flat_map}
 use Rattle.std.specs.Fmt.{signed_decimal}
 use Rattle.vx_base.specs.Arithmetic.{value_of, one_if}
 use Rattle.vx_flow.specs.declared.graph.Operand.{Operand}
@@ -9,6 +10,7 @@ use Rattle.vx_flow.specs.declared.graph.Operand.TheVariants.{Held, Number, Stack
 use Rattle.vx_flow.specs.declared.graph.Op.{Op}
 use Rattle.vx_flow.specs.declared.graph.Op.TheVariants.{Compute, Select, Place, Load, Store, More, Input, Text, Decimal, Across}
 use Rattle.vx_flow.specs.Effects.{Content, State, Setting, IsIn, held, is_unary, both, computed, is_one, chosen, place_of, row_of, cell_in, is_left, text_at, with_value, with_cell, loaded, stored, next_input, printed, effect, value_in, reads, writes}
+use Rattle.vx_flow.specs.Meaning.{with_front, known}
 use Rattle.vx_flow.specs.Agree.{SameWorld, Agree}
 use Rattle.vx_flow.proofs.Members.{in_left, in_right}
 
@@ -173,3 +175,20 @@ effect_alike lives setting (Input v) s t s0 t0 s' w w0 k o e = input_done lives 
 effect_alike lives setting (Text n) s t s0 t0 s' w w0 k o e = out_done lives s0 t0 s' (s.out ++ text_at setting n) (t.out ++ text_at setting n) w0 o (ap (λ p. p ++ text_at setting n) w.out) e
 effect_alike lives setting (Decimal x) s t s0 t0 s' w w0 k o e = printed_done lives s0 t0 s' s.out t.out (held s x) (held t x) w0 o w.out (held_refined s t x k) e
 effect_alike lives setting (Across v u) s t s0 t0 s' w w0 k o e = value_done lives s0 t0 s' v (s.values u) (t.values u) w0 o (k u (inl refl)) e
+
+-- what is known of some operands, in both
+
+front_refined : (n : ℤ) (o o' : Option (List ℤ)) → ((ns : List ℤ) → o ≡ Some ns → o' ≡ Some ns) → (ns : List ℤ) → with_front n o ≡ Some ns → with_front n o' ≡ Some ns
+front_refined n None o' f ns e = absurd (cc)
+front_refined n (Some ms) o' f ns e = subst (λ q. with_front n q ≡ Some ns) (sym (f ms refl)) e
+
+known_front : (x y : Content) (xs ys : List Content) → Refined x y → ((ns : List ℤ) → known xs ≡ Some ns → known ys ≡ Some ns) → (ns : List ℤ) → known (x ∷ xs) ≡ Some ns → known (y ∷ ys) ≡ Some ns
+known_front None y xs ys r f ns e = absurd (cc)
+known_front (Some n) y xs ys r f ns e = subst (λ q. known (q ∷ ys) ≡ Some ns) (sym (r n refl)) (front_refined n (known xs) (known ys) f ns e)
+
+pub known_refined : (s t : State) (xs : List Operand) → Knows (flat_map value_in xs) s t → (ns : List ℤ) → known (map (held s) xs) ≡ Some ns → known (map (held t) xs) ≡ Some ns
+known_refined s t [] k ns e = e
+known_refined s t (x ∷ xs) k ns e =
+    known_front (held s x) (held t x) (map (held s) xs) (map (held t) xs)
+    (held_refined s t x (knows_left (value_in x) (flat_map value_in xs) s t k))
+    (λ ms f. known_refined s t xs (knows_right (value_in x) (flat_map value_in xs) s t k) ms f) ns e

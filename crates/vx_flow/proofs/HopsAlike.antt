@@ -1,6 +1,5 @@
 -- A block leaves states that agree on what is live at its start alike.
 use Rattle.std.proofs.Common.{◌≡◌, ◌⊎◌, inl, inr, ℕ, ℤ, true, false, cond, List, [], ◌∷◌, map, slice_get, Option, Some, None, refl, sym, ap, subst}
-use Rattle.std.specs.List.{flat_map}
 use Rattle.vx_flow.specs.declared.graph.Operand.{Operand}
 use Rattle.vx_flow.specs.declared.graph.Op.{Op}
 use Rattle.vx_flow.specs.declared.graph.Exit.{Exit}
@@ -8,12 +7,12 @@ use Rattle.vx_flow.specs.declared.graph.Exit.TheVariants.{Goto, Split, Call, Ret
 use Rattle.vx_flow.specs.declared.graph.Block.{Block}
 use Rattle.vx_flow.specs.declared.graph.Graph.{Graph}
 use Rattle.vx_flow.specs.Effects.{Content, State, Setting, IsIn, held, is_one, effect, value_in, writes}
-use Rattle.vx_flow.specs.Meaning.{Hop, Arrives, Calls, Leaves, with_front, known, by_test, calls, leaves, leave, and_then, block_hop, hop_of}
+use Rattle.vx_flow.specs.Meaning.{Hop, Arrives, Calls, Leaves, known, by_test, calls, leaves, leave, and_then, block_hop, hop_of}
 use Rattle.vx_flow.specs.Sound.{targets_of, results_of_exit}
 use Rattle.vx_flow.specs.Live.{IsLive, here, beyond, ReadsFirst, NeverWrites}
 use Rattle.vx_flow.specs.Agree.{SameWorld, Agree, Alike}
 use Rattle.vx_flow.specs.Laws.{HopsLeaveAlike}
-use Rattle.vx_flow.proofs.EffectsAlike.{Refined, Knows, knows_left, knows_right, held_refined, Done, effect_alike}
+use Rattle.vx_flow.proofs.EffectsAlike.{Refined, held_refined, known_refined, Done, effect_alike}
 
 -- v is live before these operations and the exit: they read it first, or leave it and it is live where they lead
 
@@ -47,21 +46,6 @@ module _ (meets : ℕ → ℕ → Type 0) (meets_itself : (c : ℕ) → meets c 
 
   edge_alike : (exit : Exit) (b c : ℕ) (s t : State) → Agree (LiveIn g [] exit) s t → IsIn c (targets_of exit) → ((v : ℕ) → IsIn v (results_of_exit exit) → ⊥) → Alike meets (IsLive g) (Arrives b c s) (Arrives b c t)
   edge_alike exit b c s t a m k = (meets_itself c, weaken (LiveIn g [] exit) (IsLive g c) s t a (λ v l. inr (record { unwritten = k v; target = c; leads = m; live = l })))
-
-  front_refined : (n : ℤ) (o o' : Option (List ℤ)) → ((ns : List ℤ) → o ≡ Some ns → o' ≡ Some ns) → (ns : List ℤ) → with_front n o ≡ Some ns → with_front n o' ≡ Some ns
-  front_refined n None o' f ns e = absurd (cc)
-  front_refined n (Some ms) o' f ns e = subst (λ q. with_front n q ≡ Some ns) (sym (f ms refl)) e
-
-  known_front : (x y : Content) (xs ys : List Content) → Refined x y → ((ns : List ℤ) → known xs ≡ Some ns → known ys ≡ Some ns) → (ns : List ℤ) → known (x ∷ xs) ≡ Some ns → known (y ∷ ys) ≡ Some ns
-  known_front None y xs ys r f ns e = absurd (cc)
-  known_front (Some n) y xs ys r f ns e = subst (λ q. known (q ∷ ys) ≡ Some ns) (sym (r n refl)) (front_refined n (known xs) (known ys) f ns e)
-
-  known_refined : (s t : State) (xs : List Operand) → Knows (flat_map value_in xs) s t → (ns : List ℤ) → known (map (held s) xs) ≡ Some ns → known (map (held t) xs) ≡ Some ns
-  known_refined s t [] k ns e = e
-  known_refined s t (x ∷ xs) k ns e =
-      known_front (held s x) (held t x) (map (held s) xs) (map (held t) xs)
-      (held_refined s t x (knows_left (value_in x) (flat_map value_in xs) s t k))
-      (λ ms f. known_refined s t xs (knows_right (value_in x) (flat_map value_in xs) s t k) ms f) ns e
 
   no_result : (f : ℕ) (arguments : List Operand) (result : Option ℕ) (next v : ℕ) → (result ≡ Some v → ⊥) → IsIn v (results_of_exit (Call f arguments result next)) → ⊥
   no_result f arguments None next v k m = m

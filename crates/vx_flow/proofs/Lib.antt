@@ -2,7 +2,9 @@ mod RunRows
 pub mod RunLaws
 pub mod Members
 pub mod OperandLaws
+pub mod Apart
 pub mod IndexSteps
+pub mod Touches
 pub mod LiveRoutes
 pub mod ClosingSteps
 pub mod Ascending

@@ -1,13 +1,16 @@
 -- What is noted of an operation are the values that it reads and writes, and so is what is added to lists of them.
-use Rattle.std.proofs.Common.{◌≡◌, ℕ, refl, sym, ◌∙◌, ap, append_assoc, Bool, true, false, if◌then◌else◌, Option, None, List, [], ◌∷◌, ◌++◌}
+use Rattle.std.proofs.Common.{◌≡◌, inl, inr, ℕ, refl, sym, ◌∙◌, ap, append_assoc, Bool, true, false, if◌then◌else◌, Option, None, List, [], ◌∷◌, ◌++◌}
 use Rattle.std.proofs.lemmas.List.{map-append}
+use Rattle.vx_base.specs.declared.arithmetic.Code.{Code}
+use Rattle.vx_base.specs.declared.arithmetic.Code.TheVariants.{Add, Sub, And, Or, Xor, Shl, Shr, Shru, Sh2add, Max, Min, Mov, ToGeneral, ToBranch, Mpylu, Mpyhs, Div, Rem}
 use Rattle.vx_flow.specs.declared.graph.Operand.{Operand}
 use Rattle.vx_flow.specs.declared.graph.Operand.TheVariants.{Held, Number, Stack}
 use Rattle.vx_flow.specs.declared.graph.Op.{Op}
 use Rattle.vx_flow.specs.declared.graph.Op.TheVariants.{Compute, Select, Place, Load, Store, More, Input, Text, Decimal, Across}
 use Rattle.vx_flow.specs.declared.operands.Reads.{Reads}
 use Rattle.vx_flow.specs.declared.routes.Touch.{Touch}
-use Rattle.vx_flow.specs.Effects.{is_unary, value_in, reads, writes}
+use Rattle.vx_flow.specs.Effects.{IsIn, is_unary, value_in, reads, writes}
+use Rattle.vx_flow.specs.Sound.{operands_of}
 use Rattle.vx_flow.specs.Live.{touch, reading, writing}
 use Rattle.vx_flow.specs.Operands.{written_by, held_by, reads_three, read_by, value_list, values_read}
 
@@ -99,3 +102,45 @@ reads_touched op r old one two new e p q s =
     ∙ ap (λ l. old ++ (reading a ++ l)) (sym (map-append (touch true) b c))
     ∙ ap (λ l. old ++ l) (sym (map-append (touch true) a (b ++ c)))
     ∙ ap (λ l. old ++ reading l) (reads_listed op r e)
+
+-- the operands of a computation
+
+pub first_operand_in : (code : Code) (v : ℕ) (a b : Operand) → IsIn a (operands_of (Compute code v a b))
+first_operand_in Add v a b = inl refl
+first_operand_in Sub v a b = inl refl
+first_operand_in And v a b = inl refl
+first_operand_in Or v a b = inl refl
+first_operand_in Xor v a b = inl refl
+first_operand_in Shl v a b = inl refl
+first_operand_in Shr v a b = inl refl
+first_operand_in Shru v a b = inl refl
+first_operand_in Sh2add v a b = inl refl
+first_operand_in Max v a b = inl refl
+first_operand_in Min v a b = inl refl
+first_operand_in Mov v a b = inl refl
+first_operand_in (ToGeneral c) v a b = inl refl
+first_operand_in (ToBranch c) v a b = inl refl
+first_operand_in Mpylu v a b = inl refl
+first_operand_in Mpyhs v a b = inl refl
+first_operand_in Div v a b = inl refl
+first_operand_in Rem v a b = inl refl
+
+pub second_operand_in : (code : Code) (v : ℕ) (a b : Operand) → is_unary code ≡ false → IsIn b (operands_of (Compute code v a b))
+second_operand_in Add v a b e = inr (inl refl)
+second_operand_in Sub v a b e = inr (inl refl)
+second_operand_in And v a b e = inr (inl refl)
+second_operand_in Or v a b e = inr (inl refl)
+second_operand_in Xor v a b e = inr (inl refl)
+second_operand_in Shl v a b e = inr (inl refl)
+second_operand_in Shr v a b e = inr (inl refl)
+second_operand_in Shru v a b e = inr (inl refl)
+second_operand_in Sh2add v a b e = inr (inl refl)
+second_operand_in Max v a b e = inr (inl refl)
+second_operand_in Min v a b e = inr (inl refl)
+second_operand_in Mov v a b e = absurd (cc)
+second_operand_in (ToGeneral c) v a b e = inr (inl refl)
+second_operand_in (ToBranch c) v a b e = inr (inl refl)
+second_operand_in Mpylu v a b e = inr (inl refl)
+second_operand_in Mpyhs v a b e = inr (inl refl)
+second_operand_in Div v a b e = inr (inl refl)
+second_operand_in Rem v a b e = inr (inl refl)

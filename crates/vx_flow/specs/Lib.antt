@@ -1,5 +1,6 @@
 pub mod Effects
 pub mod Operands
+pub mod Apart
 pub mod Meaning
 pub mod Sound
 pub mod Live

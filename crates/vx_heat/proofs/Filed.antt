@@ -14,7 +14,7 @@ use Rattle.vx_regs.specs.declared.map.Kept.{Kept}
 use Rattle.vx_regs.specs.declared.map.Kept.TheVariants.{InRegister, InSlot, Nowhere}
 use Rattle.vx_target.specs.Target.{Target, is_branch, kept, is_slotted, home, holds_branch, general_of, branch_of, number_by, scratch, same_file}
 use Rattle.vx_target.specs.Carried.{IsMapped}
-use Rattle.vx_heat.proofs.Limits.{Limits}
+use Rattle.vx_target.proofs.Limits.{Limits}
 use Rattle.vx_target.proofs.Names.{Few, HasBank, Filed, filed, index_below, file_general, file_branch}
 
 at_most_one : (t q : ℕ → Bool) (v : ℕ) → length (filter t (filter q (v ∷ []))) ≤ 1

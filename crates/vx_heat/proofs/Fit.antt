@@ -55,7 +55,8 @@ use Rattle.vx_target.proofs.Live.{reads_bank, writes_bank, live_bank}
 use Rattle.vx_target.proofs.Enough.{few_reads, few_writes, named_busy, in_all_of, in_map}
 use Rattle.vx_target.proofs.Once.{once_in}
 use Rattle.vx_target.proofs.Word.{slotted_from}
-use Rattle.vx_heat.proofs.Limits.{Limits, limits, Good, well, empty_good, one_good, spread_good, count_single, count_none}
+use Rattle.vx_target.proofs.Limits.{Limits, limits}
+use Rattle.vx_heat.proofs.Limits.{Good, well, empty_good, one_good, spread_good, count_single, count_none}
 use Rattle.vx_heat.proofs.Filed.{few_single, few_kept, general_filed, branch_filed}
 use Rattle.vx_heat.proofs.PlanFits.{plan_good}
 

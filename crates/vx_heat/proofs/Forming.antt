@@ -22,7 +22,7 @@ use Rattle.vx_isa.specs.Sound.{can_name_cluster, can_name, can_name_branch, can_
 use Rattle.vx_isa.proofs.FitsLaw.{six_parts, registers_pass}
 use Rattle.vx_target.specs.Target.{computes}
 use Rattle.vx_target.proofs.Forms.{to_branch}
-use Rattle.vx_heat.proofs.Limits.{Limits}
+use Rattle.vx_target.proofs.Limits.{Limits}
 
 -- a compare to a branch register writes one, every other code but a move a general register
 abbrev pub HasForm : Code → Register → Type 0

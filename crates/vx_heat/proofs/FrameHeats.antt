@@ -29,7 +29,7 @@ use Rattle.vx_target.specs.Placed.{Label, Start, Entry, At, Landing, Depth, Labe
 use Rattle.vx_target.specs.Carried.{Carries, IsMapped}
 use Rattle.vx_heat.specs.Fitted.{NeverEarlyLaw}
 use Rattle.vx_target.proofs.Frames.{get_beyond, get_some, get_in}
-use Rattle.vx_heat.proofs.Limits.{Limits, limits}
+use Rattle.vx_target.proofs.Limits.{Limits, limits}
 use Rattle.vx_target.proofs.Stands.{piece_at, landing_at, in_laid, in_landings, of_function, word_next}
 use Rattle.vx_heat.proofs.Early.{words_kind, words_cool}
 use Rattle.vx_heat.proofs.Heats.{lift, stop_fine}

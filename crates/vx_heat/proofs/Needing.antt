@@ -44,7 +44,8 @@ use Rattle.vx_target.proofs.Forms.{to_branch}
 use Rattle.vx_target.proofs.Proper.{PlainOperand, PlaceIn, ProperOp, ProperItems}
 use Rattle.vx_target.proofs.Names.{Few, file_self}
 use Rattle.vx_target.proofs.Enough.{few_reads, few_writes, named_busy, in_all_of, operands_code, across_source}
-use Rattle.vx_heat.proofs.Limits.{Limits, bit, count_single, count_none, no_branch, below_of}
+use Rattle.vx_target.proofs.Limits.{Limits}
+use Rattle.vx_heat.proofs.Limits.{bit, count_single, count_none, no_branch, below_of}
 use Rattle.vx_heat.proofs.Filed.{general_filed, branch_filed, general_there, branch_there}
 
 same_eqb : (a b : ℕ) → a ≡ b → eqb a b ≡ true

@@ -30,7 +30,8 @@ use Rattle.vx_target.specs.Carried.{IsMapped, item_of_laid}
 use Rattle.vx_target.proofs.Proper.{ProperItems}
 use Rattle.vx_target.proofs.Names.{apart_all}
 use Rattle.vx_target.proofs.Enough.{few_writes, named_busy, in_map}
-use Rattle.vx_heat.proofs.Limits.{Limits, Good, well}
+use Rattle.vx_target.proofs.Limits.{Limits}
+use Rattle.vx_heat.proofs.Limits.{Good, well}
 use Rattle.vx_heat.proofs.Needing.{Carrying, op_carries, split_carries}
 
 in_file : (m : Numbers) (r : Register) → is_in_file m r ≡ true → IsInFile m r

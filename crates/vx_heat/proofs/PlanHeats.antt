@@ -20,7 +20,7 @@ use Rattle.vx_target.specs.Target.{Target, is_branch, general_of, branch_of, reg
 use Rattle.vx_target.specs.Carried.{IsMapped}
 use Rattle.vx_target.proofs.Names.{Few, not_general, apart_all}
 use Rattle.vx_target.proofs.FromGraph.{whole_bank, has_whole}
-use Rattle.vx_heat.proofs.Limits.{Limits}
+use Rattle.vx_target.proofs.Limits.{Limits}
 use Rattle.vx_heat.proofs.Filed.{few_single}
 use Rattle.vx_target.proofs.Once.{once_in, no_twice}
 use Rattle.vx_target.proofs.Word.{slotted_from}

@@ -48,7 +48,7 @@ use Rattle.vx_heat.proofs.Forming.{HasForm, Formed, AllFormed, computes_formed, 
 use Rattle.vx_target.proofs.Forms.{to_branch}
 use Rattle.vx_target.proofs.Frames.{get_below, get_some, get_in, past_below}
 use Rattle.vx_target.proofs.FromGraph.{undismissed, op_proper}
-use Rattle.vx_heat.proofs.Limits.{Limits, limits}
+use Rattle.vx_target.proofs.Limits.{Limits, limits}
 use Rattle.vx_target.proofs.Pauses.{flight_few, slots_few}
 use Rattle.vx_target.proofs.Proper.{ProperOp}
 use Rattle.vx_target.proofs.Stands.{word_stands, word_next, landing_stands, entry_stands, entry_next, depth_stands}

@@ -37,7 +37,7 @@ use Rattle.vx_target.proofs.Names.{Few, file_general}
 use Rattle.vx_target.proofs.Live.{reads_bank, writes_bank}
 use Rattle.vx_target.proofs.Enough.{few_reads, few_writes, in_all_of, in_map}
 use Rattle.vx_target.proofs.Word.{slotted_in, slotted_from}
-use Rattle.vx_heat.proofs.Limits.{Limits}
+use Rattle.vx_target.proofs.Limits.{Limits}
 use Rattle.vx_heat.proofs.Filed.{general_there}
 use Rattle.vx_heat.proofs.Early.{falls, hits, Touches, words_kind, words_cool}
 use Rattle.vx_heat.proofs.Heats.{lift, lift_from, lift_at, raised_bound, stop_fine}

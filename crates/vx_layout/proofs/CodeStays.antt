@@ -33,7 +33,7 @@ use Rattle.vx_mixed.proofs.StaysValid.{linkable}
 
 -- a load that may be dismissed comes from the same load
 
-whole_dismissed : (n : ℕ) (op : Op) → dismissed (whole_op n (dismissed op)) ≡ dismissed (whole_op n op)
+pub whole_dismissed : (n : ℕ) (op : Op) → dismissed (whole_op n (dismissed op)) ≡ dismissed (whole_op n op)
 whole_dismissed n (Compute code v a b) = refl
 whole_dismissed n (Select v p a b) = refl
 whole_dismissed n (Place v a i) = refl
@@ -45,7 +45,7 @@ whole_dismissed n (Text k) = refl
 whole_dismissed n (Decimal x) = refl
 whole_dismissed n (Across v u) = refl
 
-writes_dismissed : (op : Op) → writes (dismissed op) ≡ writes op
+pub writes_dismissed : (op : Op) → writes (dismissed op) ≡ writes op
 writes_dismissed (Compute code v a b) = refl
 writes_dismissed (Select v p a b) = refl
 writes_dismissed (Place v a i) = refl

@@ -14,7 +14,7 @@ use crate::linear::have_equal_terms;
 use vx_arithmetic::{sub32, unsigned32};
 use vx_base::answer::Answer;
 
-/// Whether two accesses name one word: never, exactly where their arrays are two or no numbers of the symbols make both
+/// Whether two accesses name one word: never, exactly where their arrays are apart or no numbers of the symbols make both
 /// places equal; always, exactly where the array is one and the forms are equal. The terms of both must ascend by their
 /// symbols, each symbol once and with a factor other than 0.
 pub fn differs(left: &Form, right: &Form) -> Answer

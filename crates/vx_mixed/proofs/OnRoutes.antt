@@ -2,7 +2,6 @@
 use Rattle.std.proofs.Common.{◌≡◌, ℕ, zero, suc, ◌+◌, ◌-◌, ◌≤◌, Bool, true, false, Option, Some, None, List, [], ◌∷◌, ◌++◌, length, map, take, drop, slice_get, slice_index_or, refl, sym, ap, ◌∙◌, subst, ⊎_elim, inl, inr, arith, append_assoc}
 use Rattle.std.specs.Prelude.{◌⊎◌, if◌then◌else◌}
 use Rattle.std.specs.List.{flat_map}
-use Rattle.std.proofs.lemmas.Bool.{cases_eq, eq-eqb, ne_eqb}
 use Rattle.vx_flow.specs.declared.graph.Edge.{Edge}
 use Rattle.vx_flow.specs.declared.graph.Exit.{Exit}
 use Rattle.vx_flow.specs.declared.graph.Exit.TheVariants.{Goto}
@@ -13,6 +12,7 @@ use Rattle.vx_flow.specs.Effects.{IsIn}
 use Rattle.vx_flow.specs.Live.{LiveOn, first_touch, touch, reads_of_exit, here as route_here, beyond as route_beyond}
 use Rattle.vx_flow.specs.Sound.{targets_of, results_of_exit}
 use Rattle.vx_flow.proofs.Members.{in_left, in_right}
+use Rattle.vx_flow.proofs.Touches.{touched_first, touched_behind}
 use Rattle.vx_mixed.specs.declared.region.Item.{Item}
 use Rattle.vx_mixed.specs.declared.region.Item.TheVariants.{Plain, Split}
 use Rattle.vx_mixed.specs.declared.region.Node.{Node}
@@ -27,20 +27,6 @@ use Rattle.vx_mixed.specs.Routes.{reading_item, writing_item, word_touches, exit
 use Rattle.vx_mixed.proofs.Alike.{in_or}
 use Rattle.vx_mixed.proofs.Linked.{in_index}
 
--- the first touch
-
-first_in : (k : Bool) (v : ℕ) (vs : List ℕ) (rest : List Touch) → IsIn v vs → first_touch v (map (touch k) vs ++ rest) ≡ Some k
-first_in k v [] rest h = absurd h
-first_in k v (u ∷ vs) rest h =
-    ⊎_elim
-    (λ e. ap (λ b. if b then Some k else first_touch v (map (touch k) vs ++ rest)) (eq-eqb u v e))
-    (λ n. ap (λ b. if b then Some k else first_touch v (map (touch k) vs ++ rest)) (ne_eqb u v n) ∙ first_in k v vs rest (⊎_elim (λ e. absurd (n (sym e))) (λ q. q) h))
-    (cases_eq u v)
-
-first_out : (k : Bool) (v : ℕ) (vs : List ℕ) (rest : List Touch) → (IsIn v vs → ⊥) → first_touch v (map (touch k) vs ++ rest) ≡ first_touch v rest
-first_out k v [] rest h = refl
-first_out k v (u ∷ vs) rest h = ap (λ b. if b then Some k else first_touch v (map (touch k) vs ++ rest)) (ne_eqb u v (λ e. h (inl (sym e)))) ∙ first_out k v vs rest (λ m. h (inr m))
-
 -- what some reads and then some writes do first, where `first` is what they and the rest do
 pub data Firsts (v : ℕ) (rs ws : List ℕ) (rest first : Option Bool) : Type 0 where
   is_read : IsIn v rs → first ≡ Some true → Firsts v rs ws rest first
@@ -51,10 +37,10 @@ firsts : (v : ℕ) (rs ws : List ℕ) (rest : List Touch) → Firsts v rs ws (fi
 firsts v rs ws rest =
     subst (λ l. Firsts v rs ws (first_touch v rest) (first_touch v l)) (sym (append_assoc (map (touch true) rs) (map (touch false) ws) rest))
     (⊎_elim
-    (λ m. is_read m (first_in true v rs (map (touch false) ws ++ rest) m))
+    (λ m. is_read m (touched_first true v rs (map (touch false) ws ++ rest) m))
     (λ n. ⊎_elim
-    (λ m. is_written n m (first_out true v rs (map (touch false) ws ++ rest) n ∙ first_in false v ws rest m))
-    (λ k. is_left n k (first_out true v rs (map (touch false) ws ++ rest) n ∙ first_out false v ws rest k))
+    (λ m. is_written n m (touched_behind true v rs (map (touch false) ws ++ rest) n ∙ touched_first false v ws rest m))
+    (λ k. is_left n k (touched_behind true v rs (map (touch false) ws ++ rest) n ∙ touched_behind false v ws rest k))
     (in_or v ws))
     (in_or v rs))
 

@@ -100,6 +100,10 @@ nth_past [] k h = refl
 nth_past (i ∷ is) zero h = absurd (omega arith)
 nth_past (i ∷ is) (suc k) h = nth_past is k (omega arith)
 
+-- a split stands in the trace
+pub split_in_trace : (is : List Item) (k : ℕ) → IsSplit (nth is k) → k < length is
+split_in_trace is k h = ⊎_elim (λ a. a) (λ a. absurd (subst IsSplit (nth_past is k a) h)) (cases_lt k (length is))
+
 -- what is read or written stands in the trace
 pub in_trace : (setting : Setting) (is : List Item) (s : State) (k : ℕ) (l : Location) → (Reads setting s (nth is k) l ⊎ Writes setting s (nth is k) l) → k < length is
 in_trace setting is s k l h =

@@ -27,6 +27,7 @@ pub mod Rows
 pub mod SettledAfter
 pub mod PlacedWords
 pub mod Scheduled
+pub mod Replacements
 pub mod Compensated
 pub mod FromGraphs
 pub mod Context

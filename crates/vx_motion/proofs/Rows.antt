@@ -15,7 +15,7 @@ use Rattle.vx_motion.specs.Replaced.{CellFacts}
 use Rattle.vx_motion.specs.Rows.{IsObservable, IsLoad, IsStore, reads_last, writes_too, writes_read, store_access, load_store, observables, two_splits, split_held, split_live, Meets, NeverApart, Placed}
 use Rattle.vx_motion.proofs.Effect.{cell_named}
 use Rattle.vx_mixed.proofs.Alike.{in_or}
-use Rattle.vx_motion.proofs.Delays.{in_trace, nth_past}
+use Rattle.vx_motion.proofs.Delays.{split_in_trace, in_trace, nth_past}
 use Rattle.vx_motion.proofs.Joins.{nth_drop}
 
 -- what gives or takes a cell, the input or the output
@@ -56,9 +56,6 @@ module _ (setting : Setting) (is : List Item) (latency : Item → ℕ) (live : �
   reads_in : (k v : ℕ) → IsIn v (item_reads (nth is k)) → k < length is
   reads_in k v h = ⊎_elim (λ a. a) (λ a. absurd (subst (λ i. IsIn v (item_reads i)) (nth_past is k a) h)) (cases_lt k (length is))
 
-  pub split_in_trace : (k : ℕ) → IsSplit (nth is k) → k < length is
-  split_in_trace k h = ⊎_elim (λ a. a) (λ a. absurd (subst IsSplit (nth_past is k a) h)) (cases_lt k (length is))
-
   output : (i k v : ℕ) → i < k → IsIn v (item_writes (nth is i)) → IsIn v (item_writes (nth is k)) → word i + latency (nth is i) ≤ word k
   output i k v lt a b = meets i k (latency (nth is i)) lt (writes_in k v b) (writes_too v a b)
 
@@ -94,7 +91,7 @@ module _ (setting : Setting) (is : List Item) (latency : Item → ℕ) (live : �
   held e k lt s f =
       ⊎_elim
       (λ a. let h = meets e k 1 lt a (split_held s (firm (nth is k) f)) in omega arith)
-      (λ a. let b = placed.beyond k a in let c = placed.inside e (split_in_trace e s) in omega arith)
+      (λ a. let b = placed.beyond k a in let c = placed.inside e (split_in_trace is e s) in omega arith)
       (cases_lt k (length is))
     where
       firm : (i : Item) → IsFirm i → IsStore i ⊎ IsObservable i
@@ -191,7 +188,7 @@ module _ (setting : Setting) (is : List Item) (latency : Item → ℕ) (live : �
     cell_flow = cells.flow;
     cell_anti = cells.anti;
     cell_output = cells.output;
-    splits = λ i k lt a b. let h = meets i k 0 lt (split_in_trace k b) (two_splits a b) in omega arith;
+    splits = λ i k lt a b. let h = meets i k 0 lt (split_in_trace is k b) (two_splits a b) in omega arith;
     held = held;
     kept = λ e k v lt s l w. let h = meets e k 1 lt (writes_in k v w) (split_live v s l w) in omega arith;
     early = early;

@@ -25,11 +25,12 @@ use Rattle.vx_motion.specs.Context.{Becomes, Changes}
 use Rattle.vx_mixed.specs.Entrances.{meet_old, meet_new, pairs}
 use Rattle.vx_mixed.specs.Next.{new_end, new_region, renamed_region, made_origin, last_of, exit_in, next_mixed, rename}
 use Rattle.vx_layout.specs.OriginLaws.{CodeStays}
-use Rattle.vx_layout.specs.Origins.{whole_op, ComesFrom, graph_op, copy}
+use Rattle.vx_layout.specs.Origins.{ComesFrom, graph_op, copy}
 use Rattle.vx_motion.specs.Scheduled.{Keeps}
 use Rattle.vx_mixed.specs.Settled.{InTime, Tidy, has_home}
 use Rattle.vx_mixed.specs.TraceOf.{CanTrace, IsTraceOf}
 use Rattle.vx_mixed.specs.Valid.{Valid, IsOp, block_op, region_op}
+use Rattle.vx_layout.proofs.CodeStays.{whole_dismissed, writes_dismissed}
 use Rattle.vx_motion.proofs.Compensated.{compensation_law}
 use Rattle.vx_mixed.proofs.Linked.{index_in, some_blocks}
 use Rattle.vx_mixed.proofs.NewBlocks.{OldBlock, MadeBlock, new_block}
@@ -54,21 +55,9 @@ use Rattle.vx_region.proofs.PlanOps.{Comes, comes_has}
 use Rattle.vx_region.proofs.PlansFit.{index_low, copied, traced, made_comes, op_of_made, made_below, made_at_home, made_there, made_stands, in_region, can_replace, parts_of, plan_law, plans_fit}
 use Rattle.vx_region.proofs.RoomHomes.{is_room}
 use Rattle.vx_region.proofs.ShortDrains.{drain_low, mapped_low}
-use Rattle.vx_region.proofs.SoundOps.{writes_dismissed, reads_dismissed}
+use Rattle.vx_region.proofs.SoundOps.{reads_dismissed}
 
 -- a load that may be dismissed comes from where the load comes from
-
-whole_dismissed : (n : ℕ) (op : Op) → dismissed (whole_op n (dismissed op)) ≡ dismissed (whole_op n op)
-whole_dismissed n (Compute code v a b) = refl
-whole_dismissed n (Select v p a b) = refl
-whole_dismissed n (Place v a i) = refl
-whole_dismissed n (Load v a p d) = refl
-whole_dismissed n (Store a p x) = refl
-whole_dismissed n (More v) = refl
-whole_dismissed n (Input v) = refl
-whole_dismissed n (Text k) = refl
-whole_dismissed n (Decimal x) = refl
-whole_dismissed n (Across v u) = refl
 
 dismissed_comes : (graph : Graph) (op : Op) → ComesFrom graph op → ComesFrom graph (dismissed op)
 dismissed_comes graph op (graph_op origin has same written names) =

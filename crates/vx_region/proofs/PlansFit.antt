@@ -34,6 +34,7 @@ use Rattle.vx_mixed.specs.TraceOf.{CanTrace, IsTraceOf, block_at, block_or_none}
 use Rattle.vx_mixed.specs.Valid.{Valid, names_of, TestsBranch}
 use Rattle.vx_mixed.proofs.Linked.{index_in, in_index, some_blocks, some_same}
 use Rattle.vx_mixed.proofs.NewBlocks.{from_placed, split_of, word_of}
+use Rattle.vx_layout.proofs.CodeStays.{writes_dismissed}
 use Rattle.vx_dep.specs.declared.mode.Mode.{Mode}
 use Rattle.vx_dep.specs.Delays.{AreHeights}
 use Rattle.vx_dep.specs.declared.copies.EdgeCopies.{EdgeCopies}
@@ -58,7 +59,7 @@ use Rattle.vx_region.proofs.PlainItems.{some_at}
 use Rattle.vx_region.proofs.PlanOps.{Comes, comes_placed, placed_there, MadeFrom, made_from, tests_branch}
 use Rattle.vx_region.proofs.Planning.{compensated, own_blocks}
 use Rattle.vx_region.proofs.RoomWords.{words_have_room}
-use Rattle.vx_region.proofs.SoundOps.{Known, reads_dismissed, writes_dismissed}
+use Rattle.vx_region.proofs.SoundOps.{Known, reads_dismissed}
 
 -- joins of a clustered trace ascend
 
@@ -437,7 +438,7 @@ module _ (law : AssignedStands) where
         knows = knows;
         works = p.is_a_machine;
         is = p.replacement ∙ ap (λ z. replacement_of machine k.homes P' z p.rejoins) p.at_splits ∙ ap (replacement_of machine k.homes P' (at_splits_of P')) p.at_joins;
-        compensated = compensated m machine mode k.homes p.trace k.clustered p.words p.height p.is_a_machine knows.is p.heights p.placed valid knows.can b.0 b.1 b.2 knows.fits;
+        compensated = compensated m machine mode k.homes p.trace k.clustered p.words p.height p.is_a_machine knows.is p.heights p.placed valid knows.can b.0 b.1 b.2 knows.fits (ap (λ (z : Clustered). z.trace.arrays) p.assigned.clustered ∙ p.is_trace.arrays);
       }
 
   pub plan_law : PlanLaw

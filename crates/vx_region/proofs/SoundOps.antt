@@ -16,6 +16,7 @@ use Rattle.vx_flow.specs.declared.trace.TraceOp.TheVariants.{Plain}
 use Rattle.vx_flow.specs.Effects.{IsIn, dismissed, is_unary, value_in, reads, writes}
 use Rattle.vx_flow.specs.Sound.{bank_written, operands_of, tests_of, arrays_of, HasOperation, Sound}
 use Rattle.vx_flow.proofs.Members.{in_either}
+use Rattle.vx_flow.proofs.OperandLaws.{first_operand_in, second_operand_in}
 use Rattle.vx_layout.specs.Origins.{whole, whole_operand, whole_op, copy_of, ComesFrom, graph_op, copy}
 use Rattle.vx_bug.specs.Clusters.{general_reads}
 
@@ -62,56 +63,10 @@ pub reads_dismissed : (op : Op) → reads (dismissed op) ≡ reads op
 reads_dismissed (Load v a p d) = refl
 reads_dismissed op = refl
 
-pub writes_dismissed : (op : Op) → writes (dismissed op) ≡ writes op
-writes_dismissed (Load v a p d) = refl
-writes_dismissed op = refl
-
 in_map : {A B : Type 0} (f : A → B) (xs : List A) (x : A) → IsIn x xs → IsIn (f x) (map f xs)
 in_map f [] x h = absurd h
 in_map f (y ∷ ys) x (inl e) = inl (ap f e)
 in_map f (y ∷ ys) x (inr h) = inr (in_map f ys x h)
-
--- the operands of a computation
-
-first_operand : (code : Code) (v : ℕ) (a b : Operand) → IsIn a (operands_of (Compute code v a b))
-first_operand Add v a b = inl refl
-first_operand Sub v a b = inl refl
-first_operand And v a b = inl refl
-first_operand Or v a b = inl refl
-first_operand Xor v a b = inl refl
-first_operand Shl v a b = inl refl
-first_operand Shr v a b = inl refl
-first_operand Shru v a b = inl refl
-first_operand Sh2add v a b = inl refl
-first_operand Max v a b = inl refl
-first_operand Min v a b = inl refl
-first_operand Mov v a b = inl refl
-first_operand (ToGeneral c) v a b = inl refl
-first_operand (ToBranch c) v a b = inl refl
-first_operand Mpylu v a b = inl refl
-first_operand Mpyhs v a b = inl refl
-first_operand Div v a b = inl refl
-first_operand Rem v a b = inl refl
-
-second_operand : (code : Code) (v : ℕ) (a b : Operand) → is_unary code ≡ false → IsIn b (operands_of (Compute code v a b))
-second_operand Add v a b e = inr (inl refl)
-second_operand Sub v a b e = inr (inl refl)
-second_operand And v a b e = inr (inl refl)
-second_operand Or v a b e = inr (inl refl)
-second_operand Xor v a b e = inr (inl refl)
-second_operand Shl v a b e = inr (inl refl)
-second_operand Shr v a b e = inr (inl refl)
-second_operand Shru v a b e = inr (inl refl)
-second_operand Sh2add v a b e = inr (inl refl)
-second_operand Max v a b e = inr (inl refl)
-second_operand Min v a b e = inr (inl refl)
-second_operand Mov v a b e = absurd (cc)
-second_operand (ToGeneral c) v a b e = inr (inl refl)
-second_operand (ToBranch c) v a b e = inr (inl refl)
-second_operand Mpylu v a b e = inr (inl refl)
-second_operand Mpyhs v a b e = inr (inl refl)
-second_operand Div v a b e = inr (inl refl)
-second_operand Rem v a b e = inr (inl refl)
 
 -- a general value that is read is an operand, of the operation with values in place of their copies too
 
@@ -134,8 +89,8 @@ held_operand : (n v : ℕ) (op : Op) → NotAcross op → IsIn v (general_reads 
 held_operand n v (Compute code w a b) not h = by (is_unary code) refl h
   where
     by : (u : Bool) → is_unary code ≡ u → IsIn v (if u then value_in a else value_in a ++ value_in b) → IsIn (Held (whole n v)) (operands_of (whole_op n (Compute code w a b)))
-    by true e i = one_of n v a (operands_of (whole_op n (Compute code w a b))) i (first_operand code (whole n w) (whole_operand n a) (whole_operand n b))
-    by false e i = two_of n v a b (operands_of (whole_op n (Compute code w a b))) i (first_operand code (whole n w) (whole_operand n a) (whole_operand n b)) (second_operand code (whole n w) (whole_operand n a) (whole_operand n b) e)
+    by true e i = one_of n v a (operands_of (whole_op n (Compute code w a b))) i (first_operand_in code (whole n w) (whole_operand n a) (whole_operand n b))
+    by false e i = two_of n v a b (operands_of (whole_op n (Compute code w a b))) i (first_operand_in code (whole n w) (whole_operand n a) (whole_operand n b)) (second_operand_in code (whole n w) (whole_operand n a) (whole_operand n b) e)
 held_operand n v (Select w p a b) not h = two_of n v a b (operands_of (whole_op n (Select w p a b))) h (inl refl) (inr (inl refl))
 held_operand n v (Place w a i) not h = one_of n v i (operands_of (whole_op n (Place w a i))) h (inl refl)
 held_operand n v (Load w a p d) not h = one_of n v p (operands_of (whole_op n (Load w a p d))) h (inl refl)

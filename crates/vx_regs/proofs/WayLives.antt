@@ -2,7 +2,6 @@
 use Rattle.std.proofs.Common.{◌≡◌, ℕ, zero, suc, ◌+◌, ◌<◌, ◌≤◌, Bool, true, false, Option, Some, None, List, [], ◌∷◌, ◌++◌, length, map, drop, slice_get, refl, sym, ap, ◌∙◌, subst, ⊎_elim, inl, inr, arith, append_assoc}
 use Rattle.std.specs.Prelude.{◌⊎◌, ◌↔◌, if◌then◌else◌, IsTrue}
 use Rattle.std.specs.List.{flat_map}
-use Rattle.std.proofs.lemmas.Bool.{cases_eq, eq-eqb, ne_eqb}
 use Rattle.vx_flow.specs.declared.routes.Route.{Route}
 use Rattle.vx_flow.specs.declared.routes.Touch.{Touch}
 use Rattle.vx_flow.specs.Closing.{BeginWithin}
@@ -11,6 +10,7 @@ use Rattle.vx_flow.specs.Live.{LiveOn, first_touch, touch}
 use Rattle.vx_flow.specs.Live.{here as route_here, beyond as route_beyond}
 use Rattle.vx_flow.specs.Rows.{lives}
 use Rattle.vx_flow.proofs.Members.{in_left, in_right, in_either}
+use Rattle.vx_flow.proofs.Touches.{touched_first, touched_behind}
 use Rattle.vx_mixed.specs.declared.layout.Laid.{Laid}
 use Rattle.vx_mixed.specs.declared.layout.Laid.TheVariants.{Plain, Split}
 use Rattle.vx_mixed.specs.declared.layout.VirtualWord.{VirtualWord}
@@ -25,20 +25,6 @@ use Rattle.vx_regs.specs.declared.living.Living.{Living}
 use Rattle.vx_regs.specs.Ways.{marked, marked_by_words, node_in, AreNodes, node_list, item_ways, word_ways, ends_at, word_touches, way_touches, way_ends, way_from, ways_from, lives_in, lives_there, LivesAt, LivesAtNodes, NodesFound}
 use Rattle.vx_regs.proofs.NodeMarks.{numbers_long, words_long, set_long, Node, Inside, node_once, entry_node, leads_node, leads_next}
 
--- the first touch of some values, and then of the rest
-
-first_in : (k : Bool) (v : ℕ) (vs : List ℕ) (rest : List Touch) → IsIn v vs → first_touch v (map (touch k) vs ++ rest) ≡ Some k
-first_in k v [] rest h = absurd h
-first_in k v (u ∷ vs) rest h =
-    ⊎_elim
-    (λ e. ap (λ b. if b then Some k else first_touch v (map (touch k) vs ++ rest)) (eq-eqb u v e))
-    (λ n. ap (λ b. if b then Some k else first_touch v (map (touch k) vs ++ rest)) (ne_eqb u v n) ∙ first_in k v vs rest (⊎_elim (λ e. absurd (n (sym e))) (λ q. q) h))
-    (cases_eq u v)
-
-first_out : (k : Bool) (v : ℕ) (vs : List ℕ) (rest : List Touch) → (IsIn v vs → ⊥) → first_touch v (map (touch k) vs ++ rest) ≡ first_touch v rest
-first_out k v [] rest h = refl
-first_out k v (u ∷ vs) rest h = ap (λ b. if b then Some k else first_touch v (map (touch k) vs ++ rest)) (ne_eqb u v (λ e. h (inl (sym e)))) ∙ first_out k v vs rest (λ m. h (inr m))
-
 -- what a word and the rest behind it do first
 data Firsts (v : ℕ) (word : VirtualWord) (rest first : Option Bool) : Type 0 where
   is_read : IsIn v (word_reads word) → first ≡ Some true → Firsts v word rest first
@@ -51,10 +37,10 @@ firsts v word rest =
     let ws = word_writes word in
     subst (λ l. Firsts v word (first_touch v rest) (first_touch v l)) (sym (append_assoc (map (touch true) rs) (map (touch false) ws) rest))
     (⊎_elim
-    (λ m. is_read m (first_in true v rs (map (touch false) ws ++ rest) m))
+    (λ m. is_read m (touched_first true v rs (map (touch false) ws ++ rest) m))
     (λ n. ⊎_elim
-    (λ m. is_written n m (first_out true v rs (map (touch false) ws ++ rest) n ∙ first_in false v ws rest m))
-    (λ k. is_left n k (first_out true v rs (map (touch false) ws ++ rest) n ∙ first_out false v ws rest k))
+    (λ m. is_written n m (touched_behind true v rs (map (touch false) ws ++ rest) n ∙ touched_first false v ws rest m))
+    (λ k. is_left n k (touched_behind true v rs (map (touch false) ws ++ rest) n ∙ touched_behind false v ws rest k))
     (in_or v ws))
     (in_or v rs))
 

@@ -39,7 +39,7 @@ fn bank_in(layout: &VWords, value: Value) -> Option<Bank>
 }
 
 /// The cluster on which a value of a layout stands.
-fn home_in(layout: &VWords, value: Value) -> u32
+pub fn home_in(layout: &VWords, value: Value) -> u32
     ensures { result ≡ home_in layout.now value }
 {
     let values = layout.banks.len() as u32;

@@ -11,4 +11,4 @@ mod scanning;
 mod spans;
 pub mod touching;
 
-pub use allocating::registers;
+pub use allocating::{home_in, registers};

@@ -3,7 +3,7 @@
 
 ghost use Rattle.std.specs.Prelude.{◌≡◌, ◌<◌, ◌≤◌, ◌+◌, ◌^◌, ◌++◌, ◌==◌, not, IfOk, length};
 ghost use Rattle.std.specs.List.{filter};
-ghost use Rattle.vx_mixed.specs.LaidSettled.{home_in, bank_in};
+ghost use Rattle.vx_mixed.specs.LaidSettled.{bank_in};
 ghost use Rattle.vx_target.specs.Target.{stack_on, kept, is_slotted, is_branch, holds_branch, home, same_file, slotted, once, scratch, general, general_of, branch_of, register_of, source_of};
 ghost use Rattle.vx_slots.specs.Seen.{seen};
 
@@ -13,8 +13,8 @@ use vx_base::listed::Listed;
 use vx_base::outcome::NoMemory;
 use vx_flow::graph::{Bank, Operand, Value};
 use vx_isa::operation::{BranchRegister, GeneralRegister, Register, Source};
-use vx_machine::home_of;
 use vx_mixed::layout::VWords;
+use vx_regs::home_in;
 use vx_regs::map::Kept;
 
 /// The first scratch register of a cluster.
@@ -77,23 +77,6 @@ pub fn is_branch_value(layout: &VWords, value: Value) -> bool
         Some(Bank::Branch) => true,
         Some(Bank::General) => false,
         None => false,
-    }
-}
-
-/// The cluster on which a value of a layout stands.
-pub fn home_in(layout: &VWords, value: Value) -> u32
-    ensures { result ≡ home_in layout.now value }
-{
-    let values = layout.banks.len() as u32;
-    if value < values {
-        match home_of(&layout.homes, value) {
-            Some(cluster) => cluster,
-            None => 0,
-        }
-    } else if values == 0 {
-        0
-    } else {
-        (value / values).saturating_sub(1)
     }
 }
 

@@ -36,6 +36,7 @@ use Rattle.vx_target.specs.Carried.{IsMapped, item_of_laid}
 use Rattle.vx_target.proofs.Proper.{PlainOperand, PlaceIn, ProperOp, ProperItems}
 use Rattle.vx_target.proofs.Live.{across_of}
 use Rattle.vx_target.proofs.Names.{Few, Filed, filed, index_below}
+use Rattle.vx_target.proofs.Limits.{limits}
 
 -- counting
 
@@ -112,57 +113,13 @@ source_count k src (y ∷ ys) e =
 
 -- a machine has at most twice as many read ports as issue slots
 ports_bound : (m : Numbers) → IsMachine m → m.read_ports ≤ 2 * m.issue
-ports_bound m h =
-    let a15 = (and_parts _ _ h).0 in
-    let a14 = (and_parts _ _ a15).0 in
-    let a13 = (and_parts _ _ a14).0 in
-    let a12 = (and_parts _ _ a13).0 in
-    let a11 = (and_parts _ _ a12).0 in
-    let a10 = (and_parts _ _ a11).0 in
-    let a9 = (and_parts _ _ a10).0 in
-    let a8 = (and_parts _ _ a9).0 in
-    let p = (and_parts _ _ (and_parts _ _ a8).1).1 in
-    leb-true m.read_ports (2 * m.issue) p
+ports_bound m h = (limits m h).most_reads
 
 pub some_cluster : (m : Numbers) → IsMachine m → 0 < m.clusters
-some_cluster m h =
-    let a15 = (and_parts _ _ h).0 in
-    let a14 = (and_parts _ _ a15).0 in
-    let a13 = (and_parts _ _ a14).0 in
-    let a12 = (and_parts _ _ a13).0 in
-    let a11 = (and_parts _ _ a12).0 in
-    let a10 = (and_parts _ _ a11).0 in
-    let a9 = (and_parts _ _ a10).0 in
-    let a8 = (and_parts _ _ a9).0 in
-    let a7 = (and_parts _ _ a8).0 in
-    let a6 = (and_parts _ _ a7).0 in
-    let a5 = (and_parts _ _ a6).0 in
-    let a4 = (and_parts _ _ a5).0 in
-    let a3 = (and_parts _ _ a4).0 in
-    let a2 = (and_parts _ _ a3).0 in
-    let a1 = (and_parts _ _ a2).0 in
-    let p = (and_parts _ _ a1).0 in
-    let le = leb-true 1 m.clusters p in
-    omega arith
+some_cluster m h = let le = (limits m h).clusters in omega arith
 
 pub some_issue : (m : Numbers) → IsMachine m → 1 ≤ m.issue
-some_issue m h =
-    let a15 = (and_parts _ _ h).0 in
-    let a14 = (and_parts _ _ a15).0 in
-    let a13 = (and_parts _ _ a14).0 in
-    let a12 = (and_parts _ _ a13).0 in
-    let a11 = (and_parts _ _ a12).0 in
-    let a10 = (and_parts _ _ a11).0 in
-    let a9 = (and_parts _ _ a10).0 in
-    let a8 = (and_parts _ _ a9).0 in
-    let a7 = (and_parts _ _ a8).0 in
-    let a6 = (and_parts _ _ a7).0 in
-    let a5 = (and_parts _ _ a6).0 in
-    let a4 = (and_parts _ _ a5).0 in
-    let a3 = (and_parts _ _ a4).0 in
-    let a2 = (and_parts _ _ a3).0 in
-    let p = (and_parts _ _ (and_parts _ _ a2).1).0 in
-    leb-true 1 m.issue p
+some_issue m h = (limits m h).issue
 
 pub operands_code : (code : Code) (v : ℕ) (a b : Operand) → operands_of (Compute code v a b) ≡ (if is_unary code then a ∷ [] else a ∷ b ∷ [])
 operands_code Add v a b = refl

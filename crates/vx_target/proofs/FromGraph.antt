@@ -16,6 +16,7 @@ use Rattle.vx_flow.specs.Effects.{IsIn, is_unary, dismissed, value_in, reads, wr
 use Rattle.vx_flow.specs.Sound.{HasOperation, operands_of, bank_written, IsAccess, loads, stores, Has, IsPlace, ReadAsPlace, Sound, is_local, HasExit}
 use Rattle.vx_flow.specs.declared.graph.Exit.TheVariants.{Split as Branches}
 use Rattle.vx_flow.proofs.Members.{in_left, in_right}
+use Rattle.vx_flow.proofs.OperandLaws.{first_operand_in, second_operand_in}
 use Rattle.vx_flow.proofs.SoundLists.{any_in, any_of}
 use Rattle.vx_mixed.specs.LaidSettled.{bank_in}
 use Rattle.vx_layout.specs.Origins.{whole, whole_operand, whole_op, copy_of, ComesFrom, graph_op, copy, LaidFromGraph}
@@ -73,46 +74,6 @@ bank_code Mpylu v a b = refl
 bank_code Mpyhs v a b = refl
 bank_code Div v a b = refl
 bank_code Rem v a b = refl
-
-first_operand : (code : Code) (v : ℕ) (a b : Operand) → IsIn a (operands_of (Compute code v a b))
-first_operand Add v a b = inl refl
-first_operand Sub v a b = inl refl
-first_operand And v a b = inl refl
-first_operand Or v a b = inl refl
-first_operand Xor v a b = inl refl
-first_operand Shl v a b = inl refl
-first_operand Shr v a b = inl refl
-first_operand Shru v a b = inl refl
-first_operand Sh2add v a b = inl refl
-first_operand Max v a b = inl refl
-first_operand Min v a b = inl refl
-first_operand Mov v a b = inl refl
-first_operand (ToGeneral c) v a b = inl refl
-first_operand (ToBranch c) v a b = inl refl
-first_operand Mpylu v a b = inl refl
-first_operand Mpyhs v a b = inl refl
-first_operand Div v a b = inl refl
-first_operand Rem v a b = inl refl
-
-second_operand : (code : Code) (v : ℕ) (a b : Operand) → is_unary code ≡ false → IsIn b (operands_of (Compute code v a b))
-second_operand Add v a b e = inr (inl refl)
-second_operand Sub v a b e = inr (inl refl)
-second_operand And v a b e = inr (inl refl)
-second_operand Or v a b e = inr (inl refl)
-second_operand Xor v a b e = inr (inl refl)
-second_operand Shl v a b e = inr (inl refl)
-second_operand Shr v a b e = inr (inl refl)
-second_operand Shru v a b e = inr (inl refl)
-second_operand Sh2add v a b e = inr (inl refl)
-second_operand Max v a b e = inr (inl refl)
-second_operand Min v a b e = inr (inl refl)
-second_operand Mov v a b e = absurd (cc)
-second_operand (ToGeneral c) v a b e = inr (inl refl)
-second_operand (ToBranch c) v a b e = inr (inl refl)
-second_operand Mpylu v a b e = inr (inl refl)
-second_operand Mpyhs v a b e = inr (inl refl)
-second_operand Div v a b e = inr (inl refl)
-second_operand Rem v a b e = inr (inl refl)
 
 first_read : (code : Code) (v y : ℕ) (a b : Operand) → IsIn y (value_in a) → IsIn y (reads (Compute code v a b))
 first_read code v y a b i = by (is_unary code)
@@ -242,8 +203,8 @@ module _ (T : Target) (f : ℕ) (IsArray : ℕ → Type 0) (sound : Sound (T.gra
         let h : HasOperation (T.graph f) g = subst (HasOperation (T.graph f)) (undismissed g origin refl e) has in (
           no_written v g h (inl refl) (λ i x q. absurd (cc)),
           written_bank v g h (inl refl) ∙ bank_code c (Whole v) (whole_operand Count a) (whole_operand Count b),
-          plain_operand a g h (first_operand c (Whole v) (whole_operand Count a) (whole_operand Count b)) (λ y q. first_read c (Whole v) (Whole y) (whole_operand Count a) (whole_operand Count b) (held_in a y q)) (λ y x q r. no_access x (Held (Whole y)) g refl r.access),
-          λ u. plain_operand b g h (second_operand c (Whole v) (whole_operand Count a) (whole_operand Count b) u) (λ y q. second_read c (Whole v) (Whole y) (whole_operand Count a) (whole_operand Count b) u (held_in b y q)) (λ y x q r. no_access x (Held (Whole y)) g refl r.access),
+          plain_operand a g h (first_operand_in c (Whole v) (whole_operand Count a) (whole_operand Count b)) (λ y q. first_read c (Whole v) (Whole y) (whole_operand Count a) (whole_operand Count b) (held_in a y q)) (λ y x q r. no_access x (Held (Whole y)) g refl r.access),
+          λ u. plain_operand b g h (second_operand_in c (Whole v) (whole_operand Count a) (whole_operand Count b) u) (λ y q. second_read c (Whole v) (Whole y) (whole_operand Count a) (whole_operand Count b) u (held_in b y q)) (λ y x q r. no_access x (Held (Whole y)) g refl r.access),
         )
     graph_proper (Select v p a b) k lt origin has e =
         let g : Op = Select (Whole v) (Whole p) (whole_operand Count a) (whole_operand Count b) in

@@ -14,6 +14,7 @@ pub mod FromGraph
 pub mod Frames
 pub mod Stands
 pub mod Live
+pub mod Limits
 pub mod Enough
 pub mod WayRows
 pub mod Pauses
