@@ -6,7 +6,6 @@ use Rattle.std.specs.List.{list_all}
 use Rattle.std.specs.Ordering.{int_eq}
 use Rattle.std.specs.Fmt.{signed_decimal}
 use Rattle.vx_base.specs.Arithmetic.{value_of, one_if}
-use Rattle.vx_base.specs.declared.outcome.Trap.{Trap}
 use Rattle.vx_flow.specs.declared.graph.Operand.{Operand}
 use Rattle.vx_flow.specs.declared.graph.Operand.TheVariants.{Held, Number, Stack}
 use Rattle.vx_flow.specs.declared.graph.Op.{Op}
@@ -14,9 +13,10 @@ use Rattle.vx_flow.specs.declared.graph.Op.TheVariants.{Compute, Select, Place, 
 use Rattle.vx_flow.specs.declared.graph.Exit.{Exit}
 use Rattle.vx_flow.specs.declared.graph.Exit.TheVariants.{Goto, Split, Call, Return, Ends}
 use Rattle.vx_flow.specs.Effects.{Content, State, Setting, held, is_unary, both, is_one, computed, chosen, place_of, row_of, cell_in, cell_of, with_value, with_cell, loaded, stored, next_input, printed, is_left, effect}
-use Rattle.vx_flow.specs.Meaning.{Hop, Arrives, Calls, Leaves, Stops, Wrong, with_front, known, by_test, calls, leaves, leave, and_then, block_hop}
+use Rattle.vx_flow.specs.Meaning.{Hop, Arrives, with_front, at_entry, with_result, known, by_test, leave, and_then, block_hop}
 use Rattle.vx_flow.specs.Agree.{SameWorld, Agree}
 use Rattle.vx_flow.proofs.EffectsAlike.{Refined, Done, effect_alike}
+use Rattle.vx_shape.proofs.FlowsAlike.{Holds, holds_result, Alikes, wrong, arrives, stopped, test_alike, calls_alike, leaves_alike}
 use Rattle.vx_fold.specs.Folding.{no_number, number_in, is_content, gives, settles, is_free, settles_exit, operand_by, folded, select_by, folded_op, split_by, folded_exit}
 
 abbrev pub All : ℕ → Type 0
@@ -26,13 +26,9 @@ All v = Unit {0}
 abbrev pub Settled : (ℕ → Option ℤ) → (ℕ → Content) → Type 0
 Settled numbers values = (v : ℕ) (n m : ℤ) → numbers v ≡ Some n → values v ≡ Some m → m ≡ n
 
--- both leave in one way, with states that agree; where the first has no meaning nothing is said
-pub data Alikes (numbers : ℕ → Option ℤ) : Hop → Hop → Type 0 where
-  wrong : {h : Hop} → Alikes numbers Wrong h
-  arrives : {b c : ℕ} {s t : State} → Settled numbers s.values → Agree All s t → Alikes numbers (Arrives b c s) (Arrives b c t)
-  called : {f : ℕ} {ns : List ℤ} {result : Option ℕ} {b c : ℕ} {s t : State} → is_free numbers result ≡ true → Settled numbers s.values → Agree All s t → Alikes numbers (Calls f ns result b c s) (Calls f ns result b c t)
-  left : {n : ℤ} {s t : State} → SameWorld s t → Alikes numbers (Leaves n s) (Leaves n t)
-  stopped : {k : Trap} {s t : State} → SameWorld s t → Alikes numbers (Stops k s) (Stops k t)
+-- values that are numbers are the same numbers, and a value with a number holds no other one
+abbrev pub Tied : (ℕ → Option ℤ) → (ℕ → Content) → (ℕ → Content) → Type 0
+Tied numbers x y = Holds All x y × Settled numbers x
 
 int_is : (x y : ℤ) → int_eq x y ≡ true → x ≡ y
 int_is x y h = grind (arith, nat_tests)
@@ -43,6 +39,27 @@ some_is x y e = cc
 pub none_by : (o : Option ℤ) → no_number o ≡ true → o ≡ None
 none_by None h = refl
 none_by (Some n) h = absurd (false≢true h)
+
+no_other : (numbers : ℕ → Option ℤ) (v w : ℕ) (n : ℤ) → no_number (numbers v) ≡ true → (w == v) ≡ true → numbers w ≡ Some n → ⊥
+no_other numbers v w n h s e =
+    let q : None ≡ Some n = sym (none_by (numbers v) h) ∙ ap numbers (sym (eqb-true w v s)) ∙ e in cc
+
+settled_result : (numbers : ℕ → Option ℤ) (x : ℕ → Content) (result : Option ℕ) (n : ℤ) → is_free numbers result ≡ true → Settled numbers x → Settled numbers (with_result x result n)
+settled_result numbers x None n h i v k m e q = i v k m e q
+settled_result numbers x (Some r) n h i v k m e q = by (v == r) refl q
+  where
+    by : (same : Bool) → (v == r) ≡ same → cond same (Some n) (x v) ≡ Some m → m ≡ k
+    by true s f = absurd (no_other numbers r v k h s e)
+    by false s f = i v k m e f
+
+pub settled_entry : (numbers : ℕ → Option ℤ) (parameters : List ℕ) (ns : List ℤ) → list_all (λ v. no_number (numbers v)) parameters ≡ true → Settled numbers (at_entry parameters ns)
+settled_entry numbers [] ns h v k m e q = absurd (cc)
+settled_entry numbers (p ∷ ps) [] h v k m e q = absurd (cc)
+settled_entry numbers (p ∷ ps) (n ∷ ns) h v k m e q = by (v == p) refl q (settled_entry numbers ps ns (and_parts _ _ h).1)
+  where
+    by : (same : Bool) → (v == p) ≡ same → cond same (Some n) (at_entry ps ns v) ≡ Some m → Settled numbers (at_entry ps ns) → m ≡ k
+    by true s f i = absurd (no_other numbers p v k (and_parts _ _ h).0 s e)
+    by false s f i = i v k m e f
 
 content_by : (n : ℤ) (x : Content) → is_content n x ≡ true → x ≡ Some n
 content_by n None h = absurd (false≢true h)
@@ -195,22 +212,13 @@ module _ (numbers : ℕ → Option ℤ) where
 
   -- ---- exits
 
-  test_alike : (b c d : ℕ) (s t : State) (x y : Content) → Refined x y → Settled numbers s.values → Agree All s t → Alikes numbers (by_test x (Arrives b c s) (Arrives b d s)) (by_test y (Arrives b c t) (Arrives b d t))
-  test_alike b c d s t None y r i a = wrong
-  test_alike b c d s t (Some z) y r i a =
-      subst (λ q. Alikes numbers (by_test (Some z) (Arrives b c s) (Arrives b d s)) (by_test q (Arrives b c t) (Arrives b d t))) (sym (r z refl)) (by (is_one z))
-    where
-      by : (one : Bool) → Alikes numbers (cond one (Arrives b c s) (Arrives b d s)) (cond one (Arrives b c t) (Arrives b d t))
-      by true = arrives i a
-      by false = arrives i a
-
-  one_way : (b c d : ℕ) (s t : State) (x : Content) (z : ℤ) → ((m : ℤ) → x ≡ Some m → m ≡ z) → Settled numbers s.values → Agree All s t → Alikes numbers (by_test x (Arrives b c s) (Arrives b d s)) (Arrives b (cond (is_one z) c d) t)
+  one_way : (b c d : ℕ) (s t : State) (x : Content) (z : ℤ) → ((m : ℤ) → x ≡ Some m → m ≡ z) → Settled numbers s.values → Agree All s t → Alikes (Tied numbers) (by_test x (Arrives b c s) (Arrives b d s)) (Arrives b (cond (is_one z) c d) t)
   one_way b c d s t None z r i a = wrong
-  one_way b c d s t (Some m) z r i a = subst (λ k. Alikes numbers (by_test (Some k) (Arrives b c s) (Arrives b d s)) (Arrives b (cond (is_one z) c d) t)) (sym (r m refl)) (by (is_one z))
+  one_way b c d s t (Some m) z r i a = subst (λ k. Alikes (Tied numbers) (by_test (Some k) (Arrives b c s) (Arrives b d s)) (Arrives b (cond (is_one z) c d) t)) (sym (r m refl)) (by (is_one z))
     where
-      by : (one : Bool) → Alikes numbers (cond one (Arrives b c s) (Arrives b d s)) (Arrives b (cond one c d) t)
-      by true = arrives i a
-      by false = arrives i a
+      by : (one : Bool) → Alikes (Tied numbers) (cond one (Arrives b c s) (Arrives b d s)) (Arrives b (cond one c d) t)
+      by true = arrives a.world (a.values, i)
+      by false = arrives a.world (a.values, i)
 
   front_refined : (n : ℤ) (o o' : Option (List ℤ)) → ((ns : List ℤ) → o ≡ Some ns → o' ≡ Some ns) → (ns : List ℤ) → with_front n o ≡ Some ns → with_front n o' ≡ Some ns
   front_refined n None o' f ns e = absurd (cc)
@@ -225,36 +233,28 @@ module _ (numbers : ℕ → Option ℤ) where
   known_folded s t (x ∷ xs) i a ns e =
       known_front (held s x) (held t (folded numbers x)) (map (held s) xs) (map (held t) (map (folded numbers) xs)) (refined_folded s t x i a) (λ ms f. known_folded s t xs i a ms f) ns e
 
-  calls_alike : (f b c : ℕ) (result : Option ℕ) (s t : State) (o o' : Option (List ℤ)) → is_free numbers result ≡ true → ((ns : List ℤ) → o ≡ Some ns → o' ≡ Some ns) → Settled numbers s.values → Agree All s t →
-      Alikes numbers (calls f o result b c s) (calls f o' result b c t)
-  calls_alike f b c result s t None o' h k i a = wrong
-  calls_alike f b c result s t (Some ns) o' h k i a = subst (λ q. Alikes numbers (Calls f ns result b c s) (calls f q result b c t)) (sym (k ns refl)) (called h i a)
-
-  leaves_alike : (s t : State) (x y : Content) → Refined x y → Agree All s t → Alikes numbers (leaves x s) (leaves y t)
-  leaves_alike s t None y r a = wrong
-  leaves_alike s t (Some n) y r a = subst (λ q. Alikes numbers (Leaves n s) (leaves q t)) (sym (r n refl)) (left a.world)
-
-  split_alike : (b p c d : ℕ) (s t : State) (o : Option ℤ) → numbers p ≡ o → Settled numbers s.values → Agree All s t → Alikes numbers (leave b (Split p c d) s) (leave b (split_by o p c d) t)
-  split_alike b p c d s t None q i a = test_alike b c d s t (s.values p) (t.values p) (λ n e. a.values p n tt e) i a
+  split_alike : (b p c d : ℕ) (s t : State) (o : Option ℤ) → numbers p ≡ o → Settled numbers s.values → Agree All s t → Alikes (Tied numbers) (leave b (Split p c d) s) (leave b (split_by o p c d) t)
+  split_alike b p c d s t None q i a = test_alike (Tied numbers) b c d s t (s.values p) (t.values p) (λ n e. a.values p n tt e) a.world (a.values, i)
   split_alike b p c d s t (Some z) q i a = one_way b c d s t (s.values p) z (λ m e. i p z m q e) i a
 
-  exit_alike : (b : ℕ) (exit : Exit) (s t : State) → settles_exit numbers exit ≡ true → Settled numbers s.values → Agree All s t → Alikes numbers (leave b exit s) (leave b (folded_exit numbers exit) t)
-  exit_alike b (Goto c) s t h i a = arrives i a
+  exit_alike : (b : ℕ) (exit : Exit) (s t : State) → settles_exit numbers exit ≡ true → Settled numbers s.values → Agree All s t → Alikes (Tied numbers) (leave b exit s) (leave b (folded_exit numbers exit) t)
+  exit_alike b (Goto c) s t h i a = arrives a.world (a.values, i)
   exit_alike b (Split p c d) s t h i a = split_alike b p c d s t (numbers p) refl i a
   exit_alike b (Call f arguments result c) s t h i a =
-      calls_alike f b c result s t (known (map (held s) arguments)) (known (map (held t) (map (folded numbers) arguments))) h (known_folded s t arguments i a) i a
-  exit_alike b (Return x) s t h i a = leaves_alike s t (held s x) (held t (folded numbers x)) (refined_folded s t x i a) a
+      calls_alike (Tied numbers) f b c result s t (known (map (held s) arguments)) (known (map (held t) (map (folded numbers) arguments))) (known_folded s t arguments i a)
+      a.world (λ n. (holds_result All s.values t.values result n a.values, settled_result numbers s.values result n h i))
+  exit_alike b (Return x) s t h i a = leaves_alike (Tied numbers) s t (held s x) (held t (folded numbers x)) (refined_folded s t x i a) a.world
   exit_alike b (Ends k) s t h i a = stopped a.world
 
   -- ---- operations, and then the exit
 
-  then_alike : (o o' : Option State) (f g : State → Hop) → ((s' : State) → o ≡ Some s' → Done All s' o' × Settled numbers s'.values) → ((s' t' : State) → Settled numbers s'.values → Agree All s' t' → Alikes numbers (f s') (g t')) →
-      Alikes numbers (and_then o f) (and_then o' g)
+  then_alike : (o o' : Option State) (f g : State → Hop) → ((s' : State) → o ≡ Some s' → Done All s' o' × Settled numbers s'.values) → ((s' t' : State) → Settled numbers s'.values → Agree All s' t' → Alikes (Tied numbers) (f s') (g t')) →
+      Alikes (Tied numbers) (and_then o f) (and_then o' g)
   then_alike None o' f g d k = wrong
-  then_alike (Some s') o' f g d k = let done = d s' refl in subst (λ q. Alikes numbers (f s') (and_then q g)) (sym done.0.is) (k s' done.0.state done.1 done.0.agree)
+  then_alike (Some s') o' f g d k = let done = d s' refl in subst (λ q. Alikes (Tied numbers) (f s') (and_then q g)) (sym done.0.is) (k s' done.0.state done.1 done.0.agree)
 
   pub ops_alike : (setting : Setting) (b : ℕ) (ops : List Op) (exit : Exit) → list_all (settles numbers) ops ≡ true → settles_exit numbers exit ≡ true → (s t : State) → Settled numbers s.values → Agree All s t →
-      Alikes numbers (block_hop setting b ops exit s) (block_hop setting b (map (folded_op numbers) ops) (folded_exit numbers exit) t)
+      Alikes (Tied numbers) (block_hop setting b ops exit s) (block_hop setting b (map (folded_op numbers) ops) (folded_exit numbers exit) t)
   ops_alike setting b [] exit h k s t i a = exit_alike b exit s t k i a
   ops_alike setting b (op ∷ ops) exit h k s t i a =
       let p = and_parts _ _ h in

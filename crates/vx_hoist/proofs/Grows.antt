@@ -12,8 +12,9 @@ use Rattle.vx_flow.specs.Meaning.{leave, and_then, block_hop, hop_of}
 use Rattle.vx_flow.specs.Agree.{Agree}
 use Rattle.vx_flow.proofs.EffectsAlike.{effect_alike}
 use Rattle.vx_thin.specs.Thinning.{result_alone, is_unread, are_read}
-use Rattle.vx_thin.proofs.Thins.{Alikes, wrong, knows, exit_alike, then_alike}
 use Rattle.vx_shape.proofs.Pairs.{At}
+use Rattle.vx_shape.proofs.FlowsAlike.{Holds, Alikes, wrong}
+use Rattle.vx_thin.proofs.Thins.{knows, exit_alike, then_alike}
 use Rattle.vx_hoist.specs.Growing.{is_total, is_silent, BlockGrows}
 
 module _ (unread : ℕ → Bool) where
@@ -60,16 +61,16 @@ module _ (unread : ℕ → Bool) where
   -- ---- operations, and then the exit
 
   end_alike : (setting : Setting) (b : ℕ) (ops : List Op) (exit : Exit) → list_all (is_silent unread) ops ≡ true → are_read unread (reads_of_exit exit) ≡ true → (s t : State) → Agree Lives s t →
-      Alikes Lives (leave b exit s) (block_hop setting b ops exit t)
+      Alikes (Holds Lives) (leave b exit s) (block_hop setting b ops exit t)
   end_alike setting b [] exit h k s t a = exit_alike unread b exit s t k a
   end_alike setting b (op ∷ ops) exit h k s t a =
       let both = and_parts (is_silent unread op) (list_all (is_silent unread) ops) h in
       let silent = and_parts (is_total op) (is_unread unread (result_alone op)) both.0 in
       let d : Added s (effect setting t op t) = added setting op s t silent.0 silent.1 a in
-      subst (λ q. Alikes Lives (leave b exit s) (and_then q (block_hop setting b ops exit))) (sym d.is) (end_alike setting b ops exit both.1 k s d.state d.agree)
+      subst (λ q. Alikes (Holds Lives) (leave b exit s) (and_then q (block_hop setting b ops exit))) (sym d.is) (end_alike setting b ops exit both.1 k s d.state d.agree)
 
   ops_alike : (setting : Setting) (b : ℕ) (ops more : List Op) (exit : Exit) → list_all (λ op. are_read unread (reads op)) ops ≡ true → list_all (is_silent unread) more ≡ true → are_read unread (reads_of_exit exit) ≡ true →
-      (s t : State) → Agree Lives s t → Alikes Lives (block_hop setting b ops exit s) (block_hop setting b (ops ++ more) exit t)
+      (s t : State) → Agree Lives s t → Alikes (Holds Lives) (block_hop setting b ops exit s) (block_hop setting b (ops ++ more) exit t)
   ops_alike setting b [] more exit h l k s t a = end_alike setting b more exit l k s t a
   ops_alike setting b (op ∷ ops) more exit h l k s t a =
       let both = and_parts (are_read unread (reads op)) (list_all (λ x. are_read unread (reads x)) ops) h in
@@ -78,14 +79,14 @@ module _ (unread : ℕ → Bool) where
       (λ s' t' g. ops_alike setting b ops more exit both.1 l k s' t' g)
 
   pub block_alike : (setting : Setting) (b : ℕ) (old new : Block) → BlockGrows unread old new → (s t : State) → Agree Lives s t →
-      Alikes Lives (block_hop setting b old.ops old.exit s) (block_hop setting b new.ops new.exit t)
+      Alikes (Holds Lives) (block_hop setting b old.ops old.exit s) (block_hop setting b new.ops new.exit t)
   block_alike setting b old new grows s t a =
       let both = and_parts (list_all (λ op. are_read unread (reads op)) old.ops) (are_read unread (reads_of_exit old.exit)) grows.reads in
-      let made : Alikes Lives (block_hop setting b old.ops old.exit s) (block_hop setting b (old.ops ++ grows.added) old.exit t) = ops_alike setting b old.ops grows.added old.exit both.0 grows.silent both.1 s t a in
-      let ended : Alikes Lives (block_hop setting b old.ops old.exit s) (block_hop setting b (old.ops ++ grows.added) new.exit t) = subst (λ e. Alikes Lives (block_hop setting b old.ops old.exit s) (block_hop setting b (old.ops ++ grows.added) e t)) (sym grows.exit) made in
-      subst (λ ops. Alikes Lives (block_hop setting b old.ops old.exit s) (block_hop setting b ops new.exit t)) (sym grows.ops) ended
+      let made : Alikes (Holds Lives) (block_hop setting b old.ops old.exit s) (block_hop setting b (old.ops ++ grows.added) old.exit t) = ops_alike setting b old.ops grows.added old.exit both.0 grows.silent both.1 s t a in
+      let ended : Alikes (Holds Lives) (block_hop setting b old.ops old.exit s) (block_hop setting b (old.ops ++ grows.added) new.exit t) = subst (λ e. Alikes (Holds Lives) (block_hop setting b old.ops old.exit s) (block_hop setting b (old.ops ++ grows.added) e t)) (sym grows.exit) made in
+      subst (λ ops. Alikes (Holds Lives) (block_hop setting b old.ops old.exit s) (block_hop setting b ops new.exit t)) (sym grows.ops) ended
 
-  pub at_alike : (setting : Setting) (b : ℕ) (o q : Option Block) → At (BlockGrows unread) o q → (s t : State) → Agree Lives s t → Alikes Lives (hop_of setting b o s) (hop_of setting b q t)
+  pub at_alike : (setting : Setting) (b : ℕ) (o q : Option Block) → At (BlockGrows unread) o q → (s t : State) → Agree Lives s t → Alikes (Holds Lives) (hop_of setting b o s) (hop_of setting b q t)
   at_alike setting b None None g s t a = wrong
   at_alike setting b None (Some k) g s t a = absurd g
   at_alike setting b (Some x) None g s t a = absurd g
