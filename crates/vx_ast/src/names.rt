@@ -6,7 +6,7 @@ use crate::tree::Gives;
 use vx_base::listed::Bytes;
 
 /// What a name stands for.
-#[derive(Clone, Copy, PartialEq, Eq)]
+#[derive(Clone, Copy)]
 pub enum Named {
     /// A scalar of the function, by its number.
     Scalar(u32),
@@ -25,7 +25,7 @@ pub enum Named {
 }
 
 /// What a name stands for, and in which scope it is declared.
-#[derive(Clone, Copy, PartialEq, Eq)]
+#[derive(Clone, Copy)]
 pub struct Meant {
     /// How many scopes stand round that scope: 0 for the file.
     pub depth: u32,
@@ -34,7 +34,7 @@ pub struct Meant {
 }
 
 /// A fault S`code` of a parsed source, from S5 to S13, and where it stands.
-#[derive(Clone, Copy, PartialEq, Eq)]
+#[derive(Clone, Copy)]
 pub struct Fault {
     /// The number of its code.
     pub code: u32,

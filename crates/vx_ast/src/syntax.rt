@@ -6,7 +6,7 @@ use crate::tree::{BinaryOperator, Gives, UnaryOperator};
 use vx_base::listed::{Bytes, Listed};
 
 /// A place in a source: its line and its column, both from 1, the column counted in bytes.
-#[derive(Clone, Copy, PartialEq, Eq)]
+#[derive(Clone, Copy)]
 pub struct Place {
     /// The line.
     pub line: u32,
@@ -72,7 +72,7 @@ pub enum Simple {
 }
 
 /// The number of words of an array, where it stands.
-#[derive(Clone, Copy, PartialEq, Eq)]
+#[derive(Clone, Copy)]
 pub struct Size {
     /// The number of words, from 0 to 2147483647.
     pub words: u32,

@@ -9,7 +9,7 @@
 use vx_base::listed::Listed;
 
 /// An operator with one operand.
-#[derive(Clone, Copy, PartialEq, Eq)]
+#[derive(Clone, Copy)]
 pub enum UnaryOperator {
     /// `-`
     Minus,
@@ -22,7 +22,7 @@ pub enum UnaryOperator {
 }
 
 /// An operator with two operands, both of which are always evaluated, the left one first.
-#[derive(Clone, Copy, PartialEq, Eq)]
+#[derive(Clone, Copy)]
 pub enum BinaryOperator {
     /// `*`
     Multiply,
@@ -171,7 +171,7 @@ pub enum Statement {
 }
 
 /// What a function gives back.
-#[derive(Clone, Copy, PartialEq, Eq)]
+#[derive(Clone, Copy)]
 pub enum Gives {
     /// An `int` function. Where it ends without a return it gives 0.
     Int,
@@ -197,7 +197,7 @@ pub struct Function {
 }
 
 /// A global variable.
-#[derive(Clone, Copy, PartialEq, Eq)]
+#[derive(Clone, Copy)]
 pub enum GlobalVariable {
     /// A scalar, with the number at which it starts.
     Scalar(i32),

@@ -1,7 +1,7 @@
 // What one can tell of two accesses to memory before the program runs.
 
 /// Whether two accesses name one word.
-#[derive(Clone, Copy, PartialEq, Eq)]
+#[derive(Clone, Copy)]
 pub enum Answer {
     /// They never do.
     Never,

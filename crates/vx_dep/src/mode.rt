@@ -1,7 +1,7 @@
 // The two ways in which a trace is scheduled.
 
 /// How operations of a trace may move.
-#[derive(Clone, Copy, PartialEq, Eq)]
+#[derive(Clone, Copy)]
 pub enum Mode {
     /// Past splits and joins, as far as nothing that can be seen changes.
     Free,

@@ -8,7 +8,7 @@ ghost use Rattle.vx_files.specs.declared.input.InputFault.TheVariants.{NoMemory 
 use std::alloc::{AllocError, AllocFailed, Global};
 
 /// Why an input's text gives no numbers.
-#[derive(Clone, Copy, PartialEq, Eq)]
+#[derive(Clone, Copy)]
 pub(crate) enum InputFault {
     /// The word that begins at this byte, from 0, is no decimal number of 32 bits.
     Bad(u32),

@@ -1,7 +1,7 @@
 // What a file that a command names is there for.
 
 /// What a file that a command names is there for.
-#[derive(Clone, Copy, PartialEq, Eq)]
+#[derive(Clone, Copy)]
 pub enum Role {
     /// The source of a program.
     Source,

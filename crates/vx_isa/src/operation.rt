@@ -10,7 +10,7 @@ use vx_base::arithmetic::Code;
 use vx_base::outcome::Trap;
 
 /// A general register, `$rK.n`: cluster K, number n. Number 0 reads as 0 and keeps nothing.
-#[derive(Clone, Copy, PartialEq, Eq)]
+#[derive(Clone, Copy)]
 pub struct GeneralRegister {
     /// The cluster, from 0.
     pub cluster: u32,
@@ -19,7 +19,7 @@ pub struct GeneralRegister {
 }
 
 /// A one-bit branch register, `$bK.n`: cluster K, number n.
-#[derive(Clone, Copy, PartialEq, Eq)]
+#[derive(Clone, Copy)]
 pub struct BranchRegister {
     /// The cluster, from 0.
     pub cluster: u32,
@@ -28,7 +28,7 @@ pub struct BranchRegister {
 }
 
 /// Any register of the machine. There is one link register, `$l0.0`.
-#[derive(Clone, Copy, PartialEq, Eq)]
+#[derive(Clone, Copy)]
 pub enum Register {
     /// A general register.
     General(GeneralRegister),
@@ -100,7 +100,7 @@ pub enum UnitKind {
 }
 
 /// A source of an operation.
-#[derive(Clone, Copy, PartialEq, Eq)]
+#[derive(Clone, Copy)]
 pub enum Source {
     /// What a general register holds.
     Held(GeneralRegister),
@@ -110,7 +110,7 @@ pub enum Source {
 
 /// An operation, one variant for each form of the word text. A form that begins with `c0` stands on cluster 0
 /// and has no field for it.
-#[derive(Clone, Copy, PartialEq, Eq)]
+#[derive(Clone, Copy)]
 pub enum Operation {
     /// `cK op D = S, S`: arithmetic and compares. A compare writes a general or a branch register as its code says.
     Compute {

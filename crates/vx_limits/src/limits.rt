@@ -15,7 +15,7 @@ use vx_ast::tree::{Function, GlobalVariable, Program, Statement};
 use vx_base::outcome::NoMemory;
 
 /// A limit that a program is over.
-#[derive(Clone, Copy, PartialEq, Eq)]
+#[derive(Clone, Copy)]
 pub struct Over {
     /// The number of the limit.
     pub number: u32,

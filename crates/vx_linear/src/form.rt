@@ -61,7 +61,7 @@ impl Symbol {
 }
 
 /// A symbol with its factor.
-#[derive(Clone, Copy, PartialEq, Eq)]
+#[derive(Clone, Copy)]
 pub struct Term {
     /// The symbol.
     pub symbol: Symbol,

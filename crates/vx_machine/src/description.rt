@@ -216,7 +216,7 @@ fn number_of(table: &Table, field: u32) -> u32
 }
 
 /// A field of a description: its number in the table, from 1, and its range.
-#[derive(Clone, Copy, PartialEq, Eq)]
+#[derive(Clone, Copy)]
 pub struct Field {
     /// Its number, from 1.
     pub number: u32,

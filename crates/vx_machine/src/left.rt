@@ -6,7 +6,7 @@ ghost use Rattle.vx_machine.specs.Left.{limits, covers, less};
 use crate::Machine;
 
 /// Slots, units and ports of a cluster.
-#[derive(Clone, Copy, PartialEq, Eq)]
+#[derive(Clone, Copy)]
 pub struct Left {
     /// Issue slots.
     pub slots: u32,

@@ -12,7 +12,7 @@ use vx_base::arithmetic::Code;
 use vx_isa::operation::Operation;
 
 /// The numbers of a machine. All counts but `clusters` and `copy_paths` are per cluster.
-#[derive(Clone, Copy, PartialEq, Eq)]
+#[derive(Clone, Copy)]
 pub struct Machine {
     pub(crate) clusters: u32,
     pub(crate) issue: u32,

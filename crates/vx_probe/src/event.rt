@@ -1,7 +1,7 @@
 // What a probe is shown of a word that took effect.
 
 /// A word that took effect.
-#[derive(Clone, Copy, PartialEq, Eq)]
+#[derive(Clone, Copy)]
 pub struct Event {
     /// The place of the word in its program.
     pub place: u32,

@@ -3,7 +3,7 @@
 use vx_flow::graph::BlockId;
 
 /// A block or an edge of a function.
-#[derive(Clone, Copy, PartialEq, Eq)]
+#[derive(Clone, Copy)]
 pub enum Passed {
     Block {
         function: u32,

@@ -9,7 +9,7 @@ use vx_isa::operation::Operation;
 use vx_isa::program::Word;
 
 /// What stood last.
-#[derive(Clone, Copy, PartialEq, Eq)]
+#[derive(Clone, Copy)]
 pub enum Stage {
     /// Nothing.
     Start,

@@ -9,7 +9,7 @@ use thiserror::Error;
 use vx_base::outcome::NoMemory;
 
 /// Why a line was not taken.
-#[derive(Clone, Copy, PartialEq, Eq, Debug)]
+#[derive(Clone, Copy, Debug)]
 pub enum LineFault {
     /// The line is faulty: the number of its V code.
     Code(u32),

@@ -11,7 +11,7 @@ use vx_isa::operation::{Operation, Register};
 use vx_words::operation_text::name_of_code;
 
 /// A form of an operation, with the code of those that have one.
-#[derive(Clone, Copy, PartialEq, Eq)]
+#[derive(Clone, Copy)]
 pub enum Form {
     Computes(Code),
     Moves,

@@ -9,7 +9,7 @@ use vx_base::listed::{Bytes, Listed};
 use vx_base::outcome::NoMemory;
 
 /// What stood last in a quoted text.
-#[derive(Clone, Copy, PartialEq, Eq)]
+#[derive(Clone, Copy)]
 pub enum Escape {
     /// A whole byte.
     Plain,

@@ -4,7 +4,7 @@ ghost use Rattle.std.specs.Prelude.{◌≡◌};
 
 /// How many operations may be copied onto the edges of splits and joins, and how many were so far. Copies are counted for each
 /// edge.
-#[derive(Clone, Copy, PartialEq, Eq)]
+#[derive(Clone, Copy)]
 pub struct Budget {
     /// How many may be copied.
     pub cap: u32,

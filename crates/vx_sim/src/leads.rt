@@ -18,7 +18,7 @@ use vx_isa::program::{Word, WordProgram};
 use vx_probe::Event;
 
 /// Where a word leads: to a place, to the end with a result, or to the end by a trap.
-#[derive(Clone, Copy, PartialEq, Eq)]
+#[derive(Clone, Copy)]
 pub(crate) enum Lead {
     To(u32),
     Halts(i32),

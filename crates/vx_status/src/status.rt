@@ -10,7 +10,7 @@ use vx_io::sink::{Sink, SinkFault, put_all};
 use vx_machine::field_name;
 
 /// How a command ended. docs/PROMISES.md says when each comes.
-#[derive(Clone, Copy, PartialEq, Eq)]
+#[derive(Clone, Copy)]
 pub enum Status {
     /// The command's work is done.
     Done,
