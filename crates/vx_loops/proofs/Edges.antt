@@ -94,7 +94,7 @@ edges_more blocks i block now new lt is g h = record {
       s ∙ ap (times_in b) (sym (targets_more blocks i block lt is));
   leads = λ from b i_in. elim (h.leads from b i_in) [
     | inl k ↦ g.leads from b k
-    | inr q ↦ record { block = block; there = ap (slice_get blocks) q.0 ∙ get_some blocks i block lt is; leads = q.1 }
+    | inr q ↦ record { block = block; has = ap (slice_get blocks) q.0 ∙ get_some blocks i block lt is; leads = q.1 }
   ];
 }
 

@@ -1,7 +1,7 @@
 // The names that are known at a place. Each name is looked up in a table, and each declaration notes what the name
 // stood for before, so that a scope is left in the time of its own declarations.
 
-ghost use Rattle.std.specs.Prelude.{◌≡◌, ◌+◌, ◌-◌, ◌<◌, ℕ, List, [], ◌∷◌, ◌++◌, length, drop, take, IfOk, OnOk};
+ghost use Rattle.std.specs.Prelude.{◌≡◌, ◌+◌, ◌-◌, ◌<◌, ℕ, List, [], ◌∷◌, ◌++◌, None, length, drop, take, IfOk, OnOk};
 ghost use Rattle.vx_ast.specs.Scopes.{declared, find, inside, is_at, is_predeclared, is_taken, known_of, look, named, predeclared, with_array, with_scalar};
 ghost use Rattle.vx_ast.specs.Faults.{is_repeated};
 ghost use Rattle.vx_names.specs.Agrees.{Sees};
@@ -53,12 +53,12 @@ pub fn bytes_of(alloc: Global, bytes: &[u8]) -> Result<Bytes, NoMemory>
     Ok(listed)
 }
 
-// The table of the predeclared names.
+// Puts the predeclared names into a table without names.
 #[tactic(auto, unfolding(vx_ast::specs::Scopes::predeclared))]
-fn predeclared_table(alloc: Global) -> Result<Table, NoMemory>
-    ensures { IfOk result (λ table. (x : List ℕ) → entry_of x table.entries.entries ≡ find x predeclared) }
+fn put_predeclared(alloc: Global, table: &mut Table) -> Result<(), NoMemory>
+    requires { (x : List ℕ) → entry_of x table.old.entries.entries ≡ None }
+    ensures { OnOk result ((x : List ℕ) → entry_of x table.new.entries.entries ≡ find x predeclared) }
 {
-    let mut table = Table::new(alloc);
     let printf = Meant {
         depth: 0,
         named: Named::Print,
@@ -73,7 +73,15 @@ fn predeclared_table(alloc: Global) -> Result<Table, NoMemory>
         depth: 0,
         named: Named::ReadInt,
     };
-    table.put(alloc, b"read_int", Some(read_int))?;
+    table.put(alloc, b"read_int", Some(read_int))
+}
+
+// The table of the predeclared names.
+fn predeclared_table(alloc: Global) -> Result<Table, NoMemory>
+    ensures { IfOk result (λ table. (x : List ℕ) → entry_of x table.entries.entries ≡ find x predeclared) }
+{
+    let mut table = Table::new(alloc);
+    put_predeclared(alloc, &mut table)?;
     Ok(table)
 }
 

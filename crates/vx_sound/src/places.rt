@@ -22,15 +22,23 @@ pub fn is_shown(origins: &[Option<Origin>], graph: &Graph) -> bool
 fn are_free(origins: &[Option<Origin>], values: &[Value]) -> bool
     ensures { result ≡ list_all (is_free origins.now) values.now }
 {
-    values.iter().all(|value| is_free(origins, *value))
+    for value in values {
+        if !is_free(origins, *value) {
+            return false;
+        }
+    }
+    true
 }
 
 fn are_shown_blocks(origins: &[Option<Origin>], graph: &Graph, blocks: &[Block]) -> bool
     ensures { result ≡ list_all (is_shown_block origins.now graph.now) blocks.now }
 {
-    blocks
-        .iter()
-        .all(|block| is_shown_block(origins, graph, block))
+    for block in blocks {
+        if !is_shown_block(origins, graph, block) {
+            return false;
+        }
+    }
+    true
 }
 
 fn is_shown_block(origins: &[Option<Origin>], graph: &Graph, block: &Block) -> bool
@@ -44,7 +52,12 @@ fn is_shown_block(origins: &[Option<Origin>], graph: &Graph, block: &Block) -> b
 fn are_shown_in(origins: &[Option<Origin>], graph: &Graph, ops: &[Op]) -> bool
     ensures { result ≡ list_all (is_shown_in origins.now graph.now) ops.now }
 {
-    ops.iter().all(|op| is_shown_in(origins, graph, op))
+    for op in ops {
+        if !is_shown_in(origins, graph, op) {
+            return false;
+        }
+    }
+    true
 }
 
 fn is_shown_in(origins: &[Option<Origin>], graph: &Graph, op: &Op) -> bool
@@ -148,9 +161,12 @@ fn leaves_origins(origins: &[Option<Origin>], exit: &Exit) -> bool
 fn are_free_operands(origins: &[Option<Origin>], operands: &[Operand]) -> bool
     ensures { result ≡ list_all (is_free_operand origins.now) operands.now }
 {
-    operands
-        .iter()
-        .all(|operand| is_free_operand(origins, operand))
+    for operand in operands {
+        if !is_free_operand(origins, operand) {
+            return false;
+        }
+    }
+    true
 }
 
 /// Whether nothing is noted of the value, if there is one.

@@ -20,7 +20,12 @@ pub fn has_parameters(count: usize, functions: &[Graph], function: u32) -> bool
 pub fn are_blocks_there(flow: &Flow, blocks: &[Block]) -> bool
     ensures { result ≡ list_all (is_block_there flow.now) blocks.now }
 {
-    blocks.iter().all(|block| is_block_there(flow, block))
+    for block in blocks {
+        if !is_block_there(flow, block) {
+            return false;
+        }
+    }
+    true
 }
 
 fn is_block_there(flow: &Flow, block: &Block) -> bool
@@ -32,7 +37,12 @@ fn is_block_there(flow: &Flow, block: &Block) -> bool
 fn are_texts_there(flow: &Flow, ops: &[Op]) -> bool
     ensures { result ≡ list_all (is_text_there flow.now) ops.now }
 {
-    ops.iter().all(|op| is_text_there(flow, op))
+    for op in ops {
+        if !is_text_there(flow, op) {
+            return false;
+        }
+    }
+    true
 }
 
 fn is_text_there(flow: &Flow, op: &Op) -> bool
@@ -74,7 +84,12 @@ pub fn are_distinct(values: &[Value]) -> bool
 pub(crate) fn are_others(value: Value, values: &[Value]) -> bool
     ensures { result ≡ list_all (λ u. not (u == value)) values.now }
 {
-    values.iter().all(|other| *other != value)
+    for other in values {
+        if *other == value {
+            return false;
+        }
+    }
+    true
 }
 
 /// The globals in their order, with their words, and then local arrays.
@@ -105,5 +120,10 @@ fn is_global(array: &Array, words: u32) -> bool
 fn are_own(arrays: &[Array]) -> bool
     ensures { result ≡ list_all (λ array. not array.global) arrays.now }
 {
-    arrays.iter().all(|array| !array.global)
+    for array in arrays {
+        if array.global {
+            return false;
+        }
+    }
+    true
 }

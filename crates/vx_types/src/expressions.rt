@@ -31,11 +31,7 @@ fn number_named(named: Option<Named>) -> Expression
         Some(named) => match named {
             Named::Scalar(number) => Expression::Scalar(number),
             Named::Global(array) => Expression::Global(array),
-            Named::Array(_) => Expression::Number(0),
-            Named::Function(_, _, _) => Expression::Number(0),
-            Named::ReadInt => Expression::Number(0),
-            Named::MoreInput => Expression::Number(0),
-            Named::Print => Expression::Number(0),
+            _ => Expression::Number(0),
         },
     }
 }
@@ -47,13 +43,8 @@ fn array_named(named: Option<Named>) -> u32
     match named {
         None => 0,
         Some(named) => match named {
-            Named::Scalar(_) => 0,
-            Named::Global(_) => 0,
             Named::Array(array) => array,
-            Named::Function(_, _, _) => 0,
-            Named::ReadInt => 0,
-            Named::MoreInput => 0,
-            Named::Print => 0,
+            _ => 0,
         },
     }
 }
@@ -66,13 +57,10 @@ fn call_named(named: Option<Named>, row: Vec<Expression>) -> Expression
     match named {
         None => Expression::Number(0),
         Some(named) => match named {
-            Named::Scalar(_) => Expression::Number(0),
-            Named::Global(_) => Expression::Number(0),
-            Named::Array(_) => Expression::Number(0),
             Named::Function(function, _, _) => Expression::Call(function, row),
             Named::ReadInt => Expression::ReadInt,
             Named::MoreInput => Expression::MoreInput,
-            Named::Print => Expression::Number(0),
+            _ => Expression::Number(0),
         },
     }
 }
@@ -86,11 +74,7 @@ fn place_named(named: Option<Named>) -> Target
         Some(named) => match named {
             Named::Scalar(number) => Target::Scalar(number),
             Named::Global(array) => Target::Global(array),
-            Named::Array(_) => Target::Scalar(0),
-            Named::Function(_, _, _) => Target::Scalar(0),
-            Named::ReadInt => Target::Scalar(0),
-            Named::MoreInput => Target::Scalar(0),
-            Named::Print => Target::Scalar(0),
+            _ => Target::Scalar(0),
         },
     }
 }
@@ -216,12 +200,6 @@ pub fn resolve_target(
             let index = resolve(alloc, names, index)?;
             Ok(Target::Element(array_named(names.named(name.bytes.as_slice())), index))
         }
-        syntax::Expression::Number(_) => Ok(Target::Scalar(0)),
-        syntax::Expression::Call(_, _) => Ok(Target::Scalar(0)),
-        syntax::Expression::Unary(_, _) => Ok(Target::Scalar(0)),
-        syntax::Expression::Binary(_, _, _) => Ok(Target::Scalar(0)),
-        syntax::Expression::Both(_, _) => Ok(Target::Scalar(0)),
-        syntax::Expression::Either(_, _) => Ok(Target::Scalar(0)),
-        syntax::Expression::Choice(_, _, _) => Ok(Target::Scalar(0)),
+        _ => Ok(Target::Scalar(0)),
     }
 }

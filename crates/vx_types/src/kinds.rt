@@ -71,13 +71,8 @@ fn note_used(first: Option<Fault>, name: &Name, named: Option<Named>) -> Option<
     match named {
         None => note(first, true, 5, name.place),
         Some(named) => match named {
-            Named::Scalar(_) => first,
-            Named::Global(_) => first,
-            Named::Array(_) => note(first, true, 7, name.place),
-            Named::Function(_, _, _) => note(first, true, 7, name.place),
-            Named::ReadInt => note(first, true, 7, name.place),
-            Named::MoreInput => note(first, true, 7, name.place),
-            Named::Print => note(first, true, 7, name.place),
+            Named::Scalar(_) | Named::Global(_) => first,
+            _ => note(first, true, 7, name.place),
         },
     }
 }
@@ -89,13 +84,8 @@ fn note_indexed(first: Option<Fault>, name: &Name, named: Option<Named>) -> Opti
     match named {
         None => note(first, true, 5, name.place),
         Some(named) => match named {
-            Named::Scalar(_) => note(first, true, 7, name.place),
-            Named::Global(_) => note(first, true, 7, name.place),
             Named::Array(_) => first,
-            Named::Function(_, _, _) => note(first, true, 7, name.place),
-            Named::ReadInt => note(first, true, 7, name.place),
-            Named::MoreInput => note(first, true, 7, name.place),
-            Named::Print => note(first, true, 7, name.place),
+            _ => note(first, true, 7, name.place),
         },
     }
 }
@@ -129,15 +119,11 @@ fn note_called(
     match named {
         None => note(first, true, 5, name.place),
         Some(named) => match named {
-            Named::Scalar(_) => note(first, true, 7, name.place),
-            Named::Global(_) => note(first, true, 7, name.place),
-            Named::Array(_) => note(first, true, 7, name.place),
             Named::Function(_, gives, count) => note_call(
                 first, whole, arguments, name, gives, count,
             ),
-            Named::ReadInt => note(first, arguments != 0, 8, name.place),
-            Named::MoreInput => note(first, arguments != 0, 8, name.place),
-            Named::Print => note(first, true, 7, name.place),
+            Named::ReadInt | Named::MoreInput => note(first, arguments != 0, 8, name.place),
+            _ => note(first, true, 7, name.place),
         },
     }
 }
@@ -163,13 +149,9 @@ fn note_changed(
     match named {
         None => note_both(first, 5, place, name),
         Some(named) => match named {
-            Named::Scalar(_) => first,
-            Named::Global(_) => first,
-            Named::Array(_) => note(first, true, 12, place),
-            Named::Function(_, _, _) => note(first, true, 12, place),
-            Named::ReadInt => note(first, true, 12, place),
-            Named::MoreInput => note(first, true, 12, place),
+            Named::Scalar(_) | Named::Global(_) => first,
             Named::Print => note_both(first, 7, place, name),
+            _ => note(first, true, 12, place),
         },
     }
 }
@@ -252,14 +234,7 @@ pub fn note_whole(names: &Names, expression: &Expression, first: Option<Fault>) 
             );
             note_row(names, arguments, kind)
         }
-        Expression::Number(_) => note_expression(names, expression, first),
-        Expression::Name(_) => note_expression(names, expression, first),
-        Expression::Element(_, _) => note_expression(names, expression, first),
-        Expression::Unary(_, _) => note_expression(names, expression, first),
-        Expression::Binary(_, _, _) => note_expression(names, expression, first),
-        Expression::Both(_, _) => note_expression(names, expression, first),
-        Expression::Either(_, _) => note_expression(names, expression, first),
-        Expression::Choice(_, _, _) => note_expression(names, expression, first),
+        _ => note_expression(names, expression, first),
     }
 }
 
@@ -298,12 +273,6 @@ pub fn note_target(
             let kind = note_indexed(first, name, names.named(name.bytes.as_slice()));
             note_expression(names, index, kind)
         }
-        Expression::Number(_) => note_no_target(names, place, expression, first),
-        Expression::Call(_, _) => note_no_target(names, place, expression, first),
-        Expression::Unary(_, _) => note_no_target(names, place, expression, first),
-        Expression::Binary(_, _, _) => note_no_target(names, place, expression, first),
-        Expression::Both(_, _) => note_no_target(names, place, expression, first),
-        Expression::Either(_, _) => note_no_target(names, place, expression, first),
-        Expression::Choice(_, _, _) => note_no_target(names, place, expression, first),
+        _ => note_no_target(names, place, expression, first),
     }
 }
