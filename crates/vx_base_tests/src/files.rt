@@ -4,8 +4,8 @@ use std::alloc::{AllocError, Global};
 use std::test::Fail;
 use vx_base::outcome::NoMemory;
 use vx_io::depot::{Depot, DepotFault};
-use vx_io::reading::{FileRead, read_file};
 use vx_io::real::RealDepot;
+use vx_io::whole_file::{FileRead, read_file};
 use vx_test_files::depot::MemDepot;
 
 /// A file under a name.

@@ -1,5 +1,5 @@
-// Tests of the base and of the word machine with its text, its descriptions and its simulator: each public call with ample
-// memory, and rows worked out by hand. What is compiled always is what the tests make and rest on.
+// Tests of the base and of the word machine with its text, its descriptions and its simulator: public calls with ample
+// memory that no row of vx_rows shows, and rows worked out by hand. What is compiled always is what the tests make and rest on.
 #![tactic(auto)]
 
 #[cfg(test)]

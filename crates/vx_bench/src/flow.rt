@@ -4,7 +4,7 @@
 ghost use Rattle.std.specs.Prelude.{◌≡◌, true};
 ghost use Rattle.vx_flow.specs.Sound.{is_sound};
 
-use crate::ending::{Ended, ended_by};
+use crate::result::{Ended, ended_by};
 use std::alloc::Global;
 use vx_base::arithmetic::{Code, Compare};
 use vx_base::listed::Listed;

@@ -1,6 +1,6 @@
 // A source that is read and lowered.
 
-use crate::ending::Ended;
+use crate::result::Ended;
 use crate::source::program_of;
 use std::alloc::Global;
 use vx_ast::typed::Typed;

@@ -2,17 +2,17 @@
 // the scripts under bench/. No contract here promises anything.
 #![tactic(auto)]
 
-mod ending;
 mod flow;
 mod lowering;
-mod making;
 mod operations;
-mod planning;
+mod plan;
+mod result;
 mod source;
 mod stages;
+mod synthetic;
 mod words;
 
-use crate::ending::Ended;
+use crate::result::Ended;
 use std::env;
 use std::process::ExitCode;
 use vx_io::real::RealSink;
@@ -83,7 +83,7 @@ fn measure(rt: &HostRuntime, asked: Measurement<'_>) -> Ended {
         Measurement::Flow => flow::measure(rt.alloc()),
         Measurement::Lowering(name) => lowering::measure(rt, name),
         Measurement::Operations(name) => operations::measure(rt, name),
-        Measurement::Planning(count) => planning::measure(rt, count),
+        Measurement::Planning(count) => plan::measure(rt, count),
         Measurement::Stages(name) => stages::measure(rt, name),
         Measurement::Words(name) => words::measure(rt, name),
     }

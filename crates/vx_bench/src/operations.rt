@@ -1,7 +1,7 @@
 // How many operations a source does over its graphs with an empty input, within 100,000,000 blocks. The number is put as a
 // line.
 
-use crate::ending::Ended;
+use crate::result::Ended;
 use crate::source::program_of;
 use std::alloc::Global;
 use vx_ast::typed::Typed;

@@ -2,12 +2,12 @@
 
 ghost use Rattle.std.specs.Prelude.{◌≤◌, length};
 
-use crate::ending::Ended;
+use crate::result::Ended;
 use std::alloc::Global;
 use vx_ast::fault::SourceFault;
 use vx_ast::typed::Typed;
-use vx_io::reading::{FileRead, read_file};
 use vx_io::real::RealDepot;
+use vx_io::whole_file::{FileRead, read_file};
 use vx_lex::tokens;
 use vx_parse::parse;
 use vx_types::check;

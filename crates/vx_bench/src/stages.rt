@@ -6,8 +6,8 @@
 ghost use Rattle.std.specs.Prelude.{◌≡◌, true};
 ghost use Rattle.vx_flow.specs.Sound.{is_sound_flow};
 
-use crate::ending::Ended;
 use crate::operations::{Work, counted};
+use crate::result::Ended;
 use crate::source::program_of;
 use std::alloc::Global;
 use vx_ast::typed::Typed;

@@ -1,10 +1,10 @@
 // A text of words, read and written again. It must be the same.
 
-use crate::ending::{Ended, ended_by};
+use crate::result::{Ended, ended_by};
 use std::alloc::Global;
 use vx_base::outcome::NoMemory;
-use vx_io::reading::{FileRead, read_file};
 use vx_io::real::RealDepot;
+use vx_io::whole_file::{FileRead, read_file};
 use vx_isa::program::WordProgram;
 use vx_isa::sound;
 use vx_reader::read;

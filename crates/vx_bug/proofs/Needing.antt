@@ -6,7 +6,7 @@ use Rattle.std.proofs.lemmas.Bool.{eqb-true, eq-eqb}
 use Rattle.std.proofs.lemmas.List.{append_assoc, map-append}
 use Rattle.vx_flow.specs.declared.trace.TraceOp.{TraceOp}
 use Rattle.vx_dep.specs.Delays.{writes_of}
-use Rattle.vx_bug.specs.declared.copying.Standings.{Standings}
+use Rattle.vx_bug.specs.declared.cluster_copies.Standings.{Standings}
 use Rattle.vx_bug.specs.declared.served.Served.{Served}
 use Rattle.vx_bug.specs.Clusters.{some_of, general_reads}
 use Rattle.vx_bug.specs.Copies.{is_away, reads_copies, is_served, serve, copied_for, renamed_op, here, Standing, across, with_its_copies, served_behind}

@@ -8,7 +8,7 @@ use Rattle.vx_flow.specs.declared.trace.Join.{Join}
 use Rattle.vx_flow.specs.declared.trace.Trace.{Trace}
 use Rattle.vx_flow.specs.declared.trace.Clustered.{Clustered}
 use Rattle.vx_dep.specs.Delays.{Stands}
-use Rattle.vx_bug.specs.declared.copying.Standings.{Standings}
+use Rattle.vx_bug.specs.declared.cluster_copies.Standings.{Standings}
 use Rattle.vx_bug.specs.declared.served.Served.{Served}
 use Rattle.vx_bug.specs.Copies.{Standing, with_its_copies, served_behind, pieces_from, pieces_of, joined, moved_join, with_copies}
 use Rattle.vx_bug.specs.Laying.{Adds, starts_of, served_at, IsLaidOne, AreLaid, start_in}

@@ -7,7 +7,7 @@ use Rattle.vx_isa.specs.Numbers.{Numbers}
 use Rattle.vx_machine.specs.Items.{item_of, unit_of_item}
 use Rattle.vx_dep.specs.Delays.{reads_of}
 use Rattle.vx_dep.specs.Compensation.{greatest}
-use Rattle.vx_bug.specs.declared.choosing.Choice.{Choice}
+use Rattle.vx_bug.specs.declared.cluster_choice.Choice.{Choice}
 use Rattle.vx_bug.specs.declared.turns.Sources.{Sources}
 use Rattle.vx_bug.specs.Clusters.{Books, available, is_free, first_free, cycle_of}
 use Rattle.vx_bug.specs.Choices.{compared}

@@ -5,7 +5,7 @@ use Rattle.vx_flow.specs.declared.trace.Trace.{Trace}
 use Rattle.vx_flow.specs.Effects.{IsIn}
 use Rattle.vx_isa.specs.Numbers.{Numbers}
 use Rattle.vx_dep.specs.Delays.{Stands}
-use Rattle.vx_bug.specs.declared.choosing.Choice.{Choice}
+use Rattle.vx_bug.specs.declared.cluster_choice.Choice.{Choice}
 use Rattle.vx_bug.specs.Clusters.{Books, estimate_of, after_turn, books_after, IsBest}
 
 -- among the clusters from the first one on it has the least number, and is the lowest of several

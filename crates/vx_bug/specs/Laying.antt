@@ -6,7 +6,7 @@ use Rattle.vx_flow.specs.declared.trace.TraceOp.TheVariants.{Plain}
 use Rattle.vx_flow.specs.declared.trace.Trace.{Trace}
 use Rattle.vx_linear.specs.Followed.{is_join}
 use Rattle.vx_dep.specs.Delays.{Stands}
-use Rattle.vx_bug.specs.declared.copying.Standings.{Standings}
+use Rattle.vx_bug.specs.declared.cluster_copies.Standings.{Standings}
 use Rattle.vx_bug.specs.declared.served.Served.{Served}
 use Rattle.vx_bug.specs.Clusters.{general_reads}
 use Rattle.vx_bug.specs.Ledgers.{placed}

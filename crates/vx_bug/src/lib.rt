@@ -2,20 +2,20 @@
 // clusters that the operations need.
 #![tactic(auto)]
 
-mod assigning;
+mod assignment;
 mod booked;
 mod bookings;
-mod choosing;
+mod cluster_choice;
+mod cluster_copies;
+mod clustered;
 pub mod clusters;
-mod copying;
+mod copy_homes;
 mod homes;
-mod housing;
 pub mod laws;
-mod laying;
 mod ledger;
-mod naming;
 mod order;
 mod served;
 mod turns;
+mod values;
 
-pub use assigning::assign;
+pub use assignment::assign;

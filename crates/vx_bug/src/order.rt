@@ -7,7 +7,7 @@ ghost use Rattle.vx_linear.specs.Writers.{writer};
 ghost use Rattle.vx_bug.specs.Clusters.{some_of, writers_of, visit, listed};
 ghost use Rattle.vx_bug.specs.Tasks.{done, all_done, entries, turns, weight, all_weight};
 
-use crate::naming::{reads_of, writer};
+use crate::values::{reads_of, writer};
 use std::alloc::Global;
 use vx_base::listed::Listed;
 use vx_base::outcome::NoMemory;

@@ -9,7 +9,7 @@ ghost use Rattle.vx_bug.specs.Sources.{there_on, earliest_on, IsSource, AreSourc
 use crate::bookings::{Booking, estimate_in, free_cycle};
 use crate::homes::{give_home, home_in};
 use crate::ledger::Ledger;
-use crate::naming::{general_reads, general_result, is_across, reads_of, writer};
+use crate::values::{general_reads, general_result, is_across, reads_of, writer};
 use std::alloc::Global;
 use vx_base::outcome::NoMemory;
 use vx_flow::graph::Value;

@@ -1,5 +1,5 @@
 // The words of calls, returns, entries and of a program's start.
 #![tactic(auto)]
 
-pub mod calling;
-mod gathering;
+pub mod call_words;
+mod lookups;

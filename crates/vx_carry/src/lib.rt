@@ -1,8 +1,8 @@
-// One planned word over values made into words over registers: what it reads from slots of the frame before it, its operations, what
-// goes to slots behind it, and its landings.
+// One planned word over values made into words over registers: what comes from slots of its frame before it, its
+// operations, what goes to slots behind it, and its landings.
 #![tactic(auto)]
 
-mod carrying;
-mod gathering;
-pub mod planning;
+pub mod carried_word;
+mod lookups;
+mod operations;
 pub mod word_plan;

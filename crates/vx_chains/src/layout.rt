@@ -3,9 +3,9 @@
 ghost use Rattle.std.specs.Prelude.{◌≡◌, ◌<◌, ◌≤◌, IfOk, length};
 ghost use Rattle.vx_chains.specs.Chains.{AreFilled};
 
-use crate::joining::joins;
-use crate::reaching::{Reached, reach};
-use crate::skipping::{Skipped, find_skipped};
+use crate::joined_blocks::joins;
+use crate::reached::{Reached, reach};
+use crate::skips::{Skipped, find_skipped};
 use crate::table::{NONE, at, filled, number_at, put};
 use std::alloc::Global;
 use vx_base::listed::Listed;

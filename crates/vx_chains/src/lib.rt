@@ -1,10 +1,10 @@
 // Chains of the blocks of a graph, each of which may become one block, looked for; vx_clean tests them.
 #![tactic(auto)]
 
-mod joining;
+mod joined_blocks;
 mod layout;
-mod reaching;
-mod skipping;
+mod reached;
+mod skips;
 mod table;
 
 pub use crate::layout::{Layout, find_layout};

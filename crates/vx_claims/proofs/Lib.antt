@@ -1,3 +1,4 @@
 mod Formed
 mod Kept
 mod IntervalRows
+mod Fronts

@@ -1,13 +1,13 @@
-// Claims, the facts of the analysis: where numbers lie, what values hold, which words of arrays are known; and what operations and the
-// sides of splits make of them.
+// Claims, the facts of the analysis: where numbers lie, what values hold, which words of arrays are known; what operations and the
+// sides of splits make of them; and operations in another form that by them does the same.
 #![tactic(auto)]
 
 pub mod access;
 pub mod behind;
 pub mod claim;
+pub mod effects;
 pub mod fact;
-pub mod forming;
+pub mod forms;
 pub mod intervals;
-pub mod keeping;
 pub mod known;
-pub mod learning;
+pub mod update;

@@ -5,7 +5,7 @@ use Rattle.vx_command.specs.declared.command.CompileWords.{CompileWords}
 use Rattle.vx_command.specs.declared.profile_words.ProfileWords.{ProfileWords}
 use Rattle.vx_command.specs.declared.run_words.ExecWords.{ExecWords}
 use Rattle.vx_command.specs.declared.run_words.RunWords.{RunWords}
-use Rattle.vx_command.specs.declared.soaking.SoakWords.{SoakWords}
+use Rattle.vx_command.specs.declared.soak_request.SoakWords.{SoakWords}
 
 abbrev pub compilation_of : CompileWords → Compilation
 compilation_of asked = record {

@@ -5,11 +5,11 @@ mod command;
 mod options;
 mod profile_words;
 mod run_words;
+mod soak_request;
 mod soak_words;
-mod soaking;
 
 pub use command::{CompileWords, Refused, compile_asked, refuse};
 pub use profile_words::{ProfileWords, profile_asked};
 pub use run_words::{ExecWords, RunWords, exec_asked, sim_asked};
+pub use soak_request::SoakWords;
 pub use soak_words::soak_asked;
-pub use soaking::SoakWords;

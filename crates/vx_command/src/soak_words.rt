@@ -8,7 +8,7 @@ ghost use Rattle.vx_command.specs.Asked.{soaking_of};
 
 use crate::command::{Refused, found_or_refused, without_text};
 use crate::options::{number_or_least, required_number_of, with_word};
-use crate::soaking::SoakWords;
+use crate::soak_request::SoakWords;
 use clap::{ArgMatches, Command};
 use std::alloc::{AllocError, Global};
 use vx_status::Status;

@@ -1,4 +1,5 @@
-// Laws of the copies of values between clusters: a trace with the copies that its operations need leaves what the trace leaves.
+// Laws of the copies of values between clusters: a trace with the copies that its operations need leaves what the trace leaves,
+// and each of its operations stands where its values are.
 #![tactic(auto)]
 
 ghost use Rattle.vx_copies.specs.AtHome.{AssignedStands};

@@ -10,10 +10,10 @@ use vx_base::listed::Listed;
 use vx_base::outcome::NoMemory;
 use vx_claims::access::tell;
 use vx_claims::claim::{Claim, accesses_in, facts_in};
+use vx_claims::effects::append_within;
 use vx_claims::fact::Fact;
 use vx_claims::intervals::Interval;
 use vx_claims::known::{give, is_inside, range_of};
-use vx_claims::learning::append_within;
 use vx_flow::graph::{Graph, Operand, Value};
 
 /// What a table gives of the parameters of a function, nothing where it has no row.

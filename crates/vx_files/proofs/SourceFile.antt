@@ -6,7 +6,7 @@ use Rattle.vx_io.specs.Outside.{Files}
 use Rattle.vx_ast.specs.Tree.{Program}
 use Rattle.vx_ast.specs.Reads.{most_bytes, Reads, too_long}
 use Rattle.vx_io.specs.Reading.{ReadsFile}
-use Rattle.vx_io.specs.declared.reading.FileRead.TheVariants.{TooLong as FileTooLong}
+use Rattle.vx_io.specs.declared.whole_file.FileRead.TheVariants.{TooLong as FileTooLong}
 use Rattle.vx_status.specs.declared.status.Status.{Status}
 use Rattle.vx_status.specs.declared.status.Status.TheVariants.{Source, Limit, NoMemory}
 use Rattle.vx_files.specs.Held.{HoldsSource, HoldsProgram, RefusesSource, Refuses}

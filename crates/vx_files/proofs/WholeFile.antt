@@ -5,7 +5,7 @@ use Rattle.std.specs.declared.alloc.Global.{Global}
 use Rattle.std.proofs.lemmas.Bool.{leb-true, le-leb}
 use Rattle.vx_io.specs.Outside.{Files}
 use Rattle.vx_io.specs.Reading.{ReadsFile}
-use Rattle.vx_io.specs.declared.reading.FileRead.TheVariants.{Whole, TooLong as FileTooLong}
+use Rattle.vx_io.specs.declared.whole_file.FileRead.TheVariants.{Whole, TooLong as FileTooLong}
 use Rattle.vx_io.specs.declared.role.Role.{Role}
 use Rattle.vx_status.specs.declared.status.Status.{Status}
 use Rattle.vx_status.specs.declared.status.Status.TheVariants.{NoFile}

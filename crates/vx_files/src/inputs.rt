@@ -9,8 +9,8 @@ ghost use Rattle.vx_files.specs.Held.{EmptyUnless, input_as, input_found};
 use crate::input::{InputFault, read_input};
 use std::alloc::Global;
 use vx_io::depot::{Depot, DepotFault};
-use vx_io::reading::{FileRead, read_file};
 use vx_io::role::Role;
+use vx_io::whole_file::{FileRead, read_file};
 use vx_status::Status;
 
 /// The most bytes of an input's text.

@@ -7,8 +7,8 @@ ghost use Rattle.vx_machine.specs.Descriptions.{reading};
 
 use std::alloc::Global;
 use vx_io::depot::{Depot, DepotFault};
-use vx_io::reading::{FileRead, read_file};
 use vx_io::role::Role;
+use vx_io::whole_file::{FileRead, read_file};
 use vx_machine::{Machine, MachineFault, from_toml};
 use vx_status::Status;
 

@@ -8,8 +8,8 @@ ghost use Rattle.vx_files.specs.Held.{status_of_profile, BadProfile, HoldsCounts
 
 use std::alloc::Global;
 use vx_io::depot::{Depot, DepotFault};
-use vx_io::reading::{FileRead, read_file};
 use vx_io::role::Role;
+use vx_io::whole_file::{FileRead, read_file};
 use vx_profile::counts::Counts;
 use vx_profile::{ProfileFault, read_counts};
 use vx_status::Status;

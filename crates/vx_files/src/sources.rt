@@ -5,12 +5,12 @@ ghost use Rattle.vx_ast.specs.View as view;
 ghost use Rattle.vx_files.specs.Held.{HoldsSource, HoldsProgram};
 ghost use Rattle.vx_files.specs.Effects.{effect_of, SourceAnswers};
 
-use crate::reading::typed_of;
+use crate::front_end::typed_of;
 use std::alloc::Global;
 use vx_ast::typed::Typed;
 use vx_io::depot::{Depot, DepotFault};
-use vx_io::reading::{FileRead, read_file};
 use vx_io::role::Role;
+use vx_io::whole_file::{FileRead, read_file};
 use vx_status::Status;
 
 /// The most bytes of a source.

@@ -6,8 +6,8 @@ ghost use Rattle.vx_flow.specs.Rows.{is_marked};
 ghost use Rattle.vx_flow.specs.Walk.{Headers, numbers};
 ghost use Rattle.vx_flow.specs.Walking.{LeadWithin, MarksTargets};
 
-use crate::closing::unmarked;
 use crate::graph::{BlockId, Edge, Graph};
+use crate::live_nodes::unmarked;
 use crate::walk::back_edges;
 use std::alloc::Global;
 use vx_base::outcome::NoMemory;

@@ -2,18 +2,18 @@
 // edges and headers.
 #![tactic(auto)]
 
-mod closing;
 pub mod copies;
 pub mod graph;
 mod header_blocks;
 pub mod laws;
+mod live_nodes;
 pub mod live_rows;
 mod liveness;
 pub mod operands;
 mod route_index;
 pub mod routes;
 mod rows;
-pub mod touching;
+pub mod touched_values;
 pub mod trace;
 mod walk;
 

@@ -7,13 +7,13 @@ ghost use Rattle.vx_flow.specs.Live.{IsLive, LiveOn, route_of, routes_from, touc
 ghost use Rattle.vx_flow.specs.Rows.{lives, row_at, Rising};
 ghost use Rattle.vx_flow.specs.Closing.{BeginWithin, EnteringFound, ReadersFound};
 
-use crate::closing::{list_found, live_nodes, unmarked};
 use crate::graph::{Block, BlockId, Graph, Op};
+use crate::live_nodes::{list_found, live_nodes, unmarked};
 use crate::live_rows::Live;
 use crate::route_index::{entering_of, readers_of};
 use crate::routes::{Route, Touch, targets_of};
 use crate::rows::Rows;
-use crate::touching::{touch_exit, touch_reads, touch_writes};
+use crate::touched_values::{touch_exit, touch_reads, touch_writes};
 use std::alloc::Global;
 use vx_base::listed::Listed;
 use vx_base::outcome::NoMemory;

@@ -6,8 +6,8 @@ ghost use Rattle.vx_flow.specs.Rows.{is_marked};
 ghost use Rattle.vx_flow.specs.Walk.{BackEdges, ascending, edge, successors, successors_in, successors_of};
 ghost use Rattle.vx_flow.specs.Walking.{LeadWithin, Walking, back_after, path_after, path_begun, places_after, places_begun, seen_after, seen_begun};
 
-use crate::closing::unmarked;
 use crate::graph::{BlockId, Edge, Exit, Graph};
+use crate::live_nodes::unmarked;
 use std::alloc::Global;
 use vx_base::outcome::NoMemory;
 

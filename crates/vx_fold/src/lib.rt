@@ -1,9 +1,9 @@
 // A pass over the graphs of a program: a value that only ever holds one number is read as that number. The flow does what it did.
 #![tactic(auto)]
 
-mod folding;
+mod fold;
 pub mod laws;
-mod numbering;
-mod settling;
+mod numbers;
+mod settled;
 
-pub use crate::folding::folded_once;
+pub use crate::fold::folded_once;

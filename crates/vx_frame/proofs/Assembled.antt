@@ -31,8 +31,8 @@ use Rattle.vx_regs.specs.declared.map.RegMap.{RegMap}
 use Rattle.vx_regs.specs.Intervals.{IsBusy}
 use Rattle.vx_regs.specs.Mapped.{KeepsApart, kept_of}
 use Rattle.vx_target.specs.declared.finished.Finished.{Finished}
-use Rattle.vx_slots.specs.declared.gathering.FunctionFrame.{FunctionFrame}
-use Rattle.vx_slots.specs.declared.gathering.Whole.{Whole}
+use Rattle.vx_slots.specs.declared.program.FunctionFrame.{FunctionFrame}
+use Rattle.vx_slots.specs.declared.program.Whole.{Whole}
 use Rattle.vx_target.specs.Target.{Target, is_slotted}
 use Rattle.vx_target.specs.Tied.{IsFunction}
 use Rattle.vx_target.specs.Carried.{room_of, item_of_laid, IsMapped, IsSaved, NeedsSlot, is_passed, is_spilled, is_saved, HasWord, IsFramed, words_before, Carries}

@@ -2,7 +2,7 @@
 use Rattle.std.proofs.Common.{◌≡◌, ◌<◌, ℕ, zero, suc, ◌+◌, ◌-◌, subst, List, [], ◌∷◌, ◌++◌, length, refl, sym, ap, ◌∙◌, arith, append_assoc, length-append, append-nil}
 use Rattle.vx_isa.specs.declared.program.Word.{Word}
 use Rattle.vx_mixed.specs.declared.layout.VirtualWord.{VirtualWord}
-use Rattle.vx_slots.specs.declared.gathering.FunctionPlaces.{FunctionPlaces}
+use Rattle.vx_slots.specs.declared.program.FunctionPlaces.{FunctionPlaces}
 use Rattle.vx_base.specs.declared.outcome.Trap.TheVariants.{Depth as ByDepth}
 use Rattle.vx_isa.specs.declared.operation.Operation.TheVariants.{EndByTrap}
 use Rattle.vx_target.specs.Target.{Target, word_words, entry_words, start_words, one}

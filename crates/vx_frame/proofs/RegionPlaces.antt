@@ -14,7 +14,7 @@ use Rattle.vx_mixed.specs.declared.layout.VWords.{VWords}
 use Rattle.vx_mixed.specs.LaidSettled.{laid_reads}
 use Rattle.vx_layout.specs.Numbered.{is_word_of, words_in, IsNumbered}
 use Rattle.vx_target.specs.declared.finished.TracePlaces.{TracePlaces}
-use Rattle.vx_slots.specs.declared.gathering.FunctionPlaces.{FunctionPlaces}
+use Rattle.vx_slots.specs.declared.program.FunctionPlaces.{FunctionPlaces}
 use Rattle.vx_target.specs.Target.{Target, before, word_words}
 use Rattle.vx_target.specs.Places.{ArePlaces, plan_place, regions_before, no_words, places_in}
 use Rattle.vx_frame.specs.Placing.{all_places, functions_begin, functions_end, laid_begin, mark_of, marks_from, places_at, spots_of, standing, starts_from}

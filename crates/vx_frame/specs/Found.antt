@@ -7,7 +7,7 @@ use Rattle.vx_isa.specs.declared.program.WordProgram.{WordProgram}
 use Rattle.vx_isa.specs.Machine.{memory_at_start}
 use Rattle.vx_isa.specs.Numbers.{IsMachine}
 use Rattle.vx_isa.specs.Sound.{is_start}
-use Rattle.vx_slots.specs.declared.gathering.Whole.{Whole}
+use Rattle.vx_slots.specs.declared.program.Whole.{Whole}
 use Rattle.vx_target.specs.Placed.{IsPlaced}
 use Rattle.vx_target.specs.Carried.{words_before, first_or_zero}
 use Rattle.vx_target.specs.Finish.{AllCanFinish}

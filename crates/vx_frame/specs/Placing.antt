@@ -5,7 +5,7 @@ use Rattle.vx_mixed.specs.declared.layout.Laid.TheVariants.{Plain, Split}
 use Rattle.vx_mixed.specs.declared.layout.VirtualWord.{VirtualWord}
 use Rattle.vx_mixed.specs.declared.layout.VirtualWord.TheVariants.{Planned, Drain, Transfer, Choice, Call, Return, Ends}
 use Rattle.vx_mixed.specs.LaidSettled.{laid_reads}
-use Rattle.vx_slots.specs.declared.gathering.FunctionPlaces.{FunctionPlaces}
+use Rattle.vx_slots.specs.declared.program.FunctionPlaces.{FunctionPlaces}
 use Rattle.vx_target.specs.Target.{Target, before, call_words, word_words, entry_words, start_words}
 use Rattle.vx_slots.specs.Seen.{no_places}
 use Rattle.vx_target.specs.Placed.{laid_pieces, word_landings, function_pieces, functions_pieces, words_of}

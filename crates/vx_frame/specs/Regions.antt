@@ -6,7 +6,7 @@ use Rattle.vx_mixed.specs.declared.layout.VirtualWord.{VirtualWord}
 use Rattle.vx_mixed.specs.declared.layout.VWords.{VWords}
 use Rattle.vx_layout.specs.Numbered.{is_word_of}
 use Rattle.vx_target.specs.declared.finished.TracePlaces.{TracePlaces}
-use Rattle.vx_slots.specs.declared.gathering.FunctionPlaces.{FunctionPlaces}
+use Rattle.vx_slots.specs.declared.program.FunctionPlaces.{FunctionPlaces}
 use Rattle.vx_slots.specs.Seen.{no_places}
 
 -- the mark of a word, where it is one of region r

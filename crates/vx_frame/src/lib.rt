@@ -2,8 +2,8 @@
 // are vx_memory's.
 #![tactic(auto)]
 
-mod finishing;
-mod placing;
+mod pieces;
+mod program_words;
 mod regions;
 
-pub use finishing::finish;
+pub use program_words::finish;

@@ -10,8 +10,8 @@ use vx_base::listed::Listed;
 use vx_base::outcome::NoMemory;
 use vx_mixed::layout::{VWords, VirtualWord};
 use vx_mixed::rows::{empty_rows, put};
-use vx_slots::gathering::{FunctionPlaces, number_at};
 use vx_slots::numbers::sum;
+use vx_slots::program::{FunctionPlaces, number_at};
 use vx_target::finished::TracePlaces;
 
 /// Puts the mark of a planned word behind those of its region.

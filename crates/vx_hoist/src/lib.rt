@@ -2,8 +2,8 @@
 // there. The flow does what it did.
 #![tactic(auto)]
 
-mod growing;
+mod hoisted_flow;
 pub mod laws;
 mod search;
 
-pub use growing::{Hoisted, hoist};
+pub use hoisted_flow::{Hoisted, hoist};

@@ -6,7 +6,7 @@ use Rattle.std.proofs.lemmas.List.{nil_from_length}
 use Rattle.std.proofs.Math.Seq.{drop-append_seam}
 use Rattle.vx_base.specs.Outcome.{Begins}
 use Rattle.vx_io.specs.Outside.{Files, ReadsAt, Rose}
-use Rattle.vx_io.specs.declared.reading.FileRead.TheVariants.{Whole, TooLong}
+use Rattle.vx_io.specs.declared.whole_file.FileRead.TheVariants.{Whole, TooLong}
 use Rattle.vx_io.specs.Reading.{ReadsFile}
 
 pub record FileSoFar (told : Option Files) (name done : List ℕ) : Type 0 where

@@ -1,7 +1,7 @@
 -- What the reading of a whole file, up to a bound on its length, answers.
 use Rattle.std.specs.Prelude.{◌≡◌, ◌<◌, ◌≤◌, ℕ, List, length, Some}
-use Rattle.vx_io.specs.declared.reading.FileRead.{FileRead}
-use Rattle.vx_io.specs.declared.reading.FileRead.TheVariants.{Whole, TooLong}
+use Rattle.vx_io.specs.declared.whole_file.FileRead.{FileRead}
+use Rattle.vx_io.specs.declared.whole_file.FileRead.TheVariants.{Whole, TooLong}
 use Rattle.vx_io.specs.Outside.{Files}
 
 -- of a file of this content: the content, where it is within the bound, else that it is not

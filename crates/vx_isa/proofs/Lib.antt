@@ -2,6 +2,7 @@ mod MachineRows
 mod FitsRows
 mod SoundRows
 pub mod Lists
+pub mod Ranges
 pub mod FitsLaw
 pub mod Steady
 pub mod SoundLaw

@@ -3,6 +3,6 @@
 #![tactic(auto)]
 
 pub mod laws;
-mod laying;
+mod words;
 
-pub use laying::lay_out;
+pub use words::lay_out;

@@ -15,8 +15,8 @@ use Rattle.vx_linear.specs.declared.form.Symbol.TheVariants.{Entry, Made}
 use Rattle.vx_linear.specs.declared.form.Term.{Term}
 use Rattle.vx_linear.specs.declared.form.Form.{Form}
 use Rattle.vx_linear.specs.declared.linear.Linear.{Linear}
-use Rattle.vx_linear.specs.declared.follow.Half.{Half}
-use Rattle.vx_linear.specs.declared.follow.Known.{Known}
+use Rattle.vx_linear.specs.declared.known_values.Half.{Half}
+use Rattle.vx_linear.specs.declared.known_values.Known.{Known}
 use Rattle.vx_linear.specs.Forms.{is_before, is_same, is_before_all, is_ordered, AreOrdered}
 use Rattle.vx_linear.specs.Linear.{constant, symbol, unless_zero, with_term, with_terms, scaled, plus, minus}
 use Rattle.vx_linear.specs.Followed.{Above, At, Joined, writes_it, made_or_entry, plain, number_in, common, are_halves, by_number, product_or, times_or, by_half, computed, made, known, index_made, index_of, above_of, access_form, form_at, forms_from, forms_of}

@@ -9,7 +9,7 @@ use Rattle.vx_flow.specs.declared.trace.Join.{Join}
 use Rattle.vx_flow.specs.declared.trace.Trace.{Trace}
 use Rattle.vx_linear.specs.declared.form.Form.{Form}
 use Rattle.vx_linear.specs.declared.linear.Linear.{Linear}
-use Rattle.vx_linear.specs.declared.follow.Known.{Known}
+use Rattle.vx_linear.specs.declared.known_values.Known.{Known}
 use Rattle.vx_linear.specs.declared.passed.Passed.{Passed}
 use Rattle.vx_linear.specs.Followed.{writes_it, made, known, index_made, is_join, above_of, form_at, forms_from, forms_of}
 use Rattle.vx_linear.specs.Writers.{writes_there, writer, has_join, made_there, made_at, index_there}

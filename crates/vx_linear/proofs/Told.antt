@@ -13,8 +13,8 @@ use Rattle.vx_flow.specs.Effects.{Content, State, held, both, computed as made_o
 use Rattle.vx_linear.specs.declared.form.Symbol.{Symbol}
 use Rattle.vx_linear.specs.declared.form.Symbol.TheVariants.{Made}
 use Rattle.vx_linear.specs.declared.linear.Linear.{Linear}
-use Rattle.vx_linear.specs.declared.follow.Half.{Half}
-use Rattle.vx_linear.specs.declared.follow.Known.{Known}
+use Rattle.vx_linear.specs.declared.known_values.Half.{Half}
+use Rattle.vx_linear.specs.declared.known_values.Known.{Known}
 use Rattle.vx_linear.specs.Linear.{constant, symbol, plus, minus, same}
 use Rattle.vx_linear.specs.Followed.{plain, number_in, common, are_two, are_halves, by_number, product_or, times_or, by_half, computed}
 use Rattle.vx_linear.proofs.Symbols.{first-true, second-true}

@@ -7,7 +7,7 @@ use Rattle.vx_flow.specs.declared.trace.Trace.{Trace}
 use Rattle.vx_flow.specs.declared.trace.TraceOp.{TraceOp}
 use Rattle.vx_linear.specs.declared.form.Form.{Form}
 use Rattle.vx_linear.specs.declared.linear.Linear.{Linear}
-use Rattle.vx_linear.specs.declared.follow.Known.{Known}
+use Rattle.vx_linear.specs.declared.known_values.Known.{Known}
 use Rattle.vx_linear.specs.declared.passed.Passed.{Passed}
 use Rattle.vx_linear.specs.Followed.{forms_from, forms_of}
 use Rattle.vx_linear.specs.Writers.{writer, has_join, made_at, index_there}

@@ -6,7 +6,7 @@ use Rattle.vx_flow.specs.declared.trace.Join.{Join}
 use Rattle.vx_flow.specs.declared.trace.Trace.{Trace}
 use Rattle.vx_linear.specs.declared.form.Symbol.TheVariants.{Entry, Made, EntryPlace, MadePlace}
 use Rattle.vx_linear.specs.declared.linear.Linear.{Linear}
-use Rattle.vx_linear.specs.declared.follow.Known.{Known}
+use Rattle.vx_linear.specs.declared.known_values.Known.{Known}
 use Rattle.vx_linear.specs.Linear.{symbol}
 use Rattle.vx_linear.specs.Followed.{writes_it, plain, made, known, index_made, above_of}
 

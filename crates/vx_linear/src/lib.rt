@@ -1,15 +1,15 @@
 // Index forms: what an access of a trace names, as a sum of symbols with factors, and whether two accesses can name
-// one word of memory. The rules are those of docs/DEFINITIONS.md, after Ellis, 1985.
+// one word of memory. The rules stand in docs/COMPILING.md, after Ellis, 1985.
 #![tactic(auto)]
 
 mod difference;
-mod follow;
-mod following;
 pub mod form;
+mod known_values;
 pub mod laws;
 mod linear;
 mod passed;
 mod places;
+mod trace_forms;
 
 pub use difference::differs;
-pub use following::forms;
+pub use trace_forms::forms;

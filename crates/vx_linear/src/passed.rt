@@ -6,7 +6,7 @@ ghost use Rattle.vx_flow.specs.declared.trace.Trace.{Trace as ATrace};
 ghost use Rattle.vx_linear.specs.Followed.{writes_it, made, known, index_made, above_of, is_join};
 ghost use Rattle.vx_linear.specs.Passed.{Passes, is_target, JoinsAre};
 
-use crate::follow::Known;
+use crate::known_values::Known;
 use crate::linear::Linear;
 use crate::places::Places;
 use std::alloc::Global;

@@ -4,7 +4,7 @@
 mod loops;
 mod notes;
 mod ordering;
-mod storing;
+mod stores;
 
 pub use crate::loops::{entries_at, loop_at, loops_of, spine_of};
 pub use crate::notes::Loops;

@@ -4,7 +4,7 @@
 ghost use Rattle.std.specs.Prelude.{◌≡◌, ◌<◌, ◌≤◌, ◌+◌, ◌-◌, ◌^◌, ℕ, length};
 ghost use Rattle.vx_loops.specs.Past.{NamesPast, counted_again};
 
-use crate::storing::stored_by;
+use crate::stores::stored_by;
 use vx_base::listed::Listed;
 use vx_flow::graph::{ArrayId, Block, BlockId, Exit, Op, Operand, Value};
 use vx_flow::operands::written_by;

@@ -10,7 +10,7 @@ use Rattle.vx_lower.specs.Does.{Shows, done, number, bytes}
 use Rattle.vx_lower.specs.Builds.{Ready, Grows, Finishes, Opens, From, Puts}
 use Rattle.vx_lower.specs.Makes.{Begins, bytes_of, left_of, to_show, numbers_in, Shifts, Showed}
 use Rattle.vx_lower.specs.declared.builder.Builder.{Builder}
-use Rattle.vx_lower.specs.declared.printing.Format.{Format}
+use Rattle.vx_lower.specs.declared.prints.Format.{Format}
 use Rattle.vx_lower.proofs.Places.{get_front, get_last}
 use Rattle.vx_lower.proofs.Building.{grows_self, grows_on, finishes_back}
 

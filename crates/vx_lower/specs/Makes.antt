@@ -16,7 +16,7 @@ use Rattle.vx_lower.specs.Does.{Change, By, Up, Down, Changes, Acts, Shows, Asks
 use Rattle.vx_lower.specs.Builds.{Ready, Grows, Finishes, Opens, From}
 use Rattle.vx_lower.specs.Emits.{IsWithin, Spare, way_of}
 use Rattle.vx_lower.specs.declared.builder.Builder.{Builder}
-use Rattle.vx_lower.specs.declared.printing.Format.{Format}
+use Rattle.vx_lower.specs.declared.prints.Format.{Format}
 
 -- how many numbers there are among pieces
 abbrev pub numbers_in : List Piece → ℕ

@@ -4,13 +4,13 @@
 pub mod actions;
 pub mod builder;
 pub mod expressions;
-pub mod finishing;
 pub mod laws;
 mod lowering;
 pub mod pieces;
-pub mod printing;
+pub mod prints;
 pub mod sizes;
 pub mod slots;
 pub mod statements;
+pub mod trap_blocks;
 
 pub use lowering::lower;

@@ -16,10 +16,10 @@ ghost use Rattle.vx_lower.specs.LoweredGraphs.{NamedByNumber, NoneDismissible};
 ghost use Rattle.vx_lower.specs.Lowered.{AllLowered, global_of as global_in, numbers_from, words_seen as all_words};
 
 use crate::builder::Builder;
-use crate::finishing::finish;
 use crate::sizes::Sizes;
 use crate::slots::Slots;
 use crate::statements::emit_all;
+use crate::trap_blocks::finish;
 use std::alloc::Global as Heap;
 use vx_ast::tree::{Function, GlobalVariable, Program};
 use vx_ast::typed::Typed;

@@ -17,7 +17,7 @@ use crate::actions::emit_action;
 use crate::builder::Builder;
 use crate::expressions::{emit_row, emit_test, emit_value, join};
 use crate::pieces::compute;
-use crate::printing::show;
+use crate::prints::show;
 use crate::sizes::Sizes;
 use std::alloc::Global;
 use vx_ast::tree::{Expression, First, Item, Simple, Statement};

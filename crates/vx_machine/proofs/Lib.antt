@@ -3,6 +3,7 @@ mod Ranges
 mod ReadsLaw
 mod DescriptionRows
 mod MarksLaw
+pub mod Latencies
 mod RoomSteps
 mod RoomLaw
 mod RoomAlone

@@ -7,7 +7,7 @@ ghost use Rattle.vx_isa.specs.Fits.{keeps_to_cluster, destinations, is_twice, is
 ghost use Rattle.vx_machine.specs.Marks.{mark_of, HasMark, is_marked_or_twice};
 
 use crate::Machine;
-use crate::fitting::has_registers;
+use crate::fit::has_registers;
 use vx_isa::operation::{Operation, Register};
 use vx_isa::program::Word;
 

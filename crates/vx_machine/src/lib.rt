@@ -3,7 +3,7 @@
 
 mod bad_word;
 mod description;
-mod fitting;
+mod fit;
 pub mod items;
 mod left;
 mod machine_model;
@@ -11,6 +11,6 @@ mod room;
 
 pub use bad_word::is_bad_word;
 pub use description::{MachineFault, description_law, field_name, from_toml};
-pub use fitting::fits;
+pub use fit::fits;
 pub use machine_model::Machine;
 pub use room::{fits_by_room_law, has_room, home_of, room_alone_law, room_law, room_shrinks_law};

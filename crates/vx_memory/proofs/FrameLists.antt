@@ -7,7 +7,7 @@ use Rattle.vx_mixed.specs.declared.layout.VWords.{VWords}
 use Rattle.vx_regs.specs.declared.map.RegMap.{RegMap}
 use Rattle.vx_memory.specs.Framing.{IsFrameOf}
 use Rattle.vx_slots.specs.Seen.{no_frame, no_graph, no_layout, no_map}
-use Rattle.vx_slots.specs.declared.gathering.FunctionFrame.{FunctionFrame}
+use Rattle.vx_slots.specs.declared.program.FunctionFrame.{FunctionFrame}
 
 module _ (graphs : List Graph) (layouts : List VWords) (maps : List RegMap) (addresses : List ℕ) where
   abbrev pub Stands : List FunctionFrame → ℕ → Type 0

@@ -12,7 +12,7 @@ use Rattle.vx_regs.specs.declared.map.RegMap.{RegMap}
 use Rattle.vx_regs.specs.Intervals.{IsLive}
 use Rattle.vx_regs.specs.Mapped.{kept_of}
 use Rattle.vx_target.specs.Tied.{IsResult}
-use Rattle.vx_slots.specs.declared.gathering.FunctionFrame.{FunctionFrame}
+use Rattle.vx_slots.specs.declared.program.FunctionFrame.{FunctionFrame}
 
 -- what is saved and brought
 

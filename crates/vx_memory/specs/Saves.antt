@@ -5,7 +5,7 @@ use Rattle.vx_mixed.specs.declared.layout.VirtualWord.{VirtualWord}
 use Rattle.vx_mixed.specs.declared.layout.VirtualWord.TheVariants.{Planned, Drain, Transfer, Choice, Call, Return, Ends}
 use Rattle.vx_regs.specs.declared.map.Kept.{Kept}
 use Rattle.vx_regs.specs.declared.map.Kept.TheVariants.{InRegister, InSlot, Nowhere}
-use Rattle.vx_regs.specs.declared.living.Living.{Living}
+use Rattle.vx_regs.specs.declared.liveness.Living.{Living}
 use Rattle.vx_regs.specs.Ways.{lives_there}
 
 -- the values that are in registers, ascending

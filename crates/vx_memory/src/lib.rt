@@ -2,6 +2,6 @@
 // what is saved there round calls.
 #![tactic(auto)]
 
-pub mod addressing;
-pub mod framing;
-mod saving;
+pub mod addresses;
+pub mod frames;
+mod saves;

@@ -1,5 +1,5 @@
 // A function of which some blocks are words already and others are blocks still: what it means, what a step from one such graph
-// to the next keeps, and which values are live in it.
+// to the next keeps, which values are live in it, and what its layout as one row of words is.
 #![tactic(auto)]
 
 pub mod layout;
@@ -7,6 +7,6 @@ pub mod mixed;
 pub mod nodes;
 pub mod region;
 pub mod replacement;
-pub mod routing;
+pub mod routes;
 pub mod rows;
-mod touching;
+mod touches;

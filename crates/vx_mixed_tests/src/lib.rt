@@ -1,5 +1,5 @@
-// Tests of what turns a function's graph into words over values, and of where these are kept: each public call with ample memory,
-// and rows worked out by hand. What is compiled always is what tests make and rest on.
+// Tests of graphs of blocks and regions as they begin, are traced and replaced, and of the registers of a layout's values: public calls
+// with ample memory that no row of vx_rows shows, and rows worked out by hand. What is compiled always is what tests make and rest on.
 #![tactic(auto)]
 
 #[cfg(test)]
@@ -11,7 +11,7 @@ mod layouts;
 #[cfg(test)]
 mod registers;
 #[cfg(test)]
-mod replacing;
+mod replacements;
 #[cfg(test)]
 mod traces;
 

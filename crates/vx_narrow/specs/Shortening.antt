@@ -11,7 +11,7 @@ use Rattle.vx_flow.specs.declared.graph.Op.{Op}
 use Rattle.vx_flow.specs.declared.graph.Op.TheVariants.{Compute}
 use Rattle.vx_claims.specs.declared.fact.Fact.{Fact}
 use Rattle.vx_claims.specs.declared.fact.Fact.TheVariants.{Between, Equals}
-use Rattle.vx_narrow.specs.declared.shortening.Factors.{Factors}
+use Rattle.vx_narrow.specs.declared.one_product.Factors.{Factors}
 use Rattle.vx_claims.specs.Facts.{range_of, is_half, has_equals}
 use Rattle.vx_claims.specs.Forming.{form, after_known}
 use Rattle.vx_claims.specs.declared.access.Access.{Access}

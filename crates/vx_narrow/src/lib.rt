@@ -2,9 +2,9 @@
 // read again, and products by small numbers are cheap. The flow does what it did.
 #![tactic(auto)]
 
+pub mod block_pass;
 pub mod laws;
-mod narrowing;
-pub mod passing;
-pub mod shortening;
+mod narrowed_flow;
+pub mod one_product;
 
-pub use crate::narrowing::narrow;
+pub use crate::narrowed_flow::narrow;

@@ -1,6 +1,7 @@
 pub mod Ways
 pub mod Fills
 pub mod Fronts
+pub mod HandedOn
 mod TreeRows
 pub mod Tokens
 pub mod Depths

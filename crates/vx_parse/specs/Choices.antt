@@ -7,8 +7,8 @@ use Rattle.vx_ast.specs.declared.token.TokenKind.TheVariants as kinds
 use Rattle.vx_ast.specs.Phrases.{Expression, Statement, Simple, Print, The, AName, A, mark, Fits, parts_of, simple_rest}
 use Rattle.vx_parse.specs.declared.choice.Following.{Following}
 use Rattle.vx_parse.specs.declared.choice.Following.TheVariants as following
-use Rattle.vx_parse.specs.declared.opening.Opening.{Opening}
-use Rattle.vx_parse.specs.declared.opening.Opening.TheVariants as opening
+use Rattle.vx_parse.specs.declared.first_token.Opening.{Opening}
+use Rattle.vx_parse.specs.declared.first_token.Opening.TheVariants as opening
 
 -- what stands behind the first expression of a simple statement whose next token is this
 abbrev pub FollowedBy : Following → TokenKind → Type 0

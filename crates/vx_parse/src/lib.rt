@@ -5,8 +5,8 @@
 pub mod choice;
 pub mod definition;
 pub mod expression;
+pub mod first_token;
 mod memory;
-pub mod opening;
 pub mod parser;
 pub mod phrase_laws;
 pub mod simple;

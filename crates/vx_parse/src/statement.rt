@@ -15,8 +15,8 @@ ghost use Rattle.vx_parse.specs.Choices.{begins_simple};
 ghost use Rattle.vx_parse.specs.Statements.{MeansAction, MeansFirst, MeansTest, MeansStep, MeansElse, MeansPrint, MeansCode, MeansBlock, MeansAll, if_with, Test, Head, IsTest, IsHead};
 
 use crate::expression::{DEEPEST, Operands, read_expression, read_more};
+use crate::first_token::{Opening, opening_of};
 use crate::memory::{append, boxed};
-use crate::opening::{Opening, opening_of};
 use crate::simple::{read_items, read_simple};
 use crate::stop::Stop;
 use crate::token::{is_mark, is_word, kind_at, place_at, read_mark, read_text, read_word};

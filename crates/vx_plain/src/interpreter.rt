@@ -1,5 +1,5 @@
 // A plain interpreter of sources: recursive over the tree, with a store of lists. Its clause says that it comes to what
-// specs/Meaning.antt says. It is for tests and teaching; the compiler does not use it.
+// specs/Meaning.antt of vx_ast says. It is for tests and teaching; the compiler does not use it.
 
 ghost use Rattle.std.specs.Prelude.{◌≡◌, ◌+◌, ℕ, pos, [], Some, None, length, IfOk, MatchResult};
 ghost use Rattle.std.specs.Option.{option_map};

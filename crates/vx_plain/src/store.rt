@@ -1,5 +1,5 @@
 // The store of the interpreter: what the active function's scalars, the arrays, the input and the output hold. It stands
-// for a store of specs/Meaning.antt (`store_of`), and each call is one step of the meaning.
+// for a store of specs/Meaning.antt of vx_ast (`store_of`), and each call is one step of the meaning.
 
 ghost use Rattle.std.specs.Prelude.{◌≡◌, ◌++◌, ◌≤◌, ℕ, pos, List, [], length, map, replicate, take, slice_set, slice_index_or, IfOk, OnOk, MatchOption};
 ghost use Rattle.std.specs.Fmt.{signed_decimal};

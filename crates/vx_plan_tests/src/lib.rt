@@ -1,5 +1,5 @@
-// Tests of the road from a source to a placed trace: each public call with ample memory, and rows worked out by hand. What
-// is compiled always is what tests make and rest on.
+// Tests of the road from a source to a placed trace: public calls with ample memory that no row of vx_rows shows, and
+// rows worked out by hand. What is compiled always is what tests make and rest on.
 #![tactic(auto)]
 
 #[cfg(test)]

@@ -2,8 +2,8 @@
 // and the calls of planning behind it.
 #![tactic(auto)]
 
+mod plan;
 mod plannable;
-mod planning;
 
+pub use plan::{clustered, placed};
 pub use plannable::{are_there, is_plannable};
-pub use planning::{clustered, placed};

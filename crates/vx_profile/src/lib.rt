@@ -2,13 +2,13 @@
 // written and read.
 #![tactic(auto)]
 
+mod count_reader;
+mod count_writer;
 pub mod counts;
 mod fault;
 pub mod laws;
 mod passed;
-mod reading;
-mod texts;
 
+pub use count_reader::read_counts;
+pub use count_writer::write_counts;
 pub use fault::ProfileFault;
-pub use reading::read_counts;
-pub use texts::write_counts;

@@ -4,7 +4,6 @@ pub mod Table
 pub mod NeverMeeting
 pub mod TableMet
 pub mod BelowJoins
-pub mod TakesTime
 pub mod Greatest
 pub mod MadeCopies
 pub mod CopiedPlaces

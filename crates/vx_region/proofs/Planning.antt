@@ -52,7 +52,7 @@ use Rattle.vx_region.proofs.Bare.{bare, bare_items, bare_nth, bare_many, bare_la
 use Rattle.vx_region.proofs.PlainItems.{plain_many, nth_at, some_at}
 use Rattle.vx_region.proofs.TableMet.{the_table_is_met}
 use Rattle.vx_region.proofs.BelowJoins.{Below, below_join}
-use Rattle.vx_region.proofs.TakesTime.{takes_time}
+use Rattle.vx_machine.proofs.Latencies.{takes_time}
 use Rattle.vx_region.proofs.Greatest.{all_below, first_below, reached, drained}
 use Rattle.vx_region.proofs.MadeCopies.{Copy, made_all, Distinct, made_append, distinct_append, on_edge_is, OfCopy, of_copy, made_once}
 use Rattle.vx_region.proofs.CopiedPlaces.{copies_are, op_at, freed_by, marked_op}

@@ -14,7 +14,7 @@ use Rattle.vx_mixed.specs.declared.layout.VWords.{VWords}
 use Rattle.vx_mixed.specs.LaidSettled.{LeadsTo, Pends, cycles_of}
 use Rattle.vx_mixed.specs.LaidSettled.Pends.{written, later}
 use Rattle.vx_regs.specs.declared.hulls.Hull.{Hull}
-use Rattle.vx_regs.specs.declared.living.Living.{Living}
+use Rattle.vx_regs.specs.declared.liveness.Living.{Living}
 use Rattle.vx_regs.specs.BusyPlaces.{AreHulls, Flight, LiveNear, NamedBelow, WroteBelow, leads_list, nodes_near, split_places}
 use Rattle.vx_regs.specs.BusyPlaces.Flight.{stays, goes}
 use Rattle.vx_regs.specs.Hulls.{AtEdge, Notes, Spanned, hull_at}

@@ -6,7 +6,7 @@ use Rattle.vx_regs.specs.declared.map.Kept.{Kept}
 use Rattle.vx_regs.specs.declared.map.Kept.TheVariants.{InRegister, InSlot}
 use Rattle.vx_regs.specs.Spans.Gives.{takes, refused, evicts}
 use Rattle.std.proofs.lemmas.Bool.{cases_lt, eqb-true, eq-eqb, leb-true, leb-false, ltb-true}
-use Rattle.vx_regs.specs.declared.scanning.Last.{Last}
+use Rattle.vx_regs.specs.declared.scan.Last.{Last}
 use Rattle.vx_regs.specs.declared.spans.Span.{Span}
 use Rattle.vx_regs.specs.Held.{IsLast, goes_on, later, outlasts}
 use Rattle.vx_regs.specs.Spans.{AllHeld, FreeFrom, Gives, Holds, Outlasts}

@@ -9,7 +9,7 @@ use Rattle.vx_mixed.specs.declared.layout.VirtualWord.{VirtualWord}
 use Rattle.vx_mixed.specs.declared.layout.VirtualWord.TheVariants.{Planned, Drain, Transfer, Choice, Call, Return, Ends}
 use Rattle.vx_mixed.specs.declared.layout.VWords.{VWords}
 use Rattle.vx_mixed.specs.LaidSettled.{LeadsTo}
-use Rattle.vx_regs.specs.declared.entering.Nodes.{Nodes}
+use Rattle.vx_regs.specs.declared.nodes.Nodes.{Nodes}
 use Rattle.vx_regs.specs.Ways.{number_if, next_if, marked, marked_by_item, marked_by_items, marked_by_word, marked_by_words, numbered, node_in, ends_at, starts, steps_on, AreNodes, NodesFound}
 
 -- marks

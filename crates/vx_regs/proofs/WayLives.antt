@@ -20,8 +20,8 @@ use Rattle.vx_mixed.specs.LaidSettled.{LeadsTo}
 use Rattle.vx_mixed.proofs.Alike.{in_or}
 use Rattle.vx_mixed.proofs.Linked.{in_index, index_in}
 use Rattle.vx_regs.specs.Intervals.{IsLive, here, beyond, word_reads, word_writes}
-use Rattle.vx_regs.specs.declared.entering.Nodes.{Nodes}
-use Rattle.vx_regs.specs.declared.living.Living.{Living}
+use Rattle.vx_regs.specs.declared.nodes.Nodes.{Nodes}
+use Rattle.vx_regs.specs.declared.liveness.Living.{Living}
 use Rattle.vx_regs.specs.Ways.{marked, marked_by_words, node_in, AreNodes, node_list, item_ways, word_ways, ends_at, word_touches, way_touches, way_ends, way_from, ways_from, lives_in, lives_there, LivesAt, LivesAtNodes, NodesFound}
 use Rattle.vx_regs.proofs.NodeMarks.{numbers_long, words_long, set_long, Node, Inside, node_once, entry_node, leads_node, leads_next}
 

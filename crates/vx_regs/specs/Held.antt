@@ -1,6 +1,6 @@
 -- Which of the holders of registers goes on to a place, and which outlasts the others.
 use Rattle.std.specs.Prelude.{◌≡◌, ◌<◌, ◌==◌, ◌&&◌, ◌||◌, ℕ, Bool, false, if◌then◌else◌, nat_lt, nat_le, Option, Some, None, List}
-use Rattle.vx_regs.specs.declared.scanning.Last.{Last}
+use Rattle.vx_regs.specs.declared.scan.Last.{Last}
 use Rattle.vx_regs.specs.declared.spans.Span.{Span}
 use Rattle.vx_regs.specs.Spans.{Holds, Outlasts}
 

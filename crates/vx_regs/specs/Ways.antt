@@ -13,8 +13,8 @@ use Rattle.vx_mixed.specs.declared.layout.VirtualWord.TheVariants.{Planned, Drai
 use Rattle.vx_mixed.specs.declared.layout.VWords.{VWords}
 use Rattle.vx_mixed.specs.LaidSettled.{LeadsTo}
 use Rattle.vx_regs.specs.Intervals.{IsLive, word_reads, word_writes}
-use Rattle.vx_regs.specs.declared.entering.Nodes.{Nodes}
-use Rattle.vx_regs.specs.declared.living.Living.{Living}
+use Rattle.vx_regs.specs.declared.nodes.Nodes.{Nodes}
+use Rattle.vx_regs.specs.declared.liveness.Living.{Living}
 
 -- marks: for each place of a layout whether it is a node
 

@@ -12,11 +12,11 @@ ghost use Rattle.vx_regs.specs.Hulls.{Notes};
 ghost use Rattle.vx_regs.specs.Intervals.{word_reads, word_writes};
 ghost use Rattle.vx_regs.specs.Ways.{LivesAtNodes};
 
-use crate::entering::{Nodes, push_node, push_ways};
 use crate::hulls::{Hull, note};
-use crate::living::{Living, living_of};
-use crate::scanning::{number_of, sum};
-use crate::touching::{word_reads, word_writes, written};
+use crate::liveness::{Living, living_of};
+use crate::nodes::{Nodes, push_node, push_ways};
+use crate::scan::{number_of, sum};
+use crate::touches::{word_reads, word_writes, written};
 use std::alloc::Global;
 use vx_base::listed::Listed;
 use vx_base::outcome::NoMemory;

@@ -1,14 +1,14 @@
 // Where the values of a function that is laid out as words are kept: in registers, or in slots of its frame.
 #![tactic(auto)]
 
-mod allocating;
+mod allocation;
 mod busy;
-pub mod entering;
 mod hulls;
-pub mod living;
+pub mod liveness;
 pub mod map;
-mod scanning;
+pub mod nodes;
+mod scan;
 mod spans;
-pub mod touching;
+pub mod touches;
 
-pub use allocating::{home_in, registers};
+pub use allocation::{home_in, registers};

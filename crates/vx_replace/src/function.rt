@@ -12,9 +12,9 @@ ghost use Rattle.vx_mixed.specs.TraceOf.{CanTrace, IsTraceOf};
 ghost use Rattle.vx_mixed.specs.Next.{next_mixed};
 ghost use Rattle.vx_mixed.specs.Valid.{CanBegin, Valid};
 
-use crate::beginning::{begun_blocks, told_values};
-use crate::replacing::replace_trace;
-use crate::tracing::trace_of;
+use crate::begun_lists::{begun_blocks, told_values};
+use crate::replacement::replace_trace;
+use crate::trace::trace_of;
 use std::alloc::Global;
 use std::marker::Model;
 use vx_base::listed::Listed;
@@ -177,7 +177,7 @@ impl Mixed {
     }
 
     /// A trace becomes a region, and blocks are made of the copies on its edges. The trace must be that of its blocks, but for
-    /// copies of values between clusters; specs/CanReplace.antt says what is asked of the rest. Without memory, or where there
+    /// copies of values between clusters; specs/CanReplace.antt of vx_mixed says what is asked of the rest. Without memory, or where there
     /// would be 2^32 blocks or more, the graph stays as it was.
     pub fn replace(&mut self, alloc: Global, replacement: Replacement) -> Result<(), NoMemory>
         requires trace { TraceFits self.old replacement }

@@ -2,15 +2,15 @@
 // blocks alone, and traces of it become regions.
 #![tactic(auto)]
 
-mod beginning;
-mod edging;
-mod exchanging;
+mod begun_lists;
+mod edges;
+mod exchange;
 pub mod function;
-mod joining;
+mod joins;
+mod nodes;
 mod origins;
-mod placing;
-mod renaming;
-mod replacing;
-mod tracing;
+mod region;
+mod replacement;
+mod trace;
 
 pub use function::Mixed;

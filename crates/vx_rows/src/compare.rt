@@ -1,6 +1,6 @@
 // What a call left against what its step wants.
 
-use crate::calling::Outcome;
+use crate::call::Outcome;
 use crate::content::number_of;
 use crate::files::{Stored, bytes_under};
 use crate::rows::Step;

@@ -3,7 +3,7 @@
 // where no row differs, else with 1.
 #![tactic(auto)]
 
-mod calling;
+mod call;
 mod compare;
 mod content;
 mod files;
@@ -11,23 +11,23 @@ mod halt;
 mod reader;
 mod report;
 mod rows;
-mod running;
+mod run;
 mod sheet;
 mod why;
 
 use crate::halt::Halt;
 use crate::reader::read_sheet;
 use crate::report::{Tally, tell_misread, tell_tally, tell_unread};
-use crate::running::{check_rows, run_rows};
+use crate::run::{check_rows, run_rows};
 use crate::sheet::Statement;
 use crate::why::Misread;
 use std::alloc::Global;
 use std::env;
 use std::process::ExitCode;
 use std::rt::Files;
-use vx_io::reading::{FileRead, read_file};
 use vx_io::real::{RealDepot, RealSink};
 use vx_io::sink::Sink;
+use vx_io::whole_file::{FileRead, read_file};
 
 /// The most bytes of a file of rows.
 const MOST_BYTES: u64 = 1 << 26;

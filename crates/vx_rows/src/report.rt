@@ -1,6 +1,6 @@
 // What is printed.
 
-use crate::calling::Outcome;
+use crate::call::Outcome;
 use crate::compare::{bytes_of, is_so, puts_as_kept, puts_as_wanted};
 use crate::files::{Stored, words_of};
 use crate::halt::Halt;

@@ -4,7 +4,7 @@ use Rattle.std.proofs.lemmas.Bool.{true≢false, and_parts, and_from, and_right,
 use Rattle.std.proofs.lemmas.List.{get_or-set_same, get_or-set_other, length-set}
 use Rattle.std.proofs.lemmas.List.Sorted.{All-permutation, sum_by-IsPermutation}
 use Rattle.vx_isa.proofs.Lists.{count_by-append, count_by-cons}
-use Rattle.vx_sched.specs.declared.ranking.Ranked.{Ranked}
+use Rattle.vx_sched.specs.declared.height_order.Ranked.{Ranked}
 use Rattle.vx_sched.specs.Placement.{comes_before}
 use Rattle.vx_sched.specs.Filling.{word_in, is_without, AreWithout, IsNext}
 use Rattle.vx_sched.specs.Ranking.{rank_of, IsRanked, is_of, AreRanked, AreSorted, AreLeft, first_of}

@@ -2,7 +2,7 @@
 -- place.
 use Rattle.std.specs.Prelude.{◌≡◌, ◌<◌, ◌+◌, ◌-◌, ◌*◌, ◌&&◌, ℕ, Bool, cond, nat_lt, nat_eq, All, Option, Some, None, List, [], ◌∷◌, length, count_by}
 use Rattle.std.specs.List.Sorted.{IsNonDecreasingBy}
-use Rattle.vx_sched.specs.declared.ranking.Ranked.{Ranked}
+use Rattle.vx_sched.specs.declared.height_order.Ranked.{Ranked}
 use Rattle.vx_sched.specs.Filling.{word_in, is_without}
 
 -- the number by which a place is sorted

@@ -1,11 +1,11 @@
 // Where the operations of a clustered trace are placed.
 #![tactic(auto)]
 
-mod crowding;
+mod full_rows;
+mod height_order;
 pub mod laws;
-mod placing;
-mod ranking;
+mod list_schedule;
 mod ready;
 mod rows;
 
-pub use placing::schedule;
+pub use list_schedule::schedule;

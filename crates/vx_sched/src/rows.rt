@@ -4,7 +4,7 @@ ghost use Rattle.std.specs.Prelude.{◌≡◌, ◌<◌, ◌+◌, ◌++◌, ◌�
 ghost use Rattle.vx_machine.specs.Room.{has_room};
 ghost use Rattle.vx_sched.specs.Filling.{row_of, IsFirstWith, Puts};
 
-use crate::crowding::is_crowded;
+use crate::full_rows::is_crowded;
 use std::alloc::Global;
 use vx_base::listed::{Listed, with_item};
 use vx_base::outcome::NoMemory;

@@ -1,6 +1,6 @@
 -- What was found for the functions of a flow.
 use Rattle.std.specs.Prelude.{◌≡◌, ℕ, length}
-use Rattle.vx_search.specs.declared.calling.Found.{Found}
+use Rattle.vx_search.specs.declared.parameters.Found.{Found}
 
 -- it has a row for each of so many functions
 pub record HasRows (functions : ℕ) (found : Found) : Type 0 where

@@ -2,11 +2,11 @@
 // checks what it finds.
 #![tactic(auto)]
 
-mod calling;
 mod compared;
-mod inheriting;
+mod inherited;
+mod parameters;
 mod search;
-mod sweeping;
+mod sweep;
 
-pub use crate::calling::{Found, Kept, find_given};
+pub use crate::parameters::{Found, Kept, find_given};
 pub use crate::search::find_claims;

@@ -2,7 +2,7 @@
 // copies of flows with other graphs.
 #![tactic(auto)]
 
-pub mod copying;
+pub mod copies;
 pub mod laws;
 pub mod origins;
 pub mod passes;

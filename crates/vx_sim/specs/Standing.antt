@@ -4,7 +4,7 @@ use Rattle.vx_isa.specs.Machine.{State, Write}
 use Rattle.vx_probe.specs.Times.{Times}
 use Rattle.vx_sim.specs.Passed.{counted}
 use Rattle.vx_sim.specs.Flying.{by_landing}
-use Rattle.vx_sim.specs.declared.standing.Standing.{Standing}
+use Rattle.vx_sim.specs.declared.state.Standing.{Standing}
 use Rattle.vx_sim.specs.Held.{held_by, word_of}
 
 -- it prints from nothing on, and asks for landing times from the first one on

@@ -21,7 +21,7 @@ use crate::flight::Flight;
 use crate::flights::{pass_cycles, put};
 use crate::memory::store;
 use crate::ring::Ring;
-use crate::standing::Standing;
+use crate::state::Standing;
 use crate::stuck::takes_input;
 use vx_isa::operation::{Operation, Register};
 use vx_isa::program::Word;

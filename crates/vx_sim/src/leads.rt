@@ -10,7 +10,7 @@ ghost use Rattle.vx_sim.specs.Shapes.{counts_of};
 ghost use Rattle.vx_sim.specs.Standing.{state_of};
 
 use crate::shape::UnitCounts;
-use crate::standing::Standing;
+use crate::state::Standing;
 use vx_arithmetic::unsigned32;
 use vx_base::outcome::Trap;
 use vx_isa::operation::{BranchRegister, Operation};

@@ -14,7 +14,7 @@ mod registers;
 mod ring;
 mod shape;
 mod sim;
-mod standing;
+mod state;
 mod steps;
 mod stuck;
 

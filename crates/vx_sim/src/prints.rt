@@ -8,7 +8,7 @@ ghost use Rattle.vx_isa.specs.Fits.{is_of};
 ghost use Rattle.vx_isa.specs.Machine.{print_of};
 ghost use Rattle.vx_sim.specs.Standing.{state_of};
 
-use crate::standing::Standing;
+use crate::state::Standing;
 use itoa::Buffer;
 use vx_arithmetic::unsigned32;
 use vx_io::sink::{Sink, SinkFault, put_all};

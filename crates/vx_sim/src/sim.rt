@@ -11,7 +11,7 @@ use crate::memory::{memory_of, ring_for};
 use crate::registers::Registers;
 use crate::ring::Ring;
 use crate::shape::{Shape, shapes_of};
-use crate::standing::Standing;
+use crate::state::Standing;
 use crate::steps::step;
 use std::alloc::Global;
 use vx_base::outcome::NoMemory;

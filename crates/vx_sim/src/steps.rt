@@ -18,7 +18,7 @@ use crate::leads::{Lead, event_of, following, lead_of_word, place_behind};
 use crate::prints::print;
 use crate::ring::Ring;
 use crate::shape::{Shape, UnitCounts, shape_at};
-use crate::standing::Standing;
+use crate::state::Standing;
 use crate::stuck::stuck_by;
 use vx_base::outcome::Reason;
 use vx_io::sink::Sink;

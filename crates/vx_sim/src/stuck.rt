@@ -10,7 +10,7 @@ ghost use Rattle.vx_sim.specs.Shapes.{shape_of, counts_of, stuck_here};
 ghost use Rattle.vx_sim.specs.Standing.{state_of};
 
 use crate::shape::Shape;
-use crate::standing::{Standing, is_word_of};
+use crate::state::{Standing, is_word_of};
 use vx_base::outcome::Reason;
 use vx_isa::operation::Operation;
 use vx_isa::program::{Word, WordProgram};

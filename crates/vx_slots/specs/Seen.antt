@@ -4,9 +4,9 @@ use Rattle.vx_flow.specs.declared.graph.Graph.{Graph}
 use Rattle.vx_mixed.specs.declared.layout.VWords.{VWords}
 use Rattle.vx_regs.specs.declared.map.RegMap.{RegMap}
 use Rattle.vx_target.specs.Target.{Target}
-use Rattle.vx_slots.specs.declared.gathering.FunctionFrame.{FunctionFrame}
-use Rattle.vx_slots.specs.declared.gathering.FunctionPlaces.{FunctionPlaces}
-use Rattle.vx_slots.specs.declared.gathering.Whole.{Whole}
+use Rattle.vx_slots.specs.declared.program.FunctionFrame.{FunctionFrame}
+use Rattle.vx_slots.specs.declared.program.FunctionPlaces.{FunctionPlaces}
+use Rattle.vx_slots.specs.declared.program.Whole.{Whole}
 
 abbrev pub no_graph : Graph
 no_graph = record { blocks = []; banks = []; parameters = []; arrays = [] }

@@ -7,11 +7,11 @@ use Rattle.vx_base.specs.Outcome.{Outcome, IsOver, Step, On, Over}
 use Rattle.vx_flow.specs.Effects.{State}
 use Rattle.vx_flow.specs.Meaning.{Visit, AtBlock, AlongEdge, Frame, Active, Program, edge_back, edge_taken, hop, next, path_then, program_path, program_run, program_of, start, graph_run, graph_path}
 use Rattle.vx_flow.specs.declared.graph.Flow.{Flow}
-use Rattle.vx_tally.specs.declared.calls.Waiting.{Waiting}
-use Rattle.vx_tally.specs.declared.calls.Machine.{Machine}
-use Rattle.vx_tally.specs.declared.ending.Left.{Left}
-use Rattle.vx_tally.specs.declared.ending.Left.TheVariants.{Arrives, Calls, Leaves, Stops, Wrong}
-use Rattle.vx_tally.specs.declared.ending.Ending.{Ending}
+use Rattle.vx_tally.specs.declared.machine.Waiting.{Waiting}
+use Rattle.vx_tally.specs.declared.machine.Machine.{Machine}
+use Rattle.vx_tally.specs.declared.ends.Left.{Left}
+use Rattle.vx_tally.specs.declared.ends.Left.TheVariants.{Arrives, Calls, Leaves, Stops, Wrong}
+use Rattle.vx_tally.specs.declared.ends.Ending.{Ending}
 use Rattle.vx_profile.specs.Counts.{is_block, is_edge}
 use Rattle.vx_tally.specs.declared.tally.Tally.{Tally}
 use Rattle.vx_tally.specs.Tally.{TallyOf, TallyMore}

@@ -12,9 +12,9 @@ use Rattle.vx_flow.specs.declared.graph.Graph.{Graph}
 use Rattle.vx_flow.specs.declared.graph.Flow.{Flow}
 use Rattle.vx_flow.specs.Effects.{Content, State, Setting, effect}
 use Rattle.vx_flow.specs.Meaning.{Hop, Frame, Active, Program, leave, and_then, block_hop, deepest, waits, undefined, at_entry, after_hop, body_hop, body_of, hop, next, program_of, program_run, returned, entered_or, start, globals_at_start, words_at_start}
-use Rattle.vx_tally.specs.declared.ending.Ending.{Ending}
-use Rattle.vx_tally.specs.declared.calls.Waiting.{Waiting}
-use Rattle.vx_tally.specs.declared.calls.Machine.{Machine}
+use Rattle.vx_tally.specs.declared.ends.Ending.{Ending}
+use Rattle.vx_tally.specs.declared.machine.Waiting.{Waiting}
+use Rattle.vx_tally.specs.declared.machine.Machine.{Machine}
 use Rattle.vx_tally.specs.Storage.{state_of, came, and_after, effects}
 use Rattle.vx_tally.specs.Machine.{graph_hop, frame_of, stacked, active_of, undefined_all, own_in, entered_by, called_by, IsStep, IsOutcome}
 

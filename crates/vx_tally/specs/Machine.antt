@@ -7,11 +7,11 @@ use Rattle.vx_flow.specs.Meaning.{Hop, Visit, AtBlock, AlongEdge, Frame, Active,
 use Rattle.vx_flow.specs.declared.graph.Flow.{Flow}
 use Rattle.vx_flow.specs.declared.graph.Graph.{Graph}
 use Rattle.vx_flow.specs.declared.graph.Array.{Array}
-use Rattle.vx_tally.specs.declared.ending.Left.{Left}
-use Rattle.vx_tally.specs.declared.ending.Left.TheVariants.{Arrives, Calls, Leaves, Stops, Wrong}
-use Rattle.vx_tally.specs.declared.ending.Ending.{Ending}
-use Rattle.vx_tally.specs.declared.calls.Waiting.{Waiting}
-use Rattle.vx_tally.specs.declared.calls.Machine.{Machine}
+use Rattle.vx_tally.specs.declared.ends.Left.{Left}
+use Rattle.vx_tally.specs.declared.ends.Left.TheVariants.{Arrives, Calls, Leaves, Stops, Wrong}
+use Rattle.vx_tally.specs.declared.ends.Ending.{Ending}
+use Rattle.vx_tally.specs.declared.machine.Waiting.{Waiting}
+use Rattle.vx_tally.specs.declared.machine.Machine.{Machine}
 use Rattle.vx_tally.specs.Storage.{setting_in, state_of, value_at}
 
 -- how block b was left with a state

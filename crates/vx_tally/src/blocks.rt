@@ -7,7 +7,7 @@ ghost use Rattle.vx_flow.specs.Meaning.{Arrives, block_hop, by_test, hop_of, kno
 ghost use Rattle.vx_tally.specs.Machine.{graph_hop, hop_from};
 ghost use Rattle.vx_tally.specs.Storage.{setting_in, state_of};
 
-use crate::ending::Left;
+use crate::ends::Left;
 use crate::operations::{execute_all, is_one};
 use crate::storage::Storage;
 use std::alloc::Global;

@@ -3,13 +3,13 @@
 #![tactic(auto)]
 
 mod blocks;
-mod calls;
 mod cells;
-mod ending;
+mod ends;
+mod machine;
 mod operations;
 mod plain;
 mod storage;
 mod tally;
 
-pub use ending::{Ending, Ran};
+pub use ends::{Ending, Ran};
 pub use plain::{Counted, count, run_plain};

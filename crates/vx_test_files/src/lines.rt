@@ -1,4 +1,4 @@
-// The lines of a text of bytes, in order and without copying. Every format of the compiler is read by lines.
+// The lines of a text of bytes, in order and without copying.
 ghost use Rattle.std.specs.Prelude.{◌≡◌, ◌≢◌, ◌++◌, [], ◌∷◌, All, IsNone, IsTrue, IfSome, IfNone, ◌↔◌, false, not, ◌==◌, ◌<◌, ◌≤◌, take, length, slice_index};
 ghost use Rattle.std.specs.List.{prefix_len};
 ghost use Rattle.vx_test_files.specs.Lines.{line_text, lines_of};

@@ -2,12 +2,12 @@
 // says.
 #![tactic(auto)]
 
-mod making;
+mod constants;
 mod shapes;
 mod traces;
 mod worked;
 
-pub use making::{graph, op, program};
+pub use constants::{graph, op, program};
 pub use shapes::{Act, Part, Shape, Way, Whole};
 pub use traces::{Step, trace};
 pub use worked::{BANKS, WITHOUT_ELSE};

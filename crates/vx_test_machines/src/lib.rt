@@ -1,4 +1,4 @@
-// The machines of the tests, each read from its description.
+// The machines of the tests: the default one, and narrow ones that are read from descriptions.
 #![tactic(auto)]
 
 mod kinds;

@@ -2,8 +2,8 @@
 #![tactic(auto)]
 
 pub mod laws;
-mod needing;
-pub mod reading;
-mod thinning;
+mod needed;
+pub mod reads;
+mod thin;
 
-pub use crate::thinning::thinned_once;
+pub use crate::thin::thinned_once;

@@ -4,8 +4,8 @@
 ghost use Rattle.std.specs.Prelude.{◌≡◌, ◌<◌, None, Some, IfOk, length, replicate, slice_get, slice_index_or, slice_set};
 ghost use Rattle.vx_trace.specs.Growing.{better, HasHeaviest, IsSeed, other_of};
 
-use crate::counting::{count_of_block, count_of_edge};
-use crate::reading::is_unused;
+use crate::blocks::is_unused;
+use crate::counts::{count_of_block, count_of_edge};
 use std::alloc::Global;
 use vx_base::outcome::NoMemory;
 use vx_flow::graph::BlockId;

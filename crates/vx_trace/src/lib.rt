@@ -2,11 +2,11 @@
 // vx_flow says.
 #![tactic(auto)]
 
-mod counting;
-mod growing;
+mod blocks;
+mod counts;
+mod growth;
 mod heaviest;
 pub mod laws;
-mod picking;
-mod reading;
+mod picked_trace;
 
-pub use picking::{count_of_trace, pick};
+pub use picked_trace::{count_of_trace, pick};

@@ -11,10 +11,10 @@ mod picks;
 #[cfg(test)]
 mod profiles;
 #[cfg(test)]
-mod running;
-#[cfg(test)]
 mod shapes;
 #[cfg(test)]
 mod steps;
+#[cfg(test)]
+mod steps_run;
 
 pub use begins::{begun, can_begin};

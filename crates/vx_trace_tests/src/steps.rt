@@ -1,10 +1,10 @@
 // Steps on worked graphs: the traces that are picked, their modes, words and copies, one after the other until no block is left.
 
 use crate::passes::Passed;
-use crate::running::{Row, Wanted, is_so};
 use crate::shapes::{
     IN_LINE, PRINTING, SINKING, SUMS, SUMS_BEHIND_A_CALL, SUMS_TO_A_HOME, SUMS_TURNED,
 };
+use crate::steps_run::{Row, Wanted, is_so};
 use std::alloc::Global;
 use std::test::Fail;
 use vx_base::arithmetic::Code;

@@ -4,7 +4,7 @@ use Rattle.vx_isa.specs.declared.operation.Operation.{Operation}
 use Rattle.vx_isa.specs.Operations.{same}
 use Rattle.vx_isa.specs.Machine.{Write, writes_of, cycles_of}
 use Rattle.vx_probe.specs.Times.{list_of}
-use Rattle.vx_sim.specs.declared.standing.Standing.{Standing}
+use Rattle.vx_sim.specs.declared.state.Standing.{Standing}
 use Rattle.vx_sim.specs.Flying.{flying_of, by_landing}
 use Rattle.vx_sim.specs.Held.{held_by}
 use Rattle.vx_sim.specs.Standing.{state_of}

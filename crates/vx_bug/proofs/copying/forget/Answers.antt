@@ -1,5 +1,0 @@
-use Rattle.vx_bug.proofs.Needing.{keeps_none}
-use Rattle.vx_bug.proofs.copying.forget.Goals as goal
-
-pub returns-in-None : goal.returns-in-None
-returns-in-None c = keeps_none c.args.served.now.items c.args.written c.in-None.is

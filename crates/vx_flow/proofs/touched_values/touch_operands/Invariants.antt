@@ -1,0 +1,8 @@
+use Rattle.std.proofs.Common.{◌≡◌, ◌++◌, take}
+use Rattle.std.specs.List.{flat_map}
+use Rattle.vx_flow.specs.Effects.{value_in}
+use Rattle.vx_flow.specs.Live.{reading}
+use Rattle.vx_flow.proofs.touched_values.touch_operands.Given as goal
+
+abbrev pub invariant-loop-operand : goal.invariant-loop-operand
+invariant-loop-operand l = l.touches ≡ l.initial.touches ++ reading (flat_map value_in (take l.operand-index l.operands))

@@ -1,7 +1,0 @@
-use Rattle.vx_slots.specs.Seen.{seen}
-use Rattle.vx_frame.proofs.Emitting.{gives_turn}
-use Rattle.vx_frame.proofs.placing.push_functions.Goals as goal
-
--- one function more
-pub functions-preserved : goal.functions-preserved
-functions-preserved c = gives_turn (seen c.args.whole.now) c.args.count c.functions.function c.in_ok-function.function c.functions.left c.args.words.now c.functions.words c.push_function.new.words c.functions.places c.push.new.self c.in_ok-found.found c.functions.invariant c.functions-test.true c.in_ok-found.ensures.words c.in_ok-found.ensures.places c.in_ok-push.ensures.ok c.in_ok-function.ensures

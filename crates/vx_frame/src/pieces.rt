@@ -1,0 +1,402 @@
+// The words of a whole program, one piece after the other, and where each piece begins. How many words a piece has does not
+// depend on places, so a first pass finds the places and a second one makes the words. specs/Placing.antt has the places.
+
+ghost use Rattle.std.specs.Prelude.{◌≡◌, ◌<◌, ◌≤◌, ◌++◌, ◌+◌, ℕ, [], IfOk, length};
+ghost use Rattle.vx_mixed.specs.declared.layout.VirtualWord.TheVariants.{Call};
+ghost use Rattle.vx_mixed.specs.LaidSettled.{laid_reads};
+ghost use Rattle.vx_target.specs.Target.{before, idle_words, plan_words, start_words, turns, turns_word, word_words};
+ghost use Rattle.vx_target.specs.Placed.{laid_pieces, word_landings, landing_pieces, function_pieces, functions_pieces, all_pieces, words_of, IsPlaced};
+ghost use Rattle.vx_frame.specs.Placing.{starts_from, landings_from, mark_of, marks_from, places_at, all_places, functions_begin, functions_end, at_spots, spots_of, standing, OneSplit};
+ghost use Rattle.vx_slots.specs.Seen.{seen};
+
+use std::alloc::Global;
+use vx_base::listed::Listed;
+use vx_base::outcome::{NoMemory, Trap};
+use vx_calls::call_words::{
+    follows, push_back, push_call, push_entry, push_return, push_start, push_way,
+};
+use vx_carry::carried_word::{plan_of, push_choice, push_item_landings, push_plan};
+use vx_flow::graph::{Operand, Value};
+use vx_isa::operation::Operation;
+use vx_isa::program::Word;
+use vx_mixed::layout::{Laid, VirtualWord};
+use vx_slots::numbers::sum;
+use vx_slots::program::{FunctionPlaces, Sizes, Whole, words_of};
+use vx_slots::transfers::{push_idle, push_one, push_pause};
+
+/// The words of a program, and where they stand.
+#[derive(Drop)]
+pub(crate) struct Pieces {
+    pub(crate) words: Listed<Word>,
+    pub(crate) places: Listed<FunctionPlaces>,
+    /// The place of the trap by which a call that is one too many ends.
+    pub(crate) depth_trap: u32,
+}
+
+/// The places of the words of a layout.
+#[derive(Drop)]
+struct LaidPlaces {
+    starts: Listed<u32>,
+    marks: Listed<u32>,
+}
+
+/// Whether a word of a layout at a place goes to another one by a word of its own.
+fn turns(whole: &Whole, function: u32, place: u32, word: &VirtualWord) -> Result<bool, NoMemory>
+    ensures { IfOk result (λ turned. turned ≡ turns_word (seen whole.now) function place word.now) }
+{
+    match word {
+        VirtualWord::Transfer(to) => Ok(!follows(whole, function, sum(place, 1)?, *to)),
+        VirtualWord::Planned { .. } => Ok(false),
+        VirtualWord::Drain(_) => Ok(false),
+        VirtualWord::Choice { .. } => Ok(false),
+        VirtualWord::Call { .. } => Ok(false),
+        VirtualWord::Return(_) => Ok(false),
+        VirtualWord::Ends(_) => Ok(false),
+    }
+}
+
+/// Whether the word at a place of a function's layout does.
+fn turns_at(whole: &Whole, function: u32, place: u32) -> Result<bool, NoMemory>
+    ensures { IfOk result (λ turned. turned ≡ turns (seen whole.now) function place) }
+{
+    match words_of(whole, function).get(place as usize) {
+        Some(word) => turns(whole, function, place, word),
+        None => Ok(false),
+    }
+}
+
+/// Empty cycles at a place of a layout; where a goto stands behind them, it is the last of them.
+fn push_idles(
+    alloc: Global,
+    whole: &Whole,
+    function: u32,
+    place: u32,
+    cycles: u32,
+    words: &mut Listed<Word>,
+) -> Result<(), NoMemory>
+    ensures { IfOk result (λ _. words.new ≡ words.old ++ idle_words (seen whole.now) function place cycles) }
+{
+    let next = sum(place, 1)?;
+    if turns_at(whole, function, next)? {
+        return push_pause(alloc, cycles.saturating_sub(1), words);
+    }
+    push_idle(alloc, cycles, words)
+}
+
+/// The words that carry a planned one; gives the place of its operations.
+fn push_planned(
+    alloc: Global,
+    whole: &Whole,
+    function: u32,
+    place: u32,
+    items: &[Laid],
+    words: &mut Listed<Word>,
+) -> Result<u32, NoMemory>
+    ensures words { IfOk result (λ _. words.new ≡ words.old ++ plan_words (seen whole.now) function place items.now) }
+    ensures mark { IfOk result (λ mark. mark ≡ length words.old + length (before (seen whole.now) function (laid_reads items.now))) }
+{
+    let plan = plan_of(alloc, whole, function, place, items)?;
+    push_plan(alloc, whole, &plan, words)
+}
+
+/// The words that carry a call and what stands behind it; gives the place to which it returns.
+fn push_called(
+    alloc: Global,
+    whole: &Whole,
+    function: u32,
+    place: u32,
+    called: u32,
+    arguments: &[Operand],
+    taken: Option<Value>,
+    words: &mut Listed<Word>,
+) -> Result<u32, NoMemory>
+    ensures words { IfOk result (λ _. words.new ≡ words.old ++ word_words (seen whole.now) function place (Call called arguments.now taken)) }
+    ensures mark { IfOk result (λ mark. mark ≡ mark_of (seen whole.now) function (length words.old) place (Call called arguments.now taken)) }
+{
+    push_call(alloc, whole, function, place, called, arguments, words)?;
+    let back = words.len() as u32;
+    push_back(alloc, whole, function, place, taken, words)?;
+    Ok(back)
+}
+
+/// The words that carry one of a layout; gives the place of a planned word's operations, or of the return of a call.
+fn push_word(
+    alloc: Global,
+    whole: &Whole,
+    function: u32,
+    place: u32,
+    word: &VirtualWord,
+    words: &mut Listed<Word>,
+) -> Result<u32, NoMemory>
+    ensures words { IfOk result (λ _. words.new ≡ words.old ++ word_words (seen whole.now) function place word.now) }
+    ensures mark { IfOk result (λ mark. mark ≡ mark_of (seen whole.now) function (length words.old) place word.now) }
+{
+    match word {
+        VirtualWord::Planned { items, .. } => {
+            push_planned(alloc, whole, function, place, items.as_slice(), words)
+        }
+        VirtualWord::Drain(cycles) => {
+            push_idles(alloc, whole, function, place, *cycles, words)?;
+            Ok(0)
+        }
+        VirtualWord::Transfer(to) => {
+            push_way(alloc, whole, function, sum(place, 1)?, *to, words)?;
+            Ok(0)
+        }
+        VirtualWord::Choice { test, place: to } => {
+            push_choice(alloc, whole, function, *test, *to, words)?;
+            Ok(0)
+        }
+        VirtualWord::Call {
+            function: called,
+            arguments,
+            result: taken,
+        } => push_called(
+            alloc,
+            whole,
+            function,
+            place,
+            *called,
+            arguments.as_slice(),
+            *taken,
+            words,
+        ),
+        VirtualWord::Return(operand) => {
+            push_return(alloc, whole, function, *operand, words)?;
+            Ok(0)
+        }
+        VirtualWord::Ends(trap) => {
+            push_one(alloc, Operation::EndByTrap { trap: *trap }, words)?;
+            Ok(0)
+        }
+    }
+}
+
+/// The words of a layout, one after the other.
+fn push_laid(
+    alloc: Global,
+    whole: &Whole,
+    function: u32,
+    laid: &[VirtualWord],
+    words: &mut Listed<Word>,
+) -> Result<LaidPlaces, NoMemory>
+    ensures words { IfOk result (λ _. words.new ≡ words.old ++ words_of (laid_pieces (seen whole.now) function 0 laid.now)) }
+    ensures starts { IfOk result (λ places. places.starts ≡ starts_from (seen whole.now) function (length words.old) 0 laid.now) }
+    ensures marks { IfOk result (λ places. places.marks ≡ marks_from (seen whole.now) function (length words.old) 0 laid.now) }
+{
+    let mut starts = Listed::new(alloc);
+    let mut marks = Listed::new(alloc);
+    note_laid(alloc, whole, function, laid, words, &mut starts, &mut marks)?;
+    Ok(LaidPlaces { starts, marks })
+}
+
+/// The same, where the places are noted in lists that hold none yet.
+#[tactic(auto, using(crate::proofs::Emitting::emits_words, crate::proofs::Emitting::emits_starts, crate::proofs::Emitting::emits_marks))]
+fn note_laid(
+    alloc: Global,
+    whole: &Whole,
+    function: u32,
+    laid: &[VirtualWord],
+    words: &mut Listed<Word>,
+    starts: &mut Listed<u32>,
+    marks: &mut Listed<u32>,
+) -> Result<(), NoMemory>
+    requires no_starts { starts.old ≡ [] }
+    requires no_marks { marks.old ≡ [] }
+    ensures words { IfOk result (λ _. words.new ≡ words.old ++ words_of (laid_pieces (seen whole.now) function 0 laid.now)) }
+    ensures starts { IfOk result (λ _. starts.new ≡ starts_from (seen whole.now) function (length words.old) 0 laid.now) }
+    ensures marks { IfOk result (λ _. marks.new ≡ marks_from (seen whole.now) function (length words.old) 0 laid.now) }
+{
+    let mut place = 0;
+    let mut rest = laid;
+    'laid: loop {
+        let begin = words.len() as u32;
+        match rest.split_first() {
+            None => {
+                starts.push(begin)?;
+                return Ok(());
+            }
+            Some((word, others)) => {
+                let mark = push_word(alloc, whole, function, place, word, words)?;
+                starts.push(begin)?;
+                marks.push(mark)?;
+                place = sum(place, 1)?;
+                rest = others;
+            }
+        }
+    }
+}
+
+/// The landings of a word of a layout.
+fn push_word_landings(
+    alloc: Global,
+    whole: &Whole,
+    function: u32,
+    place: u32,
+    word: &VirtualWord,
+    words: &mut Listed<Word>,
+) -> Result<(), NoMemory>
+    ensures { IfOk result (λ _. words.new ≡ words.old ++ words_of (word_landings (seen whole.now) function place word.now)) }
+{
+    match word {
+        VirtualWord::Planned { items, .. } => {
+            let plan = plan_of(alloc, whole, function, place, items.as_slice())?;
+            push_item_landings(alloc, whole, &plan, items.as_slice(), words)
+        }
+        VirtualWord::Drain(_) => Ok(()),
+        VirtualWord::Transfer(_) => Ok(()),
+        VirtualWord::Choice { .. } => Ok(()),
+        VirtualWord::Call { .. } => Ok(()),
+        VirtualWord::Return(_) => Ok(()),
+        VirtualWord::Ends(_) => Ok(()),
+    }
+}
+
+/// The landings of a layout, one after the other; gives where those of each word begin.
+#[tactic(auto, using(crate::proofs::Emitting::lands_first, crate::proofs::Emitting::lands_words, crate::proofs::Emitting::lands_landings))]
+fn push_landings(
+    alloc: Global,
+    whole: &Whole,
+    function: u32,
+    laid: &[VirtualWord],
+    words: &mut Listed<Word>,
+) -> Result<Listed<u32>, NoMemory>
+    ensures words { IfOk result (λ _. words.new ≡ words.old ++ words_of (landing_pieces (seen whole.now) function 0 laid.now)) }
+    ensures landings { IfOk result (λ landings. landings ≡ landings_from (seen whole.now) function (length words.old) 0 laid.now) }
+{
+    let mut landings = Listed::new(alloc);
+    let mut place = 0;
+    let mut rest = laid;
+    'landings: loop {
+        match rest.split_first() {
+            None => return Ok(landings),
+            Some((word, others)) => {
+                let begin = words.len() as u32;
+                push_word_landings(alloc, whole, function, place, word, words)?;
+                landings.push(begin)?;
+                place = sum(place, 1)?;
+                rest = others;
+            }
+        }
+    }
+}
+
+/// The words of a function: its entry, its layout and its landings.
+fn push_function(
+    alloc: Global,
+    whole: &Whole,
+    function: u32,
+    words: &mut Listed<Word>,
+) -> Result<FunctionPlaces, NoMemory>
+    ensures words { IfOk result (λ _. words.new ≡ words.old ++ words_of (function_pieces (seen whole.now) function)) }
+    ensures places { IfOk result (λ places. places ≡ places_at (seen whole.now) function (length words.old)) }
+{
+    let entry = words.len() as u32;
+    push_entry(alloc, whole, function, words)?;
+    let laid = words_of(whole, function);
+    let LaidPlaces { starts, marks } = push_laid(alloc, whole, function, laid, words)?;
+    let landings = push_landings(alloc, whole, function, laid, words)?;
+    Ok(FunctionPlaces {
+        entry,
+        starts,
+        landings,
+        marks,
+    })
+}
+
+/// The words of so many functions, one after the other.
+#[tactic(auto, using(crate::proofs::Emitting::gives_first, crate::proofs::Emitting::gives_turn, crate::proofs::Emitting::gives_words, crate::proofs::Emitting::gives_places))]
+fn push_functions(
+    alloc: Global,
+    whole: &Whole,
+    count: u32,
+    words: &mut Listed<Word>,
+) -> Result<Listed<FunctionPlaces>, NoMemory>
+    ensures words { IfOk result (λ _. words.new ≡ words.old ++ words_of (functions_pieces (seen whole.now) 0 count)) }
+    ensures places { IfOk result (λ places. places ≡ all_places (seen whole.now) (length words.old) 0 count) }
+{
+    let mut places = Listed::new(alloc);
+    let mut function = 0;
+    let mut left = count;
+    'functions: while left > 0 {
+        let found = push_function(alloc, whole, function, words)?;
+        places.push(found)?;
+        function = sum(function, 1)?;
+        left -= 1;
+    }
+    Ok(places)
+}
+
+/// The words of a program of so many functions.
+pub(crate) fn pieces_of(
+    alloc: Global,
+    whole: &Whole,
+    main: u32,
+    functions: u32,
+) -> Result<Pieces, NoMemory>
+    ensures words { IfOk result (λ pieces. pieces.words ≡ words_of (all_pieces (seen whole.now) main functions)) }
+    ensures places { IfOk result (λ pieces. pieces.places ≡ all_places (seen whole.now) (length (start_words (seen whole.now) main)) 0 functions) }
+    ensures trap { IfOk result (λ pieces. pieces.depth_trap ≡ functions_end (seen whole.now) main functions) }
+{
+    let mut words = Listed::new(alloc);
+    push_start(alloc, whole, main, &mut words)?;
+    let places = push_functions(alloc, whole, functions, &mut words)?;
+    let depth_trap = words.len() as u32;
+    push_one(
+        alloc,
+        Operation::EndByTrap { trap: Trap::Depth },
+        &mut words,
+    )?;
+    Ok(Pieces {
+        words,
+        places,
+        depth_trap,
+    })
+}
+
+/// The same program with words that stand at these places.
+pub(crate) fn with_places<'a, 'p>(
+    whole: &Whole<'a, '_>,
+    places: &'p [FunctionPlaces],
+    depth_trap: u32,
+) -> Whole<'a, 'p>
+    ensures { seen result ≡ at_spots (seen whole.now) (spots_of places.now depth_trap) }
+{
+    Whole {
+        machine: whole.machine,
+        graphs: whole.graphs,
+        layouts: whole.layouts,
+        maps: whole.maps,
+        frames: whole.frames,
+        places,
+        sizes: Sizes {
+            globals: whole.sizes.globals,
+            frame: whole.sizes.frame,
+            depth_trap,
+        },
+    }
+}
+
+/// The words of a program, of which all but the places are found, where no word has more than one split; and their places, which
+/// the first pass found.
+#[tactic(auto, using(crate::proofs::Standing::second_pass))]
+pub(crate) fn pieces_that_stand(
+    alloc: Global,
+    whole: &Whole,
+    main: u32,
+    functions: u32,
+) -> Result<Pieces, NoMemory>
+    requires one_split { (f : ℕ) → f < functions → OneSplit ((seen whole.now).layout f).words }
+    requires no_more { (f : ℕ) → functions ≤ f → ((seen whole.now).layout f).words ≡ [] }
+    ensures placed { IfOk result (λ pieces. IsPlaced (standing (seen whole.now) main functions) main functions pieces.words) }
+    ensures places { IfOk result (λ pieces. pieces.places ≡ all_places (seen whole.now) (functions_begin (seen whole.now) main) 0 functions) }
+{
+    let draft = pieces_of(alloc, whole, main, functions)?;
+    let standing = with_places(whole, draft.places.as_slice(), draft.depth_trap);
+    let made = pieces_of(alloc, &standing, main, functions)?;
+    Ok(Pieces {
+        words: made.words,
+        places: draft.places,
+        depth_trap: draft.depth_trap,
+    })
+}

@@ -1,7 +1,0 @@
-use Rattle.std.proofs.Common.{◌≡◌, take}
-use Rattle.std.specs.Prelude.{count_by}
-use Rattle.vx_isa.specs.Operations.{is_control}
-use Rattle.vx_machine.proofs.fitting.count_of_control.Given as goal
-
-abbrev pub invariant-loop-op : goal.invariant-loop-op
-invariant-loop-op l = l.count ≡ count_by is_control (take l.op-index l.ops)

@@ -1,7 +1,0 @@
-use Rattle.std.proofs.Common.{◌≡◌, ◌++◌, take}
-use Rattle.std.specs.List.{flat_map}
-use Rattle.vx_mixed.specs.Routes.{writing_item}
-use Rattle.vx_mixed.proofs.touching.push_all_writes.Given as goal
-
-abbrev pub invariant-loop-item : goal.invariant-loop-item
-invariant-loop-item l = l.touches ≡ l.initial.touches ++ flat_map writing_item (take l.item-index l.word)

@@ -1,4 +1,0 @@
-use Rattle.vx_narrow.proofs.shortening.+shift_below.Given as goal
-
-abbrev pub decreases-shift_below : goal.decreases-shift_below
-decreases-shift_below l = l.most

@@ -1,0 +1,126 @@
+// The pass over one block: its operations in the forms that what is known gives them, and the block narrowed, where it passes.
+
+ghost use Rattle.std.specs.Prelude.{◌≡◌, true, IfOk, IfSome};
+ghost use Rattle.vx_claims.specs.Forming.{accessed_from, after_from};
+ghost use Rattle.vx_claims.specs.Claims.{listed_claims};
+ghost use Rattle.vx_facts.specs.Checking.{is_block_checked, listed_given};
+ghost use Rattle.vx_narrow.specs.Shortening.{improved_from};
+ghost use Rattle.vx_narrow.specs.Rewriting.{narrowed_block, narrowed_exit};
+
+use crate::one_product::shortened;
+use std::alloc::Global;
+use vx_base::listed::{Listed, copied};
+use vx_base::outcome::NoMemory;
+use vx_claims::access::{Access, accessed, copied_accesses};
+use vx_claims::claim::{Claim, accesses_in, facts_in};
+use vx_claims::fact::Fact;
+use vx_claims::forms::form;
+use vx_claims::intervals::Interval;
+use vx_claims::known::decided;
+use vx_claims::update::learn;
+use vx_facts::checks::is_left_checked;
+use vx_flow::graph::{Block, Exit, Op};
+
+/// What stands behind the operations of a block.
+#[derive(Drop)]
+pub struct Passed {
+    pub facts: Listed<Fact>,
+    pub accesses: Listed<Access>,
+    pub ops: Listed<Op>,
+}
+
+/// Goes over operations from what is known before them.
+pub fn pass_ops(
+    alloc: Global,
+    claims: &[Fact],
+    accesses: &[Access],
+    ops: &[Op],
+) -> Result<Passed, NoMemory>
+    ensures facts { IfOk result (λ passed. passed.facts ≡ after_from claims.now accesses.now ops.now) }
+    ensures accesses { IfOk result (λ passed. passed.accesses ≡ accessed_from claims.now accesses.now ops.now) }
+    ensures ops { IfOk result (λ passed. passed.ops ≡ improved_from claims.now accesses.now ops.now) }
+{
+    let mut facts = claims.to_vec(alloc)?;
+    let mut known = copied_accesses(alloc, accesses)?;
+    let mut made = Listed::new(alloc);
+    for op in ops {
+        let form = form(facts.as_slice(), known.as_slice(), op);
+        made.push(shortened(facts.as_slice(), form))?;
+        learn(alloc, &mut facts, known.as_slice(), op, &form)?;
+        known = accessed(alloc, known.as_slice(), &form)?;
+    }
+    Ok(Passed {
+        facts: Listed::from_vec(facts)?,
+        accesses: known,
+        ops: made,
+    })
+}
+
+/// The exit, where a decided split is a jump.
+fn narrowed_exit(alloc: Global, facts: &[Fact], exit: &Exit) -> Result<Exit, NoMemory>
+    ensures { IfOk result (λ made. made ≡ narrowed_exit facts.now exit.now) }
+{
+    match exit {
+        Exit::Goto(next) => Ok(Exit::Goto(*next)),
+        Exit::Split { test, yes, no } => match decided(facts, *test) {
+            Some(true) => Ok(Exit::Goto(*yes)),
+            Some(false) => Ok(Exit::Goto(*no)),
+            None => Ok(Exit::Split {
+                test: *test,
+                yes: *yes,
+                no: *no,
+            }),
+        },
+        Exit::Call {
+            function,
+            arguments,
+            result: held,
+            next,
+        } => {
+            let arguments = copied(alloc, arguments.as_slice())?;
+            Ok(Exit::Call {
+                function: *function,
+                arguments,
+                result: *held,
+                next: *next,
+            })
+        }
+        Exit::Return(operand) => Ok(Exit::Return(*operand)),
+        Exit::Ends(trap) => Ok(Exit::Ends(*trap)),
+    }
+}
+
+/// The block at a place narrowed, where it passes.
+pub fn narrowed_block(
+    alloc: Global,
+    given: &[Listed<Interval>],
+    table: &[Claim],
+    place: usize,
+    block: &Block,
+) -> Result<Option<Block>, NoMemory>
+    ensures narrowed { IfOk result (λ found. IfSome found (λ made. made ≡ narrowed_block (listed_claims table.now) place block.now)) }
+    ensures checked { IfOk result (λ found. IfSome found (λ _. is_block_checked (listed_given given.now) (listed_claims table.now) place block.now ≡ true)) }
+{
+    let passed = pass_ops(
+        alloc,
+        facts_in(table, place),
+        accesses_in(table, place),
+        block.ops.as_slice(),
+    )?;
+    let passes = is_left_checked(
+        alloc,
+        given,
+        table,
+        passed.facts.as_slice(),
+        passed.accesses.as_slice(),
+        block,
+    )?;
+    if !passes {
+        return Ok(None);
+    }
+    let exit = narrowed_exit(alloc, passed.facts.as_slice(), &block.exit)?;
+    Ok(Some(Block {
+        ops: passed.ops,
+        exit,
+    }))
+}

@@ -1,5 +1,0 @@
-use Rattle.std.proofs.Common.{length}
-use Rattle.vx_regs.proofs.touching.+push_laid_reads.Given as goal
-
-abbrev pub decreases-push_laid_reads : goal.decreases-push_laid_reads
-decreases-push_laid_reads l = length l.items.now

@@ -1,8 +1,0 @@
-use Rattle.std.proofs.Common.{◌≡◌, take}
-use Rattle.std.specs.Prelude.{not}
-use Rattle.std.specs.List.{filter}
-use Rattle.vx_mixed.specs.FromGraph.{same_edge}
-use Rattle.vx_replace.proofs.joining.other_edges.Given as goal
-
-abbrev pub invariant-loop-edge : goal.invariant-loop-edge
-invariant-loop-edge l = l.others ≡ filter (λ e. not (same_edge e l.apart)) (take l.edge-index l.edges)

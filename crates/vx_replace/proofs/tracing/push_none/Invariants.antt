@@ -1,6 +1,0 @@
-use Rattle.std.proofs.Common.{◌≡◌, ◌++◌, None}
-use Rattle.std.specs.Prelude.{replicate}
-use Rattle.vx_replace.proofs.tracing.push_none.Given as goal
-
-abbrev pub invariant-loop-op : goal.invariant-loop-op
-invariant-loop-op l = l.fixed ≡ l.initial.fixed ++ replicate l._op None

@@ -1,5 +1,0 @@
-use Rattle.std.proofs.Common.{length}
-use Rattle.vx_slots.proofs.naming.+scratch.Given as goal
-
-abbrev pub decreases-scratch : goal.decreases-scratch
-decreases-scratch l = length l.names.now

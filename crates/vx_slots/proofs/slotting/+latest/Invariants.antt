@@ -1,5 +1,0 @@
-use Rattle.std.specs.Prelude.{length}
-use Rattle.vx_slots.proofs.slotting.+latest.Given as goal
-
-abbrev pub decreases-latest : goal.decreases-latest
-decreases-latest l = length l.ops.now

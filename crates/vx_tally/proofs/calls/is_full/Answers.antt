@@ -1,5 +1,0 @@
-use Rattle.vx_tally.proofs.Running.{full_is}
-use Rattle.vx_tally.proofs.calls.is_full.Goals as goal
-
-pub returns : goal.returns
-returns c = full_is c.args.waiting
