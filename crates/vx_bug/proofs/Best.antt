@@ -1,35 +1,23 @@
 -- The best of clusters that follow each other is the best of those that are permitted.
-use Rattle.std.proofs.Common.{◌≡◌, ◌<◌, ◌≤◌, ◌+◌, ◌⊎◌, inl, inr, ⊎_elim, ◌&&◌, refl, sym, ◌∙◌, ap, arith, subst, Bool, true, false, nat_lt, nat_le, if◌then◌else◌, ℕ, zero, suc, Option}
-use Rattle.std.proofs.lemmas.Bool.{and_parts, leb-true, ltb-true, ltb-false, cases_lt}
+use Rattle.std.proofs.Common.{◌≡◌, ◌<◌, ◌≤◌, ◌+◌, ◌⊎◌, inl, inr, ⊎_elim, refl, sym, ◌∙◌, ap, arith, subst, Bool, true, false, nat_lt, if◌then◌else◌, ℕ, zero, suc, Option}
+use Rattle.std.proofs.lemmas.Bool.{ltb-true, ltb-false, cases_lt}
 use Rattle.vx_flow.specs.declared.trace.TraceOp.{TraceOp}
 use Rattle.vx_flow.specs.declared.trace.Trace.{Trace}
 use Rattle.vx_flow.specs.Effects.{IsIn}
 use Rattle.vx_flow.specs.Walk.{numbers}
-use Rattle.vx_isa.specs.Numbers.{Numbers, IsMachine, is_between}
-use Rattle.vx_bug.specs.declared.choosing.Choice.{Choice}
+use Rattle.vx_isa.specs.Numbers.{Numbers, IsMachine}
+use Rattle.vx_isa.proofs.Ranges.{ranges}
+use Rattle.vx_bug.specs.declared.cluster_choice.Choice.{Choice}
 use Rattle.vx_bug.specs.Clusters.{Books, permitted, cycle_of, IsBest}
 use Rattle.vx_bug.specs.Choices.{IsLeast}
 
 -- a machine has clusters
 
-front : (a b : Bool) → (a && b) ≡ true → a ≡ true
-front a b h = (and_parts a b h).0
-
-between_one : (n : ℕ) → is_between 1 4 n ≡ true → 1 ≤ n
-between_one n h = leb-true 1 n (front (nat_le 1 n) (nat_le n 4) h)
-
-between_four : (n : ℕ) → is_between 1 4 n ≡ true → n ≤ 4
-between_four n h = leb-true n 4 (and_parts (nat_le 1 n) (nat_le n 4) h).1
-
-clusters_between : (m : Numbers) → IsMachine m → is_between 1 4 m.clusters ≡ true
-clusters_between m h =
-    front _ _ (front _ _ (front _ _ (front _ _ (front _ _ (front _ _ (front _ _ (front _ _ (front _ _ (front _ _ (front _ _ (front _ _ (front _ _ (front _ _ (front _ _ h))))))))))))))
-
 pub some_clusters : (m : Numbers) → IsMachine m → 1 ≤ m.clusters
-some_clusters m h = between_one m.clusters (clusters_between m h)
+some_clusters m h = (ranges m h).clusters.least
 
 pub four_clusters : (m : Numbers) → IsMachine m → m.clusters ≤ 4
-four_clusters m h = between_four m.clusters (clusters_between m h)
+four_clusters m h = (ranges m h).clusters.most
 
 -- comparing
 

@@ -1,12 +1,13 @@
 -- So many bookings leave a cycle free among so many more cycles, so that the first one that is found is free.
-use Rattle.std.proofs.Common.{◌≡◌, ◌<◌, ◌≤◌, ◌⊎◌, inl, inr, ◌+◌, ◌*◌, ◌==◌, ◌&&◌, cond, refl, ◌∙◌, ap, arith, Bool, true, false, nat_lt, nat_le, lt-ltb, ℕ, zero, suc, List, [], ◌∷◌, length, map}
+use Rattle.std.proofs.Common.{◌≡◌, ◌<◌, ◌≤◌, ◌⊎◌, inl, inr, ◌+◌, ◌==◌, ◌&&◌, cond, refl, ◌∙◌, ap, arith, Bool, true, false, nat_lt, lt-ltb, ℕ, zero, suc, List, [], ◌∷◌, length, map}
 use Rattle.std.specs.Prelude.{if◌then◌else◌, count_by}
-use Rattle.std.proofs.lemmas.Bool.{cases_lt, cases_eq, eqb-true, and_parts, leb-true}
+use Rattle.std.proofs.lemmas.Bool.{cases_lt, cases_eq, eqb-true}
 use Rattle.std.proofs.lemmas.List.Sums.{sum_by-cons}
 use Rattle.vx_isa.specs.declared.operation.UnitKind.{UnitKind}
 use Rattle.vx_isa.specs.declared.operation.UnitKind.TheVariants.{Alu, Multiply, Memory, Copies, Control}
-use Rattle.vx_isa.specs.Numbers.{Numbers, is_between, is_machine, IsMachine}
+use Rattle.vx_isa.specs.Numbers.{Numbers, IsMachine}
 use Rattle.vx_isa.specs.Operations.{same_unit}
+use Rattle.vx_isa.proofs.Ranges.{Ranges, ranges}
 use Rattle.vx_machine.specs.Items.{item_of, unit_of_item}
 use Rattle.vx_dep.specs.Delays.{reads_of}
 use Rattle.vx_dep.specs.Compensation.{greatest}
@@ -97,46 +98,11 @@ at_least (suc n) from bookings each =
 
 -- the units of a machine
 
-low : (high n : ℕ) → is_between 1 high n ≡ true → 1 ≤ n
-low high n e = leb-true 1 n (and_parts (nat_le 1 n) (nat_le n high) e).0
-
-record SomeUnits (m : Numbers) : Type 0 where
-  issue : 1 ≤ m.issue
-  alus : 1 ≤ m.alus
-  multipliers : 1 ≤ m.multipliers
-  memory : 1 ≤ m.memory_units
-  copies : 1 ≤ m.copy_paths
-
-some_units : (m : Numbers) → is_machine m ≡ true → SomeUnits m
-some_units m e0 =
-    let e1 = and_parts _ (is_between 1 16 m.latency_copy) e0 in
-    let e2 = and_parts _ (is_between 1 16 m.latency_divide) e1.0 in
-    let e3 = and_parts _ (is_between 1 16 m.latency_load) e2.0 in
-    let e4 = and_parts _ (is_between 1 16 m.latency_multiply) e3.0 in
-    let e5 = and_parts _ (is_between 1 16 m.latency_compare) e4.0 in
-    let e6 = and_parts _ (is_between 1 16 m.latency_alu) e5.0 in
-    let e7 = and_parts _ (is_between 1 8 m.copy_paths) e6.0 in
-    let e8 = and_parts _ (is_between 1 m.issue m.write_ports) e7.0 in
-    let e9 = and_parts _ (is_between 2 (2 * m.issue) m.read_ports) e8.0 in
-    let e10 = and_parts _ (is_between (m.issue + 1) 8 m.branch_registers) e9.0 in
-    let e11 = and_parts _ (is_between 16 64 m.registers) e10.0 in
-    let e12 = and_parts _ (is_between 1 2 m.memory_units) e11.0 in
-    let e13 = and_parts _ (is_between 1 4 m.multipliers) e12.0 in
-    let e14 = and_parts _ (is_between 1 4 m.alus) e13.0 in
-    let e15 = and_parts _ (is_between 1 4 m.issue) e14.0 in
-    record {
-      issue = low 4 m.issue e15.1;
-      alus = low 4 m.alus e14.1;
-      multipliers = low 4 m.multipliers e13.1;
-      memory = low 2 m.memory_units e12.1;
-      copies = low 8 m.copy_paths e7.1;
-    }
-
-some_of_kind : (m : Numbers) → SomeUnits m → (unit : UnitKind) → 1 ≤ units_of m unit
-some_of_kind m s Alu = s.alus
-some_of_kind m s Multiply = s.multipliers
-some_of_kind m s Memory = s.memory
-some_of_kind m s Copies = s.copies
+some_of_kind : (m : Numbers) → Ranges m → (unit : UnitKind) → 1 ≤ units_of m unit
+some_of_kind m s Alu = s.alus.least
+some_of_kind m s Multiply = s.multipliers.least
+some_of_kind m s Memory = s.memory_units.least
+some_of_kind m s Copies = s.copy_paths.least
 some_of_kind m s Control = omega arith
 
 module _ (m : Numbers) (machine : IsMachine m) (bookings : List Booking) (cluster : ℕ) (unit : UnitKind) where
@@ -146,8 +112,8 @@ module _ (m : Numbers) (machine : IsMachine m) (bookings : List Booking) (cluste
   -- where nothing is booked all is free
   vacant : (cycle : ℕ) → there cycle bookings ≤ 0 → free cycle ≡ true
   vacant cycle none =
-      let units = some_units m machine in
-      let issue = units.issue in
+      let units = ranges m machine in
+      let issue = units.issue.least in
       let kind = some_of_kind m units unit in
       let slots = fewer (λ (b : Booking). b.cycle == cycle) (λ (b : Booking). b.cluster == cluster) bookings in
       let taken = fewer (λ (b : Booking). b.cycle == cycle) (λ (b : Booking). same_unit b.unit unit && counts_at unit cluster b.cluster) bookings in

@@ -1,10 +1,10 @@
 -- The layout of a function: its values are those of a sound graph, with their copies to clusters of the machine, so it can be
 -- finished.
-use Rattle.std.proofs.Common.{◌≡◌, ◌⊎◌, inl, inr, ℕ, suc, ◌<◌, ◌≤◌, Bool, true, false, ◌&&◌, List, [], ◌∷◌, ◌++◌, length, map, Option, Some, None, refl, sym, ap, ◌∙◌, subst, arith}
-use Rattle.std.specs.Prelude.{◌*◌, ◌/◌, ◌-◌, ◌+◌, slice_get, nat_lt, nat_le, if◌then◌else◌}
+use Rattle.std.proofs.Common.{◌≡◌, ◌⊎◌, inl, inr, ℕ, suc, ◌<◌, ◌≤◌, Bool, true, false, List, [], ◌∷◌, ◌++◌, length, map, Option, Some, None, refl, sym, ap, ◌∙◌, subst, arith}
+use Rattle.std.specs.Prelude.{◌*◌, ◌/◌, ◌-◌, ◌+◌, slice_get, nat_lt, if◌then◌else◌}
 use Rattle.std.proofs.Math.Nat.{mul_comm, div-lt_iff_lt-mul}
 use Rattle.std.specs.List.{flat_map}
-use Rattle.std.proofs.lemmas.Bool.{and_parts, cases_lt, leb-true}
+use Rattle.std.proofs.lemmas.Bool.{cases_lt}
 use Rattle.std.proofs.lemmas.List.{length-map}
 use Rattle.std.proofs.lemmas.Option.{slice_get_within}
 use Rattle.vx_flow.specs.declared.graph.Bank.TheVariants.{General, Branch}
@@ -16,7 +16,8 @@ use Rattle.vx_flow.specs.declared.graph.Exit.TheVariants.{Split as Branches, Cal
 use Rattle.vx_flow.specs.Effects.{IsIn, reads, writes, value_in}
 use Rattle.vx_flow.specs.Sound.{Sound, HasExit}
 use Rattle.vx_flow.proofs.SoundLaw.{sound_is}
-use Rattle.vx_isa.specs.Numbers.{Numbers, IsMachine, is_between}
+use Rattle.vx_isa.proofs.Ranges.{ranges}
+use Rattle.vx_isa.specs.Numbers.{Numbers, IsMachine}
 use Rattle.vx_machine.specs.declared.items.ClusteredItem.{ClusteredItem}
 use Rattle.vx_machine.specs.Items.{latency_of_op}
 use Rattle.vx_machine.specs.Room.{has_room}
@@ -195,15 +196,8 @@ same_count graph m from = ap (λ (nodes : List Node). length nodes) from.blocks.
 
 -- a machine has a cluster
 
-front : (a b : Bool) → (a && b) ≡ true → a ≡ true
-front a b h = (and_parts a b h).0
-
-clusters_between : (m : Numbers) → IsMachine m → is_between 1 4 m.clusters ≡ true
-clusters_between m h =
-    front _ _ (front _ _ (front _ _ (front _ _ (front _ _ (front _ _ (front _ _ (front _ _ (front _ _ (front _ _ (front _ _ (front _ _ (front _ _ (front _ _ (front _ _ h))))))))))))))
-
 some_cluster : (m : Numbers) → IsMachine m → 0 < m.clusters
-some_cluster m h = let e : 1 ≤ m.clusters = leb-true 1 m.clusters (front (nat_le 1 m.clusters) (nat_le m.clusters 4) (clusters_between m h)) in omega arith
+some_cluster m h = let e = (ranges m h).clusters.least in omega (arith, e)
 
 -- what a layout has that can be finished
 

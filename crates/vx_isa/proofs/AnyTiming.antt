@@ -3,9 +3,9 @@
 use Rattle.std.proofs.Common.{◌≡◌, ◌≢◌, ℕ, zero, suc, ◌+◌, ◌≤◌, ℤ, Bool, true, false, Option, Some, None, List, [], ◌∷◌, ◌++◌, refl, sym, ap, ◌∙◌, subst, arith, ⊎_elim, inl, inr}
 use Rattle.std.specs.Prelude.{◌⊎◌, ◌&&◌, ◌||◌, if◌then◌else◌, slice_get, drop, count_by}
 use Rattle.std.specs.List.{list_any, flat_map}
-use Rattle.std.proofs.lemmas.Bool.{eqb-true, leb-true}
+use Rattle.std.proofs.lemmas.Bool.{eqb-true}
 use Rattle.std.proofs.lemmas.Bool.Decides.{nat_tests}
-use Rattle.std.specs.Prelude.{eqb, length, slice_index_or, ◌<◌, Contains}
+use Rattle.std.specs.Prelude.{is_some, eqb, length, slice_index_or, ◌<◌, Contains}
 use Rattle.vx_base.specs.declared.outcome.Reason.{Reason}
 use Rattle.vx_base.specs.declared.outcome.Reason.TheVariants.{BadTarget, BadWord}
 use Rattle.vx_base.specs.Outcome.{Ends, Traps, Stuck, On}
@@ -17,16 +17,15 @@ use Rattle.vx_base.proofs.Flight.{Each}
 use Rattle.vx_base.proofs.Certificate.{landing_in_time}
 use Rattle.vx_base.proofs.InFlight.{Due, MadeOrAtOnce, due_issue, due_without}
 use Rattle.vx_base.proofs.TwoTimings.{FlightsTied, tied_read, tied_issue}
+use Rattle.vx_isa.proofs.Ranges.{latency_range}
 use Rattle.vx_isa.specs.declared.operation.Register.{Register}
 use Rattle.vx_isa.specs.declared.operation.Register.TheVariants.{General, Branch, Link}
 use Rattle.vx_isa.specs.declared.operation.Operation.{Operation}
 use Rattle.vx_isa.specs.declared.operation.Operation.TheVariants.{Compute, Move, Select, Load, Store, Input, More, OutText, OutDecimal, OutByte, Goto, BranchOn, Call, Return, FromLink, ToLink, EndByTrap, Halt}
 use Rattle.vx_isa.specs.declared.program.Word.{Word}
 use Rattle.vx_isa.specs.declared.program.WordProgram.{WordProgram}
-use Rattle.vx_base.specs.declared.arithmetic.Code.{Code}
-use Rattle.vx_base.specs.declared.arithmetic.Code.TheVariants.{ToBranch, Mpylu, Mpyhs, Div, Rem}
-use Rattle.vx_isa.specs.Numbers.{Numbers, IsMachine, is_between}
-use Rattle.vx_isa.specs.Operations.{same, is_zero, destination_of, list_of, is_call, latency_of, latency_of_code, comes_from}
+use Rattle.vx_isa.specs.Numbers.{Numbers, IsMachine}
+use Rattle.vx_isa.specs.Operations.{same, is_zero, destination_of, list_of, is_call, latency_of}
 use Rattle.vx_isa.specs.Fits.{operands, destinations, is_twice, is_bad_word, fits}
 use Rattle.vx_isa.specs.Machine.{State, Lead, To, Halts, TrapsBy, number_of, write_to, time_of, writes_of, is_asked, asked_by, takes_input, memory_after, print_of, lead_of, is_taken, register, stuck_by, cycles_of, after_cycles, effect, leads_to, unless_stuck, issue, step, start, words_run}
 use Rattle.vx_isa.specs.Paths.{LeadsTo, WordAt, Leads, cycles_at, cycles_of_some, Among, ReadsAt, WritesAt, NamesAt, NeverReadsEarly, NeverWritesEarly, PathStrictLaw, AnyTimingLaw}
@@ -184,65 +183,8 @@ names r op (o ∷ ops) a e = ⊎_elim
     (λ q. named_left r (list_of (destination_of o)) (destinations ops) (subst (λ d. Among r (list_of d)) (sym e ∙ ap destination_of q) (inl refl)))
     (λ b. named_right r (list_of (destination_of o)) (destinations ops) (names r op ops b e)) a
 
--- a machine's latencies are 1 or more
-between_low : (n : ℕ) → is_between 1 16 n ≡ true → 1 ≤ n
-between_low n e = leb-true 1 n (and_left _ _ e)
-
-record Latencies (m : Numbers) : Type 0 where
-  alu : 1 ≤ m.latency_alu
-  compare : 1 ≤ m.latency_compare
-  multiply : 1 ≤ m.latency_multiply
-  load : 1 ≤ m.latency_load
-  divide : 1 ≤ m.latency_divide
-  copy : 1 ≤ m.latency_copy
-
-lows : (m : Numbers) → IsMachine m → Latencies m
-lows m e0 =
-    let e1 = and_left _ (is_between 1 16 m.latency_copy) e0 in
-    let e2 = and_left _ (is_between 1 16 m.latency_divide) e1 in
-    let e3 = and_left _ (is_between 1 16 m.latency_load) e2 in
-    let e4 = and_left _ (is_between 1 16 m.latency_multiply) e3 in
-    let e5 = and_left _ (is_between 1 16 m.latency_compare) e4 in
-    record {
-      alu = between_low m.latency_alu (and_right _ _ e5);
-      compare = between_low m.latency_compare (and_right _ _ e4);
-      multiply = between_low m.latency_multiply (and_right _ _ e3);
-      load = between_low m.latency_load (and_right _ _ e2);
-      divide = between_low m.latency_divide (and_right _ _ e1);
-      copy = between_low m.latency_copy (and_right _ _ e0);
-    }
-
-code_low : (m : Numbers) → Latencies m → (code : Code) → 1 ≤ latency_of_code m code
-code_low m l (ToBranch compare) = l.compare
-code_low m l Mpylu = l.multiply
-code_low m l Mpyhs = l.multiply
-code_low m l Div = l.divide
-code_low m l Rem = l.divide
-code_low m l code = l.alu
-
-move_low : (m : Numbers) → Latencies m → (b : Bool) → 1 ≤ (if b then m.latency_alu else m.latency_copy)
-move_low m l true = l.alu
-move_low m l false = l.copy
-
 latencies : (m : Numbers) → IsMachine m → (op : Operation) (r : Register) → destination_of op ≡ Some r → is_call op ≡ false → 1 ≤ latency_of m op
-latencies m one (Compute k code to a b) r e c = code_low m (lows m one) code
-latencies m one (Move k to a) r e c = move_low m (lows m one) (comes_from k a)
-latencies m one (Select k to u a b) r e c = (lows m one).alu
-latencies m one (Load k to o q d) r e c = (lows m one).load
-latencies m one (Input to) r e c = (lows m one).load
-latencies m one (More to) r e c = (lows m one).load
-latencies m one (Call p) r e c = absurd (cc)
-latencies m one (FromLink to) r e c = (lows m one).alu
-latencies m one (ToLink a) r e c = (lows m one).alu
-latencies m one (Store k o q a) r e c = absurd (cc)
-latencies m one (OutText n) r e c = absurd (cc)
-latencies m one (OutDecimal a) r e c = absurd (cc)
-latencies m one (OutByte a) r e c = absurd (cc)
-latencies m one (Goto p) r e c = absurd (cc)
-latencies m one (BranchOn u w p) r e c = absurd (cc)
-latencies m one Return r e c = absurd (cc)
-latencies m one (EndByTrap k) r e c = absurd (cc)
-latencies m one (Halt a) r e c = absurd (cc)
+latencies m one op r e c = (latency_range m one op (ap is_some e) c).least
 
 among : {A : Type 0} (x : A) (xs : List A) (k : ℕ) → k < length xs → slice_index_or xs k x ≡ x → Among x xs
 among x [] k lt e = absurd (omega arith)

@@ -1,13 +1,14 @@
 -- An item that stands where it may has room by itself.
-use Rattle.std.proofs.Common.{◌≡◌, ℕ, ◌*◌, ◌≤◌, Bool, ◌&&◌, ◌==◌, true, false, nat_le, if◌then◌else◌, [], ◌∷◌, length, count_by, arith}
-use Rattle.std.proofs.lemmas.Bool.{and_parts, leb-true, le-leb}
+use Rattle.std.proofs.Common.{◌≡◌, ℕ, ◌≤◌, Bool, ◌&&◌, ◌==◌, true, false, nat_le, if◌then◌else◌, [], ◌∷◌, length, count_by, arith}
+use Rattle.std.proofs.lemmas.Bool.{le-leb}
 use Rattle.std.proofs.lemmas.List.Sums.{count_by-le-length}
 use Rattle.vx_base.specs.declared.arithmetic.Code.TheVariants.{Add, Sub, And, Or, Xor, Shl, Shr, Shru, Sh2add, Max, Min, Mov, ToGeneral, ToBranch, Mpylu, Mpyhs, Div, Rem}
 use Rattle.vx_flow.specs.declared.graph.Op.{Op}
 use Rattle.vx_flow.specs.declared.graph.Op.TheVariants.{Compute, Select, Place, Load, Store, More, Input, Text, Decimal, Across}
 use Rattle.vx_flow.specs.declared.trace.Homes.{Homes}
 use Rattle.vx_isa.specs.declared.operation.UnitKind.TheVariants.{Alu, Multiply, Memory, Copies}
-use Rattle.vx_isa.specs.Numbers.{Numbers, IsMachine, is_between}
+use Rattle.vx_isa.specs.Numbers.{Numbers}
+use Rattle.vx_isa.proofs.Ranges.{Ranges, ranges as all_ranges}
 use Rattle.vx_isa.proofs.FitsLaw.{six_together, all_below-holds}
 use Rattle.vx_machine.specs.declared.items.Item.{Item}
 use Rattle.vx_machine.specs.declared.items.Item.TheVariants.{Plain, Split}
@@ -15,43 +16,6 @@ use Rattle.vx_machine.specs.declared.items.ClusteredItem.{ClusteredItem}
 use Rattle.vx_machine.specs.Items.{takes_port, general_reads, general_reads_of_op, is_split, is_observable_item, writes_general}
 use Rattle.vx_machine.specs.Room.{is_at, source_of, count_at, count_in, needs, reads_at, has_room_at, RoomAlone}
 use Rattle.vx_machine.proofs.RoomSteps.{reads_at_one}
-
--- what every machine has at least
-
-record Least (m : Numbers) : Type 0 where
-  issue : 1 ≤ m.issue
-  alus : 1 ≤ m.alus
-  multipliers : 1 ≤ m.multipliers
-  memory_units : 1 ≤ m.memory_units
-  read_ports : 2 ≤ m.read_ports
-  write_ports : 1 ≤ m.write_ports
-  copy_paths : 1 ≤ m.copy_paths
-
-front : (a b : Bool) → (a && b) ≡ true → a ≡ true
-front a b h = (and_parts a b h).0
-
-at_least : (low n top : ℕ) → is_between low top n ≡ true → low ≤ n
-at_least low n top h = leb-true low n (and_parts (nat_le low n) (nat_le n top) h).0
-
-least : (m : Numbers) → IsMachine m → Least m
-least m h =
-    let ten = front _ _ (front _ _ (front _ _ (front _ _ (front _ _ (front _ _ h))))) in
-    let (nine, copies) = and_parts _ _ ten in
-    let (eight, writes) = and_parts _ _ nine in
-    let (seven, reads) = and_parts _ _ eight in
-    let (four, memory) = and_parts _ _ (front _ _ (front _ _ seven)) in
-    let (three, multipliers) = and_parts _ _ four in
-    let (two, alus) = and_parts _ _ three in
-    let (one, issue) = and_parts _ _ two in
-    record {
-      issue = at_least 1 m.issue 4 issue;
-      alus = at_least 1 m.alus 4 alus;
-      multipliers = at_least 1 m.multipliers 4 multipliers;
-      memory_units = at_least 1 m.memory_units 2 memory;
-      read_ports = at_least 2 m.read_ports (2 * m.issue) reads;
-      write_ports = at_least 1 m.write_ports m.issue writes;
-      copy_paths = at_least 1 m.copy_paths 8 copies;
-    }
 
 -- an item reads at most two general registers
 
@@ -118,27 +82,27 @@ alone_here p k x n h = alone (λ (y : ClusteredItem). (y.cluster == k) && p y.it
 alone_in : (p : Item → Bool) (x : ClusteredItem) (n : ℕ) → 1 ≤ n → nat_le (count_in p (x ∷ [])) n ≡ true
 alone_in p x n h = alone (λ (y : ClusteredItem). p y.item) x n h
 
-alone_at : (m : Numbers) (homes : Homes) (x : ClusteredItem) (k : ℕ) → Least m → has_room_at m homes (x ∷ []) k ≡ true
+alone_at : (m : Numbers) (homes : Homes) (x : ClusteredItem) (k : ℕ) → Ranges m → has_room_at m homes (x ∷ []) k ≡ true
 alone_at m homes x k l =
     let few = few_at homes k x in
-    let ports = l.read_ports in
+    let ports = l.read_ports.least in
     six_together _ _ _ _ _ _ (record {
-      one = alone_here (λ item. true) k x m.issue l.issue;
-      two = alone_here (needs Alu) k x m.alus l.alus;
-      three = alone_here (needs Multiply) k x m.multipliers l.multipliers;
-      four = alone_here (needs Memory) k x m.memory_units l.memory_units;
+      one = alone_here (λ item. true) k x m.issue l.issue.least;
+      two = alone_here (needs Alu) k x m.alus l.alus.least;
+      three = alone_here (needs Multiply) k x m.multipliers l.multipliers.least;
+      four = alone_here (needs Memory) k x m.memory_units l.memory_units.least;
       five = le-leb (reads_at homes k (x ∷ [])) m.read_ports (omega arith);
-      six = alone_here writes_general k x m.write_ports l.write_ports;
+      six = alone_here writes_general k x m.write_ports l.write_ports.least;
     })
 
 pub room_alone : RoomAlone
 room_alone m homes x ranges well =
-    let l = least m ranges in
+    let l = all_ranges m ranges in
     six_together _ _ _ _ _ _ (record {
       one = ranges;
       two = well;
       three = all_below-holds (has_room_at m homes (x ∷ [])) m.clusters (λ k below. alone_at m homes x k l);
-      four = alone_in (needs Copies) x m.copy_paths l.copy_paths;
+      four = alone_in (needs Copies) x m.copy_paths l.copy_paths.least;
       five = alone_in is_split x 1 (omega arith);
       six = alone_in is_observable_item x 1 (omega arith);
     })

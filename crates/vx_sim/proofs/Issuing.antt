@@ -1,13 +1,10 @@
 -- The writes of a word, operation by operation, with a timing that moves on at each that asks.
-use Rattle.std.proofs.Common.{◌≡◌, ℕ, suc, ◌+◌, ◌%◌, ◌≤◌, Bool, true, false, ◌&&◌, cond, if◌then◌else◌, List, [], ◌∷◌, ◌++◌, length, min, max, is_some, refl, sym, ap, ◌∙◌, arith, append_assoc, slice_index, leb-true}
+use Rattle.std.proofs.Common.{◌≡◌, ℕ, suc, ◌+◌, ◌%◌, Bool, true, false, ◌&&◌, cond, if◌then◌else◌, List, [], ◌∷◌, ◌++◌, length, min, max, refl, sym, ap, ◌∙◌, arith, append_assoc, slice_index}
 use Rattle.std.proofs.Math.Nat.{mod-mod, add-mod}
 use Rattle.std.specs.List.{list_all}
-use Rattle.vx_base.specs.declared.arithmetic.Code.{Code}
-use Rattle.vx_base.specs.declared.arithmetic.Code.TheVariants.{ToBranch, Mpylu, Mpyhs, Div, Rem}
 use Rattle.vx_isa.specs.declared.operation.Operation.{Operation}
-use Rattle.vx_isa.specs.declared.operation.Operation.TheVariants.{Compute, Move, Select, Load, Store, Input, More, OutText, OutDecimal, OutByte, Goto, BranchOn, Call, Return, FromLink, ToLink, EndByTrap, Halt}
-use Rattle.vx_isa.specs.Numbers.{Numbers, IsMachine, is_between}
-use Rattle.vx_isa.specs.Operations.{destination_of, is_call, latency_of, latency_of_code, comes_from}
+use Rattle.vx_isa.specs.Numbers.{Numbers}
+use Rattle.vx_isa.specs.Operations.{destination_of, is_call, latency_of}
 use Rattle.vx_isa.specs.Machine.{State, Write, number_of, write_to, time_of, writes_of, is_asked, asked_by}
 use Rattle.vx_isa.proofs.Lists.{count_by-cons}
 use Rattle.vx_probe.specs.Times.{Times, list_of, moved_by}
@@ -64,77 +61,3 @@ rest_named p op ops e = by (p op) e
     by : (b : Bool) → (b && list_all p ops) ≡ true → list_all p ops ≡ true
     by true e = e
     by false e = absurd (cc)
-
--- latencies of a machine
-
-and_left : (a b : Bool) → (a && b) ≡ true → a ≡ true
-and_left true b e = refl
-and_left false b e = e
-
-and_right : (a b : Bool) → (a && b) ≡ true → b ≡ true
-and_right true b e = e
-and_right false b e = absurd (cc)
-
-pub record InRange (n : ℕ) : Type 0 where
-  pub some : 1 ≤ n
-  pub few : n ≤ 16
-
-in_range : (n : ℕ) → is_between 1 16 n ≡ true → InRange n
-in_range n e = record { some = leb-true 1 n (and_left _ _ e); few = leb-true n 16 (and_right _ _ e) }
-
-record Latencies (m : Numbers) : Type 0 where
-  alu : InRange m.latency_alu
-  compare : InRange m.latency_compare
-  multiply : InRange m.latency_multiply
-  load : InRange m.latency_load
-  divide : InRange m.latency_divide
-  copy : InRange m.latency_copy
-
-ranges : (m : Numbers) → IsMachine m → Latencies m
-ranges m e0 =
-    let e1 = and_left _ (is_between 1 16 m.latency_copy) e0 in
-    let e2 = and_left _ (is_between 1 16 m.latency_divide) e1 in
-    let e3 = and_left _ (is_between 1 16 m.latency_load) e2 in
-    let e4 = and_left _ (is_between 1 16 m.latency_multiply) e3 in
-    let e5 = and_left _ (is_between 1 16 m.latency_compare) e4 in
-    record {
-      alu = in_range m.latency_alu (and_right _ _ e5);
-      compare = in_range m.latency_compare (and_right _ _ e4);
-      multiply = in_range m.latency_multiply (and_right _ _ e3);
-      load = in_range m.latency_load (and_right _ _ e2);
-      divide = in_range m.latency_divide (and_right _ _ e1);
-      copy = in_range m.latency_copy (and_right _ _ e0);
-    }
-
-code_range : (m : Numbers) → Latencies m → (code : Code) → InRange (latency_of_code m code)
-code_range m l (ToBranch compare) = l.compare
-code_range m l Mpylu = l.multiply
-code_range m l Mpyhs = l.multiply
-code_range m l Div = l.divide
-code_range m l Rem = l.divide
-code_range m l code = l.alu
-
-move_range : (m : Numbers) → Latencies m → (b : Bool) → InRange (if b then m.latency_alu else m.latency_copy)
-move_range m l true = l.alu
-move_range m l false = l.copy
-
--- the latency of an operation that writes a register and is no call is one of the machine's
-pub latency_range : (m : Numbers) → IsMachine m → (op : Operation) → is_some (destination_of op) ≡ true → is_call op ≡ false → InRange (latency_of m op)
-latency_range m one (Compute k code to a b) e c = code_range m (ranges m one) code
-latency_range m one (Move k to a) e c = move_range m (ranges m one) (comes_from k a)
-latency_range m one (Select k to u a b) e c = (ranges m one).alu
-latency_range m one (Load k to o q d) e c = (ranges m one).load
-latency_range m one (Input to) e c = (ranges m one).load
-latency_range m one (More to) e c = (ranges m one).load
-latency_range m one (FromLink to) e c = (ranges m one).alu
-latency_range m one (ToLink a) e c = (ranges m one).alu
-latency_range m one (Call p) e c = absurd (cc)
-latency_range m one (Store k o q a) e c = absurd (cc)
-latency_range m one (OutText n) e c = absurd (cc)
-latency_range m one (OutDecimal a) e c = absurd (cc)
-latency_range m one (OutByte a) e c = absurd (cc)
-latency_range m one (Goto p) e c = absurd (cc)
-latency_range m one (BranchOn u w p) e c = absurd (cc)
-latency_range m one Return e c = absurd (cc)
-latency_range m one (EndByTrap k) e c = absurd (cc)
-latency_range m one (Halt a) e c = absurd (cc)

@@ -1,7 +1,7 @@
 -- The limits of the numbers of every machine.
-use Rattle.std.proofs.Common.{◌≡◌, ◌≤◌, ◌+◌, ◌*◌, ℕ, true}
-use Rattle.std.proofs.lemmas.Bool.{and_parts, leb-true}
+use Rattle.std.proofs.Common.{◌≤◌, ◌+◌, ◌*◌}
 use Rattle.vx_isa.specs.Numbers.{Numbers, IsMachine}
+use Rattle.vx_isa.proofs.Ranges.{ranges}
 
 pub record Limits (m : Numbers) : Type 0 where
   pub clusters : 1 ≤ m.clusters
@@ -22,36 +22,21 @@ pub record Limits (m : Numbers) : Type 0 where
 
 pub limits : (m : Numbers) → IsMachine m → Limits m
 limits m h =
-    let a15 = (and_parts _ _ h).0 in
-    let a14 = (and_parts _ _ a15).0 in
-    let a13 = (and_parts _ _ a14).0 in
-    let a12 = (and_parts _ _ a13).0 in
-    let a11 = (and_parts _ _ a12).0 in
-    let a10 = (and_parts _ _ a11).0 in
-    let a9 = (and_parts _ _ a10).0 in
-    let a8 = (and_parts _ _ a9).0 in
-    let a7 = (and_parts _ _ a8).0 in
-    let a6 = (and_parts _ _ a7).0 in
-    let a5 = (and_parts _ _ a6).0 in
-    let a4 = (and_parts _ _ a5).0 in
-    let a3 = (and_parts _ _ a4).0 in
-    let a2 = (and_parts _ _ a3).0 in
-    let a1 = (and_parts _ _ a2).0 in
-    let b2 = and_parts _ _ (and_parts _ _ a2).1 in
+    let r = ranges m h in
     record {
-      clusters = leb-true 1 m.clusters (and_parts _ _ a1).0;
-      most_clusters = leb-true m.clusters 4 (and_parts _ _ a1).1;
-      issue = leb-true 1 m.issue b2.0;
-      few = leb-true m.issue 4 b2.1;
-      alus = leb-true 1 m.alus (and_parts _ _ (and_parts _ _ a3).1).0;
-      multipliers = leb-true 1 m.multipliers (and_parts _ _ (and_parts _ _ a4).1).0;
-      memory_units = leb-true 1 m.memory_units (and_parts _ _ (and_parts _ _ a5).1).0;
-      registers = leb-true 16 m.registers (and_parts _ _ (and_parts _ _ a6).1).0;
-      most_registers = leb-true m.registers 64 (and_parts _ _ (and_parts _ _ a6).1).1;
-      branches = leb-true (m.issue + 1) m.branch_registers (and_parts _ _ (and_parts _ _ a7).1).0;
-      most_branches = leb-true m.branch_registers 8 (and_parts _ _ (and_parts _ _ a7).1).1;
-      reads = leb-true 2 m.read_ports (and_parts _ _ (and_parts _ _ a8).1).0;
-      most_reads = leb-true m.read_ports (2 * m.issue) (and_parts _ _ (and_parts _ _ a8).1).1;
-      writes = leb-true 1 m.write_ports (and_parts _ _ (and_parts _ _ a9).1).0;
-      copies = leb-true 1 m.copy_paths (and_parts _ _ (and_parts _ _ a10).1).0;
+      clusters = r.clusters.least;
+      most_clusters = r.clusters.most;
+      issue = r.issue.least;
+      few = r.issue.most;
+      alus = r.alus.least;
+      multipliers = r.multipliers.least;
+      memory_units = r.memory_units.least;
+      registers = r.registers.least;
+      most_registers = r.registers.most;
+      branches = r.branch_registers.least;
+      most_branches = r.branch_registers.most;
+      reads = r.read_ports.least;
+      most_reads = r.read_ports.most;
+      writes = r.write_ports.least;
+      copies = r.copy_paths.least;
     }

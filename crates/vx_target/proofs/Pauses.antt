@@ -1,18 +1,16 @@
 -- How long the writes of words are in flight: never as long as the greatest latency of a machine, which is 16 at most.
-use Rattle.std.proofs.Common.{◌≡◌, ◌≤◌, ⊎_elim, ◌+◌, ◌-◌, ℕ, zero, suc, Bool, true, false, if◌then◌else◌, List, [], ◌∷◌, ◌++◌, refl, subst, arith}
+use Rattle.std.proofs.Common.{◌≡◌, ◌≤◌, ⊎_elim, ◌+◌, ◌-◌, ℕ, zero, suc, true, List, [], ◌∷◌, ◌++◌, refl, subst, arith}
 use Rattle.std.specs.Prelude.{max}
-use Rattle.std.proofs.lemmas.Bool.{and_parts, leb-true}
-use Rattle.vx_base.specs.declared.arithmetic.Code.{Code}
-use Rattle.vx_base.specs.declared.arithmetic.Code.TheVariants.{Mpylu, Mpyhs, Div, Rem, ToBranch}
 use Rattle.vx_flow.specs.declared.graph.Op.{Op}
-use Rattle.vx_flow.specs.declared.graph.Op.TheVariants.{Compute as Computes, Select as Selects, Place, Load as Loads, Store as Stores, More as Asks, Input as Takes, Text, Decimal, Across}
 use Rattle.vx_flow.specs.Effects.{IsIn, writes}
 use Rattle.vx_isa.specs.declared.operation.Operation.{Operation}
 use Rattle.vx_isa.specs.declared.operation.Operation.TheVariants.{Compute, Move, Select, Load, Store, Input, More, OutText, OutDecimal, OutByte, Goto, BranchOn, Call, Return, FromLink, ToLink, EndByTrap, Halt}
 use Rattle.vx_isa.specs.declared.program.Word.{Word}
 use Rattle.vx_isa.specs.Numbers.{Numbers, IsMachine}
-use Rattle.vx_isa.specs.Operations.{comes_from, latency_of, latency_of_code}
+use Rattle.vx_isa.specs.Operations.{comes_from, latency_of}
 use Rattle.vx_isa.specs.Machine.{cycles_of}
+use Rattle.vx_machine.proofs.Latencies.{few_cycles}
+use Rattle.vx_isa.proofs.Ranges.{Ranges, ranges, code_range, move_range}
 use Rattle.vx_machine.specs.Items.{latency_of_op}
 use Rattle.vx_mixed.specs.declared.layout.Laid.{Laid}
 use Rattle.vx_mixed.specs.declared.layout.Laid.TheVariants.{Plain, Split}
@@ -31,52 +29,16 @@ flight_pause m n (suc k) = omega arith
 
 -- no latency is more than 16
 
-record Quick (m : Numbers) : Type 0 where
-  alu : m.latency_alu ≤ 16
-  compare : m.latency_compare ≤ 16
-  multiply : m.latency_multiply ≤ 16
-  load : m.latency_load ≤ 16
-  divide : m.latency_divide ≤ 16
-  copy : m.latency_copy ≤ 16
-
-quick : (m : Numbers) → IsMachine m → Quick m
-quick m h =
-    let a15 = (and_parts _ _ h).0 in
-    let a14 = (and_parts _ _ a15).0 in
-    let a13 = (and_parts _ _ a14).0 in
-    let a12 = (and_parts _ _ a13).0 in
-    let a11 = (and_parts _ _ a12).0 in
-    record {
-      alu = leb-true m.latency_alu 16 (and_parts _ _ (and_parts _ _ a11).1).1;
-      compare = leb-true m.latency_compare 16 (and_parts _ _ (and_parts _ _ a12).1).1;
-      multiply = leb-true m.latency_multiply 16 (and_parts _ _ (and_parts _ _ a13).1).1;
-      load = leb-true m.latency_load 16 (and_parts _ _ (and_parts _ _ a14).1).1;
-      divide = leb-true m.latency_divide 16 (and_parts _ _ (and_parts _ _ a15).1).1;
-      copy = leb-true m.latency_copy 16 (and_parts _ _ (and_parts _ _ h).1).1;
-    }
-
-few_of_code : (m : Numbers) → Quick m → (code : Code) → latency_of_code m code ≤ 16
-few_of_code m q (ToBranch compare) = q.compare
-few_of_code m q Mpylu = q.multiply
-few_of_code m q Mpyhs = q.multiply
-few_of_code m q Div = q.divide
-few_of_code m q Rem = q.divide
-few_of_code m q code = q.alu
-
-few_of : (m : Numbers) → Quick m → (op : Operation) → latency_of m op ≤ 16
-few_of m q (Compute k code to a b) = few_of_code m q code
-few_of m q (Move k to a) = by (comes_from k a)
-  where
-    by : (b : Bool) → (if b then m.latency_alu else m.latency_copy) ≤ 16
-    by true = q.alu
-    by false = q.copy
-few_of m q (Select k to u a b) = q.alu
-few_of m q (Load k to o r d) = q.load
-few_of m q (Input to) = q.load
-few_of m q (More to) = q.load
+few_of : (m : Numbers) → Ranges m → (op : Operation) → latency_of m op ≤ 16
+few_of m q (Compute k code to a b) = (code_range m q code).most
+few_of m q (Move k to a) = (move_range m q (comes_from k a)).most
+few_of m q (Select k to u a b) = q.alu.most
+few_of m q (Load k to o r d) = q.load.most
+few_of m q (Input to) = q.load.most
+few_of m q (More to) = q.load.most
 few_of m q (Call p) = omega arith
-few_of m q (FromLink to) = q.alu
-few_of m q (ToLink a) = q.alu
+few_of m q (FromLink to) = q.alu.most
+few_of m q (ToLink a) = q.alu.most
 few_of m q (Store k o r a) = omega arith
 few_of m q (OutText n) = omega arith
 few_of m q (OutDecimal a) = omega arith
@@ -87,22 +49,10 @@ few_of m q Return = omega arith
 few_of m q (EndByTrap k) = omega arith
 few_of m q (Halt a) = omega arith
 
-few_of_op : (m : Numbers) → Quick m → (op : Op) → latency_of_op m op ≤ 16
-few_of_op m q (Computes code v a b) = few_of_code m q code
-few_of_op m q (Selects v p a b) = q.alu
-few_of_op m q (Place v a i) = q.alu
-few_of_op m q (Loads v a p d) = q.load
-few_of_op m q (Stores a p x) = omega arith
-few_of_op m q (Asks v) = q.load
-few_of_op m q (Takes v) = q.load
-few_of_op m q (Text n) = omega arith
-few_of_op m q (Decimal x) = omega arith
-few_of_op m q (Across v u) = q.copy
-
 module _ (m : Numbers) (is_one : IsMachine m) where
   latest_few : (ops : List Operation) → latest m ops ≤ 16
   latest_few [] = omega arith
-  latest_few (op ∷ ops) = let a = few_of m (quick m is_one) op in let b = latest_few ops in omega arith
+  latest_few (op ∷ ops) = let a = few_of m (ranges m is_one) op in let b = latest_few ops in omega arith
 
   pub flight_few : (n : ℕ) (ws : List Word) → n ≤ 16 → in_flight m n ws ≤ 16
   flight_few n [] le = le
@@ -117,7 +67,7 @@ any_few (v ∷ vs) n most le = le
 pub slots_few : (T : Target) → IsMachine T.machine → (f : ℕ) (items : List Laid) → slots_in_flight T f items ≤ 16
 slots_few T is_one f [] = omega arith
 slots_few T is_one f (Plain op k ∷ items) =
-    let l : latency_of_op T.machine op - 1 ≤ 16 = (let x = few_of_op T.machine (quick T.machine is_one) op in omega arith) in
+    let l : latency_of_op T.machine op - 1 ≤ 16 = (let x = few_cycles T.machine is_one op in omega arith) in
     let a = any_few (slotted T f (writes op)) (latency_of_op T.machine op - 1) 16 l in
     let b = slots_few T is_one f items in omega arith
 slots_few T is_one f (Split test y q ∷ items) = slots_few T is_one f items
