@@ -1,29 +1,19 @@
 -- What the answer of a command excludes where nothing fails.
-use Rattle.std.proofs.Common.{◌≡◌, ◌⊎◌, inl, inr, ℕ, List, Option, Some, None, IfSome, MatchOption, refl, sym, subst, ap}
+use Rattle.std.proofs.Common.{◌≡◌, ◌⊎◌, inl, inr, ℕ, List, Option, Some, None, IfSome, refl, sym, subst}
 use Rattle.vx_io.specs.Outside.{Files}
 use Rattle.vx_isa.specs.Numbers.{Numbers}
 use Rattle.vx_machine.specs.declared.description.MachineFault.TheVariants.{Bad}
 use Rattle.vx_ast.specs.declared.fault.SourceFault.{SourceFault}
-use Rattle.vx_ast.specs.declared.fault.SourceFault.TheVariants.{Bad as BadSource, Limit as OverLimit}
-use Rattle.vx_ast.specs.Tree.{Program}
 use Rattle.vx_io.specs.declared.role.Role.TheVariants.{Source as TheSource, Words as TheWords, Profile as TheProfile, Machine as TheMachine, Input as TheInput}
 use Rattle.vx_status.specs.declared.status.Status.{Status}
 use Rattle.vx_status.specs.declared.status.Status.TheVariants.{Done, Trapped, Usage, Source, Limit, Words, Profile, Machine, NoFile, ReadFault, WriteFault, Stopped, Input, Stuck, NoMemory}
-use Rattle.vx_ast.specs.Reads.{Reads, Refusal}
-use Rattle.vx_files.proofs.SourceLaws.{never_both, one_refusal}
+use Rattle.vx_ast.specs.Reads.{Refusal}
 use Rattle.vx_files.proofs.ProfileFile.{not_both_profiles, one_profile_status}
 use Rattle.vx_command.specs.Command.{Compilation}
 use Rattle.vx_files.specs.Held.{Accepts, status_of, RefusesSource, Refuses, MachineFound, Is, Refused, TooLong, Missing, found_in, machine_found, BadProfile, ProfileStands, RefusesProfile}
 use Rattle.vx_driver.specs.Answers.{Writes, CompileAnswers, CompileEnds}
-use Rattle.vx_files.specs.Effects.{Effect, ReadsRose, ReplacesRose, OfFile}
-
--- a source's file is one of accepted, refused and missing
-
-pub same_content : (o : Option (List ℕ)) (content other : List ℕ) → o ≡ Some content → o ≡ Some other → content ≡ other
-same_content o content other a b = cc
-
-pub not_missing : (o : Option (List ℕ)) (content : List ℕ) → o ≡ Some content → o ≡ None → ⊥
-not_missing o content a b = cc
+use Rattle.vx_files.specs.Effects.{Effect, ReadsRose, ReplacesRose}
+use Rattle.vx_steps.proofs.Told.{same_content, not_missing, told, told_or, told_of, refused_told, not_both, one_status, not_faulty}
 
 -- an answer, where nothing failed
 pub data Ends (held : Files) (source : List ℕ) (profile machine : Option (List ℕ)) : Status → Type 0 where
@@ -35,19 +25,6 @@ pub data Ends (held : Files) (source : List ℕ) (profile machine : Option (List
   long_machine : Accepts held source → ProfileStands held profile → machine_found held machine ≡ TooLong → Ends held source profile machine (Limit 11 65537)
   no_machine : Accepts held source → ProfileStands held profile → machine_found held machine ≡ Missing → Ends held source profile machine (NoFile TheMachine)
   no_memory : Ends held source profile machine NoMemory
-
-pub told : (P : Files → Type 0) (b : Option Files) (held : Files) → b ≡ Some held → IfSome b P → P held
-told P b held is h = subst (λ o. IfSome o P) is h
-
-pub told_or : (Q : Type 0) (P : Files → Type 0) (b : Option Files) (held : Files) → b ≡ Some held → MatchOption b Q P → P held
-told_or Q P b held is h = subst (λ o. MatchOption o Q P) is h
-
-pub told_of : (P : Files → Type 0) (Q : List ℕ → Type 0) (b : Option Files) (held : Files) → b ≡ Some held → OfFile b P Q → P held
-told_of P Q b held is h = subst (λ o. OfFile o P Q) is h
-
-pub refused_told : (source : List ℕ) (status : Status) (b : Option Files) (held : Files) → b ≡ Some held →
-    OfFile b (λ h. Refuses h source status) (λ bytes. RefusesSource bytes status) → Refuses held source status
-refused_told source status b held is h = told_of (λ k. Refuses k source status) (λ bytes. RefusesSource bytes status) b held is h
 
 module _ (asked : Compilation) (held : Files) (e : Effect) (is : e.before ≡ Some held) (quiet_reads : ReadsRose e → ⊥) (quiet_replaces : ReplacesRose e → ⊥) where
   accepts_told : IfSome e.before (λ h. Accepts h asked.source) → Accepts held asked.source
@@ -113,26 +90,6 @@ due (Refused (Bad code field)) status = status ≡ Machine code field
 due (Refused why) status = ⊥
 due TooLong status = status ≡ Limit 11 65537
 due Missing status = status ≡ NoFile TheMachine
-
-pub never_refused : (content : List ℕ) (program : Program) (status : Status) → Reads content program → RefusesSource content status → ⊥
-never_refused content program (Source code line column) reads r = never_both content program (BadSource code line column) reads r
-never_refused content program (Limit number count) reads r = never_both content program (OverLimit number count) reads r
-never_refused content program status reads r = r
-
-pub not_both : (held : Files) (source : List ℕ) (status : Status) → Accepts held source → Refuses held source status → ⊥
-not_both held source status a r =
-    never_refused r.content a.program status (subst (λ bytes. Reads bytes a.program) (same_content (held source) a.is.content r.content a.is.holds r.holds) a.is.reads) r.refused
-
--- a source with a fault or over a limit
-
-pub one_status : (content : List ℕ) (fault : SourceFault) (status : Status) → Refusal content fault → RefusesSource content status → status ≡ status_of fault
-one_status content fault (Source code line column) f r = ap status_of (one_refusal content (BadSource code line column) fault r f)
-one_status content fault (Limit number count) f r = ap status_of (one_refusal content (OverLimit number count) fault r f)
-one_status content fault status f r = absurd r
-
-pub not_faulty : (held : Files) (source content : List ℕ) (fault : SourceFault) → held source ≡ Some content → Refusal content fault → Accepts held source → ⊥
-not_faulty held source content fault holds f a =
-    never_both content a.program fault (subst (λ bytes. Reads bytes a.program) (same_content (held source) a.is.content content a.is.holds holds) a.is.reads) f
 
 refused_ends : (held : Files) (source : List ℕ) (profile machine : Option (List ℕ)) (status : Status) (content : List ℕ) (fault : SourceFault) → held source ≡ Some content → Refusal content fault → Ends held source profile machine status →
     (status ≡ status_of fault) ⊎ (status ≡ NoMemory)

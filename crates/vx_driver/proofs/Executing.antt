@@ -1,5 +1,5 @@
 -- The answers of `exec` from those of its run and of the steps before it.
-use Rattle.std.proofs.Common.{◌≡◌, ◌∙◌, ◌⊎◌, inl, inr, ℕ, ℤ, true, List, length, is_some, Option, Some, None, Ok, Err, IfSome, MatchOption, refl, sym, subst, ap}
+use Rattle.std.proofs.Common.{◌≡◌, ◌∙◌, ◌⊎◌, inl, inr, ℕ, ℤ, true, List, length, is_some, Option, Some, None, Ok, IfSome, refl, sym, subst, ap}
 use Rattle.std.specs.Prelude.{◌<◌, All}
 use Rattle.vx_base.specs.Arithmetic.{IsNumber}
 use Rattle.vx_base.specs.Outcome.{Outcome, Ends, Traps, Goes, Stuck as StuckWith, Wrong, IsOver, IsFailure, IsGoing, Begins, Within, output_of}
@@ -19,8 +19,8 @@ use Rattle.vx_status.specs.declared.status.Status.TheVariants.{Done, Trapped, Us
 use Rattle.vx_command.specs.Command.{Execution}
 use Rattle.vx_runs.specs.Boxes.{Chosen}
 use Rattle.vx_compile.specs.Faithful.{Faithful}
-use Rattle.vx_files.specs.Held.{AreCounts, HoldsProgram, ProfileStands, Is, machine_found, input_in, input_found}
-use Rattle.vx_files.specs.Effects.{Effect, ReadsRose, SourceAnswers, MachineAnswers, InputAnswers}
+use Rattle.vx_files.specs.Held.{AreCounts, HoldsProgram, ProfileStands, Is, machine_found, input_found}
+use Rattle.vx_files.specs.Effects.{Effect, SourceAnswers, MachineAnswers, InputAnswers}
 use Rattle.vx_driver.specs.Answers.{StopsAtProfile, StopsAtMachine}
 use Rattle.vx_runs.specs.Simulated.{Loaded, begun, outcome_within, events_within, reports_of, Streams, Shows, OutputCut, IsStatusOf}
 use Rattle.vx_driver.specs.Executed.{Issues, SourceHas, SourceBegins, InSource, AllHeld, Prepared, Runs, RunsCut, StopsAtInput, ExecutionAnswers}
@@ -30,8 +30,9 @@ use Rattle.vx_driver.specs.Stopping.{LaterStops, AfterSource, StopsBefore}
 use Rattle.vx_runs.proofs.Issued.{issues_comes, issues_within, issues_least, issues_all, issues_seen}
 use Rattle.vx_runs.proofs.Turned.{turned_of, turned_some, outcome_turned}
 use Rattle.vx_runs.proofs.Runs.{no_run}
-use Rattle.vx_runs.proofs.Since.{Since, told_since, said_since, same_since, reads_since, missing_since}
-use Rattle.vx_driver.proofs.Answering.{profile_since, machine_since, accepts_in}
+use Rattle.vx_runs.proofs.Since.{Since, told_since}
+use Rattle.vx_steps.proofs.Cases.{source_cases, input_cases}
+use Rattle.vx_steps.proofs.Later.{profile_since, machine_since, accepts_in, input_since}
 
 -- a run of words in the terms of the source
 
@@ -175,29 +176,7 @@ module _ (asked : Execution) (x : Loaded) (times : Times) (watches : List Watch)
 
 module _ (asked : Execution) (e : Effect) (s : Streams) (boxes : Chosen) where
   at_source : (status : Status) → SourceAnswers asked.source e status → ExecutionAnswers asked e s status boxes
-  at_source Done a = absurd a
-  at_source (Trapped trap) a = absurd a
-  at_source Usage a = absurd a
-  at_source (Source code line column) a = a
-  at_source (Limit number count) a = inl a
-  at_source (Words code line) a = absurd a
-  at_source (Profile code line) a = absurd a
-  at_source (Machine code field) a = absurd a
-  at_source (NoFile TheSource) a = a
-  at_source (NoFile TheWords) a = let is = a.0 in absurd cc
-  at_source (NoFile TheProfile) a = let is = a.0 in absurd cc
-  at_source (NoFile TheMachine) a = let is = a.0 in absurd cc
-  at_source (NoFile TheInput) a = let is = a.0 in absurd cc
-  at_source (ReadFault TheSource) a = a
-  at_source (ReadFault TheWords) a = let is = a.0 in absurd cc
-  at_source (ReadFault TheProfile) a = let is = a.0 in absurd cc
-  at_source (ReadFault TheMachine) a = let is = a.0 in absurd cc
-  at_source (ReadFault TheInput) a = let is = a.0 in absurd cc
-  at_source WriteFault a = absurd a
-  at_source Stopped a = absurd a
-  at_source (Input place) a = absurd a
-  at_source (Stuck reason place) a = absurd a
-  at_source NoMemory a = tt
+  at_source = source_cases asked.source e (λ t. ExecutionAnswers asked e s t boxes) (λ code line column a. a) (λ number count a. inl a) (λ a. a) (λ a. a) tt
 
   at_profile : (status : Status) → StopsAtProfile asked.source asked.profile e status → ExecutionAnswers asked e s status boxes
   at_profile Done a = absurd a.answers
@@ -250,29 +229,8 @@ module _ (asked : Execution) (e : Effect) (s : Streams) (boxes : Chosen) where
   at_machine NoMemory a = tt
 
   at_input : (status : Status) → StopsAtInput asked e status → ExecutionAnswers asked e s status boxes
-  at_input Done a = absurd a.answers
-  at_input (Trapped trap) a = absurd a.answers
-  at_input Usage a = absurd a.answers
-  at_input (Source code line column) a = absurd a.answers
-  at_input (Limit number count) a = inr (inr (inr a))
-  at_input (Words code line) a = absurd a.answers
-  at_input (Profile code line) a = absurd a.answers
-  at_input (Machine code field) a = absurd a.answers
-  at_input (NoFile TheSource) a = let is = a.answers.0 in absurd cc
-  at_input (NoFile TheWords) a = let is = a.answers.0 in absurd cc
-  at_input (NoFile TheProfile) a = let is = a.answers.0 in absurd cc
-  at_input (NoFile TheMachine) a = let is = a.answers.0 in absurd cc
-  at_input (NoFile TheInput) a = a
-  at_input (ReadFault TheSource) a = let is = a.answers.0 in absurd cc
-  at_input (ReadFault TheWords) a = let is = a.answers.0 in absurd cc
-  at_input (ReadFault TheProfile) a = let is = a.answers.0 in absurd cc
-  at_input (ReadFault TheMachine) a = let is = a.answers.0 in absurd cc
-  at_input (ReadFault TheInput) a = a
-  at_input WriteFault a = absurd a.answers
-  at_input Stopped a = absurd a.answers
-  at_input (Input place) a = a
-  at_input (Stuck reason place) a = absurd a.answers
-  at_input NoMemory a = tt
+  at_input =
+      input_cases asked.input e (StopsAtInput asked e) (λ t. ExecutionAnswers asked e s t boxes) (λ status a. a.answers) (λ number count a. inr (inr (inr a))) (λ a. a) (λ a. a) (λ place a. a) tt
 
   stops_before : (status : Status) → StopsBefore asked e status → ExecutionAnswers asked e s status boxes
   stops_before status (inl memory) = subst (λ t. ExecutionAnswers asked e s t boxes) (sym memory) tt
@@ -285,25 +243,6 @@ module _ (asked : Execution) (e : Effect) (s : Streams) (boxes : Chosen) where
   stops_told status told same a = subst (λ t. ExecutionAnswers asked e s t boxes) (sym same) (stops_before status a)
 
 -- one step after the other
-
-pub input_since : (input : Option (List ℕ)) (e f : Effect) (status : Status) → Since e f → InputAnswers input e status → InputAnswers input f status
-input_since input e f Done s a = absurd a
-input_since input e f (Trapped trap) s a = absurd a
-input_since input e f Usage s a = absurd a
-input_since input e f (Source code line column) s a = absurd a
-input_since input e f (Limit number count) s a = (a.0, a.1, same_since e f s a.2, told_since e f (λ held. input_found held input ≡ Err (Limit 12 16777217)) s a.3)
-input_since input e f (Words code line) s a = absurd a
-input_since input e f (Profile code line) s a = absurd a
-input_since input e f (Machine code field) s a = absurd a
-input_since input e f (NoFile role) s a =
-    let P : Files → Type 0 = λ held. input_found held input ≡ Err (NoFile TheInput) in
-    (a.0, same_since e f s a.1, subst (λ b. MatchOption b (ReadsRose f) P) (sym s.before) (missing_since e f P e.before s a.2))
-input_since input e f (ReadFault role) s a = (a.0, same_since e f s a.1, reads_since e f s a.2)
-input_since input e f WriteFault s a = absurd a
-input_since input e f Stopped s a = absurd a
-input_since input e f (Input place) s a = (same_since e f s a.0, said_since e f (λ held. input_found held input ≡ Err (Input place)) (λ content. input_in (Some content) ≡ Err (Input place)) s a.1)
-input_since input e f (Stuck reason place) s a = absurd a
-input_since input e f NoMemory s a = same_since e f s a
 
 pub later_input : (machine input : Option (List ℕ)) (numbers : Numbers) (e f : Effect) (status : Status) → Since e f → IfSome f.before (λ held. machine_found held machine ≡ Is numbers) →
     ((status ≡ NoMemory) ⊎ ((is_some input ≡ true) × InputAnswers input e status)) → LaterStops machine input f status

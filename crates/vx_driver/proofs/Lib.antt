@@ -1,4 +1,4 @@
-mod SummaryRows
+mod GraphRows
 pub mod Answering
 pub mod Completing
 mod Always
@@ -6,9 +6,6 @@ pub mod Boxed
 pub mod Executing
 pub mod Loading
 pub mod Performing
-pub mod Naming
 pub mod Executed
-pub mod Counting
-pub mod Summing
 pub mod SoakLaws
 pub mod Completed

@@ -1,6 +1,5 @@
 -- What is read and compiled for an execution, step by step.
-use Rattle.std.proofs.Common.{◌≡◌, ◌∙◌, ℕ, ℤ, List, Option, Ok, IfSome, refl, sym, subst, arith}
-use Rattle.std.specs.Prelude.{◌≤◌}
+use Rattle.std.proofs.Common.{◌≡◌, ℕ, ℤ, List, Option, Ok, IfSome, sym, subst}
 use Rattle.vx_io.specs.Outside.{Files}
 use Rattle.vx_isa.specs.Numbers.{Numbers}
 use Rattle.vx_ast.specs.Tree.{Program}
@@ -8,24 +7,7 @@ use Rattle.vx_profile.specs.declared.counts.Counts.{Counts}
 use Rattle.vx_files.specs.Held.{AreCounts, DefaultUnless, EmptyUnless, Is, input_found, machine_found}
 use Rattle.vx_files.proofs.ProfileFile.{stands}
 use Rattle.vx_runs.specs.Simulated.{Loaded}
-use Rattle.vx_driver.specs.Loading.{LoadedInput, LoadedMachine, LoadedProfile, LoadedWords, OnlyReads}
-
-no_less : (a b c : ℕ) → a ≤ b → b ≤ c → a ≤ c
-no_less a b c first second = omega arith
-
--- no call
-pub read_nothing : (held : Option Files) (a k : ℕ) → OnlyReads (record { before = held; after = held; reads_before = a; reads_after = a; replaces_before = k; replaces_after = k })
-read_nothing held a k = record { files = refl; reads = omega arith; replaces = omega arith }
-
--- one call that only reads behind another
-pub read_on : (before mid after : Option Files) (a b c k l m : ℕ) → mid ≡ before → a ≤ b → k ≤ l →
-    OnlyReads (record { before = mid; after = after; reads_before = b; reads_after = c; replaces_before = l; replaces_after = m }) →
-    OnlyReads (record { before = before; after = after; reads_before = a; reads_after = c; replaces_before = k; replaces_after = m })
-read_on before mid after a b c k l m same reads replaces later = record {
-  files = later.files ∙ same;
-  reads = no_less a b c reads later.reads;
-  replaces = no_less k l m replaces later.replaces;
-}
+use Rattle.vx_driver.specs.Loading.{LoadedInput, LoadedMachine, LoadedProfile, LoadedWords}
 
 module _ (p : Program) (counts : Counts) (growth : ℕ) (x : Loaded) where
   pub input_loaded : (machine : Numbers) (told : Option Files) (input : Option (List ℕ)) (numbers : List ℤ) → IfSome told (λ held. input_found held input ≡ Ok numbers) → EmptyUnless input numbers →

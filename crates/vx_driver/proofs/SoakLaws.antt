@@ -1,8 +1,8 @@
 -- The answers of `soak` from those of its steps, and what they exclude where nothing fails.
-use Rattle.std.proofs.Common.{◌≡◌, ◌∙◌, ℕ, ℤ, false, List, [], length, Option, Some, None, refl, sym, subst, ap, arith}
+use Rattle.std.proofs.Common.{◌≡◌, ◌∙◌, ℕ, false, List, [], length, None, refl, sym, subst, ap, arith}
 use Rattle.std.specs.Prelude.{All, codes}
 use Rattle.vx_base.specs.Arithmetic.{IsNumber}
-use Rattle.vx_base.specs.Outcome.{Outcome, Ends, Traps, Goes, IsGoing, output_of}
+use Rattle.vx_base.specs.Outcome.{Outcome, Ends, Traps, Goes, IsGoing}
 use Rattle.vx_io.specs.Outside.{with_bytes}
 use Rattle.vx_ast.specs.Tree.{Program}
 use Rattle.vx_ast.specs.Reads.{Reads}
@@ -10,26 +10,25 @@ use Rattle.vx_gen.specs.Program.{program_text}
 use Rattle.vx_isa.specs.declared.program.WordProgram.{WordProgram}
 use Rattle.vx_isa.specs.Numbers.{Numbers, vex}
 use Rattle.vx_probe.specs.Times.{Times}
-use Rattle.vx_probe.specs.Watch.{Watch}
 use Rattle.vx_profile.specs.Counts.{CountsOf}
 use Rattle.vx_profile.specs.declared.counts.Counts.{Counts}
 use Rattle.vx_report.specs.declared.plan.Plan.{Plan}
 use Rattle.vx_sim.specs.Ran.{is_fault, outcome_of}
 use Rattle.vx_sim.specs.declared.ended.Ended.{Ended}
 use Rattle.vx_sim.specs.declared.ended.Ended.TheVariants.{Halted, Trapped as TrappedBy, Stopped as StoppedAt}
-use Rattle.vx_driver.specs.declared.soak.ProgramSizes.{ProgramSizes}
+use Rattle.vx_steps.specs.declared.soak_run.ProgramSizes.{ProgramSizes}
 use Rattle.vx_status.specs.declared.status.Status.{Status}
 use Rattle.vx_status.specs.declared.status.Status.TheVariants.{Done, Trapped, Usage, Source, Limit, Words, Profile, Machine, NoFile, ReadFault, WriteFault, Stopped, Input, Stuck, NoMemory}
 use Rattle.vx_compile.specs.declared.words.FlowSize.{FlowSize}
 use Rattle.vx_command.specs.Command.{Soaking}
 use Rattle.vx_runs.specs.Boxes.{Boxes, Chosen, chosen}
 use Rattle.vx_files.specs.Effects.{Effect}
-use Rattle.vx_runs.specs.Ending.{RunOf}
 use Rattle.vx_driver.specs.Executed.{Issues, SourceHas}
-use Rattle.vx_runs.specs.Simulated.{Loaded, Streams, OutRose, with_input, outcome_within, events_within}
-use Rattle.vx_driver.specs.Soaked.{Soaked, SoakRuns, SoakedAnswers, SoakAnswers, SoakGoesOn, SoakEnds, SoakCompletes, byte_sum, soak_budget, soak_growth, soaked_words, summary_of}
+use Rattle.vx_runs.specs.Simulated.{Loaded, Streams, OutRose, with_input, outcome_within}
+use Rattle.vx_driver.specs.Soaked.{Soaked, SoakRuns, SoakedAnswers, SoakAnswers, SoakGoesOn, SoakEnds, SoakCompletes, soak_growth, soaked_words, summary_of}
+use Rattle.vx_steps.specs.Summary.{soak_budget, RunEndsSo, PutsEnd, whole, cut, trapped, stopped, no_memory, line_of}
 use Rattle.vx_compile.specs.Stages.{Sized}
-use Rattle.vx_driver.specs.SoakSteps.{IsMade, IsMadeFrom, RunEndsSo, SoakRan, PutsEnd, whole, cut, trapped, stopped, no_memory, line_of, sizes_of}
+use Rattle.vx_driver.specs.SoakSteps.{IsMade, IsMadeFrom, SoakRan, sizes_of}
 use Rattle.vx_files.proofs.SourceLaws.{one_program}
 use Rattle.vx_driver.proofs.Executing.{in_source, issues_of}
 use Rattle.vx_runs.proofs.Simulating.{box_completes}
@@ -63,19 +62,6 @@ made_of asked p x sizes reads m = record {
   words_are = m.words_are;
   sizes_are = m.sizes_are;
 }
-
-same_bytes : (told : Option (List ℕ)) (bytes out : List ℕ) → told ≡ Some bytes → told ≡ Some out → bytes ≡ out
-same_bytes told bytes out a b = cc
-
-pub run_ends : (x : Loaded) (times : Times) (ended : Ended) (issued sum : ℕ) (watches watches' : List Watch) (before bytes : List ℕ) →
-    RunOf x times soak_budget watches watches' (Some before) (Some bytes) ended → before ≡ [] → (is_fault ended ≡ false → issued ≡ length (events_within x times soak_budget)) → sum ≡ byte_sum bytes →
-    is_fault ended ≡ false → RunEndsSo x times ended issued sum
-run_ends x times ended issued sum watches watches' before bytes r empty counted summed no_fault =
-    let done = r.whole no_fault in
-    let out : List ℕ = output_of (outcome_within x times soak_budget) in
-    let put : Some bytes ≡ with_bytes (Some []) out = done.put ∙ ap (λ b. with_bytes (Some b) out) empty in
-    let same : bytes ≡ out = same_bytes (Some bytes) bytes out refl put in
-    record { out = out; outcome = done.outcome; issued_is = counted no_fault; sum_is = summed ∙ ap byte_sum same }
 
 module _ (asked : Soaking) (times : Times) (ended : Ended) (issued sum : ℕ) (soaked : Soaked asked) (r : RunEndsSo (soaked_words soaked) times ended issued sum) where
   abbrev the_boxes : Chosen
@@ -111,11 +97,6 @@ pub ran : (asked : Soaking) (times : Times) (ended : Ended) (issued sum : ℕ) (
     SoakRan asked times ended line
 ran asked times ended issued sum x sizes line m r is =
     ran_so asked times ended issued sum m.soaked (subst (λ z. RunEndsSo z times ended issued sum) m.words_are r) sizes line m.sizes_are is
-
--- what is put of an end
-
-pub put_halted : (ended : Ended) (z : ℤ) (line put : List ℕ) (s : Streams) (status : Status) → ended ≡ Halted z → put ≡ line → ((n : ℤ) → PutsEnd (Halted n) put s status) → PutsEnd ended line s status
-put_halted ended z line put s status is same puts = subst (λ e. PutsEnd e line s status) (sym is) (subst (λ l. PutsEnd (Halted z) l s status) same (puts z))
 
 -- the answers by what is put
 

@@ -1,6 +1,6 @@
 -- What each answer of the top call says of the words, the files and the counts of faults, before the call and after it.
-use Rattle.std.specs.Prelude.{◌≡◌, ◌≢◌, ◌⊎◌, ℕ, List, true, is_some, Option, Some, None, IfSome, IsSomeAnd}
-use Rattle.vx_io.specs.Outside.{Files, held_with, with_file, ReplacesPartly}
+use Rattle.std.specs.Prelude.{◌≡◌, ◌⊎◌, ℕ, List, true, is_some, Option, Some, None, IfSome, IsSomeAnd}
+use Rattle.vx_io.specs.Outside.{Files, held_with, ReplacesPartly}
 use Rattle.vx_isa.specs.declared.program.WordProgram.{WordProgram}
 use Rattle.vx_isa.specs.Numbers.{Numbers}
 use Rattle.vx_machine.specs.declared.description.MachineFault.TheVariants.{Bad}
@@ -19,6 +19,7 @@ use Rattle.vx_report.specs.Report.{names_of, report_text}
 use Rattle.vx_words.specs.Spelling.{Spells}
 use Rattle.vx_files.specs.Held.{HoldsProgram, Accepts, status_of, AreCounts, ProfileStands, RefusesProfile, Is, Refused, TooLong, Missing, machine_found}
 use Rattle.vx_files.specs.Effects.{Effect, ReplacesRose, SameFiles, SourceAnswers, ProfileAnswers, MachineAnswers}
+use Rattle.vx_steps.specs.Writing.{ReportAnswers}
 
 -- the texts of a compiled program: the one spells its words, the other is the report of their plan
 pub record TextsOf (program : Program) (counts : Counts) (machine : Numbers) (growth : ℕ) (text report : List ℕ) : Type 0 where
@@ -109,22 +110,6 @@ CompileAnswers asked e Stopped = ⊥
 CompileAnswers asked e (Input place) = ⊥
 CompileAnswers asked e (Stuck reason place) = ⊥
 CompileAnswers asked e NoMemory = SameFiles e ⊎ IsSomeAnd e.before (λ held. WritesWords asked held e.after)
-
--- what the replacing of a file by a text says
-abbrev pub WriteAnswers : (name text : List ℕ) → Effect → Status → Type 0
-WriteAnswers name text e Done = e.after ≡ with_file e.before name text
-WriteAnswers name text e WriteFault = ReplacesRose e × ReplacesPartly e.before e.after name text
-WriteAnswers name text e NoMemory = SameFiles e
-WriteAnswers name text e status = ⊥
-
--- the same from the files on in which a first file was replaced
-abbrev pub once_written : (name text : List ℕ) → Effect → Effect
-once_written name text e = record e { before = with_file e.before name text }
-
--- what the replacing of the output's file by the one text says, and then that of the report's file by the other, where one is asked
-abbrev pub ReportAnswers : (out text : List ℕ) → Option (List ℕ) → (report : List ℕ) → Effect → Status → Type 0
-ReportAnswers out text None report e status = WriteAnswers out text e status
-ReportAnswers out text (Some name) report e status = ((status ≢ Done) × WriteAnswers out text e status) ⊎ WriteAnswers name report (once_written out text e) status
 
 -- the texts of a program for a machine were to replace files
 pub record PutsTexts (program : Program) (counts : Counts) (machine : Numbers) (growth : ℕ) (out : List ℕ) (name : Option (List ℕ)) (e : Effect) (status : Status) : Type 0 where

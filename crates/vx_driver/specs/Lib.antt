@@ -1,10 +1,8 @@
 pub mod Answers
 pub mod Executed
-pub mod Counted
 pub mod Soaked
 pub mod Stopping
 pub mod Loading
-pub mod Counting
 pub mod SoakSteps
 pub mod Commands
 pub mod Performed

@@ -1,20 +1,13 @@
 -- What is read and compiled for an execution, from its last step to its first: each finds what the steps behind it left.
-use Rattle.std.specs.Prelude.{◌≡◌, ◌≤◌, ℕ, ℤ, List, Option, Ok, IfSome}
+use Rattle.std.specs.Prelude.{◌≡◌, ℕ, ℤ, List, Option, Ok, IfSome}
 use Rattle.vx_io.specs.Outside.{Files}
 use Rattle.vx_isa.specs.Numbers.{Numbers}
 use Rattle.vx_ast.specs.Tree.{Program}
 use Rattle.vx_profile.specs.declared.counts.Counts.{Counts}
 use Rattle.vx_files.specs.Held.{EmptyUnless, Is, ProfileStands, input_found, machine_found}
-use Rattle.vx_files.specs.Effects.{Effect, SameFiles}
 use Rattle.vx_compile.specs.Stages.{IsCompiled}
 use Rattle.vx_runs.specs.Simulated.{AreDefaults, Loaded}
 use Rattle.vx_driver.specs.Executed.{CompiledBy}
-
--- no file was replaced, and no count of failures fell
-pub record OnlyReads (e : Effect) : Type 0 where
-  pub files : SameFiles e
-  pub reads : e.reads_before ≤ e.reads_after
-  pub replaces : e.replaces_before ≤ e.replaces_after
 
 -- words that are compiled from a program by counts, for a machine and beside an input
 pub record LoadedWords (p : Program) (counts : Counts) (growth : ℕ) (machine : Numbers) (input : List ℤ) (x : Loaded) : Type 0 where

@@ -1,17 +1,15 @@
 -- What is said of a command that was performed, whatever its status, in one record: each function on the way from the words to a
 -- command hands it on as it stands.
-use Rattle.std.specs.Prelude.{◌≡◌, ◌≤◌, ℕ, List, Bool, true, false, Option, None}
+use Rattle.std.specs.Prelude.{◌≡◌, ◌≤◌, Bool, false, Option}
 use Rattle.vx_status.specs.declared.status.Status.{Status}
 use Rattle.vx_status.specs.Status.{Adds, status_line}
-use Rattle.vx_command.specs.Command.{Command, Execution, command_named, compile_of, exec_of, is_command, profile_of, sim_of, soak_of}
+use Rattle.vx_command.specs.Command.{Command, Execution}
 use Rattle.vx_runs.specs.Boxes.{Boxes, Chosen}
 use Rattle.vx_files.specs.Effects.{Effect, SameFiles}
 use Rattle.vx_runs.specs.Simulated.{Streams, ErrTells, is_of_run}
 use Rattle.vx_runs.specs.Lines.{TellsLine, TellsRun}
 use Rattle.vx_driver.specs.Commands.{Answers, puts_output}
 use Rattle.vx_driver.specs.Executed.{ExecutionAnswers}
-use Rattle.vx_driver.specs.declared.top.Named.{Named}
-use Rattle.vx_driver.specs.declared.top.Named.TheVariants.{Compile, Sim, Exec, Profile, Soak, Nothing}
 
 pub record Performed (command : Option Command) (boxes : Boxes) (e : Effect) (s : Streams) (status : Status) : Type 0 where
   pub answers : Answers command boxes e s status
@@ -37,21 +35,3 @@ pub record ExecutionPerformed (asked : Execution) (these : Chosen) (e : Effect) 
   pub reads_never_fall : e.reads_before ≤ e.reads_after
   pub replaces_never_fall : e.replaces_before ≤ e.replaces_after
   pub out_never_falls : s.out_faults_before ≤ s.out_faults_after
-
--- what the words behind a name ask for
-abbrev pub asked_by : Named → List (List ℕ) → Option Command
-asked_by Compile words = compile_of words
-asked_by Sim words = sim_of words
-asked_by Exec words = exec_of words
-asked_by Profile words = profile_of words
-asked_by Soak words = soak_of words
-asked_by Nothing words = None
-
-abbrev pub names_one : Named → Bool
-names_one Nothing = false
-names_one other = true
-
--- this is the command of a name
-pub record IsNamed (name : List ℕ) (named : Named) : Type 0 where
-  pub known : is_command name ≡ names_one named
-  pub asks : (words : List (List ℕ)) → command_named name words ≡ asked_by named words

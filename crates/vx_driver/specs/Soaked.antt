@@ -1,7 +1,6 @@
 -- What `soak` does: the source of a seed and a size is compiled for the default machine by no counts, and its words are run on the
 -- empty input; one line says how much there was of everything.
-use Rattle.std.specs.Prelude.{◌≡◌, ◌%◌, ◌^◌, ℕ, ℤ, Bool, true, false, List, [], ◌∷◌, ◌++◌, length, codes, None}
-use Rattle.std.specs.List.{sum_by}
+use Rattle.std.specs.Prelude.{◌≡◌, ℕ, ℤ, List, [], length, codes, None}
 use Rattle.vx_base.specs.Outcome.{Outcome, Ends, Traps, Goes, IsGoing}
 use Rattle.vx_io.specs.Outside.{PutsFront, with_bytes}
 use Rattle.vx_ast.specs.Reads.{Reads}
@@ -17,16 +16,13 @@ use Rattle.vx_runs.specs.Boxes.{Boxes, Chosen, chosen}
 use Rattle.vx_command.specs.Command.{Soaking}
 use Rattle.vx_compile.specs.Compiled.{Compiled}
 use Rattle.vx_driver.specs.Executed.{Issues, InSource, SourceHas}
-use Rattle.vx_status.specs.Status.{counted}
 use Rattle.vx_runs.specs.Simulated.{BoxAnswers, Loaded, OutRose, Streams, with_input, outcome_within}
 use Rattle.vx_status.specs.declared.status.Status.{Status}
 use Rattle.vx_status.specs.declared.status.Status.TheVariants.{Done, Trapped, WriteFault, Stopped, NoMemory}
 use Rattle.vx_compile.specs.Stages.{all_blocks}
+use Rattle.vx_steps.specs.Summary.{soak_budget, byte_sum, summary}
 
--- the most words that are issued, and the most operations that are copied
-abbrev pub soak_budget : ℕ
-soak_budget = 100000000
-
+-- the most operations that are copied
 abbrev pub soak_growth : ℕ
 soak_growth = 4000
 
@@ -51,15 +47,6 @@ pub record SoakRuns (asked : Soaking) (boxes : Chosen) (outcome : Outcome) : Typ
   pub in_source : InSource soaked.program [] outcome
 
 -- the line
-
--- the sum of some bytes, modulo 2 ^ 32
-abbrev pub byte_sum : List ℕ → ℕ
-byte_sum bytes = sum_by (λ b. b) bytes % 2 ^ 32
-
-abbrev pub summary : (functions blocks traces words copies sum issued : ℕ) → List ℕ
-summary functions blocks traces words copies sum issued =
-    counted (codes "functions ") functions ++ counted (codes " blocks ") blocks ++ counted (codes " traces ") traces
-    ++ counted (codes " words ") words ++ counted (codes " copies ") copies ++ counted (codes " sum ") sum ++ counted (codes " issued ") issued ++ 10 ∷ []
 
 -- the functions and blocks of the graphs, the traces and copied operations of the plan, the words of the program, the sum of its
 -- output's bytes, and the words that were issued
@@ -96,12 +83,6 @@ SoakedAnswers asked s status boxes = ⊥
 -- no file ever changes; the timing is the first box that is called `late`
 abbrev pub SoakAnswers : Soaking → Boxes → Effect → Streams → Status → Type 0
 SoakAnswers asked boxes e s status = SameFiles e × BoxAnswers (SoakedAnswers asked s status) (chosen (codes "late") None boxes) status
-
--- only the line is put on the output
-abbrev pub puts_summary : Status → Bool
-puts_summary Done = true
-puts_summary WriteFault = true
-puts_summary status = false
 
 -- where the output takes its line; want of memory is the one free answer
 

@@ -11,7 +11,8 @@ ghost use Rattle.vx_runs.specs.Boxes.{boxes_of};
 ghost use Rattle.vx_runs.specs.Ending.{loaded_of};
 ghost use Rattle.vx_runs.specs.Simulated.{streams_of};
 ghost use Rattle.vx_driver.specs.Executed.{Prepared};
-ghost use Rattle.vx_driver.specs.Loading.{LoadedInput, LoadedMachine, LoadedProfile, LoadedWords, OnlyReads};
+ghost use Rattle.vx_driver.specs.Loading.{LoadedInput, LoadedMachine, LoadedProfile, LoadedWords};
+ghost use Rattle.vx_steps.specs.Reading.{OnlyReads};
 ghost use Rattle.vx_driver.specs.Performed.{ExecutionPerformed, Performed};
 ghost use Rattle.vx_driver.specs.Stopping.{AfterSource, LaterStops, StopsBefore};
 
@@ -42,11 +43,15 @@ fn load_words(
     ensures memory { IfErr result (λ status. status ≡ Status.NoMemory) }
 {
     match compile(alloc, program, counts, &machine, growth) {
-        Ok(compiled) => Ok(LoadedFiles {
-            program: compiled.words,
-            machine,
-            input,
-        }),
+        Ok(compiled) => {
+            let words = compiled.words;
+            drop(compiled.plan);
+            Ok(LoadedFiles {
+                program: words,
+                machine,
+                input,
+            })
+        }
         Err(_) => Err(Status::NoMemory),
     }
 }
@@ -118,15 +123,19 @@ fn load<D: Depot>(alloc: Global, depot: &mut D, asked: &ExecWords) -> Result<Loa
     ensures stops { IfErr result (StopsBefore (execution_of asked.now) (effect_of D.files D.failed_reads D.failed_replaces depot.old depot.new)) }
 {
     match read_through(alloc, depot, asked.run.file) {
-        Ok(program) => load_profile(
-            alloc,
-            depot,
-            &program,
-            asked.profile,
-            asked.run.machine,
-            asked.growth,
-            asked.run.input,
-        ),
+        Ok(program) => {
+            let loaded = load_profile(
+                alloc,
+                depot,
+                &program,
+                asked.profile,
+                asked.run.machine,
+                asked.growth,
+                asked.run.input,
+            );
+            drop(program);
+            loaded
+        }
         Err(status) => Err(status),
     }
 }
@@ -155,7 +164,10 @@ fn execute<D: Depot, K: Sink, E: Sink>(
             timing,
             probes,
         ),
-        Err(status) => tell(err, status),
+        Err(status) => {
+            drop(probes);
+            tell(err, status)
+        }
     }
 }
 
@@ -173,7 +185,10 @@ pub(crate) fn execute_with<D: Depot, K: Sink, E: Sink>(
 {
     let timing = match timing_of(timings, asked.run.timing) {
         Some(timing) => timing,
-        None => return no_box(err, asked.run.timing),
+        None => {
+            drop(probes);
+            return no_box(err, asked.run.timing);
+        }
     };
     match probes_of(alloc, probes, asked.run.probe) {
         Ok(probes) => execute(alloc, depot, out, err, asked, timing, probes),

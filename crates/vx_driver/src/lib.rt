@@ -1,9 +1,10 @@
 // The top call `vexc`: from the words of a command line to its answer, from the bytes of a source to the bytes of its words.
 #![tactic(auto)]
 
-mod compiling;
+mod compilation;
 mod exec;
 pub mod laws;
+mod passes;
 mod profile;
 mod soak;
 pub mod top;

@@ -1,136 +1,20 @@
 // The command `profile SRC`: reads a source and an input, runs the graphs of the source, and puts how often each block and
 // each edge was passed.
 
-ghost use Rattle.std.specs.Prelude.{◌≡◌, ◌⊎◌, ◌≤◌, true, false, option_map, is_some, IfOk, IfErr};
-ghost use Rattle.vx_io.specs.Outside.{PutsFront, Rose, with_bytes};
-ghost use Rattle.vx_ast.specs.View as view;
-ghost use Rattle.vx_files.specs.Effects.{effect_of, InputAnswers};
+ghost use Rattle.vx_files.specs.Effects.{effect_of};
 ghost use Rattle.vx_command.specs.Command.{Count};
 ghost use Rattle.vx_command.specs.Asked.{profiling_of};
-ghost use Rattle.vx_status.specs.Status.{Adds, Tells, status_line};
 ghost use Rattle.vx_runs.specs.Boxes.{Boxes};
-ghost use Rattle.vx_runs.specs.Simulated.{is_of_run, streams_of};
-ghost use Rattle.vx_driver.specs.Loading.{OnlyReads};
+ghost use Rattle.vx_runs.specs.Simulated.{streams_of};
 ghost use Rattle.vx_driver.specs.Performed.{Performed};
-ghost use Rattle.vx_driver.specs.Counting.{IsCounted, CountedOn, CountedFor, PutsText, StopsProfiling};
 
+use crate::passes::Passes;
 use std::alloc::Global;
-use vx_ast::typed::Typed;
-use vx_base::outcome::NoMemory;
 use vx_command::ProfileWords;
-use vx_compile::flow_of;
-use vx_files::{input_for, read_through};
 use vx_io::depot::Depot;
-use vx_io::sink::{Sink, put_all};
-use vx_profile::write_counts;
+use vx_io::sink::Sink;
 use vx_status::{Status, tell};
-use vx_tally::count;
-
-/// The text of the counts of a run, and whether the run is over.
-#[derive(Drop)]
-pub(crate) struct CountsText {
-    pub(crate) text: Vec<u8>,
-    pub(crate) complete: bool,
-}
-
-/// Runs the graphs of a program on an input, for at most so many blocks, and counts.
-fn counted(
-    alloc: Global,
-    program: &Typed,
-    input: &[i32],
-    blocks: u64,
-) -> Result<CountsText, NoMemory>
-    ensures { IfOk result (λ counted. IsCounted (view.program_of program.now.program) input.now blocks counted.text.items counted.complete) }
-{
-    let flow = flow_of(alloc, program)?;
-    let counted = count(alloc, &flow, input, blocks);
-    drop(flow);
-    let counted = counted?;
-    let text = write_counts(alloc, &counted.counts)?;
-    Ok(CountsText {
-        text,
-        complete: counted.complete,
-    })
-}
-
-/// The same, with the status of a failure.
-fn counted_or(
-    alloc: Global,
-    program: &Typed,
-    input: &[i32],
-    blocks: u64,
-) -> Result<CountsText, Status>
-    ensures counted { IfOk result (λ counted. IsCounted (view.program_of program.now.program) input.now blocks counted.text.items counted.complete) }
-    ensures memory { IfErr result (λ status. status ≡ Status.NoMemory) }
-{
-    match counted(alloc, program, input, blocks) {
-        Ok(counted) => Ok(counted),
-        Err(_) => Err(Status::NoMemory),
-    }
-}
-
-/// Reads the input for a program that was read before, and counts.
-fn count_on<D: Depot>(
-    alloc: Global,
-    depot: &mut D,
-    program: &Typed,
-    name: Option<&str>,
-    blocks: u64,
-) -> Result<CountsText, Status>
-    ensures only_reads { OnlyReads (effect_of D.files D.failed_reads D.failed_replaces depot.old depot.new) }
-    ensures counted { IfOk result (λ counted. CountedOn (view.program_of program.now.program) (option_map (λ s. s.now) name.entry) blocks (effect_of D.files D.failed_reads D.failed_replaces depot.old depot.new) counted.text.items counted.complete) }
-    ensures stops { IfErr result (λ status. (status ≡ Status.NoMemory) ⊎ ((is_some (option_map (λ s. s.now) name.entry) ≡ true) × InputAnswers (option_map (λ s. s.now) name.entry) (effect_of D.files D.failed_reads D.failed_replaces depot.old depot.new) status)) }
-{
-    match input_for(alloc, depot, name) {
-        Ok(input) => counted_or(alloc, program, input.as_slice(), blocks),
-        Err(status) => Err(status),
-    }
-}
-
-/// Reads the source and the input, each whole and through before the next, and counts.
-fn count_read<D: Depot>(
-    alloc: Global,
-    depot: &mut D,
-    asked: &ProfileWords,
-) -> Result<CountsText, Status>
-    ensures only_reads { OnlyReads (effect_of D.files D.failed_reads D.failed_replaces depot.old depot.new) }
-    ensures counted { IfOk result (λ counted. CountedFor (profiling_of asked.now) (effect_of D.files D.failed_reads D.failed_replaces depot.old depot.new) counted.text.items counted.complete) }
-    ensures stops { IfErr result (StopsProfiling (profiling_of asked.now) (effect_of D.files D.failed_reads D.failed_replaces depot.old depot.new)) }
-{
-    match read_through(alloc, depot, asked.source) {
-        Ok(program) => count_on(alloc, depot, &program, asked.input, asked.blocks),
-        Err(status) => Err(status),
-    }
-}
-
-/// Answers whether a run is over, with a line where it is not.
-fn tell_end<E: Sink>(err: &mut E, complete: bool) -> Status
-    ensures over { complete ≡ true → (result ≡ Status.Done) × (E.told err.new ≡ E.told err.old) }
-    ensures stopped { complete ≡ false → result ≡ Status.Stopped }
-    ensures run { is_of_run result ≡ true }
-    ensures tells { Tells (status_line result) (E.told err.old) (E.told err.new) (E.faults err.old) (E.faults err.new) }
-    ensures adds { Adds (E.told err.old) (E.told err.new) (E.faults err.old) (E.faults err.new) }
-{
-    if complete {
-        Status::Done
-    } else {
-        tell(err, Status::Stopped)
-    }
-}
-
-/// Puts the text of the counts, and answers whether the run is over, or that the text could not be put.
-fn put_counts<K: Sink, E: Sink>(out: &mut K, err: &mut E, counted: &CountsText) -> Status
-    ensures puts { PutsText counted.now.text.items counted.now.complete (streams_of K.told K.faults E.told E.faults out.old out.new err.old err.new) result }
-    ensures run { is_of_run result ≡ true }
-    ensures tells { Tells (status_line result) (E.told err.old) (E.told err.new) (E.faults err.old) (E.faults err.new) }
-    ensures adds { Adds (E.told err.old) (E.told err.new) (E.faults err.old) (E.faults err.new) }
-    ensures out_never_falls { K.faults out.old ≤ K.faults out.new }
-{
-    match put_all(out, counted.text.as_slice()) {
-        Ok(()) => tell_end(err, counted.complete),
-        Err(_) => tell(err, Status::WriteFault),
-    }
-}
+use vx_steps::counts::{count_read, put_counts};
 
 /// Does what the words of `profile` ask for: puts the text of the counts on `out`.
 pub(crate) fn profile<D: Depot, K: Sink, E: Sink>(
@@ -142,7 +26,7 @@ pub(crate) fn profile<D: Depot, K: Sink, E: Sink>(
 ) -> Status
     ensures { ((boxes : Boxes) → Performed (Some (Count (profiling_of asked.now))) boxes (effect_of D.files D.failed_reads D.failed_replaces depot.old depot.new) (streams_of K.told K.faults E.told E.faults out.old out.new err.old err.new) result) }
 {
-    match count_read(alloc, depot, asked) {
+    match count_read(alloc, &Passes, depot, asked) {
         Ok(counted) => put_counts(out, err, &counted),
         Err(status) => tell(err, status),
     }

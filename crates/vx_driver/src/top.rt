@@ -1,43 +1,28 @@
 // The top call: from the words of a command line to its answer.
 
-ghost use Rattle.std.specs.Prelude.{◌≡◌, ◌≤◌, ◌∷◌, ℕ, List, Option, false, map, string_bytes, IfOk};
+ghost use Rattle.std.specs.Prelude.{◌≡◌, ◌≤◌, ℕ, List, Option, false, map, string_bytes};
 ghost use Rattle.vx_status.specs.Status.{Appends, Tells, status_line};
 ghost use Rattle.vx_command.specs.Command.{command_of, command_named, is_command, names_command, compile_of, sim_of, exec_of, profile_of, soak_of};
 ghost use Rattle.vx_files.specs.Effects.{Effect, effect_of};
 ghost use Rattle.vx_runs.specs.Simulated.{streams_of};
 ghost use Rattle.vx_runs.specs.Boxes.{Boxes, ProbeBox, boxes_of, timing_boxes};
 ghost use Rattle.vx_driver.specs.Commands.{Answers, Completes, puts_output};
-ghost use Rattle.vx_driver.specs.Performed.{IsNamed, Performed, PerformedAs};
-ghost use Rattle.vx_driver.specs.Loading.{OnlyReads};
+ghost use Rattle.vx_driver.specs.Performed.{Performed, PerformedAs};
+ghost use Rattle.vx_steps.specs.Reading.{OnlyReads};
 ghost use Rattle.vx_runs.specs.Lines.{TellsLine};
 
-use crate::compiling::compile;
+use crate::compilation::compile;
 use crate::exec::execute_with;
 use crate::profile::profile;
 use crate::soak::soak;
-use std::alloc::{AllocError, Global};
+use std::alloc::Global;
 use vx_command::{compile_asked, exec_asked, profile_asked, refuse, sim_asked, soak_asked};
 use vx_io::depot::Depot;
 use vx_io::sink::Sink;
 use vx_probe::{Probe, Timing};
 use vx_runs::simulate_with;
 use vx_status::{Status, tell};
-
-/// The words that clap is handed: all but the second.
-fn without_name<'a>(
-    alloc: Global,
-    program: &'a String,
-    others: &'a [String],
-) -> Result<Vec<&'a str>, AllocError>
-    ensures { IfOk result (λ words. map (λ w. w.now) words.items ≡ string_bytes program.now ∷ map string_bytes others.now) }
-{
-    let mut words = Vec::new(alloc);
-    words.push(program.as_str())?;
-    for other in others {
-        words.push(other.as_str())?;
-    }
-    Ok(words)
-}
+use vx_steps::names::{Named, let_go, lookup, without_name};
 
 /// Does what the words of `compile` ask for, the program's name first, and puts the line of its answer.
 fn perform_compile<D: Depot, E: Sink>(
@@ -71,7 +56,10 @@ fn perform_sim<D: Depot, K: Sink, E: Sink>(
 {
     match sim_asked(alloc, words) {
         Ok(asked) => simulate_with(alloc, depot, out, err, &asked, probes, timings),
-        Err(refused) => refuse(err, &refused),
+        Err(refused) => {
+            let_go(probes, timings);
+            refuse(err, &refused)
+        }
     }
 }
 
@@ -89,7 +77,10 @@ fn perform_exec<D: Depot, K: Sink, E: Sink>(
 {
     match exec_asked(alloc, words) {
         Ok(asked) => execute_with(alloc, depot, out, err, &asked, probes, timings),
-        Err(refused) => refuse(err, &refused),
+        Err(refused) => {
+            let_go(probes, timings);
+            refuse(err, &refused)
+        }
     }
 }
 
@@ -125,36 +116,6 @@ fn perform_soak<K: Sink, E: Sink>(
     }
 }
 
-/// The command that a word names, or that it names none.
-#[derive(Clone, Copy)]
-pub(crate) enum Named {
-    Compile,
-    Sim,
-    Exec,
-    Profile,
-    Soak,
-    Nothing,
-}
-
-/// What a word names.
-fn lookup(name: &str) -> Named
-    ensures { IsNamed name.now result }
-{
-    if name == "compile" {
-        Named::Compile
-    } else if name == "sim" {
-        Named::Sim
-    } else if name == "exec" {
-        Named::Exec
-    } else if name == "profile" {
-        Named::Profile
-    } else if name == "soak" {
-        Named::Soak
-    } else {
-        Named::Nothing
-    }
-}
-
 /// Does what a command's words ask for, the program's name first.
 fn perform_named<D: Depot, K: Sink, E: Sink>(
     alloc: Global,
@@ -169,12 +130,24 @@ fn perform_named<D: Depot, K: Sink, E: Sink>(
     ensures { PerformedAs (is_command name.now) (command_named name.now (map (λ w. w.now) words.now)) (boxes_of called watch named times probes.items timings.items) (effect_of D.files D.failed_reads D.failed_replaces depot.old depot.new) (streams_of K.told K.faults E.told E.faults out.old out.new err.old err.new) result }
 {
     match lookup(name) {
-        Named::Compile => perform_compile(alloc, words, depot, err),
+        Named::Compile => {
+            let_go(probes, timings);
+            perform_compile(alloc, words, depot, err)
+        }
         Named::Sim => perform_sim(alloc, words, depot, out, err, probes, timings),
         Named::Exec => perform_exec(alloc, words, depot, out, err, probes, timings),
-        Named::Profile => perform_profile(alloc, words, depot, out, err),
-        Named::Soak => perform_soak(alloc, words, out, err, timings),
-        Named::Nothing => tell(err, Status::Usage),
+        Named::Profile => {
+            let_go(probes, timings);
+            perform_profile(alloc, words, depot, out, err)
+        }
+        Named::Soak => {
+            drop(probes);
+            perform_soak(alloc, words, out, err, timings)
+        }
+        Named::Nothing => {
+            let_go(probes, timings);
+            tell(err, Status::Usage)
+        }
     }
 }
 
@@ -202,9 +175,15 @@ fn perform<D: Depot, K: Sink, E: Sink>(
                 probes,
                 timings,
             ),
-            Err(_) => tell(err, Status::NoMemory),
+            Err(_) => {
+                let_go(probes, timings);
+                tell(err, Status::NoMemory)
+            }
         },
-        _ => tell(err, Status::Usage),
+        _ => {
+            let_go(probes, timings);
+            tell(err, Status::Usage)
+        }
     }
 }
 

@@ -4,7 +4,7 @@ use Rattle.std.specs.Prelude.{Vec, ◌≤◌}
 use Rattle.std.specs.declared.alloc.Global.{Global}
 use Rattle.vx_io.specs.Outside.{Files}
 use Rattle.vx_io.specs.Reading.{ReadsFile}
-use Rattle.vx_io.specs.declared.reading.FileRead.TheVariants.{Whole, TooLong as FileTooLong}
+use Rattle.vx_io.specs.declared.whole_file.FileRead.TheVariants.{Whole, TooLong as FileTooLong}
 use Rattle.vx_io.specs.declared.role.Role.{Role}
 use Rattle.vx_io.specs.declared.role.Role.TheVariants.{Source as TheSource, Words as TheWords, Profile as TheProfile, Machine as TheMachine, Input as TheInput}
 use Rattle.vx_isa.specs.declared.program.WordProgram.{WordProgram}

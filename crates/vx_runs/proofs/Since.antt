@@ -1,5 +1,5 @@
 -- A call, looked at from an earlier moment.
-use Rattle.std.proofs.Common.{◌≡◌, inl, inr, ℕ, List, Option, Some, None, IfSome, MatchOption, sym, subst, ◌∙◌, arith}
+use Rattle.std.proofs.Common.{◌≡◌, inl, inr, ℕ, List, Option, Some, None, IfSome, MatchOption, refl, sym, subst, ◌∙◌, arith}
 use Rattle.std.specs.Prelude.{◌≤◌}
 use Rattle.vx_io.specs.Outside.{Files, Rose}
 use Rattle.vx_files.specs.Effects.{Effect, ReadsRose, ReplacesRose, SameFiles, OfFile}
@@ -16,6 +16,19 @@ pub record Since (e f : Effect) : Type 0 where
   pub reads_after : f.reads_after ≡ e.reads_after
   pub replaces : f.replaces_before ≤ e.replaces_before
   pub replaces_after : f.replaces_after ≡ e.replaces_after
+
+-- a call behind one that only read files
+pub since_read : (before mid after : Option Files) (a b c k l m : ℕ) → mid ≡ before → a ≤ b → k ≤ l →
+    Since (record { before = mid; after = after; reads_before = b; reads_after = c; replaces_before = l; replaces_after = m })
+    (record { before = before; after = after; reads_before = a; reads_after = c; replaces_before = k; replaces_after = m })
+since_read before mid after a b c k l m same reads replaces = record {
+  before = sym same;
+  after = refl;
+  reads = reads;
+  reads_after = refl;
+  replaces = replaces;
+  replaces_after = refl;
+}
 
 pub same_since : (e f : Effect) → Since e f → SameFiles e → SameFiles f
 same_since e f s same = s.after ∙ same ∙ sym s.before

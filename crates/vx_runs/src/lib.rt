@@ -4,10 +4,10 @@
 
 mod boxes;
 mod loaded;
-mod running;
+mod run;
 mod sim;
 
 pub use boxes::{probes_of, timing_of};
 pub use loaded::LoadedFiles;
-pub use running::{RunEnd, no_box, no_probe, run_alone, run_loaded};
+pub use run::{RunEnd, no_box, no_probe, run_alone, run_loaded};
 pub use sim::simulate_with;

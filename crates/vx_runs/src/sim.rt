@@ -17,14 +17,14 @@ ghost use Rattle.vx_runs.specs.Ending.{loaded_of};
 
 use crate::boxes::{probes_of, timing_of};
 use crate::loaded::LoadedFiles;
-use crate::running::{no_box, no_probe, run_loaded};
+use crate::run::{no_box, no_probe, run_loaded};
 use std::alloc::Global;
 use vx_command::RunWords;
 use vx_files::{input_for, machine_for};
 use vx_io::depot::{Depot, DepotFault};
-use vx_io::reading::{FileRead, read_file};
 use vx_io::role::Role;
 use vx_io::sink::Sink;
+use vx_io::whole_file::{FileRead, read_file};
 use vx_isa::program::WordProgram;
 use vx_machine::Machine;
 use vx_probe::{Probe, Timing};

@@ -1,5 +1,5 @@
 -- The profile was read before the machine, and reading it changed no file.
-use Rattle.std.proofs.Common.{inl, refl, sym, option_map}
+use Rattle.std.proofs.Common.{inl, option_map}
 use Rattle.std.proofs.lemmas.Result.{IfErr-weaker, IfOk-weaker}
 use Rattle.vx_ast.specs.View.{program_of}
 use Rattle.vx_files.specs.Effects.{effect_of}
@@ -7,7 +7,9 @@ use Rattle.vx_files.proofs.ProfileFile.{stands}
 use Rattle.vx_runs.specs.Ending.{loaded_of}
 use Rattle.vx_runs.proofs.FileSteps.{still_some}
 use Rattle.vx_driver.proofs.Executing.{after_profile}
-use Rattle.vx_driver.proofs.Loading.{profile_loaded, read_on}
+use Rattle.vx_driver.proofs.Loading.{profile_loaded}
+use Rattle.vx_steps.proofs.Reading.{read_on}
+use Rattle.vx_runs.proofs.Since.{since_read}
 use Rattle.vx_driver.proofs.exec.load_profile.Goals as goal
 
 pub returns-in-Ok-clause-only_reads : goal.returns-in-Ok-clause-only_reads
@@ -31,14 +33,7 @@ returns-in-Ok-clause-stops g c =
     (effect_of depot.files depot.failed_reads depot.failed_replaces c.counts_for.new.depot c.load_machine.new.depot)
     (effect_of depot.files depot.failed_reads depot.failed_replaces c.args.depot.now c.load_machine.new.depot)
     status
-    (record {
-      before = sym c.in-Ok.ensures.same_files;
-      after = refl;
-      reads = c.in-Ok.ensures.reads_never_fall;
-      reads_after = refl;
-      replaces = c.in-Ok.ensures.replaces_never_fall;
-      replaces_after = refl;
-    }) (stands (option_map (λ s. s.now) c.args.profile) (depot.files c.args.depot.now) c.in-Ok.counts c.in-Ok.ensures.counts) why)
+    (since_read _ _ _ _ _ _ _ _ _ c.in-Ok.ensures.same_files c.in-Ok.ensures.reads_never_fall c.in-Ok.ensures.replaces_never_fall) (stands (option_map (λ s. s.now) c.args.profile) (depot.files c.args.depot.now) c.in-Ok.counts c.in-Ok.ensures.counts) why)
     c.load_machine.ensures.stops
 
 pub returns-in-Err-clause-stops : goal.returns-in-Err-clause-stops

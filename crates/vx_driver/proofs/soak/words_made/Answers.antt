@@ -7,6 +7,6 @@ use Rattle.vx_driver.proofs.soak.words_made.Goals as goal
 
 pub returns : goal.returns
 returns c =
-    IfOk-weaker c.words_of.result _ _
+    IfOk-weaker c.words_of-made.result _ _
     (λ made is. made_of (record { seed = c.args.seed; size = c.args.size }) (program_of c.in_ok-program.program.program) (loaded_of made.loaded) made.sizes c.in_ok-program.ensures is)
-    c.words_of.ensures
+    c.words_of-made.ensures

@@ -1,10 +1,11 @@
 -- The words were read before all else, and reading them changed no file.
-use Rattle.std.proofs.Common.{IfSome, refl, sym, subst}
+use Rattle.std.proofs.Common.{IfSome, sym, subst}
 use Rattle.std.proofs.lemmas.Result.{IfErr-weaker, IfOk-weaker}
 use Rattle.vx_words.specs.Spelling.{Spells}
 use Rattle.vx_files.specs.Effects.{effect_of}
 use Rattle.vx_runs.specs.Ending.{loaded_of}
 use Rattle.vx_runs.proofs.FileSteps.{words_loaded, after_words, at_words}
+use Rattle.vx_runs.proofs.Since.{since_read}
 use Rattle.vx_runs.proofs.sim.load.Goals as goal
 
 pub returns-in-Ok-clause-loaded : goal.returns-in-Ok-clause-loaded
@@ -27,14 +28,7 @@ returns-in-Ok-clause-stops g c =
     (effect_of depot.files depot.failed_reads depot.failed_replaces c.read_words.new.depot c.load_machine.new.depot)
     (effect_of depot.files depot.failed_reads depot.failed_replaces c.args.depot.now c.load_machine.new.depot)
     status
-    (record {
-      before = sym c.in-Ok.ensures.same_files;
-      after = refl;
-      reads = c.in-Ok.ensures.reads_never_fall;
-      reads_after = refl;
-      replaces = c.in-Ok.ensures.replaces_never_fall;
-      replaces_after = refl;
-    }) c.in-Ok.ensures.program why)
+    (since_read _ _ _ _ _ _ _ _ _ c.in-Ok.ensures.same_files c.in-Ok.ensures.reads_never_fall c.in-Ok.ensures.replaces_never_fall) c.in-Ok.ensures.program why)
     c.load_machine.ensures.stops
 
 pub returns-in-Err-clause-stops : goal.returns-in-Err-clause-stops

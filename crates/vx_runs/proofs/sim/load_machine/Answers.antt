@@ -1,10 +1,11 @@
 -- The machine was read before the input, and reading it changed no file.
-use Rattle.std.proofs.Common.{refl, subst, sym, option_map}
+use Rattle.std.proofs.Common.{subst, sym, option_map}
 use Rattle.std.proofs.lemmas.Result.{IfErr-weaker, IfOk-weaker}
 use Rattle.vx_files.specs.Effects.{effect_of}
 use Rattle.vx_runs.specs.Ending.{loaded_of}
 use Rattle.vx_files.specs.Held.{DefaultUnless}
 use Rattle.vx_runs.proofs.FileSteps.{machine_loaded, after_machine, at_machine, still_some}
+use Rattle.vx_runs.proofs.Since.{since_read}
 use Rattle.vx_runs.proofs.sim.load_machine.Goals as goal
 
 pub returns-in-Ok-clause-loaded : goal.returns-in-Ok-clause-loaded
@@ -24,14 +25,7 @@ returns-in-Ok-clause-stops g c =
     (effect_of depot.files depot.failed_reads depot.failed_replaces c.machine_for.new.depot c.load_input.new.depot)
     (effect_of depot.files depot.failed_reads depot.failed_replaces c.args.depot.now c.load_input.new.depot)
     status
-    (record {
-      before = sym c.in-Ok.ensures.same_files;
-      after = refl;
-      reads = c.in-Ok.ensures.reads_never_fall;
-      reads_after = refl;
-      replaces = c.in-Ok.ensures.replaces_never_fall;
-      replaces_after = refl;
-    }) c.in-Ok.ensures.machine why)
+    (since_read _ _ _ _ _ _ _ _ _ c.in-Ok.ensures.same_files c.in-Ok.ensures.reads_never_fall c.in-Ok.ensures.replaces_never_fall) c.in-Ok.ensures.machine why)
     c.load_input.ensures.stops
 
 pub returns-in-Err-clause-stops : goal.returns-in-Err-clause-stops
