@@ -4,6 +4,8 @@ use Rattle.std.specs.List.{list_any}
 use Rattle.std.specs.Option.{option_to_list}
 use Rattle.std.proofs.lemmas.List.{append_assoc, append-nil}
 use Rattle.std.proofs.lemmas.Bool.{false≢true}
+use Rattle.vx_base.specs.declared.arithmetic.Code.{Code}
+use Rattle.vx_flow.specs.declared.graph.Operand.{Operand}
 use Rattle.vx_flow.specs.declared.graph.Op.{Op}
 use Rattle.vx_flow.specs.declared.graph.Op.TheVariants.{Compute, Select, Place, Load, Store, More, Input, Text, Decimal, Across}
 use Rattle.vx_flow.specs.Operands.{written_by}
@@ -14,10 +16,10 @@ use Rattle.vx_claims.specs.declared.fact.Fact.TheVariants.{Between, Equals}
 use Rattle.vx_claims.specs.declared.access.Access.{Access}
 use Rattle.vx_claims.specs.Facts.{range_of, times_if, bit, result_within, is_full, names, kept_if, without, without_written, equals_if, between_unless, lies_in, after}
 use Rattle.vx_claims.specs.Accesses.{place_known}
-use Rattle.vx_claims.specs.Forming.{after_known, most_equals, newest, said_unless, same_form}
+use Rattle.vx_claims.specs.Forming.{after_known, facts_if, is_test, most_equals, newest, said_unless, same_form}
 use Rattle.vx_claims.specs.Keeping.{all_said, has_more, said_by}
 
-lies_before : (v : ℕ) (i : Interval) (a b : List Fact) → lies_in v i (a ++ b) ≡ lies_in v i a ++ b
+pub lies_before : (v : ℕ) (i : Interval) (a b : List Fact) → lies_in v i (a ++ b) ≡ lies_in v i a ++ b
 lies_before v i a b = by (is_full i)
   where
     by : (says_nothing : Bool) → between_unless says_nothing v i (a ++ b) ≡ between_unless says_nothing v i a ++ b
@@ -45,6 +47,14 @@ known_parts fs xs op op' =
     let inner : (s ++ w) ++ l ≡ s ++ after fs op' = append_assoc s w l ∙ ap (λ x. s ++ x) (sym (after_parts fs op')) in
     let outer : (p ++ (s ++ w)) ++ l ≡ p ++ (s ++ after fs op') = append_assoc p (s ++ w) l ∙ ap (λ x. p ++ x) inner in
     ap (newest most_equals) outer
+
+-- what is put at the end of a list for a computation in the words it had
+pub said_computed : (list lies fs : List Fact) (t : Bool) (op : Op) (code : Code) (v : ℕ) (a b : Operand) (w i j : Interval) → op ≡ Compute code v a b → t ≡ false → i ≡ range_of fs a → j ≡ range_of fs b → w ≡ result_within code i j → lies ≡ list ++ lies_in v w [] → lies ++ facts_if (is_test code) (equals_if (is_value v a || is_value v b) v code a b) ≡ list ++ said_unless t fs op
+said_computed list lies fs t op code v a b w i j is f p q r h =
+    let e : List Fact = facts_if (is_test code) (equals_if (is_value v a || is_value v b) v code a b) in
+    let k : w ≡ result_within code (range_of fs a) (range_of fs b) = r ∙ ap (λ x. result_within code x j) p ∙ ap (λ x. result_within code (range_of fs a) x) q in
+    ap (λ x. x ++ e) h ∙ append_assoc list (lies_in v w []) e ∙ ap (λ x. list ++ x) (sym (lies_before v w [] e)) ∙ ap (λ x. list ++ lies_in v x e) k
+    ∙ ap (λ x. list ++ said_unless false fs x) (sym is) ∙ ap (λ x. list ++ said_unless x fs op) (sym f)
 
 -- ---- where there is nothing to forget
 

@@ -18,23 +18,12 @@ use Rattle.vx_flow.specs.Effects.{IsIn}
 use Rattle.vx_flow.proofs.SoundLaw.{sound_of}
 use Rattle.vx_flow.proofs.SoundFlowLaw.{flow_is}
 use Rattle.vx_isa.proofs.Lists.{count_by-cons}
+use Rattle.vx_lower.proofs.Facts.{none_is, or_one, or_two}
 use Rattle.vx_lower.specs.FlowOf.{is_general, is_branch, GraphOf, FlowOf, IsEdge}
 use Rattle.vx_mixed.specs.Valid.{PartsWays, NoCritical, IsGraphEdge, CanBegin}
 use Rattle.vx_compile.specs.Stages.{AllBegin}
 
 -- limits
-
-none_is : (o : Option Over) → is_none o ≡ true → o ≡ None
-none_is None e = refl
-none_is (Some o) e = absurd (cc)
-
-or_one : (a b : Option Over) → or_else a b ≡ None → a ≡ None
-or_one None b e = refl
-or_one (Some o) b e = e
-
-or_two : (a b : Option Over) → or_else a b ≡ None → b ≡ None
-or_two None b e = e
-or_two (Some o) b e = absurd (cc)
 
 third : (a b c d : Option Over) → or_else a (or_else b (or_else c d)) ≡ None → c ≡ None
 third a b c d is = or_one c d (or_two b (or_else c d) (or_two a (or_else b (or_else c d)) is))

@@ -40,7 +40,7 @@ call_of flow (Split p c d) k = refl
 call_of flow (Return x) k = refl
 call_of flow (Ends t) k = refl
 
-text_of : (flow : Flow) (op : Op) → ((n : ℕ) → op ≡ Text n → n < length flow.texts) → is_text_there flow op ≡ true
+pub text_of : (flow : Flow) (op : Op) → ((n : ℕ) → op ≡ Text n → n < length flow.texts) → is_text_there flow op ≡ true
 text_of flow (Text n) k = lt-ltb n (length flow.texts) (k n refl)
 text_of flow (Compute code u x y) k = refl
 text_of flow (Select u p x y) k = refl

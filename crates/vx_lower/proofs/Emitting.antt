@@ -30,6 +30,35 @@ use Rattle.vx_lower.proofs.Places.{get_last, length_more, set_same, set_other, s
 use Rattle.vx_lower.proofs.Building.{current_within, grows_self, grows_on, grows_value, grows_reserved, grows_closed, grows_filled, finishes_back, before_closed, before_filled, closed_stands, filled_stands, opens_closed}
 use Rattle.vx_lower.proofs.PieceMaking.{lands_on, value_next, sets_of, guarded_of, branched_of}
 
+-- numbers of values and of blocks
+
+up_to : (a b c : ℕ) → a ≤ b → b ≤ c → a ≤ c
+up_to a b c p q = omega arith
+
+under_two : (t a b c d : ℕ) → t < a → a ≤ b → b ≤ c → d ≡ c → t < d
+under_two t a b c d h p q e = omega arith
+
+under_three : (t a b c d x : ℕ) → t < a → a ≤ b → b ≤ c → c ≤ d → x ≡ d → t < x
+under_three t a b c d x h p q r e = omega arith
+
+above : (n l m : ℕ) → n < l → l ≤ m → m ≡ n → ⊥
+above n l m p q d = omega arith
+
+not_same : (m j : ℕ) → m < j → j ≡ m → ⊥
+not_same m j p d = omega arith
+
+to_next : (a b x : ℕ) → a ≤ b → x ≡ b → a ≤ x
+to_next a b x p e = omega arith
+
+past_one : (a j l m : ℕ) → a ≤ j → l ≡ j + 1 → l ≤ m → a ≤ m
+past_one a j l m p e q = omega arith
+
+behind : (j l m : ℕ) → l ≡ j + 1 → l ≤ m → m ≡ j → ⊥
+behind j l m e q d = omega arith
+
+short : (j : ℕ) → length (jump j).ops ≤ 512
+short j = omega arith
+
 -- blocks that wait
 
 pub spare_on : (a b : Builder) (n : ℕ) → Grows a b → Spare a n → Spare b n
@@ -175,7 +204,7 @@ module _ (words : List ℕ) where
             let s1 = x.code is B s2.start (finishes_back B b1 b2 x.grows.ready k.grows f2) s2.opens in
             let c = s2.holds in
             let lo = c.fresh in
-            record { start = s1.start; opens = s1.opens; holds = element s1.holds (record { place = c.place; no = c.no; c = c.c; goes = c.goes; tests = c.tests; stops = c.stops; free = c.free; above = c.above; fresh = omega arith }) s3.holds (lands_on (length b0.banks) (length b2.banks) (way_of dest (Held t) q) t q (omega arith) (z.lands q)) };
+            record { start = s1.start; opens = s1.opens; holds = element s1.holds (record { place = c.place; no = c.no; c = c.c; goes = c.goes; tests = c.tests; stops = c.stops; free = c.free; above = c.above; fresh = omega arith }) s3.holds (lands_on (length b0.banks) (length b2.banks) (way_of dest (Held t) q) t q (up_to (length b0.banks) (length b1.banks) (length b2.banks) v1 v2) (z.lands q)) };
       }
 
   pub emits_unary : (operator : UnaryOperator) (t : ℕ) (dest : Option ℕ) (a : Tree One) (o : Operand) (b0 b1 b2 : Builder) → (Ready b0 → Emits words a None o b0 b1) → (Ready b1 → Lasts (unary_op operator t o) dest t b1 b2) → Ready b0 → Emits words (Unary operator a) dest (Held t) b0 b2
@@ -203,7 +232,7 @@ module _ (words : List ℕ) where
             let f2 = finishes_back B b2 b3 hy.grows.ready z.grows f in
             let s2 = hy.code iy B s3.start f2 s3.opens in
             let s1 = hx.code is.0 B s2.start (finishes_back B b1 b2 hx.grows.ready hy.grows f2) s2.opens in
-            record { start = s1.start; opens = s1.opens; holds = binary s1.holds v1 (hx.below refl is.0) s2.holds v2 (hy.below refl iy) s3.holds (lands_on (length b0.banks) (length b2.banks) (way_of dest (Held t) q) t q (omega arith) (z.lands q)) };
+            record { start = s1.start; opens = s1.opens; holds = binary s1.holds v1 (hx.below refl is.0) s2.holds v2 (hy.below refl iy) s3.holds (lands_on (length b0.banks) (length b2.banks) (way_of dest (Held t) q) t q (up_to (length b0.banks) (length b1.banks) (length b2.banks) v1 v2) (z.lands q)) };
       }
 
   pub emits_read : (v c t : ℕ) (dest : Option ℕ) (b0 b1 b2 b3 b4 b5 : Builder) → (v ≡ length b0.banks) × (b1 ≡ with_value b0 General) → (Ready b1 → Puts (More v) b1 b2) → (c ≡ length b2.banks) × (b3 ≡ with_value b2 Branch) → (Ready b3 → Guards (Compute (ToBranch Ne) c (Held v) (Number (pos 0))) c ByInput b3 b4) → (Ready b4 → Lasts (Input t) dest t b4 b5) → Ready b0 → Emits words ReadInt dest (Held t) b0 b5
@@ -220,7 +249,7 @@ module _ (words : List ℕ) where
             let f4 = finishes_back B b4 b5 k.grows.ready z.grows f in
             let s2 = k.step B s3.start f4 s3.opens in
             let s1 = x.step B s2.start (finishes_back B b2 b4 x.grows.ready k.grows f4) s2.opens in
-            record { start = s1.start; opens = s1.opens; holds = read_int (omega arith) (omega arith) s1.holds s2.holds.1 s2.holds.2 s3.holds (lands_on (length b0.banks) (length b4.banks) (way_of dest (Held t) q) t q (omega arith) (z.lands q)) };
+            record { start = s1.start; opens = s1.opens; holds = read_int (omega arith) (omega arith) s1.holds s2.holds.1 s2.holds.2 s3.holds (lands_on (length b0.banks) (length b4.banks) (way_of dest (Held t) q) t q (up_to (length b0.banks) (length b2.banks) (length b4.banks) v1 v2) (z.lands q)) };
       }
 
   -- `&&`: where the left operand is not 0 the right one is evaluated, elsewhere the result is 0
@@ -239,21 +268,22 @@ module _ (words : List ℕ) where
       let r6 = ready_closed (reserved b5) (Goto jj) n (spare_on b2 (reserved b5) n (grows_on b2 b5 (reserved b5) k.grows.ready g25 (grows_reserved b5 s.grows.ready)) k.spare) in
       let arm = pn6 r6 in
       let v2 = k.grows.values in let v3 = a.grows.values in let v4 = hy.grows.values in let v5 = s.grows.values in let v7 = arm.grows.values in
+      let l3 = up_to (length b0.banks) (length b2.banks) (length b3.banks) v2 v3 in
       let same_banks : length b8.banks ≡ length b7.banks = ap (λ z. length z.banks) c8 in
       record {
         grows = subst (Grows b0) (sym c8) w.grows;
-        below = λ d is. let h = a.below d in omega arith;
+        below = λ d is. under_three t (length b3.banks) (length b4.banks) (length b5.banks) (length b7.banks) (length b8.banks) (a.below d) v4 v5 v7 same_banks;
         code = λ is B q f0 o0.
             let f = subst (Finishes B) c8 f0 in
             let o = subst (λ z. Opens B z q) c8 o0 in
             let s5 = s.step B (jump jj) (w.first B f) (w.first_opens B f) in
             let f4 = finishes_back B b4 b5 hy.grows.ready s.grows (w.first B f) in
-            let s4 = hy.code (within_on (length b0.banks) (length b3.banks) y (omega arith) is.1) B s5.start f4 s5.opens in
+            let s4 = hy.code (within_on (length b0.banks) (length b3.banks) y l3 is.1) B s5.start f4 s5.opens in
             let f3 = finishes_back B b3 b4 a.grows.ready hy.grows f4 in
             let f2 = finishes_back B b2 b3 k.grows.ready a.grows f3 in
             let s7 = arm.step B (jump jj) (w.second B f) (w.second_opens B f) in
             let s2 = k.code is.0 B s4.start s7.start f2 (a.back B s4.start s4.opens) s7.opens.is in
-            record { start = s2.start; opens = s2.opens; holds = both s2.holds (omega arith) s4.holds s5.holds (on jj q refl o.is (same refl)) s7.holds (on jj q refl o.is (same refl)) (lands_on (length b0.banks) (length b2.banks) (way_of dest (Held t) q) t q (omega arith) (a.lands q)) };
+            record { start = s2.start; opens = s2.opens; holds = both s2.holds l3 s4.holds s5.holds (on jj q refl o.is (same refl)) s7.holds (on jj q refl o.is (same refl)) (lands_on (length b0.banks) (length b2.banks) (way_of dest (Held t) q) t q v2 (a.lands q)) };
       }
 
   -- `||`: where the left operand is not 0 the result is 1, elsewhere the right one is evaluated
@@ -273,10 +303,12 @@ module _ (words : List ℕ) where
       let z = pf hy.grows.ready in
       let w = joined b0 b2 b4 b7 n r k.grows k.grows.ready g24 k.spare k.late (λ q5. grows_on b5c b6 b7 q5 (ey5 q5).grows (pf (ey5 q5).grows.ready).grows) in
       let v2 = k.grows.values in let v3 = a.grows.values in let v4 = s.grows.values in let v5 = hy.grows.values in let v6 = z.grows.values in
+      let l3 = up_to (length b0.banks) (length b2.banks) (length b3.banks) v2 v3 in
+      let l4 = up_to (length b0.banks) (length b3.banks) (length b4.banks) l3 v4 in
       let same_banks : length b8.banks ≡ length b7.banks = ap (λ z. length z.banks) c8 in
       record {
         grows = subst (Grows b0) (sym c8) w.grows;
-        below = λ d is. let h = a.below d in omega arith;
+        below = λ d is. under_three t (length b3.banks) (length b4.banks) (length b6.banks) (length b7.banks) (length b8.banks) (a.below d) v4 v5 v6 same_banks;
         code = λ is B q f0 o0.
             let f = subst (Finishes B) c8 f0 in
             let o = subst (λ z. Opens B z q) c8 o0 in
@@ -284,9 +316,9 @@ module _ (words : List ℕ) where
             let f3 = finishes_back B b3 b4 a.grows.ready s.grows (w.first B f) in
             let f2 = finishes_back B b2 b3 k.grows.ready a.grows f3 in
             let s7 = z.step B (jump jj) (w.second B f) (w.second_opens B f) in
-            let s6 = hy.code (within_on (length b0.banks) (length b5c.banks) y (omega arith) is.1) B s7.start (finishes_back B b6 b7 hy.grows.ready z.grows (w.second B f)) s7.opens in
+            let s6 = hy.code (within_on (length b0.banks) (length b5c.banks) y l4 is.1) B s7.start (finishes_back B b6 b7 hy.grows.ready z.grows (w.second B f)) s7.opens in
             let s2 = k.code is.0 B s4.start s6.start f2 (a.back B s4.start s4.opens) s6.opens.is in
-            record { start = s2.start; opens = s2.opens; holds = either s2.holds (omega arith) s6.holds s7.holds (on jj q refl o.is (same refl)) s4.holds (on jj q refl o.is (same refl)) (lands_on (length b0.banks) (length b2.banks) (way_of dest (Held t) q) t q (omega arith) (a.lands q)) };
+            record { start = s2.start; opens = s2.opens; holds = either s2.holds l4 s6.holds s7.holds (on jj q refl o.is (same refl)) s4.holds (on jj q refl o.is (same refl)) (lands_on (length b0.banks) (length b2.banks) (way_of dest (Held t) q) t q v2 (a.lands q)) };
       }
 
   -- `?:`: either operand comes into the same value
@@ -305,19 +337,21 @@ module _ (words : List ℕ) where
       let hy = ey5 r5 in
       let w = joined b0 b2 b4 b6 n r k.grows k.grows.ready g24 k.spare k.late (λ q5. (ey5 q5).grows) in
       let v2 = k.grows.values in let v3 = a.grows.values in let v4 = hx.grows.values in let v5 = hy.grows.values in
+      let l3 = up_to (length b0.banks) (length b2.banks) (length b3.banks) v2 v3 in
+      let l4 = up_to (length b0.banks) (length b3.banks) (length b4.banks) l3 v4 in
       let same_banks : length b7.banks ≡ length b6.banks = ap (λ z. length z.banks) c7 in
       record {
         grows = subst (Grows b0) (sym c7) w.grows;
-        below = λ d is. let h = a.below d in omega arith;
+        below = λ d is. under_two t (length b3.banks) (length b4.banks) (length b6.banks) (length b7.banks) (a.below d) v4 v5 same_banks;
         code = λ is B q f0 o0.
             let f = subst (Finishes B) c7 f0 in
             let o = subst (λ z. Opens B z q) c7 o0 in
-            let s4 = hx.code (within_on (length b0.banks) (length b3.banks) x (omega arith) is.1) B (jump jj) (w.first B f) (w.first_opens B f) in
+            let s4 = hx.code (within_on (length b0.banks) (length b3.banks) x l3 is.1) B (jump jj) (w.first B f) (w.first_opens B f) in
             let f3 = finishes_back B b3 b4 a.grows.ready hx.grows (w.first B f) in
             let f2 = finishes_back B b2 b3 k.grows.ready a.grows f3 in
-            let s6 = hy.code (within_on (length b0.banks) (length b5c.banks) y (omega arith) is.2) B (jump jj) (w.second B f) (w.second_opens B f) in
+            let s6 = hy.code (within_on (length b0.banks) (length b5c.banks) y l4 is.2) B (jump jj) (w.second B f) (w.second_opens B f) in
             let s2 = k.code is.0 B s4.start s6.start f2 (a.back B s4.start s4.opens) s6.opens.is in
-            record { start = s2.start; opens = s2.opens; holds = choice s2.holds (omega arith) s4.holds (on jj q refl o.is (same refl)) (omega arith) s6.holds (on jj q refl o.is (same refl)) (lands_on (length b0.banks) (length b2.banks) (way_of dest (Held t) q) t q (omega arith) (a.lands q)) };
+            record { start = s2.start; opens = s2.opens; holds = choice s2.holds l3 s4.holds (on jj q refl o.is (same refl)) l4 s6.holds (on jj q refl o.is (same refl)) (lands_on (length b0.banks) (length b2.banks) (way_of dest (Held t) q) t q v2 (a.lands q)) };
       }
 
   -- tests
@@ -325,35 +359,37 @@ module _ (words : List ℕ) where
   pub tests_value : (n : ℕ) (x : Tree One) (o : Operand) (b0 b1 b2 : Builder) → (Ready b0 → Emits words x None o b0 b1) → (Ready b1 → Truth o n b1 b2) → Ready b0 → EmitsTest words x n b0 b2
   tests_value n x o b0 b1 b2 ex tr r =
       let hx = ex r in let k = tr hx.grows.ready in
-      let v1 = hx.grows.values in let l1 = hx.grows.longer in let l2 = k.late in let l3 = k.moved in let c1 = k.above in
+      let l1 = hx.grows.longer in
       record {
         grows = grows_on b0 b1 b2 r hx.grows k.grows;
         spare = k.spare;
-        late = omega arith;
-        moved = omega arith;
+        late = up_to (length b0.blocks) (length b1.blocks) n l1 k.late;
+        moved = up_to (length b0.blocks) (length b1.blocks) b2.current l1 k.moved;
         empty = k.empty;
         code = λ is B one two f w at.
             let s2 = k.step B one two f w at in
             let s1 = hx.code is B s2.start (finishes_back B b1 b2 hx.grows.ready k.grows f) s2.opens in
-            record { start = s1.start; opens = s1.opens; holds = tested s1.holds (omega arith) s2.holds };
+            record { start = s1.start; opens = s1.opens; holds = tested s1.holds (up_to (length b0.banks) (length b1.banks) k.c hx.grows.values k.above) s2.holds };
       }
 
   pub tests_compare : (operator : BinaryOperator) (compare : Compare) (n : ℕ) (x y : Tree One) (ox oy : Operand) (b0 b1 b2 b3 : Builder) → comparison_of operator ≡ Some compare → (Ready b0 → Emits words x None ox b0 b1) → (Ready b1 → Emits words y None oy b1 b2) → (Ready b2 → Asked compare ox oy n b2 b3) → Ready b0 → EmitsTest words (Binary operator x y) n b0 b3
   tests_compare operator compare n x y ox oy b0 b1 b2 b3 e ex ey asks r =
       let hx = ex r in let hy = ey hx.grows.ready in let k = asks hy.grows.ready in
-      let v1 = hx.grows.values in let v2 = hy.grows.values in let l1 = hx.grows.longer in let l2 = hy.grows.longer in let l3 = k.late in let l4 = k.moved in let c1 = k.above in
+      let v1 = hx.grows.values in
+      let v = up_to (length b0.banks) (length b1.banks) (length b2.banks) v1 hy.grows.values in
+      let l = up_to (length b0.blocks) (length b1.blocks) (length b2.blocks) hx.grows.longer hy.grows.longer in
       record {
         grows = grows_on b0 b2 b3 r (grows_on b0 b1 b2 r hx.grows hy.grows) k.grows;
         spare = k.spare;
-        late = omega arith;
-        moved = omega arith;
+        late = up_to (length b0.blocks) (length b2.blocks) n l k.late;
+        moved = up_to (length b0.blocks) (length b2.blocks) b3.current l k.moved;
         empty = k.empty;
         code = λ is B one two f w at.
             let s3 = k.step B one two f w at in
             let f2 = finishes_back B b2 b3 hy.grows.ready k.grows f in
             let s2 = hy.code (within_on (length b0.banks) (length b1.banks) y v1 is.1) B s3.start f2 s3.opens in
             let s1 = hx.code is.0 B s2.start (finishes_back B b1 b2 hx.grows.ready hy.grows f2) s2.opens in
-            record { start = s1.start; opens = s1.opens; holds = compared compare e s1.holds v1 (hx.below refl is.0) s2.holds (omega arith) s3.holds };
+            record { start = s1.start; opens = s1.opens; holds = compared compare e s1.holds v1 (hx.below refl is.0) s2.holds (up_to (length b0.banks) (length b2.banks) k.c v k.above) s3.holds };
       }
 
   -- `!`: the two ways are exchanged
@@ -393,7 +429,7 @@ module _ (words : List ℕ) where
       let hx = ex r in let hy = ey hx.grows.ready in
       let g12 = hy.grows in
       let g02 = grows_on b0 b1 b2 r hx.grows g12 in
-      let l1 = hx.grows.longer in let l2 = g12.longer in let l3 = hx.late in let l4 = hy.late in let l5 = hy.moved in let jl = e.0 in let v1 = hx.grows.values in
+      let l1 = hx.grows.longer in let l2 = g12.longer in let jl = e.0 in let v1 = hx.grows.values in
       let sn = spare_on b1 b2 n g12 hx.spare in
       let wn = slice_get_within b1.blocks n None hx.spare.free in
       let wm = slice_get_within b2.blocks m None hy.spare.free in
@@ -403,20 +439,20 @@ module _ (words : List ℕ) where
       let sm4 = spare_on b2 b4 m gr hy.spare in
       let sj4 = spare_reserved b2 g12.ready in
       let g04 = grows_on b0 b2 b4 r g02 gr in
-      let g05 = grows_filled b0 b4 n (jump j) r g04 sn4 (omega arith) (omega arith) in
-      let nm : m ≡ n → ⊥ = λ d. omega arith in
+      let g05 = grows_filled b0 b4 n (jump j) r g04 sn4 hx.late (short j) in
+      let nm : m ≡ n → ⊥ = above n (length b1.blocks) m wn hy.late in
       let b5 = filled b4 n (jump j) in
       let sm5 = spare_filled b4 n m (jump j) sm4 nm in
-      let sj5 = spare_filled b4 n (length b2.blocks) (jump j) sj4 (λ d. omega arith) in
+      let sj5 = spare_filled b4 n (length b2.blocks) (jump j) sj4 (above n (length b1.blocks) (length b2.blocks) wn l2) in
       let b6 = filled b5 m (jump j) in
-      let g06 = grows_filled b0 b5 m (jump j) r g05 sm5 (omega arith) (omega arith) in
-      let sj6 = spare_filled b5 m (length b2.blocks) (jump j) sj5 (λ d. omega arith) in
+      let g06 = grows_filled b0 b5 m (jump j) r g05 sm5 (up_to (length b0.blocks) (length b1.blocks) m l1 hy.late) (short j) in
+      let sj6 = spare_filled b5 m (length b2.blocks) (jump j) sj5 (not_same m (length b2.blocks) wm) in
       let at_current : b3.current ≡ b2.current = ap (λ z. z.current) e.1 in
       record {
         grows = subst (Grows b0) (sym e.1) g06;
         spare = subst (λ z. Spare z j) (sym e.1) (subst (Spare b6) (sym jl) sj6);
-        late = omega arith;
-        moved = omega arith;
+        late = to_next (length b0.blocks) (length b2.blocks) j (up_to (length b0.blocks) (length b1.blocks) (length b2.blocks) l1 l2) jl;
+        moved = to_next (length b0.blocks) b2.current b3.current (up_to (length b0.blocks) (length b1.blocks) b2.current l1 hy.moved) at_current;
         empty = ap (λ z. z.ops) e.1 ∙ hy.empty;
         code = λ is B one two f0 w0 at.
             let f6 : Finishes B b6 = subst (Finishes B) e.1 f0 in
@@ -445,16 +481,16 @@ module _ (words : List ℕ) where
       let ey2 = subst (λ z. Ready z → EmitsTest words y m z b3) c2 ey in
       let hy = ey2 r2 in
       let w = joined b0 b1 b1 b3 n r hx.grows hx.grows.ready (grows_self b1 hx.grows.ready) hx.spare hx.late (λ q. (ey2 q).grows) in
-      let l1 = hx.grows.longer in let l2 = hy.late in let v1 = hx.grows.values in
+      let l1 = hx.grows.longer in let v1 = hx.grows.values in
       let wn = slice_get_within b1.blocks n None hx.spare.free in
       let lr : length b2c.blocks ≡ length b1.blocks + 1 = set_length (reserved b1).blocks b1.current (Some (record { ops = b1.ops; exit = Goto jj })) ∙ length_more b1.blocks None in
-      let mj : m ≡ jj → ⊥ = λ d. omega arith in
+      let mj : m ≡ jj → ⊥ = behind jj (length b2c.blocks) m lr hy.late in
       let at_current : b4.current ≡ jj = ap (λ z. z.current) c4 in
       record {
         grows = subst (Grows b0) (sym c4) w.grows;
         spare = subst (λ z. Spare z m) (sym c4) (spare_closed b3 (Goto jj) jj m hy.spare mj);
-        late = omega arith;
-        moved = omega arith;
+        late = past_one (length b0.blocks) jj (length b2c.blocks) m l1 lr hy.late;
+        moved = to_next (length b0.blocks) jj b4.current l1 at_current;
         empty = ap (λ z. z.ops) c4;
         code = λ is B one two f0 o0 at.
             let f = subst (Finishes B) c4 f0 in
@@ -531,7 +567,7 @@ module _ (words : List ℕ) where
       let sp = spare_reserved b2 a.grows.ready in
       let g03 = grows_on b0 b1 (reserved b2) r hx.grows (grows_on b1 b2 (reserved b2) hx.grows.ready a.grows gr) in
       let l1 = hx.grows.longer in let l2 = a.grows.longer in let v1 = hx.grows.values in
-      let g4 = grows_closed b0 (reserved b2) (Call f os (Some t) nn) nn r g03 sp.free sp.apart (omega arith) in
+      let g4 = grows_closed b0 (reserved b2) (Call f os (Some t) nn) nn r g03 sp.free sp.apart (up_to (length b0.blocks) (length b1.blocks) (length b2.blocks) l1 l2) in
       let same_banks : length b4.banks ≡ length b2.banks = ap (λ z. length z.banks) c4 in
       record {
         grows = subst (Grows b0) (sym c4) g4;

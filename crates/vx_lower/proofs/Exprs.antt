@@ -55,6 +55,23 @@ not_chooses v x y = sym (differs_chooses v y x) ∙ not_cond (compare_of Eq v (p
 range_rest : (x : ℤ) (xs : List ℤ) (σ : Store) → σ.input ≡ x ∷ xs → InRange σ → InRange (record σ { input = xs })
 range_rest x xs σ e r = record { scalars = r.scalars; words = r.words; input = λ n i. r.input n (subst (λ l. IsIn n l) (sym e) (inr i)) }
 
+-- numbers of values
+
+up_to : (a b c : ℕ) → a ≤ b → b ≤ c → a ≤ c
+up_to a b c p q = omega arith
+
+sooner : (v lo mid : ℕ) → v < lo → lo ≤ mid → v < mid
+sooner v lo mid b le = omega arith
+
+none_few : 0 < 2 ^ 29
+none_few = omega arith
+
+one_few : 1 < 2 ^ 29
+one_few = omega arith
+
+none_in_one : 0 < 1
+none_in_one = omega arith
+
 module _ (P : Program) (h : Here) (B : List Block) (has : HasBlocks P h B) (tree : TreeProgram) (kept : ℕ → Type 0) (shapes words : List ℕ) (n : ℕ) (calls : Calls) (meets : CallsMeet P h B has tree kept shapes words n calls) (fitting : Fitting P h tree shapes words) where
   abbrev Wanted : Scope → Block → State → ℕ → (k : Shape) → Way k → Result k → Store → Type 0
   Wanted sc p s lo k w v σ = Good P h B has tree kept shapes words n sc p s lo k w v σ
@@ -80,21 +97,21 @@ module _ (P : Program) (h : Here) (B : List Block) (has : HasBlocks P h B) (tree
     comes = subst (λ b. Comes P h p s b x.to) (alike one two) (comes_on P h c (comes_on P h x.comes (comes_goes P h B has (unless_zero v one two) (unless_zero v yb nb) x.to (either_goes v one two yb nb gy gn))));
     passes = passes_on P h c x.passes;
     tied = x.tied;
-    keeps = λ z l. x.keeps z (omega arith) ∙ k z l;
+    keeps = λ z l. x.keeps z (sooner z lo mid l le) ∙ k z l;
   }
 
   -- a number that landed behind a state that was reached
   farther : (sc : Scope) (p m : Block) (s u : State) (t : ℕ) (q : Block) (lo mid : ℕ) (v : ℤ) (σ : Store) → Comes P h p s m u → Keeps lo s u → lo ≤ mid → InValue sc m u t q mid v σ → InValue sc p s t q lo v σ
-  farther sc p m s u t q lo mid v σ c k le x = record { to = x.to; comes = comes_on P h c x.comes; tied = x.tied; keeps = λ z l. x.keeps z (omega arith) ∙ k z l; number = x.number }
+  farther sc p m s u t q lo mid v σ c k le x = record { to = x.to; comes = comes_on P h c x.comes; tied = x.tied; keeps = λ z l. x.keeps z (sooner z lo mid l le) ∙ k z l; number = x.number }
 
   pub expr_runs : (sc : Scope) {k : Shape} {e : Tree k} {p : Block} {w : Way k} {lo : ℕ} → Holds B words k e p w lo → suits tree sc e ≡ true → Above sc lo → (σ : Store) (s : State) → Tie sc σ s → Gives P h n p s (Wanted sc p s lo k w) (value (setting_of P h.base).spot calls e σ)
   expr_runs sc (literal {z = z} {p = p}) fit above σ s tied = record { to = s; comes = comes_self P h p s; tied = tied; holds = refl; keeps = λ u l. refl; number = literal_fits z fit }
   expr_runs sc (local {x = x} {p = p}) fit above σ s tied = record { to = s; comes = comes_self P h p s; tied = tied; holds = ap (λ o. o ∷ []) (tied.scalars x fit); keeps = λ u l. refl; number = tied.ranges.scalars x }
   expr_runs sc (global {a = a} {u = u} {lo = lo} {p = p} {q = q} {w = w} g l) fit above σ s tied =
       let size = fitting.one_word a fit in
-      let z : (pos 0) ≡ product_of (pos 4) (pos 0) = sym (four_times 0 (omega arith)) in
+      let z : (pos 0) ≡ product_of (pos 4) (pos 0) = sym (four_times 0 none_few) in
       settle P h B has tree kept shapes words n sc p s u q lo w above l (word_at σ ((setting_of P h.base).spot a) 0) σ
-      (land P h B has tree kept shapes words n sc (Load u a (Number (pos 0)) false) lo u (word_at σ ((setting_of P h.base).spot a) 0) σ p p q s s s (comes_self P h p s) g (loads (setting_of P h.base) u a 0 1 (Number (pos 0)) σ s (omega arith) (omega arith) (words_of_row P.globals (setting_of P h.base).spot kept shapes sc σ s ((setting_of P h.base).spot a) tied ∙ fitting.same a ∙ size) (tied.own a (inl (fitting.is_global a fit))) (ap Some z)) tied (λ v b. refl) (tied.ranges.words ((setting_of P h.base).spot a) 0))
+      (land P h B has tree kept shapes words n sc (Load u a (Number (pos 0)) false) lo u (word_at σ ((setting_of P h.base).spot a) 0) σ p p q s s s (comes_self P h p s) g (loads (setting_of P h.base) u a 0 1 (Number (pos 0)) σ s one_few none_in_one (words_of_row P.globals (setting_of P h.base).spot kept shapes sc σ s ((setting_of P h.base).spot a) tied ∙ fitting.same a ∙ size) (tied.own a (inl (fitting.is_global a fit))) (ap Some z)) tied (λ v b. refl) (tied.ranges.words ((setting_of P h.base).spot a) 0))
   expr_runs sc (element {a = a} {t = t} {u = u} {lo = lo} {i = i} {o = o} {p = p} {m = m} {y = y} {q = q} {w = w} hi x g l) fit above σ s tied =
       bind P h n p p s s (Wanted sc p s lo One (To (o ∷ []) m)) (Wanted sc p s lo One w) _ (comes_self P h p s) (value (setting_of P h.base).spot calls i σ) (expr_runs sc hi (and_two (names_array tree sc a) (suits tree sc i) fit) above σ s tied) (λ v σ1 g1.
       checks P h B has tree kept shapes words n fitting sc lo a t o v σ1 p m y s g1.to (Wanted sc p s lo One w) (λ j. With (word_at σ1 ((setting_of P h.base).spot a) j) σ1) above x (ap head_of g1.holds) g1.number g1.tied g1.comes (λ j below z c tz kz at.
@@ -108,9 +125,9 @@ module _ (P : Program) (h : Here) (B : List Block) (has : HasBlocks P h B) (tree
   expr_runs sc (binary {operator = operator} {a = a} {b = b} {oa = oa} {ob = ob} {p = p} {m = m} {n = z} {q = q} {w = w} {t = t} {lo = lo} {mid = mid} {at = at} ha le ba hb le2 bb g l) fit above σ s tied =
       bind P h n p p s s (Wanted sc p s lo One (To (oa ∷ []) m)) (Wanted sc p s lo One w) _ (comes_self P h p s) (value (setting_of P h.base).spot calls a σ) (expr_runs sc ha (and_one (suits tree sc a) (suits tree sc b) fit) above σ s tied) (λ x σ1 g1.
       bind P h n p m s g1.to (Wanted sc m g1.to mid One (To (ob ∷ []) z)) (Wanted sc p s lo One w) _ g1.comes (value (setting_of P h.base).spot calls b σ1) (expr_runs sc hb (and_two (suits tree sc a) (suits tree sc b) fit) (above_on sc lo mid le above) σ1 g1.to g1.tied) (λ y σ2 g2.
-      let far : lo ≤ at = omega arith in
+      let far = up_to lo mid at le le2 in
       settled sc p s t q lo w above l (combined operator x y σ2)
-      (combines P h B has tree kept shapes words n sc lo at g far above (below_on mid at oa le2 ba) bb x y σ2 p s g2.to (comes_on P h g1.comes g2.comes) (held_kept mid g1.to g2.to oa g2.keeps ba ∙ ap head_of g1.holds) (ap head_of g2.holds) g1.number g2.number g2.tied (λ v b. g2.keeps v (omega arith) ∙ g1.keeps v b))))
+      (combines P h B has tree kept shapes words n sc lo at g far above (below_on mid at oa le2 ba) bb x y σ2 p s g2.to (comes_on P h g1.comes g2.comes) (held_kept mid g1.to g2.to oa g2.keeps ba ∙ ap head_of g1.holds) (ap head_of g2.holds) g1.number g2.number g2.tied (λ v b. g2.keeps v (sooner v lo mid b le) ∙ g1.keeps v b))))
   expr_runs sc (both {a = a} {b = b} {ob = ob} {p = p} {y = y} {no = nb} {z = z} {end = end} {last = last} {q = q} {w = w} {t = t} {lo = lo} {mid = mid} ha le hb ge gq gn gl l) fit above σ s tied =
       bind P h n p p s s (Wanted sc p s lo One (Tested y nb)) (Wanted sc p s lo One w) _ (comes_self P h p s) (value (setting_of P h.base).spot calls a σ) (expr_runs sc ha (and_one (suits tree sc a) (suits tree sc b) fit) above σ s tied) (λ x σ1 g1.
       choose P h B has tree kept shapes words n x (and_then (value (setting_of P h.base).spot calls b σ1) (λ v σ2. With (unless_zero v (pos 1) (pos 0)) σ2)) (With (pos 0) σ1) p y nb s g1.to (Wanted sc p s lo One w) g1.comes
@@ -119,13 +136,13 @@ module _ (P : Program) (h : Here) (B : List Block) (has : HasBlocks P h B) (tree
       (λ came. settle P h B has tree kept shapes words n sc p s t q lo w above l (pos 0) σ1 (moved P h B has tree kept shapes words n (land P h B has tree kept shapes words n sc (Compute Mov t (Number (pos 0)) (Number (pos 0))) lo t (pos 0) σ1 p nb last s g1.to g1.to came gn refl g1.tied g1.keeps zero_fits) gl)))
     where
       flag_lands : (sc : Scope) (lo mid t : ℕ) (ob : Operand) (v : ℤ) (σ2 : Store) (p z y q end : Block) (s u1 u2 : State) → lo ≤ mid → Comes P h p s z u2 → Goes B (then_op (Compute (ToGeneral Ne) t ob (Number (pos 0))) end) z → Goes B q end → held u2 ob ≡ Some v → Tie sc σ2 u2 → Keeps mid u1 u2 → Keeps lo s u1 → InValue sc p s t q lo (unless_zero v (pos 1) (pos 0)) σ2
-      flag_lands sc lo mid t ob v σ2 p z y q end s u1 u2 le c ge gq e tied k2 k1 = moved P h B has tree kept shapes words n (land P h B has tree kept shapes words n sc (Compute (ToGeneral Ne) t ob (Number (pos 0))) lo t (unless_zero v (pos 1) (pos 0)) σ2 p z end s u2 u2 c ge (computes (setting_of P h.base) (ToGeneral Ne) t ob (Number (pos 0)) u2 v (pos 0) e refl ∙ ap (λ r. Some (with_value u2 t (Some r))) (differs_is v)) tied (λ x b. k2 x (omega arith) ∙ k1 x b) (flag_fits v)) gq
+      flag_lands sc lo mid t ob v σ2 p z y q end s u1 u2 le c ge gq e tied k2 k1 = moved P h B has tree kept shapes words n (land P h B has tree kept shapes words n sc (Compute (ToGeneral Ne) t ob (Number (pos 0))) lo t (unless_zero v (pos 1) (pos 0)) σ2 p z end s u2 u2 c ge (computes (setting_of P h.base) (ToGeneral Ne) t ob (Number (pos 0)) u2 v (pos 0) e refl ∙ ap (λ r. Some (with_value u2 t (Some r))) (differs_is v)) tied (λ x b. k2 x (sooner x lo mid b le) ∙ k1 x b) (flag_fits v)) gq
   expr_runs sc (either {a = a} {b = b} {ob = ob} {p = p} {yes = yb} {n = nb} {z = z} {end = end} {last = last} {q = q} {w = w} {t = t} {lo = lo} {mid = mid} ha le hb ge gq gn gl l) fit above σ s tied =
       bind P h n p p s s (Wanted sc p s lo One (Tested yb nb)) (Wanted sc p s lo One w) _ (comes_self P h p s) (value (setting_of P h.base).spot calls a σ) (expr_runs sc ha (and_one (suits tree sc a) (suits tree sc b) fit) above σ s tied) (λ x σ1 g1.
       choose P h B has tree kept shapes words n x (With (pos 1) σ1) (and_then (value (setting_of P h.base).spot calls b σ1) (λ v σ2. With (unless_zero v (pos 1) (pos 0)) σ2)) p yb nb s g1.to (Wanted sc p s lo One w) g1.comes
       (λ came. settle P h B has tree kept shapes words n sc p s t q lo w above l (pos 1) σ1 (moved P h B has tree kept shapes words n (land P h B has tree kept shapes words n sc (Compute Mov t (Number (pos 1)) (Number (pos 0))) lo t (pos 1) σ1 p yb last s g1.to g1.to came gn refl g1.tied g1.keeps one_fits) gl))
       (λ came. bind P h n p nb s g1.to (Wanted sc nb g1.to mid One (To (ob ∷ []) z)) (Wanted sc p s lo One w) _ came (value (setting_of P h.base).spot calls b σ1) (expr_runs sc hb (and_two (suits tree sc a) (suits tree sc b) fit) (above_on sc lo mid le above) σ1 g1.to g1.tied) (λ v σ2 g2.
-      settle P h B has tree kept shapes words n sc p s t q lo w above l (unless_zero v (pos 1) (pos 0)) σ2 (moved P h B has tree kept shapes words n (land P h B has tree kept shapes words n sc (Compute (ToGeneral Ne) t ob (Number (pos 0))) lo t (unless_zero v (pos 1) (pos 0)) σ2 p z end s g2.to g2.to (comes_on P h came g2.comes) ge (computes (setting_of P h.base) (ToGeneral Ne) t ob (Number (pos 0)) g2.to v (pos 0) (ap head_of g2.holds) refl ∙ ap (λ r. Some (with_value g2.to t (Some r))) (differs_is v)) g2.tied (λ x b. g2.keeps x (omega arith) ∙ g1.keeps x b) (flag_fits v)) gq))))
+      settle P h B has tree kept shapes words n sc p s t q lo w above l (unless_zero v (pos 1) (pos 0)) σ2 (moved P h B has tree kept shapes words n (land P h B has tree kept shapes words n sc (Compute (ToGeneral Ne) t ob (Number (pos 0))) lo t (unless_zero v (pos 1) (pos 0)) σ2 p z end s g2.to g2.to (comes_on P h came g2.comes) ge (computes (setting_of P h.base) (ToGeneral Ne) t ob (Number (pos 0)) g2.to v (pos 0) (ap head_of g2.holds) refl ∙ ap (λ r. Some (with_value g2.to t (Some r))) (differs_is v)) g2.tied (λ x b. g2.keeps x (sooner x lo mid b le) ∙ g1.keeps x b) (flag_fits v)) gq))))
   expr_runs sc (choice {c = c} {a = a} {b = b} {p = p} {y = y} {n = z} {ya = ya} {nb = nb} {q = q} {w = w} {t = t} {lo = lo} {mid = mid} {next = next} hc le ha ga le2 hb gb l) fit above σ s tied =
       let fit2 = and_two (suits tree sc c) (suits tree sc a && suits tree sc b) fit in
       bind P h n p p s s (Wanted sc p s lo One (Tested y z)) (Wanted sc p s lo One w) _ (comes_self P h p s) (value (setting_of P h.base).spot calls c σ) (expr_runs sc hc (and_one (suits tree sc c) (suits tree sc a && suits tree sc b) fit) above σ s tied) (λ x σ1 g1.
@@ -188,7 +205,7 @@ module _ (P : Program) (h : Here) (B : List Block) (has : HasBlocks P h B) (tree
       bind P h n p p s s (Wanted sc p s lo One (To (oa ∷ []) m)) (Wanted sc p s lo One (Tested yb nb)) _ (comes_self P h p s) (value (setting_of P h.base).spot calls a σ) (expr_runs sc ha (and_one (suits tree sc a) (suits tree sc b) fit) above σ s tied) (λ x σ1 g1.
       bind P h n p m s g1.to (Wanted sc m g1.to mid One (To (ob ∷ []) z)) (Wanted sc p s lo One (Tested yb nb)) _ g1.comes (value (setting_of P h.base).spot calls b σ1) (expr_runs sc hb (and_two (suits tree sc a) (suits tree sc b) fit) (above_on sc lo mid le above) σ1 g1.to g1.tied) (λ y σ2 g2.
       subst (λ o. Gives P h n p s (Wanted sc p s lo One (Tested yb nb)) o) (sym (comparison_value operator compare x y σ2 is))
-      (tests_two P h B has tree kept shapes words n sc compare lo c oa ob x y σ2 p z yb nb s g2.to above lc tests (held_kept mid g1.to g2.to oa g2.keeps ba ∙ ap head_of g1.holds) (ap head_of g2.holds) (comes_on P h g1.comes g2.comes) g2.tied (λ v b. g2.keeps v (omega arith) ∙ g1.keeps v b))))
+      (tests_two P h B has tree kept shapes words n sc compare lo c oa ob x y σ2 p z yb nb s g2.to above lc tests (held_kept mid g1.to g2.to oa g2.keeps ba ∙ ap head_of g1.holds) (ap head_of g2.holds) (comes_on P h g1.comes g2.comes) g2.tied (λ v b. g2.keeps v (sooner v lo mid b le) ∙ g1.keeps v b))))
   expr_runs sc (turned {a = a} {p = p} {yes = yb} {no = nb} {lo = lo} x) fit above σ s tied =
       bind P h n p p s s (Wanted sc p s lo One (Tested nb yb)) (Wanted sc p s lo One (Tested yb nb)) _ (comes_self P h p s) (value (setting_of P h.base).spot calls a σ) (expr_runs sc x fit above σ s tied) (λ v σ1 g1. record {
         to = g1.to;
@@ -217,7 +234,7 @@ module _ (P : Program) (h : Here) (B : List Block) (has : HasBlocks P h B) (tree
         comes = comes_on P h g1.comes g2.comes;
         tied = g2.tied;
         holds = ap (λ r. r ∷ map (held g2.to) os) (held_kept mid g1.to g2.to o g2.keeps ba ∙ ap head_of g1.holds) ∙ ap (λ r. Some x ∷ r) g2.holds;
-        keeps = λ u l. g2.keeps u (omega arith) ∙ g1.keeps u l;
+        keeps = λ u l. g2.keeps u (sooner u lo mid l le) ∙ g1.keeps u l;
         number = in_row x xs g1.number g2.number;
       }))
     where

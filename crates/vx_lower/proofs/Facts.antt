@@ -28,15 +28,15 @@ all_at p (y ∷ ys) (suc i) x h e = all_at p ys i x (and_two (p y) (list_all p y
 
 -- limits
 
-none_is : (o : Option Over) → is_none o ≡ true → o ≡ None
+pub none_is : (o : Option Over) → is_none o ≡ true → o ≡ None
 none_is None e = refl
 none_is (Some o) e = absurd (cc)
 
-or_one : (a b : Option Over) → or_else a b ≡ None → a ≡ None
+pub or_one : (a b : Option Over) → or_else a b ≡ None → a ≡ None
 or_one None b e = refl
 or_one (Some o) b e = e
 
-or_two : (a b : Option Over) → or_else a b ≡ None → b ≡ None
+pub or_two : (a b : Option Over) → or_else a b ≡ None → b ≡ None
 or_two None b e = e
 or_two (Some o) b e = absurd (cc)
 

@@ -36,6 +36,29 @@ plain_well_as a b x y e f = subst (λ z. PlainWell z a b) e f
 pub statement_well_as : (leaves again : Option ℕ) (a b : Builder) (s t : List (List ℕ)) (x y : Code) → x ≡ y → StatementWell x leaves again a b s t → StatementWell y leaves again a b s t
 statement_well_as leaves again a b s t x y e f = subst (λ z. StatementWell z leaves again a b s t) e f
 
+-- how many values
+
+more_generals : (g1 g2 s1 s2 s n1 n2 n : ℕ) → g1 + s1 ≤ 3 * n1 → g2 + s2 ≤ 3 * n2 → s ≡ s1 + s2 → n ≡ n1 + n2 → g1 + g2 + s ≤ 3 * n
+more_generals g1 g2 s1 s2 s n1 n2 n p q e f = omega arith
+
+more_branches : (h1 h2 n1 n2 n : ℕ) → h1 ≤ 2 * n1 → h2 ≤ 2 * n2 → n ≡ n1 + n2 → h1 + h2 ≤ 2 * n
+more_branches h1 h2 n1 n2 n p q f = omega arith
+
+if_generals : (g1 g2 s n1 n2 : ℕ) → suc g1 ≤ 3 * n1 → g2 + s ≤ 3 * n2 → g1 + g2 + 0 + s ≤ 3 * (1 + n1 + n2)
+if_generals g1 g2 s n1 n2 p q = omega arith
+
+if_branches : (h1 h2 n1 n2 : ℕ) → h1 ≤ 2 * n1 → h2 ≤ 2 * n2 → h1 + h2 + 0 ≤ 2 * (1 + n1 + n2)
+if_branches h1 h2 n1 n2 p q = omega arith
+
+else_generals : (g1 g2 g3 s2 s3 s n1 n2 n3 : ℕ) → suc g1 ≤ 3 * n1 → g2 + s2 ≤ 3 * n2 → g3 + s3 ≤ 3 * n3 → s ≡ s2 + s3 → g1 + g2 + g3 + s ≤ 3 * (1 + n1 + n2 + n3)
+else_generals g1 g2 g3 s2 s3 s n1 n2 n3 p1 p2 p3 e = omega arith
+
+else_branches : (h1 h2 h3 n1 n2 n3 : ℕ) → h1 ≤ 2 * n1 → h2 ≤ 2 * n2 → h3 ≤ 2 * n3 → h1 + h2 + h3 ≤ 2 * (1 + n1 + n2 + n3)
+else_branches h1 h2 h3 n1 n2 n3 q1 q2 q3 = omega arith
+
+up_to : (a b c : ℕ) → a ≤ b → b ≤ c → a ≤ c
+up_to a b c p q = omega arith
+
 -- blocks that others lead to
 
 -- a block is entered
@@ -191,9 +214,9 @@ clears_array_well a i h c n size b0 b1 b2 b3 b4 b5 b6 pi eh ec pc cw e6 k texts 
     let hi = y.keeps.kept i Scalar x.has in
     let f = forked pc y.keeps.shaped (y.has, hi, tt) y.has in
     let w = cw k texts y.later f.keeps.shaped is hi in
-    let l1 = x.keeps.longer in let l2 = e.keeps.longer in let l3 = y.keeps.longer in let l4 = f.late in
+    let before = keeps_on x.keeps (keeps_on e.keeps y.keeps) in
     let free = w.keeps.free h (f.keeps.free h (y.keeps.free h e.free)) in
-    let all = turned_well h n b0 b5 b6 e6 (keeps_on x.keeps (keeps_on e.keeps (keeps_on y.keeps (keeps_on f.keeps w.keeps)))) (w.keeps.spare n f.waits) (omega arith) free in
+    let all = turned_well h n b0 b5 b6 e6 (keeps_on x.keeps (keeps_on e.keeps (keeps_on y.keeps (keeps_on f.keeps w.keeps)))) (w.keeps.spare n f.waits) (up_to (length b0.blocks) (length b3.blocks) n before.longer f.late) free in
     made_by (ClearArray a) all.keeps (omega arith) (omega arith)
 
 items_nodes : (xs : List Item) (x : Item) → code_nodes (items_of (xs ++ x ∷ [])) ≡ code_nodes (items_of xs) + code_nodes (item_of x)
@@ -213,9 +236,9 @@ plain_more_well xs x b0 b1 b2 f g k texts roles s is =
     let n = items_named k xs x is in
     let u = f k texts roles s n.0 in
     let v = g k texts u.later u.keeps.shaped n.1 in
-    let nodes = items_nodes xs x in let scalars = items_scalars xs x in
-    let p1 = u.few_generals in let q1 = u.few_branches in let p2 = v.few_generals in let q2 = v.few_branches in
-    made_by (items_of (xs ++ x ∷ [])) (keeps_on u.keeps v.keeps) (omega arith) (omega arith)
+    let n1 = code_nodes (items_of xs) in let n2 = code_nodes (item_of x) in let all = code_nodes (items_of (xs ++ x ∷ [])) in
+    made_by (items_of (xs ++ x ∷ [])) (keeps_on u.keeps v.keeps) (more_generals u.generals v.generals (length (scalars_of (items_of xs))) (length (scalars_of (item_of x))) (length (scalars_of (items_of (xs ++ x ∷ [])))) n1 n2 all u.few_generals v.few_generals (items_scalars xs x) (items_nodes xs x))
+    (more_branches u.branches v.branches n1 n2 all u.few_branches v.few_branches (items_nodes xs x))
 
 -- tests of loops
 
@@ -269,9 +292,8 @@ if_well leaves again n j e x b0 b1 b2 b3 b4 t0 t1 et ex ej e4 k roles s is wl wa
     let y = ex k t.later t.keeps.shaped is.1 (way_on leaves t.keeps wl) (way_on again t.keeps wa) in
     let w = halfway n (keeps_on t.keeps y.keeps) (y.keeps.spare n t.waits) t.late in
     let all = joined_well w (keeps_self w.keeps.shaped) in
-    let p1 = t.few_generals in let q1 = t.few_branches in let p2 = y.few_generals in let q2 = y.few_branches in
-    let nodes : code_nodes (If e x) ≡ 1 + nodes_of e + code_nodes x = refl in let m : length (scalars_of (If e x)) ≡ length (scalars_of x) = refl in
-    subst (MadeBy k (length t1) roles (If e x) b0) (sym c4) (made_by (If e x) all (omega arith) (omega arith))
+    subst (MadeBy k (length t1) roles (If e x) b0) (sym c4)
+    (made_by (If e x) all (if_generals t.generals y.generals (length (scalars_of x)) (nodes_of e) (code_nodes x) t.few_generals y.few_generals) (if_branches t.branches y.branches (nodes_of e) (code_nodes x) t.few_branches y.few_branches))
 
 pub if_else_well : (leaves again : Option ℕ) (n j : ℕ) (e : Tree One) (x y : Code) (b0 b1 b2 b3 b4 b5 : Builder) (t0 t1 t2 : List (List ℕ)) → TestsWell e n b0 b1 → StatementWell x leaves again b1 b2 t0 t1 → (j ≡ length b2.blocks) × (b3 ≡ closed (reserved b2) (Goto j) n) → StatementWell y leaves again b3 b4 t1 t2 → b5 ≡ closed b4 (Goto j) j → StatementWell (IfElse e x y) leaves again b0 b5 t0 t2
 if_else_well leaves again n j e x y b0 b1 b2 b3 b4 b5 t0 t1 t2 et ex ej ey e5 k roles s is wl wa =
@@ -284,7 +306,7 @@ if_else_well leaves again n j e x y b0 b1 b2 b3 b4 b5 t0 t1 t2 et ex ej ey e5 k 
     let ey3 = subst (λ z. StatementWell y leaves again z b4 t1 t2) c3 ey in
     let v = ey3 k u.later w.keeps.shaped is.2 (way_on leaves w.keeps wl) (way_on again w.keeps wa) in
     let all = joined_well w v.keeps in
-    let p1 = t.few_generals in let q1 = t.few_branches in let p2 = u.few_generals in let q2 = u.few_branches in let p3 = v.few_generals in let q3 = v.few_branches in
-    let nodes : code_nodes (IfElse e x y) ≡ 1 + nodes_of e + code_nodes x + code_nodes y = refl in
     let m : length (scalars_of (IfElse e x y)) ≡ length (scalars_of x) + length (scalars_of y) = length-append (scalars_of x) (scalars_of y) in
-    subst (MadeBy k (length t2) roles (IfElse e x y) b0) (sym c5) (made_by (IfElse e x y) all (omega arith) (omega arith))
+    subst (MadeBy k (length t2) roles (IfElse e x y) b0) (sym c5) (made_by (IfElse e x y) all
+    (else_generals t.generals u.generals v.generals (length (scalars_of x)) (length (scalars_of y)) (length (scalars_of (IfElse e x y))) (nodes_of e) (code_nodes x) (code_nodes y) t.few_generals u.few_generals v.few_generals m)
+    (else_branches t.branches u.branches v.branches (nodes_of e) (code_nodes x) (code_nodes y) t.few_branches u.few_branches v.few_branches))

@@ -1,5 +1,5 @@
 -- The code of expressions keeps a graph well shaped.
-use Rattle.std.proofs.Common.{◌≡◌, ℕ, suc, ◌+◌, ◌*◌, ◌≤◌, pos, false, List, [], ◌∷◌, ◌++◌, length, Option, Some, None, refl, sym, ap, ◌∙◌, subst, inl, inr, arith}
+use Rattle.std.proofs.Common.{◌≡◌, ℕ, suc, ◌+◌, ◌*◌, ◌<◌, ◌≤◌, pos, false, List, [], ◌∷◌, ◌++◌, length, Option, Some, None, refl, sym, ap, ◌∙◌, subst, inl, inr, arith}
 use Rattle.std.proofs.lemmas.Option.{slice_get_within}
 use Rattle.vx_base.specs.declared.arithmetic.Code.TheVariants.{Mov, ToGeneral, ToBranch}
 use Rattle.vx_base.specs.declared.arithmetic.Compare.{Compare}
@@ -33,6 +33,43 @@ use Rattle.vx_lower.proofs.FittingPieces.{dest_on}
 
 gives : {k : Known} {texts : ℕ} {roles later : List Role} {g h : ℕ} {a b : Builder} (nodes : ℕ) (o : Operand) → Keeps k texts roles later g h a b → OperandFits later o → suc g ≤ 3 * nodes → suc h ≤ 2 * nodes → Gives k texts roles nodes o a b
 gives {later = later} {g = g} {h = h} nodes o x f p q = record { later = later; generals = g; branches = h; keeps = x; operand = f; few_generals = p; few_branches = q }
+
+-- places of blocks
+
+up_to : (a b c : ℕ) → a ≤ b → b ≤ c → a ≤ c
+up_to a b c p q = omega arith
+
+above : (n l m : ℕ) → n < l → l ≤ m → m ≡ n → ⊥
+above n l m p q d = omega arith
+
+not_same : (m j : ℕ) → m < j → j ≡ m → ⊥
+not_same m j p d = omega arith
+
+behind : (j l m : ℕ) → l ≡ j + 1 → l ≤ m → m ≡ j → ⊥
+behind j l m e q d = omega arith
+
+-- how many values
+
+one_generals : (g n : ℕ) → suc g ≤ 3 * n → suc (g + 0) ≤ 3 * n
+one_generals g n p = omega arith
+
+one_branches : (h n : ℕ) → suc h ≤ 2 * n → h + 1 ≤ 2 * n
+one_branches h n q = omega arith
+
+two_generals : (g1 g2 n1 n2 : ℕ) → suc g1 ≤ 3 * n1 → suc g2 ≤ 3 * n2 → suc (g1 + (g2 + 0)) ≤ 3 * (1 + n1 + n2)
+two_generals g1 g2 n1 n2 p q = omega arith
+
+compared_branches : (h1 h2 n1 n2 : ℕ) → suc h1 ≤ 2 * n1 → suc h2 ≤ 2 * n2 → h1 + (h2 + 1) ≤ 2 * (1 + n1 + n2)
+compared_branches h1 h2 n1 n2 p q = omega arith
+
+two_branches : (h1 h2 n1 n2 : ℕ) → h1 ≤ 2 * n1 → h2 ≤ 2 * n2 → h1 + (h2 + 0) ≤ 2 * (1 + n1 + n2)
+two_branches h1 h2 n1 n2 p q = omega arith
+
+joined_generals : (g1 g2 n1 n2 : ℕ) → suc g1 ≤ 3 * n1 → suc g2 ≤ 3 * n2 → suc (g1 + g2) ≤ 3 * (1 + n1 + n2)
+joined_generals g1 g2 n1 n2 p q = omega arith
+
+joined_branches : (h1 h2 n1 n2 : ℕ) → h1 ≤ 2 * n1 → h2 ≤ 2 * n2 → h1 + h2 ≤ 2 * (1 + n1 + n2)
+joined_branches h1 h2 n1 n2 p q = omega arith
 
 -- two arms: where the first one ends, and the second one is open
 
@@ -208,17 +245,17 @@ pub value_tested : (n : ℕ) (x : Tree One) (o : Operand) (b0 b1 b2 : Builder) �
 value_tested n x o b0 b1 b2 ex c k texts roles s is =
     let hx = ex k texts roles s is tt in
     let t = compares c hx.keeps.shaped hx.operand tt in
-    let p = hx.few_generals in let q = hx.few_branches in let l1 = hx.keeps.longer in let l2 = t.late in let l3 = t.moved in
-    asks (nodes_of x) n (keeps_on hx.keeps t.keeps) t.waits (omega arith) (omega arith) (omega arith) (omega arith)
+    asks (nodes_of x) n (keeps_on hx.keeps t.keeps) t.waits (up_to (length b0.blocks) (length b1.blocks) n hx.keeps.longer t.late) (up_to (length b0.blocks) (length b1.blocks) b2.current hx.keeps.longer t.moved)
+    (one_generals hx.generals (nodes_of x) hx.few_generals) (one_branches hx.branches (nodes_of x) hx.few_branches)
 
 pub compare_tested : (operator : BinaryOperator) (compare : Compare) (n : ℕ) (x y : Tree One) (ox oy : Operand) (b0 b1 b2 b3 : Builder) → EmitsWell x None ox b0 b1 → EmitsWell y None oy b1 b2 → Compared compare ox oy n b2 b3 → TestsWell (Binary operator x y) n b0 b3
 compare_tested operator compare n x y ox oy b0 b1 b2 b3 ex ey c k texts roles s is =
     let hx = ex k texts roles s is.0 tt in
     let hy = ey k texts hx.later hx.keeps.shaped is.1 tt in
     let t = compares c hy.keeps.shaped (operand_on hx.later hy.later hy.keeps.kept ox hx.operand) hy.operand in
-    let p1 = hx.few_generals in let q1 = hx.few_branches in let p2 = hy.few_generals in let q2 = hy.few_branches in
-    let l0 = hx.keeps.longer in let l1 = hy.keeps.longer in let l2 = t.late in let l3 = t.moved in
-    asks (1 + nodes_of x + nodes_of y) n (keeps_on hx.keeps (keeps_on hy.keeps t.keeps)) t.waits (omega arith) (omega arith) (omega arith) (omega arith)
+    let l = up_to (length b0.blocks) (length b1.blocks) (length b2.blocks) hx.keeps.longer hy.keeps.longer in
+    asks (1 + nodes_of x + nodes_of y) n (keeps_on hx.keeps (keeps_on hy.keeps t.keeps)) t.waits (up_to (length b0.blocks) (length b2.blocks) n l t.late) (up_to (length b0.blocks) (length b2.blocks) b3.current l t.moved)
+    (two_generals hx.generals hy.generals (nodes_of x) (nodes_of y) hx.few_generals hy.few_generals) (compared_branches hx.branches hy.branches (nodes_of x) (nodes_of y) hx.few_branches hy.few_branches)
 
 pub not_tested : (n y : ℕ) (x : Tree One) (b0 b1 b2 : Builder) → TestsWell x n b0 b1 → (y ≡ b1.current) × (b2 ≡ turned_to b1 n) → TestsWell (Unary Not x) y b0 b2
 not_tested n y x b0 b1 b2 ex e k texts roles s is =
@@ -243,18 +280,17 @@ both_asked n m j x y b0 b1 b2 b3 ex ey e k texts roles s is =
     let free = free_reserved hy.keeps.shaped in
     let wn = slice_get_within b1.blocks n None hx.waits.free in
     let wm = slice_get_within b2.blocks m None hy.waits.free in
-    let l1 = hx.keeps.longer in let l2 = hy.keeps.longer in let l3 = hx.late in let l4 = hy.late in let l5 = hy.moved in
     let b5 = filled b4 n (jump jj) in
-    let one = keeps_filled (Goto jj) n (keeps_on hx.keeps (keeps_on hy.keeps r)) sn (omega arith) free in
-    let sm5 = spare_filled b4 n m (jump jj) sm (λ d. omega arith) in
-    let sj5 = spare_filled b4 n jj (jump jj) sj (λ d. omega arith) in
+    let one = keeps_filled (Goto jj) n (keeps_on hx.keeps (keeps_on hy.keeps r)) sn hx.late free in
+    let sm5 = spare_filled b4 n m (jump jj) sm (above n (length b1.blocks) m wn hy.late) in
+    let sj5 = spare_filled b4 n jj (jump jj) sj (above n (length b1.blocks) jj wn hy.keeps.longer) in
     let free5 = free_filled b4 n (jump jj) jj (λ d. d) free in
-    let two = keeps_filled (Goto jj) m one sm5 (omega arith) free5 in
-    let sj6 = spare_filled b5 m jj (jump jj) sj5 (λ d. omega arith) in
-    let p1 = hx.few_generals in let q1 = hx.few_branches in let p2 = hy.few_generals in let q2 = hy.few_branches in
+    let two = keeps_filled (Goto jj) m one sm5 (up_to (length b0.blocks) (length b1.blocks) m hx.keeps.longer hy.late) free5 in
+    let sj6 = spare_filled b5 m jj (jump jj) sj5 (not_same m jj wm) in
     subst (λ z. Asks k texts roles (1 + nodes_of x + nodes_of y) z b0 b3) (sym e.0)
     (subst (Asks k texts roles (1 + nodes_of x + nodes_of y) jj b0) (sym c3)
-    (asks (1 + nodes_of x + nodes_of y) jj two sj6 (omega arith) (omega arith) (omega arith) (omega arith)))
+    (asks (1 + nodes_of x + nodes_of y) jj two sj6 (up_to (length b0.blocks) (length b1.blocks) jj hx.keeps.longer hy.keeps.longer) (up_to (length b0.blocks) (length b1.blocks) b2.current hx.keeps.longer hy.moved)
+    (two_generals hx.generals hy.generals (nodes_of x) (nodes_of y) hx.few_generals hy.few_generals) (two_branches hx.branches hy.branches (nodes_of x) (nodes_of y) hx.few_branches hy.few_branches)))
 
 pub either_asked : (n m j : ℕ) (x y : Tree One) (b0 b1 b2 b3 b4 : Builder) → TestsWell x n b0 b1 → (j ≡ length b1.blocks) × (b2 ≡ closed (reserved b1) (Goto j) n) → TestsWell y m b2 b3 → b4 ≡ closed b3 (Goto j) j → TestsWell (Either x y) m b0 b4
 either_asked n m j x y b0 b1 b2 b3 b4 ex ej ey e4 k texts roles s is =
@@ -267,11 +303,10 @@ either_asked n m j x y b0 b1 b2 b3 b4 ex ej ey e4 k texts roles s is =
     let ey2 = subst (λ z. TestsWell y m z b3) c2 ey in
     let hy = ey2 k texts hx.later w.keeps.shaped is.1 in
     let lr : length b2c.blocks ≡ length b1.blocks + 1 = set_length (reserved b1).blocks b1.current (Some (record { ops = b1.ops; exit = Goto jj })) ∙ length_more b1.blocks None in
-    let l1 = hx.keeps.longer in let l2 = hy.late in
-    let waits = spare_closed b3 (Goto jj) jj m hy.waits (λ d. omega arith) in
-    let p1 = hx.few_generals in let q1 = hx.few_branches in let p2 = hy.few_generals in let q2 = hy.few_branches in
+    let waits = spare_closed b3 (Goto jj) jj m hy.waits (behind jj (length b2c.blocks) m lr hy.late) in
     subst (Asks k texts roles (1 + nodes_of x + nodes_of y) m b0) (sym c4)
-    (asks (1 + nodes_of x + nodes_of y) m (joined_well w hy.keeps) waits (omega arith) (omega arith) (omega arith) (omega arith))
+    (asks (1 + nodes_of x + nodes_of y) m (joined_well w hy.keeps) waits (up_to (length b0.blocks) (length b2c.blocks) m w.keeps.longer hy.late) hx.keeps.longer
+    (joined_generals hx.generals hy.generals (nodes_of x) (nodes_of y) hx.few_generals hy.few_generals) (joined_branches hx.branches hy.branches (nodes_of x) (nodes_of y) hx.few_branches hy.few_branches))
 
 -- rows
 

@@ -1,23 +1,21 @@
 -- The graphs of an accepted program are sound and have the shape that the later layers ask for.
-use Rattle.std.proofs.Common.{◌≡◌, ℕ, ◌<◌, true, List, length, Option, Some, None, refl, sym, ap, ◌∙◌, subst, arith, eq-eqb}
+use Rattle.std.proofs.Common.{◌≡◌, ℕ, true, List, length, Option, Some, None, refl, sym, ap, ◌∙◌, subst, arith, eq-eqb}
 use Rattle.std.specs.Prelude.{slice_get, nat_eq}
 use Rattle.std.specs.Cmp.Derive.{both_true}
-use Rattle.std.proofs.lemmas.Bool.{lt-ltb, eqb-true}
+use Rattle.std.proofs.lemmas.Bool.{eqb-true}
 use Rattle.std.proofs.lemmas.Option.{slice_get_within}
 use Rattle.vx_ast.specs.declared.tree.Program.{Program as AProgram}
 use Rattle.vx_ast.specs.Tree.{Function, Program}
 use Rattle.vx_ast.specs.View.{function_of, program_of}
 use Rattle.vx_ast.specs.Accepted.{is_accepted, is_main, gives_int}
 use Rattle.vx_flow.specs.declared.graph.Operand.{Operand}
-use Rattle.vx_flow.specs.declared.graph.Op.{Op}
-use Rattle.vx_flow.specs.declared.graph.Op.TheVariants.{Compute, Select, Place, Load, Store, More, Input, Text, Decimal, Across}
 use Rattle.vx_flow.specs.declared.graph.Exit.{Exit}
 use Rattle.vx_flow.specs.declared.graph.Exit.TheVariants.{Goto, Split, Call, Return, Ends}
 use Rattle.vx_flow.specs.declared.graph.Graph.{Graph}
 use Rattle.vx_flow.specs.declared.graph.Flow.{Flow}
 use Rattle.vx_flow.specs.Effects.{IsIn}
 use Rattle.vx_flow.specs.Sound.{has_parameters, is_text_there, is_call_there, is_block_there, begins_with, is_sound_function, is_sound_flow}
-use Rattle.vx_flow.proofs.SoundFlowLaw.{flow_is}
+use Rattle.vx_flow.proofs.SoundFlowLaw.{flow_is, text_of}
 use Rattle.vx_flow.proofs.SoundLists.{all_of, all_of_at, differs_of}
 use Rattle.vx_lower.specs.FlowOf.{FlowOf}
 use Rattle.vx_lower.specs.LoweredGraphs.{NamedByNumber, NoneDismissible, SoundInWords}
@@ -38,18 +36,6 @@ functions_named source accepted i f e =
     let x = got_map function_of source.functions.items i f e in
     let s = function_suits (program_of source) accepted i (function_of x.0) (e ∙ ap Some (sym x.2)) in
     subst (FunctionNamed (program_of source)) x.2 (function_named (program_of source) (function_of x.0) (stepped_in x.0.body.items) s)
-
-text_there : (flow : Flow) (op : Op) → ((n : ℕ) → op ≡ Text n → n < length flow.texts) → is_text_there flow op ≡ true
-text_there flow (Text n) k = lt-ltb n (length flow.texts) (k n refl)
-text_there flow (Compute code u x y) k = refl
-text_there flow (Select u p x y) k = refl
-text_there flow (Place u b i) k = refl
-text_there flow (Load u b p dismissible) k = refl
-text_there flow (Store b p x) k = refl
-text_there flow (More u) k = refl
-text_there flow (Input u) k = refl
-text_there flow (Decimal x) k = refl
-text_there flow (Across u w) k = refl
 
 call_there : (flow : Flow) (exit : Exit) → ((f next : ℕ) (arguments : List Operand) (result : Option ℕ) → exit ≡ Call f arguments result next → has_parameters (length arguments) (slice_get flow.functions f) ≡ true) → is_call_there flow exit ≡ true
 call_there flow (Call f arguments result next) k = k f next arguments result refl
@@ -91,7 +77,7 @@ module _ (p : Program) (flow : Flow) (accepted : is_accepted p ≡ true) (all : 
       both_true (both_true (both_true (both_true s.shape.sound (differs_of (length g.blocks) 0 (λ q. omega arith))) s.distinct)
       (subst (λ z. begins_with z g.arrays ≡ true) (sym all.globals) s.globals))
       (all_of (is_block_there flow) g.blocks (λ block m. both_true
-      (all_of (is_text_there flow) block.ops (λ op n. text_there flow op (λ t q. s.shape.texts_there t (record { block = block; has = m; stands = subst (λ z. IsIn z block.ops) q n }))))
+      (all_of (is_text_there flow) block.ops (λ op n. text_of flow op (λ t q. s.shape.texts_there t (record { block = block; has = m; stands = subst (λ z. IsIn z block.ops) q n }))))
       (call_there flow block.exit (λ f next arguments result q. called f (length arguments) x.0 (s.shape.calls f arguments result next (record { block = block; has = m; ends = sym q }))))))
 
   pub flow_sound : is_sound_flow flow ≡ true

@@ -1,5 +1,7 @@
 use Rattle.std.proofs.Common.{◌≡◌, length, subst, sym, ◌∙◌, arith}
+use Rattle.std.proofs.lemmas.Result.{IfOk-from_err}
 use Rattle.vx_flow.specs.Effects.{IsIn}
+use Rattle.vx_flow.specs.Closing.{BeginWithin}
 use Rattle.vx_flow.proofs.ClosingSteps.{marked_below}
 use Rattle.vx_flow.proofs.LiveRoutes.{RowsBelow, rows_all, rows_more, rows_none}
 use Rattle.vx_flow.proofs.liveness.rows_of.Goals as goal
@@ -35,3 +37,24 @@ live_nodes-requires-clause-readers c = λ i r there first. subst (IsIn i) (sym c
 
 pub list_found-requires-clause-found : goal.list_found-requires-clause-found
 list_found-requires-clause-found c = λ b m. subst (IsIn b) (sym c.as_slice.ensures.value) ((c.in_ok-found.ensures.found b).0 m)
+
+pub live_nodes-requires-clause-within : goal.live_nodes-requires-clause-within
+live_nodes-requires-clause-within c = subst (λ n. BeginWithin n c.args.routes.now) (sym c.loop-value.invariant.len) c.requires.within
+
+pub returns-in_err-marks-clause-exact : goal.returns-in_err-marks-clause-exact
+returns-in_err-marks-clause-exact c = IfOk-from_err _ _ c.from_residual.ensures.0
+
+pub returns-in_err-marks-clause-rising : goal.returns-in_err-marks-clause-rising
+returns-in_err-marks-clause-rising c = IfOk-from_err _ _ c.from_residual.ensures.0
+
+pub returns-in_err-found-clause-exact : goal.returns-in_err-found-clause-exact
+returns-in_err-found-clause-exact c = IfOk-from_err _ _ c.from_residual-in_err-found.ensures.0
+
+pub returns-in_err-found-clause-rising : goal.returns-in_err-found-clause-rising
+returns-in_err-found-clause-rising c = IfOk-from_err _ _ c.from_residual-in_err-found.ensures.0
+
+pub returns-in_err-list_found-clause-exact : goal.returns-in_err-list_found-clause-exact
+returns-in_err-list_found-clause-exact c = IfOk-from_err _ _ c.from_residual-in_err-list_found.ensures.0
+
+pub returns-in_err-list_found-clause-rising : goal.returns-in_err-list_found-clause-rising
+returns-in_err-list_found-clause-rising c = IfOk-from_err _ _ c.from_residual-in_err-list_found.ensures.0

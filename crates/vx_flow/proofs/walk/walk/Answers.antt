@@ -1,4 +1,7 @@
-use Rattle.std.proofs.Common.{◌≡◌, ◌+◌, ◌<◌, ◌≤◌, [], length, refl, sym, subst, arith}
+use Rattle.std.proofs.Common.{◌≡◌, ◌∙◌, ◌+◌, ◌<◌, ◌≤◌, Bool, Vec, Global, [], length, refl, ap, sym, subst, arith}
+use Rattle.std.proofs.lemmas.Result.{IfOk-from_err}
+use Rattle.vx_flow.specs.declared.graph.Edge.{Edge}
+use Rattle.vx_flow.specs.declared.walk.Place.{Place}
 use Rattle.vx_flow.specs.Walking.{back_after, path_after, path_begun, places_after, places_begun, seen_after, seen_begun}
 use Rattle.vx_flow.proofs.ClosingSteps.{empty_list}
 use Rattle.vx_flow.proofs.WalkSteps.{walking_first, walking_step, walking_begin, walking_last, walking_same, last_below, next_below}
@@ -43,13 +46,13 @@ steps-preserved c = elim c.match-pop.branch [
       (next_below g p.block p.taken (length c.steps.seen.items) next c.requires.within (sym c.steps.invariant.seen_len) w.successor-next.ensures)
       (next_below g p.block p.taken (length c.steps.on_path.items) next c.requires.within (sym c.steps.invariant.path_len) w.successor-next.ensures) in
       let e = w.in_ok-step-in-Some.ensures in
-      let a : c.match-pop.root ≡ c.steps.root = cc in
-      let s : c.match-pop.seen.items ≡ seen_after next c.steps.seen.items c.steps.on_path.items = cc (e.seen) in
-      let o : c.match-pop.on_path.items ≡ path_after next p c.steps.seen.items c.steps.on_path.items = cc (e.on_path) in
-      let l : c.match-pop.places.items ≡ places_after next p c.steps.seen.items c.steps.on_path.items c.pop.new.self.items = cc (e.places) in
-      let b : c.match-pop.back.items ≡ back_after next p c.steps.on_path.items c.steps.back.items = cc (e.back) in
-      let m : length c.match-pop.seen.items ≡ length c.args.graph.now.blocks = cc (e.seen_len) in
-      let n : length c.match-pop.on_path.items ≡ length c.args.graph.now.blocks = cc (e.path_len) in
+      let a = w.root-is in
+      let s : c.match-pop.seen.items ≡ seen_after next c.steps.seen.items c.steps.on_path.items = ap (λ (v : Vec Bool Global). v.items) w.seen-is ∙ e.seen in
+      let o : c.match-pop.on_path.items ≡ path_after next p c.steps.seen.items c.steps.on_path.items = ap (λ (v : Vec Bool Global). v.items) w.on_path-is ∙ e.on_path in
+      let l : c.match-pop.places.items ≡ places_after next p c.steps.seen.items c.steps.on_path.items c.pop.new.self.items = ap (λ (v : Vec Place Global). v.items) w.places-is ∙ e.places in
+      let b : c.match-pop.back.items ≡ back_after next p c.steps.on_path.items c.steps.back.items = ap (λ (v : Vec Edge Global). v.items) w.back-is ∙ e.back in
+      let m : length c.match-pop.seen.items ≡ length c.args.graph.now.blocks = ap (λ (v : Vec Bool Global). length v.items) w.seen-is ∙ e.seen_len ∙ c.steps.invariant.seen_len in
+      let n : length c.match-pop.on_path.items ≡ length c.args.graph.now.blocks = ap (λ (v : Vec Bool Global). length v.items) w.on_path-is ∙ e.path_len ∙ c.steps.invariant.path_len in
       record {
         walking = walking_same g c.steps.root c.match-pop.root (seen_after next c.steps.seen.items c.steps.on_path.items) c.match-pop.seen.items (path_after next p c.steps.seen.items c.steps.on_path.items) c.match-pop.on_path.items
             (places_after next p c.steps.seen.items c.steps.on_path.items c.pop.new.self.items) c.match-pop.places.items (back_after next p c.steps.on_path.items c.steps.back.items) c.match-pop.back.items walk a s o l b;
@@ -68,14 +71,14 @@ steps-preserved c = elim c.match-pop.branch [
       let v : r < length c.steps.on_path.items = omega arith in
       let walk = walking_begin g r c.steps.seen.items c.steps.on_path.items c.steps.places.items c.steps.back.items c.steps.invariant.walking z y u v in
       let e = w.in_ok-begin-in-None.ensures in
-      let a : c.match-pop.root ≡ r + 1 = cc in
-      let s : c.match-pop.seen.items ≡ seen_begun c.steps.seen.items r = cc (e.seen) in
-      let o : c.match-pop.on_path.items ≡ path_begun c.steps.seen.items c.steps.on_path.items r = cc (e.on_path) in
-      let l0 : c.match-pop.places.items ≡ places_begun c.steps.seen.items c.pop.new.self.items r = cc (e.places) in
+      let a = w.root-is in
+      let s : c.match-pop.seen.items ≡ seen_begun c.steps.seen.items r = ap (λ (v : Vec Bool Global). v.items) w.seen-is ∙ e.seen in
+      let o : c.match-pop.on_path.items ≡ path_begun c.steps.seen.items c.steps.on_path.items r = ap (λ (v : Vec Bool Global). v.items) w.on_path-is ∙ e.on_path in
+      let l0 : c.match-pop.places.items ≡ places_begun c.steps.seen.items c.pop.new.self.items r = ap (λ (v : Vec Place Global). v.items) w.places-is ∙ e.places in
       let l : c.match-pop.places.items ≡ places_begun c.steps.seen.items [] r = subst (λ x. c.match-pop.places.items ≡ places_begun c.steps.seen.items x r) z' l0 in
-      let b : c.match-pop.back.items ≡ c.steps.back.items = cc in
-      let m : length c.match-pop.seen.items ≡ length c.args.graph.now.blocks = cc (e.seen_len) in
-      let n : length c.match-pop.on_path.items ≡ length c.args.graph.now.blocks = cc (e.path_len) in
+      let b = ap (λ (v : Vec Edge Global). v.items) w.back-is in
+      let m : length c.match-pop.seen.items ≡ length c.args.graph.now.blocks = ap (λ (v : Vec Bool Global). length v.items) w.seen-is ∙ e.seen_len ∙ c.steps.invariant.seen_len in
+      let n : length c.match-pop.on_path.items ≡ length c.args.graph.now.blocks = ap (λ (v : Vec Bool Global). length v.items) w.on_path-is ∙ e.path_len ∙ c.steps.invariant.path_len in
       record {
         walking = walking_same g (r + 1) c.match-pop.root (seen_begun c.steps.seen.items r) c.match-pop.seen.items (path_begun c.steps.seen.items c.steps.on_path.items r) c.match-pop.on_path.items
             (places_begun c.steps.seen.items [] r) c.match-pop.places.items c.steps.back.items c.match-pop.back.items walk a s o l b;
@@ -83,3 +86,9 @@ steps-preserved c = elim c.match-pop.branch [
         path_len = n;
       }
 ]
+
+pub returns-in_err-step-in-Some : goal.returns-in_err-step-in-Some
+returns-in_err-step-in-Some c = IfOk-from_err _ _ c.from_residual.ensures.0
+
+pub returns-in_err-begin-in-None : goal.returns-in_err-begin-in-None
+returns-in_err-begin-in-None c = IfOk-from_err _ _ c.from_residual-in_err-begin-in-None.ensures.0

@@ -1,6 +1,5 @@
-use Rattle.std.proofs.Common.{drop, refl, rules}
-use Rattle.vx_parse.specs.Reading.{Stops}
-use Rattle.vx_parse.specs.Definitions.{Heading}
+use Rattle.std.proofs.Common.{refl}
+use Rattle.vx_parse.proofs.HandedOn.{handed_on}
 use Rattle.vx_parse.proofs.Parts.{past_token, past_phrase, within_phrase, misfit}
 use Rattle.vx_parse.proofs.Definitions.{heading_start, function_is}
 use Rattle.vx_parse.proofs.definition.read_function.Goals as goal
@@ -8,23 +7,20 @@ use Rattle.vx_parse.proofs.definition.read_function.Goals as goal
 pub returns-in_err-inner-clause-stop : goal.returns-in_err-inner-clause-stop
 returns-in_err-inner-clause-stop c =
     let b0 = heading_start c.args.tokens.now c.args.place c.requires.within in
-    let h : Stops (Heading) (drop c.args.place c.args.tokens.now) c.args.tokens.now 0 0 c.in_err-inner.field-0.0 = misfit b0 c.in_err-inner.field-0.0 c.in_err-inner.ensures.stop in
-    search rules
+    handed_on _ _ _ c.from_residual.ensures.1 (misfit b0 c.in_err-inner.field-0.0 c.in_err-inner.ensures.stop)
 
 pub returns-in_err-parameters-clause-stop : goal.returns-in_err-parameters-clause-stop
 returns-in_err-parameters-clause-stop c =
     let b0 = heading_start c.args.tokens.now c.args.place c.requires.within in
     let b1 = past_token b0 c.in_ok-inner.ensures.ok in
-    let h : Stops (Heading) (drop c.args.place c.args.tokens.now) c.args.tokens.now 0 0 c.in_err-parameters.field-0.0 = within_phrase b1 c.in_err-parameters.field-0.0 c.in_err-parameters.ensures.stop in
-    search rules
+    handed_on _ _ _ c.from_residual-in_err-parameters.ensures.1 (within_phrase b1 c.in_err-parameters.field-0.0 c.in_err-parameters.ensures.stop)
 
 pub returns-in_err-body_place-clause-stop : goal.returns-in_err-body_place-clause-stop
 returns-in_err-body_place-clause-stop c =
     let b0 = heading_start c.args.tokens.now c.args.place c.requires.within in
     let b1 = past_token b0 c.in_ok-inner.ensures.ok in
     let b2 = past_phrase b1 c.in_ok-parameters.ensures.ok.parted in
-    let h : Stops (Heading) (drop c.args.place c.args.tokens.now) c.args.tokens.now 0 0 c.in_err-body_place.field-0.0 = misfit b2 c.in_err-body_place.field-0.0 c.in_err-body_place.ensures.stop in
-    search rules
+    handed_on _ _ _ c.from_residual-in_err-body_place.ensures.1 (misfit b2 c.in_err-body_place.field-0.0 c.in_err-body_place.ensures.stop)
 
 pub returns-in_err-body-clause-stop : goal.returns-in_err-body-clause-stop
 returns-in_err-body-clause-stop c =
@@ -32,8 +28,7 @@ returns-in_err-body-clause-stop c =
     let b1 = past_token b0 c.in_ok-inner.ensures.ok in
     let b2 = past_phrase b1 c.in_ok-parameters.ensures.ok.parted in
     let b3 = past_token b2 c.in_ok-body_place.ensures.ok in
-    let h : Stops (Heading) (drop c.args.place c.args.tokens.now) c.args.tokens.now 0 0 c.in_err-body.field-0.0 = within_phrase b3 c.in_err-body.field-0.0 c.in_err-body.ensures.stop in
-    search rules
+    handed_on _ _ _ c.from_residual-in_err-body.ensures.1 (within_phrase b3 c.in_err-body.field-0.0 c.in_err-body.ensures.stop)
 
 pub returns-clause-ok : goal.returns-clause-ok
 returns-clause-ok c =

@@ -1,11 +1,11 @@
-use Rattle.std.proofs.Common.{◌≡◌, pos, [], ◌∷◌, drop, refl, sym, ap, ◌∙◌, rules, w32, FitsSigned, to_z, of_z}
+use Rattle.std.proofs.Common.{◌≡◌, pos, drop, refl, sym, ap, ◌∙◌, rules, w32, FitsSigned, to_z, of_z}
 use Rattle.vx_ast.specs.Syntax as syntax
 use Rattle.std.proofs.lemmas.Int.{to_z-of_z}
 use Rattle.vx_ast.specs.declared.token.Mark.TheVariants as marks
 use Rattle.vx_ast.specs.declared.token.TokenKind.TheVariants as kinds
 use Rattle.vx_ast.specs.declared.syntax.Definition.TheVariants as definitions
-use Rattle.vx_ast.specs.Phrases.{GlobalValue, A}
-use Rattle.vx_parse.specs.Reading.{next_kind, Stops}
+use Rattle.vx_parse.specs.Reading.{next_kind}
+use Rattle.vx_parse.proofs.HandedOn.{handed_on}
 use Rattle.vx_parse.proofs.Tokens.{passes_mark}
 use Rattle.vx_parse.proofs.Parts.{past_token, within_phrase, misfit, misfit_number}
 use Rattle.vx_parse.proofs.Definitions.{equal_before, bracket_before, scalar_is, array_is, zero_is}
@@ -21,8 +21,7 @@ returns-in_err-number-clause-stop c =
     let e : next_kind (drop c.args.place c.args.tokens.now) ≡ kinds.Mark marks.Equal = sym c.kind_at-kind.ensures ∙ c.is_mark.ensures.yes c.if-is_mark.true in
     let p = passes_mark c.args.tokens.now c.args.place marks.Equal c.requires.ended c.requires.within e in
     let b = equal_before c.args.tokens.now c.args.place p c.requires.within e in
-    let h : Stops (A GlobalValue ∷ []) (drop c.args.place c.args.tokens.now) c.args.tokens.now 0 0 c.in_err-number.field-0.0 = within_phrase b c.in_err-number.field-0.0 c.in_err-number.ensures.stop in
-    search rules
+    handed_on _ _ _ c.from_residual.ensures.1 (within_phrase b c.in_err-number.field-0.0 c.in_err-number.ensures.stop)
 
 pub returns-then-is_mark-clause-ok : goal.returns-then-is_mark-clause-ok
 returns-then-is_mark-clause-ok c =
@@ -41,8 +40,7 @@ returns-in_err-size-clause-stop c =
     let e : next_kind (drop c.args.place c.args.tokens.now) ≡ kinds.Mark marks.OpenBracket = sym c.kind_at-kind.ensures ∙ c.is_mark-2.ensures.yes c.if-is_mark-2.true in
     let p = passes_mark c.args.tokens.now c.args.place marks.OpenBracket c.requires.ended c.requires.within e in
     let b = bracket_before c.args.tokens.now c.args.place p c.requires.within e in
-    let h : Stops (A GlobalValue ∷ []) (drop c.args.place c.args.tokens.now) c.args.tokens.now 0 0 c.in_err-size.field-0.0 = misfit_number b c.in_err-size.field-0.0 c.in_err-size.ensures.stop in
-    search rules
+    handed_on _ _ _ c.from_residual-in_err-size.ensures.1 (misfit_number b c.in_err-size.field-0.0 c.in_err-size.ensures.stop)
 
 pub returns-in_err-next-clause-stop : goal.returns-in_err-next-clause-stop
 returns-in_err-next-clause-stop c =
@@ -50,8 +48,7 @@ returns-in_err-next-clause-stop c =
     let p = passes_mark c.args.tokens.now c.args.place marks.OpenBracket c.requires.ended c.requires.within e in
     let b = bracket_before c.args.tokens.now c.args.place p c.requires.within e in
     let b1 = past_token b c.in_ok-size.ensures.ok.passed in
-    let h : Stops (A GlobalValue ∷ []) (drop c.args.place c.args.tokens.now) c.args.tokens.now 0 0 c.in_err-next.field-0.0 = misfit b1 c.in_err-next.field-0.0 c.in_err-next.ensures.stop in
-    search rules
+    handed_on _ _ _ c.from_residual-in_err-next.ensures.1 (misfit b1 c.in_err-next.field-0.0 c.in_err-next.ensures.stop)
 
 pub returns-then-is_mark-2-clause-ok : goal.returns-then-is_mark-2-clause-ok
 returns-then-is_mark-2-clause-ok c =

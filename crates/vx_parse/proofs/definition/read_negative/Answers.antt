@@ -1,9 +1,8 @@
-use Rattle.std.proofs.Common.{◌≡◌, pos, ◌-ℤ◌, [], ◌∷◌, drop, sym, ◌∙◌, subst, rules, w32, FitsSigned}
+use Rattle.std.proofs.Common.{◌≡◌, pos, ◌-ℤ◌, sym, ◌∙◌, subst, rules, w32, FitsSigned}
 use Rattle.std.specs.Prelude.{SomeIff}
 use Rattle.std.proofs.lemmas.Int.{to_z-of_z}
 use Rattle.vx_ast.specs.declared.token.Mark.TheVariants as marks
-use Rattle.vx_ast.specs.Phrases.{SignedNumber, A}
-use Rattle.vx_parse.specs.Reading.{Stops}
+use Rattle.vx_parse.proofs.HandedOn.{handed_on}
 use Rattle.vx_parse.proofs.Tokens.{passes_mark}
 use Rattle.vx_parse.proofs.Parts.{misfit_number}
 use Rattle.vx_parse.proofs.Definitions.{minus_before, negative_is}
@@ -17,8 +16,7 @@ pub returns-in_err-number-clause-stop : goal.returns-in_err-number-clause-stop
 returns-in_err-number-clause-stop c =
     let p = passes_mark c.args.tokens.now c.args.place marks.Minus c.requires.ended c.requires.within c.requires.here in
     let b = minus_before c.args.tokens.now c.args.place p c.requires.within c.requires.here in
-    let h : Stops (A SignedNumber ∷ []) (drop c.args.place c.args.tokens.now) c.args.tokens.now 0 0 c.in_err-number.field-0.0 = misfit_number b c.in_err-number.field-0.0 c.in_err-number.ensures.stop in
-    search rules
+    handed_on _ _ _ c.from_residual.ensures.1 (misfit_number b c.in_err-number.field-0.0 c.in_err-number.ensures.stop)
 
 pub returns-in-Some-clause-ok : goal.returns-in-Some-clause-ok
 returns-in-Some-clause-ok c =

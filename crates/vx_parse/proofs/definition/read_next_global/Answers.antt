@@ -1,7 +1,6 @@
-use Rattle.std.proofs.Common.{[], ◌∷◌, drop, arith, rules}
+use Rattle.std.proofs.Common.{arith}
 use Rattle.vx_ast.specs.declared.token.Mark.TheVariants as marks
-use Rattle.vx_ast.specs.Phrases.{MoreGlobals, A}
-use Rattle.vx_parse.specs.Reading.{Stops}
+use Rattle.vx_parse.proofs.HandedOn.{handed_on}
 use Rattle.vx_parse.proofs.Tokens.{passes_mark}
 use Rattle.vx_parse.proofs.Expressions.{map_ok, map_err}
 use Rattle.vx_parse.proofs.Parts.{past_token, within_phrase, misfit_name}
@@ -16,8 +15,7 @@ pub returns-in_err-name-clause-stop : goal.returns-in_err-name-clause-stop
 returns-in_err-name-clause-stop c =
     let p = passes_mark c.args.tokens.now c.args.place marks.Comma c.requires.ended c.requires.within c.requires.comma in
     let b = comma_before c.args.tokens.now c.args.place p c.requires.within c.requires.comma in
-    let h : Stops (A MoreGlobals ∷ []) (drop c.args.place c.args.tokens.now) c.args.tokens.now 0 0 c.in_err-name.field-0.0 = misfit_name b c.in_err-name.field-0.0 c.in_err-name.ensures.stop in
-    search rules
+    handed_on _ _ _ c.from_residual.ensures.1 (misfit_name b c.in_err-name.field-0.0 c.in_err-name.ensures.stop)
 
 pub returns-clause-ok : goal.returns-clause-ok
 returns-clause-ok c =

@@ -1,6 +1,4 @@
-use Rattle.std.proofs.Common.{[], ◌∷◌, drop, rules}
-use Rattle.vx_ast.specs.Phrases.{Parameter, A}
-use Rattle.vx_parse.specs.Reading.{Stops}
+use Rattle.vx_parse.proofs.HandedOn.{handed_on}
 use Rattle.vx_parse.proofs.Expressions.{map_ok, map_err}
 use Rattle.vx_parse.proofs.Parts.{past_token, misfit, misfit_name}
 use Rattle.vx_parse.proofs.Definitions.{parameter_before, parameter_is}
@@ -9,8 +7,7 @@ use Rattle.vx_parse.proofs.definition.read_parameter.Goals as goal
 pub returns-in_err-name_place-clause-stop : goal.returns-in_err-name_place-clause-stop
 returns-in_err-name_place-clause-stop c =
     let b = parameter_before c.args.tokens.now c.args.place c.requires.within in
-    let h : Stops (A Parameter ∷ []) (drop c.args.place c.args.tokens.now) c.args.tokens.now 0 0 c.in_err-name_place.field-0.0 = misfit b c.in_err-name_place.field-0.0 c.in_err-name_place.ensures.stop in
-    search rules
+    handed_on _ _ _ c.from_residual.ensures.1 (misfit b c.in_err-name_place.field-0.0 c.in_err-name_place.ensures.stop)
 
 pub returns-clause-ok : goal.returns-clause-ok
 returns-clause-ok c =

@@ -1,9 +1,9 @@
-use Rattle.std.proofs.Common.{◌≡◌, ◌++◌, [], ◌∷◌, drop, refl, sym, ap, ◌∙◌, rules}
+use Rattle.std.proofs.Common.{◌≡◌, ◌++◌, [], ◌∷◌, drop, refl, sym, ap, ◌∙◌}
 use Rattle.vx_ast.specs.declared.token.Keyword.TheVariants as words
 use Rattle.vx_ast.specs.declared.token.Mark.TheVariants as marks
 use Rattle.vx_ast.specs.declared.token.TokenKind.TheVariants as kinds
-use Rattle.vx_ast.specs.Phrases.{Parameters, A}
-use Rattle.vx_parse.specs.Reading.{next_kind, Stops}
+use Rattle.vx_parse.specs.Reading.{next_kind}
+use Rattle.vx_parse.proofs.HandedOn.{handed_on}
 use Rattle.vx_parse.proofs.Tokens.{passes_word}
 use Rattle.vx_parse.proofs.Expressions.{map_ok, map_err}
 use Rattle.vx_parse.proofs.Parts.{past_phrase, within_phrase}
@@ -24,8 +24,7 @@ returns-in_err-first-clause-stop c =
     let n1 : next_kind (drop c.args.place c.args.tokens.now) ≡ kinds.Mark marks.CloseParenthesis → ⊥ = λ e. c.is_mark.ensures.no c.if-is_mark.false (c.kind_at-kind.ensures ∙ e) in
     let n2 : next_kind (drop c.args.place c.args.tokens.now) ≡ kinds.Keyword words.Void → ⊥ = λ e. c.is_word.ensures.no c.if-is_word.false (c.kind_at-kind.ensures ∙ e) in
     let b = some_before c.args.tokens.now c.args.place c.requires.within n1 n2 in
-    let h : Stops (A Parameters ∷ []) (drop c.args.place c.args.tokens.now) c.args.tokens.now 0 0 c.in_err-first.field-0.0 = within_phrase b c.in_err-first.field-0.0 c.in_err-first.ensures.stop in
-    search rules
+    handed_on _ _ _ c.from_residual.ensures.1 (within_phrase b c.in_err-first.field-0.0 c.in_err-first.ensures.stop)
 
 pub returns-clause-ok : goal.returns-clause-ok
 returns-clause-ok c =

@@ -5,12 +5,13 @@ use Rattle.vx_ast.specs.declared.token.TokenKind.TheVariants as kinds
 use Rattle.vx_ast.specs.Syntax as syntax
 use Rattle.vx_ast.specs.SyntaxView.{phrase_of}
 use Rattle.vx_ast.specs.Phrases as phrases
-use Rattle.vx_ast.specs.Phrases.{Level, LevelRest, Primary, NameRest, Arguments, MoreExpressions, ChoiceRest, A, mark, parts_of, strength}
+use Rattle.vx_ast.specs.Phrases.{Level, Primary, A, mark, parts_of, strength}
 use Rattle.vx_ast.specs.Tree.{One}
 use Rattle.vx_ast.specs.declared.tree.UnaryOperator.{UnaryOperator}
 use Rattle.vx_ast.specs.Derivations.{unary_of, joined}
 use Rattle.vx_parse.specs.declared.expression.Operand.{Operand}
 use Rattle.vx_parse.specs.Reading.{next_kind, Stops, IsOperand, Passed}
+use Rattle.vx_parse.proofs.HandedOn.{handed_on}
 use Rattle.vx_parse.proofs.Views.{view-Call}
 use Rattle.vx_parse.proofs.Expressions.{map_ok, map_err, enclosed_inner, enclosed_end, bracket_opens, call_opens, nested_opens, unary_opens, nested_is, element_is, call_is, use_is, no_rest, number_is, name_is, name_stops, no_primary, unary_is, primary_is, primary_stops, operates, rest_is_none, rest_too_deep, right_stops, more_is, more_stops, level_is, level_first, level_then, test_is, test_stops, asks, choice_too_deep, chosen_stops, colon_stops, other_stops, choice_is}
 use Rattle.vx_parse.proofs.Steps.{stops_no_phrase, too_deep, stops_opened}
@@ -31,8 +32,7 @@ read_arguments-returns-then-is_mark-clause-ok t c =
 pub read_arguments-returns-in_err-first-clause-stop : goal.read_arguments-returns-in_err-first-clause-stop
 read_arguments-returns-in_err-first-clause-stop t c =
     let n : next_kind (drop c.args.place c.args.tokens.now) ≡ kinds.Mark marks.CloseParenthesis → ⊥ = λ e. c.is_mark.ensures.no c.if-is_mark.false (c.kind_at.ensures ∙ e) in
-    let h : Stops (A Arguments ∷ []) (drop c.args.place c.args.tokens.now) c.args.tokens.now c.args.depth 0 c.in_err-first.field-0.0 = first_stops c.args.tokens.now c.args.place c.args.depth _ c.requires.within n c.in_err-first.ensures.stop in
-    search rules
+    handed_on _ _ _ c.from_residual.ensures.1 (first_stops c.args.tokens.now c.args.place c.args.depth _ c.requires.within n c.in_err-first.ensures.stop)
 
 pub read_arguments-returns-clause-ok : goal.read_arguments-returns-clause-ok
 read_arguments-returns-clause-ok t c =
@@ -68,8 +68,7 @@ read_behind-returns-in_err-right-clause-stop t c =
     let e : strength (next_kind (drop c.args.left.next c.args.tokens.now)) ≡ c.strength.result = sym (c.strength.ensures ∙ ap strength c.kind_at-kind.ensures) in
     let o = operates c.args.level c.args.tokens.now c.args.left.next c.requires.ended c.requires.within c.requires.level (e ∙ c.if-strength-level.false) in
     let b : c.args.depth + c.args.left.height < 200 = omega arith in
-    let h : Stops (A (LevelRest c.args.level) ∷ []) (drop c.args.left.next c.args.tokens.now) c.args.tokens.now c.args.depth c.args.left.height c.in_err-right.field-0.0 = right_stops c.args.level c.args.tokens.now c.args.left.next c.args.depth c.args.left.height _ o b c.in_err-right.ensures.stop in
-    search rules
+    handed_on _ _ _ c.from_residual-in_err-right.ensures.1 (right_stops c.args.level c.args.tokens.now c.args.left.next c.args.depth c.args.left.height _ o b c.in_err-right.ensures.stop)
 
 pub read_behind-returns-clause-ok : goal.read_behind-returns-clause-ok
 read_behind-returns-clause-ok t c =
@@ -93,8 +92,7 @@ read_behind-returns-clause-stop t c =
 
 pub read_expression-returns-in_err-test-clause-stop : goal.read_expression-returns-in_err-test-clause-stop
 read_expression-returns-in_err-test-clause-stop t c =
-    let h : Stops (A phrases.Expression ∷ []) (drop c.args.place c.args.tokens.now) c.args.tokens.now c.args.depth 0 c.in_err-test.field-0.0 = test_stops c.args.tokens.now c.args.place c.args.depth _ c.requires.within c.in_err-test.ensures.stop in
-    search rules
+    handed_on _ _ _ c.from_residual.ensures.1 (test_stops c.args.tokens.now c.args.place c.args.depth _ c.requires.within c.in_err-test.ensures.stop)
 
 pub read_expression-returns-then-not-is_mark-clause-ok : goal.read_expression-returns-then-not-is_mark-clause-ok
 read_expression-returns-then-not-is_mark-clause-ok t c =
@@ -120,24 +118,21 @@ read_expression-returns-in_err-chosen-clause-stop t c =
     let q : next_kind (drop c.in_ok-test.test.next c.args.tokens.now) ≡ kinds.Mark marks.Question = sym c.kind_at.ensures ∙ c.is_mark.ensures.yes c.if-not-is_mark.false in
     let a = asks c.args.tokens.now c.args.place c.args.depth c.in_ok-test.test c.requires.ended c.requires.within c.in_ok-test.ensures.ok q in
     let b : c.args.depth + c.in_ok-test.test.height < 200 = omega arith in
-    let h : Stops (A phrases.Expression ∷ []) (drop c.args.place c.args.tokens.now) c.args.tokens.now c.args.depth 0 c.in_err-chosen.field-0.0 = chosen_stops c.args.tokens.now c.args.place c.args.depth c.in_ok-test.test _ a b c.in_err-chosen.ensures.stop in
-    search rules
+    handed_on _ _ _ c.from_residual-in_err-chosen.ensures.1 (chosen_stops c.args.tokens.now c.args.place c.args.depth c.in_ok-test.test _ a b c.in_err-chosen.ensures.stop)
 
 pub read_expression-returns-in_err-other_place-clause-stop : goal.read_expression-returns-in_err-other_place-clause-stop
 read_expression-returns-in_err-other_place-clause-stop t c =
     let q : next_kind (drop c.in_ok-test.test.next c.args.tokens.now) ≡ kinds.Mark marks.Question = sym c.kind_at.ensures ∙ c.is_mark.ensures.yes c.if-not-is_mark.false in
     let a = asks c.args.tokens.now c.args.place c.args.depth c.in_ok-test.test c.requires.ended c.requires.within c.in_ok-test.ensures.ok q in
     let b : c.args.depth + c.in_ok-test.test.height < 200 = omega arith in
-    let h : Stops (A phrases.Expression ∷ []) (drop c.args.place c.args.tokens.now) c.args.tokens.now c.args.depth 0 c.in_err-other_place.field-0.0 = colon_stops c.args.tokens.now c.args.place c.args.depth c.in_ok-test.test c.in_ok-chosen.chosen _ a b c.in_ok-chosen.ensures.ok c.in_err-other_place.ensures.stop in
-    search rules
+    handed_on _ _ _ c.from_residual-in_err-other_place.ensures.1 (colon_stops c.args.tokens.now c.args.place c.args.depth c.in_ok-test.test c.in_ok-chosen.chosen _ a b c.in_ok-chosen.ensures.ok c.in_err-other_place.ensures.stop)
 
 pub read_expression-returns-in_err-other-clause-stop : goal.read_expression-returns-in_err-other-clause-stop
 read_expression-returns-in_err-other-clause-stop t c =
     let q : next_kind (drop c.in_ok-test.test.next c.args.tokens.now) ≡ kinds.Mark marks.Question = sym c.kind_at.ensures ∙ c.is_mark.ensures.yes c.if-not-is_mark.false in
     let a = asks c.args.tokens.now c.args.place c.args.depth c.in_ok-test.test c.requires.ended c.requires.within c.in_ok-test.ensures.ok q in
     let b : c.args.depth + c.in_ok-test.test.height < 200 = omega arith in
-    let h : Stops (A phrases.Expression ∷ []) (drop c.args.place c.args.tokens.now) c.args.tokens.now c.args.depth 0 c.in_err-other.field-0.0 = other_stops c.args.tokens.now c.args.place c.args.depth c.in_ok-other_place.other_place c.in_ok-test.test c.in_ok-chosen.chosen _ a b c.in_ok-chosen.ensures.ok c.in_ok-other_place.ensures.ok c.in_err-other.ensures.stop in
-    search rules
+    handed_on _ _ _ c.from_residual-in_err-other.ensures.1 (other_stops c.args.tokens.now c.args.place c.args.depth c.in_ok-other_place.other_place c.in_ok-test.test c.in_ok-chosen.chosen _ a b c.in_ok-chosen.ensures.ok c.in_ok-other_place.ensures.ok c.in_err-other.ensures.stop)
 
 pub read_expression-returns-clause-ok : goal.read_expression-returns-clause-ok
 read_expression-returns-clause-ok t c =
@@ -151,8 +146,7 @@ pub read_level-returns-in_err-left-clause-stop : goal.read_level-returns-in_err-
 read_level-returns-in_err-left-clause-stop t c =
     let m = c.args.level - 1 in
     let e : suc m ≡ c.args.level = let h = c.if-level-eq0.false in omega arith in
-    let h : Stops (A (Level c.args.level) ∷ []) (drop c.args.place c.args.tokens.now) c.args.tokens.now c.args.depth 0 c.in_err-left.field-0.0 = subst (λ n. Stops (A (Level n) ∷ []) (drop c.args.place c.args.tokens.now) c.args.tokens.now c.args.depth 0 c.in_err-left.field-0.0) e (level_first m c.args.tokens.now c.args.place c.args.depth _ c.requires.within c.in_err-left.ensures.stop) in
-    search rules
+    handed_on _ _ _ c.from_residual.ensures.1 (subst (λ n. Stops (A (Level n) ∷ []) (drop c.args.place c.args.tokens.now) c.args.tokens.now c.args.depth 0 c.in_err-left.field-0.0) e (level_first m c.args.tokens.now c.args.place c.args.depth _ c.requires.within c.in_err-left.ensures.stop))
 
 pub read_level-returns-clause-ok : goal.read_level-returns-clause-ok
 read_level-returns-clause-ok t c =
@@ -182,8 +176,7 @@ pub read_more-returns-in_err-next-clause-stop : goal.read_more-returns-in_err-ne
 read_more-returns-in_err-next-clause-stop t c =
     let q : next_kind (drop c.more.all.next c.args.tokens.now) ≡ kinds.Mark marks.Comma = sym c.kind_at.ensures ∙ c.is_mark.ensures.yes c.if-not-is_mark.false in
     let o = comma_opens c.args.tokens.now c.more.all.next c.requires.ended c.more.invariant.within q in
-    let h : Stops (A MoreExpressions ∷ []) (drop c.args.before.next c.args.tokens.now) c.args.tokens.now c.args.depth 0 c.in_err-next.field-0.0 = c.more.invariant.stops _ (next_stops c.args.tokens.now c.more.all.next c.args.depth _ o c.in_err-next.ensures.stop) in
-    search rules
+    handed_on _ _ _ c.from_residual.ensures.1 (c.more.invariant.stops _ (next_stops c.args.tokens.now c.more.all.next c.args.depth _ o c.in_err-next.ensures.stop))
 
 pub read_more-more-preserved : goal.read_more-more-preserved
 read_more-more-preserved t c =
@@ -205,16 +198,14 @@ read_index-read_expression-requires t c =
 pub read_index-returns-in_err-index-clause-stop : goal.read_index-returns-in_err-index-clause-stop
 read_index-returns-in_err-index-clause-stop t c =
     let o = bracket_opens c.args.tokens.now c.args.place c.requires.ended c.requires.within c.requires.here in
-    let h : Stops (A NameRest ∷ []) (drop c.args.place c.args.tokens.now) c.args.tokens.now c.args.depth 0 c.in_err-index.field-0.0 = enclosed_inner c.args.depth _ o c.in_err-index.ensures.stop in
-    search rules
+    handed_on _ _ _ c.from_residual.ensures.1 (enclosed_inner c.args.depth _ o c.in_err-index.ensures.stop)
 
 pub read_index-returns-in_err-read_mark-clause-stop : goal.read_index-returns-in_err-read_mark-clause-stop
 read_index-returns-in_err-read_mark-clause-stop t c =
     let o = bracket_opens c.args.tokens.now c.args.place c.requires.ended c.requires.within c.requires.here in
     let a = c.in_ok-index.ensures.ok in
     let b = a.height in let d = a.shallow in
-    let h : Stops (A NameRest ∷ []) (drop c.args.place c.args.tokens.now) c.args.tokens.now c.args.depth 0 c.in_err-read_mark.field-0.0 = enclosed_end c.args.depth _ o a.is (omega arith) a.within c.in_err-read_mark.ensures.stop in
-    search rules
+    handed_on _ _ _ c.from_residual-in_err-read_mark.ensures.1 (enclosed_end c.args.depth _ o a.is (omega arith) a.within c.in_err-read_mark.ensures.stop)
 
 pub read_index-returns-clause-ok : goal.read_index-returns-clause-ok
 read_index-returns-clause-ok t c =
@@ -235,16 +226,14 @@ read_called-read_arguments-requires t c =
 pub read_called-returns-in_err-arguments-clause-stop : goal.read_called-returns-in_err-arguments-clause-stop
 read_called-returns-in_err-arguments-clause-stop t c =
     let o = call_opens c.args.tokens.now c.args.place c.requires.ended c.requires.within c.requires.here in
-    let h : Stops (A NameRest ∷ []) (drop c.args.place c.args.tokens.now) c.args.tokens.now c.args.depth 0 c.in_err-arguments.field-0.0 = enclosed_inner c.args.depth _ o c.in_err-arguments.ensures.stop in
-    search rules
+    handed_on _ _ _ c.from_residual.ensures.1 (enclosed_inner c.args.depth _ o c.in_err-arguments.ensures.stop)
 
 pub read_called-returns-in_err-read_mark-clause-stop : goal.read_called-returns-in_err-read_mark-clause-stop
 read_called-returns-in_err-read_mark-clause-stop t c =
     let o = call_opens c.args.tokens.now c.args.place c.requires.ended c.requires.within c.requires.here in
     let a = c.in_ok-arguments.ensures.ok in
     let b = a.height in let d = a.shallow in
-    let h : Stops (A NameRest ∷ []) (drop c.args.place c.args.tokens.now) c.args.tokens.now c.args.depth 0 c.in_err-read_mark.field-0.0 = enclosed_end c.args.depth _ o a.is (omega arith) a.within c.in_err-read_mark.ensures.stop in
-    search rules
+    handed_on _ _ _ c.from_residual-in_err-read_mark.ensures.1 (enclosed_end c.args.depth _ o a.is (omega arith) a.within c.in_err-read_mark.ensures.stop)
 
 pub read_called-returns-clause-ok : goal.read_called-returns-clause-ok
 read_called-returns-clause-ok t c =
@@ -281,8 +270,7 @@ pub read_primary-returns-in_err-inner-clause-stop : goal.read_primary-returns-in
 read_primary-returns-in_err-inner-clause-stop t c =
     let k : next_kind (drop c.args.place c.args.tokens.now) ≡ kinds.Mark marks.OpenParenthesis = sym c.kind_at-kind.ensures ∙ c.is_mark.ensures.yes c.if-is_mark.true in
     let o = nested_opens c.args.tokens.now c.args.place c.requires.ended c.requires.within k in
-    let h : Stops (A Primary ∷ []) (drop c.args.place c.args.tokens.now) c.args.tokens.now c.args.depth 0 c.in_err-inner.field-0.0 = enclosed_inner c.args.depth _ o c.in_err-inner.ensures.stop in
-    search rules
+    handed_on _ _ _ c.from_residual.ensures.1 (enclosed_inner c.args.depth _ o c.in_err-inner.ensures.stop)
 
 pub read_primary-returns-in_err-read_mark-clause-stop : goal.read_primary-returns-in_err-read_mark-clause-stop
 read_primary-returns-in_err-read_mark-clause-stop t c =
@@ -290,8 +278,7 @@ read_primary-returns-in_err-read_mark-clause-stop t c =
     let o = nested_opens c.args.tokens.now c.args.place c.requires.ended c.requires.within k in
     let a = c.in_ok-inner.ensures.ok in
     let b = a.height in let d = a.shallow in
-    let h : Stops (A Primary ∷ []) (drop c.args.place c.args.tokens.now) c.args.tokens.now c.args.depth 0 c.in_err-read_mark.field-0.0 = enclosed_end c.args.depth _ o a.is (omega arith) a.within c.in_err-read_mark.ensures.stop in
-    search rules
+    handed_on _ _ _ c.from_residual-in_err-read_mark.ensures.1 (enclosed_end c.args.depth _ o a.is (omega arith) a.within c.in_err-read_mark.ensures.stop)
 
 pub read_primary-returns-then-is_mark-clause-ok : goal.read_primary-returns-then-is_mark-clause-ok
 read_primary-returns-then-is_mark-clause-ok t c =
@@ -333,8 +320,7 @@ pub read_unary-returns-in_err-operand-in-Some-clause-stop : goal.read_unary-retu
 read_unary-returns-in_err-operand-in-Some-clause-stop t c =
     let p : parts_of (Level 0) (next_kind (drop c.args.place c.args.tokens.now)) ≡ Some (phrases.The (next_kind (drop c.args.place c.args.tokens.now)) ∷ A (Level 0) ∷ []) = subst (λ z. parts_of (Level 0) z ≡ Some (phrases.The z ∷ A (Level 0) ∷ [])) c.kind_at.ensures c.in-Some.ensures.operator.1 in
     let o = unary_opens c.args.tokens.now c.args.place c.requires.ended c.requires.within p in
-    let h : Stops (A (Level 0) ∷ []) (drop c.args.place c.args.tokens.now) c.args.tokens.now c.args.depth 0 c.in_err-operand-in-Some.field-0.0 = stops_opened c.args.depth _ o c.in_err-operand-in-Some.ensures.stop in
-    search rules
+    handed_on _ _ _ c.from_residual.ensures.1 (stops_opened c.args.depth _ o c.in_err-operand-in-Some.ensures.stop)
 
 pub read_unary-returns-in_ok-boxed-in-Some-clause-ok : goal.read_unary-returns-in_ok-boxed-in-Some-clause-ok
 read_unary-returns-in_ok-boxed-in-Some-clause-ok t c =

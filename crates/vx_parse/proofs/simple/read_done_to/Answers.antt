@@ -1,10 +1,11 @@
-use Rattle.std.proofs.Common.{◌≡◌, [], ◌∷◌, drop, refl, subst, rules}
+use Rattle.std.proofs.Common.{◌≡◌, [], ◌∷◌, drop, refl, subst}
 use Rattle.vx_ast.specs.declared.syntax.Simple.TheVariants as simples
 use Rattle.vx_ast.specs.Phrases as phrases
-use Rattle.vx_ast.specs.Phrases.{SimpleRest, ItemValue, MoreItems, Level, The, A, mark, simple_rest, parts_of}
+use Rattle.vx_ast.specs.Phrases.{The, A, simple_rest}
 use Rattle.vx_parse.specs.Choices.{FollowedBy}
 use Rattle.vx_parse.specs.declared.choice.Following.TheVariants as following
-use Rattle.vx_parse.specs.Reading.{next_kind, Stops}
+use Rattle.vx_parse.specs.Reading.{next_kind}
+use Rattle.vx_parse.proofs.HandedOn.{handed_on}
 use Rattle.vx_parse.proofs.Parts.{within_phrase}
 use Rattle.vx_parse.proofs.Simples.{rest_passed, value_rest, step_behind, value_behind, nothing_behind}
 use Rattle.vx_parse.proofs.simple.read_done_to.Goals as goal
@@ -21,8 +22,7 @@ returns-in_err-value-in-Value-clause-stop c =
     let s : simple_rest (next_kind (drop c.args.place c.args.tokens.now)) ≡ The (next_kind (drop c.args.place c.args.tokens.now)) ∷ A phrases.Expression ∷ [] = subst (λ z. FollowedBy following.Value z) c.kind_at-kind.ensures w in
     let p = rest_passed c.args.tokens.now c.args.place (A phrases.Expression ∷ []) c.requires.ended c.requires.within s in
     let b = value_rest c.args.tokens.now c.args.place c.args.depth p c.requires.within c.requires.depth s in
-    let h : Stops (A SimpleRest ∷ []) (drop c.args.place c.args.tokens.now) c.args.tokens.now c.args.depth 0 c.in_err-value-in-Value.field-0.0 = within_phrase b c.in_err-value-in-Value.field-0.0 c.in_err-value-in-Value.ensures.stop in
-    search rules
+    handed_on _ _ _ c.from_residual.ensures.1 (within_phrase b c.in_err-value-in-Value.field-0.0 c.in_err-value-in-Value.ensures.stop)
 
 pub returns-in-Step-clause-ok : goal.returns-in-Step-clause-ok
 returns-in-Step-clause-ok c =

@@ -1,9 +1,9 @@
-use Rattle.std.proofs.Common.{◌≡◌, [], ◌∷◌, drop, refl, sym, ◌∙◌, rules}
+use Rattle.std.proofs.Common.{◌≡◌, drop, refl, sym, ◌∙◌}
 use Rattle.vx_ast.specs.declared.token.Mark.TheVariants as marks
 use Rattle.vx_ast.specs.declared.token.TokenKind.TheVariants as kinds
 use Rattle.vx_ast.specs.declared.syntax.Item.TheVariants as items
-use Rattle.vx_ast.specs.Phrases.{ItemValue, A}
-use Rattle.vx_parse.specs.Reading.{next_kind, Stops}
+use Rattle.vx_parse.specs.Reading.{next_kind}
+use Rattle.vx_parse.proofs.HandedOn.{handed_on}
 use Rattle.vx_parse.proofs.Tokens.{passes_mark}
 use Rattle.vx_parse.proofs.Parts.{past_token, within_phrase, misfit, misfit_number}
 use Rattle.vx_parse.proofs.Simples.{no_value_parts, equal_before, bracket_before, valued_is, sized_is, scalar_is}
@@ -19,8 +19,7 @@ returns-in_err-value-clause-stop c =
     let e : next_kind (drop c.args.place c.args.tokens.now) ≡ kinds.Mark marks.Equal = sym c.kind_at-kind.ensures ∙ c.is_mark.ensures.yes c.if-is_mark.true in
     let p = passes_mark c.args.tokens.now c.args.place marks.Equal c.requires.ended c.requires.within e in
     let b = equal_before c.args.tokens.now c.args.place c.args.depth p c.requires.within c.requires.depth e in
-    let h : Stops (A ItemValue ∷ []) (drop c.args.place c.args.tokens.now) c.args.tokens.now c.args.depth 0 c.in_err-value.field-0.0 = within_phrase b c.in_err-value.field-0.0 c.in_err-value.ensures.stop in
-    search rules
+    handed_on _ _ _ c.from_residual.ensures.1 (within_phrase b c.in_err-value.field-0.0 c.in_err-value.ensures.stop)
 
 pub returns-then-is_mark-clause-ok : goal.returns-then-is_mark-clause-ok
 returns-then-is_mark-clause-ok c =
@@ -38,16 +37,14 @@ returns-in_err-size-clause-stop c =
     let e : next_kind (drop c.args.place c.args.tokens.now) ≡ kinds.Mark marks.OpenBracket = sym c.kind_at-kind.ensures ∙ c.is_mark-2.ensures.yes c.if-is_mark-2.true in
     let p = passes_mark c.args.tokens.now c.args.place marks.OpenBracket c.requires.ended c.requires.within e in
     let b = bracket_before c.args.tokens.now c.args.place c.args.depth p c.requires.within c.requires.depth e in
-    let h : Stops (A ItemValue ∷ []) (drop c.args.place c.args.tokens.now) c.args.tokens.now c.args.depth 0 c.in_err-size.field-0.0 = misfit_number b c.in_err-size.field-0.0 c.in_err-size.ensures.stop in
-    search rules
+    handed_on _ _ _ c.from_residual-in_err-size.ensures.1 (misfit_number b c.in_err-size.field-0.0 c.in_err-size.ensures.stop)
 
 pub returns-in_err-read_mark-clause-stop : goal.returns-in_err-read_mark-clause-stop
 returns-in_err-read_mark-clause-stop c =
     let e : next_kind (drop c.args.place c.args.tokens.now) ≡ kinds.Mark marks.OpenBracket = sym c.kind_at-kind.ensures ∙ c.is_mark-2.ensures.yes c.if-is_mark-2.true in
     let p = passes_mark c.args.tokens.now c.args.place marks.OpenBracket c.requires.ended c.requires.within e in
     let b = past_token (bracket_before c.args.tokens.now c.args.place c.args.depth p c.requires.within c.requires.depth e) c.in_ok-size.ensures.ok.passed in
-    let h : Stops (A ItemValue ∷ []) (drop c.args.place c.args.tokens.now) c.args.tokens.now c.args.depth 0 c.in_err-read_mark.field-0.0 = misfit b c.in_err-read_mark.field-0.0 c.in_err-read_mark.ensures.stop in
-    search rules
+    handed_on _ _ _ c.from_residual-in_err-read_mark.ensures.1 (misfit b c.in_err-read_mark.field-0.0 c.in_err-read_mark.ensures.stop)
 
 pub returns-then-is_mark-2-clause-ok : goal.returns-then-is_mark-2-clause-ok
 returns-then-is_mark-2-clause-ok c =

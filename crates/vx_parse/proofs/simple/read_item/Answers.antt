@@ -1,8 +1,8 @@
-use Rattle.std.proofs.Common.{[], ◌∷◌, drop, sym, subst, rules}
-use Rattle.vx_ast.specs.Phrases as phrases
-use Rattle.vx_ast.specs.Phrases.{SimpleRest, ItemValue, MoreItems, Level, The, A, mark, simple_rest, parts_of}
-use Rattle.vx_parse.specs.Reading.{Stops, IsPhrase}
+use Rattle.std.proofs.Common.{sym, subst}
+use Rattle.vx_ast.specs.Phrases.{ItemValue}
+use Rattle.vx_parse.specs.Reading.{IsPhrase}
 use Rattle.vx_parse.specs.Statements.{MeansValue}
+use Rattle.vx_parse.proofs.HandedOn.{handed_on}
 use Rattle.vx_parse.proofs.Parts.{past_token, within_phrase, misfit_name}
 use Rattle.vx_parse.proofs.Simples.{item_before, item_is}
 use Rattle.vx_parse.proofs.simple.read_item.Goals as goal
@@ -10,14 +10,12 @@ use Rattle.vx_parse.proofs.simple.read_item.Goals as goal
 pub returns-in_err-name-clause-stop : goal.returns-in_err-name-clause-stop
 returns-in_err-name-clause-stop c =
     let b = item_before c.args.tokens.now c.args.place c.args.depth c.requires.within c.requires.depth in
-    let h : Stops (A phrases.Item ∷ []) (drop c.args.place c.args.tokens.now) c.args.tokens.now c.args.depth 0 c.in_err-name.field-0.0 = misfit_name b c.in_err-name.field-0.0 c.in_err-name.ensures.stop in
-    search rules
+    handed_on _ _ _ c.from_residual.ensures.1 (misfit_name b c.in_err-name.field-0.0 c.in_err-name.ensures.stop)
 
 pub returns-in_err-given-clause-stop : goal.returns-in_err-given-clause-stop
 returns-in_err-given-clause-stop c =
     let b = past_token (item_before c.args.tokens.now c.args.place c.args.depth c.requires.within c.requires.depth) c.in_ok-name.ensures.ok.passed in
-    let h : Stops (A phrases.Item ∷ []) (drop c.args.place c.args.tokens.now) c.args.tokens.now c.args.depth 0 c.in_err-given.field-0.0 = within_phrase b c.in_err-given.field-0.0 c.in_err-given.ensures.stop in
-    search rules
+    handed_on _ _ _ c.from_residual-in_err-given.ensures.1 (within_phrase b c.in_err-given.field-0.0 c.in_err-given.ensures.stop)
 
 pub returns-clause-ok : goal.returns-clause-ok
 returns-clause-ok c =

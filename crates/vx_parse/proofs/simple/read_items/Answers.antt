@@ -1,7 +1,5 @@
-use Rattle.std.proofs.Common.{◌≡◌, [], ◌∷◌, ◌++◌, drop, refl, ap, ◌∙◌, rules}
-use Rattle.vx_ast.specs.Phrases as phrases
-use Rattle.vx_ast.specs.Phrases.{SimpleRest, ItemValue, MoreItems, Level, The, A, mark, simple_rest, parts_of}
-use Rattle.vx_parse.specs.Reading.{Stops}
+use Rattle.std.proofs.Common.{◌≡◌, [], ◌∷◌, ◌++◌, refl, ap, ◌∙◌}
+use Rattle.vx_parse.proofs.HandedOn.{handed_on}
 use Rattle.vx_parse.proofs.Expressions.{map_ok, map_err}
 use Rattle.vx_parse.proofs.Parts.{past_phrase, within_phrase}
 use Rattle.vx_parse.proofs.Simples.{items_start, items_are}
@@ -10,8 +8,7 @@ use Rattle.vx_parse.proofs.simple.read_items.Goals as goal
 pub returns-in_err-first-clause-stop : goal.returns-in_err-first-clause-stop
 returns-in_err-first-clause-stop c =
     let b = items_start c.args.tokens.now c.args.place c.args.depth c.requires.within c.requires.depth in
-    let h : Stops (A phrases.Item ∷ A MoreItems ∷ []) (drop c.args.place c.args.tokens.now) c.args.tokens.now c.args.depth 0 c.in_err-first.field-0.0 = within_phrase b c.in_err-first.field-0.0 c.in_err-first.ensures.stop in
-    search rules
+    handed_on _ _ _ c.from_residual.ensures.1 (within_phrase b c.in_err-first.field-0.0 c.in_err-first.ensures.stop)
 
 pub returns-clause-ok : goal.returns-clause-ok
 returns-clause-ok c =

@@ -1,7 +1,8 @@
-use Rattle.std.proofs.Common.{◌≡◌, [], ◌∷◌, drop, Some, subst, rules}
+use Rattle.std.proofs.Common.{◌≡◌, [], ◌∷◌, drop, Some, subst}
 use Rattle.vx_ast.specs.Phrases as phrases
-use Rattle.vx_ast.specs.Phrases.{SimpleRest, ItemValue, MoreItems, Level, The, A, mark, simple_rest, parts_of}
-use Rattle.vx_parse.specs.Reading.{next_kind, Stops}
+use Rattle.vx_ast.specs.Phrases.{SimpleRest, A, parts_of}
+use Rattle.vx_parse.specs.Reading.{next_kind}
+use Rattle.vx_parse.proofs.HandedOn.{handed_on}
 use Rattle.vx_parse.proofs.Expressions.{map_ok, map_err}
 use Rattle.vx_parse.proofs.Parts.{past_phrase, within_phrase}
 use Rattle.vx_parse.proofs.Simples.{operand_parted, simple_before, simple_is}
@@ -11,8 +12,7 @@ pub returns-in_err-operand-clause-stop : goal.returns-in_err-operand-clause-stop
 returns-in_err-operand-clause-stop c =
     let p : parts_of phrases.Simple (next_kind (drop c.args.place c.args.tokens.now)) ≡ Some (A phrases.Expression ∷ A SimpleRest ∷ []) = subst (λ z. parts_of phrases.Simple z ≡ Some (A phrases.Expression ∷ A SimpleRest ∷ [])) c.kind_at.ensures (c.is_step.ensures.no c.if-is_step.false) in
     let b = simple_before c.args.tokens.now c.args.place c.args.depth c.requires.within c.requires.depth p in
-    let h : Stops (A phrases.Simple ∷ []) (drop c.args.place c.args.tokens.now) c.args.tokens.now c.args.depth 0 c.in_err-operand.field-0.0 = within_phrase b c.in_err-operand.field-0.0 c.in_err-operand.ensures.stop in
-    search rules
+    handed_on _ _ _ c.from_residual.ensures.1 (within_phrase b c.in_err-operand.field-0.0 c.in_err-operand.ensures.stop)
 
 pub returns-clause-ok : goal.returns-clause-ok
 returns-clause-ok c =

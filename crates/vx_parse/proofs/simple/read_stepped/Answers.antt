@@ -1,7 +1,4 @@
-use Rattle.std.proofs.Common.{[], ◌∷◌, drop, rules}
-use Rattle.vx_ast.specs.Phrases as phrases
-use Rattle.vx_ast.specs.Phrases.{SimpleRest, ItemValue, MoreItems, Level, The, A, mark, simple_rest, parts_of}
-use Rattle.vx_parse.specs.Reading.{Stops}
+use Rattle.vx_parse.proofs.HandedOn.{handed_on}
 use Rattle.vx_parse.proofs.Parts.{within_phrase}
 use Rattle.vx_parse.proofs.Simples.{step_passed, step_before, stepped_is}
 use Rattle.vx_parse.proofs.simple.read_stepped.Goals as goal
@@ -13,8 +10,7 @@ pub returns-in_err-operand-clause-stop : goal.returns-in_err-operand-clause-stop
 returns-in_err-operand-clause-stop c =
     let p = step_passed c.args.tokens.now c.args.place c.requires.ended c.requires.within c.requires.step in
     let b = step_before c.args.tokens.now c.args.place c.args.depth p c.requires.within c.requires.depth c.requires.step in
-    let h : Stops (A phrases.Simple ∷ []) (drop c.args.place c.args.tokens.now) c.args.tokens.now c.args.depth 0 c.in_err-operand.field-0.0 = within_phrase b c.in_err-operand.field-0.0 c.in_err-operand.ensures.stop in
-    search rules
+    handed_on _ _ _ c.from_residual.ensures.1 (within_phrase b c.in_err-operand.field-0.0 c.in_err-operand.ensures.stop)
 
 pub returns-clause-ok : goal.returns-clause-ok
 returns-clause-ok c =

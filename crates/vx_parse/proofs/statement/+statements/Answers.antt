@@ -6,10 +6,11 @@ use Rattle.vx_ast.specs.declared.token.TokenKind.TheVariants as kinds
 use Rattle.vx_ast.specs.declared.syntax.Statement as statements
 use Rattle.vx_ast.specs.SyntaxView as view
 use Rattle.vx_ast.specs.Phrases as phrases
-use Rattle.vx_ast.specs.Phrases.{ElsePart, MoreItems, OptionalExpression, OptionalSimple, Print, Block, Items, The, A, AName, mark, word, parts_of}
+use Rattle.vx_ast.specs.Phrases.{ElsePart, Items, A, mark, word, parts_of}
 use Rattle.vx_parse.specs.Choices.{begins_simple}
-use Rattle.vx_parse.specs.Reading.{next_kind, Stops}
+use Rattle.vx_parse.specs.Reading.{next_kind}
 use Rattle.vx_parse.specs.Statements.{Test, Head, MeansAll, if_with}
+use Rattle.vx_parse.proofs.HandedOn.{handed_on}
 use Rattle.vx_parse.proofs.Tokens.{passes_word}
 use Rattle.vx_parse.proofs.Steps.{too_deep}
 use Rattle.vx_parse.proofs.Expressions.{map_ok, map_err}
@@ -23,8 +24,7 @@ use Rattle.vx_parse.proofs.statement.+statements.Goals as goal
 
 pub read_inner_block-returns-in_err-block-clause-stop : goal.read_inner_block-returns-in_err-block-clause-stop
 read_inner_block-returns-in_err-block-clause-stop t c =
-    let h : Stops (A phrases.Statement ∷ []) (drop c.args.place c.args.tokens.now) c.args.tokens.now c.args.depth 0 c.in_err-block.field-0.0 = block_stops c.args.tokens.now c.args.place c.args.depth c.in_err-block.field-0.0 c.requires.within c.requires.here c.in_err-block.ensures.stop in
-    search rules
+    handed_on _ _ _ c.from_residual.ensures.1 (block_stops c.args.tokens.now c.args.place c.args.depth c.in_err-block.field-0.0 c.requires.within c.requires.here c.in_err-block.ensures.stop)
 
 pub read_inner_block-returns-clause-ok : goal.read_inner_block-returns-clause-ok
 read_inner_block-returns-clause-ok t c =
@@ -50,8 +50,7 @@ read_else-returns-in_err-other-clause-stop t c =
     let e : next_kind (drop c.args.place c.args.tokens.now) ≡ kinds.Keyword words.Else = sym c.kind_at.ensures ∙ c.is_word.ensures.yes c.if-not-is_word.false in
     let p = passes_word c.args.tokens.now c.args.place words.Else c.requires.ended c.requires.within e in
     let b = else_before c.args.tokens.now c.args.place c.args.depth p c.requires.within c.requires.depth e in
-    let h : Stops (A ElsePart ∷ []) (drop c.args.place c.args.tokens.now) c.args.tokens.now c.args.depth 0 c.in_err-other.field-0.0 = within_phrase b c.in_err-other.field-0.0 c.in_err-other.ensures.stop in
-    search rules
+    handed_on _ _ _ c.from_residual.ensures.1 (within_phrase b c.in_err-other.field-0.0 c.in_err-other.ensures.stop)
 
 pub read_else-returns-clause-ok : goal.read_else-returns-clause-ok
 read_else-returns-clause-ok t c =
@@ -73,8 +72,7 @@ read_if-returns-in_err-test-clause-stop t c =
     let l : c.args.depth < 200 = let x = c.if-depth-ge-DEEPEST.false in omega arith in
     let o = word_opens words.If (Test ++ (A phrases.Statement ∷ A ElsePart ∷ [])) c.args.tokens.now c.args.place if_word c.requires.ended c.requires.within c.requires.here in
     let b0 = statement_before c.args.depth o refl l in
-    let h : Stops (A phrases.Statement ∷ []) (drop c.args.place c.args.tokens.now) c.args.tokens.now c.args.depth 0 c.in_err-test.field-0.0 = within_row Test (A phrases.Statement ∷ A ElsePart ∷ []) b0 c.in_err-test.field-0.0 c.in_err-test.ensures.stop in
-    search rules
+    handed_on _ _ _ c.from_residual.ensures.1 (within_row Test (A phrases.Statement ∷ A ElsePart ∷ []) b0 c.in_err-test.field-0.0 c.in_err-test.ensures.stop)
 
 pub read_if-returns-in_err-chosen-clause-stop : goal.read_if-returns-in_err-chosen-clause-stop
 read_if-returns-in_err-chosen-clause-stop t c =
@@ -82,8 +80,7 @@ read_if-returns-in_err-chosen-clause-stop t c =
     let o = word_opens words.If (Test ++ (A phrases.Statement ∷ A ElsePart ∷ [])) c.args.tokens.now c.args.place if_word c.requires.ended c.requires.within c.requires.here in
     let b0 = statement_before c.args.depth o refl l in
     let b1 = past_row Test (A phrases.Statement ∷ A ElsePart ∷ []) refl b0 c.in_ok-test.ensures.ok.parted in
-    let h : Stops (A phrases.Statement ∷ []) (drop c.args.place c.args.tokens.now) c.args.tokens.now c.args.depth 0 c.in_err-chosen.field-0.0 = within_phrase b1 c.in_err-chosen.field-0.0 c.in_err-chosen.ensures.stop in
-    search rules
+    handed_on _ _ _ c.from_residual-in_err-chosen.ensures.1 (within_phrase b1 c.in_err-chosen.field-0.0 c.in_err-chosen.ensures.stop)
 
 pub read_if-returns-in_err-other-clause-stop : goal.read_if-returns-in_err-other-clause-stop
 read_if-returns-in_err-other-clause-stop t c =
@@ -92,8 +89,7 @@ read_if-returns-in_err-other-clause-stop t c =
     let b0 = statement_before c.args.depth o refl l in
     let b1 = past_row Test (A phrases.Statement ∷ A ElsePart ∷ []) refl b0 c.in_ok-test.ensures.ok.parted in
     let b2 = past_phrase b1 c.in_ok-chosen.ensures.ok.parted in
-    let h : Stops (A phrases.Statement ∷ []) (drop c.args.place c.args.tokens.now) c.args.tokens.now c.args.depth 0 c.in_err-other.field-0.0 = within_phrase b2 c.in_err-other.field-0.0 c.in_err-other.ensures.stop in
-    search rules
+    handed_on _ _ _ c.from_residual-in_err-other.ensures.1 (within_phrase b2 c.in_err-other.field-0.0 c.in_err-other.ensures.stop)
 
 pub read_if-returns-clause-ok : goal.read_if-returns-clause-ok
 read_if-returns-clause-ok t c =
@@ -115,8 +111,7 @@ read_while-returns-in_err-test-clause-stop t c =
     let l : c.args.depth < 200 = let x = c.if-depth-ge-DEEPEST.false in omega arith in
     let o = word_opens words.While (Test ++ (A phrases.Statement ∷ [])) c.args.tokens.now c.args.place while_word c.requires.ended c.requires.within c.requires.here in
     let b0 = statement_before c.args.depth o refl l in
-    let h : Stops (A phrases.Statement ∷ []) (drop c.args.place c.args.tokens.now) c.args.tokens.now c.args.depth 0 c.in_err-test.field-0.0 = within_row Test (A phrases.Statement ∷ []) b0 c.in_err-test.field-0.0 c.in_err-test.ensures.stop in
-    search rules
+    handed_on _ _ _ c.from_residual.ensures.1 (within_row Test (A phrases.Statement ∷ []) b0 c.in_err-test.field-0.0 c.in_err-test.ensures.stop)
 
 pub read_while-returns-in_err-body-clause-stop : goal.read_while-returns-in_err-body-clause-stop
 read_while-returns-in_err-body-clause-stop t c =
@@ -124,8 +119,7 @@ read_while-returns-in_err-body-clause-stop t c =
     let o = word_opens words.While (Test ++ (A phrases.Statement ∷ [])) c.args.tokens.now c.args.place while_word c.requires.ended c.requires.within c.requires.here in
     let b0 = statement_before c.args.depth o refl l in
     let b1 = past_row Test (A phrases.Statement ∷ []) refl b0 c.in_ok-test.ensures.ok.parted in
-    let h : Stops (A phrases.Statement ∷ []) (drop c.args.place c.args.tokens.now) c.args.tokens.now c.args.depth 0 c.in_err-body.field-0.0 = within_phrase b1 c.in_err-body.field-0.0 c.in_err-body.ensures.stop in
-    search rules
+    handed_on _ _ _ c.from_residual-in_err-body.ensures.1 (within_phrase b1 c.in_err-body.field-0.0 c.in_err-body.ensures.stop)
 
 pub read_while-returns-clause-ok : goal.read_while-returns-clause-ok
 read_while-returns-clause-ok t c =
@@ -149,8 +143,7 @@ read_do-returns-in_err-body-clause-stop t c =
     let l : c.args.depth < 200 = let x = c.if-depth-ge-DEEPEST.false in omega arith in
     let o = word_opens words.Do (A phrases.Statement ∷ word words.While ∷ (Test ++ (mark marks.Semicolon ∷ []))) c.args.tokens.now c.args.place do_word c.requires.ended c.requires.within c.requires.here in
     let b0 = statement_before c.args.depth o refl l in
-    let h : Stops (A phrases.Statement ∷ []) (drop c.args.place c.args.tokens.now) c.args.tokens.now c.args.depth 0 c.in_err-body.field-0.0 = within_phrase b0 c.in_err-body.field-0.0 c.in_err-body.ensures.stop in
-    search rules
+    handed_on _ _ _ c.from_residual.ensures.1 (within_phrase b0 c.in_err-body.field-0.0 c.in_err-body.ensures.stop)
 
 pub read_do-returns-in_err-test_place-clause-stop : goal.read_do-returns-in_err-test_place-clause-stop
 read_do-returns-in_err-test_place-clause-stop t c =
@@ -158,8 +151,7 @@ read_do-returns-in_err-test_place-clause-stop t c =
     let o = word_opens words.Do (A phrases.Statement ∷ word words.While ∷ (Test ++ (mark marks.Semicolon ∷ []))) c.args.tokens.now c.args.place do_word c.requires.ended c.requires.within c.requires.here in
     let b0 = statement_before c.args.depth o refl l in
     let b1 = past_phrase b0 c.in_ok-body.ensures.ok.parted in
-    let h : Stops (A phrases.Statement ∷ []) (drop c.args.place c.args.tokens.now) c.args.tokens.now c.args.depth 0 c.in_err-test_place.field-0.0 = misfit b1 c.in_err-test_place.field-0.0 c.in_err-test_place.ensures.stop in
-    search rules
+    handed_on _ _ _ c.from_residual-in_err-test_place.ensures.1 (misfit b1 c.in_err-test_place.field-0.0 c.in_err-test_place.ensures.stop)
 
 pub read_do-returns-in_err-test-clause-stop : goal.read_do-returns-in_err-test-clause-stop
 read_do-returns-in_err-test-clause-stop t c =
@@ -168,8 +160,7 @@ read_do-returns-in_err-test-clause-stop t c =
     let b0 = statement_before c.args.depth o refl l in
     let b1 = past_phrase b0 c.in_ok-body.ensures.ok.parted in
     let b2 = past_token b1 c.in_ok-test_place.ensures.ok in
-    let h : Stops (A phrases.Statement ∷ []) (drop c.args.place c.args.tokens.now) c.args.tokens.now c.args.depth 0 c.in_err-test.field-0.0 = within_row Test (mark marks.Semicolon ∷ []) b2 c.in_err-test.field-0.0 c.in_err-test.ensures.stop in
-    search rules
+    handed_on _ _ _ c.from_residual-in_err-test.ensures.1 (within_row Test (mark marks.Semicolon ∷ []) b2 c.in_err-test.field-0.0 c.in_err-test.ensures.stop)
 
 pub read_do-returns-in_err-next-clause-stop : goal.read_do-returns-in_err-next-clause-stop
 read_do-returns-in_err-next-clause-stop t c =
@@ -179,8 +170,7 @@ read_do-returns-in_err-next-clause-stop t c =
     let b1 = past_phrase b0 c.in_ok-body.ensures.ok.parted in
     let b2 = past_token b1 c.in_ok-test_place.ensures.ok in
     let b3 = past_row Test (mark marks.Semicolon ∷ []) refl b2 c.in_ok-test.ensures.ok.parted in
-    let h : Stops (A phrases.Statement ∷ []) (drop c.args.place c.args.tokens.now) c.args.tokens.now c.args.depth 0 c.in_err-next.field-0.0 = misfit b3 c.in_err-next.field-0.0 c.in_err-next.ensures.stop in
-    search rules
+    handed_on _ _ _ c.from_residual-in_err-next.ensures.1 (misfit b3 c.in_err-next.field-0.0 c.in_err-next.ensures.stop)
 
 pub read_do-returns-clause-ok : goal.read_do-returns-clause-ok
 read_do-returns-clause-ok t c =
@@ -202,8 +192,7 @@ read_for-returns-in_err-head-clause-stop t c =
     let l : c.args.depth < 200 = let x = c.if-depth-ge-DEEPEST.false in omega arith in
     let o = word_opens words.For (Head ++ (A phrases.Statement ∷ [])) c.args.tokens.now c.args.place for_word c.requires.ended c.requires.within c.requires.here in
     let b0 = statement_before c.args.depth o refl l in
-    let h : Stops (A phrases.Statement ∷ []) (drop c.args.place c.args.tokens.now) c.args.tokens.now c.args.depth 0 c.in_err-head.field-0.0 = within_row Head (A phrases.Statement ∷ []) b0 c.in_err-head.field-0.0 c.in_err-head.ensures.stop in
-    search rules
+    handed_on _ _ _ c.from_residual.ensures.1 (within_row Head (A phrases.Statement ∷ []) b0 c.in_err-head.field-0.0 c.in_err-head.ensures.stop)
 
 pub read_for-returns-in_err-body-clause-stop : goal.read_for-returns-in_err-body-clause-stop
 read_for-returns-in_err-body-clause-stop t c =
@@ -211,8 +200,7 @@ read_for-returns-in_err-body-clause-stop t c =
     let o = word_opens words.For (Head ++ (A phrases.Statement ∷ [])) c.args.tokens.now c.args.place for_word c.requires.ended c.requires.within c.requires.here in
     let b0 = statement_before c.args.depth o refl l in
     let b1 = past_row Head (A phrases.Statement ∷ []) refl b0 c.in_ok-head.ensures.ok.parted in
-    let h : Stops (A phrases.Statement ∷ []) (drop c.args.place c.args.tokens.now) c.args.tokens.now c.args.depth 0 c.in_err-body.field-0.0 = within_phrase b1 c.in_err-body.field-0.0 c.in_err-body.ensures.stop in
-    search rules
+    handed_on _ _ _ c.from_residual-in_err-body.ensures.1 (within_phrase b1 c.in_err-body.field-0.0 c.in_err-body.ensures.stop)
 
 pub read_for-returns-clause-ok : goal.read_for-returns-clause-ok
 read_for-returns-clause-ok t c =
@@ -252,8 +240,7 @@ read_entries-entries-preserved t c =
 
 pub read_block-returns-in_err-inner-clause-stop : goal.read_block-returns-in_err-inner-clause-stop
 read_block-returns-in_err-inner-clause-stop t c =
-    let h : Stops (A Block ∷ []) (drop c.args.place c.args.tokens.now) c.args.tokens.now c.args.depth 0 c.in_err-inner.field-0.0 = block_misfit c.args.tokens.now c.args.place c.args.depth c.in_err-inner.field-0.0 c.requires.within c.requires.depth c.in_err-inner.ensures.stop in
-    search rules
+    handed_on _ _ _ c.from_residual.ensures.1 (block_misfit c.args.tokens.now c.args.place c.args.depth c.in_err-inner.field-0.0 c.requires.within c.requires.depth c.in_err-inner.ensures.stop)
 
 pub read_block-returns-then-depth-ge-DEEPEST-clause-stop : goal.read_block-returns-then-depth-ge-DEEPEST-clause-stop
 read_block-returns-then-depth-ge-DEEPEST-clause-stop t c =
@@ -265,8 +252,7 @@ read_block-returns-in_err-entries-clause-stop t c =
     let l : c.args.depth < 200 = let x = c.if-depth-ge-DEEPEST.false in omega arith in
     let o = block_opens c.args.tokens.now c.args.place _ c.requires.within c.in_ok-inner.ensures.ok in
     let b0 = block_before c.args.depth o l in
-    let h : Stops (A Block ∷ []) (drop c.args.place c.args.tokens.now) c.args.tokens.now c.args.depth 0 c.in_err-entries.field-0.0 = within_phrase b0 c.in_err-entries.field-0.0 c.in_err-entries.ensures.stop in
-    search rules
+    handed_on _ _ _ c.from_residual-in_err-entries.ensures.1 (within_phrase b0 c.in_err-entries.field-0.0 c.in_err-entries.ensures.stop)
 
 pub read_block-returns-in_err-read_mark-clause-stop : goal.read_block-returns-in_err-read_mark-clause-stop
 read_block-returns-in_err-read_mark-clause-stop t c =
@@ -274,8 +260,7 @@ read_block-returns-in_err-read_mark-clause-stop t c =
     let o = block_opens c.args.tokens.now c.args.place _ c.requires.within c.in_ok-inner.ensures.ok in
     let b0 = block_before c.args.depth o l in
     let b1 = past_phrase b0 c.in_ok-entries.ensures.ok.parted in
-    let h : Stops (A Block ∷ []) (drop c.args.place c.args.tokens.now) c.args.tokens.now c.args.depth 0 c.in_err-read_mark.field-0.0 = misfit b1 c.in_err-read_mark.field-0.0 c.in_err-read_mark.ensures.stop in
-    search rules
+    handed_on _ _ _ c.from_residual-in_err-read_mark.ensures.1 (misfit b1 c.in_err-read_mark.field-0.0 c.in_err-read_mark.ensures.stop)
 
 pub read_block-returns-clause-ok : goal.read_block-returns-clause-ok
 read_block-returns-clause-ok t c =

@@ -1,10 +1,9 @@
-use Rattle.std.proofs.Common.{◌<◌, [], ◌∷◌, drop, refl, arith, rules}
+use Rattle.std.proofs.Common.{◌<◌, [], ◌∷◌, refl, arith}
 use Rattle.vx_ast.specs.declared.token.Keyword.TheVariants as words
 use Rattle.vx_ast.specs.declared.token.Mark.TheVariants as marks
 use Rattle.vx_ast.specs.declared.syntax.Statement as statements
-use Rattle.vx_ast.specs.Phrases as phrases
-use Rattle.vx_ast.specs.Phrases.{ElsePart, MoreItems, OptionalExpression, OptionalSimple, Print, Block, Items, The, A, AName, mark, word, parts_of}
-use Rattle.vx_parse.specs.Reading.{Stops}
+use Rattle.vx_ast.specs.Phrases.{mark}
+use Rattle.vx_parse.proofs.HandedOn.{handed_on}
 use Rattle.vx_parse.proofs.Tokens.{passes_word}
 use Rattle.vx_parse.proofs.Steps.{too_deep}
 use Rattle.vx_parse.proofs.Parts.{misfit}
@@ -25,8 +24,7 @@ returns-in_err-next-clause-stop c =
     let l : c.args.depth < 200 = let x = c.if-depth-ge-DEEPEST.false in omega arith in
     let o = word_opens words.Continue (mark marks.Semicolon ∷ []) c.args.tokens.now c.args.place continue_word c.requires.ended c.requires.within c.requires.here in
     let b0 = statement_before c.args.depth o refl l in
-    let h : Stops (A phrases.Statement ∷ []) (drop c.args.place c.args.tokens.now) c.args.tokens.now c.args.depth 0 c.in_err-next.field-0.0 = misfit b0 c.in_err-next.field-0.0 c.in_err-next.ensures.stop in
-    search rules
+    handed_on _ _ _ c.from_residual.ensures.1 (misfit b0 c.in_err-next.field-0.0 c.in_err-next.ensures.stop)
 
 pub returns-clause-ok : goal.returns-clause-ok
 returns-clause-ok c =

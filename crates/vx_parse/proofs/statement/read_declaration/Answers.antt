@@ -1,10 +1,10 @@
-use Rattle.std.proofs.Common.{[], ◌∷◌, drop, refl, arith, rules}
+use Rattle.std.proofs.Common.{[], ◌∷◌, refl, arith}
 use Rattle.vx_ast.specs.declared.token.Keyword.TheVariants as words
 use Rattle.vx_ast.specs.declared.token.Mark.TheVariants as marks
 use Rattle.vx_ast.specs.declared.syntax.Statement as statements
 use Rattle.vx_ast.specs.Phrases as phrases
-use Rattle.vx_ast.specs.Phrases.{ElsePart, MoreItems, OptionalExpression, OptionalSimple, Print, Block, Items, The, A, AName, mark, word, parts_of}
-use Rattle.vx_parse.specs.Reading.{Stops}
+use Rattle.vx_ast.specs.Phrases.{MoreItems, Items, A, mark}
+use Rattle.vx_parse.proofs.HandedOn.{handed_on}
 use Rattle.vx_parse.proofs.Tokens.{passes_word}
 use Rattle.vx_parse.proofs.Parts.{past_row, within_row, misfit}
 use Rattle.vx_parse.proofs.Blocks.{declaration_before, declaration_is}
@@ -18,16 +18,14 @@ pub returns-in_err-items-clause-stop : goal.returns-in_err-items-clause-stop
 returns-in_err-items-clause-stop c =
     let p = passes_word c.args.tokens.now c.args.place words.Int c.requires.ended c.requires.within c.requires.here in
     let b0 = declaration_before c.args.tokens.now c.args.place c.args.depth p c.requires.within c.requires.depth c.requires.here in
-    let h : Stops (A Items ∷ []) (drop c.args.place c.args.tokens.now) c.args.tokens.now c.args.depth 0 c.in_err-items.field-0.0 = within_row (A phrases.Item ∷ A MoreItems ∷ []) (mark marks.Semicolon ∷ A Items ∷ []) b0 c.in_err-items.field-0.0 c.in_err-items.ensures.stop in
-    search rules
+    handed_on _ _ _ c.from_residual.ensures.1 (within_row (A phrases.Item ∷ A MoreItems ∷ []) (mark marks.Semicolon ∷ A Items ∷ []) b0 c.in_err-items.field-0.0 c.in_err-items.ensures.stop)
 
 pub returns-in_err-next-clause-stop : goal.returns-in_err-next-clause-stop
 returns-in_err-next-clause-stop c =
     let p = passes_word c.args.tokens.now c.args.place words.Int c.requires.ended c.requires.within c.requires.here in
     let b0 = declaration_before c.args.tokens.now c.args.place c.args.depth p c.requires.within c.requires.depth c.requires.here in
     let b1 = past_row (A phrases.Item ∷ A MoreItems ∷ []) (mark marks.Semicolon ∷ A Items ∷ []) refl b0 c.in_ok-items.ensures.ok.parted in
-    let h : Stops (A Items ∷ []) (drop c.args.place c.args.tokens.now) c.args.tokens.now c.args.depth 0 c.in_err-next.field-0.0 = misfit b1 c.in_err-next.field-0.0 c.in_err-next.ensures.stop in
-    search rules
+    handed_on _ _ _ c.from_residual-in_err-next.ensures.1 (misfit b1 c.in_err-next.field-0.0 c.in_err-next.ensures.stop)
 
 pub returns-clause-ok : goal.returns-clause-ok
 returns-clause-ok c =

@@ -1,9 +1,9 @@
-use Rattle.std.proofs.Common.{[], ◌∷◌, drop, ap, rules}
+use Rattle.std.proofs.Common.{[], ◌∷◌, ap}
 use Rattle.vx_ast.specs.declared.token.Keyword.TheVariants as words
 use Rattle.vx_ast.specs.SyntaxView as view
 use Rattle.vx_ast.specs.Phrases as phrases
-use Rattle.vx_ast.specs.Phrases.{ElsePart, MoreItems, OptionalExpression, OptionalSimple, Print, Block, Items, The, A, AName, mark, word, parts_of}
-use Rattle.vx_parse.specs.Reading.{Stops}
+use Rattle.vx_ast.specs.Phrases.{MoreItems, A}
+use Rattle.vx_parse.proofs.HandedOn.{handed_on}
 use Rattle.vx_parse.proofs.Tokens.{passes_word}
 use Rattle.vx_parse.proofs.Parts.{within_row}
 use Rattle.vx_parse.proofs.Statements.{int_before, first_items_are}
@@ -17,8 +17,7 @@ pub returns-in_err-items-clause-stop : goal.returns-in_err-items-clause-stop
 returns-in_err-items-clause-stop c =
     let p = passes_word c.args.tokens.now c.args.place words.Int c.requires.ended c.requires.within c.requires.here in
     let b = int_before c.args.tokens.now c.args.place c.args.depth p c.requires.within c.requires.depth c.requires.here in
-    let h : Stops (A phrases.First ∷ []) (drop c.args.place c.args.tokens.now) c.args.tokens.now c.args.depth 0 c.in_err-items.field-0.0 = within_row (A phrases.Item ∷ A MoreItems ∷ []) [] b c.in_err-items.field-0.0 c.in_err-items.ensures.stop in
-    search rules
+    handed_on _ _ _ c.from_residual.ensures.1 (within_row (A phrases.Item ∷ A MoreItems ∷ []) [] b c.in_err-items.field-0.0 c.in_err-items.ensures.stop)
 
 pub returns-clause-ok : goal.returns-clause-ok
 returns-clause-ok c =

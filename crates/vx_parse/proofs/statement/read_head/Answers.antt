@@ -1,6 +1,4 @@
-use Rattle.std.proofs.Common.{drop, rules}
-use Rattle.vx_parse.specs.Reading.{Stops}
-use Rattle.vx_parse.specs.Statements.{Head}
+use Rattle.vx_parse.proofs.HandedOn.{handed_on}
 use Rattle.vx_parse.proofs.Parts.{past_token, past_phrase, within_phrase, ends, misfit}
 use Rattle.vx_parse.proofs.Statements.{head_start}
 use Rattle.vx_parse.proofs.statement.read_head.Goals as goal
@@ -8,23 +6,20 @@ use Rattle.vx_parse.proofs.statement.read_head.Goals as goal
 pub returns-in_err-first_place-clause-stop : goal.returns-in_err-first_place-clause-stop
 returns-in_err-first_place-clause-stop c =
     let b0 = head_start c.args.tokens.now c.args.place c.args.depth c.requires.within c.requires.depth in
-    let h : Stops (Head) (drop c.args.place c.args.tokens.now) c.args.tokens.now c.args.depth 0 c.in_err-first_place.field-0.0 = misfit b0 c.in_err-first_place.field-0.0 c.in_err-first_place.ensures.stop in
-    search rules
+    handed_on _ _ _ c.from_residual.ensures.1 (misfit b0 c.in_err-first_place.field-0.0 c.in_err-first_place.ensures.stop)
 
 pub returns-in_err-first-clause-stop : goal.returns-in_err-first-clause-stop
 returns-in_err-first-clause-stop c =
     let b0 = head_start c.args.tokens.now c.args.place c.args.depth c.requires.within c.requires.depth in
     let b1 = past_token b0 c.in_ok-first_place.ensures.ok in
-    let h : Stops (Head) (drop c.args.place c.args.tokens.now) c.args.tokens.now c.args.depth 0 c.in_err-first.field-0.0 = within_phrase b1 c.in_err-first.field-0.0 c.in_err-first.ensures.stop in
-    search rules
+    handed_on _ _ _ c.from_residual-in_err-first.ensures.1 (within_phrase b1 c.in_err-first.field-0.0 c.in_err-first.ensures.stop)
 
 pub returns-in_err-test_place-clause-stop : goal.returns-in_err-test_place-clause-stop
 returns-in_err-test_place-clause-stop c =
     let b0 = head_start c.args.tokens.now c.args.place c.args.depth c.requires.within c.requires.depth in
     let b1 = past_token b0 c.in_ok-first_place.ensures.ok in
     let b2 = past_phrase b1 c.in_ok-first.ensures.ok.parted in
-    let h : Stops (Head) (drop c.args.place c.args.tokens.now) c.args.tokens.now c.args.depth 0 c.in_err-test_place.field-0.0 = misfit b2 c.in_err-test_place.field-0.0 c.in_err-test_place.ensures.stop in
-    search rules
+    handed_on _ _ _ c.from_residual-in_err-test_place.ensures.1 (misfit b2 c.in_err-test_place.field-0.0 c.in_err-test_place.ensures.stop)
 
 pub returns-in_err-test-clause-stop : goal.returns-in_err-test-clause-stop
 returns-in_err-test-clause-stop c =
@@ -32,8 +27,7 @@ returns-in_err-test-clause-stop c =
     let b1 = past_token b0 c.in_ok-first_place.ensures.ok in
     let b2 = past_phrase b1 c.in_ok-first.ensures.ok.parted in
     let b3 = past_token b2 c.in_ok-test_place.ensures.ok in
-    let h : Stops (Head) (drop c.args.place c.args.tokens.now) c.args.tokens.now c.args.depth 0 c.in_err-test.field-0.0 = within_phrase b3 c.in_err-test.field-0.0 c.in_err-test.ensures.stop in
-    search rules
+    handed_on _ _ _ c.from_residual-in_err-test.ensures.1 (within_phrase b3 c.in_err-test.field-0.0 c.in_err-test.ensures.stop)
 
 pub returns-in_err-step_place-clause-stop : goal.returns-in_err-step_place-clause-stop
 returns-in_err-step_place-clause-stop c =
@@ -42,8 +36,7 @@ returns-in_err-step_place-clause-stop c =
     let b2 = past_phrase b1 c.in_ok-first.ensures.ok.parted in
     let b3 = past_token b2 c.in_ok-test_place.ensures.ok in
     let b4 = past_phrase b3 c.in_ok-test.ensures.ok.parted in
-    let h : Stops (Head) (drop c.args.place c.args.tokens.now) c.args.tokens.now c.args.depth 0 c.in_err-step_place.field-0.0 = misfit b4 c.in_err-step_place.field-0.0 c.in_err-step_place.ensures.stop in
-    search rules
+    handed_on _ _ _ c.from_residual-in_err-step_place.ensures.1 (misfit b4 c.in_err-step_place.field-0.0 c.in_err-step_place.ensures.stop)
 
 pub returns-in_err-step-clause-stop : goal.returns-in_err-step-clause-stop
 returns-in_err-step-clause-stop c =
@@ -53,8 +46,7 @@ returns-in_err-step-clause-stop c =
     let b3 = past_token b2 c.in_ok-test_place.ensures.ok in
     let b4 = past_phrase b3 c.in_ok-test.ensures.ok.parted in
     let b5 = past_token b4 c.in_ok-step_place.ensures.ok in
-    let h : Stops (Head) (drop c.args.place c.args.tokens.now) c.args.tokens.now c.args.depth 0 c.in_err-step.field-0.0 = within_phrase b5 c.in_err-step.field-0.0 c.in_err-step.ensures.stop in
-    search rules
+    handed_on _ _ _ c.from_residual-in_err-step.ensures.1 (within_phrase b5 c.in_err-step.field-0.0 c.in_err-step.ensures.stop)
 
 pub returns-in_err-next-clause-stop : goal.returns-in_err-next-clause-stop
 returns-in_err-next-clause-stop c =
@@ -65,8 +57,7 @@ returns-in_err-next-clause-stop c =
     let b4 = past_phrase b3 c.in_ok-test.ensures.ok.parted in
     let b5 = past_token b4 c.in_ok-step_place.ensures.ok in
     let b6 = past_phrase b5 c.in_ok-step.ensures.ok.parted in
-    let h : Stops (Head) (drop c.args.place c.args.tokens.now) c.args.tokens.now c.args.depth 0 c.in_err-next.field-0.0 = misfit b6 c.in_err-next.field-0.0 c.in_err-next.ensures.stop in
-    search rules
+    handed_on _ _ _ c.from_residual-in_err-next.ensures.1 (misfit b6 c.in_err-next.field-0.0 c.in_err-next.ensures.stop)
 
 pub returns-clause-ok : goal.returns-clause-ok
 returns-clause-ok c =

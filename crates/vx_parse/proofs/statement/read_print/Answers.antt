@@ -1,8 +1,6 @@
-use Rattle.std.proofs.Common.{◌<◌, [], ◌∷◌, drop, refl, arith, rules}
+use Rattle.std.proofs.Common.{◌<◌, refl, arith}
 use Rattle.vx_ast.specs.declared.syntax.Statement as statements
-use Rattle.vx_ast.specs.Phrases as phrases
-use Rattle.vx_ast.specs.Phrases.{ElsePart, MoreItems, OptionalExpression, OptionalSimple, Print, Block, Items, The, A, AName, mark, word, parts_of}
-use Rattle.vx_parse.specs.Reading.{Stops}
+use Rattle.vx_parse.proofs.HandedOn.{handed_on}
 use Rattle.vx_parse.proofs.Parts.{past_phrase, within_phrase, misfit}
 use Rattle.vx_parse.proofs.Begun.{print_statement, print_too_deep}
 use Rattle.vx_parse.proofs.Statements.{print_is}
@@ -16,16 +14,14 @@ pub returns-in_err-print-clause-stop : goal.returns-in_err-print-clause-stop
 returns-in_err-print-clause-stop c =
     let l : c.args.depth < 200 = let x = c.if-depth-ge-DEEPEST.false in omega arith in
     let b0 = print_statement c.args.tokens.now c.args.place c.args.depth c.requires.within l c.requires.here in
-    let h : Stops (A phrases.Statement ∷ []) (drop c.args.place c.args.tokens.now) c.args.tokens.now c.args.depth 0 c.in_err-print.field-0.0 = within_phrase b0 c.in_err-print.field-0.0 c.in_err-print.ensures.stop in
-    search rules
+    handed_on _ _ _ c.from_residual.ensures.1 (within_phrase b0 c.in_err-print.field-0.0 c.in_err-print.ensures.stop)
 
 pub returns-in_err-next-clause-stop : goal.returns-in_err-next-clause-stop
 returns-in_err-next-clause-stop c =
     let l : c.args.depth < 200 = let x = c.if-depth-ge-DEEPEST.false in omega arith in
     let b0 = print_statement c.args.tokens.now c.args.place c.args.depth c.requires.within l c.requires.here in
     let b1 = past_phrase b0 c.in_ok-print.ensures.ok.parted in
-    let h : Stops (A phrases.Statement ∷ []) (drop c.args.place c.args.tokens.now) c.args.tokens.now c.args.depth 0 c.in_err-next.field-0.0 = misfit b1 c.in_err-next.field-0.0 c.in_err-next.ensures.stop in
-    search rules
+    handed_on _ _ _ c.from_residual-in_err-next.ensures.1 (misfit b1 c.in_err-next.field-0.0 c.in_err-next.ensures.stop)
 
 pub returns-clause-ok : goal.returns-clause-ok
 returns-clause-ok c =

@@ -1,7 +1,6 @@
-use Rattle.std.proofs.Common.{[], ◌∷◌, drop, refl, rules}
-use Rattle.vx_ast.specs.Phrases.{Print, A}
+use Rattle.std.proofs.Common.{refl}
 use Rattle.vx_parse.specs.declared.statement.PrintRead.{PrintRead}
-use Rattle.vx_parse.specs.Reading.{Stops}
+use Rattle.vx_parse.proofs.HandedOn.{handed_on}
 use Rattle.vx_parse.proofs.Parts.{past_token, past_phrase, within_phrase, misfit, misfit_text}
 use Rattle.vx_parse.proofs.Statements.{name_passed, print_before, more_parted, printed_is}
 use Rattle.vx_parse.proofs.statement.read_printed.Goals as goal
@@ -14,16 +13,14 @@ pub returns-in_err-format_place-clause-stop : goal.returns-in_err-format_place-c
 returns-in_err-format_place-clause-stop c =
     let p = name_passed c.args.tokens.now c.args.place c.requires.ended c.requires.within c.requires.name in
     let b0 = print_before c.args.tokens.now c.args.place c.args.depth p c.requires.within c.requires.depth in
-    let h : Stops (A Print ∷ []) (drop c.args.place c.args.tokens.now) c.args.tokens.now c.args.depth 0 c.in_err-format_place.field-0.0 = misfit b0 c.in_err-format_place.field-0.0 c.in_err-format_place.ensures.stop in
-    search rules
+    handed_on _ _ _ c.from_residual.ensures.1 (misfit b0 c.in_err-format_place.field-0.0 c.in_err-format_place.ensures.stop)
 
 pub returns-in_err-format-clause-stop : goal.returns-in_err-format-clause-stop
 returns-in_err-format-clause-stop c =
     let p = name_passed c.args.tokens.now c.args.place c.requires.ended c.requires.within c.requires.name in
     let b0 = print_before c.args.tokens.now c.args.place c.args.depth p c.requires.within c.requires.depth in
     let b1 = past_token b0 c.in_ok-format_place.ensures.ok in
-    let h : Stops (A Print ∷ []) (drop c.args.place c.args.tokens.now) c.args.tokens.now c.args.depth 0 c.in_err-format.field-0.0 = misfit_text b1 c.in_err-format.field-0.0 c.in_err-format.ensures.stop in
-    search rules
+    handed_on _ _ _ c.from_residual-in_err-format.ensures.1 (misfit_text b1 c.in_err-format.field-0.0 c.in_err-format.ensures.stop)
 
 pub returns-in_err-arguments-clause-stop : goal.returns-in_err-arguments-clause-stop
 returns-in_err-arguments-clause-stop c =
@@ -31,8 +28,7 @@ returns-in_err-arguments-clause-stop c =
     let b0 = print_before c.args.tokens.now c.args.place c.args.depth p c.requires.within c.requires.depth in
     let b1 = past_token b0 c.in_ok-format_place.ensures.ok in
     let b2 = past_token b1 c.in_ok-format.ensures.ok.passed in
-    let h : Stops (A Print ∷ []) (drop c.args.place c.args.tokens.now) c.args.tokens.now c.args.depth 0 c.in_err-arguments.field-0.0 = within_phrase b2 c.in_err-arguments.field-0.0 c.in_err-arguments.ensures.stop in
-    search rules
+    handed_on _ _ _ c.from_residual-in_err-arguments.ensures.1 (within_phrase b2 c.in_err-arguments.field-0.0 c.in_err-arguments.ensures.stop)
 
 pub returns-in_err-next-clause-stop : goal.returns-in_err-next-clause-stop
 returns-in_err-next-clause-stop c =
@@ -41,8 +37,7 @@ returns-in_err-next-clause-stop c =
     let b1 = past_token b0 c.in_ok-format_place.ensures.ok in
     let b2 = past_token b1 c.in_ok-format.ensures.ok.passed in
     let b3 = past_phrase b2 (more_parted c.in_ok-arguments.ensures.ok) in
-    let h : Stops (A Print ∷ []) (drop c.args.place c.args.tokens.now) c.args.tokens.now c.args.depth 0 c.in_err-next.field-0.0 = misfit b3 c.in_err-next.field-0.0 c.in_err-next.ensures.stop in
-    search rules
+    handed_on _ _ _ c.from_residual-in_err-next.ensures.1 (misfit b3 c.in_err-next.field-0.0 c.in_err-next.ensures.stop)
 
 pub returns-clause-ok : goal.returns-clause-ok
 returns-clause-ok c =

@@ -1,12 +1,11 @@
-use Rattle.std.proofs.Common.{◌<◌, [], ◌∷◌, drop, refl, ap, ◌∙◌, arith, rules}
+use Rattle.std.proofs.Common.{◌<◌, [], ◌∷◌, refl, ap, ◌∙◌, arith}
 use Rattle.std.specs.Prelude.{option_map}
 use Rattle.vx_ast.specs.declared.token.Keyword.TheVariants as words
 use Rattle.vx_ast.specs.declared.token.Mark.TheVariants as marks
 use Rattle.vx_ast.specs.SyntaxView as view
-use Rattle.vx_ast.specs.Phrases as phrases
 use Rattle.vx_ast.specs.Derivations.{returned}
-use Rattle.vx_ast.specs.Phrases.{ElsePart, MoreItems, OptionalExpression, OptionalSimple, Print, Block, Items, The, A, AName, mark, word, parts_of}
-use Rattle.vx_parse.specs.Reading.{Stops}
+use Rattle.vx_ast.specs.Phrases.{OptionalExpression, A, mark}
+use Rattle.vx_parse.proofs.HandedOn.{handed_on}
 use Rattle.vx_parse.proofs.Tokens.{passes_word}
 use Rattle.vx_parse.proofs.Steps.{too_deep}
 use Rattle.vx_parse.proofs.Parts.{past_phrase, within_phrase, misfit}
@@ -27,8 +26,7 @@ returns-in_err-value-clause-stop c =
     let l : c.args.depth < 200 = let x = c.if-depth-ge-DEEPEST.false in omega arith in
     let o = word_opens words.Return (A OptionalExpression ∷ mark marks.Semicolon ∷ []) c.args.tokens.now c.args.place return_word c.requires.ended c.requires.within c.requires.here in
     let b0 = statement_before c.args.depth o refl l in
-    let h : Stops (A phrases.Statement ∷ []) (drop c.args.place c.args.tokens.now) c.args.tokens.now c.args.depth 0 c.in_err-value.field-0.0 = within_phrase b0 c.in_err-value.field-0.0 c.in_err-value.ensures.stop in
-    search rules
+    handed_on _ _ _ c.from_residual.ensures.1 (within_phrase b0 c.in_err-value.field-0.0 c.in_err-value.ensures.stop)
 
 pub returns-in_err-next-clause-stop : goal.returns-in_err-next-clause-stop
 returns-in_err-next-clause-stop c =
@@ -36,8 +34,7 @@ returns-in_err-next-clause-stop c =
     let o = word_opens words.Return (A OptionalExpression ∷ mark marks.Semicolon ∷ []) c.args.tokens.now c.args.place return_word c.requires.ended c.requires.within c.requires.here in
     let b0 = statement_before c.args.depth o refl l in
     let b1 = past_phrase b0 c.in_ok-value.ensures.ok.parted in
-    let h : Stops (A phrases.Statement ∷ []) (drop c.args.place c.args.tokens.now) c.args.tokens.now c.args.depth 0 c.in_err-next.field-0.0 = misfit b1 c.in_err-next.field-0.0 c.in_err-next.ensures.stop in
-    search rules
+    handed_on _ _ _ c.from_residual-in_err-next.ensures.1 (misfit b1 c.in_err-next.field-0.0 c.in_err-next.ensures.stop)
 
 pub returns-clause-ok : goal.returns-clause-ok
 returns-clause-ok c =

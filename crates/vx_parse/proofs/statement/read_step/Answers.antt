@@ -1,9 +1,10 @@
-use Rattle.std.proofs.Common.{◌≡◌, [], ◌∷◌, drop, sym, ◌∙◌, subst, rules}
+use Rattle.std.proofs.Common.{◌≡◌, drop, sym, ◌∙◌, subst}
 use Rattle.vx_ast.specs.declared.token.Mark.TheVariants as marks
 use Rattle.vx_ast.specs.declared.token.TokenKind.TheVariants as kinds
-use Rattle.vx_ast.specs.Phrases.{OptionalSimple, A}
-use Rattle.vx_parse.specs.Reading.{next_kind, Stops, IsPhrase}
+use Rattle.vx_ast.specs.Phrases.{OptionalSimple}
+use Rattle.vx_parse.specs.Reading.{next_kind, IsPhrase}
 use Rattle.vx_parse.specs.Statements.{MeansStep}
+use Rattle.vx_parse.proofs.HandedOn.{handed_on}
 use Rattle.vx_parse.proofs.Parts.{within_phrase}
 use Rattle.vx_parse.proofs.Statements.{no_step, some_step_before, some_step}
 use Rattle.vx_parse.proofs.statement.read_step.Goals as goal
@@ -16,8 +17,7 @@ pub returns-in_err-simple-clause-stop : goal.returns-in_err-simple-clause-stop
 returns-in_err-simple-clause-stop c =
     let n1 : next_kind (drop c.args.place c.args.tokens.now) ≡ kinds.Mark marks.CloseParenthesis → ⊥ = λ e. c.is_mark.ensures.no c.if-is_mark.false (c.kind_at.ensures ∙ e) in
     let b = some_step_before c.args.tokens.now c.args.place c.args.depth c.requires.within c.requires.depth n1 in
-    let h : Stops (A OptionalSimple ∷ []) (drop c.args.place c.args.tokens.now) c.args.tokens.now c.args.depth 0 c.in_err-simple.field-0.0 = within_phrase b c.in_err-simple.field-0.0 c.in_err-simple.ensures.stop in
-    search rules
+    handed_on _ _ _ c.from_residual-in_err-simple.ensures.1 (within_phrase b c.in_err-simple.field-0.0 c.in_err-simple.ensures.stop)
 
 pub returns-clause-ok : goal.returns-clause-ok
 returns-clause-ok c =

@@ -1,7 +1,6 @@
-use Rattle.std.proofs.Common.{drop, ap, rules}
+use Rattle.std.proofs.Common.{ap}
 use Rattle.vx_ast.specs.SyntaxView as view
-use Rattle.vx_parse.specs.Reading.{Stops}
-use Rattle.vx_parse.specs.Statements.{Test}
+use Rattle.vx_parse.proofs.HandedOn.{handed_on}
 use Rattle.vx_parse.proofs.Parts.{past_token, past_phrase, within_phrase, misfit}
 use Rattle.vx_parse.proofs.Simples.{operand_parted}
 use Rattle.vx_parse.proofs.Statements.{test_start, test_is}
@@ -10,23 +9,20 @@ use Rattle.vx_parse.proofs.statement.read_test.Goals as goal
 pub returns-in_err-inner-clause-stop : goal.returns-in_err-inner-clause-stop
 returns-in_err-inner-clause-stop c =
     let b0 = test_start c.args.tokens.now c.args.place c.args.depth c.requires.within c.requires.depth in
-    let h : Stops (Test) (drop c.args.place c.args.tokens.now) c.args.tokens.now c.args.depth 0 c.in_err-inner.field-0.0 = misfit b0 c.in_err-inner.field-0.0 c.in_err-inner.ensures.stop in
-    search rules
+    handed_on _ _ _ c.from_residual.ensures.1 (misfit b0 c.in_err-inner.field-0.0 c.in_err-inner.ensures.stop)
 
 pub returns-in_err-test-clause-stop : goal.returns-in_err-test-clause-stop
 returns-in_err-test-clause-stop c =
     let b0 = test_start c.args.tokens.now c.args.place c.args.depth c.requires.within c.requires.depth in
     let b1 = past_token b0 c.in_ok-inner.ensures.ok in
-    let h : Stops (Test) (drop c.args.place c.args.tokens.now) c.args.tokens.now c.args.depth 0 c.in_err-test.field-0.0 = within_phrase b1 c.in_err-test.field-0.0 c.in_err-test.ensures.stop in
-    search rules
+    handed_on _ _ _ c.from_residual-in_err-test.ensures.1 (within_phrase b1 c.in_err-test.field-0.0 c.in_err-test.ensures.stop)
 
 pub returns-in_err-next-clause-stop : goal.returns-in_err-next-clause-stop
 returns-in_err-next-clause-stop c =
     let b0 = test_start c.args.tokens.now c.args.place c.args.depth c.requires.within c.requires.depth in
     let b1 = past_token b0 c.in_ok-inner.ensures.ok in
     let b2 = past_phrase b1 (operand_parted c.in_ok-test.ensures.ok) in
-    let h : Stops (Test) (drop c.args.place c.args.tokens.now) c.args.tokens.now c.args.depth 0 c.in_err-next.field-0.0 = misfit b2 c.in_err-next.field-0.0 c.in_err-next.ensures.stop in
-    search rules
+    handed_on _ _ _ c.from_residual-in_err-next.ensures.1 (misfit b2 c.in_err-next.field-0.0 c.in_err-next.ensures.stop)
 
 pub returns-clause-ok : goal.returns-clause-ok
 returns-clause-ok c =

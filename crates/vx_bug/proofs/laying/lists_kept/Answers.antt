@@ -1,6 +1,0 @@
-use Rattle.std.proofs.Common.{refl}
-use Rattle.vx_bug.proofs.Pieces.{moved_told}
-use Rattle.vx_bug.proofs.laying.lists_kept.Goals as goal
-
-pub returns-clause-joins : goal.returns-clause-joins
-returns-clause-joins c = moved_told c.args.starts.now c.args.starts.now c.args.trace.now.joins c.as_slice.result.now c.in_ok-joins.joins refl c.as_slice.ensures c.in_ok-joins.ensures

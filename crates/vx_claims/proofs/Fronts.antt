@@ -1,0 +1,75 @@
+-- Lists that are gone over: the item in front, and the item that comes next.
+use Rattle.std.proofs.Common.{◌≡◌, ℕ, ◌+◌, ◌-◌, ◌<◌, ◌≤◌, ◌==◌, ◌&&◌, ◌⊎◌, inl, inr, Bool, true, false, List, [], ◌∷◌, ◌++◌, length, take, drop, get_or, Option, Some, None, refl, sym, ap, ◌∙◌, arith}
+use Rattle.std.proofs.lemmas.Bool.Decides.{eqb_tells}
+use Rattle.std.proofs.lemmas.List.{append_assoc, take_all, take_more}
+use Rattle.vx_base.specs.declared.arithmetic.Code.{Code}
+use Rattle.vx_flow.specs.declared.graph.Operand.{Operand}
+use Rattle.vx_claims.specs.declared.intervals.Interval.{Interval}
+use Rattle.vx_claims.specs.declared.fact.Fact.{Fact}
+use Rattle.vx_claims.specs.declared.fact.Fact.TheVariants.{Between, Equals}
+use Rattle.vx_claims.specs.declared.access.Access.{Access}
+use Rattle.vx_claims.specs.declared.access.Access.TheVariants.{Placed}
+use Rattle.vx_claims.specs.Facts.{range, meet, meet_if, decided_by, decided_if, first_of, found, found_if, same_code, same_operand}
+use Rattle.vx_claims.specs.Accesses.{first_or, place_in, value_if}
+
+pub front : {X : Type 0} (xs : List X) (d x : X) → 1 ≤ length xs → get_or xs 0 d ≡ x → xs ≡ x ∷ take (length xs - 1) (drop 1 xs)
+front [] d x n e = absurd (omega (arith, n))
+front (y ∷ ys) d x n e = ap (λ z. z ∷ ys) e ∙ ap (λ zs. x ∷ zs) (sym (take_all (length (y ∷ ys) - 1) ys (omega arith)))
+
+pub pushed : {X : Type 0} (start list new all : List X) (i : ℕ) (d : X) → list ≡ start ++ take i all → new ≡ list ++ get_or all i d ∷ [] → i < length all → new ≡ start ++ take (i + 1) all
+pushed start list new all i d e p n =
+    p ∙ ap (λ l. l ++ get_or all i d ∷ []) e ∙ append_assoc start (take i all) (get_or all i d ∷ []) ∙ ap (λ l. start ++ l) (sym (take_more all i d n))
+
+-- ---- where a value lies
+
+pub range_past : (fs rest : List Fact) (v u : ℕ) (code : Code) (a b : Operand) → fs ≡ Equals u code a b ∷ rest → range fs v ≡ range rest v
+range_past fs rest v u code a b e = ap (λ l. range l v) e
+
+not_equal : (u v : ℕ) → (u ≡ v → ⊥) → (u == v) ≡ false
+not_equal u v n = by (eqb_tells u v)
+  where
+    by : (((u == v) ≡ true) × (u ≡ v)) ⊎ (((u == v) ≡ false) × (u ≡ v → ⊥)) → (u == v) ≡ false
+    by (inl h) = absurd (n h.1)
+    by (inr h) = h.0
+
+are_equal : (u v : ℕ) → u ≡ v → (u == v) ≡ true
+are_equal u v e = by (eqb_tells u v)
+  where
+    by : (((u == v) ≡ true) × (u ≡ v)) ⊎ (((u == v) ≡ false) × (u ≡ v → ⊥)) → (u == v) ≡ true
+    by (inl h) = h.0
+    by (inr h) = absurd (h.1 e)
+
+pub range_other : (fs rest : List Fact) (v u : ℕ) (i : Interval) → fs ≡ Between u i ∷ rest → (u ≡ v → ⊥) → range fs v ≡ range rest v
+range_other fs rest v u i e n = ap (λ l. range l v) e ∙ ap (λ t. meet_if t i (range rest v)) (not_equal u v n)
+
+pub range_met : (fs rest : List Fact) (v u : ℕ) (i : Interval) → fs ≡ Between u i ∷ rest → u ≡ v → range fs v ≡ meet i (range rest v)
+range_met fs rest v u i e n = ap (λ l. range l v) e ∙ ap (λ t. meet_if t i (range rest v)) (are_equal u v n)
+
+pub fewer : {X : Type 0} (xs rest : List X) (x : X) (n : ℕ) → xs ≡ x ∷ rest → length xs ≤ n → length rest ≤ n
+fewer xs rest x n e h = let k = ap length e in omega (arith, k, h)
+
+-- ---- how a test comes out
+
+pub decided_past : (all fs rest : List Fact) (p u : ℕ) (code : Code) (a b : Operand) → fs ≡ Equals u code a b ∷ rest → decided_if (u == p) all code a b ≡ None → decided_by all p fs ≡ decided_by all p rest
+decided_past all fs rest p u code a b e n = ap (λ l. decided_by all p l) e ∙ ap (λ o. first_of o (decided_by all p rest)) n
+
+-- ---- the place of an element
+
+pub place_behind : (xs rest : List Access) (v b i : ℕ) (j k : Operand) (place : ℕ) → xs ≡ Placed v b j ∷ rest → place_in rest i k ≡ Some place → place_in xs i k ≡ Some place
+place_behind xs rest v b i j k place e p = ap (λ l. place_in l i k) e ∙ ap (λ o. first_or o (value_if ((b == i) && same_operand j k) v)) p
+
+-- ---- a value that holds what an operation gives
+
+pub found_here : (fs rest : List Fact) (u : ℕ) (code other : Code) (a b c d : Operand) → fs ≡ Equals u other c d ∷ rest → same_code other code ≡ true → (same_operand c a && same_operand d b) ≡ true → found fs code a b ≡ Some u
+found_here fs rest u code other a b c d e p q =
+    ap (λ l. found l code a b) e ∙ ap (λ t. found_if (t && (same_operand c a && same_operand d b)) u (found rest code a b)) p ∙ ap (λ t. found_if t u (found rest code a b)) q
+
+pub place_here : (xs rest : List Access) (v b i : ℕ) (j k : Operand) (t : Bool) → xs ≡ Placed v b j ∷ rest → place_in rest i k ≡ None → t ≡ ((b == i) && same_operand j k) → value_if t v ≡ place_in xs i k
+place_here xs rest v b i j k t e p h =
+    ap (λ x. value_if x v) h ∙ sym (ap (λ l. place_in l i k) e ∙ ap (λ o. first_or o (value_if ((b == i) && same_operand j k) v)) p)
+
+pub same_test : (b i : ℕ) (s t : Bool) → b ≡ i → t ≡ s → t ≡ ((b == i) && s)
+same_test b i s t e h = h ∙ ap (λ x. x && s) (sym (are_equal b i e))
+
+pub other_test : (b i : ℕ) (s t : Bool) → (b ≡ i → ⊥) → t ≡ (b == i) → t ≡ ((b == i) && s)
+other_test b i s t n h = h ∙ not_equal b i n ∙ ap (λ x. x && s) (sym (not_equal b i n))

@@ -1,0 +1,8 @@
+use Rattle.std.proofs.Common.{◌∷◌, ◌++◌, ◌∙◌, [], None, Option, List, ap}
+use Rattle.std.specs.Prelude.{ℕ}
+use Rattle.std.proofs.lemmas.List.{replicate_more}
+use Rattle.vx_replace.proofs.begun_lists.no_numbers.Goals as goal
+
+pub loop-number-preserved : goal.loop-number-preserved
+loop-number-preserved c =
+    c.in_ok-push.ensures.items ∙ ap (λ (z : List (Option ℕ)). z ++ None ∷ []) c.loop-number.invariant ∙ replicate_more c.loop-number._number None
