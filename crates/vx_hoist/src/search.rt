@@ -47,7 +47,12 @@ pub(crate) fn find_all(alloc: Global, graphs: &[Graph]) -> Result<Vec<Found>, No
 
 /// Whether anything may be put.
 pub(crate) fn has_additions(all: &[Found]) -> bool {
-    all.iter().any(|found| !found.additions.is_empty())
+    for found in all {
+        if !found.additions.is_empty() {
+            return true;
+        }
+    }
+    false
 }
 
 /// What may be put, in the order in which it stands.
@@ -56,20 +61,42 @@ fn find_additions(alloc: Global, graph: &Graph) -> Result<Found, NoMemory> {
     let unnamed = unnamed_in(alloc, named.as_slice(), graph.banks.as_slice())?;
     let mut additions = Vec::new(alloc);
     if unnamed.len() > 0 {
-        let mut loops = loops_of(alloc, graph)?;
-        let blocks = graph.blocks.as_slice();
-        for header in 0..blocks.len() {
-            hoist_from(
-                alloc,
-                blocks,
-                &mut loops,
-                header,
-                unnamed.as_slice(),
-                &mut additions,
-            )?;
-        }
+        hoist_all(alloc, graph, unnamed.as_slice(), &mut additions)?;
     }
     Ok(Found { named, additions })
+}
+
+/// Adds what may be computed before the loops of a graph.
+fn hoist_all(
+    alloc: Global,
+    graph: &Graph,
+    unnamed: &[Value],
+    additions: &mut Vec<Addition>,
+) -> Result<(), NoMemory> {
+    let mut loops = loops_of(alloc, graph)?;
+    let hoisted = hoist_each(
+        alloc,
+        graph.blocks.as_slice(),
+        &mut loops,
+        unnamed,
+        additions,
+    );
+    drop(loops);
+    hoisted
+}
+
+/// Goes over the blocks, each as the header of a loop.
+fn hoist_each(
+    alloc: Global,
+    blocks: &[Block],
+    loops: &mut Loops,
+    unnamed: &[Value],
+    additions: &mut Vec<Addition>,
+) -> Result<(), NoMemory> {
+    for header in 0..blocks.len() {
+        hoist_from(alloc, blocks, loops, header, unnamed, additions)?;
+    }
+    Ok(())
 }
 
 /// The operations that are put at the end of a block.

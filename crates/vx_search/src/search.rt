@@ -7,8 +7,8 @@
 
 ghost use Rattle.std.specs.Prelude.{◌≡◌, IfOk, length};
 
-use crate::inheriting::{inherit, nothing_everywhere};
-use crate::sweeping::{Cell, Mark, Tables, cell_at, hull, put_cell, sweep, unknown};
+use crate::inherited::{inherit, nothing_everywhere};
+use crate::sweep::{Cell, Mark, Tables, cell_at, hull, put_cell, sweep, unknown, unseen};
 use std::alloc::Global;
 use vx_base::listed::Listed;
 use vx_base::outcome::NoMemory;
@@ -69,12 +69,14 @@ fn claims_in_order(
     let mut tables = new_tables(alloc, graph, live)?;
     put_parameters(&mut tables, graph.parameters.as_slice(), intervals, live);
     rank(&mut tables, order);
-    if settles(&mut tables, order, blocks, live) {
+    let claims = if settles(&mut tables, order, blocks, live) {
         shrink(&mut tables, order, blocks, live, rounds);
         settled_claims(alloc, graph, joins, order, live, &tables)
     } else {
         nothing_everywhere(alloc, blocks.len())
-    }
+    };
+    drop(tables);
+    claims
 }
 
 /// What settled tables say at the start of each block, and what the block takes over.
@@ -106,23 +108,12 @@ fn new_tables(alloc: Global, graph: &Graph, live: &Live) -> Result<Tables, NoMem
         })?;
         size = size.saturating_add(live.values_at(block_number(block)).len());
     }
-    with_rows(alloc, marks, size, graph.banks.len())
-}
-
-fn with_rows(
-    alloc: Global,
-    marks: Vec<Mark>,
-    size: usize,
-    values: usize,
-) -> Result<Tables, NoMemory> {
     let cells = vec![in alloc; unknown(); size]?;
-    let ranges = vec![in alloc; full(); values]?;
-    let stamps = vec![in alloc; 0; values]?;
+    let values = vec![in alloc; unseen(); graph.banks.len()]?;
     Ok(Tables {
         marks,
         cells,
-        ranges,
-        stamps,
+        values,
         stamp: 0,
     })
 }

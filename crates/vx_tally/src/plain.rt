@@ -8,10 +8,11 @@ ghost use Rattle.vx_profile.specs.Counts.{CountsOf};
 ghost use Rattle.vx_tally.specs.Machine.{ended, IsOutcome};
 ghost use Rattle.vx_tally.specs.Tally.{TallyOf};
 
-use crate::calls::{Machine, begin, step};
-use crate::ending::{Ending, Ran};
+use crate::ends::{Ending, Ran};
+use crate::machine::{Machine, begin, step};
 use crate::tally::Tally;
 use std::alloc::Global;
+use std::mem::replace;
 use vx_base::listed::Listed;
 use vx_base::outcome::NoMemory;
 use vx_flow::graph::Flow;
@@ -42,6 +43,7 @@ pub fn count(alloc: Global, flow: &Flow, input: &[i32], blocks: u64) -> Result<C
 {
     let run = run_counted(alloc, flow, input, blocks)?;
     let complete = has_ended(run.ending);
+    drop(run.machine);
     let counts = run.tally.into_counts()?;
     Ok(Counted { counts, complete })
 }
@@ -51,11 +53,11 @@ pub fn count(alloc: Global, flow: &Flow, input: &[i32], blocks: u64) -> Result<C
 pub fn run_plain(alloc: Global, flow: &Flow, input: &[i32], blocks: u64) -> Result<Ran, NoMemory>
     ensures { IfOk result (λ ran. IsOutcome ran.ending ran.out (graph_run flow.now input.now blocks)) }
 {
-    let run = run_counted(alloc, flow, input, blocks)?;
+    let mut run = run_counted(alloc, flow, input, blocks)?;
     let ending = run.ending;
-    let machine = run.machine;
-    let storage = machine.storage;
-    let out = Listed::from_vec(storage.out)?;
+    let bytes = replace(&mut run.machine.storage.out, Vec::new(alloc));
+    drop(run);
+    let out = Listed::from_vec(bytes)?;
     Ok(Ran { ending, out })
 }
 
@@ -63,8 +65,8 @@ fn run_counted(alloc: Global, flow: &Flow, input: &[i32], blocks: u64) -> Result
     ensures outcome { IfOk result (λ run. IsOutcome run.ending run.machine.storage.out.items (graph_run flow.now input.now blocks)) }
     ensures tally { IfOk result (λ run. TallyOf run.tally (graph_path flow.now input.now blocks)) }
 {
-    let mut machine = begin(alloc, flow, input)?;
     let mut tally = Tally::new(alloc, flow)?;
+    let mut machine = begin(alloc, flow, input)?;
     'each: for _ in 0..blocks {
         let ending = step(alloc, &mut machine, &mut tally, flow)?;
         match ending {

@@ -174,11 +174,10 @@ fn push_label_line(out: &mut Vec<u8>, place: usize) -> Result<(), NoMemory>
     push_bytes(out, b"\n")
 }
 
-fn push_words(out: &mut Vec<u8>, words: &[Word], named: &[bool]) -> Result<(), NoMemory>
-    requires length { length named.now ≡ length words.now }
-    requires named { (p : ℕ) → p < length words.now → get_or named.now p false ≡ is_named words.now p }
+fn push_words(alloc: Global, out: &mut Vec<u8>, words: &[Word]) -> Result<(), NoMemory>
     ensures { OnOk result (out.new.items ≡ out.old.items ++ words_from words.now 0 words.now) }
 {
+    let named = named_places(alloc, words)?;
     for (place, word) in words.iter().enumerate() {
         if named[place] {
             push_label_line(out, place)?;
@@ -193,15 +192,13 @@ pub fn write(alloc: Global, program: &WordProgram) -> Result<Vec<u8>, NoMemory>
     requires { is_sound program.now ≡ true }
     ensures { IfOk result (λ text. Spells text.items program.now) }
 {
-    let words = program.words.as_slice();
-    let named = named_places(alloc, words)?;
     let mut out = Vec::new(alloc);
     push_bytes(&mut out, b".vexwords 1\n.memory ")?;
     push_number(&mut out, program.memory as usize)?;
     push_bytes(&mut out, b"\n")?;
     push_start_lines(&mut out, program.start.as_slice())?;
     push_text_lines(&mut out, program.texts.as_slice())?;
-    push_words(&mut out, words, named.as_slice())?;
+    push_words(alloc, &mut out, program.words.as_slice())?;
     push_bytes(&mut out, b".end\n")?;
     Ok(out)
 }

@@ -9,7 +9,7 @@ ghost use Rattle.vx_tally.specs.Tally.{TallyMore};
 
 use crate::blocks::run_block;
 use crate::cells::Cells;
-use crate::ending::{Ending, Left};
+use crate::ends::{Ending, Left};
 use crate::storage::{Storage, set_value};
 use crate::tally::Tally;
 use std::alloc::Global;
@@ -339,21 +339,21 @@ fn set_result(
 pub fn begin(alloc: Global, flow: &Flow, input: &[i32]) -> Result<Machine, NoMemory>
     ensures { IfOk result (λ machine. active_of machine ≡ start flow.now input.now) }
 {
-    let arrays = global_arrays(alloc, flow.globals.as_slice())?;
+    let mut arrays = global_arrays(alloc, flow.globals.as_slice())?;
     let base = arrays.len();
-    let mut storage = Storage {
-        values: Vec::new(alloc),
-        arrays,
-        input: Vec::from_slice(alloc, input)?,
-        read: 0,
-        out: Vec::new(alloc),
-    };
-    add_arrays(alloc, &mut storage.arrays, main_arrays(flow))?;
+    add_arrays(alloc, &mut arrays, main_arrays(flow))?;
+    let numbers = Vec::from_slice(alloc, input)?;
     Ok(Machine {
         function: flow.main,
         block: 0,
         base,
-        storage,
+        storage: Storage {
+            values: Vec::new(alloc),
+            arrays,
+            input: numbers,
+            read: 0,
+            out: Vec::new(alloc),
+        },
         waiting: Vec::new(alloc),
     })
 }

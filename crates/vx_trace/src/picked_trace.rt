@@ -1,14 +1,14 @@
 // The trace that is picked. The clause of `pick` carries the promise; specs/Picked.antt says which trace it is.
 
-ghost use Rattle.std.specs.Prelude.{◌≡◌, ◌∷◌, [], false, Some, IfOk};
+ghost use Rattle.std.specs.Prelude.{◌≡◌, false, Some, IfOk};
 ghost use Rattle.std.specs.List.{list_any};
 ghost use Rattle.vx_trace.specs.Growing.{IsSeed, leads_on, StandsAlone};
 ghost use Rattle.vx_trace.specs.Picked.{Picked, Picks, count_of_block, greatest_count};
 
-use crate::counting::count_of_block;
-use crate::growing::{alone, backward, forward};
+use crate::blocks::leads_on;
+use crate::counts::count_of_block;
+use crate::growth::{alone, backward, forward};
 use crate::heaviest::{heaviest_edges, seed};
-use crate::reading::leads_on;
 use std::alloc::Global;
 use vx_base::listed::Listed;
 use vx_base::outcome::NoMemory;
@@ -29,7 +29,8 @@ pub fn pick(
         None => Ok(None),
         Some(seed) => {
             let blocks = picked_from(alloc, mixed, counts, seed)?;
-            Ok(Some(blocks))
+            let list = Listed::from_vec(blocks)?;
+            Ok(Some(list))
         }
     }
 }
@@ -40,14 +41,14 @@ fn picked_from(
     mixed: &Mixed,
     counts: &Counts,
     seed: BlockId,
-) -> Result<Listed<BlockId>, NoMemory>
+) -> Result<Vec<BlockId>, NoMemory>
     requires { IsSeed mixed.now counts.now (Some seed) }
-    ensures { IfOk result (λ blocks. Picked mixed.now counts.now blocks) }
+    ensures { IfOk result (λ blocks. Picked mixed.now counts.now blocks.items) }
 {
     if may_grow(mixed, seed) {
         grown_from(alloc, mixed, counts, seed)
     } else {
-        lone(alloc, seed)
+        alone(alloc, seed)
     }
 }
 
@@ -61,16 +62,12 @@ fn may_grow(mixed: &Mixed, seed: BlockId) -> bool
 fn any_leads_on(mixed: &Mixed, seed: BlockId, edges: &[Edge]) -> bool
     ensures { result ≡ list_any (leads_on mixed.now seed) edges.now }
 {
-    edges.iter().any(|edge| leads_on(mixed, seed, *edge))
-}
-
-/// The seed alone.
-fn lone(alloc: Global, seed: BlockId) -> Result<Listed<BlockId>, NoMemory>
-    ensures { IfOk result (λ blocks. blocks ≡ seed ∷ []) }
-{
-    let blocks = alone(alloc, seed)?;
-    let list = Listed::from_vec(blocks)?;
-    Ok(list)
+    for edge in edges {
+        if leads_on(mixed, seed, *edge) {
+            return true;
+        }
+    }
+    false
 }
 
 /// The seed with the blocks behind it and those before it.
@@ -79,15 +76,15 @@ fn grown_from(
     mixed: &Mixed,
     counts: &Counts,
     seed: BlockId,
-) -> Result<Listed<BlockId>, NoMemory>
+) -> Result<Vec<BlockId>, NoMemory>
     requires { IsSeed mixed.now counts.now (Some seed) }
-    ensures { IfOk result (λ blocks. Picked mixed.now counts.now blocks) }
+    ensures { IfOk result (λ blocks. Picked mixed.now counts.now blocks.items) }
 {
     let heaviest = heaviest_edges(alloc, mixed, counts)?;
     let grown = forward(alloc, mixed, &heaviest, seed)?;
-    let blocks = backward(mixed, &heaviest, seed, grown)?;
-    let list = Listed::from_vec(blocks)?;
-    Ok(list)
+    let blocks = backward(mixed, &heaviest, seed, grown);
+    drop(heaviest);
+    blocks
 }
 
 /// How often the seed of a picked trace was passed, which is at least as often as each other block of it.

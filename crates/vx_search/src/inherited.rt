@@ -10,9 +10,9 @@ use vx_base::outcome::NoMemory;
 use vx_claims::access::{Access, tell};
 use vx_claims::behind::known_behind;
 use vx_claims::claim::{Claim, accesses_in, facts_in};
+use vx_claims::effects::without;
 use vx_claims::fact::Fact;
 use vx_claims::known::give;
-use vx_claims::learning::without;
 use vx_flow::graph::{Block, BlockId, Exit, Graph, Value};
 use vx_loops::{Loops, entries_at, loops_of};
 
@@ -34,11 +34,33 @@ pub(crate) fn inherit(
 ) -> Result<(), NoMemory>
     ensures { IfOk result (λ _. length claims.new.items ≡ length claims.old.items) }
 {
-    let blocks = graph.blocks.as_slice();
     let mut loops = loops_of(alloc, graph)?;
+    let inherited = inherit_along(
+        alloc,
+        claims,
+        &mut loops,
+        order,
+        graph.blocks.as_slice(),
+        joins,
+    );
+    drop(loops);
+    inherited
+}
+
+/// Goes along the order, with the loops of the graph.
+fn inherit_along(
+    alloc: Global,
+    claims: &mut Vec<Claim>,
+    loops: &mut Loops,
+    order: &[BlockId],
+    blocks: &[Block],
+    joins: bool,
+) -> Result<(), NoMemory>
+    ensures { IfOk result (λ _. length claims.new.items ≡ length claims.old.items) }
+{
     let mut ends = nothing_everywhere(alloc, blocks.len())?;
     for place in order {
-        inherit_at(alloc, claims, &mut loops, &mut ends, blocks, *place, joins)?;
+        inherit_at(alloc, claims, loops, &mut ends, blocks, *place, joins)?;
     }
     Ok(())
 }
@@ -244,13 +266,21 @@ fn keeps_access(loops: &Loops, access: Access) -> bool {
 }
 
 fn all_give(ends: &[Claim], before: &[BlockId], fact: Fact) -> bool {
-    before
-        .iter()
-        .all(|block| give(facts_in(ends, *block as usize), &[fact]))
+    for block in before {
+        if !give(facts_in(ends, *block as usize), &[fact]) {
+            return false;
+        }
+    }
+    true
 }
 
 fn all_tell(ends: &[Claim], before: &[BlockId], access: Access) -> bool {
-    before.iter().all(|block| tell(accesses_in(ends, *block as usize), &[access]))
+    for block in before {
+        if !tell(accesses_in(ends, *block as usize), &[access]) {
+            return false;
+        }
+    }
+    true
 }
 
 fn take_fact(claims: &mut Vec<Claim>, block: BlockId, fact: Fact) -> Result<(), NoMemory>

@@ -10,17 +10,17 @@ ghost use Rattle.std.specs.Prelude.{◌≡◌, IfOk, length};
 ghost use Rattle.vx_search.specs.Rows.{HasRows, SameRows};
 
 use crate::compared::up_to_compared;
-use crate::inheriting::passed_over;
+use crate::inherited::passed_over;
 use crate::search::{block_number, find_claims};
-use crate::sweeping::{hull, none};
+use crate::sweep::{hull, none};
 use std::alloc::Global;
 use vx_base::listed::Listed;
 use vx_base::outcome::NoMemory;
 use vx_claims::claim::Claim;
+use vx_claims::effects::is_full;
 use vx_claims::fact::Fact;
 use vx_claims::intervals::{Interval, full};
 use vx_claims::known::{is_inside, range_of};
-use vx_claims::learning::is_full;
 use vx_flow::graph::{Block, Exit, Graph, Operand};
 
 /// How many facts of all claims are kept at most. The claims of the other functions are looked for once more.
@@ -49,16 +49,25 @@ pub struct Found {
 /// What is noted of the functions.
 #[derive(Drop)]
 struct Calls {
-    /// Where the row of each function begins among the hulls.
-    starts: Vec<usize>,
+    /// What is noted of each.
+    functions: Vec<Noted>,
     /// What the calls of each function pass, an interval for each parameter. What nothing was passed to has its ends exchanged.
     hulls: Vec<Interval>,
-    /// How many calls of each function are in functions that were not gone over yet, its own calls left out.
-    waiting: Vec<usize>,
-    /// Which functions were gone over.
-    gone_over: Vec<bool>,
+    /// The functions that may be gone over next.
+    ready: Vec<usize>,
     /// How many facts are kept.
     facts: usize,
+}
+
+/// What is noted of a function.
+#[derive(Clone, Copy)]
+struct Noted {
+    /// Where its row begins among the hulls.
+    start: usize,
+    /// How many calls of it are in functions that were not gone over yet, its own calls left out.
+    waiting: usize,
+    /// Whether it was gone over.
+    is_gone_over: bool,
 }
 
 /// Looks for what is given of the parameters of all functions. The time is linear in the calls, beside that of looking for claims
@@ -68,8 +77,22 @@ pub fn find_given(alloc: Global, functions: &[Graph], rounds: u32) -> Result<Fou
     ensures { IfOk result (λ found. HasRows (length functions.now) found) }
 {
     let mut calls = calls_of(alloc, functions)?;
+    let found = found_for(alloc, &mut calls, functions, rounds);
+    drop(calls);
+    found
+}
+
+/// What is found for all functions, with what is noted of them.
+fn found_for(
+    alloc: Global,
+    calls: &mut Calls,
+    functions: &[Graph],
+    rounds: u32,
+) -> Result<Found, NoMemory>
+    ensures { IfOk result (λ found. HasRows (length functions.now) found) }
+{
     let mut found = nothing_found(alloc, functions.len())?;
-    go_over_all(alloc, &mut calls, &mut found, functions, rounds)?;
+    go_over_all(alloc, calls, &mut found, functions, rounds)?;
     Ok(found)
 }
 
@@ -83,25 +106,20 @@ fn go_over_all(
 ) -> Result<(), NoMemory>
     ensures { IfOk result (λ _. SameRows found.old found.new) }
 {
-    let mut ready = ready_at_first(alloc, calls.waiting.as_slice())?;
-    go_over_ready(alloc, calls, found, &mut ready, functions, rounds)?;
+    ready_at_first(&mut calls.ready, calls.functions.as_slice())?;
+    go_over_ready(alloc, calls, found, functions, rounds)?;
     for (function, graph) in functions.iter().enumerate() {
-        ready_if_left(calls, &mut ready, function, graph.parameters.len())?;
-        go_over_ready(alloc, calls, found, &mut ready, functions, rounds)?;
+        ready_if_left(calls, function, graph.parameters.len())?;
+        go_over_ready(alloc, calls, found, functions, rounds)?;
     }
     Ok(())
 }
 
 /// Makes a function ready that was not gone over, of which nothing is given.
-fn ready_if_left(
-    calls: &mut Calls,
-    ready: &mut Vec<usize>,
-    function: usize,
-    parameters: usize,
-) -> Result<(), NoMemory> {
+fn ready_if_left(calls: &mut Calls, function: usize, parameters: usize) -> Result<(), NoMemory> {
     if !was_gone_over(calls, function) {
         give_up(calls, function, parameters);
-        ready.push(function)?;
+        calls.ready.push(function)?;
     }
     Ok(())
 }
@@ -111,16 +129,15 @@ fn go_over_ready(
     alloc: Global,
     calls: &mut Calls,
     found: &mut Found,
-    ready: &mut Vec<usize>,
     functions: &[Graph],
     rounds: u32,
 ) -> Result<(), NoMemory>
     ensures { IfOk result (λ _. SameRows found.old found.new) }
 {
     'going: for _ in 0..functions.len() {
-        match ready.pop() {
+        match calls.ready.pop() {
             Some(function) => {
-                go_over_one(alloc, calls, found, ready, functions, function, rounds)?;
+                go_over_one(alloc, calls, found, functions, function, rounds)?;
             }
             None => return Ok(()),
         }
@@ -133,7 +150,6 @@ fn go_over_one(
     alloc: Global,
     calls: &mut Calls,
     found: &mut Found,
-    ready: &mut Vec<usize>,
     functions: &[Graph],
     function: usize,
     rounds: u32,
@@ -143,15 +159,15 @@ fn go_over_one(
     match functions.get(function) {
         Some(graph) => {
             go_over(alloc, calls, found, function, graph, rounds)?;
-            release(calls, ready, function, graph.blocks.as_slice())
+            release(calls, function, graph.blocks.as_slice())
         }
         None => Ok(()),
     }
 }
 
 fn was_gone_over(calls: &Calls, function: usize) -> bool {
-    match calls.gone_over.get(function) {
-        Some(gone) => *gone,
+    match calls.functions.get(function) {
+        Some(noted) => noted.is_gone_over,
         None => true,
     }
 }
@@ -164,23 +180,24 @@ fn give_up(calls: &mut Calls, function: usize, parameters: usize) {
 }
 
 fn calls_of(alloc: Global, functions: &[Graph]) -> Result<Calls, NoMemory> {
-    let mut starts = Vec::new(alloc);
+    let mut noted = Vec::new(alloc);
     let mut size: usize = 0;
     for graph in functions {
-        starts.push(size)?;
+        noted.push(Noted {
+            start: size,
+            waiting: 0,
+            is_gone_over: false,
+        })?;
         size = size.saturating_add(graph.parameters.len());
     }
-    let hulls = vec![in alloc; none(); size]?;
-    let mut waiting = vec![in alloc; 0usize; functions.len()]?;
-    let gone_over = vec![in alloc; false; functions.len()]?;
     for (function, graph) in functions.iter().enumerate() {
-        count_calls(&mut waiting, function, graph.blocks.as_slice());
+        count_calls(&mut noted, function, graph.blocks.as_slice());
     }
+    let hulls = vec![in alloc; none(); size]?;
     Ok(Calls {
-        starts,
+        functions: noted,
         hulls,
-        waiting,
-        gone_over,
+        ready: Vec::new(alloc),
         facts: 0,
     })
 }
@@ -199,12 +216,12 @@ fn other_called(block: &Block, caller: usize) -> Option<usize> {
     }
 }
 
-fn count_calls(waiting: &mut Vec<usize>, caller: usize, blocks: &[Block]) {
+fn count_calls(noted: &mut Vec<Noted>, caller: usize, blocks: &[Block]) {
     for block in blocks {
         match other_called(block, caller) {
             Some(function) => {
-                if function < waiting.len() {
-                    waiting[function] = waiting[function].saturating_add(1);
+                if function < noted.len() {
+                    noted[function].waiting = noted[function].waiting.saturating_add(1);
                 }
             }
             None => {}
@@ -227,32 +244,26 @@ fn nothing_found(alloc: Global, functions: usize) -> Result<Found, NoMemory>
     Ok(Found { given, kept })
 }
 
-/// The functions that no other one calls.
-fn ready_at_first(alloc: Global, waiting: &[usize]) -> Result<Vec<usize>, NoMemory> {
-    let mut ready = Vec::new(alloc);
-    for (function, left) in waiting.iter().enumerate() {
-        if *left == 0 {
+/// Makes the functions ready that no other one calls.
+fn ready_at_first(ready: &mut Vec<usize>, functions: &[Noted]) -> Result<(), NoMemory> {
+    for (function, noted) in functions.iter().enumerate() {
+        if noted.waiting == 0 {
             ready.push(function)?;
         }
     }
-    Ok(ready)
+    Ok(())
 }
 
 /// Notes that a function was gone over. A function that it calls is ready where no other one calls it that was not gone over.
-fn release(
-    calls: &mut Calls,
-    ready: &mut Vec<usize>,
-    caller: usize,
-    blocks: &[Block],
-) -> Result<(), NoMemory> {
-    if caller < calls.gone_over.len() {
-        calls.gone_over[caller] = true;
+fn release(calls: &mut Calls, caller: usize, blocks: &[Block]) -> Result<(), NoMemory> {
+    if caller < calls.functions.len() {
+        calls.functions[caller].is_gone_over = true;
     }
     for block in blocks {
         match other_called(block, caller) {
             Some(function) => {
-                if has_waited(&mut calls.waiting, function) && !was_gone_over(calls, function) {
-                    ready.push(function)?;
+                if has_waited(&mut calls.functions, function) && !was_gone_over(calls, function) {
+                    calls.ready.push(function)?;
                 }
             }
             None => {}
@@ -262,10 +273,10 @@ fn release(
 }
 
 /// Takes off a call for which a function waits, and says whether that was the last.
-fn has_waited(waiting: &mut Vec<usize>, function: usize) -> bool {
-    if function < waiting.len() {
-        waiting[function] = waiting[function].saturating_sub(1);
-        waiting[function] == 0
+fn has_waited(noted: &mut Vec<Noted>, function: usize) -> bool {
+    if function < noted.len() {
+        noted[function].waiting = noted[function].waiting.saturating_sub(1);
+        noted[function].waiting == 0
     } else {
         false
     }
@@ -290,8 +301,8 @@ fn row_of(
 }
 
 fn hull_at(calls: &Calls, function: usize, place: usize) -> Interval {
-    match calls.starts.get(function) {
-        Some(start) => match calls.hulls.get(start.saturating_add(place)) {
+    match calls.functions.get(function) {
+        Some(noted) => match calls.hulls.get(noted.start.saturating_add(place)) {
             Some(within) => *within,
             None => full(),
         },
@@ -301,7 +312,16 @@ fn hull_at(calls: &Calls, function: usize, place: usize) -> Interval {
 
 /// Whether something was passed for each parameter, and bounds one.
 fn says_something(row: &[Interval]) -> bool {
-    row.iter().all(|within| within.low <= within.high) && !row.iter().all(|within| is_full(*within))
+    let mut bounded = false;
+    for within in row {
+        if within.low > within.high {
+            return false;
+        }
+        if !is_full(*within) {
+            bounded = true;
+        }
+    }
+    bounded
 }
 
 /// What is given of the parameters of a function, and the claims that were looked for with that.
@@ -343,11 +363,13 @@ fn settle(
         if is_all_inside(calls, function, row.as_slice()) {
             return Ok(Settled { row, claims });
         }
-        row = if turn < COMPARED_TURNS {
-            row_to_compared(alloc, calls, function, graph, row.as_slice())?
+        drop(claims);
+        let wider = if turn < COMPARED_TURNS {
+            row_to_compared(alloc, calls, function, graph, row.as_slice())
         } else {
-            row_kept(alloc, calls, function, begun.as_slice())?
+            row_kept(alloc, calls, function, begun.as_slice())
         };
+        row = wider?;
     }
     give_up(calls, function, graph.parameters.len());
     nothing_given(alloc, calls, graph, rounds)
@@ -421,8 +443,8 @@ fn note_call(calls: &mut Calls, function: usize, arguments: &[Operand], facts: &
 }
 
 fn put_hull(calls: &mut Calls, function: usize, place: usize, within: Interval) {
-    if function < calls.starts.len() {
-        let at = calls.starts[function].saturating_add(place);
+    if function < calls.functions.len() {
+        let at = calls.functions[function].start.saturating_add(place);
         if at < calls.hulls.len() {
             calls.hulls[at] = within;
         }

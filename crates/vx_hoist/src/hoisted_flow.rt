@@ -19,12 +19,12 @@ use vx_base::outcome::NoMemory;
 use vx_flow::copies::{copied_exit, with_blocks};
 use vx_flow::graph::{Block, Flow, Graph, Op};
 use vx_flow::operands::is_observable;
-use vx_shape::copying::with_graphs;
+use vx_shape::copies::with_graphs;
 use vx_shape::origins::origins;
 use vx_shape::passes::{GraphPass, each_made};
 use vx_shape::shape_test::is_shaped;
 use vx_sound::is_sound;
-use vx_thin::reading::{are_reads_needed, exit_reads_needed, is_dropped};
+use vx_thin::reads::{are_reads_needed, exit_reads_needed, is_dropped};
 
 /// The graphs of a program, with operations put before loops where there are such.
 #[derive(Drop)]
@@ -147,6 +147,7 @@ fn grown_where_shaped(
     if is_shaped(origins.as_slice(), grown.blocks.as_slice()) {
         Ok(Some(grown))
     } else {
+        drop(grown);
         Ok(None)
     }
 }
@@ -162,8 +163,7 @@ fn grown_blocks(
 {
     let mut grown = Listed::new(alloc);
     for (place, block) in blocks.iter().enumerate() {
-        let added = ops_at(alloc, additions, place)?;
-        match grown_block(alloc, named, block, added.as_slice())? {
+        match grown_block(alloc, named, block, additions, place)? {
             Some(new) => grown.push(new)?,
             None => return Ok(None),
         }
@@ -171,17 +171,20 @@ fn grown_blocks(
     Ok(Some(grown))
 }
 
-/// The block with operations at its end, where it reads no value that is not named and they only write such values.
+/// The block at a place with what is put at its end, where it reads no value that is not named and only such values are written
+/// there.
 fn grown_block(
     alloc: Global,
     named: &[bool],
     block: &Block,
-    added: &[Op],
+    additions: &[Addition],
+    place: usize,
 ) -> Result<Option<Block>, NoMemory>
     ensures { IfOk result (λ found. IfSome found (λ grown. BlockGrows (unread_of named.now) block.now grown)) }
 {
-    if reads_named(named, block) && are_silent(named, added) {
-        let grown = with_end(alloc, block, added)?;
+    let added = ops_at(alloc, additions, place)?;
+    if reads_named(named, block) && are_silent(named, added.as_slice()) {
+        let grown = with_end(alloc, block, added.as_slice())?;
         Ok(Some(grown))
     } else {
         Ok(None)
@@ -219,14 +222,24 @@ fn reads_named(named: &[bool], block: &Block) -> bool
 fn ops_read_named(named: &[bool], ops: &[Op]) -> bool
     ensures { result ≡ list_all (λ op. are_read (unread_of named.now) (reads op)) ops.now }
 {
-    ops.iter().all(|op| are_reads_needed(named, op))
+    for op in ops {
+        if !are_reads_needed(named, op) {
+            return false;
+        }
+    }
+    true
 }
 
 /// Whether operations do nothing but write values that are not named.
 fn are_silent(named: &[bool], ops: &[Op]) -> bool
     ensures { result ≡ list_all (is_silent (unread_of named.now)) ops.now }
 {
-    ops.iter().all(|op| is_silent(named, op))
+    for op in ops {
+        if !is_silent(named, op) {
+            return false;
+        }
+    }
+    true
 }
 
 fn is_silent(named: &[bool], op: &Op) -> bool

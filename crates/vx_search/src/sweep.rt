@@ -35,6 +35,13 @@ pub struct Cell {
     pub start: Interval,
 }
 
+/// Where a value lies in the block that has this stamp.
+#[derive(Clone, Copy)]
+pub struct Seen {
+    pub within: Interval,
+    pub stamp: u32,
+}
+
 /// Where values lie.
 #[derive(Drop)]
 pub struct Tables {
@@ -42,9 +49,9 @@ pub struct Tables {
     pub marks: Vec<Mark>,
     /// Their rows, one behind the other, with a cell for each value that is live at the start of the block.
     pub cells: Vec<Cell>,
-    /// Where the values lie in the block that is looked at, where their stamp is that of the block.
-    pub ranges: Vec<Interval>,
-    pub stamps: Vec<u32>,
+    /// The values, as they are seen in the block that is looked at.
+    pub values: Vec<Seen>,
+    /// The stamp of that block.
     pub stamp: u32,
 }
 
@@ -83,6 +90,14 @@ pub(crate) fn unknown() -> Cell {
     }
 }
 
+/// A value that no block has seen.
+pub(crate) fn unseen() -> Seen {
+    Seen {
+        within: full(),
+        stamp: 0,
+    }
+}
+
 /// The cell at a place.
 pub(crate) fn cell_at(cells: &[Cell], place: usize) -> Cell {
     match cells.get(place) {
@@ -99,13 +114,10 @@ pub(crate) fn put_cell(cells: &mut Vec<Cell>, place: usize, cell: Cell) {
 }
 
 fn range(tables: &Tables, value: Value) -> Interval {
-    match tables.stamps.get(value as usize) {
-        Some(stamp) => {
-            if *stamp == tables.stamp {
-                match tables.ranges.get(value as usize) {
-                    Some(interval) => *interval,
-                    None => full(),
-                }
+    match tables.values.get(value as usize) {
+        Some(seen) => {
+            if seen.stamp == tables.stamp {
+                seen.within
             } else {
                 full()
             }
@@ -127,9 +139,11 @@ fn range_of(tables: &Tables, operand: Operand) -> Interval {
 
 fn put_range(tables: &mut Tables, value: Value, interval: Interval) {
     let place = value as usize;
-    if place < tables.ranges.len() && place < tables.stamps.len() {
-        tables.ranges[place] = interval;
-        tables.stamps[place] = tables.stamp;
+    if place < tables.values.len() {
+        tables.values[place] = Seen {
+            within: interval,
+            stamp: tables.stamp,
+        };
     }
 }
 
