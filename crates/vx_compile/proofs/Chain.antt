@@ -35,9 +35,10 @@ use Rattle.vx_tie.specs.Plans.{AreSpaced, IsSpaced, SpacedLaw}
 use Rattle.vx_isa.specs.Range.{is_in_range}
 use Rattle.vx_profile.specs.declared.counts.Counts.{Counts}
 use Rattle.vx_region.specs.declared.trace_plan.TracePlan.{TracePlan}
-use Rattle.vx_compile.specs.Compiled.{AreMapsOf, Compiled, Planned, all_in_slots, layouts_of}
-use Rattle.vx_compile.specs.declared.words.FlowSize.{FlowSize}
-use Rattle.vx_compile.specs.Stages.{all_blocks, Sized, IsInside, AreInside, IsLayoutOf, AreLayoutsFrom, AreLayoutsOf, StageLaws}
+use Rattle.vx_compiled.specs.Compiled.{AreMapsOf, Compiled, Planned, all_in_slots, layouts_of}
+use Rattle.vx_compiled.specs.declared.program.FlowSize.{FlowSize}
+use Rattle.vx_compile.specs.Stages.{IsInside, AreInside, IsLayoutOf, AreLayoutsFrom, AreLayoutsOf, StageLaws}
+use Rattle.vx_compiled.specs.Sized.{all_blocks, Sized}
 use Rattle.vx_compile.proofs.OneFunction.{Finishable, finishable}
 
 -- inputs

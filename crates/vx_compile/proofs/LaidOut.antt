@@ -9,7 +9,7 @@ use Rattle.vx_mixed.specs.declared.layout.VWords.{VWords}
 use Rattle.vx_mixed.specs.Layout.{layout_of}
 use Rattle.vx_profile.specs.declared.counts.Counts.{Counts}
 use Rattle.vx_region.specs.declared.trace_plan.TracePlan.{TracePlan}
-use Rattle.vx_compile.specs.Compiled.{FunctionPlan, PlansFrom, PlansFunction, layouts_of}
+use Rattle.vx_compiled.specs.Compiled.{FunctionPlan, PlansFrom, PlansFunction, layouts_of}
 use Rattle.vx_compile.specs.Stages.{AreLaidOut, IsLaidOut}
 use Rattle.vx_compile.proofs.Chain.{layouts_step}
 

@@ -1,3 +1,1 @@
-pub mod Faithful
-pub mod Compiled
 pub mod Stages

@@ -1,6 +1,6 @@
 -- What holds between the graphs of a program and its words: layouts of the graphs, and maps for the layouts; and the laws by which
 -- each of them does what the one before does.
-use Rattle.std.specs.Prelude.{◌≡◌, ◌<◌, ◌+◌, ℕ, Bool, true, List, [], ◌∷◌, length, Some, slice_get}
+use Rattle.std.specs.Prelude.{◌≡◌, ◌<◌, ◌+◌, ℕ, true, List, [], ◌∷◌, length, Some, slice_get}
 use Rattle.vx_base.specs.Outcome.{SameIsTransitive}
 use Rattle.vx_flow.specs.declared.graph.Flow.{Flow}
 use Rattle.vx_flow.specs.declared.graph.Graph.{Graph}
@@ -26,14 +26,9 @@ use Rattle.vx_target.specs.Carried.{FrameLaw}
 use Rattle.vx_target.specs.declared.finished.Finished.{Finished}
 use Rattle.vx_target.specs.Finish.{Finishes}
 use Rattle.vx_tie.specs.Plans.{PlanLaw, SpacedLaw}
-use Rattle.vx_ast.specs.Tree.{Program}
 use Rattle.vx_report.specs.declared.plan.Plan.{Plan}
-use Rattle.vx_report.specs.Report.{names_of, report_text}
 use Rattle.vx_isa.specs.Range.{is_in_range}
-use Rattle.vx_words.specs.Spelling.{Spells}
-use Rattle.vx_compile.specs.Compiled.{AreMapsOf, Compiled, Planned, all_in_slots, layouts_of}
-use Rattle.std.specs.List.{sum_by}
-use Rattle.vx_compile.specs.declared.words.FlowSize.{FlowSize}
+use Rattle.vx_compiled.specs.Compiled.{AreMapsOf, Planned, all_in_slots, layouts_of}
 
 -- the graph can begin as a graph of blocks and regions, and has a block
 pub record Begins (graph : Graph) : Type 0 where
@@ -97,19 +92,6 @@ pub record IsCompiledFlow (machine : Numbers) (counts : Counts) (growth : ℕ) (
   pub laid : AreLaidOut machine counts growth flow.functions plan.traces layouts plan.copies
   pub finished : AreFinished machine flow layouts (record { program = w; places = plan.places }) plan.spilled
 
--- the texts of a compiled program, of which that of the report is made where one is asked
-pub record MakesTexts (p : Program) (counts : Counts) (machine : Numbers) (growth : ℕ) (asked : Bool) (text report : List ℕ) : Type 0 where
-  pub words : WordProgram
-  pub plan : Plan
-  pub compiled : Compiled p counts machine growth words plan
-  pub spells : Spells text words
-  pub reports : asked ≡ true → report ≡ report_text plan (names_of p)
-
--- words that are compiled from a program, by some plan
-pub record IsCompiled (p : Program) (counts : Counts) (machine : Numbers) (growth : ℕ) (w : WordProgram) : Type 0 where
-  pub plan : Plan
-  pub compiled : Compiled p counts machine growth w plan
-
 -- the laws of the stages
 pub record StageLaws : Type 0 where
   pub transitive : SameIsTransitive
@@ -124,13 +106,3 @@ pub record StageLaws : Type 0 where
   pub spaced : SpacedLaw
   pub paths : PathStrictLaw
   pub timings : AnyTimingLaw
-
--- the blocks of some graphs
-abbrev pub all_blocks : List Graph → ℕ
-all_blocks graphs = sum_by (λ (g : Graph). length g.blocks) graphs
-
--- words that are compiled from a program, with their plan and the size of their graphs
-pub record Sized (p : Program) (counts : Counts) (m : Numbers) (growth : ℕ) (w : WordProgram) (plan : Plan) (size : FlowSize) : Type 0 where
-  pub compiled : Compiled p counts m growth w plan
-  pub functions_are : size.functions ≡ length compiled.flow.functions
-  pub blocks_are : size.blocks ≡ all_blocks compiled.flow.functions

@@ -7,8 +7,9 @@ ghost use Rattle.vx_ast.specs.Tree.{Program};
 ghost use Rattle.vx_ast.specs.View as view;
 ghost use Rattle.vx_flow.specs.Sound.{is_sound_flow};
 ghost use Rattle.vx_lower.specs.FlowOf.{FlowOf};
-ghost use Rattle.vx_compile.specs.Compiled.{AreMapsOf, Compiled, all_in_slots, in_slots, slot_of};
-ghost use Rattle.vx_compile.specs.Stages.{AllBegin, AreFinished, AreInside, AreLayoutsOf, IsCompiledFlow, Sized, StageLaws, all_blocks};
+ghost use Rattle.vx_compiled.specs.Compiled.{AreMapsOf, Compiled, all_in_slots, in_slots, slot_of};
+ghost use Rattle.vx_compile.specs.Stages.{AllBegin, AreFinished, AreInside, AreLayoutsOf, IsCompiledFlow, StageLaws};
+ghost use Rattle.vx_compiled.specs.Sized.{Sized, all_blocks};
 
 use crate::laws::frames_keep_to_the_machine;
 use crate::layouts::layouts_of;
@@ -19,6 +20,7 @@ use vx_base::laws::same_is_transitive;
 use vx_base::listed::Listed;
 use vx_base::outcome::NoMemory;
 use vx_clean::clean;
+use vx_compiled::{CompiledProgram, FlowSize, SizedProgram};
 use vx_flow::graph::{Flow, Graph};
 use vx_frame::finish;
 use vx_hoist::{Hoisted, hoist};
@@ -36,33 +38,6 @@ use vx_regs::registers;
 use vx_report::Plan;
 use vx_target::finished::Finished;
 use vx_tie::laws::{finished_programs_carry_their_plan, layouts_are_spaced};
-
-/// The words of a program, and how they were planned.
-#[derive(Drop)]
-pub struct CompiledProgram {
-    /// The words.
-    pub words: WordProgram,
-    /// The plan.
-    pub plan: Plan,
-}
-
-/// How large the graphs of a program are.
-#[derive(Clone, Copy)]
-pub struct FlowSize {
-    /// How many functions there are.
-    pub functions: u32,
-    /// How many blocks all of them have.
-    pub blocks: u32,
-}
-
-/// A compiled program, and how large the graphs are that its words are made from.
-#[derive(Drop)]
-pub struct SizedProgram {
-    /// The words and their plan.
-    pub compiled: CompiledProgram,
-    /// How large the graphs are.
-    pub size: FlowSize,
-}
 
 /// Layouts that are finished as words.
 #[derive(Drop)]

@@ -1,7 +1,7 @@
 -- The layouts can be finished, so they are.
 use Rattle.std.proofs.Common.{◌≡◌, sym, subst}
 use Rattle.vx_target.specs.Finish.{AllCanFinish, Finishes}
-use Rattle.vx_compile.specs.Compiled.{all_in_slots}
+use Rattle.vx_compiled.specs.Compiled.{all_in_slots}
 use Rattle.vx_compile.proofs.Chain.{all_inside, all_can_finish}
 use Rattle.vx_compile.proofs.words.finished_of.Goals as goal
 

@@ -1,6 +1,6 @@
 -- The layouts so far have their maps.
 use Rattle.std.proofs.Common.{take}
-use Rattle.vx_compile.specs.Compiled.{AreMapsOf}
+use Rattle.vx_compiled.specs.Compiled.{AreMapsOf}
 use Rattle.vx_compile.proofs.words.maps_of.Given as goal
 
 abbrev pub invariant-loop-layout : goal.invariant-loop-layout

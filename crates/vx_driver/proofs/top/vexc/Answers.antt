@@ -1,5 +1,5 @@
 -- The clauses are the parts of what was performed, and the answer excludes all others where nothing fails.
-use Rattle.vx_driver.proofs.Completed.{completes}
+use Rattle.vx_commands.proofs.Completed.{completes}
 use Rattle.vx_driver.proofs.top.vexc.Goals as goal
 
 pub returns-clause-answers : goal.returns-clause-answers

@@ -1,6 +1,0 @@
--- The blocks of graphs, worked out by hand.
-use Rattle.std.proofs.Common.{◌≡◌, refl, []}
-use Rattle.vx_compile.specs.Stages.{all_blocks}
-
-of_no_graphs : all_blocks [] ≡ 0
-of_no_graphs = refl
