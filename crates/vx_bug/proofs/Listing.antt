@@ -1,8 +1,10 @@
 -- Each place is listed once, and is a place of the trace.
-use Rattle.std.proofs.Common.{◌≡◌, ◌<◌, ◌≤◌, ◌⊎◌, inl, inr, ⊎_elim, ◌||◌, refl, sym, ◌∙◌, ap, arith, subst, Bool, true, false, nat_eq, if◌then◌else◌, ℕ, zero, suc, Option, Some, None, List, [], ◌∷◌, ◌++◌, length, reverse, take, get_or, slice_get}
+use Rattle.std.proofs.Common.{◌≡◌, ◌<◌, ◌≤◌, ◌⊎◌, inl, inr, ⊎_elim, ◌+◌, ◌||◌, refl, sym, ◌∙◌, ap, arith, subst, Bool, true, false, nat_eq, if◌then◌else◌, ℕ, zero, suc, Option, Some, None, List, [], ◌∷◌, ◌++◌, length, reverse, take, get_or, slice_get, is_some, ltb, ltb-true, ltb-false, IfSome, IfNone, Bor}
 use Rattle.std.specs.List.{list_any, flat_map}
 use Rattle.std.proofs.lemmas.Bool.{eq-eqb, true≢false}
-use Rattle.std.proofs.lemmas.List.{reverse-append}
+use Rattle.std.proofs.lemmas.List.{reverse-append, take_all}
+use Rattle.std.proofs.lemmas.List.Folds.{list_any_more, list_any_at}
+use Rattle.std.proofs.lemmas.Option.{slice_get-get_or, slice_get_past}
 use Rattle.vx_flow.specs.declared.trace.TraceOp.{TraceOp}
 use Rattle.vx_flow.specs.declared.trace.Trace.{Trace}
 use Rattle.vx_flow.specs.Effects.{IsIn}
@@ -136,3 +138,30 @@ pub listed_below : (t : Trace) (i : ℕ) → IsIn i (listed t) → i < length t.
 listed_below t i h = ⊎_elim (λ n. absurd n) (λ k. k)
     (each_in (visit (suc (length t.ops)) t) (good t (suc (length t.ops))) (reverse (numbers 0 (length t.ops))) [] (length t.ops)
     (λ j q. let r = in_numbers 0 (length t.ops) j (reverse_in j (numbers 0 (length t.ops)) q) in let b = r.1 in omega (arith, b)) i h)
+
+-- a list without a first item
+pub nothing_left : {A : Type 0} (xs : List A) → length xs ≡ 0 → xs ≡ []
+nothing_left [] h = refl
+nothing_left (x ∷ xs) h = absurd (omega arith)
+
+-- what a look into a list gives
+
+pub looked_up : {A : Type 0} (xs : List A) (i : ℕ) (r : Option (Bor A)) → is_some r ≡ ltb i (length xs) → IfSome r (λ x. x.now ≡ get_or xs i x.now) → IfSome r (λ x. slice_get xs i ≡ Some x.now)
+looked_up xs i (Some x) l e = slice_get-get_or xs i x.now (ltb-true _ _ (sym l)) ∙ ap Some (sym e)
+looked_up xs i None l e = tt
+
+pub none_found : {A : Type 0} (xs : List A) (i : ℕ) (r : Option (Bor A)) → is_some r ≡ ltb i (length xs) → IfNone r (slice_get xs i ≡ None)
+none_found xs i (Some x) l = tt
+none_found xs i None l = slice_get_past xs i (ltb-false _ _ (sym l))
+
+-- whether one item of those so far passes
+
+module _ {A : Type 0} (p : A → Bool) (xs : List A) (i : ℕ) where
+  pub none_more : (d : A) → i < length xs → list_any p (take i xs) ≡ false → p (get_or xs i d) ≡ false → list_any p (take (i + 1) xs) ≡ false
+  none_more d inside so none = list_any_more p xs i d inside ∙ ap (λ b. b || p (get_or xs i d)) so ∙ none
+
+  pub one_passes : (d : A) → i < length xs → p (get_or xs i d) ≡ true → true ≡ list_any p xs
+  one_passes d inside one = sym (list_any_at p xs i d inside one)
+
+  pub none_passes : length xs ≤ i → list_any p (take i xs) ≡ false → false ≡ list_any p xs
+  none_passes past so = sym so ∙ ap (list_any p) (take_all i xs past)

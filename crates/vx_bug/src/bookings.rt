@@ -111,9 +111,13 @@ fn are_left(machine: &Machine, cluster: u32, unit: UnitKind, row: &[Booking]) ->
 fn taking(row: &[Booking], cluster: u32, resource: Resource) -> usize
     ensures { result ≡ count_by (takes cluster resource) row.now }
 {
-    row.iter()
-        .filter(|booking| takes(booking, cluster, resource))
-        .count()
+    let mut count = 0;
+    for booking in row {
+        if takes(booking, cluster, resource) {
+            count += 1;
+        }
+    }
+    count
 }
 
 fn is_left(taken: usize, there: u32) -> bool

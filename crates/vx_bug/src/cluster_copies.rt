@@ -131,9 +131,12 @@ fn reads_copies(fixed: Option<u32>, op: &TraceOp) -> bool
 fn is_served(served: &[Served], value: Value, cluster: u32) -> bool
     ensures { result ≡ is_served served.now value cluster }
 {
-    served
-        .iter()
-        .any(|copy| copy.value == value && copy.cluster == cluster)
+    for copy in served {
+        if copy.value == value && copy.cluster == cluster {
+            return true;
+        }
+    }
+    false
 }
 
 /// The value of an operand, where a copy of it is made.

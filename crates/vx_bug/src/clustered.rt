@@ -1,7 +1,7 @@
 // The clustered trace, laid down operation by operation, and where its joins stand then. The promise is the clause of
 // `with_copies`, which is the definition of specs/Copies.antt.
 
-ghost use Rattle.std.specs.Prelude.{◌≡◌, ◌<◌, ◌-◌, [], ◌++◌, IfOk, OnOk, length, map, min, slice_index_or, if◌then◌else◌};
+ghost use Rattle.std.specs.Prelude.{◌≡◌, ◌<◌, ◌-◌, [], IfOk, OnOk, length, map, min, if◌then◌else◌};
 ghost use Rattle.vx_flow.specs.declared.trace.Join.{Join};
 ghost use Rattle.vx_linear.specs.Followed.{is_join};
 ghost use Rattle.vx_bug.specs.Copies.{pieces_of, with_copies};
@@ -46,11 +46,12 @@ fn no_standings(alloc: Global) -> Standings
 fn is_join(trace: &Trace, place: usize) -> bool
     ensures { result ≡ is_join trace.now place }
 {
-    trace
-        .joins
-        .as_slice()
-        .iter()
-        .any(|join| join.place as usize == place)
+    for join in trace.joins.as_slice() {
+        if join.place as usize == place {
+            return true;
+        }
+    }
+    false
 }
 
 /// Behind a join no copy from above serves.
@@ -88,7 +89,6 @@ fn lay_one(
 }
 
 /// What stands for the operations of a trace, one after the other.
-#[tactic(auto, using(crate::proofs::Pieces::none_laid, crate::proofs::Pieces::step_laid, crate::proofs::Pieces::end_laid))]
 fn lay(
     alloc: Global,
     trace: &Trace,
@@ -101,15 +101,35 @@ fn lay(
 {
     let mut out = no_standings(alloc);
     let mut starts = Listed::new(alloc);
+    lay_all(alloc, trace, homes, chosen, &mut out, &mut starts)?;
+    Ok(Laid { out, starts })
+}
+
+/// The same into empty lists.
+#[tactic(auto, using(crate::proofs::Pieces::none_laid, crate::proofs::Pieces::step_laid, crate::proofs::Pieces::end_laid))]
+fn lay_all(
+    alloc: Global,
+    trace: &Trace,
+    homes: &[Option<u32>],
+    chosen: &[u32],
+    out: &mut Standings,
+    starts: &mut Listed<u32>,
+) -> Result<(), NoMemory>
+    requires chosen { length chosen.now ≡ length trace.now.ops }
+    requires fixed { length trace.now.fixed ≡ length trace.now.ops }
+    requires out { out.old ≡ record { ops = []; clusters = []; fixed = [] } }
+    requires starts { starts.old ≡ [] }
+    ensures { OnOk result (AreLaid (pieces_of trace.now (homes_in homes.now) chosen.now) out.new starts.new) }
+{
     let mut served = Vec::new(alloc);
     let mut place = 0;
     'lay: while place < trace.ops.len() {
         starts.push(out.ops.len() as u32)?;
-        lay_one(alloc, trace, homes, chosen, place, &mut served, &mut out)?;
+        lay_one(alloc, trace, homes, chosen, place, &mut served, out)?;
         place += 1;
     }
     starts.push(out.ops.len() as u32)?;
-    Ok(Laid { out, starts })
+    Ok(())
 }
 
 /// Where the operations begin that stand for the one at a place.

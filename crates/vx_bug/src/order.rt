@@ -157,5 +157,10 @@ fn enter_writer(
 fn is_listed(order: &Listed<u32>, place: u32) -> bool
     ensures { result ≡ list_any (nat_eq place) order.now }
 {
-    order.as_slice().iter().any(|other| place == *other)
+    for other in order.as_slice() {
+        if place == *other {
+            return true;
+        }
+    }
+    false
 }

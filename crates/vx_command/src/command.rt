@@ -163,7 +163,11 @@ pub fn compile_asked<'a>(alloc: Global, words: &'a [&'a str]) -> Result<CompileW
     ensures refused { IfErr result (λ refused. (refused.status ≡ Status.NoMemory) ⊎ ((refused.status ≡ Status.Usage) × (compile_of (map (λ w. w.now) words.now) ≡ None))) }
 {
     match found_or_refused(alloc, compile_command(alloc), words) {
-        Ok(found) => compile_found(&found),
+        Ok(found) => {
+            let asked = compile_found(&found);
+            drop(found);
+            asked
+        },
         Err(refused) => Err(refused),
     }
 }

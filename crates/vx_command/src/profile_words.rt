@@ -68,7 +68,11 @@ pub fn profile_asked<'a>(alloc: Global, words: &'a [&'a str]) -> Result<ProfileW
     ensures refused { IfErr result (λ refused. (refused.status ≡ Status.NoMemory) ⊎ ((refused.status ≡ Status.Usage) × (profile_of (map (λ w. w.now) words.now) ≡ None))) }
 {
     match found_or_refused(alloc, profile_command(alloc), words) {
-        Ok(found) => profile_found(&found),
+        Ok(found) => {
+            let asked = profile_found(&found);
+            drop(found);
+            asked
+        },
         Err(refused) => Err(refused),
     }
 }

@@ -1,6 +1,6 @@
 // The words of `sim` and of `exec`, as clap reads them.
 
-ghost use Rattle.std.specs.Prelude.{◌≡◌, ◌⊎◌, ◌≤◌, true, false, [], unwrap_or, Some, None, map, option_map, codes, IfOk, IfErr, MatchOption};
+ghost use Rattle.std.specs.Prelude.{◌≡◌, ◌⊎◌, ◌≤◌, [], unwrap_or, Some, None, map, option_map, codes, IfOk, IfErr, MatchOption};
 ghost use Rattle.clap.specs.Words.{App, app_of, rows_of, first_value, found_of};
 ghost use Rattle.vx_command.specs.Command.{with_run_options, sim_app, exec_app, run_unless, Makes, Simulate, Execute, executes, sim_of, exec_of, exec_unless, budget_of};
 ghost use Rattle.vx_command.specs.Asked.{asks, simulation_of, execution_of};
@@ -218,7 +218,11 @@ pub fn sim_asked<'a>(alloc: Global, words: &'a [&'a str]) -> Result<RunWords<'a>
     ensures refused { IfErr result (λ refused. (refused.status ≡ Status.NoMemory) ⊎ ((refused.status ≡ Status.Usage) × (sim_of (map (λ w. w.now) words.now) ≡ None))) }
 {
     match found_or_refused(alloc, sim_command(alloc), words) {
-        Ok(found) => asked_in(&found, "WORDS"),
+        Ok(found) => {
+            let asked = asked_in(&found, "WORDS");
+            drop(found);
+            asked
+        },
         Err(refused) => Err(refused),
     }
 }
@@ -229,7 +233,11 @@ pub fn exec_asked<'a>(alloc: Global, words: &'a [&'a str]) -> Result<ExecWords<'
     ensures refused { IfErr result (λ refused. (refused.status ≡ Status.NoMemory) ⊎ ((refused.status ≡ Status.Usage) × (exec_of (map (λ w. w.now) words.now) ≡ None))) }
 {
     match found_or_refused(alloc, exec_command(alloc), words) {
-        Ok(found) => exec_found(&found),
+        Ok(found) => {
+            let asked = exec_found(&found);
+            drop(found);
+            asked
+        },
         Err(refused) => Err(refused),
     }
 }

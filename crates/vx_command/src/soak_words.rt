@@ -82,7 +82,11 @@ pub fn soak_asked<'a>(alloc: Global, words: &'a [&'a str]) -> Result<SoakWords, 
     ensures refused { IfErr result (λ refused. (refused.status ≡ Status.NoMemory) ⊎ ((refused.status ≡ Status.Usage) × (soak_of (map (λ w. w.now) words.now) ≡ None))) }
 {
     match found_or_refused(alloc, soak_command(alloc), words) {
-        Ok(found) => asked_in(&found),
+        Ok(found) => {
+            let asked = asked_in(&found);
+            drop(found);
+            asked
+        },
         Err(refused) => Err(refused),
     }
 }

@@ -9,4 +9,6 @@ pub mod Apart
 pub mod Noting
 pub mod Rising
 pub mod Kept
+pub mod Moved
+pub mod Looking
 mod CopyRows

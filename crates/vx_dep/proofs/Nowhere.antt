@@ -1,5 +1,6 @@
 -- Pairs without a delay, and accesses that never meet.
-use Rattle.std.proofs.Common.{◌≡◌, ◌≤◌, ℕ, sym, ◌∙◌, ap, arith, subst, Option, Some, None, slice_get, List}
+use Rattle.std.proofs.Common.{◌≡◌, ◌≤◌, ℕ, sym, ◌∙◌, ap, arith, subst, Option, Some, None, slice_get, List, Bor, IfSome, IfNone, option_copied}
+use Rattle.std.proofs.lemmas.Option.{none-some, same_Some}
 use Rattle.vx_flow.specs.declared.trace.Trace.{Trace}
 use Rattle.vx_isa.specs.Numbers.{Numbers}
 use Rattle.vx_linear.specs.declared.form.Form.{Form}
@@ -26,3 +27,12 @@ no_form_above t forms i j e apart n = apart n.one (ap (λ fs. slice_get fs i) e 
 
 pub no_form_below : (t : Trace) (forms : List (Option Form)) (i j : ℕ) → forms ≡ forms_of t → ((form : Form) → slice_get forms j ≡ Some (Some form) → ⊥) → NeverMeet t i j → ⊥
 no_form_below t forms i j e apart n = apart n.two (ap (λ fs. slice_get fs j) e ∙ n.form_two)
+
+-- what is no form at a place that is read
+pub none_there : (forms : List (Option Form)) (place : ℕ) (o : Option (Bor Form)) (at : Option Form) → option_copied o ≡ at → slice_get forms place ≡ Some at → IfNone o ((form : Form) → slice_get forms place ≡ Some (Some form) → ⊥)
+none_there forms place (Some form) at e there = tt
+none_there forms place None at e there = λ form f. none-some form (e ∙ same_Some at (Some form) (sym there ∙ f))
+
+pub some_there : (forms : List (Option Form)) (place : ℕ) (o : Option (Bor Form)) (at : Option Form) → option_copied o ≡ at → slice_get forms place ≡ Some at → IfSome o (λ form. slice_get forms place ≡ Some (Some form.now))
+some_there forms place (Some form) at e there = there ∙ ap Some (sym e)
+some_there forms place None at e there = tt

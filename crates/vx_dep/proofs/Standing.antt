@@ -1,6 +1,7 @@
 -- What the tables tell of two places is so in the trace, and gives the delay of the pair.
-use Rattle.std.proofs.Common.{◌≡◌, ◌<◌, ◌≤◌, ◌⊎◌, inl, inr, ◌+◌, ◌-◌, ℕ, zero, suc, refl, sym, ◌∙◌, ap, arith, subst, Bool, true, false, not, ◌&&◌, nat_eq, nat_lt, nat_le, if◌then◌else◌, Option, Some, None, length, map, drop, slice_get, slice_index_or, List, [], ◌∷◌, ◌++◌}
+use Rattle.std.proofs.Common.{◌≡◌, ◌<◌, ◌≤◌, ◌⊎◌, inl, inr, ◌+◌, ◌-◌, ℕ, zero, suc, refl, sym, ◌∙◌, ap, arith, subst, Bool, true, false, not, ◌&&◌, nat_eq, nat_lt, nat_le, if◌then◌else◌, Option, Some, None, length, map, drop, slice_get, slice_index_or, List, [], ◌∷◌, ◌++◌, append_assoc}
 use Rattle.std.proofs.lemmas.Bool.{or_cases, or_left, or_right, eqb-true, eq-eqb, false≢true, true≢false}
+use Rattle.std.proofs.lemmas.List.{length-append}
 use Rattle.std.proofs.lemmas.Option.{slice_get_within}
 use Rattle.std.specs.List.{prefix_len}
 use Rattle.vx_flow.specs.declared.trace.TraceOp.{TraceOp}
@@ -29,6 +30,28 @@ none_standing all joins standings joined left e f g = record {
   whole = ap (λ s. s ++ standings_from joins (length s) left) e ∙ sym g;
   above = f ∙ sym (ap (λ s. last_joined joins (length s)) e);
 }
+
+pub standing_more : (all : List Standing) (joins : List Join) (standings others : List Standing) (joined last n k : ℕ) (a : Traits) (left behind : List Traits) → AreStanding all joins standings joined left → left ≡ a ∷ behind → n ≡ length standings → last ≡ or_else (is_join joins n) n joined → k ≡ kept a behind
+    → others ≡ standings ++ record { traits = a; kept = k; joined = last } ∷ [] → AreStanding all joins others last behind
+standing_more all joins standings others joined last n k a left behind so front here found count more = record {
+  whole = moved_on ∙ ap (λ l. standings ++ standings_from joins (length standings) l) (sym front) ∙ so.whole;
+  above = above ∙ ap (last_joined joins) (sym long);
+}
+  where
+    long : length others ≡ suc (length standings)
+    long = let p = ap length more in let q = length-append standings (record { traits = a; kept = k; joined = last } ∷ []) in omega (arith, p, q)
+
+    above : last ≡ last_joined joins (suc (length standings))
+    above = found ∙ ap (λ i. or_else (is_join joins i) i joined) here ∙ ap (or_else (is_join joins (length standings)) (length standings)) so.above
+
+    is : record { traits = a; kept = k; joined = last } ≡ standing_of joins (length standings) a behind
+    is = ap (λ x. record { traits = a; kept = x; joined = last }) count ∙ ap (λ x. record { traits = a; kept = kept a behind; joined = x }) above
+
+    moved_on : others ++ standings_from joins (length others) behind ≡ standings ++ standings_from joins (length standings) (a ∷ behind)
+    moved_on = ap (λ i. others ++ standings_from joins i behind) long
+        ∙ ap (λ l. l ++ standings_from joins (suc (length standings)) behind) more
+        ∙ append_assoc standings (record { traits = a; kept = k; joined = last } ∷ []) (standings_from joins (suc (length standings)) behind)
+        ∙ ap (λ x. standings ++ x ∷ standings_from joins (suc (length standings)) behind) is
 
 pub standings_are : (m : Numbers) (t : Trace) (traits : List Traits) (standings : List Standing) → traits ≡ map (traits_of m) t.ops → standings ≡ standings_from t.joins 0 traits → standings ≡ standings_of m t
 unfolding standings_of

@@ -84,10 +84,14 @@ fn standings_of(
 fn kept(first: &Traits, behind: &[Traits]) -> usize
     ensures { result ≡ kept first.now behind.now }
 {
-    behind
-        .iter()
-        .take_while(|other| !write_alike(first, other))
-        .count()
+    let mut count = 0;
+    for other in behind {
+        if write_alike(first, other) {
+            return count;
+        }
+        count += 1;
+    }
+    count
 }
 
 fn last_joined(joins: &[Join], place: usize, above: usize) -> usize
@@ -99,7 +103,12 @@ fn last_joined(joins: &[Join], place: usize, above: usize) -> usize
 fn is_join(joins: &[Join], place: usize) -> bool
     ensures { result ≡ is_join joins.now place }
 {
-    joins.iter().any(|join| join.place as usize == place)
+    for join in joins {
+        if join.place as usize == place {
+            return true;
+        }
+    }
+    false
 }
 
 /// For each operation, where it is a split, which operations behind it write what is live where it leaves.
@@ -156,5 +165,10 @@ fn writes_one_of(op: &TraceOp, values: &[Value]) -> bool
 fn is_among(value: Value, values: &[Value]) -> bool
     ensures { result ≡ list_any (nat_eq value) values.now }
 {
-    values.iter().any(|other| value == *other)
+    for other in values {
+        if value == *other {
+            return true;
+        }
+    }
+    false
 }

@@ -131,45 +131,37 @@ fn push_word(
     ensures words { IfOk result (λ _. words.new ≡ words.old ++ word_words (seen whole.now) function place word.now) }
     ensures mark { IfOk result (λ mark. mark ≡ mark_of (seen whole.now) function (length words.old) place word.now) }
 {
-    match word {
+    let pushed = match word {
         VirtualWord::Planned { items, .. } => {
-            push_planned(alloc, whole, function, place, items.as_slice(), words)
-        }
-        VirtualWord::Drain(cycles) => {
-            push_idles(alloc, whole, function, place, *cycles, words)?;
-            Ok(0)
-        }
-        VirtualWord::Transfer(to) => {
-            push_way(alloc, whole, function, sum(place, 1)?, *to, words)?;
-            Ok(0)
-        }
-        VirtualWord::Choice { test, place: to } => {
-            push_choice(alloc, whole, function, *test, *to, words)?;
-            Ok(0)
+            return push_planned(alloc, whole, function, place, items.as_slice(), words);
         }
         VirtualWord::Call {
             function: called,
             arguments,
             result: taken,
-        } => push_called(
-            alloc,
-            whole,
-            function,
-            place,
-            *called,
-            arguments.as_slice(),
-            *taken,
-            words,
-        ),
-        VirtualWord::Return(operand) => {
-            push_return(alloc, whole, function, *operand, words)?;
-            Ok(0)
+        } => {
+            return push_called(
+                alloc,
+                whole,
+                function,
+                place,
+                *called,
+                arguments.as_slice(),
+                *taken,
+                words,
+            );
         }
-        VirtualWord::Ends(trap) => {
-            push_one(alloc, Operation::EndByTrap { trap: *trap }, words)?;
-            Ok(0)
+        VirtualWord::Drain(cycles) => push_idles(alloc, whole, function, place, *cycles, words),
+        VirtualWord::Transfer(to) => push_way(alloc, whole, function, sum(place, 1)?, *to, words),
+        VirtualWord::Choice { test, place: to } => {
+            push_choice(alloc, whole, function, *test, *to, words)
         }
-    }
+        VirtualWord::Return(operand) => push_return(alloc, whole, function, *operand, words),
+        VirtualWord::Ends(trap) => push_one(alloc, Operation::EndByTrap { trap: *trap }, words),
+    };
+    // none of the others has such a place
+    pushed?;
+    Ok(0)
 }
 
 /// The words of a layout, one after the other.

@@ -14,7 +14,7 @@ ghost use Rattle.vx_hoist.specs.Growing.{block_reads, is_silent, is_total, Block
 
 use crate::search::{Addition, Found, find_all, has_additions, ops_at};
 use std::alloc::Global;
-use vx_base::listed::Listed;
+use vx_base::listed::{Listed, copied};
 use vx_base::outcome::NoMemory;
 use vx_flow::copies::{copied_exit, with_blocks};
 use vx_flow::graph::{Block, Flow, Graph, Op};
@@ -43,15 +43,22 @@ pub fn hoist(alloc: Global, flow: Flow) -> Result<Hoisted, NoMemory>
     ensures sound { IfOk result (λ hoisted. is_sound_flow hoisted.flow ≡ true) }
     ensures flow { IfOk result (λ hoisted. (p : Program) → FlowOf p flow → FlowOf p hoisted.flow) }
 {
-    match grown_flow(alloc, &flow)? {
-        Some(grown) => Ok(Hoisted {
-            flow: grown,
-            has_more: true,
-        }),
-        None => Ok(Hoisted {
+    match grown_flow(alloc, &flow) {
+        Ok(Some(grown)) => {
+            drop(flow);
+            Ok(Hoisted {
+                flow: grown,
+                has_more: true,
+            })
+        }
+        Ok(None) => Ok(Hoisted {
             flow,
             has_more: false,
         }),
+        Err(error) => {
+            drop(flow);
+            Err(error)
+        }
     }
 }
 
@@ -75,10 +82,16 @@ fn grown_where_sound(alloc: Global, flow: &Flow, found: &[Found]) -> Result<Opti
 {
     let functions = each_made(alloc, &GrowPass { found }, flow.functions.as_slice())?;
     let grown = with_graphs(alloc, flow, functions)?;
-    if is_sound(alloc, &grown)? {
-        Ok(Some(grown))
-    } else {
-        Ok(None)
+    match is_sound(alloc, &grown) {
+        Ok(true) => Ok(Some(grown)),
+        Ok(false) => {
+            drop(grown);
+            Ok(None)
+        }
+        Err(error) => {
+            drop(grown);
+            Err(error)
+        }
     }
 }
 
@@ -142,12 +155,11 @@ fn grown_where_shaped(
     requires { Each (BlockGrows (unread_of named.now)) graph.now.blocks blocks }
     ensures { IfOk result (λ found. IfSome found (λ grown. GraphGrows graph.now grown)) }
 {
-    let grown = with_blocks(alloc, graph, blocks)?;
-    let origins = origins(alloc, grown.blocks.as_slice())?;
-    if is_shaped(origins.as_slice(), grown.blocks.as_slice()) {
+    let origins = origins(alloc, blocks.as_slice())?;
+    if is_shaped(origins.as_slice(), blocks.as_slice()) {
+        let grown = with_blocks(alloc, graph, blocks)?;
         Ok(Some(grown))
     } else {
-        drop(grown);
         Ok(None)
     }
 }
@@ -196,8 +208,7 @@ fn with_end(alloc: Global, block: &Block, added: &[Op]) -> Result<Block, NoMemor
     ensures ops { IfOk result (λ grown. grown.ops ≡ block.now.ops ++ added.now) }
     ensures exit { IfOk result (λ grown. grown.exit ≡ block.now.exit) }
 {
-    let mut ops = Listed::new(alloc);
-    append(&mut ops, block.ops.as_slice())?;
+    let mut ops = copied(alloc, block.ops.as_slice())?;
     append(&mut ops, added)?;
     let exit = copied_exit(alloc, &block.exit)?;
     Ok(Block { ops, exit })

@@ -1,10 +1,11 @@
 -- One step of the merge: what is left then comes to the same power as the whole.
-use Rattle.std.proofs.Common.{◌≡◌, ℕ, ◌^◌, refl, sym, ◌∙◌, ap, arith, true, false, List, [], ◌∷◌, length, subst}
+use Rattle.std.proofs.Common.{◌≡◌, ℕ, ◌^◌, refl, sym, ◌∙◌, ap, arith, true, false, if◌then◌else◌, List, [], ◌∷◌, length, subst}
 use Rattle.std.proofs.lemmas.Bool.Decides.{nat_tests}
-use Rattle.vx_base.specs.Arithmetic.{IsNumber, unsigned, difference_of}
+use Rattle.vx_base.specs.Arithmetic.{IsNumber, unsigned, difference_of, sum_of}
 use Rattle.vx_linear.specs.declared.form.Symbol.{Symbol}
 use Rattle.vx_linear.specs.declared.form.Term.{Term}
 use Rattle.vx_linear.specs.Forms.{is_before, is_same}
+use Rattle.vx_linear.specs.Linear.{unless_zero, with_term}
 use Rattle.vx_linear.specs.Steps.{IsStep, Narrows, Steps, none, left, right, both, is_before_first}
 
 -- what is left of a and b, from this step on, comes to what the whole comes to
@@ -36,6 +37,12 @@ before_one x b us u e h = ap (is_before_first x) e ∙ h
 -- of two symbols one is before the other, or they are the same
 pub before_back : (x y : Symbol) → is_before x y ≡ false → is_same x y ≡ false → is_before y x ≡ true
 before_back x y h k = grind (arith, nat_tests)
+
+-- a term that is neither before the first nor the same stands behind it
+pub put_behind : (t u : Term) (us : List Term) → is_before t.symbol u.symbol ≡ false → is_same t.symbol u.symbol ≡ false → with_term t (u ∷ us) ≡ u ∷ with_term t us
+put_behind t u us e f =
+    ap (λ b. if b then unless_zero t (u ∷ us) else (if is_same t.symbol u.symbol then unless_zero (record { symbol = u.symbol; factor = sum_of t.factor u.factor }) us else u ∷ with_term t us)) e
+    ∙ ap (λ b. if b then unless_zero (record { symbol = u.symbol; factor = sum_of t.factor u.factor }) us else u ∷ with_term t us) f
 
 pub empty_of : (ts : List Term) → length ts ≡ 0 → ts ≡ []
 empty_of [] h = refl

@@ -124,14 +124,14 @@ fn half_product(
 ) -> Result<Known, AllocError>
     ensures { IfOk result (λ known. known ≡ by_half is_high place code left.operand right.operand left.known right.known) }
 {
-    let linear = by_number(alloc, place, code, &left.known, &right.operand)?;
+    let linear = by_number(alloc, place, code, &left.known, &right.operand);
     let half = Half {
         is_high,
         left: factor_of(left),
         right: factor_of(right),
     };
     Ok(Known {
-        linear,
+        linear: linear?,
         half: Some(half),
     })
 }

@@ -36,8 +36,8 @@ fn follow(
     ensures passed { OnOk result (Passes trace.now (place + 1) passed.new) }
 {
     let form = form_at(alloc, trace, passed, place, op)?;
-    let known = made(alloc, trace, passed, place, op)?;
     let index = index_made(alloc, trace, passed, place, op)?;
+    let known = made(alloc, trace, passed, place, op)?;
     pass(passed, trace, joins, place, op, known, index)?;
     Ok(form)
 }

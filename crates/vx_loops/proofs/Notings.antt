@@ -2,6 +2,7 @@
 use Rattle.std.proofs.Common.{◌≡◌, ℕ, ◌+◌, ◌-◌, ◌<◌, ◌≤◌, ◌^◌, Bool, true, false, List, [], ◌∷◌, ◌++◌, Option, Some, None, length, get_or, take, slice_index_or, slice_set, slice_get, refl, sym, ap, subst, ◌∙◌, arith, eq-eqb, eqb-true}
 use Rattle.std.specs.Prelude.{◌==◌, ◌&&◌, ◌||◌, if◌then◌else◌, min, nat_lt, replicate}
 use Rattle.std.specs.List.{flat_map}
+use Rattle.std.proofs.lemmas.Bool.{false≢true}
 use Rattle.std.proofs.lemmas.Bool.Decides.{nat_tests}
 use Rattle.std.proofs.lemmas.List.{append-nil, append_assoc, flat_map_more, take_all, take_more, get_or_read, length-set, get_or-set_same, get_or-set_other, get_or-replicate, get_or_past, length-replicate}
 use Rattle.std.proofs.lemmas.Grind.{flat_map-append}
@@ -71,6 +72,14 @@ counted_more writers times n p w x same there is h counts v lt stood =
     by true e = let q : x ≡ min (slice_index_or times p 0 + 1) (2 ^ 32 - 1) = is ∙ ap (counted_again (slice_index_or times p 0)) e in let k : slice_index_or times p 0 ≡ min (times_in p w) (2 ^ 32 - 1) = counts p there e in omega arith
     by false e = let q : x ≡ 1 = is ∙ ap (counted_again (slice_index_or times p 0)) e in let k : times_in p w ≡ 0 = none_of (times_in p w) (sym (h p there) ∙ e) in omega arith
 
+-- what stands in a row where it is read
+
+pub stands_there : (behind : Bool) (row read : List ℕ) (place x number : ℕ) → read ≡ row → slice_get read place ≡ Some x → (x == number) ≡ is_number behind (slice_get row place) number
+stands_there behind row read place x number same there = sym (ap (λ (z : List ℕ). is_number behind (slice_get z place) number) (sym same) ∙ ap (λ z. is_number behind z number) there)
+
+pub stands_past : (behind : Bool) (row read : List ℕ) (place number : ℕ) → read ≡ row → slice_get read place ≡ None → behind ≡ is_number behind (slice_get row place) number
+stands_past behind row read place number same past = sym (ap (λ (z : List ℕ). is_number behind (slice_get z place) number) (sym same) ∙ ap (λ z. is_number behind z number) past)
+
 -- notes
 
 module _ {m w s : List ℕ} {c : Bool} {n : ℕ} {members writers times stores : List ℕ} {call : ℕ} (h : NotesIn m w s c n members writers times stores call) where
@@ -135,6 +144,24 @@ module _ {m w s : List ℕ} {c : Bool} {n : ℕ} {members writers times stores :
     stores = h.stores;
     calls = eq-eqb n n refl;
   }
+
+-- nothing is noted at first
+
+nothing_stands : (row : List ℕ) (n q : ℕ) → row ≡ replicate n (2 ^ 64 - 1) → q < length row → stands row 0 q ≡ false
+nothing_stands row n q e lt =
+    let size : length row ≡ n = ap length e ∙ length-replicate n (2 ^ 64 - 1) in
+    let below : q < n = omega (arith, size, lt) in
+    ap (λ (z : List ℕ). slice_index_or z q 0 == 0) e ∙ ap (λ z. z == 0) (get_or-replicate n q (2 ^ 64 - 1) 0 below)
+
+pub nothing_noted : (members writers times stores : List ℕ) (b v a : ℕ) → members ≡ replicate b (2 ^ 64 - 1) → writers ≡ replicate v (2 ^ 64 - 1) → stores ≡ replicate a (2 ^ 64 - 1) → NotesIn [] [] [] false 0 members writers times stores (2 ^ 64 - 1)
+nothing_noted members writers times stores b v a m w s = record {
+  inside = λ q lt. ap (λ z. if z then 1 else 0) (sym (nothing_stands members b q m lt));
+  outside = λ q le. refl;
+  writes = λ q lt. nothing_stands writers v q w lt;
+  counts = λ q lt stood. absurd (false≢true (sym (nothing_stands writers v q w lt) ∙ stood));
+  stores = λ q lt. nothing_stands stores a q s lt;
+  calls = refl;
+}
 
 no_stand : (number next : ℕ) (row : List ℕ) → number < next → next < 2 ^ 64 - 1 → NamesPast number row → (k : ℕ) → stands row next k ≡ false
 no_stand number next row more few h k = by (stands row next k) refl

@@ -2,7 +2,7 @@
 // reverse of the order in which a walk from the entry leaves them. Where a block stands owes nothing; that each stands there once
 // does, and is tested as the order is made.
 
-ghost use Rattle.std.specs.Prelude.{◌≡◌, ◌<◌, ◌^◌, ℕ, true, [], IfOk, length, min};
+ghost use Rattle.std.specs.Prelude.{◌≡◌, ◌<◌, ◌^◌, ℕ, true, IfOk, length, min};
 ghost use Rattle.vx_flow.specs.Rows.{is_marked};
 ghost use Rattle.vx_loops.specs.Order.{HasEachOnce, MarksStay, Placed};
 
@@ -115,8 +115,8 @@ fn append_reversed(
     ensures placed { IfOk result (λ _. Placed placed.new.items order.new.items) }
     ensures count { IfOk result (λ _. length placed.new.items ≡ length placed.old.items) }
 {
-    for block in left.iter().rev() {
-        place_once(order, placed, *block)?;
+    for behind in 0..left.len() {
+        place_once(order, placed, left[left.len() - 1 - behind])?;
     }
     Ok(())
 }

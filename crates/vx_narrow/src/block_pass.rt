@@ -1,15 +1,16 @@
 // The pass over one block: its operations in the forms that what is known gives them, and the block narrowed, where it passes.
 
-ghost use Rattle.std.specs.Prelude.{◌≡◌, true, IfOk, IfSome};
+ghost use Rattle.std.specs.Prelude.{◌≡◌, ◌++◌, ◌&&◌, true, IfOk, IfSome};
+ghost use Rattle.std.specs.List.{list_all};
 ghost use Rattle.vx_claims.specs.Forming.{accessed_from, after_from};
 ghost use Rattle.vx_claims.specs.Claims.{listed_claims};
-ghost use Rattle.vx_facts.specs.Checking.{is_block_checked, listed_given};
+ghost use Rattle.vx_facts.specs.Checking.{has_numbers, is_block_checked, is_exit_checked, listed_given};
 ghost use Rattle.vx_narrow.specs.Shortening.{improved_from};
 ghost use Rattle.vx_narrow.specs.Rewriting.{narrowed_block, narrowed_exit};
 
 use crate::one_product::shortened;
 use std::alloc::Global;
-use vx_base::listed::{Listed, copied};
+use vx_base::listed::Listed;
 use vx_base::outcome::NoMemory;
 use vx_claims::access::{Access, accessed, copied_accesses};
 use vx_claims::claim::{Claim, accesses_in, facts_in};
@@ -19,6 +20,7 @@ use vx_claims::intervals::Interval;
 use vx_claims::known::decided;
 use vx_claims::update::learn;
 use vx_facts::checks::is_left_checked;
+use vx_flow::copies::copied_exit;
 use vx_flow::graph::{Block, Exit, Op};
 
 /// What stands behind the operations of a block.
@@ -43,12 +45,7 @@ pub fn pass_ops(
     let mut facts = claims.to_vec(alloc)?;
     let mut known = copied_accesses(alloc, accesses)?;
     let mut made = Listed::new(alloc);
-    for op in ops {
-        let form = form(facts.as_slice(), known.as_slice(), op);
-        made.push(shortened(facts.as_slice(), form))?;
-        learn(alloc, &mut facts, known.as_slice(), op, &form)?;
-        known = accessed(alloc, known.as_slice(), &form)?;
-    }
+    pass_each(alloc, &mut facts, &mut known, &mut made, ops)?;
     Ok(Passed {
         facts: Listed::from_vec(facts)?,
         accesses: known,
@@ -56,35 +53,39 @@ pub fn pass_ops(
     })
 }
 
+/// Puts what is known behind operations in place of what is known before them, and puts their forms behind what is made.
+fn pass_each(
+    alloc: Global,
+    facts: &mut Vec<Fact>,
+    known: &mut Listed<Access>,
+    made: &mut Listed<Op>,
+    ops: &[Op],
+) -> Result<(), NoMemory>
+    ensures facts { IfOk result (λ _. facts.new.items ≡ after_from facts.old.items known.old ops.now) }
+    ensures known { IfOk result (λ _. known.new ≡ accessed_from facts.old.items known.old ops.now) }
+    ensures made { IfOk result (λ _. made.new ≡ made.old ++ improved_from facts.old.items known.old ops.now) }
+{
+    for op in ops {
+        let form = form(facts.as_slice(), known.as_slice(), op);
+        made.push(shortened(facts.as_slice(), form))?;
+        learn(alloc, facts, known.as_slice(), op, &form)?;
+        *known = accessed(alloc, known.as_slice(), &form)?;
+    }
+    Ok(())
+}
+
 /// The exit, where a decided split is a jump.
 fn narrowed_exit(alloc: Global, facts: &[Fact], exit: &Exit) -> Result<Exit, NoMemory>
     ensures { IfOk result (λ made. made ≡ narrowed_exit facts.now exit.now) }
 {
     match exit {
-        Exit::Goto(next) => Ok(Exit::Goto(*next)),
         Exit::Split { test, yes, no } => match decided(facts, *test) {
             Some(true) => Ok(Exit::Goto(*yes)),
             Some(false) => Ok(Exit::Goto(*no)),
-            None => Ok(Exit::Split {
-                test: *test,
-                yes: *yes,
-                no: *no,
-            }),
+            None => copied_exit(alloc, exit),
         },
-        Exit::Call {
-            function,
-            arguments,
-            result: held,
-            next,
-        } => {
-            let arguments = copied(alloc, arguments.as_slice())?;
-            Ok(Exit::Call {
-                function: *function,
-                arguments,
-                result: *held,
-                next: *next,
-            })
-        }
+        Exit::Goto(next) => Ok(Exit::Goto(*next)),
+        Exit::Call { .. } => copied_exit(alloc, exit),
         Exit::Return(operand) => Ok(Exit::Return(*operand)),
         Exit::Ends(trap) => Ok(Exit::Ends(*trap)),
     }
@@ -107,20 +108,39 @@ pub fn narrowed_block(
         accesses_in(table, place),
         block.ops.as_slice(),
     )?;
-    let passes = is_left_checked(
-        alloc,
-        given,
-        table,
-        passed.facts.as_slice(),
-        passed.accesses.as_slice(),
-        block,
-    )?;
-    if !passes {
-        return Ok(None);
+    match checked_exit(alloc, given, table, &passed, block) {
+        Ok(Some(exit)) => Ok(Some(Block {
+            ops: passed.ops,
+            exit,
+        })),
+        Ok(None) => {
+            drop(passed);
+            Ok(None)
+        }
+        Err(error) => {
+            drop(passed);
+            Err(error)
+        }
     }
-    let exit = narrowed_exit(alloc, passed.facts.as_slice(), &block.exit)?;
-    Ok(Some(Block {
-        ops: passed.ops,
-        exit,
-    }))
+}
+
+/// The exit of a block behind whose operations this stands, where the block passes.
+fn checked_exit(
+    alloc: Global,
+    given: &[Listed<Interval>],
+    table: &[Claim],
+    passed: &Passed,
+    block: &Block,
+) -> Result<Option<Exit>, NoMemory>
+    ensures narrowed { IfOk result (λ found. IfSome found (λ exit. exit ≡ narrowed_exit passed.now.facts block.now.exit)) }
+    ensures checked { IfOk result (λ found. IfSome found (λ _. (list_all has_numbers block.now.ops && is_exit_checked (listed_given given.now) (listed_claims table.now) passed.now.facts passed.now.accesses block.now.exit) ≡ true)) }
+{
+    let facts = passed.facts.as_slice();
+    let accesses = passed.accesses.as_slice();
+    if is_left_checked(alloc, given, table, facts, accesses, block)? {
+        let exit = narrowed_exit(alloc, facts, &block.exit)?;
+        Ok(Some(exit))
+    } else {
+        Ok(None)
+    }
 }

@@ -38,9 +38,16 @@ pub fn narrow(alloc: Global, flow: Flow) -> Result<Flow, NoMemory>
     ensures sound { IfOk result (λ narrowed. is_sound_flow narrowed ≡ true) }
     ensures flow { IfOk result (λ narrowed. (p : Program) → FlowOf p flow → FlowOf p narrowed) }
 {
-    match narrowed_flow(alloc, &flow)? {
-        Some(narrowed) => Ok(narrowed),
-        None => Ok(flow),
+    match narrowed_flow(alloc, &flow) {
+        Ok(Some(narrowed)) => {
+            drop(flow);
+            Ok(narrowed)
+        }
+        Ok(None) => Ok(flow),
+        Err(error) => {
+            drop(flow);
+            Err(error)
+        }
     }
 }
 
@@ -53,7 +60,9 @@ fn narrowed_flow(alloc: Global, flow: &Flow) -> Result<Option<Flow>, NoMemory>
         return Ok(None);
     }
     let found = find_given(alloc, flow.functions.as_slice(), ROUNDS)?;
-    match narrowed_with_given(alloc, flow, found.given.as_slice(), found.kept.as_slice())? {
+    let by_found = narrowed_with_given(alloc, flow, found.given.as_slice(), found.kept.as_slice());
+    drop(found);
+    match by_found? {
         Some(narrowed) => Ok(Some(narrowed)),
         None => narrowed_with_given(alloc, flow, &[], &[]),
     }
@@ -95,10 +104,16 @@ fn with_sound_graphs(
     ensures flow { IfOk result (λ found. IfSome found (λ narrowed. FlowStays flow.now narrowed)) }
 {
     let narrowed = with_graphs(alloc, flow, functions)?;
-    if is_sound(alloc, &narrowed)? {
-        Ok(Some(narrowed))
-    } else {
-        Ok(None)
+    match is_sound(alloc, &narrowed) {
+        Ok(true) => Ok(Some(narrowed)),
+        Ok(false) => {
+            drop(narrowed);
+            Ok(None)
+        }
+        Err(error) => {
+            drop(narrowed);
+            Err(error)
+        }
     }
 }
 

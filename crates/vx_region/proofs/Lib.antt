@@ -40,3 +40,4 @@ pub mod Falls
 pub mod Counted
 pub mod Steps
 pub mod TwoBegin
+pub mod Fronts

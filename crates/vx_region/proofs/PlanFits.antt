@@ -1,5 +1,5 @@
 -- What is kept of the calls of planning is what a step asks.
-use Rattle.std.proofs.Common.{◌≡◌, ℕ, sym, ap, subst}
+use Rattle.std.proofs.Common.{◌≡◌, ℕ, Result, Ok, Err, IfOk, sym, ap, subst}
 use Rattle.vx_flow.specs.declared.trace.Trace.{Trace}
 use Rattle.vx_flow.specs.declared.trace.Clustered.{Clustered}
 use Rattle.vx_flow.specs.declared.trace.Placed.{Placed}
@@ -31,6 +31,12 @@ is_placed m homes mode c deps p d by length clustered = record {
   length_is = length;
   clustered = clustered;
 }
+
+-- where words were made
+pub placed_where_made : {E : Type 0} (m : Numbers) (homes : Homes) (mode : Mode) (c : Clustered) (deps : Deps) (r : Result Placed E) → IsDeps m mode c.trace deps → IfOk r (λ p. PlacedBy c m homes (mode_in deps) (height_in deps) p.words) → IfOk r (λ p. p.length ≡ length_of p.words) → IfOk r (λ p. p.clustered ≡ c) →
+    IfOk r (IsPlaced c m homes mode)
+placed_where_made m homes mode c deps (Ok p) d by length clustered = is_placed m homes mode c deps p d by length clustered
+placed_where_made m homes mode c deps (Err e) d by length clustered = tt
 
 placed_is : (c : Clustered) (p : Placed) → p.clustered ≡ c → p.length ≡ length_of p.words → p ≡ placed_in c p.words
 placed_is c p e l = λ i. record { clustered = e i; words = p.words; length = l i }

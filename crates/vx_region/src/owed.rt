@@ -40,19 +40,17 @@ pub struct Owed {
 }
 
 /// What this placed trace owes.
-#[tactic(auto, using(crate::proofs::Owing::drains_kept))]
 pub(crate) fn owed_of(alloc: Global, machine: &Machine, placed: &Placed) -> Result<Owed, NoMemory>
     ensures { IfOk result (λ owed. IsOwed machine.now placed.now owed) }
 {
-    let splits = at_splits(alloc, placed)?;
-    let rejoins = at_joins(alloc, placed)?;
-    let last_drain = drain_at(machine, placed, placed.length as u64);
+    let rejoins = Listed::from_vec(at_joins(alloc, placed)?)?;
     let starts = starts(alloc, rejoins.as_slice())?;
+    let splits = at_splits(alloc, placed)?;
     let made = made_blocks(alloc, placed, splits.as_slice(), rejoins.as_slice())?;
     let copies = copies_at(placed, splits.as_slice(), rejoins.as_slice());
     let splits = drained(alloc, machine, placed, splits)?;
     let drains = drains(alloc, splits.as_slice())?;
-    let rejoins = Listed::from_vec(rejoins)?;
+    let last_drain = drain_at(machine, placed, placed.length as u64);
     Ok(Owed {
         splits,
         rejoins,
@@ -65,7 +63,6 @@ pub(crate) fn owed_of(alloc: Global, machine: &Machine, placed: &Placed) -> Resu
 }
 
 /// The copies at the splits, with the empty cycles behind each.
-#[tactic(auto, using(crate::proofs::Owing::drained_more))]
 fn drained(
     alloc: Global,
     machine: &Machine,

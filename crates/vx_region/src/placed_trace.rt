@@ -130,7 +130,6 @@ fn place_owing(
 }
 
 /// The words of a trace, in this mode.
-#[tactic(auto, using(crate::proofs::PlanFits::own_mode, crate::proofs::PlanFits::is_placed))]
 fn place(
     alloc: Global,
     clustered: &Clustered,
@@ -143,5 +142,7 @@ fn place(
     ensures { IfOk result (λ p. IsPlaced clustered.now machine.now homes.now mode p) }
 {
     let deps = pairs(alloc, &clustered.trace, machine, mode)?;
-    schedule(alloc, clustered, homes, &deps, machine)
+    let placed = schedule(alloc, clustered, homes, &deps, machine);
+    drop(deps);
+    placed
 }

@@ -211,7 +211,6 @@ pub struct OnClusters {
 }
 
 /// The trace of some blocks on the clusters that are assigned to its operations.
-#[tactic(auto, using(crate::proofs::Rooms::is_on_clusters))]
 fn on_clusters(
     alloc: Global,
     mixed: &Mixed,

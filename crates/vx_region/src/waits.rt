@@ -1,6 +1,6 @@
 // The empty cycles behind the exits of a placed trace: as many as a result that was issued before can still take.
 
-ghost use Rattle.std.specs.Prelude.{◌≡◌, ◌+◌, ◌++◌, ◌-◌, max, nat_le};
+ghost use Rattle.std.specs.Prelude.{◌≡◌, ◌+◌, ◌-◌, max, nat_le};
 ghost use Rattle.vx_dep.specs.Compensation.{word_at, greatest, left_at, all_left_at, drain_at};
 
 use vx_dep::copies::EdgeCopies;
@@ -52,7 +52,6 @@ fn greater(a: u32, b: u32) -> u32
 }
 
 /// How many cycles behind its word the result of an operation still takes at the start of a word.
-#[tactic(auto, using(crate::proofs::ShortDrains::far_back))]
 fn left_at(machine: &Machine, end: u64, word: u32, op: &TraceOp) -> u32
     ensures { result ≡ left_at machine.now end word op.now }
 {

@@ -8,3 +8,4 @@ pub mod PlacingSteps
 pub mod PutSteps
 pub mod OuterEdges
 pub mod Exchanges
+pub mod Pushed

@@ -1,6 +1,7 @@
 -- Items of lists, and one item put in place of another.
-use Rattle.std.proofs.Common.{◌≡◌, ℕ, zero, suc, ◌<◌, Option, None, List, [], ◌∷◌, length, take, drop, slice_index_or, slice_set, refl, sym, ap, subst, inl, inr, arith}
+use Rattle.std.proofs.Common.{◌≡◌, ◌-◌, ◌≤◌, ◌∙◌, ℕ, zero, suc, ◌<◌, Option, None, List, [], ◌∷◌, length, take, drop, slice_index_or, slice_set, refl, sym, ap, subst, inl, inr, arith}
 use Rattle.std.specs.Prelude.{replicate}
+use Rattle.std.proofs.lemmas.List.{take_all}
 use Rattle.vx_flow.specs.Effects.{IsIn}
 
 pub item_in : {A : Type 0} (xs : List A) (i : ℕ) (d : A) → i < length xs → IsIn (slice_index_or xs i d) xs
@@ -29,3 +30,15 @@ set_many (y ∷ xs) (suc i) x = ap suc (set_many xs i x)
 pub none_many : (n : ℕ) → length (replicate {A = Option ℕ} n None) ≡ n
 none_many zero = refl
 none_many (suc n) = ap suc (none_many n)
+
+pub none_of : (bs : List ℕ) → length bs < 1 → bs ≡ []
+none_of [] h = refl
+none_of (b ∷ bs) h = absurd (omega arith)
+
+-- the first item and those behind it
+pub first_of : (bs : List ℕ) → 1 ≤ length bs → bs ≡ slice_index_or bs 0 0 ∷ take (length bs - 1) (drop 1 bs)
+first_of [] h = absurd (omega arith)
+first_of (b ∷ bs) h =
+    let n : length (b ∷ bs) - 1 ≡ length bs = omega arith in
+    let all : length bs ≤ length bs = omega arith in
+    ap (λ l. b ∷ l) (sym (ap (λ k. take k bs) n ∙ take_all (length bs) bs all))

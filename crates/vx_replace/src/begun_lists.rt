@@ -1,16 +1,16 @@
 // The lists that a graph begins with as a graph of blocks and regions: copies of its blocks, and what is told of its values. Each
 // call fails only for want of memory.
 
-ghost use Rattle.std.specs.Prelude.{◌≡◌, ◌++◌, ◌∷◌, [], ◌<◌, ◌^◌, ℕ, None, Some, IfOk, length, map, replicate, slice_set};
+ghost use Rattle.std.specs.Prelude.{◌≡◌, ◌++◌, ◌∷◌, [], ◌<◌, ◌^◌, None, Some, IfOk, length, map, replicate};
 ghost use Rattle.vx_flow.specs.Walk.{edge, successors_of};
 ghost use Rattle.vx_mixed.specs.declared.region.Node.TheVariants.{Unused};
 ghost use Rattle.vx_mixed.specs.Edges.{edges_from};
 ghost use Rattle.vx_mixed.specs.FromGraph.{bound_by, bound_in, bound_to};
 
 use std::alloc::Global;
-use vx_base::listed::{Listed, copied};
+use vx_base::listed::Listed;
 use vx_base::outcome::NoMemory;
-use vx_flow::copies::copied_block;
+use vx_flow::copies::{copied_block, with_blocks};
 use vx_flow::graph::{Array, Bank, Block, BlockId, Edge, Exit, Graph, Op, Value};
 use vx_flow::operands::binds;
 use vx_mixed::nodes::Nodes;
@@ -57,14 +57,12 @@ pub(crate) fn told_values(alloc: Global, graph: &Graph) -> Result<Told, NoMemory
     ensures arrays { IfOk result (λ told. told.arrays ≡ graph.now.arrays) }
 {
     let clusters = start_homes(alloc, graph.banks.len(), graph.blocks.as_slice())?;
-    let banks = copied(alloc, graph.banks.as_slice())?;
-    let parameters = copied(alloc, graph.parameters.as_slice())?;
-    let arrays = copied(alloc, graph.arrays.as_slice())?;
+    let rest = with_blocks(alloc, graph, Listed::new(alloc))?;
     Ok(Told {
         clusters,
-        banks,
-        parameters,
-        arrays,
+        banks: rest.banks,
+        parameters: rest.parameters,
+        arrays: rest.arrays,
     })
 }
 

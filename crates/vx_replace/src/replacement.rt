@@ -51,13 +51,21 @@ pub(crate) fn replace_trace(
         return put_trace(alloc, graph, edges, replacement);
     }
     let mut parts = no_parts(alloc);
-    make_parts(alloc, &mut parts, graph, edges.as_slice(), replacement)?;
-    graph.nodes = parts.nodes;
-    graph.regions = parts.regions;
-    graph.origins = parts.origins;
-    swap(&mut graph.homes, &mut replacement.homes);
-    *edges = parts.edges;
-    Ok(())
+    match make_parts(alloc, &mut parts, graph, edges.as_slice(), replacement) {
+        Ok(()) => {
+            swap(&mut graph.nodes, &mut parts.nodes);
+            swap(&mut graph.regions, &mut parts.regions);
+            swap(&mut graph.origins, &mut parts.origins);
+            swap(&mut graph.homes, &mut replacement.homes);
+            swap(edges, &mut parts.edges);
+            drop(parts);
+            Ok(())
+        }
+        Err(error) => {
+            drop(parts);
+            Err(error)
+        }
+    }
 }
 
 /// No parts, which take no memory.

@@ -3,6 +3,7 @@ use Rattle.std.proofs.Common.{◌≡◌, ℕ, zero, suc, ◌<◌, ◌≤◌, ◌
 use Rattle.std.proofs.lemmas.Bool.{true≢false, and_parts, and_from, and_right, ltb-true, lt-ltb, eqb-true, eq-eqb, ne_eqb, cases_order, cases_eq}
 use Rattle.std.proofs.lemmas.List.{get_or-set_same, get_or-set_other, length-set}
 use Rattle.std.proofs.lemmas.List.Sorted.{All-permutation, sum_by-IsPermutation}
+use Rattle.std.proofs.lemmas.Option.{none-some}
 use Rattle.vx_isa.proofs.Lists.{count_by-append, count_by-cons}
 use Rattle.vx_sched.specs.declared.height_order.Ranked.{Ranked}
 use Rattle.vx_sched.specs.Placement.{comes_before}
@@ -198,3 +199,8 @@ module _ (h : ℕ → ℕ) where
 pub one_fewer : (left : List Ranked) (place : ℕ) → Some place ≡ first_of left → length (drop 1 left) < length left
 one_fewer [] place e = absurd cc
 one_fewer (r ∷ rest) place e = omega arith
+
+-- where one comes first, fewer stand behind it
+pub fewer : (left : List Ranked) (place : ℕ) → Some place ≡ first_of left → length (drop 1 left) < length left
+fewer [] place e = absurd (none-some place (sym e))
+fewer (x ∷ xs) place e = omega arith

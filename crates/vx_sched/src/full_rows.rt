@@ -22,7 +22,13 @@ pub(crate) fn is_crowded(machine: &Machine, row: &[ClusteredItem], item: Cluster
 fn slots_at(row: &[ClusteredItem], cluster: u32) -> usize
     ensures { result ≡ slots_at cluster row.now }
 {
-    row.iter().filter(|x| x.cluster == cluster).count()
+    let mut count = 0;
+    for item in row {
+        if item.cluster == cluster {
+            count += 1;
+        }
+    }
+    count
 }
 
 /// Whether a row takes all units of a kind that there are for a cluster.
@@ -42,15 +48,23 @@ fn takes_all(machine: &Machine, unit: UnitKind, cluster: u32, row: &[ClusteredIt
 fn units_at(row: &[ClusteredItem], cluster: u32, unit: UnitKind) -> usize
     ensures { result ≡ count_at cluster (needs unit) row.now }
 {
-    row.iter()
-        .filter(|x| x.cluster == cluster && x.item.unit() == unit)
-        .count()
+    let mut count = 0;
+    for item in row {
+        if item.cluster == cluster && item.item.unit() == unit {
+            count += 1;
+        }
+    }
+    count
 }
 
 fn copies_in(row: &[ClusteredItem]) -> usize
     ensures { result ≡ count_in (needs Copies) row.now }
 {
-    row.iter()
-        .filter(|x| x.item.unit() == UnitKind::Copies)
-        .count()
+    let mut count = 0;
+    for item in row {
+        if item.item.unit() == UnitKind::Copies {
+            count += 1;
+        }
+    }
+    count
 }

@@ -214,7 +214,7 @@ fn take_facts(
 ) -> Result<(), NoMemory>
     ensures { IfOk result (λ _. length claims.new.items ≡ length claims.old.items) }
 {
-    for fact in facts.iter().take(MOST) {
+    for fact in &facts[..facts.len().min(MOST)] {
         if is_general(*fact) && keeps_fact(loops, *fact) && all_give(ends, before, *fact) {
             take_fact(claims, place, *fact)?;
         }
@@ -232,7 +232,7 @@ fn take_accesses(
 ) -> Result<(), NoMemory>
     ensures { IfOk result (λ _. length claims.new.items ≡ length claims.old.items) }
 {
-    for access in accesses.iter().take(MOST) {
+    for access in &accesses[..accesses.len().min(MOST)] {
         if keeps_access(loops, *access) && all_tell(ends, before, *access) {
             take_access(claims, place, *access)?;
         }

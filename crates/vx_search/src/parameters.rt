@@ -6,7 +6,7 @@
 // that, else that up to the next numbers with which it compares, else what others pass to the parameters that its own calls keep, and
 // at the end nothing. Where functions call each other in a ring, nothing is given of the first of them.
 
-ghost use Rattle.std.specs.Prelude.{◌≡◌, IfOk, length};
+ghost use Rattle.std.specs.Prelude.{IfOk, length};
 ghost use Rattle.vx_search.specs.Rows.{HasRows, SameRows};
 
 use crate::compared::up_to_compared;
@@ -381,9 +381,11 @@ fn nothing_given(
     graph: &Graph,
     rounds: u32,
 ) -> Result<Settled, NoMemory> {
-    let row = Listed::new(alloc);
-    let claims = passing_on(alloc, calls, graph, row.as_slice(), rounds)?;
-    Ok(Settled { row, claims })
+    let claims = passing_on(alloc, calls, graph, &[], rounds)?;
+    Ok(Settled {
+        row: Listed::new(alloc),
+        claims,
+    })
 }
 
 /// The claims of a function with what is given of its parameters. What its calls then pass is noted.
@@ -486,11 +488,12 @@ fn row_kept(
 ) -> Result<Listed<Interval>, NoMemory> {
     let mut left = Listed::new(alloc);
     for (place, within) in row.iter().enumerate() {
-        if is_inside(hull_at(calls, function, place), *within) {
-            left.push(*within)?;
+        let kept = if is_inside(hull_at(calls, function, place), *within) {
+            *within
         } else {
-            left.push(full())?;
-        }
+            full()
+        };
+        left.push(kept)?;
     }
     Ok(left)
 }

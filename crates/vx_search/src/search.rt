@@ -129,9 +129,12 @@ fn put_parameters(tables: &mut Tables, parameters: &[Value], intervals: &[Interv
 
 /// The interval at the first place where a value is a parameter.
 fn interval_of(parameters: &[Value], intervals: &[Interval], value: Value) -> Interval {
-    for (parameter, within) in parameters.iter().zip(intervals.iter()) {
+    for (place, parameter) in parameters.iter().enumerate() {
         if *parameter == value {
-            return *within;
+            return match intervals.get(place) {
+                Some(within) => *within,
+                None => full(),
+            };
         }
     }
     full()

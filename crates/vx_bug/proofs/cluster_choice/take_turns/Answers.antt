@@ -1,10 +1,10 @@
-use Rattle.std.proofs.Common.{◌<◌, ◌≤◌, ℕ, List, sym, subst, refl, arith, length, take, slice_index_or, slice_set}
+use Rattle.std.proofs.Common.{◌∙◌, ◌<◌, ◌≤◌, ℕ, List, sym, subst, refl, arith, length, take, slice_index_or, slice_set}
 use Rattle.std.proofs.lemmas.List.{take_more, take_all}
 use Rattle.vx_flow.specs.Effects.{IsIn}
 use Rattle.vx_bug.specs.Ledgers.{books_of}
 use Rattle.vx_bug.specs.Choices.{TurnsTaken}
 use Rattle.vx_bug.proofs.Listing.{place_in, place_new}
-use Rattle.vx_bug.proofs.Taking.{one_turn}
+use Rattle.vx_bug.proofs.Taking.{no_turns, one_turn}
 use Rattle.vx_bug.proofs.cluster_choice.take_turns.Goals as goal
 
 pub index_mut-requires : goal.index_mut-requires
@@ -20,6 +20,9 @@ index_mut-requires-in-loop-place c =
     let e = c.loop-place.invariant.each_estimate in
     let long = c.loop-place.estimates.ok.0 in
     omega (arith, there, e, long)
+
+pub loop-place-init : goal.loop-place-init
+loop-place-init c = no_turns c.args.machine.now c.args.trace.now (books_of c.args.ledger.now) c.in_ok-chosen.chosen.items c.in_ok-estimates.estimates.items (c.in_ok-chosen.ensures ∙ c.len.ensures.len) (c.in_ok-estimates.ensures ∙ c.len-2.ensures.len)
 
 pub loop-place-preserved : goal.loop-place-preserved
 loop-place-preserved c =

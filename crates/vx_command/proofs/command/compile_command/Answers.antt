@@ -8,3 +8,9 @@ returns c =
     let files = c.with_word-command.ensures _ _ c.file_command-command.ensures c.required_of.ensures.rule in
     let options = c.with_compiling_options-command.ensures _ files in
     c.with_word.ensures _ _ options c.option_of.ensures.rule
+
+pub with_word-command-requires : goal.with_word-command-requires
+with_word-command-requires c = c.required_of.ensures.local
+
+pub with_word-requires : goal.with_word-requires
+with_word-requires c = c.option_of.ensures.local

@@ -18,3 +18,12 @@ returns-in-Err-clause-refused c =
         | inr among ↦ inr (other.1, fault_then _ _ among)
       ]
     ]
+
+pub returns-in-Err-clause-none : goal.returns-in-Err-clause-none
+returns-in-Err-clause-none c = tt
+
+pub returns-in-Err-clause-rows : goal.returns-in-Err-clause-rows
+returns-in-Err-clause-rows c = tt
+
+pub returns-in-Ok-clause-refused : goal.returns-in-Ok-clause-refused
+returns-in-Ok-clause-refused c = tt

@@ -13,3 +13,6 @@ returns c =
     let seed = IfOk-weaker c.arg-command.result _ (λ made. app_of made ≡ with_rule (new_app (codes "soak")) (required_number (codes "SEED") 0 1000000000))
     (λ made added. added.shape c.required_number_of.ensures.local ∙ ap₂ with_rule (ap app_of_fields c.about.ensures ∙ c.new.ensures.app) c.required_number_of.ensures.rule) c.arg-command.ensures in
     c.with_word.ensures _ _ seed c.required_number_of-2.ensures.rule
+
+pub with_word-requires : goal.with_word-requires
+with_word-requires c = c.required_number_of-2.ensures.local

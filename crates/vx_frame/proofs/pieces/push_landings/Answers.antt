@@ -1,11 +1,25 @@
-use Rattle.std.proofs.Common.{◌≡◌, ◌∷◌, rules}
+use Rattle.std.proofs.Common.{List, subst}
+use Rattle.std.proofs.lemmas.List.{nil_from_length}
+use Rattle.vx_mixed.specs.declared.layout.VirtualWord.{VirtualWord}
 use Rattle.vx_slots.specs.Seen.{seen}
-use Rattle.vx_frame.proofs.Emitting.{lands_turn}
+use Rattle.vx_frame.proofs.Emitting.{Lands, lands_landings, lands_turn, lands_words}
 use Rattle.vx_frame.proofs.pieces.push_landings.Goals as goal
 
 -- one word more
 pub landings-preserved : goal.landings-preserved
 landings-preserved c =
-    let rest : c.landings.rest.now ≡ c.in-Some.word.now ∷ c.in-Some.others.now = search rules in
     lands_turn (seen c.args.whole.now) c.args.function c.landings.place c.in_ok-place-in-Some.place c.len-begin.result c.args.laid.now c.landings.rest.now c.in-Some.others.now c.in-Some.word.now c.args.words.now c.landings.words c.push_word_landings.new.words c.landings.landings c.push.new.self
-    c.landings.invariant rest c.in_ok-push_word_landings-in-Some.ensures c.len-begin.ensures.len c.in_ok-push-in-Some.ensures.ok c.in_ok-place-in-Some.ensures
+    c.landings.invariant c.in-Some.ensures.cases.0 c.in_ok-push_word_landings-in-Some.ensures c.len-begin.ensures.len c.in_ok-push-in-Some.ensures.ok c.in_ok-place-in-Some.ensures
+
+-- no word is left
+pub returns-in-None-clause-words : goal.returns-in-None-clause-words
+returns-in-None-clause-words c =
+    let T = seen c.args.whole.now in
+    lands_words T c.args.function c.landings.place c.args.laid.now c.args.words.now c.landings.words c.landings.landings
+    (subst (λ (z : List VirtualWord). Lands T c.args.function c.args.laid.now c.args.words.now c.landings.words c.landings.landings c.landings.place z) (nil_from_length c.landings.rest.now c.in-None.ensures.cases) c.landings.invariant)
+
+pub returns-in-None-clause-landings : goal.returns-in-None-clause-landings
+returns-in-None-clause-landings c =
+    let T = seen c.args.whole.now in
+    lands_landings T c.args.function c.landings.place c.args.laid.now c.args.words.now c.landings.words c.landings.landings
+    (subst (λ (z : List VirtualWord). Lands T c.args.function c.args.laid.now c.args.words.now c.landings.words c.landings.landings c.landings.place z) (nil_from_length c.landings.rest.now c.in-None.ensures.cases) c.landings.invariant)

@@ -1,6 +1,7 @@
-use Rattle.std.proofs.Common.{sym, subst}
+use Rattle.std.proofs.Common.{refl, sym, subst}
 use Rattle.vx_bug.specs.CanAssign.{BoundAtHome, FixedAtHome, FixedReadsHere, ClustersAreThere}
 use Rattle.vx_region.proofs.Assignable.{bound_at_home, fixed_at_home, fixed_reads_here, clusters_are_there, values_are_there, copies_have_numbers, is_well_formed}
+use Rattle.vx_region.proofs.Rooms.{is_on_clusters}
 use Rattle.vx_region.proofs.step.on_clusters.Goals as goal
 
 pub assign-clusters-requires-clause-bound_at_home : goal.assign-clusters-requires-clause-bound_at_home
@@ -23,3 +24,7 @@ assign-clusters-requires-clause-copies c = copies_have_numbers c.args.machine.no
 
 pub assign-clusters-requires-clause-well_formed : goal.assign-clusters-requires-clause-well_formed
 assign-clusters-requires-clause-well_formed c = is_well_formed c.args.machine.now c.requires.graph.0 c.args.mixed.now c.args.blocks.now c.in_ok-trace.trace c.requires.valid c.requires.graph.1 c.requires.can c.in_ok-trace.ensures
+
+pub returns : goal.returns
+returns c =
+    is_on_clusters c.args.machine.now c.args.mixed.now c.args.blocks.now c.in_ok-trace.trace c.homes.result.now c.in_ok-clustered.field-0 _ c.in_ok-trace.ensures c.homes.ensures c.in_ok-clustered.ensures.assigned c.in_ok-clustered.ensures.room_for_each refl refl

@@ -1,8 +1,7 @@
-use Rattle.std.proofs.Common.{◌≡◌, ◌<◌, ◌≤◌, ◌-◌, ◌∷◌, ◌∙◌, [], ℕ, Bool, true, false, Some, None, List, length, take, drop, slice_index_or, refl, sym, ap, arith}
+use Rattle.std.proofs.Common.{◌≡◌, ◌-◌, ◌∷◌, ◌∙◌, ℕ, Bool, true, false, Some, None, List, length, take, drop, slice_index_or, sym, ap}
 use Rattle.std.specs.Prelude.{◌==◌, if◌then◌else◌}
 use Rattle.std.specs.List.{list_any}
 use Rattle.std.proofs.lemmas.Bool.{eq-eqb, ne_eqb}
-use Rattle.std.proofs.lemmas.List.{take_all}
 use Rattle.std.proofs.lemmas.Result.{IfOk-weaker}
 use Rattle.vx_flow.specs.declared.trace.Join.{Join}
 use Rattle.vx_mixed.specs.declared.mixed.MixedGraph.{MixedGraph}
@@ -10,18 +9,8 @@ use Rattle.vx_mixed.specs.declared.region.Node.{Node}
 use Rattle.vx_mixed.specs.declared.region.Node.TheVariants.{Enters}
 use Rattle.vx_mixed.specs.declared.replacement.Replacement.{Replacement}
 use Rattle.vx_mixed.specs.Next.{entered_at, new_end, rejoin_at, renamed_node, trace_node}
+use Rattle.vx_replace.proofs.PutSteps.{first_of, none_of}
 use Rattle.vx_replace.proofs.nodes.node_after.Goals as goal
-
-none_of : (bs : List ℕ) → length bs < 1 → bs ≡ []
-none_of [] h = refl
-none_of (b ∷ bs) h = absurd (omega arith)
-
-first_of : (bs : List ℕ) → 1 ≤ length bs → bs ≡ slice_index_or bs 0 0 ∷ take (length bs - 1) (drop 1 bs)
-first_of [] h = absurd (omega arith)
-first_of (b ∷ bs) h =
-    let n : length (b ∷ bs) - 1 ≡ length bs = omega arith in
-    let all : length bs ≤ length bs = omega arith in
-    ap (λ l. b ∷ l) (sym (ap (λ k. take k bs) n ∙ take_all (length bs) bs all))
 
 module _ (m : MixedGraph) (r : Replacement) (b : ℕ) (node : Node) where
   abbrev inside : Bool → Node

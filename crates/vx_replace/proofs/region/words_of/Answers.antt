@@ -56,3 +56,13 @@ returns c =
     let by_clusters = subst (λ l. Filled to r.trace.ops l c.as_slice-words.result.now r.drains r.length i c.loop-index.splits c.loop-index.bound rows) c.as_slice-clusters.ensures by_ops in
     let by_words = subst (λ l. Filled to r.trace.ops r.clusters l r.drains r.length i c.loop-index.splits c.loop-index.bound rows) c.as_slice-words.ensures by_clusters in
     c.in_ok-list.ensures ∙ all_filled c.args.graph.now r i c.loop-index.splits c.loop-index.bound rows over by_words
+
+pub bounds-clusters-index : goal.bounds-clusters-index
+bounds-clusters-index c =
+    let a : length c.as_slice-clusters.result.now ≡ length c.as_slice-ops.result.now = ap length c.as_slice-clusters.ensures ∙ c.requires.lists.clusters ∙ sym (ap length c.as_slice-ops.ensures) in
+    subst (λ n. c.loop-index.index < n) (sym a) c.loop-index-test.true
+
+pub bounds-words-index : goal.bounds-words-index
+bounds-words-index c =
+    let a : length c.as_slice-words.result.now ≡ length c.as_slice-ops.result.now = ap length c.as_slice-words.ensures ∙ c.requires.lists.words ∙ sym (ap length c.as_slice-ops.ensures) in
+    subst (λ n. c.loop-index.index < n) (sym a) c.loop-index-test.true

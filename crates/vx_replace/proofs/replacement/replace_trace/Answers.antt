@@ -1,19 +1,27 @@
-use Rattle.std.proofs.Common.{sym, subst}
+use Rattle.std.proofs.Common.{◌∙◌, eqb-true, length, sym, subst}
+use Rattle.std.proofs.lemmas.List.{nil_from_length}
 use Rattle.vx_mixed.specs.Edges.{EdgesOf}
+use Rattle.vx_mixed.specs.Next.{next_mixed}
 use Rattle.vx_replace.proofs.Replaces.{parts_make, parts_hold}
 use Rattle.vx_replace.proofs.replacement.replace_trace.Goals as goal
 
-pub returns-clause-next : goal.returns-clause-next
-returns-clause-next c =
-    parts_make c.args.graph.now c.args.replacement.now c.make_parts.new.parts.nodes c.make_parts.new.parts.regions c.make_parts.new.parts.origins c.swap.new.x c.in_ok-make_parts.ensures.nodes c.in_ok-make_parts.ensures.regions c.in_ok-make_parts.ensures.origins c.swap.ensures.x_after
+pub put_trace-requires-clause-none : goal.put_trace-requires-clause-none
+put_trace-requires-clause-none c = nil_from_length c.args.replacement.now.made (eqb-true (length c.args.replacement.now.made) 0 (sym c.is_empty.ensures ∙ c.if-is_empty.true))
 
-pub returns-clause-edges : goal.returns-clause-edges
-returns-clause-edges c =
-    subst (λ m. EdgesOf m c.make_parts.new.parts.edges) (sym (parts_make c.args.graph.now c.args.replacement.now c.make_parts.new.parts.nodes c.make_parts.new.parts.regions c.make_parts.new.parts.origins c.swap.new.x c.in_ok-make_parts.ensures.nodes c.in_ok-make_parts.ensures.regions c.in_ok-make_parts.ensures.origins c.swap.ensures.x_after))
-    c.in_ok-make_parts.ensures.edges
+pub make_parts-requires-clause-edges : goal.make_parts-requires-clause-edges
+make_parts-requires-clause-edges c = subst (EdgesOf c.args.graph.now) (sym c.as_slice.ensures) c.requires.edges
 
-pub returns-clause-valid : goal.returns-clause-valid
-returns-clause-valid c =
+pub returns-in-Ok-clause-next : goal.returns-in-Ok-clause-next
+returns-in-Ok-clause-next c =
+    parts_make c.args.graph.now c.args.replacement.now c.swap.new.x c.swap-in-Ok.new.x c.swap-in-Ok-2.new.x c.swap-in-Ok-3.new.x (c.swap.ensures.x_after ∙ c.in-Ok.ensures.nodes) (c.swap-in-Ok.ensures.x_after ∙ c.in-Ok.ensures.regions) (c.swap-in-Ok-2.ensures.x_after ∙ c.in-Ok.ensures.origins) c.swap-in-Ok-3.ensures.x_after
+
+pub returns-in-Ok-clause-edges : goal.returns-in-Ok-clause-edges
+returns-in-Ok-clause-edges c =
+    subst (λ m. EdgesOf m c.swap-in-Ok-4.new.x) (sym (parts_make c.args.graph.now c.args.replacement.now c.swap.new.x c.swap-in-Ok.new.x c.swap-in-Ok-2.new.x c.swap-in-Ok-3.new.x (c.swap.ensures.x_after ∙ c.in-Ok.ensures.nodes) (c.swap-in-Ok.ensures.x_after ∙ c.in-Ok.ensures.regions) (c.swap-in-Ok-2.ensures.x_after ∙ c.in-Ok.ensures.origins) c.swap-in-Ok-3.ensures.x_after))
+    (subst (EdgesOf (next_mixed c.args.graph.now c.args.replacement.now)) (sym c.swap-in-Ok-4.ensures.x_after) c.in-Ok.ensures.edges)
+
+pub returns-in-Ok-clause-valid : goal.returns-in-Ok-clause-valid
+returns-in-Ok-clause-valid c =
     parts_hold c.args.graph.now _ c.args.replacement.now
-    (parts_make c.args.graph.now c.args.replacement.now c.make_parts.new.parts.nodes c.make_parts.new.parts.regions c.make_parts.new.parts.origins c.swap.new.x c.in_ok-make_parts.ensures.nodes c.in_ok-make_parts.ensures.regions c.in_ok-make_parts.ensures.origins c.swap.ensures.x_after)
+    (parts_make c.args.graph.now c.args.replacement.now c.swap.new.x c.swap-in-Ok.new.x c.swap-in-Ok-2.new.x c.swap-in-Ok-3.new.x (c.swap.ensures.x_after ∙ c.in-Ok.ensures.nodes) (c.swap-in-Ok.ensures.x_after ∙ c.in-Ok.ensures.regions) (c.swap-in-Ok-2.ensures.x_after ∙ c.in-Ok.ensures.origins) c.swap-in-Ok-3.ensures.x_after)
     c.requires.valid c.requires.can

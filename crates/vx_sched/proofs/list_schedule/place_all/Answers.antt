@@ -1,4 +1,4 @@
-use Rattle.std.proofs.Common.{rules, ◌≡◌, true, Some, None, ◌<◌, ◌++◌, [], arith, drop, slice_set, map, length, ap, subst, sym}
+use Rattle.std.proofs.Common.{rules, ◌≡◌, true, Some, None, ◌<◌, ◌++◌, [], arith, drop, slice_set, map, length, subst, sym}
 use Rattle.std.proofs.lemmas.Result.{IfOk-weaker}
 use Rattle.vx_isa.specs.Numbers.{is_machine}
 use Rattle.vx_machine.specs.Room.{has_room}
@@ -6,7 +6,7 @@ use Rattle.vx_dep.specs.Deps.{height_in}
 use Rattle.vx_sched.specs.Placement.{PlacedBy}
 use Rattle.vx_sched.specs.Filling.{AreWithout, word_or_0, IsNext, IsReadyNow, IsFirstWith}
 use Rattle.vx_sched.specs.Ranking.{AreRanked, AreLeft}
-use Rattle.vx_sched.proofs.Ranks.{all_left, first_next, rest_left}
+use Rattle.vx_sched.proofs.Ranks.{all_left, first_next, rest_left, fewer}
 use Rattle.vx_sched.proofs.Filled.{Filled, none_filled, one_filled, all_filled}
 use Rattle.vx_sched.proofs.list_schedule.place_all.Goals as goal
 
@@ -81,3 +81,20 @@ index_mut-requires c =
     let inside : c.in-Some.place < length words = next.0 in
     let same : c.fill.words.len ≡ length words = search rules in
     omega (arith, inside, same)
+
+pub fill-smaller : goal.fill-smaller
+fill-smaller c =
+    let left = c.fill.left.now in
+    let some : length (drop 1 left) < length left = fewer left c.in-Some.place c.in-Some.ensures in
+    subst (λ xs. length xs < length left) (sym c.behind-left.ensures) some
+
+pub overflow_cast-place-in-Some : goal.overflow_cast-place-in-Some
+overflow_cast-place-in-Some c =
+    let h = height_in c.args.deps.now in
+    let words = c.fill.words.items in
+    let next : IsNext h words (length words) (Some c.in-Some.place) = subst (IsNext h words (length words)) (sym c.in-Some.ensures) (first_next h words c.fill.left.now c.fill.invariant.1) in
+    let inside : c.in-Some.place < length words = next.0 in
+    let each : length words ≡ length c.args.trace.now.trace.ops = c.fill.invariant.0.each in
+    let here = c.len.ensures.len in
+    let few = c.len.ensures.few in
+    record { fits = omega (arith, inside, each, here, few) }

@@ -14,3 +14,6 @@ returns-clause-notes c = λ m w s called h.
     let exit = c.args.block.now.exit in
     let first = subst (λ z. Notes m (w ++ flat_map writes z) (s ++ flat_map stores_of z) called c.mark_ops.new.self) c.as_slice.ensures (c.mark_ops.ensures.notes m w s called h) in
     block_parts m w (s ++ flat_map stores_of ops) (called || is_call exit) c.mark_exit.new.self (flat_map writes ops) (results_of_exit exit) (c.mark_exit.ensures.notes m (w ++ flat_map writes ops) (s ++ flat_map stores_of ops) called first)
+
+pub returns-clause-tables : goal.returns-clause-tables
+returns-clause-tables c = λ g t. c.mark_exit.ensures.tables g (c.mark_ops.ensures.tables g t)

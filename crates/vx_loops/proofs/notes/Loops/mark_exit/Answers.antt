@@ -16,3 +16,6 @@ returns-in-Return-clause-notes c = λ m w s called h. exit_quiet m w s called c.
 
 pub returns-in-Ends-clause-notes : goal.returns-in-Ends-clause-notes
 returns-in-Ends-clause-notes c = λ m w s called h. exit_quiet m w s called c.args.self.now c.args.exit.now _ c.in-Ends.is refl refl h
+
+pub returns-in-Call-clause-tables : goal.returns-in-Call-clause-tables
+returns-in-Call-clause-tables c = λ g t. c.write_some.ensures.tables g (c.call.ensures.tables g t)

@@ -1,0 +1,14 @@
+use Rattle.std.proofs.Common.{◌≡◌, ℕ, ◌+◌, ◌<◌, Bool, true, List, length, take, get_or, ap, sym, ◌∙◌}
+use Rattle.std.specs.Prelude.{◌&&◌}
+use Rattle.std.specs.List.{list_all}
+use Rattle.std.proofs.lemmas.List.Folds.{list_all_more}
+use Rattle.vx_flow.specs.declared.graph.Op.{Op}
+use Rattle.vx_thin.specs.Thinning.{unread_of}
+use Rattle.vx_hoist.specs.Growing.{is_silent}
+use Rattle.vx_hoist.proofs.hoisted_flow.are_silent.Goals as goal
+
+one_more : (p : Op → Bool) (ops : List Op) (i : ℕ) (d : Op) → i < length ops → list_all p (take i ops) ≡ true → p (get_or ops i d) ≡ true → list_all p (take (i + 1) ops) ≡ true
+one_more p ops i d there all this = list_all_more p ops i d there ∙ ap (λ z. z && p (get_or ops i d)) all ∙ this
+
+pub loop-op-preserved : goal.loop-op-preserved
+loop-op-preserved c = one_more (is_silent (unread_of c.args.named.now)) c.args.ops.now c.loop-op.op-index _ c.loop-op-test.true c.loop-op.invariant (sym c.is_silent.ensures ∙ c.if-not-is_silent.false)

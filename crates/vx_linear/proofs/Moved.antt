@@ -1,0 +1,6 @@
+-- A list that is made of another one, item after item: what is done and what is left are the whole.
+use Rattle.std.proofs.Common.{◌≡◌, ◌∙◌, List, [], ◌∷◌, ◌++◌, append_assoc, ap, sym}
+
+-- one more item is done
+pub moved : {X Y : Type 0} (F : List X → List Y) (whole done next : List Y) (left rest : List X) (y : Y) → done ++ F left ≡ whole → F left ≡ y ∷ F rest → next ≡ done ++ y ∷ [] → next ++ F rest ≡ whole
+moved F whole done next left rest y so e n = ap (λ l. l ++ F rest) n ∙ append_assoc done (y ∷ []) (F rest) ∙ ap (λ l. done ++ l) (sym e) ∙ so

@@ -1,0 +1,29 @@
+use Rattle.std.proofs.Common.{◌≡◌, ◌∷◌, ◌++◌, ◌∙◌, [], Bool, true, false, cond, get_or, not, sym, take, ap, append-nil}
+use Rattle.std.specs.List.{filter}
+use Rattle.std.proofs.lemmas.List.{take_all}
+use Rattle.std.proofs.lemmas.List.Elements.{filter_more}
+use Rattle.vx_flow.specs.declared.graph.Edge.{Edge}
+use Rattle.vx_mixed.specs.MovedEdges.{follows}
+use Rattle.vx_replace.proofs.edges.edges_beside.Goals.{then-not-follows+in_ok-push, else-not-follows}
+use Rattle.vx_replace.proofs.edges.edges_beside.Goals as goal
+
+pub loop-edge-preserved : goal.loop-edge-preserved
+loop-edge-preserved c =
+    let edges = c.args.edges.now in
+    let i = c.loop-edge.edge-index in
+    let d : Edge = record { from = 0; to = 0 } in
+    let x = get_or edges i d in
+    let p : Edge → Bool = λ e. not (follows c.args.before.now e) in
+    let so_far = filter p (take i edges) in
+    let more = sym (filter_more p edges i d c.loop-edge-test.true) in
+    elim c.if-not-follows.branch [
+      | then-not-follows+in_ok-push w ↦
+          let is : p x ≡ true = ap not (sym c.follows.ensures ∙ w.if-not-follows.true) in
+          w.beside-is ∙ w.in_ok-push.ensures.ok ∙ ap (λ l. l ++ x ∷ []) c.loop-edge.invariant ∙ ap (λ b. so_far ++ cond b (x ∷ []) []) (sym is) ∙ more
+      | else-not-follows w ↦
+          let is : p x ≡ false = ap not (sym c.follows.ensures ∙ w.if-not-follows.false) in
+          w.beside-is ∙ c.loop-edge.invariant ∙ sym (append-nil so_far) ∙ ap (λ b. so_far ++ cond b (x ∷ []) []) (sym is) ∙ more
+    ]
+
+pub returns : goal.returns
+returns c = c.loop-edge.invariant ∙ ap (filter (λ e. not (follows c.args.before.now e))) (take_all c.loop-edge.edge-index c.args.edges.now c.loop-edge-test.false)
