@@ -27,7 +27,7 @@ negative_fits : (n : ℕ) → n ≤ 2147483648 → IsNumber (negative n)
 negative_fits zero le = pos_fits 0 (omega arith)
 negative_fits (suc n) le = record { sfits = omega arith }
 
-number_fits : (text : List ℕ) (z : ℤ) → number_of text ≡ Some z → IsNumber z
+pub number_fits : (text : List ℕ) (z : ℤ) → number_of text ≡ Some z → IsNumber z
 unfolding number_of
 number_fits text z is = by (eqb (slice_index text 0) 45) refl is
   where

@@ -4,6 +4,7 @@ mod InputRows
 pub mod Refusing
 pub mod MachineFile
 pub mod ProfileFile
+mod Digits
 pub mod Fronts
 pub mod SourceLaws
 pub mod SourceFile

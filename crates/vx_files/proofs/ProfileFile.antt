@@ -57,12 +57,20 @@ fits n line few le = below 16777218 (2 ^ 32) line (ltb-true _ _ refl) (few_lines
 first_line : (n line : ℕ) → line ≡ 1 → line ≤ n + 2
 first_line n line is = omega (arith, is)
 
-pub bad_line_fits : (bytes : List ℕ) (line : ℕ) → length bytes ≤ 16777216 → FaultAt bytes (BadLine line) → line < 2 ^ 32
+bad_line_fits : (bytes : List ℕ) (line : ℕ) → length bytes ≤ 16777216 → FaultAt bytes (BadLine line) → line < 2 ^ 32
 bad_line_fits bytes line short (inl first) = fits (length bytes) line short (first_line (length bytes) line first.0)
 bad_line_fits bytes line short (inr later) = fits (length bytes) line short (reached bytes line later.0 later.1)
 
-pub large_count_fits : (bytes : List ℕ) (line : ℕ) → length bytes ≤ 16777216 → FaultAt bytes (CountTooLarge line) → line < 2 ^ 32
+large_count_fits : (bytes : List ℕ) (line : ℕ) → length bytes ≤ 16777216 → FaultAt bytes (CountTooLarge line) → line < 2 ^ 32
 large_count_fits bytes line short f = fits (length bytes) line short (reached bytes line f.0 f.1)
+
+-- a fault that is one of these, and was the first
+
+pub bad_line_named : (bytes : List ℕ) (fault : ProfileFault) (line : ℕ) → length bytes ≤ 16777216 → fault ≡ BadLine line → (fault ≢ NoRoomForCounts → FaultAt bytes fault) → line < 2 ^ 32
+bad_line_named bytes fault line short is first = bad_line_fits bytes line short (subst (FaultAt bytes) is (first (λ e. cc)))
+
+pub large_count_named : (bytes : List ℕ) (fault : ProfileFault) (line : ℕ) → length bytes ≤ 16777216 → fault ≡ CountTooLarge line → (fault ≢ NoRoomForCounts → FaultAt bytes fault) → line < 2 ^ 32
+large_count_named bytes fault line short is first = large_count_fits bytes line short (subst (FaultAt bytes) is (first (λ e. cc)))
 
 -- a fault and its status
 

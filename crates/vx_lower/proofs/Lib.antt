@@ -12,6 +12,7 @@ pub mod Alike
 pub mod Calls
 pub mod Whole
 pub mod Places
+pub mod Turns
 pub mod Building
 pub mod PieceMaking
 pub mod Emitting

@@ -1,17 +1,16 @@
 -- The code of a print.
-use Rattle.std.proofs.Common.{◌≡◌, ◌⊎◌, ℕ, zero, suc, ◌+◌, ◌<◌, ◌≤◌, Bool, true, false, List, [], ◌∷◌, ◌++◌, length, map, drop, get_or, slice_index_or, Option, Some, None, refl, sym, ap, ◌∙◌, subst, inl, inr, arith, append_assoc, append-nil}
-use Rattle.std.specs.Prelude.{slice_get, slice_set}
+use Rattle.std.proofs.Common.{◌≡◌, ℕ, zero, suc, ◌+◌, ◌<◌, ◌≤◌, Bool, true, false, ◌==◌, List, [], ◌∷◌, ◌++◌, length, drop, get_or, Some, refl, sym, ap, ◌∙◌, subst, arith, append_assoc, append-nil}
+use Rattle.std.specs.Prelude.{if◌then◌else◌, slice_get}
+use Rattle.std.proofs.lemmas.Bool.{eqb-true}
 use Rattle.vx_ast.specs.Meaning.{Piece, AByte, ANumber, pieces_of, directive_of}
 use Rattle.vx_flow.specs.declared.graph.Operand.{Operand}
 use Rattle.vx_flow.specs.declared.graph.Op.TheVariants.{Text, Decimal}
-use Rattle.vx_flow.specs.declared.graph.Block.{Block}
-use Rattle.vx_lower.specs.Holds.{Goes, same}
-use Rattle.vx_lower.specs.Does.{Shows, done, number, bytes}
-use Rattle.vx_lower.specs.Builds.{Ready, Grows, Finishes, Opens, From, Puts}
+use Rattle.vx_lower.specs.Holds.{same}
+use Rattle.vx_lower.specs.Does.{done, number, bytes}
+use Rattle.vx_lower.specs.Builds.{Ready, Puts}
 use Rattle.vx_lower.specs.Makes.{Begins, bytes_of, left_of, to_show, numbers_in, Shifts, Showed}
 use Rattle.vx_lower.specs.declared.builder.Builder.{Builder}
 use Rattle.vx_lower.specs.declared.prints.Format.{Format}
-use Rattle.vx_lower.proofs.Places.{get_front, get_last}
 use Rattle.vx_lower.proofs.Building.{grows_self, grows_on, finishes_back}
 
 pub begins_self : (ts : List (List ℕ)) → Begins ts ts
@@ -113,6 +112,36 @@ showed ps os left b0 b1 t0 t1 x r =
 pub bytes_more : (text : List ℕ) (b : ℕ) (ps : List Piece) → bytes_of text ++ (AByte b ∷ ps) ≡ bytes_of (text ++ b ∷ []) ++ ps
 bytes_more [] b ps = refl
 bytes_more (c ∷ text) b ps = ap (λ z. AByte c ∷ z) (bytes_more text b ps)
+
+other_byte : (a b : ℕ) → (a ≡ b → ⊥) → (a == b) ≡ false
+other_byte a b n = by (a == b) refl
+  where
+    by : (t : Bool) → (a == b) ≡ t → t ≡ false
+    by true e = absurd (n (eqb-true a b e))
+    by false e = refl
+
+pub byte_read : (f : Format) (text : List ℕ) (byte : ℕ) (bs : List ℕ) (os : List Operand) (b : Builder) (ts : List (List ℕ)) → f.directive ≡ false → (byte ≡ 37 → ⊥) → text ≡ f.text ++ byte ∷ [] → Ready b →
+    Shifts (to_show f (byte ∷ bs)) (drop f.next os) (to_show (record f { text = text }) bs) (drop f.next os) b b ts ts
+byte_read f text byte bs os b ts d n e r =
+    shifts_as (to_show f (byte ∷ bs)) (to_show f (byte ∷ bs)) (to_show f (byte ∷ bs)) (to_show (record f { text = text }) bs) (drop f.next os) (drop f.next os) b b ts ts refl
+    (ap (λ z. bytes_of f.text ++ left_of z (byte ∷ bs)) d ∙ ap (λ z. bytes_of f.text ++ (if z then directive_of bs else (AByte byte ∷ pieces_of bs))) (other_byte byte 37 n)
+    ∙ bytes_more f.text byte (pieces_of bs) ∙ ap (λ z. bytes_of z ++ pieces_of bs) (sym e) ∙ ap (λ z. bytes_of text ++ left_of z bs) (sym d))
+    (shifts_self (to_show f (byte ∷ bs)) (drop f.next os) b ts r)
+
+pub byte_escaped : (f : Format) (text : List ℕ) (byte : ℕ) (bs : List ℕ) (os : List Operand) (b : Builder) (ts : List (List ℕ)) → f.directive ≡ true → (byte ≡ 100 → ⊥) → text ≡ f.text ++ byte ∷ [] → Ready b →
+    Shifts (to_show f (byte ∷ bs)) (drop f.next os) (to_show (record { text = text; directive = false; next = f.next }) bs) (drop f.next os) b b ts ts
+byte_escaped f text byte bs os b ts d n e r =
+    shifts_as (to_show f (byte ∷ bs)) (to_show f (byte ∷ bs)) (to_show f (byte ∷ bs)) (to_show (record { text = text; directive = false; next = f.next }) bs) (drop f.next os) (drop f.next os) b b ts ts refl
+    (ap (λ z. bytes_of f.text ++ left_of z (byte ∷ bs)) d ∙ ap (λ z. bytes_of f.text ++ ((if z then ANumber else AByte byte) ∷ pieces_of bs)) (other_byte byte 100 n)
+    ∙ bytes_more f.text byte (pieces_of bs) ∙ ap (λ z. bytes_of z ++ pieces_of bs) (sym e))
+    (shifts_self (to_show f (byte ∷ bs)) (drop f.next os) b ts r)
+
+pub percent_read : (f : Format) (byte : ℕ) (bs : List ℕ) (os : List Operand) (b : Builder) (ts : List (List ℕ)) → f.directive ≡ false → byte ≡ 37 → Ready b →
+    Shifts (to_show f (byte ∷ bs)) (drop f.next os) (to_show (record f { directive = true }) bs) (drop f.next os) b b ts ts
+percent_read f byte bs os b ts d e r =
+    shifts_as (to_show f (byte ∷ bs)) (to_show f (byte ∷ bs)) (to_show f (byte ∷ bs)) (to_show (record f { directive = true }) bs) (drop f.next os) (drop f.next os) b b ts ts refl
+    (ap (λ z. bytes_of f.text ++ left_of z (byte ∷ bs)) d ∙ ap (λ z. bytes_of f.text ++ pieces_of (z ∷ bs)) e)
+    (shifts_self (to_show f (byte ∷ bs)) (drop f.next os) b ts r)
 
 -- a directive that is whole
 decimal_piece : (byte : ℕ) (bs : List ℕ) → byte ≡ 100 → directive_of (byte ∷ bs) ≡ ANumber ∷ pieces_of bs

@@ -3,6 +3,8 @@ mod Ranges
 mod ReadsLaw
 mod DescriptionRows
 mod MarksLaw
+mod Counts
+mod Ports
 pub mod Latencies
 mod RoomSteps
 mod RoomLaw

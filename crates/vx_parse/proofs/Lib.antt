@@ -5,6 +5,7 @@ pub mod HandedOn
 mod TreeRows
 pub mod Tokens
 pub mod Depths
+pub mod Measures
 pub mod Steps
 pub mod Rows
 pub mod Views

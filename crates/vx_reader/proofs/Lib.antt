@@ -3,6 +3,7 @@ pub mod LineLemmas
 mod TextRows
 pub mod Numbers
 pub mod Advance
+mod Taken
 pub mod StepLemmas
 pub mod OperationLemmas
 pub mod ReadLemmas

@@ -31,6 +31,12 @@ data Firsts (v : ℕ) (word : VirtualWord) (rest first : Option Bool) : Type 0 w
   is_written : (IsIn v (word_reads word) → ⊥) → IsIn v (word_writes word) → first ≡ Some false → Firsts v word rest first
   is_left : (IsIn v (word_reads word) → ⊥) → (IsIn v (word_writes word) → ⊥) → first ≡ rest → Firsts v word rest first
 
+none_not_some : {b : Bool} → None ≡ Some b → ⊥
+none_not_some e = cc
+
+written_not_read : {first : Option Bool} → first ≡ Some false → first ≡ Some true → ⊥
+written_not_read f h = let e : Some false ≡ Some true = sym f ∙ h in cc
+
 firsts : (v : ℕ) (word : VirtualWord) (rest : List Touch) → Firsts v word (first_touch v rest) (first_touch v (word_touches word ++ rest))
 firsts v word rest =
     let rs = word_reads word in
@@ -193,7 +199,7 @@ module _ (l : VWords) (nodes : Nodes) (are : AreNodes l nodes) where
   Reads v p words = first_touch v (way_touches N p words) ≡ Some true
 
   way_reads : (v p : ℕ) (words : List VirtualWord) → drop p l.words ≡ words → Reads v p words → IsLive l p v
-  way_reads v p [] e h = absurd (cc)
+  way_reads v p [] e h = absurd (none_not_some h)
   way_reads v p (word ∷ words) e h =
       let w = first_word p l.words words word e in
       let z : p + 1 ≡ suc p = omega arith in
@@ -203,12 +209,12 @@ module _ (l : VWords) (nodes : Nodes) (are : AreNodes l nodes) where
     where
       read : slice_get l.words p ≡ Some word → (rest : List Touch) → Firsts v word (first_touch v rest) (first_touch v (word_touches word ++ rest)) → first_touch v (word_touches word ++ rest) ≡ Some true → (first_touch v rest ≡ Some true → LeadsTo p word (suc p) × IsLive l (suc p) v) → IsLive l p v
       read at rest (is_read m f) h on = here at m
-      read at rest (is_written n m f) h on = absurd (cc)
+      read at rest (is_written n m f) h on = absurd (written_not_read f h)
       read at rest (is_left n k f) h on = let o = on (sym f ∙ h) in beyond at k o.0 o.1
 
       by : slice_get l.words p ≡ Some word → (b : Bool) → ends_at N (suc p) word ≡ b → first_touch v (word_touches word ++ (if ends_at N (suc p) word then [] else way_touches N (suc p) words)) ≡ Some true → (Reads v (suc p) words → IsLive l (suc p) v) → IsLive l p v
       by at true f h on =
-          read at [] (firsts v word []) (subst (λ b. first_touch v (word_touches word ++ (if b then [] else way_touches N (suc p) words)) ≡ Some true) f h) (λ q. absurd (cc))
+          read at [] (firsts v word []) (subst (λ b. first_touch v (word_touches word ++ (if b then [] else way_touches N (suc p) words)) ≡ Some true) f h) (λ q. absurd (none_not_some q))
       by at false f h on =
           read at (way_touches N (suc p) words) (firsts v word (way_touches N (suc p) words)) (subst (λ b. first_touch v (word_touches word ++ (if b then [] else way_touches N (suc p) words)) ≡ Some true) f h) (λ q. (goes_on N p word f, on q))
 
@@ -228,8 +234,8 @@ module _ (l : VWords) (nodes : Nodes) (are : AreNodes l nodes) where
       (λ g k. way_leaves v (suc p) c words w.1 g k live)
     where
       left : slice_get l.words p ≡ Some word → (rest : List Touch) → Firsts v word (first_touch v rest) (first_touch v (word_touches word ++ rest)) → first_touch v (word_touches word ++ rest) ≡ None → (first_touch v rest ≡ None → (q : ℕ) × LeadsTo p word q × IsLive l q v) → IsLive l p v
-      left at rest (is_read m f) h on = absurd (cc)
-      left at rest (is_written n m f) h on = absurd (cc)
+      left at rest (is_read m f) h on = absurd (none_not_some (sym h ∙ f))
+      left at rest (is_written n m f) h on = absurd (none_not_some (sym h ∙ f))
       left at rest (is_left n k f) h on = let o = on (sym f ∙ h) in beyond at k o.1 o.2
 
       by : slice_get l.words p ≡ Some word → (b : Bool) → ends_at N (suc p) word ≡ b → first_touch v (word_touches word ++ (if ends_at N (suc p) word then [] else way_touches N (suc p) words)) ≡ None → IsIn c (if ends_at N (suc p) word then word_ways N (suc p) word else way_ends N (suc p) words) → (Leaves v (suc p) words → IsIn c (way_ends N (suc p) words) → IsLive l (suc p) v) → IsLive l p v

@@ -1,5 +1,5 @@
 -- How a run ends, and what its lines put.
-use Rattle.std.proofs.Common.{◌≡◌, ◌∙◌, inl, inr, ℕ, ℤ, ◌+◌, Bool, true, false, List, [], ◌∷◌, ◌++◌, length, map, Option, Result, Ok, Err, OnOk, OnErr, refl, sym, subst, ap, arith}
+use Rattle.std.proofs.Common.{◌≡◌, ◌∙◌, ◌⊎◌, inl, inr, ℕ, ℤ, ◌+◌, Bool, true, false, List, [], ◌∷◌, ◌++◌, length, map, Option, Result, Ok, Err, OnOk, OnErr, refl, sym, subst, ap, arith}
 use Rattle.std.specs.Prelude.{◌≤◌, ◌<◌, ◌-◌, ◌^◌, min, suc}
 use Rattle.std.specs.List.{flat_map}
 use Rattle.vx_base.specs.Outcome.{Outcome, Begins, output_of}
@@ -15,7 +15,7 @@ use Rattle.vx_base.specs.declared.outcome.Trap.{Trap}
 use Rattle.vx_sim.specs.declared.ended.Ended.{Ended}
 use Rattle.vx_sim.specs.declared.ended.Ended.TheVariants.{Halted, Trapped as TrappedBy, Stopped as StoppedAt, Stuck as StuckAt, SinkFault}
 use Rattle.vx_status.specs.declared.status.Status.{Status}
-use Rattle.vx_status.specs.declared.status.Status.TheVariants.{Done, Trapped, WriteFault, Stopped, Stuck}
+use Rattle.vx_status.specs.declared.status.Status.TheVariants.{Done, Trapped, WriteFault, Stopped, Stuck, NoMemory}
 use Rattle.vx_status.specs.Status.{Tells, TellsWith, status_line}
 use Rattle.vx_runs.specs.Boxes.{report_line}
 use Rattle.vx_runs.specs.Simulated.{Loaded, begun, outcome_within, events_within, result_line, Streams, ErrTells, OutRose, IsEnd, IsStatusOf, Shows, reports_of, Fronts, BeginsLines, TellsFault, is_of_run}
@@ -355,3 +355,20 @@ run_line ended line reports n s status cut told finishes = by (is_fault ended) r
     by : (b : Bool) → is_fault ended ≡ b → TellsRun s status
     by true is = subst (TellsRun s) (sym (cut is)) (told is).whole
     by false is = finished_told ended line reports n s status is (finishes is)
+
+pub not_of_run : {P : Type 0} (ended : Ended) (line reports : List ℕ) (n f g : ℕ) (a c : Option (List ℕ)) (status : Status) → (is_fault ended ≡ true → status ≡ WriteFault) →
+    (is_fault ended ≡ false → Finishes ended line reports n a c f g status) → is_of_run status ≡ false → P
+not_of_run ended line reports n f g a c status cut finishes other = let yes = of_run ended line reports n f g a c status cut finishes in absurd cc
+
+-- want of memory comes before the run
+pub no_memory_answers : (x : Loaded) (times : Times) (budget : ℕ) (tells : Bool) (watches : List Watch) (s : Streams) (status : Status) → status ≡ NoMemory → LoadedAnswers x times budget tells watches s status
+no_memory_answers x times budget tells watches s status is = subst (LoadedAnswers x times budget tells watches s) (sym is) tt
+
+-- what a fault says where more was done before
+pub rose_on : {T E : Type 0} (r : Result T E) (first before last : ℕ) → first ≤ before → before ≤ last → OnErr r (Rose before last) → OnErr r (Rose first last)
+rose_on (Ok t) first before last earlier later rose = tt
+rose_on (Err e) first before last earlier later rose = rose_throughout first before last last earlier later (omega arith) rose
+
+pub or_on : {T E : Type 0} (A B : Type 0) (r : Result T E) → OnErr r B → OnErr r (A ⊎ B)
+or_on A B (Ok t) b = tt
+or_on A B (Err e) b = inr b

@@ -1,5 +1,5 @@
 -- The first box of a name in a list that is taken apart from its end, and every box of a list.
-use Rattle.std.proofs.Common.{◌≡◌, ℕ, Bool, true, false, List, [], ◌∷◌, ◌++◌, map, Option, Some, None, refl, ap, ◌∙◌, sym}
+use Rattle.std.proofs.Common.{◌≡◌, ℕ, ◌<◌, Bool, true, false, List, [], ◌∷◌, ◌++◌, map, length, is_some, arith, Option, Some, None, refl, ap, ◌∙◌, sym}
 use Rattle.std.specs.Prelude.{find, option_map, codes}
 use Rattle.std.specs.Str.{bytes_eq}
 use Rattle.vx_probe.specs.Watch.{Watch}
@@ -49,3 +49,9 @@ map_map box view (x ∷ items) = ap (λ l. view (box x) ∷ l) (map_map box view
 -- every box is asked for
 pub every_probe : {T : Type 0} (called : T → List ℕ) (watch : T → Watch) (asked : Option (List ℕ)) (name : List ℕ) (items : List T) → asked ≡ Some name → bytes_eq name (codes "all") ≡ true → probes_named asked (probe_boxes called watch items) ≡ Some (map watch items)
 every_probe called watch asked name items asks is = ap (λ (a : Option (List ℕ)). probes_named a (probe_boxes called watch items)) asks ∙ rw is (ap (λ (l : List Watch). Some l) (map_map (λ x. record { name = called x; watch = watch x }) (λ (b : ProbeBox). b.watch) items))
+
+-- a probe is picked only where one is asked for
+pub some_wanted : {S P : Type 0} (g : S → List ℕ) (name : Option S) (boxes : List ProbeBox) (f : P → Watch) (picked : List P) → probes_named (option_map g name) boxes ≡ Some (map f picked) → 0 < length picked → is_some name ≡ true
+some_wanted g (Some name) boxes f picked is some = refl
+some_wanted g None boxes f [] is some = absurd (omega (arith, some))
+some_wanted g None boxes f (p ∷ ps) is some = absurd cc

@@ -1,11 +1,15 @@
 -- What an answer puts on the error stream, from what its steps put.
-use Rattle.std.proofs.Common.{◌≡◌, ◌∙◌, ◌⊎◌, inl, inr, ℕ, List, Option, Some, None, refl, sym, subst, ap}
+use Rattle.std.proofs.Common.{◌≡◌, ◌∙◌, ◌⊎◌, ◌+◌, ◌<◌, ◌++◌, ◌∷◌, [], inl, inr, ℕ, List, length, map, take, get_or, Option, Some, None, Ok, refl, sym, subst, ap}
+use Rattle.std.specs.List.{flat_map}
+use Rattle.std.proofs.lemmas.List.{flat_map_more, map_more}
+use Rattle.vx_io.specs.Outside.{with_bytes}
 use Rattle.std.specs.Prelude.{◌≢◌, codes}
 use Rattle.vx_status.specs.declared.status.Status.{Status}
 use Rattle.vx_status.specs.declared.status.Status.TheVariants.{Done, Trapped, Usage, Source, Limit, Words, Profile, Machine, NoFile, ReadFault, WriteFault, Stopped, Input, Stuck, NoMemory}
 use Rattle.vx_probe.specs.Times.{Times}
 use Rattle.vx_probe.specs.Watch.{Watch}
-use Rattle.vx_status.specs.Status.{no_box_line, status_line}
+use Rattle.vx_status.specs.Status.{Puts, no_box_line, status_line}
+use Rattle.vx_status.proofs.Appending.{with_both}
 use Rattle.vx_runs.specs.Boxes.{Boxes, Chosen, chosen, chosen_of, timing_named, probes_named, unknown_name, unknown_of}
 use Rattle.vx_command.specs.Command.{Command, Compile, Simulate, Execute, Count, Soak}
 use Rattle.vx_runs.specs.Simulated.{Streams, ErrTells}
@@ -97,3 +101,12 @@ pub refused_line : (command : Option Command) (boxes : Boxes) (s : Streams) (sta
     TellsLine command boxes s status
 refused_line command boxes s status (inl memory) t = no_memory_line command boxes s status memory (t (not_usage status memory))
 refused_line command boxes s status (inr usage) t = usage_line command boxes s status usage.0 usage.1
+
+-- one piece more of a list is put
+pub pieces_more : {X Y T E : Type 0} {t : T} (f : Y → List ℕ) (g : X → Y) (xs : List X) (i : ℕ) (x : X) (a : Option (List ℕ)) {b c : Option (List ℕ)} {j k : ℕ} → i < length xs → x ≡ get_or xs i x →
+    b ≡ with_bytes a (flat_map f (map g (take i xs))) → Puts {T = T} {E = E} (Ok t) (f (g x)) b c j k → c ≡ with_bytes a (flat_map f (map g (take (i + 1) xs)))
+pieces_more f g xs i x a below is told p =
+    let before : List ℕ = flat_map f (map g (take i xs)) in
+    let all : before ++ f (g x) ≡ flat_map f (map g (take (i + 1) xs)) =
+    flat_map_more f [] (map g (take i xs)) (g x) ∙ ap (λ y. flat_map f (map g (take i xs) ++ g y ∷ [])) is ∙ ap (flat_map f) (sym (map_more g xs i x below)) in
+    p.all ∙ ap (λ o. with_bytes o (f (g x))) told ∙ with_both a before (f (g x)) ∙ ap (with_bytes a) all

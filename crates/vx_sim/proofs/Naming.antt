@@ -1,5 +1,5 @@
 -- What a sound program says of one of its words.
-use Rattle.std.proofs.Common.{◌≡◌, ℕ, zero, suc, ◌≤◌, ◌<◌, Bool, true, false, ◌&&◌, not, if◌then◌else◌, Option, Some, None, List, [], ◌∷◌, map, length, slice_get, get_or, refl, sym, ap, subst, ◌∙◌, arith, nat_lt, ltb-true}
+use Rattle.std.proofs.Common.{◌≡◌, ℕ, zero, suc, ◌≤◌, ◌<◌, Bool, true, false, ◌&&◌, not, if◌then◌else◌, Option, Some, None, List, [], ◌∷◌, map, length, slice_get, get_or, refl, sym, ap, subst, ◌∙◌, arith, nat_lt, ltb-true, ltb-false}
 use Rattle.std.specs.List.{list_all, list_any}
 use Rattle.vx_base.specs.declared.arithmetic.Code.{Code}
 use Rattle.vx_base.specs.declared.arithmetic.Code.TheVariants.{Add, Sub, And, Or, Xor, Shl, Shr, Shru, Sh2add, Max, Min, Mov, ToGeneral, ToBranch, Mpylu, Mpyhs, Div, Rem}
@@ -20,7 +20,7 @@ use Rattle.vx_sim.specs.Room.{widest}
 use Rattle.vx_sim.specs.Shapes.{unfit_of, width_by, shape_of, stuck_here}
 use Rattle.vx_sim.specs.declared.shape.Shape.{Shape}
 
-and_left : (a b : Bool) → (a && b) ≡ true → a ≡ true
+pub and_left : (a b : Bool) → (a && b) ≡ true → a ≡ true
 and_left true b e = refl
 and_left false b e = e
 
@@ -170,11 +170,11 @@ good_when false false false d e = refl
 pub has_good_addresses : (m : Numbers) (w : WordProgram) (s : State) (ops : List Operation) → stuck_by m w s ops ≡ None → list_any (has_bad_address w.memory s) ops ≡ false
 has_good_addresses m w s ops e = good_when (is_bad_word m ops) (not (fits m ops)) (list_any (has_bad_address w.memory s) ops) (list_any takes_input ops && not (is_left s.input)) e
 
--- the word at a place
-pub word_at : (ws : List Word) (i : ℕ) (d : Word) → i < length ws → slice_get ws i ≡ Some (get_or ws i d)
-word_at [] i d lt = absurd (omega arith)
-word_at (w ∷ ws) zero d lt = refl
-word_at (w ∷ ws) (suc i) d lt = word_at ws i d (omega arith)
+-- the item at a place
+item_at : {A : Type 0} (xs : List A) (i : ℕ) (d : A) → i < length xs → slice_get xs i ≡ Some (get_or xs i d)
+item_at [] i d lt = absurd (omega arith)
+item_at (x ∷ xs) zero d lt = refl
+item_at (x ∷ xs) (suc i) d lt = item_at xs i d (omega arith)
 
 -- what is found of each word is there for the word at a place
 
@@ -211,6 +211,16 @@ stuck_unfit m w s word shape why is unfit = by (is_bad_word m word.ops) (fits m 
     by false false f = sym f
     by false true f = absurd (cc)
 
--- the word that is found at a place of the list that the code holds
-pub word_here : (ws items : List Word) (i : ℕ) (word : Word) → items ≡ ws → nat_lt i (length items) ≡ true → word ≡ get_or items i word → slice_get ws i ≡ Some word
-word_here ws items i word same there is = ap (λ (xs : List Word). slice_get xs i) (sym same) ∙ word_at items i word (ltb-true i (length items) there) ∙ ap (λ (x : Word). Some x) (sym is)
+-- the item that is found at a place of the list that the code holds
+pub item_here : {A : Type 0} (xs items : List A) (i : ℕ) (x : A) → items ≡ xs → nat_lt i (length items) ≡ true → x ≡ get_or items i x → slice_get xs i ≡ Some x
+item_here xs items i x same there is = ap (λ ys. slice_get ys i) (sym same) ∙ item_at items i x (ltb-true i (length items) there) ∙ ap (λ y. Some y) (sym is)
+
+-- there is no item at a place behind the last one
+
+none_past : {A : Type 0} (xs : List A) (i : ℕ) → length xs ≤ i → slice_get xs i ≡ None
+none_past [] i le = refl
+none_past (x ∷ xs) zero le = absurd (omega arith)
+none_past (x ∷ xs) (suc i) le = none_past xs i (omega arith)
+
+pub none_here : {A : Type 0} (xs items : List A) (i : ℕ) → items ≡ xs → nat_lt i (length items) ≡ false → slice_get xs i ≡ None
+none_here xs items i same past = ap (λ ys. slice_get ys i) (sym same) ∙ none_past items i (ltb-false i (length items) past)

@@ -1,10 +1,11 @@
 -- The list of the ring's places.
-use Rattle.std.proofs.Common.{◌≡◌, ℕ, zero, suc, ◌<◌, List, [], ◌∷◌, map, length, set, get_or, Vec, vec_capacity, refl, sym, ap, ◌∙◌, arith}
+use Rattle.std.proofs.Common.{◌≡◌, ℕ, zero, suc, ◌+◌, ◌<◌, List, [], ◌∷◌, ◌++◌, map, replicate, length, set, get_or, Vec, vec_capacity, refl, sym, ap, ◌∙◌, arith}
+use Rattle.std.proofs.lemmas.List.{map-append, replicate_more}
 use Rattle.std.specs.declared.alloc.Global.{Global}
 use Rattle.vx_sim.specs.declared.flight.Flight.{Flight}
 use Rattle.vx_sim.specs.Flying.{flights_in}
 
-abbrev Place : Type 0
+abbrev pub Place : Type 0
 Place = Vec Flight Global
 
 pub place_is : (places : List Place) (i : ℕ) (place : Place) → i < length places → place ≡ get_or places i place → get_or (flights_in places) i [] ≡ place.items
@@ -26,3 +27,7 @@ pub capacity_stays : (places : List Place) (i : ℕ) (old new : Place) → i < l
 capacity_stays [] i old new lt e same = absurd (omega arith)
 capacity_stays (p ∷ ps) zero old new lt e same = ap (λ n. n ∷ map vec_capacity ps) (same ∙ ap (λ (v : Place). vec_capacity v) e)
 capacity_stays (p ∷ ps) (suc i) old new lt e same = ap (λ ns. vec_capacity p ∷ ns) (capacity_stays ps i old new (omega arith) e same)
+
+-- one place more, of which the same is said
+pub place_more : {X : Type 0} (f : Place → X) (old new : List Place) (place : Place) (n : ℕ) (x : X) → new ≡ old ++ place ∷ [] → map f old ≡ replicate n x → f place ≡ x → map f new ≡ replicate (n + 1) x
+place_more f old new place n x e all one = ap (map f) e ∙ map-append f old (place ∷ []) ∙ ap (λ xs. xs ++ f place ∷ []) all ∙ ap (λ y. replicate n x ++ y ∷ []) one ∙ replicate_more n x

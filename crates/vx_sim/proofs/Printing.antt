@@ -1,7 +1,11 @@
 -- How far the texts of the operations of a word are put.
-use Rattle.std.proofs.Common.{◌≡◌, ℕ, ◌+◌, ◌<◌, List, ◌++◌, length, drop, Option, Result, Ok, Err, OnErr, get_or, sym, ap, subst, ◌∙◌, append_assoc}
+use Rattle.std.proofs.Common.{◌≡◌, ℕ, ◌+◌, ◌<◌, true, false, List, [], ◌++◌, length, drop, Option, Result, Ok, Err, OnErr, nat_lt, get_or, unwrap_or, sym, ap, subst, ◌∙◌, append_assoc}
 use Rattle.std.specs.List.{flat_map}
 use Rattle.vx_isa.specs.declared.operation.Operation.{Operation}
+use Rattle.vx_isa.specs.declared.operation.Operation.TheVariants.{OutText}
+use Rattle.vx_isa.specs.declared.program.WordProgram.{WordProgram}
+use Rattle.vx_isa.specs.Machine.{State, print_of}
+use Rattle.vx_sim.proofs.Naming.{item_here, none_here}
 use Rattle.vx_sim.proofs.Operations.{operation_here}
 use Rattle.vx_io.specs.Outside.{with_bytes, PutsFront}
 use Rattle.vx_io.proofs.OutsideLaws.{pieces_join}
@@ -42,3 +46,11 @@ put_operation_front before middle after text ops i d lt so_far put =
 pub on_err : {A E : Type 0} (P : Type 0) (r : Result A E) → P → OnErr r P
 on_err P (Ok x) p = tt
 on_err P (Err e) p = p
+
+-- the text that an operation names, where it is there, and where it is not
+module _ (w : WordProgram) (s : State) (op : Operation) (n : ℕ) (texts : List (List ℕ)) (is : op ≡ OutText n) (same : texts ≡ w.texts) where
+  pub text_named : (text bytes : List ℕ) → nat_lt n (length texts) ≡ true → text ≡ get_or texts n text → bytes ≡ text → bytes ≡ print_of w s op
+  text_named text bytes there at e = e ∙ sym (ap (λ (o : Option (List ℕ)). unwrap_or o []) (item_here w.texts texts n text same there at)) ∙ ap (print_of w s) (sym is)
+
+  pub no_text_named : nat_lt n (length texts) ≡ false → [] ≡ print_of w s op
+  no_text_named past = sym (ap (λ (o : Option (List ℕ)). unwrap_or o []) (none_here w.texts texts n same past)) ∙ ap (print_of w s) (sym is)

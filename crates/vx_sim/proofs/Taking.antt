@@ -1,23 +1,28 @@
 -- A word that takes effect in the simulator takes effect in the word machine.
-use Rattle.std.proofs.Common.{◌≡◌, ℕ, ◌+◌, ◌-◌, Option, Some, None, List, [], ◌++◌, map, drop, count_by, slice_get, refl, sym, ap, subst, ◌∙◌, arith}
+use Rattle.std.proofs.Common.{◌≡◌, true, false, ℕ, ◌+◌, ◌-◌, Option, Some, None, List, [], ◌++◌, map, drop, count_by, slice_get, refl, sym, ap, subst, ◌∙◌, arith}
 use Rattle.vx_io.specs.Outside.{with_bytes}
 use Rattle.vx_base.specs.Flight.{landed_in, flying_in}
 use Rattle.vx_isa.specs.declared.program.Word.{Word}
 use Rattle.vx_isa.specs.declared.program.WordProgram.{WordProgram}
 use Rattle.vx_isa.specs.Numbers.{Numbers}
 use Rattle.vx_isa.specs.Operations.{same}
-use Rattle.vx_isa.specs.Machine.{State, Write, Lead, To, Halts, TrapsBy, lead_of, writes_of, memory_after, takes_input, asked_by, cycles_of, stuck_by, print_of}
+use Rattle.vx_isa.specs.Machine.{State, Write, Lead, To, Halts, TrapsBy, lead_of, writes_of, memory_after, takes_input, asked_by, cycles_of, effect, leads_to, issue, unless_stuck, stuck_by, print_of}
+use Rattle.vx_base.specs.declared.outcome.Reason.{Reason}
+use Rattle.vx_base.specs.declared.outcome.Reason.TheVariants.{BadTarget}
+use Rattle.vx_base.specs.Outcome.{Stuck}
 use Rattle.std.specs.List.{flat_map}
 use Rattle.vx_probe.specs.Times.{Times, list_of, moved_by}
 use Rattle.vx_probe.specs.Watch.{Watch, shown}
-use Rattle.vx_sim.specs.Passed.{Taken, taken, event_of, counted, led_by, leads_away}
+use Rattle.vx_sim.specs.Passed.{Taken, taken, issued as issued_by, event_of, counted, led_by, leads_away, unless_stuck as taken_unless}
 use Rattle.vx_sim.specs.Flying.{by_landing}
 use Rattle.vx_sim.specs.Standing.{rested}
 use Rattle.vx_sim.specs.Leads.{lead_as, place_behind}
-use Rattle.vx_sim.specs.Stepped.{Took, Stepped, leads_by, ended_as}
+use Rattle.vx_sim.specs.Stepped.{Took, Stepped, Refused, leads_by, ended_as, is_fault_of}
 use Rattle.vx_sim.specs.declared.leads.Lead.{Lead as CodeLead}
 use Rattle.vx_sim.specs.declared.leads.Lead.TheVariants.{To as LeadTo, Halts as LeadHalts, TrapsBy as LeadTrapsBy}
 use Rattle.vx_sim.specs.declared.ended.Ended.{Ended}
+use Rattle.vx_sim.specs.declared.ended.Ended.TheVariants.{Halted, Trapped, Stopped, Stuck as StuckAt, SinkFault}
+use Rattle.vx_sim.specs.Ran.{is_fault}
 use Rattle.vx_sim.proofs.Elsewhere.{elsewhere, stuck_same, prints_same, lead_same, memory_same, writes_same}
 use Rattle.vx_sim.proofs.Passing.{same_state, left_at, taken_at, taken_rests, taken_asked, taken_out, is_taken_at, is_step_by}
 
@@ -106,3 +111,45 @@ text_of m w times b ws p word x at free is =
 pub takes_it : (m : Numbers) (w : WordProgram) (times : List ℕ) (b : State) (ws : List Write) (p : ℕ) (word : Word) → slice_get w.words b.place ≡ Some word → stuck_by m w b word.ops ≡ None
     → taken m times w (elsewhere b b.cycle ws [] p) ≡ Some (taken_at m times w (elsewhere b b.cycle ws [] p) word)
 takes_it m w times b ws p word at free = is_taken_at m times w (elsewhere b b.cycle ws [] p) word at (stuck_same b b.cycle ws [] p m w word.ops ∙ free)
+
+-- a word that is stuck has no effect
+
+module _ (m : Numbers) (w : WordProgram) (t : Times) (b : State) (ws : List Write) (watches : List Watch) (issued : ℕ) (told : Option (List ℕ)) where
+  abbrev pub stands : State
+  stands = elsewhere b b.cycle ws [] t.place
+
+  pub refused : (word : Word) (why : Reason) → slice_get w.words b.place ≡ Some word → stuck_by m w b word.ops ≡ Some why
+      → Refused m w stands (elsewhere b b.cycle ws [] 0) t t watches watches issued issued told told (Stuck why b.place [])
+  refused word why at stuck =
+      let e : stuck_by m w stands word.ops ≡ Some why = stuck_same b b.cycle ws [] t.place m w word.ops ∙ stuck in
+      record {
+        stayed = record { state = refl; timing = refl; seen = refl; counts = refl };
+        untaken = ap (issued_by m (list_of t) w stands) at ∙ ap (λ (x : Option Reason). taken_unless x (taken_at m (list_of t) w stands word)) e;
+        step = ap (issue m (list_of t) w stands) at ∙ ap (λ (x : Option Reason). unless_stuck x stands (leads_to (lead_of stands word.ops) (effect m (list_of t) w stands word))) e;
+        told = refl;
+      }
+
+  pub refused_here : slice_get w.words b.place ≡ None → Refused m w stands (elsewhere b b.cycle ws [] 0) t t watches watches issued issued told told (Stuck BadTarget b.place [])
+  refused_here at = record {
+    stayed = record { state = refl; timing = refl; seen = refl; counts = refl };
+    untaken = ap (issued_by m (list_of t) w stands) at;
+    step = ap (issue m (list_of t) w stands) at;
+    told = refl;
+  }
+
+pub not_true : {P : Type 0} → false ≡ true → P
+not_true e = absurd (cc)
+
+-- a word that takes effect is no fault of the sink
+pub no_fault : {P : Type 0} (d : CodeLead) (r : Option Ended) → r ≡ ended_as d → is_fault_of r ≡ true → P
+no_fault (LeadTo p) r e h = let k : is_fault_of r ≡ false = ap is_fault_of e in absurd (cc)
+no_fault (LeadHalts z) r e h = let k : is_fault_of r ≡ false = ap is_fault_of e in absurd (cc)
+no_fault (LeadTrapsBy t) r e h = let k : is_fault_of r ≡ false = ap is_fault_of e in absurd (cc)
+
+-- a fault of the sink by either name
+pub fault_of : (ended : Ended) → is_fault ended ≡ true → is_fault_of (Some ended) ≡ true
+fault_of (Halted z) e = not_true e
+fault_of (Trapped t) e = not_true e
+fault_of Stopped e = not_true e
+fault_of (StuckAt why place) e = not_true e
+fault_of SinkFault e = refl

@@ -62,6 +62,10 @@ pub fails : {T E U F : Type 0} {e : E} (r : Result U F) (line : List ℕ) {a b :
 fails (Ok v) line is x = let wrong : false ≡ true = is in absurd cc
 fails (Err u) line is x = record { all = tt; part = x.part; failed = x.failed; never_fall = x.never_fall }
 
+-- what is put is another line, where the two are one
+pub puts_as : {T E : Type 0} {r : Result T E} {xs ys : List ℕ} {a b : Option (List ℕ)} {f g : ℕ} → xs ≡ ys → Puts r xs a b f g → Puts r ys a b f g
+puts_as {r = r} {a = a} {b = b} {f = f} {g = g} same x = subst (λ l. Puts r l a b f g) same x
+
 -- the pieces of a list, the one at a place and those before it
 
 pieces_at : {X Y : Type 0} (f : Y → List ℕ) (g : X → Y) (xs : List X) (i : ℕ) (x : X) → i < length xs → x ≡ get_or xs i x → (rest : List ℕ) × (flat_map f (map g xs) ≡ flat_map f (map g (take i xs)) ++ f (g x) ++ rest)

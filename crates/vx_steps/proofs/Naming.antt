@@ -1,5 +1,6 @@
--- The command of a name.
-use Rattle.std.proofs.Common.{◌≡◌, ℕ, List, true, false, refl}
+-- The command of a name, and the words that clap is handed.
+use Rattle.std.proofs.Common.{◌≡◌, ◌∙◌, ℕ, ◌+◌, ◌<◌, List, [], ◌∷◌, ◌++◌, map, take, length, get_or, true, false, refl, sym, ap}
+use Rattle.std.proofs.lemmas.List.{map-append, map_more}
 use Rattle.std.specs.Prelude.{codes}
 use Rattle.std.specs.Str.{bytes_eq}
 use Rattle.vx_steps.specs.declared.names.Named.TheVariants.{Compile, Sim, Exec, Profile, Soak, Nothing}
@@ -23,3 +24,10 @@ module _ (name : List ℕ) where
 
   pub named_nothing : bytes_eq name (codes "compile") ≡ false → bytes_eq name (codes "sim") ≡ false → bytes_eq name (codes "exec") ≡ false → bytes_eq name (codes "profile") ≡ false → bytes_eq name (codes "soak") ≡ false → IsNamed name Nothing
   named_nothing a b d e f = record { known = rw (a, b, d, e, f) refl; asks = λ words. rw (a, b, d, e, f) refl }
+
+-- one word more
+pub words_more : {X S : Type 0} (f : X → List ℕ) (g : S → List ℕ) (first : List ℕ) (old new : List X) (x : X) (others : List S) (i : ℕ) (other : S) →
+    new ≡ old ++ x ∷ [] → map f old ≡ first ∷ map g (take i others) → f x ≡ g other → other ≡ get_or others i other → i < length others → map f new ≡ first ∷ map g (take (i + 1) others)
+words_more f g first old new x others i other pushed so_far same is lt =
+    ap (map f) pushed ∙ map-append f old (x ∷ []) ∙ ap (λ words. words ++ f x ∷ []) so_far
+    ∙ ap (λ words. first ∷ words) (ap (λ word. map g (take i others) ++ word ∷ []) (same ∙ ap g is) ∙ sym (map_more g others i other lt))

@@ -4,6 +4,7 @@ pub mod Views
 pub mod Rows
 pub mod Declarations
 pub mod Lists
+mod Codes
 pub mod Suits
 pub mod Numbered
 pub mod SuitsCode

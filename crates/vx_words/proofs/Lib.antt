@@ -1,1 +1,3 @@
+mod Marks
+mod Pieces
 mod SpellingRows

@@ -23,3 +23,21 @@ returns-in-Ok-clause-answers g c =
     (λ status why. unread c.args.source.now content
     (effect_of g.D.Depot.files g.D.Depot.failed_reads g.D.Depot.failed_replaces c.args.depot.now c.read_source.new.depot) status c.in-Ok.ensures.content c.in-Ok.ensures.same_files why)
     (rw c.as_slice.ensures.value at c.typed_of.ensures.refused)
+
+pub returns-in-Ok-clause-same_files : goal.returns-in-Ok-clause-same_files
+returns-in-Ok-clause-same_files g c = c.read_source.ensures.same_files
+
+pub returns-in-Ok-clause-reads_never_fall : goal.returns-in-Ok-clause-reads_never_fall
+returns-in-Ok-clause-reads_never_fall g c = c.read_source.ensures.reads_never_fall
+
+pub returns-in-Ok-clause-replaces_never_fall : goal.returns-in-Ok-clause-replaces_never_fall
+returns-in-Ok-clause-replaces_never_fall g c = c.read_source.ensures.replaces_never_fall
+
+pub returns-in-Err : goal.returns-in-Err
+returns-in-Err g c = record {
+  same_files = c.read_source.ensures.same_files;
+  program = tt;
+  answers = c.in-Err.ensures.answers;
+  reads_never_fall = c.read_source.ensures.reads_never_fall;
+  replaces_never_fall = c.read_source.ensures.replaces_never_fall;
+}

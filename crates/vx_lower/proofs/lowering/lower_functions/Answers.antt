@@ -32,3 +32,8 @@ pub returns-clause-fits : goal.returns-clause-fits
 returns-clause-fits c =
     let past = subst (λ z. length z ≤ c.loop-f.f-index) c.as_slice-f-items.ensures.value c.loop-f-test.false in
     subst (λ z. GraphsWell (program_of c.args.source.now) (map function_of z) c.loop-f.graphs c.loop-f.texts) (take_whole c.args.source.now.functions.items c.loop-f.f-index past) c.loop-f.invariant.1
+
+pub returns-clause-code : goal.returns-clause-code
+returns-clause-code c =
+    let past = subst (λ z. length z ≤ c.loop-f.f-index) c.as_slice-f-items.ensures.value c.loop-f-test.false in
+    subst (λ z. AllGraphed (program_of c.args.source.now) (map function_of z) c.loop-f.graphs c.args.texts.now c.loop-f.texts) (take_whole c.args.source.now.functions.items c.loop-f.f-index past) c.loop-f.invariant.0

@@ -1,7 +1,19 @@
-use Rattle.std.proofs.Common.{refl}
-use Rattle.vx_lower.proofs.PrintMaking.{show_more, show_whole}
-use Rattle.vx_lower.proofs.FittingStatements.{shows_all, shows_on}
+use Rattle.std.proofs.Common.{◌++◌, ap, refl, sym}
+use Rattle.vx_ast.specs.Meaning.{pieces_of}
+use Rattle.vx_lower.specs.Makes.{bytes_of}
+use Rattle.vx_lower.proofs.PrintMaking.{shifts_as, shifts_self, show_more, show_whole}
+use Rattle.vx_lower.proofs.FittingStatements.{shows_all, shows_nothing, shows_on}
 use Rattle.vx_lower.proofs.prints.show.Goals as goal
+
+pub loop-byte-init : goal.loop-byte-init
+loop-byte-init c =
+    let ps = pieces_of c.args.bytes.now in
+    let os = c.args.arguments.now in
+    let b = c.args.b.now in
+    let ts = c.args.texts.now in (
+      λ r. shifts_as ps ps ps (bytes_of c.new.result ++ ps) os os b b ts ts refl (ap (λ z. bytes_of z ++ ps) (sym c.new.ensures)) (shifts_self ps os b ts r),
+      shows_nothing os b ts,
+    )
 
 pub loop-byte-preserved : goal.loop-byte-preserved
 loop-byte-preserved c = (

@@ -33,3 +33,27 @@ returns-in_err-body-clause-stop c =
 pub returns-clause-ok : goal.returns-clause-ok
 returns-clause-ok c =
     function_is c.args.tokens.now c.args.place _ _ c.args.name c.args.gives c.in_ok-parameters.parameters c.in_ok-body.body.statements.items _ c.requires.within c.in_ok-inner.ensures.ok c.in_ok-parameters.ensures.ok c.in_ok-body_place.ensures.ok c.in_ok-body.ensures.ok refl
+
+pub read_block-requires-clause-ended : goal.read_block-requires-clause-ended
+read_block-requires-clause-ended c = c.requires.ended
+
+pub read_block-requires-clause-within : goal.read_block-requires-clause-within
+read_block-requires-clause-within c = c.in_ok-body_place.ensures.ok.within
+
+pub read_mark-requires-2-clause-ended : goal.read_mark-requires-2-clause-ended
+read_mark-requires-2-clause-ended c = c.requires.ended
+
+pub read_mark-requires-2-clause-within : goal.read_mark-requires-2-clause-within
+read_mark-requires-2-clause-within c = c.in_ok-parameters.ensures.ok.parted.within
+
+pub read_mark-requires-clause-ended : goal.read_mark-requires-clause-ended
+read_mark-requires-clause-ended c = c.requires.ended
+
+pub read_mark-requires-clause-within : goal.read_mark-requires-clause-within
+read_mark-requires-clause-within c = c.requires.within
+
+pub read_parameters-requires-clause-ended : goal.read_parameters-requires-clause-ended
+read_parameters-requires-clause-ended c = c.requires.ended
+
+pub read_parameters-requires-clause-within : goal.read_parameters-requires-clause-within
+read_parameters-requires-clause-within c = c.in_ok-inner.ensures.ok.within

@@ -61,3 +61,15 @@ returns-clause-ok c =
     let n1 : next_kind (drop c.args.place c.args.tokens.now) ≡ kinds.Mark marks.Equal → ⊥ = λ e. c.is_mark.ensures.no c.if-is_mark.false (c.kind_at-kind.ensures ∙ e) in
     let n2 : next_kind (drop c.args.place c.args.tokens.now) ≡ kinds.Mark marks.OpenBracket → ⊥ = λ e. c.is_mark-2.ensures.no c.if-is_mark-2.false (c.kind_at-kind.ensures ∙ e) in
     zero_is c.args.tokens.now c.args.place c.args.name (definitions.Scalar c.args.name (pos 0)) c.requires.within n1 n2 refl
+
+pub read_mark-requires-clause-ended : goal.read_mark-requires-clause-ended
+read_mark-requires-clause-ended c = c.requires.ended
+
+pub read_mark-requires-clause-within : goal.read_mark-requires-clause-within
+read_mark-requires-clause-within c = c.in_ok-size.ensures.ok.passed.within
+
+pub read_signed-requires-clause-ended : goal.read_signed-requires-clause-ended
+read_signed-requires-clause-ended c = c.requires.ended
+
+pub read_size-requires-clause-ended : goal.read_size-requires-clause-ended
+read_size-requires-clause-ended c = c.requires.ended

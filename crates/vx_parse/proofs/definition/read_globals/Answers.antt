@@ -25,3 +25,15 @@ returns-in_err-next-clause-stop c =
 pub returns-clause-ok : goal.returns-clause-ok
 returns-clause-ok c =
     globals_are c.args.tokens.now c.args.name c.args.before _ c.in_ok-more.more _ _ _ c.in_ok-first.first.definition c.requires.within c.requires.here c.in_ok-first.ensures.ok c.in_ok-append.ensures.ok refl c.in_ok-more.ensures.ok c.in_ok-next.ensures.ok refl refl
+
+pub read_global-requires-clause-ended : goal.read_global-requires-clause-ended
+read_global-requires-clause-ended c = c.requires.ended
+
+pub read_mark-requires-clause-ended : goal.read_mark-requires-clause-ended
+read_mark-requires-clause-ended c = c.requires.ended
+
+pub read_more_globals-requires-clause-ended : goal.read_more_globals-requires-clause-ended
+read_more_globals-requires-clause-ended c = c.requires.ended
+
+pub read_mark-requires-clause-within : goal.read_mark-requires-clause-within
+read_mark-requires-clause-within c = c.in_ok-more.ensures.ok.phrase.parted.within

@@ -28,3 +28,6 @@ returns-clause-stop c =
     let b = int_before c.args.tokens.now c.args.before.next p c.requires.within c.requires.here in
     let b1 = past_token b c.in_ok-name.ensures.ok.passed in
     map_err c.read_after_name.result (λ s w. within_phrase b1 s w) c.read_after_name.ensures.stop
+
+pub read_after_name-requires-clause-ended : goal.read_after_name-requires-clause-ended
+read_after_name-requires-clause-ended c = c.requires.ended

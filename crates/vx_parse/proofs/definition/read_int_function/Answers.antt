@@ -12,3 +12,6 @@ returns-in_err-function-clause-stop c =
 pub returns-clause-ok : goal.returns-clause-ok
 returns-clause-ok c =
     int_function_is c.args.tokens.now c.args.name c.args.before _ c.in_ok-function.function (definitions.Function c.in_ok-function.function.function) c.requires.within c.requires.here c.in_ok-function.ensures.ok c.in_ok-append.ensures.ok refl refl
+
+pub read_function-requires-clause-ended : goal.read_function-requires-clause-ended
+read_function-requires-clause-ended c = c.requires.ended

@@ -16,3 +16,9 @@ returns-then-not-is_mark-clause-ok c =
 pub globals-preserved : goal.globals-preserved
 globals-preserved c =
     gathers_next c.in_ok-global.global.definition c.globals.invariant c.in_ok-global.ensures.ok c.in_ok-append.ensures.ok
+
+pub read_next_global-requires-clause-ended : goal.read_next_global-requires-clause-ended
+read_next_global-requires-clause-ended c = c.requires.ended
+
+pub read_next_global-requires-clause-within : goal.read_next_global-requires-clause-within
+read_next_global-requires-clause-within c = c.globals.invariant.continues.within

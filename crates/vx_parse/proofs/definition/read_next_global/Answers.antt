@@ -33,3 +33,9 @@ pub returns-clause-further : goal.returns-clause-further
 returns-clause-further c =
     let g = c.in_ok-name.ensures.ok.passed.further in
     map_ok c.read_global.result (λ r w. let f = w.further in omega arith) c.read_global.ensures.ok
+
+pub read_global-requires-clause-ended : goal.read_global-requires-clause-ended
+read_global-requires-clause-ended c = c.requires.ended
+
+pub read_global-requires-clause-within : goal.read_global-requires-clause-within
+read_global-requires-clause-within c = c.in_ok-name.ensures.ok.passed.within

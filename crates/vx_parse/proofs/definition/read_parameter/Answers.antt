@@ -18,3 +18,9 @@ returns-clause-stop c =
     let b = parameter_before c.args.tokens.now c.args.place c.requires.within in
     let b1 = past_token b c.in_ok-name_place.ensures.ok in
     map_err c.read_name.result (λ s w. misfit_name b1 s w) c.read_name.ensures.stop
+
+pub read_name-requires-clause-within : goal.read_name-requires-clause-within
+read_name-requires-clause-within c = c.in_ok-name_place.ensures.ok.within
+
+pub read_word-requires-clause-within : goal.read_word-requires-clause-within
+read_word-requires-clause-within c = c.requires.within

@@ -40,3 +40,15 @@ returns-clause-stop c =
     let b = some_before c.args.tokens.now c.args.place c.requires.within n1 n2 in
     let b1 = past_phrase b c.in_ok-first.ensures.ok.parted in
     map_err c.read_more_parameters.result (λ s w. within_phrase b1 s w) c.read_more_parameters.ensures.stop
+
+pub read_more_parameters-requires-clause-ended : goal.read_more_parameters-requires-clause-ended
+read_more_parameters-requires-clause-ended c = c.requires.ended
+
+pub read_parameter-requires-clause-ended : goal.read_parameter-requires-clause-ended
+read_parameter-requires-clause-ended c = c.requires.ended
+
+pub read_parameter-requires-clause-within : goal.read_parameter-requires-clause-within
+read_parameter-requires-clause-within c = c.requires.within
+
+pub read_more_parameters-requires-clause-within : goal.read_more_parameters-requires-clause-within
+read_more_parameters-requires-clause-within c = c.in_ok-first.ensures.ok.parted.within

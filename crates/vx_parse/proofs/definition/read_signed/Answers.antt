@@ -17,3 +17,9 @@ pub returns-clause-ok : goal.returns-clause-ok
 returns-clause-ok c =
     let n : next_kind (drop c.args.place c.args.tokens.now) ≡ kinds.Mark marks.Minus → ⊥ = λ e. c.is_mark.ensures.no c.if-is_mark.false (c.kind_at.ensures ∙ e) in
     number_is c.args.tokens.now c.args.place c.in_ok-number.number c.requires.within n c.in_ok-number.ensures.ok
+
+pub read_negative-requires-clause-within : goal.read_negative-requires-clause-within
+read_negative-requires-clause-within c = c.requires.within
+
+pub read_number-requires-clause-within : goal.read_number-requires-clause-within
+read_number-requires-clause-within c = c.requires.within

@@ -31,3 +31,12 @@ pub returns-clause-ok : goal.returns-clause-ok
 returns-clause-ok c =
     let p = passes_word c.args.tokens.now c.args.before.next words.Void c.requires.ended c.requires.within c.requires.here in
     void_is c.args.tokens.now c.args.before _ c.in_ok-name.name c.in_ok-function.function (definitions.Function c.in_ok-function.function.function) p c.requires.within c.requires.here c.in_ok-name.ensures.ok c.in_ok-function.ensures.ok c.in_ok-append.ensures.ok refl refl
+
+pub read_function-requires-clause-ended : goal.read_function-requires-clause-ended
+read_function-requires-clause-ended c = c.requires.ended
+
+pub read_function-requires-clause-within : goal.read_function-requires-clause-within
+read_function-requires-clause-within c = c.in_ok-name.ensures.ok.passed.within
+
+pub read_name-requires-clause-ended : goal.read_name-requires-clause-ended
+read_name-requires-clause-ended c = c.requires.ended

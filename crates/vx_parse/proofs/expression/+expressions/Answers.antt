@@ -14,6 +14,7 @@ use Rattle.vx_parse.specs.Reading.{next_kind, Stops, IsOperand, Passed}
 use Rattle.vx_parse.proofs.HandedOn.{handed_on}
 use Rattle.vx_parse.proofs.Views.{view-Call}
 use Rattle.vx_parse.proofs.Expressions.{map_ok, map_err, enclosed_inner, enclosed_end, bracket_opens, call_opens, nested_opens, unary_opens, nested_is, element_is, call_is, use_is, no_rest, number_is, name_is, name_stops, no_primary, unary_is, primary_is, primary_stops, operates, rest_is_none, rest_too_deep, right_stops, more_is, more_stops, level_is, level_first, level_then, test_is, test_stops, asks, choice_too_deep, chosen_stops, colon_stops, other_stops, choice_is}
+use Rattle.vx_parse.proofs.Measures.{further_falls, rank_falls}
 use Rattle.vx_parse.proofs.Steps.{stops_no_phrase, too_deep, stops_opened}
 use Rattle.vx_parse.proofs.Arguments.{no_arguments, first_stops, others_stop, arguments_are, gathered, comma_opens, next_stops, gathers_more}
 use Rattle.vx_parse.proofs.expression.+expressions.Goals as goal
@@ -60,8 +61,13 @@ pub read_behind-read_level-requires : goal.read_behind-read_level-requires
 read_behind-read_level-requires t c =
     let e : strength (next_kind (drop c.args.left.next c.args.tokens.now)) ≡ c.strength.result = sym (c.strength.ensures ∙ ap strength c.kind_at-kind.ensures) in
     let o = operates c.args.level c.args.tokens.now c.args.left.next c.requires.ended c.requires.within c.requires.level (e ∙ c.if-strength-level.false) in
-    let w : c.args.left.next + 1 < length c.args.tokens.now = o.passed.within in
-    search rules
+    let b : c.args.depth + c.args.left.height < 200 = let x = c.if-depth-left-ge-DEEPEST.false in omega arith in
+    let l : c.args.level ≤ 9 = c.requires.level in
+    let h : c.args.left.next < c.args.left.next + 1 = omega arith in
+    let r : 8 + c.args.level < 32 = omega arith in
+    let d : c.args.depth + 1 ≤ 200 = omega arith in
+    let m : c.args.level ≤ 10 = omega arith in
+    (further_falls (length c.args.tokens.now) c.args.left.next (c.args.left.next + 1) (8 + c.args.level) 19 t c.decreases c.requires.within h r, (c.requires.ended, (o.passed.within, (d, m))))
 
 pub read_behind-returns-in_err-right-clause-stop : goal.read_behind-returns-in_err-right-clause-stop
 read_behind-returns-in_err-right-clause-stop t c =
@@ -109,9 +115,11 @@ pub read_expression-read_expression-requires : goal.read_expression-read_express
 read_expression-read_expression-requires t c =
     let q : next_kind (drop c.in_ok-test.test.next c.args.tokens.now) ≡ kinds.Mark marks.Question = sym c.kind_at.ensures ∙ c.is_mark.ensures.yes c.if-not-is_mark.false in
     let a = asks c.args.tokens.now c.args.place c.args.depth c.in_ok-test.test c.requires.ended c.requires.within c.in_ok-test.ensures.ok q in
-    let w : c.in_ok-test.test.next + 1 < length c.args.tokens.now = a.passed.within in
+    let b : c.args.depth + c.in_ok-test.test.height < 200 = let x = c.if-depth-test-ge-DEEPEST.false in omega arith in
     let v : c.args.place < c.in_ok-test.test.next = a.is.further in
-    search rules
+    let h : c.args.place < c.in_ok-test.test.next + 1 = omega arith in
+    let d : c.args.depth + 1 ≤ 200 = omega arith in
+    (further_falls (length c.args.tokens.now) c.args.place (c.in_ok-test.test.next + 1) 20 20 t c.decreases c.requires.within h (omega arith), (c.requires.ended, (a.passed.within, d)))
 
 pub read_expression-returns-in_err-chosen-clause-stop : goal.read_expression-returns-in_err-chosen-clause-stop
 read_expression-returns-in_err-chosen-clause-stop t c =
@@ -193,7 +201,10 @@ pub read_index-read_expression-requires : goal.read_index-read_expression-requir
 read_index-read_expression-requires t c =
     let o = bracket_opens c.args.tokens.now c.args.place c.requires.ended c.requires.within c.requires.here in
     let w : c.args.place + 1 < length c.args.tokens.now = o.passed.within in
-    search rules
+    let b : c.args.depth < 200 = let x = c.if-depth-ge-DEEPEST.false in omega arith in
+    let d : c.args.depth + 1 ≤ 200 = omega arith in
+    let h : c.args.place < c.args.place + 1 = omega arith in
+    (further_falls (length c.args.tokens.now) c.args.place (c.args.place + 1) 20 3 t c.decreases c.requires.within h (omega arith), (c.requires.ended, (w, d)))
 
 pub read_index-returns-in_err-index-clause-stop : goal.read_index-returns-in_err-index-clause-stop
 read_index-returns-in_err-index-clause-stop t c =
@@ -221,7 +232,10 @@ pub read_called-read_arguments-requires : goal.read_called-read_arguments-requir
 read_called-read_arguments-requires t c =
     let o = call_opens c.args.tokens.now c.args.place c.requires.ended c.requires.within c.requires.here in
     let w : c.args.place + 1 < length c.args.tokens.now = o.passed.within in
-    search rules
+    let b : c.args.depth < 200 = let x = c.if-depth-ge-DEEPEST.false in omega arith in
+    let d : c.args.depth + 1 ≤ 200 = omega arith in
+    let h : c.args.place < c.args.place + 1 = omega arith in
+    (further_falls (length c.args.tokens.now) c.args.place (c.args.place + 1) 21 3 t c.decreases c.requires.within h (omega arith), (c.requires.ended, (w, d)))
 
 pub read_called-returns-in_err-arguments-clause-stop : goal.read_called-returns-in_err-arguments-clause-stop
 read_called-returns-in_err-arguments-clause-stop t c =
@@ -263,8 +277,10 @@ pub read_primary-read_expression-requires : goal.read_primary-read_expression-re
 read_primary-read_expression-requires t c =
     let k : next_kind (drop c.args.place c.args.tokens.now) ≡ kinds.Mark marks.OpenParenthesis = sym c.kind_at-kind.ensures ∙ c.is_mark.ensures.yes c.if-is_mark.true in
     let o = nested_opens c.args.tokens.now c.args.place c.requires.ended c.requires.within k in
-    let w : c.args.place + 1 < length c.args.tokens.now = o.passed.within in
-    search rules
+    let b : c.args.depth < 200 = let x = c.if-depth-ge-DEEPEST.false in omega arith in
+    let d : c.args.depth + 1 ≤ 200 = omega arith in
+    let h : c.args.place < c.args.place + 1 = omega arith in
+    (further_falls (length c.args.tokens.now) c.args.place (c.args.place + 1) 20 5 t c.decreases c.requires.within h (omega arith), (c.requires.ended, (o.passed.within, d)))
 
 pub read_primary-returns-in_err-inner-clause-stop : goal.read_primary-returns-in_err-inner-clause-stop
 read_primary-returns-in_err-inner-clause-stop t c =
@@ -314,7 +330,10 @@ read_unary-read_unary-requires t c =
     let p : parts_of (Level 0) (next_kind (drop c.args.place c.args.tokens.now)) ≡ Some (phrases.The (next_kind (drop c.args.place c.args.tokens.now)) ∷ A (Level 0) ∷ []) = subst (λ z. parts_of (Level 0) z ≡ Some (phrases.The z ∷ A (Level 0) ∷ [])) c.kind_at.ensures c.in-Some.ensures.operator.1 in
     let o = unary_opens c.args.tokens.now c.args.place c.requires.ended c.requires.within p in
     let w : c.args.place + 1 < length c.args.tokens.now = o.passed.within in
-    search rules
+    let b : c.args.depth < 200 = let x = c.if-depth-ge-DEEPEST.false in omega arith in
+    let d : c.args.depth + 1 ≤ 200 = omega arith in
+    let h : c.args.place < c.args.place + 1 = omega arith in
+    (further_falls (length c.args.tokens.now) c.args.place (c.args.place + 1) 6 6 t c.decreases c.requires.within h (omega arith), (c.requires.ended, (w, d)))
 
 pub read_unary-returns-in_err-operand-in-Some-clause-stop : goal.read_unary-returns-in_err-operand-in-Some-clause-stop
 read_unary-returns-in_err-operand-in-Some-clause-stop t c =
@@ -339,3 +358,115 @@ pub read_unary-returns-in-None-clause-stop : goal.read_unary-returns-in-None-cla
 read_unary-returns-in-None-clause-stop t c =
     let p : parts_of (Level 0) (next_kind (drop c.args.place c.args.tokens.now)) ≡ Some (A Primary ∷ []) = subst (λ z. parts_of (Level 0) z ≡ Some (A Primary ∷ [])) c.kind_at.ensures c.in-None.ensures.primary in
     map_err c.read_primary.result (λ s. primary_stops c.args.tokens.now c.args.place c.args.depth s c.requires.within p) c.read_primary.ensures.stop
+
+pub read_expression-read_expression-requires-2 : goal.read_expression-read_expression-requires-2
+read_expression-read_expression-requires-2 t c =
+    let v : c.args.place < c.in_ok-test.test.next = c.in_ok-test.ensures.ok.further in
+    let f : c.in_ok-test.test.next + 1 < c.in_ok-chosen.chosen.next = c.in_ok-chosen.ensures.ok.further in
+    let p = c.in_ok-other_place.ensures.ok in
+    let g : c.in_ok-other_place.other_place ≡ c.in_ok-chosen.chosen.next + 1 = p.further in
+    let b : c.args.depth + c.in_ok-test.test.height < 200 = let x = c.if-depth-test-ge-DEEPEST.false in omega arith in
+    let h : c.args.place < c.in_ok-other_place.other_place = omega arith in
+    let d : c.args.depth + 1 ≤ 200 = omega arith in
+    (further_falls (length c.args.tokens.now) c.args.place c.in_ok-other_place.other_place 20 20 t c.decreases c.requires.within h (omega arith), (c.requires.ended, (p.within, d)))
+
+pub read_arguments-read_more-requires : goal.read_arguments-read_more-requires
+read_arguments-read_more-requires t c =
+    let o = c.in_ok-first.ensures.ok in
+    (further_falls (length c.args.tokens.now) c.args.place c.in_ok-first.first.next 19 21 t c.decreases c.requires.within o.further (omega arith), (c.requires.ended, (o.within, o.shallow)))
+
+pub read_primary-read_named-requires : goal.read_primary-read_named-requires
+read_primary-read_named-requires t c =
+    let p = c.in_ok-name-in-Name.ensures.ok.passed in
+    let f : c.in_ok-name-in-Name.name.next ≡ c.args.place + 1 = p.further in
+    let h : c.args.place < c.in_ok-name-in-Name.name.next = omega arith in
+    (further_falls (length c.args.tokens.now) c.args.place c.in_ok-name-in-Name.name.next 4 5 t c.decreases c.requires.within h (omega arith), (c.requires.ended, (p.within, c.requires.depth)))
+
+pub read_named-read_called-requires : goal.read_named-read_called-requires
+read_named-read_called-requires t c =
+    (rank_falls (length c.args.tokens.now) c.args.place c.args.place 3 4 t c.decreases (omega arith) (omega arith), (c.requires.ended, (c.requires.within, (c.requires.depth, sym c.kind_at-kind.ensures ∙ c.is_mark-2.ensures.yes c.if-is_mark-2.true))))
+
+pub read_named-read_index-requires : goal.read_named-read_index-requires
+read_named-read_index-requires t c =
+    (rank_falls (length c.args.tokens.now) c.args.place c.args.place 3 4 t c.decreases (omega arith) (omega arith), (c.requires.ended, (c.requires.within, (c.requires.depth, sym c.kind_at-kind.ensures ∙ c.is_mark.ensures.yes c.if-is_mark.true))))
+
+pub read_arguments-read_expression-requires : goal.read_arguments-read_expression-requires
+read_arguments-read_expression-requires t c =
+    (rank_falls (length c.args.tokens.now) c.args.place c.args.place 20 21 t c.decreases (omega arith) (omega arith), (c.requires.ended, (c.requires.within, c.requires.depth)))
+
+pub read_behind-read_behind-requires : goal.read_behind-read_behind-requires
+read_behind-read_behind-requires t c =
+    let o = c.in_ok-right.ensures.ok in
+    let f : c.args.left.next + 1 < c.in_ok-right.right.next = o.further in
+    let h : c.args.left.next < c.in_ok-right.right.next = omega arith in
+    let b : c.args.depth + c.args.left.height < 200 = let x = c.if-depth-left-ge-DEEPEST.false in omega arith in
+    let g : c.args.depth + 1 + c.in_ok-right.right.height ≤ 200 = o.shallow in
+    let x = c.max.ensures in
+    let d : c.args.depth + (1 + c.max.result) ≤ 200 = omega arith in
+    (further_falls (length c.args.tokens.now) c.args.left.next c.in_ok-right.right.next 19 19 t c.decreases c.requires.within h (omega arith), (c.requires.ended, (o.within, (d, c.requires.level))))
+
+pub read_level-read_behind-requires : goal.read_level-read_behind-requires
+read_level-read_behind-requires t c =
+    let o = c.in_ok-left.ensures.ok in
+    let l : c.args.level ≤ 10 = c.requires.level in
+    let m : c.args.level - 1 ≤ 9 = omega arith in
+    (further_falls (length c.args.tokens.now) c.args.place c.in_ok-left.left.next 19 (8 + c.args.level) t c.decreases c.requires.within o.further (omega arith), (c.requires.ended, (o.within, (o.shallow, m))))
+
+pub read_expression-overflow_add-result : goal.read_expression-overflow_add-result
+read_expression-overflow_add-result t c =
+    let a : c.args.depth + c.in_ok-test.test.height ≤ 200 = c.in_ok-test.ensures.ok.shallow in
+    let b : c.args.depth + 1 + c.in_ok-chosen.chosen.height ≤ 200 = c.in_ok-chosen.ensures.ok.shallow in
+    let d : c.args.depth + 1 + c.in_ok-other.other.height ≤ 200 = c.in_ok-other.ensures.ok.shallow in
+    let x : c.max.result ≡ max c.in_ok-test.test.height c.in_ok-chosen.chosen.height = c.max.ensures in
+    let y : c.max-2.result ≡ max c.max.result c.in_ok-other.other.height = c.max-2.ensures in
+    omega arith
+
+pub read_unary-read_primary-requires : goal.read_unary-read_primary-requires
+read_unary-read_primary-requires t c =
+    (rank_falls (length c.args.tokens.now) c.args.place c.args.place 5 6 t c.decreases (omega arith) (omega arith), (c.requires.ended, (c.requires.within, c.requires.depth)))
+
+pub read_expression-read_level-requires : goal.read_expression-read_level-requires
+read_expression-read_level-requires t c =
+    (rank_falls (length c.args.tokens.now) c.args.place c.args.place (8 + 10) 20 t c.decreases (omega arith) (omega arith), (c.requires.ended, (c.requires.within, (c.requires.depth, omega arith))))
+
+pub read_level-read_unary-requires : goal.read_level-read_unary-requires
+read_level-read_unary-requires t c =
+    (rank_falls (length c.args.tokens.now) c.args.place c.args.place 6 (8 + c.args.level) t c.decreases (omega arith) (omega arith), (c.requires.ended, (c.requires.within, c.requires.depth)))
+
+pub read_level-read_level-requires : goal.read_level-read_level-requires
+read_level-read_level-requires t c =
+    let x = c.if-level-eq0.false in
+    let l : c.args.level ≤ 10 = c.requires.level in
+    let m : c.args.level - 1 ≤ 10 = omega arith in
+    let r : 8 + (c.args.level - 1) < 8 + c.args.level = omega arith in
+    (rank_falls (length c.args.tokens.now) c.args.place c.args.place (8 + (c.args.level - 1)) (8 + c.args.level) t c.decreases (omega arith) r, (c.requires.ended, (c.requires.within, (c.requires.depth, m))))
+
+pub read_called-read_mark-requires-clause-ended : goal.read_called-read_mark-requires-clause-ended
+read_called-read_mark-requires-clause-ended t c = c.requires.ended
+
+pub read_called-read_mark-requires-clause-within : goal.read_called-read_mark-requires-clause-within
+read_called-read_mark-requires-clause-within t c = c.in_ok-arguments.ensures.ok.within
+
+pub read_expression-read_mark-requires-clause-ended : goal.read_expression-read_mark-requires-clause-ended
+read_expression-read_mark-requires-clause-ended t c = c.requires.ended
+
+pub read_expression-read_mark-requires-clause-within : goal.read_expression-read_mark-requires-clause-within
+read_expression-read_mark-requires-clause-within t c = c.in_ok-chosen.ensures.ok.within
+
+pub read_index-read_mark-requires-clause-ended : goal.read_index-read_mark-requires-clause-ended
+read_index-read_mark-requires-clause-ended t c = c.requires.ended
+
+pub read_index-read_mark-requires-clause-within : goal.read_index-read_mark-requires-clause-within
+read_index-read_mark-requires-clause-within t c = c.in_ok-index.ensures.ok.within
+
+pub read_primary-read_mark-requires-clause-ended : goal.read_primary-read_mark-requires-clause-ended
+read_primary-read_mark-requires-clause-ended t c = c.requires.ended
+
+pub read_primary-read_mark-requires-clause-within : goal.read_primary-read_mark-requires-clause-within
+read_primary-read_mark-requires-clause-within t c = c.in_ok-inner.ensures.ok.within
+
+pub read_primary-read_name-requires-clause-ended : goal.read_primary-read_name-requires-clause-ended
+read_primary-read_name-requires-clause-ended t c = c.requires.ended
+
+pub read_primary-read_name-requires-clause-within : goal.read_primary-read_name-requires-clause-within
+read_primary-read_name-requires-clause-within t c = c.requires.within

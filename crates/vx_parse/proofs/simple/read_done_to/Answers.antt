@@ -43,3 +43,9 @@ returns-in-Nothing-clause-ok c =
     let w : FollowedBy following.Nothing c.kind_at-kind.result.now = subst (λ z. FollowedBy z c.kind_at-kind.result.now) c.in-Nothing.is c.what_follows.ensures in
     let s : simple_rest (next_kind (drop c.args.place c.args.tokens.now)) ≡ [] = subst (λ z. FollowedBy following.Nothing z) c.kind_at-kind.ensures w in
     nothing_behind c.args.tokens.now c.args.place c.args.depth _ (simples.Evaluate c.args.target.expression) c.requires.within c.requires.depth s refl
+
+pub read_expression-requires-clause-depth : goal.read_expression-requires-clause-depth
+read_expression-requires-clause-depth c = c.requires.depth
+
+pub read_expression-requires-clause-ended : goal.read_expression-requires-clause-ended
+read_expression-requires-clause-ended c = c.requires.ended

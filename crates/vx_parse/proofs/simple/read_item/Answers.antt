@@ -23,3 +23,15 @@ returns-clause-ok c =
     let g = c.in_ok-given.given in
     let w = subst (λ z. IsPhrase ItemValue c.args.tokens.now n.next n.next g.next c.args.depth (MeansValue n.name z)) (sym c.item_with.ensures) (c.in_ok-given.ensures.ok n.name) in
     item_is c.args.tokens.now c.args.place c.args.depth g.next n c.item_with.result c.requires.within c.requires.depth c.in_ok-name.ensures.ok w
+
+pub read_given-requires-clause-depth : goal.read_given-requires-clause-depth
+read_given-requires-clause-depth c = c.requires.depth
+
+pub read_given-requires-clause-ended : goal.read_given-requires-clause-ended
+read_given-requires-clause-ended c = c.requires.ended
+
+pub read_given-requires-clause-within : goal.read_given-requires-clause-within
+read_given-requires-clause-within c = c.in_ok-name.ensures.ok.passed.within
+
+pub read_name-requires-clause-within : goal.read_name-requires-clause-within
+read_name-requires-clause-within c = c.requires.within

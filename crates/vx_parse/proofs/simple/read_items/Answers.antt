@@ -19,3 +19,15 @@ pub returns-clause-stop : goal.returns-clause-stop
 returns-clause-stop c =
     let b = past_phrase (items_start c.args.tokens.now c.args.place c.args.depth c.requires.within c.requires.depth) c.in_ok-first.ensures.ok.parted in
     map_err c.read_more_items.result (λ s w. within_phrase b s w) c.read_more_items.ensures.stop
+
+pub read_item-requires-clause-within : goal.read_item-requires-clause-within
+read_item-requires-clause-within c = c.requires.within
+
+pub read_more_items-requires-clause-depth : goal.read_more_items-requires-clause-depth
+read_more_items-requires-clause-depth c = c.requires.depth
+
+pub read_more_items-requires-clause-ended : goal.read_more_items-requires-clause-ended
+read_more_items-requires-clause-ended c = c.requires.ended
+
+pub read_more_items-requires-clause-within : goal.read_more_items-requires-clause-within
+read_more_items-requires-clause-within c = c.in_ok-first.ensures.ok.parted.within

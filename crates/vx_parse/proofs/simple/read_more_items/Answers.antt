@@ -15,3 +15,12 @@ returns-then-not-is_mark-clause-ok c =
 
 pub items-preserved : goal.items-preserved
 items-preserved c = gathers_next c.in_ok-item.item.item c.items.invariant c.in_ok-item.ensures.ok c.in_ok-append.ensures.ok
+
+pub read_next_item-requires-clause-depth : goal.read_next_item-requires-clause-depth
+read_next_item-requires-clause-depth c = c.requires.depth
+
+pub read_next_item-requires-clause-ended : goal.read_next_item-requires-clause-ended
+read_next_item-requires-clause-ended c = c.requires.ended
+
+pub read_next_item-requires-clause-within : goal.read_next_item-requires-clause-within
+read_next_item-requires-clause-within c = c.items.invariant.continues.within

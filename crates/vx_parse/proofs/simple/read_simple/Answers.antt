@@ -24,3 +24,33 @@ returns-clause-stop c =
     let p : parts_of phrases.Simple (next_kind (drop c.args.place c.args.tokens.now)) ≡ Some (A phrases.Expression ∷ A SimpleRest ∷ []) = subst (λ z. parts_of phrases.Simple z ≡ Some (A phrases.Expression ∷ A SimpleRest ∷ [])) c.kind_at.ensures (c.is_step.ensures.no c.if-is_step.false) in
     let b = past_phrase (simple_before c.args.tokens.now c.args.place c.args.depth c.requires.within c.requires.depth p) (operand_parted c.in_ok-operand.ensures.ok) in
     map_err c.read_done_to.result (λ s w. within_phrase b s w) c.read_done_to.ensures.stop
+
+pub read_done_to-requires-clause-depth : goal.read_done_to-requires-clause-depth
+read_done_to-requires-clause-depth c = c.requires.depth
+
+pub read_done_to-requires-clause-ended : goal.read_done_to-requires-clause-ended
+read_done_to-requires-clause-ended c = c.requires.ended
+
+pub read_expression-requires-clause-depth : goal.read_expression-requires-clause-depth
+read_expression-requires-clause-depth c = c.requires.depth
+
+pub read_expression-requires-clause-ended : goal.read_expression-requires-clause-ended
+read_expression-requires-clause-ended c = c.requires.ended
+
+pub read_expression-requires-clause-within : goal.read_expression-requires-clause-within
+read_expression-requires-clause-within c = c.requires.within
+
+pub read_stepped-requires-clause-depth : goal.read_stepped-requires-clause-depth
+read_stepped-requires-clause-depth c = c.requires.depth
+
+pub read_stepped-requires-clause-ended : goal.read_stepped-requires-clause-ended
+read_stepped-requires-clause-ended c = c.requires.ended
+
+pub read_stepped-requires-clause-within : goal.read_stepped-requires-clause-within
+read_stepped-requires-clause-within c = c.requires.within
+
+pub place_at-requires : goal.place_at-requires
+place_at-requires c = c.requires.within
+
+pub read_done_to-requires-clause-within : goal.read_done_to-requires-clause-within
+read_done_to-requires-clause-within c = c.in_ok-operand.ensures.ok.within

@@ -1,4 +1,4 @@
-use Rattle.std.proofs.Common.{◌≡◌, ◌<◌, ◌+◌, ◌++◌, false, [], ◌∷◌, length, drop, Some, refl, sym, ap, ◌∙◌, subst, arith, rules}
+use Rattle.std.proofs.Common.{◌≡◌, ◌≤◌, ◌<◌, ◌+◌, ◌++◌, false, [], ◌∷◌, length, drop, Some, refl, sym, ap, ◌∙◌, subst, arith}
 use Rattle.vx_ast.specs.Syntax as syntax
 use Rattle.vx_ast.specs.declared.token.Keyword.TheVariants as words
 use Rattle.vx_ast.specs.declared.token.Mark.TheVariants as marks
@@ -12,6 +12,7 @@ use Rattle.vx_parse.specs.Reading.{next_kind}
 use Rattle.vx_parse.specs.Statements.{Test, Head, MeansAll, if_with}
 use Rattle.vx_parse.proofs.HandedOn.{handed_on}
 use Rattle.vx_parse.proofs.Tokens.{passes_word}
+use Rattle.vx_parse.proofs.Measures.{further_falls, rank_falls}
 use Rattle.vx_parse.proofs.Steps.{too_deep}
 use Rattle.vx_parse.proofs.Expressions.{map_ok, map_err}
 use Rattle.vx_parse.proofs.Parts.{past_token, past_phrase, past_row, within_phrase, within_row, misfit}
@@ -43,7 +44,8 @@ pub read_else-read_body-requires : goal.read_else-read_body-requires
 read_else-read_body-requires t c =
     let e : next_kind (drop c.args.place c.args.tokens.now) ≡ kinds.Keyword words.Else = sym c.kind_at.ensures ∙ c.is_word.ensures.yes c.if-not-is_word.false in
     let w : c.args.place + 1 < length c.args.tokens.now = (passes_word c.args.tokens.now c.args.place words.Else c.requires.ended c.requires.within e).within in
-    search rules
+    let h : c.args.place < c.args.place + 1 = omega arith in
+    (further_falls (length c.args.tokens.now) c.args.place (c.args.place + 1) 9 10 t c.decreases c.requires.within h (omega arith), (c.requires.ended, (w, c.requires.depth)))
 
 pub read_else-returns-in_err-other-clause-stop : goal.read_else-returns-in_err-other-clause-stop
 read_else-returns-in_err-other-clause-stop t c =
@@ -136,7 +138,10 @@ pub read_do-read_body-requires : goal.read_do-read_body-requires
 read_do-read_body-requires t c =
     let w : c.args.place + 1 < length c.args.tokens.now = (passes_word c.args.tokens.now c.args.place words.Do c.requires.ended c.requires.within c.requires.here).within in
     let x = c.if-depth-ge-DEEPEST.false in
-    search rules
+    let b : c.args.depth < 200 = omega arith in
+    let d : c.args.depth + 1 ≤ 200 = omega arith in
+    let h : c.args.place < c.args.place + 1 = omega arith in
+    (further_falls (length c.args.tokens.now) c.args.place (c.args.place + 1) 9 7 t c.decreases c.requires.within h (omega arith), (c.requires.ended, (w, d)))
 
 pub read_do-returns-in_err-body-clause-stop : goal.read_do-returns-in_err-body-clause-stop
 read_do-returns-in_err-body-clause-stop t c =
@@ -271,3 +276,190 @@ read_block-returns-clause-ok t c =
 pub read_statement-returns-in-Nothing-clause-stop : goal.read_statement-returns-in-Nothing-clause-stop
 read_statement-returns-in-Nothing-clause-stop t c =
     no_statement c.args.tokens.now c.args.place c.args.depth c.requires.within c.requires.depth (subst (λ z. begins_simple z ≡ false) c.kind_at.ensures c.in-Nothing.ensures.0) (subst (λ z. parts_of phrases.Statement z ≡ Some (A phrases.Simple ∷ mark marks.Semicolon ∷ [])) c.kind_at.ensures c.in-Nothing.ensures.1)
+
+pub read_entry-read_statement-requires : goal.read_entry-read_statement-requires
+read_entry-read_statement-requires t c =
+    (rank_falls (length c.args.tokens.now) c.args.place c.args.place 8 9 t c.decreases (omega arith) (omega arith), (c.requires.ended, (c.requires.within, c.requires.depth)))
+
+pub read_entries-read_entry-requires : goal.read_entries-read_entry-requires
+read_entries-read_entry-requires t c =
+    let g = c.entries.invariant.continues in
+    let f : c.args.place ≤ c.entries.all.next = g.further in
+    (rank_falls (length c.args.tokens.now) c.args.place c.entries.all.next 9 10 t c.decreases f (omega arith), (c.requires.ended, (g.within, (c.requires.depth, (λ e. c.is_mark.ensures.no c.if-is_mark.false (c.kind_at.ensures ∙ e))))))
+
+pub read_if-read_else-requires : goal.read_if-read_else-requires
+read_if-read_else-requires t c =
+    let p = c.in_ok-test.ensures.ok.parted in
+    let f : c.args.place + 1 ≤ c.in_ok-test.test.next = p.further in
+    let a = c.in_ok-chosen.ensures.ok in
+    let g : c.in_ok-test.test.next + 1 ≤ c.in_ok-chosen.chosen.next = a.further in
+    let h : c.args.place < c.in_ok-chosen.chosen.next = omega arith in
+    let b : c.args.depth < 200 = let x = c.if-depth-ge-DEEPEST.false in omega arith in
+    let d : c.args.depth + 1 ≤ 200 = omega arith in
+    (further_falls (length c.args.tokens.now) c.args.place c.in_ok-chosen.chosen.next 10 7 t c.decreases c.requires.within h (omega arith), (c.requires.ended, (a.parted.within, d)))
+
+pub read_if-read_body-requires : goal.read_if-read_body-requires
+read_if-read_body-requires t c =
+    let p = c.in_ok-test.ensures.ok.parted in
+    let f : c.args.place + 1 ≤ c.in_ok-test.test.next = p.further in
+    let h : c.args.place < c.in_ok-test.test.next = omega arith in
+    let b : c.args.depth < 200 = let x = c.if-depth-ge-DEEPEST.false in omega arith in
+    let d : c.args.depth + 1 ≤ 200 = omega arith in
+    (further_falls (length c.args.tokens.now) c.args.place c.in_ok-test.test.next 9 7 t c.decreases c.requires.within h (omega arith), (c.requires.ended, (p.within, d)))
+
+pub read_while-read_body-requires : goal.read_while-read_body-requires
+read_while-read_body-requires t c =
+    let p = c.in_ok-test.ensures.ok.parted in
+    let f : c.args.place + 1 ≤ c.in_ok-test.test.next = p.further in
+    let h : c.args.place < c.in_ok-test.test.next = omega arith in
+    let b : c.args.depth < 200 = let x = c.if-depth-ge-DEEPEST.false in omega arith in
+    let d : c.args.depth + 1 ≤ 200 = omega arith in
+    (further_falls (length c.args.tokens.now) c.args.place c.in_ok-test.test.next 9 7 t c.decreases c.requires.within h (omega arith), (c.requires.ended, (p.within, d)))
+
+pub read_for-read_body-requires : goal.read_for-read_body-requires
+read_for-read_body-requires t c =
+    let p = c.in_ok-head.ensures.ok.parted in
+    let f : c.args.place + 1 ≤ c.in_ok-head.head.next = p.further in
+    let h : c.args.place < c.in_ok-head.head.next = omega arith in
+    let b : c.args.depth < 200 = let x = c.if-depth-ge-DEEPEST.false in omega arith in
+    let d : c.args.depth + 1 ≤ 200 = omega arith in
+    (further_falls (length c.args.tokens.now) c.args.place c.in_ok-head.head.next 9 7 t c.decreases c.requires.within h (omega arith), (c.requires.ended, (p.within, d)))
+
+pub read_block-read_entries-requires : goal.read_block-read_entries-requires
+read_block-read_entries-requires t c =
+    let p = c.in_ok-inner.ensures.ok in
+    let f : c.in_ok-inner.inner ≡ c.args.place + 1 = p.further in
+    let h : c.args.place < c.in_ok-inner.inner = omega arith in
+    let b : c.args.depth < 200 = let x = c.if-depth-ge-DEEPEST.false in omega arith in
+    let d : c.args.depth + 1 ≤ 200 = omega arith in
+    (further_falls (length c.args.tokens.now) c.args.place c.in_ok-inner.inner 10 6 t c.decreases c.requires.within h (omega arith), (c.requires.ended, (p.within, d)))
+
+pub read_statement-read_for-requires : goal.read_statement-read_for-requires
+read_statement-read_for-requires t c =
+    (rank_falls (length c.args.tokens.now) c.args.place c.args.place 7 8 t c.decreases (omega arith) (omega arith), (c.requires.ended, (c.requires.within, (c.requires.depth, sym c.kind_at.ensures ∙ c.in-For.ensures))))
+
+pub read_statement-read_do-requires : goal.read_statement-read_do-requires
+read_statement-read_do-requires t c =
+    (rank_falls (length c.args.tokens.now) c.args.place c.args.place 7 8 t c.decreases (omega arith) (omega arith), (c.requires.ended, (c.requires.within, (c.requires.depth, sym c.kind_at.ensures ∙ c.in-Do.ensures))))
+
+pub read_statement-read_while-requires : goal.read_statement-read_while-requires
+read_statement-read_while-requires t c =
+    (rank_falls (length c.args.tokens.now) c.args.place c.args.place 7 8 t c.decreases (omega arith) (omega arith), (c.requires.ended, (c.requires.within, (c.requires.depth, sym c.kind_at.ensures ∙ c.in-While.ensures))))
+
+pub read_statement-read_if-requires : goal.read_statement-read_if-requires
+read_statement-read_if-requires t c =
+    (rank_falls (length c.args.tokens.now) c.args.place c.args.place 7 8 t c.decreases (omega arith) (omega arith), (c.requires.ended, (c.requires.within, (c.requires.depth, sym c.kind_at.ensures ∙ c.in-If.ensures))))
+
+pub read_statement-read_inner_block-requires : goal.read_statement-read_inner_block-requires
+read_statement-read_inner_block-requires t c =
+    (rank_falls (length c.args.tokens.now) c.args.place c.args.place 7 8 t c.decreases (omega arith) (omega arith), (c.requires.ended, (c.requires.within, (c.requires.depth, sym c.kind_at.ensures ∙ c.in-Block.ensures))))
+
+pub read_body-read_statement-requires : goal.read_body-read_statement-requires
+read_body-read_statement-requires t c =
+    (rank_falls (length c.args.tokens.now) c.args.place c.args.place 8 9 t c.decreases (omega arith) (omega arith), (c.requires.ended, (c.requires.within, c.requires.depth)))
+
+pub read_inner_block-read_block-requires : goal.read_inner_block-read_block-requires
+read_inner_block-read_block-requires t c =
+    (rank_falls (length c.args.tokens.now) c.args.place c.args.place 6 7 t c.decreases (omega arith) (omega arith), (c.requires.ended, (c.requires.within, c.requires.depth)))
+
+pub read_block-read_mark-requires-2-clause-ended : goal.read_block-read_mark-requires-2-clause-ended
+read_block-read_mark-requires-2-clause-ended t c = c.requires.ended
+
+pub read_block-read_mark-requires-2-clause-within : goal.read_block-read_mark-requires-2-clause-within
+read_block-read_mark-requires-2-clause-within t c = c.in_ok-entries.ensures.ok.parted.within
+
+pub read_block-read_mark-requires-clause-ended : goal.read_block-read_mark-requires-clause-ended
+read_block-read_mark-requires-clause-ended t c = c.requires.ended
+
+pub read_block-read_mark-requires-clause-within : goal.read_block-read_mark-requires-clause-within
+read_block-read_mark-requires-clause-within t c = c.requires.within
+
+pub read_do-read_mark-requires-clause-ended : goal.read_do-read_mark-requires-clause-ended
+read_do-read_mark-requires-clause-ended t c = c.requires.ended
+
+pub read_do-read_mark-requires-clause-within : goal.read_do-read_mark-requires-clause-within
+read_do-read_mark-requires-clause-within t c = c.in_ok-test.ensures.ok.parted.within
+
+pub read_do-read_test-requires-clause-ended : goal.read_do-read_test-requires-clause-ended
+read_do-read_test-requires-clause-ended t c = c.requires.ended
+
+pub read_do-read_test-requires-clause-within : goal.read_do-read_test-requires-clause-within
+read_do-read_test-requires-clause-within t c = c.in_ok-test_place.ensures.ok.within
+
+pub read_do-read_word-requires-clause-ended : goal.read_do-read_word-requires-clause-ended
+read_do-read_word-requires-clause-ended t c = c.requires.ended
+
+pub read_do-read_word-requires-clause-within : goal.read_do-read_word-requires-clause-within
+read_do-read_word-requires-clause-within t c = c.in_ok-body.ensures.ok.parted.within
+
+pub read_entry-read_declaration-requires-clause-depth : goal.read_entry-read_declaration-requires-clause-depth
+read_entry-read_declaration-requires-clause-depth t c = c.requires.depth
+
+pub read_entry-read_declaration-requires-clause-ended : goal.read_entry-read_declaration-requires-clause-ended
+read_entry-read_declaration-requires-clause-ended t c = c.requires.ended
+
+pub read_entry-read_declaration-requires-clause-within : goal.read_entry-read_declaration-requires-clause-within
+read_entry-read_declaration-requires-clause-within t c = c.requires.within
+
+pub read_for-read_head-requires-clause-ended : goal.read_for-read_head-requires-clause-ended
+read_for-read_head-requires-clause-ended t c = c.requires.ended
+
+pub read_if-read_test-requires-clause-ended : goal.read_if-read_test-requires-clause-ended
+read_if-read_test-requires-clause-ended t c = c.requires.ended
+
+pub read_statement-read_break-requires-clause-depth : goal.read_statement-read_break-requires-clause-depth
+read_statement-read_break-requires-clause-depth t c = c.requires.depth
+
+pub read_statement-read_break-requires-clause-ended : goal.read_statement-read_break-requires-clause-ended
+read_statement-read_break-requires-clause-ended t c = c.requires.ended
+
+pub read_statement-read_break-requires-clause-within : goal.read_statement-read_break-requires-clause-within
+read_statement-read_break-requires-clause-within t c = c.requires.within
+
+pub read_statement-read_continue-requires-clause-depth : goal.read_statement-read_continue-requires-clause-depth
+read_statement-read_continue-requires-clause-depth t c = c.requires.depth
+
+pub read_statement-read_continue-requires-clause-ended : goal.read_statement-read_continue-requires-clause-ended
+read_statement-read_continue-requires-clause-ended t c = c.requires.ended
+
+pub read_statement-read_continue-requires-clause-within : goal.read_statement-read_continue-requires-clause-within
+read_statement-read_continue-requires-clause-within t c = c.requires.within
+
+pub read_statement-read_empty-requires-clause-depth : goal.read_statement-read_empty-requires-clause-depth
+read_statement-read_empty-requires-clause-depth t c = c.requires.depth
+
+pub read_statement-read_empty-requires-clause-ended : goal.read_statement-read_empty-requires-clause-ended
+read_statement-read_empty-requires-clause-ended t c = c.requires.ended
+
+pub read_statement-read_empty-requires-clause-within : goal.read_statement-read_empty-requires-clause-within
+read_statement-read_empty-requires-clause-within t c = c.requires.within
+
+pub read_statement-read_print-requires-clause-depth : goal.read_statement-read_print-requires-clause-depth
+read_statement-read_print-requires-clause-depth t c = c.requires.depth
+
+pub read_statement-read_print-requires-clause-ended : goal.read_statement-read_print-requires-clause-ended
+read_statement-read_print-requires-clause-ended t c = c.requires.ended
+
+pub read_statement-read_print-requires-clause-within : goal.read_statement-read_print-requires-clause-within
+read_statement-read_print-requires-clause-within t c = c.requires.within
+
+pub read_statement-read_return-requires-clause-depth : goal.read_statement-read_return-requires-clause-depth
+read_statement-read_return-requires-clause-depth t c = c.requires.depth
+
+pub read_statement-read_return-requires-clause-ended : goal.read_statement-read_return-requires-clause-ended
+read_statement-read_return-requires-clause-ended t c = c.requires.ended
+
+pub read_statement-read_return-requires-clause-within : goal.read_statement-read_return-requires-clause-within
+read_statement-read_return-requires-clause-within t c = c.requires.within
+
+pub read_statement-read_simple_statement-requires-clause-depth : goal.read_statement-read_simple_statement-requires-clause-depth
+read_statement-read_simple_statement-requires-clause-depth t c = c.requires.depth
+
+pub read_statement-read_simple_statement-requires-clause-ended : goal.read_statement-read_simple_statement-requires-clause-ended
+read_statement-read_simple_statement-requires-clause-ended t c = c.requires.ended
+
+pub read_statement-read_simple_statement-requires-clause-within : goal.read_statement-read_simple_statement-requires-clause-within
+read_statement-read_simple_statement-requires-clause-within t c = c.requires.within
+
+pub read_while-read_test-requires-clause-ended : goal.read_while-read_test-requires-clause-ended
+read_while-read_test-requires-clause-ended t c = c.requires.ended

@@ -31,3 +31,9 @@ returns-clause-ok c =
     let l : c.args.depth < 200 = let x = c.if-depth-ge-DEEPEST.false in omega arith in
     let o = word_opens words.Break (mark marks.Semicolon ∷ []) c.args.tokens.now c.args.place break_word c.requires.ended c.requires.within c.requires.here in
     left_is words.Break c.args.tokens.now c.args.place c.args.depth _ c.place_at.result (statements.Break c.place_at.result) o l c.in_ok-next.ensures.ok c.place_at.ensures refl
+
+pub read_mark-requires-clause-ended : goal.read_mark-requires-clause-ended
+read_mark-requires-clause-ended c = c.requires.ended
+
+pub place_at-requires : goal.place_at-requires
+place_at-requires c = c.requires.within

@@ -37,3 +37,15 @@ returns-clause-further c =
     let f = c.in_ok-items.ensures.ok.parted.further in
     let g = c.in_ok-next.ensures.ok.further in
     omega arith
+
+pub read_items-requires-clause-depth : goal.read_items-requires-clause-depth
+read_items-requires-clause-depth c = c.requires.depth
+
+pub read_items-requires-clause-ended : goal.read_items-requires-clause-ended
+read_items-requires-clause-ended c = c.requires.ended
+
+pub read_mark-requires-clause-ended : goal.read_mark-requires-clause-ended
+read_mark-requires-clause-ended c = c.requires.ended
+
+pub read_mark-requires-clause-within : goal.read_mark-requires-clause-within
+read_mark-requires-clause-within c = c.in_ok-items.ensures.ok.parted.within

@@ -29,3 +29,21 @@ returns-clause-ok c =
     let n1 : next_kind (drop c.args.place c.args.tokens.now) ≡ kinds.Mark marks.Semicolon → ⊥ = λ e. c.is_mark.ensures.no c.if-is_mark.false (c.kind_at-kind.ensures ∙ e) in
     let n2 : next_kind (drop c.args.place c.args.tokens.now) ≡ kinds.Keyword words.Int → ⊥ = λ e. c.is_word.ensures.no c.if-is_word.false (c.kind_at-kind.ensures ∙ e) in
     first_is_simple c.args.tokens.now c.args.place c.args.depth _ c.in_ok-simple.simple.simple c.in_ok-boxed-2.field-0.value c.requires.within c.requires.depth n1 n2 c.in_ok-simple.ensures.ok (ap view.first_of c.in_ok-boxed-2.ensures.ok)
+
+pub read_first_items-requires-clause-depth : goal.read_first_items-requires-clause-depth
+read_first_items-requires-clause-depth c = c.requires.depth
+
+pub read_first_items-requires-clause-ended : goal.read_first_items-requires-clause-ended
+read_first_items-requires-clause-ended c = c.requires.ended
+
+pub read_first_items-requires-clause-within : goal.read_first_items-requires-clause-within
+read_first_items-requires-clause-within c = c.requires.within
+
+pub read_simple-requires-clause-depth : goal.read_simple-requires-clause-depth
+read_simple-requires-clause-depth c = c.requires.depth
+
+pub read_simple-requires-clause-ended : goal.read_simple-requires-clause-ended
+read_simple-requires-clause-ended c = c.requires.ended
+
+pub read_simple-requires-clause-within : goal.read_simple-requires-clause-within
+read_simple-requires-clause-within c = c.requires.within

@@ -23,3 +23,9 @@ pub returns-clause-ok : goal.returns-clause-ok
 returns-clause-ok c =
     let p = passes_word c.args.tokens.now c.args.place words.Int c.requires.ended c.requires.within c.requires.here in
     first_items_are c.args.tokens.now c.args.place c.args.depth c.in_ok-items.items c.in_ok-boxed.field-0.value p c.requires.within c.requires.depth c.requires.here c.in_ok-items.ensures.ok (ap view.first_of c.in_ok-boxed.ensures.ok)
+
+pub read_items-requires-clause-depth : goal.read_items-requires-clause-depth
+read_items-requires-clause-depth c = c.requires.depth
+
+pub read_items-requires-clause-ended : goal.read_items-requires-clause-ended
+read_items-requires-clause-ended c = c.requires.ended

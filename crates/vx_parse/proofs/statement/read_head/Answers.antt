@@ -82,3 +82,51 @@ returns-clause-ok c =
       is_test = c.in_ok-test.ensures.ok.means;
       is_step = c.in_ok-step.ensures.ok.means;
     }
+
+pub read_first-requires-clause-depth : goal.read_first-requires-clause-depth
+read_first-requires-clause-depth c = c.requires.depth
+
+pub read_first-requires-clause-ended : goal.read_first-requires-clause-ended
+read_first-requires-clause-ended c = c.requires.ended
+
+pub read_first-requires-clause-within : goal.read_first-requires-clause-within
+read_first-requires-clause-within c = c.in_ok-first_place.ensures.ok.within
+
+pub read_mark-requires-2-clause-ended : goal.read_mark-requires-2-clause-ended
+read_mark-requires-2-clause-ended c = c.requires.ended
+
+pub read_mark-requires-2-clause-within : goal.read_mark-requires-2-clause-within
+read_mark-requires-2-clause-within c = c.in_ok-first.ensures.ok.parted.within
+
+pub read_mark-requires-3-clause-ended : goal.read_mark-requires-3-clause-ended
+read_mark-requires-3-clause-ended c = c.requires.ended
+
+pub read_mark-requires-3-clause-within : goal.read_mark-requires-3-clause-within
+read_mark-requires-3-clause-within c = c.in_ok-test.ensures.ok.parted.within
+
+pub read_mark-requires-4-clause-ended : goal.read_mark-requires-4-clause-ended
+read_mark-requires-4-clause-ended c = c.requires.ended
+
+pub read_mark-requires-4-clause-within : goal.read_mark-requires-4-clause-within
+read_mark-requires-4-clause-within c = c.in_ok-step.ensures.ok.parted.within
+
+pub read_mark-requires-clause-within : goal.read_mark-requires-clause-within
+read_mark-requires-clause-within c = c.requires.within
+
+pub read_optional-requires-clause-depth : goal.read_optional-requires-clause-depth
+read_optional-requires-clause-depth c = c.requires.depth
+
+pub read_optional-requires-clause-ended : goal.read_optional-requires-clause-ended
+read_optional-requires-clause-ended c = c.requires.ended
+
+pub read_optional-requires-clause-within : goal.read_optional-requires-clause-within
+read_optional-requires-clause-within c = c.in_ok-test_place.ensures.ok.within
+
+pub read_step-requires-clause-depth : goal.read_step-requires-clause-depth
+read_step-requires-clause-depth c = c.requires.depth
+
+pub read_step-requires-clause-ended : goal.read_step-requires-clause-ended
+read_step-requires-clause-ended c = c.requires.ended
+
+pub read_step-requires-clause-within : goal.read_step-requires-clause-within
+read_step-requires-clause-within c = c.in_ok-step_place.ensures.ok.within

@@ -23,3 +23,12 @@ pub returns-clause-ok : goal.returns-clause-ok
 returns-clause-ok c =
     let n1 : next_kind (drop c.args.place c.args.tokens.now) ≡ kinds.Mark marks.Semicolon → ⊥ = λ e. c.is_mark.ensures.no c.if-is_mark.false (c.kind_at.ensures ∙ e) in
     subst (λ z. IsPhrase OptionalExpression c.args.tokens.now c.args.place c.args.place c.in_ok-value.value.next c.args.depth (MeansTest z)) (sym c.in_ok-boxed-2.ensures.ok) (some_test c.args.tokens.now c.args.place c.args.depth c.in_ok-value.value c.requires.within c.requires.depth n1 c.in_ok-value.ensures.ok)
+
+pub read_expression-requires-clause-depth : goal.read_expression-requires-clause-depth
+read_expression-requires-clause-depth c = c.requires.depth
+
+pub read_expression-requires-clause-ended : goal.read_expression-requires-clause-ended
+read_expression-requires-clause-ended c = c.requires.ended
+
+pub read_expression-requires-clause-within : goal.read_expression-requires-clause-within
+read_expression-requires-clause-within c = c.requires.within

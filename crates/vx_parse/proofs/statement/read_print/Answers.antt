@@ -27,3 +27,15 @@ pub returns-clause-ok : goal.returns-clause-ok
 returns-clause-ok c =
     let l : c.args.depth < 200 = let x = c.if-depth-ge-DEEPEST.false in omega arith in
     print_is c.args.tokens.now c.args.place c.args.depth _ _ c.in_ok-print.print (statements.Print c.in_ok-print.print.place c.in_ok-print.print.format_place c.in_ok-print.print.format c.in_ok-print.print.arguments) c.requires.within l c.requires.here c.in_ok-print.ensures.ok c.in_ok-next.ensures.ok refl
+
+pub read_mark-requires-clause-ended : goal.read_mark-requires-clause-ended
+read_mark-requires-clause-ended c = c.requires.ended
+
+pub read_mark-requires-clause-within : goal.read_mark-requires-clause-within
+read_mark-requires-clause-within c = c.in_ok-print.ensures.ok.parted.within
+
+pub read_printed-requires-clause-ended : goal.read_printed-requires-clause-ended
+read_printed-requires-clause-ended c = c.requires.ended
+
+pub read_printed-requires-clause-within : goal.read_printed-requires-clause-within
+read_printed-requires-clause-within c = c.requires.within

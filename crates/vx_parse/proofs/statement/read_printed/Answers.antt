@@ -44,3 +44,24 @@ returns-clause-ok c =
     let p = name_passed c.args.tokens.now c.args.place c.requires.ended c.requires.within c.requires.name in
     let r : PrintRead = record { place = c.place_at.result; format_place = c.place_at-2.result; format = c.in_ok-format.format.bytes; arguments = c.in_ok-arguments.arguments.expressions; next = 0 } in
     printed_is c.args.tokens.now c.args.place c.args.depth _ _ c.in_ok-format.format _ c.in_ok-arguments.arguments r p c.requires.within c.requires.depth c.in_ok-format_place.ensures.ok c.in_ok-format.ensures.ok refl c.new.ensures.items c.in_ok-arguments.ensures.ok c.in_ok-next.ensures.ok c.place_at.ensures c.place_at-2.ensures refl refl
+
+pub read_mark-requires-2-clause-ended : goal.read_mark-requires-2-clause-ended
+read_mark-requires-2-clause-ended c = c.requires.ended
+
+pub read_mark-requires-2-clause-within : goal.read_mark-requires-2-clause-within
+read_mark-requires-2-clause-within c = c.in_ok-arguments.ensures.ok.within
+
+pub read_more-requires-clause-ended : goal.read_more-requires-clause-ended
+read_more-requires-clause-ended c = c.requires.ended
+
+pub read_text-requires-clause-ended : goal.read_text-requires-clause-ended
+read_text-requires-clause-ended c = c.requires.ended
+
+pub read_text-requires-clause-within : goal.read_text-requires-clause-within
+read_text-requires-clause-within c = c.in_ok-format_place.ensures.ok.within
+
+pub place_at-requires : goal.place_at-requires
+place_at-requires c = c.requires.within
+
+pub place_at-requires-2 : goal.place_at-requires-2
+place_at-requires-2 c = c.in_ok-format_place.ensures.ok.within

@@ -41,3 +41,15 @@ returns-clause-ok c =
     let l : c.args.depth < 200 = let x = c.if-depth-ge-DEEPEST.false in omega arith in
     let o = word_opens words.Return (A OptionalExpression ∷ mark marks.Semicolon ∷ []) c.args.tokens.now c.args.place return_word c.requires.ended c.requires.within c.requires.here in
     return_is c.args.tokens.now c.args.place c.args.depth _ _ c.place_at.result c.in_ok-value.value.expression.value c.returned.result o l c.in_ok-value.ensures.ok c.in_ok-next.ensures.ok c.place_at.ensures (c.returned.ensures ∙ ap (λ z. returned c.place_at.result (option_map view.phrase_of z)) c.into_inner.ensures)
+
+pub read_mark-requires-clause-ended : goal.read_mark-requires-clause-ended
+read_mark-requires-clause-ended c = c.requires.ended
+
+pub read_mark-requires-clause-within : goal.read_mark-requires-clause-within
+read_mark-requires-clause-within c = c.in_ok-value.ensures.ok.parted.within
+
+pub read_optional-requires-clause-ended : goal.read_optional-requires-clause-ended
+read_optional-requires-clause-ended c = c.requires.ended
+
+pub place_at-requires : goal.place_at-requires
+place_at-requires c = c.requires.within

@@ -29,3 +29,15 @@ pub returns-clause-ok : goal.returns-clause-ok
 returns-clause-ok c =
     let l : c.args.depth < 200 = let x = c.if-depth-ge-DEEPEST.false in omega arith in
     simple_statement_is c.args.tokens.now c.args.place c.args.depth _ _ c.in_ok-simple.simple.simple.value (statements.Simple c.into_inner.result) c.requires.within l c.requires.here c.in_ok-simple.ensures.ok c.in_ok-next.ensures.ok (ap (λ z. syntax.Simply (view.action_of z)) c.into_inner.ensures)
+
+pub read_boxed-requires-clause-ended : goal.read_boxed-requires-clause-ended
+read_boxed-requires-clause-ended c = c.requires.ended
+
+pub read_boxed-requires-clause-within : goal.read_boxed-requires-clause-within
+read_boxed-requires-clause-within c = c.requires.within
+
+pub read_mark-requires-clause-ended : goal.read_mark-requires-clause-ended
+read_mark-requires-clause-ended c = c.requires.ended
+
+pub read_mark-requires-clause-within : goal.read_mark-requires-clause-within
+read_mark-requires-clause-within c = c.in_ok-simple.ensures.ok.parted.within

@@ -23,3 +23,12 @@ pub returns-clause-ok : goal.returns-clause-ok
 returns-clause-ok c =
     let n1 : next_kind (drop c.args.place c.args.tokens.now) ≡ kinds.Mark marks.CloseParenthesis → ⊥ = λ e. c.is_mark.ensures.no c.if-is_mark.false (c.kind_at.ensures ∙ e) in
     subst (λ z. IsPhrase OptionalSimple c.args.tokens.now c.args.place c.args.place c.in_ok-simple.simple.next c.args.depth (MeansStep z)) (sym c.in_ok-boxed-2.ensures.ok) (some_step c.args.tokens.now c.args.place c.args.depth _ c.in_ok-simple.simple.simple c.requires.within c.requires.depth n1 c.in_ok-simple.ensures.ok)
+
+pub read_simple-requires-clause-depth : goal.read_simple-requires-clause-depth
+read_simple-requires-clause-depth c = c.requires.depth
+
+pub read_simple-requires-clause-ended : goal.read_simple-requires-clause-ended
+read_simple-requires-clause-ended c = c.requires.ended
+
+pub read_simple-requires-clause-within : goal.read_simple-requires-clause-within
+read_simple-requires-clause-within c = c.requires.within

@@ -27,3 +27,21 @@ returns-in_err-next-clause-stop c =
 pub returns-clause-ok : goal.returns-clause-ok
 returns-clause-ok c =
     test_is c.args.tokens.now c.args.place c.args.depth _ c.in_ok-test.test _ c.in_ok-inner.ensures.ok c.requires.within c.requires.depth c.in_ok-test.ensures.ok c.in_ok-next.ensures.ok (ap view.phrase_of c.in_ok-held.ensures.ok)
+
+pub read_expression-requires-clause-depth : goal.read_expression-requires-clause-depth
+read_expression-requires-clause-depth c = c.requires.depth
+
+pub read_expression-requires-clause-ended : goal.read_expression-requires-clause-ended
+read_expression-requires-clause-ended c = c.requires.ended
+
+pub read_expression-requires-clause-within : goal.read_expression-requires-clause-within
+read_expression-requires-clause-within c = c.in_ok-inner.ensures.ok.within
+
+pub read_mark-requires-2-clause-ended : goal.read_mark-requires-2-clause-ended
+read_mark-requires-2-clause-ended c = c.requires.ended
+
+pub read_mark-requires-2-clause-within : goal.read_mark-requires-2-clause-within
+read_mark-requires-2-clause-within c = c.in_ok-test.ensures.ok.within
+
+pub read_mark-requires-clause-within : goal.read_mark-requires-clause-within
+read_mark-requires-clause-within c = c.requires.within

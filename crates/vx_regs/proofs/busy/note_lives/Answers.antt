@@ -1,6 +1,6 @@
 use Rattle.std.proofs.lemmas.Option.{slice_get-get_or}
-use Rattle.std.proofs.Common.{◌≡◌, ◌∙◌, List, Some, ℕ, ap, sym, slice_get, subst, rules}
-use Rattle.vx_regs.specs.BusyPlaces.{LiveAmong, nodes_near}
+use Rattle.std.proofs.Common.{◌≡◌, ◌∙◌, List, Some, ℕ, ap, sym, slice_get, length, subst, arith, rules}
+use Rattle.vx_regs.specs.BusyPlaces.{LiveAmong, LiveNear, nodes_near}
 use Rattle.vx_regs.specs.Hulls.{Notes}
 use Rattle.vx_regs.proofs.BusyNotes.{near_next}
 use Rattle.vx_regs.proofs.busy.note_lives.Goals as goal
@@ -19,3 +19,12 @@ loop-place-preserved c =
     subst (λ (z : List ℕ). Notes (LiveAmong rows z c.in_ok-number.number c.args.count) old new) near c.in_ok-note_live_among.ensures in
     near_next rows numbers c.args.words.now c.args.count c.loop-place.place w c.args.hulls.now.items old new at c.loop-place.invariant
     (subst (λ z. Notes (LiveAmong rows (nodes_near numbers z w) z c.args.count) old new) n a)
+
+pub returns : goal.returns
+returns c =
+    let rows = c.args.living.now.live in
+    let numbers = c.args.living.now.nodes.numbers in
+    let all = c.loop-place-test.false in
+    let within = c.loop-place.auto.place-end in
+    let e : c.loop-place.place ≡ length c.args.words.now = omega arith in
+    subst (λ (n : ℕ). Notes (LiveNear rows numbers c.args.words.now c.args.count n) c.args.hulls.now.items c.loop-place.hulls.items) e c.loop-place.invariant

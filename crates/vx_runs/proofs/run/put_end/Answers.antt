@@ -1,6 +1,7 @@
 -- The line of the end, that of the words and the reports behind it.
+use Rattle.std.proofs.Common.{arith}
 use Rattle.vx_status.proofs.Appending.{adds_put, appends_on}
-use Rattle.vx_runs.proofs.Ends.{cuts_on, issued_cut, line_cut, shows_on}
+use Rattle.vx_runs.proofs.Ends.{cuts_on, issued_cut, line_cut, shows_on, rose_on, or_on}
 use Rattle.vx_sim.proofs.Printing.{on_err}
 use Rattle.vx_runs.proofs.run.put_end.Goals as goal
 
@@ -21,3 +22,11 @@ returns-in_err-put_told-clause-adds g c = appends_on c.put_ended.ensures.adds c.
 
 pub returns-clause-adds : goal.returns-clause-adds
 returns-clause-adds g c = appends_on c.put_ended.ensures.adds (appends_on c.put_told.ensures.adds (adds_put _ _ c.put_reports.ensures.puts))
+
+pub returns-clause-failed : goal.returns-clause-failed
+returns-clause-failed g c =
+    let faults = g.E.Sink.faults in
+    rose_on c.put_reports.result (faults c.args.err.now) (faults c.put_told.new.err) (faults c.put_reports.new.err) (omega (arith, c.put_ended.ensures.adds.never_fall, c.put_told.ensures.adds.never_fall)) c.put_reports.ensures.puts.never_fall c.put_reports.ensures.puts.failed
+
+pub returns-clause-wanted : goal.returns-clause-wanted
+returns-clause-wanted g c = or_on _ _ c.put_reports.result c.put_reports.ensures.some

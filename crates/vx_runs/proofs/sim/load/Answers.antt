@@ -1,5 +1,5 @@
 -- The words were read before all else, and reading them changed no file.
-use Rattle.std.proofs.Common.{IfSome, sym, subst}
+use Rattle.std.proofs.Common.{IfSome, sym, subst, ◌∙◌, arith}
 use Rattle.std.proofs.lemmas.Result.{IfErr-weaker, IfOk-weaker}
 use Rattle.vx_words.specs.Spelling.{Spells}
 use Rattle.vx_files.specs.Effects.{effect_of}
@@ -34,3 +34,39 @@ returns-in-Ok-clause-stops g c =
 pub returns-in-Err-clause-stops : goal.returns-in-Err-clause-stops
 returns-in-Err-clause-stops g c = at_words c.args.words.now _ _
     (effect_of g.D.Depot.files g.D.Depot.failed_reads g.D.Depot.failed_replaces c.args.depot.now c.read_words.new.depot) c.in-Err.status c.in-Err.ensures.stops
+
+pub returns-in-Ok-clause-default_machine : goal.returns-in-Ok-clause-default_machine
+returns-in-Ok-clause-default_machine g c = c.load_machine.ensures.default_machine
+
+pub returns-in-Ok-clause-unnamed : goal.returns-in-Ok-clause-unnamed
+returns-in-Ok-clause-unnamed g c = c.load_machine.ensures.unnamed
+
+pub returns-in-Ok-clause-same_files : goal.returns-in-Ok-clause-same_files
+returns-in-Ok-clause-same_files g c = c.load_machine.ensures.same_files ∙ c.read_words.ensures.same_files
+
+pub returns-in-Ok-clause-reads_never_fall : goal.returns-in-Ok-clause-reads_never_fall
+returns-in-Ok-clause-reads_never_fall g c = omega (arith, c.read_words.ensures.reads_never_fall, c.load_machine.ensures.reads_never_fall)
+
+pub returns-in-Ok-clause-replaces_never_fall : goal.returns-in-Ok-clause-replaces_never_fall
+returns-in-Ok-clause-replaces_never_fall g c = omega (arith, c.read_words.ensures.replaces_never_fall, c.load_machine.ensures.replaces_never_fall)
+
+pub returns-in-Err-clause-same_files : goal.returns-in-Err-clause-same_files
+returns-in-Err-clause-same_files g c = c.read_words.ensures.same_files
+
+pub returns-in-Err-clause-reads_never_fall : goal.returns-in-Err-clause-reads_never_fall
+returns-in-Err-clause-reads_never_fall g c = c.read_words.ensures.reads_never_fall
+
+pub returns-in-Err-clause-replaces_never_fall : goal.returns-in-Err-clause-replaces_never_fall
+returns-in-Err-clause-replaces_never_fall g c = c.read_words.ensures.replaces_never_fall
+
+pub returns-in-Err-clause-loaded : goal.returns-in-Err-clause-loaded
+returns-in-Err-clause-loaded g c = tt
+
+pub returns-in-Err-clause-spells : goal.returns-in-Err-clause-spells
+returns-in-Err-clause-spells g c = tt
+
+pub returns-in-Err-clause-default_machine : goal.returns-in-Err-clause-default_machine
+returns-in-Err-clause-default_machine g c = tt
+
+pub returns-in-Err-clause-unnamed : goal.returns-in-Err-clause-unnamed
+returns-in-Err-clause-unnamed g c = tt

@@ -1,5 +1,5 @@
 -- The machine was read before the input, and reading it changed no file.
-use Rattle.std.proofs.Common.{subst, sym, option_map}
+use Rattle.std.proofs.Common.{subst, sym, option_map, ◌∙◌, arith}
 use Rattle.std.proofs.lemmas.Result.{IfErr-weaker, IfOk-weaker}
 use Rattle.vx_files.specs.Effects.{effect_of}
 use Rattle.vx_runs.specs.Ending.{loaded_of}
@@ -31,3 +31,39 @@ returns-in-Ok-clause-stops g c =
 pub returns-in-Err-clause-stops : goal.returns-in-Err-clause-stops
 returns-in-Err-clause-stops g c = at_machine c.args.program (option_map (λ s. s.now) c.args.machine) (option_map (λ s. s.now) c.args.input)
     (effect_of g.D.Depot.files g.D.Depot.failed_reads g.D.Depot.failed_replaces c.args.depot.now c.machine_for.new.depot) c.in-Err.status (still_some _ c.args.machine c.in-Err.ensures.named) c.in-Err.ensures.answers
+
+pub returns-in-Ok-clause-program : goal.returns-in-Ok-clause-program
+returns-in-Ok-clause-program g c = c.load_input.ensures.program
+
+pub returns-in-Ok-clause-unnamed : goal.returns-in-Ok-clause-unnamed
+returns-in-Ok-clause-unnamed g c = c.load_input.ensures.unnamed
+
+pub returns-in-Ok-clause-same_files : goal.returns-in-Ok-clause-same_files
+returns-in-Ok-clause-same_files g c = c.load_input.ensures.same_files ∙ c.machine_for.ensures.same_files
+
+pub returns-in-Ok-clause-reads_never_fall : goal.returns-in-Ok-clause-reads_never_fall
+returns-in-Ok-clause-reads_never_fall g c = omega (arith, c.machine_for.ensures.reads_never_fall, c.load_input.ensures.reads_never_fall)
+
+pub returns-in-Ok-clause-replaces_never_fall : goal.returns-in-Ok-clause-replaces_never_fall
+returns-in-Ok-clause-replaces_never_fall g c = omega (arith, c.machine_for.ensures.replaces_never_fall, c.load_input.ensures.replaces_never_fall)
+
+pub returns-in-Err-clause-same_files : goal.returns-in-Err-clause-same_files
+returns-in-Err-clause-same_files g c = c.machine_for.ensures.same_files
+
+pub returns-in-Err-clause-reads_never_fall : goal.returns-in-Err-clause-reads_never_fall
+returns-in-Err-clause-reads_never_fall g c = c.machine_for.ensures.reads_never_fall
+
+pub returns-in-Err-clause-replaces_never_fall : goal.returns-in-Err-clause-replaces_never_fall
+returns-in-Err-clause-replaces_never_fall g c = c.machine_for.ensures.replaces_never_fall
+
+pub returns-in-Err-clause-loaded : goal.returns-in-Err-clause-loaded
+returns-in-Err-clause-loaded g c = tt
+
+pub returns-in-Err-clause-program : goal.returns-in-Err-clause-program
+returns-in-Err-clause-program g c = tt
+
+pub returns-in-Err-clause-default_machine : goal.returns-in-Err-clause-default_machine
+returns-in-Err-clause-default_machine g c = tt
+
+pub returns-in-Err-clause-unnamed : goal.returns-in-Err-clause-unnamed
+returns-in-Err-clause-unnamed g c = tt

@@ -33,3 +33,84 @@ pub returns-in-Ok-TooLong-clause-stops : goal.returns-in-Ok-TooLong-clause-stops
 returns-in-Ok-TooLong-clause-stops g c =
     words_long (is_named None None) c.args.name.now (effect_of g.D.Depot.files g.D.Depot.failed_reads g.D.Depot.failed_replaces c.args.depot.now c.read_file.new.depot) refl
     (rw c.in-Ok-TooLong.field-0-is at c.in-Ok-TooLong.ensures.content)
+
+pub returns-in-Ok-Whole-clause-same_files : goal.returns-in-Ok-Whole-clause-same_files
+returns-in-Ok-Whole-clause-same_files g c = c.read_file.ensures.same_files
+
+pub returns-in-Ok-Whole-clause-reads_never_fall : goal.returns-in-Ok-Whole-clause-reads_never_fall
+returns-in-Ok-Whole-clause-reads_never_fall g c = c.read_file.ensures.reads_never_fall
+
+pub returns-in-Ok-Whole-clause-replaces_never_fall : goal.returns-in-Ok-Whole-clause-replaces_never_fall
+returns-in-Ok-Whole-clause-replaces_never_fall g c = c.read_file.ensures.replaces_never_fall
+
+pub returns-in-Ok-TooLong-clause-same_files : goal.returns-in-Ok-TooLong-clause-same_files
+returns-in-Ok-TooLong-clause-same_files g c = c.read_file.ensures.same_files
+
+pub returns-in-Ok-TooLong-clause-reads_never_fall : goal.returns-in-Ok-TooLong-clause-reads_never_fall
+returns-in-Ok-TooLong-clause-reads_never_fall g c = c.read_file.ensures.reads_never_fall
+
+pub returns-in-Ok-TooLong-clause-replaces_never_fall : goal.returns-in-Ok-TooLong-clause-replaces_never_fall
+returns-in-Ok-TooLong-clause-replaces_never_fall g c = c.read_file.ensures.replaces_never_fall
+
+pub returns-in-Ok-TooLong-clause-sound : goal.returns-in-Ok-TooLong-clause-sound
+returns-in-Ok-TooLong-clause-sound g c = tt
+
+pub returns-in-Ok-TooLong-clause-program : goal.returns-in-Ok-TooLong-clause-program
+returns-in-Ok-TooLong-clause-program g c = tt
+
+pub returns-in-Ok-TooLong-clause-spells : goal.returns-in-Ok-TooLong-clause-spells
+returns-in-Ok-TooLong-clause-spells g c = tt
+
+pub returns-in-Err-Failed-clause-same_files : goal.returns-in-Err-Failed-clause-same_files
+returns-in-Err-Failed-clause-same_files g c = c.read_file.ensures.same_files
+
+pub returns-in-Err-Failed-clause-reads_never_fall : goal.returns-in-Err-Failed-clause-reads_never_fall
+returns-in-Err-Failed-clause-reads_never_fall g c = c.read_file.ensures.reads_never_fall
+
+pub returns-in-Err-Failed-clause-replaces_never_fall : goal.returns-in-Err-Failed-clause-replaces_never_fall
+returns-in-Err-Failed-clause-replaces_never_fall g c = c.read_file.ensures.replaces_never_fall
+
+pub returns-in-Err-Failed-clause-sound : goal.returns-in-Err-Failed-clause-sound
+returns-in-Err-Failed-clause-sound g c = tt
+
+pub returns-in-Err-Failed-clause-program : goal.returns-in-Err-Failed-clause-program
+returns-in-Err-Failed-clause-program g c = tt
+
+pub returns-in-Err-Failed-clause-spells : goal.returns-in-Err-Failed-clause-spells
+returns-in-Err-Failed-clause-spells g c = tt
+
+pub returns-in-Err-NoFile-clause-same_files : goal.returns-in-Err-NoFile-clause-same_files
+returns-in-Err-NoFile-clause-same_files g c = c.read_file.ensures.same_files
+
+pub returns-in-Err-NoFile-clause-reads_never_fall : goal.returns-in-Err-NoFile-clause-reads_never_fall
+returns-in-Err-NoFile-clause-reads_never_fall g c = c.read_file.ensures.reads_never_fall
+
+pub returns-in-Err-NoFile-clause-replaces_never_fall : goal.returns-in-Err-NoFile-clause-replaces_never_fall
+returns-in-Err-NoFile-clause-replaces_never_fall g c = c.read_file.ensures.replaces_never_fall
+
+pub returns-in-Err-NoFile-clause-sound : goal.returns-in-Err-NoFile-clause-sound
+returns-in-Err-NoFile-clause-sound g c = tt
+
+pub returns-in-Err-NoFile-clause-program : goal.returns-in-Err-NoFile-clause-program
+returns-in-Err-NoFile-clause-program g c = tt
+
+pub returns-in-Err-NoFile-clause-spells : goal.returns-in-Err-NoFile-clause-spells
+returns-in-Err-NoFile-clause-spells g c = tt
+
+pub returns-in-Err-NoMemory-clause-same_files : goal.returns-in-Err-NoMemory-clause-same_files
+returns-in-Err-NoMemory-clause-same_files g c = c.read_file.ensures.same_files
+
+pub returns-in-Err-NoMemory-clause-reads_never_fall : goal.returns-in-Err-NoMemory-clause-reads_never_fall
+returns-in-Err-NoMemory-clause-reads_never_fall g c = c.read_file.ensures.reads_never_fall
+
+pub returns-in-Err-NoMemory-clause-replaces_never_fall : goal.returns-in-Err-NoMemory-clause-replaces_never_fall
+returns-in-Err-NoMemory-clause-replaces_never_fall g c = c.read_file.ensures.replaces_never_fall
+
+pub returns-in-Err-NoMemory-clause-sound : goal.returns-in-Err-NoMemory-clause-sound
+returns-in-Err-NoMemory-clause-sound g c = tt
+
+pub returns-in-Err-NoMemory-clause-program : goal.returns-in-Err-NoMemory-clause-program
+returns-in-Err-NoMemory-clause-program g c = tt
+
+pub returns-in-Err-NoMemory-clause-spells : goal.returns-in-Err-NoMemory-clause-spells
+returns-in-Err-NoMemory-clause-spells g c = tt

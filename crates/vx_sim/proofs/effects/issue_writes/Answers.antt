@@ -9,6 +9,7 @@ use Rattle.vx_sim.specs.Named.{names_register}
 use Rattle.vx_sim.specs.Standing.{state_of}
 use Rattle.vx_sim.proofs.Issuing.{issued_more, moved_along, moved_more, rest_named}
 use Rattle.vx_sim.specs.Room.{HasRoom}
+use Rattle.vx_sim.proofs.Naming.{and_left}
 use Rattle.vx_sim.proofs.Sorting.{put_more}
 use Rattle.vx_sim.proofs.Turning.{nothing_put}
 use Rattle.vx_sim.proofs.Operations.{no_operation, operation_here}
@@ -58,3 +59,15 @@ pub returns-clause-has_room : goal.returns-clause-has_room
 returns-clause-has_room g c = λ widest few room.
     let all : c.loop-op.op-index ≡ length c.args.ops.now = omega (arith, c.loop-op-test.false, c.loop-op.auto.op-index-end) in
     subst (λ n. HasRoom widest n c.loop-op.ring) all (c.loop-op.invariant.has_room widest few room)
+
+pub issue-requires-clause-named : goal.issue-requires-clause-named
+issue-requires-clause-named g c =
+    let ops = c.args.ops.now in
+    let i = c.loop-op.op-index in
+    and_left (names_register (get_or ops i no_operation)) (list_all names_register (drop (i + 1) ops)) (ap (list_all names_register) (sym (operation_here ops i no_operation c.loop-op-test.true)) ∙ c.loop-op.invariant.named)
+
+pub returns-clause-timing : goal.returns-clause-timing
+returns-clause-timing g c =
+    let here = (goal.Timing-dyn g (c.loop-op.timing.vtable, c.loop-op.timing.value)).times c.loop-op.timing.value in
+    let all : drop c.loop-op.op-index c.args.ops.now ≡ [] = drop_of_length-le c.args.ops.now (omega (arith, c.loop-op-test.false)) in
+    ap (λ (os : List Operation). moved_by (asked_by os) here) (sym all) ∙ c.loop-op.invariant.timing

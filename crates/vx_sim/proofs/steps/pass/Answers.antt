@@ -7,7 +7,7 @@ use Rattle.vx_sim.specs.Flying.{flying_of}
 use Rattle.vx_sim.specs.Leads.{place_behind}
 use Rattle.vx_sim.specs.declared.shape.UnitCounts.{UnitCounts}
 use Rattle.vx_sim.specs.Standing.{state_of}
-use Rattle.vx_sim.proofs.Naming.{names_at, has_good_addresses}
+use Rattle.vx_sim.proofs.Naming.{names_at, has_good_addresses, place_below}
 use Rattle.vx_sim.proofs.Taking.{took}
 use Rattle.vx_sim.proofs.steps.pass.Goals as goal
 
@@ -44,3 +44,21 @@ returns-clause-took g c =
 
 pub lead_of_word-lead-requires-clause-control : goal.lead_of_word-lead-requires-clause-control
 lead_of_word-lead-requires-clause-control g c = ap (λ (counts : UnitCounts). counts.control) c.requires.counts ∙ ap (λ (ops : List Operation). count_by is_control ops) (sym c.as_slice.ensures)
+
+pub following-next-requires : goal.following-next-requires
+following-next-requires g c = place_below c.args.program.now.words c.args.now.now.place c.args.word.now c.requires.word
+
+pub lead_of_word-lead-requires-clause-following : goal.lead_of_word-lead-requires-clause-following
+lead_of_word-lead-requires-clause-following g c = c.following-next.ensures
+
+pub take_effect-requires-clause-size : goal.take_effect-requires-clause-size
+take_effect-requires-clause-size g c = c.requires.size
+
+pub take_effect-requires-clause-room : goal.take_effect-requires-clause-room
+take_effect-requires-clause-room g c = c.requires.room
+
+pub returns-clause-size_stays : goal.returns-clause-size_stays
+returns-clause-size_stays g c = c.take_effect.ensures.memory
+
+pub returns-clause-has_room : goal.returns-clause-has_room
+returns-clause-has_room g c = c.take_effect.ensures.has_room

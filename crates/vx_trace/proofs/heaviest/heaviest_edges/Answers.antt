@@ -1,6 +1,6 @@
 use Rattle.std.proofs.Common.{◌≡◌, ◌<◌, ◌≤◌, ◌∷◌, [], ◌++◌, ◌+◌, ℕ, zero, suc, None, Some, List, length, take, slice_set, slice_index_or, refl, sym, ap, ◌∙◌, subst, arith}
 use Rattle.std.proofs.Math.Seq.{take-suc}
-use Rattle.std.proofs.lemmas.List.{length-set}
+use Rattle.std.proofs.lemmas.List.{length-replicate, length-set}
 use Rattle.std.proofs.lemmas.Option.{slice_get-get_or}
 use Rattle.vx_flow.specs.declared.graph.Edge.{Edge}
 use Rattle.vx_mixed.specs.declared.mixed.MixedGraph.{MixedGraph}
@@ -9,7 +9,7 @@ use Rattle.vx_mixed.proofs.Linked.{index_in}
 use Rattle.vx_trace.specs.Growing.{better, Tabled}
 use Rattle.vx_trace.specs.Picked.{count_of_edge}
 use Rattle.vx_trace.proofs.Readings.{source_within, target_within}
-use Rattle.vx_trace.proofs.Tables.{tabled_more, has_heaviest}
+use Rattle.vx_trace.proofs.Tables.{tabled_none, tabled_more, has_heaviest}
 use Rattle.vx_trace.proofs.heaviest.heaviest_edges.Goals as goal
 
 abbrev none : Edge
@@ -38,6 +38,16 @@ offer-requires-in-loop-edge c =
     let e = slice_index_or c.edges-edges.result.now c.loop-edge.edge-index none in
     let s : e.to < length c.args.mixed.now.nodes = target_within c.args.mixed.now e c.keeps_valid.ensures (is_edge c.args.mixed.now c.edges-edges.result.now c.loop-edge.edge-index c.edges-edges.ensures c.loop-edge-test.true) in
     subst (λ n. e.to < n) (sym c.loop-edge.invariant.many_in) s
+
+pub loop-edge-init : goal.loop-edge-init
+loop-edge-init c =
+    let count = count_of_edge c.args.mixed.now c.args.counts.now in
+    record {
+      outs = tabled_none (λ e. e.from) (λ e. e.to) count _ c.in_ok-out.out.items c.in_ok-out.ensures;
+      ins = tabled_none (λ e. e.to) (λ e. e.from) count _ c.in_ok-into.into.items c.in_ok-into.ensures;
+      many_out = ap length c.in_ok-out.ensures ∙ length-replicate _ _ ∙ c.blocks-blocks.ensures;
+      many_in = ap length c.in_ok-into.ensures ∙ length-replicate _ _ ∙ c.blocks-blocks.ensures;
+    }
 
 pub loop-edge-preserved : goal.loop-edge-preserved
 loop-edge-preserved c =

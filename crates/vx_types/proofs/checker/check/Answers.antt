@@ -2,6 +2,7 @@ use Rattle.std.proofs.Common.{inr, ap, sym, ◌∙◌, Option}
 use Rattle.std.specs.Prelude.{option_map}
 use Rattle.vx_ast.specs.Accepted.{limit_of}
 use Rattle.vx_ast.specs.Reads.{faulty, over}
+use Rattle.vx_ast.specs.declared.tree.Program.{Program}
 use Rattle.vx_ast.specs.Tree as tree
 use Rattle.vx_ast.specs.SyntaxView.{program_of}
 use Rattle.vx_ast.specs.View as view
@@ -22,3 +23,6 @@ pub make-requires : goal.make-requires
 make-requires c =
     accepts (program_of c.args.program) (view.program_of c.in_ok-found.found.program) c.in_ok-found.ensures.program (sym c.in_ok-found.ensures.fault ∙ c.in-None.is)
     (sym c.in_ok-over.ensures.limit ∙ ap (λ (o : Option Over). option_map over_is o) c.in-None-over.is) (c.in_ok-over.ensures.words c.in-None-over.is)
+
+pub returns-clause-program : goal.returns-clause-program
+returns-clause-program c = ap (λ (z : Program). view.program_of z) c.make.ensures ∙ c.in_ok-found.ensures.program

@@ -1,12 +1,28 @@
-use Rattle.std.proofs.Common.{ap, sym, ◌∙◌, drop}
+use Rattle.std.proofs.Common.{◌≡◌, refl, ap, sym, ◌∙◌, drop, Result, Ok, Err, IfOk}
+use Rattle.vx_ast.specs.declared.syntax.Expression.{Expression as Written}
+use Rattle.vx_ast.specs.declared.tree.Expression.{Expression as Made}
 use Rattle.vx_ast.specs.Resolved.{tree_in}
+use Rattle.vx_ast.specs.Scopes.{Environment}
+use Rattle.vx_ast.specs.Syntax as syntax
 use Rattle.vx_ast.specs.Syntax.{Phrase}
-use Rattle.vx_ast.specs.Tree.{One}
+use Rattle.vx_ast.specs.Tree as tree
+use Rattle.vx_ast.specs.Tree.{Tree, One}
 use Rattle.vx_ast.specs.SyntaxView.{phrase_of}
+use Rattle.vx_ast.specs.View.{tree_of}
 use Rattle.std.proofs.lemmas.List.{drop_all}
 use Rattle.vx_types.proofs.Rows.{call_made, row_made_step, row_made_end}
 use Rattle.vx_types.proofs.Views.{call_written}
 use Rattle.vx_types.proofs.expressions.+resolved.Goals as goal
+
+-- two operands, whatever is made of them
+two_made : (f : Tree One → Tree One → Tree One) (env : Environment) (s : Written) (k : Phrase One) (left first right second : Tree One) → phrase_of s ≡ k → left ≡ first → right ≡ second → f first second ≡ tree_in env k → f left right ≡ tree_in env (phrase_of s)
+two_made f env s k left first right second e l r h = ap (λ (z : Tree One). f z right) l ∙ ap (λ (z : Tree One). f first z) r ∙ h ∙ ap (λ (z : Phrase One). tree_in env z) (sym e)
+
+choice_made : {E : Type 0} (r : Result Made E) (env : Environment) (s : Written) (a b c : Phrase One) (test left : Tree One) → phrase_of s ≡ syntax.Choice a b c → test ≡ tree_in env a → left ≡ tree_in env b
+    → IfOk r (λ m. tree_of m ≡ tree.Choice test left (tree_in env c)) → IfOk r (λ m. tree_of m ≡ tree_in env (phrase_of s))
+choice_made (Err x) env s a b c test left e t l h = tt
+choice_made (Ok x) env s a b c test left e t l h =
+    h ∙ ap (λ (z : Tree One). tree.Choice z left (tree_in env c)) t ∙ ap (λ (z : Tree One). tree.Choice (tree_in env a) z (tree_in env c)) l ∙ ap (λ (z : Phrase One). tree_in env z) (sym e)
 
 pub resolve-returns-in_ok-row-in-Call : goal.resolve-returns-in_ok-row-in-Call
 resolve-returns-in_ok-row-in-Call t c =
@@ -20,3 +36,42 @@ resolve_row-loop-argument-preserved t c =
 
 pub resolve_row-returns : goal.resolve_row-returns
 resolve_row-returns t c = row_made_end c.args.names.now c.loop-argument.made.items (drop c.loop-argument.argument-index c.args.row.now) _ (drop_all c.loop-argument.argument-index c.args.row.now c.loop-argument-test.false) c.loop-argument.invariant
+
+pub resolve-returns-in_ok-both-in-Binary : goal.resolve-returns-in_ok-both-in-Binary
+resolve-returns-in_ok-both-in-Binary t c =
+    let k = syntax.Binary c.in-Binary.operator (phrase_of c.deref-in-Binary.result.now) (phrase_of c.deref-in-Binary-2.result.now) in
+    let e : phrase_of c.args.expression.now ≡ k =
+    ap phrase_of c.in-Binary.is ∙ ap (λ (z : Written). syntax.Binary c.in-Binary.operator (phrase_of z) (phrase_of c.in-Binary.right.value)) (sym c.deref-in-Binary.ensures)
+    ∙ ap (λ (z : Written). syntax.Binary c.in-Binary.operator (phrase_of c.deref-in-Binary.result.now) (phrase_of z)) (sym c.deref-in-Binary-2.ensures) in
+    let both = c.in_ok-both-in-Binary in
+    two_made (tree.Binary c.in-Binary.operator) c.args.names.now c.args.expression.now k (tree_of both.both.left.value) (tree_in c.args.names.now (phrase_of c.deref-in-Binary.result.now)) (tree_of both.both.right.value) (tree_in c.args.names.now (phrase_of c.deref-in-Binary-2.result.now)) e
+    (both.ensures.left ∙ c.in_ok-left-in-Binary.ensures) both.ensures.right refl
+
+pub resolve-returns-in_ok-both-in-Both : goal.resolve-returns-in_ok-both-in-Both
+resolve-returns-in_ok-both-in-Both t c =
+    let k = syntax.Both (phrase_of c.deref-in-Both.result.now) (phrase_of c.deref-in-Both-2.result.now) in
+    let e : phrase_of c.args.expression.now ≡ k =
+    ap phrase_of c.in-Both.is ∙ ap (λ (z : Written). syntax.Both (phrase_of z) (phrase_of c.in-Both.right.value)) (sym c.deref-in-Both.ensures)
+    ∙ ap (λ (z : Written). syntax.Both (phrase_of c.deref-in-Both.result.now) (phrase_of z)) (sym c.deref-in-Both-2.ensures) in
+    let both = c.in_ok-both-in-Both in
+    two_made tree.Both c.args.names.now c.args.expression.now k (tree_of both.both.left.value) (tree_in c.args.names.now (phrase_of c.deref-in-Both.result.now)) (tree_of both.both.right.value) (tree_in c.args.names.now (phrase_of c.deref-in-Both-2.result.now)) e
+    (both.ensures.left ∙ c.in_ok-left-in-Both.ensures) both.ensures.right refl
+
+pub resolve-returns-in_ok-both-in-Either : goal.resolve-returns-in_ok-both-in-Either
+resolve-returns-in_ok-both-in-Either t c =
+    let k = syntax.Either (phrase_of c.deref-in-Either.result.now) (phrase_of c.deref-in-Either-2.result.now) in
+    let e : phrase_of c.args.expression.now ≡ k =
+    ap phrase_of c.in-Either.is ∙ ap (λ (z : Written). syntax.Either (phrase_of z) (phrase_of c.in-Either.right.value)) (sym c.deref-in-Either.ensures)
+    ∙ ap (λ (z : Written). syntax.Either (phrase_of c.deref-in-Either.result.now) (phrase_of z)) (sym c.deref-in-Either-2.ensures) in
+    let both = c.in_ok-both-in-Either in
+    two_made tree.Either c.args.names.now c.args.expression.now k (tree_of both.both.left.value) (tree_in c.args.names.now (phrase_of c.deref-in-Either.result.now)) (tree_of both.both.right.value) (tree_in c.args.names.now (phrase_of c.deref-in-Either-2.result.now)) e
+    (both.ensures.left ∙ c.in_ok-left-in-Either.ensures) both.ensures.right refl
+
+pub resolve-returns-in_ok-left-in-Choice : goal.resolve-returns-in_ok-left-in-Choice
+resolve-returns-in_ok-left-in-Choice t c =
+    let e : phrase_of c.args.expression.now ≡ syntax.Choice (phrase_of c.deref-in-Choice.result.now) (phrase_of c.deref-in-Choice-2.result.now) (phrase_of c.deref-in-Choice-3.result.now) =
+    ap phrase_of c.in-Choice.is ∙ ap (λ (z : Written). syntax.Choice (phrase_of z) (phrase_of c.in-Choice.left.value) (phrase_of c.in-Choice.right.value)) (sym c.deref-in-Choice.ensures)
+    ∙ ap (λ (z : Written). syntax.Choice (phrase_of c.deref-in-Choice.result.now) (phrase_of z) (phrase_of c.in-Choice.right.value)) (sym c.deref-in-Choice-2.ensures)
+    ∙ ap (λ (z : Written). syntax.Choice (phrase_of c.deref-in-Choice.result.now) (phrase_of c.deref-in-Choice-2.result.now) (phrase_of z)) (sym c.deref-in-Choice-3.ensures) in
+    choice_made c.choice_behind.result c.args.names.now c.args.expression.now (phrase_of c.deref-in-Choice.result.now) (phrase_of c.deref-in-Choice-2.result.now) (phrase_of c.deref-in-Choice-3.result.now) (tree_of c.in_ok-test-in-Choice.test.value) (tree_of c.in_ok-left-in-Choice.left.value) e
+    c.in_ok-test-in-Choice.ensures c.in_ok-left-in-Choice.ensures c.choice_behind.ensures

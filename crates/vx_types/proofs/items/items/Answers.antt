@@ -15,3 +15,13 @@ pub returns-clause-made : goal.returns-clause-made
 returns-clause-made c =
     (items_end Int false c.loop-one.made.items c.loop-one.names c.loop-one.first (drop c.loop-one.one-index c.args.all.now) c.args.names.now c.args.first.now c.args.all.now c.loop-one.invariant
     (drop_all c.loop-one.one-index c.args.all.now c.loop-one-test.false)).0
+
+pub returns-clause-known : goal.returns-clause-known
+returns-clause-known c =
+    (items_end Int false c.loop-one.made.items c.loop-one.names c.loop-one.first (drop c.loop-one.one-index c.args.all.now) c.args.names.now c.args.first.now c.args.all.now c.loop-one.invariant
+    (drop_all c.loop-one.one-index c.args.all.now c.loop-one-test.false)).1
+
+pub returns-clause-faults : goal.returns-clause-faults
+returns-clause-faults c =
+    (items_end Int false c.loop-one.made.items c.loop-one.names c.loop-one.first (drop c.loop-one.one-index c.args.all.now) c.args.names.now c.args.first.now c.args.all.now c.loop-one.invariant
+    (drop_all c.loop-one.one-index c.args.all.now c.loop-one-test.false)).2

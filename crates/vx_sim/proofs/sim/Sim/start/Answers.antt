@@ -4,3 +4,12 @@ use Rattle.vx_sim.proofs.sim.Sim.start.Goals as goal
 
 pub returns-clause-stands : goal.returns-clause-stands
 returns-clause-stands c = same_state _ _ refl refl c.zeros.ensures c.in_ok-ring.ensures.empty c.in_ok-memory.ensures.words refl refl refl
+
+pub returns-clause-program : goal.returns-clause-program
+returns-clause-program c = refl
+
+pub returns-clause-machine : goal.returns-clause-machine
+returns-clause-machine c = refl
+
+pub returns-clause-fresh : goal.returns-clause-fresh
+returns-clause-fresh c = (refl, refl)
