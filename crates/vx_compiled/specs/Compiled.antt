@@ -1,5 +1,5 @@
 -- What the words that the compiler writes, and the plan that it reports, owe to the program that was read.
-use Rattle.std.specs.Prelude.{◌≡◌, ◌+◌, ℕ, true, List, [], ◌∷◌, map}
+use Rattle.std.specs.Prelude.{◌≡◌, refl, ◌+◌, ℕ, true, List, [], ◌∷◌, map}
 use Rattle.std.specs.List.{flat_map, sum_by}
 use Rattle.vx_isa.specs.declared.program.WordProgram.{WordProgram}
 use Rattle.vx_isa.specs.Numbers.{Numbers}
@@ -78,6 +78,10 @@ slot_of Nowhere = 0
 -- how many values of a function are in slots
 abbrev pub in_slots : List Kept → ℕ
 in_slots kept = sum_by slot_of kept
+
+-- of a value in a register, one in a slot and one that is nowhere
+one_of_three : in_slots (InRegister 3 ∷ InSlot 0 ∷ Nowhere ∷ []) ≡ 1
+one_of_three = refl
 
 -- of all functions
 abbrev pub all_in_slots : List RegMap → ℕ
