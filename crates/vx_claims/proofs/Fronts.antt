@@ -1,5 +1,5 @@
 -- Lists that are gone over: the item in front, and the item that comes next.
-use Rattle.std.proofs.Common.{◌≡◌, ℕ, ◌+◌, ◌-◌, ◌<◌, ◌≤◌, ◌==◌, ◌&&◌, ◌⊎◌, inl, inr, Bool, true, false, List, [], ◌∷◌, ◌++◌, length, take, drop, get_or, Option, Some, None, refl, sym, ap, ◌∙◌, arith}
+use Rattle.std.proofs.Common.{◌≡◌, ℕ, ◌+◌, ◌-◌, ◌<◌, ◌≤◌, ◌==◌, ◌&&◌, ◌⊎◌, inl, inr, Bool, true, false, List, [], ◌∷◌, ◌++◌, length, take, drop, get_or, Some, None, sym, ap, ◌∙◌, arith}
 use Rattle.std.proofs.lemmas.Bool.Decides.{eqb_tells}
 use Rattle.std.proofs.lemmas.List.{append_assoc, take_all, take_more}
 use Rattle.vx_base.specs.declared.arithmetic.Code.{Code}
@@ -15,6 +15,10 @@ use Rattle.vx_claims.specs.Accesses.{first_or, place_in, value_if}
 pub front : {X : Type 0} (xs : List X) (d x : X) → 1 ≤ length xs → get_or xs 0 d ≡ x → xs ≡ x ∷ take (length xs - 1) (drop 1 xs)
 front [] d x n e = absurd (omega (arith, n))
 front (y ∷ ys) d x n e = ap (λ z. z ∷ ys) e ∙ ap (λ zs. x ∷ zs) (sym (take_all (length (y ∷ ys) - 1) ys (omega arith)))
+
+pub put_front : {X : Type 0} (said old mid new : List X) (d : X) → 1 ≤ length said → mid ≡ take (length said - 1) (drop 1 said) ++ old → new ≡ get_or said 0 d ∷ mid → new ≡ said ++ old
+put_front [] old mid new d n m e = absurd (omega (arith, n))
+put_front (x ∷ xs) old mid new d n m e = e ∙ ap (λ l. x ∷ l) (m ∙ ap (λ l. l ++ old) (take_all (length (x ∷ xs) - 1) xs (omega arith)))
 
 pub pushed : {X : Type 0} (start list new all : List X) (i : ℕ) (d : X) → list ≡ start ++ take i all → new ≡ list ++ get_or all i d ∷ [] → i < length all → new ≡ start ++ take (i + 1) all
 pushed start list new all i d e p n =

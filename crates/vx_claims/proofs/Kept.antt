@@ -56,6 +56,13 @@ said_computed list lies fs t op code v a b w i j is f p q r h =
     ap (λ x. x ++ e) h ∙ append_assoc list (lies_in v w []) e ∙ ap (λ x. list ++ x) (sym (lies_before v w [] e)) ∙ ap (λ x. list ++ lies_in v x e) k
     ∙ ap (λ x. list ++ said_unless false fs x) (sym is) ∙ ap (λ x. list ++ said_unless x fs op) (sym f)
 
+-- what is put at the end of a list for a computation
+pub said_pushed : (list lies new fs : List Fact) (code : Code) (v : ℕ) (a b : Operand) (w i j : Interval) → i ≡ range_of fs a → j ≡ range_of fs b → w ≡ result_within code i j → lies ≡ list ++ lies_in v w [] → (is_value v a || is_value v b) ≡ false → new ≡ lies ++ Equals v code a b ∷ [] → new ≡ list ++ said_by fs (Compute code v a b)
+said_pushed list lies new fs code v a b w i j p q r h f n =
+    let e : List Fact = equals_if (is_value v a || is_value v b) v code a b in
+    let k : w ≡ result_within code (range_of fs a) (range_of fs b) = r ∙ ap (λ x. result_within code x j) p ∙ ap (λ x. result_within code (range_of fs a) x) q in
+    n ∙ ap (λ t. lies ++ equals_if t v code a b) (sym f) ∙ ap (λ x. x ++ e) h ∙ append_assoc list (lies_in v w []) e ∙ ap (λ x. list ++ x) (sym (lies_before v w [] e)) ∙ ap (λ x. list ++ lies_in v x e) k
+
 -- ---- where there is nothing to forget
 
 pub none_named : (v : ℕ) (fs : List Fact) → list_any (names v) fs ≡ false → fs ≡ without v fs

@@ -2,3 +2,6 @@ mod Formed
 mod Kept
 mod IntervalRows
 mod Fronts
+mod Turns
+mod Bounds
+mod Newest

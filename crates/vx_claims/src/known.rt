@@ -1,7 +1,6 @@
 // What lists of facts say: where a value lies, whether a value holds what an operation gives, and how a test comes out.
 
 ghost use Rattle.std.specs.Prelude.{◌≡◌};
-ghost use Rattle.std.specs.List.{list_all};
 ghost use Rattle.vx_claims.specs.Facts.{decided, decided_by, decided_if, found, has_equals, is_claimed, range, range_of, same_code, same_compare, same_operand};
 ghost use Rattle.vx_claims.specs.Claims.{give, gives, is_inside};
 
@@ -222,5 +221,10 @@ fn gives(facts: &[Fact], claim: Fact) -> bool
 pub fn give(facts: &[Fact], claims: &[Fact]) -> bool
     ensures { result ≡ give facts.now claims.now }
 {
-    claims.iter().all(|claim| gives(facts, *claim))
+    for claim in claims {
+        if !gives(facts, *claim) {
+            return false;
+        }
+    }
+    true
 }

@@ -121,7 +121,12 @@ fn forget(alloc: Global, facts: &mut Vec<Fact>, written: Option<Value>) -> Resul
 fn any_names(facts: &[Fact], value: Value) -> bool
     ensures { result ≡ list_any (names value) facts.now }
 {
-    facts.iter().any(|fact| names(value, *fact))
+    for fact in facts {
+        if names(value, *fact) {
+            return true;
+        }
+    }
+    false
 }
 
 /// Puts facts before others.

@@ -32,9 +32,12 @@ pub fn target(to: &[BlockId], block: BlockId) -> BlockId
 fn are_linked(to: &[BlockId], blocks: &[Block], chains: &[Listed<BlockId>]) -> bool
     ensures { result ≡ list_all (is_linked (moves to.now) blocks.now chains.now) chains.now }
 {
-    chains
-        .iter()
-        .all(|chain| is_linked(to, blocks, chains, chain.as_slice()))
+    for chain in chains {
+        if !is_linked(to, blocks, chains, chain.as_slice()) {
+            return false;
+        }
+    }
+    true
 }
 
 /// Whether each block of a chain leads to the blocks behind it, and the last one to starts of chains.

@@ -1,6 +1,6 @@
 -- Equal expressions: what the tests say.
 use Rattle.std.proofs.Common.{◌≡◌, ℕ, ◌==◌, Bool, true, false, ◌&&◌, ◌||◌, List, [], ◌∷◌, Option, Some, refl, sym, ap, ◌∙◌}
-use Rattle.std.proofs.lemmas.Bool.{eqb-true}
+use Rattle.std.proofs.lemmas.Bool.{eqb-true, false≢true}
 use Rattle.vx_base.proofs.ArithmeticLaws.{equal-true}
 use Rattle.vx_base.specs.declared.arithmetic.Compare.{Compare}
 use Rattle.vx_base.specs.declared.arithmetic.Compare.TheVariants.{Eq, Ne, Lt, Le, Gt, Ge, Ltu, Geu}
@@ -23,7 +23,7 @@ compare_is Gt Gt e = refl
 compare_is Ge Ge e = refl
 compare_is Ltu Ltu e = refl
 compare_is Geu Geu e = refl
-compare_is c d e = absurd (cc)
+compare_is c d e = absurd (false≢true e)
 
 pub code_is : (c d : Code) → same_code c d ≡ true → c ≡ d
 code_is Add Add e = refl
@@ -44,12 +44,12 @@ code_is Div Div e = refl
 code_is Rem Rem e = refl
 code_is (ToGeneral c) (ToGeneral d) e = ap ToGeneral (compare_is c d e)
 code_is (ToBranch c) (ToBranch d) e = ap ToBranch (compare_is c d e)
-code_is c d e = absurd (cc)
+code_is c d e = absurd (false≢true e)
 
 pub operand_is : (x y : Operand) → same_operand x y ≡ true → x ≡ y
 operand_is (Held u) (Held v) e = ap Held (eqb-true u v e)
 operand_is (Number m) (Number n) e = ap Number (equal-true m n e)
-operand_is x y e = absurd (cc)
+operand_is x y e = absurd (false≢true e)
 
 module _ (values : ℕ → Content) where
   same_holds : (u v : ℕ) (c d : Code) (a b a' b' : Operand) → u ≡ v → c ≡ d → a ≡ a' → b ≡ b' → Holds values (Equals u c a b) → Holds values (Equals v d a' b')

@@ -1,6 +1,6 @@
 -- An operation in its other form does the same.
 use Rattle.std.proofs.Common.{◌≡◌, ℕ, Bool, true, false, pos, List, [], ◌∷◌, length, Option, Some, None, refl, sym, ap, ◌∙◌, subst}
-use Rattle.std.proofs.lemmas.Bool.{eqb-true}
+use Rattle.std.proofs.lemmas.Bool.{eqb-true, false≢true}
 use Rattle.vx_base.specs.declared.arithmetic.Code.{Code}
 use Rattle.vx_base.specs.declared.arithmetic.Code.TheVariants.{Mov}
 use Rattle.vx_flow.specs.declared.graph.Operand.{Operand}
@@ -19,7 +19,7 @@ use Rattle.vx_facts.proofs.Operations.{OpFits, number_fits, held_is}
 module _ (values : ℕ → Content) where
   moved_holds : (v u : ℕ) (code : Code) (a b : Operand) → moves v u code ≡ true → Holds values (Equals u code a b) → content values a ≡ values v
   moved_holds v u Mov a b e h = sym h ∙ ap values (eqb-true u v e)
-  moved_holds v u code a b e h = absurd (cc)
+  moved_holds v u code a b e h = absurd (false≢true e)
 
   operand_holds : (t : Bool) (a x : Operand) (c : Content) → (t ≡ true → content values a ≡ c) → content values x ≡ c → content values (operand_if t a x) ≡ c
   operand_holds true a x c h k = h refl

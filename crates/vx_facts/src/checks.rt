@@ -50,13 +50,23 @@ fn has_numbers(op: &Op) -> bool
 fn have_numbers(ops: &[Op]) -> bool
     ensures { result ≡ list_all has_numbers ops.now }
 {
-    ops.iter().all(|op| has_numbers(op))
+    for op in ops {
+        if !has_numbers(op) {
+            return false;
+        }
+    }
+    true
 }
 
 fn are_numbers(operands: &[Operand]) -> bool
     ensures { result ≡ list_all has_number operands.now }
 {
-    operands.iter().all(|operand| has_number(*operand))
+    for operand in operands {
+        if !has_number(*operand) {
+            return false;
+        }
+    }
+    true
 }
 
 /// Whether the facts and what is known of arrays give what is claimed at a block.

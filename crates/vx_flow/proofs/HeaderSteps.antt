@@ -37,7 +37,7 @@ or_left_swap true true c = refl
 or_left_swap true false c = refl
 or_left_swap false b c = refl
 
-length_set : (marks : List Bool) (to : ℕ) → length (slice_set marks to true) ≡ length marks
+pub length_set : (marks : List Bool) (to : ℕ) → length (slice_set marks to true) ≡ length marks
 length_set [] to = refl
 length_set (x ∷ marks) zero = refl
 length_set (x ∷ marks) (suc to) = let h = length_set marks to in omega arith

@@ -10,6 +10,7 @@ pub mod ClosingSteps
 pub mod Ascending
 pub mod WalkSteps
 pub mod HeaderSteps
+pub mod Copying
 pub mod SoundLeads
 pub mod SoundLists
 pub mod SoundNames

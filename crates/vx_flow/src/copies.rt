@@ -61,15 +61,19 @@ fn copied_blocks(alloc: Global, blocks: &[Block]) -> Result<Listed<Block>, NoMem
 pub fn with_blocks(alloc: Global, graph: &Graph, blocks: Listed<Block>) -> Result<Graph, NoMemory>
     ensures { IfOk result (λ copy. copy ≡ record graph.now { blocks = blocks }) }
 {
-    let banks = copied(alloc, graph.banks.as_slice())?;
-    let parameters = copied(alloc, graph.parameters.as_slice())?;
-    let arrays = copied(alloc, graph.arrays.as_slice())?;
-    Ok(Graph {
-        blocks,
-        banks,
-        parameters,
-        arrays,
-    })
+    match (
+        copied(alloc, graph.banks.as_slice()),
+        copied(alloc, graph.parameters.as_slice()),
+        copied(alloc, graph.arrays.as_slice()),
+    ) {
+        (Ok(banks), Ok(parameters), Ok(arrays)) => Ok(Graph {
+            blocks,
+            banks,
+            parameters,
+            arrays,
+        }),
+        _ => Err(NoMemory),
+    }
 }
 
 /// A copy of a graph.
@@ -139,20 +143,24 @@ pub fn copied_joins(alloc: Global, joins: &[Join]) -> Result<Listed<Join>, NoMem
 pub fn copied_trace(alloc: Global, trace: &Trace) -> Result<Trace, NoMemory>
     ensures { IfOk result (λ copy. copy ≡ trace.now) }
 {
-    let blocks = copied(alloc, trace.blocks.as_slice())?;
-    let ops = copied_ops(alloc, trace.ops.as_slice())?;
-    let fixed = copied(alloc, trace.fixed.as_slice())?;
-    let joins = copied_joins(alloc, trace.joins.as_slice())?;
-    let arrays = copied(alloc, trace.arrays.as_slice())?;
-    Ok(Trace {
-        function: trace.function,
-        blocks,
-        ops,
-        fixed,
-        joins,
-        values: trace.values,
-        arrays,
-    })
+    match (
+        copied(alloc, trace.blocks.as_slice()),
+        copied_ops(alloc, trace.ops.as_slice()),
+        copied(alloc, trace.fixed.as_slice()),
+        copied_joins(alloc, trace.joins.as_slice()),
+        copied(alloc, trace.arrays.as_slice()),
+    ) {
+        (Ok(blocks), Ok(ops), Ok(fixed), Ok(joins), Ok(arrays)) => Ok(Trace {
+            function: trace.function,
+            blocks,
+            ops,
+            fixed,
+            joins,
+            values: trace.values,
+            arrays,
+        }),
+        _ => Err(NoMemory),
+    }
 }
 
 /// A copy of a clustered trace.

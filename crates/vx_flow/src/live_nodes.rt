@@ -7,7 +7,7 @@ ghost use Rattle.vx_flow.specs.declared.routes.Route.{Route};
 ghost use Rattle.vx_flow.specs.Effects.{IsIn};
 ghost use Rattle.std.specs.List.{list_any};
 ghost use Rattle.vx_flow.specs.Live.{first_touch, LiveOn};
-ghost use Rattle.vx_flow.specs.Rows.{Added, is_marked, row_at};
+ghost use Rattle.vx_flow.specs.Rows.{Added, is_marked};
 ghost use Rattle.vx_flow.specs.Closing.{BeginWithin, Closing, EnteringFound, PutUnder, Spreads, Starting, cleared_row, marked_pending, marked_row, passes, pending_passed, pending_started, row_passed, row_started, starts};
 
 use crate::graph::{BlockId, Value};
@@ -32,7 +32,12 @@ pub fn first_touch(touches: &[Touch], value: Value) -> Option<bool>
 fn is_among(nodes: &[BlockId], node: BlockId) -> bool
     ensures { result ≡ list_any (λ u. u == node) nodes.now }
 {
-    nodes.iter().any(|other| *other == node)
+    for other in nodes {
+        if *other == node {
+            return true;
+        }
+    }
+    false
 }
 
 /// Whether the route reads the value before writing it.

@@ -35,14 +35,12 @@ pub fn targets_of(alloc: Global, exit: &Exit) -> Result<Listed<BlockId>, NoMemor
 {
     let mut targets = Listed::new(alloc);
     match exit {
-        Exit::Goto(to) => targets.push(*to)?,
+        Exit::Goto(to) | Exit::Call { next: to, .. } => targets.push(*to)?,
         Exit::Split { yes, no, .. } => {
             targets.push(*yes)?;
             targets.push(*no)?;
         }
-        Exit::Call { next, .. } => targets.push(*next)?,
-        Exit::Return(_) => {}
-        Exit::Ends(_) => {}
+        Exit::Return(_) | Exit::Ends(_) => {}
     }
     Ok(targets)
 }

@@ -1,3 +1,4 @@
 mod Folds
 mod FoldRuns
 mod FoldFlow
+mod Alls

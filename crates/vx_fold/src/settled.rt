@@ -103,7 +103,12 @@ fn settles(numbers: &[Option<i32>], op: &Op) -> bool
 fn all_settle(numbers: &[Option<i32>], ops: &[Op]) -> bool
     ensures { result ≡ list_all (settles (numbers_of numbers.now)) ops.now }
 {
-    ops.iter().all(|op| settles(numbers, op))
+    for op in ops {
+        if !settles(numbers, op) {
+            return false;
+        }
+    }
+    true
 }
 
 fn settles_exit(numbers: &[Option<i32>], exit: &Exit) -> bool
@@ -127,13 +132,23 @@ fn settles_block(numbers: &[Option<i32>], block: &Block) -> bool
 fn blocks_settle(numbers: &[Option<i32>], blocks: &[Block]) -> bool
     ensures { result ≡ list_all (settles_block (numbers_of numbers.now)) blocks.now }
 {
-    blocks.iter().all(|block| settles_block(numbers, block))
+    for block in blocks {
+        if !settles_block(numbers, block) {
+            return false;
+        }
+    }
+    true
 }
 
 fn are_without(numbers: &[Option<i32>], values: &[Value]) -> bool
     ensures { result ≡ list_all (λ v. no_number (numbers_of numbers.now v)) values.now }
 {
-    values.iter().all(|value| is_without(numbers, *value))
+    for value in values {
+        if !is_without(numbers, *value) {
+            return false;
+        }
+    }
+    true
 }
 
 /// Whether what writes a value with a number computes that number, everywhere in a graph.

@@ -1,5 +1,5 @@
 -- Sums that stop at the greatest number of 64 bits.
-use Rattle.std.proofs.Common.{◌≡◌, ℕ, ◌+◌, ◌<◌, ◌^◌, ap, ◌∙◌, arith}
+use Rattle.std.proofs.Common.{◌≡◌, ◌≢◌, ℕ, ◌+◌, ◌<◌, ◌≤◌, ◌^◌, ap, ◌∙◌, arith}
 use Rattle.vx_limits.specs.Capped.{capped}
 
 pub capped_sum : (a b : ℕ) → capped (capped a + capped b) ≡ capped (a + b)
@@ -27,3 +27,11 @@ capped_tail x y b f = omega (arith, f)
 
 pub uncapped : (x a : ℕ) → x ≡ capped a → a < 2 ^ 32 → x ≡ a
 uncapped x a e h = omega (arith, e, h)
+
+-- a count within a limit, and one that was not stopped
+
+pub within_limit : (x a most : ℕ) → x ≡ capped a → x ≤ most → most < 18446744073709551615 → a ≤ most
+within_limit x a most e h k = omega (arith, e, h, k)
+
+pub over_limit : (x a : ℕ) → x ≡ capped a → x ≢ 18446744073709551615 → x ≡ a
+over_limit x a e n = omega (arith, e, n)

@@ -57,6 +57,15 @@ pub over_found : {A : Type 0} (G : List A → List ℕ) (k most g : ℕ) (all : 
     → G (x ∷ drop (i + 1) all) ≡ g ∷ G (drop (i + 1) all) → most < g → Some (over_of k g) ≡ whole
 over_found G k most g all i x whole s h e l p = sym (over_stops k most g (G (drop (i + 1) all)) p) ∙ ap (λ z. over k most z) (sym l) ∙ sym (ap (λ z. over k most (G z)) (drop_next all i x h e)) ∙ s
 
+-- the same where the count is known as another number
+pub over_found_count : {A : Type 0} (G : List A → List ℕ) (k most count g : ℕ) (all : List A) (i : ℕ) (x : A) (whole : Option Over) → over k most (G (drop i all)) ≡ whole → i < length all → x ≡ get_or all i x
+    → G (x ∷ drop (i + 1) all) ≡ g ∷ G (drop (i + 1) all) → most < count → count ≡ g → Some (over_of k count) ≡ whole
+over_found_count G k most count g all i x whole s h e l p is = over_found G k most count all i x whole s h e (l ∙ ap (λ (n : ℕ). n ∷ G (drop (i + 1) all)) (sym is)) p
+
+-- what holds of an item and of those behind it holds of all that are left
+pub words_left : {A : Type 0} (W : List A → Bool) (w : Bool) (all : List A) (i : ℕ) (x : A) → i < length all → x ≡ get_or all i x → W (x ∷ drop (i + 1) all) ≡ (w && W (drop (i + 1) all)) → w ≡ true → W (drop (i + 1) all) ≡ true → W (drop i all) ≡ true
+words_left W w all i x h e l t r = ap W (drop_next all i x h e) ∙ l ∙ and_from w (W (drop (i + 1) all)) t r
+
 -- the same where an item has several counts
 pub over_left_all : {A : Type 0} (G : List A → List ℕ) (k most : ℕ) (gs : List ℕ) (all : List A) (i : ℕ) (x : A) (whole : Option Over) → over k most (G (drop i all)) ≡ whole → i < length all → x ≡ get_or all i x
     → G (x ∷ drop (i + 1) all) ≡ gs ++ G (drop (i + 1) all) → None ≡ over k most gs → over k most (G (drop (i + 1) all)) ≡ whole

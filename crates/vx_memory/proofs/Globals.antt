@@ -1,12 +1,14 @@
 -- Where globals begin, and how memory starts.
-use Rattle.std.proofs.Common.{◌≡◌, ◌≢◌, ◌<◌, ◌≤◌, ◌+◌, ◌*◌, ◌%◌, ℕ, zero, suc, ℤ, pos, Bool, true, false, nat_lt, Some, None, List, [], ◌∷◌, ◌++◌, length, slice_get, slice_index_or, refl, sym, ap, ◌∙◌, subst, arith}
+use Rattle.std.proofs.Common.{◌≡◌, ◌≢◌, ◌<◌, ◌≤◌, ◌+◌, ◌*◌, ◌%◌, ℕ, drop, get_or, zero, suc, ℤ, pos, Bool, true, false, nat_lt, Some, None, List, [], ◌∷◌, ◌++◌, length, slice_get, slice_index_or, refl, sym, ap, ◌∙◌, subst, arith}
 use Rattle.std.specs.Prelude.{if◌then◌else◌, ◌==◌}
 use Rattle.std.proofs.lemmas.Bool.{and_parts, and_from, cond-false, cond-true, eq-eqb, le-leb, lt-ltb, ltb-true, ne_eqb}
+use Rattle.std.proofs.lemmas.List.{at_drop_more}
 use Rattle.vx_flow.specs.declared.graph.Global.{Global}
 use Rattle.vx_isa.specs.Machine.{memory_at_start}
 use Rattle.vx_isa.specs.Sound.{is_not_zero, is_start}
 use Rattle.vx_target.specs.Carried.{first_or_zero, words_before}
-use Rattle.vx_memory.specs.Globals.{begins_from, firsts_from, is_set, words_in}
+use Rattle.vx_memory.proofs.Pieces.{placed_more}
+use Rattle.vx_memory.specs.Globals.{begins_from, first_from, firsts_from, is_set, words_in}
 
 -- begins
 
@@ -93,3 +95,13 @@ ascends_from n (g ∷ gs) memory least low high = one_ascends (is_set g) g n mem
 
 pub ascends : (gs : List Global) (memory : ℕ) → 4 * words_before gs (length gs) ≤ memory → is_start memory 0 (firsts_from 0 gs) ≡ true
 ascends gs memory h = ascends_from 0 gs memory 0 (omega arith) (omega arith)
+
+-- the words of one more
+pub words_more : (gs : List Global) (i n next whole : ℕ) (g : Global) → n + words_in (drop i gs) ≡ whole → i < length gs → next ≡ n + (get_or gs i g).words → next + words_in (drop (i + 1) gs) ≡ whole
+words_more gs i n next whole g so_far lt is = let e = at_drop_more words_in gs i g lt in omega (arith, e, is, so_far)
+
+-- the first word of one more
+pub first_more : (gs : List Global) (i n next : ℕ) (g : Global) (out now whole : List (ℕ × ℤ)) → out ++ firsts_from n (drop i gs) ≡ whole → i < length gs → now ≡ out ++ first_from n (get_or gs i g) → next ≡ n + (get_or gs i g).words → now ++ firsts_from next (drop (i + 1) gs) ≡ whole
+first_more gs i n next g out now whole so_far lt put is =
+    let first = first_from n (get_or gs i g) in
+    placed_more firsts_from out whole n gs i so_far now first next g lt (ap (λ (k : ℕ). first ++ firsts_from k (drop (i + 1) gs)) (sym is)) put

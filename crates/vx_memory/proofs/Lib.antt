@@ -3,3 +3,4 @@ pub mod Offsets
 pub mod FrameLists
 pub mod SavedLists
 pub mod LeadsWithin
+pub mod Pieces

@@ -8,6 +8,7 @@ use Rattle.vx_regs.specs.declared.map.Kept.TheVariants.{InRegister, InSlot, Nowh
 use Rattle.vx_regs.specs.declared.map.RegMap.{RegMap}
 use Rattle.vx_regs.specs.Marks.{is_marked, Marks}
 use Rattle.vx_regs.proofs.Marking.{in_either, in_left, in_right}
+use Rattle.vx_memory.proofs.Pieces.{placed_more}
 use Rattle.vx_memory.specs.Framing.{SlotNeeded}
 use Rattle.vx_memory.specs.Slots.{FrameStands, Marking, arrays_end, arrays_from, in_slots, joined, slots_end, slots_from}
 
@@ -92,6 +93,30 @@ slots_apart n (false ∷ marks) (suc u) (suc v) a b e = ap suc (slots_apart n ma
 
 abbrev begin_of : ℕ → List Array → List ℕ → ℕ → ℕ
 begin_of n xs addresses a = slice_index_or (arrays_from n xs addresses) a 0
+
+-- one mark more
+
+module _ (marks : List Bool) (i n m : ℕ) (d : Bool) where
+  abbrev rest : List Bool
+  rest = drop (i + 1) marks
+
+  pub marked_placed : (words new all : List ℕ) → words ++ slots_from n (drop i marks) ≡ all → i < length marks → get_or marks i d ≡ true → m ≡ n + 1 → new ≡ words ++ (n ∷ []) → new ++ slots_from m rest ≡ all
+  marked_placed words new all so_far lt is e put =
+      let k : suc n ≡ m = omega (arith, e) in
+      placed_more slots_from words all n marks i so_far new (n ∷ []) m d lt (ap (λ b. slots_from n (b ∷ rest)) is ∙ ap (λ j. n ∷ slots_from j rest) k) put
+
+  pub marked_end : (all : ℕ) → slots_end n (drop i marks) ≡ all → i < length marks → get_or marks i d ≡ true → m ≡ n + 1 → slots_end m rest ≡ all
+  marked_end all so_far lt is e =
+      let k : m ≡ suc n = omega (arith, e) in
+      ap (λ j. slots_end j rest) k ∙ sym (ap (λ l. slots_end n l) (drop_more marks i d lt) ∙ ap (λ b. slots_end n (b ∷ rest)) is) ∙ so_far
+
+  pub unmarked_placed : (words new all : List ℕ) → words ++ slots_from n (drop i marks) ≡ all → i < length marks → get_or marks i d ≡ false → m ≡ n → new ≡ words ++ (0 ∷ []) → new ++ slots_from m rest ≡ all
+  unmarked_placed words new all so_far lt is e put =
+      placed_more slots_from words all n marks i so_far new (0 ∷ []) m d lt (ap (λ b. slots_from n (b ∷ rest)) is ∙ ap (λ j. 0 ∷ slots_from j rest) (sym e)) put
+
+  pub unmarked_end : (all : ℕ) → slots_end n (drop i marks) ≡ all → i < length marks → get_or marks i d ≡ false → m ≡ n → slots_end m rest ≡ all
+  unmarked_end all so_far lt is e =
+      ap (λ j. slots_end j rest) e ∙ sym (ap (λ l. slots_end n l) (drop_more marks i d lt) ∙ ap (λ b. slots_end n (b ∷ rest)) is) ∙ so_far
 
 global_at : (n : ℕ) (xs : List Array) (addresses : List ℕ) (a : ℕ) (x : Array) → slice_get xs a ≡ Some x → a < length addresses → begin_of n xs addresses a ≡ slice_index_or addresses a 0
 global_at n [] addresses a x e h = absurd (let z : None ≡ Some x = e in cc)

@@ -1,5 +1,5 @@
 -- The lists of what is saved and brought have the values that they should, each once.
-use Rattle.std.proofs.Common.{◌≡◌, ℕ, zero, suc, ◌+◌, Bool, true, false, ◌&&◌, Option, Some, None, List, [], ◌∷◌, ◌++◌, slice_get, slice_index_or, refl, sym, ap, ◌∙◌, subst, inl, inr, arith}
+use Rattle.std.proofs.Common.{◌≡◌, ℕ, ◌<◌, drop, get_or, length, zero, suc, ◌+◌, Bool, true, false, ◌&&◌, Option, Some, None, List, [], ◌∷◌, ◌++◌, slice_get, slice_index_or, refl, sym, ap, ◌∙◌, subst, inl, inr, arith}
 use Rattle.std.specs.Prelude.{◌==◌, not, if◌then◌else◌}
 use Rattle.std.specs.List.{flat_map, list_any}
 use Rattle.std.proofs.lemmas.Bool.{eq-eqb, eqb-true}
@@ -17,7 +17,8 @@ use Rattle.vx_regs.specs.declared.map.RegMap.{RegMap}
 use Rattle.vx_regs.specs.Ways.{lives_there, LivesAt}
 use Rattle.vx_memory.specs.Framing.{SurvivesIn, ArrivesIn, SavesIn}
 use Rattle.vx_target.specs.Tied.{IsResult}
-use Rattle.vx_memory.specs.Saves.{in_registers, is_result, survives, saved_round, saved_from, arrives, arrival}
+use Rattle.vx_memory.proofs.Pieces.{placed_more}
+use Rattle.vx_memory.specs.Saves.{in_register, in_registers, is_result, survives, saved_round, saved_from, arrives, arrival}
 
 -- tests
 
@@ -205,3 +206,7 @@ saves_in passed l map living values kept words parameters saved brought lives ks
     let s1 : saved ≡ saved_from living (in_registers 0 map.values) 0 l.words = s ∙ ap (λ x. saved_from living x 0 words) v ∙ ap (saved_from living (in_registers 0 map.values) 0) ws in
     let b1 : brought ≡ flat_map (arrival living l.entry passed) (in_registers 0 map.values) = b ∙ ap (flat_map (arrival living l.entry parameters)) v ∙ ap (λ x. flat_map (arrival living l.entry x) (in_registers 0 map.values)) ps in
     subst (λ x. SavesIn passed l map x brought) (sym s1) (subst (SavesIn passed l map (saved_from living (in_registers 0 map.values) 0 l.words)) (sym b1) (lists_are passed l map living lives))
+
+-- one value more that may be in a register
+pub register_more : (ks : List Kept) (i : ℕ) (k : Kept) (out now whole : List ℕ) → out ++ in_registers i (drop i ks) ≡ whole → i < length ks → now ≡ out ++ in_register i (get_or ks i k) → now ++ in_registers (i + 1) (drop (i + 1) ks) ≡ whole
+register_more ks i k out now whole so_far lt put = placed_more in_registers out whole i ks i so_far now (in_register i (get_or ks i k)) (i + 1) k lt refl put

@@ -1,7 +1,7 @@
 // What is saved round the calls of a function, and which parameters are brought to their registers where it is entered.
 // specs/Framing.antt says which values these are; the clause of `saves_of` carries the promise.
 
-ghost use Rattle.std.specs.Prelude.{◌≡◌, ◌<◌, ◌++◌, ◌==◌, ℕ, IfOk, Some, length, slice_get};
+ghost use Rattle.std.specs.Prelude.{◌≡◌, ◌<◌, ◌+◌, ◌++◌, ◌==◌, ◌∷◌, [], ℕ, IfOk, Some, length, slice_get};
 ghost use Rattle.std.specs.List.{flat_map, list_any};
 ghost use Rattle.vx_mixed.specs.declared.layout.VirtualWord.{VirtualWord};
 ghost use Rattle.vx_mixed.specs.LaidSettled.{LeadsTo};
@@ -27,11 +27,11 @@ pub(crate) struct Saves {
     pub(crate) brought: Listed<Value>,
 }
 
-fn push_in_register(values: &mut Listed<Value>, value: Value, kept: Kept) -> Result<(), NoMemory>
+fn push_in_register(values: &mut Listed<Value>, value: usize, kept: Kept) -> Result<(), NoMemory>
     ensures { IfOk result (λ _. values.new ≡ values.old ++ in_register value kept) }
 {
     match kept {
-        Kept::InRegister(_) => values.push(value)?,
+        Kept::InRegister(_) => values.push(number_of(value)?)?,
         Kept::InSlot(_) => {}
         Kept::Nowhere => {}
     }
@@ -44,7 +44,7 @@ fn in_registers(alloc: Global, kept: &[Kept]) -> Result<Listed<Value>, NoMemory>
 {
     let mut values = Listed::new(alloc);
     for (value, kept) in kept.iter().enumerate() {
-        push_in_register(&mut values, number_of(value)?, *kept)?;
+        push_in_register(&mut values, value, *kept)?;
     }
     Ok(values)
 }
@@ -123,6 +123,21 @@ fn saved_round(
     }
 }
 
+fn push_round(
+    alloc: Global,
+    saved: &mut Listed<Listed<Value>>,
+    living: &Living,
+    values: &[Value],
+    place: usize,
+    word: &VirtualWord,
+) -> Result<(), NoMemory>
+    ensures { IfOk result (λ _. saved.new ≡ saved.old ++ (saved_round living.now values.now (place + 1) word.now ∷ [])) }
+{
+    let next = sum(number_of(place)?, 1)?;
+    saved.push(saved_round(alloc, living, values, next, word)?)?;
+    Ok(())
+}
+
 /// For each place of a layout the values that are saved round a call there.
 fn saved(
     alloc: Global,
@@ -134,8 +149,7 @@ fn saved(
 {
     let mut saved = Listed::new(alloc);
     for (place, word) in words.iter().enumerate() {
-        let next = sum(number_of(place)?, 1)?;
-        saved.push(saved_round(alloc, living, values, next, word)?)?;
+        push_round(alloc, &mut saved, living, values, place, word)?;
     }
     Ok(saved)
 }
@@ -143,7 +157,12 @@ fn saved(
 fn is_among(values: &[Value], value: Value) -> bool
     ensures { result ≡ list_any (λ u. u == value) values.now }
 {
-    values.iter().any(|other| *other == value)
+    for other in values {
+        if *other == value {
+            return true;
+        }
+    }
+    false
 }
 
 /// Whether a value is live at the entry and is a parameter. Few values in registers are live there.

@@ -7,3 +7,4 @@ pub mod Progress
 pub mod Once
 pub mod Writing
 pub mod TextRows
+pub mod Pushing

@@ -5,7 +5,7 @@ use Rattle.std.specs.List.{list_all, prefix_len}
 use Rattle.std.specs.Str.{bytes_eq}
 use Rattle.std.proofs.lemmas.Bool.{eqb-true, lt-ltb}
 use Rattle.std.proofs.lemmas.Bool.Decides.{nat_tests}
-use Rattle.std.proofs.lemmas.List.{take-append-drop, take_at, drop_all}
+use Rattle.std.proofs.lemmas.List.{take-append-drop, take_at, drop_all, drop_more}
 use Rattle.vx_profile.specs.Reading.{◌>>=◌, is_digit, value_from, is_number, below, behind, number_at, name_at}
 use Rattle.vx_profile.specs.Text.{number_text}
 use Rattle.vx_profile.proofs.Decimals.{both_true, value_grows, number_value, number_digits, number_is_number, number_written}
@@ -138,3 +138,8 @@ value_over ds i v e there none =
     let grows = value_grows m (drop (suc i) ds) in
     let large = below_none_is (2 ^ 64) m none in
     below_none (2 ^ 64) (value_from 0 ds) (omega (arith, large, grows, more))
+
+pub value_more : (ds : List ℕ) (i v w : ℕ) → value_from v (drop i ds) ≡ value_from 0 ds → i < length ds → below (2 ^ 64) (10 * v + (get_or ds i 0 - 48)) ≡ Some w → (value_from w (drop (i + 1) ds) ≡ value_from 0 ds) × (w < 2 ^ 64)
+value_more ds i v w e there some =
+    let b = below_is (2 ^ 64) (10 * v + (get_or ds i 0 - 48)) w some in
+    (sym (ap (λ z. value_from z (drop (i + 1) ds)) b.1) ∙ sym (ap (value_from v) (drop_more ds i 0 there)) ∙ e, subst (λ z. z < 2 ^ 64) b.1 b.0)

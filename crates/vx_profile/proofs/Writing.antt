@@ -141,15 +141,23 @@ pub record Pushed (blocks : BTreeMap Pair ℕ) (edges : BTreeMap Triple ℕ) (st
   pub blocks_ordered : IsOrdered pair_cmp blocks
   pub edges_ordered : IsOrdered triple_cmp edges
 
+same_counts : (c : Counts) (blocks : BTreeMap Pair ℕ) (edges : BTreeMap Triple ℕ) → blocks ≡ c.blocks → edges ≡ c.edges → record { blocks = blocks; edges = edges } ≡ c
+same_counts c blocks edges is_blocks is_edges = ap (λ m. record { blocks = m; edges = edges }) is_blocks ∙ ap (λ m. record { blocks = c.blocks; edges = m }) is_edges
+
+pub pushed_is_text : (c : Counts) (blocks : BTreeMap Pair ℕ) (edges : BTreeMap Triple ℕ) (start front middle text : List ℕ) → Pushed blocks edges start front middle text
+    → blocks ≡ c.blocks → edges ≡ c.edges → text ≡ counts_text c
+pushed_is_text c blocks edges start front middle text p is_blocks is_edges =
+    let bs = filter is_passed (map block_row blocks.entries) in
+    let es = filter is_passed (map edge_row edges.entries) in
+    let begun : front ≡ header = p.first ∙ ap (λ t. t ++ header) p.none in
+    let whole : text ≡ counts_text (record { blocks = blocks; edges = edges }) =
+    p.edge_text ∙ ap (λ t. t ++ flat_map row_text es) (p.block_text ∙ ap (λ t. t ++ flat_map row_text bs) begun)
+    ∙ ap (λ t. header ++ t) (sym (flat_map-append row_text bs es)) in
+    whole ∙ ap counts_text (same_counts c blocks edges is_blocks is_edges)
+
 pub pushed_is_spelled : (c : Counts) (blocks : BTreeMap Pair ℕ) (edges : BTreeMap Triple ℕ) (start front middle text : List ℕ) → Pushed blocks edges start front middle text
     → blocks ≡ c.blocks → edges ≡ c.edges → Spells text c
 pushed_is_spelled c blocks edges start front middle text p is_blocks is_edges =
     let counts : Counts = record { blocks = blocks; edges = edges } in
-    let bs = filter is_passed (map block_row blocks.entries) in
-    let es = filter is_passed (map edge_row edges.entries) in
-    let begun : front ≡ header = p.first ∙ ap (λ t. t ++ header) p.none in
-    let whole : text ≡ counts_text counts =
-    p.edge_text ∙ ap (λ t. t ++ flat_map row_text es) (p.block_text ∙ ap (λ t. t ++ flat_map row_text bs) begun)
-    ∙ ap (λ t. header ++ t) (sym (flat_map-append row_text bs es)) in
-    let same : counts ≡ c = ap (λ m. record { blocks = m; edges = edges }) is_blocks ∙ ap (λ m. record { blocks = c.blocks; edges = m }) is_edges in
-    subst (λ d. Spells text d) same (written_is_spelled text counts whole p.blocks_fit p.edges_fit p.blocks_ordered p.edges_ordered)
+    let whole : text ≡ counts_text counts = pushed_is_text counts blocks edges start front middle text p refl refl in
+    subst (λ d. Spells text d) (same_counts c blocks edges is_blocks is_edges) (written_is_spelled text counts whole p.blocks_fit p.edges_fit p.blocks_ordered p.edges_ordered)

@@ -18,24 +18,32 @@ pub(crate) fn push_bytes(out: &mut Vec<u8>, bytes: &[u8]) -> Result<(), NoMemory
 }
 
 /// Puts a number in decimal at the end.
-pub(crate) fn push_number(out: &mut Vec<u8>, number: u64) -> Result<(), NoMemory>
+fn push_number(out: &mut Vec<u8>, number: u64) -> Result<(), NoMemory>
     ensures { OnOk result (out.new.items ≡ out.old.items ++ decimal number) }
 {
     let mut buffer = Buffer::new();
     push_bytes(out, buffer.format(number).as_bytes())
 }
 
-fn push_small(out: &mut Vec<u8>, number: u32) -> Result<(), NoMemory>
-    ensures { OnOk result (out.new.items ≡ out.old.items ++ decimal number) }
+/// Puts a word and a number behind it.
+pub(crate) fn push_field(out: &mut Vec<u8>, word: &[u8], number: u64) -> Result<(), NoMemory>
+    ensures { OnOk result (out.new.items ≡ out.old.items ++ (word.now ++ decimal number)) }
 {
-    push_number(out, u64::from(number))
+    push_bytes(out, word)?;
+    push_number(out, number)
+}
+
+/// The same with a number of 32 bits.
+pub(crate) fn push_small(out: &mut Vec<u8>, word: &[u8], number: u32) -> Result<(), NoMemory>
+    ensures { OnOk result (out.new.items ≡ out.old.items ++ (word.now ++ decimal number)) }
+{
+    push_field(out, word, u64::from(number))
 }
 
 fn push_behind_blank(out: &mut Vec<u8>, number: u32) -> Result<(), NoMemory>
     ensures { OnOk result (out.new.items ≡ out.old.items ++ behind_blank number) }
 {
-    push_bytes(out, b" ")?;
-    push_small(out, number)
+    push_small(out, b" ", number)
 }
 
 fn push_list(out: &mut Vec<u8>, numbers: &[u32]) -> Result<(), NoMemory>
@@ -75,20 +83,16 @@ pub(crate) fn push_op(
 ) -> Result<(), NoMemory>
     ensures { OnOk result (out.new.items ≡ out.old.items ++ op_line place word cluster) }
 {
-    push_bytes(out, b"op ")?;
-    push_number(out, place)?;
-    push_bytes(out, b" word ")?;
-    push_small(out, word)?;
-    push_bytes(out, b" cluster ")?;
-    push_small(out, cluster)?;
+    push_field(out, b"op ", place)?;
+    push_small(out, b" word ", word)?;
+    push_small(out, b" cluster ", cluster)?;
     push_bytes(out, b"\n")
 }
 
 fn push_split(out: &mut Vec<u8>, split: &EdgeCopies) -> Result<(), NoMemory>
     ensures { OnOk result (out.new.items ≡ out.old.items ++ split_line split.now) }
 {
-    push_bytes(out, b"split ")?;
-    push_small(out, split.split)?;
+    push_small(out, b"split ", split.split)?;
     push_numbers(out, b" copies", split.copies.as_slice())
 }
 
@@ -105,10 +109,8 @@ pub(crate) fn push_splits(out: &mut Vec<u8>, splits: &[EdgeCopies]) -> Result<()
 fn push_join(out: &mut Vec<u8>, rejoin: &Rejoin) -> Result<(), NoMemory>
     ensures { OnOk result (out.new.items ≡ out.old.items ++ join_line rejoin.now) }
 {
-    push_bytes(out, b"join ")?;
-    push_small(out, rejoin.block)?;
-    push_bytes(out, b" rejoin ")?;
-    push_small(out, rejoin.word)?;
+    push_small(out, b"join ", rejoin.block)?;
+    push_small(out, b" rejoin ", rejoin.word)?;
     push_numbers(out, b" copies", rejoin.copies.as_slice())
 }
 

@@ -6,7 +6,7 @@ ghost use Rattle.vx_dep.specs.Compensation.{word_at};
 ghost use Rattle.vx_report.specs.Report.{name_at, names_of, ops_text, placed_text, places_at, report_text, seed_text, sums_text, trace_text, traces_text};
 
 use crate::lines::{
-    push_bytes, push_joins, push_mode, push_number, push_numbers, push_op, push_splits,
+    push_bytes, push_field, push_joins, push_mode, push_numbers, push_op, push_small, push_splits,
 };
 use crate::plan::Plan;
 use std::alloc::Global;
@@ -69,16 +69,13 @@ fn push_ops(
 fn push_seed(out: &mut Vec<u8>, number: u64, name: &[u8], plan: &TracePlan) -> Result<(), NoMemory>
     ensures { OnOk result (out.new.items ≡ out.old.items ++ seed_text number name.now plan.now) }
 {
-    push_bytes(out, b"trace ")?;
-    push_number(out, number)?;
+    push_field(out, b"trace ", number)?;
     push_bytes(out, b" function ")?;
     push_bytes(out, name)?;
-    push_bytes(out, b" count ")?;
-    push_number(out, plan.count)?;
+    push_field(out, b" count ", plan.count)?;
     push_bytes(out, b" mode ")?;
     push_mode(out, plan.mode)?;
-    push_bytes(out, b" words ")?;
-    push_number(out, u64::from(plan.placed.length))?;
+    push_small(out, b" words ", plan.placed.length)?;
     push_bytes(out, b"\n")
 }
 
@@ -136,10 +133,8 @@ fn push_traces(
 fn push_sums(out: &mut Vec<u8>, spilled: u32, copies: u32) -> Result<(), NoMemory>
     ensures { OnOk result (out.new.items ≡ out.old.items ++ sums_text spilled copies) }
 {
-    push_bytes(out, b"spilled ")?;
-    push_number(out, u64::from(spilled))?;
-    push_bytes(out, b"\ncopies ")?;
-    push_number(out, u64::from(copies))?;
+    push_small(out, b"spilled ", spilled)?;
+    push_small(out, b"\ncopies ", copies)?;
     push_bytes(out, b"\nend\n")
 }
 

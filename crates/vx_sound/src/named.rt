@@ -2,7 +2,7 @@
 // of one array. The other files name only places, loads, stores and texts. The exits are tested for what they name. Nothing here
 // takes memory.
 
-ghost use Rattle.std.specs.Prelude.{◌≡◌, ◌==◌, not};
+ghost use Rattle.std.specs.Prelude.{◌≡◌, ◌==◌};
 ghost use Rattle.std.specs.List.{list_all};
 ghost use Rattle.vx_flow.specs.Sound.{is_branch, is_general, is_general_or_none, is_local, is_operand, is_place_in, is_right, is_right_value, is_sound_exit, is_sound_operation, is_written, is_zero, keeps_place};
 
@@ -209,7 +209,8 @@ fn is_general(banks: &[Bank], value: Value) -> bool
 {
     match banks.get(value as usize) {
         Some(Bank::General) => true,
-        _ => false,
+        Some(Bank::Branch) => false,
+        None => false,
     }
 }
 
@@ -218,7 +219,8 @@ fn is_branch(banks: &[Bank], value: Value) -> bool
 {
     match banks.get(value as usize) {
         Some(Bank::Branch) => true,
-        _ => false,
+        Some(Bank::General) => false,
+        None => false,
     }
 }
 

@@ -1,3 +1,4 @@
 pub mod Thins
 mod ThinRuns
 mod ThinFlow
+mod Alls

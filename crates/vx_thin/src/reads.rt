@@ -97,13 +97,23 @@ fn reads_needed(needed: &[bool], op: &Op) -> bool
 fn ops_read_needed(needed: &[bool], ops: &[Op]) -> bool
     ensures { result ≡ list_all (reads_read (unread_of needed.now)) ops.now }
 {
-    ops.iter().all(|op| reads_needed(needed, op))
+    for op in ops {
+        if !reads_needed(needed, op) {
+            return false;
+        }
+    }
+    true
 }
 
 fn are_all_read(needed: &[bool], operands: &[Operand]) -> bool
     ensures { result ≡ list_all (λ x. are_read (unread_of needed.now) (value_in x)) operands.now }
 {
-    operands.iter().all(|operand| is_read(needed, operand))
+    for operand in operands {
+        if !is_read(needed, operand) {
+            return false;
+        }
+    }
+    true
 }
 
 #[tactic(auto, using(crate::proofs::ThinFlow::read_all))]
@@ -130,5 +140,10 @@ fn block_reads_needed(needed: &[bool], block: &Block) -> bool
 pub fn blocks_read_needed(needed: &[bool], blocks: &[Block]) -> bool
     ensures { result ≡ list_all (block_reads_read (unread_of needed.now)) blocks.now }
 {
-    blocks.iter().all(|block| block_reads_needed(needed, block))
+    for block in blocks {
+        if !block_reads_needed(needed, block) {
+            return false;
+        }
+    }
+    true
 }

@@ -25,3 +25,6 @@ returns-in_err-follow-clause-closed c = IfOk-from_err _ _ c.from_residual.ensure
 
 pub returns-in_err-follow-clause-spreads : goal.returns-in_err-follow-clause-spreads
 returns-in_err-follow-clause-spreads c = IfOk-from_err _ _ c.from_residual.ensures.0
+
+pub follow-requires : goal.follow-requires
+follow-requires c = c.loop-index.invariant.within

@@ -71,3 +71,9 @@ returns-in_err-follow_all-in-Some-clause-exact c = IfOk-from_err _ _ c.from_resi
 
 pub returns-in_err-follow_all-in-Some-clause-found : goal.returns-in_err-follow_all-in-Some-clause-found
 returns-in_err-follow_all-in-Some-clause-found c = IfOk-from_err _ _ c.from_residual-in_err-follow_all-in-Some.ensures.0
+
+pub follow_all-requires-clause-within : goal.follow_all-requires-clause-within
+follow_all-requires-clause-within c = c.pending.invariant.within
+
+pub returns-in-None-clause-len : goal.returns-in-None-clause-len
+returns-in-None-clause-len c = c.pending.invariant.len ∙ c.start_all.ensures.len

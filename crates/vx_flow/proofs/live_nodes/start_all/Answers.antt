@@ -21,3 +21,6 @@ returns-clause-started c =
 
 pub returns-in_err-start-clause-started : goal.returns-in_err-start-clause-started
 returns-in_err-start-clause-started c = IfOk-from_err _ _ c.from_residual.ensures.0
+
+pub start-requires : goal.start-requires
+start-requires c = c.loop-index.invariant.within

@@ -29,3 +29,6 @@ returns-in_err-readers c = record { exact = IfOk-from_err _ _ c.from_residual-in
 
 pub returns-in_err-rows : goal.returns-in_err-rows
 returns-in_err-rows c = record { exact = IfOk-from_err _ _ c.from_residual-in_err-rows.ensures.0 }
+
+pub from_rows-requires : goal.from_rows-requires
+from_rows-requires c = c.in_ok-rows.ensures.rising

@@ -58,3 +58,6 @@ returns-in_err-list_found-clause-exact c = IfOk-from_err _ _ c.from_residual-in_
 
 pub returns-in_err-list_found-clause-rising : goal.returns-in_err-list_found-clause-rising
 returns-in_err-list_found-clause-rising c = IfOk-from_err _ _ c.from_residual-in_err-list_found.ensures.0
+
+pub live_nodes-requires-clause-none : goal.live_nodes-requires-clause-none
+live_nodes-requires-clause-none c = c.loop-value.invariant.none

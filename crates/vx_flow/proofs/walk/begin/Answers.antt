@@ -2,6 +2,7 @@ use Rattle.std.proofs.Common.{◌≡◌, ◌∙◌, Bool, true, false, [], ◌�
 use Rattle.std.proofs.lemmas.List.{get_or_read}
 use Rattle.std.proofs.lemmas.Result.{IfOk-from_err}
 use Rattle.vx_flow.specs.Walking.{place}
+use Rattle.vx_flow.proofs.HeaderSteps.{length_set}
 use Rattle.vx_flow.proofs.walk.begin.Goals as goal
 
 pub returns-in_ok-push-clause-seen : goal.returns-in_ok-push-clause-seen
@@ -42,3 +43,15 @@ returns-in_err-push-clause-on_path c = IfOk-from_err _ _ c.from_residual.ensures
 
 pub returns-in_err-push-clause-places : goal.returns-in_err-push-clause-places
 returns-in_err-push-clause-places c = IfOk-from_err _ _ c.from_residual.ensures.0
+
+pub returns-in_ok-push-clause-seen_len : goal.returns-in_ok-push-clause-seen_len
+returns-in_ok-push-clause-seen_len c = length_set c.args.seen.now.items c.args.block
+
+pub returns-in_ok-push-clause-path_len : goal.returns-in_ok-push-clause-path_len
+returns-in_ok-push-clause-path_len c = length_set c.args.on_path.now.items c.args.block
+
+pub returns-in_err-push-clause-seen_len : goal.returns-in_err-push-clause-seen_len
+returns-in_err-push-clause-seen_len c = length_set c.args.seen.now.items c.args.block
+
+pub returns-in_err-push-clause-path_len : goal.returns-in_err-push-clause-path_len
+returns-in_err-push-clause-path_len c = length_set c.args.on_path.now.items c.args.block

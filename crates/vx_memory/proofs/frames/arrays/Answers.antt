@@ -1,4 +1,5 @@
-use Rattle.std.proofs.Common.{◌<◌, ◌≤◌, ◌∙◌, false, length, sym}
+use Rattle.std.proofs.Common.{◌<◌, ◌≤◌, ◌∙◌, ◌++◌, List, false, length, drop, sym}
+use Rattle.std.proofs.lemmas.List.{append-nil, at_drop_all}
 use Rattle.std.proofs.lemmas.Bool.{ltb-false, ltb-true}
 use Rattle.vx_flow.specs.declared.graph.Array.{Array}
 use Rattle.vx_memory.specs.Slots.{arrays_end, arrays_from}
@@ -34,3 +35,14 @@ loop-place-preserved c =
             next = own_end n m i end xs addresses none l k (w.next-is ∙ w.in_ok-next-in-None.ensures) h.next;
           })
     ]
+
+pub returns-clause-words : goal.returns-clause-words
+returns-clause-words c =
+    let words = c.loop-place.words in
+    let place = c.loop-place.place in
+    sym (append-nil words) ∙ sym (at_drop_all (λ (z : List Array). words ++ arrays_from c.loop-place.next z (drop place c.args.addresses.now)) c.args.arrays.now place c.loop-place-test.false) ∙ c.loop-place.invariant.words
+
+pub returns-clause-next : goal.returns-clause-next
+returns-clause-next c =
+    let place = c.loop-place.place in
+    sym (at_drop_all (λ (z : List Array). arrays_end c.loop-place.next z (drop place c.args.addresses.now)) c.args.arrays.now place c.loop-place-test.false) ∙ c.loop-place.invariant.next

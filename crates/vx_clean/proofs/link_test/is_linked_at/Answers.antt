@@ -1,0 +1,13 @@
+use Rattle.std.proofs.Common.{◌∙◌, ap, ltb-false, ltb-true, sym}
+use Rattle.std.specs.Prelude.{Some}
+use Rattle.std.proofs.lemmas.Option.{slice_get-get_or, slice_get_past}
+use Rattle.vx_clean.specs.LinkTest.{is_linked_at, moves}
+use Rattle.vx_clean.proofs.link_test.is_linked_at.Goals as goal
+
+pub returns-in-Some : goal.returns-in-Some
+returns-in-Some c =
+    let l = c.in-Some.ensures.lookup in
+    c.is_exit_linked.ensures ∙ ap (λ found. is_linked_at (moves c.args.to.now) c.args.blocks.now c.args.chains.now found c.args.behind.now) (sym (slice_get-get_or c.args.blocks.now c.args.block _ (ltb-true _ _ (sym l.0)) ∙ ap Some (sym l.1)))
+
+pub returns-in-None : goal.returns-in-None
+returns-in-None c = ap (λ found. is_linked_at (moves c.args.to.now) c.args.blocks.now c.args.chains.now found c.args.behind.now) (sym (slice_get_past c.args.blocks.now c.args.block (ltb-false _ _ (sym c.in-None.ensures.lookup.0))))

@@ -1,0 +1,13 @@
+use Rattle.std.proofs.Common.{◌∙◌, ap}
+use Rattle.vx_sound.specs.Origins.{is_shown_block}
+use Rattle.vx_sound.proofs.Turns.{all_more, all_not, all_whole}
+use Rattle.vx_sound.proofs.places.are_shown_blocks.Goals as goal
+
+pub loop-block-preserved : goal.loop-block-preserved
+loop-block-preserved c = all_more _ c.args.blocks.now c.loop-block.block-index _ c.is_shown_block.result c.loop-block-test.true c.loop-block.invariant (c.is_shown_block.ensures ∙ ap (is_shown_block c.args.origins.now c.args.graph.now) c.block-item.is) c.if-not-is_shown_block.false
+
+pub returns-then-not-is_shown_block : goal.returns-then-not-is_shown_block
+returns-then-not-is_shown_block c = all_not _ c.args.blocks.now c.loop-block.block-index _ c.is_shown_block.result c.loop-block-test.true (c.is_shown_block.ensures ∙ ap (is_shown_block c.args.origins.now c.args.graph.now) c.block-item.is) c.if-not-is_shown_block.true
+
+pub returns : goal.returns
+returns c = all_whole _ c.args.blocks.now c.loop-block.block-index c.loop-block-test.false c.loop-block.invariant
