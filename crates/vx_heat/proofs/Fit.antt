@@ -47,6 +47,7 @@ use Rattle.vx_target.specs.Target.{Target, answer, general, general_of, branch_o
 use Rattle.vx_target.specs.Placed.{Depth, Labelled, laid_pieces, landing_of, item_landings, word_landings, landing_pieces, function_pieces, functions_pieces, all_pieces, words_of}
 use Rattle.vx_target.specs.Carried.{Carries, IsFunctionOf, IsMapped, item_of_laid, WordsFit}
 use Rattle.vx_heat.specs.Fitted.{FitLaw}
+use Rattle.vx_target.proofs.FromPlace.{StandFrom, stand_here, stand_on, stand_from_start}
 use Rattle.vx_target.proofs.Frames.{get_some, get_in}
 use Rattle.vx_target.proofs.FromGraph.{whole_bank, has_whole, op_proper, test_proper}
 use Rattle.vx_target.proofs.Proper.{ProperItems}
@@ -478,25 +479,16 @@ module _ (T : Target) (flow : Flow) (ls : List VWords) (w : WordProgram) (sound 
     landing_word_good p (Returns x) e = tt
     landing_word_good p (Ends k) e = tt
 
-    abbrev Stand : ℕ → List VirtualWord → Type 0
-    Stand p words = (i : ℕ) (word : VirtualWord) → slice_get words i ≡ Some word → HasWordAt (p + i) word
-
-    stand_here : (p : ℕ) (word : VirtualWord) (words : List VirtualWord) → Stand p (word ∷ words) → HasWordAt p word
-    stand_here p word words h = let z : p + 0 ≡ p = omega arith in subst (λ n. HasWordAt n word) z (h 0 word refl)
-
-    stand_on : (p : ℕ) (word : VirtualWord) (words : List VirtualWord) → Stand p (word ∷ words) → Stand (suc p) words
-    stand_on p word words h i x e = let z : p + suc i ≡ suc p + i = omega arith in subst (λ n. HasWordAt n x) z (h (suc i) x e)
-
-    laid_good : (p : ℕ) (words : List VirtualWord) → Stand p words → GoodPieces M (laid_pieces T f p words)
+    laid_good : (p : ℕ) (words : List VirtualWord) → StandFrom HasWordAt p words → GoodPieces M (laid_pieces T f p words)
     laid_good p [] h = (tt, tt)
-    laid_good p (word ∷ words) h = (word_good p word (stand_here p word words h), laid_good (suc p) words (stand_on p word words h))
+    laid_good p (word ∷ words) h = (word_good p word (stand_here HasWordAt p word words h), laid_good (suc p) words (stand_on HasWordAt p word words h))
 
-    laid_landings : (p : ℕ) (words : List VirtualWord) → Stand p words → GoodPieces M (landing_pieces T f p words)
+    laid_landings : (p : ℕ) (words : List VirtualWord) → StandFrom HasWordAt p words → GoodPieces M (landing_pieces T f p words)
     laid_landings p [] h = tt
-    laid_landings p (word ∷ words) h = pieces_append M (word_landings T f p word) (landing_pieces T f (suc p) words) (landing_word_good p word (stand_here p word words h)) (laid_landings (suc p) words (stand_on p word words h))
+    laid_landings p (word ∷ words) h = pieces_append M (word_landings T f p word) (landing_pieces T f (suc p) words) (landing_word_good p word (stand_here HasWordAt p word words h)) (laid_landings (suc p) words (stand_on HasWordAt p word words h))
 
-    all_stand : Stand 0 (T.layout f).words
-    all_stand i word e = let z : i ≡ 0 + i = omega arith in subst (λ n. HasWordAt n word) z e
+    all_stand : StandFrom HasWordAt 0 (T.layout f).words
+    all_stand = stand_from_start HasWordAt (T.layout f).words (λ i word e. e)
 
     function_good : GoodPieces M (function_pieces T f)
     function_good = (entry_good, pieces_append M (laid_pieces T f 0 (T.layout f).words) (landing_pieces T f 0 (T.layout f).words) (laid_good 0 (T.layout f).words all_stand) (laid_landings 0 (T.layout f).words all_stand))

@@ -28,6 +28,7 @@ use Rattle.vx_target.specs.Target.{Target, slotted, register_of, past_there, pas
 use Rattle.vx_target.specs.Placed.{Label, Start, Entry, At, Landing, Depth, Labelled, laid_pieces, landing_of, item_landings, word_landings, landing_pieces, function_pieces, functions_pieces, all_pieces}
 use Rattle.vx_target.specs.Carried.{Carries, IsMapped}
 use Rattle.vx_heat.specs.Fitted.{NeverEarlyLaw}
+use Rattle.vx_target.proofs.FromPlace.{StandFrom, stand_here, stand_on, stand_from_start}
 use Rattle.vx_target.proofs.Frames.{get_beyond, get_some, get_in}
 use Rattle.vx_target.proofs.Limits.{Limits, limits}
 use Rattle.vx_target.proofs.Stands.{piece_at, landing_at, in_laid, in_landings, of_function, word_next}
@@ -353,29 +354,23 @@ module _ (T : Target) (flow : Flow) (ls : List VWords) (w : WordProgram) (sound 
 
     -- all words of the layout from a place on
 
-    record Stand (p : ℕ) (words : List VirtualWord) : Type 0 where
-      each : (i : ℕ) (word : VirtualWord) → slice_get words i ≡ Some word → WordAt f (p + i) word
+    record StandToEnd (p : ℕ) (words : List VirtualWord) : Type 0 where
+      each : StandFrom (WordAt f) p words
       whole : p + length words ≡ length (T.layout f).words
 
-    stand_here : (p : ℕ) (word : VirtualWord) (words : List VirtualWord) → Stand p (word ∷ words) → WordAt f p word
-    stand_here p word words h = let z : p + 0 ≡ p = omega arith in subst (λ n. WordAt f n word) z (h.each 0 word refl)
+    next_stands : (p : ℕ) (word : VirtualWord) (words : List VirtualWord) → StandToEnd p (word ∷ words) → StandToEnd (suc p) words
+    next_stands p word words h = record { each = stand_on (WordAt f) p word words h.each; whole = (let a = h.whole in omega arith) }
 
-    stand_on : (p : ℕ) (word : VirtualWord) (words : List VirtualWord) → Stand p (word ∷ words) → Stand (suc p) words
-    stand_on p word words h = record {
-      each = λ i x e. (let z : p + suc i ≡ suc p + i = omega arith in subst (λ n. WordAt f n x) z (h.each (suc i) x e));
-      whole = (let a = h.whole in omega arith);
-    }
-
-    laid_good : (p : ℕ) (words : List VirtualWord) → Stand p words → AllGood (laid_pieces T f p words)
+    laid_good : (p : ℕ) (words : List VirtualWord) → StandToEnd p words → AllGood (laid_pieces T f p words)
     laid_good p [] h = ((λ r. (let a : start (At f p) r ≡ 0 = ap (λ o. at_word f p o (Pend f p) r) (get_beyond (T.layout f).words p (let b = h.whole in omega arith)) in omega arith)), tt)
-    laid_good p (word ∷ words) h = (good_word p word (stand_here p word words h), laid_good (suc p) words (stand_on p word words h))
+    laid_good p (word ∷ words) h = (good_word p word (stand_here (WordAt f) p word words h.each), laid_good (suc p) words (next_stands p word words h))
 
-    laid_landings : (p : ℕ) (words : List VirtualWord) → Stand p words → AllGood (landing_pieces T f p words)
+    laid_landings : (p : ℕ) (words : List VirtualWord) → StandToEnd p words → AllGood (landing_pieces T f p words)
     laid_landings p [] h = tt
-    laid_landings p (word ∷ words) h = fit_append T start heat (word_landings T f p word) (landing_pieces T f (suc p) words) (word_landings_good p word (stand_here p word words h)) (laid_landings (suc p) words (stand_on p word words h))
+    laid_landings p (word ∷ words) h = fit_append T start heat (word_landings T f p word) (landing_pieces T f (suc p) words) (word_landings_good p word (stand_here (WordAt f) p word words h.each)) (laid_landings (suc p) words (next_stands p word words h))
 
-    all_stand : Stand 0 (T.layout f).words
-    all_stand = record { each = λ i word e. (let z : i ≡ 0 + i = omega arith in subst (λ n. WordAt f n word) z e); whole = omega arith }
+    all_stand : StandToEnd 0 (T.layout f).words
+    all_stand = record { each = stand_from_start (WordAt f) (T.layout f).words (λ i word e. e); whole = omega arith }
 
     function_good : AllGood (function_pieces T f)
     function_good = (

@@ -42,6 +42,7 @@ use Rattle.vx_target.specs.Target.{Target, answer, general, general_of, branch_o
 use Rattle.vx_target.specs.Placed.{Depth, Labelled, laid_pieces, landing_of, item_landings, word_landings, landing_pieces, function_pieces, functions_pieces, all_pieces, words_of}
 use Rattle.vx_target.specs.Carried.{Carries, IsFunctionOf, IsMapped, item_of_laid}
 use Rattle.vx_heat.specs.Fitted.{SoundLaw}
+use Rattle.vx_target.proofs.FromPlace.{StandFrom, stand_here, stand_on, stand_from_start}
 use Rattle.vx_target.proofs.Enough.{in_map}
 use Rattle.vx_heat.proofs.Fit.{words_fit}
 use Rattle.vx_heat.proofs.Forming.{HasForm, Formed, AllFormed, computes_formed, all_sound}
@@ -470,25 +471,16 @@ module _ (T : Target) (flow : Flow) (ls : List VWords) (w : WordProgram) (sound 
     landing_word_right p (Returns x) e = tt
     landing_word_right p (Ends k) e = tt
 
-    abbrev Stand : ℕ → List VirtualWord → Type 0
-    Stand p words = (i : ℕ) (word : VirtualWord) → slice_get words i ≡ Some word → HasWordAt (p + i) word
-
-    stand_here : (p : ℕ) (word : VirtualWord) (words : List VirtualWord) → Stand p (word ∷ words) → HasWordAt p word
-    stand_here p word words h = let z : p + 0 ≡ p = omega arith in subst (λ n. HasWordAt n word) z (h 0 word refl)
-
-    stand_on : (p : ℕ) (word : VirtualWord) (words : List VirtualWord) → Stand p (word ∷ words) → Stand (suc p) words
-    stand_on p word words h i x e = let z : p + suc i ≡ suc p + i = omega arith in subst (λ n. HasWordAt n x) z (h (suc i) x e)
-
-    laid_right : (p : ℕ) (words : List VirtualWord) → Stand p words → RightPieces W N (laid_pieces T f p words)
+    laid_right : (p : ℕ) (words : List VirtualWord) → StandFrom HasWordAt p words → RightPieces W N (laid_pieces T f p words)
     laid_right p [] h = (tt, tt)
-    laid_right p (word ∷ words) h = (word_right p word (stand_here p word words h), laid_right (suc p) words (stand_on p word words h))
+    laid_right p (word ∷ words) h = (word_right p word (stand_here HasWordAt p word words h), laid_right (suc p) words (stand_on HasWordAt p word words h))
 
-    laid_landings : (p : ℕ) (words : List VirtualWord) → Stand p words → RightPieces W N (landing_pieces T f p words)
+    laid_landings : (p : ℕ) (words : List VirtualWord) → StandFrom HasWordAt p words → RightPieces W N (landing_pieces T f p words)
     laid_landings p [] h = tt
-    laid_landings p (word ∷ words) h = pieces_append W N (word_landings T f p word) (landing_pieces T f (suc p) words) (landing_word_right p word (stand_here p word words h)) (laid_landings (suc p) words (stand_on p word words h))
+    laid_landings p (word ∷ words) h = pieces_append W N (word_landings T f p word) (landing_pieces T f (suc p) words) (landing_word_right p word (stand_here HasWordAt p word words h)) (laid_landings (suc p) words (stand_on HasWordAt p word words h))
 
-    all_stand : Stand 0 (T.layout f).words
-    all_stand i word e = let z : i ≡ 0 + i = omega arith in subst (λ n. HasWordAt n word) z e
+    all_stand : StandFrom HasWordAt 0 (T.layout f).words
+    all_stand = stand_from_start HasWordAt (T.layout f).words (λ i word e. e)
 
     function_right : RightPieces W N (function_pieces T f)
     function_right = (entry_right, pieces_append W N (laid_pieces T f 0 (T.layout f).words) (landing_pieces T f 0 (T.layout f).words) (laid_right 0 (T.layout f).words all_stand) (laid_landings 0 (T.layout f).words all_stand))

@@ -12,6 +12,7 @@ pub mod Word
 pub mod Names
 pub mod FromGraph
 pub mod Frames
+pub mod FromPlace
 pub mod Stands
 pub mod Live
 pub mod Limits

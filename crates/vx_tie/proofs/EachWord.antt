@@ -31,6 +31,7 @@ use Rattle.vx_target.specs.Placed.{Depth, Labelled, PlacedAt, place_of, laid_pie
 use Rattle.vx_target.specs.Carried.{Carries, IsFunctionOf, IsMapped, NeedsSlot, is_passed, is_spilled, is_saved}
 use Rattle.vx_target.specs.Places.{plan_place}
 use Rattle.vx_tie.specs.Plans.{IsOther, loads_slot, stores_slot, picks_number, tests_number, moves, tests_depth, leaves_by_depth, moves_stacks, calls, takes_link, stores_link, sets_stacks, loads_link, moves_and_loads_link, gives_link, returns, traps, halts, idles, goes, branches, IsTurnedTo, at_entry, by_transfer, by_choice, by_split}
+use Rattle.vx_target.proofs.FromPlace.{StandFrom, stand_here, stand_on, stand_from_start}
 use Rattle.vx_target.proofs.Enough.{in_all_of}
 use Rattle.vx_target.proofs.Frames.{get_below, get_in}
 use Rattle.vx_target.proofs.Once.{once_in}
@@ -391,25 +392,16 @@ module _ (T : Target) (flow : Flow) (ls : List VWords) (w : WordProgram) (sound 
     landing_word_kinds p (Returns x) e = tt
     landing_word_kinds p (Ends k) e = tt
 
-    abbrev Stand : ℕ → List VirtualWord → Type 0
-    Stand p words = (i : ℕ) (word : VirtualWord) → slice_get words i ≡ Some word → HasWordAt (p + i) word
-
-    stand_here : (p : ℕ) (word : VirtualWord) (words : List VirtualWord) → Stand p (word ∷ words) → HasWordAt p word
-    stand_here p word words h = let z : p + 0 ≡ p = omega arith in subst (λ n. HasWordAt n word) z (h 0 word refl)
-
-    stand_on : (p : ℕ) (word : VirtualWord) (words : List VirtualWord) → Stand p (word ∷ words) → Stand (suc p) words
-    stand_on p word words h i x e = let z : p + suc i ≡ suc p + i = omega arith in subst (λ n. HasWordAt n x) z (h (suc i) x e)
-
-    laid_kinds : (p : ℕ) (words : List VirtualWord) → Stand p words → Pieces (laid_pieces T f p words)
+    laid_kinds : (p : ℕ) (words : List VirtualWord) → StandFrom HasWordAt p words → Pieces (laid_pieces T f p words)
     laid_kinds p [] h = (tt, tt)
-    laid_kinds p (word ∷ words) h = (word_kinds p word (stand_here p word words h), laid_kinds (suc p) words (stand_on p word words h))
+    laid_kinds p (word ∷ words) h = (word_kinds p word (stand_here HasWordAt p word words h), laid_kinds (suc p) words (stand_on HasWordAt p word words h))
 
-    laid_landings : (p : ℕ) (words : List VirtualWord) → Stand p words → Pieces (landing_pieces T f p words)
+    laid_landings : (p : ℕ) (words : List VirtualWord) → StandFrom HasWordAt p words → Pieces (landing_pieces T f p words)
     laid_landings p [] h = tt
-    laid_landings p (word ∷ words) h = pieces_append T Count (word_landings T f p word) (landing_pieces T f (suc p) words) (landing_word_kinds p word (stand_here p word words h)) (laid_landings (suc p) words (stand_on p word words h))
+    laid_landings p (word ∷ words) h = pieces_append T Count (word_landings T f p word) (landing_pieces T f (suc p) words) (landing_word_kinds p word (stand_here HasWordAt p word words h)) (laid_landings (suc p) words (stand_on HasWordAt p word words h))
 
-    all_stand : Stand 0 (T.layout f).words
-    all_stand i word e = let z : i ≡ 0 + i = omega arith in subst (λ n. HasWordAt n word) z e
+    all_stand : StandFrom HasWordAt 0 (T.layout f).words
+    all_stand = stand_from_start HasWordAt (T.layout f).words (λ i word e. e)
 
     function_kinds : Pieces (function_pieces T f)
     function_kinds = (kinds_other T Count (T.entry f) (entry_words T f) entry_other, pieces_append T Count (laid_pieces T f 0 (T.layout f).words) (landing_pieces T f 0 (T.layout f).words) (laid_kinds 0 (T.layout f).words all_stand) (laid_landings 0 (T.layout f).words all_stand))
