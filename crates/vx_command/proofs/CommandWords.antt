@@ -1,6 +1,6 @@
 -- What clap finds in the words of a command, as the definition of the command says it.
-use Rattle.std.proofs.Common.{◌≡◌, ◌≢◌, ◌∙◌, ℕ, Bool, true, false, List, [], ◌∷◌, map, Option, Some, None, option_map, Result, Ok, Err, refl, subst, ap}
-use Rattle.std.specs.Prelude.{IfOk, codes, find, option_and_then, slice_get, unwrap_or}
+use Rattle.std.proofs.Common.{◌≡◌, ◌≢◌, ◌∙◌, ℕ, Bool, true, false, List, [], ◌∷◌, map, Option, Some, None, option_map, refl, subst, ap}
+use Rattle.std.specs.Prelude.{codes, find, option_and_then, slice_get, unwrap_or}
 use Rattle.std.specs.Borrow.{Bor}
 use Rattle.std.specs.Str.{bytes_eq}
 use Rattle.clap.specs.Facts.{Entry}
@@ -40,15 +40,6 @@ compile_is_simple = refl
 pub compile_is_free : is_simple_and_free compile_app ≡ true
 unfolding compile_app
 compile_is_free = refl
-
--- a command that was made is as simple as the definition of its words
-pub as_simple : {C E : Type 0} (shape : C → App) (app : App) → is_simple app ≡ true → (made : Result C E) → IfOk made (λ c. shape c ≡ app) → IfOk made (λ c. is_simple (shape c) ≡ true)
-as_simple shape app simple (Ok c) is = ap is_simple is ∙ simple
-as_simple shape app simple (Err e) is = tt
-
-pub as_free : {C E : Type 0} (shape : C → App) (app : App) → is_simple_and_free app ≡ true → (made : Result C E) → IfOk made (λ c. shape c ≡ app) → IfOk made (λ c. is_simple_and_free (shape c) ≡ true)
-as_free shape app free (Ok c) is = ap is_simple_and_free is ∙ free
-as_free shape app free (Err e) is = tt
 
 pub fault_then : (kinds : Kinds) (k : ErrorKind) → IsAmong k kinds → kinds ≢ []
 fault_then [] k h is = h

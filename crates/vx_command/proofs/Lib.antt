@@ -1,5 +1,6 @@
 pub mod RunFound
 pub mod CommandWords
+pub mod WithWords
 pub mod ProfileFound
 pub mod SoakFound
 mod SoakRows

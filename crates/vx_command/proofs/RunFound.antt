@@ -2,20 +2,17 @@
 use Rattle.std.proofs.Common.{◌≡◌, ◌≢◌, ◌∙◌, ◌≤◌, ℕ, Bool, true, false, List, [], ◌∷◌, Option, Some, None, option_map, MatchOption, Result, Ok, Err, refl, sym, subst, ap, arith}
 use Rattle.std.proofs.lemmas.Bool.{ltb-true}
 use Rattle.std.specs.Prelude.{◌<◌, ◌^◌, codes, option_and_then, unwrap_or}
-use Rattle.std.specs.Borrow.{Bor}
 use Rattle.std.specs.Str.Parse.{ParsesUnsigned, digits_value, without_leading_plus}
-use Rattle.clap.specs.Walk.{Row, Rule, first_of, rule_of, rows_of}
-use Rattle.clap.specs.declared.builder.action.ArgAction.TheVariants.{Set}
-use Rattle.clap.specs.declared.builder.arg.Arg.{Arg}
+use Rattle.clap.specs.Walk.{Row, first_of, rows_of}
 use Rattle.clap.specs.Matches.{first_value}
-use Rattle.clap.specs.Simple.{App, is_simple, matches_of, new_rule}
+use Rattle.clap.specs.Simple.{App, is_simple, matches_of}
 use Rattle.clap.specs.Faults.{fault_of, is_simple_and_free}
 use Rattle.clap.specs.Kinds.{Kinds}
 use Rattle.clap.specs.ValueTests.{is_unsigned_in}
 use Rattle.clap.specs.declared.builder.value_parser.ValueParser.TheVariants.{Unsigned}
 use Rattle.clap.specs.declared.parser.matches.Found.{Found}
 use Rattle.clap.proofs.ValueTestLemmas.{accepts-Accepts, Accepts-accepts}
-use Rattle.vx_command.specs.Command.{Command, Makes, simulates, executes, sim_app, exec_app, sim_of, exec_of, sim_unless, exec_unless, run_unless, run_within, budget_of, growth_of, number_in, option_word, number_word, required_word}
+use Rattle.vx_command.specs.Command.{Command, Makes, simulates, executes, sim_app, exec_app, sim_of, exec_of, sim_unless, exec_unless, run_unless, run_within, budget_of, growth_of, number_in}
 use Rattle.vx_command.proofs.CommandWords.{first_of_rows}
 
 pub sim_is_simple : is_simple sim_app ≡ true
@@ -86,29 +83,6 @@ most_growth_fits n is = below 1000000 (2 ^ 32) n (ltb-true _ _ refl) is
 
 pub most_growth_is_wide : (n : ℕ) → n ≤ 1000000 → n < 2 ^ 64
 most_growth_is_wide n is = below 1000000 (2 ^ 64) n (ltb-true _ _ refl) is
-
--- an option with a number
-
-pub option_is : (a b c d : Arg) (name help : Bor (List ℕ)) → rule_of a ≡ new_rule name.now → b ≡ record a { long = Some name } → c ≡ record b { action = Some Set } → d ≡ record c { help = Some help } → rule_of d ≡ option_word name.now
-option_is a b c d name help rule long action helped =
-    let first : rule_of d ≡ rule_of c = ap {A = Arg} rule_of helped in
-    let second : rule_of c ≡ record (rule_of b) { action = Some Set } = ap {A = Arg} rule_of action in
-    let third : rule_of b ≡ record (rule_of a) { long = Some name.now } = ap {A = Arg} rule_of long in
-    first ∙ second ∙ ap (λ (r : Rule). record r { action = Some Set }) (third ∙ ap (λ (r : Rule). record r { long = Some name.now }) rule)
-
-pub required_is : (a b c d : Arg) (name help : Bor (List ℕ)) → rule_of a ≡ new_rule name.now → b ≡ record a { action = Some Set } → c ≡ record b { required = true } → d ≡ record c { help = Some help } → rule_of d ≡ required_word name.now
-required_is a b c d name help rule action required helped =
-    let first : rule_of d ≡ rule_of c = ap {A = Arg} rule_of helped in
-    let second : rule_of c ≡ record (rule_of b) { required = true } = ap {A = Arg} rule_of required in
-    let third : rule_of b ≡ record (rule_of a) { action = Some Set } = ap {A = Arg} rule_of action in
-    first ∙ second ∙ ap (λ (r : Rule). record r { required = true }) (third ∙ ap (λ (r : Rule). record r { action = Some Set }) rule)
-
-pub numbered : (a b : Arg) (name : List ℕ) (low high : ℕ) → rule_of a ≡ option_word name → b ≡ record a { value_parser = b.value_parser } → b.value_parser ≡ Some (Unsigned low high) → rule_of b ≡ number_word name low high
-numbered a b name low high rule same parser =
-    let first : rule_of b ≡ record (rule_of a) { parser = b.value_parser } = ap {A = Arg} rule_of same in
-    let second : record (rule_of a) { parser = b.value_parser } ≡ record (option_word name) { parser = b.value_parser } = ap (λ (r : Rule). record r { parser = b.value_parser }) rule in
-    let third : record (option_word name) { parser = b.value_parser } ≡ number_word name low high = rw parser refl in
-    first ∙ second ∙ third
 
 -- what was found
 

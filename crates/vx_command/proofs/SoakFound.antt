@@ -2,15 +2,13 @@
 use Rattle.std.proofs.Common.{◌≡◌, ◌≢◌, ◌∙◌, ℕ, true, false, List, [], ◌∷◌, Option, Some, None, option_map, refl, subst, ap}
 use Rattle.std.specs.Prelude.{codes}
 use Rattle.std.specs.Str.{bytes_eq}
-use Rattle.clap.specs.Walk.{Row, Rule, first_of, rule_of, rows_of}
+use Rattle.clap.specs.Walk.{Row, first_of, rows_of}
 use Rattle.clap.specs.Matches.{first_value}
 use Rattle.clap.specs.Simple.{App, is_simple, matches_of}
 use Rattle.clap.specs.Faults.{fault_of, is_simple_and_free}
 use Rattle.clap.specs.Kinds.{Kinds}
-use Rattle.clap.specs.declared.builder.arg.Arg.{Arg}
-use Rattle.clap.specs.declared.builder.value_parser.ValueParser.TheVariants.{Unsigned}
 use Rattle.clap.specs.declared.parser.matches.Found.{Found}
-use Rattle.vx_command.specs.Command.{Command, Soak, number_in, required_word, required_number, soak_app, soak_found, soak_unless, soak_of, command_named}
+use Rattle.vx_command.specs.Command.{Command, Soak, number_in, soak_app, soak_found, soak_unless, soak_of, command_named}
 use Rattle.vx_command.proofs.CommandWords.{first_of_rows}
 
 pub soak_is_simple : is_simple soak_app ≡ true
@@ -20,14 +18,6 @@ soak_is_simple = refl
 pub soak_is_free : is_simple_and_free soak_app ≡ true
 unfolding soak_app
 soak_is_free = refl
-
--- a word that has to be there, with a number
-pub numbered : (a b : Arg) (name : List ℕ) (low high : ℕ) → rule_of a ≡ required_word name → b ≡ record a { value_parser = b.value_parser } → b.value_parser ≡ Some (Unsigned low high) → rule_of b ≡ required_number name low high
-numbered a b name low high rule same parser =
-    let first : rule_of b ≡ record (rule_of a) { parser = b.value_parser } = ap {A = Arg} rule_of same in
-    let second : record (rule_of a) { parser = b.value_parser } ≡ record (required_word name) { parser = b.value_parser } = ap (λ (r : Rule). record r { parser = b.value_parser }) rule in
-    let third : record (required_word name) { parser = b.value_parser } ≡ required_number name low high = rw parser refl in
-    first ∙ second ∙ third
 
 unless_rows : (kinds : Kinds) (rows found : List Row) → kinds ≡ [] → found ≡ rows → soak_unless kinds rows ≡ soak_unless [] found
 unless_rows kinds rows found none same = rw (none, same) refl

@@ -1,18 +1,17 @@
 // The words of a command line: the second names the command, and clap reads the others.
 
 ghost use Rattle.std.specs.Prelude.{◌≡◌, ◌≢◌, ◌⊎◌, [], true, unwrap_or, Some, None, map, IfOk, IfErr};
-ghost use Rattle.clap.specs.Words.{App, app_of, fault_of, first_value, found_of, is_simple, is_simple_and_free, kind_of, matches_of, rows_of};
+ghost use Rattle.clap.specs.Words.{fault_of, first_value, found_of, is_simple, is_simple_and_free, kind_of, matches_of, new_app, rows_of};
 ghost use Rattle.clap.specs.declared.error.kind.ErrorKind.TheVariants.{OutOfMemory};
 ghost use Rattle.vx_status.specs.Status.{Adds, Tells, status_line};
 ghost use Rattle.vx_command.specs.Asked.{compilation_of};
-ghost use Rattle.vx_command.specs.Command.{Compile, compile_app, compile_of, compile_unless};
+ghost use Rattle.vx_command.specs.Command.{Compile, compile_of, compile_unless};
+ghost use Rattle.vx_command.specs.Words.{with_words};
 
-use crate::options::{
-    file_command, growth_of, option_of, required_of, with_compiling_options, with_word,
-};
+use crate::options::{GROWTH, Kind, MACHINE, PROFILE, SOURCE, Word, arg_of, growth_of};
 use clap::error::ErrorKind;
 use clap::{ArgMatches, Command, Error};
-use std::alloc::{AllocError, Global};
+use std::alloc::Global;
 use vx_io::sink::Sink;
 use vx_status::{Status, put, tell};
 
@@ -33,31 +32,19 @@ pub struct CompileWords<'a> {
     pub report: Option<&'a str>,
 }
 
-/// `compile SRC OUT [--profile P] [--machine M] [--growth G] [--report R]`.
-fn compile_command<'a>(alloc: Global) -> Result<Command<'a>, AllocError>
-    ensures { IfOk result (λ command. app_of command ≡ compile_app) }
-{
-    let command = file_command(
-        alloc,
-        "compile",
-        "Compiles a source, and replaces a file by its words",
-        "SRC",
-        "The file of the source",
-    );
-    let command = with_word(
-        command,
-        required_of(alloc, "OUT", "The file that the words go to"),
-    );
-    let command = with_compiling_options(alloc, command);
-    with_word(
-        command,
-        option_of(
-            alloc,
-            "report",
-            "The file that the report of the plan goes to [default: none]",
-        ),
-    )
-}
+/// `OUT`.
+const OUT: Word<'static> = Word {
+    name: "OUT",
+    help: "The file that the words go to",
+    kind: Kind::Required,
+};
+
+/// `--report R`.
+const REPORT: Word<'static> = Word {
+    name: "report",
+    help: "The file that the report of the plan goes to [default: none]",
+    kind: Kind::Optional,
+};
 
 /// The text at a word that has to be there.
 pub(crate) fn text_at<'a>(found: &ArgMatches<'a>, name: &str) -> &'a str
@@ -103,39 +90,30 @@ pub(crate) fn refusal_of(alloc: Global, error: &Error) -> Refused
     }
 }
 
-/// What clap finds in the words of a command, or its refusal.
-fn found_in<'a>(
+/// What clap finds in the words of a command of this name and these words and options, or its refusal.
+pub(crate) fn found_or_refused<'a>(
     alloc: Global,
-    command: Command<'a>,
+    name: &'a str,
+    about: &'a str,
+    options: &[Word<'a>],
     words: &'a [&'a str],
 ) -> Result<ArgMatches<'a>, Refused>
-    requires simple { is_simple (app_of command) ≡ true }
-    requires free { is_simple_and_free (app_of command) ≡ true }
-    ensures none { IfOk result (λ found. fault_of (app_of command.entry) (map (λ w. w.now) words.now) ≡ []) }
-    ensures rows { IfOk result (λ found. rows_of (found_of found) ≡ matches_of (app_of command.entry) (map (λ w. w.now) words.now)) }
-    ensures refused { IfErr result (λ refused. (refused.status ≡ Status.NoMemory) ⊎ ((refused.status ≡ Status.Usage) × (fault_of (app_of command.entry) (map (λ w. w.now) words.now) ≢ []))) }
+    requires simple { is_simple (with_words (new_app name.now) options.now) ≡ true }
+    requires free { is_simple_and_free (with_words (new_app name.now) options.now) ≡ true }
+    ensures none { IfOk result (λ found. fault_of (with_words (new_app name.entry.now) options.now) (map (λ w. w.now) words.now) ≡ []) }
+    ensures rows { IfOk result (λ found. rows_of (found_of found) ≡ matches_of (with_words (new_app name.entry.now) options.now) (map (λ w. w.now) words.now)) }
+    ensures refused { IfErr result (λ refused. (refused.status ≡ Status.NoMemory) ⊎ ((refused.status ≡ Status.Usage) × (fault_of (with_words (new_app name.entry.now) options.now) (map (λ w. w.now) words.now) ≢ []))) }
 {
+    let mut command = Command::new(alloc, name).about(about);
+    for word in options {
+        command = match command.arg(arg_of(alloc, word)) {
+            Ok(command) => command,
+            Err(_) => return Err(without_text(Status::NoMemory)),
+        };
+    }
     match command.try_get_matches_from(words) {
         Ok(found) => Ok(found),
         Err(error) => Err(refusal_of(alloc, &error)),
-    }
-}
-
-/// What clap finds in the words of a command, where there was memory for the command, or its refusal.
-pub(crate) fn found_or_refused<'a>(
-    alloc: Global,
-    command: Result<Command<'a>, AllocError>,
-    words: &'a [&'a str],
-) -> Result<ArgMatches<'a>, Refused>
-    requires simple { IfOk command (λ made. is_simple (app_of made) ≡ true) }
-    requires free { IfOk command (λ made. is_simple_and_free (app_of made) ≡ true) }
-    ensures none { (app : App) → IfOk command.entry (λ made. app_of made ≡ app) → IfOk result (λ found. fault_of app (map (λ w. w.now) words.now) ≡ []) }
-    ensures rows { (app : App) → IfOk command.entry (λ made. app_of made ≡ app) → IfOk result (λ found. rows_of (found_of found) ≡ matches_of app (map (λ w. w.now) words.now)) }
-    ensures refused { (app : App) → IfOk command.entry (λ made. app_of made ≡ app) → IfErr result (λ refused. (refused.status ≡ Status.NoMemory) ⊎ ((refused.status ≡ Status.Usage) × (fault_of app (map (λ w. w.now) words.now) ≢ []))) }
-{
-    match command {
-        Ok(command) => found_in(alloc, command, words),
-        Err(_) => Err(without_text(Status::NoMemory)),
     }
 }
 
@@ -157,12 +135,19 @@ fn compile_found<'a>(found: &ArgMatches<'a>) -> Result<CompileWords<'a>, Refused
     }
 }
 
-/// What the words of `compile` ask for, the program's name first, or their refusal.
+/// What the words of `compile SRC OUT [--profile P] [--machine M] [--growth G] [--report R]` ask for, the program's name first, or their
+/// refusal.
 pub fn compile_asked<'a>(alloc: Global, words: &'a [&'a str]) -> Result<CompileWords<'a>, Refused>
     ensures asked { IfOk result (λ asked. compile_of (map (λ w. w.now) words.now) ≡ Some (Compile (compilation_of asked))) }
     ensures refused { IfErr result (λ refused. (refused.status ≡ Status.NoMemory) ⊎ ((refused.status ≡ Status.Usage) × (compile_of (map (λ w. w.now) words.now) ≡ None))) }
 {
-    match found_or_refused(alloc, compile_command(alloc), words) {
+    match found_or_refused(
+        alloc,
+        "compile",
+        "Compiles a source, and replaces a file by its words",
+        &[SOURCE, OUT, PROFILE, MACHINE, GROWTH, REPORT],
+        words,
+    ) {
         Ok(found) => {
             let asked = compile_found(&found);
             drop(found);

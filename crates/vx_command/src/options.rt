@@ -1,151 +1,93 @@
 // The words and options of a command, each with its line of help, and how many operations may be copied.
 
-ghost use Rattle.std.specs.Prelude.{◌≡◌, ◌≤◌, ℕ, false, codes, Some, option_map, IfOk, IfSome, MatchOption};
-ghost use Rattle.clap.specs.Words.{App, Rule, app_of, rule_of, with_rule};
-ghost use Rattle.vx_command.specs.Command.{required_word, required_number, option_word, number_word, number_in, growth_word, growth_of, file_app, with_compiling_options};
+ghost use Rattle.std.specs.Prelude.{◌≡◌, ◌≤◌, ℕ, false, Some, option_map, IfSome, MatchOption};
+ghost use Rattle.clap.specs.Words.{rule_of};
+ghost use Rattle.vx_command.specs.Command.{number_in, growth_of};
+ghost use Rattle.vx_command.specs.Words.{rule_of_word};
 
 use clap::builder::ValueParser;
-use clap::{Arg, ArgAction, Command};
-use std::alloc::{AllocError, Global};
+use clap::{Arg, ArgAction};
+use std::alloc::Global;
 
 const MOST_GROWTH: u32 = 1000000;
 
 const DEFAULT_GROWTH: u32 = 4000;
 
-/// A word that has to be there, with its line of help.
-pub(crate) fn required_of<'a>(alloc: Global, name: &'a str, help: &'a str) -> Arg<'a>
-    ensures rule { rule_of result ≡ required_word name.entry.now }
-    ensures local { result.global ≡ false }
-{
-    Arg::new(alloc, name)
-        .action(ArgAction::Set)
-        .required(true)
-        .help(help)
+/// What stands at a word of a command.
+pub enum Kind {
+    /// A text that has to be there.
+    Required,
+    /// A number from the least to the most, which has to be there.
+    RequiredNumber(u64, u64),
+    /// `--name VALUE`.
+    Optional,
+    /// `--name N`, a number from the least to the most.
+    Number(u64, u64),
 }
 
-/// A word that has to be there, a number from low to high.
-pub(crate) fn required_number_of<'a>(
-    alloc: Global,
-    name: &'a str,
-    help: &'a str,
-    low: u64,
-    high: u64,
-) -> Arg<'a>
-    ensures rule { rule_of result ≡ required_number name.entry.now low high }
-    ensures local { result.global ≡ false }
-{
-    required_of(alloc, name, help).value_parser(ValueParser::Unsigned(low, high))
+/// A word or an option of a command.
+pub struct Word<'a> {
+    /// Its name.
+    pub name: &'a str,
+    /// Its line of help.
+    pub help: &'a str,
+    /// What stands there.
+    pub kind: Kind,
 }
 
-/// `--name VALUE`, with its line of help.
-pub(crate) fn option_of<'a>(alloc: Global, name: &'a str, help: &'a str) -> Arg<'a>
-    ensures rule { rule_of result ≡ option_word name.entry.now }
-    ensures local { result.global ≡ false }
-{
-    Arg::new(alloc, name)
-        .long(name)
-        .action(ArgAction::Set)
-        .help(help)
-}
+/// `SRC`.
+pub(crate) const SOURCE: Word<'static> = Word {
+    name: "SRC",
+    help: "The file of the source",
+    kind: Kind::Required,
+};
 
-/// `--name N`, N from low to high.
-pub(crate) fn number_of<'a>(
-    alloc: Global,
-    name: &'a str,
-    help: &'a str,
-    low: u64,
-    high: u64,
-) -> Arg<'a>
-    ensures rule { rule_of result ≡ number_word name.entry.now low high }
-    ensures local { result.global ≡ false }
-{
-    option_of(alloc, name, help).value_parser(ValueParser::Unsigned(low, high))
-}
+/// `--profile P`.
+pub(crate) const PROFILE: Word<'static> = Word {
+    name: "profile",
+    help: "The file of a profile, whose counts pick the traces [default: no counts]",
+    kind: Kind::Optional,
+};
 
 /// `--machine M`.
-pub(crate) fn machine_option<'a>(alloc: Global) -> Arg<'a>
-    ensures rule { rule_of result ≡ option_word (codes "machine") }
-    ensures local { result.global ≡ false }
-{
-    option_of(
-        alloc,
-        "machine",
-        "The file that describes the machine [default: the one with a single cluster]",
-    )
-}
-
-/// `--input I`.
-pub(crate) fn input_option<'a>(alloc: Global) -> Arg<'a>
-    ensures rule { rule_of result ≡ option_word (codes "input") }
-    ensures local { result.global ≡ false }
-{
-    option_of(
-        alloc,
-        "input",
-        "The file of the input, decimal numbers [default: no numbers]",
-    )
-}
+pub(crate) const MACHINE: Word<'static> = Word {
+    name: "machine",
+    help: "The file that describes the machine [default: the one with a single cluster]",
+    kind: Kind::Optional,
+};
 
 /// `--growth G`, G from 0 to the most operations that may be copied.
-fn growth_option<'a>(alloc: Global) -> Arg<'a>
-    ensures rule { rule_of result ≡ growth_word }
+pub(crate) const GROWTH: Word<'static> = Word {
+    name: "growth",
+    help: "How many operations may be copied, from 0 to 1000000 [default: 4000]",
+    kind: Kind::Number(0, MOST_GROWTH as u64),
+};
+
+/// `--input I`.
+pub(crate) const INPUT: Word<'static> = Word {
+    name: "input",
+    help: "The file of the input, decimal numbers [default: no numbers]",
+    kind: Kind::Optional,
+};
+
+/// What clap reads a word by.
+pub(crate) fn arg_of<'a>(alloc: Global, word: &Word<'a>) -> Arg<'a>
+    ensures rule { rule_of result ≡ rule_of_word word.now }
     ensures local { result.global ≡ false }
 {
-    number_of(
-        alloc,
-        "growth",
-        "How many operations may be copied, from 0 to 1000000 [default: 4000]",
-        0,
-        MOST_GROWTH as u64,
-    )
-}
-
-/// A command, where there was memory for it, and behind its words this one.
-pub(crate) fn with_word<'a>(
-    command: Result<Command<'a>, AllocError>,
-    word: Arg<'a>,
-) -> Result<Command<'a>, AllocError>
-    requires { word.global ≡ false }
-    ensures { (app : App) (rule : Rule) → IfOk command.entry (λ made. app_of made ≡ app) → rule_of word.entry ≡ rule → IfOk result (λ whole. app_of whole ≡ with_rule app rule) }
-{
-    match command {
-        Ok(command) => command.arg(word),
-        Err(error) => Err(error),
+    let arg = Arg::new(alloc, word.name)
+        .action(ArgAction::Set)
+        .help(word.help);
+    match word.kind {
+        Kind::Required => arg.required(true),
+        Kind::RequiredNumber(low, high) => arg
+            .required(true)
+            .value_parser(ValueParser::Unsigned(low, high)),
+        Kind::Optional => arg.long(word.name),
+        Kind::Number(low, high) => arg
+            .long(word.name)
+            .value_parser(ValueParser::Unsigned(low, high)),
     }
-}
-
-/// `NAME FILE`, with what the command does and the line of help of the file.
-pub(crate) fn file_command<'a>(
-    alloc: Global,
-    name: &'a str,
-    about: &'a str,
-    file: &'a str,
-    help: &'a str,
-) -> Result<Command<'a>, AllocError>
-    ensures { IfOk result (λ command. app_of command ≡ file_app name.entry.now file.entry.now) }
-{
-    Command::new(alloc, name)
-        .about(about)
-        .arg(required_of(alloc, file, help))
-}
-
-/// The words of a command, where there was memory for it, and after them `[--profile P] [--machine M] [--growth G]`.
-pub(crate) fn with_compiling_options<'a>(
-    alloc: Global,
-    command: Result<Command<'a>, AllocError>,
-) -> Result<Command<'a>, AllocError>
-    ensures { (app : App) → IfOk command.entry (λ made. app_of made ≡ app) → IfOk result (λ whole. app_of whole ≡ with_compiling_options app) }
-{
-    let command = with_word(
-        command,
-        option_of(
-            alloc,
-            "profile",
-            "The file of a profile, whose counts pick the traces [default: no counts]",
-        ),
-    );
-    let command = with_word(command, machine_option(alloc));
-    with_word(command, growth_option(alloc))
 }
 
 /// A number from 0 to the most operations that may be copied.

@@ -1,15 +1,15 @@
 // The words of `profile`, as clap reads them.
 
 ghost use Rattle.std.specs.Prelude.{◌≡◌, ◌⊎◌, [], Some, None, map, IfOk, IfErr};
-ghost use Rattle.clap.specs.Words.{app_of, rows_of, found_of};
-ghost use Rattle.vx_command.specs.Command.{Count, profile_app, profile_of, profile_unless};
+ghost use Rattle.clap.specs.Words.{rows_of, found_of};
+ghost use Rattle.vx_command.specs.Command.{Count, profile_of, profile_unless};
 ghost use Rattle.vx_command.specs.Asked.{profiling_of};
 
 use crate::command::{Refused, found_or_refused, text_at, without_text};
-use crate::options::{file_command, input_option, number_of, with_word};
+use crate::options::{INPUT, Kind, SOURCE, Word};
 use crate::run_words::{MOST_WORDS, budget_of};
-use clap::{ArgMatches, Command};
-use std::alloc::{AllocError, Global};
+use clap::ArgMatches;
+use std::alloc::Global;
 use vx_status::Status;
 
 /// The words of `profile`.
@@ -23,29 +23,12 @@ pub struct ProfileWords<'a> {
     pub blocks: u64,
 }
 
-/// `profile SRC [--input I] [--blocks N]`.
-fn profile_command<'a>(alloc: Global) -> Result<Command<'a>, AllocError>
-    ensures { IfOk result (λ command. app_of command ≡ profile_app) }
-{
-    let command = file_command(
-        alloc,
-        "profile",
-        "Puts how often each block and edge of a source is passed",
-        "SRC",
-        "The file of the source",
-    );
-    let command = with_word(command, input_option(alloc));
-    with_word(
-        command,
-        number_of(
-            alloc,
-            "blocks",
-            "How many blocks are run at most, from 1 to 1000000000000 [default: 1000000000]",
-            1,
-            MOST_WORDS,
-        ),
-    )
-}
+/// `--blocks N`.
+const BLOCKS: Word<'static> = Word {
+    name: "blocks",
+    help: "How many blocks are run at most, from 1 to 1000000000000 [default: 1000000000]",
+    kind: Kind::Number(1, MOST_WORDS),
+};
 
 /// What was found in the words of `profile`, where the number of blocks is in its range.
 fn profile_found<'a>(found: &ArgMatches<'a>) -> Result<ProfileWords<'a>, Refused>
@@ -62,12 +45,18 @@ fn profile_found<'a>(found: &ArgMatches<'a>) -> Result<ProfileWords<'a>, Refused
     }
 }
 
-/// What the words of `profile` ask for, the program's name first, or their refusal.
+/// What the words of `profile SRC [--input I] [--blocks N]` ask for, the program's name first, or their refusal.
 pub fn profile_asked<'a>(alloc: Global, words: &'a [&'a str]) -> Result<ProfileWords<'a>, Refused>
     ensures asked { IfOk result (λ asked. profile_of (map (λ w. w.now) words.now) ≡ Some (Count (profiling_of asked))) }
     ensures refused { IfErr result (λ refused. (refused.status ≡ Status.NoMemory) ⊎ ((refused.status ≡ Status.Usage) × (profile_of (map (λ w. w.now) words.now) ≡ None))) }
 {
-    match found_or_refused(alloc, profile_command(alloc), words) {
+    match found_or_refused(
+        alloc,
+        "profile",
+        "Puts how often each block and edge of a source is passed",
+        &[SOURCE, INPUT, BLOCKS],
+        words,
+    ) {
         Ok(found) => {
             let asked = profile_found(&found);
             drop(found);

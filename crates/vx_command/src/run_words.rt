@@ -1,17 +1,14 @@
 // The words of `sim` and of `exec`, as clap reads them.
 
 ghost use Rattle.std.specs.Prelude.{◌≡◌, ◌⊎◌, ◌≤◌, [], unwrap_or, Some, None, map, option_map, codes, IfOk, IfErr, MatchOption};
-ghost use Rattle.clap.specs.Words.{App, app_of, rows_of, first_value, found_of};
-ghost use Rattle.vx_command.specs.Command.{with_run_options, sim_app, exec_app, run_unless, Makes, Simulate, Execute, executes, sim_of, exec_of, exec_unless, budget_of};
+ghost use Rattle.clap.specs.Words.{rows_of, first_value, found_of};
+ghost use Rattle.vx_command.specs.Command.{run_unless, Makes, Simulate, Execute, executes, sim_of, exec_of, exec_unless, budget_of};
 ghost use Rattle.vx_command.specs.Asked.{asks, simulation_of, execution_of};
 
 use crate::command::{Refused, found_or_refused, text_at, without_text};
-use crate::options::{
-    file_command, growth_of, input_option, machine_option, number_of, option_of,
-    with_compiling_options, with_word,
-};
-use clap::{ArgMatches, Command};
-use std::alloc::{AllocError, Global};
+use crate::options::{GROWTH, INPUT, Kind, MACHINE, PROFILE, SOURCE, Word, growth_of};
+use clap::ArgMatches;
+use std::alloc::Global;
 use vx_status::Status;
 
 /// The words of a run.
@@ -46,72 +43,33 @@ pub(crate) const MOST_WORDS: u64 = 1000000000000;
 
 const DEFAULT_WORDS: u64 = 1000000000;
 
-/// The words of a command, where there was memory for it, and after them
-/// `[--input I] [--words N] [--timing T] [--probe B]`.
-fn with_run_options<'a>(
-    alloc: Global,
-    command: Result<Command<'a>, AllocError>,
-) -> Result<Command<'a>, AllocError>
-    ensures { (app : App) → IfOk command.entry (λ made. app_of made ≡ app) → IfOk result (λ whole. app_of whole ≡ with_run_options app) }
-{
-    let command = with_word(command, input_option(alloc));
-    let command = with_word(
-        command,
-        number_of(
-            alloc,
-            "words",
-            "How many words are run at most, from 1 to 1000000000000 [default: 1000000000]",
-            1,
-            MOST_WORDS,
-        ),
-    );
-    let command = with_word(
-        command,
-        option_of(
-            alloc,
-            "timing",
-            "When results land: late, early or cyclic [default: late]",
-        ),
-    );
-    with_word(
-        command,
-        option_of(
-            alloc,
-            "probe",
-            "Who reports at the end: units, words or all [default: none]",
-        ),
-    )
-}
+/// `WORDS`.
+const WORDS: Word<'static> = Word {
+    name: "WORDS",
+    help: "The file of the words",
+    kind: Kind::Required,
+};
 
-/// `sim WORDS [--machine M]` with these options.
-fn sim_command<'a>(alloc: Global) -> Result<Command<'a>, AllocError>
-    ensures { IfOk result (λ command. app_of command ≡ sim_app) }
-{
-    let command = file_command(
-        alloc,
-        "sim",
-        "Runs a text of words",
-        "WORDS",
-        "The file of the words",
-    );
-    let command = with_word(command, machine_option(alloc));
-    with_run_options(alloc, command)
-}
+/// `--words N`.
+const BUDGET: Word<'static> = Word {
+    name: "words",
+    help: "How many words are run at most, from 1 to 1000000000000 [default: 1000000000]",
+    kind: Kind::Number(1, MOST_WORDS),
+};
 
-/// `exec SRC [--profile P] [--machine M] [--growth G]` with these options.
-fn exec_command<'a>(alloc: Global) -> Result<Command<'a>, AllocError>
-    ensures { IfOk result (λ command. app_of command ≡ exec_app) }
-{
-    let command = file_command(
-        alloc,
-        "exec",
-        "Compiles a source and runs its words",
-        "SRC",
-        "The file of the source",
-    );
-    let command = with_compiling_options(alloc, command);
-    with_run_options(alloc, command)
-}
+/// `--timing T`.
+const TIMING: Word<'static> = Word {
+    name: "timing",
+    help: "When results land: late, early or cyclic [default: late]",
+    kind: Kind::Optional,
+};
+
+/// `--probe B`.
+const PROBE: Word<'static> = Word {
+    name: "probe",
+    help: "Who reports at the end: units, words or all [default: none]",
+    kind: Kind::Optional,
+};
 
 /// A number from 1 to the most words, or blocks.
 fn within(number: u64) -> Option<u64>
@@ -212,12 +170,18 @@ fn exec_found<'a>(found: &ArgMatches<'a>) -> Result<ExecWords<'a>, Refused>
     }
 }
 
-/// What the words of `sim` ask for, the program's name first, or their refusal.
+/// What the words of `sim WORDS [--machine M] [--input I] [--words N] [--timing T] [--probe B]` ask for, the program's name first, or their refusal.
 pub fn sim_asked<'a>(alloc: Global, words: &'a [&'a str]) -> Result<RunWords<'a>, Refused>
     ensures asked { IfOk result (λ asked. sim_of (map (λ w. w.now) words.now) ≡ Some (Simulate (simulation_of asked))) }
     ensures refused { IfErr result (λ refused. (refused.status ≡ Status.NoMemory) ⊎ ((refused.status ≡ Status.Usage) × (sim_of (map (λ w. w.now) words.now) ≡ None))) }
 {
-    match found_or_refused(alloc, sim_command(alloc), words) {
+    match found_or_refused(
+        alloc,
+        "sim",
+        "Runs a text of words",
+        &[WORDS, MACHINE, INPUT, BUDGET, TIMING, PROBE],
+        words,
+    ) {
         Ok(found) => {
             let asked = asked_in(&found, "WORDS");
             drop(found);
@@ -227,12 +191,21 @@ pub fn sim_asked<'a>(alloc: Global, words: &'a [&'a str]) -> Result<RunWords<'a>
     }
 }
 
-/// What the words of `exec` ask for, the program's name first, or their refusal.
+/// What the words of `exec SRC [--profile P] [--machine M] [--growth G] [--input I] [--words N] [--timing T] [--probe B]` ask for, the
+/// program's name first, or their refusal.
 pub fn exec_asked<'a>(alloc: Global, words: &'a [&'a str]) -> Result<ExecWords<'a>, Refused>
     ensures asked { IfOk result (λ asked. exec_of (map (λ w. w.now) words.now) ≡ Some (Execute (execution_of asked))) }
     ensures refused { IfErr result (λ refused. (refused.status ≡ Status.NoMemory) ⊎ ((refused.status ≡ Status.Usage) × (exec_of (map (λ w. w.now) words.now) ≡ None))) }
 {
-    match found_or_refused(alloc, exec_command(alloc), words) {
+    match found_or_refused(
+        alloc,
+        "exec",
+        "Compiles a source and runs its words",
+        &[
+            SOURCE, PROFILE, MACHINE, GROWTH, INPUT, BUDGET, TIMING, PROBE,
+        ],
+        words,
+    ) {
         Ok(found) => {
             let asked = exec_found(&found);
             drop(found);

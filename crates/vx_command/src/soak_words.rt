@@ -2,45 +2,34 @@
 
 ghost use Rattle.std.specs.Prelude.{◌≡◌, ◌⊎◌, [], Some, None, map, option_map, codes, IfOk, IfErr};
 ghost use Rattle.clap.specs.Walk.{first_of};
-ghost use Rattle.clap.specs.Words.{app_of, rows_of, found_of};
-ghost use Rattle.vx_command.specs.Command.{Soak, number_in, soak_app, soak_found, soak_of, soak_unless};
+ghost use Rattle.clap.specs.Words.{rows_of, found_of};
+ghost use Rattle.vx_command.specs.Command.{Soak, number_in, soak_found, soak_of, soak_unless};
 ghost use Rattle.vx_command.specs.Asked.{soaking_of};
 
 use crate::command::{Refused, found_or_refused, without_text};
-use crate::options::{number_or_least, required_number_of, with_word};
+use crate::options::{Kind, Word, number_or_least};
 use crate::soak_request::SoakWords;
-use clap::{ArgMatches, Command};
-use std::alloc::{AllocError, Global};
+use clap::ArgMatches;
+use std::alloc::Global;
 use vx_status::Status;
 
 const MOST_SEED: u64 = 1000000000;
 
 const MOST_SIZE: u64 = 10000;
 
-/// `soak SEED SIZE`.
-fn soak_command<'a>(alloc: Global) -> Result<Command<'a>, AllocError>
-    ensures { IfOk result (λ command. app_of command ≡ soak_app) }
-{
-    let command = Command::new(alloc, "soak")
-        .about("Makes a source, compiles and runs it, and puts one line of it")
-        .arg(required_number_of(
-            alloc,
-            "SEED",
-            "Where the draws begin, from 0 to 1000000000",
-            0,
-            MOST_SEED,
-        ));
-    with_word(
-        command,
-        required_number_of(
-            alloc,
-            "SIZE",
-            "How many statements are made, from 1 to 10000",
-            1,
-            MOST_SIZE,
-        ),
-    )
-}
+/// `SEED`.
+const SEED: Word<'static> = Word {
+    name: "SEED",
+    help: "Where the draws begin, from 0 to 1000000000",
+    kind: Kind::RequiredNumber(0, MOST_SEED),
+};
+
+/// `SIZE`.
+const SIZE: Word<'static> = Word {
+    name: "SIZE",
+    help: "How many statements are made, from 1 to 10000",
+    kind: Kind::RequiredNumber(1, MOST_SIZE),
+};
 
 /// The size that was found, beside a seed.
 fn with_seed(found: &ArgMatches, seed: u64) -> Option<SoakWords>
@@ -76,12 +65,18 @@ fn asked_in(found: &ArgMatches) -> Result<SoakWords, Refused>
     }
 }
 
-/// What the words of `soak` ask for, the program's name first, or their refusal.
+/// What the words of `soak SEED SIZE` ask for, the program's name first, or their refusal.
 pub fn soak_asked<'a>(alloc: Global, words: &'a [&'a str]) -> Result<SoakWords, Refused>
     ensures asked { IfOk result (λ asked. soak_of (map (λ w. w.now) words.now) ≡ Some (Soak (soaking_of asked))) }
     ensures refused { IfErr result (λ refused. (refused.status ≡ Status.NoMemory) ⊎ ((refused.status ≡ Status.Usage) × (soak_of (map (λ w. w.now) words.now) ≡ None))) }
 {
-    match found_or_refused(alloc, soak_command(alloc), words) {
+    match found_or_refused(
+        alloc,
+        "soak",
+        "Makes a source, compiles and runs it, and puts one line of it",
+        &[SEED, SIZE],
+        words,
+    ) {
         Ok(found) => {
             let asked = asked_in(&found);
             drop(found);

@@ -1,30 +1,30 @@
 -- What was found in the words of `exec`, and that they are refused.
 use Rattle.std.proofs.Common.{◌∙◌, inl, inr, map, refl, sym}
 use Rattle.std.proofs.lemmas.Result.{IfOk-weaker, IfErr-weaker}
-use Rattle.clap.specs.Words.{app_of, found_of, rows_of}
+use Rattle.clap.specs.Words.{found_of, rows_of}
 use Rattle.vx_command.specs.Command.{exec_app}
-use Rattle.vx_command.proofs.CommandWords.{as_free, as_simple}
 use Rattle.vx_command.proofs.RunFound.{exec_is_simple, exec_is_free, exec_taken, exec_refused}
 use Rattle.vx_command.proofs.run_words.exec_asked.Goals as goal
 
 pub found_or_refused-requires : goal.found_or_refused-requires
-found_or_refused-requires c = record {
-  simple = as_simple app_of exec_app exec_is_simple c.exec_command.result c.exec_command.ensures;
-  free = as_free app_of exec_app exec_is_free c.exec_command.result c.exec_command.ensures;
-}
+unfolding exec_app
+found_or_refused-requires c = record { simple = exec_is_simple; free = exec_is_free }
 
 pub returns-in-Ok-clause-asked : goal.returns-in-Ok-clause-asked
+unfolding exec_app
 returns-in-Ok-clause-asked c =
-    let is = exec_taken exec_app refl (map (λ w. w.now) c.args.words.now) (rows_of (found_of c.in-Ok.found)) (c.in-Ok.ensures.none exec_app c.exec_command.ensures) (c.in-Ok.ensures.rows exec_app c.exec_command.ensures) in
+    let is = exec_taken exec_app refl (map (λ w. w.now) c.args.words.now) (rows_of (found_of c.in-Ok.found)) c.in-Ok.ensures.none c.in-Ok.ensures.rows in
     IfOk-weaker c.exec_found-asked.result _ _ (λ asked same. is ∙ sym same) c.exec_found-asked.ensures.asked
 
 pub returns-in-Ok-clause-refused : goal.returns-in-Ok-clause-refused
+unfolding exec_app
 returns-in-Ok-clause-refused c =
-    let is = exec_taken exec_app refl (map (λ w. w.now) c.args.words.now) (rows_of (found_of c.in-Ok.found)) (c.in-Ok.ensures.none exec_app c.exec_command.ensures) (c.in-Ok.ensures.rows exec_app c.exec_command.ensures) in
+    let is = exec_taken exec_app refl (map (λ w. w.now) c.args.words.now) (rows_of (found_of c.in-Ok.found)) c.in-Ok.ensures.none c.in-Ok.ensures.rows in
     IfErr-weaker c.exec_found-asked.result _ _ (λ _ why. inr (why.0, is ∙ sym why.1)) c.exec_found-asked.ensures.refused
 
 pub returns-in-Err-clause-refused : goal.returns-in-Err-clause-refused
-returns-in-Err-clause-refused c = elim (c.in-Err.ensures.refused exec_app c.exec_command.ensures) [
+unfolding exec_app
+returns-in-Err-clause-refused c = elim c.in-Err.ensures.refused [
   | inl memory ↦ inl memory
   | inr usage ↦ inr (usage.0, exec_refused exec_app refl (map (λ w. w.now) c.args.words.now) usage.1)
 ]

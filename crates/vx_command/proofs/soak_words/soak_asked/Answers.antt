@@ -1,30 +1,30 @@
 -- What was found in the words of `soak`, and that they are refused.
 use Rattle.std.proofs.Common.{◌∙◌, inl, inr, map, refl, sym}
 use Rattle.std.proofs.lemmas.Result.{IfOk-weaker, IfErr-weaker}
-use Rattle.clap.specs.Words.{app_of, found_of, rows_of}
+use Rattle.clap.specs.Words.{found_of, rows_of}
 use Rattle.vx_command.specs.Command.{soak_app}
-use Rattle.vx_command.proofs.CommandWords.{as_free, as_simple}
 use Rattle.vx_command.proofs.SoakFound.{soak_is_simple, soak_is_free, soak_taken, soak_refused}
 use Rattle.vx_command.proofs.soak_words.soak_asked.Goals as goal
 
 pub found_or_refused-requires : goal.found_or_refused-requires
-found_or_refused-requires c = record {
-  simple = as_simple app_of soak_app soak_is_simple c.soak_command.result c.soak_command.ensures;
-  free = as_free app_of soak_app soak_is_free c.soak_command.result c.soak_command.ensures;
-}
+unfolding soak_app
+found_or_refused-requires c = record { simple = soak_is_simple; free = soak_is_free }
 
 pub returns-in-Ok-clause-asked : goal.returns-in-Ok-clause-asked
+unfolding soak_app
 returns-in-Ok-clause-asked c =
-    let is = soak_taken soak_app refl (map (λ w. w.now) c.args.words.now) (rows_of (found_of c.in-Ok.found)) (c.in-Ok.ensures.none soak_app c.soak_command.ensures) (c.in-Ok.ensures.rows soak_app c.soak_command.ensures) in
+    let is = soak_taken soak_app refl (map (λ w. w.now) c.args.words.now) (rows_of (found_of c.in-Ok.found)) c.in-Ok.ensures.none c.in-Ok.ensures.rows in
     IfOk-weaker c.asked_in-asked.result _ _ (λ asked same. is ∙ sym same) c.asked_in-asked.ensures.asked
 
 pub returns-in-Ok-clause-refused : goal.returns-in-Ok-clause-refused
+unfolding soak_app
 returns-in-Ok-clause-refused c =
-    let is = soak_taken soak_app refl (map (λ w. w.now) c.args.words.now) (rows_of (found_of c.in-Ok.found)) (c.in-Ok.ensures.none soak_app c.soak_command.ensures) (c.in-Ok.ensures.rows soak_app c.soak_command.ensures) in
+    let is = soak_taken soak_app refl (map (λ w. w.now) c.args.words.now) (rows_of (found_of c.in-Ok.found)) c.in-Ok.ensures.none c.in-Ok.ensures.rows in
     IfErr-weaker c.asked_in-asked.result _ _ (λ _ why. inr (why.0, is ∙ sym why.1)) c.asked_in-asked.ensures.refused
 
 pub returns-in-Err-clause-refused : goal.returns-in-Err-clause-refused
-returns-in-Err-clause-refused c = elim (c.in-Err.ensures.refused soak_app c.soak_command.ensures) [
+unfolding soak_app
+returns-in-Err-clause-refused c = elim c.in-Err.ensures.refused [
   | inl memory ↦ inl memory
   | inr usage ↦ inr (usage.0, soak_refused soak_app refl (map (λ w. w.now) c.args.words.now) usage.1)
 ]
