@@ -48,7 +48,12 @@ fn digit(byte: u8) -> bool
 fn all_digits(text: &[u8]) -> bool
     ensures { result ≡ list_all is_digit text.now }
 {
-    text.iter().all(|byte| digit(*byte))
+    for byte in text {
+        if !digit(*byte) {
+            return false;
+        }
+    }
+    true
 }
 
 /// At least one digit, and nothing else.
@@ -122,7 +127,12 @@ fn piece_end(text: &[u8]) -> usize
     ensures within { result ≤ length text.now }
     ensures end { result ≡ prefix_len is_no_blank text.now }
 {
-    text.iter().take_while(|byte| !blank(**byte)).count()
+    for (place, byte) in text.iter().enumerate() {
+        if blank(*byte) {
+            return place;
+        }
+    }
+    text.len()
 }
 
 /// The text behind its first bytes; nothing where it has no more.

@@ -1,5 +1,7 @@
-pub mod Bytes
 pub mod Counted
+pub mod Firsts
+pub mod Found
+pub mod Lengths
 pub mod Numbers
 pub mod Places
 pub mod Scan

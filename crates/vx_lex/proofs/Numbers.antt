@@ -29,11 +29,11 @@ by_digits : (text digits ds : List ℕ) (base n k value : ℕ) → n ≡ k → d
 by_digits text digits ds base n k value e d is =
     ap (number_of text n) is ∙ number_capped text n (value_of_digits base digits) ∙ ap (λ j. number_of text j (value_of_digits base digits)) e ∙ ap (λ l. number_of text k (value_of_digits base l)) d
 
-chosen : (t : Bool) (p q : Piece) → t ≡ true → p ≡ cond t p q
+pub chosen : (t : Bool) (p q : Piece) → t ≡ true → p ≡ cond t p q
 chosen true p q h = refl
 chosen false p q h = cc
 
-other : (t : Bool) (p q : Piece) → t ≡ false → q ≡ cond t p q
+pub other : (t : Bool) (p q : Piece) → t ≡ false → q ≡ cond t p q
 other true p q h = cc
 other false p q h = refl
 

@@ -59,7 +59,12 @@ pub fn line_length(text: &[u8]) -> usize
     ensures count { result ≡ prefix_len is_in_line text.now }
     ensures within { result ≤ length text.now }
 {
-    text.iter().take_while(|byte| **byte != b'\n').count()
+    for (place, byte) in text.iter().enumerate() {
+        if *byte == b'\n' {
+            return place;
+        }
+    }
+    text.len()
 }
 
 /// How many bytes at the front are blanks.
@@ -67,7 +72,12 @@ pub fn blanks_length(text: &[u8]) -> usize
     ensures count { result ≡ prefix_len is_blank text.now }
     ensures within { result ≤ length text.now }
 {
-    text.iter().take_while(|byte| is_blank(**byte)).count()
+    for (place, byte) in text.iter().enumerate() {
+        if !is_blank(*byte) {
+            return place;
+        }
+    }
+    text.len()
 }
 
 /// How many bytes at the front are letters, `_` and digits.
@@ -75,7 +85,12 @@ pub fn name_length(text: &[u8]) -> usize
     ensures count { result ≡ prefix_len is_name_byte text.now }
     ensures within { result ≤ length text.now }
 {
-    text.iter().take_while(|byte| is_name_byte(**byte)).count()
+    for (place, byte) in text.iter().enumerate() {
+        if !is_name_byte(*byte) {
+            return place;
+        }
+    }
+    text.len()
 }
 
 /// How many bytes at the front are decimal digits.
@@ -83,7 +98,12 @@ pub fn digits_length(text: &[u8]) -> usize
     ensures count { result ≡ prefix_len is_digit text.now }
     ensures within { result ≤ length text.now }
 {
-    text.iter().take_while(|byte| is_digit(**byte)).count()
+    for (place, byte) in text.iter().enumerate() {
+        if !is_digit(*byte) {
+            return place;
+        }
+    }
+    text.len()
 }
 
 /// How many bytes at the front are hexadecimal digits.
@@ -91,5 +111,10 @@ pub fn hex_digits_length(text: &[u8]) -> usize
     ensures count { result ≡ prefix_len is_hex_digit text.now }
     ensures within { result ≤ length text.now }
 {
-    text.iter().take_while(|byte| is_hex_digit(**byte)).count()
+    for (place, byte) in text.iter().enumerate() {
+        if !is_hex_digit(*byte) {
+            return place;
+        }
+    }
+    text.len()
 }

@@ -67,7 +67,12 @@ fn behind_include(line: &[u8]) -> Option<&[u8]>
 fn are_blanks(text: &[u8]) -> bool
     ensures { result ≡ list_all is_blank text.now }
 {
-    text.iter().all(|byte| is_blank(*byte))
+    for byte in text {
+        if !is_blank(*byte) {
+            return false;
+        }
+    }
+    true
 }
 
 /// Whether a line holds, besides blanks, only `#`, `include` and `<stdio.h>`, in this order.

@@ -31,7 +31,12 @@ fn digits(text: &[u8]) -> usize
     ensures count { result ≡ prefix_len is_digit text.now }
     ensures within { result ≤ length text.now }
 {
-    text.iter().take_while(|byte| is_digit(**byte)).count()
+    for (place, byte) in text.iter().enumerate() {
+        if !is_digit(*byte) {
+            return place;
+        }
+    }
+    text.len()
 }
 
 fn is_number(digits: &[u8]) -> bool

@@ -1,7 +1,7 @@
 -- What a step comes to, by what its tests answer.
 use Rattle.std.proofs.Common.{◌≡◌, ◌≢◌, ◌∙◌, ℕ, ◌+◌, ◌-◌, ◌*◌, ◌<◌, ◌≤◌, ◌%◌, ◌==◌, min, Bool, true, false, cond, ◌&&◌, ◌||◌, List, [], ◌∷◌, ◌++◌, length, take, drop, get_or, Option, Some, None, Result, Ok, Err, refl, ap, sym, subst, arith}
 use Rattle.std.specs.Prelude.{ℤ, IfOk, codes, nat_eq, nat_le, nat_lt, if◌then◌else◌}
-use Rattle.std.specs.List.{ends_with, list_any, prefix_len}
+use Rattle.std.specs.List.{ends_with, find, list_any, prefix_len}
 use Rattle.std.specs.Option.{option_map_or}
 use Rattle.std.specs.Str.{bytes_eq}
 use Rattle.std.proofs.lemmas.Bool.{and_from}
@@ -161,17 +161,39 @@ pub unquoted_is : (line rest inner bytes : List ℕ) → rest ≡ drop 7 line �
 unfolding unquoted
 unquoted_is line rest inner bytes behind within is = is ∙ ap (unquoted_from Plain) (within ∙ ap (λ r. take (length r - 1) r) behind)
 
--- one digit more of a number
+-- one digit more of a number, and its end at another byte and behind the last
 
 pub number_more : (text : List ℕ) (most value next place : ℕ) (whole : ℕ × List ℕ) → number_from most value (drop place text) ≡ whole → next ≡ min (10 * value + (get_or text place 0 - 48)) most
-    → 48 ≤ get_or text place 0 → get_or text place 0 ≤ 57 → place < length text → number_from most next (drop (place + 1) text) ≡ whole
-number_more text most value next place whole so_far is low high lt =
+    → is_digit (get_or text place 0) ≡ true → place < length text → number_from most next (drop (place + 1) text) ≡ whole
+number_more text most value next place whole so_far is digit lt =
     let c = get_or text place 0 in
     let rest = drop (place + 1) text in
-    let digit : is_digit c ≡ true = grind (arith, nat_tests, low, high) in
     let capped : next ≡ min most (10 * value + (c - 48)) = omega (arith, is) in
     let on : number_from most value (c ∷ rest) ≡ number_from most (min most (10 * value + (c - 48))) rest = rw digit refl in
     ap (λ n. number_from most n rest) capped ∙ sym on ∙ sym (at_drop_more (number_from most value) text place 0 lt) ∙ so_far
+
+pub number_stop : (text : List ℕ) (most value place : ℕ) (whole : ℕ × List ℕ) → number_from most value (drop place text) ≡ whole → is_digit (get_or text place 0) ≡ false → place < length text
+    → (value, drop place text) ≡ whole
+number_stop text most value place whole so_far other lt =
+    let c = get_or text place 0 in
+    let rest = drop (place + 1) text in
+    let on : number_from most value (c ∷ rest) ≡ (value, c ∷ rest) = rw other refl in
+    at_drop_more (λ l. (value, l)) text place 0 lt ∙ sym on ∙ sym (at_drop_more (number_from most value) text place 0 lt) ∙ so_far
+
+pub number_end : (text : List ℕ) (most value place : ℕ) (whole : ℕ × List ℕ) → number_from most value (drop place text) ≡ whole → length text ≤ place → (value, []) ≡ whole
+number_end text most value place whole so_far le = sym (at_drop_all (number_from most value) text place le) ∙ so_far
+
+-- the first form that passes a test, looked for form by form
+
+module _ (p : Form → Bool) (forms : List Form) (i : ℕ) where
+  pub form_on : (d : Form) → i < length forms → find p (drop i forms) ≡ find p forms → p (get_or forms i d) ≡ false → find p (drop (i + 1) forms) ≡ find p forms
+  form_on d lt so_far fails = sym (at_drop_more (find p) forms i d lt ∙ ap (λ t. cond t (Some (get_or forms i d)) (find p (drop (i + 1) forms))) fails) ∙ so_far
+
+  pub form_here : (d : Form) → i < length forms → find p (drop i forms) ≡ find p forms → p (get_or forms i d) ≡ true → Some (get_or forms i d) ≡ find p forms
+  form_here d lt so_far passes = sym (at_drop_more (find p) forms i d lt ∙ ap (λ t. cond t (Some (get_or forms i d)) (find p (drop (i + 1) forms))) passes) ∙ so_far
+
+  pub form_none : length forms ≤ i → find p (drop i forms) ≡ find p forms → None ≡ find p forms
+  form_none le so_far = sym (at_drop_all (find p) forms i le) ∙ so_far
 
 -- marks that are written over stay as many
 

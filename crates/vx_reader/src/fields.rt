@@ -2,7 +2,7 @@
 // whether it is spelled so is asked afterwards.
 
 ghost use Rattle.std.specs.Prelude.{◌≡◌, ◌≤◌, pos, drop, slice_index};
-ghost use Rattle.vx_reader.specs.Fields.{number_from, negative, number_at, signed_at, numbers_at, general_at, branch_at, register_at, source_at};
+ghost use Rattle.vx_reader.specs.Fields.{is_digit, number_from, negative, number_at, signed_at, numbers_at, general_at, branch_at, register_at, source_at};
 
 use vx_isa::operation::{BranchRegister, GeneralRegister, Register, Source};
 
@@ -24,6 +24,13 @@ pub fn byte_at(text: &[u8], place: usize) -> u8
     if place < text.len() { text[place] } else { 0 }
 }
 
+/// A decimal digit.
+pub fn is_digit(byte: u8) -> bool
+    ensures { result ≡ is_digit byte }
+{
+    byte >= 48 && byte <= 57
+}
+
 fn capped_at(text: &[u8], most: u32) -> (u32, &[u8])
     ensures value { result.0 ≡ (number_from most 0 text.now).0 }
     ensures rest { result.1.now ≡ (number_from most 0 text.now).1 }
@@ -31,7 +38,7 @@ fn capped_at(text: &[u8], most: u32) -> (u32, &[u8])
 {
     let mut value: u32 = 0;
     for (place, byte) in text.iter().enumerate() {
-        if *byte < 48 || *byte > 57 {
+        if !is_digit(*byte) {
             return (value, &text[place..]);
         }
         let longer = 10 * u64::from(value) + u64::from(*byte - 48);

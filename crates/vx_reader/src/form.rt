@@ -106,15 +106,24 @@ fn name_of_form(form: Form) -> &'static [u8]
     }
 }
 
+// The first of these forms that has this name.
+fn form_in(forms: &[Form], name: &[u8]) -> Option<Form>
+    ensures { result ≡ find (λ form. bytes_eq (form_name form) name.now) forms.now }
+{
+    for form in forms {
+        if name_of_form(*form) == name {
+            return Some(*form);
+        }
+    }
+    None
+}
+
 /// The form that a name stands for, if it is the name of one.
 #[tactic(auto, unfolding(crate::specs::Forms::form_of))]
 pub fn form_named(name: &[u8]) -> Option<Form>
     ensures { result ≡ form_of name.now }
 {
-    FORMS
-        .iter()
-        .copied()
-        .find(|form| name_of_form(*form) == name)
+    form_in(&FORMS, name)
 }
 
 fn code_for(code: Code, to: Register) -> Code

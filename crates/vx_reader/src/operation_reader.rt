@@ -7,7 +7,7 @@ ghost use Rattle.vx_reader.specs.Reading.{Gives, is_number, is_numbered, branch_
 ghost use Rattle.vx_words.specs.Spelling.{target_of};
 
 use crate::fault::LineFault;
-use crate::fields::{byte_at, skip};
+use crate::fields::{byte_at, is_digit, skip};
 use crate::form::{candidate_of, form_named};
 use std::alloc::Global;
 use vx_base::outcome::NoMemory;
@@ -19,7 +19,12 @@ use vx_words::program_text::target_of_operation;
 fn are_digits(text: &[u8]) -> bool
     ensures { result ≡ list_all is_digit text.now }
 {
-    text.iter().all(|byte| *byte >= 48 && *byte <= 57)
+    for byte in text {
+        if !is_digit(*byte) {
+            return false;
+        }
+    }
+    true
 }
 
 /// Whether the text is a number: digits, at least one, without a leading zero.
@@ -94,7 +99,12 @@ pub fn field_end(text: &[u8]) -> usize
     ensures length { result ≤ length text.now }
     ensures end { result ≡ prefix_len is_field text.now }
 {
-    text.iter().take_while(|byte| **byte != 32).count()
+    for (place, byte) in text.iter().enumerate() {
+        if *byte == 32 {
+            return place;
+        }
+    }
+    text.len()
 }
 
 /// The operation that a text behind a cluster and its blank is, or the code of its fault.

@@ -25,7 +25,12 @@ fn line_end(text: &[u8]) -> usize
     ensures length { result ≤ length text.now }
     ensures end { result ≡ prefix_len is_not_feed text.now }
 {
-    text.iter().take_while(|byte| **byte != 10).count()
+    for (place, byte) in text.iter().enumerate() {
+        if *byte == 10 {
+            return place;
+        }
+    }
+    text.len()
 }
 
 // The first line, without its line feed, and what stands behind it.

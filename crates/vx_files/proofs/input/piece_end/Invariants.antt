@@ -1,0 +1,8 @@
+-- so many bytes pass, and with those that pass behind them they are all
+use Rattle.std.proofs.Common.{◌≡◌, ◌+◌, drop}
+use Rattle.std.specs.List.{prefix_len}
+use Rattle.vx_files.specs.InputText.{is_no_blank}
+use Rattle.vx_files.proofs.input.piece_end.Given as goal
+
+abbrev pub invariant-loop-place : goal.invariant-loop-place
+invariant-loop-place l = l.place + prefix_len is_no_blank (drop l.place l.text) ≡ prefix_len is_no_blank l.text

@@ -1,0 +1,8 @@
+-- all so far pass
+use Rattle.std.proofs.Common.{◌≡◌, true, take}
+use Rattle.std.specs.List.{list_all}
+use Rattle.vx_reader.specs.Fields.{is_digit}
+use Rattle.vx_reader.proofs.operation_reader.are_digits.Given as goal
+
+abbrev pub invariant-loop-byte : goal.invariant-loop-byte
+invariant-loop-byte l = list_all is_digit (take l.byte-index l.text) ≡ true
