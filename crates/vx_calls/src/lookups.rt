@@ -70,8 +70,12 @@ fn is_call_word(word: &VirtualWord) -> bool
 pub(crate) fn is_caller(whole: &Whole, function: u32) -> bool
     ensures { result ≡ is_caller (seen whole.now) function }
 {
-    let words = words_of(whole, function);
-    words.iter().any(|word| is_call_word(word))
+    for word in words_of(whole, function) {
+        if is_call_word(word) {
+            return true;
+        }
+    }
+    false
 }
 
 /// Whether a word of a layout is one of empty cycles.

@@ -3,12 +3,12 @@
 use Rattle.std.proofs.Common.{◌≡◌, ◌≢◌, ℕ, zero, suc, ◌+◌, ◌≤◌, ℤ, Bool, true, false, Option, Some, None, List, [], ◌∷◌, ◌++◌, refl, sym, ap, ◌∙◌, subst, arith, ⊎_elim, inl, inr}
 use Rattle.std.specs.Prelude.{◌⊎◌, ◌&&◌, ◌||◌, if◌then◌else◌, slice_get, drop, count_by}
 use Rattle.std.specs.List.{list_any, flat_map}
-use Rattle.std.proofs.lemmas.Bool.{eqb-true}
+use Rattle.std.proofs.lemmas.Bool.{eqb-true, true≢false, false≢true}
 use Rattle.std.proofs.lemmas.Bool.Decides.{nat_tests}
 use Rattle.std.specs.Prelude.{is_some, eqb, length, slice_index_or, ◌<◌, Contains}
 use Rattle.vx_base.specs.declared.outcome.Reason.{Reason}
 use Rattle.vx_base.specs.declared.outcome.Reason.TheVariants.{BadTarget, BadWord}
-use Rattle.vx_base.specs.Outcome.{Ends, Traps, Stuck, On}
+use Rattle.vx_base.specs.Outcome.{Ends, Traps, Stuck, Step, On, Over}
 use Rattle.vx_base.specs.Flight.{Write, landing_time, landed, flying, landed_in, flying_in}
 use Rattle.vx_base.specs.Paths.{Reached, beyond, here}
 use Rattle.vx_base.proofs.Runs.{StepsTied, run_in_step}
@@ -31,6 +31,16 @@ use Rattle.vx_isa.specs.Machine.{State, Lead, To, Halts, TrapsBy, number_of, wri
 use Rattle.vx_isa.specs.Paths.{LeadsTo, WordAt, Leads, cycles_at, cycles_of_some, Among, ReadsAt, WritesAt, NamesAt, NeverReadsEarly, NeverWritesEarly, PathStrictLaw, AnyTimingLaw}
 use Rattle.vx_isa.specs.Strict.{Reaches, IsPending}
 use Rattle.vx_isa.proofs.Alike.{AllAgree, SameRest, stuck_alike, lead_alike, memory_alike, prints_alike, writes_alike}
+
+-- whether a step goes on, and its state, or another where it does not
+
+abbrev is_on : Step State → Bool
+is_on (On s) = true
+is_on (Over o) = false
+
+abbrev state_of : State → Step State → State
+state_of d (On s) = s
+state_of d (Over o) = d
 
 and_left : (a b : Bool) → (a && b) ≡ true → a ≡ true
 and_left true b e = refl
@@ -218,16 +228,16 @@ module _ (m : Numbers) (w : WordProgram) (is_one : IsMachine m) where
       (beyond c.0 l, subst (λ f. Due 0 (Leads w) (cycles_at w) (WritesAt m w) p f) (sym a.flying) (due_issue 0 (Leads w) (cycles_at w) (WritesAt m w) s.place p (cycles_of word) s.flying (new_of times s word) c.0 l n (omega arith) c.1 (made times s word at)))
 
   calm_lead : (times : List ℕ) (s u : State) (word : Word) → Calm s → WordAt w s.place word → (l : Lead) → lead_of s word.ops ≡ l → leads_to l (effect m times w s word) ≡ On u → Calm u
-  calm_lead times s u word calm at (To p) f e = subst Calm (let q : record (effect m times w s word) { place = p } ≡ u = cc in q) (calm_after times s word p calm at f)
-  calm_lead times s u word calm at (Halts z) f e = absurd (cc)
-  calm_lead times s u word calm at (TrapsBy k) f e = absurd (cc)
+  calm_lead times s u word calm at (To p) f e = subst Calm (ap (state_of s) e) (calm_after times s word p calm at f)
+  calm_lead times s u word calm at (Halts z) f e = absurd (false≢true (ap is_on e))
+  calm_lead times s u word calm at (TrapsBy k) f e = absurd (false≢true (ap is_on e))
 
   calm_reason : (times : List ℕ) (s u : State) (word : Word) → Calm s → WordAt w s.place word → (x : Option Reason) → unless_stuck x s (leads_to (lead_of s word.ops) (effect m times w s word)) ≡ On u → Calm u
   calm_reason times s u word calm at None e = calm_lead times s u word calm at (lead_of s word.ops) refl e
-  calm_reason times s u word calm at (Some why) e = absurd (cc)
+  calm_reason times s u word calm at (Some why) e = absurd (false≢true (ap is_on e))
 
   calm_word : (times : List ℕ) (s u : State) → Calm s → (x : Option Word) → slice_get w.words s.place ≡ x → issue m times w s x ≡ On u → Calm u
-  calm_word times s u calm None at e = absurd (cc)
+  calm_word times s u calm None at e = absurd (false≢true (ap is_on e))
   calm_word times s u calm (Some word) at e = calm_reason times s u word calm at (stuck_by m w s word.ops) e
 
   calm_along : (times : List ℕ) (n : ℕ) (s t : State) → Calm s → Reaches m times w n s t → Calm t
@@ -309,7 +319,7 @@ module _ (m : Numbers) (w : WordProgram) (is_one : IsMachine m) where
       well_formed s word e = by (is_bad_word m word.ops) refl _ e
         where
           by : (b : Bool) → is_bad_word m word.ops ≡ b → (x : Option Reason) → (if b then Some BadWord else x) ≡ None → is_twice (destinations word.ops) ≡ false
-          by true q x f = absurd (cc)
+          by true q x f = absurd (true≢false (ap is_some f))
           by false q x f = or_left (is_twice (destinations word.ops)) _ (or_left _ _ q)
 
       by_lead : (s t : State) (word : Word) → Tied s t → WordAt w s.place word → stuck_by m w s word.ops ≡ None → (l : Lead) → lead_of s word.ops ≡ l → lead_of t word.ops ≡ l →

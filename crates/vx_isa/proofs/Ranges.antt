@@ -1,6 +1,6 @@
 -- What a machine says of its numbers, one by one, and by that of the latencies of operations.
 use Rattle.std.proofs.Common.{◌≡◌, ◌≤◌, ◌+◌, ◌*◌, ℕ, Bool, true, false, nat_le, if◌then◌else◌, is_some}
-use Rattle.std.proofs.lemmas.Bool.{and_parts, leb-true}
+use Rattle.std.proofs.lemmas.Bool.{and_parts, leb-true, true≢false, false≢true}
 use Rattle.vx_base.specs.declared.arithmetic.Code.{Code}
 use Rattle.vx_base.specs.declared.arithmetic.Code.TheVariants.{ToBranch, Mpylu, Mpyhs, Div, Rem}
 use Rattle.vx_isa.specs.declared.operation.Operation.{Operation}
@@ -94,13 +94,13 @@ latency_range m one (Input to) e c = (ranges m one).load
 latency_range m one (More to) e c = (ranges m one).load
 latency_range m one (FromLink to) e c = (ranges m one).alu
 latency_range m one (ToLink a) e c = (ranges m one).alu
-latency_range m one (Call p) e c = absurd (cc)
-latency_range m one (Store k o q a) e c = absurd (cc)
-latency_range m one (OutText n) e c = absurd (cc)
-latency_range m one (OutDecimal a) e c = absurd (cc)
-latency_range m one (OutByte a) e c = absurd (cc)
-latency_range m one (Goto p) e c = absurd (cc)
-latency_range m one (BranchOn u w p) e c = absurd (cc)
-latency_range m one Return e c = absurd (cc)
-latency_range m one (EndByTrap k) e c = absurd (cc)
-latency_range m one (Halt a) e c = absurd (cc)
+latency_range m one (Call p) e c = absurd (true≢false c)
+latency_range m one (Store k o q a) e c = absurd (false≢true e)
+latency_range m one (OutText n) e c = absurd (false≢true e)
+latency_range m one (OutDecimal a) e c = absurd (false≢true e)
+latency_range m one (OutByte a) e c = absurd (false≢true e)
+latency_range m one (Goto p) e c = absurd (false≢true e)
+latency_range m one (BranchOn u w p) e c = absurd (false≢true e)
+latency_range m one Return e c = absurd (false≢true e)
+latency_range m one (EndByTrap k) e c = absurd (false≢true e)
+latency_range m one (Halt a) e c = absurd (false≢true e)

@@ -44,7 +44,12 @@ fn is_start(memory: u32, start: &[(u32, i32)]) -> bool
 fn are_sound_words(list: &[Word], words: usize, texts: usize) -> bool
     ensures { result ≡ list_all (is_sound_word words texts) list.now }
 {
-    list.iter().all(|word| is_sound_word(word, words, texts))
+    for word in list {
+        if !is_sound_word(word, words, texts) {
+            return false;
+        }
+    }
+    true
 }
 
 /// A word with an operation has no empty time.
@@ -59,7 +64,12 @@ fn is_sound_word(word: &Word, words: usize, texts: usize) -> bool
 fn are_sound_operations(ops: &[Operation], words: usize, texts: usize) -> bool
     ensures { result ≡ list_all (is_sound_operation words texts) ops.now }
 {
-    ops.iter().all(|op| is_sound_operation(op, words, texts))
+    for op in ops {
+        if !is_sound_operation(op, words, texts) {
+            return false;
+        }
+    }
+    true
 }
 
 /// Whether the operands are of the operation's form, and the place or text that it names is there, where there are so

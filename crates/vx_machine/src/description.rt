@@ -92,7 +92,12 @@ fn has_unknown(table: &Table) -> bool
 fn has_other_key(table: &Table) -> bool
     ensures { result ≡ list_any (λ key. not (list_any (bytes_eq (string_bytes key)) names)) (keys_of table.now.entries) }
 {
-    table.keys().any(|key| !is_name(key.as_str()))
+    for key in table.keys() {
+        if !is_name(key.as_str()) {
+            return true;
+        }
+    }
+    false
 }
 
 #[tactic(auto, using(crate::proofs::Views::is_name_more, crate::proofs::Views::is_name_end))]

@@ -84,10 +84,7 @@ fn narrowed_exit(alloc: Global, facts: &[Fact], exit: &Exit) -> Result<Exit, NoM
             Some(false) => Ok(Exit::Goto(*no)),
             None => copied_exit(alloc, exit),
         },
-        Exit::Goto(next) => Ok(Exit::Goto(*next)),
-        Exit::Call { .. } => copied_exit(alloc, exit),
-        Exit::Return(operand) => Ok(Exit::Return(*operand)),
-        Exit::Ends(trap) => Ok(Exit::Ends(*trap)),
+        _ => copied_exit(alloc, exit),
     }
 }
 

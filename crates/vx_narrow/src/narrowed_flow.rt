@@ -89,7 +89,12 @@ fn narrowed_with_given(
 fn are_numbers(globals: &[Variable]) -> bool
     ensures { result ≡ are_numbers globals.now }
 {
-    globals.iter().all(|global| is_number(global.first))
+    for global in globals {
+        if !is_number(global.first) {
+            return false;
+        }
+    }
+    true
 }
 
 /// The flow with other graphs, where it is sound.

@@ -279,7 +279,12 @@ fn is_freed_by(words: &[u32], splits: &[EdgeCopies], place: u32) -> bool
     ensures { result ≡ list_any (λ (s : EdgeCopies). nat_lt s.split place && nat_le (word_at words.now place) (word_at words.now s.split)) splits.now }
 {
     let word = word_at(words, place);
-    splits.iter().any(|split| split.split < place && word <= word_at(words, split.split))
+    for split in splits {
+        if split.split < place && word <= word_at(words, split.split) {
+            return true;
+        }
+    }
+    false
 }
 
 fn dismissed_if(freed: bool, op: Op) -> Op

@@ -44,12 +44,12 @@ pub(crate) fn owed_of(alloc: Global, machine: &Machine, placed: &Placed) -> Resu
     ensures { IfOk result (λ owed. IsOwed machine.now placed.now owed) }
 {
     let rejoins = Listed::from_vec(at_joins(alloc, placed)?)?;
-    let starts = starts(alloc, rejoins.as_slice())?;
     let splits = at_splits(alloc, placed)?;
     let made = made_blocks(alloc, placed, splits.as_slice(), rejoins.as_slice())?;
     let copies = copies_at(placed, splits.as_slice(), rejoins.as_slice());
     let splits = drained(alloc, machine, placed, splits)?;
     let drains = drains(alloc, splits.as_slice())?;
+    let starts = starts(alloc, rejoins.as_slice())?;
     let last_drain = drain_at(machine, placed, placed.length as u64);
     Ok(Owed {
         splits,

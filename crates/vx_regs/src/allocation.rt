@@ -105,7 +105,14 @@ fn sort_spans(spans: &mut Vec<Span>)
     ensures sorted { IsNonDecreasingBy span_key spans.new.items }
     ensures same { IsPermutation spans.old.items spans.new.items }
 {
-    spans.sort_unstable_by_key(|span| u64::from(span.file) * 4294967296 + u64::from(span.from));
+    spans.sort_unstable_by_key(span_key);
+}
+
+/// The number by which spans are sorted.
+fn span_key(span: &Span) -> u64
+    ensures { result ≡ span_key span.now }
+{
+    span.file as u64 * 4294967296 + span.from as u64
 }
 
 /// So many values that are kept nowhere.

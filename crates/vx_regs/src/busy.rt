@@ -188,7 +188,6 @@ fn push_leads(places: &mut Listed<u32>, place: u32, word: &VirtualWord) -> Resul
             push_splits(places, items.as_slice())?;
             push_next(places, place)
         }
-        VirtualWord::Drain(_) => push_next(places, place),
         VirtualWord::Transfer(to) => {
             places.push(*to)?;
             Ok(())
@@ -197,9 +196,8 @@ fn push_leads(places: &mut Listed<u32>, place: u32, word: &VirtualWord) -> Resul
             places.push(*to)?;
             push_next(places, place)
         }
-        VirtualWord::Call { .. } => push_next(places, place),
-        VirtualWord::Return(_) => Ok(()),
-        VirtualWord::Ends(_) => Ok(()),
+        VirtualWord::Drain(_) | VirtualWord::Call { .. } => push_next(places, place),
+        VirtualWord::Return(_) | VirtualWord::Ends(_) => Ok(()),
     }
 }
 

@@ -98,15 +98,14 @@ pub fn word_reads(alloc: Global, word: &VirtualWord) -> Result<Listed<Value>, No
     ensures { IfOk result (λ values. values ≡ word_reads word.now) }
 {
     let mut values = Listed::new(alloc);
-    match word {
-        VirtualWord::Planned { items, .. } => return read_by(alloc, items.as_slice()),
-        VirtualWord::Drain(_) => {}
-        VirtualWord::Transfer(_) => {}
-        VirtualWord::Choice { test, .. } => values.push(*test)?,
-        VirtualWord::Call { arguments, .. } => push_operands(&mut values, arguments.as_slice())?,
-        VirtualWord::Return(operand) => push_operand(&mut values, operand)?,
-        VirtualWord::Ends(_) => {}
-    }
+    let pushed = match word {
+        VirtualWord::Planned { items, .. } => push_laid_reads(&mut values, items.as_slice()),
+        VirtualWord::Choice { test, .. } => push_value(&mut values, Some(*test)),
+        VirtualWord::Call { arguments, .. } => push_operands(&mut values, arguments.as_slice()),
+        VirtualWord::Return(operand) => push_operand(&mut values, operand),
+        VirtualWord::Drain(_) | VirtualWord::Transfer(_) | VirtualWord::Ends(_) => Ok(()),
+    };
+    pushed?;
     Ok(values)
 }
 

@@ -9,3 +9,4 @@ pub mod PutSteps
 pub mod OuterEdges
 pub mod Exchanges
 pub mod Pushed
+pub mod Looking

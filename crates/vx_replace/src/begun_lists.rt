@@ -108,14 +108,12 @@ fn push_edges(edges: &mut Listed<Edge>, from: BlockId, exit: &Exit) -> Result<()
     match exit {
         Exit::Goto(to) => push_edge(edges, from, *to),
         Exit::Split { yes, no, .. } => {
-            if *yes == *no {
-                push_edge(edges, from, *yes)
-            } else if *yes < *no {
-                push_edge(edges, from, *yes)?;
-                push_edge(edges, from, *no)
+            let (low, high) = if *yes < *no { (*yes, *no) } else { (*no, *yes) };
+            push_edge(edges, from, low)?;
+            if low < high {
+                push_edge(edges, from, high)
             } else {
-                push_edge(edges, from, *no)?;
-                push_edge(edges, from, *yes)
+                Ok(())
             }
         }
         Exit::Call { next, .. } => push_edge(edges, from, *next),

@@ -2,11 +2,12 @@
 // that is made, sorted by their numbers. The clause of `edges_after` carries the promise.
 
 ghost use Rattle.std.specs.Prelude.{◌≡◌, ◌+◌, ◌<◌, ◌^◌, ◌++◌, ◌∷◌, ℕ, None, not, IfOk, length, replicate};
-ghost use Rattle.std.specs.List.{filter};
+ghost use Rattle.std.specs.List.{filter, list_any};
 ghost use Rattle.std.specs.List.Sorted.{IsNonDecreasingBy, IsPermutation};
 ghost use Rattle.vx_flow.specs.Effects.{IsIn};
 ghost use Rattle.vx_mixed.specs.CanReplace.{CanReplace};
 ghost use Rattle.vx_mixed.specs.Edges.{EdgesOf};
+ghost use Rattle.vx_mixed.specs.FromGraph.{same_edge};
 ghost use Rattle.vx_mixed.specs.MovedEdges.{before_each, edge_key, follows, is_inner, kept_edges, made_edges, moved, with_before};
 ghost use Rattle.vx_mixed.specs.Next.{next_mixed};
 ghost use Rattle.vx_mixed.specs.Settled.{NoTwice};
@@ -74,8 +75,7 @@ pub(crate) fn outer_edges(
     ensures { IfOk result (λ outer. outer ≡ filter (λ e. not (is_inner blocks.now e)) edges.now) }
 {
     let before = blocks_before(alloc, nodes, blocks)?;
-    let outer = edges_beside(alloc, edges, before.as_slice())?;
-    Ok(outer)
+    edges_beside(alloc, edges, before.as_slice())
 }
 
 /// For each number the block that stands before that block in the trace.
@@ -167,6 +167,18 @@ fn is_inner_behind(first: BlockId, blocks: &[BlockId], edge: Edge) -> bool
     false
 }
 
+/// Whether an edge is one of these.
+pub(crate) fn is_edge_among(edges: &[Edge], edge: Edge) -> bool
+    ensures { result ≡ list_any (λ other. same_edge other edge) edges.now }
+{
+    for other in edges {
+        if *other == edge {
+            return true;
+        }
+    }
+    false
+}
+
 /// The edges from the blocks that are made, where those from `first` on are made.
 fn push_made_edges(edges: &mut Vec<Edge>, first: u32, made: &[Made]) -> Result<(), NoMemory>
     requires { first + length made.now < 2 ^ 32 }
@@ -185,5 +197,12 @@ fn sort_edges(edges: &mut Vec<Edge>)
     ensures sorted { IsNonDecreasingBy edge_key edges.new.items }
     ensures same { IsPermutation edges.old.items edges.new.items }
 {
-    edges.sort_unstable_by_key(|edge| u64::from(edge.from) * 4294967296 + u64::from(edge.to));
+    edges.sort_unstable_by_key(edge_key);
+}
+
+/// The number by which edges are sorted.
+fn edge_key(edge: &Edge) -> u64
+    ensures { result ≡ edge_key edge.now }
+{
+    edge.from as u64 * 4294967296 + edge.to as u64
 }

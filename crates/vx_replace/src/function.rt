@@ -13,8 +13,10 @@ ghost use Rattle.vx_mixed.specs.Next.{next_mixed};
 ghost use Rattle.vx_mixed.specs.Valid.{CanBegin, Valid};
 
 use crate::begun_lists::{begun_blocks, told_values};
+use crate::edges::is_edge_among;
+use crate::nodes::is_among;
 use crate::replacement::replace_trace;
-use crate::trace::trace_of;
+use crate::trace::{trace_of, unused_at};
 use std::alloc::Global;
 use std::marker::Model;
 use vx_base::listed::Listed;
@@ -24,7 +26,6 @@ use vx_flow::laws::sound_graph_leads_within;
 use vx_flow::trace::{Homes, Trace};
 use vx_flow::{back_edges, headers};
 use vx_mixed::mixed::MixedGraph;
-use vx_mixed::region::Node;
 use vx_mixed::replacement::Replacement;
 
 /// The graph of a function of which some blocks are words already and others are blocks still. In a contract it is the
@@ -114,11 +115,7 @@ impl Mixed {
         requires { block < length self.now.nodes }
         ensures { option_map (λ found. found.now) result ≡ unused_in (slice_get self.now.nodes block) }
     {
-        match self.graph.nodes.as_slice().get(block as usize) {
-            Some(Node::Unused(block)) => Some(block),
-            Some(_) => None,
-            None => None,
-        }
+        unused_at(&self.graph, block)
     }
 
     /// Every edge, those that leave regions included, ascending by their numbers.
@@ -145,18 +142,14 @@ impl Mixed {
         requires { block < length self.now.nodes }
         ensures { result ≡ list_any (λ header. header == block) self.now.headers }
     {
-        self.graph
-            .headers
-            .as_slice()
-            .iter()
-            .any(|header| *header == block)
+        is_among(self.graph.headers.as_slice(), block)
     }
 
     /// Whether the edge is a back edge of the function's graph.
     pub fn is_back(&self, edge: Edge) -> bool
         ensures { result ≡ list_any (λ back. same_edge back edge) self.now.back }
     {
-        self.graph.back.as_slice().iter().any(|back| *back == edge)
+        is_edge_among(self.graph.back.as_slice(), edge)
     }
 
     /// The clusters on which values stand so far.

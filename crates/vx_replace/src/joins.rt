@@ -28,13 +28,11 @@ pub(crate) fn joins_of(
     ensures { IfOk result (λ joins. (live : ℕ → List ℕ) → joins ≡ trace_joins graph.now live edges.now blocks.now) }
 {
     match blocks {
-        [] => Ok(Listed::new(alloc)),
-        [_] => Ok(Listed::new(alloc)),
+        [] | [_] => Ok(Listed::new(alloc)),
         [first, others @ ..] => {
             let entering = entering_of(alloc, edges)?;
             let place = place_behind(graph, 0, *first, others)?;
-            let joins = joins_behind(alloc, graph, entering.as_slice(), *first, place, others)?;
-            Ok(joins)
+            joins_behind(alloc, graph, entering.as_slice(), *first, place, others)
         }
     }
 }

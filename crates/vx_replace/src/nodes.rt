@@ -82,10 +82,16 @@ fn node_after(
     }
 }
 
-fn is_among(blocks: &[BlockId], block: BlockId) -> bool
+/// Whether a block is one of these.
+pub(crate) fn is_among(blocks: &[BlockId], block: BlockId) -> bool
     ensures { result ≡ list_any (λ other. other == block) blocks.now }
 {
-    blocks.iter().any(|other| *other == block)
+    for other in blocks {
+        if *other == block {
+            return true;
+        }
+    }
+    false
 }
 
 /// The word behind the join at a block.

@@ -57,8 +57,7 @@ fn live_at_splits(alloc: Global, graph: &MixedGraph, blocks: &[BlockId]) -> Resu
     ensures { IfOk result (λ live. LiveAtSplits graph.now blocks.now (live_values live)) }
 {
     if has_split(graph, blocks) {
-        let live = live_at_blocks(alloc, graph)?;
-        return Ok(live);
+        return live_at_blocks(alloc, graph);
     }
     Ok(Live::nowhere(alloc))
 }
@@ -82,8 +81,7 @@ pub(crate) fn unused_at(graph: &MixedGraph, block: BlockId) -> Option<&Block>
 {
     match graph.nodes.as_slice().get(block as usize) {
         Some(Node::Unused(block)) => Some(block),
-        Some(_) => None,
-        None => None,
+        _ => None,
     }
 }
 
@@ -106,8 +104,7 @@ fn ops_of(
     ensures { IfOk result (λ ops. IsOpsOf graph.now blocks.now ops) }
 {
     let live = live_at_splits(alloc, graph, blocks)?;
-    let ops = ops_with(alloc, graph, &live, blocks)?;
-    Ok(ops)
+    ops_with(alloc, graph, &live, blocks)
 }
 
 /// The same, where these values are live.

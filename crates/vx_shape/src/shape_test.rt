@@ -26,7 +26,12 @@ pub fn is_shaped(origins: &[usize], blocks: &[Block]) -> bool
 fn are_shaped_blocks(blocks: &[Block]) -> bool
     ensures { result ≡ list_all is_shaped_block blocks.now }
 {
-    blocks.iter().all(|block| is_shaped_block(block))
+    for block in blocks {
+        if !is_shaped_block(block) {
+            return false;
+        }
+    }
+    true
 }
 
 fn is_shaped_block(block: &Block) -> bool
@@ -128,7 +133,12 @@ fn is_trap_alone(exit: &Exit, later: &[Block]) -> bool
 fn are_other(trap: Trap, blocks: &[Block]) -> bool
     ensures { result ≡ list_all (λ block. not (is_trap_of trap block.exit)) blocks.now }
 {
-    blocks.iter().all(|block| !is_trap_of(trap, &block.exit))
+    for block in blocks {
+        if is_trap_of(trap, &block.exit) {
+            return false;
+        }
+    }
+    true
 }
 
 fn is_trap_of(trap: Trap, exit: &Exit) -> bool

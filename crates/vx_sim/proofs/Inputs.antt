@@ -1,8 +1,8 @@
 -- What is left of the input.
-use Rattle.std.proofs.Common.{◌≡◌, ◌<◌, ℕ, zero, suc, ◌+◌, ◌-◌, ◌^◌, min, Bool, true, false, ℤ, List, [], ◌∷◌, length, drop, nat_lt, refl, sym, ap, arith, ◌∙◌, ltb-true, ltb-false}
+use Rattle.std.proofs.Common.{◌≡◌, ◌<◌, ℕ, zero, suc, ◌+◌, ◌-◌, ◌≤◌, ◌^◌, min, pos, get_or, drop-cons, Bool, true, false, ℤ, List, [], ◌∷◌, length, drop, nat_lt, refl, sym, ap, arith, ◌∙◌, ltb-true, ltb-false}
 use Rattle.std.proofs.lemmas.List.{drop-drop, drop_all}
 use Rattle.std.proofs.lemmas.Bool.Decides.{nat_tests}
-use Rattle.vx_isa.specs.Machine.{is_left}
+use Rattle.vx_isa.specs.Machine.{is_left, first_of}
 
 -- a number is left where fewer are taken than there are
 pub is_left_at : (n : ℕ) (xs : List ℤ) → nat_lt n (length xs) ≡ is_left (drop n xs)
@@ -20,3 +20,10 @@ taken_more n k t xs e few = by (nat_lt (n + k) (2 ^ 64 - 1)) refl
     by false h =
         let l = ltb-false (n + k) (2 ^ 64 - 1) h in
         drop_all t xs (omega arith) ∙ sym (drop-drop k n xs ∙ drop_all (n + k) xs (omega arith))
+
+-- the number that comes next
+pub first_at : (n : ℕ) (xs : List ℤ) (d : ℤ) → n < length xs → get_or xs n d ≡ first_of (drop n xs)
+first_at n xs d l = sym (ap first_of (drop-cons xs n d l))
+
+pub no_first : (n : ℕ) (xs : List ℤ) → length xs ≤ n → pos 0 ≡ first_of (drop n xs)
+no_first n xs past = sym (ap first_of (drop_all n xs past))

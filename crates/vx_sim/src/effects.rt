@@ -77,7 +77,13 @@ fn count_of_input(ops: &[Operation], memory: u32) -> usize
     if memory == 0 {
         return 0;
     }
-    ops.iter().filter(|op| takes_input(op)).count()
+    let mut count = 0;
+    for op in ops {
+        if takes_input(op) {
+            count += 1;
+        }
+    }
+    count
 }
 
 /// The writes of the word, each at the landing time that the timing tells, behind those in flight.

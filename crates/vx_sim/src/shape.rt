@@ -111,7 +111,13 @@ fn count_in(ops: &[Operation], unit: UnitKind) -> usize
     ensures exact { result ≡ count_by (is_of unit) ops.now }
     ensures few { result ≤ length ops.now }
 {
-    ops.iter().filter(|op| is_of(unit, op)).count()
+    let mut count = 0;
+    for op in ops {
+        if is_of(unit, op) {
+            count += 1;
+        }
+    }
+    count
 }
 
 fn is_of(unit: UnitKind, op: &Operation) -> bool

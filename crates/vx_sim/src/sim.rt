@@ -1,7 +1,10 @@
 // The simulator: it stands at a state of the word machine and issues words.
 
-ghost use Rattle.std.specs.Prelude.{◌≡◌, ◌≤◌, ◌*◌, true, map, length};
+ghost use Rattle.std.specs.Prelude.{◌≡◌, ◌≤◌, ◌*◌, [], true, map, length, IfOk};
+ghost use Rattle.vx_isa.specs.Machine.{memory_at_start};
 ghost use Rattle.vx_isa.specs.Sound.{is_sound};
+ghost use Rattle.vx_sim.specs.Flying.{flying_of};
+ghost use Rattle.vx_sim.specs.Held.{word_of};
 ghost use Rattle.vx_sim.specs.Passed.{counted};
 ghost use Rattle.vx_sim.specs.Room.{HasRoom, widest};
 ghost use Rattle.vx_sim.specs.Shapes.{shape_of};
@@ -37,7 +40,7 @@ pub struct Sim {
 }
 
 impl Sim {
-    ghost use Rattle.std.specs.Prelude.{false, IfOk};
+    ghost use Rattle.std.specs.Prelude.{false};
     ghost use Rattle.vx_io.specs.Outside.{Rose};
     ghost use Rattle.vx_isa.specs.Machine.{start};
     ghost use Rattle.vx_sim.specs.Ran.{stands, Ran, is_fault};
@@ -55,22 +58,20 @@ impl Sim {
         ensures machine { IfOk result (λ sim. sim.machine ≡ machine) }
         ensures fresh { IfOk result (λ sim. (sim.issued ≡ 0) × (sim.ended ≡ false)) }
     {
-        let memory = memory_of(alloc, &program)?;
-        let shapes = shapes_of(alloc, &machine, program.words.as_slice())?;
-        let ring = ring_for(alloc, &shapes)?;
+        let space = space_for(alloc, &program, &machine)?;
         Ok(Sim {
             program,
             machine,
-            shapes,
+            shapes: space.shapes,
             standing: Standing {
                 place: 0,
                 cycle: 0,
                 registers: Registers::zeros(),
-                memory,
+                memory: space.memory,
                 input,
                 taken: 0,
             },
-            ring,
+            ring: space.ring,
             issued: 0,
             ended: false,
         })
@@ -128,6 +129,32 @@ impl Sim {
         }
         Ended::Stopped
     }
+}
+
+/// All memory that a run of a program takes.
+#[derive(Drop)]
+struct Space {
+    memory: Vec<i32>,
+    shapes: Vec<Shape>,
+    ring: Ring,
+}
+
+fn space_for(alloc: Global, program: &WordProgram, machine: &Machine) -> Result<Space, NoMemory>
+    requires { is_sound program.now ≡ true }
+    ensures words { IfOk result (λ space. word_of space.memory.items ≡ memory_at_start program.now.start) }
+    ensures size { IfOk result (λ space. program.now.memory ≡ 4 * length space.memory.items) }
+    ensures shapes { IfOk result (λ space. space.shapes.items ≡ map (shape_of machine.now) program.now.words) }
+    ensures empty { IfOk result (λ space. flying_of space.ring ≡ []) }
+    ensures room { IfOk result (λ space. HasRoom (widest space.shapes.items) 0 space.ring) }
+{
+    let memory = memory_of(alloc, program)?;
+    let shapes = shapes_of(alloc, machine, program.words.as_slice())?;
+    let ring = ring_for(alloc, &shapes)?;
+    Ok(Space {
+        memory,
+        shapes,
+        ring,
+    })
 }
 
 /// A count of 64 bits stays below 2 ^ 64.

@@ -55,7 +55,12 @@ fn stuck_here(
 fn has_bad_addresses(size: u32, now: &Standing, ops: &[Operation]) -> bool
     ensures { result ≡ list_any (has_bad_address size (state_of now.now [])) ops.now }
 {
-    ops.iter().any(|op| has_bad_address(size, now, op))
+    for op in ops {
+        if has_bad_address(size, now, op) {
+            return true;
+        }
+    }
+    false
 }
 
 fn has_bad_address(size: u32, now: &Standing, op: &Operation) -> bool
@@ -76,7 +81,12 @@ fn has_bad_address(size: u32, now: &Standing, op: &Operation) -> bool
 fn take_input(ops: &[Operation]) -> bool
     ensures { result ≡ list_any takes_input ops.now }
 {
-    ops.iter().any(takes_input)
+    for op in ops {
+        if takes_input(op) {
+            return true;
+        }
+    }
+    false
 }
 
 /// Whether the operation takes a number of the input.

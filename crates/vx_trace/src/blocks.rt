@@ -76,7 +76,12 @@ pub(crate) fn contains(blocks: &[BlockId], block: BlockId) -> bool
 fn is_among(blocks: &[BlockId], block: BlockId) -> bool
     ensures { result ≡ list_any (λ other. other == block) blocks.now }
 {
-    blocks.iter().any(|other| *other == block)
+    for other in blocks {
+        if *other == block {
+            return true;
+        }
+    }
+    false
 }
 
 /// Whether the block is a header.

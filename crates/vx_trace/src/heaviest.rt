@@ -95,11 +95,7 @@ pub(crate) fn heaviest_edges(
 fn nothing(alloc: Global, blocks: usize) -> Result<Vec<Option<Best>>, NoMemory>
     ensures { IfOk result (λ table. table.items ≡ replicate blocks None) }
 {
-    let mut table = Vec::new(alloc);
-    for _block in 0..blocks {
-        table.push(None)?;
-    }
-    Ok(table)
+    Ok(vec![in alloc; None; blocks]?)
 }
 
 /// Puts an edge into the row of a block, if it is better than what is there.

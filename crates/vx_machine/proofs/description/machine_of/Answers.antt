@@ -25,5 +25,22 @@ invariant_of-result c =
       latency_divide = c.number_of-15.result;
       latency_copy = c.number_of-16.result;
     } in
-    let same : m ≡ numbers_of (table_view c.args.table.now) = cc in
+    let same : m ≡ numbers_of (table_view c.args.table.now) = λ i. record {
+      clusters = c.number_of.ensures i;
+      issue = c.number_of-2.ensures i;
+      alus = c.number_of-3.ensures i;
+      multipliers = c.number_of-4.ensures i;
+      memory_units = c.number_of-5.ensures i;
+      registers = c.number_of-6.ensures i;
+      branch_registers = c.number_of-7.ensures i;
+      read_ports = c.number_of-8.ensures i;
+      write_ports = c.number_of-9.ensures i;
+      copy_paths = c.number_of-10.ensures i;
+      latency_alu = c.number_of-11.ensures i;
+      latency_compare = c.number_of-12.ensures i;
+      latency_multiply = c.number_of-13.ensures i;
+      latency_load = c.number_of-14.ensures i;
+      latency_divide = c.number_of-15.ensures i;
+      latency_copy = c.number_of-16.ensures i;
+    } in
     in_ranges_as (table_view c.args.table.now) m same c.requires

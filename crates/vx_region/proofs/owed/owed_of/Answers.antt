@@ -8,13 +8,13 @@ use Rattle.vx_region.proofs.Owing.{drains_kept}
 use Rattle.vx_region.proofs.owed.owed_of.Goals as goal
 
 pub made_blocks-requires : goal.made_blocks-requires
-made_blocks-requires c = c.as_slice-2.ensures.value ∙ c.in_ok-splits.ensures
+made_blocks-requires c = c.as_slice.ensures.value ∙ c.in_ok-splits.ensures
 
 pub copies_at-copies-requires-clause-splits : goal.copies_at-copies-requires-clause-splits
-copies_at-copies-requires-clause-splits c = c.as_slice-4.ensures.value ∙ c.in_ok-splits.ensures
+copies_at-copies-requires-clause-splits c = c.as_slice-3.ensures.value ∙ c.in_ok-splits.ensures
 
 pub copies_at-copies-requires-clause-rejoins : goal.copies_at-copies-requires-clause-rejoins
-copies_at-copies-requires-clause-rejoins c = c.as_slice-5.ensures ∙ c.in_ok-rejoins.ensures ∙ c.in_ok-at_joins.ensures
+copies_at-copies-requires-clause-rejoins c = c.as_slice-4.ensures ∙ c.in_ok-rejoins.ensures ∙ c.in_ok-at_joins.ensures
 
 pub returns : goal.returns
 returns c =
@@ -26,11 +26,11 @@ returns c =
     record {
       splits = splits;
       rejoins = rejoins;
-      drains = drains_kept machine p c.in_ok-splits-2.splits c.in_ok-drains.drains splits (c.in_ok-drains.ensures ∙ ap (map (λ (x : EdgeCopies). x.drain)) c.as_slice-6.ensures);
+      drains = drains_kept machine p c.in_ok-splits-2.splits c.in_ok-drains.drains splits (c.in_ok-drains.ensures ∙ ap (map (λ (x : EdgeCopies). x.drain)) c.as_slice-5.ensures);
       last_drain = c.drain_at-last_drain.ensures;
-      starts = c.in_ok-starts.ensures ∙ ap (map (λ (x : Rejoin). x.word)) (c.as_slice.ensures ∙ rejoins);
+      starts = c.in_ok-starts.ensures ∙ ap (map (λ (x : Rejoin). x.word)) (c.as_slice-6.ensures ∙ rejoins);
       made = c.in_ok-made.ensures
-          ∙ ap (λ l. made_at_splits p l ++ made_at_joins p joins c.as_slice-3.result.now) (c.as_slice-2.ensures.value ∙ c.in_ok-splits.ensures)
-          ∙ ap (λ l. made_at_splits p (at_splits_of p) ++ made_at_joins p joins l) (c.as_slice-3.ensures ∙ rejoins);
+          ∙ ap (λ l. made_at_splits p l ++ made_at_joins p joins c.as_slice-2.result.now) (c.as_slice.ensures.value ∙ c.in_ok-splits.ensures)
+          ∙ ap (λ l. made_at_splits p (at_splits_of p) ++ made_at_joins p joins l) (c.as_slice-2.ensures ∙ rejoins);
       copies = c.copies_at-copies.ensures;
     }

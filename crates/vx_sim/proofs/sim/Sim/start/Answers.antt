@@ -3,7 +3,7 @@ use Rattle.vx_sim.proofs.Passing.{same_state}
 use Rattle.vx_sim.proofs.sim.Sim.start.Goals as goal
 
 pub returns-clause-stands : goal.returns-clause-stands
-returns-clause-stands c = same_state _ _ refl refl c.zeros.ensures c.in_ok-ring.ensures.empty c.in_ok-memory.ensures.words refl refl refl
+returns-clause-stands c = same_state _ _ refl refl c.zeros.ensures c.in_ok-space.ensures.empty c.in_ok-space.ensures.words refl refl refl
 
 pub returns-clause-program : goal.returns-clause-program
 returns-clause-program c = refl
