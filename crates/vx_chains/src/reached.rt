@@ -49,14 +49,13 @@ fn follow(
 ) -> Result<(), NoMemory> {
     match blocks.get(block as usize) {
         Some(found) => match &found.exit {
-            Exit::Goto(next) => enter(entries, pending, *next),
+            Exit::Goto(next) | Exit::Call { next, .. } => enter(entries, pending, *next),
             Exit::Split { yes, no, .. } => {
                 count(sides, *yes);
                 count(sides, *no);
                 enter(entries, pending, *yes)?;
                 enter(entries, pending, *no)
             }
-            Exit::Call { next, .. } => enter(entries, pending, *next),
             _ => Ok(()),
         },
         None => Ok(()),

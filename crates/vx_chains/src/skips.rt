@@ -136,15 +136,17 @@ fn walked(
 ) -> Result<BlockId, NoMemory> {
     let mut block = from;
     for _ in 0..onto.len() {
-        if at(stays, block) != NONE {
-            return Ok(at(stays, block));
+        let end = at(stays, block);
+        if end != NONE {
+            return Ok(end);
         }
-        if at(onto, block) == NONE || at(marks.as_slice(), block) == from {
+        let next = at(onto, block);
+        if next == NONE || at(marks.as_slice(), block) == from {
             return Ok(block);
         }
         put(marks, block, from);
         path.push(block)?;
-        block = at(onto, block);
+        block = next;
     }
     Ok(block)
 }
@@ -161,22 +163,14 @@ fn settle(
     }
     for _ in 0..path.len() {
         match path.pop() {
-            Some(block) => settle_one(stays, order, block, end)?,
+            Some(block) => {
+                if at(stays.as_slice(), block) == NONE {
+                    put(stays, block, end);
+                    order.push(block)?;
+                }
+            }
             None => return Ok(()),
         }
-    }
-    Ok(())
-}
-
-fn settle_one(
-    stays: &mut Vec<BlockId>,
-    order: &mut Vec<BlockId>,
-    block: BlockId,
-    end: BlockId,
-) -> Result<(), NoMemory> {
-    if at(stays.as_slice(), block) == NONE {
-        put(stays, block, end);
-        order.push(block)?;
     }
     Ok(())
 }

@@ -57,28 +57,27 @@ fn touches(array: ArrayId, access: Access) -> bool
 fn same_access(first: Access, second: Access) -> bool
     ensures { result ≡ same_access first second }
 {
-    match (first, second) {
-        (
-            Access::Placed {
-                value,
-                array,
-                index,
-            },
+    match first {
+        Access::Placed {
+            value,
+            array,
+            index,
+        } => match second {
             Access::Placed {
                 value: other,
                 array: there,
                 index: at,
-            },
-        ) => (other == value && there == array) && same_operand(at, index),
-        (
-            Access::Stored { array, place, from },
+            } => (other == value && there == array) && same_operand(at, index),
+            Access::Stored { .. } => false,
+        },
+        Access::Stored { array, place, from } => match second {
             Access::Stored {
                 array: there,
                 place: at,
                 from: other,
-            },
-        ) => there == array && (same_operand(at, place) && same_operand(other, from)),
-        _ => false,
+            } => there == array && (same_operand(at, place) && same_operand(other, from)),
+            Access::Placed { .. } => false,
+        },
     }
 }
 
@@ -165,9 +164,17 @@ pub fn accessed(alloc: Global, known: &[Access], op: &Op) -> Result<Listed<Acces
     ensures { IfOk result (λ behind. behind ≡ accessed known.now op.now) }
 {
     let mut behind = Listed::new(alloc);
+    append_accessed(&mut behind, known, op)?;
+    Ok(behind)
+}
+
+/// Puts what is known behind an operation at the end of a list.
+fn append_accessed(list: &mut Listed<Access>, known: &[Access], op: &Op) -> Result<(), NoMemory>
+    ensures { IfOk result (λ _. list.new ≡ list.old ++ accessed known.now op.now) }
+{
     match *op {
         Op::Place { to, array, index } => append_unless(
-            &mut behind,
+            list,
             known,
             is_value(to, &index),
             Access::Placed {
@@ -176,14 +183,14 @@ pub fn accessed(alloc: Global, known: &[Access], op: &Op) -> Result<Listed<Acces
                 index,
             },
             to,
-        )?,
+        ),
         Op::Load {
             to,
             array,
             place,
             ..
         } => append_unless(
-            &mut behind,
+            list,
             known,
             is_value(to, &place),
             Access::Stored {
@@ -192,17 +199,16 @@ pub fn accessed(alloc: Global, known: &[Access], op: &Op) -> Result<Listed<Acces
                 from: Operand::Held(to),
             },
             to,
-        )?,
+        ),
         Op::Store { array, place, from } => {
-            behind.push(Access::Stored { array, place, from })?;
-            append_untouched(&mut behind, known, array)?;
+            list.push(Access::Stored { array, place, from })?;
+            append_untouched(list, known, array)
         }
         _ => match written_by(op) {
-            Some(to) => append_unmentioned(&mut behind, known, to)?,
-            None => append_known(&mut behind, known)?,
+            Some(to) => append_unmentioned(list, known, to),
+            None => append_known(list, known),
         },
     }
-    Ok(behind)
 }
 
 fn value_if(test: bool, value: Value) -> Option<Value>

@@ -21,8 +21,7 @@ pub fn headers(alloc: Global, graph: &Graph) -> Result<Vec<BlockId>, NoMemory>
     let back = back_edges(alloc, graph)?;
     let mut targets = unmarked(alloc, graph.blocks.len())?;
     mark_targets(&mut targets, back.as_slice());
-    let headers = marked_blocks(alloc, targets.as_slice(), graph.blocks.len() as u32)?;
-    Ok(headers)
+    marked_blocks(alloc, targets.as_slice(), graph.blocks.len() as u32)
 }
 
 /// Marks the blocks to which edges lead.

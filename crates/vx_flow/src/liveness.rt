@@ -24,8 +24,7 @@ pub fn live(alloc: Global, graph: &Graph) -> Result<Live, NoMemory>
 {
     let nodes = graph.blocks.len();
     let routes = routes_of(alloc, graph.blocks.as_slice())?;
-    let live = live_on(alloc, nodes, &routes)?;
-    Ok(live)
+    live_on(alloc, nodes, &routes)
 }
 
 /// The values that are live at the start of each node, where the ways from node to node are these routes. Each begins at

@@ -63,10 +63,10 @@ pub fn read_by(op: &Op) -> Reads
             right,
             ..
         } => reads_three(Some(*test), held_by(left), held_by(right)),
-        Op::Place { index, .. } => reads_three(held_by(index), None, None),
-        Op::Load { place, .. } => reads_three(held_by(place), None, None),
+        Op::Place { index: one, .. } | Op::Load { place: one, .. } | Op::Decimal { from: one } => {
+            reads_three(held_by(one), None, None)
+        }
         Op::Store { place, from, .. } => reads_three(held_by(place), held_by(from), None),
-        Op::Decimal { from } => reads_three(held_by(from), None, None),
         Op::Across { from, .. } => reads_three(Some(*from), None, None),
         Op::More { .. } | Op::Input { .. } | Op::Text { .. } => reads_three(None, None, None),
     }

@@ -6,7 +6,7 @@ ghost use Rattle.vx_flow.specs.Sound.{targets_of};
 
 use crate::graph::{BlockId, Exit, Value};
 use std::alloc::Global;
-use vx_base::listed::Listed;
+use vx_base::listed::{Listed, copied};
 use vx_base::outcome::NoMemory;
 
 /// A value that is read or written on a route.
@@ -33,14 +33,9 @@ pub struct Route {
 pub fn targets_of(alloc: Global, exit: &Exit) -> Result<Listed<BlockId>, NoMemory>
     ensures { IfOk result (λ targets. targets ≡ targets_of exit.now) }
 {
-    let mut targets = Listed::new(alloc);
     match exit {
-        Exit::Goto(to) | Exit::Call { next: to, .. } => targets.push(*to)?,
-        Exit::Split { yes, no, .. } => {
-            targets.push(*yes)?;
-            targets.push(*no)?;
-        }
-        Exit::Return(_) | Exit::Ends(_) => {}
+        Exit::Goto(to) | Exit::Call { next: to, .. } => Ok(copied(alloc, &[*to])?),
+        Exit::Split { yes, no, .. } => Ok(copied(alloc, &[*yes, *no])?),
+        Exit::Return(_) | Exit::Ends(_) => Ok(Listed::new(alloc)),
     }
-    Ok(targets)
 }

@@ -51,7 +51,7 @@ pub fn touch_exit(touches: &mut Listed<Touch>, exit: &Exit) -> Result<(), NoMemo
     ensures { IfOk result (λ _. touches.new ≡ touches.old ++ touches_of_exit exit.now) }
 {
     match exit {
-        Exit::Goto(_) => Ok(()),
+        Exit::Goto(_) | Exit::Ends(_) => Ok(()),
         Exit::Split { test, .. } => touch_value(touches, true, Some(*test)),
         Exit::Call {
             arguments,
@@ -65,7 +65,6 @@ pub fn touch_exit(touches: &mut Listed<Touch>, exit: &Exit) -> Result<(), NoMemo
             }
         }
         Exit::Return(operand) => touch_operand(touches, operand),
-        Exit::Ends(_) => Ok(()),
     }
 }
 

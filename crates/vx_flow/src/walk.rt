@@ -165,11 +165,9 @@ fn successor_of(exit: &Exit, number: u32) -> Option<BlockId>
     ensures { result ≡ slice_get (successors_of exit.now) number }
 {
     match exit {
-        Exit::Goto(to) => first_or_none(*to, number),
+        Exit::Goto(to) | Exit::Call { next: to, .. } => first_or_none(*to, number),
         Exit::Split { yes, no, .. } => of_two(*yes, *no, number),
-        Exit::Call { next, .. } => first_or_none(*next, number),
-        Exit::Return(_) => None,
-        Exit::Ends(_) => None,
+        Exit::Return(_) | Exit::Ends(_) => None,
     }
 }
 

@@ -5,3 +5,4 @@ pub mod RegionPlaces
 pub mod PlaceRows
 pub mod Assembled
 pub mod SeenSaves
+pub mod Shorter

@@ -46,12 +46,7 @@ fn turns(whole: &Whole, function: u32, place: u32, word: &VirtualWord) -> Result
 {
     match word {
         VirtualWord::Transfer(to) => Ok(!follows(whole, function, sum(place, 1)?, *to)),
-        VirtualWord::Planned { .. } => Ok(false),
-        VirtualWord::Drain(_) => Ok(false),
-        VirtualWord::Choice { .. } => Ok(false),
-        VirtualWord::Call { .. } => Ok(false),
-        VirtualWord::Return(_) => Ok(false),
-        VirtualWord::Ends(_) => Ok(false),
+        _ => Ok(false),
     }
 }
 
@@ -235,12 +230,7 @@ fn push_word_landings(
             let plan = plan_of(alloc, whole, function, place, items.as_slice())?;
             push_item_landings(alloc, whole, &plan, items.as_slice(), words)
         }
-        VirtualWord::Drain(_) => Ok(()),
-        VirtualWord::Transfer(_) => Ok(()),
-        VirtualWord::Choice { .. } => Ok(()),
-        VirtualWord::Call { .. } => Ok(()),
-        VirtualWord::Return(_) => Ok(()),
-        VirtualWord::Ends(_) => Ok(()),
+        _ => Ok(()),
     }
 }
 

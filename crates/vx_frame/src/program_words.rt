@@ -13,7 +13,7 @@ ghost use Rattle.vx_slots.specs.Seen.{seen};
 use crate::pieces::pieces_that_stand;
 use crate::regions::region_places;
 use std::alloc::Global;
-use vx_base::listed::{Bytes, Listed};
+use vx_base::listed::{Bytes, Listed, copied};
 use vx_base::outcome::NoMemory;
 use vx_flow::graph::Flow;
 use vx_heat::laws::words_are_sound;
@@ -26,27 +26,15 @@ use vx_regs::map::RegMap;
 use vx_slots::program::{Sizes, Whole};
 use vx_target::finished::Finished;
 
-fn copied_text(alloc: Global, text: &[u8]) -> Result<Bytes, NoMemory>
-    ensures { IfOk result (λ copy. copy ≡ text.now) }
-{
-    Ok(Listed::from_vec(text.to_vec(alloc)?)?)
-}
-
 /// A copy of the texts of a program.
 fn copied_texts(alloc: Global, texts: &[Bytes]) -> Result<Listed<Bytes>, NoMemory>
     ensures { IfOk result (λ copy. copy ≡ texts.now) }
 {
     let mut copies = Listed::new(alloc);
-    let mut rest = texts;
-    'copy: loop {
-        match rest.split_first() {
-            None => return Ok(copies),
-            Some((text, others)) => {
-                copies.push(copied_text(alloc, text.as_slice())?)?;
-                rest = others;
-            }
-        }
+    for text in texts {
+        copies.push(copied(alloc, text.as_slice())?)?;
     }
+    Ok(copies)
 }
 
 /// The program of a whole of which all but the words and their places are found, and the places of its regions.

@@ -27,12 +27,7 @@ fn note(rows: &mut Vec<Listed<u32>>, word: &VirtualWord, mark: u32) -> Result<()
                 Ok(())
             }
         }
-        VirtualWord::Drain(_) => Ok(()),
-        VirtualWord::Transfer(_) => Ok(()),
-        VirtualWord::Choice { .. } => Ok(()),
-        VirtualWord::Call { .. } => Ok(()),
-        VirtualWord::Return(_) => Ok(()),
-        VirtualWord::Ends(_) => Ok(()),
+        _ => Ok(()),
     }
 }
 

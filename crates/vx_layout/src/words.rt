@@ -188,12 +188,12 @@ fn push_leave(
 ) -> Result<(), NoMemory>
     ensures { IfOk result (λ _. words.new ≡ words.old ++ leave_words (place_in places.now) exit.now) }
 {
-    match exit {
-        Exit::Goto(to) => push(words, VirtualWord::Transfer(place_at(places, *to))),
+    let last = match exit {
+        Exit::Goto(to) => VirtualWord::Transfer(place_at(places, *to)),
         Exit::Split { test, yes, no } => {
             let place = place_at(places, *yes);
             push(words, VirtualWord::Choice { test: *test, place })?;
-            push(words, VirtualWord::Transfer(place_at(places, *no)))
+            VirtualWord::Transfer(place_at(places, *no))
         }
         Exit::Call {
             function,
@@ -208,11 +208,12 @@ fn push_leave(
                 result: *result,
             };
             push(words, call)?;
-            push(words, VirtualWord::Transfer(place_at(places, *next)))
+            VirtualWord::Transfer(place_at(places, *next))
         }
-        Exit::Return(operand) => push(words, VirtualWord::Return(*operand)),
-        Exit::Ends(trap) => push(words, VirtualWord::Ends(*trap)),
-    }
+        Exit::Return(operand) => VirtualWord::Return(*operand),
+        Exit::Ends(trap) => VirtualWord::Ends(*trap),
+    };
+    push(words, last)
 }
 
 /// The exit of a region, after its empty cycles.

@@ -37,10 +37,10 @@ impl Symbol {
         ensures { result ≡ number_of self.now }
     {
         match self {
-            Symbol::Entry(value) => *value,
-            Symbol::Made(place) => *place,
-            Symbol::EntryPlace(value) => *value,
-            Symbol::MadePlace(place) => *place,
+            Symbol::Entry(number)
+            | Symbol::Made(number)
+            | Symbol::EntryPlace(number)
+            | Symbol::MadePlace(number) => *number,
         }
     }
 

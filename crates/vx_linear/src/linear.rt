@@ -12,7 +12,7 @@ ghost use Rattle.vx_linear.specs.Linear.{constant, symbol, unless_zero, with_ter
 use crate::form::{Symbol, Term};
 use std::alloc::{AllocError, Global};
 use vx_arithmetic::{add32, mul32};
-use vx_base::listed::Listed;
+use vx_base::listed::{Listed, copied};
 
 /// A constant and a sum of symbols with factors, the symbols ascending.
 #[derive(Drop)]
@@ -192,8 +192,7 @@ fn merged(alloc: Global, terms: &[Term], onto: &[Term]) -> Result<Listed<Term>, 
 fn inserted(alloc: Global, terms: &[Term], onto: &[Term]) -> Result<Listed<Term>, AllocError>
     ensures { IfOk result (λ list. list ≡ with_terms terms.now onto.now) }
 {
-    let mut list = Listed::new(alloc);
-    push_all(&mut list, onto)?;
+    let mut list = copied(alloc, onto)?;
     let mut rest = terms;
     'insert: loop {
         match rest.split_first() {
@@ -256,8 +255,7 @@ pub(crate) fn minus(alloc: Global, left: &Linear, right: &Linear) -> Result<Line
 pub(crate) fn copy(alloc: Global, linear: &Linear) -> Result<Linear, AllocError>
     ensures { IfOk result (λ copy. copy ≡ linear.now) }
 {
-    let mut terms = Listed::new(alloc);
-    push_all(&mut terms, linear.terms.as_slice())?;
+    let terms = copied(alloc, linear.terms.as_slice())?;
     Ok(Linear {
         constant: linear.constant,
         terms,

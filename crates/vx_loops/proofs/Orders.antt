@@ -48,6 +48,9 @@ in_at [] i x lt e = absurd (omega arith)
 in_at (y ∷ xs) zero x lt e = inl e
 in_at (y ∷ xs) (suc i) x lt e = inr (in_at xs i x (omega arith) e)
 
+pub none_from : (all some : List ℕ) → some ≡ [] → EachFrom all some
+none_from all some e b i = absurd (subst (IsIn b) e i)
+
 pub each_more : (all some now : List ℕ) (x : ℕ) → EachFrom all some → now ≡ some ++ x ∷ [] → IsIn x all → EachFrom all now
 each_more all some now x h e there b i = elim (in_front_or_last b x some (subst (IsIn b) e i)) [ inl a ↦ h b a | inr q ↦ subst (λ z. IsIn z all) (sym q) there ]
 
@@ -61,6 +64,12 @@ mark_other marks p b n = get_or-set_other marks p b true false n
 
 pub marks_stay : (marks : List Bool) (p : ℕ) → p < length marks → MarksStay marks (slice_set marks p true)
 marks_stay marks p h b m = same_or_not b p (λ e. subst (λ z. is_marked (slice_set marks p true) z ≡ true) (sym e) (mark_there marks p h)) (λ n. mark_other marks p b n ∙ m)
+
+pub all_more : (place : ℕ) (before after : List Bool) → MarksStay before after → (place < length before → is_marked after place ≡ true) → place < length before → ((b : ℕ) → b < place → b < 2 ^ 32 → is_marked before b ≡ true) → (b : ℕ) → b < place + 1 → b < 2 ^ 32 → is_marked after b ≡ true
+all_more place before after stay mark there all b lt small = same_or_not b place (λ e. subst (λ z. is_marked after z ≡ true) (sym e) (mark there)) (λ n. stay b (all b (omega (arith, lt, n)) small))
+
+pub all_past : (place : ℕ) (marks : List Bool) → 2 ^ 32 ≤ place → ((b : ℕ) → b < place → b < 2 ^ 32 → is_marked marks b ≡ true) → (b : ℕ) → b < place + 1 → b < 2 ^ 32 → is_marked marks b ≡ true
+all_past place marks past all b lt small = all b (omega (arith, past, small)) small
 
 pub placed_more : (marks : List Bool) (xs : List ℕ) (p : ℕ) → Placed marks xs → p < length marks → is_marked marks p ≡ false → p < 2 ^ 32 → Placed (slice_set marks p true) (xs ++ p ∷ [])
 placed_more marks xs p h there free small = record {

@@ -129,14 +129,15 @@ pub fn loop_at(
     ensures number { IfOk result (λ _. loops.new.number ≤ loops.old.number + 1) }
 {
     let ends = split_sources(alloc, loops, header)?;
-    let [before] = ends.before.as_slice() else {
-        return Ok(None);
+    let entry = match ends.before.as_slice() {
+        [before] if ends.inside.len() > 0 => *before as usize,
+        _ => return Ok(None),
     };
-    let entry = *before as usize;
-    if ends.inside.len() == 0 || !gather(loops, blocks, header, ends.inside)? {
-        return Ok(None);
+    if gather(loops, blocks, header, ends.inside)? {
+        Ok(jumping(blocks, entry, header))
+    } else {
+        Ok(None)
     }
-    Ok(jumping(blocks, entry, header))
 }
 
 /// Looks at the loop of a block, which is empty where the block is no header. Answers the blocks that lead to it from outside, none
@@ -302,12 +303,13 @@ fn follow(
 fn following(blocks: &[Block], loops: &Loops, header: BlockId, block: BlockId) -> Option<BlockId>
     ensures { IfSome result (λ next. Leads blocks.now block next) }
 {
-    let next = match blocks.get(block as usize) {
-        Some(found) => inner_target(loops, &found.exit),
+    match blocks.get(block as usize) {
+        Some(found) => match inner_target(loops, &found.exit) {
+            Some(next) if next != header => Some(next),
+            _ => None,
+        },
         None => None,
-    };
-    let found = next?;
-    if found == header { None } else { Some(found) }
+    }
 }
 
 /// The block to which alone an exit leads inside of the loop; where it leads to one block, that one.

@@ -35,7 +35,7 @@ fn walked(alloc: Global, blocks: &[Block]) -> Result<Vec<BlockId>, NoMemory> {
     for _ in 0..blocks.len().saturating_mul(3) {
         match path.pop() {
             Some(stop) => go_on(blocks, &mut seen, &mut path, &mut left, stop)?,
-            None => return Ok(left),
+            None => break,
         }
     }
     Ok(left)

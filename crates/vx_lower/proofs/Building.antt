@@ -1,19 +1,19 @@
 -- How a graph that is being made grows.
-use Rattle.std.proofs.Common.{◌≡◌, ◌⊎◌, ℕ, zero, suc, ◌+◌, ◌<◌, ◌≤◌, ℤ, pos, List, [], ◌∷◌, ◌++◌, length, Option, Some, None, refl, sym, ap, ◌∙◌, subst, inl, inr, arith, append_assoc, append-nil}
-use Rattle.std.specs.Prelude.{slice_get, slice_set, nat_eq, Bool, true, false}
+use Rattle.std.proofs.Common.{◌≡◌, ◌⊎◌, ℕ, ◌+◌, ◌<◌, ◌≤◌, List, [], ◌∷◌, ◌++◌, length, Option, Some, None, refl, sym, ap, ◌∙◌, subst, inl, inr, arith, append_assoc, append-nil}
+use Rattle.std.specs.Prelude.{slice_get, slice_set, nat_eq, true, false}
 use Rattle.std.proofs.lemmas.Bool.{cases_lt}
 use Rattle.std.proofs.lemmas.Bool.Decides.{eqb_tells}
 use Rattle.std.proofs.lemmas.Option.{slice_get_within}
-use Rattle.vx_flow.specs.declared.graph.Operand.{Operand}
 use Rattle.vx_flow.specs.declared.graph.Op.{Op}
 use Rattle.vx_flow.specs.declared.graph.Exit.{Exit}
-use Rattle.vx_flow.specs.declared.graph.Exit.TheVariants.{Goto, Split, Call, Return, Ends}
+use Rattle.vx_flow.specs.declared.graph.Exit.TheVariants.{Goto, Split, Ends}
 use Rattle.vx_flow.specs.declared.graph.Block.{Block}
-use Rattle.vx_lower.specs.Holds.{Goes, same, on, Tests, then_op, ends, jump}
+use Rattle.vx_lower.specs.Holds.{same, on, then_op, ends, jump}
 use Rattle.vx_flow.specs.declared.graph.Bank.{Bank}
 use Rattle.vx_base.specs.declared.outcome.Trap.{Trap}
 use Rattle.vx_lower.specs.declared.builder.Builder.{Builder}
 use Rattle.vx_lower.specs.Builds.{reserved, closed, filled, with_value, with_op, Ready, Limited, Grows, Stands, Finishes, Opens, From, Puts, Branches, Guards}
+use Rattle.vx_lower.specs.Adds.{Added, far}
 use Rattle.vx_lower.specs.Emits.{Spare}
 use Rattle.vx_lower.proofs.Places.{get_front, get_last, length_more, set_same, set_other, set_length}
 
@@ -256,6 +256,9 @@ puts_near_is b b1 op h e r = subst (Puts op b) (sym e) (puts_near b op h r)
 
 pub puts_far_is : (b b1 b2 b3 : Builder) (op : Op) (n : ℕ) → (n ≡ length b.blocks) × (b1 ≡ reserved b) → b2 ≡ closed b1 (Goto n) n → b3 ≡ with_op b2 op → Ready b → Puts op b b3
 puts_far_is b b1 b2 b3 op n e1 e2 e3 r = subst (Puts op b) (sym (e3 ∙ ap (λ z. with_op z op) (e2 ∙ ap (λ z. closed z (Goto n) n) e1.1 ∙ ap (λ m. closed (reserved b) (Goto m) m) e1.0))) (puts_far b op r)
+
+pub added_far : (b b1 b2 b3 : Builder) (op : Op) (n : ℕ) → (n ≡ length b.blocks) × (b1 ≡ reserved b) → b2 ≡ closed b1 (Goto n) n → b3 ≡ with_op b2 op → Added op b b3
+added_far b b1 b2 b3 op n e1 e2 e3 = far (e3 ∙ ap (λ z. with_op z op) (e2 ∙ ap (λ z. closed z (Goto n) n) e1.1 ∙ ap (λ m. closed (reserved b) (Goto m) m) e1.0))
 
 pub branches_is : (a b b1 b2 b3 : Builder) (op : Op) (c y n : ℕ) → (Ready a → Puts op a b) → (y ≡ length b.blocks) × (b1 ≡ reserved b) → (n ≡ length b1.blocks) × (b2 ≡ reserved b1) → b3 ≡ closed b2 (Split c y n) y → Ready a → Branches op c n a b3
 branches_is a b b1 b2 b3 op c y n x e1 e2 e3 r =

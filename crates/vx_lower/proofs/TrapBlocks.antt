@@ -1,9 +1,10 @@
 -- The finished blocks stand where they were made, and the trap blocks behind them.
-use Rattle.std.proofs.Common.{◌≡◌, ◌⊎◌, ℕ, zero, suc, ◌+◌, ◌-◌, ◌<◌, ◌≤◌, Bool, true, false, ◌||◌, List, [], ◌∷◌, ◌++◌, length, map, Option, Some, None, refl, sym, ap, ◌∙◌, subst, inl, inr, arith, append_assoc}
+use Rattle.std.proofs.Common.{◌≡◌, ◌⊎◌, ℕ, zero, suc, ◌+◌, ◌-◌, ◌<◌, ◌≤◌, Bool, true, false, ◌||◌, List, [], ◌∷◌, ◌++◌, length, map, drop, get_or, not, Option, Some, None, refl, sym, ap, ◌∙◌, subst, inl, inr, arith, append_assoc}
 use Rattle.std.specs.Prelude.{slice_get, if◌then◌else◌}
 use Rattle.std.specs.List.{list_any}
 use Rattle.std.proofs.lemmas.Bool.{cases_lt, eqb-true}
 use Rattle.std.proofs.lemmas.List.{length-append, length-map}
+use Rattle.std.proofs.lemmas.List.Sums.{prefix_len-drop_all, prefix_len-le-length}
 use Rattle.std.proofs.lemmas.Option.{slice_get_within}
 use Rattle.vx_base.specs.declared.outcome.Trap.{Trap}
 use Rattle.vx_base.specs.declared.outcome.Trap.TheVariants.{Divide, Index, Input, Depth}
@@ -260,6 +261,40 @@ place_at (j ∷ kinds) k x = by (place_at kinds k) (is_kind j k) refl x.place x.
     by go true e i h = ap (slice_get (j ∷ kinds)) (place_is j kinds k ∙ ap (λ b. or_zero b (place_in kinds k)) e) ∙ ap Some (same_kind j k e)
     by go false e zero h = let is : j ≡ k = cc in let t : false ≡ true = sym e ∙ ap (λ z. is_kind z k) is ∙ is_itself k in absurd (cc)
     by go false e (suc i) h = ap (slice_get (j ∷ kinds)) (place_is j kinds k ∙ ap (λ b. or_zero b (place_in kinds k)) e) ∙ go (record { place = i; has = h })
+
+-- a loop that looks for the place of a kind
+
+place_here : (kinds : List Trap) (k d : Trap) (i : ℕ) (b : Bool) → i < length kinds → b ≡ is_kind (get_or kinds i d) k → place_in (drop i kinds) k ≡ or_zero b (place_in (drop (i + 1) kinds) k)
+place_here [] k d i b h t = absurd (omega arith)
+place_here (y ∷ kinds) k d zero b h t =
+    let one : suc 0 ≡ 0 + 1 = omega arith in
+    place_is y kinds k ∙ ap (λ x. or_zero x (place_in kinds k)) (sym t) ∙ ap (λ n. or_zero b (place_in (drop n (y ∷ kinds)) k)) one
+place_here (y ∷ kinds) k d (suc i) b h t =
+    let more : suc (i + 1) ≡ suc i + 1 = omega arith in
+    place_here kinds k d i b (omega arith) t ∙ ap (λ n. or_zero b (place_in (drop n (y ∷ kinds)) k)) more
+
+pub place_next : (kinds : List Trap) (k d : Trap) (place i : ℕ) (b : Bool) → i < length kinds → b ≡ is_kind (get_or kinds i d) k → b ≡ false → (place ≡ i) × (place_in kinds k ≡ i + place_in (drop i kinds) k) → (place + 1 ≡ i + 1) × (place_in kinds k ≡ i + 1 + place_in (drop (i + 1) kinds) k)
+place_next kinds k d place i b h t f x =
+    let here : place_in (drop i kinds) k ≡ suc (place_in (drop (i + 1) kinds) k) = place_here kinds k d i b h t ∙ ap (λ z. or_zero z (place_in (drop (i + 1) kinds) k)) f in
+    let so : place_in kinds k ≡ i + place_in (drop i kinds) k = x.1 in
+    (ap (λ n. n + 1) x.0, omega arith)
+
+pub place_found : (kinds : List Trap) (k d : Trap) (place i : ℕ) (b : Bool) → i < length kinds → b ≡ is_kind (get_or kinds i d) k → b ≡ true → (place ≡ i) × (place_in kinds k ≡ i + place_in (drop i kinds) k) → place ≡ place_in kinds k
+place_found kinds k d place i b h t f x =
+    let here : place_in (drop i kinds) k ≡ 0 = place_here kinds k d i b h t ∙ ap (λ z. or_zero z (place_in (drop (i + 1) kinds) k)) f in
+    let at : place ≡ i = x.0 in
+    let so : place_in kinds k ≡ i + place_in (drop i kinds) k = x.1 in
+    omega arith
+
+pub place_none : (kinds : List Trap) (k : Trap) (place i : ℕ) → length kinds ≤ i → (place ≡ i) × (place_in kinds k ≡ i + place_in (drop i kinds) k) → place ≡ place_in kinds k
+place_none kinds k place i h x =
+    let none : place_in (drop i kinds) k ≡ 0 = prefix_len-drop_all (λ j. not (is_kind j k)) kinds i h in
+    let at : place ≡ i = x.0 in
+    let so : place_in kinds k ≡ i + place_in (drop i kinds) k = x.1 in
+    omega arith
+
+pub place_within : (kinds : List Trap) (k : Trap) (place : ℕ) → place ≡ place_in kinds k → place ≤ length kinds
+place_within kinds k place e = subst (λ n. n ≤ length kinds) (sym e) (prefix_len-le-length (λ j. not (is_kind j k)) kinds)
 
 -- finished blocks
 

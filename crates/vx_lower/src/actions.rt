@@ -126,8 +126,7 @@ fn combined(
     ensures fits { IfOk result (λ t. AltersWell (By operator (tree_of e.now)) old dest t b.old b.new) }
 {
     let right = emit_value(b, alloc, words, e, None)?;
-    let t = combine(b, alloc, operator, old, right, dest)?;
-    Ok(t)
+    combine(b, alloc, operator, old, right, dest)
 }
 
 /// `target op= value`: the old value is read before the value is evaluated.
@@ -174,8 +173,7 @@ fn stepped(
     ensures fits { IfOk result (λ t. AltersWell (step_change up) old dest t b.old b.new) }
 {
     let code = if up { Code::Add } else { Code::Sub };
-    let t = compute(b, alloc, code, old, Operand::Number(1), dest)?;
-    Ok(t)
+    compute(b, alloc, code, old, Operand::Number(1), dest)
 }
 
 /// `target++` or `target--`

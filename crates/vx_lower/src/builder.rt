@@ -89,8 +89,7 @@ impl Builder {
         if self.ops.len() >= MOST_OPERATIONS {
             return self.put_in_next(alloc, op);
         }
-        self.push(op)?;
-        Ok(())
+        self.push(op)
     }
 
     fn put_in_next(&mut self, alloc: Global, op: Op) -> Result<(), NoMemory>
@@ -99,8 +98,7 @@ impl Builder {
     {
         let next = self.reserve()?;
         self.close(alloc, Exit::Goto(next), next);
-        self.push(op)?;
-        Ok(())
+        self.push(op)
     }
 
     /// The open block ends with a test. The open one then is where it holds, and the result is where it does not.

@@ -64,7 +64,7 @@ fn compared(
     ensures steps { IfOk result (λ n. Compared compare left right n b.old b.new) }
 {
     let c = b.fresh(Bank::Branch)?;
-    let no = b.branch(
+    b.branch(
         alloc,
         Op::Compute {
             code: Code::ToBranch(compare),
@@ -73,8 +73,7 @@ fn compared(
             right,
         },
         c,
-    )?;
-    Ok(no)
+    )
 }
 
 /// The test of a number. The open block then is where it is not 0, and the result is where it is.
@@ -401,8 +400,7 @@ pub fn emit_test(
         Expression::Unary(operator, x) => match *operator {
             UnaryOperator::Not => {
                 let no = emit_test(b, alloc, words, x)?;
-                let yes = b.turn(no);
-                Ok(yes)
+                Ok(b.turn(no))
             }
             _ => test_value(b, alloc, words, e),
         },
@@ -417,8 +415,7 @@ pub fn emit_test(
         Expression::Both(x, y) => {
             let first = emit_test(b, alloc, words, x)?;
             let second = emit_test(b, alloc, words, y)?;
-            let no = meet(b, alloc, first, second)?;
-            Ok(no)
+            meet(b, alloc, first, second)
         }
         Expression::Either(x, y) => {
             let first = emit_test(b, alloc, words, x)?;
@@ -443,8 +440,7 @@ fn test_value(
     ensures fits { IfOk result (λ n. TestsWell (tree_of e.now) n b.old b.new) }
 {
     let o = emit_value(b, alloc, words, e, None)?;
-    let no = truth(b, alloc, o)?;
-    Ok(no)
+    truth(b, alloc, o)
 }
 
 /// The code of a row of arguments, and where their values are.

@@ -240,15 +240,14 @@ fn product(
             right,
         },
     )?;
-    let t = compute(
+    compute(
         b,
         alloc,
         Code::Add,
         Operand::Held(u),
         Operand::Held(v),
         dest,
-    )?;
-    Ok(t)
+    )
 }
 
 fn quotient(
@@ -275,8 +274,7 @@ fn quotient(
         c,
         Trap::Divide,
     )?;
-    let t = compute(b, alloc, code, left, right, dest)?;
-    Ok(t)
+    compute(b, alloc, code, left, right, dest)
 }
 
 fn single(
@@ -291,8 +289,7 @@ fn single(
     ensures code { IfOk result (λ t. Ready b.old → operation_of operator ≡ Some code → divides operator ≡ false → Combined operator left right dest t b.old b.new) }
     ensures fits { IfOk result (λ t. operation_of operator ≡ Some code → CombinesWell left right dest t b.old b.new) }
 {
-    let t = compute(b, alloc, code, left, right, dest)?;
-    Ok(t)
+    compute(b, alloc, code, left, right, dest)
 }
 
 /// An operator done to two operands.

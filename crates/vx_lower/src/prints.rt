@@ -50,8 +50,7 @@ fn show_text(
         Op::Text {
             number: number as u32,
         },
-    )?;
-    Ok(())
+    )
 }
 
 /// The next argument is shown as a number.
@@ -127,6 +126,5 @@ pub fn show(
     for byte in bytes {
         show_byte(b, alloc, texts, arguments, &mut format, *byte)?;
     }
-    show_text(b, alloc, texts, &mut format)?;
-    Ok(())
+    show_text(b, alloc, texts, &mut format)
 }

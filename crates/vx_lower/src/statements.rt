@@ -133,10 +133,7 @@ fn emit_item(b: &mut Builder, alloc: Global, words: &Sizes, item: &Item) -> Resu
             emit_value(b, alloc, words, e, Some(*x))?;
             Ok(())
         }
-        Item::Array(array) => {
-            clear_array(b, alloc, words, *array)?;
-            Ok(())
-        }
+        Item::Array(array) => clear_array(b, alloc, words, *array),
     }
 }
 
@@ -158,14 +155,8 @@ fn emit_first(b: &mut Builder, alloc: Global, words: &Sizes, first: &First) -> R
 {
     match first {
         First::Nothing => Ok(()),
-        First::Simple(action) => {
-            emit_action(b, alloc, words, action)?;
-            Ok(())
-        }
-        First::Items(items) => {
-            emit_items(b, alloc, words, items.as_slice())?;
-            Ok(())
-        }
+        First::Simple(action) => emit_action(b, alloc, words, action),
+        First::Items(items) => emit_items(b, alloc, words, items.as_slice()),
     }
 }
 
@@ -181,10 +172,7 @@ fn emit_step(
 {
     match step {
         None => Ok(()),
-        Some(action) => {
-            emit_action(b, alloc, words, action)?;
-            Ok(())
-        }
+        Some(action) => emit_action(b, alloc, words, action),
     }
 }
 
@@ -200,14 +188,8 @@ fn emit_asked(
     ensures fits { IfOk result (λ n. LoopTestWell (option_map tree_of test.now) n b.old b.new) }
 {
     match test {
-        None => {
-            let unreached = b.reserve()?;
-            Ok(unreached)
-        }
-        Some(e) => {
-            let no = emit_test(b, alloc, words, e)?;
-            Ok(no)
-        }
+        None => b.reserve(),
+        Some(e) => emit_test(b, alloc, words, e),
     }
 }
 
@@ -224,8 +206,7 @@ fn emit_print(
     ensures fits { OnOk result ((leaves again : Option ℕ) → StatementWell (Print format.now (row_in all.now)) leaves again b.old b.new texts.old texts.new) }
 {
     let arguments = emit_row(b, alloc, words, all)?;
-    show(b, alloc, texts, format, arguments.as_slice())?;
-    Ok(())
+    show(b, alloc, texts, format, arguments.as_slice())
 }
 
 /// The code of an `if` without `else`.
@@ -335,8 +316,7 @@ fn emit_return(
     ensures fits { OnOk result ((leaves again : Option ℕ) (texts : List (List ℕ)) → StatementWell (ReturnValue (tree_of e.now)) leaves again b.old b.new texts texts) }
 {
     let value = emit_value(b, alloc, words, e, None)?;
-    end_with(b, alloc, Exit::Return(value))?;
-    Ok(())
+    end_with(b, alloc, Exit::Return(value))
 }
 
 /// The code of a statement. A break goes to the block `leaves`, and a continue to `again`.

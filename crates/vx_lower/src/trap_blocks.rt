@@ -63,7 +63,12 @@ fn traps_by(slot: &Option<Block>, kind: Trap) -> bool
 fn is_used(slots: &[Option<Block>], kind: Trap) -> bool
     ensures { result ≡ list_any (has_trap kind) slots.now }
 {
-    slots.iter().any(|slot| traps_by(slot, kind))
+    for slot in slots {
+        if traps_by(slot, kind) {
+            return true;
+        }
+    }
+    false
 }
 
 /// A kind of trap is put behind others, where some block ends by it.
@@ -93,10 +98,14 @@ fn place_of(kinds: &[Trap], kind: Trap) -> usize
     ensures place { result ≡ place_in kinds.now kind }
     ensures within { result ≤ length kinds.now }
 {
-    kinds
-        .iter()
-        .take_while(|other| !is_kind(**other, kind))
-        .count()
+    let mut place = 0;
+    for other in kinds {
+        if is_kind(*other, kind) {
+            return place;
+        }
+        place += 1;
+    }
+    place
 }
 
 /// A block with a jump in place of its trap; one that waits returns 0.

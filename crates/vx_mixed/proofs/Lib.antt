@@ -27,3 +27,4 @@ pub mod Contents
 pub mod GraphGrows
 pub mod LeaveAlike
 pub mod LiveRegions
+pub mod Turns

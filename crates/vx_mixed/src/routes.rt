@@ -15,7 +15,7 @@ use crate::mixed::MixedGraph;
 use crate::region::{Item, Node, Region};
 use crate::touches::{push_exit, push_ops, push_word};
 use std::alloc::Global;
-use vx_base::listed::{Listed, copied};
+use vx_base::listed::{Listed, copied, with_item};
 use vx_base::outcome::NoMemory;
 use vx_flow::graph::{Block, BlockId, Exit, Value};
 use vx_flow::live_on;
@@ -28,8 +28,7 @@ pub fn live_at_blocks(alloc: Global, graph: &MixedGraph) -> Result<Live, NoMemor
     ensures { IfOk result (λ live. (b : ℕ) (v : ℕ) → b < length graph.now.nodes → (IsIn v (live_values live b) ↔ IsLive graph.now b v)) }
 {
     let routes = routes_of(alloc, graph)?;
-    let rows = live_on(alloc, routes.len(), &routes)?;
-    Ok(rows)
+    live_on(alloc, routes.len(), &routes)
 }
 
 /// The values that are live at a block, ascending.
@@ -99,12 +98,11 @@ fn push_nodes(
 fn node_route(alloc: Global, starts: &[u32], from: BlockId, node: &Node) -> Result<Route, NoMemory>
     ensures { IfOk result (λ route. route ≡ node_route starts.now from node.now) }
 {
-    let mut to = Listed::new(alloc);
-    match node {
+    let to = match node {
         Node::Unused(block) => return block_route(alloc, from, block),
-        Node::Enters { region, word } => to.push(place_in(starts, *region, *word)?)?,
-        Node::Inner => {}
-    }
+        Node::Enters { region, word } => with_item(alloc, &[], place_in(starts, *region, *word)?)?,
+        Node::Inner => Listed::new(alloc),
+    };
     Ok(Route {
         from,
         to,

@@ -1,5 +1,5 @@
 -- What is known behind declarations, and behind a scope whose names are forgotten one by one.
-use Rattle.std.proofs.Common.{◌≡◌, ℕ, zero, suc, ◌+◌, ◌-◌, ◌<◌, ◌≤◌, true, false, if◌then◌else◌, length, drop, List, [], ◌∷◌, ◌++◌, refl, ap, sym, ◌∙◌, arith}
+use Rattle.std.proofs.Common.{◌≡◌, Bool, ℕ, zero, suc, ◌+◌, ◌-◌, ◌<◌, ◌≤◌, true, false, if◌then◌else◌, length, drop, List, [], ◌∷◌, ◌++◌, refl, ap, sym, ◌∙◌, arith}
 use Rattle.std.proofs.lemmas.List.{length-drop}
 use Rattle.vx_ast.specs.declared.syntax.Name.{Name}
 use Rattle.vx_ast.specs.declared.syntax.Size.{Size}
@@ -37,6 +37,22 @@ removed_all env now last count r h e =
     let w : r.count ≤ length env.locals - count = r.within in
     let n : r.count ≡ length env.locals - count = omega (arith, l, h, w) in
     e ∙ ap (λ (z : Environment). record z { depth = z.depth - 1 }) r.is ∙ ap (λ (k : ℕ). record env { depth = env.depth - 1; locals = drop k env.locals }) n
+
+-- a name that is declared, where its scope has it already and where it has not
+
+pub declared_still : (x : List ℕ) (n : Named) (env now : Environment) → env ≡ now → is_at env.depth (look x env) ≡ true → env ≡ declared x n now
+unfolding declared
+declared_still x n env now e h =
+    let here : Environment = record env { locals = (record { name = x; meant = record { depth = env.depth; named = n } }) ∷ env.locals } in
+    sym (ap (λ (b : Bool). if b then env else here) h) ∙ ap (λ (z : Environment). declared x n z) e
+
+pub declared_pushed : (x bytes : List ℕ) (n : Named) (env now : Environment) (ks : List Known) → env ≡ now → bytes ≡ x → ks ≡ (record { name = bytes; meant = record { depth = env.depth; named = n } }) ∷ env.locals → is_at env.depth (look x env) ≡ false → record env { locals = ks } ≡ declared x n now
+unfolding declared
+declared_pushed x bytes n env now ks e b k h =
+    let here : Environment = record env { locals = (record { name = x; meant = record { depth = env.depth; named = n } }) ∷ env.locals } in
+    ap (λ (z : List Known). record env { locals = z }) k
+    ∙ ap (λ (z : List ℕ). record env { locals = (record { name = z; meant = record { depth = env.depth; named = n } }) ∷ env.locals }) b
+    ∙ sym (ap (λ (b : Bool). if b then env else here) h) ∙ ap (λ (z : Environment). declared x n z) e
 
 -- what a declaration leaves as it was
 

@@ -13,7 +13,7 @@ use std::alloc::Global;
 use std::marker::Model;
 use std::mem;
 use vx_ast::names::{FileName, Meant, Named};
-use vx_base::listed::{Bytes, Listed};
+use vx_base::listed::{Bytes, Listed, copied};
 use vx_base::outcome::NoMemory;
 
 /// The names that are known at a place of a function.
@@ -47,10 +47,7 @@ impl Model for Names {
 pub fn bytes_of(alloc: Global, bytes: &[u8]) -> Result<Bytes, NoMemory>
     ensures { IfOk result (λ copy. copy ≡ bytes.now) }
 {
-    let mut copy = Vec::new(alloc);
-    copy.extend_from_slice(bytes)?;
-    let listed = Listed::from_vec(copy)?;
-    Ok(listed)
+    Ok(copied(alloc, bytes)?)
 }
 
 // Puts the predeclared names into a table without names.
@@ -282,42 +279,29 @@ impl Names {
         is_predeclared(name) || is_at(self.depth(), self.look(name))
     }
 
-    // One more local, which takes the name over.
-    fn take(&mut self, alloc: Global, local: Local) -> Result<(), NoMemory>
-        requires { local.before ≡ look local.name self.old }
-        ensures { OnOk result (self.new ≡ record self.old { locals = (record { name = local.name; meant = local.meant }) ∷ self.old.locals }) }
+    // Declares a name: one more local, which takes the name over.
+    fn declare(&mut self, alloc: Global, name: &[u8], named: Named) -> Result<(), NoMemory>
+        ensures { OnOk result (self.new ≡ declared name.now named self.old) }
     {
-        let meant = local.meant;
-        let name = bytes_of(alloc, local.name.as_slice())?;
-        self.locals.push(local)?;
-        match self.table.put(alloc, name.as_slice(), Some(meant)) {
+        let before = self.table.look(name);
+        let depth = self.depth;
+        if is_at(depth, before) {
+            return Ok(());
+        }
+        let meant = Meant { depth, named };
+        let bytes = bytes_of(alloc, name)?;
+        self.locals.push(Local {
+            name: bytes,
+            meant,
+            before,
+        })?;
+        match self.table.put(alloc, name, Some(meant)) {
             Ok(()) => Ok(()),
             Err(fault) => {
                 self.locals.pop();
                 Err(fault)
             }
         }
-    }
-
-    // Declares a name.
-    #[tactic(auto, unfolding(vx_ast::specs::Scopes::declared))]
-    fn declare(&mut self, alloc: Global, name: &[u8], named: Named) -> Result<(), NoMemory>
-        ensures { OnOk result (self.new ≡ declared name.now named self.old) }
-    {
-        let before = self.look(name);
-        let depth = self.depth();
-        if is_at(depth, before) {
-            return Ok(());
-        }
-        let bytes = bytes_of(alloc, name)?;
-        self.take(
-            alloc,
-            Local {
-                name: bytes,
-                meant: Meant { depth, named },
-                before,
-            },
-        )
     }
 
     // The latest local is known no more.

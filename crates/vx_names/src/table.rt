@@ -19,9 +19,7 @@ pub struct Table {
 fn copied(alloc: Global, bytes: &[u8]) -> Result<Vec<u8>, NoMemory>
     ensures { IfOk result (λ copy. copy.items ≡ bytes.now) }
 {
-    let mut copy = Vec::new(alloc);
-    copy.extend_from_slice(bytes)?;
-    Ok(copy)
+    Ok(bytes.to_vec(alloc)?)
 }
 
 impl Table {

@@ -94,7 +94,10 @@ pub fn probes_of(
         return Ok(probes);
     }
     match probe_of(probes, name) {
-        Some(probe) => one(alloc, probe).map_err(|_| Status::NoMemory),
+        Some(probe) => match one(alloc, probe) {
+            Ok(probes) => Ok(probes),
+            Err(_) => Err(Status::NoMemory),
+        },
         None => Err(Status::Usage),
     }
 }

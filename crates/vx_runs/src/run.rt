@@ -62,8 +62,7 @@ pub fn run_alone<K: Sink>(
     ensures issued { IfOk result (λ end. is_fault end.ended ≡ false → end.issued ≡ length (events_within (loaded_of loaded) (times timing) budget)) }
 {
     let mut probes = Vec::new(alloc);
-    let end = run(alloc, loaded, budget, out, &mut timing, &mut probes)?;
-    Ok(end)
+    run(alloc, loaded, budget, out, &mut timing, &mut probes)
 }
 
 /// Puts a signed number in decimal.

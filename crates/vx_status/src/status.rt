@@ -116,6 +116,22 @@ pub fn put_counted<E: Sink>(err: &mut E, words: &[u8], number: u64) -> Result<()
     put_number(err, number)
 }
 
+/// Puts some words, a number in decimal behind them, and a line feed.
+fn put_counted_line<E: Sink>(err: &mut E, words: &[u8], number: u64) -> Result<(), SinkFault>
+    ensures { Puts result (counted words.now number ++ 10 ∷ []) (E.told err.old) (E.told err.new) (E.faults err.old) (E.faults err.new) }
+{
+    put_counted(err, words, number)?;
+    put(err, b"\n")
+}
+
+/// Puts some words, and a name behind them.
+fn put_named<E: Sink>(err: &mut E, words: &[u8], name: &str) -> Result<(), SinkFault>
+    ensures { Puts result (words.now ++ name.now) (E.told err.old) (E.told err.new) (E.faults err.old) (E.faults err.new) }
+{
+    put(err, words)?;
+    put_text(err, name)
+}
+
 /// Puts some words and a number, more words and another number, and a line feed.
 fn put_twice_counted<E: Sink>(
     err: &mut E,
@@ -127,8 +143,7 @@ fn put_twice_counted<E: Sink>(
     ensures { Puts result (twice_counted words.now number more.now other) (E.told err.old) (E.told err.new) (E.faults err.old) (E.faults err.new) }
 {
     put_counted(err, words, number)?;
-    put_counted(err, more, other)?;
-    put(err, b"\n")
+    put_counted_line(err, more, other)
 }
 
 /// Puts the place and the code of a fault of the source.
@@ -150,8 +165,7 @@ fn put_limit_line<E: Sink>(err: &mut E, number: u32, count: u64) -> Result<(), S
 fn put_field_name<E: Sink>(err: &mut E, field: u32) -> Result<(), SinkFault>
     ensures { Puts result (codes " " ++ name_of field) (E.told err.old) (E.told err.new) (E.faults err.old) (E.faults err.new) }
 {
-    put(err, b" ")?;
-    put_text(err, field_name(field))
+    put_named(err, b" ", field_name(field))
 }
 
 /// The same where there is a field.
@@ -178,8 +192,7 @@ fn put_machine_line<E: Sink>(err: &mut E, code: u32, field: u32) -> Result<(), S
 fn put_role_line<E: Sink>(err: &mut E, words: &[u8], role: Role) -> Result<(), SinkFault>
     ensures { Puts result (words.now ++ role_name role ++ 10 ∷ []) (E.told err.old) (E.told err.new) (E.faults err.old) (E.faults err.new) }
 {
-    put(err, words)?;
-    put_text(err, role_name(role))?;
+    put_named(err, words, role_name(role))?;
     put(err, b"\n")
 }
 
@@ -225,8 +238,7 @@ fn put_profile_line<E: Sink>(err: &mut E, code: u32, line: u32) -> Result<(), Si
 fn put_input_line<E: Sink>(err: &mut E, place: u32) -> Result<(), SinkFault>
     ensures { Puts result (status_line (Status.Input place)) (E.told err.old) (E.told err.new) (E.faults err.old) (E.faults err.new) }
 {
-    put_counted(err, b"input at ", u64::from(place))?;
-    put(err, b"\n")
+    put_counted_line(err, b"input at ", u64::from(place))
 }
 
 /// The words of a reason in a line.
@@ -246,10 +258,8 @@ fn reason_name(reason: Reason) -> &'static str
 fn put_stuck_line<E: Sink>(err: &mut E, reason: Reason, place: u32) -> Result<(), SinkFault>
     ensures { Puts result (status_line (Status.Stuck reason place)) (E.told err.old) (E.told err.new) (E.faults err.old) (E.faults err.new) }
 {
-    put(err, b"stuck ")?;
-    put_text(err, reason_name(reason))?;
-    put_counted(err, b" at word ", u64::from(place))?;
-    put(err, b"\n")
+    put_named(err, b"stuck ", reason_name(reason))?;
+    put_counted_line(err, b" at word ", u64::from(place))
 }
 
 /// Puts the line of a status. A command that is done has none here: what it puts is its own.

@@ -57,6 +57,14 @@ module _ {T E : Type 0} (result : Result T E) (old : List ℕ) where
   pub put_behind : (mid now front next : List ℕ) → mid ≡ old ++ front → OnOk result (now ≡ mid ++ next) → OnOk result (now ≡ old ++ (front ++ next))
   put_behind mid now front next first more = subst (λ t. OnOk result (now ≡ t)) (ap (λ l. l ++ next) first ∙ append_assoc old front next) more
 
+  -- two at once behind it
+  pub put_two_behind : (mid now front a b : List ℕ) → mid ≡ old ++ front → OnOk result (now ≡ mid ++ a ++ b) → OnOk result (now ≡ old ++ (front ++ a ++ b))
+  put_two_behind mid now front a b first more =
+      subst (λ t. OnOk result (now ≡ t)) (ap (λ l. l ++ a ++ b) first ∙ ap (λ l. l ++ b) (append_assoc old front a) ∙ append_assoc old (front ++ a) b) more
+
+  pub put_both : (now a b : List ℕ) → OnOk result (now ≡ old ++ a ++ b) → OnOk result (now ≡ old ++ (a ++ b))
+  put_both now a b put = subst (λ t. OnOk result (now ≡ t)) (append_assoc old a b) put
+
   pub put_pair_behind : (mid now front a b c : List ℕ) → mid ≡ old ++ front → OnOk result (now ≡ mid ++ a ++ b ++ c) → OnOk result (now ≡ old ++ (front ++ a ++ b ++ c))
   put_pair_behind mid now front a b c first more =
       subst (λ t. OnOk result (now ≡ t)) (ap (λ l. l ++ a ++ b ++ c) first ∙ ap (λ l. l ++ b ++ c) (append_assoc old front a) ∙ ap (λ l. l ++ c) (append_assoc old (front ++ a) b) ∙ append_assoc old (front ++ a ++ b) c) more
@@ -69,3 +77,6 @@ three_at_once old now a b c is = is ∙ ap (λ l. l ++ c) (append_assoc old a b)
 
 pub two_at_once : (old now a b : List ℕ) → now ≡ old ++ a ++ b → now ≡ old ++ (a ++ b)
 two_at_once old now a b is = is ∙ append_assoc old a b
+
+pub two_behind : (old mid now front a b : List ℕ) → mid ≡ old ++ front → now ≡ mid ++ a ++ b → now ≡ old ++ (front ++ a ++ b)
+two_behind old mid now front a b first more = more ∙ ap (λ l. l ++ a ++ b) first ∙ ap (λ l. l ++ b) (append_assoc old front a) ∙ append_assoc old (front ++ a) b

@@ -2,7 +2,7 @@
 
 ghost use Rattle.std.specs.Prelude.{◌≡◌, ◌++◌, ◌∷◌, [], decimal, OnOk};
 ghost use Rattle.std.specs.Fmt.{signed_decimal};
-ghost use Rattle.vx_words.specs.Spelling.{general_text, branch_text, register_text, source_text, label_text, address_text, compare_name, code_name, trap_number, compute_text, select_text, load_text, store_text, branch_on_text, body_text, operation_text, operation_line};
+ghost use Rattle.vx_words.specs.Spelling.{general_text, branch_text, register_text, source_text, label_text, address_text, compare_name, code_name, trap_number, compute_text, select_text, load_text, store_text, branch_on_text, body_text, operation_line};
 
 use itoa::Buffer;
 use vx_base::arithmetic::{Code, Compare};
@@ -36,19 +36,15 @@ pub fn push_signed(out: &mut Vec<u8>, number: i32) -> Result<(), NoMemory>
 fn push_general(out: &mut Vec<u8>, register: GeneralRegister) -> Result<(), NoMemory>
     ensures { OnOk result (out.new.items ≡ out.old.items ++ general_text register) }
 {
-    push_bytes(out, b"$r")?;
-    push_number(out, register.cluster as usize)?;
-    push_bytes(out, b".")?;
-    push_number(out, register.number as usize)
+    push_named_number(out, b"$r", register.cluster)?;
+    push_named_number(out, b".", register.number)
 }
 
 fn push_branch(out: &mut Vec<u8>, register: BranchRegister) -> Result<(), NoMemory>
     ensures { OnOk result (out.new.items ≡ out.old.items ++ branch_text register) }
 {
-    push_bytes(out, b"$b")?;
-    push_number(out, register.cluster as usize)?;
-    push_bytes(out, b".")?;
-    push_number(out, register.number as usize)
+    push_named_number(out, b"$b", register.cluster)?;
+    push_named_number(out, b".", register.number)
 }
 
 fn push_register(out: &mut Vec<u8>, register: Register) -> Result<(), NoMemory>
@@ -82,8 +78,7 @@ fn push_address(out: &mut Vec<u8>, offset: i32, base: GeneralRegister) -> Result
     ensures { OnOk result (out.new.items ≡ out.old.items ++ address_text offset base) }
 {
     push_signed(out, offset)?;
-    push_bytes(out, b"[")?;
-    push_general(out, base)?;
+    push_named_general(out, b"[", base)?;
     push_bytes(out, b"]")
 }
 
@@ -142,8 +137,7 @@ fn number_of_trap(trap: Trap) -> u32
 fn push_general_to(out: &mut Vec<u8>, name: &[u8], to: GeneralRegister) -> Result<(), NoMemory>
     ensures { OnOk result (out.new.items ≡ out.old.items ++ name.now ++ general_text to ++ 32 ∷ 61 ∷ 32 ∷ []) }
 {
-    push_bytes(out, name)?;
-    push_general(out, to)?;
+    push_named_general(out, name, to)?;
     push_bytes(out, b" = ")
 }
 
@@ -151,8 +145,7 @@ fn push_pair(out: &mut Vec<u8>, left: Source, right: Source) -> Result<(), NoMem
     ensures { OnOk result (out.new.items ≡ out.old.items ++ source_text left ++ 44 ∷ 32 ∷ [] ++ source_text right) }
 {
     push_source(out, left)?;
-    push_bytes(out, b", ")?;
-    push_source(out, right)
+    push_named_source(out, b", ", right)
 }
 
 fn push_compute(
@@ -210,8 +203,7 @@ fn push_store(
 {
     push_bytes(out, b"stw ")?;
     push_address(out, offset, base)?;
-    push_bytes(out, b" = ")?;
-    push_source(out, from)
+    push_named_source(out, b" = ", from)
 }
 
 fn push_branch_on(
@@ -227,10 +219,8 @@ fn push_branch_on(
     } else {
         b"brf $b0."
     };
-    push_bytes(out, name)?;
-    push_number(out, test as usize)?;
-    push_bytes(out, b", ")?;
-    push_label(out, target as usize)
+    push_named_number(out, name, test)?;
+    push_named_label(out, b", ", target)
 }
 
 fn push_named_general(
@@ -251,7 +241,8 @@ fn push_named_source(out: &mut Vec<u8>, name: &[u8], source: Source) -> Result<(
     push_source(out, source)
 }
 
-fn push_named_number(out: &mut Vec<u8>, name: &[u8], number: u32) -> Result<(), NoMemory>
+/// Puts a number in decimal at the end, behind a name.
+pub(crate) fn push_named_number(out: &mut Vec<u8>, name: &[u8], number: u32) -> Result<(), NoMemory>
     ensures { OnOk result (out.new.items ≡ out.old.items ++ name.now ++ decimal number) }
 {
     push_bytes(out, name)?;
@@ -328,19 +319,12 @@ pub fn push_body(out: &mut Vec<u8>, operation: Operation) -> Result<(), NoMemory
     }
 }
 
-/// Puts the text of an operation at the end.
-fn push_operation(out: &mut Vec<u8>, operation: Operation) -> Result<(), NoMemory>
-    ensures { OnOk result (out.new.items ≡ out.old.items ++ operation_text operation) }
-{
-    push_named_number(out, b"c", operation.cluster())?;
-    push_bytes(out, b" ")?;
-    push_body(out, operation)
-}
-
 /// Puts the line of an operation at the end.
 pub fn push_operation_line(out: &mut Vec<u8>, operation: Operation) -> Result<(), NoMemory>
     ensures { OnOk result (out.new.items ≡ out.old.items ++ operation_line operation) }
 {
-    push_operation(out, operation)?;
+    push_named_number(out, b"c", operation.cluster())?;
+    push_bytes(out, b" ")?;
+    push_body(out, operation)?;
     push_bytes(out, b"\n")
 }

@@ -3,10 +3,10 @@
 ghost use Rattle.std.specs.Prelude.{◌≡◌, ℕ, ◌<◌, ◌≤◌, ◌/◌, ◌++◌, true, length, get_or, false, ◌||◌, vec_len, OnOk, IfOk};
 ghost use Rattle.std.specs.List.{flat_map, list_any};
 ghost use Rattle.vx_isa.specs.Sound.{is_sound};
-ghost use Rattle.vx_words.specs.Spelling.{Spells, target_of, names, is_named, hexadecimal_digit, byte_text, quoted_text, text_line, start_text, start_line, idle_text, word_lines, operation_line, place_text, label_line, words_from, header, spelling};
+ghost use Rattle.vx_words.specs.Spelling.{Spells, target_of, names, is_named, hexadecimal_digit, byte_text, quoted_text, text_line, start_text, start_line, idle_text, word_lines, operation_line, place_text, words_from, header, spelling};
 
 use crate::operation_text::{
-    push_bytes, push_label, push_number, push_operation_line, push_signed,
+    push_bytes, push_label, push_named_number, push_number, push_operation_line, push_signed,
 };
 use std::alloc::Global;
 use vx_base::listed::Bytes;
@@ -88,18 +88,12 @@ pub fn push_quoted(out: &mut Vec<u8>, bytes: &[u8]) -> Result<(), NoMemory>
     push_bytes(out, b"\"")
 }
 
-fn push_text_line(out: &mut Vec<u8>, bytes: &[u8]) -> Result<(), NoMemory>
-    ensures { OnOk result (out.new.items ≡ out.old.items ++ text_line bytes.now) }
-{
-    push_quoted(out, bytes)?;
-    push_bytes(out, b"\n")
-}
-
 fn push_text_lines(out: &mut Vec<u8>, texts: &[Bytes]) -> Result<(), NoMemory>
     ensures { OnOk result (out.new.items ≡ out.old.items ++ flat_map text_line texts.now) }
 {
     for text in texts {
-        push_text_line(out, text.as_slice())?;
+        push_quoted(out, text.as_slice())?;
+        push_bytes(out, b"\n")?;
     }
     Ok(())
 }
@@ -108,24 +102,17 @@ fn push_text_lines(out: &mut Vec<u8>, texts: &[Bytes]) -> Result<(), NoMemory>
 pub fn push_start(out: &mut Vec<u8>, entry: (u32, i32)) -> Result<(), NoMemory>
     ensures { OnOk result (out.new.items ≡ out.old.items ++ start_text entry) }
 {
-    push_bytes(out, b".word ")?;
-    push_number(out, entry.0 as usize)?;
+    push_named_number(out, b".word ", entry.0)?;
     push_bytes(out, b" = ")?;
     push_signed(out, entry.1)
-}
-
-fn push_start_line(out: &mut Vec<u8>, entry: (u32, i32)) -> Result<(), NoMemory>
-    ensures { OnOk result (out.new.items ≡ out.old.items ++ start_line entry) }
-{
-    push_start(out, entry)?;
-    push_bytes(out, b"\n")
 }
 
 fn push_start_lines(out: &mut Vec<u8>, start: &[(u32, i32)]) -> Result<(), NoMemory>
     ensures { OnOk result (out.new.items ≡ out.old.items ++ flat_map start_line start.now) }
 {
     for entry in start {
-        push_start_line(out, *entry)?;
+        push_start(out, *entry)?;
+        push_bytes(out, b"\n")?;
     }
     Ok(())
 }
@@ -143,8 +130,7 @@ fn push_operation_lines(out: &mut Vec<u8>, operations: &[Operation]) -> Result<(
 pub fn push_idle(out: &mut Vec<u8>, cycles: u32) -> Result<(), NoMemory>
     ensures { OnOk result (out.new.items ≡ out.old.items ++ idle_text cycles) }
 {
-    push_bytes(out, b"xnop ")?;
-    push_number(out, cycles as usize)
+    push_named_number(out, b"xnop ", cycles)
 }
 
 fn push_word(out: &mut Vec<u8>, word: &Word) -> Result<(), NoMemory>
@@ -167,20 +153,14 @@ pub fn push_place(out: &mut Vec<u8>, place: usize) -> Result<(), NoMemory>
     push_bytes(out, b":")
 }
 
-fn push_label_line(out: &mut Vec<u8>, place: usize) -> Result<(), NoMemory>
-    ensures { OnOk result (out.new.items ≡ out.old.items ++ label_line place) }
-{
-    push_place(out, place)?;
-    push_bytes(out, b"\n")
-}
-
 fn push_words(alloc: Global, out: &mut Vec<u8>, words: &[Word]) -> Result<(), NoMemory>
     ensures { OnOk result (out.new.items ≡ out.old.items ++ words_from words.now 0 words.now) }
 {
     let named = named_places(alloc, words)?;
     for (place, word) in words.iter().enumerate() {
         if named[place] {
-            push_label_line(out, place)?;
+            push_place(out, place)?;
+            push_bytes(out, b"\n")?;
         }
         push_word(out, word)?;
     }

@@ -1,4 +1,5 @@
 use Rattle.std.proofs.Common.{◌≡◌, ◌↔◌, subst, sym, ap, ◌∙◌, true}
+use Rattle.std.proofs.lemmas.Result.{IfOk-weaker}
 use Rattle.vx_flow.specs.Live.{LiveOn, routes_from}
 use Rattle.vx_flow.specs.Rows.{lives}
 use Rattle.vx_flow.specs.Closing.{BeginWithin}
@@ -14,8 +15,8 @@ pub returns : goal.returns
 returns c =
     let e : c.in_ok-routes.routes ≡ routes_from 0 c.args.graph.now.blocks = c.in_ok-routes.ensures ∙ ap (routes_from 0) c.as_slice.ensures in
     record {
-      exact = λ b v.
-          let h = subst (λ rs. (lives c.in_ok-live.live b v ≡ true) ↔ LiveOn rs b v) e (c.in_ok-live.ensures.exact b v) in
+      exact = IfOk-weaker c.live_on.result _ _ (λ live holds b v.
+          let h = subst (λ rs. (lives live b v ≡ true) ↔ LiveOn rs b v) e (holds b v) in
           let k = live_by_routes c.args.graph.now b v in
-          (λ m. k.0 (h.0 m), λ l. h.1 (k.1 l));
+          (λ m. k.0 (h.0 m), λ l. h.1 (k.1 l))) c.live_on.ensures.exact;
     }

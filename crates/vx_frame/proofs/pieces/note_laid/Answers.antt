@@ -3,6 +3,7 @@ use Rattle.std.proofs.lemmas.List.{nil_from_length}
 use Rattle.vx_mixed.specs.declared.layout.VirtualWord.{VirtualWord}
 use Rattle.vx_slots.specs.Seen.{seen}
 use Rattle.vx_frame.proofs.Emitting.{Emits, emits_marks, emits_none, emits_starts, emits_turn, emits_words}
+use Rattle.vx_frame.proofs.Shorter.{shorter}
 use Rattle.vx_frame.proofs.pieces.note_laid.Goals as goal
 
 pub laid-init : goal.laid-init
@@ -32,3 +33,6 @@ returns-in-None-clause-marks c =
     let T = seen c.args.whole.now in
     emits_marks T c.args.function c.laid.place c.args.laid.now c.args.words.now c.laid.words c.laid.starts c.laid.marks
     (subst (λ (z : List VirtualWord). Emits T c.args.function c.args.laid.now c.args.words.now c.laid.words c.laid.starts c.laid.marks c.laid.place z) (nil_from_length c.laid.rest.now c.in-None.ensures.cases) c.laid.invariant)
+
+pub laid-smaller : goal.laid-smaller
+laid-smaller c = shorter c.laid.rest.now c.in-Some.others.now c.in-Some.word.now c.in-Some.ensures.cases.0

@@ -1,6 +1,15 @@
+use Rattle.std.proofs.Common.{List, subst, sym}
+use Rattle.vx_slots.specs.declared.program.FunctionPlaces.{FunctionPlaces}
 use Rattle.vx_slots.specs.Seen.{seen}
-use Rattle.vx_frame.proofs.Emitting.{gives_turn}
+use Rattle.vx_frame.proofs.Emitting.{Gives, gives_first, gives_turn}
 use Rattle.vx_frame.proofs.pieces.push_functions.Goals as goal
+
+-- no function so far
+pub functions-init : goal.functions-init
+functions-init c =
+    let T = seen c.args.whole.now in
+    let words = c.args.words.now in
+    subst (λ (z : List FunctionPlaces). Gives T c.args.count words words z 0 c.args.count) (sym c.new-places.ensures) (gives_first T c.args.count words)
 
 -- one function more
 pub functions-preserved : goal.functions-preserved

@@ -1,9 +1,18 @@
-use Rattle.std.proofs.Common.{List, subst}
+use Rattle.std.proofs.Common.{ℕ, List, subst, sym}
 use Rattle.std.proofs.lemmas.List.{nil_from_length}
 use Rattle.vx_mixed.specs.declared.layout.VirtualWord.{VirtualWord}
 use Rattle.vx_slots.specs.Seen.{seen}
-use Rattle.vx_frame.proofs.Emitting.{Lands, lands_landings, lands_turn, lands_words}
+use Rattle.vx_frame.proofs.Emitting.{Lands, lands_first, lands_landings, lands_turn, lands_words}
+use Rattle.vx_frame.proofs.Shorter.{shorter}
 use Rattle.vx_frame.proofs.pieces.push_landings.Goals as goal
+
+-- no word so far
+pub landings-init : goal.landings-init
+landings-init c =
+    let T = seen c.args.whole.now in
+    let laid = c.args.laid.now in
+    let words = c.args.words.now in
+    subst (λ (z : List ℕ). Lands T c.args.function laid words words z 0 laid) (sym c.new-landings.ensures) (lands_first T c.args.function laid words)
 
 -- one word more
 pub landings-preserved : goal.landings-preserved
@@ -23,3 +32,6 @@ returns-in-None-clause-landings c =
     let T = seen c.args.whole.now in
     lands_landings T c.args.function c.landings.place c.args.laid.now c.args.words.now c.landings.words c.landings.landings
     (subst (λ (z : List VirtualWord). Lands T c.args.function c.args.laid.now c.args.words.now c.landings.words c.landings.landings c.landings.place z) (nil_from_length c.landings.rest.now c.in-None.ensures.cases) c.landings.invariant)
+
+pub landings-smaller : goal.landings-smaller
+landings-smaller c = shorter c.landings.rest.now c.in-Some.others.now c.in-Some.word.now c.in-Some.ensures.cases.0

@@ -1,19 +1,12 @@
-use Rattle.std.proofs.Common.{◌++◌, ◌∷◌, [], ℕ, List, sym, ap, ◌∙◌, append_assoc, append-nil}
-use Rattle.std.proofs.lemmas.List.{nil_from_length}
+use Rattle.std.proofs.Common.{◌∙◌}
+use Rattle.std.proofs.lemmas.List.{take_all}
+use Rattle.vx_flow.proofs.Copying.{copied_more}
 use Rattle.vx_frame.proofs.program_words.copied_texts.Goals as goal
 
 -- one text more
-pub copy-preserved : goal.copy-preserved
-copy-preserved c =
-    let copies = c.copy.copies in
-    let others = c.in-Some.others.now in
-    let made = c.in_ok-copied_text-in-Some.field-0 in
-    ap (λ (z : List (List ℕ)). z ++ others) c.in_ok-push-in-Some.ensures.ok
-    ∙ append_assoc copies (made ∷ []) others
-    ∙ ap (λ (x : List ℕ). copies ++ x ∷ others) (c.in_ok-copied_text-in-Some.ensures ∙ c.as_slice.ensures)
-    ∙ ap (λ (z : List (List ℕ)). copies ++ z) (sym c.in-Some.ensures.cases.0)
-    ∙ c.copy.invariant
+pub loop-text-preserved : goal.loop-text-preserved
+loop-text-preserved c = copied_more c.args.texts.now c.loop-text.copies c.push.new.self _ _ c.loop-text.text-index c.loop-text-test.true c.loop-text.invariant c.in_ok-push.ensures.ok (c.in_ok-copied.ensures ∙ c.as_slice.ensures ∙ c.text-item.is)
 
 -- no text is left
-pub returns-in-None : goal.returns-in-None
-returns-in-None c = sym (append-nil c.copy.copies) ∙ ap (λ (z : List (List ℕ)). c.copy.copies ++ z) (sym (nil_from_length c.copy.rest.now c.in-None.ensures.cases)) ∙ c.copy.invariant
+pub returns : goal.returns
+returns c = c.loop-text.invariant ∙ take_all c.loop-text.text-index c.args.texts.now c.loop-text-test.false

@@ -1,8 +1,5 @@
-use Rattle.std.proofs.Common.{◌≡◌, ◌++◌, length}
+use Rattle.std.proofs.Common.{◌≡◌, take}
 use Rattle.vx_frame.proofs.program_words.copied_texts.Given as goal
 
-abbrev pub invariant-copy : goal.invariant-copy
-invariant-copy l = l.copies ++ l.rest ≡ l.fn.texts
-
-abbrev pub decreases-copy : goal.decreases-copy
-decreases-copy l = length l.rest
+abbrev pub invariant-loop-text : goal.invariant-loop-text
+invariant-loop-text l = l.copies ≡ take l.text-index l.texts

@@ -28,3 +28,9 @@ finish_whole-requires-clause-found c = record {
   address = λ a lt. ap (λ xs. slice_index_or xs a 0) c.as_slice-begins.ensures ∙ c.in_ok-globals.ensures.begins a (let e = ap (λ (gs : List Global). length gs) c.as_slice-variables.ensures in omega arith) ∙ ap (λ gs. words_before gs a) c.as_slice-variables.ensures;
   globals = c.in_ok-globals.ensures.words ∙ ap (λ gs. words_before gs (length gs)) c.as_slice-variables.ensures;
 }
+
+pub frames-requires-clause-layouts : goal.frames-requires-clause-layouts
+frames-requires-clause-layouts c = c.requires.functions.layouts ∙ ap (λ (xs : List Graph). length xs) (sym c.as_slice-graphs.ensures)
+
+pub frames-requires-clause-maps : goal.frames-requires-clause-maps
+frames-requires-clause-maps c = c.requires.functions.maps ∙ ap (λ (xs : List Graph). length xs) (sym c.as_slice-graphs.ensures)

@@ -3,6 +3,7 @@ use Rattle.std.proofs.lemmas.List.{nil_from_length}
 use Rattle.vx_mixed.specs.declared.layout.VWords.{VWords}
 use Rattle.vx_frame.specs.Regions.{all_traces}
 use Rattle.vx_frame.proofs.RegionPlaces.{traces_are, traces_next}
+use Rattle.vx_frame.proofs.Shorter.{shorter}
 use Rattle.vx_frame.proofs.regions.region_places.Goals as goal
 
 -- one layout more
@@ -21,3 +22,6 @@ returns-in-None c =
     let places = c.args.places.now in
     traces_are places c.layouts.function c.args.layouts.now c.layouts.regions
     (ap (λ (z : List VWords). c.layouts.regions ++ all_traces places c.layouts.function z) (sym (nil_from_length c.layouts.rest.now c.in-None.ensures.cases)) ∙ c.layouts.invariant)
+
+pub layouts-smaller : goal.layouts-smaller
+layouts-smaller c = shorter c.layouts.rest.now c.in-Some.others.now c.in-Some.layout.now c.in-Some.ensures.cases.0

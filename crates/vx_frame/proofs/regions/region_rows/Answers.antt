@@ -1,6 +1,7 @@
 use Rattle.std.proofs.Common.{List, subst}
 use Rattle.vx_mixed.specs.declared.layout.VirtualWord.{VirtualWord}
 use Rattle.vx_frame.proofs.RegionPlaces.{Notes, notes_are, notes_first, notes_next}
+use Rattle.vx_frame.proofs.Shorter.{shorter}
 use Rattle.vx_frame.proofs.regions.region_rows.Goals as goal
 
 pub words-init : goal.words-init
@@ -20,3 +21,6 @@ words-preserved c =
 -- nothing is left
 pub returns-in-None : goal.returns-in-None
 returns-in-None c = notes_are c.args.marks.now c.args.layout.now c.words.place c.words.rest.now c.words.rows.items c.in-None.ensures.cases c.words.invariant
+
+pub words-smaller : goal.words-smaller
+words-smaller c = shorter c.words.rest.now c.in-Some.others.now c.in-Some.word.now c.in-Some.ensures.cases.0

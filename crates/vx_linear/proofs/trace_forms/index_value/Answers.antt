@@ -16,3 +16,6 @@ pub returns-else-has_join : goal.returns-else-has_join
 returns-else-has_join c =
     let law = index_found c.args.trace.now c.args.place c.args.value c.in-Some.writer c.last_writer.result c.last_writer.ensures.writer c.in-Some.is (sym c.has_join.ensures ∙ c.if-has_join.false) in
     subst (λ k. IfOk c.copy_index.result (λ found. found ≡ k)) law c.copy_index.ensures
+
+pub copy_index-requires-clause-above : goal.copy_index-requires-clause-above
+copy_index-requires-clause-above c = c.last_writer.ensures.below c.in-Some.writer c.in-Some.is

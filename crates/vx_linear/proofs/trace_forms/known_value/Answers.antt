@@ -17,3 +17,6 @@ pub returns-else-has_join : goal.returns-else-has_join
 returns-else-has_join c =
     let law = known_made c.args.trace.now c.args.place c.args.value c.in-Some.writer c.last_writer.result c.last_writer.ensures.writer c.in-Some.is (sym c.has_join.ensures ∙ c.if-has_join.false) in
     subst (λ k. IfOk c.copy_made.result (λ found. found ≡ k)) law c.copy_made.ensures
+
+pub copy_made-requires-clause-above : goal.copy_made-requires-clause-above
+copy_made-requires-clause-above c = c.last_writer.ensures.below c.in-Some.writer c.in-Some.is

@@ -2,9 +2,12 @@ use Rattle.std.proofs.Common.{ap, refl, subst, ◌∙◌}
 use Rattle.vx_flow.specs.Effects.{IsIn}
 use Rattle.vx_loops.specs.declared.loops.Sources.{Sources}
 use Rattle.vx_flow.specs.Rows.{row_at}
-use Rattle.vx_loops.proofs.Orders.{each_more, in_at}
+use Rattle.vx_loops.proofs.Orders.{each_more, in_at, none_from}
 use Rattle.vx_loops.proofs.loops.split_sources.Goals as goal
 use Rattle.vx_loops.proofs.loops.split_sources.Goals.{then-rank+in_ok-push, else-rank+in_ok-push-2}
+
+pub loop-source-init : goal.loop-source-init
+loop-source-init c = none_from _ _ c.new.ensures.items
 
 pub loop-source-preserved : goal.loop-source-preserved
 loop-source-preserved c = elim c.if-rank.branch [

@@ -1,4 +1,5 @@
 use Rattle.std.proofs.Common.{sym, subst, pos}
+use Rattle.std.proofs.lemmas.Result.{IfOk-weaker}
 use Rattle.vx_flow.specs.declared.graph.Operand.TheVariants.{Number}
 use Rattle.vx_flow.specs.declared.graph.Op.TheVariants.{Compute}
 use Rattle.vx_lower.specs.Builds.{Ready}
@@ -13,12 +14,12 @@ use Rattle.vx_lower.proofs.actions.stepped.Goals.{then-up, else-up}
 
 pub returns-clause-code : goal.returns-clause-code
 returns-clause-code c = elim c.if-up.branch [
-  | then-up w ↦ λ words. subst (λ z. Ready c.args.b.now → Alters words (step_change z) c.args.old c.args.dest c.in_ok-t.t c.args.b.now c.compute.new.b) (sym w.if-up.true) (alters_up words c.args.old c.args.dest c.in_ok-t.t c.args.b.now c.compute.new.b (subst (λ z. Ready c.args.b.now → Lasts (Compute z c.in_ok-t.t c.args.old (Number (pos 1))) c.args.dest c.in_ok-t.t c.args.b.now c.compute.new.b) w.code-is c.in_ok-t.ensures.code))
-  | else-up w ↦ λ words. subst (λ z. Ready c.args.b.now → Alters words (step_change z) c.args.old c.args.dest c.in_ok-t.t c.args.b.now c.compute.new.b) (sym w.if-up.false) (alters_down words c.args.old c.args.dest c.in_ok-t.t c.args.b.now c.compute.new.b (subst (λ z. Ready c.args.b.now → Lasts (Compute z c.in_ok-t.t c.args.old (Number (pos 1))) c.args.dest c.in_ok-t.t c.args.b.now c.compute.new.b) w.code-is c.in_ok-t.ensures.code))
+  | then-up w ↦ IfOk-weaker c.compute.result _ _ (λ t last words. subst (λ z. Ready c.args.b.now → Alters words (step_change z) c.args.old c.args.dest t c.args.b.now c.compute.new.b) (sym w.if-up.true) (alters_up words c.args.old c.args.dest t c.args.b.now c.compute.new.b (subst (λ z. Ready c.args.b.now → Lasts (Compute z t c.args.old (Number (pos 1))) c.args.dest t c.args.b.now c.compute.new.b) w.code-is last))) c.compute.ensures.code
+  | else-up w ↦ IfOk-weaker c.compute.result _ _ (λ t last words. subst (λ z. Ready c.args.b.now → Alters words (step_change z) c.args.old c.args.dest t c.args.b.now c.compute.new.b) (sym w.if-up.false) (alters_down words c.args.old c.args.dest t c.args.b.now c.compute.new.b (subst (λ z. Ready c.args.b.now → Lasts (Compute z t c.args.old (Number (pos 1))) c.args.dest t c.args.b.now c.compute.new.b) w.code-is last))) c.compute.ensures.code
 ]
 
 pub returns-clause-fits : goal.returns-clause-fits
 returns-clause-fits c = elim c.if-up.branch [
-  | then-up w ↦ subst (λ z. AltersWell (step_change z) c.args.old c.args.dest c.in_ok-t.t c.args.b.now c.compute.new.b) (sym w.if-up.true) (up_well c.args.old c.args.dest c.in_ok-t.t c.args.b.now c.compute.new.b (subst (λ z. Last (Compute z c.in_ok-t.t c.args.old (Number (pos 1))) c.args.dest c.in_ok-t.t c.args.b.now c.compute.new.b) w.code-is c.in_ok-t.ensures.steps))
-  | else-up w ↦ subst (λ z. AltersWell (step_change z) c.args.old c.args.dest c.in_ok-t.t c.args.b.now c.compute.new.b) (sym w.if-up.false) (down_well c.args.old c.args.dest c.in_ok-t.t c.args.b.now c.compute.new.b (subst (λ z. Last (Compute z c.in_ok-t.t c.args.old (Number (pos 1))) c.args.dest c.in_ok-t.t c.args.b.now c.compute.new.b) w.code-is c.in_ok-t.ensures.steps))
+  | then-up w ↦ IfOk-weaker c.compute.result _ _ (λ t last. subst (λ z. AltersWell (step_change z) c.args.old c.args.dest t c.args.b.now c.compute.new.b) (sym w.if-up.true) (up_well c.args.old c.args.dest t c.args.b.now c.compute.new.b (subst (λ z. Last (Compute z t c.args.old (Number (pos 1))) c.args.dest t c.args.b.now c.compute.new.b) w.code-is last))) c.compute.ensures.steps
+  | else-up w ↦ IfOk-weaker c.compute.result _ _ (λ t last. subst (λ z. AltersWell (step_change z) c.args.old c.args.dest t c.args.b.now c.compute.new.b) (sym w.if-up.false) (down_well c.args.old c.args.dest t c.args.b.now c.compute.new.b (subst (λ z. Last (Compute z t c.args.old (Number (pos 1))) c.args.dest t c.args.b.now c.compute.new.b) w.code-is last))) c.compute.ensures.steps
 ]

@@ -1,8 +1,8 @@
-use Rattle.std.proofs.Common.{refl, ap, sym, subst, ◌≡◌, [], take, ◌∙◌, rules, w32, FitsSigned, Result, Ok, Err}
-use Rattle.std.specs.Prelude.{IfOk}
+use Rattle.std.proofs.Common.{refl, ap, sym, subst, ◌≡◌, [], take, ◌∙◌, rules, w32, FitsSigned}
+use Rattle.std.proofs.lemmas.Result.{IfOk-weaker}
 use Rattle.std.proofs.lemmas.Int.{to_z-of_z}
 use Rattle.vx_flow.specs.declared.graph.Operand.TheVariants.{Held, Number}
-use Rattle.vx_ast.specs.Tree.{NoMore, Literal, Local, Global, Element, Unary, Binary, Both, Either, Choice, Apply, MoreInput}
+use Rattle.vx_ast.specs.Tree.{NoMore, Literal, Local, Global, Element, Unary, Binary, Both, Either, Choice, Apply, ReadInt, MoreInput}
 use Rattle.vx_ast.specs.declared.tree.UnaryOperator.TheVariants.{Not}
 use Rattle.vx_ast.specs.View.{tree_of, row_in}
 use Rattle.vx_lower.specs.Holds.{literal, local}
@@ -16,14 +16,10 @@ use Rattle.vx_lower.specs.Fits.{RowsWell}
 use Rattle.vx_lower.proofs.FittingTrees.{well_as, operand_well, global_well, more_well, element_well, unary_well, binary_well, both_well, either_well, choice_well, call_well, tests_well_as, value_tested, compare_tested, not_tested, both_asked, either_asked, no_row, more_row}
 use Rattle.vx_lower.proofs.expressions.+values.Goals as goal
 
-map_ok : {A E : Type 0} {P Q : A → Type 0} (r : Result A E) → ((a : A) → P a → Q a) → IfOk r P → IfOk r Q
-map_ok (Ok a) f h = f a h
-map_ok (Err e) f h = tt
-
 pub emit_value-returns-in-Number-clause-code : goal.emit_value-returns-in-Number-clause-code
 emit_value-returns-in-Number-clause-code t c =
     let f : FitsSigned w32 c.in-Number.n = search rules in
-    map_ok c.deliver.result (λ r h.
+    IfOk-weaker c.deliver.result _ _ (λ r h.
     let d = subst (λ z. Ready c.args.b.now → Delivers c.args.dest (Number z) r c.args.b.now c.deliver.new.b) (to_z-of_z w32 c.in-Number.n f) h in
     emits_as c.args.words.now c.args.dest r c.args.b.now c.deliver.new.b (Literal c.in-Number.n) (tree_of c.args.e.now) (ap tree_of (sym c.in-Number.is))
     (emits_operand c.args.words.now (Literal c.in-Number.n) c.args.dest (Number c.in-Number.n) r c.args.b.now c.deliver.new.b (λ B m. literal) (λ is. tt) d)) c.deliver.ensures.code
@@ -31,19 +27,19 @@ emit_value-returns-in-Number-clause-code t c =
 pub emit_value-returns-in-Number-clause-fits : goal.emit_value-returns-in-Number-clause-fits
 emit_value-returns-in-Number-clause-fits t c =
     let f : FitsSigned w32 c.in-Number.n = search rules in
-    map_ok c.deliver.result (λ r h.
+    IfOk-weaker c.deliver.result _ _ (λ r h.
     let d = subst (λ z. Delivered c.args.dest (Number z) r c.args.b.now c.deliver.new.b) (to_z-of_z w32 c.in-Number.n f) h in
     well_as c.args.dest r c.args.b.now c.deliver.new.b (Literal c.in-Number.n) (tree_of c.args.e.now) (ap tree_of (sym c.in-Number.is))
     (operand_well (Literal c.in-Number.n) c.args.dest (Number c.in-Number.n) r c.args.b.now c.deliver.new.b (λ k texts roles f is. tt) refl d)) c.deliver.ensures.steps
 
 pub emit_value-returns-in-Scalar-clause-code : goal.emit_value-returns-in-Scalar-clause-code
 emit_value-returns-in-Scalar-clause-code t c =
-    map_ok c.deliver-in-Scalar.result (λ r d. emits_as c.args.words.now c.args.dest r c.args.b.now c.deliver-in-Scalar.new.b (Local c.in-Scalar.x) (tree_of c.args.e.now) (ap tree_of (sym c.in-Scalar.is))
+    IfOk-weaker c.deliver-in-Scalar.result _ _ (λ r d. emits_as c.args.words.now c.args.dest r c.args.b.now c.deliver-in-Scalar.new.b (Local c.in-Scalar.x) (tree_of c.args.e.now) (ap tree_of (sym c.in-Scalar.is))
     (emits_operand c.args.words.now (Local c.in-Scalar.x) c.args.dest (Held c.in-Scalar.x) r c.args.b.now c.deliver-in-Scalar.new.b (λ B m. local) (λ is. is) d)) c.deliver-in-Scalar.ensures.code
 
 pub emit_value-returns-in-Scalar-clause-fits : goal.emit_value-returns-in-Scalar-clause-fits
 emit_value-returns-in-Scalar-clause-fits t c =
-    map_ok c.deliver-in-Scalar.result (λ r d. well_as c.args.dest r c.args.b.now c.deliver-in-Scalar.new.b (Local c.in-Scalar.x) (tree_of c.args.e.now) (ap tree_of (sym c.in-Scalar.is))
+    IfOk-weaker c.deliver-in-Scalar.result _ _ (λ r d. well_as c.args.dest r c.args.b.now c.deliver-in-Scalar.new.b (Local c.in-Scalar.x) (tree_of c.args.e.now) (ap tree_of (sym c.in-Scalar.is))
     (operand_well (Local c.in-Scalar.x) c.args.dest (Held c.in-Scalar.x) r c.args.b.now c.deliver-in-Scalar.new.b (λ k texts roles f is. f.scalars c.in-Scalar.x is) refl d)) c.deliver-in-Scalar.ensures.steps
 
 pub emit_value-returns-in_ok-t-in-Global-clause-code : goal.emit_value-returns-in_ok-t-in-Global-clause-code
@@ -58,11 +54,11 @@ emit_value-returns-in_ok-t-in-Global-clause-fits t c =
 
 pub emit_value-returns-in_ok-other-in-Both-clause-code : goal.emit_value-returns-in_ok-other-in-Both-clause-code
 emit_value-returns-in_ok-other-in-Both-clause-code t c =
-    map_ok c.both_behind.result (λ o h. emits_as c.args.words.now c.args.dest o c.args.b.now c.both_behind.new.b (Both (tree_of c.deref-in-Both.result.now) (tree_of c.deref-in-Both-2.result.now)) (tree_of c.args.e.now) (ap (λ z. Both (tree_of z) (tree_of c.deref-in-Both-2.result.now)) c.deref-in-Both.ensures ∙ ap (λ z. Both (tree_of c.in-Both.x.value) (tree_of z)) c.deref-in-Both-2.ensures ∙ ap tree_of (sym c.in-Both.is)) (h (tree_of c.deref-in-Both.result.now) c.args.b.now c.in_ok-other-in-Both.ensures.code)) c.both_behind.ensures.code
+    IfOk-weaker c.both_behind.result _ _ (λ o h. emits_as c.args.words.now c.args.dest o c.args.b.now c.both_behind.new.b (Both (tree_of c.deref-in-Both.result.now) (tree_of c.deref-in-Both-2.result.now)) (tree_of c.args.e.now) (ap (λ z. Both (tree_of z) (tree_of c.deref-in-Both-2.result.now)) c.deref-in-Both.ensures ∙ ap (λ z. Both (tree_of c.in-Both.x.value) (tree_of z)) c.deref-in-Both-2.ensures ∙ ap tree_of (sym c.in-Both.is)) (h (tree_of c.deref-in-Both.result.now) c.args.b.now c.in_ok-other-in-Both.ensures.code)) c.both_behind.ensures.code
 
 pub emit_value-returns-in_ok-other-in-Both-clause-fits : goal.emit_value-returns-in_ok-other-in-Both-clause-fits
 emit_value-returns-in_ok-other-in-Both-clause-fits t c =
-    map_ok c.both_behind.result (λ o h. well_as c.args.dest o c.args.b.now c.both_behind.new.b (Both (tree_of c.deref-in-Both.result.now) (tree_of c.deref-in-Both-2.result.now)) (tree_of c.args.e.now) (ap (λ z. Both (tree_of z) (tree_of c.deref-in-Both-2.result.now)) c.deref-in-Both.ensures ∙ ap (λ z. Both (tree_of c.in-Both.x.value) (tree_of z)) c.deref-in-Both-2.ensures ∙ ap tree_of (sym c.in-Both.is)) (h (tree_of c.deref-in-Both.result.now) c.args.b.now c.in_ok-other-in-Both.ensures.fits)) c.both_behind.ensures.fits
+    IfOk-weaker c.both_behind.result _ _ (λ o h. well_as c.args.dest o c.args.b.now c.both_behind.new.b (Both (tree_of c.deref-in-Both.result.now) (tree_of c.deref-in-Both-2.result.now)) (tree_of c.args.e.now) (ap (λ z. Both (tree_of z) (tree_of c.deref-in-Both-2.result.now)) c.deref-in-Both.ensures ∙ ap (λ z. Both (tree_of c.in-Both.x.value) (tree_of z)) c.deref-in-Both-2.ensures ∙ ap tree_of (sym c.in-Both.is)) (h (tree_of c.deref-in-Both.result.now) c.args.b.now c.in_ok-other-in-Both.ensures.fits)) c.both_behind.ensures.fits
 
 pub both_behind-returns-clause-code : goal.both_behind-returns-clause-code
 both_behind-returns-clause-code t c = λ x start first.
@@ -74,11 +70,11 @@ both_behind-returns-clause-fits t c = λ x start first.
 
 pub emit_value-returns-in_ok-other-in-Either-clause-code : goal.emit_value-returns-in_ok-other-in-Either-clause-code
 emit_value-returns-in_ok-other-in-Either-clause-code t c =
-    map_ok c.either_behind.result (λ o h. emits_as c.args.words.now c.args.dest o c.args.b.now c.either_behind.new.b (Either (tree_of c.deref-in-Either.result.now) (tree_of c.deref-in-Either-2.result.now)) (tree_of c.args.e.now) (ap (λ z. Either (tree_of z) (tree_of c.deref-in-Either-2.result.now)) c.deref-in-Either.ensures ∙ ap (λ z. Either (tree_of c.in-Either.x.value) (tree_of z)) c.deref-in-Either-2.ensures ∙ ap tree_of (sym c.in-Either.is)) (h (tree_of c.deref-in-Either.result.now) c.args.b.now c.in_ok-other-in-Either.ensures.code)) c.either_behind.ensures.code
+    IfOk-weaker c.either_behind.result _ _ (λ o h. emits_as c.args.words.now c.args.dest o c.args.b.now c.either_behind.new.b (Either (tree_of c.deref-in-Either.result.now) (tree_of c.deref-in-Either-2.result.now)) (tree_of c.args.e.now) (ap (λ z. Either (tree_of z) (tree_of c.deref-in-Either-2.result.now)) c.deref-in-Either.ensures ∙ ap (λ z. Either (tree_of c.in-Either.x.value) (tree_of z)) c.deref-in-Either-2.ensures ∙ ap tree_of (sym c.in-Either.is)) (h (tree_of c.deref-in-Either.result.now) c.args.b.now c.in_ok-other-in-Either.ensures.code)) c.either_behind.ensures.code
 
 pub emit_value-returns-in_ok-other-in-Either-clause-fits : goal.emit_value-returns-in_ok-other-in-Either-clause-fits
 emit_value-returns-in_ok-other-in-Either-clause-fits t c =
-    map_ok c.either_behind.result (λ o h. well_as c.args.dest o c.args.b.now c.either_behind.new.b (Either (tree_of c.deref-in-Either.result.now) (tree_of c.deref-in-Either-2.result.now)) (tree_of c.args.e.now) (ap (λ z. Either (tree_of z) (tree_of c.deref-in-Either-2.result.now)) c.deref-in-Either.ensures ∙ ap (λ z. Either (tree_of c.in-Either.x.value) (tree_of z)) c.deref-in-Either-2.ensures ∙ ap tree_of (sym c.in-Either.is)) (h (tree_of c.deref-in-Either.result.now) c.args.b.now c.in_ok-other-in-Either.ensures.fits)) c.either_behind.ensures.fits
+    IfOk-weaker c.either_behind.result _ _ (λ o h. well_as c.args.dest o c.args.b.now c.either_behind.new.b (Either (tree_of c.deref-in-Either.result.now) (tree_of c.deref-in-Either-2.result.now)) (tree_of c.args.e.now) (ap (λ z. Either (tree_of z) (tree_of c.deref-in-Either-2.result.now)) c.deref-in-Either.ensures ∙ ap (λ z. Either (tree_of c.in-Either.x.value) (tree_of z)) c.deref-in-Either-2.ensures ∙ ap tree_of (sym c.in-Either.is)) (h (tree_of c.deref-in-Either.result.now) c.args.b.now c.in_ok-other-in-Either.ensures.fits)) c.either_behind.ensures.fits
 
 pub either_behind-returns-clause-code : goal.either_behind-returns-clause-code
 either_behind-returns-clause-code t c = λ x start first.
@@ -90,7 +86,7 @@ either_behind-returns-clause-fits t c = λ x start first.
 
 pub emit_value-returns-in-Element-clause-code : goal.emit_value-returns-in-Element-clause-code
 emit_value-returns-in-Element-clause-code t c =
-    map_ok c.emit_element.result (λ o h. emits_as c.args.words.now c.args.dest o c.args.b.now c.emit_element.new.b (Element c.in-Element.array (tree_of c.deref.result.now)) (tree_of c.args.e.now) (ap (λ z. Element c.in-Element.array (tree_of z)) c.deref.ensures ∙ ap tree_of (sym c.in-Element.is)) h) c.emit_element.ensures.code
+    IfOk-weaker c.emit_element.result _ _ (λ o h. emits_as c.args.words.now c.args.dest o c.args.b.now c.emit_element.new.b (Element c.in-Element.array (tree_of c.deref.result.now)) (tree_of c.args.e.now) (ap (λ z. Element c.in-Element.array (tree_of z)) c.deref.ensures ∙ ap tree_of (sym c.in-Element.is)) h) c.emit_element.ensures.code
 
 pub emit_element-returns-clause-code : goal.emit_element-returns-clause-code
 emit_element-returns-clause-code t c =
@@ -99,7 +95,7 @@ emit_element-returns-clause-code t c =
 pub emit_value-returns-in-Call-clause-code : goal.emit_value-returns-in-Call-clause-code
 emit_value-returns-in-Call-clause-code t c =
     let h : Apply c.in-Call.function (row_in c.as_slice.result.now) ≡ tree_of c.args.e.now = ap (λ z. Apply c.in-Call.function (row_in z)) c.as_slice.ensures.value ∙ sym (view-Call c.in-Call.function c.in-Call.all) ∙ ap tree_of (sym c.in-Call.is) in
-    map_ok c.emit_call.result (λ o k. emits_as c.args.words.now c.args.dest o c.args.b.now c.emit_call.new.b (Apply c.in-Call.function (row_in c.as_slice.result.now)) (tree_of c.args.e.now) h k) c.emit_call.ensures.code
+    IfOk-weaker c.emit_call.result _ _ (λ o k. emits_as c.args.words.now c.args.dest o c.args.b.now c.emit_call.new.b (Apply c.in-Call.function (row_in c.as_slice.result.now)) (tree_of c.args.e.now) h k) c.emit_call.ensures.code
 
 pub emit_call-returns-clause-code : goal.emit_call-returns-clause-code
 emit_call-returns-clause-code t c =
@@ -107,7 +103,7 @@ emit_call-returns-clause-code t c =
 
 pub emit_value-returns-in-Element-clause-fits : goal.emit_value-returns-in-Element-clause-fits
 emit_value-returns-in-Element-clause-fits t c =
-    map_ok c.emit_element.result (λ o h. well_as c.args.dest o c.args.b.now c.emit_element.new.b (Element c.in-Element.array (tree_of c.deref.result.now)) (tree_of c.args.e.now) (ap (λ z. Element c.in-Element.array (tree_of z)) c.deref.ensures ∙ ap tree_of (sym c.in-Element.is)) h) c.emit_element.ensures.fits
+    IfOk-weaker c.emit_element.result _ _ (λ o h. well_as c.args.dest o c.args.b.now c.emit_element.new.b (Element c.in-Element.array (tree_of c.deref.result.now)) (tree_of c.args.e.now) (ap (λ z. Element c.in-Element.array (tree_of z)) c.deref.ensures ∙ ap tree_of (sym c.in-Element.is)) h) c.emit_element.ensures.fits
 
 pub emit_element-returns-clause-fits : goal.emit_element-returns-clause-fits
 emit_element-returns-clause-fits t c =
@@ -116,7 +112,7 @@ emit_element-returns-clause-fits t c =
 pub emit_value-returns-in-Call-clause-fits : goal.emit_value-returns-in-Call-clause-fits
 emit_value-returns-in-Call-clause-fits t c =
     let h : Apply c.in-Call.function (row_in c.as_slice.result.now) ≡ tree_of c.args.e.now = ap (λ z. Apply c.in-Call.function (row_in z)) c.as_slice.ensures.value ∙ sym (view-Call c.in-Call.function c.in-Call.all) ∙ ap tree_of (sym c.in-Call.is) in
-    map_ok c.emit_call.result (λ o k. well_as c.args.dest o c.args.b.now c.emit_call.new.b (Apply c.in-Call.function (row_in c.as_slice.result.now)) (tree_of c.args.e.now) h k) c.emit_call.ensures.fits
+    IfOk-weaker c.emit_call.result _ _ (λ o k. well_as c.args.dest o c.args.b.now c.emit_call.new.b (Apply c.in-Call.function (row_in c.as_slice.result.now)) (tree_of c.args.e.now) h k) c.emit_call.ensures.fits
 
 pub emit_call-returns-clause-fits : goal.emit_call-returns-clause-fits
 emit_call-returns-clause-fits t c =
@@ -124,7 +120,7 @@ emit_call-returns-clause-fits t c =
 
 pub emit_value-returns-in-Unary-clause-code : goal.emit_value-returns-in-Unary-clause-code
 emit_value-returns-in-Unary-clause-code t c =
-    map_ok c.emit_unary.result (λ o h. emits_as c.args.words.now c.args.dest o c.args.b.now c.emit_unary.new.b (Unary c.in-Unary.operator (tree_of c.deref-in-Unary.result.now)) (tree_of c.args.e.now) (ap (λ z. Unary c.in-Unary.operator (tree_of z)) c.deref-in-Unary.ensures ∙ ap tree_of (sym c.in-Unary.is)) h) c.emit_unary.ensures.code
+    IfOk-weaker c.emit_unary.result _ _ (λ o h. emits_as c.args.words.now c.args.dest o c.args.b.now c.emit_unary.new.b (Unary c.in-Unary.operator (tree_of c.deref-in-Unary.result.now)) (tree_of c.args.e.now) (ap (λ z. Unary c.in-Unary.operator (tree_of z)) c.deref-in-Unary.ensures ∙ ap tree_of (sym c.in-Unary.is)) h) c.emit_unary.ensures.code
 
 pub emit_unary-returns-clause-code : goal.emit_unary-returns-clause-code
 emit_unary-returns-clause-code t c =
@@ -132,7 +128,7 @@ emit_unary-returns-clause-code t c =
 
 pub emit_value-returns-in_ok-left-in-Binary-clause-code : goal.emit_value-returns-in_ok-left-in-Binary-clause-code
 emit_value-returns-in_ok-left-in-Binary-clause-code t c =
-    map_ok c.binary_behind.result (λ o h. emits_as c.args.words.now c.args.dest o c.args.b.now c.binary_behind.new.b (Binary c.in-Binary.operator (tree_of c.deref-in-Binary.result.now) (tree_of c.deref-in-Binary-2.result.now)) (tree_of c.args.e.now) (ap (λ z. Binary c.in-Binary.operator (tree_of z) (tree_of c.deref-in-Binary-2.result.now)) c.deref-in-Binary.ensures ∙ ap (λ z. Binary c.in-Binary.operator (tree_of c.in-Binary.x.value) (tree_of z)) c.deref-in-Binary-2.ensures ∙ ap tree_of (sym c.in-Binary.is)) (h (tree_of c.deref-in-Binary.result.now) c.args.b.now c.in_ok-left-in-Binary.ensures.code)) c.binary_behind.ensures.code
+    IfOk-weaker c.binary_behind.result _ _ (λ o h. emits_as c.args.words.now c.args.dest o c.args.b.now c.binary_behind.new.b (Binary c.in-Binary.operator (tree_of c.deref-in-Binary.result.now) (tree_of c.deref-in-Binary-2.result.now)) (tree_of c.args.e.now) (ap (λ z. Binary c.in-Binary.operator (tree_of z) (tree_of c.deref-in-Binary-2.result.now)) c.deref-in-Binary.ensures ∙ ap (λ z. Binary c.in-Binary.operator (tree_of c.in-Binary.x.value) (tree_of z)) c.deref-in-Binary-2.ensures ∙ ap tree_of (sym c.in-Binary.is)) (h (tree_of c.deref-in-Binary.result.now) c.args.b.now c.in_ok-left-in-Binary.ensures.code)) c.binary_behind.ensures.code
 
 pub binary_behind-returns-clause-code : goal.binary_behind-returns-clause-code
 binary_behind-returns-clause-code t c = λ x start first.
@@ -140,7 +136,7 @@ binary_behind-returns-clause-code t c = λ x start first.
 
 pub emit_value-returns-in_ok-first-in-Choice-clause-code : goal.emit_value-returns-in_ok-first-in-Choice-clause-code
 emit_value-returns-in_ok-first-in-Choice-clause-code t c =
-    map_ok c.choice_behind.result (λ o h. emits_as c.args.words.now c.args.dest o c.args.b.now c.choice_behind.new.b (Choice (tree_of c.deref-in-Choice.result.now) (tree_of c.deref-in-Choice-2.result.now) (tree_of c.deref-in-Choice-3.result.now)) (tree_of c.args.e.now) (ap (λ z. Choice (tree_of z) (tree_of c.deref-in-Choice-2.result.now) (tree_of c.deref-in-Choice-3.result.now)) c.deref-in-Choice.ensures ∙ ap (λ z. Choice (tree_of c.in-Choice.c.value) (tree_of z) (tree_of c.deref-in-Choice-3.result.now)) c.deref-in-Choice-2.ensures ∙ ap (λ z. Choice (tree_of c.in-Choice.c.value) (tree_of c.in-Choice.x.value) (tree_of z)) c.deref-in-Choice-3.ensures ∙ ap tree_of (sym c.in-Choice.is)) (h c.args.dest (tree_of c.deref-in-Choice.result.now) (tree_of c.deref-in-Choice-2.result.now) c.in_ok-first-in-Choice.first c.args.b.now c.emit_test-in-Choice.new.b c.target.new.b c.in_ok-no-in-Choice.ensures.code c.in_ok-t-in-Choice.ensures c.in_ok-first-in-Choice.ensures.code)) c.choice_behind.ensures.code
+    IfOk-weaker c.choice_behind.result _ _ (λ o h. emits_as c.args.words.now c.args.dest o c.args.b.now c.choice_behind.new.b (Choice (tree_of c.deref-in-Choice.result.now) (tree_of c.deref-in-Choice-2.result.now) (tree_of c.deref-in-Choice-3.result.now)) (tree_of c.args.e.now) (ap (λ z. Choice (tree_of z) (tree_of c.deref-in-Choice-2.result.now) (tree_of c.deref-in-Choice-3.result.now)) c.deref-in-Choice.ensures ∙ ap (λ z. Choice (tree_of c.in-Choice.c.value) (tree_of z) (tree_of c.deref-in-Choice-3.result.now)) c.deref-in-Choice-2.ensures ∙ ap (λ z. Choice (tree_of c.in-Choice.c.value) (tree_of c.in-Choice.x.value) (tree_of z)) c.deref-in-Choice-3.ensures ∙ ap tree_of (sym c.in-Choice.is)) (h c.args.dest (tree_of c.deref-in-Choice.result.now) (tree_of c.deref-in-Choice-2.result.now) c.in_ok-first-in-Choice.first c.args.b.now c.emit_test-in-Choice.new.b c.target.new.b c.in_ok-no-in-Choice.ensures.code c.in_ok-t-in-Choice.ensures c.in_ok-first-in-Choice.ensures.code)) c.choice_behind.ensures.code
 
 pub choice_behind-returns-clause-code : goal.choice_behind-returns-clause-code
 choice_behind-returns-clause-code t c = λ dest k x ox start tested aimed first at second.
@@ -148,7 +144,7 @@ choice_behind-returns-clause-code t c = λ dest k x ox start tested aimed first 
 
 pub emit_value-returns-in-Unary-clause-fits : goal.emit_value-returns-in-Unary-clause-fits
 emit_value-returns-in-Unary-clause-fits t c =
-    map_ok c.emit_unary.result (λ o h. well_as c.args.dest o c.args.b.now c.emit_unary.new.b (Unary c.in-Unary.operator (tree_of c.deref-in-Unary.result.now)) (tree_of c.args.e.now) (ap (λ z. Unary c.in-Unary.operator (tree_of z)) c.deref-in-Unary.ensures ∙ ap tree_of (sym c.in-Unary.is)) h) c.emit_unary.ensures.fits
+    IfOk-weaker c.emit_unary.result _ _ (λ o h. well_as c.args.dest o c.args.b.now c.emit_unary.new.b (Unary c.in-Unary.operator (tree_of c.deref-in-Unary.result.now)) (tree_of c.args.e.now) (ap (λ z. Unary c.in-Unary.operator (tree_of z)) c.deref-in-Unary.ensures ∙ ap tree_of (sym c.in-Unary.is)) h) c.emit_unary.ensures.fits
 
 pub emit_unary-returns-clause-fits : goal.emit_unary-returns-clause-fits
 emit_unary-returns-clause-fits t c =
@@ -156,7 +152,7 @@ emit_unary-returns-clause-fits t c =
 
 pub emit_value-returns-in_ok-left-in-Binary-clause-fits : goal.emit_value-returns-in_ok-left-in-Binary-clause-fits
 emit_value-returns-in_ok-left-in-Binary-clause-fits t c =
-    map_ok c.binary_behind.result (λ o h. well_as c.args.dest o c.args.b.now c.binary_behind.new.b (Binary c.in-Binary.operator (tree_of c.deref-in-Binary.result.now) (tree_of c.deref-in-Binary-2.result.now)) (tree_of c.args.e.now) (ap (λ z. Binary c.in-Binary.operator (tree_of z) (tree_of c.deref-in-Binary-2.result.now)) c.deref-in-Binary.ensures ∙ ap (λ z. Binary c.in-Binary.operator (tree_of c.in-Binary.x.value) (tree_of z)) c.deref-in-Binary-2.ensures ∙ ap tree_of (sym c.in-Binary.is)) (h (tree_of c.deref-in-Binary.result.now) c.args.b.now c.in_ok-left-in-Binary.ensures.fits)) c.binary_behind.ensures.fits
+    IfOk-weaker c.binary_behind.result _ _ (λ o h. well_as c.args.dest o c.args.b.now c.binary_behind.new.b (Binary c.in-Binary.operator (tree_of c.deref-in-Binary.result.now) (tree_of c.deref-in-Binary-2.result.now)) (tree_of c.args.e.now) (ap (λ z. Binary c.in-Binary.operator (tree_of z) (tree_of c.deref-in-Binary-2.result.now)) c.deref-in-Binary.ensures ∙ ap (λ z. Binary c.in-Binary.operator (tree_of c.in-Binary.x.value) (tree_of z)) c.deref-in-Binary-2.ensures ∙ ap tree_of (sym c.in-Binary.is)) (h (tree_of c.deref-in-Binary.result.now) c.args.b.now c.in_ok-left-in-Binary.ensures.fits)) c.binary_behind.ensures.fits
 
 pub binary_behind-returns-clause-fits : goal.binary_behind-returns-clause-fits
 binary_behind-returns-clause-fits t c = λ x start first.
@@ -164,7 +160,7 @@ binary_behind-returns-clause-fits t c = λ x start first.
 
 pub emit_value-returns-in_ok-first-in-Choice-clause-fits : goal.emit_value-returns-in_ok-first-in-Choice-clause-fits
 emit_value-returns-in_ok-first-in-Choice-clause-fits t c =
-    map_ok c.choice_behind.result (λ o h. well_as c.args.dest o c.args.b.now c.choice_behind.new.b (Choice (tree_of c.deref-in-Choice.result.now) (tree_of c.deref-in-Choice-2.result.now) (tree_of c.deref-in-Choice-3.result.now)) (tree_of c.args.e.now) (ap (λ z. Choice (tree_of z) (tree_of c.deref-in-Choice-2.result.now) (tree_of c.deref-in-Choice-3.result.now)) c.deref-in-Choice.ensures ∙ ap (λ z. Choice (tree_of c.in-Choice.c.value) (tree_of z) (tree_of c.deref-in-Choice-3.result.now)) c.deref-in-Choice-2.ensures ∙ ap (λ z. Choice (tree_of c.in-Choice.c.value) (tree_of c.in-Choice.x.value) (tree_of z)) c.deref-in-Choice-3.ensures ∙ ap tree_of (sym c.in-Choice.is)) (h c.args.dest (tree_of c.deref-in-Choice.result.now) (tree_of c.deref-in-Choice-2.result.now) c.in_ok-first-in-Choice.first c.args.b.now c.emit_test-in-Choice.new.b c.target.new.b c.in_ok-no-in-Choice.ensures.fits c.in_ok-t-in-Choice.ensures c.in_ok-first-in-Choice.ensures.fits)) c.choice_behind.ensures.fits
+    IfOk-weaker c.choice_behind.result _ _ (λ o h. well_as c.args.dest o c.args.b.now c.choice_behind.new.b (Choice (tree_of c.deref-in-Choice.result.now) (tree_of c.deref-in-Choice-2.result.now) (tree_of c.deref-in-Choice-3.result.now)) (tree_of c.args.e.now) (ap (λ z. Choice (tree_of z) (tree_of c.deref-in-Choice-2.result.now) (tree_of c.deref-in-Choice-3.result.now)) c.deref-in-Choice.ensures ∙ ap (λ z. Choice (tree_of c.in-Choice.c.value) (tree_of z) (tree_of c.deref-in-Choice-3.result.now)) c.deref-in-Choice-2.ensures ∙ ap (λ z. Choice (tree_of c.in-Choice.c.value) (tree_of c.in-Choice.x.value) (tree_of z)) c.deref-in-Choice-3.ensures ∙ ap tree_of (sym c.in-Choice.is)) (h c.args.dest (tree_of c.deref-in-Choice.result.now) (tree_of c.deref-in-Choice-2.result.now) c.in_ok-first-in-Choice.first c.args.b.now c.emit_test-in-Choice.new.b c.target.new.b c.in_ok-no-in-Choice.ensures.fits c.in_ok-t-in-Choice.ensures c.in_ok-first-in-Choice.ensures.fits)) c.choice_behind.ensures.fits
 
 pub choice_behind-returns-clause-fits : goal.choice_behind-returns-clause-fits
 choice_behind-returns-clause-fits t c = λ dest k x ox start tested aimed first at second.
@@ -180,35 +176,49 @@ emit_value-returns-in_ok-t-in-MoreInput-clause-fits t c =
     well_as c.args.dest (Held c.in_ok-t-in-MoreInput.t) c.args.b.now c.more.new.b MoreInput (tree_of c.args.e.now) (ap tree_of (sym c.in-MoreInput.is))
     (more_well c.in_ok-t-in-MoreInput.t c.args.dest c.args.b.now c.more.new.b c.in_ok-t-in-MoreInput.ensures.steps)
 
+pub emit_value-returns-in-ReadInt-clause-code : goal.emit_value-returns-in-ReadInt-clause-code
+emit_value-returns-in-ReadInt-clause-code t c =
+    IfOk-weaker c.read.result _ _ (λ o h. emits_as c.args.words.now c.args.dest o c.args.b.now c.read.new.b ReadInt (tree_of c.args.e.now) (ap tree_of (sym c.in-ReadInt.is)) h) c.read.ensures.code
+
+pub emit_value-returns-in-ReadInt-clause-fits : goal.emit_value-returns-in-ReadInt-clause-fits
+emit_value-returns-in-ReadInt-clause-fits t c =
+    IfOk-weaker c.read.result _ _ (λ o h. well_as c.args.dest o c.args.b.now c.read.new.b ReadInt (tree_of c.args.e.now) (ap tree_of (sym c.in-ReadInt.is)) h) c.read.ensures.fits
+
+pub emit_test-returns-in-None-clause-code : goal.emit_test-returns-in-None-clause-code
+emit_test-returns-in-None-clause-code t c = c.test_value-in-None.ensures.code
+
+pub emit_test-returns-in-None-clause-fits : goal.emit_test-returns-in-None-clause-fits
+emit_test-returns-in-None-clause-fits t c = c.test_value-in-None.ensures.fits
+
 pub emit_test-returns-in_ok-no-in-Not-clause-code : goal.emit_test-returns-in_ok-no-in-Not-clause-code
 emit_test-returns-in_ok-no-in-Not-clause-code t c =
-    tests_as c.args.words.now c.turn-yes.result c.args.b.now c.turn-yes.new.self (Unary Not (tree_of c.deref.result.now)) (tree_of c.args.e.now) (ap (λ z. Unary Not (tree_of z)) c.deref.ensures ∙ ap (λ z. Unary z (tree_of c.in-Unary.x.value)) (sym c.in-Not.is) ∙ ap tree_of (sym c.in-Unary.is))
-    (tests_not c.args.words.now c.in_ok-no-in-Not.no c.turn-yes.result (tree_of c.deref.result.now) c.args.b.now c.emit_test.new.b c.turn-yes.new.self c.in_ok-no-in-Not.ensures.code c.turn-yes.ensures)
+    tests_as c.args.words.now c.turn.result c.args.b.now c.turn.new.self (Unary Not (tree_of c.deref.result.now)) (tree_of c.args.e.now) (ap (λ z. Unary Not (tree_of z)) c.deref.ensures ∙ ap (λ z. Unary z (tree_of c.in-Unary.x.value)) (sym c.in-Not.is) ∙ ap tree_of (sym c.in-Unary.is))
+    (tests_not c.args.words.now c.in_ok-no-in-Not.no c.turn.result (tree_of c.deref.result.now) c.args.b.now c.emit_test.new.b c.turn.new.self c.in_ok-no-in-Not.ensures.code c.turn.ensures)
 
 pub emit_test-returns-in_ok-no-in-Not-clause-fits : goal.emit_test-returns-in_ok-no-in-Not-clause-fits
 emit_test-returns-in_ok-no-in-Not-clause-fits t c =
-    tests_well_as c.turn-yes.result c.args.b.now c.turn-yes.new.self (Unary Not (tree_of c.deref.result.now)) (tree_of c.args.e.now) (ap (λ z. Unary Not (tree_of z)) c.deref.ensures ∙ ap (λ z. Unary z (tree_of c.in-Unary.x.value)) (sym c.in-Not.is) ∙ ap tree_of (sym c.in-Unary.is))
-    (not_tested c.in_ok-no-in-Not.no c.turn-yes.result (tree_of c.deref.result.now) c.args.b.now c.emit_test.new.b c.turn-yes.new.self c.in_ok-no-in-Not.ensures.fits c.turn-yes.ensures)
+    tests_well_as c.turn.result c.args.b.now c.turn.new.self (Unary Not (tree_of c.deref.result.now)) (tree_of c.args.e.now) (ap (λ z. Unary Not (tree_of z)) c.deref.ensures ∙ ap (λ z. Unary z (tree_of c.in-Unary.x.value)) (sym c.in-Not.is) ∙ ap tree_of (sym c.in-Unary.is))
+    (not_tested c.in_ok-no-in-Not.no c.turn.result (tree_of c.deref.result.now) c.args.b.now c.emit_test.new.b c.turn.new.self c.in_ok-no-in-Not.ensures.fits c.turn.ensures)
 
 pub emit_test-returns-in_ok-right-in-Some-clause-code : goal.emit_test-returns-in_ok-right-in-Some-clause-code
 emit_test-returns-in_ok-right-in-Some-clause-code t c =
-    map_ok c.compared.result (λ n h. tests_as c.args.words.now n c.args.b.now c.compared.new.b (Binary c.in-Binary.operator (tree_of c.deref-in-Some.result.now) (tree_of c.deref-in-Some-2.result.now)) (tree_of c.args.e.now) (ap (λ z. Binary c.in-Binary.operator (tree_of z) (tree_of c.deref-in-Some-2.result.now)) c.deref-in-Some.ensures ∙ ap (λ z. Binary c.in-Binary.operator (tree_of c.in-Binary.x.value) (tree_of z)) c.deref-in-Some-2.ensures ∙ ap tree_of (sym c.in-Binary.is))
+    IfOk-weaker c.compared.result _ _ (λ n h. tests_as c.args.words.now n c.args.b.now c.compared.new.b (Binary c.in-Binary.operator (tree_of c.deref-in-Some.result.now) (tree_of c.deref-in-Some-2.result.now)) (tree_of c.args.e.now) (ap (λ z. Binary c.in-Binary.operator (tree_of z) (tree_of c.deref-in-Some-2.result.now)) c.deref-in-Some.ensures ∙ ap (λ z. Binary c.in-Binary.operator (tree_of c.in-Binary.x.value) (tree_of z)) c.deref-in-Some-2.ensures ∙ ap tree_of (sym c.in-Binary.is))
     (tests_compare c.args.words.now c.in-Binary.operator c.in-Some.compare n (tree_of c.deref-in-Some.result.now) (tree_of c.deref-in-Some-2.result.now) c.in_ok-left-in-Some.left c.in_ok-right-in-Some.right c.args.b.now c.emit_value.new.b c.emit_value-in-Some.new.b c.compared.new.b (sym c.comparison.ensures ∙ c.in-Some.is) c.in_ok-left-in-Some.ensures.code c.in_ok-right-in-Some.ensures.code h)) c.compared.ensures.code
 
 pub emit_test-returns-in_ok-right-in-Some-clause-fits : goal.emit_test-returns-in_ok-right-in-Some-clause-fits
 emit_test-returns-in_ok-right-in-Some-clause-fits t c =
-    map_ok c.compared.result (λ n h. tests_well_as n c.args.b.now c.compared.new.b (Binary c.in-Binary.operator (tree_of c.deref-in-Some.result.now) (tree_of c.deref-in-Some-2.result.now)) (tree_of c.args.e.now) (ap (λ z. Binary c.in-Binary.operator (tree_of z) (tree_of c.deref-in-Some-2.result.now)) c.deref-in-Some.ensures ∙ ap (λ z. Binary c.in-Binary.operator (tree_of c.in-Binary.x.value) (tree_of z)) c.deref-in-Some-2.ensures ∙ ap tree_of (sym c.in-Binary.is))
+    IfOk-weaker c.compared.result _ _ (λ n h. tests_well_as n c.args.b.now c.compared.new.b (Binary c.in-Binary.operator (tree_of c.deref-in-Some.result.now) (tree_of c.deref-in-Some-2.result.now)) (tree_of c.args.e.now) (ap (λ z. Binary c.in-Binary.operator (tree_of z) (tree_of c.deref-in-Some-2.result.now)) c.deref-in-Some.ensures ∙ ap (λ z. Binary c.in-Binary.operator (tree_of c.in-Binary.x.value) (tree_of z)) c.deref-in-Some-2.ensures ∙ ap tree_of (sym c.in-Binary.is))
     (compare_tested c.in-Binary.operator c.in-Some.compare n (tree_of c.deref-in-Some.result.now) (tree_of c.deref-in-Some-2.result.now) c.in_ok-left-in-Some.left c.in_ok-right-in-Some.right c.args.b.now c.emit_value.new.b c.emit_value-in-Some.new.b c.compared.new.b c.in_ok-left-in-Some.ensures.fits c.in_ok-right-in-Some.ensures.fits h)) c.compared.ensures.steps
 
-pub emit_test-returns-in_ok-no-in-Both-clause-code : goal.emit_test-returns-in_ok-no-in-Both-clause-code
-emit_test-returns-in_ok-no-in-Both-clause-code t c =
-    tests_as c.args.words.now c.in_ok-no-in-Both.no c.args.b.now c.meet.new.b (Both (tree_of c.deref-in-Both.result.now) (tree_of c.deref-in-Both-2.result.now)) (tree_of c.args.e.now) (ap (λ z. Both (tree_of z) (tree_of c.deref-in-Both-2.result.now)) c.deref-in-Both.ensures ∙ ap (λ z. Both (tree_of c.in-Both.x.value) (tree_of z)) c.deref-in-Both-2.ensures ∙ ap tree_of (sym c.in-Both.is))
-    (tests_both c.args.words.now c.in_ok-first-in-Both.first c.in_ok-second-in-Both.second c.in_ok-no-in-Both.no (tree_of c.deref-in-Both.result.now) (tree_of c.deref-in-Both-2.result.now) c.args.b.now c.emit_test-in-Both.new.b c.emit_test-in-Both-2.new.b c.meet.new.b c.in_ok-first-in-Both.ensures.code c.in_ok-second-in-Both.ensures.code c.in_ok-no-in-Both.ensures)
+pub emit_test-returns-in_ok-second-in-Both-clause-code : goal.emit_test-returns-in_ok-second-in-Both-clause-code
+emit_test-returns-in_ok-second-in-Both-clause-code t c =
+    IfOk-weaker c.meet.result _ _ (λ n h. tests_as c.args.words.now n c.args.b.now c.meet.new.b (Both (tree_of c.deref-in-Both.result.now) (tree_of c.deref-in-Both-2.result.now)) (tree_of c.args.e.now) (ap (λ z. Both (tree_of z) (tree_of c.deref-in-Both-2.result.now)) c.deref-in-Both.ensures ∙ ap (λ z. Both (tree_of c.in-Both.x.value) (tree_of z)) c.deref-in-Both-2.ensures ∙ ap tree_of (sym c.in-Both.is))
+    (tests_both c.args.words.now c.in_ok-first-in-Both.first c.in_ok-second-in-Both.second n (tree_of c.deref-in-Both.result.now) (tree_of c.deref-in-Both-2.result.now) c.args.b.now c.emit_test-in-Both.new.b c.emit_test-in-Both-2.new.b c.meet.new.b c.in_ok-first-in-Both.ensures.code c.in_ok-second-in-Both.ensures.code h)) c.meet.ensures
 
-pub emit_test-returns-in_ok-no-in-Both-clause-fits : goal.emit_test-returns-in_ok-no-in-Both-clause-fits
-emit_test-returns-in_ok-no-in-Both-clause-fits t c =
-    tests_well_as c.in_ok-no-in-Both.no c.args.b.now c.meet.new.b (Both (tree_of c.deref-in-Both.result.now) (tree_of c.deref-in-Both-2.result.now)) (tree_of c.args.e.now) (ap (λ z. Both (tree_of z) (tree_of c.deref-in-Both-2.result.now)) c.deref-in-Both.ensures ∙ ap (λ z. Both (tree_of c.in-Both.x.value) (tree_of z)) c.deref-in-Both-2.ensures ∙ ap tree_of (sym c.in-Both.is))
-    (both_asked c.in_ok-first-in-Both.first c.in_ok-second-in-Both.second c.in_ok-no-in-Both.no (tree_of c.deref-in-Both.result.now) (tree_of c.deref-in-Both-2.result.now) c.args.b.now c.emit_test-in-Both.new.b c.emit_test-in-Both-2.new.b c.meet.new.b c.in_ok-first-in-Both.ensures.fits c.in_ok-second-in-Both.ensures.fits c.in_ok-no-in-Both.ensures)
+pub emit_test-returns-in_ok-second-in-Both-clause-fits : goal.emit_test-returns-in_ok-second-in-Both-clause-fits
+emit_test-returns-in_ok-second-in-Both-clause-fits t c =
+    IfOk-weaker c.meet.result _ _ (λ n h. tests_well_as n c.args.b.now c.meet.new.b (Both (tree_of c.deref-in-Both.result.now) (tree_of c.deref-in-Both-2.result.now)) (tree_of c.args.e.now) (ap (λ z. Both (tree_of z) (tree_of c.deref-in-Both-2.result.now)) c.deref-in-Both.ensures ∙ ap (λ z. Both (tree_of c.in-Both.x.value) (tree_of z)) c.deref-in-Both-2.ensures ∙ ap tree_of (sym c.in-Both.is))
+    (both_asked c.in_ok-first-in-Both.first c.in_ok-second-in-Both.second n (tree_of c.deref-in-Both.result.now) (tree_of c.deref-in-Both-2.result.now) c.args.b.now c.emit_test-in-Both.new.b c.emit_test-in-Both-2.new.b c.meet.new.b c.in_ok-first-in-Both.ensures.fits c.in_ok-second-in-Both.ensures.fits h)) c.meet.ensures
 
 pub emit_test-returns-in_ok-no-in-Either-clause-code : goal.emit_test-returns-in_ok-no-in-Either-clause-code
 emit_test-returns-in_ok-no-in-Either-clause-code t c =
@@ -222,11 +232,11 @@ emit_test-returns-in_ok-no-in-Either-clause-fits t c =
 
 pub test_value-returns-clause-code : goal.test_value-returns-clause-code
 test_value-returns-clause-code t c =
-    tests_value c.args.words.now c.in_ok-no.no (tree_of c.args.e.now) c.in_ok-o.o c.args.b.now c.emit_value.new.b c.truth.new.b c.in_ok-o.ensures.code c.in_ok-no.ensures.code
+    IfOk-weaker c.truth.result _ _ (λ n h. tests_value c.args.words.now n (tree_of c.args.e.now) c.in_ok-o.o c.args.b.now c.emit_value.new.b c.truth.new.b c.in_ok-o.ensures.code h) c.truth.ensures.code
 
 pub test_value-returns-clause-fits : goal.test_value-returns-clause-fits
 test_value-returns-clause-fits t c =
-    value_tested c.in_ok-no.no (tree_of c.args.e.now) c.in_ok-o.o c.args.b.now c.emit_value.new.b c.truth.new.b c.in_ok-o.ensures.fits c.in_ok-no.ensures.steps
+    IfOk-weaker c.truth.result _ _ (λ n h. value_tested n (tree_of c.args.e.now) c.in_ok-o.o c.args.b.now c.emit_value.new.b c.truth.new.b c.in_ok-o.ensures.fits h) c.truth.ensures.steps
 
 pub emit_row-loop-e-init : goal.emit_row-loop-e-init
 emit_row-loop-e-init t c = (

@@ -1,4 +1,5 @@
 use Rattle.std.proofs.Common.{◌++◌, ap, refl, sym}
+use Rattle.std.proofs.lemmas.Result.{on_ok_weaker}
 use Rattle.vx_ast.specs.Meaning.{pieces_of}
 use Rattle.vx_lower.specs.Makes.{bytes_of}
 use Rattle.vx_lower.proofs.PrintMaking.{shifts_as, shifts_self, show_more, show_whole}
@@ -22,7 +23,7 @@ loop-byte-preserved c = (
 )
 
 pub returns-clause-code : goal.returns-clause-code
-returns-clause-code c = show_whole c.args.bytes.now c.loop-byte.byte-index c.args.arguments.now c.loop-byte.format c.args.b.now c.loop-byte.b c.show_text.new.b c.args.texts.now c.loop-byte.texts c.show_text.new.texts c.loop-byte-test.false c.loop-byte.invariant.0 c.in_ok-show_text.ensures.code.1
+returns-clause-code c = on_ok_weaker c.show_text.result (λ h. show_whole c.args.bytes.now c.loop-byte.byte-index c.args.arguments.now c.loop-byte.format c.args.b.now c.loop-byte.b c.show_text.new.b c.args.texts.now c.loop-byte.texts c.show_text.new.texts c.loop-byte-test.false c.loop-byte.invariant.0 h.1) c.show_text.ensures.code
 
 pub returns-clause-fits : goal.returns-clause-fits
-returns-clause-fits c = shows_on c.args.arguments.now c.args.b.now c.loop-byte.b c.show_text.new.b c.args.texts.now c.loop-byte.texts c.show_text.new.texts c.loop-byte.invariant.1 (shows_all c.args.arguments.now c.loop-byte.b c.show_text.new.b c.loop-byte.texts c.show_text.new.texts c.in_ok-show_text.ensures.fits)
+returns-clause-fits c = on_ok_weaker c.show_text.result (λ h. shows_on c.args.arguments.now c.args.b.now c.loop-byte.b c.show_text.new.b c.args.texts.now c.loop-byte.texts c.show_text.new.texts c.loop-byte.invariant.1 (shows_all c.args.arguments.now c.loop-byte.b c.show_text.new.b c.loop-byte.texts c.show_text.new.texts h)) c.show_text.ensures.fits

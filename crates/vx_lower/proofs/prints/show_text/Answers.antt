@@ -1,5 +1,6 @@
 use Rattle.std.proofs.Common.{◌≡◌, ap, length, refl, sym, ◌∙◌, ◌++◌, ◌∷◌, []}
 use Rattle.std.proofs.lemmas.Bool.{eqb-true}
+use Rattle.std.proofs.lemmas.Result.{on_ok_weaker}
 use Rattle.vx_lower.specs.declared.prints.Format.{Format}
 use Rattle.vx_lower.specs.Makes.{bytes_of}
 use Rattle.vx_lower.proofs.Places.{nothing}
@@ -8,13 +9,13 @@ use Rattle.vx_lower.proofs.FittingStatements.{shows_nothing, shows_text}
 use Rattle.vx_lower.proofs.prints.show_text.Goals as goal
 
 pub returns-clause-code : goal.returns-clause-code
-returns-clause-code c = (
+returns-clause-code c = on_ok_weaker c.put.result (λ h. (
   ap (λ z. let f : Format = record { text = z; directive = c.args.format.now.directive; next = c.args.format.now.next } in f) (c.replace-text.ensures.after ∙ c.new.ensures),
-  λ r ps os. shifts_text c.args.format.now.text _ ps os c.args.b.now c.put.new.self c.args.texts.now c.push.new.self c.len-number.ensures.len (c.in_ok-push.ensures.ok ∙ ap (λ z. c.args.texts.now ++ z ∷ []) c.replace-text.ensures.value) c.in_ok-put.ensures.code r,
-)
+  λ r ps os. shifts_text c.args.format.now.text _ ps os c.args.b.now c.put.new.self c.args.texts.now c.push.new.self c.len-number.ensures.len (c.in_ok-push.ensures.ok ∙ ap (λ z. c.args.texts.now ++ z ∷ []) c.replace-text.ensures.value) h r,
+)) c.put.ensures.code
 
 pub returns-clause-fits : goal.returns-clause-fits
-returns-clause-fits c = shows_text [] c.args.format.now.text _ c.args.b.now c.put.new.self c.args.texts.now c.push.new.self c.len-number.ensures.len (c.in_ok-push.ensures.ok ∙ ap (λ z. c.args.texts.now ++ z ∷ []) c.replace-text.ensures.value) c.in_ok-put.ensures.steps
+returns-clause-fits c = on_ok_weaker c.put.result (shows_text [] c.args.format.now.text _ c.args.b.now c.put.new.self c.args.texts.now c.push.new.self c.len-number.ensures.len (c.in_ok-push.ensures.ok ∙ ap (λ z. c.args.texts.now ++ z ∷ []) c.replace-text.ensures.value)) c.put.ensures.steps
 
 pub returns-then-is_empty-clause-fits : goal.returns-then-is_empty-clause-fits
 returns-then-is_empty-clause-fits c = shows_nothing [] c.args.b.now c.args.texts.now

@@ -1,4 +1,5 @@
 use Rattle.std.proofs.Common.{ap, sym}
+use Rattle.std.proofs.lemmas.Result.{on_ok_weaker}
 use Rattle.vx_ast.specs.Tree.{Nothing, Head}
 use Rattle.vx_ast.specs.View.{step_of, action_of}
 use Rattle.vx_lower.proofs.StatementMaking.{plain_as, plain_nothing, plain_head}
@@ -11,8 +12,8 @@ returns-in-None-clause-code c = plain_as c.args.words.now c.args.b.now c.args.b.
 pub returns-in-None-clause-fits : goal.returns-in-None-clause-fits
 returns-in-None-clause-fits c = plain_well_as c.args.b.now c.args.b.now Nothing (step_of c.args.step.now) (ap step_of (sym c.in-None.is)) (plain_nothing_well c.args.b.now)
 
-pub returns-in_ok-emit_action-in-Some-clause-code : goal.returns-in_ok-emit_action-in-Some-clause-code
-returns-in_ok-emit_action-in-Some-clause-code c = plain_as c.args.words.now c.args.b.now c.emit_action.new.b (Head (action_of c.in-Some.action)) (step_of c.args.step.now) (ap step_of (sym c.in-Some.is)) (plain_head c.args.words.now (action_of c.in-Some.action) c.args.b.now c.emit_action.new.b c.in_ok-emit_action-in-Some.ensures.code)
+pub returns-in-Some-clause-code : goal.returns-in-Some-clause-code
+returns-in-Some-clause-code c = on_ok_weaker c.emit_action.result (λ h. plain_as c.args.words.now c.args.b.now c.emit_action.new.b (Head (action_of c.in-Some.action)) (step_of c.args.step.now) (ap step_of (sym c.in-Some.is)) (plain_head c.args.words.now (action_of c.in-Some.action) c.args.b.now c.emit_action.new.b h)) c.emit_action.ensures.code
 
-pub returns-in_ok-emit_action-in-Some-clause-fits : goal.returns-in_ok-emit_action-in-Some-clause-fits
-returns-in_ok-emit_action-in-Some-clause-fits c = plain_well_as c.args.b.now c.emit_action.new.b (Head (action_of c.in-Some.action)) (step_of c.args.step.now) (ap step_of (sym c.in-Some.is)) (plain_head_well (action_of c.in-Some.action) c.args.b.now c.emit_action.new.b c.in_ok-emit_action-in-Some.ensures.fits)
+pub returns-in-Some-clause-fits : goal.returns-in-Some-clause-fits
+returns-in-Some-clause-fits c = on_ok_weaker c.emit_action.result (λ h. plain_well_as c.args.b.now c.emit_action.new.b (Head (action_of c.in-Some.action)) (step_of c.args.step.now) (ap step_of (sym c.in-Some.is)) (plain_head_well (action_of c.in-Some.action) c.args.b.now c.emit_action.new.b h)) c.emit_action.ensures.fits

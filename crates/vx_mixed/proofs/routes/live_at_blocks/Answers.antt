@@ -1,5 +1,6 @@
 use Rattle.std.proofs.Common.{◌≡◌, ◌∙◌, sym, ap, subst, length, true}
 use Rattle.std.specs.Prelude.{◌↔◌}
+use Rattle.std.proofs.lemmas.Result.{IfOk-weaker}
 use Rattle.vx_flow.specs.Closing.{BeginWithin}
 use Rattle.vx_flow.specs.Live.{LiveOn}
 use Rattle.vx_flow.specs.Rows.{lives}
@@ -14,4 +15,4 @@ live_on-requires c =
     subst (λ n. BeginWithin n c.in_ok-routes.routes) many (subst (λ rs. BeginWithin (length (routes c.args.graph.now)) rs) (sym c.in_ok-routes.ensures) (begin_within c.args.graph.now))
 
 pub returns : goal.returns
-returns c = live_lists c.args.graph.now c.requires c.in_ok-rows.rows (λ b v. subst (λ rs. (lives c.in_ok-rows.rows b v ≡ true) ↔ LiveOn rs b v) c.in_ok-routes.ensures (c.in_ok-rows.ensures.exact b v))
+returns c = IfOk-weaker c.live_on.result _ _ (λ rows holds. live_lists c.args.graph.now c.requires rows (λ b v. subst (λ rs. (lives rows b v ≡ true) ↔ LiveOn rs b v) c.in_ok-routes.ensures (holds b v))) c.live_on.ensures.exact

@@ -1,5 +1,5 @@
 -- The words were read before all else, and reading them changed no file.
-use Rattle.std.proofs.Common.{IfSome, sym, subst, ◌∙◌, arith}
+use Rattle.std.proofs.Common.{IfSome, option_map, sym, subst, ◌∙◌, arith}
 use Rattle.std.proofs.lemmas.Result.{IfErr-weaker, IfOk-weaker}
 use Rattle.vx_words.specs.Spelling.{Spells}
 use Rattle.vx_files.specs.Effects.{effect_of}
@@ -11,7 +11,7 @@ use Rattle.vx_runs.proofs.sim.load.Goals as goal
 pub returns-in-Ok-clause-loaded : goal.returns-in-Ok-clause-loaded
 returns-in-Ok-clause-loaded g c =
     IfOk-weaker c.load_machine.result _ _
-    (λ loaded more. words_loaded (g.D.Depot.files c.args.depot.now) (g.D.Depot.files c.read_words.new.depot) c.args.words.now _ _ c.in-Ok.program (loaded_of loaded) c.in-Ok.ensures.same_files c.in-Ok.ensures.program more)
+    (λ loaded more. words_loaded (g.D.Depot.files c.args.depot.now) (g.D.Depot.files c.read_words.new.depot) c.args.words.now (option_map (λ s. s.now) c.args.machine) (option_map (λ s. s.now) c.args.input) c.in-Ok.program (loaded_of loaded) c.in-Ok.ensures.same_files c.in-Ok.ensures.program more)
     c.load_machine.ensures.loaded
 
 pub returns-in-Ok-clause-spells : goal.returns-in-Ok-clause-spells
@@ -24,11 +24,11 @@ pub returns-in-Ok-clause-stops : goal.returns-in-Ok-clause-stops
 returns-in-Ok-clause-stops g c =
     let depot = g.D.Depot in
     IfErr-weaker c.load_machine.result _ _
-    (λ status why. after_words c.args.words.now _ _ c.in-Ok.program
+    (λ status why. after_words c.args.words.now (option_map (λ s. s.now) c.args.machine) (option_map (λ s. s.now) c.args.input) c.in-Ok.program
     (effect_of depot.files depot.failed_reads depot.failed_replaces c.read_words.new.depot c.load_machine.new.depot)
     (effect_of depot.files depot.failed_reads depot.failed_replaces c.args.depot.now c.load_machine.new.depot)
     status
-    (since_read _ _ _ _ _ _ _ _ _ c.in-Ok.ensures.same_files c.in-Ok.ensures.reads_never_fall c.in-Ok.ensures.replaces_never_fall) c.in-Ok.ensures.program why)
+    (since_read (depot.files c.args.depot.now) (depot.files c.read_words.new.depot) (depot.files c.load_machine.new.depot) (depot.failed_reads c.args.depot.now) (depot.failed_reads c.read_words.new.depot) (depot.failed_reads c.load_machine.new.depot) (depot.failed_replaces c.args.depot.now) (depot.failed_replaces c.read_words.new.depot) (depot.failed_replaces c.load_machine.new.depot) c.in-Ok.ensures.same_files c.in-Ok.ensures.reads_never_fall c.in-Ok.ensures.replaces_never_fall) c.in-Ok.ensures.program why)
     c.load_machine.ensures.stops
 
 pub returns-in-Err-clause-stops : goal.returns-in-Err-clause-stops

@@ -11,7 +11,7 @@ use Rattle.vx_runs.proofs.sim.load_machine.Goals as goal
 pub returns-in-Ok-clause-loaded : goal.returns-in-Ok-clause-loaded
 returns-in-Ok-clause-loaded g c =
     IfOk-weaker c.load_input.result _ _
-    (λ loaded more. machine_loaded (g.D.Depot.files c.args.depot.now) (g.D.Depot.files c.machine_for.new.depot) c.args.program _ _ c.in-Ok.machine (loaded_of loaded) c.in-Ok.ensures.same_files c.in-Ok.ensures.machine more)
+    (λ loaded more. machine_loaded (g.D.Depot.files c.args.depot.now) (g.D.Depot.files c.machine_for.new.depot) c.args.program (option_map (λ s. s.now) c.args.machine) (option_map (λ s. s.now) c.args.input) c.in-Ok.machine (loaded_of loaded) c.in-Ok.ensures.same_files c.in-Ok.ensures.machine more)
     c.load_input.ensures.loaded
 
 pub returns-in-Ok-clause-default_machine : goal.returns-in-Ok-clause-default_machine
@@ -21,11 +21,11 @@ pub returns-in-Ok-clause-stops : goal.returns-in-Ok-clause-stops
 returns-in-Ok-clause-stops g c =
     let depot = g.D.Depot in
     IfErr-weaker c.load_input.result _ _
-    (λ status why. after_machine c.args.program _ _ c.in-Ok.machine
+    (λ status why. after_machine c.args.program (option_map (λ s. s.now) c.args.machine) (option_map (λ s. s.now) c.args.input) c.in-Ok.machine
     (effect_of depot.files depot.failed_reads depot.failed_replaces c.machine_for.new.depot c.load_input.new.depot)
     (effect_of depot.files depot.failed_reads depot.failed_replaces c.args.depot.now c.load_input.new.depot)
     status
-    (since_read _ _ _ _ _ _ _ _ _ c.in-Ok.ensures.same_files c.in-Ok.ensures.reads_never_fall c.in-Ok.ensures.replaces_never_fall) c.in-Ok.ensures.machine why)
+    (since_read (depot.files c.args.depot.now) (depot.files c.machine_for.new.depot) (depot.files c.load_input.new.depot) (depot.failed_reads c.args.depot.now) (depot.failed_reads c.machine_for.new.depot) (depot.failed_reads c.load_input.new.depot) (depot.failed_replaces c.args.depot.now) (depot.failed_replaces c.machine_for.new.depot) (depot.failed_replaces c.load_input.new.depot) c.in-Ok.ensures.same_files c.in-Ok.ensures.reads_never_fall c.in-Ok.ensures.replaces_never_fall) c.in-Ok.ensures.machine why)
     c.load_input.ensures.stops
 
 pub returns-in-Err-clause-stops : goal.returns-in-Err-clause-stops

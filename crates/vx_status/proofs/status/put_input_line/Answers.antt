@@ -1,10 +1,5 @@
--- The pieces of a line, one behind the other.
-use Rattle.std.proofs.Common.{◌∷◌, []}
-use Rattle.vx_status.proofs.Appending.{cut_before, fails, puts_behind}
+-- The number of the place is the one that is put.
 use Rattle.vx_status.proofs.status.put_input_line.Goals as goal
 
-pub returns-in_err-put_counted : goal.returns-in_err-put_counted
-returns-in_err-put_counted g c = rw c.from.ensures at (fails _ _ c.from_residual.ensures.0 (cut_before _ (10 ∷ []) c.in_err-put_counted.ensures))
-
 pub returns : goal.returns
-returns g c = rw c.from.ensures at (puts_behind _ _ _ c.in_ok-put_counted.ensures c.put.ensures)
+returns g c = rw c.from.ensures at c.put_counted_line.ensures

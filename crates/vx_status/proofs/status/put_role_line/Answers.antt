@@ -1,14 +1,10 @@
 -- The pieces of a line, one behind the other.
 use Rattle.std.proofs.Common.{◌∷◌, []}
-use Rattle.vx_status.specs.Status.{role_name}
 use Rattle.vx_status.proofs.Appending.{cut_before, fails, puts_behind}
 use Rattle.vx_status.proofs.status.put_role_line.Goals as goal
 
-pub returns-in_err-put : goal.returns-in_err-put
-returns-in_err-put g c = fails _ _ c.from_residual.ensures.0 (cut_before _ (10 ∷ []) (cut_before _ (role_name c.args.role) c.in_err-put.ensures))
-
-pub returns-in_err-put_text : goal.returns-in_err-put_text
-returns-in_err-put_text g c = rw c.role_name.ensures at (fails _ _ c.from_residual-in_err-put_text.ensures.0 (cut_before _ (10 ∷ []) (puts_behind _ _ _ c.in_ok-put.ensures c.in_err-put_text.ensures)))
+pub returns-in_err-put_named : goal.returns-in_err-put_named
+returns-in_err-put_named g c = rw c.role_name.ensures at (fails _ _ c.from_residual.ensures.0 (cut_before _ (10 ∷ []) c.in_err-put_named.ensures))
 
 pub returns : goal.returns
-returns g c = rw c.role_name.ensures at (puts_behind _ _ _ (puts_behind _ _ _ c.in_ok-put.ensures c.in_ok-put_text.ensures) c.put-2.ensures)
+returns g c = rw c.role_name.ensures at (puts_behind _ _ _ c.in_ok-put_named.ensures c.put.ensures)

@@ -1,18 +1,14 @@
 -- The pieces of a line, one behind the other.
-use Rattle.std.proofs.Common.{◌∷◌, []}
+use Rattle.std.proofs.Common.{◌++◌, ◌∷◌, [], append_assoc, sym}
 use Rattle.std.specs.Prelude.{codes}
-use Rattle.vx_status.specs.Status.{counted, reason_name}
-use Rattle.vx_status.proofs.Appending.{cut_before, fails, puts_behind}
+use Rattle.vx_status.specs.Status.{counted}
+use Rattle.vx_status.proofs.Appending.{cut_before, fails, puts_as, puts_behind}
 use Rattle.vx_status.proofs.status.put_stuck_line.Goals as goal
 
-pub returns-in_err-put : goal.returns-in_err-put
-returns-in_err-put g c = fails _ _ c.from_residual.ensures.0 (cut_before _ (10 ∷ []) (cut_before _ (counted (codes " at word ") c.args.place) (cut_before _ (reason_name c.args.reason) c.in_err-put.ensures)))
-
-pub returns-in_err-put_text : goal.returns-in_err-put_text
-returns-in_err-put_text g c = rw c.reason_name.ensures at (fails _ _ c.from_residual-in_err-put_text.ensures.0 (cut_before _ (10 ∷ []) (cut_before _ (counted (codes " at word ") c.args.place) (puts_behind _ _ _ c.in_ok-put.ensures c.in_err-put_text.ensures))))
-
-pub returns-in_err-put_counted : goal.returns-in_err-put_counted
-returns-in_err-put_counted g c = rw (c.reason_name.ensures, c.from.ensures) at (fails _ _ c.from_residual-in_err-put_counted.ensures.0 (cut_before _ (10 ∷ []) (puts_behind _ _ _ (puts_behind _ _ _ c.in_ok-put.ensures c.in_ok-put_text.ensures) c.in_err-put_counted.ensures)))
+pub returns-in_err-put_named : goal.returns-in_err-put_named
+returns-in_err-put_named g c = rw c.reason_name.ensures at (fails _ _ c.from_residual.ensures.0 (cut_before _ (10 ∷ []) (cut_before _ (counted (codes " at word ") c.args.place) c.in_err-put_named.ensures)))
 
 pub returns : goal.returns
-returns g c = rw (c.reason_name.ensures, c.from.ensures) at (puts_behind _ _ _ (puts_behind _ _ _ (puts_behind _ _ _ c.in_ok-put.ensures c.in_ok-put_text.ensures) c.in_ok-put_counted.ensures) c.put-2.ensures)
+returns g c =
+    let whole = puts_behind _ _ _ c.in_ok-put_named.ensures c.put_counted_line.ensures in
+    rw (c.reason_name.ensures, c.from.ensures) at (puts_as (sym (append_assoc (codes "stuck " ++ c.reason_name.result.now) (counted (codes " at word ") c.from.result) (10 ∷ []))) whole)

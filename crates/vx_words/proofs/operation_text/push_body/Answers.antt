@@ -2,7 +2,7 @@
 use Rattle.std.proofs.Common.{◌++◌, codes, refl, ap, sym}
 use Rattle.std.specs.Prelude.{decimal}
 use Rattle.vx_words.specs.Spelling.{branch_on_text, compute_text, general_text, label_text, select_text, source_text}
-use Rattle.vx_words.proofs.Pieces.{put_named, put_whole}
+use Rattle.vx_words.proofs.Pieces.{put_behind, put_named, put_whole, three_at_once, two_at_once}
 use Rattle.vx_words.proofs.operation_text.push_body.Goals as goal
 
 pub returns-in-Compute : goal.returns-in-Compute
@@ -46,3 +46,20 @@ returns-in-EndByTrap c = put_named c.push_named_number-in-EndByTrap.result c.arg
 
 pub returns-in-Halt : goal.returns-in-Halt
 returns-in-Halt c = put_named c.push_named_source-in-Halt.result c.args.out.now.items _ (codes "halt ") (source_text c.in-Halt.from) c.args.operation _ c.in-Halt.is refl c.push_named_source-in-Halt.ensures
+
+pub returns-in_ok-push_general_to-in-Move : goal.returns-in_ok-push_general_to-in-Move
+returns-in_ok-push_general_to-in-Move c =
+    let old = c.args.out.now.items in
+    let to = general_text c.in-Move.to in
+    let from = source_text c.in-Move.from in
+    let front = codes "mov " ++ to ++ codes " = " in
+    let mid = three_at_once old _ (codes "mov ") to (codes " = ") c.in_ok-push_general_to-in-Move.ensures in
+    put_whole c.push_source.result old _ (front ++ from) c.args.operation _ c.in-Move.is refl (put_behind c.push_source.result old _ _ front from mid c.push_source.ensures)
+
+pub returns-in_ok-push_named_general-in-FromLink : goal.returns-in_ok-push_named_general-in-FromLink
+returns-in_ok-push_named_general-in-FromLink c =
+    let old = c.args.out.now.items in
+    let to = general_text c.in-FromLink.to in
+    let front = codes "mfl " ++ to in
+    let mid = two_at_once old _ (codes "mfl ") to c.in_ok-push_named_general-in-FromLink.ensures in
+    put_whole c.push_bytes-in-FromLink.result old _ (front ++ codes " = $l0.0") c.args.operation _ c.in-FromLink.is refl (put_behind c.push_bytes-in-FromLink.result old _ _ front (codes " = $l0.0") mid c.push_bytes-in-FromLink.ensures)

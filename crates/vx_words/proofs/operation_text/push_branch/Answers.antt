@@ -1,7 +1,7 @@
 -- The pieces stand one behind the other.
 use Rattle.std.proofs.Common.{◌++◌, codes}
 use Rattle.std.specs.Prelude.{decimal}
-use Rattle.vx_words.proofs.Pieces.{put_behind, two_put}
+use Rattle.vx_words.proofs.Pieces.{put_two_behind, two_at_once}
 use Rattle.vx_words.proofs.operation_text.push_branch.Goals as goal
 
 pub returns : goal.returns
@@ -9,6 +9,5 @@ returns c =
     let old = c.args.out.now.items in
     let name = codes "$b" in
     let cluster = decimal c.args.register.cluster in
-    let two = two_put old _ _ name cluster c.in_ok-push_bytes.ensures c.in_ok-push_number.ensures in
-    let three = two_put old _ _ (name ++ cluster) (codes ".") two c.in_ok-push_bytes-2.ensures in
-    put_behind c.push_number-2.result old _ _ (name ++ cluster ++ codes ".") (decimal c.args.register.number) three c.push_number-2.ensures
+    let two = two_at_once old _ name cluster c.in_ok-push_named_number.ensures in
+    put_two_behind c.push_named_number-2.result old _ _ (name ++ cluster) (codes ".") (decimal c.args.register.number) two c.push_named_number-2.ensures

@@ -2,7 +2,7 @@
 use Rattle.std.proofs.Common.{◌≡◌, ◌∙◌, ◌++◌, codes, ap, sym}
 use Rattle.std.specs.Prelude.{decimal, if◌then◌else◌}
 use Rattle.vx_words.specs.Spelling.{label_text}
-use Rattle.vx_words.proofs.Pieces.{put_behind, two_put}
+use Rattle.vx_words.proofs.Pieces.{put_two_behind, two_at_once}
 use Rattle.vx_words.proofs.operation_text.push_branch_on.Goals as goal
 use Rattle.vx_words.proofs.operation_text.push_branch_on.Goals.{then-taken_at_one, else-taken_at_one}
 
@@ -15,7 +15,5 @@ returns c =
       | then-taken_at_one w ↦ ap (λ b. b.now) w.name-is ∙ ap (λ b. if b then codes "br $b0." else codes "brf $b0.") (sym w.if-taken_at_one.true)
       | else-taken_at_one w ↦ ap (λ b. b.now) w.name-is ∙ ap (λ b. if b then codes "br $b0." else codes "brf $b0.") (sym w.if-taken_at_one.false)
     ] in
-    let first = c.in_ok-push_bytes.ensures ∙ ap (λ l. old ++ l) is in
-    let two = two_put old _ _ name test first c.in_ok-push_number.ensures in
-    let three = two_put old _ _ (name ++ test) (codes ", ") two c.in_ok-push_bytes-2.ensures in
-    put_behind c.push_label.result old _ _ (name ++ test ++ codes ", ") (label_text c.args.target) three c.push_label.ensures
+    let two = two_at_once old _ c.if-taken_at_one.name.now test c.in_ok-push_named_number.ensures ∙ ap (λ l. old ++ (l ++ test)) is in
+    put_two_behind c.push_named_label.result old _ _ (name ++ test) (codes ", ") (label_text c.args.target) two c.push_named_label.ensures
