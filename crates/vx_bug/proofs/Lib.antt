@@ -20,3 +20,4 @@ pub mod Grounds
 pub mod Besides
 pub mod ExampleRows
 pub mod Pruned
+pub mod Counted

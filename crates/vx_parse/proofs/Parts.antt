@@ -173,7 +173,7 @@ pub misfit_number : {outer : List Part} {ts : List Token} {i k : ℕ} {front : D
     → Stops outer (drop i ts) ts k 0 s
 misfit_number {ts} {ps} {j} {l} b s m = let f = b.fits in b.stops s (stops_misfit ANumber ps ts j l 0 s (λ p e. cc) b.within (omega arith) m)
 
-no_memory : (ps : List Part) (here ts : List Token) (k left : ℕ) (s : Stop) → s ≡ NoMemory → Stops ps here ts k left s
+pub no_memory : (ps : List Part) (here ts : List Token) (k left : ℕ) (s : Stop) → s ≡ NoMemory → Stops ps here ts k left s
 no_memory ps here ts k left s e = subst (λ z. Stops ps here ts k left z) (sym e) tt
 
 pub misfit_name : {outer : List Part} {ts : List Token} {i k : ℕ} {front : Derivation Row → Derivation Row} {ps : List Part} {j l : ℕ} → Before outer ts i k front (AName ∷ ps) j l → (s : Stop) → (s ≡ NoMemory) ⊎ Misfit AName ts j s

@@ -1,6 +1,7 @@
 -- A statement by its code: what is made of it, what is known behind it, and its faults.
-use Rattle.std.proofs.Common.{◌≡◌, Bool, List, ◌++◌, ap, sym, ◌∙◌, Option, Result, Ok, Err, IfOk, OnOk, Box, Global}
+use Rattle.std.proofs.Common.{◌≡◌, Bool, false, true, List, ◌++◌, ap, sym, ◌∙◌, Option, Result, Ok, Err, IfOk, OnOk, Box, Global}
 use Rattle.vx_ast.specs.declared.tree.Gives.{Gives}
+use Rattle.vx_ast.specs.declared.tree.Gives.TheVariants.{Int}
 use Rattle.vx_ast.specs.declared.tree.Statement.{Statement as Made}
 use Rattle.vx_ast.specs.declared.syntax.Statement.{Statement as Written}
 use Rattle.vx_ast.specs.declared.names.Fault.{Fault}
@@ -8,7 +9,7 @@ use Rattle.vx_ast.specs.Syntax as syntax
 use Rattle.vx_ast.specs.Syntax.{Phrase, Code}
 use Rattle.vx_ast.specs.Tree as tree
 use Rattle.vx_ast.specs.Tree.{Tree, One}
-use Rattle.vx_ast.specs.Faults.{code_faults, least, phrase_faults}
+use Rattle.vx_ast.specs.Faults.{code_faults, least, phrase_faults, test_faults}
 use Rattle.vx_ast.specs.Resolved.{code_in, tree_in}
 use Rattle.vx_ast.specs.Scopes.{Environment, inside, outside, behind}
 use Rattle.vx_ast.specs.SyntaxView.{code_of}
@@ -19,6 +20,11 @@ use Rattle.vx_types.proofs.Leasts.{least_append}
 pub holds_on : {T E : Type 0} {P : Type 0} (r : Result T E) → P → OnOk r P
 holds_on (Ok x) p = p
 holds_on (Err e) p = tt
+
+-- what is known of a value is known of what is there
+pub known_on : {T E : Type 0} {P Q : T → Type 0} (r : Result T E) → ((x : T) → P x → Q x) → IfOk r P → IfOk r Q
+known_on (Ok x) f p = f x p
+known_on (Err e) f p = tt
 
 -- what a call made of a statement with this code
 pub made_by : {E : Type 0} (r : Result Made E) (env : Environment) (s : Written) (k : Code) → code_of s ≡ k → IfOk r (λ m. view.code_of m ≡ code_in env k) → IfOk r (λ m. view.code_of m ≡ code_in env (code_of s))
@@ -81,3 +87,23 @@ pub for_made : (first before : tree.Code) (test asked : Option (Tree One)) (step
 for_made first before test asked step next body rest f t s b =
     ap (λ (z : tree.Code). tree.For z test step body) f ∙ ap (λ (z : Option (Tree One)). tree.For before z step body) t
     ∙ ap (λ (z : tree.Code). tree.For before asked z body) s ∙ ap (λ (z : tree.Code). tree.For before asked next z) b
+
+-- faults that are those of every function
+pub faults_alike : {T E : Type 0} (r : Result T E) (first after : Option Fault) (xs ys : List Fault) → xs ≡ ys → OnOk r (after ≡ least first ys) → OnOk r (after ≡ least first xs)
+faults_alike (Ok x) first after xs ys e h = h ∙ ap (λ (z : List Fault). least first z) (sym e)
+faults_alike (Err x) first after xs ys e h = tt
+
+-- the faults of the head of a `for` and of its body behind it
+pub for_faults : (gives : Gives) (start step body : Code) (test : Option (Phrase One)) (env entered middle : Environment) (first after last : Option Fault) → entered ≡ inside env → middle ≡ behind start entered
+    → after ≡ least (least (least first (code_faults Int false entered start)) (test_faults (behind start entered) test)) (code_faults Int false (behind start entered) step)
+    → last ≡ least after (code_faults gives true (inside middle) body)
+    → last ≡ least first (code_faults Int false (inside env) start ++ (test_faults (behind start (inside env)) test ++ (code_faults Int false (behind start (inside env)) step ++ code_faults gives true (inside (behind start (inside env))) body)))
+for_faults gives start step body test env entered middle first after last e m a l =
+    let known = behind start (inside env) in
+    let xs : List Fault = code_faults Int false (inside env) start in
+    let ys : List Fault = test_faults known test in
+    let zs : List Fault = code_faults Int false known step in
+    let ws : List Fault = code_faults gives true (inside known) body in
+    l ∙ ap (λ (z : Environment). least after (code_faults gives true (inside z) body)) (m ∙ ap (λ (z : Environment). behind start z) e) ∙ ap (λ (z : Option Fault). least z ws) a
+    ∙ ap (λ (z : Environment). least (least (least (least first (code_faults Int false z start)) (test_faults (behind start z) test)) (code_faults Int false (behind start z) step)) ws) e
+    ∙ sym (least_append (least (least first xs) ys) zs ws) ∙ sym (least_append (least first xs) ys (zs ++ ws)) ∙ sym (least_append first xs (ys ++ (zs ++ ws)))

@@ -12,7 +12,7 @@ use Rattle.vx_ast.specs.declared.names.Fault.{Fault}
 use Rattle.vx_ast.specs.Tree as tree
 use Rattle.vx_ast.specs.Faults.{code_faults, least}
 use Rattle.vx_ast.specs.Resolved.{code_in}
-use Rattle.vx_ast.specs.Scopes.{Environment, behind}
+use Rattle.vx_ast.specs.Scopes.{Environment, behind, inside}
 use Rattle.vx_ast.specs.SyntaxView.{item_of, items_of, first_of, step_of}
 use Rattle.vx_ast.specs.View as view
 use Rattle.vx_types.specs.Onto.{items_onto}
@@ -72,3 +72,10 @@ first_alike gives loops env (Items is) = items_alike gives loops env is.items
 pub step_alike : (gives : Gives) (loops : Bool) (env : Environment) (s : Option ASimple) → code_faults gives loops env (step_of s) ≡ code_faults Int false env (step_of s)
 step_alike gives loops env None = refl
 step_alike gives loops env (Some a) = refl
+
+pub for_alike : (gives : Gives) (loops : Bool) (env : Environment) (first : First) (test : List Fault) (step : Option ASimple) (body : List Fault)
+    → code_faults gives loops (inside env) (first_of first) ++ (test ++ (code_faults gives loops (behind (first_of first) (inside env)) (step_of step) ++ body))
+    ≡ code_faults Int false (inside env) (first_of first) ++ (test ++ (code_faults Int false (behind (first_of first) (inside env)) (step_of step) ++ body))
+for_alike gives loops env first test step body =
+    ap (λ (z : List Fault). z ++ (test ++ (code_faults gives loops (behind (first_of first) (inside env)) (step_of step) ++ body))) (first_alike gives loops (inside env) first)
+    ∙ ap (λ (z : List Fault). code_faults Int false (inside env) (first_of first) ++ (test ++ (z ++ body))) (step_alike gives loops (behind (first_of first) (inside env)) step)

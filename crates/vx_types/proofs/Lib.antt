@@ -10,5 +10,6 @@ pub mod Numbered
 pub mod SuitsCode
 pub mod SuitsProgram
 pub mod Wholes
+mod Weights
 mod FaultRows
 pub mod Firsts

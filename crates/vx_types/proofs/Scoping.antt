@@ -103,3 +103,18 @@ pub leaves_for : (first s : Code) (env middle : Environment) → middle ≡ behi
 leaves_for first s env middle e =
     let k = subst (λ (z : Environment). Keeps (inside env) z) (sym e) (behind_keeps first (inside env)) in
     leaves env (outside middle (behind s (inside middle))) (within_keeps env middle (behind s (inside middle)) k (behind_keeps s (inside middle)))
+
+-- a scope that is left, by what was known where it was entered
+pub block_left : (s : Code) (env entered inner left : Environment) (count : ℕ) → count ≡ length env.locals → entered ≡ inside env → inner ≡ behind s entered
+    → left ≡ (record inner { depth = inner.depth - 1; locals = drop (length inner.locals - count) inner.locals }) → left ≡ outside env (behind s (inside env))
+block_left s env entered inner left count n e i l =
+    l ∙ ap (λ (z : ℕ). record inner { depth = inner.depth - 1; locals = drop (length inner.locals - z) inner.locals }) n
+    ∙ ap (λ (z : Environment). record z { depth = z.depth - 1; locals = drop (length z.locals - length env.locals) z.locals }) (i ∙ ap (λ (z : Environment). behind s z) e) ∙ leaves_block s env
+
+pub for_left : (first s : Code) (env entered middle inner left : Environment) (count : ℕ) → count ≡ length env.locals → entered ≡ inside env → middle ≡ behind first entered → inner ≡ outside middle (behind s (inside middle))
+    → left ≡ (record inner { depth = inner.depth - 1; locals = drop (length inner.locals - count) inner.locals }) → left ≡ outside env (behind s (inside (behind first (inside env))))
+for_left first s env entered middle inner left count n e m i l =
+    let b : middle ≡ behind first (inside env) = m ∙ ap (λ (z : Environment). behind first z) e in
+    l ∙ ap (λ (z : ℕ). record inner { depth = inner.depth - 1; locals = drop (length inner.locals - z) inner.locals }) n
+    ∙ ap (λ (z : Environment). record z { depth = z.depth - 1; locals = drop (length z.locals - length env.locals) z.locals }) i ∙ leaves_for first s env middle b
+    ∙ ap (λ (z : Environment). outside env (behind s (inside z))) b

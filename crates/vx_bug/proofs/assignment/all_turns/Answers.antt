@@ -29,3 +29,6 @@ returns-clause-taken c =
     subst (λ (x : List ℕ). TurnsTaken m t first (listed t) x c.in_ok-estimates.estimates last) (sym chosen)
     (subst (λ (x : List ℕ). TurnsTaken m t first (listed t) taken.chosen.items x last) (sym estimates)
     (subst (λ (x : List ℕ). TurnsTaken m t first x taken.chosen.items taken.estimates.items last) order c.in_ok-taken.ensures))
+
+pub returns-clause-order : goal.returns-clause-order
+returns-clause-order c = c.in_ok-order.ensures

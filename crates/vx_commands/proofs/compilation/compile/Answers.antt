@@ -13,7 +13,7 @@ returns-in-Ok-clause-answers g c =
     (effect_of depot.files depot.failed_reads depot.failed_replaces c.read_through.new.depot c.compile_read-status.new.depot)
     (effect_of depot.files depot.failed_reads depot.failed_replaces c.args.depot.now c.compile_read-status.new.depot)
     c.compile_read-status.result
-    (since_read _ _ _ _ _ _ _ _ _ c.in-Ok.ensures.same_files c.in-Ok.ensures.reads_never_fall c.in-Ok.ensures.replaces_never_fall)
+    (since_read (depot.files c.args.depot.now) (depot.files c.read_through.new.depot) (depot.files c.compile_read-status.new.depot) (depot.failed_reads c.args.depot.now) (depot.failed_reads c.read_through.new.depot) (depot.failed_reads c.compile_read-status.new.depot) (depot.failed_replaces c.args.depot.now) (depot.failed_replaces c.read_through.new.depot) (depot.failed_replaces c.compile_read-status.new.depot) c.in-Ok.ensures.same_files c.in-Ok.ensures.reads_never_fall c.in-Ok.ensures.replaces_never_fall)
     c.in-Ok.ensures.program c.compile_read-status.ensures.answers
 
 pub returns-in-Err-clause-answers : goal.returns-in-Err-clause-answers

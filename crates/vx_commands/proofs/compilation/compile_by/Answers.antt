@@ -13,5 +13,5 @@ returns-in-Ok-clause-answers g c =
     (effect_of depot.files depot.failed_reads depot.failed_replaces c.machine_for.new.depot c.compile_for.new.depot)
     (effect_of depot.files depot.failed_reads depot.failed_replaces c.args.depot.now c.compile_for.new.depot)
     c.compile_for.result
-    (since_read _ _ _ _ _ _ _ _ _ c.in-Ok.ensures.same_files c.in-Ok.ensures.reads_never_fall c.in-Ok.ensures.replaces_never_fall)
+    (since_read (depot.files c.args.depot.now) (depot.files c.machine_for.new.depot) (depot.files c.compile_for.new.depot) (depot.failed_reads c.args.depot.now) (depot.failed_reads c.machine_for.new.depot) (depot.failed_reads c.compile_for.new.depot) (depot.failed_replaces c.args.depot.now) (depot.failed_replaces c.machine_for.new.depot) (depot.failed_replaces c.compile_for.new.depot) c.in-Ok.ensures.same_files c.in-Ok.ensures.reads_never_fall c.in-Ok.ensures.replaces_never_fall)
     c.in-Ok.ensures.machine c.compile_for.ensures.answers

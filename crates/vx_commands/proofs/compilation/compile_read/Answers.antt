@@ -15,7 +15,7 @@ returns-in-Ok-clause-answers g c =
     (effect_of depot.files depot.failed_reads depot.failed_replaces c.counts_for.new.depot c.compile_by.new.depot)
     (effect_of depot.files depot.failed_reads depot.failed_replaces c.args.depot.now c.compile_by.new.depot)
     c.compile_by.result
-    (since_read _ _ _ _ _ _ _ _ _ c.in-Ok.ensures.same_files c.in-Ok.ensures.reads_never_fall c.in-Ok.ensures.replaces_never_fall)
+    (since_read (depot.files c.args.depot.now) (depot.files c.counts_for.new.depot) (depot.files c.compile_by.new.depot) (depot.failed_reads c.args.depot.now) (depot.failed_reads c.counts_for.new.depot) (depot.failed_reads c.compile_by.new.depot) (depot.failed_replaces c.args.depot.now) (depot.failed_replaces c.counts_for.new.depot) (depot.failed_replaces c.compile_by.new.depot) c.in-Ok.ensures.same_files c.in-Ok.ensures.reads_never_fall c.in-Ok.ensures.replaces_never_fall)
     c.in-Ok.ensures.counts c.compile_by.ensures.answers
 
 pub returns-in-Err-clause-answers : goal.returns-in-Err-clause-answers

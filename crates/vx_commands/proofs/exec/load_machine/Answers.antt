@@ -12,7 +12,7 @@ use Rattle.vx_runs.proofs.Since.{since_read}
 use Rattle.vx_commands.proofs.exec.load_machine.Goals as goal
 
 pub returns-in-Ok-clause-only_reads : goal.returns-in-Ok-clause-only_reads
-returns-in-Ok-clause-only_reads g c = read_on _ _ _ _ _ _ _ _ _ c.in-Ok.ensures.same_files c.in-Ok.ensures.reads_never_fall c.in-Ok.ensures.replaces_never_fall c.load_input.ensures.only_reads
+returns-in-Ok-clause-only_reads g c = let depot = g.D.Depot in read_on (depot.files c.args.depot.now) (depot.files c.machine_for.new.depot) (depot.files c.load_input.new.depot) (depot.failed_reads c.args.depot.now) (depot.failed_reads c.machine_for.new.depot) (depot.failed_reads c.load_input.new.depot) (depot.failed_replaces c.args.depot.now) (depot.failed_replaces c.machine_for.new.depot) (depot.failed_replaces c.load_input.new.depot) c.in-Ok.ensures.same_files c.in-Ok.ensures.reads_never_fall c.in-Ok.ensures.replaces_never_fall c.load_input.ensures.only_reads
 
 pub returns-in-Err-clause-only_reads : goal.returns-in-Err-clause-only_reads
 returns-in-Err-clause-only_reads g c = record { files = c.in-Err.ensures.same_files; reads = c.in-Err.ensures.reads_never_fall; replaces = c.in-Err.ensures.replaces_never_fall }
@@ -32,7 +32,7 @@ returns-in-Ok-clause-stops g c =
     (effect_of depot.files depot.failed_reads depot.failed_replaces c.machine_for.new.depot c.load_input.new.depot)
     (effect_of depot.files depot.failed_reads depot.failed_replaces c.args.depot.now c.load_input.new.depot)
     status
-    (since_read _ _ _ _ _ _ _ _ _ c.in-Ok.ensures.same_files c.in-Ok.ensures.reads_never_fall c.in-Ok.ensures.replaces_never_fall) c.in-Ok.ensures.machine why)
+    (since_read (depot.files c.args.depot.now) (depot.files c.machine_for.new.depot) (depot.files c.load_input.new.depot) (depot.failed_reads c.args.depot.now) (depot.failed_reads c.machine_for.new.depot) (depot.failed_reads c.load_input.new.depot) (depot.failed_replaces c.args.depot.now) (depot.failed_replaces c.machine_for.new.depot) (depot.failed_replaces c.load_input.new.depot) c.in-Ok.ensures.same_files c.in-Ok.ensures.reads_never_fall c.in-Ok.ensures.replaces_never_fall) c.in-Ok.ensures.machine why)
     c.load_input.ensures.stops
 
 pub returns-in-Err-clause-stops : goal.returns-in-Err-clause-stops

@@ -1,4 +1,4 @@
-use Rattle.std.proofs.Common.{◌≡◌, ◌≤◌, ◌<◌, ◌+◌, ◌-◌, suc, max, [], ◌∷◌, ◌++◌, length, drop, Some, refl, sym, ap, ◌∙◌, subst, arith, rules, w32, FitsSigned}
+use Rattle.std.proofs.Common.{◌≡◌, ◌≤◌, ◌<◌, ◌+◌, ◌-◌, suc, max, [], ◌∷◌, ◌++◌, length, drop, Some, refl, sym, ap, ◌∙◌, subst, arith, rules, w32, FitsSigned, IfOk, IfErr}
 use Rattle.std.proofs.lemmas.Int.{to_z-of_z}
 use Rattle.vx_ast.specs.declared.token.Mark.TheVariants as marks
 use Rattle.vx_ast.specs.declared.token.TokenKind.TheVariants as kinds
@@ -14,7 +14,8 @@ use Rattle.vx_parse.specs.Reading.{next_kind, Stops, IsOperand, Passed}
 use Rattle.vx_parse.proofs.HandedOn.{handed_on}
 use Rattle.vx_parse.proofs.Views.{view-Call}
 use Rattle.vx_parse.proofs.Expressions.{map_ok, map_err, enclosed_inner, enclosed_end, bracket_opens, call_opens, nested_opens, unary_opens, nested_is, element_is, call_is, use_is, no_rest, number_is, name_is, name_stops, no_primary, unary_is, primary_is, primary_stops, operates, rest_is_none, rest_too_deep, right_stops, more_is, more_stops, level_is, level_first, level_then, test_is, test_stops, asks, choice_too_deep, chosen_stops, colon_stops, other_stops, choice_is}
-use Rattle.vx_parse.proofs.Measures.{further_falls, rank_falls}
+use Rattle.vx_parse.proofs.Parts.{no_memory}
+use Rattle.vx_parse.proofs.Measures.{further_falls, rank_falls, deeper_fits, depth_fits, height_fits, behind_place, depth_within}
 use Rattle.vx_parse.proofs.Steps.{stops_no_phrase, too_deep, stops_opened}
 use Rattle.vx_parse.proofs.Arguments.{no_arguments, first_stops, others_stop, arguments_are, gathered, comma_opens, next_stops, gathers_more}
 use Rattle.vx_parse.proofs.expression.+expressions.Goals as goal
@@ -176,9 +177,8 @@ pub read_more-read_expression-requires : goal.read_more-read_expression-requires
 read_more-read_expression-requires t c =
     let q : next_kind (drop c.more.all.next c.args.tokens.now) ≡ kinds.Mark marks.Comma = sym c.kind_at.ensures ∙ c.is_mark.ensures.yes c.if-not-is_mark.false in
     let o = comma_opens c.args.tokens.now c.more.all.next c.requires.ended c.more.invariant.within q in
-    let w : c.more.all.next + 1 < length c.args.tokens.now = o.passed.within in
-    let v : c.args.before.next ≤ c.more.all.next = c.more.invariant.further in
-    search rules
+    let h = behind_place c.args.before.next c.more.all.next c.more.invariant.further in
+    (further_falls (length c.args.tokens.now) c.args.before.next (c.more.all.next + 1) 20 19 t c.decreases c.requires.within h (omega arith), (c.requires.ended, (o.passed.within, depth_within c.args.depth c.args.before.height c.requires.depth)))
 
 pub read_more-returns-in_err-next-clause-stop : goal.read_more-returns-in_err-next-clause-stop
 read_more-returns-in_err-next-clause-stop t c =
@@ -470,3 +470,99 @@ read_primary-read_name-requires-clause-ended t c = c.requires.ended
 
 pub read_primary-read_name-requires-clause-within : goal.read_primary-read_name-requires-clause-within
 read_primary-read_name-requires-clause-within t c = c.requires.within
+
+pub read_unary-kind_at-requires : goal.read_unary-kind_at-requires
+read_unary-kind_at-requires t c = c.requires.within
+
+pub read_primary-kind_at-kind-requires : goal.read_primary-kind_at-kind-requires
+read_primary-kind_at-kind-requires t c = c.requires.within
+
+pub read_named-kind_at-kind-requires : goal.read_named-kind_at-kind-requires
+read_named-kind_at-kind-requires t c = c.requires.within
+
+pub read_arguments-kind_at-requires : goal.read_arguments-kind_at-requires
+read_arguments-kind_at-requires t c = c.requires.within
+
+pub read_behind-kind_at-kind-requires : goal.read_behind-kind_at-kind-requires
+read_behind-kind_at-kind-requires t c = c.requires.within
+
+pub read_more-kind_at-requires : goal.read_more-kind_at-requires
+read_more-kind_at-requires t c = c.more.invariant.within
+
+pub read_expression-kind_at-requires : goal.read_expression-kind_at-requires
+read_expression-kind_at-requires t c = c.in_ok-test.ensures.ok.within
+
+pub read_expression-returns-in_err-condition-clause-stop : goal.read_expression-returns-in_err-condition-clause-stop
+read_expression-returns-in_err-condition-clause-stop t c = handed_on _ _ _ c.from_residual-in_err-condition.ensures.1 (no_memory _ _ _ _ _ _ c.in_err-condition.ensures.stop)
+
+pub read_expression-returns-in_err-taken-clause-stop : goal.read_expression-returns-in_err-taken-clause-stop
+read_expression-returns-in_err-taken-clause-stop t c = handed_on _ _ _ c.from_residual-in_err-taken.ensures.1 (no_memory _ _ _ _ _ _ c.in_err-taken.ensures.stop)
+
+pub read_expression-returns-in_err-left-clause-stop : goal.read_expression-returns-in_err-left-clause-stop
+read_expression-returns-in_err-left-clause-stop t c = handed_on _ _ _ c.from_residual-in_err-left.ensures.1 (no_memory _ _ _ _ _ _ c.in_err-left.ensures.stop)
+
+pub read_behind-returns-in_err-before-clause-stop : goal.read_behind-returns-in_err-before-clause-stop
+read_behind-returns-in_err-before-clause-stop t c = handed_on _ _ _ c.from_residual.ensures.1 (no_memory _ _ _ _ _ _ c.in_err-before.ensures.stop)
+
+pub read_behind-returns-in_err-behind-clause-stop : goal.read_behind-returns-in_err-behind-clause-stop
+read_behind-returns-in_err-behind-clause-stop t c = handed_on _ _ _ c.from_residual-in_err-behind.ensures.1 (no_memory _ _ _ _ _ _ c.in_err-behind.ensures.stop)
+
+pub read_unary-returns-in_err-boxed-in-Some-clause-stop : goal.read_unary-returns-in_err-boxed-in-Some-clause-stop
+read_unary-returns-in_err-boxed-in-Some-clause-stop t c = handed_on _ _ _ c.from_residual-in_err-boxed-in-Some.ensures.1 (no_memory _ _ _ _ _ _ c.in_err-boxed-in-Some.ensures.stop)
+
+pub read_index-returns-in_err-boxed-clause-stop : goal.read_index-returns-in_err-boxed-clause-stop
+read_index-returns-in_err-boxed-clause-stop t c = handed_on _ _ _ c.from_residual-in_err-boxed.ensures.1 (no_memory _ _ _ _ _ _ c.in_err-boxed.ensures.stop)
+
+pub read_arguments-returns-in_err-append-clause-stop : goal.read_arguments-returns-in_err-append-clause-stop
+read_arguments-returns-in_err-append-clause-stop t c = handed_on _ _ _ c.from_residual-in_err-append.ensures.1 (no_memory _ _ _ _ _ _ c.in_err-append.ensures.stop)
+
+pub read_more-returns-in_err-append-clause-stop : goal.read_more-returns-in_err-append-clause-stop
+read_more-returns-in_err-append-clause-stop t c = handed_on _ _ _ c.from_residual-in_err-append.ensures.1 (no_memory _ _ _ _ _ _ c.in_err-append.ensures.stop)
+
+pub read_named-returns-in_err-index-clause-stop : goal.read_named-returns-in_err-index-clause-stop
+read_named-returns-in_err-index-clause-stop t c = handed_on _ _ _ c.from_residual.ensures.1 c.in_err-index.ensures.stop
+
+pub read_named-returns-in_err-arguments-clause-stop : goal.read_named-returns-in_err-arguments-clause-stop
+read_named-returns-in_err-arguments-clause-stop t c = handed_on _ _ _ c.from_residual-in_err-arguments.ensures.1 c.in_err-arguments.ensures.stop
+
+pub read_level-returns-then-level-eq0-clause-stop : goal.read_level-returns-then-level-eq0-clause-stop
+read_level-returns-then-level-eq0-clause-stop t c = subst (λ n. IfErr c.read_unary.result (λ s. Stops (A (Level n) ∷ []) (drop c.args.place c.args.tokens.now) c.args.tokens.now c.args.depth 0 s)) (sym c.if-level-eq0.true) c.read_unary.ensures.stop
+
+pub read_level-returns-then-level-eq0-clause-ok : goal.read_level-returns-then-level-eq0-clause-ok
+read_level-returns-then-level-eq0-clause-ok t c = subst (λ n. IfOk c.read_unary.result (λ r. IsOperand (Level n) c.args.tokens.now c.args.place c.args.depth r)) (sym c.if-level-eq0.true) c.read_unary.ensures.ok
+
+pub read_expression-overflow_add-depth-2 : goal.read_expression-overflow_add-depth-2
+read_expression-overflow_add-depth-2 t c = deeper_fits c.args.depth c.requires.depth
+
+pub read_expression-overflow_add-depth-3 : goal.read_expression-overflow_add-depth-3
+read_expression-overflow_add-depth-3 t c = deeper_fits c.args.depth c.requires.depth
+
+pub read_primary-overflow_add-depth : goal.read_primary-overflow_add-depth
+read_primary-overflow_add-depth t c = deeper_fits c.args.depth c.requires.depth
+
+pub read_unary-overflow_add-depth : goal.read_unary-overflow_add-depth
+read_unary-overflow_add-depth t c = deeper_fits c.args.depth c.requires.depth
+
+pub read_index-overflow_add-depth : goal.read_index-overflow_add-depth
+read_index-overflow_add-depth t c = deeper_fits c.args.depth c.requires.depth
+
+pub read_called-overflow_add-depth : goal.read_called-overflow_add-depth
+read_called-overflow_add-depth t c = deeper_fits c.args.depth c.requires.depth
+
+pub read_expression-overflow_add-depth : goal.read_expression-overflow_add-depth
+read_expression-overflow_add-depth t c = depth_fits c.args.depth c.in_ok-test.test.height c.in_ok-test.ensures.ok.shallow
+
+pub read_behind-overflow_add-depth : goal.read_behind-overflow_add-depth
+read_behind-overflow_add-depth t c = depth_fits c.args.depth c.args.left.height c.requires.shallow
+
+pub read_behind-overflow_add-depth-2 : goal.read_behind-overflow_add-depth-2
+read_behind-overflow_add-depth-2 t c = deeper_fits c.args.depth (depth_within c.args.depth c.args.left.height c.requires.shallow)
+
+pub read_primary-overflow_add-result : goal.read_primary-overflow_add-result
+read_primary-overflow_add-result t c = height_fits c.args.depth c.in_ok-inner.inner.height c.in_ok-inner.ensures.ok.shallow
+
+pub read_unary-overflow_add-result : goal.read_unary-overflow_add-result
+read_unary-overflow_add-result t c = height_fits c.args.depth c.in_ok-operand-in-Some.operand.height c.in_ok-operand-in-Some.ensures.ok.shallow
+
+pub read_called-overflow_add-result : goal.read_called-overflow_add-result
+read_called-overflow_add-result t c = height_fits c.args.depth c.in_ok-arguments.arguments.height c.in_ok-arguments.ensures.ok.shallow

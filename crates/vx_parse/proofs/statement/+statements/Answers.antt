@@ -1,4 +1,4 @@
-use Rattle.std.proofs.Common.{◌≡◌, ◌≤◌, ◌<◌, ◌+◌, ◌++◌, false, [], ◌∷◌, length, drop, Some, refl, sym, ap, ◌∙◌, subst, arith}
+use Rattle.std.proofs.Common.{◌≡◌, ◌≤◌, ◌<◌, ◌+◌, ◌++◌, false, true, [], ◌∷◌, length, drop, Some, refl, sym, ap, ◌∙◌, subst, arith}
 use Rattle.vx_ast.specs.Syntax as syntax
 use Rattle.vx_ast.specs.declared.token.Keyword.TheVariants as words
 use Rattle.vx_ast.specs.declared.token.Mark.TheVariants as marks
@@ -6,16 +6,16 @@ use Rattle.vx_ast.specs.declared.token.TokenKind.TheVariants as kinds
 use Rattle.vx_ast.specs.declared.syntax.Statement as statements
 use Rattle.vx_ast.specs.SyntaxView as view
 use Rattle.vx_ast.specs.Phrases as phrases
-use Rattle.vx_ast.specs.Phrases.{ElsePart, Items, A, mark, word, parts_of}
+use Rattle.vx_ast.specs.Phrases.{ElsePart, Items, A, AName, Fits, mark, word, parts_of}
 use Rattle.vx_parse.specs.Choices.{begins_simple}
 use Rattle.vx_parse.specs.Reading.{next_kind}
 use Rattle.vx_parse.specs.Statements.{Test, Head, MeansAll, if_with}
 use Rattle.vx_parse.proofs.HandedOn.{handed_on}
 use Rattle.vx_parse.proofs.Tokens.{passes_word}
-use Rattle.vx_parse.proofs.Measures.{further_falls, rank_falls}
+use Rattle.vx_parse.proofs.Measures.{further_falls, rank_falls, deeper_fits}
 use Rattle.vx_parse.proofs.Steps.{too_deep}
 use Rattle.vx_parse.proofs.Expressions.{map_ok, map_err}
-use Rattle.vx_parse.proofs.Parts.{past_token, past_phrase, past_row, within_phrase, within_row, misfit}
+use Rattle.vx_parse.proofs.Parts.{past_token, past_phrase, past_row, within_phrase, within_row, misfit, no_memory}
 use Rattle.vx_parse.proofs.Loops.{continues_end, Gathers, gathers_none, gathers_next}
 use Rattle.vx_parse.proofs.Views.{view-Block}
 use Rattle.vx_parse.proofs.Begun.{no_statement}
@@ -463,3 +463,153 @@ read_statement-read_simple_statement-requires-clause-within t c = c.requires.wit
 
 pub read_while-read_test-requires-clause-ended : goal.read_while-read_test-requires-clause-ended
 read_while-read_test-requires-clause-ended t c = c.requires.ended
+
+pub read_statement-returns-in-Block-clause-ok : goal.read_statement-returns-in-Block-clause-ok
+read_statement-returns-in-Block-clause-ok t c = c.read_inner_block.ensures.ok
+
+pub read_statement-returns-in-Block-clause-stop : goal.read_statement-returns-in-Block-clause-stop
+read_statement-returns-in-Block-clause-stop t c = c.read_inner_block.ensures.stop
+
+pub read_statement-returns-in-Empty-clause-ok : goal.read_statement-returns-in-Empty-clause-ok
+read_statement-returns-in-Empty-clause-ok t c = c.read_empty.ensures.ok
+
+pub read_statement-returns-in-Empty-clause-stop : goal.read_statement-returns-in-Empty-clause-stop
+read_statement-returns-in-Empty-clause-stop t c = c.read_empty.ensures.stop
+
+pub read_statement-returns-in-If-clause-ok : goal.read_statement-returns-in-If-clause-ok
+read_statement-returns-in-If-clause-ok t c = c.read_if.ensures.ok
+
+pub read_statement-returns-in-If-clause-stop : goal.read_statement-returns-in-If-clause-stop
+read_statement-returns-in-If-clause-stop t c = c.read_if.ensures.stop
+
+pub read_statement-returns-in-While-clause-ok : goal.read_statement-returns-in-While-clause-ok
+read_statement-returns-in-While-clause-ok t c = c.read_while.ensures.ok
+
+pub read_statement-returns-in-While-clause-stop : goal.read_statement-returns-in-While-clause-stop
+read_statement-returns-in-While-clause-stop t c = c.read_while.ensures.stop
+
+pub read_statement-returns-in-Do-clause-ok : goal.read_statement-returns-in-Do-clause-ok
+read_statement-returns-in-Do-clause-ok t c = c.read_do.ensures.ok
+
+pub read_statement-returns-in-Do-clause-stop : goal.read_statement-returns-in-Do-clause-stop
+read_statement-returns-in-Do-clause-stop t c = c.read_do.ensures.stop
+
+pub read_statement-returns-in-For-clause-ok : goal.read_statement-returns-in-For-clause-ok
+read_statement-returns-in-For-clause-ok t c = c.read_for.ensures.ok
+
+pub read_statement-returns-in-For-clause-stop : goal.read_statement-returns-in-For-clause-stop
+read_statement-returns-in-For-clause-stop t c = c.read_for.ensures.stop
+
+pub read_statement-returns-in-Break-clause-ok : goal.read_statement-returns-in-Break-clause-ok
+read_statement-returns-in-Break-clause-ok t c = c.read_break.ensures.ok
+
+pub read_statement-returns-in-Break-clause-stop : goal.read_statement-returns-in-Break-clause-stop
+read_statement-returns-in-Break-clause-stop t c = c.read_break.ensures.stop
+
+pub read_statement-returns-in-Continue-clause-ok : goal.read_statement-returns-in-Continue-clause-ok
+read_statement-returns-in-Continue-clause-ok t c = c.read_continue.ensures.ok
+
+pub read_statement-returns-in-Continue-clause-stop : goal.read_statement-returns-in-Continue-clause-stop
+read_statement-returns-in-Continue-clause-stop t c = c.read_continue.ensures.stop
+
+pub read_statement-returns-in-Return-clause-ok : goal.read_statement-returns-in-Return-clause-ok
+read_statement-returns-in-Return-clause-ok t c = c.read_return.ensures.ok
+
+pub read_statement-returns-in-Return-clause-stop : goal.read_statement-returns-in-Return-clause-stop
+read_statement-returns-in-Return-clause-stop t c = c.read_return.ensures.stop
+
+pub read_statement-returns-in-Print-clause-ok : goal.read_statement-returns-in-Print-clause-ok
+read_statement-returns-in-Print-clause-ok t c = c.read_print.ensures.ok
+
+pub read_statement-returns-in-Print-clause-stop : goal.read_statement-returns-in-Print-clause-stop
+read_statement-returns-in-Print-clause-stop t c = c.read_print.ensures.stop
+
+pub read_statement-returns-in-Simple-clause-ok : goal.read_statement-returns-in-Simple-clause-ok
+read_statement-returns-in-Simple-clause-ok t c = c.read_simple_statement.ensures.ok
+
+pub read_statement-returns-in-Simple-clause-stop : goal.read_statement-returns-in-Simple-clause-stop
+read_statement-returns-in-Simple-clause-stop t c = c.read_simple_statement.ensures.stop
+
+pub read_statement-read_empty-requires-clause-here : goal.read_statement-read_empty-requires-clause-here
+read_statement-read_empty-requires-clause-here t c = sym c.kind_at.ensures ∙ c.in-Empty.ensures
+
+pub read_statement-read_break-requires-clause-here : goal.read_statement-read_break-requires-clause-here
+read_statement-read_break-requires-clause-here t c = sym c.kind_at.ensures ∙ c.in-Break.ensures
+
+pub read_statement-read_continue-requires-clause-here : goal.read_statement-read_continue-requires-clause-here
+read_statement-read_continue-requires-clause-here t c = sym c.kind_at.ensures ∙ c.in-Continue.ensures
+
+pub read_statement-read_return-requires-clause-here : goal.read_statement-read_return-requires-clause-here
+read_statement-read_return-requires-clause-here t c = sym c.kind_at.ensures ∙ c.in-Return.ensures
+
+pub read_statement-read_print-requires-clause-name : goal.read_statement-read_print-requires-clause-name
+read_statement-read_print-requires-clause-name t c = subst (Fits AName) c.kind_at.ensures c.in-Print.ensures.0
+
+pub read_statement-read_print-requires-clause-here : goal.read_statement-read_print-requires-clause-here
+read_statement-read_print-requires-clause-here t c = subst (λ z. parts_of phrases.Statement z ≡ Some (A phrases.Print ∷ mark marks.Semicolon ∷ [])) c.kind_at.ensures c.in-Print.ensures.1
+
+pub read_statement-read_simple_statement-requires-clause-begins : goal.read_statement-read_simple_statement-requires-clause-begins
+read_statement-read_simple_statement-requires-clause-begins t c = subst (λ z. begins_simple z ≡ true) c.kind_at.ensures c.in-Simple.ensures.0
+
+pub read_statement-read_simple_statement-requires-clause-here : goal.read_statement-read_simple_statement-requires-clause-here
+read_statement-read_simple_statement-requires-clause-here t c = subst (λ z. parts_of phrases.Statement z ≡ Some (A phrases.Simple ∷ mark marks.Semicolon ∷ [])) c.kind_at.ensures c.in-Simple.ensures.1
+
+pub read_entry-returns-then-is_word-clause-ok : goal.read_entry-returns-then-is_word-clause-ok
+read_entry-returns-then-is_word-clause-ok t c = c.read_declaration.ensures.ok
+
+pub read_entry-returns-then-is_word-clause-stop : goal.read_entry-returns-then-is_word-clause-stop
+read_entry-returns-then-is_word-clause-stop t c = c.read_declaration.ensures.stop
+
+pub read_entry-returns-then-is_word-clause-further : goal.read_entry-returns-then-is_word-clause-further
+read_entry-returns-then-is_word-clause-further t c = c.read_declaration.ensures.further
+
+pub read_entry-read_declaration-requires-clause-here : goal.read_entry-read_declaration-requires-clause-here
+read_entry-read_declaration-requires-clause-here t c = sym c.kind_at.ensures ∙ c.is_word.ensures.yes c.if-is_word.true
+
+pub read_statement-kind_at-requires : goal.read_statement-kind_at-requires
+read_statement-kind_at-requires t c = c.requires.within
+
+pub read_entry-kind_at-requires : goal.read_entry-kind_at-requires
+read_entry-kind_at-requires t c = c.requires.within
+
+pub read_else-kind_at-requires : goal.read_else-kind_at-requires
+read_else-kind_at-requires t c = c.requires.within
+
+pub read_entries-kind_at-requires : goal.read_entries-kind_at-requires
+read_entries-kind_at-requires t c = c.entries.invariant.continues.within
+
+pub read_body-returns-in_err-boxed-clause-stop : goal.read_body-returns-in_err-boxed-clause-stop
+read_body-returns-in_err-boxed-clause-stop t c = handed_on _ _ _ c.from_residual-in_err-boxed.ensures.1 (no_memory _ _ _ _ _ _ c.in_err-boxed.ensures.stop)
+
+pub read_entries-returns-in_err-append-clause-stop : goal.read_entries-returns-in_err-append-clause-stop
+read_entries-returns-in_err-append-clause-stop t c = handed_on _ _ _ c.from_residual-in_err-append.ensures.1 (no_memory _ _ _ _ _ _ c.in_err-append.ensures.stop)
+
+pub read_block-overflow_add-depth : goal.read_block-overflow_add-depth
+read_block-overflow_add-depth t c = deeper_fits c.args.depth c.requires.depth
+
+pub read_do-overflow_add-depth : goal.read_do-overflow_add-depth
+read_do-overflow_add-depth t c = deeper_fits c.args.depth c.requires.depth
+
+pub read_do-overflow_add-depth-2 : goal.read_do-overflow_add-depth-2
+read_do-overflow_add-depth-2 t c = deeper_fits c.args.depth c.requires.depth
+
+pub read_for-overflow_add-depth : goal.read_for-overflow_add-depth
+read_for-overflow_add-depth t c = deeper_fits c.args.depth c.requires.depth
+
+pub read_for-overflow_add-depth-2 : goal.read_for-overflow_add-depth-2
+read_for-overflow_add-depth-2 t c = deeper_fits c.args.depth c.requires.depth
+
+pub read_if-overflow_add-depth : goal.read_if-overflow_add-depth
+read_if-overflow_add-depth t c = deeper_fits c.args.depth c.requires.depth
+
+pub read_if-overflow_add-depth-2 : goal.read_if-overflow_add-depth-2
+read_if-overflow_add-depth-2 t c = deeper_fits c.args.depth c.requires.depth
+
+pub read_if-overflow_add-depth-3 : goal.read_if-overflow_add-depth-3
+read_if-overflow_add-depth-3 t c = deeper_fits c.args.depth c.requires.depth
+
+pub read_while-overflow_add-depth : goal.read_while-overflow_add-depth
+read_while-overflow_add-depth t c = deeper_fits c.args.depth c.requires.depth
+
+pub read_while-overflow_add-depth-2 : goal.read_while-overflow_add-depth-2
+read_while-overflow_add-depth-2 t c = deeper_fits c.args.depth c.requires.depth

@@ -54,6 +54,9 @@ fill-preserved c =
     let left : AreLeft h (slice_set words place (Some word)) (drop 1 c.fill.left.now) = rest_left h words c.fill.left.now place word c.fill.invariant.1 c.in-Some.ensures in
     (one_filled trace m homes mode h words rows c.put.new.rows.items place ready word item c.fill.invariant.0 c.requires.delays.heights next (now m mode trace.trace c.requires.delays) c.item_at-item.ensures first c.in_ok-put-in-Some.ensures, subst (AreLeft h (slice_set words place (Some word))) (sym c.behind-left.ensures) left)
 
+pub item_at-item-requires-clause-each : goal.item_at-item-requires-clause-each
+item_at-item-requires-clause-each c = c.requires.each
+
 pub item_at-item-requires-clause-inside : goal.item_at-item-requires-clause-inside
 item_at-item-requires-clause-inside c =
     let h = height_in c.args.deps.now in

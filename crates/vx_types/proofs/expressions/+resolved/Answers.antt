@@ -12,6 +12,7 @@ use Rattle.vx_ast.specs.View.{tree_of}
 use Rattle.std.proofs.lemmas.List.{drop_all}
 use Rattle.vx_types.proofs.Rows.{call_made, row_made_step, row_made_end}
 use Rattle.vx_types.proofs.Views.{call_written}
+use Rattle.vx_types.proofs.Weights.{boxed_falls, behind_falls, row_falls, argument_falls, to_none, to_one, only, left, right, second, third}
 use Rattle.vx_types.proofs.expressions.+resolved.Goals as goal
 
 -- two operands, whatever is made of them
@@ -75,3 +76,51 @@ resolve-returns-in_ok-left-in-Choice t c =
     ∙ ap (λ (z : Written). syntax.Choice (phrase_of c.deref-in-Choice.result.now) (phrase_of c.deref-in-Choice-2.result.now) (phrase_of z)) (sym c.deref-in-Choice-3.ensures) in
     choice_made c.choice_behind.result c.args.names.now c.args.expression.now (phrase_of c.deref-in-Choice.result.now) (phrase_of c.deref-in-Choice-2.result.now) (phrase_of c.deref-in-Choice-3.result.now) (tree_of c.in_ok-test-in-Choice.test.value) (tree_of c.in_ok-left-in-Choice.left.value) e
     c.in_ok-test-in-Choice.ensures c.in_ok-left-in-Choice.ensures c.choice_behind.ensures
+
+pub resolve-resolve_boxed-requires : goal.resolve-resolve_boxed-requires
+resolve-resolve_boxed-requires t c = (boxed_falls (phrase_of c.args.expression.now) (syntax.Element c.in-Element.name (phrase_of c.in-Element.index.value)) c.in-Element.index.value c.deref.result.now t c.decreases (ap phrase_of c.in-Element.is) c.deref.ensures (only _), tt)
+
+pub resolve-resolve_boxed-requires-in-Unary : goal.resolve-resolve_boxed-requires-in-Unary
+resolve-resolve_boxed-requires-in-Unary t c = (boxed_falls (phrase_of c.args.expression.now) (syntax.Unary c.in-Unary.operator (phrase_of c.in-Unary.operand.value)) c.in-Unary.operand.value c.deref-in-Unary.result.now t c.decreases (ap phrase_of c.in-Unary.is) c.deref-in-Unary.ensures (only _), tt)
+
+pub resolve-resolve_boxed-requires-in-Binary : goal.resolve-resolve_boxed-requires-in-Binary
+resolve-resolve_boxed-requires-in-Binary t c = (boxed_falls (phrase_of c.args.expression.now) (syntax.Binary c.in-Binary.operator (phrase_of c.in-Binary.left.value) (phrase_of c.in-Binary.right.value)) c.in-Binary.left.value c.deref-in-Binary.result.now t c.decreases (ap phrase_of c.in-Binary.is) c.deref-in-Binary.ensures (left _ _), tt)
+
+pub resolve-resolve_behind-requires : goal.resolve-resolve_behind-requires
+resolve-resolve_behind-requires t c = (behind_falls (phrase_of c.args.expression.now) (syntax.Binary c.in-Binary.operator (phrase_of c.in-Binary.left.value) (phrase_of c.in-Binary.right.value)) c.in-Binary.right.value c.deref-in-Binary-2.result.now t c.decreases (ap phrase_of c.in-Binary.is) c.deref-in-Binary-2.ensures (right _ _), tt)
+
+pub resolve-resolve_boxed-requires-in-Both : goal.resolve-resolve_boxed-requires-in-Both
+resolve-resolve_boxed-requires-in-Both t c = (boxed_falls (phrase_of c.args.expression.now) (syntax.Both (phrase_of c.in-Both.left.value) (phrase_of c.in-Both.right.value)) c.in-Both.left.value c.deref-in-Both.result.now t c.decreases (ap phrase_of c.in-Both.is) c.deref-in-Both.ensures (left _ _), tt)
+
+pub resolve-resolve_behind-requires-in-Both : goal.resolve-resolve_behind-requires-in-Both
+resolve-resolve_behind-requires-in-Both t c = (behind_falls (phrase_of c.args.expression.now) (syntax.Both (phrase_of c.in-Both.left.value) (phrase_of c.in-Both.right.value)) c.in-Both.right.value c.deref-in-Both-2.result.now t c.decreases (ap phrase_of c.in-Both.is) c.deref-in-Both-2.ensures (right _ _), tt)
+
+pub resolve-resolve_boxed-requires-in-Either : goal.resolve-resolve_boxed-requires-in-Either
+resolve-resolve_boxed-requires-in-Either t c = (boxed_falls (phrase_of c.args.expression.now) (syntax.Either (phrase_of c.in-Either.left.value) (phrase_of c.in-Either.right.value)) c.in-Either.left.value c.deref-in-Either.result.now t c.decreases (ap phrase_of c.in-Either.is) c.deref-in-Either.ensures (left _ _), tt)
+
+pub resolve-resolve_behind-requires-in-Either : goal.resolve-resolve_behind-requires-in-Either
+resolve-resolve_behind-requires-in-Either t c = (behind_falls (phrase_of c.args.expression.now) (syntax.Either (phrase_of c.in-Either.left.value) (phrase_of c.in-Either.right.value)) c.in-Either.right.value c.deref-in-Either-2.result.now t c.decreases (ap phrase_of c.in-Either.is) c.deref-in-Either-2.ensures (right _ _), tt)
+
+pub resolve-resolve_boxed-requires-in-Choice : goal.resolve-resolve_boxed-requires-in-Choice
+resolve-resolve_boxed-requires-in-Choice t c = (boxed_falls (phrase_of c.args.expression.now) (syntax.Choice (phrase_of c.in-Choice.test.value) (phrase_of c.in-Choice.left.value) (phrase_of c.in-Choice.right.value)) c.in-Choice.test.value c.deref-in-Choice.result.now t c.decreases (ap phrase_of c.in-Choice.is) c.deref-in-Choice.ensures (left _ _), tt)
+
+pub resolve-resolve_boxed-requires-in-Choice-2 : goal.resolve-resolve_boxed-requires-in-Choice-2
+resolve-resolve_boxed-requires-in-Choice-2 t c = (boxed_falls (phrase_of c.args.expression.now) (syntax.Choice (phrase_of c.in-Choice.test.value) (phrase_of c.in-Choice.left.value) (phrase_of c.in-Choice.right.value)) c.in-Choice.left.value c.deref-in-Choice-2.result.now t c.decreases (ap phrase_of c.in-Choice.is) c.deref-in-Choice-2.ensures (second _ _ _), tt)
+
+pub resolve-choice_behind-requires : goal.resolve-choice_behind-requires
+resolve-choice_behind-requires t c = (behind_falls (phrase_of c.args.expression.now) (syntax.Choice (phrase_of c.in-Choice.test.value) (phrase_of c.in-Choice.left.value) (phrase_of c.in-Choice.right.value)) c.in-Choice.right.value c.deref-in-Choice-3.result.now t c.decreases (ap phrase_of c.in-Choice.is) c.deref-in-Choice-3.ensures (third _ _ _), tt)
+
+pub resolve-resolve_row-requires : goal.resolve-resolve_row-requires
+resolve-resolve_row-requires t c = (row_falls (phrase_of c.args.expression.now) c.in-Call.name c.in-Call.row.items c.as_slice-in-Call.result.now t c.decreases (ap phrase_of c.in-Call.is ∙ call_written c.in-Call.name c.in-Call.row) c.as_slice-in-Call.ensures.value, tt)
+
+pub resolve_boxed-resolve-requires : goal.resolve_boxed-resolve-requires
+resolve_boxed-resolve-requires t c = (to_none _ t c.decreases, tt)
+
+pub resolve_behind-resolve_boxed-requires : goal.resolve_behind-resolve_boxed-requires
+resolve_behind-resolve_boxed-requires t c = (to_one _ t c.decreases, tt)
+
+pub choice_behind-resolve_boxed-requires : goal.choice_behind-resolve_boxed-requires
+choice_behind-resolve_boxed-requires t c = (to_one _ t c.decreases, tt)
+
+pub resolve_row-resolve-requires : goal.resolve_row-resolve-requires
+resolve_row-resolve-requires t c = (argument_falls c.args.row.now c.loop-argument.argument-index c.argument-item.result t c.decreases c.loop-argument-test.true c.argument-item.is, tt)

@@ -9,6 +9,7 @@ use Rattle.vx_ast.specs.SyntaxView.{phrase_of}
 use Rattle.vx_types.proofs.Leasts.{least_append}
 use Rattle.vx_types.proofs.Rows.{call_faults, row_faults_step}
 use Rattle.vx_types.proofs.Views.{call_written}
+use Rattle.vx_types.proofs.Weights.{part_falls, row_falls, argument_falls, only, left, right, second, third}
 use Rattle.vx_types.proofs.kinds.+faults.Goals as goal
 
 pub note_expression-returns-in-Call : goal.note_expression-returns-in-Call
@@ -63,3 +64,42 @@ note_expression-returns-in-Choice t c =
     c.note_expression-in-Choice.ensures ∙ ap (λ (z : Option Fault). least z right) (c.note_expression-before-in-Choice.ensures ∙ ap (λ (z : Option Fault). least z left) c.note_expression-tested.ensures)
     ∙ sym (least_append (least c.args.first test) left right) ∙ sym (least_append c.args.first test (left ++ right))
     ∙ ap (λ (z : Phrase One). least c.args.first (phrase_faults c.args.names.now z)) (sym e)
+
+pub note_expression-note_expression-requires : goal.note_expression-note_expression-requires
+note_expression-note_expression-requires t c = (part_falls (phrase_of c.args.expression.now) (syntax.Element c.in-Element.name (phrase_of c.in-Element.index.value)) c.in-Element.index.value c.deref.result.now t c.decreases (ap phrase_of c.in-Element.is) c.deref.ensures (only _), tt)
+
+pub note_expression-note_expression-requires-in-Unary : goal.note_expression-note_expression-requires-in-Unary
+note_expression-note_expression-requires-in-Unary t c = (part_falls (phrase_of c.args.expression.now) (syntax.Unary c.in-Unary.field-0 (phrase_of c.in-Unary.operand.value)) c.in-Unary.operand.value c.deref-in-Unary.result.now t c.decreases (ap phrase_of c.in-Unary.is) c.deref-in-Unary.ensures (only _), tt)
+
+pub note_expression-note_expression-before-requires : goal.note_expression-note_expression-before-requires
+note_expression-note_expression-before-requires t c = (part_falls (phrase_of c.args.expression.now) (syntax.Binary c.in-Binary.field-0 (phrase_of c.in-Binary.left.value) (phrase_of c.in-Binary.right.value)) c.in-Binary.left.value c.deref-in-Binary.result.now t c.decreases (ap phrase_of c.in-Binary.is) c.deref-in-Binary.ensures (left _ _), tt)
+
+pub note_expression-note_expression-requires-in-Binary : goal.note_expression-note_expression-requires-in-Binary
+note_expression-note_expression-requires-in-Binary t c = (part_falls (phrase_of c.args.expression.now) (syntax.Binary c.in-Binary.field-0 (phrase_of c.in-Binary.left.value) (phrase_of c.in-Binary.right.value)) c.in-Binary.right.value c.deref-in-Binary-2.result.now t c.decreases (ap phrase_of c.in-Binary.is) c.deref-in-Binary-2.ensures (right _ _), tt)
+
+pub note_expression-note_expression-before-requires-in-Both : goal.note_expression-note_expression-before-requires-in-Both
+note_expression-note_expression-before-requires-in-Both t c = (part_falls (phrase_of c.args.expression.now) (syntax.Both (phrase_of c.in-Both.left.value) (phrase_of c.in-Both.right.value)) c.in-Both.left.value c.deref-in-Both.result.now t c.decreases (ap phrase_of c.in-Both.is) c.deref-in-Both.ensures (left _ _), tt)
+
+pub note_expression-note_expression-requires-in-Both : goal.note_expression-note_expression-requires-in-Both
+note_expression-note_expression-requires-in-Both t c = (part_falls (phrase_of c.args.expression.now) (syntax.Both (phrase_of c.in-Both.left.value) (phrase_of c.in-Both.right.value)) c.in-Both.right.value c.deref-in-Both-2.result.now t c.decreases (ap phrase_of c.in-Both.is) c.deref-in-Both-2.ensures (right _ _), tt)
+
+pub note_expression-note_expression-before-requires-in-Either : goal.note_expression-note_expression-before-requires-in-Either
+note_expression-note_expression-before-requires-in-Either t c = (part_falls (phrase_of c.args.expression.now) (syntax.Either (phrase_of c.in-Either.left.value) (phrase_of c.in-Either.right.value)) c.in-Either.left.value c.deref-in-Either.result.now t c.decreases (ap phrase_of c.in-Either.is) c.deref-in-Either.ensures (left _ _), tt)
+
+pub note_expression-note_expression-requires-in-Either : goal.note_expression-note_expression-requires-in-Either
+note_expression-note_expression-requires-in-Either t c = (part_falls (phrase_of c.args.expression.now) (syntax.Either (phrase_of c.in-Either.left.value) (phrase_of c.in-Either.right.value)) c.in-Either.right.value c.deref-in-Either-2.result.now t c.decreases (ap phrase_of c.in-Either.is) c.deref-in-Either-2.ensures (right _ _), tt)
+
+pub note_expression-note_expression-tested-requires : goal.note_expression-note_expression-tested-requires
+note_expression-note_expression-tested-requires t c = (part_falls (phrase_of c.args.expression.now) (syntax.Choice (phrase_of c.in-Choice.test.value) (phrase_of c.in-Choice.left.value) (phrase_of c.in-Choice.right.value)) c.in-Choice.test.value c.deref-in-Choice.result.now t c.decreases (ap phrase_of c.in-Choice.is) c.deref-in-Choice.ensures (left _ _), tt)
+
+pub note_expression-note_expression-before-requires-in-Choice : goal.note_expression-note_expression-before-requires-in-Choice
+note_expression-note_expression-before-requires-in-Choice t c = (part_falls (phrase_of c.args.expression.now) (syntax.Choice (phrase_of c.in-Choice.test.value) (phrase_of c.in-Choice.left.value) (phrase_of c.in-Choice.right.value)) c.in-Choice.left.value c.deref-in-Choice-2.result.now t c.decreases (ap phrase_of c.in-Choice.is) c.deref-in-Choice-2.ensures (second _ _ _), tt)
+
+pub note_expression-note_expression-requires-in-Choice : goal.note_expression-note_expression-requires-in-Choice
+note_expression-note_expression-requires-in-Choice t c = (part_falls (phrase_of c.args.expression.now) (syntax.Choice (phrase_of c.in-Choice.test.value) (phrase_of c.in-Choice.left.value) (phrase_of c.in-Choice.right.value)) c.in-Choice.right.value c.deref-in-Choice-3.result.now t c.decreases (ap phrase_of c.in-Choice.is) c.deref-in-Choice-3.ensures (third _ _ _), tt)
+
+pub note_expression-note_row-requires : goal.note_expression-note_row-requires
+note_expression-note_row-requires t c = (row_falls (phrase_of c.args.expression.now) c.in-Call.name c.in-Call.row.items c.as_slice-arguments.result.now t c.decreases (ap phrase_of c.in-Call.is ∙ call_written c.in-Call.name c.in-Call.row) c.as_slice-arguments.ensures.value, tt)
+
+pub note_row-note_expression-least-requires : goal.note_row-note_expression-least-requires
+note_row-note_expression-least-requires t c = (argument_falls c.args.row.now c.loop-argument.argument-index c.argument-item.result t c.decreases c.loop-argument-test.true c.argument-item.is, tt)

@@ -1,4 +1,4 @@
-use Rattle.std.proofs.Common.{◌≡◌, ◌++◌, ◌∷◌, [], Bool, List, Option, map, take, ap, sym, ◌∙◌}
+use Rattle.std.proofs.Common.{◌++◌, ◌∷◌, [], Bool, List, Option, map, take, ap, sym, ◌∙◌, append-nil}
 use Rattle.std.proofs.lemmas.List.{map-append}
 use Rattle.std.proofs.lemmas.Result.{IfOk-from_err}
 use Rattle.vx_ast.specs.declared.names.Fault.{Fault}
@@ -57,3 +57,20 @@ returns-in_err-push-in-Function-clause-names c = IfOk-from_err _ _ c.from_residu
 
 pub returns-in_err-push-in-Function-clause-above : goal.returns-in_err-push-in-Function-clause-above
 returns-in_err-push-in-Function-clause-above c = IfOk-from_err _ _ c.from_residual-in_err-push-in-Function.ensures.0
+
+pub returns-in-Array-clause-made : goal.returns-in-Array-clause-made
+returns-in-Array-clause-made c =
+    sym (append-nil (map view.function_of c.args.functions.now.items)) ∙ ap (λ (z : Definition). map view.function_of c.args.functions.now.items ++ own_functions c.args.names.now c.args.arrays (definition_of z)) (sym c.in-Array.is)
+
+pub returns-in-Scalar-clause-made : goal.returns-in-Scalar-clause-made
+returns-in-Scalar-clause-made c =
+    sym (append-nil (map view.function_of c.args.functions.now.items)) ∙ ap (λ (z : Definition). map view.function_of c.args.functions.now.items ++ own_functions c.args.names.now c.args.arrays (definition_of z)) (sym c.in-Scalar.is)
+
+pub returns-in_ok-push-in-Function-clause-locals : goal.returns-in_ok-push-in-Function-clause-locals
+returns-in_ok-push-in-Function-clause-locals c = c.in_ok-made-in-Function.ensures.locals
+
+pub returns-in_ok-push-in-Function-clause-names : goal.returns-in_ok-push-in-Function-clause-names
+returns-in_ok-push-in-Function-clause-names c = c.in_ok-made-in-Function.ensures.names
+
+pub returns-in_ok-push-in-Function-clause-above : goal.returns-in_ok-push-in-Function-clause-above
+returns-in_ok-push-in-Function-clause-above c = c.in_ok-made-in-Function.ensures.above

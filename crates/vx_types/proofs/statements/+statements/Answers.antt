@@ -1,11 +1,11 @@
-use Rattle.std.proofs.Common.{◌≡◌, ℕ, Bool, true, List, Option, refl, ap, sym, ◌∙◌, drop, ◌+◌, arith}
+use Rattle.std.proofs.Common.{◌≡◌, ℕ, Bool, true, List, Option, refl, ap, sym, ◌∙◌, drop, ◌+◌}
 use Rattle.std.specs.Prelude.{option_map}
 use Rattle.std.proofs.lemmas.List.{drop_all}
 use Rattle.vx_ast.specs.declared.names.Fault.{Fault}
 use Rattle.vx_ast.specs.declared.syntax.Expression.{Expression}
 use Rattle.vx_ast.specs.declared.syntax.Item.{Item}
 use Rattle.vx_ast.specs.declared.syntax.Statement.{Statement as Written}
-use Rattle.vx_ast.specs.Faults.{code_faults, fault_if, least, phrase_faults}
+use Rattle.vx_ast.specs.Faults.{code_faults, fault_if, least, phrase_faults, test_faults}
 use Rattle.vx_ast.specs.Resolved.{code_in, test_in, tree_in}
 use Rattle.vx_ast.specs.Scopes.{Environment, behind, inside}
 use Rattle.vx_ast.specs.Syntax as syntax
@@ -15,13 +15,13 @@ use Rattle.vx_ast.specs.Tree as tree
 use Rattle.vx_ast.specs.Tree.{Tree, One}
 use Rattle.vx_ast.specs.View as view
 use Rattle.vx_types.proofs.Lists.{list_begin, list_step, list_end}
-use Rattle.vx_types.proofs.Codes.{holds_on, made_by, known_by, faults_by, tested_made, tested_faults, else_made, else_known, else_faults, boxed_made, for_made}
+use Rattle.vx_types.proofs.Codes.{faults_alike, for_faults, holds_on, made_by, known_by, faults_by, tested_made, tested_faults, else_made, else_known, else_faults, boxed_made, for_made}
 use Rattle.vx_names.proofs.Lists.{drop_next}
-use Rattle.vx_types.proofs.Leasts.{least_append}
-use Rattle.vx_types.proofs.Scoping.{leaves_block, leaves_for}
-use Rattle.vx_types.proofs.Declarations.{items_alike, first_alike, step_alike}
+use Rattle.vx_types.proofs.Scoping.{block_left, for_left}
+use Rattle.vx_types.proofs.Declarations.{items_alike, for_alike}
 use Rattle.vx_limits.proofs.Views.{block_view}
 use Rattle.vx_types.proofs.Views.{block_written}
+use Rattle.vx_types.proofs.Weights.{block_falls, body_falls, loop_falls, one_falls, to_statement, to_held, to_alone, to_parts, only, left, right}
 use Rattle.vx_types.proofs.statements.+statements.Goals as goal
 
 pub statements-loop-one-preserved : goal.statements-loop-one-preserved
@@ -36,34 +36,58 @@ statements-returns-clause-made t c =
     (drop_all c.loop-one.one-index c.args.all.now c.loop-one-test.false)).0
 
 pub alone-returns-clause-known : goal.alone-returns-clause-known
-alone-returns-clause-known t c = grind (arith, leaves_block)
+alone-returns-clause-known t c =
+    block_left (code_of c.args.branch.now) c.args.names.now _ _ _ _ c.count-count.ensures c.in_ok-enter.ensures c.in_ok-made.ensures.known c.in_ok-leave.ensures
 
 pub block-returns-clause-known : goal.block-returns-clause-known
-block-returns-clause-known t c = grind (arith, leaves_block)
+block-returns-clause-known t c =
+    block_left (all_in c.args.all.now) c.args.names.now _ _ _ _ c.count-count.ensures c.in_ok-enter.ensures c.in_ok-made.ensures.known c.in_ok-leave.ensures
 
 pub parts_of_for-returns-clause-known : goal.parts_of_for-returns-clause-known
-parts_of_for-returns-clause-known t c = grind (arith, leaves_for)
+parts_of_for-returns-clause-known t c =
+    for_left (first_of c.args.start.now) (code_of c.args.body.now) c.args.names.now _ _ _ _ _ c.count-count.ensures c.in_ok-enter.ensures c.in_ok-head.ensures.known c.in_ok-body.ensures.known c.in_ok-leave.ensures
 
 pub parts_of_for-returns-clause-faults : goal.parts_of_for-returns-clause-faults
-parts_of_for-returns-clause-faults t c = grind (arith, least_append)
+parts_of_for-returns-clause-faults t c =
+    for_faults c.args.gives (first_of c.args.start.now) (step_of c.args.step.now) (code_of c.args.body.now) (option_map phrase_of c.args.test.now) c.args.names.now _ _ c.args.first.now _ _ c.in_ok-enter.ensures c.in_ok-head.ensures.known c.in_ok-head.ensures.faults c.in_ok-body.ensures.faults
 
 pub block-returns-clause-made : goal.block-returns-clause-made
-block-returns-clause-made t c = grind (arith, block_view)
+block-returns-clause-made t c =
+    block_view c.in_ok-made.made ∙ ap (λ (z : tree.Code). tree.Block z) (c.in_ok-made.ensures.made ∙ ap (λ (z : Environment). code_in z (all_in c.args.all.now)) c.in_ok-enter.ensures)
 
 pub statement-returns-in-Block-clause-made : goal.statement-returns-in-Block-clause-made
-statement-returns-in-Block-clause-made t c = grind (arith, block_written)
+statement-returns-in-Block-clause-made t c =
+    let k = syntax.Block (all_in c.as_slice.result.now) in
+    let e : code_of c.args.statement.now ≡ k = ap code_of c.in-Block.is ∙ block_written c.in-Block.all ∙ sym (ap (λ (z : List Written). syntax.Block (all_in z)) c.as_slice.ensures.value) in
+    made_by c.block.result c.args.names.now c.args.statement.now k e c.block.ensures.made
 
 pub statement-returns-in-Block-clause-known : goal.statement-returns-in-Block-clause-known
-statement-returns-in-Block-clause-known t c = grind (arith, block_written)
+statement-returns-in-Block-clause-known t c =
+    let k = syntax.Block (all_in c.as_slice.result.now) in
+    let e : code_of c.args.statement.now ≡ k = ap code_of c.in-Block.is ∙ block_written c.in-Block.all ∙ sym (ap (λ (z : List Written). syntax.Block (all_in z)) c.as_slice.ensures.value) in
+    known_by c.block.result c.args.names.now c.block.new.names c.args.statement.now k e c.block.ensures.known
 
 pub statement-returns-in-Block-clause-faults : goal.statement-returns-in-Block-clause-faults
-statement-returns-in-Block-clause-faults t c = grind (arith, block_written)
+statement-returns-in-Block-clause-faults t c =
+    let k = syntax.Block (all_in c.as_slice.result.now) in
+    let e : code_of c.args.statement.now ≡ k = ap code_of c.in-Block.is ∙ block_written c.in-Block.all ∙ sym (ap (λ (z : List Written). syntax.Block (all_in z)) c.as_slice.ensures.value) in
+    faults_by c.block.result c.args.gives c.args.loops c.args.names.now c.args.first.now c.block.new.first c.args.statement.now k e c.block.ensures.faults
 
 pub statement-returns-in-Declaration-clause-faults : goal.statement-returns-in-Declaration-clause-faults
-statement-returns-in-Declaration-clause-faults t c = grind (arith, items_alike)
+statement-returns-in-Declaration-clause-faults t c =
+    let k = items_of c.as_slice-in-Declaration.result.now in
+    let e : code_of c.args.statement.now ≡ k = ap code_of c.in-Declaration.is ∙ sym (ap (λ (z : List Item). items_of z) c.as_slice-in-Declaration.ensures.value) in
+    faults_by c.declaration.result c.args.gives c.args.loops c.args.names.now c.args.first.now c.declaration.new.first c.args.statement.now k e
+    (faults_alike c.declaration.result c.args.first.now c.declaration.new.first _ _ (items_alike c.args.gives c.args.loops c.args.names.now c.as_slice-in-Declaration.result.now) c.declaration.ensures.faults)
 
 pub statement-returns-in-For-clause-faults : goal.statement-returns-in-For-clause-faults
-statement-returns-in-For-clause-faults t c = grind (arith, first_alike, step_alike)
+statement-returns-in-For-clause-faults t c =
+    let env = inside c.args.names.now in
+    let known = behind (first_of c.in-For.start) env in
+    let k = syntax.For (first_of c.in-For.start) (option_map phrase_of c.in-For.test) (step_of c.in-For.step) (code_of c.deref-in-For.result.now) in
+    let e : code_of c.args.statement.now ≡ k = ap code_of c.in-For.is ∙ ap (λ (z : Written). syntax.For (first_of c.in-For.start) (option_map phrase_of c.in-For.test) (step_of c.in-For.step) (code_of z)) (sym c.deref-in-For.ensures) in
+    faults_by c.repeated.result c.args.gives c.args.loops c.args.names.now c.args.first.now c.repeated.new.first c.args.statement.now k e
+    (faults_alike c.repeated.result c.args.first.now c.repeated.new.first _ _ (for_alike c.args.gives c.args.loops c.args.names.now c.in-For.start (test_faults known (option_map phrase_of c.in-For.test)) c.in-For.step (code_faults c.args.gives true (inside known) (code_of c.deref-in-For.result.now))) c.repeated.ensures.faults)
 
 pub statement-returns-in-Empty-clause-made : goal.statement-returns-in-Empty-clause-made
 statement-returns-in-Empty-clause-made t c =
@@ -366,3 +390,63 @@ statements-returns-clause-faults t c =
 pub statements-loop-one-init : goal.statements-loop-one-init
 statements-loop-one-init t c =
     list_begin c.args.gives c.args.loops c.new-made.result.items c.args.names.now c.args.first.now c.args.all.now c.new-made.ensures.items
+
+pub statement-block-requires : goal.statement-block-requires
+statement-block-requires t c =
+    (block_falls (code_of c.args.statement.now) c.as_slice.result.now c.in-Block.all.items t c.decreases (ap code_of c.in-Block.is ∙ block_written c.in-Block.all) c.as_slice.ensures.value, tt)
+
+pub statement-test_and_body-requires : goal.statement-test_and_body-requires
+statement-test_and_body-requires t c =
+    (body_falls (code_of c.args.statement.now) (syntax.If (phrase_of c.in-If.test) (code_of c.in-If.branch.value)) c.in-If.branch.value c.deref.result.now t c.decreases (ap code_of c.in-If.is) c.deref.ensures (only _), tt)
+
+pub statement-test_and_body-requires-in-IfElse : goal.statement-test_and_body-requires-in-IfElse
+statement-test_and_body-requires-in-IfElse t c =
+    (body_falls (code_of c.args.statement.now) (syntax.IfElse (phrase_of c.in-IfElse.test) (code_of c.in-IfElse.left.value) (code_of c.in-IfElse.right.value)) c.in-IfElse.left.value c.deref-in-IfElse.result.now t c.decreases (ap code_of c.in-IfElse.is) c.deref-in-IfElse.ensures (left _ _), tt)
+
+pub statement-otherwise-requires : goal.statement-otherwise-requires
+statement-otherwise-requires t c =
+    (body_falls (code_of c.args.statement.now) (syntax.IfElse (phrase_of c.in-IfElse.test) (code_of c.in-IfElse.left.value) (code_of c.in-IfElse.right.value)) c.in-IfElse.right.value c.deref-in-IfElse-2.result.now t c.decreases (ap code_of c.in-IfElse.is) c.deref-in-IfElse-2.ensures (right _ _), tt)
+
+pub statement-test_and_body-requires-in-While : goal.statement-test_and_body-requires-in-While
+statement-test_and_body-requires-in-While t c =
+    (body_falls (code_of c.args.statement.now) (syntax.While (phrase_of c.in-While.test) (code_of c.in-While.body.value)) c.in-While.body.value c.deref-in-While.result.now t c.decreases (ap code_of c.in-While.is) c.deref-in-While.ensures (only _), tt)
+
+pub statement-test_and_body-requires-in-DoWhile : goal.statement-test_and_body-requires-in-DoWhile
+statement-test_and_body-requires-in-DoWhile t c =
+    (body_falls (code_of c.args.statement.now) (syntax.DoWhile (code_of c.in-DoWhile.body.value) (phrase_of c.in-DoWhile.test)) c.in-DoWhile.body.value c.deref-in-DoWhile.result.now t c.decreases (ap code_of c.in-DoWhile.is) c.deref-in-DoWhile.ensures (only _), tt)
+
+pub statement-repeated-requires : goal.statement-repeated-requires
+statement-repeated-requires t c =
+    (loop_falls (code_of c.args.statement.now) (syntax.For (first_of c.in-For.start) (option_map phrase_of c.in-For.test) (step_of c.in-For.step) (code_of c.in-For.body.value)) c.in-For.body.value c.deref-in-For.result.now t c.decreases (ap code_of c.in-For.is) c.deref-in-For.ensures (only _), tt)
+
+pub held-statement-requires : goal.held-statement-requires
+held-statement-requires t c =
+    (to_statement _ t c.decreases, tt)
+
+pub alone-held-requires : goal.alone-held-requires
+alone-held-requires t c =
+    (to_held _ t c.decreases, tt)
+
+pub block-statements-requires : goal.block-statements-requires
+block-statements-requires t c =
+    (to_held _ t c.decreases, tt)
+
+pub otherwise-alone-requires : goal.otherwise-alone-requires
+otherwise-alone-requires t c =
+    (to_alone _ t c.decreases, tt)
+
+pub test_and_body-alone-requires : goal.test_and_body-alone-requires
+test_and_body-alone-requires t c =
+    (to_alone _ t c.decreases, tt)
+
+pub parts_of_for-alone-requires : goal.parts_of_for-alone-requires
+parts_of_for-alone-requires t c =
+    (to_alone _ t c.decreases, tt)
+
+pub repeated-parts_of_for-requires : goal.repeated-parts_of_for-requires
+repeated-parts_of_for-requires t c =
+    (to_parts _ t c.decreases, tt)
+
+pub statements-statement-requires : goal.statements-statement-requires
+statements-statement-requires t c =
+    (one_falls c.args.all.now c.loop-one.one-index c.one-item.result t c.decreases c.loop-one-test.true c.one-item.is, tt)

@@ -13,3 +13,6 @@ invariant_of-self-2 c =
       in_rows = subst (AreRows (slice_set c.reach.new.rows.items c.args.booking.cycle c.in_ok-row.row)) (sym all)
           (subst (λ x. AreRows (slice_set c.reach.new.rows.items c.args.booking.cycle x) (c.args.booking ∷ c.args.self.now.bookings.items)) (sym row) rows);
     }
+
+pub returns : goal.returns
+returns c = c.in_ok-insert.ensures.items
