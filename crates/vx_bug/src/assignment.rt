@@ -1,7 +1,7 @@
 // The cluster of each operation of a trace, chosen from the bottom up by estimates, and the copies that the operations need
 // of each other (Ellis, 1985). The promise is the clause of `assign`, which is `Assigned` of specs/Assigned.antt.
 
-ghost use Rattle.std.specs.Prelude.{◌≡◌, IfOk, length};
+ghost use Rattle.std.specs.Prelude.{◌≡◌, [], IfOk, length};
 ghost use Rattle.vx_bug.specs.Clusters.{listed, at_first};
 ghost use Rattle.vx_bug.specs.Copies.{with_copies};
 ghost use Rattle.vx_bug.specs.Choices.{TurnsTaken};
@@ -13,7 +13,8 @@ ghost use Rattle.vx_bug.specs.CanAssign.{BoundAtHome, FixedAtHome, FixedReadsHer
 
 use crate::booked::Booked;
 use crate::cluster_choice::take_turns;
-use crate::clustered::with_copies;
+use crate::cluster_copies::Standings;
+use crate::clustered::{Kept, lay_all, lists_kept, no_standings};
 use crate::clusters::Clusters;
 use crate::copy_homes::house_copies;
 use crate::ledger::Ledger;
@@ -30,6 +31,13 @@ struct AllTurns {
     order: Listed<u32>,
     chosen: Listed<u32>,
     estimates: Listed<u32>,
+}
+
+/// What a clustered trace has beside its operations, and the homes with those of the copies that it makes.
+#[derive(Drop)]
+struct Beside {
+    kept: Kept,
+    homes: Homes,
 }
 
 /// A clustered trace, and the homes with those of the copies that it makes.
@@ -123,26 +131,60 @@ fn copies_housed(
     ensures clustered { IfOk result (λ housed. housed.clustered ≡ with_copies trace.now (homes_in homes.items) chosen.now) }
     ensures homes { IfOk result (λ housed. homes_in housed.homes.clusters ≡ with_homes_of_copies trace.now.values (homes_in homes.items) housed.clustered.trace.ops housed.clustered.clusters housed.clustered.trace.fixed) }
 {
-    let clustered = with_copies(alloc, trace, homes.as_slice(), chosen)?;
-    let homes = homes_behind(homes, trace.values, &clustered)?;
-    Ok(Housed { clustered, homes })
+    let mut out = no_standings(alloc);
+    let beside = lay_beside(alloc, trace, homes, chosen, &mut out)?;
+    let kept = beside.kept;
+    let clustered = Clustered {
+        trace: Trace {
+            function: trace.function,
+            blocks: kept.blocks,
+            ops: out.ops,
+            fixed: out.fixed,
+            joins: kept.joins,
+            values: trace.values,
+            arrays: kept.arrays,
+        },
+        clusters: out.clusters,
+    };
+    Ok(Housed {
+        clustered,
+        homes: beside.homes,
+    })
 }
 
-/// The homes with those of the copies that a clustered trace makes.
-fn homes_behind(
+/// Lays down what stands for the operations of a trace, and finds what else its clustered trace has, and the homes with those
+/// of the copies.
+fn lay_beside(
+    alloc: Global,
+    trace: &Trace,
     homes: Vec<Option<u32>>,
-    values: u32,
-    clustered: &Clustered,
-) -> Result<Homes, NoMemory>
-    ensures { IfOk result (λ behind. homes_in behind.clusters ≡ with_homes_of_copies values (homes_in homes.items) clustered.now.trace.ops clustered.now.clusters clustered.now.trace.fixed) }
+    chosen: &[u32],
+    out: &mut Standings,
+) -> Result<Beside, NoMemory>
+    requires chosen { length chosen.now ≡ length trace.now.ops }
+    requires fixed { length trace.now.fixed ≡ length trace.now.ops }
+    requires out { out.old ≡ record { ops = []; clusters = []; fixed = [] } }
+    ensures clustered { IfOk result (λ beside. with_copies trace.now (homes_in homes.items) chosen.now ≡ record { trace = record { function = trace.now.function; blocks = beside.kept.blocks; ops = out.new.ops; fixed = out.new.fixed; joins = beside.kept.joins; values = trace.now.values; arrays = beside.kept.arrays }; clusters = out.new.clusters }) }
+    ensures homes { IfOk result (λ beside. homes_in beside.homes.clusters ≡ with_homes_of_copies trace.now.values (homes_in homes.items) out.new.ops out.new.clusters out.new.fixed) }
+{
+    let mut starts = Listed::new(alloc);
+    lay_all(alloc, trace, homes.as_slice(), chosen, out, &mut starts)?;
+    let homes = homes_behind(homes, trace.values, out)?;
+    let kept = lists_kept(alloc, trace, starts.as_slice())?;
+    Ok(Beside { kept, homes })
+}
+
+/// The homes with those of the copies among what is laid down.
+fn homes_behind(homes: Vec<Option<u32>>, values: u32, out: &Standings) -> Result<Homes, NoMemory>
+    ensures { IfOk result (λ behind. homes_in behind.clusters ≡ with_homes_of_copies values (homes_in homes.items) out.now.ops out.now.clusters out.now.fixed) }
 {
     let mut table = homes;
     house_copies(
         &mut table,
         values,
-        clustered.trace.ops.as_slice(),
-        clustered.clusters.as_slice(),
-        clustered.trace.fixed.as_slice(),
+        out.ops.as_slice(),
+        out.clusters.as_slice(),
+        out.fixed.as_slice(),
     )?;
     let clusters = Listed::from_vec(table)?;
     Ok(Homes { clusters })

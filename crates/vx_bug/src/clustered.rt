@@ -1,10 +1,10 @@
-// The clustered trace, laid down operation by operation, and where its joins stand then. The promise is the clause of
-// `with_copies`, which is the definition of specs/Copies.antt.
+// The clustered trace, laid down operation by operation, and where its joins stand then, by the definitions of
+// specs/Laying.antt and specs/Copies.antt.
 
 ghost use Rattle.std.specs.Prelude.{◌≡◌, ◌<◌, ◌-◌, [], IfOk, OnOk, length, map, min, if◌then◌else◌};
 ghost use Rattle.vx_flow.specs.declared.trace.Join.{Join};
 ghost use Rattle.vx_linear.specs.Followed.{is_join};
-ghost use Rattle.vx_bug.specs.Copies.{pieces_of, with_copies};
+ghost use Rattle.vx_bug.specs.Copies.{pieces_of};
 ghost use Rattle.vx_bug.specs.Ledgers.{homes_in};
 ghost use Rattle.vx_bug.specs.Laying.{IsLaidOne, AreLaid, start_in};
 
@@ -14,25 +14,17 @@ use std::alloc::{AllocError, Global};
 use vx_base::listed::{Listed, copied};
 use vx_base::outcome::NoMemory;
 use vx_flow::graph::{Array, BlockId};
-use vx_flow::trace::{Clustered, Join, Trace};
-
-/// The operations of a clustered trace, with the places at which those begin that stand for one operation of the trace,
-/// and the place behind the last.
-#[derive(Drop)]
-pub struct Laid {
-    pub(crate) out: Standings,
-    pub(crate) starts: Listed<u32>,
-}
+use vx_flow::trace::{Join, Trace};
 
 /// What a clustered trace has of its trace: the joins, each where it stands then, the blocks and the arrays.
 #[derive(Drop)]
-struct Kept {
-    joins: Listed<Join>,
-    blocks: Listed<BlockId>,
-    arrays: Listed<Array>,
+pub(crate) struct Kept {
+    pub(crate) joins: Listed<Join>,
+    pub(crate) blocks: Listed<BlockId>,
+    pub(crate) arrays: Listed<Array>,
 }
 
-fn no_standings(alloc: Global) -> Standings
+pub(crate) fn no_standings(alloc: Global) -> Standings
     ensures { result ≡ record { ops = []; clusters = []; fixed = [] } }
 {
     Standings {
@@ -88,26 +80,10 @@ fn lay_one(
     stand(alloc, &site, served, op, trace.fixed.as_slice()[place], out)
 }
 
-/// What stands for the operations of a trace, one after the other.
-fn lay(
-    alloc: Global,
-    trace: &Trace,
-    homes: &[Option<u32>],
-    chosen: &[u32],
-) -> Result<Laid, NoMemory>
-    requires chosen { length chosen.now ≡ length trace.now.ops }
-    requires fixed { length trace.now.fixed ≡ length trace.now.ops }
-    ensures { IfOk result (λ laid. AreLaid (pieces_of trace.now (homes_in homes.now) chosen.now) laid.out laid.starts) }
-{
-    let mut out = no_standings(alloc);
-    let mut starts = Listed::new(alloc);
-    lay_all(alloc, trace, homes, chosen, &mut out, &mut starts)?;
-    Ok(Laid { out, starts })
-}
-
-/// The same into empty lists.
+/// Lays down what stands for the operations of a trace, one after the other, into empty lists: also the places at which those
+/// begin that stand for one operation of the trace, and the place behind the last.
 #[tactic(auto, using(crate::proofs::Pieces::none_laid, crate::proofs::Pieces::step_laid, crate::proofs::Pieces::end_laid))]
-fn lay_all(
+pub(crate) fn lay_all(
     alloc: Global,
     trace: &Trace,
     homes: &[Option<u32>],
@@ -165,7 +141,7 @@ fn moved_joins(alloc: Global, joins: &[Join], starts: &[u32]) -> Result<Listed<J
 }
 
 /// The lists of a clustered trace that are not laid down.
-fn lists_kept(alloc: Global, trace: &Trace, starts: &[u32]) -> Result<Kept, NoMemory>
+pub(crate) fn lists_kept(alloc: Global, trace: &Trace, starts: &[u32]) -> Result<Kept, NoMemory>
     ensures joins { IfOk result (λ kept. kept.joins ≡ map (λ (join : Join). record join { place = start_in starts.now join.place }) trace.now.joins) }
     ensures blocks { IfOk result (λ kept. kept.blocks ≡ trace.now.blocks) }
     ensures arrays { IfOk result (λ kept. kept.arrays ≡ trace.now.arrays) }
@@ -177,32 +153,5 @@ fn lists_kept(alloc: Global, trace: &Trace, starts: &[u32]) -> Result<Kept, NoMe
         joins,
         blocks,
         arrays,
-    })
-}
-
-/// The trace with the copies that its operations need, by the homes and the clusters.
-pub(crate) fn with_copies(
-    alloc: Global,
-    trace: &Trace,
-    homes: &[Option<u32>],
-    chosen: &[u32],
-) -> Result<Clustered, NoMemory>
-    requires chosen { length chosen.now ≡ length trace.now.ops }
-    requires fixed { length trace.now.fixed ≡ length trace.now.ops }
-    ensures { IfOk result (λ clustered. clustered ≡ with_copies trace.now (homes_in homes.now) chosen.now) }
-{
-    let laid = lay(alloc, trace, homes, chosen)?;
-    let kept = lists_kept(alloc, trace, laid.starts.as_slice())?;
-    Ok(Clustered {
-        trace: Trace {
-            function: trace.function,
-            blocks: kept.blocks,
-            ops: laid.out.ops,
-            fixed: laid.out.fixed,
-            joins: kept.joins,
-            values: trace.values,
-            arrays: kept.arrays,
-        },
-        clusters: laid.out.clusters,
     })
 }

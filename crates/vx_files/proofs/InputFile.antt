@@ -7,11 +7,11 @@ use Rattle.vx_io.specs.Reading.{ReadsFile}
 use Rattle.vx_io.specs.declared.whole_file.FileRead.TheVariants.{Whole, TooLong as FileTooLong}
 use Rattle.vx_io.specs.declared.role.Role.TheVariants.{Input as TheInput}
 use Rattle.vx_status.specs.declared.status.Status.{Status}
-use Rattle.vx_status.specs.declared.status.Status.TheVariants.{Limit, NoFile, Input, NoMemory}
+use Rattle.vx_status.specs.declared.status.Status.TheVariants.{Limit, NoFile, ReadFault, Input, NoMemory}
 use Rattle.vx_files.specs.Held.{input_as, input_found}
 use Rattle.vx_files.specs.Effects.{Effect, ReadsRose, SameFiles, InputAnswers}
 use Rattle.vx_files.specs.InputText.{input_reading}
-use Rattle.vx_files.proofs.WholeFile.{whole, whole_or, too_long, missing}
+use Rattle.vx_files.proofs.WholeFile.{Unread, whole, whole_or, too_long, missing}
 
 input_whole : (b : Option Files) (name : List ℕ) (bytes : Vec ℕ Global) (r : Result (List ℤ) Status) → IfSome b (λ held. ReadsFile held name 16777216 (Whole bytes)) → input_as (input_reading bytes.items) ≡ r →
     IfSome b (λ held. input_found held (Some name) ≡ r)
@@ -38,3 +38,9 @@ input_long name e same h = (refl, refl, same, too_long TheInput 16777216 (Limit 
 
 pub input_missing : (name : List ℕ) (e : Effect) → SameFiles e → MatchOption e.before (ReadsRose e) (λ held. held name ≡ None) → InputAnswers (Some name) e (NoFile TheInput)
 input_missing name e same h = (refl, same, missing TheInput 16777216 (Limit 12 16777217) (λ content. input_as (input_reading content)) e.before name (ReadsRose e) h)
+
+pub input_unread : (name : List ℕ) (e : Effect) (status : Status) → SameFiles e → Unread TheInput 16777216 (Limit 12 16777217) name e status → InputAnswers (Some name) e status
+input_unread name e status same (inl memory) = subst (InputAnswers (Some name) e) (sym memory) same
+input_unread name e status same (inr (inl failed)) = subst (InputAnswers (Some name) e) (sym failed.0) (refl, same, failed.1)
+input_unread name e status same (inr (inr (inl absent))) = subst (InputAnswers (Some name) e) (sym absent.0) (input_missing name e same absent.1)
+input_unread name e status same (inr (inr (inr long))) = subst (InputAnswers (Some name) e) (sym long.0) (input_long name e same long.1)

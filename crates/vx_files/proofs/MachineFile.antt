@@ -1,18 +1,20 @@
 -- What the reading of a description's file says of the machine that it describes.
-use Rattle.std.proofs.Common.{◌≡◌, ◌∙◌, ℕ, Bool, true, false, nat_le, List, length, Option, Some, None, Ok, IfSome, MatchOption, refl, sym, ap, arith}
+use Rattle.std.proofs.Common.{◌≡◌, ◌∙◌, inl, inr, ℕ, Bool, true, false, nat_le, List, length, Option, Some, None, Ok, IfSome, MatchOption, refl, sym, subst, ap, arith}
 use Rattle.std.specs.Prelude.{Vec, ◌≤◌, ◌<◌}
 use Rattle.std.specs.declared.alloc.Global.{Global}
 use Rattle.std.proofs.lemmas.Bool.{leb-true, le-leb}
 use Rattle.vx_io.specs.Outside.{Files}
 use Rattle.vx_io.specs.Reading.{ReadsFile}
 use Rattle.vx_io.specs.declared.whole_file.FileRead.TheVariants.{Whole, TooLong as FileTooLong}
+use Rattle.vx_io.specs.declared.role.Role.TheVariants.{Machine as TheMachine}
 use Rattle.vx_isa.specs.Numbers.{Numbers, vex}
 use Rattle.vx_machine.specs.declared.description.MachineFault.TheVariants.{Bad}
 use Rattle.vx_machine.specs.Descriptions.{reading}
 use Rattle.vx_status.specs.declared.status.Status.{Status}
 use Rattle.vx_status.specs.declared.status.Status.TheVariants.{Done, Trapped, Usage, Source, Limit, Words, Profile, Machine, NoFile, ReadFault, WriteFault, Stopped, Input, Stuck, NoMemory}
 use Rattle.vx_files.specs.Held.{most_description_bytes, MachineFound, Is, Refused, TooLong, Missing, found_by, found_in, machine_found, RefusesDescription}
-use Rattle.vx_files.specs.Effects.{Effect, SameFiles, OfFile, MachineAnswers}
+use Rattle.vx_files.specs.Effects.{Effect, ReadsRose, SameFiles, OfFile, MachineAnswers}
+use Rattle.vx_files.proofs.WholeFile.{Unread}
 
 short_found : (content : List ℕ) (found : MachineFound) → length content ≤ most_description_bytes → found_by (reading content) ≡ found → found_in (Some content) ≡ found
 short_found content found le is = rw (le-leb (length content) most_description_bytes le) is
@@ -72,3 +74,9 @@ no_description (Some held) name Rises h = ap found_in h
 pub default_machine : (b : Option Files) (machine : Numbers) → machine ≡ vex 1 → IfSome b (λ held. machine_found held None ≡ Is machine)
 default_machine None machine is = tt
 default_machine (Some held) machine is = ap Is (sym is)
+
+pub machine_unread : (name : List ℕ) (e : Effect) (status : Status) → SameFiles e → Unread TheMachine 65536 (Limit 11 65537) name e status → MachineAnswers (Some name) e status
+machine_unread name e status same (inl memory) = subst (MachineAnswers (Some name) e) (sym memory) same
+machine_unread name e status same (inr (inl failed)) = subst (MachineAnswers (Some name) e) (sym failed.0) (refl, same, failed.1)
+machine_unread name e status same (inr (inr (inl absent))) = subst (MachineAnswers (Some name) e) (sym absent.0) (refl, same, no_description e.before name (ReadsRose e) absent.1)
+machine_unread name e status same (inr (inr (inr long))) = subst (MachineAnswers (Some name) e) (sym long.0) (refl, refl, same, too_long e.before name long.1)

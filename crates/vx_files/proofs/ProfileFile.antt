@@ -15,9 +15,10 @@ use Rattle.vx_flow.specs.Meaning.{Visit, AtBlock, AlongEdge}
 use Rattle.vx_profile.specs.Text.{Row, Reaches, FaultAt, Spells, header, row_text}
 use Rattle.vx_profile.proofs.Once.{spelled_without_fault, fault_once}
 use Rattle.vx_status.specs.declared.status.Status.{Status}
-use Rattle.vx_status.specs.declared.status.Status.TheVariants.{Limit, Profile, NoFile, NoMemory}
+use Rattle.vx_status.specs.declared.status.Status.TheVariants.{Limit, Profile, NoFile, ReadFault, NoMemory}
 use Rattle.vx_files.specs.Held.{most_profile_bytes, HoldsCounts, status_of_profile, BadProfile, NoCountsIn, AreCounts, ProfileStands, RefusesProfile}
 use Rattle.vx_files.specs.Effects.{Effect, ReadsRose, SameFiles, OfFile, ProfileAnswers}
+use Rattle.vx_files.proofs.WholeFile.{Unread}
 
 -- the lines of few bytes are few
 
@@ -124,6 +125,12 @@ missing_in (Some held) name Rises h = subst (λ o. NoCountsIn o (NoFile TheProfi
 
 pub missing : (name : List ℕ) (e : Effect) → SameFiles e → MatchOption e.before (ReadsRose e) (λ held. held name ≡ None) → ProfileAnswers (Some name) e (NoFile TheProfile)
 missing name e same h = (refl, same, missing_in e.before name (ReadsRose e) h)
+
+pub unread : (name : List ℕ) (e : Effect) (status : Status) → SameFiles e → Unread TheProfile 16777216 (Limit 10 16777217) name e status → ProfileAnswers (Some name) e status
+unread name e status same (inl memory) = subst (ProfileAnswers (Some name) e) (sym memory) same
+unread name e status same (inr (inl failed)) = subst (ProfileAnswers (Some name) e) (sym failed.0) (refl, same, failed.1)
+unread name e status same (inr (inr (inl absent))) = subst (ProfileAnswers (Some name) e) (sym absent.0) (missing name e same absent.1)
+unread name e status same (inr (inr (inr long))) = subst (ProfileAnswers (Some name) e) (sym long.0) (too_long name e same long.1)
 
 -- the counts of a command
 

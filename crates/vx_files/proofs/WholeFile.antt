@@ -1,5 +1,5 @@
 -- A file that was read whole, one that is too long, and one that is not there.
-use Rattle.std.proofs.Common.{◌≡◌, ◌∙◌, ℕ, Bool, true, false, nat_le, List, length, Option, Some, None, Result, Err, IfSome, MatchOption, refl, sym, ap, arith}
+use Rattle.std.proofs.Common.{◌≡◌, ◌∙◌, ◌⊎◌, ℕ, Bool, true, false, nat_le, List, length, Option, Some, None, Result, Err, IfSome, MatchOption, refl, sym, ap, arith}
 use Rattle.std.specs.Prelude.{Vec, ◌≤◌, ◌<◌}
 use Rattle.std.specs.declared.alloc.Global.{Global}
 use Rattle.std.proofs.lemmas.Bool.{leb-true, le-leb}
@@ -8,9 +8,9 @@ use Rattle.vx_io.specs.Reading.{ReadsFile}
 use Rattle.vx_io.specs.declared.whole_file.FileRead.TheVariants.{Whole, TooLong as FileTooLong}
 use Rattle.vx_io.specs.declared.role.Role.{Role}
 use Rattle.vx_status.specs.declared.status.Status.{Status}
-use Rattle.vx_status.specs.declared.status.Status.TheVariants.{NoFile}
+use Rattle.vx_status.specs.declared.status.Status.TheVariants.{NoFile, ReadFault, NoMemory}
 use Rattle.vx_files.specs.Held.{file_in}
-use Rattle.vx_files.specs.Effects.{OfFile}
+use Rattle.vx_files.specs.Effects.{Effect, OfFile, ReadsRose}
 
 module _ {A : Type 0} (role : Role) (most : ℕ) (long : Status) (read : List ℕ → Result A Status) where
   short_in : (content : List ℕ) → length content ≤ most → file_in role most long read (Some content) ≡ read content
@@ -40,3 +40,7 @@ module _ {A : Type 0} (role : Role) (most : ℕ) (long : Status) (read : List �
   pub missing : (b : Option Files) (name : List ℕ) (Rises : Type 0) → MatchOption b Rises (λ held. held name ≡ None) → MatchOption b Rises (λ held. file_in role most long read (held name) ≡ Err (NoFile role))
   missing None name Rises h = h
   missing (Some held) name Rises h = ap (file_in role most long read) h
+
+-- why there are no bytes of a file: memory is wanted, or it cannot be read, is not there or is too long
+abbrev pub Unread : Role → (most : ℕ) → (long : Status) → (name : List ℕ) → Effect → Status → Type 0
+Unread role most long name e status = (status ≡ NoMemory) ⊎ (((status ≡ ReadFault role) × ReadsRose e) ⊎ (((status ≡ NoFile role) × MatchOption e.before (ReadsRose e) (λ held. held name ≡ None)) ⊎ ((status ≡ long) × IfSome e.before (λ held. ReadsFile held name most FileTooLong))))

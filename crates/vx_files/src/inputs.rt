@@ -7,10 +7,10 @@ ghost use Rattle.vx_files.specs.InputText.{input_reading};
 ghost use Rattle.vx_files.specs.Held.{EmptyUnless, input_as, input_found};
 
 use crate::input::{InputFault, read_input};
+use crate::whole::read_whole;
 use std::alloc::Global;
-use vx_io::depot::{Depot, DepotFault};
+use vx_io::depot::Depot;
 use vx_io::role::Role;
-use vx_io::whole_file::{FileRead, read_file};
 use vx_status::Status;
 
 /// The most bytes of an input's text.
@@ -45,12 +45,16 @@ fn read_numbers<D: Depot>(alloc: Global, depot: &mut D, name: &str) -> Result<Ve
     ensures reads_never_fall { D.failed_reads depot.old ≤ D.failed_reads depot.new }
     ensures replaces_never_fall { D.failed_replaces depot.old ≤ D.failed_replaces depot.new }
 {
-    match read_file(alloc, depot, name, MOST_INPUT_BYTES) {
-        Ok(FileRead::Whole(bytes)) => numbers_of(alloc, bytes.as_slice()),
-        Ok(FileRead::TooLong) => Err(LONG_INPUT),
-        Err(DepotFault::Failed) => Err(Status::ReadFault(Role::Input)),
-        Err(DepotFault::NoFile) => Err(Status::NoFile(Role::Input)),
-        Err(DepotFault::NoMemory) => Err(Status::NoMemory),
+    match read_whole(
+        alloc,
+        depot,
+        name,
+        Role::Input,
+        MOST_INPUT_BYTES,
+        LONG_INPUT,
+    ) {
+        Ok(bytes) => numbers_of(alloc, bytes.as_slice()),
+        Err(status) => Err(status),
     }
 }
 

@@ -9,6 +9,7 @@ pub mod laws;
 mod machines;
 mod profiles;
 mod sources;
+mod whole;
 
 pub use front_end::typed_of;
 pub use inputs::input_for;

@@ -5,10 +5,10 @@ ghost use Rattle.vx_files.specs.Held.{DefaultUnless, RefusesDescription, machine
 ghost use Rattle.vx_files.specs.Effects.{effect_of, MachineAnswers};
 ghost use Rattle.vx_machine.specs.Descriptions.{reading};
 
+use crate::whole::read_whole;
 use std::alloc::Global;
-use vx_io::depot::{Depot, DepotFault};
+use vx_io::depot::Depot;
 use vx_io::role::Role;
-use vx_io::whole_file::{FileRead, read_file};
 use vx_machine::{Machine, MachineFault, from_toml};
 use vx_status::Status;
 
@@ -41,12 +41,16 @@ fn read_machine<D: Depot>(alloc: Global, depot: &mut D, name: &str) -> Result<Ma
     ensures reads_never_fall { D.failed_reads depot.old ≤ D.failed_reads depot.new }
     ensures replaces_never_fall { D.failed_replaces depot.old ≤ D.failed_replaces depot.new }
 {
-    match read_file(alloc, depot, name, MOST_DESCRIPTION_BYTES) {
-        Ok(FileRead::Whole(bytes)) => machine_of(alloc, bytes.as_slice()),
-        Ok(FileRead::TooLong) => Err(LONG_DESCRIPTION),
-        Err(DepotFault::Failed) => Err(Status::ReadFault(Role::Machine)),
-        Err(DepotFault::NoFile) => Err(Status::NoFile(Role::Machine)),
-        Err(DepotFault::NoMemory) => Err(Status::NoMemory),
+    match read_whole(
+        alloc,
+        depot,
+        name,
+        Role::Machine,
+        MOST_DESCRIPTION_BYTES,
+        LONG_DESCRIPTION,
+    ) {
+        Ok(bytes) => machine_of(alloc, bytes.as_slice()),
+        Err(status) => Err(status),
     }
 }
 

@@ -6,10 +6,10 @@ ghost use Rattle.vx_profile.specs.declared.fault.ProfileFault.TheVariants.{NoMem
 ghost use Rattle.vx_files.specs.Effects.{effect_of, ProfileAnswers};
 ghost use Rattle.vx_files.specs.Held.{status_of_profile, BadProfile, HoldsCounts, AreCounts};
 
+use crate::whole::read_whole;
 use std::alloc::Global;
-use vx_io::depot::{Depot, DepotFault};
+use vx_io::depot::Depot;
 use vx_io::role::Role;
-use vx_io::whole_file::{FileRead, read_file};
 use vx_profile::counts::Counts;
 use vx_profile::{ProfileFault, read_counts};
 use vx_status::Status;
@@ -70,12 +70,16 @@ fn read_profile<D: Depot>(alloc: Global, depot: &mut D, name: &str) -> Result<Co
     ensures reads_never_fall { D.failed_reads depot.old ≤ D.failed_reads depot.new }
     ensures replaces_never_fall { D.failed_replaces depot.old ≤ D.failed_replaces depot.new }
 {
-    match read_file(alloc, depot, name, MOST_PROFILE_BYTES) {
-        Ok(FileRead::Whole(bytes)) => counts_in(alloc, bytes.as_slice()),
-        Ok(FileRead::TooLong) => Err(LONG_PROFILE),
-        Err(DepotFault::Failed) => Err(Status::ReadFault(Role::Profile)),
-        Err(DepotFault::NoFile) => Err(Status::NoFile(Role::Profile)),
-        Err(DepotFault::NoMemory) => Err(Status::NoMemory),
+    match read_whole(
+        alloc,
+        depot,
+        name,
+        Role::Profile,
+        MOST_PROFILE_BYTES,
+        LONG_PROFILE,
+    ) {
+        Ok(bytes) => counts_in(alloc, bytes.as_slice()),
+        Err(status) => Err(status),
     }
 }
 

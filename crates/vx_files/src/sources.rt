@@ -1,16 +1,16 @@
 // The source of a command: a file that is read whole and through.
 
-ghost use Rattle.std.specs.Prelude.{◌≡◌, ◌≤◌, length, IfOk, IfErr, IfSome};
+ghost use Rattle.std.specs.Prelude.{◌≡◌, ◌≤◌, IfOk, IfErr, IfSome};
 ghost use Rattle.vx_ast.specs.View as view;
-ghost use Rattle.vx_files.specs.Held.{HoldsSource, HoldsProgram};
+ghost use Rattle.vx_files.specs.Held.{HoldsProgram};
 ghost use Rattle.vx_files.specs.Effects.{effect_of, SourceAnswers};
 
 use crate::front_end::typed_of;
+use crate::whole::read_whole;
 use std::alloc::Global;
 use vx_ast::typed::Typed;
-use vx_io::depot::{Depot, DepotFault};
+use vx_io::depot::Depot;
 use vx_io::role::Role;
-use vx_io::whole_file::{FileRead, read_file};
 use vx_status::Status;
 
 /// The most bytes of a source.
@@ -22,24 +22,6 @@ const LONG_SOURCE: Status = Status::Limit {
     count: MOST_SOURCE_BYTES + 1,
 };
 
-/// Reads the file of the source, whole.
-fn read_source<D: Depot>(alloc: Global, depot: &mut D, source: &str) -> Result<Vec<u8>, Status>
-    ensures same_files { D.files depot.new ≡ D.files depot.old }
-    ensures content { IfOk result (λ bytes. IfSome (D.files depot.old) (λ held. HoldsSource held source.now bytes.items)) }
-    ensures short { IfOk result (λ bytes. length bytes.items ≤ 1048576) }
-    ensures answers { IfErr result (SourceAnswers source.now (effect_of D.files D.failed_reads D.failed_replaces depot.old depot.new)) }
-    ensures reads_never_fall { D.failed_reads depot.old ≤ D.failed_reads depot.new }
-    ensures replaces_never_fall { D.failed_replaces depot.old ≤ D.failed_replaces depot.new }
-{
-    match read_file(alloc, depot, source, MOST_SOURCE_BYTES) {
-        Ok(FileRead::Whole(bytes)) => Ok(bytes),
-        Ok(FileRead::TooLong) => Err(LONG_SOURCE),
-        Err(DepotFault::Failed) => Err(Status::ReadFault(Role::Source)),
-        Err(DepotFault::NoFile) => Err(Status::NoFile(Role::Source)),
-        Err(DepotFault::NoMemory) => Err(Status::NoMemory),
-    }
-}
-
 /// Reads the file of the source through.
 pub fn read_through<D: Depot>(alloc: Global, depot: &mut D, source: &str) -> Result<Typed, Status>
     ensures same_files { D.files depot.new ≡ D.files depot.old }
@@ -48,7 +30,14 @@ pub fn read_through<D: Depot>(alloc: Global, depot: &mut D, source: &str) -> Res
     ensures reads_never_fall { D.failed_reads depot.old ≤ D.failed_reads depot.new }
     ensures replaces_never_fall { D.failed_replaces depot.old ≤ D.failed_replaces depot.new }
 {
-    match read_source(alloc, depot, source) {
+    match read_whole(
+        alloc,
+        depot,
+        source,
+        Role::Source,
+        MOST_SOURCE_BYTES,
+        LONG_SOURCE,
+    ) {
         Ok(bytes) => typed_of(alloc, bytes.as_slice()),
         Err(status) => Err(status),
     }

@@ -5,7 +5,7 @@ use Rattle.vx_mixed.specs.declared.layout.Laid.{Laid}
 use Rattle.vx_mixed.specs.declared.layout.Laid.TheVariants.{Plain, Split}
 use Rattle.vx_mixed.specs.declared.layout.VirtualWord.{VirtualWord}
 use Rattle.vx_mixed.specs.declared.layout.VirtualWord.TheVariants.{Planned, Drain, Transfer, Choice, Call as Calls, Return as Returns, Ends}
-use Rattle.vx_mixed.specs.LaidSettled.{laid_writes}
+use Rattle.vx_mixed.specs.LaidSettled.{laid_reads, laid_writes}
 use Rattle.vx_slots.specs.declared.program.FunctionPlaces.{FunctionPlaces}
 use Rattle.vx_target.specs.Target.{Target, one as single, slotted, word_words, call_words, entry_words, start_words}
 use Rattle.vx_target.specs.Placed.{Labelled, Depth, PlacedAt, laid_pieces, landing_of, item_landings, word_landings, landing_pieces, function_pieces, functions_pieces, all_pieces, words_of, IsPlaced}
@@ -16,7 +16,7 @@ use Rattle.vx_base.specs.declared.outcome.Trap.TheVariants.{Depth as ByDepth}
 use Rattle.vx_isa.specs.declared.operation.Operation.TheVariants.{EndByTrap}
 use Rattle.vx_isa.specs.declared.program.Word.{Word}
 use Rattle.vx_frame.proofs.Emitting.{words_of_append}
-use Rattle.vx_frame.proofs.Lengths.{call_length, entry_length, start_length, word_length, word_landings_length}
+use Rattle.vx_frame.proofs.Lengths.{before_same, call_length, entry_length, start_length, word_length, word_landings_length}
 
 placed_append : (T : Target) (q : ℕ) (xs ys : List Labelled) → PlacedAt T q xs → PlacedAt T (q + length (words_of xs)) ys → PlacedAt T q (xs ++ ys)
 placed_append T q [] ys a b = let z : q + 0 ≡ q = omega arith in subst (λ n. PlacedAt T n ys) z b
@@ -216,3 +216,60 @@ program_stands T main n words one none is = record { is = is; places = program_p
 pub second_pass : (T U : Target) (main n trap : ℕ) (places : List FunctionPlaces) (words : List Word) → ((f : ℕ) → f < n → OneSplit (T.layout f).words) → ((f : ℕ) → n ≤ f → (T.layout f).words ≡ []) → places ≡ all_places T (functions_begin T main) 0 n → trap ≡ functions_end T main n → U ≡ at_spots T (spots_of places trap) → words ≡ words_of (all_pieces U main n) → IsPlaced (standing T main n) main n words
 second_pass T U main n trap places words one none a b u w =
     program_stands T main n words one none (w ∙ ap (λ V. words_of (all_pieces V main n)) u ∙ ap (λ xs. words_of (all_pieces (at_spots T (spots_of xs trap)) main n)) a ∙ ap (λ k. words_of (all_pieces (at_spots T (spots_of (all_places T (functions_begin T main) 0 n) k)) main n)) b)
+
+-- a second pass finds the same places
+
+starts_same : (T : Target) (s : Spots) (f q p : ℕ) (words : List VirtualWord) → starts_from (at_spots T s) f q p words ≡ starts_from T f q p words
+starts_same T s f q p [] = refl
+starts_same T s f q p (word ∷ words) =
+    ap (λ k. q ∷ starts_from (at_spots T s) f (q + k) (suc p) words) (word_length T s f p word)
+    ∙ ap (λ xs. q ∷ xs) (starts_same T s f (q + length (word_words T f p word)) (suc p) words)
+
+found_landings : (T : Target) (s : Spots) (f q p : ℕ) (words : List VirtualWord) → landings_from (at_spots T s) f q p words ≡ landings_from T f q p words
+found_landings T s f q p [] = refl
+found_landings T s f q p (word ∷ words) =
+    ap (λ k. q ∷ landings_from (at_spots T s) f (q + k) (suc p) words) (word_landings_length T s f p word)
+    ∙ ap (λ xs. q ∷ xs) (found_landings T s f (q + length (words_of (word_landings T f p word))) (suc p) words)
+
+mark_same : (T : Target) (s : Spots) (f q p : ℕ) (word : VirtualWord) → mark_of (at_spots T s) f q p word ≡ mark_of T f q p word
+mark_same T s f q p (Planned r w items) = ap (λ xs. q + length xs) (before_same T s f (laid_reads items))
+mark_same T s f q p (Drain n) = refl
+mark_same T s f q p (Transfer to) = refl
+mark_same T s f q p (Choice test to) = refl
+mark_same T s f q p (Calls g arguments result) = ap (λ k. q + k) (call_length T s f p g arguments)
+mark_same T s f q p (Returns x) = refl
+mark_same T s f q p (Ends k) = refl
+
+marks_same : (T : Target) (s : Spots) (f q p : ℕ) (words : List VirtualWord) → marks_from (at_spots T s) f q p words ≡ marks_from T f q p words
+marks_same T s f q p [] = refl
+marks_same T s f q p (word ∷ words) =
+    let U = at_spots T s in
+    ap (λ m. m ∷ marks_from U f (q + length (word_words U f p word)) (suc p) words) (mark_same T s f q p word)
+    ∙ ap (λ k. mark_of T f q p word ∷ marks_from U f (q + k) (suc p) words) (word_length T s f p word)
+    ∙ ap (λ xs. mark_of T f q p word ∷ xs) (marks_same T s f (q + length (word_words T f p word)) (suc p) words)
+
+places_same : (T : Target) (s : Spots) (f q : ℕ) → places_at (at_spots T s) f q ≡ places_at T f q
+places_same T s f q =
+    let U = at_spots T s in
+    let ws = (T.layout f).words in
+    let b : laid_begin U f q ≡ laid_begin T f q = ap (λ k. q + k) (entry_length T s f) in
+    let l : landings_begin U f q ≡ landings_begin T f q = ap (λ k. k + length (words_of (laid_pieces U f 0 ws))) b ∙ ap (λ k. laid_begin T f q + k) (laid_length T s f 0 ws) in
+    let starts : starts_from U f (laid_begin U f q) 0 ws ≡ starts_from T f (laid_begin T f q) 0 ws = ap (λ k. starts_from U f k 0 ws) b ∙ starts_same T s f (laid_begin T f q) 0 ws in
+    let landings : landings_from U f (landings_begin U f q) 0 ws ≡ landings_from T f (landings_begin T f q) 0 ws = ap (λ k. landings_from U f k 0 ws) l ∙ found_landings T s f (landings_begin T f q) 0 ws in
+    let marks : marks_from U f (laid_begin U f q) 0 ws ≡ marks_from T f (laid_begin T f q) 0 ws = ap (λ k. marks_from U f k 0 ws) b ∙ marks_same T s f (laid_begin T f q) 0 ws in
+    λ i. record { entry = q; starts = starts i; landings = landings i; marks = marks i }
+
+all_same : (T : Target) (s : Spots) (q f n : ℕ) → all_places (at_spots T s) q f n ≡ all_places T q f n
+all_same T s q f zero = refl
+all_same T s q f (suc n) =
+    let U = at_spots T s in
+    ap (λ x. x ∷ all_places U (q + length (words_of (function_pieces U f))) (suc f) n) (places_same T s f q)
+    ∙ ap (λ k. places_at T f q ∷ all_places U (q + k) (suc f) n) (function_length T s f)
+    ∙ ap (λ xs. places_at T f q ∷ xs) (all_same T s (q + length (words_of (function_pieces T f))) (suc f) n)
+
+pub second_places : (T U : Target) (s : Spots) (main n : ℕ) (places : List FunctionPlaces) → U ≡ at_spots T s → places ≡ all_places U (length (start_words U main)) 0 n → places ≡ all_places T (functions_begin T main) 0 n
+second_places T U s main n places u e =
+    e
+    ∙ ap (λ V. all_places V (length (start_words V main)) 0 n) u
+    ∙ ap (λ k. all_places (at_spots T s) k 0 n) (start_length T s main)
+    ∙ all_same T s (functions_begin T main) 0 n

@@ -1,12 +1,13 @@
 // The words of a whole program, one piece after the other, and where each piece begins. How many words a piece has does not
 // depend on places, so a first pass finds the places and a second one makes the words. specs/Placing.antt has the places.
 
-ghost use Rattle.std.specs.Prelude.{◌≡◌, ◌<◌, ◌≤◌, ◌++◌, ◌+◌, ℕ, [], IfOk, length};
+ghost use Rattle.std.specs.Prelude.{◌≡◌, ◌<◌, ◌≤◌, ◌++◌, ◌+◌, ◌-◌, ◌∷◌, ℕ, [], if◌then◌else◌, IfOk, length};
 ghost use Rattle.vx_mixed.specs.declared.layout.VirtualWord.TheVariants.{Call};
 ghost use Rattle.vx_mixed.specs.LaidSettled.{laid_reads};
-ghost use Rattle.vx_target.specs.Target.{before, idle_words, plan_words, start_words, turns, turns_word, word_words};
+ghost use Rattle.vx_target.specs.Target.{before, pause, plan_words, start_words, turns, turns_word, waits, word_words};
 ghost use Rattle.vx_target.specs.Placed.{laid_pieces, word_landings, landing_pieces, function_pieces, functions_pieces, all_pieces, words_of, IsPlaced};
 ghost use Rattle.vx_frame.specs.Placing.{starts_from, landings_from, mark_of, marks_from, places_at, all_places, functions_begin, functions_end, at_spots, spots_of, standing, OneSplit};
+ghost use Rattle.vx_slots.specs.declared.program.FunctionPlaces.{FunctionPlaces as ThePlaces};
 ghost use Rattle.vx_slots.specs.Seen.{seen};
 
 use std::alloc::Global;
@@ -33,13 +34,6 @@ pub(crate) struct Pieces {
     pub(crate) depth_trap: u32,
 }
 
-/// The places of the words of a layout.
-#[derive(Drop)]
-struct LaidPlaces {
-    starts: Listed<u32>,
-    marks: Listed<u32>,
-}
-
 /// Whether a word of a layout at a place goes to another one by a word of its own.
 fn turns(whole: &Whole, function: u32, place: u32, word: &VirtualWord) -> Result<bool, NoMemory>
     ensures { IfOk result (λ turned. turned ≡ turns_word (seen whole.now) function place word.now) }
@@ -60,18 +54,17 @@ fn turns_at(whole: &Whole, function: u32, place: u32) -> Result<bool, NoMemory>
     }
 }
 
-/// Empty cycles at a place of a layout; where a goto stands behind them, it is the last of them.
+/// Empty cycles before a place of a layout; where a goto stands behind them, it is the last of them.
 fn push_idles(
     alloc: Global,
     whole: &Whole,
     function: u32,
-    place: u32,
+    next: u32,
     cycles: u32,
     words: &mut Listed<Word>,
 ) -> Result<(), NoMemory>
-    ensures { IfOk result (λ _. words.new ≡ words.old ++ idle_words (seen whole.now) function place cycles) }
+    ensures { IfOk result (λ _. words.new ≡ words.old ++ (if turns (seen whole.now) function next then pause (cycles - 1) else waits cycles ∷ [])) }
 {
-    let next = sum(place, 1)?;
     if turns_at(whole, function, next)? {
         return push_pause(alloc, cycles.saturating_sub(1), words);
     }
@@ -114,15 +107,18 @@ fn push_called(
     Ok(back)
 }
 
-/// The words that carry one of a layout; gives the place of a planned word's operations, or of the return of a call.
+/// The words that carry one of a layout, where this place is next; gives the place of a planned word's operations, or of the return
+/// of a call.
 fn push_word(
     alloc: Global,
     whole: &Whole,
     function: u32,
     place: u32,
+    next: u32,
     word: &VirtualWord,
     words: &mut Listed<Word>,
 ) -> Result<u32, NoMemory>
+    requires { next ≡ place + 1 }
     ensures words { IfOk result (λ _. words.new ≡ words.old ++ word_words (seen whole.now) function place word.now) }
     ensures mark { IfOk result (λ mark. mark ≡ mark_of (seen whole.now) function (length words.old) place word.now) }
 {
@@ -146,8 +142,8 @@ fn push_word(
                 words,
             );
         }
-        VirtualWord::Drain(cycles) => push_idles(alloc, whole, function, place, *cycles, words),
-        VirtualWord::Transfer(to) => push_way(alloc, whole, function, sum(place, 1)?, *to, words),
+        VirtualWord::Drain(cycles) => push_idles(alloc, whole, function, next, *cycles, words),
+        VirtualWord::Transfer(to) => push_way(alloc, whole, function, next, *to, words),
         VirtualWord::Choice { test, place: to } => {
             push_choice(alloc, whole, function, *test, *to, words)
         }
@@ -159,25 +155,7 @@ fn push_word(
     Ok(0)
 }
 
-/// The words of a layout, one after the other.
-fn push_laid(
-    alloc: Global,
-    whole: &Whole,
-    function: u32,
-    laid: &[VirtualWord],
-    words: &mut Listed<Word>,
-) -> Result<LaidPlaces, NoMemory>
-    ensures words { IfOk result (λ _. words.new ≡ words.old ++ words_of (laid_pieces (seen whole.now) function 0 laid.now)) }
-    ensures starts { IfOk result (λ places. places.starts ≡ starts_from (seen whole.now) function (length words.old) 0 laid.now) }
-    ensures marks { IfOk result (λ places. places.marks ≡ marks_from (seen whole.now) function (length words.old) 0 laid.now) }
-{
-    let mut starts = Listed::new(alloc);
-    let mut marks = Listed::new(alloc);
-    note_laid(alloc, whole, function, laid, words, &mut starts, &mut marks)?;
-    Ok(LaidPlaces { starts, marks })
-}
-
-/// The same, where the places are noted in lists that hold none yet.
+/// The words of a layout, one after the other; the places are noted in lists that hold none yet.
 #[tactic(auto, using(crate::proofs::Emitting::emits_words, crate::proofs::Emitting::emits_starts, crate::proofs::Emitting::emits_marks))]
 fn note_laid(
     alloc: Global,
@@ -198,16 +176,14 @@ fn note_laid(
     let mut rest = laid;
     'laid: loop {
         let begin = words.len() as u32;
+        starts.push(begin)?;
         match rest.split_first() {
-            None => {
-                starts.push(begin)?;
-                return Ok(());
-            }
+            None => return Ok(()),
             Some((word, others)) => {
-                let mark = push_word(alloc, whole, function, place, word, words)?;
-                starts.push(begin)?;
+                let next = sum(place, 1)?;
+                let mark = push_word(alloc, whole, function, place, next, word, words)?;
                 marks.push(mark)?;
-                place = sum(place, 1)?;
+                place = next;
                 rest = others;
             }
         }
@@ -234,7 +210,7 @@ fn push_word_landings(
     }
 }
 
-/// The landings of a layout, one after the other; gives where those of each word begin.
+/// The landings of a layout, one after the other; where those of each word begin is noted in a list that holds none yet.
 #[tactic(auto, using(crate::proofs::Emitting::lands_first, crate::proofs::Emitting::lands_words, crate::proofs::Emitting::lands_landings))]
 fn push_landings(
     alloc: Global,
@@ -242,16 +218,17 @@ fn push_landings(
     function: u32,
     laid: &[VirtualWord],
     words: &mut Listed<Word>,
-) -> Result<Listed<u32>, NoMemory>
+    landings: &mut Listed<u32>,
+) -> Result<(), NoMemory>
+    requires { landings.old ≡ [] }
     ensures words { IfOk result (λ _. words.new ≡ words.old ++ words_of (landing_pieces (seen whole.now) function 0 laid.now)) }
-    ensures landings { IfOk result (λ landings. landings ≡ landings_from (seen whole.now) function (length words.old) 0 laid.now) }
+    ensures landings { IfOk result (λ _. landings.new ≡ landings_from (seen whole.now) function (length words.old) 0 laid.now) }
 {
-    let mut landings = Listed::new(alloc);
     let mut place = 0;
     let mut rest = laid;
     'landings: loop {
         match rest.split_first() {
-            None => return Ok(landings),
+            None => return Ok(()),
             Some((word, others)) => {
                 let begin = words.len() as u32;
                 push_word_landings(alloc, whole, function, place, word, words)?;
@@ -263,7 +240,29 @@ fn push_landings(
     }
 }
 
-/// The words of a function: its entry, its layout and its landings.
+/// The words of a function: its entry, its layout and its landings; the places are noted in lists that hold none yet.
+fn note_function(
+    alloc: Global,
+    whole: &Whole,
+    function: u32,
+    words: &mut Listed<Word>,
+    starts: &mut Listed<u32>,
+    landings: &mut Listed<u32>,
+    marks: &mut Listed<u32>,
+) -> Result<(), NoMemory>
+    requires no_starts { starts.old ≡ [] }
+    requires no_landings { landings.old ≡ [] }
+    requires no_marks { marks.old ≡ [] }
+    ensures words { IfOk result (λ _. words.new ≡ words.old ++ words_of (function_pieces (seen whole.now) function)) }
+    ensures places { IfOk result (λ _. (x : ThePlaces) → x.entry ≡ length words.old → x.starts ≡ starts.new → x.landings ≡ landings.new → x.marks ≡ marks.new → x ≡ places_at (seen whole.now) function (length words.old)) }
+{
+    push_entry(alloc, whole, function, words)?;
+    let laid = words_of(whole, function);
+    note_laid(alloc, whole, function, laid, words, starts, marks)?;
+    push_landings(alloc, whole, function, laid, words, landings)
+}
+
+/// The words of a function, and their places.
 fn push_function(
     alloc: Global,
     whole: &Whole,
@@ -274,10 +273,18 @@ fn push_function(
     ensures places { IfOk result (λ places. places ≡ places_at (seen whole.now) function (length words.old)) }
 {
     let entry = words.len() as u32;
-    push_entry(alloc, whole, function, words)?;
-    let laid = words_of(whole, function);
-    let LaidPlaces { starts, marks } = push_laid(alloc, whole, function, laid, words)?;
-    let landings = push_landings(alloc, whole, function, laid, words)?;
+    let mut starts = Listed::new(alloc);
+    let mut landings = Listed::new(alloc);
+    let mut marks = Listed::new(alloc);
+    note_function(
+        alloc,
+        whole,
+        function,
+        words,
+        &mut starts,
+        &mut landings,
+        &mut marks,
+    )?;
     Ok(FunctionPlaces {
         entry,
         starts,
@@ -286,18 +293,19 @@ fn push_function(
     })
 }
 
-/// The words of so many functions, one after the other.
+/// The words of so many functions, one after the other; their places are noted in a list that holds none yet.
 #[tactic(auto, using(crate::proofs::Emitting::gives_first, crate::proofs::Emitting::gives_turn, crate::proofs::Emitting::gives_words, crate::proofs::Emitting::gives_places))]
 fn push_functions(
     alloc: Global,
     whole: &Whole,
     count: u32,
     words: &mut Listed<Word>,
-) -> Result<Listed<FunctionPlaces>, NoMemory>
+    places: &mut Listed<FunctionPlaces>,
+) -> Result<(), NoMemory>
+    requires { places.old ≡ [] }
     ensures words { IfOk result (λ _. words.new ≡ words.old ++ words_of (functions_pieces (seen whole.now) 0 count)) }
-    ensures places { IfOk result (λ places. places ≡ all_places (seen whole.now) (length words.old) 0 count) }
+    ensures places { IfOk result (λ _. places.new ≡ all_places (seen whole.now) (length words.old) 0 count) }
 {
-    let mut places = Listed::new(alloc);
     let mut function = 0;
     let mut left = count;
     'functions: while left > 0 {
@@ -306,7 +314,7 @@ fn push_functions(
         function = sum(function, 1)?;
         left -= 1;
     }
-    Ok(places)
+    Ok(())
 }
 
 /// The words of a program of so many functions.
@@ -322,7 +330,8 @@ pub(crate) fn pieces_of(
 {
     let mut words = Listed::new(alloc);
     push_start(alloc, whole, main, &mut words)?;
-    let places = push_functions(alloc, whole, functions, &mut words)?;
+    let mut places = Listed::new(alloc);
+    push_functions(alloc, whole, functions, &mut words, &mut places)?;
     let depth_trap = words.len() as u32;
     push_one(
         alloc,
@@ -360,7 +369,7 @@ pub(crate) fn with_places<'a, 'p>(
 }
 
 /// The words of a program, of which all but the places are found, where no word has more than one split; and their places, which
-/// the first pass found.
+/// the first pass found too.
 #[tactic(auto, using(crate::proofs::Standing::second_pass))]
 pub(crate) fn pieces_that_stand(
     alloc: Global,
@@ -375,10 +384,5 @@ pub(crate) fn pieces_that_stand(
 {
     let draft = pieces_of(alloc, whole, main, functions)?;
     let standing = with_places(whole, draft.places.as_slice(), draft.depth_trap);
-    let made = pieces_of(alloc, &standing, main, functions)?;
-    Ok(Pieces {
-        words: made.words,
-        places: draft.places,
-        depth_trap: draft.depth_trap,
-    })
+    pieces_of(alloc, &standing, main, functions)
 }

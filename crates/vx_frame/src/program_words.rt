@@ -46,7 +46,8 @@ fn program_of(alloc: Global, whole: &Whole, flow: &Flow) -> Result<Finished, NoM
 {
     let functions = flow.functions.len() as u32;
     let pieces = pieces_that_stand(alloc, whole, flow.main, functions)?;
-    let places = region_places(alloc, whole.layouts, pieces.places.as_slice())?;
+    let mut places = Listed::new(alloc);
+    region_places(alloc, whole.layouts, pieces.places.as_slice(), &mut places)?;
     let program = program_with(alloc, whole, flow, pieces.words)?;
     Ok(Finished { program, places })
 }

@@ -1,7 +1,7 @@
 // The places of the words of all regions: one pass over the words of each layout, in which the mark of each planned word is put
 // behind those of its region. specs/Regions.antt has the lists.
 
-ghost use Rattle.std.specs.Prelude.{◌≡◌, ◌++◌, IfOk, map, slice_index_or};
+ghost use Rattle.std.specs.Prelude.{◌≡◌, ◌++◌, [], IfOk, map, slice_index_or};
 ghost use Rattle.vx_frame.specs.Regions.{Noted, all_traces, rows_of, traced};
 ghost use Rattle.vx_slots.specs.Seen.{no_places};
 
@@ -70,24 +70,25 @@ fn marks_of<'a>(places: &'a [FunctionPlaces], function: u32) -> &'a [u32]
     }
 }
 
-/// The places of the words of the regions of all functions, the functions in order.
+/// The places of the words of the regions of all functions, the functions in order, in a list that holds none yet.
 #[tactic(auto, using(crate::proofs::RegionPlaces::traces_next, crate::proofs::RegionPlaces::traces_are))]
 pub(crate) fn region_places(
     alloc: Global,
     layouts: &[VWords],
     places: &[FunctionPlaces],
-) -> Result<Listed<TracePlaces>, NoMemory>
-    ensures { IfOk result (λ regions. regions ≡ all_traces places.now 0 layouts.now) }
+    regions: &mut Listed<TracePlaces>,
+) -> Result<(), NoMemory>
+    requires { regions.old ≡ [] }
+    ensures { IfOk result (λ _. regions.new ≡ all_traces places.now 0 layouts.now) }
 {
-    let mut regions = Listed::new(alloc);
     let mut function = 0;
     let mut rest = layouts;
     'layouts: loop {
         match rest.split_first() {
-            None => return Ok(regions),
+            None => return Ok(()),
             Some((layout, others)) => {
                 let rows = region_rows(alloc, layout, marks_of(places, function))?;
-                push_rows(&mut regions, rows)?;
+                push_rows(regions, rows)?;
                 function = sum(function, 1)?;
                 rest = others;
             }

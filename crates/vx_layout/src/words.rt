@@ -37,26 +37,26 @@ fn stub_length(item: &Item) -> u32
     }
 }
 
-/// How many words the ways out of a word take.
-fn word_stubs_length(word: &[Item]) -> Result<u32, NoMemory>
-    ensures { IfOk result (λ count. count ≡ length (word_stubs (λ b. 0) word.now)) }
+/// Where the ways out of a word end that stand from a place on.
+fn word_stubs_end(first: u32, word: &[Item]) -> Result<u32, NoMemory>
+    ensures { IfOk result (λ end. end ≡ first + length (word_stubs (λ b. 0) word.now)) }
 {
-    let mut count = 0;
+    let mut place = first;
     for item in word {
-        count = sum(count, stub_length(item))?;
+        place = sum(place, stub_length(item))?;
     }
-    Ok(count)
+    Ok(place)
 }
 
-/// How many words the ways out of the splits of a region take.
-fn stubs_length(words: &[Listed<Item>]) -> Result<u32, NoMemory>
-    ensures { IfOk result (λ count. count ≡ length (stubs (λ b. 0) words.now)) }
+/// Where the ways out of the splits of a region end that stand from a place on.
+fn stubs_end(first: u32, words: &[Listed<Item>]) -> Result<u32, NoMemory>
+    ensures { IfOk result (λ end. end ≡ first + length (stubs (λ b. 0) words.now)) }
 {
-    let mut count = 0;
+    let mut place = first;
     for word in words {
-        count = sum(count, word_stubs_length(word.as_slice())?)?;
+        place = word_stubs_end(place, word.as_slice())?;
     }
-    Ok(count)
+    Ok(place)
 }
 
 /// How many words an exit takes.
@@ -89,23 +89,23 @@ fn region_length(region: &Region) -> Result<u32, NoMemory>
 {
     let words = region.words.len() as u32;
     let last = sum(words, exit_length(region))?;
-    sum(last, stubs_length(region.words.as_slice())?)
+    stubs_end(last, region.words.as_slice())
 }
 
 // places
 
-/// Where each region begins, and where the last one ends.
-fn region_starts(alloc: Global, regions: &[Region]) -> Result<Vec<u32>, NoMemory>
-    ensures { IfOk result (λ starts. starts.items ≡ starts_of regions.now) }
+/// Where each region begins, and where the last one ends, in a list that holds none yet.
+fn push_starts(regions: &[Region], starts: &mut Vec<u32>) -> Result<(), NoMemory>
+    requires { starts.old.items ≡ [] }
+    ensures { IfOk result (λ _. starts.new.items ≡ starts_of regions.now) }
 {
-    let mut starts = Vec::new(alloc);
     let mut start = 0;
     starts.push(start)?;
     for region in regions {
         start = sum(start, region_length(region)?)?;
         starts.push(start)?;
     }
-    Ok(starts)
+    Ok(())
 }
 
 /// Where a region begins.
@@ -147,7 +147,8 @@ fn node_places(alloc: Global, starts: &[u32], nodes: &[Node]) -> Result<Vec<u32>
 fn block_places(alloc: Global, graph: &MixedGraph) -> Result<Vec<u32>, NoMemory>
     ensures { IfOk result (λ places. places.items ≡ places_of graph.now.regions graph.now.nodes) }
 {
-    let starts = region_starts(alloc, graph.regions.as_slice())?;
+    let mut starts = Vec::new(alloc);
+    push_starts(graph.regions.as_slice(), &mut starts)?;
     node_places(alloc, &starts, graph.nodes.as_slice())
 }
 
@@ -332,7 +333,7 @@ fn push_planned(
             items,
         };
         push(words, planned)?;
-        place = sum(place, word_stubs_length(word.as_slice())?)?;
+        place = word_stubs_end(place, word.as_slice())?;
     }
     Ok(())
 }

@@ -141,3 +141,6 @@ gathers_more before ts k all new next e g c a items height n =
       further = omega arith;
       within = omega arith;
     }
+
+pub operands_bound : {p : Phrase} {ts : List Token} {i k : ℕ} {r : Operands} → (a : AreOperands p ts i k r) → k + depth_behind 0 a.derivation ≤ 200
+operands_bound a = let e = a.height in let f = a.shallow in omega arith

@@ -1,5 +1,5 @@
 -- Expressions, part by part.
-use Rattle.std.proofs.Common.{◌≡◌, ◌≢◌, ◌≤◌, ◌<◌, ◌+◌, ◌⊎◌, ℕ, suc, max, Bool, true, false, nat_eq, if◌then◌else◌, List, [], ◌∷◌, length, drop, Some, None, Result, Ok, Err, refl, sym, ap, ◌∙◌, subst, arith}
+use Rattle.std.proofs.Common.{◌≡◌, ◌≢◌, ◌≤◌, ◌<◌, ◌+◌, ◌⊎◌, inl, inr, ℕ, suc, max, Bool, true, false, nat_eq, if◌then◌else◌, List, [], ◌∷◌, length, drop, Some, None, Result, Ok, Err, refl, sym, ap, ◌∙◌, subst, arith}
 use Rattle.std.specs.Prelude.{IfOk, IfErr}
 use Rattle.std.proofs.lemmas.Bool.{eqb-true, eq-eqb}
 use Rattle.vx_ast.specs.declared.syntax.Name.{Name}
@@ -674,3 +674,23 @@ choice_is ts i k j test chosen other r a h b p c e g n =
       further = omega arith;
       within = omega arith;
     }
+
+-- an operand that is to be the first of a construct, or to have a mark behind it, and is not held in a box
+
+pub choice_not_held : (ts : List Token) (i k : ℕ) (test : Operand) (s : Stop) → Asks ts i k test → (s ≡ NoMemory) ⊎ ((s ≡ TooDeep) × (200 ≤ k + test.height)) → Stops (A phrases.Expression ∷ []) (drop i ts) ts k 0 s
+choice_not_held ts i k test s a (inl e) = subst (λ z. Stops (A phrases.Expression ∷ []) (drop i ts) ts k 0 z) (sym e) tt
+choice_not_held ts i k test s a (inr d) = subst (λ z. Stops (A phrases.Expression ∷ []) (drop i ts) ts k 0 z) (sym d.0) (choice_too_deep ts i k test a d.1)
+
+pub rest_not_held : (n : ℕ) (ts : List Token) (i k left : ℕ) (s : Stop) → Operates n ts i → (s ≡ NoMemory) ⊎ ((s ≡ TooDeep) × (200 ≤ k + left)) → Stops (A (LevelRest n) ∷ []) (drop i ts) ts k left s
+rest_not_held n ts i k left s o (inl e) = subst (λ z. Stops (A (LevelRest n) ∷ []) (drop i ts) ts k left z) (sym e) tt
+rest_not_held n ts i k left s o (inr d) = subst (λ z. Stops (A (LevelRest n) ∷ []) (drop i ts) ts k left z) (sym d.0) (rest_too_deep n ts i k left o d.1)
+
+pub colon_not_held : (ts : List Token) (i k : ℕ) (test chosen : Operand) (s : Stop) → Asks ts i k test → k + test.height < 200 → IsOperand phrases.Expression ts (test.next + 1) (k + 1) chosen
+    → (s ≡ NoMemory) ⊎ Misfit (mark marks.Colon) ts chosen.next s → Stops (A phrases.Expression ∷ []) (drop i ts) ts k 0 s
+colon_not_held ts i k test chosen s a h b (inl e) = subst (λ z. Stops (A phrases.Expression ∷ []) (drop i ts) ts k 0 z) (sym e) tt
+colon_not_held ts i k test chosen s a h b (inr m) = colon_stops ts i k test chosen s a h b m
+
+pub end_not_held : {p r : Phrase} {q : Part} {z : TokenKind} {ts : List Token} {i j : ℕ} {inner : Operand} (k : ℕ) (s : Stop) → Opens p q (A r ∷ The z ∷ []) ts i j 1 → IsOperand r ts j (k + 1) inner
+    → (s ≡ NoMemory) ⊎ Misfit (The z) ts inner.next s → Stops (A p ∷ []) (drop i ts) ts k 0 s
+end_not_held {p} {ts} {i} k s o a (inl e) = subst (λ y. Stops (A p ∷ []) (drop i ts) ts k 0 y) (sym e) tt
+end_not_held k s o a (inr m) = enclosed_end k s o a.is (operand_bound a) a.within m

@@ -176,6 +176,12 @@ misfit_number {ts} {ps} {j} {l} b s m = let f = b.fits in b.stops s (stops_misfi
 pub no_memory : (ps : List Part) (here ts : List Token) (k left : ℕ) (s : Stop) → s ≡ NoMemory → Stops ps here ts k left s
 no_memory ps here ts k left s e = subst (λ z. Stops ps here ts k left z) (sym e) tt
 
+-- what stands before a mark is not held in a box, or has no such mark behind it
+pub misfit_held : {outer : List Part} {ts : List Token} {i k : ℕ} {front : Derivation Row → Derivation Row} {z : TokenKind} {ps : List Part} {j l : ℕ} → Before outer ts i k front (The z ∷ ps) j l → (s : Stop)
+    → (s ≡ NoMemory) ⊎ Misfit (The z) ts j s → Stops outer (drop i ts) ts k 0 s
+misfit_held {outer} {ts} {i} {k} b s (inl e) = no_memory outer (drop i ts) ts k 0 s e
+misfit_held b s (inr m) = misfit b s m
+
 pub misfit_name : {outer : List Part} {ts : List Token} {i k : ℕ} {front : Derivation Row → Derivation Row} {ps : List Part} {j l : ℕ} → Before outer ts i k front (AName ∷ ps) j l → (s : Stop) → (s ≡ NoMemory) ⊎ Misfit AName ts j s
     → Stops outer (drop i ts) ts k 0 s
 misfit_name {outer} {ts} {i} {k} b s (inl e) = no_memory outer (drop i ts) ts k 0 s e

@@ -9,7 +9,7 @@ ghost use Rattle.vx_ast.specs.Phrases.{Level, LevelRest, Primary, NameRest, Argu
 ghost use Rattle.vx_parse.specs.Reading.{Ended, next_kind, Stops, IsOperand, IsBehind, IsNamed, IsIndex, AreCalled, AreOperands, AreMore};
 
 use crate::choice::{join, strength, unary_operator};
-use crate::memory::{append, boxed};
+use crate::memory::{append, boxed, boxed_closed, boxed_within, closed};
 use crate::stop::Stop;
 use crate::token::{is_mark, kind_at, read_mark, read_name};
 use std::alloc::Global;
@@ -70,14 +70,10 @@ pub fn read_expression(
     if !is_mark(kind_at(tokens, test.next), Mark::Question) {
         return Ok(test);
     }
-    if depth + test.height >= DEEPEST {
-        return Err(Stop::TooDeep);
-    }
-    let condition = boxed(alloc, test.expression)?;
+    let condition = boxed_within(alloc, test.expression, depth + test.height)?;
     let chosen = read_expression(alloc, tokens, test.next + 1, depth + 1)?;
-    let taken = boxed(alloc, chosen.expression)?;
-    let other_place = read_mark(tokens, chosen.next, Mark::Colon)?;
-    let other = read_expression(alloc, tokens, other_place, depth + 1)?;
+    let taken = boxed_closed(alloc, tokens, chosen.next, Mark::Colon, chosen.expression)?;
+    let other = read_expression(alloc, tokens, chosen.next + 1, depth + 1)?;
     let left = boxed(alloc, other.expression)?;
     Ok(Operand {
         expression: Expression::Choice(condition, taken, left),
@@ -129,10 +125,7 @@ fn read_behind(
     if strength(kind) != level {
         return Ok(left);
     }
-    if depth + left.height >= DEEPEST {
-        return Err(Stop::TooDeep);
-    }
-    let before = boxed(alloc, left.expression)?;
+    let before = boxed_within(alloc, left.expression, depth + left.height)?;
     let right = read_level(alloc, tokens, left.next + 1, depth + 1, level)?;
     let behind = boxed(alloc, right.expression)?;
     let both = Operand {
@@ -182,9 +175,9 @@ fn read_primary(alloc: Global, tokens: &[Token], place: usize, depth: u32) -> Re
         }
         let inner = read_expression(alloc, tokens, place + 1, depth + 1)?;
         return Ok(Operand {
-            expression: inner.expression,
+            expression: closed(tokens, inner.next, Mark::CloseParenthesis, inner.expression)?,
             height: 1 + inner.height,
-            next: read_mark(tokens, inner.next, Mark::CloseParenthesis)?,
+            next: inner.next + 1,
         });
     }
     match kind {
@@ -255,9 +248,15 @@ fn read_index(alloc: Global, tokens: &[Token], place: usize, depth: u32) -> Resu
     }
     let index = read_expression(alloc, tokens, place + 1, depth + 1)?;
     Ok(IndexRead {
-        index: boxed(alloc, index.expression)?,
+        index: boxed_closed(
+            alloc,
+            tokens,
+            index.next,
+            Mark::CloseBracket,
+            index.expression,
+        )?,
         height: 1 + index.height,
-        next: read_mark(tokens, index.next, Mark::CloseBracket)?,
+        next: index.next + 1,
     })
 }
 

@@ -132,13 +132,16 @@ fn read_done_to(
             simple: step(kind, target),
             next: place + 1,
         }),
-        Following::Value => {
-            let value = read_expression(alloc, tokens, place + 1, depth)?;
-            Ok(SimpleRead {
+        Following::Value => match read_expression(alloc, tokens, place + 1, depth) {
+            Ok(value) => Ok(SimpleRead {
                 simple: assign(kind, target, value.expression),
                 next: value.next,
-            })
-        }
+            }),
+            Err(stop) => {
+                drop(target.expression);
+                Err(stop)
+            }
+        },
         Following::Nothing => Ok(SimpleRead {
             simple: Simple::Evaluate(target.expression),
             next: place,
@@ -188,9 +191,10 @@ fn read_given(alloc: Global, tokens: &[Token], place: usize, depth: u32) -> Resu
     }
     if is_mark(kind, Mark::OpenBracket) {
         let size = read_size(tokens, place + 1)?;
+        let next = read_mark(tokens, size.next, Mark::CloseBracket)?;
         return Ok(GivenRead {
             given: Given::Words(size.size),
-            next: read_mark(tokens, size.next, Mark::CloseBracket)?,
+            next,
         });
     }
     Ok(GivenRead {

@@ -16,7 +16,7 @@ ghost use Rattle.vx_parse.specs.Statements.{MeansAction, MeansFirst, MeansTest, 
 
 use crate::expression::{DEEPEST, Operands, read_expression, read_more};
 use crate::first_token::{Opening, opening_of};
-use crate::memory::{append, boxed};
+use crate::memory::{append, boxed, boxed_closed};
 use crate::simple::{read_items, read_simple};
 use crate::stop::Stop;
 use crate::token::{is_mark, is_word, kind_at, place_at, read_mark, read_text, read_word};
@@ -144,9 +144,16 @@ fn read_test(alloc: Global, tokens: &[Token], place: usize, depth: u32) -> Resul
 {
     let inner = read_mark(tokens, place, Mark::OpenParenthesis)?;
     let test = read_expression(alloc, tokens, inner, depth)?;
-    let held = boxed(alloc, test.expression)?;
-    let next = read_mark(tokens, test.next, Mark::CloseParenthesis)?;
-    Ok(TestRead { test: held, next })
+    Ok(TestRead {
+        test: boxed_closed(
+            alloc,
+            tokens,
+            test.next,
+            Mark::CloseParenthesis,
+            test.expression,
+        )?,
+        next: test.next + 1,
+    })
 }
 
 // The items that `int` begins in the head of a `for`.

@@ -141,29 +141,29 @@ fn end_of(
     if block.ops.len() > LONGEST {
         return Ok(nothing_known(alloc));
     }
-    let passed = passed_over(alloc, claims, place, block)?;
     match &block.exit {
         Exit::Call {
             result: written,
             ..
-        } => Ok(Claim {
-            facts: without_result(alloc, passed.facts, *written)?,
-            accesses: Listed::new(alloc),
-        }),
-        _ => Ok(passed),
+        } => end_of_call(alloc, claims, place, block, *written),
+        _ => passed_over(alloc, claims, place, block),
     }
 }
 
-/// The facts that are left behind a call that writes this value, if any.
-fn without_result(
+/// What is known behind a call that writes this value, if any: no more of arrays.
+fn end_of_call(
     alloc: Global,
-    facts: Listed<Fact>,
+    claims: &[Claim],
+    place: BlockId,
+    block: &Block,
     written: Option<Value>,
-) -> Result<Listed<Fact>, NoMemory> {
-    match written {
-        Some(value) => Ok(without(alloc, facts.as_slice(), value)?),
-        None => Ok(facts),
+) -> Result<Claim, NoMemory> {
+    let mut end = passed_over(alloc, claims, place, block)?;
+    end.accesses = Listed::new(alloc);
+    if let Some(value) = written {
+        end.facts = without(alloc, end.facts.as_slice(), value)?;
     }
+    Ok(end)
 }
 
 /// Goes over the operations of a block from what is claimed at its start.

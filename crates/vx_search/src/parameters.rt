@@ -107,12 +107,11 @@ fn go_over_all(
     ensures { IfOk result (λ _. SameRows found.old found.new) }
 {
     ready_at_first(&mut calls.ready, calls.functions.as_slice())?;
-    go_over_ready(alloc, calls, found, functions, rounds)?;
     for (function, graph) in functions.iter().enumerate() {
-        ready_if_left(calls, function, graph.parameters.len())?;
         go_over_ready(alloc, calls, found, functions, rounds)?;
+        ready_if_left(calls, function, graph.parameters.len())?;
     }
-    Ok(())
+    go_over_ready(alloc, calls, found, functions, rounds)
 }
 
 /// Makes a function ready that was not gone over, of which nothing is given.
@@ -180,10 +179,21 @@ fn give_up(calls: &mut Calls, function: usize, parameters: usize) {
 }
 
 fn calls_of(alloc: Global, functions: &[Graph]) -> Result<Calls, NoMemory> {
-    let mut noted = Vec::new(alloc);
+    let mut calls = Calls {
+        functions: Vec::new(alloc),
+        hulls: Vec::new(alloc),
+        ready: Vec::new(alloc),
+        facts: 0,
+    };
+    begin_calls(&mut calls, functions)?;
+    Ok(calls)
+}
+
+/// Notes all functions, to none of which anything was passed so far.
+fn begin_calls(calls: &mut Calls, functions: &[Graph]) -> Result<(), NoMemory> {
     let mut size: usize = 0;
     for graph in functions {
-        noted.push(Noted {
+        calls.functions.push(Noted {
             start: size,
             waiting: 0,
             is_gone_over: false,
@@ -191,15 +201,10 @@ fn calls_of(alloc: Global, functions: &[Graph]) -> Result<Calls, NoMemory> {
         size = size.saturating_add(graph.parameters.len());
     }
     for (function, graph) in functions.iter().enumerate() {
-        count_calls(&mut noted, function, graph.blocks.as_slice());
+        count_calls(&mut calls.functions, function, graph.blocks.as_slice());
     }
-    let hulls = vec![in alloc; none(); size]?;
-    Ok(Calls {
-        functions: noted,
-        hulls,
-        ready: Vec::new(alloc),
-        facts: 0,
-    })
+    calls.hulls.resize(size, none())?;
+    Ok(())
 }
 
 /// The function that a block calls, where it is another one.
@@ -282,22 +287,20 @@ fn has_waited(noted: &mut Vec<Noted>, function: usize) -> bool {
     }
 }
 
-/// The row of a function, empty where it says nothing.
-fn row_of(
-    alloc: Global,
+/// Puts the row of a function into an empty one, which stays so where that says nothing.
+fn put_row(
     calls: &Calls,
     function: usize,
     parameters: usize,
-) -> Result<Listed<Interval>, NoMemory> {
-    let mut row = Listed::new(alloc);
+    row: &mut Vec<Interval>,
+) -> Result<(), NoMemory> {
     for place in 0..parameters {
         row.push(hull_at(calls, function, place))?;
     }
-    if says_something(row.as_slice()) {
-        Ok(row)
-    } else {
-        Ok(Listed::new(alloc))
+    if !says_something(row.as_slice()) {
+        row.clear();
     }
+    Ok(())
 }
 
 fn hull_at(calls: &Calls, function: usize, place: usize) -> Interval {
@@ -324,13 +327,6 @@ fn says_something(row: &[Interval]) -> bool {
     bounded
 }
 
-/// What is given of the parameters of a function, and the claims that were looked for with that.
-#[derive(Drop)]
-struct Settled {
-    row: Listed<Interval>,
-    claims: Vec<Claim>,
-}
-
 /// Looks for the claims of a function with what is given of its parameters, and notes what it passes.
 fn go_over(
     alloc: Global,
@@ -342,50 +338,53 @@ fn go_over(
 ) -> Result<(), NoMemory>
     ensures { IfOk result (λ _. SameRows found.old found.new) }
 {
-    let Settled { row, claims } = settle(alloc, calls, function, graph, rounds)?;
-    keep(calls, found, function, row, claims);
-    Ok(())
+    let mut row = Vec::new(alloc);
+    let claims = settle(alloc, calls, function, graph, rounds, &mut row)?;
+    keep_claims(calls, found, function, claims);
+    keep_row(found, function, row)
 }
 
-/// What is given of the parameters of a function. Where it passes itself more, the intervals are made wider and the claims are looked
-/// for anew; where it passes itself more in the last turn too, nothing is given.
+/// Looks for what is given of the parameters of a function, from an empty row, and for the claims with that. Where it passes itself
+/// more, the intervals are made wider and the claims are looked for anew; where it passes itself more in the last turn too, nothing is
+/// given.
 fn settle(
     alloc: Global,
     calls: &mut Calls,
     function: usize,
     graph: &Graph,
     rounds: u32,
-) -> Result<Settled, NoMemory> {
-    let begun = row_of(alloc, calls, function, graph.parameters.len())?;
-    let mut row = row_of(alloc, calls, function, graph.parameters.len())?;
+    row: &mut Vec<Interval>,
+) -> Result<Vec<Claim>, NoMemory> {
+    put_row(calls, function, graph.parameters.len(), row)?;
+    let begun = row.as_slice().to_vec(alloc)?;
+    settle_from(alloc, calls, function, graph, rounds, begun.as_slice(), row)
+}
+
+/// Looks for what is given from a row, which is what was passed by others.
+fn settle_from(
+    alloc: Global,
+    calls: &mut Calls,
+    function: usize,
+    graph: &Graph,
+    rounds: u32,
+    begun: &[Interval],
+    row: &mut Vec<Interval>,
+) -> Result<Vec<Claim>, NoMemory> {
     for turn in 0..MOST_TURNS {
         let claims = passing_on(alloc, calls, graph, row.as_slice(), rounds)?;
         if is_all_inside(calls, function, row.as_slice()) {
-            return Ok(Settled { row, claims });
+            return Ok(claims);
         }
         drop(claims);
-        let wider = if turn < COMPARED_TURNS {
-            row_to_compared(alloc, calls, function, graph, row.as_slice())
+        if turn < COMPARED_TURNS {
+            widen_to_compared(calls, function, graph.blocks.as_slice(), row);
         } else {
-            row_kept(alloc, calls, function, begun.as_slice())
-        };
-        row = wider?;
+            widen_to_kept(calls, function, begun, row);
+        }
     }
     give_up(calls, function, graph.parameters.len());
-    nothing_given(alloc, calls, graph, rounds)
-}
-
-fn nothing_given(
-    alloc: Global,
-    calls: &mut Calls,
-    graph: &Graph,
-    rounds: u32,
-) -> Result<Settled, NoMemory> {
-    let claims = passing_on(alloc, calls, graph, &[], rounds)?;
-    Ok(Settled {
-        row: Listed::new(alloc),
-        claims,
-    })
+    row.clear();
+    passing_on(alloc, calls, graph, &[], rounds)
 }
 
 /// The claims of a function with what is given of its parameters. What its calls then pass is noted.
@@ -463,61 +462,51 @@ fn is_all_inside(calls: &Calls, function: usize, row: &[Interval]) -> bool {
     true
 }
 
-/// A row whose ends are at the next numbers with which the function compares where more than it says was passed.
-fn row_to_compared(
-    alloc: Global,
-    calls: &Calls,
-    function: usize,
-    graph: &Graph,
-    row: &[Interval],
-) -> Result<Listed<Interval>, NoMemory> {
-    let mut wider = Listed::new(alloc);
-    for (place, within) in row.iter().enumerate() {
-        let passed = hull_at(calls, function, place);
-        wider.push(up_to_compared(graph.blocks.as_slice(), *within, passed))?;
+/// Takes the ends of a row to the next numbers with which the blocks compare where more than it says was passed.
+fn widen_to_compared(calls: &Calls, function: usize, blocks: &[Block], row: &mut Vec<Interval>) {
+    for place in 0..row.len() {
+        if place < row.len() {
+            let passed = hull_at(calls, function, place);
+            row[place] = up_to_compared(blocks, row[place], passed);
+        }
     }
-    Ok(wider)
 }
 
-/// What is left of a row: nothing where more than it says was passed.
-fn row_kept(
-    alloc: Global,
-    calls: &Calls,
-    function: usize,
-    row: &[Interval],
-) -> Result<Listed<Interval>, NoMemory> {
-    let mut left = Listed::new(alloc);
-    for (place, within) in row.iter().enumerate() {
-        let kept = if is_inside(hull_at(calls, function, place), *within) {
-            *within
-        } else {
-            full()
-        };
-        left.push(kept)?;
-    }
-    Ok(left)
-}
-
-/// Keeps what was found for a function, the claims only where they are not too many.
-fn keep(
-    calls: &mut Calls,
-    found: &mut Found,
-    function: usize,
-    row: Listed<Interval>,
-    claims: Vec<Claim>,
-)
-    ensures { SameRows found.old found.new }
-{
-    if function < found.given.len() && function < found.kept.len() {
-        found.given[function] = row;
-        let facts = calls.facts.saturating_add(facts_of(claims.as_slice()));
-        if facts <= MOST_KEPT {
-            calls.facts = facts;
-            found.kept[function] = Kept {
-                claims,
-                is_kept: true,
+/// Takes a row to what is left of another: nothing where more than that says was passed.
+fn widen_to_kept(calls: &Calls, function: usize, begun: &[Interval], row: &mut Vec<Interval>) {
+    for (place, within) in begun.iter().enumerate() {
+        if place < row.len() {
+            row[place] = if is_inside(hull_at(calls, function, place), *within) {
+                *within
+            } else {
+                full()
             };
         }
+    }
+}
+
+/// Keeps what is given of the parameters of a function.
+fn keep_row(found: &mut Found, function: usize, row: Vec<Interval>) -> Result<(), NoMemory>
+    ensures { IfOk result (λ _. SameRows found.old found.new) }
+{
+    let given = Listed::from_vec(row)?;
+    if function < found.given.len() {
+        found.given[function] = given;
+    }
+    Ok(())
+}
+
+/// Keeps the claims that were looked for, where they are not too many.
+fn keep_claims(calls: &mut Calls, found: &mut Found, function: usize, claims: Vec<Claim>)
+    ensures { SameRows found.old found.new }
+{
+    let facts = calls.facts.saturating_add(facts_of(claims.as_slice()));
+    if function < found.kept.len() && facts <= MOST_KEPT {
+        calls.facts = facts;
+        found.kept[function] = Kept {
+            claims,
+            is_kept: true,
+        };
     }
 }
 

@@ -1,7 +1,7 @@
 // The registers by which words name values: a value's own where it has one, else a scratch register by the value's place
 // among those of the word that are in slots.
 
-ghost use Rattle.std.specs.Prelude.{◌≡◌, ◌<◌, ◌≤◌, ◌+◌, ◌^◌, ◌++◌, ◌==◌, not, IfOk, length};
+ghost use Rattle.std.specs.Prelude.{◌≡◌, ◌<◌, ◌≤◌, ◌+◌, ◌^◌, ◌++◌, ◌∷◌, ◌==◌, not, IfOk, length};
 ghost use Rattle.std.specs.List.{filter};
 ghost use Rattle.vx_mixed.specs.LaidSettled.{bank_in};
 ghost use Rattle.vx_target.specs.Target.{stack_on, kept, is_slotted, is_branch, holds_branch, home, same_file, slotted, once, scratch, general, general_of, branch_of, register_of, source_of};
@@ -163,18 +163,25 @@ fn push_others(values: &[Value], but: Value, found: &mut Listed<Value>) -> Resul
     }
 }
 
+/// A value, and those of others that are not it.
+fn in_front(alloc: Global, value: Value, others: &[Value]) -> Result<Listed<Value>, NoMemory>
+    ensures { IfOk result (λ found. found ≡ value ∷ filter (λ u. not (u == value)) others.now) }
+{
+    let mut found = Listed::new(alloc);
+    found.push(value)?;
+    push_others(others, value, &mut found)?;
+    Ok(found)
+}
+
 /// Each of some values once, where it stands first. Some values are those that one word reads.
 pub fn once(alloc: Global, values: &[Value]) -> Result<Listed<Value>, NoMemory>
     ensures { IfOk result (λ found. found ≡ once values.now) }
 {
-    let mut found = Listed::new(alloc);
     match values.split_first() {
-        None => Ok(found),
+        None => Ok(Listed::new(alloc)),
         Some((value, rest)) => {
             let others = once(alloc, rest)?;
-            found.push(*value)?;
-            push_others(others.as_slice(), *value, &mut found)?;
-            Ok(found)
+            in_front(alloc, *value, others.as_slice())
         }
     }
 }

@@ -15,7 +15,7 @@ use crate::program::{Whole, slot};
 use crate::registers::{branch_of, general, general_of, holds_branch, stack_on};
 use std::alloc::Global;
 use vx_base::arithmetic::{Code, Compare};
-use vx_base::listed::Listed;
+use vx_base::listed::{Listed, copied};
 use vx_base::outcome::NoMemory;
 use vx_flow::graph::Value;
 use vx_isa::operation::{BranchRegister, GeneralRegister, Operation, Register, Source};
@@ -128,9 +128,7 @@ pub fn push_settled_word(
 fn word_of_two(alloc: Global, first: Operation, second: Operation) -> Result<Word, NoMemory>
     ensures { IfOk result (λ word. word ≡ record { ops = first ∷ second ∷ []; idle = 0 }) }
 {
-    let mut ops = Listed::new(alloc);
-    ops.push(first)?;
-    ops.push(second)?;
+    let ops = copied(alloc, &[first, second])?;
     Ok(Word { ops, idle: 0 })
 }
 

@@ -1,11 +1,17 @@
-use Rattle.std.proofs.Common.{◌∙◌, Option, List, ap}
-use Rattle.std.specs.Prelude.{ℕ}
-use Rattle.vx_bug.specs.Copies.{with_copies}
-use Rattle.vx_bug.specs.Ledgers.{homes_in}
+use Rattle.std.proofs.Common.{sym}
 use Rattle.vx_bug.proofs.assignment.copies_housed.Goals as goal
 
 pub returns-clause-clustered : goal.returns-clause-clustered
-returns-clause-clustered c = c.in_ok-clustered.ensures ∙ ap (λ (z : List (Option ℕ)). with_copies c.args.trace.now (homes_in z) c.args.chosen.now) c.as_slice.ensures.value
+returns-clause-clustered c = sym c.in_ok-beside.ensures.clustered
+
+pub lay_beside-requires-clause-out : goal.lay_beside-requires-clause-out
+lay_beside-requires-clause-out c = c.no_standings-out.ensures
+
+pub lay_beside-requires-clause-chosen : goal.lay_beside-requires-clause-chosen
+lay_beside-requires-clause-chosen c = c.requires.chosen
+
+pub lay_beside-requires-clause-fixed : goal.lay_beside-requires-clause-fixed
+lay_beside-requires-clause-fixed c = c.requires.fixed
 
 pub returns-clause-homes : goal.returns-clause-homes
-returns-clause-homes c = c.in_ok-homes.ensures
+returns-clause-homes c = c.in_ok-beside.ensures.homes

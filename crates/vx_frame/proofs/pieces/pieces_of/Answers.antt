@@ -9,16 +9,16 @@ pub returns-clause-words : goal.returns-clause-words
 returns-clause-words c =
     let T = seen c.args.whole.now in
     let started : c.push_start.new.words ≡ start_words T c.args.main = c.in_ok-push_start.ensures ∙ ap (λ xs. xs ++ start_words T c.args.main) c.new-words.ensures in
-    program_words T c.args.main c.args.functions c.push_start.new.words c.push_functions.new.words c.push_one.new.words started c.in_ok-places.ensures.words c.in_ok-push_one.ensures
+    program_words T c.args.main c.args.functions c.push_start.new.words c.push_functions.new.words c.push_one.new.words started c.in_ok-push_functions.ensures.words c.in_ok-push_one.ensures
 
 pub returns-clause-places : goal.returns-clause-places
 returns-clause-places c =
     let T = seen c.args.whole.now in
     let started : c.push_start.new.words ≡ start_words T c.args.main = c.in_ok-push_start.ensures ∙ ap (λ xs. xs ++ start_words T c.args.main) c.new-words.ensures in
-    c.in_ok-places.ensures.places ∙ ap (λ xs. all_places T (length xs) 0 c.args.functions) started
+    c.in_ok-push_functions.ensures.places ∙ ap (λ xs. all_places T (length xs) 0 c.args.functions) started
 
 pub returns-clause-trap : goal.returns-clause-trap
 returns-clause-trap c =
     let T = seen c.args.whole.now in
     let started : c.push_start.new.words ≡ start_words T c.args.main = c.in_ok-push_start.ensures ∙ ap (λ xs. xs ++ start_words T c.args.main) c.new-words.ensures in
-    trap_is T c.args.main c.args.functions c.len-depth_trap.result c.push_start.new.words c.push_functions.new.words started c.in_ok-places.ensures.words c.len-depth_trap.ensures.len
+    trap_is T c.args.main c.args.functions c.len-depth_trap.result c.push_start.new.words c.push_functions.new.words started c.in_ok-push_functions.ensures.words c.len-depth_trap.ensures.len

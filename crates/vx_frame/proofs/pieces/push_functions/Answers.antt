@@ -9,7 +9,7 @@ pub functions-init : goal.functions-init
 functions-init c =
     let T = seen c.args.whole.now in
     let words = c.args.words.now in
-    subst (λ (z : List FunctionPlaces). Gives T c.args.count words words z 0 c.args.count) (sym c.new-places.ensures) (gives_first T c.args.count words)
+    subst (λ (z : List FunctionPlaces). Gives T c.args.count words words z 0 c.args.count) (sym c.requires) (gives_first T c.args.count words)
 
 -- one function more
 pub functions-preserved : goal.functions-preserved

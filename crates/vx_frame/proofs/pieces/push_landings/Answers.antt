@@ -12,7 +12,7 @@ landings-init c =
     let T = seen c.args.whole.now in
     let laid = c.args.laid.now in
     let words = c.args.words.now in
-    subst (λ (z : List ℕ). Lands T c.args.function laid words words z 0 laid) (sym c.new-landings.ensures) (lands_first T c.args.function laid words)
+    subst (λ (z : List ℕ). Lands T c.args.function laid words words z 0 laid) (sym c.requires) (lands_first T c.args.function laid words)
 
 -- one word more
 pub landings-preserved : goal.landings-preserved

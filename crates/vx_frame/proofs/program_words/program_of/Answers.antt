@@ -18,6 +18,6 @@ pub returns-clause-places : goal.returns-clause-places
 returns-clause-places c =
     let T = seen c.args.whole.now in
     let main = c.args.flow.now.main in
-    c.in_ok-places.ensures
+    c.in_ok-region_places.ensures
     ∙ ap (λ (ps : List FunctionPlaces). all_traces ps 0 c.args.whole.now.layouts.now)
     (c.as_slice.ensures ∙ c.in_ok-pieces.ensures.places ∙ ap (λ (n : ℕ). all_places T (functions_begin T main) 0 n) c.len-functions.ensures.len)

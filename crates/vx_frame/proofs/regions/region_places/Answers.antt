@@ -1,10 +1,15 @@
 use Rattle.std.proofs.Common.{◌++◌, List, sym, ap, ◌∙◌}
 use Rattle.std.proofs.lemmas.List.{nil_from_length}
 use Rattle.vx_mixed.specs.declared.layout.VWords.{VWords}
+use Rattle.vx_target.specs.declared.finished.TracePlaces.{TracePlaces}
 use Rattle.vx_frame.specs.Regions.{all_traces}
 use Rattle.vx_frame.proofs.RegionPlaces.{traces_are, traces_next}
 use Rattle.vx_frame.proofs.Shorter.{shorter}
 use Rattle.vx_frame.proofs.regions.region_places.Goals as goal
+
+-- no layout so far
+pub layouts-init : goal.layouts-init
+layouts-init c = ap (λ (z : List TracePlaces). z ++ all_traces c.args.places.now 0 c.args.layouts.now) c.requires
 
 -- one layout more
 pub layouts-preserved : goal.layouts-preserved

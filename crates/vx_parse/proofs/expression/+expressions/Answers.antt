@@ -13,11 +13,11 @@ use Rattle.vx_parse.specs.declared.expression.Operand.{Operand}
 use Rattle.vx_parse.specs.Reading.{next_kind, Stops, IsOperand, Passed}
 use Rattle.vx_parse.proofs.HandedOn.{handed_on}
 use Rattle.vx_parse.proofs.Views.{view-Call}
-use Rattle.vx_parse.proofs.Expressions.{map_ok, map_err, enclosed_inner, enclosed_end, bracket_opens, call_opens, nested_opens, unary_opens, nested_is, element_is, call_is, use_is, no_rest, number_is, name_is, name_stops, no_primary, unary_is, primary_is, primary_stops, operates, rest_is_none, rest_too_deep, right_stops, more_is, more_stops, level_is, level_first, level_then, test_is, test_stops, asks, choice_too_deep, chosen_stops, colon_stops, other_stops, choice_is}
+use Rattle.vx_parse.proofs.Expressions.{map_ok, map_err, enclosed_inner, enclosed_end, bracket_opens, call_opens, nested_opens, unary_opens, nested_is, element_is, call_is, use_is, no_rest, number_is, name_is, name_stops, no_primary, unary_is, primary_is, primary_stops, operates, rest_is_none, rest_not_held, right_stops, more_is, more_stops, level_is, level_first, level_then, test_is, test_stops, asks, choice_not_held, chosen_stops, colon_not_held, end_not_held, operand_bound, other_stops, choice_is}
 use Rattle.vx_parse.proofs.Parts.{no_memory}
-use Rattle.vx_parse.proofs.Measures.{further_falls, rank_falls, deeper_fits, depth_fits, height_fits, behind_place, depth_within}
+use Rattle.vx_parse.proofs.Measures.{further_falls, rank_falls, deeper_fits, depth_fits, height_fits, behind_place, depth_within, same, one_on, just_on, past_one, past_next, past_both, room, one_on_within, both_within, level_below, level_within, unary_first, below_4, below_four, below_6, below_19, below_20, below_21, expression_first, primary_first, level_first_of}
 use Rattle.vx_parse.proofs.Steps.{stops_no_phrase, too_deep, stops_opened}
-use Rattle.vx_parse.proofs.Arguments.{no_arguments, first_stops, others_stop, arguments_are, gathered, comma_opens, next_stops, gathers_more}
+use Rattle.vx_parse.proofs.Arguments.{operands_bound, no_arguments, first_stops, others_stop, arguments_are, gathered, comma_opens, next_stops, gathers_more}
 use Rattle.vx_parse.proofs.expression.+expressions.Goals as goal
 
 three : {a b c x y z : syntax.Phrase One} → a ≡ x → b ≡ y → c ≡ z → syntax.Choice a b c ≡ syntax.Choice x y z
@@ -52,29 +52,18 @@ read_behind-returns-then-strength-level-clause-ok t c =
     let e : strength (next_kind (drop c.args.left.next c.args.tokens.now)) ≡ c.strength.result = sym (c.strength.ensures ∙ ap strength c.kind_at-kind.ensures) in
     rest_is_none c.args.level c.args.tokens.now c.args.depth c.args.left c.requires.within c.requires.shallow (λ q. c.if-strength-level.true (sym e ∙ q))
 
-pub read_behind-returns-then-depth-left-ge-DEEPEST-clause-stop : goal.read_behind-returns-then-depth-left-ge-DEEPEST-clause-stop
-read_behind-returns-then-depth-left-ge-DEEPEST-clause-stop t c =
-    let e : strength (next_kind (drop c.args.left.next c.args.tokens.now)) ≡ c.strength.result = sym (c.strength.ensures ∙ ap strength c.kind_at-kind.ensures) in
-    let o = operates c.args.level c.args.tokens.now c.args.left.next c.requires.ended c.requires.within c.requires.level (e ∙ c.if-strength-level.false) in
-    rest_too_deep c.args.level c.args.tokens.now c.args.left.next c.args.depth c.args.left.height o (omega arith)
-
 pub read_behind-read_level-requires : goal.read_behind-read_level-requires
 read_behind-read_level-requires t c =
     let e : strength (next_kind (drop c.args.left.next c.args.tokens.now)) ≡ c.strength.result = sym (c.strength.ensures ∙ ap strength c.kind_at-kind.ensures) in
     let o = operates c.args.level c.args.tokens.now c.args.left.next c.requires.ended c.requires.within c.requires.level (e ∙ c.if-strength-level.false) in
-    let b : c.args.depth + c.args.left.height < 200 = let x = c.if-depth-left-ge-DEEPEST.false in omega arith in
-    let l : c.args.level ≤ 9 = c.requires.level in
-    let h : c.args.left.next < c.args.left.next + 1 = omega arith in
-    let r : 8 + c.args.level < 32 = omega arith in
-    let d : c.args.depth + 1 ≤ 200 = omega arith in
-    let m : c.args.level ≤ 10 = omega arith in
-    (further_falls (length c.args.tokens.now) c.args.left.next (c.args.left.next + 1) (8 + c.args.level) 19 t c.decreases c.requires.within h r, (c.requires.ended, (o.passed.within, (d, m))))
+    let l = c.requires.level in
+    (further_falls (length c.args.tokens.now) c.args.left.next (c.args.left.next + 1) (8 + c.args.level) 19 t c.decreases c.requires.within (one_on c.args.left.next) (level_below c.args.level l), (c.requires.ended, (o.passed.within, (room c.args.depth c.args.left.height c.in_ok-before.ensures.ok.1, level_within c.args.level l))))
 
 pub read_behind-returns-in_err-right-clause-stop : goal.read_behind-returns-in_err-right-clause-stop
 read_behind-returns-in_err-right-clause-stop t c =
     let e : strength (next_kind (drop c.args.left.next c.args.tokens.now)) ≡ c.strength.result = sym (c.strength.ensures ∙ ap strength c.kind_at-kind.ensures) in
     let o = operates c.args.level c.args.tokens.now c.args.left.next c.requires.ended c.requires.within c.requires.level (e ∙ c.if-strength-level.false) in
-    let b : c.args.depth + c.args.left.height < 200 = omega arith in
+    let b = c.in_ok-before.ensures.ok.1 in
     handed_on _ _ _ c.from_residual-in_err-right.ensures.1 (right_stops c.args.level c.args.tokens.now c.args.left.next c.args.depth c.args.left.height _ o b c.in_err-right.ensures.stop)
 
 pub read_behind-returns-clause-ok : goal.read_behind-returns-clause-ok
@@ -83,7 +72,7 @@ read_behind-returns-clause-ok t c =
     let o = operates c.args.level c.args.tokens.now c.args.left.next c.requires.ended c.requires.within c.requires.level (e ∙ c.if-strength-level.false) in
     let both : Operand = record { expression = c.join.result; height = 1 + c.max.result; next = c.in_ok-right.right.next } in
     let kind : phrase_of c.join.result ≡ joined (next_kind (drop c.args.left.next c.args.tokens.now)) (phrase_of c.args.left.expression) (phrase_of c.in_ok-right.right.expression) =
-    c.join.ensures ∙ ap (λ z. joined z (phrase_of c.in_ok-before.before.value) (phrase_of c.in_ok-behind.behind.value)) c.kind_at-kind.ensures ∙ ap (λ z. joined (next_kind (drop c.args.left.next c.args.tokens.now)) (phrase_of z) (phrase_of c.in_ok-behind.behind.value)) c.in_ok-before.ensures.ok ∙ ap (λ z. joined (next_kind (drop c.args.left.next c.args.tokens.now)) (phrase_of c.args.left.expression) (phrase_of z)) c.in_ok-behind.ensures.ok in
+    c.join.ensures ∙ ap (λ z. joined z (phrase_of c.in_ok-before.before.value) (phrase_of c.in_ok-behind.behind.value)) c.kind_at-kind.ensures ∙ ap (λ z. joined (next_kind (drop c.args.left.next c.args.tokens.now)) (phrase_of z) (phrase_of c.in_ok-behind.behind.value)) c.in_ok-before.ensures.ok.0 ∙ ap (λ z. joined (next_kind (drop c.args.left.next c.args.tokens.now)) (phrase_of c.args.left.expression) (phrase_of z)) c.in_ok-behind.ensures.ok in
     let high : 1 + c.max.result ≡ 1 + max c.args.left.height c.in_ok-right.right.height = let x = c.max.ensures in omega arith in
     map_ok c.read_behind.result (λ r. more_is c.args.level c.args.tokens.now c.args.left.next c.args.depth (phrase_of c.args.left.expression) c.args.left.height c.in_ok-right.right both r o c.in_ok-right.ensures.ok kind high refl) c.read_behind.ensures.ok
 
@@ -93,7 +82,7 @@ read_behind-returns-clause-stop t c =
     let o = operates c.args.level c.args.tokens.now c.args.left.next c.requires.ended c.requires.within c.requires.level (e ∙ c.if-strength-level.false) in
     let both : Operand = record { expression = c.join.result; height = 1 + c.max.result; next = c.in_ok-right.right.next } in
     let kind : phrase_of c.join.result ≡ joined (next_kind (drop c.args.left.next c.args.tokens.now)) (phrase_of c.args.left.expression) (phrase_of c.in_ok-right.right.expression) =
-    c.join.ensures ∙ ap (λ z. joined z (phrase_of c.in_ok-before.before.value) (phrase_of c.in_ok-behind.behind.value)) c.kind_at-kind.ensures ∙ ap (λ z. joined (next_kind (drop c.args.left.next c.args.tokens.now)) (phrase_of z) (phrase_of c.in_ok-behind.behind.value)) c.in_ok-before.ensures.ok ∙ ap (λ z. joined (next_kind (drop c.args.left.next c.args.tokens.now)) (phrase_of c.args.left.expression) (phrase_of z)) c.in_ok-behind.ensures.ok in
+    c.join.ensures ∙ ap (λ z. joined z (phrase_of c.in_ok-before.before.value) (phrase_of c.in_ok-behind.behind.value)) c.kind_at-kind.ensures ∙ ap (λ z. joined (next_kind (drop c.args.left.next c.args.tokens.now)) (phrase_of z) (phrase_of c.in_ok-behind.behind.value)) c.in_ok-before.ensures.ok.0 ∙ ap (λ z. joined (next_kind (drop c.args.left.next c.args.tokens.now)) (phrase_of c.args.left.expression) (phrase_of z)) c.in_ok-behind.ensures.ok in
     let high : 1 + c.max.result ≡ 1 + max c.args.left.height c.in_ok-right.right.height = let x = c.max.ensures in omega arith in
     map_err c.read_behind.result (λ s. more_stops c.args.level c.args.tokens.now c.args.left.next c.args.depth c.args.left.height c.in_ok-right.right both s o c.in_ok-right.ensures.ok high refl) c.read_behind.ensures.stop
 
@@ -106,50 +95,33 @@ read_expression-returns-then-not-is_mark-clause-ok t c =
     let n : next_kind (drop c.in_ok-test.test.next c.args.tokens.now) ≡ kinds.Mark marks.Question → ⊥ = λ e. c.is_mark.ensures.no c.if-not-is_mark.true (c.kind_at.ensures ∙ e) in
     test_is c.args.tokens.now c.args.place c.args.depth c.in_ok-test.test c.requires.within n c.in_ok-test.ensures.ok
 
-pub read_expression-returns-then-depth-test-ge-DEEPEST-clause-stop : goal.read_expression-returns-then-depth-test-ge-DEEPEST-clause-stop
-read_expression-returns-then-depth-test-ge-DEEPEST-clause-stop t c =
-    let q : next_kind (drop c.in_ok-test.test.next c.args.tokens.now) ≡ kinds.Mark marks.Question = sym c.kind_at.ensures ∙ c.is_mark.ensures.yes c.if-not-is_mark.false in
-    let a = asks c.args.tokens.now c.args.place c.args.depth c.in_ok-test.test c.requires.ended c.requires.within c.in_ok-test.ensures.ok q in
-    choice_too_deep c.args.tokens.now c.args.place c.args.depth c.in_ok-test.test a (omega arith)
-
 pub read_expression-read_expression-requires : goal.read_expression-read_expression-requires
 read_expression-read_expression-requires t c =
     let q : next_kind (drop c.in_ok-test.test.next c.args.tokens.now) ≡ kinds.Mark marks.Question = sym c.kind_at.ensures ∙ c.is_mark.ensures.yes c.if-not-is_mark.false in
     let a = asks c.args.tokens.now c.args.place c.args.depth c.in_ok-test.test c.requires.ended c.requires.within c.in_ok-test.ensures.ok q in
-    let b : c.args.depth + c.in_ok-test.test.height < 200 = let x = c.if-depth-test-ge-DEEPEST.false in omega arith in
-    let v : c.args.place < c.in_ok-test.test.next = a.is.further in
-    let h : c.args.place < c.in_ok-test.test.next + 1 = omega arith in
-    let d : c.args.depth + 1 ≤ 200 = omega arith in
-    (further_falls (length c.args.tokens.now) c.args.place (c.in_ok-test.test.next + 1) 20 20 t c.decreases c.requires.within h (omega arith), (c.requires.ended, (a.passed.within, d)))
+    (further_falls (length c.args.tokens.now) c.args.place (c.in_ok-test.test.next + 1) 20 20 t c.decreases c.requires.within (past_one c.args.place c.in_ok-test.test.next a.is.further) below_20, (c.requires.ended, (a.passed.within, room c.args.depth c.in_ok-test.test.height c.in_ok-condition.ensures.ok.1)))
 
 pub read_expression-returns-in_err-chosen-clause-stop : goal.read_expression-returns-in_err-chosen-clause-stop
 read_expression-returns-in_err-chosen-clause-stop t c =
     let q : next_kind (drop c.in_ok-test.test.next c.args.tokens.now) ≡ kinds.Mark marks.Question = sym c.kind_at.ensures ∙ c.is_mark.ensures.yes c.if-not-is_mark.false in
     let a = asks c.args.tokens.now c.args.place c.args.depth c.in_ok-test.test c.requires.ended c.requires.within c.in_ok-test.ensures.ok q in
-    let b : c.args.depth + c.in_ok-test.test.height < 200 = omega arith in
+    let b = c.in_ok-condition.ensures.ok.1 in
     handed_on _ _ _ c.from_residual-in_err-chosen.ensures.1 (chosen_stops c.args.tokens.now c.args.place c.args.depth c.in_ok-test.test _ a b c.in_err-chosen.ensures.stop)
-
-pub read_expression-returns-in_err-other_place-clause-stop : goal.read_expression-returns-in_err-other_place-clause-stop
-read_expression-returns-in_err-other_place-clause-stop t c =
-    let q : next_kind (drop c.in_ok-test.test.next c.args.tokens.now) ≡ kinds.Mark marks.Question = sym c.kind_at.ensures ∙ c.is_mark.ensures.yes c.if-not-is_mark.false in
-    let a = asks c.args.tokens.now c.args.place c.args.depth c.in_ok-test.test c.requires.ended c.requires.within c.in_ok-test.ensures.ok q in
-    let b : c.args.depth + c.in_ok-test.test.height < 200 = omega arith in
-    handed_on _ _ _ c.from_residual-in_err-other_place.ensures.1 (colon_stops c.args.tokens.now c.args.place c.args.depth c.in_ok-test.test c.in_ok-chosen.chosen _ a b c.in_ok-chosen.ensures.ok c.in_err-other_place.ensures.stop)
 
 pub read_expression-returns-in_err-other-clause-stop : goal.read_expression-returns-in_err-other-clause-stop
 read_expression-returns-in_err-other-clause-stop t c =
     let q : next_kind (drop c.in_ok-test.test.next c.args.tokens.now) ≡ kinds.Mark marks.Question = sym c.kind_at.ensures ∙ c.is_mark.ensures.yes c.if-not-is_mark.false in
     let a = asks c.args.tokens.now c.args.place c.args.depth c.in_ok-test.test c.requires.ended c.requires.within c.in_ok-test.ensures.ok q in
-    let b : c.args.depth + c.in_ok-test.test.height < 200 = omega arith in
-    handed_on _ _ _ c.from_residual-in_err-other.ensures.1 (other_stops c.args.tokens.now c.args.place c.args.depth c.in_ok-other_place.other_place c.in_ok-test.test c.in_ok-chosen.chosen _ a b c.in_ok-chosen.ensures.ok c.in_ok-other_place.ensures.ok c.in_err-other.ensures.stop)
+    let b = c.in_ok-condition.ensures.ok.1 in
+    handed_on _ _ _ c.from_residual-in_err-other.ensures.1 (other_stops c.args.tokens.now c.args.place c.args.depth (c.in_ok-chosen.chosen.next + 1) c.in_ok-test.test c.in_ok-chosen.chosen _ a b c.in_ok-chosen.ensures.ok c.in_ok-taken.ensures.ok.1 c.in_err-other.ensures.stop)
 
 pub read_expression-returns-clause-ok : goal.read_expression-returns-clause-ok
 read_expression-returns-clause-ok t c =
     let q : next_kind (drop c.in_ok-test.test.next c.args.tokens.now) ≡ kinds.Mark marks.Question = sym c.kind_at.ensures ∙ c.is_mark.ensures.yes c.if-not-is_mark.false in
     let a = asks c.args.tokens.now c.args.place c.args.depth c.in_ok-test.test c.requires.ended c.requires.within c.in_ok-test.ensures.ok q in
-    let b : c.args.depth + c.in_ok-test.test.height < 200 = omega arith in
-    let e : syntax.Choice (phrase_of c.in_ok-condition.condition.value) (phrase_of c.in_ok-taken.taken.value) (phrase_of c.in_ok-left.left.value) ≡ syntax.Choice (phrase_of c.in_ok-test.test.expression) (phrase_of c.in_ok-chosen.chosen.expression) (phrase_of c.in_ok-other.other.expression) = three (ap phrase_of c.in_ok-condition.ensures.ok) (ap phrase_of c.in_ok-taken.ensures.ok) (ap phrase_of c.in_ok-left.ensures.ok) in
-    choice_is c.args.tokens.now c.args.place c.args.depth c.in_ok-other_place.other_place c.in_ok-test.test c.in_ok-chosen.chosen c.in_ok-other.other _ a b c.in_ok-chosen.ensures.ok c.in_ok-other_place.ensures.ok c.in_ok-other.ensures.ok e (let x = c.max.ensures in let y = c.max-2.ensures in omega arith) refl
+    let b = c.in_ok-condition.ensures.ok.1 in
+    let e : syntax.Choice (phrase_of c.in_ok-condition.condition.value) (phrase_of c.in_ok-taken.taken.value) (phrase_of c.in_ok-left.left.value) ≡ syntax.Choice (phrase_of c.in_ok-test.test.expression) (phrase_of c.in_ok-chosen.chosen.expression) (phrase_of c.in_ok-other.other.expression) = three (ap phrase_of c.in_ok-condition.ensures.ok.0) (ap phrase_of c.in_ok-taken.ensures.ok.0) (ap phrase_of c.in_ok-left.ensures.ok) in
+    choice_is c.args.tokens.now c.args.place c.args.depth (c.in_ok-chosen.chosen.next + 1) c.in_ok-test.test c.in_ok-chosen.chosen c.in_ok-other.other _ a b c.in_ok-chosen.ensures.ok c.in_ok-taken.ensures.ok.1 c.in_ok-other.ensures.ok e (let x = c.max.ensures in let y = c.max-2.ensures in omega arith) refl
 
 pub read_level-returns-in_err-left-clause-stop : goal.read_level-returns-in_err-left-clause-stop
 read_level-returns-in_err-left-clause-stop t c =
@@ -178,7 +150,7 @@ read_more-read_expression-requires t c =
     let q : next_kind (drop c.more.all.next c.args.tokens.now) ≡ kinds.Mark marks.Comma = sym c.kind_at.ensures ∙ c.is_mark.ensures.yes c.if-not-is_mark.false in
     let o = comma_opens c.args.tokens.now c.more.all.next c.requires.ended c.more.invariant.within q in
     let h = behind_place c.args.before.next c.more.all.next c.more.invariant.further in
-    (further_falls (length c.args.tokens.now) c.args.before.next (c.more.all.next + 1) 20 19 t c.decreases c.requires.within h (omega arith), (c.requires.ended, (o.passed.within, depth_within c.args.depth c.args.before.height c.requires.depth)))
+    (further_falls (length c.args.tokens.now) c.args.before.next (c.more.all.next + 1) 20 19 t c.decreases c.requires.within h below_20, (c.requires.ended, (o.passed.within, depth_within c.args.depth c.args.before.height c.requires.depth)))
 
 pub read_more-returns-in_err-next-clause-stop : goal.read_more-returns-in_err-next-clause-stop
 read_more-returns-in_err-next-clause-stop t c =
@@ -200,28 +172,18 @@ read_index-returns-then-depth-ge-DEEPEST-clause-stop t c =
 pub read_index-read_expression-requires : goal.read_index-read_expression-requires
 read_index-read_expression-requires t c =
     let o = bracket_opens c.args.tokens.now c.args.place c.requires.ended c.requires.within c.requires.here in
-    let w : c.args.place + 1 < length c.args.tokens.now = o.passed.within in
     let b : c.args.depth < 200 = let x = c.if-depth-ge-DEEPEST.false in omega arith in
-    let d : c.args.depth + 1 ≤ 200 = omega arith in
-    let h : c.args.place < c.args.place + 1 = omega arith in
-    (further_falls (length c.args.tokens.now) c.args.place (c.args.place + 1) 20 3 t c.decreases c.requires.within h (omega arith), (c.requires.ended, (w, d)))
+    (further_falls (length c.args.tokens.now) c.args.place (c.args.place + 1) 20 3 t c.decreases c.requires.within (one_on c.args.place) below_20, (c.requires.ended, (o.passed.within, one_on_within c.args.depth b)))
 
 pub read_index-returns-in_err-index-clause-stop : goal.read_index-returns-in_err-index-clause-stop
 read_index-returns-in_err-index-clause-stop t c =
     let o = bracket_opens c.args.tokens.now c.args.place c.requires.ended c.requires.within c.requires.here in
     handed_on _ _ _ c.from_residual.ensures.1 (enclosed_inner c.args.depth _ o c.in_err-index.ensures.stop)
 
-pub read_index-returns-in_err-read_mark-clause-stop : goal.read_index-returns-in_err-read_mark-clause-stop
-read_index-returns-in_err-read_mark-clause-stop t c =
-    let o = bracket_opens c.args.tokens.now c.args.place c.requires.ended c.requires.within c.requires.here in
-    let a = c.in_ok-index.ensures.ok in
-    let b = a.height in let d = a.shallow in
-    handed_on _ _ _ c.from_residual-in_err-read_mark.ensures.1 (enclosed_end c.args.depth _ o a.is (omega arith) a.within c.in_err-read_mark.ensures.stop)
-
 pub read_index-returns-clause-ok : goal.read_index-returns-clause-ok
 read_index-returns-clause-ok t c =
     let o = bracket_opens c.args.tokens.now c.args.place c.requires.ended c.requires.within c.requires.here in
-    λ name made e h n. element_is c.args.tokens.now c.args.place c.args.depth name c.in_ok-index.index made o c.in_ok-index.ensures.ok (subst (λ z. Passed (mark marks.CloseBracket) c.args.tokens.now c.in_ok-index.index.next z) (sym n) c.in_ok-read_mark.ensures.ok) (e ∙ ap (λ z. syntax.Element name (phrase_of z)) c.in_ok-boxed.ensures.ok) h
+    λ name made e h n. element_is c.args.tokens.now c.args.place c.args.depth name c.in_ok-index.index made o c.in_ok-index.ensures.ok (subst (λ z. Passed (mark marks.CloseBracket) c.args.tokens.now c.in_ok-index.index.next z) (sym n) c.in_ok-boxed_closed.ensures.ok.1) (e ∙ ap (λ z. syntax.Element name (phrase_of z)) c.in_ok-boxed_closed.ensures.ok.0) h
 
 pub read_called-returns-then-depth-ge-DEEPEST-clause-stop : goal.read_called-returns-then-depth-ge-DEEPEST-clause-stop
 read_called-returns-then-depth-ge-DEEPEST-clause-stop t c =
@@ -231,11 +193,8 @@ read_called-returns-then-depth-ge-DEEPEST-clause-stop t c =
 pub read_called-read_arguments-requires : goal.read_called-read_arguments-requires
 read_called-read_arguments-requires t c =
     let o = call_opens c.args.tokens.now c.args.place c.requires.ended c.requires.within c.requires.here in
-    let w : c.args.place + 1 < length c.args.tokens.now = o.passed.within in
     let b : c.args.depth < 200 = let x = c.if-depth-ge-DEEPEST.false in omega arith in
-    let d : c.args.depth + 1 ≤ 200 = omega arith in
-    let h : c.args.place < c.args.place + 1 = omega arith in
-    (further_falls (length c.args.tokens.now) c.args.place (c.args.place + 1) 21 3 t c.decreases c.requires.within h (omega arith), (c.requires.ended, (w, d)))
+    (further_falls (length c.args.tokens.now) c.args.place (c.args.place + 1) 21 3 t c.decreases c.requires.within (one_on c.args.place) below_21, (c.requires.ended, (o.passed.within, one_on_within c.args.depth b)))
 
 pub read_called-returns-in_err-arguments-clause-stop : goal.read_called-returns-in_err-arguments-clause-stop
 read_called-returns-in_err-arguments-clause-stop t c =
@@ -246,8 +205,7 @@ pub read_called-returns-in_err-read_mark-clause-stop : goal.read_called-returns-
 read_called-returns-in_err-read_mark-clause-stop t c =
     let o = call_opens c.args.tokens.now c.args.place c.requires.ended c.requires.within c.requires.here in
     let a = c.in_ok-arguments.ensures.ok in
-    let b = a.height in let d = a.shallow in
-    handed_on _ _ _ c.from_residual-in_err-read_mark.ensures.1 (enclosed_end c.args.depth _ o a.is (omega arith) a.within c.in_err-read_mark.ensures.stop)
+    handed_on _ _ _ c.from_residual-in_err-read_mark.ensures.1 (enclosed_end c.args.depth _ o a.is (operands_bound a) a.within c.in_err-read_mark.ensures.stop)
 
 pub read_called-returns-clause-ok : goal.read_called-returns-clause-ok
 read_called-returns-clause-ok t c =
@@ -278,9 +236,7 @@ read_primary-read_expression-requires t c =
     let k : next_kind (drop c.args.place c.args.tokens.now) ≡ kinds.Mark marks.OpenParenthesis = sym c.kind_at-kind.ensures ∙ c.is_mark.ensures.yes c.if-is_mark.true in
     let o = nested_opens c.args.tokens.now c.args.place c.requires.ended c.requires.within k in
     let b : c.args.depth < 200 = let x = c.if-depth-ge-DEEPEST.false in omega arith in
-    let d : c.args.depth + 1 ≤ 200 = omega arith in
-    let h : c.args.place < c.args.place + 1 = omega arith in
-    (further_falls (length c.args.tokens.now) c.args.place (c.args.place + 1) 20 5 t c.decreases c.requires.within h (omega arith), (c.requires.ended, (o.passed.within, d)))
+    (further_falls (length c.args.tokens.now) c.args.place (c.args.place + 1) 20 5 t c.decreases c.requires.within (one_on c.args.place) below_20, (c.requires.ended, (o.passed.within, one_on_within c.args.depth b)))
 
 pub read_primary-returns-in_err-inner-clause-stop : goal.read_primary-returns-in_err-inner-clause-stop
 read_primary-returns-in_err-inner-clause-stop t c =
@@ -288,19 +244,11 @@ read_primary-returns-in_err-inner-clause-stop t c =
     let o = nested_opens c.args.tokens.now c.args.place c.requires.ended c.requires.within k in
     handed_on _ _ _ c.from_residual.ensures.1 (enclosed_inner c.args.depth _ o c.in_err-inner.ensures.stop)
 
-pub read_primary-returns-in_err-read_mark-clause-stop : goal.read_primary-returns-in_err-read_mark-clause-stop
-read_primary-returns-in_err-read_mark-clause-stop t c =
-    let k : next_kind (drop c.args.place c.args.tokens.now) ≡ kinds.Mark marks.OpenParenthesis = sym c.kind_at-kind.ensures ∙ c.is_mark.ensures.yes c.if-is_mark.true in
-    let o = nested_opens c.args.tokens.now c.args.place c.requires.ended c.requires.within k in
-    let a = c.in_ok-inner.ensures.ok in
-    let b = a.height in let d = a.shallow in
-    handed_on _ _ _ c.from_residual-in_err-read_mark.ensures.1 (enclosed_end c.args.depth _ o a.is (omega arith) a.within c.in_err-read_mark.ensures.stop)
-
 pub read_primary-returns-then-is_mark-clause-ok : goal.read_primary-returns-then-is_mark-clause-ok
 read_primary-returns-then-is_mark-clause-ok t c =
     let k : next_kind (drop c.args.place c.args.tokens.now) ≡ kinds.Mark marks.OpenParenthesis = sym c.kind_at-kind.ensures ∙ c.is_mark.ensures.yes c.if-is_mark.true in
     let o = nested_opens c.args.tokens.now c.args.place c.requires.ended c.requires.within k in
-    nested_is c.args.tokens.now c.args.place c.args.depth 0 0 c.in_ok-inner.inner _ o c.in_ok-inner.ensures.ok c.in_ok-read_mark.ensures.ok refl refl
+    nested_is c.args.tokens.now c.args.place c.args.depth 0 0 c.in_ok-inner.inner _ o c.in_ok-inner.ensures.ok c.in_ok-closed.ensures.ok.1 (ap phrase_of c.in_ok-closed.ensures.ok.0) refl
 
 pub read_primary-returns-in-Number-clause-ok : goal.read_primary-returns-in-Number-clause-ok
 read_primary-returns-in-Number-clause-ok t c =
@@ -329,11 +277,8 @@ pub read_unary-read_unary-requires : goal.read_unary-read_unary-requires
 read_unary-read_unary-requires t c =
     let p : parts_of (Level 0) (next_kind (drop c.args.place c.args.tokens.now)) ≡ Some (phrases.The (next_kind (drop c.args.place c.args.tokens.now)) ∷ A (Level 0) ∷ []) = subst (λ z. parts_of (Level 0) z ≡ Some (phrases.The z ∷ A (Level 0) ∷ [])) c.kind_at.ensures c.in-Some.ensures.operator.1 in
     let o = unary_opens c.args.tokens.now c.args.place c.requires.ended c.requires.within p in
-    let w : c.args.place + 1 < length c.args.tokens.now = o.passed.within in
     let b : c.args.depth < 200 = let x = c.if-depth-ge-DEEPEST.false in omega arith in
-    let d : c.args.depth + 1 ≤ 200 = omega arith in
-    let h : c.args.place < c.args.place + 1 = omega arith in
-    (further_falls (length c.args.tokens.now) c.args.place (c.args.place + 1) 6 6 t c.decreases c.requires.within h (omega arith), (c.requires.ended, (w, d)))
+    (further_falls (length c.args.tokens.now) c.args.place (c.args.place + 1) 6 6 t c.decreases c.requires.within (one_on c.args.place) below_6, (c.requires.ended, (o.passed.within, one_on_within c.args.depth b)))
 
 pub read_unary-returns-in_err-operand-in-Some-clause-stop : goal.read_unary-returns-in_err-operand-in-Some-clause-stop
 read_unary-returns-in_err-operand-in-Some-clause-stop t c =
@@ -361,56 +306,44 @@ read_unary-returns-in-None-clause-stop t c =
 
 pub read_expression-read_expression-requires-2 : goal.read_expression-read_expression-requires-2
 read_expression-read_expression-requires-2 t c =
-    let v : c.args.place < c.in_ok-test.test.next = c.in_ok-test.ensures.ok.further in
-    let f : c.in_ok-test.test.next + 1 < c.in_ok-chosen.chosen.next = c.in_ok-chosen.ensures.ok.further in
-    let p = c.in_ok-other_place.ensures.ok in
-    let g : c.in_ok-other_place.other_place ≡ c.in_ok-chosen.chosen.next + 1 = p.further in
-    let b : c.args.depth + c.in_ok-test.test.height < 200 = let x = c.if-depth-test-ge-DEEPEST.false in omega arith in
-    let h : c.args.place < c.in_ok-other_place.other_place = omega arith in
-    let d : c.args.depth + 1 ≤ 200 = omega arith in
-    (further_falls (length c.args.tokens.now) c.args.place c.in_ok-other_place.other_place 20 20 t c.decreases c.requires.within h (omega arith), (c.requires.ended, (p.within, d)))
+    let v = c.in_ok-test.ensures.ok.further in
+    let f = c.in_ok-chosen.ensures.ok.further in
+    let p = c.in_ok-taken.ensures.ok.1 in
+    (further_falls (length c.args.tokens.now) c.args.place (c.in_ok-chosen.chosen.next + 1) 20 20 t c.decreases c.requires.within (past_both c.args.place c.in_ok-test.test.next c.in_ok-chosen.chosen.next v f) below_20, (c.requires.ended, (p.within, room c.args.depth c.in_ok-test.test.height c.in_ok-condition.ensures.ok.1)))
 
 pub read_arguments-read_more-requires : goal.read_arguments-read_more-requires
 read_arguments-read_more-requires t c =
     let o = c.in_ok-first.ensures.ok in
-    (further_falls (length c.args.tokens.now) c.args.place c.in_ok-first.first.next 19 21 t c.decreases c.requires.within o.further (omega arith), (c.requires.ended, (o.within, o.shallow)))
+    (further_falls (length c.args.tokens.now) c.args.place c.in_ok-first.first.next 19 21 t c.decreases c.requires.within o.further below_19, (c.requires.ended, (o.within, o.shallow)))
 
 pub read_primary-read_named-requires : goal.read_primary-read_named-requires
 read_primary-read_named-requires t c =
     let p = c.in_ok-name-in-Name.ensures.ok.passed in
-    let f : c.in_ok-name-in-Name.name.next ≡ c.args.place + 1 = p.further in
-    let h : c.args.place < c.in_ok-name-in-Name.name.next = omega arith in
-    (further_falls (length c.args.tokens.now) c.args.place c.in_ok-name-in-Name.name.next 4 5 t c.decreases c.requires.within h (omega arith), (c.requires.ended, (p.within, c.requires.depth)))
+    (further_falls (length c.args.tokens.now) c.args.place c.in_ok-name-in-Name.name.next 4 5 t c.decreases c.requires.within (just_on c.args.place c.in_ok-name-in-Name.name.next p.further) below_four, (c.requires.ended, (p.within, c.requires.depth)))
 
 pub read_named-read_called-requires : goal.read_named-read_called-requires
 read_named-read_called-requires t c =
-    (rank_falls (length c.args.tokens.now) c.args.place c.args.place 3 4 t c.decreases (omega arith) (omega arith), (c.requires.ended, (c.requires.within, (c.requires.depth, sym c.kind_at-kind.ensures ∙ c.is_mark-2.ensures.yes c.if-is_mark-2.true))))
+    (rank_falls (length c.args.tokens.now) c.args.place c.args.place 3 4 t c.decreases (same c.args.place) below_4, (c.requires.ended, (c.requires.within, (c.requires.depth, sym c.kind_at-kind.ensures ∙ c.is_mark-2.ensures.yes c.if-is_mark-2.true))))
 
 pub read_named-read_index-requires : goal.read_named-read_index-requires
 read_named-read_index-requires t c =
-    (rank_falls (length c.args.tokens.now) c.args.place c.args.place 3 4 t c.decreases (omega arith) (omega arith), (c.requires.ended, (c.requires.within, (c.requires.depth, sym c.kind_at-kind.ensures ∙ c.is_mark.ensures.yes c.if-is_mark.true))))
+    (rank_falls (length c.args.tokens.now) c.args.place c.args.place 3 4 t c.decreases (same c.args.place) below_4, (c.requires.ended, (c.requires.within, (c.requires.depth, sym c.kind_at-kind.ensures ∙ c.is_mark.ensures.yes c.if-is_mark.true))))
 
 pub read_arguments-read_expression-requires : goal.read_arguments-read_expression-requires
 read_arguments-read_expression-requires t c =
-    (rank_falls (length c.args.tokens.now) c.args.place c.args.place 20 21 t c.decreases (omega arith) (omega arith), (c.requires.ended, (c.requires.within, c.requires.depth)))
+    (rank_falls (length c.args.tokens.now) c.args.place c.args.place 20 21 t c.decreases (same c.args.place) expression_first, (c.requires.ended, (c.requires.within, c.requires.depth)))
 
 pub read_behind-read_behind-requires : goal.read_behind-read_behind-requires
 read_behind-read_behind-requires t c =
     let o = c.in_ok-right.ensures.ok in
-    let f : c.args.left.next + 1 < c.in_ok-right.right.next = o.further in
-    let h : c.args.left.next < c.in_ok-right.right.next = omega arith in
-    let b : c.args.depth + c.args.left.height < 200 = let x = c.if-depth-left-ge-DEEPEST.false in omega arith in
-    let g : c.args.depth + 1 + c.in_ok-right.right.height ≤ 200 = o.shallow in
-    let x = c.max.ensures in
-    let d : c.args.depth + (1 + c.max.result) ≤ 200 = omega arith in
-    (further_falls (length c.args.tokens.now) c.args.left.next c.in_ok-right.right.next 19 19 t c.decreases c.requires.within h (omega arith), (c.requires.ended, (o.within, (d, c.requires.level))))
+    (further_falls (length c.args.tokens.now) c.args.left.next c.in_ok-right.right.next 19 19 t c.decreases c.requires.within (past_next c.args.left.next c.in_ok-right.right.next o.further) below_19, (c.requires.ended, (o.within, (both_within c.args.depth c.args.left.height c.in_ok-right.right.height c.max.result c.max.ensures c.in_ok-before.ensures.ok.1 o.shallow, c.requires.level))))
 
 pub read_level-read_behind-requires : goal.read_level-read_behind-requires
 read_level-read_behind-requires t c =
     let o = c.in_ok-left.ensures.ok in
     let l : c.args.level ≤ 10 = c.requires.level in
     let m : c.args.level - 1 ≤ 9 = omega arith in
-    (further_falls (length c.args.tokens.now) c.args.place c.in_ok-left.left.next 19 (8 + c.args.level) t c.decreases c.requires.within o.further (omega arith), (c.requires.ended, (o.within, (o.shallow, m))))
+    (further_falls (length c.args.tokens.now) c.args.place c.in_ok-left.left.next 19 (8 + c.args.level) t c.decreases c.requires.within o.further below_19, (c.requires.ended, (o.within, (o.shallow, m))))
 
 pub read_expression-overflow_add-result : goal.read_expression-overflow_add-result
 read_expression-overflow_add-result t c =
@@ -423,15 +356,15 @@ read_expression-overflow_add-result t c =
 
 pub read_unary-read_primary-requires : goal.read_unary-read_primary-requires
 read_unary-read_primary-requires t c =
-    (rank_falls (length c.args.tokens.now) c.args.place c.args.place 5 6 t c.decreases (omega arith) (omega arith), (c.requires.ended, (c.requires.within, c.requires.depth)))
+    (rank_falls (length c.args.tokens.now) c.args.place c.args.place 5 6 t c.decreases (same c.args.place) primary_first, (c.requires.ended, (c.requires.within, c.requires.depth)))
 
 pub read_expression-read_level-requires : goal.read_expression-read_level-requires
 read_expression-read_level-requires t c =
-    (rank_falls (length c.args.tokens.now) c.args.place c.args.place (8 + 10) 20 t c.decreases (omega arith) (omega arith), (c.requires.ended, (c.requires.within, (c.requires.depth, omega arith))))
+    (rank_falls (length c.args.tokens.now) c.args.place c.args.place (8 + 10) 20 t c.decreases (same c.args.place) level_first_of, (c.requires.ended, (c.requires.within, (c.requires.depth, same 10))))
 
 pub read_level-read_unary-requires : goal.read_level-read_unary-requires
 read_level-read_unary-requires t c =
-    (rank_falls (length c.args.tokens.now) c.args.place c.args.place 6 (8 + c.args.level) t c.decreases (omega arith) (omega arith), (c.requires.ended, (c.requires.within, c.requires.depth)))
+    (rank_falls (length c.args.tokens.now) c.args.place c.args.place 6 (8 + c.args.level) t c.decreases (same c.args.place) (unary_first c.args.level), (c.requires.ended, (c.requires.within, c.requires.depth)))
 
 pub read_level-read_level-requires : goal.read_level-read_level-requires
 read_level-read_level-requires t c =
@@ -439,31 +372,13 @@ read_level-read_level-requires t c =
     let l : c.args.level ≤ 10 = c.requires.level in
     let m : c.args.level - 1 ≤ 10 = omega arith in
     let r : 8 + (c.args.level - 1) < 8 + c.args.level = omega arith in
-    (rank_falls (length c.args.tokens.now) c.args.place c.args.place (8 + (c.args.level - 1)) (8 + c.args.level) t c.decreases (omega arith) r, (c.requires.ended, (c.requires.within, (c.requires.depth, m))))
+    (rank_falls (length c.args.tokens.now) c.args.place c.args.place (8 + (c.args.level - 1)) (8 + c.args.level) t c.decreases (same c.args.place) r, (c.requires.ended, (c.requires.within, (c.requires.depth, m))))
 
 pub read_called-read_mark-requires-clause-ended : goal.read_called-read_mark-requires-clause-ended
 read_called-read_mark-requires-clause-ended t c = c.requires.ended
 
 pub read_called-read_mark-requires-clause-within : goal.read_called-read_mark-requires-clause-within
 read_called-read_mark-requires-clause-within t c = c.in_ok-arguments.ensures.ok.within
-
-pub read_expression-read_mark-requires-clause-ended : goal.read_expression-read_mark-requires-clause-ended
-read_expression-read_mark-requires-clause-ended t c = c.requires.ended
-
-pub read_expression-read_mark-requires-clause-within : goal.read_expression-read_mark-requires-clause-within
-read_expression-read_mark-requires-clause-within t c = c.in_ok-chosen.ensures.ok.within
-
-pub read_index-read_mark-requires-clause-ended : goal.read_index-read_mark-requires-clause-ended
-read_index-read_mark-requires-clause-ended t c = c.requires.ended
-
-pub read_index-read_mark-requires-clause-within : goal.read_index-read_mark-requires-clause-within
-read_index-read_mark-requires-clause-within t c = c.in_ok-index.ensures.ok.within
-
-pub read_primary-read_mark-requires-clause-ended : goal.read_primary-read_mark-requires-clause-ended
-read_primary-read_mark-requires-clause-ended t c = c.requires.ended
-
-pub read_primary-read_mark-requires-clause-within : goal.read_primary-read_mark-requires-clause-within
-read_primary-read_mark-requires-clause-within t c = c.in_ok-inner.ensures.ok.within
 
 pub read_primary-read_name-requires-clause-ended : goal.read_primary-read_name-requires-clause-ended
 read_primary-read_name-requires-clause-ended t c = c.requires.ended
@@ -493,25 +408,31 @@ pub read_expression-kind_at-requires : goal.read_expression-kind_at-requires
 read_expression-kind_at-requires t c = c.in_ok-test.ensures.ok.within
 
 pub read_expression-returns-in_err-condition-clause-stop : goal.read_expression-returns-in_err-condition-clause-stop
-read_expression-returns-in_err-condition-clause-stop t c = handed_on _ _ _ c.from_residual-in_err-condition.ensures.1 (no_memory _ _ _ _ _ _ c.in_err-condition.ensures.stop)
+read_expression-returns-in_err-condition-clause-stop t c =
+    let q : next_kind (drop c.in_ok-test.test.next c.args.tokens.now) ≡ kinds.Mark marks.Question = sym c.kind_at.ensures ∙ c.is_mark.ensures.yes c.if-not-is_mark.false in
+    let a = asks c.args.tokens.now c.args.place c.args.depth c.in_ok-test.test c.requires.ended c.requires.within c.in_ok-test.ensures.ok q in
+    handed_on _ _ _ c.from_residual-in_err-condition.ensures.1 (choice_not_held c.args.tokens.now c.args.place c.args.depth c.in_ok-test.test _ a c.in_err-condition.ensures.stop)
 
 pub read_expression-returns-in_err-taken-clause-stop : goal.read_expression-returns-in_err-taken-clause-stop
-read_expression-returns-in_err-taken-clause-stop t c = handed_on _ _ _ c.from_residual-in_err-taken.ensures.1 (no_memory _ _ _ _ _ _ c.in_err-taken.ensures.stop)
+read_expression-returns-in_err-taken-clause-stop t c =
+    let q : next_kind (drop c.in_ok-test.test.next c.args.tokens.now) ≡ kinds.Mark marks.Question = sym c.kind_at.ensures ∙ c.is_mark.ensures.yes c.if-not-is_mark.false in
+    let a = asks c.args.tokens.now c.args.place c.args.depth c.in_ok-test.test c.requires.ended c.requires.within c.in_ok-test.ensures.ok q in
+    handed_on _ _ _ c.from_residual-in_err-taken.ensures.1 (colon_not_held c.args.tokens.now c.args.place c.args.depth c.in_ok-test.test c.in_ok-chosen.chosen _ a c.in_ok-condition.ensures.ok.1 c.in_ok-chosen.ensures.ok c.in_err-taken.ensures.stop)
 
 pub read_expression-returns-in_err-left-clause-stop : goal.read_expression-returns-in_err-left-clause-stop
 read_expression-returns-in_err-left-clause-stop t c = handed_on _ _ _ c.from_residual-in_err-left.ensures.1 (no_memory _ _ _ _ _ _ c.in_err-left.ensures.stop)
 
 pub read_behind-returns-in_err-before-clause-stop : goal.read_behind-returns-in_err-before-clause-stop
-read_behind-returns-in_err-before-clause-stop t c = handed_on _ _ _ c.from_residual.ensures.1 (no_memory _ _ _ _ _ _ c.in_err-before.ensures.stop)
+read_behind-returns-in_err-before-clause-stop t c =
+    let e : strength (next_kind (drop c.args.left.next c.args.tokens.now)) ≡ c.strength.result = sym (c.strength.ensures ∙ ap strength c.kind_at-kind.ensures) in
+    let o = operates c.args.level c.args.tokens.now c.args.left.next c.requires.ended c.requires.within c.requires.level (e ∙ c.if-strength-level.false) in
+    handed_on _ _ _ c.from_residual.ensures.1 (rest_not_held c.args.level c.args.tokens.now c.args.left.next c.args.depth c.args.left.height _ o c.in_err-before.ensures.stop)
 
 pub read_behind-returns-in_err-behind-clause-stop : goal.read_behind-returns-in_err-behind-clause-stop
 read_behind-returns-in_err-behind-clause-stop t c = handed_on _ _ _ c.from_residual-in_err-behind.ensures.1 (no_memory _ _ _ _ _ _ c.in_err-behind.ensures.stop)
 
 pub read_unary-returns-in_err-boxed-in-Some-clause-stop : goal.read_unary-returns-in_err-boxed-in-Some-clause-stop
 read_unary-returns-in_err-boxed-in-Some-clause-stop t c = handed_on _ _ _ c.from_residual-in_err-boxed-in-Some.ensures.1 (no_memory _ _ _ _ _ _ c.in_err-boxed-in-Some.ensures.stop)
-
-pub read_index-returns-in_err-boxed-clause-stop : goal.read_index-returns-in_err-boxed-clause-stop
-read_index-returns-in_err-boxed-clause-stop t c = handed_on _ _ _ c.from_residual-in_err-boxed.ensures.1 (no_memory _ _ _ _ _ _ c.in_err-boxed.ensures.stop)
 
 pub read_arguments-returns-in_err-append-clause-stop : goal.read_arguments-returns-in_err-append-clause-stop
 read_arguments-returns-in_err-append-clause-stop t c = handed_on _ _ _ c.from_residual-in_err-append.ensures.1 (no_memory _ _ _ _ _ _ c.in_err-append.ensures.stop)
@@ -566,3 +487,39 @@ read_unary-overflow_add-result t c = height_fits c.args.depth c.in_ok-operand-in
 
 pub read_called-overflow_add-result : goal.read_called-overflow_add-result
 read_called-overflow_add-result t c = height_fits c.args.depth c.in_ok-arguments.arguments.height c.in_ok-arguments.ensures.ok.shallow
+
+pub read_expression-boxed_closed-requires-clause-ended : goal.read_expression-boxed_closed-requires-clause-ended
+read_expression-boxed_closed-requires-clause-ended t c =
+    c.requires.ended
+
+pub read_expression-boxed_closed-requires-clause-within : goal.read_expression-boxed_closed-requires-clause-within
+read_expression-boxed_closed-requires-clause-within t c =
+    c.in_ok-chosen.ensures.ok.within
+
+pub read_primary-returns-in_err-closed-clause-stop : goal.read_primary-returns-in_err-closed-clause-stop
+read_primary-returns-in_err-closed-clause-stop t c =
+    let k : next_kind (drop c.args.place c.args.tokens.now) ≡ kinds.Mark marks.OpenParenthesis = sym c.kind_at-kind.ensures ∙ c.is_mark.ensures.yes c.if-is_mark.true in
+    let o = nested_opens c.args.tokens.now c.args.place c.requires.ended c.requires.within k in
+    let a = c.in_ok-inner.ensures.ok in
+    handed_on _ _ _ c.from_residual-in_err-closed.ensures.1 (enclosed_end c.args.depth _ o a.is (operand_bound a) a.within c.in_err-closed.ensures.stop)
+
+pub read_primary-closed-requires-clause-ended : goal.read_primary-closed-requires-clause-ended
+read_primary-closed-requires-clause-ended t c =
+    c.requires.ended
+
+pub read_primary-closed-requires-clause-within : goal.read_primary-closed-requires-clause-within
+read_primary-closed-requires-clause-within t c =
+    c.in_ok-inner.ensures.ok.within
+
+pub read_index-returns-in_err-boxed_closed-clause-stop : goal.read_index-returns-in_err-boxed_closed-clause-stop
+read_index-returns-in_err-boxed_closed-clause-stop t c =
+    let o = bracket_opens c.args.tokens.now c.args.place c.requires.ended c.requires.within c.requires.here in
+    handed_on _ _ _ c.from_residual-in_err-boxed_closed.ensures.1 (end_not_held c.args.depth _ o c.in_ok-index.ensures.ok c.in_err-boxed_closed.ensures.stop)
+
+pub read_index-boxed_closed-requires-clause-ended : goal.read_index-boxed_closed-requires-clause-ended
+read_index-boxed_closed-requires-clause-ended t c =
+    c.requires.ended
+
+pub read_index-boxed_closed-requires-clause-within : goal.read_index-boxed_closed-requires-clause-within
+read_index-boxed_closed-requires-clause-within t c =
+    c.in_ok-index.ensures.ok.within

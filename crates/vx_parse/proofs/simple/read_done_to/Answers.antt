@@ -5,7 +5,6 @@ use Rattle.vx_ast.specs.Phrases.{The, A, simple_rest}
 use Rattle.vx_parse.specs.Choices.{FollowedBy}
 use Rattle.vx_parse.specs.declared.choice.Following.TheVariants as following
 use Rattle.vx_parse.specs.Reading.{next_kind}
-use Rattle.vx_parse.proofs.HandedOn.{handed_on}
 use Rattle.vx_parse.proofs.Parts.{within_phrase}
 use Rattle.vx_parse.proofs.Simples.{rest_passed, value_rest, step_behind, value_behind, nothing_behind}
 use Rattle.vx_parse.proofs.simple.read_done_to.Goals as goal
@@ -16,13 +15,13 @@ read_expression-requires-clause-within c =
     let s : simple_rest (next_kind (drop c.args.place c.args.tokens.now)) ≡ The (next_kind (drop c.args.place c.args.tokens.now)) ∷ A phrases.Expression ∷ [] = subst (λ z. FollowedBy following.Value z) c.kind_at-kind.ensures w in
     (rest_passed c.args.tokens.now c.args.place (A phrases.Expression ∷ []) c.requires.ended c.requires.within s).within
 
-pub returns-in_err-value-in-Value-clause-stop : goal.returns-in_err-value-in-Value-clause-stop
-returns-in_err-value-in-Value-clause-stop c =
+pub returns-in-Err-clause-stop : goal.returns-in-Err-clause-stop
+returns-in-Err-clause-stop c =
     let w : FollowedBy following.Value c.kind_at-kind.result.now = subst (λ z. FollowedBy z c.kind_at-kind.result.now) c.in-Value.is c.what_follows.ensures in
     let s : simple_rest (next_kind (drop c.args.place c.args.tokens.now)) ≡ The (next_kind (drop c.args.place c.args.tokens.now)) ∷ A phrases.Expression ∷ [] = subst (λ z. FollowedBy following.Value z) c.kind_at-kind.ensures w in
     let p = rest_passed c.args.tokens.now c.args.place (A phrases.Expression ∷ []) c.requires.ended c.requires.within s in
     let b = value_rest c.args.tokens.now c.args.place c.args.depth p c.requires.within c.requires.depth s in
-    handed_on _ _ _ c.from_residual.ensures.1 (within_phrase b c.in_err-value-in-Value.field-0.0 c.in_err-value-in-Value.ensures.stop)
+    within_phrase b c.in-Err.stop c.in-Err.ensures.stop
 
 pub returns-in-Step-clause-ok : goal.returns-in-Step-clause-ok
 returns-in-Step-clause-ok c =
@@ -31,12 +30,12 @@ returns-in-Step-clause-ok c =
     let p = rest_passed c.args.tokens.now c.args.place [] c.requires.ended c.requires.within s in
     step_behind c.args.tokens.now c.args.place c.args.depth _ _ _ p c.requires.within c.requires.depth s c.kind_at-kind.ensures c.step.ensures
 
-pub returns-in_ok-value-in-Value-clause-ok : goal.returns-in_ok-value-in-Value-clause-ok
-returns-in_ok-value-in-Value-clause-ok c =
+pub returns-in-Ok-clause-ok : goal.returns-in-Ok-clause-ok
+returns-in-Ok-clause-ok c =
     let w : FollowedBy following.Value c.kind_at-kind.result.now = subst (λ z. FollowedBy z c.kind_at-kind.result.now) c.in-Value.is c.what_follows.ensures in
     let s : simple_rest (next_kind (drop c.args.place c.args.tokens.now)) ≡ The (next_kind (drop c.args.place c.args.tokens.now)) ∷ A phrases.Expression ∷ [] = subst (λ z. FollowedBy following.Value z) c.kind_at-kind.ensures w in
     let p = rest_passed c.args.tokens.now c.args.place (A phrases.Expression ∷ []) c.requires.ended c.requires.within s in
-    value_behind c.args.tokens.now c.args.place c.args.depth c.in_ok-value-in-Value.value _ _ _ p c.requires.within c.requires.depth s c.in_ok-value-in-Value.ensures.ok c.kind_at-kind.ensures c.assign.ensures
+    value_behind c.args.tokens.now c.args.place c.args.depth c.in-Ok.value _ _ _ p c.requires.within c.requires.depth s c.in-Ok.ensures.ok c.kind_at-kind.ensures c.assign.ensures
 
 pub returns-in-Nothing-clause-ok : goal.returns-in-Nothing-clause-ok
 returns-in-Nothing-clause-ok c =

@@ -39,18 +39,18 @@ returns-in_err-size-clause-stop c =
     let b = bracket_before c.args.tokens.now c.args.place c.args.depth p c.requires.within c.requires.depth e in
     handed_on _ _ _ c.from_residual-in_err-size.ensures.1 (misfit_number b c.in_err-size.field-0.0 c.in_err-size.ensures.stop)
 
-pub returns-in_err-read_mark-clause-stop : goal.returns-in_err-read_mark-clause-stop
-returns-in_err-read_mark-clause-stop c =
+pub returns-in_err-next-clause-stop : goal.returns-in_err-next-clause-stop
+returns-in_err-next-clause-stop c =
     let e : next_kind (drop c.args.place c.args.tokens.now) ≡ kinds.Mark marks.OpenBracket = sym c.kind_at-kind.ensures ∙ c.is_mark-2.ensures.yes c.if-is_mark-2.true in
     let p = passes_mark c.args.tokens.now c.args.place marks.OpenBracket c.requires.ended c.requires.within e in
     let b = past_token (bracket_before c.args.tokens.now c.args.place c.args.depth p c.requires.within c.requires.depth e) c.in_ok-size.ensures.ok.passed in
-    handed_on _ _ _ c.from_residual-in_err-read_mark.ensures.1 (misfit b c.in_err-read_mark.field-0.0 c.in_err-read_mark.ensures.stop)
+    handed_on _ _ _ c.from_residual-in_err-next.ensures.1 (misfit b c.in_err-next.field-0.0 c.in_err-next.ensures.stop)
 
 pub returns-then-is_mark-2-clause-ok : goal.returns-then-is_mark-2-clause-ok
 returns-then-is_mark-2-clause-ok c =
     let e : next_kind (drop c.args.place c.args.tokens.now) ≡ kinds.Mark marks.OpenBracket = sym c.kind_at-kind.ensures ∙ c.is_mark-2.ensures.yes c.if-is_mark-2.true in
     let p = passes_mark c.args.tokens.now c.args.place marks.OpenBracket c.requires.ended c.requires.within e in
-    λ name. sized_is c.args.tokens.now c.args.place c.args.depth _ name c.in_ok-size.size (items.Array name c.in_ok-size.size.size) p c.requires.within c.requires.depth e c.in_ok-size.ensures.ok c.in_ok-read_mark.ensures.ok refl
+    λ name. sized_is c.args.tokens.now c.args.place c.args.depth _ name c.in_ok-size.size (items.Array name c.in_ok-size.size.size) p c.requires.within c.requires.depth e c.in_ok-size.ensures.ok c.in_ok-next.ensures.ok refl
 
 pub returns-clause-ok : goal.returns-clause-ok
 returns-clause-ok c =

@@ -2,10 +2,10 @@ use Rattle.std.proofs.Common.{◌≡◌, ◌+◌, ◌∷◌, ◌++◌, [], lengt
 use Rattle.vx_flow.specs.Walk.{numbers}
 use Rattle.vx_mixed.specs.Layout.{region_place}
 use Rattle.vx_layout.proofs.LayingSteps.{starts_turn, starts_begin}
-use Rattle.vx_layout.proofs.words.region_starts.Goals as goal
+use Rattle.vx_layout.proofs.words.push_starts.Goals as goal
 
 pub loop-region-init : goal.loop-region-init
-loop-region-init c = starts_begin c.args.regions.now c.push.new.self.items (c.in_ok-push.ensures.items ∙ ap (λ z. z ++ 0 ∷ []) c.new-starts.ensures.items)
+loop-region-init c = starts_begin c.args.regions.now c.push.new.self.items (c.in_ok-push.ensures.items ∙ ap (λ z. z ++ 0 ∷ []) c.requires)
 
 pub loop-region-preserved : goal.loop-region-preserved
 loop-region-preserved c =
