@@ -1,1 +1,7 @@
 pub mod CallSteps
+pub mod Globals
+pub mod Offsets
+pub mod FrameLists
+pub mod SavedLists
+pub mod LeadsWithin
+pub mod Pieces

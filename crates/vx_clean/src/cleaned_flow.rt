@@ -10,19 +10,18 @@ ghost use Rattle.vx_shape.specs.Flows.{FlowStays};
 ghost use Rattle.vx_clean.specs.Staying.{GraphStays};
 
 use crate::chain_graph::laid;
+use crate::layout::find_layout;
 use crate::link_test::is_laid_out;
 use std::alloc::Global;
 use vx_base::listed::Listed;
 use vx_base::outcome::NoMemory;
-use vx_chains::find_layout;
 use vx_flow::graph::{BlockId, Flow, Graph};
-use vx_fold::folded_once;
+use vx_fold::{folded_once, thinned_once};
 use vx_shape::copies::with_graphs;
 use vx_shape::origins::origins;
 use vx_shape::passes::{GraphPass, each_made};
 use vx_shape::shape_test::is_shaped;
 use vx_sound::is_sound;
-use vx_thin::thinned_once;
 
 /// How often the graphs are cleaned at most.
 const MOST_ROUNDS: u32 = 8;

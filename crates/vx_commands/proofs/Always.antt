@@ -23,9 +23,9 @@ use Rattle.vx_files.specs.Effects.{Effect, ReadsRose, SourceAnswers, ProfileAnsw
 use Rattle.vx_commands.specs.Answers.{CompileAnswers, CompileEnds}
 use Rattle.vx_runs.specs.Simulated.{Streams, BoxAnswers, Due, and_then, words_as, machine_as, with_input, loading, loading_machine, loading_input, RunAnswers, RunCompletes}
 use Rattle.vx_commands.specs.Executed.{ExecEnds, ExecutionCompletes, ExecutionAnswers}
-use Rattle.vx_steps.specs.Counted.{CountsAnswers, CountsEnd}
+use Rattle.vx_runs.specs.Counted.{CountsAnswers, CountsEnd}
 use Rattle.vx_commands.specs.Always.{MayAnswer, CanRead, NoStatusIsAlways}
-use Rattle.vx_steps.proofs.Told.{told, told_or, not_missing}
+use Rattle.vx_runs.proofs.Told.{told, told_or, not_missing}
 
 -- no file, and an empty one under each name
 abbrev nothing : Files

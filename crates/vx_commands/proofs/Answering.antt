@@ -14,10 +14,10 @@ use Rattle.vx_compiled.specs.Sized.{MakesTexts}
 use Rattle.vx_files.proofs.ProfileFile.{stands}
 use Rattle.vx_files.specs.Held.{HoldsProgram, Is, machine_found, AreCounts}
 use Rattle.vx_commands.specs.Answers.{TextsOf, Compiles, Writes, WritesWords, with_report, ReportsPartly, WritesPartly, StopsAtProfile, StopsAtMachine, CompileAnswers, PutsTexts, MachineOrTexts, ProgramAnswers}
-use Rattle.vx_steps.specs.Writing.{WriteAnswers, once_written, ReportAnswers}
+use Rattle.vx_runs.specs.Writing.{WriteAnswers, once_written, ReportAnswers}
 use Rattle.vx_files.specs.Effects.{Effect, SameFiles, SourceAnswers}
 use Rattle.vx_runs.proofs.Since.{Since, same_since, told_since}
-use Rattle.vx_steps.proofs.Later.{machine_since, profile_since, accepts_in, write_since}
+use Rattle.vx_runs.proofs.Later.{machine_since, profile_since, accepts_in, write_since}
 
 -- a source that could not be read through
 

@@ -9,7 +9,7 @@ use Rattle.vx_commands.specs.Commands.{Answers, Completes}
 use Rattle.vx_commands.proofs.Completing.{complete_in}
 use Rattle.vx_runs.proofs.Simulating.{sim_completes}
 use Rattle.vx_commands.proofs.Executed.{exec_completes}
-use Rattle.vx_steps.proofs.CountLaws.{profile_completes}
+use Rattle.vx_runs.proofs.CountLaws.{profile_completes}
 use Rattle.vx_commands.proofs.SoakLaws.{soak_completes}
 
 pub completes : (command : Option Command) (boxes : Boxes) (e : Effect) (s : Streams) (status : Status) → Answers command boxes e s status → Completes command boxes e s status

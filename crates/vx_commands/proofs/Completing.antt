@@ -13,7 +13,7 @@ use Rattle.vx_command.specs.Command.{Compilation}
 use Rattle.vx_files.specs.Held.{Accepts, status_of, RefusesSource, Refuses, MachineFound, Is, Refused, TooLong, Missing, found_in, machine_found, BadProfile, ProfileStands, RefusesProfile}
 use Rattle.vx_commands.specs.Answers.{Writes, CompileAnswers, CompileEnds}
 use Rattle.vx_files.specs.Effects.{Effect, ReadsRose, ReplacesRose}
-use Rattle.vx_steps.proofs.Told.{same_content, not_missing, told, told_or, told_of, refused_told, not_both, one_status, not_faulty}
+use Rattle.vx_runs.proofs.Told.{same_content, not_missing, told, told_or, told_of, refused_told, not_both, one_status, not_faulty}
 
 -- an answer, where nothing failed
 pub data Ends (held : Files) (source : List ℕ) (profile machine : Option (List ℕ)) : Status → Type 0 where

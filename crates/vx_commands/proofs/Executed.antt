@@ -18,7 +18,7 @@ use Rattle.vx_files.specs.Effects.{Effect, ReadsRose, OfFile}
 use Rattle.vx_runs.specs.Simulated.{Loaded, machine_as, outcome_within, Streams, OutRose, ErrRose}
 use Rattle.vx_commands.specs.Executed.{AllHeld, CompiledBy, Prepared, Runs, RunsCut, ExecutionAnswers, ExecAnswers, GoesOn, EndsAs, ExecEnds, ExecutionCompletes, ExecCompletes}
 use Rattle.vx_files.proofs.SourceLaws.{one_program}
-use Rattle.vx_steps.proofs.Told.{same_content, not_missing, told, told_of, told_or, refused_told, not_both, one_status, not_faulty}
+use Rattle.vx_runs.proofs.Told.{same_content, not_missing, told, told_of, told_or, refused_told, not_both, one_status, not_faulty}
 use Rattle.vx_files.proofs.ProfileFile.{not_both_profiles, one_profile_status}
 use Rattle.vx_runs.proofs.Simulating.{box_completes}
 

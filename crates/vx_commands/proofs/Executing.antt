@@ -31,8 +31,8 @@ use Rattle.vx_runs.proofs.Issued.{issues_comes, issues_within, issues_least, iss
 use Rattle.vx_runs.proofs.Turned.{turned_of, turned_some, outcome_turned}
 use Rattle.vx_runs.proofs.Runs.{no_run}
 use Rattle.vx_runs.proofs.Since.{Since, told_since}
-use Rattle.vx_steps.proofs.Cases.{source_cases, input_cases}
-use Rattle.vx_steps.proofs.Later.{profile_since, machine_since, accepts_in, input_since}
+use Rattle.vx_runs.proofs.Cases.{source_cases, input_cases}
+use Rattle.vx_runs.proofs.Later.{profile_since, machine_since, accepts_in, input_since}
 
 -- a run of words in the terms of the source
 

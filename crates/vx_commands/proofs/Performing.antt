@@ -13,10 +13,10 @@ use Rattle.vx_runs.specs.Ending.{TellsProbe}
 use Rattle.vx_runs.specs.Lines.{TellsRun}
 use Rattle.vx_runs.specs.Simulated.{Streams, ErrTells, is_of_run}
 use Rattle.vx_runs.proofs.Telling.{no_timing_told, probe_told, refused_line, run_told, these_told, timing_told}
-use Rattle.vx_steps.specs.Counted.{ProfilingAnswers}
+use Rattle.vx_runs.specs.Counted.{ProfilingAnswers}
 use Rattle.vx_commands.specs.Soaked.{SoakedAnswers}
-use Rattle.vx_steps.specs.Summary.{puts_summary}
-use Rattle.vx_steps.specs.Reading.{OnlyReads}
+use Rattle.vx_runs.specs.Summary.{puts_summary}
+use Rattle.vx_runs.specs.Reading.{OnlyReads}
 use Rattle.vx_commands.specs.Performed.{ExecutionPerformed, Performed, PerformedAs}
 use Rattle.vx_commands.specs.Stopping.{StopsBefore}
 use Rattle.vx_commands.proofs.Boxed.{exec_boxes_there, exec_no_probes, exec_no_timing, refused_answers, soak_no_timing, soak_timing_there}

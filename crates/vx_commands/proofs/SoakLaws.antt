@@ -16,7 +16,7 @@ use Rattle.vx_report.specs.declared.plan.Plan.{Plan}
 use Rattle.vx_sim.specs.Ran.{is_fault, outcome_of}
 use Rattle.vx_sim.specs.declared.ended.Ended.{Ended}
 use Rattle.vx_sim.specs.declared.ended.Ended.TheVariants.{Halted, Trapped as TrappedBy, Stopped as StoppedAt}
-use Rattle.vx_steps.specs.declared.soak_run.ProgramSizes.{ProgramSizes}
+use Rattle.vx_runs.specs.declared.soak_run.ProgramSizes.{ProgramSizes}
 use Rattle.vx_status.specs.declared.status.Status.{Status}
 use Rattle.vx_status.specs.declared.status.Status.TheVariants.{Done, Trapped, Usage, Source, Limit, Words, Profile, Machine, NoFile, ReadFault, WriteFault, Stopped, Input, Stuck, NoMemory}
 use Rattle.vx_compiled.specs.declared.program.FlowSize.{FlowSize}
@@ -26,7 +26,7 @@ use Rattle.vx_files.specs.Effects.{Effect}
 use Rattle.vx_commands.specs.Executed.{Issues, SourceHas}
 use Rattle.vx_runs.specs.Simulated.{Loaded, Streams, OutRose, with_input, outcome_within}
 use Rattle.vx_commands.specs.Soaked.{Soaked, SoakRuns, SoakedAnswers, SoakAnswers, SoakGoesOn, SoakEnds, SoakCompletes, soak_growth, soaked_words, summary_of}
-use Rattle.vx_steps.specs.Summary.{soak_budget, RunEndsSo, PutsEnd, whole, cut, trapped, stopped, no_memory, line_of}
+use Rattle.vx_runs.specs.Summary.{soak_budget, RunEndsSo, PutsEnd, whole, cut, trapped, stopped, no_memory, line_of}
 use Rattle.vx_compiled.specs.Sized.{Sized}
 use Rattle.vx_commands.specs.SoakSteps.{IsMade, IsMadeFrom, SoakRan, sizes_of}
 use Rattle.vx_files.proofs.SourceLaws.{one_program}

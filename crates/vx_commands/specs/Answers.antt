@@ -19,7 +19,7 @@ use Rattle.vx_report.specs.Report.{names_of, report_text}
 use Rattle.vx_words.specs.Spelling.{Spells}
 use Rattle.vx_files.specs.Held.{HoldsProgram, Accepts, status_of, AreCounts, ProfileStands, RefusesProfile, Is, Refused, TooLong, Missing, machine_found}
 use Rattle.vx_files.specs.Effects.{Effect, ReplacesRose, SameFiles, SourceAnswers, ProfileAnswers, MachineAnswers}
-use Rattle.vx_steps.specs.Writing.{ReportAnswers}
+use Rattle.vx_runs.specs.Writing.{ReportAnswers}
 
 -- the texts of a compiled program: the one spells its words, the other is the report of their plan
 pub record TextsOf (program : Program) (counts : Counts) (machine : Numbers) (growth : ℕ) (text report : List ℕ) : Type 0 where

@@ -8,9 +8,9 @@ use Rattle.vx_files.specs.Effects.{Effect, SameFiles, ReadsRose, ReplacesRose}
 use Rattle.vx_commands.specs.Answers.{CompileAnswers, CompileEnds}
 use Rattle.vx_runs.specs.Simulated.{Streams, SimAnswers, SimCompletes, is_of_run}
 use Rattle.vx_commands.specs.Executed.{ExecAnswers, ExecCompletes}
-use Rattle.vx_steps.specs.Counted.{ProfilingAnswers, ProfilingCompletes}
+use Rattle.vx_runs.specs.Counted.{ProfilingAnswers, ProfilingCompletes}
 use Rattle.vx_commands.specs.Soaked.{SoakAnswers, SoakCompletes}
-use Rattle.vx_steps.specs.Summary.{puts_summary}
+use Rattle.vx_runs.specs.Summary.{puts_summary}
 
 -- words that are no command are answered Usage, unless memory is wanted
 abbrev pub Answers : Option Command → Boxes → Effect → Streams → Status → Type 0

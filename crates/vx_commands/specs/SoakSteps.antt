@@ -8,7 +8,7 @@ use Rattle.vx_profile.specs.declared.counts.Counts.{Counts}
 use Rattle.vx_report.specs.declared.plan.Plan.{Plan}
 use Rattle.vx_sim.specs.Ran.{outcome_of}
 use Rattle.vx_sim.specs.declared.ended.Ended.{Ended}
-use Rattle.vx_steps.specs.declared.soak_run.ProgramSizes.{ProgramSizes}
+use Rattle.vx_runs.specs.declared.soak_run.ProgramSizes.{ProgramSizes}
 use Rattle.vx_command.specs.Command.{Soaking}
 use Rattle.vx_compiled.specs.Compiled.{Compiled}
 use Rattle.vx_runs.specs.Simulated.{Loaded, with_input}

@@ -20,7 +20,7 @@ use Rattle.vx_runs.specs.Simulated.{BoxAnswers, Loaded, OutRose, Streams, with_i
 use Rattle.vx_status.specs.declared.status.Status.{Status}
 use Rattle.vx_status.specs.declared.status.Status.TheVariants.{Done, Trapped, WriteFault, Stopped, NoMemory}
 use Rattle.vx_compiled.specs.Sized.{all_blocks}
-use Rattle.vx_steps.specs.Summary.{soak_budget, byte_sum, summary}
+use Rattle.vx_runs.specs.Summary.{soak_budget, byte_sum, summary}
 
 -- the most operations that are copied
 abbrev pub soak_growth : ℕ

@@ -6,7 +6,7 @@ ghost use Rattle.vx_files.specs.Effects.{Effect, effect_of};
 ghost use Rattle.vx_runs.specs.Simulated.{streams_of};
 ghost use Rattle.vx_runs.specs.Boxes.{Boxes, ProbeBox, boxes_of, timing_boxes};
 ghost use Rattle.vx_commands.specs.Performed.{Performed, PerformedAs};
-ghost use Rattle.vx_steps.specs.Reading.{OnlyReads};
+ghost use Rattle.vx_runs.specs.Reading.{OnlyReads};
 
 use crate::compilation::compile;
 use crate::exec::execute_with;
@@ -18,10 +18,10 @@ use vx_compiled::WordCompiler;
 use vx_io::depot::Depot;
 use vx_io::sink::Sink;
 use vx_probe::{Probe, Timing};
+use vx_runs::compiler::Compiler;
+use vx_runs::names::{Named, let_go, lookup, without_name};
 use vx_runs::simulate_with;
 use vx_status::{Status, tell};
-use vx_steps::Compiler;
-use vx_steps::names::{Named, let_go, lookup, without_name};
 
 /// Does what the words of `compile` ask for, the program's name first, and puts the line of its answer.
 fn perform_compile<C: WordCompiler, D: Depot, E: Sink>(

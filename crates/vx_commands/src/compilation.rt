@@ -21,8 +21,8 @@ use vx_io::depot::Depot;
 use vx_machine::Machine;
 use vx_profile::counts::Counts;
 use vx_report::{Plan, report};
+use vx_runs::texts::write_texts;
 use vx_status::Status;
-use vx_steps::texts::write_texts;
 use vx_words::write;
 
 /// The text of the words of a program, and that of the report, which is empty where none is asked.

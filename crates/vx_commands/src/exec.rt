@@ -12,7 +12,7 @@ ghost use Rattle.vx_runs.specs.Ending.{loaded_of};
 ghost use Rattle.vx_runs.specs.Simulated.{streams_of};
 ghost use Rattle.vx_commands.specs.Executed.{Prepared};
 ghost use Rattle.vx_commands.specs.Loading.{LoadedInput, LoadedMachine, LoadedProfile, LoadedWords};
-ghost use Rattle.vx_steps.specs.Reading.{OnlyReads};
+ghost use Rattle.vx_runs.specs.Reading.{OnlyReads};
 ghost use Rattle.vx_commands.specs.Performed.{ExecutionPerformed, Performed};
 ghost use Rattle.vx_commands.specs.Stopping.{AfterSource, LaterStops, StopsBefore};
 

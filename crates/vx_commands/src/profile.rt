@@ -12,9 +12,9 @@ use std::alloc::Global;
 use vx_command::ProfileWords;
 use vx_io::depot::Depot;
 use vx_io::sink::Sink;
+use vx_runs::compiler::Compiler;
+use vx_runs::counts::{count_read, put_counts};
 use vx_status::{Status, tell};
-use vx_steps::Compiler;
-use vx_steps::counts::{count_read, put_counts};
 
 /// Does what the words of `profile` ask for: puts the text of the counts on `out`.
 pub(crate) fn profile<C: Compiler, D: Depot, K: Sink, E: Sink>(

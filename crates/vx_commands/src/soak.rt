@@ -12,8 +12,8 @@ ghost use Rattle.vx_command.specs.Command.{Soak};
 ghost use Rattle.vx_runs.specs.Ending.{loaded_of};
 ghost use Rattle.vx_runs.specs.Simulated.{streams_of, with_input};
 ghost use Rattle.vx_commands.specs.Soaked.{SoakedAnswers};
-ghost use Rattle.vx_steps.specs.Summary.{puts_summary};
-ghost use Rattle.vx_steps.specs.Reading.{OnlyReads};
+ghost use Rattle.vx_runs.specs.Summary.{puts_summary};
+ghost use Rattle.vx_runs.specs.Reading.{OnlyReads};
 ghost use Rattle.vx_commands.specs.Performed.{Performed};
 ghost use Rattle.vx_commands.specs.SoakSteps.{IsMade, IsMadeFrom, SoakRan};
 ghost use Rattle.vx_status.specs.Status.{Adds, Tells, status_line};
@@ -27,9 +27,9 @@ use vx_io::sink::Sink;
 use vx_machine::Machine;
 use vx_probe::Timing;
 use vx_profile::counts::Counts;
+use vx_runs::soak_run::{ProgramSizes, SoakReport, line_of, program_made, put_end, run_made};
 use vx_runs::{LoadedFiles, no_box, timing_of};
 use vx_status::{Status, tell};
-use vx_steps::soak_run::{ProgramSizes, SoakReport, line_of, program_made, put_end, run_made};
 
 /// How many operations may be copied.
 const GROWTH: u32 = 4000;

@@ -1,6 +1,6 @@
 -- The law of the words that carry layouts, from those that words fit, that no path is early, and that whole runs are alike.
 use Rattle.vx_target.specs.Carried.{FrameLaw}
-use Rattle.vx_heat.specs.Fitted.{FitLaw, NeverEarlyLaw}
+use Rattle.vx_tie.specs.Fitted.{FitLaw, NeverEarlyLaw}
 use Rattle.vx_tie.specs.Whole.{WholeLaw}
 
 pub frame_law : FitLaw → NeverEarlyLaw → WholeLaw → FrameLaw

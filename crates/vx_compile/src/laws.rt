@@ -2,7 +2,7 @@
 
 ghost use Rattle.vx_target.specs.Carried.{FrameLaw};
 
-use vx_heat::laws::{paths_are_never_early, words_fit};
+use vx_tie::heat::{paths_are_never_early, words_fit};
 use vx_tie::laws::programs_do_the_same;
 
 /// A program that carries a flow keeps to its machine: every word fits, and on no path of its words, with every branch either way and

@@ -7,7 +7,7 @@ use vx_compiled::{CompiledProgram, SizedProgram, WordCompiler};
 use vx_flow::graph::Flow;
 use vx_machine::Machine;
 use vx_profile::counts::Counts;
-use vx_steps::Compiler;
+use vx_runs::compiler::Compiler;
 
 /// The passes of vx_compile.
 #[derive(Clone, Copy)]

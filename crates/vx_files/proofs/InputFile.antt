@@ -7,7 +7,7 @@ use Rattle.vx_io.specs.Reading.{ReadsFile}
 use Rattle.vx_io.specs.declared.whole_file.FileRead.TheVariants.{Whole, TooLong as FileTooLong}
 use Rattle.vx_io.specs.declared.role.Role.TheVariants.{Input as TheInput}
 use Rattle.vx_status.specs.declared.status.Status.{Status}
-use Rattle.vx_status.specs.declared.status.Status.TheVariants.{Limit, NoFile, ReadFault, Input, NoMemory}
+use Rattle.vx_status.specs.declared.status.Status.TheVariants.{Limit, NoFile, Input, NoMemory}
 use Rattle.vx_files.specs.Held.{input_as, input_found}
 use Rattle.vx_files.specs.Effects.{Effect, ReadsRose, SameFiles, InputAnswers}
 use Rattle.vx_files.specs.InputText.{input_reading}

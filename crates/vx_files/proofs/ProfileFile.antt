@@ -15,7 +15,7 @@ use Rattle.vx_flow.specs.Meaning.{Visit, AtBlock, AlongEdge}
 use Rattle.vx_profile.specs.Text.{Row, Reaches, FaultAt, Spells, header, row_text}
 use Rattle.vx_profile.proofs.Once.{spelled_without_fault, fault_once}
 use Rattle.vx_status.specs.declared.status.Status.{Status}
-use Rattle.vx_status.specs.declared.status.Status.TheVariants.{Limit, Profile, NoFile, ReadFault, NoMemory}
+use Rattle.vx_status.specs.declared.status.Status.TheVariants.{Limit, Profile, NoFile, NoMemory}
 use Rattle.vx_files.specs.Held.{most_profile_bytes, HoldsCounts, status_of_profile, BadProfile, NoCountsIn, AreCounts, ProfileStands, RefusesProfile}
 use Rattle.vx_files.specs.Effects.{Effect, ReadsRose, SameFiles, OfFile, ProfileAnswers}
 use Rattle.vx_files.proofs.WholeFile.{Unread}

@@ -10,7 +10,7 @@ use Rattle.vx_io.specs.Reading.{ReadsFile}
 use Rattle.vx_io.specs.declared.whole_file.FileRead.TheVariants.{Whole, TooLong as FileTooLong}
 use Rattle.vx_io.specs.declared.role.Role.TheVariants.{Source as TheSource}
 use Rattle.vx_status.specs.declared.status.Status.{Status}
-use Rattle.vx_status.specs.declared.status.Status.TheVariants.{Source, Limit, NoFile, ReadFault, NoMemory}
+use Rattle.vx_status.specs.declared.status.Status.TheVariants.{Source, Limit, NoMemory}
 use Rattle.vx_files.specs.Held.{HoldsSource, HoldsProgram, RefusesSource, Refuses}
 use Rattle.vx_files.specs.Effects.{Effect, SameFiles, OfFile, SourceAnswers}
 use Rattle.vx_files.proofs.WholeFile.{Unread}

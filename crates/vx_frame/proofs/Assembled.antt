@@ -37,9 +37,9 @@ use Rattle.vx_target.specs.Target.{Target, is_slotted}
 use Rattle.vx_target.specs.Tied.{IsFunction}
 use Rattle.vx_target.specs.Carried.{room_of, item_of_laid, IsMapped, IsSaved, NeedsSlot, is_passed, is_spilled, is_saved, HasWord, IsFramed, words_before, Carries}
 use Rattle.vx_target.specs.Finish.{CanFinish, AllCanFinish, Finishes}
-use Rattle.vx_heat.specs.Fitted.{SoundLaw}
+use Rattle.vx_tie.specs.Fitted.{SoundLaw}
 use Rattle.vx_frame.specs.Found.{Found, Made}
-use Rattle.vx_memory.specs.Framing.{IsFrameOf, SlotNeeded, is_passed as is_passed_there, is_kept, is_saved as is_saved_there}
+use Rattle.vx_calls.specs.Framing.{IsFrameOf, SlotNeeded, is_passed as is_passed_there, is_kept, is_saved as is_saved_there}
 use Rattle.vx_target.specs.Places.{ArePlaces}
 use Rattle.vx_frame.specs.Placing.{splits, OneSplit, all_places, functions_begin, standing}
 use Rattle.vx_frame.specs.Regions.{all_traces}

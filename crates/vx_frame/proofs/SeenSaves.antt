@@ -2,7 +2,7 @@
 use Rattle.std.proofs.Common.{ℕ, slice_index_or}
 use Rattle.vx_slots.specs.declared.program.Whole.{Whole}
 use Rattle.vx_target.specs.Carried.{IsSaved}
-use Rattle.vx_memory.specs.Framing.{SavesIn}
+use Rattle.vx_calls.specs.Framing.{SavesIn}
 use Rattle.vx_slots.specs.Seen.{seen, frame_of, no_graph, no_layout, no_map}
 
 -- what stands in the frame of function f

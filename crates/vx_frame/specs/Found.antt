@@ -11,7 +11,7 @@ use Rattle.vx_slots.specs.declared.program.Whole.{Whole}
 use Rattle.vx_target.specs.Placed.{IsPlaced}
 use Rattle.vx_target.specs.Carried.{words_before, first_or_zero}
 use Rattle.vx_target.specs.Finish.{AllCanFinish}
-use Rattle.vx_memory.specs.Framing.{IsFrameOf}
+use Rattle.vx_calls.specs.Framing.{IsFrameOf}
 use Rattle.vx_frame.specs.Placing.{standing}
 use Rattle.vx_slots.specs.Seen.{no_graph, no_layout, no_map, no_frame, seen}
 

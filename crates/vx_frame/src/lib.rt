@@ -1,5 +1,5 @@
 // The last pass: the layouts of all functions, words over values, become one program of words over registers. Frames of the stack
-// are vx_memory's.
+// are vx_calls'.
 #![tactic(auto)]
 
 mod pieces;

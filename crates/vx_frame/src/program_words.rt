@@ -15,16 +15,16 @@ use crate::regions::region_places;
 use std::alloc::Global;
 use vx_base::listed::{Bytes, Listed, copied};
 use vx_base::outcome::NoMemory;
+use vx_calls::addresses::{addresses_of, first_words, memory_bytes};
+use vx_calls::frames::{frame_size, frames};
 use vx_flow::graph::Flow;
-use vx_heat::laws::words_are_sound;
 use vx_isa::program::{Word, WordProgram};
 use vx_machine::Machine;
-use vx_memory::addresses::{addresses_of, first_words, memory_bytes};
-use vx_memory::frames::{frame_size, frames};
 use vx_mixed::layout::VWords;
 use vx_regs::map::RegMap;
 use vx_slots::program::{Sizes, Whole};
 use vx_target::finished::Finished;
+use vx_tie::heat::words_are_sound;
 
 /// A copy of the texts of a program.
 fn copied_texts(alloc: Global, texts: &[Bytes]) -> Result<Listed<Bytes>, NoMemory>

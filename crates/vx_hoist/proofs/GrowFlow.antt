@@ -12,7 +12,7 @@ use Rattle.vx_lower.specs.FlowOf.{GraphOf, FlowOf}
 use Rattle.vx_shape.specs.Flows.{with_graphs, Each, OrSame, FlowStays}
 use Rattle.vx_shape.specs.Shape.{Shaped}
 use Rattle.vx_shape.specs.ShapeTest.{is_shaped}
-use Rattle.vx_thin.specs.Thinning.{are_read}
+use Rattle.vx_fold.specs.Thinning.{are_read}
 use Rattle.vx_shape.proofs.ShapeTests.{shaped_where_tested}
 use Rattle.vx_shape.proofs.Pairs.{each_related}
 use Rattle.vx_shape.proofs.FlowsStay.{shape_kept, runs_stay}

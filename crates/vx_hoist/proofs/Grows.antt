@@ -11,10 +11,10 @@ use Rattle.vx_flow.specs.Live.{reads_of_exit}
 use Rattle.vx_flow.specs.Meaning.{leave, and_then, block_hop, hop_of}
 use Rattle.vx_flow.specs.Agree.{Agree}
 use Rattle.vx_flow.proofs.EffectsAlike.{effect_alike}
-use Rattle.vx_thin.specs.Thinning.{result_alone, is_unread, are_read}
+use Rattle.vx_fold.specs.Thinning.{result_alone, is_unread, are_read}
 use Rattle.vx_shape.proofs.Pairs.{At}
 use Rattle.vx_shape.proofs.FlowsAlike.{Holds, Alikes, wrong}
-use Rattle.vx_thin.proofs.Thins.{knows, exit_alike, then_alike}
+use Rattle.vx_fold.proofs.Thins.{knows, exit_alike, then_alike}
 use Rattle.vx_hoist.specs.Growing.{is_total, is_silent, BlockGrows}
 
 module _ (unread : ℕ → Bool) where

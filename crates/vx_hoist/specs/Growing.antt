@@ -16,7 +16,7 @@ use Rattle.vx_flow.specs.Meaning.{graph_run}
 use Rattle.vx_flow.specs.Sound.{is_sound_flow}
 use Rattle.vx_lower.specs.FlowOf.{GraphOf}
 use Rattle.vx_shape.specs.Flows.{with_graphs, Each, FlowStays}
-use Rattle.vx_thin.specs.Thinning.{result_alone, is_unread, are_read}
+use Rattle.vx_fold.specs.Thinning.{result_alone, is_unread, are_read}
 
 -- the operation has a meaning wherever it is executed, and its order among others cannot be seen; and it is no copy across
 abbrev pub is_total : Op → Bool

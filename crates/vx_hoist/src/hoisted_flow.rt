@@ -9,7 +9,7 @@ ghost use Rattle.vx_flow.specs.Effects.{reads};
 ghost use Rattle.vx_flow.specs.Sound.{is_sound_flow};
 ghost use Rattle.vx_lower.specs.FlowOf.{FlowOf};
 ghost use Rattle.vx_shape.specs.Flows.{Each, FlowStays};
-ghost use Rattle.vx_thin.specs.Thinning.{are_read, unread_of};
+ghost use Rattle.vx_fold.specs.Thinning.{are_read, unread_of};
 ghost use Rattle.vx_hoist.specs.Growing.{block_reads, is_silent, is_total, BlockGrows, GraphGrows};
 
 use crate::search::{Addition, Found, find_all, has_additions, ops_at};
@@ -19,12 +19,12 @@ use vx_base::outcome::NoMemory;
 use vx_flow::copies::{copied_exit, with_blocks};
 use vx_flow::graph::{Block, Flow, Graph, Op};
 use vx_flow::operands::is_observable;
+use vx_fold::reads::{are_reads_needed, exit_reads_needed, is_dropped};
 use vx_shape::copies::with_graphs;
 use vx_shape::origins::origins;
 use vx_shape::passes::{GraphPass, each_made};
 use vx_shape::shape_test::is_shaped;
 use vx_sound::is_sound;
-use vx_thin::reads::{are_reads_needed, exit_reads_needed, is_dropped};
 
 /// The graphs of a program, with operations put before loops where there are such.
 #[derive(Drop)]

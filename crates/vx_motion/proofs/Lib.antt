@@ -43,3 +43,8 @@ pub mod PairReplaced
 pub mod OrderShape
 pub mod SettledRenamed
 pub mod AliveAt
+pub mod Ordering
+pub mod Tracing
+pub mod Headed
+pub mod MadeBlocks
+pub mod Backs

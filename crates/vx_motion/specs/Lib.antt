@@ -17,3 +17,7 @@ pub mod TraceExample
 pub mod CountingExample
 pub mod ReplaceExample
 pub mod AloneExample
+pub mod Cycles
+pub mod Paths
+pub mod MadeBlocks
+pub mod Backs

@@ -18,7 +18,7 @@ use Rattle.vx_claims.specs.Facts.{decided}
 use Rattle.vx_claims.specs.Forming.{after_all}
 use Rattle.vx_claims.specs.declared.claim.Claim.{Claim}
 use Rattle.vx_claims.specs.Claims.{nothing}
-use Rattle.vx_facts.specs.Checking.{lie_in, is_entry_checked, is_block_checked}
+use Rattle.vx_narrow.specs.Checking.{lie_in, is_entry_checked, is_block_checked}
 use Rattle.vx_narrow.specs.Shortening.{improved_all, shift_of, shift_below}
 
 abbrev begins : Block

@@ -4,3 +4,15 @@ mod NarrowRuns
 mod Example
 mod Stays
 mod Staged
+pub mod Ranges
+pub mod Equal
+pub mod Tests
+pub mod Operations
+pub mod Cells
+pub mod Accesses
+pub mod Forms
+pub mod Behind
+pub mod Sizes
+pub mod RunFacts
+mod Turns
+mod Entries

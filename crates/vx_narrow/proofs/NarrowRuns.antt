@@ -17,12 +17,12 @@ use Rattle.vx_claims.specs.declared.intervals.Interval.{Interval}
 use Rattle.vx_claims.specs.declared.fact.Fact.{Fact}
 use Rattle.vx_claims.specs.Facts.{decided}
 use Rattle.vx_claims.specs.Forming.{after_all, accessed_all}
-use Rattle.vx_facts.specs.Checking.{has_numbers, is_exit_checked, Checked}
+use Rattle.vx_narrow.specs.Checking.{has_numbers, is_exit_checked, Checked}
 use Rattle.vx_narrow.specs.Rewriting.{side_of, GoesTo, DecidedGoes}
 use Rattle.vx_narrow.specs.Rewriting.{split_by, narrowed_exit, narrowed_block, narrowed_from, narrowed_graph, narrowed, NarrowedRuns}
 use Rattle.vx_narrow.specs.Shortening.{improved_all}
-use Rattle.vx_facts.proofs.Ranges.{and_one}
-use Rattle.vx_facts.proofs.RunFacts.{ActiveGood, next_good, start_good, reached_good}
+use Rattle.vx_narrow.proofs.Ranges.{and_one}
+use Rattle.vx_narrow.proofs.RunFacts.{ActiveGood, next_good, start_good, reached_good}
 use Rattle.vx_narrow.proofs.Narrows.{Refines, block_refines, get_block, get_function, goes}
 
 module _ (flow : Flow) (given : ℕ → List Interval) (claims : ℕ → ℕ → Claim) (checked : Checked flow given claims) where

@@ -16,14 +16,14 @@ use Rattle.vx_claims.specs.Facts.{decided}
 use Rattle.vx_claims.specs.declared.access.Access.{Access}
 use Rattle.vx_claims.specs.Accesses.{SpotsDiffer, accessed}
 use Rattle.vx_claims.specs.Forming.{form, after_known, after_from}
-use Rattle.vx_facts.specs.Checking.{has_numbers}
+use Rattle.vx_narrow.specs.Checking.{has_numbers}
 use Rattle.vx_narrow.specs.Rewriting.{side_of, GoesTo}
 use Rattle.vx_narrow.specs.Rewriting.{split_by, narrowed_exit, narrowed_block, narrowed_from, narrowed_graph, narrowed_functions}
 use Rattle.vx_narrow.specs.Shortening.{improved, improved_from}
-use Rattle.vx_facts.proofs.Ranges.{and_one, and_two}
-use Rattle.vx_facts.proofs.Tests.{decided_holds}
-use Rattle.vx_facts.proofs.Operations.{Good}
-use Rattle.vx_facts.proofs.Behind.{Follows, Known, KeepsKnown, Claimed, form_follows, form_known}
+use Rattle.vx_narrow.proofs.Ranges.{and_one, and_two}
+use Rattle.vx_narrow.proofs.Tests.{decided_holds}
+use Rattle.vx_narrow.proofs.Operations.{Good}
+use Rattle.vx_narrow.proofs.Behind.{Follows, Known, KeepsKnown, Claimed, form_follows, form_known}
 use Rattle.vx_narrow.proofs.Products.{shortened_same}
 
 -- the first has no meaning, or the second is the same

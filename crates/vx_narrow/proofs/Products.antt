@@ -22,9 +22,9 @@ use Rattle.vx_claims.specs.declared.fact.Fact.TheVariants.{Between, Equals}
 use Rattle.vx_narrow.specs.declared.one_product.Factors.{Factors}
 use Rattle.vx_claims.specs.Facts.{Within, content, Holds, AllHold, range_of, is_half, has_equals}
 use Rattle.vx_narrow.specs.Shortening.{shift_if, shift_below, shift_of, shift_in, shifted_or, low_or, names_number, product_or, is_low, factors_if, factors_of, product_if, sum_as, short_sum, shortened}
-use Rattle.vx_facts.proofs.Ranges.{and_one, and_two, le_holds, range_of_holds, small_product, shifted_whole}
-use Rattle.vx_facts.proofs.Equal.{has_holds}
-use Rattle.vx_facts.proofs.Operations.{Good, held_is}
+use Rattle.vx_narrow.proofs.Ranges.{and_one, and_two, le_holds, range_of_holds, small_product, shifted_whole}
+use Rattle.vx_narrow.proofs.Equal.{has_holds}
+use Rattle.vx_narrow.proofs.Operations.{Good, held_is}
 
 -- ---- numbers
 

@@ -7,13 +7,13 @@ use Rattle.vx_flow.specs.Sound.{is_sound_flow}
 use Rattle.vx_lower.specs.FlowOf.{FlowOf}
 use Rattle.vx_claims.specs.declared.claim.Claim.{Claim}
 use Rattle.vx_claims.specs.declared.intervals.Interval.{Interval}
-use Rattle.vx_facts.specs.Checking.{Checked, parameters_of, is_entry_checked, is_block_checked}
+use Rattle.vx_narrow.specs.Checking.{Checked, parameters_of, is_entry_checked, is_block_checked}
 use Rattle.vx_claims.specs.Claims.{nothing}
 use Rattle.vx_narrow.specs.Rewriting.{narrowed_graph, narrowed_functions, narrowed_from, narrowed}
 use Rattle.vx_claims.specs.Claims.{listed_claims}
 use Rattle.vx_narrow.specs.Narrowing.{are_blocks_checked, are_numbers, GraphNarrowed, GraphsNarrowed, NarrowedWith, NarrowedStays}
 use Rattle.vx_shape.specs.Flows.{with_graphs, FlowStays}
-use Rattle.vx_facts.proofs.Ranges.{and_one, and_two}
+use Rattle.vx_narrow.proofs.Ranges.{and_one, and_two}
 use Rattle.vx_narrow.proofs.Stays.{stays_flow}
 
 -- ---- blocks

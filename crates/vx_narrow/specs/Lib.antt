@@ -2,3 +2,4 @@ pub mod Shortening
 pub mod Rewriting
 pub mod Staying
 pub mod Narrowing
+pub mod Checking

@@ -9,7 +9,7 @@ use Rattle.vx_flow.specs.declared.graph.Flow.{Flow}
 use Rattle.vx_flow.specs.Sound.{is_sound_flow}
 use Rattle.vx_claims.specs.declared.claim.Claim.{Claim}
 use Rattle.vx_claims.specs.declared.intervals.Interval.{Interval}
-use Rattle.vx_facts.specs.Checking.{is_number, is_entry_checked, is_block_checked}
+use Rattle.vx_narrow.specs.Checking.{is_number, is_entry_checked, is_block_checked}
 use Rattle.vx_narrow.specs.Rewriting.{narrowed_graph}
 use Rattle.vx_shape.specs.Flows.{with_graphs, FlowStays}
 

@@ -16,7 +16,7 @@ use Rattle.vx_claims.specs.declared.fact.Fact.{Fact}
 use Rattle.vx_claims.specs.Facts.{decided}
 use Rattle.vx_claims.specs.Forming.{after_all}
 use Rattle.vx_narrow.specs.Shortening.{improved_all}
-use Rattle.vx_facts.specs.Checking.{Checked, Leads}
+use Rattle.vx_narrow.specs.Checking.{Checked, Leads}
 
 abbrev pub side_of : Bool → ℕ → ℕ → ℕ
 side_of true c d = c

@@ -6,7 +6,7 @@ use Rattle.vx_flow.specs.Sound.{is_sound_flow}
 use Rattle.vx_lower.specs.FlowOf.{FlowOf}
 use Rattle.vx_claims.specs.declared.claim.Claim.{Claim}
 use Rattle.vx_claims.specs.declared.intervals.Interval.{Interval}
-use Rattle.vx_facts.specs.Checking.{Checked}
+use Rattle.vx_narrow.specs.Checking.{Checked}
 use Rattle.vx_narrow.specs.Rewriting.{narrowed}
 
 -- where what comes out is sound, which is tested

@@ -4,10 +4,11 @@ ghost use Rattle.std.specs.Prelude.{◌≡◌, ◌++◌, ◌&&◌, true, IfOk, I
 ghost use Rattle.std.specs.List.{list_all};
 ghost use Rattle.vx_claims.specs.Forming.{accessed_from, after_from};
 ghost use Rattle.vx_claims.specs.Claims.{listed_claims};
-ghost use Rattle.vx_facts.specs.Checking.{has_numbers, is_block_checked, is_exit_checked, listed_given};
+ghost use Rattle.vx_narrow.specs.Checking.{has_numbers, is_block_checked, is_exit_checked, listed_given};
 ghost use Rattle.vx_narrow.specs.Shortening.{improved_from};
 ghost use Rattle.vx_narrow.specs.Rewriting.{narrowed_block, narrowed_exit};
 
+use crate::checks::is_left_checked;
 use crate::one_product::shortened;
 use std::alloc::Global;
 use vx_base::listed::Listed;
@@ -19,7 +20,6 @@ use vx_claims::forms::form;
 use vx_claims::intervals::Interval;
 use vx_claims::known::decided;
 use vx_claims::update::learn;
-use vx_facts::checks::is_left_checked;
 use vx_flow::copies::copied_exit;
 use vx_flow::graph::{Block, Exit, Op};
 

@@ -9,7 +9,7 @@ use Rattle.vx_ast.specs.Tree.{One}
 use Rattle.vx_ast.specs.Syntax as syntax
 use Rattle.vx_ast.specs.SyntaxView.{phrase_of, row_in}
 use Rattle.vx_ast.specs.Phrases as phrases
-use Rattle.vx_ast.specs.Phrases.{Phrase, Arguments, MoreExpressions, Part, The, A, mark, parts_of, Derivation, Leaf, Node, NoMore, Then, Is, nothing}
+use Rattle.vx_ast.specs.Phrases.{Phrase, Arguments, MoreExpressions, A, mark, parts_of, Derivation, Leaf, Node, NoMore, Then, Is, nothing}
 use Rattle.vx_ast.specs.Derivations.{expression_of, arguments_of, arguments_in, depth_behind}
 use Rattle.vx_parse.specs.declared.stop.Stop.{Stop}
 use Rattle.vx_parse.specs.declared.expression.Operand.{Operand}

@@ -12,7 +12,7 @@ use Rattle.vx_ast.specs.Tree.{One, Row}
 use Rattle.vx_ast.specs.Syntax as syntax
 use Rattle.vx_ast.specs.SyntaxView.{phrase_of, row_in}
 use Rattle.vx_ast.specs.Phrases as phrases
-use Rattle.vx_ast.specs.Phrases.{Phrase, ChoiceRest, Level, LevelRest, Primary, NameRest, Arguments, MoreExpressions, Part, The, AName, ANumber, A, mark, Fits, parts_of, strength, Derivation, Leaf, Node, NoMore, Then, Is, nothing, token, phrase, Stuck, unfit, behind as read_behind, no_phrase, inside, after, Begins, reached, reached_behind, reached_inside, reached_after}
+use Rattle.vx_ast.specs.Phrases.{Phrase, ChoiceRest, Level, LevelRest, Primary, NameRest, Arguments, Part, The, AName, ANumber, A, mark, parts_of, strength, Derivation, Leaf, Node, NoMore, Then, Is, nothing, token, phrase, Stuck, unfit, behind as read_behind, no_phrase, inside, after, Begins, reached, reached_behind, reached_inside, reached_after}
 use Rattle.vx_ast.specs.Derivations.{name_of, number_of, unary_of, joined, expression_of, behind, named, arguments_of, opens, itself, depth_behind, row_depth, operator_depth, choice_depth}
 use Rattle.vx_parse.specs.declared.stop.Stop.{Stop}
 use Rattle.vx_parse.specs.declared.stop.Stop.TheVariants.{Unexpected, TooDeep, NoMemory}

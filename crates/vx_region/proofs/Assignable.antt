@@ -27,8 +27,8 @@ use Rattle.vx_mixed.specs.Valid.{Valid}
 use Rattle.vx_mixed.proofs.Linked.{index_in}
 use Rattle.vx_dep.specs.Delays.{Stands, reads_of, writes_of}
 use Rattle.vx_bug.specs.CanAssign.{IsFixed, IsFree, bound_writes, BoundAtHome, FixedAtHome, FixedReadsHere, ClustersAreThere, ValuesAreThere, CopiesHaveNumbers, IsWellFormed}
-use Rattle.vx_copies.specs.AtHome.{IsAtHome, AcrossOfValues}
-use Rattle.vx_copies.proofs.Tidied.{length_none, length_map}
+use Rattle.vx_region.specs.AtHome.{IsAtHome, AcrossOfValues}
+use Rattle.vx_region.proofs.Tidied.{length_none, length_map}
 use Rattle.vx_region.specs.Regions.{IsGraphOf}
 use Rattle.vx_region.proofs.Formed.{fixed_many, up}
 use Rattle.vx_region.proofs.BelowJoins.{Below, below_join}

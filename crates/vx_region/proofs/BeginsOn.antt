@@ -26,10 +26,10 @@ use Rattle.vx_mixed.specs.Settled.{has_home}
 use Rattle.vx_mixed.specs.Valid.{IsOp, block_op, region_op, names_of}
 use Rattle.vx_mixed.proofs.Begins.{op_below, no_region, begins_tidy, begins_settled, node_is, is_block}
 use Rattle.vx_mixed.proofs.Linked.{index_in}
-use Rattle.vx_cycles.specs.MadeBlocks.{MadeFacts}
-use Rattle.vx_cycles.specs.Paths.{UnusedEdge, IsHeaded}
-use Rattle.vx_cycles.proofs.Headed.{begins_headed, headed_by, stays}
-use Rattle.vx_cycles.proofs.MadeBlocks.{made_begins}
+use Rattle.vx_motion.specs.MadeBlocks.{MadeFacts}
+use Rattle.vx_motion.specs.Paths.{UnusedEdge, IsHeaded}
+use Rattle.vx_motion.proofs.Headed.{begins_headed, headed_by, stays}
+use Rattle.vx_motion.proofs.MadeBlocks.{made_begins}
 use Rattle.vx_bug.proofs.Best.{some_clusters}
 use Rattle.vx_region.specs.Regions.{room_in, BeginsAsGraph}
 use Rattle.vx_region.proofs.ClusteredOps.{value_below}

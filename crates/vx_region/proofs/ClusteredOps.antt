@@ -38,8 +38,8 @@ use Rattle.vx_bug.specs.CanAssign.{IsFree}
 use Rattle.vx_bug.specs.Clusters.{general_reads, general_writes, is_bound, is_across}
 use Rattle.vx_bug.specs.Copies.{copy_of, is_away, here, renamed, renamed_op}
 use Rattle.vx_bug.proofs.Best.{four_clusters}
-use Rattle.vx_copies.specs.AtHome.{IsAtHome, CopiesAtHome, StandsFor, copies, stays, renames, StandsWell, AllStand}
-use Rattle.vx_copies.proofs.Fresh.{InPlace, renamed_read, renamed_writes}
+use Rattle.vx_region.specs.AtHome.{IsAtHome, CopiesAtHome, StandsFor, copies, stays, renames, StandsWell, AllStand}
+use Rattle.vx_region.proofs.Fresh.{InPlace, renamed_read, renamed_writes}
 use Rattle.vx_region.specs.Regions.{IsGraphOf}
 use Rattle.vx_region.proofs.Assignable.{names_below}
 use Rattle.vx_region.proofs.PlanOps.{is_op}

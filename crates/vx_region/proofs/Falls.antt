@@ -14,7 +14,7 @@ use Rattle.vx_mixed.specs.declared.mixed.MixedGraph.{MixedGraph}
 use Rattle.vx_mixed.specs.declared.replacement.Replacement.{Replacement}
 use Rattle.vx_mixed.specs.Next.{next_mixed, nodes_from, trace_node, made_node, entered_at, rejoin_at, renamed_node, new_end, renamed_region, new_region}
 use Rattle.vx_mixed.proofs.NewNodes.{nodes_length}
-use Rattle.vx_copies.specs.AtHome.{AssignedStands}
+use Rattle.vx_region.specs.AtHome.{AssignedStands}
 use Rattle.vx_region.specs.RegionPlans.{IsPlaced}
 use Rattle.vx_region.specs.Regions.{replacement_by}
 use Rattle.vx_region.specs.Growth.{copies_of, made_blocks, HasMode}

@@ -22,8 +22,8 @@ use Rattle.vx_mixed.proofs.Linked.{some_blocks}
 use Rattle.vx_mixed.proofs.TraceFacts.{joins_once}
 use Rattle.vx_dep.specs.declared.mode.Mode.{Mode}
 use Rattle.vx_bug.specs.declared.clusters.Clusters.{Clusters}
-use Rattle.vx_copies.specs.AtHome.{AssignedStands}
-use Rattle.vx_copies.specs.Ways.{ClusteredFits}
+use Rattle.vx_region.specs.AtHome.{AssignedStands}
+use Rattle.vx_region.specs.Ways.{ClusteredFits}
 use Rattle.vx_region.specs.Motion.{LeavesAlike, in_order, Wanted, KeepsOrder, after_ops, in_words, OrderLaw, SplitsLaw, JoinsLaw}
 use Rattle.vx_region.specs.Planned.{Planned}
 use Rattle.vx_region.proofs.InMotion.{from_start, from_edge}

@@ -42,11 +42,11 @@ use Rattle.vx_dep.specs.declared.copies.EdgeCopies.{EdgeCopies}
 use Rattle.vx_dep.specs.Compensation.{word_at, drain_at, at_splits_of, at_joins_of}
 use Rattle.vx_bug.specs.declared.clusters.Clusters.{Clusters}
 use Rattle.vx_bug.specs.Assigned.{Assigned}
-use Rattle.vx_copies.specs.AtHome.{IsAtHome, AllStand, AssignedStands}
-use Rattle.vx_copies.specs.Beside.{IsCopyOf}
-use Rattle.vx_copies.specs.Ways.{ClusteredFits}
-use Rattle.vx_cycles.proofs.Headed.{stays_headed}
-use Rattle.vx_cycles.proofs.MadeBlocks.{made_stays}
+use Rattle.vx_region.specs.AtHome.{IsAtHome, AllStand, AssignedStands}
+use Rattle.vx_region.specs.Beside.{IsCopyOf}
+use Rattle.vx_region.specs.Ways.{ClusteredFits}
+use Rattle.vx_motion.proofs.Headed.{stays_headed}
+use Rattle.vx_motion.proofs.MadeBlocks.{made_stays}
 use Rattle.vx_region.specs.Planned.{placed_in, replacement_of, Planned}
 use Rattle.vx_region.specs.PlanLaws.{PlanKeeps}
 use Rattle.vx_region.specs.Regions.{room_in, OnMachine, IsGraphOf, FitsIn}

@@ -46,7 +46,7 @@ use Rattle.vx_dep.specs.Delays.{AreHeights, latency_of}
 use Rattle.vx_dep.specs.Compensation.{word_at, greatest, splits_from, copies_at_split, rejoin_word, rejoin_of, at_splits_of, at_joins_of, is_freed, all_left_at, drain_at}
 use Rattle.vx_sched.specs.Placement.{PlacedBy, length_of}
 use Rattle.vx_region.specs.Meets.{MeetsTable}
-use Rattle.vx_copies.specs.Ways.{ClusteredFits}
+use Rattle.vx_region.specs.Ways.{ClusteredFits}
 use Rattle.vx_region.specs.Planned.{placed_in, op_of, ops_at, clusters_at, dismissed_if, made_at_joins, replacement_of}
 use Rattle.vx_region.proofs.Bare.{bare, bare_items, bare_nth, bare_many, bare_latency, bare_ops, bare_meets, bare_apart}
 use Rattle.vx_region.proofs.PlainItems.{plain_many, nth_at, some_at}

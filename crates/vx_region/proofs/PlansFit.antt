@@ -46,9 +46,9 @@ use Rattle.vx_bug.specs.CanAssign.{IsWellFormed, ValuesAreThere}
 use Rattle.vx_bug.specs.Copies.{Standing, pieces_of, joined, moved_join, with_copies}
 use Rattle.vx_bug.proofs.Best.{four_clusters}
 use Rattle.vx_sched.specs.Placement.{PlacedBy}
-use Rattle.vx_copies.specs.AtHome.{IsAtHome, AllStand, AssignedStands}
-use Rattle.vx_copies.specs.Ways.{ClusteredFits}
-use Rattle.vx_copies.proofs.FromValid.{assigned_trace_fits}
+use Rattle.vx_region.specs.AtHome.{IsAtHome, AllStand, AssignedStands}
+use Rattle.vx_region.specs.Ways.{ClusteredFits}
+use Rattle.vx_region.proofs.FromValid.{assigned_trace_fits}
 use Rattle.vx_region.specs.Planned.{placed_in, replacement_of, Planned}
 use Rattle.vx_region.specs.PlanLaws.{PlanLaw}
 use Rattle.vx_region.specs.Regions.{room_in, IsGraphOf, FitsIn, PlansFit}

@@ -21,11 +21,11 @@ use Rattle.vx_layout.proofs.StayBrief.{brief_stays}
 use Rattle.vx_mixed.proofs.StaysValid.{stays_valid}
 use Rattle.vx_bug.specs.declared.clusters.Clusters.{Clusters}
 use Rattle.vx_bug.specs.Assigned.{Assigned}
-use Rattle.vx_copies.specs.AtHome.{AssignedStands}
+use Rattle.vx_region.specs.AtHome.{AssignedStands}
 use Rattle.vx_profile.specs.declared.counts.Counts.{Counts}
 use Rattle.vx_trace.specs.Picked.{Picked, count_of_block}
-use Rattle.vx_cycles.specs.Paths.{IsHeaded}
-use Rattle.vx_cycles.proofs.Tracing.{paths_can_be_traced}
+use Rattle.vx_motion.specs.Paths.{IsHeaded}
+use Rattle.vx_motion.proofs.Tracing.{paths_can_be_traced}
 use Rattle.vx_region.specs.declared.placed_trace.PlacedTrace.{PlacedTrace}
 use Rattle.vx_region.specs.declared.step.Next.{Next as NextOf}
 use Rattle.vx_region.specs.declared.step.OnClusters.{OnClusters}

@@ -9,7 +9,7 @@ use Rattle.vx_flow.specs.Effects.{IsIn}
 use Rattle.vx_mixed.specs.declared.mixed.MixedGraph.{MixedGraph}
 use Rattle.vx_mixed.specs.TraceOf.{block_at, split_behind, block_ops, trace_ops, clusters_of, trace_fixed}
 use Rattle.vx_mixed.proofs.Linked.{index_in}
-use Rattle.vx_copies.proofs.Tidied.{InPart, in_first, in_second, in_part, entry_first, entry_second, length_none, length_map}
+use Rattle.vx_region.proofs.Tidied.{InPart, in_first, in_second, in_part, entry_first, entry_second, length_none, length_map}
 
 -- an operation of a list
 at_plain : (ops : List Op) (j : ℕ) (op : TraceOp) → slice_get (map Plain ops) j ≡ Some op → (o : Op) × (slice_get ops j ≡ Some o) × (op ≡ Plain o)

@@ -10,3 +10,6 @@ pub mod Stepping
 pub mod Barring
 pub mod Ending
 pub mod TwoBlocks
+pub mod AtHome
+pub mod Beside
+pub mod Ways

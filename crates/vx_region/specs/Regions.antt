@@ -36,12 +36,12 @@ use Rattle.vx_dep.specs.declared.mode.Mode.{Mode}
 use Rattle.vx_dep.specs.Compensation.{at_splits_of, at_joins_of}
 use Rattle.vx_bug.specs.declared.clusters.Clusters.{Clusters}
 use Rattle.vx_bug.specs.Assigned.{Assigned}
-use Rattle.vx_copies.specs.AtHome.{IsAtHome, CopiesAtHome}
-use Rattle.vx_copies.specs.Ways.{CopiesAreCopies}
+use Rattle.vx_region.specs.AtHome.{IsAtHome, CopiesAtHome}
+use Rattle.vx_region.specs.Ways.{CopiesAreCopies}
 use Rattle.vx_profile.specs.declared.counts.Counts.{Counts}
 use Rattle.vx_trace.specs.Picked.{Picked, count_of_block}
-use Rattle.vx_cycles.specs.MadeBlocks.{MadeFacts}
-use Rattle.vx_cycles.specs.Paths.{IsHeaded}
+use Rattle.vx_motion.specs.MadeBlocks.{MadeFacts}
+use Rattle.vx_motion.specs.Paths.{IsHeaded}
 use Rattle.vx_region.specs.declared.trace_plan.TracePlan.{TracePlan}
 use Rattle.vx_region.specs.Growth.{HasMode, copies_of}
 use Rattle.vx_region.specs.Owed.{with_drains}

@@ -8,7 +8,7 @@ ghost use Rattle.vx_region.specs.Motion.{ComposedLaw, JoinsLaw, OrderLaw, Splits
 ghost use Rattle.vx_region.specs.PlanLaws.{PlanKeeps, PlanLaw};
 ghost use Rattle.vx_region.specs.Regions.{AllKeep, BeginsAsGraph, PlansFit, StepKeeps};
 
-use vx_copies::assigned_operations_stand;
+use crate::copies::assigned_operations_stand;
 
 /// The words of a placement meet the delays of its trace, and so the table under which every operation may move: stores
 /// and loads whose index forms never name one word may pass each other.

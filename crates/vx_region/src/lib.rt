@@ -3,6 +3,7 @@
 #![tactic(auto)]
 
 pub mod budget;
+pub mod copies;
 pub mod laws;
 mod made;
 mod owed;

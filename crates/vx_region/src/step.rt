@@ -13,6 +13,7 @@ ghost use Rattle.vx_region.specs.Regions.{IsGraphOf, ReplacesAll, ReplacesOne};
 ghost use Rattle.vx_region.specs.Stepping.{IsNext, IsNextBy, IsOnClusters, OnFinished, OnReplaced};
 
 use crate::budget::Budget;
+use crate::copies::assigned_operations_stand;
 use crate::owed::Owed;
 use crate::placed_trace::{PlacedTrace, place_within};
 use crate::trace_plan::TracePlan;
@@ -21,7 +22,6 @@ use vx_base::listed::{Listed, copied};
 use vx_base::outcome::NoMemory;
 use vx_bug::assign;
 use vx_bug::clusters::Clusters;
-use vx_copies::assigned_operations_stand;
 use vx_flow::copies::copied_clustered;
 use vx_flow::graph::BlockId;
 use vx_flow::trace::{Clustered, Homes, Placed};

@@ -2,3 +2,9 @@ pub mod Boxes
 pub mod Simulated
 pub mod Lines
 pub mod Ending
+pub mod Reading
+pub mod Names
+pub mod Writing
+pub mod Counted
+pub mod Counting
+pub mod Summary

@@ -1,11 +1,16 @@
-// Runs of words with the boxes that a caller hands in, and the command `sim`: what is read for them, their output, and the lines of
-// their end.
+// The steps of commands for which no pass is needed: runs of words with the boxes that a caller hands in, what is read for them, their
+// output and the lines of their end; the command `sim`; what `profile` counts, and the runs of `soak`, with the graphs of any compiler.
 #![tactic(auto)]
 
 mod boxes;
+pub mod compiler;
+pub mod counts;
 mod loaded;
+pub mod names;
 mod run;
 mod sim;
+pub mod soak_run;
+pub mod texts;
 
 pub use boxes::{probes_of, timing_of};
 pub use loaded::LoadedFiles;

@@ -1,4 +1,4 @@
-// A search for claims (vx_claims) at the starts of blocks and for parameters, by sweeps over the graphs. It owes nothing: vx_facts
+// A search for claims (vx_claims) at the starts of blocks and for parameters, by sweeps over the graphs. It owes nothing: vx_narrow
 // checks what it finds.
 #![tactic(auto)]
 

@@ -3,3 +3,4 @@ pub mod Moved
 pub mod Returned
 pub mod Whole
 pub mod Plans
+pub mod Fitted

@@ -1,6 +1,6 @@
 -- The command of the name is performed, or none is named.
 use Rattle.std.proofs.Common.{inr, refl}
-use Rattle.vx_steps.proofs.Reading.{read_nothing}
+use Rattle.vx_runs.proofs.Reading.{read_nothing}
 use Rattle.vx_commands.proofs.Performing.{performed_named, performed_none}
 use Rattle.vx_commands.proofs.commands.perform_named.Goals as goal
 

@@ -6,7 +6,7 @@ use Rattle.vx_files.specs.Effects.{effect_of}
 use Rattle.vx_command.specs.Asked.{execution_of}
 use Rattle.vx_runs.specs.Ending.{loaded_of}
 use Rattle.vx_commands.proofs.Executing.{after_source, prepared}
-use Rattle.vx_steps.proofs.Reading.{read_on}
+use Rattle.vx_runs.proofs.Reading.{read_on}
 use Rattle.vx_runs.proofs.Since.{since_read}
 use Rattle.vx_commands.proofs.exec.load.Goals as goal
 

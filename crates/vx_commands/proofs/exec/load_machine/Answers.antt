@@ -7,7 +7,7 @@ use Rattle.vx_runs.specs.Ending.{loaded_of}
 use Rattle.vx_runs.proofs.FileSteps.{still_some}
 use Rattle.vx_commands.proofs.Executing.{later_input, later_machine}
 use Rattle.vx_commands.proofs.Loading.{machine_loaded}
-use Rattle.vx_steps.proofs.Reading.{read_on}
+use Rattle.vx_runs.proofs.Reading.{read_on}
 use Rattle.vx_runs.proofs.Since.{since_read}
 use Rattle.vx_commands.proofs.exec.load_machine.Goals as goal
 

@@ -8,7 +8,7 @@ use Rattle.vx_runs.specs.Ending.{loaded_of}
 use Rattle.vx_runs.proofs.FileSteps.{still_some}
 use Rattle.vx_commands.proofs.Executing.{after_profile}
 use Rattle.vx_commands.proofs.Loading.{profile_loaded}
-use Rattle.vx_steps.proofs.Reading.{read_on}
+use Rattle.vx_runs.proofs.Reading.{read_on}
 use Rattle.vx_runs.proofs.Since.{since_read}
 use Rattle.vx_commands.proofs.exec.load_profile.Goals as goal
 

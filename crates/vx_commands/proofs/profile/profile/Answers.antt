@@ -1,7 +1,7 @@
 -- The text of the counts is put, or a step before stopped the command.
 use Rattle.std.proofs.Common.{refl}
 use Rattle.vx_command.specs.Asked.{profiling_of}
-use Rattle.vx_steps.proofs.CountLaws.{text_answers, stops_answers}
+use Rattle.vx_runs.proofs.CountLaws.{text_answers, stops_answers}
 use Rattle.vx_commands.proofs.Performing.{count_performed, count_stopped}
 use Rattle.vx_commands.proofs.profile.profile.Goals as goal
 

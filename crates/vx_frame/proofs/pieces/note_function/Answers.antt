@@ -1,4 +1,4 @@
-use Rattle.std.proofs.Common.{◌≡◌, ◌++◌, List, length, ap, ◌∙◌}
+use Rattle.std.proofs.Common.{◌++◌, List, length, ap, ◌∙◌}
 use Rattle.std.proofs.lemmas.Result.{IfOk-weaker}
 use Rattle.vx_isa.specs.declared.program.Word.{Word}
 use Rattle.vx_mixed.specs.declared.layout.VirtualWord.{VirtualWord}

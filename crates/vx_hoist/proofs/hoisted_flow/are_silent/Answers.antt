@@ -3,7 +3,7 @@ use Rattle.std.specs.Prelude.{◌&&◌}
 use Rattle.std.specs.List.{list_all}
 use Rattle.std.proofs.lemmas.List.Folds.{list_all_more}
 use Rattle.vx_flow.specs.declared.graph.Op.{Op}
-use Rattle.vx_thin.specs.Thinning.{unread_of}
+use Rattle.vx_fold.specs.Thinning.{unread_of}
 use Rattle.vx_hoist.specs.Growing.{is_silent}
 use Rattle.vx_hoist.proofs.hoisted_flow.are_silent.Goals as goal
 

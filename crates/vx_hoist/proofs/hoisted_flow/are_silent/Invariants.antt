@@ -1,6 +1,6 @@
 use Rattle.std.proofs.Common.{◌≡◌, true, take}
 use Rattle.std.specs.List.{list_all}
-use Rattle.vx_thin.specs.Thinning.{unread_of}
+use Rattle.vx_fold.specs.Thinning.{unread_of}
 use Rattle.vx_hoist.specs.Growing.{is_silent}
 use Rattle.vx_hoist.proofs.hoisted_flow.are_silent.Given as goal
 

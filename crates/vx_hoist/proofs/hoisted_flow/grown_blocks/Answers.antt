@@ -1,6 +1,6 @@
 use Rattle.std.proofs.Common.{◌≡◌, ◌+◌, ◌<◌, ℕ, Bool, List, IfSome, sym, take, length, get_or, subst}
 use Rattle.vx_flow.specs.declared.graph.Block.{Block}
-use Rattle.vx_thin.specs.Thinning.{unread_of}
+use Rattle.vx_fold.specs.Thinning.{unread_of}
 use Rattle.vx_shape.specs.Flows.{Each}
 use Rattle.vx_shape.proofs.Pairs.{each_next}
 use Rattle.vx_hoist.specs.Growing.{BlockGrows}

@@ -2,7 +2,7 @@ use Rattle.std.proofs.Common.{◌≡◌, ◌∙◌, ap, subst, sym, true, List}
 use Rattle.vx_flow.specs.declared.graph.Block.{Block}
 use Rattle.vx_flow.specs.declared.graph.Graph.{Graph}
 use Rattle.vx_shape.specs.ShapeTest.{is_shaped}
-use Rattle.vx_thin.specs.Thinning.{unread_of}
+use Rattle.vx_fold.specs.Thinning.{unread_of}
 use Rattle.vx_hoist.proofs.GrowFlow.{tested_grows}
 use Rattle.vx_hoist.proofs.hoisted_flow.grown_where_shaped.Goals as goal
 

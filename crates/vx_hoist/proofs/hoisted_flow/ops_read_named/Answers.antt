@@ -4,7 +4,7 @@ use Rattle.std.specs.List.{list_all}
 use Rattle.std.proofs.lemmas.List.Folds.{list_all_more}
 use Rattle.vx_flow.specs.declared.graph.Op.{Op}
 use Rattle.vx_flow.specs.Effects.{reads}
-use Rattle.vx_thin.specs.Thinning.{are_read, unread_of}
+use Rattle.vx_fold.specs.Thinning.{are_read, unread_of}
 use Rattle.vx_hoist.proofs.hoisted_flow.ops_read_named.Goals as goal
 
 one_more : (p : Op → Bool) (ops : List Op) (i : ℕ) (d : Op) → i < length ops → list_all p (take i ops) ≡ true → p (get_or ops i d) ≡ true → list_all p (take (i + 1) ops) ≡ true

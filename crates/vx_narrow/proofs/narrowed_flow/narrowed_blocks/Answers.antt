@@ -4,7 +4,7 @@ use Rattle.vx_flow.specs.declared.graph.Block.{Block}
 use Rattle.vx_claims.specs.declared.claim.Claim.{Claim}
 use Rattle.vx_claims.specs.declared.intervals.Interval.{Interval}
 use Rattle.vx_claims.specs.Claims.{listed_claims}
-use Rattle.vx_facts.specs.Checking.{is_block_checked, listed_given}
+use Rattle.vx_narrow.specs.Checking.{is_block_checked, listed_given}
 use Rattle.vx_narrow.specs.Narrowing.{are_blocks_checked}
 use Rattle.vx_narrow.specs.Rewriting.{narrowed_block, narrowed_from}
 use Rattle.vx_narrow.proofs.narrowed_flow.narrowed_blocks.Goals as goal

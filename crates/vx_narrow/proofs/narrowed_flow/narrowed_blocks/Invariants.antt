@@ -1,7 +1,7 @@
 use Rattle.std.proofs.Common.{◌≡◌, ◌++◌, drop}
 use Rattle.vx_narrow.specs.Narrowing.{are_blocks_checked}
 use Rattle.vx_claims.specs.Claims.{listed_claims}
-use Rattle.vx_facts.specs.Checking.{listed_given}
+use Rattle.vx_narrow.specs.Checking.{listed_given}
 use Rattle.vx_narrow.specs.Rewriting.{narrowed_from}
 use Rattle.vx_narrow.proofs.narrowed_flow.narrowed_blocks.Given as goal
 

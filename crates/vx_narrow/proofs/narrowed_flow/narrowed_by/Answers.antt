@@ -3,8 +3,8 @@ use Rattle.vx_flow.specs.declared.graph.Block.{Block}
 use Rattle.vx_narrow.specs.Rewriting.{narrowed_from}
 use Rattle.vx_narrow.specs.Narrowing.{are_blocks_checked}
 use Rattle.vx_claims.specs.Claims.{listed_claims}
-use Rattle.vx_facts.specs.Checking.{listed_given}
-use Rattle.vx_facts.specs.Checking.{is_entry_checked}
+use Rattle.vx_narrow.specs.Checking.{listed_given}
+use Rattle.vx_narrow.specs.Checking.{is_entry_checked}
 use Rattle.vx_narrow.proofs.Staged.{graph_by_table, with_blocks_is}
 use Rattle.vx_narrow.proofs.narrowed_flow.narrowed_by.Goals as goal
 

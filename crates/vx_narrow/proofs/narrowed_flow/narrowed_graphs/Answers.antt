@@ -1,6 +1,6 @@
 use Rattle.std.proofs.Common.{sym, take, ◌+◌, subst, IfSome}
 use Rattle.vx_flow.specs.declared.graph.Graph.{Graph}
-use Rattle.vx_facts.specs.Checking.{listed_given}
+use Rattle.vx_narrow.specs.Checking.{listed_given}
 use Rattle.vx_narrow.specs.Narrowing.{GraphNarrowed, NarrowedWith}
 use Rattle.vx_narrow.proofs.Staged.{graphs_next}
 use Rattle.vx_narrow.proofs.narrowed_flow.narrowed_graphs.Goals as goal

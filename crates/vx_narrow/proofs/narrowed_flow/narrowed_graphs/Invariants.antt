@@ -1,5 +1,5 @@
 use Rattle.std.proofs.Common.{take}
-use Rattle.vx_facts.specs.Checking.{listed_given}
+use Rattle.vx_narrow.specs.Checking.{listed_given}
 use Rattle.vx_narrow.specs.Narrowing.{NarrowedWith}
 use Rattle.vx_narrow.proofs.narrowed_flow.narrowed_graphs.Given as goal
 

@@ -1,6 +1,6 @@
 use Rattle.std.proofs.Common.{IfSome, List, Option, subst}
 use Rattle.vx_flow.specs.declared.graph.Graph.{Graph}
-use Rattle.vx_facts.specs.Checking.{listed_given}
+use Rattle.vx_narrow.specs.Checking.{listed_given}
 use Rattle.vx_narrow.specs.Narrowing.{NarrowedWith}
 use Rattle.vx_narrow.proofs.narrowed_flow.narrowed_with_given.Goals as goal
 

@@ -1,5 +1,0 @@
-use Rattle.vx_copies.proofs.Fields.{clustered_fits, assigned_fits}
-use Rattle.vx_copies.proofs.clustered_traces_fit.Goals as goal
-
-pub returns : goal.returns
-returns c = record { fits = clustered_fits; assigned = assigned_fits }

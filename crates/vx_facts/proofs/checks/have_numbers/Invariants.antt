@@ -1,7 +1,0 @@
-use Rattle.std.proofs.Common.{◌≡◌, true, take}
-use Rattle.std.specs.List.{list_all}
-use Rattle.vx_facts.specs.Checking.{has_numbers}
-use Rattle.vx_facts.proofs.checks.have_numbers.Given as goal
-
-abbrev pub invariant-loop-op : goal.invariant-loop-op
-invariant-loop-op l = list_all has_numbers (take l.op-index l.ops) ≡ true

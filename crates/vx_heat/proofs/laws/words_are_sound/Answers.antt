@@ -1,5 +1,0 @@
-use Rattle.vx_heat.proofs.SoundWords.{sound_law}
-use Rattle.vx_heat.proofs.laws.words_are_sound.Goals as goal
-
-pub returns : goal.returns
-returns c = sound_law c.fits_by_room_law.ensures

@@ -1,5 +1,0 @@
-use Rattle.vx_heat.proofs.Fit.{fit_law}
-use Rattle.vx_heat.proofs.laws.words_fit.Goals as goal
-
-pub returns : goal.returns
-returns c = fit_law c.fits_by_room_law.ensures

@@ -1,6 +1,0 @@
-pub mod Globals
-pub mod Offsets
-pub mod FrameLists
-pub mod SavedLists
-pub mod LeadsWithin
-pub mod Pieces

@@ -1,6 +1,0 @@
-use Rattle.std.proofs.Common.{◌≡◌, ◌++◌, drop}
-use Rattle.vx_memory.specs.Saves.{saved_from}
-use Rattle.vx_memory.proofs.saves.saved.Given as goal
-
-abbrev pub invariant-loop-place : goal.invariant-loop-place
-invariant-loop-place l = l.saved ++ saved_from l.living l.values l.place (drop l.place l.words) ≡ saved_from l.living l.values 0 l.words

@@ -1,9 +1,0 @@
--- The counts are those of the graphs of the program.
-use Rattle.vx_steps.proofs.counts.counted.Goals as goal
-
-pub returns : goal.returns
-returns g c = record {
-  run = record { flow = c.in_ok-flow.flow; flow_of = c.in_ok-flow.ensures; counts = c.in_ok-counted.counted.counts; counts_of = c.in_ok-counted.ensures.counts; ascending = c.in_ok-text.ensures.ascending };
-  text_is = c.in_ok-text.ensures.text;
-  ended = c.in_ok-counted.ensures.complete;
-}

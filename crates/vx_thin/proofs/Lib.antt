@@ -1,4 +1,0 @@
-pub mod Thins
-mod ThinRuns
-mod ThinFlow
-mod Alls

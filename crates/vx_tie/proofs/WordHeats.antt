@@ -1,0 +1,249 @@
+-- A planned word meets nothing in flight, and after it no more is in flight than the layout says, and what it left in scratch
+-- registers.
+use Rattle.std.proofs.Common.{◌≡◌, ◌≢◌, ◌<◌, ◌≤◌, ◌⊎◌, inl, inr, ⊎_elim, ◌+◌, ◌-◌, ℕ, suc, Bool, true, false, cond, Some, List, [], ◌∷◌, ◌++◌, length, map, refl, sym, ap, ◌∙◌, subst, arith}
+use Rattle.std.specs.Prelude.{slice_get}
+use Rattle.std.proofs.lemmas.Bool.{and_parts, ltb-true}
+use Rattle.std.proofs.lemmas.List.{append-nil}
+use Rattle.vx_base.proofs.Pieces.{Hit, raised, cold, fine_less, fine_append}
+use Rattle.vx_flow.specs.declared.graph.Array.{Array}
+use Rattle.vx_flow.specs.declared.graph.Op.{Op}
+use Rattle.vx_flow.specs.declared.graph.Op.TheVariants.{Compute, Select, Place, Load, Store, More, Input, Text, Decimal, Across}
+use Rattle.vx_flow.specs.Effects.{IsIn, reads, writes}
+use Rattle.vx_flow.specs.Sound.{Sound}
+use Rattle.vx_flow.proofs.Members.{in_left, in_right}
+use Rattle.vx_flow.proofs.SoundLists.{all_in}
+use Rattle.vx_isa.specs.declared.operation.Register.{Register}
+use Rattle.vx_isa.specs.declared.operation.Operation.{Operation}
+use Rattle.vx_isa.specs.declared.operation.Operation.TheVariants.{Goto}
+use Rattle.vx_isa.specs.declared.program.Word.{Word}
+use Rattle.vx_isa.specs.Operations.{same, is_zero, reads_of, list_of, destination_of, latency_of}
+use Rattle.vx_isa.specs.Paths.{Among}
+use Rattle.vx_isa.proofs.FitsLaw.{six_parts}
+use Rattle.vx_machine.specs.Items.{latency_of_op}
+use Rattle.vx_machine.specs.Room.{stands_well}
+use Rattle.vx_mixed.specs.declared.layout.Laid.{Laid}
+use Rattle.vx_mixed.specs.declared.layout.Laid.TheVariants.{Plain, Split}
+use Rattle.vx_mixed.specs.Settled.{read_there}
+use Rattle.vx_mixed.specs.declared.layout.VirtualWord.TheVariants.{Planned}
+use Rattle.vx_mixed.specs.LaidSettled.{item_reads, item_writes, laid_reads, laid_writes, Plans, LeadsTo}
+use Rattle.vx_regs.specs.Intervals.{is_named}
+use Rattle.vx_target.specs.Target.{Target, home, is_branch, kept, is_slotted, slotted, register_of, past, leads, carried, carried_items, slots_in_flight, before, behind, plan_word, plan_words, landing_words, one}
+use Rattle.vx_target.specs.Carried.{IsMapped, item_of_laid}
+use Rattle.vx_target.proofs.FromGraph.{op_proper, test_proper}
+use Rattle.vx_target.proofs.Frames.{get_some}
+use Rattle.vx_target.proofs.Pauses.{slots_land}
+use Rattle.vx_target.proofs.Proper.{ProperOp, ProperItems}
+use Rattle.vx_target.proofs.Names.{Few, file_general}
+use Rattle.vx_target.proofs.Live.{reads_bank, writes_bank}
+use Rattle.vx_target.proofs.Enough.{few_reads, few_writes, in_all_of, in_map}
+use Rattle.vx_target.proofs.Word.{slotted_in, slotted_from}
+use Rattle.vx_target.proofs.Limits.{Limits}
+use Rattle.vx_tie.proofs.Filed.{general_there}
+use Rattle.vx_tie.proofs.Early.{falls, hits, Touches, words_kind, words_cool}
+use Rattle.vx_tie.proofs.Heats.{lift, lift_from, lift_at, raised_bound, stop_fine}
+use Rattle.vx_tie.proofs.ColdPieces.{Fine}
+use Rattle.vx_tie.proofs.Operations.{from_operation, from_hit, ReadBy, of_value, of_zero, of_pointer, OfItem, of_op, of_split, proper_op, branch_name, op_reads, op_writes, op_latency, items_fall, items_jump, of_item}
+use Rattle.vx_tie.proofs.Pending.{Banked, Busy, pend, pend_kept, pend_own, pend_name, pend_scratch, written_there, left_pends}
+use Rattle.vx_tie.proofs.PlanHeats.{Settles, before_fine}
+use Rattle.vx_tie.proofs.StoreHeats.{behind_fine}
+
+among_map : (g : ℕ → Register) (r : Register) (vs : List ℕ) → Among r (map g vs) → (v : ℕ) × IsIn v vs × (r ≡ g v)
+among_map g r [] i = absurd i
+among_map g r (v ∷ vs) i = ⊎_elim (λ e. (v, inl refl, e)) (λ k. let a = among_map g r vs k in (a.0, inr a.1, a.2)) i
+
+map_among : (g : ℕ → Register) (r : Register) (v : ℕ) (vs : List ℕ) → IsIn v vs → r ≡ g v → Among r (map g vs)
+map_among g r v [] i e = absurd i
+map_among g r v (u ∷ vs) i e = ⊎_elim (λ q. inl (e ∙ ap g q)) (λ k. inr (map_among g r v vs k e)) i
+
+-- what an operation names on its own cluster it reads
+all_there : (op : Op) (y : ℕ) → IsIn y (read_there op) → IsIn y (reads op)
+all_there (Compute code v a b) y i = i
+all_there (Select v t a b) y i = i
+all_there (Place v a x) y i = i
+all_there (Load v a q d) y i = i
+all_there (Store a q x) y i = i
+all_there (More v) y i = i
+all_there (Input v) y i = i
+all_there (Text n) y i = i
+all_there (Decimal x) y i = i
+all_there (Across v u) y i = absurd i
+
+module _ (T : Target) (heat : ℕ → Register → ℕ) (f : ℕ) (mapped : IsMapped T f) (sound : Sound (T.graph f)) (l : Limits T.machine) (p rg wd : ℕ) (items : List Laid) (at : slice_get (T.layout f).words p ≡ Some (Planned rg wd items)) where
+  abbrev F : (Register → ℕ) → List Word → (Register → ℕ) → Type 0
+  F h ws e = Fine T heat h ws e
+
+  abbrev Heat : ℕ → Register → ℕ
+  Heat q = pend T f mapped sound q
+
+  abbrev Rs : List ℕ
+  Rs = laid_reads items
+
+  abbrev Ws : List ℕ
+  Ws = laid_writes items
+
+  abbrev Ops : List Operation
+  Ops = carried_items T f p Rs Ws items
+
+  abbrev IsArray : ℕ → Type 0
+  IsArray a = (array : Array) × (slice_get (T.graph f).arrays a ≡ Some array)
+
+  plans : Plans (T.layout f) p items
+  plans = (rg, wd, at)
+
+  cluster_below : (op : Op) (k : ℕ) → IsIn (Plain op k) items → k < T.machine.clusters
+  cluster_below op k i =
+      let room = six_parts _ _ _ _ _ _ (mapped.settled.fits p items plans) in
+      let well = all_in (stands_well T.machine) (map item_of_laid items) (item_of_laid (Plain op k)) (and_parts _ _ room.two).0 (in_map item_of_laid (Plain op k) items i) in
+      ltb-true k T.machine.clusters (and_parts _ _ well).0
+
+  arrays : (a : ℕ) → a < length (T.graph f).arrays → IsArray a
+  arrays a below = get_some (T.graph f).arrays a below
+
+  proper_items : (xs : List Laid) → ((x : Laid) → IsIn x xs → IsIn x items) → ProperItems T f IsArray xs
+  proper_items [] h = tt
+  proper_items (Plain op k ∷ xs) h = (op_proper T f IsArray sound mapped.code arrays op k (cluster_below op k (h (Plain op k) (inl refl))) (mapped.code.ops p k op items plans (h (Plain op k) (inl refl))), proper_items xs (λ x i. h x (inr i)))
+  proper_items (Split test y q ∷ xs) h =
+      let parts = mapped.code.splits p test q y items plans (h (Split test y q) (inl refl)) in
+      (test_proper T f IsArray sound mapped.code arrays test parts.yes parts.no parts.has, proper_items xs (λ x i. h x (inr i)))
+
+  proper : ProperItems T f IsArray items
+  proper = proper_items items (λ x i. i)
+
+  properly : (op : Op) (k : ℕ) → IsIn (Plain op k) items → ProperOp T f IsArray op k
+  properly op k i = proper_op T f IsArray op k items proper i
+
+  banks : (v : ℕ) → IsIn v Rs ⊎ IsIn v Ws → Banked T f mapped sound v
+  banks v i = ⊎_elim (reads_bank T f mapped sound p items plans v) (writes_bank T f mapped sound p items plans v) i
+
+  busy : (v : ℕ) → IsIn v Rs ⊎ IsIn v Ws → Busy T f mapped sound p v
+  busy v i = is_named at (⊎_elim (in_left v Rs Ws) (in_right v Rs Ws) i)
+
+  few_r : Few T f mapped Rs
+  few_r = few_reads T f mapped sound IsArray p items plans proper banks
+
+  few_w : Few T f mapped Ws
+  few_w = few_writes T f mapped sound IsArray p items plans proper banks
+
+  read_settles : (v : ℕ) → IsIn v Rs → Settles T heat f mapped sound p v
+  read_settles v i = (banks v (inl i), busy v (inl i), mapped.settled.reads_none p v items plans i)
+
+  -- nothing is in flight to what it names
+
+  read_cold : (v : ℕ) → IsIn v Rs → Heat p (register_of T f Rs v) ≡ 0
+  read_cold v i = pend_name T f mapped sound p v Rs few_r i (banks v (inl i)) (busy v (inl i)) (mapped.settled.reads_none p v items plans i)
+
+  write_cold : (v : ℕ) → IsIn v Ws → Heat p (register_of T f Ws v) ≡ 0
+  write_cold v i = pend_name T f mapped sound p v Ws few_w i (banks v (inr i)) (busy v (inr i)) (mapped.settled.writes_none p v items plans i)
+
+  read_by : (vs : List ℕ) (r : Register) → ((y : ℕ) → IsIn y vs → IsIn y Rs) → is_zero r ≡ false → ReadBy T f Rs vs r → Heat p r ≡ 0
+  read_by vs r sub nz (of_value y i e) = ap (Heat p) e ∙ read_cold y (sub y i)
+  read_by vs r sub nz (of_zero e) = absurd (let z : true ≡ false = sym e ∙ nz in cc)
+  read_by vs r sub nz (of_pointer k e) = ap (Heat p) e ∙ pend_own T f mapped sound p k 1 (omega arith)
+
+  item_reads_cold : (o : Operation) (r : Register) → OfItem T f p Rs Ws items o → Among r (reads_of o) → is_zero r ≡ false → Heat p r ≡ 0
+  item_reads_cold o r (of_op op k i e) a nz = read_by (reads op) r (λ y j. in_all_of item_reads (Plain op k) y items i j) nz (op_reads T f IsArray Rs Ws op k (properly op k i) r (subst (λ z. Among r (reads_of z)) e a))
+  item_reads_cold o r (of_split test q y i e) a nz = ⊎_elim
+      (λ s. ap (Heat p) (s ∙ branch_name T f IsArray Rs test (ap is_branch (mapped.settled.tests p test q y items plans i))) ∙ read_cold test (in_all_of item_reads (Split test y q) test items i (inl refl)))
+      (λ z. absurd z)
+      (subst (λ z. Among r (reads_of z)) e a)
+
+  -- what an operation writes is the name of one of its values
+  record Results (r : Register) (op : Op) : Type 0 where
+    value : ℕ
+    written : IsIn value (writes op)
+    is : r ≡ register_of T f Ws value
+
+  results : (o : Operation) (r : Register) (op : Op) (k : ℕ) → IsIn (Plain op k) items → o ≡ carried T f Rs Ws k op → Among r (list_of (destination_of o)) → Results r op
+  results o r op k i e a =
+      let x = among_map (register_of T f Ws) r (writes op) (subst (Among r) (op_writes T f IsArray Rs Ws op k (properly op k i)) (subst (λ z. Among r (list_of (destination_of z))) e a)) in
+      record { value = x.0; written = x.1; is = x.2 }
+
+  item_writes_cold : (o : Operation) (r : Register) → OfItem T f p Rs Ws items o → Among r (list_of (destination_of o)) → Heat p r ≡ 0
+  item_writes_cold o r (of_op op k i e) a = let x = results o r op k i e a in ap (Heat p) x.is ∙ write_cold x.value (in_all_of item_writes (Plain op k) x.value items i x.written)
+  item_writes_cold o r (of_split test q y i e) a = absurd (subst (λ z. Among r (list_of (destination_of z))) e a)
+
+  meets : (r : Register) → Touches Ops r → Heat p r ≡ 0
+  meets r t = ⊎_elim
+      (λ a. let o = from_operation reads_of Ops r a in item_reads_cold o.op r (of_item T f IsArray Rs Ws p o.op items o.among) o.has t.1)
+      (λ a. let o = from_operation (λ op. list_of (destination_of op)) Ops r a in item_writes_cold o.op r (of_item T f IsArray Rs Ws p o.op items o.among) o.has)
+      t.0
+
+  -- what is in flight after it
+
+  abbrev Late : ℕ
+  Late = slots_in_flight T f items
+
+  abbrev pub Lifted : ℕ → Register → ℕ
+  Lifted q = lift Late (Heat q) (map (register_of T f Ws) (slotted T f Ws))
+
+  op_takes : (op : Op) (k : ℕ) → IsIn (Plain op k) items → latency_of T.machine (carried T f Rs Ws k op) ≡ latency_of_op T.machine op
+  op_takes op k i = op_latency T f IsArray Rs Ws op k (properly op k i)
+      (λ y j e. general_there T f mapped l y k (there y j) e (mapped.settled.reads_home p y k op items plans i j))
+      (λ v u e. away v u (subst (λ z. IsIn (Plain z k) items) e i))
+    where
+      there : (y : ℕ) → IsIn y (read_there op) → Banked T f mapped sound y
+      there y j = banks y (inl (in_all_of item_reads (Plain op k) y items i (all_there op y j)))
+
+      away : (v u : ℕ) → IsIn (Plain (Across v u) k) items → home T f u ≢ k
+      away v u j = mapped.settled.across p v u k items plans j (file_general T f mapped v (banks v (inr (in_all_of item_writes (Plain (Across v u) k) v items j (inl refl)))) (properly (Across v u) k j).1).bank_is
+
+  of_register : (q : ℕ) (x : Hit Register) (op : Op) (k v : ℕ) → LeadsTo p (Planned rg wd items) q → IsIn (Plain op k) items → IsIn v (writes op) → x.to ≡ register_of T f Ws v → x.latency ≡ latency_of T.machine (carried T f Rs Ws k op) → is_slotted (kept T f v) ≡ false → x.latency ≤ Lifted q x.to + 1
+  of_register q x op k v leads i w e t s =
+      let a = mapped.settled.fresh p q v rg wd k op items at leads i w in
+      let b = left_pends T f mapped sound q v Ws s (written_there T f mapped sound p v (Planned rg wd items) at (in_all_of item_writes (Plain op k) v items i w)) in
+      let c : Heat q x.to ≡ Heat q (register_of T f Ws v) = ap (Heat q) e in
+      let d = lift_from Late (Heat q) (map (register_of T f Ws) (slotted T f Ws)) x.to in
+      let y = op_takes op k i in omega arith
+
+  of_slot : (q : ℕ) (x : Hit Register) (op : Op) (k v : ℕ) → IsIn (Plain op k) items → IsIn v (writes op) → x.to ≡ register_of T f Ws v → x.latency ≡ latency_of T.machine (carried T f Rs Ws k op) → is_slotted (kept T f v) ≡ true → x.latency ≤ Lifted q x.to + 1
+  of_slot q x op k v j w e t s =
+      let i : IsIn v Ws = in_all_of item_writes (Plain op k) v items j w in
+      let a = lift_at Late (Heat q) (map (register_of T f Ws) (slotted T f Ws)) x.to (map_among (register_of T f Ws) x.to v (slotted T f Ws) (slotted_in T f v Ws i s) e) in
+      let b = slots_land T f v op k items j w s in
+      let y = op_takes op k j in omega arith
+
+  hit_bound : (q : ℕ) (x : Hit Register) (o : Operation) → LeadsTo p (Planned rg wd items) q → OfItem T f p Rs Ws items o → Among x.to (list_of (destination_of o)) → x.latency ≡ latency_of T.machine o → x.latency ≤ Lifted q x.to + 1
+  hit_bound q x o leads (of_split test to y i e) a t = absurd (subst (λ z. Among x.to (list_of (destination_of z))) e a)
+  hit_bound q x o leads (of_op op k i e) a t = by (is_slotted (kept T f res.value)) refl
+    where
+      res : Results x.to op
+      res = results o x.to op k i e a
+
+      by : (b : Bool) → is_slotted (kept T f res.value) ≡ b → x.latency ≤ Lifted q x.to + 1
+      by true s = of_slot q x op k res.value i res.written res.is (t ∙ ap (latency_of T.machine) e) s
+      by false s = of_register q x op k res.value leads i res.written res.is (t ∙ ap (latency_of T.machine) e) s
+
+  plan_cooled : (q : ℕ) → LeadsTo p (Planned rg wd items) q → (r : Register) → raised same (hits T.machine Ops) (Heat p) r - 1 ≤ Lifted q r
+  plan_cooled q leads r =
+      let k = raised_bound (hits T.machine Ops) (Heat p) (λ s. Lifted q s + 1)
+      (λ s. (let a = pend_kept T f mapped sound p q s (Planned rg wd items) at leads in let c = lift_from Late (Heat q) (map (register_of T f Ws) (slotted T f Ws)) s in omega arith))
+      (λ x i. let h = from_hit T.machine Ops x i in hit_bound q x h.op leads (of_item T f IsArray Rs Ws p h.op items h.among) h.to h.latency) r in
+      omega arith
+
+  -- results in slots
+
+  written_cold : (q v : ℕ) → IsIn v (slotted T f Ws) → Heat q (register_of T f Ws v) ≡ 0
+  written_cold q v i = let a = slotted_from T f v Ws i in pend_scratch T f mapped sound q v Ws few_w a.0 a.1
+
+  stored : (q : ℕ) (rest : List Word) (e : Register → ℕ) → F (Heat q) rest e → F (Lifted q) (behind T f items ++ rest) e
+  stored q rest e more = behind_fine T heat f Ws (Heat q) (λ k. pend_own T f mapped sound q k 1 (omega arith)) (pend_own T f mapped sound q 0 2 (omega arith)) Late rest e (written_cold q) more
+
+  -- the words of a planned word, where each split leads to where no less may be in flight
+  pub plan_fine : ((test to : ℕ) (y : Bool) → IsIn (Split test y to) items → (r : Register) → Lifted to r ≤ heat (leads T f p (slotted T f Ws) to) r) → F (Heat p) (plan_words T f p items) (Heat (suc p))
+  plan_fine there = fine_append (words_kind T.machine) (words_cool T.machine) heat (Heat p) (Heat p) (Heat (suc p)) (before T f Rs) (plan_word T f p items ∷ behind T f items)
+      (before_fine T heat f mapped sound p Rs few_r read_settles) (
+        meets,
+        (λ q r j. (let k = items_jump T f IsArray Rs Ws p q items j in
+            let a = plan_cooled k.to (inr (k.test, k.when, k.split)) r in
+            let b = there k.test k.to k.when k.split r in
+            let c = ap (λ x. heat x r) k.leads_there in omega arith)),
+        fine_less (words_kind T.machine) (words_cool T.machine) heat (cond (falls Ops) (λ r. raised same (hits T.machine Ops) (Heat p) r - 1) cold) (Lifted (suc p)) (Heat (suc p)) (behind T f items)
+            (λ r. (let a = plan_cooled (suc p) (inl refl) r in
+            let q : cond (falls Ops) (λ s. raised same (hits T.machine Ops) (Heat p) s - 1) cold r ≡ raised same (hits T.machine Ops) (Heat p) r - 1 = ap (λ t. cond t (λ s. raised same (hits T.machine Ops) (Heat p) s - 1) cold r) (items_fall T f IsArray Rs Ws p items) in omega arith))
+            (subst (λ ws. F (Lifted (suc p)) ws (Heat (suc p))) (append-nil (behind T f items)) (stored (suc p) [] (Heat (suc p)) (λ r. omega arith))),
+      )
+
+  -- and of a landing of it
+  pub landing_fine : (q : ℕ) (e : Register → ℕ) → ((r : Register) → Heat q r ≤ heat (T.starts f (past T f q)) r) → F (Lifted q) (landing_words T f items q) e
+  landing_fine q e there = stored q (one (Goto (T.starts f (past T f q))) ∷ []) e
+      (stop_fine T.machine heat (Heat q) (Goto (T.starts f (past T f q)) ∷ []) [] e refl (λ t r j. (let a = there r in let b = ap (λ x. heat x r) j in omega arith)) refl (λ r t. ⊎_elim (λ i. absurd i) (λ i. absurd i) t.0) (λ r. omega arith))
