@@ -23,6 +23,7 @@ use vx_profile::counts::Counts;
 use vx_report::{Plan, report};
 use vx_runs::texts::write_texts;
 use vx_status::Status;
+use vx_types::discard;
 use vx_words::write;
 
 /// The text of the words of a program, and that of the report, which is empty where none is asked.
@@ -162,7 +163,7 @@ pub(crate) fn compile<C: WordCompiler, D: Depot>(
     match read_through(alloc, depot, asked.source) {
         Ok(program) => {
             let status = compile_read(alloc, compiler, depot, &program, asked);
-            drop(program);
+            discard(program);
             status
         }
         Err(status) => status,

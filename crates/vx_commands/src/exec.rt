@@ -28,6 +28,7 @@ use vx_probe::{Probe, Timing};
 use vx_profile::counts::Counts;
 use vx_runs::{LoadedFiles, no_box, no_probe, probes_of, run_loaded, timing_of};
 use vx_status::{Status, tell};
+use vx_types::discard;
 
 /// Compiles a program that was read, by counts and for a machine and beside an input that were read.
 fn load_words<C: WordCompiler>(
@@ -147,7 +148,7 @@ fn load<C: WordCompiler, D: Depot>(
                 asked.growth,
                 asked.run.input,
             );
-            drop(program);
+            discard(program);
             loaded
         }
         Err(status) => Err(status),

@@ -30,6 +30,7 @@ use vx_profile::counts::Counts;
 use vx_runs::soak_run::{ProgramSizes, SoakReport, line_of, program_made, put_end, run_made};
 use vx_runs::{LoadedFiles, no_box, timing_of};
 use vx_status::{Status, tell};
+use vx_types::discard;
 
 /// How many operations may be copied.
 const GROWTH: u32 = 4000;
@@ -100,7 +101,7 @@ fn words_made<C: WordCompiler>(
 {
     let program = program_made(alloc, seed, size)?;
     let made = words_of(alloc, compiler, &program);
-    drop(program);
+    discard(program);
     made
 }
 

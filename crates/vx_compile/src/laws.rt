@@ -1,4 +1,4 @@
-// The law of the words that carry layouts, from those of their crates.
+// The law of the words that carry layouts, from those of vx_tie.
 
 ghost use Rattle.vx_target.specs.Carried.{FrameLaw};
 

@@ -1,5 +1,6 @@
 // The layouts of the functions of a program: the blocks of each turned into regions, trace after trace, and these laid out as words
-// over values. What a laid out function owes stands in specs/Stages.antt, and its plan in specs/Compiled.antt.
+// over values. What a laid out function owes stands in specs/Stages.antt, and its plan in specs/Compiled.antt of
+// vx_compiled.
 
 ghost use Rattle.std.specs.Prelude.{◌≡◌, ◌∷◌, [], ◌++◌, length, IfOk, OnOk};
 ghost use Rattle.vx_mixed.specs.Layout.{IsDone, layout_of};

@@ -1,6 +1,6 @@
 // From an accepted program to its words and the plan of them: its graphs, the blocks of each turned into regions, these laid out as
 // words over values, the values kept in registers and slots, and all finished as one program. The clause of `compile` is the
-// promise of the compiler (specs/Compiled.antt); what holds between its steps stands in specs/Stages.antt.
+// promise of the compiler (specs/Compiled.antt of vx_compiled); what holds between its steps stands in specs/Stages.antt.
 
 ghost use Rattle.std.specs.Prelude.{◌≡◌, ◌+◌, true, length, IfOk};
 ghost use Rattle.vx_ast.specs.Tree.{Program};

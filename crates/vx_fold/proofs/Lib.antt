@@ -1,8 +1,7 @@
 mod Folds
 mod FoldRuns
 mod FoldFlow
-mod Alls
+pub mod Alls
 pub mod Thins
 mod ThinRuns
 mod ThinFlow
-mod AllReads

@@ -211,8 +211,8 @@ pub fn counted_nodes(function: &Function) -> u64
     )
 }
 
-/// How many nodes a function has: its body, its parameters, and what docs/LANGUAGE.md counts in it. Where they are 2^32
-/// or more, the greatest `u32`.
+/// How many nodes a function has: its body, its parameters, and what docs/LANGUAGE.md counts in it, where these
+/// are below 2^32.
 pub fn nodes(function: &Function) -> u32
     ensures { function_nodes (function_of function.now) < 2 ^ 32 → result ≡ function_nodes (function_of function.now) }
 {

@@ -1,4 +1,4 @@
-// Laws of the definitions, each the clause of a function that does nothing.
+// Laws of replacements, each the clause of a function that does nothing.
 
 ghost use Rattle.vx_motion.specs.AloneExample.{BlockIsReplaced, BlockIsTraced, PairIsReplaced, PairIsTraced};
 ghost use Rattle.vx_mixed.specs.Begins.{BeginsSettled, BeginsTidy};

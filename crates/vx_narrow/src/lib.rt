@@ -1,6 +1,6 @@
-// The check of what is claimed at the starts of blocks and given of parameters: facts that pass it hold wherever a block is entered.
 // A pass over the graphs of a program, by checked facts: index checks and splits that are decided go, results and loaded words are
-// read again, and products by small numbers are cheap. The flow does what it did.
+// read again, and products by small numbers are cheap. The flow does what it did. What is claimed at the starts of blocks and given of
+// parameters is checked here: facts that pass hold wherever a block is entered.
 #![tactic(auto)]
 
 pub mod block_pass;

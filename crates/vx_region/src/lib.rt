@@ -1,5 +1,5 @@
 // Traces that become regions: picked by the counts of a profile, placed in words, with the copies at their splits and joins, one
-// after the other until no block is left; and that this keeps the meaning.
+// after the other until no block is left; and that this keeps the meaning. The laws of copies between clusters stand here too.
 #![tactic(auto)]
 
 pub mod budget;

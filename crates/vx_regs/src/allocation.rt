@@ -180,9 +180,8 @@ fn keep_by_scan(
     Ok(RegMap { values })
 }
 
-/// Where each value is kept. A register is given to a value from the first word at which it is live, named or pending to the last;
-/// where none is free, the value that ends last, then the lowest one, goes to a slot of its own. Values that no word names are kept
-/// nowhere.
+/// Where each value is kept, by a linear scan: a value has its register from the first word at which it is live, named or pending to
+/// the last. A value is in a slot only where a file is full; which one is not promised.
 pub fn registers(alloc: Global, code: &VWords, machine: &Machine) -> Result<RegMap, NoMemory>
     requires inside { (p q : ℕ) (word : VirtualWord) → slice_get code.now.words p ≡ Some word → LeadsTo p word q → q < length code.now.words }
     requires entry { code.now.entry < length code.now.words }

@@ -21,6 +21,7 @@ use vx_io::sink::{Sink, put_all};
 use vx_profile::write_counts;
 use vx_status::{Status, tell};
 use vx_tally::count;
+use vx_types::discard;
 
 /// The text of the counts of a run, and whether the run is over.
 #[derive(Drop)]
@@ -102,7 +103,7 @@ pub fn count_read<C: Compiler, D: Depot>(
     match read_through(alloc, depot, asked.source) {
         Ok(program) => {
             let counted = count_on(alloc, compiler, depot, &program, asked.input, asked.blocks);
-            drop(program);
+            discard(program);
             counted
         }
         Err(status) => Err(status),

@@ -1,5 +1,6 @@
 // The steps of commands for which no pass is needed: runs of words with the boxes that a caller hands in, what is read for them, their
-// output and the lines of their end; the command `sim`; what `profile` counts, and the runs of `soak`, with the graphs of any compiler.
+// output and the lines of their end; the command `sim`; the command that a name names, the files that `compile` replaces, what `profile`
+// counts with the graphs of any compiler, and the runs of `soak`.
 #![tactic(auto)]
 
 mod boxes;

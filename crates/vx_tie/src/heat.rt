@@ -1,4 +1,5 @@
-// Laws of the words that carry layouts, each the clause of a function that does nothing.
+// Laws of what words that carry layouts keep to: they fit the machine, are sound, and touch no register that is hot. Each is the clause
+// of a function that does nothing.
 
 ghost use Rattle.vx_tie.specs.Fitted.{FitLaw, NeverEarlyLaw, SoundLaw};
 

@@ -1,4 +1,4 @@
-// Laws of the words that carry layouts, each the clause of a function that does nothing.
+// Laws of what words that carry layouts do: the same as the layouts, by the plan. Each is the clause of a function that does nothing.
 
 ghost use Rattle.vx_tie.specs.Moved.{StackLaw};
 ghost use Rattle.vx_tie.specs.Plans.{PlanLaw, SpacedLaw};

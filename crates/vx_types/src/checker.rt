@@ -44,3 +44,8 @@ pub fn check(alloc: Global, program: syntax::Program) -> Result<Typed, SourceFau
         },
     }
 }
+
+/// Lets a program go, with its trees.
+pub fn discard(program: Typed) {
+    drop(program);
+}

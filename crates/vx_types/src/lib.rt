@@ -11,4 +11,4 @@ mod memory;
 mod program;
 mod statements;
 
-pub use checker::check;
+pub use checker::{check, discard};

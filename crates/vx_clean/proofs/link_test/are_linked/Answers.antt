@@ -1,7 +1,7 @@
 use Rattle.std.proofs.Common.{◌∙◌, ap, sym, take_all}
 use Rattle.std.specs.List.{list_all}
 use Rattle.vx_clean.specs.LinkTest.{is_linked, moves}
-use Rattle.vx_clean.proofs.Alls.{one_fails, one_more}
+use Rattle.vx_fold.proofs.Alls.{one_fails, one_more}
 use Rattle.vx_clean.proofs.link_test.are_linked.Goals as goal
 
 pub loop-chain-preserved : goal.loop-chain-preserved

@@ -2,7 +2,7 @@ use Rattle.std.proofs.Common.{◌∙◌, ap, sym, take_all}
 use Rattle.std.specs.List.{list_all}
 use Rattle.vx_fold.specs.Thinning.{are_read, unread_of}
 use Rattle.vx_flow.specs.Effects.{value_in}
-use Rattle.vx_fold.proofs.AllReads.{one_fails, one_more}
+use Rattle.vx_fold.proofs.Alls.{one_fails, one_more}
 use Rattle.vx_fold.proofs.reads.are_all_read.Goals as goal
 
 pub loop-operand-preserved : goal.loop-operand-preserved

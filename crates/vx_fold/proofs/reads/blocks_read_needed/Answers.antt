@@ -1,7 +1,7 @@
 use Rattle.std.proofs.Common.{◌∙◌, ap, sym, take_all}
 use Rattle.std.specs.List.{list_all}
 use Rattle.vx_fold.specs.Thinning.{block_reads_read, unread_of}
-use Rattle.vx_fold.proofs.AllReads.{one_fails, one_more}
+use Rattle.vx_fold.proofs.Alls.{one_fails, one_more}
 use Rattle.vx_fold.proofs.reads.blocks_read_needed.Goals as goal
 
 pub loop-block-preserved : goal.loop-block-preserved

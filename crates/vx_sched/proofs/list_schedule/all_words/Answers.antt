@@ -1,6 +1,6 @@
 use Rattle.std.proofs.Common.{◌∙◌, ◌∷◌, map, refl, ap, sym}
 use Rattle.vx_sched.specs.Filling.{word_or_0}
-use Rattle.vx_sched.proofs.Moved.{moved, all_moved}
+use Rattle.vx_dep.proofs.Moved.{moved, all_moved}
 use Rattle.vx_sched.proofs.list_schedule.all_words.Goals as goal
 
 pub list-preserved : goal.list-preserved
