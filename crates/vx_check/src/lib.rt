@@ -1,0 +1,14 @@
+// The check of a program of words: whether on every static path each word fits a machine and reads no register while a write to it
+// may be in flight (specs/Checked.antt).
+#![tactic(auto)]
+
+mod check;
+mod in_flight;
+pub mod laws;
+mod leads;
+mod reached;
+mod rounds;
+mod verdict;
+
+pub use check::check;
+pub use verdict::Verdict;
