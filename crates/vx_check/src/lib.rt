@@ -2,13 +2,13 @@
 // may be in flight (specs/Checked.antt).
 #![tactic(auto)]
 
-mod check;
 mod in_flight;
 pub mod laws;
 mod leads;
 mod reached;
 mod rounds;
+mod strictness;
 mod verdict;
 
-pub use check::check;
+pub use strictness::check;
 pub use verdict::Verdict;

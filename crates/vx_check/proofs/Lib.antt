@@ -1,0 +1,6 @@
+pub mod Verdicts
+pub mod Leading
+pub mod Entries
+pub mod Reaches
+pub mod Passing
+pub mod Tables
