@@ -131,7 +131,7 @@ fn room_of(text: &str) -> Result<What, Why> {
 /// A status.
 fn status_of(digits: &str) -> Result<What, Why> {
     match digits.parse::<u8>() {
-        Ok(number) if number <= 14 => Ok(What::Ends(number)),
+        Ok(number) if number <= 15 => Ok(What::Ends(number)),
         _ => Err(Why::BadNumber),
     }
 }
