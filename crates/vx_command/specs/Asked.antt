@@ -1,6 +1,7 @@
 -- What the words of the commands ask for, as the code holds it.
 use Rattle.std.specs.Prelude.{option_map}
-use Rattle.vx_command.specs.Command.{Command, Compilation, Execution, Makes, Profiling, Simulation, Soaking}
+use Rattle.vx_command.specs.Command.{Checking, Command, Compilation, Execution, Makes, Profiling, Simulation, Soaking}
+use Rattle.vx_command.specs.declared.check_words.CheckWords.{CheckWords}
 use Rattle.vx_command.specs.declared.command.CompileWords.{CompileWords}
 use Rattle.vx_command.specs.declared.profile_words.ProfileWords.{ProfileWords}
 use Rattle.vx_command.specs.declared.run_words.ExecWords.{ExecWords}
@@ -44,6 +45,9 @@ profiling_of asked = record { source = asked.source.now; input = option_map (λ 
 
 abbrev pub soaking_of : SoakWords → Soaking
 soaking_of asked = record { seed = asked.seed; size = asked.size }
+
+abbrev pub checking_of : CheckWords → Checking
+checking_of asked = record { words = asked.file.now; machine = option_map (λ s. s.now) asked.machine }
 
 abbrev pub asks : Makes → RunWords → Command
 asks makes asked = makes asked.file.now (option_map (λ s. s.now) asked.machine) (option_map (λ s. s.now) asked.input) asked.budget asked.timing.now (option_map (λ s. s.now) asked.probe)

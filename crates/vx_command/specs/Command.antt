@@ -69,6 +69,13 @@ pub record Soaking : Type 0 where
   -- how many statements are made
   pub size : ℕ
 
+-- what a check is asked for
+pub record Checking : Type 0 where
+  -- the file of the words
+  pub words : List ℕ
+  -- the file of the machine's description
+  pub machine : Option (List ℕ)
+
 pub data Command : Type 0 where
   -- the words of the source go to a file, and the report of their plan to another, where one is named; their traces are picked by
   -- the profile of a file, or by no counts, and they are for the machine that a file describes, or the default one
@@ -81,6 +88,8 @@ pub data Command : Type 0 where
   Count : Profiling → Command
   -- a source is made, and its words are run
   Soak : Soaking → Command
+  -- the words of a file are checked for the machine that a file describes, or the default one
+  Check : Checking → Command
 
 -- a word that has to be there
 abbrev pub required_word : List ℕ → Rule
@@ -229,6 +238,21 @@ soak_unless (kind ∷ kinds) rows = None
 unfoldable pub soak_of : List (List ℕ) → Option Command
 soak_of words = soak_unless (fault_of soak_app words) (matches_of soak_app words)
 
+-- `check WORDS [--machine M]`
+unfoldable pub check_app : App
+check_app = with_rule (file_app (codes "check") (codes "WORDS")) (option_word (codes "machine"))
+
+abbrev pub check_found : List Row → Command
+check_found rows = Check (record { words = unwrap_or (first_of (codes "WORDS") rows) []; machine = first_of (codes "machine") rows })
+
+abbrev pub check_unless : Kinds → List Row → Option Command
+check_unless [] rows = Some (check_found rows)
+check_unless (kind ∷ kinds) rows = None
+
+-- what the words of `check` ask for, the program's name first; nothing where clap refuses them
+unfoldable pub check_of : List (List ℕ) → Option Command
+check_of words = check_unless (fault_of check_app words) (matches_of check_app words)
+
 abbrev pub command_named : List ℕ → List (List ℕ) → Option Command
 command_named name words =
     if bytes_eq name (codes "compile") then compile_of words
@@ -236,6 +260,7 @@ command_named name words =
     else if bytes_eq name (codes "exec") then exec_of words
     else if bytes_eq name (codes "profile") then profile_of words
     else if bytes_eq name (codes "soak") then soak_of words
+    else if bytes_eq name (codes "check") then check_of words
     else None
 
 abbrev pub command_of : List (List ℕ) → Option Command
@@ -246,6 +271,7 @@ command_of words = None
 abbrev pub is_command : (name : List ℕ) → Bool
 is_command name =
     bytes_eq name (codes "compile") || bytes_eq name (codes "sim") || bytes_eq name (codes "exec") || bytes_eq name (codes "profile") || bytes_eq name (codes "soak")
+    || bytes_eq name (codes "check")
 
 -- the second word names a command
 abbrev pub names_command : List (List ℕ) → Bool

@@ -44,7 +44,7 @@ pub(crate) const MOST_WORDS: u64 = 1000000000000;
 const DEFAULT_WORDS: u64 = 1000000000;
 
 /// `WORDS`.
-const WORDS: Word<'static> = Word {
+pub(crate) const WORDS: Word<'static> = Word {
     name: "WORDS",
     help: "The file of the words",
     kind: Kind::Required,

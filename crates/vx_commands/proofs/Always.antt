@@ -13,9 +13,9 @@ use Rattle.vx_profile.specs.declared.fault.ProfileFault.{ProfileFault}
 use Rattle.vx_profile.specs.declared.fault.ProfileFault.TheVariants.{BadLine, CountTooLarge, NoMemory as NoRoomForCounts}
 use Rattle.vx_reader.specs.Text.{Fault as WordFault, reading}
 use Rattle.vx_status.specs.declared.status.Status.{Status}
-use Rattle.vx_status.specs.declared.status.Status.TheVariants.{Done, Trapped, Usage, Source, Limit, Words, Profile, Machine, NoFile, ReadFault, WriteFault, Stopped, Input, Stuck, NoMemory}
+use Rattle.vx_status.specs.declared.status.Status.TheVariants.{Done, Trapped, Usage, Source, Limit, Words, Profile, Machine, NoFile, ReadFault, WriteFault, Stopped, Input, Stuck, NoMemory, NotStrict}
 use Rattle.vx_status.specs.Status.{number_of}
-use Rattle.vx_command.specs.Command.{Compilation, Execution, Profiling, Command, Compile, Simulate, Execute, Count, Soak}
+use Rattle.vx_command.specs.Command.{Compilation, Execution, Profiling, Command, Compile, Simulate, Execute, Count, Soak, Check}
 use Rattle.vx_files.specs.InputText.{input_reading}
 use Rattle.vx_runs.specs.Boxes.{Boxes, Chosen, chosen}
 use Rattle.vx_files.specs.Held.{MachineFound, Is, Refused, TooLong, Missing, found_by, machine_found, input_as, input_found, RefusesProfile, status_of_profile}
@@ -24,6 +24,7 @@ use Rattle.vx_commands.specs.Answers.{CompileAnswers, CompileEnds}
 use Rattle.vx_runs.specs.Simulated.{Streams, BoxAnswers, Due, and_then, words_as, machine_as, with_input, loading, loading_machine, loading_input, RunAnswers, RunCompletes}
 use Rattle.vx_commands.specs.Executed.{ExecEnds, ExecutionCompletes, ExecutionAnswers}
 use Rattle.vx_runs.specs.Counted.{CountsAnswers, CountsEnd}
+use Rattle.vx_runs.specs.Checking.{CheckDue}
 use Rattle.vx_commands.specs.Always.{MayAnswer, CanRead, NoStatusIsAlways}
 use Rattle.vx_runs.proofs.Told.{told, told_or, not_missing}
 
@@ -41,6 +42,7 @@ first_role (Simulate asked) = TheWords
 first_role (Execute asked) = TheSource
 first_role (Count asked) = TheSource
 first_role (Soak asked) = TheSource
+first_role (Check asked) = TheWords
 
 of_chosen : (P : Chosen → Type 0) (o : Option Chosen) (these : Chosen) (status : Status) → o ≡ Some these → BoxAnswers P o status → P these
 of_chosen P o these status is h = subst (λ z. BoxAnswers P z status) is h
@@ -58,6 +60,8 @@ missing (Execute asked) boxes status can m =
 missing (Count asked) boxes status can m =
     (told (λ held. CountsEnd asked held status) m.effect.before nothing m.told (m.completes m.no_read_failed m.no_output_failed)).missing refl
 missing (Soak asked) boxes status can m = absurd can
+missing (Check asked) boxes status can m =
+    told (λ held. CheckDue (loading held asked.words asked.machine None) status ⊎ (status ≡ NoMemory)) m.effect.before nothing m.told (m.completes m.no_read_failed m.no_output_failed)
 
 -- no file is missing where all are there, whatever they read as
 module _ (role : Role) where
@@ -157,6 +161,9 @@ there (Execute asked) boxes role can m =
     (of_chosen (λ these. ExecutionAnswers asked m.effect m.streams (NoFile role) these) (chosen asked.timing asked.probe boxes) can.0 (NoFile role) can.1 m.answers.1)
 there (Count asked) boxes role can m = of_counts m.effect m.told asked m.streams role m.answers.1
 there (Soak asked) boxes role can m = absurd can
+there (Check asked) boxes role can m =
+    let answers = m.answers.1 in
+    all_load role asked.words asked.machine None (told_or (ReadsRose m.effect) (λ held. loading held asked.words asked.machine None ≡ Err (NoFile role)) m.effect.before all_empty m.told answers.1)
 
 -- a status is that of a missing file, or its number is another
 
@@ -179,6 +186,7 @@ is_missing WriteFault = of_another (λ h. absurd (cc))
 is_missing Stopped = of_another (λ h. absurd (cc))
 is_missing (Input place) = of_another (λ h. absurd (cc))
 is_missing (Stuck reason place) = of_another (λ h. absurd (cc))
+is_missing (NotStrict breach place) = of_another (λ h. absurd (cc))
 is_missing NoMemory = of_another (λ h. absurd (cc))
 
 pub no_status_is_always : NoStatusIsAlways

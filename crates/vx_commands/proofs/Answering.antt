@@ -6,7 +6,7 @@ use Rattle.vx_isa.specs.Numbers.{Numbers}
 use Rattle.vx_ast.specs.Tree.{Program}
 use Rattle.vx_io.specs.declared.role.Role.TheVariants.{Source as TheSource, Words as TheWords, Profile as TheProfile, Machine as TheMachine, Input as TheInput}
 use Rattle.vx_status.specs.declared.status.Status.{Status}
-use Rattle.vx_status.specs.declared.status.Status.TheVariants.{Done, Trapped, Usage, Source, Limit, Words, Profile, Machine, NoFile, ReadFault, WriteFault, Stopped, Input, Stuck, NoMemory}
+use Rattle.vx_status.specs.declared.status.Status.TheVariants.{Done, Trapped, Usage, Source, Limit, Words, Profile, Machine, NoFile, ReadFault, WriteFault, Stopped, Input, Stuck, NoMemory, NotStrict}
 use Rattle.vx_profile.specs.declared.counts.Counts.{Counts}
 use Rattle.vx_report.specs.Report.{names_of, report_text}
 use Rattle.vx_command.specs.Command.{Compilation}
@@ -29,6 +29,7 @@ stops_at_source asked e (Words code line) a = absurd a
 stops_at_source asked e Stopped a = absurd a
 stops_at_source asked e (Input place) a = absurd a
 stops_at_source asked e (Stuck reason place) a = absurd a
+stops_at_source asked e (NotStrict breach place) a = absurd a
 stops_at_source asked e (Source code line column) a = a
 stops_at_source asked e (Limit number count) a = inl a
 stops_at_source asked e (Profile code line) a = absurd a
@@ -56,6 +57,7 @@ stops asked e (Words code line) a = absurd a.answers
 stops asked e Stopped a = absurd a.answers
 stops asked e (Input place) a = absurd a.answers
 stops asked e (Stuck reason place) a = absurd a.answers
+stops asked e (NotStrict breach place) a = absurd a.answers
 stops asked e (Source code line column) a = absurd a.answers
 stops asked e (Limit number count) a = inr (inr a)
 stops asked e (Profile code line) a = absurd a.answers
@@ -82,6 +84,7 @@ at_profile asked e (Words code line) a = absurd a.answers
 at_profile asked e Stopped a = absurd a.answers
 at_profile asked e (Input place) a = absurd a.answers
 at_profile asked e (Stuck reason place) a = absurd a.answers
+at_profile asked e (NotStrict breach place) a = absurd a.answers
 at_profile asked e (Source code line column) a = absurd a.answers
 at_profile asked e (Limit number count) a = inr (inl a)
 at_profile asked e (Profile code line) a = a
@@ -150,6 +153,7 @@ plain asked text report e (Words code line) none all is = absurd is
 plain asked text report e Stopped none all is = absurd is
 plain asked text report e (Input place) none all is = absurd is
 plain asked text report e (Stuck reason place) none all is = absurd is
+plain asked text report e (NotStrict breach place) none all is = absurd is
 plain asked text report e (Source code line column) none all is = absurd is
 plain asked text report e (Limit number count) none all is = absurd is
 plain asked text report e (Profile code line) none all is = absurd is
@@ -170,6 +174,7 @@ unput asked text report e (Words code line) other all is = absurd is
 unput asked text report e Stopped other all is = absurd is
 unput asked text report e (Input place) other all is = absurd is
 unput asked text report e (Stuck reason place) other all is = absurd is
+unput asked text report e (NotStrict breach place) other all is = absurd is
 unput asked text report e (Source code line column) other all is = absurd is
 unput asked text report e (Limit number count) other all is = absurd is
 unput asked text report e (Profile code line) other all is = absurd is
@@ -210,6 +215,7 @@ reported asked text report name e (Words code line) some all is = absurd is
 reported asked text report name e Stopped some all is = absurd is
 reported asked text report name e (Input place) some all is = absurd is
 reported asked text report name e (Stuck reason place) some all is = absurd is
+reported asked text report name e (NotStrict breach place) some all is = absurd is
 reported asked text report name e (Source code line column) some all is = absurd is
 reported asked text report name e (Limit number count) some all is = absurd is
 reported asked text report name e (Profile code line) some all is = absurd is

@@ -5,7 +5,7 @@ use Rattle.vx_probe.specs.Times.{Times}
 use Rattle.vx_probe.specs.Watch.{Watch}
 use Rattle.vx_status.specs.declared.status.Status.{Status}
 use Rattle.vx_status.specs.declared.status.Status.TheVariants.{Usage, NoMemory}
-use Rattle.vx_command.specs.Command.{Command, Compile, Simulate, Execute, Count, Soak, Execution, Soaking}
+use Rattle.vx_command.specs.Command.{Command, Compile, Simulate, Execute, Count, Soak, Check, Execution, Soaking}
 use Rattle.vx_files.specs.Effects.{Effect, SameFiles}
 use Rattle.vx_runs.specs.Boxes.{Boxes, Chosen, chosen, timing_named, probes_named}
 use Rattle.vx_runs.specs.Simulated.{Streams}
@@ -60,3 +60,5 @@ refused_answers (Some (Count asked)) boxes e s status same (inl memory) = subst 
 refused_answers (Some (Count asked)) boxes e s status same (inr usage) = let none = usage.1 in absurd cc
 refused_answers (Some (Soak asked)) boxes e s status same (inl memory) = soak_no_memory asked boxes e s status same memory
 refused_answers (Some (Soak asked)) boxes e s status same (inr usage) = let none = usage.1 in absurd cc
+refused_answers (Some (Check asked)) boxes e s status same (inl memory) = subst (Answers (Some (Check asked)) boxes e s) (sym memory) (same, tt)
+refused_answers (Some (Check asked)) boxes e s status same (inr usage) = let none = usage.1 in absurd cc

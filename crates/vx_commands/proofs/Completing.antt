@@ -6,7 +6,7 @@ use Rattle.vx_machine.specs.declared.description.MachineFault.TheVariants.{Bad}
 use Rattle.vx_ast.specs.declared.fault.SourceFault.{SourceFault}
 use Rattle.vx_io.specs.declared.role.Role.TheVariants.{Source as TheSource, Words as TheWords, Profile as TheProfile, Machine as TheMachine, Input as TheInput}
 use Rattle.vx_status.specs.declared.status.Status.{Status}
-use Rattle.vx_status.specs.declared.status.Status.TheVariants.{Done, Trapped, Usage, Source, Limit, Words, Profile, Machine, NoFile, ReadFault, WriteFault, Stopped, Input, Stuck, NoMemory}
+use Rattle.vx_status.specs.declared.status.Status.TheVariants.{Done, Trapped, Usage, Source, Limit, Words, Profile, Machine, NoFile, ReadFault, WriteFault, Stopped, Input, Stuck, NoMemory, NotStrict}
 use Rattle.vx_ast.specs.Reads.{Refusal}
 use Rattle.vx_files.proofs.ProfileFile.{not_both_profiles, one_profile_status}
 use Rattle.vx_command.specs.Command.{Compilation}
@@ -46,6 +46,7 @@ module _ (asked : Compilation) (held : Files) (e : Effect) (is : e.before ≡ So
   told_ends Stopped a = absurd a
   told_ends (Input place) a = absurd a
   told_ends (Stuck reason place) a = absurd a
+  told_ends (NotStrict breach place) a = absurd a
   told_ends (Source code line column) a = refused (refused_told asked.source (Source code line column) e.before held is a.1)
   told_ends (Limit number count) (inl a) = refused (refused_told asked.source (Limit number count) e.before held is a.1)
   told_ends (Limit number count) (inr (inl a)) = no_profile (accepts_told a.accepted) (told (λ h. RefusesProfile h asked.profile (Limit number count)) e.before held is a.answers.3)

@@ -4,7 +4,7 @@ use Rattle.vx_base.specs.Outcome.{Goes, IsGoing}
 use Rattle.vx_io.specs.Outside.{Files}
 use Rattle.vx_io.specs.declared.role.Role.TheVariants.{Source as TheSource, Words as TheWords, Profile as TheProfile, Machine as TheMachine, Input as TheInput}
 use Rattle.vx_status.specs.declared.status.Status.{Status}
-use Rattle.vx_status.specs.declared.status.Status.TheVariants.{Done, Trapped, Usage, Source, Limit, Words, Profile, Machine, NoFile, ReadFault, WriteFault, Stopped, Input, Stuck, NoMemory}
+use Rattle.vx_status.specs.declared.status.Status.TheVariants.{Done, Trapped, Usage, Source, Limit, Words, Profile, Machine, NoFile, ReadFault, WriteFault, Stopped, Input, Stuck, NoMemory, NotStrict}
 use Rattle.vx_isa.specs.Numbers.{Numbers}
 use Rattle.vx_machine.specs.declared.description.MachineFault.TheVariants.{Bad}
 use Rattle.vx_ast.specs.Tree.{Program}
@@ -98,6 +98,7 @@ module _ (asked : Execution) (boxes : Chosen) (e : Effect) (s : Streams) (held :
   ended Stopped a = ran a.1.ready.source_program a.1.words (all_told a.1.words a.1.ready) (goes_on a.0 a.1)
   ended (Input place) a = no_input a.machine (accepts_told a.accepted) (stands_told a.profiled) (machine_told (Is a.machine) a.machine_is) (input_refused place a.answers.1)
   ended (Stuck reason place) a = absurd a
+  ended (NotStrict breach place) a = absurd a
   ended NoMemory a = no_memory
 
 -- what one answer leaves of the others

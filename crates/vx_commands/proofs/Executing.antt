@@ -15,7 +15,7 @@ use Rattle.vx_probe.specs.Times.{Times, list_of}
 use Rattle.vx_probe.specs.Watch.{Watch}
 use Rattle.vx_io.specs.declared.role.Role.TheVariants.{Source as TheSource, Words as TheWords, Profile as TheProfile, Machine as TheMachine, Input as TheInput}
 use Rattle.vx_status.specs.declared.status.Status.{Status}
-use Rattle.vx_status.specs.declared.status.Status.TheVariants.{Done, Trapped, Usage, Source, Limit, Words, Profile, Machine, NoFile, ReadFault, WriteFault, Stopped, Input, Stuck, NoMemory}
+use Rattle.vx_status.specs.declared.status.Status.TheVariants.{Done, Trapped, Usage, Source, Limit, Words, Profile, Machine, NoFile, ReadFault, WriteFault, Stopped, Input, Stuck, NoMemory, NotStrict}
 use Rattle.vx_command.specs.Command.{Execution}
 use Rattle.vx_runs.specs.Boxes.{Chosen}
 use Rattle.vx_compiled.specs.Faithful.{Faithful}
@@ -170,6 +170,7 @@ module _ (asked : Execution) (x : Loaded) (times : Times) (watches : List Watch)
   run_executed Stopped a = stopped the_outcome refl a.status_is a
   run_executed (Input place) a = absurd (no_run the_outcome (Input place) refl a.status_is)
   run_executed (Stuck reason place) a = absurd (never_stuck reason place the_outcome refl a.status_is)
+  run_executed (NotStrict breach place) a = absurd (no_run the_outcome (NotStrict breach place) refl a.status_is)
   run_executed NoMemory a = tt
 
 -- the steps before the run
@@ -201,6 +202,7 @@ module _ (asked : Execution) (e : Effect) (s : Streams) (boxes : Chosen) where
   at_profile Stopped a = absurd a.answers
   at_profile (Input place) a = absurd a.answers
   at_profile (Stuck reason place) a = absurd a.answers
+  at_profile (NotStrict breach place) a = absurd a.answers
   at_profile NoMemory a = tt
 
   at_machine : (status : Status) → StopsAtMachine asked.source asked.profile asked.machine e status → ExecutionAnswers asked e s status boxes
@@ -226,6 +228,7 @@ module _ (asked : Execution) (e : Effect) (s : Streams) (boxes : Chosen) where
   at_machine Stopped a = absurd a.answers
   at_machine (Input place) a = absurd a.answers
   at_machine (Stuck reason place) a = absurd a.answers
+  at_machine (NotStrict breach place) a = absurd a.answers
   at_machine NoMemory a = tt
 
   at_input : (status : Status) → StopsAtInput asked e status → ExecutionAnswers asked e s status boxes

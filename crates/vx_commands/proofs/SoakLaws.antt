@@ -18,7 +18,7 @@ use Rattle.vx_sim.specs.declared.ended.Ended.{Ended}
 use Rattle.vx_sim.specs.declared.ended.Ended.TheVariants.{Halted, Trapped as TrappedBy, Stopped as StoppedAt}
 use Rattle.vx_runs.specs.declared.soak_run.ProgramSizes.{ProgramSizes}
 use Rattle.vx_status.specs.declared.status.Status.{Status}
-use Rattle.vx_status.specs.declared.status.Status.TheVariants.{Done, Trapped, Usage, Source, Limit, Words, Profile, Machine, NoFile, ReadFault, WriteFault, Stopped, Input, Stuck, NoMemory}
+use Rattle.vx_status.specs.declared.status.Status.TheVariants.{Done, Trapped, Usage, Source, Limit, Words, Profile, Machine, NoFile, ReadFault, WriteFault, Stopped, Input, Stuck, NoMemory, NotStrict}
 use Rattle.vx_compiled.specs.declared.program.FlowSize.{FlowSize}
 use Rattle.vx_command.specs.Command.{Soaking}
 use Rattle.vx_runs.specs.Boxes.{Boxes, Chosen, chosen}
@@ -149,6 +149,7 @@ module _ (asked : Soaking) (s : Streams) (these : Chosen) where
   ends quiet Stopped a = goes_on a.0 a.1
   ends quiet (Input place) a = absurd a
   ends quiet (Stuck reason place) a = absurd a
+  ends quiet (NotStrict breach place) a = absurd a
   ends quiet NoMemory a = tt
 
 pub soak_completes : (asked : Soaking) (boxes : Boxes) (e : Effect) (s : Streams) (status : Status) → SoakAnswers asked boxes e s status → SoakCompletes asked boxes s status

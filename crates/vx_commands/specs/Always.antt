@@ -5,7 +5,7 @@ use Rattle.vx_io.specs.Outside.{Files}
 use Rattle.vx_status.specs.declared.status.Status.{Status}
 use Rattle.vx_status.specs.declared.status.Status.TheVariants.{NoMemory}
 use Rattle.vx_status.specs.Status.{number_of}
-use Rattle.vx_command.specs.Command.{Command, Compile, Simulate, Execute, Count, Soak}
+use Rattle.vx_command.specs.Command.{Command, Compile, Simulate, Execute, Count, Soak, Check}
 use Rattle.vx_runs.specs.Boxes.{Boxes, Chosen, chosen}
 use Rattle.vx_files.specs.Effects.{Effect, ReadsRose, ReplacesRose}
 use Rattle.vx_runs.specs.Simulated.{Streams, OutRose, ErrRose}
@@ -30,6 +30,7 @@ CanRead (Simulate asked) boxes = (these : Chosen) × (chosen asked.timing asked.
 CanRead (Execute asked) boxes = (these : Chosen) × (chosen asked.timing asked.probe boxes ≡ Some these)
 CanRead (Count asked) boxes = Unit {0}
 CanRead (Soak asked) boxes = ⊥
+CanRead (Check asked) boxes = Unit {0}
 
 -- so no body that always gives a status of one number meets the clauses of the top call for a command that reads a file
 abbrev pub NoStatusIsAlways : Type 0

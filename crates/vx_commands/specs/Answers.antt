@@ -11,7 +11,7 @@ use Rattle.vx_io.specs.declared.role.Role.TheVariants.{Source as TheSource, Prof
 use Rattle.vx_ast.specs.Reads.{Refusal}
 use Rattle.vx_ast.specs.declared.fault.SourceFault.{SourceFault}
 use Rattle.vx_status.specs.declared.status.Status.{Status}
-use Rattle.vx_status.specs.declared.status.Status.TheVariants.{Done, Trapped, Usage, Source, Limit, Words, Profile, Machine, NoFile, ReadFault, WriteFault, Stopped, Input, Stuck, NoMemory}
+use Rattle.vx_status.specs.declared.status.Status.TheVariants.{Done, Trapped, Usage, Source, Limit, Words, Profile, Machine, NoFile, ReadFault, WriteFault, Stopped, Input, Stuck, NoMemory, NotStrict}
 use Rattle.vx_command.specs.Command.{Compilation}
 use Rattle.vx_compiled.specs.Compiled.{Compiled}
 use Rattle.vx_report.specs.declared.plan.Plan.{Plan}
@@ -109,6 +109,7 @@ CompileAnswers asked e WriteFault = ReplacesRose e × IfSome e.before (λ held. 
 CompileAnswers asked e Stopped = ⊥
 CompileAnswers asked e (Input place) = ⊥
 CompileAnswers asked e (Stuck reason place) = ⊥
+CompileAnswers asked e (NotStrict breach place) = ⊥
 CompileAnswers asked e NoMemory = SameFiles e ⊎ IsSomeAnd e.before (λ held. WritesWords asked held e.after)
 
 -- the texts of a program for a machine were to replace files

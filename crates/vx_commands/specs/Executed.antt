@@ -15,7 +15,7 @@ use Rattle.vx_probe.specs.Times.{Times}
 use Rattle.vx_profile.specs.declared.counts.Counts.{Counts}
 use Rattle.vx_report.specs.declared.plan.Plan.{Plan}
 use Rattle.vx_status.specs.declared.status.Status.{Status}
-use Rattle.vx_status.specs.declared.status.Status.TheVariants.{Done, Trapped, Usage, Source, Limit, Words, Profile, Machine, NoFile, ReadFault, WriteFault, Stopped, Input, Stuck, NoMemory}
+use Rattle.vx_status.specs.declared.status.Status.TheVariants.{Done, Trapped, Usage, Source, Limit, Words, Profile, Machine, NoFile, ReadFault, WriteFault, Stopped, Input, Stuck, NoMemory, NotStrict}
 use Rattle.vx_command.specs.Command.{Execution}
 use Rattle.vx_runs.specs.Boxes.{Boxes, Chosen, chosen}
 use Rattle.vx_compiled.specs.Compiled.{Compiled}
@@ -137,6 +137,7 @@ ExecutionAnswers asked e s WriteFault boxes = RunsCut asked boxes e s
 ExecutionAnswers asked e s Stopped boxes = (out : List ℕ) × Runs asked boxes e s (Goes out)
 ExecutionAnswers asked e s (Input place) boxes = StopsAt TheInput asked e (Input place)
 ExecutionAnswers asked e s (Stuck reason place) boxes = ⊥
+ExecutionAnswers asked e s (NotStrict breach place) boxes = ⊥
 ExecutionAnswers asked e s NoMemory boxes = Unit {0}
 
 -- no file ever changes

@@ -1,7 +1,7 @@
 // The commands over any compiler: from the words of a command line to its answer.
 
 ghost use Rattle.std.specs.Prelude.{ℕ, List, Option, map, string_bytes};
-ghost use Rattle.vx_command.specs.Command.{command_of, command_named, is_command, names_command, compile_of, sim_of, exec_of, profile_of, soak_of};
+ghost use Rattle.vx_command.specs.Command.{command_of, command_named, is_command, names_command, compile_of, sim_of, exec_of, profile_of, soak_of, check_of};
 ghost use Rattle.vx_files.specs.Effects.{Effect, effect_of};
 ghost use Rattle.vx_runs.specs.Simulated.{streams_of};
 ghost use Rattle.vx_runs.specs.Boxes.{Boxes, ProbeBox, boxes_of, timing_boxes};
@@ -13,14 +13,16 @@ use crate::exec::execute_with;
 use crate::profile::profile;
 use crate::soak::soak;
 use std::alloc::Global;
-use vx_command::{compile_asked, exec_asked, profile_asked, refuse, sim_asked, soak_asked};
+use vx_command::{
+    check_asked, compile_asked, exec_asked, profile_asked, refuse, sim_asked, soak_asked,
+};
 use vx_compiled::WordCompiler;
 use vx_io::depot::Depot;
 use vx_io::sink::Sink;
 use vx_probe::{Probe, Timing};
 use vx_runs::compiler::Compiler;
 use vx_runs::names::{Named, let_go, lookup, without_name};
-use vx_runs::simulate_with;
+use vx_runs::{check_with, simulate_with};
 use vx_status::{Status, tell};
 
 /// Does what the words of `compile` ask for, the program's name first, and puts the line of its answer.
@@ -119,6 +121,22 @@ fn perform_soak<C: WordCompiler, K: Sink, E: Sink>(
     }
 }
 
+/// Does what the words of `check` ask for, the program's name first, and puts what is found.
+fn perform_check<D: Depot, K: Sink, E: Sink>(
+    alloc: Global,
+    words: &[&str],
+    depot: &mut D,
+    out: &mut K,
+    err: &mut E,
+) -> Status
+    ensures { ((boxes : Boxes) → Performed (check_of (map (λ w. w.now) words.now)) boxes (effect_of D.files D.failed_reads D.failed_replaces depot.old depot.new) (streams_of K.told K.faults E.told E.faults out.old out.new err.old err.new) result) }
+{
+    match check_asked(alloc, words) {
+        Ok(asked) => check_with(alloc, depot, out, err, &asked),
+        Err(refused) => refuse(err, &refused),
+    }
+}
+
 /// Does what a command's words ask for, the program's name first.
 fn perform_named<C: Compiler + WordCompiler, D: Depot, K: Sink, E: Sink>(
     alloc: Global,
@@ -147,6 +165,10 @@ fn perform_named<C: Compiler + WordCompiler, D: Depot, K: Sink, E: Sink>(
         Named::Soak => {
             drop(probes);
             perform_soak(alloc, compiler, words, out, err, timings)
+        }
+        Named::Check => {
+            let_go(probes, timings);
+            perform_check(alloc, words, depot, out, err)
         }
         Named::Nothing => {
             let_go(probes, timings);

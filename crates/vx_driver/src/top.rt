@@ -35,7 +35,7 @@ pub fn vexc<D: Depot, K: Sink, E: Sink>(
     // Where nothing fails, the command does its work, unless memory is wanted.
     ensures complete { Completes (command_of (map string_bytes words.now)) (boxes_of called watch named times probes.items timings.items) (effect_of D.files D.failed_reads D.failed_replaces depot.old depot.new) (streams_of K.told K.faults E.told E.faults out.old out.new err.old err.new) result }
 
-    // Only a run puts anything on `out`, its output, its counts or its summary.
+    // Only a run puts anything on `out`, its output, its counts or its summary, and the check of a strict program its line.
     ensures nothing_on_out { puts_output (command_of (map string_bytes words.now)) result ≡ false → K.told out.new ≡ K.told out.old }
 
     // What `err` gains: the line of the status, or a front of it where a put fails. Of the lines of a run `answers` speak,

@@ -11,7 +11,7 @@ use Rattle.vx_isa.specs.Numbers.{Numbers, vex}
 use Rattle.vx_machine.specs.declared.description.MachineFault.TheVariants.{Bad}
 use Rattle.vx_machine.specs.Descriptions.{reading}
 use Rattle.vx_status.specs.declared.status.Status.{Status}
-use Rattle.vx_status.specs.declared.status.Status.TheVariants.{Done, Trapped, Usage, Source, Limit, Words, Profile, Machine, NoFile, ReadFault, WriteFault, Stopped, Input, Stuck, NoMemory}
+use Rattle.vx_status.specs.declared.status.Status.TheVariants.{Done, Trapped, Usage, Source, Limit, Words, Profile, Machine, NoFile, ReadFault, WriteFault, Stopped, Input, Stuck, NoMemory, NotStrict}
 use Rattle.vx_files.specs.Held.{most_description_bytes, MachineFound, Is, Refused, TooLong, Missing, found_by, found_in, machine_found, RefusesDescription}
 use Rattle.vx_files.specs.Effects.{Effect, ReadsRose, SameFiles, OfFile, MachineAnswers}
 use Rattle.vx_files.proofs.WholeFile.{Unread}
@@ -55,6 +55,7 @@ undescribed name bytes e (Profile code line) short h same r = absurd r
 undescribed name bytes e Stopped short h same r = absurd r
 undescribed name bytes e (Input place) short h same r = absurd r
 undescribed name bytes e (Stuck reason place) short h same r = absurd r
+undescribed name bytes e (NotStrict breach place) short h same r = absurd r
 undescribed name bytes e (Source code line column) short h same r = absurd r
 undescribed name bytes e (Limit number count) short h same r = absurd r
 undescribed name bytes e (Machine code field) short h same r = (same, fault_found e.before name bytes (Refused (Bad code field)) short h (ap found_by r))

@@ -2,7 +2,7 @@
 use Rattle.std.proofs.Common.{◌≡◌, ℕ, List, Option}
 use Rattle.vx_io.specs.declared.role.Role.TheVariants.{Source as TheSource, Words as TheWords, Profile as TheProfile, Machine as TheMachine, Input as TheInput}
 use Rattle.vx_status.specs.declared.status.Status.{Status}
-use Rattle.vx_status.specs.declared.status.Status.TheVariants.{Done, Trapped, Usage, Source, Limit, Words, Profile, Machine, NoFile, ReadFault, WriteFault, Stopped, Input, Stuck, NoMemory}
+use Rattle.vx_status.specs.declared.status.Status.TheVariants.{Done, Trapped, Usage, Source, Limit, Words, Profile, Machine, NoFile, ReadFault, WriteFault, Stopped, Input, Stuck, NoMemory, NotStrict}
 use Rattle.vx_files.specs.Effects.{Effect, SourceAnswers, InputAnswers}
 
 -- what holds for each status that a source can have holds for the one that it has
@@ -35,6 +35,7 @@ module _ (source : List ℕ) (e : Effect) (P : Status → Type 0)
   source_cases Stopped a = absurd a
   source_cases (Input place) a = absurd a
   source_cases (Stuck reason place) a = absurd a
+  source_cases (NotStrict breach place) a = absurd a
   source_cases NoMemory a = memory
 
 -- and the same of an input, where more is known of the status
@@ -67,6 +68,7 @@ module _ (input : Option (List ℕ)) (e : Effect) (Q P : Status → Type 0) (ans
   of Stopped a q = absurd a
   of (Input place) a q = number place q
   of (Stuck reason place) a q = absurd a
+  of (NotStrict breach place) a q = absurd a
   of NoMemory a q = memory
 
   pub input_cases : (status : Status) → Q status → P status

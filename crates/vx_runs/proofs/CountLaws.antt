@@ -6,7 +6,7 @@ use Rattle.vx_ast.specs.Tree.{Program}
 use Rattle.vx_ast.specs.Reads.{Refusal}
 use Rattle.vx_ast.specs.declared.fault.SourceFault.{SourceFault}
 use Rattle.vx_status.specs.declared.status.Status.{Status}
-use Rattle.vx_status.specs.declared.status.Status.TheVariants.{Done, Trapped, Usage, Source, Limit, Words, Profile, Machine, NoFile, ReadFault, WriteFault, Stopped, Input, Stuck, NoMemory}
+use Rattle.vx_status.specs.declared.status.Status.TheVariants.{Done, Trapped, Usage, Source, Limit, Words, Profile, Machine, NoFile, ReadFault, WriteFault, Stopped, Input, Stuck, NoMemory, NotStrict}
 use Rattle.vx_command.specs.Command.{Profiling}
 use Rattle.vx_files.specs.Held.{HoldsProgram, Accepts, Refuses, RefusesSource, status_of, input_in, input_found}
 use Rattle.vx_files.specs.Effects.{Effect, ReadsRose, SameFiles, OfFile, SourceAnswers, InputAnswers}
@@ -143,6 +143,7 @@ module _ (asked : Profiling) (e : Effect) (s : Streams) (held : Files) (is : e.b
   ended Stopped a = ran a.0.counted.program a.0.counted.input (read_told a.0.counted) (inr refl)
   ended (Input place) a = no_input (accepts_told a.accepted) (input_refused place a.answers.1)
   ended (Stuck reason place) a = absurd a
+  ended (NotStrict breach place) a = absurd a
   ended NoMemory a = no_memory
 
 input_or : (r : Result (List ℤ) Status) (numbers : List ℤ) (why : Status) → r ≡ Ok numbers → r ≡ Err why → ⊥

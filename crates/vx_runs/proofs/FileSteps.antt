@@ -13,7 +13,7 @@ use Rattle.vx_machine.specs.declared.description.MachineFault.TheVariants.{Bad}
 use Rattle.vx_words.specs.Spelling.{Spells}
 use Rattle.vx_reader.specs.Text.{Fault, reading}
 use Rattle.vx_status.specs.declared.status.Status.{Status}
-use Rattle.vx_status.specs.declared.status.Status.TheVariants.{Done, Trapped, Usage, Source, Limit, Words, Profile, Machine, NoFile, ReadFault, WriteFault, Stopped, Input, Stuck, NoMemory}
+use Rattle.vx_status.specs.declared.status.Status.TheVariants.{Done, Trapped, Usage, Source, Limit, Words, Profile, Machine, NoFile, ReadFault, WriteFault, Stopped, Input, Stuck, NoMemory, NotStrict}
 use Rattle.vx_files.specs.Held.{MachineFound, Is, Refused, TooLong, Missing, found_in, machine_found, input_found}
 use Rattle.vx_files.specs.Effects.{Effect, ReadsRose, OfFile, MachineAnswers, InputAnswers}
 use Rattle.vx_runs.specs.Simulated.{words_as, words_in, machine_as, Loaded, with_input, loading_input, loading_machine, loading, is_named, Stops}
@@ -73,6 +73,7 @@ input_answers_stop input e WriteFault named a = absurd a
 input_answers_stop input e Stopped named a = absurd a
 input_answers_stop input e (Input place) named a = (named, a.1)
 input_answers_stop input e (Stuck reason place) named a = absurd a
+input_answers_stop input e (NotStrict breach place) named a = absurd a
 input_answers_stop input e NoMemory named a = tt
 
 -- the machine's answers
@@ -117,6 +118,7 @@ machine_stops machine e WriteFault named a = absurd a
 machine_stops machine e Stopped named a = absurd a
 machine_stops machine e (Input place) named a = absurd a
 machine_stops machine e (Stuck reason place) named a = absurd a
+machine_stops machine e (NotStrict breach place) named a = absurd a
 machine_stops machine e NoMemory named a = tt
 
 -- one step after the other

@@ -5,7 +5,7 @@ use Rattle.vx_machine.specs.declared.description.MachineFault.TheVariants.{Bad}
 use Rattle.vx_ast.specs.Tree.{Program}
 use Rattle.vx_io.specs.declared.role.Role.TheVariants.{Input as TheInput}
 use Rattle.vx_status.specs.declared.status.Status.{Status}
-use Rattle.vx_status.specs.declared.status.Status.TheVariants.{Done, Trapped, Usage, Source, Limit, Words, Profile, Machine, NoFile, ReadFault, WriteFault, Stopped, Input, Stuck, NoMemory}
+use Rattle.vx_status.specs.declared.status.Status.TheVariants.{Done, Trapped, Usage, Source, Limit, Words, Profile, Machine, NoFile, ReadFault, WriteFault, Stopped, Input, Stuck, NoMemory, NotStrict}
 use Rattle.vx_files.specs.Held.{HoldsProgram, Accepts, BadProfile, Refused, TooLong, Missing, found_in, machine_found, RefusesProfile, input_in, input_found}
 use Rattle.vx_runs.specs.Writing.{WriteAnswers}
 use Rattle.vx_files.specs.Effects.{Effect, ReadsRose, ProfileAnswers, MachineAnswers, InputAnswers}
@@ -20,6 +20,7 @@ machine_since machine e f (Profile code line) s a = absurd a
 machine_since machine e f Stopped s a = absurd a
 machine_since machine e f (Input place) s a = absurd a
 machine_since machine e f (Stuck reason place) s a = absurd a
+machine_since machine e f (NotStrict breach place) s a = absurd a
 machine_since machine e f (Source code line column) s a = absurd a
 machine_since machine e f (Limit number count) s a = (a.0, a.1, same_since e f s a.2, told_since e f (λ held. machine_found held machine ≡ TooLong) s a.3)
 machine_since machine e f (Machine code field) s a = (same_since e f s a.0, said_since e f (λ held. machine_found held machine ≡ Refused (Bad code field)) (λ content. found_in (Some content) ≡ Refused (Bad code field)) s a.1)
@@ -39,6 +40,7 @@ profile_since profile e f (Profile code line) s a = (same_since e f s a.0, said_
 profile_since profile e f Stopped s a = absurd a
 profile_since profile e f (Input place) s a = absurd a
 profile_since profile e f (Stuck reason place) s a = absurd a
+profile_since profile e f (NotStrict breach place) s a = absurd a
 profile_since profile e f (Source code line column) s a = absurd a
 profile_since profile e f (Limit number count) s a = (a.0, a.1, same_since e f s a.2, told_since e f (λ held. RefusesProfile held profile (Limit number count)) s a.3)
 profile_since profile e f (Machine code field) s a = absurd a
@@ -66,6 +68,7 @@ input_since input e f WriteFault s a = absurd a
 input_since input e f Stopped s a = absurd a
 input_since input e f (Input place) s a = (same_since e f s a.0, said_since e f (λ held. input_found held input ≡ Err (Input place)) (λ content. input_in (Some content) ≡ Err (Input place)) s a.1)
 input_since input e f (Stuck reason place) s a = absurd a
+input_since input e f (NotStrict breach place) s a = absurd a
 input_since input e f NoMemory s a = same_since e f s a
 
 pub accepts_in : (source : List ℕ) (program : Program) (b : Option Files) → IfSome b (λ held. HoldsProgram held source program) → IfSome b (λ held. Accepts held source)
@@ -82,6 +85,7 @@ write_since name text e f (Words code line) s is = absurd is
 write_since name text e f Stopped s is = absurd is
 write_since name text e f (Input place) s is = absurd is
 write_since name text e f (Stuck reason place) s is = absurd is
+write_since name text e f (NotStrict breach place) s is = absurd is
 write_since name text e f (Source code line column) s is = absurd is
 write_since name text e f (Limit number count) s is = absurd is
 write_since name text e f (Profile code line) s is = absurd is

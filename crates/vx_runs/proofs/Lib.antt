@@ -2,6 +2,7 @@ pub mod Telling
 pub mod Picking
 pub mod Since
 pub mod Simulating
+pub mod Checking
 pub mod FileSteps
 pub mod Issued
 pub mod Turned

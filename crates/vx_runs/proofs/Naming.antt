@@ -3,7 +3,7 @@ use Rattle.std.proofs.Common.{◌≡◌, ◌∙◌, ℕ, ◌+◌, ◌<◌, List,
 use Rattle.std.proofs.lemmas.List.{map-append, map_more}
 use Rattle.std.specs.Prelude.{codes}
 use Rattle.std.specs.Str.{bytes_eq}
-use Rattle.vx_runs.specs.declared.names.Named.TheVariants.{Compile, Sim, Exec, Profile, Soak, Nothing}
+use Rattle.vx_runs.specs.declared.names.Named.TheVariants.{Compile, Sim, Exec, Profile, Soak, Check, Nothing}
 use Rattle.vx_runs.specs.Names.{IsNamed}
 
 module _ (name : List ℕ) where
@@ -22,8 +22,13 @@ module _ (name : List ℕ) where
   pub named_soak : bytes_eq name (codes "compile") ≡ false → bytes_eq name (codes "sim") ≡ false → bytes_eq name (codes "exec") ≡ false → bytes_eq name (codes "profile") ≡ false → bytes_eq name (codes "soak") ≡ true → IsNamed name Soak
   named_soak a b d e f = record { known = rw (a, b, d, e, f) refl; asks = λ words. rw (a, b, d, e, f) refl }
 
-  pub named_nothing : bytes_eq name (codes "compile") ≡ false → bytes_eq name (codes "sim") ≡ false → bytes_eq name (codes "exec") ≡ false → bytes_eq name (codes "profile") ≡ false → bytes_eq name (codes "soak") ≡ false → IsNamed name Nothing
-  named_nothing a b d e f = record { known = rw (a, b, d, e, f) refl; asks = λ words. rw (a, b, d, e, f) refl }
+  pub named_check : bytes_eq name (codes "compile") ≡ false → bytes_eq name (codes "sim") ≡ false → bytes_eq name (codes "exec") ≡ false → bytes_eq name (codes "profile") ≡ false → bytes_eq name (codes "soak") ≡ false → bytes_eq name (codes "check") ≡ true →
+      IsNamed name Check
+  named_check a b d e f h = record { known = rw (a, b, d, e, f, h) refl; asks = λ words. rw (a, b, d, e, f, h) refl }
+
+  pub named_nothing : bytes_eq name (codes "compile") ≡ false → bytes_eq name (codes "sim") ≡ false → bytes_eq name (codes "exec") ≡ false → bytes_eq name (codes "profile") ≡ false → bytes_eq name (codes "soak") ≡ false → bytes_eq name (codes "check") ≡ false →
+      IsNamed name Nothing
+  named_nothing a b d e f h = record { known = rw (a, b, d, e, f, h) refl; asks = λ words. rw (a, b, d, e, f, h) refl }
 
 -- one word more
 pub words_more : {X S : Type 0} (f : X → List ℕ) (g : S → List ℕ) (first : List ℕ) (old new : List X) (x : X) (others : List S) (i : ℕ) (other : S) →

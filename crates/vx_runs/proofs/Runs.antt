@@ -7,7 +7,7 @@ use Rattle.vx_words.specs.Spelling.{Spells}
 use Rattle.vx_probe.specs.Times.{Times}
 use Rattle.vx_probe.specs.Watch.{Watch}
 use Rattle.vx_status.specs.declared.status.Status.{Status}
-use Rattle.vx_status.specs.declared.status.Status.TheVariants.{Done, Trapped, Usage, Source, Limit, Words, Profile, Machine, NoFile, ReadFault, WriteFault, Stopped, Input, Stuck, NoMemory}
+use Rattle.vx_status.specs.declared.status.Status.TheVariants.{Done, Trapped, Usage, Source, Limit, Words, Profile, Machine, NoFile, ReadFault, WriteFault, Stopped, Input, Stuck, NoMemory, NotStrict}
 use Rattle.vx_command.specs.Command.{Simulation}
 use Rattle.vx_runs.specs.Boxes.{Boxes, ProbeBox, Chosen, chosen, chosen_of, timing_named, probes_named}
 use Rattle.vx_files.specs.Effects.{Effect, SameFiles}
@@ -72,6 +72,7 @@ module _ (asked : Simulation) (x : Loaded) (times : Times) (watches : List Watch
   run_loaded_answers Stopped a = ends Stopped a
   run_loaded_answers (Input place) a = absurd (no_run (outcome_within x times asked.budget) (Input place) refl a.status_is)
   run_loaded_answers (Stuck reason place) a = ends (Stuck reason place) a
+  run_loaded_answers (NotStrict breach place) a = absurd (no_run (outcome_within x times asked.budget) (NotStrict breach place) refl a.status_is)
   run_loaded_answers NoMemory a = tt
 
 stops_run : (asked : Simulation) (boxes : Chosen) (e : Effect) (s : Streams) (status : Status) →
@@ -90,6 +91,7 @@ stops_run asked boxes e s WriteFault a = absurd a
 stops_run asked boxes e s Stopped a = absurd a
 stops_run asked boxes e s (Input place) a = a
 stops_run asked boxes e s (Stuck reason place) a = absurd a
+stops_run asked boxes e s (NotStrict breach place) a = absurd a
 stops_run asked boxes e s NoMemory a = a
 
 pub stops_told : (asked : Simulation) (boxes : Chosen) (e : Effect) (s : Streams) (status told : Status) → told ≡ status →

@@ -5,13 +5,13 @@ use Rattle.vx_io.specs.declared.role.Role.{Role}
 use Rattle.vx_io.specs.declared.role.Role.TheVariants.{Machine as TheMachine, Input as TheInput}
 use Rattle.vx_probe.specs.Times.{Times}
 use Rattle.vx_status.specs.declared.status.Status.{Status}
-use Rattle.vx_status.specs.declared.status.Status.TheVariants.{Done, Trapped, Usage, Source, Limit, Words, Profile, Machine, NoFile, ReadFault, WriteFault, Stopped, Input, Stuck, NoMemory}
+use Rattle.vx_status.specs.declared.status.Status.TheVariants.{Done, Trapped, Usage, Source, Limit, Words, Profile, Machine, NoFile, ReadFault, WriteFault, Stopped, Input, Stuck, NoMemory, NotStrict}
 use Rattle.vx_command.specs.Command.{Simulation}
 use Rattle.vx_runs.specs.Boxes.{Boxes, Chosen, chosen}
 use Rattle.vx_machine.specs.declared.description.MachineFault.TheVariants.{Bad}
 use Rattle.vx_files.specs.Held.{Refused, found_in, input_in}
 use Rattle.vx_files.specs.Effects.{Effect, ReadsRose, OfFile}
-use Rattle.vx_runs.specs.Simulated.{loading, words_in, IsTooLong, Stops, Streams, OutRose, ErrRose, Loads, RunEnds, RunCut, RunAnswers, BoxAnswers, SimAnswers, Due, RunCompletes, SimCompletes}
+use Rattle.vx_runs.specs.Simulated.{loading, words_in, is_named, IsTooLong, Stops, Streams, OutRose, ErrRose, Loads, RunEnds, RunCut, RunAnswers, BoxAnswers, SimAnswers, Due, RunCompletes, SimCompletes}
 use Rattle.vx_runs.proofs.Since.{rose_since, Since}
 
 -- where nothing fails
@@ -24,6 +24,29 @@ told_or Q P b held is h = subst (λ o. MatchOption o Q P) is h
 
 told_of : (P : Files → Type 0) (Q : List ℕ → Type 0) (b : Option Files) (held : Files) → b ≡ Some held → OfFile b P Q → P held
 told_of P Q b held is h = subst (λ o. OfFile o P Q) is h
+
+-- what stops a command is what the files come to, or want of memory
+module _ {A : Type 0} (named : Role → Bool) (found : Files → Result A Status) (e : Effect) (held : Files) (is : e.before ≡ Some held) (quiet_reads : ReadsRose e → ⊥) where
+  fault : (Q : List ℕ → Type 0) (status : Status) → OfFile e.before (λ h. found h ≡ Err status) Q → (found held ≡ Err status) ⊎ (status ≡ NoMemory)
+  fault Q status a = inl (told_of (λ h. found h ≡ Err status) Q e.before held is a)
+
+  pub stops_held : (status : Status) → Stops named found e status → (found held ≡ Err status) ⊎ (status ≡ NoMemory)
+  stops_held Done a = absurd a
+  stops_held (Trapped trap) a = absurd a
+  stops_held Usage a = absurd a
+  stops_held (Source code line column) a = absurd a
+  stops_held (Limit number count) a = inl (told (λ h. found h ≡ Err (Limit number count)) e.before held is a.1)
+  stops_held (Words code line) a = fault (λ content. words_in (Some content) ≡ Err (Words code line)) (Words code line) a
+  stops_held (Profile code line) a = absurd a
+  stops_held (Machine code field) a = fault (λ content. found_in (Some content) ≡ Refused (Bad code field)) (Machine code field) a.1
+  stops_held (NoFile role) a = inl (told_or (ReadsRose e) (λ h. found h ≡ Err (NoFile role)) e.before held is a.1)
+  stops_held (ReadFault role) a = absurd (quiet_reads a.1)
+  stops_held WriteFault a = absurd a
+  stops_held Stopped a = absurd a
+  stops_held (Input place) a = fault (λ content. input_in (Some content) ≡ Err (Input place)) (Input place) a.1
+  stops_held (Stuck reason place) a = absurd a
+  stops_held (NotStrict breach place) a = absurd a
+  stops_held NoMemory a = inr refl
 
 due_stop : (asked : Simulation) (times : Times) (held : Files) (status : Status) → loading held asked.words asked.machine asked.input ≡ Err status →
     Due asked times (loading held asked.words asked.machine asked.input) status
@@ -42,28 +65,19 @@ module _ (asked : Simulation) (boxes : Chosen) (e : Effect) (s : Streams) (held 
   abbrev Dues : Status → Type 0
   Dues status = Due asked boxes.times (loading held asked.words asked.machine asked.input) status ⊎ (status ≡ NoMemory)
 
-  stop : (status : Status) → IfSome e.before (λ h. loading h asked.words asked.machine asked.input ≡ Err status) → Dues status
-  stop status a = inl (due_stop asked boxes.times held status (told (λ h. loading h asked.words asked.machine asked.input ≡ Err status) e.before held is a))
-
-  fault : (Q : List ℕ → Type 0) (status : Status) → OfFile e.before (λ h. loading h asked.words asked.machine asked.input ≡ Err status) Q → Dues status
-  fault Q status a = inl (due_stop asked boxes.times held status (told_of (λ h. loading h asked.words asked.machine asked.input ≡ Err status) Q e.before held is a))
+  stop : (status : Status) → Stops (is_named asked.machine asked.input) (λ h. loading h asked.words asked.machine asked.input) e status → Dues status
+  stop status a = elim (stops_held (is_named asked.machine asked.input) (λ h. loading h asked.words asked.machine asked.input) e held is quiet_reads status a) [
+    | inl why ↦ inl (due_stop asked boxes.times held status why)
+    | inr memory ↦ inr memory
+  ]
 
   dues : (status : Status) → RunAnswers asked boxes e s status → Dues status
   dues Done a = inl (due_run asked boxes e s held Done is a)
   dues (Trapped trap) a = inl (due_run asked boxes e s held (Trapped trap) is a)
-  dues Usage a = absurd a
-  dues (Source code line column) a = absurd a
-  dues (Limit number count) a = stop (Limit number count) a.1
-  dues (Words code line) a = fault (λ content. words_in (Some content) ≡ Err (Words code line)) (Words code line) a
-  dues (Profile code line) a = absurd a
-  dues (Machine code field) a = fault (λ content. found_in (Some content) ≡ Refused (Bad code field)) (Machine code field) a.1
-  dues (NoFile role) a = inl (due_stop asked boxes.times held (NoFile role) (told_or (ReadsRose e) (λ h. loading h asked.words asked.machine asked.input ≡ Err (NoFile role)) e.before held is a.1))
-  dues (ReadFault role) a = absurd (quiet_reads a.1)
   dues WriteFault a = absurd (not_cut asked boxes e s quiet_out quiet_err a)
   dues Stopped a = inl (due_run asked boxes e s held Stopped is a)
-  dues (Input place) a = fault (λ content. input_in (Some content) ≡ Err (Input place)) (Input place) a.1
   dues (Stuck reason place) a = inl (due_run asked boxes e s held (Stuck reason place) is a)
-  dues NoMemory a = inr refl
+  dues status a = stop status a
 
 run_completes : (asked : Simulation) (boxes : Chosen) (e : Effect) (s : Streams) (status : Status) (b : Option Files) → e.before ≡ b → (ReadsRose e → ⊥) → (OutRose s → ⊥) → (ErrRose s → ⊥) →
     RunAnswers asked boxes e s status → IfSome b (λ held. Due asked boxes.times (loading held asked.words asked.machine asked.input) status ⊎ (status ≡ NoMemory))
@@ -124,4 +138,5 @@ module _ {A B : Type 0} (named named' : Role → Bool) (found : Files → Result
   stops_on Stopped a = absurd a
   stops_on (Input place) a = (names TheInput a.0, of_file_on (λ content. input_in (Some content) ≡ Err (Input place)) (Input place) a.1)
   stops_on (Stuck reason place) a = absurd a
+  stops_on (NotStrict breach place) a = absurd a
   stops_on NoMemory a = tt

@@ -5,13 +5,13 @@ use Rattle.std.proofs.lemmas.List.{flat_map_more, map_more}
 use Rattle.vx_io.specs.Outside.{with_bytes}
 use Rattle.std.specs.Prelude.{◌≢◌, codes}
 use Rattle.vx_status.specs.declared.status.Status.{Status}
-use Rattle.vx_status.specs.declared.status.Status.TheVariants.{Done, Trapped, Usage, Source, Limit, Words, Profile, Machine, NoFile, ReadFault, WriteFault, Stopped, Input, Stuck, NoMemory}
+use Rattle.vx_status.specs.declared.status.Status.TheVariants.{Done, Trapped, Usage, Source, Limit, Words, Profile, Machine, NoFile, ReadFault, WriteFault, Stopped, Input, Stuck, NoMemory, NotStrict}
 use Rattle.vx_probe.specs.Times.{Times}
 use Rattle.vx_probe.specs.Watch.{Watch}
 use Rattle.vx_status.specs.Status.{Puts, no_box_line, status_line}
 use Rattle.vx_status.proofs.Appending.{with_both}
 use Rattle.vx_runs.specs.Boxes.{Boxes, Chosen, chosen, chosen_of, timing_named, probes_named, unknown_name, unknown_of}
-use Rattle.vx_command.specs.Command.{Command, Compile, Simulate, Execute, Count, Soak}
+use Rattle.vx_command.specs.Command.{Command, Compile, Simulate, Execute, Count, Soak, Check}
 use Rattle.vx_runs.specs.Simulated.{Streams, ErrTells}
 use Rattle.vx_runs.specs.Lines.{TellsRun, TellsBox, TellsLine}
 use Rattle.vx_runs.specs.Ending.{TellsProbe}
@@ -32,6 +32,7 @@ run_told s WriteFault t = t.whole
 run_told s Stopped t = tt
 run_told s (Input place) t = t
 run_told s (Stuck reason place) t = tt
+run_told s (NotStrict breach place) t = t
 run_told s NoMemory t = t
 
 -- the boxes
@@ -87,6 +88,7 @@ memory_line (Some (Simulate asked)) boxes s t = memory_told (TellsRun s) s (chos
 memory_line (Some (Execute asked)) boxes s t = memory_told (TellsRun s) s (chosen asked.timing asked.probe boxes) (unknown_name asked.timing asked.probe boxes) NoMemory refl (λ x. x) t
 memory_line (Some (Count asked)) boxes s t = t
 memory_line (Some (Soak asked)) boxes s t = memory_told (λ other. ErrTells (status_line other) s) s (chosen (codes "late") None boxes) (codes "late") NoMemory refl (λ x. x) t
+memory_line (Some (Check asked)) boxes s t = t
 
 pub no_memory_line : (command : Option Command) (boxes : Boxes) (s : Streams) (status : Status) → status ≡ NoMemory → ErrTells (status_line status) s → TellsLine command boxes s status
 no_memory_line command boxes s status is t = subst (TellsLine command boxes s) (sym is) (memory_line command boxes s (subst (λ x. ErrTells (status_line x) s) is t))

@@ -15,7 +15,7 @@ use Rattle.vx_profile.specs.declared.counts.Counts.{Counts}
 use Rattle.vx_profile.specs.Counts.{CountsOf}
 use Rattle.vx_profile.specs.Text.{AreAscending, counts_text}
 use Rattle.vx_status.specs.declared.status.Status.{Status}
-use Rattle.vx_status.specs.declared.status.Status.TheVariants.{Done, Trapped, Usage, Source, Limit, Words, Profile, Machine, NoFile, ReadFault, WriteFault, Stopped, Input, Stuck, NoMemory}
+use Rattle.vx_status.specs.declared.status.Status.TheVariants.{Done, Trapped, Usage, Source, Limit, Words, Profile, Machine, NoFile, ReadFault, WriteFault, Stopped, Input, Stuck, NoMemory, NotStrict}
 use Rattle.vx_command.specs.Command.{Profiling}
 use Rattle.vx_files.specs.Held.{HoldsProgram, Accepts, status_of, EmptyUnless, input_found}
 use Rattle.vx_files.specs.Effects.{Effect, ReadsRose, SameFiles, SourceAnswers, InputAnswers}
@@ -87,6 +87,7 @@ CountsAnswers asked e s WriteFault = CountsCut asked e s
 CountsAnswers asked e s Stopped = (x : PutsCounts asked e s) × (IsEnded asked e x.counted → ⊥)
 CountsAnswers asked e s (Input place) = StopsCountsAt TheInput asked e (Input place)
 CountsAnswers asked e s (Stuck reason place) = ⊥
+CountsAnswers asked e s (NotStrict breach place) = ⊥
 CountsAnswers asked e s NoMemory = Unit {0}
 
 -- no file ever changes

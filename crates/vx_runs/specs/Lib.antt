@@ -2,6 +2,7 @@ pub mod Boxes
 pub mod Simulated
 pub mod Lines
 pub mod Ending
+pub mod Checking
 pub mod Reading
 pub mod Names
 pub mod Writing

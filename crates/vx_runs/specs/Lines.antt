@@ -4,7 +4,7 @@ use Rattle.vx_io.specs.Outside.{with_bytes}
 use Rattle.vx_status.specs.declared.status.Status.{Status}
 use Rattle.vx_status.specs.declared.status.Status.TheVariants.{Done, Trapped, Usage, WriteFault, Stopped, Stuck}
 use Rattle.vx_status.specs.Status.{no_box_line, status_line}
-use Rattle.vx_command.specs.Command.{Command, Compile, Simulate, Execute, Count, Soak}
+use Rattle.vx_command.specs.Command.{Command, Compile, Simulate, Execute, Count, Soak, Check}
 use Rattle.vx_runs.specs.Boxes.{Boxes, Chosen, chosen, unknown_name}
 use Rattle.vx_runs.specs.Simulated.{Streams, ErrRose, ErrTells}
 
@@ -33,3 +33,4 @@ TellsLine (Some (Simulate asked)) boxes s status = TellsBox (TellsRun s) (chosen
 TellsLine (Some (Execute asked)) boxes s status = TellsBox (TellsRun s) (chosen asked.timing asked.probe boxes) (unknown_name asked.timing asked.probe boxes) s status
 TellsLine (Some (Count asked)) boxes s status = ErrTells (status_line status) s
 TellsLine (Some (Soak asked)) boxes s status = TellsBox (λ other. ErrTells (status_line other) s) (chosen (codes "late") None boxes) (codes "late") s status
+TellsLine (Some (Check asked)) boxes s status = ErrTells (status_line status) s

@@ -18,7 +18,7 @@ use Rattle.vx_sim.specs.Passed.{events_from}
 use Rattle.vx_words.specs.Spelling.{Spells}
 use Rattle.vx_reader.specs.Text.{Fault, reading}
 use Rattle.vx_status.specs.declared.status.Status.{Status}
-use Rattle.vx_status.specs.declared.status.Status.TheVariants.{Done, Trapped, Usage, Source, Limit, Words, Profile, Machine, NoFile, ReadFault, WriteFault, Stopped, Input, Stuck, NoMemory}
+use Rattle.vx_status.specs.declared.status.Status.TheVariants.{Done, Trapped, Usage, Source, Limit, Words, Profile, Machine, NoFile, ReadFault, WriteFault, Stopped, Input, Stuck, NoMemory, NotStrict}
 use Rattle.vx_status.specs.Status.{Tells, TellsWith, status_line}
 use Rattle.vx_command.specs.Command.{Simulation}
 use Rattle.vx_runs.specs.Boxes.{Boxes, Chosen, chosen, report_line}
@@ -112,6 +112,7 @@ Stops named found e WriteFault = ⊥
 Stops named found e Stopped = ⊥
 Stops named found e (Input place) = (named TheInput ≡ true) × OfFile e.before (λ held. found held ≡ Err (Input place)) (λ content. input_in (Some content) ≡ Err (Input place))
 Stops named found e (Stuck reason place) = ⊥
+Stops named found e (NotStrict breach place) = ⊥
 Stops named found e NoMemory = Unit {0}
 
 -- the run

@@ -35,6 +35,8 @@ pub enum Named {
     Profile,
     /// `soak`.
     Soak,
+    /// `check`.
+    Check,
     /// No command.
     Nothing,
 }
@@ -53,6 +55,8 @@ pub fn lookup(name: &str) -> Named
         Named::Profile
     } else if name == "soak" {
         Named::Soak
+    } else if name == "check" {
+        Named::Check
     } else {
         Named::Nothing
     }

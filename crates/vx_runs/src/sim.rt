@@ -125,7 +125,7 @@ fn load_machine<D: Depot>(
 }
 
 /// Reads the words, the machine and the input, each whole before the next.
-fn load<D: Depot>(
+pub(crate) fn load<D: Depot>(
     alloc: Global,
     depot: &mut D,
     words: &str,

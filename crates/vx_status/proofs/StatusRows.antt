@@ -6,7 +6,8 @@ use Rattle.vx_base.specs.declared.outcome.Reason.TheVariants.{Overfull}
 use Rattle.vx_base.specs.declared.outcome.Trap.TheVariants.{Divide}
 use Rattle.vx_io.specs.declared.role.Role.TheVariants.{Profile as TheProfile, Source as TheSource}
 use Rattle.vx_machine.specs.Descriptions.{names}
-use Rattle.vx_status.specs.declared.status.Status.TheVariants.{Trapped, Source, Limit, Words, Profile, Machine, NoFile, ReadFault, Input, Stuck}
+use Rattle.vx_status.specs.declared.status.Breach.TheVariants.{Unfit, Pending}
+use Rattle.vx_status.specs.declared.status.Status.TheVariants.{Trapped, Source, Limit, Words, Profile, Machine, NoFile, ReadFault, Input, Stuck, NotStrict}
 use Rattle.vx_status.specs.Status.{no_box_line, status_line}
 
 of_a_trap : status_line (Trapped Divide) ≡ codes "trap 1 divide\n"
@@ -49,6 +50,14 @@ of_an_input = refl
 of_a_stuck_run : status_line (Stuck Overfull 0) ≡ codes "stuck overfull at word 0\n"
 unfolding digits
 of_a_stuck_run = refl
+
+of_an_unfit_word : status_line (NotStrict Unfit 0) ≡ codes "unfit at word 0\n"
+unfolding digits
+of_an_unfit_word = refl
+
+of_a_pending_word : status_line (NotStrict Pending 2) ≡ codes "pending at word 2\n"
+unfolding digits
+of_a_pending_word = refl
 
 of_no_box : no_box_line (codes "late") ≡ codes "no box late\n"
 of_no_box = refl

@@ -9,8 +9,10 @@ use Rattle.vx_base.specs.declared.outcome.Trap.TheVariants.{Divide, Index, Input
 use Rattle.vx_machine.specs.Descriptions.{name_of}
 use Rattle.vx_io.specs.declared.role.Role.{Role}
 use Rattle.vx_io.specs.declared.role.Role.TheVariants.{Source as TheSource, Words as TheWords, Profile as TheProfile, Machine as TheMachine, Input as TheInput}
+use Rattle.vx_status.specs.declared.status.Breach.{Breach}
+use Rattle.vx_status.specs.declared.status.Breach.TheVariants.{Unfit, Pending}
 use Rattle.vx_status.specs.declared.status.Status.{Status}
-use Rattle.vx_status.specs.declared.status.Status.TheVariants.{Done, Trapped, Usage, Source, Limit, Words, Profile, Machine, NoFile, ReadFault, WriteFault, Stopped, Input, Stuck, NoMemory}
+use Rattle.vx_status.specs.declared.status.Status.TheVariants.{Done, Trapped, Usage, Source, Limit, Words, Profile, Machine, NoFile, ReadFault, WriteFault, Stopped, Input, Stuck, NoMemory, NotStrict}
 
 abbrev pub number_of : Status → ℕ
 number_of Done = 0
@@ -28,6 +30,7 @@ number_of Stopped = 11
 number_of (Input place) = 12
 number_of (Stuck reason place) = 13
 number_of NoMemory = 14
+number_of (NotStrict breach place) = 15
 
 abbrev pub role_name : Role → List ℕ
 role_name TheSource = codes "source"
@@ -42,6 +45,10 @@ reason_name BadWord = codes "bad word"
 reason_name Overfull = codes "overfull"
 reason_name BadAddress = codes "bad address"
 reason_name NoInputLeft = codes "no input left"
+
+abbrev pub breach_name : Breach → List ℕ
+breach_name Unfit = codes "unfit"
+breach_name Pending = codes "pending"
 
 -- some words, and a number in decimal behind them
 abbrev pub counted : (words : List ℕ) → ℕ → List ℕ
@@ -78,6 +85,7 @@ status_line Stopped = codes "stopped\n"
 status_line (Input place) = counted (codes "input at ") place ++ 10 ∷ []
 status_line (Stuck reason place) = codes "stuck " ++ reason_name reason ++ counted (codes " at word ") place ++ 10 ∷ []
 status_line NoMemory = codes "no memory\n"
+status_line (NotStrict breach place) = breach_name breach ++ counted (codes " at word ") place ++ 10 ∷ []
 
 -- the line of a name that no box has
 abbrev pub no_box_line : (name : List ℕ) → List ℕ

@@ -3,4 +3,4 @@
 
 mod status;
 
-pub use status::{Status, put, put_counted, put_line, put_text, tell};
+pub use status::{Breach, Status, put, put_counted, put_line, put_text, tell};

@@ -2,12 +2,21 @@
 
 ghost use Rattle.std.specs.Prelude.{◌≡◌, ◌++◌, ◌∷◌, [], codes, decimal};
 ghost use Rattle.vx_machine.specs.Descriptions.{name_of};
-ghost use Rattle.vx_status.specs.Status.{number_of, role_name, reason_name, counted, twice_counted, field_words, trap_line, status_line, Puts, Tells, Adds};
+ghost use Rattle.vx_status.specs.Status.{number_of, role_name, reason_name, breach_name, counted, twice_counted, field_words, trap_line, status_line, Puts, Tells, Adds};
 
 use vx_base::outcome::{Reason, Trap};
 use vx_io::role::Role;
 use vx_io::sink::{Sink, SinkFault, put_all};
 use vx_machine::field_name;
+
+/// How a word breaks what a strict program keeps.
+#[derive(Clone, Copy)]
+pub enum Breach {
+    /// The word exceeds the machine.
+    Unfit,
+    /// On some path the word reads a register while a write to it may be in flight.
+    Pending,
+}
 
 /// How a command ended. docs/PROMISES.md says when each comes.
 #[derive(Clone, Copy)]
@@ -46,6 +55,8 @@ pub enum Status {
     Stuck(Reason, u32),
     /// Memory is wanted and not there.
     NoMemory,
+    /// The word at this place breaks what a strict program keeps, for this reason.
+    NotStrict(Breach, u32),
 }
 
 impl Status {
@@ -69,6 +80,7 @@ impl Status {
             Status::Input(_) => 12,
             Status::Stuck(_, _) => 13,
             Status::NoMemory => 14,
+            Status::NotStrict(_, _) => 15,
         }
     }
 }
@@ -262,6 +274,24 @@ fn put_stuck_line<E: Sink>(err: &mut E, reason: Reason, place: u32) -> Result<()
     put_counted_line(err, b" at word ", u64::from(place))
 }
 
+/// The words of a breach in a line.
+fn breach_name(breach: Breach) -> &'static str
+    ensures { result.now ≡ breach_name breach }
+{
+    match breach {
+        Breach::Unfit => "unfit",
+        Breach::Pending => "pending",
+    }
+}
+
+/// Puts how a word breaks what a strict program keeps, and its place.
+fn put_breach_line<E: Sink>(err: &mut E, breach: Breach, place: u32) -> Result<(), SinkFault>
+    ensures { Puts result (status_line (Status.NotStrict breach place)) (E.told err.old) (E.told err.new) (E.faults err.old) (E.faults err.new) }
+{
+    put_text(err, breach_name(breach))?;
+    put_counted_line(err, b" at word ", u64::from(place))
+}
+
 /// Puts the line of a status. A command that is done has none here: what it puts is its own.
 pub fn put_line<E: Sink>(err: &mut E, status: Status) -> Result<(), SinkFault>
     ensures { Puts result (status_line status) (E.told err.old) (E.told err.new) (E.faults err.old) (E.faults err.new) }
@@ -282,6 +312,7 @@ pub fn put_line<E: Sink>(err: &mut E, status: Status) -> Result<(), SinkFault>
         Status::Input(place) => put_input_line(err, place),
         Status::Stuck(reason, place) => put_stuck_line(err, reason, place),
         Status::NoMemory => put(err, b"no memory\n"),
+        Status::NotStrict(breach, place) => put_breach_line(err, breach, place),
     }
 }
 

@@ -19,5 +19,8 @@ returns-in-Profile g c = performed_named _ _ _ _ _ _ _ c.in-Profile.ensures.know
 pub returns-in-Soak : goal.returns-in-Soak
 returns-in-Soak g c = performed_named _ _ _ _ _ _ _ c.in-Soak.ensures.known (c.in-Soak.ensures.asks _) (c.perform_soak.ensures _ _ (read_nothing _ _ _))
 
+pub returns-in-Check : goal.returns-in-Check
+returns-in-Check g c = performed_named _ _ _ _ _ _ _ c.in-Check.ensures.known (c.in-Check.ensures.asks _) (c.perform_check.ensures _)
+
 pub returns-in-Nothing : goal.returns-in-Nothing
 returns-in-Nothing g c = performed_none _ _ _ _ _ _ (record { files = refl; reads = refl; replaces = refl; output = refl; faults = refl }) (inr (c.tell.ensures.same, c.in-Nothing.ensures.asks _)) c.tell.ensures.tells c.tell.ensures.adds

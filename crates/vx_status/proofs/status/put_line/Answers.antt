@@ -43,5 +43,8 @@ returns-in-Stuck g c = puts_as (ap status_line (sym c.in-Stuck.is)) c.put_stuck_
 pub returns-in-NoMemory : goal.returns-in-NoMemory
 returns-in-NoMemory g c = puts_as (ap status_line (sym c.in-NoMemory.is)) c.put-in-NoMemory.ensures
 
+pub returns-in-NotStrict : goal.returns-in-NotStrict
+returns-in-NotStrict g c = puts_as (ap status_line (sym c.in-NotStrict.is)) c.put_breach_line.ensures
+
 pub returns-in-Source : goal.returns-in-Source
 returns-in-Source g c = puts_as (ap status_line (sym c.in-Source.is)) c.put_source_line.ensures
