@@ -9,3 +9,4 @@ pub mod Performing
 pub mod Executed
 pub mod SoakLaws
 pub mod Completed
+mod Passed

@@ -7,3 +7,4 @@ pub mod SoakSteps
 pub mod Commands
 pub mod Performed
 pub mod Always
+pub mod Passing
