@@ -7,3 +7,4 @@ pub mod arithmetic;
 pub mod laws;
 pub mod listed;
 pub mod outcome;
+pub mod sizes;

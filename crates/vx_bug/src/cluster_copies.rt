@@ -1,7 +1,7 @@
 // The trace with the copies that its operations need: one that reads a value on another cluster than the value's home reads
 // a copy, which stands directly before the first use that it serves. specs/Copies.antt says the same.
 
-ghost use Rattle.std.specs.Prelude.{◌≡◌, ◌++◌, ◌+◌, ◌*◌, [], ◌∷◌, IfOk, OnOk, map, not, nat_eq, ◌==◌};
+ghost use Rattle.std.specs.Prelude.{◌≡◌, ◌++◌, ◌*◌, [], ◌∷◌, IfOk, OnOk, map, not, nat_eq, ◌==◌};
 ghost use Rattle.std.specs.List.{list_any, filter};
 ghost use Rattle.vx_flow.specs.Operands.{with_value_in};
 ghost use Rattle.vx_bug.specs.Clusters.{some_of, general_reads};
@@ -15,6 +15,7 @@ use crate::values::{general_reads, written};
 use std::alloc::Global;
 use vx_base::listed::Listed;
 use vx_base::outcome::NoMemory;
+use vx_base::sizes::sum;
 use vx_flow::copies::copied_op;
 use vx_flow::graph::{Op, Operand, Value};
 use vx_flow::operands::{first_operand, second_operand, with_two};
@@ -41,15 +42,6 @@ pub struct Standings {
 pub(crate) struct Needed {
     pub(crate) first: Option<Value>,
     pub(crate) second: Option<Value>,
-}
-
-fn sum(left: u32, right: u32) -> Result<u32, NoMemory>
-    ensures { IfOk result (λ sum. sum ≡ left + right) }
-{
-    match left.checked_add(right) {
-        Some(sum) => Ok(sum),
-        None => Err(NoMemory),
-    }
 }
 
 fn product(left: u32, right: u32) -> Result<u32, NoMemory>

@@ -12,8 +12,9 @@ ghost use Rattle.vx_calls.specs.Globals.{begins_from, first_from, firsts_from, i
 use std::alloc::Global;
 use vx_base::listed::Listed;
 use vx_base::outcome::NoMemory;
+use vx_base::sizes::sum;
 use vx_flow::graph::Global as Variable;
-use vx_slots::numbers::{DEEPEST, sum};
+use vx_slots::numbers::DEEPEST;
 use vx_slots::program::Sizes;
 
 /// The most bytes of a memory; a larger one is want of memory.

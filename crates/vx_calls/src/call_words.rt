@@ -14,10 +14,11 @@ use std::alloc::Global;
 use vx_base::arithmetic::{Code, Compare};
 use vx_base::listed::Listed;
 use vx_base::outcome::NoMemory;
+use vx_base::sizes::sum;
 use vx_flow::graph::{Operand, Value};
 use vx_isa::operation::{BranchRegister, GeneralRegister, Operation, Register, Source};
 use vx_isa::program::Word;
-use vx_slots::numbers::{DEEPEST, bytes, sum};
+use vx_slots::numbers::{DEEPEST, bytes};
 use vx_slots::program::{Whole, slot, start};
 use vx_slots::registers::{general, general_of, home, is_slotted, stack_on};
 use vx_slots::transfers::{

@@ -13,10 +13,10 @@ use crate::saves::{Saves, saves_of};
 use std::alloc::Global;
 use vx_base::listed::Listed;
 use vx_base::outcome::NoMemory;
+use vx_base::sizes::{number_of, sum};
 use vx_flow::graph::{Array, Graph, Value};
 use vx_mixed::layout::VWords;
 use vx_regs::map::{Kept, RegMap};
-use vx_slots::numbers::{number_of, sum};
 use vx_slots::program::FunctionFrame;
 
 /// Makes room for the mark of a value.

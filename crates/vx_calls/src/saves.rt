@@ -12,11 +12,11 @@ ghost use Rattle.vx_calls.specs.Saves.{arrival, arrives, in_register, in_registe
 use std::alloc::Global;
 use vx_base::listed::Listed;
 use vx_base::outcome::NoMemory;
+use vx_base::sizes::{number_of, sum};
 use vx_flow::graph::{Graph, Value};
 use vx_mixed::layout::{VWords, VirtualWord};
 use vx_regs::liveness::{Living, lives_at, living_of};
 use vx_regs::map::{Kept, RegMap};
-use vx_slots::numbers::{number_of, sum};
 
 /// The values of a function that are stored and fetched round its calls and at its entry.
 #[derive(Drop)]

@@ -2,7 +2,7 @@
 // words over values, the values kept in registers and slots, and all finished as one program. The clause of `compile` is the
 // promise of the compiler (specs/Compiled.antt of vx_compiled); what holds between its steps stands in specs/Stages.antt.
 
-ghost use Rattle.std.specs.Prelude.{◌≡◌, ◌+◌, true, length, IfOk};
+ghost use Rattle.std.specs.Prelude.{◌≡◌, true, length, IfOk};
 ghost use Rattle.vx_ast.specs.Tree.{Program};
 ghost use Rattle.vx_ast.specs.View as view;
 ghost use Rattle.vx_flow.specs.Sound.{is_sound_flow};
@@ -19,6 +19,7 @@ use vx_ast::typed::Typed;
 use vx_base::laws::same_is_transitive;
 use vx_base::listed::Listed;
 use vx_base::outcome::NoMemory;
+use vx_base::sizes::sum;
 use vx_clean::clean;
 use vx_compiled::{CompiledProgram, FlowSize, SizedProgram};
 use vx_flow::graph::{Flow, Graph};
@@ -85,16 +86,6 @@ fn slot_of(kept: &Kept) -> u32
     }
 }
 
-/// A sum below 2^32. A larger one counts as want of memory.
-fn sum_of(left: u32, right: u32) -> Result<u32, NoMemory>
-    ensures { IfOk result (λ sum. sum ≡ left + right) }
-{
-    match left.checked_add(right) {
-        Some(sum) => Ok(sum),
-        None => Err(NoMemory),
-    }
-}
-
 /// How many values of a function are in slots.
 #[tactic(auto, using(std::proofs::lemmas::List::Sums::sum_by_more))]
 fn slots_in(values: &[Kept]) -> Result<u32, NoMemory>
@@ -102,7 +93,7 @@ fn slots_in(values: &[Kept]) -> Result<u32, NoMemory>
 {
     let mut count = 0;
     for kept in values {
-        count = sum_of(count, slot_of(kept))?;
+        count = sum(count, slot_of(kept))?;
     }
     Ok(count)
 }
@@ -115,7 +106,7 @@ fn all_slots_in(maps: &[RegMap]) -> Result<u32, NoMemory>
     let mut count = 0;
     for map in maps {
         let more = slots_in(map.values.as_slice())?;
-        count = sum_of(count, more)?;
+        count = sum(count, more)?;
     }
     Ok(count)
 }
@@ -153,7 +144,7 @@ fn blocks_in(graphs: &[Graph]) -> Result<u32, NoMemory>
 {
     let mut count = 0;
     for graph in graphs {
-        count = sum_of(count, graph.blocks.len() as u32)?;
+        count = sum(count, graph.blocks.len() as u32)?;
     }
     Ok(count)
 }

@@ -13,6 +13,7 @@ ghost use Rattle.vx_slots.specs.Seen.{seen};
 use std::alloc::Global;
 use vx_base::listed::Listed;
 use vx_base::outcome::{NoMemory, Trap};
+use vx_base::sizes::sum;
 use vx_calls::call_words::{
     follows, push_back, push_call, push_entry, push_return, push_start, push_way,
 };
@@ -21,7 +22,6 @@ use vx_flow::graph::{Operand, Value};
 use vx_isa::operation::Operation;
 use vx_isa::program::Word;
 use vx_mixed::layout::{Laid, VirtualWord};
-use vx_slots::numbers::sum;
 use vx_slots::program::{FunctionPlaces, Sizes, Whole, words_of};
 use vx_slots::transfers::{push_idle, push_one, push_pause};
 

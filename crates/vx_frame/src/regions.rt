@@ -8,9 +8,9 @@ ghost use Rattle.vx_slots.specs.Seen.{no_places};
 use std::alloc::Global;
 use vx_base::listed::Listed;
 use vx_base::outcome::NoMemory;
+use vx_base::sizes::sum;
 use vx_mixed::layout::{VWords, VirtualWord};
 use vx_mixed::rows::{empty_rows, put};
-use vx_slots::numbers::sum;
 use vx_slots::program::{FunctionPlaces, number_at};
 use vx_target::finished::TracePlaces;
 

@@ -10,20 +10,12 @@ ghost use Rattle.vx_layout.specs.Laying.{place_in, places_of, starts_of};
 use std::alloc::Global;
 use vx_base::listed::{Listed, copied};
 use vx_base::outcome::NoMemory;
+use vx_base::sizes::sum;
 use vx_flow::copies::copied_homes;
 use vx_flow::graph::{BlockId, Exit};
 use vx_mixed::layout::{Laid, VWords, VirtualWord};
 use vx_mixed::mixed::MixedGraph;
 use vx_mixed::region::{Item, Node, Region};
-
-fn sum(left: u32, right: u32) -> Result<u32, NoMemory>
-    ensures { IfOk result (λ sum. sum ≡ left + right) }
-{
-    match left.checked_add(right) {
-        Some(sum) => Ok(sum),
-        None => Err(NoMemory),
-    }
-}
 
 // sizes
 

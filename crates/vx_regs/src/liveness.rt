@@ -9,11 +9,11 @@ ghost use Rattle.vx_mixed.specs.declared.layout.VirtualWord.{VirtualWord};
 ghost use Rattle.vx_regs.specs.Ways.{LivesAtNodes, lives_there, way_from, way_list, ways_from, word_touches};
 
 use crate::nodes::{Nodes, ends_at, node_at, nodes_of, push_ways};
-use crate::scan::{number_of, sum};
 use crate::touches::{word_reads, word_writes};
 use std::alloc::Global;
 use vx_base::listed::Listed;
 use vx_base::outcome::NoMemory;
+use vx_base::sizes::{number_of, sum};
 use vx_flow::graph::Value;
 use vx_flow::live_on;
 use vx_flow::live_rows::Live;

@@ -6,10 +6,10 @@ ghost use Rattle.std.specs.Prelude.{◌≡◌, ◌<◌, ◌++◌, ◌∷◌, [],
 ghost use Rattle.std.specs.List.{flat_map};
 ghost use Rattle.vx_regs.specs.Ways.{NodesFound, ends_at, item_ways, marked, marked_by_item, marked_by_items, marked_by_word, marked_by_words, next_if, node_in, node_list, number_if, numbered, starts, steps_on, word_ways};
 
-use crate::scan::sum;
 use std::alloc::Global;
 use vx_base::listed::Listed;
 use vx_base::outcome::NoMemory;
+use vx_base::sizes::sum;
 use vx_mixed::layout::{Laid, VWords, VirtualWord};
 
 /// The nodes of a layout.

@@ -12,18 +12,9 @@ use crate::map::Kept;
 use crate::spans::Span;
 use std::alloc::Global;
 use vx_base::outcome::NoMemory;
+use vx_base::sizes::{number_of, sum};
 use vx_flow::graph::Value;
 use vx_machine::Machine;
-
-/// The sum of two numbers; one past `u32` is want of memory.
-pub(crate) fn sum(left: u32, right: u32) -> Result<u32, NoMemory>
-    ensures { IfOk result (λ sum. sum ≡ left + right) }
-{
-    match left.checked_add(right) {
-        Some(sum) => Ok(sum),
-        None => Err(NoMemory),
-    }
-}
 
 /// The first allocatable register of a file.
 fn first_register(machine: &Machine, file: u32) -> u32
@@ -158,16 +149,6 @@ fn put(kept: &mut Vec<Kept>, value: Value, place: Kept)
 {
     if (value as usize) < kept.len() {
         kept[value as usize] = place;
-    }
-}
-
-/// A place as a number; one past `u32` is want of memory.
-pub(crate) fn number_of(count: usize) -> Result<u32, NoMemory>
-    ensures { IfOk result (λ number. number ≡ count) }
-{
-    match u32::try_from(count) {
-        Ok(number) => Ok(number),
-        Err(_) => Err(NoMemory),
     }
 }
 

@@ -10,13 +10,14 @@ ghost use Rattle.vx_isa.specs.declared.operation.Source.TheVariants.{Held, Numbe
 ghost use Rattle.vx_target.specs.Target.{answer, stack_on, general_of, branch_of, one, together, waits, pause, latest, in_flight, settled, load_slot, store_slot, load_slots, store_slots};
 ghost use Rattle.vx_slots.specs.Seen.{seen};
 
-use crate::numbers::{MOST_NAMES, bytes, sum};
+use crate::numbers::{MOST_NAMES, bytes};
 use crate::program::{Whole, slot};
 use crate::registers::{branch_of, general, general_of, holds_branch, stack_on};
 use std::alloc::Global;
 use vx_base::arithmetic::{Code, Compare};
 use vx_base::listed::{Listed, copied};
 use vx_base::outcome::NoMemory;
+use vx_base::sizes::sum;
 use vx_flow::graph::Value;
 use vx_isa::operation::{BranchRegister, GeneralRegister, Operation, Register, Source};
 use vx_isa::program::Word;
