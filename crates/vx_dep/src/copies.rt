@@ -1,5 +1,8 @@
 // What a placement owes at the edges of its trace.
 
+ghost use Rattle.std.specs.Prelude.{◌≡◌};
+ghost use Rattle.vx_dep.specs.Compensation.{word_at};
+
 use vx_base::listed::Listed;
 use vx_flow::graph::{BlockId, Edge};
 
@@ -25,4 +28,14 @@ pub struct Rejoin {
     pub word: u32,
     /// The places of the operations, ascending.
     pub copies: Listed<u32>,
+}
+
+/// The word of the operation at a place; 0 where none stands there.
+pub fn word_at(words: &[u32], place: u32) -> u32
+    ensures { result ≡ word_at words.now place }
+{
+    match words.get(place as usize) {
+        Some(word) => *word,
+        None => 0,
+    }
 }

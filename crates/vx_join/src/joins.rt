@@ -2,12 +2,12 @@
 // join, and what stood below it and is placed before that word is done on the edge too.
 
 ghost use Rattle.std.specs.Prelude.{◌≡◌, ◌++◌, ◌∷◌, ℕ, List, if◌then◌else◌, nat_lt, suc, max, take, map, IfOk, OnOk};
-ghost use Rattle.vx_dep.specs.Compensation.{word_at, greatest, rejoin_word, copies_at_join, rejoin_of, at_joins_of};
+ghost use Rattle.vx_dep.specs.Compensation.{greatest, rejoin_word, copies_at_join, rejoin_of, at_joins_of};
 
 use std::alloc::Global;
 use vx_base::listed::Listed;
 use vx_base::outcome::NoMemory;
-use vx_dep::copies::Rejoin;
+use vx_dep::copies::{Rejoin, word_at};
 use vx_flow::trace::{Join, Placed};
 
 /// For each join of a placed trace, in their order: its block, the first word after every operation that stood above it,
@@ -103,16 +103,6 @@ fn copies_at(
         }
         push_earlier(&mut copies, rejoin, place, word_at(words.as_slice(), place))?;
         place += 1;
-    }
-}
-
-/// The word of the operation at a place.
-fn word_at(words: &[u32], place: u32) -> u32
-    ensures { result ≡ word_at words.now place }
-{
-    match words.get(place as usize) {
-        Some(word) => *word,
-        None => 0,
     }
 }
 

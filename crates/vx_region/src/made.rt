@@ -7,11 +7,10 @@ ghost use Rattle.vx_dep.specs.declared.copies.EdgeCopies.{EdgeCopies};
 ghost use Rattle.vx_dep.specs.Compensation.{word_at, at_splits_of, is_freed};
 ghost use Rattle.vx_region.specs.Planned.{op_of, ops_at, cluster_of, clusters_at, dismissed_if, placed_at, made_of, made_at_splits, made_at_joins};
 
-use crate::waits::word_at;
 use std::alloc::Global;
 use vx_base::listed::Listed;
 use vx_base::outcome::NoMemory;
-use vx_dep::copies::{EdgeCopies, Rejoin};
+use vx_dep::copies::{EdgeCopies, Rejoin, word_at};
 use vx_flow::graph::{Edge, Op};
 use vx_flow::operands::dismissed;
 use vx_flow::trace::{Join, Placed, TraceOp};

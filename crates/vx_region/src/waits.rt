@@ -3,7 +3,7 @@
 ghost use Rattle.std.specs.Prelude.{◌≡◌, ◌+◌, ◌-◌, max, nat_le};
 ghost use Rattle.vx_dep.specs.Compensation.{word_at, greatest, left_at, all_left_at, drain_at};
 
-use vx_dep::copies::EdgeCopies;
+use vx_dep::copies::{EdgeCopies, word_at};
 use vx_flow::trace::{Placed, TraceOp};
 use vx_machine::Machine;
 use vx_machine::items::Item;
@@ -82,15 +82,5 @@ fn left_behind(latency: u32, passed: u64) -> u32
         latency - passed as u32
     } else {
         0
-    }
-}
-
-/// The word of the operation at a place.
-pub(crate) fn word_at(words: &[u32], place: u32) -> u32
-    ensures { result ≡ word_at words.now place }
-{
-    match words.get(place as usize) {
-        Some(word) => *word,
-        None => 0,
     }
 }

@@ -1,12 +1,12 @@
 // The copies at splits, after Fisher, 1981: what stands above a split and is placed in a later word is done on the edge too.
 
 ghost use Rattle.std.specs.Prelude.{◌≡◌, ◌++◌, ◌∷◌, ℕ, List, if◌then◌else◌, nat_lt, IfOk, OnOk};
-ghost use Rattle.vx_dep.specs.Compensation.{word_at, copies_at_split, split_at, at_splits_of};
+ghost use Rattle.vx_dep.specs.Compensation.{copies_at_split, split_at, at_splits_of};
 
 use std::alloc::Global;
 use vx_base::listed::Listed;
 use vx_base::outcome::NoMemory;
-use vx_dep::copies::EdgeCopies;
+use vx_dep::copies::{EdgeCopies, word_at};
 use vx_flow::trace::{Placed, TraceOp};
 
 /// For each split of a placed trace, in the order of the trace: its place, its edge, and the places of the operations that
@@ -84,14 +84,4 @@ fn push_later(copies: &mut Listed<u32>, split: u32, place: u32, word: u32) -> Re
         copies.push(place)?;
     }
     Ok(())
-}
-
-/// The word of the operation at a place.
-fn word_at(words: &[u32], place: u32) -> u32
-    ensures { result ≡ word_at words.now place }
-{
-    match words.get(place as usize) {
-        Some(word) => *word,
-        None => 0,
-    }
 }
