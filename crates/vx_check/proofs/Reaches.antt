@@ -6,10 +6,12 @@ use Rattle.vx_flow.specs.Effects.{IsIn}
 use Rattle.vx_flow.specs.Rows.{is_marked}
 use Rattle.vx_flow.proofs.Members.{in_left, in_front_or_last, in_last}
 use Rattle.vx_flow.proofs.ClosingSteps.{set_only, set_keeps, set_self}
+use Rattle.vx_flow.proofs.HeaderSteps.{length_set}
+use Rattle.vx_flow.proofs.Remaining.{set_less}
 use Rattle.vx_isa.specs.declared.program.Word.{Word}
 use Rattle.vx_isa.specs.declared.program.WordProgram.{WordProgram}
 use Rattle.vx_isa.specs.Paths.{Leads, LeadsTo, WordAt}
-use Rattle.vx_check.specs.InFlight.{IsFilled, Marked, Reaching, ReachedMarks, leads_anywhere, places_of, unmarked}
+use Rattle.vx_check.specs.InFlight.{IsFilled, Marked, Reaching, ReachedMarks, leads_anywhere, places_of}
 use Rattle.vx_check.proofs.Leading.{leads_by, leads_everywhere, leads_to}
 
 -- rows
@@ -18,18 +20,6 @@ pub mark_within : (row : List Bool) (q : ℕ) → is_marked row q ≡ true → q
 mark_within [] q h = absurd (cc)
 mark_within (x ∷ row) zero h = omega arith
 mark_within (x ∷ row) (suc q) h = let k = mark_within row q h in omega arith
-
-pub set_less : (row : List Bool) (p : ℕ) → p < length row → is_marked row p ≡ false → unmarked (slice_set row p true) + 1 ≡ unmarked row
-set_less [] p h e = absurd (omega arith)
-set_less (true ∷ row) zero h e = absurd (cc)
-set_less (false ∷ row) zero h e = refl
-set_less (true ∷ row) (suc p) h e = set_less row p (omega arith) e
-set_less (false ∷ row) (suc p) h e = ap (λ n. n + 1) (set_less row p (omega arith) e)
-
-pub set_len : (row : List Bool) (p : ℕ) → length (slice_set row p true) ≡ length row
-set_len [] p = refl
-set_len (x ∷ row) zero = refl
-set_len (x ∷ row) (suc p) = ap suc (set_len row p)
 
 pub word_there : {A : Type 0} (xs : List A) (p : ℕ) → p < length xs → (x : A) × (slice_get xs p ≡ Some x)
 word_there [] p h = absurd (omega arith)
@@ -55,7 +45,7 @@ last_is p q waiting h = in_front_or_last q p waiting h
 
 pub marks_new : (p : ℕ) (marks : List Bool) (waiting : List ℕ) → p < length marks → is_marked marks p ≡ false → Marked (p ∷ []) marks (slice_set marks p true) waiting (waiting ++ p ∷ [])
 marks_new p marks waiting lt unset = record {
-  len = set_len marks p;
+  len = length_set marks p;
   keeps = set_keeps marks p;
   waits = λ q h. in_left q waiting (p ∷ []) h;
   anew = λ q h. ⊎_elim (λ a. inl a) (λ e. inr (subst (λ z. IsIn z (waiting ++ p ∷ [])) (sym e) (in_last p waiting), inl e)) (set_only marks p q h);

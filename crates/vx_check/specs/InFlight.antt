@@ -3,7 +3,7 @@
 use Rattle.std.specs.Prelude.{◌≡◌, ◌⊎◌, ◌<◌, ◌≤◌, ℕ, ◌+◌, Bool, true, false, List, [], ◌∷◌, Some, length, max, not, ◌&&◌, ◌||◌, nat_lt, if◌then◌else◌}
 use Rattle.vx_base.specs.Paths.{After, Reached}
 use Rattle.vx_flow.specs.Effects.{IsIn}
-use Rattle.vx_flow.specs.Rows.{is_marked, row_at}
+use Rattle.vx_flow.specs.Rows.{is_marked, row_at, work}
 use Rattle.vx_isa.specs.declared.operation.Register.{Register}
 use Rattle.vx_isa.specs.declared.operation.Operation.{Operation}
 use Rattle.vx_isa.specs.declared.operation.Operation.TheVariants.{Goto, BranchOn, Call, Return, EndByTrap, Halt}
@@ -52,15 +52,6 @@ pub record Reaching (w : WordProgram) (marks : List Bool) (waiting : List ℕ) :
   pub waits : (q : ℕ) → IsIn q waiting → is_marked marks q ≡ true
   pub closed : (p q : ℕ) → is_marked marks p ≡ true → Leads w p q → IsIn p waiting ⊎ (is_marked marks q ≡ true)
   pub begun : 0 < length marks → is_marked marks 0 ≡ true
-
--- how much is left to do: a place that is not marked counts twice, one that waits once
-abbrev pub unmarked : List Bool → ℕ
-unmarked [] = 0
-unmarked (true ∷ marks) = unmarked marks
-unmarked (false ∷ marks) = unmarked marks + 1
-
-abbrev pub work : List Bool → List ℕ → ℕ
-work marks waiting = unmarked marks + unmarked marks + length waiting
 
 -- places are marked that were not, and wait
 pub record Marked (places : List ℕ) (marks marks' : List Bool) (waiting waiting' : List ℕ) : Type 0 where

@@ -6,7 +6,7 @@ use Rattle.vx_flow.specs.declared.graph.Exit.{Exit}
 use Rattle.vx_flow.specs.declared.graph.Exit.TheVariants.{Goto, Split, Call, Return, Ends}
 use Rattle.vx_flow.specs.declared.graph.Block.{Block}
 use Rattle.vx_flow.specs.declared.graph.Graph.{Graph}
-use Rattle.vx_flow.specs.Effects.{Content, State, Setting, IsIn, held, is_one, effect, value_in, writes}
+use Rattle.vx_flow.specs.Effects.{Content, State, Setting, IsIn, held, is_one, effect, writes}
 use Rattle.vx_flow.specs.Meaning.{Hop, Arrives, Calls, Leaves, known, by_test, calls, leaves, leave, and_then, block_hop, hop_of}
 use Rattle.vx_flow.specs.Sound.{targets_of, results_of_exit}
 use Rattle.vx_flow.specs.Live.{IsLive, here, beyond, ReadsFirst, NeverWrites}

@@ -19,3 +19,4 @@ pub mod SoundLaw
 pub mod SoundFlowLaw
 pub mod EffectsAlike
 pub mod HopsAlike
+pub mod Remaining

@@ -1,5 +1,5 @@
 -- Rows of growing tables. A row that is not there is empty.
-use Rattle.std.specs.Prelude.{◌≡◌, ◌==◌, ◌<◌, ◌∷◌, ◌++◌, ℕ, Bool, false, List, [], Some, slice_get, slice_index_or}
+use Rattle.std.specs.Prelude.{◌≡◌, ◌==◌, ◌<◌, ◌+◌, ◌∷◌, ◌++◌, ℕ, Bool, true, false, List, [], Some, length, slice_get, slice_index_or}
 use Rattle.std.specs.List.{list_any}
 use Rattle.vx_flow.specs.Effects.{IsIn}
 
@@ -9,6 +9,16 @@ row_at rows place = slice_index_or rows place []
 -- whether a place of a row is marked
 abbrev pub is_marked : List Bool → ℕ → Bool
 is_marked row place = slice_index_or row place false
+
+-- how many places of a row are not marked
+abbrev pub unmarked : List Bool → ℕ
+unmarked [] = 0
+unmarked (true ∷ marks) = unmarked marks
+unmarked (false ∷ marks) = unmarked marks + 1
+
+-- what is left to do where each place that is marked is followed once: one that is not marked counts twice, one that waits once
+abbrev pub work : List Bool → (waiting : List ℕ) → ℕ
+work marks waiting = unmarked marks + unmarked marks + length waiting
 
 -- what is in a row stays there
 abbrev pub RowsKept : List (List ℕ) → List (List ℕ) → Type 0

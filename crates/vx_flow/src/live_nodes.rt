@@ -2,12 +2,12 @@
 // what holds meanwhile. Then the value is listed under them, and no node is marked again. The time is that of looking at the
 // routes into the nodes that are marked.
 
-ghost use Rattle.std.specs.Prelude.{◌≡◌, ◌↔◌, ◌==◌, ◌<◌, ℕ, true, false, [], if◌then◌else◌, IfOk, Some, None, length, slice_get};
+ghost use Rattle.std.specs.Prelude.{◌≡◌, ◌↔◌, ◌==◌, ◌<◌, ◌≤◌, ℕ, true, false, [], if◌then◌else◌, IfOk, Some, None, length, slice_get};
 ghost use Rattle.vx_flow.specs.declared.routes.Route.{Route};
 ghost use Rattle.vx_flow.specs.Effects.{IsIn};
 ghost use Rattle.std.specs.List.{list_any};
 ghost use Rattle.vx_flow.specs.Live.{first_touch, LiveOn};
-ghost use Rattle.vx_flow.specs.Rows.{Added, is_marked};
+ghost use Rattle.vx_flow.specs.Rows.{Added, is_marked, work};
 ghost use Rattle.vx_flow.specs.Closing.{BeginWithin, Closing, EnteringFound, PutUnder, Spreads, Starting, cleared_row, marked_pending, marked_row, passes, pending_passed, pending_started, row_passed, row_started, starts};
 
 use crate::graph::{BlockId, Value};
@@ -164,6 +164,7 @@ fn follow_all(
     requires within { BeginWithin (length row.old.items) routes.now }
     requires closing { Closing routes.now value node entering.now row.old.items pending.old.items }
     ensures closed { IfOk result (λ _. Closing routes.now value node [] row.new.items pending.new.items) }
+    ensures less { IfOk result (λ _. work row.new.items pending.new.items ≤ work row.old.items pending.old.items) }
     ensures spreads { IfOk result (λ _. Spreads row.old.items row.new.items pending.old.items pending.new.items) }
     ensures len { length row.new.items ≡ length row.old.items }
 {
@@ -185,7 +186,7 @@ pub fn unmarked(alloc: Global, nodes: usize) -> Result<Vec<bool>, NoMemory>
     Ok(row)
 }
 
-/// Marks the nodes where a value is live, and gives them. Each node pends once, so the bound of the loop is never met.
+/// Marks the nodes where a value is live, and gives them. Each node pends once.
 pub fn live_nodes(
     alloc: Global,
     routes: &[Route],
@@ -205,7 +206,7 @@ pub fn live_nodes(
     let mut found = Vec::new(alloc);
     let mut pending = Vec::new(alloc);
     start_all(routes, readers, value, row, &mut pending)?;
-    'pending: for _ in 0..u64::MAX {
+    'pending: loop {
         match pending.pop() {
             Some(node) => {
                 let routes_in = entering.of(node as usize);
@@ -215,7 +216,6 @@ pub fn live_nodes(
             None => return Ok(found),
         }
     }
-    Err(NoMemory)
 }
 
 /// Takes the mark of a node away, and puts the value at the end of its row; a node that is not marked is let be.

@@ -48,7 +48,7 @@ fn walk(
     let mut places: Vec<Place> = Vec::new(alloc);
     let mut back: Vec<Edge> = Vec::new(alloc);
     let mut root: BlockId = 0;
-    'steps: for _ in 0..u64::MAX {
+    'steps: loop {
         match places.pop() {
             Some(place) => {
                 let next = successor(graph, place.block, place.taken);
@@ -63,7 +63,6 @@ fn walk(
             }
         }
     }
-    Err(NoMemory)
 }
 
 /// One step from the last place of the path, which was taken off, to its next successor.
@@ -76,6 +75,7 @@ fn step(
     back: &mut Vec<Edge>,
 ) -> Result<(), NoMemory>
     requires block { place.block < length on_path.old.items }
+    requires few { IfSome next (λ c. place.taken < 2) }
     requires seen_has { IfSome next (λ c. c < length seen.old.items) }
     requires path_has { IfSome next (λ c. c < length on_path.old.items) }
     ensures seen { IfOk result (λ _. seen.new.items ≡ seen_after next seen.old.items on_path.old.items) }
@@ -87,11 +87,8 @@ fn step(
 {
     match next {
         Some(to) => {
-            let taken = match place.taken.checked_add(1) {
-                Some(taken) => taken,
-                None => return Err(NoMemory),
-            };
             let block = place.block;
+            let taken = place.taken + 1;
             places.push(Place { block, taken })?;
             come_to(block, to, seen, on_path, places, back)
         }

@@ -1,4 +1,5 @@
-use Rattle.vx_check.specs.InFlight.{Reaching, work}
+use Rattle.vx_flow.specs.Rows.{work}
+use Rattle.vx_check.specs.InFlight.{Reaching}
 use Rattle.vx_check.proofs.reached.reached.Given as goal
 
 abbrev pub invariant-waiting : goal.invariant-waiting

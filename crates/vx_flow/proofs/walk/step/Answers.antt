@@ -1,8 +1,8 @@
-use Rattle.std.proofs.Common.{◌≡◌, ◌∙◌, ◌<◌, ◌+◌, ℕ, Option, List, [], ◌∷◌, ◌++◌, if◌then◌else◌, IfOk, IfSome, length, ap, subst, sym, arith}
+use Rattle.std.proofs.Common.{◌≡◌, ◌<◌, ℕ, Option, List, if◌then◌else◌, IfOk, IfSome, length, ap, subst, sym}
 use Rattle.std.proofs.lemmas.Result.{IfOk-from_err}
 use Rattle.vx_flow.specs.declared.walk.Place.{Place}
 use Rattle.vx_flow.specs.Rows.{is_marked}
-use Rattle.vx_flow.specs.Walking.{back_after, path_after, place, places_after, places_begun, seen_after}
+use Rattle.vx_flow.specs.Walking.{back_after, path_after, places_after, places_begun, seen_after}
 use Rattle.vx_flow.proofs.walk.step.Goals as goal
 
 pub come_to-requires-clause-seen_has : goal.come_to-requires-clause-seen_has
@@ -24,9 +24,7 @@ returns-in_ok-push-in-Some-clause-places c =
     let seen = c.args.seen.now.items in
     let on_path = c.args.on_path.now.items in
     let to = c.in-Some.to in
-    let h = c.in-Some-checked_add.ensures in
-    let t : c.in-Some-checked_add.taken ≡ c.args.place.taken + 1 = omega arith in
-    let q = c.in_ok-push-in-Some.ensures.items ∙ ap (λ (n : ℕ). c.args.places.now.items ++ place c.args.place.block n ∷ []) t in
+    let q = c.in_ok-push-in-Some.ensures.items in
     subst (λ (o : Option ℕ). IfOk c.come_to.result (λ _. c.come_to.new.places.items ≡ places_after o c.args.place seen on_path c.args.places.now.items)) (sym c.in-Some.is)
     (subst (λ (l : List Place). IfOk c.come_to.result (λ _. c.come_to.new.places.items ≡ (if is_marked on_path to then l else places_begun seen l to))) q c.come_to.ensures.places)
 
