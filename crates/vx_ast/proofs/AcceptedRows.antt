@@ -106,6 +106,10 @@ misplaced = (refl, refl, refl)
 void_calls : (is_suited (with_functions [] (main_of 1 [] (Clear 0 ∷ Simply (Evaluate (Apply 1 (row []))) ∷ [])) (void_function 0 0 [] [] ∷ [])) ≡ true) × (is_suited (with_functions [] (main_of 1 [] (Clear 0 ∷ sets 0 (Apply 1 (row [])) ∷ [])) (void_function 0 0 [] [] ∷ [])) ≡ false)
 void_calls = (refl, refl)
 
--- an array of no words, a scalar that is counted and not declared, a number that is declared twice
-miscounted : (is_suited (only (ArrayGlobal 0 ∷ []) (main_of 0 [] [])) ≡ false) × (is_suited (only [] (main_of 1 [] [])) ≡ false) × (is_suited (only [] (main_of 2 [] (Clear 0 ∷ Clear 0 ∷ []))) ≡ false)
-miscounted = (refl, refl, refl)
+-- an array of no words, a scalar that is counted and not declared, a number that is declared and not counted
+miscounted : (is_suited (only (ArrayGlobal 0 ∷ []) (main_of 0 [] [])) ≡ false) × (is_suited (only [] (main_of 1 [] [])) ≡ false) × (is_suited (only [] (main_of 2 [] (Clear 0 ∷ Clear 0 ∷ []))) ≡ false) × (is_suited (only [] (main_of 1 [] (Clear 0 ∷ Clear 1 ∷ []))) ≡ false)
+miscounted = (refl, refl, refl, refl)
+
+-- a scalar and an array that are declared twice, as a body that is repeated has them
+declared_twice : is_suited (only [] (main_of 1 (2 ∷ []) (Block (list_of (Clear 0 ∷ ClearArray 0 ∷ [])) ∷ Block (list_of (Clear 0 ∷ ClearArray 0 ∷ [])) ∷ []))) ≡ true
+declared_twice = refl

@@ -181,21 +181,17 @@ arrays_of (DoWhile a e) = arrays_of a
 arrays_of (For first test step a) = arrays_of first ++ arrays_of a
 arrays_of s = []
 
-abbrev pub is_distinct : List ℕ → Bool
-is_distinct [] = true
-is_distinct (x ∷ xs) = not (is_in x xs) && is_distinct xs
-
--- so many numbers from a first one on, each once
+-- each of so many numbers from a first one on occurs, and no other does
 abbrev pub are_all_from : (first count : ℕ) → List ℕ → Bool
-are_all_from first count xs = (nat_eq (length xs) count && is_distinct xs) && list_all (λ x. at_most first x && nat_lt x (first + count)) xs
+are_all_from first count xs = list_all (λ k. is_in (first + k) xs) (below count) && list_all (λ x. at_most first x && nat_lt x (first + count)) xs
 
 -- functions and globals
 
 abbrev pub in_force_at_start : Function → Scope
 in_force_at_start f = record { scalars = below f.parameters; arrays = [] }
 
--- each item of the function has a scalar or an array of its own behind its parameters and behind the globals; an
--- array has at least one word
+-- the items of the function have its scalars behind its parameters, and its arrays behind the globals, each of which
+-- some item has; an array has at least one word
 abbrev pub suits_function : Program → Function → Bool
 suits_function p f =
     (suits_code p f.gives false (in_force_at_start f) f.body && at_most f.parameters f.scalars)

@@ -126,6 +126,7 @@ graph_well p f words b g after ew ep ea eb body settled is =
     let banks : g.banks ≡ x.last.banks = eb ∙ ap (λ z. z.banks) x.is in
     let s : Settled (finally x.last).blocks g.blocks = subst (λ z. Settled z.blocks g.blocks) x.is settled in
     let e = is.scalars in
+    let few = is.parameters in
     let cg : count_by is_general g.banks ≡ count_by is_general b.banks = ap (count_by is_general) eb in
     let cb : count_by is_branch g.banks ≡ count_by is_branch b.banks = ap (count_by is_branch) eb in
     let p1 = x.general_values in let p2 = x.branch_values in

@@ -1,4 +1,5 @@
 pub mod Base
+pub mod Occurring
 pub mod Steps
 pub mod Ties
 pub mod Values

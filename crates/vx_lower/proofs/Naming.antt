@@ -16,10 +16,11 @@ use Rattle.vx_ast.specs.declared.tree.Statement.{Statement, Row_of-Statement, en
 use Rattle.vx_ast.specs.declared.tree.Statement.TheVariants.{Empty as AnEmpty, Block', Declaration, Simple as ASimple, Print as APrint, If', IfElse', While', DoWhile', For', Break as ABreak, Continue as AContinue, Return as AReturn, ReturnValue as AReturnValue}
 use Rattle.vx_ast.specs.Tree.{Shape, One, Tree, Literal, Local, Global, Element, Unary, Binary, Both, Either, Choice, Apply, ReadInt, MoreInput, NoMore, Then, Place, InLocal, InGlobal, InElement, Action, Evaluate, Assign, Compound, Increase, Decrease, Code, Nothing, Seq, Empty, Block, Clear, Declare, ClearArray, Simply, Head, Print, If, IfElse, While, DoWhile, For, Break, Continue, Return, ReturnValue, Function, Program}
 use Rattle.vx_ast.specs.View.{item_of, items_of, first_of, step_of, code_of, all_of, all_in}
-use Rattle.vx_ast.specs.Accepted.{Scope, is_in, at_most, below, row_length, can_call, gives_int, is_scalar, is_array, names_array, suits, suits_place, suits_whole, suits_action, is_format, numbers_of, scope_after, suits_test, suits_code, scalars_of, arrays_of, is_distinct, are_all_from, in_force_at_start, suits_function}
+use Rattle.vx_ast.specs.Accepted.{Scope, is_in, at_most, below, row_length, can_call, gives_int, is_scalar, is_array, names_array, suits, suits_place, suits_whole, suits_action, is_format, numbers_of, scope_after, suits_test, suits_code, scalars_of, arrays_of, are_all_from, in_force_at_start, suits_function}
 use Rattle.vx_lower.specs.Named.{Known, TakesArguments, IsNamed, PlaceNamed, ActionNamed, TestNamed, CodeNamed}
 use Rattle.vx_lower.specs.FunctionShape.{known_of, FunctionNamed}
 use Rattle.vx_lower.proofs.Base.{and_one, and_two}
+use Rattle.vx_lower.proofs.Occurring.{all_occur}
 
 -- numbers below a bound
 
@@ -288,16 +289,16 @@ all_from_below first count most (x ∷ xs) h e =
     let b : x < first + count = ltb-true x (first + count) (and_two (at_most first x) (nat_lt x (first + count)) a) in
     (omega arith, all_from_below first count most xs h (and_two (at_most first x && nat_lt x (first + count)) (list_all (λ x. at_most first x && nat_lt x (first + count)) xs) e))
 
--- so many items, each below their end
+-- at least so many items, each below their end
 pub record FromTo (first count : ℕ) (xs : List ℕ) : Type 0 where
-  pub size : length xs ≡ count
+  pub size : count ≤ length xs
   pub below : AllBelow (first + count) xs
 
 from_to : (first count : ℕ) (xs : List ℕ) → are_all_from first count xs ≡ true → FromTo first count xs
 from_to first count xs e =
+    let each = list_all (λ k. is_in (first + k) xs) (below count) in
     let whole = list_all (λ x. at_most first x && nat_lt x (first + count)) xs in
-    let a = and_one (nat_eq (length xs) count && is_distinct xs) whole e in
-    record { size = eqb-true (length xs) count (and_one (nat_eq (length xs) count) (is_distinct xs) a); below = all_from_below first count (first + count) xs (omega arith) (and_two (nat_eq (length xs) count && is_distinct xs) whole e) }
+    record { size = all_occur first count xs (and_one each whole e); below = all_from_below first count (first + count) xs (omega arith) (and_two each whole e) }
 
 pub function_named : (p : Program) (f : Function) → Stepped f.body → suits_function p f ≡ true → FunctionNamed p f
 function_named p f w e =
@@ -316,4 +317,4 @@ function_named p f w e =
     let size = s.size in
     let d : Declares k f.body = record { scalars = subst (λ n. AllBelow n (scalars_of f.body)) same s.below; arrays = a.below } in
     let h : InForce k (in_force_at_start f) = record { scalars = below_below f.parameters f.scalars (omega arith); arrays = tt } in
-    record { named = code_named p k (omega arith) refl f.gives false (in_force_at_start f) f.body w h d (and_one whole fits x0); scalars = omega arith }
+    record { named = code_named p k (omega arith) refl f.gives false (in_force_at_start f) f.body w h d (and_one whole fits x0); parameters = omega arith; scalars = omega arith }

@@ -17,7 +17,7 @@ use Rattle.vx_ast.specs.declared.tree.Statement.TheVariants.{Empty as AnEmpty, B
 use Rattle.vx_ast.specs.Tree.{Shape, One, Row, Tree, Literal, Local, Global, Element, Unary, Binary, Both, Either, Choice, Apply, ReadInt, MoreInput, NoMore, Then, Place, InLocal, InGlobal, InElement, Action, Evaluate, Assign, Compound, Increase, Decrease, Code, Nothing, Seq, Empty, Block, Clear, Declare, ClearArray, Simply, Head, Print, If, IfElse, While, DoWhile, For, Break, Continue, Return, ReturnValue, Function, Program}
 use Rattle.vx_ast.specs.View.{item_of, items_of, first_of, step_of, code_of, all_of, all_in}
 use Rattle.vx_ast.specs.Meaning.{Piece, AByte, ANumber, pieces_of}
-use Rattle.vx_ast.specs.Accepted.{Scope, is_in, at_most, below, row_length, can_call, gives_int, names_array, suits, suits_place, suits_whole, suits_action, is_format, is_number, numbers_of, scope_after, suits_test, suits_code, scalars_of, arrays_of, is_distinct, are_all_from, in_force_at_start, suits_function}
+use Rattle.vx_ast.specs.Accepted.{Scope, is_in, at_most, below, row_length, can_call, gives_int, names_array, suits, suits_place, suits_whole, suits_action, is_format, is_number, numbers_of, scope_after, suits_test, suits_code, scalars_of, arrays_of, are_all_from, in_force_at_start, suits_function}
 use Rattle.vx_lower.specs.Emits.{IsWithin}
 use Rattle.vx_lower.specs.Makes.{numbers_in, PlaceWithin, ActionWithin, TestWithin, CodeWithin}
 use Rattle.vx_lower.specs.Graphs.{FunctionWithin}
@@ -273,5 +273,5 @@ function_within p f steps e =
     let x1 = and_one scalars arrays (and_two (whole && fits) (scalars && arrays) e) in
     let le : f.parameters < suc f.scalars = ltb-true f.parameters (suc f.scalars) (and_two whole fits x0) in
     let le2 : f.parameters + (f.scalars - f.parameters) ≤ f.scalars = omega arith in
-    let d = all_from_below f.parameters (f.scalars - f.parameters) f.scalars (scalars_of f.body) le2 (and_two (nat_eq (length (scalars_of f.body)) (f.scalars - f.parameters) && is_distinct (scalars_of f.body)) (list_all (λ x. at_most f.parameters x && nat_lt x (f.parameters + (f.scalars - f.parameters))) (scalars_of f.body)) x1) in
+    let d = all_from_below f.parameters (f.scalars - f.parameters) f.scalars (scalars_of f.body) le2 (and_two (list_all (λ k. is_in (f.parameters + k) (scalars_of f.body)) (below (f.scalars - f.parameters))) (list_all (λ x. at_most f.parameters x && nat_lt x (f.parameters + (f.scalars - f.parameters))) (scalars_of f.body)) x1) in
     (omega arith, code_within p f.scalars f.gives false (in_force_at_start f) f.body steps (below_below f.parameters f.scalars (omega arith)) d (and_one whole fits x0))

@@ -16,10 +16,11 @@ use Rattle.vx_lower.specs.declared.builder.Builder.{Builder}
 abbrev pub known_of : Program → Function → Known
 known_of p f = record { scalars = f.scalars; arrays = length p.globals + length f.arrays; parameters = map (λ g. g.parameters) p.functions }
 
--- what a function's body names is there, and its scalars are its parameters and those that it declares
+-- what a function's body names is there, and its scalars are its parameters and no more than those that it declares
 pub record FunctionNamed (p : Program) (f : Function) : Type 0 where
   pub named : CodeNamed (known_of p f) f.body
-  pub scalars : f.scalars ≡ f.parameters + length (scalars_of f.body)
+  pub parameters : f.parameters ≤ f.scalars
+  pub scalars : f.scalars ≤ f.parameters + length (scalars_of f.body)
 
 -- a whole body, whose last block returns
 pub record BodyShape (k : Known) (f : Function) (texts : ℕ) (b : Builder) : Type 0 where

@@ -2,7 +2,7 @@
 use Rattle.std.proofs.Common.{◌≡◌, ℕ, zero, suc, ◌+◌, ◌-◌, ◌<◌, ◌≤◌, Bool, true, false, ◌&&◌, ◌||◌, not, nat_eq, nat_lt, List, [], ◌∷◌, ◌++◌, length, refl, ap, sym, ◌∙◌, arith}
 use Rattle.std.specs.List.{list_all}
 use Rattle.std.proofs.lemmas.Bool.{lt-ltb, eq-eqb, eqb-true, ltb-true}
-use Rattle.vx_ast.specs.Accepted.{is_in, at_most, below, is_distinct, are_all_from}
+use Rattle.vx_ast.specs.Accepted.{is_in, at_most, below, are_all_from}
 use Rattle.vx_types.proofs.Suits.{and_both}
 
 pub eq_itself : (n : ℕ) → nat_eq n n ≡ true
@@ -59,17 +59,20 @@ from_append s (suc m) n =
     let l : suc m + n ≡ suc (m + n) = omega arith in
     ap (λ z. s ∷ (from (s + 1) m ++ from z n)) k ∙ ap (λ (z : List ℕ). s ∷ z) (from_append (s + 1) m n) ∙ sym (ap (λ z. from s z) l)
 
-length_from : (s n : ℕ) → length (from s n) ≡ n
-length_from s zero = refl
-length_from s (suc n) = ap suc (length_from (s + 1) n)
+in_from : (x s n : ℕ) → s ≤ x → x < s + n → is_in x (from s n) ≡ true
+in_from x s zero h k = absurd (omega arith)
+in_from x s (suc n) h k =
+    let by : (b : Bool) → nat_eq x s ≡ b → is_in x (s ∷ from (s + 1) n) ≡ true
+    = λ b. elim b as (λ b. nat_eq x s ≡ b → is_in x (s ∷ from (s + 1) n) ≡ true) [
+      | true ↦ λ e. or_left (nat_eq x s) (is_in x (from (s + 1) n)) e
+      | false ↦ λ e. let apart : x ≡ s → ⊥ = (λ q. (let t = eq-eqb x s q in cc)) in or_right (nat_eq x s) (is_in x (from (s + 1) n)) (in_from x (s + 1) n (omega (arith, h, apart)) (omega (arith, k)))
+    ] in
+    by (nat_eq x s) refl
 
-not_in_from : (x s n : ℕ) → x < s → is_in x (from s n) ≡ false
-not_in_from x s zero h = refl
-not_in_from x s (suc n) h = or_neither (nat_eq x s) (is_in x (from (s + 1) n)) (apart_false x s (λ e. omega arith)) (not_in_from x (s + 1) n (omega arith))
-
-distinct_from : (s n : ℕ) → is_distinct (from s n) ≡ true
-distinct_from s zero = refl
-distinct_from s (suc n) = and_both (not (is_in s (from (s + 1) n))) (is_distinct (from (s + 1) n)) (ap not (not_in_from s (s + 1) n (omega arith))) (distinct_from (s + 1) n)
+each_in_from : (first count m : ℕ) → m ≤ count → list_all (λ k. is_in (first + k) (from first count)) (below m) ≡ true
+each_in_from first count zero h = refl
+each_in_from first count (suc m) h =
+    and_both (is_in (first + m) (from first count)) (list_all (λ k. is_in (first + k) (from first count)) (below m)) (in_from (first + m) first count (omega arith) (omega arith)) (each_in_from first count m (omega arith))
 
 within_from : (first top s n : ℕ) → first ≤ s → s + n ≤ top → list_all (λ x. at_most first x && nat_lt x top) (from s n) ≡ true
 within_from first top s zero h k = refl
@@ -80,8 +83,8 @@ within_from first top s (suc n) h k =
 
 pub all_from : (first count : ℕ) → are_all_from first count (from first count) ≡ true
 all_from first count =
-    and_both (nat_eq (length (from first count)) count && is_distinct (from first count)) (list_all (λ x. at_most first x && nat_lt x (first + count)) (from first count))
-    (and_both (nat_eq (length (from first count)) count) (is_distinct (from first count)) (eq-eqb (length (from first count)) count (length_from first count)) (distinct_from first count))
+    and_both (list_all (λ k. is_in (first + k) (from first count)) (below count)) (list_all (λ x. at_most first x && nat_lt x (first + count)) (from first count))
+    (each_in_from first count count (omega arith))
     (within_from first (first + count) first count (omega arith) (omega arith))
 
 -- the numbers from one on, up to the next one
