@@ -4,4 +4,4 @@
 pub mod limits;
 mod node_counts;
 
-pub use node_counts::nodes;
+pub use node_counts::{counted_nodes, expression_nodes, nodes, simple_nodes, statement_nodes, sum};

@@ -25,9 +25,10 @@ fn literal_nodes(number: i32) -> u64
     1
 }
 
+/// How many nodes an expression has, at most the greatest `u64`.
 #[cycle(tree_nodes)]
 #[tactic(auto, using(crate::proofs::Caps::capped_one, crate::proofs::Caps::capped_two, crate::proofs::Caps::capped_three, crate::proofs::Views::call_view))]
-fn expression_nodes(expression: &Expression) -> u64
+pub fn expression_nodes(expression: &Expression) -> u64
     ensures nodes { result ≡ capped (nodes_of (tree_of expression.now)) }
     ensures words { tree_words (tree_of expression.now) ≡ true }
 {
@@ -83,8 +84,9 @@ fn target_nodes(target: &Target) -> u64
     }
 }
 
+/// How many nodes a simple statement has, apart from that of the statement, at most the greatest `u64`.
 #[tactic(auto, using(crate::proofs::Caps::capped_pair))]
-fn simple_nodes(simple: &Simple) -> u64
+pub fn simple_nodes(simple: &Simple) -> u64
     ensures nodes { result ≡ capped (action_nodes (action_of simple.now)) }
     ensures words { action_words (action_of simple.now) ≡ true }
 {
@@ -151,9 +153,10 @@ fn step_nodes(step: &Option<Simple>) -> u64
     }
 }
 
+/// How many nodes a statement has, at most the greatest `u64`.
 #[cycle(code_nodes)]
 #[tactic(auto, using(crate::proofs::Caps::capped_one, crate::proofs::Caps::capped_two, crate::proofs::Caps::capped_three, crate::proofs::Caps::capped_four, crate::proofs::Views::block_view))]
-fn statement_nodes(statement: &Statement) -> u64
+pub fn statement_nodes(statement: &Statement) -> u64
     ensures nodes { result ≡ capped (code_nodes (code_of statement.now)) }
     ensures words { code_words (code_of statement.now) ≡ true }
 {

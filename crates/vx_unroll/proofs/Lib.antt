@@ -1,0 +1,11 @@
+mod Turns
+mod Copies
+mod Unrolled
+mod Suited
+mod Whole
+mod Sizes
+mod Items
+mod Accepting
+mod Lists
+mod Falls
+mod Rooms

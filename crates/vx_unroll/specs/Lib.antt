@@ -1,0 +1,3 @@
+pub mod Unrolling
+pub mod Growth
+pub mod Laws
