@@ -8,7 +8,7 @@ use Rattle.vx_ast.specs.Tree.{One, Tree, Unary, Place, InLocal, InGlobal, InElem
 use Rattle.vx_ast.specs.Meaning.{Store, Part, With, Trapped, Going, Leaves, Falls, Breaks, Continues, Returns, Calls, and_then, unless_zero, array_at, word_at, with_word, with_scalar, index_in, at_index, at_element, unary_value, combined, value, changes, acts, go_on, after_body, after_turn, tests, turns, test_of, does}
 use Rattle.vx_unroll.specs.Unrolling.{block_of, step_before, test_before, turns_of}
 use Rattle.vx_unroll.specs.Laws.{step_code}
-use Rattle.vx_unroll.proofs.Turns.{falls_of, copies}
+use Rattle.vx_unroll.proofs.Beside.{falls_of, copies}
 
 on_ext : (x : Part Leaves) (f g : Store → Part Leaves) → ((s : Store) → f s ≡ g s) → go_on x f ≡ go_on x g
 on_ext (With Falls s) f g h = h s

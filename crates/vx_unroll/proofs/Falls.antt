@@ -2,9 +2,10 @@
 use Rattle.std.proofs.Common.{◌≡◌, ◌<◌, ◌≤◌, ◌+◌, ◌*◌, ℕ, zero, suc, length, drop, get_or, List, [], ◌∷◌, ap, sym, ◌∙◌, arith}
 use Rattle.std.proofs.lemmas.List.{at_drop_more}
 use Rattle.vx_ast.specs.declared.tree.Expression.{Expression}
-use Rattle.vx_ast.specs.Accepted.{nodes_of}
-use Rattle.vx_ast.specs.Tree.{Tree, One, Apply}
-use Rattle.vx_ast.specs.View.{tree_of, row_in}
+use Rattle.vx_ast.specs.declared.tree.Statement.{Statement}
+use Rattle.vx_ast.specs.Accepted.{nodes_of, code_nodes}
+use Rattle.vx_ast.specs.Tree.{Tree, One, Apply, Code, Block}
+use Rattle.vx_ast.specs.View.{tree_of, row_in, code_of, all_in}
 
 -- what is left of a list at one of its items
 pub drop_next : {A : Type 0} (xs : List A) (i : ℕ) (x : A) → i < length xs → x ≡ get_or xs i x → drop i xs ≡ x ∷ drop (i + 1) xs
@@ -23,3 +24,19 @@ pub argument_falls : (xs : List Expression) (i : ℕ) (x : Expression) (t : ℕ)
 argument_falls xs i x t d h e =
     let f : nodes_of (row_in (drop i xs)) ≡ nodes_of (tree_of x) + nodes_of (row_in (drop (i + 1) xs)) = ap (λ (z : List Expression). nodes_of (row_in z)) (drop_next xs i x h e) in
     let g = row_drop xs i in omega (arith, d, f, g)
+
+-- statements
+
+pub all_falls : (s : Code) (all items : List Statement) (t : ℕ) → 8 * code_nodes s ≡ t → s ≡ Block (all_in items) → all ≡ items → 8 * code_nodes (all_in all) + 1 < t
+all_falls s all items t m e i =
+    let g : code_nodes s ≡ 1 + code_nodes (all_in items) = ap code_nodes e in let j = ap (λ (z : List Statement). code_nodes (all_in z)) i in omega (arith, m, g, j)
+
+list_drop : (xs : List Statement) (i : ℕ) → code_nodes (all_in (drop i xs)) ≤ code_nodes (all_in xs)
+list_drop xs zero = omega arith
+list_drop [] (suc i) = omega arith
+list_drop (y ∷ ys) (suc i) = let f = list_drop ys i in omega (arith, f)
+
+pub one_falls : (xs : List Statement) (i : ℕ) (x : Statement) (t : ℕ) → 8 * code_nodes (all_in xs) + 1 ≡ t → i < length xs → x ≡ get_or xs i x → 8 * code_nodes (code_of x) < t
+one_falls xs i x t d h e =
+    let f : code_nodes (all_in (drop i xs)) ≡ code_nodes (code_of x) + code_nodes (all_in (drop (i + 1) xs)) = ap (λ (z : List Statement). code_nodes (all_in z)) (drop_next xs i x h e) in
+    let g = list_drop xs i in omega (arith, d, f, g)

@@ -1,4 +1,4 @@
-mod Turns
+mod Beside
 mod Copies
 mod Unrolled
 mod Suited
@@ -9,3 +9,5 @@ mod Accepting
 mod Lists
 mod Falls
 mod Rooms
+mod Making
+mod Outcomes

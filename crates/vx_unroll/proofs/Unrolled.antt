@@ -10,7 +10,7 @@ use Rattle.vx_ast.proofs.MoreTurns.{out_of, Later, Leads, leads_self, leads_same
 use Rattle.vx_unroll.specs.declared.size.Size.{Size}
 use Rattle.vx_unroll.specs.Unrolling.{block_of, turns_of, while_body, for_body, has_loop, exchanged, keeps_limits, Decided, inside, where_it_fits, own_words, size_of, unrolled_in, unrolled_function, unrolled_program}
 use Rattle.vx_unroll.specs.Laws.{step_code, Unrolls, Kept, InSeq, InBlock, InIf, InIfElse, InWhile, InDoWhile, InFor, AWhile, AFor, AllUnroll, NoneLeft, AndMore, printed_by, EndsSo, StatementsKeep, UnrollingKeeps, UnrolledIsSame}
-use Rattle.vx_unroll.proofs.Turns.{extra, copies, widens, narrows}
+use Rattle.vx_unroll.proofs.Beside.{extra, copies, widens, narrows}
 use Rattle.vx_unroll.proofs.Copies.{step_falls, often_is, plain_turns}
 
 falls_same : (t : Store) → Leads t.out (With Falls t) (With Falls t)

@@ -1,0 +1,129 @@
+// Unrolling a whole program.
+
+ghost use Rattle.std.specs.Prelude.{◌≡◌, ◌≤◌, ℤ, List, true, IfOk, map};
+ghost use Rattle.vx_ast.specs.Meaning.{source};
+ghost use Rattle.vx_ast.specs.View.{function_of, program_of};
+ghost use Rattle.vx_base.specs.Outcome.{Same};
+ghost use Rattle.vx_unroll.specs.Laws.{names};
+ghost use Rattle.vx_unroll.specs.Unrolling.{Unrolled, function_words, size_of, unrolled_function, unrolled_program};
+
+use crate::memory::append;
+use crate::size::Size;
+use crate::unrolling::decided_all;
+use crate::words::list_words;
+use std::alloc::Global;
+use vx_ast::tree::{Function, Program};
+use vx_ast::typed::Typed;
+use vx_base::listed::copied;
+use vx_base::outcome::NoMemory;
+use vx_limits::counted_nodes;
+
+// What a function has.
+fn size_of(function: &Function, globals: usize) -> Result<Size, NoMemory>
+    ensures { IfOk result (λ size. size ≡ size_of globals (function_of function.now)) }
+{
+    let nodes = counted_nodes(function);
+    let words = list_words(
+        function.body.as_slice(),
+        globals,
+        function.arrays.as_slice(),
+    );
+    if nodes == u64::MAX || words == u64::MAX {
+        return Err(NoMemory);
+    }
+    Ok(Size { nodes, words })
+}
+
+// A function with its loops unrolled.
+fn function_unrolled(
+    alloc: Global,
+    function: &Function,
+    factor: u32,
+    globals: usize,
+) -> Result<Function, NoMemory>
+    requires least { 2 ≤ factor }
+    requires most { factor ≤ 8 }
+    ensures { IfOk result (λ made. function_of made ≡ unrolled_function factor globals (function_of function.now)) }
+{
+    let size = size_of(function, globals)?;
+    let name = copied(alloc, function.name.as_slice())?;
+    let arrays = copied(alloc, function.arrays.as_slice())?;
+    let made = decided_all(
+        alloc,
+        function.body.as_slice(),
+        factor - 1,
+        globals,
+        function.arrays.as_slice(),
+        size,
+    )?;
+    Ok(Function {
+        name,
+        gives: function.gives,
+        parameters: function.parameters,
+        scalars: function.scalars,
+        arrays,
+        body: made.all,
+    })
+}
+
+// Functions with their loops unrolled.
+fn functions_unrolled(
+    alloc: Global,
+    functions: &[Function],
+    factor: u32,
+    globals: usize,
+) -> Result<Vec<Function>, NoMemory>
+    requires least { 2 ≤ factor }
+    requires most { factor ≤ 8 }
+    ensures { IfOk result (λ made. map function_of made.items ≡ map (unrolled_function factor globals) (map function_of functions.now)) }
+{
+    let mut made = Vec::new(alloc);
+    for function in functions {
+        let one = function_unrolled(alloc, function, factor, globals)?;
+        append(&mut made, one)?;
+    }
+    Ok(made)
+}
+
+// A program with its loops unrolled.
+fn program_unrolled(alloc: Global, program: &Program, factor: u32) -> Result<Program, NoMemory>
+    requires least { 2 ≤ factor }
+    requires most { factor ≤ 8 }
+    ensures { IfOk result (λ made. Unrolled (program_of program.now) factor (program_of made)) }
+{
+    let globals = copied(alloc, program.globals.as_slice())?;
+    let functions = functions_unrolled(
+        alloc,
+        program.functions.as_slice(),
+        factor,
+        program.globals.len(),
+    )?;
+    Ok(Program {
+        globals,
+        functions,
+        main: program.main,
+    })
+}
+
+// The same of a program that is accepted.
+#[tactic(auto, using(crate::proofs::Accepting::unrolled_is_accepted))]
+fn typed_unrolled(alloc: Global, typed: &Typed, factor: u32) -> Result<Typed, NoMemory>
+    requires least { 2 ≤ factor }
+    requires most { factor ≤ 8 }
+    ensures { IfOk result (λ made. Unrolled (program_of typed.now.program) factor (program_of made.program)) }
+{
+    let program = program_unrolled(alloc, &typed.program, factor)?;
+    Ok(Typed::make(program))
+}
+
+/// A program with its loops unrolled to so many turns each, where they contain no loop and their function keeps its limits.
+/// It ends and prints as the program does with every input, and has its functions by their names.
+pub fn unroll(alloc: Global, typed: Typed, factor: u32) -> Result<Typed, NoMemory>
+    requires least { 2 ≤ factor }
+    requires most { factor ≤ 8 }
+    ensures unrolled { IfOk result (λ made. Unrolled (program_of typed.program) factor (program_of made.program)) }
+    ensures same { IfOk result (λ made. (input : List ℤ) → Same (source (program_of typed.program) input) (source (program_of made.program) input)) }
+    ensures names { IfOk result (λ made. names (program_of made.program) ≡ names (program_of typed.program)) }
+{
+    typed_unrolled(alloc, &typed, factor)
+}
