@@ -15,7 +15,7 @@ use Rattle.vx_unroll.proofs.Items.{scalars_covered, arrays_covered, formats_cove
 
 -- limits
 
-none_first : (a b : Option Over) → or_else a b ≡ None → (a ≡ None) × (b ≡ None)
+pub none_first : (a b : Option Over) → or_else a b ≡ None → (a ≡ None) × (b ≡ None)
 none_first None b e = (refl, e)
 none_first (Some o) b e = let h : Some o ≡ None = e in absurd (cc)
 
@@ -26,7 +26,7 @@ is_over : (number most n : ℕ) (o : Option Over) (b : Bool) → (if b then o el
 is_over number most n o true e = (refl, e)
 is_over number most n o false e = absurd (cc)
 
-all_within : (number most : ℕ) (ns : List ℕ) → over number most ns ≡ None → list_all (λ n. at_most n most) ns ≡ true
+pub all_within : (number most : ℕ) (ns : List ℕ) → over number most ns ≡ None → list_all (λ n. at_most n most) ns ≡ true
 all_within number most [] e = refl
 all_within number most (n ∷ ns) e = let h = is_over number most n (over number most ns) (at_most n most) e in and_from (at_most n most) (list_all (λ n. at_most n most) ns) h.0 (all_within number most ns h.1)
 
@@ -36,7 +36,7 @@ none_over number most (n ∷ ns) e =
     let h = and_parts (at_most n most) (list_all (λ n. at_most n most) ns) e in
     ap (λ (b : Bool). if b then over number most ns else Some (record { number = number; count = n })) h.0 ∙ none_over number most ns h.1
 
-none_is : (o : Option Over) → is_none o ≡ true → o ≡ None
+pub none_is : (o : Option Over) → is_none o ≡ true → o ≡ None
 none_is None e = refl
 none_is (Some o) e = absurd (cc)
 

@@ -10,4 +10,6 @@ mod Lists
 mod Falls
 mod Rooms
 mod Making
+mod Declaring
 mod Outcomes
+mod Rows

@@ -67,7 +67,7 @@ times_is : (k n : ℕ) → times k n ≡ k * n
 times_is zero n = omega arith
 times_is (suc k) n = let h = times_is k n in let m : suc k * n ≡ k * n + n = suc-mul k n in omega (arith, h, m)
 
-size_same : (s t : Size) → s.nodes ≡ t.nodes → s.words ≡ t.words → s ≡ t
+pub size_same : (s t : Size) → s.nodes ≡ t.nodes → s.words ≡ t.words → s ≡ t
 size_same s t e h = ap (λ (z : ℕ). record { nodes = z; words = s.words }) e ∙ ap (λ (z : ℕ). record { nodes = t.nodes; words = z }) h
 
 pub exchanged_is : (more : ℕ) (words : ℕ → ℕ) (now : Size) (test : Option (Tree One)) (step : Option Action) (a : Code) → exchanged words now a (Block (turns_of more test step a)) ≡ grown more words now a (step_cost step + test_cost test)

@@ -4,6 +4,8 @@ ghost use Rattle.std.specs.Prelude.{◌≡◌, ◌≤◌, ℤ, List, true, IfOk,
 ghost use Rattle.vx_ast.specs.Meaning.{source};
 ghost use Rattle.vx_ast.specs.View.{function_of, program_of};
 ghost use Rattle.vx_base.specs.Outcome.{Same};
+ghost use Rattle.std.specs.List.{list_all};
+ghost use Rattle.vx_unroll.specs.Growth.{has_few_words, is_small_function};
 ghost use Rattle.vx_unroll.specs.Laws.{names};
 ghost use Rattle.vx_unroll.specs.Unrolling.{Unrolled, function_words, size_of, unrolled_function, unrolled_program};
 
@@ -19,8 +21,9 @@ use vx_base::outcome::NoMemory;
 use vx_limits::counted_nodes;
 
 // What a function has.
-fn size_of(function: &Function, globals: usize) -> Result<Size, NoMemory>
-    ensures { IfOk result (λ size. size ≡ size_of globals (function_of function.now)) }
+fn size_of(function: &Function, globals: usize) -> Size
+    requires small { is_small_function (function_of function.now) ≡ true }
+    ensures { result ≡ size_of globals (function_of function.now) }
 {
     let nodes = counted_nodes(function);
     let words = list_words(
@@ -28,10 +31,7 @@ fn size_of(function: &Function, globals: usize) -> Result<Size, NoMemory>
         globals,
         function.arrays.as_slice(),
     );
-    if nodes == u64::MAX || words == u64::MAX {
-        return Err(NoMemory);
-    }
-    Ok(Size { nodes, words })
+    Size { nodes, words }
 }
 
 // A function with its loops unrolled.
@@ -43,9 +43,10 @@ fn function_unrolled(
 ) -> Result<Function, NoMemory>
     requires least { 2 ≤ factor }
     requires most { factor ≤ 8 }
+    requires small { is_small_function (function_of function.now) ≡ true }
     ensures { IfOk result (λ made. function_of made ≡ unrolled_function factor globals (function_of function.now)) }
 {
-    let size = size_of(function, globals)?;
+    let size = size_of(function, globals);
     let name = copied(alloc, function.name.as_slice())?;
     let arrays = copied(alloc, function.arrays.as_slice())?;
     let made = decided_all(
@@ -75,6 +76,7 @@ fn functions_unrolled(
 ) -> Result<Vec<Function>, NoMemory>
     requires least { 2 ≤ factor }
     requires most { factor ≤ 8 }
+    requires small { list_all is_small_function (map function_of functions.now) ≡ true }
     ensures { IfOk result (λ made. map function_of made.items ≡ map (unrolled_function factor globals) (map function_of functions.now)) }
 {
     let mut made = Vec::new(alloc);
@@ -89,6 +91,7 @@ fn functions_unrolled(
 fn program_unrolled(alloc: Global, program: &Program, factor: u32) -> Result<Program, NoMemory>
     requires least { 2 ≤ factor }
     requires most { factor ≤ 8 }
+    requires small { list_all is_small_function (program_of program.now).functions ≡ true }
     ensures { IfOk result (λ made. Unrolled (program_of program.now) factor (program_of made)) }
 {
     let globals = copied(alloc, program.globals.as_slice())?;
@@ -106,7 +109,6 @@ fn program_unrolled(alloc: Global, program: &Program, factor: u32) -> Result<Pro
 }
 
 // The same of a program that is accepted.
-#[tactic(auto, using(crate::proofs::Accepting::unrolled_is_accepted))]
 fn typed_unrolled(alloc: Global, typed: &Typed, factor: u32) -> Result<Typed, NoMemory>
     requires least { 2 ≤ factor }
     requires most { factor ≤ 8 }
@@ -117,12 +119,14 @@ fn typed_unrolled(alloc: Global, typed: &Typed, factor: u32) -> Result<Typed, No
 }
 
 /// A program with its loops unrolled to so many turns each, where they contain no loop and their function keeps its limits.
-/// It ends and prints as the program does with every input, and has its functions by their names.
+/// It ends and prints as the program does with every input, is accepted as its type says, and has its functions by their
+/// names. Where the functions of the program declare no more words of arrays than they may, so do its own.
 pub fn unroll(alloc: Global, typed: Typed, factor: u32) -> Result<Typed, NoMemory>
     requires least { 2 ≤ factor }
     requires most { factor ≤ 8 }
     ensures unrolled { IfOk result (λ made. Unrolled (program_of typed.program) factor (program_of made.program)) }
     ensures same { IfOk result (λ made. (input : List ℤ) → Same (source (program_of typed.program) input) (source (program_of made.program) input)) }
+    ensures words { IfOk result (λ made. has_few_words (program_of typed.program) ≡ true → has_few_words (program_of made.program) ≡ true) }
     ensures names { IfOk result (λ made. names (program_of made.program) ≡ names (program_of typed.program)) }
 {
     typed_unrolled(alloc, &typed, factor)
