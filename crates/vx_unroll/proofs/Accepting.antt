@@ -1,14 +1,14 @@
 -- The unrolled program is accepted where the program was.
-use Rattle.std.proofs.Common.{◌≡◌, ℕ, zero, suc, ◌+◌, ◌-◌, ◌≤◌, ◌<◌, Bool, true, false, ◌&&◌, nat_lt, List, [], ◌∷◌, ◌++◌, length, map, Option, Some, None, slice_get, refl, sym, ap, ◌∙◌, subst, arith, ltb-true, lt-ltb}
+use Rattle.std.proofs.Common.{◌≡◌, ℕ, zero, suc, ◌-◌, ◌≤◌, ◌<◌, Bool, true, false, ◌&&◌, nat_lt, List, [], ◌∷◌, length, map, Option, Some, None, slice_get, refl, sym, ap, ◌∙◌, arith, ltb-true, lt-ltb}
 use Rattle.std.specs.Prelude.{if◌then◌else◌}
 use Rattle.std.specs.List.{list_all, flat_map, sum}
 use Rattle.std.proofs.lemmas.Bool.{and_parts, and_from}
 use Rattle.std.proofs.lemmas.List.Folds.{list_all-append, list_all-map}
 use Rattle.vx_ast.specs.Tree.{Code, Function, Program}
 use Rattle.vx_ast.specs.Accepted.{Over, at_most, suits_code, suits_function, suits_global, in_force_at_start, is_main, scalars_of, arrays_of, formats_of, are_all_from, function_nodes, global_words, over, or_else, limit_of, is_none, is_suited, is_accepted}
-use Rattle.vx_unroll.specs.Unrolling.{own_words, size_of, unrolled_in, unrolled_function, unrolled_program}
-use Rattle.vx_unroll.specs.Laws.{Unrolls, AllUnroll, NoneLeft, AndMore, UnrolledIsAccepted, names, NamesStay}
-use Rattle.vx_unroll.proofs.Unrolled.{decided_unrolls, all_unroll}
+use Rattle.vx_unroll.specs.Unrolling.{unrolled_function, unrolled_program}
+use Rattle.vx_unroll.specs.Laws.{Unrolls, AllUnroll, NoneLeft, AndMore, UnrolledIsAccepted, NamesStay}
+use Rattle.vx_unroll.proofs.Unrolled.{all_unroll}
 use Rattle.vx_unroll.proofs.Whole.{body_suits}
 use Rattle.vx_unroll.proofs.Sizes.{nodes_stay_within}
 use Rattle.vx_unroll.proofs.Items.{scalars_covered, arrays_covered, formats_covered, all_from_covered}

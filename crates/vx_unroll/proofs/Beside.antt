@@ -1,6 +1,6 @@
 -- A loop, and the same loop with several turns in one, beside each other.
-use Rattle.std.proofs.Common.{◌≡◌, ℕ, zero, suc, ◌+◌, ◌≤◌, ℤ, pos, negsuc, List, refl, sym, ap, ◌∙◌, subst, arith}
-use Rattle.vx_ast.specs.Meaning.{Store, Part, With, Trapped, Going, Leaves, Falls, Breaks, Continues, Returns, and_then, unless_zero, go_on, after_body, after_turn, tests, turns}
+use Rattle.std.proofs.Common.{◌≡◌, ℕ, zero, suc, ◌+◌, ◌≤◌, ℤ, pos, negsuc, refl, ap, ◌∙◌, arith}
+use Rattle.vx_ast.specs.Meaning.{Store, Part, With, Trapped, Going, Leaves, Falls, Breaks, Continues, Returns, and_then, go_on, after_body, after_turn, tests, turns}
 use Rattle.vx_ast.proofs.MoreTurns.{Leads, leads_same, leads_going, leads_then, leads_tests, leads_turn}
 
 -- what only falls

@@ -1,10 +1,10 @@
 -- What the body of several turns does.
-use Rattle.std.proofs.Common.{◌≡◌, ℕ, zero, suc, ◌+◌, ℤ, pos, negsuc, Bool, false, Option, Some, None, refl, sym, ap, ◌∙◌, subst, length, arith}
+use Rattle.std.proofs.Common.{◌≡◌, ℕ, zero, suc, ℤ, pos, negsuc, Bool, false, Option, Some, None, refl, sym, ap, ◌∙◌, length, arith}
 use Rattle.std.proofs.Math.Path.{fun_ext}
 use Rattle.vx_base.specs.Arithmetic.{sum_of, difference_of, compare_of, one_if}
 use Rattle.vx_base.specs.declared.arithmetic.Compare.TheVariants.{Eq}
 use Rattle.vx_ast.specs.declared.tree.UnaryOperator.TheVariants.{Not}
-use Rattle.vx_ast.specs.Tree.{One, Tree, Unary, Place, InLocal, InGlobal, InElement, Action, Evaluate, Assign, Compound, Increase, Decrease, Code, Nothing, Seq, Block, Simply, If, Break}
+use Rattle.vx_ast.specs.Tree.{One, Tree, Unary, Place, InLocal, InGlobal, InElement, Action, Evaluate, Assign, Compound, Increase, Decrease, Code, Nothing, Block, If, Break}
 use Rattle.vx_ast.specs.Meaning.{Store, Part, With, Trapped, Going, Leaves, Falls, Breaks, Continues, Returns, Calls, and_then, unless_zero, array_at, word_at, with_word, with_scalar, index_in, at_index, at_element, unary_value, combined, value, changes, acts, go_on, after_body, after_turn, tests, turns, test_of, does}
 use Rattle.vx_unroll.specs.Unrolling.{block_of, step_before, test_before, turns_of}
 use Rattle.vx_unroll.specs.Laws.{step_code}

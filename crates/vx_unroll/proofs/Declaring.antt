@@ -1,12 +1,12 @@
 -- How many words the declarations of a function within its limits have.
-use Rattle.std.proofs.Common.{◌≡◌, ℕ, zero, suc, ◌+◌, ◌-◌, ◌*◌, ◌≤◌, ◌<◌, Bool, true, false, ◌&&◌, nat_lt, List, [], ◌∷◌, length, map, drop, get_or, Option, Some, None, slice_index_or, inl, inr, refl, sym, ap, ◌∙◌, subst, arith, ltb-true, lt-ltb}
+use Rattle.std.proofs.Common.{◌≡◌, ℕ, zero, suc, ◌+◌, ◌-◌, ◌*◌, ◌≤◌, ◌<◌, Bool, true, false, nat_lt, List, [], ◌∷◌, length, map, get_or, Option, slice_index_or, inl, inr, refl, ap, ◌∙◌, arith, ltb-true}
 use Rattle.std.specs.Prelude.{if◌then◌else◌}
 use Rattle.std.specs.List.{list_all, flat_map, sum, sum_by}
 use Rattle.std.proofs.lemmas.Bool.{and_parts, and_from, cases_lt}
 use Rattle.std.proofs.lemmas.List.{get_or_past}
 use Rattle.std.proofs.lemmas.List.Sums.{get_or-le-sum_by, sum_by-cons}
-use Rattle.vx_ast.specs.Tree.{One, Tree, Code, Nothing, Seq, Empty, Block, Clear, Declare, ClearArray, Simply, Head, Print, If, IfElse, While, DoWhile, For, Break, Continue, Return, ReturnValue, Function, Program}
-use Rattle.vx_ast.specs.Accepted.{Over, at_most, arrays_of, code_nodes, test_nodes, nodes_of, function_nodes, global_words, formats_of, over, or_else, limit_of, is_none, is_suited, is_accepted}
+use Rattle.vx_ast.specs.Tree.{Code, Seq, Block, ClearArray, If, IfElse, While, DoWhile, For, Function, Program}
+use Rattle.vx_ast.specs.Accepted.{Over, at_most, code_nodes, function_nodes, global_words, formats_of, over, or_else, limit_of, is_none, is_suited, is_accepted}
 use Rattle.vx_limits.specs.Capped.{capped}
 use Rattle.vx_unroll.specs.Unrolling.{declared_words, own_words, function_words, size_of}
 use Rattle.vx_unroll.specs.Growth.{is_small_function}

@@ -4,7 +4,7 @@ use Rattle.std.specs.List.{list_all, list_any}
 use Rattle.std.proofs.lemmas.Bool.{and_parts, and_from}
 use Rattle.std.proofs.lemmas.List.{append-nil}
 use Rattle.std.proofs.lemmas.List.Folds.{list_all-append, list_any-append}
-use Rattle.vx_ast.specs.Tree.{One, Tree, Action, Code, Nothing, Seq, Empty, Block, Simply, If, IfElse, While, DoWhile, For, Break}
+use Rattle.vx_ast.specs.Tree.{One, Tree, Action, Code, Nothing, Seq, Block, Simply, If, IfElse, While, DoWhile, For, Break}
 use Rattle.vx_ast.specs.Accepted.{is_in, at_most, below, scalars_of, arrays_of, formats_of, are_all_from}
 use Rattle.vx_unroll.specs.Unrolling.{block_of, step_before, test_before, turns_of}
 use Rattle.vx_unroll.specs.Laws.{step_code, Unrolls, Kept, InSeq, InBlock, InIf, InIfElse, InWhile, InDoWhile, InFor, AWhile, AFor}
@@ -112,20 +112,50 @@ formats_block a = append-nil (formats_of a)
 
 scalars_collect : Collects scalars_of
 scalars_collect = record {
-  at_end = refl; at_seq = λ a b. refl; at_block = scalars_block; at_if = λ e a. refl; at_either = λ e a b. refl; at_while = λ e a. refl; at_do = λ e a. refl;
-  first_has = scalars_of; at_for = λ first test step a. refl; at_simple = λ a. refl; at_break = refl; at_list = λ a. refl;
+  at_end = refl;
+  at_seq = λ a b. refl;
+  at_block = scalars_block;
+  at_if = λ e a. refl;
+  at_either = λ e a b. refl;
+  at_while = λ e a. refl;
+  at_do = λ e a. refl;
+  first_has = scalars_of;
+  at_for = λ first test step a. refl;
+  at_simple = λ a. refl;
+  at_break = refl;
+  at_list = λ a. refl;
 }
 
 arrays_collect : Collects arrays_of
 arrays_collect = record {
-  at_end = refl; at_seq = λ a b. refl; at_block = arrays_block; at_if = λ e a. refl; at_either = λ e a b. refl; at_while = λ e a. refl; at_do = λ e a. refl;
-  first_has = arrays_of; at_for = λ first test step a. refl; at_simple = λ a. refl; at_break = refl; at_list = λ a. refl;
+  at_end = refl;
+  at_seq = λ a b. refl;
+  at_block = arrays_block;
+  at_if = λ e a. refl;
+  at_either = λ e a b. refl;
+  at_while = λ e a. refl;
+  at_do = λ e a. refl;
+  first_has = arrays_of;
+  at_for = λ first test step a. refl;
+  at_simple = λ a. refl;
+  at_break = refl;
+  at_list = λ a. refl;
 }
 
 formats_collect : Collects formats_of
 formats_collect = record {
-  at_end = refl; at_seq = λ a b. refl; at_block = formats_block; at_if = λ e a. refl; at_either = λ e a b. refl; at_while = λ e a. refl; at_do = λ e a. refl;
-  first_has = λ first. []; at_for = λ first test step a. refl; at_simple = λ a. refl; at_break = refl; at_list = λ a. refl;
+  at_end = refl;
+  at_seq = λ a b. refl;
+  at_block = formats_block;
+  at_if = λ e a. refl;
+  at_either = λ e a b. refl;
+  at_while = λ e a. refl;
+  at_do = λ e a. refl;
+  first_has = λ first. [];
+  at_for = λ first test step a. refl;
+  at_simple = λ a. refl;
+  at_break = refl;
+  at_list = λ a. refl;
 }
 
 pub scalars_covered : {k : ℕ} {a b : Code} → Unrolls k a b → Covers (scalars_of a) (scalars_of b)

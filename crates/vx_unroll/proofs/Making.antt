@@ -1,5 +1,5 @@
 -- What is made of statements and of turns.
-use Rattle.std.proofs.Common.{◌≡◌, ℕ, zero, suc, ◌+◌, ◌-◌, ◌*◌, ◌≤◌, ◌<◌, Bool, true, false, List, [], ◌∷◌, ◌++◌, Option, Some, None, drop, refl, sym, ap, ◌∙◌, subst, arith}
+use Rattle.std.proofs.Common.{◌≡◌, ℕ, zero, suc, ◌+◌, ◌-◌, ◌*◌, ◌<◌, Bool, true, false, List, [], ◌∷◌, ◌++◌, Option, Some, None, refl, sym, ap, ◌∙◌, arith}
 use Rattle.std.specs.Prelude.{if◌then◌else◌, option_map}
 use Rattle.std.proofs.lemmas.Bool.{false≢true}
 use Rattle.std.proofs.Math.Nat.{suc-mul}
@@ -7,11 +7,11 @@ use Rattle.vx_ast.specs.declared.tree.Statement.{Statement}
 use Rattle.vx_ast.specs.declared.tree.Item.{Item}
 use Rattle.vx_ast.specs.declared.tree.Item.TheVariants.{Scalar as ClearScalar, ScalarWith, Array}
 use Rattle.vx_ast.specs.declared.tree.Simple.{Simple}
-use Rattle.vx_ast.specs.Tree.{One, Tree, Action, Code, Nothing, Seq, Block, Head, If, IfElse, While, DoWhile, For}
-use Rattle.vx_ast.specs.View.{tree_of, code_of, all_in, items_of, item_of, step_of, action_of}
+use Rattle.vx_ast.specs.Tree.{One, Tree, Action, Code, Nothing, Seq, Block, If, IfElse, While, DoWhile, For}
+use Rattle.vx_ast.specs.View.{code_of, all_in, items_of, item_of, step_of, action_of}
 use Rattle.vx_ast.specs.Accepted.{code_nodes}
 use Rattle.vx_unroll.specs.declared.size.Size.{Size}
-use Rattle.vx_unroll.specs.Unrolling.{block_of, step_before, test_before, turns_of, while_body, for_body, has_loop, declared_words, exchanged, keeps_limits, Decided, inside, and_then, where_it_fits, unrolled_in}
+use Rattle.vx_unroll.specs.Unrolling.{block_of, step_before, test_before, turns_of, for_body, has_loop, declared_words, exchanged, keeps_limits, Decided, inside, and_then, where_it_fits, unrolled_in}
 use Rattle.vx_unroll.specs.Growth.{fitting, grown, step_cost, test_cost, code_onto, decided_as}
 use Rattle.vx_unroll.proofs.Sizes.{times, turn_nodes, turns_nodes, turns_words, block_least}
 

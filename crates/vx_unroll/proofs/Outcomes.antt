@@ -1,5 +1,5 @@
 -- What is known of a program that is unrolled, where there is one.
-use Rattle.std.proofs.Common.{◌≡◌, ◌≤◌, ◌<◌, ℕ, ℤ, Bool, true, List, [], ◌∷◌, length, map, refl, arith, ltb-true, lt-ltb, Result, Ok, Err, IfOk, sym, ap, ◌∙◌, subst}
+use Rattle.std.proofs.Common.{◌≡◌, ◌<◌, ℕ, ℤ, Bool, true, List, [], ◌∷◌, length, map, refl, arith, ltb-true, lt-ltb, Result, Ok, Err, IfOk, sym, ap, ◌∙◌, subst}
 use Rattle.std.specs.List.{list_all}
 use Rattle.std.proofs.lemmas.Bool.{and_parts, and_from}
 use Rattle.vx_base.specs.Outcome.{Same}
@@ -10,7 +10,7 @@ use Rattle.vx_ast.specs.declared.typed.Typed.{Typed}
 use Rattle.vx_ast.specs.Meaning.{source}
 use Rattle.vx_ast.specs.Tree.{Function, Program}
 use Rattle.vx_ast.specs.View.{program_of}
-use Rattle.vx_unroll.specs.Unrolling.{Unrolled, function_words, unrolled_function, unrolled_program}
+use Rattle.vx_unroll.specs.Unrolling.{Unrolled, function_words, unrolled_function}
 use Rattle.vx_unroll.specs.Laws.{names}
 use Rattle.vx_unroll.proofs.Unrolled.{unrolled_is_same}
 use Rattle.vx_unroll.proofs.Accepting.{names_stay}

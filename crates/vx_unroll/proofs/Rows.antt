@@ -1,17 +1,17 @@
 -- Worked rows of unrolling, by computation.
-use Rattle.std.proofs.Common.{◌≡◌, ℕ, ◌+◌, pos, Bool, true, false, List, [], ◌∷◌, Option, Some, None, refl, map, replicate}
-use Rattle.std.specs.Prelude.{codes, nat_eq}
+use Rattle.std.proofs.Common.{◌≡◌, ℕ, pos, true, List, [], ◌∷◌, Some, None, refl, map, replicate}
+use Rattle.std.specs.Prelude.{codes}
 use Rattle.std.specs.Int.{int_wrap}
 use Rattle.std.specs.Fmt.{digits}
 use Rattle.vx_base.specs.Outcome.{Ends}
 use Rattle.vx_base.specs.Arithmetic.{sum_of}
 use Rattle.vx_ast.specs.declared.tree.BinaryOperator.TheVariants.{Less, Equal}
 use Rattle.vx_ast.specs.declared.tree.UnaryOperator.TheVariants.{Not}
-use Rattle.vx_ast.specs.Tree.{One, Tree, Local, Element, Unary, Binary, ReadInt, InLocal, InElement, Assign, Increase, Code, Nothing, Seq, Empty, Block, Clear, Declare, ClearArray, Simply, Head, Print, If, While, DoWhile, For, Break, Continue, Function, Program}
+use Rattle.vx_ast.specs.Tree.{One, Tree, Local, Element, Unary, Binary, ReadInt, InLocal, Assign, Increase, Code, Nothing, Empty, Block, Clear, Declare, ClearArray, Simply, Head, Print, If, While, DoWhile, For, Break, Continue, Program}
 use Rattle.vx_ast.specs.Meaning.{source, deepest}
 use Rattle.vx_ast.specs.Accepted.{function_nodes, is_accepted}
 use Rattle.vx_ast.proofs.Programs.{number, list_of, only, main_of, row, shows, line, returns}
-use Rattle.vx_unroll.specs.Unrolling.{Unrolled, function_words, unrolled_function, unrolled_program}
+use Rattle.vx_unroll.specs.Unrolling.{function_words, unrolled_program}
 
 -- int n = read_int(); int i = 0; while (i < n) { printf("%d ", i); i++; } return 0;
 abbrev below_n : Tree One

@@ -1,14 +1,14 @@
 -- How much a function has where loops of it are unrolled.
-use Rattle.std.proofs.Common.{◌≡◌, ℕ, zero, suc, ◌+◌, ◌-◌, ◌≤◌, ◌<◌, Bool, true, false, ◌&&◌, nat_lt, List, [], ◌∷◌, ◌++◌, Option, Some, None, refl, sym, ap, ◌∙◌, subst, arith, ltb-true}
+use Rattle.std.proofs.Common.{◌≡◌, ℕ, zero, suc, ◌+◌, ◌-◌, ◌≤◌, ◌<◌, Bool, true, false, List, Option, Some, None, refl, ap, ◌∙◌, arith, ltb-true}
 use Rattle.std.specs.Prelude.{if◌then◌else◌}
 use Rattle.std.specs.List.{sum_by}
 use Rattle.std.proofs.lemmas.Bool.{and_parts}
 use Rattle.std.proofs.lemmas.List.{append-nil}
-use Rattle.std.proofs.lemmas.List.Sums.{sum_by-append, sum_by-cons}
-use Rattle.vx_ast.specs.Tree.{One, Tree, Action, Code, Nothing, Seq, Empty, Block, Clear, Declare, ClearArray, Simply, Head, Print, If, IfElse, While, DoWhile, For, Break, Continue, Return, ReturnValue, Function}
-use Rattle.vx_ast.specs.Accepted.{at_most, nodes_of, action_nodes, test_nodes, code_nodes, function_nodes, arrays_of}
+use Rattle.std.proofs.lemmas.List.Sums.{sum_by-append}
+use Rattle.vx_ast.specs.Tree.{One, Tree, Action, Code, Nothing, Seq, Block, Head, If, IfElse, While, DoWhile, For, Function}
+use Rattle.vx_ast.specs.Accepted.{at_most, nodes_of, test_nodes, code_nodes, function_nodes, arrays_of}
 use Rattle.vx_unroll.specs.declared.size.Size.{Size}
-use Rattle.vx_unroll.specs.Unrolling.{block_of, step_before, test_before, turns_of, while_body, for_body, has_loop, declared_words, exchanged, keeps_limits, Decided, inside, and_then, where_it_fits, unrolled_in, own_words, function_words, size_of, unrolled_function}
+use Rattle.vx_unroll.specs.Unrolling.{block_of, step_before, test_before, turns_of, while_body, for_body, has_loop, declared_words, exchanged, keeps_limits, Decided, inside, and_then, where_it_fits, unrolled_in, own_words, size_of, unrolled_function}
 use Rattle.vx_unroll.specs.Growth.{step_cost, test_cost}
 use Rattle.vx_unroll.specs.Laws.{WordsStayWithin}
 

@@ -1,8 +1,7 @@
 -- Each name in unrolled code is in force and of its kind, as before.
 use Rattle.std.proofs.Common.{◌≡◌, ℕ, zero, suc, Bool, true, false, ◌&&◌, Option, Some, None, refl, sym, ap, ◌∙◌, subst}
 use Rattle.vx_ast.specs.declared.tree.Gives.{Gives}
-use Rattle.vx_ast.specs.declared.tree.UnaryOperator.TheVariants.{Not}
-use Rattle.vx_ast.specs.Tree.{One, Tree, Unary, Action, Code, Nothing, Seq, Block, Simply, Head, If, IfElse, While, DoWhile, For, Break, Program}
+use Rattle.vx_ast.specs.Tree.{One, Tree, Action, Code, Block, Program}
 use Rattle.vx_ast.specs.Accepted.{Scope, suits, suits_action, suits_test, suits_code, scope_after}
 use Rattle.vx_unroll.specs.Unrolling.{block_of, step_before, test_before, turns_of}
 use Rattle.vx_unroll.specs.Laws.{step_code, Unrolls, Kept, InSeq, InBlock, InIf, InIfElse, InWhile, InDoWhile, InFor, AWhile, AFor}

@@ -1,16 +1,16 @@
 -- A program, and the same with loops unrolled.
 use Rattle.std.proofs.Common.{◌≡◌, ℕ, zero, suc, ◌+◌, ◌-◌, ◌≤◌, ℤ, pos, Bool, true, false, List, [], ◌∷◌, length, map, Option, Some, None, slice_get, refl, sym, ap, ◌∙◌, subst, arith}
 use Rattle.std.specs.Prelude.{if◌then◌else◌}
-use Rattle.vx_base.specs.Outcome.{Outcome, output_of, IsOver, Begins, Within, Same}
+use Rattle.vx_base.specs.Outcome.{Outcome, output_of, IsOver, Begins, Within}
 use Rattle.vx_base.proofs.Same.{begins_self}
 use Rattle.vx_base.specs.declared.outcome.Trap.TheVariants.{Depth as ByDepth}
-use Rattle.vx_ast.specs.Tree.{One, Tree, Action, Code, Nothing, Seq, Empty, Block, Clear, Declare, ClearArray, Simply, Head, Print, If, IfElse, While, DoWhile, For, Break, Continue, Return, ReturnValue, Function, Program}
-use Rattle.vx_ast.specs.Meaning.{Store, Part, With, Trapped, Going, Leaves, Falls, Breaks, Continues, Returns, Calls, and_then, value, go_on, after_body, after_turn, tests, turns, turns_first, test_of, does, spot_of, back_in, result_of, entered, activate, active, deepest, at_start, outcome_of, source}
+use Rattle.vx_ast.specs.Tree.{One, Tree, Action, Code, Nothing, Seq, Block, Head, If, IfElse, While, DoWhile, For, Function, Program}
+use Rattle.vx_ast.specs.Meaning.{Store, Part, With, Trapped, Going, Leaves, Falls, Breaks, Continues, Returns, Calls, and_then, value, after_body, turns, test_of, does, spot_of, back_in, result_of, entered, activate, active, deepest, at_start, outcome_of, source}
 use Rattle.vx_ast.proofs.MoreTurns.{out_of, Later, Leads, leads_self, leads_same, leads_then, CallsLead, leads_value, leads_tests, leads_on, leads_body, leads_turns, leads_turns_first, leads_does}
 use Rattle.vx_unroll.specs.declared.size.Size.{Size}
-use Rattle.vx_unroll.specs.Unrolling.{block_of, turns_of, while_body, for_body, has_loop, exchanged, keeps_limits, Decided, inside, where_it_fits, own_words, size_of, unrolled_in, unrolled_function, unrolled_program}
+use Rattle.vx_unroll.specs.Unrolling.{turns_of, while_body, for_body, has_loop, exchanged, keeps_limits, Decided, own_words, size_of, unrolled_in, unrolled_function}
 use Rattle.vx_unroll.specs.Laws.{step_code, Unrolls, Kept, InSeq, InBlock, InIf, InIfElse, InWhile, InDoWhile, InFor, AWhile, AFor, AllUnroll, NoneLeft, AndMore, printed_by, EndsSo, StatementsKeep, UnrollingKeeps, UnrolledIsSame}
-use Rattle.vx_unroll.proofs.Beside.{extra, copies, widens, narrows}
+use Rattle.vx_unroll.proofs.Beside.{extra, widens, narrows}
 use Rattle.vx_unroll.proofs.Copies.{step_falls, often_is, plain_turns}
 
 falls_same : (t : Store) → Leads t.out (With Falls t) (With Falls t)

@@ -1,9 +1,9 @@
 -- The whole unrolled program: each name is in force and of its kind.
-use Rattle.std.proofs.Common.{◌≡◌, ℕ, zero, suc, Bool, true, false, ◌&&◌, List, [], ◌∷◌, length, Option, Some, None, slice_get, refl, sym, ap, ◌∙◌, subst}
+use Rattle.std.proofs.Common.{◌≡◌, ℕ, zero, suc, Bool, true, false, ◌&&◌, List, Option, Some, None, slice_get, refl, sym, ap, ◌∙◌}
 use Rattle.vx_ast.specs.declared.tree.Gives.{Gives}
 use Rattle.vx_ast.specs.declared.tree.Gives.TheVariants.{Int as GivesInt, Nothing as GivesNothing}
-use Rattle.vx_ast.specs.Tree.{Shape, One, Row, Tree, Literal, Local, Global, Element, Unary, Binary, Both, Either, Choice, Apply, ReadInt, MoreInput, NoMore, Then, Place, InLocal, InGlobal, InElement, Action, Evaluate, Assign, Compound, Increase, Decrease, Code, Nothing, Seq, Empty, Block, Clear, Declare, ClearArray, Simply, Head, Print, If, IfElse, While, DoWhile, For, Break, Continue, Return, ReturnValue, Function, Program}
-use Rattle.vx_ast.specs.Accepted.{Scope, names_array, row_length, can_call, gives_int, is_format, numbers_of, suits, suits_place, suits_whole, suits_action, suits_test, suits_code, scope_after, in_force_at_start}
+use Rattle.vx_ast.specs.Tree.{Shape, One, Tree, Literal, Local, Global, Element, Unary, Binary, Both, Either, Choice, Apply, ReadInt, MoreInput, NoMore, Then, Place, InLocal, InGlobal, InElement, Action, Evaluate, Assign, Compound, Increase, Decrease, Code, Nothing, Seq, Empty, Block, Clear, Declare, ClearArray, Simply, Head, Print, If, IfElse, While, DoWhile, For, Break, Continue, Return, ReturnValue, Function, Program}
+use Rattle.vx_ast.specs.Accepted.{Scope, row_length, can_call, gives_int, is_format, numbers_of, suits, suits_place, suits_whole, suits_action, suits_test, suits_code, scope_after, in_force_at_start}
 use Rattle.std.specs.Prelude.{nat_eq}
 use Rattle.vx_unroll.specs.Laws.{Unrolls, AllUnroll, NoneLeft, AndMore}
 use Rattle.vx_unroll.proofs.Suited.{suits_unrolled}

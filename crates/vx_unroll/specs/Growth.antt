@@ -3,7 +3,7 @@
 use Rattle.std.specs.Prelude.{ℕ, ◌+◌, ◌-◌, ◌*◌, Bool, true, false, ◌&&◌, if◌then◌else◌, List, [], ◌∷◌, length, Option, Some, None}
 use Rattle.std.specs.List.{list_all, sum}
 use Rattle.vx_ast.specs.declared.tree.Statement.{Statement}
-use Rattle.vx_ast.specs.Tree.{One, Tree, Action, Code, Nothing, Seq, Block, Function, Program}
+use Rattle.vx_ast.specs.Tree.{One, Tree, Action, Code, Seq, Block, Function, Program}
 use Rattle.vx_ast.specs.View.{code_of}
 use Rattle.vx_ast.specs.Accepted.{at_most, nodes_of, action_nodes, code_nodes, function_nodes}
 use Rattle.vx_unroll.specs.declared.size.Size.{Size}

@@ -165,7 +165,10 @@ pub(crate) fn copied_simple(alloc: Global, simple: &Simple) -> Result<Simple, No
 }
 
 /// A copy of the condition of a `for`.
-pub(crate) fn copied_test(alloc: Global, test: &Option<Expression>) -> Result<Option<Expression>, NoMemory>
+pub(crate) fn copied_test(
+    alloc: Global,
+    test: &Option<Expression>,
+) -> Result<Option<Expression>, NoMemory>
     ensures { IfOk result (λ copy. option_map tree_of copy ≡ option_map tree_of test.now) }
 {
     match test {

@@ -8,8 +8,8 @@ use crate::expressions::{copied, copied_row, copied_simple};
 use crate::memory::append;
 use std::alloc::Global;
 use vx_ast::tree::{Expression, First, Item, Statement};
-use vx_base::listed::Bytes;
 use vx_base::listed;
+use vx_base::listed::Bytes;
 use vx_base::outcome::NoMemory;
 
 // A copy of an item of a declaration.
@@ -64,7 +64,11 @@ fn copied_bytes(alloc: Global, bytes: &[u8]) -> Result<Bytes, NoMemory>
 }
 
 /// What is printed, by copies of a format and its arguments.
-pub(crate) fn copied_print(alloc: Global, format: &[u8], row: &[Expression]) -> Result<Statement, NoMemory>
+pub(crate) fn copied_print(
+    alloc: Global,
+    format: &[u8],
+    row: &[Expression],
+) -> Result<Statement, NoMemory>
     ensures { IfOk result (λ copy. code_of copy ≡ tree.Print format.now (row_in row.now)) }
 {
     let format = copied_bytes(alloc, format)?;

@@ -88,18 +88,18 @@ fn turn_nodes(body: &Statement) -> u64
     ensures { result ≡ capped (code_nodes (block_of (code_of body.now))) }
 {
     let nodes = statement_nodes(body);
-    if is_block(body) {
-        nodes
-    } else {
-        sum(1, nodes)
-    }
+    if is_block(body) { nodes } else { sum(1, nodes) }
 }
 
 // Whether what is put together is small enough to be counted.
 fn is_small(size: Size, nodes: u64, behind: u64, words: u64) -> bool
     ensures { result ≡ (at_most size.nodes 4000 && (at_most size.words 8192 && (at_most nodes 4000 && (at_most behind 4000 && at_most words 8192)))) }
 {
-    size.nodes <= MOST_NODES && size.words <= MOST_WORDS && nodes <= MOST_NODES && behind <= MOST_NODES && words <= MOST_WORDS
+    size.nodes <= MOST_NODES
+        && size.words <= MOST_WORDS
+        && nodes <= MOST_NODES
+        && behind <= MOST_NODES
+        && words <= MOST_WORDS
 }
 
 // A size, where it is within the limits.

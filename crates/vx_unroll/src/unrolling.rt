@@ -53,11 +53,7 @@ pub(crate) struct AllMade {
 fn either(left: bool, right: bool) -> bool
     ensures { result ≡ (if left then true else right) }
 {
-    if left {
-        true
-    } else {
-        right
-    }
+    if left { true } else { right }
 }
 
 // A `for` by its head, which is copied, and its body.

@@ -1,4 +1,3 @@
-use Rattle.std.proofs.Common.{ap}
 use Rattle.vx_ast.specs.View.{function_of}
 use Rattle.vx_unroll.specs.Growth.{is_small_function}
 use Rattle.vx_unroll.proofs.Declaring.{kept_at}

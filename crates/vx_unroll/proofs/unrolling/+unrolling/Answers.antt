@@ -1,4 +1,4 @@
-use Rattle.std.proofs.Common.{◌≡◌, ℕ, ◌+◌, ◌-◌, true, false, List, [], ◌∷◌, drop, Option, Some, None, ap, sym, ◌∙◌, refl, subst, arith, IfOk}
+use Rattle.std.proofs.Common.{◌≡◌, ℕ, ◌+◌, ◌-◌, List, drop, Some, None, ap, sym, ◌∙◌, subst, arith, IfOk}
 use Rattle.std.specs.Prelude.{option_map}
 use Rattle.std.proofs.lemmas.List.{drop_all}
 use Rattle.vx_ast.specs.declared.tree.Statement.{Statement}
@@ -139,4 +139,3 @@ for_decided-returns-in_ok-statement-in-Some t c =
     (code_of c.in_ok-statement-in-Some.statement.value) c.in-Some.next c.in-Some.is
     (turns_closed c.in_ok-front-in-Some.front.items (code_of c.in_ok-held.held.statement.value) (code_of c.args.body.now) (code_of c.in_ok-statement-in-Some.statement.value) (turns_of c.args.more (option_map tree_of c.args.test.now) (option_map action_of c.args.step.now) (code_of c.args.body.now))
     c.in_ok-statement-in-Some.ensures same c.in_ok-front-in-Some.ensures ∙ sym (for_body_is c.args.more (option_map tree_of c.args.test.now) c.args.step.now (code_of c.args.body.now)))
-

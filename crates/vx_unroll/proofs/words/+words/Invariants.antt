@@ -1,6 +1,5 @@
-use Rattle.std.proofs.Common.{true, drop, ◌*◌, ◌+◌}
-use Rattle.vx_ast.specs.Accepted.{code_nodes}
-use Rattle.vx_ast.specs.View.{all_in, code_of}
+use Rattle.std.proofs.Common.{true, drop}
+use Rattle.vx_ast.specs.View.{all_in}
 use Rattle.vx_limits.proofs.Counting.{Counted}
 use Rattle.vx_unroll.specs.Unrolling.{declared_words, own_words}
 use Rattle.vx_unroll.proofs.words.+words.Given as goal
