@@ -1,13 +1,13 @@
 // Copies of declarations, of what is printed, and of the head of a `for`.
 
-ghost use Rattle.std.specs.Prelude.{◌≡◌, IfOk};
+ghost use Rattle.std.specs.Prelude.{◌≡◌, IfOk, option_map};
 ghost use Rattle.vx_ast.specs.Tree as tree;
-ghost use Rattle.vx_ast.specs.View.{code_of, first_of, item_of, items_of, row_in, tree_of};
+ghost use Rattle.vx_ast.specs.View.{code_of, first_of, item_of, items_of, row_in, step_of, tree_of};
 
-use crate::expressions::{copied, copied_row, copied_simple};
-use crate::memory::append;
+use crate::expressions::{copied, copied_row, copied_simple, copied_step, copied_test};
+use crate::memory::{append, boxed};
 use std::alloc::Global;
-use vx_ast::tree::{Expression, First, Item, Statement};
+use vx_ast::tree::{Expression, First, Item, Simple, Statement};
 use vx_base::listed;
 use vx_base::listed::Bytes;
 use vx_base::outcome::NoMemory;
@@ -74,4 +74,79 @@ pub(crate) fn copied_print(
     let format = copied_bytes(alloc, format)?;
     let row = copied_row(alloc, row)?;
     Ok(Statement::Print(format, row))
+}
+
+/// The parts of the head of a `for`, each in a box.
+#[derive(Drop)]
+struct Head {
+    first: Box<First>,
+    test: Box<Option<Expression>>,
+    step: Box<Option<Simple>>,
+}
+
+// A copy of the first part in a box.
+fn held_first(alloc: Global, first: &First) -> Result<Box<First>, NoMemory>
+    ensures { IfOk result (λ copy. first_of copy.value ≡ first_of first.now) }
+{
+    let copy = copied_first(alloc, first)?;
+    boxed(alloc, copy)
+}
+
+// A copy of the condition in a box.
+fn held_test(alloc: Global, test: &Option<Expression>) -> Result<Box<Option<Expression>>, NoMemory>
+    ensures { IfOk result (λ copy. option_map tree_of copy.value ≡ option_map tree_of test.now) }
+{
+    let copy = copied_test(alloc, test)?;
+    boxed(alloc, copy)
+}
+
+// A copy of the step in a box.
+fn held_step(alloc: Global, step: &Option<Simple>) -> Result<Box<Option<Simple>>, NoMemory>
+    ensures { IfOk result (λ copy. step_of copy.value ≡ step_of step.now) }
+{
+    let copy = copied_step(alloc, step)?;
+    boxed(alloc, copy)
+}
+
+// Copies of all parts.
+fn copied_head(
+    alloc: Global,
+    first: &First,
+    test: &Option<Expression>,
+    step: &Option<Simple>,
+) -> Result<Head, NoMemory>
+    ensures first { IfOk result (λ copy. first_of copy.first.value ≡ first_of first.now) }
+    ensures test { IfOk result (λ copy. option_map tree_of copy.test.value ≡ option_map tree_of test.now) }
+    ensures step { IfOk result (λ copy. step_of copy.step.value ≡ step_of step.now) }
+{
+    let first = held_first(alloc, first)?;
+    let test = held_test(alloc, test)?;
+    let step = held_step(alloc, step)?;
+    Ok(Head { first, test, step })
+}
+
+// A `for` by its head and its body.
+fn for_of(head: Head, body: Box<Statement>) -> Statement
+    ensures { code_of result ≡ tree.For (first_of head.first.value) (option_map tree_of head.test.value) (step_of head.step.value) (code_of body.value) }
+{
+    Statement::For(
+        Box::into_inner(head.first),
+        Box::into_inner(head.test),
+        Box::into_inner(head.step),
+        body,
+    )
+}
+
+/// A `for` by its head, which is copied, and its body.
+pub(crate) fn for_made(
+    alloc: Global,
+    first: &First,
+    test: &Option<Expression>,
+    step: &Option<Simple>,
+    body: Box<Statement>,
+) -> Result<Statement, NoMemory>
+    ensures { IfOk result (λ made. code_of made ≡ tree.For (first_of first.now) (option_map tree_of test.now) (step_of step.now) (code_of body.value)) }
+{
+    let head = copied_head(alloc, first, test, step)?;
+    Ok(for_of(head, body))
 }

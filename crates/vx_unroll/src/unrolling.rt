@@ -2,13 +2,13 @@
 
 ghost use Rattle.std.specs.Prelude.{◌≡◌, ◌<◌, ◌≤◌, true, false, IfOk, None, Some, if◌then◌else◌, option_map};
 ghost use Rattle.vx_ast.specs.Tree as tree;
-ghost use Rattle.vx_ast.specs.View.{all_in, action_of, code_of, first_of, step_of, tree_of};
+ghost use Rattle.vx_ast.specs.View.{all_in, action_of, code_of, step_of, tree_of};
 ghost use Rattle.vx_unroll.specs.Growth.{code_onto, decided_as};
 ghost use Rattle.vx_unroll.specs.Unrolling.{block_of, for_body, has_loop, own_words, turns_of, unrolled_in, where_it_fits, while_body};
 
-use crate::expressions::{copied, copied_simple, copied_step, copied_test};
+use crate::expressions::{copied, copied_simple};
 use crate::memory::{append, boxed};
-use crate::parts::{copied_first, copied_items, copied_print};
+use crate::parts::{copied_items, copied_print, for_made};
 use crate::room::{for_cost, room_for, while_cost};
 use crate::size::Size;
 use crate::turns::{closed, put_behind, put_test, turn_of};
@@ -54,22 +54,6 @@ fn either(left: bool, right: bool) -> bool
     ensures { result ≡ (if left then true else right) }
 {
     if left { true } else { right }
-}
-
-// A `for` by its head, which is copied, and its body.
-fn for_made(
-    alloc: Global,
-    first: &First,
-    test: &Option<Expression>,
-    step: &Option<Simple>,
-    body: Box<Statement>,
-) -> Result<Statement, NoMemory>
-    ensures { IfOk result (λ made. code_of made ≡ tree.For (first_of first.now) (option_map tree_of test.now) (step_of step.now) (code_of body.value)) }
-{
-    let first = copied_first(alloc, first)?;
-    let test = copied_test(alloc, test)?;
-    let step = copied_step(alloc, step)?;
-    Ok(Statement::For(first, test, step, body))
 }
 
 // A statement with its loops as decided.
