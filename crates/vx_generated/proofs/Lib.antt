@@ -1,0 +1,6 @@
+pub mod Forms
+pub mod Parser
+pub mod Spelling
+pub mod Lines
+pub mod Fine
+pub mod Parts
