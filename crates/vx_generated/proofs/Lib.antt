@@ -4,3 +4,4 @@ pub mod Spelling
 pub mod Lines
 pub mod Fine
 pub mod Parts
+pub mod Statements
