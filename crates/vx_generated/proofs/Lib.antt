@@ -5,3 +5,4 @@ pub mod Lines
 pub mod Fine
 pub mod Parts
 pub mod Statements
+pub mod Texts
