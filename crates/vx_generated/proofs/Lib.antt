@@ -6,3 +6,6 @@ pub mod Fine
 pub mod Parts
 pub mod Statements
 pub mod Texts
+pub mod Scoped
+pub mod Bodies
+pub mod Functions
