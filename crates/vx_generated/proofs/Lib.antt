@@ -9,3 +9,5 @@ pub mod Texts
 pub mod Scoped
 pub mod Bodies
 pub mod Functions
+pub mod Numbers
+pub mod Sources
