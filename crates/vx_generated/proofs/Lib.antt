@@ -11,3 +11,5 @@ pub mod Bodies
 pub mod Functions
 pub mod Numbers
 pub mod Sources
+pub mod Names
+pub mod Mains
