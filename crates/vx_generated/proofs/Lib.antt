@@ -13,3 +13,5 @@ pub mod Numbers
 pub mod Sources
 pub mod Names
 pub mod Mains
+pub mod Programs
+pub mod Suited
