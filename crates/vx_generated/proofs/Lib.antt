@@ -15,3 +15,4 @@ pub mod Names
 pub mod Mains
 pub mod Programs
 pub mod Suited
+pub mod Limits

@@ -63,11 +63,12 @@ function_programmed : (others : List FileName) (j k : ℕ) (ls : List Line) (byt
 unfolding parts_of definitions_of depth_behind row_depth operator_depth choice_depth
 function_programmed others j k ls bytes place ts rest few more =
     let name : Token = token_at bytes (kinds.Name (function_name j)) (place + 3 + 1) (length (102 ∷ decimal j)) in
+    let small : 9 + (34 * length ls + 8) + 3 ≤ 4000 = omega (arith, few) in
     let b : Bodied (9 + (34 * length ls + 8)) _ ts (in_function (suc j) (array_name ∷ others) parameters 2) (in_function (suc j) (array_name ∷ others) all_locals 7) =
         function_bodied j others ls bytes _ _ (place + length (text_of (open_bits j))) ts in
     let s : Named_function name (9 + (34 * length ls + 8)) _ ts (in_function (suc j) (array_name ∷ others) parameters 2) (in_function (suc j) (array_name ∷ others) all_locals 7) =
         named_function name bytes (place + 3 + 1 + length (102 ∷ decimal j)) (9 + (34 * length ls + 8)) _ ts _ _ b in
-    let good : Good others j s.function = is_good others j (9 + (34 * length ls + 8)) name _ ts refl (omega (arith, few)) s in
+    let good : Good others j s.function = is_good others j (9 + (34 * length ls + 8)) name _ ts refl small s in
     record {
       row = Then (Leaf (token_at bytes (kinds.Keyword words.Int) place 3)) (Then (Leaf name) (Then (Node AfterName s.row) (Then (Node Program more.row) NoMore)));
       inner = int_definition;

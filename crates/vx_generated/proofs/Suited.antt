@@ -73,10 +73,10 @@ has_main others j n es (Listing.one_more {k = k} {f = f} {ds = ds} g more) = by 
 abbrev pub program_with : (place size_place end : Place) → List syntax.Definition → syntax.Program
 program_with place size_place end ds = record { definitions = syntax.GlobalArray (record { bytes = codes "m"; place = place }) (record { words = 16; place = size_place }) ∷ ds; end = end }
 
-names_of_all : (place size_place end : Place) (n : ℕ) (ds : List syntax.Definition) → Listing (file_names 0 n) 0 n ds → names_of (program_with place size_place end ds) ≡ array_name ∷ file_names 0 n
+pub names_of_all : (place size_place end : Place) (n : ℕ) (ds : List syntax.Definition) → Listing (file_names 0 n) 0 n ds → names_of (program_with place size_place end ds) ≡ array_name ∷ file_names 0 n
 names_of_all place size_place end n ds l = ap (λ (ns : List FileName). array_name ∷ ns) (names_are (file_names 0 n) 0 n ds l)
 
-globals_of_all : (place size_place end : Place) (n : ℕ) (ds : List syntax.Definition) → Listing (file_names 0 n) 0 n ds → length (globals_of (program_with place size_place end ds).definitions) ≡ 1
+pub globals_of_all : (place size_place end : Place) (n : ℕ) (ds : List syntax.Definition) → Listing (file_names 0 n) 0 n ds → length (globals_of (program_with place size_place end ds).definitions) ≡ 1
 globals_of_all place size_place end n ds l = ap (λ (gs : List GlobalVariable). suc (length gs)) (no_globals (file_names 0 n) 0 n ds l)
 
 pub faultless : (place size_place end : Place) (n : ℕ) (ds : List syntax.Definition) → n ≤ 100 → Listing (file_names 0 n) 0 n ds → first_fault (program_with place size_place end ds) ≡ None

@@ -1,2 +1,11 @@
 // The law of generated sources: each is an accepted source. It is the clause of a function that does nothing.
 #![tactic(auto)]
+
+ghost use Rattle.vx_generated.specs.Laws.{GeneratedIsRead};
+
+/// Every source that a seed and a size up to 10,000 give reads as a program: it has tokens, they are derived by the grammar, no
+/// name or kind is at fault, and no limit is passed.
+#[tactic(auto, using(crate::proofs::Limits::program_reads))]
+pub fn generated_is_read()
+    ensures { GeneratedIsRead }
+{}
