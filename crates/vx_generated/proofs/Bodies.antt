@@ -1,26 +1,23 @@
 -- The body of a generated function.
-use Rattle.std.proofs.Common.{◌≡◌, ℕ, zero, suc, ◌+◌, ◌*◌, ◌≤◌, max, pos, Bool, true, false, List, [], ◌∷◌, ◌++◌, length, codes, Option, Some, None, refl, sym, ap, subst, ◌∙◌, arith}
-use Rattle.vx_ast.specs.declared.tree.Gives.TheVariants.{Int as GivesInt}
+use Rattle.std.proofs.Common.{◌≡◌, ℕ, suc, ◌+◌, ◌*◌, ◌≤◌, max, List, [], ◌∷◌, ◌++◌, length, codes, Some, refl, subst, arith}
 use Rattle.vx_ast.specs.declared.tree.BinaryOperator.TheVariants as binary
 use Rattle.vx_ast.specs.declared.token.Keyword.TheVariants as words
 use Rattle.vx_ast.specs.declared.token.Mark.TheVariants as marks
-use Rattle.vx_ast.specs.declared.token.TokenKind.TheVariants as kinds
 use Rattle.vx_ast.specs.declared.token.Token.{Token}
 use Rattle.vx_ast.specs.declared.syntax.Place.{Place}
 use Rattle.vx_ast.specs.declared.names.FileName.{FileName}
 use Rattle.vx_ast.specs.Tree.{One, Row}
 use Rattle.vx_ast.specs.Syntax as syntax
-use Rattle.vx_ast.specs.Scopes.{Environment, Known, look, predeclared}
+use Rattle.vx_ast.specs.Scopes.{Environment, look, predeclared}
 use Rattle.vx_ast.specs.Phrases as phrases
 use Rattle.vx_ast.specs.Phrases.{Part, A, mark, word, Derivation, Leaf, Node, NoMore, Then, Is, parts_of, Statement, Items, Item, MoreItems, ElsePart}
-use Rattle.vx_ast.specs.Derivations.{expression_of, behind, named, arguments_of, arguments_in, place_of, code_of, statement_of, if_of, block_of, body_of, all_of, item_of, more_items_of, test_of, is_begun, are_begun, depth_behind, row_depth, operator_depth, choice_depth}
+use Rattle.vx_ast.specs.Derivations.{expression_of, behind, named, arguments_of, arguments_in, code_of, statement_of, if_of, all_of, item_of, more_items_of, test_of, is_begun, are_begun, depth_behind, row_depth, operator_depth, choice_depth}
 use Rattle.vx_generated.proofs.Forms as forms
 use Rattle.vx_generated.proofs.Forms.{Bit, InA, InB, InC, InD, Line, word_int, word_return, space, line_end, equal, semicolon, plus, digit, of_variable, tokens_of, line_text}
-use Rattle.vx_generated.proofs.Parser.{Found, parse, got}
-use Rattle.vx_generated.proofs.Lines.{line_tokens}
+use Rattle.vx_generated.proofs.Parser.{parse, got}
 use Rattle.vx_generated.proofs.Texts.{lines_tokens}
 use Rattle.vx_generated.proofs.Fine.{Suits, Knows, suits_variable, suits_binary}
-use Rattle.vx_generated.proofs.Scoped.{in_function, array_name, parameters, with_i, with_a, with_b, with_c, all_locals, knows_all, Leads, of_fine, of_nothing, of_seq, leads_more, of_scalar, of_value}
+use Rattle.vx_generated.proofs.Scoped.{in_function, array_name, parameters, with_i, with_a, with_b, with_c, all_locals, Leads, of_fine, of_nothing, of_seq, leads_more, of_scalar, of_value}
 use Rattle.vx_generated.proofs.Parts.{parts_at, enters, a_mark}
 use Rattle.vx_generated.proofs.Statements.{onto, joins, one_statement, Stated, line_stated}
 

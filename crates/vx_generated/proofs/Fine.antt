@@ -1,5 +1,5 @@
 -- Parts of a tree that have no fault where the names of a generated function are known, and how many nodes they have.
-use Rattle.std.proofs.Common.{◌≡◌, ℕ, ℤ, suc, ◌+◌, ◌≤◌, Bool, true, List, [], ◌∷◌, ◌++◌, codes, Option, Some, None, refl, sym, ap, subst, ◌∙◌, arith}
+use Rattle.std.proofs.Common.{◌≡◌, ℕ, ℤ, ◌+◌, ◌≤◌, Bool, true, List, [], ◌∷◌, ◌++◌, codes, Option, Some, None, refl, sym, ap, subst, ◌∙◌, arith}
 use Rattle.vx_ast.specs.declared.tree.Gives.{Gives}
 use Rattle.vx_ast.specs.declared.tree.BinaryOperator.{BinaryOperator}
 use Rattle.vx_ast.specs.declared.syntax.Place.{Place}
@@ -190,6 +190,7 @@ fine_if_else {n = n} {m = m} {k = o} {e = e} {c = c} {d = d} t s u = record {
 } where
   keep : (env : Environment) → outside env (behind d (inside (outside env (behind c (inside env))))) ≡ env
   keep env = ap (λ (x : Environment). outside env (behind d (inside (outside env x)))) (s.keeps (inside env)) ∙ ap (λ (e : Environment). outside env e) (u.keeps (inside env)) ∙ out_again env
+
   more : (env : Environment) → 1 + nodes_of (tree_in env e) + code_nodes (code_in (inside env) c) + code_nodes (code_in (inside (outside env (behind c (inside env)))) d) ≤ 1 + n + m + o
   more env = let x = t.nodes env in let y = s.nodes (inside env) in let z = u.nodes (inside (outside env (behind c (inside env)))) in omega (arith, x, y, z)
 

@@ -1,17 +1,15 @@
 -- A generated function.
-use Rattle.std.proofs.Common.{◌≡◌, ℕ, zero, suc, ◌+◌, ◌*◌, ◌≤◌, max, pos, Bool, true, false, List, [], ◌∷◌, ◌++◌, length, codes, Option, Some, None, refl, sym, ap, subst, ◌∙◌, arith}
+use Rattle.std.proofs.Common.{◌≡◌, ℕ, suc, ◌+◌, ◌*◌, ◌≤◌, max, false, List, [], ◌∷◌, ◌++◌, length, codes, Some, refl, sym, ap, subst, ◌∙◌, arith}
 use Rattle.std.specs.Prelude.{decimal}
 use Rattle.vx_ast.specs.declared.tree.Gives.TheVariants.{Int as GivesInt}
-use Rattle.vx_ast.specs.declared.token.Keyword.TheVariants as words
 use Rattle.vx_ast.specs.declared.token.Mark.TheVariants as marks
 use Rattle.vx_ast.specs.declared.token.TokenKind.TheVariants as kinds
 use Rattle.vx_ast.specs.declared.token.Token.{Token}
 use Rattle.vx_ast.specs.declared.syntax.Place.{Place}
 use Rattle.vx_ast.specs.declared.syntax.Name.{Name}
 use Rattle.vx_ast.specs.declared.names.FileName.{FileName}
-use Rattle.vx_ast.specs.Tree.{One, Row}
+use Rattle.vx_ast.specs.Tree.{Row}
 use Rattle.vx_ast.specs.Syntax as syntax
-use Rattle.vx_ast.specs.Tokens.{token_at}
 use Rattle.vx_ast.specs.Scopes.{Environment, Known, look, predeclared, with_parameters, with_scalar}
 use Rattle.vx_ast.specs.Scopes as scopes
 use Rattle.vx_ast.specs.Faults.{function_faults, parameter_faults, code_faults, declares}
@@ -19,10 +17,10 @@ use Rattle.vx_ast.specs.Resolved.{function_in, code_in}
 use Rattle.vx_ast.specs.Accepted.{function_nodes, code_nodes, formats_of}
 use Rattle.vx_ast.specs.Phrases as phrases
 use Rattle.vx_ast.specs.Phrases.{Part, A, mark, word, Derivation, Leaf, Node, NoMore, Then, Is, parts_of, Block, Items, Parameters, AfterName}
-use Rattle.vx_ast.specs.Derivations.{name_of, block_of, body_of, code_of, all_of, parameters_of, after_name_of, depth_behind, row_depth, operator_depth, choice_depth}
+use Rattle.vx_ast.specs.Derivations.{name_of, block_of, body_of, code_of, parameters_of, after_name_of, depth_behind, row_depth, operator_depth, choice_depth}
 use Rattle.vx_generated.proofs.Forms as forms
 use Rattle.vx_generated.proofs.Forms.{Bit, Spelt, Line, word_int, space, line_end, comma, opening, closing, brace, brace_end, digit, tokens_of, text_of}
-use Rattle.vx_generated.proofs.Parser.{Found, parse, got}
+use Rattle.vx_generated.proofs.Parser.{parse, got}
 use Rattle.vx_generated.proofs.Spelling.{Tokens, bits_tokens, followed}
 use Rattle.vx_generated.proofs.Texts.{lines_text, lines_tokens}
 use Rattle.vx_generated.proofs.Fine.{both_none}
@@ -86,7 +84,7 @@ function_bodied above others ls bytes p place place2 rest =
     let e7 : Environment = in_function (suc above) (array_name ∷ others) all_locals 7 in
     let back : Listed 8 (tokens_of bytes (place2 + length (lines_text ls)) close_bits ++ rest) (a_mark bytes marks.CloseBrace _ ∷ rest) e7 e7 = return_listed bytes (place2 + length (lines_text ls)) _ rest e7 (knows_all above others) in
     let all : Listed (34 * length ls + 8) (lines_tokens ls bytes place2 (tokens_of bytes (place2 + length (lines_text ls)) close_bits ++ rest)) (a_mark bytes marks.CloseBrace _ ∷ rest) e7 e7 =
-        lines_listed ls bytes place2 (tokens_of bytes (place2 + length (lines_text ls)) close_bits ++ rest) _ 8 e7 e7 (knows_all above others) back in
+    lines_listed ls bytes place2 (tokens_of bytes (place2 + length (lines_text ls)) close_bits ++ rest) _ 8 e7 e7 (knows_all above others) back in
     let with_d = d_listed bytes _ _ _ above others (34 * length ls + 8) e7 all in
     let with_c = c_listed bytes _ _ _ above others _ e7 with_d in
     let with_b = b_listed bytes _ _ _ above others _ e7 with_c in
@@ -103,7 +101,7 @@ parameter_names p q = record { bytes = codes "p"; place = p } ∷ record { bytes
 abbrev pub parameters_front : List Part
 parameters_front = mark marks.OpenParenthesis ∷ A Parameters ∷ mark marks.CloseParenthesis ∷ []
 
-pub record Named_function (name : Token) (n : ℕ) (ts rest : List Token) (e f : Environment) : Type 0 where
+pub record NamedFunction (name : Token) (n : ℕ) (ts rest : List Token) (e f : Environment) : Type 0 where
   pub row : Derivation Row
   pub inner : List Part
   pub enters : parts_at AfterName ts ≡ Some inner
@@ -121,7 +119,7 @@ pub record Named_function (name : Token) (n : ℕ) (ts rest : List Token) (e f :
 deep_function : (left e : ℕ) → e ≤ max 0 12 → max left (0 + e) ≤ max left 12
 deep_function left e k = omega (arith, k)
 
-pub named_function : (name : Token) (bytes : List ℕ) (place n : ℕ) (ts rest : List Token) (e f : Environment) → Bodied n ts rest e f → Named_function name n (tokens_of bytes place parameter_bits ++ ts) rest e f
+pub named_function : (name : Token) (bytes : List ℕ) (place n : ℕ) (ts rest : List Token) (e f : Environment) → Bodied n ts rest e f → NamedFunction name n (tokens_of bytes place parameter_bits ++ ts) rest e f
 unfolding parts_of parameters_of after_name_of block_of depth_behind row_depth operator_depth choice_depth
 named_function name bytes place n ts rest e f s = record {
   row = onto (got (parse 60 parameters_front (tokens_of bytes place parameter_bits ++ ts)) tt).derivation (Then (Node Block s.row) NoMore);
@@ -180,7 +178,7 @@ good_at others j n name p q body is few s =
     }
 
 pub is_good : (others : List FileName) (j n : ℕ) (name : Token) (ts rest : List Token) → (name_of name).bytes ≡ function_name j → n + 3 ≤ 4000
-    → (s : Named_function name n ts rest (in_function (suc j) (array_name ∷ others) parameters 2) (in_function (suc j) (array_name ∷ others) all_locals 7)) → Good others j s.function
+    → (s : NamedFunction name n ts rest (in_function (suc j) (array_name ∷ others) parameters 2) (in_function (suc j) (array_name ∷ others) all_locals 7)) → Good others j s.function
 is_good others j n name ts rest is few s =
     let here : Good others j (record { gives = GivesInt; name = name_of name; parameters = parameter_names s.p s.q; body = s.function.body }) = good_at others j n (name_of name) s.p s.q s.function.body is few s.leads in
     let same : record { gives = GivesInt; name = name_of name; parameters = parameter_names s.p s.q; body = s.function.body } ≡ s.function = λ i. record { gives = (sym s.gives) i; name = (sym s.name_is) i; parameters = (sym s.parameters_are) i; body = s.function.body } in

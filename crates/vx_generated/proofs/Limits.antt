@@ -1,5 +1,5 @@
 -- A generated source is within its limits, and so it reads.
-use Rattle.std.proofs.Common.{◌≡◌, ℕ, zero, suc, ◌+◌, ◌*◌, ◌<◌, ◌≤◌, max, Bool, true, false, cond, nat_lt, List, [], ◌∷◌, ◌++◌, length, map, codes, Option, Some, None, refl, sym, ap, subst, ◌∙◌, arith}
+use Rattle.std.proofs.Common.{◌≡◌, ℕ, suc, ◌+◌, ◌<◌, ◌≤◌, max, Bool, true, false, cond, List, [], ◌∷◌, ◌++◌, length, map, Option, Some, None, refl, sym, ap, subst, arith}
 use Rattle.std.specs.List.{flat_map, sum}
 use Rattle.std.proofs.lemmas.Bool.{lt-ltb}
 use Rattle.vx_ast.specs.declared.tree.GlobalVariable.{GlobalVariable}
@@ -15,7 +15,7 @@ use Rattle.vx_ast.specs.Resolved.{function_in, functions_from, resolved}
 use Rattle.vx_ast.specs.Accepted.{Over, over, or_else, at_most, function_nodes, formats_of, global_words, limit_of}
 use Rattle.vx_ast.specs.Phrases as phrases
 use Rattle.vx_ast.specs.Phrases.{Program, A, Node, NoMore, Then}
-use Rattle.vx_ast.specs.Derivations.{place_of, definitions_of, depth_behind, row_depth}
+use Rattle.vx_ast.specs.Derivations.{place_of, depth_behind, row_depth}
 use Rattle.vx_ast.specs.Reads.{Reads, Parses}
 use Rattle.vx_gen.specs.Program.{program_text, function_count}
 use Rattle.vx_gen.proofs.Length.{program_length}
@@ -23,8 +23,8 @@ use Rattle.vx_generated.proofs.Scoped.{in_function, array_name}
 use Rattle.vx_generated.proofs.Parts.{enters}
 use Rattle.vx_generated.proofs.Functions.{Good}
 use Rattle.vx_generated.proofs.Names.{file_names}
-use Rattle.vx_generated.proofs.Mains.{Good_main}
-use Rattle.vx_generated.proofs.Sources.{Drawn_source, source_drawn, all_tokens}
+use Rattle.vx_generated.proofs.Mains.{GoodMain}
+use Rattle.vx_generated.proofs.Sources.{DrawnSource, source_drawn, all_tokens}
 use Rattle.vx_generated.proofs.Programs.{Listing, Whole, source_whole}
 use Rattle.vx_generated.proofs.Suited.{program_with, faultless, names_of_all, globals_of_all}
 
@@ -79,7 +79,7 @@ function_fits n j f g = record {
   formats = ap (λ (l : List (List ℕ)). over 8 4096 (map (λ (t : List ℕ). length t) l)) g.formats;
 }
 
-main_fits : (n j : ℕ) (f : syntax.Function) → Good_main (file_names 0 n) j f → Fits (function_in (in_function (suc j) (array_name ∷ file_names 0 n) [] 0) f)
+main_fits : (n j : ℕ) (f : syntax.Function) → GoodMain (file_names 0 n) j f → Fits (function_in (in_function (suc j) (array_name ∷ file_names 0 n) [] 0) f)
 main_fits n j f g = record {
   parameters = let none : length f.parameters ≡ 0 = ap (λ ps. length ps) g.parameters in omega (arith, none);
   nodes = g.nodes;
@@ -134,17 +134,19 @@ program_reads seed size h =
     let bytes : List ℕ = program_text seed size in
     let few : k ≤ 100 = omega (arith, h) in
     let last : Token = token_at bytes kinds.End (length bytes) 0 in
-    let d : Drawn_source seed size = source_drawn seed size h in
+    let d : DrawnSource seed size = source_drawn seed size h in
     let w : Whole (file_names 0 k) k (all_tokens bytes k d.lists) (last ∷ []) = source_whole k d.lists bytes (length bytes) few d.count d.few in
     let parsed_tree : syntax.Program = program_with w.place w.size_place (place_of last) w.functions in
-    let short : length bytes < 1048576 = program_length seed size h in
-    (resolved parsed_tree, record {
-      short = omega (arith, short);
-      tokens = all_tokens bytes k d.lists;
-      lexes = d.lexes;
-      tree = parsed_tree;
-      parses = parsed k (all_tokens bytes k d.lists) last w;
-      faultless = faultless w.place w.size_place (place_of last) k w.functions few w.listing;
-      within = kept w.place w.size_place (place_of last) k w.functions few w.listing;
-      is_program = refl;
-    })
+    let short : length bytes < 1048576 = program_length seed size h in (
+      resolved parsed_tree,
+      record {
+        short = omega (arith, short);
+        tokens = all_tokens bytes k d.lists;
+        lexes = d.lexes;
+        tree = parsed_tree;
+        parses = parsed k (all_tokens bytes k d.lists) last w;
+        faultless = faultless w.place w.size_place (place_of last) k w.functions few w.listing;
+        within = kept w.place w.size_place (place_of last) k w.functions few w.listing;
+        is_program = refl;
+      },
+    )

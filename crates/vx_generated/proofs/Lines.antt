@@ -1,10 +1,9 @@
 -- The tokens of each line.
-use Rattle.std.proofs.Common.{◌≡◌, ℕ, zero, suc, ◌+◌, Bool, true, false, List, [], ◌∷◌, ◌++◌, length, refl, codes, append_assoc, subst, sym}
-use Rattle.vx_ast.specs.declared.token.Token.{Token}
+use Rattle.std.proofs.Common.{◌≡◌, ℕ, true, List, [], ◌∷◌, ◌++◌, refl, append_assoc, subst, sym}
 use Rattle.vx_ast.specs.declared.token.Piece.TheVariants.{Spelled}
 use Rattle.vx_ast.specs.declared.token.TokenKind.TheVariants as kinds
-use Rattle.vx_ast.specs.Tokens.{first_piece, word_piece, keyword_of, mark_piece, mark_at, decimal_piece, is_include_line, behind_word, line_of}
-use Rattle.vx_generated.proofs.Forms.{Variable, InA, InB, InC, InD, byte_of, Drawn, Sum, Thrice, Quotient, Remainder, Half, Formula, Alone, Added, Line, Set, Store, Load, IfLess, Repeat, IfMore, Bit, of_variable, text_of, tokens_of, drawn_pieces, pieces_of, set_front, set_back, store_front, load_bits, less_front, more_front, block_back, loop_front, else_middle, between, line_text}
+use Rattle.vx_ast.specs.Tokens.{first_piece, word_piece, keyword_of, mark_piece, mark_at, decimal_piece}
+use Rattle.vx_generated.proofs.Forms.{Variable, InA, InB, InC, InD, byte_of, Drawn, Sum, Thrice, Quotient, Remainder, Half, Formula, Alone, Added, Line, Set, Store, Load, IfLess, Repeat, IfMore, Bit, of_variable, text_of, drawn_pieces, pieces_of, set_front, set_back, store_front, load_bits, less_front, more_front, block_back, loop_front, else_middle, between, line_text}
 use Rattle.vx_generated.proofs.Spelling.{is_plain, begins_plain, Lexed, Spells, Tokens, bits_tokens, followed, of_bits, of_both}
 
 -- what stands behind a variable
@@ -80,9 +79,9 @@ set_front_lexed : (v : Variable) (after : List ℕ) → begins_plain after ≡ t
 unfolding first_piece word_piece keyword_of mark_piece mark_at decimal_piece
 set_front_lexed v after h = (a_variable v ASpace _ refl (Lexed.blank refl (Lexed.token refl refl (Lexed.blank h Lexed.done))))
 
-set_back_lexed : (after : List ℕ) → Lexed after (set_back )
+set_back_lexed : (after : List ℕ) → Lexed after (set_back)
 unfolding first_piece word_piece keyword_of mark_piece mark_at decimal_piece
-set_back_lexed  after = (Lexed.token refl refl (Lexed.end Lexed.done))
+set_back_lexed after = (Lexed.token refl refl (Lexed.end Lexed.done))
 
 store_front_lexed : (v : Variable) (after : List ℕ) → begins_plain after ≡ true → Lexed after (store_front v)
 unfolding first_piece word_piece keyword_of mark_piece mark_at decimal_piece
@@ -100,9 +99,9 @@ more_front_lexed : (u v w : Variable) (after : List ℕ) → begins_plain after 
 unfolding first_piece word_piece keyword_of mark_piece mark_at decimal_piece
 more_front_lexed u v w after h = (Lexed.token refl refl (Lexed.blank refl (Lexed.token refl refl (a_variable u ASpace _ refl (Lexed.blank refl (Lexed.token refl refl (Lexed.blank (variable_plain v) (a_variable v AClosing _ refl (Lexed.token refl refl (Lexed.blank refl (Lexed.token refl refl (Lexed.blank (variable_plain w) (a_variable w ASpace _ refl (Lexed.blank refl (Lexed.token refl refl (Lexed.blank h Lexed.done))))))))))))))))
 
-block_back_lexed : (after : List ℕ) → Lexed after (block_back )
+block_back_lexed : (after : List ℕ) → Lexed after (block_back)
 unfolding first_piece word_piece keyword_of mark_piece mark_at decimal_piece
-block_back_lexed  after = (Lexed.token refl refl (Lexed.blank refl (Lexed.token refl refl (Lexed.end Lexed.done))))
+block_back_lexed after = (Lexed.token refl refl (Lexed.blank refl (Lexed.token refl refl (Lexed.end Lexed.done))))
 
 loop_front_lexed : (w : Variable) (after : List ℕ) → begins_plain after ≡ true → Lexed after (loop_front w)
 unfolding first_piece word_piece keyword_of mark_piece mark_at decimal_piece

@@ -1,11 +1,8 @@
 -- The function main of a generated source.
-use Rattle.std.proofs.Common.{◌≡◌, ℕ, zero, suc, ◌+◌, ◌*◌, ◌<◌, ◌≤◌, max, pos, Bool, true, false, List, [], ◌∷◌, ◌++◌, length, map, codes, Option, Some, None, refl, sym, ap, subst, ◌∙◌, arith}
-use Rattle.std.specs.Prelude.{decimal}
+use Rattle.std.proofs.Common.{◌≡◌, ℕ, zero, suc, ◌+◌, ◌*◌, ◌<◌, ◌≤◌, max, pos, false, List, [], ◌∷◌, ◌++◌, length, map, codes, Option, Some, None, refl, sym, ap, subst, arith}
 use Rattle.vx_ast.specs.declared.tree.Gives.TheVariants.{Int as GivesInt}
 use Rattle.vx_ast.specs.declared.token.Mark.TheVariants as marks
-use Rattle.vx_ast.specs.declared.token.TokenKind.TheVariants as kinds
 use Rattle.vx_ast.specs.declared.token.Token.{Token}
-use Rattle.vx_ast.specs.declared.syntax.Place.{Place}
 use Rattle.vx_ast.specs.declared.syntax.Name.{Name}
 use Rattle.vx_ast.specs.declared.names.Named.{Named}
 use Rattle.vx_ast.specs.declared.names.Named.TheVariants.{Function as AFunctionNamed}
@@ -15,15 +12,14 @@ use Rattle.vx_ast.specs.Tree as tree
 use Rattle.vx_ast.specs.Syntax as syntax
 use Rattle.vx_ast.specs.Scopes as scopes
 use Rattle.vx_ast.specs.Scopes.{Environment}
-use Rattle.vx_ast.specs.Faults.{phrase_faults, called, prints, code_faults, function_faults}
-use Rattle.vx_ast.specs.Resolved.{tree_in, call_named, code_in, function_in}
+use Rattle.vx_ast.specs.Faults.{called, code_faults, function_faults}
+use Rattle.vx_ast.specs.Resolved.{call_named, code_in, function_in}
 use Rattle.vx_ast.specs.Accepted.{nodes_of, code_nodes, formats_of, function_nodes, over}
 use Rattle.vx_ast.specs.Phrases as phrases
 use Rattle.vx_ast.specs.Phrases.{Part, A, mark, Derivation, Leaf, Node, NoMore, Then, Is, parts_of, Statement, Items, Block, AfterName, Parameters}
-use Rattle.vx_ast.specs.Derivations.{name_of, expression_of, behind, named, arguments_of, arguments_in, place_of, print_of, code_of, statement_of, if_of, block_of, body_of, all_of, test_of, parameters_of, after_name_of, is_begun, are_begun, depth_behind, row_depth, operator_depth, choice_depth}
-use Rattle.vx_generated.proofs.Forms as forms
+use Rattle.vx_ast.specs.Derivations.{name_of, expression_of, behind, named, arguments_of, arguments_in, print_of, code_of, statement_of, if_of, block_of, body_of, all_of, test_of, parameters_of, after_name_of, is_begun, are_begun, depth_behind, row_depth, operator_depth, choice_depth}
 use Rattle.vx_generated.proofs.Forms.{Bit, opening, closing, word_void, space, tokens_of, text_of, word_return, digit, semicolon, line_end}
-use Rattle.vx_generated.proofs.Parser.{Found, parse, got}
+use Rattle.vx_generated.proofs.Parser.{parse, got}
 use Rattle.vx_generated.proofs.Fine.{both_none}
 use Rattle.vx_generated.proofs.Parts.{parts_at, enters, a_mark}
 use Rattle.vx_generated.proofs.Statements.{onto, joins, one_statement}
@@ -92,8 +88,17 @@ call_calling bytes j place n ts rest e known s = record {
   sum a b n h k = omega (arith, h, k)
 
 calling_more : {n : ℕ} {ts rest : List Token} {e : Environment} (m : ℕ) → n ≤ m → Calling n ts rest e → Calling m ts rest e
-calling_more {n = n} {e = e} m h s = record { row = s.row; inner = s.inner; enters = s.enters; is = s.is; depth = s.depth; faults = s.faults; keeps = s.keeps; formats = s.formats;
-  nodes = let x : code_nodes (code_in e (all_of (Node Items s.row))) ≤ n = s.nodes in omega (arith, h, x) }
+calling_more {n = n} {e = e} m h s = record {
+  row = s.row;
+  inner = s.inner;
+  enters = s.enters;
+  is = s.is;
+  depth = s.depth;
+  faults = s.faults;
+  keeps = s.keeps;
+  formats = s.formats;
+  nodes = let x : code_nodes (code_in e (all_of (Node Items s.row))) ≤ n = s.nodes in omega (arith, h, x);
+}
 
 calls_calling : (j k : ℕ) (bytes : List ℕ) (place n : ℕ) (ts rest : List Token) (e : Environment) → ((i : ℕ) → j ≤ i → i < j + k → scopes.named (function_name i) e ≡ Some (AFunctionNamed i GivesInt 2))
     → Calling n ts rest e → Calling (4 * k + n) (calls_tokens j k bytes place ts) rest e
@@ -110,7 +115,7 @@ abbrev pub void_bits : List Bit
 void_bits = opening ∷ word_void ∷ closing ∷ space ∷ []
 
 -- what a program needs of main with k functions above it
-pub record Good_main (others : List FileName) (k : ℕ) (f : syntax.Function) : Type 0 where
+pub record GoodMain (others : List FileName) (k : ℕ) (f : syntax.Function) : Type 0 where
   pub gives : f.gives ≡ GivesInt
   pub name : f.name.bytes ≡ codes "main"
   pub parameters : f.parameters ≡ []
@@ -119,7 +124,7 @@ pub record Good_main (others : List FileName) (k : ℕ) (f : syntax.Function) : 
   pub arrays : (function_in (in_function (suc k) (array_name ∷ others) [] 0) f).arrays ≡ []
   pub formats : over 8 4096 (map (λ (t : List ℕ). length t) (formats_of (function_in (in_function (suc k) (array_name ∷ others) [] 0) f).body)) ≡ None
 
-pub record Named_main (others : List FileName) (k : ℕ) (name : Token) (ts rest : List Token) : Type 0 where
+pub record NamedMain (others : List FileName) (k : ℕ) (name : Token) (ts rest : List Token) : Type 0 where
   pub row : Derivation Row
   pub inner : List Part
   pub enters : parts_at AfterName ts ≡ Some inner
@@ -127,7 +132,7 @@ pub record Named_main (others : List FileName) (k : ℕ) (name : Token) (ts rest
   pub depth : (left : ℕ) → depth_behind left (Node AfterName row) ≤ max left 12
   pub function : syntax.Function
   pub defines : after_name_of name (Node AfterName row) ≡ syntax.AFunction function ∷ []
-  pub good : Good_main others k function
+  pub good : GoodMain others k function
 
 deep_main : (left e : ℕ) → e ≤ max 0 11 → max left (0 + max 0 (1 + e)) ≤ max left 12
 deep_main left e k = omega (arith, k)
@@ -136,7 +141,7 @@ abbrev pub block_row : (bytes : List ℕ) (p q : ℕ) → Derivation Row → Der
 block_row bytes p q items = Then (Leaf (a_mark bytes marks.OpenBrace p)) (Then (Node Items items) (Then (Leaf (a_mark bytes marks.CloseBrace q)) NoMore))
 
 named_main : (others : List FileName) (k : ℕ) (name : Token) (bytes : List ℕ) (place p q n : ℕ) (ts rest : List Token) → (name_of name).bytes ≡ codes "main" → n < 4000
-    → Calling n ts (a_mark bytes marks.CloseBrace q ∷ rest) (in_function (suc k) (array_name ∷ others) [] 0) → Named_main others k name (tokens_of bytes place void_bits ++ a_mark bytes marks.OpenBrace p ∷ ts) rest
+    → Calling n ts (a_mark bytes marks.CloseBrace q ∷ rest) (in_function (suc k) (array_name ∷ others) [] 0) → NamedMain others k name (tokens_of bytes place void_bits ++ a_mark bytes marks.OpenBrace p ∷ ts) rest
 unfolding parts_of parameters_of after_name_of block_of body_of code_of depth_behind row_depth operator_depth choice_depth
 named_main others k name bytes place p q n ts rest is few s = record {
   row = onto (got (parse 60 parameters_front (tokens_of bytes place void_bits ++ a_mark bytes marks.OpenBrace p ∷ ts)) tt).derivation (Then (Node Block (block_row bytes p q s.row)) NoMore);
@@ -160,10 +165,10 @@ named_main others k name bytes place p q n ts rest is few s = record {
 }
 
 pub main_named : (k : ℕ) (name : Token) (bytes : List ℕ) (place p place2 : ℕ) (rest : List Token) → (name_of name).bytes ≡ codes "main" → k ≤ 100
-    → Named_main (file_names 0 k) k name (tokens_of bytes place void_bits ++ a_mark bytes marks.OpenBrace p ∷ calls_tokens 0 k bytes place2 (tokens_of bytes (place2 + length (calls_text 0 k)) main_end ++ rest)) rest
+    → NamedMain (file_names 0 k) k name (tokens_of bytes place void_bits ++ a_mark bytes marks.OpenBrace p ∷ calls_tokens 0 k bytes place2 (tokens_of bytes (place2 + length (calls_text 0 k)) main_end ++ rest)) rest
 main_named k name bytes place p place2 rest is few =
     let e : Environment = in_function (suc k) (array_name ∷ file_names 0 k) [] 0 in
     let back : Calling 2 (tokens_of bytes (place2 + length (calls_text 0 k)) main_end ++ rest) (a_mark bytes marks.CloseBrace _ ∷ rest) e = zero_calling bytes (place2 + length (calls_text 0 k)) _ rest e in
     let all : Calling (4 * k + 2) (calls_tokens 0 k bytes place2 (tokens_of bytes (place2 + length (calls_text 0 k)) main_end ++ rest)) (a_mark bytes marks.CloseBrace _ ∷ rest) e =
-        calls_calling 0 k bytes place2 2 (tokens_of bytes (place2 + length (calls_text 0 k)) main_end ++ rest) (a_mark bytes marks.CloseBrace _ ∷ rest) e (λ i h l. main_knows i k (omega (arith, l)) (omega (arith, few))) back in
+    calls_calling 0 k bytes place2 2 (tokens_of bytes (place2 + length (calls_text 0 k)) main_end ++ rest) (a_mark bytes marks.CloseBrace _ ∷ rest) e (λ i h l. main_knows i k (omega (arith, l)) (omega (arith, few))) back in
     named_main (file_names 0 k) k name bytes place p _ (4 * k + 2) _ rest is (omega (arith, few)) all

@@ -1,15 +1,14 @@
 -- The names of the functions of a source: no two are the same, and main knows them all.
-use Rattle.std.proofs.Common.{◌≡◌, ◌≢◌, ◌⊎◌, inl, inr, ℕ, zero, suc, ◌+◌, ◌^◌, ◌<◌, ◌≤◌, Bool, true, false, ◌&&◌, cond, nat_eq, List, [], ◌∷◌, ◌++◌, take, drop, codes, Option, Some, None, refl, sym, ap, subst, ◌∙◌, arith}
+use Rattle.std.proofs.Common.{◌≡◌, ◌≢◌, ◌⊎◌, inl, inr, ℕ, zero, suc, ◌+◌, ◌<◌, ◌≤◌, Bool, true, false, ◌&&◌, cond, nat_eq, List, [], ◌∷◌, take, drop, codes, Option, Some, refl, sym, ap, ◌∙◌, arith}
 use Rattle.std.specs.Prelude.{decimal}
 use Rattle.std.specs.List.{list_any}
 use Rattle.std.proofs.lemmas.Bool.{cases_order, eqb-true, eq-eqb}
 use Rattle.std.proofs.lemmas.Fmt.{decimal_injective}
 use Rattle.vx_ast.specs.declared.tree.Gives.TheVariants.{Int as GivesInt}
-use Rattle.vx_ast.specs.declared.names.Named.{Named}
 use Rattle.vx_ast.specs.declared.names.Named.TheVariants.{Function as AFunctionNamed}
 use Rattle.vx_ast.specs.declared.names.Meant.{Meant}
 use Rattle.vx_ast.specs.declared.names.FileName.{FileName}
-use Rattle.vx_ast.specs.Scopes.{Environment, Known, find, same_name, predeclared, in_file, known_of, look, named, named_in}
+use Rattle.vx_ast.specs.Scopes.{find, same_name, predeclared, known_of, look, named, named_in}
 use Rattle.vx_ast.specs.Faults.{is_repeated}
 use Rattle.vx_generated.proofs.Scoped.{in_function, array_name}
 use Rattle.vx_generated.proofs.Functions.{function_name}

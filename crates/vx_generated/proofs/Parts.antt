@@ -1,22 +1,18 @@
 -- What the tokens of each line are derived as.
-use Rattle.std.proofs.Common.{◌≡◌, ℕ, zero, suc, ◌+◌, ◌≤◌, max, pos, List, [], ◌∷◌, ◌++◌, length, codes, Option, Some, None, refl, sym, ap, subst, arith}
+use Rattle.std.proofs.Common.{◌≡◌, ℕ, ◌≤◌, max, pos, List, [], ◌∷◌, ◌++◌, Option, Some, None, refl, arith}
 use Rattle.vx_ast.specs.declared.tree.BinaryOperator.TheVariants as binary
-use Rattle.vx_ast.specs.declared.token.Keyword.TheVariants as words
 use Rattle.vx_ast.specs.declared.token.Mark.{Mark}
 use Rattle.vx_ast.specs.declared.token.Mark.TheVariants as marks
-use Rattle.vx_ast.specs.declared.token.TokenKind.{TokenKind}
 use Rattle.vx_ast.specs.declared.token.TokenKind.TheVariants as kinds
 use Rattle.vx_ast.specs.declared.token.Token.{Token}
 use Rattle.vx_ast.specs.Tokens.{token_at}
-use Rattle.vx_ast.specs.Tree.{One, Row}
-use Rattle.vx_ast.specs.Syntax as syntax
+use Rattle.vx_ast.specs.Tree.{Row}
 use Rattle.vx_ast.specs.Phrases as phrases
 use Rattle.vx_ast.specs.Phrases.{Phrase, Part, A, mark, Derivation, Leaf, Node, NoMore, Then, Is, parts_of, Expression, ChoiceRest, Level, Statement, Simple, SimpleRest, Block, Items, ElsePart}
-use Rattle.vx_ast.specs.Derivations.{expression_of, behind, named, arguments_of, arguments_in, first_place, place_of, action_of, code_of, statement_of, if_of, block_of, body_of, all_of, first_of, step_of, test_of, is_begun, are_begun, depth_behind, row_depth, operator_depth, choice_depth}
-use Rattle.vx_generated.proofs.Forms.{Variable, InA, InB, InC, InD, byte_of, Drawn, Sum, Thrice, Quotient, Remainder, Half, Formula, Alone, Added, Line, Set, Store, Load, IfLess, Repeat, IfMore, Bit, tokens_of, pieces_of, set_front, set_back, store_front, load_bits, less_front, more_front, block_back, loop_front, else_middle, text_of}
-use Rattle.vx_generated.proofs.Parser.{Found, parse, got}
-use Rattle.vx_generated.proofs.Lines.{line_tokens}
-use Rattle.vx_generated.proofs.Fine.{Suits, suits_variable, suits_counter, suits_number, suits_binary, suits_element, suits_more, SuitsTarget, target_variable, target_counter, target_element, SuitsAction, suits_assign, suits_increase, Fine, fine_simply, fine_block, fine_if, fine_if_else, fine_for, fine_more}
+use Rattle.vx_ast.specs.Derivations.{expression_of, behind, named, arguments_of, arguments_in, depth_behind, row_depth, operator_depth, choice_depth}
+use Rattle.vx_generated.proofs.Forms.{Sum, Thrice, Quotient, Remainder, Half, Formula, Alone, Added, tokens_of, pieces_of}
+use Rattle.vx_generated.proofs.Parser.{parse, got}
+use Rattle.vx_generated.proofs.Fine.{Suits, suits_variable, suits_number, suits_binary, suits_more}
 
 -- the parts of a phrase where these tokens stand
 abbrev pub parts_at : Phrase → List Token → Option (List Part)

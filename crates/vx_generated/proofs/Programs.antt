@@ -1,5 +1,5 @@
 -- The definitions of a generated source, derived from its tokens.
-use Rattle.std.proofs.Common.{◌≡◌, ℕ, zero, suc, ◌+◌, ◌*◌, ◌<◌, ◌≤◌, max, pos, Bool, true, false, List, [], ◌∷◌, ◌++◌, length, codes, Option, Some, None, refl, sym, ap, subst, ◌∙◌, arith}
+use Rattle.std.proofs.Common.{◌≡◌, ℕ, suc, ◌+◌, ◌*◌, ◌≤◌, max, pos, List, [], ◌∷◌, ◌++◌, length, codes, Some, refl, sym, subst, arith}
 use Rattle.std.specs.Prelude.{decimal}
 use Rattle.vx_ast.specs.declared.token.Keyword.TheVariants as words
 use Rattle.vx_ast.specs.declared.token.Mark.TheVariants as marks
@@ -8,24 +8,23 @@ use Rattle.vx_ast.specs.declared.token.Token.{Token}
 use Rattle.vx_ast.specs.declared.syntax.Place.{Place}
 use Rattle.vx_ast.specs.declared.names.FileName.{FileName}
 use Rattle.vx_ast.specs.Tokens.{token_at}
-use Rattle.vx_ast.specs.Tree.{One, Row}
+use Rattle.vx_ast.specs.Tree.{Row}
 use Rattle.vx_ast.specs.Syntax as syntax
 use Rattle.vx_ast.specs.Phrases as phrases
 use Rattle.vx_ast.specs.Phrases.{Part, A, AName, mark, word, Derivation, Leaf, Node, NoMore, Then, Is, parts_of, Program, AfterName}
-use Rattle.vx_ast.specs.Derivations.{name_of, size_of, definitions_of, after_name_of, global_of, more_globals_of, depth_behind, row_depth, operator_depth, choice_depth}
+use Rattle.vx_ast.specs.Derivations.{definitions_of, after_name_of, global_of, more_globals_of, depth_behind, row_depth, operator_depth, choice_depth}
 use Rattle.vx_generated.proofs.Forms.{Bit, Line, bracket, bracket_end, semicolon, spelt, line_end, tokens_of, text_of}
-use Rattle.vx_generated.proofs.Parser.{Found, parse, got}
-use Rattle.vx_generated.proofs.Texts.{lines_text, lines_tokens}
-use Rattle.vx_generated.proofs.Parts.{parts_at, enters, a_mark}
+use Rattle.vx_generated.proofs.Parser.{parse, got}
+use Rattle.vx_generated.proofs.Parts.{parts_at, enters}
 use Rattle.vx_generated.proofs.Scoped.{in_function, array_name, parameters, all_locals}
-use Rattle.vx_generated.proofs.Functions.{function_name, function_tokens, open_bits, close_bits, Bodied, function_bodied, Named_function, named_function, Good, is_good}
-use Rattle.vx_generated.proofs.Sources.{Few, functions_text, functions_tokens, function_text, main_tokens, main_bits, calls_text, main_end, array_bits, source_tokens}
+use Rattle.vx_generated.proofs.Functions.{function_name, function_tokens, open_bits, Bodied, function_bodied, NamedFunction, named_function, Good, is_good}
+use Rattle.vx_generated.proofs.Sources.{Few, functions_text, functions_tokens, function_text, main_tokens, main_bits, array_bits, source_tokens}
 use Rattle.vx_generated.proofs.Names.{file_names}
-use Rattle.vx_generated.proofs.Mains.{Good_main, Named_main, main_named}
+use Rattle.vx_generated.proofs.Mains.{GoodMain, NamedMain, main_named}
 
 -- k functions from number j on, and main behind them
 pub data Listing (others : List FileName) : ℕ → ℕ → List syntax.Definition → Type 0 where
-  main_alone : {j : ℕ} {f : syntax.Function} → Good_main others j f → Listing others j 0 (syntax.AFunction f ∷ [])
+  main_alone : {j : ℕ} {f : syntax.Function} → GoodMain others j f → Listing others j 0 (syntax.AFunction f ∷ [])
   one_more : {j k : ℕ} {f : syntax.Function} {ds : List syntax.Definition} → Good others j f → Listing others (j + 1) k ds → Listing others j (suc k) (syntax.AFunction f ∷ ds)
 
 pub record Programmed (others : List FileName) (j k : ℕ) (ts rest : List Token) : Type 0 where
@@ -48,7 +47,7 @@ main_programmed : (k : ℕ) (bytes : List ℕ) (place at : ℕ) → k ≤ 100
 unfolding parts_of definitions_of depth_behind row_depth operator_depth choice_depth
 main_programmed k bytes place at few =
     let name : Token = token_at bytes (kinds.Name (codes "main")) (place + 3 + 1) 4 in
-    let s : Named_main (file_names 0 k) k name _ (token_at bytes kinds.End at 0 ∷ []) = main_named k name bytes (place + 3 + 1 + 4) (place + 3 + 1 + 4 + 1 + 4 + 1 + 1) (place + length (text_of main_bits)) (token_at bytes kinds.End at 0 ∷ []) refl few in
+    let s : NamedMain (file_names 0 k) k name _ (token_at bytes kinds.End at 0 ∷ []) = main_named k name bytes (place + 3 + 1 + 4) (place + 3 + 1 + 4 + 1 + 4 + 1 + 1) (place + length (text_of main_bits)) (token_at bytes kinds.End at 0 ∷ []) refl few in
     record {
       row = Then (Leaf (token_at bytes (kinds.Keyword words.Int) place 3)) (Then (Leaf name) (Then (Node AfterName s.row) (Then (Node Program NoMore) NoMore)));
       inner = int_definition;
@@ -65,9 +64,9 @@ function_programmed others j k ls bytes place ts rest few more =
     let name : Token = token_at bytes (kinds.Name (function_name j)) (place + 3 + 1) (length (102 ∷ decimal j)) in
     let small : 9 + (34 * length ls + 8) + 3 ≤ 4000 = omega (arith, few) in
     let b : Bodied (9 + (34 * length ls + 8)) _ ts (in_function (suc j) (array_name ∷ others) parameters 2) (in_function (suc j) (array_name ∷ others) all_locals 7) =
-        function_bodied j others ls bytes _ _ (place + length (text_of (open_bits j))) ts in
-    let s : Named_function name (9 + (34 * length ls + 8)) _ ts (in_function (suc j) (array_name ∷ others) parameters 2) (in_function (suc j) (array_name ∷ others) all_locals 7) =
-        named_function name bytes (place + 3 + 1 + length (102 ∷ decimal j)) (9 + (34 * length ls + 8)) _ ts _ _ b in
+    function_bodied j others ls bytes _ _ (place + length (text_of (open_bits j))) ts in
+    let s : NamedFunction name (9 + (34 * length ls + 8)) _ ts (in_function (suc j) (array_name ∷ others) parameters 2) (in_function (suc j) (array_name ∷ others) all_locals 7) =
+    named_function name bytes (place + 3 + 1 + length (102 ∷ decimal j)) (9 + (34 * length ls + 8)) _ ts _ _ b in
     let good : Good others j s.function = is_good others j (9 + (34 * length ls + 8)) name _ ts refl small s in
     record {
       row = Then (Leaf (token_at bytes (kinds.Keyword words.Int) place 3)) (Then (Leaf name) (Then (Node AfterName s.row) (Then (Node Program more.row) NoMore)));
@@ -133,5 +132,5 @@ source_whole k lss bytes at few e short =
     let first : ℕ = 0 + length (text_of array_bits) in
     let ts : List Token = functions_tokens 0 lss bytes first (main_tokens k bytes (first + length (functions_text 0 lss)) end) in
     let all : Programmed (file_names 0 k) 0 (length lss) ts end =
-        functions_programmed (file_names 0 k) 0 k k lss bytes first end short (omega (arith, e)) (main_tokens k bytes (first + length (functions_text 0 lss)) end) (main_programmed k bytes (first + length (functions_text 0 lss)) at few) in
+    functions_programmed (file_names 0 k) 0 k k lss bytes first end short (omega (arith, e)) (main_tokens k bytes (first + length (functions_text 0 lss)) end) (main_programmed k bytes (first + length (functions_text 0 lss)) at few) in
     whole (file_names 0 k) k bytes ts end (subst (λ (n : ℕ). Programmed (file_names 0 k) 0 n ts end) e all)

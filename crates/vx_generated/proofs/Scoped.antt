@@ -1,5 +1,5 @@
 -- What is known in a generated function, and code that leads from one such environment to another.
-use Rattle.std.proofs.Common.{◌≡◌, ℕ, zero, suc, ◌+◌, ◌≤◌, Bool, true, false, cond, nat_eq, List, [], ◌∷◌, ◌++◌, codes, Option, Some, None, refl, sym, ap, subst, ◌∙◌, arith}
+use Rattle.std.proofs.Common.{◌≡◌, ℕ, zero, suc, ◌+◌, ◌≤◌, Bool, true, false, cond, List, [], ◌∷◌, ◌++◌, codes, Option, Some, refl, sym, ap, subst, ◌∙◌, arith}
 use Rattle.vx_ast.specs.declared.tree.Gives.TheVariants.{Int as GivesInt}
 use Rattle.vx_ast.specs.declared.syntax.Place.{Place}
 use Rattle.vx_ast.specs.declared.syntax.Name.{Name}
@@ -8,12 +8,12 @@ use Rattle.vx_ast.specs.declared.names.Meant.{Meant}
 use Rattle.vx_ast.specs.declared.names.FileName.{FileName}
 use Rattle.vx_ast.specs.Tree.{One}
 use Rattle.vx_ast.specs.Syntax as syntax
-use Rattle.vx_ast.specs.Scopes.{Known, Environment, find, same_name, predeclared, is_predeclared, in_file, known_of, look, named, is_at, is_taken, declared, with_scalar, behind}
+use Rattle.vx_ast.specs.Scopes.{Known, Environment, find, same_name, predeclared, is_predeclared, in_file, known_of, look, is_at, declared, with_scalar, behind}
 use Rattle.vx_ast.specs.Faults.{fault_if, phrase_faults, declares, code_faults}
 use Rattle.vx_ast.specs.Resolved.{tree_in, code_in}
 use Rattle.vx_ast.specs.Accepted.{nodes_of, code_nodes, formats_of}
 use Rattle.vx_generated.proofs.Forms.{Variable, InA, InB, InC, InD, byte_of}
-use Rattle.vx_generated.proofs.Fine.{IsScalar, Knows, Suits, Fine, both_none}
+use Rattle.vx_generated.proofs.Fine.{IsScalar, Knows, Fine, both_none}
 
 -- in a function of the file with these names
 abbrev pub in_function : (above : ℕ) (names : List FileName) (locals : List Known) (scalars : ℕ) → Environment

@@ -1,8 +1,7 @@
 -- The tokens of a generated source.
-use Rattle.std.proofs.Common.{◌≡◌, ℕ, zero, suc, ◌+◌, ◌-◌, ◌*◌, ◌<◌, ◌≤◌, min, pos, Bool, true, false, List, [], ◌∷◌, ◌++◌, length, drop, codes, refl, sym, ap, subst, ◌∙◌, arith, append_assoc, append-nil}
+use Rattle.std.proofs.Common.{◌≡◌, ℕ, zero, suc, ◌+◌, ◌-◌, ◌*◌, ◌<◌, ◌≤◌, min, pos, List, [], ◌∷◌, ◌++◌, length, codes, refl, sym, ap, subst, ◌∙◌, arith, append_assoc, append-nil}
 use Rattle.std.specs.Prelude.{decimal}
 use Rattle.vx_ast.specs.declared.token.Token.{Token}
-use Rattle.vx_ast.specs.declared.token.Mark.TheVariants as marks
 use Rattle.vx_ast.specs.declared.token.TokenKind.TheVariants as kinds
 use Rattle.vx_ast.specs.Tokens.{first_piece, word_piece, keyword_of, mark_piece, mark_at, decimal_piece, string_piece, quoted_piece, before_quote, before_bad_escape, escapes_read, token_at, LexesFrom, Lexes}
 use Rattle.vx_gen.specs.Program as gen
@@ -10,7 +9,7 @@ use Rattle.vx_gen.specs.Program.{statements, function, functions, arguments, pri
 use Rattle.vx_generated.proofs.Forms as forms
 use Rattle.vx_generated.proofs.Forms.{Bit, Spelt, spelt, Line, word_int, word_void, word_return, space, line_end, comma, semicolon, bracket, bracket_end, opening, closing, brace, brace_end, digit, tokens_of, text_of}
 use Rattle.vx_generated.proofs.Spelling.{Tokens, Lexed, Spells, bits_tokens, followed, of_bits, of_both}
-use Rattle.vx_generated.proofs.Texts.{lines_text, lines_tokens, Drawn_lines, lines_drawn, lines_spell}
+use Rattle.vx_generated.proofs.Texts.{lines_text, lines_tokens, DrawnLines, lines_drawn, lines_spell}
 use Rattle.vx_generated.proofs.Functions.{function_name, open_bits, close_bits, function_tokens}
 use Rattle.vx_generated.proofs.Numbers.{number_bit, first_digit, other_digits, name_reads, number_cut, number_plain, number_comma, number_closing}
 
@@ -56,19 +55,19 @@ pub data Few : List (List Line) → Type 0 where
   no_lists : Few []
   with_list : {ls : List Line} {lss : List (List Line)} → length ls ≤ 100 → Few lss → Few (ls ∷ lss)
 
-pub record Drawn_functions (size j k x : ℕ) : Type 0 where
+pub record DrawnFunctions (size j k x : ℕ) : Type 0 where
   pub lists : List (List Line)
   pub count : length lists ≡ k
   pub few : Few lists
   pub text : (functions size j k x).text ≡ functions_text j lists
 
-pub functions_drawn : (size j k x : ℕ) → Drawn_functions size j k x
+pub functions_drawn : (size j k x : ℕ) → DrawnFunctions size j k x
 functions_drawn size j zero x = record { lists = []; count = refl; few = no_lists; text = refl }
 functions_drawn size j (suc k) x =
     let n : ℕ = min 100 (size - 100 * j) in
-    let here : Drawn_lines n x = lines_drawn n x in
+    let here : DrawnLines n x = lines_drawn n x in
     let next : ℕ = (function j n x).state in
-    let more : Drawn_functions size (j + 1) k next = functions_drawn size (j + 1) k next in
+    let more : DrawnFunctions size (j + 1) k next = functions_drawn size (j + 1) k next in
     let is : length here.lines ≡ n = here.count in
     record {
       lists = here.lines ∷ more.lists;
@@ -168,7 +167,7 @@ source_lexes k lss few short bytes is =
     (source_spells k lss few short).lexed bytes 0 (token_at bytes kinds.End (length bytes) 0 ∷ []) (is ∙ sym (append-nil (source_text k lss)))
     (subst (λ (n : ℕ). LexesFrom bytes n (token_at bytes kinds.End (length bytes) 0 ∷ [])) (sym end) (LexesFrom.end refl))
 
-source_is : (seed size : ℕ) → size ≤ 10000 → (d : Drawn_functions size 0 (function_count size) seed) → program_text seed size ≡ source_text (function_count size) d.lists
+source_is : (seed size : ℕ) → size ≤ 10000 → (d : DrawnFunctions size 0 (function_count size) seed) → program_text seed size ≡ source_text (function_count size) d.lists
 unfolding array main_opening
 source_is seed size h d =
     let few : 0 + function_count size ≤ 100 = omega (arith, h) in
@@ -178,15 +177,15 @@ source_is seed size h d =
     ∙ ap (λ (l : List ℕ). text_of main_bits ++ (l ++ text_of main_end)) (calls_are 0 (function_count size) few))
 
 -- each generated source has tokens: those of its functions, and main
-pub record Drawn_source (seed size : ℕ) : Type 0 where
+pub record DrawnSource (seed size : ℕ) : Type 0 where
   pub lists : List (List Line)
   pub count : length lists ≡ function_count size
   pub few : Few lists
   pub lexes : Lexes (program_text seed size) (all_tokens (program_text seed size) (function_count size) lists)
 
-pub source_drawn : (seed size : ℕ) → size ≤ 10000 → Drawn_source seed size
+pub source_drawn : (seed size : ℕ) → size ≤ 10000 → DrawnSource seed size
 source_drawn seed size h =
-    let d : Drawn_functions size 0 (function_count size) seed = functions_drawn size 0 (function_count size) seed in
+    let d : DrawnFunctions size 0 (function_count size) seed = functions_drawn size 0 (function_count size) seed in
     let few : function_count size ≤ 100 = omega (arith, h) in
     let is : length d.lists ≡ function_count size = d.count in
     record { lists = d.lists; count = d.count; few = d.few; lexes = source_lexes (function_count size) d.lists few (omega (arith, is, few)) (program_text seed size) (source_is seed size h d) }

@@ -7,8 +7,8 @@ use Rattle.vx_ast.specs.declared.token.TokenKind.{TokenKind}
 use Rattle.vx_ast.specs.declared.token.Token.{Token}
 use Rattle.vx_ast.specs.declared.token.Piece.{Piece}
 use Rattle.vx_ast.specs.declared.token.Piece.TheVariants.{Skipped, Spelled}
-use Rattle.vx_ast.specs.Tokens.{first_piece, piece_at, is_blank, is_in_line, behind_word, is_include_line, line_of, column_at, token_at, LexesFrom}
-use Rattle.vx_generated.proofs.Forms.{Bit, Space, Ended, Spelt, text_in, text_of, tokens_of}
+use Rattle.vx_ast.specs.Tokens.{first_piece, piece_at, is_blank, is_in_line, behind_word, is_include_line, line_of, column_at, LexesFrom}
+use Rattle.vx_generated.proofs.Forms.{Bit, Space, Ended, Spelt, text_of, tokens_of}
 
 -- neither blank nor `#`
 abbrev pub is_plain : ℕ → Bool

@@ -1,21 +1,21 @@
 -- What the tokens of each line are derived as.
-use Rattle.std.proofs.Common.{◌≡◌, ℕ, zero, suc, ◌+◌, ◌≤◌, max, pos, Bool, true, List, [], ◌∷◌, ◌++◌, length, codes, Option, Some, None, refl, sym, ap, subst, arith}
+use Rattle.std.proofs.Common.{◌≡◌, ℕ, ◌+◌, ◌≤◌, max, pos, true, List, [], ◌∷◌, ◌++◌, codes, Some, refl, arith}
 use Rattle.vx_ast.specs.declared.tree.BinaryOperator.TheVariants as binary
 use Rattle.vx_ast.specs.declared.token.Keyword.TheVariants as words
 use Rattle.vx_ast.specs.declared.token.Mark.TheVariants as marks
 use Rattle.vx_ast.specs.declared.token.TokenKind.TheVariants as kinds
 use Rattle.vx_ast.specs.declared.token.Token.{Token}
 use Rattle.vx_ast.specs.Tokens.{token_at}
-use Rattle.vx_ast.specs.Tree.{One, Row}
+use Rattle.vx_ast.specs.Tree.{Row}
 use Rattle.vx_ast.specs.Syntax as syntax
 use Rattle.vx_ast.specs.Phrases as phrases
 use Rattle.vx_ast.specs.Phrases.{Part, A, mark, word, Derivation, Leaf, Node, NoMore, Then, Is, parts_of, Expression, Statement, Simple, SimpleRest, Block, Items, ElsePart, First, OptionalExpression, OptionalSimple}
-use Rattle.vx_ast.specs.Derivations.{expression_of, behind, named, arguments_of, arguments_in, first_place, place_of, target_of, action_of, code_of, statement_of, if_of, block_of, body_of, all_of, first_of, step_of, test_of, is_begun, are_begun, depth_behind, row_depth, operator_depth, choice_depth}
+use Rattle.vx_ast.specs.Derivations.{expression_of, behind, named, arguments_of, arguments_in, first_place, target_of, action_of, code_of, statement_of, if_of, block_of, body_of, all_of, first_of, step_of, test_of, is_begun, are_begun, depth_behind, row_depth, operator_depth, choice_depth}
 use Rattle.vx_generated.proofs.Forms as forms
 use Rattle.vx_generated.proofs.Forms.{Bit, space, bracket, of_variable, ampersand, fifteen, bracket_end, word_if, opening, less, greater, closing, word_for, equal, digit, semicolon, twice, store_front, Variable, InA, InB, InC, InD, byte_of, Drawn, Formula, Alone, Added, Line, Set, Store, Load, IfLess, Repeat, IfMore, tokens_of, pieces_of}
-use Rattle.vx_generated.proofs.Parser.{Found, parse, got}
+use Rattle.vx_generated.proofs.Parser.{parse, got}
 use Rattle.vx_generated.proofs.Lines.{line_tokens}
-use Rattle.vx_generated.proofs.Fine.{Suits, suits_variable, suits_counter, suits_number, suits_binary, suits_element, suits_more, SuitsTarget, target_variable, target_counter, target_element, SuitsAction, suits_assign, suits_increase, Fine, fine_simply, fine_block, fine_if, fine_if_else, fine_for, fine_more}
+use Rattle.vx_generated.proofs.Fine.{suits_variable, suits_counter, suits_number, suits_binary, suits_element, suits_more, SuitsTarget, target_variable, target_counter, target_element, suits_assign, suits_increase, Fine, fine_simply, fine_block, fine_if, fine_if_else, fine_for, fine_more}
 use Rattle.vx_generated.proofs.Parts.{parts_at, enters, of_expression, Expressed, a_mark, formula_expressed}
 
 -- a row of parts behind another
@@ -184,10 +184,6 @@ less_bits u v = word_if ∷ space ∷ opening ∷ of_variable u ∷ space ∷ le
 
 abbrev greater_bits : Variable → Variable → List Bit
 greater_bits u v = word_if ∷ space ∷ opening ∷ of_variable u ∷ space ∷ greater ∷ space ∷ of_variable v ∷ closing ∷ space ∷ []
-
-abbrev less_row : (bytes : List ℕ) (u v : Variable) (place : ℕ) (ts : List Token) → Derivation Row
-unfolding parts_of
-less_row bytes u v place ts = (got (parse 80 if_front (tokens_of bytes place (less_bits u v) ++ ts)) tt).derivation
 
 if_stated : (bytes : List ℕ) (u v : Variable) (place n k : ℕ) (ts rest : List Token) → 1 ≤ k → parts_at ElsePart rest ≡ Some [] → Stated n k ts rest → Stated (4 + n) (1 + k) (tokens_of bytes place (less_bits u v) ++ ts) rest
 unfolding parts_of expression_of behind named arguments_of arguments_in code_of statement_of if_of is_begun are_begun depth_behind row_depth operator_depth choice_depth

@@ -1,32 +1,26 @@
 -- A generated source has no fault, and is within its limits.
-use Rattle.std.proofs.Common.{◌≡◌, ℕ, zero, suc, ◌+◌, ◌*◌, ◌<◌, ◌≤◌, Bool, true, false, not, ◌||◌, ◌&&◌, cond, nat_eq, nat_lt, List, [], ◌∷◌, ◌++◌, length, map, take, codes, Option, Some, None, refl, sym, ap, subst, ◌∙◌, arith}
-use Rattle.std.specs.List.{list_any, flat_map, sum}
-use Rattle.std.proofs.lemmas.Bool.{lt-ltb}
-use Rattle.vx_ast.specs.declared.tree.Gives.TheVariants.{Int as GivesInt}
+use Rattle.std.proofs.Common.{◌≡◌, ℕ, suc, ◌+◌, ◌≤◌, Bool, true, false, not, ◌||◌, List, [], ◌∷◌, length, take, codes, None, refl, ap, ◌∙◌, arith}
+use Rattle.std.specs.List.{list_any}
 use Rattle.vx_ast.specs.declared.tree.GlobalVariable.{GlobalVariable}
 use Rattle.vx_ast.specs.declared.syntax.Place.{Place}
-use Rattle.vx_ast.specs.declared.syntax.Name.{Name}
 use Rattle.vx_ast.specs.declared.names.Named.TheVariants.{Function as AFunctionNamed}
 use Rattle.vx_ast.specs.declared.names.FileName.{FileName}
-use Rattle.vx_ast.specs.Tree as tree
 use Rattle.vx_ast.specs.Syntax as syntax
-use Rattle.vx_ast.specs.Scopes.{Environment, predeclared, names_from, names_of, globals_of, at_function, same_name}
-use Rattle.vx_ast.specs.Faults.{fault_if, is_repeated, function_faults, definition_faults, definitions_faults, is_main, faults_of, least, first_fault}
-use Rattle.vx_ast.specs.Resolved.{function_in, functions_from, resolved}
-use Rattle.vx_ast.specs.Accepted.{Over, over, or_else, at_most, gives_int, function_nodes, formats_of, global_words, limit_of}
+use Rattle.vx_ast.specs.Scopes.{Environment, predeclared, names_from, names_of, globals_of, at_function}
+use Rattle.vx_ast.specs.Faults.{fault_if, is_repeated, function_faults, definition_faults, definitions_faults, is_main, least, first_fault}
 use Rattle.vx_generated.proofs.Fine.{both_none}
 use Rattle.vx_generated.proofs.Scoped.{in_function, array_name}
 use Rattle.vx_generated.proofs.Functions.{function_name, Good}
 use Rattle.vx_generated.proofs.Names.{file_names, function_file, main_file, function_once, main_once}
-use Rattle.vx_generated.proofs.Mains.{Good_main}
-use Rattle.vx_generated.proofs.Programs.{Listing, main_alone, one_more}
+use Rattle.vx_generated.proofs.Mains.{GoodMain}
+use Rattle.vx_generated.proofs.Programs.{Listing}
 
 -- the names of the definitions
 
 function_named : (others : List FileName) (j : ℕ) (f : syntax.Function) → Good others j f → (record { name = f.name.bytes; everywhere = true; named = AFunctionNamed j f.gives (length f.parameters) }) ≡ function_file j
 function_named others j f g = λ i. record { name = g.name i; everywhere = true; named = AFunctionNamed j (g.gives i) (g.parameters i) }
 
-main_named : (others : List FileName) (j : ℕ) (f : syntax.Function) → Good_main others j f → (record { name = f.name.bytes; everywhere = true; named = AFunctionNamed j f.gives (length f.parameters) }) ≡ main_file j
+main_named : (others : List FileName) (j : ℕ) (f : syntax.Function) → GoodMain others j f → (record { name = f.name.bytes; everywhere = true; named = AFunctionNamed j f.gives (length f.parameters) }) ≡ main_file j
 main_named others j f g = λ i. record { name = g.name i; everywhere = true; named = AFunctionNamed j (g.gives i) (length (g.parameters i)) }
 
 names_are : (others : List FileName) (j k : ℕ) (ds : List syntax.Definition) → Listing others j k ds → names_from 1 j ds ≡ file_names j k
@@ -49,15 +43,15 @@ definitions_none p n j m above es names one is all few (Listing.main_alone {f = 
     let here : at_function p above ≡ in_function (suc j) (array_name ∷ file_names 0 n) [] 0 = λ i. record { depth = 1; locals = []; names = names i; above = is i; scalars = 0; arrays = one i; sizes = [] } in
     let same : j ≡ n = omega (arith, all) in
     let once : is_repeated (take above (names_of p)) f.name.bytes ≡ false =
-        ap (λ (x : List ℕ). is_repeated (take above (names_of p)) x) g.name ∙ ap (λ (ns : List FileName). is_repeated (take above ns) (codes "main")) names
-        ∙ ap (λ (m : ℕ). is_repeated (take m (array_name ∷ file_names 0 n)) (codes "main")) (is ∙ ap (λ (m : ℕ). suc m) same) ∙ main_once n in
+    ap (λ (x : List ℕ). is_repeated (take above (names_of p)) x) g.name ∙ ap (λ (ns : List FileName). is_repeated (take above ns) (codes "main")) names
+    ∙ ap (λ (m : ℕ). is_repeated (take m (array_name ∷ file_names 0 n)) (codes "main")) (is ∙ ap (λ (m : ℕ). suc m) same) ∙ main_once n in
     both_none (definition_faults p above (syntax.AFunction f)) [] (both_none (fault_if (is_repeated (take above (names_of p)) f.name.bytes) 6 f.name.place) (function_faults (at_function p above) f)
     (none_if (is_repeated (take above (names_of p)) f.name.bytes) 6 f.name.place once) (ap (λ (e : Environment). function_faults e f) here ∙ g.faults)) refl
 definitions_none p n j m above es names one is all few (Listing.one_more {k = k} {f = f} {ds = ds} g more) =
     let here : at_function p above ≡ in_function (suc j) (array_name ∷ file_names 0 n) [] 0 = λ i. record { depth = 1; locals = []; names = names i; above = is i; scalars = 0; arrays = one i; sizes = [] } in
     let once : is_repeated (take above (names_of p)) f.name.bytes ≡ false =
-        ap (λ (x : List ℕ). is_repeated (take above (names_of p)) x) g.name ∙ ap (λ (ns : List FileName). is_repeated (take above ns) (function_name j)) names
-        ∙ ap (λ (m : ℕ). is_repeated (take m (array_name ∷ file_names 0 n)) (function_name j)) is ∙ function_once j n (omega (arith, all)) (omega (arith, all, few)) in
+    ap (λ (x : List ℕ). is_repeated (take above (names_of p)) x) g.name ∙ ap (λ (ns : List FileName). is_repeated (take above ns) (function_name j)) names
+    ∙ ap (λ (m : ℕ). is_repeated (take m (array_name ∷ file_names 0 n)) (function_name j)) is ∙ function_once j n (omega (arith, all)) (omega (arith, all, few)) in
     both_none (definition_faults p above (syntax.AFunction f)) (definitions_faults p (above + 1) ds) (both_none (fault_if (is_repeated (take above (names_of p)) f.name.bytes) 6 f.name.place) (function_faults (at_function p above) f)
     (none_if (is_repeated (take above (names_of p)) f.name.bytes) 6 f.name.place once) (ap (λ (e : Environment). function_faults e f) here ∙ g.faults))
     (definitions_none p n (j + 1) k (above + 1) ds names one (omega (arith, is)) (omega (arith, all)) few more)

@@ -1,10 +1,9 @@
 -- What is drawn is a list of lines.
-use Rattle.std.proofs.Common.{◌≡◌, ℕ, zero, suc, ◌+◌, ◌<◌, List, [], ◌∷◌, ◌++◌, length, codes, refl, sym, ap, subst, ◌∙◌, arith}
-use Rattle.vx_gen.specs.Program.{Made, filled, form_at, next_state, drawn, variable, in_expression, expression_forms, expression, in_statement, statement_forms, statement, statements}
+use Rattle.std.proofs.Common.{◌≡◌, ℕ, zero, suc, ◌+◌, ◌<◌, List, [], ◌∷◌, ◌++◌, length, refl, ap, subst, ◌∙◌, arith}
+use Rattle.vx_gen.specs.Program.{filled, form_at, next_state, drawn, variable, in_expression, expression_forms, expression, in_statement, statement_forms, statement, statements}
 use Rattle.vx_generated.proofs.Forms.{Variable, InA, InB, InC, InD, byte_of, Drawn, Sum, Thrice, Quotient, Remainder, Half, Alone, Line, Set, Store, Load, IfLess, Repeat, IfMore, pieces_of, text_of, line_text}
 use Rattle.vx_generated.proofs.Spelling.{Tokens, Spells, followed, of_both}
 use Rattle.vx_generated.proofs.Lines.{line_tokens, line_spells}
-use Rattle.vx_ast.specs.declared.token.Token.{Token}
 use Rattle.vx_ast.specs.Tokens.{LexesFrom}
 
 abbrev variable_of : ℕ → Variable
@@ -86,16 +85,16 @@ abbrev pub lines_text : List Line → List ℕ
 lines_text [] = []
 lines_text (l ∷ ls) = line_text l ++ lines_text ls
 
-pub record Drawn_lines (n x : ℕ) : Type 0 where
+pub record DrawnLines (n x : ℕ) : Type 0 where
   pub lines : List Line
   pub count : length lines ≡ n
   pub text : (statements n x).text ≡ lines_text lines
 
-pub lines_drawn : (n x : ℕ) → Drawn_lines n x
+pub lines_drawn : (n x : ℕ) → DrawnLines n x
 lines_drawn zero x = record { lines = []; count = refl; text = refl }
 lines_drawn (suc n) x =
     let l = statement_text x in
-    let more : Drawn_lines n (statement x).state = lines_drawn n (statement x).state in
+    let more : DrawnLines n (statement x).state = lines_drawn n (statement x).state in
     record {
       lines = l.0 ∷ more.lines;
       count = let e : length more.lines ≡ n = more.count in ap (λ (k : ℕ). suc k) e;
