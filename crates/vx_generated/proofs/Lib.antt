@@ -16,3 +16,4 @@ pub mod Mains
 pub mod Programs
 pub mod Suited
 pub mod Limits
+pub mod Refused
