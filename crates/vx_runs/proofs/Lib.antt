@@ -14,6 +14,7 @@ pub mod Told
 pub mod Reading
 pub mod Naming
 pub mod Cases
+pub mod NotRefused
 pub mod CountLaws
 pub mod Summing
 pub mod SoakEnds

@@ -63,8 +63,7 @@ pub struct SoakReport {
     pub line: Vec<u8>,
 }
 
-/// The program of the source that a seed and a size give. A source that is refused counts as want of memory: that none is, is
-/// not shown.
+/// The program of the source that a seed and a size give. None is refused, so `Err` comes only where memory runs out.
 pub fn program_made(alloc: Global, seed: u64, size: u32) -> Result<Typed, NoMemory>
     requires some { 1 ≤ size }
     requires small { size ≤ 10000 }
@@ -73,7 +72,10 @@ pub fn program_made(alloc: Global, seed: u64, size: u32) -> Result<Typed, NoMemo
     let text = program(alloc, seed, size)?;
     match typed_of(alloc, text.as_slice()) {
         Ok(typed) => Ok(typed),
-        Err(_) => Err(NoMemory),
+        Err(status) => {
+            prove!(matches!(&status, Status::NoMemory));
+            Err(NoMemory)
+        }
     }
 }
 
