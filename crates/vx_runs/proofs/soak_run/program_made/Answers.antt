@@ -18,6 +18,6 @@ pub prove-unreachable-requires : goal.prove-unreachable-requires
 prove-unreachable-requires c =
     let is : c.in-Err.status ≡ NoMemory = only_memory c.args.seed c.args.size c.as_slice.result.now c.in-Err.status c.requires.small (c.as_slice.ensures.value ∙ c.in_ok-text.ensures.text) c.in-Err.ensures.refused in
     elim c.match-matches.branch [
-      in-NoMemory w ↦ never_both c.match-matches.matches w.matches-is c.if-prove.true
+      | in-NoMemory w ↦ never_both c.match-matches.matches w.matches-is c.if-prove.true
       | in_default w ↦ absurd (w.in_default.not-NoMemory is)
     ]
