@@ -1,0 +1,2 @@
+pub mod SeatRoom
+pub mod SeatSteps

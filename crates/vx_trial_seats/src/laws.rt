@@ -1,0 +1,34 @@
+// Laws of seats, each the clause of a function that does nothing.
+
+ghost use Rattle.vx_trial_seats.specs.SeatLaws.{ArraysLaw, EnteredLaw, ReturnedLaw, SlotLaw, StoreLaw, TableLaw};
+
+/// Rows that are seated in a stack of activations have a table of seats: what is known of their words is in memory, within it and
+/// apart from each other, and apart from every link and slot of the activations; each array of each activation has its seat there.
+pub fn rows_have_seats()
+    ensures { TableLaw }
+{}
+
+/// A store to one word of one row at that word of its seat keeps this, whatever activation the row belongs to.
+pub fn stores_keep_seats()
+    ensures { StoreLaw }
+{}
+
+/// A store to a link or a slot of an activation keeps it.
+pub fn slots_keep_seats()
+    ensures { SlotLaw }
+{}
+
+/// It is kept where a function is entered, with its rows behind those that were there and its frame below.
+pub fn entered_functions_keep_seats()
+    ensures { EnteredLaw }
+{}
+
+/// It is kept where a function returns, and its rows go.
+pub fn returns_keep_seats()
+    ensures { ReturnedLaw }
+{}
+
+/// So the arrays of each activation stand in memory.
+pub fn arrays_are_seated()
+    ensures { ArraysLaw }
+{}
