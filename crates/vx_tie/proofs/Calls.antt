@@ -37,17 +37,19 @@ use Rattle.vx_mixed.specs.LaidSettled.{bank_in}
 use Rattle.vx_layout.specs.Origins.{CallsAs}
 use Rattle.vx_regs.specs.Intervals.{IsLive, here, beyond, is_live, result_of}
 use Rattle.vx_target.specs.Target.{Target, answer, kept, is_slotted, is_branch, home, holds_branch, branch_of, stack_on, parameters_of, register_of, one, pause, in_flight, bytes, save_words, move_stack, argument_words, call_words, back_words, memory_words}
-use Rattle.vx_target.specs.Tied.{Tied, AtWord, Shows, Row, Arrays, Waits, Below, IsResult, own_arrays, row_in, begins_at, is_place, moved as moved_number, word_at}
-use Rattle.vx_target.specs.Carried.{Carries, IsFunctionOf, NeedsSlot, is_passed, is_saved, is_spilled, Survives, words_before}
+use Rattle.vx_target.specs.Tied.{Tied, AtWord, Shows, Stacked, IsStack, Seated, Waits, Below, IsResult, stack_from, waiting_above, seat, is_place, moved as moved_number, word_at}
+use Rattle.vx_target.specs.Carried.{Carries, IsFunctionOf, NeedsSlot, is_passed, is_saved, is_spilled, Survives}
+use Rattle.vx_target.specs.Seats.{Seats, is_slot}
 use Rattle.vx_target.proofs.Bytes.{unsigned_small}
 use Rattle.vx_target.proofs.Calm.{seen, AllFit, after, put_at, put_off, not_stuck, effect_is}
-use Rattle.vx_target.proofs.Frames.{get_below, get_in, frame_room, before_all, array_kind, IsGlobal, IsLocal, global_row, slot_free, link_in_frame, below_keep}
+use Rattle.vx_target.proofs.Frames.{get_below, get_in, frame_room, link_in_frame, below_keep}
+use Rattle.vx_target.proofs.SeatRoom.{table, framed_from}
+use Rattle.vx_target.proofs.SeatSteps.{seated_on, entered_stack, entered_seated, frames_of, saved_of}
 use Rattle.vx_target.proofs.Live.{live_bank}
 use Rattle.vx_target.proofs.Names.{in_register, named, number_at, apart_mixed, not_zero, not_general, not_first_branch}
 use Rattle.vx_target.proofs.FromGraph.{branch_plain, place_made, whole_bank, has_whole, whole_is}
 use Rattle.vx_tie.proofs.Passing.{CanFetch, OperandAt, OperandsAt, Passed as Given, pass_run}
 use Rattle.vx_tie.proofs.Simple.{few_one}
-use Rattle.vx_tie.proofs.Start.{row_left, row_right, own_row, undefined_row}
 use Rattle.vx_mixed.specs.Settled.{NoTwice}
 use Rattle.vx_flow.specs.declared.graph.Array.{Array}
 use Rattle.vx_flow.specs.declared.graph.Global.{Global}
@@ -446,13 +448,14 @@ module _ (T : Target) (flow : Flow) (ls : List VWords) (w : WordProgram) (sound 
       above_base : (x : ℕ) → Sp ≤ x → word_at G.memory x ≡ word_at A.memory x
       above_base x le = passed.elsewhere x (λ v i e. let a = its.framed.slot_to v (is_passed i) in let c = base_is in omega arith) ∙ ap (λ m. word_at m x) memory_e
 
-      in_globals : (x : ℕ) → x < T.globals → word_at G.memory x ≡ word_at u.memory x
-      in_globals x lt = passed.elsewhere x (λ v i e. let a = enough in let c = base_is in omega arith) ∙ ap (λ m. word_at m x) memory_e ∙ saved_elsewhere x (λ v i e. let a = enough in omega arith)
-
       free_above : (x : ℕ) → Sp ≤ x → ((v : ℕ) → NeedsSlot T F v → x ≢ Sp + T.slot F v) → word_at G.memory x ≡ word_at u.memory x
       free_above x le h = above_base x le ∙ saved_elsewhere x (λ v i. h v (needs v i))
 
-      -- rows
+      -- all that changes are slots of what is saved and of the parameters
+      changes : (x : ℕ) → ((v : ℕ) → IsIn v Parameters → x ≢ Base + T.slot g v) → ((v : ℕ) → NeedsSlot T F v → x ≢ Sp + T.slot F v) → word_at G.memory x ≡ word_at u.memory x
+      changes x h k = passed.elsewhere x h ∙ ap (λ m. word_at m x) memory_e ∙ saved_elsewhere x (λ v i. k v (needs v i))
+
+      -- rows and their seats
 
       abbrev Globals : ℕ
       Globals = length flow.globals
@@ -460,27 +463,34 @@ module _ (T : Target) (flow : Flow) (ls : List VWords) (w : WordProgram) (sound 
       abbrev Rows : List (List Content)
       Rows = S.arrays ++ map undefined (own_of Globals (T.graph g))
 
-      global_rows : (a : ℕ) (x : Global) → slice_get flow.globals a ≡ Some x → Row G.memory (words_before flow.globals a) x.words (row_in Rows a)
-      global_rows a x e =
-          let old = global_row T flow carries.some_frame carries.globals sound F ls tied.is of.framed u.memory Sp r.base S.arrays tied.arrays a x e in
-          let lt : a < length S.arrays = (let b = get_below flow.globals a x e in let c = tied.first in let d = tied.last in omega arith) in
-          let same : row_in Rows a ≡ row_in S.arrays a = row_left S.arrays (map undefined (own_of Globals (T.graph g))) a lt in
-          record {
-            size = ap length same ∙ old.size;
-            is = λ i n l k. in_globals (words_before flow.globals a + i) (let z = carries.globals in let b = before_all flow.globals a i x e l in omega arith) ∙ old.is i n l (ap (λ y. slice_index_or y i None) (sym same) ∙ k);
-          }
+      abbrev Callee : Stacked
+      Callee = record { function = g; frame = Base; base = length S.arrays }
 
-      callee_arrays : Arrays T Globals G.memory Base (length S.arrays) g Rows
-      callee_arrays = record { row = λ a array has. by a array has (array_kind T flow carries.some_frame carries.globals sound g ls its.is its.framed a array has) }
-        where
-          by : (a : ℕ) (array : Array) → slice_get (T.graph g).arrays a ≡ Some array → IsGlobal T flow carries.some_frame carries.globals sound g ls its.is its.framed a array ⊎ IsLocal T flow carries.some_frame carries.globals sound g ls its.is its.framed a → Row G.memory (begins_at T Base g a) array.words (row_in Rows (spot_of Globals (length S.arrays) a))
-          by a array has (inl k) =
-              subst (λ j. Row G.memory (begins_at T Base g a) array.words (row_in Rows j)) (sym (k.spot (length S.arrays)))
-              (subst (λ b. Row G.memory b array.words (row_in Rows a)) (sym (k.begins Base)) (subst (λ n. Row G.memory (words_before flow.globals a) n (row_in Rows a)) (sym k.words) (global_rows a k.item k.has)))
-          by a array has (inr l) =
-              let row_is : row_in Rows (spot_of Globals (length S.arrays) a) ≡ undefined array.words =
-              ap (row_in Rows) (l.spot (length S.arrays)) ∙ row_right S.arrays (map undefined (own_of Globals (T.graph g))) (a - Globals) ∙ own_row Globals a (T.graph g) array l.from has in
-              subst (λ y. Row G.memory (begins_at T Base g a) array.words y) (sym row_is) (undefined_row G.memory (begins_at T Base g a) array.words)
+      abbrev Caller : Stacked
+      Caller = record { function = F; frame = Sp; base = r.base }
+
+      abbrev Activations : List Stacked
+      Activations = Callee ∷ stack_from T Sp r
+
+      stacked : IsStack T flow ls Base (length Rows) Activations
+      stacked = entered_stack T flow ls (stack_from T Sp r) Base S.arrays g its.is (subst (λ x. IsStack T flow ls x (length S.arrays) (stack_from T Sp r)) (sym base_is) tied.stacked)
+
+      entered_rows : Seated T flow.globals Activations Rows u.memory
+      entered_rows = entered_seated T flow ls (stack_from T Sp r) Sp S.arrays u.memory g Base tied.stacked tied.seated
+
+      the_table : Seats T Globals Activations Rows u.memory (λ k. seat T flow.globals Activations k)
+      the_table = table T flow ls sound (frames_of T flow ls w carries) Activations Base Rows u.memory stacked (let a = enough in let c = base_is in omega arith) entered_rows
+
+      seated : Seated T flow.globals Activations Rows G.memory
+      seated = seated_on T flow.globals Activations Rows u.memory G.memory
+          (λ k i has. changes (seat T flow.globals Activations k + i)
+          (λ v j e. the_table.free Callee (Base + T.slot g v) k i (inl refl) (is_slot v (is_passed j) refl) has (sym e))
+          (λ v needed e. the_table.free Caller (Sp + T.slot F v) k i (inr (inl refl)) (is_slot v needed refl) has (sym e)))
+          entered_rows
+
+      -- as the frame of the caller stands above that of the called
+      abbrev Above : ℕ → List Stacked
+      Above x = Callee ∷ record { function = F; frame = x; base = r.base } ∷ waiting_above T x r.waiting
 
       -- the caller waits
 
@@ -502,22 +512,7 @@ module _ (T : Target) (flow : Flow) (ls : List VWords) (w : WordProgram) (sound 
               let was : Shows T Sp F v n (seen u.registers (register_of T F Saved v)) = subst (λ x. Shows T Sp F v n x) (ap (register u) (own_name T F v (v ∷ []) Saved h)) k in
               subst (λ x. Shows T Sp F v n x) (sym (above_base (Sp + T.slot F v) (omega arith) ∙ saved_at v there)) (kept_shows T Sp F v n (seen u.registers (register_of T F Saved v)) (branch_plain T F Any graph_sound of.mapped.code v) was)
 
-      waiting_arrays : Arrays T Globals G.memory Sp r.base F Rows
-      waiting_arrays = record { row = λ a array has. by a array has (array_kind T flow carries.some_frame carries.globals sound F ls tied.is of.framed a array has) (tied.arrays.row a array has) }
-        where
-          by : (a : ℕ) (array : Array) → slice_get (T.graph F).arrays a ≡ Some array → IsGlobal T flow carries.some_frame carries.globals sound F ls tied.is of.framed a array ⊎ IsLocal T flow carries.some_frame carries.globals sound F ls tied.is of.framed a → Row u.memory (begins_at T Sp F a) array.words (row_in S.arrays (spot_of Globals r.base a)) → Row G.memory (begins_at T Sp F a) array.words (row_in Rows (spot_of Globals r.base a))
-          by a array has (inl k) old =
-              subst (λ j. Row G.memory (begins_at T Sp F a) array.words (row_in Rows j)) (sym (k.spot r.base))
-              (subst (λ b. Row G.memory b array.words (row_in Rows a)) (sym (k.begins Sp)) (subst (λ n. Row G.memory (words_before flow.globals a) n (row_in Rows a)) (sym k.words) (global_rows a k.item k.has)))
-          by a array has (inr l) old =
-              let lt : spot_of Globals r.base a < length S.arrays = (let b = get_below (T.graph F).arrays a array has in let c = l.spot r.base in let d = tied.last in let e = l.from in omega arith) in
-              let same : row_in Rows (spot_of Globals r.base a) ≡ row_in S.arrays (spot_of Globals r.base a) = row_left S.arrays (map undefined (own_of Globals (T.graph g))) (spot_of Globals r.base a) lt in
-              record {
-                size = ap length same ∙ old.size;
-                is = λ i n li e. free_above (begins_at T Sp F a + i) (let b = l.begins Sp in omega arith) (λ v needed q. slot_free T flow carries.some_frame carries.globals sound F ls tied.is of.framed Sp (length r.waiting) v tied.deep needed a i array has li (sym q)) ∙ old.is i n li (ap (λ y. slice_index_or y i None) (sym same) ∙ e);
-              }
-
-      waits_at : Waits T flow ls Rows G.memory Sp (length S.arrays) Waiter r.waiting
+      waits_at : Waits T flow ls G.memory Sp Waiter r.waiting
       waits_at = record {
         is = tied.is;
         caller = p;
@@ -528,20 +523,17 @@ module _ (T : Target) (flow : Flow) (ls : List VWords) (w : WordProgram) (sound 
         next = refl;
         values = waiting_values;
         passed = tied.passed;
-        arrays = waiting_arrays;
-        first = tied.first;
-        last = tied.last;
         link = free_above Sp (omega arith) (λ v needed e. let a = of.framed.slot_from v needed in omega arith) ∙ sym (link_in_frame T u Sp F p g arguments result plan) ∙ at_word.link;
       }
 
-      rest_below : Below T flow ls Rows G.memory Sp r.base r.waiting
-      rest_below = below_keep T flow carries.some_frame carries.globals sound ls (λ f is. (carries.functions f (get_below flow.functions f (T.graph f) is.graph)).framed) r.waiting S.arrays Rows u.memory G.memory Sp r.base
-          global_rows
-          (λ j from lt. row_left S.arrays (map undefined (own_of Globals (T.graph g))) j (let d = tied.last in omega arith))
-          (λ x le. free_above x (omega arith) (λ v needed e. let a = of.framed.slot_to v needed in omega arith)) tied.below
+      rest_below : Below T flow ls G.memory Sp r.waiting
+      rest_below = below_keep T flow ls (saved_of T flow ls w carries) r.waiting u.memory G.memory Sp
+          (λ x word i framed. let z = framed_from T flow ls (waiting_above T Sp r.waiting) (Sp + T.frame) r.base tied.stacked.3 x word i framed in
+          free_above word (omega arith) (λ v needed e. let a = of.framed.slot_to v needed in omega arith))
+          tied.below
 
-      all_below : Below T flow ls Rows G.memory Base (length S.arrays) (Waiter ∷ r.waiting)
-      all_below = subst (λ x. Waits T flow ls Rows G.memory x (length S.arrays) Waiter r.waiting × Below T flow ls Rows G.memory x r.base r.waiting) (sym base_is) (waits_at, rest_below)
+      all_below : Below T flow ls G.memory Base (Waiter ∷ r.waiting)
+      all_below = subst (λ x. Waits T flow ls G.memory x Waiter r.waiting × Below T flow ls G.memory x r.waiting) (sym base_is) (waits_at, rest_below)
 
       -- the step over values
 
@@ -563,9 +555,6 @@ module _ (T : Target) (flow : Flow) (ls : List VWords) (w : WordProgram) (sound 
           ∙ ap (λ b. if b then Over (Traps Depth S.out) else enters g ((laid_program flow ls).body g) ns S (Waiter ∷ r.waiting)) not_full
           ∙ ap (λ x. enters g x ns S (Waiter ∷ r.waiting)) body_is
 
-      own_count : length (map undefined (own_of Globals (T.graph g))) ≡ own_arrays T Globals g
-      own_count = length-map (own_of Globals (T.graph g)) undefined ∙ length-map (drop Globals (T.graph g).arrays) (λ (x : Array). x.words) ∙ length-drop Globals (T.graph g).arrays
-
       called_on : CarriesOn T flow ls w r u
       called_on = record {
         after = Entered;
@@ -581,9 +570,8 @@ module _ (T : Target) (flow : Flow) (ls : List VWords) (w : WordProgram) (sound 
           stack = stack_g;
           at = inl (record { block = refl; place = refl; values = passed.values; link = link_is ∙ (let q : suc p - 1 ≡ p = omega arith in ap (λ n. wrap (pos (T.back F n))) (sym q)) });
           passed = refl;
-          arrays = callee_arrays;
-          first = (let a = tied.first in let b = tied.last in omega arith);
-          last = (let a = length-append S.arrays (map undefined (own_of Globals (T.graph g))) in let b = own_count in omega arith);
+          stacked = subst (λ x. IsStack T flow ls Base (length Rows) (Above x)) (sym base_is) stacked;
+          seated = subst (λ x. Seated T flow.globals (Above x) Rows G.memory) (sym base_is) seated;
           below = all_below;
           input = passed.quiet.input ∙ moved.quiet.input ∙ quiet_c.input ∙ tied.input;
           out = append-nil P.out ∙ passed.quiet.out ∙ moved.quiet.out ∙ append-nil C.out ∙ quiet_c.out ∙ tied.out;

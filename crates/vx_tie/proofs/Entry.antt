@@ -25,7 +25,8 @@ use Rattle.vx_regs.specs.Intervals.{IsLive, is_live}
 use Rattle.vx_regs.specs.declared.map.Kept.{Kept}
 use Rattle.vx_regs.specs.declared.map.Kept.TheVariants.{InRegister}
 use Rattle.vx_target.specs.Target.{Target, answer, general, stack_on, kept, is_slotted, is_branch, parameters_of, holds_branch, register_of, one, pause, in_flight, settled, is_caller, load_slots, link_words, way, entry_words, memory_words}
-use Rattle.vx_target.specs.Tied.{Tied, AtEntry, Arrays, Below, begins_at, Shows, holds, is_place, moved, word_at, link_in}
+use Rattle.vx_target.specs.Tied.{Tied, AtEntry, Below, Seated, Shows, stack_from, waiting_above, seat, holds, is_place, moved, word_at, link_in}
+use Rattle.vx_target.specs.Seats.{Seats, is_link}
 use Rattle.vx_target.specs.Carried.{Carries, IsFunctionOf, is_passed, Arrives}
 use Rattle.vx_tie.specs.Planned.{CarriesOn, FallsThrough, EntryLaw}
 use Rattle.vx_target.proofs.Calm.{seen, AllFit, Going}
@@ -33,7 +34,9 @@ use Rattle.vx_target.proofs.FromGraph.{place_made, whole_bank, has_whole, whole_
 use Rattle.vx_target.proofs.Names.{in_register, apart_registers, not_zero, not_general, not_scratch}
 use Rattle.vx_target.proofs.Live.{live_bank}
 use Rattle.vx_target.proofs.Enough.{some_cluster, some_issue}
-use Rattle.vx_target.proofs.Frames.{get_below, get_in, frame_room, link_free, global_row, below_keep}
+use Rattle.vx_target.proofs.Frames.{get_below, get_in, frame_room, above_globals, below_keep}
+use Rattle.vx_target.proofs.SeatRoom.{table, framed_from}
+use Rattle.vx_target.proofs.SeatSteps.{seated_on, frames_of, saved_of}
 use Rattle.vx_target.proofs.Steps.{Stands, stands_left, stands_right, Quiet, quiet_on, Comes, stay, comes_on, forth_comes, Set, set_step, Paused, pause_step, way_step, Kept as Kept_word, store_step}
 use Rattle.vx_target.proofs.Slots.{Usable, Loaded, load_list, as_read, number_in, stack_no_answer, link_unnamed, link_no_general}
 use Rattle.vx_target.proofs.Stands.{entry_stands, entry_next}
@@ -347,19 +350,17 @@ module _ (T : Target) (flow : Flow) (ls : List VWords) (w : WordProgram) (sound 
 
   -- memory: only the first word of the frame has changed
 
-  arrays : Arrays T (length flow.globals) done.to.memory Sp r.base F r.state.arrays
-  arrays = record {
-    row = λ a array has. let x = tied.arrays.row a array has in record {
-      size = x.size;
-      is = λ i n lt e. done.elsewhere (begins_at T Sp F a + i) (λ q. link_free T flow carries.some_frame carries.globals sound F ls tied.is of.framed Sp (length r.waiting) tied.deep a i array has lt (sym q)) ∙ x.is i n lt e;
-    };
-  }
+  the_table : Seats T (length flow.globals) (stack_from T Sp r) r.state.arrays u.memory (λ k. seat T flow.globals (stack_from T Sp r) k)
+  the_table = table T flow ls sound (frames_of T flow ls w carries) (stack_from T Sp r) Sp r.state.arrays u.memory tied.stacked (above_globals T flow carries.some_frame carries.globals sound Sp (length r.waiting) tied.deep) tied.seated
 
-  waiting : Below T flow ls r.state.arrays done.to.memory Sp r.base r.waiting
-  waiting = below_keep T flow carries.some_frame carries.globals sound ls (λ f is. (carries.functions f (get_below flow.functions f (T.graph f) is.graph)).framed) r.waiting r.state.arrays r.state.arrays u.memory done.to.memory Sp r.base
-      (λ a x e. global_row T flow carries.some_frame carries.globals sound F ls tied.is of.framed done.to.memory Sp r.base r.state.arrays arrays a x e)
-      (λ j from lt. refl)
-      (λ x le. done.elsewhere x (λ q. let y = carries.some_frame in omega arith)) tied.below
+  seated : Seated T flow.globals (stack_from T Sp r) r.state.arrays done.to.memory
+  seated = seated_on T flow.globals (stack_from T Sp r) r.state.arrays u.memory done.to.memory
+      (λ k i has. done.elsewhere (seat T flow.globals (stack_from T Sp r) k + i) (λ e. the_table.free (record { function = F; frame = Sp; base = r.base }) Sp k i (inl refl) (is_link refl) has (sym e)))
+      tied.seated
+
+  waiting : Below T flow ls done.to.memory Sp r.waiting
+  waiting = below_keep T flow ls (saved_of T flow ls w carries) r.waiting u.memory done.to.memory Sp
+      (λ x word i framed. done.elsewhere word (λ q. let y = carries.some_frame in let z = framed_from T flow ls (waiting_above T Sp r.waiting) (Sp + T.frame) r.base tied.stacked.3 x word i framed in omega arith)) tied.below
 
   tied_after : Tied T flow ls After done.to
   tied_after = record {
@@ -370,9 +371,8 @@ module _ (T : Target) (flow : Flow) (ls : List VWords) (w : WordProgram) (sound 
     stack = done.stack;
     at = inr (Entry, record { block = refl; place = done.place; values = values; link = done.link ∙ at_entry.link });
     passed = tied.passed;
-    arrays = arrays;
-    first = tied.first;
-    last = tied.last;
+    stacked = tied.stacked;
+    seated = seated;
     below = waiting;
     input = done.quiet.input ∙ tied.input;
     out = done.quiet.out ∙ tied.out;

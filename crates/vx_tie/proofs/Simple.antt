@@ -25,7 +25,7 @@ use Rattle.vx_layout.specs.Laid.{moves, word_hop, laid_hop, some_word_hop, laid_
 use Rattle.vx_mixed.specs.LaidSettled.{LeadsTo, bank_in}
 use Rattle.vx_regs.specs.Intervals.{IsLive, here, beyond, is_live, word_writes}
 use Rattle.vx_target.specs.Target.{Target, answer, stack_on, kept, is_slotted, holds_branch, same_file, scratch, general_of, branch_of, register_of, slotted, before, follows, turns, one, waits, pause, word_words, memory_words}
-use Rattle.vx_target.specs.Tied.{Tied, AtWord, Below, begins_at, Shows, holds, is_place, moved, word_at}
+use Rattle.vx_target.specs.Tied.{Tied, AtWord, Below, Seated, stack_from, Shows, holds, is_place, moved, word_at}
 use Rattle.vx_target.specs.Carried.{Carries, IsFunctionOf, IsMapped, is_spilled}
 use Rattle.vx_tie.specs.Planned.{CarriesOn, EndsAlike, FallsNext, Simple, SimpleLaw}
 use Rattle.vx_target.proofs.Calm.{seen, AllFit, after, not_stuck, effect_is}
@@ -92,10 +92,9 @@ module _ (T : Target) (flow : Flow) (ls : List VWords) (w : WordProgram) (sound 
     stack = λ c lt. k.stack c lt ∙ tied.stack c lt;
     at = inr (q, record { block = refl; place = k.place; values = values; link = link_stays T u v tied.sp F (ap (λ g. word_at g tied.sp) k.memory) k.link ∙ at_word.link });
     passed = tied.passed;
-    arrays = record { row = λ a array has. let x = tied.arrays.row a array has in record { size = x.size; is = λ i n lt e. ap (λ g. word_at g (begins_at T tied.sp F a + i)) k.memory ∙ x.is i n lt e } };
-    first = tied.first;
-    last = tied.last;
-    below = subst (λ g. Below T flow ls S.arrays g tied.sp r.base r.waiting) (sym k.memory) tied.below;
+    stacked = tied.stacked;
+    seated = subst (λ g. Seated T flow.globals (stack_from T tied.sp r) S.arrays g) (sym k.memory) tied.seated;
+    below = subst (λ g. Below T flow ls g tied.sp r.waiting) (sym k.memory) tied.below;
     input = k.quiet.input ∙ tied.input;
     out = k.quiet.out ∙ tied.out;
     safe = safe_after (next (laid_program flow ls)) (λ x. x.state.out) 1 r (record r { block = suc q }) (reach_one (next (laid_program flow ls)) r (record r { block = suc q }) steps) tied.safe;

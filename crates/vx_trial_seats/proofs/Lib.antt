@@ -1,2 +1,1 @@
-pub mod SeatRoom
 pub mod SeatSteps

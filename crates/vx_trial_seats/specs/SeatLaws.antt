@@ -7,15 +7,9 @@ use Rattle.vx_flow.specs.Sound.{is_sound_flow}
 use Rattle.vx_isa.specs.Machine.{stored}
 use Rattle.vx_mixed.specs.declared.layout.VWords.{VWords}
 use Rattle.vx_target.specs.Target.{Target}
-use Rattle.vx_target.specs.Tied.{row_in, Arrays, IsFunction}
-use Rattle.vx_target.specs.Carried.{NeedsSlot, IsFramed, words_before}
-use Rattle.vx_trial_seats.specs.Seats.{Stacked, HasCell, seat, IsStack, Seated, Seats}
-
--- the frames of a target are where the functions of a program need them
-pub record HasFrames (T : Target) (flow : Flow) (ls : List VWords) : Type 0 where
-  pub some : 1 ≤ T.frame
-  pub globals : T.globals ≡ words_before flow.globals (length flow.globals)
-  pub each : (f : ℕ) → IsFunction T flow ls f → IsFramed T flow f
+use Rattle.vx_target.specs.Tied.{Stacked, HasCell, IsFunction, IsStack, Seated, row_in, seat}
+use Rattle.vx_target.specs.Seats.{HasFrames, Framed, Seats}
+use Rattle.vx_trial_seats.specs.Arrays.{Arrays}
 
 -- rows that are seated in a stack above the globals
 pub record InStack (T : Target) (flow : Flow) (ls : List VWords) (from : ℕ) (stack : List Stacked) (rows : List (List Content)) (memory : ℕ → ℤ) : Type 0 where
@@ -39,10 +33,6 @@ StoreLaw =
     (k i : ℕ) (n : ℤ) → HasCell rows k i → InStack T flow ls from stack (with_word rows k i n) (stored memory (4 * (seat T flow.globals stack k + i)) n)
 
 -- a store to the link, or to the slot of a value, of whatever activation
-pub data Framed (T : Target) (x : Stacked) (word : ℕ) : Type 0 where
-  is_link : word ≡ x.frame → Framed T x word
-  is_slot : (v : ℕ) → NeedsSlot T x.function v → word ≡ x.frame + T.slot x.function v → Framed T x word
-
 abbrev pub SlotLaw : Type 0
 SlotLaw =
     (T : Target) (flow : Flow) (ls : List VWords) → is_sound_flow flow ≡ true → HasFrames T flow ls → (from : ℕ) (stack : List Stacked) (rows : List (List Content)) (memory : ℕ → ℤ) → InStack T flow ls from stack rows memory →

@@ -10,24 +10,11 @@ use Rattle.vx_flow.specs.Meaning.{spot_of}
 use Rattle.vx_flow.specs.Sound.{SoundFlow}
 use Rattle.vx_mixed.specs.declared.layout.VWords.{VWords}
 use Rattle.vx_target.specs.Target.{Target, memory_words}
-use Rattle.vx_target.specs.Tied.{row_in, word_at, begins_at, own_arrays, IsFunction}
-use Rattle.vx_target.specs.Carried.{NeedsSlot, HasWord, IsFramed, words_before}
-use Rattle.vx_target.proofs.Frames.{get_below, get_some, before_all, array_kind, IsGlobal, IsLocal}
-use Rattle.vx_trial_seats.specs.Seats.{Stacked, HasCell, seat, IsStack, Sized, Seated, Seats}
-
--- a row that has a word is there
-pub row_there : (rows : List (List Content)) (k i : ℕ) → HasCell rows k i → k < length rows
-row_there [] k i lt = absurd (omega arith)
-row_there (r ∷ rows) zero i lt = omega arith
-row_there (r ∷ rows) (suc k) i lt = let h = row_there rows k i lt in omega arith
-
--- globals stand one after the other
-before_apart : (gs : List Global) (a b i j : ℕ) (x y : Global) → slice_get gs a ≡ Some x → slice_get gs b ≡ Some y → i < x.words → j < y.words → words_before gs a + i ≡ words_before gs b + j → (a ≡ b) × (i ≡ j)
-before_apart [] a b i j x y ea eb hi hj e = absurd (cc)
-before_apart (g ∷ gs) zero zero i j x y ea eb hi hj e = (refl, omega arith)
-before_apart (g ∷ gs) zero (suc b) i j x y ea eb hi hj e = absurd (let q : g.words ≡ x.words = (let z : g ≡ x = cc in ap (λ y. y.words) z) in omega arith)
-before_apart (g ∷ gs) (suc a) zero i j x y ea eb hi hj e = absurd (let q : g.words ≡ y.words = (let z : g ≡ y = cc in ap (λ y. y.words) z) in omega arith)
-before_apart (g ∷ gs) (suc a) (suc b) i j x y ea eb hi hj e = let k = before_apart gs a b i j x y ea eb hi hj (omega arith) in (ap suc k.0, k.1)
+use Rattle.vx_target.specs.Tied.{Stacked, HasCell, IsStack, Sized, Seated, seat, words_before, row_in, word_at, begins_at, own_arrays, IsFunction}
+use Rattle.vx_target.specs.Carried.{NeedsSlot, HasWord, IsFramed}
+use Rattle.vx_target.specs.Seats.{HasFrames, Seats, Framed, is_link, is_slot}
+use Rattle.vx_target.proofs.Cells.{row_there}
+use Rattle.vx_target.proofs.Frames.{get_below, get_some, before_all, before_apart, array_kind, IsGlobal, IsLocal}
 
 -- the seat of a row of the latest activation, and of one in front of those
 
@@ -45,12 +32,9 @@ own_or_before base k = by (leb base k) refl
     by true e = inl (leb-true base k e)
     by false e = inr (leb-false base k e)
 
-module _ (T : Target) (flow : Flow) (some_frame : 1 ≤ T.frame) (globals_are : T.globals ≡ words_before flow.globals (length flow.globals)) (sound : SoundFlow flow) (ls : List VWords) (each : (f : ℕ) → IsFunction T flow ls f → IsFramed T flow f) where
+module _ (T : Target) (flow : Flow) (ls : List VWords) where
   abbrev pub Globals : ℕ
   Globals = length flow.globals
-
-  abbrev pub Seat : List Stacked → ℕ → ℕ
-  Seat stack k = seat T flow.globals stack k
 
   -- the globals stand in front of all other rows, and frames end within the memory
 
@@ -67,57 +51,79 @@ module _ (T : Target) (flow : Flow) (some_frame : 1 ≤ T.frame) (globals_are : 
   frame_inside (y ∷ ys) from behind is x (inl e) = let r = frames_inside ys (from + T.frame) y.base is.3 in let q : x.frame ≡ y.frame = ap (λ z. z.frame) e in let p = is.1 in (omega arith, omega arith)
   frame_inside (y ∷ ys) from behind is x (inr i) = let r = frame_inside ys (from + T.frame) y.base is.3 x i in let a = r.0 in (omega arith, r.1)
 
+  -- the link and the slots of an activation are not below its frame
+  pub framed_from : (stack : List Stacked) (from behind : ℕ) → IsStack T flow ls from behind stack → (x : Stacked) (word : ℕ) → IsIn x stack → Framed T x word → from ≤ word
+  framed_from stack from behind is x word i (is_link q) = let r = frame_inside stack from behind is x i in let a = r.0 in omega arith
+  framed_from stack from behind is x word i (is_slot v needs q) = let r = frame_inside stack from behind is x i in let a = r.0 in omega arith
+
   -- each is of a function
   pub function_in : (stack : List Stacked) (from behind : ℕ) → IsStack T flow ls from behind stack → (x : Stacked) → IsIn x stack → IsFunction T flow ls x.function
   function_in [] from behind is x i = absurd i
   function_in (y ∷ ys) from behind is x (inl e) = subst (λ (z : Stacked). IsFunction T flow ls z.function) (sym e) is.0
   function_in (y ∷ ys) from behind is x (inr i) = function_in ys (from + T.frame) y.base is.3 x i
 
+  -- its own arrays are rows in front of where the rows end
+  pub own_low : (stack : List Stacked) (from behind : ℕ) → IsStack T flow ls from behind stack → (x : Stacked) → IsIn x stack → (a : ℕ) (array : Array) → Globals ≤ a → slice_get (T.graph x.function).arrays a ≡ Some array → x.base + (a - Globals) < behind
+  own_low [] from behind is x i a array le has = absurd i
+  own_low (y ∷ ys) from behind is x (inl e) a array le has =
+      let l = is.2 in
+      let b : x.base ≡ y.base = ap (λ (z : Stacked). z.base) e in
+      let c : own_arrays T Globals x.function ≡ own_arrays T Globals y.function = ap (λ (z : Stacked). own_arrays T Globals z.function) e in
+      let d = get_below (T.graph x.function).arrays a array has in omega arith
+  own_low (y ∷ ys) from behind is x (inr i) a array le has = let r = own_low ys (from + T.frame) y.base is.3 x i a array le has in let l = is.2 in omega arith
+
+module _ (T : Target) (flow : Flow) (ls : List VWords) (sound : SoundFlow flow) (frames : HasFrames T flow ls) where
+  abbrev G : ℕ
+  G = length flow.globals
+
+  abbrev pub Seat : List Stacked → ℕ → ℕ
+  Seat stack k = seat T flow.globals stack k
+
   -- the spots of its arrays are in front of where the rows end
-  pub spot_low : (stack : List Stacked) (from behind : ℕ) → IsStack T flow ls from behind stack → (x : Stacked) → IsIn x stack → (a : ℕ) (array : Array) → slice_get (T.graph x.function).arrays a ≡ Some array → spot_of Globals x.base a < behind
+  pub spot_low : (stack : List Stacked) (from behind : ℕ) → IsStack T flow ls from behind stack → (x : Stacked) → IsIn x stack → (a : ℕ) (array : Array) → slice_get (T.graph x.function).arrays a ≡ Some array → spot_of G x.base a < behind
   spot_low [] from behind is x i a array has = absurd i
-  spot_low (y ∷ ys) from behind is x (inl e) a array has = subst (λ (z : Stacked). slice_get (T.graph z.function).arrays a ≡ Some array → spot_of Globals z.base a < behind) (sym e) here has
+  spot_low (y ∷ ys) from behind is x (inl e) a array has = subst (λ (z : Stacked). slice_get (T.graph z.function).arrays a ≡ Some array → spot_of G z.base a < behind) (sym e) here has
     where
-      here : slice_get (T.graph y.function).arrays a ≡ Some array → spot_of Globals y.base a < behind
+      here : slice_get (T.graph y.function).arrays a ≡ Some array → spot_of G y.base a < behind
       here h = ⊎_elim
-          (λ g. let s = g.spot y.base in let b = g.below in let f = globals_first ys (from + T.frame) y.base is.3 in let l = is.2 in omega arith)
+          (λ g. let s = g.spot y.base in let b = g.below in let f = globals_first T flow ls ys (from + T.frame) y.base is.3 in let l = is.2 in omega arith)
           (λ o. let s = o.spot y.base in let b = o.from in let l = is.2 in let c = get_below (T.graph y.function).arrays a array h in omega arith)
-          (array_kind T flow some_frame globals_are sound y.function ls is.0 (each y.function is.0) a array h)
+          (array_kind T flow frames.some frames.globals sound y.function ls is.0 (frames.each y.function is.0) a array h)
   spot_low (y ∷ ys) from behind is x (inr i) a array has = let r = spot_low ys (from + T.frame) y.base is.3 x i a array has in let l = is.2 in omega arith
 
   -- array a of an activation begins at the seat of its spot
-  pub begins_there : (stack : List Stacked) (from behind : ℕ) → IsStack T flow ls from behind stack → (x : Stacked) → IsIn x stack → (a : ℕ) (array : Array) → slice_get (T.graph x.function).arrays a ≡ Some array → begins_at T x.frame x.function a ≡ Seat stack (spot_of Globals x.base a)
+  pub begins_there : (stack : List Stacked) (from behind : ℕ) → IsStack T flow ls from behind stack → (x : Stacked) → IsIn x stack → (a : ℕ) (array : Array) → slice_get (T.graph x.function).arrays a ≡ Some array → begins_at T x.frame x.function a ≡ Seat stack (spot_of G x.base a)
   begins_there [] from behind is x i a array has = absurd i
-  begins_there (y ∷ ys) from behind is x (inl e) a array has = subst (λ (z : Stacked). slice_get (T.graph z.function).arrays a ≡ Some array → begins_at T z.frame z.function a ≡ Seat (y ∷ ys) (spot_of Globals z.base a)) (sym e) here has
+  begins_there (y ∷ ys) from behind is x (inl e) a array has = subst (λ (z : Stacked). slice_get (T.graph z.function).arrays a ≡ Some array → begins_at T z.frame z.function a ≡ Seat (y ∷ ys) (spot_of G z.base a)) (sym e) here has
     where
-      among : (stack : List Stacked) (from behind : ℕ) → IsStack T flow ls from behind stack → a < Globals → Seat stack a ≡ words_before flow.globals a
+      among : (stack : List Stacked) (from behind : ℕ) → IsStack T flow ls from behind stack → a < G → Seat stack a ≡ words_before flow.globals a
       among [] from behind is lt = refl
-      among (z ∷ zs) from behind is lt = seat_before T flow.globals z zs a (let g = globals_first zs (from + T.frame) z.base is.3 in omega arith) ∙ among zs (from + T.frame) z.base is.3 lt
+      among (z ∷ zs) from behind is lt = seat_before T flow.globals z zs a (let g = globals_first T flow ls zs (from + T.frame) z.base is.3 in omega arith) ∙ among zs (from + T.frame) z.base is.3 lt
 
-      here : slice_get (T.graph y.function).arrays a ≡ Some array → begins_at T y.frame y.function a ≡ Seat (y ∷ ys) (spot_of Globals y.base a)
+      here : slice_get (T.graph y.function).arrays a ≡ Some array → begins_at T y.frame y.function a ≡ Seat (y ∷ ys) (spot_of G y.base a)
       here h = ⊎_elim
           (λ g. g.begins y.frame ∙ sym (ap (Seat (y ∷ ys)) (g.spot y.base) ∙ among (y ∷ ys) from behind is g.below))
-          (λ o. let f = o.from in o.begins y.frame ∙ sym (ap (Seat (y ∷ ys)) (o.spot y.base) ∙ seat_here T flow.globals y ys (y.base + (a - Globals)) (omega arith) ∙ ap (λ c. y.frame + T.array_at y.function c) (omega arith)))
-          (array_kind T flow some_frame globals_are sound y.function ls is.0 (each y.function is.0) a array h)
+          (λ o. let f = o.from in o.begins y.frame ∙ sym (ap (Seat (y ∷ ys)) (o.spot y.base) ∙ seat_here T flow.globals y ys (y.base + (a - G)) (omega arith) ∙ ap (λ c. y.frame + T.array_at y.function c) (omega arith)))
+          (array_kind T flow frames.some frames.globals sound y.function ls is.0 (frames.each y.function is.0) a array h)
   begins_there (y ∷ ys) from behind is x (inr i) a array has =
-      begins_there ys (from + T.frame) y.base is.3 x i a array has ∙ sym (seat_before T flow.globals y ys (spot_of Globals x.base a) (spot_low ys (from + T.frame) y.base is.3 x i a array has))
+      begins_there ys (from + T.frame) y.base is.3 x i a array has ∙ sym (seat_before T flow.globals y ys (spot_of G x.base a) (spot_low ys (from + T.frame) y.base is.3 x i a array has))
 
   module _ (rows : List (List Content)) where
     abbrev Global_sizes : Type 0
     Global_sizes = (k : ℕ) (x : Global) → slice_get flow.globals k ≡ Some x → length (row_in rows k) ≡ x.words
 
     abbrev Own_sizes : List Stacked → Type 0
-    Own_sizes stack = (x : Stacked) (a : ℕ) (array : Array) → IsIn x stack → Globals ≤ a → slice_get (T.graph x.function).arrays a ≡ Some array → length (row_in rows (x.base + (a - Globals))) ≡ array.words
+    Own_sizes stack = (x : Stacked) (a : ℕ) (array : Array) → IsIn x stack → G ≤ a → slice_get (T.graph x.function).arrays a ≡ Some array → length (row_in rows (x.base + (a - G))) ≡ array.words
 
     -- a word of a row of globals is one of a global, and one of a row of an activation one of its array
-    global_cell : Global_sizes → (k i : ℕ) → k < Globals → HasCell rows k i → (x : Global) × (slice_get flow.globals k ≡ Some x) × (i < x.words)
+    global_cell : Global_sizes → (k i : ℕ) → k < G → HasCell rows k i → (x : Global) × (slice_get flow.globals k ≡ Some x) × (i < x.words)
     global_cell sizes k i lt has = let x = get_some flow.globals k lt in let s = sizes k x.0 x.1 in (x.0, x.1, omega arith)
 
-    own_cell : (x : Stacked) (xs : List Stacked) (behind : ℕ) → x.base + own_arrays T Globals x.function ≡ behind → Own_sizes (x ∷ xs) → (k i : ℕ) → x.base ≤ k → k < behind → HasCell rows k i → HasWord T x.function (Globals + (k - x.base)) i
+    own_cell : (x : Stacked) (xs : List Stacked) (behind : ℕ) → x.base + own_arrays T G x.function ≡ behind → Own_sizes (x ∷ xs) → (k i : ℕ) → x.base ≤ k → k < behind → HasCell rows k i → HasWord T x.function (G + (k - x.base)) i
     own_cell x xs behind last sizes k i le lt has =
-        let g = get_some (T.graph x.function).arrays (Globals + (k - x.base)) (omega arith) in
-        let s = sizes x (Globals + (k - x.base)) g.0 (inl refl) (omega arith) g.1 in
-        let q : x.base + (Globals + (k - x.base) - Globals) ≡ k = omega arith in
+        let g = get_some (T.graph x.function).arrays (G + (k - x.base)) (omega arith) in
+        let s = sizes x (G + (k - x.base)) g.0 (inl refl) (omega arith) g.1 in
+        let q : x.base + (G + (k - x.base) - G) ≡ k = omega arith in
         let r : length (row_in rows k) ≡ g.0.words = subst (λ j. length (row_in rows j) ≡ g.0.words) q s in
         record { array = g.0; is = g.1; below = omega arith }
 
@@ -126,9 +132,9 @@ module _ (T : Target) (flow : Flow) (some_frame : 1 ≤ T.frame) (globals_are : 
 
     -- where a word of a row is: among the globals, or in frames from the latest on
     pub seat_room : Global_sizes → (stack : List Stacked) (from behind : ℕ) → IsStack T flow ls from behind stack → Own_sizes stack → (k i : ℕ) → k < behind → HasCell rows k i → (Seat stack k + i < T.globals) ⊎ ((from ≤ Seat stack k + i) × (Seat stack k + i < memory_words T))
-    seat_room globals [] from behind is own k i lt has = inl (let e = is.1 in let c = global_cell globals k i (omega arith) has in let b = before_all flow.globals k i c.0 c.1 c.2 in let g = globals_are in omega arith)
+    seat_room globals [] from behind is own k i lt has = inl (let e = is.1 in let c = global_cell globals k i (omega arith) has in let b = before_all flow.globals k i c.0 c.1 c.2 in let g = frames.globals in omega arith)
     seat_room globals (x ∷ xs) from behind is own k i lt has = ⊎_elim
-        (λ le. let c = (each x.function is.0).own_to (Globals + (k - x.base)) i (omega arith) (own_cell x xs behind is.2 own k i le lt has) in let s = seat_here T flow.globals x xs k le in let f = is.1 in let m = frames_inside xs (from + T.frame) x.base is.3 in inr (omega arith, omega arith))
+        (λ le. let c = (frames.each x.function is.0).own_to (G + (k - x.base)) i (omega arith) (own_cell x xs behind is.2 own k i le lt has) in let s = seat_here T flow.globals x xs k le in let f = is.1 in let m = frames_inside T flow ls xs (from + T.frame) x.base is.3 in inr (omega arith, omega arith))
         (λ less. let s = seat_before T flow.globals x xs k less in ⊎_elim
         (λ g. inl (omega arith))
         (λ r. let a = r.0 in let b = r.1 in inr (omega arith, omega arith))
@@ -163,60 +169,64 @@ module _ (T : Target) (flow : Flow) (some_frame : 1 ≤ T.frame) (globals_are : 
         (own_or_before x.base k)
       where
         framed : IsFramed T flow x.function
-        framed = each x.function is.0
+        framed = frames.each x.function is.0
 
         mixed : (k l i j : ℕ) → x.base ≤ k → k < behind → HasCell rows k i → l < x.base → HasCell rows l j → Seat (x ∷ xs) k + i ≡ Seat (x ∷ xs) l + j → ⊥
         mixed k l i j le lk hk less hl e =
-            let w = framed.own_to (Globals + (k - x.base)) i (omega arith) (own_cell x xs behind is.2 own k i le lk hk) in
+            let w = framed.own_to (G + (k - x.base)) i (omega arith) (own_cell x xs behind is.2 own k i le lk hk) in
             let s = seat_here T flow.globals x xs k le in
-            below_rest globals x xs from behind is high own l j (T.array_at x.function (Globals + (k - x.base)) + i) less hl w (omega arith)
+            below_rest globals x xs from behind is high own l j (T.array_at x.function (G + (k - x.base)) + i) less hl w (omega arith)
 
         both : x.base ≤ k → x.base ≤ l → (k ≡ l) × (i ≡ j)
         both a b =
             let s = seat_here T flow.globals x xs k a in
             let t = seat_here T flow.globals x xs l b in
-            let q = framed.own_apart (Globals + (k - x.base)) (Globals + (l - x.base)) i j (omega arith) (omega arith) (own_cell x xs behind is.2 own k i a lk hk) (own_cell x xs behind is.2 own l j b ll hl) (omega arith) in
+            let q = framed.own_apart (G + (k - x.base)) (G + (l - x.base)) i j (omega arith) (omega arith) (own_cell x xs behind is.2 own k i a lk hk) (own_cell x xs behind is.2 own l j b ll hl) (omega arith) in
             let c = q.0 in (omega arith, q.1)
 
     -- and none is a word of a frame that is none of the own arrays there
-    pub frame_free : Global_sizes → (stack : List Stacked) (from behind : ℕ) → IsStack T flow ls from behind stack → T.globals ≤ from → Own_sizes stack → (y : Stacked) → IsIn y stack → (z : ℕ) → z < T.frame → ((a i : ℕ) → Globals ≤ a → HasWord T y.function a i → z ≢ T.array_at y.function a + i) →
+    pub frame_free : Global_sizes → (stack : List Stacked) (from behind : ℕ) → IsStack T flow ls from behind stack → T.globals ≤ from → Own_sizes stack → (y : Stacked) → IsIn y stack → (z : ℕ) → z < T.frame → ((a i : ℕ) → G ≤ a → HasWord T y.function a i → z ≢ T.array_at y.function a + i) →
         (k i : ℕ) → k < behind → HasCell rows k i → y.frame + z ≢ Seat stack k + i
     frame_free globals [] from behind is high own y m z inside free k i lt has e = absurd m
     frame_free globals (x ∷ xs) from behind is high own y (inl q) z inside free k i lt has e = ⊎_elim
-        (λ le. absurd (let w : HasWord T x.function (Globals + (k - x.base)) i = own_cell x xs behind is.2 own k i le lt has in
+        (λ le. absurd (let w : HasWord T x.function (G + (k - x.base)) i = own_cell x xs behind is.2 own k i le lt has in
         let s = seat_here T flow.globals x xs k le in
         let c : y.frame ≡ x.frame = ap (λ v. v.frame) q in
-        free_x (Globals + (k - x.base)) i (omega arith) w (omega arith)))
+        free_x (G + (k - x.base)) i (omega arith) w (omega arith)))
         (λ less. let c : y.frame ≡ x.frame = ap (λ v. v.frame) q in below_rest globals x xs from behind is high own k i z less has inside (ap (λ v. v + z) (sym c) ∙ e))
         (own_or_before x.base k)
       where
-        free_x : (a i : ℕ) → Globals ≤ a → HasWord T x.function a i → z ≢ T.array_at x.function a + i
-        free_x = subst (λ (v : Stacked). (a i : ℕ) → Globals ≤ a → HasWord T v.function a i → z ≢ T.array_at v.function a + i) q free
+        free_x : (a i : ℕ) → G ≤ a → HasWord T x.function a i → z ≢ T.array_at x.function a + i
+        free_x = subst (λ (v : Stacked). (a i : ℕ) → G ≤ a → HasWord T v.function a i → z ≢ T.array_at v.function a + i) q free
     frame_free globals (x ∷ xs) from behind is high own y (inr m) z inside free k i lt has e = ⊎_elim
-        (λ le. absurd (let w = (each x.function is.0).own_to (Globals + (k - x.base)) i (omega arith) (own_cell x xs behind is.2 own k i le lt has) in
+        (λ le. absurd (let w = (frames.each x.function is.0).own_to (G + (k - x.base)) i (omega arith) (own_cell x xs behind is.2 own k i le lt has) in
         let s = seat_here T flow.globals x xs k le in
         let f = is.1 in
-        let r = frame_inside xs (from + T.frame) x.base is.3 y m in
+        let r = frame_inside T flow ls xs (from + T.frame) x.base is.3 y m in
         let a = r.0 in omega arith))
         (λ less. frame_free globals xs (from + T.frame) x.base is.3 (omega arith) (λ v a array j le h. own v a array (inr j) le h) y m z inside free k i less has (e ∙ ap (λ v. v + i) (seat_before T flow.globals x xs k less)))
         (own_or_before x.base k)
 
   -- together: rows that are seated in a stack have a table of seats
-  pub table : (stack : List Stacked) (from : ℕ) (rows : List (List Content)) (memory : ℕ → ℤ) → IsStack T flow ls from (length rows) stack → T.globals ≤ from → Seated T flow.globals stack rows memory → Seats T Globals stack rows memory (seat T flow.globals stack)
+  pub table : (stack : List Stacked) (from : ℕ) (rows : List (List Content)) (memory : ℕ → ℤ) → IsStack T flow ls from (length rows) stack → T.globals ≤ from → Seated T flow.globals stack rows memory → Seats T G stack rows memory (seat T flow.globals stack)
   table stack from rows memory is high seated =
       let sized = seated.sized in
       let there : (k i : ℕ) → HasCell rows k i → k < length rows = λ k i has. row_there rows k i has in
       record {
         known = seated.known;
-        inside = λ k i has. ⊎_elim (λ g. let m = frames_inside stack from (length rows) is in omega arith) (λ r. r.1) (seat_room rows sized.global stack from (length rows) is sized.own k i (there k i has) has);
+        inside = λ k i has. ⊎_elim (λ g. let m = frames_inside T flow ls stack from (length rows) is in omega arith) (λ r. r.1) (seat_room rows sized.global stack from (length rows) is sized.own k i (there k i has) has);
         apart = λ k l i j hk hl e. seats_apart rows sized.global stack from (length rows) is high sized.own k l i j (there k i hk) (there l j hl) hk hl e;
-        no_link = λ x k i m has e. frame_free rows sized.global stack from (length rows) is high sized.own x m 0 (omega arith) (λ a j le w q. let f = (each x.function (function_in stack from (length rows) is x m)).own_from a j le w in omega arith) k i (there k i has) has (omega arith);
-        no_slot = λ x v k i m needs has e.
-            (let f = each x.function (function_in stack from (length rows) is x m) in
-            frame_free rows sized.global stack from (length rows) is high sized.own x m (T.slot x.function v) (f.slot_to v needs) (λ a j le w. f.slot_own v a j needs le w) k i (there k i has) has e);
-        seats = λ x a array m has. begins_there stack from (length rows) is x m a array has;
+        free = λ x word k i m framed has. by_word x word k i m (function_in T flow ls stack from (length rows) is x m) framed has;
+        begins = λ x a array m has. begins_there stack from (length rows) is x m a array has;
         sizes = λ x a array m has. ⊎_elim
             (λ g. ap (λ j. length (row_in rows j)) (g.spot x.base) ∙ sized.global a g.item g.has ∙ sym g.words)
             (λ o. ap (λ j. length (row_in rows j)) (o.spot x.base) ∙ sized.own x a array m o.from has)
-            (array_kind T flow some_frame globals_are sound x.function ls (function_in stack from (length rows) is x m) (each x.function (function_in stack from (length rows) is x m)) a array has);
+            (array_kind T flow frames.some frames.globals sound x.function ls (function_in T flow ls stack from (length rows) is x m) (frames.each x.function (function_in T flow ls stack from (length rows) is x m)) a array has);
       }
+    where
+      by_word : (x : Stacked) (word k i : ℕ) → IsIn x stack → IsFunction T flow ls x.function → Framed T x word → HasCell rows k i → word ≢ seat T flow.globals stack k + i
+      by_word x word k i m f (is_link q) has e =
+          frame_free rows seated.sized.global stack from (length rows) is high seated.sized.own x m 0 (let z = frames.some in omega arith) (λ a j le w z. let g = (frames.each x.function f).own_from a j le w in omega arith) k i (row_there rows k i has) has (omega arith)
+      by_word x word k i m f (is_slot v needs q) has e =
+          let g = frames.each x.function f in
+          frame_free rows seated.sized.global stack from (length rows) is high seated.sized.own x m (T.slot x.function v) (g.slot_to v needs) (λ a j le w. g.slot_own v a j needs le w) k i (row_there rows k i has) has (sym q ∙ e)
