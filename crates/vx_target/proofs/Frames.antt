@@ -18,7 +18,7 @@ use Rattle.vx_mixed.specs.declared.layout.VWords.{VWords}
 use Rattle.vx_mixed.specs.LaidSettled.{LeadsTo}
 use Rattle.vx_regs.specs.Intervals.{IsLive, is_live}
 use Rattle.vx_target.specs.Target.{Target, is_own, is_call_word, is_caller, is_slotted, kept, past_there, past, memory_words}
-use Rattle.vx_target.specs.Tied.{Stacked, waiting_above, begins_at, words_before, IsFunction, IsResult, Below, Deep, word_at, link_in}
+use Rattle.vx_target.specs.Tied.{Stacked, waiting_above, Shows, begins_at, words_before, IsFunction, IsResult, Below, Deep, word_at, link_in}
 use Rattle.vx_target.specs.Carried.{CallsAt, IsSaved, NeedsSlot, is_saved, is_spilled, IsFramed}
 use Rattle.vx_target.specs.Seats.{Framed, is_link, is_slot}
 use Rattle.vx_target.proofs.Names.{in_register}
@@ -192,7 +192,7 @@ below_keep T flow ls saved (fr ∷ frs) memory memory' sp same b =
         next = b.0.next;
         values = λ v n live other e. (let s = b.0.values v n live other e in
             let needs = waiting_needs T fr.function b.0.caller b.0.callee v b.0.arguments fr.result (saved fr.function b.0.is) b.0.called live other in
-            record { answer = s.answer; is = same here (sp + T.frame + T.slot fr.function v) (inl refl) (is_slot v needs refl) ∙ s.is });
+            subst (λ x. Shows T (sp + T.frame) fr.function v n x) (sym (same here (sp + T.frame + T.slot fr.function v) (inl refl) (is_slot v needs refl))) s);
         passed = b.0.passed;
         link = same here (sp + T.frame) (inl refl) (is_link refl) ∙ b.0.link;
       },

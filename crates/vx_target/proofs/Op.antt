@@ -6,7 +6,7 @@ use Rattle.std.specs.Fmt.{signed_decimal}
 use Rattle.std.proofs.lemmas.Bool.{eqb-true}
 use Rattle.std.proofs.lemmas.Bool.Decides.{nat_tests}
 use Rattle.std.proofs.lemmas.List.{get_or-set_same, get_or-set_other, length-set, append-nil}
-use Rattle.vx_base.specs.Arithmetic.{value_of, one_if, compare_of, product_of}
+use Rattle.vx_base.specs.Arithmetic.{sum_of, value_of, one_if, compare_of, product_of}
 use Rattle.vx_base.specs.declared.arithmetic.Code.{Code}
 use Rattle.vx_base.specs.declared.arithmetic.Code.TheVariants.{Add, Sub, And, Or, Xor, Shl, Shr, Shru, Sh2add, Max, Min, Mov, ToGeneral, ToBranch, Mpylu, Mpyhs, Div, Rem}
 use Rattle.vx_flow.specs.declared.graph.Operand.{Operand}
@@ -21,11 +21,11 @@ use Rattle.vx_isa.specs.Operations.{is_observable, destination_of}
 use Rattle.vx_isa.specs.Machine.{State, register, source, address, is_word_of, loaded, stored, number_of, memory_after, takes_input, print_of, has_bad_address, lead_of, is_one, is_left, first_of, flag}
 use Rattle.vx_isa.proofs.Lists.{count_by-cons}
 use Rattle.vx_target.specs.Target.{Target, general_of, branch_of, register_of, holds_branch, is_own, carried, source_of, access_base, access_offset, stack_on, memory_words}
-use Rattle.vx_target.specs.Tied.{IsAnswer, Shows, HasCell, is_place, moved, begins_at, word_at, row_in}
+use Rattle.vx_target.specs.Tied.{Kind, Itself, InFrame, IsAnswer, IsShown, Shows, HasCell, kind_by, kind_of, kind_in, begins_at, word_at, row_in}
 use Rattle.vx_target.proofs.Cells.{SameShape, same_shape, set_cell, set_shape, store_off, store_known}
 use Rattle.vx_target.proofs.Bytes.{is_word, place_with, place_alone}
 use Rattle.vx_target.proofs.Forms.{one_alike, to_branch, Plainly, Computed, computed_is}
-use Rattle.vx_target.proofs.Proper.{PlainValue, PlainOperand, PlaceIn, ProperOp}
+use Rattle.vx_target.proofs.Proper.{shows_itself, PlainValue, PlainOperand, PlaceIn, ProperOp}
 use Rattle.vx_target.proofs.Reading.{cell_known, Right, right_left, right_right, operand_read, test_read, general_read, address_read}
 
 -- what a known result says
@@ -153,7 +153,7 @@ module _ (T : Target) (w : WordProgram) (f sp : ℕ) (setting : Setting) (seats 
   general_to v e = ap (λ b. Some (if b then Branch (record { cluster = 0; number = branch_of T f ws v }) else General (general_of T f ws v))) (sym e)
 
   shows_plain : (v : ℕ) (n x : ℤ) → PlainValue T f IsArray v → x ≡ n → Shows T sp f v n x
-  shows_plain v n x plain e = record { answer = λ b. absurd (let z = plain.1 in cc); is = e ∙ ap (λ c. moved sp c n) (sym plain.0) }
+  shows_plain v n x plain e = shows_itself T sp f v n x plain.0 (λ b. absurd (let z = plain.1 in cc)) e
 
   abbrev pub Reads : List ℕ → Type 0
   Reads vs = Right T f sp IsArray rs s u vs
@@ -162,7 +162,7 @@ module _ (T : Target) (w : WordProgram) (f sp : ℕ) (setting : Setting) (seats 
     read : (a : Operand) (n : ℤ) → Reads (value_in a) → PlainOperand T f IsArray a → held s a ≡ Some n → source u (source_of (general_of T f rs) a) ≡ n
     read = operand_read T f sp IsArray rs s u
 
-    compute_shows : (code : Code) (v : ℕ) (a b : Operand) (o : Operation) → Computed w u code (register_of T f ws v) (general_of T f ws v) (source_of (general_of T f rs) a) (source_of (general_of T f rs) b) o → Reads (reads (Computes code v a b)) → is_place T f v ≡ false → holds_branch T f v ≡ to_branch code → PlainOperand T f IsArray a → (is_unary code ≡ false → PlainOperand T f IsArray b) → (n : ℤ) → computed code (held s a) (held s b) ≡ Some n → Shows T sp f v n (number_of w.memory u o)
+    compute_shows : (code : Code) (v : ℕ) (a b : Operand) (o : Operation) → Computed w u code (register_of T f ws v) (general_of T f ws v) (source_of (general_of T f rs) a) (source_of (general_of T f rs) b) o → Reads (reads (Computes code v a b)) → kind_of T f v ≡ Itself → holds_branch T f v ≡ to_branch code → PlainOperand T f IsArray a → (is_unary code ≡ false → PlainOperand T f IsArray b) → (n : ℤ) → computed code (held s a) (held s b) ≡ Some n → Shows T sp f v n (number_of w.memory u o)
     compute_shows code v a b o c right place branch pa pb n e = by (is_unary code) refl
       where
         by : (unary : Bool) → is_unary code ≡ unary → Shows T sp f v n (number_of w.memory u o)
@@ -177,11 +177,10 @@ module _ (T : Target) (w : WordProgram) (f sp : ℕ) (setting : Setting) (seats 
             let known = both_known (value_of code) (held s a) (held s b) n k in
             let ra = read a known.left (right_left T f sp IsArray rs s u (value_in a) (value_in b) r) pa known.first in
             let rb = read b known.right (right_right T f sp IsArray rs s u (value_in a) (value_in b) r) (pb q) known.second in
-            record {
-              answer = λ h. subst (λ z. (z ≡ pos 0) ⊎ (z ≡ pos 1)) (sym known.is) (answers code known.left known.right (sym branch ∙ h));
-              is = c.number ∙ ap (λ x. if x then source u (source_of (general_of T f rs) a) else value_of code (source u (source_of (general_of T f rs) a)) (source u (source_of (general_of T f rs) b))) q
-                  ∙ ap (λ x. value_of code x (source u (source_of (general_of T f rs) b))) ra ∙ ap (value_of code known.left) rb ∙ sym known.is ∙ ap (λ x. moved sp x n) (sym place);
-            }
+            shows_itself T sp f v n (number_of w.memory u o) place
+            (λ h. subst (λ z. (z ≡ pos 0) ⊎ (z ≡ pos 1)) (sym known.is) (answers code known.left known.right (sym branch ∙ h)))
+            (c.number ∙ ap (λ x. if x then source u (source_of (general_of T f rs) a) else value_of code (source u (source_of (general_of T f rs) a)) (source u (source_of (general_of T f rs) b))) q
+            ∙ ap (λ x. value_of code x (source u (source_of (general_of T f rs) b))) ra ∙ ap (value_of code known.left) rb ∙ sym known.is)
 
     compute_to : (code : Code) (v : ℕ) (o : Operation) → holds_branch T f v ≡ to_branch code → destination_of o ≡ Some (if is_unary code then General (general_of T f ws v) else register_of T f ws v) → destination_of o ≡ Some (register_of T f ws v)
     compute_to code v o branch e = by (is_unary code) refl e
@@ -190,7 +189,7 @@ module _ (T : Target) (w : WordProgram) (f sp : ℕ) (setting : Setting) (seats 
         by true q h = h ∙ general_to v (branch ∙ unary_general code q)
         by false q h = h
 
-    select_shows : (v p : ℕ) (a b : Operand) (k : ℕ) → Reads (p ∷ (value_in a ++ value_in b)) → PlainValue T f IsArray v → is_place T f p ≡ false → holds_branch T f p ≡ true → PlainOperand T f IsArray a → PlainOperand T f IsArray b → (n : ℤ) (x : Content) → s.values p ≡ x → chosen x (held s a) (held s b) ≡ Some n →
+    select_shows : (v p : ℕ) (a b : Operand) (k : ℕ) → Reads (p ∷ (value_in a ++ value_in b)) → PlainValue T f IsArray v → kind_of T f p ≡ Itself → holds_branch T f p ≡ true → PlainOperand T f IsArray a → PlainOperand T f IsArray b → (n : ℤ) (x : Content) → s.values p ≡ x → chosen x (held s a) (held s b) ≡ Some n →
         Shows T sp f v n (if is_one (register u (Branch (record { cluster = 0; number = branch_of T f rs p }))) then source u (source_of (general_of T f rs) a) else source u (source_of (general_of T f rs) b))
     select_shows v p a b k right pv pp bp pa pb n None ex e = absurd (cc)
     select_shows v p a b k right pv pp bp pa pb n (Some z) ex e = shows_plain v n _ pv (at ∙ by (is_one z) (one_alike z))
@@ -205,20 +204,20 @@ module _ (T : Target) (w : WordProgram) (f sp : ℕ) (setting : Setting) (seats 
         by true q = read a n (right_left T f sp IsArray rs s u (value_in a) (value_in b) more) pa (sym (ap (λ y. if y then held s a else held s b) q) ∙ e)
         by false q = read b n (right_right T f sp IsArray rs s u (value_in a) (value_in b) more) pb (sym (ap (λ y. if y then held s a else held s b) q) ∙ e)
 
-    place_shows : (v a : ℕ) (i : Operand) (k : ℕ) → Reads (value_in i) → is_place T f v ≡ is_own T f a → holds_branch T f v ≡ false → PlainOperand T f IsArray i → k < T.machine.clusters → (n : ℤ) (x : Content) → held s i ≡ x → place_of x ≡ Some n →
+    place_shows : (v a : ℕ) (i : Operand) (k : ℕ) → Reads (value_in i) → kind_of T f v ≡ kind_in T f a → holds_branch T f v ≡ false → PlainOperand T f IsArray i → k < T.machine.clusters → (n : ℤ) (x : Content) → held s i ≡ x → place_of x ≡ Some n →
         Shows T sp f v n (value_of Sh2add (source u (source_of (general_of T f rs) i)) (source u (if is_own T f a then Held (stack_on k) else Number (pos 0))))
     place_shows v a i k right place branch pi lt n None ex e = absurd (cc)
     place_shows v a i k right place branch pi lt n (Some z) ex e = record {
       answer = λ h. absurd (cc);
-      is = ap (λ y. value_of Sh2add y (source u (if is_own T f a then Held (stack_on k) else Number (pos 0)))) (read i z right pi ex) ∙ by (is_own T f a) refl;
+      is = subst (λ x. IsShown sp (kind_of T f v) n (value_of Sh2add x (source u (if is_own T f a then Held (stack_on k) else Number (pos 0))))) (sym (read i z right pi ex)) (subst (λ c. IsShown sp c n (value_of Sh2add z (source u (if is_own T f a then Held (stack_on k) else Number (pos 0))))) (sym place) (by (is_own T f a) refl));
     }
       where
         num : product_of (pos 4) z ≡ n
         num = cc
 
-        by : (own : Bool) → is_own T f a ≡ own → value_of Sh2add z (source u (if is_own T f a then Held (stack_on k) else Number (pos 0))) ≡ moved sp (is_place T f v) n
-        by true q = ap (λ b. value_of Sh2add z (source u (if b then Held (stack_on k) else Number (pos 0)))) q ∙ ap (value_of Sh2add z) (ready.stack k lt) ∙ place_with z (pos (4 * sp)) ∙ ap (λ y. moved sp true y) num ∙ ap (λ b. moved sp b n) (sym (place ∙ q))
-        by false q = ap (λ b. value_of Sh2add z (source u (if b then Held (stack_on k) else Number (pos 0)))) q ∙ place_alone z ∙ num ∙ ap (λ b. moved sp b n) (sym (place ∙ q))
+        by : (own : Bool) → is_own T f a ≡ own → IsShown sp (kind_by own) n (value_of Sh2add z (source u (if own then Held (stack_on k) else Number (pos 0))))
+        by true q = ap (value_of Sh2add z) (ready.stack k lt) ∙ place_with z (pos (4 * sp)) ∙ ap (λ y. sum_of y (pos (4 * sp))) num
+        by false q = place_alone z ∙ num
 
     small_at : (k i : ℕ) → Cell k i → 4 * At k i < 2 ^ 32
     small_at k i has = let b = ready.inside k i has in let c = ready.small in omega arith
@@ -351,8 +350,8 @@ module _ (T : Target) (w : WordProgram) (f sp : ℕ) (setting : Setting) (seats 
         let k : one_if (is_left_there s.input) ≡ n = cc in
         shows_plain v n (flag (is_left u.input)) proper (flag_alike (is_left u.input) ∙ ap one_if (ap is_left ready.input ∙ sym (left_alike s.input)) ∙ k)
 
-    across_shows : (v y : ℕ) → Reads (y ∷ []) → is_place T f v ≡ is_place T f y → holds_branch T f v ≡ false → holds_branch T f y ≡ false → (n : ℤ) → s.values y ≡ Some n → Shows T sp f v n (register u (General (general_of T f rs y)))
-    across_shows v y right place bv by n h = record { answer = λ e. absurd (cc); is = general_read T f sp IsArray rs s u y n (is_place T f y) right refl by h ∙ ap (λ c. moved sp c n) (sym place) }
+    across_shows : (v y : ℕ) → Reads (y ∷ []) → kind_of T f v ≡ kind_of T f y → holds_branch T f v ≡ false → holds_branch T f y ≡ false → (n : ℤ) → s.values y ≡ Some n → Shows T sp f v n (register u (General (general_of T f rs y)))
+    across_shows v y right place bv by n h = record { answer = λ e. absurd (cc); is = subst (λ c. IsShown sp c n (register u (General (general_of T f rs y)))) (sym place) (general_read T f sp IsArray rs s u y n (kind_of T f y) right refl by h) }
 
     -- what the operation does
     pub op_done : (op : Op) (k : ℕ) (t t1 : VState) → Reads (reads op) → ProperOp T f IsArray op k → SameShape s.arrays t.arrays → effect setting s op t ≡ Some t1 → Done op (carried T f rs ws k op) t t1

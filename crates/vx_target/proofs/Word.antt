@@ -17,9 +17,9 @@ use Rattle.vx_mixed.specs.LaidSettled.{laid_reads, laid_writes}
 use Rattle.vx_regs.specs.declared.map.Kept.{Kept}
 use Rattle.vx_regs.specs.declared.map.Kept.TheVariants.{InRegister, InSlot, Nowhere}
 use Rattle.vx_target.specs.Target.{Target, answer, general, stack_on, kept, is_slotted, number_by, scratch, home, holds_branch, register_of, slotted, before, behind, plan_word, plan_words, past, landing_words, memory_words}
-use Rattle.vx_target.specs.Tied.{Shows, HasCell, is_place, moved, holds, begins_at, word_at, row_in}
+use Rattle.vx_target.specs.Tied.{Itself, IsShown, Shows, HasCell, kind_of, holds, begins_at, word_at, row_in}
 use Rattle.vx_target.proofs.Calm.{seen, given, after, AllFit, Fine}
-use Rattle.vx_target.proofs.Proper.{ProperItems}
+use Rattle.vx_target.proofs.Proper.{itself, ProperItems}
 use Rattle.vx_target.proofs.Reading.{Right}
 use Rattle.vx_target.proofs.Op.{Ready}
 use Rattle.vx_target.proofs.Items.{Ran, ran_items, rows_items, elsewhere_items, bad_items, takes_items, stays_items, values_items, Met, met_items}
@@ -58,23 +58,23 @@ own_name T f v xs ys e =
 
 -- by way of a slot a value shows the same
 
-pub read_shows : (T : Target) (sp f v : ℕ) (n x : ℤ) → (holds_branch T f v ≡ true → is_place T f v ≡ false) → Shows T sp f v n x → Shows T sp f v n (as_read (holds_branch T f v) x)
+pub read_shows : (T : Target) (sp f v : ℕ) (n x : ℤ) → (holds_branch T f v ≡ true → kind_of T f v ≡ Itself) → Shows T sp f v n x → Shows T sp f v n (as_read (holds_branch T f v) x)
 read_shows T sp f v n x plain h = record { answer = h.answer; is = by (holds_branch T f v) refl }
   where
-    by : (b : Bool) → holds_branch T f v ≡ b → as_read b x ≡ moved sp (is_place T f v) n
+    by : (b : Bool) → holds_branch T f v ≡ b → IsShown sp (kind_of T f v) n (as_read b x)
     by false e = h.is
     by true e =
-        let one_is : x ≡ n = h.is ∙ ap (λ c. moved sp c n) (plain e) in
-        ap (as_read true) one_is ∙ read_answer true n (λ q. h.answer e) ∙ sym (ap (λ c. moved sp c n) (plain e))
+        let one_is : x ≡ n = itself h (plain e) in
+        subst (λ k. IsShown sp k n (as_read true x)) (sym (plain e)) (ap (as_read true) one_is ∙ read_answer true n (λ q. h.answer e))
 
-pub kept_shows : (T : Target) (sp f v : ℕ) (n x : ℤ) → (holds_branch T f v ≡ true → is_place T f v ≡ false) → Shows T sp f v n x → Shows T sp f v n (as_kept (holds_branch T f v) x)
+pub kept_shows : (T : Target) (sp f v : ℕ) (n x : ℤ) → (holds_branch T f v ≡ true → kind_of T f v ≡ Itself) → Shows T sp f v n x → Shows T sp f v n (as_kept (holds_branch T f v) x)
 kept_shows T sp f v n x plain h = record { answer = h.answer; is = by (holds_branch T f v) refl }
   where
-    by : (b : Bool) → holds_branch T f v ≡ b → as_kept b x ≡ moved sp (is_place T f v) n
+    by : (b : Bool) → holds_branch T f v ≡ b → IsShown sp (kind_of T f v) n (as_kept b x)
     by false e = h.is
     by true e =
-        let one_is : x ≡ n = h.is ∙ ap (λ c. moved sp c n) (plain e) in
-        ap (as_kept true) one_is ∙ kept_answer true n (λ q. h.answer e) ∙ sym (ap (λ c. moved sp c n) (plain e))
+        let one_is : x ≡ n = itself h (plain e) in
+        subst (λ k. IsShown sp k n (as_kept true x)) (sym (plain e)) (ap (as_kept true) one_is ∙ kept_answer true n (λ q. h.answer e))
 
 module _ (m : Numbers) (w : WordProgram) (fit : AllFit m w) (T : Target) (f sp p : ℕ) (size : w.memory ≡ 4 * memory_words T) (small : 4 * memory_words T < 2 ^ 32) (some : 0 < T.machine.clusters) (setting : Setting) (seats : ℕ → ℕ) (IsArray : ℕ → Type 0) (items : List Laid) (s : VState) (u : State) where
   abbrev pub Reads : List ℕ
@@ -98,7 +98,7 @@ module _ (m : Numbers) (w : WordProgram) (fit : AllFit m w) (T : Target) (f sp p
     pub stack : (k : ℕ) → k < T.machine.clusters → register u (General (stack_on k)) ≡ pos (4 * sp)
     pub shows : (v : ℕ) (n : ℤ) → IsIn v Reads → s.values v ≡ Some n → Shows T sp f v n (holds T u sp f v)
     pub proper : ProperItems T f IsArray items
-    pub branch_plain : (v : ℕ) → holds_branch T f v ≡ true → is_place T f v ≡ false
+    pub branch_plain : (v : ℕ) → holds_branch T f v ≡ true → kind_of T f v ≡ Itself
     pub texts : w.texts ≡ setting.texts
     pub inside : (k i : ℕ) → Cell k i → seats k + i < memory_words T
     pub apart : (k l i j : ℕ) → Cell k i → Cell l j → seats k + i ≡ seats l + j → (k ≡ l) × (i ≡ j)

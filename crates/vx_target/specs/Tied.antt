@@ -38,10 +38,26 @@ is_place_value g v = list_any (has_own_place g v) g.blocks
 abbrev pub is_place : Target → (function value : ℕ) → Bool
 is_place T f v = is_place_value (T.graph f) (whole (length (T.graph f).banks) v)
 
--- numbers: a place of a local array has the frame's address added, in words
+-- what shows the number of a value: the number itself, or for a place of a local array that with the frame's address added
 
-abbrev pub moved : (frame : ℕ) → (place : Bool) → ℤ → ℤ
-moved sp place n = if place then sum_of n (pos (4 * sp)) else n
+pub data Kind : Type 0 where
+  Itself : Kind
+  InFrame : Kind
+
+abbrev pub kind_by : (place : Bool) → Kind
+kind_by false = Itself
+kind_by true = InFrame
+
+abbrev pub kind_of : Target → (function value : ℕ) → Kind
+kind_of T f v = kind_by (is_place T f v)
+
+-- the kind of a place in an array
+abbrev pub kind_in : Target → (function array : ℕ) → Kind
+kind_in T f a = kind_by (is_own T f a)
+
+abbrev pub IsShown : (frame : ℕ) → Kind → (n x : ℤ) → Type 0
+IsShown sp Itself n x = x ≡ n
+IsShown sp InFrame n x = x ≡ sum_of n (pos (4 * sp))
 
 -- the word of memory with a number
 abbrev pub word_at : (ℕ → ℤ) → ℕ → ℤ
@@ -57,7 +73,7 @@ holds T u sp f v = if is_slotted (kept T f v) then word_at u.memory (sp + T.slot
 
 pub record Shows (T : Target) (sp f v : ℕ) (n x : ℤ) : Type 0 where
   pub answer : IsAnswer (holds_branch T f v) n
-  pub is : x ≡ moved sp (is_place T f v) n
+  pub is : IsShown sp (kind_of T f v) n x
 
 abbrev pub row_in : List (List Content) → ℕ → List Content
 row_in rows a = slice_index_or rows a []

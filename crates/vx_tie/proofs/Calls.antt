@@ -37,11 +37,12 @@ use Rattle.vx_mixed.specs.LaidSettled.{bank_in}
 use Rattle.vx_layout.specs.Origins.{CallsAs}
 use Rattle.vx_regs.specs.Intervals.{IsLive, here, beyond, is_live, result_of}
 use Rattle.vx_target.specs.Target.{Target, answer, kept, is_slotted, is_branch, home, holds_branch, branch_of, stack_on, parameters_of, register_of, one, pause, in_flight, bytes, save_words, move_stack, argument_words, call_words, back_words, memory_words}
-use Rattle.vx_target.specs.Tied.{Tied, AtWord, Shows, Stacked, IsStack, Seated, Waits, Below, IsResult, stack_from, waiting_above, seat, is_place, moved as moved_number, word_at}
+use Rattle.vx_target.specs.Tied.{Tied, AtWord, Shows, Stacked, IsStack, Seated, Waits, Below, IsResult, stack_from, waiting_above, seat, Itself, is_place, kind_by, kind_of, word_at}
 use Rattle.vx_target.specs.Carried.{Carries, IsFunctionOf, NeedsSlot, is_passed, is_saved, is_spilled, Survives}
 use Rattle.vx_target.specs.Seats.{Seats, is_slot}
 use Rattle.vx_target.proofs.Bytes.{unsigned_small}
 use Rattle.vx_target.proofs.Calm.{seen, AllFit, after, put_at, put_off, not_stuck, effect_is}
+use Rattle.vx_target.proofs.Proper.{itself}
 use Rattle.vx_target.proofs.Frames.{get_below, get_in, frame_room, link_in_frame, below_keep}
 use Rattle.vx_target.proofs.SeatRoom.{table, framed_from}
 use Rattle.vx_target.proofs.SeatSteps.{seated_on, entered_stack, entered_seated, frames_of, saved_of}
@@ -319,11 +320,11 @@ module _ (T : Target) (flow : Flow) (ls : List VWords) (w : WordProgram) (sound 
       general : (v : ℕ) → IsIn (HeldValue v) arguments → slice_get (T.graph F).banks v ≡ Some GeneralBank
       general v i = graph_sound.exit_operands Exiting (HeldValue v) site.has i
 
-      plain : (v : ℕ) → IsIn (HeldValue v) arguments → (is_place T F v ≡ false) × (holds_branch T F v ≡ false)
+      plain : (v : ℕ) → IsIn (HeldValue v) arguments → (kind_of T F v ≡ Itself) × (holds_branch T F v ≡ false)
       plain v i =
           let h = general v i in
           let whole = whole_is T F Any graph_sound of.mapped.code (λ a lt. tt) v GeneralBank h in (
-            false_from_ne_true (is_place T F v) (λ e. let m = place_made T F Any graph_sound of.mapped.code v e in graph_sound.place_exit v m.0 Exiting (subst (λ x. IsPlace (T.graph F) x m.0) whole m.1) site.has (inl i)),
+            ap kind_by (false_from_ne_true (is_place T F v) (λ e. let m = place_made T F Any graph_sound of.mapped.code v e in graph_sound.place_exit v m.0 Exiting (subst (λ x. IsPlace (T.graph F) x m.0) whole m.1) site.has (inl i))),
             ap is_branch (whole_bank T F Any graph_sound of.mapped.code v GeneralBank (has_whole T F Any graph_sound of.mapped.code (λ a lt. tt) v GeneralBank h)),
           )
 
@@ -367,10 +368,10 @@ module _ (T : Target) (flow : Flow) (ls : List VWords) (w : WordProgram) (sound 
           by : (b : Bool) → is_slotted (kept T F v) ≡ b → Shows T Sp F v n (if b then word_at u.memory (Sp + T.slot F v) else register u (register_of T F (v ∷ []) v)) → (if b then word_at E.memory (Base + (T.frame + T.slot F v)) else seen E.registers (register_of T F (v ∷ []) v)) ≡ n
           by true h k =
               let place : Base + (T.frame + T.slot F v) ≡ Sp + T.slot F v = (let c = base_is in omega arith) in
-              ap (word_at E.memory) place ∙ ap (λ m. word_at m (Sp + T.slot F v)) memory_e ∙ slot_same v (is_spilled p (is_live (live v i)) h) h ∙ k.is ∙ ap (λ c. moved_number Sp c n) (plain v i).0
+              ap (word_at E.memory) place ∙ ap (λ m. word_at m (Sp + T.slot F v)) memory_e ∙ slot_same v (is_spilled p (is_live (live v i)) h) h ∙ itself k (plain v i).0
           by false h k =
               others_e (register_of T F (v ∷ []) v) (λ q. let z : is_branch_register (register_of T F (v ∷ []) v) ≡ false = ap (λ b. is_branch_register (named b (home T F v) (branch_of T F (v ∷ []) v) (number_at T F of.mapped (v ∷ []) v))) (plain v i).1 in let y : true ≡ false = sym (ap is_branch_register q) ∙ z in cc)
-              (not_general T F of.mapped (v ∷ []) v 0 2 (its_bank v i) (omega arith)) (λ k. not_general T F of.mapped (v ∷ []) v k 1 (its_bank v i) (omega arith)) ∙ k.is ∙ ap (λ c. moved_number Sp c n) (plain v i).0
+              (not_general T F of.mapped (v ∷ []) v 0 2 (its_bank v i) (omega arith)) (λ k. not_general T F of.mapped (v ∷ []) v k 1 (its_bank v i) (omega arith)) ∙ itself k (plain v i).0
 
       operands_from : (xs : List Operand) (ms : List ℤ) → ((x : Operand) → IsIn x xs → IsIn x arguments) → known (map (held S) xs) ≡ Some ms → OperandsAt T.machine w fit T F Base carries.memory small some E xs ms
       operands_from [] [] h e = tt

@@ -25,7 +25,7 @@ use Rattle.vx_regs.specs.Intervals.{IsLive, is_live}
 use Rattle.vx_regs.specs.declared.map.Kept.{Kept}
 use Rattle.vx_regs.specs.declared.map.Kept.TheVariants.{InRegister}
 use Rattle.vx_target.specs.Target.{Target, answer, general, stack_on, kept, is_slotted, is_branch, parameters_of, holds_branch, register_of, one, pause, in_flight, settled, is_caller, load_slots, link_words, way, entry_words, memory_words}
-use Rattle.vx_target.specs.Tied.{Tied, AtEntry, Below, Seated, Shows, stack_from, waiting_above, seat, holds, is_place, moved, word_at, link_in}
+use Rattle.vx_target.specs.Tied.{Tied, AtEntry, Below, Seated, Shows, stack_from, waiting_above, seat, Itself, IsShown, holds, is_place, kind_by, kind_of, word_at, link_in}
 use Rattle.vx_target.specs.Seats.{Seats, is_link}
 use Rattle.vx_target.specs.Carried.{Carries, IsFunctionOf, is_passed, Arrives}
 use Rattle.vx_tie.specs.Planned.{CarriesOn, FallsThrough, EntryLaw}
@@ -89,11 +89,11 @@ module _ (T : Target) (flow : Flow) (ls : List VWords) (w : WordProgram) (sound 
   room = frame_room T flow carries.some_frame carries.globals sound Sp (length r.waiting) tied.deep
 
   -- parameters are general values and no places
-  plain : (v : ℕ) → IsIn v (parameters_of T F) → (is_place T F v ≡ false) × (holds_branch T F v ≡ false)
+  plain : (v : ℕ) → IsIn v (parameters_of T F) → (kind_of T F v ≡ Itself) × (holds_branch T F v ≡ false)
   plain v i =
       let h = sound_general v i in
       let w = whole_is T F Any graph_sound of.mapped.code (λ a lt. tt) v GeneralBank h in (
-        false_from_ne_true (is_place T F v) (λ e. let m = place_made T F Any graph_sound of.mapped.code v e in graph_sound.place_parameter v m.0 (subst (λ x. IsPlace (T.graph F) x m.0) w m.1) i),
+        ap kind_by (false_from_ne_true (is_place T F v) (λ e. let m = place_made T F Any graph_sound of.mapped.code v e in graph_sound.place_parameter v m.0 (subst (λ x. IsPlace (T.graph F) x m.0) w m.1) i)),
         ap is_branch (whole_bank T F Any graph_sound of.mapped.code v GeneralBank (has_whole T F Any graph_sound of.mapped.code (λ a lt. tt) v GeneralBank h)),
       )
     where
@@ -339,14 +339,14 @@ module _ (T : Target) (flow : Flow) (ls : List VWords) (w : WordProgram) (sound 
   values v n live e =
       let k = at_entry.values v n e in
       let p = plain v k.0 in
-      record { answer = λ b. absurd (let z : true ≡ false = sym b ∙ p.1 in cc); is = by k.0 k.1 p (is_slotted (kept T F v)) refl }
+      record { answer = λ b. absurd (let z : true ≡ false = sym b ∙ p.1 in cc); is = subst (λ y. IsShown Sp y n (holds T done.to Sp F v)) (sym p.0) (by k.0 k.1 p (is_slotted (kept T F v)) refl) }
     where
-      by : IsIn v (parameters_of T F) → word_at u.memory (Sp + T.slot F v) ≡ n → (is_place T F v ≡ false) × (holds_branch T F v ≡ false) → (b : Bool) → is_slotted (kept T F v) ≡ b → (if b then word_at done.to.memory (Sp + T.slot F v) else register done.to (register_of T F (v ∷ []) v)) ≡ moved Sp (is_place T F v) n
-      by i m p true h = same_slot v i ∙ m ∙ ap (λ c. moved Sp c n) (sym p.0)
+      by : IsIn v (parameters_of T F) → word_at u.memory (Sp + T.slot F v) ≡ n → (kind_of T F v ≡ Itself) × (holds_branch T F v ≡ false) → (b : Bool) → is_slotted (kept T F v) ≡ b → (if b then word_at done.to.memory (Sp + T.slot F v) else register done.to (register_of T F (v ∷ []) v)) ≡ n
+      by i m p true h = same_slot v i ∙ m
       by i m p false h =
           let number = in_register (kept T F v) h in
           let there = of.saved.brings v (record { passed = i; live = live; number = number.0; register = number.1 }) in
-          ap (register done.to) (own_name T F v (v ∷ []) Brought h) ∙ done.brought v there ∙ ap (λ c. as_read c (word_at u.memory (Sp + T.slot F v))) p.1 ∙ m ∙ ap (λ c. moved Sp c n) (sym p.0)
+          ap (register done.to) (own_name T F v (v ∷ []) Brought h) ∙ done.brought v there ∙ ap (λ c. as_read c (word_at u.memory (Sp + T.slot F v))) p.1 ∙ m
 
   -- memory: only the first word of the frame has changed
 

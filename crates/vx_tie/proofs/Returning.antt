@@ -35,7 +35,7 @@ use Rattle.vx_mixed.specs.LaidSettled.{bank_in}
 use Rattle.vx_layout.specs.Origins.{CallsAs}
 use Rattle.vx_regs.specs.Intervals.{IsLive, IsBusy, is_live, is_named, result_of}
 use Rattle.vx_target.specs.Target.{Target, answer, kept, is_slotted, is_branch, holds_branch, stack_on, register_of, one, bytes, move_stack, result_words, reload_words, call_words, back_words, set_stack, halt_place, memory_words}
-use Rattle.vx_target.specs.Tied.{Tied, Shows, Stacked, IsStack, Seated, Waits, Below, Deep, IsResult, waiting_above, seat, back_place, is_place, moved as moved_number, holds, word_at}
+use Rattle.vx_target.specs.Tied.{Tied, Shows, Stacked, IsStack, Seated, Waits, Below, Deep, IsResult, waiting_above, seat, Itself, IsShown, back_place, is_place, kind_by, kind_of, holds, word_at}
 use Rattle.vx_target.specs.Carried.{Carries, IsFunctionOf, NeedsSlot, is_spilled, is_saved, Survives}
 use Rattle.vx_tie.specs.Planned.{CarriesOn, EndsAlike}
 use Rattle.vx_tie.specs.Returned.{ReturnLaw}
@@ -198,10 +198,10 @@ module _ (T : Target) (flow : Flow) (ls : List VWords) (w : WordProgram) (sound 
   result_bank : (v : ℕ) → IsResult fr.result v → (b : Bank) × (bank_in (T.layout F) v ≡ Some b)
   result_bank v i = (GeneralBank, in_general_bank v i)
 
-  result_plain : (v : ℕ) → IsResult fr.result v → (is_place T F v ≡ false) × (holds_branch T F v ≡ false)
+  result_plain : (v : ℕ) → IsResult fr.result v → (kind_of T F v ≡ Itself) × (holds_branch T F v ≡ false)
   result_plain v i =
       let whole = whole_is T F Any graph_sound of.mapped.code (λ a lt. tt) v GeneralBank (result_general v i) in (
-        false_from_ne_true (is_place T F v) (λ e. let m = place_made T F Any graph_sound of.mapped.code v e in graph_sound.place_exit v m.0 Exiting (subst (λ y. IsPlace (T.graph F) y m.0) whole m.1) site.has (inr (among v i))),
+        ap kind_by (false_from_ne_true (is_place T F v) (λ e. let m = place_made T F Any graph_sound of.mapped.code v e in graph_sound.place_exit v m.0 Exiting (subst (λ y. IsPlace (T.graph F) y m.0) whole m.1) site.has (inr (among v i)))),
         ap is_branch (in_general_bank v i),
       )
 
@@ -344,7 +344,7 @@ module _ (T : Target) (flow : Flow) (ls : List VWords) (w : WordProgram) (sound 
     shows_result : (v : ℕ) (m : ℤ) → IsLive (T.layout F) (suc P) v → IsResult fr.result v → n ≡ m → Shows T Sp F v m (holds T C Sp F v)
     shows_result v m lives i e = record {
       answer = λ b. absurd (let z : true ≡ false = sym b ∙ (result_plain v i).1 in cc);
-      is = result_value v lives i ∙ e ∙ ap (λ c. moved_number Sp c m) (sym (result_plain v i).0);
+      is = subst (λ k. IsShown Sp k m (holds T C Sp F v)) (sym (result_plain v i).0) (result_value v lives i ∙ e);
     }
 
     shows_other : (v : ℕ) (m : ℤ) → IsLive (T.layout F) (suc P) v → (IsResult fr.result v → ⊥) → fr.values v ≡ Some m → Shows T Sp F v m (holds T C Sp F v)
