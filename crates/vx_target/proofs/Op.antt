@@ -1,11 +1,9 @@
 -- One operation of a word: what it does to values, arrays, input and output, the operation that carries it does to registers,
 -- memory, input and output.
-use Rattle.std.proofs.Common.{◌≡◌, ◌≢◌, ◌<◌, ◌⊎◌, inl, inr, ⊎_elim, ◌+◌, ◌*◌, ◌^◌, ℕ, zero, suc, ℤ, pos, Bool, true, false, ◌&&◌, not, eqb, cond, Option, Some, None, List, [], ◌∷◌, ◌++◌, length, refl, sym, ap, ◌∙◌, subst, arith}
-use Rattle.std.specs.Prelude.{if◌then◌else◌, ◌==◌, slice_index_or, slice_set, slice_get, drop, count_by, unwrap_or}
+use Rattle.std.proofs.Common.{◌≡◌, ◌≢◌, ◌<◌, ◌⊎◌, inl, inr, ◌+◌, ◌*◌, ◌^◌, ℕ, zero, suc, ℤ, pos, Bool, true, false, ◌&&◌, not, cond, Option, Some, None, List, [], ◌∷◌, ◌++◌, length, refl, sym, ap, ◌∙◌, subst, arith}
+use Rattle.std.specs.Prelude.{if◌then◌else◌, ◌==◌, slice_index_or, slice_get, drop, count_by, unwrap_or}
 use Rattle.std.specs.Fmt.{signed_decimal}
-use Rattle.std.proofs.lemmas.Bool.{eqb-true}
-use Rattle.std.proofs.lemmas.Bool.Decides.{nat_tests}
-use Rattle.std.proofs.lemmas.List.{get_or-set_same, get_or-set_other, length-set, append-nil}
+use Rattle.std.proofs.lemmas.List.{append-nil}
 use Rattle.vx_base.specs.Arithmetic.{sum_of, value_of, one_if, compare_of, product_of}
 use Rattle.vx_base.specs.declared.arithmetic.Code.{Code}
 use Rattle.vx_base.specs.declared.arithmetic.Code.TheVariants.{Add, Sub, And, Or, Xor, Shl, Shr, Shru, Sh2add, Max, Min, Mov, ToGeneral, ToBranch, Mpylu, Mpyhs, Div, Rem}
@@ -21,7 +19,7 @@ use Rattle.vx_isa.specs.Operations.{is_observable, destination_of}
 use Rattle.vx_isa.specs.Machine.{State, register, source, address, is_word_of, loaded, stored, number_of, memory_after, takes_input, print_of, has_bad_address, lead_of, is_one, is_left, first_of, flag}
 use Rattle.vx_isa.proofs.Lists.{count_by-cons}
 use Rattle.vx_target.specs.Target.{Target, general_of, branch_of, register_of, holds_branch, is_own, carried, source_of, access_base, access_offset, stack_on, memory_words}
-use Rattle.vx_target.specs.Tied.{Kind, Itself, InFrame, IsAnswer, IsShown, Shows, HasCell, kind_by, kind_of, kind_in, begins_at, word_at, row_in}
+use Rattle.vx_target.specs.Tied.{Itself, IsAnswer, IsShown, Shows, HasCell, kind_by, kind_of, kind_in, begins_at, word_at, row_in}
 use Rattle.vx_target.proofs.Cells.{SameShape, same_shape, set_cell, set_shape, store_off, store_known}
 use Rattle.vx_target.proofs.Bytes.{is_word, place_with, place_alone}
 use Rattle.vx_target.proofs.Forms.{one_alike, to_branch, Plainly, Computed, computed_is}
@@ -307,7 +305,7 @@ module _ (T : Target) (w : WordProgram) (f sp : ℕ) (setting : Setting) (seats 
           shape = same_shape t.arrays;
           rows = λ memory h. h;
           elsewhere = λ y memory h. refl;
-            })
+        })
       where
         known : (m : ℤ) → Some n ≡ Some m → n ≡ m
         known m h = cc
@@ -343,7 +341,7 @@ module _ (T : Target) (w : WordProgram) (f sp : ℕ) (setting : Setting) (seats 
           shape = same_shape t.arrays;
           rows = λ memory h. h;
           elsewhere = λ y memory h. refl;
-            })
+        })
 
     more_shows : (v : ℕ) → PlainValue T f IsArray v → (n : ℤ) → Some (one_if (is_left_there s.input)) ≡ Some n → Shows T sp f v n (flag (is_left u.input))
     more_shows v proper n h =

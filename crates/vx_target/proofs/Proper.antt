@@ -8,7 +8,7 @@ use Rattle.vx_flow.specs.Effects.{is_unary}
 use Rattle.vx_mixed.specs.declared.layout.Laid.{Laid}
 use Rattle.vx_mixed.specs.declared.layout.Laid.TheVariants.{Plain, Split}
 use Rattle.vx_target.specs.Target.{Target, holds_branch}
-use Rattle.vx_target.specs.Tied.{Kind, Itself, IsAnswer, IsShown, Shows, kind_of, kind_in}
+use Rattle.vx_target.specs.Tied.{Itself, IsAnswer, IsShown, Shows, kind_of, kind_in}
 use Rattle.vx_target.proofs.Forms.{to_branch}
 
 -- a value of the first kind is shown by itself

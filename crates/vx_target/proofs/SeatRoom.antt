@@ -1,6 +1,6 @@
 -- Where seats are: within the memory, apart from each other, and apart from links and slots.
-use Rattle.std.proofs.Common.{◌≡◌, ◌≢◌, ◌<◌, ◌≤◌, ◌⊎◌, inl, inr, ⊎_elim, ◌+◌, ◌-◌, ◌*◌, ℕ, zero, suc, ℤ, Bool, true, false, Option, Some, None, List, [], ◌∷◌, length, refl, sym, ap, ◌∙◌, subst, arith, leb}
-use Rattle.std.specs.Prelude.{if◌then◌else◌, nat_le, slice_get, slice_index_or}
+use Rattle.std.proofs.Common.{◌≡◌, ◌≢◌, ◌<◌, ◌≤◌, ◌⊎◌, inl, inr, ⊎_elim, ◌+◌, ◌-◌, ℕ, ℤ, Bool, true, false, Some, List, [], ◌∷◌, length, refl, sym, ap, ◌∙◌, subst, arith, leb}
+use Rattle.std.specs.Prelude.{if◌then◌else◌, slice_get}
 use Rattle.std.proofs.lemmas.Bool.{le-leb, lt-leb, leb-true, leb-false}
 use Rattle.vx_flow.specs.declared.graph.Array.{Array}
 use Rattle.vx_flow.specs.declared.graph.Global.{Global}
@@ -10,11 +10,11 @@ use Rattle.vx_flow.specs.Meaning.{spot_of}
 use Rattle.vx_flow.specs.Sound.{SoundFlow}
 use Rattle.vx_mixed.specs.declared.layout.VWords.{VWords}
 use Rattle.vx_target.specs.Target.{Target, memory_words}
-use Rattle.vx_target.specs.Tied.{Stacked, HasCell, IsStack, Sized, Seated, seat, words_before, row_in, word_at, begins_at, own_arrays, IsFunction}
-use Rattle.vx_target.specs.Carried.{NeedsSlot, HasWord, IsFramed}
+use Rattle.vx_target.specs.Tied.{Stacked, HasCell, IsStack, Seated, seat, words_before, row_in, begins_at, own_arrays, IsFunction}
+use Rattle.vx_target.specs.Carried.{HasWord, IsFramed}
 use Rattle.vx_target.specs.Seats.{HasFrames, Seats, Framed, is_link, is_slot}
 use Rattle.vx_target.proofs.Cells.{row_there}
-use Rattle.vx_target.proofs.Frames.{get_below, get_some, before_all, before_apart, array_kind, IsGlobal, IsLocal}
+use Rattle.vx_target.proofs.Frames.{get_below, get_some, before_all, before_apart, array_kind}
 
 -- the seat of a row of the latest activation, and of one in front of those
 

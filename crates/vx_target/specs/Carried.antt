@@ -1,5 +1,5 @@
 -- When words over registers carry laid-out words over values, and the law that they then do the same.
-use Rattle.std.specs.Prelude.{◌≡◌, ◌≢◌, ◌<◌, ◌≤◌, ◌+◌, ◌*◌, ◌^◌, ◌==◌, ℕ, zero, suc, ℤ, pos, Bool, true, false, if◌then◌else◌, Option, Some, List, [], ◌∷◌, length, map, slice_get}
+use Rattle.std.specs.Prelude.{◌≡◌, ◌≢◌, ◌<◌, ◌≤◌, ◌+◌, ◌*◌, ◌^◌, ◌==◌, ℕ, suc, ℤ, pos, Bool, true, false, if◌then◌else◌, Option, Some, List, [], ◌∷◌, length, map, slice_get}
 use Rattle.vx_base.specs.Outcome.{Same, NeverFails}
 use Rattle.vx_flow.specs.declared.graph.Array.{Array}
 use Rattle.vx_flow.specs.declared.graph.Global.{Global}

@@ -1,14 +1,13 @@
 -- Behind a call the stack pointers go up, the result comes to where it is kept, and what was saved is reloaded.
 use Rattle.std.proofs.Common.{◌≡◌, ◌≢◌, ◌<◌, ◌≤◌, ◌⊎◌, inl, inr, ⊎_elim, ◌+◌, ◌-◌, ◌*◌, ◌^◌, ℕ, suc, ℤ, pos, Bool, true, false, Option, Some, None, List, [], ◌∷◌, ◌++◌, length, length-append, take, refl, sym, ap, ◌∙◌, subst, arith}
-use Rattle.std.specs.Prelude.{slice_get, slice_index_or, if◌then◌else◌}
+use Rattle.std.specs.Prelude.{slice_get, if◌then◌else◌}
 use Rattle.std.specs.List.{flat_map}
 use Rattle.std.proofs.lemmas.Bool.{false_from_ne_true, ne_eqb}
-use Rattle.std.proofs.lemmas.List.{get_or-take, length-take-le, append-nil}
+use Rattle.std.proofs.lemmas.List.{append-nil}
 use Rattle.vx_base.specs.Arithmetic.{wrap, sum_of}
 use Rattle.vx_base.specs.declared.arithmetic.Code.TheVariants.{Add}
 use Rattle.vx_base.specs.Outcome.{Outcome, Ends, On, Over}
 use Rattle.vx_base.proofs.Runs.{run_reach, run_ends, safe_after, safe_end, reach_one}
-use Rattle.vx_flow.specs.declared.graph.Array.{Array}
 use Rattle.vx_flow.specs.declared.graph.Bank.{Bank}
 use Rattle.vx_flow.specs.declared.graph.Bank.TheVariants.{General as GeneralBank}
 use Rattle.vx_flow.specs.declared.graph.Exit.{Exit}
@@ -16,7 +15,7 @@ use Rattle.vx_flow.specs.declared.graph.Exit.TheVariants.{Call as Calling}
 use Rattle.vx_flow.specs.declared.graph.Flow.{Flow}
 use Rattle.vx_flow.specs.declared.graph.Operand.{Operand}
 use Rattle.vx_flow.specs.Effects.{Content, State as VState, IsIn, held, value_in}
-use Rattle.vx_flow.specs.Meaning.{Active, Frame, Hop, Leaves, returned, leaves, with_result, spot_of, after_hop, next}
+use Rattle.vx_flow.specs.Meaning.{Active, Frame, Hop, Leaves, returned, leaves, with_result, after_hop, next}
 use Rattle.vx_flow.specs.Sound.{Sound, SoundFlow, IsPlace, results_of_exit, is_sound_flow}
 use Rattle.vx_flow.proofs.Members.{in_right}
 use Rattle.vx_flow.proofs.SoundFlowLaw.{told}

@@ -1,18 +1,16 @@
 -- The first words of a program come to a state that is tied to the start over values.
-use Rattle.std.proofs.Common.{◌≡◌, ◌<◌, ◌≤◌, ◌⊎◌, inl, inr, ◌+◌, ◌-◌, ◌*◌, ℕ, zero, suc, ℤ, pos, false, Some, None, List, [], ◌∷◌, ◌++◌, length, length-append, map, drop, replicate, eqb, refl, sym, ap, ◌∙◌, subst, arith}
+use Rattle.std.proofs.Common.{◌≡◌, ◌<◌, ◌≤◌, inl, ◌+◌, ◌-◌, ◌*◌, ℕ, zero, suc, ℤ, pos, false, Some, None, List, [], ◌∷◌, ◌++◌, length, map, replicate, eqb, refl, sym, ap, ◌∙◌, subst, arith}
 use Rattle.std.specs.Prelude.{slice_get, slice_index_or, if◌then◌else◌}
-use Rattle.std.proofs.lemmas.List.{length-map, length-drop, length-replicate, length-set, get_or-replicate, get_or_append_left, get_or-append-add, get_or-drop, get_or-map, get_or-set_same, get_or-set_other, append-nil}
+use Rattle.std.proofs.lemmas.List.{length-map, length-replicate, length-set, get_or-replicate, get_or-map, get_or-set_same, get_or-set_other, append-nil}
 use Rattle.std.proofs.lemmas.Option.{get_or_from_slice_get}
 use Rattle.std.proofs.lemmas.Bool.{ne_eqb}
 use Rattle.vx_base.specs.Arithmetic.{wrap}
 use Rattle.vx_base.specs.Outcome.{NeverFails}
 use Rattle.vx_base.proofs.Runs.{run_reach}
-use Rattle.vx_flow.specs.declared.graph.Array.{Array}
 use Rattle.vx_flow.specs.declared.graph.Global.{Global}
-use Rattle.vx_flow.specs.declared.graph.Graph.{Graph}
 use Rattle.vx_flow.specs.declared.graph.Flow.{Flow}
 use Rattle.vx_flow.specs.Effects.{Content, State as VState}
-use Rattle.vx_flow.specs.Meaning.{Active, Body, undefined, own_of, entered, entered_or, at_entry, at_start, words_at_start, globals_at_start, deepest, spot_of, program_run}
+use Rattle.vx_flow.specs.Meaning.{Active, Body, undefined, own_of, entered, entered_or, at_entry, at_start, words_at_start, globals_at_start, deepest, program_run}
 use Rattle.vx_flow.specs.Sound.{SoundFlow, is_sound_flow}
 use Rattle.vx_flow.proofs.SoundFlowLaw.{told}
 use Rattle.vx_isa.specs.declared.operation.Register.TheVariants.{General, Link}

@@ -1,14 +1,14 @@
 -- Steps of a run keep rows seated.
-use Rattle.std.proofs.Common.{◌≡◌, ◌≤◌, inl, ◌+◌, ◌*◌, ℕ, ℤ, Some, None, List, ◌∷◌, ◌++◌, length, map, take, refl, sym, ap, ◌∙◌, subst, arith}
+use Rattle.std.proofs.Common.{◌+◌, ◌*◌, ℕ, ℤ, Some, List, length, refl, sym, ap, ◌∙◌, subst, arith}
 use Rattle.vx_flow.specs.declared.graph.Flow.{Flow}
 use Rattle.vx_flow.specs.Effects.{Content, IsIn}
-use Rattle.vx_flow.specs.Meaning.{undefined, own_of, spot_of}
+use Rattle.vx_flow.specs.Meaning.{spot_of}
 use Rattle.vx_flow.specs.Sound.{SoundFlow, is_sound_flow}
 use Rattle.vx_flow.proofs.SoundFlowLaw.{told}
 use Rattle.vx_isa.specs.Machine.{stored}
 use Rattle.vx_mixed.specs.declared.layout.VWords.{VWords}
 use Rattle.vx_target.specs.Target.{Target}
-use Rattle.vx_target.specs.Tied.{Stacked, HasCell, IsFunction, IsStack, Seated, seat, row_in, word_at}
+use Rattle.vx_target.specs.Tied.{Stacked, HasCell, IsStack, seat, word_at}
 use Rattle.vx_target.specs.Seats.{HasFrames, Framed, Seats}
 use Rattle.vx_target.proofs.Cells.{set_shape, store_off}
 use Rattle.vx_target.proofs.SeatRoom.{table}

@@ -1,5 +1,5 @@
 -- The arrays of one activation in memory, each for itself.
-use Rattle.std.specs.Prelude.{◌≡◌, ◌<◌, ◌+◌, ◌*◌, ℕ, ℤ, Option, Some, None, List, length, slice_get, slice_index_or}
+use Rattle.std.specs.Prelude.{◌≡◌, ◌<◌, ◌+◌, ℕ, ℤ, Some, None, List, length, slice_get, slice_index_or}
 use Rattle.vx_flow.specs.declared.graph.Array.{Array}
 use Rattle.vx_flow.specs.Effects.{Content}
 use Rattle.vx_flow.specs.Meaning.{spot_of}

@@ -1,5 +1,5 @@
 -- Laws of seats: a table of seats follows from where frames and arrays are, and each step of a run keeps it.
-use Rattle.std.specs.Prelude.{◌≡◌, ◌≤◌, ◌+◌, ◌*◌, ◌⊎◌, ℕ, ℤ, true, Option, Some, List, ◌∷◌, ◌++◌, length, map, take, slice_set}
+use Rattle.std.specs.Prelude.{◌≡◌, ◌≤◌, ◌+◌, ◌*◌, ℕ, ℤ, true, Some, List, ◌∷◌, ◌++◌, length, map, take, slice_set}
 use Rattle.vx_flow.specs.declared.graph.Flow.{Flow}
 use Rattle.vx_flow.specs.Effects.{Content, IsIn}
 use Rattle.vx_flow.specs.Meaning.{undefined, own_of}
