@@ -13,6 +13,7 @@ pub mod Word
 pub mod Names
 pub mod FromGraph
 pub mod Frames
+pub mod Owned
 pub mod SeatRoom
 pub mod SeatSteps
 pub mod FromPlace

@@ -1,7 +1,8 @@
 -- Where seats are: within the memory, apart from each other, and apart from links and slots.
 use Rattle.std.proofs.Common.{◌≡◌, ◌≢◌, ◌<◌, ◌≤◌, ◌⊎◌, inl, inr, ⊎_elim, ◌+◌, ◌-◌, ℕ, ℤ, Bool, true, false, Some, List, [], ◌∷◌, length, refl, sym, ap, ◌∙◌, subst, arith, leb}
-use Rattle.std.specs.Prelude.{if◌then◌else◌, slice_get}
+use Rattle.std.specs.Prelude.{if◌then◌else◌, slice_get, slice_index_or}
 use Rattle.std.proofs.lemmas.Bool.{le-leb, lt-leb, leb-true, leb-false}
+use Rattle.std.proofs.lemmas.Option.{get_or_from_slice_get}
 use Rattle.vx_flow.specs.declared.graph.Array.{Array}
 use Rattle.vx_flow.specs.declared.graph.Global.{Global}
 use Rattle.vx_flow.specs.declared.graph.Flow.{Flow}
@@ -14,15 +15,20 @@ use Rattle.vx_target.specs.Tied.{Stacked, HasCell, IsStack, Seated, seat, words_
 use Rattle.vx_target.specs.Carried.{HasWord, IsFramed}
 use Rattle.vx_target.specs.Seats.{HasFrames, Seats, Framed, is_link, is_slot}
 use Rattle.vx_target.proofs.Cells.{row_there}
+use Rattle.vx_target.proofs.Owned.{own_from, own_there, own_once, own_at}
 use Rattle.vx_target.proofs.Frames.{get_below, get_some, before_all, before_apart, array_kind}
 
 -- the seat of a row of the latest activation, and of one in front of those
 
-pub seat_here : (T : Target) (globals : List Global) (x : Stacked) (xs : List Stacked) (k : ℕ) → x.base ≤ k → seat T globals (x ∷ xs) k ≡ x.frame + T.array_at x.function (length globals + (k - x.base))
-seat_here T globals x xs k le = ap (λ b. if b then x.frame + T.array_at x.function (length globals + (k - x.base)) else seat T globals xs k) (le-leb x.base k le)
+pub seat_here : (T : Target) (globals : List Global) (x : Stacked) (xs : List Stacked) (k j a : ℕ) → k ≡ x.base + j → slice_get (own_arrays T (length globals) x.function) j ≡ Some a → seat T globals (x ∷ xs) k ≡ x.frame + T.array_at x.function a
+seat_here T globals x xs k j a e own =
+    let q : k - x.base ≡ j = omega arith in
+    ap (λ b. if b then x.frame + T.array_at x.function (slice_index_or (own_arrays T (length globals) x.function) (k - x.base) 0) else seat T globals xs k) (le-leb x.base k (omega arith))
+    ∙ ap (λ i. x.frame + T.array_at x.function (slice_index_or (own_arrays T (length globals) x.function) i 0)) q
+    ∙ ap (λ c. x.frame + T.array_at x.function c) (get_or_from_slice_get (own_arrays T (length globals) x.function) j a 0 own)
 
 pub seat_before : (T : Target) (globals : List Global) (x : Stacked) (xs : List Stacked) (k : ℕ) → k < x.base → seat T globals (x ∷ xs) k ≡ seat T globals xs k
-seat_before T globals x xs k lt = ap (λ b. if b then x.frame + T.array_at x.function (length globals + (k - x.base)) else seat T globals xs k) (lt-leb x.base k lt)
+seat_before T globals x xs k lt = ap (λ b. if b then x.frame + T.array_at x.function (slice_index_or (own_arrays T (length globals) x.function) (k - x.base) 0) else seat T globals xs k) (lt-leb x.base k lt)
 
 -- own rows of an activation, or rows in front of them
 pub own_or_before : (base k : ℕ) → (base ≤ k) ⊎ (k < base)
@@ -63,14 +69,14 @@ module _ (T : Target) (flow : Flow) (ls : List VWords) where
   function_in (y ∷ ys) from behind is x (inr i) = function_in ys (from + T.frame) y.base is.3 x i
 
   -- its own arrays are rows in front of where the rows end
-  pub own_low : (stack : List Stacked) (from behind : ℕ) → IsStack T flow ls from behind stack → (x : Stacked) → IsIn x stack → (a : ℕ) (array : Array) → Globals ≤ a → slice_get (T.graph x.function).arrays a ≡ Some array → x.base + (a - Globals) < behind
-  own_low [] from behind is x i a array le has = absurd i
-  own_low (y ∷ ys) from behind is x (inl e) a array le has =
+  pub own_low : (stack : List Stacked) (from behind : ℕ) → IsStack T flow ls from behind stack → (x : Stacked) → IsIn x stack → (j a : ℕ) → slice_get (own_arrays T Globals x.function) j ≡ Some a → x.base + j < behind
+  own_low [] from behind is x i j a own = absurd i
+  own_low (y ∷ ys) from behind is x (inl e) j a own =
       let l = is.2 in
       let b : x.base ≡ y.base = ap (λ (z : Stacked). z.base) e in
-      let c : own_arrays T Globals x.function ≡ own_arrays T Globals y.function = ap (λ (z : Stacked). own_arrays T Globals z.function) e in
-      let d = get_below (T.graph x.function).arrays a array has in omega arith
-  own_low (y ∷ ys) from behind is x (inr i) a array le has = let r = own_low ys (from + T.frame) y.base is.3 x i a array le has in let l = is.2 in omega arith
+      let c : length (own_arrays T Globals x.function) ≡ length (own_arrays T Globals y.function) = ap (λ (z : Stacked). length (own_arrays T Globals z.function)) e in
+      let d = get_below (own_arrays T Globals x.function) j a own in omega arith
+  own_low (y ∷ ys) from behind is x (inr i) j a own = let r = own_low ys (from + T.frame) y.base is.3 x i j a own in let l = is.2 in omega arith
 
 module _ (T : Target) (flow : Flow) (ls : List VWords) (sound : SoundFlow flow) (frames : HasFrames T flow ls) where
   abbrev G : ℕ
@@ -87,7 +93,7 @@ module _ (T : Target) (flow : Flow) (ls : List VWords) (sound : SoundFlow flow) 
       here : slice_get (T.graph y.function).arrays a ≡ Some array → spot_of G y.base a < behind
       here h = ⊎_elim
           (λ g. let s = g.spot y.base in let b = g.below in let f = globals_first T flow ls ys (from + T.frame) y.base is.3 in let l = is.2 in omega arith)
-          (λ o. let s = o.spot y.base in let b = o.from in let l = is.2 in let c = get_below (T.graph y.function).arrays a array h in omega arith)
+          (λ o. let s = o.spot y.base in let l = is.2 in let c = get_below (own_arrays T G y.function) (a - G) a (own_at T G y.function a array o.from h) in omega arith)
           (array_kind T flow frames.some frames.globals sound y.function ls is.0 (frames.each y.function is.0) a array h)
   spot_low (y ∷ ys) from behind is x (inr i) a array has = let r = spot_low ys (from + T.frame) y.base is.3 x i a array has in let l = is.2 in omega arith
 
@@ -103,7 +109,7 @@ module _ (T : Target) (flow : Flow) (ls : List VWords) (sound : SoundFlow flow) 
       here : slice_get (T.graph y.function).arrays a ≡ Some array → begins_at T y.frame y.function a ≡ Seat (y ∷ ys) (spot_of G y.base a)
       here h = ⊎_elim
           (λ g. g.begins y.frame ∙ sym (ap (Seat (y ∷ ys)) (g.spot y.base) ∙ among (y ∷ ys) from behind is g.below))
-          (λ o. let f = o.from in o.begins y.frame ∙ sym (ap (Seat (y ∷ ys)) (o.spot y.base) ∙ seat_here T flow.globals y ys (y.base + (a - G)) (omega arith) ∙ ap (λ c. y.frame + T.array_at y.function c) (omega arith)))
+          (λ o. o.begins y.frame ∙ sym (ap (Seat (y ∷ ys)) (o.spot y.base) ∙ seat_here T flow.globals y ys (y.base + (a - G)) (a - G) a refl (own_at T G y.function a array o.from h)))
           (array_kind T flow frames.some frames.globals sound y.function ls is.0 (frames.each y.function is.0) a array h)
   begins_there (y ∷ ys) from behind is x (inr i) a array has =
       begins_there ys (from + T.frame) y.base is.3 x i a array has ∙ sym (seat_before T flow.globals y ys (spot_of G x.base a) (spot_low ys (from + T.frame) y.base is.3 x i a array has))
@@ -113,32 +119,40 @@ module _ (T : Target) (flow : Flow) (ls : List VWords) (sound : SoundFlow flow) 
     Global_sizes = (k : ℕ) (x : Global) → slice_get flow.globals k ≡ Some x → length (row_in rows k) ≡ x.words
 
     abbrev Own_sizes : List Stacked → Type 0
-    Own_sizes stack = (x : Stacked) (a : ℕ) (array : Array) → IsIn x stack → G ≤ a → slice_get (T.graph x.function).arrays a ≡ Some array → length (row_in rows (x.base + (a - G))) ≡ array.words
+    Own_sizes stack = (x : Stacked) (j a : ℕ) (array : Array) → IsIn x stack → slice_get (own_arrays T G x.function) j ≡ Some a → slice_get (T.graph x.function).arrays a ≡ Some array → length (row_in rows (x.base + j)) ≡ array.words
 
     -- a word of a row of globals is one of a global, and one of a row of an activation one of its array
     global_cell : Global_sizes → (k i : ℕ) → k < G → HasCell rows k i → (x : Global) × (slice_get flow.globals k ≡ Some x) × (i < x.words)
     global_cell sizes k i lt has = let x = get_some flow.globals k lt in let s = sizes k x.0 x.1 in (x.0, x.1, omega arith)
 
-    own_cell : (x : Stacked) (xs : List Stacked) (behind : ℕ) → x.base + own_arrays T G x.function ≡ behind → Own_sizes (x ∷ xs) → (k i : ℕ) → x.base ≤ k → k < behind → HasCell rows k i → HasWord T x.function (G + (k - x.base)) i
-    own_cell x xs behind last sizes k i le lt has =
-        let g = get_some (T.graph x.function).arrays (G + (k - x.base)) (omega arith) in
-        let s = sizes x (G + (k - x.base)) g.0 (inl refl) (omega arith) g.1 in
-        let q : x.base + (G + (k - x.base) - G) ≡ k = omega arith in
-        let r : length (row_in rows k) ≡ g.0.words = subst (λ j. length (row_in rows j) ≡ g.0.words) q s in
-        record { array = g.0; is = g.1; below = omega arith }
+    record OwnCell (x : Stacked) (xs : List Stacked) (k i : ℕ) : Type 0 where
+      rank : ℕ
+      number : ℕ
+      row : k ≡ x.base + rank
+      own : slice_get (own_arrays T G x.function) rank ≡ Some number
+      from : G ≤ number
+      word : HasWord T x.function number i
+      stands : Seat (x ∷ xs) k ≡ x.frame + T.array_at x.function number
 
-    abbrev Later : (x : Stacked) (xs : List Stacked) → Own_sizes (x ∷ xs) → Own_sizes xs
-    Later x xs sizes y a array i le has = sizes y a array (inr i) le has
+    own_cell : (x : Stacked) (xs : List Stacked) (behind : ℕ) → x.base + length (own_arrays T G x.function) ≡ behind → Own_sizes (x ∷ xs) → (k i : ℕ) → x.base ≤ k → k < behind → HasCell rows k i → OwnCell x xs k i
+    own_cell x xs behind last sizes k i le lt has =
+        let j : ℕ = k - x.base in
+        let row_is : k ≡ x.base + j = omega arith in
+        let g = get_some (own_arrays T G x.function) j (omega arith) in
+        let t = own_there T G x.function j g.0 g.1 in
+        let s = sizes x j g.0 t.0 (inl refl) g.1 t.1 in
+        let r : length (row_in rows k) ≡ t.0.words = ap (λ y. length (row_in rows y)) row_is ∙ s in
+        record { rank = j; number = g.0; row = row_is; own = g.1; from = own_from T G x.function j g.0 g.1; word = record { array = t.0; is = t.1; below = omega arith }; stands = seat_here T flow.globals x xs k j g.0 row_is g.1 }
 
     -- where a word of a row is: among the globals, or in frames from the latest on
     pub seat_room : Global_sizes → (stack : List Stacked) (from behind : ℕ) → IsStack T flow ls from behind stack → Own_sizes stack → (k i : ℕ) → k < behind → HasCell rows k i → (Seat stack k + i < T.globals) ⊎ ((from ≤ Seat stack k + i) × (Seat stack k + i < memory_words T))
     seat_room globals [] from behind is own k i lt has = inl (let e = is.1 in let c = global_cell globals k i (omega arith) has in let b = before_all flow.globals k i c.0 c.1 c.2 in let g = frames.globals in omega arith)
     seat_room globals (x ∷ xs) from behind is own k i lt has = ⊎_elim
-        (λ le. let c = (frames.each x.function is.0).own_to (G + (k - x.base)) i (omega arith) (own_cell x xs behind is.2 own k i le lt has) in let s = seat_here T flow.globals x xs k le in let f = is.1 in let m = frames_inside T flow ls xs (from + T.frame) x.base is.3 in inr (omega arith, omega arith))
+        (λ le. let o = own_cell x xs behind is.2 own k i le lt has in let c = (frames.each x.function is.0).own_to o.number i o.from o.word in let s = o.stands in let f = is.1 in let m = frames_inside T flow ls xs (from + T.frame) x.base is.3 in inr (omega arith, omega arith))
         (λ less. let s = seat_before T flow.globals x xs k less in ⊎_elim
         (λ g. inl (omega arith))
         (λ r. let a = r.0 in let b = r.1 in inr (omega arith, omega arith))
-        (seat_room globals xs (from + T.frame) x.base is.3 (λ y a array j le h. own y a array (inr j) le h) k i less has))
+        (seat_room globals xs (from + T.frame) x.base is.3 (λ y r a array j o h. own y r a array (inr j) o h) k i less has))
         (own_or_before x.base k)
 
     -- a word in the frame of the latest activation is none of the rows in front of it
@@ -148,7 +162,7 @@ module _ (T : Target) (flow : Flow) (ls : List VWords) (sound : SoundFlow flow) 
         let f = is.1 in ⊎_elim
         (λ g. absurd (omega arith))
         (λ r. let a = r.0 in absurd (omega arith))
-        (seat_room globals xs (from + T.frame) x.base is.3 (λ y a array j le h. own y a array (inr j) le h) k i less has)
+        (seat_room globals xs (from + T.frame) x.base is.3 (λ y r a array j o h. own y r a array (inr j) o h) k i less has)
 
     -- two words of rows are two words of memory
     pub seats_apart : Global_sizes → (stack : List Stacked) (from behind : ℕ) → IsStack T flow ls from behind stack → T.globals ≤ from → Own_sizes stack → (k l i j : ℕ) → k < behind → l < behind → HasCell rows k i → HasCell rows l j → Seat stack k + i ≡ Seat stack l + j → (k ≡ l) × (i ≡ j)
@@ -164,7 +178,7 @@ module _ (T : Target) (flow : Flow) (ls : List VWords) (sound : SoundFlow flow) 
         (own_or_before x.base l))
         (λ a. ⊎_elim
         (λ b. absurd (mixed l k j i b ll hl a hk (sym e)))
-        (λ b. seats_apart globals xs (from + T.frame) x.base is.3 (omega arith) (λ y c array m le h. own y c array (inr m) le h) k l i j a b hk hl (sym (ap (λ z. z + i) (seat_before T flow.globals x xs k a)) ∙ e ∙ ap (λ z. z + j) (seat_before T flow.globals x xs l b)))
+        (λ b. seats_apart globals xs (from + T.frame) x.base is.3 (omega arith) (λ y r c array m o h. own y r c array (inr m) o h) k l i j a b hk hl (sym (ap (λ z. z + i) (seat_before T flow.globals x xs k a)) ∙ e ∙ ap (λ z. z + j) (seat_before T flow.globals x xs l b)))
         (own_or_before x.base l))
         (own_or_before x.base k)
       where
@@ -173,38 +187,43 @@ module _ (T : Target) (flow : Flow) (ls : List VWords) (sound : SoundFlow flow) 
 
         mixed : (k l i j : ℕ) → x.base ≤ k → k < behind → HasCell rows k i → l < x.base → HasCell rows l j → Seat (x ∷ xs) k + i ≡ Seat (x ∷ xs) l + j → ⊥
         mixed k l i j le lk hk less hl e =
-            let w = framed.own_to (G + (k - x.base)) i (omega arith) (own_cell x xs behind is.2 own k i le lk hk) in
-            let s = seat_here T flow.globals x xs k le in
-            below_rest globals x xs from behind is high own l j (T.array_at x.function (G + (k - x.base)) + i) less hl w (omega arith)
+            let o = own_cell x xs behind is.2 own k i le lk hk in
+            let s = o.stands in
+            below_rest globals x xs from behind is high own l j (T.array_at x.function o.number + i) less hl (framed.own_to o.number i o.from o.word) (omega arith)
 
         both : x.base ≤ k → x.base ≤ l → (k ≡ l) × (i ≡ j)
         both a b =
-            let s = seat_here T flow.globals x xs k a in
-            let t = seat_here T flow.globals x xs l b in
-            let q = framed.own_apart (G + (k - x.base)) (G + (l - x.base)) i j (omega arith) (omega arith) (own_cell x xs behind is.2 own k i a lk hk) (own_cell x xs behind is.2 own l j b ll hl) (omega arith) in
-            let c = q.0 in (omega arith, q.1)
+            let o = own_cell x xs behind is.2 own k i a lk hk in
+            let p = own_cell x xs behind is.2 own l j b ll hl in
+            let s = o.stands in
+            let t = p.stands in
+            let q = framed.own_apart o.number p.number i j o.from p.from o.word p.word (omega arith) in
+            let c = own_once T G x.function o.rank p.rank o.number p.number o.own p.own q.0 in
+            let d = o.row in
+            let f = p.row in (omega arith, q.1)
 
     -- and none is a word of a frame that is none of the own arrays there
     pub frame_free : Global_sizes → (stack : List Stacked) (from behind : ℕ) → IsStack T flow ls from behind stack → T.globals ≤ from → Own_sizes stack → (y : Stacked) → IsIn y stack → (z : ℕ) → z < T.frame → ((a i : ℕ) → G ≤ a → HasWord T y.function a i → z ≢ T.array_at y.function a + i) →
         (k i : ℕ) → k < behind → HasCell rows k i → y.frame + z ≢ Seat stack k + i
     frame_free globals [] from behind is high own y m z inside free k i lt has e = absurd m
     frame_free globals (x ∷ xs) from behind is high own y (inl q) z inside free k i lt has e = ⊎_elim
-        (λ le. absurd (let w : HasWord T x.function (G + (k - x.base)) i = own_cell x xs behind is.2 own k i le lt has in
-        let s = seat_here T flow.globals x xs k le in
+        (λ le. absurd (let o = own_cell x xs behind is.2 own k i le lt has in
+        let s = o.stands in
         let c : y.frame ≡ x.frame = ap (λ v. v.frame) q in
-        free_x (G + (k - x.base)) i (omega arith) w (omega arith)))
+        free_x o.number i o.from o.word (omega arith)))
         (λ less. let c : y.frame ≡ x.frame = ap (λ v. v.frame) q in below_rest globals x xs from behind is high own k i z less has inside (ap (λ v. v + z) (sym c) ∙ e))
         (own_or_before x.base k)
       where
         free_x : (a i : ℕ) → G ≤ a → HasWord T x.function a i → z ≢ T.array_at x.function a + i
         free_x = subst (λ (v : Stacked). (a i : ℕ) → G ≤ a → HasWord T v.function a i → z ≢ T.array_at v.function a + i) q free
     frame_free globals (x ∷ xs) from behind is high own y (inr m) z inside free k i lt has e = ⊎_elim
-        (λ le. absurd (let w = (frames.each x.function is.0).own_to (G + (k - x.base)) i (omega arith) (own_cell x xs behind is.2 own k i le lt has) in
-        let s = seat_here T flow.globals x xs k le in
+        (λ le. absurd (let o = own_cell x xs behind is.2 own k i le lt has in
+        let w = (frames.each x.function is.0).own_to o.number i o.from o.word in
+        let s = o.stands in
         let f = is.1 in
         let r = frame_inside T flow ls xs (from + T.frame) x.base is.3 y m in
         let a = r.0 in omega arith))
-        (λ less. frame_free globals xs (from + T.frame) x.base is.3 (omega arith) (λ v a array j le h. own v a array (inr j) le h) y m z inside free k i less has (e ∙ ap (λ v. v + i) (seat_before T flow.globals x xs k less)))
+        (λ less. frame_free globals xs (from + T.frame) x.base is.3 (omega arith) (λ v r a array j o h. own v r a array (inr j) o h) y m z inside free k i less has (e ∙ ap (λ v. v + i) (seat_before T flow.globals x xs k less)))
         (own_or_before x.base k)
 
   -- together: rows that are seated in a stack have a table of seats
@@ -220,7 +239,7 @@ module _ (T : Target) (flow : Flow) (ls : List VWords) (sound : SoundFlow flow) 
         begins = λ x a array m has. begins_there stack from (length rows) is x m a array has;
         sizes = λ x a array m has. ⊎_elim
             (λ g. ap (λ j. length (row_in rows j)) (g.spot x.base) ∙ sized.global a g.item g.has ∙ sym g.words)
-            (λ o. ap (λ j. length (row_in rows j)) (o.spot x.base) ∙ sized.own x a array m o.from has)
+            (λ o. ap (λ j. length (row_in rows j)) (o.spot x.base) ∙ sized.own x (a - G) a array m (own_at T G x.function a array o.from has) has)
             (array_kind T flow frames.some frames.globals sound x.function ls (function_in T flow ls stack from (length rows) is x m) (frames.each x.function (function_in T flow ls stack from (length rows) is x m)) a array has);
       }
     where

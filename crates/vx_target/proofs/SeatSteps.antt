@@ -18,30 +18,19 @@ use Rattle.vx_target.specs.Carried.{Carries, IsSaved}
 use Rattle.vx_target.specs.Seats.{HasFrames}
 use Rattle.vx_target.proofs.Cells.{SameShape, row_there, set_cell, set_shape, store_known}
 use Rattle.vx_target.proofs.Frames.{get_below}
+use Rattle.vx_target.proofs.Owned.{own_count, own_row}
 use Rattle.vx_target.proofs.SeatRoom.{own_or_before, seat_before, globals_first, own_low}
 
 -- rows as long as others are sized as they are
 
 pub sized_as : (T : Target) (globals : List Global) (stack : List Stacked) (rows rows' : List (List Content)) → SameShape rows rows' → Sized T globals stack rows → Sized T globals stack rows'
-sized_as T globals stack rows rows' shape s = record { global = λ k x e. shape.each k ∙ s.global k x e; own = λ x a array i le has. shape.each (x.base + (a - length globals)) ∙ s.own x a array i le has }
+sized_as T globals stack rows rows' shape s = record { global = λ k x e. shape.each k ∙ s.global k x e; own = λ x j a array i own has. shape.each (x.base + j) ∙ s.own x j a array i own has }
 
 -- what changes no word of a row keeps rows seated
 pub seated_on : (T : Target) (globals : List Global) (stack : List Stacked) (rows : List (List Content)) (memory memory' : ℕ → ℤ) → ((k i : ℕ) → HasCell rows k i → word_at memory' (seat T globals stack k + i) ≡ word_at memory (seat T globals stack k + i)) → Seated T globals stack rows memory → Seated T globals stack rows memory'
 seated_on T globals stack rows memory memory' same s = record { sized = s.sized; known = λ k i n has e. same k i has ∙ s.known k i n has e }
 
 -- rows of what is entered
-
-pub own_row : (G a : ℕ) (graph : Graph) (array : Array) → G ≤ a → slice_get graph.arrays a ≡ Some array → row_in (map undefined (own_of G graph)) (a - G) ≡ undefined array.words
-own_row G a graph array from has =
-    let below : a < length graph.arrays = get_below graph.arrays a array has in
-    let len : length (drop G graph.arrays) ≡ length graph.arrays - G = length-drop G graph.arrays in
-    let lm : length (own_of G graph) ≡ length (drop G graph.arrays) = length-map (drop G graph.arrays) (λ (x : Array). x.words) in
-    let lt : a - G < length (drop G graph.arrays) = omega arith in
-    let lt2 : a - G < length (own_of G graph) = omega arith in
-    let place : G + (a - G) ≡ a = omega arith in
-    let item : slice_index_or graph.arrays a array ≡ array = get_or_from_slice_get graph.arrays a array array has in
-    get_or-map undefined (own_of G graph) (a - G) 0 [] lt2
-    ∙ ap undefined (get_or-map (λ (x : Array). x.words) (drop G graph.arrays) (a - G) array 0 lt ∙ ap (λ (x : Array). x.words) (get_or-drop G graph.arrays (a - G) array ∙ ap (λ k. slice_index_or graph.arrays k array) place ∙ item))
 
 -- nothing is known of a row that is entered
 undefined_unknown : (words : List ℕ) (k i : ℕ) (n : ℤ) → slice_index_or (row_in (map undefined words) k) i None ≡ Some n → ⊥
@@ -79,11 +68,8 @@ module _ (T : Target) (flow : Flow) (ls : List VWords) where
   abbrev pub New : (g : ℕ) → List (List Content)
   New g = map undefined (own_of Globals (T.graph g))
 
-  pub own_count : (g : ℕ) → length (New g) ≡ own_arrays T Globals g
-  own_count g = length-map (own_of Globals (T.graph g)) undefined ∙ length-map (drop Globals (T.graph g).arrays) (λ (x : Array). x.words) ∙ length-drop Globals (T.graph g).arrays
-
   pub entered_stack : (stack : List Stacked) (from : ℕ) (rows : List (List Content)) (g : ℕ) → IsFunction T flow ls g → IsStack T flow ls (from + T.frame) (length rows) stack → IsStack T flow ls from (length (rows ++ New g)) (record { function = g; frame = from; base = length rows } ∷ stack)
-  entered_stack stack from rows g is stacked = (is, refl, (let a = length-append rows (New g) in let b = own_count g in omega arith), stacked)
+  entered_stack stack from rows g is stacked = (is, refl, (let a = length-append rows (New g) in let b = own_count T Globals g in omega arith), stacked)
 
   pub entered_seated : (stack : List Stacked) (from : ℕ) (rows : List (List Content)) (memory : ℕ → ℤ) (g frame : ℕ) → IsStack T flow ls from (length rows) stack → Seated T flow.globals stack rows memory →
       Seated T flow.globals (record { function = g; frame = frame; base = length rows } ∷ stack) (rows ++ New g) memory
@@ -95,12 +81,12 @@ module _ (T : Target) (flow : Flow) (ls : List VWords) where
       sized_global : (k : ℕ) (x : Global) → slice_get flow.globals k ≡ Some x → length (row_in (rows ++ New g) k) ≡ x.words
       sized_global k x e = ap length (row_left rows (New g) k (let b = get_below flow.globals k x e in let f = globals_first T flow ls stack from (length rows) stacked in omega arith)) ∙ s.sized.global k x e
 
-      sized_own : (x : Stacked) (a : ℕ) (array : Array) → IsIn x (record { function = g; frame = frame; base = length rows } ∷ stack) → Globals ≤ a → slice_get (T.graph x.function).arrays a ≡ Some array → length (row_in (rows ++ New g) (x.base + (a - Globals))) ≡ array.words
-      sized_own x a array (inl q) le has = subst (λ (y : Stacked). slice_get (T.graph y.function).arrays a ≡ Some array → length (row_in (rows ++ New g) (y.base + (a - Globals))) ≡ array.words) (sym q) here has
+      sized_own : (x : Stacked) (j a : ℕ) (array : Array) → IsIn x (record { function = g; frame = frame; base = length rows } ∷ stack) → slice_get (own_arrays T Globals x.function) j ≡ Some a → slice_get (T.graph x.function).arrays a ≡ Some array → length (row_in (rows ++ New g) (x.base + j)) ≡ array.words
+      sized_own x j a array (inl q) own has = subst (λ (y : Stacked). slice_get (own_arrays T Globals y.function) j ≡ Some a → slice_get (T.graph y.function).arrays a ≡ Some array → length (row_in (rows ++ New g) (y.base + j)) ≡ array.words) (sym q) here own has
         where
-          here : slice_get (T.graph g).arrays a ≡ Some array → length (row_in (rows ++ New g) (length rows + (a - Globals))) ≡ array.words
-          here h = ap length (row_right rows (New g) (a - Globals) ∙ own_row Globals a (T.graph g) array le h) ∙ length-replicate array.words None
-      sized_own x a array (inr i) le has = ap length (row_left rows (New g) (x.base + (a - Globals)) (own_low T flow ls stack from (length rows) stacked x i a array le has)) ∙ s.sized.own x a array i le has
+          here : slice_get (own_arrays T Globals g) j ≡ Some a → slice_get (T.graph g).arrays a ≡ Some array → length (row_in (rows ++ New g) (length rows + j)) ≡ array.words
+          here o h = ap length (row_right rows (New g) j ∙ own_row T Globals g j a array o h) ∙ length-replicate array.words None
+      sized_own x j a array (inr i) own has = ap length (row_left rows (New g) (x.base + j) (own_low T flow ls stack from (length rows) stacked x i j a own)) ∙ s.sized.own x j a array i own has
 
       by : (k i : ℕ) (n : ℤ) → HasCell (rows ++ New g) k i → slice_index_or (row_in (rows ++ New g) k) i None ≡ Some n → (length rows ≤ k) ⊎ (k < length rows) → word_at memory (seat T flow.globals (record { function = g; frame = frame; base = length rows } ∷ stack) k + i) ≡ n
       by k i n has e (inl le) =
@@ -123,7 +109,7 @@ module _ (T : Target) (flow : Flow) (ls : List VWords) where
     returned_seated memory s = record {
       sized = record {
         global = λ k y e. ap length (same k (let b = get_below flow.globals k y e in let f = globals_first T flow ls stack (from + T.frame) x.base stacked.3 in omega arith)) ∙ s.sized.global k y e;
-        own = λ y a array i le has. ap length (same (y.base + (a - Globals)) (own_low T flow ls stack (from + T.frame) x.base stacked.3 y i a array le has)) ∙ s.sized.own y a array (inr i) le has;
+        own = λ y j a array i own has. ap length (same (y.base + j) (own_low T flow ls stack (from + T.frame) x.base stacked.3 y i j a own)) ∙ s.sized.own y j a array (inr i) own has;
       };
       known = λ k i n has e.
           (let low : k < x.base = (let t = row_there (take x.base rows) k i has in let c = returned_count in omega arith) in

@@ -14,6 +14,7 @@ use Rattle.vx_flow.specs.declared.graph.Flow.{Flow}
 use Rattle.vx_flow.specs.Effects.{Content, IsIn}
 use Rattle.vx_flow.specs.Meaning.{Active, Frame, deepest, program_run}
 use Rattle.vx_flow.specs.Sound.{is_local}
+use Rattle.vx_flow.specs.Walk.{numbers}
 use Rattle.vx_isa.specs.declared.operation.Register.TheVariants.{General, Link}
 use Rattle.vx_isa.specs.Machine.{State, register}
 use Rattle.vx_mixed.specs.declared.layout.VirtualWord.TheVariants.{Call}
@@ -87,9 +88,9 @@ pub record IsFunction (T : Target) (flow : Flow) (ls : List VWords) (f : ℕ) : 
   pub graph : slice_get flow.functions f ≡ Some (T.graph f)
   pub layout : slice_get ls f ≡ Some (T.layout f)
 
--- how many arrays of its own a function has
-abbrev pub own_arrays : Target → (globals f : ℕ) → ℕ
-own_arrays T globals f = length (T.graph f).arrays - globals
+-- the arrays of its own of a function: those behind the globals, in the order in which their rows stand
+abbrev pub own_arrays : Target → (globals f : ℕ) → List ℕ
+own_arrays T globals f = numbers globals (length (T.graph f).arrays - globals)
 
 -- the words of all globals before one
 abbrev pub words_before : List Global → ℕ → ℕ
@@ -117,7 +118,7 @@ stack_from T sp r = record { function = r.function; frame = sp; base = r.base } 
 -- first frame ends with the memory, and the arrays of the first function stand behind the globals
 abbrev pub IsStack : Target → Flow → List VWords → (from behind : ℕ) → List Stacked → Type 0
 IsStack T flow ls from behind [] = (from ≡ memory_words T) × (behind ≡ length flow.globals)
-IsStack T flow ls from behind (x ∷ xs) = IsFunction T flow ls x.function × (x.frame ≡ from) × (x.base + own_arrays T (length flow.globals) x.function ≡ behind) × IsStack T flow ls (from + T.frame) x.base xs
+IsStack T flow ls from behind (x ∷ xs) = IsFunction T flow ls x.function × (x.frame ≡ from) × (x.base + length (own_arrays T (length flow.globals) x.function) ≡ behind) × IsStack T flow ls (from + T.frame) x.base xs
 
 -- seats: where the rows of storage stand in memory
 
@@ -129,12 +130,12 @@ HasCell rows k i = i < length (row_in rows k)
 -- among the globals
 abbrev pub seat : Target → List Global → List Stacked → ℕ → ℕ
 seat T globals [] k = words_before globals k
-seat T globals (x ∷ xs) k = if nat_le x.base k then x.frame + T.array_at x.function (length globals + (k - x.base)) else seat T globals xs k
+seat T globals (x ∷ xs) k = if nat_le x.base k then x.frame + T.array_at x.function (slice_index_or (own_arrays T (length globals) x.function) (k - x.base) 0) else seat T globals xs k
 
 -- the rows have as many words as what stands in them: the globals, and the own arrays of each activation
 pub record Sized (T : Target) (globals : List Global) (stack : List Stacked) (rows : List (List Content)) : Type 0 where
   pub global : (k : ℕ) (x : Global) → slice_get globals k ≡ Some x → length (row_in rows k) ≡ x.words
-  pub own : (x : Stacked) (a : ℕ) (array : Array) → IsIn x stack → length globals ≤ a → slice_get (T.graph x.function).arrays a ≡ Some array → length (row_in rows (x.base + (a - length globals))) ≡ array.words
+  pub own : (x : Stacked) (j a : ℕ) (array : Array) → IsIn x stack → slice_get (own_arrays T (length globals) x.function) j ≡ Some a → slice_get (T.graph x.function).arrays a ≡ Some array → length (row_in rows (x.base + j)) ≡ array.words
 
 -- each row stands at its seat: what is known of its words is in memory
 pub record Seated (T : Target) (globals : List Global) (stack : List Stacked) (rows : List (List Content)) (memory : ℕ → ℤ) : Type 0 where

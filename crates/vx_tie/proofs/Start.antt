@@ -161,7 +161,7 @@ module _ (T : Target) (flow : Flow) (ls : List VWords) (w : WordProgram) (sound 
 
   globals_seated : Seated T flow.globals [] Firsts B.memory
   globals_seated = record {
-    sized = record { global = first_length; own = λ x a array i le has. absurd i };
+    sized = record { global = first_length; own = λ x j a array i own has. absurd i };
     known = λ k i n has e.
         (let c = firsts_count in
         let x = get_some flow.globals k (let t = row_there Firsts k i has in omega arith) in
