@@ -20,7 +20,7 @@ use Rattle.vx_flow.proofs.OperandLaws.{first_operand_in, second_operand_in}
 use Rattle.vx_flow.proofs.SoundLists.{any_in, any_of}
 use Rattle.vx_mixed.specs.LaidSettled.{bank_in}
 use Rattle.vx_layout.specs.Origins.{whole, whole_operand, whole_op, copy_of, ComesFrom, graph_op, copy, LaidFromGraph}
-use Rattle.vx_target.specs.Target.{Target, is_branch, is_own, holds_branch}
+use Rattle.vx_target.specs.Target.{Target, parameters_of, is_branch, is_own, holds_branch}
 use Rattle.vx_target.specs.Tied.{Itself, InFrame, places_own, has_own_place, is_place_value, is_place, kind_by, kind_of, kind_in}
 use Rattle.vx_target.proofs.Forms.{to_branch}
 use Rattle.vx_target.proofs.Proper.{PlainValue, PlainOperand, PlaceIn, ProperOp}
@@ -278,6 +278,12 @@ module _ (T : Target) (f : ℕ) (IsArray : ℕ → Type 0) (sound : Sound (T.gra
 
     pub has_whole : (v : ℕ) (b : Bank) → Has (T.graph f) v b → Has (T.graph f) (Whole v) b
     has_whole v b h = subst (λ x. Has (T.graph f) x b) (sym (whole_is v b h)) h
+
+    -- a parameter is a general value and no place
+    pub parameter_plain : (v : ℕ) → IsIn v (parameters_of T f) → PlainValue T f IsArray v
+    parameter_plain v i =
+        let w = whole_is v General (sound.parameters v i) in
+        (no_place v (λ a p. sound.place_parameter v a (subst (λ x. IsPlace (T.graph f) x a) w p) i), holds_is v General (has_whole v General (sound.parameters v i)))
 
     copy_proper : (u j k : ℕ) → Has (T.graph f) u General → ProperOp T f IsArray (Across (copy_of Count u j) u) k
     copy_proper u j k h =

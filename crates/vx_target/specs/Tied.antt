@@ -178,11 +178,11 @@ pub record Deep (T : Target) (sp active : ℕ) : Type 0 where
   pub is : sp + T.frame * active ≡ memory_words T
   pub most : active ≤ deepest
 
--- at its start: its arguments stand in the slots of its parameters, and the link is in its register
+-- at its start: the slots of its parameters show its arguments, and the link is in its register
 pub record AtEntry (T : Target) (sp : ℕ) (r : Active) (u : State) : Type 0 where
   pub block : r.block ≡ 0
   pub place : u.place ≡ T.entry r.function
-  pub values : (v : ℕ) (n : ℤ) → r.state.values v ≡ Some n → IsIn v (parameters_of T r.function) × (word_at u.memory (sp + T.slot r.function v) ≡ n)
+  pub values : (v : ℕ) (n : ℤ) → r.state.values v ≡ Some n → IsIn v (parameters_of T r.function) × Shows T sp r.function v n (word_at u.memory (sp + T.slot r.function v))
   pub link : u.registers Link ≡ wrap (pos (back_place T r.waiting))
 
 -- where the link of an active function is: in the first word of its frame, or in its register where the function calls nothing

@@ -19,7 +19,7 @@ use Rattle.vx_flow.specs.declared.graph.Exit.TheVariants.{Call as Calling}
 use Rattle.vx_flow.proofs.Members.{in_left, in_right}
 use Rattle.std.specs.List.{flat_map}
 use Rattle.vx_flow.specs.Effects.{Content, State as VState, IsIn, held, value_in}
-use Rattle.vx_flow.specs.Meaning.{Active, Body, Frame, Hop, deepest, known, with_front, undefined, own_of, setting_with, setting_of, calls, enters, entered, waits, body_hop, after_hop, next}
+use Rattle.vx_flow.specs.Meaning.{Active, Body, Frame, Hop, deepest, known, with_front, undefined, own_of, setting_with, setting_of, calls, enters, entered, at_entry, waits, body_hop, after_hop, next}
 use Rattle.vx_flow.specs.Sound.{Sound, SoundFlow, Callable, IsPlace, is_sound_flow}
 use Rattle.vx_flow.proofs.SoundFlowLaw.{told}
 use Rattle.vx_isa.specs.declared.operation.Register.{Register}
@@ -42,13 +42,13 @@ use Rattle.vx_target.specs.Carried.{Carries, IsFunctionOf, NeedsSlot, is_passed,
 use Rattle.vx_target.specs.Seats.{Seats, is_slot}
 use Rattle.vx_target.proofs.Bytes.{unsigned_small}
 use Rattle.vx_target.proofs.Calm.{seen, AllFit, after, put_at, put_off, not_stuck, effect_is}
-use Rattle.vx_target.proofs.Proper.{itself}
+use Rattle.vx_target.proofs.Proper.{itself, shows_itself}
 use Rattle.vx_target.proofs.Frames.{get_below, get_in, frame_room, link_in_frame, below_keep}
 use Rattle.vx_target.proofs.SeatRoom.{table, framed_from}
 use Rattle.vx_target.proofs.SeatSteps.{seated_on, entered_stack, entered_seated, frames_of, saved_of}
 use Rattle.vx_target.proofs.Live.{live_bank}
 use Rattle.vx_target.proofs.Names.{in_register, named, number_at, apart_mixed, not_zero, not_general, not_first_branch}
-use Rattle.vx_target.proofs.FromGraph.{branch_plain, place_made, whole_bank, has_whole, whole_is}
+use Rattle.vx_target.proofs.FromGraph.{branch_plain, parameter_plain, place_made, whole_bank, has_whole, whole_is}
 use Rattle.vx_tie.proofs.Passing.{CanFetch, OperandAt, OperandsAt, Passed as Given, pass_run}
 use Rattle.vx_tie.proofs.Simple.{few_one}
 use Rattle.vx_mixed.specs.Settled.{NoTwice}
@@ -554,6 +554,13 @@ module _ (T : Target) (flow : Flow) (ls : List VWords) (w : WordProgram) (sound 
           ∙ ap (λ b. if b then Over (Traps Depth S.out) else enters g ((laid_program flow ls).body g) ns S (Waiter ∷ r.waiting)) not_full
           ∙ ap (λ x. enters g x ns S (Waiter ∷ r.waiting)) body_is
 
+      -- the slots of the parameters show what is passed
+      passed_values : (v : ℕ) (n : ℤ) → at_entry Parameters ns v ≡ Some n → IsIn v Parameters × Shows T Base g v n (word_at G.memory (Base + T.slot g v))
+      passed_values v n e =
+          let k = passed.values v n e in
+          let p = parameter_plain T g Any (sound.graphs (T.graph g) (get_in flow.functions g (T.graph g) its.is.graph)) its.mapped.code (λ a lt. tt) v k.0 in
+          (k.0, shows_itself T Base g v n (word_at G.memory (Base + T.slot g v)) p.0 (λ b. absurd (let z : true ≡ false = sym b ∙ p.1 in cc)) k.1)
+
       called_on : CarriesOn T flow ls w r u
       called_on = record {
         after = Entered;
@@ -567,7 +574,7 @@ module _ (T : Target) (flow : Flow) (ls : List VWords) (w : WordProgram) (sound 
           calm = refl;
           deep = record { is = (let e = tied.deep.is in let b = base_is in let k : ℕ = length r.waiting in let m : T.frame * suc (suc k) ≡ T.frame * suc k + T.frame = grind arith in omega arith); most = more };
           stack = stack_g;
-          at = inl (record { block = refl; place = refl; values = passed.values; link = link_is ∙ (let q : suc p - 1 ≡ p = omega arith in ap (λ n. wrap (pos (T.back F n))) (sym q)) });
+          at = inl (record { block = refl; place = refl; values = passed_values; link = link_is ∙ (let q : suc p - 1 ≡ p = omega arith in ap (λ n. wrap (pos (T.back F n))) (sym q)) });
           passed = refl;
           stacked = subst (λ x. IsStack T flow ls Base (length Rows) (Above x)) (sym base_is) stacked;
           seated = subst (λ x. Seated T flow.globals (Above x) Rows G.memory) (sym base_is) seated;
