@@ -1,1 +1,2 @@
 pub mod SeatSteps
+pub mod Spots

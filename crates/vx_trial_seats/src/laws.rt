@@ -1,5 +1,6 @@
 // Laws of seats, each the clause of a function that does nothing.
 
+ghost use Rattle.vx_trial_seats.specs.Given.{GivenSpotsLaw, OwnSpotsLaw, OwnedLaw, SpotsApartLaw};
 ghost use Rattle.vx_trial_seats.specs.SeatLaws.{ArraysLaw, EnteredLaw, ReturnedLaw, SlotLaw, StoreLaw, TableLaw};
 
 /// Rows that are seated in a stack of activations have a table of seats: what is known of their words is in memory, within it and
@@ -31,4 +32,24 @@ pub fn returns_keep_seats()
 /// So the arrays of each activation stand in memory.
 pub fn arrays_are_seated()
     ensures { ArraysLaw }
+{}
+
+/// The own arrays of a function to which others are given stand one behind the other from its base on.
+pub fn own_arrays_stand_behind_the_base()
+    ensures { OwnSpotsLaw }
+{}
+
+/// Each array behind the globals that is not given is one of its own.
+pub fn other_arrays_are_own()
+    ensures { OwnedLaw }
+{}
+
+/// One that is given stands at the spot that is passed for it.
+pub fn given_arrays_stand_where_they_are_passed()
+    ensures { GivenSpotsLaw }
+{}
+
+/// Two arrays at one spot are one, or both are global or given, where only spots in front of the base are passed.
+pub fn own_arrays_stand_apart()
+    ensures { SpotsApartLaw }
 {}
