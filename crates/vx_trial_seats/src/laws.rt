@@ -2,6 +2,7 @@
 
 ghost use Rattle.vx_trial_seats.specs.Given.{GivenSpotsLaw, OwnSpotsLaw, OwnedLaw, SpotsApartLaw};
 ghost use Rattle.vx_trial_seats.specs.SeatLaws.{ArraysLaw, EnteredLaw, ReturnedLaw, SlotLaw, StoreLaw, TableLaw};
+ghost use Rattle.vx_trial_seats.specs.Shown.{PassedLaw, ShownLaw};
 
 /// Rows that are seated in a stack of activations have a table of seats: what is known of their words is in memory, within it and
 /// apart from each other, and apart from every link and slot of the activations; each array of each activation has its seat there.
@@ -52,4 +53,15 @@ pub fn given_arrays_stand_where_they_are_passed()
 /// Two arrays at one spot are one, or both are global or given, where only spots in front of the base are passed.
 pub fn own_arrays_stand_apart()
     ensures { SpotsApartLaw }
+{}
+
+/// What registers and slots show to an activation by the seats of its rows, they show when a function is entered above it, and when
+/// that returns.
+pub fn shown_numbers_stay()
+    ensures { ShownLaw }
+{}
+
+/// A base can be passed on: its row stands in front of those of the function that is entered, and is the one given to it.
+pub fn bases_are_passed()
+    ensures { PassedLaw }
 {}
