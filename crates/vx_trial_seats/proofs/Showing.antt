@@ -1,11 +1,11 @@
 -- What is shown by seats stays so where functions are entered and return, and a base can be passed on.
-use Rattle.std.proofs.Common.{◌≡◌, ◌<◌, ◌≤◌, ◌*◌, ℕ, ℤ, pos, List, ◌∷◌, refl, sym, ap, ◌∙◌, subst, arith}
+use Rattle.std.proofs.Common.{◌≡◌, ◌<◌, ◌*◌, ℕ, ℤ, pos, List, ◌∷◌, sym, ap, ◌∙◌, arith}
 use Rattle.vx_base.specs.Arithmetic.{sum_of}
 use Rattle.vx_flow.specs.declared.graph.Global.{Global}
 use Rattle.vx_target.specs.Target.{Target}
 use Rattle.vx_target.specs.Tied.{Stacked, seat}
 use Rattle.vx_target.proofs.SeatRoom.{seat_before}
-use Rattle.vx_trial_seats.specs.Shown.{AnyKind, Itself, InFrame, InGiven, GivenBase, AnyBase, IsShownBy, SameShown, ShownLaw, IsBase, IsPassed, PassedLaw}
+use Rattle.vx_trial_seats.specs.Shown.{AnyKind, Itself, InFrame, InGiven, GivenBase, AnyBase, IsShownBy, ShownLaw, IsPassed, PassedLaw}
 
 -- by seats that are the same in front of the end
 shown_by : (seats seats' spot : ℕ → ℕ) (end sp : ℕ) → ((k : ℕ) → k < end → seats' k ≡ seats k) → (kind : AnyKind) (n x : ℤ) → IsShownBy seats spot end sp kind n x → IsShownBy seats' spot end sp kind n x

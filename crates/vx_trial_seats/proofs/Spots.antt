@@ -1,10 +1,8 @@
 -- Spots of arrays that are given and of a function's own.
-use Rattle.std.proofs.Common.{not, ◌≡◌, ◌⊎◌, inl, inr, ⊎_elim, ◌<◌, ◌≤◌, ◌+◌, ◌-◌, ℕ, zero, suc, Bool, true, false, cond, Option, Some, None, List, [], ◌∷◌, refl, sym, ap, ◌∙◌, subst, arith}
+use Rattle.std.proofs.Common.{not, ◌≡◌, ◌⊎◌, inl, inr, ⊎_elim, ◌<◌, ◌≤◌, ◌+◌, ◌-◌, ℕ, zero, suc, Bool, true, false, cond, Option, Some, None, List, [], ◌∷◌, refl, sym, ap, ◌∙◌, arith}
 use Rattle.std.specs.Prelude.{if◌then◌else◌, slice_get, slice_index_or}
-use Rattle.std.specs.List.{filter}
 use Rattle.std.proofs.lemmas.Bool.{cases_lt, lt-ltb, le-ltb}
 use Rattle.vx_flow.specs.Meaning.{spot_in, spot_behind}
-use Rattle.vx_flow.specs.Walk.{numbers}
 use Rattle.vx_trial_seats.specs.Given.{owned, Passes, IsForeign, OwnSpotsLaw, OwnedLaw, GivenSpotsLaw, SpotsApartLaw}
 
 low : (globals base a : ℕ) (passed : List (Option ℕ)) → a < globals → spot_in globals passed base a ≡ a
