@@ -1,5 +1,0 @@
-use Rattle.vx_trial_seats.proofs.Showing.{passed_law}
-use Rattle.vx_trial_seats.proofs.laws.bases_are_passed.Goals as goal
-
-pub returns : goal.returns
-returns c = passed_law

@@ -1,5 +1,0 @@
-use Rattle.vx_trial_seats.proofs.Spots.{owned_law}
-use Rattle.vx_trial_seats.proofs.laws.other_arrays_are_own.Goals as goal
-
-pub returns : goal.returns
-returns c = owned_law

@@ -1,5 +1,0 @@
-use Rattle.vx_trial_seats.proofs.Spots.{own_spots}
-use Rattle.vx_trial_seats.proofs.laws.own_arrays_stand_behind_the_base.Goals as goal
-
-pub returns : goal.returns
-returns c = own_spots

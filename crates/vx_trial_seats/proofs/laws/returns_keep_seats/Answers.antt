@@ -1,5 +1,0 @@
-use Rattle.vx_trial_seats.proofs.SeatSteps.{returned_law}
-use Rattle.vx_trial_seats.proofs.laws.returns_keep_seats.Goals as goal
-
-pub returns : goal.returns
-returns c = returned_law

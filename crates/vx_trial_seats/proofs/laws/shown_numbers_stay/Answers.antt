@@ -1,5 +1,0 @@
-use Rattle.vx_trial_seats.proofs.Showing.{shown_law}
-use Rattle.vx_trial_seats.proofs.laws.shown_numbers_stay.Goals as goal
-
-pub returns : goal.returns
-returns c = shown_law

@@ -1,5 +1,0 @@
-use Rattle.vx_trial_seats.proofs.SeatSteps.{slot_law}
-use Rattle.vx_trial_seats.proofs.laws.slots_keep_seats.Goals as goal
-
-pub returns : goal.returns
-returns c = slot_law
