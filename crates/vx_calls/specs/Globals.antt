@@ -2,7 +2,7 @@
 use Rattle.std.specs.Prelude.{◌&&◌, ◌+◌, ◌*◌, nat_lt, if◌then◌else◌, ℕ, ℤ, Bool, List, [], ◌∷◌, ◌++◌, length}
 use Rattle.vx_flow.specs.declared.graph.Global.{Global}
 use Rattle.vx_isa.specs.Sound.{is_not_zero}
-use Rattle.vx_target.specs.Carried.{words_before}
+use Rattle.vx_target.specs.Tied.{words_before}
 
 -- where each begins, the first of them at a word
 abbrev pub begins_from : ℕ → List Global → List ℕ

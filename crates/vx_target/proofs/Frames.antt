@@ -1,12 +1,12 @@
 -- Where the words of frames are: within the memory, apart from each other and from the globals.
-use Rattle.std.proofs.Common.{◌≡◌, ◌≢◌, ◌<◌, ◌≤◌, ◌⊎◌, inl, inr, ⊎_elim, ◌+◌, ◌-◌, ◌*◌, ℕ, zero, suc, ℤ, Bool, true, false, not, ◌||◌, Option, Some, None, List, [], ◌∷◌, length, refl, sym, ap, ◌∙◌, subst, arith, ltb}
-use Rattle.std.specs.Prelude.{if◌then◌else◌, slice_get, slice_index_or}
+use Rattle.std.proofs.Common.{◌≡◌, ◌<◌, ◌≤◌, ◌⊎◌, inl, inr, ◌+◌, ◌-◌, ◌*◌, ℕ, zero, suc, ℤ, Bool, true, false, not, ◌||◌, Option, Some, None, List, [], ◌∷◌, length, refl, sym, ap, ◌∙◌, subst, arith, ltb}
+use Rattle.std.specs.Prelude.{if◌then◌else◌, slice_get}
 use Rattle.std.specs.List.{list_any}
 use Rattle.std.proofs.lemmas.Bool.{ltb-true, ltb-false}
 use Rattle.vx_flow.specs.declared.graph.Array.{Array}
 use Rattle.vx_flow.specs.declared.graph.Global.{Global}
 use Rattle.vx_flow.specs.declared.graph.Flow.{Flow}
-use Rattle.vx_flow.specs.Effects.{Content, IsIn}
+use Rattle.vx_flow.specs.Effects.{IsIn}
 use Rattle.vx_flow.specs.Meaning.{Frame, spot_of, deepest}
 use Rattle.vx_flow.specs.Sound.{is_own as is_own_array, SoundFlow}
 use Rattle.vx_flow.specs.declared.graph.Operand.{Operand}
@@ -16,9 +16,12 @@ use Rattle.vx_mixed.specs.declared.layout.VirtualWord.{VirtualWord}
 use Rattle.vx_mixed.specs.declared.layout.VirtualWord.TheVariants.{Planned, Drain, Transfer, Choice, Call, Return, Ends}
 use Rattle.vx_mixed.specs.declared.layout.VWords.{VWords}
 use Rattle.vx_mixed.specs.LaidSettled.{LeadsTo}
-use Rattle.vx_target.specs.Target.{Target, is_own, is_call_word, is_caller, past_there, past, memory_words}
-use Rattle.vx_target.specs.Tied.{Row, row_in, begins_at, Arrays, IsFunction, Below, Deep, own_arrays, word_at, link_in}
-use Rattle.vx_target.specs.Carried.{NeedsSlot, HasWord, IsFramed, words_before}
+use Rattle.vx_regs.specs.Intervals.{IsLive, is_live}
+use Rattle.vx_target.specs.Target.{Target, is_own, is_call_word, is_caller, is_slotted, kept, past_there, past, memory_words}
+use Rattle.vx_target.specs.Tied.{Stacked, waiting_above, Shows, begins_at, words_before, IsFunction, IsResult, Below, Deep, word_at, link_in}
+use Rattle.vx_target.specs.Carried.{CallsAt, IsSaved, NeedsSlot, is_saved, is_spilled, IsFramed}
+use Rattle.vx_target.specs.Seats.{Framed, is_link, is_slot}
+use Rattle.vx_target.proofs.Names.{in_register}
 
 pub get_below : {A : Type 0} (xs : List A) (i : ℕ) (x : A) → slice_get xs i ≡ Some x → i < length xs
 get_below [] i x e = absurd (cc)
@@ -84,7 +87,7 @@ before_all [] a i x e h = absurd (cc)
 before_all (g ∷ gs) zero i x e h = let q : g.words ≡ x.words = (let z : g ≡ x = cc in ap (λ y. y.words) z) in omega arith
 before_all (g ∷ gs) (suc a) i x e h = let k = before_all gs a i x e h in omega arith
 
-before_apart : (gs : List Global) (a b i j : ℕ) (x y : Global) → slice_get gs a ≡ Some x → slice_get gs b ≡ Some y → i < x.words → j < y.words → words_before gs a + i ≡ words_before gs b + j → (a ≡ b) × (i ≡ j)
+pub before_apart : (gs : List Global) (a b i j : ℕ) (x y : Global) → slice_get gs a ≡ Some x → slice_get gs b ≡ Some y → i < x.words → j < y.words → words_before gs a + i ≡ words_before gs b + j → (a ≡ b) × (i ≡ j)
 before_apart [] a b i j x y ea eb hi hj e = absurd (cc)
 before_apart (g ∷ gs) zero zero i j x y ea eb hi hj e = (refl, omega arith)
 before_apart (g ∷ gs) zero (suc b) i j x y ea eb hi hj e = absurd (let q : g.words ≡ x.words = (let z : g ≡ x = cc in ap (λ y. y.words) z) in omega arith)
@@ -163,114 +166,35 @@ module _ (T : Target) (flow : Flow) (some_frame : 1 ≤ T.frame) (globals_are : 
               spot = λ base. ap (λ b. if b then a else base + (a - Globals)) e;
             })
 
-    global_below : (a i : ℕ) (array : Array) → IsGlobal a array → i < array.words → words_before flow.globals a + i < T.globals
-    global_below a i array g lt = let k = before_all flow.globals a i g.item g.has (subst (λ n. i < n) g.words lt) in omega arith
+-- functions that wait
 
-    has_word : (a i : ℕ) (array : Array) → HasArray f a array → i < array.words → HasWord T f a i
-    has_word a i array has lt = record { array = array; is = has; below = lt }
+-- a value that is live behind a call and not its result has a slot
+pub waiting_needs : (T : Target) (f p g v : ℕ) (arguments : List Operand) (result : Option ℕ) → IsSaved T f → CallsAt T f p g arguments result → IsLive (T.layout f) (suc p) v → (IsResult result v → ⊥) → NeedsSlot T f v
+waiting_needs T f p g v arguments result saved calls live other = by (is_slotted (kept T f v)) refl
+  where
+    by : (b : Bool) → is_slotted (kept T f v) ≡ b → NeedsSlot T f v
+    by true e = is_spilled (suc p) (is_live live) e
+    by false e = let number = in_register (kept T f v) e in is_saved p g arguments result calls (saved.saves p g v arguments result calls (record { live = live; other = other; number = number.0; register = number.1 }))
 
-    pub inside : (sp k : ℕ) → Deep T sp (suc k) → (a i : ℕ) (array : Array) → HasArray f a array → i < array.words → begins_at T sp f a + i < memory_words T
-    inside sp k d a i array has lt = ⊎_elim
-        (λ g. let b = g.begins sp in let c = global_below a i array g lt in let x = above_globals sp k d in let y = frame_room sp k d in omega arith)
-        (λ l. let b = l.begins sp in let c = framed.own_to a i l.from (has_word a i array has lt) in let y = frame_room sp k d in omega arith)
-        (array_kind a array has)
-
-    pub apart : (sp k : ℕ) → Deep T sp (suc k) → (a b i j : ℕ) (x y : Array) → HasArray f a x → HasArray f b y → i < x.words → j < y.words → begins_at T sp f a + i ≡ begins_at T sp f b + j → (a ≡ b) × (i ≡ j)
-    apart sp k d a b i j x y hx hy lx ly e = ⊎_elim
-        (λ g. ⊎_elim
-        (λ h. let p = g.begins sp in let q = h.begins sp in before_apart flow.globals a b i j g.item h.item g.has h.has (subst (λ n. i < n) g.words lx) (subst (λ n. j < n) h.words ly) (omega arith))
-        (λ h. absurd (let p = g.begins sp in let q = h.begins sp in let c = global_below a i x g lx in let z = above_globals sp k d in omega arith))
-        (array_kind b y hy))
-        (λ l. ⊎_elim
-        (λ h. absurd (let p = l.begins sp in let q = h.begins sp in let c = global_below b j y h ly in let z = above_globals sp k d in omega arith))
-        (λ h. let p = l.begins sp in let q = h.begins sp in framed.own_apart a b i j l.from h.from (has_word a i x hx lx) (has_word b j y hy ly) (omega arith))
-        (array_kind b y hy))
-        (array_kind a x hx)
-
-    pub one_spot : (base : ℕ) → Globals ≤ base → (a b : ℕ) (x y : Array) → HasArray f a x → HasArray f b y → spot_of Globals base a ≡ spot_of Globals base b → a ≡ b
-    one_spot base first a b x y hx hy e = ⊎_elim
-        (λ g. ⊎_elim (λ h. sym (g.spot base) ∙ e ∙ h.spot base) (λ h. absurd (let p = g.spot base in let q = h.spot base in let c = g.below in omega arith)) (array_kind b y hy))
-        (λ l. ⊎_elim (λ h. absurd (let p = l.spot base in let q = h.spot base in let c = h.below in omega arith)) (λ h. let p = l.spot base in let q = h.spot base in let c = l.from in let z = h.from in omega arith) (array_kind b y hy))
-        (array_kind a x hx)
-
-    pub slot_free : (sp k v : ℕ) → Deep T sp (suc k) → NeedsSlot T f v → (a i : ℕ) (array : Array) → HasArray f a array → i < array.words → sp + T.slot f v ≢ begins_at T sp f a + i
-    slot_free sp k v d needs a i array has lt e = ⊎_elim
-        (λ g. let b = g.begins sp in let c = global_below a i array g lt in let x = above_globals sp k d in omega arith)
-        (λ l. let b = l.begins sp in framed.slot_own v a i needs l.from (has_word a i array has lt) (omega arith))
-        (array_kind a array has)
-
-    pub link_free : (sp k : ℕ) → Deep T sp (suc k) → (a i : ℕ) (array : Array) → HasArray f a array → i < array.words → sp ≢ begins_at T sp f a + i
-    link_free sp k d a i array has lt e = ⊎_elim
-        (λ g. let b = g.begins sp in let c = global_below a i array g lt in let x = above_globals sp k d in omega arith)
-        (λ l. let b = l.begins sp in let c = framed.own_from a i l.from (has_word a i array has lt) in omega arith)
-        (array_kind a array has)
-
-    pub above_free : (sp k x : ℕ) → Deep T sp (suc k) → sp + T.frame ≤ x → (a i : ℕ) (array : Array) → HasArray f a array → i < array.words → x ≢ begins_at T sp f a + i
-    above_free sp k x d le a i array has lt e = ⊎_elim
-        (λ g. let b = g.begins sp in let c = global_below a i array g lt in let y = above_globals sp k d in omega arith)
-        (λ l. let b = l.begins sp in let c = framed.own_to a i l.from (has_word a i array has lt) in omega arith)
-        (array_kind a array has)
-
-    -- rows of the functions that wait are no rows of the active one
-    pub waiting_row : (base j : ℕ) → Globals ≤ j → j < base → (a : ℕ) (array : Array) → HasArray f a array → j ≢ spot_of Globals base a
-    waiting_row base j from below a array has e = ⊎_elim (λ g. let p = g.spot base in let c = g.below in omega arith) (λ l. let p = l.spot base in omega arith) (array_kind a array has)
-
-    -- a global's row is where it is for every function
-    pub global_row : (memory : ℕ → ℤ) (sp base : ℕ) (rows : List (List Content)) → Arrays T Globals memory sp base f rows → (a : ℕ) (x : Global) → slice_get flow.globals a ≡ Some x → Row memory (words_before flow.globals a) x.words (row_in rows a)
-    global_row memory sp base rows arrays a x e =
-        let g = sound.globals (T.graph f) a x graph_in e in
-        by (array_kind a g.array g.is) (arrays.row a g.array g.is) (get_below flow.globals a x e)
-      where
-        by : IsGlobal a (sound.globals (T.graph f) a x graph_in e).array ⊎ IsLocal a → Row memory (begins_at T sp f a) (sound.globals (T.graph f) a x graph_in e).array.words (row_in rows (spot_of Globals base a)) → a < Globals → Row memory (words_before flow.globals a) x.words (row_in rows a)
-        by (inl g) r lt = subst (λ n. Row memory (words_before flow.globals a) n (row_in rows a)) (sound.globals (T.graph f) a x graph_in e).size
-            (subst (λ b. Row memory b (sound.globals (T.graph f) a x graph_in e).array.words (row_in rows a)) (g.begins sp)
-            (subst (λ k. Row memory (begins_at T sp f a) (sound.globals (T.graph f) a x graph_in e).array.words (row_in rows k)) (g.spot base) r))
-        by (inr l) r lt = absurd (let c = l.from in omega arith)
-
-  -- what changes globals, and the frame and rows of the active function alone, keeps the functions that wait
-  module _ (ls : List VWords) (each : (f : ℕ) → IsFunction T flow ls f → IsFramed T flow f) where
-    waits_arrays : (rows rows' : List (List Content)) (memory memory' : ℕ → ℤ) (sp base behind f : ℕ) → IsFunction T flow ls f → base + own_arrays T Globals f ≡ behind → Globals ≤ base →
-        ((a : ℕ) (x : Global) → slice_get flow.globals a ≡ Some x → Row memory' (words_before flow.globals a) x.words (row_in rows' a)) → ((j : ℕ) → Globals ≤ j → j < behind → row_in rows' j ≡ row_in rows j) → ((x : ℕ) → sp ≤ x → word_at memory' x ≡ word_at memory x) →
-        Arrays T Globals memory sp base f rows → Arrays T Globals memory' sp base f rows'
-    waits_arrays rows rows' memory memory' sp base behind f is last first globals others above arrays = record { row = λ a array has. by a array has (array_kind f ls is (each f is) a array has) }
-      where
-        by : (a : ℕ) (array : Array) → HasArray f a array → IsGlobal f ls is (each f is) a array ⊎ IsLocal f ls is (each f is) a → Row memory' (begins_at T sp f a) array.words (row_in rows' (spot_of Globals base a))
-        by a array has (inl g) =
-            subst (λ k. Row memory' (begins_at T sp f a) array.words (row_in rows' k)) (sym (g.spot base))
-            (subst (λ b. Row memory' b array.words (row_in rows' a)) (sym (g.begins sp))
-            (subst (λ n. Row memory' (words_before flow.globals a) n (row_in rows' a)) (sym g.words) (globals a g.item g.has)))
-        by a array has (inr l) =
-            let r = arrays.row a array has in
-            let b = l.begins sp in
-            let p = l.spot base in
-            let below = get_below (T.graph f).arrays a array has in
-            let from = l.from in
-            let same : row_in rows' (spot_of Globals base a) ≡ row_in rows (spot_of Globals base a) = others (spot_of Globals base a) (omega arith) (omega arith) in
-            record {
-              size = ap length same ∙ r.size;
-              is = λ i n lt e. above (begins_at T sp f a + i) (omega arith) ∙ r.is i n lt (ap (λ y. slice_index_or y i None) (sym same) ∙ e);
-            }
-
-    pub below_keep : (frs : List Frame) (rows rows' : List (List Content)) (memory memory' : ℕ → ℤ) (sp behind : ℕ) →
-        ((a : ℕ) (x : Global) → slice_get flow.globals a ≡ Some x → Row memory' (words_before flow.globals a) x.words (row_in rows' a)) → ((j : ℕ) → Globals ≤ j → j < behind → row_in rows' j ≡ row_in rows j) → ((x : ℕ) → sp + T.frame ≤ x → word_at memory' x ≡ word_at memory x) →
-        Below T flow ls rows memory sp behind frs → Below T flow ls rows' memory' sp behind frs
-    below_keep [] rows rows' memory memory' sp behind globals others above b = tt
-    below_keep (fr ∷ frs) rows rows' memory memory' sp behind globals others above b =
-        let last = b.0.last in (
-          record {
-            is = b.0.is;
-            caller = b.0.caller;
-            callee = b.0.callee;
-            arguments = b.0.arguments;
-            called = b.0.called;
-            from = b.0.from;
-            next = b.0.next;
-            values = λ v n live no_ e. let s = b.0.values v n live no_ e in record { answer = s.answer; is = above (sp + T.frame + T.slot fr.function v) (omega arith) ∙ s.is };
-            passed = b.0.passed;
-            arrays = waits_arrays rows rows' memory memory' (sp + T.frame) fr.base behind fr.function b.0.is b.0.last b.0.first globals others (λ x le. above x le) b.0.arrays;
-            first = b.0.first;
-            last = b.0.last;
-            link = above (sp + T.frame) (omega arith) ∙ b.0.link;
-          },
-          below_keep frs rows rows' memory memory' (sp + T.frame) fr.base globals (λ j le lt. others j le (omega arith)) (λ x le. above x (omega arith)) b.1,
-        )
+-- what changes no link and no slot of theirs keeps them
+pub below_keep : (T : Target) (flow : Flow) (ls : List VWords) (saved : (f : ℕ) → IsFunction T flow ls f → IsSaved T f) (frs : List Frame) (memory memory' : ℕ → ℤ) (sp : ℕ) →
+    ((x : Stacked) (word : ℕ) → IsIn x (waiting_above T sp frs) → Framed T x word → word_at memory' word ≡ word_at memory word) → Below T flow ls memory sp frs → Below T flow ls memory' sp frs
+below_keep T flow ls saved [] memory memory' sp same b = tt
+below_keep T flow ls saved (fr ∷ frs) memory memory' sp same b =
+    let here : Stacked = record { function = fr.function; frame = sp + T.frame; base = fr.base } in (
+      record {
+        is = b.0.is;
+        caller = b.0.caller;
+        callee = b.0.callee;
+        arguments = b.0.arguments;
+        called = b.0.called;
+        from = b.0.from;
+        next = b.0.next;
+        values = λ v n live other e. (let s = b.0.values v n live other e in
+            let needs = waiting_needs T fr.function b.0.caller b.0.callee v b.0.arguments fr.result (saved fr.function b.0.is) b.0.called live other in
+            subst (λ x. Shows T (sp + T.frame) fr.function v n x) (sym (same here (sp + T.frame + T.slot fr.function v) (inl refl) (is_slot v needs refl))) s);
+        passed = b.0.passed;
+        link = same here (sp + T.frame) (inl refl) (is_link refl) ∙ b.0.link;
+      },
+      below_keep T flow ls saved frs memory memory' (sp + T.frame) (λ x word i framed. same x word (inr i) framed) b.1,
+    )

@@ -20,8 +20,8 @@ use Rattle.vx_flow.proofs.OperandLaws.{first_operand_in, second_operand_in}
 use Rattle.vx_flow.proofs.SoundLists.{any_in, any_of}
 use Rattle.vx_mixed.specs.LaidSettled.{bank_in}
 use Rattle.vx_layout.specs.Origins.{whole, whole_operand, whole_op, copy_of, ComesFrom, graph_op, copy, LaidFromGraph}
-use Rattle.vx_target.specs.Target.{Target, is_branch, is_own, holds_branch}
-use Rattle.vx_target.specs.Tied.{places_own, has_own_place, is_place_value, is_place}
+use Rattle.vx_target.specs.Target.{Target, parameters_of, is_branch, is_own, holds_branch}
+use Rattle.vx_target.specs.Tied.{Itself, InFrame, places_own, has_own_place, is_place_value, is_place, kind_by, kind_of, kind_in}
 use Rattle.vx_target.proofs.Forms.{to_branch}
 use Rattle.vx_target.proofs.Proper.{PlainValue, PlainOperand, PlaceIn, ProperOp}
 
@@ -145,15 +145,15 @@ module _ (T : Target) (f : ℕ) (IsArray : ℕ → Type 0) (sound : Sound (T.gra
       let k = place_op (Whole v) o.item o.holds in
       (k.0, record { index = k.1; made = record { block = b.item; has = b.has; stands = subst (λ x. IsIn x b.item.ops) k.2 o.has }; own = k.3 })
 
-  place_is : (v a : ℕ) → IsPlace (T.graph f) (Whole v) a → is_place T f v ≡ true
+  place_is : (v a : ℕ) → IsPlace (T.graph f) (Whole v) a → kind_of T f v ≡ InFrame
   place_is v a p =
       let t : places_own (T.graph f) (Whole v) (Place (Whole v) a p.index) ≡ true = and_from (eqb (Whole v) (Whole v)) (is_local (T.graph f).arrays a) (grind (arith, nat_tests)) p.own in
-      any_of (has_own_place (T.graph f) (Whole v)) (T.graph f).blocks p.made.block p.made.has (any_of (places_own (T.graph f) (Whole v)) p.made.block.ops (Place (Whole v) a p.index) p.made.stands t)
+      ap kind_by (any_of (has_own_place (T.graph f) (Whole v)) (T.graph f).blocks p.made.block p.made.has (any_of (places_own (T.graph f) (Whole v)) p.made.block.ops (Place (Whole v) a p.index) p.made.stands t))
 
-  no_place : (v : ℕ) → ((a : ℕ) → IsPlace (T.graph f) (Whole v) a → ⊥) → is_place T f v ≡ false
-  no_place v h = false_from_ne_true (is_place T f v) (λ e. let p = place_made v e in h p.0 p.1)
+  no_place : (v : ℕ) → ((a : ℕ) → IsPlace (T.graph f) (Whole v) a → ⊥) → kind_of T f v ≡ Itself
+  no_place v h = ap kind_by (false_from_ne_true (is_place T f v) (λ e. let p = place_made v e in h p.0 p.1))
 
-  pub branch_plain : (v : ℕ) → holds_branch T f v ≡ true → is_place T f v ≡ false
+  pub branch_plain : (v : ℕ) → holds_branch T f v ≡ true → kind_of T f v ≡ Itself
   branch_plain v e = no_place v (λ a p. let h = sound.results (Place (Whole v) a p.index) (Whole v) p.made (inl refl) in let z : true ≡ false = sym e ∙ holds_is v General h in absurd (cc))
 
   -- an operation that is no access reads no place
@@ -171,7 +171,7 @@ module _ (T : Target) (f : ℕ) (IsArray : ℕ → Type 0) (sound : Sound (T.gra
   held_in : (x : Operand) (y : ℕ) → x ≡ Held y → IsIn (Whole y) (value_in (whole_operand Count x))
   held_in x y e = subst (λ z. IsIn (Whole y) (value_in (whole_operand Count z))) (sym e) (inl refl)
 
-  no_written : (v : ℕ) (op : Op) → HasOperation (T.graph f) op → IsIn (Whole v) (writes op) → ((i : Operand) (a : ℕ) → op ≡ Place (Whole v) a i → ⊥) → is_place T f v ≡ false
+  no_written : (v : ℕ) (op : Op) → HasOperation (T.graph f) op → IsIn (Whole v) (writes op) → ((i : Operand) (a : ℕ) → op ≡ Place (Whole v) a i → ⊥) → kind_of T f v ≡ Itself
   no_written v op has i h = no_place v (λ a p. let r = sound.place_written (Whole v) a op p has i in h r.0 a r.1)
 
   -- a place in an array is one where the array is the function's own
@@ -183,15 +183,15 @@ module _ (T : Target) (f : ℕ) (IsArray : ℕ → Type 0) (sound : Sound (T.gra
       held_same : (v : ℕ) → Held (Whole y) ≡ Held v → Whole y ≡ v
       held_same v e = cc
 
-      by : (b : Bool) → is_own T f a ≡ b → is_place T f y ≡ is_own T f a
+      by : (b : Bool) → is_own T f a ≡ b → kind_of T f y ≡ kind_in T f a
       by true e = ⊎_elim
           (λ n. absurd (let z : Held (Whole y) ≡ Number n.0 = n.1 in cc))
-          (λ q. place_is y a (subst (λ v. IsPlace (T.graph f) v a) (sym (held_same q.0 q.1)) q.2) ∙ sym e)
+          (λ q. place_is y a (subst (λ v. IsPlace (T.graph f) v a) (sym (held_same q.0 q.1)) q.2) ∙ sym (ap kind_by e))
           (sound.placed a (Held (Whole y)) op has k e)
       by false e = no_place y (λ b p.
           let c = one b (Held (Whole y)) (sound.place_read (Whole y) b op p has (r y refl).1).access in
           let z : is_local (T.graph f).arrays a ≡ true = ap (is_local (T.graph f).arrays) (sym c) ∙ p.own in
-          let w : true ≡ false = sym z ∙ e in absurd (cc)) ∙ sym e
+          let w : true ≡ false = sym z ∙ e in absurd (cc)) ∙ sym (ap kind_by e)
 
   module _ (arrays : (a : ℕ) → a < length (T.graph f).arrays → IsArray a) where
     access_of_load : (a b v : ℕ) (p q : Operand) (d : Bool) → IsAccess b q (Load v a p d) → b ≡ a
@@ -226,13 +226,13 @@ module _ (T : Target) (f : ℕ) (IsArray : ℕ → Type 0) (sound : Sound (T.gra
         same_array : (b : ℕ) (j : Operand) → Place (Whole v) a (whole_operand Count i) ≡ Place (Whole v) b j → a ≡ b
         same_array b j q = cc
 
-        by : (g : Op) → HasOperation (T.graph f) g → g ≡ Place (Whole v) a (whole_operand Count i) → (b : Bool) → is_own T f a ≡ b → is_place T f v ≡ is_own T f a
-        by g h eq true q = place_is v a (record { index = whole_operand Count i; made = subst (HasOperation (T.graph f)) eq h; own = q }) ∙ sym q
+        by : (g : Op) → HasOperation (T.graph f) g → g ≡ Place (Whole v) a (whole_operand Count i) → (b : Bool) → is_own T f a ≡ b → kind_of T f v ≡ kind_in T f a
+        by g h eq true q = place_is v a (record { index = whole_operand Count i; made = subst (HasOperation (T.graph f)) eq h; own = q }) ∙ sym (ap kind_by q)
         by g h eq false q = no_place v (λ b p.
             let r = sound.place_written (Whole v) b g p h (subst (λ z. IsIn (Whole v) (writes z)) (sym eq) (inl refl)) in
             let c = same_array b r.0 (sym eq ∙ r.1) in
             let z : is_local (T.graph f).arrays a ≡ true = ap (is_local (T.graph f).arrays) c ∙ p.own in
-            let w : true ≡ false = sym z ∙ q in absurd (cc)) ∙ sym q
+            let w : true ≡ false = sym z ∙ q in absurd (cc)) ∙ sym (ap kind_by q)
     graph_proper (Load v a p d) k lt origin has e =
         let o = load_origin (Whole v) a (whole_operand Count p) origin e in
         let g : Op = Load (Whole v) a (whole_operand Count p) o.0 in
@@ -279,11 +279,17 @@ module _ (T : Target) (f : ℕ) (IsArray : ℕ → Type 0) (sound : Sound (T.gra
     pub has_whole : (v : ℕ) (b : Bank) → Has (T.graph f) v b → Has (T.graph f) (Whole v) b
     has_whole v b h = subst (λ x. Has (T.graph f) x b) (sym (whole_is v b h)) h
 
+    -- a parameter is a general value and no place
+    pub parameter_plain : (v : ℕ) → IsIn v (parameters_of T f) → PlainValue T f IsArray v
+    parameter_plain v i =
+        let w = whole_is v General (sound.parameters v i) in
+        (no_place v (λ a p. sound.place_parameter v a (subst (λ x. IsPlace (T.graph f) x a) w p) i), holds_is v General (has_whole v General (sound.parameters v i)))
+
     copy_proper : (u j k : ℕ) → Has (T.graph f) u General → ProperOp T f IsArray (Across (copy_of Count u j) u) k
     copy_proper u j k h =
         let w : Whole (copy_of Count u j) ≡ Whole u = mul-add-mod_self_right (suc j) Count u in
         let a = has_whole u General h in (
-          ap (is_place_value (T.graph f)) w,
+          ap (λ x. kind_by (is_place_value (T.graph f) x)) w,
           holds_is (copy_of Count u j) General (subst (λ x. Has (T.graph f) x General) (sym w) a),
           holds_is u General a,
         )
@@ -294,7 +300,7 @@ module _ (T : Target) (f : ℕ) (IsArray : ℕ → Type 0) (sound : Sound (T.gra
     op_proper op k lt (copy {u = u} {k = j} h less) = copy_proper u j k h
 
     -- a split's test
-    pub test_proper : (test c d : ℕ) → HasExit (T.graph f) (Branches test c d) → (is_place T f test ≡ false) × (holds_branch T f test ≡ true)
+    pub test_proper : (test c d : ℕ) → HasExit (T.graph f) (Branches test c d) → (kind_of T f test ≡ Itself) × (holds_branch T f test ≡ true)
     test_proper test c d has =
         let h = has_whole test Branch (sound.exit_tests (Branches test c d) test has (inl refl)) in
         let b = holds_is test Branch h in (branch_plain test b, b)

@@ -1,6 +1,6 @@
 -- The items of a word, one after the other: what they do to values, arrays, input and output, the operations that carry them do to
 -- registers, memory, input and output.
-use Rattle.std.proofs.Common.{◌≡◌, ◌≢◌, ◌<◌, ◌≤◌, ◌⊎◌, inl, inr, ⊎_elim, ◌+◌, ℕ, ℤ, Bool, true, false, ◌||◌, not, eqb, cond, Option, Some, None, List, [], ◌∷◌, ◌++◌, refl, sym, ap, ◌∙◌, subst, arith}
+use Rattle.std.proofs.Common.{◌≡◌, ◌≢◌, ◌≤◌, ◌⊎◌, inl, inr, ⊎_elim, ◌+◌, ℕ, ℤ, Bool, true, false, ◌||◌, not, eqb, cond, Option, Some, None, List, [], ◌∷◌, ◌++◌, refl, sym, ap, ◌∙◌, subst, arith}
 use Rattle.std.specs.Prelude.{if◌then◌else◌, drop, count_by}
 use Rattle.std.specs.List.{list_any, flat_map}
 use Rattle.std.proofs.lemmas.Bool.{ne_eqb}
@@ -21,12 +21,13 @@ use Rattle.vx_mixed.specs.Meaning.{into, leaves_on, picked}
 use Rattle.vx_layout.specs.Laid.{laid_effect, laid_next}
 use Rattle.vx_mixed.specs.LaidSettled.{laid_reads, laid_writes}
 use Rattle.vx_target.specs.Target.{Target, branch_of, register_of, carried, carried_items, leads, slotted}
-use Rattle.vx_target.specs.Tied.{Shows, word_at, row_in}
+use Rattle.vx_target.specs.Tied.{Shows, HasCell, word_at}
+use Rattle.vx_target.proofs.Cells.{same_or_not, SameShape, shape_on}
 use Rattle.vx_target.proofs.Calm.{seen, put_to, put_at, put_off, given}
 use Rattle.vx_target.proofs.Forms.{one_alike, memory_on}
 use Rattle.vx_target.proofs.Proper.{ProperItems}
 use Rattle.vx_target.proofs.Reading.{Right, right_left, right_right, test_read}
-use Rattle.vx_target.proofs.Op.{same_or_not, SameShape, shape_on, Size, At, Spotted, Ready, Wrote, no_value, one_value, Done, op_done}
+use Rattle.vx_target.proofs.Op.{Standing, Ready, Wrote, no_value, one_value, Done, op_done}
 
 taken_alike : (y : Bool) (z : ℤ) → cond (is_one_there z) y (not y) ≡ is_taken y z
 taken_alike true z = by (is_one_there z) ∙ one_alike z
@@ -56,18 +57,18 @@ in_one v y xs ys e i = subst (λ z. IsIn v (z ++ ys)) e i
 is_one_of : (y : ℕ) (xs ys : List ℕ) → xs ≡ y ∷ [] → IsIn y (xs ++ ys)
 is_one_of y xs ys e = subst (λ z. IsIn y (z ++ ys)) (sym e) (inl refl)
 
-module _ (T : Target) (w : WordProgram) (f sp : ℕ) (setting : Setting) (IsArray : ℕ → Type 0) (rs ws : List ℕ) (s : VState) (u : State) (p : ℕ) where
+module _ (T : Target) (w : WordProgram) (f sp : ℕ) (setting : Setting) (seats : ℕ → ℕ) (IsArray : ℕ → Type 0) (rs ws : List ℕ) (s : VState) (u : State) (p : ℕ) where
   abbrev pub Ops : List Laid → List Operation
   Ops items = carried_items T f p rs ws items
 
   abbrev pub OpDone : Op → Operation → VState → VState → Type 0
-  OpDone op o t t1 = Done T w f sp setting IsArray rs ws s u op o t t1
+  OpDone op o t t1 = Done T w f sp setting seats IsArray rs ws s u op o t t1
 
   abbrev pub Wrought : Op → Operation → VState → VState → Type 0
-  Wrought op o t t1 = Wrote T w f sp setting IsArray rs ws s u op o t t1
+  Wrought op o t t1 = Wrote T w f sp setting seats IsArray rs ws s u op o t t1
 
   abbrev pub Shown : List (List Content) → (ℕ → ℤ) → Type 0
-  Shown rows memory = Spotted T w f sp setting IsArray rs ws s u rows memory
+  Shown rows memory = Standing T w f sp setting seats IsArray rs ws s u rows memory
 
   -- the items do something from t to t1, one after the other
   abbrev pub Ran : List Laid → VState → VState → Type 0
@@ -75,7 +76,7 @@ module _ (T : Target) (w : WordProgram) (f sp : ℕ) (setting : Setting) (IsArra
   Ran (Plain op k ∷ items) t t1 = (t' : VState) × OpDone op (carried T f rs ws k op) t t' × Ran items t' t1
   Ran (Split test y q ∷ items) t t1 = Ran items t t1
 
-  pub ran_items : Ready T w f sp setting IsArray rs ws s u → (items : List Laid) (t t1 : VState) → Right T f sp IsArray rs s u (laid_reads items) → ProperItems T f IsArray items → SameShape s.arrays t.arrays → laid_effect setting s items t ≡ Some t1 → Ran items t t1
+  pub ran_items : Ready T w f sp setting seats IsArray rs ws s u → (items : List Laid) (t t1 : VState) → Right T f sp IsArray rs s u (laid_reads items) → ProperItems T f IsArray items → SameShape s.arrays t.arrays → laid_effect setting s items t ≡ Some t1 → Ran items t t1
   ran_items ready [] t t1 right proper like e = cc
   ran_items ready (Split test y q ∷ items) t t1 right proper like e = ran_items ready items t t1 (right_right T f sp IsArray rs s u (test ∷ []) (laid_reads items) right) proper.1 like e
   ran_items ready (Plain op k ∷ items) t t1 right proper like e =
@@ -84,7 +85,7 @@ module _ (T : Target) (w : WordProgram) (f sp : ℕ) (setting : Setting) (IsArra
       by : (x : Option VState) → effect setting s op t ≡ x → into x (laid_effect setting s items) ≡ Some t1 → ((t' : VState) → SameShape s.arrays t'.arrays → laid_effect setting s items t' ≡ Some t1 → Ran items t' t1) → Ran (Plain op k ∷ items) t t1
       by None ex h more = absurd (cc)
       by (Some t') ex h more =
-          let d = op_done T w f sp setting IsArray rs ws s u ready op k t t' (right_left T f sp IsArray rs s u (reads op) (laid_reads items) right) proper.0 like ex in
+          let d = op_done T w f sp setting seats IsArray rs ws s u ready op k t t' (right_left T f sp IsArray rs s u (reads op) (laid_reads items) right) proper.0 like ex in
           (t', d, more t' (shape_on s.arrays t.arrays t'.arrays like d.shape) h)
 
   -- arrays
@@ -101,17 +102,12 @@ module _ (T : Target) (w : WordProgram) (f sp : ℕ) (setting : Setting) (IsArra
       (rows_items items r.0 t1 (memory_after u (carried T f rs ws k op ∷ []) memory) r.2 (r.1.rows memory h))
   rows_items (Split test y q ∷ items) t t1 memory r h = rows_items items t t1 memory r h
 
-  pub elsewhere_items : (x : ℕ) (items : List Laid) (t t1 : VState) (memory : ℕ → ℤ) → Ran items t t1 → ((a i : ℕ) → IsArray a → i < Size T w f sp setting IsArray rs ws s u a → x ≢ At T w f sp setting IsArray rs ws s u a i) → word_at (memory_after u (Ops items) memory) x ≡ word_at memory x
+  pub elsewhere_items : (x : ℕ) (items : List Laid) (t t1 : VState) (memory : ℕ → ℤ) → Ran items t t1 → ((k i : ℕ) → HasCell s.arrays k i → x ≢ seats k + i) → word_at (memory_after u (Ops items) memory) x ≡ word_at memory x
   elsewhere_items x [] t t1 memory r h = refl
   elsewhere_items x (Plain op k ∷ items) t t1 memory r h =
       ap (λ m. word_at m x) (memory_on u (carried T f rs ws k op) (Ops items) memory)
       ∙ elsewhere_items x items r.0 t1 (memory_after u (carried T f rs ws k op ∷ []) memory) r.2 h ∙ r.1.elsewhere x memory h
   elsewhere_items x (Split test y q ∷ items) t t1 memory r h = elsewhere_items x items t t1 memory r h
-
-  pub others_items : (j : ℕ) (items : List Laid) (t t1 : VState) → Ran items t t1 → ((a : ℕ) → IsArray a → j ≢ setting.spot a) → row_in t1.arrays j ≡ row_in t.arrays j
-  others_items j [] t t1 r h = ap (λ x. row_in x.arrays j) (sym r)
-  others_items j (Plain op k ∷ items) t t1 r h = others_items j items r.0 t1 r.2 h ∙ r.1.others j h
-  others_items j (Split test y q ∷ items) t t1 r h = others_items j items t t1 r h
 
   -- addresses and input
 

@@ -1,4 +1,5 @@
 pub mod Bytes
+pub mod Cells
 pub mod Calm
 pub mod Forms
 pub mod Proper
@@ -12,6 +13,9 @@ pub mod Word
 pub mod Names
 pub mod FromGraph
 pub mod Frames
+pub mod Owned
+pub mod SeatRoom
+pub mod SeatSteps
 pub mod FromPlace
 pub mod Stands
 pub mod Live

@@ -18,7 +18,7 @@ use Rattle.vx_regs.specs.Intervals.{IsBusy, Within}
 use Rattle.vx_regs.specs.Mapped.{InFile}
 use Rattle.vx_target.specs.Target.{Target, general, kept, is_slotted, is_branch, number_by, scratch, index_of, same_file, same_bool, home, holds_branch, branch_of, register_of, slotted}
 use Rattle.vx_target.specs.Carried.{IsMapped}
-use Rattle.vx_target.proofs.Op.{same_or_not}
+use Rattle.vx_target.proofs.Cells.{same_or_not}
 use Rattle.vx_target.proofs.Slots.{number_in}
 use Rattle.vx_target.proofs.Word.{slotted_in}
 

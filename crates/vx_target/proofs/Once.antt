@@ -7,7 +7,7 @@ use Rattle.vx_flow.specs.Effects.{IsIn}
 use Rattle.vx_mixed.specs.Settled.{NoTwice}
 use Rattle.vx_mixed.proofs.TraceFacts.{in_filter, filter_has}
 use Rattle.vx_target.specs.Target.{once}
-use Rattle.vx_target.proofs.Op.{same_or_not}
+use Rattle.vx_target.proofs.Cells.{same_or_not}
 
 eqb_self : (n : ℕ) → eqb n n ≡ true
 eqb_self n = grind (arith, nat_tests)

@@ -1,12 +1,10 @@
 -- One operation of a word: what it does to values, arrays, input and output, the operation that carries it does to registers,
 -- memory, input and output.
-use Rattle.std.proofs.Common.{◌≡◌, ◌≢◌, ◌<◌, ◌⊎◌, inl, inr, ⊎_elim, ◌+◌, ◌*◌, ◌^◌, ℕ, zero, suc, ℤ, pos, Bool, true, false, ◌&&◌, not, eqb, cond, Option, Some, None, List, [], ◌∷◌, ◌++◌, length, refl, sym, ap, ◌∙◌, subst, arith}
-use Rattle.std.specs.Prelude.{if◌then◌else◌, ◌==◌, slice_index_or, slice_set, slice_get, drop, count_by, unwrap_or}
+use Rattle.std.proofs.Common.{◌≡◌, ◌≢◌, ◌<◌, ◌⊎◌, inl, inr, ◌+◌, ◌*◌, ◌^◌, ℕ, zero, suc, ℤ, pos, Bool, true, false, ◌&&◌, not, cond, Option, Some, None, List, [], ◌∷◌, ◌++◌, length, refl, sym, ap, ◌∙◌, subst, arith}
+use Rattle.std.specs.Prelude.{if◌then◌else◌, ◌==◌, slice_index_or, slice_get, drop, count_by, unwrap_or}
 use Rattle.std.specs.Fmt.{signed_decimal}
-use Rattle.std.proofs.lemmas.Bool.{eqb-true}
-use Rattle.std.proofs.lemmas.Bool.Decides.{nat_tests}
-use Rattle.std.proofs.lemmas.List.{get_or-set_same, get_or-set_other, length-set, append-nil}
-use Rattle.vx_base.specs.Arithmetic.{value_of, one_if, compare_of, product_of}
+use Rattle.std.proofs.lemmas.List.{append-nil}
+use Rattle.vx_base.specs.Arithmetic.{sum_of, value_of, one_if, compare_of, product_of}
 use Rattle.vx_base.specs.declared.arithmetic.Code.{Code}
 use Rattle.vx_base.specs.declared.arithmetic.Code.TheVariants.{Add, Sub, And, Or, Xor, Shl, Shr, Shru, Sh2add, Max, Min, Mov, ToGeneral, ToBranch, Mpylu, Mpyhs, Div, Rem}
 use Rattle.vx_flow.specs.declared.graph.Operand.{Operand}
@@ -21,10 +19,11 @@ use Rattle.vx_isa.specs.Operations.{is_observable, destination_of}
 use Rattle.vx_isa.specs.Machine.{State, register, source, address, is_word_of, loaded, stored, number_of, memory_after, takes_input, print_of, has_bad_address, lead_of, is_one, is_left, first_of, flag}
 use Rattle.vx_isa.proofs.Lists.{count_by-cons}
 use Rattle.vx_target.specs.Target.{Target, general_of, branch_of, register_of, holds_branch, is_own, carried, source_of, access_base, access_offset, stack_on, memory_words}
-use Rattle.vx_target.specs.Tied.{IsAnswer, Shows, is_place, moved, begins_at, word_at, row_in}
+use Rattle.vx_target.specs.Tied.{Itself, IsAnswer, IsShown, Shows, HasCell, kind_by, kind_of, kind_in, begins_at, word_at, row_in}
+use Rattle.vx_target.proofs.Cells.{SameShape, same_shape, set_cell, set_shape, store_off, store_known}
 use Rattle.vx_target.proofs.Bytes.{is_word, place_with, place_alone}
 use Rattle.vx_target.proofs.Forms.{one_alike, to_branch, Plainly, Computed, computed_is}
-use Rattle.vx_target.proofs.Proper.{PlainValue, PlainOperand, PlaceIn, ProperOp}
+use Rattle.vx_target.proofs.Proper.{shows_itself, PlainValue, PlainOperand, PlaceIn, ProperOp}
 use Rattle.vx_target.proofs.Reading.{cell_known, Right, right_left, right_right, operand_read, test_read, general_read, address_read}
 
 -- what a known result says
@@ -89,74 +88,27 @@ text_alike (x ∷ xs) (suc n) = text_alike xs n
 no_count : (o : Operation) → takes_input o ≡ false → count_by takes_input (o ∷ []) ≡ 0
 no_count o e = count_by-cons takes_input o [] ∙ ap (λ b. cond b 1 0 + 0) e
 
-pub same_or_not : (a b : ℕ) → ((eqb a b ≡ true) × (a ≡ b)) ⊎ ((eqb a b ≡ false) × (a ≢ b))
-same_or_not a b = by_bool (eqb a b) refl
-  where
-    by_bool : (x : Bool) → eqb a b ≡ x → ((eqb a b ≡ true) × (a ≡ b)) ⊎ ((eqb a b ≡ false) × (a ≢ b))
-    by_bool true e = inl (e, eqb-true a b e)
-    by_bool false e = inr (e, (λ q. grind (arith, nat_tests)))
+module _ (T : Target) (w : WordProgram) (f sp : ℕ) (setting : Setting) (seats : ℕ → ℕ) (IsArray : ℕ → Type 0) (rs ws : List ℕ) (s : VState) (u : State) where
+  -- row k has a word i, which stands at a word of memory
+  abbrev pub Cell : (k i : ℕ) → Type 0
+  Cell k i = HasCell s.arrays k i
 
--- rows
+  abbrev pub At : (k i : ℕ) → ℕ
+  At k i = seats k + i
 
-pub record SameShape (rows rows' : List (List Content)) : Type 0 where
-  pub count : length rows' ≡ length rows
-  pub each : (k : ℕ) → length (row_in rows' k) ≡ length (row_in rows k)
-
-same_shape : (rows : List (List Content)) → SameShape rows rows
-same_shape rows = record { count = refl; each = λ k. refl }
-
-pub shape_on : (a b c : List (List Content)) → SameShape a b → SameShape b c → SameShape a c
-shape_on a b c x y = record { count = y.count ∙ x.count; each = λ k. y.each k ∙ x.each k }
-
-row_there : (rows : List (List Content)) (k i : ℕ) → i < length (row_in rows k) → k < length rows
-row_there [] k i lt = absurd (omega arith)
-row_there (r ∷ rows) zero i lt = omega arith
-row_there (r ∷ rows) (suc k) i lt = let h = row_there rows k i lt in omega arith
-
-abbrev set_cell : List (List Content) → ℕ → ℕ → Content → List (List Content)
-set_cell rows k i x = slice_set rows k (slice_set (row_in rows k) i x)
-
-set_at : (rows : List (List Content)) (k i : ℕ) (x : Content) → i < length (row_in rows k) → row_in (set_cell rows k i x) k ≡ slice_set (row_in rows k) i x
-set_at rows k i x lt = get_or-set_same rows k (slice_set (row_in rows k) i x) [] (row_there rows k i lt)
-
-set_off : (rows : List (List Content)) (k i j : ℕ) (x : Content) → (j ≢ k) → row_in (set_cell rows k i x) j ≡ row_in rows j
-set_off rows k i j x ne = get_or-set_other rows k j (slice_set (row_in rows k) i x) [] ne
-
-set_shape : (rows : List (List Content)) (k i : ℕ) (x : Content) → i < length (row_in rows k) → SameShape rows (set_cell rows k i x)
-set_shape rows k i x lt = record {
-  count = length-set rows k _;
-  each = λ j. ⊎_elim
-      (λ q. ap (λ y. length (row_in (set_cell rows k i x) y)) q.1 ∙ ap length (set_at rows k i x lt) ∙ length-set (row_in rows k) i x ∙ ap (λ y. length (row_in rows y)) (sym q.1))
-      (λ q. ap length (set_off rows k i j x q.1))
-      (same_or_not j k);
-}
-
-pub store_at : (m : ℕ → ℤ) (x y : ℕ) (z : ℤ) → y ≡ x → word_at (stored m (4 * x) z) y ≡ z
-store_at m x y z e = let q : eqb (4 * y) (4 * x) ≡ true = grind (arith, nat_tests) in ap (λ b. if b then z else m (4 * y)) q
-
-pub store_off : (m : ℕ → ℤ) (x y : ℕ) (z : ℤ) → (y ≢ x) → word_at (stored m (4 * x) z) y ≡ word_at m y
-store_off m x y z ne = let q : eqb (4 * y) (4 * x) ≡ false = grind (arith, nat_tests) in ap (λ b. if b then z else m (4 * y)) q
-
-module _ (T : Target) (w : WordProgram) (f sp : ℕ) (setting : Setting) (IsArray : ℕ → Type 0) (rs ws : List ℕ) (s : VState) (u : State) where
-  abbrev pub Size : ℕ → ℕ
-  Size a = length (row_in s.arrays (setting.spot a))
-
-  abbrev pub At : ℕ → ℕ → ℕ
-  At a i = begins_at T sp f a + i
-
-  -- known words of arrays stand in memory
-  abbrev pub Spotted : List (List Content) → (ℕ → ℤ) → Type 0
-  Spotted rows memory = (a i : ℕ) (n : ℤ) → IsArray a → i < Size a → slice_index_or (row_in rows (setting.spot a)) i None ≡ Some n → word_at memory (At a i) ≡ n
+  -- known words of rows stand in memory
+  abbrev pub Standing : List (List Content) → (ℕ → ℤ) → Type 0
+  Standing rows memory = (k i : ℕ) (n : ℤ) → Cell k i → slice_index_or (row_in rows k) i None ≡ Some n → word_at memory (At k i) ≡ n
 
   -- what holds before the word
   pub record Ready : Type 0 where
     pub memory : w.memory ≡ 4 * memory_words T
     pub small : 4 * memory_words T < 2 ^ 32
     pub texts : w.texts ≡ setting.texts
-    pub inside : (a i : ℕ) → IsArray a → i < Size a → At a i < memory_words T
-    pub distinct : (a b i j : ℕ) → IsArray a → IsArray b → i < Size a → j < Size b → At a i ≡ At b j → (setting.spot a ≡ setting.spot b) × (i ≡ j)
-    pub one_spot : (a b : ℕ) → IsArray a → IsArray b → setting.spot a ≡ setting.spot b → (i : ℕ) → At a i ≡ At b i
-    pub start : Spotted s.arrays u.memory
+    pub inside : (k i : ℕ) → Cell k i → At k i < memory_words T
+    pub apart : (k l i j : ℕ) → Cell k i → Cell l j → At k i ≡ At l j → (k ≡ l) × (i ≡ j)
+    pub begins : (a : ℕ) → IsArray a → begins_at T sp f a ≡ seats (setting.spot a)
+    pub start : Standing s.arrays u.memory
     pub stack : (k : ℕ) → k < T.machine.clusters → register u (General (stack_on k)) ≡ pos (4 * sp)
     pub input : u.input ≡ s.input
     pub out : u.out ≡ s.out
@@ -176,9 +128,8 @@ module _ (T : Target) (w : WordProgram) (f sp : ℕ) (setting : Setting) (IsArra
     pub input_same : is_observable o ≡ false → (t1.input ≡ t.input) × (takes_input o ≡ false)
     pub input_less : t.input ≡ s.input → t1.input ≡ drop (count_by takes_input (o ∷ [])) s.input
     pub shape : SameShape t.arrays t1.arrays
-    pub rows : (memory : ℕ → ℤ) → Spotted t.arrays memory → Spotted t1.arrays (memory_after u (o ∷ []) memory)
-    pub elsewhere : (x : ℕ) (memory : ℕ → ℤ) → ((a i : ℕ) → IsArray a → i < Size a → x ≢ At a i) → word_at (memory_after u (o ∷ []) memory) x ≡ word_at memory x
-    pub others : (k : ℕ) → ((a : ℕ) → IsArray a → k ≢ setting.spot a) → row_in t1.arrays k ≡ row_in t.arrays k
+    pub rows : (memory : ℕ → ℤ) → Standing t.arrays memory → Standing t1.arrays (memory_after u (o ∷ []) memory)
+    pub elsewhere : (x : ℕ) (memory : ℕ → ℤ) → ((k i : ℕ) → Cell k i → x ≢ At k i) → word_at (memory_after u (o ∷ []) memory) x ≡ word_at memory x
 
   -- an operation that writes a value and nothing else
   only_value : (op : Op) (o : Operation) (t : VState) (v : ℕ) (x : Content) → writes op ≡ v ∷ [] → destination_of o ≡ Some (register_of T f ws v) → Plainly w u o → ((n : ℤ) → x ≡ Some n → Shows T sp f v n (number_of w.memory u o)) → Done op o t (with_value t v x)
@@ -192,16 +143,15 @@ module _ (T : Target) (w : WordProgram) (f sp : ℕ) (setting : Setting) (IsArra
     input_same = λ e. (refl, plainly.takes);
     input_less = λ e. e ∙ ap (λ n. drop n s.input) (sym (no_count o plainly.takes));
     shape = same_shape t.arrays;
-    rows = λ memory h a i n is lt e. ap (λ g. g (4 * At a i)) (plainly.stores memory) ∙ h a i n is lt e;
+    rows = λ memory h k i n has e. ap (λ g. g (4 * At k i)) (plainly.stores memory) ∙ h k i n has e;
     elsewhere = λ y memory h. ap (λ g. g (4 * y)) (plainly.stores memory);
-    others = λ k h. refl;
   }
 
   general_to : (v : ℕ) → holds_branch T f v ≡ false → Some (General (general_of T f ws v)) ≡ Some (register_of T f ws v)
   general_to v e = ap (λ b. Some (if b then Branch (record { cluster = 0; number = branch_of T f ws v }) else General (general_of T f ws v))) (sym e)
 
   shows_plain : (v : ℕ) (n x : ℤ) → PlainValue T f IsArray v → x ≡ n → Shows T sp f v n x
-  shows_plain v n x plain e = record { answer = λ b. absurd (let z = plain.1 in cc); is = e ∙ ap (λ c. moved sp c n) (sym plain.0) }
+  shows_plain v n x plain e = shows_itself T sp f v n x plain.0 (λ b. absurd (let z = plain.1 in cc)) e
 
   abbrev pub Reads : List ℕ → Type 0
   Reads vs = Right T f sp IsArray rs s u vs
@@ -210,7 +160,7 @@ module _ (T : Target) (w : WordProgram) (f sp : ℕ) (setting : Setting) (IsArra
     read : (a : Operand) (n : ℤ) → Reads (value_in a) → PlainOperand T f IsArray a → held s a ≡ Some n → source u (source_of (general_of T f rs) a) ≡ n
     read = operand_read T f sp IsArray rs s u
 
-    compute_shows : (code : Code) (v : ℕ) (a b : Operand) (o : Operation) → Computed w u code (register_of T f ws v) (general_of T f ws v) (source_of (general_of T f rs) a) (source_of (general_of T f rs) b) o → Reads (reads (Computes code v a b)) → is_place T f v ≡ false → holds_branch T f v ≡ to_branch code → PlainOperand T f IsArray a → (is_unary code ≡ false → PlainOperand T f IsArray b) → (n : ℤ) → computed code (held s a) (held s b) ≡ Some n → Shows T sp f v n (number_of w.memory u o)
+    compute_shows : (code : Code) (v : ℕ) (a b : Operand) (o : Operation) → Computed w u code (register_of T f ws v) (general_of T f ws v) (source_of (general_of T f rs) a) (source_of (general_of T f rs) b) o → Reads (reads (Computes code v a b)) → kind_of T f v ≡ Itself → holds_branch T f v ≡ to_branch code → PlainOperand T f IsArray a → (is_unary code ≡ false → PlainOperand T f IsArray b) → (n : ℤ) → computed code (held s a) (held s b) ≡ Some n → Shows T sp f v n (number_of w.memory u o)
     compute_shows code v a b o c right place branch pa pb n e = by (is_unary code) refl
       where
         by : (unary : Bool) → is_unary code ≡ unary → Shows T sp f v n (number_of w.memory u o)
@@ -225,11 +175,10 @@ module _ (T : Target) (w : WordProgram) (f sp : ℕ) (setting : Setting) (IsArra
             let known = both_known (value_of code) (held s a) (held s b) n k in
             let ra = read a known.left (right_left T f sp IsArray rs s u (value_in a) (value_in b) r) pa known.first in
             let rb = read b known.right (right_right T f sp IsArray rs s u (value_in a) (value_in b) r) (pb q) known.second in
-            record {
-              answer = λ h. subst (λ z. (z ≡ pos 0) ⊎ (z ≡ pos 1)) (sym known.is) (answers code known.left known.right (sym branch ∙ h));
-              is = c.number ∙ ap (λ x. if x then source u (source_of (general_of T f rs) a) else value_of code (source u (source_of (general_of T f rs) a)) (source u (source_of (general_of T f rs) b))) q
-                  ∙ ap (λ x. value_of code x (source u (source_of (general_of T f rs) b))) ra ∙ ap (value_of code known.left) rb ∙ sym known.is ∙ ap (λ x. moved sp x n) (sym place);
-            }
+            shows_itself T sp f v n (number_of w.memory u o) place
+            (λ h. subst (λ z. (z ≡ pos 0) ⊎ (z ≡ pos 1)) (sym known.is) (answers code known.left known.right (sym branch ∙ h)))
+            (c.number ∙ ap (λ x. if x then source u (source_of (general_of T f rs) a) else value_of code (source u (source_of (general_of T f rs) a)) (source u (source_of (general_of T f rs) b))) q
+            ∙ ap (λ x. value_of code x (source u (source_of (general_of T f rs) b))) ra ∙ ap (value_of code known.left) rb ∙ sym known.is)
 
     compute_to : (code : Code) (v : ℕ) (o : Operation) → holds_branch T f v ≡ to_branch code → destination_of o ≡ Some (if is_unary code then General (general_of T f ws v) else register_of T f ws v) → destination_of o ≡ Some (register_of T f ws v)
     compute_to code v o branch e = by (is_unary code) refl e
@@ -238,7 +187,7 @@ module _ (T : Target) (w : WordProgram) (f sp : ℕ) (setting : Setting) (IsArra
         by true q h = h ∙ general_to v (branch ∙ unary_general code q)
         by false q h = h
 
-    select_shows : (v p : ℕ) (a b : Operand) (k : ℕ) → Reads (p ∷ (value_in a ++ value_in b)) → PlainValue T f IsArray v → is_place T f p ≡ false → holds_branch T f p ≡ true → PlainOperand T f IsArray a → PlainOperand T f IsArray b → (n : ℤ) (x : Content) → s.values p ≡ x → chosen x (held s a) (held s b) ≡ Some n →
+    select_shows : (v p : ℕ) (a b : Operand) (k : ℕ) → Reads (p ∷ (value_in a ++ value_in b)) → PlainValue T f IsArray v → kind_of T f p ≡ Itself → holds_branch T f p ≡ true → PlainOperand T f IsArray a → PlainOperand T f IsArray b → (n : ℤ) (x : Content) → s.values p ≡ x → chosen x (held s a) (held s b) ≡ Some n →
         Shows T sp f v n (if is_one (register u (Branch (record { cluster = 0; number = branch_of T f rs p }))) then source u (source_of (general_of T f rs) a) else source u (source_of (general_of T f rs) b))
     select_shows v p a b k right pv pp bp pa pb n None ex e = absurd (cc)
     select_shows v p a b k right pv pp bp pa pb n (Some z) ex e = shows_plain v n _ pv (at ∙ by (is_one z) (one_alike z))
@@ -253,32 +202,34 @@ module _ (T : Target) (w : WordProgram) (f sp : ℕ) (setting : Setting) (IsArra
         by true q = read a n (right_left T f sp IsArray rs s u (value_in a) (value_in b) more) pa (sym (ap (λ y. if y then held s a else held s b) q) ∙ e)
         by false q = read b n (right_right T f sp IsArray rs s u (value_in a) (value_in b) more) pb (sym (ap (λ y. if y then held s a else held s b) q) ∙ e)
 
-    place_shows : (v a : ℕ) (i : Operand) (k : ℕ) → Reads (value_in i) → is_place T f v ≡ is_own T f a → holds_branch T f v ≡ false → PlainOperand T f IsArray i → k < T.machine.clusters → (n : ℤ) (x : Content) → held s i ≡ x → place_of x ≡ Some n →
+    place_shows : (v a : ℕ) (i : Operand) (k : ℕ) → Reads (value_in i) → kind_of T f v ≡ kind_in T f a → holds_branch T f v ≡ false → PlainOperand T f IsArray i → k < T.machine.clusters → (n : ℤ) (x : Content) → held s i ≡ x → place_of x ≡ Some n →
         Shows T sp f v n (value_of Sh2add (source u (source_of (general_of T f rs) i)) (source u (if is_own T f a then Held (stack_on k) else Number (pos 0))))
     place_shows v a i k right place branch pi lt n None ex e = absurd (cc)
     place_shows v a i k right place branch pi lt n (Some z) ex e = record {
       answer = λ h. absurd (cc);
-      is = ap (λ y. value_of Sh2add y (source u (if is_own T f a then Held (stack_on k) else Number (pos 0)))) (read i z right pi ex) ∙ by (is_own T f a) refl;
+      is = subst (λ x. IsShown sp (kind_of T f v) n (value_of Sh2add x (source u (if is_own T f a then Held (stack_on k) else Number (pos 0))))) (sym (read i z right pi ex)) (subst (λ c. IsShown sp c n (value_of Sh2add z (source u (if is_own T f a then Held (stack_on k) else Number (pos 0))))) (sym place) (by (is_own T f a) refl));
     }
       where
         num : product_of (pos 4) z ≡ n
         num = cc
 
-        by : (own : Bool) → is_own T f a ≡ own → value_of Sh2add z (source u (if is_own T f a then Held (stack_on k) else Number (pos 0))) ≡ moved sp (is_place T f v) n
-        by true q = ap (λ b. value_of Sh2add z (source u (if b then Held (stack_on k) else Number (pos 0)))) q ∙ ap (value_of Sh2add z) (ready.stack k lt) ∙ place_with z (pos (4 * sp)) ∙ ap (λ y. moved sp true y) num ∙ ap (λ b. moved sp b n) (sym (place ∙ q))
-        by false q = ap (λ b. value_of Sh2add z (source u (if b then Held (stack_on k) else Number (pos 0)))) q ∙ place_alone z ∙ num ∙ ap (λ b. moved sp b n) (sym (place ∙ q))
+        by : (own : Bool) → is_own T f a ≡ own → IsShown sp (kind_by own) n (value_of Sh2add z (source u (if own then Held (stack_on k) else Number (pos 0))))
+        by true q = ap (value_of Sh2add z) (ready.stack k lt) ∙ place_with z (pos (4 * sp)) ∙ ap (λ y. sum_of y (pos (4 * sp))) num
+        by false q = place_alone z ∙ num
 
-    small_at : (a i : ℕ) → IsArray a → i < Size a → 4 * At a i < 2 ^ 32
-    small_at a i is lt = let b = ready.inside a i is lt in let c = ready.small in omega arith
+    small_at : (k i : ℕ) → Cell k i → 4 * At k i < 2 ^ 32
+    small_at k i has = let b = ready.inside k i has in let c = ready.small in omega arith
 
     -- the address of a word that an access meets
-    address_at : (k a i : ℕ) (p : Operand) → Reads (value_in p) → PlaceIn T f IsArray a p → k < T.machine.clusters → IsArray a → cell_of setting s a p ≡ Some i → (address u (access_base T f (general_of T f rs) k a p) (access_offset T f a p) ≡ 4 * At a i) × (i < Size a)
+    address_at : (k a i : ℕ) (p : Operand) → Reads (value_in p) → PlaceIn T f IsArray a p → k < T.machine.clusters → IsArray a → cell_of setting s a p ≡ Some i → (address u (access_base T f (general_of T f rs) k a p) (access_offset T f a p) ≡ 4 * At (setting.spot a) i) × Cell (setting.spot a) i
     address_at k a i p right place lt is e =
-        let c = cell_known (Size a) (held s p) i e in
-        (address_read T f sp IsArray rs s u ready.stack k a i (Size a) p right place lt e (small_at a i is c.below), c.below)
+        let c = cell_known (length (row_in s.arrays (setting.spot a))) (held s p) i e in
+        let b = ready.begins a is in
+        let small : 4 * (begins_at T sp f a + i) < 2 ^ 32 = subst (λ x. 4 * (x + i) < 2 ^ 32) (sym b) (small_at (setting.spot a) i c.below) in
+        (address_read T f sp IsArray rs s u ready.stack k a i (length (row_in s.arrays (setting.spot a))) p right place lt e small ∙ ap (λ x. 4 * (x + i)) b, c.below)
 
-    word_there : (a i : ℕ) → IsArray a → i < Size a → is_word_of w.memory (4 * At a i) ≡ true
-    word_there a i is lt = ap (λ n. is_word_of n (4 * At a i)) ready.memory ∙ is_word (At a i) (memory_words T) (ready.inside a i is lt)
+    word_there : (k i : ℕ) → Cell k i → is_word_of w.memory (4 * At k i) ≡ true
+    word_there k i has = ap (λ n. is_word_of n (4 * At k i)) ready.memory ∙ is_word (At k i) (memory_words T) (ready.inside k i has)
 
     load_done : (v a k : ℕ) (p : Operand) (d : Bool) (t t1 : VState) → Reads (value_in p) → ProperOp T f IsArray (Loads v a p d) k → (c : Option ℕ) → cell_of setting s a p ≡ c → loaded_there t v (row_of s (setting.spot a)) c d ≡ Some t1 → Done (Loads v a p d) (carried T f rs ws k (Loads v a p d)) t t1
     load_done v a k p false t t1 right proper None ec e = absurd (cc)
@@ -290,13 +241,13 @@ module _ (T : Target) (w : WordProgram) (f sp : ℕ) (setting : Setting) (IsArra
         let q : with_value t v (slice_index_or (row_of s (setting.spot a)) i None) ≡ t1 = cc in
         subst (Done (Loads v a p d) (carried T f rs ws k (Loads v a p d)) t) q
         (only_value (Loads v a p d) (carried T f rs ws k (Loads v a p d)) t v (slice_index_or (row_of s (setting.spot a)) i None) refl (general_to v proper.0.1) (record { bad = bad; takes = refl; prints = refl; stores = λ m. refl; leads = λ ops. refl })
-        (λ n h. shows_plain v n _ proper.0 (number ∙ ready.start a i n proper.3 at.1 h)))
+        (λ n h. shows_plain v n _ proper.0 (number ∙ ready.start (setting.spot a) i n at.1 h)))
       where
-        at : (address u (access_base T f (general_of T f rs) k a p) (access_offset T f a p) ≡ 4 * At a i) × (i < Size a)
+        at : (address u (access_base T f (general_of T f rs) k a p) (access_offset T f a p) ≡ 4 * At (setting.spot a) i) × Cell (setting.spot a) i
         at = address_at k a i p right proper.1 proper.2 proper.3 ec
 
         there : is_word_of w.memory (address u (access_base T f (general_of T f rs) k a p) (access_offset T f a p)) ≡ true
-        there = ap (is_word_of w.memory) at.0 ∙ word_there a i proper.3 at.1
+        there = ap (is_word_of w.memory) at.0 ∙ word_there (setting.spot a) i at.1
 
         not_and : (b : Bool) → (b && false) ≡ false
         not_and true = refl
@@ -305,44 +256,8 @@ module _ (T : Target) (w : WordProgram) (f sp : ℕ) (setting : Setting) (IsArra
         bad : (not d && not (is_word_of w.memory (address u (access_base T f (general_of T f rs) k a p) (access_offset T f a p)))) ≡ false
         bad = ap (λ b. not d && not b) there ∙ not_and (not d)
 
-        number : loaded w.memory u (address u (access_base T f (general_of T f rs) k a p) (access_offset T f a p)) ≡ word_at u.memory (At a i)
+        number : loaded w.memory u (address u (access_base T f (general_of T f rs) k a p) (access_offset T f a p)) ≡ word_at u.memory (At (setting.spot a) i)
         number = ap (λ b. if b then u.memory (address u (access_base T f (general_of T f rs) k a p) (access_offset T f a p)) else pos 0) there ∙ ap u.memory at.0
-
-    -- a store keeps arrays and memory in step
-    spotted_store : (a i : ℕ) (n : ℤ) (rows : List (List Content)) (memory : ℕ → ℤ) → IsArray a → i < Size a → SameShape s.arrays rows → Spotted rows memory → Spotted (set_cell rows (setting.spot a) i (Some n)) (stored memory (4 * At a i) n)
-    spotted_store a i n rows memory is lt shape h b j z isb ltb e = ⊎_elim here there (same_or_not (At b j) (At a i))
-      where
-        inside_row : i < length (row_in rows (setting.spot a))
-        inside_row = let q = shape.each (setting.spot a) in omega arith
-
-        here : (eqb (At b j) (At a i) ≡ true) × (At b j ≡ At a i) → word_at (stored memory (4 * At a i) n) (At b j) ≡ z
-        here q =
-            let d = ready.distinct b a j i isb is ltb lt q.1 in
-            let g : slice_index_or (row_in (set_cell rows (setting.spot a) i (Some n)) (setting.spot b)) j None ≡ Some n =
-            ap (λ k. slice_index_or (row_in (set_cell rows (setting.spot a) i (Some n)) k) j None) d.0
-            ∙ ap (λ r. slice_index_or r j None) (set_at rows (setting.spot a) i (Some n) inside_row)
-            ∙ ap (λ x. slice_index_or (slice_set (row_in rows (setting.spot a)) i (Some n)) x None) d.1
-            ∙ get_or-set_same (row_in rows (setting.spot a)) i (Some n) None inside_row in
-            let k : n ≡ z = cc in
-            store_at memory (At a i) (At b j) n q.1 ∙ k
-
-        other_row : (setting.spot b ≢ setting.spot a) → slice_index_or (row_in rows (setting.spot b)) j None ≡ Some z
-        other_row ne = ap (λ r. slice_index_or r j None) (sym (set_off rows (setting.spot a) i (setting.spot b) (Some n) ne)) ∙ e
-
-        same_row : setting.spot b ≡ setting.spot a → (j ≢ i) → slice_index_or (row_in rows (setting.spot b)) j None ≡ Some z
-        same_row q ne =
-            ap (λ k. slice_index_or (row_in rows k) j None) q ∙ sym (get_or-set_other (row_in rows (setting.spot a)) i j (Some n) None ne)
-            ∙ ap (λ r. slice_index_or r j None) (sym (set_at rows (setting.spot a) i (Some n) inside_row))
-            ∙ ap (λ k. slice_index_or (row_in (set_cell rows (setting.spot a) i (Some n)) k) j None) (sym q) ∙ e
-
-        same_place : setting.spot b ≡ setting.spot a → j ≡ i → At b j ≡ At a i
-        same_place r c = ready.one_spot b a isb is r j ∙ ap (At a) c
-
-        there : (eqb (At b j) (At a i) ≡ false) × (At b j ≢ At a i) → word_at (stored memory (4 * At a i) n) (At b j) ≡ z
-        there q = store_off memory (At a i) (At b j) n q.1 ∙ h b j z isb ltb (⊎_elim
-            (λ r. ⊎_elim (λ c. absurd (q.1 (same_place r.1 c.1))) (λ c. same_row r.1 c.1) (same_or_not j i))
-            (λ r. other_row r.1)
-            (same_or_not (setting.spot b) (setting.spot a)))
 
     store_done : (a k : ℕ) (p x : Operand) (t t1 : VState) → Reads (value_in p ++ value_in x) → ProperOp T f IsArray (Stores a p x) k → SameShape s.arrays t.arrays → (c : Option ℕ) → cell_of setting s a p ≡ c → (y : Content) → held s x ≡ y → stored_there t (setting.spot a) c y ≡ Some t1 → Done (Stores a p x) (carried T f rs ws k (Stores a p x)) t t1
     store_done a k p x t t1 right proper like None ec y ey e = absurd (cc)
@@ -351,7 +266,7 @@ module _ (T : Target) (w : WordProgram) (f sp : ℕ) (setting : Setting) (IsArra
         let q : with_cell t (setting.spot a) i (Some n) ≡ t1 = cc in
         subst (Done (Stores a p x) (carried T f rs ws k (Stores a p x)) t) q (record {
           wrote = no_value refl refl (λ v. refl);
-          bad = ap not (ap (is_word_of w.memory) at.0 ∙ word_there a i proper.3 at.1);
+          bad = ap not (ap (is_word_of w.memory) at.0 ∙ word_there (setting.spot a) i at.1);
           takes = λ h. absurd (cc);
           leads = λ ops. refl;
           out_same = λ h. (refl, refl);
@@ -359,12 +274,13 @@ module _ (T : Target) (w : WordProgram) (f sp : ℕ) (setting : Setting) (IsArra
           input_same = λ h. (refl, refl);
           input_less = λ h. h;
           shape = set_shape t.arrays (setting.spot a) i (Some n) row_below;
-          rows = λ memory h. subst (λ j. Spotted (set_cell t.arrays (setting.spot a) i (Some n)) (stored memory j (source u (source_of (general_of T f rs) x)))) (sym at.0) (subst (λ z. Spotted (set_cell t.arrays (setting.spot a) i (Some n)) (stored memory (4 * At a i) z)) (sym from) (spotted_store a i n t.arrays memory proper.3 at.1 like h));
-          elsewhere = λ y memory h. ap (λ j. word_at (stored memory j (source u (source_of (general_of T f rs) x))) y) at.0 ∙ store_off memory (At a i) y (source u (source_of (general_of T f rs) x)) (h a i proper.3 at.1);
-          others = λ j h. set_off t.arrays (setting.spot a) i j (Some n) (h a proper.3);
+          rows = λ memory h. subst (λ j. Standing (set_cell t.arrays (setting.spot a) i (Some n)) (stored memory j (source u (source_of (general_of T f rs) x)))) (sym at.0)
+              (subst (λ z. Standing (set_cell t.arrays (setting.spot a) i (Some n)) (stored memory (4 * At (setting.spot a) i) z)) (sym from)
+              (store_known s.arrays t.arrays seats memory (setting.spot a) i n like at.1 (λ l j there q. ready.apart l (setting.spot a) j i there at.1 q) h));
+          elsewhere = λ y memory h. ap (λ j. word_at (stored memory j (source u (source_of (general_of T f rs) x))) y) at.0 ∙ store_off memory (At (setting.spot a) i) y (source u (source_of (general_of T f rs) x)) (h (setting.spot a) i at.1);
         })
       where
-        at : (address u (access_base T f (general_of T f rs) k a p) (access_offset T f a p) ≡ 4 * At a i) × (i < Size a)
+        at : (address u (access_base T f (general_of T f rs) k a p) (access_offset T f a p) ≡ 4 * At (setting.spot a) i) × Cell (setting.spot a) i
         at = address_at k a i p (right_left T f sp IsArray rs s u (value_in p) (value_in x) right) proper.0 proper.2 proper.3 ec
 
         from : (source u (source_of (general_of T f rs) x)) ≡ n
@@ -389,7 +305,6 @@ module _ (T : Target) (w : WordProgram) (f sp : ℕ) (setting : Setting) (IsArra
           shape = same_shape t.arrays;
           rows = λ memory h. h;
           elsewhere = λ y memory h. refl;
-          others = λ j h. refl;
         })
       where
         known : (m : ℤ) → Some n ≡ Some m → n ≡ m
@@ -408,7 +323,6 @@ module _ (T : Target) (w : WordProgram) (f sp : ℕ) (setting : Setting) (IsArra
       shape = same_shape t.arrays;
       rows = λ memory h. h;
       elsewhere = λ y memory h. refl;
-      others = λ j h. refl;
     }
 
     decimal_done : (x : Operand) (k : ℕ) (t t1 : VState) → Reads (value_in x) → PlainOperand T f IsArray x → (y : Content) → held s x ≡ y → printed t s.out y ≡ Some t1 → Done (Decimal x) (carried T f rs ws k (Decimal x)) t t1
@@ -427,7 +341,6 @@ module _ (T : Target) (w : WordProgram) (f sp : ℕ) (setting : Setting) (IsArra
           shape = same_shape t.arrays;
           rows = λ memory h. h;
           elsewhere = λ y memory h. refl;
-          others = λ j h. refl;
         })
 
     more_shows : (v : ℕ) → PlainValue T f IsArray v → (n : ℤ) → Some (one_if (is_left_there s.input)) ≡ Some n → Shows T sp f v n (flag (is_left u.input))
@@ -435,8 +348,8 @@ module _ (T : Target) (w : WordProgram) (f sp : ℕ) (setting : Setting) (IsArra
         let k : one_if (is_left_there s.input) ≡ n = cc in
         shows_plain v n (flag (is_left u.input)) proper (flag_alike (is_left u.input) ∙ ap one_if (ap is_left ready.input ∙ sym (left_alike s.input)) ∙ k)
 
-    across_shows : (v y : ℕ) → Reads (y ∷ []) → is_place T f v ≡ is_place T f y → holds_branch T f v ≡ false → holds_branch T f y ≡ false → (n : ℤ) → s.values y ≡ Some n → Shows T sp f v n (register u (General (general_of T f rs y)))
-    across_shows v y right place bv by n h = record { answer = λ e. absurd (cc); is = general_read T f sp IsArray rs s u y n (is_place T f y) right refl by h ∙ ap (λ c. moved sp c n) (sym place) }
+    across_shows : (v y : ℕ) → Reads (y ∷ []) → kind_of T f v ≡ kind_of T f y → holds_branch T f v ≡ false → holds_branch T f y ≡ false → (n : ℤ) → s.values y ≡ Some n → Shows T sp f v n (register u (General (general_of T f rs y)))
+    across_shows v y right place bv by n h = record { answer = λ e. absurd (cc); is = subst (λ c. IsShown sp c n (register u (General (general_of T f rs y)))) (sym place) (general_read T f sp IsArray rs s u y n (kind_of T f y) right refl by h) }
 
     -- what the operation does
     pub op_done : (op : Op) (k : ℕ) (t t1 : VState) → Reads (reads op) → ProperOp T f IsArray op k → SameShape s.arrays t.arrays → effect setting s op t ≡ Some t1 → Done op (carried T f rs ws k op) t t1

@@ -11,9 +11,9 @@ use Rattle.vx_flow.proofs.Members.{in_left, in_right}
 use Rattle.vx_isa.specs.declared.operation.Register.TheVariants.{General, Branch}
 use Rattle.vx_isa.specs.Machine.{State, register, source, address}
 use Rattle.vx_target.specs.Target.{Target, general_of, branch_of, register_of, holds_branch, is_own, zero_on, stack_on, base_of, source_of, access_base, access_offset, bytes}
-use Rattle.vx_target.specs.Tied.{is_place, moved, Shows, begins_at}
+use Rattle.vx_target.specs.Tied.{Kind, Itself, InFrame, IsShown, Shows, kind_by, kind_of, begins_at}
 use Rattle.vx_target.proofs.Bytes.{address_is, address_then, address_of_sum}
-use Rattle.vx_target.proofs.Proper.{PlainOperand, PlaceIn}
+use Rattle.vx_target.proofs.Proper.{itself, PlainOperand, PlaceIn}
 
 -- the word of an array that a place is
 pub record CellKnown (words : ℕ) (x : Content) (i : ℕ) : Type 0 where
@@ -51,17 +51,17 @@ module _ (T : Target) (f sp : ℕ) (IsArray : ℕ → Type 0) (rs : List ℕ) (s
   pub as_branch : (v : ℕ) → holds_branch T f v ≡ true → register_of T f rs v ≡ Branch (record { cluster = 0; number = branch_of T f rs v })
   as_branch v e = ap (λ b. if b then Branch (record { cluster = 0; number = branch_of T f rs v }) else General (general_of T f rs v)) e
 
-  -- a general value, a place or not
-  pub general_read : (v : ℕ) (n : ℤ) (place : Bool) → Right (v ∷ []) → is_place T f v ≡ place → holds_branch T f v ≡ false → s.values v ≡ Some n → register u (General (general_of T f rs v)) ≡ moved sp place n
-  general_read v n place right p b e = ap (register u) (sym (as_general v b)) ∙ (right v n (inl refl) e).is ∙ ap (λ c. moved sp c n) p
+  -- a general value, of whatever kind
+  pub general_read : (v : ℕ) (n : ℤ) (kind : Kind) → Right (v ∷ []) → kind_of T f v ≡ kind → holds_branch T f v ≡ false → s.values v ≡ Some n → IsShown sp kind n (register u (General (general_of T f rs v)))
+  general_read v n kind right k b e = subst (λ c. IsShown sp c n (register u (General (general_of T f rs v)))) k (subst (λ q. IsShown sp (kind_of T f v) n (register u q)) (as_general v b) (right v n (inl refl) e).is)
 
   pub operand_read : (a : Operand) (n : ℤ) → Right (value_in a) → PlainOperand T f IsArray a → held s a ≡ Some n → source u (source_of (general_of T f rs) a) ≡ n
-  operand_read (Held v) n right plain e = general_read v n false right plain.0 plain.1 e
+  operand_read (Held v) n right plain e = general_read v n Itself right plain.0 plain.1 e
   operand_read (Number z) n right plain e = cc
   operand_read Stack n right plain e = absurd plain
 
-  pub test_read : (p : ℕ) (n : ℤ) → Right (p ∷ []) → is_place T f p ≡ false → holds_branch T f p ≡ true → s.values p ≡ Some n → register u (Branch (record { cluster = 0; number = branch_of T f rs p })) ≡ n
-  test_read p n right l b e = ap (register u) (sym (as_branch p b)) ∙ (right p n (inl refl) e).is ∙ ap (λ c. moved sp c n) l
+  pub test_read : (p : ℕ) (n : ℤ) → Right (p ∷ []) → kind_of T f p ≡ Itself → holds_branch T f p ≡ true → s.values p ≡ Some n → register u (Branch (record { cluster = 0; number = branch_of T f rs p })) ≡ n
+  test_read p n right l b e = ap (register u) (sym (as_branch p b)) ∙ itself (right p n (inl refl) e) l
 
   module _ (stack : (k : ℕ) → k < T.machine.clusters → register u (General (stack_on k)) ≡ pos (4 * sp)) where
     pub base_read : (k a : ℕ) → k < T.machine.clusters → (own : Bool) → is_own T f a ≡ own → register u (General (base_of T f k a)) ≡ (if own then pos (4 * sp) else pos 0)
@@ -79,12 +79,12 @@ module _ (T : Target) (f sp : ℕ) (IsArray : ℕ → Type 0) (rs : List ℕ) (s
         by_kind true o (Held v) right place cell =
             let c = cell_known words (s.values v) i cell in
             let b : begins_at T sp f a ≡ sp + T.array_at f a = ap (begins_by a) o in
-            let r = general_read v (pos (4 * i)) true right (place.0 ∙ o) place.1 c.is in
+            let r = general_read v (pos (4 * i)) InFrame right (place.0 ∙ ap kind_by o) place.1 c.is in
             ap (λ z. unsigned (sum_of z (bytes (T.array_at f a)))) r ∙ address_then (4 * i) (4 * sp) (4 * T.array_at f a) (omega arith) ∙ omega arith
         by_kind false o (Held v) right place cell =
             let c = cell_known words (s.values v) i cell in
             let b : begins_at T sp f a ≡ T.array_at f a = ap (begins_by a) o in
-            let r = general_read v (pos (4 * i)) false right (place.0 ∙ o) place.1 c.is in
+            let r = general_read v (pos (4 * i)) Itself right (place.0 ∙ ap kind_by o) place.1 c.is in
             ap (λ z. unsigned (sum_of z (bytes (T.array_at f a)))) r ∙ address_is (4 * i) (4 * T.array_at f a) (omega arith) ∙ omega arith
         by_kind true o (Number z) right place cell =
             let c = cell_known words (Some z) i cell in

@@ -19,7 +19,7 @@ use Rattle.vx_target.specs.Target.{Target, answer, stack_on, general_of, branch_
 use Rattle.vx_target.specs.Tied.{IsAnswer, word_at}
 use Rattle.vx_target.proofs.Calm.{seen, AllFit}
 use Rattle.vx_target.proofs.Once.{in_once, once_in}
-use Rattle.vx_target.proofs.Op.{same_or_not}
+use Rattle.vx_target.proofs.Cells.{same_or_not}
 use Rattle.vx_target.proofs.Steps.{Stands, stands_left, stands_right, Quiet, quiet_on, Comes, stay, comes_on, forth_comes, set_step, pause_step, load_step, store_step}
 
 pub in_or_not : (v : ℕ) (us : List ℕ) → IsIn v us ⊎ (IsIn v us → ⊥)

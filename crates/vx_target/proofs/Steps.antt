@@ -23,7 +23,7 @@ use Rattle.vx_target.specs.Tied.{word_at}
 use Rattle.vx_target.proofs.Bytes.{address_is, is_word}
 use Rattle.vx_target.proofs.Calm.{seen, put_to, put_at, put_off, after, AllFit, Fine, Going, word_goes}
 use Rattle.vx_target.proofs.Forms.{Plainly, memory_on}
-use Rattle.vx_target.proofs.Op.{store_at, store_off}
+use Rattle.vx_target.proofs.Cells.{store_at, store_off}
 
 -- words stand in a program from a place on
 abbrev pub Stands : List Word → ℕ → List Word → Type 0

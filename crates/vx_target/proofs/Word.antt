@@ -17,9 +17,9 @@ use Rattle.vx_mixed.specs.LaidSettled.{laid_reads, laid_writes}
 use Rattle.vx_regs.specs.declared.map.Kept.{Kept}
 use Rattle.vx_regs.specs.declared.map.Kept.TheVariants.{InRegister, InSlot, Nowhere}
 use Rattle.vx_target.specs.Target.{Target, answer, general, stack_on, kept, is_slotted, number_by, scratch, home, holds_branch, register_of, slotted, before, behind, plan_word, plan_words, past, landing_words, memory_words}
-use Rattle.vx_target.specs.Tied.{Shows, is_place, moved, holds, begins_at, word_at, row_in}
+use Rattle.vx_target.specs.Tied.{Itself, IsShown, Shows, HasCell, kind_of, holds, begins_at, word_at, row_in}
 use Rattle.vx_target.proofs.Calm.{seen, given, after, AllFit, Fine}
-use Rattle.vx_target.proofs.Proper.{ProperItems}
+use Rattle.vx_target.proofs.Proper.{itself, ProperItems}
 use Rattle.vx_target.proofs.Reading.{Right}
 use Rattle.vx_target.proofs.Op.{Ready}
 use Rattle.vx_target.proofs.Items.{Ran, ran_items, rows_items, elsewhere_items, bad_items, takes_items, stays_items, values_items, Met, met_items}
@@ -58,25 +58,25 @@ own_name T f v xs ys e =
 
 -- by way of a slot a value shows the same
 
-pub read_shows : (T : Target) (sp f v : ℕ) (n x : ℤ) → (holds_branch T f v ≡ true → is_place T f v ≡ false) → Shows T sp f v n x → Shows T sp f v n (as_read (holds_branch T f v) x)
+pub read_shows : (T : Target) (sp f v : ℕ) (n x : ℤ) → (holds_branch T f v ≡ true → kind_of T f v ≡ Itself) → Shows T sp f v n x → Shows T sp f v n (as_read (holds_branch T f v) x)
 read_shows T sp f v n x plain h = record { answer = h.answer; is = by (holds_branch T f v) refl }
   where
-    by : (b : Bool) → holds_branch T f v ≡ b → as_read b x ≡ moved sp (is_place T f v) n
+    by : (b : Bool) → holds_branch T f v ≡ b → IsShown sp (kind_of T f v) n (as_read b x)
     by false e = h.is
     by true e =
-        let one_is : x ≡ n = h.is ∙ ap (λ c. moved sp c n) (plain e) in
-        ap (as_read true) one_is ∙ read_answer true n (λ q. h.answer e) ∙ sym (ap (λ c. moved sp c n) (plain e))
+        let one_is : x ≡ n = itself h (plain e) in
+        subst (λ k. IsShown sp k n (as_read true x)) (sym (plain e)) (ap (as_read true) one_is ∙ read_answer true n (λ q. h.answer e))
 
-pub kept_shows : (T : Target) (sp f v : ℕ) (n x : ℤ) → (holds_branch T f v ≡ true → is_place T f v ≡ false) → Shows T sp f v n x → Shows T sp f v n (as_kept (holds_branch T f v) x)
+pub kept_shows : (T : Target) (sp f v : ℕ) (n x : ℤ) → (holds_branch T f v ≡ true → kind_of T f v ≡ Itself) → Shows T sp f v n x → Shows T sp f v n (as_kept (holds_branch T f v) x)
 kept_shows T sp f v n x plain h = record { answer = h.answer; is = by (holds_branch T f v) refl }
   where
-    by : (b : Bool) → holds_branch T f v ≡ b → as_kept b x ≡ moved sp (is_place T f v) n
+    by : (b : Bool) → holds_branch T f v ≡ b → IsShown sp (kind_of T f v) n (as_kept b x)
     by false e = h.is
     by true e =
-        let one_is : x ≡ n = h.is ∙ ap (λ c. moved sp c n) (plain e) in
-        ap (as_kept true) one_is ∙ kept_answer true n (λ q. h.answer e) ∙ sym (ap (λ c. moved sp c n) (plain e))
+        let one_is : x ≡ n = itself h (plain e) in
+        subst (λ k. IsShown sp k n (as_kept true x)) (sym (plain e)) (ap (as_kept true) one_is ∙ kept_answer true n (λ q. h.answer e))
 
-module _ (m : Numbers) (w : WordProgram) (fit : AllFit m w) (T : Target) (f sp p : ℕ) (size : w.memory ≡ 4 * memory_words T) (small : 4 * memory_words T < 2 ^ 32) (some : 0 < T.machine.clusters) (setting : Setting) (IsArray : ℕ → Type 0) (items : List Laid) (s : VState) (u : State) where
+module _ (m : Numbers) (w : WordProgram) (fit : AllFit m w) (T : Target) (f sp p : ℕ) (size : w.memory ≡ 4 * memory_words T) (small : 4 * memory_words T < 2 ^ 32) (some : 0 < T.machine.clusters) (setting : Setting) (seats : ℕ → ℕ) (IsArray : ℕ → Type 0) (items : List Laid) (s : VState) (u : State) where
   abbrev pub Reads : List ℕ
   Reads = laid_reads items
 
@@ -86,8 +86,8 @@ module _ (m : Numbers) (w : WordProgram) (fit : AllFit m w) (T : Target) (f sp p
   abbrev pub CanUse : List ℕ → ℕ → Type 0
   CanUse names v = Usable m w fit T f sp size small some names v
 
-  abbrev pub WordsOf : ℕ → ℕ
-  WordsOf a = length (row_in s.arrays (setting.spot a))
+  abbrev pub Cell : (k i : ℕ) → Type 0
+  Cell k i = HasCell s.arrays k i
 
   -- what holds before a planned word
   pub record Planning : Type 0 where
@@ -98,12 +98,12 @@ module _ (m : Numbers) (w : WordProgram) (fit : AllFit m w) (T : Target) (f sp p
     pub stack : (k : ℕ) → k < T.machine.clusters → register u (General (stack_on k)) ≡ pos (4 * sp)
     pub shows : (v : ℕ) (n : ℤ) → IsIn v Reads → s.values v ≡ Some n → Shows T sp f v n (holds T u sp f v)
     pub proper : ProperItems T f IsArray items
-    pub branch_plain : (v : ℕ) → holds_branch T f v ≡ true → is_place T f v ≡ false
+    pub branch_plain : (v : ℕ) → holds_branch T f v ≡ true → kind_of T f v ≡ Itself
     pub texts : w.texts ≡ setting.texts
-    pub inside : (a i : ℕ) → IsArray a → i < WordsOf a → begins_at T sp f a + i < memory_words T
-    pub distinct : (a b i j : ℕ) → IsArray a → IsArray b → i < WordsOf a → j < WordsOf b → begins_at T sp f a + i ≡ begins_at T sp f b + j → (setting.spot a ≡ setting.spot b) × (i ≡ j)
-    pub one_spot : (a b : ℕ) → IsArray a → IsArray b → setting.spot a ≡ setting.spot b → (i : ℕ) → begins_at T sp f a + i ≡ begins_at T sp f b + i
-    pub start : (a i : ℕ) (n : ℤ) → IsArray a → i < WordsOf a → slice_index_or (row_in s.arrays (setting.spot a)) i None ≡ Some n → word_at u.memory (begins_at T sp f a + i) ≡ n
+    pub inside : (k i : ℕ) → Cell k i → seats k + i < memory_words T
+    pub apart : (k l i j : ℕ) → Cell k i → Cell l j → seats k + i ≡ seats l + j → (k ≡ l) × (i ≡ j)
+    pub begins : (a : ℕ) → IsArray a → begins_at T sp f a ≡ seats (setting.spot a)
+    pub start : (k i : ℕ) (n : ℤ) → Cell k i → slice_index_or (row_in s.arrays k) i None ≡ Some n → word_at u.memory (seats k + i) ≡ n
     pub input : u.input ≡ s.input
     pub out : u.out ≡ s.out
     pub reads_usable : (v : ℕ) → IsIn v Reads → CanUse Reads v
@@ -113,7 +113,7 @@ module _ (m : Numbers) (w : WordProgram) (fit : AllFit m w) (T : Target) (f sp p
     pub writes_apart : (x y : ℕ) → IsIn x Writes → IsIn y Writes → x ≢ y → register_of T f Writes x ≢ register_of T f Writes y
     pub writes_inside : (v : ℕ) → IsIn v (slotted T f Writes) → sp + T.slot f v < memory_words T
     pub writes_slots : (x y : ℕ) → IsIn x (slotted T f Writes) → IsIn y (slotted T f Writes) → T.slot f x ≡ T.slot f y → x ≡ y
-    pub slots_free : (v a i : ℕ) → IsIn v (slotted T f Writes) → IsArray a → i < WordsOf a → sp + T.slot f v ≢ begins_at T sp f a + i
+    pub slots_free : (v k i : ℕ) → IsIn v (slotted T f Writes) → Cell k i → sp + T.slot f v ≢ seats k + i
 
   -- where the word does not touch what holds a value
   pub record Untouched (v : ℕ) : Type 0 where
@@ -121,7 +121,7 @@ module _ (m : Numbers) (w : WordProgram) (fit : AllFit m w) (T : Target) (f sp p
     pub reads_not : (y : ℕ) → is_slotted (kept T f v) ≡ false → IsIn y (slotted T f Reads) → register_of T f (v ∷ []) v ≢ register_of T f Reads y
     pub writes_not : (y : ℕ) → is_slotted (kept T f v) ≡ false → IsIn y Writes → register_of T f (v ∷ []) v ≢ register_of T f Writes y
     pub slots_not : (y : ℕ) → is_slotted (kept T f v) ≡ true → IsIn y (slotted T f Writes) → T.slot f v ≢ T.slot f y
-    pub arrays_not : (a i : ℕ) → is_slotted (kept T f v) ≡ true → IsArray a → i < WordsOf a → sp + T.slot f v ≢ begins_at T sp f a + i
+    pub arrays_not : (k i : ℕ) → is_slotted (kept T f v) ≡ true → Cell k i → sp + T.slot f v ≢ seats k + i
 
   -- what a planned word comes to
   pub record Arrived (t : VState) (q : ℕ) : Type 0 where
@@ -135,8 +135,8 @@ module _ (m : Numbers) (w : WordProgram) (fit : AllFit m w) (T : Target) (f sp p
     pub link : seen to.registers Link ≡ seen u.registers Link
     pub written : (v : ℕ) (n : ℤ) → IsIn v Writes → t.values v ≡ Some n → Shows T sp f v n (holds T to sp f v)
     pub kept_value : (v : ℕ) (n : ℤ) → Untouched v → Shows T sp f v n (holds T u sp f v) → Shows T sp f v n (holds T to sp f v)
-    pub arrays : (a i : ℕ) (n : ℤ) → IsArray a → i < WordsOf a → slice_index_or (row_in t.arrays (setting.spot a)) i None ≡ Some n → word_at to.memory (begins_at T sp f a + i) ≡ n
-    pub elsewhere : (x : ℕ) → ((a i : ℕ) → IsArray a → i < WordsOf a → x ≢ begins_at T sp f a + i) → ((v : ℕ) → IsIn v (slotted T f Writes) → x ≢ sp + T.slot f v) → word_at to.memory x ≡ word_at u.memory x
+    pub arrays : (k i : ℕ) (n : ℤ) → Cell k i → slice_index_or (row_in t.arrays k) i None ≡ Some n → word_at to.memory (seats k + i) ≡ n
+    pub elsewhere : (x : ℕ) → ((k i : ℕ) → Cell k i → x ≢ seats k + i) → ((v : ℕ) → IsIn v (slotted T f Writes) → x ≢ sp + T.slot f v) → word_at to.memory x ≡ word_at u.memory x
 
   module _ (h : Planning) where
     slot_reads : List ℕ
@@ -166,15 +166,15 @@ module _ (m : Numbers) (w : WordProgram) (fit : AllFit m w) (T : Target) (f sp p
     pub stack_first : (k : ℕ) → k < T.machine.clusters → register First (General (stack_on k)) ≡ pos (4 * sp)
     stack_first k lt = loaded.others (General (stack_on k)) (λ v i e. (h.reads_usable v (slotted_from T f v Reads i).0).not_stack k (sym e)) (stack_no_answer k) ∙ h.stack k lt
 
-    pub ready : Ready T w f sp setting IsArray Reads Writes s First
+    pub ready : Ready T w f sp setting seats IsArray Reads Writes s First
     ready = record {
       memory = size;
       small = small;
       texts = h.texts;
       inside = h.inside;
-      distinct = h.distinct;
-      one_spot = h.one_spot;
-      start = λ a i n is lt e. ap (λ g. word_at g (begins_at T sp f a + i)) loaded.memory ∙ h.start a i n is lt e;
+      apart = h.apart;
+      begins = h.begins;
+      start = λ k i n has e. ap (λ g. word_at g (seats k + i)) loaded.memory ∙ h.start k i n has e;
       stack = stack_first;
       input = loaded.quiet.input ∙ h.input;
       out = loaded.quiet.out ∙ h.out;
@@ -184,14 +184,14 @@ module _ (m : Numbers) (w : WordProgram) (fit : AllFit m w) (T : Target) (f sp p
     CodeOf = (plan_word T f p items).ops
 
     module _ (t : VState) (done : laid_effect setting s items s ≡ Some t) where
-      pub ran : Ran T w f sp setting IsArray Reads Writes s First p items s t
-      ran = ran_items T w f sp setting IsArray Reads Writes s First p ready items s t right h.proper (record { count = refl; each = λ k. refl }) done
+      pub ran : Ran T w f sp setting seats IsArray Reads Writes s First p items s t
+      ran = ran_items T w f sp setting seats IsArray Reads Writes s First p ready items s t right h.proper (record { count = refl; each = λ k. refl }) done
 
       few : count_by is_observable CodeOf ≤ 1
       few = ((fits_in_words m CodeOf).0 (fit First.place (plan_word T f p items) rest_stands.0).1).observable
 
-      pub met : Met T w f sp setting IsArray Reads Writes s First p items t
-      met = met_items T w f sp setting IsArray Reads Writes s First p items s t ran few refl refl
+      pub met : Met T w f sp setting seats IsArray Reads Writes s First p items t
+      met = met_items T w f sp setting seats IsArray Reads Writes s First p items s t ran few refl refl
 
       fine_input : (b : Bool) → (b ≡ true → is_left First.input ≡ true) → (b && not (is_left First.input)) ≡ false
       fine_input true g = ap not (g refl)
@@ -199,8 +199,8 @@ module _ (m : Numbers) (w : WordProgram) (fit : AllFit m w) (T : Target) (f sp p
 
       pub fine : Fine m w First CodeOf
       fine = record {
-        addresses = bad_items T w f sp setting IsArray Reads Writes s First p items s t ran;
-        input = fine_input (list_any takes_input CodeOf) (takes_items T w f sp setting IsArray Reads Writes s First p items s t ran);
+        addresses = bad_items T w f sp setting seats IsArray Reads Writes s First p items s t ran;
+        input = fine_input (list_any takes_input CodeOf) (takes_items T w f sp setting seats IsArray Reads Writes s First p items s t ran);
       }
 
       -- the state after the word itself, which leads to a place
@@ -211,7 +211,7 @@ module _ (m : Numbers) (w : WordProgram) (fit : AllFit m w) (T : Target) (f sp p
       second_forth to e = then_forth m w fit u First (Second to) loaded.comes (word_step m w fit First (plan_word T f p items) to loaded.quiet.calm rest_stands.0 fine e)
 
       pub second_stack : (to k : ℕ) → k < T.machine.clusters → register (Second to) (General (stack_on k)) ≡ pos (4 * sp)
-      second_stack to k lt = stays_items T w f sp setting IsArray Reads Writes s First p (General (stack_on k)) items s t First.registers ran (λ y i e. (h.writes_usable y i).not_stack k (sym e)) ∙ stack_first k lt
+      second_stack to k lt = stays_items T w f sp setting seats IsArray Reads Writes s First p (General (stack_on k)) items s t First.registers ran (λ y i e. (h.writes_usable y i).not_stack k (sym e)) ∙ stack_first k lt
 
       -- once its results in slots are stored
       module _ (to : ℕ) (last : Stored m w fit T f sp size small some Writes (Second to) (slotted T f Writes) (length (behind T f items))) where
@@ -222,7 +222,7 @@ module _ (m : Numbers) (w : WordProgram) (fit : AllFit m w) (T : Target) (f sp p
         written_then v n i e = by (is_slotted (kept T f v)) refl
           where
             good : Shows T sp f v n (seen (given First w.memory CodeOf First.registers) (register_of T f Writes v))
-            good = values_items T w f sp setting IsArray Reads Writes s First p v items s t First.registers ran (h.writes_usable v i).not_zero (λ y j ne. h.writes_apart v y i j (λ q. ne (sym q))) (inr i) n e
+            good = values_items T w f sp setting seats IsArray Reads Writes s First p v items s t First.registers ran (h.writes_usable v i).not_zero (λ y j ne. h.writes_apart v y i j (λ q. ne (sym q))) (inr i) n e
 
             by : (b : Bool) → is_slotted (kept T f v) ≡ b → Shows T sp f v n (if b then word_at last.to.memory (sp + T.slot f v) else register last.to (register_of T f (v ∷ []) v))
             by true q = subst (λ x. Shows T sp f v n x) (sym (last.at v (slotted_in T f v Writes i q))) (kept_shows T sp f v n _ (h.branch_plain v) good)
@@ -234,20 +234,20 @@ module _ (m : Numbers) (w : WordProgram) (fit : AllFit m w) (T : Target) (f sp p
             by : (b : Bool) → is_slotted (kept T f v) ≡ b → Shows T sp f v n (if b then word_at u.memory (sp + T.slot f v) else register u (register_of T f (v ∷ []) v)) → Shows T sp f v n (if b then word_at last.to.memory (sp + T.slot f v) else register last.to (register_of T f (v ∷ []) v))
             by true q g = subst (λ x. Shows T sp f v n x) (sym (
                 last.elsewhere (sp + T.slot f v) (λ y j e. free.slots_not y q j (omega arith))
-                ∙ elsewhere_items T w f sp setting IsArray Reads Writes s First p (sp + T.slot f v) items s t First.memory ran (λ a i is lt. free.arrays_not a i q is lt)
+                ∙ elsewhere_items T w f sp setting seats IsArray Reads Writes s First p (sp + T.slot f v) items s t First.memory ran (λ k i has. free.arrays_not k i q has)
                 ∙ ap (λ z. word_at z (sp + T.slot f v)) loaded.memory)) g
             by false q g = subst (λ x. Shows T sp f v n x) (sym (
                 last.others (register_of T f (v ∷ []) v) (free.answer_not q)
-                ∙ stays_items T w f sp setting IsArray Reads Writes s First p (register_of T f (v ∷ []) v) items s t First.registers ran (λ y i. free.writes_not y q i)
+                ∙ stays_items T w f sp setting seats IsArray Reads Writes s First p (register_of T f (v ∷ []) v) items s t First.registers ran (λ y i. free.writes_not y q i)
                 ∙ loaded.others (register_of T f (v ∷ []) v) (λ y j. free.reads_not y q j) (free.answer_not q))) g
 
-        pub arrays_then : (a i : ℕ) (n : ℤ) → IsArray a → i < WordsOf a → slice_index_or (row_in t.arrays (setting.spot a)) i None ≡ Some n → word_at last.to.memory (begins_at T sp f a + i) ≡ n
-        arrays_then a i n is lt e =
-            last.elsewhere (begins_at T sp f a + i) (λ v j q. h.slots_free v a i j is lt (sym q))
-            ∙ rows_items T w f sp setting IsArray Reads Writes s First p items s t First.memory ran ready.start a i n is lt e
+        pub arrays_then : (k i : ℕ) (n : ℤ) → Cell k i → slice_index_or (row_in t.arrays k) i None ≡ Some n → word_at last.to.memory (seats k + i) ≡ n
+        arrays_then k i n has e =
+            last.elsewhere (seats k + i) (λ v j q. h.slots_free v k i j has (sym q))
+            ∙ rows_items T w f sp setting seats IsArray Reads Writes s First p items s t First.memory ran ready.start k i n has e
 
-        pub elsewhere_then : (x : ℕ) → ((a i : ℕ) → IsArray a → i < WordsOf a → x ≢ begins_at T sp f a + i) → ((v : ℕ) → IsIn v (slotted T f Writes) → x ≢ sp + T.slot f v) → word_at last.to.memory x ≡ word_at u.memory x
-        elsewhere_then x free slots = last.elsewhere x slots ∙ elsewhere_items T w f sp setting IsArray Reads Writes s First p x items s t First.memory ran free ∙ ap (λ z. word_at z x) loaded.memory
+        pub elsewhere_then : (x : ℕ) → ((k i : ℕ) → Cell k i → x ≢ seats k + i) → ((v : ℕ) → IsIn v (slotted T f Writes) → x ≢ sp + T.slot f v) → word_at last.to.memory x ≡ word_at u.memory x
+        elsewhere_then x free slots = last.elsewhere x slots ∙ elsewhere_items T w f sp setting seats IsArray Reads Writes s First p x items s t First.memory ran free ∙ ap (λ z. word_at z x) loaded.memory
 
         pub arrived : (q : ℕ) → lead_of First CodeOf ≡ To to → (v : State) → Comes m w fit last.to v → v.registers ≡ last.to.registers → v.memory ≡ last.to.memory → Quiet last.to v → (v.place ≡ T.starts f q) ⊎ (v.place ≡ T.starts f (past T f q)) → Arrived t q
         arrived q lead v comes regs mem quiet place = record {
@@ -259,11 +259,11 @@ module _ (m : Numbers) (w : WordProgram) (fit : AllFit m w) (T : Target) (f sp p
           out = quiet.out ∙ last.quiet.out ∙ ap (λ ys. ys ++ flat_map (print_of w First) CodeOf) (loaded.quiet.out ∙ h.out) ∙ sym met.out;
           stack = λ k lt. ap (λ g. seen g (General (stack_on k))) regs ∙ last.others (General (stack_on k)) (stack_no_answer k) ∙ second_stack to k lt;
           link = ap (λ g. seen g Link) regs ∙ last.others Link (link_no_general answer)
-              ∙ stays_items T w f sp setting IsArray Reads Writes s First p Link items s t First.registers ran (λ y i. link_unnamed T f Writes y)
+              ∙ stays_items T w f sp setting seats IsArray Reads Writes s First p Link items s t First.registers ran (λ y i. link_unnamed T f Writes y)
               ∙ loaded.others Link (λ y i. link_unnamed T f Reads y) (link_no_general answer);
           written = λ y n i e. on y n (written_then y n i e);
           kept_value = λ y n free k. on y n (kept_then y n free k);
-          arrays = λ a i n is lt e. ap (λ g. word_at g (begins_at T sp f a + i)) mem ∙ arrays_then a i n is lt e;
+          arrays = λ k i n has e. ap (λ g. word_at g (seats k + i)) mem ∙ arrays_then k i n has e;
           elsewhere = λ x a b. ap (λ g. word_at g x) mem ∙ elsewhere_then x a b;
         }
           where

@@ -1,5 +1,5 @@
 -- When words over registers carry laid-out words over values, and the law that they then do the same.
-use Rattle.std.specs.Prelude.{◌≡◌, ◌≢◌, ◌<◌, ◌≤◌, ◌+◌, ◌*◌, ◌^◌, ◌==◌, ℕ, zero, suc, ℤ, pos, Bool, true, false, if◌then◌else◌, Option, Some, List, [], ◌∷◌, length, map, slice_get}
+use Rattle.std.specs.Prelude.{◌≡◌, ◌≢◌, ◌<◌, ◌≤◌, ◌+◌, ◌*◌, ◌^◌, ◌==◌, ℕ, suc, ℤ, pos, Bool, true, false, if◌then◌else◌, Option, Some, List, [], ◌∷◌, length, map, slice_get}
 use Rattle.vx_base.specs.Outcome.{Same, NeverFails}
 use Rattle.vx_flow.specs.declared.graph.Array.{Array}
 use Rattle.vx_flow.specs.declared.graph.Global.{Global}
@@ -30,7 +30,7 @@ use Rattle.vx_regs.specs.Intervals.{IsLive, IsBusy}
 use Rattle.vx_regs.specs.Mapped.{KeepsApart}
 use Rattle.vx_regs.specs.declared.map.Kept.TheVariants.{InRegister}
 use Rattle.vx_target.specs.Target.{Target, parameters_of, is_slotted, kept, memory_words}
-use Rattle.vx_target.specs.Tied.{IsFunction, IsResult}
+use Rattle.vx_target.specs.Tied.{IsFunction, IsResult, words_before}
 use Rattle.vx_target.specs.Placed.{IsPlaced}
 
 -- the room that a machine has for the words of a layout
@@ -91,12 +91,6 @@ pub record HasWord (T : Target) (f a i : ℕ) : Type 0 where
   pub array : Array
   pub is : slice_get (T.graph f).arrays a ≡ Some array
   pub below : i < array.words
-
--- the words of all globals before one
-abbrev pub words_before : List Global → ℕ → ℕ
-words_before [] a = 0
-words_before (g ∷ gs) zero = 0
-words_before (g ∷ gs) (suc a) = g.words + words_before gs a
 
 -- in the frame the link is the first word; slots and the function's own arrays follow, apart from each other
 pub record IsFramed (T : Target) (flow : Flow) (f : ℕ) : Type 0 where

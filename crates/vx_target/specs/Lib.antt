@@ -2,5 +2,6 @@ pub mod Target
 pub mod Tied
 pub mod Placed
 pub mod Carried
+pub mod Seats
 pub mod Finish
 pub mod Places

@@ -1,5 +1,5 @@
 -- What ties a state of laid-out words over values to a state of words over registers.
-use Rattle.std.specs.Prelude.{◌≡◌, ◌⊎◌, ◌<◌, ◌≤◌, ◌+◌, ◌*◌, ◌-◌, ◌==◌, ◌&&◌, ℕ, suc, ℤ, pos, Bool, true, false, if◌then◌else◌, Option, Some, None, List, [], ◌∷◌, length, slice_get, slice_index_or}
+use Rattle.std.specs.Prelude.{◌≡◌, ◌⊎◌, ◌<◌, ◌≤◌, ◌+◌, ◌*◌, ◌-◌, ◌==◌, ◌&&◌, ℕ, zero, suc, ℤ, nat_le, pos, Bool, true, false, if◌then◌else◌, Option, Some, None, List, [], ◌∷◌, length, slice_get, slice_index_or}
 use Rattle.std.specs.List.{list_any}
 use Rattle.vx_base.specs.Arithmetic.{sum_of, wrap}
 use Rattle.vx_base.specs.Outcome.{NeverFails}
@@ -8,11 +8,13 @@ use Rattle.vx_flow.specs.declared.graph.Op.TheVariants.{Place}
 use Rattle.vx_flow.specs.declared.graph.Operand.{Operand}
 use Rattle.vx_flow.specs.declared.graph.Array.{Array}
 use Rattle.vx_flow.specs.declared.graph.Block.{Block}
+use Rattle.vx_flow.specs.declared.graph.Global.{Global}
 use Rattle.vx_flow.specs.declared.graph.Graph.{Graph}
 use Rattle.vx_flow.specs.declared.graph.Flow.{Flow}
 use Rattle.vx_flow.specs.Effects.{Content, IsIn}
-use Rattle.vx_flow.specs.Meaning.{Active, Frame, spot_of, deepest, program_run}
+use Rattle.vx_flow.specs.Meaning.{Active, Frame, deepest, program_run}
 use Rattle.vx_flow.specs.Sound.{is_local}
+use Rattle.vx_flow.specs.Walk.{numbers}
 use Rattle.vx_isa.specs.declared.operation.Register.TheVariants.{General, Link}
 use Rattle.vx_isa.specs.Machine.{State, register}
 use Rattle.vx_mixed.specs.declared.layout.VirtualWord.TheVariants.{Call}
@@ -37,10 +39,26 @@ is_place_value g v = list_any (has_own_place g v) g.blocks
 abbrev pub is_place : Target → (function value : ℕ) → Bool
 is_place T f v = is_place_value (T.graph f) (whole (length (T.graph f).banks) v)
 
--- numbers: a place of a local array has the frame's address added, in words
+-- what shows the number of a value: the number itself, or for a place of a local array that with the frame's address added
 
-abbrev pub moved : (frame : ℕ) → (place : Bool) → ℤ → ℤ
-moved sp place n = if place then sum_of n (pos (4 * sp)) else n
+pub data Kind : Type 0 where
+  Itself : Kind
+  InFrame : Kind
+
+abbrev pub kind_by : (place : Bool) → Kind
+kind_by false = Itself
+kind_by true = InFrame
+
+abbrev pub kind_of : Target → (function value : ℕ) → Kind
+kind_of T f v = kind_by (is_place T f v)
+
+-- the kind of a place in an array
+abbrev pub kind_in : Target → (function array : ℕ) → Kind
+kind_in T f a = kind_by (is_own T f a)
+
+abbrev pub IsShown : (frame : ℕ) → Kind → (n x : ℤ) → Type 0
+IsShown sp Itself n x = x ≡ n
+IsShown sp InFrame n x = x ≡ sum_of n (pos (4 * sp))
 
 -- the word of memory with a number
 abbrev pub word_at : (ℕ → ℤ) → ℕ → ℤ
@@ -56,12 +74,7 @@ holds T u sp f v = if is_slotted (kept T f v) then word_at u.memory (sp + T.slot
 
 pub record Shows (T : Target) (sp f v : ℕ) (n x : ℤ) : Type 0 where
   pub answer : IsAnswer (holds_branch T f v) n
-  pub is : x ≡ moved sp (is_place T f v) n
-
--- the words of an array stand in memory where they are known
-pub record Row (memory : ℕ → ℤ) (at words : ℕ) (row : List Content) : Type 0 where
-  pub size : length row ≡ words
-  pub is : (i : ℕ) (n : ℤ) → i < words → slice_index_or row i None ≡ Some n → word_at memory (at + i) ≡ n
+  pub is : IsShown sp (kind_of T f v) n x
 
 abbrev pub row_in : List (List Content) → ℕ → List Content
 row_in rows a = slice_index_or rows a []
@@ -70,14 +83,64 @@ row_in rows a = slice_index_or rows a []
 abbrev pub begins_at : Target → (frame function array : ℕ) → ℕ
 begins_at T sp f a = if is_own T f a then sp + T.array_at f a else T.array_at f a
 
--- the arrays that a function sees, where its own stand from a place of the list on
-pub record Arrays (T : Target) (globals : ℕ) (memory : ℕ → ℤ) (sp base f : ℕ) (rows : List (List Content)) : Type 0 where
-  pub row : (a : ℕ) (array : Array) → slice_get (T.graph f).arrays a ≡ Some array → Row memory (begins_at T sp f a) array.words (row_in rows (spot_of globals base a))
-
 -- the function is one of the program's, with its graph and layout
 pub record IsFunction (T : Target) (flow : Flow) (ls : List VWords) (f : ℕ) : Type 0 where
   pub graph : slice_get flow.functions f ≡ Some (T.graph f)
   pub layout : slice_get ls f ≡ Some (T.layout f)
+
+-- the arrays of its own of a function: those behind the globals, in the order in which their rows stand
+abbrev pub own_arrays : Target → (globals f : ℕ) → List ℕ
+own_arrays T globals f = numbers globals (length (T.graph f).arrays - globals)
+
+-- the words of all globals before one
+abbrev pub words_before : List Global → ℕ → ℕ
+words_before [] a = 0
+words_before (g ∷ gs) zero = 0
+words_before (g ∷ gs) (suc a) = g.words + words_before gs a
+
+-- activations: the function, the word at which its frame begins, and the row with which its own arrays begin
+
+pub record Stacked : Type 0 where
+  pub function : ℕ
+  pub frame : ℕ
+  pub base : ℕ
+
+-- those that wait, above a frame; with the active one, the latest first
+abbrev pub waiting_above : Target → (frame : ℕ) → List Frame → List Stacked
+waiting_above T sp [] = []
+waiting_above T sp (fr ∷ frs) = record { function = fr.function; frame = sp + T.frame; base = fr.base } ∷ waiting_above T (sp + T.frame) frs
+
+abbrev pub stack_from : Target → (frame : ℕ) → Active → List Stacked
+stack_from T sp r = record { function = r.function; frame = sp; base = r.base } ∷ waiting_above T sp r.waiting
+
+-- activations, the latest first, whose frames begin at word `from` and whose rows end in front of row `behind`: each is of a function
+-- of the program, its frame stands directly below that of its caller, and its own arrays directly behind those of its caller. The
+-- first frame ends with the memory, and the arrays of the first function stand behind the globals
+abbrev pub IsStack : Target → Flow → List VWords → (from behind : ℕ) → List Stacked → Type 0
+IsStack T flow ls from behind [] = (from ≡ memory_words T) × (behind ≡ length flow.globals)
+IsStack T flow ls from behind (x ∷ xs) = IsFunction T flow ls x.function × (x.frame ≡ from) × (x.base + length (own_arrays T (length flow.globals) x.function) ≡ behind) × IsStack T flow ls (from + T.frame) x.base xs
+
+-- seats: where the rows of storage stand in memory
+
+-- row k has a word i
+abbrev pub HasCell : List (List Content) → (k i : ℕ) → Type 0
+HasCell rows k i = i < length (row_in rows k)
+
+-- the seat of row k: in the frame of the latest activation whose own arrays begin with that row or before it; where there is none,
+-- among the globals
+abbrev pub seat : Target → List Global → List Stacked → ℕ → ℕ
+seat T globals [] k = words_before globals k
+seat T globals (x ∷ xs) k = if nat_le x.base k then x.frame + T.array_at x.function (slice_index_or (own_arrays T (length globals) x.function) (k - x.base) 0) else seat T globals xs k
+
+-- the rows have as many words as what stands in them: the globals, and the own arrays of each activation
+pub record Sized (T : Target) (globals : List Global) (stack : List Stacked) (rows : List (List Content)) : Type 0 where
+  pub global : (k : ℕ) (x : Global) → slice_get globals k ≡ Some x → length (row_in rows k) ≡ x.words
+  pub own : (x : Stacked) (j a : ℕ) (array : Array) → IsIn x stack → slice_get (own_arrays T (length globals) x.function) j ≡ Some a → slice_get (T.graph x.function).arrays a ≡ Some array → length (row_in rows (x.base + j)) ≡ array.words
+
+-- each row stands at its seat: what is known of its words is in memory
+pub record Seated (T : Target) (globals : List Global) (stack : List Stacked) (rows : List (List Content)) (memory : ℕ → ℤ) : Type 0 where
+  pub sized : Sized T globals stack rows
+  pub known : (k i : ℕ) (n : ℤ) → HasCell rows k i → slice_index_or (row_in rows k) i None ≡ Some n → word_at memory (seat T globals stack k + i) ≡ n
 
 -- frames that wait
 
@@ -90,13 +153,8 @@ abbrev pub IsResult : Option ℕ → ℕ → Type 0
 IsResult None v = ⊥
 IsResult (Some r) v = v ≡ r
 
--- how many arrays of its own a function has
-abbrev pub own_arrays : Target → (globals f : ℕ) → ℕ
-own_arrays T globals f = length (T.graph f).arrays - globals
-
--- a function that waits: its values live behind the call stand in their slots; it was passed no arrays, and its own end where those
--- of the function that it called begin
-pub record Waits (T : Target) (flow : Flow) (ls : List VWords) (rows : List (List Content)) (memory : ℕ → ℤ) (sp behind : ℕ) (fr : Frame) (frs : List Frame) : Type 0 where
+-- a function that waits: its values live behind the call stand in their slots, and it was passed no arrays
+pub record Waits (T : Target) (flow : Flow) (ls : List VWords) (memory : ℕ → ℤ) (sp : ℕ) (fr : Frame) (frs : List Frame) : Type 0 where
   pub is : IsFunction T flow ls fr.function
   pub caller : ℕ
   pub callee : ℕ
@@ -106,15 +164,12 @@ pub record Waits (T : Target) (flow : Flow) (ls : List VWords) (rows : List (Lis
   pub next : fr.next ≡ suc (suc caller)
   pub values : (v : ℕ) (n : ℤ) → IsLive (T.layout fr.function) (suc caller) v → (IsResult fr.result v → ⊥) → fr.values v ≡ Some n → Shows T sp fr.function v n (word_at memory (sp + T.slot fr.function v))
   pub passed : fr.passed ≡ []
-  pub arrays : Arrays T (length flow.globals) memory sp fr.base fr.function rows
-  pub first : length flow.globals ≤ fr.base
-  pub last : fr.base + own_arrays T (length flow.globals) fr.function ≡ behind
   pub link : word_at memory sp ≡ wrap (pos (back_place T frs))
 
--- those that wait, the latest first, where the arrays of the function below them begin at `behind`
-abbrev pub Below : Target → Flow → List VWords → List (List Content) → (ℕ → ℤ) → (frame behind : ℕ) → List Frame → Type 0
-Below T flow ls rows memory sp behind [] = Unit {0}
-Below T flow ls rows memory sp behind (fr ∷ frs) = Waits T flow ls rows memory (sp + T.frame) behind fr frs × Below T flow ls rows memory (sp + T.frame) fr.base frs
+-- those that wait, the latest first
+abbrev pub Below : Target → Flow → List VWords → (ℕ → ℤ) → (frame : ℕ) → List Frame → Type 0
+Below T flow ls memory sp [] = Unit {0}
+Below T flow ls memory sp (fr ∷ frs) = Waits T flow ls memory (sp + T.frame) fr frs × Below T flow ls memory (sp + T.frame) frs
 
 -- the active function
 
@@ -123,11 +178,11 @@ pub record Deep (T : Target) (sp active : ℕ) : Type 0 where
   pub is : sp + T.frame * active ≡ memory_words T
   pub most : active ≤ deepest
 
--- at its start: its arguments stand in the slots of its parameters, and the link is in its register
+-- at its start: the slots of its parameters show its arguments, and the link is in its register
 pub record AtEntry (T : Target) (sp : ℕ) (r : Active) (u : State) : Type 0 where
   pub block : r.block ≡ 0
   pub place : u.place ≡ T.entry r.function
-  pub values : (v : ℕ) (n : ℤ) → r.state.values v ≡ Some n → IsIn v (parameters_of T r.function) × (word_at u.memory (sp + T.slot r.function v) ≡ n)
+  pub values : (v : ℕ) (n : ℤ) → r.state.values v ≡ Some n → IsIn v (parameters_of T r.function) × Shows T sp r.function v n (word_at u.memory (sp + T.slot r.function v))
   pub link : u.registers Link ≡ wrap (pos (back_place T r.waiting))
 
 -- where the link of an active function is: in the first word of its frame, or in its register where the function calls nothing
@@ -152,10 +207,10 @@ pub record Tied (T : Target) (flow : Flow) (ls : List VWords) (r : Active) (u : 
   pub at : AtEntry T sp r u ⊎ ((p : ℕ) × AtWord T sp p r u)
   -- it was passed no arrays
   pub passed : r.passed ≡ []
-  pub arrays : Arrays T (length flow.globals) u.memory sp r.base r.function r.state.arrays
-  pub first : length flow.globals ≤ r.base
-  pub last : r.base + own_arrays T (length flow.globals) r.function ≡ length r.state.arrays
-  pub below : Below T flow ls r.state.arrays u.memory sp r.base r.waiting
+  -- it and those that wait, and the seats of all rows
+  pub stacked : IsStack T flow ls sp (length r.state.arrays) (stack_from T sp r)
+  pub seated : Seated T flow.globals (stack_from T sp r) r.state.arrays u.memory
+  pub below : Below T flow ls u.memory sp r.waiting
   pub input : u.input ≡ r.state.input
   pub out : u.out ≡ r.state.out
   pub safe : NeverFails (λ n. program_run (laid_program flow ls) n r)

@@ -1,8 +1,8 @@
 -- A call: what is live behind it is saved, the depth is tested, the stack pointers go down, and the arguments are passed.
-use Rattle.std.proofs.Common.{◌≡◌, ◌≢◌, ◌<◌, ◌≤◌, ◌⊎◌, inl, inr, ⊎_elim, ◌+◌, ◌-◌, ◌*◌, ◌^◌, ℕ, suc, ℤ, pos, neg_ℤ, Bool, true, false, Option, Some, None, List, [], ◌∷◌, ◌++◌, length, length-append, map, drop, refl, sym, ap, ◌∙◌, subst, arith}
-use Rattle.std.specs.Prelude.{slice_get, if◌then◌else◌, nat_lt, nat_le, slice_index_or}
+use Rattle.std.proofs.Common.{◌≡◌, ◌≢◌, ◌<◌, ◌≤◌, ◌⊎◌, inl, inr, ⊎_elim, ◌+◌, ◌-◌, ◌*◌, ◌^◌, ℕ, suc, ℤ, pos, neg_ℤ, Bool, true, false, Option, Some, None, List, [], ◌∷◌, ◌++◌, length, length-append, map, refl, sym, ap, ◌∙◌, subst, arith}
+use Rattle.std.specs.Prelude.{slice_get, if◌then◌else◌, nat_lt, nat_le}
 use Rattle.std.proofs.lemmas.Bool.{lt-ltb, le-ltb, le-leb, lt-leb, leb-true, leb-false, false_from_ne_true}
-use Rattle.std.proofs.lemmas.List.{append-nil, length-map, length-drop}
+use Rattle.std.proofs.lemmas.List.{append-nil}
 use Rattle.vx_base.specs.Arithmetic.{one_if, compare_of, unsigned, wrap, sum_of}
 use Rattle.vx_base.specs.declared.arithmetic.Code.TheVariants.{Add, ToBranch}
 use Rattle.vx_base.specs.declared.arithmetic.Compare.TheVariants.{Ltu}
@@ -19,7 +19,7 @@ use Rattle.vx_flow.specs.declared.graph.Exit.TheVariants.{Call as Calling}
 use Rattle.vx_flow.proofs.Members.{in_left, in_right}
 use Rattle.std.specs.List.{flat_map}
 use Rattle.vx_flow.specs.Effects.{Content, State as VState, IsIn, held, value_in}
-use Rattle.vx_flow.specs.Meaning.{Active, Body, Frame, Hop, deepest, known, with_front, undefined, own_of, spot_of, setting_with, setting_of, calls, enters, entered, waits, body_hop, after_hop, next}
+use Rattle.vx_flow.specs.Meaning.{Active, Body, Frame, Hop, deepest, known, with_front, undefined, own_of, setting_with, setting_of, calls, enters, entered, at_entry, waits, body_hop, after_hop, next}
 use Rattle.vx_flow.specs.Sound.{Sound, SoundFlow, Callable, IsPlace, is_sound_flow}
 use Rattle.vx_flow.proofs.SoundFlowLaw.{told}
 use Rattle.vx_isa.specs.declared.operation.Register.{Register}
@@ -37,20 +37,21 @@ use Rattle.vx_mixed.specs.LaidSettled.{bank_in}
 use Rattle.vx_layout.specs.Origins.{CallsAs}
 use Rattle.vx_regs.specs.Intervals.{IsLive, here, beyond, is_live, result_of}
 use Rattle.vx_target.specs.Target.{Target, answer, kept, is_slotted, is_branch, home, holds_branch, branch_of, stack_on, parameters_of, register_of, one, pause, in_flight, bytes, save_words, move_stack, argument_words, call_words, back_words, memory_words}
-use Rattle.vx_target.specs.Tied.{Tied, AtWord, Shows, Row, Arrays, Waits, Below, IsResult, own_arrays, row_in, begins_at, is_place, moved as moved_number, word_at}
-use Rattle.vx_target.specs.Carried.{Carries, IsFunctionOf, NeedsSlot, is_passed, is_saved, is_spilled, Survives, words_before}
+use Rattle.vx_target.specs.Tied.{Tied, AtWord, Shows, Stacked, IsStack, Seated, Waits, Below, IsResult, stack_from, waiting_above, seat, Itself, is_place, kind_by, kind_of, word_at}
+use Rattle.vx_target.specs.Carried.{Carries, IsFunctionOf, NeedsSlot, is_passed, is_saved, is_spilled, Survives}
+use Rattle.vx_target.specs.Seats.{Seats, is_slot}
 use Rattle.vx_target.proofs.Bytes.{unsigned_small}
 use Rattle.vx_target.proofs.Calm.{seen, AllFit, after, put_at, put_off, not_stuck, effect_is}
-use Rattle.vx_target.proofs.Frames.{get_below, get_in, frame_room, before_all, array_kind, IsGlobal, IsLocal, global_row, slot_free, link_in_frame, below_keep}
+use Rattle.vx_target.proofs.Proper.{itself, shows_itself}
+use Rattle.vx_target.proofs.Frames.{get_below, get_in, frame_room, link_in_frame, below_keep}
+use Rattle.vx_target.proofs.SeatRoom.{table, framed_from}
+use Rattle.vx_target.proofs.SeatSteps.{seated_on, entered_stack, entered_seated, frames_of, saved_of}
 use Rattle.vx_target.proofs.Live.{live_bank}
 use Rattle.vx_target.proofs.Names.{in_register, named, number_at, apart_mixed, not_zero, not_general, not_first_branch}
-use Rattle.vx_target.proofs.FromGraph.{branch_plain, place_made, whole_bank, has_whole, whole_is}
+use Rattle.vx_target.proofs.FromGraph.{branch_plain, parameter_plain, place_made, whole_bank, has_whole, whole_is}
 use Rattle.vx_tie.proofs.Passing.{CanFetch, OperandAt, OperandsAt, Passed as Given, pass_run}
 use Rattle.vx_tie.proofs.Simple.{few_one}
-use Rattle.vx_tie.proofs.Start.{row_left, row_right, own_row, undefined_row}
 use Rattle.vx_mixed.specs.Settled.{NoTwice}
-use Rattle.vx_flow.specs.declared.graph.Array.{Array}
-use Rattle.vx_flow.specs.declared.graph.Global.{Global}
 use Rattle.vx_target.proofs.Enough.{some_cluster, some_issue}
 use Rattle.vx_tie.proofs.Moves.{Moved, move_run, down}
 use Rattle.vx_target.proofs.Slots.{Usable, Stored, as_kept, store_list, stack_no_answer}
@@ -317,11 +318,11 @@ module _ (T : Target) (flow : Flow) (ls : List VWords) (w : WordProgram) (sound 
       general : (v : ℕ) → IsIn (HeldValue v) arguments → slice_get (T.graph F).banks v ≡ Some GeneralBank
       general v i = graph_sound.exit_operands Exiting (HeldValue v) site.has i
 
-      plain : (v : ℕ) → IsIn (HeldValue v) arguments → (is_place T F v ≡ false) × (holds_branch T F v ≡ false)
+      plain : (v : ℕ) → IsIn (HeldValue v) arguments → (kind_of T F v ≡ Itself) × (holds_branch T F v ≡ false)
       plain v i =
           let h = general v i in
           let whole = whole_is T F Any graph_sound of.mapped.code (λ a lt. tt) v GeneralBank h in (
-            false_from_ne_true (is_place T F v) (λ e. let m = place_made T F Any graph_sound of.mapped.code v e in graph_sound.place_exit v m.0 Exiting (subst (λ x. IsPlace (T.graph F) x m.0) whole m.1) site.has (inl i)),
+            ap kind_by (false_from_ne_true (is_place T F v) (λ e. let m = place_made T F Any graph_sound of.mapped.code v e in graph_sound.place_exit v m.0 Exiting (subst (λ x. IsPlace (T.graph F) x m.0) whole m.1) site.has (inl i))),
             ap is_branch (whole_bank T F Any graph_sound of.mapped.code v GeneralBank (has_whole T F Any graph_sound of.mapped.code (λ a lt. tt) v GeneralBank h)),
           )
 
@@ -365,10 +366,10 @@ module _ (T : Target) (flow : Flow) (ls : List VWords) (w : WordProgram) (sound 
           by : (b : Bool) → is_slotted (kept T F v) ≡ b → Shows T Sp F v n (if b then word_at u.memory (Sp + T.slot F v) else register u (register_of T F (v ∷ []) v)) → (if b then word_at E.memory (Base + (T.frame + T.slot F v)) else seen E.registers (register_of T F (v ∷ []) v)) ≡ n
           by true h k =
               let place : Base + (T.frame + T.slot F v) ≡ Sp + T.slot F v = (let c = base_is in omega arith) in
-              ap (word_at E.memory) place ∙ ap (λ m. word_at m (Sp + T.slot F v)) memory_e ∙ slot_same v (is_spilled p (is_live (live v i)) h) h ∙ k.is ∙ ap (λ c. moved_number Sp c n) (plain v i).0
+              ap (word_at E.memory) place ∙ ap (λ m. word_at m (Sp + T.slot F v)) memory_e ∙ slot_same v (is_spilled p (is_live (live v i)) h) h ∙ itself k (plain v i).0
           by false h k =
               others_e (register_of T F (v ∷ []) v) (λ q. let z : is_branch_register (register_of T F (v ∷ []) v) ≡ false = ap (λ b. is_branch_register (named b (home T F v) (branch_of T F (v ∷ []) v) (number_at T F of.mapped (v ∷ []) v))) (plain v i).1 in let y : true ≡ false = sym (ap is_branch_register q) ∙ z in cc)
-              (not_general T F of.mapped (v ∷ []) v 0 2 (its_bank v i) (omega arith)) (λ k. not_general T F of.mapped (v ∷ []) v k 1 (its_bank v i) (omega arith)) ∙ k.is ∙ ap (λ c. moved_number Sp c n) (plain v i).0
+              (not_general T F of.mapped (v ∷ []) v 0 2 (its_bank v i) (omega arith)) (λ k. not_general T F of.mapped (v ∷ []) v k 1 (its_bank v i) (omega arith)) ∙ itself k (plain v i).0
 
       operands_from : (xs : List Operand) (ms : List ℤ) → ((x : Operand) → IsIn x xs → IsIn x arguments) → known (map (held S) xs) ≡ Some ms → OperandsAt T.machine w fit T F Base carries.memory small some E xs ms
       operands_from [] [] h e = tt
@@ -446,13 +447,14 @@ module _ (T : Target) (flow : Flow) (ls : List VWords) (w : WordProgram) (sound 
       above_base : (x : ℕ) → Sp ≤ x → word_at G.memory x ≡ word_at A.memory x
       above_base x le = passed.elsewhere x (λ v i e. let a = its.framed.slot_to v (is_passed i) in let c = base_is in omega arith) ∙ ap (λ m. word_at m x) memory_e
 
-      in_globals : (x : ℕ) → x < T.globals → word_at G.memory x ≡ word_at u.memory x
-      in_globals x lt = passed.elsewhere x (λ v i e. let a = enough in let c = base_is in omega arith) ∙ ap (λ m. word_at m x) memory_e ∙ saved_elsewhere x (λ v i e. let a = enough in omega arith)
-
       free_above : (x : ℕ) → Sp ≤ x → ((v : ℕ) → NeedsSlot T F v → x ≢ Sp + T.slot F v) → word_at G.memory x ≡ word_at u.memory x
       free_above x le h = above_base x le ∙ saved_elsewhere x (λ v i. h v (needs v i))
 
-      -- rows
+      -- all that changes are slots of what is saved and of the parameters
+      changes : (x : ℕ) → ((v : ℕ) → IsIn v Parameters → x ≢ Base + T.slot g v) → ((v : ℕ) → NeedsSlot T F v → x ≢ Sp + T.slot F v) → word_at G.memory x ≡ word_at u.memory x
+      changes x h k = passed.elsewhere x h ∙ ap (λ m. word_at m x) memory_e ∙ saved_elsewhere x (λ v i. k v (needs v i))
+
+      -- rows and their seats
 
       abbrev Globals : ℕ
       Globals = length flow.globals
@@ -460,27 +462,34 @@ module _ (T : Target) (flow : Flow) (ls : List VWords) (w : WordProgram) (sound 
       abbrev Rows : List (List Content)
       Rows = S.arrays ++ map undefined (own_of Globals (T.graph g))
 
-      global_rows : (a : ℕ) (x : Global) → slice_get flow.globals a ≡ Some x → Row G.memory (words_before flow.globals a) x.words (row_in Rows a)
-      global_rows a x e =
-          let old = global_row T flow carries.some_frame carries.globals sound F ls tied.is of.framed u.memory Sp r.base S.arrays tied.arrays a x e in
-          let lt : a < length S.arrays = (let b = get_below flow.globals a x e in let c = tied.first in let d = tied.last in omega arith) in
-          let same : row_in Rows a ≡ row_in S.arrays a = row_left S.arrays (map undefined (own_of Globals (T.graph g))) a lt in
-          record {
-            size = ap length same ∙ old.size;
-            is = λ i n l k. in_globals (words_before flow.globals a + i) (let z = carries.globals in let b = before_all flow.globals a i x e l in omega arith) ∙ old.is i n l (ap (λ y. slice_index_or y i None) (sym same) ∙ k);
-          }
+      abbrev Callee : Stacked
+      Callee = record { function = g; frame = Base; base = length S.arrays }
 
-      callee_arrays : Arrays T Globals G.memory Base (length S.arrays) g Rows
-      callee_arrays = record { row = λ a array has. by a array has (array_kind T flow carries.some_frame carries.globals sound g ls its.is its.framed a array has) }
-        where
-          by : (a : ℕ) (array : Array) → slice_get (T.graph g).arrays a ≡ Some array → IsGlobal T flow carries.some_frame carries.globals sound g ls its.is its.framed a array ⊎ IsLocal T flow carries.some_frame carries.globals sound g ls its.is its.framed a → Row G.memory (begins_at T Base g a) array.words (row_in Rows (spot_of Globals (length S.arrays) a))
-          by a array has (inl k) =
-              subst (λ j. Row G.memory (begins_at T Base g a) array.words (row_in Rows j)) (sym (k.spot (length S.arrays)))
-              (subst (λ b. Row G.memory b array.words (row_in Rows a)) (sym (k.begins Base)) (subst (λ n. Row G.memory (words_before flow.globals a) n (row_in Rows a)) (sym k.words) (global_rows a k.item k.has)))
-          by a array has (inr l) =
-              let row_is : row_in Rows (spot_of Globals (length S.arrays) a) ≡ undefined array.words =
-              ap (row_in Rows) (l.spot (length S.arrays)) ∙ row_right S.arrays (map undefined (own_of Globals (T.graph g))) (a - Globals) ∙ own_row Globals a (T.graph g) array l.from has in
-              subst (λ y. Row G.memory (begins_at T Base g a) array.words y) (sym row_is) (undefined_row G.memory (begins_at T Base g a) array.words)
+      abbrev Caller : Stacked
+      Caller = record { function = F; frame = Sp; base = r.base }
+
+      abbrev Activations : List Stacked
+      Activations = Callee ∷ stack_from T Sp r
+
+      stacked : IsStack T flow ls Base (length Rows) Activations
+      stacked = entered_stack T flow ls (stack_from T Sp r) Base S.arrays g its.is (subst (λ x. IsStack T flow ls x (length S.arrays) (stack_from T Sp r)) (sym base_is) tied.stacked)
+
+      entered_rows : Seated T flow.globals Activations Rows u.memory
+      entered_rows = entered_seated T flow ls (stack_from T Sp r) Sp S.arrays u.memory g Base tied.stacked tied.seated
+
+      the_table : Seats T Globals Activations Rows u.memory (λ k. seat T flow.globals Activations k)
+      the_table = table T flow ls sound (frames_of T flow ls w carries) Activations Base Rows u.memory stacked (let a = enough in let c = base_is in omega arith) entered_rows
+
+      seated : Seated T flow.globals Activations Rows G.memory
+      seated = seated_on T flow.globals Activations Rows u.memory G.memory
+          (λ k i has. changes (seat T flow.globals Activations k + i)
+          (λ v j e. the_table.free Callee (Base + T.slot g v) k i (inl refl) (is_slot v (is_passed j) refl) has (sym e))
+          (λ v needed e. the_table.free Caller (Sp + T.slot F v) k i (inr (inl refl)) (is_slot v needed refl) has (sym e)))
+          entered_rows
+
+      -- as the frame of the caller stands above that of the called
+      abbrev Above : ℕ → List Stacked
+      Above x = Callee ∷ record { function = F; frame = x; base = r.base } ∷ waiting_above T x r.waiting
 
       -- the caller waits
 
@@ -502,22 +511,7 @@ module _ (T : Target) (flow : Flow) (ls : List VWords) (w : WordProgram) (sound 
               let was : Shows T Sp F v n (seen u.registers (register_of T F Saved v)) = subst (λ x. Shows T Sp F v n x) (ap (register u) (own_name T F v (v ∷ []) Saved h)) k in
               subst (λ x. Shows T Sp F v n x) (sym (above_base (Sp + T.slot F v) (omega arith) ∙ saved_at v there)) (kept_shows T Sp F v n (seen u.registers (register_of T F Saved v)) (branch_plain T F Any graph_sound of.mapped.code v) was)
 
-      waiting_arrays : Arrays T Globals G.memory Sp r.base F Rows
-      waiting_arrays = record { row = λ a array has. by a array has (array_kind T flow carries.some_frame carries.globals sound F ls tied.is of.framed a array has) (tied.arrays.row a array has) }
-        where
-          by : (a : ℕ) (array : Array) → slice_get (T.graph F).arrays a ≡ Some array → IsGlobal T flow carries.some_frame carries.globals sound F ls tied.is of.framed a array ⊎ IsLocal T flow carries.some_frame carries.globals sound F ls tied.is of.framed a → Row u.memory (begins_at T Sp F a) array.words (row_in S.arrays (spot_of Globals r.base a)) → Row G.memory (begins_at T Sp F a) array.words (row_in Rows (spot_of Globals r.base a))
-          by a array has (inl k) old =
-              subst (λ j. Row G.memory (begins_at T Sp F a) array.words (row_in Rows j)) (sym (k.spot r.base))
-              (subst (λ b. Row G.memory b array.words (row_in Rows a)) (sym (k.begins Sp)) (subst (λ n. Row G.memory (words_before flow.globals a) n (row_in Rows a)) (sym k.words) (global_rows a k.item k.has)))
-          by a array has (inr l) old =
-              let lt : spot_of Globals r.base a < length S.arrays = (let b = get_below (T.graph F).arrays a array has in let c = l.spot r.base in let d = tied.last in let e = l.from in omega arith) in
-              let same : row_in Rows (spot_of Globals r.base a) ≡ row_in S.arrays (spot_of Globals r.base a) = row_left S.arrays (map undefined (own_of Globals (T.graph g))) (spot_of Globals r.base a) lt in
-              record {
-                size = ap length same ∙ old.size;
-                is = λ i n li e. free_above (begins_at T Sp F a + i) (let b = l.begins Sp in omega arith) (λ v needed q. slot_free T flow carries.some_frame carries.globals sound F ls tied.is of.framed Sp (length r.waiting) v tied.deep needed a i array has li (sym q)) ∙ old.is i n li (ap (λ y. slice_index_or y i None) (sym same) ∙ e);
-              }
-
-      waits_at : Waits T flow ls Rows G.memory Sp (length S.arrays) Waiter r.waiting
+      waits_at : Waits T flow ls G.memory Sp Waiter r.waiting
       waits_at = record {
         is = tied.is;
         caller = p;
@@ -528,20 +522,17 @@ module _ (T : Target) (flow : Flow) (ls : List VWords) (w : WordProgram) (sound 
         next = refl;
         values = waiting_values;
         passed = tied.passed;
-        arrays = waiting_arrays;
-        first = tied.first;
-        last = tied.last;
         link = free_above Sp (omega arith) (λ v needed e. let a = of.framed.slot_from v needed in omega arith) ∙ sym (link_in_frame T u Sp F p g arguments result plan) ∙ at_word.link;
       }
 
-      rest_below : Below T flow ls Rows G.memory Sp r.base r.waiting
-      rest_below = below_keep T flow carries.some_frame carries.globals sound ls (λ f is. (carries.functions f (get_below flow.functions f (T.graph f) is.graph)).framed) r.waiting S.arrays Rows u.memory G.memory Sp r.base
-          global_rows
-          (λ j from lt. row_left S.arrays (map undefined (own_of Globals (T.graph g))) j (let d = tied.last in omega arith))
-          (λ x le. free_above x (omega arith) (λ v needed e. let a = of.framed.slot_to v needed in omega arith)) tied.below
+      rest_below : Below T flow ls G.memory Sp r.waiting
+      rest_below = below_keep T flow ls (saved_of T flow ls w carries) r.waiting u.memory G.memory Sp
+          (λ x word i framed. let z = framed_from T flow ls (waiting_above T Sp r.waiting) (Sp + T.frame) r.base tied.stacked.3 x word i framed in
+          free_above word (omega arith) (λ v needed e. let a = of.framed.slot_to v needed in omega arith))
+          tied.below
 
-      all_below : Below T flow ls Rows G.memory Base (length S.arrays) (Waiter ∷ r.waiting)
-      all_below = subst (λ x. Waits T flow ls Rows G.memory x (length S.arrays) Waiter r.waiting × Below T flow ls Rows G.memory x r.base r.waiting) (sym base_is) (waits_at, rest_below)
+      all_below : Below T flow ls G.memory Base (Waiter ∷ r.waiting)
+      all_below = subst (λ x. Waits T flow ls G.memory x Waiter r.waiting × Below T flow ls G.memory x r.waiting) (sym base_is) (waits_at, rest_below)
 
       -- the step over values
 
@@ -563,8 +554,12 @@ module _ (T : Target) (flow : Flow) (ls : List VWords) (w : WordProgram) (sound 
           ∙ ap (λ b. if b then Over (Traps Depth S.out) else enters g ((laid_program flow ls).body g) ns S (Waiter ∷ r.waiting)) not_full
           ∙ ap (λ x. enters g x ns S (Waiter ∷ r.waiting)) body_is
 
-      own_count : length (map undefined (own_of Globals (T.graph g))) ≡ own_arrays T Globals g
-      own_count = length-map (own_of Globals (T.graph g)) undefined ∙ length-map (drop Globals (T.graph g).arrays) (λ (x : Array). x.words) ∙ length-drop Globals (T.graph g).arrays
+      -- the slots of the parameters show what is passed
+      passed_values : (v : ℕ) (n : ℤ) → at_entry Parameters ns v ≡ Some n → IsIn v Parameters × Shows T Base g v n (word_at G.memory (Base + T.slot g v))
+      passed_values v n e =
+          let k = passed.values v n e in
+          let p = parameter_plain T g Any (sound.graphs (T.graph g) (get_in flow.functions g (T.graph g) its.is.graph)) its.mapped.code (λ a lt. tt) v k.0 in
+          (k.0, shows_itself T Base g v n (word_at G.memory (Base + T.slot g v)) p.0 (λ b. absurd (let z : true ≡ false = sym b ∙ p.1 in cc)) k.1)
 
       called_on : CarriesOn T flow ls w r u
       called_on = record {
@@ -579,11 +574,10 @@ module _ (T : Target) (flow : Flow) (ls : List VWords) (w : WordProgram) (sound 
           calm = refl;
           deep = record { is = (let e = tied.deep.is in let b = base_is in let k : ℕ = length r.waiting in let m : T.frame * suc (suc k) ≡ T.frame * suc k + T.frame = grind arith in omega arith); most = more };
           stack = stack_g;
-          at = inl (record { block = refl; place = refl; values = passed.values; link = link_is ∙ (let q : suc p - 1 ≡ p = omega arith in ap (λ n. wrap (pos (T.back F n))) (sym q)) });
+          at = inl (record { block = refl; place = refl; values = passed_values; link = link_is ∙ (let q : suc p - 1 ≡ p = omega arith in ap (λ n. wrap (pos (T.back F n))) (sym q)) });
           passed = refl;
-          arrays = callee_arrays;
-          first = (let a = tied.first in let b = tied.last in omega arith);
-          last = (let a = length-append S.arrays (map undefined (own_of Globals (T.graph g))) in let b = own_count in omega arith);
+          stacked = subst (λ x. IsStack T flow ls Base (length Rows) (Above x)) (sym base_is) stacked;
+          seated = subst (λ x. Seated T flow.globals (Above x) Rows G.memory) (sym base_is) seated;
           below = all_below;
           input = passed.quiet.input ∙ moved.quiet.input ∙ quiet_c.input ∙ tied.input;
           out = append-nil P.out ∙ passed.quiet.out ∙ moved.quiet.out ∙ append-nil C.out ∙ quiet_c.out ∙ tied.out;

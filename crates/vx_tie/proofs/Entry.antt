@@ -1,15 +1,13 @@
 -- At the start of a function parameters come to their registers, and the link is stored in the frame.
 use Rattle.std.proofs.Common.{◌≡◌, ◌≢◌, ◌<◌, ◌≤◌, ◌⊎◌, inl, inr, ⊎_elim, ◌+◌, ◌*◌, ◌^◌, ℕ, zero, suc, ℤ, pos, Bool, true, false, Some, List, [], ◌∷◌, ◌++◌, length, length-append, refl, sym, ap, ◌∙◌, subst, arith}
 use Rattle.std.specs.Prelude.{if◌then◌else◌, slice_get}
-use Rattle.std.proofs.lemmas.Bool.{false_from_ne_true}
 use Rattle.vx_base.specs.Outcome.{On}
 use Rattle.vx_base.proofs.Runs.{Reach, run_reach, safe_after, reach_one}
 use Rattle.vx_flow.specs.declared.graph.Bank.{Bank}
-use Rattle.vx_flow.specs.declared.graph.Bank.TheVariants.{General as GeneralBank}
 use Rattle.vx_flow.specs.declared.graph.Flow.{Flow}
 use Rattle.vx_flow.specs.Effects.{IsIn}
 use Rattle.vx_flow.specs.Meaning.{Active, setting_with, setting_of, body_hop, after_hop, next}
-use Rattle.vx_flow.specs.Sound.{Sound, SoundFlow, is_sound_flow, IsPlace}
+use Rattle.vx_flow.specs.Sound.{Sound, SoundFlow, is_sound_flow}
 use Rattle.vx_flow.proofs.SoundFlowLaw.{told}
 use Rattle.vx_isa.specs.declared.operation.Register.{Register}
 use Rattle.vx_isa.specs.declared.operation.Register.TheVariants.{General, Link}
@@ -24,20 +22,23 @@ use Rattle.vx_mixed.specs.LaidSettled.{bank_in}
 use Rattle.vx_regs.specs.Intervals.{IsLive, is_live}
 use Rattle.vx_regs.specs.declared.map.Kept.{Kept}
 use Rattle.vx_regs.specs.declared.map.Kept.TheVariants.{InRegister}
-use Rattle.vx_target.specs.Target.{Target, answer, general, stack_on, kept, is_slotted, is_branch, parameters_of, holds_branch, register_of, one, pause, in_flight, settled, is_caller, load_slots, link_words, way, entry_words, memory_words}
-use Rattle.vx_target.specs.Tied.{Tied, AtEntry, Arrays, Below, begins_at, Shows, holds, is_place, moved, word_at, link_in}
+use Rattle.vx_target.specs.Target.{Target, answer, general, stack_on, kept, is_slotted, parameters_of, holds_branch, register_of, one, pause, in_flight, settled, is_caller, load_slots, link_words, way, entry_words, memory_words}
+use Rattle.vx_target.specs.Tied.{Tied, AtEntry, Below, Seated, Shows, stack_from, waiting_above, seat, Itself, holds, kind_of, word_at, link_in}
+use Rattle.vx_target.specs.Seats.{Seats, is_link}
 use Rattle.vx_target.specs.Carried.{Carries, IsFunctionOf, is_passed, Arrives}
 use Rattle.vx_tie.specs.Planned.{CarriesOn, FallsThrough, EntryLaw}
 use Rattle.vx_target.proofs.Calm.{seen, AllFit, Going}
-use Rattle.vx_target.proofs.FromGraph.{place_made, whole_bank, has_whole, whole_is}
+use Rattle.vx_target.proofs.FromGraph.{branch_plain, parameter_plain}
 use Rattle.vx_target.proofs.Names.{in_register, apart_registers, not_zero, not_general, not_scratch}
 use Rattle.vx_target.proofs.Live.{live_bank}
 use Rattle.vx_target.proofs.Enough.{some_cluster, some_issue}
-use Rattle.vx_target.proofs.Frames.{get_below, get_in, frame_room, link_free, global_row, below_keep}
+use Rattle.vx_target.proofs.Frames.{get_below, get_in, frame_room, above_globals, below_keep}
+use Rattle.vx_target.proofs.SeatRoom.{table, framed_from}
+use Rattle.vx_target.proofs.SeatSteps.{seated_on, frames_of, saved_of}
 use Rattle.vx_target.proofs.Steps.{Stands, stands_left, stands_right, Quiet, quiet_on, Comes, stay, comes_on, forth_comes, Set, set_step, Paused, pause_step, way_step, Kept as Kept_word, store_step}
 use Rattle.vx_target.proofs.Slots.{Usable, Loaded, load_list, as_read, number_in, stack_no_answer, link_unnamed, link_no_general}
 use Rattle.vx_target.proofs.Stands.{entry_stands, entry_next}
-use Rattle.vx_target.proofs.Word.{own_name}
+use Rattle.vx_target.proofs.Word.{own_name, read_shows}
 
 not_slotted : (k : Kept) (n : ℕ) → k ≡ InRegister n → is_slotted k ≡ false
 not_slotted k n e = ap is_slotted e
@@ -86,16 +87,8 @@ module _ (T : Target) (flow : Flow) (ls : List VWords) (w : WordProgram) (sound 
   room = frame_room T flow carries.some_frame carries.globals sound Sp (length r.waiting) tied.deep
 
   -- parameters are general values and no places
-  plain : (v : ℕ) → IsIn v (parameters_of T F) → (is_place T F v ≡ false) × (holds_branch T F v ≡ false)
-  plain v i =
-      let h = sound_general v i in
-      let w = whole_is T F Any graph_sound of.mapped.code (λ a lt. tt) v GeneralBank h in (
-        false_from_ne_true (is_place T F v) (λ e. let m = place_made T F Any graph_sound of.mapped.code v e in graph_sound.place_parameter v m.0 (subst (λ x. IsPlace (T.graph F) x m.0) w m.1) i),
-        ap is_branch (whole_bank T F Any graph_sound of.mapped.code v GeneralBank (has_whole T F Any graph_sound of.mapped.code (λ a lt. tt) v GeneralBank h)),
-      )
-    where
-      sound_general : (x : ℕ) → IsIn x (parameters_of T F) → slice_get (T.graph F).banks x ≡ Some GeneralBank
-      sound_general x j = graph_sound.parameters x j
+  plain : (v : ℕ) → IsIn v (parameters_of T F) → (kind_of T F v ≡ Itself) × (holds_branch T F v ≡ false)
+  plain v i = parameter_plain T F Any graph_sound of.mapped.code (λ a lt. tt) v i
 
   passed_inside : (v : ℕ) → IsIn v (parameters_of T F) → Sp + T.slot F v < memory_words T
   passed_inside v i = let a = of.framed.slot_to v (is_passed i) in let b = room in omega arith
@@ -334,32 +327,28 @@ module _ (T : Target) (flow : Flow) (ls : List VWords) (w : WordProgram) (sound 
 
   values : (v : ℕ) (n : ℤ) → IsLive (T.layout F) Entry v → r.state.values v ≡ Some n → Shows T Sp F v n (holds T done.to Sp F v)
   values v n live e =
-      let k = at_entry.values v n e in
-      let p = plain v k.0 in
-      record { answer = λ b. absurd (let z : true ≡ false = sym b ∙ p.1 in cc); is = by k.0 k.1 p (is_slotted (kept T F v)) refl }
+      let k = at_entry.values v n e in by k.0 k.1 (is_slotted (kept T F v)) refl
     where
-      by : IsIn v (parameters_of T F) → word_at u.memory (Sp + T.slot F v) ≡ n → (is_place T F v ≡ false) × (holds_branch T F v ≡ false) → (b : Bool) → is_slotted (kept T F v) ≡ b → (if b then word_at done.to.memory (Sp + T.slot F v) else register done.to (register_of T F (v ∷ []) v)) ≡ moved Sp (is_place T F v) n
-      by i m p true h = same_slot v i ∙ m ∙ ap (λ c. moved Sp c n) (sym p.0)
-      by i m p false h =
+      by : IsIn v (parameters_of T F) → Shows T Sp F v n (word_at u.memory (Sp + T.slot F v)) → (b : Bool) → is_slotted (kept T F v) ≡ b → Shows T Sp F v n (if b then word_at done.to.memory (Sp + T.slot F v) else register done.to (register_of T F (v ∷ []) v))
+      by i m true h = subst (λ x. Shows T Sp F v n x) (sym (same_slot v i)) m
+      by i m false h =
           let number = in_register (kept T F v) h in
           let there = of.saved.brings v (record { passed = i; live = live; number = number.0; register = number.1 }) in
-          ap (register done.to) (own_name T F v (v ∷ []) Brought h) ∙ done.brought v there ∙ ap (λ c. as_read c (word_at u.memory (Sp + T.slot F v))) p.1 ∙ m ∙ ap (λ c. moved Sp c n) (sym p.0)
+          subst (λ x. Shows T Sp F v n x) (sym (ap (register done.to) (own_name T F v (v ∷ []) Brought h) ∙ done.brought v there)) (read_shows T Sp F v n (word_at u.memory (Sp + T.slot F v)) (branch_plain T F Any graph_sound of.mapped.code v) m)
 
   -- memory: only the first word of the frame has changed
 
-  arrays : Arrays T (length flow.globals) done.to.memory Sp r.base F r.state.arrays
-  arrays = record {
-    row = λ a array has. let x = tied.arrays.row a array has in record {
-      size = x.size;
-      is = λ i n lt e. done.elsewhere (begins_at T Sp F a + i) (λ q. link_free T flow carries.some_frame carries.globals sound F ls tied.is of.framed Sp (length r.waiting) tied.deep a i array has lt (sym q)) ∙ x.is i n lt e;
-    };
-  }
+  the_table : Seats T (length flow.globals) (stack_from T Sp r) r.state.arrays u.memory (λ k. seat T flow.globals (stack_from T Sp r) k)
+  the_table = table T flow ls sound (frames_of T flow ls w carries) (stack_from T Sp r) Sp r.state.arrays u.memory tied.stacked (above_globals T flow carries.some_frame carries.globals sound Sp (length r.waiting) tied.deep) tied.seated
 
-  waiting : Below T flow ls r.state.arrays done.to.memory Sp r.base r.waiting
-  waiting = below_keep T flow carries.some_frame carries.globals sound ls (λ f is. (carries.functions f (get_below flow.functions f (T.graph f) is.graph)).framed) r.waiting r.state.arrays r.state.arrays u.memory done.to.memory Sp r.base
-      (λ a x e. global_row T flow carries.some_frame carries.globals sound F ls tied.is of.framed done.to.memory Sp r.base r.state.arrays arrays a x e)
-      (λ j from lt. refl)
-      (λ x le. done.elsewhere x (λ q. let y = carries.some_frame in omega arith)) tied.below
+  seated : Seated T flow.globals (stack_from T Sp r) r.state.arrays done.to.memory
+  seated = seated_on T flow.globals (stack_from T Sp r) r.state.arrays u.memory done.to.memory
+      (λ k i has. done.elsewhere (seat T flow.globals (stack_from T Sp r) k + i) (λ e. the_table.free (record { function = F; frame = Sp; base = r.base }) Sp k i (inl refl) (is_link refl) has (sym e)))
+      tied.seated
+
+  waiting : Below T flow ls done.to.memory Sp r.waiting
+  waiting = below_keep T flow ls (saved_of T flow ls w carries) r.waiting u.memory done.to.memory Sp
+      (λ x word i framed. done.elsewhere word (λ q. let y = carries.some_frame in let z = framed_from T flow ls (waiting_above T Sp r.waiting) (Sp + T.frame) r.base tied.stacked.3 x word i framed in omega arith)) tied.below
 
   tied_after : Tied T flow ls After done.to
   tied_after = record {
@@ -370,9 +359,8 @@ module _ (T : Target) (flow : Flow) (ls : List VWords) (w : WordProgram) (sound 
     stack = done.stack;
     at = inr (Entry, record { block = refl; place = done.place; values = values; link = done.link ∙ at_entry.link });
     passed = tied.passed;
-    arrays = arrays;
-    first = tied.first;
-    last = tied.last;
+    stacked = tied.stacked;
+    seated = seated;
     below = waiting;
     input = done.quiet.input ∙ tied.input;
     out = done.quiet.out ∙ tied.out;

@@ -27,11 +27,12 @@ use Rattle.vx_layout.specs.Laid.{laid_program, laid_hop, some_word_hop, laid_bod
 use Rattle.vx_mixed.specs.LaidSettled.{bank_in}
 use Rattle.vx_regs.specs.Intervals.{IsLive, here, is_live}
 use Rattle.vx_target.specs.Target.{Target, answer, general, kept, is_slotted, is_branch, holds_branch, stack_on, register_of, one, together, pause, in_flight, settled, is_caller, fetch_words, fetched, answer_words, return_words, memory_words}
-use Rattle.vx_target.specs.Tied.{Tied, AtWord, Shows, back_place, is_place, moved as moved_number, word_at}
+use Rattle.vx_target.specs.Tied.{Tied, AtWord, Shows, Itself, back_place, is_place, kind_by, kind_of, word_at}
 use Rattle.vx_target.specs.Carried.{Carries, IsFunctionOf, is_spilled}
 use Rattle.vx_target.proofs.Bytes.{unsigned_small}
 use Rattle.vx_target.proofs.Calm.{seen, AllFit, after}
 use Rattle.vx_target.proofs.Enough.{some_cluster}
+use Rattle.vx_target.proofs.Proper.{itself}
 use Rattle.vx_target.proofs.Frames.{get_below, get_in, frame_room}
 use Rattle.vx_target.proofs.FromGraph.{place_made, whole_bank, has_whole, whole_is}
 use Rattle.vx_target.proofs.Live.{live_bank}
@@ -138,11 +139,11 @@ module _ (T : Target) (flow : Flow) (ls : List VWords) (w : WordProgram) (sound 
   general_bank : (v : ℕ) → x ≡ HeldValue v → slice_get (T.graph F).banks v ≡ Some GeneralBank
   general_bank v e = graph_sound.exit_operands (Returning x) (HeldValue v) has_exit (inl (sym e))
 
-  plain : (v : ℕ) → x ≡ HeldValue v → (is_place T F v ≡ false) × (holds_branch T F v ≡ false)
+  plain : (v : ℕ) → x ≡ HeldValue v → (kind_of T F v ≡ Itself) × (holds_branch T F v ≡ false)
   plain v e =
       let h = general_bank v e in
       let whole = whole_is T F Any graph_sound of.mapped.code (λ a lt. tt) v GeneralBank h in (
-        false_from_ne_true (is_place T F v) (λ i. let m = place_made T F Any graph_sound of.mapped.code v i in graph_sound.place_exit v m.0 (Returning x) (subst (λ y. IsPlace (T.graph F) y m.0) whole m.1) has_exit (inl (inl (sym e)))),
+        ap kind_by (false_from_ne_true (is_place T F v) (λ i. let m = place_made T F Any graph_sound of.mapped.code v i in graph_sound.place_exit v m.0 (Returning x) (subst (λ y. IsPlace (T.graph F) y m.0) whole m.1) has_exit (inl (inl (sym e))))),
         ap is_branch (whole_bank T F Any graph_sound of.mapped.code v GeneralBank (has_whole T F Any graph_sound of.mapped.code (λ a lt. tt) v GeneralBank h)),
       )
 
@@ -171,8 +172,8 @@ module _ (T : Target) (flow : Flow) (ls : List VWords) (w : WordProgram) (sound 
     operand_at (HeldValue v) i e = (can v i, by (is_slotted (kept T F v)) (at_word.values v n (live v i) e))
       where
         by : (b : Bool) → Shows T Sp F v n (if b then word_at u.memory (Sp + T.slot F v) else register u (register_of T F (v ∷ []) v)) → (if b then word_at u.memory (Sp + (0 + T.slot F v)) else seen u.registers (register_of T F (v ∷ []) v)) ≡ n
-        by true k = let place : Sp + (0 + T.slot F v) ≡ Sp + T.slot F v = omega arith in ap (word_at u.memory) place ∙ k.is ∙ ap (λ c. moved_number Sp c n) (plain v i).0
-        by false k = k.is ∙ ap (λ c. moved_number Sp c n) (plain v i).0
+        by true k = let place : Sp + (0 + T.slot F v) ≡ Sp + T.slot F v = omega arith in ap (word_at u.memory) place ∙ itself k (plain v i).0
+        by false k = itself k (plain v i).0
 
     got : Got T.machine w fit T F Sp carries.memory small some u x n (length Fetches)
     got = fetch_run T.machine w fit T F Sp carries.memory small some 0 x n u tied.calm tied.stack (stands_left w.words u.place Fetches Last stands) (operand_at x refl are)

@@ -2,7 +2,7 @@
 use Rattle.std.proofs.Common.{◌≡◌, ◌≢◌, ◌<◌, ◌≤◌, ◌⊎◌, inl, inr, ⊎_elim, ◌+◌, ℕ, zero, suc, Bool, true, false, ◌&&◌, ◌||◌, not, eqb, nat_le, nat_lt, cond, Option, Some, None, List, [], ◌∷◌, ◌++◌, map, count_by, refl, sym, ap, ◌∙◌, subst, arith}
 use Rattle.std.specs.List.{list_all, list_any, flat_map}
 use Rattle.std.specs.Cmp.Derive.{both_true}
-use Rattle.std.proofs.lemmas.Bool.{and_parts, leb-true, le-leb, lt-ltb, ne_eqb}
+use Rattle.std.proofs.lemmas.Bool.{and_parts, le-leb, lt-ltb, ne_eqb}
 use Rattle.vx_flow.specs.Walk.{numbers}
 use Rattle.vx_isa.specs.declared.operation.Register.{Register}
 use Rattle.vx_isa.specs.declared.operation.Register.TheVariants.{General, Branch, Link}
@@ -18,7 +18,7 @@ use Rattle.vx_isa.specs.Fits.{operands, destinations, is_twice, keeps_to_cluster
 use Rattle.vx_isa.proofs.FitsLaw.{six_parts, six_together, all_below-holds, registers_pass}
 use Rattle.vx_isa.proofs.Lists.{count_by-append, count_by-cons}
 use Rattle.vx_target.specs.Target.{stack_on}
-use Rattle.vx_target.proofs.Limits.{Limits, limits}
+use Rattle.vx_target.proofs.Limits.{Limits}
 
 -- well formed, and fits
 

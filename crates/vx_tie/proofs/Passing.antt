@@ -18,7 +18,7 @@ use Rattle.vx_mixed.specs.Settled.{NoTwice}
 use Rattle.vx_target.specs.Target.{Target, answer, stack_on, kept, is_slotted, holds_branch, general_of, branch_of, register_of, one, pause, in_flight, settled, bytes, load_slot, fetch_words, fetched, cluster_of_operand, argument_words, memory_words}
 use Rattle.vx_target.specs.Tied.{word_at}
 use Rattle.vx_target.proofs.Calm.{seen, AllFit}
-use Rattle.vx_target.proofs.Op.{same_or_not}
+use Rattle.vx_target.proofs.Cells.{same_or_not}
 use Rattle.vx_target.proofs.Steps.{Stands, stands_left, stands_right, Quiet, quiet_on, Comes, stay, comes_on, forth_comes, pause_step, store_step}
 use Rattle.vx_target.proofs.Slots.{Usable, load_one, stack_no_answer}
 

@@ -28,8 +28,9 @@ use Rattle.vx_layout.specs.Laid.{laid_effect, laid_next, moves_to, laid_hop, som
 use Rattle.vx_mixed.specs.LaidSettled.{LeadsTo, laid_reads, laid_writes, bank_in, Plans}
 use Rattle.vx_regs.specs.Intervals.{IsLive, here, beyond, IsBusy, is_live}
 use Rattle.vx_target.specs.Target.{Target, kept, is_slotted, register_of, past_there, memory_words, plan_words}
-use Rattle.vx_target.specs.Tied.{Tied, AtWord, Arrays, Below, Shows, holds, row_in, begins_at, word_at}
+use Rattle.vx_target.specs.Tied.{Tied, AtWord, Below, Shows, Stacked, IsStack, HasCell, Seated, stack_from, waiting_above, seat, holds, word_at}
 use Rattle.vx_target.specs.Carried.{Carries, IsFunctionOf, NeedsSlot, is_spilled, item_of_laid}
+use Rattle.vx_target.specs.Seats.{Seats, is_link, is_slot}
 use Rattle.vx_tie.specs.Planned.{CarriesOn, CarriesPast, PlannedLaw}
 use Rattle.vx_target.proofs.Calm.{AllFit}
 use Rattle.vx_target.proofs.Proper.{ProperItems}
@@ -37,9 +38,11 @@ use Rattle.vx_target.proofs.FromGraph.{branch_plain, op_proper, test_proper}
 use Rattle.vx_target.proofs.Names.{Few, apart_all, apart_mixed, apart_registers, not_zero, not_general}
 use Rattle.vx_target.proofs.Live.{reads_bank, writes_bank, live_bank}
 use Rattle.vx_target.proofs.Enough.{few_reads, few_writes, named_busy, some_cluster}
-use Rattle.vx_target.proofs.Frames.{get_below, get_some, get_in, frame_room, inside, apart, one_spot, slot_free, link_free, link_stays, above_free, waiting_row, global_row, below_keep}
-use Rattle.vx_target.proofs.Op.{SameShape}
-use Rattle.vx_target.proofs.Items.{Ran, shape_items, others_items, same_items}
+use Rattle.vx_target.proofs.Frames.{get_below, get_some, get_in, frame_room, above_globals, link_stays, below_keep}
+use Rattle.vx_target.proofs.SeatRoom.{table, framed_from}
+use Rattle.vx_target.proofs.SeatSteps.{sized_as, frames_of, saved_of}
+use Rattle.vx_target.proofs.Cells.{SameShape}
+use Rattle.vx_target.proofs.Items.{Ran, shape_items, same_items}
 use Rattle.vx_target.proofs.Steps.{Stands}
 use Rattle.vx_target.proofs.Slots.{Usable, in_or_not}
 use Rattle.vx_target.proofs.Stands.{word_stands, landing_stands, word_next}
@@ -70,6 +73,22 @@ module _ (T : Target) (flow : Flow) (ls : List VWords) (w : WordProgram) (sound 
 
   abbrev IsArray : ℕ → Type 0
   IsArray a = (array : Array) × (slice_get (T.graph F).arrays a ≡ Some array)
+
+  -- the seats of all rows
+  abbrev TheStack : List Stacked
+  TheStack = stack_from T Sp r
+
+  abbrev TheSeats : ℕ → ℕ
+  TheSeats k = seat T flow.globals TheStack k
+
+  abbrev Latest : Stacked
+  Latest = record { function = F; frame = Sp; base = r.base }
+
+  high : T.globals ≤ Sp
+  high = above_globals T flow carries.some_frame carries.globals sound Sp (length r.waiting) tied.deep
+
+  the_table : Seats T Globals TheStack S.arrays u.memory TheSeats
+  the_table = table T flow ls sound (frames_of T flow ls w carries) TheStack Sp S.arrays u.memory tied.stacked high tied.seated
 
   below : F < length flow.functions
   below = get_below flow.functions F (T.graph F) tied.is.graph
@@ -140,14 +159,10 @@ module _ (T : Target) (flow : Flow) (ls : List VWords) (w : WordProgram) (sound 
   slot_inside : (v : ℕ) → NeedsSlot T F v → Sp + T.slot F v < memory_words T
   slot_inside v n = let a = of.framed.slot_to v n in let b = room in omega arith
 
-  words_of : (a : ℕ) (array : Array) → slice_get (T.graph F).arrays a ≡ Some array → length (row_in S.arrays (TheSetting.spot a)) ≡ array.words
-  words_of a array has = (tied.arrays.row a array has).size
+  -- a word of a row is no slot, and no link
 
-  abbrev WordsOf : ℕ → ℕ
-  WordsOf a = length (row_in S.arrays (TheSetting.spot a))
-
-  word_below : (a i : ℕ) (is : IsArray a) → i < WordsOf a → i < is.0.words
-  word_below a i is lt = let e = words_of a is.0 is.1 in omega arith
+  slot_apart : (v k i : ℕ) → NeedsSlot T F v → HasCell S.arrays k i → Sp + T.slot F v ≢ TheSeats k + i
+  slot_apart v k i n has = the_table.free Latest (Sp + T.slot F v) k i (inl refl) (is_slot v n refl) has
 
   usable : (names : List ℕ) (v : ℕ) → IsIn v Rs ⊎ IsIn v Ws → Usable T.machine w fit T F Sp carries.memory small some names v
   usable names v i = record {
@@ -157,10 +172,7 @@ module _ (T : Target) (flow : Flow) (ls : List VWords) (w : WordProgram) (sound 
     not_stack = λ k. not_general T F of.mapped names v k 1 (banks v i) (omega arith);
   }
 
-  slot_apart_arrays : (v a i : ℕ) → NeedsSlot T F v → (is : IsArray a) → i < WordsOf a → Sp + T.slot F v ≢ begins_at T Sp F a + i
-  slot_apart_arrays v a i n is lt = slot_free T flow carries.some_frame carries.globals sound F ls tied.is of.framed Sp (length r.waiting) v tied.deep n a i is.0 is.1 (word_below a i is lt)
-
-  planning : Planning T.machine w fit T F Sp p carries.memory small some TheSetting IsArray items S u
+  planning : Planning T.machine w fit T F Sp p carries.memory small some TheSetting TheSeats IsArray items S u
   planning = record {
     calm = tied.calm;
     stands = subst (λ q. Stands w.words q (plan_words T F p items)) (sym at_word.place) (word_stands T flow.main (length flow.functions) w.words carries.placed F p (Planned region word items) below plan);
@@ -171,10 +183,10 @@ module _ (T : Target) (flow : Flow) (ls : List VWords) (w : WordProgram) (sound 
     proper = proper;
     branch_plain = branch_plain T F IsArray graph_sound of.mapped.code;
     texts = carries.texts;
-    inside = λ a i is lt. inside T flow carries.some_frame carries.globals sound F ls tied.is of.framed Sp (length r.waiting) tied.deep a i is.0 is.1 (word_below a i is lt);
-    distinct = λ a b i j is js li lj e. (let q = apart T flow carries.some_frame carries.globals sound F ls tied.is of.framed Sp (length r.waiting) tied.deep a b i j is.0 js.0 is.1 js.1 (word_below a i is li) (word_below b j js lj) e in (ap TheSetting.spot q.0, q.1));
-    one_spot = λ a b is js e i. ap (λ x. begins_at T Sp F x + i) (one_spot T flow carries.some_frame carries.globals sound F ls tied.is of.framed r.base tied.first a b is.0 js.0 is.1 js.1 e);
-    start = λ a i n is lt e. (tied.arrays.row a is.0 is.1).is i n (word_below a i is lt) e;
+    inside = the_table.inside;
+    apart = the_table.apart;
+    begins = λ a is. the_table.begins Latest a is.0 (inl refl) is.1;
+    start = the_table.known;
     input = tied.input;
     out = tied.out;
     reads_usable = λ v i. usable Rs v (inl i);
@@ -184,18 +196,18 @@ module _ (T : Target) (flow : Flow) (ls : List VWords) (w : WordProgram) (sound 
     writes_apart = λ x y i j ne. apart_all T F of.mapped p Ws x y (λ v k. (banks v (inr k), busy v (inr k))) enough_writes i j ne;
     writes_inside = λ v i. (let k = slotted_from T F v Ws i in slot_inside v (needs v (inr k.0) k.1));
     writes_slots = λ x y i j e. (let a = slotted_from T F x Ws i in let b = slotted_from T F y Ws j in of.framed.slots x y (needs x (inr a.0) a.1) (needs y (inr b.0) b.1) e);
-    slots_free = λ v a i k is lt. (let c = slotted_from T F v Ws k in slot_apart_arrays v a i (needs v (inr c.0) c.1) is lt);
+    slots_free = λ v k i j has. (let c = slotted_from T F v Ws j in slot_apart v k i (needs v (inr c.0) c.1) has);
   }
 
   -- a value that is live behind the word and not written by it
 
-  untouched : (v : ℕ) → IsLive (T.layout F) p v → (IsIn v Ws → ⊥) → Untouched T.machine w fit T F Sp p carries.memory small some TheSetting IsArray items S u v
+  untouched : (v : ℕ) → IsLive (T.layout F) p v → (IsIn v Ws → ⊥) → Untouched T.machine w fit T F Sp p carries.memory small some TheSetting TheSeats IsArray items S u v
   untouched v live no_ = record {
     answer_not = λ e. not_general T F of.mapped (v ∷ []) v 0 2 bank (omega arith);
     reads_not = λ y e i. (let k = slotted_from T F y Rs i in apart_mixed T F of.mapped (v ∷ []) Rs v y bank enough_reads k.0 e k.1);
     writes_not = λ y e i. by_slot y e i (is_slotted (kept T F y)) refl;
     slots_not = λ y e i q. (let k = slotted_from T F y Ws i in other y k.0 (of.framed.slots v y (is_spilled p (is_live live) e) (needs y (inr k.0) k.1) q));
-    arrays_not = λ a i e is lt. slot_apart_arrays v a i (is_spilled p (is_live live) e) is lt;
+    arrays_not = λ k i e has. slot_apart v k i (is_spilled p (is_live live) e) has;
   }
     where
       bank : (b : Bank) × (bank_in (T.layout F) v ≡ Some b)
@@ -229,17 +241,17 @@ module _ (T : Target) (flow : Flow) (ls : List VWords) (w : WordProgram) (sound 
     steps : next (laid_program flow ls) r ≡ On After
     steps = next_is (Hop.Arrives (suc p) (suc q) t) (ap (λ x. and_then x (moves_to p (laid_next S (suc p) items))) done ∙ ap (λ x. moves_to p x t) took)
 
-    arrived : Arrived T.machine w fit T F Sp p carries.memory small some TheSetting IsArray items S u t q
-    arrived = plan_run T.machine w fit T F Sp p carries.memory small some TheSetting IsArray items S u planning t done q took
+    arrived : Arrived T.machine w fit T F Sp p carries.memory small some TheSetting TheSeats IsArray items S u t q
+    arrived = plan_run T.machine w fit T F Sp p carries.memory small some TheSetting TheSeats IsArray items S u planning t done q took
 
     abbrev To : State
     To = arrived.to
 
-    the_run : Ran T w F Sp TheSetting IsArray Rs Ws S (First T.machine w fit T F Sp p carries.memory small some TheSetting IsArray items S u planning) p items S t
-    the_run = ran T.machine w fit T F Sp p carries.memory small some TheSetting IsArray items S u planning t done
+    the_run : Ran T w F Sp TheSetting TheSeats IsArray Rs Ws S (First T.machine w fit T F Sp p carries.memory small some TheSetting TheSeats IsArray items S u planning) p items S t
+    the_run = ran T.machine w fit T F Sp p carries.memory small some TheSetting TheSeats IsArray items S u planning t done
 
     shape : SameShape S.arrays t.arrays
-    shape = shape_items T w F Sp TheSetting IsArray Rs Ws S (First T.machine w fit T F Sp p carries.memory small some TheSetting IsArray items S u planning) p items S t the_run
+    shape = shape_items T w F Sp TheSetting TheSeats IsArray Rs Ws S (First T.machine w fit T F Sp p carries.memory small some TheSetting TheSeats IsArray items S u planning) p items S t the_run
 
     leads_on : LeadsTo p (Planned region word items) q
     leads_on = next_leads S (suc p) items items (λ x i. i) took
@@ -261,34 +273,29 @@ module _ (T : Target) (flow : Flow) (ls : List VWords) (w : WordProgram) (sound 
         (λ i. arrived.written v n i e)
         (λ no_.
         let before : IsLive (T.layout F) p v = beyond plan no_ leads_on live in
-        let same = same_items T w F Sp TheSetting IsArray Rs Ws S (First T.machine w fit T F Sp p carries.memory small some TheSetting IsArray items S u planning) p v items S t the_run no_ in
+        let same = same_items T w F Sp TheSetting TheSeats IsArray Rs Ws S (First T.machine w fit T F Sp p carries.memory small some TheSetting TheSeats IsArray items S u planning) p v items S t the_run no_ in
         arrived.kept_value v n (untouched v before no_) (at_word.values v n before (sym same ∙ e)))
         (in_or_not v Ws)
 
     -- memory
 
-    elsewhere : (x : ℕ) → ((a i : ℕ) (is : IsArray a) → i < WordsOf a → x ≢ begins_at T Sp F a + i) → ((v : ℕ) → NeedsSlot T F v → x ≢ Sp + T.slot F v) → word_at To.memory x ≡ word_at u.memory x
+    elsewhere : (x : ℕ) → ((k i : ℕ) → HasCell S.arrays k i → x ≢ TheSeats k + i) → ((v : ℕ) → NeedsSlot T F v → x ≢ Sp + T.slot F v) → word_at To.memory x ≡ word_at u.memory x
     elsewhere x free slots = arrived.elsewhere x free (λ v i. (let k = slotted_from T F v Ws i in slots v (needs v (inr k.0) k.1)))
 
-    rows : Arrays T Globals To.memory Sp r.base F t.arrays
-    rows = record {
-      row = λ a array has. record {
-        size = shape.each (TheSetting.spot a) ∙ words_of a array has;
-        is = λ i n lt e. arrived.arrays a i n (array, has) (let z = words_of a array has in omega arith) e;
-      };
+    seated : Seated T flow.globals TheStack t.arrays To.memory
+    seated = record {
+      sized = sized_as T flow.globals TheStack S.arrays t.arrays shape tied.seated.sized;
+      known = λ k i n has e. arrived.arrays k i n (let z = shape.each k in omega arith) e;
     }
 
     link : word_at To.memory Sp ≡ word_at u.memory Sp
-    link = elsewhere Sp (λ a i is lt. link_free T flow carries.some_frame carries.globals sound F ls tied.is of.framed Sp (length r.waiting) tied.deep a i is.0 is.1 (word_below a i is lt)) (λ v n e. let z = of.framed.slot_from v n in omega arith)
+    link = elsewhere Sp (λ k i has. the_table.free Latest Sp k i (inl refl) (is_link refl) has) (λ v n e. let z = of.framed.slot_from v n in omega arith)
 
-    above : (x : ℕ) → Sp + T.frame ≤ x → word_at To.memory x ≡ word_at u.memory x
-    above x le = elsewhere x (λ a i is lt. above_free T flow carries.some_frame carries.globals sound F ls tied.is of.framed Sp (length r.waiting) x tied.deep le a i is.0 is.1 (word_below a i is lt)) (λ v n e. let z = of.framed.slot_to v n in omega arith)
-
-    waiting : Below T flow ls t.arrays To.memory Sp r.base r.waiting
-    waiting = below_keep T flow carries.some_frame carries.globals sound ls (λ f is. (carries.functions f (get_below flow.functions f (T.graph f) is.graph)).framed) r.waiting S.arrays t.arrays u.memory To.memory Sp r.base
-        (λ a x e. global_row T flow carries.some_frame carries.globals sound F ls tied.is of.framed To.memory Sp r.base t.arrays rows a x e)
-        (λ j from lt. others_items T w F Sp TheSetting IsArray Rs Ws S (First T.machine w fit T F Sp p carries.memory small some TheSetting IsArray items S u planning) p j items S t the_run (λ a is. waiting_row T flow carries.some_frame carries.globals sound F ls tied.is of.framed r.base j from lt a is.0 is.1))
-        above tied.below
+    waiting : Below T flow ls To.memory Sp r.waiting
+    waiting = below_keep T flow ls (saved_of T flow ls w carries) r.waiting u.memory To.memory Sp
+        (λ x word i framed. elsewhere word (λ k j has. the_table.free x word k j (inr i) framed has)
+        (λ v n e. let z = of.framed.slot_to v n in let y = framed_from T flow ls (waiting_above T Sp r.waiting) (Sp + T.frame) r.base tied.stacked.3 x word i framed in omega arith))
+        tied.below
 
     tied_at : (d : ℕ) → To.place ≡ T.starts F d → ((v : ℕ) (n : ℤ) → IsLive (T.layout F) d v → t.values v ≡ Some n → Shows T Sp F v n (holds T To Sp F v)) → NeverFails (λ n. program_run (laid_program flow ls) n (record r { block = suc d; state = t })) → Tied T flow ls (record r { block = suc d; state = t }) To
     tied_at d place shown safe = record {
@@ -299,9 +306,8 @@ module _ (T : Target) (flow : Flow) (ls : List VWords) (w : WordProgram) (sound 
       stack = arrived.stack;
       at = inr (d, record { block = refl; place = place; values = shown; link = link_stays T u To Sp F link arrived.link ∙ at_word.link });
       passed = tied.passed;
-      arrays = rows;
-      first = tied.first;
-      last = tied.last ∙ sym shape.count;
+      stacked = subst (λ c. IsStack T flow ls Sp c TheStack) (sym shape.count) tied.stacked;
+      seated = seated;
       below = waiting;
       input = arrived.input;
       out = arrived.out;

@@ -1,14 +1,13 @@
 -- Behind a call the stack pointers go up, the result comes to where it is kept, and what was saved is reloaded.
 use Rattle.std.proofs.Common.{◌≡◌, ◌≢◌, ◌<◌, ◌≤◌, ◌⊎◌, inl, inr, ⊎_elim, ◌+◌, ◌-◌, ◌*◌, ◌^◌, ℕ, suc, ℤ, pos, Bool, true, false, Option, Some, None, List, [], ◌∷◌, ◌++◌, length, length-append, take, refl, sym, ap, ◌∙◌, subst, arith}
-use Rattle.std.specs.Prelude.{slice_get, slice_index_or, if◌then◌else◌}
+use Rattle.std.specs.Prelude.{slice_get, if◌then◌else◌}
 use Rattle.std.specs.List.{flat_map}
 use Rattle.std.proofs.lemmas.Bool.{false_from_ne_true, ne_eqb}
-use Rattle.std.proofs.lemmas.List.{get_or-take, length-take-le, append-nil}
+use Rattle.std.proofs.lemmas.List.{append-nil}
 use Rattle.vx_base.specs.Arithmetic.{wrap, sum_of}
 use Rattle.vx_base.specs.declared.arithmetic.Code.TheVariants.{Add}
 use Rattle.vx_base.specs.Outcome.{Outcome, Ends, On, Over}
 use Rattle.vx_base.proofs.Runs.{run_reach, run_ends, safe_after, safe_end, reach_one}
-use Rattle.vx_flow.specs.declared.graph.Array.{Array}
 use Rattle.vx_flow.specs.declared.graph.Bank.{Bank}
 use Rattle.vx_flow.specs.declared.graph.Bank.TheVariants.{General as GeneralBank}
 use Rattle.vx_flow.specs.declared.graph.Exit.{Exit}
@@ -16,7 +15,7 @@ use Rattle.vx_flow.specs.declared.graph.Exit.TheVariants.{Call as Calling}
 use Rattle.vx_flow.specs.declared.graph.Flow.{Flow}
 use Rattle.vx_flow.specs.declared.graph.Operand.{Operand}
 use Rattle.vx_flow.specs.Effects.{Content, State as VState, IsIn, held, value_in}
-use Rattle.vx_flow.specs.Meaning.{Active, Frame, Hop, Leaves, returned, leaves, with_result, spot_of, after_hop, next}
+use Rattle.vx_flow.specs.Meaning.{Active, Frame, Hop, Leaves, returned, leaves, with_result, after_hop, next}
 use Rattle.vx_flow.specs.Sound.{Sound, SoundFlow, IsPlace, results_of_exit, is_sound_flow}
 use Rattle.vx_flow.proofs.Members.{in_right}
 use Rattle.vx_flow.proofs.SoundFlowLaw.{told}
@@ -35,19 +34,22 @@ use Rattle.vx_mixed.specs.LaidSettled.{bank_in}
 use Rattle.vx_layout.specs.Origins.{CallsAs}
 use Rattle.vx_regs.specs.Intervals.{IsLive, IsBusy, is_live, is_named, result_of}
 use Rattle.vx_target.specs.Target.{Target, answer, kept, is_slotted, is_branch, holds_branch, stack_on, register_of, one, bytes, move_stack, result_words, reload_words, call_words, back_words, set_stack, halt_place, memory_words}
-use Rattle.vx_target.specs.Tied.{Tied, Shows, Arrays, Waits, Below, Deep, IsResult, back_place, row_in, begins_at, is_place, moved as moved_number, holds, word_at}
+use Rattle.vx_target.specs.Tied.{Tied, Shows, Stacked, IsStack, Seated, Waits, Below, Deep, IsResult, waiting_above, seat, Itself, IsShown, back_place, is_place, kind_by, kind_of, holds, word_at}
 use Rattle.vx_target.specs.Carried.{Carries, IsFunctionOf, NeedsSlot, is_spilled, is_saved, Survives}
 use Rattle.vx_tie.specs.Planned.{CarriesOn, EndsAlike}
 use Rattle.vx_tie.specs.Returned.{ReturnLaw}
 use Rattle.vx_target.proofs.Calm.{AllFit, after, not_stuck, effect_is}
 use Rattle.vx_target.proofs.Enough.{some_cluster}
-use Rattle.vx_target.proofs.Frames.{get_below, get_in, frame_room, array_kind, IsGlobal, IsLocal, global_row, slot_free, link_in_frame, below_keep}
+use Rattle.vx_target.specs.Seats.{Seats, is_slot}
+use Rattle.vx_target.proofs.Frames.{get_below, get_in, frame_room, above_globals, link_in_frame, below_keep}
+use Rattle.vx_target.proofs.SeatRoom.{table, framed_from}
+use Rattle.vx_target.proofs.SeatSteps.{seated_on, returned_stack, returned_seated, frames_of, saved_of}
 use Rattle.vx_target.proofs.FromGraph.{branch_plain, place_made, whole_bank, has_whole, whole_is}
 use Rattle.vx_tie.proofs.Leaving.{Left, hop_to, left_run}
 use Rattle.vx_target.proofs.Live.{live_bank}
 use Rattle.vx_tie.proofs.Moves.{Moved, move_run, up}
 use Rattle.vx_target.proofs.Names.{in_register, apart_registers, not_zero, not_general}
-use Rattle.vx_target.proofs.Op.{same_or_not}
+use Rattle.vx_target.proofs.Cells.{same_or_not}
 use Rattle.vx_tie.proofs.Resulted.{CanGet, Resulted, result_run}
 use Rattle.vx_target.proofs.Slots.{Usable, Loaded, before_case, as_read, stack_no_answer}
 use Rattle.vx_target.proofs.Stands.{word_stands, word_next, start_stands}
@@ -90,11 +92,28 @@ module _ (T : Target) (flow : Flow) (ls : List VWords) (w : WordProgram) (sound 
   abbrev Globals : ℕ
   Globals = length flow.globals
 
-  both : Below T flow ls S.arrays u.memory tied.sp r.base (fr ∷ frs)
-  both = subst (λ fs. Below T flow ls S.arrays u.memory tied.sp r.base fs) waiting tied.below
+  both : Below T flow ls u.memory tied.sp (fr ∷ frs)
+  both = subst (λ fs. Below T flow ls u.memory tied.sp fs) waiting tied.below
 
-  waits : Waits T flow ls S.arrays u.memory Sp r.base fr frs
+  waits : Waits T flow ls u.memory Sp fr frs
   waits = both.0
+
+  -- the activations: the one that returns, and the others
+
+  abbrev Returning_one : Stacked
+  Returning_one = record { function = r.function; frame = tied.sp; base = r.base }
+
+  abbrev Caller : Stacked
+  Caller = record { function = F; frame = Sp; base = fr.base }
+
+  abbrev Activations : List Stacked
+  Activations = Caller ∷ waiting_above T Sp frs
+
+  was_stacked : IsStack T flow ls tied.sp (length S.arrays) (Returning_one ∷ Activations)
+  was_stacked = subst (λ fs. IsStack T flow ls tied.sp (length S.arrays) (Returning_one ∷ waiting_above T tied.sp fs)) waiting tied.stacked
+
+  was_seated : Seated T flow.globals (Returning_one ∷ Activations) S.arrays u.memory
+  was_seated = subst (λ fs. Seated T flow.globals (Returning_one ∷ waiting_above T tied.sp fs) S.arrays u.memory) waiting tied.seated
 
   abbrev P : ℕ
   P = waits.caller
@@ -178,10 +197,10 @@ module _ (T : Target) (flow : Flow) (ls : List VWords) (w : WordProgram) (sound 
   result_bank : (v : ℕ) → IsResult fr.result v → (b : Bank) × (bank_in (T.layout F) v ≡ Some b)
   result_bank v i = (GeneralBank, in_general_bank v i)
 
-  result_plain : (v : ℕ) → IsResult fr.result v → (is_place T F v ≡ false) × (holds_branch T F v ≡ false)
+  result_plain : (v : ℕ) → IsResult fr.result v → (kind_of T F v ≡ Itself) × (holds_branch T F v ≡ false)
   result_plain v i =
       let whole = whole_is T F Any graph_sound of.mapped.code (λ a lt. tt) v GeneralBank (result_general v i) in (
-        false_from_ne_true (is_place T F v) (λ e. let m = place_made T F Any graph_sound of.mapped.code v e in graph_sound.place_exit v m.0 Exiting (subst (λ y. IsPlace (T.graph F) y m.0) whole m.1) site.has (inr (among v i))),
+        ap kind_by (false_from_ne_true (is_place T F v) (λ e. let m = place_made T F Any graph_sound of.mapped.code v e in graph_sound.place_exit v m.0 Exiting (subst (λ y. IsPlace (T.graph F) y m.0) whole m.1) site.has (inr (among v i)))),
         ap is_branch (in_general_bank v i),
       )
 
@@ -324,7 +343,7 @@ module _ (T : Target) (flow : Flow) (ls : List VWords) (w : WordProgram) (sound 
     shows_result : (v : ℕ) (m : ℤ) → IsLive (T.layout F) (suc P) v → IsResult fr.result v → n ≡ m → Shows T Sp F v m (holds T C Sp F v)
     shows_result v m lives i e = record {
       answer = λ b. absurd (let z : true ≡ false = sym b ∙ (result_plain v i).1 in cc);
-      is = result_value v lives i ∙ e ∙ ap (λ c. moved_number Sp c m) (sym (result_plain v i).0);
+      is = subst (λ k. IsShown Sp k m (holds T C Sp F v)) (sym (result_plain v i).0) (result_value v lives i ∙ e);
     }
 
     shows_other : (v : ℕ) (m : ℤ) → IsLive (T.layout F) (suc P) v → (IsResult fr.result v → ⊥) → fr.values v ≡ Some m → Shows T Sp F v m (holds T C Sp F v)
@@ -350,36 +369,25 @@ module _ (T : Target) (flow : Flow) (ls : List VWords) (w : WordProgram) (sound 
     abbrev Rows : List (List Content)
     Rows = take r.base S.arrays
 
-    row_same : (j : ℕ) → j < r.base → row_in Rows j ≡ row_in S.arrays j
-    row_same j lt = get_or-take r.base S.arrays j [] lt
+    stacked : IsStack T flow ls Sp (length Rows) Activations
+    stacked = returned_stack T flow ls Returning_one Activations tied.sp S.arrays was_stacked
 
-    base_length : length Rows ≡ r.base
-    base_length = length-take-le r.base S.arrays (let a = tied.last in omega arith)
+    returned_rows : Seated T flow.globals Activations Rows u.memory
+    returned_rows = returned_seated T flow ls Returning_one Activations tied.sp S.arrays was_stacked u.memory was_seated
 
-    spot_low : (a : ℕ) (array : Array) → slice_get (T.graph F).arrays a ≡ Some array → spot_of Globals fr.base a < r.base
-    spot_low a array has = by (array_kind T flow carries.some_frame carries.globals sound F ls waits.is of.framed a array has)
-      where
-        by : IsGlobal T flow carries.some_frame carries.globals sound F ls waits.is of.framed a array ⊎ IsLocal T flow carries.some_frame carries.globals sound F ls waits.is of.framed a → spot_of Globals fr.base a < r.base
-        by (inl g) = let a = g.spot fr.base in let b = g.below in let c = waits.first in let d = waits.last in omega arith
-        by (inr l) = let x = l.spot fr.base in let b = l.from in let c = waits.last in let d = get_below (T.graph F).arrays a array has in omega arith
+    the_table : Seats T Globals Activations Rows u.memory (λ k. seat T flow.globals Activations k)
+    the_table = table T flow ls sound (frames_of T flow ls w carries) Activations Sp Rows u.memory stacked (above_globals T flow carries.some_frame carries.globals sound Sp (length frs) deep_back) returned_rows
 
-    arrays : Arrays T Globals C.memory Sp fr.base F Rows
-    arrays = record {
-      row = λ a array has.
-          let old = waits.arrays.row a array has in
-          let same = row_same (spot_of Globals fr.base a) (spot_low a array has) in
-          record {
-            size = ap length same ∙ old.size;
-            is = λ i z li e. memory_c (begins_at T Sp F a + i) (λ v j h q. slot_free T flow carries.some_frame carries.globals sound F ls waits.is of.framed Sp (length frs) v deep_back (result_needs v j h) a i array has li (sym q))
-                ∙ old.is i z li (ap (λ y. slice_index_or y i None) (sym same) ∙ e);
-          };
-    }
+    seated : Seated T flow.globals Activations Rows C.memory
+    seated = seated_on T flow.globals Activations Rows u.memory C.memory
+        (λ k i has. memory_c (seat T flow.globals Activations k + i) (λ v j h e. the_table.free Caller (Sp + T.slot F v) k i (inl refl) (is_slot v (result_needs v j h) refl) has (sym e)))
+        returned_rows
 
-    rest_below : Below T flow ls Rows C.memory Sp fr.base frs
-    rest_below = below_keep T flow carries.some_frame carries.globals sound ls (λ f is. (carries.functions f (get_below flow.functions f (T.graph f) is.graph)).framed) frs S.arrays Rows u.memory C.memory Sp fr.base
-        (λ a x e. global_row T flow carries.some_frame carries.globals sound F ls waits.is of.framed C.memory Sp fr.base Rows arrays a x e)
-        (λ j from lt. row_same j (let d = waits.last in omega arith))
-        (λ x le. memory_c x (λ v i h e. let a = of.framed.slot_to v (result_needs v i h) in omega arith)) both.1
+    rest_below : Below T flow ls C.memory Sp frs
+    rest_below = below_keep T flow ls (saved_of T flow ls w carries) frs u.memory C.memory Sp
+        (λ x word i framed. let z = framed_from T flow ls (waiting_above T Sp frs) (Sp + T.frame) fr.base was_stacked.3.3 x word i framed in
+        memory_c word (λ v j h e. let a = of.framed.slot_to v (result_needs v j h) in omega arith))
+        both.1
 
     -- the step over values
 
@@ -404,9 +412,8 @@ module _ (T : Target) (flow : Flow) (ls : List VWords) (w : WordProgram) (sound 
         stack = stack_c;
         at = inr (suc P, record { block = waits.next; place = place_c; values = values; link = link_in_frame T C Sp F P waits.callee waits.arguments fr.result waits.called ∙ link_c });
         passed = waits.passed;
-        arrays = arrays;
-        first = waits.first;
-        last = waits.last ∙ sym base_length;
+        stacked = stacked;
+        seated = seated;
         below = rest_below;
         input = quiet_c.input ∙ tied.input;
         out = quiet_c.out ∙ tied.out;

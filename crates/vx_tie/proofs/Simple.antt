@@ -25,7 +25,7 @@ use Rattle.vx_layout.specs.Laid.{moves, word_hop, laid_hop, some_word_hop, laid_
 use Rattle.vx_mixed.specs.LaidSettled.{LeadsTo, bank_in}
 use Rattle.vx_regs.specs.Intervals.{IsLive, here, beyond, is_live, word_writes}
 use Rattle.vx_target.specs.Target.{Target, answer, stack_on, kept, is_slotted, holds_branch, same_file, scratch, general_of, branch_of, register_of, slotted, before, follows, turns, one, waits, pause, word_words, memory_words}
-use Rattle.vx_target.specs.Tied.{Tied, AtWord, Below, begins_at, Shows, holds, is_place, moved, word_at}
+use Rattle.vx_target.specs.Tied.{Tied, AtWord, Below, Seated, stack_from, Shows, Itself, holds, kind_of, word_at}
 use Rattle.vx_target.specs.Carried.{Carries, IsFunctionOf, IsMapped, is_spilled}
 use Rattle.vx_tie.specs.Planned.{CarriesOn, EndsAlike, FallsNext, Simple, SimpleLaw}
 use Rattle.vx_target.proofs.Calm.{seen, AllFit, after, not_stuck, effect_is}
@@ -34,6 +34,7 @@ use Rattle.vx_target.proofs.FromGraph.{branch_plain, test_proper}
 use Rattle.vx_target.proofs.Names.{Few, Filed, filed, index_below, apart_mixed, not_zero, not_general}
 use Rattle.vx_target.proofs.Live.{live_bank}
 use Rattle.vx_target.proofs.Enough.{some_cluster, some_issue}
+use Rattle.vx_target.proofs.Proper.{itself}
 use Rattle.vx_target.proofs.Frames.{get_below, get_in, frame_room, link_stays}
 use Rattle.vx_target.proofs.Steps.{Stands, stands_left, stands_right, Quiet, Forth, then_forth, word_step, Passed, wait_step, goto_step}
 use Rattle.vx_target.proofs.Slots.{Usable, Loaded, once_case, stack_no_answer, link_unnamed, link_no_general}
@@ -92,10 +93,9 @@ module _ (T : Target) (flow : Flow) (ls : List VWords) (w : WordProgram) (sound 
     stack = λ c lt. k.stack c lt ∙ tied.stack c lt;
     at = inr (q, record { block = refl; place = k.place; values = values; link = link_stays T u v tied.sp F (ap (λ g. word_at g tied.sp) k.memory) k.link ∙ at_word.link });
     passed = tied.passed;
-    arrays = record { row = λ a array has. let x = tied.arrays.row a array has in record { size = x.size; is = λ i n lt e. ap (λ g. word_at g (begins_at T tied.sp F a + i)) k.memory ∙ x.is i n lt e } };
-    first = tied.first;
-    last = tied.last;
-    below = subst (λ g. Below T flow ls S.arrays g tied.sp r.base r.waiting) (sym k.memory) tied.below;
+    stacked = tied.stacked;
+    seated = subst (λ g. Seated T flow.globals (stack_from T tied.sp r) S.arrays g) (sym k.memory) tied.seated;
+    below = subst (λ g. Below T flow ls g tied.sp r.waiting) (sym k.memory) tied.below;
     input = k.quiet.input ∙ tied.input;
     out = k.quiet.out ∙ tied.out;
     safe = safe_after (next (laid_program flow ls)) (λ x. x.state.out) 1 r (record r { block = suc q }) (reach_one (next (laid_program flow ls)) r (record r { block = suc q }) steps) tied.safe;
@@ -237,7 +237,7 @@ module _ (T : Target) (flow : Flow) (ls : List VWords) (w : WordProgram) (sound 
   abbrev Any : ℕ → Type 0
   Any a = Unit {0}
 
-  test_is : (is_place T Fn test ≡ false) × (holds_branch T Fn test ≡ true)
+  test_is : (kind_of T Fn test ≡ Itself) × (holds_branch T Fn test ≡ true)
   test_is = let parts = its.mapped.code.choices p test q plan in test_proper T Fn Any graph_sound its.mapped.code (λ a lt. tt) test parts.yes parts.no parts.has
 
   live : IsLive (T.layout Fn) p test
@@ -282,7 +282,7 @@ module _ (T : Target) (flow : Flow) (ls : List VWords) (w : WordProgram) (sound 
   shown : (n : ℤ) → r.state.values test ≡ Some n → register got.to (Branch (record { cluster = 0; number = branch_of T Fn Name test })) ≡ n
   shown n e =
       ap (λ b. register got.to (if b then Branch (record { cluster = 0; number = branch_of T Fn Name test }) else General (general_of T Fn Name test))) (sym test_is.1)
-      ∙ (by (is_slotted (kept T Fn test)) refl (at_it.values test n live e)).is ∙ ap (λ b. moved tied.sp b n) test_is.0
+      ∙ itself (by (is_slotted (kept T Fn test)) refl (at_it.values test n live e)) test_is.0
     where
       by : (b : Bool) → is_slotted (kept T Fn test) ≡ b → Shows T tied.sp Fn test n (if b then word_at u.memory (tied.sp + T.slot Fn test) else register u (register_of T Fn (test ∷ []) test)) → Shows T tied.sp Fn test n (register got.to (register_of T Fn Name test))
       by true h k = subst (λ x. Shows T tied.sp Fn test n x) (sym (got.at test (slotted_in T Fn test Name (inl refl) h))) (read_shows T tied.sp Fn test n _ (branch_plain T Fn Any graph_sound its.mapped.code test) k)

@@ -1,18 +1,16 @@
 -- The first words of a program come to a state that is tied to the start over values.
-use Rattle.std.proofs.Common.{◌≡◌, ◌<◌, ◌≤◌, ◌⊎◌, inl, inr, ◌+◌, ◌-◌, ◌*◌, ℕ, zero, suc, ℤ, pos, false, Some, None, List, [], ◌∷◌, ◌++◌, length, length-append, map, drop, replicate, eqb, refl, sym, ap, ◌∙◌, subst, arith}
+use Rattle.std.proofs.Common.{◌≡◌, ◌<◌, ◌≤◌, inl, ◌+◌, ◌-◌, ◌*◌, ℕ, zero, suc, ℤ, pos, false, Some, None, List, [], ◌∷◌, ◌++◌, length, map, replicate, eqb, refl, sym, ap, ◌∙◌, subst, arith}
 use Rattle.std.specs.Prelude.{slice_get, slice_index_or, if◌then◌else◌}
-use Rattle.std.proofs.lemmas.List.{length-map, length-drop, length-replicate, length-set, get_or-replicate, get_or_append_left, get_or-append-add, get_or-drop, get_or-map, get_or-set_same, get_or-set_other, append-nil}
+use Rattle.std.proofs.lemmas.List.{length-map, length-replicate, length-set, get_or-replicate, get_or-map, get_or-set_same, get_or-set_other, append-nil}
 use Rattle.std.proofs.lemmas.Option.{get_or_from_slice_get}
 use Rattle.std.proofs.lemmas.Bool.{ne_eqb}
 use Rattle.vx_base.specs.Arithmetic.{wrap}
 use Rattle.vx_base.specs.Outcome.{NeverFails}
 use Rattle.vx_base.proofs.Runs.{run_reach}
-use Rattle.vx_flow.specs.declared.graph.Array.{Array}
 use Rattle.vx_flow.specs.declared.graph.Global.{Global}
-use Rattle.vx_flow.specs.declared.graph.Graph.{Graph}
 use Rattle.vx_flow.specs.declared.graph.Flow.{Flow}
 use Rattle.vx_flow.specs.Effects.{Content, State as VState}
-use Rattle.vx_flow.specs.Meaning.{Active, Body, undefined, own_of, entered, entered_or, at_entry, at_start, words_at_start, globals_at_start, deepest, spot_of, program_run}
+use Rattle.vx_flow.specs.Meaning.{Active, Body, undefined, own_of, entered, entered_or, at_entry, at_start, words_at_start, globals_at_start, deepest, program_run}
 use Rattle.vx_flow.specs.Sound.{SoundFlow, is_sound_flow}
 use Rattle.vx_flow.proofs.SoundFlowLaw.{told}
 use Rattle.vx_isa.specs.declared.operation.Register.TheVariants.{General, Link}
@@ -25,41 +23,16 @@ use Rattle.vx_isa.specs.Machine.{State, register, start, step, memory_at_start}
 use Rattle.vx_mixed.specs.declared.layout.VWords.{VWords}
 use Rattle.vx_layout.specs.Laid.{laid_hop, laid_body, laid_program, laid_run}
 use Rattle.vx_target.specs.Target.{Target, stack_on, one, answer, set_stack, start_words, first_frame, halt_place, bytes, parameters_of}
-use Rattle.vx_target.specs.Tied.{Tied, Row, Arrays, Deep, row_in, begins_at, word_at, own_arrays}
-use Rattle.vx_target.specs.Carried.{Carries, IsFunctionOf, words_before, first_or_zero}
+use Rattle.vx_target.specs.Tied.{Tied, Deep, IsStack, Seated, stack_from, row_in, word_at, words_before}
+use Rattle.vx_target.specs.Carried.{Carries, IsFunctionOf, first_or_zero}
 use Rattle.vx_tie.specs.Planned.{StartsTied, StartLaw}
 use Rattle.vx_target.proofs.Calm.{after, AllFit, put_at, put_off}
-use Rattle.vx_target.proofs.Frames.{get_below, array_kind, IsGlobal, IsLocal}
+use Rattle.vx_target.proofs.Cells.{row_there}
+use Rattle.vx_target.proofs.Frames.{get_below, get_some}
+use Rattle.vx_target.proofs.SeatSteps.{entered_stack, entered_seated}
 use Rattle.vx_tie.proofs.Moves.{Moved, move_run}
 use Rattle.vx_target.proofs.Steps.{Stands, stands_left, stands_right, Forth, forth_comes, then_forth, word_step}
 use Rattle.vx_target.proofs.Stands.{start_stands}
-
--- rows of lists of arrays
-
-pub row_left : (xs ys : List (List Content)) (k : ℕ) → k < length xs → row_in (xs ++ ys) k ≡ row_in xs k
-row_left xs ys k lt = get_or_append_left xs ys [] k lt
-
-pub row_right : (xs ys : List (List Content)) (k : ℕ) → row_in (xs ++ ys) (length xs + k) ≡ row_in ys k
-row_right xs ys k = get_or-append-add xs ys k []
-
--- the own arrays of a function that is entered are undefined
-pub own_row : (G a : ℕ) (graph : Graph) (array : Array) → G ≤ a → slice_get graph.arrays a ≡ Some array → row_in (map undefined (own_of G graph)) (a - G) ≡ undefined array.words
-own_row G a graph array from has =
-    let below : a < length graph.arrays = get_below graph.arrays a array has in
-    let len : length (drop G graph.arrays) ≡ length graph.arrays - G = length-drop G graph.arrays in
-    let lm : length (own_of G graph) ≡ length (drop G graph.arrays) = length-map (drop G graph.arrays) (λ (x : Array). x.words) in
-    let lt : a - G < length (drop G graph.arrays) = omega arith in
-    let lt2 : a - G < length (own_of G graph) = omega arith in
-    let place : G + (a - G) ≡ a = omega arith in
-    let item : slice_index_or graph.arrays a array ≡ array = get_or_from_slice_get graph.arrays a array array has in
-    get_or-map undefined (own_of G graph) (a - G) 0 [] lt2
-    ∙ ap undefined (get_or-map (λ (x : Array). x.words) (drop G graph.arrays) (a - G) array 0 lt ∙ ap (λ (x : Array). x.words) (get_or-drop G graph.arrays (a - G) array ∙ ap (λ k. slice_index_or graph.arrays k array) place ∙ item))
-
-pub undefined_row : (memory : ℕ → ℤ) (at words : ℕ) → Row memory at words (undefined words)
-undefined_row memory at words = record {
-  size = length-replicate words None;
-  is = λ i n lt e. absurd (let z : None ≡ Some n = sym (get_or-replicate words i None None lt) ∙ e in cc);
-}
 
 -- a global at the start
 
@@ -175,28 +148,32 @@ module _ (T : Target) (flow : Flow) (ls : List VWords) (w : WordProgram) (sound 
   memory_is : B.memory ≡ memory_at_start w.start
   memory_is = moved.memory
 
-  arrays : Arrays T Globals B.memory First (length Firsts) Main (Firsts ++ Owns)
-  arrays = record { row = λ a array has. by a array has (array_kind T flow carries.some_frame carries.globals sound Main ls of.is of.framed a array has) }
-    where
-      by : (a : ℕ) (array : Array) → slice_get (T.graph Main).arrays a ≡ Some array → IsGlobal T flow carries.some_frame carries.globals sound Main ls of.is of.framed a array ⊎ IsLocal T flow carries.some_frame carries.globals sound Main ls of.is of.framed a → Row B.memory (begins_at T First Main a) array.words (row_in (Firsts ++ Owns) (spot_of Globals (length Firsts) a))
-      by a array has (inl g) =
-          let lt : a < length Firsts = (let c = firsts_count in let x = g.below in omega arith) in
-          let row_is : row_in (Firsts ++ Owns) (spot_of Globals (length Firsts) a) ≡ words_at_start g.item =
-          ap (row_in (Firsts ++ Owns)) (g.spot (length Firsts)) ∙ row_left Firsts Owns a lt ∙ get_or-map words_at_start flow.globals a g.item [] g.below ∙ ap words_at_start (get_or_from_slice_get flow.globals a g.item g.item g.has) in
-          record {
-            size = ap length row_is ∙ length-set (replicate g.item.words (Some (pos 0))) 0 (Some g.item.first) ∙ length-replicate g.item.words (Some (pos 0)) ∙ sym g.words;
-            is = λ i n l e.
-                let li : i < g.item.words = subst (λ x. i < x) g.words l in
-                ap (λ b. word_at B.memory (b + i)) (g.begins First) ∙ ap (λ m. word_at m (words_before flow.globals a + i)) memory_is ∙ carries.start a i g.item g.has li
-                ∙ global_cell g.item i n li (ap (λ r. slice_index_or r i None) (sym row_is) ∙ e);
-          }
-      by a array has (inr l) =
-          let row_is : row_in (Firsts ++ Owns) (spot_of Globals (length Firsts) a) ≡ undefined array.words =
-          ap (row_in (Firsts ++ Owns)) (l.spot (length Firsts)) ∙ row_right Firsts Owns (a - Globals) ∙ own_row Globals a (T.graph Main) array l.from has in
-          subst (λ r. Row B.memory (begins_at T First Main a) array.words r) (sym row_is) (undefined_row B.memory (begins_at T First Main a) array.words)
+  -- before the first function is entered the rows are the globals
 
-  own_count : length Owns ≡ own_arrays T Globals Main
-  own_count = length-map (own_of Globals (T.graph Main)) undefined ∙ length-map (drop Globals (T.graph Main).arrays) (λ (x : Array). x.words) ∙ length-drop Globals (T.graph Main).arrays
+  first_row : (k : ℕ) (x : Global) → slice_get flow.globals k ≡ Some x → row_in Firsts k ≡ words_at_start x
+  first_row k x e = get_or-map words_at_start flow.globals k x [] (get_below flow.globals k x e) ∙ ap words_at_start (get_or_from_slice_get flow.globals k x x e)
+
+  first_length : (k : ℕ) (x : Global) → slice_get flow.globals k ≡ Some x → length (row_in Firsts k) ≡ x.words
+  first_length k x e = ap length (first_row k x e) ∙ length-set (replicate x.words (Some (pos 0))) 0 (Some x.first) ∙ length-replicate x.words (Some (pos 0))
+
+  no_stack : IsStack T flow ls (First + T.frame) (length Firsts) []
+  no_stack = ((let d = deep.is in let m : T.frame * 1 ≡ T.frame = grind arith in omega arith), firsts_count)
+
+  globals_seated : Seated T flow.globals [] Firsts B.memory
+  globals_seated = record {
+    sized = record { global = first_length; own = λ x j a array i own has. absurd i };
+    known = λ k i n has e.
+        (let c = firsts_count in
+        let x = get_some flow.globals k (let t = row_there Firsts k i has in omega arith) in
+        let li : i < x.0.words = (let s = first_length k x.0 x.1 in omega arith) in
+        ap (λ m. word_at m (words_before flow.globals k + i)) memory_is ∙ carries.start k i x.0 x.1 li ∙ global_cell x.0 i n li (ap (λ r. slice_index_or r i None) (sym (first_row k x.0 x.1)) ∙ e));
+  }
+
+  stacked : IsStack T flow ls First (length (Firsts ++ Owns)) (stack_from T First Entered)
+  stacked = entered_stack T flow ls [] First Firsts Main of.is no_stack
+
+  seated : Seated T flow.globals (stack_from T First Entered) (Firsts ++ Owns) B.memory
+  seated = entered_seated T flow ls [] (First + T.frame) Firsts B.memory Main First no_stack globals_seated
 
   tied : Tied T flow ls Entered B
   tied = record {
@@ -207,9 +184,8 @@ module _ (T : Target) (flow : Flow) (ls : List VWords) (w : WordProgram) (sound 
     stack = stack_is;
     at = inl (record { block = refl; place = refl; values = λ v n e. absurd (no_arguments (parameters_of T Main) v n e); link = link_is });
     passed = refl;
-    arrays = arrays;
-    first = (let c = firsts_count in omega arith);
-    last = (let a = length-append Firsts Owns in let b = own_count in omega arith);
+    stacked = stacked;
+    seated = seated;
     below = tt;
     input = moved.quiet.input;
     out = append-nil A.out ∙ moved.quiet.out;

@@ -1,7 +1,7 @@
 use Rattle.std.proofs.Common.{length, slice_index_or, List, ap, ◌∙◌, subst, sym, arith}
 use Rattle.vx_flow.specs.declared.graph.Global.{Global}
 use Rattle.vx_flow.specs.declared.graph.Graph.{Graph}
-use Rattle.vx_target.specs.Carried.{words_before}
+use Rattle.vx_target.specs.Tied.{words_before}
 use Rattle.vx_calls.specs.Framing.{IsFrameOf}
 use Rattle.vx_slots.specs.Seen.{no_graph, no_layout, no_map, no_frame}
 use Rattle.vx_frame.proofs.Assembled.{layout_settled}

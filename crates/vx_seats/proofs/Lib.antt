@@ -1,0 +1,3 @@
+pub mod SeatSteps
+pub mod Showing
+pub mod Spots

@@ -1,0 +1,5 @@
+use Rattle.vx_seats.proofs.Spots.{spots_apart}
+use Rattle.vx_seats.proofs.laws.own_arrays_stand_apart.Goals as goal
+
+pub returns : goal.returns
+returns c = spots_apart

@@ -1,0 +1,4 @@
+pub mod Arrays
+pub mod Given
+pub mod SeatLaws
+pub mod Shown

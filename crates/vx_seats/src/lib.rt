@@ -1,0 +1,4 @@
+// Laws of seats: where the rows of storage stand in memory.
+#![tactic(auto)]
+
+pub mod laws;
