@@ -1,0 +1,11 @@
+mod Examples
+mod Standings
+mod OpsTied
+mod BlocksTied
+mod RunsTied
+mod RenameRuns
+mod RenameShape
+mod RenameFlow
+mod RenameWays
+pub mod Making
+mod Alls

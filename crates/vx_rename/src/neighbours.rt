@@ -1,0 +1,72 @@
+// Which webs must have different names: what is written, and all that is live behind it; what is live at the entry, and the
+// parameters.
+
+use crate::value_sets::{NONE, at, put};
+use std::alloc::Global;
+use vx_base::outcome::NoMemory;
+
+/// A neighbour of a web, and the place of the next one.
+#[derive(Clone, Copy)]
+pub struct Link {
+    pub with: u32,
+    pub next: u32,
+}
+
+/// The neighbours of webs, as a chain of links for each.
+#[derive(Drop)]
+pub struct Neighbours {
+    /// The place of the first link of each web.
+    heads: Vec<u32>,
+    links: Vec<Link>,
+    /// How many links there may be.
+    most: usize,
+}
+
+impl Neighbours {
+    /// No neighbours, of so many webs; as many links as this are kept, and a few more.
+    pub fn new(alloc: Global, webs: usize, most: usize) -> Result<Neighbours, NoMemory> {
+        let heads = vec![in alloc; NONE; webs]?;
+        Ok(Neighbours {
+            heads,
+            links: Vec::new(alloc),
+            most,
+        })
+    }
+
+    /// Makes two webs neighbours.
+    pub fn link(&mut self, one: u32, other: u32) -> Result<(), NoMemory> {
+        self.link_to(one, other)?;
+        self.link_to(other, one)
+    }
+
+    fn link_to(&mut self, web: u32, with: u32) -> Result<(), NoMemory> {
+        let place = self.links.len().min(NONE as usize) as u32;
+        let next = at(self.heads.as_slice(), web);
+        self.links.push(Link { with, next })?;
+        put(&mut self.heads, web, place);
+        Ok(())
+    }
+
+    /// Whether there may be no more links, so that some may not be there.
+    pub fn is_full(&self) -> bool {
+        self.links.len() >= self.most
+    }
+
+    /// How many links there are.
+    pub fn len(&self) -> usize {
+        self.links.len()
+    }
+
+    /// The place of the first link of a web.
+    pub fn first(&self, web: u32) -> u32 {
+        at(self.heads.as_slice(), web)
+    }
+
+    /// The link at a place.
+    pub fn link_at(&self, place: u32) -> Option<Link> {
+        match self.links.as_slice().get(place as usize) {
+            Some(link) => Some(*link),
+            None => None,
+        }
+    }
+}
