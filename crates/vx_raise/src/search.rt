@@ -4,7 +4,7 @@
 
 use crate::costs::cost_of;
 use crate::known::Move;
-use crate::names::{Names, names_of};
+use crate::names::{Names, Passing, names_of};
 use crate::plan::{Plan, number_at, plan_of};
 use crate::raised_flow::Wanted;
 use crate::sketch::{Ground, Sketch};
@@ -32,6 +32,13 @@ enum Kind {
     Critical,
     /// All that may be.
     All,
+}
+
+/// What the registers allow: the values that are kept before, and those that pass in the turn.
+#[derive(Clone, Copy)]
+struct Limits<'a> {
+    names: &'a Names,
+    passing: Passing,
 }
 
 /// What an attempt comes to: its cost, and its moves.
@@ -135,14 +142,25 @@ fn shorten(
     turn: &Turn,
 ) -> Result<(), NoMemory> {
     let before = cost_of(alloc, ground, sketch, turn)?;
-    let best = best_of(alloc, ground, sketch, names, turn, before)?;
+    let best = best_within(alloc, ground, sketch, names, turn, before)?;
     if best.cost.saturating_add(before / 64) < before {
         raise_each(ground, sketch, names, best.moves.as_slice())?;
     }
     Ok(())
 }
 
-fn best_of(
+fn passing_of(
+    alloc: Global,
+    ground: &Ground,
+    sketch: &Sketch,
+    names: &Names,
+    turn: &Turn,
+) -> Result<Passing, NoMemory> {
+    let steps = steps_of(alloc, ground, sketch, turn.path.as_slice())?;
+    Ok(names.count_passing(ground.graph, steps.as_slice()))
+}
+
+fn best_within(
     alloc: Global,
     ground: &Ground,
     sketch: &mut Sketch,
@@ -150,8 +168,21 @@ fn best_of(
     turn: &Turn,
     before: u64,
 ) -> Result<Attempt, NoMemory> {
-    let one = attempt(alloc, ground, sketch, names, turn, Kind::Critical, before)?;
-    let other = attempt(alloc, ground, sketch, names, turn, Kind::All, before)?;
+    let passing = passing_of(alloc, ground, sketch, names, turn)?;
+    let limits = Limits { names, passing };
+    best_of(alloc, ground, sketch, &limits, turn, before)
+}
+
+fn best_of(
+    alloc: Global,
+    ground: &Ground,
+    sketch: &mut Sketch,
+    limits: &Limits,
+    turn: &Turn,
+    before: u64,
+) -> Result<Attempt, NoMemory> {
+    let one = attempt_by(alloc, ground, sketch, limits, turn, Kind::Critical, before)?;
+    let other = attempt_by(alloc, ground, sketch, limits, turn, Kind::All, before)?;
     Ok(if other.cost < one.cost { other } else { one })
 }
 
@@ -172,11 +203,11 @@ fn raise_each(
 }
 
 /// Puts operations round as long as it helps, and takes all back. Answers the moves with the least cost.
-fn attempt(
+fn attempt_by(
     alloc: Global,
     ground: &Ground,
     sketch: &mut Sketch,
-    names: &Names,
+    limits: &Limits,
     turn: &Turn,
     kind: Kind,
     before: u64,
@@ -186,7 +217,7 @@ fn attempt(
     let mut count = start;
     let mut idle = 0usize;
     for _ in 0..MOST_ROUNDS {
-        let moved = put_round(alloc, ground, sketch, names, turn, kind, start)?;
+        let moved = put_round(alloc, ground, sketch, limits, turn, kind, start)?;
         if !moved || idle >= MOST_IDLE || sketch.count() >= MOST_MOVES {
             break;
         }
@@ -221,7 +252,7 @@ fn put_round(
     alloc: Global,
     ground: &Ground,
     sketch: &mut Sketch,
-    names: &Names,
+    limits: &Limits,
     turn: &Turn,
     kind: Kind,
     start: usize,
@@ -239,7 +270,7 @@ fn put_round(
         }
         if is_wanted(&plan, index, step, least) {
             let place = step.place.saturating_sub(gone);
-            if carry(ground, sketch, names, turn, row, place, start)? {
+            if carry(ground, sketch, limits, turn, row, place, start)? {
                 is_moved = true;
                 gone = gone.saturating_add(1);
             }
@@ -280,7 +311,7 @@ fn is_movable(step: &Step) -> bool {
 fn carry(
     ground: &Ground,
     sketch: &mut Sketch,
-    names: &Names,
+    limits: &Limits,
     turn: &Turn,
     row: usize,
     place: usize,
@@ -288,7 +319,7 @@ fn carry(
 ) -> Result<bool, NoMemory> {
     let count = sketch.count();
     if raise_along(ground, sketch, turn.path.as_slice(), row, place)?
-        && names.has_room(ground, sketch.raised_since(start))
+        && limits.names.has_room(ground, limits.passing, sketch.raised_since(start))
     {
         Ok(true)
     } else {

@@ -130,14 +130,15 @@ fn off_row(graph: &Graph, block: BlockId, next: Option<BlockId>) -> Option<Off> 
     }
 }
 
-fn has(value: Option<Value>, other: Value) -> bool {
+/// Whether there is a value, and it is this one.
+pub(crate) fn has(value: Option<Value>, other: Value) -> bool {
     match value {
         Some(value) => value == other,
         None => false,
     }
 }
 
-fn reads(read: &Reads, value: Value) -> bool {
+fn reads_value(read: &Reads, value: Value) -> bool {
     has(read.first, value) || has(read.second, value) || has(read.third, value)
 }
 
@@ -155,7 +156,7 @@ pub(crate) fn delay_of(ground: &Ground, sketch: &Sketch, first: &Step, second: &
 fn delay_by_values(first: &Step, second: &Step) -> Option<u32> {
     match first.written {
         Some(value) => {
-            if reads(&second.read, value) || has(second.written, value) {
+            if reads_value(&second.read, value) || has(second.written, value) {
                 return Some(first.latency);
             }
         }
@@ -163,7 +164,7 @@ fn delay_by_values(first: &Step, second: &Step) -> Option<u32> {
     }
     match second.written {
         Some(value) => {
-            if reads(&first.read, value) {
+            if reads_value(&first.read, value) {
                 Some(0)
             } else {
                 None
