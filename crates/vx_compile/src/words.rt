@@ -34,6 +34,7 @@ use vx_mixed::layout::VWords;
 use vx_motion::laws::{blocks_mean_the_graph, replaced_programs_run_the_same};
 use vx_narrow::narrow;
 use vx_profile::counts::Counts;
+use vx_raise::{Units, raise};
 use vx_regs::map::{Kept, RegMap};
 use vx_regs::registers;
 use vx_report::Plan;
@@ -137,6 +138,40 @@ fn narrowed_again(alloc: Global, hoisted: Hoisted) -> Result<Flow, NoMemory>
     clean(alloc, narrowed)
 }
 
+/// The numbers of a machine by which raising estimates turns. Of the registers those are left out that words need besides values.
+fn units_of(machine: &Machine) -> Units {
+    let issue = machine.issue();
+    let clusters = machine.clusters();
+    let kept = issue.saturating_mul(2).saturating_add(3);
+    Units {
+        slots: issue.saturating_mul(clusters),
+        first_slots: issue,
+        alus: machine.alus().saturating_mul(clusters),
+        multipliers: machine.multipliers().saturating_mul(clusters),
+        memory_units: machine.memory_units().saturating_mul(clusters),
+        registers: machine.registers().saturating_sub(kept),
+        branch_registers: machine.branch_registers().saturating_sub(issue),
+        latency_alu: machine.latency_alu(),
+        latency_compare: machine.latency_compare(),
+        latency_multiply: machine.latency_multiply(),
+        latency_load: machine.latency_load(),
+        latency_divide: machine.latency_divide(),
+    }
+}
+
+/// The graphs from which words are planned: those whose blocks a profile counts, with operations raised over the bounds of blocks.
+fn planned_flow_of(
+    alloc: Global,
+    program: &Typed,
+    machine: &Machine,
+    counts: &Counts,
+) -> Result<Flow, NoMemory>
+    ensures { IfOk result (λ flow. FlowOf (view.program_of program.now.program) flow) }
+{
+    let flow = flow_of(alloc, program)?;
+    raise(alloc, flow, counts, &units_of(machine))
+}
+
 /// How many blocks graphs have.
 #[tactic(auto, using(std::proofs::lemmas::List::Sums::sum_by_more))]
 fn blocks_in(graphs: &[Graph]) -> Result<u32, NoMemory>
@@ -218,7 +253,7 @@ pub fn compile_sized(
 {
     stages_do_the_same();
     machine.keeps_ranges();
-    let flow = flow_of(alloc, program)?;
+    let flow = planned_flow_of(alloc, program, machine, counts)?;
     let size = size_of(&flow)?;
     let compiled = compiled_of(alloc, &flow, counts, machine, growth)?;
     Ok(SizedProgram { compiled, size })

@@ -1,0 +1,202 @@
+-- A loop that sums up an array, and the same after five steps: the compare, the place and the load of the next turn are computed at
+-- the end of this one, and once before the loop.
+use Rattle.std.proofs.Common.{◌≡◌, ℕ, ◌==◌, pos, Bool, true, false, List, [], ◌∷◌, slice_index_or, refl}
+use Rattle.std.specs.List.{list_any}
+use Rattle.std.specs.Int.{int_wrap}
+use Rattle.vx_base.specs.Arithmetic.{sum_of, product_of}
+use Rattle.vx_base.specs.Outcome.{Outcome}
+use Rattle.vx_base.specs.declared.arithmetic.Code.TheVariants.{Add, Mov, ToBranch}
+use Rattle.vx_base.specs.declared.arithmetic.Compare.TheVariants.{Lt}
+use Rattle.vx_flow.specs.declared.graph.Operand.TheVariants.{Held, Number}
+use Rattle.vx_flow.specs.declared.graph.Bank.TheVariants.{General, Branch}
+use Rattle.vx_flow.specs.declared.graph.Op.{Op}
+use Rattle.vx_flow.specs.declared.graph.Op.TheVariants.{Compute, Place, Load, Store}
+use Rattle.vx_flow.specs.declared.graph.Exit.{Exit}
+use Rattle.vx_flow.specs.declared.graph.Exit.TheVariants.{Goto, Split, Return}
+use Rattle.vx_flow.specs.declared.graph.Block.{Block}
+use Rattle.vx_flow.specs.declared.graph.Graph.{Graph}
+use Rattle.vx_flow.specs.declared.graph.Flow.{Flow}
+use Rattle.vx_flow.specs.Meaning.{graph_run}
+use Rattle.vx_flow.specs.Sound.{is_sound_flow}
+use Rattle.vx_shape.specs.ShapeTest.{is_shaped}
+use Rattle.vx_raise.specs.Raising.{raised, can_raise}
+use Rattle.vx_raise.specs.Exchanging.{may_pass}
+use Rattle.vx_raise.specs.declared.known.Move.{Move}
+use Rattle.vx_raise.specs.Lifting.{all_lifted, can_lift_all}
+
+abbrev graph : List Block → Graph
+graph blocks = record { blocks = blocks; banks = General ∷ General ∷ Branch ∷ General ∷ General ∷ []; parameters = []; arrays = record { words = 4; global = true; named = 0 } ∷ [] }
+
+abbrev flow : Graph → Flow
+flow g = record { functions = g ∷ []; globals = record { words = 4; first = pos 7 } ∷ []; texts = []; main = 0 }
+
+abbrev block : List Op → Exit → Block
+block ops exit = record { ops = ops; exit = exit }
+
+-- values: 0 the index, 1 the sum, 2 whether the loop goes on, 3 the place, 4 the number there
+
+abbrev begin_index : Op
+begin_index = Compute Mov 0 (Number (pos 0)) (Number (pos 0))
+
+abbrev begin_sum : Op
+begin_sum = Compute Mov 1 (Number (pos 0)) (Number (pos 0))
+
+abbrev compare : Op
+compare = Compute (ToBranch Lt) 2 (Held 0) (Number (pos 4))
+
+abbrev place : Op
+place = Place 3 0 (Held 0)
+
+abbrev load : Bool → Op
+load dismissible = Load 4 0 (Held 3) dismissible
+
+abbrev add : Op
+add = Compute Add 1 (Held 1) (Held 4)
+
+abbrev count : Op
+count = Compute Add 0 (Held 0) (Number (pos 1))
+
+abbrev loop : Graph
+loop = graph
+    (block (begin_index ∷ begin_sum ∷ []) (Goto 1)
+    ∷ block (compare ∷ []) (Split 2 2 3)
+    ∷ block (place ∷ load false ∷ add ∷ count ∷ []) (Goto 1)
+    ∷ block [] (Return (Held 1))
+    ∷ [])
+
+abbrev ahead : Graph
+ahead = graph
+    (block (begin_index ∷ begin_sum ∷ compare ∷ place ∷ load true ∷ []) (Goto 1)
+    ∷ block [] (Split 2 2 3)
+    ∷ block (add ∷ count ∷ compare ∷ place ∷ load true ∷ []) (Goto 1)
+    ∷ block [] (Return (Held 1))
+    ∷ [])
+
+abbrev one : Graph
+one = raised loop 1
+
+abbrev two : Graph
+two = raised one 2
+
+abbrev three : Graph
+three = raised two 2
+
+abbrev four : Graph
+four = raised three 1
+
+pub five_steps : raised four 1 ≡ ahead
+five_steps = refl
+
+-- what is live at the start of each block
+
+abbrev rows : List (List ℕ) → ℕ → ℕ → Bool
+rows live b v = list_any (λ u. u == v) (slice_index_or live b [])
+
+abbrev live : List ℕ → List ℕ → ℕ → ℕ → Bool
+live head body = rows ([] ∷ head ∷ body ∷ (1 ∷ []) ∷ [])
+
+pub can_one : can_raise (live (0 ∷ 1 ∷ []) (0 ∷ 1 ∷ [])) loop 1 ≡ true
+can_one = refl
+
+pub can_two : can_raise (live (0 ∷ 1 ∷ 2 ∷ []) (0 ∷ 1 ∷ [])) one 2 ≡ true
+can_two = refl
+
+pub can_three : can_raise (live (0 ∷ 1 ∷ 2 ∷ []) (0 ∷ 1 ∷ 3 ∷ [])) two 2 ≡ true
+can_three = refl
+
+pub can_four : can_raise (live (0 ∷ 1 ∷ 2 ∷ []) (0 ∷ 1 ∷ 4 ∷ [])) three 1 ≡ true
+can_four = refl
+
+pub can_five : can_raise (live (0 ∷ 1 ∷ 2 ∷ 3 ∷ []) (0 ∷ 1 ∷ 4 ∷ [])) four 1 ≡ true
+can_five = refl
+
+-- the sum is read behind the loop, so that adding may not be raised over the test, nor may a value be that the test is of
+pub sum_is_read : can_raise (live (0 ∷ 1 ∷ 2 ∷ 4 ∷ []) (0 ∷ 1 ∷ 4 ∷ [])) ahead 2 ≡ false
+sum_is_read = refl
+
+-- nor is the first block, nor one that a call leads to
+pub first_stays : can_raise (live [] []) loop 0 ≡ false
+first_stays = refl
+
+-- what comes out is sound and has its shape, and both do the same
+
+pub ahead_is_sound : is_sound_flow (flow ahead) ≡ true
+ahead_is_sound = refl
+
+pub ahead_is_shaped : is_shaped (4 ∷ 4 ∷ 1 ∷ 1 ∷ []) ahead.blocks ≡ true
+ahead_is_shaped = refl
+
+pub sums : graph_run (flow loop) [] 12 ≡ Outcome.Ends (pos 7) []
+unfolding int_wrap sum_of product_of
+sums = refl
+
+pub sums_ahead : graph_run (flow ahead) [] 12 ≡ Outcome.Ends (pos 7) []
+unfolding int_wrap sum_of product_of
+sums_ahead = refl
+
+-- the same as a row of moves, tested by what is live in the loop that came; the place may pass nothing, the load passes no store
+
+abbrev move : ℕ → ℕ → Move
+move b k = record { block = b; place = k }
+
+abbrev moves : List Move
+moves = move 1 0 ∷ move 2 0 ∷ move 2 0 ∷ move 1 0 ∷ move 1 0 ∷ []
+
+pub can_all : can_lift_all (live (0 ∷ 1 ∷ []) (0 ∷ 1 ∷ [])) loop moves ≡ true
+can_all = refl
+
+pub all_moved : all_lifted loop moves ≡ ahead
+all_moved = refl
+
+-- counting passes adding, and neither the place that it is counted for nor the load at that place
+pub counting_passes : may_pass add count ≡ true
+counting_passes = refl
+
+pub counting_stays : may_pass place count ≡ false
+counting_stays = refl
+
+pub load_stays : may_pass place (load false) ≡ false
+load_stays = refl
+
+pub load_behind_store : may_pass (Store 0 (Number (pos 0)) (Held 1)) (load false) ≡ false
+load_behind_store = refl
+
+-- ---- why a value may not be raised that is read on the other side, nor one that the test is of: by flows that then end otherwise
+
+abbrev forks : List Op → List Op → Graph
+forks before behind = graph
+    (block (Compute Mov 0 (Number (pos 5)) (Number (pos 0)) ∷ Compute (ToBranch Lt) 2 (Held 0) (Number (pos 4)) ∷ before) (Split 2 1 2)
+    ∷ block behind (Return (Held 0))
+    ∷ block [] (Return (Held 0))
+    ∷ [])
+
+abbrev write : Op
+write = Compute Mov 0 (Number (pos 9)) (Number (pos 0))
+
+pub side_is_kept : graph_run (flow (forks [] (write ∷ []))) [] 2 ≡ Outcome.Ends (pos 5) []
+side_is_kept = refl
+
+pub side_is_lost : graph_run (flow (raised (forks [] (write ∷ [])) 1)) [] 2 ≡ Outcome.Ends (pos 9) []
+side_is_lost = refl
+
+pub side_is_refused : can_raise (rows ([] ∷ [] ∷ (0 ∷ []) ∷ [])) (forks [] (write ∷ [])) 1 ≡ false
+side_is_refused = refl
+
+abbrev test : Op
+test = Compute (ToBranch Lt) 2 (Number (pos 1)) (Number (pos 4))
+
+abbrev test_forks : Graph
+test_forks = graph
+    (block (Compute (ToBranch Lt) 2 (Number (pos 5)) (Number (pos 4)) ∷ []) (Split 2 1 2)
+    ∷ block (test ∷ []) (Return (Number (pos 1)))
+    ∷ block [] (Return (Number (pos 0)))
+    ∷ [])
+
+pub test_is_kept : graph_run (flow test_forks) [] 2 ≡ Outcome.Ends (pos 0) []
+test_is_kept = refl
+
+pub test_is_lost : graph_run (flow (raised test_forks 1)) [] 2 ≡ Outcome.Ends (pos 1) []
+test_is_lost = refl
+
+pub test_is_refused : can_raise (rows []) test_forks 1 ≡ false
+test_is_refused = refl

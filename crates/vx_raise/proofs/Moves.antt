@@ -1,0 +1,140 @@
+-- Any number of steps: the runs stay the same, and a flow of a program stays one.
+use Rattle.std.proofs.Common.{◌≡◌, inl, inr, ℕ, zero, suc, true, ℤ, List, [], ◌∷◌, refl, sym, ap, ◌∙◌, subst}
+use Rattle.vx_base.specs.Outcome.{NeverFails}
+use Rattle.vx_flow.specs.declared.graph.Graph.{Graph}
+use Rattle.vx_flow.specs.declared.graph.Flow.{Flow}
+use Rattle.vx_flow.specs.Effects.{State, Setting}
+use Rattle.vx_flow.specs.Meaning.{graph_run, graph_path}
+use Rattle.vx_flow.specs.Sound.{is_sound_flow}
+use Rattle.vx_shape.specs.Flows.{with_graphs, Each, OrSame, FlowStays}
+use Rattle.vx_shape.proofs.Pairs.{each_related}
+use Rattle.vx_shape.proofs.FlowsStay.{KeepsShape, runs_stay}
+use Rattle.vx_lower.specs.FlowOf.{GraphOf, FlowOf}
+use Rattle.vx_raise.specs.Raising.{GraphRaised, RaisedRuns, RaisedStays}
+use Rattle.vx_raise.specs.Moving.{GraphStep, Steps, GraphMoved, MovedRuns, MovedPaths, MovedStays}
+use Rattle.vx_raise.proofs.FlowsTied.{GraphTied, runs_tied, paths_tied}
+use Rattle.vx_raise.proofs.Raises.{front_of, tie, graph_tied}
+use Rattle.vx_raise.proofs.Exchanges.{all_tie, exchanged_tied, same_tied}
+use Rattle.vx_raise.proofs.Shapes.{exchanged_kept, raised_kept}
+
+-- ---- one step in each graph
+
+abbrev step_tie : (g h : Graph) → OrSame GraphStep g h → Setting → ℕ → State → State → Type 0
+step_tie g h (inl e) = all_tie
+step_tie g h (inr (inl r)) = tie r.live g r.block (front_of r.live g r.block r.can)
+step_tie g h (inr (inr x)) = all_tie
+
+step_tied : (g h : Graph) (s : OrSame GraphStep g h) → GraphTied (step_tie g h s) g h
+step_tied g h (inl e) = same_tied g h e
+step_tied g h (inr (inl r)) = graph_tied r.live g r.block (front_of r.live g r.block r.can) r.covers h r.is
+step_tied g h (inr (inr x)) = exchanged_tied g h x.block x.place x.can x.is
+
+step_runs : (flow : Flow) (graphs : List Graph) → Each (OrSame GraphStep) flow.functions graphs → (input : List ℤ) → NeverFails (graph_run flow input) → (n : ℕ) → graph_run (with_graphs flow graphs) input n ≡ graph_run flow input n
+step_runs flow graphs each input safe n = runs_tied (OrSame GraphStep) step_tie step_tied flow graphs each input safe n
+
+step_paths : (flow : Flow) (graphs : List Graph) → Each (OrSame GraphStep) flow.functions graphs → (input : List ℤ) → NeverFails (graph_run flow input) → (n : ℕ) → graph_path (with_graphs flow graphs) input n ≡ graph_path flow input n
+step_paths flow graphs each input safe n = paths_tied (OrSame GraphStep) step_tie step_tied flow graphs each input safe n
+
+step_kept : (g h : Graph) → OrSame GraphStep g h → KeepsShape g h
+step_kept g h (inl e) p function o = subst (GraphOf p function) (sym e) o
+step_kept g h (inr (inl r)) p function o = raised_kept g h r p function o
+step_kept g h (inr (inr x)) p function o = exchanged_kept g h x p function o
+
+-- ---- many
+
+each_map : {A : Type 0} (R S : A → A → Type 0) → ((x y : A) → R x y → S x y) → (xs ys : List A) → Each R xs ys → Each S xs ys
+each_map R S f [] [] s = tt
+each_map R S f [] (y ∷ ys) s = absurd s
+each_map R S f (x ∷ xs) [] s = absurd s
+each_map R S f (x ∷ xs) (y ∷ ys) s = (f x y s.0, each_map R S f xs ys s.1)
+
+abbrev pub plus : ℕ → ℕ → ℕ
+plus zero n = n
+plus (suc m) n = suc (plus m n)
+
+pub idle : (n : ℕ) (g h : Graph) → h ≡ g → Steps n g h
+idle zero g h e = e
+idle (suc n) g h e = (g, inl refl, idle n g h e)
+
+more_behind : (m n : ℕ) (g h : Graph) → Steps m g h → Steps (plus m n) g h
+more_behind zero n g h s = idle n g h s
+more_behind (suc m) n g h s = (s.0, s.1, more_behind m n s.0 h s.2)
+
+more_before : (m n : ℕ) (g h : Graph) → Steps n g h → Steps (plus m n) g h
+more_before zero n g h s = s
+more_before (suc m) n g h s = (g, inl refl, more_before m n g h s)
+
+-- as many in each graph
+each_steps : (gs hs : List Graph) → Each GraphMoved gs hs → (n : ℕ) × Each (Steps n) gs hs
+each_steps [] [] s = (0, tt)
+each_steps [] (h ∷ hs) s = absurd s
+each_steps (g ∷ gs) [] s = absurd s
+each_steps (g ∷ gs) (h ∷ hs) s =
+    let rest = each_steps gs hs s.1 in
+    let m : ℕ = s.0.count in
+    (plus m rest.0, (more_behind m rest.0 g h s.0.steps, each_map (Steps rest.0) (Steps (plus m rest.0)) (λ x y t. more_before m rest.0 x y t) gs hs rest.1))
+
+between : (n : ℕ) (gs hs : List Graph) → Each (Steps (suc n)) gs hs → (ms : List Graph) × Each (OrSame GraphStep) gs ms × Each (Steps n) ms hs
+between n [] [] s = ([], tt, tt)
+between n [] (h ∷ hs) s = absurd s
+between n (g ∷ gs) [] s = absurd s
+between n (g ∷ gs) (h ∷ hs) s = let rest = between n gs hs s.1 in (s.0.0 ∷ rest.0, (s.0.1, rest.1), (s.0.2, rest.2))
+
+all_same : (gs hs : List Graph) → Each (Steps zero) gs hs → hs ≡ gs
+all_same [] [] s = refl
+all_same [] (h ∷ hs) s = absurd s
+all_same (g ∷ gs) [] s = absurd s
+all_same (g ∷ gs) (h ∷ hs) s = ap (λ x. x ∷ hs) s.0 ∙ ap (λ l. g ∷ l) (all_same gs hs s.1)
+
+steps_run : (m : ℕ) (flow : Flow) (graphs : List Graph) → Each (Steps m) flow.functions graphs → (input : List ℤ) → NeverFails (graph_run flow input) → (n : ℕ) → graph_run (with_graphs flow graphs) input n ≡ graph_run flow input n
+steps_run zero flow graphs each input safe n = ap (λ l. graph_run (with_graphs flow l) input n) (all_same flow.functions graphs each)
+steps_run (suc m) flow graphs each input safe n =
+    let mid = between m flow.functions graphs each in
+    let one : graph_run (with_graphs flow mid.0) input ≡ graph_run flow input = λ i k. step_runs flow mid.0 mid.1 input safe k i in
+    let rest : graph_run (with_graphs flow graphs) input n ≡ graph_run (with_graphs flow mid.0) input n = steps_run m (with_graphs flow mid.0) graphs mid.2 input (subst NeverFails (sym one) safe) n in
+    rest ∙ step_runs flow mid.0 mid.1 input safe n
+
+steps_path : (m : ℕ) (flow : Flow) (graphs : List Graph) → Each (Steps m) flow.functions graphs → (input : List ℤ) → NeverFails (graph_run flow input) → (n : ℕ) → graph_path (with_graphs flow graphs) input n ≡ graph_path flow input n
+steps_path zero flow graphs each input safe n = ap (λ l. graph_path (with_graphs flow l) input n) (all_same flow.functions graphs each)
+steps_path (suc m) flow graphs each input safe n =
+    let mid = between m flow.functions graphs each in
+    let one : graph_run (with_graphs flow mid.0) input ≡ graph_run flow input = λ i k. step_runs flow mid.0 mid.1 input safe k i in
+    let rest : graph_path (with_graphs flow graphs) input n ≡ graph_path (with_graphs flow mid.0) input n = steps_path m (with_graphs flow mid.0) graphs mid.2 input (subst NeverFails (sym one) safe) n in
+    rest ∙ step_paths flow mid.0 mid.1 input safe n
+
+steps_kept : (m : ℕ) (g h : Graph) → Steps m g h → KeepsShape g h
+steps_kept zero g h e p function o = subst (GraphOf p function) (sym e) o
+steps_kept (suc m) g h s p function o = steps_kept m s.0 h s.2 p function (step_kept g s.0 s.1 p function o)
+
+pub moved_runs : MovedRuns
+moved_runs flow graphs each input safe n = let all = each_steps flow.functions graphs each in steps_run all.0 flow graphs all.1 input safe n
+
+pub moved_paths : MovedPaths
+moved_paths flow graphs each input safe n = let all = each_steps flow.functions graphs each in steps_path all.0 flow graphs all.1 input safe n
+
+pub moved_stays : MovedStays
+moved_stays flow graphs each sound p o =
+    runs_stay GraphMoved (λ g h m. steps_kept m.count g h m.steps) flow graphs each (λ input safe n. moved_runs flow graphs each input safe n) sound p o
+
+-- ---- one operation raised
+
+raised_step : (g h : Graph) → OrSame GraphRaised g h → OrSame GraphStep g h
+raised_step g h (inl e) = inl e
+raised_step g h (inr r) = inr (inl r)
+
+pub raised_runs : RaisedRuns
+raised_runs flow graphs each input safe n = step_runs flow graphs (each_map (OrSame GraphRaised) (OrSame GraphStep) raised_step flow.functions graphs each) input safe n
+
+pub raised_stays : RaisedStays
+raised_stays flow graphs each sound p o =
+    runs_stay (OrSame GraphRaised) (λ g h r. step_kept g h (raised_step g h r)) flow graphs each (λ input safe n. raised_runs flow graphs each input safe n) sound p o
+
+-- ---- the graphs of a flow, each moved or as it is
+
+moved_itself : (g : Graph) → GraphMoved g g
+moved_itself g = record { count = 0; steps = refl }
+
+pub once_moved : (flow new : Flow) (graphs : List Graph) → Each (OrSame GraphMoved) flow.functions graphs → new ≡ with_graphs flow graphs → is_sound_flow new ≡ true → FlowStays flow new
+once_moved flow new graphs s e sound p o =
+    let t : is_sound_flow (with_graphs flow graphs) ≡ true = subst (λ f. is_sound_flow f ≡ true) e sound in
+    subst (FlowOf p) (sym e) (moved_stays flow graphs (each_related GraphMoved flow.functions graphs moved_itself s) t p o)

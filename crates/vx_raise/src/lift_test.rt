@@ -1,0 +1,166 @@
+// Whether an operation of a block may be raised: past those before it in its block, to the ends of the blocks that lead there.
+
+ghost use Rattle.std.specs.Prelude.{◌≡◌, ◌==◌, ◌&&◌, not};
+ghost use Rattle.std.specs.List.{list_all};
+ghost use Rattle.vx_flow.specs.Effects.{reads, writes};
+ghost use Rattle.vx_flow.specs.Operands.{value_list, values_read};
+ghost use Rattle.vx_raise.specs.Raising.{leads_to, lets_in, may_raise, result_of, takes_in};
+ghost use Rattle.vx_raise.specs.Exchanging.{are_apart, is_load, is_store, may_pass};
+ghost use Rattle.vx_raise.specs.Lifting.{can_lift, known_at, op_at, passes};
+
+use crate::known::Known;
+use vx_flow::graph::{Block, BlockId, Exit, Graph, Op, Value};
+use vx_flow::operands::{Reads, read_by, written_by};
+
+/// Whether an exit leads to the block.
+pub fn leads_to(block: BlockId, exit: &Exit) -> bool
+    ensures { result ≡ leads_to block exit.now }
+{
+    match exit {
+        Exit::Goto(to) => *to == block,
+        Exit::Split { yes, no, .. } => *yes == block || *no == block,
+        Exit::Call { next, .. } => *next == block,
+        Exit::Return(_) | Exit::Ends(_) => false,
+    }
+}
+
+/// The value that the operation writes, where it does nothing else and needs no input.
+pub fn result_of(op: &Op) -> Option<Value>
+    ensures { result ≡ result_of op.now }
+{
+    match op {
+        Op::Compute { to, .. }
+        | Op::Select { to, .. }
+        | Op::Place { to, .. }
+        | Op::Load { to, .. } => Some(*to),
+        _ => None,
+    }
+}
+
+/// Whether an exit does not read the value, which is not live at another block that it leads to.
+fn lets_in(known: &Known, block: BlockId, value: Value, exit: &Exit) -> bool
+    ensures { result ≡ lets_in (known_at known.now.live known.now.noted) block value exit.now }
+{
+    match exit {
+        Exit::Goto(_) => true,
+        Exit::Split { test, yes, no } => {
+            *test != value
+                && (*yes == block || !known.at(*yes, value))
+                && (*no == block || !known.at(*no, value))
+        }
+        _ => false,
+    }
+}
+
+/// Whether an operation that writes the value may end a block, if that leads to where it is raised from.
+fn takes_in(known: &Known, block: BlockId, value: Value, from: &Block) -> bool
+    ensures { result ≡ takes_in (known_at known.now.live known.now.noted) block value from.now }
+{
+    !leads_to(block, &from.exit)
+        || (lets_in(known, block, value, &from.exit) && from.ops.len() < 512)
+}
+
+pub fn all_take_in(known: &Known, block: BlockId, value: Value, blocks: &[Block]) -> bool
+    ensures { result ≡ list_all (takes_in (known_at known.now.live known.now.noted) block value) blocks.now }
+{
+    for from in blocks {
+        if !takes_in(known, block, value, from) {
+            return false;
+        }
+    }
+    true
+}
+
+// ---- operations of one block
+
+fn is_other(value: Value, other: Option<Value>) -> bool
+    ensures { result ≡ list_all (λ w. not (w == value)) (value_list other) }
+{
+    match other {
+        Some(other) => other != value,
+        None => true,
+    }
+}
+
+#[tactic(auto, using(crate::proofs::LiftSteps::all_three))]
+fn are_others(value: Value, read: &Reads) -> bool
+    ensures { result ≡ list_all (λ w. not (w == value)) (values_read read.now) }
+{
+    is_other(value, read.first) && is_other(value, read.second) && is_other(value, read.third)
+}
+
+/// Whether the operation does not read the value.
+fn is_unread(value: Value, op: &Op) -> bool
+    ensures { result ≡ list_all (λ w. not (w == value)) (reads op.now) }
+{
+    let read = read_by(op);
+    are_others(value, &read)
+}
+
+/// Whether the operation does not write the value.
+fn is_unwritten(value: Value, op: &Op) -> bool
+    ensures { result ≡ list_all (λ w. not (w == value)) (writes op.now) }
+{
+    is_other(value, written_by(op))
+}
+
+/// Whether the second operation does not read what the first writes.
+fn is_apart(first: &Op, second: &Op) -> bool
+    ensures { result ≡ are_apart (writes first.now) (reads second.now) }
+{
+    match written_by(first) {
+        Some(value) => is_unread(value, second),
+        None => true,
+    }
+}
+
+fn is_load(op: &Op) -> bool
+    ensures { result ≡ is_load op.now }
+{
+    match op {
+        Op::Load { .. } => true,
+        _ => false,
+    }
+}
+
+fn is_store(op: &Op) -> bool
+    ensures { result ≡ is_store op.now }
+{
+    match op {
+        Op::Store { .. } => true,
+        _ => false,
+    }
+}
+
+/// Whether the second operation, which writes the value, stands apart from the first.
+fn stands_apart(value: Value, first: &Op, second: &Op) -> bool
+    ensures { result ≡ (list_all (λ w. not (w == value)) (reads first.now) && list_all (λ w. not (w == value)) (writes first.now) && are_apart (writes first.now) (reads second.now) && not (is_store first.now && is_load second.now)) }
+{
+    is_unread(value, first)
+        && is_unwritten(value, first)
+        && is_apart(first, second)
+        && !(is_store(first) && is_load(second))
+}
+
+/// Whether the second operation, which stands behind the first, may stand before it.
+fn may_pass(first: &Op, second: &Op) -> bool
+    ensures { result ≡ may_pass first.now second.now }
+{
+    match result_of(second) {
+        Some(value) => stands_apart(value, first, second),
+        None => false,
+    }
+}
+
+/// Whether the operation may pass each of so many.
+pub fn passes(op: &Op, place: usize, ops: &[Op]) -> bool
+    ensures { result ≡ passes op.now place ops.now }
+{
+    if place == 0 {
+        return true;
+    }
+    match ops.split_first() {
+        Some((first, rest)) => may_pass(first, op) && passes(op, place - 1, rest),
+        None => false,
+    }
+}

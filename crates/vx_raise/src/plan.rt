@@ -1,0 +1,295 @@
+// An estimate of the plan of a row of blocks: greater heights first, each step in the first word that its delays allow and that has
+// room (docs/COMPILING.md, "Placement").
+
+use crate::sketch::{Ground, Sketch};
+use crate::steps::{Effect, Step, delay_of};
+use crate::units::{Unit, Units};
+use std::alloc::Global;
+use vx_base::outcome::NoMemory;
+
+/// What stands in a word so far.
+#[derive(Clone, Copy)]
+struct Used {
+    slots: u32,
+    first_slots: u32,
+    alus: u32,
+    multipliers: u32,
+    memory_units: u32,
+    splits: u32,
+    shown: u32,
+}
+
+const UNUSED: Used = Used {
+    slots: 0,
+    first_slots: 0,
+    alus: 0,
+    multipliers: 0,
+    memory_units: 0,
+    splits: 0,
+    shown: 0,
+};
+
+/// The word of each step, the cycles from there until what hangs on it has landed and the row can be left, and the cycles from the
+/// first word until the row is left at its end.
+#[derive(Drop)]
+pub(crate) struct Plan {
+    pub words: Vec<u32>,
+    pub tails: Vec<u32>,
+    pub cycles: u32,
+}
+
+/// The delays of each step behind those above it, row by row.
+#[derive(Drop)]
+struct Delays {
+    count: usize,
+    cells: Vec<Option<u32>>,
+}
+
+impl Delays {
+    fn at(&self, above: usize, below: usize) -> Option<u32> {
+        match self.cells.get(above.saturating_mul(self.count).saturating_add(below)) {
+            Some(delay) => *delay,
+            None => None,
+        }
+    }
+}
+
+fn delays_of(alloc: Global, ground: &Ground, sketch: &Sketch, steps: &[Step]) -> Result<Delays, NoMemory> {
+    let mut cells = Vec::new(alloc);
+    for (above, first) in steps.iter().enumerate() {
+        for (below, second) in steps.iter().enumerate() {
+            if above < below {
+                cells.push(delay_of(ground, sketch, first, second))?;
+            } else {
+                cells.push(None)?;
+            }
+        }
+    }
+    Ok(Delays {
+        count: steps.len(),
+        cells,
+    })
+}
+
+/// The greatest sum of a delay and the height of the later step, for each.
+fn heights_of(alloc: Global, delays: &Delays) -> Result<Vec<u32>, NoMemory> {
+    let mut heights = vec![in alloc; 0u32; delays.count]?;
+    for behind in 0..delays.count {
+        let above = delays.count - 1 - behind;
+        let height = height_at(delays, heights.as_slice(), above);
+        set(&mut heights, above, height);
+    }
+    Ok(heights)
+}
+
+fn height_at(delays: &Delays, heights: &[u32], above: usize) -> u32 {
+    let mut height = 0u32;
+    for (below, other) in heights.iter().enumerate() {
+        match delays.at(above, below) {
+            Some(delay) => height = height.max(delay.saturating_add(*other)),
+            None => {}
+        }
+    }
+    height
+}
+
+fn set(numbers: &mut Vec<u32>, place: usize, number: u32) {
+    if place < numbers.len() {
+        numbers[place] = number;
+    }
+}
+
+/// The estimated plan of steps.
+pub(crate) fn plan_of(
+    alloc: Global,
+    ground: &Ground,
+    sketch: &Sketch,
+    steps: &[Step],
+) -> Result<Plan, NoMemory> {
+    let delays = delays_of(alloc, ground, sketch, steps)?;
+    let tails = tails_of(alloc, steps, &delays)?;
+    let words = words_by(alloc, ground.units, steps, &delays)?;
+    let cycles = cycles_of(steps, words.as_slice());
+    Ok(Plan {
+        words,
+        tails,
+        cycles,
+    })
+}
+
+/// Marks a step that has no word yet.
+const NO_WORD: u32 = 4294967295;
+
+fn words_by(
+    alloc: Global,
+    units: &Units,
+    steps: &[Step],
+    delays: &Delays,
+) -> Result<Vec<u32>, NoMemory> {
+    let heights = heights_of(alloc, delays)?;
+    words_of(alloc, units, steps, delays, heights.as_slice())
+}
+
+fn words_of(
+    alloc: Global,
+    units: &Units,
+    steps: &[Step],
+    delays: &Delays,
+    heights: &[u32],
+) -> Result<Vec<u32>, NoMemory> {
+    let mut words = vec![in alloc; NO_WORD; steps.len()]?;
+    let mut used = Vec::new(alloc);
+    for _ in 0..steps.len() {
+        match next_step(words.as_slice(), heights) {
+            Some(place) => match steps.get(place) {
+                Some(step) => {
+                    let ready = ready_at(delays, words.as_slice(), place);
+                    let word = put(units, &mut used, step, ready)?;
+                    set(&mut words, place, word);
+                }
+                None => {}
+            },
+            None => {}
+        }
+    }
+    Ok(words)
+}
+
+/// The step with the greatest height among those without a word, the first of several.
+fn next_step(words: &[u32], heights: &[u32]) -> Option<usize> {
+    let mut best = None;
+    let mut more = 0u32;
+    for (place, height) in heights.iter().enumerate() {
+        if number_at(words, place) == NO_WORD && *height >= more {
+            best = Some(place);
+            more = height.saturating_add(1);
+        }
+    }
+    best
+}
+
+fn ready_at(delays: &Delays, words: &[u32], below: usize) -> u32 {
+    let mut ready = 0u32;
+    for (above, word) in words.iter().enumerate() {
+        match delays.at(above, below) {
+            Some(delay) => {
+                if *word != NO_WORD {
+                    ready = ready.max(word.saturating_add(delay));
+                }
+            }
+            None => {}
+        }
+    }
+    ready
+}
+
+/// The most words of a plan.
+const MOST_WORDS: usize = 4096;
+
+/// Puts a step into the first word from one on that has room for it. Answers the word.
+fn put(units: &Units, used: &mut Vec<Used>, step: &Step, ready: u32) -> Result<u32, NoMemory> {
+    let wanted = (ready as usize).saturating_add(1).min(MOST_WORDS);
+    for _ in 0..wanted.saturating_sub(used.len()) {
+        used.push(UNUSED)?;
+    }
+    let word = first_room(units, used.as_slice(), step, ready as usize);
+    if word >= used.len() {
+        used.push(UNUSED)?;
+    }
+    fill(used, word, step);
+    Ok(word as u32)
+}
+
+fn first_room(units: &Units, used: &[Used], step: &Step, ready: usize) -> usize {
+    for (word, found) in used.iter().enumerate() {
+        if word >= ready && has_room(units, *found, step) {
+            return word;
+        }
+    }
+    used.len()
+}
+
+fn fill(used: &mut Vec<Used>, word: usize, step: &Step) {
+    if word < used.len() {
+        used[word] = with_step(used[word], step);
+    }
+}
+
+fn has_room(units: &Units, used: Used, step: &Step) -> bool {
+    let more = with_step(used, step);
+    more.slots <= units.slots
+        && more.first_slots <= units.first_slots
+        && more.alus <= units.alus
+        && more.multipliers <= units.multipliers
+        && more.memory_units <= units.memory_units
+        && more.splits <= 1
+        && more.shown <= 1
+}
+
+fn one_if(is_one: bool) -> u32 {
+    if is_one { 1 } else { 0 }
+}
+
+fn with_step(used: Used, step: &Step) -> Used {
+    let leaves = match step.effect {
+        Effect::Leaves(_) => true,
+        _ => false,
+    };
+    Used {
+        slots: used.slots.saturating_add(1),
+        first_slots: used.first_slots.saturating_add(one_if(step.is_first)),
+        alus: used.alus.saturating_add(one_if(step.unit == Unit::Alu)),
+        multipliers: used.multipliers.saturating_add(one_if(step.unit == Unit::Multiply)),
+        memory_units: used.memory_units.saturating_add(one_if(step.unit == Unit::Memory)),
+        splits: used.splits.saturating_add(one_if(leaves)),
+        shown: used.shown.saturating_add(one_if(step.effect == Effect::Shows)),
+    }
+}
+
+/// One word more for the way on, and none before all results have landed.
+fn cycles_of(steps: &[Step], words: &[u32]) -> u32 {
+    let mut cycles = 1u32;
+    for (place, word) in words.iter().enumerate() {
+        match steps.get(place) {
+            Some(step) => cycles = cycles.max(word.saturating_add(step.latency.max(2))),
+            None => {}
+        }
+    }
+    cycles
+}
+
+/// The cycles until the row is left by a split that stands in a word.
+pub(crate) fn cycles_to(steps: &[Step], words: &[u32], split: u32) -> u32 {
+    let mut cycles = split.saturating_add(2);
+    for (place, word) in words.iter().enumerate() {
+        match steps.get(place) {
+            Some(step) => {
+                if *word <= split {
+                    cycles = cycles.max(word.saturating_add(step.latency));
+                }
+            }
+            None => {}
+        }
+    }
+    cycles
+}
+
+/// For each step the cycles from its word until what hangs on it has landed and the row can be left.
+fn tails_of(alloc: Global, steps: &[Step], delays: &Delays) -> Result<Vec<u32>, NoMemory> {
+    let mut tails = vec![in alloc; 0u32; steps.len()]?;
+    for behind in 0..steps.len() {
+        let above = steps.len() - 1 - behind;
+        let own = steps[above].latency.max(2);
+        let tail = height_at(delays, tails.as_slice(), above);
+        set(&mut tails, above, tail.max(own));
+    }
+    Ok(tails)
+}
+
+/// A number of a list; 0 where it is not there.
+pub(crate) fn number_at(numbers: &[u32], place: usize) -> u32 {
+    match numbers.get(place) {
+        Some(number) => *number,
+        None => 0,
+    }
+}

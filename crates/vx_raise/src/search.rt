@@ -1,0 +1,360 @@
+// What is raised so that the turns of innermost loops get shorter: what stands in the first word of an estimated plan of the turn is
+// put round the back edge, again and again, as long as that helps (rotation scheduling, Chao, LaPaugh and Sha, 1993). It owes nothing:
+// each move is tested when it is made.
+
+use crate::costs::cost_of;
+use crate::known::Move;
+use crate::names::{Names, Passing, names_of};
+use crate::plan::{Plan, number_at, plan_of};
+use crate::raised_flow::Wanted;
+use crate::sketch::{Ground, Sketch};
+use crate::steps::{Effect, Step, steps_of};
+use crate::turns::{Turn, Walk, turn_of, walk_of};
+use crate::units::Units;
+use std::alloc::Global;
+use vx_base::listed::Listed;
+use vx_base::outcome::NoMemory;
+use vx_flow::graph::{BlockId, Flow, Graph};
+use vx_flow::live;
+use vx_profile::counts::Counts;
+
+/// How often the first word is put round at most, and how often without use.
+const MOST_ROUNDS: usize = 12;
+const MOST_IDLE: usize = 3;
+
+/// The most operations that are raised in a graph.
+const MOST_MOVES: usize = 512;
+
+/// Which operations of the first word are put round.
+#[derive(Clone, Copy, PartialEq, Eq)]
+enum Kind {
+    /// Those on which most cycles hang.
+    Critical,
+    /// All that may be.
+    All,
+}
+
+/// What the registers allow: the values that are kept before, and those that pass in the turn.
+#[derive(Clone, Copy)]
+struct Limits<'a> {
+    names: &'a Names,
+    passing: Passing,
+}
+
+/// What an attempt comes to: its cost, and its moves.
+#[derive(Drop)]
+struct Attempt {
+    cost: u64,
+    moves: Vec<Move>,
+}
+
+/// What is to be raised in each graph of a program.
+pub(crate) fn wanted_of(
+    alloc: Global,
+    flow: &Flow,
+    counts: &Counts,
+    units: &Units,
+) -> Result<Vec<Wanted>, NoMemory> {
+    let mut all = Vec::new(alloc);
+    for (function, graph) in flow.functions.as_slice().iter().enumerate() {
+        let moves = moves_of(alloc, graph, counts, function as u32, units)?;
+        all.push(Wanted { moves })?;
+    }
+    Ok(all)
+}
+
+fn moves_of(
+    alloc: Global,
+    graph: &Graph,
+    counts: &Counts,
+    function: u32,
+    units: &Units,
+) -> Result<Listed<Move>, NoMemory> {
+    let mut sketch = Sketch::of_graph(alloc, graph.blocks.as_slice())?;
+    let mut walk = walk_of(alloc, graph, counts, function)?;
+    if has_loop(&walk, &sketch, graph.blocks.len()) {
+        raise_in(alloc, graph, units, &mut sketch, &mut walk)?;
+    }
+    sketch.moves(alloc)
+}
+
+fn has_loop(walk: &Walk, sketch: &Sketch, count: usize) -> bool {
+    for block in 0..count {
+        if walk.is_header(sketch, block as BlockId) {
+            return true;
+        }
+    }
+    false
+}
+
+fn raise_in(
+    alloc: Global,
+    graph: &Graph,
+    units: &Units,
+    sketch: &mut Sketch,
+    walk: &mut Walk,
+) -> Result<(), NoMemory> {
+    let live = live(alloc, graph)?;
+    let ground = Ground {
+        graph,
+        live: &live,
+        units,
+    };
+    raise_at_headers(alloc, &ground, sketch, walk)
+}
+
+fn raise_at_headers(
+    alloc: Global,
+    ground: &Ground,
+    sketch: &mut Sketch,
+    walk: &mut Walk,
+) -> Result<(), NoMemory> {
+    let mut names = names_of(alloc, ground)?;
+    for header in 0..ground.graph.blocks.len() {
+        raise_at(alloc, ground, sketch, walk, &mut names, header as BlockId)?;
+    }
+    Ok(())
+}
+
+fn raise_at(
+    alloc: Global,
+    ground: &Ground,
+    sketch: &mut Sketch,
+    walk: &mut Walk,
+    names: &mut Names,
+    header: BlockId,
+) -> Result<(), NoMemory> {
+    if !walk.is_header(sketch, header) || sketch.count() >= MOST_MOVES {
+        return Ok(());
+    }
+    match turn_of(alloc, sketch, walk, header)? {
+        Some(turn) => shorten(alloc, ground, sketch, names, &turn),
+        None => Ok(()),
+    }
+}
+
+/// Raises what makes the turns of a loop shortest.
+fn shorten(
+    alloc: Global,
+    ground: &Ground,
+    sketch: &mut Sketch,
+    names: &mut Names,
+    turn: &Turn,
+) -> Result<(), NoMemory> {
+    let before = cost_of(alloc, ground, sketch, turn)?;
+    let best = best_within(alloc, ground, sketch, names, turn, before)?;
+    if best.cost.saturating_add(before / 64) < before {
+        raise_each(ground, sketch, names, best.moves.as_slice())?;
+    }
+    Ok(())
+}
+
+fn passing_of(
+    alloc: Global,
+    ground: &Ground,
+    sketch: &Sketch,
+    names: &Names,
+    turn: &Turn,
+) -> Result<Passing, NoMemory> {
+    let steps = steps_of(alloc, ground, sketch, turn.path.as_slice())?;
+    Ok(names.count_passing(ground.graph, steps.as_slice()))
+}
+
+fn best_within(
+    alloc: Global,
+    ground: &Ground,
+    sketch: &mut Sketch,
+    names: &Names,
+    turn: &Turn,
+    before: u64,
+) -> Result<Attempt, NoMemory> {
+    let passing = passing_of(alloc, ground, sketch, names, turn)?;
+    let limits = Limits { names, passing };
+    best_of(alloc, ground, sketch, &limits, turn, before)
+}
+
+fn best_of(
+    alloc: Global,
+    ground: &Ground,
+    sketch: &mut Sketch,
+    limits: &Limits,
+    turn: &Turn,
+    before: u64,
+) -> Result<Attempt, NoMemory> {
+    let one = attempt_by(alloc, ground, sketch, limits, turn, Kind::Critical, before)?;
+    let other = attempt_by(alloc, ground, sketch, limits, turn, Kind::All, before)?;
+    Ok(if other.cost < one.cost { other } else { one })
+}
+
+fn raise_each(
+    ground: &Ground,
+    sketch: &mut Sketch,
+    names: &mut Names,
+    moves: &[Move],
+) -> Result<(), NoMemory> {
+    let start = sketch.count();
+    for found in moves {
+        let _is_raised = sketch.raise(ground, found.block, found.place as usize)?;
+    }
+    for trial in sketch.raised_since(start) {
+        names.keep(ground.graph, trial.value);
+    }
+    Ok(())
+}
+
+/// Puts operations round as long as it helps, and takes all back. Answers the moves with the least cost.
+fn attempt_by(
+    alloc: Global,
+    ground: &Ground,
+    sketch: &mut Sketch,
+    limits: &Limits,
+    turn: &Turn,
+    kind: Kind,
+    before: u64,
+) -> Result<Attempt, NoMemory> {
+    let start = sketch.count();
+    let mut best = before;
+    let mut count = start;
+    let mut idle = 0usize;
+    for _ in 0..MOST_ROUNDS {
+        let moved = put_round(alloc, ground, sketch, limits, turn, kind, start)?;
+        if !moved || idle >= MOST_IDLE || sketch.count() >= MOST_MOVES {
+            break;
+        }
+        let cost = cost_of(alloc, ground, sketch, turn)?;
+        if cost < best {
+            best = cost;
+            count = sketch.count();
+            idle = 0;
+        } else {
+            idle = idle.saturating_add(1);
+        }
+    }
+    sketch.back_to(count)?;
+    let moves = moves_since(alloc, sketch, start)?;
+    sketch.back_to(start)?;
+    Ok(Attempt { cost: best, moves })
+}
+
+fn moves_since(alloc: Global, sketch: &Sketch, start: usize) -> Result<Vec<Move>, NoMemory> {
+    let mut moves = Vec::new(alloc);
+    for trial in sketch.raised_since(start) {
+        moves.push(Move {
+            block: trial.block,
+            place: trial.place,
+        })?;
+    }
+    Ok(moves)
+}
+
+/// Puts operations of the first word of the plan round. Answers whether there was one.
+fn put_round(
+    alloc: Global,
+    ground: &Ground,
+    sketch: &mut Sketch,
+    limits: &Limits,
+    turn: &Turn,
+    kind: Kind,
+    start: usize,
+) -> Result<bool, NoMemory> {
+    let steps = steps_of(alloc, ground, sketch, turn.path.as_slice())?;
+    let plan = plan_of(alloc, ground, sketch, steps.as_slice())?;
+    let least = least_tail(steps.as_slice(), &plan, kind);
+    let mut is_moved = false;
+    let mut row = 0usize;
+    let mut gone = 0usize;
+    for (index, step) in steps.iter().enumerate() {
+        if step.row != row {
+            row = step.row;
+            gone = 0;
+        }
+        if is_wanted(&plan, index, step, least) {
+            let place = step.place.saturating_sub(gone);
+            if carry(ground, sketch, limits, turn, row, place, start)? {
+                is_moved = true;
+                gone = gone.saturating_add(1);
+            }
+        }
+    }
+    Ok(is_moved)
+}
+
+/// Whether a step stands in the first word, may be raised, and so many cycles hang on it.
+fn is_wanted(plan: &Plan, index: usize, step: &Step, least: u32) -> bool {
+    number_at(plan.words.as_slice(), index) == 0
+        && is_movable(step)
+        && number_at(plan.tails.as_slice(), index) >= least
+}
+
+/// The cycles that hang on each step that is put round, at least.
+fn least_tail(steps: &[Step], plan: &Plan, kind: Kind) -> u32 {
+    let mut least = 0u32;
+    if kind == Kind::Critical {
+        for (index, step) in steps.iter().enumerate() {
+            if is_wanted(plan, index, step, 0) {
+                least = least.max(number_at(plan.tails.as_slice(), index));
+            }
+        }
+    }
+    least
+}
+
+fn is_movable(step: &Step) -> bool {
+    match step.effect {
+        Effect::Nothing | Effect::Loads(_) => true,
+        _ => false,
+    }
+}
+
+/// Raises an operation of a block of the path to the header and round the back edge, where it may be and there is a register for what
+/// it writes. Answers whether it was; if not all is as before.
+fn carry(
+    ground: &Ground,
+    sketch: &mut Sketch,
+    limits: &Limits,
+    turn: &Turn,
+    row: usize,
+    place: usize,
+    start: usize,
+) -> Result<bool, NoMemory> {
+    let count = sketch.count();
+    if raise_along(ground, sketch, turn.path.as_slice(), row, place)?
+        && limits.names.has_room(ground, limits.passing, sketch.raised_since(start))
+    {
+        Ok(true)
+    } else {
+        sketch.back_to(count)?;
+        Ok(false)
+    }
+}
+
+/// Raises an operation from block to block up the path, and from its first block too. Answers whether that went through.
+fn raise_along(
+    ground: &Ground,
+    sketch: &mut Sketch,
+    path: &[BlockId],
+    row: usize,
+    place: usize,
+) -> Result<bool, NoMemory> {
+    let mut at = place;
+    for above in 0..row.saturating_add(1) {
+        match path.get(row.saturating_sub(above)) {
+            Some(block) => {
+                if !sketch.raise(ground, *block, at)? {
+                    return Ok(false);
+                }
+            }
+            None => return Ok(false),
+        }
+        at = end_of(sketch, path, row.saturating_sub(above).saturating_sub(1));
+    }
+    Ok(true)
+}
+
+/// The place of the last operation of a block of the path.
+fn end_of(sketch: &Sketch, path: &[BlockId], row: usize) -> usize {
+    match path.get(row) {
+        Some(block) => sketch.ops_at(*block).len().saturating_sub(1),
+        None => 0,
+    }
+}

@@ -1,0 +1,317 @@
+// The operations of a graph's blocks while it is tried what to raise, with each move that was made, so that it can be taken back.
+// What is tried here owes nothing: in the end each move is tested again.
+
+use crate::known::Move;
+use crate::lift_test::{passes, result_of};
+use crate::units::Units;
+use std::alloc::Global;
+use vx_base::listed::Listed;
+use vx_base::outcome::NoMemory;
+use vx_flow::graph::{Block, BlockId, Exit, Graph, Op, Value};
+use vx_flow::live_rows::Live;
+use vx_flow::operands::dismissed;
+
+/// The most operations of a block at whose end more are put.
+const MOST_OPERATIONS: usize = 256;
+
+/// What stays as it is while it is tried what to raise in a graph.
+#[derive(Clone, Copy)]
+pub(crate) struct Ground<'a> {
+    pub(crate) graph: &'a Graph,
+    /// What is live in the graph as it came.
+    pub(crate) live: &'a Live,
+    pub(crate) units: &'a Units,
+}
+
+/// An operation that was raised, and where it stood.
+#[derive(Clone, Copy)]
+pub(crate) struct Trial {
+    pub block: BlockId,
+    pub place: u32,
+    pub op: Op,
+    pub value: Value,
+}
+
+/// The operations of each block, the blocks that lead to each, and what was raised so far.
+#[derive(Drop)]
+pub(crate) struct Sketch {
+    ops: Vec<Vec<Op>>,
+    sources: Vec<Vec<BlockId>>,
+    raised: Vec<Trial>,
+}
+
+impl Sketch {
+    /// A graph of which nothing is raised.
+    pub(crate) fn of_graph(alloc: Global, blocks: &[Block]) -> Result<Sketch, NoMemory> {
+        let ops = ops_of(alloc, blocks)?;
+        let sources = sources_of(alloc, blocks)?;
+        Ok(Sketch {
+            ops,
+            sources,
+            raised: Vec::new(alloc),
+        })
+    }
+
+    /// The operations of a block.
+    pub(crate) fn ops_at(&self, block: BlockId) -> &[Op] {
+        match self.ops.get(block as usize) {
+            Some(ops) => ops.as_slice(),
+            None => &[],
+        }
+    }
+
+    /// The blocks that lead to a block.
+    pub(crate) fn leading_to(&self, block: BlockId) -> &[BlockId] {
+        match self.sources.get(block as usize) {
+            Some(sources) => sources.as_slice(),
+            None => &[],
+        }
+    }
+
+    /// How many operations were raised.
+    pub(crate) fn count(&self) -> usize {
+        self.raised.len()
+    }
+
+    /// Whether a value may be live at the start of a block by now.
+    pub(crate) fn is_live(&self, ground: &Ground, block: BlockId, value: Value) -> bool {
+        for trial in self.raised.as_slice() {
+            if trial.block == block && trial.value == value {
+                return true;
+            }
+        }
+        ground.live.at(block, value)
+    }
+
+    /// Raises an operation to the ends of the blocks that lead to its block, where it may be. Answers whether it was.
+    pub(crate) fn raise(
+        &mut self,
+        ground: &Ground,
+        block: BlockId,
+        place: usize,
+    ) -> Result<bool, NoMemory> {
+        match self.trial_at(ground, block, place) {
+            Some(trial) => {
+                self.put(trial)?;
+                Ok(true)
+            }
+            None => Ok(false),
+        }
+    }
+
+    /// The operation at a place of a block, where it may be raised.
+    fn trial_at(&self, ground: &Ground, block: BlockId, place: usize) -> Option<Trial> {
+        let ops = self.ops_at(block);
+        match ops.get(place) {
+            Some(op) => match result_of(op) {
+                Some(value) => {
+                    if block != 0
+                        && passes(op, place, ops)
+                        && self.all_take_in(ground, block, value)
+                    {
+                        Some(Trial {
+                            block,
+                            place: place as u32,
+                            op: *op,
+                            value,
+                        })
+                    } else {
+                        None
+                    }
+                }
+                None => None,
+            },
+            None => None,
+        }
+    }
+
+    fn all_take_in(&self, ground: &Ground, block: BlockId, value: Value) -> bool {
+        for source in self.leading_to(block) {
+            if !self.takes_in(ground, block, value, *source) {
+                return false;
+            }
+        }
+        true
+    }
+
+    fn takes_in(
+        &self,
+        ground: &Ground,
+        block: BlockId,
+        value: Value,
+        source: BlockId,
+    ) -> bool {
+        match ground.graph.blocks.as_slice().get(source as usize) {
+            Some(from) => {
+                self.ops_at(source).len() < MOST_OPERATIONS
+                    && self.lets_in(ground, block, value, &from.exit)
+            }
+            None => false,
+        }
+    }
+
+    /// Whether an exit does not read the value, which is not live at another block that it leads to.
+    fn lets_in(&self, ground: &Ground, block: BlockId, value: Value, exit: &Exit) -> bool {
+        match exit {
+            Exit::Goto(_) => true,
+            Exit::Split { test, yes, no } => {
+                *test != value
+                    && (*yes == block || !self.is_live(ground, *yes, value))
+                    && (*no == block || !self.is_live(ground, *no, value))
+            }
+            _ => false,
+        }
+    }
+
+    fn put(&mut self, trial: Trial) -> Result<(), NoMemory> {
+        self.take_out(trial.block, trial.place as usize);
+        let count = self.leading_to(trial.block).len();
+        for index in 0..count {
+            self.put_end(trial.block, index, trial.op)?;
+        }
+        self.raised.push(trial)?;
+        Ok(())
+    }
+
+    fn take_out(&mut self, block: BlockId, place: usize) {
+        match self.ops.get_mut(block as usize) {
+            Some(ops) => {
+                if place < ops.len() {
+                    let _op = ops.remove(place);
+                }
+            }
+            None => {}
+        }
+    }
+
+    /// Puts an operation at the end of one of the blocks that lead to a block.
+    fn put_end(&mut self, block: BlockId, index: usize, op: Op) -> Result<(), NoMemory> {
+        match self.source_at(block, index) {
+            Some(source) => match self.ops.get_mut(source as usize) {
+                Some(ops) => {
+                    ops.push(dismissed(op))?;
+                    Ok(())
+                }
+                None => Ok(()),
+            },
+            None => Ok(()),
+        }
+    }
+
+    fn source_at(&self, block: BlockId, index: usize) -> Option<BlockId> {
+        match self.leading_to(block).get(index) {
+            Some(source) => Some(*source),
+            None => None,
+        }
+    }
+
+    /// Takes moves back until so many are left.
+    pub(crate) fn back_to(&mut self, count: usize) -> Result<(), NoMemory> {
+        let more = self.raised.len().saturating_sub(count);
+        for _ in 0..more {
+            self.undo()?;
+        }
+        Ok(())
+    }
+
+    fn undo(&mut self) -> Result<(), NoMemory> {
+        match self.raised.pop() {
+            Some(trial) => {
+                let count = self.leading_to(trial.block).len();
+                for index in 0..count {
+                    self.drop_end(trial.block, index);
+                }
+                self.put_in(trial)
+            }
+            None => Ok(()),
+        }
+    }
+
+    fn drop_end(&mut self, block: BlockId, index: usize) {
+        match self.source_at(block, index) {
+            Some(source) => match self.ops.get_mut(source as usize) {
+                Some(ops) => {
+                    let _op = ops.pop();
+                }
+                None => {}
+            },
+            None => {}
+        }
+    }
+
+    fn put_in(&mut self, trial: Trial) -> Result<(), NoMemory> {
+        match self.ops.get_mut(trial.block as usize) {
+            Some(ops) => {
+                if trial.place as usize <= ops.len() {
+                    ops.insert(trial.place as usize, trial.op)?;
+                }
+                Ok(())
+            }
+            None => Ok(()),
+        }
+    }
+
+    /// What was raised, in its order.
+    pub(crate) fn moves(&self, alloc: Global) -> Result<Listed<Move>, NoMemory> {
+        let mut moves = Listed::new(alloc);
+        for trial in self.raised.as_slice() {
+            moves.push(Move {
+                block: trial.block,
+                place: trial.place,
+            })?;
+        }
+        Ok(moves)
+    }
+
+    /// What was raised behind so many moves.
+    pub(crate) fn raised_since(&self, count: usize) -> &[Trial] {
+        if count <= self.raised.len() {
+            &self.raised.as_slice()[count..]
+        } else {
+            &[]
+        }
+    }
+}
+
+fn ops_of(alloc: Global, blocks: &[Block]) -> Result<Vec<Vec<Op>>, NoMemory> {
+    let mut all = Vec::new(alloc);
+    for block in blocks {
+        let mut ops = Vec::new(alloc);
+        ops.extend_from_slice(block.ops.as_slice())?;
+        all.push(ops)?;
+    }
+    Ok(all)
+}
+
+fn sources_of(alloc: Global, blocks: &[Block]) -> Result<Vec<Vec<BlockId>>, NoMemory> {
+    let mut sources = Vec::new(alloc);
+    for _ in 0..blocks.len() {
+        sources.push(Vec::new(alloc))?;
+    }
+    for (place, block) in blocks.iter().enumerate() {
+        note_exit(&mut sources, place as BlockId, &block.exit)?;
+    }
+    Ok(sources)
+}
+
+fn note_exit(sources: &mut Vec<Vec<BlockId>>, from: BlockId, exit: &Exit) -> Result<(), NoMemory> {
+    match exit {
+        Exit::Goto(next) => note(sources, from, *next),
+        Exit::Split { yes, no, .. } => {
+            note(sources, from, *yes)?;
+            note(sources, from, *no)
+        }
+        Exit::Call { next, .. } => note(sources, from, *next),
+        Exit::Return(_) | Exit::Ends(_) => Ok(()),
+    }
+}
+
+fn note(sources: &mut Vec<Vec<BlockId>>, from: BlockId, to: BlockId) -> Result<(), NoMemory> {
+    match sources.get_mut(to as usize) {
+        Some(row) => {
+            row.push(from)?;
+            Ok(())
+        }
+        None => Ok(()),
+    }
+}
