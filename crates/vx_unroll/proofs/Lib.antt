@@ -12,5 +12,5 @@ mod Rooms
 mod Making
 mod Declaring
 mod Outcomes
-mod Asking
+pub mod Asking
 mod Rows
