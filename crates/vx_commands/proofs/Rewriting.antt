@@ -1,5 +1,5 @@
 -- What is compiled of an unrolled program is compiled of the source: the words do what the source does, and functions have their names.
-use Rattle.std.proofs.Common.{◌≡◌, ℕ, ℤ, List, Option, None, sym, subst}
+use Rattle.std.proofs.Common.{◌≡◌, ℕ, List, Option, None, sym, subst}
 use Rattle.vx_base.proofs.Same.{same_on}
 use Rattle.vx_io.specs.Outside.{Files}
 use Rattle.vx_isa.specs.declared.program.WordProgram.{WordProgram}
