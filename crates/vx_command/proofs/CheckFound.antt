@@ -60,3 +60,7 @@ two_files = refl
 no_input : command_of (codes "vexc" ∷ codes "check" ∷ codes "w" ∷ codes "--input" ∷ codes "i" ∷ []) ≡ None
 unfolding clap_on_literals check_app check_of
 no_input = refl
+
+no_turns : command_of (codes "vexc" ∷ codes "check" ∷ codes "w" ∷ codes "--unroll=4" ∷ []) ≡ None
+unfolding clap_on_literals check_app check_of
+no_turns = refl

@@ -1,17 +1,20 @@
 -- What words ask for, worked out by hand.
-use Rattle.std.proofs.Common.{◌≡◌, refl, [], ◌∷◌, Some, None, codes}
+use Rattle.std.proofs.Common.{◌≡◌, ℕ, refl, [], ◌∷◌, Option, Some, None, codes}
 use Rattle.clap.proofs.OnLiterals.{clap_on_literals}
-use Rattle.vx_command.specs.Command.{Compile, compile_app, compile_of, exec_app, exec_of, command_of}
+use Rattle.vx_command.specs.Command.{Compile, Rewriting, compile_app, compile_of, exec_app, exec_of, command_of}
 
-plain : command_of (codes "vexc" ∷ codes "compile" ∷ codes "a.c" ∷ codes "b" ∷ []) ≡ Some (Compile (record { source = codes "a.c"; out = codes "b"; profile = None; machine = None; growth = 4000; report = None }))
+abbrev turns : Option ℕ → Rewriting
+turns unroll = record { unroll = unroll }
+
+plain : command_of (codes "vexc" ∷ codes "compile" ∷ codes "a.c" ∷ codes "b" ∷ []) ≡ Some (Compile (record { source = codes "a.c"; out = codes "b"; profile = None; machine = None; growth = 4000; rewriting = turns None; report = None }))
 unfolding clap_on_literals compile_app compile_of
 plain = refl
 
-with_machine : command_of (codes "vexc" ∷ codes "compile" ∷ codes "--machine" ∷ codes "m" ∷ codes "a.c" ∷ codes "b" ∷ []) ≡ Some (Compile (record { source = codes "a.c"; out = codes "b"; profile = None; machine = Some (codes "m"); growth = 4000; report = None }))
+with_machine : command_of (codes "vexc" ∷ codes "compile" ∷ codes "--machine" ∷ codes "m" ∷ codes "a.c" ∷ codes "b" ∷ []) ≡ Some (Compile (record { source = codes "a.c"; out = codes "b"; profile = None; machine = Some (codes "m"); growth = 4000; rewriting = turns None; report = None }))
 unfolding clap_on_literals compile_app compile_of
 with_machine = refl
 
-attached : command_of (codes "vexc" ∷ codes "compile" ∷ codes "a.c" ∷ codes "--machine=m" ∷ codes "b" ∷ []) ≡ Some (Compile (record { source = codes "a.c"; out = codes "b"; profile = None; machine = Some (codes "m"); growth = 4000; report = None }))
+attached : command_of (codes "vexc" ∷ codes "compile" ∷ codes "a.c" ∷ codes "--machine=m" ∷ codes "b" ∷ []) ≡ Some (Compile (record { source = codes "a.c"; out = codes "b"; profile = None; machine = Some (codes "m"); growth = 4000; rewriting = turns None; report = None }))
 unfolding clap_on_literals compile_app compile_of
 attached = refl
 
@@ -39,11 +42,11 @@ no_machine : command_of (codes "vexc" ∷ codes "compile" ∷ codes "a.c" ∷ co
 unfolding clap_on_literals compile_app compile_of
 no_machine = refl
 
-no_growth_at_all : command_of (codes "vexc" ∷ codes "compile" ∷ codes "a.c" ∷ codes "b" ∷ codes "--growth" ∷ codes "0" ∷ []) ≡ Some (Compile (record { source = codes "a.c"; out = codes "b"; profile = None; machine = None; growth = 0; report = None }))
+no_growth_at_all : command_of (codes "vexc" ∷ codes "compile" ∷ codes "a.c" ∷ codes "b" ∷ codes "--growth" ∷ codes "0" ∷ []) ≡ Some (Compile (record { source = codes "a.c"; out = codes "b"; profile = None; machine = None; growth = 0; rewriting = turns None; report = None }))
 unfolding clap_on_literals compile_app compile_of
 no_growth_at_all = refl
 
-most_growth : command_of (codes "vexc" ∷ codes "compile" ∷ codes "a.c" ∷ codes "b" ∷ codes "--growth=1000000" ∷ []) ≡ Some (Compile (record { source = codes "a.c"; out = codes "b"; profile = None; machine = None; growth = 1000000; report = None }))
+most_growth : command_of (codes "vexc" ∷ codes "compile" ∷ codes "a.c" ∷ codes "b" ∷ codes "--growth=1000000" ∷ []) ≡ Some (Compile (record { source = codes "a.c"; out = codes "b"; profile = None; machine = None; growth = 1000000; rewriting = turns None; report = None }))
 unfolding clap_on_literals compile_app compile_of
 most_growth = refl
 
@@ -55,7 +58,7 @@ growth_of_no_number : command_of (codes "vexc" ∷ codes "compile" ∷ codes "a.
 unfolding clap_on_literals compile_app compile_of
 growth_of_no_number = refl
 
-machine_and_growth : command_of (codes "vexc" ∷ codes "compile" ∷ codes "a.c" ∷ codes "b" ∷ codes "--growth" ∷ codes "12" ∷ codes "--machine" ∷ codes "m" ∷ []) ≡ Some (Compile (record { source = codes "a.c"; out = codes "b"; profile = None; machine = Some (codes "m"); growth = 12; report = None }))
+machine_and_growth : command_of (codes "vexc" ∷ codes "compile" ∷ codes "a.c" ∷ codes "b" ∷ codes "--growth" ∷ codes "12" ∷ codes "--machine" ∷ codes "m" ∷ []) ≡ Some (Compile (record { source = codes "a.c"; out = codes "b"; profile = None; machine = Some (codes "m"); growth = 12; rewriting = turns None; report = None }))
 unfolding clap_on_literals compile_app compile_of
 machine_and_growth = refl
 
@@ -63,7 +66,7 @@ growth_twice : command_of (codes "vexc" ∷ codes "compile" ∷ codes "a.c" ∷ 
 unfolding clap_on_literals compile_app compile_of
 growth_twice = refl
 
-with_profile : command_of (codes "vexc" ∷ codes "compile" ∷ codes "a.c" ∷ codes "b" ∷ codes "--machine=m" ∷ codes "--profile" ∷ codes "p" ∷ []) ≡ Some (Compile (record { source = codes "a.c"; out = codes "b"; profile = Some (codes "p"); machine = Some (codes "m"); growth = 4000; report = None }))
+with_profile : command_of (codes "vexc" ∷ codes "compile" ∷ codes "a.c" ∷ codes "b" ∷ codes "--machine=m" ∷ codes "--profile" ∷ codes "p" ∷ []) ≡ Some (Compile (record { source = codes "a.c"; out = codes "b"; profile = Some (codes "p"); machine = Some (codes "m"); growth = 4000; rewriting = turns None; report = None }))
 unfolding clap_on_literals compile_app compile_of
 with_profile = refl
 
@@ -71,7 +74,7 @@ profile_twice : command_of (codes "vexc" ∷ codes "compile" ∷ codes "a.c" ∷
 unfolding clap_on_literals compile_app compile_of
 profile_twice = refl
 
-with_report : command_of (codes "vexc" ∷ codes "compile" ∷ codes "--report" ∷ codes "r" ∷ codes "a.c" ∷ codes "b" ∷ []) ≡ Some (Compile (record { source = codes "a.c"; out = codes "b"; profile = None; machine = None; growth = 4000; report = Some (codes "r") }))
+with_report : command_of (codes "vexc" ∷ codes "compile" ∷ codes "--report" ∷ codes "r" ∷ codes "a.c" ∷ codes "b" ∷ []) ≡ Some (Compile (record { source = codes "a.c"; out = codes "b"; profile = None; machine = None; growth = 4000; rewriting = turns None; report = Some (codes "r") }))
 unfolding clap_on_literals compile_app compile_of
 with_report = refl
 
@@ -82,6 +85,26 @@ report_twice = refl
 no_report_of_a_run : command_of (codes "vexc" ∷ codes "exec" ∷ codes "a.c" ∷ codes "--report=r" ∷ []) ≡ None
 unfolding clap_on_literals exec_app exec_of
 no_report_of_a_run = refl
+
+some_turns : command_of (codes "vexc" ∷ codes "compile" ∷ codes "a.c" ∷ codes "b" ∷ codes "--unroll" ∷ codes "4" ∷ codes "--report=r" ∷ []) ≡ Some (Compile (record { source = codes "a.c"; out = codes "b"; profile = None; machine = None; growth = 4000; rewriting = turns (Some 4); report = Some (codes "r") }))
+unfolding clap_on_literals compile_app compile_of
+some_turns = refl
+
+one_turn : command_of (codes "vexc" ∷ codes "compile" ∷ codes "a.c" ∷ codes "b" ∷ codes "--unroll" ∷ codes "1" ∷ []) ≡ None
+unfolding clap_on_literals compile_app compile_of
+one_turn = refl
+
+too_many_turns : command_of (codes "vexc" ∷ codes "compile" ∷ codes "a.c" ∷ codes "b" ∷ codes "--unroll=9" ∷ []) ≡ None
+unfolding clap_on_literals compile_app compile_of
+too_many_turns = refl
+
+turns_of_no_number : command_of (codes "vexc" ∷ codes "compile" ∷ codes "a.c" ∷ codes "b" ∷ codes "--unroll=x" ∷ []) ≡ None
+unfolding clap_on_literals compile_app compile_of
+turns_of_no_number = refl
+
+turns_twice : command_of (codes "vexc" ∷ codes "compile" ∷ codes "a.c" ∷ codes "b" ∷ codes "--unroll=4" ∷ codes "--unroll=4" ∷ []) ≡ None
+unfolding clap_on_literals compile_app compile_of
+turns_twice = refl
 
 another : command_of (codes "vexc" ∷ codes "run" ∷ codes "a.c" ∷ codes "b" ∷ []) ≡ None
 another = refl

@@ -11,7 +11,7 @@ use Rattle.clap.specs.Faults.{fault_of, is_simple_and_free}
 use Rattle.clap.specs.Kinds.{Kinds, IsAmong}
 use Rattle.clap.specs.declared.error.kind.ErrorKind.{ErrorKind}
 use Rattle.clap.specs.declared.parser.matches.Found.{Found}
-use Rattle.vx_command.specs.Command.{Compile, compile_app, compile_found, compile_unless, compile_of, growth_of}
+use Rattle.vx_command.specs.Command.{Command, Compile, Rewriting, compile_app, compile_found, compile_unless, compile_of, growth_of, number_or_none, rewriting_of}
 
 -- the first value of an id, read from the entries or from their rows
 
@@ -61,13 +61,38 @@ module _ (app : App) (is : app ≡ compile_app) (words : List (List ℕ)) where
   unfolding compile_of
   refused some = unless_none (fault_of compile_app words) (matches_of compile_app words) (subst (λ (a : App). fault_of a words ≢ []) is some)
 
-pub found_is : (f : Found) (s o : List ℕ) (p m r : Option (List ℕ)) (growth : ℕ) → s ≡ unwrap_or (first_value f (codes "SRC")) [] → o ≡ unwrap_or (first_value f (codes "OUT")) [] →
-    p ≡ first_value f (codes "profile") → m ≡ first_value f (codes "machine") → r ≡ first_value f (codes "report") → Some growth ≡ growth_of (first_value f (codes "growth")) →
-    Some (Compile (record { source = s; out = o; profile = p; machine = m; growth = growth; report = r })) ≡ compile_unless [] (rows_of f)
-found_is f s o p m r growth a b d c t g =
-    let same : Compile (record { source = s; out = o; profile = p; machine = m; growth = growth; report = r }) ≡ compile_found (rows_of f) growth =
-    rw (a, b, d, c, t, first_of_rows f (codes "SRC"), first_of_rows f (codes "OUT"), first_of_rows f (codes "profile"), first_of_rows f (codes "machine"), first_of_rows f (codes "report")) refl in
-    ap Some same ∙ ap (option_map (compile_found (rows_of f))) (g ∙ ap growth_of (first_of_rows f (codes "growth")))
+-- two numbers of the words, or what is rewritten, where one of them is none
 
-pub none_found : (f : Found) → None ≡ growth_of (first_value f (codes "growth")) → None ≡ compile_unless [] (rows_of f)
-none_found f g = ap (option_map (compile_found (rows_of f))) (g ∙ ap growth_of (first_of_rows f (codes "growth")))
+module _ (make : ℕ → Rewriting → Command) where
+  abbrev found_with : Option Rewriting → Option ℕ → Option Command
+  found_with rewriting number = option_and_then (λ n. option_map (make n) rewriting) number
+
+  pub both_found : (n : ℕ) (w : Rewriting) (number : Option ℕ) (rewriting : Option Rewriting) → Some n ≡ number → Some w ≡ rewriting → Some (make n w) ≡ found_with rewriting number
+  both_found n w number rewriting a b = ap (option_map (make n)) b ∙ ap (found_with rewriting) a
+
+  pub no_number_found : (number : Option ℕ) (rewriting : Option Rewriting) → None ≡ number → None ≡ found_with rewriting number
+  no_number_found number rewriting a = ap (found_with rewriting) a
+
+  pub no_rewriting_found : (n : ℕ) (number : Option ℕ) (rewriting : Option Rewriting) → Some n ≡ number → None ≡ rewriting → None ≡ found_with rewriting number
+  no_rewriting_found n number rewriting a b = ap (option_map (make n)) b ∙ ap (found_with rewriting) a
+
+-- what is rewritten
+pub rewriting_is : (f : Found) (unroll : Option (Option ℕ)) → unroll ≡ number_or_none 2 8 (first_value f (codes "unroll")) → option_map (λ turns. record { unroll = turns }) unroll ≡ rewriting_of (rows_of f)
+rewriting_is f unroll is = ap (option_map (λ turns. record { unroll = turns })) (is ∙ ap (number_or_none 2 8) (first_of_rows f (codes "unroll")))
+
+module _ (f : Found) where
+  pub found_is : (s o : List ℕ) (p m r : Option (List ℕ)) (growth : ℕ) (rewriting : Rewriting) → s ≡ unwrap_or (first_value f (codes "SRC")) [] → o ≡ unwrap_or (first_value f (codes "OUT")) [] →
+      p ≡ first_value f (codes "profile") → m ≡ first_value f (codes "machine") → r ≡ first_value f (codes "report") →
+      Compile (record { source = s; out = o; profile = p; machine = m; growth = growth; rewriting = rewriting; report = r }) ≡ compile_found (rows_of f) growth rewriting
+  found_is s o p m r growth rewriting a b d c t =
+      rw (a, b, d, c, t, first_of_rows f (codes "SRC"), first_of_rows f (codes "OUT"), first_of_rows f (codes "profile"), first_of_rows f (codes "machine"), first_of_rows f (codes "report")) refl
+
+  pub all_found : (growth : ℕ) (rewriting : Rewriting) (command : Command) → Some growth ≡ growth_of (first_value f (codes "growth")) → Some rewriting ≡ rewriting_of (rows_of f) → command ≡ compile_found (rows_of f) growth rewriting →
+      Some command ≡ compile_unless [] (rows_of f)
+  all_found growth rewriting command g w is = ap Some is ∙ both_found (compile_found (rows_of f)) growth rewriting _ _ (g ∙ ap growth_of (first_of_rows f (codes "growth"))) w
+
+  pub no_growth_found : None ≡ growth_of (first_value f (codes "growth")) → None ≡ compile_unless [] (rows_of f)
+  no_growth_found g = no_number_found (compile_found (rows_of f)) _ _ (g ∙ ap growth_of (first_of_rows f (codes "growth")))
+
+  pub none_found : (growth : ℕ) → Some growth ≡ growth_of (first_value f (codes "growth")) → None ≡ rewriting_of (rows_of f) → None ≡ compile_unless [] (rows_of f)
+  none_found growth g w = no_rewriting_found (compile_found (rows_of f)) growth _ _ (g ∙ ap growth_of (first_of_rows f (codes "growth"))) w

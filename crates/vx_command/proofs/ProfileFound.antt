@@ -8,8 +8,8 @@ use Rattle.clap.specs.Faults.{fault_of, is_simple_and_free}
 use Rattle.clap.specs.Kinds.{Kinds}
 use Rattle.clap.specs.declared.parser.matches.Found.{Found}
 use Rattle.clap.proofs.OnLiterals.{clap_on_literals}
-use Rattle.vx_command.specs.Command.{Count, budget_of, profile_app, profile_found, profile_unless, profile_of, command_of}
-use Rattle.vx_command.proofs.CommandWords.{first_of_rows}
+use Rattle.vx_command.specs.Command.{Command, Count, Rewriting, budget_of, profile_app, profile_found, profile_unless, profile_of, command_of, rewriting_of}
+use Rattle.vx_command.proofs.CommandWords.{both_found, first_of_rows, no_number_found, no_rewriting_found}
 
 pub profile_is_simple : is_simple profile_app ≡ true
 unfolding profile_app
@@ -36,22 +36,31 @@ module _ (app : App) (is : app ≡ profile_app) (words : List (List ℕ)) where
   unfolding profile_of
   profile_refused some = unless_none (fault_of profile_app words) (matches_of profile_app words) (subst (λ (a : App). fault_of a words ≢ []) is some)
 
-pub found_is : (f : Found) (source : List ℕ) (input : Option (List ℕ)) (blocks : ℕ) → source ≡ unwrap_or (first_value f (codes "SRC")) [] → input ≡ first_value f (codes "input") →
-    Some blocks ≡ budget_of (first_value f (codes "blocks")) → Some (Count (record { source = source; input = input; blocks = blocks })) ≡ profile_unless [] (rows_of f)
-found_is f source input blocks a b n =
-    let same : Count (record { source = source; input = input; blocks = blocks }) ≡ profile_found (rows_of f) blocks = rw (a, b, first_of_rows f (codes "SRC"), first_of_rows f (codes "input")) refl in
-    ap Some same ∙ ap (option_map (profile_found (rows_of f))) (n ∙ ap budget_of (first_of_rows f (codes "blocks")))
+module _ (f : Found) where
+  pub found_is : (source : List ℕ) (input : Option (List ℕ)) (blocks : ℕ) (rewriting : Rewriting) → source ≡ unwrap_or (first_value f (codes "SRC")) [] → input ≡ first_value f (codes "input") →
+      Count (record { source = source; input = input; blocks = blocks; rewriting = rewriting }) ≡ profile_found (rows_of f) blocks rewriting
+  found_is source input blocks rewriting a b = rw (a, b, first_of_rows f (codes "SRC"), first_of_rows f (codes "input")) refl
 
-pub none_found : (f : Found) → None ≡ budget_of (first_value f (codes "blocks")) → None ≡ profile_unless [] (rows_of f)
-none_found f n = ap (option_map (profile_found (rows_of f))) (n ∙ ap budget_of (first_of_rows f (codes "blocks")))
+  pub all_found : (blocks : ℕ) (rewriting : Rewriting) (command : Command) → Some blocks ≡ budget_of (first_value f (codes "blocks")) → Some rewriting ≡ rewriting_of (rows_of f) → command ≡ profile_found (rows_of f) blocks rewriting →
+      Some command ≡ profile_unless [] (rows_of f)
+  all_found blocks rewriting command n w is = ap Some is ∙ both_found (profile_found (rows_of f)) blocks rewriting _ _ (n ∙ ap budget_of (first_of_rows f (codes "blocks"))) w
+
+  pub no_blocks_found : None ≡ budget_of (first_value f (codes "blocks")) → None ≡ profile_unless [] (rows_of f)
+  no_blocks_found n = no_number_found (profile_found (rows_of f)) _ _ (n ∙ ap budget_of (first_of_rows f (codes "blocks")))
+
+  pub none_found : (blocks : ℕ) → Some blocks ≡ budget_of (first_value f (codes "blocks")) → None ≡ rewriting_of (rows_of f) → None ≡ profile_unless [] (rows_of f)
+  none_found blocks n w = no_rewriting_found (profile_found (rows_of f)) blocks _ _ (n ∙ ap budget_of (first_of_rows f (codes "blocks"))) w
 
 -- worked words
 
-plain : command_of (codes "vexc" ∷ codes "profile" ∷ codes "a.c" ∷ []) ≡ Some (Count (record { source = codes "a.c"; input = None; blocks = 1000000000 }))
+abbrev turns : Option ℕ → Rewriting
+turns unroll = record { unroll = unroll }
+
+plain : command_of (codes "vexc" ∷ codes "profile" ∷ codes "a.c" ∷ []) ≡ Some (Count (record { source = codes "a.c"; input = None; blocks = 1000000000; rewriting = turns None }))
 unfolding clap_on_literals profile_app profile_of
 plain = refl
 
-with_all : command_of (codes "vexc" ∷ codes "profile" ∷ codes "--blocks=7" ∷ codes "a.c" ∷ codes "--input" ∷ codes "i" ∷ []) ≡ Some (Count (record { source = codes "a.c"; input = Some (codes "i"); blocks = 7 }))
+with_all : command_of (codes "vexc" ∷ codes "profile" ∷ codes "--blocks=7" ∷ codes "a.c" ∷ codes "--input" ∷ codes "i" ∷ []) ≡ Some (Count (record { source = codes "a.c"; input = Some (codes "i"); blocks = 7; rewriting = turns None }))
 unfolding clap_on_literals profile_app profile_of
 with_all = refl
 
@@ -59,7 +68,7 @@ no_blocks : command_of (codes "vexc" ∷ codes "profile" ∷ codes "a.c" ∷ cod
 unfolding clap_on_literals profile_app profile_of
 no_blocks = refl
 
-most_blocks : command_of (codes "vexc" ∷ codes "profile" ∷ codes "a.c" ∷ codes "--blocks" ∷ codes "1000000000000" ∷ []) ≡ Some (Count (record { source = codes "a.c"; input = None; blocks = 1000000000000 }))
+most_blocks : command_of (codes "vexc" ∷ codes "profile" ∷ codes "a.c" ∷ codes "--blocks" ∷ codes "1000000000000" ∷ []) ≡ Some (Count (record { source = codes "a.c"; input = None; blocks = 1000000000000; rewriting = turns None }))
 unfolding clap_on_literals profile_app profile_of
 most_blocks = refl
 
@@ -70,3 +79,15 @@ too_many_blocks = refl
 no_machine : command_of (codes "vexc" ∷ codes "profile" ∷ codes "a.c" ∷ codes "--machine" ∷ codes "m" ∷ []) ≡ None
 unfolding clap_on_literals profile_app profile_of
 no_machine = refl
+
+some_turns : command_of (codes "vexc" ∷ codes "profile" ∷ codes "a.c" ∷ codes "--unroll" ∷ codes "8" ∷ codes "--blocks=7" ∷ []) ≡ Some (Count (record { source = codes "a.c"; input = None; blocks = 7; rewriting = turns (Some 8) }))
+unfolding clap_on_literals profile_app profile_of
+some_turns = refl
+
+too_few_turns : command_of (codes "vexc" ∷ codes "profile" ∷ codes "a.c" ∷ codes "--unroll=1" ∷ []) ≡ None
+unfolding clap_on_literals profile_app profile_of
+too_few_turns = refl
+
+turns_twice : command_of (codes "vexc" ∷ codes "profile" ∷ codes "a.c" ∷ codes "--unroll=2" ∷ codes "--unroll=2" ∷ []) ≡ None
+unfolding clap_on_literals profile_app profile_of
+turns_twice = refl

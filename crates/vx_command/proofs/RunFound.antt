@@ -12,7 +12,7 @@ use Rattle.clap.specs.ValueTests.{is_unsigned_in}
 use Rattle.clap.specs.declared.builder.value_parser.ValueParser.TheVariants.{Unsigned}
 use Rattle.clap.specs.declared.parser.matches.Found.{Found}
 use Rattle.clap.proofs.ValueTestLemmas.{accepts-Accepts, Accepts-accepts}
-use Rattle.vx_command.specs.Command.{Command, Makes, simulates, executes, sim_app, exec_app, sim_of, exec_of, sim_unless, exec_unless, run_unless, run_within, budget_of, growth_of, number_in}
+use Rattle.vx_command.specs.Command.{Command, Makes, Rewriting, simulates, executes, sim_app, exec_app, sim_of, exec_of, sim_unless, exec_unless, run_unless, run_within, budget_of, growth_of, number_in, rewriting_of}
 use Rattle.vx_command.proofs.CommandWords.{first_of_rows}
 
 pub sim_is_simple : is_simple sim_app ≡ true
@@ -121,9 +121,11 @@ module _ (app : App) (is : app ≡ sim_app) (words : List (List ℕ)) where
 exec_rows : (kinds : Kinds) (rows found : List Row) → kinds ≡ [] → found ≡ rows → exec_unless kinds rows ≡ exec_unless [] found
 exec_rows kinds rows found none same = rw (none, same) refl
 
-exec_none : (profile : Option (List ℕ)) (growth : Option ℕ) (kinds : Kinds) (rows : List Row) → kinds ≢ [] → option_and_then (λ growth. run_unless (executes profile growth) (codes "SRC") kinds rows) growth ≡ None
-exec_none profile None kinds rows some = refl
-exec_none profile (Some growth) kinds rows some = unless_none (executes profile growth) (codes "SRC") kinds rows some
+exec_none : (profile : Option (List ℕ)) (growth : Option ℕ) (rewriting : Option Rewriting) (kinds : Kinds) (rows : List Row) → kinds ≢ [] →
+    option_and_then (λ growth. option_and_then (λ rewriting. run_unless (executes profile growth rewriting) (codes "SRC") kinds rows) rewriting) growth ≡ None
+exec_none profile None rewriting kinds rows some = refl
+exec_none profile (Some growth) None kinds rows some = refl
+exec_none profile (Some growth) (Some rewriting) kinds rows some = unless_none (executes profile growth rewriting) (codes "SRC") kinds rows some
 
 module _ (app : App) (is : app ≡ exec_app) (words : List (List ℕ)) where
   pub exec_taken : (found : List Row) → fault_of app words ≡ [] → found ≡ matches_of app words → exec_of words ≡ exec_unless [] found
@@ -132,18 +134,24 @@ module _ (app : App) (is : app ≡ exec_app) (words : List (List ℕ)) where
 
   pub exec_refused : fault_of app words ≢ [] → exec_of words ≡ None
   unfolding exec_of
-  exec_refused some = exec_none (first_of (codes "profile") (matches_of exec_app words)) (growth_of (first_of (codes "growth") (matches_of exec_app words))) (fault_of exec_app words) (matches_of exec_app words) (subst (λ (a : App). fault_of a words ≢ []) is some)
+  exec_refused some = exec_none (first_of (codes "profile") (matches_of exec_app words)) (growth_of (first_of (codes "growth") (matches_of exec_app words))) (rewriting_of (matches_of exec_app words)) (fault_of exec_app words) (matches_of exec_app words) (subst (λ (a : App). fault_of a words ≢ []) is some)
 
 module _ (f : Found) where
-  abbrev grown : (profile : Option (List ℕ)) → ℕ → Option Command
-  grown profile growth = run_unless (executes profile growth) (codes "SRC") [] (rows_of f)
+  abbrev grown : (profile : Option (List ℕ)) → ℕ → Rewriting → Option Command
+  grown profile growth rewriting = run_unless (executes profile growth rewriting) (codes "SRC") [] (rows_of f)
 
-  at_growth : (o : Option ℕ) → o ≡ growth_of (first_value f (codes "growth")) → option_and_then (grown (first_of (codes "profile") (rows_of f))) o ≡ exec_unless [] (rows_of f)
-  at_growth o g = ap (option_and_then (grown (first_of (codes "profile") (rows_of f)))) (g ∙ ap growth_of (first_of_rows f (codes "growth")))
+  abbrev from : Option Rewriting → Option ℕ → Option Command
+  from rewriting growth = option_and_then (λ n. option_and_then (grown (first_of (codes "profile") (rows_of f)) n) rewriting) growth
 
-  pub with_growth : (profile : Option (List ℕ)) (growth : ℕ) (command : Option Command) → profile ≡ first_value f (codes "profile") → Some growth ≡ growth_of (first_value f (codes "growth")) → command ≡ grown profile growth →
-      command ≡ exec_unless [] (rows_of f)
-  with_growth profile growth command p g run = run ∙ ap (λ o. grown o growth) (p ∙ first_of_rows f (codes "profile")) ∙ at_growth (Some growth) g
+  at_both : (growth : Option ℕ) (rewriting : Option Rewriting) → growth ≡ growth_of (first_value f (codes "growth")) → rewriting ≡ rewriting_of (rows_of f) → from rewriting growth ≡ exec_unless [] (rows_of f)
+  at_both growth rewriting g w = ap (from rewriting) (g ∙ ap growth_of (first_of_rows f (codes "growth"))) ∙ ap (λ o. from o (growth_of (first_of (codes "growth") (rows_of f)))) w
+
+  pub with_both : (profile : Option (List ℕ)) (growth : ℕ) (rewriting : Rewriting) (command : Option Command) → profile ≡ first_value f (codes "profile") → Some growth ≡ growth_of (first_value f (codes "growth")) →
+      Some rewriting ≡ rewriting_of (rows_of f) → command ≡ grown profile growth rewriting → command ≡ exec_unless [] (rows_of f)
+  with_both profile growth rewriting command p g w run = run ∙ ap (λ o. grown o growth rewriting) (p ∙ first_of_rows f (codes "profile")) ∙ at_both (Some growth) (Some rewriting) g w
 
   pub no_growth : None ≡ growth_of (first_value f (codes "growth")) → None ≡ exec_unless [] (rows_of f)
-  no_growth g = at_growth None g
+  no_growth g = at_both None (rewriting_of (rows_of f)) g refl
+
+  pub no_rewriting : (growth : ℕ) → Some growth ≡ growth_of (first_value f (codes "growth")) → None ≡ rewriting_of (rows_of f) → None ≡ exec_unless [] (rows_of f)
+  no_rewriting growth g w = at_both (Some growth) None g w

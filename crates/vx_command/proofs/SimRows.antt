@@ -24,3 +24,7 @@ no_growth = refl
 no_profile : command_of (codes "vexc" ∷ codes "sim" ∷ codes "w" ∷ codes "--profile" ∷ codes "p" ∷ []) ≡ None
 unfolding clap_on_literals sim_app sim_of
 no_profile = refl
+
+no_turns : command_of (codes "vexc" ∷ codes "sim" ∷ codes "w" ∷ codes "--unroll=4" ∷ []) ≡ None
+unfolding clap_on_literals sim_app sim_of
+no_turns = refl

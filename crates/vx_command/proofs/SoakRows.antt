@@ -38,3 +38,7 @@ size_of_none = refl
 size_too_large : command_of (codes "vexc" ∷ codes "soak" ∷ codes "7" ∷ codes "10001" ∷ []) ≡ None
 unfolding clap_on_literals soak_app soak_of
 size_too_large = refl
+
+no_turns : command_of (codes "vexc" ∷ codes "soak" ∷ codes "7" ∷ codes "2000" ∷ codes "--unroll=4" ∷ []) ≡ None
+unfolding clap_on_literals soak_app soak_of
+no_turns = refl

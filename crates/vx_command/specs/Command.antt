@@ -24,12 +24,19 @@ pub record Simulation : Type 0 where
   pub timing : List ℕ
   pub probe : Option (List ℕ)
 
+-- what is asked of a program before its words are planned
+pub record Rewriting : Type 0 where
+  -- how many turns of its loops are taken together
+  pub unroll : Option ℕ
+
 -- what an execution is asked for
 pub record Execution : Type 0 where
   -- the file of the source
   pub source : List ℕ
   -- how many operations may be copied
   pub growth : ℕ
+  -- what is rewritten
+  pub rewriting : Rewriting
   -- the files of the profile, of the machine's description and of the input
   pub profile : Option (List ℕ)
   pub machine : Option (List ℕ)
@@ -50,6 +57,8 @@ pub record Compilation : Type 0 where
   pub machine : Option (List ℕ)
   -- how many operations may be copied
   pub growth : ℕ
+  -- what is rewritten
+  pub rewriting : Rewriting
   -- the file that the report goes to
   pub report : Option (List ℕ)
 
@@ -61,6 +70,8 @@ pub record Profiling : Type 0 where
   pub input : Option (List ℕ)
   -- the most blocks that are run
   pub blocks : ℕ
+  -- what is rewritten before its blocks are counted
+  pub rewriting : Rewriting
 
 -- what a soak run is asked for
 pub record Soaking : Type 0 where
@@ -116,30 +127,48 @@ growth_word = number_word (codes "growth") 0 1000000
 abbrev pub growth_of : Option (List ℕ) → Option ℕ
 growth_of text = number_in 0 1000000 4000 text
 
--- after the words of a command `[--profile P] [--machine M] [--growth G]`
-abbrev pub with_compiling_options : App → App
-with_compiling_options app = with_rule (with_rule (with_rule app (option_word (codes "profile"))) (option_word (codes "machine"))) growth_word
+-- the number of an option that may be left out: nothing where it is, and no answer where the text is no such number
+abbrev pub number_or_none : (low high : ℕ) → Option (List ℕ) → Option (Option ℕ)
+number_or_none low high None = Some None
+number_or_none low high (Some text) = option_map Some (number_in low high low (Some text))
 
--- `compile SRC OUT [--profile P] [--machine M] [--growth G] [--report R]`
+-- `--unroll K`
+abbrev pub unroll_word : Rule
+unroll_word = number_word (codes "unroll") 2 8
+
+-- after the words of a command `[--unroll K]`
+abbrev pub with_rewriting_options : App → App
+with_rewriting_options app = with_rule app unroll_word
+
+-- what is asked to be rewritten, by what was found
+abbrev pub rewriting_of : List Row → Option Rewriting
+rewriting_of rows = option_map (λ turns. record { unroll = turns }) (number_or_none 2 8 (first_of (codes "unroll") rows))
+
+-- after the words of a command `[--profile P] [--machine M] [--growth G] [--unroll K]`
+abbrev pub with_compiling_options : App → App
+with_compiling_options app = with_rewriting_options (with_rule (with_rule (with_rule app (option_word (codes "profile"))) (option_word (codes "machine"))) growth_word)
+
+-- `compile SRC OUT [--profile P] [--machine M] [--growth G] [--unroll K] [--report R]`
 unfoldable pub compile_app : App
 compile_app =
     with_rule (with_compiling_options (with_rule (with_rule (new_app (codes "compile")) (required_word (codes "SRC"))) (required_word (codes "OUT"))))
     (option_word (codes "report"))
 
 -- the command of what was found: a word that has to be there is
-abbrev pub compile_found : List Row → ℕ → Command
-compile_found rows growth = Compile (record {
+abbrev pub compile_found : List Row → ℕ → Rewriting → Command
+compile_found rows growth rewriting = Compile (record {
   source = unwrap_or (first_of (codes "SRC") rows) [];
   out = unwrap_or (first_of (codes "OUT") rows) [];
   profile = first_of (codes "profile") rows;
   machine = first_of (codes "machine") rows;
   growth = growth;
+  rewriting = rewriting;
   report = first_of (codes "report") rows;
 })
 
--- the command, where nothing is refused and the number is one
+-- the command, where nothing is refused and the numbers are such
 abbrev pub compile_unless : Kinds → List Row → Option Command
-compile_unless [] rows = option_map (compile_found rows) (growth_of (first_of (codes "growth") rows))
+compile_unless [] rows = option_and_then (λ growth. option_map (compile_found rows growth) (rewriting_of rows)) (growth_of (first_of (codes "growth") rows))
 compile_unless (kind ∷ kinds) rows = None
 
 -- what the words of `compile` ask for, the program's name first; nothing where clap refuses them
@@ -160,7 +189,7 @@ with_run_options app =
 unfoldable pub sim_app : App
 sim_app = with_run_options (with_rule (file_app (codes "sim") (codes "WORDS")) (option_word (codes "machine")))
 
--- `exec SRC [--profile P] [--machine M] [--growth G]` with these options
+-- `exec SRC [--profile P] [--machine M] [--growth G] [--unroll K]` with these options
 unfoldable pub exec_app : App
 exec_app = with_run_options (with_compiling_options (file_app (codes "exec") (codes "SRC")))
 
@@ -175,9 +204,9 @@ Makes = (file : List ℕ) (machine input : Option (List ℕ)) (budget : ℕ) (ti
 abbrev pub simulates : Makes
 simulates file machine input budget timing probe = Simulate (record { words = file; machine = machine; input = input; budget = budget; timing = timing; probe = probe })
 
-abbrev pub executes : (profile : Option (List ℕ)) (growth : ℕ) → Makes
-executes profile growth file machine input budget timing probe =
-    Execute (record { source = file; growth = growth; profile = profile; machine = machine; input = input; budget = budget; timing = timing; probe = probe })
+abbrev pub executes : (profile : Option (List ℕ)) (growth : ℕ) → Rewriting → Makes
+executes profile growth rewriting file machine input budget timing probe =
+    Execute (record { source = file; growth = growth; rewriting = rewriting; profile = profile; machine = machine; input = input; budget = budget; timing = timing; probe = probe })
 
 abbrev pub run_within : Makes → (file : List ℕ) → List Row → ℕ → Command
 run_within makes file rows budget =
@@ -192,7 +221,8 @@ abbrev pub sim_unless : Kinds → List Row → Option Command
 sim_unless kinds rows = run_unless simulates (codes "WORDS") kinds rows
 
 abbrev pub exec_unless : Kinds → List Row → Option Command
-exec_unless kinds rows = option_and_then (λ growth. run_unless (executes (first_of (codes "profile") rows) growth) (codes "SRC") kinds rows) (growth_of (first_of (codes "growth") rows))
+exec_unless kinds rows =
+    option_and_then (λ growth. option_and_then (λ rewriting. run_unless (executes (first_of (codes "profile") rows) growth rewriting) (codes "SRC") kinds rows) (rewriting_of rows)) (growth_of (first_of (codes "growth") rows))
 
 -- what the words of `sim` ask for, the program's name first; nothing where clap refuses them
 unfoldable pub sim_of : List (List ℕ) → Option Command
@@ -202,15 +232,15 @@ sim_of words = sim_unless (fault_of sim_app words) (matches_of sim_app words)
 unfoldable pub exec_of : List (List ℕ) → Option Command
 exec_of words = exec_unless (fault_of exec_app words) (matches_of exec_app words)
 
--- `profile SRC [--input I] [--blocks N]`
+-- `profile SRC [--input I] [--blocks N] [--unroll K]`
 unfoldable pub profile_app : App
-profile_app = with_rule (with_rule (file_app (codes "profile") (codes "SRC")) (option_word (codes "input"))) (number_word (codes "blocks") 1 1000000000000)
+profile_app = with_rewriting_options (with_rule (with_rule (file_app (codes "profile") (codes "SRC")) (option_word (codes "input"))) (number_word (codes "blocks") 1 1000000000000))
 
-abbrev pub profile_found : List Row → ℕ → Command
-profile_found rows blocks = Count (record { source = unwrap_or (first_of (codes "SRC") rows) []; input = first_of (codes "input") rows; blocks = blocks })
+abbrev pub profile_found : List Row → ℕ → Rewriting → Command
+profile_found rows blocks rewriting = Count (record { source = unwrap_or (first_of (codes "SRC") rows) []; input = first_of (codes "input") rows; blocks = blocks; rewriting = rewriting })
 
 abbrev pub profile_unless : Kinds → List Row → Option Command
-profile_unless [] rows = option_map (profile_found rows) (budget_of (first_of (codes "blocks") rows))
+profile_unless [] rows = option_and_then (λ blocks. option_map (profile_found rows blocks) (rewriting_of rows)) (budget_of (first_of (codes "blocks") rows))
 profile_unless (kind ∷ kinds) rows = None
 
 -- what the words of `profile` ask for, the program's name first; nothing where clap refuses them

@@ -4,11 +4,13 @@ ghost use Rattle.std.specs.Prelude.{◌≡◌, ◌≢◌, ◌⊎◌, [], true, u
 ghost use Rattle.clap.specs.Words.{fault_of, first_value, found_of, is_simple, is_simple_and_free, kind_of, matches_of, new_app, rows_of};
 ghost use Rattle.clap.specs.declared.error.kind.ErrorKind.TheVariants.{OutOfMemory};
 ghost use Rattle.vx_status.specs.Status.{Adds, Tells, status_line};
-ghost use Rattle.vx_command.specs.Asked.{compilation_of};
-ghost use Rattle.vx_command.specs.Command.{Compile, compile_of, compile_unless};
+ghost use Rattle.vx_command.specs.Asked.{compilation_of, rewriting_asked};
+ghost use Rattle.vx_command.specs.Command.{Compile, compile_found, compile_of, compile_unless};
 ghost use Rattle.vx_command.specs.Words.{with_words};
 
 use crate::options::{GROWTH, Kind, MACHINE, PROFILE, SOURCE, Word, arg_of, growth_of};
+use crate::rewriting::Rewriting;
+use crate::rewriting_words::{UNROLL, rewriting_found};
 use clap::error::ErrorKind;
 use clap::{ArgMatches, Command, Error};
 use std::alloc::Global;
@@ -28,6 +30,8 @@ pub struct CompileWords<'a> {
     pub machine: Option<&'a str>,
     /// How many operations may be copied.
     pub growth: u32,
+    /// What is rewritten.
+    pub rewriting: Rewriting,
     /// The name of the file of the report.
     pub report: Option<&'a str>,
 }
@@ -117,26 +121,37 @@ pub(crate) fn found_or_refused<'a>(
     }
 }
 
-/// What was found in the words of `compile`, where the number of operations is in its range.
+/// What was found in the words of `compile`, with this number of operations and this to rewrite.
+fn compile_with<'a>(found: &ArgMatches<'a>, growth: u32, rewriting: Rewriting) -> CompileWords<'a>
+    ensures { Compile (compilation_of result) ≡ compile_found (rows_of (found_of found.now)) growth (rewriting_asked rewriting) }
+{
+    CompileWords {
+        source: text_at(found, "SRC"),
+        out: text_at(found, "OUT"),
+        profile: found.get_str("profile"),
+        machine: found.get_str("machine"),
+        growth,
+        rewriting,
+        report: found.get_str("report"),
+    }
+}
+
+/// What was found in the words of `compile`, where its numbers are in their ranges.
 fn compile_found<'a>(found: &ArgMatches<'a>) -> Result<CompileWords<'a>, Refused>
     ensures asked { IfOk result (λ asked. Some (Compile (compilation_of asked)) ≡ compile_unless [] (rows_of (found_of found.now))) }
     ensures refused { IfErr result (λ refused. (refused.status ≡ Status.Usage) × (None ≡ compile_unless [] (rows_of (found_of found.now)))) }
 {
     match growth_of(found.get_str("growth")) {
-        Some(growth) => Ok(CompileWords {
-            source: text_at(found, "SRC"),
-            out: text_at(found, "OUT"),
-            profile: found.get_str("profile"),
-            machine: found.get_str("machine"),
-            growth,
-            report: found.get_str("report"),
-        }),
+        Some(growth) => match rewriting_found(found) {
+            Some(rewriting) => Ok(compile_with(found, growth, rewriting)),
+            None => Err(without_text(Status::Usage)),
+        },
         None => Err(without_text(Status::Usage)),
     }
 }
 
-/// What the words of `compile SRC OUT [--profile P] [--machine M] [--growth G] [--report R]` ask for, the program's name first, or their
-/// refusal.
+/// What the words of `compile SRC OUT [--profile P] [--machine M] [--growth G] [--unroll K] [--report R]` ask for, the program's name
+/// first, or their refusal.
 pub fn compile_asked<'a>(alloc: Global, words: &'a [&'a str]) -> Result<CompileWords<'a>, Refused>
     ensures asked { IfOk result (λ asked. compile_of (map (λ w. w.now) words.now) ≡ Some (Compile (compilation_of asked))) }
     ensures refused { IfErr result (λ refused. (refused.status ≡ Status.NoMemory) ⊎ ((refused.status ≡ Status.Usage) × (compile_of (map (λ w. w.now) words.now) ≡ None))) }
@@ -145,7 +160,7 @@ pub fn compile_asked<'a>(alloc: Global, words: &'a [&'a str]) -> Result<CompileW
         alloc,
         "compile",
         "Compiles a source, and replaces a file by its words",
-        &[SOURCE, OUT, PROFILE, MACHINE, GROWTH, REPORT],
+        &[SOURCE, OUT, PROFILE, MACHINE, GROWTH, UNROLL, REPORT],
         words,
     ) {
         Ok(found) => {

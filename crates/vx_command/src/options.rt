@@ -2,7 +2,7 @@
 
 ghost use Rattle.std.specs.Prelude.{◌≡◌, ◌≤◌, ℕ, false, Some, option_map, IfSome, MatchOption};
 ghost use Rattle.clap.specs.Words.{rule_of};
-ghost use Rattle.vx_command.specs.Command.{number_in, growth_of};
+ghost use Rattle.vx_command.specs.Command.{number_in, number_or_none, growth_of};
 ghost use Rattle.vx_command.specs.Words.{rule_of_word};
 
 use clap::builder::ValueParser;
@@ -152,5 +152,19 @@ pub(crate) fn number_or_least(text: Option<&str>, low: u64, high: u64) -> Option
     match text {
         Some(text) => number_in(text, low, high),
         None => Some(low),
+    }
+}
+
+/// The number from low to high that a text is, and nothing where there is no text.
+pub(crate) fn number_or_none(text: Option<&str>, low: u32, high: u32) -> Option<Option<u32>>
+    ensures number { result ≡ number_or_none low high (option_map (λ s. s.now) text.entry) }
+    ensures range { IfSome result (λ number. IfSome number (λ n. (low ≤ n) × (n ≤ high))) }
+{
+    match text {
+        Some(text) => match number_in(text, low as u64, high as u64) {
+            Some(number) => Some(Some(number as u32)),
+            None => None,
+        },
+        None => Some(None),
     }
 }

@@ -3,10 +3,12 @@
 ghost use Rattle.std.specs.Prelude.{◌≡◌, ◌⊎◌, ◌≤◌, [], unwrap_or, Some, None, map, option_map, codes, IfOk, IfErr, MatchOption};
 ghost use Rattle.clap.specs.Words.{rows_of, first_value, found_of};
 ghost use Rattle.vx_command.specs.Command.{run_unless, Makes, Simulate, Execute, executes, sim_of, exec_of, exec_unless, budget_of};
-ghost use Rattle.vx_command.specs.Asked.{asks, simulation_of, execution_of};
+ghost use Rattle.vx_command.specs.Asked.{asks, simulation_of, execution_of, rewriting_asked};
 
 use crate::command::{Refused, found_or_refused, text_at, without_text};
 use crate::options::{GROWTH, INPUT, Kind, MACHINE, PROFILE, SOURCE, Word, growth_of};
+use crate::rewriting::Rewriting;
+use crate::rewriting_words::{UNROLL, rewriting_found};
 use clap::ArgMatches;
 use std::alloc::Global;
 use vx_status::Status;
@@ -37,6 +39,8 @@ pub struct ExecWords<'a> {
     pub profile: Option<&'a str>,
     /// How many operations may be copied.
     pub growth: u32,
+    /// What is rewritten.
+    pub rewriting: Rewriting,
 }
 
 pub(crate) const MOST_WORDS: u64 = 1000000000000;
@@ -140,20 +144,22 @@ fn asked_in<'a>(found: &ArgMatches<'a>, file: &str) -> Result<RunWords<'a>, Refu
     }
 }
 
-/// What was found in the words of `exec`, with this profile and at this number of operations.
+/// What was found in the words of `exec`, with this profile, at this number of operations and with this to rewrite.
 fn exec_with<'a>(
     found: &ArgMatches<'a>,
     profile: Option<&'a str>,
     growth: u32,
+    rewriting: Rewriting,
 ) -> Result<ExecWords<'a>, Refused>
-    ensures asked { IfOk result (λ asked. Some (Execute (execution_of asked)) ≡ run_unless (executes (option_map (λ s. s.now) profile.entry) growth) (codes "SRC") [] (rows_of (found_of found.now))) }
-    ensures refused { IfErr result (λ refused. (refused.status ≡ Status.Usage) × (None ≡ run_unless (executes (option_map (λ s. s.now) profile.entry) growth) (codes "SRC") [] (rows_of (found_of found.now)))) }
+    ensures asked { IfOk result (λ asked. Some (Execute (execution_of asked)) ≡ run_unless (executes (option_map (λ s. s.now) profile.entry) growth (rewriting_asked rewriting)) (codes "SRC") [] (rows_of (found_of found.now))) }
+    ensures refused { IfErr result (λ refused. (refused.status ≡ Status.Usage) × (None ≡ run_unless (executes (option_map (λ s. s.now) profile.entry) growth (rewriting_asked rewriting)) (codes "SRC") [] (rows_of (found_of found.now)))) }
 {
     match asked_in(found, "SRC") {
         Ok(run) => Ok(ExecWords {
             run,
             profile,
             growth,
+            rewriting,
         }),
         Err(refused) => Err(refused),
     }
@@ -165,7 +171,10 @@ fn exec_found<'a>(found: &ArgMatches<'a>) -> Result<ExecWords<'a>, Refused>
     ensures refused { IfErr result (λ refused. (refused.status ≡ Status.Usage) × (None ≡ exec_unless [] (rows_of (found_of found.now)))) }
 {
     match growth_of(found.get_str("growth")) {
-        Some(growth) => exec_with(found, found.get_str("profile"), growth),
+        Some(growth) => match rewriting_found(found) {
+            Some(rewriting) => exec_with(found, found.get_str("profile"), growth, rewriting),
+            None => Err(without_text(Status::Usage)),
+        },
         None => Err(without_text(Status::Usage)),
     }
 }
@@ -191,8 +200,8 @@ pub fn sim_asked<'a>(alloc: Global, words: &'a [&'a str]) -> Result<RunWords<'a>
     }
 }
 
-/// What the words of `exec SRC [--profile P] [--machine M] [--growth G] [--input I] [--words N] [--timing T] [--probe B]` ask for, the
-/// program's name first, or their refusal.
+/// What the words of `exec SRC [--profile P] [--machine M] [--growth G] [--unroll K] [--input I] [--words N] [--timing T] [--probe B]` ask
+/// for, the program's name first, or their refusal.
 pub fn exec_asked<'a>(alloc: Global, words: &'a [&'a str]) -> Result<ExecWords<'a>, Refused>
     ensures asked { IfOk result (λ asked. exec_of (map (λ w. w.now) words.now) ≡ Some (Execute (execution_of asked))) }
     ensures refused { IfErr result (λ refused. (refused.status ≡ Status.NoMemory) ⊎ ((refused.status ≡ Status.Usage) × (exec_of (map (λ w. w.now) words.now) ≡ None))) }
@@ -202,7 +211,7 @@ pub fn exec_asked<'a>(alloc: Global, words: &'a [&'a str]) -> Result<ExecWords<'
         "exec",
         "Compiles a source and runs its words",
         &[
-            SOURCE, PROFILE, MACHINE, GROWTH, INPUT, BUDGET, TIMING, PROBE,
+            SOURCE, PROFILE, MACHINE, GROWTH, UNROLL, INPUT, BUDGET, TIMING, PROBE,
         ],
         words,
     ) {

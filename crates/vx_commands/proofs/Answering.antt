@@ -17,7 +17,10 @@ use Rattle.vx_commands.specs.Answers.{TextsOf, Compiles, Writes, WritesWords, wi
 use Rattle.vx_runs.specs.Writing.{WriteAnswers, once_written, ReportAnswers}
 use Rattle.vx_files.specs.Effects.{Effect, SameFiles, SourceAnswers}
 use Rattle.vx_runs.proofs.Since.{Since, same_since, told_since}
+use Rattle.vx_runs.specs.Rewritten.{ReadAs}
 use Rattle.vx_runs.proofs.Later.{machine_since, profile_since, accepts_in, write_since}
+use Rattle.vx_unroll.specs.Unrolling.{UnrolledBy}
+use Rattle.vx_commands.proofs.Rewriting.{faithful_back, names_back}
 
 -- a source that could not be read through
 
@@ -125,10 +128,23 @@ texts_made program counts machine growth (Some name) out text report e status t 
 }
 
 -- what was read, of a depot that tells its files
-all_of : (asked : Compilation) (program : Program) (counts : Counts) (numbers : Numbers) (text report : List ℕ) (b : Option Files) → IfSome b (λ held. HoldsProgram held asked.source program) →
-    IfSome b (λ held. AreCounts held asked.profile counts) → IfSome b (λ held. machine_found held asked.machine ≡ Is numbers) → TextsOf program counts numbers asked.growth text report → IfSome b (λ held. Compiles asked held text report)
-all_of asked program counts numbers text report None h k m t = tt
-all_of asked program counts numbers text report (Some held) h k m t = record { program = program; holds = h; counts = counts; counted = k; numbers = numbers; machine_is = m; texts = t }
+all_of : (asked : Compilation) (program unrolled : Program) (counts : Counts) (numbers : Numbers) (text report : List ℕ) (b : Option Files) → UnrolledBy asked.rewriting.unroll program unrolled →
+    IfSome b (λ held. HoldsProgram held asked.source program) → IfSome b (λ held. AreCounts held asked.profile counts) → IfSome b (λ held. machine_found held asked.machine ≡ Is numbers) →
+    TextsOf unrolled counts numbers asked.growth text report → IfSome b (λ held. Compiles asked held text report)
+all_of asked program unrolled counts numbers text report None u h k m t = tt
+all_of asked program unrolled counts numbers text report (Some held) u h k m t = record {
+  program = program;
+  holds = h;
+  counts = counts;
+  counted = k;
+  numbers = numbers;
+  machine_is = m;
+  unrolled = unrolled;
+  turns = u;
+  texts = t;
+  faithful = faithful_back asked.rewriting.unroll program unrolled u numbers t.words t.compiled.faithful;
+  names = names_back asked.rewriting.unroll program unrolled u;
+}
 
 -- the report is not asked
 
@@ -259,10 +275,11 @@ module _ (program : Program) (counts : Counts) (numbers : Numbers) (asked : Comp
   pub for_machine : (e f : Effect) (status : Status) → Since e f → IfSome f.before (λ held. machine_found held asked.machine ≡ Is numbers) → Puts e status → MachineOrTexts program counts asked f status
   for_machine e f status s m a = inr (record { numbers = numbers; machine_is = m; answers = puts_since e f status s a })
 
-  answers_texts : (e : Effect) (status : Status) → IfSome e.before (λ held. HoldsProgram held asked.source program) → IfSome e.before (λ held. AreCounts held asked.profile counts) →
+  answers_texts : (e : Effect) (status : Status) → ReadAs e.before asked.source asked.rewriting program → IfSome e.before (λ held. AreCounts held asked.profile counts) →
       IfSome e.before (λ held. machine_found held asked.machine ≡ Is numbers) → Puts e status → CompileAnswers asked e status
-  answers_texts e status h k m (inl is) = subst (CompileAnswers asked e) (sym is.0) (inl is.1)
-  answers_texts e status h k m (inr put) = written asked put.text put.report e status asked.report refl (all_of asked program counts numbers put.text put.report e.before h k m put.texts) put.answers
+  answers_texts e status r k m (inl is) = subst (CompileAnswers asked e) (sym is.0) (inl is.1)
+  answers_texts e status r k m (inr put) =
+      written asked put.text put.report e status asked.report refl (all_of asked r.program program counts numbers put.text put.report e.before r.turns r.holds k m put.texts) put.answers
 
 machine_told : (machine : Option (List ℕ)) (numbers : Numbers) (e f : Effect) → Since e f → IfSome e.before (λ held. machine_found held machine ≡ Is numbers) →
     IfSome f.before (λ held. machine_found held machine ≡ Is numbers)
@@ -284,24 +301,24 @@ by_profile program counts asked e f status s k (inr for) =
       });
     })
 
-counted_answers : (program : Program) (counts : Counts) (asked : Compilation) (e f : Effect) (status : Status) → Since e f → IfSome f.before (λ held. HoldsProgram held asked.source program) →
+counted_answers : (program : Program) (counts : Counts) (asked : Compilation) (e f : Effect) (status : Status) → Since e f → ReadAs f.before asked.source asked.rewriting program →
     IfSome f.before (λ held. AreCounts held asked.profile counts) → MachineOrTexts program counts asked e status → CompileAnswers asked f status
-counted_answers program counts asked e f status s h k (inl none) =
+counted_answers program counts asked e f status s r k (inl none) =
     stops asked f status (record {
       named = none.named;
-      accepted = accepts_in asked.source program f.before h;
+      accepted = accepts_in asked.source r.program f.before r.holds;
       profiled = stands asked.profile f.before counts k;
       answers = machine_since asked.machine e f status s none.answers;
     })
-counted_answers program counts asked e f status s h k (inr for) =
-    answers_texts program counts for.numbers asked f status h k (machine_told asked.machine for.numbers e f s for.machine_is) (puts_since program counts for.numbers asked e f status s for.answers)
+counted_answers program counts asked e f status s r k (inr for) =
+    answers_texts program counts for.numbers asked f status r k (machine_told asked.machine for.numbers e f s for.machine_is) (puts_since program counts for.numbers asked e f status s for.answers)
 
 pub compiled_answers : (asked : Compilation) (program : Program) (e f : Effect) (status : Status) → Since e f →
-    IfSome f.before (λ held. HoldsProgram held asked.source program) → ProgramAnswers program asked e status → CompileAnswers asked f status
-compiled_answers asked program e f status s h (inl none) =
-    at_profile asked f status (record { named = none.named; accepted = accepts_in asked.source program f.before h; answers = profile_since asked.profile e f status s none.answers })
-compiled_answers asked program e f status s h (inr by) =
-    counted_answers program by.counts asked e f status s h (told_since e f (λ held. AreCounts held asked.profile by.counts) s by.counted) by.answers
+    ReadAs f.before asked.source asked.rewriting program → ProgramAnswers program asked e status → CompileAnswers asked f status
+compiled_answers asked program e f status s r (inl none) =
+    at_profile asked f status (record { named = none.named; accepted = accepts_in asked.source r.program f.before r.holds; answers = profile_since asked.profile e f status s none.answers })
+compiled_answers asked program e f status s r (inr by) =
+    counted_answers program by.counts asked e f status s r (told_since e f (λ held. AreCounts held asked.profile by.counts) s by.counted) by.answers
 
 -- two facts of one answer
 pub both_ok : {T E : Type 0} (r : Result T E) (P Q : T → Type 0) → IfOk r P → IfOk r Q → IfOk r (λ t. P t × Q t)

@@ -19,14 +19,16 @@ use Rattle.vx_status.specs.declared.status.Status.TheVariants.{Done, Trapped, Us
 use Rattle.vx_command.specs.Command.{Execution}
 use Rattle.vx_runs.specs.Boxes.{Chosen}
 use Rattle.vx_compiled.specs.Faithful.{Faithful}
-use Rattle.vx_files.specs.Held.{AreCounts, HoldsProgram, ProfileStands, Is, machine_found, input_found}
+use Rattle.vx_files.specs.Held.{HoldsProgram, ProfileStands, Is, machine_found, input_found}
 use Rattle.vx_files.specs.Effects.{Effect, SourceAnswers, MachineAnswers, InputAnswers}
 use Rattle.vx_commands.specs.Answers.{StopsAtProfile, StopsAtMachine}
 use Rattle.vx_runs.specs.Simulated.{Loaded, begun, outcome_within, events_within, reports_of, Streams, Shows, OutputCut, IsStatusOf}
-use Rattle.vx_commands.specs.Executed.{Issues, SourceHas, SourceBegins, InSource, AllHeld, Prepared, Runs, RunsCut, StopsAtInput, ExecutionAnswers}
+use Rattle.vx_commands.specs.Executed.{Issues, SourceHas, SourceBegins, InSource, AllHeld, CompiledBy, Prepared, Runs, RunsCut, StopsAtInput, ExecutionAnswers}
 use Rattle.vx_runs.specs.Ending.{issued_line, IsRunOf, UnputLines, LoadedAnswers}
 use Rattle.vx_commands.specs.Loading.{LoadedProfile}
 use Rattle.vx_commands.specs.Stopping.{LaterStops, AfterSource, StopsBefore}
+use Rattle.vx_runs.specs.Rewritten.{ReadAs}
+use Rattle.vx_commands.proofs.Rewriting.{compiled_back}
 use Rattle.vx_runs.proofs.Issued.{issues_comes, issues_within, issues_least, issues_all, issues_seen}
 use Rattle.vx_runs.proofs.Turned.{turned_of, turned_some, outcome_turned}
 use Rattle.vx_runs.proofs.Runs.{no_run}
@@ -87,7 +89,7 @@ module _ (asked : Execution) (x : Loaded) (times : Times) (watches : List Watch)
   the_count = length (events_within x times asked.budget)
 
   no_failure : (n : ℕ) → IsFailure (outcome_within x times n) → ⊥
-  no_failure n f = safe ready.source_program x times ready.by.compiled.faithful numbers n f
+  no_failure n f = safe ready.source_program x times ready.by.faithful numbers n f
 
   shown : (o : Outcome) → the_outcome ≡ o → Shows the_outcome (issued_line the_count) (reports_of watches (events_within x times asked.budget)) s → Shows o (issued_line the_count) (reports_of watches (events_within x times the_count)) s
   shown o is h =
@@ -99,8 +101,8 @@ module _ (asked : Execution) (x : Loaded) (times : Times) (watches : List Watch)
     words = x;
     ready = ready;
     issued = the_count;
-    issues = issues_of ready.source_program x times ready.by.compiled.faithful numbers asked.budget o is;
-    in_source = in_source ready.source_program x times ready.by.compiled.faithful numbers asked.budget o is;
+    issues = issues_of ready.source_program x times ready.by.faithful numbers asked.budget o is;
+    in_source = in_source ready.source_program x times ready.by.faithful numbers asked.budget o is;
     put = a.put ∙ ap (λ y. with_bytes s.out_before (output_of y)) is;
     shown = shown o is a.shown;
   }
@@ -135,23 +137,23 @@ module _ (asked : Execution) (x : Loaded) (times : Times) (watches : List Watch)
 
   cut : OutputCut x times asked.budget s ⊎ UnputLines x times asked.budget true watches s → RunsCut asked the_boxes e s
   cut (inl out) =
-      let whole = begins ready.source_program x times ready.by.compiled.faithful numbers out.bound in
+      let whole = begins ready.source_program x times ready.by.faithful numbers out.bound in
       record {
         words = x;
         ready = ready;
         fronts = record { front = out.front; begins = record { bound = whole.bound; begins = begins_on out.front _ _ out.begins whole.begins }; put = out.put };
-        in_source = in_source ready.source_program x times ready.by.compiled.faithful numbers asked.budget the_outcome refl;
+        in_source = in_source ready.source_program x times ready.by.faithful numbers asked.budget the_outcome refl;
         issued = the_count;
-        issues = issues_of ready.source_program x times ready.by.compiled.faithful numbers asked.budget the_outcome refl;
+        issues = issues_of ready.source_program x times ready.by.faithful numbers asked.budget the_outcome refl;
         cut = inl out;
       }
   cut (inr lines) = record {
     words = x;
     ready = ready;
-    fronts = record { front = output_of the_outcome; begins = begins ready.source_program x times ready.by.compiled.faithful numbers asked.budget; put = lines.put };
-    in_source = in_source ready.source_program x times ready.by.compiled.faithful numbers asked.budget the_outcome refl;
+    fronts = record { front = output_of the_outcome; begins = begins ready.source_program x times ready.by.faithful numbers asked.budget; put = lines.put };
+    in_source = in_source ready.source_program x times ready.by.faithful numbers asked.budget the_outcome refl;
     issued = the_count;
-    issues = issues_of ready.source_program x times ready.by.compiled.faithful numbers asked.budget the_outcome refl;
+    issues = issues_of ready.source_program x times ready.by.faithful numbers asked.budget the_outcome refl;
     cut = inr (record { rose = lines.rose; wanted = elim lines.wanted [ inl end ↦ inl end | inr some ↦ inr (wanted some) ]; put = lines.put; told = lines.told });
   }
 
@@ -287,27 +289,27 @@ stopped_later asked program f status holds stands (inr (inr none)) = inr (inr (i
   answers = none.answers;
 }))))
 
-pub after_source : (asked : Execution) (program : Program) (e f : Effect) (status : Status) → Since e f → IfSome f.before (λ held. HoldsProgram held asked.source program) →
+pub after_source : (asked : Execution) (q : Program) (e f : Effect) (status : Status) → Since e f → ReadAs f.before asked.source asked.rewriting q →
     AfterSource asked.profile asked.machine asked.input e status → StopsBefore asked f status
-after_source asked program e f status since holds (inl none) = inr (inr (inl (record {
+after_source asked q e f status since r (inl none) = inr (inr (inl (record {
   named = none.named;
-  accepted = accepts_in asked.source program f.before holds;
+  accepted = accepts_in asked.source r.program f.before r.holds;
   answers = profile_since asked.profile e f status since none.answers;
 })))
-after_source asked program e f status since holds (inr later) =
-    stopped_later asked program f status holds (told_since e f (λ held. ProfileStands held asked.profile) since later.profiled) (later_since asked.machine asked.input e f status since later.stops)
+after_source asked q e f status since r (inr later) =
+    stopped_later asked r.program f status r.holds (told_since e f (λ held. ProfileStands held asked.profile) since later.profiled) (later_since asked.machine asked.input e f status since later.stops)
 
 all_held : (asked : Execution) (program : Program) (m : Numbers) (numbers : List ℤ) (b : Option Files) → IfSome b (λ held. HoldsProgram held asked.source program) → IfSome b (λ held. ProfileStands held asked.profile) →
     IfSome b (λ held. machine_found held asked.machine ≡ Is m) → IfSome b (λ held. input_found held asked.input ≡ Ok numbers) → IfSome b (λ held. AllHeld held asked program m numbers)
 all_held asked program m numbers None holds stands machine input = tt
 all_held asked program m numbers (Some held) holds stands machine input = record { program_is = holds; profiled = stands; machine_is = machine; input_is = input }
 
-pub prepared : (asked : Execution) (program : Program) (x : Loaded) (e f : Effect) → Since e f → IfSome f.before (λ held. HoldsProgram held asked.source program) →
-    LoadedProfile program asked.growth e.before asked.profile asked.machine asked.input x → Prepared asked f x
-prepared asked program x e f since holds l = record {
-  source_program = program;
-  read = all_held asked program x.machine x.input f.before holds (told_since e f (λ held. ProfileStands held asked.profile) since l.profiled)
+pub prepared : (asked : Execution) (q : Program) (x : Loaded) (e f : Effect) → Since e f → ReadAs f.before asked.source asked.rewriting q →
+    LoadedProfile q asked.growth e.before asked.profile asked.machine asked.input x → Prepared asked f x
+prepared asked q x e f since r l = record {
+  source_program = r.program;
+  read = all_held asked r.program x.machine x.input f.before r.holds (told_since e f (λ held. ProfileStands held asked.profile) since l.profiled)
       (told_since e f (λ held. machine_found held asked.machine ≡ Is x.machine) since l.machine_is) (told_since e f (λ held. input_found held asked.input ≡ Ok x.input) since l.input_is);
   defaults = l.defaults;
-  by = record { counts = l.by.counts; counted = told_since e f (λ held. AreCounts held asked.profile l.by.counts) since l.by.counted; plan = l.by.plan; compiled = l.by.compiled };
+  by = compiled_back asked.rewriting.unroll r.program q r.turns f.before asked.profile asked.growth x.machine x.program (subst (λ b. CompiledBy b asked.profile asked.growth None q x.machine x.program) (sym since.before) l.by);
 }

@@ -1,4 +1,5 @@
 mod GraphRows
+pub mod Rewriting
 pub mod Answering
 pub mod Completing
 mod Always

@@ -1,5 +1,5 @@
 -- What is read and compiled for an execution, step by step.
-use Rattle.std.proofs.Common.{◌≡◌, ℕ, ℤ, List, Option, Ok, IfSome, sym, subst}
+use Rattle.std.proofs.Common.{◌≡◌, ℕ, ℤ, List, Option, Ok, IfSome, refl, sym, subst}
 use Rattle.vx_io.specs.Outside.{Files}
 use Rattle.vx_isa.specs.Numbers.{Numbers}
 use Rattle.vx_ast.specs.Tree.{Program}
@@ -35,5 +35,5 @@ module _ (p : Program) (counts : Counts) (growth : ℕ) (x : Loaded) where
     machine_is = subst (λ b. IfSome b (λ held. machine_found held machine ≡ Is x.machine)) same l.machine_is;
     input_is = subst (λ b. IfSome b (λ held. input_found held input ≡ Ok x.input)) same l.input_is;
     defaults = l.defaults;
-    by = record { counts = counts; counted = counted; plan = l.compiled.plan; compiled = l.compiled.compiled };
+    by = record { counts = counts; counted = counted; unrolled = p; turns = refl; plan = l.compiled.plan; compiled = l.compiled.compiled; faithful = l.compiled.compiled.faithful };
   }

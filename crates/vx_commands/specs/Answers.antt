@@ -14,12 +14,14 @@ use Rattle.vx_status.specs.declared.status.Status.{Status}
 use Rattle.vx_status.specs.declared.status.Status.TheVariants.{Done, Trapped, Usage, Source, Limit, Words, Profile, Machine, NoFile, ReadFault, WriteFault, Stopped, Input, Stuck, NoMemory, NotStrict}
 use Rattle.vx_command.specs.Command.{Compilation}
 use Rattle.vx_compiled.specs.Compiled.{Compiled}
+use Rattle.vx_compiled.specs.Faithful.{Faithful}
 use Rattle.vx_report.specs.declared.plan.Plan.{Plan}
 use Rattle.vx_report.specs.Report.{names_of, report_text}
 use Rattle.vx_words.specs.Spelling.{Spells}
 use Rattle.vx_files.specs.Held.{HoldsProgram, Accepts, status_of, AreCounts, ProfileStands, RefusesProfile, Is, Refused, TooLong, Missing, machine_found}
 use Rattle.vx_files.specs.Effects.{Effect, ReplacesRose, SameFiles, SourceAnswers, ProfileAnswers, MachineAnswers}
 use Rattle.vx_runs.specs.Writing.{ReportAnswers}
+use Rattle.vx_unroll.specs.Unrolling.{UnrolledBy}
 
 -- the texts of a compiled program: the one spells its words, the other is the report of their plan
 pub record TextsOf (program : Program) (counts : Counts) (machine : Numbers) (growth : ℕ) (text report : List ℕ) : Type 0 where
@@ -29,7 +31,8 @@ pub record TextsOf (program : Program) (counts : Counts) (machine : Numbers) (gr
   pub spells : Spells text words
   pub reports : report ≡ report_text plan (names_of program)
 
--- the texts of what the source's file reads as, compiled by the profile, for the machine and with the growth of the command
+-- the texts of what the source's file reads as, with its loops unrolled as asked, compiled by the profile, for the machine and with
+-- the growth of the command
 pub record Compiles (asked : Compilation) (held : Files) (text report : List ℕ) : Type 0 where
   pub program : Program
   pub holds : HoldsProgram held asked.source program
@@ -37,7 +40,13 @@ pub record Compiles (asked : Compilation) (held : Files) (text report : List ℕ
   pub counted : AreCounts held asked.profile counts
   pub numbers : Numbers
   pub machine_is : machine_found held asked.machine ≡ Is numbers
-  pub texts : TextsOf program counts numbers asked.growth text report
+  pub unrolled : Program
+  pub turns : UnrolledBy asked.rewriting.unroll program unrolled
+  pub texts : TextsOf unrolled counts numbers asked.growth text report
+  -- the words do what the source does
+  pub faithful : Faithful program numbers texts.words
+  -- the report's functions have their names in the source
+  pub names : names_of unrolled ≡ names_of program
 
 -- the files once the report is put under its name, where one is asked
 abbrev pub with_report : Option (List ℕ) → (report : List ℕ) → Files → Files

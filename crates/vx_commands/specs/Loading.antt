@@ -1,5 +1,5 @@
 -- What is read and compiled for an execution, from its last step to its first: each finds what the steps behind it left.
-use Rattle.std.specs.Prelude.{◌≡◌, ℕ, ℤ, List, Option, Ok, IfSome}
+use Rattle.std.specs.Prelude.{◌≡◌, ℕ, ℤ, List, Option, None, Ok, IfSome}
 use Rattle.vx_io.specs.Outside.{Files}
 use Rattle.vx_isa.specs.Numbers.{Numbers}
 use Rattle.vx_ast.specs.Tree.{Program}
@@ -35,4 +35,4 @@ pub record LoadedProfile (p : Program) (growth : ℕ) (told : Option Files) (pro
   pub machine_is : IfSome told (λ held. machine_found held machine ≡ Is x.machine)
   pub input_is : IfSome told (λ held. input_found held input ≡ Ok x.input)
   pub defaults : AreDefaults machine input x
-  pub by : CompiledBy told profile growth p x.machine x.program
+  pub by : CompiledBy told profile growth None p x.machine x.program

@@ -1,5 +1,5 @@
-// The command `compile SRC OUT`: reads a source, a profile and a machine, compiles, and replaces the file of the words, and then that
-// of the report where one is asked.
+// The command `compile SRC OUT`: reads a source and rewrites what is asked of it, reads a profile and a machine, compiles, and replaces
+// the file of the words, and then that of the report where one is asked.
 
 ghost use Rattle.std.specs.Prelude.{◌≡◌, ◌≤◌, ◌⊎◌, Ok, true, is_some, option_map, IfOk};
 ghost use Rattle.vx_ast.specs.View as view;
@@ -16,11 +16,12 @@ use vx_ast::typed::Typed;
 use vx_base::outcome::NoMemory;
 use vx_command::CompileWords;
 use vx_compiled::{CompiledProgram, WordCompiler};
-use vx_files::{counts_for, machine_for, read_through};
+use vx_files::{counts_for, machine_for};
 use vx_io::depot::Depot;
 use vx_machine::Machine;
 use vx_profile::counts::Counts;
 use vx_report::{Plan, report};
+use vx_runs::rewritten::read_rewritten;
 use vx_runs::texts::write_texts;
 use vx_status::Status;
 use vx_types::discard;
@@ -149,7 +150,7 @@ fn compile_read<C: WordCompiler, D: Depot>(
     }
 }
 
-/// Compiles the file of the source into the file of the output, and reports the plan in a file where one is named.
+/// Compiles the file of the source, rewritten as asked, into the file of the output, and reports the plan in a file where one is named.
 pub(crate) fn compile<C: WordCompiler, D: Depot>(
     alloc: Global,
     compiler: &C,
@@ -160,7 +161,7 @@ pub(crate) fn compile<C: WordCompiler, D: Depot>(
     ensures reads_never_fall { D.failed_reads depot.old ≤ D.failed_reads depot.new }
     ensures replaces_never_fall { D.failed_replaces depot.old ≤ D.failed_replaces depot.new }
 {
-    match read_through(alloc, depot, asked.source) {
+    match read_rewritten(alloc, depot, asked.source, asked.rewriting) {
         Ok(program) => {
             let status = compile_read(alloc, compiler, depot, &program, asked);
             discard(program);

@@ -1,5 +1,5 @@
-// The command `exec SRC`: reads a source, a profile, a machine and an input, compiles the source, runs its words with the boxes that
-// are asked for, and puts how the run ended and how many words it issued.
+// The command `exec SRC`: reads a source and rewrites what is asked of it, reads a profile, a machine and an input, compiles the source,
+// runs its words with the boxes that are asked for, and puts how the run ended and how many words it issued.
 
 ghost use Rattle.std.specs.Prelude.{◌≡◌, ◌⊎◌, ◌<◌, true, length, map, option_map, is_some, All, IfOk, IfErr};
 ghost use Rattle.vx_base.specs.Arithmetic.{IsNumber};
@@ -20,12 +20,13 @@ use std::alloc::Global;
 use vx_ast::typed::Typed;
 use vx_command::ExecWords;
 use vx_compiled::WordCompiler;
-use vx_files::{counts_for, input_for, machine_for, read_through};
+use vx_files::{counts_for, input_for, machine_for};
 use vx_io::depot::Depot;
 use vx_io::sink::Sink;
 use vx_machine::Machine;
 use vx_probe::{Probe, Timing};
 use vx_profile::counts::Counts;
+use vx_runs::rewritten::read_rewritten;
 use vx_runs::{LoadedFiles, no_box, no_probe, probes_of, run_loaded, timing_of};
 use vx_status::{Status, tell};
 use vx_types::discard;
@@ -125,7 +126,8 @@ fn load_profile<C: WordCompiler, D: Depot>(
     }
 }
 
-/// Reads the source, the profile, the machine and the input, each whole before the next, and compiles.
+/// Reads the source and rewrites what is asked of it, reads the profile, the machine and the input, each whole before the next, and
+/// compiles.
 fn load<C: WordCompiler, D: Depot>(
     alloc: Global,
     compiler: &C,
@@ -136,7 +138,7 @@ fn load<C: WordCompiler, D: Depot>(
     ensures loaded { IfOk result (λ loaded. Prepared (execution_of asked.now) (effect_of D.files D.failed_reads D.failed_replaces depot.old depot.new) (loaded_of loaded)) }
     ensures stops { IfErr result (StopsBefore (execution_of asked.now) (effect_of D.files D.failed_reads D.failed_replaces depot.old depot.new)) }
 {
-    match read_through(alloc, depot, asked.run.file) {
+    match read_rewritten(alloc, depot, asked.run.file, asked.rewriting) {
         Ok(program) => {
             let loaded = load_profile(
                 alloc,

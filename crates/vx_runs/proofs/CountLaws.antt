@@ -12,6 +12,7 @@ use Rattle.vx_files.specs.Held.{HoldsProgram, Accepts, Refuses, RefusesSource, s
 use Rattle.vx_files.specs.Effects.{Effect, ReadsRose, SameFiles, OfFile, SourceAnswers, InputAnswers}
 use Rattle.vx_runs.specs.Simulated.{Streams, OutRose}
 use Rattle.vx_runs.specs.Counted.{CountsRead, CountedRun, StopsAtCountsInput, CountsAnswers, ProfilingAnswers, CountsEnd, ProfilingCompletes}
+use Rattle.vx_runs.specs.Rewritten.{ReadAs}
 use Rattle.vx_runs.specs.Counting.{CountedOn, CountedFor, PutsText, over, goes_on, cut, StopsProfiling}
 use Rattle.vx_runs.proofs.Since.{Since, told_since}
 use Rattle.vx_runs.proofs.Cases.{source_cases, input_cases}
@@ -25,26 +26,28 @@ read_in : (asked : Profiling) (program : Program) (input : List ℤ) (b : Option
 read_in asked program input None h i = tt
 read_in asked program input (Some held) h i = record { program_is = h; input_is = i }
 
-pub counted_for : (asked : Profiling) (program : Program) (text : List ℕ) (complete : Bool) (e f : Effect) → Since e f → IfSome f.before (λ held. HoldsProgram held asked.source program) →
-    CountedOn program asked.input asked.blocks e text complete → CountedFor asked f text complete
-counted_for asked program text complete e f since holds c = record {
+pub counted_for : (asked : Profiling) (q : Program) (text : List ℕ) (complete : Bool) (e f : Effect) → Since e f → ReadAs f.before asked.source asked.rewriting q →
+    CountedOn q asked.input asked.blocks e text complete → CountedFor asked f text complete
+counted_for asked q text complete e f since r c = record {
   counted = record {
-    program = program;
+    program = r.program;
     input = c.input;
-    read = read_in asked program c.input f.before holds (told_since e f (λ held. input_found held asked.input ≡ Ok c.input) since c.input_is);
+    read = read_in asked r.program c.input f.before r.holds (told_since e f (λ held. input_found held asked.input ≡ Ok c.input) since c.input_is);
     unnamed = c.unnamed;
+    unrolled = q;
+    turns = r.turns;
     run = c.is.run;
   };
   text_is = c.is.text_is;
   ended = c.is.ended;
 }
 
-pub stops_later : (asked : Profiling) (program : Program) (e f : Effect) (status : Status) → Since e f → IfSome f.before (λ held. HoldsProgram held asked.source program) →
+pub stops_later : (asked : Profiling) (q : Program) (e f : Effect) (status : Status) → Since e f → ReadAs f.before asked.source asked.rewriting q →
     ((status ≡ NoMemory) ⊎ ((is_some asked.input ≡ true) × InputAnswers asked.input e status)) → StopsProfiling asked f status
-stops_later asked program e f status since holds (inl memory) = inl memory
-stops_later asked program e f status since holds (inr why) = inr (inr (record {
+stops_later asked q e f status since r (inl memory) = inl memory
+stops_later asked q e f status since r (inr why) = inr (inr (record {
   named = why.0;
-  accepted = accepts_in asked.source program f.before holds;
+  accepted = accepts_in asked.source r.program f.before r.holds;
   answers = input_since asked.input e f status since why.1;
 }))
 

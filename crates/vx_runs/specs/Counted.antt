@@ -1,5 +1,5 @@
--- What `profile` does: it runs graphs of the source on the input of the command, for at most so many blocks, and puts how
--- often each block and each edge was passed.
+-- What `profile` does: it runs graphs of the source, as it is rewritten, on the input of the command, for at most so many blocks,
+-- and puts how often each block and each edge was passed.
 use Rattle.std.specs.Prelude.{◌≡◌, ◌⊎◌, true, ℕ, ℤ, List, is_some, Some, None, IfSome, Ok, Err}
 use Rattle.vx_base.specs.Outcome.{IsOver}
 use Rattle.vx_io.specs.Outside.{Files, PutsFront, with_bytes}
@@ -20,6 +20,7 @@ use Rattle.vx_command.specs.Command.{Profiling}
 use Rattle.vx_files.specs.Held.{HoldsProgram, Accepts, status_of, EmptyUnless, input_found}
 use Rattle.vx_files.specs.Effects.{Effect, ReadsRose, SameFiles, SourceAnswers, InputAnswers}
 use Rattle.vx_runs.specs.Simulated.{Streams, OutRose}
+use Rattle.vx_unroll.specs.Unrolling.{UnrolledBy}
 
 -- what is read for the counts: the program of the source, and the input
 pub record CountsRead (held : Files) (asked : Profiling) (p : Program) (input : List ℤ) : Type 0 where
@@ -35,13 +36,15 @@ pub record RunOfGraphs (p : Program) (input : List ℤ) (blocks : ℕ) : Type 0 
   pub counts_of : CountsOf counts (graph_path flow input blocks)
   pub ascending : AreAscending counts
 
--- such a run of the program and the input that were read
+-- such a run of the program that was read, with its loops unrolled as asked, on the input that was read
 pub record CountedRun (asked : Profiling) (e : Effect) : Type 0 where
   pub program : Program
   pub input : List ℤ
   pub read : IfSome e.before (λ held. CountsRead held asked program input)
   pub unnamed : EmptyUnless asked.input input
-  pub run : RunOfGraphs program input asked.blocks
+  pub unrolled : Program
+  pub turns : UnrolledBy asked.rewriting.unroll program unrolled
+  pub run : RunOfGraphs unrolled input asked.blocks
 
 -- the text of the counts is put, whole
 pub record PutsCounts (asked : Profiling) (e : Effect) (s : Streams) : Type 0 where

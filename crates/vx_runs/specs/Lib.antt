@@ -4,6 +4,7 @@ pub mod Lines
 pub mod Ending
 pub mod Checking
 pub mod Reading
+pub mod Rewritten
 pub mod Names
 pub mod Writing
 pub mod Counted

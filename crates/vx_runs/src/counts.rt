@@ -1,5 +1,5 @@
-// The steps of `profile`: a source and an input are read, the graphs of the source are run, and the text of how often each block and
-// each edge was passed is put.
+// The steps of `profile`: a source and an input are read, the graphs of the source as it is rewritten are run, and the text of how often
+// each block and each edge was passed is put.
 
 ghost use Rattle.std.specs.Prelude.{◌≡◌, ◌⊎◌, ◌≤◌, true, false, option_map, is_some, IfOk, IfErr};
 ghost use Rattle.vx_ast.specs.View as view;
@@ -11,11 +11,12 @@ ghost use Rattle.vx_runs.specs.Reading.{OnlyReads};
 ghost use Rattle.vx_runs.specs.Counting.{IsCounted, CountedOn, CountedFor, PutsText, StopsProfiling};
 
 use crate::compiler::Compiler;
+use crate::rewritten::read_rewritten;
 use std::alloc::Global;
 use vx_ast::typed::Typed;
 use vx_base::outcome::NoMemory;
 use vx_command::ProfileWords;
-use vx_files::{input_for, read_through};
+use vx_files::input_for;
 use vx_io::depot::Depot;
 use vx_io::sink::{Sink, put_all};
 use vx_profile::write_counts;
@@ -89,7 +90,7 @@ fn count_on<C: Compiler, D: Depot>(
     }
 }
 
-/// Reads the source and the input, each whole and through before the next, and counts.
+/// Reads the source and the input, each whole and through before the next, and counts the source as it is rewritten.
 pub fn count_read<C: Compiler, D: Depot>(
     alloc: Global,
     compiler: &C,
@@ -100,7 +101,7 @@ pub fn count_read<C: Compiler, D: Depot>(
     ensures counted { IfOk result (λ counted. CountedFor (profiling_of asked.now) (effect_of D.files D.failed_reads D.failed_replaces depot.old depot.new) counted.text.items counted.complete) }
     ensures stops { IfErr result (StopsProfiling (profiling_of asked.now) (effect_of D.files D.failed_reads D.failed_replaces depot.old depot.new)) }
 {
-    match read_through(alloc, depot, asked.source) {
+    match read_rewritten(alloc, depot, asked.source, asked.rewriting) {
         Ok(program) => {
             let counted = count_on(alloc, compiler, depot, &program, asked.input, asked.blocks);
             discard(program);

@@ -9,6 +9,7 @@ pub mod compiler;
 pub mod counts;
 mod loaded;
 pub mod names;
+pub mod rewritten;
 mod run;
 mod sim;
 pub mod soak_run;

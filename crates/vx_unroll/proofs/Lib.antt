@@ -12,4 +12,5 @@ mod Rooms
 mod Making
 mod Declaring
 mod Outcomes
+pub mod Asking
 mod Rows

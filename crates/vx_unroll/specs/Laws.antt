@@ -4,7 +4,7 @@ use Rattle.vx_base.specs.Outcome.{Same, Begins}
 use Rattle.vx_ast.specs.Tree.{One, Tree, Action, Code, Nothing, Seq, Block, Head, If, IfElse, While, DoWhile, For, Function, Program}
 use Rattle.vx_ast.specs.Accepted.{is_accepted}
 use Rattle.vx_ast.specs.Meaning.{Store, Part, With, Trapped, Going, Calls, does, source}
-use Rattle.vx_unroll.specs.Unrolling.{turns_of, while_body, function_words, unrolled_function, unrolled_program}
+use Rattle.vx_unroll.specs.Unrolling.{turns_of, while_body, function_words, unrolled_function, unrolled_program, UnrolledBy}
 
 -- the step of a `for` as a part of its head
 abbrev pub step_code : Option Action → Code
@@ -66,3 +66,10 @@ names p = map (λ f. f.name) p.functions
 
 abbrev pub NamesStay : Type 0
 NamesStay = (k : ℕ) (p : Program) → names (unrolled_program k p) ≡ names p
+
+-- where unrolling is asked or not: the program ends and prints alike, and its functions have their names
+abbrev pub UnrolledByIsSame : Type 0
+UnrolledByIsSame = (asked : Option ℕ) (p q : Program) → UnrolledBy asked p q → (input : List ℤ) → Same (source p input) (source q input)
+
+abbrev pub NamesStayBy : Type 0
+NamesStayBy = (asked : Option ℕ) (p q : Program) → UnrolledBy asked p q → names q ≡ names p

@@ -114,3 +114,8 @@ unrolled_program k p = record p { functions = map (unrolled_function k (length p
 -- q is p with its loops unrolled to k turns each, wherever they are to be
 abbrev pub Unrolled : Program → (k : ℕ) → Program → Type 0
 Unrolled p k q = q ≡ unrolled_program k p
+
+-- q is p, with its loops unrolled to so many turns each where that is asked
+abbrev pub UnrolledBy : Option ℕ → Program → Program → Type 0
+UnrolledBy None p q = q ≡ p
+UnrolledBy (Some k) p q = Unrolled p k q

@@ -1,6 +1,6 @@
 // The laws of unrolling (specs/Laws.antt): each function does nothing, and its clause is the law.
 
-ghost use Rattle.vx_unroll.specs.Laws.{NamesStay, StatementsKeep, UnrolledIsAccepted, UnrolledIsSame, UnrollingKeeps, WordsStayWithin};
+ghost use Rattle.vx_unroll.specs.Laws.{NamesStay, NamesStayBy, StatementsKeep, UnrolledByIsSame, UnrolledIsAccepted, UnrolledIsSame, UnrollingKeeps, WordsStayWithin};
 
 /// A statement with loops unrolled does from every state what it did, in some other number of turns.
 #[tactic(auto, using(crate::proofs::Unrolled::statements_keep))]
@@ -36,4 +36,16 @@ pub fn words_stay_within()
 #[tactic(auto, using(crate::proofs::Accepting::names_stay))]
 pub fn names_stay()
     ensures { NamesStay }
+{}
+
+/// A program whose loops are unrolled where that is asked ends and prints alike.
+#[tactic(auto, using(crate::proofs::Asking::unrolled_by_is_same))]
+pub fn unrolled_by_is_same()
+    ensures { UnrolledByIsSame }
+{}
+
+/// Its functions have their names.
+#[tactic(auto, using(crate::proofs::Asking::names_stay_by))]
+pub fn names_stay_by()
+    ensures { NamesStayBy }
 {}

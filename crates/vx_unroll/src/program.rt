@@ -1,13 +1,13 @@
 // Unrolling a whole program.
 
-ghost use Rattle.std.specs.Prelude.{◌≡◌, ◌≤◌, ℤ, List, true, IfOk, map};
+ghost use Rattle.std.specs.Prelude.{◌≡◌, ◌≤◌, ℤ, List, true, IfOk, IfSome, map};
 ghost use Rattle.vx_ast.specs.Meaning.{source};
 ghost use Rattle.vx_ast.specs.View.{function_of, program_of};
 ghost use Rattle.vx_base.specs.Outcome.{Same};
 ghost use Rattle.std.specs.List.{list_all};
 ghost use Rattle.vx_unroll.specs.Growth.{has_few_words, is_small_function};
 ghost use Rattle.vx_unroll.specs.Laws.{names};
-ghost use Rattle.vx_unroll.specs.Unrolling.{Unrolled, function_words, size_of, unrolled_function, unrolled_program};
+ghost use Rattle.vx_unroll.specs.Unrolling.{Unrolled, UnrolledBy, function_words, size_of, unrolled_function, unrolled_program};
 
 use crate::memory::append;
 use crate::size::Size;
@@ -130,4 +130,18 @@ pub fn unroll(alloc: Global, typed: Typed, factor: u32) -> Result<Typed, NoMemor
     ensures names { IfOk result (λ made. names (program_of made.program) ≡ names (program_of typed.program)) }
 {
     typed_unrolled(alloc, &typed, factor)
+}
+
+/// A program with its loops unrolled as `unroll` does, where so many turns are asked, and as it is where none are.
+pub fn unrolled_by(alloc: Global, typed: Typed, factor: Option<u32>) -> Result<Typed, NoMemory>
+    requires turns { IfSome factor (λ k. (2 ≤ k) × (k ≤ 8)) }
+    ensures unrolled { IfOk result (λ made. UnrolledBy factor (program_of typed.program) (program_of made.program)) }
+    ensures same { IfOk result (λ made. (input : List ℤ) → Same (source (program_of typed.program) input) (source (program_of made.program) input)) }
+    ensures words { IfOk result (λ made. has_few_words (program_of typed.program) ≡ true → has_few_words (program_of made.program) ≡ true) }
+    ensures names { IfOk result (λ made. names (program_of made.program) ≡ names (program_of typed.program)) }
+{
+    match factor {
+        Some(factor) => unroll(alloc, typed, factor),
+        None => Ok(typed),
+    }
 }

@@ -1,4 +1,4 @@
--- The source was read before all else, and reading it changed no file.
+-- The source was read and rewritten before all else, and that changed no file.
 use Rattle.std.proofs.Common.{inl, inr, refl, sym}
 use Rattle.std.proofs.lemmas.Result.{IfErr-weaker, IfOk-weaker}
 use Rattle.vx_ast.specs.View.{program_of}
@@ -19,7 +19,7 @@ returns-in-Ok-clause-counted g c =
     let depot = g.D.Depot in
     IfOk-weaker c.count_on-counted.result _ _
     (λ counted is. counted_for (profiling_of c.args.asked.now) (program_of c.in-Ok.program.program) counted.text.items counted.complete
-    (effect_of depot.files depot.failed_reads depot.failed_replaces c.read_through.new.depot c.count_on-counted.new.depot)
+    (effect_of depot.files depot.failed_reads depot.failed_replaces c.read_rewritten.new.depot c.count_on-counted.new.depot)
     (effect_of depot.files depot.failed_reads depot.failed_replaces c.args.depot.now c.count_on-counted.new.depot)
     (record {
       before = sym c.in-Ok.ensures.same_files;
@@ -36,7 +36,7 @@ returns-in-Ok-clause-stops g c =
     let depot = g.D.Depot in
     IfErr-weaker c.count_on-counted.result _ _
     (λ status why. stops_later (profiling_of c.args.asked.now) (program_of c.in-Ok.program.program)
-    (effect_of depot.files depot.failed_reads depot.failed_replaces c.read_through.new.depot c.count_on-counted.new.depot)
+    (effect_of depot.files depot.failed_reads depot.failed_replaces c.read_rewritten.new.depot c.count_on-counted.new.depot)
     (effect_of depot.files depot.failed_reads depot.failed_replaces c.args.depot.now c.count_on-counted.new.depot)
     status
     (record {
