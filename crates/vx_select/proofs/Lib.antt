@@ -1,0 +1,15 @@
+pub mod Lists
+pub mod Sides
+pub mod Joined
+pub mod Numbered
+pub mod MixedLive
+pub mod Converts
+pub mod Fresh
+pub mod Sounds
+pub mod Shapes
+pub mod Kept
+pub mod Flows
+pub mod Lesser
+pub mod Once
+pub mod Searched
+pub mod PaddedFlow
