@@ -13,3 +13,12 @@ pub mod Lesser
 pub mod Once
 pub mod Searched
 pub mod PaddedFlow
+pub mod Listings
+pub mod Found
+pub mod Knowing
+pub mod Freeing
+pub mod Finding
+pub mod Gone
+pub mod Joins
+pub mod Steps
+pub mod Exactly
