@@ -1,0 +1,7 @@
+use Rattle.std.proofs.Common.{◌≡◌, ◌≤◌, take}
+use Rattle.std.specs.Prelude.{count_by}
+use Rattle.vx_lower.specs.FlowOf.{is_general}
+use Rattle.vx_select.proofs.padding.generals.Given as goal
+
+abbrev pub invariant-loop-bank : goal.invariant-loop-bank
+invariant-loop-bank l = (l.count ≡ count_by is_general (take l.bank-index l.banks)) × (l.count ≤ l.bank-index)
