@@ -25,6 +25,7 @@ use vx_slots::transfers::{
     answer, load_slot, load_slots, named_by, push_one, push_settled, push_settled_two,
     push_settled_word, push_wait, store_slots,
 };
+use vx_slots::ways::past;
 
 /// The register by which the link goes to and from its frame.
 fn link_scratch() -> GeneralRegister
@@ -475,7 +476,7 @@ pub fn push_entry(
         whole,
         function,
         0,
-        entered_at(whole, function),
+        past(whole, function, entered_at(whole, function)),
         words,
     )
 }

@@ -354,10 +354,10 @@ module _ (T : Target) (flow : Flow) (ls : List VWords) (w : WordProgram) (sound 
 
     entry_good : Words (entry_words T f)
     entry_good =
-        let goes : List Word = way T f 0 (T.layout f).entry in
+        let goes : List Word = way T f 0 (past T f (T.layout f).entry) in
         let loads : List Word = load_slots T f (T.brought f) (T.brought f) in
         let begins : List Word = loads ++ link_words T f in
-        good_append M (settled T begins) goes (settled_good begins (good_append M loads (link_words T f) (load_slots_good f (T.brought f) (T.brought f) (kept_named (T.brought f) arrives)) link_good)) (way_good 0 (T.layout f).entry)
+        good_append M (settled T begins) goes (settled_good begins (good_append M loads (link_words T f) (load_slots_good f (T.brought f) (T.brought f) (kept_named (T.brought f) arrives)) link_good)) (way_good 0 (past T f (T.layout f).entry))
       where
         arrives : (v : ℕ) → IsIn v (T.brought f) → (p : ℕ) × Busy p v × Banked v × (is_slotted (kept T f v) ≡ false)
         arrives v i = let a = of.saved.brought v i in ((T.layout f).entry, is_live a.live, live_bank T f mapped graph_sound (T.layout f).entry v a.live, ap is_slotted a.register)
@@ -431,14 +431,14 @@ module _ (T : Target) (flow : Flow) (ls : List VWords) (w : WordProgram) (sound 
     word_good : (p : ℕ) (word : VirtualWord) → HasWordAt p word → Words (word_words T f p word)
     word_good p (Planned rg wd items) e = planned_good p rg wd items e
     word_good p (Drain n) e = idle_good p n
-    word_good p (Transfer q) e = way_good (p + 1) q
+    word_good p (Transfer q) e = way_good (p + 1) (past T f q)
     word_good p (Choice test q) e =
         let parts = mapped.code.choices p test q e in
         let has : Has (T.graph f) test BranchBank = graph_sound.exit_tests (Branches test parts.yes parts.no) test parts.has (inl refl) in
         let n = named_one test p (BranchBank, bank_is test BranchBank has) (is_named e (inl refl)) in
-        good_append M (before T f (test ∷ [])) (one (BranchOn (branch_of T f (test ∷ []) test) true (T.starts f q)) ∷ [])
+        good_append M (before T f (test ∷ [])) (one (BranchOn (branch_of T f (test ∷ []) test) true (T.starts f (past T f q))) ∷ [])
         (before_good f (test ∷ []) (λ v i. ⊎_elim (λ s. subst (λ z. Named f (test ∷ []) z) (sym s) n) (λ j. absurd j) i))
-        (one_good M carries.machine l (BranchOn (branch_of T f (test ∷ []) test) true (T.starts f q)) first refl (both_true (n.0 (ap is_branch (bank_is test BranchBank has))) refl) refl, tt)
+        (one_good M carries.machine l (BranchOn (branch_of T f (test ∷ []) test) true (T.starts f (past T f q))) first refl (both_true (n.0 (ap is_branch (bank_is test BranchBank has))) refl) refl, tt)
     word_good p (Calls g arguments result) e =
         good_append M (call_words T f p g arguments) (back_words T f p result) (call_good p g arguments (kept_named (T.saved f p) survives) fetches) (back_good p result (kept_named (T.saved f p) survives) has_result)
       where

@@ -30,7 +30,7 @@ use Rattle.vx_target.specs.Carried.{Carries, IsMapped}
 use Rattle.vx_tie.specs.Plans.{AreSpaced, GoesOn, IsSpaced}
 use Rattle.vx_tie.proofs.EachWord.{IsPlanWord}
 use Rattle.vx_target.proofs.Enough.{some_cluster}
-use Rattle.vx_target.proofs.Frames.{get_some}
+use Rattle.vx_target.proofs.Frames.{get_some, past_below}
 use Rattle.vx_tie.proofs.Spaced.{Firm}
 
 abbrev pub Operates : List Operation → Type 0
@@ -217,11 +217,11 @@ module _ (T : Target) where
         by true = λ e. e
         by false = last_idles true (Goto (T.starts f q))
 
-    entry_idles : Idles true (entry_words T f) (follows T f 0 (T.layout f).entry)
+    entry_idles : Idles true (entry_words T f) (follows T f 0 (past T f (T.layout f).entry))
     entry_idles =
-        let ahead : Bool = follows T f 0 (T.layout f).entry in
-        let next : List Word = way T f 0 (T.layout f).entry in
-        then_idles true true ahead (settled T (load_slots T f (T.brought f) (T.brought f) ++ link_words T f)) next (begin_idles (T.brought f)) (way_idles 0 (T.layout f).entry)
+        let ahead : Bool = follows T f 0 (past T f (T.layout f).entry) in
+        let next : List Word = way T f 0 (past T f (T.layout f).entry) in
+        then_idles true true ahead (settled T (load_slots T f (T.brought f) (T.brought f) ++ link_words T f)) next (begin_idles (T.brought f)) (way_idles 0 (past T f (T.layout f).entry))
 
     module _ (some : 0 < T.machine.clusters) where
       move_stack_idles : (z : ℤ) → Idles true (move_stack T z) true
@@ -356,7 +356,7 @@ module _ (T : Target) (flow : Flow) (ls : List VWords) (w : WordProgram) (carrie
         (inl (inl there, runs_of T Count false false (suc (T.starts f p + length loads)) (behind T f items) (behind_idles T f items)))
 
     choice_idles : (p test q : ℕ) → Idles true (word_words T f p (Choice test q)) false
-    choice_idles p test q = then_idles true true false (before T f (test ∷ [])) (one (BranchOn (branch_of T f (test ∷ []) test) true (T.starts f q)) ∷ []) (before_idles T f (test ∷ [])) (last_idles true (BranchOn (branch_of T f (test ∷ []) test) true (T.starts f q)))
+    choice_idles p test q = then_idles true true false (before T f (test ∷ [])) (one (BranchOn (branch_of T f (test ∷ []) test) true (T.starts f (past T f q))) ∷ []) (before_idles T f (test ∷ [])) (last_idles true (BranchOn (branch_of T f (test ∷ []) test) true (T.starts f (past T f q))))
 
     drain_idles : (p n : ℕ) → Idles false (idle_words T f p n) true
     drain_idles p n = by (turns T f (p + 1))
@@ -369,7 +369,7 @@ module _ (T : Target) (flow : Flow) (ls : List VWords) (w : WordProgram) (carrie
     abbrev ends : ℕ → VirtualWord → Bool
     ends p (Planned rg wd items) = false
     ends p (Drain n) = true
-    ends p (Transfer q) = follows T f (p + 1) q
+    ends p (Transfer q) = follows T f (p + 1) (past T f q)
     ends p (Choice test q) = false
     ends p (Calls g arguments result) = true
     ends p (Returns x) = false
@@ -379,7 +379,7 @@ module _ (T : Target) (flow : Flow) (ls : List VWords) (w : WordProgram) (carrie
     word_runs : (p : ℕ) (word : VirtualWord) → HasWordAt p word → is_drain word ≡ false → Runs T Count true (T.starts f p) (word_words T f p word) (ends p word)
     word_runs p (Planned rg wd items) e s = planned_runs p rg wd items e
     word_runs p (Drain n) e s = never (sym s)
-    word_runs p (Transfer q) e s = runs_of T Count true (follows T f (p + 1) q) (T.starts f p) (way T f (p + 1) q) (way_idles T f (p + 1) q)
+    word_runs p (Transfer q) e s = runs_of T Count true (follows T f (p + 1) (past T f q)) (T.starts f p) (way T f (p + 1) (past T f q)) (way_idles T f (p + 1) (past T f q))
     word_runs p (Choice test q) e s = runs_of T Count true false (T.starts f p) (word_words T f p (Choice test q)) (choice_idles p test q)
     word_runs p (Calls g arguments result) e s = runs_of T Count true true (T.starts f p) (word_words T f p (Calls g arguments result)) (called_idles T f some p g arguments result)
     word_runs p (Returns x) e s = runs_of T Count true false (T.starts f p) (return_words T f x) (return_idles T f x)
@@ -389,19 +389,20 @@ module _ (T : Target) (flow : Flow) (ls : List VWords) (w : WordProgram) (carrie
     any_word_runs true p word e h = word_runs p word e (h refl)
     any_word_runs false p (Drain n) e h = runs_of T Count false true (T.starts f p) (idle_words T f p n) (drain_idles p n)
     any_word_runs false p (Planned rg wd items) e h = weak_runs T Count false false (T.starts f p) (plan_words T f p items) (word_runs p (Planned rg wd items) e refl)
-    any_word_runs false p (Transfer q) e h = weak_runs T Count false (follows T f (p + 1) q) (T.starts f p) (word_words T f p (Transfer q)) (word_runs p (Transfer q) e refl)
+    any_word_runs false p (Transfer q) e h = weak_runs T Count false (follows T f (p + 1) (past T f q)) (T.starts f p) (word_words T f p (Transfer q)) (word_runs p (Transfer q) e refl)
     any_word_runs false p (Choice test q) e h = weak_runs T Count false false (T.starts f p) (word_words T f p (Choice test q)) (word_runs p (Choice test q) e refl)
     any_word_runs false p (Calls g arguments result) e h = weak_runs T Count false true (T.starts f p) (word_words T f p (Calls g arguments result)) (word_runs p (Calls g arguments result) e refl)
     any_word_runs false p (Returns x) e h = weak_runs T Count false false (T.starts f p) (return_words T f x) (word_runs p (Returns x) e refl)
     any_word_runs false p (Ends k) e h = weak_runs T Count false false (T.starts f p) (word_words T f p (Ends k)) (word_runs p (Ends k) e refl)
 
     -- a transfer without a word goes on to the next one, which is none of empty cycles
-    goes_ahead : (p q : ℕ) → HasWordAt p (Transfer q) → follows T f (p + 1) q ≡ true → GoesOn (T.layout f) p
+    goes_ahead : (p q : ℕ) → HasWordAt p (Transfer q) → follows T f (p + 1) (past T f q) ≡ true → GoesOn (T.layout f) p
     goes_ahead p q e s =
-        let parts : ((p + 1 == q) ≡ true) × (not (is_drain_there (slice_get Words q)) ≡ true) = and_parts (p + 1 == q) (not (is_drain_there (slice_get Words q))) s in
-        let next : p + 1 ≡ q = eqb-true (p + 1) q parts.0 in
-        let inside : q < length Words = mapped.settled.inside p q (Transfer q) e refl in
-        by q (slice_get Words q) refl (let z : suc p ≡ q = omega arith in z) inside parts.1
+        let d : ℕ = past T f q in
+        let parts : ((p + 1 == d) ≡ true) × (not (is_drain_there (slice_get Words d)) ≡ true) = and_parts (p + 1 == d) (not (is_drain_there (slice_get Words d))) s in
+        let next : p + 1 ≡ d = eqb-true (p + 1) d parts.0 in
+        let inside : d < length Words = past_below T f mapped.settled.inside q (mapped.settled.inside p q (Transfer q) e refl) in
+        by d (slice_get Words d) refl (let z : suc p ≡ d = omega arith in z) inside parts.1
       where
         by : (q : ℕ) (o : Option VirtualWord) → slice_get Words q ≡ o → suc p ≡ q → q < length Words → not (is_drain_there o) ≡ true → GoesOn (T.layout f) p
         by q None d n lt_ k = absurd (let a = get_some Words q lt_ in let z : None ≡ Some a.0 = sym d ∙ a.1 in cc)
@@ -473,17 +474,21 @@ module _ (T : Target) (flow : Flow) (ls : List VWords) (w : WordProgram) (carrie
 
     -- a function
 
+    -- where the words of the entry lead
+    abbrev First : ℕ
+    First = past T f (T.layout f).entry
+
     abbrev Ahead : Bool
-    Ahead = follows T f 0 (T.layout f).entry
+    Ahead = follows T f 0 First
 
     begins_firm : Ahead ≡ true → Firm Words
     begins_firm h = by Words (let a = mapped.settled.entry in omega arith) (ap not (ap (λ n. is_drain_there (slice_get Words n)) zero_first) ∙ parts.1)
       where
-        parts : ((0 == (T.layout f).entry) ≡ true) × (not (is_drain_there (slice_get Words (T.layout f).entry)) ≡ true)
-        parts = and_parts (0 == (T.layout f).entry) (not (is_drain_there (slice_get Words (T.layout f).entry))) h
+        parts : ((0 == First) ≡ true) × (not (is_drain_there (slice_get Words First)) ≡ true)
+        parts = and_parts (0 == First) (not (is_drain_there (slice_get Words First))) h
 
-        zero_first : 0 ≡ (T.layout f).entry
-        zero_first = eqb-true 0 (T.layout f).entry parts.0
+        zero_first : 0 ≡ First
+        zero_first = eqb-true 0 First parts.0
 
         by : (xs : List VirtualWord) → 0 < length xs → not (is_drain_there (slice_get xs 0)) ≡ true → Firm xs
         by [] some_ e = absurd (omega arith)

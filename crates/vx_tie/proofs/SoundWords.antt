@@ -69,9 +69,9 @@ some_before xs ys le = let a = length-append xs ys in omega arith
 some_after : (xs ys : List Word) → 1 ≤ length ys → 1 ≤ length (xs ++ ys)
 some_after xs ys le = let a = length-append xs ys in omega arith
 
--- a place of a layout has words, or another one follows at once
+-- a place of a layout has words, or it leads to the next one, past transfers perhaps
 abbrev HasWords : (T : Target) (f p : ℕ) → VirtualWord → Type 0
-HasWords T f p word = (1 ≤ length (word_words T f p word)) ⊎ ((length (word_words T f p word) ≡ 0) × LeadsTo p word (p + 1))
+HasWords T f p word = (1 ≤ length (word_words T f p word)) ⊎ ((length (word_words T f p word) ≡ 0) × (q : ℕ) × LeadsTo p word q × ((q ≡ p + 1) ⊎ (past T f q ≡ p + 1)))
 
 words_some : (T : Target) (f p : ℕ) (word : VirtualWord) → HasWords T f p word
 words_some T f p (Planned rg wd items) = inl (some_behind (before T f (laid_reads items)) (behind T f items) (plan_word T f p items))
@@ -80,16 +80,16 @@ words_some T f p (Drain n) = by (turns T f (p + 1)) (n - 1)
     next : p + 1 ≡ suc p
     next = omega arith
 
-    by : (b : Bool) (k : ℕ) → (1 ≤ length (if b then pause k else waits n ∷ [])) ⊎ ((length (if b then pause k else waits n ∷ []) ≡ 0) × LeadsTo p (Drain n) (p + 1))
-    by true zero = inr (refl, next)
+    by : (b : Bool) (k : ℕ) → (1 ≤ length (if b then pause k else waits n ∷ [])) ⊎ ((length (if b then pause k else waits n ∷ []) ≡ 0) × (q : ℕ) × LeadsTo p (Drain n) q × ((q ≡ p + 1) ⊎ (past T f q ≡ p + 1)))
+    by true zero = inr (refl, p + 1, next, inl refl)
     by true (suc k) = inl (omega arith)
     by false k = inl (omega arith)
-words_some T f p (Transfer q) = by (follows T f (p + 1) q) refl
+words_some T f p (Transfer q) = by (follows T f (p + 1) (past T f q)) refl
   where
-    by : (b : Bool) → follows T f (p + 1) q ≡ b → (1 ≤ length (if b then [] else one (Goto (T.starts f q)) ∷ [])) ⊎ ((length (if b then [] else one (Goto (T.starts f q)) ∷ []) ≡ 0) × LeadsTo p (Transfer q) (p + 1))
-    by true e = inr (refl, eqb-true (p + 1) q (and_parts _ _ e).0)
+    by : (b : Bool) → follows T f (p + 1) (past T f q) ≡ b → (1 ≤ length (if b then [] else one (Goto (T.starts f (past T f q))) ∷ [])) ⊎ ((length (if b then [] else one (Goto (T.starts f (past T f q))) ∷ []) ≡ 0) × (d : ℕ) × LeadsTo p (Transfer q) d × ((d ≡ p + 1) ⊎ (past T f d ≡ p + 1)))
+    by true e = inr (refl, q, refl, inr (sym (eqb-true (p + 1) (past T f q) (and_parts _ _ e).0)))
     by false e = inl (omega arith)
-words_some T f p (Choice test q) = inl (some_behind (before T f (test ∷ [])) [] (one (BranchOn (branch_of T f (test ∷ []) test) true (T.starts f q))))
+words_some T f p (Choice test q) = inl (some_behind (before T f (test ∷ [])) [] (one (BranchOn (branch_of T f (test ∷ []) test) true (T.starts f (past T f q)))))
 words_some T f p (Calls g arguments result) =
     inl (some_before (call_words T f p g arguments) (back_words T f p result) (omega arith))
 words_some T f p (Returns x) = inl (some_after (fetch_words T f 0 x) (answer_words T f x ++ one Return ∷ []) (some_behind (answer_words T f x) [] (one Return)))
@@ -172,7 +172,9 @@ module _ (T : Target) (flow : Flow) (ls : List VWords) (w : WordProgram) (sound 
       let x = get_some (T.layout f).words q below in
       ⊎_elim
       (λ some. stands_below w.words (T.starts f q) (word_words T f q x.0) some (word_stands T flow.main Count w.words carries.placed f q x.0 lt x.1))
-      (λ none. (let inside = (carries.functions f lt).mapped.settled.inside q (q + 1) x.0 x.1 none.1 in
+      (λ none. (let within = (carries.functions f lt).mapped.settled.inside in
+      let led : none.1 < length (T.layout f).words = within q none.1 x.0 x.1 none.2 in
+      let inside : q + 1 < length (T.layout f).words = ⊎_elim (λ e. subst (λ n. n < length (T.layout f).words) e led) (λ e. subst (λ n. n < length (T.layout f).words) e (past_below T f within none.1 led)) none.3 in
       let next : T.starts f (suc q) < W = start_within f (suc q) k lt (omega arith) (omega arith) in
       let place = word_next T flow.main Count w.words carries.placed f q x.0 lt x.1 in
       let length_is = none.0 in omega arith))
@@ -359,10 +361,10 @@ module _ (T : Target) (flow : Flow) (ls : List VWords) (w : WordProgram) (sound 
 
     entry_right : Words (entry_words T f)
     entry_right =
-        let goes : List Word = way T f 0 (T.layout f).entry in
+        let goes : List Word = way T f 0 (past T f (T.layout f).entry) in
         let loads : List Word = load_slots T f (T.brought f) (T.brought f) in
         let begins : List Word = loads ++ link_words T f in
-        right_append W N (settled T begins) goes (settled_right begins (right_append W N loads (link_words T f) (load_slots_right f (T.brought f) (T.brought f)) (link_right f))) (way_right 0 (T.layout f).entry mapped.settled.entry)
+        right_append W N (settled T begins) goes (settled_right begins (right_append W N loads (link_words T f) (load_slots_right f (T.brought f) (T.brought f)) (link_right f))) (way_right 0 (past T f (T.layout f).entry) (past_below T f mapped.settled.inside (T.layout f).entry mapped.settled.entry))
 
     module _ (p rg wd : ℕ) (items : List Laid) (plan : HasWordAt p (Planned rg wd items)) where
       plans : Plans (T.layout f) p items
@@ -456,8 +458,8 @@ module _ (T : Target) (flow : Flow) (ls : List VWords) (w : WordProgram) (sound 
     word_right : (p : ℕ) (word : VirtualWord) → HasWordAt p word → Words (word_words T f p word)
     word_right p (Planned rg wd items) e = planned_right p rg wd items e
     word_right p (Drain n) e = idle_right p n e
-    word_right p (Transfer q) e = way_right (p + 1) q (mapped.settled.inside p q (Transfer q) e refl)
-    word_right p (Choice test q) e = right_append W N (before T f (test ∷ [])) (one (BranchOn (branch_of T f (test ∷ []) test) true (T.starts f q)) ∷ []) (before_right f (test ∷ [])) (has_one W N (BranchOn (branch_of T f (test ∷ []) test) true (T.starts f q)) (start_below f q lt (mapped.settled.inside p q (Choice test q) e (inl refl))), tt)
+    word_right p (Transfer q) e = way_right (p + 1) (past T f q) (past_below T f mapped.settled.inside q (mapped.settled.inside p q (Transfer q) e refl))
+    word_right p (Choice test q) e = right_append W N (before T f (test ∷ [])) (one (BranchOn (branch_of T f (test ∷ []) test) true (T.starts f (past T f q))) ∷ []) (before_right f (test ∷ [])) (has_one W N (BranchOn (branch_of T f (test ∷ []) test) true (T.starts f (past T f q))) (past_start q (mapped.settled.inside p q (Choice test q) e (inl refl))), tt)
     word_right p (Calls g arguments result) e = right_append W N (call_words T f p g arguments) (back_words T f p result) (call_right f p g arguments (called_below p g arguments result e)) (back_right f p result)
     word_right p (Returns x) e = return_right f x
     word_right p (Ends k) e = (has_one W N (EndByTrap k) tt, tt)
