@@ -3,14 +3,15 @@ use Rattle.std.proofs.Common.{◌≡◌, ◌+◌, ℕ, suc, pos, Some, List, [],
 use Rattle.vx_base.specs.declared.outcome.Trap.TheVariants.{Index}
 use Rattle.vx_flow.specs.declared.graph.Bank.TheVariants.{General}
 use Rattle.vx_flow.specs.declared.graph.Operand.TheVariants.{Number}
-use Rattle.vx_isa.specs.declared.operation.Operation.TheVariants.{Goto}
+use Rattle.vx_isa.specs.declared.operation.Operation.TheVariants.{Goto, Move, Return as Leaves}
+use Rattle.vx_isa.specs.declared.operation.Source.TheVariants.{Number as Immediate}
 use Rattle.vx_isa.specs.declared.program.Word.{Word}
 use Rattle.vx_isa.specs.Machine.{cycles_of}
 use Rattle.vx_isa.specs.Numbers.{vex}
 use Rattle.vx_mixed.specs.declared.layout.VirtualWord.{VirtualWord}
 use Rattle.vx_mixed.specs.declared.layout.VirtualWord.TheVariants.{Drain, Transfer, Call, Return, Ends}
 use Rattle.vx_regs.specs.declared.map.Kept.TheVariants.{InRegister}
-use Rattle.vx_target.specs.Target.{Target, most_transfers, past, one, waits, word_words, call_words, back_words, entry_words, return_words}
+use Rattle.vx_target.specs.Target.{Target, most_transfers, answer, past, one, waits, word_words, call_words, back_words, entry_words, return_words}
 
 -- three values in registers, of which two are saved round a call, and the first is a parameter; the layout of every function has
 -- these words, and word p of function f begins at place 10 + p
@@ -133,8 +134,12 @@ caller_entry_lasts : lasts (entry_words caller 0) ≡ 3
 unfolding most_transfers
 caller_entry_lasts = refl
 
-leaf_return_lasts : lasts (return_words leaf 0 (Number (pos 0))) ≡ 2
+leaf_return_lasts : lasts (return_words leaf 0 (Number (pos 0))) ≡ 1
 leaf_return_lasts = refl
+
+-- where a move takes 2 cycles it is waited for
+slow_leaf_return : return_words (record leaf { machine = record (vex 1) { latency_alu = 2 } }) 0 (Number (pos 0)) ≡ one (Move 0 answer (Immediate (pos 0))) ∷ waits 1 ∷ one Leaves ∷ []
+slow_leaf_return = refl
 
 caller_return_lasts : lasts (return_words caller 0 (Number (pos 0))) ≡ 5
 caller_return_lasts = refl
@@ -143,7 +148,7 @@ back_lasts : lasts (back_words caller 0 0 (Some 2)) ≡ 6
 back_lasts = refl
 
 -- together
-leaf_called : lasts (call_words caller 0 0 0 (Number (pos 7) ∷ []) ++ (entry_words leaf 0 ++ (return_words leaf 0 (Number (pos 0)) ++ back_words caller 0 0 (Some 2)))) ≡ 18
+leaf_called : lasts (call_words caller 0 0 0 (Number (pos 7) ∷ []) ++ (entry_words leaf 0 ++ (return_words leaf 0 (Number (pos 0)) ++ back_words caller 0 0 (Some 2)))) ≡ 17
 unfolding most_transfers
 leaf_called = refl
 

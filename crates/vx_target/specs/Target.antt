@@ -390,15 +390,20 @@ is_call_word (Ends k) = false
 abbrev pub is_caller : Target → ℕ → Bool
 is_caller T f = list_any is_call_word (T.layout f).words
 
--- the result goes to its register; the link comes back from the frame of a function that calls, and is in its register in others
+-- the result goes to its register, and the link comes back from the frame
 abbrev pub answer_words : Target → ℕ → Operand → List Word
-answer_words T f x =
-    if is_caller T f
-    then settled T (together T.machine (Move 0 answer (fetched T f x)) (Load 0 (general 0 3) (pos 0) (stack_on 0) false)) ++ settled T (one (ToLink (Held (general 0 3))) ∷ [])
-    else settled T (one (Move 0 answer (fetched T f x)) ∷ [])
+answer_words T f x = settled T (together T.machine (Move 0 answer (fetched T f x)) (Load 0 (general 0 3) (pos 0) (stack_on 0) false)) ++ settled T (one (ToLink (Held (general 0 3))) ∷ [])
+
+-- an operation and the last one behind it: in one word where the machine has room for both and the first is done by the next word
+abbrev pub last_beside : Target → (first last : Operation) → List Word
+last_beside T a b = if (latency_of T.machine a == 1) && fits T.machine (a ∷ b ∷ []) then record { ops = a ∷ b ∷ []; idle = 0 } ∷ [] else settled T (one a ∷ []) ++ one b ∷ []
+
+-- the link of a function that calls is in its frame, and in its register in others
+abbrev pub leave_words : Target → ℕ → Operand → List Word
+leave_words T f x = if is_caller T f then answer_words T f x ++ one Return ∷ [] else last_beside T (Move 0 answer (fetched T f x)) Return
 
 abbrev pub return_words : Target → ℕ → Operand → List Word
-return_words T f x = fetch_words T f 0 x ++ (answer_words T f x ++ one Return ∷ [])
+return_words T f x = fetch_words T f 0 x ++ leave_words T f x
 
 -- a word of empty cycles
 abbrev pub is_drain : VirtualWord → Bool

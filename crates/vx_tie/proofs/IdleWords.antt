@@ -1,6 +1,6 @@
 -- Of two words of a program one behind the other, one is a word of the plan or has an operation, where layouts are spaced: pauses
 -- stand behind operations, empty cycles of a layout behind no pause, and neither behind the other.
-use Rattle.std.proofs.Common.{◌≡◌, ◌<◌, ◌≤◌, ◌⊎◌, inl, inr, ⊎_elim, ◌+◌, ◌-◌, ◌==◌, not, ℕ, zero, suc, ℤ, pos, neg_ℤ, Bool, true, false, Option, Some, None, List, [], ◌∷◌, ◌++◌, length, refl, sym, ap, ◌∙◌, subst, arith}
+use Rattle.std.proofs.Common.{◌≡◌, ◌<◌, ◌≤◌, ◌⊎◌, inl, inr, ⊎_elim, ◌+◌, ◌-◌, ◌==◌, ◌&&◌, not, ℕ, zero, suc, ℤ, pos, neg_ℤ, Bool, true, false, Option, Some, None, List, [], ◌∷◌, ◌++◌, length, refl, sym, ap, ◌∙◌, subst, arith}
 use Rattle.std.specs.Prelude.{if◌then◌else◌, slice_get}
 use Rattle.std.specs.List.{filter}
 use Rattle.std.proofs.lemmas.Bool.{and_parts, eqb-true}
@@ -18,13 +18,14 @@ use Rattle.vx_isa.specs.declared.operation.Operation.TheVariants.{Compute, Move,
 use Rattle.vx_isa.specs.declared.program.Word.{Word}
 use Rattle.vx_isa.specs.declared.program.WordProgram.{WordProgram}
 use Rattle.vx_isa.specs.Fits.{fits}
+use Rattle.vx_isa.specs.Operations.{latency_of}
 use Rattle.vx_mixed.specs.declared.layout.Laid.{Laid}
 use Rattle.vx_mixed.specs.declared.layout.Laid.TheVariants.{Plain, Split}
 use Rattle.vx_mixed.specs.declared.layout.VirtualWord.{VirtualWord}
 use Rattle.vx_mixed.specs.declared.layout.VirtualWord.TheVariants.{Planned, Drain, Transfer, Choice, Call as Calls, Return as Returns, Ends}
 use Rattle.vx_mixed.specs.declared.layout.VWords.{VWords}
 use Rattle.vx_mixed.specs.LaidSettled.{laid_reads, laid_writes}
-use Rattle.vx_target.specs.Target.{Target, answer, general, general_of, branch_of, home, stack_on, holds_branch, is_slotted, kept, slotted, once, parameters_of, one, together, pause, in_flight, settled, set_stack, slots_in_flight, load_slot, store_slot, load_slots, store_slots, if_some, before, behind, plan_word, plan_words, past, landing_words, on_clusters, move_stack, save_words, reload_words, fetch_words, fetched, cluster_of_operand, argument_words, result_words, call_words, back_words, is_caller, is_drain, is_drain_there, answer_words, return_words, follows, way, link_words, entry_words, turns, idle_words, word_words, start_words, waits, bytes, first_frame}
+use Rattle.vx_target.specs.Target.{Target, answer, general, general_of, branch_of, home, stack_on, holds_branch, is_slotted, kept, slotted, once, parameters_of, one, together, pause, in_flight, settled, set_stack, slots_in_flight, load_slot, store_slot, load_slots, store_slots, if_some, before, behind, plan_word, plan_words, past, landing_words, on_clusters, move_stack, save_words, reload_words, fetch_words, fetched, cluster_of_operand, argument_words, result_words, call_words, back_words, is_caller, is_drain, is_drain_there, answer_words, last_beside, leave_words, return_words, follows, way, link_words, entry_words, turns, idle_words, word_words, start_words, waits, bytes, first_frame}
 use Rattle.vx_target.specs.Placed.{Depth, Labelled, PlacedAt, place_of, laid_pieces, landing_of, item_landings, word_landings, landing_pieces, function_pieces, functions_pieces, all_pieces, words_of}
 use Rattle.vx_target.specs.Carried.{Carries, IsMapped}
 use Rattle.vx_tie.specs.Plans.{AreSpaced, GoesOn, IsSpaced}
@@ -177,22 +178,31 @@ module _ (T : Target) where
         by false = one_idles (Move (home T f v) (general_of T f (v ∷ []) v) (Held answer))
 
     answer_idles : (x : Operand) → Idles true (answer_words T f x) true
-    answer_idles x = by (is_caller T f)
+    answer_idles x =
+        let loads : List Word = together T.machine (Move 0 answer (fetched T f x)) (Load 0 (general 0 3) (pos 0) (stack_on 0) false) in
+        then_idles true true true (settled T loads) (settled T (one (ToLink (Held (general 0 3))) ∷ []))
+        (settled_idles true loads (both (fits T.machine (Move 0 answer (fetched T f x) ∷ Load 0 (general 0 3) (pos 0) (stack_on 0) false ∷ [])))) (one_idles (ToLink (Held (general 0 3))))
       where
         both : (c : Bool) → Idles true (if c then record { ops = Move 0 answer (fetched T f x) ∷ Load 0 (general 0 3) (pos 0) (stack_on 0) false ∷ []; idle = 0 } ∷ [] else one (Move 0 answer (fetched T f x)) ∷ one (Load 0 (general 0 3) (pos 0) (stack_on 0) false) ∷ []) false
         both true = inl (tt, λ e. e)
         both false = inl (tt, inl (tt, λ e. e))
 
-        by : (b : Bool) → Idles true (if b then settled T (together T.machine (Move 0 answer (fetched T f x)) (Load 0 (general 0 3) (pos 0) (stack_on 0) false)) ++ settled T (one (ToLink (Held (general 0 3))) ∷ []) else settled T (one (Move 0 answer (fetched T f x)) ∷ [])) true
-        by true =
-            let loads : List Word = together T.machine (Move 0 answer (fetched T f x)) (Load 0 (general 0 3) (pos 0) (stack_on 0) false) in
-            then_idles true true true (settled T loads) (settled T (one (ToLink (Held (general 0 3))) ∷ []))
-            (settled_idles true loads (both (fits T.machine (Move 0 answer (fetched T f x) ∷ Load 0 (general 0 3) (pos 0) (stack_on 0) false ∷ [])))) (one_idles (ToLink (Held (general 0 3))))
-        by false = one_idles (Move 0 answer (fetched T f x))
+    beside_idles : (a b : Operation) → Idles true (last_beside T a b) false
+    beside_idles a b = by ((latency_of T.machine a == 1) && fits T.machine (a ∷ b ∷ []))
+      where
+        by : (c : Bool) → Idles true (if c then record { ops = a ∷ b ∷ []; idle = 0 } ∷ [] else settled T (one a ∷ []) ++ one b ∷ []) false
+        by true = inl (tt, λ e. e)
+        by false = two_idles a b
+
+    leave_idles : (x : Operand) → Idles true (leave_words T f x) false
+    leave_idles x = by (is_caller T f)
+      where
+        by : (b : Bool) → Idles true (if b then answer_words T f x ++ one Return ∷ [] else last_beside T (Move 0 answer (fetched T f x)) Return) false
+        by true = then_idles true true false (answer_words T f x) (one Return ∷ []) (answer_idles x) (last_idles true Return)
+        by false = beside_idles (Move 0 answer (fetched T f x)) Return
 
     return_idles : (x : Operand) → Idles true (return_words T f x) false
-    return_idles x = then_idles true true false (fetch_words T f 0 x) (answer_words T f x ++ one Return ∷ []) (fetch_idles 0 x)
-        (then_idles true true false (answer_words T f x) (one Return ∷ []) (answer_idles x) (last_idles true Return))
+    return_idles x = then_idles true true false (fetch_words T f 0 x) (leave_words T f x) (fetch_idles 0 x) (leave_idles x)
 
     -- parameters are brought, and the link is stored; without either there is no pause
     begin_idles : (vs : List ℕ) → Idles true (settled T (load_slots T f vs vs ++ link_words T f)) true
