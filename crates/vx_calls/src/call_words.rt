@@ -6,7 +6,7 @@ ghost use Rattle.vx_base.specs.declared.arithmetic.Compare.TheVariants.{Ltu};
 ghost use Rattle.vx_isa.specs.declared.operation.Operation.TheVariants.{BranchOn, Compute, Load, Move, ToLink};
 ghost use Rattle.vx_isa.specs.declared.operation.Register.TheVariants.{Branch as InBranch, General as InGeneral};
 ghost use Rattle.vx_isa.specs.declared.operation.Source.TheVariants.{Held, Number};
-ghost use Rattle.vx_target.specs.Target.{bytes, general, one, together, settled, stack_on, on_clusters, parameters_of, first_frame, fetch_words, fetched, cluster_of_operand, argument_words, result_words, save_words, reload_words, move_stack, call_words, back_words, answer_words, return_words, follows, way, link_words, entry_words, set_stack, start_words, load_slots};
+ghost use Rattle.vx_target.specs.Target.{bytes, general, one, together, settled, stack_on, on_clusters, parameters_of, first_frame, fetch_words, fetched, cluster_of_operand, argument_words, result_words, save_words, reload_words, move_stack, call_words, back_words, leave_words, return_words, follows, way, link_words, entry_words, set_stack, start_words, load_slots};
 ghost use Rattle.vx_slots.specs.Seen.{seen};
 
 use crate::lookups::{brought, entered_at, entry, is_caller, is_drain_at, parameters, saved};
@@ -22,9 +22,10 @@ use vx_slots::numbers::{DEEPEST, bytes};
 use vx_slots::program::{Whole, slot, start};
 use vx_slots::registers::{general, general_of, home, is_slotted, stack_on};
 use vx_slots::transfers::{
-    answer, load_slot, load_slots, named_by, push_one, push_settled, push_settled_two,
+    answer, load_slot, load_slots, named_by, push_last, push_one, push_settled, push_settled_two,
     push_settled_word, push_wait, store_slots,
 };
+use vx_slots::ways::past;
 
 /// The register by which the link goes to and from its frame.
 fn link_scratch() -> GeneralRegister
@@ -354,15 +355,16 @@ fn answer_by_frame(
     push_settled(alloc, whole, link, words)
 }
 
-/// The result to its register, and the link from the frame of a function that calls.
-fn push_answer(
+/// The result to its register, the link from the frame of a function that calls, and the return; in one word, where the link is in its
+/// register, if the machine has room and the move is done by the next word.
+fn push_leave(
     alloc: Global,
     whole: &Whole,
     function: u32,
     operand: Operand,
     words: &mut Listed<Word>,
 ) -> Result<(), NoMemory>
-    ensures { IfOk result (λ _. words.new ≡ words.old ++ answer_words (seen whole.now) function operand) }
+    ensures { IfOk result (λ _. words.new ≡ words.old ++ leave_words (seen whole.now) function operand) }
 {
     let give = Operation::Move {
         cluster: 0,
@@ -370,9 +372,10 @@ fn push_answer(
         from: fetched(whole, function, operand),
     };
     if is_caller(whole, function) {
-        return answer_by_frame(alloc, whole, give, words);
+        answer_by_frame(alloc, whole, give, words)?;
+        return push_one(alloc, Operation::Return, words);
     }
-    push_settled(alloc, whole, give, words)
+    push_last(alloc, whole, give, Operation::Return, words)
 }
 
 /// The words of a return: the result goes to its register, and the link to its own.
@@ -386,8 +389,7 @@ pub fn push_return(
     ensures { IfOk result (λ _. words.new ≡ words.old ++ return_words (seen whole.now) function operand) }
 {
     fetch(alloc, whole, function, 0, operand, words)?;
-    push_answer(alloc, whole, function, operand, words)?;
-    push_one(alloc, Operation::Return, words)
+    push_leave(alloc, whole, function, operand, words)
 }
 
 /// Whether a place of a layout can follow at once, where another one is next: it is that one, and no empty cycles stand there.
@@ -475,7 +477,7 @@ pub fn push_entry(
         whole,
         function,
         0,
-        entered_at(whole, function),
+        past(whole, function, entered_at(whole, function)),
         words,
     )
 }

@@ -9,7 +9,7 @@ ghost use Rattle.vx_target.specs.Placed.{item_landings, words_of};
 ghost use Rattle.vx_slots.specs.Seen.{seen};
 ghost use Rattle.vx_carry.specs.Planning.{IsPlan};
 
-use crate::lookups::{landing, past};
+use crate::lookups::landing;
 use crate::operations::carried;
 use crate::word_plan::{Plan, Site};
 use std::alloc::Global;
@@ -25,6 +25,7 @@ use vx_slots::numbers::MOST_NAMES;
 use vx_slots::program::{Whole, start};
 use vx_slots::registers::{branch_of, is_slotted, once, slotted};
 use vx_slots::transfers::{load_slots, push_one, push_pause, push_wait, store_slots};
+use vx_slots::ways::past;
 
 /// How many cycles behind its word the result of an operation is in flight, where it goes to a slot; else 0.
 fn slot_in_flight(whole: &Whole, function: u32, op: &Op) -> u32
@@ -278,7 +279,7 @@ pub fn push_item_landings(
     }
 }
 
-/// The words that go on to a place where a test is 1.
+/// The words that go on to a place, past its transfers, where a test is 1.
 pub fn push_choice(
     alloc: Global,
     whole: &Whole,
@@ -294,7 +295,7 @@ pub fn push_choice(
     let branch = Operation::BranchOn {
         test: branch_of(whole, function, &names, test),
         taken_at_one: true,
-        target: start(whole, function, to),
+        target: start(whole, function, past(whole, function, to)),
     };
     push_one(alloc, branch, words)
 }

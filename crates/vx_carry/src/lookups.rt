@@ -1,12 +1,11 @@
 // What the words that carry a planned one take from a whole program.
 
 ghost use Rattle.std.specs.Prelude.{◌≡◌, slice_index_or};
-ghost use Rattle.vx_target.specs.Target.{is_own, past, past_word};
+ghost use Rattle.vx_target.specs.Target.{is_own};
 ghost use Rattle.vx_slots.specs.Seen.{places_of, seen};
 
 use vx_flow::graph::ArrayId;
-use vx_mixed::layout::VirtualWord;
-use vx_slots::program::{Whole, number_at, words_of};
+use vx_slots::program::{Whole, number_at};
 
 /// Where an array that a function sees begins, in words.
 pub(crate) fn array_at(whole: &Whole, function: u32, array: ArrayId) -> u32
@@ -38,30 +37,5 @@ pub(crate) fn is_own(whole: &Whole, function: u32, array: ArrayId) -> bool
             None => false,
         },
         None => false,
-    }
-}
-
-/// Where a word of a layout at a place goes on, where it is only a transfer; else the place.
-fn past_word(place: u32, word: &VirtualWord) -> u32
-    ensures { result ≡ past_word place word.now }
-{
-    match word {
-        VirtualWord::Transfer(to) => *to,
-        VirtualWord::Planned { .. } => place,
-        VirtualWord::Drain(_) => place,
-        VirtualWord::Choice { .. } => place,
-        VirtualWord::Call { .. } => place,
-        VirtualWord::Return(_) => place,
-        VirtualWord::Ends(_) => place,
-    }
-}
-
-/// The place to which a way leads from a place of a function's layout that is only a transfer; else that place.
-pub(crate) fn past(whole: &Whole, function: u32, place: u32) -> u32
-    ensures { result ≡ past (seen whole.now) function place }
-{
-    match words_of(whole, function).get(place as usize) {
-        Some(word) => past_word(place, word),
-        None => place,
     }
 }

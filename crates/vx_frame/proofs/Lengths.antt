@@ -115,7 +115,7 @@ way_length T s f next q = by (follows T f next q)
 pub entry_length : (T : Target) (s : Spots) (g : ℕ) → length (entry_words (at_spots T s) g) ≡ length (entry_words T g)
 entry_length T s g =
     let begins : List Word → List Word = λ loads. settled T (loads ++ link_words T g) in
-    len_both (begins (load_slots (at_spots T s) g (T.brought g) (T.brought g))) (way (at_spots T s) g 0 (T.layout g).entry) (begins (load_slots T g (T.brought g) (T.brought g))) (way T g 0 (T.layout g).entry) (ap (λ z. length (begins z)) (load_slots_same T s g (T.brought g) (T.brought g))) (way_length T s g 0 (T.layout g).entry)
+    len_both (begins (load_slots (at_spots T s) g (T.brought g) (T.brought g))) (way (at_spots T s) g 0 (past T g (T.layout g).entry)) (begins (load_slots T g (T.brought g) (T.brought g))) (way T g 0 (past T g (T.layout g).entry)) (ap (λ z. length (begins z)) (load_slots_same T s g (T.brought g) (T.brought g))) (way_length T s g 0 (past T g (T.layout g).entry))
 
 pub start_length : (T : Target) (s : Spots) (main : ℕ) → length (start_words (at_spots T s) main) ≡ length (start_words T main)
 start_length T s main = len_behind (set_stack T) (one (Call (s.entry main)) ∷ one (Halt (Held answer)) ∷ []) (one (Call (T.entry main)) ∷ one (Halt (Held answer)) ∷ []) refl
@@ -123,8 +123,8 @@ start_length T s main = len_behind (set_stack T) (one (Call (s.entry main)) ∷ 
 pub word_length : (T : Target) (s : Spots) (f p : ℕ) (word : VirtualWord) → length (word_words (at_spots T s) f p word) ≡ length (word_words T f p word)
 word_length T s f p (Planned r w items) = plan_length T s f p items
 word_length T s f p (Drain n) = refl
-word_length T s f p (Transfer q) = way_length T s f (p + 1) q
-word_length T s f p (Choice test q) = len_both (before (at_spots T s) f (test ∷ [])) (one (BranchOn (branch_of T f (test ∷ []) test) true (s.starts f q)) ∷ []) (before T f (test ∷ [])) (one (BranchOn (branch_of T f (test ∷ []) test) true (T.starts f q)) ∷ []) (ap length (before_same T s f (test ∷ []))) refl
+word_length T s f p (Transfer q) = way_length T s f (p + 1) (past T f q)
+word_length T s f p (Choice test q) = len_both (before (at_spots T s) f (test ∷ [])) (one (BranchOn (branch_of T f (test ∷ []) test) true (s.starts f (past T f q))) ∷ []) (before T f (test ∷ [])) (one (BranchOn (branch_of T f (test ∷ []) test) true (T.starts f (past T f q))) ∷ []) (ap length (before_same T s f (test ∷ []))) refl
 word_length T s f p (Calls g arguments result) = len_both (call_words (at_spots T s) f p g arguments) (back_words (at_spots T s) f p result) (call_words T f p g arguments) (back_words T f p result) (call_length T s f p g arguments) (back_same T s f p result)
 word_length T s f p (Returns x) = ap length (return_same T s f x)
 word_length T s f p (Ends k) = refl

@@ -24,6 +24,7 @@ use vx_isa::program::Word;
 use vx_mixed::layout::{Laid, VirtualWord};
 use vx_slots::program::{FunctionPlaces, Sizes, Whole, words_of};
 use vx_slots::transfers::{push_idle, push_one, push_pause};
+use vx_slots::ways::past;
 
 /// The words of a program, and where they stand.
 #[derive(Drop)]
@@ -39,7 +40,12 @@ fn turns(whole: &Whole, function: u32, place: u32, word: &VirtualWord) -> Result
     ensures { IfOk result (λ turned. turned ≡ turns_word (seen whole.now) function place word.now) }
 {
     match word {
-        VirtualWord::Transfer(to) => Ok(!follows(whole, function, sum(place, 1)?, *to)),
+        VirtualWord::Transfer(to) => Ok(!follows(
+            whole,
+            function,
+            sum(place, 1)?,
+            past(whole, function, *to),
+        )),
         _ => Ok(false),
     }
 }
@@ -143,7 +149,16 @@ fn push_word(
             );
         }
         VirtualWord::Drain(cycles) => push_idles(alloc, whole, function, next, *cycles, words),
-        VirtualWord::Transfer(to) => push_way(alloc, whole, function, next, *to, words),
+        VirtualWord::Transfer(to) => {
+            push_way(
+                alloc,
+                whole,
+                function,
+                next,
+                past(whole, function, *to),
+                words,
+            )
+        }
         VirtualWord::Choice { test, place: to } => {
             push_choice(alloc, whole, function, *test, *to, words)
         }

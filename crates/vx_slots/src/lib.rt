@@ -6,3 +6,4 @@ pub mod numbers;
 pub mod program;
 pub mod registers;
 pub mod transfers;
+pub mod ways;

@@ -1,13 +1,15 @@
 // The words that bring values from their slots to registers, and from registers to their slots. A branch value goes by way
 // of the answer's register.
 
-ghost use Rattle.std.specs.Prelude.{◌≡◌, ◌≤◌, ◌++◌, ◌∷◌, [], ◌+◌, pos, false, IfOk, drop, length};
+ghost use Rattle.std.specs.Prelude.{◌≡◌, ◌≤◌, ◌++◌, ◌∷◌, [], ◌+◌, ◌==◌, ◌&&◌, pos, false, IfOk, drop, length};
 ghost use Rattle.vx_base.specs.declared.arithmetic.Code.TheVariants.{ToBranch};
 ghost use Rattle.vx_base.specs.declared.arithmetic.Compare.TheVariants.{Ne};
+ghost use Rattle.vx_isa.specs.Fits.{fits};
+ghost use Rattle.vx_isa.specs.Operations.{latency_of};
 ghost use Rattle.vx_isa.specs.declared.operation.Operation.TheVariants.{Compute, Select, Load, Store};
 ghost use Rattle.vx_isa.specs.declared.operation.Register.TheVariants.{Branch as InBranch};
 ghost use Rattle.vx_isa.specs.declared.operation.Source.TheVariants.{Held, Number};
-ghost use Rattle.vx_target.specs.Target.{answer, stack_on, general_of, branch_of, one, together, waits, pause, latest, in_flight, settled, load_slot, store_slot, load_slots, store_slots};
+ghost use Rattle.vx_target.specs.Target.{answer, stack_on, general_of, branch_of, one, together, waits, pause, latest, in_flight, settled, last_beside, load_slot, store_slot, load_slots, store_slots};
 ghost use Rattle.vx_slots.specs.Seen.{seen};
 
 use crate::numbers::{MOST_NAMES, bytes};
@@ -178,6 +180,34 @@ pub fn push_settled_two(
     let begin = words.len();
     push_together(alloc, whole, first, second, words)?;
     push_wait(alloc, whole, begin, words)
+}
+
+/// Whether a machine has room for a word of two operations, and the first of them is done by the next word.
+fn is_at_once(machine: &Machine, first: &Operation, word: &Word) -> bool
+    ensures { result ≡ (latency_of machine.now first.now == 1) && fits machine.now word.now.ops }
+{
+    machine.latency(first) == 1 && fits(machine, word)
+}
+
+/// Adds an operation and the last one behind it: in one word where the machine has room for both and the first is done by the next
+/// word, else behind the pause.
+#[tactic(auto, using(crate::proofs::WordSteps::in_one_word, crate::proofs::WordSteps::in_words))]
+pub fn push_last(
+    alloc: Global,
+    whole: &Whole,
+    first: Operation,
+    last: Operation,
+    words: &mut Listed<Word>,
+) -> Result<(), NoMemory>
+    ensures { IfOk result (λ _. words.new ≡ words.old ++ last_beside (seen whole.now) first last) }
+{
+    let word = word_of_two(alloc, first, last)?;
+    if is_at_once(whole.machine, &first, &word) {
+        words.push(word)?;
+        return Ok(());
+    }
+    push_settled(alloc, whole, first, words)?;
+    push_one(alloc, last, words)
 }
 
 /// Adds a word of one operation, and a pause as long as its result is in flight.

@@ -17,7 +17,7 @@ use Rattle.vx_mixed.specs.declared.layout.VirtualWord.TheVariants.{Planned, Drai
 use Rattle.vx_mixed.specs.declared.layout.VWords.{VWords}
 use Rattle.vx_mixed.specs.LaidSettled.{LeadsTo}
 use Rattle.vx_regs.specs.Intervals.{IsLive, is_live}
-use Rattle.vx_target.specs.Target.{Target, is_own, is_call_word, is_caller, is_slotted, kept, past_there, past, memory_words}
+use Rattle.vx_target.specs.Target.{Target, is_own, is_call_word, is_caller, is_slotted, kept, past_there, past_from, most_transfers, past, memory_words}
 use Rattle.vx_target.specs.Tied.{Stacked, waiting_above, Shows, begins_at, words_before, IsFunction, IsResult, Below, Deep, word_at, link_in}
 use Rattle.vx_target.specs.Carried.{CallsAt, IsSaved, NeedsSlot, is_saved, is_spilled, IsFramed}
 use Rattle.vx_target.specs.Seats.{Framed, is_link, is_slot}
@@ -38,20 +38,24 @@ get_beyond [] i le = refl
 get_beyond (x ∷ xs) zero le = absurd (omega arith)
 get_beyond (x ∷ xs) (suc i) le = get_beyond xs i (omega arith)
 
--- a place past a transfer is in the layout
-
-pub past_below : (T : Target) (f : ℕ) → ((p q : ℕ) (word : VirtualWord) → slice_get (T.layout f).words p ≡ Some word → LeadsTo p word q → q < length (T.layout f).words) → (q : ℕ) → q < length (T.layout f).words → past T f q < length (T.layout f).words
-past_below T f inside q below = by (slice_get (T.layout f).words q) refl
+-- what holds at a place, and where a transfer leads if it holds at the transfer, holds past transfers
+pub past_keeps : (words : List VirtualWord) (Holds : ℕ → Type 0) → ((q to : ℕ) → slice_get words q ≡ Some (Transfer to) → Holds q → Holds to) → (n q : ℕ) → Holds q → Holds (past_from words n q)
+past_keeps words Holds passes zero q h = h
+past_keeps words Holds passes (suc n) q h = past_keeps words Holds passes n (past_there q (slice_get words q)) (by (slice_get words q) refl)
   where
-    by : (o : Option VirtualWord) → slice_get (T.layout f).words q ≡ o → past_there q o < length (T.layout f).words
-    by None e = below
-    by (Some (Planned r w items)) e = below
-    by (Some (Drain n)) e = below
-    by (Some (Transfer to)) e = inside q to (Transfer to) e refl
-    by (Some (Choice test to)) e = below
-    by (Some (Call g arguments result)) e = below
-    by (Some (Return x)) e = below
-    by (Some (Ends k)) e = below
+    by : (o : Option VirtualWord) → slice_get words q ≡ o → Holds (past_there q o)
+    by None e = h
+    by (Some (Planned r w items)) e = h
+    by (Some (Drain n)) e = h
+    by (Some (Transfer to)) e = passes q to e h
+    by (Some (Choice test to)) e = h
+    by (Some (Call g arguments result)) e = h
+    by (Some (Return x)) e = h
+    by (Some (Ends k)) e = h
+
+-- a place past transfers is in the layout
+pub past_below : (T : Target) (f : ℕ) → ((p q : ℕ) (word : VirtualWord) → slice_get (T.layout f).words p ≡ Some word → LeadsTo p word q → q < length (T.layout f).words) → (q : ℕ) → q < length (T.layout f).words → past T f q < length (T.layout f).words
+past_below T f inside q below = past_keeps (T.layout f).words (λ d. d < length (T.layout f).words) (λ d to e h. inside d to (Transfer to) e refl) most_transfers q below
 
 pub get_in : {A : Type 0} (xs : List A) (i : ℕ) (x : A) → slice_get xs i ≡ Some x → IsIn x xs
 get_in [] i x e = absurd (cc)

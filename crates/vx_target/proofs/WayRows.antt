@@ -3,14 +3,15 @@ use Rattle.std.proofs.Common.{◌≡◌, ◌+◌, ℕ, suc, pos, Some, List, [],
 use Rattle.vx_base.specs.declared.outcome.Trap.TheVariants.{Index}
 use Rattle.vx_flow.specs.declared.graph.Bank.TheVariants.{General}
 use Rattle.vx_flow.specs.declared.graph.Operand.TheVariants.{Number}
-use Rattle.vx_isa.specs.declared.operation.Operation.TheVariants.{Goto}
+use Rattle.vx_isa.specs.declared.operation.Operation.TheVariants.{Goto, Move, Return as Leaves}
+use Rattle.vx_isa.specs.declared.operation.Source.TheVariants.{Number as Immediate}
 use Rattle.vx_isa.specs.declared.program.Word.{Word}
 use Rattle.vx_isa.specs.Machine.{cycles_of}
 use Rattle.vx_isa.specs.Numbers.{vex}
 use Rattle.vx_mixed.specs.declared.layout.VirtualWord.{VirtualWord}
 use Rattle.vx_mixed.specs.declared.layout.VirtualWord.TheVariants.{Drain, Transfer, Call, Return, Ends}
 use Rattle.vx_regs.specs.declared.map.Kept.TheVariants.{InRegister}
-use Rattle.vx_target.specs.Target.{Target, past, one, waits, word_words, call_words, back_words, entry_words, return_words}
+use Rattle.vx_target.specs.Target.{Target, most_transfers, answer, past, one, waits, word_words, call_words, back_words, entry_words, return_words}
 
 -- three values in registers, of which two are saved round a call, and the first is a parameter; the layout of every function has
 -- these words, and word p of function f begins at place 10 + p
@@ -36,38 +37,78 @@ laid words = record {
 -- a transfer needs a word where it does not go to the next place, or where empty cycles stand there
 
 to_next : word_words (laid (Transfer 1 ∷ Ends Index ∷ [])) 0 0 (Transfer 1) ≡ []
+unfolding most_transfers
 to_next = refl
 
 to_itself : word_words (laid (Transfer 0 ∷ Ends Index ∷ [])) 0 0 (Transfer 0) ≡ one (Goto 10) ∷ []
+unfolding most_transfers
 to_itself = refl
 
 to_another : word_words (laid (Transfer 2 ∷ Ends Index ∷ Ends Index ∷ [])) 0 0 (Transfer 2) ≡ one (Goto 12) ∷ []
+unfolding most_transfers
 to_another = refl
 
 to_empty_cycles : word_words (laid (Transfer 1 ∷ Drain 1 ∷ Ends Index ∷ [])) 0 0 (Transfer 1) ≡ one (Goto 11) ∷ []
+unfolding most_transfers
 to_empty_cycles = refl
 
 -- the last of some empty cycles is the goto behind them
 
 before_goto : word_words (laid (Drain 3 ∷ Transfer 0 ∷ [])) 0 0 (Drain 3) ≡ waits 2 ∷ []
+unfolding most_transfers
 before_goto = refl
 
 one_before_goto : word_words (laid (Drain 1 ∷ Transfer 0 ∷ [])) 0 0 (Drain 1) ≡ []
+unfolding most_transfers
 one_before_goto = refl
 
 before_next : word_words (laid (Drain 3 ∷ Transfer 2 ∷ Ends Index ∷ [])) 0 0 (Drain 3) ≡ waits 3 ∷ []
+unfolding most_transfers
 before_next = refl
 
 before_return : word_words (laid (Drain 1 ∷ Return (Number (pos 0)) ∷ [])) 0 0 (Drain 1) ≡ waits 1 ∷ []
 before_return = refl
 
--- a split goes past a transfer, and past no other word
+-- a jump goes past transfers, and past no other word; in a cycle of transfers it stays
 
 past_transfer : past (laid (Ends Index ∷ Transfer 0 ∷ [])) 0 1 ≡ 0
+unfolding most_transfers
 past_transfer = refl
 
+past_two_transfers : past (laid (Ends Index ∷ Transfer 2 ∷ Transfer 0 ∷ [])) 0 1 ≡ 0
+unfolding most_transfers
+past_two_transfers = refl
+
 past_empty_cycles : past (laid (Ends Index ∷ Drain 1 ∷ Transfer 0 ∷ [])) 0 1 ≡ 1
+unfolding most_transfers
 past_empty_cycles = refl
+
+past_cycle : past (laid (Ends Index ∷ Transfer 2 ∷ Transfer 1 ∷ [])) 0 1 ≡ 1
+unfolding most_transfers
+past_cycle = refl
+
+-- so does the goto of a transfer, and a test
+through_two : word_words (laid (Transfer 2 ∷ Ends Index ∷ Transfer 3 ∷ Transfer 1 ∷ [])) 0 2 (Transfer 3) ≡ one (Goto 11) ∷ []
+unfolding most_transfers
+through_two = refl
+
+to_two : word_words (laid (Ends Index ∷ Transfer 3 ∷ Ends Index ∷ Transfer 4 ∷ Transfer 0 ∷ [])) 0 1 (Transfer 3) ≡ one (Goto 10) ∷ []
+unfolding most_transfers
+to_two = refl
+
+-- by way of another transfer to the next place, which needs no word
+back_to_next : word_words (laid (Transfer 2 ∷ Ends Index ∷ Transfer 1 ∷ [])) 0 0 (Transfer 2) ≡ []
+unfolding most_transfers
+back_to_next = refl
+
+in_cycle : word_words (laid (Transfer 2 ∷ Ends Index ∷ Transfer 0 ∷ [])) 0 0 (Transfer 2) ≡ one (Goto 12) ∷ []
+unfolding most_transfers
+in_cycle = refl
+
+-- what comes to the next place only past more transfers has its goto, and so has an empty cycle before it
+waits_before_passed : word_words (laid (Drain 2 ∷ Transfer 3 ∷ Ends Index ∷ Transfer 0 ∷ [])) 0 0 (Drain 2) ≡ waits 1 ∷ []
+unfolding most_transfers
+waits_before_passed = refl
 
 -- a call with two values saved and one argument
 
@@ -86,13 +127,19 @@ call_lasts : lasts (call_words caller 0 0 0 (Number (pos 7) ∷ [])) ≡ 7
 call_lasts = refl
 
 leaf_entry_lasts : lasts (entry_words leaf 0) ≡ 3
+unfolding most_transfers
 leaf_entry_lasts = refl
 
 caller_entry_lasts : lasts (entry_words caller 0) ≡ 3
+unfolding most_transfers
 caller_entry_lasts = refl
 
-leaf_return_lasts : lasts (return_words leaf 0 (Number (pos 0))) ≡ 2
+leaf_return_lasts : lasts (return_words leaf 0 (Number (pos 0))) ≡ 1
 leaf_return_lasts = refl
+
+-- where a move takes 2 cycles it is waited for
+slow_leaf_return : return_words (record leaf { machine = record (vex 1) { latency_alu = 2 } }) 0 (Number (pos 0)) ≡ one (Move 0 answer (Immediate (pos 0))) ∷ waits 1 ∷ one Leaves ∷ []
+slow_leaf_return = refl
 
 caller_return_lasts : lasts (return_words caller 0 (Number (pos 0))) ≡ 5
 caller_return_lasts = refl
@@ -101,8 +148,10 @@ back_lasts : lasts (back_words caller 0 0 (Some 2)) ≡ 6
 back_lasts = refl
 
 -- together
-leaf_called : lasts (call_words caller 0 0 0 (Number (pos 7) ∷ []) ++ (entry_words leaf 0 ++ (return_words leaf 0 (Number (pos 0)) ++ back_words caller 0 0 (Some 2)))) ≡ 18
+leaf_called : lasts (call_words caller 0 0 0 (Number (pos 7) ∷ []) ++ (entry_words leaf 0 ++ (return_words leaf 0 (Number (pos 0)) ++ back_words caller 0 0 (Some 2)))) ≡ 17
+unfolding most_transfers
 leaf_called = refl
 
 caller_called : lasts (call_words caller 0 0 0 (Number (pos 7) ∷ []) ++ (entry_words caller 0 ++ (return_words caller 0 (Number (pos 0)) ++ back_words caller 0 0 (Some 2)))) ≡ 21
+unfolding most_transfers
 caller_called = refl

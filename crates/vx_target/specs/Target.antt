@@ -185,7 +185,7 @@ carried T f rs ws k (Text n) = OutText n
 carried T f rs ws k (Decimal x) = OutDecimal (source_of (general_of T f rs) x)
 carried T f rs ws k (Across v u) = Move k (general_of T f ws v) (Held (general_of T f rs u))
 
--- where a place that has only a transfer goes on
+-- where a word leads that is only a transfer; else it is its own place
 abbrev pub past_word : (place : ℕ) → VirtualWord → ℕ
 past_word q (Planned r w items) = q
 past_word q (Drain n) = q
@@ -199,10 +199,20 @@ abbrev pub past_there : (place : ℕ) → Option VirtualWord → ℕ
 past_there q None = q
 past_there q (Some word) = past_word q word
 
-abbrev pub past : Target → (function place : ℕ) → ℕ
-past T f q = past_there q (slice_get (T.layout f).words q)
+-- past so many transfers of a layout at most, one after the other
+abbrev pub past_from : List VirtualWord → (transfers place : ℕ) → ℕ
+past_from words zero q = q
+past_from words (suc n) q = past_from words n (past_there q (slice_get words q))
 
--- a word that leaves results in scratch registers goes to a landing, where they are stored; a way out without empty cycles is passed
+-- the most transfers that a jump goes past
+unfoldable pub most_transfers : ℕ
+most_transfers = 64
+
+-- where a jump to a place arrives, past the transfers that stand there: jumps are threaded
+abbrev pub past : Target → (function place : ℕ) → ℕ
+past T f q = past_from (T.layout f).words most_transfers q
+
+-- a split of a word that leaves results in scratch registers goes to a landing, where they are stored
 abbrev pub leads : Target → (function place : ℕ) → (writes : List ℕ) → ℕ → ℕ
 leads T f p [] q = T.starts f (past T f q)
 leads T f p (v ∷ vs) q = T.landing f p q
@@ -380,15 +390,20 @@ is_call_word (Ends k) = false
 abbrev pub is_caller : Target → ℕ → Bool
 is_caller T f = list_any is_call_word (T.layout f).words
 
--- the result goes to its register; the link comes back from the frame of a function that calls, and is in its register in others
+-- the result goes to its register, and the link comes back from the frame
 abbrev pub answer_words : Target → ℕ → Operand → List Word
-answer_words T f x =
-    if is_caller T f
-    then settled T (together T.machine (Move 0 answer (fetched T f x)) (Load 0 (general 0 3) (pos 0) (stack_on 0) false)) ++ settled T (one (ToLink (Held (general 0 3))) ∷ [])
-    else settled T (one (Move 0 answer (fetched T f x)) ∷ [])
+answer_words T f x = settled T (together T.machine (Move 0 answer (fetched T f x)) (Load 0 (general 0 3) (pos 0) (stack_on 0) false)) ++ settled T (one (ToLink (Held (general 0 3))) ∷ [])
+
+-- an operation and the last one behind it: in one word where the machine has room for both and the first is done by the next word
+abbrev pub last_beside : Target → (first last : Operation) → List Word
+last_beside T a b = if (latency_of T.machine a == 1) && fits T.machine (a ∷ b ∷ []) then record { ops = a ∷ b ∷ []; idle = 0 } ∷ [] else settled T (one a ∷ []) ++ one b ∷ []
+
+-- the link of a function that calls is in its frame, and in its register in others
+abbrev pub leave_words : Target → ℕ → Operand → List Word
+leave_words T f x = if is_caller T f then answer_words T f x ++ one Return ∷ [] else last_beside T (Move 0 answer (fetched T f x)) Return
 
 abbrev pub return_words : Target → ℕ → Operand → List Word
-return_words T f x = fetch_words T f 0 x ++ (answer_words T f x ++ one Return ∷ [])
+return_words T f x = fetch_words T f 0 x ++ leave_words T f x
 
 -- a word of empty cycles
 abbrev pub is_drain : VirtualWord → Bool
@@ -423,13 +438,13 @@ link_words T f =
 -- at the entry parameters are brought to their registers, and the link is stored while they are in flight; the first word of the
 -- layout follows
 abbrev pub entry_words : Target → ℕ → List Word
-entry_words T g = settled T (load_slots T g (T.brought g) (T.brought g) ++ link_words T g) ++ way T g 0 (T.layout g).entry
+entry_words T g = settled T (load_slots T g (T.brought g) (T.brought g) ++ link_words T g) ++ way T g 0 (past T g (T.layout g).entry)
 
 -- the word at a place goes to another one by a word of its own
 abbrev pub turns_word : Target → (function place : ℕ) → VirtualWord → Bool
 turns_word T f p (Planned r w items) = false
 turns_word T f p (Drain n) = false
-turns_word T f p (Transfer q) = not (follows T f (p + 1) q)
+turns_word T f p (Transfer q) = not (follows T f (p + 1) (past T f q))
 turns_word T f p (Choice test q) = false
 turns_word T f p (Calls g arguments result) = false
 turns_word T f p (Returns x) = false
@@ -447,12 +462,12 @@ abbrev pub idle_words : Target → (function place cycles : ℕ) → List Word
 idle_words T f p n = if turns T f (p + 1) then pause (n - 1) else waits n ∷ []
 
 abbrev pub choice_words : Target → ℕ → (test to : ℕ) → List Word
-choice_words T f test q = before T f (test ∷ []) ++ one (BranchOn (branch_of T f (test ∷ []) test) true (T.starts f q)) ∷ []
+choice_words T f test q = before T f (test ∷ []) ++ one (BranchOn (branch_of T f (test ∷ []) test) true (T.starts f (past T f q))) ∷ []
 
 abbrev pub word_words : Target → (function place : ℕ) → VirtualWord → List Word
 word_words T f p (Planned r w items) = plan_words T f p items
 word_words T f p (Drain n) = idle_words T f p n
-word_words T f p (Transfer q) = way T f (p + 1) q
+word_words T f p (Transfer q) = way T f (p + 1) (past T f q)
 word_words T f p (Choice test q) = choice_words T f test q
 word_words T f p (Calls g arguments result) = call_words T f p g arguments ++ back_words T f p result
 word_words T f p (Returns x) = return_words T f x

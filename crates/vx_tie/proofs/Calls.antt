@@ -58,6 +58,7 @@ use Rattle.vx_target.proofs.Slots.{Usable, Stored, as_kept, store_list, stack_no
 use Rattle.vx_target.proofs.Stands.{word_stands, depth_stands}
 use Rattle.vx_target.proofs.Word.{own_name, kept_shows}
 use Rattle.vx_tie.specs.Planned.{CarriesOn, EndsAlike, CallLaw}
+use Rattle.vx_tie.proofs.PastTransfers.{one_on}
 use Rattle.vx_target.proofs.Steps.{Stands, stands_left, stands_right, Quiet, quiet_on, Comes, Forth, comes_on, then_forth, forth_comes, Set, set_step, Paused, pause_step, word_step}
 
 abbrev is_branch_register : Register → Bool
@@ -566,7 +567,8 @@ module _ (T : Target) (flow : Flow) (ls : List VWords) (w : WordProgram) (sound 
         after = Entered;
         to = G;
         words = forth_g.0;
-        over_values = steps;
+        steps = 0;
+        over_values = one_on flow ls r Entered steps;
         over_registers = λ n. run_reach (step T.machine (1 ∷ []) w) (λ x. x.out) (suc forth_g.0) n u G forth_g.1;
         tied = record {
           sp = Base;

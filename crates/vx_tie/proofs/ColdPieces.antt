@@ -1,10 +1,11 @@
 -- Words of calls, returns and entries that begin with nothing in flight meet nothing in flight.
-use Rattle.std.proofs.Common.{◌≡◌, ◌≢◌, ◌≤◌, ⊎_elim, ◌+◌, ◌-◌, ℕ, zero, suc, ℤ, pos, neg_ℤ, Bool, true, false, Option, Some, None, List, [], ◌∷◌, ◌++◌, append_assoc, map, refl, sym, ap, ◌∙◌, subst, arith}
+use Rattle.std.proofs.Common.{◌≡◌, ◌≢◌, ◌≤◌, ⊎_elim, ◌+◌, ◌-◌, ◌==◌, ◌&&◌, ℕ, zero, suc, ℤ, pos, neg_ℤ, Bool, true, false, Option, Some, None, List, [], ◌∷◌, ◌++◌, append_assoc, map, refl, sym, ap, ◌∙◌, subst, arith}
 use Rattle.std.specs.Prelude.{if◌then◌else◌, max}
+use Rattle.std.proofs.lemmas.Bool.{and_parts, eqb-true}
 use Rattle.vx_base.specs.declared.arithmetic.Code.TheVariants.{Add, ToBranch}
 use Rattle.vx_base.specs.declared.arithmetic.Compare.TheVariants.{Ltu, Ne}
 use Rattle.vx_base.specs.declared.outcome.Trap.{Trap}
-use Rattle.vx_base.proofs.Pieces.{cold}
+use Rattle.vx_base.proofs.Pieces.{raised, cold}
 use Rattle.vx_flow.specs.declared.graph.Operand.{Operand}
 use Rattle.vx_flow.specs.declared.graph.Operand.TheVariants.{Held as HeldValue, Number as AsNumber, Stack}
 use Rattle.vx_flow.specs.Effects.{IsIn}
@@ -18,11 +19,12 @@ use Rattle.vx_isa.specs.declared.operation.Operation.{Operation}
 use Rattle.vx_isa.specs.declared.operation.Operation.TheVariants.{Compute, Move, Load, Store, Goto, BranchOn, Call, Return, ToLink, EndByTrap, Halt}
 use Rattle.vx_isa.specs.declared.program.Word.{Word}
 use Rattle.vx_isa.specs.Fits.{destinations, fits}
-use Rattle.vx_target.specs.Target.{Target, answer, general, general_of, branch_of, register_of, stack_on, home, holds_branch, is_slotted, kept, parameters_of, one, together, pause, latest, in_flight, settled, load_slot, on_clusters, move_stack, fetch_words, fetched, cluster_of_operand, argument_words, save_words, result_words, call_words, is_caller, answer_words, return_words, start_words, bytes, first_frame}
-use Rattle.vx_tie.proofs.Early.{falls, Jumps, Touches}
+use Rattle.vx_isa.specs.Operations.{same, latency_of}
+use Rattle.vx_target.specs.Target.{Target, answer, general, general_of, branch_of, register_of, stack_on, home, holds_branch, is_slotted, kept, parameters_of, one, together, pause, latest, in_flight, settled, load_slot, on_clusters, move_stack, fetch_words, fetched, cluster_of_operand, argument_words, save_words, result_words, call_words, is_caller, answer_words, last_beside, leave_words, return_words, start_words, bytes, first_frame}
+use Rattle.vx_tie.proofs.Early.{falls, Jumps, Touches, hits}
 use Rattle.vx_target.proofs.Pauses.{flight_append, flight_pause}
 use Rattle.vx_tie.proofs.SaveHeats.{tested, saves_late}
-use Rattle.vx_tie.proofs.Heats.{lift, stays, FineWords, word_fine, wait_fine, stop_fine}
+use Rattle.vx_tie.proofs.Heats.{lift, raised_bound, stays, FineWords, word_fine, wait_fine, stop_fine}
 
 module _ (T : Target) (heat : ℕ → Register → ℕ) where
   abbrev pub Fine : (Register → ℕ) → List Word → (Register → ℕ) → Type 0
@@ -188,14 +190,32 @@ module _ (T : Target) (heat : ℕ → Register → ℕ) where
           (settle ops (links ++ rest) e refl (λ q j. j) (settle (ToLink (Held (general 0 3)) ∷ []) rest e refl (λ q j. j) more))
       by false = one_by_one f x rest e more
 
-  answer_fine : (f : ℕ) (x : Operand) (rest : List Word) (e : Register → ℕ) → Fine cold rest e → Fine cold (answer_words T f x ++ rest) e
-  answer_fine f x rest e more = by (is_caller T f)
+  -- what is moved in the word that returns has landed by the next word
+  module _ (f : ℕ) (x : Operand) where
+    abbrev Moves : Operation
+    Moves = Move 0 answer (fetched T f x)
+
+    landed : latency_of T.machine Moves ≡ 1 → (r : Register) → raised same (hits T.machine (Moves ∷ Return ∷ [])) cold r ≤ 1
+    landed once r = raised_bound (hits T.machine (Moves ∷ Return ∷ [])) cold (λ s. 1) (λ s. omega arith) (λ y i. ⊎_elim (λ q. (let z : y.latency ≡ latency_of T.machine Moves = ap (λ h. h.latency) q in omega arith)) (λ k. absurd k) i) r
+
+    jumps_late : latency_of T.machine Moves ≡ 1 → (q : ℕ) (r : Register) → raised same (hits T.machine (Moves ∷ Return ∷ [])) cold r - 1 ≤ heat q r
+    jumps_late once q r = let a = landed once r in omega arith
+
+    beside_fine : (e : Register → ℕ) → Fine cold (last_beside T Moves Return) e
+    beside_fine e = by ((latency_of T.machine Moves == 1) && fits T.machine (Moves ∷ Return ∷ [])) refl
+      where
+        by : (b : Bool) → ((latency_of T.machine Moves == 1) && fits T.machine (Moves ∷ Return ∷ [])) ≡ b → Fine cold (if b then record { ops = Moves ∷ Return ∷ []; idle = 0 } ∷ [] else settled T (one Moves ∷ []) ++ one Return ∷ []) e
+        by true t =
+            let once : latency_of T.machine Moves ≡ 1 = eqb-true (latency_of T.machine Moves) 1 (and_parts _ _ t).0 in
+            ((λ r s. refl), (λ q r j. jumps_late once q r), nothing_fine e)
+        by false t = settle (Moves ∷ []) (one Return ∷ []) e refl (λ q j. j) (go_back_fine [] e (nothing_fine e))
+
+  leave_fine : (f : ℕ) (x : Operand) (e : Register → ℕ) → Fine cold (leave_words T f x) e
+  leave_fine f x e = by (is_caller T f)
     where
-      by : (b : Bool) → Fine cold ((if b
-          then settled T (together T.machine (Move 0 answer (fetched T f x)) (Load 0 (general 0 3) (pos 0) (stack_on 0) false)) ++ settled T (one (ToLink (Held (general 0 3))) ∷ [])
-          else settled T (one (Move 0 answer (fetched T f x)) ∷ [])) ++ rest) e
-      by true = loaded_fine f x rest e more
-      by false = settle (Move 0 answer (fetched T f x) ∷ []) rest e refl (λ q j. j) more
+      by : (b : Bool) → Fine cold (if b then answer_words T f x ++ one Return ∷ [] else last_beside T (Move 0 answer (fetched T f x)) Return) e
+      by true = loaded_fine f x (one Return ∷ []) e (go_back_fine [] e (nothing_fine e))
+      by false = beside_fine f x e
 
   pub return_fine : (f : ℕ) (x : Operand) (e : Register → ℕ) → Fine cold (return_words T f x) e
-  return_fine f x e = fetch_fine f 0 x (answer_words T f x ++ one Return ∷ []) e (answer_fine f x (one Return ∷ []) e (go_back_fine [] e (nothing_fine e)))
+  return_fine f x e = fetch_fine f 0 x (leave_words T f x) e (leave_fine f x e)

@@ -1,5 +1,5 @@
 -- Each word of a program that carries a flow is one of its plan, or of one of the other kinds.
-use Rattle.std.proofs.Common.{◌≡◌, ◌<◌, ◌≤◌, ◌⊎◌, inl, inr, ◌+◌, ◌-◌, ℕ, zero, suc, ℤ, pos, neg_ℤ, Bool, true, false, Option, Some, None, List, [], ◌∷◌, ◌++◌, length, refl, sym, ap, ◌∙◌, subst, arith}
+use Rattle.std.proofs.Common.{◌≡◌, ◌<◌, ◌≤◌, ◌⊎◌, inl, inr, ◌+◌, ◌-◌, ◌==◌, ◌&&◌, ℕ, zero, suc, ℤ, pos, neg_ℤ, Bool, true, false, Option, Some, None, List, [], ◌∷◌, ◌++◌, length, refl, sym, ap, ◌∙◌, subst, arith}
 use Rattle.std.specs.Prelude.{if◌then◌else◌, slice_get}
 use Rattle.vx_base.specs.declared.arithmetic.Code.TheVariants.{Add, ToBranch}
 use Rattle.vx_base.specs.declared.arithmetic.Compare.TheVariants.{Ltu, Ne}
@@ -18,6 +18,7 @@ use Rattle.vx_isa.specs.declared.operation.Operation.TheVariants.{Compute, Move,
 use Rattle.vx_isa.specs.declared.program.Word.{Word}
 use Rattle.vx_isa.specs.declared.program.WordProgram.{WordProgram}
 use Rattle.vx_isa.specs.Fits.{fits}
+use Rattle.vx_isa.specs.Operations.{latency_of}
 use Rattle.vx_isa.specs.Paths.{WordAt}
 use Rattle.vx_mixed.specs.declared.layout.Laid.{Laid}
 use Rattle.vx_mixed.specs.declared.layout.Laid.TheVariants.{Plain, Split}
@@ -26,14 +27,14 @@ use Rattle.vx_mixed.specs.declared.layout.VirtualWord.TheVariants.{Planned, Drai
 use Rattle.vx_mixed.specs.declared.layout.VWords.{VWords}
 use Rattle.vx_mixed.specs.LaidSettled.{laid_reads, laid_writes}
 use Rattle.vx_regs.specs.Intervals.{is_named, word_reads, word_writes}
-use Rattle.vx_target.specs.Target.{Target, answer, general, general_of, branch_of, stack_on, holds_branch, is_slotted, kept, slotted, once, parameters_of, one, together, pause, in_flight, settled, set_stack, slots_in_flight, load_slot, store_slot, load_slots, store_slots, if_some, before, behind, plan_word, plan_words, past_there, past, landing_words, on_clusters, move_stack, save_words, reload_words, fetch_words, fetched, cluster_of_operand, argument_words, result_words, call_words, back_words, is_caller, answer_words, return_words, follows, way, link_words, entry_words, turns, idle_words, word_words, start_words, waits, bytes, first_frame}
+use Rattle.vx_target.specs.Target.{Target, answer, general, general_of, branch_of, stack_on, holds_branch, is_slotted, kept, slotted, once, parameters_of, one, together, pause, in_flight, settled, set_stack, slots_in_flight, load_slot, store_slot, load_slots, store_slots, if_some, before, behind, plan_word, plan_words, most_transfers, past, landing_words, on_clusters, move_stack, save_words, reload_words, fetch_words, fetched, cluster_of_operand, argument_words, result_words, call_words, back_words, is_caller, answer_words, last_beside, leave_words, return_words, follows, way, link_words, entry_words, turns, idle_words, word_words, start_words, waits, bytes, first_frame}
 use Rattle.vx_target.specs.Placed.{Depth, Labelled, PlacedAt, place_of, laid_pieces, landing_of, item_landings, word_landings, landing_pieces, function_pieces, functions_pieces, all_pieces, words_of}
 use Rattle.vx_target.specs.Carried.{Carries, IsFunctionOf, IsMapped, NeedsSlot, is_passed, is_spilled, is_saved}
 use Rattle.vx_target.specs.Places.{plan_place}
-use Rattle.vx_tie.specs.Plans.{IsOther, loads_slot, stores_slot, picks_number, tests_number, moves, tests_depth, leaves_by_depth, moves_stacks, calls, takes_link, stores_link, sets_stacks, loads_link, moves_and_loads_link, gives_link, returns, traps, halts, idles, goes, branches, IsTurnedTo, at_entry, by_transfer, by_choice, by_split}
+use Rattle.vx_tie.specs.Plans.{IsOther, loads_slot, stores_slot, picks_number, tests_number, moves, tests_depth, leaves_by_depth, moves_stacks, calls, takes_link, stores_link, sets_stacks, loads_link, moves_and_loads_link, gives_link, returns, moves_and_returns, traps, halts, idles, goes, branches, IsTurnedTo, at_entry, by_transfer, by_choice, by_split}
 use Rattle.vx_target.proofs.FromPlace.{StandFrom, stand_here, stand_on, stand_from_start}
 use Rattle.vx_target.proofs.Enough.{in_all_of}
-use Rattle.vx_target.proofs.Frames.{get_below, get_in}
+use Rattle.vx_target.proofs.Frames.{get_below, get_in, past_keeps}
 use Rattle.vx_target.proofs.Once.{once_in}
 use Rattle.vx_target.proofs.Pauses.{flight_few, slots_few}
 use Rattle.vx_target.proofs.Stands.{word_stands}
@@ -263,27 +264,30 @@ module _ (T : Target) (flow : Flow) (ls : List VWords) (w : WordProgram) (sound 
         (append (result_words T f result) (reload_words T f (T.saved f p)) (result_other result n) (reload_other (T.saved f p) saved))
 
     answer_other : (x : Operand) → Words (answer_words T f x)
-    answer_other x = by (is_caller T f)
+    answer_other x =
+        let loads : List Word = together T.machine (Move 0 answer (fetched T f x)) (Load 0 (general 0 3) (pos 0) (stack_on 0) false) in
+        append (settled T loads) (settled T (one (ToLink (Held (general 0 3))) ∷ [])) (settled_other loads (both (fits T.machine (Move 0 answer (fetched T f x) ∷ Load 0 (general 0 3) (pos 0) (stack_on 0) false ∷ [])))) (settled_other (one (ToLink (Held (general 0 3))) ∷ []) (gives_link, tt))
       where
-        move : Operation
-        move = Move 0 answer (fetched T f x)
-
-        load : Operation
-        load = Load 0 (general 0 3) (pos 0) (stack_on 0) false
-
         both : (c : Bool) → Words (if c then record { ops = Move 0 answer (fetched T f x) ∷ Load 0 (general 0 3) (pos 0) (stack_on 0) false ∷ []; idle = 0 } ∷ [] else one (Move 0 answer (fetched T f x)) ∷ one (Load 0 (general 0 3) (pos 0) (stack_on 0) false) ∷ [])
         both true = (moves_and_loads_link (fetched T f x), tt)
         both false = (moves 0 answer (fetched T f x), (loads_link, tt))
 
-        by : (b : Bool) → Words (if b then settled T (together T.machine (Move 0 answer (fetched T f x)) (Load 0 (general 0 3) (pos 0) (stack_on 0) false)) ++ settled T (one (ToLink (Held (general 0 3))) ∷ []) else settled T (one (Move 0 answer (fetched T f x)) ∷ []))
-        by true =
-            let loads : List Word = together T.machine (Move 0 answer (fetched T f x)) (Load 0 (general 0 3) (pos 0) (stack_on 0) false) in
-            append (settled T loads) (settled T (one (ToLink (Held (general 0 3))) ∷ [])) (settled_other loads (both (fits T.machine (Move 0 answer (fetched T f x) ∷ Load 0 (general 0 3) (pos 0) (stack_on 0) false ∷ [])))) (settled_other (one (ToLink (Held (general 0 3))) ∷ []) (gives_link, tt))
-        by false = settled_other (one (Move 0 answer (fetched T f x)) ∷ []) (moves 0 answer (fetched T f x), tt)
+    beside_other : (x : Operand) → Words (last_beside T (Move 0 answer (fetched T f x)) Return)
+    beside_other x = by ((latency_of T.machine (Move 0 answer (fetched T f x)) == 1) && fits T.machine (Move 0 answer (fetched T f x) ∷ Return ∷ []))
+      where
+        by : (b : Bool) → Words (if b then record { ops = Move 0 answer (fetched T f x) ∷ Return ∷ []; idle = 0 } ∷ [] else settled T (one (Move 0 answer (fetched T f x)) ∷ []) ++ one Return ∷ [])
+        by true = (moves_and_returns (fetched T f x), tt)
+        by false = one_settled (one (Move 0 answer (fetched T f x))) (one Return ∷ []) (moves 0 answer (fetched T f x)) (returns, tt)
+
+    leave_other : (x : Operand) → Words (leave_words T f x)
+    leave_other x = by (is_caller T f)
+      where
+        by : (b : Bool) → Words (if b then answer_words T f x ++ one Return ∷ [] else last_beside T (Move 0 answer (fetched T f x)) Return)
+        by true = append (answer_words T f x) (one Return ∷ []) (answer_other x) (returns, tt)
+        by false = beside_other x
 
     return_other : (x : Operand) → Fetches x → Words (return_words T f x)
-    return_other x n = append (fetch_words T f 0 x) (answer_words T f x ++ one Return ∷ []) (fetch_other 0 x n (inl refl))
-        (append (answer_words T f x) (one Return ∷ []) (answer_other x) (returns, tt))
+    return_other x n = append (fetch_words T f 0 x) (leave_words T f x) (fetch_other 0 x n (inl refl)) (leave_other x)
 
     link_other : Words (link_words T f)
     link_other = by (is_caller T f)
@@ -294,19 +298,9 @@ module _ (T : Target) (flow : Flow) (ls : List VWords) (w : WordProgram) (sound 
 
     -- ways
 
-    -- a way past a transfer leads where that does
+    -- a jump past transfers arrives where one of them leads, or where it was to go
     turned_past : (q : ℕ) → IsTurnedTo T f q → IsTurnedTo T f (past T f q)
-    turned_past q turned = by (slice_get (T.layout f).words q) refl
-      where
-        by : (o : Option VirtualWord) → slice_get (T.layout f).words q ≡ o → IsTurnedTo T f (past_there q o)
-        by None e = turned
-        by (Some (Planned rg wd items)) e = turned
-        by (Some (Drain n)) e = turned
-        by (Some (Transfer to)) e = by_transfer q e
-        by (Some (Choice test to)) e = turned
-        by (Some (Calls g arguments result)) e = turned
-        by (Some (Returns x)) e = turned
-        by (Some (Ends k)) e = turned
+    turned_past q turned = past_keeps (T.layout f).words (IsTurnedTo T f) (λ d to e h. by_transfer d e) most_transfers q turned
 
     goto_other : (q : ℕ) → IsTurnedTo T f q → Words (one (Goto (T.starts f q)) ∷ [])
     goto_other q turned = (goes f q lt turned, tt)
@@ -320,10 +314,10 @@ module _ (T : Target) (flow : Flow) (ls : List VWords) (w : WordProgram) (sound 
 
     entry_other : Words (entry_words T f)
     entry_other =
-        let next : List Word = way T f 0 (T.layout f).entry in
+        let next : List Word = way T f 0 (past T f (T.layout f).entry) in
         let loads : List Word = load_slots T f (T.brought f) (T.brought f) in
         let begins : List Word = loads ++ link_words T f in
-        append (settled T begins) next (settled_other begins (append loads (link_words T f) (load_slots_other (T.brought f) (T.brought f) brought_need) link_other)) (way_other 0 (T.layout f).entry (at_entry refl))
+        append (settled T begins) next (settled_other begins (append loads (link_words T f) (load_slots_other (T.brought f) (T.brought f) brought_need) link_other)) (way_other 0 (past T f (T.layout f).entry) (turned_past (T.layout f).entry (at_entry refl)))
 
     -- words of a layout
 
@@ -375,10 +369,10 @@ module _ (T : Target) (flow : Flow) (ls : List VWords) (w : WordProgram) (sound 
     word_kinds : (p : ℕ) (word : VirtualWord) → HasWordAt p word → Kinds (T.starts f p) (word_words T f p word)
     word_kinds p (Planned rg wd items) e = planned_kinds p rg wd items e
     word_kinds p (Drain n) e = kinds_other T Count (T.starts f p) (idle_words T f p n) (idle_other p n e)
-    word_kinds p (Transfer q) e = kinds_other T Count (T.starts f p) (way T f (p + 1) q) (way_other (p + 1) q (by_transfer p e))
+    word_kinds p (Transfer q) e = kinds_other T Count (T.starts f p) (way T f (p + 1) (past T f q)) (way_other (p + 1) (past T f q) (turned_past q (by_transfer p e)))
     word_kinds p (Choice test q) e =
         kinds_other T Count (T.starts f p) (word_words T f p (Choice test q))
-        (append (before T f (test ∷ [])) (one (BranchOn (branch_of T f (test ∷ []) test) true (T.starts f q)) ∷ []) (before_other (test ∷ []) (reads_need p (Choice test q) e)) (branches f q (branch_of T f (test ∷ []) test) lt (by_choice p test e), tt))
+        (append (before T f (test ∷ [])) (one (BranchOn (branch_of T f (test ∷ []) test) true (T.starts f (past T f q))) ∷ []) (before_other (test ∷ []) (reads_need p (Choice test q) e)) (branches f (past T f q) (branch_of T f (test ∷ []) test) lt (turned_past q (by_choice p test e)), tt))
     word_kinds p (Calls g arguments result) e = kinds_other T Count (T.starts f p) (word_words T f p (Calls g arguments result)) (called_other p g arguments result e)
     word_kinds p (Returns x) e = kinds_other T Count (T.starts f p) (return_words T f x) (return_other x (reads_need p (Returns x) e))
     word_kinds p (Ends k) e = (inr (traps k), tt)

@@ -2,7 +2,7 @@
 use Rattle.std.proofs.Common.{◌≡◌, ◌≢◌, ◌<◌, ◌≤◌, ◌⊎◌, inl, inr, ⊎_elim, ◌+◌, ◌*◌, ◌^◌, ℕ, zero, suc, ℤ, pos, Bool, true, false, Some, List, [], ◌∷◌, ◌++◌, length, length-append, refl, sym, ap, ◌∙◌, subst, arith}
 use Rattle.std.specs.Prelude.{if◌then◌else◌, slice_get}
 use Rattle.vx_base.specs.Outcome.{On}
-use Rattle.vx_base.proofs.Runs.{Reach, run_reach, safe_after, reach_one}
+use Rattle.vx_base.proofs.Runs.{Reach, run_reach, safe_after}
 use Rattle.vx_flow.specs.declared.graph.Bank.{Bank}
 use Rattle.vx_flow.specs.declared.graph.Flow.{Flow}
 use Rattle.vx_flow.specs.Effects.{IsIn}
@@ -22,11 +22,12 @@ use Rattle.vx_mixed.specs.LaidSettled.{bank_in}
 use Rattle.vx_regs.specs.Intervals.{IsLive, is_live}
 use Rattle.vx_regs.specs.declared.map.Kept.{Kept}
 use Rattle.vx_regs.specs.declared.map.Kept.TheVariants.{InRegister}
-use Rattle.vx_target.specs.Target.{Target, answer, general, stack_on, kept, is_slotted, parameters_of, holds_branch, register_of, one, pause, in_flight, settled, is_caller, load_slots, link_words, way, entry_words, memory_words}
+use Rattle.vx_target.specs.Target.{Target, answer, general, stack_on, kept, is_slotted, parameters_of, holds_branch, register_of, one, pause, in_flight, settled, is_caller, load_slots, past, link_words, way, entry_words, memory_words}
 use Rattle.vx_target.specs.Tied.{Tied, AtEntry, Below, Seated, Shows, stack_from, waiting_above, seat, Itself, holds, kind_of, word_at, link_in}
 use Rattle.vx_target.specs.Seats.{Seats, is_link}
 use Rattle.vx_target.specs.Carried.{Carries, IsFunctionOf, is_passed, Arrives}
 use Rattle.vx_tie.specs.Planned.{CarriesOn, FallsThrough, EntryLaw}
+use Rattle.vx_tie.proofs.PastTransfers.{Led, led_past, steps_on}
 use Rattle.vx_target.proofs.Calm.{seen, AllFit, Going}
 use Rattle.vx_target.proofs.FromGraph.{branch_plain, parameter_plain}
 use Rattle.vx_target.proofs.Names.{in_register, apart_registers, not_zero, not_general, not_scratch}
@@ -80,6 +81,10 @@ module _ (T : Target) (flow : Flow) (ls : List VWords) (w : WordProgram) (sound 
   abbrev Entry : ℕ
   Entry = (T.layout F).entry
 
+  -- where the words lead
+  abbrev Inside : ℕ
+  Inside = past T F Entry
+
   abbrev Brought : List ℕ
   Brought = T.brought F
 
@@ -128,7 +133,7 @@ module _ (T : Target) (flow : Flow) (ls : List VWords) (w : WordProgram) (sound 
   Begin = (Loads ++ Links) ++ pause Wait
 
   abbrev Way : List Word
-  Way = way T F 0 Entry
+  Way = way T F 0 Inside
 
   stands : Stands w.words u.place (Begin ++ Way)
   stands = subst (λ q. Stands w.words q (entry_words T F)) (sym at_entry.place) (entry_stands T flow.main (length flow.functions) w.words carries.placed F below)
@@ -252,7 +257,7 @@ module _ (T : Target) (flow : Flow) (ls : List VWords) (w : WordProgram) (sound 
   pub record Done : Type 0 where
     pub to : State
     pub comes : Comes T.machine w fit u to
-    pub place : to.place ≡ T.starts F Entry
+    pub place : to.place ≡ T.starts F Inside
     pub quiet : Quiet u to
     pub stack : (k : ℕ) → k < T.machine.clusters → register to (General (stack_on k)) ≡ pos (4 * Sp)
     pub brought : (v : ℕ) → IsIn v Brought → seen to.registers (register_of T F Brought v) ≡ as_read (holds_branch T F v) (word_at u.memory (Sp + T.slot F v))
@@ -267,8 +272,8 @@ module _ (T : Target) (flow : Flow) (ls : List VWords) (w : WordProgram) (sound 
       let c = place_h in
       let d = length-append Begin Way in omega arith
 
-  jumped : Paused T.machine w fit H (T.starts F Entry)
-  jumped = way_step T.machine w fit T F 0 Entry H waited.quiet.calm ends_there (subst (λ q. Stands w.words q Way) (sym place_h) (stands_right w.words u.place Begin Way stands))
+  jumped : Paused T.machine w fit H (T.starts F Inside)
+  jumped = way_step T.machine w fit T F 0 Inside H waited.quiet.calm ends_there (subst (λ q. Stands w.words q Way) (sym place_h) (stands_right w.words u.place Begin Way stands))
 
   abbrev G : State
   G = jumped.to
@@ -312,20 +317,29 @@ module _ (T : Target) (flow : Flow) (ls : List VWords) (w : WordProgram) (sound 
 
   -- the step over values
 
-  abbrev After : Active
-  After = record r { block = suc Entry }
+  abbrev First : Active
+  First = record r { block = suc Entry }
 
-  steps : next (laid_program flow ls) r ≡ On After
-  steps =
+  abbrev After : Active
+  After = record r { block = suc Inside }
+
+  first_step : next (laid_program flow ls) r ≡ On First
+  first_step =
       ap (after_hop (laid_program flow ls) r)
       (ap (body_hop (laid_program flow ls) r) (ap (λ g. laid_body (length flow.globals) g (slice_get ls F)) tied.is.graph ∙ ap (λ l. laid_body (length flow.globals) (Some (T.graph F)) l) tied.is.layout)
       ∙ ap (λ z. laid_hop (setting_with (laid_program flow ls) z r.base) (T.layout F) r.block r.state) tied.passed
       ∙ ap (λ b. laid_hop (setting_of (laid_program flow ls) r.base) (T.layout F) b r.state) block)
 
+  led : Led T flow ls r tied.is tied.passed Entry Inside
+  led = led_past T flow ls r tied.is tied.passed Entry
+
+  reach : Reach (next (laid_program flow ls)) (suc led.steps) r After
+  reach = (First, first_step, led.over_values)
+
   same_slot : (v : ℕ) → IsIn v (parameters_of T F) → word_at done.to.memory (Sp + T.slot F v) ≡ word_at u.memory (Sp + T.slot F v)
   same_slot v i = done.elsewhere (Sp + T.slot F v) (λ e. let z = of.framed.slot_from v (is_passed i) in omega arith)
 
-  values : (v : ℕ) (n : ℤ) → IsLive (T.layout F) Entry v → r.state.values v ≡ Some n → Shows T Sp F v n (holds T done.to Sp F v)
+  values : (v : ℕ) (n : ℤ) → IsLive (T.layout F) Inside v → r.state.values v ≡ Some n → Shows T Sp F v n (holds T done.to Sp F v)
   values v n live e =
       let k = at_entry.values v n e in by k.0 k.1 (is_slotted (kept T F v)) refl
     where
@@ -333,7 +347,7 @@ module _ (T : Target) (flow : Flow) (ls : List VWords) (w : WordProgram) (sound 
       by i m true h = subst (λ x. Shows T Sp F v n x) (sym (same_slot v i)) m
       by i m false h =
           let number = in_register (kept T F v) h in
-          let there = of.saved.brings v (record { passed = i; live = live; number = number.0; register = number.1 }) in
+          let there = of.saved.brings v (record { passed = i; live = led.live v live; number = number.0; register = number.1 }) in
           subst (λ x. Shows T Sp F v n x) (sym (ap (register done.to) (own_name T F v (v ∷ []) Brought h) ∙ done.brought v there)) (read_shows T Sp F v n (word_at u.memory (Sp + T.slot F v)) (branch_plain T F Any graph_sound of.mapped.code v) m)
 
   -- memory: only the first word of the frame has changed
@@ -357,24 +371,25 @@ module _ (T : Target) (flow : Flow) (ls : List VWords) (w : WordProgram) (sound 
     calm = done.quiet.calm;
     deep = tied.deep;
     stack = done.stack;
-    at = inr (Entry, record { block = refl; place = done.place; values = values; link = done.link ∙ at_entry.link });
+    at = inr (Inside, record { block = refl; place = done.place; values = values; link = done.link ∙ at_entry.link });
     passed = tied.passed;
     stacked = tied.stacked;
     seated = seated;
     below = waiting;
     input = done.quiet.input ∙ tied.input;
     out = done.quiet.out ∙ tied.out;
-    safe = safe_after (next (laid_program flow ls)) (λ x. x.state.out) 1 r After (reach_one (next (laid_program flow ls)) r After steps) tied.safe;
+    safe = safe_after (next (laid_program flow ls)) (λ x. x.state.out) (suc led.steps) r After reach tied.safe;
   }
 
   by_words : (n : ℕ) → Reach (Going T.machine w) n u done.to → CarriesOn T flow ls w r u ⊎ FallsThrough T flow ls r u
-  by_words zero same = inr (record { after = After; place = Entry; block = refl; over_values = steps; tied = subst (Tied T flow ls After) (sym same) tied_after })
-  by_words (suc n) reach = inl (record {
+  by_words zero same = inr (record { after = After; place = Inside; block = refl; steps = led.steps; over_values = steps_on flow ls (suc led.steps) r After reach; tied = subst (Tied T flow ls After) (sym same) tied_after })
+  by_words (suc n) forth = inl (record {
     after = After;
     to = done.to;
+    steps = led.steps;
     words = n;
-    over_values = steps;
-    over_registers = λ k. run_reach (step T.machine (1 ∷ []) w) (λ x. x.out) (suc n) k u done.to reach;
+    over_values = steps_on flow ls (suc led.steps) r After reach;
+    over_registers = λ k. run_reach (step T.machine (1 ∷ []) w) (λ x. x.out) (suc n) k u done.to forth;
     tied = tied_after;
   })
 

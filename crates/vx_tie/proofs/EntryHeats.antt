@@ -17,7 +17,7 @@ use Rattle.vx_machine.specs.Items.{latency_of_op}
 use Rattle.vx_mixed.specs.LaidSettled.{bank_in}
 use Rattle.vx_mixed.specs.Settled.{NoTwice}
 use Rattle.vx_regs.specs.Intervals.{IsBusy, is_live}
-use Rattle.vx_target.specs.Target.{Target, general, kept, is_slotted, register_of, stack_on, one, pause, latest, in_flight, load_slots, reload_words, result_words, settled, is_caller, follows, way, link_words, entry_words, call_words, back_words, bytes}
+use Rattle.vx_target.specs.Target.{Target, general, kept, is_slotted, register_of, stack_on, one, pause, latest, in_flight, load_slots, reload_words, result_words, settled, is_caller, past, follows, way, link_words, entry_words, call_words, back_words, bytes}
 use Rattle.vx_target.specs.Carried.{IsMapped, IsSaved, CallsAt}
 use Rattle.vx_target.proofs.Names.{not_general, not_first_branch, not_scratch, apart_registers}
 use Rattle.vx_target.proofs.Live.{live_bank}
@@ -122,7 +122,7 @@ module _ (T : Target) (heat : ℕ → Register → ℕ) (f : ℕ) (mapped : IsMa
   entry_fine e some =
       let vs : List ℕ = T.brought f in
       let begin : ℕ = (T.layout f).entry in
-      let goes : List Word = way T f 0 begin in
+      let goes : List Word = way T f 0 (past T f begin) in
       let loads : List Word = load_slots T f vs vs in
       let links : List Word = link_words T f in
       let t : ℕ = in_flight T.machine 0 loads in
@@ -131,7 +131,7 @@ module _ (T : Target) (heat : ℕ → Register → ℕ) (f : ℕ) (mapped : IsMa
       let names : Names T heat f vs cold = kept_names begin vs brought in
       let others : (v : ℕ) → IsIn v vs → register_of T f vs v ≢ InGeneral (general 0 3) = λ v i. (let h = brought v i in not_scratch T f mapped vs v 0 3 h.1 h.2 (omega arith)) in
       let tail : (all : List ℕ) → ((u : ℕ) → IsIn u all → IsIn u vs) → F (lift t cold (map (λ v. register_of T f vs v) all)) (links ++ (pause n ++ goes)) e =
-      λ all s. subst (λ z. F (lift t cold (map (λ v. register_of T f vs v) all)) (links ++ (pause z ++ goes)) e) q (link_fine vs names others all s t goes e (way_fine 0 begin e)) in
+      λ all s. subst (λ z. F (lift t cold (map (λ v. register_of T f vs v) all)) (links ++ (pause z ++ goes)) e) q (link_fine vs names others all s t goes e (way_fine 0 (past T f begin) e)) in
       subst (λ ws. F cold ws e) (sym (append_assoc (loads ++ links) (pause n) goes ∙ append_assoc loads links (pause n ++ goes)))
       (loads_then T heat f vs cold names 0 [] vs (links ++ (pause n ++ goes)) e (λ u i. absurd i) (λ u i. i) (λ u i j. j) saved.brought_once tail)
 

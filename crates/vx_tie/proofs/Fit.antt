@@ -1,6 +1,6 @@
 -- Every word of a program that carries a flow is well formed and fits: planned words by their room, all others since they hold
 -- one operation, or one on each cluster.
-use Rattle.std.proofs.Common.{◌≡◌, ◌≢◌, ◌<◌, ◌≤◌, ◌⊎◌, inl, inr, ⊎_elim, ◌+◌, ℕ, zero, suc, ℤ, pos, neg_ℤ, Bool, true, false, ◌&&◌, eqb, Option, Some, None, List, [], ◌∷◌, ◌++◌, length, map, count_by, refl, sym, ap, subst, arith}
+use Rattle.std.proofs.Common.{◌≡◌, ◌≢◌, ◌<◌, ◌≤◌, ◌⊎◌, inl, inr, ⊎_elim, ◌+◌, ℕ, zero, suc, ℤ, pos, neg_ℤ, Bool, true, false, ◌==◌, ◌&&◌, eqb, Option, Some, None, List, [], ◌∷◌, ◌++◌, length, map, count_by, refl, sym, ap, subst, arith}
 use Rattle.std.specs.Prelude.{◌-◌, if◌then◌else◌, slice_get}
 use Rattle.std.specs.List.{list_all}
 use Rattle.std.specs.Cmp.Derive.{both_true}
@@ -32,6 +32,7 @@ use Rattle.vx_isa.specs.declared.program.Word.{Word}
 use Rattle.vx_isa.specs.declared.program.WordProgram.{WordProgram}
 use Rattle.vx_isa.specs.Numbers.{Numbers}
 use Rattle.vx_isa.specs.Fits.{is_in_file, is_twice, keeps_to_cluster, destinations, fits, takes_read_port}
+use Rattle.vx_isa.specs.Operations.{latency_of}
 use Rattle.vx_isa.proofs.FitsLaw.{six_parts}
 use Rattle.vx_machine.specs.Items.{latency_of_op}
 use Rattle.vx_machine.specs.Needs.{FitsByRoom}
@@ -43,7 +44,7 @@ use Rattle.vx_mixed.specs.declared.layout.VirtualWord.TheVariants.{Planned, Drai
 use Rattle.vx_mixed.specs.declared.layout.VWords.{VWords}
 use Rattle.vx_mixed.specs.LaidSettled.{bank_in, laid_reads, laid_writes, Plans}
 use Rattle.vx_regs.specs.Intervals.{IsBusy, is_live, is_named, word_reads, word_writes}
-use Rattle.vx_target.specs.Target.{Target, answer, general, general_of, branch_of, stack_on, home, holds_branch, is_branch, is_slotted, kept, slotted, parameters_of, one, together, waits, pause, in_flight, settled, on_clusters, set_stack, slots_in_flight, load_slot, store_slot, load_slots, store_slots, if_some, once, before, behind, plan_word, plan_words, past, landing_words, move_stack, save_words, reload_words, fetch_words, fetched, cluster_of_operand, argument_words, result_words, call_words, back_words, is_caller, answer_words, return_words, follows, way, link_words, entry_words, turns, idle_words, word_words, start_words, bytes, first_frame}
+use Rattle.vx_target.specs.Target.{Target, answer, general, general_of, branch_of, stack_on, home, holds_branch, is_branch, is_slotted, kept, slotted, parameters_of, one, together, waits, pause, in_flight, settled, on_clusters, set_stack, slots_in_flight, load_slot, store_slot, load_slots, store_slots, if_some, once, before, behind, plan_word, plan_words, past, landing_words, move_stack, save_words, reload_words, fetch_words, fetched, cluster_of_operand, argument_words, result_words, call_words, back_words, is_caller, answer_words, last_beside, leave_words, return_words, follows, way, link_words, entry_words, turns, idle_words, word_words, start_words, bytes, first_frame}
 use Rattle.vx_target.specs.Placed.{Depth, Labelled, laid_pieces, landing_of, item_landings, word_landings, landing_pieces, function_pieces, functions_pieces, all_pieces, words_of}
 use Rattle.vx_target.specs.Carried.{Carries, IsFunctionOf, IsMapped, item_of_laid, WordsFit}
 use Rattle.vx_tie.specs.Fitted.{FitLaw}
@@ -321,19 +322,31 @@ module _ (T : Target) (flow : Flow) (ls : List VWords) (w : WordProgram) (sound 
         by false e = (ga, (gb, tt))
 
     answer_good : (x : Operand) → Fetches x → Words (answer_words T f x)
-    answer_good x h = by (is_caller T f)
+    answer_good x h =
+        let link : Operation = ToLink (Held (general 0 3)) in
+        let loads : List Word = together T.machine (Move 0 answer (fetched T f x)) (Load 0 (general 0 3) (pos 0) (stack_on 0) false) in
+        good_append M (settled T loads) (settled T (one link ∷ [])) (settled_good loads (together_good (Move 0 answer (fetched T f x)) (Load 0 (general 0 3) (pos 0) (stack_on 0) false) refl refl (move_answer x h) (load_good (general 0 3) (pos 0) first (own 0 3 (omega arith) first))))
+        (settled_good (one link ∷ []) (one_good M carries.machine l link first refl (both_true (own 0 3 (omega arith) first) refl) refl, tt))
+
+    last_good : Words (one Return ∷ [])
+    last_good = (one_good M carries.machine l Return first refl refl refl, tt)
+
+    beside_good : (x : Operand) → Fetches x → Words (last_beside T (Move 0 answer (fetched T f x)) Return)
+    beside_good x h = by ((latency_of T.machine (Move 0 answer (fetched T f x)) == 1) && fits T.machine (Move 0 answer (fetched T f x) ∷ Return ∷ [])) refl
       where
-        by : (b : Bool) → Words (if b then settled T (together T.machine (Move 0 answer (fetched T f x)) (Load 0 (general 0 3) (pos 0) (stack_on 0) false)) ++ settled T (one (ToLink (Held (general 0 3))) ∷ []) else settled T (one (Move 0 answer (fetched T f x)) ∷ []))
-        by true =
-            let link : Operation = ToLink (Held (general 0 3)) in
-            let loads : List Word = together T.machine (Move 0 answer (fetched T f x)) (Load 0 (general 0 3) (pos 0) (stack_on 0) false) in
-            good_append M (settled T loads) (settled T (one link ∷ [])) (settled_good loads (together_good (Move 0 answer (fetched T f x)) (Load 0 (general 0 3) (pos 0) (stack_on 0) false) refl refl (move_answer x h) (load_good (general 0 3) (pos 0) first (own 0 3 (omega arith) first))))
-            (settled_good (one link ∷ []) (one_good M carries.machine l link first refl (both_true (own 0 3 (omega arith) first) refl) refl, tt))
-        by false = settled_good (one (Move 0 answer (fetched T f x)) ∷ []) (move_answer x h, tt)
+        by : (b : Bool) → ((latency_of T.machine (Move 0 answer (fetched T f x)) == 1) && fits T.machine (Move 0 answer (fetched T f x) ∷ Return ∷ [])) ≡ b → Words (if b then record { ops = Move 0 answer (fetched T f x) ∷ Return ∷ []; idle = 0 } ∷ [] else settled T (one (Move 0 answer (fetched T f x)) ∷ []) ++ one Return ∷ [])
+        by true e = (well M (Move 0 answer (fetched T f x) ∷ Return ∷ []) refl refl (and_parts _ _ e).1, tt)
+        by false e = good_append M (settled T (one (Move 0 answer (fetched T f x)) ∷ [])) (one Return ∷ []) (settled_good (one (Move 0 answer (fetched T f x)) ∷ []) (move_answer x h, tt)) last_good
+
+    leave_good : (x : Operand) → Fetches x → Words (leave_words T f x)
+    leave_good x h = by (is_caller T f)
+      where
+        by : (b : Bool) → Words (if b then answer_words T f x ++ one Return ∷ [] else last_beside T (Move 0 answer (fetched T f x)) Return)
+        by true = good_append M (answer_words T f x) (one Return ∷ []) (answer_good x h) last_good
+        by false = beside_good x h
 
     return_good : (x : Operand) → Fetches x → Words (return_words T f x)
-    return_good x h = good_append M (fetch_words T f 0 x) (answer_words T f x ++ one Return ∷ []) (fetch_good 0 x h)
-        (good_append M (answer_words T f x) (one Return ∷ []) (answer_good x h) (one_good M carries.machine l Return first refl refl refl, tt))
+    return_good x h = good_append M (fetch_words T f 0 x) (leave_words T f x) (fetch_good 0 x h) (leave_good x h)
 
     way_good : (next q : ℕ) → Words (way T f next q)
     way_good next q = by (follows T f next q)
@@ -354,10 +367,10 @@ module _ (T : Target) (flow : Flow) (ls : List VWords) (w : WordProgram) (sound 
 
     entry_good : Words (entry_words T f)
     entry_good =
-        let goes : List Word = way T f 0 (T.layout f).entry in
+        let goes : List Word = way T f 0 (past T f (T.layout f).entry) in
         let loads : List Word = load_slots T f (T.brought f) (T.brought f) in
         let begins : List Word = loads ++ link_words T f in
-        good_append M (settled T begins) goes (settled_good begins (good_append M loads (link_words T f) (load_slots_good f (T.brought f) (T.brought f) (kept_named (T.brought f) arrives)) link_good)) (way_good 0 (T.layout f).entry)
+        good_append M (settled T begins) goes (settled_good begins (good_append M loads (link_words T f) (load_slots_good f (T.brought f) (T.brought f) (kept_named (T.brought f) arrives)) link_good)) (way_good 0 (past T f (T.layout f).entry))
       where
         arrives : (v : ℕ) → IsIn v (T.brought f) → (p : ℕ) × Busy p v × Banked v × (is_slotted (kept T f v) ≡ false)
         arrives v i = let a = of.saved.brought v i in ((T.layout f).entry, is_live a.live, live_bank T f mapped graph_sound (T.layout f).entry v a.live, ap is_slotted a.register)
@@ -431,14 +444,14 @@ module _ (T : Target) (flow : Flow) (ls : List VWords) (w : WordProgram) (sound 
     word_good : (p : ℕ) (word : VirtualWord) → HasWordAt p word → Words (word_words T f p word)
     word_good p (Planned rg wd items) e = planned_good p rg wd items e
     word_good p (Drain n) e = idle_good p n
-    word_good p (Transfer q) e = way_good (p + 1) q
+    word_good p (Transfer q) e = way_good (p + 1) (past T f q)
     word_good p (Choice test q) e =
         let parts = mapped.code.choices p test q e in
         let has : Has (T.graph f) test BranchBank = graph_sound.exit_tests (Branches test parts.yes parts.no) test parts.has (inl refl) in
         let n = named_one test p (BranchBank, bank_is test BranchBank has) (is_named e (inl refl)) in
-        good_append M (before T f (test ∷ [])) (one (BranchOn (branch_of T f (test ∷ []) test) true (T.starts f q)) ∷ [])
+        good_append M (before T f (test ∷ [])) (one (BranchOn (branch_of T f (test ∷ []) test) true (T.starts f (past T f q))) ∷ [])
         (before_good f (test ∷ []) (λ v i. ⊎_elim (λ s. subst (λ z. Named f (test ∷ []) z) (sym s) n) (λ j. absurd j) i))
-        (one_good M carries.machine l (BranchOn (branch_of T f (test ∷ []) test) true (T.starts f q)) first refl (both_true (n.0 (ap is_branch (bank_is test BranchBank has))) refl) refl, tt)
+        (one_good M carries.machine l (BranchOn (branch_of T f (test ∷ []) test) true (T.starts f (past T f q))) first refl (both_true (n.0 (ap is_branch (bank_is test BranchBank has))) refl) refl, tt)
     word_good p (Calls g arguments result) e =
         good_append M (call_words T f p g arguments) (back_words T f p result) (call_good p g arguments (kept_named (T.saved f p) survives) fetches) (back_good p result (kept_named (T.saved f p) survives) has_result)
       where

@@ -24,12 +24,12 @@ use Rattle.vx_mixed.specs.declared.layout.VirtualWord.TheVariants.{Planned, Drai
 use Rattle.vx_mixed.specs.declared.layout.VWords.{VWords}
 use Rattle.vx_mixed.specs.LaidSettled.{laid_reads, laid_writes, LeadsTo, LeavesCold}
 use Rattle.vx_regs.specs.Intervals.{word_writes}
-use Rattle.vx_target.specs.Target.{Target, slotted, register_of, past_there, past, leads, before, behind, plan_word, plan_words, landing_words, choice_words, return_words, follows, way, turns_there, turns, idle_words, entry_words, start_words, word_words, one, waits, pause, slots_in_flight}
+use Rattle.vx_target.specs.Target.{Target, slotted, register_of, most_transfers, past, leads, before, behind, plan_word, plan_words, landing_words, choice_words, return_words, follows, way, turns_there, turns, idle_words, entry_words, start_words, word_words, one, waits, pause, slots_in_flight}
 use Rattle.vx_target.specs.Placed.{Label, Start, Entry, At, Landing, Depth, Labelled, laid_pieces, landing_of, item_landings, word_landings, landing_pieces, function_pieces, functions_pieces, all_pieces}
 use Rattle.vx_target.specs.Carried.{Carries, IsMapped}
 use Rattle.vx_tie.specs.Fitted.{NeverEarlyLaw}
 use Rattle.vx_target.proofs.FromPlace.{StandFrom, stand_here, stand_on, stand_from_start}
-use Rattle.vx_target.proofs.Frames.{get_beyond, get_some, get_in}
+use Rattle.vx_target.proofs.Frames.{get_beyond, get_some, get_in, past_keeps, past_below}
 use Rattle.vx_target.proofs.Limits.{Limits, limits}
 use Rattle.vx_target.proofs.Stands.{piece_at, landing_at, in_laid, in_landings, of_function, word_next}
 use Rattle.vx_tie.proofs.Early.{words_kind, words_cool}
@@ -54,7 +54,7 @@ first_behind (x ∷ xs) y ys = (x, xs ++ (y ∷ ys), refl)
 record Turned (T : Target) (f p : ℕ) : Type 0 where
   to : ℕ
   at : slice_get (T.layout f).words p ≡ Some (Transfer to)
-  turns_off : follows T f (p + 1) to ≡ false
+  turns_off : follows T f (p + 1) (past T f to) ≡ false
 
 turned : (T : Target) (f p : ℕ) → turns T f p ≡ true → Turned T f p
 turned T f p h = by (slice_get (T.layout f).words p) refl h
@@ -66,7 +66,7 @@ turned T f p h = by (slice_get (T.layout f).words p) refl h
     by None e t = never t
     by (Some (Planned r w items)) e t = never t
     by (Some (Drain n)) e t = never t
-    by (Some (Transfer q)) e t = record { to = q; at = e; turns_off = not_true (follows T f (p + 1) q) t }
+    by (Some (Transfer q)) e t = record { to = q; at = e; turns_off = not_true (follows T f (p + 1) (past T f q)) t }
       where
         not_true : (b : Bool) → not b ≡ true → b ≡ false
         not_true true k = absurd (cc)
@@ -121,7 +121,7 @@ module _ (T : Target) (flow : Flow) (ls : List VWords) (w : WordProgram) (sound 
   at_word f p None h = cold
   at_word f p (Some (Planned r w items)) h = h
   at_word f p (Some (Drain n)) h = h
-  at_word f p (Some (Transfer q)) h = if follows T f (p + 1) q then cold else warm
+  at_word f p (Some (Transfer q)) h = if follows T f (p + 1) (past T f q) then cold else warm
   at_word f p (Some (Choice test q)) h = h
   at_word f p (Some (Calls g arguments result)) h = h
   at_word f p (Some (Returns x)) h = h
@@ -217,7 +217,7 @@ module _ (T : Target) (flow : Flow) (ls : List VWords) (w : WordProgram) (sound 
     goes_warm : (q : ℕ) → turns T f q ≡ true → (r : Register) → heat (T.starts f q) r ≡ 1
     goes_warm q h r =
         let t = turned T f q h in
-        let goto : Word = one (Goto (T.starts f t.to)) in
+        let goto : Word = one (Goto (T.starts f (past T f t.to))) in
         ap (λ g. g r) (at_place f q (Transfer t.to) k.lt t.at (goto, [], ap (λ b. if b then [] else goto ∷ []) t.turns_off)) ∙ ap (λ b. (if b then cold else warm) r) t.turns_off
 
     behind_cold : (p : ℕ) → turns T f (p + 1) ≡ true → (r : Register) → H (suc p) r ≤ 0
@@ -265,21 +265,21 @@ module _ (T : Target) (flow : Flow) (ls : List VWords) (w : WordProgram) (sound 
     abbrev Behind : ℕ → VirtualWord → Register → ℕ
     Behind p word = heat (T.starts f p + length (word_words T f p word))
 
-    same_past : (q : ℕ) (word : VirtualWord) → WordAt f q word → (r : Register) → past T f q ≡ q → H q r ≤ heat (T.starts f (past T f q)) r
-    same_past q word e r same = let a = there q word e r in let b = ap (λ n. heat (T.starts f n) r) same in omega arith
+    -- and past transfers, at which nothing is in flight
+    kept_on : (q d to : ℕ) (r : Register) → WordAt f d (Transfer to) → H q r ≤ H d r → H q r ≤ H to r
+    kept_on q d to r e h = let a = cold_here d (Transfer to) e tt r in omega arith
 
-    -- and past a transfer
-    there_past : (q : ℕ) (word : VirtualWord) → WordAt f q word → (r : Register) → H q r ≤ heat (T.starts f (past T f q)) r
-    there_past q (Transfer to) e r = let a = cold_here q (Transfer to) e tt r in omega arith
-    there_past q (Planned rg wd items) e r = same_past q (Planned rg wd items) e r (ap (past_there q) e)
-    there_past q (Drain n) e r = same_past q (Drain n) e r (ap (past_there q) e)
-    there_past q (Choice test to) e r = same_past q (Choice test to) e r (ap (past_there q) e)
-    there_past q (Calls g arguments result) e r = same_past q (Calls g arguments result) e r (ap (past_there q) e)
-    there_past q (Returns x) e r = same_past q (Returns x) e r (ap (past_there q) e)
-    there_past q (Ends j) e r = same_past q (Ends j) e r (ap (past_there q) e)
+    same_heat : (q : ℕ) (r : Register) → H q r ≤ H q r
+    same_heat q r = omega arith
+
+    kept_past : (q : ℕ) (r : Register) → H q r ≤ H (past T f q) r
+    kept_past q r = past_keeps (T.layout f).words (λ d. H q r ≤ H d r) (λ d to e h. kept_on q d to r e h) most_transfers q (same_heat q r)
 
     leads_past : (p q : ℕ) (word : VirtualWord) → WordAt f p word → LeadsTo p word q → (r : Register) → H q r ≤ heat (T.starts f (past T f q)) r
-    leads_past p q word e leads_to r = let x = get_some (T.layout f).words q (M.settled.inside p q word e leads_to) in there_past q x.0 x.1 r
+    leads_past p q word e leads_to r =
+        let x = get_some (T.layout f).words (past T f q) (past_below T f M.settled.inside q (M.settled.inside p q word e leads_to)) in
+        let a = kept_past q r in
+        let b = there (past T f q) x.0 x.1 r in omega arith
 
     -- a split of a planned word leads to where no less may be in flight
     split_there : (p rg wd : ℕ) (items : List Laid) → WordAt f p (Planned rg wd items) → (test to : ℕ) (y : Bool) → IsIn (Split test y to) items → (r : Register) → lift (slots_in_flight T f items) (H to) (map (register_of T f (laid_writes items)) (slotted T f (laid_writes items))) r ≤ heat (leads T f p (slotted T f (laid_writes items)) to) r
@@ -292,10 +292,10 @@ module _ (T : Target) (flow : Flow) (ls : List VWords) (w : WordProgram) (sound 
             let b = lift_same (slots_in_flight T f items) (Pend f to) (H to) (map (register_of T f (laid_writes items)) (slotted T f (laid_writes items))) r (k.same to r) in
             let c : lift (slots_in_flight T f items) (H to) (map (register_of T f (laid_writes items)) (slotted T f (laid_writes items))) r ≡ lift (slots_in_flight T f items) (H to) (map (register_of T f (laid_writes items)) (v ∷ vs)) r = ap (λ us. lift (slots_in_flight T f items) (H to) (map (register_of T f (laid_writes items)) us) r) s in omega arith
 
-    way_fine : (p q : ℕ) (d : Register → ℕ) → FineFrom (at_word f p (Some (Transfer q)) (H p)) (way T f (p + 1) q) d
-    way_fine p q d = by (follows T f (p + 1) q)
+    way_fine : (p q : ℕ) (d : Register → ℕ) → FineFrom (at_word f p (Some (Transfer q)) (H p)) (way T f (p + 1) (past T f q)) d
+    way_fine p q d = by (follows T f (p + 1) (past T f q))
       where
-        by : (b : Bool) → FineFrom (if b then cold else warm) (if b then [] else one (Goto (T.starts f q)) ∷ []) d
+        by : (b : Bool) → FineFrom (if b then cold else warm) (if b then [] else one (Goto (T.starts f (past T f q))) ∷ []) d
         by true = λ r. omega arith
         by false = (λ r t. ⊎_elim (λ i. absurd i) (λ i. absurd i) t.0, (λ t r j. omega arith), λ r. omega arith)
 
@@ -314,7 +314,7 @@ module _ (T : Target) (flow : Flow) (ls : List VWords) (w : WordProgram) (sound 
     inner p (Planned rg wd items) e = ends (H p) (H (suc p)) (Behind p (Planned rg wd items)) (plan_words T f p items) (next_there p (Planned rg wd items) e (inl refl)) (plan_fine T heat f M S l p rg wd items e (split_there p rg wd items e))
     inner p (Drain n) e = idle_fine p n e
     inner p (Transfer q) e = way_fine p q (Behind p (Transfer q))
-    inner p (Choice test q) e = ends (H p) (H (suc p)) (Behind p (Choice test q)) (choice_words T f test q) (next_there p (Choice test q) e (inr refl)) (choice_fine T heat f M S l p test q e (leads_there p q (Choice test q) e (inl refl)))
+    inner p (Choice test q) e = ends (H p) (H (suc p)) (Behind p (Choice test q)) (choice_words T f test q) (next_there p (Choice test q) e (inr refl)) (choice_fine T heat f M S l p test q e (leads_past p q (Choice test q) e (inl refl)))
     inner p (Calls g arguments result) e = less (H p) cold (Behind p (Calls g arguments result)) (word_words T f p (Calls g arguments result)) (cold_here p (Calls g arguments result) e tt) (call_fine T heat f M S (carries.functions f k.lt).saved p g arguments result (Behind p (Calls g arguments result)) e l.issue)
     inner p (Returns x) e = less (H p) cold (Behind p (Returns x)) (return_words T f x) (cold_here p (Returns x) e tt) (return_fine T heat f x (Behind p (Returns x)))
     inner p (Ends j) e = stop_fine T.machine heat (H p) (EndByTrap j ∷ []) [] (Behind p (Ends j)) refl (λ q r i. absurd i) refl (λ r t. ⊎_elim (λ i. absurd i) (λ i. absurd i) t.0) (λ r. omega arith)

@@ -1,6 +1,6 @@
 -- Of two words of a program one behind the other, one is a word of the plan or has an operation, where layouts are spaced: pauses
 -- stand behind operations, empty cycles of a layout behind no pause, and neither behind the other.
-use Rattle.std.proofs.Common.{◌≡◌, ◌<◌, ◌≤◌, ◌⊎◌, inl, inr, ⊎_elim, ◌+◌, ◌-◌, ◌==◌, not, ℕ, zero, suc, ℤ, pos, neg_ℤ, Bool, true, false, Option, Some, None, List, [], ◌∷◌, ◌++◌, length, refl, sym, ap, ◌∙◌, subst, arith}
+use Rattle.std.proofs.Common.{◌≡◌, ◌<◌, ◌≤◌, ◌⊎◌, inl, inr, ⊎_elim, ◌+◌, ◌-◌, ◌==◌, ◌&&◌, not, ℕ, zero, suc, ℤ, pos, neg_ℤ, Bool, true, false, Option, Some, None, List, [], ◌∷◌, ◌++◌, length, refl, sym, ap, ◌∙◌, subst, arith}
 use Rattle.std.specs.Prelude.{if◌then◌else◌, slice_get}
 use Rattle.std.specs.List.{filter}
 use Rattle.std.proofs.lemmas.Bool.{and_parts, eqb-true}
@@ -18,19 +18,20 @@ use Rattle.vx_isa.specs.declared.operation.Operation.TheVariants.{Compute, Move,
 use Rattle.vx_isa.specs.declared.program.Word.{Word}
 use Rattle.vx_isa.specs.declared.program.WordProgram.{WordProgram}
 use Rattle.vx_isa.specs.Fits.{fits}
+use Rattle.vx_isa.specs.Operations.{latency_of}
 use Rattle.vx_mixed.specs.declared.layout.Laid.{Laid}
 use Rattle.vx_mixed.specs.declared.layout.Laid.TheVariants.{Plain, Split}
 use Rattle.vx_mixed.specs.declared.layout.VirtualWord.{VirtualWord}
 use Rattle.vx_mixed.specs.declared.layout.VirtualWord.TheVariants.{Planned, Drain, Transfer, Choice, Call as Calls, Return as Returns, Ends}
 use Rattle.vx_mixed.specs.declared.layout.VWords.{VWords}
 use Rattle.vx_mixed.specs.LaidSettled.{laid_reads, laid_writes}
-use Rattle.vx_target.specs.Target.{Target, answer, general, general_of, branch_of, home, stack_on, holds_branch, is_slotted, kept, slotted, once, parameters_of, one, together, pause, in_flight, settled, set_stack, slots_in_flight, load_slot, store_slot, load_slots, store_slots, if_some, before, behind, plan_word, plan_words, past, landing_words, on_clusters, move_stack, save_words, reload_words, fetch_words, fetched, cluster_of_operand, argument_words, result_words, call_words, back_words, is_caller, is_drain, is_drain_there, answer_words, return_words, follows, way, link_words, entry_words, turns, idle_words, word_words, start_words, waits, bytes, first_frame}
+use Rattle.vx_target.specs.Target.{Target, answer, general, general_of, branch_of, home, stack_on, holds_branch, is_slotted, kept, slotted, once, parameters_of, one, together, pause, in_flight, settled, set_stack, slots_in_flight, load_slot, store_slot, load_slots, store_slots, if_some, before, behind, plan_word, plan_words, past, landing_words, on_clusters, move_stack, save_words, reload_words, fetch_words, fetched, cluster_of_operand, argument_words, result_words, call_words, back_words, is_caller, is_drain, is_drain_there, answer_words, last_beside, leave_words, return_words, follows, way, link_words, entry_words, turns, idle_words, word_words, start_words, waits, bytes, first_frame}
 use Rattle.vx_target.specs.Placed.{Depth, Labelled, PlacedAt, place_of, laid_pieces, landing_of, item_landings, word_landings, landing_pieces, function_pieces, functions_pieces, all_pieces, words_of}
 use Rattle.vx_target.specs.Carried.{Carries, IsMapped}
 use Rattle.vx_tie.specs.Plans.{AreSpaced, GoesOn, IsSpaced}
 use Rattle.vx_tie.proofs.EachWord.{IsPlanWord}
 use Rattle.vx_target.proofs.Enough.{some_cluster}
-use Rattle.vx_target.proofs.Frames.{get_some}
+use Rattle.vx_target.proofs.Frames.{get_some, past_below}
 use Rattle.vx_tie.proofs.Spaced.{Firm}
 
 abbrev pub Operates : List Operation → Type 0
@@ -177,22 +178,31 @@ module _ (T : Target) where
         by false = one_idles (Move (home T f v) (general_of T f (v ∷ []) v) (Held answer))
 
     answer_idles : (x : Operand) → Idles true (answer_words T f x) true
-    answer_idles x = by (is_caller T f)
+    answer_idles x =
+        let loads : List Word = together T.machine (Move 0 answer (fetched T f x)) (Load 0 (general 0 3) (pos 0) (stack_on 0) false) in
+        then_idles true true true (settled T loads) (settled T (one (ToLink (Held (general 0 3))) ∷ []))
+        (settled_idles true loads (both (fits T.machine (Move 0 answer (fetched T f x) ∷ Load 0 (general 0 3) (pos 0) (stack_on 0) false ∷ [])))) (one_idles (ToLink (Held (general 0 3))))
       where
         both : (c : Bool) → Idles true (if c then record { ops = Move 0 answer (fetched T f x) ∷ Load 0 (general 0 3) (pos 0) (stack_on 0) false ∷ []; idle = 0 } ∷ [] else one (Move 0 answer (fetched T f x)) ∷ one (Load 0 (general 0 3) (pos 0) (stack_on 0) false) ∷ []) false
         both true = inl (tt, λ e. e)
         both false = inl (tt, inl (tt, λ e. e))
 
-        by : (b : Bool) → Idles true (if b then settled T (together T.machine (Move 0 answer (fetched T f x)) (Load 0 (general 0 3) (pos 0) (stack_on 0) false)) ++ settled T (one (ToLink (Held (general 0 3))) ∷ []) else settled T (one (Move 0 answer (fetched T f x)) ∷ [])) true
-        by true =
-            let loads : List Word = together T.machine (Move 0 answer (fetched T f x)) (Load 0 (general 0 3) (pos 0) (stack_on 0) false) in
-            then_idles true true true (settled T loads) (settled T (one (ToLink (Held (general 0 3))) ∷ []))
-            (settled_idles true loads (both (fits T.machine (Move 0 answer (fetched T f x) ∷ Load 0 (general 0 3) (pos 0) (stack_on 0) false ∷ [])))) (one_idles (ToLink (Held (general 0 3))))
-        by false = one_idles (Move 0 answer (fetched T f x))
+    beside_idles : (a b : Operation) → Idles true (last_beside T a b) false
+    beside_idles a b = by ((latency_of T.machine a == 1) && fits T.machine (a ∷ b ∷ []))
+      where
+        by : (c : Bool) → Idles true (if c then record { ops = a ∷ b ∷ []; idle = 0 } ∷ [] else settled T (one a ∷ []) ++ one b ∷ []) false
+        by true = inl (tt, λ e. e)
+        by false = two_idles a b
+
+    leave_idles : (x : Operand) → Idles true (leave_words T f x) false
+    leave_idles x = by (is_caller T f)
+      where
+        by : (b : Bool) → Idles true (if b then answer_words T f x ++ one Return ∷ [] else last_beside T (Move 0 answer (fetched T f x)) Return) false
+        by true = then_idles true true false (answer_words T f x) (one Return ∷ []) (answer_idles x) (last_idles true Return)
+        by false = beside_idles (Move 0 answer (fetched T f x)) Return
 
     return_idles : (x : Operand) → Idles true (return_words T f x) false
-    return_idles x = then_idles true true false (fetch_words T f 0 x) (answer_words T f x ++ one Return ∷ []) (fetch_idles 0 x)
-        (then_idles true true false (answer_words T f x) (one Return ∷ []) (answer_idles x) (last_idles true Return))
+    return_idles x = then_idles true true false (fetch_words T f 0 x) (leave_words T f x) (fetch_idles 0 x) (leave_idles x)
 
     -- parameters are brought, and the link is stored; without either there is no pause
     begin_idles : (vs : List ℕ) → Idles true (settled T (load_slots T f vs vs ++ link_words T f)) true
@@ -217,11 +227,11 @@ module _ (T : Target) where
         by true = λ e. e
         by false = last_idles true (Goto (T.starts f q))
 
-    entry_idles : Idles true (entry_words T f) (follows T f 0 (T.layout f).entry)
+    entry_idles : Idles true (entry_words T f) (follows T f 0 (past T f (T.layout f).entry))
     entry_idles =
-        let ahead : Bool = follows T f 0 (T.layout f).entry in
-        let next : List Word = way T f 0 (T.layout f).entry in
-        then_idles true true ahead (settled T (load_slots T f (T.brought f) (T.brought f) ++ link_words T f)) next (begin_idles (T.brought f)) (way_idles 0 (T.layout f).entry)
+        let ahead : Bool = follows T f 0 (past T f (T.layout f).entry) in
+        let next : List Word = way T f 0 (past T f (T.layout f).entry) in
+        then_idles true true ahead (settled T (load_slots T f (T.brought f) (T.brought f) ++ link_words T f)) next (begin_idles (T.brought f)) (way_idles 0 (past T f (T.layout f).entry))
 
     module _ (some : 0 < T.machine.clusters) where
       move_stack_idles : (z : ℤ) → Idles true (move_stack T z) true
@@ -356,7 +366,7 @@ module _ (T : Target) (flow : Flow) (ls : List VWords) (w : WordProgram) (carrie
         (inl (inl there, runs_of T Count false false (suc (T.starts f p + length loads)) (behind T f items) (behind_idles T f items)))
 
     choice_idles : (p test q : ℕ) → Idles true (word_words T f p (Choice test q)) false
-    choice_idles p test q = then_idles true true false (before T f (test ∷ [])) (one (BranchOn (branch_of T f (test ∷ []) test) true (T.starts f q)) ∷ []) (before_idles T f (test ∷ [])) (last_idles true (BranchOn (branch_of T f (test ∷ []) test) true (T.starts f q)))
+    choice_idles p test q = then_idles true true false (before T f (test ∷ [])) (one (BranchOn (branch_of T f (test ∷ []) test) true (T.starts f (past T f q))) ∷ []) (before_idles T f (test ∷ [])) (last_idles true (BranchOn (branch_of T f (test ∷ []) test) true (T.starts f (past T f q))))
 
     drain_idles : (p n : ℕ) → Idles false (idle_words T f p n) true
     drain_idles p n = by (turns T f (p + 1))
@@ -369,7 +379,7 @@ module _ (T : Target) (flow : Flow) (ls : List VWords) (w : WordProgram) (carrie
     abbrev ends : ℕ → VirtualWord → Bool
     ends p (Planned rg wd items) = false
     ends p (Drain n) = true
-    ends p (Transfer q) = follows T f (p + 1) q
+    ends p (Transfer q) = follows T f (p + 1) (past T f q)
     ends p (Choice test q) = false
     ends p (Calls g arguments result) = true
     ends p (Returns x) = false
@@ -379,7 +389,7 @@ module _ (T : Target) (flow : Flow) (ls : List VWords) (w : WordProgram) (carrie
     word_runs : (p : ℕ) (word : VirtualWord) → HasWordAt p word → is_drain word ≡ false → Runs T Count true (T.starts f p) (word_words T f p word) (ends p word)
     word_runs p (Planned rg wd items) e s = planned_runs p rg wd items e
     word_runs p (Drain n) e s = never (sym s)
-    word_runs p (Transfer q) e s = runs_of T Count true (follows T f (p + 1) q) (T.starts f p) (way T f (p + 1) q) (way_idles T f (p + 1) q)
+    word_runs p (Transfer q) e s = runs_of T Count true (follows T f (p + 1) (past T f q)) (T.starts f p) (way T f (p + 1) (past T f q)) (way_idles T f (p + 1) (past T f q))
     word_runs p (Choice test q) e s = runs_of T Count true false (T.starts f p) (word_words T f p (Choice test q)) (choice_idles p test q)
     word_runs p (Calls g arguments result) e s = runs_of T Count true true (T.starts f p) (word_words T f p (Calls g arguments result)) (called_idles T f some p g arguments result)
     word_runs p (Returns x) e s = runs_of T Count true false (T.starts f p) (return_words T f x) (return_idles T f x)
@@ -389,19 +399,20 @@ module _ (T : Target) (flow : Flow) (ls : List VWords) (w : WordProgram) (carrie
     any_word_runs true p word e h = word_runs p word e (h refl)
     any_word_runs false p (Drain n) e h = runs_of T Count false true (T.starts f p) (idle_words T f p n) (drain_idles p n)
     any_word_runs false p (Planned rg wd items) e h = weak_runs T Count false false (T.starts f p) (plan_words T f p items) (word_runs p (Planned rg wd items) e refl)
-    any_word_runs false p (Transfer q) e h = weak_runs T Count false (follows T f (p + 1) q) (T.starts f p) (word_words T f p (Transfer q)) (word_runs p (Transfer q) e refl)
+    any_word_runs false p (Transfer q) e h = weak_runs T Count false (follows T f (p + 1) (past T f q)) (T.starts f p) (word_words T f p (Transfer q)) (word_runs p (Transfer q) e refl)
     any_word_runs false p (Choice test q) e h = weak_runs T Count false false (T.starts f p) (word_words T f p (Choice test q)) (word_runs p (Choice test q) e refl)
     any_word_runs false p (Calls g arguments result) e h = weak_runs T Count false true (T.starts f p) (word_words T f p (Calls g arguments result)) (word_runs p (Calls g arguments result) e refl)
     any_word_runs false p (Returns x) e h = weak_runs T Count false false (T.starts f p) (return_words T f x) (word_runs p (Returns x) e refl)
     any_word_runs false p (Ends k) e h = weak_runs T Count false false (T.starts f p) (word_words T f p (Ends k)) (word_runs p (Ends k) e refl)
 
     -- a transfer without a word goes on to the next one, which is none of empty cycles
-    goes_ahead : (p q : ℕ) → HasWordAt p (Transfer q) → follows T f (p + 1) q ≡ true → GoesOn (T.layout f) p
+    goes_ahead : (p q : ℕ) → HasWordAt p (Transfer q) → follows T f (p + 1) (past T f q) ≡ true → GoesOn (T.layout f) p
     goes_ahead p q e s =
-        let parts : ((p + 1 == q) ≡ true) × (not (is_drain_there (slice_get Words q)) ≡ true) = and_parts (p + 1 == q) (not (is_drain_there (slice_get Words q))) s in
-        let next : p + 1 ≡ q = eqb-true (p + 1) q parts.0 in
-        let inside : q < length Words = mapped.settled.inside p q (Transfer q) e refl in
-        by q (slice_get Words q) refl (let z : suc p ≡ q = omega arith in z) inside parts.1
+        let d : ℕ = past T f q in
+        let parts : ((p + 1 == d) ≡ true) × (not (is_drain_there (slice_get Words d)) ≡ true) = and_parts (p + 1 == d) (not (is_drain_there (slice_get Words d))) s in
+        let next : p + 1 ≡ d = eqb-true (p + 1) d parts.0 in
+        let inside : d < length Words = past_below T f mapped.settled.inside q (mapped.settled.inside p q (Transfer q) e refl) in
+        by d (slice_get Words d) refl (let z : suc p ≡ d = omega arith in z) inside parts.1
       where
         by : (q : ℕ) (o : Option VirtualWord) → slice_get Words q ≡ o → suc p ≡ q → q < length Words → not (is_drain_there o) ≡ true → GoesOn (T.layout f) p
         by q None d n lt_ k = absurd (let a = get_some Words q lt_ in let z : None ≡ Some a.0 = sym d ∙ a.1 in cc)
@@ -473,17 +484,21 @@ module _ (T : Target) (flow : Flow) (ls : List VWords) (w : WordProgram) (carrie
 
     -- a function
 
+    -- where the words of the entry lead
+    abbrev First : ℕ
+    First = past T f (T.layout f).entry
+
     abbrev Ahead : Bool
-    Ahead = follows T f 0 (T.layout f).entry
+    Ahead = follows T f 0 First
 
     begins_firm : Ahead ≡ true → Firm Words
     begins_firm h = by Words (let a = mapped.settled.entry in omega arith) (ap not (ap (λ n. is_drain_there (slice_get Words n)) zero_first) ∙ parts.1)
       where
-        parts : ((0 == (T.layout f).entry) ≡ true) × (not (is_drain_there (slice_get Words (T.layout f).entry)) ≡ true)
-        parts = and_parts (0 == (T.layout f).entry) (not (is_drain_there (slice_get Words (T.layout f).entry))) h
+        parts : ((0 == First) ≡ true) × (not (is_drain_there (slice_get Words First)) ≡ true)
+        parts = and_parts (0 == First) (not (is_drain_there (slice_get Words First))) h
 
-        zero_first : 0 ≡ (T.layout f).entry
-        zero_first = eqb-true 0 (T.layout f).entry parts.0
+        zero_first : 0 ≡ First
+        zero_first = eqb-true 0 First parts.0
 
         by : (xs : List VirtualWord) → 0 < length xs → not (is_drain_there (slice_get xs 0)) ≡ true → Firm xs
         by [] some_ e = absurd (omega arith)

@@ -1,5 +1,5 @@
 -- The words of a return: the result comes to the answer's register, and the run to the place that the link names.
-use Rattle.std.proofs.Common.{◌≡◌, ◌≢◌, ◌<◌, ◌≤◌, inl, ⊎_elim, ◌+◌, ◌*◌, ◌^◌, ℕ, zero, suc, ℤ, pos, Bool, true, false, Some, List, [], ◌∷◌, ◌++◌, length, length-append, refl, sym, ap, ◌∙◌, subst, arith}
+use Rattle.std.proofs.Common.{◌≡◌, ◌≢◌, ◌<◌, ◌≤◌, inl, ⊎_elim, ◌+◌, ◌*◌, ◌^◌, ◌==◌, ◌&&◌, ℕ, zero, suc, ℤ, pos, Bool, true, false, Some, List, [], ◌∷◌, ◌++◌, length, length-append, refl, sym, ap, ◌∙◌, subst, arith}
 use Rattle.std.specs.Prelude.{slice_get, if◌then◌else◌}
 use Rattle.std.proofs.lemmas.Bool.{false_from_ne_true}
 use Rattle.std.proofs.lemmas.List.{append-nil}
@@ -20,17 +20,19 @@ use Rattle.vx_isa.specs.declared.operation.Source.TheVariants.{Held}
 use Rattle.vx_isa.specs.declared.operation.Operation.TheVariants.{Move, Load, ToLink, Return as GoBack}
 use Rattle.vx_isa.specs.declared.program.Word.{Word}
 use Rattle.vx_isa.specs.declared.program.WordProgram.{WordProgram}
-use Rattle.vx_isa.specs.Machine.{State, To, register}
+use Rattle.vx_isa.specs.Fits.{fits}
+use Rattle.vx_isa.specs.Machine.{State, To, register, number_of}
+use Rattle.vx_isa.specs.Operations.{latency_of}
 use Rattle.vx_mixed.specs.declared.layout.VirtualWord.TheVariants.{Return}
 use Rattle.vx_mixed.specs.declared.layout.VWords.{VWords}
 use Rattle.vx_layout.specs.Laid.{laid_program, laid_hop, some_word_hop, laid_body}
 use Rattle.vx_mixed.specs.LaidSettled.{bank_in}
 use Rattle.vx_regs.specs.Intervals.{IsLive, here, is_live}
-use Rattle.vx_target.specs.Target.{Target, answer, general, kept, is_slotted, is_branch, holds_branch, stack_on, register_of, one, together, pause, in_flight, settled, is_caller, fetch_words, fetched, answer_words, return_words, memory_words}
+use Rattle.vx_target.specs.Target.{Target, answer, general, kept, is_slotted, is_branch, holds_branch, stack_on, register_of, one, together, pause, in_flight, settled, is_caller, fetch_words, fetched, last_beside, leave_words, return_words, memory_words}
 use Rattle.vx_target.specs.Tied.{Tied, AtWord, Shows, Itself, back_place, is_place, kind_by, kind_of, word_at}
 use Rattle.vx_target.specs.Carried.{Carries, IsFunctionOf, is_spilled}
 use Rattle.vx_target.proofs.Bytes.{unsigned_small}
-use Rattle.vx_target.proofs.Calm.{seen, AllFit, after}
+use Rattle.vx_target.proofs.Calm.{seen, put_at, put_off, AllFit, after}
 use Rattle.vx_target.proofs.Enough.{some_cluster}
 use Rattle.vx_target.proofs.Proper.{itself}
 use Rattle.vx_target.proofs.Frames.{get_below, get_in, frame_room}
@@ -122,8 +124,12 @@ module _ (T : Target) (flow : Flow) (ls : List VWords) (w : WordProgram) (sound 
   abbrev Readies : Bool → List Word
   Readies b = if b then settled T Loads ++ settled T (Linking ∷ []) else settled T (Answering ∷ [])
 
+  -- both in one word
+  abbrev Beside : Word
+  Beside = record { ops = Move 0 answer (fetched T F x) ∷ GoBack ∷ []; idle = 0 }
+
   abbrev Last : List Word
-  Last = answer_words T F x ++ one GoBack ∷ []
+  Last = leave_words T F x
 
   stands : Stands w.words u.place (Fetches ++ Last)
   stands = subst (λ q. Stands w.words q (return_words T F x)) (sym at_word.place) (word_stands T flow.main (length flow.functions) w.words carries.placed F p (Return x) below plan)
@@ -302,44 +308,67 @@ module _ (T : Target) (flow : Flow) (ls : List VWords) (w : WordProgram) (sound 
           link = ap (λ y. seen y Link) b.registers ∙ a.others Link (link_no_general answer) ∙ link_a ∙ in_register;
         }
 
-    readied_by : (b : Bool) → is_caller T F ≡ b → Stands w.words A.place (Readies b) → Readied (length (Readies b))
-    readied_by true h s = readied_by_frame h s
-    readied_by false h s = readied_in_register h s
+    -- behind the words that ready both
+    module _ (b : Bool) (readied : Readied (length (Readies b))) (last : Stands w.words A.place (Readies b ++ one GoBack ∷ [])) where
+      abbrev G : State
+      G = readied.to
 
-    readied : Readied (length (answer_words T F x))
-    readied = readied_by (is_caller T F) refl (stands_left w.words A.place (answer_words T F x) (one GoBack ∷ []) st)
+      last_stands : Stands w.words G.place (one GoBack ∷ [])
+      last_stands = subst (λ q. Stands w.words q (one GoBack ∷ [])) (sym readied.place) (stands_right w.words A.place (Readies b) (one GoBack ∷ []) last)
 
-    abbrev G : State
-    G = readied.to
+      goes_to : unsigned (G.registers Link) ≡ back_place T r.waiting
+      goes_to = ap unsigned readied.link ∙ unsigned-wrap (pos (back_place T r.waiting)) ∙ unsigned_small (back_place T r.waiting) few
 
-    last_stands : Stands w.words G.place (one GoBack ∷ [])
-    last_stands = subst (λ q. Stands w.words q (one GoBack ∷ [])) (sym readied.place) (stands_right w.words A.place (answer_words T F x) (one GoBack ∷ []) st)
+      abbrev Going_back : Word
+      Going_back = one GoBack
 
-    goes_to : unsigned (G.registers Link) ≡ back_place T r.waiting
-    goes_to = ap unsigned readied.link ∙ unsigned-wrap (pos (back_place T r.waiting)) ∙ unsigned_small (back_place T r.waiting) few
+      abbrev H : State
+      H = after w G Going_back (back_place T r.waiting)
 
-    abbrev Going_back : Word
-    Going_back = one GoBack
+      going : Forth T.machine w fit G H
+      going = word_step T.machine w fit G Going_back (back_place T r.waiting) readied.quiet.calm last_stands.0 (record { addresses = refl; input = refl }) (ap To goes_to)
 
-    abbrev H : State
-    H = after w G Going_back (back_place T r.waiting)
+      comes_g : Comes T.machine w fit u G
+      comes_g = comes_on T.machine w fit u A G got.comes readied.comes
 
-    going : Forth T.machine w fit G H
-    going = word_step T.machine w fit G Going_back (back_place T r.waiting) readied.quiet.calm last_stands.0 (record { addresses = refl; input = refl }) (ap To goes_to)
+      quiet_g : Quiet u G
+      quiet_g = quiet_on u A G got.quiet readied.quiet
 
-    comes_g : Comes T.machine w fit u G
-    comes_g = comes_on T.machine w fit u A G got.comes readied.comes
+      left_behind : Left T w fit Sp u (back_place T r.waiting) n
+      left_behind = record {
+        to = H;
+        forth = then_forth T.machine w fit u G H comes_g going;
+        place = refl;
+        quiet = record { calm = refl; input = quiet_g.input; out = append-nil G.out ∙ quiet_g.out };
+        memory = readied.memory ∙ got.memory;
+        answered = readied.answered;
+        stack = readied.stack;
+      }
 
-    quiet_g : Quiet u G
-    quiet_g = quiet_on u A G got.quiet readied.quiet
+    -- in the word that moves the result
+    left_at_once : is_caller T F ≡ false → slice_get w.words A.place ≡ Some Beside → Left T w fit Sp u (back_place T r.waiting) n
+    left_at_once calls at =
+        let in_register : seen u.registers Link ≡ wrap (pos (back_place T r.waiting)) = ap (λ b. if b then word_at u.memory Sp else u.registers Link) (sym calls) ∙ at_word.link in
+        let goes : unsigned (A.registers Link) ≡ back_place T r.waiting = ap unsigned (link_a ∙ in_register) ∙ unsigned-wrap (pos (back_place T r.waiting)) ∙ unsigned_small (back_place T r.waiting) few in
+        let to : State = after w A Beside (back_place T r.waiting) in
+        let going : Forth T.machine w fit A to = word_step T.machine w fit A Beside (back_place T r.waiting) got.quiet.calm at (record { addresses = refl; input = refl }) (ap To goes) in
+        record {
+          to = to;
+          forth = then_forth T.machine w fit u A to got.comes going;
+          place = refl;
+          quiet = record { calm = refl; input = got.quiet.input; out = append-nil A.out ∙ got.quiet.out };
+          memory = got.memory;
+          answered = put_at (General answer) (number_of w.memory A (Move 0 answer (fetched T F x))) A.registers refl ∙ got.is;
+          stack = λ k lt. put_off (General answer) (number_of w.memory A (Move 0 answer (fetched T F x))) A.registers (General (stack_on k)) (stack_no_answer k) ∙ stack_a k lt;
+        }
+
+    left_in_register : (b : Bool) → is_caller T F ≡ false → Stands w.words A.place (if b then Beside ∷ [] else Readies false ++ one GoBack ∷ []) → Left T w fit Sp u (back_place T r.waiting) n
+    left_in_register true calls s = left_at_once calls s.0
+    left_in_register false calls s = left_behind false (readied_in_register calls (stands_left w.words A.place (Readies false) (one GoBack ∷ []) s)) s
+
+    left_by : (b : Bool) → is_caller T F ≡ b → Stands w.words A.place (if b then Readies true ++ one GoBack ∷ [] else last_beside T (Move 0 answer (fetched T F x)) GoBack) → Left T w fit Sp u (back_place T r.waiting) n
+    left_by true calls s = left_behind true (readied_by_frame calls (stands_left w.words A.place (Readies true) (one GoBack ∷ []) s)) s
+    left_by false calls s = left_in_register ((latency_of T.machine (Move 0 answer (fetched T F x)) == 1) && fits T.machine (Move 0 answer (fetched T F x) ∷ GoBack ∷ [])) calls s
 
     pub left_run : Left T w fit Sp u (back_place T r.waiting) n
-    left_run = record {
-      to = H;
-      forth = then_forth T.machine w fit u G H comes_g going;
-      place = refl;
-      quiet = record { calm = refl; input = quiet_g.input; out = append-nil G.out ∙ quiet_g.out };
-      memory = readied.memory ∙ got.memory;
-      answered = readied.answered;
-      stack = readied.stack;
-    }
+    left_run = left_by (is_caller T F) refl st

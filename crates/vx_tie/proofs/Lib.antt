@@ -1,3 +1,4 @@
+pub mod PastTransfers
 pub mod Plan
 pub mod Planned
 pub mod Simple

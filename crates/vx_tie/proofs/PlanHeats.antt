@@ -16,7 +16,7 @@ use Rattle.vx_mixed.specs.declared.layout.VirtualWord.TheVariants.{Drain, Choice
 use Rattle.vx_mixed.specs.LaidSettled.{bank_in}
 use Rattle.vx_mixed.specs.Settled.{NoTwice}
 use Rattle.vx_regs.specs.Intervals.{is_live, here}
-use Rattle.vx_target.specs.Target.{Target, is_branch, general_of, branch_of, register_of, slotted, if_some, once, before, choice_words, one, waits, pause, in_flight, settled, load_slots}
+use Rattle.vx_target.specs.Target.{Target, is_branch, general_of, branch_of, register_of, slotted, if_some, once, before, past, choice_words, one, waits, pause, in_flight, settled, load_slots}
 use Rattle.vx_target.specs.Carried.{IsMapped}
 use Rattle.vx_target.proofs.Names.{Few, not_general, apart_all}
 use Rattle.vx_target.proofs.FromGraph.{whole_bank, has_whole}
@@ -78,7 +78,7 @@ module _ (T : Target) (heat : ℕ → Register → ℕ) (f : ℕ) (mapped : IsMa
   )
 
   -- a choice tests a branch value of which nothing is left
-  module _ (l : Limits T.machine) (p test q : ℕ) (at : At p (Choice test q)) (there : (r : Register) → Heat q r ≤ heat (T.starts f q) r) where
+  module _ (l : Limits T.machine) (p test q : ℕ) (at : At p (Choice test q)) (there : (r : Register) → Heat q r ≤ heat (T.starts f (past T f q)) r) where
     tested : bank_in (T.layout f) test ≡ Some BranchBank
     tested =
         let parts = mapped.code.choices p test q at in
@@ -97,13 +97,13 @@ module _ (T : Target) (heat : ℕ → Register → ℕ) (f : ℕ) (mapped : IsMa
     branch_name : InBranch (record { cluster = 0; number = branch_of T f (test ∷ []) test }) ≡ register_of T f (test ∷ []) test
     branch_name = sym (ap (λ b. if b then InBranch (record { cluster = 0; number = branch_of T f (test ∷ []) test }) else InGeneral (general_of T f (test ∷ []) test)) (ap is_branch tested))
 
-    meets : (r : Register) → Touches (BranchOn (branch_of T f (test ∷ []) test) true (T.starts f q) ∷ []) r → Heat p r ≡ 0
+    meets : (r : Register) → Touches (BranchOn (branch_of T f (test ∷ []) test) true (T.starts f (past T f q)) ∷ []) r → Heat p r ≡ 0
     meets r t = ⊎_elim
         (λ i. ⊎_elim (λ e. ap (Heat p) (e ∙ branch_name) ∙ pend_name T f mapped sound p test (test ∷ []) few (inl refl) settles.0 settles.1 settles.2) (λ j. absurd j) i)
         (λ i. absurd i) t.0
 
     pub choice_fine : F (Heat p) (choice_words T f test q) (Heat (suc p))
-    choice_fine = fine_append (words_kind T.machine) (words_cool T.machine) heat (Heat p) (Heat p) (Heat (suc p)) (before T f (test ∷ [])) (one (BranchOn (branch_of T f (test ∷ []) test) true (T.starts f q)) ∷ [])
+    choice_fine = fine_append (words_kind T.machine) (words_cool T.machine) heat (Heat p) (Heat p) (Heat (suc p)) (before T f (test ∷ [])) (one (BranchOn (branch_of T f (test ∷ []) test) true (T.starts f (past T f q))) ∷ [])
         (before_fine p (test ∷ []) few each_settles) (
           meets,
           (λ t r j. ⊎_elim (λ e. (let a = pend_kept T f mapped sound p q r (Choice test q) at (inl refl) in let b = there r in let c = ap (λ x. heat x r) e in omega arith)) (λ k. absurd k) j),

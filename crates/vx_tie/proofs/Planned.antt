@@ -3,7 +3,7 @@ use Rattle.std.proofs.Common.{◌≡◌, ◌≢◌, ◌<◌, ◌≤◌, ◌⊎�
 use Rattle.std.specs.Prelude.{slice_get}
 use Rattle.std.proofs.lemmas.Bool.{and_parts, ltb-true}
 use Rattle.vx_base.specs.Outcome.{Outcome, NeverFails, On, Over}
-use Rattle.vx_base.proofs.Runs.{run_reach, safe_after, safe_end, reach_one}
+use Rattle.vx_base.proofs.Runs.{Reach, run_reach, safe_after, safe_end}
 use Rattle.vx_flow.specs.declared.graph.Array.{Array}
 use Rattle.vx_flow.specs.declared.graph.Bank.{Bank}
 use Rattle.vx_flow.specs.declared.graph.Flow.{Flow}
@@ -21,17 +21,16 @@ use Rattle.vx_machine.specs.Room.{stands_well}
 use Rattle.vx_mixed.specs.declared.layout.Laid.{Laid}
 use Rattle.vx_mixed.specs.declared.layout.Laid.TheVariants.{Plain, Split}
 use Rattle.vx_mixed.specs.declared.layout.VWords.{VWords}
-use Rattle.vx_mixed.specs.declared.layout.VirtualWord.{VirtualWord}
-use Rattle.vx_mixed.specs.declared.layout.VirtualWord.TheVariants.{Planned, Drain, Transfer, Choice, Call, Return, Ends}
+use Rattle.vx_mixed.specs.declared.layout.VirtualWord.TheVariants.{Planned}
 use Rattle.vx_mixed.specs.Meaning.{leaves_on, picked}
 use Rattle.vx_layout.specs.Laid.{laid_effect, laid_next, moves_to, laid_hop, some_word_hop, laid_body, laid_program}
 use Rattle.vx_mixed.specs.LaidSettled.{LeadsTo, laid_reads, laid_writes, bank_in, Plans}
 use Rattle.vx_regs.specs.Intervals.{IsLive, here, beyond, IsBusy, is_live}
-use Rattle.vx_target.specs.Target.{Target, kept, is_slotted, register_of, past_there, memory_words, plan_words}
+use Rattle.vx_target.specs.Target.{Target, kept, is_slotted, register_of, past, memory_words, plan_words}
 use Rattle.vx_target.specs.Tied.{Tied, AtWord, Below, Shows, Stacked, IsStack, HasCell, Seated, stack_from, waiting_above, seat, holds, word_at}
 use Rattle.vx_target.specs.Carried.{Carries, IsFunctionOf, NeedsSlot, is_spilled, item_of_laid}
 use Rattle.vx_target.specs.Seats.{Seats, is_link, is_slot}
-use Rattle.vx_tie.specs.Planned.{CarriesOn, CarriesPast, PlannedLaw}
+use Rattle.vx_tie.specs.Planned.{CarriesOn, PlannedLaw}
 use Rattle.vx_target.proofs.Calm.{AllFit}
 use Rattle.vx_target.proofs.Proper.{ProperItems}
 use Rattle.vx_target.proofs.FromGraph.{branch_plain, op_proper, test_proper}
@@ -47,6 +46,7 @@ use Rattle.vx_target.proofs.Steps.{Stands}
 use Rattle.vx_target.proofs.Slots.{Usable, in_or_not}
 use Rattle.vx_target.proofs.Stands.{word_stands, landing_stands, word_next}
 use Rattle.vx_target.proofs.Word.{slotted_from, Planning, Untouched, Arrived, First, ran}
+use Rattle.vx_tie.proofs.PastTransfers.{Led, led_past, steps_on}
 use Rattle.vx_tie.proofs.Plan.{plan_run}
 
 module _ (T : Target) (flow : Flow) (ls : List VWords) (w : WordProgram) (sound : SoundFlow flow) (carries : Carries T flow ls w) (fit : AllFit T.machine w) (r : Active) (u : State) (tied : Tied T flow ls r u) (p region word : ℕ) (items : List Laid) (block : r.block ≡ suc p) (plan : slice_get (T.layout r.function).words p ≡ Some (Planned region word items)) where
@@ -314,66 +314,41 @@ module _ (T : Target) (flow : Flow) (ls : List VWords) (w : WordProgram) (sound 
       safe = safe;
     }
 
-    safe_then : (a b : Active) → next (laid_program flow ls) a ≡ On b → NeverFails (λ n. program_run (laid_program flow ls) n a) → NeverFails (λ n. program_run (laid_program flow ls) n b)
-    safe_then a b e safe = safe_after (next (laid_program flow ls)) (λ x. x.state.out) 1 a b (reach_one (next (laid_program flow ls)) a b e) safe
-
     over : (n : ℕ) → words_from T.machine (1 ∷ []) w (suc arrived.forth.0 + n) u ≡ words_from T.machine (1 ∷ []) w n To
     over n = run_reach (step T.machine (1 ∷ []) w) (λ x. x.out) (suc arrived.forth.0) n u To arrived.forth.1
-
-    carried_on : To.place ≡ T.starts F q → CarriesOn T flow ls w r u
-    carried_on place = record {
-      after = After;
-      to = To;
-      words = arrived.forth.0;
-      over_values = steps;
-      over_registers = over;
-      tied = tied_at q place values (safe_then r After steps tied.safe);
-    }
-
-    -- a split leads past a transfer, which is one step more over values
 
     abbrev Behind : ℕ → Active
     Behind d = record r { block = suc d; state = t }
 
-    transferred : (d : ℕ) → slice_get (T.layout F).words q ≡ Some (Transfer d) → next (laid_program flow ls) After ≡ On (Behind d)
-    transferred d e = ap (after_hop (laid_program flow ls) After) (ap (body_hop (laid_program flow ls) After) body_is ∙ ap (λ z. laid_hop (setting_with (laid_program flow ls) z r.base) (T.layout F) (suc q) t) tied.passed ∙ ap (λ x. some_word_hop TheSetting q x t) e)
+    -- a split leads past transfers, which are more steps over values
+    carried_to : (d : ℕ) → Led T flow ls After tied.is tied.passed q d → To.place ≡ T.starts F d → CarriesOn T flow ls w r u
+    carried_to d led place =
+        let reach : Reach (next (laid_program flow ls)) (suc led.steps) r (Behind d) = (After, steps, led.over_values) in
+        record {
+          after = Behind d;
+          to = To;
+          steps = led.steps;
+          words = arrived.forth.0;
+          over_values = steps_on flow ls (suc led.steps) r (Behind d) reach;
+          over_registers = over;
+          tied = tied_at d place (λ v n live g. values v n (led.live v live) g) (safe_after (next (laid_program flow ls)) (λ x. x.state.out) (suc led.steps) r (Behind d) reach tied.safe);
+        }
 
-    carried_past : (d : ℕ) → slice_get (T.layout F).words q ≡ Some (Transfer d) → To.place ≡ T.starts F d → CarriesPast T flow ls w r u
-    carried_past d e place = record {
-      first = After;
-      over_values = steps;
-      rest = record {
-        after = Behind d;
-        to = To;
-        words = arrived.forth.0;
-        over_values = transferred d e;
-        over_registers = over;
-        tied = tied_at d place (λ v n live g. values v n (beyond e (λ i. i) refl live) g) (safe_then After (Behind d) (transferred d e) (safe_then r After steps tied.safe));
-      };
-    }
+    carried : CarriesOn T flow ls w r u
+    carried = ⊎_elim
+        (λ place. carried_to q (record { steps = 0; over_values = refl; live = λ v k. k }) place)
+        (λ place. carried_to (past T F q) (led_past T flow ls After tied.is tied.passed q) place)
+        arrived.place
 
-    by_place : (o : Option VirtualWord) → slice_get (T.layout F).words q ≡ o → To.place ≡ T.starts F (past_there q o) → CarriesOn T flow ls w r u ⊎ CarriesPast T flow ls w r u
-    by_place None e place = inl (carried_on place)
-    by_place (Some (Planned rg wd xs)) e place = inl (carried_on place)
-    by_place (Some (Drain n)) e place = inl (carried_on place)
-    by_place (Some (Transfer d)) e place = inr (carried_past d e place)
-    by_place (Some (Choice test d)) e place = inl (carried_on place)
-    by_place (Some (Call g arguments result)) e place = inl (carried_on place)
-    by_place (Some (Return x)) e place = inl (carried_on place)
-    by_place (Some (Ends k)) e place = inl (carried_on place)
-
-    carried : CarriesOn T flow ls w r u ⊎ CarriesPast T flow ls w r u
-    carried = ⊎_elim (λ place. inl (carried_on place)) (λ place. by_place (slice_get (T.layout F).words q) refl place) arrived.place
-
-  took_some : (t : VState) → laid_effect TheSetting S items S ≡ Some t → (q : Option ℕ) → laid_next S (suc p) items ≡ q → CarriesOn T flow ls w r u ⊎ CarriesPast T flow ls w r u
+  took_some : (t : VState) → laid_effect TheSetting S items S ≡ Some t → (q : Option ℕ) → laid_next S (suc p) items ≡ q → CarriesOn T flow ls w r u
   took_some t e None k = absurd (wrong (next_is Hop.Wrong (ap (λ x. and_then x (moves_to p (laid_next S (suc p) items))) e ∙ ap (λ x. moves_to p x t) k)))
   took_some t e (Some q) k = carried t q e k
 
-  did_some : (x : Option VState) → laid_effect TheSetting S items S ≡ x → CarriesOn T flow ls w r u ⊎ CarriesPast T flow ls w r u
+  did_some : (x : Option VState) → laid_effect TheSetting S items S ≡ x → CarriesOn T flow ls w r u
   did_some None e = absurd (wrong (next_is Hop.Wrong (ap (λ x. and_then x (moves_to p (laid_next S (suc p) items))) e)))
   did_some (Some t) e = took_some t e (laid_next S (suc p) items) refl
 
-  pub planned_word : CarriesOn T flow ls w r u ⊎ CarriesPast T flow ls w r u
+  pub planned_word : CarriesOn T flow ls w r u
   planned_word = did_some (laid_effect TheSetting S items S) refl
 
 pub planned_law : PlannedLaw

@@ -37,6 +37,7 @@ use Rattle.vx_target.specs.Target.{Target, answer, kept, is_slotted, is_branch, 
 use Rattle.vx_target.specs.Tied.{Tied, Shows, Stacked, IsStack, Seated, Waits, Below, Deep, IsResult, waiting_above, seat, Itself, IsShown, back_place, is_place, kind_by, kind_of, holds, word_at}
 use Rattle.vx_target.specs.Carried.{Carries, IsFunctionOf, NeedsSlot, is_spilled, is_saved, Survives}
 use Rattle.vx_tie.specs.Planned.{CarriesOn, EndsAlike}
+use Rattle.vx_tie.proofs.PastTransfers.{one_on}
 use Rattle.vx_tie.specs.Returned.{ReturnLaw}
 use Rattle.vx_target.proofs.Calm.{AllFit, after, not_stuck, effect_is}
 use Rattle.vx_target.proofs.Enough.{some_cluster}
@@ -402,7 +403,8 @@ module _ (T : Target) (flow : Flow) (ls : List VWords) (w : WordProgram) (sound 
       after = After;
       to = C;
       words = forth_c.0;
-      over_values = goes;
+      steps = 0;
+      over_values = one_on flow ls r After goes;
       over_registers = λ k. run_reach (step T.machine (1 ∷ []) w) (λ x. x.out) (suc forth_c.0) k u C forth_c.1;
       tied = record {
         sp = Sp;

@@ -6,7 +6,7 @@ use Rattle.std.proofs.lemmas.Bool.{and_parts, eqb-true}
 use Rattle.std.proofs.lemmas.List.{append-nil}
 use Rattle.vx_base.specs.Outcome.{Outcome, Traps, On, Over, step_then}
 use Rattle.vx_base.specs.declared.outcome.Trap.{Trap}
-use Rattle.vx_base.proofs.Runs.{run_reach, safe_after, safe_end, reach_one}
+use Rattle.vx_base.proofs.Runs.{Reach, run_reach, safe_after, safe_end, reach_one}
 use Rattle.vx_flow.specs.declared.graph.Bank.{Bank}
 use Rattle.vx_flow.specs.declared.graph.Flow.{Flow}
 use Rattle.vx_flow.specs.Effects.{Content, State as VState, Setting, IsIn}
@@ -24,10 +24,11 @@ use Rattle.vx_mixed.specs.declared.layout.VWords.{VWords}
 use Rattle.vx_layout.specs.Laid.{moves, word_hop, laid_hop, some_word_hop, laid_body, laid_program}
 use Rattle.vx_mixed.specs.LaidSettled.{LeadsTo, bank_in}
 use Rattle.vx_regs.specs.Intervals.{IsLive, here, beyond, is_live, word_writes}
-use Rattle.vx_target.specs.Target.{Target, answer, stack_on, kept, is_slotted, holds_branch, same_file, scratch, general_of, branch_of, register_of, slotted, before, follows, turns, one, waits, pause, word_words, memory_words}
+use Rattle.vx_target.specs.Target.{Target, answer, stack_on, kept, is_slotted, holds_branch, same_file, scratch, general_of, branch_of, register_of, slotted, before, past, follows, turns, one, waits, pause, word_words, memory_words}
 use Rattle.vx_target.specs.Tied.{Tied, AtWord, Below, Seated, stack_from, Shows, Itself, holds, kind_of, word_at}
 use Rattle.vx_target.specs.Carried.{Carries, IsFunctionOf, IsMapped, is_spilled}
 use Rattle.vx_tie.specs.Planned.{CarriesOn, EndsAlike, FallsNext, Simple, SimpleLaw}
+use Rattle.vx_tie.proofs.PastTransfers.{Led, led_past, steps_on}
 use Rattle.vx_target.proofs.Calm.{seen, AllFit, after, not_stuck, effect_is}
 use Rattle.vx_target.proofs.Forms.{one_alike}
 use Rattle.vx_target.proofs.FromGraph.{branch_plain, test_proper}
@@ -84,8 +85,22 @@ module _ (T : Target) (flow : Flow) (ls : List VWords) (w : WordProgram) (sound 
     pub link : seen v.registers Link ≡ seen u.registers Link
     pub registers : (y : ℕ) → IsLive (T.layout F) p y → is_slotted (kept T F y) ≡ false → seen v.registers (register_of T F (y ∷ []) y) ≡ seen u.registers (register_of T F (y ∷ []) y)
 
-  tied_on : (q : ℕ) (v : State) → next (laid_program flow ls) r ≡ On (record r { block = suc q }) → LeadsTo p word q → ((y : ℕ) → IsIn y (word_writes word) → ⊥) → KeptBy q v → Tied T flow ls (record r { block = suc q }) v
-  tied_on q v steps leads none k = record {
+  -- steps over values to a place, past transfers perhaps, with nothing written
+  pub record Goes (q : ℕ) : Type 0 where
+    pub steps : ℕ
+    pub over_values : Reach (next (laid_program flow ls)) (suc steps) r (record r { block = suc q })
+    pub live : (y : ℕ) → IsLive (T.layout F) q y → IsLive (T.layout F) p y
+
+  goes_to : (q : ℕ) → next (laid_program flow ls) r ≡ On (record r { block = suc q }) → LeadsTo p word q → ((y : ℕ) → IsIn y (word_writes word) → ⊥) → Goes q
+  goes_to q step leads none = record { steps = 0; over_values = reach_one (next (laid_program flow ls)) r (record r { block = suc q }) step; live = λ y live. beyond plan (none y) leads live }
+
+  goes_past : (q : ℕ) → next (laid_program flow ls) r ≡ On (record r { block = suc q }) → LeadsTo p word q → ((y : ℕ) → IsIn y (word_writes word) → ⊥) → Goes (past T F q)
+  goes_past q step leads none =
+      let led : Led T flow ls r tied.is tied.passed q (past T F q) = led_past T flow ls r tied.is tied.passed q in
+      record { steps = led.steps; over_values = (record r { block = suc q }, step, led.over_values); live = λ y live. beyond plan (none y) leads (led.live y live) }
+
+  tied_on : (q : ℕ) (v : State) → Goes q → KeptBy q v → Tied T flow ls (record r { block = suc q }) v
+  tied_on q v goes k = record {
     sp = tied.sp;
     is = tied.is;
     calm = k.quiet.calm;
@@ -98,19 +113,19 @@ module _ (T : Target) (flow : Flow) (ls : List VWords) (w : WordProgram) (sound 
     below = subst (λ g. Below T flow ls g tied.sp r.waiting) (sym k.memory) tied.below;
     input = k.quiet.input ∙ tied.input;
     out = k.quiet.out ∙ tied.out;
-    safe = safe_after (next (laid_program flow ls)) (λ x. x.state.out) 1 r (record r { block = suc q }) (reach_one (next (laid_program flow ls)) r (record r { block = suc q }) steps) tied.safe;
+    safe = safe_after (next (laid_program flow ls)) (λ x. x.state.out) (suc goes.steps) r (record r { block = suc q }) goes.over_values tied.safe;
   }
     where
       values : (y : ℕ) (n : ℤ) → IsLive (T.layout F) q y → S.values y ≡ Some n → Shows T tied.sp F y n (holds T v tied.sp F y)
-      values y n live e = by (is_slotted (kept T F y)) refl (at_word.values y n (beyond plan (none y) leads live) e)
+      values y n live e = by (is_slotted (kept T F y)) refl (at_word.values y n (goes.live y live) e)
         where
           by : (b : Bool) → is_slotted (kept T F y) ≡ b → Shows T tied.sp F y n (if b then word_at u.memory (tied.sp + T.slot F y) else register u (register_of T F (y ∷ []) y)) → Shows T tied.sp F y n (if b then word_at v.memory (tied.sp + T.slot F y) else register v (register_of T F (y ∷ []) y))
           by true h s = subst (λ x. Shows T tied.sp F y n x) (sym (ap (λ g. word_at g (tied.sp + T.slot F y)) k.memory)) s
-          by false h s = subst (λ x. Shows T tied.sp F y n x) (sym (k.registers y (beyond plan (none y) leads live) h)) s
+          by false h s = subst (λ x. Shows T tied.sp F y n x) (sym (k.registers y (goes.live y live) h)) s
 
   -- to the next place, where no word stands between
-  fallen : (q : ℕ) → q ≡ suc p → next (laid_program flow ls) r ≡ On (record r { block = suc q }) → LeadsTo p word q → ((y : ℕ) → IsIn y (word_writes word) → ⊥) → T.starts F (suc p) ≡ u.place + 0 → FallsNext T flow ls p r u
-  fallen q behind steps leads none next_place =
+  fallen : (q : ℕ) → q ≡ suc p → Goes q → T.starts F (suc p) ≡ u.place + 0 → FallsNext T flow ls p r u
+  fallen q behind goes next_place =
       let here : u.place ≡ u.place + 0 = omega arith in
       let kept_here : KeptBy q u = record {
         place = here ∙ sym next_place ∙ ap (T.starts F) (sym behind);
@@ -120,19 +135,20 @@ module _ (T : Target) (flow : Flow) (ls : List VWords) (w : WordProgram) (sound 
         link = refl;
         registers = λ y l h. refl;
       } in record {
-        falls = record { after = record r { block = suc q }; place = q; block = refl; over_values = steps; tied = tied_on q u steps leads none kept_here };
+        falls = record { after = record r { block = suc q }; place = q; block = refl; steps = goes.steps; over_values = steps_on flow ls (suc goes.steps) r (record r { block = suc q }) goes.over_values; tied = tied_on q u goes kept_here };
         place = behind;
         function = refl;
       }
 
-  moved_on : (q : ℕ) (v : State) → next (laid_program flow ls) r ≡ On (record r { block = suc q }) → LeadsTo p word q → ((y : ℕ) → IsIn y (word_writes word) → ⊥) → Forth T.machine w fit u v → KeptBy q v → CarriesOn T flow ls w r u
-  moved_on q v steps leads none forth k = record {
+  moved_on : (q : ℕ) (v : State) → Goes q → Forth T.machine w fit u v → KeptBy q v → CarriesOn T flow ls w r u
+  moved_on q v goes forth k = record {
     after = record r { block = suc q };
     to = v;
+    steps = goes.steps;
     words = forth.0;
-    over_values = steps;
+    over_values = steps_on flow ls (suc goes.steps) r (record r { block = suc q }) goes.over_values;
     over_registers = λ n. run_reach (step T.machine (1 ∷ []) w) (λ x. x.out) (suc forth.0) n u v forth.1;
-    tied = tied_on q v steps leads none k;
+    tied = tied_on q v goes k;
   }
 
   passed_on : (q : ℕ) (v : Passed T.machine w fit u (T.starts F q)) → KeptBy q v.to
@@ -150,38 +166,38 @@ module _ (T : Target) (flow : Flow) (ls : List VWords) (w : WordProgram) (sound 
   drain_word : (n : ℕ) → slice_get (T.layout r.function).words p ≡ Some (Drain n) → CarriesOn T flow ls w r u ⊎ FallsNext T flow ls p r u
   drain_word n plan = by (turns T r.function (p + 1)) (n - 1) (stands T flow ls w sound carries fit r u tied p (Drain n) block plan) (following T flow ls w sound carries fit r u tied p (Drain n) block plan)
     where
-      steps : next (laid_program flow ls) r ≡ On (record r { block = suc (suc p) })
-      steps = next_is T flow ls w sound carries fit r u tied p (Drain n) block plan (moves p (suc p) r.state) refl
+      on : Goes T flow ls w sound carries fit r u tied p (Drain n) block plan (suc p)
+      on = goes_to T flow ls w sound carries fit r u tied p (Drain n) block plan (suc p) (next_is T flow ls w sound carries fit r u tied p (Drain n) block plan (moves p (suc p) r.state) refl) refl (λ y i. i)
 
       waited : (k : ℕ) → slice_get w.words u.place ≡ Some (waits k) → T.starts r.function (suc p) ≡ u.place + 1 → CarriesOn T flow ls w r u
       waited k at next_place =
           let a = wait_step T.machine w fit u k tied.calm at in
           let b : Passed T.machine w fit u (T.starts r.function (suc p)) = subst (Passed T.machine w fit u) (sym next_place) a in
-          moved_on T flow ls w sound carries fit r u tied p (Drain n) block plan (suc p) b.to steps refl (λ y i. i) b.forth (passed_on T flow ls w sound carries fit r u tied p (Drain n) block plan (suc p) b)
+          moved_on T flow ls w sound carries fit r u tied p (Drain n) block plan (suc p) b.to on b.forth (passed_on T flow ls w sound carries fit r u tied p (Drain n) block plan (suc p) b)
 
       by : (b : Bool) (k : ℕ) → Stands w.words u.place (if b then pause k else waits n ∷ []) → T.starts r.function (suc p) ≡ u.place + length (if b then pause k else waits n ∷ []) → CarriesOn T flow ls w r u ⊎ FallsNext T flow ls p r u
-      by true zero st next_place = inr (fallen T flow ls w sound carries fit r u tied p (Drain n) block plan (suc p) refl steps refl (λ y i. i) next_place)
+      by true zero st next_place = inr (fallen T flow ls w sound carries fit r u tied p (Drain n) block plan (suc p) refl on next_place)
       by true (suc k) st next_place = inl (waited (suc k) st.0 next_place)
       by false k st next_place = inl (waited n st.0 next_place)
 
   -- a transfer to the next place may have no word
   transfer_word : (q : ℕ) → slice_get (T.layout r.function).words p ≡ Some (Transfer q) → CarriesOn T flow ls w r u ⊎ FallsNext T flow ls p r u
-  transfer_word q plan = by (follows T r.function (p + 1) q) refl (stands T flow ls w sound carries fit r u tied p (Transfer q) block plan) (following T flow ls w sound carries fit r u tied p (Transfer q) block plan)
+  transfer_word q plan = by (follows T r.function (p + 1) (past T r.function q)) refl (stands T flow ls w sound carries fit r u tied p (Transfer q) block plan) (following T flow ls w sound carries fit r u tied p (Transfer q) block plan)
     where
       Way : Bool → List Word
-      Way b = if b then [] else one (Goto (T.starts r.function q)) ∷ []
+      Way b = if b then [] else one (Goto (T.starts r.function (past T r.function q))) ∷ []
 
-      steps : next (laid_program flow ls) r ≡ On (record r { block = suc q })
-      steps = next_is T flow ls w sound carries fit r u tied p (Transfer q) block plan (moves p q r.state) refl
+      on : Goes T flow ls w sound carries fit r u tied p (Transfer q) block plan (past T r.function q)
+      on = goes_past T flow ls w sound carries fit r u tied p (Transfer q) block plan q (next_is T flow ls w sound carries fit r u tied p (Transfer q) block plan (moves p q r.state) refl) refl (λ y i. i)
 
-      by : (b : Bool) → follows T r.function (p + 1) q ≡ b → Stands w.words u.place (Way b) → T.starts r.function (suc p) ≡ u.place + length (Way b) → CarriesOn T flow ls w r u ⊎ FallsNext T flow ls p r u
+      by : (b : Bool) → follows T r.function (p + 1) (past T r.function q) ≡ b → Stands w.words u.place (Way b) → T.starts r.function (suc p) ≡ u.place + length (Way b) → CarriesOn T flow ls w r u ⊎ FallsNext T flow ls p r u
       by true e st next_place =
-          let same : p + 1 ≡ q = eqb-true (p + 1) q (and_parts _ _ e).0 in
-          let behind : q ≡ suc p = omega arith in
-          inr (fallen T flow ls w sound carries fit r u tied p (Transfer q) block plan q behind steps refl (λ y i. i) next_place)
+          let same : p + 1 ≡ (past T r.function q) = eqb-true (p + 1) (past T r.function q) (and_parts _ _ e).0 in
+          let behind : (past T r.function q) ≡ suc p = omega arith in
+          inr (fallen T flow ls w sound carries fit r u tied p (Transfer q) block plan (past T r.function q) behind on next_place)
       by false e st next_place =
-          let a = goto_step T.machine w fit u (T.starts r.function q) tied.calm st.0 in
-          inl (moved_on T flow ls w sound carries fit r u tied p (Transfer q) block plan q a.to steps refl (λ y i. i) a.forth (passed_on T flow ls w sound carries fit r u tied p (Transfer q) block plan q a))
+          let a = goto_step T.machine w fit u (T.starts r.function (past T r.function q)) tied.calm st.0 in
+          inl (moved_on T flow ls w sound carries fit r u tied p (Transfer q) block plan (past T r.function q) a.to on a.forth (passed_on T flow ls w sound carries fit r u tied p (Transfer q) block plan (past T r.function q) a))
 
   -- an end by a trap
   ends_word : (k : Trap) → slice_get (T.layout r.function).words p ≡ Some (Ends k) → EndsAlike T flow ls w r u
@@ -224,6 +240,9 @@ module _ (T : Target) (flow : Flow) (ls : List VWords) (w : WordProgram) (sound 
 
   abbrev Name : List ℕ
   Name = test ∷ []
+
+  abbrev Arrives : ℕ
+  Arrives = past T Fn q
 
   its : IsFunctionOf T flow ls Fn
   its = of T flow ls w sound carries fit r u tied p (Choice test q) block plan
@@ -269,11 +288,11 @@ module _ (T : Target) (flow : Flow) (ls : List VWords) (w : WordProgram) (sound 
   slot_inside : is_slotted (kept T Fn test) ≡ true → tied.sp + T.slot Fn test < memory_words T
   slot_inside e = let a = its.framed.slot_to test (is_spilled p (is_live live) e) in let b = frame_room T flow carries.some_frame carries.globals sound tied.sp (length r.waiting) tied.deep in omega arith
 
-  word_at_it : Stands w.words u.place (before T Fn Name ++ one (BranchOn (branch_of T Fn Name test) true (T.starts Fn q)) ∷ [])
+  word_at_it : Stands w.words u.place (before T Fn Name ++ one (BranchOn (branch_of T Fn Name test) true (T.starts Fn Arrives)) ∷ [])
   word_at_it = stands T flow ls w sound carries fit r u tied p (Choice test q) block plan
 
   got : Loaded T.machine w fit T Fn tied.sp carries.memory small some Name u (slotted T Fn Name) (length (before T Fn Name))
-  got = once_case T.machine w fit T Fn tied.sp carries.memory small some Name (slotted T Fn Name) u tied.calm (stands_left w.words u.place (before T Fn Name) (one (BranchOn (branch_of T Fn Name test) true (T.starts Fn q)) ∷ []) word_at_it) tied.stack
+  got = once_case T.machine w fit T Fn tied.sp carries.memory small some Name (slotted T Fn Name) u tied.calm (stands_left w.words u.place (before T Fn Name) (one (BranchOn (branch_of T Fn Name test) true (T.starts Fn Arrives)) ∷ []) word_at_it) tied.stack
       (λ v i. let e = is_test v (slotted_from T Fn v Name i).0 in subst (Usable T.machine w fit T Fn tied.sp carries.memory small some Name) (sym e) test_usable)
       (λ v i. let k = slotted_from T Fn v Name i in let e = is_test v k.0 in subst (λ x. tied.sp + T.slot Fn x < memory_words T) (sym e) (slot_inside (ap (λ x. is_slotted (kept T Fn x)) (sym e) ∙ k.1)))
       (λ x y i j ne. absurd (ne (is_test x (slotted_from T Fn x Name i).0 ∙ sym (is_test y (slotted_from T Fn y Name j).0))))
@@ -289,15 +308,15 @@ module _ (T : Target) (flow : Flow) (ls : List VWords) (w : WordProgram) (sound 
       by false h k = subst (λ x. Shows T tied.sp Fn test n x) (sym (got.others (register_of T Fn Name test) (λ v i. absurd (let c = slotted_from T Fn v Name i in let z : is_slotted (kept T Fn test) ≡ true = ap (λ x. is_slotted (kept T Fn x)) (sym (is_test v c.0)) ∙ c.1 in let y : true ≡ false = sym z ∙ h in cc)) test_usable.not_answer)) k
 
   abbrev Jump : Word
-  Jump = one (BranchOn (branch_of T Fn Name test) true (T.starts Fn q))
+  Jump = one (BranchOn (branch_of T Fn Name test) true (T.starts Fn Arrives))
 
   jump_at : slice_get w.words got.to.place ≡ Some Jump
   jump_at = subst (λ x. slice_get w.words x ≡ Some Jump) (sym got.place) (stands_right w.words u.place (before T Fn Name) (Jump ∷ []) word_at_it).0
 
-  jumped : (place : ℕ) → lead_of got.to (BranchOn (branch_of T Fn Name test) true (T.starts Fn q) ∷ []) ≡ To place → Forth T.machine w fit u (after w got.to Jump place)
+  jumped : (place : ℕ) → lead_of got.to (BranchOn (branch_of T Fn Name test) true (T.starts Fn Arrives) ∷ []) ≡ To place → Forth T.machine w fit u (after w got.to Jump place)
   jumped place lead = then_forth T.machine w fit u got.to (after w got.to Jump place) got.comes (word_step T.machine w fit got.to Jump place got.quiet.calm jump_at (record { addresses = refl; input = refl }) lead)
 
-  kept_by : (place c : ℕ) → place ≡ T.starts Fn c → lead_of got.to (BranchOn (branch_of T Fn Name test) true (T.starts Fn q) ∷ []) ≡ To place → KeptBy T flow ls w sound carries fit r u tied p (Choice test q) block plan c (after w got.to Jump place)
+  kept_by : (place c : ℕ) → place ≡ T.starts Fn c → lead_of got.to (BranchOn (branch_of T Fn Name test) true (T.starts Fn Arrives) ∷ []) ≡ To place → KeptBy T flow ls w sound carries fit r u tied p (Choice test q) block plan c (after w got.to Jump place)
   kept_by place c at lead = record {
     place = at;
     quiet = record { calm = refl; input = got.quiet.input; out = append-nil got.to.out ∙ got.quiet.out };
@@ -317,17 +336,17 @@ module _ (T : Target) (flow : Flow) (ls : List VWords) (w : WordProgram) (sound 
 
   chosen : (z : ℤ) → r.state.values test ≡ Some z → (b : Bool) → is_one z ≡ b → CarriesOn T flow ls w r u
   chosen z e true o =
-      let lead : lead_of got.to (BranchOn (branch_of T Fn Name test) true (T.starts Fn q) ∷ []) ≡ To (T.starts Fn q) = ap (λ x. if is_one x then To (T.starts Fn q) else To (got.to.place + 1)) (shown z e) ∙ ap (λ b. if b then To (T.starts Fn q) else To (got.to.place + 1)) o in
-      moved_on T flow ls w sound carries fit r u tied p (Choice test q) block plan q (after w got.to Jump (T.starts Fn q))
-      (steps (moves p q r.state) (ap Hops e ∙ ap (λ b. if b then moves p q r.state else moves p (suc p) r.state) (one_alike z ∙ o))) (inl refl) (λ y i. i) (jumped (T.starts Fn q) lead) (kept_by (T.starts Fn q) q refl lead)
+      let on = goes_past T flow ls w sound carries fit r u tied p (Choice test q) block plan q (steps (moves p q r.state) (ap Hops e ∙ ap (λ b. if b then moves p q r.state else moves p (suc p) r.state) (one_alike z ∙ o))) (inl refl) (λ y i. i) in
+      let lead : lead_of got.to (BranchOn (branch_of T Fn Name test) true (T.starts Fn Arrives) ∷ []) ≡ To (T.starts Fn Arrives) = ap (λ x. if is_one x then To (T.starts Fn Arrives) else To (got.to.place + 1)) (shown z e) ∙ ap (λ b. if b then To (T.starts Fn Arrives) else To (got.to.place + 1)) o in
+      moved_on T flow ls w sound carries fit r u tied p (Choice test q) block plan Arrives (after w got.to Jump (T.starts Fn Arrives)) on (jumped (T.starts Fn Arrives) lead) (kept_by (T.starts Fn Arrives) Arrives refl lead)
   chosen z e false o =
-      let lead : lead_of got.to (BranchOn (branch_of T Fn Name test) true (T.starts Fn q) ∷ []) ≡ To (got.to.place + 1) = ap (λ x. if is_one x then To (T.starts Fn q) else To (got.to.place + 1)) (shown z e) ∙ ap (λ b. if b then To (T.starts Fn q) else To (got.to.place + 1)) o in
+      let on = goes_to T flow ls w sound carries fit r u tied p (Choice test q) block plan (suc p) (steps (moves p (suc p) r.state) (ap Hops e ∙ ap (λ b. if b then moves p q r.state else moves p (suc p) r.state) (one_alike z ∙ o))) (inr refl) (λ y i. i) in
+      let lead : lead_of got.to (BranchOn (branch_of T Fn Name test) true (T.starts Fn Arrives) ∷ []) ≡ To (got.to.place + 1) = ap (λ x. if is_one x then To (T.starts Fn Arrives) else To (got.to.place + 1)) (shown z e) ∙ ap (λ b. if b then To (T.starts Fn Arrives) else To (got.to.place + 1)) o in
       let f = following T flow ls w sound carries fit r u tied p (Choice test q) block plan in
       let len : length (before T Fn Name ++ Jump ∷ []) ≡ length (before T Fn Name) + 1 = length-append (before T Fn Name) (Jump ∷ []) in
       let g = got.place in
       let at : got.to.place + 1 ≡ T.starts Fn (suc p) = omega arith in
-      moved_on T flow ls w sound carries fit r u tied p (Choice test q) block plan (suc p) (after w got.to Jump (got.to.place + 1))
-      (steps (moves p (suc p) r.state) (ap Hops e ∙ ap (λ b. if b then moves p q r.state else moves p (suc p) r.state) (one_alike z ∙ o))) (inr refl) (λ y i. i) (jumped (got.to.place + 1) lead) (kept_by (got.to.place + 1) (suc p) at lead)
+      moved_on T flow ls w sound carries fit r u tied p (Choice test q) block plan (suc p) (after w got.to Jump (got.to.place + 1)) on (jumped (got.to.place + 1) lead) (kept_by (got.to.place + 1) (suc p) at lead)
 
   known : (x : Content) → r.state.values test ≡ x → CarriesOn T flow ls w r u
   known None e = absurd (safe_end (next (laid_program flow ls)) (λ x. x.state.out) r (Outcome.Wrong r.state.out) (steps Hop.Wrong (ap Hops e)) tied.safe tt)

@@ -1,5 +1,5 @@
 -- The words that carry a flow are sound: short pauses, operations of their form, and places, functions and texts that are there.
-use Rattle.std.proofs.Common.{◌≡◌, ◌<◌, ◌≤◌, ◌⊎◌, inl, inr, ⊎_elim, ◌+◌, ◌-◌, ◌*◌, ◌%◌, ◌==◌, ◌||◌, ℕ, zero, suc, ℤ, pos, neg_ℤ, Bool, true, false, Option, Some, None, List, [], ◌∷◌, ◌++◌, length, length-append, map, refl, sym, ap, subst, arith}
+use Rattle.std.proofs.Common.{◌≡◌, ◌<◌, ◌≤◌, ◌⊎◌, inl, inr, ⊎_elim, ◌+◌, ◌-◌, ◌*◌, ◌%◌, ◌==◌, ◌&&◌, ◌||◌, ℕ, zero, suc, ℤ, pos, neg_ℤ, Bool, true, false, Option, Some, None, List, [], ◌∷◌, ◌++◌, length, length-append, map, refl, sym, ap, subst, arith}
 use Rattle.std.specs.Prelude.{if◌then◌else◌, slice_get}
 use Rattle.std.specs.List.{list_all}
 use Rattle.std.specs.Cmp.Derive.{both_true}
@@ -27,6 +27,7 @@ use Rattle.vx_isa.specs.declared.operation.Operation.TheVariants.{Compute, Move,
 use Rattle.vx_isa.specs.declared.program.Word.{Word}
 use Rattle.vx_isa.specs.declared.program.WordProgram.{WordProgram}
 use Rattle.vx_isa.specs.Fits.{fits}
+use Rattle.vx_isa.specs.Operations.{latency_of}
 use Rattle.vx_isa.specs.Sound.{is_start, is_sound, is_sound_word}
 use Rattle.vx_isa.proofs.FitsLaw.{six_parts}
 use Rattle.vx_machine.specs.Needs.{FitsByRoom}
@@ -38,7 +39,7 @@ use Rattle.vx_mixed.specs.declared.layout.VirtualWord.TheVariants.{Planned, Drai
 use Rattle.vx_mixed.specs.declared.layout.VWords.{VWords}
 use Rattle.vx_mixed.specs.LaidSettled.{laid_reads, laid_writes, LeadsTo, Plans}
 use Rattle.vx_layout.specs.Origins.{ComesFrom, graph_op}
-use Rattle.vx_target.specs.Target.{Target, answer, general, general_of, branch_of, register_of, stack_on, holds_branch, is_slotted, kept, slotted, once, parameters_of, one, together, pause, in_flight, settled, set_stack, slots_in_flight, load_slot, store_slot, load_slots, store_slots, if_some, before, behind, past, leads, carried, carried_items, plan_word, plan_words, landing_words, on_clusters, move_stack, save_words, reload_words, fetch_words, fetched, cluster_of_operand, argument_words, result_words, call_words, back_words, is_caller, answer_words, return_words, follows, way, link_words, entry_words, turns, idle_words, word_words, start_words, waits, bytes, first_frame, memory_words}
+use Rattle.vx_target.specs.Target.{Target, answer, general, general_of, branch_of, register_of, stack_on, holds_branch, is_slotted, kept, slotted, once, parameters_of, one, together, pause, in_flight, settled, set_stack, slots_in_flight, load_slot, store_slot, load_slots, store_slots, if_some, before, behind, past, leads, carried, carried_items, plan_word, plan_words, landing_words, on_clusters, move_stack, save_words, reload_words, fetch_words, fetched, cluster_of_operand, argument_words, result_words, call_words, back_words, is_caller, answer_words, last_beside, leave_words, return_words, follows, way, link_words, entry_words, turns, idle_words, word_words, start_words, waits, bytes, first_frame, memory_words}
 use Rattle.vx_target.specs.Placed.{Depth, Labelled, laid_pieces, landing_of, item_landings, word_landings, landing_pieces, function_pieces, functions_pieces, all_pieces, words_of}
 use Rattle.vx_target.specs.Carried.{Carries, IsFunctionOf, IsMapped, item_of_laid}
 use Rattle.vx_tie.specs.Fitted.{SoundLaw}
@@ -69,9 +70,23 @@ some_before xs ys le = let a = length-append xs ys in omega arith
 some_after : (xs ys : List Word) → 1 ≤ length ys → 1 ≤ length (xs ++ ys)
 some_after xs ys le = let a = length-append xs ys in omega arith
 
--- a place of a layout has words, or another one follows at once
+-- a place of a layout has words, or it leads to the next one, past transfers perhaps
 abbrev HasWords : (T : Target) (f p : ℕ) → VirtualWord → Type 0
-HasWords T f p word = (1 ≤ length (word_words T f p word)) ⊎ ((length (word_words T f p word) ≡ 0) × LeadsTo p word (p + 1))
+HasWords T f p word = (1 ≤ length (word_words T f p word)) ⊎ ((length (word_words T f p word) ≡ 0) × (q : ℕ) × LeadsTo p word q × ((q ≡ p + 1) ⊎ (past T f q ≡ p + 1)))
+
+beside_some : (T : Target) (a b : Operation) → 1 ≤ length (last_beside T a b)
+beside_some T a b = by ((latency_of T.machine a == 1) && fits T.machine (a ∷ b ∷ []))
+  where
+    by : (c : Bool) → 1 ≤ length (if c then record { ops = a ∷ b ∷ []; idle = 0 } ∷ [] else settled T (one a ∷ []) ++ one b ∷ [])
+    by true = omega arith
+    by false = some_behind (settled T (one a ∷ [])) [] (one b)
+
+leave_some : (T : Target) (f : ℕ) (x : Operand) → 1 ≤ length (leave_words T f x)
+leave_some T f x = by (is_caller T f)
+  where
+    by : (b : Bool) → 1 ≤ length (if b then answer_words T f x ++ one Return ∷ [] else last_beside T (Move 0 answer (fetched T f x)) Return)
+    by true = some_behind (answer_words T f x) [] (one Return)
+    by false = beside_some T (Move 0 answer (fetched T f x)) Return
 
 words_some : (T : Target) (f p : ℕ) (word : VirtualWord) → HasWords T f p word
 words_some T f p (Planned rg wd items) = inl (some_behind (before T f (laid_reads items)) (behind T f items) (plan_word T f p items))
@@ -80,19 +95,19 @@ words_some T f p (Drain n) = by (turns T f (p + 1)) (n - 1)
     next : p + 1 ≡ suc p
     next = omega arith
 
-    by : (b : Bool) (k : ℕ) → (1 ≤ length (if b then pause k else waits n ∷ [])) ⊎ ((length (if b then pause k else waits n ∷ []) ≡ 0) × LeadsTo p (Drain n) (p + 1))
-    by true zero = inr (refl, next)
+    by : (b : Bool) (k : ℕ) → (1 ≤ length (if b then pause k else waits n ∷ [])) ⊎ ((length (if b then pause k else waits n ∷ []) ≡ 0) × (q : ℕ) × LeadsTo p (Drain n) q × ((q ≡ p + 1) ⊎ (past T f q ≡ p + 1)))
+    by true zero = inr (refl, p + 1, next, inl refl)
     by true (suc k) = inl (omega arith)
     by false k = inl (omega arith)
-words_some T f p (Transfer q) = by (follows T f (p + 1) q) refl
+words_some T f p (Transfer q) = by (follows T f (p + 1) (past T f q)) refl
   where
-    by : (b : Bool) → follows T f (p + 1) q ≡ b → (1 ≤ length (if b then [] else one (Goto (T.starts f q)) ∷ [])) ⊎ ((length (if b then [] else one (Goto (T.starts f q)) ∷ []) ≡ 0) × LeadsTo p (Transfer q) (p + 1))
-    by true e = inr (refl, eqb-true (p + 1) q (and_parts _ _ e).0)
+    by : (b : Bool) → follows T f (p + 1) (past T f q) ≡ b → (1 ≤ length (if b then [] else one (Goto (T.starts f (past T f q))) ∷ [])) ⊎ ((length (if b then [] else one (Goto (T.starts f (past T f q))) ∷ []) ≡ 0) × (d : ℕ) × LeadsTo p (Transfer q) d × ((d ≡ p + 1) ⊎ (past T f d ≡ p + 1)))
+    by true e = inr (refl, q, refl, inr (sym (eqb-true (p + 1) (past T f q) (and_parts _ _ e).0)))
     by false e = inl (omega arith)
-words_some T f p (Choice test q) = inl (some_behind (before T f (test ∷ [])) [] (one (BranchOn (branch_of T f (test ∷ []) test) true (T.starts f q))))
+words_some T f p (Choice test q) = inl (some_behind (before T f (test ∷ [])) [] (one (BranchOn (branch_of T f (test ∷ []) test) true (T.starts f (past T f q)))))
 words_some T f p (Calls g arguments result) =
     inl (some_before (call_words T f p g arguments) (back_words T f p result) (omega arith))
-words_some T f p (Returns x) = inl (some_after (fetch_words T f 0 x) (answer_words T f x ++ one Return ∷ []) (some_behind (answer_words T f x) [] (one Return)))
+words_some T f p (Returns x) = inl (some_after (fetch_words T f 0 x) (leave_words T f x) (leave_some T f x))
 words_some T f p (Ends k) = inl (omega arith)
 
 landing_some : (T : Target) (f q : ℕ) (items : List Laid) → 1 ≤ length (landing_words T f items q)
@@ -172,7 +187,9 @@ module _ (T : Target) (flow : Flow) (ls : List VWords) (w : WordProgram) (sound 
       let x = get_some (T.layout f).words q below in
       ⊎_elim
       (λ some. stands_below w.words (T.starts f q) (word_words T f q x.0) some (word_stands T flow.main Count w.words carries.placed f q x.0 lt x.1))
-      (λ none. (let inside = (carries.functions f lt).mapped.settled.inside q (q + 1) x.0 x.1 none.1 in
+      (λ none. (let within = (carries.functions f lt).mapped.settled.inside in
+      let led : none.1 < length (T.layout f).words = within q none.1 x.0 x.1 none.2 in
+      let inside : q + 1 < length (T.layout f).words = ⊎_elim (λ e. subst (λ n. n < length (T.layout f).words) e led) (λ e. subst (λ n. n < length (T.layout f).words) e (past_below T f within none.1 led)) none.3 in
       let next : T.starts f (suc q) < W = start_within f (suc q) k lt (omega arith) (omega arith) in
       let place = word_next T flow.main Count w.words carries.placed f q x.0 lt x.1 in
       let length_is = none.0 in omega arith))
@@ -305,20 +322,29 @@ module _ (T : Target) (flow : Flow) (ls : List VWords) (w : WordProgram) (sound 
       by false = (has_one W N a ga, (has_one W N b gb, tt))
 
   answer_right : (f : ℕ) (x : Operand) → Words (answer_words T f x)
-  answer_right f x = by (is_caller T f)
+  answer_right f x =
+      let move : Operation = Move 0 answer (fetched T f x) in
+      let load : Operation = Load 0 (general 0 3) (pos 0) (stack_on 0) false in
+      let link : Operation = ToLink (Held (general 0 3)) in
+      let loads : List Word = together T.machine move load in
+      right_append W N (settled T loads) (settled T (one link ∷ [])) (settled_right loads (together_right move load tt tt)) (settled_right (one link ∷ []) (has_one W N link tt, tt))
+
+  beside_right : (a b : Operation) → Is a → Is b → Words (last_beside T a b)
+  beside_right a b ga gb = by ((latency_of T.machine a == 1) && fits T.machine (a ∷ b ∷ []))
     where
-      by : (b : Bool) → Words (if b then settled T (together T.machine (Move 0 answer (fetched T f x)) (Load 0 (general 0 3) (pos 0) (stack_on 0) false)) ++ settled T (one (ToLink (Held (general 0 3))) ∷ []) else settled T (one (Move 0 answer (fetched T f x)) ∷ []))
-      by true =
-          let move : Operation = Move 0 answer (fetched T f x) in
-          let load : Operation = Load 0 (general 0 3) (pos 0) (stack_on 0) false in
-          let link : Operation = ToLink (Held (general 0 3)) in
-          let loads : List Word = together T.machine move load in
-          right_append W N (settled T loads) (settled T (one link ∷ [])) (settled_right loads (together_right move load tt tt)) (settled_right (one link ∷ []) (has_one W N link tt, tt))
-      by false = settled_right (one (Move 0 answer (fetched T f x)) ∷ []) (has_one W N (Move 0 answer (fetched T f x)) tt, tt)
+      by : (c : Bool) → Words (if c then record { ops = a ∷ b ∷ []; idle = 0 } ∷ [] else settled T (one a ∷ []) ++ one b ∷ [])
+      by true = (has_ops W N (a ∷ b ∷ []) (ga, (gb, tt)), tt)
+      by false = one_settled a (one b ∷ []) ga (has_one W N b gb, tt)
+
+  leave_right : (f : ℕ) (x : Operand) → Words (leave_words T f x)
+  leave_right f x = by (is_caller T f)
+    where
+      by : (b : Bool) → Words (if b then answer_words T f x ++ one Return ∷ [] else last_beside T (Move 0 answer (fetched T f x)) Return)
+      by true = right_append W N (answer_words T f x) (one Return ∷ []) (answer_right f x) (has_one W N Return tt, tt)
+      by false = beside_right (Move 0 answer (fetched T f x)) Return tt tt
 
   return_right : (f : ℕ) (x : Operand) → Words (return_words T f x)
-  return_right f x = right_append W N (fetch_words T f 0 x) (answer_words T f x ++ one Return ∷ []) (fetch_right f 0 x)
-      (right_append W N (answer_words T f x) (one Return ∷ []) (answer_right f x) (has_one W N Return tt, tt))
+  return_right f x = right_append W N (fetch_words T f 0 x) (leave_words T f x) (fetch_right f 0 x) (leave_right f x)
 
   link_right : (f : ℕ) → Words (link_words T f)
   link_right f = by (is_caller T f)
@@ -359,10 +385,10 @@ module _ (T : Target) (flow : Flow) (ls : List VWords) (w : WordProgram) (sound 
 
     entry_right : Words (entry_words T f)
     entry_right =
-        let goes : List Word = way T f 0 (T.layout f).entry in
+        let goes : List Word = way T f 0 (past T f (T.layout f).entry) in
         let loads : List Word = load_slots T f (T.brought f) (T.brought f) in
         let begins : List Word = loads ++ link_words T f in
-        right_append W N (settled T begins) goes (settled_right begins (right_append W N loads (link_words T f) (load_slots_right f (T.brought f) (T.brought f)) (link_right f))) (way_right 0 (T.layout f).entry mapped.settled.entry)
+        right_append W N (settled T begins) goes (settled_right begins (right_append W N loads (link_words T f) (load_slots_right f (T.brought f) (T.brought f)) (link_right f))) (way_right 0 (past T f (T.layout f).entry) (past_below T f mapped.settled.inside (T.layout f).entry mapped.settled.entry))
 
     module _ (p rg wd : ℕ) (items : List Laid) (plan : HasWordAt p (Planned rg wd items)) where
       plans : Plans (T.layout f) p items
@@ -456,8 +482,8 @@ module _ (T : Target) (flow : Flow) (ls : List VWords) (w : WordProgram) (sound 
     word_right : (p : ℕ) (word : VirtualWord) → HasWordAt p word → Words (word_words T f p word)
     word_right p (Planned rg wd items) e = planned_right p rg wd items e
     word_right p (Drain n) e = idle_right p n e
-    word_right p (Transfer q) e = way_right (p + 1) q (mapped.settled.inside p q (Transfer q) e refl)
-    word_right p (Choice test q) e = right_append W N (before T f (test ∷ [])) (one (BranchOn (branch_of T f (test ∷ []) test) true (T.starts f q)) ∷ []) (before_right f (test ∷ [])) (has_one W N (BranchOn (branch_of T f (test ∷ []) test) true (T.starts f q)) (start_below f q lt (mapped.settled.inside p q (Choice test q) e (inl refl))), tt)
+    word_right p (Transfer q) e = way_right (p + 1) (past T f q) (past_below T f mapped.settled.inside q (mapped.settled.inside p q (Transfer q) e refl))
+    word_right p (Choice test q) e = right_append W N (before T f (test ∷ [])) (one (BranchOn (branch_of T f (test ∷ []) test) true (T.starts f (past T f q))) ∷ []) (before_right f (test ∷ [])) (has_one W N (BranchOn (branch_of T f (test ∷ []) test) true (T.starts f (past T f q))) (past_start q (mapped.settled.inside p q (Choice test q) e (inl refl))), tt)
     word_right p (Calls g arguments result) e = right_append W N (call_words T f p g arguments) (back_words T f p result) (call_right f p g arguments (called_below p g arguments result e)) (back_right f p result)
     word_right p (Returns x) e = return_right f x
     word_right p (Ends k) e = (has_one W N (EndByTrap k) tt, tt)

@@ -1,7 +1,7 @@
 -- The step laws together: with every input the words do what the laid-out words do.
 use Rattle.std.proofs.Common.{◌≡◌, ◌≤◌, ◌⊎◌, inl, inr, ⊎_elim, ◌+◌, ℕ, zero, suc, ℤ, Option, Some, None, List, [], ◌∷◌, length, true, refl, sym, ap, ◌∙◌, subst, arith}
 use Rattle.std.specs.Prelude.{slice_get}
-use Rattle.vx_base.specs.Outcome.{Outcome, Goes, Same, NeverFails, On, Over, step_then, run}
+use Rattle.vx_base.specs.Outcome.{Outcome, Goes, Same, NeverFails, Over, step_then, run}
 use Rattle.vx_base.proofs.Meeting.{MeetsAt, Far, Done, meeting_same}
 use Rattle.vx_base.proofs.Runs.{run_steady, safe_end}
 use Rattle.vx_flow.specs.declared.graph.Flow.{Flow}
@@ -18,7 +18,7 @@ use Rattle.vx_layout.proofs.LaidGrows.{laid_grows}
 use Rattle.vx_target.specs.Target.{Target}
 use Rattle.vx_target.specs.Tied.{Tied, AtWord, AtEntry}
 use Rattle.vx_target.specs.Carried.{Carries, WordsFit}
-use Rattle.vx_tie.specs.Planned.{CarriesOn, CarriesPast, FallsThrough, FallsNext, EndsAlike, StartsTied}
+use Rattle.vx_tie.specs.Planned.{CarriesOn, FallsThrough, FallsNext, EndsAlike, StartsTied}
 use Rattle.vx_tie.specs.Whole.{WholeLaw}
 use Rattle.vx_tie.proofs.Calls.{call_law}
 use Rattle.vx_tie.proofs.Entry.{entry_law}
@@ -49,50 +49,43 @@ module _ (T : Target) (flow : Flow) (ls : List VWords) (w : WordProgram) (sound 
       ∙ ap (λ z. laid_hop (setting_with P z r.base) (T.layout r.function) r.block r.state) tied.passed ∙ ap (λ b. laid_hop (setting_of P r.base) (T.layout r.function) b r.state) block ∙ ap (λ y. some_word_hop (setting_of P r.base) p y r.state) plan) in
       safe_end (next P) (λ q. q.state.out) r (Outcome.Wrong r.state.out) steps tied.safe tt
 
-  simple : (r : Active) (u : State) (p : ℕ) → Meets r u ⊎ FallsNext T flow ls p r u → (Meets r u ⊎ CarriesPast T flow ls w r u) ⊎ FallsNext T flow ls p r u
-  simple r u p (inl m) = inl (inl m)
-  simple r u p (inr f) = inr f
-
-  at_place : (r : Active) (u : State) → Tied T flow ls r u → (p : ℕ) → r.block ≡ suc p → (o : Option VirtualWord) → slice_get (T.layout r.function).words p ≡ o → (Meets r u ⊎ CarriesPast T flow ls w r u) ⊎ FallsNext T flow ls p r u
+  at_place : (r : Active) (u : State) → Tied T flow ls r u → (p : ℕ) → r.block ≡ suc p → (o : Option VirtualWord) → slice_get (T.layout r.function).words p ≡ o → Meets r u ⊎ FallsNext T flow ls p r u
   at_place r u tied p block None e = absurd (no_word r u tied p block e)
-  at_place r u tied p block (Some (Planned region word items)) e = ⊎_elim (λ c. inl (inl (inl c))) (λ c. inl (inr c)) (planned_law T flow ls w sound carries fit r u tied p region word items block e)
-  at_place r u tied p block (Some (Drain n)) e = simple r u p (simple_law T flow ls w sound carries fit r u tied p (Drain n) block e tt)
-  at_place r u tied p block (Some (Transfer q)) e = simple r u p (simple_law T flow ls w sound carries fit r u tied p (Transfer q) block e tt)
-  at_place r u tied p block (Some (Choice test q)) e = simple r u p (simple_law T flow ls w sound carries fit r u tied p (Choice test q) block e tt)
-  at_place r u tied p block (Some (Ends k)) e = simple r u p (simple_law T flow ls w sound carries fit r u tied p (Ends k) block e tt)
-  at_place r u tied p block (Some (Call g arguments result)) e = inl (inl (call_law T flow ls w sound carries fit r u tied p g arguments result block e))
-  at_place r u tied p block (Some (Return x)) e = inl (inl (return_law T flow ls w sound carries fit r u tied p x block e))
+  at_place r u tied p block (Some (Planned region word items)) e = inl (inl (planned_law T flow ls w sound carries fit r u tied p region word items block e))
+  at_place r u tied p block (Some (Drain n)) e = simple_law T flow ls w sound carries fit r u tied p (Drain n) block e tt
+  at_place r u tied p block (Some (Transfer q)) e = simple_law T flow ls w sound carries fit r u tied p (Transfer q) block e tt
+  at_place r u tied p block (Some (Choice test q)) e = simple_law T flow ls w sound carries fit r u tied p (Choice test q) block e tt
+  at_place r u tied p block (Some (Ends k)) e = simple_law T flow ls w sound carries fit r u tied p (Ends k) block e tt
+  at_place r u tied p block (Some (Call g arguments result)) e = inl (call_law T flow ls w sound carries fit r u tied p g arguments result block e)
+  at_place r u tied p block (Some (Return x)) e = inl (return_law T flow ls w sound carries fit r u tied p x block e)
 
   -- at each bound both runs meet, here or farther on
 
   abbrev MeetAt : ℕ → Active → State → Type 0
   MeetAt n r u = MeetsAt (λ k. OverValues k r) (λ k. OverRegisters k u) n
 
-  values_on : (r s : Active) (k : ℕ) → next (laid_program flow ls) r ≡ On s → OverValues (suc k) r ≡ OverValues k s
-  values_on r s k e = ap (step_then (OverValues k)) e
-
   then_more : (n : ℕ) (r : Active) (u : State) (c : CarriesOn T flow ls w r u) → MeetAt n c.after c.to → MeetAt (suc n) r u
-  then_more n r u c (Far i j out le lo e d) = Far (suc i) (suc c.words + j) out (omega arith) (omega arith) (values_on r c.after i c.over_values ∙ e) (c.over_registers j ∙ d)
-  then_more n r u c (Done i j o v e d) = Done (suc i) (suc c.words + j) o v (values_on r c.after i c.over_values ∙ e) (c.over_registers j ∙ d)
+  then_more n r u c (Far i j out le lo e d) = Far (suc c.steps + i) (suc c.words + j) out (omega arith) (omega arith) (c.over_values i ∙ e) (c.over_registers j ∙ d)
+  then_more n r u c (Done i j o v e d) = Done (suc c.steps + i) (suc c.words + j) o v (c.over_values i ∙ e) (c.over_registers j ∙ d)
 
   after_meeting : (n : ℕ) (r : Active) (u : State) → ((s : Active) (v : State) → Tied T flow ls s v → MeetAt n s v) → Meets r u → MeetAt (suc n) r u
   after_meeting n r u more (inl c) = then_more n r u c (more c.after c.to c.tied)
   after_meeting n r u more (inr d) = Done 1 d.words d.outcome d.over (ap (step_then (OverValues 0)) d.over_values) d.over_registers
 
-  -- one step over values alone
-  then_values : (n : ℕ) (r s : Active) (u : State) → next (laid_program flow ls) r ≡ On s → MeetAt n s u → MeetAt n r u
-  then_values n r s u k (Far i j out le lo e d) = Far (suc i) j out (omega arith) lo (values_on r s i k ∙ e) d
-  then_values n r s u k (Done i j o v e d) = Done (suc i) j o v (values_on r s i k ∙ e) d
+  -- steps over values alone
+  then_values : (n : ℕ) (r : Active) (u : State) (f : FallsThrough T flow ls r u) → MeetAt n f.after u → MeetAt n r u
+  then_values n r u f (Far i j out le lo e d) = Far (suc f.steps + i) j out (omega arith) lo (f.over_values i ∙ e) d
+  then_values n r u f (Done i j o v e d) = Done (suc f.steps + i) j o v (f.over_values i ∙ e) d
 
   -- a layout has so many words from a place on at most, so places without words come to one that has some
   from_place : (n k : ℕ) (r : Active) (u : State) → ((s : Active) (v : State) → Tied T flow ls s v → MeetAt n s v) → (tied : Tied T flow ls r u) (p : ℕ) → r.block ≡ suc p → length (T.layout r.function).words ≤ p + k → MeetAt (suc n) r u
   from_place n zero r u more tied p block most = absurd (no_word r u tied p block (get_beyond (T.layout r.function).words p (omega arith)))
   from_place n (suc k) r u more tied p block most = ⊎_elim
-      (λ m. ⊎_elim (after_meeting n r u more) (λ (c : CarriesPast T flow ls w r u). then_values (suc n) r c.first u c.over_values (then_more n c.first u c.rest (more c.rest.after c.rest.to c.rest.tied))) m)
+      (after_meeting n r u more)
       (λ (f : FallsNext T flow ls p r u).
       let left : length (T.layout r.function).words ≤ f.falls.place + k = (let e = f.place in omega arith) in
       let most_next : length (T.layout f.falls.after.function).words ≤ f.falls.place + k = subst (λ g. length (T.layout g).words ≤ f.falls.place + k) (sym f.function) left in
-      then_values (suc n) r f.falls.after u f.falls.over_values (from_place n k f.falls.after u more f.falls.tied f.falls.place f.falls.block most_next))
+      then_values (suc n) r u f.falls (from_place n k f.falls.after u more f.falls.tied f.falls.place f.falls.block most_next))
       (at_place r u tied p block (slice_get (T.layout r.function).words p) refl)
 
   from_word : (n : ℕ) (r : Active) (u : State) → ((s : Active) (v : State) → Tied T flow ls s v → MeetAt n s v) → (tied : Tied T flow ls r u) (p : ℕ) → r.block ≡ suc p → MeetAt (suc n) r u
@@ -100,7 +93,7 @@ module _ (T : Target) (flow : Flow) (ls : List VWords) (w : WordProgram) (sound 
 
   from_entry : (n : ℕ) (r : Active) (u : State) → ((s : Active) (v : State) → Tied T flow ls s v → MeetAt n s v) → CarriesOn T flow ls w r u ⊎ FallsThrough T flow ls r u → MeetAt (suc n) r u
   from_entry n r u more (inl c) = then_more n r u c (more c.after c.to c.tied)
-  from_entry n r u more (inr f) = then_values (suc n) r f.after u f.over_values (from_word n f.after u more f.tied f.place f.block)
+  from_entry n r u more (inr f) = then_values (suc n) r u f (from_word n f.after u more f.tied f.place f.block)
 
   meets_next : (n : ℕ) (r : Active) (u : State) → ((s : Active) (v : State) → Tied T flow ls s v → MeetAt n s v) → Tied T flow ls r u → MeetAt (suc n) r u
   meets_next n r u more tied = ⊎_elim

@@ -16,7 +16,7 @@ use Rattle.vx_target.specs.Target.{Target}
 use Rattle.vx_target.specs.Carried.{Carries}
 use Rattle.vx_target.specs.Finish.{Finishes}
 use Rattle.vx_target.specs.Places.{plan_place}
-use Rattle.vx_tie.specs.Plans.{IsOther, loads_slot, stores_slot, picks_number, tests_number, moves, tests_depth, leaves_by_depth, moves_stacks, calls, takes_link, stores_link, sets_stacks, loads_link, moves_and_loads_link, gives_link, returns, traps, halts, idles, goes, branches, IsPlanPlace, IsIdle, cycles_at, cycles_from, CarriesPlan, AreSpaced, PlanLaw}
+use Rattle.vx_tie.specs.Plans.{IsOther, loads_slot, stores_slot, picks_number, tests_number, moves, tests_depth, leaves_by_depth, moves_stacks, calls, takes_link, stores_link, sets_stacks, loads_link, moves_and_loads_link, gives_link, returns, moves_and_returns, traps, halts, idles, goes, branches, IsPlanPlace, IsIdle, cycles_at, cycles_from, CarriesPlan, AreSpaced, PlanLaw}
 use Rattle.vx_tie.proofs.EachWord.{IsPlanWord, word_kind, plan_stands}
 use Rattle.vx_tie.proofs.IdleWords.{Operates, Busy, busy_beside}
 
@@ -43,6 +43,7 @@ module _ (T : Target) (count : ℕ) where
   short word (moves_and_loads_link from) e = absurd (cc)
   short word gives_link e = absurd (cc)
   short word returns e = absurd (cc)
+  short word (moves_and_returns from) e = absurd (cc)
   short word (traps k) e = absurd (cc)
   short word halts e = absurd (cc)
   short word (idles n le) e = omega arith

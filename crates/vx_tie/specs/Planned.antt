@@ -1,9 +1,9 @@
 -- Planned words over values and over registers: from tied states both come to tied states.
 use Rattle.std.specs.Prelude.{◌≡◌, ◌⊎◌, ◌+◌, ℕ, suc, ℤ, Option, true, Some, List, [], ◌∷◌, slice_get}
-use Rattle.vx_base.specs.Outcome.{Outcome, IsOver, NeverFails, On, Over}
+use Rattle.vx_base.specs.Outcome.{Outcome, IsOver, NeverFails, Over}
 use Rattle.vx_flow.specs.declared.graph.Flow.{Flow}
 use Rattle.vx_flow.specs.declared.graph.Operand.{Operand}
-use Rattle.vx_flow.specs.Meaning.{Active, next, at_start, globals_at_start}
+use Rattle.vx_flow.specs.Meaning.{Active, next, program_run, at_start, globals_at_start}
 use Rattle.vx_flow.specs.Sound.{is_sound_flow}
 use Rattle.vx_isa.specs.declared.program.WordProgram.{WordProgram}
 use Rattle.vx_isa.specs.Machine.{State, words_from, start}
@@ -16,27 +16,22 @@ use Rattle.vx_target.specs.Target.{Target}
 use Rattle.vx_target.specs.Tied.{Tied}
 use Rattle.vx_target.specs.Carried.{Carries, WordsFit}
 
--- one step over values, and one word or more over registers, to tied states
+-- one step or more over values, and one word or more over registers, to tied states: a jump goes past transfers
 pub record CarriesOn (T : Target) (flow : Flow) (ls : List VWords) (w : WordProgram) (r : Active) (u : State) : Type 0 where
   pub after : Active
   pub to : State
+  pub steps : ℕ
   pub words : ℕ
-  pub over_values : next (laid_program flow ls) r ≡ On after
+  pub over_values : (n : ℕ) → program_run (laid_program flow ls) (suc steps + n) r ≡ program_run (laid_program flow ls) n after
   pub over_registers : (n : ℕ) → words_from T.machine (1 ∷ []) w (suc words + n) u ≡ words_from T.machine (1 ∷ []) w n to
   pub tied : Tied T flow ls after to
-
--- the same behind one more step over values: a split leads past a transfer
-pub record CarriesPast (T : Target) (flow : Flow) (ls : List VWords) (w : WordProgram) (r : Active) (u : State) : Type 0 where
-  pub first : Active
-  pub over_values : next (laid_program flow ls) r ≡ On first
-  pub rest : CarriesOn T flow ls w first u
 
 -- where the words fit, each planned word of a layout is carried: all its operations on values, in the registers or slots where
 -- these are kept, and its splits
 abbrev pub PlannedLaw : Type 0
 PlannedLaw =
     (T : Target) (flow : Flow) (ls : List VWords) (w : WordProgram) → is_sound_flow flow ≡ true → Carries T flow ls w → WordsFit T.machine w →
-    (r : Active) (u : State) → Tied T flow ls r u → (p region word : ℕ) (items : List Laid) → r.block ≡ suc p → slice_get (T.layout r.function).words p ≡ Some (Planned region word items) → CarriesOn T flow ls w r u ⊎ CarriesPast T flow ls w r u
+    (r : Active) (u : State) → Tied T flow ls r u → (p region word : ℕ) (items : List Laid) → r.block ≡ suc p → slice_get (T.layout r.function).words p ≡ Some (Planned region word items) → CarriesOn T flow ls w r u
 
 -- drains, transfers, choices and ends: all words of a layout but planned ones, calls and returns
 abbrev pub Simple : VirtualWord → Type 0
@@ -56,12 +51,13 @@ pub record EndsAlike (T : Target) (flow : Flow) (ls : List VWords) (w : WordProg
   pub over_values : next (laid_program flow ls) r ≡ Over outcome
   pub over_registers : words_from T.machine (1 ∷ []) w words u ≡ outcome
 
--- one step over values, to a word of a layout, and no word over registers
+-- one step or more over values, to a word of a layout, and no word over registers
 pub record FallsThrough (T : Target) (flow : Flow) (ls : List VWords) (r : Active) (u : State) : Type 0 where
   pub after : Active
   pub place : ℕ
   pub block : after.block ≡ suc place
-  pub over_values : next (laid_program flow ls) r ≡ On after
+  pub steps : ℕ
+  pub over_values : (n : ℕ) → program_run (laid_program flow ls) (suc steps + n) r ≡ program_run (laid_program flow ls) n after
   pub tied : Tied T flow ls after u
 
 -- so does a transfer or an empty cycle to the next place of its function, where it has no word

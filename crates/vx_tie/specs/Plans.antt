@@ -58,11 +58,12 @@ pub data IsOther (T : Target) (functions : ℕ) : Word → Type 0 where
   takes_link : IsOther T functions (one (FromLink (general 0 3)))
   stores_link : IsOther T functions (one (Store 0 (pos 0) (stack_on 0) (Held (general 0 3))))
   sets_stacks : IsOther T functions (record { ops = on_clusters T.machine.clusters (λ k. Move k (stack_on k) (Number (bytes (first_frame T)))); idle = 0 })
-  -- returns: the link comes back, perhaps in the word that moves the answer
+  -- returns: the link comes back, perhaps in the word that moves the answer; or the answer is moved in the word that returns
   loads_link : IsOther T functions (one (Load 0 (general 0 3) (pos 0) (stack_on 0) false))
   moves_and_loads_link : (from : Source) → IsOther T functions (record { ops = Move 0 answer from ∷ Load 0 (general 0 3) (pos 0) (stack_on 0) false ∷ []; idle = 0 })
   gives_link : IsOther T functions (one (ToLink (Held (general 0 3))))
   returns : IsOther T functions (one Return)
+  moves_and_returns : (from : Source) → IsOther T functions (record { ops = Move 0 answer from ∷ Return ∷ []; idle = 0 })
   -- ends
   traps : (k : Trap) → IsOther T functions (one (EndByTrap k))
   halts : IsOther T functions (one (Halt (Held answer)))

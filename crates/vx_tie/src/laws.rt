@@ -8,13 +8,13 @@ ghost use Rattle.vx_tie.specs.Whole.{WholeLaw};
 
 /// Where the words of a program fit and stand where its target says, each planned word of a layout is carried by its words: all
 /// operations on values, in the registers or slots where these are kept, and the splits with their landings. From tied states
-/// both come to tied states; a split over registers goes past a transfer, which is one step more over values.
+/// both come to tied states; a split over registers goes past transfers, which are more steps over values.
 pub fn planned_words_are_carried()
     ensures { PlannedLaw }
 {}
 
-/// So are drains, transfers, choices and ends: from tied states both come to tied states, or end alike. A transfer to the next place
-/// has no word, and neither has one empty cycle in front of a `goto`.
+/// So are drains, transfers, choices and ends: from tied states both come to tied states, or end alike. The `goto` of a transfer goes
+/// past others; one that comes to the next place has no word, and neither has one empty cycle in front of a `goto`.
 pub fn other_words_are_carried()
     ensures { SimpleLaw }
 {}

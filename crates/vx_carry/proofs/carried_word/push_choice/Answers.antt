@@ -16,4 +16,4 @@ returns c =
     IfOk-equal _ _ _ _ c.push_one.ensures
     (onto old c.push_before.new.words first (one (BranchOn c.branch_of.result true c.start.result) ∷ []) c.in_ok-push_before.ensures
     ∙ ap (λ (n : ℕ). old ++ (first ++ one (BranchOn n true c.start.result) ∷ [])) c.branch_of.ensures
-    ∙ ap (λ (n : ℕ). old ++ (first ++ one (BranchOn (branch_of T f (test ∷ []) test) true n) ∷ [])) c.start.ensures)
+    ∙ ap (λ (n : ℕ). old ++ (first ++ one (BranchOn (branch_of T f (test ∷ []) test) true n) ∷ [])) (c.start.ensures ∙ ap (T.starts f) c.past.ensures))
