@@ -37,6 +37,7 @@ use vx_profile::counts::Counts;
 use vx_raise::{Units, raise};
 use vx_regs::map::{Kept, RegMap};
 use vx_regs::registers;
+use vx_rename::{Room, rename};
 use vx_report::Plan;
 use vx_target::finished::Finished;
 use vx_tie::laws::{finished_programs_carry_their_plan, layouts_are_spaced};
@@ -112,7 +113,7 @@ fn all_slots_in(maps: &[RegMap]) -> Result<u32, NoMemory>
     Ok(count)
 }
 
-/// The graphs of a program from which its words are made and whose blocks a profile counts: lowered and cleaned, then narrowed
+/// The graphs of a program whose blocks a profile counts, and from which its words are made: lowered and cleaned, then narrowed
 /// by what is known of values, and cleaned once more; with operations put before the loops that do them in each turn, and where
 /// there are such narrowed and cleaned again.
 pub fn flow_of(alloc: Global, program: &Typed) -> Result<Flow, NoMemory>
@@ -170,6 +171,26 @@ fn planned_flow_of(
 {
     let flow = flow_of(alloc, program)?;
     raise(alloc, flow, counts, &units_of(machine))
+/// How many registers there are for the values of a graph: those of one cluster, and half of those of each other, since a value has
+/// copies there. What is kept of a file stands in `allocatable` (vx_regs, specs/Mapped.antt).
+fn room_of(machine: &Machine) -> Room {
+    let issue = machine.issue();
+    let general = machine
+        .registers()
+        .saturating_sub(issue.saturating_mul(2).saturating_add(3));
+    Room {
+        general: general.saturating_mul(machine.clusters().saturating_add(1)) / 2,
+        branch: machine.branch_registers().saturating_sub(issue),
+    }
+}
+
+/// The graphs that are planned: those of `flow_of`, block by block, under names that values share, so that there are no more of
+/// them than registers where no more values are live at once.
+fn planned_flow_of(alloc: Global, program: &Typed, machine: &Machine) -> Result<Flow, NoMemory>
+    ensures { IfOk result (λ flow. FlowOf (view.program_of program.now.program) flow) }
+{
+    let flow = flow_of(alloc, program)?;
+    rename(alloc, flow, room_of(machine))
 }
 
 /// How many blocks graphs have.
@@ -254,6 +275,7 @@ pub fn compile_sized(
     stages_do_the_same();
     machine.keeps_ranges();
     let flow = planned_flow_of(alloc, program, machine, counts)?;
+    let flow = planned_flow_of(alloc, program, machine)?;
     let size = size_of(&flow)?;
     let compiled = compiled_of(alloc, &flow, counts, machine, growth)?;
     Ok(SizedProgram { compiled, size })
