@@ -1,11 +1,11 @@
 -- Graphs with exactly so many values: each is padded, is bounded, and a flow of them is sound and stays one of its program.
-use Rattle.std.proofs.Common.{◌≡◌, ℕ, zero, suc, ◌+◌, ◌-◌, ◌*◌, ◌≤◌, Bool, true, false, cond, List, [], ◌∷◌, ◌++◌, length, map, replicate, slice_get, Option, Some, None, refl, sym, ap, subst, ◌∙◌, arith}
+use Rattle.std.proofs.Common.{◌≡◌, ℕ, zero, suc, ◌+◌, ◌-◌, ◌*◌, ◌≤◌, Bool, true, false, cond, List, [], ◌∷◌, ◌++◌, replicate, slice_get, Some, refl, sym, ap, subst, ◌∙◌, arith}
 use Rattle.std.specs.Prelude.{count_by}
 use Rattle.std.specs.Option.{option_map}
 use Rattle.std.proofs.lemmas.Option.{slice_get-map}
 use Rattle.std.proofs.lemmas.List.{append_assoc}
 use Rattle.std.proofs.lemmas.List.Recursion.{is_count_by}
-use Rattle.vx_ast.specs.Tree.{Function, Program}
+use Rattle.vx_ast.specs.Tree.{Program}
 use Rattle.vx_ast.specs.Accepted.{function_nodes}
 use Rattle.vx_flow.specs.declared.graph.Bank.{Bank}
 use Rattle.vx_flow.specs.declared.graph.Bank.TheVariants.{General, Branch}
@@ -15,7 +15,7 @@ use Rattle.vx_flow.specs.Sound.{is_sound_flow}
 use Rattle.vx_flow.proofs.SoundFlowLaw.{flow_is, flow_of}
 use Rattle.vx_lower.specs.FlowOf.{is_general, is_branch, FlowOf}
 use Rattle.vx_shape.specs.Flows.{with_graphs, Each}
-use Rattle.vx_select.specs.Padding.{Padded, AreBounded, lacking, padded_to, all_padded_to, IsWithin, PaddedTo, AreWithin, EachPaddedTo, FlowPadded, AreSizes}
+use Rattle.vx_select.specs.Padding.{Padded, AreBounded, lacking, all_padded_to, AreWithin, EachPaddedTo, FlowPadded, AreSizes}
 use Rattle.vx_select.proofs.Kept.{new_sound}
 use Rattle.vx_select.proofs.PaddedFlow.{kept, padded_stays}
 

@@ -1,9 +1,9 @@
 -- Diamonds that are looked for by their corners.
-use Rattle.std.proofs.Common.{◌≡◌, ℕ, zero, suc, ◌+◌, ◌<◌, ◌≤◌, ◌==◌, ◌&&◌, ◌||◌, Bool, true, false, cond, List, [], ◌∷◌, ◌++◌, length, map, take, drop, get_or, slice_get, Option, Some, None, refl, sym, ap, subst, ◌∙◌, eq-eqb, arith}
+use Rattle.std.proofs.Common.{◌≡◌, ℕ, zero, suc, ◌+◌, ◌<◌, ◌≤◌, ◌==◌, ◌&&◌, Bool, true, false, cond, List, [], ◌∷◌, ◌++◌, length, take, drop, slice_get, Option, Some, None, refl, sym, ap, ◌∙◌, arith}
 use Rattle.std.specs.Prelude.{not, nat_le}
 use Rattle.std.specs.List.{list_all}
 use Rattle.std.specs.Option.{option_map}
-use Rattle.std.proofs.lemmas.Bool.{false≢true, eqb-true, leb-true, leb-false}
+use Rattle.std.proofs.lemmas.Bool.{leb-true, leb-false}
 use Rattle.std.proofs.lemmas.List.{length-map, length-append}
 use Rattle.vx_flow.specs.declared.graph.Op.{Op}
 use Rattle.vx_flow.specs.declared.graph.Exit.{Exit}
@@ -13,8 +13,7 @@ use Rattle.vx_flow.specs.declared.graph.Graph.{Graph}
 use Rattle.vx_flow.specs.Effects.{writes}
 use Rattle.vx_select.specs.declared.corners.Corners.{Corners}
 use Rattle.vx_select.specs.declared.values.Values.{Values}
-use Rattle.vx_select.specs.Selected.{Diamond, is_simple, free_values, left_values, right_values, chosen_values, left_takes, right_takes, after_write, writing_to, moved, as_is, choice, choices, both_sides, stays}
-use Rattle.vx_flow.specs.Operands.{with_value_in, with_operands}
+use Rattle.vx_select.specs.Selected.{Diamond, is_simple, free_values, left_values, right_values, chosen_values, left_takes, right_takes, after_write, moved, as_is, choice, choices, both_sides, stays}
 use Rattle.vx_select.specs.Search.{are_alone, is_good, if_good, by_goals, by_sides, by_exit, diamond_at, or_else, first_from, first_diamond}
 use Rattle.vx_select.specs.Values.{AreValues}
 use Rattle.vx_select.specs.Known.{ops_in, ops_at, whole, goal_of, goal_in, same_goal, with_join, corners_by, diamond_of, diamond_in, is_formed}

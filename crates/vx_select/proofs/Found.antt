@@ -1,17 +1,16 @@
 -- Which values operations name, and the least that they write.
-use Rattle.std.proofs.Common.{◌≡◌, ◌⊎◌, inl, inr, ℕ, zero, suc, ◌+◌, ◌<◌, ◌≤◌, ◌||◌, ◌==◌, Bool, true, false, cond, List, [], ◌∷◌, ◌++◌, length, Option, Some, None, refl, sym, ap, subst, ◌∙◌, arith}
+use Rattle.std.proofs.Common.{◌≡◌, ℕ, ◌<◌, ◌≤◌, ◌||◌, ◌==◌, Bool, true, false, cond, List, [], ◌∷◌, ◌++◌, Option, Some, None, refl, sym, ap, subst, ◌∙◌, arith}
 use Rattle.std.specs.Prelude.{nat_le}
 use Rattle.std.specs.List.{list_any}
-use Rattle.std.proofs.lemmas.Bool.{false≢true, leb-true}
+use Rattle.std.proofs.lemmas.Bool.{leb-true}
 use Rattle.std.proofs.lemmas.List.Folds.{list_any-append}
 use Rattle.vx_flow.specs.declared.graph.Op.{Op}
 use Rattle.vx_flow.specs.declared.operands.Reads.{Reads}
 use Rattle.vx_flow.specs.Effects.{reads, writes}
-use Rattle.vx_flow.specs.Operands.{value_list, written_by, read_by, values_read}
+use Rattle.vx_flow.specs.Operands.{value_list, read_by, values_read}
 use Rattle.vx_flow.proofs.OperandLaws.{reads_are, writes_are}
-use Rattle.vx_flow.proofs.SoundLists.{or_parts}
 use Rattle.vx_select.specs.Selected.{has, written, named}
-use Rattle.vx_select.specs.Values.{writes_it, names_it, are_writing, IsNext, lesser}
+use Rattle.vx_select.specs.Values.{names_it, are_writing, IsNext, lesser}
 
 -- ---- what is read
 

@@ -1,14 +1,13 @@
 -- Values that may be taken, and those that are chosen.
-use Rattle.std.proofs.Common.{◌≡◌, ℕ, zero, suc, ◌+◌, ◌<◌, ◌&&◌, ◌||◌, Bool, true, false, cond, List, [], ◌∷◌, length, slice_get, Option, Some, None, refl, sym, ap, subst, ◌∙◌, arith}
+use Rattle.std.proofs.Common.{◌≡◌, ℕ, zero, suc, ◌<◌, ◌&&◌, ◌||◌, Bool, true, false, cond, List, [], ◌∷◌, length, refl, ap, ◌∙◌, arith}
 use Rattle.std.specs.Prelude.{not}
 use Rattle.std.specs.List.{filter, list_any}
 use Rattle.std.proofs.lemmas.Bool.{false≢true}
 use Rattle.vx_flow.specs.declared.graph.Bank.{Bank}
-use Rattle.vx_flow.specs.declared.graph.Bank.TheVariants.{General}
 use Rattle.vx_flow.specs.declared.graph.Op.{Op}
 use Rattle.vx_flow.specs.declared.graph.Graph.{Graph}
 use Rattle.vx_flow.specs.Rows.{is_marked}
-use Rattle.vx_flow.specs.Sound.{is_bank, is_general}
+use Rattle.vx_flow.specs.Sound.{is_general}
 use Rattle.vx_select.specs.declared.corners.Corners.{Corners}
 use Rattle.vx_select.specs.Selected.{has, named, written, those_from, is_placed, is_free}
 use Rattle.vx_select.specs.Values.{names_it, are_writing, either_writing}

@@ -1,5 +1,5 @@
 -- The number that a block has where the sides are gone.
-use Rattle.std.proofs.Common.{◌≡◌, ℕ, zero, suc, ◌+◌, ◌-◌, ◌<◌, ◌≤◌, ◌==◌, ◌&&◌, Bool, true, false, cond, [], refl, sym, ap, subst, ◌∙◌, eq-eqb, arith, ltb-true}
+use Rattle.std.proofs.Common.{◌≡◌, ℕ, zero, suc, ◌+◌, ◌-◌, ◌<◌, ◌≤◌, ◌==◌, ◌&&◌, Bool, true, false, cond, [], refl, sym, ap, ◌∙◌, eq-eqb, arith, ltb-true}
 use Rattle.std.specs.Prelude.{not, nat_lt}
 use Rattle.std.proofs.lemmas.Bool.{false≢true, eqb-true, ltb-false}
 use Rattle.vx_flow.specs.declared.graph.Graph.{Graph}

@@ -1,7 +1,7 @@
 -- What is made of a diamond by its corners and values is the conversion.
-use Rattle.std.proofs.Common.{◌≡◌, ℕ, zero, suc, ◌+◌, ◌<◌, ◌≤◌, ◌==◌, ◌||◌, Bool, true, false, cond, List, [], ◌∷◌, ◌++◌, length, map, take, drop, get_or, slice_get, Option, Some, None, refl, sym, ap, subst, ◌∙◌, arith}
+use Rattle.std.proofs.Common.{◌≡◌, ℕ, zero, suc, ◌+◌, ◌<◌, ◌≤◌, ◌==◌, ◌||◌, Bool, true, false, cond, List, [], ◌∷◌, ◌++◌, length, map, take, drop, get_or, slice_get, Option, Some, None, refl, sym, ap, ◌∙◌, arith}
 use Rattle.std.proofs.Math.Path.{fun_ext}
-use Rattle.std.proofs.lemmas.List.{append_assoc, drop_more, take_more}
+use Rattle.std.proofs.lemmas.List.{append_assoc, drop_more}
 use Rattle.std.proofs.lemmas.List.Folds.{list_any_more}
 use Rattle.vx_flow.specs.declared.graph.Op.{Op}
 use Rattle.vx_flow.specs.declared.graph.Exit.TheVariants.{Goto}
@@ -12,10 +12,10 @@ use Rattle.vx_flow.specs.Operands.{with_operands, with_value_in}
 use Rattle.vx_flow.proofs.OperandLaws.{writes_are}
 use Rattle.vx_select.specs.declared.corners.Corners.{Corners}
 use Rattle.vx_select.specs.declared.values.Values.{Values}
-use Rattle.vx_select.specs.Selected.{Diamond, has, takes, left_takes, right_takes, left_values, right_values, free_values, chosen_values, writing_to, after_write, moved, as_is, choice, both_sides, stays, numbered, changed, blocks_left, converted, led}
+use Rattle.vx_select.specs.Selected.{Diamond, has, takes, left_takes, right_takes, left_values, right_values, free_values, writing_to, after_write, moved, as_is, choice, both_sides, stays, numbered, changed, blocks_left, converted, led}
 use Rattle.vx_select.specs.Values.{are_writing, writes_it, AreValues}
-use Rattle.vx_select.specs.Known.{ops_at, whole, is_no_side}
-use Rattle.vx_select.specs.Joining.{now_behind, left_to, right_to, sides_by, joined_by, changed_by, one_by, blocks_by, converted_by}
+use Rattle.vx_select.specs.Known.{whole}
+use Rattle.vx_select.specs.Joining.{now_behind, left_to, right_to, sides_by, changed_by, one_by, blocks_by, converted_by}
 
 -- ---- a side, one operation after the other
 

@@ -1,12 +1,11 @@
 -- What is told to be live is live.
-use Rattle.std.proofs.Common.{◌≡◌, ◌↔◌, ℕ, zero, suc, ◌+◌, ◌<◌, ◌≤◌, Bool, true, false, List, [], ◌∷◌, length, slice_get, Option, Some, None, IsTrue, refl, sym, ap, subst, ◌∙◌, arith}
+use Rattle.std.proofs.Common.{◌≡◌, ◌↔◌, ℕ, zero, suc, ◌+◌, true, List, [], ◌∷◌, length, slice_get, Option, Some, None, IsTrue, refl, sym, ap, subst, ◌∙◌, arith}
 use Rattle.std.specs.Option.{option_map}
 use Rattle.std.proofs.lemmas.Bool.{false≢true}
 use Rattle.vx_flow.specs.declared.graph.Block.{Block}
 use Rattle.vx_flow.specs.declared.graph.Graph.{Graph}
 use Rattle.vx_flow.specs.Live.{IsLive, here, beyond}
 use Rattle.vx_flow.specs.Rows.{lives}
-use Rattle.vx_select.specs.declared.known.Known.{Known}
 use Rattle.vx_select.specs.Selected.{those_from, IsLiveness}
 use Rattle.vx_select.specs.Values.{IsNext}
 use Rattle.vx_select.specs.Known.{told, told_at}

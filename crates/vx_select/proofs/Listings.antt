@@ -1,6 +1,5 @@
 -- Values that are found one after the other are those that pass, in ascending order.
-use Rattle.std.proofs.Common.{◌≡◌, ◌⊎◌, inl, inr, ℕ, zero, suc, ◌+◌, ◌<◌, ◌≤◌, ◌||◌, Bool, true, false, cond, List, [], ◌∷◌, ◌++◌, length, take, Option, Some, None, refl, sym, ap, subst, ◌∙◌, arith}
-use Rattle.std.proofs.lemmas.Bool.{false≢true}
+use Rattle.std.proofs.Common.{◌≡◌, ℕ, zero, suc, ◌+◌, ◌<◌, ◌≤◌, Bool, true, false, cond, List, [], ◌∷◌, ◌++◌, length, take, Some, None, refl, sym, ap, ◌∙◌, arith}
 use Rattle.std.proofs.lemmas.List.{append_assoc}
 use Rattle.vx_select.specs.Selected.{those_from}
 use Rattle.vx_select.specs.Values.{IsNext, Listing, Taking}
@@ -60,7 +59,7 @@ module _ (p : ℕ → Bool) where
         by : (a b : ℕ) × (k + a ≡ v) × (l.rest ≡ a + suc b) → Listing p count (v + 1) new
         by (a, b, at, rest) =
             let q : those_from p k l.rest ≡ v ∷ those_from p (suc v) b =
-                ap (those_from p k) rest ∙ skipped k a (suc b) (λ u x y. n.2 u x (omega arith)) ∙ ap (λ j. those_from p j (suc b)) at ∙ one_passes v b n.1 in
+            ap (those_from p k) rest ∙ skipped k a (suc b) (λ u x y. n.2 u x (omega arith)) ∙ ap (λ j. those_from p j (suc b)) at ∙ one_passes v b n.1 in
             let one : suc v ≡ v + 1 = omega arith in
             record {
               rest = b;
@@ -95,7 +94,7 @@ module _ (p : ℕ → Bool) where
         by (b, rest) (m, more) =
             let o : suc k ≡ k + 1 = omega arith in
             let w : take t.more (those_from p k t.rest) ≡ k ∷ take m (those_from p (k + 1) b) =
-                ap (λ n. take n (those_from p k t.rest)) more ∙ ap (λ n. take (suc m) (those_from p k n)) rest ∙ ap (take (suc m)) (one_passes k b e) ∙ ap (λ j. k ∷ take m (those_from p j b)) o in
+            ap (λ n. take n (those_from p k t.rest)) more ∙ ap (λ n. take (suc m) (those_from p k n)) rest ∙ ap (take (suc m)) (one_passes k b e) ∙ ap (λ j. k ∷ take m (those_from p j b)) o in
             record {
               rest = b;
               more = m;

@@ -1,9 +1,8 @@
 -- The lowest diamond that was found, converted, is one step; where none was found, nothing is left to do.
-use Rattle.std.proofs.Common.{◌≡◌, ℕ, ◌<◌, Bool, length, Option, Some, None, refl, sym, ap, subst, ◌∙◌}
-use Rattle.std.specs.Option.{option_map}
+use Rattle.std.proofs.Common.{◌≡◌, ℕ, Bool, Option, Some, None, sym, subst}
 use Rattle.vx_flow.specs.declared.graph.Graph.{Graph}
 use Rattle.vx_select.specs.declared.corners.Corners.{Corners}
-use Rattle.vx_select.specs.Selected.{Diamond, IsLiveness, IsDiamond, Selects, none_left, converts, converted}
+use Rattle.vx_select.specs.Selected.{IsLiveness, none_left, converts, converted}
 use Rattle.vx_select.specs.Search.{first_diamond, IsFirst}
 use Rattle.vx_select.specs.Known.{whole}
 use Rattle.vx_select.specs.Step.{Step}

@@ -1,5 +1,5 @@
 -- A graph with a diamond converted, by the corners of the diamond and the values that were found for it.
-use Rattle.std.specs.Prelude.{◌==◌, if◌then◌else◌, nat_lt, ◌&&◌, not, ◌+◌, ℕ, suc, Option, Some, None, List, [], ◌∷◌, ◌++◌, length, map, drop}
+use Rattle.std.specs.Prelude.{◌==◌, if◌then◌else◌, nat_lt, ◌+◌, ℕ, suc, Option, Some, None, List, [], ◌∷◌, ◌++◌, length, map, drop}
 use Rattle.vx_flow.specs.declared.graph.Op.{Op}
 use Rattle.vx_flow.specs.declared.graph.Exit.TheVariants.{Goto}
 use Rattle.vx_flow.specs.declared.graph.Block.{Block}

@@ -1,16 +1,15 @@
 -- What is known of a graph while its diamonds are looked for: the corners of one, and which values are live.
-use Rattle.std.specs.Prelude.{◌≡◌, ◌<◌, ◌==◌, ◌&&◌, ◌||◌, not, nat_le, ◌+◌, if◌then◌else◌, ℕ, Bool, true, false, Option, Some, None, List, [], length, slice_get}
-use Rattle.std.specs.List.{list_all, list_any}
+use Rattle.std.specs.Prelude.{◌≡◌, ◌<◌, ◌==◌, ◌&&◌, ◌||◌, not, nat_le, ◌+◌, if◌then◌else◌, ℕ, Bool, false, Option, Some, None, List, [], length, slice_get}
+use Rattle.std.specs.List.{list_all}
 use Rattle.vx_flow.specs.declared.graph.Op.{Op}
 use Rattle.vx_flow.specs.declared.graph.Exit.{Exit}
 use Rattle.vx_flow.specs.declared.graph.Exit.TheVariants.{Goto, Split}
 use Rattle.vx_flow.specs.declared.graph.Block.{Block}
-use Rattle.vx_flow.specs.declared.graph.Array.{Array}
 use Rattle.vx_flow.specs.declared.graph.Graph.{Graph}
 use Rattle.vx_flow.specs.Rows.{is_marked, lives}
 use Rattle.vx_select.specs.declared.corners.Corners.{Corners}
 use Rattle.vx_select.specs.declared.known.Known.{Known}
-use Rattle.vx_select.specs.Selected.{Diamond, is_simple, is_place_of, is_placed, stays}
+use Rattle.vx_select.specs.Selected.{Diamond, is_simple, is_placed, stays}
 use Rattle.vx_select.specs.Search.{if_good}
 
 -- ---- what is live

@@ -1,5 +1,5 @@
 -- Values of a graph in ascending order, as they are found one after the other.
-use Rattle.std.specs.Prelude.{◌≡◌, ◌<◌, ◌≤◌, ◌+◌, ◌||◌, nat_le, if◌then◌else◌, ℕ, Bool, true, false, Option, Some, None, List, [], ◌∷◌, ◌++◌, length, take}
+use Rattle.std.specs.Prelude.{◌≡◌, ◌<◌, ◌≤◌, ◌+◌, ◌||◌, nat_le, if◌then◌else◌, ℕ, Bool, true, false, Option, Some, None, List, ◌++◌, length, take}
 use Rattle.std.specs.List.{list_any}
 use Rattle.vx_flow.specs.declared.graph.Op.{Op}
 use Rattle.vx_flow.specs.Operands.{value_list, written_by, read_by, values_read}

@@ -6,8 +6,8 @@ ghost use Rattle.vx_select.specs.Known.{whole};
 ghost use Rattle.vx_select.specs.Joining.{before_one, blocks_by, changed_by, converted_by, gone, joined_by, one_by};
 ghost use Rattle.vx_select.specs.Selected.{led, numbered};
 
-use crate::corners::{Corners, stays};
 use crate::both_sides::joined_ops;
+use crate::corners::{Corners, stays};
 use crate::values::Values;
 use std::alloc::Global;
 use vx_base::listed::{Listed, copied};

@@ -69,13 +69,7 @@ fn same_goal(one: Option<BlockId>, other: Option<BlockId>) -> Option<BlockId>
     ensures { result ≡ same_goal one other }
 {
     match (one, other) {
-        (Some(one), Some(other)) => {
-            if one == other {
-                Some(one)
-            } else {
-                None
-            }
-        }
+        (Some(one), Some(other)) => { if one == other { Some(one) } else { None } }
         _ => None,
     }
 }

@@ -114,13 +114,7 @@ fn free_up_to(
 
 /// Whether a value may be taken: it is a general one, which is live at neither side nor where they meet, is not named by them, and
 /// is no place of an array of the function's own.
-fn is_free(
-    known: &Known,
-    placed: &[bool],
-    graph: &Graph,
-    corners: &Corners,
-    value: Value,
-) -> bool
+fn is_free(known: &Known, placed: &[bool], graph: &Graph, corners: &Corners, value: Value) -> bool
     requires { ArePlaced graph.now placed.now }
     ensures { result ≡ is_free (told known.now) graph.now (whole graph.now corners.now) value }
 {

@@ -86,13 +86,7 @@ fn written_from(op: &Op, from: Value) -> Option<Value>
     ensures { IsNext (λ v. writes_it v op.now) from result }
 {
     match written_by(op) {
-        Some(value) => {
-            if value >= from {
-                Some(value)
-            } else {
-                None
-            }
-        }
+        Some(value) => { if value >= from { Some(value) } else { None } }
         None => None,
     }
 }

@@ -1,5 +1,4 @@
-use Rattle.std.proofs.Common.{ℕ, List, arith}
-use Rattle.vx_flow.specs.declared.graph.Op.{Op}
+use Rattle.std.proofs.Common.{ℕ, arith}
 use Rattle.vx_select.specs.Selected.{takes}
 use Rattle.vx_select.proofs.Joins.{moved_next, moved_end}
 use Rattle.vx_select.proofs.both_sides.push_moved.Goals as goal

@@ -1,4 +1,4 @@
-use Rattle.std.proofs.Common.{◌≡◌, ◌<◌, ◌≤◌, ◌∙◌, length, arith}
+use Rattle.std.proofs.Common.{◌≤◌, length, arith}
 use Rattle.vx_select.proofs.Joins.{blocks_next, blocks_end}
 use Rattle.vx_select.proofs.conversion.converted_blocks.Goals as goal
 

@@ -1,4 +1,4 @@
-use Rattle.std.proofs.Common.{◌∙◌, true, arith, refl}
+use Rattle.std.proofs.Common.{true}
 use Rattle.vx_select.proofs.Listings.{listing_begun, listing_put}
 use Rattle.vx_select.proofs.Knowing.{always_next}
 use Rattle.vx_select.proofs.known.numbers.Goals as goal

@@ -1,4 +1,3 @@
-use Rattle.std.proofs.Common.{IfOk}
 use Rattle.std.proofs.lemmas.Result.{IfOk-weaker}
 use Rattle.vx_select.proofs.Exactly.{flow_padded, flow_stays, flow_sound}
 use Rattle.vx_select.proofs.padding.padded.Goals as goal

@@ -1,4 +1,4 @@
-use Rattle.std.proofs.Common.{◌≡◌, ◌≤◌, length, arith}
+use Rattle.std.proofs.Common.{◌≤◌, length, arith}
 use Rattle.vx_select.specs.Known.{told}
 use Rattle.vx_select.proofs.Finding.{first_found, first_none, first_ended}
 use Rattle.vx_select.proofs.search.first.Goals as goal

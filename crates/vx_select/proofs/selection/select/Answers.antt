@@ -1,4 +1,3 @@
-use Rattle.std.proofs.Common.{IfOk}
 use Rattle.std.proofs.lemmas.Result.{IfOk-weaker}
 use Rattle.vx_select.proofs.Flows.{selected_sound, selected_stays}
 use Rattle.vx_select.proofs.selection.select.Goals as goal

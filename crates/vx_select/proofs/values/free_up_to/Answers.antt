@@ -1,7 +1,6 @@
-use Rattle.std.proofs.Common.{◌≡◌, ◌∙◌, ◌++◌, ◌∷◌, ◌<◌, ◌≤◌, [], ℕ, Bool, Vec, Global, ap, sym, length, subst, arith}
+use Rattle.std.proofs.Common.{◌≡◌, ◌∙◌, ◌++◌, ◌∷◌, ◌<◌, ◌≤◌, [], ℕ, Bool, Vec, Global, ap, sym, length, arith}
 use Rattle.vx_select.specs.Known.{told, whole}
 use Rattle.vx_select.specs.Selected.{is_free}
-use Rattle.vx_select.specs.Values.{Taking}
 use Rattle.vx_select.proofs.Listings.{taking_begun, taking_put, taking_skip, taking_full, taking_ended}
 use Rattle.vx_select.proofs.values.free_up_to.Goals as goal
 use Rattle.vx_select.proofs.values.free_up_to.Goals.{then-is_free+in_ok-push, else-is_free}

@@ -1,4 +1,4 @@
-use Rattle.std.proofs.Common.{◌≡◌, ◌∙◌, ◌+◌, List, ℕ, ap, length, take, [], refl}
+use Rattle.std.proofs.Common.{◌≡◌, ◌∙◌, ◌+◌, List, ℕ, ap, length, take, []}
 use Rattle.vx_flow.specs.declared.graph.Op.{Op}
 use Rattle.vx_select.specs.Known.{told, whole, ops_at}
 use Rattle.vx_select.specs.Selected.{those_from, has, written, left_values, right_values, free_values}
@@ -11,9 +11,9 @@ returns c =
     let g = c.args.graph.now in
     let d = whole c.args.graph.now c.args.corners.now in
     let left : c.in_ok-left.left.items ≡ left_values g d =
-        c.in_ok-left.ensures ∙ ap (λ (l : List Op). those_from (either_writing l []) 0 c.len-count.result) c.ops_at.ensures ∙ written_is (ops_at g c.args.corners.now.yes) c.len-count.result ∙ ap (those_from (has (written (ops_at g c.args.corners.now.yes))) 0) c.len-count.ensures.len in
+    c.in_ok-left.ensures ∙ ap (λ (l : List Op). those_from (either_writing l []) 0 c.len-count.result) c.ops_at.ensures ∙ written_is (ops_at g c.args.corners.now.yes) c.len-count.result ∙ ap (those_from (has (written (ops_at g c.args.corners.now.yes))) 0) c.len-count.ensures.len in
     let right : c.in_ok-right.right.items ≡ right_values g d =
-        c.in_ok-right.ensures ∙ ap (λ (l : List Op). those_from (either_writing l []) 0 c.len-count.result) c.ops_at-2.ensures ∙ written_is (ops_at g c.args.corners.now.no) c.len-count.result ∙ ap (those_from (has (written (ops_at g c.args.corners.now.no))) 0) c.len-count.ensures.len in
+    c.in_ok-right.ensures ∙ ap (λ (l : List Op). those_from (either_writing l []) 0 c.len-count.result) c.ops_at-2.ensures ∙ written_is (ops_at g c.args.corners.now.no) c.len-count.result ∙ ap (those_from (has (written (ops_at g c.args.corners.now.no))) 0) c.len-count.ensures.len in
     record {
       left = left;
       right = right;

@@ -12,7 +12,7 @@ returns-then-value-count c = listing_past (either_writing c.args.left.now c.args
 pub values-preserved : goal.values-preserved
 values-preserved c =
     listing_put (either_writing c.args.left.now c.args.right.now) c.args.count c.values.from c.values.values.items c.values.invariant c.in-Some.value c.push.new.self.items c.in-Some.ensures (let h = c.if-value-count.false in omega arith)
-        c.in_ok-push-in-Some.ensures.items
+    c.in_ok-push-in-Some.ensures.items
 
 pub returns-in-None : goal.returns-in-None
 returns-in-None c = listing_none (either_writing c.args.left.now c.args.right.now) c.args.count c.values.from c.values.values.items c.values.invariant c.in-None.ensures

@@ -1,4 +1,4 @@
-use Rattle.std.proofs.Common.{◌≡◌, ◌-◌}
+use Rattle.std.proofs.Common.{◌-◌}
 use Rattle.vx_select.specs.Values.{either_writing, Listing}
 use Rattle.vx_select.proofs.written.written.Given as goal
 
