@@ -1,0 +1,17 @@
+pub mod Renaming
+pub mod Inlined
+pub mod Joined
+pub mod Laws
+pub mod Rows
+pub mod Counts
+pub mod Reaching
+pub mod Finding
+pub mod Fitting
+pub mod Values
+pub mod Permitting
+pub mod Taking
+pub mod Placing
+pub mod Splicing
+pub mod Linking
+pub mod Inlining
+pub mod Choosing
