@@ -1,5 +1,5 @@
 -- Which sites are permitted, and which are candidates, by what is found and tested.
-use Rattle.std.proofs.Common.{◌≡◌, ◌↔◌, ℕ, Bool, true, false, ◌&&◌, ◌<◌, ◌≤◌, List, length, slice_get, Option, Some, None, refl, sym, ap, ◌∙◌, subst, arith, IsTrue}
+use Rattle.std.proofs.Common.{◌≡◌, ◌↔◌, ℕ, ◌+◌, Bool, true, false, ◌&&◌, ◌<◌, ◌≤◌, nat_lt, ltb-true, ltb-false, List, length, slice_get, Option, Some, None, refl, sym, ap, ◌∙◌, subst, arith, IsTrue}
 use Rattle.std.proofs.lemmas.Bool.{false≢true}
 use Rattle.std.proofs.lemmas.Option.{slice_get_within}
 use Rattle.vx_flow.specs.declared.graph.Bank.{Bank}
@@ -104,3 +104,66 @@ module _ (flow : Flow) (counts : Counts) (most : ℕ) (best : Option Site) (site
   none_with h k e =
       let w : MayBeCandidate flow most site c = candidate_may flow most site c m.is k in
       false≢true (sym h ∙ (enough_exact rows c live_here).1 w.may.enough)
+
+-- ---- what each test comes to
+
+pub permitted_by : (flow : Flow) (site : Site) (c : TheCall) (may : Bool) → call_in flow site ≡ Some c → IsTrue may ↔ MayInline flow site.function c → IsTrue may ↔ Permitted flow site
+permitted_by flow site c may e h = let w = permitted_found flow site c e in (λ t. w.0 (h.0 t), λ p. h.1 (w.1 p))
+
+pub permitted_not : (flow : Flow) (site : Site) → call_in flow site ≡ None → IsTrue false ↔ Permitted flow site
+permitted_not flow site e = (λ t. absurd (false≢true t), λ p. absurd (permitted_none flow site e p))
+
+pub not_fitting : (flow : Flow) (f : ℕ) (c : TheCall) → fits c ≡ false → IsTrue false ↔ MayInline flow f c
+not_fitting flow f c e = (λ t. absurd (false≢true t), λ m. absurd (false≢true (sym e ∙ m.fits)))
+
+pub not_apart_may : (flow : Flow) (f : ℕ) (c : TheCall) (apart : Bool) → apart ≡ false → IsTrue apart ↔ StandsApart flow f → IsTrue false ↔ MayInline flow f c
+not_apart_may flow f c apart e h = (λ t. absurd (false≢true t), λ m. absurd (false≢true (sym e ∙ h.1 m.apart)))
+
+pub all_may : (flow : Flow) (f : ℕ) (c : TheCall) (apart has : Bool) → fits c ≡ true → apart ≡ true → IsTrue apart ↔ StandsApart flow f → IsTrue has ↔ HasEnough c → IsTrue has ↔ MayInline flow f c
+all_may flow f c apart has e a h k = (λ t. record { fits = e; apart = h.0 a; enough = k.0 t }, λ m. k.1 m.enough)
+
+pub apart_tested : (flow : Flow) (rows : List (List ℕ)) (count f : ℕ) (apart : Bool) → ((g h : ℕ) → IsTrue (lives rows g h) ↔ Reaches flow g h) → count ≡ length flow.functions →
+    (apart ≡ true → lives rows f f ≡ false) → (apart ≡ true → Entered rows count f → ⊥) → (apart ≡ false → lives rows f f ≡ false → Entered rows count f) → IsTrue apart ↔ StandsApart flow f
+apart_tested flow rows count f apart exact n alone none either = (λ t. apart_by flow rows count f exact n (alone t) (none t), λ s. back apart refl s)
+  where
+    back : (t : Bool) → apart ≡ t → StandsApart flow f → apart ≡ true
+    back true e s = e
+    back false e s = absurd (not_apart flow rows count f exact (either e) s)
+
+pub enough_by : (rows : List (List ℕ)) (c : TheCall) (has : Bool) → ((b v : ℕ) → IsTrue (lives rows b v) ↔ IsLive c.caller b v) → has ≡ has_values rows c → IsTrue has ↔ HasEnough c
+enough_by rows c has exact e = subst (λ t. IsTrue t ↔ HasEnough c) (sym e) (enough_exact rows c exact)
+
+-- a call that is worth it, or none
+
+pub worth_found : (flow : Flow) (counts : Counts) (most : ℕ) (best : Option Site) (site : Site) (c : TheCall) → call_in flow site ≡ Some c → fits c ≡ true → has_few most c.callee.blocks ≡ true → exceeds counts best site ≡ true → MayBeBetter flow counts most best site c
+worth_found flow counts most best site c e f few x = record { is = e; fits = f; few = few; exceeds = x }
+
+pub worth_less : (flow : Flow) (counts : Counts) (most : ℕ) (best : Option Site) (site : Site) → exceeds counts best site ≡ false → NoneIsWorthIt flow counts most best site
+worth_less flow counts most best site e k h = false≢true (sym e ∙ h)
+
+pub worth_none : (flow : Flow) (counts : Counts) (most : ℕ) (best : Option Site) (site : Site) → call_in flow site ≡ None → NoneIsWorthIt flow counts most best site
+worth_none flow counts most best site e k h = no_candidate flow most site e k
+
+pub worth_unfit : (flow : Flow) (counts : Counts) (most : ℕ) (best : Option Site) (site : Site) (c : TheCall) → call_in flow site ≡ Some c → fits c ≡ false → NoneIsWorthIt flow counts most best site
+worth_unfit flow counts most best site c e f k h = false≢true (sym f ∙ (candidate_may flow most site c e k).may.fits)
+
+pub worth_many : (flow : Flow) (counts : Counts) (most : ℕ) (best : Option Site) (site : Site) (c : TheCall) → call_in flow site ≡ Some c → has_few most c.callee.blocks ≡ false → NoneIsWorthIt flow counts most best site
+worth_many flow counts most best site c e f k h = false≢true (sym f ∙ (candidate_may flow most site c e k).few)
+
+-- no function so far is on a cycle and reaches f, and one is
+
+pub none_entered : (rows : List (List ℕ)) (count f i : ℕ) → count ≤ i → ((g : ℕ) → g < i → lives rows g g ≡ true → lives rows g f ≡ true → ⊥) → Entered rows count f → ⊥
+none_entered rows count f i l h w = let k : w.other < count = w.below in h w.other (omega (arith, k, l)) w.cycle w.reaches
+
+pub one_entered : (rows : List (List ℕ)) (count f g : ℕ) → g < count → lives rows g g ≡ true → lives rows g f ≡ true → Entered rows count f
+one_entered rows count f g l c r = record { other = g; below = l; cycle = c; reaches = r }
+
+pub none_next : (rows : List (List ℕ)) (f i : ℕ) → ((g : ℕ) → g < i → lives rows g g ≡ true → lives rows g f ≡ true → ⊥) → (lives rows i i ≡ true → lives rows i f ≡ true → ⊥) → (g : ℕ) → g < i + 1 → lives rows g g ≡ true → lives rows g f ≡ true → ⊥
+none_next rows f i h n g l c r = by (nat_lt g i) refl
+  where
+    by : (t : Bool) → nat_lt g i ≡ t → ⊥
+    by true e = h g (ltb-true g i e) c r
+    by false e =
+        let m : i ≤ g = ltb-false g i e in
+        let q : g ≡ i = omega (arith, l, m) in
+        n (subst (λ j. lives rows j j ≡ true) q c) (subst (λ j. lives rows j f ≡ true) q r)

@@ -24,7 +24,7 @@ use Rattle.vx_inline.specs.Inlined.{TheCall, Ascends, IsFree, AreFree, is_among,
 use Rattle.vx_inline.specs.Permitting.{HasEnough}
 use Rattle.vx_inline.specs.Values.{local_place, local_places, kept, free_of, is_enough, has_values}
 use Rattle.vx_inline.proofs.One.{frees_same}
-use Rattle.vx_inline.proofs.Taking.{InFlat, from_flat, numbers_in, filter_in, is_bank_here}
+use Rattle.vx_inline.proofs.Taking.{InFlat, from_flat, in_flat, numbers_in, filter_in, is_bank_here}
 
 -- ---- lists
 
@@ -52,11 +52,6 @@ filter_ascends p b (suc n) = by (p b) (filter_ascends p (b + 1) n)
     by : (t : Bool) → Ascends (filter p (numbers (b + 1) n)) → Ascends (cond t (b ∷ filter p (numbers (b + 1) n)) (filter p (numbers (b + 1) n)))
     by true a = (above, a)
     by false a = a
-
-pub in_flat : {A B : Type 0} (f : A → List B) (xs : List A) (x : A) (y : B) → IsIn x xs → IsIn y (f x) → IsIn y (flat_map f xs)
-in_flat f [] x y m k = absurd m
-in_flat f (z ∷ zs) x y (inl e) k = in_left y (f z) (flat_map f zs) (subst (λ w. IsIn y (f w)) e k)
-in_flat f (z ∷ zs) x y (inr m) k = in_right y (f z) (flat_map f zs) (in_flat f zs x y m k)
 
 -- ---- places of arrays that are no globals
 
@@ -89,17 +84,20 @@ value_list_in : (o : Option ℕ) (v : ℕ) → o ≡ Some v → IsIn v (value_li
 value_list_in o v e = subst (λ x. IsIn v (value_list x)) (sym e) (inl refl)
 
 module _ (rows : List (List ℕ)) (c : TheCall) (exact : (b v : ℕ) → IsTrue (lives rows b v) ↔ IsLive c.caller b v) where
+  abbrev behind : List ℕ
+  behind = row_at rows c.next
+
   abbrev arguments : List ℕ
   arguments = flat_map value_in c.arguments
+
+  abbrev takers : List ℕ
+  takers = value_list c.result
 
   abbrev places : List ℕ
   places = flat_map (local_places c.caller.arrays) c.caller.blocks
 
-  abbrev rest : List ℕ
-  rest = value_list c.result ++ places
-
   free_kept : (v : ℕ) → IsFree c v → IsIn v (kept rows c) → ⊥
-  free_kept v f m = by (in_either v (row_at rows c.next) (arguments ++ rest) m)
+  free_kept v f m = by (in_either v (behind ++ arguments ++ takers) places m)
     where
       by_place : InFlat (local_places c.caller.arrays) c.caller.blocks v → ⊥
       by_place r =
@@ -107,25 +105,25 @@ module _ (rows : List (List ℕ)) (c : TheCall) (exact : (b v : ℕ) → IsTrue 
           let q = place_of c.caller.arrays s.item v s.names in
           f.place q.0 q.1 (record { block = r.item; has = r.has; stands = subst (λ o. IsIn o r.item.ops) q.2 s.has }) q.3
 
-      by_last : IsIn v (value_list c.result) ⊎ IsIn v places → ⊥
-      by_last (inl k) = f.result (in_value_list c.result v k)
-      by_last (inr k) = by_place (from_flat (local_places c.caller.arrays) c.caller.blocks v k)
+      by_first : IsIn v behind ⊎ IsIn v arguments → ⊥
+      by_first (inl k) = f.dead ((exact c.next v).0 (in_any v behind k))
+      by_first (inr k) = f.argument k
 
-      by_rest : IsIn v arguments ⊎ IsIn v rest → ⊥
-      by_rest (inl k) = f.argument k
-      by_rest (inr k) = by_last (in_either v (value_list c.result) places k)
+      by_three : IsIn v (behind ++ arguments) ⊎ IsIn v takers → ⊥
+      by_three (inl k) = by_first (in_either v behind arguments k)
+      by_three (inr k) = f.result (in_value_list c.result v k)
 
-      by : IsIn v (row_at rows c.next) ⊎ IsIn v (arguments ++ rest) → ⊥
-      by (inl k) = f.dead ((exact c.next v).0 (in_any v (row_at rows c.next) k))
-      by (inr k) = by_rest (in_either v arguments rest k)
+      by : IsIn v (behind ++ arguments ++ takers) ⊎ IsIn v places → ⊥
+      by (inl k) = by_three (in_either v (behind ++ arguments) takers k)
+      by (inr k) = by_place (from_flat (local_places c.caller.arrays) c.caller.blocks v k)
 
   kept_free : (v : ℕ) → (IsIn v (kept rows c) → ⊥) → IsFree c v
   kept_free v n = record {
-    dead = λ l. n (in_left v (row_at rows c.next) (arguments ++ rest) (any_in v (row_at rows c.next) ((exact c.next v).1 l)));
-    argument = λ k. n (in_right v (row_at rows c.next) (arguments ++ rest) (in_left v arguments rest k));
-    result = λ e. n (in_right v (row_at rows c.next) (arguments ++ rest) (in_right v arguments rest (in_left v (value_list c.result) places (value_list_in c.result v e))));
-    place = λ a i h l. n (in_right v (row_at rows c.next) (arguments ++ rest) (in_right v arguments rest (in_right v (value_list c.result) places
-    (in_flat (local_places c.caller.arrays) c.caller.blocks h.block v h.has (in_flat (local_place c.caller.arrays) h.block.ops (Place v a i) v h.stands (place_in c.caller.arrays v a i l))))));
+    dead = λ l. n (in_left v (behind ++ arguments ++ takers) places (in_left v (behind ++ arguments) takers (in_left v behind arguments (any_in v behind ((exact c.next v).1 l)))));
+    argument = λ k. n (in_left v (behind ++ arguments ++ takers) places (in_left v (behind ++ arguments) takers (in_right v behind arguments k)));
+    result = λ e. n (in_left v (behind ++ arguments ++ takers) places (in_right v (behind ++ arguments) takers (value_list_in c.result v e)));
+    place = λ a i h l. n (in_right v (behind ++ arguments ++ takers) places
+        (in_flat (local_places c.caller.arrays) c.caller.blocks h.block v h.has (in_flat (local_place c.caller.arrays) h.block.ops (Place v a i) v h.stands (place_in c.caller.arrays v a i l))));
   }
 
   bank_there : (bank : Bank) (o : Option Bank) → is_bank bank o ≡ true → o ≡ Some bank
@@ -142,9 +140,6 @@ module _ (rows : List (List ℕ)) (c : TheCall) (exact : (b v : ℕ) → IsTrue 
     exact = λ v. (there v, back v);
   }
     where
-      test : ℕ → Bool
-      test v = is_bank bank (slice_get c.caller.banks v) && not (is_among (kept rows c) v)
-
       there : (v : ℕ) → IsIn v (free_of rows c bank) → Has c.caller v bank × IsFree c v
       there v m =
           let r = in_filtered (λ v. is_bank bank (slice_get c.caller.banks v) && not (is_among (kept rows c) v)) (numbers 0 (length c.caller.banks)) v m in

@@ -5,7 +5,7 @@ use Rattle.std.proofs.lemmas.Bool.{false≢true}
 use Rattle.std.proofs.lemmas.Option.{slice_get_within}
 use Rattle.std.specs.List.{flat_map}
 use Rattle.std.specs.Option.{option_map}
-use Rattle.vx_base.specs.Outcome.{Outcome, IsOver, IsFailure, IsGoing, Same, NeverFails, Step, On, Over, step_then, run}
+use Rattle.vx_base.specs.Outcome.{Outcome, IsGoing, Same, NeverFails, Step, On, Over, step_then, run}
 use Rattle.vx_base.specs.declared.outcome.Trap.{Trap}
 use Rattle.vx_base.specs.declared.outcome.Trap.TheVariants.{Depth}
 use Rattle.vx_base.proofs.Runs.{runs_from, safe_after, safe_end, reach_one}
@@ -35,22 +35,11 @@ use Rattle.vx_inline.specs.Joined.{ComesTo, Follows, Copies, Stays, Stands, Ente
 use Rattle.vx_inline.specs.Renaming.{Carried, AreApart, Within, CarriedTo}
 use Rattle.vx_inline.proofs.Renaming.{held_renamed}
 use Rattle.vx_inline.proofs.Depth.{get_in, Chain, wait_few, not_deepest, chain_on}
-use Rattle.vx_inline.proofs.Moving.{done, hop_done, hop_own, done_counts, done_renamed, MovedIn, moved_in}
-
-over_by : (o : Outcome) → (IsGoing o → ⊥) → (IsFailure o → ⊥) → IsOver o
-over_by (Outcome.Ends r out) g f = tt
-over_by (Outcome.Traps k out) g f = tt
-over_by (Outcome.Goes out) g f = g tt
-over_by (Outcome.Stuck why p out) g f = f tt
-over_by (Outcome.Wrong out) g f = f tt
+use Rattle.vx_inline.proofs.Moving.{over_by, done, hop_done, hop_own, done_counts, done_renamed, MovedIn, moved_in}
+use Rattle.vx_inline.proofs.Taking.{in_flat}
 
 graph_is : (g h : Graph) → Option.Some g ≡ Some h → g ≡ h
 graph_is g h e = cc
-
-in_flat : {A B : Type 0} (f : A → List B) (xs : List A) (x : A) (y : B) → IsIn x xs → IsIn y (f x) → IsIn y (flat_map f xs)
-in_flat f [] x y m n = absurd m
-in_flat f (z ∷ xs) x y (inl e) n = in_left y (f z) (flat_map f xs) (subst (λ w. IsIn y (f w)) e n)
-in_flat f (z ∷ xs) x y (inr m) n = in_right y (f z) (flat_map f xs) (in_flat f xs x y m n)
 
 module _ (flow : Flow) (site : Site) (c : CallAt flow site) (graphs : List Graph) (at copy to : ℕ → ℕ) (joins : Joins flow site c graphs at copy to) (shallow : IsShallow flow site c) (sound : SoundFlow flow) where
   abbrev old : Program

@@ -168,7 +168,7 @@ module _ (flow : Flow) (site : Site) (c : CallAt flow site) (free : Bank → Lis
     pub plain : is_plain block ≡ true
 
   pub from_first : (i : ℕ) (block : Block) → slice_get X i ≡ Some block → FromPlain block
-  pub from_first i block e = record { from = by (0 + f.0 == site.block) r.2; plain = f.2 }
+  from_first i block e = record { from = by (0 + f.0 == site.block) r.2; plain = f.2 }
     where
       f : (b : ℕ) × (slice_get stayed_row b ≡ Some block) × (is_plain block ≡ true)
       f = get_filter is_plain stayed_row i block e
@@ -181,7 +181,7 @@ module _ (flow : Flow) (site : Site) (c : CallAt flow site) (free : Bank → Lis
       by false q = of_caller f.0 r.0 r.1 q
 
   pub from_second : (i : ℕ) (block : Block) → slice_get Y i ≡ Some block → FromPlain block
-  pub from_second i block e =
+  from_second i block e =
       let f = get_filter is_plain (map copy_of B) i block e in
       let r = get_map copy_of B f.0 block f.1 in
       record { from = of_callee f.0 r.0 r.1 (sym r.2); plain = f.2 }
@@ -194,7 +194,7 @@ module _ (flow : Flow) (site : Site) (c : CallAt flow site) (free : Bank → Lis
     pub is : block ≡ trap_at kind
 
   pub from_row : (x : ℕ) (block : Block) → slice_get S x ≡ Some block → FromPlain block ⊎ FromTrap x block
-  pub from_row x block e = by (get_either X (Y ++ Z) x block e)
+  from_row x block e = by (get_either X (Y ++ Z) x block e)
     where
       later : (k : ℕ) → x ≡ length X + k → ((k < length Y) × (slice_get Y k ≡ Some block)) ⊎ ((j : ℕ) × (k ≡ length Y + j) × (slice_get Z j ≡ Some block)) → FromPlain block ⊎ FromTrap x block
       later k q (inl r) = inl (from_second k block r.1)
@@ -210,7 +210,7 @@ module _ (flow : Flow) (site : Site) (c : CallAt flow site) (free : Bank → Lis
       by (inr r) = later r.0 r.1 (get_either Y Z r.0 block r.2)
 
   pub tail_kind : (i : ℕ) (block : Block) → slice_get S (m + i) ≡ Some block → (k : Trap) × (slice_get kinds i ≡ Some k) × (block ≡ trap_at k)
-  pub tail_kind i block e =
+  tail_kind i block e =
       let a : length X ≡ nA = first_length in
       let b : length Y ≡ nB = second_length in
       let q : length X + (length Y + i) ≡ m + i = omega (arith, a, b) in

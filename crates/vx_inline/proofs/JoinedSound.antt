@@ -37,6 +37,7 @@ use Rattle.vx_inline.proofs.Inlines.{joined_runs}
 use Rattle.vx_inline.proofs.Renaming.{unequal}
 use Rattle.vx_inline.proofs.Numbering.{get_front, get_behind, there, AsPlain, count_same, filter_at, before_all, trap_at, IsTrap, trap_of, kind_at, stayed_get, stayed_is_plain, stayed_plain, copied_is_plain, map_plain, comes, plain_edged, trap_edged}
 use Rattle.vx_inline.proofs.Renamed.{reads_named, writes_named, exit_reads_named, operand_read, test_read, value_renamed, reads_renamed, writes_renamed, tests_renamed, bank_renamed, arrays_renamed, operands_renamed, place_renamed, across_renamed, text_renamed, MoveFrom, move_renamed, moves_from, out_from, access_array, SameValues, moved_same}
+use Rattle.vx_inline.proofs.Taking.{taken_one, taken_free, is_free}
 use Rattle.vx_inline.proofs.Rests.{longer, all_before, stayed_from, placed_one, kinds_one, moved_ends, copied_ends, not_both_trap, moves_few, copied_short, MovedSplit, moved_split, copied_split, moved_target, copied_target}
 use Rattle.vx_inline.proofs.Joining.{block_is, long as the_long, in_third as the_in_third, trap_place as the_trap_place, caller_low as the_caller_low, callee_low as the_callee_low, stays as the_stays, enters as the_enters, few_arrays as the_few_arrays}
 use Rattle.vx_inline.proofs.JoinedShape.{From, FromPlain, FromTrap, of_caller, of_call, of_callee, from_row as the_from_row, tail_kind as the_tail_kind, caller_target as the_caller_target, callee_target as the_callee_target, next_there as the_next_there, callee_first as the_callee_first, rowed as the_rowed}

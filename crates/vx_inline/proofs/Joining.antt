@@ -37,6 +37,7 @@ use Rattle.vx_inline.proofs.Inlines.{joined_runs}
 use Rattle.vx_inline.proofs.Renaming.{unequal}
 use Rattle.vx_inline.proofs.Numbering.{get_front, get_behind, there, AsPlain, count_same, filter_at, before_all, trap_at, IsTrap, trap_of, kind_at, stayed_get, stayed_is_plain, stayed_plain, copied_is_plain, map_plain, comes, plain_edged, trap_edged}
 use Rattle.vx_inline.proofs.Renamed.{reads_named, writes_named, exit_reads_named, operand_read, test_read, value_renamed, reads_renamed, writes_renamed, tests_renamed, bank_renamed, arrays_renamed, operands_renamed, place_renamed, across_renamed, text_renamed, MoveFrom, move_renamed, moves_from, out_from, access_array, SameValues, moved_same}
+use Rattle.vx_inline.proofs.Taking.{taken_one, taken_free, is_free}
 use Rattle.vx_inline.proofs.Rests.{longer, all_before, stayed_from, placed_one, kinds_one, moved_ends, copied_ends, not_both_trap, moves_few, copied_short, MovedSplit, moved_split, copied_split, moved_target, copied_target}
 
 pub block_is : (x y : Block) → Option.Some x ≡ Some y → x ≡ y
@@ -279,7 +280,7 @@ module _ (flow : Flow) (site : Site) (c : CallAt flow site) (free : Bank → Lis
       by false e = ltb-false (length flow.globals) (length c.parts.callee.arrays) e
 
   module _ (begins : BeginsPlain flow site c) where
-    zero_place : (block : Block) → slice_get A 0 ≡ Some block → at0 0 ≡ 0
+    pub zero_place : (block : Block) → slice_get A 0 ≡ Some block → at0 0 ≡ 0
     zero_place block e = plain_place 0 A 0 block e (begins block e)
 
     entry : at 0 ≡ 0

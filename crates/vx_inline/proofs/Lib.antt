@@ -22,9 +22,3 @@ pub mod Frees
 pub mod Finds
 pub mod Fits
 pub mod Candidates
-pub mod Firsts
-pub mod Tables
-pub mod Placing
-pub mod Splicing
-pub mod Linking
-pub mod Stepping

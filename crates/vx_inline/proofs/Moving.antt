@@ -2,6 +2,7 @@
 use Rattle.std.proofs.Common.{◌≡◌, inl, inr, ℕ, zero, suc, ℤ, Bool, true, false, cond, ◌==◌, List, [], ◌∷◌, ◌++◌, length, map, slice_set, Option, Some, None, refl, sym, ap, ◌∙◌, subst, eq-eqb, eqb-true}
 use Rattle.std.proofs.lemmas.Bool.{and_parts}
 use Rattle.std.specs.List.{flat_map}
+use Rattle.vx_base.specs.Outcome.{Outcome, IsOver, IsFailure, IsGoing}
 use Rattle.vx_flow.specs.declared.graph.Operand.{Operand}
 use Rattle.vx_flow.specs.declared.graph.Operand.TheVariants.{Held, Number, Stack}
 use Rattle.vx_flow.specs.declared.graph.Op.{Op}
@@ -17,6 +18,13 @@ use Rattle.vx_flow.proofs.SoundLists.{all_in, differs}
 use Rattle.vx_inline.specs.Inlined.{moves_in}
 use Rattle.vx_inline.specs.Renaming.{Carried, AreApart, Within, CarriedTo}
 use Rattle.vx_inline.proofs.Renaming.{unequal, effect_renamed}
+
+pub over_by : (o : Outcome) → (IsGoing o → ⊥) → (IsFailure o → ⊥) → IsOver o
+over_by (Outcome.Ends r out) g f = tt
+over_by (Outcome.Traps k out) g f = tt
+over_by (Outcome.Goes out) g f = g tt
+over_by (Outcome.Stuck why p out) g f = f tt
+over_by (Outcome.Wrong out) g f = f tt
 
 -- ---- rows of operations
 

@@ -1,8 +1,9 @@
 -- The values that a graph names, as they are listed.
-use Rattle.std.proofs.Common.{◌≡◌, ◌⊎◌, inl, inr, ℕ, zero, suc, ◌+◌, ◌<◌, ◌≤◌, Bool, true, false, cond, not, ◌&&◌, ◌==◌, List, [], ◌∷◌, ◌++◌, length, slice_get, Option, Some, refl, sym, ap, ◌∙◌, subst, arith, eq-eqb, eqb-true, append-nil}
+use Rattle.std.proofs.Common.{◌≡◌, ◌⊎◌, inl, inr, ℕ, zero, suc, ◌+◌, ◌<◌, ◌≤◌, Bool, true, false, cond, not, nat_le, ◌&&◌, ◌==◌, List, [], ◌∷◌, ◌++◌, length, slice_get, Option, Some, refl, sym, ap, ◌∙◌, subst, arith, eq-eqb, eqb-true, append-nil}
 use Rattle.std.proofs.lemmas.Bool.{false≢true}
 use Rattle.std.specs.List.{filter}
 use Rattle.vx_flow.specs.declared.graph.Bank.{Bank}
+use Rattle.vx_flow.specs.declared.graph.Bank.TheVariants.{General, Branch}
 use Rattle.vx_flow.specs.declared.graph.Op.{Op}
 use Rattle.vx_flow.specs.declared.graph.Graph.{Graph}
 use Rattle.vx_flow.specs.Effects.{IsIn, writes}
@@ -13,7 +14,8 @@ use Rattle.vx_flow.specs.Walk.{numbers}
 use Rattle.vx_flow.proofs.HeaderSteps.{filter_more}
 use Rattle.vx_flow.proofs.OperandLaws.{writes_listed}
 use Rattle.vx_inline.specs.Inlined.{TheCall, is_among, names, named}
-use Rattle.vx_inline.specs.Values.{is_listed, kept, free_of}
+use Rattle.vx_inline.specs.declared.by_bank.ByBank.{ByBank}
+use Rattle.vx_inline.specs.Values.{is_listed, kept, free_of, is_enough, has_values, of_bank}
 
 pub written_added : (op : Op) (w : Option ℕ) (old new : List ℕ) → w ≡ written_by op → new ≡ old ++ value_list w → new ≡ old ++ writes op
 written_added op w old new e q = q ∙ ap (λ l. old ++ l) (writes_listed op w e)
@@ -46,3 +48,31 @@ next_in p found new n e t q = q ∙ ap (λ l. l ++ n ∷ []) e ∙ ap (λ s. fil
 
 pub next_out : (p : ℕ → Bool) (found : List ℕ) (n : ℕ) → found ≡ filter p (numbers 0 n) → p n ≡ false → found ≡ filter p (numbers 0 (n + 1))
 next_out p found n e t = e ∙ sym (append-nil (filter p (numbers 0 n))) ∙ ap (λ s. filter p (numbers 0 n) ++ cond s (n ∷ []) []) (sym t) ∙ sym (filter_more p n)
+
+-- by bank
+
+pub both_listed : (banks : List Bank) (marks : List Bool) (marked : Bool) (general branch : List ℕ) → general ≡ filter (is_listed banks marks marked General) (numbers 0 (length banks)) → branch ≡ filter (is_listed banks marks marked Branch) (numbers 0 (length banks)) →
+    (bank : Bank) → of_bank (record { general = general; branch = branch }) bank ≡ filter (is_listed banks marks marked bank) (numbers 0 (length banks))
+both_listed banks marks marked general branch e q General = e
+both_listed banks marks marked general branch e q Branch = q
+
+pub named_by : (g : Graph) (list row : List ℕ) (marks shown : List Bool) (banks : List Bank) (count : ℕ) (values : ByBank) → list ≡ names g → row ≡ list → count ≡ length g.banks → ((v : ℕ) → v < count → is_marked marks v ≡ is_among row v) → banks ≡ g.banks → shown ≡ marks →
+    ((bank : Bank) → of_bank values bank ≡ filter (is_listed banks shown true bank) (numbers 0 (length banks))) → (bank : Bank) → of_bank values bank ≡ named g bank
+named_by g list row marks shown banks count values e r n h b s k bank =
+    k bank ∙ ap (λ l. filter (is_listed l shown true bank) (numbers 0 (length l))) b ∙ ap (λ m. filter (is_listed g.banks m true bank) (numbers 0 (length g.banks))) s ∙
+    listed_named g marks count bank n (λ v l. h v l ∙ ap (λ x. is_among x v) (r ∙ e))
+
+pub free_by : (rows : List (List ℕ)) (c : TheCall) (list row : List ℕ) (marks shown : List Bool) (banks : List Bank) (count : ℕ) (values : ByBank) → list ≡ kept rows c → row ≡ list → count ≡ length c.caller.banks → ((v : ℕ) → v < count → is_marked marks v ≡ is_among row v) → banks ≡ c.caller.banks → shown ≡ marks →
+    ((bank : Bank) → of_bank values bank ≡ filter (is_listed banks shown false bank) (numbers 0 (length banks))) → (bank : Bank) → of_bank values bank ≡ free_of rows c bank
+free_by rows c list row marks shown banks count values e r n h b s k bank =
+    k bank ∙ ap (λ l. filter (is_listed l shown false bank) (numbers 0 (length l))) b ∙ ap (λ m. filter (is_listed c.caller.banks m false bank) (numbers 0 (length c.caller.banks))) s ∙
+    listed_free rows c marks count bank n (λ v l. h v l ∙ ap (λ x. is_among x v) (r ∙ e))
+
+-- there are enough of both banks
+pub both_enough : (rows : List (List ℕ)) (c : TheCall) (free named_ones : ByBank) → ((bank : Bank) → of_bank free bank ≡ free_of rows c bank) → ((bank : Bank) → of_bank named_ones bank ≡ named c.callee bank) →
+    (nat_le (length named_ones.general) (length free.general) && nat_le (length named_ones.branch) (length free.branch)) ≡ has_values rows c
+both_enough rows c free named_ones f n =
+    ap (λ l. nat_le (length l) (length free.general) && nat_le (length named_ones.branch) (length free.branch)) (n General) ∙
+    ap (λ l. nat_le (length (named c.callee General)) (length l) && nat_le (length named_ones.branch) (length free.branch)) (f General) ∙
+    ap (λ l. is_enough rows c General && nat_le (length l) (length free.branch)) (n Branch) ∙
+    ap (λ l. is_enough rows c General && nat_le (length (named c.callee Branch)) (length l)) (f Branch)

@@ -21,7 +21,7 @@ use Rattle.vx_flow.specs.Effects.{IsIn, value_in, is_unary, reads, writes}
 use Rattle.vx_flow.specs.Live.{reads_of_exit}
 use Rattle.vx_flow.specs.Sound.{HasOperation, HasExit, Has, IsOperandOf, Sound, is_bank, operands_of, bank_written, results_of_exit}
 use Rattle.vx_flow.specs.Walk.{numbers}
-use Rattle.vx_flow.proofs.Members.{in_either}
+use Rattle.vx_flow.proofs.Members.{in_left, in_right, in_either}
 use Rattle.vx_flow.proofs.SoundLists.{any_of}
 use Rattle.vx_inline.specs.declared.site.Site.{Site}
 use Rattle.vx_inline.specs.Inlined.{CallAt, IsPermitted, Ascends, IsFree, is_among, named_by, names, named, beside, bank_of, taken}
@@ -104,6 +104,11 @@ from_flat f (x ∷ xs) y m = by (in_either y (f x) (flat_map f xs) m) (from_flat
     by : IsIn y (f x) ⊎ IsIn y (flat_map f xs) → (IsIn y (flat_map f xs) → InFlat f xs y) → InFlat f (x ∷ xs) y
     by (inl n) k = record { item = x; has = inl refl; names = n }
     by (inr n) k = let r = k n in record { item = r.item; has = inr r.has; names = r.names }
+
+pub in_flat : {A B : Type 0} (f : A → List B) (xs : List A) (x : A) (y : B) → IsIn x xs → IsIn y (f x) → IsIn y (flat_map f xs)
+in_flat f [] x y m n = absurd m
+in_flat f (z ∷ xs) x y (inl e) n = in_left y (f z) (flat_map f xs) (subst (λ w. IsIn y (f w)) e n)
+in_flat f (z ∷ xs) x y (inr m) n = in_right y (f z) (flat_map f xs) (in_flat f xs x y m n)
 
 abbrev pub Banked : Graph → ℕ → Type 0
 Banked g v = (bank : Bank) × Has g v bank

@@ -9,9 +9,4 @@ pub mod Finding
 pub mod Fitting
 pub mod Values
 pub mod Permitting
-pub mod Taking
-pub mod Placing
-pub mod Splicing
-pub mod Linking
-pub mod Inlining
 pub mod Choosing

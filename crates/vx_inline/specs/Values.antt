@@ -46,7 +46,7 @@ local_places arrays block = flat_map (local_place arrays) block.ops
 
 -- the values that are not free, where these rows list what is live at each block of the caller
 abbrev pub kept : (rows : List (List ℕ)) → TheCall → List ℕ
-kept rows c = row_at rows c.next ++ (flat_map value_in c.arguments ++ (value_list c.result ++ flat_map (local_places c.caller.arrays) c.caller.blocks))
+kept rows c = row_at rows c.next ++ flat_map value_in c.arguments ++ value_list c.result ++ flat_map (local_places c.caller.arrays) c.caller.blocks
 
 -- the free ones of a bank, ascending
 abbrev pub free_of : (rows : List (List ℕ)) → TheCall → Bank → List ℕ

@@ -36,6 +36,7 @@ impl ByBank {
 }
 
 /// The values that a graph names.
+#[tactic(auto, using(crate::proofs::Named::named_by))]
 pub(crate) fn named(alloc: Global, graph: &Graph) -> Result<ByBank, NoMemory>
     ensures { IfOk result (λ values. (bank : Bank) → of_bank values bank ≡ named graph.now bank) }
 {
@@ -45,6 +46,7 @@ pub(crate) fn named(alloc: Global, graph: &Graph) -> Result<ByBank, NoMemory>
 }
 
 /// The values that are marked, or those that are not.
+#[tactic(auto, using(crate::proofs::Named::both_listed))]
 pub(crate) fn by_bank(
     alloc: Global,
     banks: &[Bank],
@@ -58,6 +60,7 @@ pub(crate) fn by_bank(
     Ok(ByBank { general, branch })
 }
 
+#[tactic(auto, using(crate::proofs::Named::next_in, crate::proofs::Named::next_out))]
 fn listed(
     alloc: Global,
     banks: &[Bank],

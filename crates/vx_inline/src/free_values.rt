@@ -19,19 +19,22 @@ use vx_flow::live_rows::Live;
 use vx_flow::operands::push_value;
 
 /// The free values by their bank, by what is live at the blocks of the caller.
-pub(crate) fn free_values(
-    alloc: Global,
-    live: &Live,
-    found: &FoundCall,
-) -> Result<ByBank, NoMemory>
+#[tactic(auto, using(crate::proofs::Named::free_by))]
+pub(crate) fn free_values(alloc: Global, live: &Live, found: &FoundCall) -> Result<ByBank, NoMemory>
     ensures { IfOk result (λ values. (bank : Bank) → of_bank values bank ≡ free_of live.now (seen found.now) bank) }
 {
     let kept = kept(alloc, live, found)?;
     let marks = marks_of(alloc, found.caller.banks.len(), kept.as_slice())?;
-    by_bank(alloc, found.caller.banks.as_slice(), marks.as_slice(), false)
+    by_bank(
+        alloc,
+        found.caller.banks.as_slice(),
+        marks.as_slice(),
+        false,
+    )
 }
 
 /// Whether of each bank as many values are free as the callee names.
+#[tactic(auto, using(crate::proofs::Named::both_enough))]
 pub(crate) fn has_values(alloc: Global, live: &Live, found: &FoundCall) -> Result<bool, NoMemory>
     ensures { IfOk result (λ has. has ≡ has_values live.now (seen found.now)) }
 {
@@ -66,11 +69,7 @@ fn push_places(
     Ok(())
 }
 
-fn push_places_in(
-    values: &mut Listed<Value>,
-    arrays: &[Array],
-    ops: &[Op],
-) -> Result<(), NoMemory>
+fn push_places_in(values: &mut Listed<Value>, arrays: &[Array], ops: &[Op]) -> Result<(), NoMemory>
     ensures { IfOk result (λ _. values.new ≡ values.old ++ flat_map (local_place arrays.now) ops.now) }
 {
     for op in ops {

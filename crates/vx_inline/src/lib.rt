@@ -1,35 +1,25 @@
-// Small functions inlined in graphs: a call is replaced by copies of the blocks of its callee. Which calls may be, which is chosen,
-// and what comes of it are defined in specs/Inlined.antt and specs/Choosing.antt. The laws are the clauses of functions that do
-// nothing; what the calls promise of a program is `stays`.
+// Small functions inlined in graphs: a call is replaced by copies of the blocks of its callee. Which calls may be, and what comes
+// of it, is defined in specs/Inlined.antt; which of them comes first in specs/Choosing.antt. The laws are the clauses of functions
+// that do nothing; `permitted` tests whether a call may be inlined.
 #![tactic(auto)]
 
 pub mod by_bank;
 mod called;
-pub mod choice;
-mod edge_blocks;
 mod fitting;
 pub mod found_call;
 mod free_values;
-mod inlined_flow;
-mod inlining;
 mod marks;
 mod names;
 mod permission;
-pub mod places;
 pub mod site;
-pub mod splice;
-mod takes;
 
 ghost use Rattle.vx_inline.specs.Counts.{NumbersStay, OneCallLess};
 ghost use Rattle.vx_inline.specs.Joined.{JoinedRuns};
-ghost use Rattle.vx_inline.specs.Laws.{InlinedIsOne, InlinedRuns, InlinedRunsAs, InlinedStays};
+ghost use Rattle.vx_inline.specs.Laws.{InlinedIsOne, InlinedRuns, InlinedRunsAs, InlinedSound, InlinedStays};
 ghost use Rattle.vx_inline.specs.Reaching.{NamesStay, ReachedWhereLive};
 ghost use Rattle.vx_inline.specs.Renaming.{EffectIsRenamed};
 ghost use Rattle.vx_inline.specs.Rows.{EdgesGetBlocks, RowIsInlined, RowIsNotPermitted};
 
-pub use choice::choose;
-pub use inlined_flow::inlined_all;
-pub use inlining::inline_one;
 pub use permission::permitted;
 
 /// An operation with other values in place of its own does the same.
@@ -72,6 +62,12 @@ pub fn row_is_not_permitted()
 #[tactic(auto, using(crate::proofs::Programs::inlined_stays))]
 pub fn inlined_stays()
     ensures { InlinedStays }
+{}
+
+/// With a permitted call inlined a sound flow is sound.
+#[tactic(auto, using(crate::proofs::FlowSound::inlined_sound))]
+pub fn inlined_sound()
+    ensures { InlinedSound }
 {}
 
 /// One flow comes of inlining the call of a site.

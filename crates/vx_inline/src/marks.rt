@@ -1,6 +1,6 @@
 // Tables in which the numbers of a list are marked.
 
-ghost use Rattle.std.specs.Prelude.{◌≡◌, ◌<◌, ℕ, true, IfOk, length, slice_set};
+ghost use Rattle.std.specs.Prelude.{◌≡◌, ◌<◌, ℕ, true, false, IfOk, replicate, slice_set};
 ghost use Rattle.vx_flow.specs.Rows.{is_marked};
 ghost use Rattle.vx_inline.specs.Inlined.{is_among};
 ghost use Rattle.vx_inline.specs.Values.{marked_all};
@@ -10,17 +10,18 @@ use vx_base::outcome::NoMemory;
 use vx_flow::graph::Value;
 
 /// A table of so many values, in which those of a list are marked.
-#[tactic(auto, using(crate::proofs::Marking::marked_where_among))]
-pub(crate) fn marks_of(
-    alloc: Global,
-    count: usize,
-    values: &[Value],
-) -> Result<Vec<bool>, NoMemory>
+pub(crate) fn marks_of(alloc: Global, count: usize, values: &[Value]) -> Result<Vec<bool>, NoMemory>
     ensures { IfOk result (λ marks. (v : ℕ) → v < count → is_marked marks.items v ≡ is_among values.now v) }
 {
-    let mut marks = vec![in alloc; false; count]?;
+    let mut marks = unmarked(alloc, count)?;
     mark_all(&mut marks, values);
     Ok(marks)
+}
+
+fn unmarked(alloc: Global, count: usize) -> Result<Vec<bool>, NoMemory>
+    ensures { IfOk result (λ marks. marks.items ≡ replicate count false) }
+{
+    Ok(vec![in alloc; false; count]?)
 }
 
 fn mark_all(marks: &mut Vec<bool>, values: &[Value])

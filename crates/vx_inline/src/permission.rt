@@ -22,7 +22,7 @@ use vx_flow::live_rows::Live;
 /// Whether the call of a site of a sound flow may be inlined: the caller is on no cycle of calls, and no function on one reaches
 /// it; the callee has no call, and no array but globals; of each bank as many values of the caller are free behind the call as
 /// the callee names; and blocks stay within 512 operations.
-#[tactic(auto, using(crate::proofs::Permitting::permitted_by, crate::proofs::Permitting::permitted_not))]
+#[tactic(auto, using(crate::proofs::Candidates::permitted_not))]
 pub fn permitted(alloc: Global, flow: &Flow, site: &Site) -> Result<bool, NoMemory>
     requires sound { SoundFlow flow.now }
     ensures exact { IfOk result (λ may. IsTrue may ↔ Permitted flow.now site.now) }
@@ -33,6 +33,7 @@ pub fn permitted(alloc: Global, flow: &Flow, site: &Site) -> Result<bool, NoMemo
     }
 }
 
+#[tactic(auto, using(crate::proofs::Candidates::not_fitting, crate::proofs::Candidates::not_apart_may, crate::proofs::Candidates::all_may))]
 fn may_inline(
     alloc: Global,
     flow: &Flow,
@@ -59,6 +60,7 @@ fn stands_apart(alloc: Global, flow: &Flow, function: u32) -> Result<bool, NoMem
 }
 
 /// Whether a function is on no cycle of calls, and no function on one reaches it.
+#[tactic(auto, using(crate::proofs::Candidates::none_entered, crate::proofs::Candidates::one_entered, crate::proofs::Candidates::none_next))]
 pub(crate) fn is_apart(reached: &Live, count: u32, function: u32) -> bool
     ensures alone { result ≡ true → lives reached.now function function ≡ false }
     ensures apart { result ≡ true → Entered reached.now count function → ⊥ }
