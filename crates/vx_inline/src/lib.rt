@@ -15,7 +15,7 @@ pub mod site;
 
 ghost use Rattle.vx_inline.specs.Counts.{NumbersStay, OneCallLess};
 ghost use Rattle.vx_inline.specs.Joined.{JoinedRuns};
-ghost use Rattle.vx_inline.specs.Laws.{InlinedIsOne, InlinedRuns, InlinedRunsAs, InlinedSound, InlinedStays};
+ghost use Rattle.vx_inline.specs.Laws.{InlinedIsOne, InlinedRuns, InlinedRunsAs, InlinedStays};
 ghost use Rattle.vx_inline.specs.Reaching.{NamesStay, ReachedWhereLive};
 ghost use Rattle.vx_inline.specs.Renaming.{EffectIsRenamed};
 ghost use Rattle.vx_inline.specs.Rows.{EdgesGetBlocks, RowIsInlined, RowIsNotPermitted};
@@ -62,12 +62,6 @@ pub fn row_is_not_permitted()
 #[tactic(auto, using(crate::proofs::Programs::inlined_stays))]
 pub fn inlined_stays()
     ensures { InlinedStays }
-{}
-
-/// With a permitted call inlined a sound flow is sound.
-#[tactic(auto, using(crate::proofs::FlowSound::inlined_sound))]
-pub fn inlined_sound()
-    ensures { InlinedSound }
 {}
 
 /// One flow comes of inlining the call of a site.
