@@ -1,0 +1,78 @@
+-- The site whose call is inlined next.
+use Rattle.std.specs.Prelude.{◌≡◌, ◌<◌, ◌≤◌, ◌⊎◌, ◌+◌, ℕ, Bool, true, nat_lt, Option, Some, None, List, [], ◌∷◌, length}
+use Rattle.vx_flow.specs.declared.graph.Bank.{Bank}
+use Rattle.vx_flow.specs.declared.graph.Block.{Block}
+use Rattle.vx_flow.specs.declared.graph.Flow.{Flow}
+use Rattle.vx_profile.specs.declared.counts.Counts.{Counts}
+use Rattle.vx_profile.specs.Counts.{block_count}
+use Rattle.vx_inline.specs.declared.site.Site.{Site}
+use Rattle.vx_inline.specs.Inlined.{TheCall, CallAt, IsPermitted}
+use Rattle.vx_inline.specs.Finding.{call_in}
+use Rattle.vx_inline.specs.Fitting.{fits, has_few}
+
+-- how many operations blocks have together; exits are none
+abbrev pub operations : List Block → ℕ
+operations [] = 0
+operations (block ∷ blocks) = length block.ops + operations blocks
+
+-- a permitted site whose callee has at most so many operations
+pub record IsCandidate (flow : Flow) (most : ℕ) (site : Site) : Type 0 where
+  pub call : CallAt flow site
+  pub free : Bank → List ℕ
+  pub permitted : IsPermitted flow site call free
+  pub few : operations call.parts.callee.blocks ≤ most
+
+abbrev pub count_of : Counts → Site → ℕ
+count_of counts site = block_count counts site.function site.block
+
+-- by function, then by block
+abbrev pub Below : (site other : Site) → Type 0
+Below site other = (site.function < other.function) ⊎ ((site.function ≡ other.function) × (site.block < other.block))
+
+-- a site comes before another: its block has the greater count, or the same and the lower numbers
+abbrev pub ComesBefore : Counts → (site other : Site) → Type 0
+ComesBefore counts site other = (count_of counts other < count_of counts site) ⊎ ((count_of counts other ≡ count_of counts site) × Below site other)
+
+pub record IsChosen (flow : Flow) (counts : Counts) (most : ℕ) (site : Site) : Type 0 where
+  pub candidate : IsCandidate flow most site
+  pub first : (other : Site) → IsCandidate flow most other → (other ≡ site) ⊎ ComesBefore counts site other
+
+-- the site that comes first among the candidates; none where there is no candidate
+abbrev pub Chosen : Flow → Counts → (most : ℕ) → Option Site → Type 0
+Chosen flow counts most None = (site : Site) → IsCandidate flow most site → ⊥
+Chosen flow counts most (Some site) = IsChosen flow counts most site
+
+-- ---- while it is looked for
+
+abbrev pub site_of : ℕ → ℕ → Site
+site_of f b = record { function = f; block = b }
+
+pub record IsFirst (flow : Flow) (counts : Counts) (most f b : ℕ) (site : Site) : Type 0 where
+  pub below : Below site (site_of f b)
+  pub candidate : IsCandidate flow most site
+  pub first : (other : Site) → Below other (site_of f b) → IsCandidate flow most other → (other ≡ site) ⊎ ComesBefore counts site other
+
+-- the first of the candidates below block b of function f
+abbrev pub BestBefore : Flow → Counts → (most f b : ℕ) → Option Site → Type 0
+BestBefore flow counts most f b None = (site : Site) → Below site (site_of f b) → IsCandidate flow most site → ⊥
+BestBefore flow counts most f b (Some site) = IsFirst flow counts most f b site
+
+-- the block of a site has a greater count than the best
+abbrev pub exceeds : Counts → Option Site → Site → Bool
+exceeds counts None site = true
+exceeds counts (Some best) site = nat_lt (count_of counts best) (count_of counts site)
+
+-- the site is no candidate, or its block has no greater count than the best
+abbrev pub NoneIsWorthIt : Flow → Counts → (most : ℕ) → Option Site → Site → Type 0
+NoneIsWorthIt flow counts most best site = IsCandidate flow most site → exceeds counts best site ≡ true → ⊥
+
+-- all but the values and other functions is tested of this call
+pub record MayBeBetter (flow : Flow) (counts : Counts) (most : ℕ) (best : Option Site) (site : Site) (c : TheCall) : Type 0 where
+  pub is : call_in flow site ≡ Some c
+  pub fits : fits c ≡ true
+  pub few : has_few most c.callee.blocks ≡ true
+  pub exceeds : exceeds counts best site ≡ true
+
+abbrev pub IsWorthIt : Flow → Counts → (most : ℕ) → Option Site → Site → Option TheCall → Type 0
+IsWorthIt flow counts most best site None = NoneIsWorthIt flow counts most best site
+IsWorthIt flow counts most best site (Some c) = MayBeBetter flow counts most best site c

@@ -1,0 +1,12 @@
+pub mod Renaming
+pub mod Inlined
+pub mod Joined
+pub mod Laws
+pub mod Rows
+pub mod Counts
+pub mod Reaching
+pub mod Finding
+pub mod Fitting
+pub mod Values
+pub mod Permitting
+pub mod Choosing

@@ -1,0 +1,103 @@
+// The values of a caller that are free where its block calls.
+
+ghost use Rattle.std.specs.Prelude.{◌≡◌, ◌++◌, IfOk};
+ghost use Rattle.std.specs.List.{flat_map};
+ghost use Rattle.vx_flow.specs.declared.graph.Bank.{Bank};
+ghost use Rattle.vx_flow.specs.Sound.{is_local};
+ghost use Rattle.vx_inline.specs.Finding.{seen};
+ghost use Rattle.vx_inline.specs.Values.{free_of, has_values, kept, local_place, local_places, of_bank};
+
+use crate::by_bank::{ByBank, by_bank, named};
+use crate::found_call::FoundCall;
+use crate::marks::marks_of;
+use crate::names::push_operands;
+use std::alloc::Global;
+use vx_base::listed::{Listed, copied};
+use vx_base::outcome::NoMemory;
+use vx_flow::graph::{Array, ArrayId, Block, Op, Value};
+use vx_flow::live_rows::Live;
+use vx_flow::operands::push_value;
+
+/// The free values by their bank, by what is live at the blocks of the caller.
+#[tactic(auto, using(crate::proofs::Named::free_by))]
+pub(crate) fn free_values(alloc: Global, live: &Live, found: &FoundCall) -> Result<ByBank, NoMemory>
+    ensures { IfOk result (λ values. (bank : Bank) → of_bank values bank ≡ free_of live.now (seen found.now) bank) }
+{
+    let kept = kept(alloc, live, found)?;
+    let marks = marks_of(alloc, found.caller.banks.len(), kept.as_slice())?;
+    by_bank(
+        alloc,
+        found.caller.banks.as_slice(),
+        marks.as_slice(),
+        false,
+    )
+}
+
+/// Whether of each bank as many values are free as the callee names.
+#[tactic(auto, using(crate::proofs::Named::both_enough))]
+pub(crate) fn has_values(alloc: Global, live: &Live, found: &FoundCall) -> Result<bool, NoMemory>
+    ensures { IfOk result (λ has. has ≡ has_values live.now (seen found.now)) }
+{
+    let free = free_values(alloc, live, found)?;
+    let named = named(alloc, found.callee)?;
+    Ok(named.general.len() <= free.general.len() && named.branch.len() <= free.branch.len())
+}
+
+/// The values that are not free: those that are live behind the call, its arguments and its result, and places of arrays that
+/// are no globals.
+fn kept(alloc: Global, live: &Live, found: &FoundCall) -> Result<Listed<Value>, NoMemory>
+    ensures { IfOk result (λ values. values ≡ kept live.now (seen found.now)) }
+{
+    let mut values = copied(alloc, live.values_at(found.next))?;
+    push_operands(&mut values, found.arguments.as_slice())?;
+    push_value(&mut values, found.result)?;
+    let arrays = found.caller.arrays.as_slice();
+    push_places(&mut values, arrays, found.caller.blocks.as_slice())?;
+    Ok(values)
+}
+
+fn push_places(
+    values: &mut Listed<Value>,
+    arrays: &[Array],
+    blocks: &[Block],
+) -> Result<(), NoMemory>
+    ensures { IfOk result (λ _. values.new ≡ values.old ++ flat_map (local_places arrays.now) blocks.now) }
+{
+    for block in blocks {
+        push_places_in(values, arrays, block.ops.as_slice())?;
+    }
+    Ok(())
+}
+
+fn push_places_in(values: &mut Listed<Value>, arrays: &[Array], ops: &[Op]) -> Result<(), NoMemory>
+    ensures { IfOk result (λ _. values.new ≡ values.old ++ flat_map (local_place arrays.now) ops.now) }
+{
+    for op in ops {
+        push_place(values, arrays, op)?;
+    }
+    Ok(())
+}
+
+fn push_place(values: &mut Listed<Value>, arrays: &[Array], op: &Op) -> Result<(), NoMemory>
+    ensures { IfOk result (λ _. values.new ≡ values.old ++ local_place arrays.now op.now) }
+{
+    match op {
+        Op::Place { to, array, .. } => {
+            if is_local(arrays, *array) {
+                values.push(*to)?;
+            }
+            Ok(())
+        }
+        _ => Ok(()),
+    }
+}
+
+/// Whether an array is one of the function's own.
+fn is_local(arrays: &[Array], array: ArrayId) -> bool
+    ensures { result ≡ is_local arrays.now array }
+{
+    match arrays.get(array as usize) {
+        Some(found) => !found.global,
+        None => false,
+    }
+}
