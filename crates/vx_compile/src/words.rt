@@ -160,17 +160,6 @@ fn units_of(machine: &Machine) -> Units {
     }
 }
 
-/// The graphs from which words are planned: those whose blocks a profile counts, with operations raised over the bounds of blocks.
-fn planned_flow_of(
-    alloc: Global,
-    program: &Typed,
-    machine: &Machine,
-    counts: &Counts,
-) -> Result<Flow, NoMemory>
-    ensures { IfOk result (λ flow. FlowOf (view.program_of program.now.program) flow) }
-{
-    let flow = flow_of(alloc, program)?;
-    raise(alloc, flow, counts, &units_of(machine))
 /// How many registers there are for the values of a graph: those of one cluster, and half of those of each other, since a value has
 /// copies there. What is kept of a file stands in `allocatable` (vx_regs, specs/Mapped.antt).
 fn room_of(machine: &Machine) -> Room {
@@ -184,13 +173,19 @@ fn room_of(machine: &Machine) -> Room {
     }
 }
 
-/// The graphs that are planned: those of `flow_of`, block by block, under names that values share, so that there are no more of
-/// them than registers where no more values are live at once.
-fn planned_flow_of(alloc: Global, program: &Typed, machine: &Machine) -> Result<Flow, NoMemory>
+/// The graphs that are planned: those of `flow_of`, block by block, with operations raised over the bounds of blocks, and under names
+/// that values share, so that there are no more of them than registers where no more values are live at once.
+fn planned_flow_of(
+    alloc: Global,
+    program: &Typed,
+    counts: &Counts,
+    machine: &Machine,
+) -> Result<Flow, NoMemory>
     ensures { IfOk result (λ flow. FlowOf (view.program_of program.now.program) flow) }
 {
     let flow = flow_of(alloc, program)?;
-    rename(alloc, flow, room_of(machine))
+    let raised = raise(alloc, flow, counts, &units_of(machine))?;
+    rename(alloc, raised, room_of(machine))
 }
 
 /// How many blocks graphs have.
@@ -274,8 +269,8 @@ pub fn compile_sized(
 {
     stages_do_the_same();
     machine.keeps_ranges();
-    let flow = planned_flow_of(alloc, program, machine, counts)?;
-    let flow = planned_flow_of(alloc, program, machine)?;
+    let flow = planned_flow_of(alloc, program, counts, machine)?;
+    let flow = planned_flow_of(alloc, program, counts, machine)?;
     let size = size_of(&flow)?;
     let compiled = compiled_of(alloc, &flow, counts, machine, growth)?;
     Ok(SizedProgram { compiled, size })
