@@ -1,7 +1,7 @@
 // An estimate of the plan of a row of blocks: greater heights first, each step in the first word that its delays allow and that has
 // room (docs/COMPILING.md, "Placement").
 
-use crate::sketch::{Ground, Sketch};
+use crate::sketch::{Ground, Sketch, as_number};
 use crate::steps::{Effect, Step, delay_of};
 use crate::units::{Unit, Units};
 use std::alloc::Global;
@@ -197,7 +197,7 @@ fn put(units: &Units, used: &mut Vec<Used>, step: &Step, ready: u32) -> Result<u
         used.push(UNUSED)?;
     }
     fill(used, word, step);
-    Ok(word as u32)
+    Ok(as_number(word))
 }
 
 fn first_room(units: &Units, used: &[Used], step: &Step, ready: usize) -> usize {

@@ -111,7 +111,7 @@ impl Sketch {
                     {
                         Some(Trial {
                             block,
-                            place: place as u32,
+                            place: as_number(place),
                             op: *op,
                             value,
                         })
@@ -273,6 +273,15 @@ impl Sketch {
     }
 }
 
+/// A place as a number of 32 bits; the greatest where it has none.
+pub(crate) fn as_number(place: usize) -> u32 {
+    if place <= u32::MAX as usize {
+        place as u32
+    } else {
+        u32::MAX
+    }
+}
+
 fn ops_of(alloc: Global, blocks: &[Block]) -> Result<Vec<Vec<Op>>, NoMemory> {
     let mut all = Vec::new(alloc);
     for block in blocks {
@@ -289,7 +298,7 @@ fn sources_of(alloc: Global, blocks: &[Block]) -> Result<Vec<Vec<BlockId>>, NoMe
         sources.push(Vec::new(alloc))?;
     }
     for (place, block) in blocks.iter().enumerate() {
-        note_exit(&mut sources, place as BlockId, &block.exit)?;
+        note_exit(&mut sources, as_number(place), &block.exit)?;
     }
     Ok(sources)
 }

@@ -264,6 +264,12 @@ impl<'a> Walk<'a> {
         }
     }
 
+    /// Whether at least every second turn of a loop goes back by this block.
+    fn is_likely(&self, last: BlockId, header: BlockId) -> bool {
+        let back = self.weight_of_edge(last, header);
+        back.saturating_add(back) >= self.weight(header)
+    }
+
     /// Whether a trace goes on along the edge: it is the heaviest out of the one block and into the other.
     fn is_heaviest(&self, sketch: &Sketch, from: BlockId, to: BlockId) -> bool {
         let weight = self.weight_of_edge(from, to);
@@ -309,7 +315,7 @@ fn path_of(alloc: Global, walk: &Walk, header: BlockId) -> Result<Option<Vec<Blo
         match walk.likely_next(last) {
             Some(next) => {
                 if next == header {
-                    return Ok(Some(path));
+                    return Ok(path_if(walk.is_likely(last, header), path));
                 }
                 last = next;
             }
@@ -317,6 +323,10 @@ fn path_of(alloc: Global, walk: &Walk, header: BlockId) -> Result<Option<Vec<Blo
         }
     }
     Ok(None)
+}
+
+fn path_if(is_likely: bool, path: Vec<BlockId>) -> Option<Vec<BlockId>> {
+    if is_likely { Some(path) } else { None }
 }
 
 fn count_ops(sketch: &Sketch, path: &[BlockId]) -> usize {
