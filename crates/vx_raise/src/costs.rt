@@ -68,14 +68,14 @@ fn cost_of_trace(
     start: usize,
     end: usize,
 ) -> Result<u64, NoMemory> {
-    let steps = steps_of(alloc, ground, sketch, part_of(turn.path.as_slice(), start, end))?;
+    let steps = steps_of(
+        alloc,
+        ground,
+        sketch,
+        part_of(turn.path.as_slice(), start, end),
+    )?;
     let plan = plan_of(alloc, ground, sketch, steps.as_slice())?;
-    Ok(cost_of_steps(
-        steps.as_slice(),
-        &plan,
-        turn.stops.as_slice(),
-        start,
-    ))
+    Ok(cost_of_steps(steps.as_slice(), &plan, turn.stops.as_slice(), start))
 }
 
 fn cost_of_steps(steps: &[Step], plan: &Plan, stops: &[Stop], start: usize) -> u64 {

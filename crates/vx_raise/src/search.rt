@@ -20,6 +20,7 @@ use vx_profile::counts::Counts;
 
 /// How often the first word is put round at most, and how often without use.
 const MOST_ROUNDS: usize = 12;
+
 const MOST_IDLE: usize = 3;
 
 /// The most operations that are raised in a graph.
@@ -320,7 +321,9 @@ fn carry(
 ) -> Result<bool, NoMemory> {
     let count = sketch.count();
     if raise_along(ground, sketch, turn.path.as_slice(), row, place)?
-        && limits.names.has_room(ground, limits.passing, sketch.raised_since(start))
+        && limits
+            .names
+            .has_room(ground, limits.passing, sketch.raised_since(start))
     {
         Ok(true)
     } else {

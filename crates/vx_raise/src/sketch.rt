@@ -134,13 +134,7 @@ impl Sketch {
         true
     }
 
-    fn takes_in(
-        &self,
-        ground: &Ground,
-        block: BlockId,
-        value: Value,
-        source: BlockId,
-    ) -> bool {
+    fn takes_in(&self, ground: &Ground, block: BlockId, value: Value, source: BlockId) -> bool {
         match ground.graph.blocks.as_slice().get(source as usize) {
             Some(from) => {
                 self.ops_at(source).len() < MOST_OPERATIONS

@@ -10,11 +10,14 @@ use vx_profile::counts::Counts;
 
 /// The most blocks of a turn, and the most operations.
 const MOST_BLOCKS: usize = 16;
+
 const MOST_OPERATIONS: usize = 72;
 
 /// How often blocks and edges are taken to be passed in a function that was not counted: blocks and edges of a loop, others.
 const OFTEN: u64 = 8;
+
 const HALF: u64 = 4;
+
 const ONCE: u64 = 1;
 
 /// A graph with the counts of its function, the order of its blocks, and the blocks of the loop that is looked at.
@@ -105,7 +108,12 @@ impl<'a> Walk<'a> {
     }
 
     /// Marks the blocks of the loop of a header. Answers whether no other loop stands in it.
-    fn gather(&mut self, alloc: Global, sketch: &Sketch, header: BlockId) -> Result<bool, NoMemory> {
+    fn gather(
+        &mut self,
+        alloc: Global,
+        sketch: &Sketch,
+        header: BlockId,
+    ) -> Result<bool, NoMemory> {
         self.clear();
         let _is_new = self.mark(header);
         let mut waiting = self.back_of(alloc, sketch, header)?;
@@ -251,13 +259,7 @@ impl<'a> Walk<'a> {
     fn other_way(&self, block: BlockId, next: BlockId) -> Option<BlockId> {
         match self.graph.blocks.as_slice().get(block as usize) {
             Some(found) => match &found.exit {
-                Exit::Split { yes, no, .. } => {
-                    if *yes == next {
-                        Some(*no)
-                    } else {
-                        Some(*yes)
-                    }
-                }
+                Exit::Split { yes, no, .. } => { if *yes == next { Some(*no) } else { Some(*yes) } }
                 _ => None,
             },
             None => None,
@@ -357,12 +359,7 @@ fn turn_along(
     Ok(Some(turn))
 }
 
-fn push_stop(
-    turn: &mut Turn,
-    sketch: &Sketch,
-    walk: &Walk,
-    index: usize,
-) -> Result<(), NoMemory> {
+fn push_stop(turn: &mut Turn, sketch: &Sketch, walk: &Walk, index: usize) -> Result<(), NoMemory> {
     match block_at(turn.path.as_slice(), index) {
         Some(block) => {
             let next = block_at(turn.path.as_slice(), index.saturating_add(1));
@@ -394,7 +391,9 @@ fn push_others(
     block: BlockId,
 ) -> Result<(), NoMemory> {
     for source in sketch.leading_to(block) {
-        if !is_on_path(turn.path.as_slice(), *source) && !is_among(turn.others.as_slice(), *source) {
+        if !is_on_path(turn.path.as_slice(), *source)
+            && !is_among(turn.others.as_slice(), *source)
+        {
             turn.others.push(Stop {
                 block: *source,
                 begins: true,
