@@ -2,7 +2,7 @@
 // lead to them, each as often as it is passed.
 
 use crate::plan::{Plan, cycles_to, number_at, plan_of};
-use crate::sketch::{Ground, Sketch};
+use crate::sketch::{Ground, Sketch, as_number};
 use crate::steps::{Effect, Step, steps_of};
 use crate::turns::{Stop, Turn};
 use std::alloc::Global;
@@ -68,14 +68,14 @@ fn cost_of_trace(
     start: usize,
     end: usize,
 ) -> Result<u64, NoMemory> {
-    let steps = steps_of(alloc, ground, sketch, part_of(turn.path.as_slice(), start, end))?;
+    let steps = steps_of(
+        alloc,
+        ground,
+        sketch,
+        part_of(turn.path.as_slice(), start, end),
+    )?;
     let plan = plan_of(alloc, ground, sketch, steps.as_slice())?;
-    Ok(cost_of_steps(
-        steps.as_slice(),
-        &plan,
-        turn.stops.as_slice(),
-        start,
-    ))
+    Ok(cost_of_steps(steps.as_slice(), &plan, turn.stops.as_slice(), start))
 }
 
 fn cost_of_steps(steps: &[Step], plan: &Plan, stops: &[Stop], start: usize) -> u64 {
@@ -138,5 +138,5 @@ fn cycles_of_block(
     let steps = steps_of(alloc, ground, sketch, &row)?;
     let first = steps.len().saturating_sub(MOST_STEPS);
     let plan = plan_of(alloc, ground, sketch, last_of(steps.as_slice(), first))?;
-    Ok(plan.cycles.saturating_add(first as u32))
+    Ok(plan.cycles.saturating_add(as_number(first)))
 }

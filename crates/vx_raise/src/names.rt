@@ -1,10 +1,10 @@
 // The values that are kept from block to block, and whether there are registers for more of them.
 
-use crate::sketch::{Ground, Trial};
+use crate::sketch::{Ground, Trial, as_number};
 use crate::steps::{Step, has};
 use std::alloc::Global;
 use vx_base::outcome::NoMemory;
-use vx_flow::graph::{Bank, BlockId, Graph, Value};
+use vx_flow::graph::{Bank, Graph, Value};
 
 /// The values that are live at the start of some block, and how many of each bank.
 #[derive(Drop)]
@@ -48,7 +48,7 @@ pub(crate) fn names_of(alloc: Global, ground: &Ground) -> Result<Names, NoMemory
         branch: 0,
     };
     for block in 0..ground.graph.blocks.len() {
-        names.keep_all(ground.graph, ground.live.values_at(block as BlockId));
+        names.keep_all(ground.graph, ground.live.values_at(as_number(block)));
     }
     Ok(names)
 }

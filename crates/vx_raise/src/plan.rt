@@ -1,7 +1,7 @@
 // An estimate of the plan of a row of blocks: greater heights first, each step in the first word that its delays allow and that has
 // room (docs/COMPILING.md, "Placement").
 
-use crate::sketch::{Ground, Sketch};
+use crate::sketch::{Ground, Sketch, as_number};
 use crate::steps::{Effect, Step, delay_of};
 use crate::units::{Unit, Units};
 use std::alloc::Global;
@@ -47,14 +47,22 @@ struct Delays {
 
 impl Delays {
     fn at(&self, above: usize, below: usize) -> Option<u32> {
-        match self.cells.get(above.saturating_mul(self.count).saturating_add(below)) {
+        match self
+            .cells
+            .get(above.saturating_mul(self.count).saturating_add(below))
+        {
             Some(delay) => *delay,
             None => None,
         }
     }
 }
 
-fn delays_of(alloc: Global, ground: &Ground, sketch: &Sketch, steps: &[Step]) -> Result<Delays, NoMemory> {
+fn delays_of(
+    alloc: Global,
+    ground: &Ground,
+    sketch: &Sketch,
+    steps: &[Step],
+) -> Result<Delays, NoMemory> {
     let mut cells = Vec::new(alloc);
     for (above, first) in steps.iter().enumerate() {
         for (below, second) in steps.iter().enumerate() {
@@ -197,7 +205,7 @@ fn put(units: &Units, used: &mut Vec<Used>, step: &Step, ready: u32) -> Result<u
         used.push(UNUSED)?;
     }
     fill(used, word, step);
-    Ok(word as u32)
+    Ok(as_number(word))
 }
 
 fn first_room(units: &Units, used: &[Used], step: &Step, ready: usize) -> usize {
@@ -239,10 +247,16 @@ fn with_step(used: Used, step: &Step) -> Used {
         slots: used.slots.saturating_add(1),
         first_slots: used.first_slots.saturating_add(one_if(step.is_first)),
         alus: used.alus.saturating_add(one_if(step.unit == Unit::Alu)),
-        multipliers: used.multipliers.saturating_add(one_if(step.unit == Unit::Multiply)),
-        memory_units: used.memory_units.saturating_add(one_if(step.unit == Unit::Memory)),
+        multipliers: used
+            .multipliers
+            .saturating_add(one_if(step.unit == Unit::Multiply)),
+        memory_units: used
+            .memory_units
+            .saturating_add(one_if(step.unit == Unit::Memory)),
         splits: used.splits.saturating_add(one_if(leaves)),
-        shown: used.shown.saturating_add(one_if(step.effect == Effect::Shows)),
+        shown: used
+            .shown
+            .saturating_add(one_if(step.effect == Effect::Shows)),
     }
 }
 

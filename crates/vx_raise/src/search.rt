@@ -7,7 +7,7 @@ use crate::known::Move;
 use crate::names::{Names, Passing, names_of};
 use crate::plan::{Plan, number_at, plan_of};
 use crate::raised_flow::Wanted;
-use crate::sketch::{Ground, Sketch};
+use crate::sketch::{Ground, Sketch, as_number};
 use crate::steps::{Effect, Step, steps_of};
 use crate::turns::{Turn, Walk, turn_of, walk_of};
 use crate::units::Units;
@@ -20,6 +20,7 @@ use vx_profile::counts::Counts;
 
 /// How often the first word is put round at most, and how often without use.
 const MOST_ROUNDS: usize = 12;
+
 const MOST_IDLE: usize = 3;
 
 /// The most operations that are raised in a graph.
@@ -57,12 +58,13 @@ pub(crate) fn wanted_of(
 ) -> Result<Vec<Wanted>, NoMemory> {
     let mut all = Vec::new(alloc);
     for (function, graph) in flow.functions.as_slice().iter().enumerate() {
-        let moves = moves_of(alloc, graph, counts, function as u32, units)?;
+        let moves = moves_of(alloc, graph, counts, as_number(function), units)?;
         all.push(Wanted { moves })?;
     }
     Ok(all)
 }
 
+/// What is to be raised in a graph: nothing where a cluster issues one operation in a word.
 fn moves_of(
     alloc: Global,
     graph: &Graph,
@@ -72,7 +74,7 @@ fn moves_of(
 ) -> Result<Listed<Move>, NoMemory> {
     let mut sketch = Sketch::of_graph(alloc, graph.blocks.as_slice())?;
     let mut walk = walk_of(alloc, graph, counts, function)?;
-    if has_loop(&walk, &sketch, graph.blocks.len()) {
+    if units.first_slots > 1 && has_loop(&walk, &sketch, graph.blocks.len()) {
         raise_in(alloc, graph, units, &mut sketch, &mut walk)?;
     }
     sketch.moves(alloc)
@@ -80,7 +82,7 @@ fn moves_of(
 
 fn has_loop(walk: &Walk, sketch: &Sketch, count: usize) -> bool {
     for block in 0..count {
-        if walk.is_header(sketch, block as BlockId) {
+        if walk.is_header(sketch, as_number(block)) {
             return true;
         }
     }
@@ -111,7 +113,7 @@ fn raise_at_headers(
 ) -> Result<(), NoMemory> {
     let mut names = names_of(alloc, ground)?;
     for header in 0..ground.graph.blocks.len() {
-        raise_at(alloc, ground, sketch, walk, &mut names, header as BlockId)?;
+        raise_at(alloc, ground, sketch, walk, &mut names, as_number(header))?;
     }
     Ok(())
 }
@@ -319,7 +321,9 @@ fn carry(
 ) -> Result<bool, NoMemory> {
     let count = sketch.count();
     if raise_along(ground, sketch, turn.path.as_slice(), row, place)?
-        && limits.names.has_room(ground, limits.passing, sketch.raised_since(start))
+        && limits
+            .names
+            .has_room(ground, limits.passing, sketch.raised_since(start))
     {
         Ok(true)
     } else {

@@ -111,7 +111,7 @@ impl Sketch {
                     {
                         Some(Trial {
                             block,
-                            place: place as u32,
+                            place: as_number(place),
                             op: *op,
                             value,
                         })
@@ -134,13 +134,7 @@ impl Sketch {
         true
     }
 
-    fn takes_in(
-        &self,
-        ground: &Ground,
-        block: BlockId,
-        value: Value,
-        source: BlockId,
-    ) -> bool {
+    fn takes_in(&self, ground: &Ground, block: BlockId, value: Value, source: BlockId) -> bool {
         match ground.graph.blocks.as_slice().get(source as usize) {
             Some(from) => {
                 self.ops_at(source).len() < MOST_OPERATIONS
@@ -273,6 +267,15 @@ impl Sketch {
     }
 }
 
+/// A place as a number of 32 bits; the greatest where it has none.
+pub(crate) fn as_number(place: usize) -> u32 {
+    if place <= u32::MAX as usize {
+        place as u32
+    } else {
+        u32::MAX
+    }
+}
+
 fn ops_of(alloc: Global, blocks: &[Block]) -> Result<Vec<Vec<Op>>, NoMemory> {
     let mut all = Vec::new(alloc);
     for block in blocks {
@@ -289,7 +292,7 @@ fn sources_of(alloc: Global, blocks: &[Block]) -> Result<Vec<Vec<BlockId>>, NoMe
         sources.push(Vec::new(alloc))?;
     }
     for (place, block) in blocks.iter().enumerate() {
-        note_exit(&mut sources, place as BlockId, &block.exit)?;
+        note_exit(&mut sources, as_number(place), &block.exit)?;
     }
     Ok(sources)
 }

@@ -143,7 +143,12 @@ fn reads_value(read: &Reads, value: Value) -> bool {
 }
 
 /// By how many words the second step has to stand behind the first, which stands above it; none where it may pass it.
-pub(crate) fn delay_of(ground: &Ground, sketch: &Sketch, first: &Step, second: &Step) -> Option<u32> {
+pub(crate) fn delay_of(
+    ground: &Ground,
+    sketch: &Sketch,
+    first: &Step,
+    second: &Step,
+) -> Option<u32> {
     let by_values = delay_by_values(first, second);
     let by_effects = delay_by_effects(ground, sketch, first, second);
     match (by_values, by_effects) {

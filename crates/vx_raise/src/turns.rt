@@ -10,11 +10,14 @@ use vx_profile::counts::Counts;
 
 /// The most blocks of a turn, and the most operations.
 const MOST_BLOCKS: usize = 16;
+
 const MOST_OPERATIONS: usize = 72;
 
 /// How often blocks and edges are taken to be passed in a function that was not counted: blocks and edges of a loop, others.
 const OFTEN: u64 = 8;
+
 const HALF: u64 = 4;
+
 const ONCE: u64 = 1;
 
 /// A graph with the counts of its function, the order of its blocks, and the blocks of the loop that is looked at.
@@ -105,7 +108,12 @@ impl<'a> Walk<'a> {
     }
 
     /// Marks the blocks of the loop of a header. Answers whether no other loop stands in it.
-    fn gather(&mut self, alloc: Global, sketch: &Sketch, header: BlockId) -> Result<bool, NoMemory> {
+    fn gather(
+        &mut self,
+        alloc: Global,
+        sketch: &Sketch,
+        header: BlockId,
+    ) -> Result<bool, NoMemory> {
         self.clear();
         let _is_new = self.mark(header);
         let mut waiting = self.back_of(alloc, sketch, header)?;
@@ -251,17 +259,17 @@ impl<'a> Walk<'a> {
     fn other_way(&self, block: BlockId, next: BlockId) -> Option<BlockId> {
         match self.graph.blocks.as_slice().get(block as usize) {
             Some(found) => match &found.exit {
-                Exit::Split { yes, no, .. } => {
-                    if *yes == next {
-                        Some(*no)
-                    } else {
-                        Some(*yes)
-                    }
-                }
+                Exit::Split { yes, no, .. } => { if *yes == next { Some(*no) } else { Some(*yes) } }
                 _ => None,
             },
             None => None,
         }
+    }
+
+    /// Whether at least every second turn of a loop goes back by this block.
+    fn is_likely(&self, last: BlockId, header: BlockId) -> bool {
+        let back = self.weight_of_edge(last, header);
+        back.saturating_add(back) >= self.weight(header)
     }
 
     /// Whether a trace goes on along the edge: it is the heaviest out of the one block and into the other.
@@ -309,7 +317,7 @@ fn path_of(alloc: Global, walk: &Walk, header: BlockId) -> Result<Option<Vec<Blo
         match walk.likely_next(last) {
             Some(next) => {
                 if next == header {
-                    return Ok(Some(path));
+                    return Ok(path_if(walk.is_likely(last, header), path));
                 }
                 last = next;
             }
@@ -317,6 +325,10 @@ fn path_of(alloc: Global, walk: &Walk, header: BlockId) -> Result<Option<Vec<Blo
         }
     }
     Ok(None)
+}
+
+fn path_if(is_likely: bool, path: Vec<BlockId>) -> Option<Vec<BlockId>> {
+    if is_likely { Some(path) } else { None }
 }
 
 fn count_ops(sketch: &Sketch, path: &[BlockId]) -> usize {
@@ -347,12 +359,7 @@ fn turn_along(
     Ok(Some(turn))
 }
 
-fn push_stop(
-    turn: &mut Turn,
-    sketch: &Sketch,
-    walk: &Walk,
-    index: usize,
-) -> Result<(), NoMemory> {
+fn push_stop(turn: &mut Turn, sketch: &Sketch, walk: &Walk, index: usize) -> Result<(), NoMemory> {
     match block_at(turn.path.as_slice(), index) {
         Some(block) => {
             let next = block_at(turn.path.as_slice(), index.saturating_add(1));
@@ -384,7 +391,9 @@ fn push_others(
     block: BlockId,
 ) -> Result<(), NoMemory> {
     for source in sketch.leading_to(block) {
-        if !is_on_path(turn.path.as_slice(), *source) && !is_among(turn.others.as_slice(), *source) {
+        if !is_on_path(turn.path.as_slice(), *source)
+            && !is_among(turn.others.as_slice(), *source)
+        {
             turn.others.push(Stop {
                 block: *source,
                 begins: true,
