@@ -270,7 +270,6 @@ pub fn compile_sized(
     stages_do_the_same();
     machine.keeps_ranges();
     let flow = planned_flow_of(alloc, program, counts, machine)?;
-    let flow = planned_flow_of(alloc, program, counts, machine)?;
     let size = size_of(&flow)?;
     let compiled = compiled_of(alloc, &flow, counts, machine, growth)?;
     Ok(SizedProgram { compiled, size })
