@@ -143,6 +143,7 @@ pub agrees_less : (c : Residue) (q : ℕ) (z : ℤ) → q ≤ c.places → Agree
 agrees_less c q z l h = in_fewer_places c.places q z c.rest l h
 
 pub unknown_holds : (x : Content) → Agrees unknown x
+unfolding lib.IntN.one
 unknown_holds None = tt
 unknown_holds (Some z) = let e : z *ℤ pos (2 ^ 0) ≡ z = *ℤ-one z in (z, omega (arith, ints, e))
 
