@@ -5,11 +5,13 @@ use Rattle.std.proofs.lemmas.List.{append_assoc, take_all, take_more}
 use Rattle.vx_base.specs.declared.arithmetic.Code.{Code}
 use Rattle.vx_flow.specs.declared.graph.Operand.{Operand}
 use Rattle.vx_claims.specs.declared.intervals.Interval.{Interval}
+use Rattle.vx_claims.specs.declared.residues.Residue.{Residue}
 use Rattle.vx_claims.specs.declared.fact.Fact.{Fact}
-use Rattle.vx_claims.specs.declared.fact.Fact.TheVariants.{Between, Equals}
+use Rattle.vx_claims.specs.declared.fact.Fact.TheVariants.{Between, Congruent, Equals, Never}
 use Rattle.vx_claims.specs.declared.access.Access.{Access}
 use Rattle.vx_claims.specs.declared.access.Access.TheVariants.{Placed}
-use Rattle.vx_claims.specs.Facts.{range, meet, meet_if, decided_by, decided_if, first_of, found, found_if, same_code, same_operand}
+use Rattle.vx_claims.specs.Facts.{range, residue, finer_if, meet, meet_if, decided_by, decided_if, first_of, found, found_if, same_code, same_operand}
+use Rattle.vx_claims.specs.Residues.{finer}
 use Rattle.vx_claims.specs.Accesses.{first_or, place_in, value_if}
 
 pub front : {X : Type 0} (xs : List X) (d x : X) → 1 ≤ length xs → get_or xs 0 d ≡ x → xs ≡ x ∷ take (length xs - 1) (drop 1 xs)
@@ -24,12 +26,20 @@ pub pushed : {X : Type 0} (start list new all : List X) (i : ℕ) (d : X) → li
 pushed start list new all i d e p n =
     p ∙ ap (λ l. l ++ get_or all i d ∷ []) e ∙ append_assoc start (take i all) (get_or all i d ∷ []) ∙ ap (λ l. start ++ l) (sym (take_more all i d n))
 
--- ---- where a value lies
+-- ---- where a value lies and what its low bits are
 
-pub range_past : (fs rest : List Fact) (v u : ℕ) (code : Code) (a b : Operand) → fs ≡ Equals u code a b ∷ rest → range fs v ≡ range rest v
-range_past fs rest v u code a b e = ap (λ l. range l v) e
+-- both say the same of the value
+pub record SaysOf (fs rest : List Fact) (v : ℕ) : Type 0 where
+  pub within : range fs v ≡ range rest v
+  pub residue : residue fs v ≡ residue rest v
 
-not_equal : (u v : ℕ) → (u ≡ v → ⊥) → (u == v) ≡ false
+pub passed_equals : (fs rest : List Fact) (v u : ℕ) (code : Code) (a b : Operand) → fs ≡ Equals u code a b ∷ rest → SaysOf fs rest v
+passed_equals fs rest v u code a b e = record { within = ap (λ l. range l v) e; residue = ap (λ l. residue l v) e }
+
+pub passed_never : (fs rest : List Fact) (v : ℕ) → fs ≡ Never ∷ rest → SaysOf fs rest v
+passed_never fs rest v e = record { within = ap (λ l. range l v) e; residue = ap (λ l. residue l v) e }
+
+pub not_equal : (u v : ℕ) → (u ≡ v → ⊥) → (u == v) ≡ false
 not_equal u v n = by (eqb_tells u v)
   where
     by : (((u == v) ≡ true) × (u ≡ v)) ⊎ (((u == v) ≡ false) × (u ≡ v → ⊥)) → (u == v) ≡ false
@@ -43,11 +53,17 @@ are_equal u v e = by (eqb_tells u v)
     by (inl h) = h.0
     by (inr h) = absurd (h.1 e)
 
-pub range_other : (fs rest : List Fact) (v u : ℕ) (i : Interval) → fs ≡ Between u i ∷ rest → (u ≡ v → ⊥) → range fs v ≡ range rest v
-range_other fs rest v u i e n = ap (λ l. range l v) e ∙ ap (λ t. meet_if t i (range rest v)) (not_equal u v n)
+pub passed_between : (fs rest : List Fact) (v u : ℕ) (i : Interval) → fs ≡ Between u i ∷ rest → (u ≡ v → ⊥) → SaysOf fs rest v
+passed_between fs rest v u i e n = record { within = ap (λ l. range l v) e ∙ ap (λ t. meet_if t i (range rest v)) (not_equal u v n); residue = ap (λ l. residue l v) e }
+
+pub passed_congruent : (fs rest : List Fact) (v u : ℕ) (c : Residue) → fs ≡ Congruent u c ∷ rest → (u ≡ v → ⊥) → SaysOf fs rest v
+passed_congruent fs rest v u c e n = record { within = ap (λ l. range l v) e; residue = ap (λ l. residue l v) e ∙ ap (λ t. finer_if t c (residue rest v)) (not_equal u v n) }
 
 pub range_met : (fs rest : List Fact) (v u : ℕ) (i : Interval) → fs ≡ Between u i ∷ rest → u ≡ v → range fs v ≡ meet i (range rest v)
 range_met fs rest v u i e n = ap (λ l. range l v) e ∙ ap (λ t. meet_if t i (range rest v)) (are_equal u v n)
+
+pub residue_refined : (fs rest : List Fact) (v u : ℕ) (c : Residue) → fs ≡ Congruent u c ∷ rest → u ≡ v → residue fs v ≡ finer c (residue rest v)
+residue_refined fs rest v u c e n = ap (λ l. residue l v) e ∙ ap (λ t. finer_if t c (residue rest v)) (are_equal u v n)
 
 pub fewer : {X : Type 0} (xs rest : List X) (x : X) (n : ℕ) → xs ≡ x ∷ rest → length xs ≤ n → length rest ≤ n
 fewer xs rest x n e h = let k = ap length e in omega (arith, k, h)

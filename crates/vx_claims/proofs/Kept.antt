@@ -1,5 +1,5 @@
 -- What is known behind an operation, as it is kept in place.
-use Rattle.std.proofs.Common.{◌≡◌, ℕ, zero, suc, Bool, true, false, ◌||◌, pos, List, [], ◌∷◌, ◌++◌, Option, Some, None, refl, sym, ap, ◌∙◌}
+use Rattle.std.proofs.Common.{◌≡◌, ℕ, zero, suc, Bool, true, false, ◌||◌, ◌==◌, pos, List, [], ◌∷◌, ◌++◌, Option, Some, None, refl, sym, ap, ◌∙◌}
 use Rattle.std.specs.List.{list_any}
 use Rattle.std.specs.Option.{option_to_list}
 use Rattle.std.proofs.lemmas.List.{append_assoc, append-nil}
@@ -11,10 +11,11 @@ use Rattle.vx_flow.specs.declared.graph.Op.TheVariants.{Compute, Select, Place, 
 use Rattle.vx_flow.specs.Operands.{written_by}
 use Rattle.vx_flow.specs.Sound.{is_value}
 use Rattle.vx_claims.specs.declared.intervals.Interval.{Interval}
+use Rattle.vx_claims.specs.declared.residues.Residue.{Residue}
 use Rattle.vx_claims.specs.declared.fact.Fact.{Fact}
-use Rattle.vx_claims.specs.declared.fact.Fact.TheVariants.{Between, Equals}
+use Rattle.vx_claims.specs.declared.fact.Fact.TheVariants.{Between, Congruent, Equals, Never}
 use Rattle.vx_claims.specs.declared.access.Access.{Access}
-use Rattle.vx_claims.specs.Facts.{range_of, times_if, bit, result_within, is_full, names, kept_if, without, without_written, equals_if, between_unless, lies_in, after}
+use Rattle.vx_claims.specs.Facts.{range_of, times_if, bit, computed_within, computed_residue, is_full, is_single, names, kept_if, without, without_written, equals_if, between_unless, lies_in, congruent_unless, agrees_in, stands_in, after}
 use Rattle.vx_claims.specs.Accesses.{place_known}
 use Rattle.vx_claims.specs.Forming.{after_known, facts_if, is_test, most_equals, newest, said_unless, same_form}
 use Rattle.vx_claims.specs.Keeping.{all_said, has_more, said_by}
@@ -26,8 +27,23 @@ lies_before v i a b = by (is_full i)
     by true = refl
     by false = refl
 
+agrees_before : (v : ℕ) (i : Interval) (c : Residue) (a b : List Fact) → agrees_in v i c (a ++ b) ≡ agrees_in v i c a ++ b
+agrees_before v i c a b = by ((c.places == 0) || is_single i)
+  where
+    by : (says_nothing : Bool) → congruent_unless says_nothing v c (a ++ b) ≡ congruent_unless says_nothing v c a ++ b
+    by true = refl
+    by false = refl
+
+pub stands_before : (v : ℕ) (i : Interval) (c : Residue) (a b : List Fact) → stands_in v i c (a ++ b) ≡ stands_in v i c a ++ b
+stands_before v i c a b = ap (lies_in v i) (agrees_before v i c a b) ∙ lies_before v i (agrees_in v i c a) b
+
+-- where a value lies, put at the end of a list, and then what its low bits are
+pub stands_put : (v : ℕ) (i : Interval) (c : Residue) (list lies new : List Fact) → lies ≡ list ++ lies_in v i [] → new ≡ lies ++ agrees_in v i c [] → new ≡ list ++ stands_in v i c []
+stands_put v i c list lies new h n =
+    n ∙ ap (λ x. x ++ agrees_in v i c []) h ∙ append_assoc list (lies_in v i []) (agrees_in v i c []) ∙ ap (λ x. list ++ x) (sym (lies_before v i [] (agrees_in v i c [])))
+
 after_parts : (fs : List Fact) (op : Op) → after fs op ≡ said_by fs op ++ without_written (written_by op) fs
-after_parts fs (Compute code v a b) = lies_before v (result_within code (range_of fs a) (range_of fs b)) (equals_if (is_value v a || is_value v b) v code a b) (without v fs)
+after_parts fs (Compute code v a b) = stands_before v (computed_within fs code a b) (computed_residue fs code a b) (equals_if (is_value v a || is_value v b) v code a b) (without v fs)
 after_parts fs (Select v p a b) = refl
 after_parts fs (Place v a i) = lies_before v (times_if true (range_of fs i) (pos 4)) [] (without v fs)
 after_parts fs (Load v a p dismissible) = refl
@@ -49,19 +65,22 @@ known_parts fs xs op op' =
     ap (newest most_equals) outer
 
 -- what is put at the end of a list for a computation in the words it had
-pub said_computed : (list lies fs : List Fact) (t : Bool) (op : Op) (code : Code) (v : ℕ) (a b : Operand) (w i j : Interval) → op ≡ Compute code v a b → t ≡ false → i ≡ range_of fs a → j ≡ range_of fs b → w ≡ result_within code i j → lies ≡ list ++ lies_in v w [] → lies ++ facts_if (is_test code) (equals_if (is_value v a || is_value v b) v code a b) ≡ list ++ said_unless t fs op
-said_computed list lies fs t op code v a b w i j is f p q r h =
+pub said_computed : (list stands fs : List Fact) (t : Bool) (op : Op) (code : Code) (v : ℕ) (a b : Operand) → op ≡ Compute code v a b → t ≡ false → stands ≡ list ++ stands_in v (computed_within fs code a b) (computed_residue fs code a b) [] →
+    stands ++ facts_if (is_test code) (equals_if (is_value v a || is_value v b) v code a b) ≡ list ++ said_unless t fs op
+said_computed list stands fs t op code v a b is f h =
     let e : List Fact = facts_if (is_test code) (equals_if (is_value v a || is_value v b) v code a b) in
-    let k : w ≡ result_within code (range_of fs a) (range_of fs b) = r ∙ ap (λ x. result_within code x j) p ∙ ap (λ x. result_within code (range_of fs a) x) q in
-    ap (λ x. x ++ e) h ∙ append_assoc list (lies_in v w []) e ∙ ap (λ x. list ++ x) (sym (lies_before v w [] e)) ∙ ap (λ x. list ++ lies_in v x e) k
+    let i : Interval = computed_within fs code a b in
+    let c : Residue = computed_residue fs code a b in
+    ap (λ x. x ++ e) h ∙ append_assoc list (stands_in v i c []) e ∙ ap (λ x. list ++ x) (sym (stands_before v i c [] e))
     ∙ ap (λ x. list ++ said_unless false fs x) (sym is) ∙ ap (λ x. list ++ said_unless x fs op) (sym f)
 
 -- what is put at the end of a list for a computation
-pub said_pushed : (list lies new fs : List Fact) (code : Code) (v : ℕ) (a b : Operand) (w i j : Interval) → i ≡ range_of fs a → j ≡ range_of fs b → w ≡ result_within code i j → lies ≡ list ++ lies_in v w [] → (is_value v a || is_value v b) ≡ false → new ≡ lies ++ Equals v code a b ∷ [] → new ≡ list ++ said_by fs (Compute code v a b)
-said_pushed list lies new fs code v a b w i j p q r h f n =
+pub said_pushed : (list stands new fs : List Fact) (code : Code) (v : ℕ) (a b : Operand) → stands ≡ list ++ stands_in v (computed_within fs code a b) (computed_residue fs code a b) [] → (is_value v a || is_value v b) ≡ false → new ≡ stands ++ Equals v code a b ∷ [] → new ≡ list ++ said_by fs (Compute code v a b)
+said_pushed list stands new fs code v a b h f n =
     let e : List Fact = equals_if (is_value v a || is_value v b) v code a b in
-    let k : w ≡ result_within code (range_of fs a) (range_of fs b) = r ∙ ap (λ x. result_within code x j) p ∙ ap (λ x. result_within code (range_of fs a) x) q in
-    n ∙ ap (λ t. lies ++ equals_if t v code a b) (sym f) ∙ ap (λ x. x ++ e) h ∙ append_assoc list (lies_in v w []) e ∙ ap (λ x. list ++ x) (sym (lies_before v w [] e)) ∙ ap (λ x. list ++ lies_in v x e) k
+    let i : Interval = computed_within fs code a b in
+    let c : Residue = computed_residue fs code a b in
+    n ∙ ap (λ t. stands ++ equals_if t v code a b) (sym f) ∙ ap (λ x. x ++ e) h ∙ append_assoc list (stands_in v i c []) e ∙ ap (λ x. list ++ x) (sym (stands_before v i c [] e))
 
 -- ---- where there is nothing to forget
 
@@ -78,14 +97,20 @@ none_named v (f ∷ fs) h = by (names v f) h (none_named v fs)
 pub all_kept : (left : ℕ) (fs : List Fact) → has_more left fs ≡ false → fs ≡ newest left fs
 all_kept left [] h = refl
 all_kept left (Between v i ∷ fs) h = ap (λ x. Between v i ∷ x) (all_kept left fs h)
+all_kept left (Congruent v c ∷ fs) h = ap (λ x. Congruent v c ∷ x) (all_kept left fs h)
+all_kept left (Never ∷ fs) h = ap (λ x. Never ∷ x) (all_kept left fs h)
 all_kept zero (Equals v code a b ∷ fs) h = absurd (false≢true (sym h))
 all_kept (suc left) (Equals v code a b ∷ fs) h = ap (λ x. Equals v code a b ∷ x) (all_kept left fs h)
 
 last_cut : (left : ℕ) (fs : List Fact) (last : Fact) → has_more left (fs ++ last ∷ []) ≡ true → has_more left fs ≡ false → fs ≡ newest left (fs ++ last ∷ [])
 last_cut left [] (Between v i) m h = absurd (false≢true m)
+last_cut left [] (Congruent v c) m h = absurd (false≢true m)
+last_cut left [] Never m h = absurd (false≢true m)
 last_cut zero [] (Equals v code a b) m h = refl
 last_cut (suc left) [] (Equals v code a b) m h = absurd (false≢true m)
 last_cut left (Between v i ∷ fs) last m h = ap (λ x. Between v i ∷ x) (last_cut left fs last m h)
+last_cut left (Congruent v c ∷ fs) last m h = ap (λ x. Congruent v c ∷ x) (last_cut left fs last m h)
+last_cut left (Never ∷ fs) last m h = ap (λ x. Never ∷ x) (last_cut left fs last m h)
 last_cut zero (Equals v code a b ∷ fs) last m h = absurd (false≢true (sym h))
 last_cut (suc left) (Equals v code a b ∷ fs) last m h = ap (λ x. Equals v code a b ∷ x) (last_cut left fs last m h)
 

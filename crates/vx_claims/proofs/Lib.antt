@@ -1,6 +1,7 @@
 mod Formed
 mod Kept
 mod IntervalRows
+mod ResidueRows
 mod Fronts
 mod Turns
 mod Bounds

@@ -4,7 +4,7 @@ use Rattle.std.specs.List.{list_all, list_any}
 use Rattle.std.proofs.lemmas.List.{append_assoc, at_drop_more}
 use Rattle.std.proofs.lemmas.List.Folds.{list_all_at, list_all_more, list_any_at, list_any_more}
 use Rattle.vx_claims.specs.declared.fact.Fact.{Fact}
-use Rattle.vx_claims.specs.declared.fact.Fact.TheVariants.{Between, Equals}
+use Rattle.vx_claims.specs.declared.fact.Fact.TheVariants.{Between, Congruent, Equals, Never}
 use Rattle.vx_claims.specs.declared.access.Access.{Access}
 use Rattle.vx_claims.specs.Facts.{kept_if, learned, learned_if, names, without}
 use Rattle.vx_claims.specs.Accesses.{mentions, touches, unless, unmentioned, untouched}
@@ -56,6 +56,8 @@ without_passed v f fs e = ap (λ (b : Bool). kept_if b f (without v fs)) e
 
 pub learned_front : (all : List Fact) (answer : Bool) (p : ℕ) (f : Fact) (fs : List Fact) → learned all answer p (f ∷ fs) ≡ learned all answer p (f ∷ []) ++ learned all answer p fs
 learned_front all answer p (Between u i) fs = refl
+learned_front all answer p (Congruent u c) fs = refl
+learned_front all answer p Never fs = refl
 learned_front all answer p (Equals u code a b) fs = sym (append_assoc (learned_if (u == p) all answer code a b) [] (learned all answer p fs))
 
 pub learned_turn : (all start list new : List Fact) (answer : Bool) (p i : ℕ) (d : Fact) → i < length all → list ++ learned all answer p (drop i all) ≡ start → new ≡ list ++ learned all answer p (get_or all i d ∷ []) →

@@ -10,10 +10,10 @@ use Rattle.vx_flow.specs.declared.graph.Op.TheVariants.{Compute, Place}
 use Rattle.vx_flow.specs.Operands.{with_operands}
 use Rattle.vx_flow.specs.Sound.{is_value}
 use Rattle.vx_claims.specs.declared.fact.Fact.{Fact}
-use Rattle.vx_claims.specs.declared.fact.Fact.TheVariants.{Between, Equals}
+use Rattle.vx_claims.specs.declared.fact.Fact.TheVariants.{Between, Congruent, Equals, Never}
 use Rattle.vx_claims.specs.declared.access.Access.{Access}
 use Rattle.vx_claims.specs.declared.claim.Claim.{Claim}
-use Rattle.vx_claims.specs.Facts.{range_of, times_if, result_within, equals_if, lies_in, after, same_code, same_operand, found}
+use Rattle.vx_claims.specs.Facts.{range_of, times_if, computed_within, computed_residue, equals_if, lies_in, stands_in, after, same_code, same_operand, found}
 use Rattle.vx_claims.specs.Accesses.{accessed, with_words, place_known}
 
 -- whether the code is a move, into v
@@ -29,7 +29,9 @@ operand_if false a otherwise = otherwise
 abbrev pub source_of : List Fact → ℕ → Operand
 source_of [] v = Held v
 source_of (Between u i ∷ fs) v = source_of fs v
+source_of (Congruent u c ∷ fs) v = source_of fs v
 source_of (Equals u code a b ∷ fs) v = operand_if (moves v u code) a (source_of fs v)
+source_of (Never ∷ fs) v = source_of fs v
 
 -- an operand that holds the same
 abbrev pub read : List Fact → Operand → Operand
@@ -76,18 +78,20 @@ facts_if false fs = []
 
 abbrev pub said_unless : Bool → List Fact → Op → List Fact
 said_unless true fs op = []
-said_unless false fs (Compute code v a b) = lies_in v (result_within code (range_of fs a) (range_of fs b)) (facts_if (is_test code) (equals_if (is_value v a || is_value v b) v code a b))
+said_unless false fs (Compute code v a b) = stands_in v (computed_within fs code a b) (computed_residue fs code a b) (facts_if (is_test code) (equals_if (is_value v a || is_value v b) v code a b))
 said_unless false fs (Place v a i) = lies_in v (times_if true (range_of fs i) (pos 4)) []
 said_unless false fs op = []
 
 -- of the facts on what operations give so many are kept, the newest, so that a long block takes no longer for each operation; those
--- on where values lie are kept all
+-- on where values lie and what their low bits are are kept all
 abbrev pub most_equals : ℕ
 most_equals = 64
 
 abbrev pub newest : (left : ℕ) → List Fact → List Fact
 newest left [] = []
 newest left (Between v i ∷ fs) = Between v i ∷ newest left fs
+newest left (Congruent v c ∷ fs) = Congruent v c ∷ newest left fs
+newest left (Never ∷ fs) = Never ∷ newest left fs
 newest zero (Equals v code a b ∷ fs) = newest zero fs
 newest (suc left) (Equals v code a b ∷ fs) = Equals v code a b ∷ newest left fs
 

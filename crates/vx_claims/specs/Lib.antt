@@ -1,3 +1,4 @@
+pub mod Residues
 pub mod Facts
 pub mod Accesses
 pub mod Forming

@@ -4,11 +4,15 @@ ghost use Rattle.std.specs.Prelude.{◌≡◌, ◌==◌, ◌||◌, ◌++◌, [],
 ghost use Rattle.vx_flow.specs.Sound.{is_value};
 ghost use Rattle.vx_claims.specs.declared.fact.Fact.TheVariants.{Between};
 ghost use Rattle.vx_claims.specs.Forming.{facts_if, is_test, newest, said_unless, same_form};
-ghost use Rattle.vx_claims.specs.Facts.{came_out, compared, equals_if, is_full, learned, learned_if, lies_in, names, on_side, operand_between, without};
+ghost use Rattle.vx_claims.specs.Facts.{agrees_in, came_out, compared, computed_residue, computed_within, equals_if, is_full, learned, learned_if, lies_in, names, on_side, operand_between, stands_in, without};
 
 use crate::fact::Fact;
-use crate::intervals::{Interval, left_within, opposite, result_within, right_within, times_if};
-use crate::known::{range_of, same_code, same_operand};
+use crate::intervals::{
+    Interval, is_single, left_within, opposite, result_residue, result_within, right_within,
+    times_if,
+};
+use crate::known::{range_of, same_code, same_operand, sight_of};
+use crate::residues::Residue;
 use std::alloc::Global;
 use vx_base::arithmetic::{Code, Compare};
 use vx_base::listed::Listed;
@@ -22,12 +26,14 @@ pub fn names(value: Value, fact: Fact) -> bool
 {
     match fact {
         Fact::Between { value: named, .. } => named == value,
+        Fact::Congruent { value: named, .. } => named == value,
         Fact::Equals {
             value: named,
             left,
             right,
             ..
         } => named == value || (is_value(value, &left) || is_value(value, &right)),
+        Fact::Never => false,
     }
 }
 
@@ -67,6 +73,61 @@ pub fn append_lies(list: &mut Listed<Fact>, value: Value, within: Interval) -> R
         list.push(Fact::Between { value, within })?;
     }
     Ok(())
+}
+
+/// Puts what the low bits of a value are, where that says more than where it lies, at the end of a list.
+fn append_agrees(
+    list: &mut Listed<Fact>,
+    value: Value,
+    within: Interval,
+    residue: Residue,
+) -> Result<(), NoMemory>
+    ensures { IfOk result (λ _. list.new ≡ list.old ++ agrees_in value within residue []) }
+{
+    if !(residue.places == 0 || is_single(within)) {
+        list.push(Fact::Congruent { value, residue })?;
+    }
+    Ok(())
+}
+
+/// Puts where a value lies and what its low bits are, where that says something, at the end of a list.
+pub fn append_stands(
+    list: &mut Listed<Fact>,
+    value: Value,
+    within: Interval,
+    residue: Residue,
+) -> Result<(), NoMemory>
+    ensures { IfOk result (λ _. list.new ≡ list.old ++ stands_in value within residue []) }
+{
+    append_lies(list, value, within)?;
+    append_agrees(list, value, within, residue)
+}
+
+/// Puts where the result of a computation lies and what its low bits are at the end of a list.
+pub fn append_result(
+    list: &mut Listed<Fact>,
+    facts: &[Fact],
+    code: Code,
+    to: Value,
+    left: Operand,
+    right: Operand,
+) -> Result<(), NoMemory>
+    ensures { IfOk result (λ _. list.new ≡ list.old ++ stands_in to (computed_within facts.now code left right) (computed_residue facts.now code left right) []) }
+{
+    let first = sight_of(facts, left);
+    let second = sight_of(facts, right);
+    append_stands(
+        list,
+        to,
+        result_within(code, first.within, second.within),
+        result_residue(
+            code,
+            first.within,
+            second.within,
+            first.residue,
+            second.residue,
+        ),
+    )
 }
 
 /// Puts where a value lies, and the facts that do not name it, at the end of a list.
@@ -155,8 +216,7 @@ pub fn append_said_unless(
             left,
             right,
         } => {
-            let within = result_within(code, range_of(facts, left), range_of(facts, right));
-            append_lies(list, to, within)?;
+            append_result(list, facts, code, to, left, right)?;
             append_test(list, code, to, left, right)
         }
         Op::Place { to, index, .. } => {
@@ -174,7 +234,7 @@ pub fn append_newest(list: &mut Listed<Fact>, facts: &[Fact], left: usize) -> Re
     match facts {
         [] => Ok(()),
         [first, rest @ ..] => match *first {
-            Fact::Between { .. } => {
+            Fact::Between { .. } | Fact::Congruent { .. } | Fact::Never => {
                 list.push(*first)?;
                 append_newest(list, rest, left)
             }
@@ -264,7 +324,7 @@ fn append_one(
     ensures { IfOk result (λ _. list.new ≡ list.old ++ learned facts.now answer test (fact ∷ [])) }
 {
     match fact {
-        Fact::Between { .. } => Ok(()),
+        Fact::Between { .. } | Fact::Congruent { .. } | Fact::Never => Ok(()),
         Fact::Equals {
             value,
             code,

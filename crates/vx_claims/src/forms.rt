@@ -27,7 +27,7 @@ fn source_of(facts: &[Fact], value: Value) -> Operand
 {
     for fact in facts {
         match *fact {
-            Fact::Between { .. } => {}
+            Fact::Between { .. } | Fact::Congruent { .. } | Fact::Never => {}
             Fact::Equals {
                 value: to,
                 code,

@@ -2,8 +2,9 @@
 
 ghost use Rattle.std.specs.Prelude.{◌≡◌, ◌+ℤ◌, ◌-ℤ◌, ◌*ℤ◌, ◌&&◌, int_le};
 ghost use Rattle.vx_base.specs.Arithmetic.{opposite};
-ghost use Rattle.vx_claims.specs.Facts.{always, and_within, answer_of, below_unsigned, bit, compare_decided, difference_within, fitting, full, high_product_within, is_above, is_half, left_within, low_product_within, meet, one_less, one_more, product_if, remainder_within, result_within, right_within, shifted_within, sum_within, times_if, times_or_product, unequal_within, up_to, without_end};
+ghost use Rattle.vx_claims.specs.Facts.{always, and_within, answer_of, below_unsigned, bit, compare_decided, difference_within, fitting, full, high_product_within, is_above, is_half, is_single, left_within, low_product_residue, low_product_within, meet, one_less, one_more, product_if, remainder_within, result_residue, result_within, right_within, shifted_residue, shifted_within, sum_within, times_if, times_or_product, unequal_within, up_to, without_end};
 
+use crate::residues::{self, Residue, times, unknown};
 use vx_arithmetic::value;
 use vx_base::arithmetic::{Code, Compare};
 
@@ -223,6 +224,71 @@ pub fn result_within(code: Code, i: Interval, j: Interval) -> Interval
         Code::Max => full(),
         Code::Min => full(),
         Code::Div => full(),
+    }
+}
+
+/// Whether an interval has one number at most.
+pub fn is_single(within: Interval) -> bool
+    ensures { result ≡ is_single within }
+{
+    within.high <= within.low
+}
+
+/// What is known of what a shift by a number of places gives.
+fn shifted_residue(j: Interval, residue: Residue) -> Residue
+    ensures { result ≡ shifted_residue j residue }
+{
+    if is_single(j) {
+        times(residue, value(Code::Shl, 1, j.low))
+    } else {
+        unknown()
+    }
+}
+
+/// What is known of the product with the low half of a number.
+fn low_product_residue(i: Interval, j: Interval, first: Residue, second: Residue) -> Residue
+    ensures { result ≡ low_product_residue i j first second }
+{
+    if !is_half(j) {
+        unknown()
+    } else if is_single(j) {
+        times(first, j.low)
+    } else if is_single(i) {
+        times(second, i.low)
+    } else {
+        unknown()
+    }
+}
+
+/// What is known of the low bits of the result of an operation.
+pub fn result_residue(
+    code: Code,
+    i: Interval,
+    j: Interval,
+    first: Residue,
+    second: Residue,
+) -> Residue
+    ensures { result ≡ result_residue code i j first second }
+{
+    match code {
+        Code::Add => residues::sum(first, second),
+        Code::Sub => residues::difference(first, second),
+        Code::Shl => shifted_residue(j, first),
+        Code::Mpylu => low_product_residue(i, j, first, second),
+        Code::Mov => first,
+        Code::Mpyhs
+        | Code::And
+        | Code::Or
+        | Code::Xor
+        | Code::Shr
+        | Code::Shru
+        | Code::Sh2add
+        | Code::Max
+        | Code::Min
+        | Code::Div
+        | Code::Rem
+        | Code::ToGeneral(_)
+        | Code::ToBranch(_) => unknown(),
     }
 }
 

@@ -1,22 +1,41 @@
-// What lists of facts say: where a value lies, whether a value holds what an operation gives, and how a test comes out.
+// What lists of facts say: where a value lies and what its low bits are, whether a value holds what an operation gives, and how a test comes out.
 
-ghost use Rattle.std.specs.Prelude.{◌≡◌};
-ghost use Rattle.vx_claims.specs.Facts.{decided, decided_by, decided_if, found, has_equals, is_claimed, range, range_of, same_code, same_compare, same_operand};
-ghost use Rattle.vx_claims.specs.Claims.{give, gives, is_inside};
+ghost use Rattle.std.specs.Prelude.{◌≡◌, pos, ◌+ℤ◌, ◌-ℤ◌};
+ghost use Rattle.vx_claims.specs.Facts.{decided, decided_by, decided_if, found, has_equals, is_claimed, meet, number_or, range, range_of, residue, residue_of, residue_within, rounded, same_code, same_compare, same_operand};
+ghost use Rattle.vx_base.specs.Arithmetic.{difference_of};
+ghost use Rattle.vx_claims.specs.Residues.{finer, low_bits};
+ghost use Rattle.vx_claims.specs.Claims.{give, gives, is_inside, is_never, says_never};
 
 use crate::fact::Fact;
-use crate::intervals::{Interval, compare_decided, full, meet};
+use crate::intervals::{Interval, compare_decided, full, is_single, meet};
+use crate::residues::{Residue, exactly, finer, is_implied, low_bits, unknown};
+use vx_arithmetic::sub32;
 use vx_base::arithmetic::{Code, Compare};
 use vx_flow::graph::{Operand, Value};
 
-/// Where a value lies by all facts.
-pub fn range(facts: &[Fact], value: Value) -> Interval
-    ensures { result ≡ range facts.now value }
+/// What facts say of a number.
+#[derive(Clone, Copy)]
+pub struct Sight {
+    /// Where it lies.
+    pub within: Interval,
+    /// What its low bits are.
+    pub residue: Residue,
+}
+
+/// What all facts say of a value, one by one.
+fn seen(facts: &[Fact], value: Value) -> Sight
+    ensures within { result.within ≡ range facts.now value }
+    ensures residue { result.residue ≡ residue facts.now value }
 {
     let mut rest = facts;
     'next: loop {
         match rest {
-            [] => return full(),
+            [] => {
+                return Sight {
+                    within: full(),
+                    residue: unknown(),
+                };
+            }
             [first, others @ ..] => {
                 match *first {
                     Fact::Between {
@@ -24,10 +43,19 @@ pub fn range(facts: &[Fact], value: Value) -> Interval
                         within,
                     } => {
                         if named == value {
-                            return meet(within, range(others, value));
+                            return met(within, seen(others, value));
+                        }
+                    }
+                    Fact::Congruent {
+                        value: named,
+                        residue,
+                    } => {
+                        if named == value {
+                            return refined(residue, seen(others, value));
                         }
                     }
                     Fact::Equals { .. } => {}
+                    Fact::Never => {}
                 }
                 rest = others;
             }
@@ -35,18 +63,129 @@ pub fn range(facts: &[Fact], value: Value) -> Interval
     }
 }
 
+fn met(within: Interval, sight: Sight) -> Sight
+    ensures within { result.within ≡ meet within sight.within }
+    ensures residue { result.residue ≡ sight.residue }
+{
+    Sight {
+        within: meet(within, sight.within),
+        residue: sight.residue,
+    }
+}
+
+fn refined(residue: Residue, sight: Sight) -> Sight
+    ensures within { result.within ≡ sight.within }
+    ensures residue { result.residue ≡ finer residue sight.residue }
+{
+    Sight {
+        within: sight.within,
+        residue: finer(residue, sight.residue),
+    }
+}
+
+/// A number where it has 32 bits, and another one where it has not.
+fn number_or(otherwise: i32, number: i64) -> i32
+    ensures { result ≡ number_or otherwise number }
+{
+    if i64::from(i32::MIN) <= number && number <= i64::from(i32::MAX) {
+        number as i32
+    } else {
+        otherwise
+    }
+}
+
+/// A number so far above another one, which does not wrap.
+fn above(number: i32, far: u32) -> i64
+    ensures { result ≡ number +ℤ pos far }
+{
+    i64::from(number) + i64::from(far)
+}
+
+/// A number so far below another one, which does not wrap.
+fn below(number: i32, far: u32) -> i64
+    ensures { result ≡ number -ℤ pos far }
+{
+    i64::from(number) - i64::from(far)
+}
+
+/// The first number from one on that has the low bits of a rest in so many places.
+fn first_from(places: u32, rest: i32, number: i32) -> i32
+    ensures { result ≡ number_or number (number +ℤ pos (low_bits places (difference_of rest number))) }
+{
+    let ahead = low_bits(places, sub32(rest, number));
+    number_or(number, above(number, ahead))
+}
+
+/// The last number up to one that has the low bits of a rest in so many places.
+fn last_up_to(places: u32, rest: i32, number: i32) -> i32
+    ensures { result ≡ number_or number (number -ℤ pos (low_bits places (difference_of number rest))) }
+{
+    let past = low_bits(places, sub32(number, rest));
+    number_or(number, below(number, past))
+}
+
+/// From the first number of an interval that has these low bits to the last one.
+pub fn rounded(residue: Residue, within: Interval) -> Interval
+    ensures { result ≡ rounded residue within }
+{
+    if residue.places == 0 {
+        return within;
+    }
+    Interval {
+        low: first_from(residue.places, residue.rest, within.low),
+        high: last_up_to(residue.places, residue.rest, within.high),
+    }
+}
+
+/// What is known of the low bits of a number that lies in an interval.
+pub fn residue_within(within: Interval, residue: Residue) -> Residue
+    ensures { result ≡ residue_within within residue }
+{
+    if is_single(within) {
+        exactly(within.low)
+    } else {
+        residue
+    }
+}
+
+/// What all facts say of an operand.
+pub fn sight_of(facts: &[Fact], operand: Operand) -> Sight
+    ensures within { result.within ≡ range_of facts.now operand }
+    ensures residue { result.residue ≡ residue_of facts.now operand }
+{
+    match operand {
+        Operand::Held(value) => together(seen(facts, value)),
+        Operand::Number(number) => Sight {
+            within: Interval {
+                low: number,
+                high: number,
+            },
+            residue: exactly(number),
+        },
+        Operand::Stack => Sight {
+            within: full(),
+            residue: unknown(),
+        },
+    }
+}
+
+/// What the interval and the low bits of a number say together.
+pub fn together(sight: Sight) -> Sight
+    ensures within { result.within ≡ rounded sight.residue sight.within }
+    ensures residue { result.residue ≡ residue_within (rounded sight.residue sight.within) sight.residue }
+{
+    let within = rounded(sight.residue, sight.within);
+    Sight {
+        within,
+        residue: residue_within(within, sight.residue),
+    }
+}
+
 /// Where an operand lies by all facts.
 pub fn range_of(facts: &[Fact], operand: Operand) -> Interval
     ensures { result ≡ range_of facts.now operand }
 {
-    match operand {
-        Operand::Held(value) => range(facts, value),
-        Operand::Number(number) => Interval {
-            low: number,
-            high: number,
-        },
-        Operand::Stack => full(),
-    }
+    sight_of(facts, operand).within
 }
 
 fn same_compare(first: Compare, second: Compare) -> bool
@@ -107,7 +246,7 @@ fn is_claimed(value: Value, code: Code, left: Operand, right: Operand, fact: Fac
     ensures { result ≡ is_claimed value code left right fact }
 {
     match fact {
-        Fact::Between { .. } => false,
+        Fact::Between { .. } | Fact::Congruent { .. } | Fact::Never => false,
         Fact::Equals {
             value: named,
             code: other,
@@ -138,7 +277,7 @@ pub fn found(facts: &[Fact], code: Code, left: Operand, right: Operand) -> Optio
 {
     for fact in facts {
         match *fact {
-            Fact::Between { .. } => {}
+            Fact::Between { .. } | Fact::Congruent { .. } | Fact::Never => {}
             Fact::Equals {
                 value,
                 code: other,
@@ -175,7 +314,9 @@ fn decided_by(facts: &[Fact], test: Value, rest: &[Fact]) -> Option<bool>
     match rest {
         [] => None,
         [first, rest @ ..] => match *first {
-            Fact::Between { .. } => decided_by(facts, test, rest),
+            Fact::Between { .. } | Fact::Congruent { .. } | Fact::Never => {
+                decided_by(facts, test, rest)
+            }
             Fact::Equals {
                 value,
                 code,
@@ -207,13 +348,19 @@ fn gives(facts: &[Fact], claim: Fact) -> bool
     ensures { result ≡ gives facts.now claim }
 {
     match claim {
-        Fact::Between { value, within } => is_inside(range(facts, value), within),
+        Fact::Between { value, within } => {
+            is_inside(range_of(facts, Operand::Held(value)), within)
+        }
+        Fact::Congruent { value, residue } => {
+            is_implied(sight_of(facts, Operand::Held(value)).residue, residue)
+        }
         Fact::Equals {
             value,
             code,
             left,
             right,
         } => has_equals(facts, value, code, left, right),
+        Fact::Never => false,
     }
 }
 
@@ -227,4 +374,25 @@ pub fn give(facts: &[Fact], claims: &[Fact]) -> bool
         }
     }
     true
+}
+
+fn says_never(fact: Fact) -> bool
+    ensures { result ≡ says_never fact }
+{
+    match fact {
+        Fact::Never => true,
+        _ => false,
+    }
+}
+
+/// Whether the facts hold in no run.
+pub fn is_never(facts: &[Fact]) -> bool
+    ensures { result ≡ is_never facts.now }
+{
+    for fact in facts {
+        if says_never(*fact) {
+            return true;
+        }
+    }
+    false
 }

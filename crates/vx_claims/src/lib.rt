@@ -1,5 +1,5 @@
-// Claims, the facts of the analysis: where numbers lie, what values hold, which words of arrays are known; what operations and the
-// sides of splits make of them; and operations in another form that by them does the same.
+// Claims, the facts of the analysis: where numbers lie, what their low bits are, what values hold, which words of arrays are known;
+// what operations and the sides of splits make of them; and operations in another form that by them does the same.
 #![tactic(auto)]
 
 pub mod access;
@@ -10,4 +10,5 @@ pub mod fact;
 pub mod forms;
 pub mod intervals;
 pub mod known;
+pub mod residues;
 pub mod update;

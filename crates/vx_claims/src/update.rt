@@ -10,9 +10,11 @@ ghost use Rattle.vx_claims.specs.Forming.{after_known, most_equals, newest};
 ghost use Rattle.vx_claims.specs.Keeping.{all_said, has_more, said_by};
 
 use crate::access::{Access, append_place};
-use crate::effects::{append_lies, append_newest, append_said_unless, names, same_form, without};
+use crate::effects::{
+    append_lies, append_newest, append_result, append_said_unless, names, same_form, without,
+};
 use crate::fact::Fact;
-use crate::intervals::{bit, result_within, times_if};
+use crate::intervals::{bit, times_if};
 use crate::known::range_of;
 use std::alloc::Global;
 use vx_base::arithmetic::Code;
@@ -88,8 +90,7 @@ fn append_computed(
 ) -> Result<(), NoMemory>
     ensures { IfOk result (λ _. list.new ≡ list.old ++ said_by facts.now (Compute code to left right)) }
 {
-    let within = result_within(code, range_of(facts, left), range_of(facts, right));
-    append_lies(list, to, within)?;
+    append_result(list, facts, code, to, left, right)?;
     if !(is_value(to, &left) || is_value(to, &right)) {
         list.push(Fact::Equals {
             value: to,
@@ -198,7 +199,7 @@ fn has_more(facts: &[Fact], left: usize) -> bool
     match facts {
         [] => false,
         [first, rest @ ..] => match *first {
-            Fact::Between { .. } => has_more(rest, left),
+            Fact::Between { .. } | Fact::Congruent { .. } | Fact::Never => has_more(rest, left),
             Fact::Equals { .. } => {
                 if left == 0 {
                     true

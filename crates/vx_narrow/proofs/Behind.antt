@@ -1,5 +1,5 @@
 -- An operation in its form inside of a block: it does the same where it has a meaning, and what is known behind it holds.
-use Rattle.std.proofs.Common.{◌≡◌, ◌⊎◌, inl, inr, ℕ, zero, suc, Bool, true, false, ◌||◌, pos, List, [], ◌∷◌, ◌++◌, slice_index_or, Option, Some, None, refl, sym, ap, ◌∙◌, subst}
+use Rattle.std.proofs.Common.{◌≡◌, ◌⊎◌, inl, inr, ℕ, zero, suc, ◌==◌, Bool, true, false, ◌||◌, pos, List, [], ◌∷◌, ◌++◌, slice_index_or, Option, Some, None, refl, sym, ap, ◌∙◌, subst}
 use Rattle.vx_base.specs.declared.arithmetic.Code.TheVariants.{Mov}
 use Rattle.vx_flow.specs.declared.graph.Operand.{Operand}
 use Rattle.vx_flow.specs.declared.graph.Operand.TheVariants.{Number}
@@ -8,11 +8,12 @@ use Rattle.vx_flow.specs.declared.graph.Op.TheVariants.{Compute, Place, Load}
 use Rattle.vx_flow.specs.Effects.{Content, State, Setting, held, row_of, cell_of, loaded, with_value, effect}
 use Rattle.vx_flow.specs.Sound.{is_value}
 use Rattle.vx_claims.specs.declared.intervals.Interval.{Interval}
+use Rattle.vx_claims.specs.declared.residues.Residue.{Residue}
 use Rattle.vx_claims.specs.declared.access.Access.{Access}
 use Rattle.vx_claims.specs.declared.claim.Claim.{Claim}
 use Rattle.vx_claims.specs.declared.fact.Fact.{Fact}
-use Rattle.vx_claims.specs.declared.fact.Fact.TheVariants.{Between, Equals}
-use Rattle.vx_claims.specs.Facts.{full, Within, AllHold, range_of, times_if, result_within, without, equals_if, is_full, between_unless, after}
+use Rattle.vx_claims.specs.declared.fact.Fact.TheVariants.{Between, Congruent, Equals, Never}
+use Rattle.vx_claims.specs.Facts.{full, Within, AllHold, range_of, times_if, computed_within, computed_residue, without, equals_if, is_full, is_single, between_unless, congruent_unless, agrees_in, after}
 use Rattle.vx_narrow.specs.Checking.{has_numbers}
 use Rattle.vx_claims.specs.Accesses.{HoldsWord, AllTell, SpotsDiffer, accessed, word_in, moved_or, with_words, place_known}
 use Rattle.vx_claims.specs.Forming.{formed, form, same_form, is_test, facts_if, said_unless, most_equals, newest, after_known}
@@ -70,13 +71,26 @@ lie_other : (values : ℕ → Content) (t : Bool) (v : ℕ) (i : Interval) (fs g
 lie_other values true v i fs gs h k = k
 lie_other values false v i fs gs h k = (h.0, k)
 
+agree_rest : (values : ℕ → Content) (t : Bool) (v : ℕ) (c : Residue) (fs : List Fact) → AllHold values (congruent_unless t v c fs) → AllHold values fs
+agree_rest values true v c fs h = h
+agree_rest values false v c fs h = h.1
+
+agree_other : (values : ℕ → Content) (t : Bool) (v : ℕ) (c : Residue) (fs gs : List Fact) → AllHold values (congruent_unless t v c fs) → AllHold values gs → AllHold values (congruent_unless t v c gs)
+agree_other values true v c fs gs h k = k
+agree_other values false v c fs gs h k = (h.0, k)
+
 said_holds : (values : ℕ → Content) (t : Bool) (fs : List Fact) (op : Op) → AllHold values (after fs op) → AllHold values (said_unless t fs op)
 said_holds values true fs op h = tt
 said_holds values false fs (Compute code v a b) h =
-    let i = result_within code (range_of fs a) (range_of fs b) in
+    let i : Interval = computed_within fs code a b in
+    let c : Residue = computed_residue fs code a b in
+    let plain : Bool = (c.places == 0) || is_single i in
     let equals = equals_if (is_value v a || is_value v b) v code a b in
-    let rest : AllHold values (equals ++ without v fs) = lie_rest values (is_full i) v i (equals ++ without v fs) h in
-    lie_other values (is_full i) v i (equals ++ without v fs) (facts_if (is_test code) equals) h (facts_hold_if values (is_test code) equals (first_hold values equals (without v fs) rest))
+    let all : List Fact = equals ++ without v fs in
+    let low : AllHold values (agrees_in v i c all) = lie_rest values (is_full i) v i (agrees_in v i c all) h in
+    let rest : AllHold values all = agree_rest values plain v c all low in
+    lie_other values (is_full i) v i (agrees_in v i c all) (agrees_in v i c (facts_if (is_test code) equals)) h
+    (agree_other values plain v c all (facts_if (is_test code) equals) low (facts_hold_if values (is_test code) equals (first_hold values equals (without v fs) rest)))
 said_holds values false fs (Place v a i) h = let j = times_if true (range_of fs i) (pos 4) in lie_other values (is_full j) v j (without v fs) [] h tt
 said_holds values false fs op h = tt
 
@@ -84,6 +98,8 @@ said_holds values false fs op h = tt
 newest_hold : (values : ℕ → Content) (left : ℕ) (fs : List Fact) → AllHold values fs → AllHold values (newest left fs)
 newest_hold values left [] h = tt
 newest_hold values left (Between v i ∷ fs) h = (h.0, newest_hold values left fs h.1)
+newest_hold values left (Congruent v c ∷ fs) h = (h.0, newest_hold values left fs h.1)
+newest_hold values left (Never ∷ fs) h = absurd h.0
 newest_hold values zero (Equals v code a b ∷ fs) h = newest_hold values zero fs h.1
 newest_hold values (suc left) (Equals v code a b ∷ fs) h = (h.0, newest_hold values left fs h.1)
 

@@ -10,7 +10,7 @@ use Rattle.vx_flow.specs.declared.graph.Operand.{Operand}
 use Rattle.vx_flow.specs.declared.graph.Operand.TheVariants.{Held, Number}
 use Rattle.vx_flow.specs.Effects.{Content, computed}
 use Rattle.vx_claims.specs.declared.fact.Fact.{Fact}
-use Rattle.vx_claims.specs.declared.fact.Fact.TheVariants.{Between, Equals}
+use Rattle.vx_claims.specs.declared.fact.Fact.TheVariants.{Between, Congruent, Equals, Never}
 use Rattle.vx_claims.specs.Facts.{content, Holds, AllHold, same_compare, same_code, same_operand, is_claimed, has_equals, found_if, found}
 use Rattle.vx_narrow.proofs.Ranges.{and_one, and_two}
 
@@ -58,6 +58,8 @@ module _ (values : ℕ → Content) where
 
   claimed_holds : (v : ℕ) (code : Code) (a b : Operand) (f : Fact) → is_claimed v code a b f ≡ true → Holds values f → Holds values (Equals v code a b)
   claimed_holds v code a b (Between u i) e h = absurd (cc)
+  claimed_holds v code a b (Congruent u c) e h = absurd (cc)
+  claimed_holds v code a b Never e h = absurd h
   claimed_holds v code a b (Equals u c x y) e h =
       let e1 = and_one ((u == v) && same_code c code) (same_operand x a && same_operand y b) e in
       let e2 = and_two ((u == v) && same_code c code) (same_operand x a && same_operand y b) e in
@@ -79,6 +81,8 @@ module _ (values : ℕ → Content) where
   pub found_holds : (fs : List Fact) (code : Code) (a b : Operand) (w : ℕ) → AllHold values fs → found fs code a b ≡ Some w → values w ≡ computed code (content values a) (content values b)
   found_holds [] code a b w h e = absurd (cc)
   found_holds (Between u i ∷ fs) code a b w h e = found_holds fs code a b w h.1 e
+  found_holds (Congruent u c ∷ fs) code a b w h e = found_holds fs code a b w h.1 e
+  found_holds (Never ∷ fs) code a b w h e = absurd h.0
   found_holds (Equals u c x y ∷ fs) code a b w h e =
       found_by (same_code c code && (same_operand x a && same_operand y b)) u w (found fs code a b) (computed code (content values a) (content values b)) e
       (λ t. let t1 = and_one (same_code c code) (same_operand x a && same_operand y b) t in

@@ -3,7 +3,7 @@ use Rattle.std.proofs.Common.{◌≡◌, ℕ, zero, suc, true, false, ℤ, pos, 
 use Rattle.vx_base.specs.declared.arithmetic.Compare.TheVariants.{Lt, Ltu}
 use Rattle.vx_base.specs.declared.arithmetic.Code.TheVariants.{Add, And, Mov, Shl, ToBranch, ToGeneral, Mpylu, Mpyhs}
 use Rattle.std.specs.Int.{int_wrap}
-use Rattle.vx_base.specs.Arithmetic.{compare_of, shl_of}
+use Rattle.vx_base.specs.Arithmetic.{compare_of, sum_of, difference_of, product_of, shl_of}
 use Rattle.vx_flow.specs.Effects.{computed}
 use Rattle.vx_flow.specs.declared.graph.Operand.{Operand}
 use Rattle.vx_flow.specs.declared.graph.Operand.TheVariants.{Held, Number}
@@ -13,7 +13,7 @@ use Rattle.vx_flow.specs.declared.graph.Exit.TheVariants.{Goto, Split, Call}
 use Rattle.vx_flow.specs.declared.graph.Block.{Block}
 use Rattle.vx_claims.specs.declared.intervals.Interval.{Interval}
 use Rattle.vx_claims.specs.declared.fact.Fact.{Fact}
-use Rattle.vx_claims.specs.declared.fact.Fact.TheVariants.{Between, Equals}
+use Rattle.vx_claims.specs.declared.fact.Fact.TheVariants.{Between, Equals, Never}
 use Rattle.vx_claims.specs.Facts.{decided}
 use Rattle.vx_claims.specs.Forming.{after_all}
 use Rattle.vx_claims.specs.declared.claim.Claim.{Claim}
@@ -97,6 +97,31 @@ six = refl
 unknown : decided (after_all nothing checks.ops) 2 ≡ None
 unknown = refl
 
+-- the end of the last of 8 turns: the counter is 8, so no run goes back, and of the block on that way nothing is asked
+abbrev last_turn : Block
+last_turn = record { ops = Compute Add 0 (Held 0) (Number (pos 1)) ∷ Compute (ToBranch Lt) 1 (Held 0) (Number (pos 8)) ∷ []; exit = Split 1 1 2 }
+
+abbrev goes_back : Block
+goes_back = record { ops = []; exit = Goto 2 }
+
+abbrev turns : Interval → ℕ → List Fact
+turns i zero = Between 0 i ∷ []
+turns i (suc zero) = Never ∷ []
+turns i (suc (suc b)) = Between 0 (record { low = pos 8; high = pos 8 }) ∷ []
+
+abbrev at_seven : Interval
+at_seven = record { low = pos 7; high = pos 7 }
+
+ends_there : is_block_checked nothing_given (at_start (turns at_seven)) 0 last_turn ≡ true
+ends_there = refl
+
+never_back : is_block_checked nothing_given (at_start (turns at_seven)) 1 goes_back ≡ true
+never_back = refl
+
+-- not where it may be 7
+may_go_back : is_block_checked nothing_given (at_start (turns (record { low = pos 6; high = pos 7 }))) 0 last_turn ≡ false
+may_go_back = refl
+
 -- i * 64 + j with i and j below 64, in the three operations of a product: inside an array of 4096 words
 abbrev index : Block
 index = record {
@@ -110,6 +135,7 @@ abbrev both_below : List Fact
 both_below = Between 0 (record { low = pos 0; high = pos 63 }) ∷ Between 1 (record { low = pos 0; high = pos 63 }) ∷ []
 
 matrix : decided (after_all (of_facts both_below) index.ops) 6 ≡ Some true
+unfolding int_wrap sum_of difference_of product_of
 matrix = refl
 
 -- why inputs and numbers must have 32 bits: 2 ^ 32 + 5 passes a check against 10, and is not below 10

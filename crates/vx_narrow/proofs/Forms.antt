@@ -9,7 +9,7 @@ use Rattle.vx_flow.specs.declared.graph.Op.{Op}
 use Rattle.vx_flow.specs.declared.graph.Op.TheVariants.{Compute, Select, Place, Load, Store, More, Input, Text, Decimal, Across}
 use Rattle.vx_flow.specs.Effects.{Content, State, Setting, held, computed, chosen, place_of, row_of, cell_in, loaded, stored, printed, with_value, effect}
 use Rattle.vx_claims.specs.declared.fact.Fact.{Fact}
-use Rattle.vx_claims.specs.declared.fact.Fact.TheVariants.{Between, Equals}
+use Rattle.vx_claims.specs.declared.fact.Fact.TheVariants.{Between, Congruent, Equals, Never}
 use Rattle.vx_claims.specs.Facts.{full, Within, content, Holds, AllHold, found}
 use Rattle.vx_claims.specs.Forming.{moves, operand_if, source_of, read, is_readable, read_if, computed_as, formed}
 use Rattle.vx_narrow.proofs.Ranges.{Fit}
@@ -28,6 +28,8 @@ module _ (values : ℕ → Content) where
   source_holds : (fs : List Fact) (v : ℕ) → AllHold values fs → content values (source_of fs v) ≡ values v
   source_holds [] v h = refl
   source_holds (Between u i ∷ fs) v h = source_holds fs v h.1
+  source_holds (Congruent u c ∷ fs) v h = source_holds fs v h.1
+  source_holds (Never ∷ fs) v h = absurd h.0
   source_holds (Equals u code a b ∷ fs) v h = operand_holds (moves v u code) a (source_of fs v) (values v) (λ e. moved_holds v u code a b e h.0) (source_holds fs v h.1)
 
   pub read_holds : (fs : List Fact) (x : Operand) → AllHold values fs → content values (read fs x) ≡ content values x

@@ -1,4 +1,6 @@
 mod Products
+pub mod Congruences
+pub mod Residues
 mod Narrows
 mod NarrowRuns
 mod Example

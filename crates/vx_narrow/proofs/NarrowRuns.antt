@@ -17,7 +17,7 @@ use Rattle.vx_claims.specs.declared.intervals.Interval.{Interval}
 use Rattle.vx_claims.specs.declared.fact.Fact.{Fact}
 use Rattle.vx_claims.specs.Facts.{decided}
 use Rattle.vx_claims.specs.Forming.{after_all, accessed_all}
-use Rattle.vx_narrow.specs.Checking.{has_numbers, is_exit_checked, Checked}
+use Rattle.vx_narrow.specs.Checking.{has_numbers, is_left_checked, Checked}
 use Rattle.vx_narrow.specs.Rewriting.{side_of, GoesTo, DecidedGoes}
 use Rattle.vx_narrow.specs.Rewriting.{split_by, narrowed_exit, narrowed_block, narrowed_from, narrowed_graph, narrowed, NarrowedRuns}
 use Rattle.vx_narrow.specs.Shortening.{improved_all}
@@ -49,7 +49,7 @@ module _ (flow : Flow) (given : ℕ → List Interval) (claims : ℕ → ℕ →
       inner g e None q = inl refl
       inner g e (Some block) q =
           block_refines (claims r.function) (setting_with old r.passed r.base) a.sized.differ r.block block r.state a.known
-          (and_one (list_all has_numbers block.ops) (is_exit_checked given (claims r.function) (after_all (claims r.function r.block) block.ops) (accessed_all (claims r.function r.block) block.ops) block.exit) (checked.blocks r.function r.block g block e q))
+          (and_one (list_all has_numbers block.ops) (is_left_checked given (claims r.function) (after_all (claims r.function r.block) block.ops) (accessed_all (claims r.function r.block) block.ops) block.exit) (checked.blocks r.function r.block g block e q))
 
       block_is : (g : Graph) → slice_get (narrowed_from (claims r.function) 0 g.blocks) r.block ≡ option_map (narrowed_block (claims r.function) r.block) (slice_get g.blocks r.block)
       block_is g = let e : 0 + r.block ≡ r.block = omega arith in get_block (claims r.function) 0 g.blocks r.block ∙ ap (λ m. option_map (narrowed_block (claims r.function) m) (slice_get g.blocks r.block)) e
@@ -133,6 +133,6 @@ decided_goes flow given claims checked input numbers n r l g block p c d answer 
     let a = reached_good flow given claims checked input numbers n r l in
     let setting = setting_with (program_of flow) r.passed r.base in
     let fs = after_all (claims r.function r.block) block.ops in
-    let k = block_refines (claims r.function) setting a.sized.differ r.block block r.state a.known (and_one (list_all has_numbers block.ops) (is_exit_checked given (claims r.function) fs (accessed_all (claims r.function r.block) block.ops) block.exit) (checked.blocks r.function r.block g block e q)) in
+    let k = block_refines (claims r.function) setting a.sized.differ r.block block r.state a.known (and_one (list_all has_numbers block.ops) (is_left_checked given (claims r.function) fs (accessed_all (claims r.function r.block) block.ops) block.exit) (checked.blocks r.function r.block g block e q)) in
     subst (GoesTo r.block (side_of answer c d)) (sym (hop_by flow given claims checked r g block e q))
     (narrow_goes flow given claims checked fs setting r.block p c d answer block (improved_all (claims r.function r.block) block.ops) r.state (hop_of setting r.block (Some block) r.state) x w k)

@@ -11,11 +11,14 @@ use Rattle.vx_flow.specs.declared.graph.Op.TheVariants.{Compute, Select, Place, 
 use Rattle.vx_flow.specs.Effects.{Content, State, Setting, held, computed, chosen, is_one, is_left, place_of, row_of, cell_of, loaded, stored, next_input, printed, with_value, effect}
 use Rattle.vx_flow.specs.Sound.{is_value}
 use Rattle.vx_claims.specs.declared.intervals.Interval.{Interval}
+use Rattle.vx_claims.specs.declared.residues.Residue.{Residue}
 use Rattle.vx_claims.specs.declared.fact.Fact.{Fact}
-use Rattle.vx_claims.specs.declared.fact.Fact.TheVariants.{Between, Equals}
-use Rattle.vx_claims.specs.Facts.{least, greatest, full, Within, content, Holds, AllHold, range_of, times_if, bit, result_within, names, kept_if, without, equals_if, is_full, between_unless, lies_in, after}
+use Rattle.vx_claims.specs.declared.fact.Fact.TheVariants.{Between, Congruent, Equals, Never}
+use Rattle.vx_claims.specs.Facts.{least, greatest, full, Within, content, Holds, AllHold, range_of, times_if, bit, computed_within, computed_residue, names, kept_if, without, equals_if, is_full, is_single, between_unless, lies_in, congruent_unless, agrees_in, stands_in, after}
 use Rattle.vx_narrow.specs.Checking.{is_number, has_number, has_numbers}
 use Rattle.vx_narrow.proofs.Ranges.{number_within, and_one, and_two, le_holds, Fit, computed_fits, range_of_holds, bit_holds, times_holds, computed_holds}
+use Rattle.vx_claims.specs.Residues.{Agrees}
+use Rattle.vx_narrow.proofs.Residues.{computed_residue_holds}
 use Rattle.std.proofs.Math.IntN.{*ℤ_comm}
 use Rattle.vx_narrow.proofs.Tests.{append_holds}
 
@@ -102,6 +105,8 @@ module _ (values : ℕ → Content) (v : ℕ) (x : Content) where
 
   other_holds : (f : Fact) → names v f ≡ false → Holds values f → Holds (written v x values) f
   other_holds (Between u i) e h = subst (Within i) (sym (other u e)) h
+  other_holds (Congruent u c) e h = subst (Agrees c) (sym (other u e)) h
+  other_holds Never e h = absurd h
   other_holds (Equals u code a b) e h =
       let e1 = or_one (u == v) (is_value v a || is_value v b) e in
       let e2 = or_two (u == v) (is_value v a || is_value v b) e in
@@ -140,13 +145,24 @@ module _ (values : ℕ → Content) (v : ℕ) (x : Content) where
       by true = k
       by false = (new_between i h, k)
 
+  agree_hold : (i : Interval) (c : Residue) (fs : List Fact) → Agrees c x → AllHold (written v x values) fs → AllHold (written v x values) (agrees_in v i c fs)
+  agree_hold i c fs h k = by ((c.places == 0) || is_single i)
+    where
+      by : (t : Bool) → AllHold (written v x values) (congruent_unless t v c fs)
+      by true = k
+      by false = (subst (Agrees c) (sym itself) h, k)
+
   pub computed_new : (fs : List Fact) (code : Code) (a b : Operand) → Fit values → AllHold values fs → Within full (content values a) → Within full (content values b) → x ≡ computed code (content values a) (content values b) →
-      AllHold (written v x values) (lies_in v (result_within code (range_of fs a) (range_of fs b)) (equals_if (is_value v a || is_value v b) v code a b ++ without v fs))
+      AllHold (written v x values) (stands_in v (computed_within fs code a b) (computed_residue fs code a b) (equals_if (is_value v a || is_value v b) v code a b ++ without v fs))
   computed_new fs code a b fit h p q e =
-      lies_hold (result_within code (range_of fs a) (range_of fs b)) (equals_if (is_value v a || is_value v b) v code a b ++ without v fs)
-      (subst (Within (result_within code (range_of fs a) (range_of fs b))) (sym e)
+      let i : Interval = computed_within fs code a b in
+      let c : Residue = computed_residue fs code a b in
+      let rest : List Fact = equals_if (is_value v a || is_value v b) v code a b ++ without v fs in
+      lies_hold i (agrees_in v i c rest)
+      (subst (Within i) (sym e)
       (computed_holds code (range_of fs a) (range_of fs b) (content values a) (content values b) (range_of_holds values fs a fit h) (range_of_holds values fs b fit h) p q))
-      (append_holds (written v x values) (equals_if (is_value v a || is_value v b) v code a b) (without v fs) (equals_holds (is_value v a || is_value v b) code a b (new_equals code a b e)) (without_holds fs h))
+      (agree_hold i c rest (subst (Agrees c) (sym e) (computed_residue_holds values fs code a b fit h))
+      (append_holds (written v x values) (equals_if (is_value v a || is_value v b) v code a b) (without v fs) (equals_holds (is_value v a || is_value v b) code a b (new_equals code a b e)) (without_holds fs h)))
 
 -- ---- states
 

@@ -18,7 +18,7 @@ use Rattle.vx_flow.specs.declared.graph.Op.TheVariants.{Compute}
 use Rattle.vx_flow.specs.Effects.{Content, State, Setting, held, both, computed, with_value, effect}
 use Rattle.vx_claims.specs.declared.intervals.Interval.{Interval}
 use Rattle.vx_claims.specs.declared.fact.Fact.{Fact}
-use Rattle.vx_claims.specs.declared.fact.Fact.TheVariants.{Between, Equals}
+use Rattle.vx_claims.specs.declared.fact.Fact.TheVariants.{Between, Congruent, Equals, Never}
 use Rattle.vx_narrow.specs.declared.one_product.Factors.{Factors}
 use Rattle.vx_claims.specs.Facts.{Within, content, Holds, AllHold, range_of, is_half, has_equals}
 use Rattle.vx_narrow.specs.Shortening.{shift_if, shift_below, shift_of, shift_in, shifted_or, low_or, names_number, product_or, is_low, factors_if, factors_of, product_if, sum_as, short_sum, shortened}
@@ -134,6 +134,8 @@ module _ (setting : Setting) (s : State) (fs : List Fact) (g : Good fs s) where
   factors_hold : (gs : List Fact) (u : ℕ) → AllHold s.values gs → (f : Factors) → factors_of gs u ≡ Some f → s.values u ≡ computed Mpylu (content s.values f.left) (content s.values f.right)
   factors_hold [] u h f e = absurd (cc)
   factors_hold (Between w i ∷ gs) u h f e = factors_hold gs u h.1 f e
+  factors_hold (Congruent w c ∷ gs) u h f e = factors_hold gs u h.1 f e
+  factors_hold (Never ∷ gs) u h f e = absurd h.0
   factors_hold (Equals w code a b ∷ gs) u h f e = by (is_low u w code) refl e (λ r. factors_hold gs u h.1 f r)
     where
       by : (t : Bool) → is_low u w code ≡ t → factors_if t a b (factors_of gs u) ≡ Some f → (factors_of gs u ≡ Some f → s.values u ≡ computed Mpylu (content s.values f.left) (content s.values f.right)) → s.values u ≡ computed Mpylu (content s.values f.left) (content s.values f.right)

@@ -15,9 +15,12 @@ use Rattle.vx_flow.specs.declared.graph.Operand.{Operand}
 use Rattle.vx_flow.specs.declared.graph.Operand.TheVariants.{Held, Number, Stack}
 use Rattle.vx_flow.specs.Effects.{Content, both, computed, is_unary}
 use Rattle.vx_claims.specs.declared.intervals.Interval.{Interval}
+use Rattle.vx_claims.specs.declared.residues.Residue.{Residue}
 use Rattle.vx_claims.specs.declared.fact.Fact.{Fact}
-use Rattle.vx_claims.specs.declared.fact.Fact.TheVariants.{Between, Equals}
-use Rattle.vx_claims.specs.Facts.{least, greatest, full, Within, content, AllHold, meet, meet_if, range, range_of, fitting, sum_within, difference_within, up_to, is_above, and_within, remainder_within, times_if, product_if, is_half, times_or_product, low_product_within, high_product_within, zero_only, bit, shifted_within, result_within}
+use Rattle.vx_claims.specs.declared.fact.Fact.TheVariants.{Between, Congruent, Equals, Never}
+use Rattle.vx_claims.specs.Residues.{Agrees, exactly}
+use Rattle.vx_narrow.proofs.Congruences.{unknown_holds, exactly_holds, finer_holds, rounded_holds}
+use Rattle.vx_claims.specs.Facts.{least, greatest, full, Within, content, AllHold, meet, meet_if, range, finer_if, residue, is_single, residue_within, range_of, residue_of, fitting, sum_within, difference_within, up_to, is_above, and_within, remainder_within, times_if, product_if, is_half, times_or_product, low_product_within, high_product_within, zero_only, bit, shifted_within, result_within}
 
 pub number_within : (z : ℤ) → IsNumber z → Within full (Some z)
 number_within (pos n) f = (omega (arith, ints), omega (arith, ints, f.sfits))
@@ -70,15 +73,42 @@ pub range_holds : (values : ℕ → Content) (fs : List Fact) (v : ℕ) → Fit 
 range_holds values [] v fit h = fit v
 range_holds values (Between u i ∷ fs) v fit h =
     meet_holds (u == v) i (range fs v) (values v) (λ e. subst (λ w. Within i (values w)) (eqb-true u v e) h.0) (range_holds values fs v fit h.1)
+range_holds values (Congruent u c ∷ fs) v fit h = range_holds values fs v fit h.1
 range_holds values (Equals u code a b ∷ fs) v fit h = range_holds values fs v fit h.1
+range_holds values (Never ∷ fs) v fit h = absurd h.0
+
+refined_holds : (t : Bool) (c d : Residue) (x : Content) → (t ≡ true → Agrees c x) → Agrees d x → Agrees (finer_if t c d) x
+refined_holds true c d x h k = finer_holds c d x (h refl) k
+refined_holds false c d x h k = k
+
+residue_holds : (values : ℕ → Content) (fs : List Fact) (v : ℕ) → AllHold values fs → Agrees (residue fs v) (values v)
+residue_holds values [] v h = unknown_holds (values v)
+residue_holds values (Between u i ∷ fs) v h = residue_holds values fs v h.1
+residue_holds values (Congruent u c ∷ fs) v h =
+    refined_holds (u == v) c (residue fs v) (values v) (λ e. subst (λ w. Agrees c (values w)) (eqb-true u v e) h.0) (residue_holds values fs v h.1)
+residue_holds values (Equals u code a b ∷ fs) v h = residue_holds values fs v h.1
+residue_holds values (Never ∷ fs) v h = absurd h.0
 
 le_same : (z : ℤ) → z ≤ℤ z
 le_same z = omega (arith, ints)
 
 pub range_of_holds : (values : ℕ → Content) (fs : List Fact) (x : Operand) → Fit values → AllHold values fs → Within (range_of fs x) (content values x)
-range_of_holds values fs (Held v) fit h = range_holds values fs v fit h
+range_of_holds values fs (Held v) fit h = rounded_holds (residue fs v) (range fs v) (values v) (residue_holds values fs v h) (range_holds values fs v fit h)
 range_of_holds values fs (Number n) fit h = (le_same n, le_same n)
 range_of_holds values fs Stack fit h = tt
+
+single_holds : (i : Interval) (c : Residue) (x : Content) → Within i x → Agrees c x → Agrees (residue_within i c) x
+single_holds i c None w h = tt
+single_holds i c (Some z) w h = by (is_single i) refl
+  where
+    by : (t : Bool) → int_le i.high i.low ≡ t → Agrees (cond t (exactly i.low) c) (Some z)
+    by true e = let l : i.high ≤ℤ i.low = le_holds i.high i.low e in let w0 : i.low ≤ℤ z = w.0 in let w1 : z ≤ℤ i.high = w.1 in exactly_holds i.low z (omega (arith, ints))
+    by false e = h
+
+pub residue_of_holds : (values : ℕ → Content) (fs : List Fact) (x : Operand) → Fit values → AllHold values fs → Agrees (residue_of fs x) (content values x)
+residue_of_holds values fs (Held v) fit h = single_holds (range_of fs (Held v)) (residue fs v) (values v) (range_of_holds values fs (Held v) fit h) (residue_holds values fs v h)
+residue_of_holds values fs (Number n) fit h = exactly_holds n n refl
+residue_of_holds values fs Stack fit h = tt
 
 -- ---- results
 

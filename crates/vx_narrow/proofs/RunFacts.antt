@@ -1,11 +1,12 @@
 -- Runs: checked facts hold wherever a block is entered.
-use Rattle.std.proofs.Common.{◌≡◌, inl, inr, ℕ, zero, suc, ◌==◌, ◌+◌, Bool, true, false, ◌&&◌, cond, ℤ, pos, int_le, nat_le, List, [], ◌∷◌, length, map, take, replicate, slice_get, slice_set, slice_index_or, Option, Some, None, refl, sym, subst, arith}
+use Rattle.std.proofs.Common.{◌≡◌, inl, inr, ℕ, zero, suc, ◌==◌, ◌+◌, Bool, true, false, ◌&&◌, ◌||◌, cond, ℤ, pos, int_le, nat_le, List, [], ◌∷◌, length, map, take, replicate, slice_get, slice_set, slice_index_or, Option, Some, None, refl, sym, subst, arith}
 use Rattle.std.specs.List.{list_all}
 use Rattle.std.specs.Option.{option_map}
 use Rattle.std.proofs.lemmas.Int.{ints}
 use Rattle.vx_base.specs.Arithmetic.{IsNumber}
 use Rattle.vx_base.specs.Outcome.{Step, On, Over}
 use Rattle.vx_flow.specs.declared.graph.Operand.{Operand}
+use Rattle.vx_flow.specs.declared.graph.Operand.TheVariants.{Held}
 use Rattle.vx_flow.specs.declared.graph.Op.{Op}
 use Rattle.vx_flow.specs.declared.graph.Exit.{Exit}
 use Rattle.vx_flow.specs.declared.graph.Exit.TheVariants.{Goto, Split, Call, Return, Ends}
@@ -18,16 +19,17 @@ use Rattle.vx_flow.specs.Meaning.{Hop, Arrives, Calls, Leaves, Stops, Wrong, kno
 use Rattle.vx_claims.specs.declared.claim.Claim.{Claim}
 use Rattle.vx_claims.specs.declared.intervals.Interval.{Interval}
 use Rattle.vx_claims.specs.declared.fact.Fact.{Fact}
-use Rattle.vx_claims.specs.declared.fact.Fact.TheVariants.{Between, Equals}
-use Rattle.vx_claims.specs.Facts.{full, Within, AllHold, range, range_of, names, kept_if, without, without_written, is_full, between_unless, on_side}
+use Rattle.vx_claims.specs.declared.fact.Fact.TheVariants.{Between, Congruent, Equals, Never}
+use Rattle.vx_claims.specs.Facts.{full, Within, AllHold, range_of, residue_of, names, kept_if, without, without_written, is_full, between_unless, on_side, decided}
 use Rattle.vx_claims.specs.declared.access.Access.{Access}
 use Rattle.vx_claims.specs.Accesses.{SpotsDiffer, AllTell, tell, accessed}
 use Rattle.vx_claims.specs.Forming.{form, after_known, after_from, accessed_from, after_all, accessed_all}
-use Rattle.vx_narrow.specs.Checking.{is_number, has_number, has_numbers, are_given, are_given_behind, are_passed, lie_in, is_entry_checked, parameters_of, is_exit_checked, is_block_checked, Checked, Leads, FactsHold}
-use Rattle.vx_claims.specs.Claims.{is_inside, gives, give}
-use Rattle.vx_narrow.proofs.Ranges.{number_within, and_one, and_two, le_holds, Fit, range_holds, range_of_holds}
+use Rattle.vx_narrow.specs.Checking.{is_number, has_number, has_numbers, are_given, are_given_behind, is_against, are_given_on, are_passed, lie_in, is_entry_checked, parameters_of, is_exit_checked, is_left_checked, is_block_checked, Checked, Leads, FactsHold}
+use Rattle.vx_claims.specs.Claims.{is_inside, is_never, gives, give}
+use Rattle.vx_narrow.proofs.Congruences.{implied_holds}
+use Rattle.vx_narrow.proofs.Ranges.{number_within, and_one, and_two, le_holds, Fit, range_of_holds, residue_of_holds}
 use Rattle.vx_narrow.proofs.Equal.{has_holds}
-use Rattle.vx_narrow.proofs.Tests.{side_holds}
+use Rattle.vx_narrow.proofs.Tests.{side_holds, decided_side}
 use Rattle.vx_narrow.proofs.Operations.{number_fits, held_is, held_fits, RowsFit, NumbersFit, StateFit, rows_append, rows_take, without_holds, lies_hold, written_fits, Good}
 use Rattle.vx_narrow.proofs.Behind.{Known, KeepsKnown, Claimed, form_known}
 use Rattle.vx_narrow.proofs.Accesses.{tell_holds}
@@ -43,8 +45,10 @@ inside_holds i j (Some z) e h =
     (omega (arith, ints, l, h.0), omega (arith, ints, g, h.1))
 
 gives_holds : (values : ℕ → Content) (fs : List Fact) (f : Fact) → Fit values → AllHold values fs → gives fs f ≡ true → AllHold values (f ∷ [])
-gives_holds values fs (Between v i) fit h e = (inside_holds (range fs v) i (values v) e (range_holds values fs v fit h), tt)
+gives_holds values fs (Between v i) fit h e = (inside_holds (range_of fs (Held v)) i (values v) e (range_of_holds values fs (Held v) fit h), tt)
+gives_holds values fs (Congruent v c) fit h e = (implied_holds (residue_of fs (Held v)) c (values v) e (residue_of_holds values fs (Held v) fit h), tt)
 gives_holds values fs (Equals v code a b) fit h e = (has_holds values fs v code a b h e, tt)
+gives_holds values fs Never fit h e = absurd (cc)
 
 give_holds : (values : ℕ → Content) (fs claims : List Fact) → Fit values → AllHold values fs → give fs claims ≡ true → AllHold values claims
 give_holds values fs [] fit h e = tt
@@ -55,6 +59,26 @@ given_good setting s fs xs claim g h e = record {
   good = record { facts = give_holds s.values fs claim.facts g.fits.values g.facts (and_one (give fs claim.facts) (tell xs claim.accesses) e); fits = g.fits };
   tell = tell_holds setting s xs claim.accesses h (and_two (give fs claim.facts) (tell xs claim.accesses) e);
 }
+
+-- facts that hold do not say that no run comes to them
+never_holds : (values : ℕ → Content) (fs : List Fact) → AllHold values fs → is_never fs ≡ false
+never_holds values [] h = refl
+never_holds values (Between v i ∷ fs) h = never_holds values fs h.1
+never_holds values (Congruent v c ∷ fs) h = never_holds values fs h.1
+never_holds values (Equals v code a b ∷ fs) h = never_holds values fs h.1
+never_holds values (Never ∷ fs) h = absurd h.0
+
+second_of : (a b : Bool) → a ≡ false → (a || b) ≡ true → b ≡ true
+second_of true b e h = absurd (cc)
+second_of false b e h = h
+
+not_against : (answer : Bool) (o : Option Bool) → ((t : Bool) → o ≡ Some t → t ≡ answer) → is_against answer o ≡ false
+not_against true None h = refl
+not_against false None h = refl
+not_against true (Some true) h = refl
+not_against true (Some false) h = let e : false ≡ true = h false refl in absurd (cc)
+not_against false (Some true) h = let e : true ≡ false = h true refl in absurd (cc)
+not_against false (Some false) h = refl
 
 -- ---- arguments
 
@@ -173,14 +197,20 @@ leaves_good : (given : ℕ → List Interval) (claims : ℕ → Claim) (setting 
 leaves_good given claims setting None s f g = tt
 leaves_good given claims setting (Some n) s f g = (f, g)
 
+side_good : (setting : Setting) (s : State) (fs : List Fact) (xs : List Access) (p : ℕ) (z : ℤ) (answer : Bool) (claim : Claim) → Good fs s → AllTell setting s xs → s.values p ≡ Some z → is_one z ≡ answer → are_given_on answer fs xs p claim ≡ true → Claimed setting claim s
+side_good setting s fs xs p z answer claim g h is q e =
+    let there : List Fact = on_side fs answer p in
+    let led : is_against answer (decided fs p) ≡ false = not_against answer (decided fs p) (λ t d. decided_side s.values g.fits.values fs g.facts p z answer t is q d) in
+    given_good setting s there xs claim (record { facts = side_holds s.values g.fits.values fs g.facts p z answer is q; fits = g.fits }) h (second_of (is_against answer (decided fs p)) (are_given there xs claim) led e)
+
 leave_good : (given : ℕ → List Interval) (claims : ℕ → Claim) (setting : Setting) (b : ℕ) (exit : Exit) (s : State) (fs : List Fact) (xs : List Access) → Good fs s → AllTell setting s xs → is_exit_checked given claims fs xs exit ≡ true → HopGood given claims setting (leave b exit s)
 leave_good given claims setting b (Goto c) s fs xs g h e = given_good setting s fs xs (claims c) g h e
 leave_good given claims setting b (Split p c d) s fs xs g h e =
-    let one = are_given (on_side fs true p) xs (claims c) in
-    let two = are_given (on_side fs false p) xs (claims d) in
+    let one = are_given_on true fs xs p (claims c) in
+    let two = are_given_on false fs xs p (claims d) in
     test_good given claims setting (s.values p) (Arrives b c s) (Arrives b d s)
-    (λ z is q. given_good setting s (on_side fs true p) xs (claims c) (record { facts = side_holds s.values g.fits.values fs g.facts p z true is q; fits = g.fits }) h (and_one one two e))
-    (λ z is q. given_good setting s (on_side fs false p) xs (claims d) (record { facts = side_holds s.values g.fits.values fs g.facts p z false is q; fits = g.fits }) h (and_two one two e))
+    (λ z is q. side_good setting s fs xs p z true (claims c) g h is q (and_one one two e))
+    (λ z is q. side_good setting s fs xs p z false (claims d) g h is q (and_two one two e))
 leave_good given claims setting b (Call f arguments result to) s fs xs g h e =
     let one = list_all has_number arguments in
     let two = are_passed fs arguments (given f) in
@@ -197,8 +227,8 @@ then_good given claims setting fs xs None f k h = tt
 then_good given claims setting fs xs (Some t) f k h = h t k
 
 ops_good : (given : ℕ → List Interval) (claims : ℕ → Claim) (setting : Setting) → SpotsDiffer setting → (b : ℕ) (ops : List Op) (exit : Exit) (fs : List Fact) (xs : List Access) (s : State) → Known setting fs xs s → list_all has_numbers ops ≡ true →
-    is_exit_checked given claims (after_from fs xs ops) (accessed_from fs xs ops) exit ≡ true → HopGood given claims setting (block_hop setting b ops exit s)
-ops_good given claims setting differ b [] exit fs xs s k n e = leave_good given claims setting b exit s fs xs k.good k.tell e
+    is_left_checked given claims (after_from fs xs ops) (accessed_from fs xs ops) exit ≡ true → HopGood given claims setting (block_hop setting b ops exit s)
+ops_good given claims setting differ b [] exit fs xs s k n e = leave_good given claims setting b exit s fs xs k.good k.tell (second_of (is_never fs) (is_exit_checked given claims fs xs exit) (never_holds s.values fs k.good.facts) e)
 ops_good given claims setting differ b (op ∷ ops) exit fs xs s k n e =
     let fs' = after_known fs xs op (form fs xs op) in
     let xs' = accessed xs (form fs xs op) in
@@ -208,7 +238,7 @@ ops_good given claims setting differ b (op ∷ ops) exit fs xs s k n e =
 block_good : (given : ℕ → List Interval) (claims : ℕ → Claim) (setting : Setting) → SpotsDiffer setting → (b : ℕ) (block : Block) (s : State) → Claimed setting (claims b) s → is_block_checked given claims b block ≡ true → HopGood given claims setting (hop_of setting b (Some block) s)
 block_good given claims setting differ b block s k e =
     let one = list_all has_numbers block.ops in
-    let two = is_exit_checked given claims (after_all (claims b) block.ops) (accessed_all (claims b) block.ops) block.exit in
+    let two = is_left_checked given claims (after_all (claims b) block.ops) (accessed_all (claims b) block.ops) block.exit in
     ops_good given claims setting differ b block.ops block.exit (claims b).facts (claims b).accesses s k (and_one one two e) (and_two one two e)
 
 -- ---- programs

@@ -15,7 +15,7 @@ use Rattle.vx_flow.specs.declared.graph.Operand.TheVariants.{Held, Number, Stack
 use Rattle.vx_flow.specs.Effects.{Content, both, computed, is_one}
 use Rattle.vx_claims.specs.declared.intervals.Interval.{Interval}
 use Rattle.vx_claims.specs.declared.fact.Fact.{Fact}
-use Rattle.vx_claims.specs.declared.fact.Fact.TheVariants.{Between, Equals}
+use Rattle.vx_claims.specs.declared.fact.Fact.TheVariants.{Between, Congruent, Equals, Never}
 use Rattle.vx_claims.specs.Facts.{least, greatest, full, Within, content, AllHold, range_of, is_above, one_less, one_more, below_unsigned, without_end, unequal_within, left_within, right_within, operand_between, compared, came_out, learned_if, learned, on_side, always, answer_of, compare_decided, first_of, decided_if, decided_by, decided}
 use Rattle.vx_narrow.proofs.Ranges.{and_one, and_two, le_holds, lt_holds, within_number, Fit, range_of_holds, above_holds}
 
@@ -255,6 +255,8 @@ module _ (values : ℕ → Content) (fit : Fit values) (all : List Fact) (hold :
     learned_holds : (fs : List Fact) → AllHold values fs → AllHold values (learned all answer p fs)
     learned_holds [] h = tt
     learned_holds (Between u i ∷ fs) h = learned_holds fs h.1
+    learned_holds (Congruent u c ∷ fs) h = learned_holds fs h.1
+    learned_holds (Never ∷ fs) h = absurd h.0
     learned_holds (Equals u code a b ∷ fs) h =
         append_holds values (learned_if (u == p) all answer code a b) (learned all answer p fs)
         (learned_if_holds (u == p) code a b (λ e. subst (λ w. values w ≡ computed code (content values a) (content values b)) (eqb-true u p e) h.0))
@@ -321,6 +323,8 @@ module _ (values : ℕ → Content) (fit : Fit values) (all : List Fact) (hold :
   decided_by_holds : (p : ℕ) (answer : Bool) (fs : List Fact) → AllHold values fs → decided_by all p fs ≡ Some answer → Tests p answer
   decided_by_holds p answer [] h e = absurd (cc)
   decided_by_holds p answer (Between u i ∷ fs) h e = decided_by_holds p answer fs h.1 e
+  decided_by_holds p answer (Congruent u c ∷ fs) h e = decided_by_holds p answer fs h.1 e
+  decided_by_holds p answer (Never ∷ fs) h e = absurd h.0
   decided_by_holds p answer (Equals u code a b ∷ fs) h e =
       first_holds p answer (decided_if (u == p) all code a b) (decided_by all p fs) e
       (λ q. decided_if_holds (u == p) p code a b answer q (λ t. subst (λ w. values w ≡ computed code (content values a) (content values b)) (eqb-true u p t) h.0))
@@ -328,3 +332,11 @@ module _ (values : ℕ → Content) (fit : Fit values) (all : List Fact) (hold :
 
   pub decided_holds : (p : ℕ) (answer : Bool) → decided all p ≡ Some answer → Tests p answer
   decided_holds p answer e = decided_by_holds p answer all hold e
+
+  -- a test that is defined comes out as decided
+  pub decided_side : (p : ℕ) (z : ℤ) (answer t : Bool) → values p ≡ Some z → is_one z ≡ answer → decided all p ≡ Some t → t ≡ answer
+  decided_side p z answer t is one e = by (decided_holds p t e)
+    where
+      by : Tests p t → t ≡ answer
+      by (inl n) = let q : Option.Some z ≡ None = sym is ∙ n in absurd (cc)
+      by (inr n) = let q : Option.Some z ≡ Some (one_if t) = sym is ∙ n in let same : z ≡ one_if t = cc in sym (one_is t) ∙ ap is_one (sym same) ∙ one

@@ -1,5 +1,5 @@
 -- When facts claimed at the starts of the blocks of a program are checked, and the laws of checked facts.
-use Rattle.std.specs.Prelude.{◌≡◌, ℕ, zero, suc, Bool, true, false, ◌&&◌, ℤ, int_le, Option, Some, None, List, [], ◌∷◌, slice_get, slice_index_or}
+use Rattle.std.specs.Prelude.{◌≡◌, ℕ, zero, suc, Bool, true, false, ◌&&◌, ◌||◌, ℤ, int_le, Option, Some, None, List, [], ◌∷◌, slice_get, slice_index_or}
 use Rattle.std.specs.List.{list_all}
 use Rattle.vx_base.specs.Arithmetic.{IsNumber}
 use Rattle.vx_base.specs.Outcome.{On}
@@ -18,11 +18,11 @@ use Rattle.vx_flow.specs.Meaning.{Active, next, program_of, start}
 use Rattle.vx_claims.specs.declared.claim.Claim.{Claim}
 use Rattle.vx_claims.specs.declared.intervals.Interval.{Interval}
 use Rattle.vx_claims.specs.declared.fact.Fact.{Fact}
-use Rattle.vx_claims.specs.Facts.{AllHold, least, greatest, range_of, without, without_written, lies_in, on_side}
+use Rattle.vx_claims.specs.Facts.{AllHold, least, greatest, range_of, without, without_written, lies_in, on_side, decided}
 use Rattle.vx_claims.specs.Forming.{after_all, accessed_all}
 use Rattle.vx_claims.specs.declared.access.Access.{Access}
 use Rattle.vx_claims.specs.Accesses.{tell}
-use Rattle.vx_claims.specs.Claims.{is_inside, give}
+use Rattle.vx_claims.specs.Claims.{is_inside, is_never, give}
 
 -- the check of one block, where so much is given of the parameters of each function: an interval for each place, and nothing of
 -- the places behind the last interval
@@ -56,15 +56,31 @@ are_passed fs [] is = true
 are_passed fs (x ∷ xs) [] = true
 are_passed fs (x ∷ xs) (i ∷ is) = is_inside (range_of fs x) i && are_passed fs xs is
 
+-- whether a test came out the other way
+abbrev pub is_against : Bool → Option Bool → Bool
+is_against answer None = false
+is_against true (Some true) = false
+is_against true (Some false) = true
+is_against false (Some true) = true
+is_against false (Some false) = false
+
+-- to the side against which the facts decide no run goes
+abbrev pub are_given_on : Bool → List Fact → List Access → ℕ → Claim → Bool
+are_given_on answer fs xs p claim = is_against answer (decided fs p) || are_given (on_side fs answer p) xs claim
+
 abbrev pub is_exit_checked : (given : ℕ → List Interval) → (ℕ → Claim) → List Fact → List Access → Exit → Bool
 is_exit_checked given claims fs xs (Goto c) = are_given fs xs (claims c)
-is_exit_checked given claims fs xs (Split p c d) = are_given (on_side fs true p) xs (claims c) && are_given (on_side fs false p) xs (claims d)
+is_exit_checked given claims fs xs (Split p c d) = are_given_on true fs xs p (claims c) && are_given_on false fs xs p (claims d)
 is_exit_checked given claims fs xs (Call g arguments result next) = list_all has_number arguments && (are_passed fs arguments (given g) && are_given_behind (without_written result fs) (claims next))
 is_exit_checked given claims fs xs (Return x) = has_number x
 is_exit_checked given claims fs xs (Ends k) = true
 
+-- of a block to which no run comes nothing is asked but that its numbers have 32 bits
+abbrev pub is_left_checked : (given : ℕ → List Interval) → (ℕ → Claim) → List Fact → List Access → Exit → Bool
+is_left_checked given claims fs xs exit = is_never fs || is_exit_checked given claims fs xs exit
+
 abbrev pub is_block_checked : (given : ℕ → List Interval) → (ℕ → Claim) → ℕ → Block → Bool
-is_block_checked given claims b block = list_all has_numbers block.ops && is_exit_checked given claims (after_all (claims b) block.ops) (accessed_all (claims b) block.ops) block.exit
+is_block_checked given claims b block = list_all has_numbers block.ops && is_left_checked given claims (after_all (claims b) block.ops) (accessed_all (claims b) block.ops) block.exit
 
 -- the check of an entry
 

@@ -10,7 +10,7 @@ use Rattle.vx_flow.specs.declared.graph.Operand.TheVariants.{Held, Number, Stack
 use Rattle.vx_flow.specs.declared.graph.Op.{Op}
 use Rattle.vx_flow.specs.declared.graph.Op.TheVariants.{Compute}
 use Rattle.vx_claims.specs.declared.fact.Fact.{Fact}
-use Rattle.vx_claims.specs.declared.fact.Fact.TheVariants.{Between, Equals}
+use Rattle.vx_claims.specs.declared.fact.Fact.TheVariants.{Between, Congruent, Equals, Never}
 use Rattle.vx_narrow.specs.declared.one_product.Factors.{Factors}
 use Rattle.vx_claims.specs.Facts.{range_of, is_half, has_equals}
 use Rattle.vx_claims.specs.Forming.{form, after_known}
@@ -65,6 +65,8 @@ factors_if false a b otherwise = otherwise
 abbrev pub factors_of : List Fact → ℕ → Option Factors
 factors_of [] u = None
 factors_of (Between w i ∷ fs) u = factors_of fs u
+factors_of (Congruent w c ∷ fs) u = factors_of fs u
+factors_of (Never ∷ fs) u = factors_of fs u
 factors_of (Equals w code a b ∷ fs) u = factors_if (is_low u w code) a b (factors_of fs u)
 
 abbrev pub product_if : Bool → List Fact → ℕ → Operand → Operand → Op → Op

@@ -4,7 +4,7 @@ ghost use Rattle.std.specs.Prelude.{◌≡◌, ◌++◌, ◌&&◌, true, IfOk, I
 ghost use Rattle.std.specs.List.{list_all};
 ghost use Rattle.vx_claims.specs.Forming.{accessed_from, after_from};
 ghost use Rattle.vx_claims.specs.Claims.{listed_claims};
-ghost use Rattle.vx_narrow.specs.Checking.{has_numbers, is_block_checked, is_exit_checked, listed_given};
+ghost use Rattle.vx_narrow.specs.Checking.{has_numbers, is_block_checked, is_left_checked, listed_given};
 ghost use Rattle.vx_narrow.specs.Shortening.{improved_from};
 ghost use Rattle.vx_narrow.specs.Rewriting.{narrowed_block, narrowed_exit};
 
@@ -130,7 +130,7 @@ fn checked_exit(
     block: &Block,
 ) -> Result<Option<Exit>, NoMemory>
     ensures narrowed { IfOk result (λ found. IfSome found (λ exit. exit ≡ narrowed_exit passed.now.facts block.now.exit)) }
-    ensures checked { IfOk result (λ found. IfSome found (λ _. (list_all has_numbers block.now.ops && is_exit_checked (listed_given given.now) (listed_claims table.now) passed.now.facts passed.now.accesses block.now.exit) ≡ true)) }
+    ensures checked { IfOk result (λ found. IfSome found (λ _. (list_all has_numbers block.now.ops && is_left_checked (listed_given given.now) (listed_claims table.now) passed.now.facts passed.now.accesses block.now.exit) ≡ true)) }
 {
     let facts = passed.facts.as_slice();
     let accesses = passed.accesses.as_slice();

@@ -2,9 +2,9 @@
 
 ghost use Rattle.std.specs.Prelude.{◌≡◌, ◌&&◌, IfOk};
 ghost use Rattle.std.specs.List.{list_all};
-ghost use Rattle.vx_claims.specs.Facts.{on_side, without_written};
+ghost use Rattle.vx_claims.specs.Facts.{decided, on_side, without_written};
 ghost use Rattle.vx_claims.specs.Claims.{listed_claims};
-ghost use Rattle.vx_narrow.specs.Checking.{are_given, are_given_behind, has_number, has_numbers, is_exit_checked, is_number, listed_given};
+ghost use Rattle.vx_narrow.specs.Checking.{are_given, are_given_behind, are_given_on, has_number, has_numbers, is_against, is_exit_checked, is_left_checked, is_number, listed_given};
 
 use crate::given::{are_passed, given_of};
 use std::alloc::Global;
@@ -15,7 +15,7 @@ use vx_claims::claim::{Claim, accesses_in, facts_in};
 use vx_claims::effects::{on_side, without};
 use vx_claims::fact::Fact;
 use vx_claims::intervals::Interval;
-use vx_claims::known::give;
+use vx_claims::known::{decided, give, is_never};
 use vx_flow::graph::{Block, BlockId, Exit, Op, Operand, Value};
 
 /// Whether a number has 32 bits.
@@ -83,6 +83,17 @@ fn are_given_behind(facts: &[Fact], table: &[Claim], block: BlockId) -> bool
     give(facts, facts_in(table, block as usize)) && tell(&[], accesses_in(table, block as usize))
 }
 
+/// Whether a test came out the other way.
+fn is_against(answer: bool, decision: Option<bool>) -> bool
+    ensures { result ≡ is_against answer decision }
+{
+    match decision {
+        None => false,
+        Some(true) => !answer,
+        Some(false) => answer,
+    }
+}
+
 /// Whether what holds on a side of a split gives what is claimed at a block.
 fn are_given_on_side(
     alloc: Global,
@@ -97,6 +108,24 @@ fn are_given_on_side(
 {
     let there = on_side(alloc, facts, answer, test)?;
     Ok(are_given(there.as_slice(), known, table, block))
+}
+
+/// The same, or no run goes there.
+fn are_given_on(
+    alloc: Global,
+    facts: &[Fact],
+    known: &[Access],
+    answer: bool,
+    test: Value,
+    table: &[Claim],
+    block: BlockId,
+) -> Result<bool, NoMemory>
+    ensures { IfOk result (λ given. given ≡ are_given_on answer facts.now known.now test (listed_claims table.now block)) }
+{
+    Ok(
+        is_against(answer, decided(facts, test))
+            || are_given_on_side(alloc, facts, known, answer, test, table, block)?,
+    )
 }
 
 /// Whether what holds behind a call gives what is claimed at a block.
@@ -132,8 +161,8 @@ fn is_exit_checked(
     match exit {
         Exit::Goto(next) => Ok(are_given(facts, known, table, *next)),
         Exit::Split { test, yes, no } => Ok(
-            are_given_on_side(alloc, facts, known, true, *test, table, *yes)?
-                && are_given_on_side(alloc, facts, known, false, *test, table, *no)?,
+            are_given_on(alloc, facts, known, true, *test, table, *yes)?
+                && are_given_on(alloc, facts, known, false, *test, table, *no)?,
         ),
         Exit::Call {
             function,
@@ -154,7 +183,7 @@ fn is_exit_checked(
 }
 
 /// Whether a block passes, where so much is known behind its operations: its numbers have 32 bits, and its exit gives what is
-/// claimed at the blocks to which it leads.
+/// claimed at the blocks to which it leads, or no run comes to it.
 pub fn is_left_checked(
     alloc: Global,
     given: &[Listed<Interval>],
@@ -163,10 +192,11 @@ pub fn is_left_checked(
     known: &[Access],
     block: &Block,
 ) -> Result<bool, NoMemory>
-    ensures { IfOk result (λ passes. passes ≡ (list_all has_numbers block.now.ops && is_exit_checked (listed_given given.now) (listed_claims table.now) facts.now known.now block.now.exit)) }
+    ensures { IfOk result (λ passes. passes ≡ (list_all has_numbers block.now.ops && is_left_checked (listed_given given.now) (listed_claims table.now) facts.now known.now block.now.exit)) }
 {
     Ok(
         have_numbers(block.ops.as_slice())
-            && is_exit_checked(alloc, given, table, facts, known, &block.exit)?,
+            && (is_never(facts)
+                || is_exit_checked(alloc, given, table, facts, known, &block.exit)?),
     )
 }

@@ -121,7 +121,7 @@ fn factors_of(facts: &[Fact], value: Value) -> Option<Factors>
 {
     for fact in facts {
         match *fact {
-            Fact::Between { .. } => {}
+            Fact::Between { .. } | Fact::Congruent { .. } | Fact::Never => {}
             Fact::Equals {
                 value: to,
                 code,

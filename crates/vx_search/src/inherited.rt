@@ -1,5 +1,5 @@
 // What a block takes over from the blocks that lead to it: what its values hold, and what is known of places and words of
-// arrays. It is looked for and owes nothing, since what does not pass is not used.
+// arrays. What no run comes to leads to nothing. It is looked for and owes nothing, since what does not pass is not used.
 
 ghost use Rattle.std.specs.Prelude.{◌≡◌, IfOk, length};
 
@@ -12,7 +12,7 @@ use vx_claims::behind::known_behind;
 use vx_claims::claim::{Claim, accesses_in, facts_in};
 use vx_claims::effects::without;
 use vx_claims::fact::Fact;
-use vx_claims::known::give;
+use vx_claims::known::{give, is_never};
 use vx_flow::graph::{Block, BlockId, Exit, Graph, Value};
 use vx_loops::{Loops, entries_at, loops_of};
 
@@ -196,12 +196,23 @@ fn take_over(
     match before.as_slice() {
         [] => Ok(()),
         [first, ..] => {
-            let facts = facts_in(ends, *first as usize);
-            let accesses = accesses_in(ends, *first as usize);
+            let one = first_led(ends, before.as_slice(), *first) as usize;
+            let facts = facts_in(ends, one);
+            let accesses = accesses_in(ends, one);
             take_facts(claims, loops, ends, before.as_slice(), place, facts)?;
             take_accesses(claims, loops, ends, before.as_slice(), place, accesses)
         }
     }
+}
+
+/// The first of some blocks to which a run comes, or another one where there is none.
+fn first_led(ends: &[Claim], before: &[BlockId], otherwise: BlockId) -> BlockId {
+    for block in before {
+        if !is_never(facts_in(ends, *block as usize)) {
+            return *block;
+        }
+    }
+    otherwise
 }
 
 fn take_facts(
@@ -244,6 +255,8 @@ fn take_accesses(
 fn keeps_fact(loops: &Loops, fact: Fact) -> bool {
     match fact {
         Fact::Between { value, .. } => !loops.is_written(value),
+        Fact::Congruent { value, .. } => !loops.is_written(value),
+        Fact::Never => false,
         Fact::Equals {
             value,
             left,
@@ -267,7 +280,8 @@ fn keeps_access(loops: &Loops, access: Access) -> bool {
 
 fn all_give(ends: &[Claim], before: &[BlockId], fact: Fact) -> bool {
     for block in before {
-        if !give(facts_in(ends, *block as usize), &[fact]) {
+        let end = facts_in(ends, *block as usize);
+        if !give(end, &[fact]) && !is_never(end) {
             return false;
         }
     }
@@ -276,7 +290,8 @@ fn all_give(ends: &[Claim], before: &[BlockId], fact: Fact) -> bool {
 
 fn all_tell(ends: &[Claim], before: &[BlockId], access: Access) -> bool {
     for block in before {
-        if !tell(accesses_in(ends, *block as usize), &[access]) {
+        let place = *block as usize;
+        if !tell(accesses_in(ends, place), &[access]) && !is_never(facts_in(ends, place)) {
             return false;
         }
     }
@@ -306,7 +321,7 @@ fn take_access(claims: &mut Vec<Claim>, block: BlockId, access: Access) -> Resul
 /// Whether a fact says what a general value holds.
 fn is_general(fact: Fact) -> bool {
     match fact {
-        Fact::Between { .. } => false,
+        Fact::Between { .. } | Fact::Congruent { .. } | Fact::Never => false,
         Fact::Equals { code, .. } => match code {
             Code::ToBranch(_) => false,
             _ => true,

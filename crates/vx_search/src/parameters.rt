@@ -16,11 +16,11 @@ use crate::sweep::{hull, none};
 use std::alloc::Global;
 use vx_base::listed::Listed;
 use vx_base::outcome::NoMemory;
-use vx_claims::claim::Claim;
+use vx_claims::claim::{Claim, facts_in};
 use vx_claims::effects::is_full;
 use vx_claims::fact::Fact;
 use vx_claims::intervals::{Interval, full};
-use vx_claims::known::{is_inside, range_of};
+use vx_claims::known::{is_inside, is_never, range_of};
 use vx_flow::graph::{Block, Exit, Graph, Operand};
 
 /// How many facts of all claims are kept at most. The claims of the other functions are looked for once more.
@@ -414,7 +414,8 @@ fn note_calls(
                 ..
             } => {
                 let called = *function as usize;
-                if is_bounded(calls, called, arguments.len()) {
+                let comes = !is_never(facts_in(claims, place));
+                if comes && is_bounded(calls, called, arguments.len()) {
                     let passed = passed_over(alloc, claims, block_number(place), block)?;
                     note_call(calls, called, arguments.as_slice(), passed.facts.as_slice());
                 }

@@ -1,5 +1,5 @@
-// Claims that a graph may pass with: intervals of the values that are live at the starts of blocks. They are looked for and owe
-// nothing, since what does not pass is not used.
+// Claims that a graph may pass with: intervals and low bits of the values that are live at the starts of blocks, and the blocks to
+// which no run comes. They are looked for and owe nothing, since what does not pass is not used.
 //
 // Blocks are gone over in an order. What the blocks before a block give is then known; what the others give, by which loops
 // are closed, is taken to be nothing at first. Where they give more, more is taken: from the third sweep on up to 0, or to the
@@ -8,13 +8,19 @@
 ghost use Rattle.std.specs.Prelude.{◌≡◌, IfOk, length};
 
 use crate::inherited::{inherit, nothing_everywhere};
-use crate::sweep::{Cell, Mark, Tables, cell_at, hull, put_cell, sweep, unknown, unseen};
+use crate::sweep::{
+    Cell, Mark, Tables, anything, cell_at, either, is_none, lying, nowhere, put_cell, sweep,
+    unknown_cell, unseen,
+};
 use std::alloc::Global;
 use vx_base::listed::Listed;
 use vx_base::outcome::NoMemory;
 use vx_claims::claim::Claim;
+use vx_claims::effects::append_stands;
 use vx_claims::fact::Fact;
 use vx_claims::intervals::{Interval, full};
+use vx_claims::known::{Sight, is_inside, together};
+use vx_claims::residues::{is_implied, joined, unknown};
 use vx_flow::graph::{Bank, Block, BlockId, Graph, Value};
 use vx_flow::live;
 use vx_flow::live_rows::Live;
@@ -23,8 +29,10 @@ use vx_loops::order_of;
 /// How many sweeps there are at most until nothing more comes in.
 const MOST_SWEEPS: u32 = 16;
 
-/// From which sweep on what grows is taken up to a bound, and from which on all of it is given up.
+/// From which sweep on what grows is taken up to a bound, from which on low bits that change are given up, and from which on all is.
 const WIDENS: u32 = 3;
+
+const GIVES_UP_LOW_BITS: u32 = 6;
 
 const GIVES_UP: u32 = 10;
 
@@ -105,24 +113,26 @@ fn new_tables(alloc: Global, graph: &Graph, live: &Live) -> Result<Tables, NoMem
             rank: 0,
             forward: 0,
             back: 0,
+            seen: 0,
         })?;
         size = size.saturating_add(live.values_at(block_number(block)).len());
     }
-    let cells = vec![in alloc; unknown(); size]?;
+    let cells = vec![in alloc; unknown_cell(); size]?;
     let values = vec![in alloc; unseen(); graph.banks.len()]?;
     Ok(Tables {
         marks,
         cells,
         values,
         stamp: 0,
+        number: 0,
     })
 }
 
 /// Puts where those parameters lie that are live at the entry, whose row is the first.
 fn put_parameters(tables: &mut Tables, parameters: &[Value], intervals: &[Interval], live: &Live) {
     for (place, value) in live.values_at(0).iter().enumerate() {
-        let mut cell = unknown();
-        cell.start = interval_of(parameters, intervals, *value);
+        let mut cell = unknown_cell();
+        cell.start = lying(interval_of(parameters, intervals, *value));
         put_cell(&mut tables.cells, place, cell);
     }
 }
@@ -182,15 +192,15 @@ fn take_more(tables: &mut Tables, blocks: usize, live: &Live, number: u32) -> bo
 }
 
 fn take_at(tables: &mut Tables, block: usize, values: usize, number: u32) -> bool {
-    let mut more = false;
     let mark = mark_at(tables, block);
     if mark.back != number {
         return false;
     }
+    let mut more = mark.seen != number;
     for index in 0..values {
         let place = mark.start.saturating_add(index);
         let cell = cell_at(tables.cells.as_slice(), place);
-        if cell.back.low < cell.start.low || cell.start.high < cell.back.high {
+        if !says_all(cell.start, cell.back) {
             put_cell(&mut tables.cells, place, taken(cell, number));
             more = true;
         }
@@ -206,18 +216,38 @@ fn mark_at(tables: &Tables, block: usize) -> Mark {
             rank: 0,
             forward: 0,
             back: 0,
+            seen: 0,
         },
     }
+}
+
+/// Whether what is known of a number holds of all numbers of which another thing is known.
+fn says_all(known: Sight, other: Sight) -> bool {
+    is_none(other)
+        || (is_inside(other.within, known.within) && is_implied(other.residue, known.residue))
 }
 
 fn taken(cell: Cell, number: u32) -> Cell {
     let mut new = cell;
     new.taken = if number >= GIVES_UP {
-        full()
+        anything()
     } else {
-        hull(cell.taken, grown(cell.start, cell.back, number >= WIDENS))
+        either(cell.taken, more_of(cell.start, cell.back, number))
     };
     new
+}
+
+/// What is taken where something is known of a number and then other things are.
+fn more_of(old: Sight, new: Sight, number: u32) -> Sight {
+    let residue = joined(old.residue, new.residue);
+    together(Sight {
+        within: grown(old.within, new.within, number >= WIDENS),
+        residue: if number >= GIVES_UP_LOW_BITS && !is_implied(new.residue, old.residue) {
+            unknown()
+        } else {
+            residue
+        },
+    })
 }
 
 fn grown(old: Interval, new: Interval, widens: bool) -> Interval {
@@ -239,7 +269,7 @@ fn grown(old: Interval, new: Interval, widens: bool) -> Interval {
 /// Gives back what is taken too much, so many times.
 fn shrink(tables: &mut Tables, order: &[BlockId], blocks: &[Block], live: &Live, rounds: u32) {
     for round in 0..rounds {
-        give_back(tables);
+        give_back(tables, blocks.len(), live);
         sweep(
             tables,
             order,
@@ -251,11 +281,25 @@ fn shrink(tables: &mut Tables, order: &[BlockId], blocks: &[Block], live: &Live,
 }
 
 /// Takes what was given at last, where something is taken.
-fn give_back(tables: &mut Tables) {
-    for place in 0..tables.cells.len() {
+fn give_back(tables: &mut Tables, blocks: usize, live: &Live) {
+    for block in 1..blocks {
+        let values = live.values_at(block_number(block)).len();
+        give_back_at(tables, block, values);
+    }
+}
+
+/// The same at a block: nothing where no block leads back to it.
+fn give_back_at(tables: &mut Tables, block: usize, values: usize) {
+    let mark = mark_at(tables, block);
+    for index in 0..values {
+        let place = mark.start.saturating_add(index);
         let mut cell = cell_at(tables.cells.as_slice(), place);
-        if cell.taken.low <= cell.taken.high {
-            cell.taken = cell.back;
+        if !is_none(cell.taken) {
+            cell.taken = if mark.back == tables.number {
+                cell.back
+            } else {
+                nowhere()
+            };
             put_cell(&mut tables.cells, place, cell);
         }
     }
@@ -294,14 +338,15 @@ fn claims_at(
 ) -> Result<Listed<Fact>, NoMemory> {
     let mut claims = Listed::new(alloc);
     let mark = mark_at(tables, block);
+    if block != 0 && mark.seen != tables.number {
+        claims.push(Fact::Never)?;
+        return Ok(claims);
+    }
     for (index, value) in live.values_at(block_number(block)).iter().enumerate() {
         let place = mark.start.saturating_add(index);
-        let within = cell_at(tables.cells.as_slice(), place).start;
-        if is_general(banks, *value) && (i32::MIN < within.low || within.high < i32::MAX) {
-            claims.push(Fact::Between {
-                value: *value,
-                within,
-            })?;
+        let start = cell_at(tables.cells.as_slice(), place).start;
+        if is_general(banks, *value) {
+            append_stands(&mut claims, *value, start.within, start.residue)?;
         }
     }
     Ok(claims)

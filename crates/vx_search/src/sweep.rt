@@ -1,10 +1,14 @@
-// One sweep over the blocks of a graph: where values lie at the start of each block, by what its predecessors give.
+// One sweep over the blocks of a graph: where values lie at the start of each block and what their low bits are, by what its
+// predecessors give. What no run comes to is not gone over: where a test is decided, only one side is led to.
 
 use crate::search::block_number;
 use vx_base::arithmetic::{Code, Compare};
 use vx_claims::intervals::{
-    Interval, bit, full, left_within, meet, opposite, result_within, right_within, times_if,
+    Interval, bit, compare_decided, full, left_within, meet, opposite, result_residue,
+    result_within, right_within, times_if,
 };
+use vx_claims::known::{Sight, together};
+use vx_claims::residues::{exactly, joined, unknown};
 use vx_flow::graph::{Block, BlockId, Exit, Op, Operand, Value};
 use vx_flow::live_rows::Live;
 use vx_flow::operands::{is_value, written_by};
@@ -18,27 +22,29 @@ pub struct Mark {
     pub rank: usize,
     /// The last sweep in which a block before it led to it; 0 where none did.
     pub forward: u32,
-    /// The last sweep in which another block did.
+    /// The last sweep in which another block did; 0 where none did.
     pub back: u32,
+    /// The last sweep in which it was gone over; 0 where there is none.
+    pub seen: u32,
 }
 
-/// Where a value lies that is live at the start of a block. What has no number has its ends exchanged.
+/// What is known of a value that is live at the start of a block. What has no number has the ends of its interval exchanged.
 #[derive(Clone, Copy)]
 pub struct Cell {
     /// By the blocks before it.
-    pub forward: Interval,
+    pub forward: Sight,
     /// By the other blocks that lead to it.
-    pub back: Interval,
+    pub back: Sight,
     /// What those are taken to give.
-    pub taken: Interval,
+    pub taken: Sight,
     /// By all of them.
-    pub start: Interval,
+    pub start: Sight,
 }
 
-/// Where a value lies in the block that has this stamp.
+/// What is known of a value in the block that has this stamp.
 #[derive(Clone, Copy)]
 pub struct Seen {
-    pub within: Interval,
+    pub sight: Sight,
     pub stamp: u32,
 }
 
@@ -53,6 +59,8 @@ pub struct Tables {
     pub values: Vec<Seen>,
     /// The stamp of that block.
     pub stamp: u32,
+    /// The number of the sweep.
+    pub number: u32,
 }
 
 /// What a side of a split says of the operands of its test.
@@ -80,20 +88,44 @@ pub(crate) fn none() -> Interval {
     }
 }
 
+/// What is known of no number.
+pub(crate) fn nowhere() -> Sight {
+    Sight {
+        within: none(),
+        residue: unknown(),
+    }
+}
+
+/// Nothing but that a number lies in an interval.
+pub(crate) fn lying(within: Interval) -> Sight {
+    together(Sight {
+        within,
+        residue: unknown(),
+    })
+}
+
 /// A cell of which nothing is known.
-pub(crate) fn unknown() -> Cell {
+pub(crate) fn unknown_cell() -> Cell {
     Cell {
-        forward: none(),
-        back: none(),
-        taken: none(),
-        start: full(),
+        forward: nowhere(),
+        back: nowhere(),
+        taken: nowhere(),
+        start: anything(),
+    }
+}
+
+/// What is known where nothing is.
+pub(crate) fn anything() -> Sight {
+    Sight {
+        within: full(),
+        residue: unknown(),
     }
 }
 
 /// A value that no block has seen.
 pub(crate) fn unseen() -> Seen {
     Seen {
-        within: full(),
+        sight: anything(),
         stamp: 0,
     }
 }
@@ -102,7 +134,7 @@ pub(crate) fn unseen() -> Seen {
 pub(crate) fn cell_at(cells: &[Cell], place: usize) -> Cell {
     match cells.get(place) {
         Some(cell) => *cell,
-        None => unknown(),
+        None => unknown_cell(),
     }
 }
 
@@ -113,35 +145,38 @@ pub(crate) fn put_cell(cells: &mut Vec<Cell>, place: usize, cell: Cell) {
     }
 }
 
-fn range(tables: &Tables, value: Value) -> Interval {
+fn sight(tables: &Tables, value: Value) -> Sight {
     match tables.values.get(value as usize) {
         Some(seen) => {
             if seen.stamp == tables.stamp {
-                seen.within
+                seen.sight
             } else {
-                full()
+                anything()
             }
         }
-        None => full(),
+        None => anything(),
     }
 }
 
-fn range_of(tables: &Tables, operand: Operand) -> Interval {
+fn sight_of(tables: &Tables, operand: Operand) -> Sight {
     match operand {
-        Operand::Held(value) => range(tables, value),
-        Operand::Number(number) => Interval {
-            low: number,
-            high: number,
+        Operand::Held(value) => sight(tables, value),
+        Operand::Number(number) => Sight {
+            within: Interval {
+                low: number,
+                high: number,
+            },
+            residue: exactly(number),
         },
-        Operand::Stack => full(),
+        Operand::Stack => anything(),
     }
 }
 
-fn put_range(tables: &mut Tables, value: Value, interval: Interval) {
+fn put_sight(tables: &mut Tables, value: Value, sight: Sight) {
     let place = value as usize;
     if place < tables.values.len() {
         tables.values[place] = Seen {
-            within: interval,
+            sight,
             stamp: tables.stamp,
         };
     }
@@ -155,16 +190,35 @@ pub(crate) fn sweep(
     live: &Live,
     number: u32,
 ) {
+    let last = tables.number;
+    tables.number = number;
     for place in order {
         match blocks.get(*place as usize) {
-            Some(block) => visit(tables, *place as usize, block, live, number),
+            Some(block) => {
+                if is_led_to(tables, *place as usize, last) {
+                    visit(tables, *place as usize, block, live, number);
+                }
+            }
             None => {}
         }
     }
 }
 
+/// Whether a block that was gone over leads to a block: in this sweep, or back to it from the last one on. The entry counts as one.
+fn is_led_to(tables: &Tables, place: usize, last: u32) -> bool {
+    match tables.marks.get(place) {
+        Some(mark) => {
+            place == 0 || mark.forward == tables.number || (mark.back > 0 && mark.back >= last)
+        }
+        None => false,
+    }
+}
+
 fn visit(tables: &mut Tables, place: usize, block: &Block, live: &Live, number: u32) {
     tables.stamp = tables.stamp.wrapping_add(1);
+    if place < tables.marks.len() {
+        tables.marks[place].seen = number;
+    }
     begin(tables, place, live, number);
     for_ops(tables, block.ops.as_slice());
     leave(tables, place, block, live, number);
@@ -181,13 +235,13 @@ fn begin(tables: &mut Tables, block: usize, live: &Live, number: u32) {
         let mut cell = cell_at(tables.cells.as_slice(), place);
         if block != 0 {
             cell.start = if mark.forward == number {
-                hull(cell.forward, cell.taken)
+                together(either(cell.forward, cell.taken))
             } else {
-                full()
+                anything()
             };
             put_cell(&mut tables.cells, place, cell);
         }
-        put_range(tables, *value, cell.start);
+        put_sight(tables, *value, cell.start);
     }
 }
 
@@ -205,19 +259,32 @@ fn step(tables: &mut Tables, op: Op) {
             left,
             right,
         } => {
-            let interval = result_within(code, range_of(tables, left), range_of(tables, right));
-            put_range(tables, to, interval);
+            let given = result_of(code, sight_of(tables, left), sight_of(tables, right));
+            put_sight(tables, to, given);
         }
         Op::Place { to, index, .. } => {
-            let interval = times_if(true, range_of(tables, index), 4);
-            put_range(tables, to, interval);
+            let within = times_if(true, sight_of(tables, index).within, 4);
+            put_sight(tables, to, lying(within));
         }
-        Op::More { to } => put_range(tables, to, bit()),
+        Op::More { to } => put_sight(tables, to, lying(bit())),
         _ => match written_by(&op) {
-            Some(to) => put_range(tables, to, full()),
+            Some(to) => put_sight(tables, to, anything()),
             None => {}
         },
     }
+}
+
+fn result_of(code: Code, first: Sight, second: Sight) -> Sight {
+    together(Sight {
+        within: result_within(code, first.within, second.within),
+        residue: result_residue(
+            code,
+            first.within,
+            second.within,
+            first.residue,
+            second.residue,
+        ),
+    })
 }
 
 /// Leads from the end of a block to the blocks behind it.
@@ -226,10 +293,15 @@ fn leave(tables: &mut Tables, from: usize, block: &Block, live: &Live, number: u
         Exit::Goto(next) => lead(tables, live, from, *next, nothing(), number),
         Exit::Split { test, yes, no } => {
             let tested = compare_of(block.ops.as_slice(), *test);
+            let answer = answer_of(tables, tested);
             let first = side_of(tables, tested, true);
             let second = side_of(tables, tested, false);
-            lead(tables, live, from, *yes, first, number);
-            lead(tables, live, from, *no, second, number);
+            if may_be(answer, true) {
+                lead(tables, live, from, *yes, first, number);
+            }
+            if may_be(answer, false) {
+                lead(tables, live, from, *no, second, number);
+            }
         }
         Exit::Call {
             result: held,
@@ -237,7 +309,7 @@ fn leave(tables: &mut Tables, from: usize, block: &Block, live: &Live, number: u
             ..
         } => {
             match held {
-                Some(value) => put_range(tables, *value, full()),
+                Some(value) => put_sight(tables, *value, anything()),
                 None => {}
             }
             lead(tables, live, from, *next, nothing(), number);
@@ -294,6 +366,26 @@ fn kept(before: Option<Tested>, value: Value) -> Option<Tested> {
     }
 }
 
+/// How a test comes out, where it always comes out so.
+fn answer_of(tables: &Tables, tested: Option<Tested>) -> Option<bool> {
+    match tested {
+        Some(found) => compare_decided(
+            found.compare,
+            sight_of(tables, found.left).within,
+            sight_of(tables, found.right).within,
+        ),
+        None => None,
+    }
+}
+
+/// Whether a test may come out so.
+fn may_be(answer: Option<bool>, side: bool) -> bool {
+    match answer {
+        Some(always) => always == side,
+        None => true,
+    }
+}
+
 fn nothing() -> Side {
     Side {
         left: Operand::Stack,
@@ -311,8 +403,8 @@ fn side_of(tables: &Tables, tested: Option<Tested>, answer: bool) -> Side {
             } else {
                 opposite(found.compare)
             };
-            let left_range = range_of(tables, found.left);
-            let right_range = range_of(tables, found.right);
+            let left_range = sight_of(tables, found.left).within;
+            let right_range = sight_of(tables, found.right).within;
             Side {
                 left: found.left,
                 left_within: left_within(compare, left_range, right_range),
@@ -324,16 +416,24 @@ fn side_of(tables: &Tables, tested: Option<Tested>, answer: bool) -> Side {
     }
 }
 
-/// Where a value lies on a side.
-fn range_on(tables: &Tables, side: Side, value: Value) -> Interval {
-    let mut interval = range(tables, value);
+/// What is known of a value on a side.
+fn sight_on(tables: &Tables, side: Side, value: Value) -> Sight {
+    let mut seen = sight(tables, value);
     if is_value(value, &side.right) {
-        interval = meet(side.right_within, interval);
+        seen = narrower(side.right_within, seen);
     }
     if is_value(value, &side.left) {
-        interval = meet(side.left_within, interval);
+        seen = narrower(side.left_within, seen);
     }
-    interval
+    seen
+}
+
+/// What is known besides where a number lies in an interval too.
+fn narrower(within: Interval, seen: Sight) -> Sight {
+    together(Sight {
+        within: meet(within, seen.within),
+        residue: seen.residue,
+    })
 }
 
 /// Leads to a block, with what a side says.
@@ -363,12 +463,12 @@ fn rank_of(tables: &Tables, block: usize) -> usize {
 fn lead_back(tables: &mut Tables, start: usize, values: &[Value], side: Side, joins: bool) {
     for (index, value) in values.iter().enumerate() {
         let place = start.saturating_add(index);
-        let interval = range_on(tables, side, *value);
+        let sight = sight_on(tables, side, *value);
         let mut cell = cell_at(tables.cells.as_slice(), place);
         cell.back = if joins {
-            hull(cell.back, interval)
+            either(cell.back, sight)
         } else {
-            interval
+            sight
         };
         put_cell(&mut tables.cells, place, cell);
     }
@@ -377,12 +477,12 @@ fn lead_back(tables: &mut Tables, start: usize, values: &[Value], side: Side, jo
 fn lead_forward(tables: &mut Tables, start: usize, values: &[Value], side: Side, joins: bool) {
     for (index, value) in values.iter().enumerate() {
         let place = start.saturating_add(index);
-        let interval = range_on(tables, side, *value);
+        let sight = sight_on(tables, side, *value);
         let mut cell = cell_at(tables.cells.as_slice(), place);
         cell.forward = if joins {
-            hull(cell.forward, interval)
+            either(cell.forward, sight)
         } else {
-            interval
+            sight
         };
         put_cell(&mut tables.cells, place, cell);
     }
@@ -394,4 +494,23 @@ pub(crate) fn hull(i: Interval, j: Interval) -> Interval {
         low: i.low.min(j.low),
         high: i.high.max(j.high),
     }
+}
+
+/// What is known of a number of which one of two is.
+pub(crate) fn either(first: Sight, second: Sight) -> Sight {
+    if is_none(first) {
+        second
+    } else if is_none(second) {
+        first
+    } else {
+        Sight {
+            within: hull(first.within, second.within),
+            residue: joined(first.residue, second.residue),
+        }
+    }
+}
+
+/// Whether there is no such number.
+pub(crate) fn is_none(sight: Sight) -> bool {
+    sight.within.low > sight.within.high
 }

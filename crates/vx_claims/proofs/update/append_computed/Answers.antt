@@ -11,5 +11,4 @@ returns-in_ok-push c =
       | then-is_value w ↦ absurd (false≢true (sym c.if-not-is_value.true ∙ w.value-is ∙ w.if-is_value.true))
       | else-is_value w ↦ ap (λ (t : Bool). t || is_value c.args.to c.args.right) (sym c.is_value.ensures ∙ w.if-is_value.false) ∙ sym w.is_value-else-is_value.ensures ∙ sym w.value-is ∙ c.if-not-is_value.true
     ] in
-    said_pushed c.args.list.now c.append_lies.new.list c.push.new.self c.args.facts.now c.args.code c.args.to c.args.left c.args.right c.result_within-within.result c.range_of.result c.range_of-2.result c.range_of.ensures c.range_of-2.ensures c.result_within-within.ensures
-    c.in_ok-append_lies.ensures not_read c.in_ok-push.ensures.ok
+    said_pushed c.args.list.now c.append_result.new.list c.push.new.self c.args.facts.now c.args.code c.args.to c.args.left c.args.right c.in_ok-append_result.ensures not_read c.in_ok-push.ensures.ok
