@@ -160,6 +160,28 @@ fn units_of(machine: &Machine) -> Units {
     }
 }
 
+/// The fewest registers for values with which operations are raised. With fewer the values of a second turn of a loop would take the
+/// place of those of this one.
+const ENOUGH_TO_RAISE: u32 = 16;
+
+/// The graphs with operations raised over the bounds of blocks, where the machine has registers for more than one turn of a loop.
+fn raised_for(
+    alloc: Global,
+    flow: Flow,
+    counts: &Counts,
+    machine: &Machine,
+) -> Result<Flow, NoMemory>
+    requires { is_sound_flow flow ≡ true }
+    ensures sound { IfOk result (λ raised. is_sound_flow raised ≡ true) }
+    ensures flow { IfOk result (λ raised. (p : Program) → FlowOf p flow → FlowOf p raised) }
+{
+    let units = units_of(machine);
+    if units.registers < ENOUGH_TO_RAISE {
+        return Ok(flow);
+    }
+    raise(alloc, flow, counts, &units)
+}
+
 /// How many registers there are for the values of a graph: those of one cluster, and half of those of each other, since a value has
 /// copies there. What is kept of a file stands in `allocatable` (vx_regs, specs/Mapped.antt).
 fn room_of(machine: &Machine) -> Room {
@@ -184,7 +206,7 @@ fn planned_flow_of(
     ensures { IfOk result (λ flow. FlowOf (view.program_of program.now.program) flow) }
 {
     let flow = flow_of(alloc, program)?;
-    let raised = raise(alloc, flow, counts, &units_of(machine))?;
+    let raised = raised_for(alloc, flow, counts, machine)?;
     rename(alloc, raised, room_of(machine))
 }
 
