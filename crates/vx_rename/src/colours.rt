@@ -70,17 +70,17 @@ impl<'a> Colours<'a> {
     }
 
     /// The name of each web.
-    pub fn to(&self) -> &[Value] {
+    pub(crate) fn to(&self) -> &[Value] {
         self.to.as_slice()
     }
 
     /// Whether over a fifth of the names are more than there was room for.
-    pub fn is_crowded(&self) -> bool {
+    pub(crate) fn is_crowded(&self) -> bool {
         self.more as usize > self.names.len() / 5
     }
 
     /// The banks of the names.
-    pub fn banks(&self, alloc: Global) -> Result<Listed<Bank>, NoMemory> {
+    pub(crate) fn banks(&self, alloc: Global) -> Result<Listed<Bank>, NoMemory> {
         let mut banks = Listed::new(alloc);
         for name in self.names.as_slice() {
             banks.push(if name.kind == BRANCH {
@@ -225,7 +225,7 @@ fn free_of(names: &[Made], kind: u32, choice: u32) -> Option<Value> {
 }
 
 /// The names of the webs of a graph, where this is the order of its blocks, with so much room for each kind.
-pub fn colours_of<'a>(
+pub(crate) fn colours_of<'a>(
     alloc: Global,
     graph: &Graph,
     names: &WebNames,

@@ -17,7 +17,7 @@ pub const BRANCH: u32 = 1;
 pub const PLACE: u32 = 2;
 
 /// The kind of each value of a graph.
-pub fn kinds_of(alloc: Global, graph: &Graph) -> Result<Vec<u32>, NoMemory> {
+pub(crate) fn kinds_of(alloc: Global, graph: &Graph) -> Result<Vec<u32>, NoMemory> {
     let mut kinds = Vec::new(alloc);
     for bank in graph.banks.as_slice() {
         kinds.push(match bank {
@@ -52,7 +52,7 @@ fn is_own(graph: &Graph, array: ArrayId) -> bool {
 }
 
 /// How many of these there are.
-pub fn count_of(row: &[u32], kind: u32) -> u32 {
+pub(crate) fn count_of(row: &[u32], kind: u32) -> u32 {
     let mut count: u32 = 0;
     for item in row {
         if *item == kind {
@@ -63,7 +63,7 @@ pub fn count_of(row: &[u32], kind: u32) -> u32 {
 }
 
 /// How many webs there are of each kind, of a graph with so many arrays.
-pub fn counts_of(
+pub(crate) fn counts_of(
     alloc: Global,
     kinds: &[u32],
     webs: &mut Webs,

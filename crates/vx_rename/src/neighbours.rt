@@ -24,7 +24,7 @@ pub struct Neighbours {
 
 impl Neighbours {
     /// No neighbours, of so many webs; as many links as this are kept, and a few more.
-    pub fn new(alloc: Global, webs: usize, most: usize) -> Result<Neighbours, NoMemory> {
+    pub(crate) fn new(alloc: Global, webs: usize, most: usize) -> Result<Neighbours, NoMemory> {
         let heads = vec![in alloc; NONE; webs]?;
         Ok(Neighbours {
             heads,
@@ -34,7 +34,7 @@ impl Neighbours {
     }
 
     /// Makes two webs neighbours.
-    pub fn link(&mut self, one: u32, other: u32) -> Result<(), NoMemory> {
+    pub(crate) fn link(&mut self, one: u32, other: u32) -> Result<(), NoMemory> {
         self.link_to(one, other)?;
         self.link_to(other, one)
     }
@@ -48,22 +48,22 @@ impl Neighbours {
     }
 
     /// Whether there may be no more links, so that some may not be there.
-    pub fn is_full(&self) -> bool {
+    pub(crate) fn is_full(&self) -> bool {
         self.links.len() >= self.most
     }
 
     /// How many links there are.
-    pub fn len(&self) -> usize {
+    pub(crate) fn len(&self) -> usize {
         self.links.len()
     }
 
     /// The place of the first link of a web.
-    pub fn first(&self, web: u32) -> u32 {
+    pub(crate) fn first(&self, web: u32) -> u32 {
         at(self.heads.as_slice(), web)
     }
 
     /// The link at a place.
-    pub fn link_at(&self, place: u32) -> Option<Link> {
+    pub(crate) fn link_at(&self, place: u32) -> Option<Link> {
         match self.links.as_slice().get(place as usize) {
             Some(link) => Some(*link),
             None => None,

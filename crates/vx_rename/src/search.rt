@@ -27,7 +27,11 @@ pub struct Room {
 }
 
 /// The names for each graph; for one that is let be they pass no test.
-pub fn names_for(alloc: Global, graphs: &[Graph], room: Room) -> Result<Vec<GraphNames>, NoMemory> {
+pub(crate) fn names_for(
+    alloc: Global,
+    graphs: &[Graph],
+    room: Room,
+) -> Result<Vec<GraphNames>, NoMemory> {
     let mut all = Vec::new(alloc);
     for graph in graphs {
         all.push(graph_names(alloc, graph, room)?)?;

@@ -11,7 +11,7 @@ use vx_flow::graph::{Bank, Value};
 
 /// The names by a row that has the name of each web; the new graph has values of these banks. A web without a name, which nothing
 /// reads, stands nowhere.
-pub fn names_by(
+pub(crate) fn names_by(
     alloc: Global,
     webs: &WebNames,
     to: &[Value],

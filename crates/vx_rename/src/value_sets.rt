@@ -8,7 +8,7 @@ use vx_flow::graph::Value;
 pub const NONE: u32 = u32::MAX;
 
 /// What stands at a place of a row; nothing where the row ends before it.
-pub fn at(row: &[u32], place: u32) -> u32 {
+pub(crate) fn at(row: &[u32], place: u32) -> u32 {
     match row.get(place as usize) {
         Some(found) => *found,
         None => NONE,
@@ -16,7 +16,7 @@ pub fn at(row: &[u32], place: u32) -> u32 {
 }
 
 /// Puts a number at a place of a row, if it is there.
-pub fn put(row: &mut Vec<u32>, place: u32, number: u32) {
+pub(crate) fn put(row: &mut Vec<u32>, place: u32, number: u32) {
     if (place as usize) < row.len() {
         row[place as usize] = number;
     }
@@ -34,7 +34,7 @@ pub struct ValueSet {
 
 impl ValueSet {
     /// No value, of so many.
-    pub fn new(alloc: Global, values: usize) -> Result<ValueSet, NoMemory> {
+    pub(crate) fn new(alloc: Global, values: usize) -> Result<ValueSet, NoMemory> {
         let places = vec![in alloc; NONE; values]?;
         let numbers = vec![in alloc; NONE; values]?;
         Ok(ValueSet {
@@ -45,12 +45,12 @@ impl ValueSet {
     }
 
     /// Its values, in some order.
-    pub fn items(&self) -> &[Value] {
+    pub(crate) fn items(&self) -> &[Value] {
         self.items.as_slice()
     }
 
     /// The number of a value; none where it is not in it.
-    pub fn number_of(&self, value: Value) -> u32 {
+    pub(crate) fn number_of(&self, value: Value) -> u32 {
         if at(self.places.as_slice(), value) == NONE {
             NONE
         } else {
@@ -59,7 +59,7 @@ impl ValueSet {
     }
 
     /// Takes all values.
-    pub fn clear(&mut self) {
+    pub(crate) fn clear(&mut self) {
         for _ in 0..self.items.len() {
             match self.items.pop() {
                 Some(value) => put(&mut self.places, value, NONE),
@@ -69,7 +69,7 @@ impl ValueSet {
     }
 
     /// Puts a value that is not in it.
-    pub fn put(&mut self, value: Value, number: u32) -> Result<(), NoMemory> {
+    pub(crate) fn put(&mut self, value: Value, number: u32) -> Result<(), NoMemory> {
         if (value as usize) < self.places.len() {
             let place = self.items.len().min(NONE as usize) as u32;
             self.items.push(value)?;
@@ -80,7 +80,7 @@ impl ValueSet {
     }
 
     /// Takes a value, where it is there; the last one then stands in its place.
-    pub fn take(&mut self, value: Value) {
+    pub(crate) fn take(&mut self, value: Value) {
         let place = at(self.places.as_slice(), value);
         if place == NONE {
             return;

@@ -19,7 +19,7 @@ fn visit_if<V: Visit>(visitor: &mut V, value: Option<Value>) -> Result<(), NoMem
 }
 
 /// Does it with each value that an operation reads.
-pub fn visit_reads<V: Visit>(visitor: &mut V, op: &Op) -> Result<(), NoMemory> {
+pub(crate) fn visit_reads<V: Visit>(visitor: &mut V, op: &Op) -> Result<(), NoMemory> {
     let reads = read_by(op);
     visit_if(visitor, reads.first)?;
     visit_if(visitor, reads.second)?;
@@ -27,7 +27,7 @@ pub fn visit_reads<V: Visit>(visitor: &mut V, op: &Op) -> Result<(), NoMemory> {
 }
 
 /// Does it with each value that an exit reads.
-pub fn visit_exit<V: Visit>(visitor: &mut V, exit: &Exit) -> Result<(), NoMemory> {
+pub(crate) fn visit_exit<V: Visit>(visitor: &mut V, exit: &Exit) -> Result<(), NoMemory> {
     match exit {
         Exit::Split { test, .. } => visitor.visit(*test),
         Exit::Call { arguments, .. } => visit_operands(visitor, arguments.as_slice()),

@@ -34,7 +34,7 @@ pub struct Walk {
 
 impl Walk {
     /// Before all blocks, with a web for each value that is live at the start of each.
-    pub fn new(alloc: Global, graph: &Graph, live: &Live) -> Result<Walk, NoMemory> {
+    pub(crate) fn new(alloc: Global, graph: &Graph, live: &Live) -> Result<Walk, NoMemory> {
         let set = ValueSet::new(alloc, graph.banks.len())?;
         let neighbours = Neighbours::new(alloc, 0, 0)?;
         let mut walk = Walk {
@@ -191,7 +191,7 @@ impl Visit for Walk {
 }
 
 /// The webs of a graph.
-pub fn webs_of(alloc: Global, graph: &Graph, live: &Live) -> Result<Walk, NoMemory> {
+pub(crate) fn webs_of(alloc: Global, graph: &Graph, live: &Live) -> Result<Walk, NoMemory> {
     let mut walk = Walk::new(alloc, graph, live)?;
     walk.at_starts = walk.next;
     walk.walk_entry(graph.parameters.as_slice(), live)?;
@@ -211,7 +211,7 @@ pub struct WebNames {
 }
 
 /// The names of a graph by its webs, of which so many links between neighbours are noted.
-pub fn web_names(
+pub(crate) fn web_names(
     alloc: Global,
     graph: &Graph,
     live: &Live,

@@ -17,7 +17,7 @@ pub struct Webs {
 
 impl Webs {
     /// No webs.
-    pub fn new(alloc: Global) -> Webs {
+    pub(crate) fn new(alloc: Global) -> Webs {
         Webs {
             ups: Vec::new(alloc),
             values: Vec::new(alloc),
@@ -25,12 +25,12 @@ impl Webs {
     }
 
     /// How many numbers there are.
-    pub fn len(&self) -> usize {
+    pub(crate) fn len(&self) -> usize {
         self.ups.len()
     }
 
     /// One more web, of a value.
-    pub fn make(&mut self, value: Value) -> Result<(), NoMemory> {
+    pub(crate) fn make(&mut self, value: Value) -> Result<(), NoMemory> {
         let web = self.ups.len().min(NONE as usize) as u32;
         self.ups.push(web)?;
         self.values.push(value)?;
@@ -38,12 +38,12 @@ impl Webs {
     }
 
     /// The value of each web.
-    pub fn values(&self) -> &[Value] {
+    pub(crate) fn values(&self) -> &[Value] {
         self.values.as_slice()
     }
 
     /// The number that stands for a web. What was passed on the way is passed no more.
-    pub fn find(&mut self, web: u32) -> u32 {
+    pub(crate) fn find(&mut self, web: u32) -> u32 {
         let mut found = web;
         for _ in 0..self.ups.len() {
             let up = at(self.ups.as_slice(), found);
@@ -58,7 +58,7 @@ impl Webs {
     }
 
     /// Makes two webs one.
-    pub fn unite(&mut self, one: u32, other: u32) {
+    pub(crate) fn unite(&mut self, one: u32, other: u32) {
         let from = self.find(one);
         let to = self.find(other);
         put(&mut self.ups, from, to);
