@@ -1,5 +1,5 @@
 -- What is asked of a call by itself, in words.
-use Rattle.std.proofs.Common.{◌≡◌, ◌⊎◌, inl, inr, ℕ, zero, suc, ◌+◌, ◌-◌, ◌<◌, ◌≤◌, Bool, true, false, cond, not, nat_le, nat_lt, ◌&&◌, List, [], ◌∷◌, length, slice_get, Option, Some, None, refl, sym, ap, ◌∙◌, subst, arith, leb-true, le-leb, ltb-true, ltb-false, lt-ltb}
+use Rattle.std.proofs.Common.{◌≡◌, ℕ, ◌+◌, ◌-◌, ◌<◌, ◌≤◌, Bool, true, false, cond, not, nat_lt, ◌&&◌, List, [], ◌∷◌, length, slice_get, Option, Some, None, refl, sym, ap, ◌∙◌, arith, leb-true, le-leb, ltb-true, ltb-false}
 use Rattle.std.proofs.lemmas.Bool.{false≢true, and_parts}
 use Rattle.std.specs.Cmp.Derive.{both_true}
 use Rattle.vx_flow.specs.declared.graph.Array.{Array}
@@ -9,7 +9,6 @@ use Rattle.vx_flow.specs.declared.graph.Exit.{Exit}
 use Rattle.vx_flow.specs.declared.graph.Exit.TheVariants.{Goto, Split, Call, Return, Ends}
 use Rattle.vx_flow.specs.declared.graph.Block.{Block}
 use Rattle.vx_flow.specs.declared.graph.Flow.{Flow}
-use Rattle.vx_flow.specs.Effects.{IsIn}
 use Rattle.vx_flow.specs.Operands.{value_list}
 use Rattle.vx_flow.specs.Sound.{HasExit, is_own, is_local}
 use Rattle.vx_flow.proofs.SoundLists.{all_in, all_of, all_at, all_of_at}
@@ -17,10 +16,8 @@ use Rattle.vx_inline.specs.declared.site.Site.{Site}
 use Rattle.vx_inline.specs.Choosing.{operations}
 use Rattle.vx_inline.specs.Counts.{is_call}
 use Rattle.vx_inline.specs.Fitting.{is_calling, calls_nothing, are_global, is_entered_short, is_short_with, is_left_short, are_left_short, fits, has_few}
-use Rattle.vx_inline.specs.Inlined.{TheCall, CallAt, IsPermitted, Permitted}
-use Rattle.vx_inline.specs.Permitting.{StandsApart, HasEnough, MayInline}
-use Rattle.vx_inline.proofs.Edges.{in_there}
-use Rattle.vx_inline.proofs.Depth.{get_in}
+use Rattle.vx_inline.specs.Inlined.{TheCall, CallAt, IsPermitted}
+use Rattle.vx_inline.specs.Permitting.{MayInline}
 
 pub record FitsInWords (c : TheCall) : Type 0 where
   pub calls_none : (f next : ℕ) (arguments : List Operand) (result : Option ℕ) → HasExit c.callee (Call f arguments result next) → ⊥
