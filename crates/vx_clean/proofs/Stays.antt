@@ -51,7 +51,7 @@ same_stands g b block p (inl e) has = subst (Stands same_place g block) (sym e) 
 })
 same_stands g b block p (inr m) has = absurd m
 
-graph_itself : (g : Graph) → GraphStays g g
+pub graph_itself : (g : Graph) → GraphStays g g
 graph_itself g = record {
   at = same_place;
   cleaned = record { parameters = refl; arrays = refl; entry = same_heads 0; blocks = λ b block p m has. same_stands g b block p m has };

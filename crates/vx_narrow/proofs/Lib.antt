@@ -5,7 +5,7 @@ mod Narrows
 mod NarrowRuns
 mod Example
 mod Stays
-mod Staged
+pub mod Staged
 pub mod Ranges
 pub mod Equal
 pub mod Tests

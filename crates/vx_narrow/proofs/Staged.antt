@@ -1,5 +1,5 @@
 -- A flow of a program stays one where each of its graphs is narrowed by claims of its own.
-use Rattle.std.proofs.Common.{◌≡◌, ℕ, zero, suc, ◌+◌, ◌<◌, true, List, [], ◌∷◌, ◌++◌, length, take, get_or, slice_get, Some, refl, sym, ap, ◌∙◌, subst, arith}
+use Rattle.std.proofs.Common.{◌≡◌, ℕ, zero, suc, ◌+◌, ◌<◌, true, List, [], ◌∷◌, ◌++◌, length, take, get_or, slice_get, Option, Some, None, IfSome, refl, sym, ap, ◌∙◌, subst, arith}
 use Rattle.vx_flow.specs.declared.graph.Block.{Block}
 use Rattle.vx_flow.specs.declared.graph.Graph.{Graph}
 use Rattle.vx_flow.specs.declared.graph.Flow.{Flow}
@@ -11,10 +11,12 @@ use Rattle.vx_narrow.specs.Checking.{Checked, parameters_of, is_entry_checked, i
 use Rattle.vx_claims.specs.Claims.{nothing}
 use Rattle.vx_narrow.specs.Rewriting.{narrowed_graph, narrowed_functions, narrowed_from, narrowed}
 use Rattle.vx_claims.specs.Claims.{listed_claims}
-use Rattle.vx_narrow.specs.Narrowing.{are_blocks_checked, are_numbers, GraphNarrowed, GraphsNarrowed, NarrowedWith, NarrowedStays}
+use Rattle.vx_narrow.specs.Narrowing.{are_blocks_checked, are_numbers, GraphNarrowed, GraphsNarrowed, NarrowedGraphsRun, NarrowedWith, NarrowedStays}
 use Rattle.vx_shape.specs.Flows.{with_graphs, FlowStays}
 use Rattle.vx_narrow.proofs.Ranges.{and_one, and_two}
+use Rattle.vx_narrow.proofs.NarrowRuns.{narrowed_runs}
 use Rattle.vx_narrow.proofs.Stays.{stays_flow}
+use Rattle.vx_flow.specs.Meaning.{graph_run}
 
 -- ---- blocks
 
@@ -104,18 +106,42 @@ functions_by given f (g ∷ gs) [] s = absurd s
 functions_by given f (g ∷ gs) (h ∷ hs) s =
     ap (λ x. x ∷ narrowed_functions (claims_by given f (g ∷ gs) (h ∷ hs) s) 1 gs) (sym s.0.narrowed) ∙ ap (λ l. h ∷ l) (shifted (claims_by given f (g ∷ gs) (h ∷ hs) s) 0 gs ∙ functions_by given (f + 1) gs hs s.1)
 
-pub narrowed_stays : NarrowedStays
-narrowed_stays flow graphs by numbers sound p o =
+-- claims with which all graphs pass, and by which they are narrowed
+record Passes (flow : Flow) (graphs : List Graph) : Type 0 where
+  pub given : ℕ → List Interval
+  pub claims : ℕ → ℕ → Claim
+  pub checked : Checked flow given claims
+  pub is : narrowed claims flow ≡ with_graphs flow graphs
+
+passes : (flow : Flow) (graphs : List Graph) → GraphsNarrowed flow.functions graphs → are_numbers flow.globals ≡ true → Passes flow graphs
+passes flow graphs by numbers =
     let given = by.0 in
     let s : NarrowedWith given 0 flow.functions graphs = by.1 in
     let claims : ℕ → ℕ → Claim = claims_by given 0 flow.functions graphs s in
     let entries : (f : ℕ) → is_entry_checked (given f) (parameters_of (slice_get flow.functions f)) (claims f 0) ≡ true =
     λ f. (let e : 0 + f ≡ f = omega arith in subst (λ n. is_entry_checked (given n) (parameters_of (slice_get flow.functions f)) (claims f 0) ≡ true) e (entries_by given 0 flow.functions graphs s f)) in
-    let checked : Checked flow given claims = record { entries = entries; blocks = blocks_by given 0 flow.functions graphs s; globals = numbers } in
-    let is : narrowed claims flow ≡ with_graphs flow graphs = ap (with_graphs flow) (functions_by given 0 flow.functions graphs s) in
-    subst (FlowOf p) is (stays_flow p flow given claims checked o (subst (λ f. is_sound_flow f ≡ true) (sym is) sound))
+    record {
+      given = given;
+      claims = claims;
+      checked = record { entries = entries; blocks = blocks_by given 0 flow.functions graphs s; globals = numbers };
+      is = ap (with_graphs flow) (functions_by given 0 flow.functions graphs s);
+    }
+
+pub narrowed_stays : NarrowedStays
+narrowed_stays flow graphs by numbers sound p o =
+    let k = passes flow graphs by numbers in
+    subst (FlowOf p) k.is (stays_flow p flow k.given k.claims k.checked o (subst (λ f. is_sound_flow f ≡ true) (sym k.is) sound))
+
+pub narrowed_graphs_run : NarrowedGraphsRun
+narrowed_graphs_run flow graphs by numbers input ns never n =
+    let k = passes flow graphs by numbers in
+    ap (λ f. graph_run f input n) (sym k.is) ∙ narrowed_runs flow k.given k.claims k.checked input ns never n
 
 pub once_stays : (flow new : Flow) (graphs : List Graph) → GraphsNarrowed flow.functions graphs → are_numbers flow.globals ≡ true → new ≡ with_graphs flow graphs → is_sound_flow new ≡ true → FlowStays flow new
 once_stays flow new graphs s numbers e sound p o =
     let t : is_sound_flow (with_graphs flow graphs) ≡ true = subst (λ f. is_sound_flow f ≡ true) e sound in
     subst (FlowOf p) (sym e) (narrowed_stays flow graphs s numbers t p o)
+
+pub some_given : (given : ℕ → List Interval) (gs : List Graph) (found : Option (List Graph)) → IfSome found (λ made. NarrowedWith given 0 gs made) → IfSome found (λ made. GraphsNarrowed gs made)
+some_given given gs None h = h
+some_given given gs (Some made) h = (given, h)

@@ -1,11 +1,15 @@
 -- Graphs exchanged for narrowed ones: each graph by claims of its own, that its entry and its blocks pass with what is given of the
 -- parameters of all.
-use Rattle.std.specs.Prelude.{◌≡◌, ◌+◌, ℕ, Bool, true, ◌&&◌, List, [], ◌∷◌, slice_get, Some}
+use Rattle.std.specs.Prelude.{◌≡◌, ◌+◌, ℕ, ℤ, Bool, true, ◌&&◌, List, [], ◌∷◌, slice_get, Some}
 use Rattle.std.specs.List.{list_all}
 use Rattle.vx_flow.specs.declared.graph.Block.{Block}
 use Rattle.vx_flow.specs.declared.graph.Graph.{Graph}
 use Rattle.vx_flow.specs.declared.graph.Global.{Global}
 use Rattle.vx_flow.specs.declared.graph.Flow.{Flow}
+use Rattle.vx_base.specs.Arithmetic.{IsNumber}
+use Rattle.vx_base.specs.Outcome.{NeverFails}
+use Rattle.vx_flow.specs.Effects.{IsIn}
+use Rattle.vx_flow.specs.Meaning.{graph_run}
 use Rattle.vx_flow.specs.Sound.{is_sound_flow}
 use Rattle.vx_claims.specs.declared.claim.Claim.{Claim}
 use Rattle.vx_claims.specs.declared.intervals.Interval.{Interval}
@@ -42,3 +46,8 @@ are_numbers globals = list_all (λ (g : Global). is_number g.first) globals
 -- a flow of a program stays one where its graphs are narrowed
 abbrev pub NarrowedStays : Type 0
 NarrowedStays = (flow : Flow) (graphs : List Graph) → GraphsNarrowed flow.functions graphs → are_numbers flow.globals ≡ true → is_sound_flow (with_graphs flow graphs) ≡ true → FlowStays flow (with_graphs flow graphs)
+
+-- on every input of numbers where a flow never fails, it comes to the same with its graphs narrowed, at every bound, whatever their shape
+abbrev pub NarrowedGraphsRun : Type 0
+NarrowedGraphsRun = (flow : Flow) (graphs : List Graph) → GraphsNarrowed flow.functions graphs → are_numbers flow.globals ≡ true → (input : List ℤ) → ((n : ℤ) → IsIn n input → IsNumber n) →
+    NeverFails (graph_run flow input) → (n : ℕ) → graph_run (with_graphs flow graphs) input n ≡ graph_run flow input n

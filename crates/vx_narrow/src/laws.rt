@@ -1,6 +1,6 @@
 // Laws of graphs that go by checked facts, each the clause of a function that does nothing.
 
-ghost use Rattle.vx_narrow.specs.Narrowing.{NarrowedStays};
+ghost use Rattle.vx_narrow.specs.Narrowing.{NarrowedGraphsRun, NarrowedStays};
 ghost use Rattle.vx_narrow.specs.Rewriting.{DecidedGoes, NarrowedRuns};
 ghost use Rattle.vx_narrow.specs.Staying.{StaysFlow};
 
@@ -22,4 +22,9 @@ pub fn flow_stays()
 /// A flow of a program stays one where each of its graphs is narrowed by claims of its own.
 pub fn narrowed_graphs_stay()
     ensures { NarrowedStays }
+{}
+
+/// With its graphs narrowed a program comes to the same, at every bound, whatever the shape of the graphs.
+pub fn narrowed_graphs_run()
+    ensures { NarrowedGraphsRun }
 {}

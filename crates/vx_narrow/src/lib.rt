@@ -8,7 +8,7 @@ pub mod checks;
 pub mod fact_laws;
 pub mod given;
 pub mod laws;
-mod narrowed_flow;
+pub mod narrowed_flow;
 pub mod one_product;
 
 pub use crate::narrowed_flow::narrow;

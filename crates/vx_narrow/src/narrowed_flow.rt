@@ -68,6 +68,19 @@ fn narrowed_flow(alloc: Global, flow: &Flow) -> Result<Option<Flow>, NoMemory>
     }
 }
 
+/// The graphs narrowed by what is found of them, and of their parameters, where they pass with that.
+pub fn narrowed_functions(
+    alloc: Global,
+    graphs: &[Graph],
+) -> Result<Option<Listed<Graph>>, NoMemory>
+    ensures { IfOk result (λ found. IfSome found (λ made. GraphsNarrowed graphs.now made)) }
+{
+    let found = find_given(alloc, graphs, ROUNDS)?;
+    let narrowed = narrowed_graphs(alloc, found.given.as_slice(), found.kept.as_slice(), graphs);
+    drop(found);
+    narrowed
+}
+
 /// The flow with its graphs narrowed by what is given of the parameters, where every call passes it and the flow is sound.
 fn narrowed_with_given(
     alloc: Global,
@@ -86,7 +99,7 @@ fn narrowed_with_given(
 }
 
 /// Whether each first number has 32 bits.
-fn are_numbers(globals: &[Variable]) -> bool
+pub fn are_numbers(globals: &[Variable]) -> bool
     ensures { result ≡ are_numbers globals.now }
 {
     for global in globals {
