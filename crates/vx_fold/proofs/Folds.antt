@@ -1,11 +1,11 @@
 -- One block with the values that only ever hold one number read as that number, from states that agree.
-use Rattle.std.proofs.Common.{◌≡◌, ℕ, ◌==◌, Bool, true, false, cond, ℤ, List, [], ◌∷◌, ◌++◌, length, map, slice_index_or, Option, Some, None, refl, sym, ap, ◌∙◌, subst, arith}
+use Rattle.std.proofs.Common.{◌≡◌, ℕ, ◌==◌, Bool, true, false, cond, ℤ, pos, List, [], ◌∷◌, ◌++◌, length, map, slice_index_or, Option, Some, None, refl, sym, ap, ◌∙◌, subst, arith}
 use Rattle.std.proofs.lemmas.Bool.{and_parts, false≢true, eqb-true}
 use Rattle.std.proofs.lemmas.Bool.Decides.{nat_tests}
 use Rattle.std.specs.List.{list_all}
 use Rattle.std.specs.Ordering.{int_eq}
 use Rattle.std.specs.Fmt.{signed_decimal}
-use Rattle.vx_base.specs.Arithmetic.{value_of, one_if}
+use Rattle.vx_base.specs.Arithmetic.{value_of, product_of, one_if}
 use Rattle.vx_flow.specs.declared.graph.Operand.{Operand}
 use Rattle.vx_flow.specs.declared.graph.Operand.TheVariants.{Held, Number, Stack}
 use Rattle.vx_flow.specs.declared.graph.Op.{Op}
@@ -176,6 +176,13 @@ module _ (numbers : ℕ → Option ℤ) where
   computed_is false f s a b m n i e q =
       both_is f (held s a) (held s b) (number_in numbers a) (number_in numbers b) m n (λ k j. held_is s a k j i) (λ k j. held_is s b k j i) e q
 
+  place_is : (x x' : Content) (m n : ℤ) → ((k j : ℤ) → x ≡ Some k → x' ≡ Some j → k ≡ j) → place_of x ≡ Some m → place_of x' ≡ Some n → m ≡ n
+  place_is None x' m n h e q = absurd (cc)
+  place_is (Some a) None m n h e q = absurd (cc)
+  place_is (Some a) (Some c) m n h e q =
+      let p : a ≡ c = h a c refl refl in
+      sym (some_is (product_of (pos 4) a) m e) ∙ ap (product_of (pos 4)) p ∙ some_is (product_of (pos 4) c) n q
+
   loaded_settled : (s s' : State) (v : ℕ) (row : List Content) (c : Option ℕ) (dismissible : Bool) → no_number (numbers v) ≡ true → Settled numbers s.values → loaded s v row c dismissible ≡ Some s' → Settled numbers s'.values
   loaded_settled s s' v row None true h i e = written_by s s' v None h i e
   loaded_settled s s' v row None false h i e = absurd (cc)
@@ -201,7 +208,11 @@ module _ (numbers : ℕ → Option ℤ) where
       let g : is_content n (computed code (number_in numbers a) (number_in numbers b)) ≡ true = ap (λ o. gives o (computed code (number_in numbers a) (number_in numbers b))) (sym q) ∙ h in
       computed_is (is_unary code) (value_of code) s a b m n i r (content_by n (computed code (number_in numbers a) (number_in numbers b)) g)))
   op_settled setting (Select v p a b) s s' h i e = written_by s s' v (chosen (s.values p) (held s a) (held s b)) h i e
-  op_settled setting (Place v a x) s s' h i e = written_by s s' v (place_of (held s x)) h i e
+  op_settled setting (Place v a x) s s' h i e =
+      values_by (with_value s v (place_of (held s x))) s' e
+      (settled_by s v (place_of (held s x)) i (λ n m q r.
+      let g : is_content n (place_of (number_in numbers x)) ≡ true = ap (λ o. gives o (place_of (number_in numbers x))) (sym q) ∙ h in
+      place_is (held s x) (number_in numbers x) m n (λ k j. held_is s x k j i) r (content_by n (place_of (number_in numbers x)) g)))
   op_settled setting (Load v a p dismissible) s s' h i e = loaded_settled s s' v (row_of s (setting.spot a)) (cell_of setting s a p) dismissible h i e
   op_settled setting (Store a p x) s s' h i e = stored_settled s s' (setting.spot a) (cell_of setting s a p) (held s x) i e
   op_settled setting (More v) s s' h i e = written_by s s' v (Some (one_if (is_left s.input))) h i e

@@ -1,7 +1,7 @@
-// The values that one operation alone writes, and the numbers that these compute of numbers. Whatever is found here is tested
+// The values that one operation alone writes, and the numbers that these compute of numbers, or the places at such indexes. Whatever is found here is tested
 // before it is used.
 
-use crate::settled::{computed, number_in};
+use crate::settled::{computed, number_in, place_of};
 use std::alloc::Global;
 use vx_base::outcome::NoMemory;
 use vx_flow::graph::{Block, Exit, Graph, Op, Value};
@@ -60,7 +60,7 @@ fn count(writers: &mut Vec<u32>, value: Value, times: u32) {
     }
 }
 
-/// Numbers what computes a number. It answers whether a value was numbered that was not before.
+/// Numbers what computes a number, and the places at such indexes. It answers whether a value was numbered that was not before.
 fn number_blocks(numbers: &mut Vec<Option<i32>>, writers: &[u32], blocks: &[Block]) -> bool {
     let mut more = false;
     for block in blocks {
@@ -94,6 +94,10 @@ fn number_op(numbers: &mut Vec<Option<i32>>, writers: &[u32], op: &Op) -> bool {
                 None => false,
             }
         }
+        Op::Place { to, index, .. } => match place_of(number_in(numbers.as_slice(), index)) {
+            Some(number) => set_number(numbers, writers, *to, number),
+            None => false,
+        },
         _ => false,
     }
 }

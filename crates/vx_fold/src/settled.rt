@@ -1,12 +1,12 @@
-// Whether what writes a value with a number computes that number. Nothing here takes memory.
+// Whether what writes a value with a number computes that number, or is the place at such an index. Nothing here takes memory.
 
 ghost use Rattle.std.specs.Prelude.{◌≡◌, Some};
 ghost use Rattle.std.specs.List.{list_all};
 ghost use Rattle.vx_base.specs.Arithmetic.{value_of};
-ghost use Rattle.vx_flow.specs.Effects.{both, computed};
+ghost use Rattle.vx_flow.specs.Effects.{both, computed, place_of};
 ghost use Rattle.vx_fold.specs.Folding.{gives, is_free, no_number, number_in, numbers_of, settles, settles_block, settles_exit, settles_graph};
 
-use vx_arithmetic::value;
+use vx_arithmetic::{mul32, value};
 use vx_base::arithmetic::Code;
 use vx_flow::graph::{Block, Exit, Graph, Op, Operand, Value};
 use vx_flow::operands::written_by;
@@ -48,6 +48,16 @@ pub fn computed(code: Code, left: Option<i32>, right: Option<i32>) -> Option<i32
     match code {
         Code::Mov => left,
         _ => both(code, left, right),
+    }
+}
+
+/// The place in bytes of the element at an index, where that is known.
+pub fn place_of(index: Option<i32>) -> Option<i32>
+    ensures { result ≡ place_of index }
+{
+    match index {
+        Some(index) => Some(mul32(4, index)),
+        None => None,
     }
 }
 
@@ -94,6 +104,10 @@ fn settles(numbers: &[Option<i32>], op: &Op) -> bool
         } => gives(
             number_of(numbers, *to),
             computed(*code, number_in(numbers, left), number_in(numbers, right)),
+        ),
+        Op::Place { to, index, .. } => gives(
+            number_of(numbers, *to),
+            place_of(number_in(numbers, index)),
         ),
         Op::Across { to, from } => is_without(numbers, *to) && is_without(numbers, *from),
         _ => is_free(numbers, written_by(op)),
