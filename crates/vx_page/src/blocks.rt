@@ -65,6 +65,12 @@ fn put_all_made(page: &mut Page, notes: &[BlockNote]) {
     }
 }
 
+fn put_made_count(page: &mut Page, made: usize) {
+    if made > 0 {
+        page.field(b", and made for copies ", small(made));
+    }
+}
+
 /// Puts the blocks of a function, where this is known of them.
 pub fn put_blocks(
     page: &mut Page,
@@ -77,7 +83,7 @@ pub fn put_blocks(
     page.put(b"<details class=n><summary><b>");
     put_function(page, names, function);
     page.field(b"</b> <small>blocks ", graph.blocks.len() as u32);
-    page.field(b", with those made for copies ", small(notes.len()));
+    put_made_count(page, notes.len().saturating_sub(graph.blocks.len()));
     page.put(b"</small></summary><div class=g>");
     for (number, block) in graph.blocks.as_slice().iter().enumerate() {
         let count = counts.of_block(function, small(number));

@@ -48,6 +48,7 @@ pub fn put_graphs(page: &mut Page, functions: &[Bytes], counts: &Counts, flow: &
             functions,
             texts: flow.texts.as_slice(),
             arrays: graph.arrays.as_slice(),
+            blocks: graph.blocks.as_slice(),
         };
         put_graph(page, &names, small(number), counts, graph);
     }

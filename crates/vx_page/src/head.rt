@@ -29,6 +29,8 @@ pub struct Asked<'a> {
     pub source: &'a [u8],
     /// The name of the machine's file; that of the default machine where none was named.
     pub machine: &'a [u8],
+    /// The name of the file of a machine beside it; empty where none was named.
+    pub against: &'a [u8],
     /// The name of the profile's file; empty where none was named.
     pub profile: &'a [u8],
     /// How many operations may be copied.
@@ -57,6 +59,11 @@ pub fn put_asked(page: &mut Page, asked: &Asked) {
     page.put(b"<p>machine <b>");
     page.source(asked.machine);
     page.put(b"</b>, ");
+    if !asked.against.is_empty() {
+        page.put(b"against <a href=#against>");
+        page.source(asked.against);
+        page.put(b"</a>, ");
+    }
     if asked.profile.is_empty() {
         page.put(b"no profile");
     } else {
@@ -99,11 +106,19 @@ fn put_line(page: &mut Page, number: u32, line: &[u8]) {
     page.put(b"\n");
 }
 
+/// The source without the line feed of its last line.
+fn without_end(source: &[u8]) -> &[u8] {
+    match source.split_last() {
+        Some((last, front)) => { if *last == 10 { front } else { source } }
+        None => source,
+    }
+}
+
 /// Puts the lines of the source with their numbers.
 pub fn put_source(page: &mut Page, source: &[u8]) {
     let mut number: u32 = 0;
     page.put(b"<h2 id=source>Source</h2><details open><summary>as it was read</summary><pre>");
-    for line in source.split(|byte| *byte == 10) {
+    for line in without_end(source).split(|byte| *byte == 10) {
         number = number.saturating_add(1);
         put_line(page, number, line);
     }

@@ -2,6 +2,7 @@
 // stands in a source goes through `Page::source`, so that it never ends an element of the page.
 #![tactic(auto)]
 
+pub mod against;
 pub mod blocks;
 pub mod escaped;
 pub mod facts;
@@ -11,6 +12,7 @@ pub mod loads;
 pub mod notes;
 pub mod operations;
 pub mod page;
+pub mod plain;
 mod style;
 pub mod traces;
 pub mod view;

@@ -3,10 +3,10 @@
 use vx_base::listed::Bytes;
 use vx_dep::copies::{EdgeCopies, Rejoin};
 use vx_dep::mode::Mode;
-use vx_flow::graph::{Array, BlockId};
+use vx_flow::graph::{Array, Block, BlockId};
 use vx_flow::trace::Placed;
 
-/// The names of a program: its functions, the texts that it prints, and the arrays of one function.
+/// The names of a program: its functions, the texts that it prints, and the arrays and blocks of one function.
 #[derive(Clone, Copy)]
 pub struct Names<'a> {
     /// The names of the functions, by number.
@@ -15,6 +15,8 @@ pub struct Names<'a> {
     pub texts: &'a [Bytes],
     /// The arrays of the function, by number.
     pub arrays: &'a [Array],
+    /// The blocks of the function's graph, by number.
+    pub blocks: &'a [Block],
 }
 
 /// A trace that became a region.

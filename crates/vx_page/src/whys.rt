@@ -65,17 +65,22 @@ fn waited_value(shown: &Shown, earlier: Earlier, op: &TraceOp) -> Option<Value> 
     }
 }
 
+fn put_delay(page: &mut Page, earlier: Earlier, name: &[u8], ready: u32) {
+    page.field(b" by ", earlier.delay);
+    page.field(name, ready);
+}
+
 fn put_waits_for(page: &mut Page, shown: &Shown, earlier: Earlier, op: &TraceOp, ready: u32) {
     match waited_value(shown, earlier, op) {
         Some(value) => {
             page.put(b"waits for ");
             put_value(page, value);
-            page.field(b" of ", earlier.place);
-            page.field(b", there from word ", ready);
+            page.field(b" of op ", earlier.place);
+            put_delay(page, earlier, b", there from word ", ready);
         }
         None => {
-            page.field(b"keeps behind ", earlier.place);
-            page.field(b", free from word ", ready);
+            page.field(b"keeps behind op ", earlier.place);
+            put_delay(page, earlier, b", free from word ", ready);
         }
     }
 }

@@ -4,8 +4,8 @@ ghost use Rattle.std.specs.Prelude.{◌≤◌, length};
 
 use crate::facts::OpFact;
 use crate::loads::{Load, copies_in, load_at};
-use crate::notes::edges_of;
-use crate::operations::put_trace_op;
+use crate::notes::{BlockNote, edges_of, note_of};
+use crate::operations::{put_exit, put_trace_op};
 use crate::page::{Page, small};
 use crate::whys::{Shown, put_why};
 use std::alloc::Global;
@@ -240,7 +240,7 @@ fn put_empty_row(page: &mut Page, shown: &Shown, word: u32, behind: &[Spot]) {
     put_span(page, shown);
     match behind.first() {
         Some(spot) => {
-            page.field(b"empty: ", spot.place);
+            page.field(b"empty: op ", spot.place);
             page.put(b" ");
             put_why(page, shown, spot.place);
         }
@@ -326,6 +326,27 @@ fn put_row(page: &mut Page, shown: &Shown, word: u32, here: &[Spot], behind: &[S
     put_leaves(page, shown, word);
 }
 
+fn put_made_exit(page: &mut Page, note: BlockNote) {
+    match note.made {
+        Some(made) => page.field(b"to block ", made.edge.to),
+        None => page.put(b"nowhere"),
+    }
+}
+
+/// Puts how the last block of a trace ends.
+fn put_end(page: &mut Page, shown: &Shown) {
+    if let Some(last) = shown.trace.blocks.last() {
+        page.put(b"<tr class=x><th>&#8629;");
+        put_span(page, shown);
+        page.field(b"end of block ", *last);
+        page.put(b": ");
+        match shown.names.blocks.get(*last as usize) {
+            Some(block) => put_exit(page, &shown.names, &block.exit),
+            None => put_made_exit(page, note_of(shown.notes, *last)),
+        }
+    }
+}
+
 /// Puts the words of a trace as a table, where its operations stand so.
 pub fn put_words(page: &mut Page, shown: &Shown, spots: &[Spot]) {
     let mut rest = spots;
@@ -337,5 +358,6 @@ pub fn put_words(page: &mut Page, shown: &Shown, spots: &[Spot]) {
         rest = behind;
     }
     put_entries(page, shown, shown.trace.placed.length);
+    put_end(page, shown);
     page.put(b"</table></div>");
 }

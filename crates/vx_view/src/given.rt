@@ -50,10 +50,16 @@ pub(crate) fn names_of(alloc: Global, program: &Typed) -> Result<Vec<Bytes>, NoM
 
 /// The names that are needed for a graph.
 pub(crate) fn names_for<'a>(given: &Given<'a>, graph: &'a Graph) -> Names<'a> {
+    names_by(given.functions, given.flow, graph)
+}
+
+/// The same, of functions with these names.
+pub(crate) fn names_by<'a>(functions: &'a [Bytes], flow: &'a Flow, graph: &'a Graph) -> Names<'a> {
     Names {
-        functions: given.functions,
-        texts: given.flow.texts.as_slice(),
+        functions,
+        texts: flow.texts.as_slice(),
         arrays: graph.arrays.as_slice(),
+        blocks: graph.blocks.as_slice(),
     }
 }
 

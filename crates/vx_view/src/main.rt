@@ -1,6 +1,7 @@
 // The program `vexc-view`: how a source is compiled, as a page that one can look at, or its graphs and traces as a plain text.
 #![tactic(auto)]
 
+mod beside;
 mod given;
 mod options;
 mod shown;

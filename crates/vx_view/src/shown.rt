@@ -1,5 +1,6 @@
 // What is shown: files are read in the order in which `vexc compile` reads them, and only when all is made a page is written.
 
+use crate::beside::put_beside;
 use crate::given::{Given, names_of};
 use crate::options::{Answer, Request, Stage};
 use crate::stages::text_of;
@@ -37,6 +38,14 @@ pub(crate) struct Read<'a> {
     pub(crate) growth: u32,
 }
 
+/// What stands on a page besides: what was asked, the bytes of the source, and a machine beside the first one.
+#[derive(Clone, Copy)]
+struct Wanted<'a> {
+    asked: Asked<'a>,
+    source: &'a [u8],
+    beside: Option<&'a Machine>,
+}
+
 /// The bytes of the source once more, which stand on the page.
 fn source_of<D: Depot>(alloc: Global, depot: &mut D, name: &str) -> Result<Vec<u8>, Status> {
     match read_file(alloc, depot, name, MOST_SOURCE_BYTES) {
@@ -59,6 +68,7 @@ fn asked_by<'a>(request: &Request<'a>) -> Asked<'a> {
     Asked {
         source: request.source.as_bytes(),
         machine: name_or(request.machine, b"default, one cluster"),
+        against: name_or(request.against, b""),
         profile: name_or(request.profile, b""),
         growth: request.growth,
         turns: match request.rewriting.unroll {
@@ -68,11 +78,61 @@ fn asked_by<'a>(request: &Request<'a>) -> Asked<'a> {
     }
 }
 
+/// What a machine beside the first one makes of the program.
+fn put_other(
+    alloc: Global,
+    page: &mut Page,
+    read: &Read,
+    given: &Given,
+    flow: &Flow,
+) -> Result<(), NoMemory> {
+    let compiled = compile(alloc, read.program, read.counts, read.machine, read.growth)?;
+    let other = Given {
+        functions: read.functions,
+        flow,
+        counts: read.counts,
+        machine: read.machine,
+        compiled: &compiled,
+        asked: Asked {
+            machine: given.asked.against,
+            ..given.asked
+        },
+    };
+    put_beside(alloc, page, given, &other)
+}
+
+/// Puts what this machine makes of the program beside the first one.
+fn put_machine_beside(
+    alloc: Global,
+    page: &mut Page,
+    read: &Read,
+    given: &Given,
+    machine: &Machine,
+) -> Result<(), NoMemory> {
+    let other = Read { machine, ..*read };
+    let flow = planned_flow_of(alloc, other.program, other.counts, other.machine)?;
+    put_other(alloc, page, &other, given, &flow)
+}
+
+fn put_parts(
+    alloc: Global,
+    page: &mut Page,
+    read: &Read,
+    given: &Given,
+    wanted: &Wanted,
+) -> Result<(), NoMemory> {
+    put_head(page, given, wanted.source);
+    put_body(alloc, page, given)?;
+    match wanted.beside {
+        Some(machine) => put_machine_beside(alloc, page, read, given, machine),
+        None => Ok(()),
+    }
+}
+
 fn page_with(
     alloc: Global,
     read: &Read,
-    asked: Asked,
-    source: &[u8],
+    wanted: &Wanted,
     flow: &Flow,
     compiled: &CompiledProgram,
 ) -> Result<Vec<u8>, NoMemory> {
@@ -82,32 +142,25 @@ fn page_with(
         counts: read.counts,
         machine: read.machine,
         compiled,
-        asked,
+        asked: wanted.asked,
     };
     let mut page = Page::new(alloc);
-    put_head(&mut page, &given, source);
-    match put_body(alloc, &mut page, &given) {
+    match put_parts(alloc, &mut page, read, &given, wanted) {
         Ok(()) => page.done(),
         Err(error) => Err(error),
     }
 }
 
-fn page_by(
-    alloc: Global,
-    read: &Read,
-    asked: Asked,
-    source: &[u8],
-    flow: &Flow,
-) -> Result<Vec<u8>, NoMemory> {
+fn page_by(alloc: Global, read: &Read, wanted: &Wanted, flow: &Flow) -> Result<Vec<u8>, NoMemory> {
     let compiled = compile(alloc, read.program, read.counts, read.machine, read.growth)?;
-    let page = page_with(alloc, read, asked, source, flow, &compiled);
+    let page = page_with(alloc, read, wanted, flow, &compiled);
     drop(compiled);
     page
 }
 
-fn page_of(alloc: Global, read: &Read, asked: Asked, source: &[u8]) -> Result<Vec<u8>, NoMemory> {
+fn page_of(alloc: Global, read: &Read, wanted: &Wanted) -> Result<Vec<u8>, NoMemory> {
     let flow = planned_flow_of(alloc, read.program, read.counts, read.machine)?;
-    let page = page_by(alloc, read, asked, source, &flow);
+    let page = page_by(alloc, read, wanted, &flow);
     drop(flow);
     page
 }
@@ -120,6 +173,30 @@ fn write_page<D: Depot>(depot: &mut D, name: &str, page: &[u8]) -> Status {
     }
 }
 
+fn show_wanted<D: Depot>(
+    alloc: Global,
+    depot: &mut D,
+    read: &Read,
+    request: &Request,
+    name: &str,
+    beside: Option<&Machine>,
+) -> Status {
+    match source_of(alloc, depot, request.source) {
+        Ok(source) => {
+            let wanted = Wanted {
+                asked: asked_by(request),
+                source: source.as_slice(),
+                beside,
+            };
+            match page_of(alloc, read, &wanted) {
+                Ok(page) => write_page(depot, name, page.as_slice()),
+                Err(_) => Status::NoMemory,
+            }
+        }
+        Err(status) => status,
+    }
+}
+
 fn show_page<D: Depot>(
     alloc: Global,
     depot: &mut D,
@@ -127,11 +204,11 @@ fn show_page<D: Depot>(
     request: &Request,
     name: &str,
 ) -> Status {
-    match source_of(alloc, depot, request.source) {
-        Ok(source) => match page_of(alloc, read, asked_by(request), source.as_slice()) {
-            Ok(page) => write_page(depot, name, page.as_slice()),
-            Err(_) => Status::NoMemory,
-        },
+    if request.against.is_none() {
+        return show_wanted(alloc, depot, read, request, name, None);
+    }
+    match machine_for(alloc, depot, request.against) {
+        Ok(machine) => show_wanted(alloc, depot, read, request, name, Some(&machine)),
         Err(status) => status,
     }
 }
