@@ -6,4 +6,4 @@ mod layouts;
 mod ranges;
 mod words;
 
-pub use words::{compile, compile_sized, flow_of};
+pub use words::{compile, compile_sized, flow_of, planned_flow_of, raised_for};

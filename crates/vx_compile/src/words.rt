@@ -165,7 +165,7 @@ fn units_of(machine: &Machine) -> Units {
 const ENOUGH_TO_RAISE: u32 = 16;
 
 /// The graphs with operations raised over the bounds of blocks, where the machine has registers for more than one turn of a loop.
-fn raised_for(
+pub fn raised_for(
     alloc: Global,
     flow: Flow,
     counts: &Counts,
@@ -197,7 +197,7 @@ fn room_of(machine: &Machine) -> Room {
 
 /// The graphs that are planned: those of `flow_of`, block by block, with operations raised over the bounds of blocks, and under names
 /// that values share, so that there are no more of them than registers where no more values are live at once.
-fn planned_flow_of(
+pub fn planned_flow_of(
     alloc: Global,
     program: &Typed,
     counts: &Counts,

@@ -1,0 +1,121 @@
+// What a page is made of, and the names of a program.
+
+use std::alloc::Global;
+use vx_ast::typed::Typed;
+use vx_base::listed::{Bytes, copied};
+use vx_base::outcome::NoMemory;
+use vx_compiled::CompiledProgram;
+use vx_flow::graph::{Flow, Graph};
+use vx_machine::Machine;
+use vx_page::head::{Asked, Totals};
+use vx_page::notes::{BlockNote, note_trace, notes_of};
+use vx_page::page::small;
+use vx_page::view::{Names, TraceView};
+use vx_profile::counts::Counts;
+use vx_region::TracePlan;
+
+/// A program that was compiled for a machine.
+#[derive(Clone, Copy)]
+pub(crate) struct Given<'a> {
+    /// The names of its functions.
+    pub(crate) functions: &'a [Bytes],
+    /// The graphs that were planned.
+    pub(crate) flow: &'a Flow,
+    /// How often their blocks were passed.
+    pub(crate) counts: &'a Counts,
+    /// The machine.
+    pub(crate) machine: &'a Machine,
+    /// The words and their plan.
+    pub(crate) compiled: &'a CompiledProgram,
+    /// What was asked.
+    pub(crate) asked: Asked<'a>,
+}
+
+impl<'a> Given<'a> {
+    /// The traces.
+    pub(crate) fn traces(&self) -> &'a [TracePlan] {
+        self.compiled.plan.traces.as_slice()
+    }
+}
+
+/// The names of the functions of a program.
+pub(crate) fn names_of(alloc: Global, program: &Typed) -> Result<Vec<Bytes>, NoMemory> {
+    let mut names = Vec::new(alloc);
+    for function in program.program.functions.as_slice() {
+        let name = copied(alloc, function.name.as_slice())?;
+        names.push(name)?;
+    }
+    Ok(names)
+}
+
+/// The names that are needed for a graph.
+pub(crate) fn names_for<'a>(given: &Given<'a>, graph: &'a Graph) -> Names<'a> {
+    names_by(given.functions, given.flow, graph)
+}
+
+/// The same, of functions with these names.
+pub(crate) fn names_by<'a>(functions: &'a [Bytes], flow: &'a Flow, graph: &'a Graph) -> Names<'a> {
+    Names {
+        functions,
+        texts: flow.texts.as_slice(),
+        arrays: graph.arrays.as_slice(),
+        blocks: graph.blocks.as_slice(),
+    }
+}
+
+/// A trace of the plan, with its number.
+pub(crate) fn view_of(number: usize, plan: &TracePlan) -> TraceView<'_> {
+    TraceView {
+        number: small(number),
+        function: plan.function,
+        blocks: plan.blocks.as_slice(),
+        count: plan.count,
+        mode: plan.mode,
+        placed: &plan.placed,
+        splits: plan.splits.as_slice(),
+        rejoins: plan.rejoins.as_slice(),
+    }
+}
+
+/// What is known of the blocks of a function behind all of its traces.
+pub(crate) fn notes_for(
+    alloc: Global,
+    traces: &[TracePlan],
+    function: u32,
+    graph: &Graph,
+) -> Result<Vec<BlockNote>, NoMemory> {
+    let mut notes = notes_of(alloc, graph.blocks.as_slice())?;
+    note_traces(&mut notes, traces, function)?;
+    Ok(notes)
+}
+
+fn note_traces(
+    notes: &mut Vec<BlockNote>,
+    traces: &[TracePlan],
+    function: u32,
+) -> Result<(), NoMemory> {
+    for (number, plan) in traces.iter().enumerate() {
+        if plan.function == function {
+            note_trace(notes, &view_of(number, plan))?;
+        }
+    }
+    Ok(())
+}
+
+/// The sums of a compiled program.
+pub(crate) fn totals_of(compiled: &CompiledProgram) -> Totals {
+    let mut trace_words: u64 = 0;
+    let mut operations: u64 = 0;
+    for plan in compiled.plan.traces.as_slice() {
+        trace_words = trace_words.saturating_add(u64::from(plan.placed.length));
+        operations = operations.saturating_add(plan.placed.words.len() as u64);
+    }
+    Totals {
+        words: compiled.words.words.len() as u32,
+        traces: compiled.plan.traces.len() as u32,
+        trace_words,
+        operations,
+        copies: compiled.plan.copies,
+        spilled: compiled.plan.spilled,
+    }
+}

@@ -1,0 +1,244 @@
+// The words of the command line, as clap reads them.
+
+use clap::builder::ValueParser;
+use clap::error::ErrorKind;
+use clap::{Arg, ArgAction, ArgMatches, Command, Error};
+use std::alloc::Global;
+use vx_command::{Refused, Rewriting, refuse};
+use vx_io::sink::Sink;
+use vx_status::Status;
+
+/// The most operations that may be copied, and how many may where nothing is said.
+const MOST_GROWTH: u32 = 1000000;
+
+const DEFAULT_GROWTH: u32 = 4000;
+
+/// Which text is asked for in place of a page.
+#[derive(Clone, Copy)]
+pub(crate) enum Stage {
+    /// The graphs as they are lowered.
+    Lowered,
+    /// The graphs that a profile counts.
+    Cleaned,
+    /// The graphs with operations raised over the bounds of blocks.
+    Raised,
+    /// The graphs that are planned.
+    Renamed,
+    /// The traces.
+    Traces,
+}
+
+/// Where the answer goes.
+#[derive(Clone, Copy)]
+pub(crate) enum Answer<'a> {
+    /// A page, into the file of this name.
+    Page(&'a str),
+    /// A plain text, to the standard output.
+    Text(Stage),
+}
+
+/// What is asked for.
+#[derive(Clone, Copy)]
+pub(crate) struct Request<'a> {
+    /// The name of the source's file.
+    pub(crate) source: &'a str,
+    /// Where the answer goes.
+    pub(crate) answer: Answer<'a>,
+    /// The name of the file of the profile.
+    pub(crate) profile: Option<&'a str>,
+    /// The name of the file with the description of the machine.
+    pub(crate) machine: Option<&'a str>,
+    /// The name of the file with the description of a machine beside it.
+    pub(crate) against: Option<&'a str>,
+    /// How many operations may be copied.
+    pub(crate) growth: u32,
+    /// What is rewritten.
+    pub(crate) rewriting: Rewriting,
+}
+
+/// A word that stands at its place.
+fn word<'a>(alloc: Global, name: &'a str, help: &'a str) -> Arg<'a> {
+    Arg::new(alloc, name).action(ArgAction::Set).help(help)
+}
+
+/// `--name VALUE`.
+fn option<'a>(alloc: Global, name: &'a str, help: &'a str) -> Arg<'a> {
+    word(alloc, name, help).long(name)
+}
+
+/// `--name N`, N from the least to the most.
+fn number<'a>(alloc: Global, name: &'a str, help: &'a str, least: u64, most: u64) -> Arg<'a> {
+    option(alloc, name, help).value_parser(ValueParser::Unsigned(least, most))
+}
+
+fn with_places<'a>(alloc: Global, command: Command<'a>) -> Result<Command<'a>, Status> {
+    let source = word(alloc, "SRC", "The file of the source").required(true);
+    let page = word(
+        alloc,
+        "PAGE",
+        "The file that the page goes to; none with --text",
+    );
+    let command = command.arg(source).map_err(|_| Status::NoMemory)?;
+    command.arg(page).map_err(|_| Status::NoMemory)
+}
+
+fn with_files<'a>(alloc: Global, command: Command<'a>) -> Result<Command<'a>, Status> {
+    let profile = option(
+        alloc,
+        "profile",
+        "The file of a profile, whose counts pick the traces [default: no counts]",
+    );
+    let machine = option(
+        alloc,
+        "machine",
+        "The file that describes the machine [default: the one with a single cluster]",
+    );
+    let against = option(
+        alloc,
+        "against",
+        "The file that describes another machine, whose traces stand beside",
+    );
+    let command = command.arg(profile).map_err(|_| Status::NoMemory)?;
+    let command = command.arg(machine).map_err(|_| Status::NoMemory)?;
+    command.arg(against).map_err(|_| Status::NoMemory)
+}
+
+fn with_numbers<'a>(alloc: Global, command: Command<'a>) -> Result<Command<'a>, Status> {
+    let growth = number(
+        alloc,
+        "growth",
+        "How many operations may be copied, from 0 to 1000000 [default: 4000]",
+        0,
+        MOST_GROWTH as u64,
+    );
+    let unroll = number(
+        alloc,
+        "unroll",
+        "How many turns of a loop are taken together, from 2 to 8 [default: each by itself]",
+        2,
+        8,
+    );
+    let text = option(
+        alloc,
+        "text",
+        "lowered, cleaned, raised, renamed or traces, as a plain text on the standard output",
+    );
+    let command = command.arg(growth).map_err(|_| Status::NoMemory)?;
+    let command = command.arg(unroll).map_err(|_| Status::NoMemory)?;
+    command.arg(text).map_err(|_| Status::NoMemory)
+}
+
+fn command_of<'a>(alloc: Global) -> Result<Command<'a>, Status> {
+    let command = Command::new(alloc, "vexc-view").about(
+        "Shows how a source is compiled, as a page or as a plain text",
+    );
+    let command = with_places(alloc, command)?;
+    let command = with_files(alloc, command)?;
+    with_numbers(alloc, command)
+}
+
+fn without_text(status: Status) -> Refused {
+    Refused { status, text: None }
+}
+
+fn refusal_of(alloc: Global, error: &Error) -> Refused {
+    match error.kind() {
+        ErrorKind::OutOfMemory => without_text(Status::NoMemory),
+        _ => Refused {
+            status: Status::Usage,
+            text: error.to_string(alloc).ok(),
+        },
+    }
+}
+
+/// How many operations may be copied by a text.
+fn growth_of(text: Option<&str>) -> u32 {
+    match text {
+        None => DEFAULT_GROWTH,
+        Some(text) => match text.parse::<u32>() {
+            Ok(number) => number.min(MOST_GROWTH),
+            Err(_) => DEFAULT_GROWTH,
+        },
+    }
+}
+
+/// What is rewritten by a number of turns.
+fn rewriting_by(turns: u32) -> Rewriting {
+    if 2 <= turns && turns <= 8 {
+        Rewriting {
+            unroll: Some(turns),
+        }
+    } else {
+        Rewriting { unroll: None }
+    }
+}
+
+/// What is rewritten by a text.
+fn rewriting_of(text: Option<&str>) -> Rewriting {
+    match text {
+        None => Rewriting { unroll: None },
+        Some(text) => match text.parse::<u32>() {
+            Ok(turns) => rewriting_by(turns),
+            Err(_) => Rewriting { unroll: None },
+        },
+    }
+}
+
+fn stage_of(name: &str) -> Option<Stage> {
+    match name {
+        "lowered" => Some(Stage::Lowered),
+        "cleaned" => Some(Stage::Cleaned),
+        "raised" => Some(Stage::Raised),
+        "renamed" => Some(Stage::Renamed),
+        "traces" => Some(Stage::Traces),
+        _ => None,
+    }
+}
+
+/// Where the answer goes: just one of a page and a text is asked for.
+fn answer_of<'a>(page: Option<&'a str>, text: Option<&str>) -> Option<Answer<'a>> {
+    match (page, text) {
+        (Some(page), None) => Some(Answer::Page(page)),
+        (None, Some(name)) => match stage_of(name) {
+            Some(stage) => Some(Answer::Text(stage)),
+            None => None,
+        },
+        _ => None,
+    }
+}
+
+fn request_in<'a>(found: &ArgMatches<'a>) -> Option<Request<'a>> {
+    let answer = answer_of(found.get_str("PAGE"), found.get_str("text"))?;
+    Some(Request {
+        source: found.get_str("SRC")?,
+        answer,
+        profile: found.get_str("profile"),
+        machine: found.get_str("machine"),
+        against: found.get_str("against"),
+        growth: growth_of(found.get_str("growth")),
+        rewriting: rewriting_of(found.get_str("unroll")),
+    })
+}
+
+fn request_found<'a>(found: ArgMatches<'a>) -> Result<Request<'a>, Refused> {
+    match request_in(&found) {
+        Some(request) => Ok(request),
+        None => Err(without_text(Status::Usage)),
+    }
+}
+
+/// What the words of the command line ask for, the program's name first, or their refusal.
+pub(crate) fn request_of<'a>(alloc: Global, words: &'a [String]) -> Result<Request<'a>, Refused> {
+    match command_of(alloc) {
+        Ok(command) => match command.try_get_matches_from(words) {
+            Ok(found) => request_found(found),
+            Err(error) => Err(refusal_of(alloc, &error)),
+        },
+        Err(status) => Err(without_text(status)),
+    }
+}
+
+/// Puts the text of a refusal, or the line of its status.
+pub(crate) fn usage<E: Sink>(err: &mut E, refused: &Refused) -> Status {
+    refuse(err, refused)
+}

@@ -1,0 +1,103 @@
+// The whole page of a program, part after part.
+
+use crate::given::{Given, names_for, notes_for, totals_of, view_of};
+use std::alloc::Global;
+use vx_base::outcome::NoMemory;
+use vx_flow::graph::Graph;
+use vx_page::blocks::put_blocks;
+use vx_page::head::{
+    put_asked, put_front, put_machine, put_marks, put_section, put_source, put_totals,
+};
+use vx_page::notes::BlockNote;
+use vx_page::page::{Page, small};
+use vx_page::traces::put_trace;
+
+fn put_function(
+    alloc: Global,
+    page: &mut Page,
+    given: &Given,
+    function: u32,
+    graph: &Graph,
+) -> Result<(), NoMemory> {
+    let notes = notes_for(alloc, given.traces(), function, graph)?;
+    put_blocks(
+        page,
+        &names_for(given, graph),
+        function,
+        given.counts,
+        graph,
+        notes.as_slice(),
+    );
+    Ok(())
+}
+
+fn put_functions(alloc: Global, page: &mut Page, given: &Given) -> Result<(), NoMemory> {
+    for (number, graph) in given.flow.functions.as_slice().iter().enumerate() {
+        put_function(alloc, page, given, small(number), graph)?;
+    }
+    Ok(())
+}
+
+fn put_traces_by(
+    alloc: Global,
+    page: &mut Page,
+    given: &Given,
+    function: u32,
+    graph: &Graph,
+    notes: &[BlockNote],
+) -> Result<(), NoMemory> {
+    let names = names_for(given, graph);
+    for (number, plan) in given.traces().iter().enumerate() {
+        if plan.function == function {
+            put_trace(
+                alloc,
+                page,
+                given.machine,
+                &names,
+                &view_of(number, plan),
+                notes,
+            )?;
+        }
+    }
+    Ok(())
+}
+
+fn put_traces_of(
+    alloc: Global,
+    page: &mut Page,
+    given: &Given,
+    function: u32,
+    graph: &Graph,
+) -> Result<(), NoMemory> {
+    let notes = notes_for(alloc, given.traces(), function, graph)?;
+    put_traces_by(alloc, page, given, function, graph, notes.as_slice())
+}
+
+fn put_traces(alloc: Global, page: &mut Page, given: &Given) -> Result<(), NoMemory> {
+    for (number, graph) in given.flow.functions.as_slice().iter().enumerate() {
+        put_traces_of(alloc, page, given, small(number), graph)?;
+    }
+    Ok(())
+}
+
+/// Puts the front of a page, with the source.
+pub(crate) fn put_head(page: &mut Page, given: &Given, source: &[u8]) {
+    put_front(page, &given.asked);
+    put_asked(page, &given.asked);
+    put_totals(page, &totals_of(given.compiled));
+    put_source(page, source);
+    put_machine(page, given.machine);
+    put_marks(page);
+}
+
+/// Puts the blocks and the traces.
+pub(crate) fn put_body(alloc: Global, page: &mut Page, given: &Given) -> Result<(), NoMemory> {
+    put_section(page, b"blocks", b"Blocks, as they were planned");
+    put_functions(alloc, page, given)?;
+    put_section(
+        page,
+        b"traces",
+        b"Traces, in the order in which they were picked",
+    );
+    put_traces(alloc, page, given)
+}
