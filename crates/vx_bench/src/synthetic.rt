@@ -88,6 +88,7 @@ fn arrays(alloc: Global) -> Result<Listed<Array>, NoMemory> {
             words: 4096,
             global: true,
             named,
+            base: None,
         })?;
     }
     Ok(arrays)

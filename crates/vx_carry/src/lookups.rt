@@ -4,6 +4,7 @@ ghost use Rattle.std.specs.Prelude.{◌≡◌, slice_index_or};
 ghost use Rattle.vx_target.specs.Target.{is_own};
 ghost use Rattle.vx_slots.specs.Seen.{places_of, seen};
 
+use vx_flow::arrays::is_local;
 use vx_flow::graph::ArrayId;
 use vx_slots::program::{Whole, number_at};
 
@@ -32,10 +33,7 @@ pub(crate) fn is_own(whole: &Whole, function: u32, array: ArrayId) -> bool
     ensures { result ≡ is_own (seen whole.now) function array }
 {
     match whole.graphs.get(function as usize) {
-        Some(graph) => match graph.arrays.as_slice().get(array as usize) {
-            Some(array) => !array.global,
-            None => false,
-        },
+        Some(graph) => is_local(graph.arrays.as_slice(), array),
         None => false,
     }
 }

@@ -7,6 +7,7 @@ use Rattle.vx_claims.specs.declared.fact.Fact.{Fact}
 use Rattle.vx_claims.specs.declared.fact.Fact.TheVariants.{Between, Congruent, Equals, Never}
 use Rattle.vx_claims.specs.declared.access.Access.{Access}
 use Rattle.vx_claims.specs.Facts.{kept_if, learned, learned_if, names, without}
+use Rattle.vx_flow.specs.declared.graph.Array.{Array}
 use Rattle.vx_claims.specs.Accesses.{mentions, touches, unless, unmentioned, untouched}
 
 module _ {X : Type 0} (p : X → Bool) (xs : List X) (i : ℕ) (d : X) (b : Bool) (inside : i < length xs) where
@@ -42,11 +43,11 @@ unmentioned_kept v x xs e = ap (λ (b : Bool). unless b x (unmentioned v xs)) e
 pub unmentioned_passed : (v : ℕ) (x : Access) (xs : List Access) → mentions v x ≡ true → unmentioned v (x ∷ xs) ≡ unmentioned v xs
 unmentioned_passed v x xs e = ap (λ (b : Bool). unless b x (unmentioned v xs)) e
 
-pub untouched_kept : (a : ℕ) (x : Access) (xs : List Access) → touches a x ≡ false → untouched a (x ∷ xs) ≡ x ∷ untouched a xs
-untouched_kept a x xs e = ap (λ (b : Bool). unless b x (untouched a xs)) e
+pub untouched_kept : (arrays : List Array) (a : ℕ) (x : Access) (xs : List Access) → touches arrays a x ≡ false → untouched arrays a (x ∷ xs) ≡ x ∷ untouched arrays a xs
+untouched_kept arrays a x xs e = ap (λ (b : Bool). unless b x (untouched arrays a xs)) e
 
-pub untouched_passed : (a : ℕ) (x : Access) (xs : List Access) → touches a x ≡ true → untouched a (x ∷ xs) ≡ untouched a xs
-untouched_passed a x xs e = ap (λ (b : Bool). unless b x (untouched a xs)) e
+pub untouched_passed : (arrays : List Array) (a : ℕ) (x : Access) (xs : List Access) → touches arrays a x ≡ true → untouched arrays a (x ∷ xs) ≡ untouched arrays a xs
+untouched_passed arrays a x xs e = ap (λ (b : Bool). unless b x (untouched arrays a xs)) e
 
 pub without_kept : (v : ℕ) (f : Fact) (fs : List Fact) → names v f ≡ false → without v (f ∷ fs) ≡ f ∷ without v fs
 without_kept v f fs e = ap (λ (b : Bool). kept_if b f (without v fs)) e

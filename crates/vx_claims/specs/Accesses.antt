@@ -4,10 +4,12 @@ use Rattle.std.specs.List.{list_all}
 use Rattle.vx_base.specs.declared.arithmetic.Code.TheVariants.{Mov}
 use Rattle.vx_flow.specs.declared.graph.Operand.{Operand}
 use Rattle.vx_flow.specs.declared.graph.Operand.TheVariants.{Held, Number}
+use Rattle.vx_flow.specs.declared.graph.Array.{Array}
 use Rattle.vx_flow.specs.declared.graph.Op.{Op}
 use Rattle.vx_flow.specs.declared.graph.Op.TheVariants.{Compute, Place, Load, Store}
 use Rattle.vx_flow.specs.Effects.{State, Setting, held, place_of, row_of, cell_of}
 use Rattle.vx_flow.specs.Operands.{written_by}
+use Rattle.vx_flow.specs.Apart.{may_meet}
 use Rattle.vx_flow.specs.Sound.{is_value}
 use Rattle.vx_claims.specs.declared.access.Access.{Access}
 use Rattle.vx_claims.specs.declared.access.Access.TheVariants.{Placed, Stored}
@@ -26,10 +28,6 @@ Tells setting s (Stored a p x) = HoldsWord setting s a p x
 abbrev pub AllTell : Setting → State → List Access → Type 0
 AllTell setting s [] = Unit {0}
 AllTell setting s (x ∷ xs) = Tells setting s x × AllTell setting s xs
-
--- different arrays stand at different spots
-abbrev pub SpotsDiffer : Setting → Type 0
-SpotsDiffer setting = (a b : ℕ) → setting.spot a ≡ setting.spot b → a ≡ b
 
 -- the same in the same words
 
@@ -63,21 +61,21 @@ abbrev pub unmentioned_written : Option ℕ → List Access → List Access
 unmentioned_written None xs = xs
 unmentioned_written (Some v) xs = unmentioned v xs
 
--- whether a store to array a may change it
-abbrev pub touches : ℕ → Access → Bool
-touches a (Placed v b i) = false
-touches a (Stored b p x) = b == a
+-- whether a store to array a may change it: what is known of a word of an array that may share one with a
+abbrev pub touches : List Array → ℕ → Access → Bool
+touches arrays a (Placed v b i) = false
+touches arrays a (Stored b p x) = may_meet arrays a b
 
-abbrev pub untouched : ℕ → List Access → List Access
-untouched a [] = []
-untouched a (x ∷ xs) = unless (touches a x) x (untouched a xs)
+abbrev pub untouched : List Array → ℕ → List Access → List Access
+untouched arrays a [] = []
+untouched arrays a (x ∷ xs) = unless (touches arrays a x) x (untouched arrays a xs)
 
--- what is known behind an operation
-abbrev pub accessed : List Access → Op → List Access
-accessed xs (Place v a i) = unless (is_value v i) (Placed v a i) (unmentioned v xs)
-accessed xs (Load v a p dismissible) = unless (is_value v p) (Stored a p (Held v)) (unmentioned v xs)
-accessed xs (Store a p x) = Stored a p x ∷ untouched a xs
-accessed xs op = unmentioned_written (written_by op) xs
+-- what is known behind an operation of a function with these arrays
+abbrev pub accessed : List Array → List Access → Op → List Access
+accessed arrays xs (Place v a i) = unless (is_value v i) (Placed v a i) (unmentioned v xs)
+accessed arrays xs (Load v a p dismissible) = unless (is_value v p) (Stored a p (Held v)) (unmentioned v xs)
+accessed arrays xs (Store a p x) = Stored a p x ∷ untouched arrays a xs
+accessed arrays xs op = unmentioned_written (written_by op) xs
 
 abbrev pub value_if : Bool → ℕ → Option ℕ
 value_if true v = Some v

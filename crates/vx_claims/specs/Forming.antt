@@ -5,6 +5,7 @@ use Rattle.vx_base.specs.declared.arithmetic.Code.{Code}
 use Rattle.vx_base.specs.declared.arithmetic.Code.TheVariants.{Mov, ToBranch}
 use Rattle.vx_flow.specs.declared.graph.Operand.{Operand}
 use Rattle.vx_flow.specs.declared.graph.Operand.TheVariants.{Held, Number, Stack}
+use Rattle.vx_flow.specs.declared.graph.Array.{Array}
 use Rattle.vx_flow.specs.declared.graph.Op.{Op}
 use Rattle.vx_flow.specs.declared.graph.Op.TheVariants.{Compute, Place}
 use Rattle.vx_flow.specs.Operands.{with_operands}
@@ -99,18 +100,19 @@ newest (suc left) (Equals v code a b ∷ fs) = Equals v code a b ∷ newest left
 abbrev pub after_known : List Fact → List Access → Op → Op → List Fact
 after_known fs xs op op' = newest most_equals (place_known xs op' ++ (said_unless (same_form op op') fs op ++ after fs op'))
 
-abbrev pub after_from : List Fact → List Access → List Op → List Fact
-after_from fs xs [] = fs
-after_from fs xs (op ∷ ops) = after_from (after_known fs xs op (form fs xs op)) (accessed xs (form fs xs op)) ops
+-- behind operations of a function with these arrays
+abbrev pub after_from : List Array → List Fact → List Access → List Op → List Fact
+after_from arrays fs xs [] = fs
+after_from arrays fs xs (op ∷ ops) = after_from arrays (after_known fs xs op (form fs xs op)) (accessed arrays xs (form fs xs op)) ops
 
-abbrev pub accessed_from : List Fact → List Access → List Op → List Access
-accessed_from fs xs [] = xs
-accessed_from fs xs (op ∷ ops) = accessed_from (after_known fs xs op (form fs xs op)) (accessed xs (form fs xs op)) ops
+abbrev pub accessed_from : List Array → List Fact → List Access → List Op → List Access
+accessed_from arrays fs xs [] = xs
+accessed_from arrays fs xs (op ∷ ops) = accessed_from arrays (after_known fs xs op (form fs xs op)) (accessed arrays xs (form fs xs op)) ops
 
 -- what is known behind the operations of a block at whose start this is claimed
 
-abbrev pub after_all : Claim → List Op → List Fact
-after_all claim ops = after_from claim.facts claim.accesses ops
+abbrev pub after_all : List Array → Claim → List Op → List Fact
+after_all arrays claim ops = after_from arrays claim.facts claim.accesses ops
 
-abbrev pub accessed_all : Claim → List Op → List Access
-accessed_all claim ops = accessed_from claim.facts claim.accesses ops
+abbrev pub accessed_all : List Array → Claim → List Op → List Access
+accessed_all arrays claim ops = accessed_from arrays claim.facts claim.accesses ops

@@ -1,5 +1,6 @@
-// What is known of the places and the words of arrays inside of a block. A store forgets the other words of its array, a write of
-// a value what speaks of it; nothing is known at the start of a block, and so nothing behind a call.
+// What is known of the places and the words of arrays inside of a block. A store forgets the other words of its array and those of
+// each array that may share a word with it, a write of a value what speaks of it; nothing is known at the start of a block, and so
+// nothing behind a call.
 
 ghost use Rattle.std.specs.Prelude.{◌≡◌, ◌++◌, IfOk};
 ghost use Rattle.vx_claims.specs.Accesses.{accessed, is_told, loaded_as, mentions, moved_from, moved_or, place_in, place_known, same_access, tell, touches, unless, unmentioned, untouched, value_if, with_words, word_in};
@@ -10,7 +11,8 @@ use std::alloc::Global;
 use vx_base::arithmetic::Code;
 use vx_base::listed::Listed;
 use vx_base::outcome::NoMemory;
-use vx_flow::graph::{ArrayId, Op, Operand, Value};
+use vx_flow::arrays::may_meet;
+use vx_flow::graph::{Array, ArrayId, Op, Operand, Value};
 use vx_flow::operands::{is_value, written_by};
 
 /// What is known of an array.
@@ -44,12 +46,12 @@ fn mentions(value: Value, access: Access) -> bool
 }
 
 /// Whether a store to an array may change it.
-fn touches(array: ArrayId, access: Access) -> bool
-    ensures { result ≡ touches array access }
+fn touches(arrays: &[Array], array: ArrayId, access: Access) -> bool
+    ensures { result ≡ touches arrays.now array access }
 {
     match access {
         Access::Placed { .. } => false,
-        Access::Stored { array: stored, .. } => stored == array,
+        Access::Stored { array: stored, .. } => may_meet(arrays, array, stored),
     }
 }
 
@@ -121,13 +123,14 @@ fn append_unmentioned(
 /// Puts what a store to an array does not touch at the end of a list.
 fn append_untouched(
     list: &mut Listed<Access>,
+    arrays: &[Array],
     known: &[Access],
     array: ArrayId,
 ) -> Result<(), NoMemory>
-    ensures { IfOk result (λ _. list.new ≡ list.old ++ untouched array known.now) }
+    ensures { IfOk result (λ _. list.new ≡ list.old ++ untouched arrays.now array known.now) }
 {
     for access in known {
-        if !touches(array, *access) {
+        if !touches(arrays, array, *access) {
             list.push(*access)?;
         }
     }
@@ -159,18 +162,28 @@ fn append_unless(
     append_unmentioned(list, known, value)
 }
 
-/// What is known behind an operation.
-pub fn accessed(alloc: Global, known: &[Access], op: &Op) -> Result<Listed<Access>, NoMemory>
-    ensures { IfOk result (λ behind. behind ≡ accessed known.now op.now) }
+/// What is known behind an operation of a function with these arrays.
+pub fn accessed(
+    alloc: Global,
+    arrays: &[Array],
+    known: &[Access],
+    op: &Op,
+) -> Result<Listed<Access>, NoMemory>
+    ensures { IfOk result (λ behind. behind ≡ accessed arrays.now known.now op.now) }
 {
     let mut behind = Listed::new(alloc);
-    append_accessed(&mut behind, known, op)?;
+    append_accessed(&mut behind, arrays, known, op)?;
     Ok(behind)
 }
 
 /// Puts what is known behind an operation at the end of a list.
-fn append_accessed(list: &mut Listed<Access>, known: &[Access], op: &Op) -> Result<(), NoMemory>
-    ensures { IfOk result (λ _. list.new ≡ list.old ++ accessed known.now op.now) }
+fn append_accessed(
+    list: &mut Listed<Access>,
+    arrays: &[Array],
+    known: &[Access],
+    op: &Op,
+) -> Result<(), NoMemory>
+    ensures { IfOk result (λ _. list.new ≡ list.old ++ accessed arrays.now known.now op.now) }
 {
     match *op {
         Op::Place { to, array, index } => append_unless(
@@ -202,7 +215,7 @@ fn append_accessed(list: &mut Listed<Access>, known: &[Access], op: &Op) -> Resu
         ),
         Op::Store { array, place, from } => {
             list.push(Access::Stored { array, place, from })?;
-            append_untouched(list, known, array)
+            append_untouched(list, arrays, known, array)
         }
         _ => match written_by(op) {
             Some(to) => append_unmentioned(list, known, to),

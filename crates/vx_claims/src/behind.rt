@@ -11,24 +11,25 @@ use crate::update::learn;
 use std::alloc::Global;
 use vx_base::listed::Listed;
 use vx_base::outcome::NoMemory;
-use vx_flow::graph::Op;
+use vx_flow::graph::{Array, Op};
 
-/// What is known behind operations, of values and of arrays, from what is claimed before them.
+/// What is known behind operations of a function with these arrays, of values and of words, from what is claimed before them.
 pub fn known_behind(
     alloc: Global,
+    arrays: &[Array],
     claims: &[Fact],
     accesses: &[Access],
     ops: &[Op],
 ) -> Result<Claim, NoMemory>
-    ensures facts { IfOk result (λ behind. behind.facts ≡ after_from claims.now accesses.now ops.now) }
-    ensures accesses { IfOk result (λ behind. behind.accesses ≡ accessed_from claims.now accesses.now ops.now) }
+    ensures facts { IfOk result (λ behind. behind.facts ≡ after_from arrays.now claims.now accesses.now ops.now) }
+    ensures accesses { IfOk result (λ behind. behind.accesses ≡ accessed_from arrays.now claims.now accesses.now ops.now) }
 {
     let mut facts = claims.to_vec(alloc)?;
     let mut known = copied_accesses(alloc, accesses)?;
     for op in ops {
         let form = form(facts.as_slice(), known.as_slice(), op);
         learn(alloc, &mut facts, known.as_slice(), op, &form)?;
-        known = accessed(alloc, known.as_slice(), &form)?;
+        known = accessed(alloc, arrays, known.as_slice(), &form)?;
     }
     Ok(Claim {
         facts: Listed::from_vec(facts)?,

@@ -73,7 +73,7 @@ choice_path = refl
 -- a main of these blocks, with a local array of 2 words, general values 0 to 3 and the branch value 4
 abbrev alone : List Block → Flow
 alone blocks = record {
-  functions = record { blocks = blocks; banks = General ∷ General ∷ General ∷ General ∷ Branch ∷ []; parameters = []; arrays = record { words = 2; global = false; named = 0 } ∷ [] } ∷ [];
+  functions = record { blocks = blocks; banks = General ∷ General ∷ General ∷ General ∷ Branch ∷ []; parameters = []; arrays = record { words = 2; global = false; named = 0; base = None } ∷ [] } ∷ [];
   globals = [];
   texts = (10 ∷ []) ∷ [];
   main = 0;

@@ -15,7 +15,7 @@ use Rattle.vx_flow.specs.declared.graph.Graph.{Graph}
 use Rattle.vx_flow.specs.declared.graph.Global.{Global}
 use Rattle.vx_flow.specs.declared.graph.Flow.{Flow}
 use Rattle.vx_flow.specs.Effects.{IsIn}
-use Rattle.vx_flow.specs.Sound.{is_sound, are_distinct, begins_with, has_parameters, is_text_there, is_call_there, is_block_there, is_sound_function, is_sound_flow, HasOperation, Callable, HasGlobal, SoundFlow}
+use Rattle.vx_flow.specs.Sound.{is_given, has_base, is_own_array, is_sound, are_distinct, begins_with, has_parameters, is_text_there, is_call_there, is_block_there, is_sound_function, is_sound_flow, HasOperation, Callable, HasGlobal, SoundFlow}
 use Rattle.vx_flow.proofs.SoundLists.{differs, differs_of, all_in, all_of, all_at, all_of_at, distinct_at, distinct_of}
 use Rattle.vx_flow.proofs.SoundLaw.{sound_is, sound_of}
 
@@ -54,29 +54,36 @@ text_of flow (Across u w) k = refl
 
 -- globals
 
+no_base : (o : Option ℕ) → not (is_given o) ≡ true → o ≡ None
+no_base None h = refl
+no_base (Some v) h = absurd (false≢true h)
+
 global_is : (gs : List Global) (arrays : List Array) (i : ℕ) (x : Global) → begins_with gs arrays ≡ true → slice_get gs i ≡ Some x → HasGlobal arrays i x.words
 global_is [] arrays i x h e = absurd (cc)
 global_is (g ∷ gs) [] i x h e = absurd (false≢true h)
 global_is (g ∷ gs) (array ∷ arrays) zero x h e =
     let q : g ≡ x = cc in
     let k = and_parts _ _ (and_parts _ _ h).0 in
-    record { array = array; is = refl; global = k.0; size = eqb-true array.words g.words k.1 ∙ ap (λ y. y.words) q }
+    let l = and_parts _ _ k.0 in
+    record { array = array; is = refl; global = l.0; size = eqb-true array.words g.words l.1 ∙ ap (λ y. y.words) q; base = no_base array.base k.1 }
 global_is (g ∷ gs) (array ∷ arrays) (suc i) x h e =
     let later = global_is gs arrays i x (and_parts _ _ h).1 e in
-    record { array = later.array; is = later.is; global = later.global; size = later.size }
+    record { array = later.array; is = later.is; global = later.global; size = later.size; base = later.base }
 
 unset : (b : Bool) → not b ≡ true → b ≡ false
 unset true h = absurd (false≢true h)
 unset false h = refl
 
-own_is : (gs : List Global) (arrays : List Array) (i : ℕ) (array : Array) → begins_with gs arrays ≡ true → slice_get arrays i ≡ Some array → length gs ≤ i → array.global ≡ false
-own_is [] arrays i array h e far = unset array.global (all_at (λ a. not a.global) arrays i array h e)
+own_is : (gs : List Global) (arrays : List Array) (i : ℕ) (array : Array) → begins_with gs arrays ≡ true → slice_get arrays i ≡ Some array → length gs ≤ i → (array.global ≡ false) × (array.base ≡ None)
+own_is [] arrays i array h e far =
+    let k = and_parts (not array.global) (not (has_base array)) (all_at is_own_array arrays i array h e) in
+    (unset array.global k.0, no_base array.base k.1)
 own_is (g ∷ gs) [] i array h e far = absurd (cc)
 own_is (g ∷ gs) (a ∷ arrays) zero array h e far = absurd (omega arith)
 own_is (g ∷ gs) (a ∷ arrays) (suc i) array h e far = own_is gs arrays i array (and_parts _ _ h).1 e (omega arith)
 
-begins_of : (gs : List Global) (arrays : List Array) → ((i : ℕ) (x : Global) → slice_get gs i ≡ Some x → HasGlobal arrays i x.words) → ((i : ℕ) (array : Array) → slice_get arrays i ≡ Some array → length gs ≤ i → array.global ≡ false) → begins_with gs arrays ≡ true
-begins_of [] arrays f k = all_of_at (λ a. not a.global) arrays (λ i a e. ap not (k i a e (omega arith)))
+begins_of : (gs : List Global) (arrays : List Array) → ((i : ℕ) (x : Global) → slice_get gs i ≡ Some x → HasGlobal arrays i x.words) → ((i : ℕ) (array : Array) → slice_get arrays i ≡ Some array → length gs ≤ i → (array.global ≡ false) × (array.base ≡ None)) → begins_with gs arrays ≡ true
+begins_of [] arrays f k = all_of_at is_own_array arrays (λ i a e. let own = k i a e (omega arith) in both_true (ap not own.0) (ap (λ o. not (is_given o)) own.1))
 begins_of (g ∷ gs) [] f k = let there = f zero g refl in let e = there.is in absurd (cc)
 begins_of (g ∷ gs) (array ∷ arrays) f k =
     let there = f zero g refl in
@@ -84,9 +91,10 @@ begins_of (g ∷ gs) (array ∷ arrays) f k =
     let q : there.array ≡ array = cc in
     let global : array.global ≡ true = ap (λ a. a.global) (sym q) ∙ there.global in
     let words : array.words ≡ g.words = ap (λ a. a.words) (sym q) ∙ there.size in
-    both_true (both_true global (eq-eqb array.words g.words words))
+    let base : array.base ≡ None = ap (λ a. a.base) (sym q) ∙ there.base in
+    both_true (both_true (both_true global (eq-eqb array.words g.words words)) (ap (λ o. not (is_given o)) base))
     (begins_of gs arrays
-    (λ i x e. let later = f (suc i) x e in record { array = later.array; is = later.is; global = later.global; size = later.size })
+    (λ i x e. let later = f (suc i) x e in record { array = later.array; is = later.is; global = later.global; size = later.size; base = later.base })
     (λ i a e far. k (suc i) a e (omega arith)))
 
 -- functions

@@ -51,11 +51,22 @@ abbrev pub is_written : List Bank → Code → ℕ → Bool
 is_written banks (ToBranch compare) v = is_branch banks v
 is_written banks code v = is_general banks v
 
+abbrev pub is_given : Option ℕ → Bool
+is_given None = false
+is_given (Some v) = true
+
+-- the array is one that was handed over: where it stands is what its base holds
+abbrev pub has_base : Array → Bool
+has_base array = is_given array.base
+
+abbrev pub is_own_array : Array → Bool
+is_own_array array = not array.global && not (has_base array)
+
 abbrev pub is_own : Option Array → Bool
 is_own None = false
-is_own (Some array) = not array.global
+is_own (Some array) = is_own_array array
 
--- the array is a local one of the function
+-- the array is a local one of the function: no global, and none that was handed over
 abbrev pub is_local : List Array → ℕ → Bool
 is_local arrays a = is_own (slice_get arrays a)
 
@@ -166,11 +177,11 @@ are_distinct [] = true
 are_distinct (v ∷ vs) = list_all (λ u. not (u == v)) vs && are_distinct vs
 
 abbrev pub is_global : ℕ → Array → Bool
-is_global words array = array.global && (array.words == words)
+is_global words array = array.global && (array.words == words) && not (has_base array)
 
 -- the globals in their order, with their words, and then local arrays
 abbrev pub begins_with : List Global → List Array → Bool
-begins_with [] arrays = list_all (λ array. not array.global) arrays
+begins_with [] arrays = list_all is_own_array arrays
 begins_with (g ∷ gs) [] = false
 begins_with (g ∷ gs) (array ∷ arrays) = is_global g.words array && begins_with gs arrays
 
@@ -318,12 +329,13 @@ pub record Callable (flow : Flow) (f count : ℕ) : Type 0 where
   pub is : slice_get flow.functions f ≡ Some graph
   pub parameters : length graph.parameters ≡ count
 
--- array i is there, and is a global of so many words
+-- array i is there, and is a global of so many words; it has no base
 pub record HasGlobal (arrays : List Array) (i words : ℕ) : Type 0 where
   pub array : Array
   pub is : slice_get arrays i ≡ Some array
   pub global : array.global ≡ true
   pub size : array.words ≡ words
+  pub base : array.base ≡ None
 
 pub record SoundFlow (flow : Flow) : Type 0 where
   -- every graph is sound, has a block, and has no parameter twice
@@ -334,6 +346,6 @@ pub record SoundFlow (flow : Flow) : Type 0 where
   pub main : Callable flow flow.main 0
   pub calls : (g : Graph) (f next : ℕ) (arguments : List Operand) (result : Option ℕ) → IsIn g flow.functions → HasExit g (Call f arguments result next) → Callable flow f (length arguments)
   pub texts : (g : Graph) (n : ℕ) → IsIn g flow.functions → HasOperation g (Text n) → n < length flow.texts
-  -- the arrays of a graph begin with the globals in their order, with their words, and no later one is global
+  -- the arrays of a graph begin with the globals in their order, with their words; no later one is global or has a base
   pub globals : (g : Graph) (i : ℕ) (x : Global) → IsIn g flow.functions → slice_get flow.globals i ≡ Some x → HasGlobal g.arrays i x.words
-  pub own : (g : Graph) (i : ℕ) (array : Array) → IsIn g flow.functions → slice_get g.arrays i ≡ Some array → length flow.globals ≤ i → array.global ≡ false
+  pub own : (g : Graph) (i : ℕ) (array : Array) → IsIn g flow.functions → slice_get g.arrays i ≡ Some array → length flow.globals ≤ i → (array.global ≡ false) × (array.base ≡ None)

@@ -136,6 +136,8 @@ pub struct Array {
     pub global: bool,
     /// The number by which it is told apart from the other arrays of the function.
     pub named: u32,
+    /// The value that holds where it stands, if it is one that is handed to the function. No flow that is sound has one yet.
+    pub base: Option<Value>,
 }
 
 /// The graph of a function.

@@ -2,6 +2,7 @@
 // edges and headers.
 #![tactic(auto)]
 
+pub mod arrays;
 pub mod copies;
 pub mod graph;
 mod header_blocks;

@@ -13,7 +13,7 @@ use Rattle.vx_flow.specs.declared.graph.Exit.TheVariants.{Goto, Split, Call, Ret
 use Rattle.vx_flow.specs.declared.graph.Block.{Block}
 use Rattle.vx_flow.specs.declared.graph.Flow.{Flow}
 use Rattle.vx_flow.specs.Operands.{value_list}
-use Rattle.vx_flow.specs.Sound.{HasExit, is_own, is_local}
+use Rattle.vx_flow.specs.Sound.{HasExit, has_base, is_own, is_local}
 use Rattle.vx_flow.proofs.SoundLists.{all_in, all_of, all_at, all_of_at}
 use Rattle.vx_inline.specs.declared.site.Site.{Site}
 use Rattle.vx_inline.specs.Choosing.{operations}
@@ -25,7 +25,7 @@ use Rattle.vx_inline.specs.Values.{local_place, local_places}
 
 pub record FitsInWords (c : TheCall) : Type 0 where
   pub calls_none : (f next : ℕ) (arguments : List Operand) (result : Option ℕ) → HasExit c.callee (Call f arguments result next) → ⊥
-  pub globals_alone : (a : ℕ) → is_local c.callee.arrays a ≡ true → ⊥
+  pub globals_alone : (a : ℕ) (array : Array) → slice_get c.callee.arrays a ≡ Some array → array.global ≡ true
   pub caller_short : length c.block.ops + length c.arguments ≤ 512
   pub callee_short : (b : ℕ) (block : Block) (x : Operand) → slice_get c.callee.blocks b ≡ Some block → block.exit ≡ Return x → length block.ops + length (value_list c.result) ≤ 512
 
@@ -38,7 +38,7 @@ own_not arrays a e l = by (slice_get arrays a) refl l
   where
     by : (o : Option Array) → slice_get arrays a ≡ o → is_own o ≡ true → ⊥
     by None h q = false≢true q
-    by (Some array) h q = not_call array.global q (all_at (λ (x : Array). x.global) arrays a array e h)
+    by (Some array) h q = not_call array.global (and_parts (not array.global) (not (has_base array)) q).0 (all_at (λ (x : Array). x.global) arrays a array e h)
 
 -- where all arrays are globals no place of another is written
 
@@ -72,7 +72,7 @@ no_places arrays e (block ∷ blocks) = ap (λ l. l ++ flat_map (local_places ar
 fits_parts : (c : TheCall) → calls_nothing c.callee.blocks ≡ true → are_global c.callee.arrays ≡ true → is_entered_short c ≡ true → are_left_short c.result c.callee.blocks ≡ true → FitsInWords c
 fits_parts c a b d e = record {
   calls_none = λ f next arguments result h. not_call (is_calling h.block) (all_in (λ block. not (is_calling block)) c.callee.blocks h.block a h.has) (ap is_call (sym h.ends));
-  globals_alone = λ i l. own_not c.callee.arrays i b l;
+  globals_alone = λ i array e. all_at (λ (x : Array). x.global) c.callee.arrays i array b e;
   caller_short = leb-true (length c.block.ops + length c.arguments) 512 d;
   callee_short = λ i block x h q. leb-true (length block.ops + length (value_list c.result)) 512 (ap (is_short_with c.result (length block.ops)) (sym q) ∙ all_at (is_left_short c.result) c.callee.blocks i block e h);
 }
@@ -95,10 +95,6 @@ not_so : (t : Bool) → (t ≡ true → ⊥) → not t ≡ true
 not_so true n = absurd (n refl)
 not_so false n = refl
 
-array_global : (t : Bool) → (not t ≡ true → ⊥) → t ≡ true
-array_global true n = refl
-array_global false n = absurd (n refl)
-
 left_short : (taker : Option ℕ) (n : ℕ) (exit : Exit) → ((x : Operand) → exit ≡ Return x → n + length (value_list taker) ≤ 512) → is_short_with taker n exit ≡ true
 left_short taker n (Goto c) h = refl
 left_short taker n (Split p c d) h = refl
@@ -113,7 +109,7 @@ as_test c w = both_true (both_true (both_true calls globals) entered) left
     calls = all_of (λ block. not (is_calling block)) c.callee.blocks (λ block m. not_so (is_calling block) (λ e. (let k = calls_is block.exit e in w.calls_none k.0 k.3 k.1 k.2 (record { block = block; has = m; ends = sym k.4 }))))
 
     globals : are_global c.callee.arrays ≡ true
-    globals = all_of_at (λ (x : Array). x.global) c.callee.arrays (λ i array e. array_global array.global (λ q. w.globals_alone i (ap is_own e ∙ q)))
+    globals = all_of_at (λ (x : Array). x.global) c.callee.arrays (λ i array e. w.globals_alone i array e)
 
     entered : is_entered_short c ≡ true
     entered = le-leb (length c.block.ops + length c.arguments) 512 w.caller_short

@@ -1,5 +1,5 @@
 -- The flow with a call inlined is sound.
-use Rattle.std.proofs.Common.{◌≡◌, ◌⊎◌, inl, inr, ℕ, ◌<◌, ◌≤◌, Bool, true, false, ◌==◌, List, length, slice_get, Option, Some, refl, sym, ap, ◌∙◌, subst, eq-eqb, eqb-true}
+use Rattle.std.proofs.Common.{◌≡◌, ◌⊎◌, inl, inr, ℕ, ◌<◌, ◌≤◌, Bool, true, false, ◌==◌, List, length, slice_get, Option, Some, None, refl, sym, ap, ◌∙◌, subst, eq-eqb, eqb-true}
 use Rattle.std.proofs.lemmas.Bool.{false≢true}
 use Rattle.std.proofs.lemmas.Option.{slice_get_within}
 use Rattle.vx_flow.specs.declared.graph.Operand.{Operand}
@@ -107,7 +107,7 @@ module _ (flow : Flow) (site : Site) (c : CallAt flow site) (free : Bank → Lis
       globals_by g i x e (inl m) = sound.globals g i x m e
       globals_by g i x e (inr q) = subst (λ (h : Graph). HasGlobal h.arrays i x.words) (sym q) (sound.globals c.parts.caller i x caller_in e)
 
-      own_by : (g : Graph) (i : ℕ) (array : Array) → slice_get g.arrays i ≡ Some array → length flow.globals ≤ i → IsIn g flow.functions ⊎ (g ≡ G) → array.global ≡ false
+      own_by : (g : Graph) (i : ℕ) (array : Array) → slice_get g.arrays i ≡ Some array → length flow.globals ≤ i → IsIn g flow.functions ⊎ (g ≡ G) → (array.global ≡ false) × (array.base ≡ None)
       own_by g i array e l (inl m) = sound.own g i array m e l
       own_by g i array e l (inr q) = sound.own c.parts.caller i array caller_in (subst (λ (h : Graph). slice_get h.arrays i ≡ Some array) q e) l
 

@@ -1,5 +1,5 @@
 -- The graph is sound, and what the flow asks of it.
-use Rattle.std.proofs.Common.{◌≡◌, ◌⊎◌, inl, inr, ℕ, ◌+◌, ◌<◌, ◌≤◌, Bool, true, false, ◌==◌, not, ℤ, pos, List, [], ◌++◌, length, map, slice_get, Option, Some, refl, sym, ap, ◌∙◌, subst, eq-eqb, eqb-true, arith}
+use Rattle.std.proofs.Common.{◌≡◌, ◌⊎◌, inl, inr, ℕ, ◌+◌, ◌<◌, ◌≤◌, Bool, true, false, ◌==◌, ◌&&◌, not, ℤ, pos, List, [], ◌++◌, length, map, slice_get, Option, Some, refl, sym, ap, ◌∙◌, subst, eq-eqb, eqb-true, arith}
 use Rattle.std.proofs.lemmas.Bool.{false≢true}
 use Rattle.std.proofs.lemmas.Option.{slice_get_within}
 use Rattle.std.specs.List.{flat_map}
@@ -19,7 +19,7 @@ use Rattle.vx_flow.specs.declared.graph.Flow.{Flow}
 use Rattle.vx_flow.specs.declared.graph.Edge.{Edge}
 use Rattle.vx_flow.specs.Effects.{IsIn, value_in, reads, writes}
 use Rattle.vx_flow.specs.Operands.{with_value_in, with_values}
-use Rattle.vx_flow.specs.Sound.{HasOperation, HasExit, SoundFlow, Sound, Leads, Has, Callable, IsOperandOf, IsPlace, IsAccess, ReadAsPlace, is_own, is_local, targets_of, operands_of, tests_of, arrays_of, bank_written, operands_of_exit, results_of_exit, tests_of_exit}
+use Rattle.vx_flow.specs.Sound.{HasOperation, HasExit, SoundFlow, Sound, Leads, Has, Callable, IsOperandOf, IsPlace, IsAccess, ReadAsPlace, has_base, is_own, is_local, targets_of, operands_of, tests_of, arrays_of, bank_written, operands_of_exit, results_of_exit, tests_of_exit}
 use Rattle.vx_flow.proofs.Members.{in_left, in_right, in_either}
 use Rattle.vx_inline.specs.declared.site.Site.{Site}
 use Rattle.vx_inline.specs.Inlined.{CallAt, IsPermitted, IsFree, names, named_by, taken, is_plain, kind_place, placed_as, move, moves_in, moves_out, entering, copied, copied_as, critical, behind, edge_block, relinked_exit, callers_plain, all_plain, all_kinds, caller_at, callee_at, joined, inlined_blocks}
@@ -284,7 +284,7 @@ module _ (flow : Flow) (site : Site) (c : CallAt flow site) (free : Bank → Lis
   global_array a l k =
       let g = there flow.globals a l in
       let h = sound.globals c.parts.caller a g.0 (get_in flow.functions site.function c.parts.caller c.is_caller) g.1 in
-      false≢true (ap not (sym h.global) ∙ ap is_own (sym h.is) ∙ k)
+      false≢true (ap (λ t. not t && not (has_base h.array)) (sym h.global) ∙ ap is_own (sym h.is) ∙ k)
 
   callee_array : (o : Op) (a : ℕ) → HasOperation c.parts.callee o → IsIn a (arrays_of o) → a < length flow.globals
   callee_array o a h k =

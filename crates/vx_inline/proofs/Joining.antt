@@ -266,8 +266,8 @@ module _ (flow : Flow) (site : Site) (c : CallAt flow site) (free : Bank → Lis
       by true e =
           let i : ℕ = length flow.globals in
           let r : (x : Array) × (slice_get c.parts.callee.arrays i ≡ Some x) = there c.parts.callee.arrays i (ltb-true i (length c.parts.callee.arrays) e) in
-          let own : r.0.global ≡ false = sound.own c.parts.callee i r.0 (get_in flow.functions c.parts.called c.parts.callee c.is_callee) r.1 (omega arith) in
-          absurd (permitted.globals_alone i (ap is_own r.1 ∙ ap not own))
+          let own = sound.own c.parts.callee i r.0 (get_in flow.functions c.parts.called c.parts.callee c.is_callee) r.1 (omega arith) in
+          absurd (false≢true (sym own.0 ∙ permitted.globals_alone i r.0 r.1))
       by false e = ltb-false (length flow.globals) (length c.parts.callee.arrays) e
 
   module _ (begins : BeginsPlain flow site c) where

@@ -1,6 +1,5 @@
 -- The worked call.
 use Rattle.std.proofs.Common.{◌≡◌, ◌⊎◌, inl, inr, ℕ, zero, suc, ◌+◌, ◌<◌, ◌≤◌, pos, List, [], ◌∷◌, length, slice_get, Option, Some, refl, sym, ap, ◌∙◌, subst, arith}
-use Rattle.std.proofs.lemmas.Bool.{false≢true}
 use Rattle.std.specs.List.{flat_map}
 use Rattle.vx_base.specs.declared.arithmetic.Code.{Code}
 use Rattle.vx_flow.specs.declared.graph.Operand.{Operand}
@@ -154,7 +153,7 @@ the_permitted = record {
   alone = on_none 4 0;
   apart = λ f o r. on_none 4 f o;
   calls_none = twice_calls_none;
-  globals_alone = λ a e. absurd (false≢true e);
+  globals_alone = λ a array e. absurd (cc);
   are_free = frees;
   enough = enough_free;
   caller_short = (let l : 2 ≤ 512 = omega arith in l);

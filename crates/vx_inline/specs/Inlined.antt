@@ -14,6 +14,7 @@ use Rattle.vx_flow.specs.declared.graph.Op.TheVariants.{Compute, Place}
 use Rattle.vx_flow.specs.declared.graph.Exit.{Exit}
 use Rattle.vx_flow.specs.declared.graph.Exit.TheVariants.{Goto, Split, Call, Return, Ends}
 use Rattle.vx_flow.specs.declared.graph.Block.{Block}
+use Rattle.vx_flow.specs.declared.graph.Array.{Array}
 use Rattle.vx_flow.specs.declared.graph.Graph.{Graph}
 use Rattle.vx_flow.specs.declared.graph.Flow.{Flow}
 use Rattle.vx_flow.specs.declared.graph.Edge.{Edge}
@@ -105,7 +106,7 @@ pub record IsPermitted (flow : Flow) (site : Site) (c : CallAt flow site) (free 
   pub apart : (f : ℕ) → OnCycle flow f → Reaches flow f site.function → ⊥
   -- the callee has no call, and no array but globals
   pub calls_none : (f next : ℕ) (arguments : List Operand) (result : Option ℕ) → HasExit c.parts.callee (Call f arguments result next) → ⊥
-  pub globals_alone : (a : ℕ) → is_local c.parts.callee.arrays a ≡ true → ⊥
+  pub globals_alone : (a : ℕ) (array : Array) → slice_get c.parts.callee.arrays a ≡ Some array → array.global ≡ true
   -- of each bank there are as many free values as the callee names
   pub are_free : (bank : Bank) → AreFree c.parts bank (free bank)
   pub enough : (bank : Bank) → length (named c.parts.callee bank) ≤ length (free bank)

@@ -3,7 +3,6 @@
 ghost use Rattle.std.specs.Prelude.{◌≡◌, ◌++◌, IfOk};
 ghost use Rattle.std.specs.List.{flat_map};
 ghost use Rattle.vx_flow.specs.declared.graph.Bank.{Bank};
-ghost use Rattle.vx_flow.specs.Sound.{is_local};
 ghost use Rattle.vx_inline.specs.Finding.{seen};
 ghost use Rattle.vx_inline.specs.Values.{free_of, has_values, kept, local_place, local_places, of_bank};
 
@@ -15,7 +14,8 @@ use crate::names::push_operands;
 use std::alloc::Global;
 use vx_base::listed::{Listed, copied};
 use vx_base::outcome::NoMemory;
-use vx_flow::graph::{Array, ArrayId, Block, Op, Value};
+use vx_flow::arrays::is_local;
+use vx_flow::graph::{Array, Block, Op, Value};
 use vx_flow::live_rows::Live;
 use vx_flow::operands::push_value;
 
@@ -104,15 +104,5 @@ fn push_place(values: &mut Listed<Value>, arrays: &[Array], op: &Op) -> Result<(
             Ok(())
         }
         _ => Ok(()),
-    }
-}
-
-/// Whether an array is one of the function's own.
-fn is_local(arrays: &[Array], array: ArrayId) -> bool
-    ensures { result ≡ is_local arrays.now array }
-{
-    match arrays.get(array as usize) {
-        Some(found) => !found.global,
-        None => false,
     }
 }

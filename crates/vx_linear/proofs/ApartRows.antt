@@ -23,7 +23,7 @@ use Rattle.vx_linear.specs.InOrder.{state_before, Touches, Apart}
 use Rattle.vx_linear.proofs.Apart.{never_law}
 
 abbrev array : Array
-array = record { words = 16; global = true; named = 0 }
+array = record { words = 16; global = true; named = 0; base = None }
 
 abbrev trace : List TraceOp → List Join → Trace
 trace ops joins = record { function = 0; blocks = 0 ∷ []; ops = ops; fixed = []; joins = joins; values = 10; arrays = array ∷ [] }

@@ -13,6 +13,7 @@ pub mod Stands
 pub mod Indices
 pub mod Apart
 pub mod ApartRows
+mod GivenRows
 pub mod Moved
 pub mod Merging
 pub mod Writing

@@ -1,10 +1,12 @@
--- Two forms of one array name no common word exactly where the power of 2 does not divide their constants' difference.
-use Rattle.std.proofs.Common.{◌≡◌, ◌⊎◌, inl, inr, ℕ, ◌+◌, ◌*◌, ◌/◌, ◌%◌, ◌^◌, sym, ◌∙◌, ap, arith, true, ℤ, pos, negsuc, ◌+ℤ◌, ◌-ℤ◌, ◌*ℤ◌}
+-- Two forms whose arrays are not apart name no common word exactly where the power of 2 does not divide their constants' difference.
+use Rattle.std.proofs.Common.{◌≡◌, ◌⊎◌, inl, inr, ℕ, ◌+◌, ◌*◌, ◌/◌, ◌%◌, ◌^◌, sym, ◌∙◌, ap, arith, true, false, ℤ, pos, negsuc, ◌+ℤ◌, ◌-ℤ◌, ◌*ℤ◌}
+use Rattle.std.proofs.lemmas.Bool.{false≢true}
 use Rattle.std.proofs.lemmas.Int.{ints}
 use Rattle.std.proofs.lemmas.Nat.{div-add-mod'}
 use Rattle.std.proofs.Math.IntN.{pos-*ℤ-pos, negsuc-*ℤ-pos, *ℤ_comm}
 use Rattle.std.proofs.Math.Nat.{mul-mod_left}
 use Rattle.vx_base.specs.Arithmetic.{unsigned, difference_of}
+use Rattle.vx_flow.specs.Apart.{are_apart}
 use Rattle.vx_linear.specs.declared.form.Symbol.{Symbol}
 use Rattle.vx_linear.specs.declared.form.Form.{Form}
 use Rattle.vx_linear.specs.Forms.{sum_at, Meet, NeverSame, is_ordered}
@@ -83,9 +85,9 @@ module _ (a b : Form) (g : ℕ) (steps : Steps a.terms b.terms (2 ^ 30) g) where
             },
           )
 
-  pub not_never_by : is_ordered a.terms ≡ true → is_ordered b.terms ≡ true → a.array.named ≡ b.array.named → apart % g ≡ 0 → NeverSame a b → ⊥
-  not_never_by oa ob same h (inl two) = two same
-  not_never_by oa ob same h (inr never) = by (reached steps oa ob)
+  pub not_never_by : is_ordered a.terms ≡ true → is_ordered b.terms ≡ true → are_apart a.array b.array ≡ false → apart % g ≡ 0 → NeverSame a b → ⊥
+  not_never_by oa ob meet h (inl two) = false≢true (sym meet ∙ two)
+  not_never_by oa ob meet h (inr never) = by (reached steps oa ob)
     where
       by : (g ≡ 2 ^ 30) ⊎ Reached a.terms b.terms g → ⊥
       by (inl e) = never (λ x. pos 0) (meet_without e h)

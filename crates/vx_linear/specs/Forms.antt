@@ -26,8 +26,10 @@ pub record Meet (s : Symbol → ℤ) (a b : Form) : Type 0 where
 abbrev pub NeverSame : Form → Form → Type 0
 NeverSame a b = AreApart a.array b.array ⊎ ((s : Symbol → ℤ) → Meet s a b → ⊥)
 
--- the same array, and equal forms
+-- the same array, and equal forms. The number alone is not enough: of two arrays of one number, one with a base and one the
+-- function's own, the law above says that they are apart, and no answer may be both
 pub record AlwaysSame (a b : Form) : Type 0 where
+  pub together : AreApart a.array b.array → ⊥
   pub array : a.array.named ≡ b.array.named
   pub constant : a.constant ≡ b.constant
   pub terms : a.terms ≡ b.terms

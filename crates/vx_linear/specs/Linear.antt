@@ -1,9 +1,10 @@
 -- Sums of symbols with factors, modulo 2 ^ 32.
-use Rattle.std.specs.Prelude.{ℤ, pos, negsuc, Bool, true, false, ◌&&◌, if◌then◌else◌, List, [], ◌∷◌}
+use Rattle.std.specs.Prelude.{ℤ, pos, negsuc, Bool, true, false, ◌&&◌, ◌==◌, if◌then◌else◌, List, [], ◌∷◌}
 use Rattle.std.specs.Ordering.{int_eq}
 use Rattle.vx_base.specs.Arithmetic.{sum_of, product_of}
 use Rattle.vx_linear.specs.declared.form.Symbol.{Symbol}
 use Rattle.vx_linear.specs.declared.form.Term.{Term}
+use Rattle.vx_linear.specs.declared.form.Form.{Form}
 use Rattle.vx_linear.specs.declared.linear.Linear.{Linear}
 use Rattle.vx_linear.specs.Forms.{is_before, is_same}
 
@@ -54,3 +55,7 @@ same_terms (t ∷ ts) (u ∷ us) = (is_same t.symbol u.symbol && int_eq t.factor
 
 abbrev pub same : Linear → Linear → Bool
 same a b = int_eq a.constant b.constant && same_terms a.terms b.terms
+
+-- so are the numbers of their arrays and all else of two forms
+abbrev pub are_equal : Form → Form → Bool
+are_equal a b = (a.array.named == b.array.named) && int_eq a.constant b.constant && same_terms a.terms b.terms

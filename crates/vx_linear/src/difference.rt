@@ -2,20 +2,21 @@
 // difference. The indices of the two differ by the difference of the constants and some multiple of that power, and by
 // every such number for some numbers of the symbols, since an odd number has an inverse modulo 2^30.
 
-ghost use Rattle.std.specs.Prelude.{◌≡◌, ◌↔◌, ◌^◌, ◌%◌, ◌&&◌, true, nat_eq};
-ghost use Rattle.std.specs.Ordering.{int_eq};
+ghost use Rattle.std.specs.Prelude.{◌≡◌, ◌↔◌, ◌^◌, ◌%◌, true, nat_eq};
 ghost use Rattle.vx_base.specs.Arithmetic.{IsNumber, unsigned, difference_of};
 ghost use Rattle.vx_linear.specs.Forms.{NeverSame, AlwaysSame, is_ordered};
-ghost use Rattle.vx_linear.specs.Linear.{same_terms};
+ghost use Rattle.vx_linear.specs.Linear.{are_equal, same_terms};
 ghost use Rattle.vx_linear.specs.Steps.{IsStep, Narrows, Steps};
 
 use crate::form::{Form, Term};
 use crate::linear::have_equal_terms;
 use vx_arithmetic::{sub32, unsigned32};
 use vx_base::answer::Answer;
+use vx_flow::arrays::are_apart;
 
 /// Whether two accesses name one word: never, exactly where their arrays are apart or no numbers of the symbols make both
-/// places equal; always, exactly where the array is one and the forms are equal. The terms of both must ascend by their
+/// places equal; always, exactly where the array is one and the forms are equal. Where two arrays were handed over, or one of
+/// them and the other is a global, they may be one array, and the indices alone tell. The terms of both must ascend by their
 /// symbols, each symbol once and with a factor other than 0.
 pub fn differs(left: &Form, right: &Form) -> Answer
     requires left { is_ordered left.now.terms ≡ true }
@@ -23,7 +24,7 @@ pub fn differs(left: &Form, right: &Form) -> Answer
     ensures never { (result ≡ Answer.Never) ↔ NeverSame left.now right.now }
     ensures always { (result ≡ Answer.Always) ↔ AlwaysSame left.now right.now }
 {
-    if left.array.named != right.array.named {
+    if are_apart(&left.array, &right.array) {
         return Answer::Never;
     }
     if are_equal(left, right) {
@@ -37,11 +38,12 @@ pub fn differs(left: &Form, right: &Form) -> Answer
     }
 }
 
-/// Whether the constants and the terms are equal.
+/// Whether the numbers of the arrays, the constants and the terms are equal.
 fn are_equal(left: &Form, right: &Form) -> bool
-    ensures { result ≡ (int_eq left.now.constant right.now.constant && same_terms left.now.terms right.now.terms) }
+    ensures { result ≡ are_equal left.now right.now }
 {
-    left.constant == right.constant
+    left.array.named == right.array.named
+        && left.constant == right.constant
         && have_equal_terms(left.terms.as_slice(), right.terms.as_slice())
 }
 

@@ -5,7 +5,6 @@ ghost use Rattle.vx_linear.specs.InOrder.{NeverLaw};
 /// Two accesses of a trace whose forms never name one word touch no common word of memory, whatever the values, the
 /// memory and the input are when the trace begins, and also where it begins at one of its joins. The forms are those of
 /// `forms`, and `differs` tells where they never name one word.
-#[tactic(auto, using(crate::proofs::Apart::never_law))]
 pub fn never_touch_one_word()
     ensures { NeverLaw }
 {}

@@ -3,7 +3,6 @@
 ghost use Rattle.std.specs.Prelude.{◌≡◌, ◌+◌, ◌^◌, ◌<◌, ◌≤◌, ℕ, Some, IfOk, slice_get, OnOk};
 ghost use Rattle.vx_linear.specs.Forms.{AreOrdered};
 ghost use Rattle.vx_linear.specs.Followed.{made, known, index_of, index_made, access_form, form_at, above_of, forms_of};
-ghost use Rattle.vx_flow.specs.Apart.{array_in};
 ghost use Rattle.vx_linear.specs.Writers.{writer, has_join, made_at, index_there};
 ghost use Rattle.vx_linear.specs.Passed.{Passes, JoinsAre};
 
@@ -16,7 +15,8 @@ use std::alloc::{AllocError, Global};
 use vx_arithmetic::div32;
 use vx_base::listed::Listed;
 use vx_base::outcome::NoMemory;
-use vx_flow::graph::{Array, ArrayId, Op, Operand, Value};
+use vx_flow::arrays::array_in;
+use vx_flow::graph::{ArrayId, Op, Operand, Value};
 use vx_flow::trace::{Trace, TraceOp};
 
 /// The form of the operation at a place, behind which that operation is passed.
@@ -269,24 +269,6 @@ fn index(
         Operand::Number(number) => Ok(constant(alloc, div32(*number, 4))),
         Operand::Stack => Ok(constant(alloc, 0)),
         Operand::Held(value) => index_value(alloc, trace, passed, place, *value),
-    }
-}
-
-/// The array of an access, told apart by its number.
-fn array_in(arrays: &[Array], array: ArrayId) -> Array
-    ensures { result ≡ array_in arrays.now array }
-{
-    match arrays.get(array as usize) {
-        Some(found) => Array {
-            words: found.words,
-            global: found.global,
-            named: array,
-        },
-        None => Array {
-            words: 0,
-            global: false,
-            named: array,
-        },
     }
 }
 

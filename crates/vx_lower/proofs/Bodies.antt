@@ -39,13 +39,13 @@ pub length_numbers : (first n : ℕ) → length (numbers_from first n) ≡ n
 length_numbers first zero = refl
 length_numbers first (suc n) = ap suc (length_numbers (suc first) n)
 
-pub arrays_more : (globals place : ℕ) (ns : List ℕ) (n : ℕ) → arrays_from globals place (ns ++ n ∷ []) ≡ arrays_from globals place ns ++ record { words = n; global = nat_lt (place + length ns) globals; named = place + length ns } ∷ []
+pub arrays_more : (globals place : ℕ) (ns : List ℕ) (n : ℕ) → arrays_from globals place (ns ++ n ∷ []) ≡ arrays_from globals place ns ++ record { words = n; global = nat_lt (place + length ns) globals; named = place + length ns; base = None } ∷ []
 arrays_more globals place [] n =
     let e : place ≡ place + 0 = omega arith in
-    ap (λ m. let a : Array = record { words = n; global = nat_lt m globals; named = m } in a ∷ []) e
+    ap (λ m. let a : Array = record { words = n; global = nat_lt m globals; named = m; base = None } in a ∷ []) e
 arrays_more globals place (m ∷ ns) n =
     let e : suc place + length ns ≡ place + suc (length ns) = omega arith in
-    ap (λ z. let a : Array = record { words = m; global = nat_lt place globals; named = place } in a ∷ z) (arrays_more globals (suc place) ns n ∙ ap (λ k. let a : Array = record { words = n; global = nat_lt k globals; named = k } in arrays_from globals (suc place) ns ++ a ∷ []) e)
+    ap (λ z. let a : Array = record { words = m; global = nat_lt place globals; named = place; base = None } in a ∷ z) (arrays_more globals (suc place) ns n ∙ ap (λ k. let a : Array = record { words = n; global = nat_lt k globals; named = k; base = None } in arrays_from globals (suc place) ns ++ a ∷ []) e)
 
 pub length_arrays : (globals place : ℕ) (ns : List ℕ) → length (arrays_from globals place ns) ≡ length ns
 length_arrays globals place [] = refl
@@ -54,7 +54,7 @@ length_arrays globals place (n ∷ ns) = ap suc (length_arrays globals (suc plac
 pub arrays_named : (globals place : ℕ) (ns : List ℕ) (a : ℕ) (array : Array) → slice_get (arrays_from globals place ns) a ≡ Some array → array.named ≡ place + a
 arrays_named globals place [] a array e = absurd (cc)
 arrays_named globals place (n ∷ ns) zero array e =
-    let first : Array = record { words = n; global = nat_lt place globals; named = place } in
+    let first : Array = record { words = n; global = nat_lt place globals; named = place; base = None } in
     let is : Some first ≡ Some array = e in
     let same : first ≡ array = cc in
     let h : place ≡ place + 0 = omega arith in
@@ -72,14 +72,14 @@ any_default [] i d e h = absurd (omega arith)
 any_default (n ∷ ns) zero d e h = refl
 any_default (n ∷ ns) (suc i) d e h = any_default ns i d e (omega arith)
 
-pub arrays_step : (globals place : ℕ) (ns : List ℕ) (i n : ℕ) (arrays more : List Array) → i < length ns → n ≡ get_or ns i 0 → arrays ≡ arrays_from globals 0 (take i ns) → place ≡ length arrays → more ≡ arrays ++ record { words = n; global = nat_lt place globals; named = place } ∷ [] → more ≡ arrays_from globals 0 (take (i + 1) ns)
+pub arrays_step : (globals place : ℕ) (ns : List ℕ) (i n : ℕ) (arrays more : List Array) → i < length ns → n ≡ get_or ns i 0 → arrays ≡ arrays_from globals 0 (take i ns) → place ≡ length arrays → more ≡ arrays ++ record { words = n; global = nat_lt place globals; named = place; base = None } ∷ [] → more ≡ arrays_from globals 0 (take (i + 1) ns)
 arrays_step globals place ns i n arrays more h en ea ep em =
     let k = length_arrays globals 0 (take i ns) in
     let l = ap length ea in
     let at : place ≡ 0 + length (take i ns) = omega arith in
     em
-    ∙ ap (λ z. let a : Array = record { words = n; global = nat_lt place globals; named = place } in z ++ a ∷ []) ea
-    ∙ ap (λ m. let a : Array = record { words = n; global = nat_lt m globals; named = m } in arrays_from globals 0 (take i ns) ++ a ∷ []) at
+    ∙ ap (λ z. let a : Array = record { words = n; global = nat_lt place globals; named = place; base = None } in z ++ a ∷ []) ea
+    ∙ ap (λ m. let a : Array = record { words = n; global = nat_lt m globals; named = m; base = None } in arrays_from globals 0 (take i ns) ++ a ∷ []) at
     ∙ sym (arrays_more globals 0 (take i ns) n)
     ∙ ap (arrays_from globals 0) (sym (take_next ns i n h (en ∙ any_default ns i 0 n h)))
 

@@ -16,7 +16,7 @@ use Rattle.vx_flow.specs.declared.graph.Op.{Op}
 use Rattle.vx_flow.specs.declared.graph.Block.{Block}
 use Rattle.vx_flow.specs.declared.graph.Graph.{Graph}
 use Rattle.vx_flow.specs.Effects.{IsIn}
-use Rattle.vx_flow.specs.Sound.{are_distinct, begins_with}
+use Rattle.vx_flow.specs.Sound.{are_distinct, is_own_array, begins_with}
 use Rattle.vx_flow.proofs.SoundLists.{all_of, differs_of, not_of}
 use Rattle.vx_lower.specs.FlowOf.{is_general, is_branch}
 use Rattle.vx_lower.specs.Builds.{closed}
@@ -104,9 +104,9 @@ numbers_distinct first (suc n) = both_true (all_of (λ u. not (u == first)) (num
 
 -- arrays
 
-none_global : (total place : ℕ) (own : List ℕ) → total ≤ place → list_all (λ array. not array.global) (arrays_from total place own) ≡ true
+none_global : (total place : ℕ) (own : List ℕ) → total ≤ place → list_all is_own_array (arrays_from total place own) ≡ true
 none_global total place [] h = refl
-none_global total place (n ∷ own) h = both_true (not_of (nat_lt place total) (λ e. let l = ltb-true place total e in omega arith)) (none_global total (suc place) own (omega arith))
+none_global total place (n ∷ own) h = both_true (both_true (not_of (nat_lt place total) (λ e. let l = ltb-true place total e in omega arith)) refl) (none_global total (suc place) own (omega arith))
 
 size_is : (v : GlobalVariable) → global_words v ≡ (global_of v).words
 size_is (ScalarGlobal z) = refl
@@ -116,7 +116,7 @@ globals_first : (gs : List GlobalVariable) (total place : ℕ) (own : List ℕ) 
 globals_first [] total place own e = none_global total place own (omega arith)
 globals_first (v ∷ gs) total place own e =
     let l : length (v ∷ gs) ≡ suc (length gs) = refl in
-    both_true (both_true (lt-ltb place total (omega arith)) (eq-eqb (global_words v) (global_of v).words (size_is v))) (globals_first gs total (suc place) own (omega arith))
+    both_true (both_true (both_true (lt-ltb place total (omega arith)) (eq-eqb (global_words v) (global_of v).words (size_is v))) refl) (globals_first gs total (suc place) own (omega arith))
 
 pub graph_well : (p : Program) (f : Function) (words : List ℕ) (b : Builder) (g : Graph) (after : List (List ℕ)) → words ≡ words_seen p f → g.parameters ≡ numbers_from 0 f.parameters → g.arrays ≡ arrays_from (length p.globals) 0 words → g.banks ≡ b.banks → BodyWell f b after → Settled b.blocks g.blocks → GraphWell p f g after
 graph_well p f words b g after ew ep ea eb body settled is =

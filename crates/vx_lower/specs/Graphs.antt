@@ -29,7 +29,7 @@ back_with_zero = Return (Number (pos 0))
 -- the arrays of these words, each named by its place from a first one on; those before the last global are globals
 abbrev pub arrays_from : (globals place : ℕ) → List ℕ → List Array
 arrays_from globals place [] = []
-arrays_from globals place (n ∷ ns) = record { words = n; global = nat_lt place globals; named = place } ∷ arrays_from globals (suc place) ns
+arrays_from globals place (n ∷ ns) = record { words = n; global = nat_lt place globals; named = place; base = None } ∷ arrays_from globals (suc place) ns
 
 -- what a function's body names is there
 abbrev pub FunctionWithin : Function → Type 0

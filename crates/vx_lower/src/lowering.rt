@@ -68,6 +68,7 @@ fn arrays_of(alloc: Heap, words: &[u32], globals: usize) -> Result<Listed<Array>
             words: *n,
             global: place < globals,
             named: place as u32,
+            base: None,
         })?;
     }
     Ok(arrays)

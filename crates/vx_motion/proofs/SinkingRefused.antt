@@ -6,6 +6,7 @@ use Rattle.vx_flow.specs.Effects.{State, Setting, with_value}
 use Rattle.vx_flow.specs.declared.graph.Operand.TheVariants.{Held}
 use Rattle.vx_flow.specs.declared.graph.Exit.TheVariants.{Return}
 use Rattle.vx_flow.specs.Meaning.{Hop, Arrives, Wrong}
+use Rattle.vx_flow.proofs.Apart.{itself_apart}
 use Rattle.vx_mixed.specs.Meaning.{hop}
 use Rattle.vx_mixed.specs.Agree.{Segment, last, on, EndsAt, Agree, Alike}
 use Rattle.vx_mixed.specs.Live.{Live, here, through_block}
@@ -55,5 +56,5 @@ from_zero u h e (on {from = p} {to = q} {t = t} r inner rest) a =
 pub refused : RefusedWithoutCopy
 refused same =
     let agree : Agree (Live old 0) s s = record { world = record { arrays = refl; input = refl; out = refl }; values = λ v n l e. e } in
-    let r = same.leads setting (1 ∷ []) (1 ∷ []) 0 0 s s (Arrives 0 2 (with_value s 1 (Some six))) (λ a b same. same) (λ e. let z : 1 ∷ [] ≡ [] = e in cc) (λ e. let z : 1 ∷ [] ≡ [] = e in cc) refl agree (last refl refl) (λ (e : Arrives 0 2 (with_value s 1 (Some six)) ≡ Wrong). cc) in
+    let r = same.leads setting (1 ∷ []) (1 ∷ []) 0 0 s s (Arrives 0 2 (with_value s 1 (Some six))) (itself_apart old.arrays) (λ e. let z : 1 ∷ [] ≡ [] = e in cc) (λ e. let z : 1 ∷ [] ≡ [] = e in cc) refl agree (last refl refl) (λ (e : Arrives 0 2 (with_value s 1 (Some six)) ≡ Wrong). cc) in
     from_zero s r.0 refl r.1 r.2

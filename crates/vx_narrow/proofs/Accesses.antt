@@ -1,18 +1,20 @@
 -- What is known of places and words of arrays holds behind each operation, and a load of a known word is a move.
-use Rattle.std.proofs.Common.{◌≡◌, ℕ, ◌==◌, Bool, true, false, cond, ◌&&◌, ◌||◌, ℤ, List, [], ◌∷◌, ◌++◌, length, slice_index_or, Option, Some, None, refl, sym, ap, ◌∙◌, subst}
+use Rattle.std.proofs.Common.{◌≡◌, ℕ, ◌==◌, Bool, true, false, cond, not, ◌&&◌, ◌||◌, ℤ, List, [], ◌∷◌, ◌++◌, length, slice_index_or, Option, Some, None, refl, sym, ap, ◌∙◌, subst}
 use Rattle.std.specs.Fmt.{signed_decimal}
-use Rattle.std.proofs.lemmas.Bool.{eqb-true, eq-eqb, false≢true}
+use Rattle.std.proofs.lemmas.Bool.{eqb-true, eq-eqb}
 use Rattle.vx_base.specs.Arithmetic.{one_if}
 use Rattle.vx_flow.specs.declared.graph.Operand.{Operand}
 use Rattle.vx_flow.specs.declared.graph.Operand.TheVariants.{Held, Number, Stack}
+use Rattle.vx_flow.specs.declared.graph.Array.{Array}
 use Rattle.vx_flow.specs.declared.graph.Op.{Op}
 use Rattle.vx_flow.specs.declared.graph.Op.TheVariants.{Compute, Select, Place, Load, Store, More, Input, Text, Decimal, Across}
+use Rattle.vx_flow.specs.Apart.{array_in, are_apart, may_meet, StandApart}
 use Rattle.vx_flow.specs.Effects.{Content, State, Setting, held, computed, chosen, is_left, place_of, row_of, cell_in, cell_of, loaded, next_input, printed, text_at, with_value, with_cell, effect}
 use Rattle.vx_flow.specs.Sound.{is_value}
 use Rattle.vx_claims.specs.declared.access.Access.{Access}
 use Rattle.vx_claims.specs.declared.access.Access.TheVariants.{Placed, Stored}
 use Rattle.vx_claims.specs.Facts.{AllHold, same_operand}
-use Rattle.vx_claims.specs.Accesses.{HoldsWord, Tells, AllTell, SpotsDiffer, same_access, is_told, tell, mentions, unless, unmentioned, touches, untouched, accessed, value_if, first_or, place_in, held_if, word_in, moved_from, place_known}
+use Rattle.vx_claims.specs.Accesses.{HoldsWord, Tells, AllTell, same_access, is_told, tell, mentions, unless, unmentioned, touches, untouched, accessed, value_if, first_or, place_in, held_if, word_in, moved_from, place_known}
 use Rattle.vx_narrow.proofs.Ranges.{and_one, and_two}
 use Rattle.vx_narrow.proofs.Equal.{operand_is}
 use Rattle.vx_narrow.proofs.Operations.{or_one, or_two}
@@ -91,22 +93,30 @@ loaded_tell setting s t v a p (Some i) d xs h q e =
 
 -- ---- a word that is written
 
-module _ (setting : Setting) (differ : SpotsDiffer setting) (s t : State) (a : ℕ) (p x : Operand) (done : effect setting s (Store a p x) s ≡ Some t) where
-  stay_untouched : (y : Access) → touches a y ≡ false → Tells setting s y → Tells setting t y
+module _ (arrays : List Array) (setting : Setting) (apart : StandApart arrays setting.spot) (s t : State) (a : ℕ) (p x : Operand) (done : effect setting s (Store a p x) s ≡ Some t) where
+  -- a word of an array that shares none with the one that is stored to holds what it held
+  word_stays : (b : ℕ) (q y : Operand) → may_meet arrays a b ≡ false → HoldsWord setting s b q y → HoldsWord setting t b q y
+  word_stays b q y e h =
+      let w = stored_is s t (setting.spot a) (cell_of setting s a p) (held s x) done in
+      subst (λ (u : State). HoldsWord setting u b q y) w.4 (other_array setting s a w.0 (Some w.1) b q y (apart a b (not_met (are_apart (array_in arrays a) (array_in arrays b)) e)) h)
+    where
+      not_met : (t : Bool) → not t ≡ false → t ≡ true
+      not_met true z = refl
+      not_met false z = absurd (cc)
+
+  stay_untouched : (y : Access) → touches arrays a y ≡ false → Tells setting s y → Tells setting t y
   stay_untouched (Placed v b i) e h =
       let w = stored_is s t (setting.spot a) (cell_of setting s a p) (held s x) done in
       let u : State = with_cell s (setting.spot a) w.0 (Some w.1) in
       let place : Tells setting u (Placed v b i) = h ∙ sym (ap place_of (held_same s u i refl)) in
       subst (λ (r : State). Tells setting r (Placed v b i)) w.4 place
-  stay_untouched (Stored b q y) e h =
-      let w = stored_is s t (setting.spot a) (cell_of setting s a p) (held s x) done in
-      subst (λ (u : State). HoldsWord setting u b q y) w.4 (other_array setting s a w.0 (Some w.1) b q y (λ same. false≢true (sym e ∙ eq-eqb b a (sym (differ a b same)))) h)
+  stay_untouched (Stored b q y) e h = word_stays b q y e h
 
-  untouched_tell : (xs : List Access) → AllTell setting s xs → AllTell setting t (untouched a xs)
+  untouched_tell : (xs : List Access) → AllTell setting s xs → AllTell setting t (untouched arrays a xs)
   untouched_tell [] h = tt
-  untouched_tell (y ∷ ys) h = unless_tells setting t (touches a y) y (untouched a ys) (λ e. stay_untouched y e h.0) (untouched_tell ys h.1)
+  untouched_tell (y ∷ ys) h = unless_tells setting t (touches arrays a y) y (untouched arrays a ys) (λ e. stay_untouched y e h.0) (untouched_tell ys h.1)
 
-  stored_tell : (xs : List Access) → AllTell setting s xs → AllTell setting t (Stored a p x ∷ untouched a xs)
+  stored_tell : (xs : List Access) → AllTell setting s xs → AllTell setting t (Stored a p x ∷ untouched arrays a xs)
   stored_tell xs h = (store_new setting s t a p x done, untouched_tell xs h)
 
 -- ---- each operation
@@ -134,22 +144,22 @@ printed_tell setting s t (Some n) xs h e =
     let u : State = record s { out = s.out ++ signed_decimal n } in
     subst (λ (r : State). AllTell setting r xs) (some_is u t e) (same_tell setting s u refl refl xs h)
 
-pub accessed_tell : (setting : Setting) → SpotsDiffer setting → (s t : State) (op : Op) (xs : List Access) → AllTell setting s xs → effect setting s op s ≡ Some t → AllTell setting t (accessed xs op)
-accessed_tell setting differ s t (Compute code v a b) xs h e = written_tell setting s t v (computed code (held s a) (held s b)) xs h e
-accessed_tell setting differ s t (Select v p a b) xs h e = written_tell setting s t v (chosen (s.values p) (held s a) (held s b)) xs h e
-accessed_tell setting differ s t (Place v a i) xs h e =
+pub accessed_tell : (arrays : List Array) (setting : Setting) → StandApart arrays setting.spot → (s t : State) (op : Op) (xs : List Access) → AllTell setting s xs → effect setting s op s ≡ Some t → AllTell setting t (accessed arrays xs op)
+accessed_tell arrays setting apart s t (Compute code v a b) xs h e = written_tell setting s t v (computed code (held s a) (held s b)) xs h e
+accessed_tell arrays setting apart s t (Select v p a b) xs h e = written_tell setting s t v (chosen (s.values p) (held s a) (held s b)) xs h e
+accessed_tell arrays setting apart s t (Place v a i) xs h e =
     let c : Content = place_of (held s i) in
     subst (λ (u : State). AllTell setting u (unless (is_value v i) (Placed v a i) (unmentioned v xs))) (some_is (with_value s v c) t e)
     (unless_tells setting (with_value s v c) (is_value v i) (Placed v a i) (unmentioned v xs) (wrote_place setting s v c a i refl) (wrote_tell setting s v c xs h))
-accessed_tell setting differ s t (Load v a p d) xs h e = loaded_tell setting s t v a p (cell_of setting s a p) d xs h refl e
-accessed_tell setting differ s t (Store a p x) xs h e = stored_tell setting differ s t a p x e xs h
-accessed_tell setting differ s t (More v) xs h e = written_tell setting s t v (Some (one_if (is_left s.input))) xs h e
-accessed_tell setting differ s t (Input v) xs h e = input_tell setting s t v s.input xs h e
-accessed_tell setting differ s t (Text n) xs h e =
+accessed_tell arrays setting apart s t (Load v a p d) xs h e = loaded_tell setting s t v a p (cell_of setting s a p) d xs h refl e
+accessed_tell arrays setting apart s t (Store a p x) xs h e = stored_tell arrays setting apart s t a p x e xs h
+accessed_tell arrays setting apart s t (More v) xs h e = written_tell setting s t v (Some (one_if (is_left s.input))) xs h e
+accessed_tell arrays setting apart s t (Input v) xs h e = input_tell setting s t v s.input xs h e
+accessed_tell arrays setting apart s t (Text n) xs h e =
     let u : State = record s { out = s.out ++ text_at setting n } in
     subst (λ (r : State). AllTell setting r xs) (some_is u t e) (same_tell setting s u refl refl xs h)
-accessed_tell setting differ s t (Decimal x) xs h e = printed_tell setting s t (held s x) xs h e
-accessed_tell setting differ s t (Across v w) xs h e = written_tell setting s t v (s.values w) xs h e
+accessed_tell arrays setting apart s t (Decimal x) xs h e = printed_tell setting s t (held s x) xs h e
+accessed_tell arrays setting apart s t (Across v w) xs h e = written_tell setting s t v (s.values w) xs h e
 
 -- ---- loads
 

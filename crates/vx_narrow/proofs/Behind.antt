@@ -3,8 +3,10 @@ use Rattle.std.proofs.Common.{◌≡◌, ◌⊎◌, inl, inr, ℕ, zero, suc, �
 use Rattle.vx_base.specs.declared.arithmetic.Code.TheVariants.{Mov}
 use Rattle.vx_flow.specs.declared.graph.Operand.{Operand}
 use Rattle.vx_flow.specs.declared.graph.Operand.TheVariants.{Number}
+use Rattle.vx_flow.specs.declared.graph.Array.{Array}
 use Rattle.vx_flow.specs.declared.graph.Op.{Op}
 use Rattle.vx_flow.specs.declared.graph.Op.TheVariants.{Compute, Place, Load}
+use Rattle.vx_flow.specs.Apart.{StandApart}
 use Rattle.vx_flow.specs.Effects.{Content, State, Setting, held, row_of, cell_of, loaded, with_value, effect}
 use Rattle.vx_flow.specs.Sound.{is_value}
 use Rattle.vx_claims.specs.declared.intervals.Interval.{Interval}
@@ -15,7 +17,7 @@ use Rattle.vx_claims.specs.declared.fact.Fact.{Fact}
 use Rattle.vx_claims.specs.declared.fact.Fact.TheVariants.{Between, Congruent, Equals, Never}
 use Rattle.vx_claims.specs.Facts.{full, Within, AllHold, range_of, times_if, computed_within, computed_residue, without, equals_if, is_full, is_single, between_unless, congruent_unless, agrees_in, after}
 use Rattle.vx_narrow.specs.Checking.{has_numbers}
-use Rattle.vx_claims.specs.Accesses.{HoldsWord, AllTell, SpotsDiffer, accessed, word_in, moved_or, with_words, place_known}
+use Rattle.vx_claims.specs.Accesses.{HoldsWord, AllTell, accessed, word_in, moved_or, with_words, place_known}
 use Rattle.vx_claims.specs.Forming.{formed, form, same_form, is_test, facts_if, said_unless, most_equals, newest, after_known}
 use Rattle.vx_narrow.proofs.Tests.{append_holds}
 use Rattle.vx_narrow.proofs.Operations.{Good, Keeps, OpFits, StateFit, numbers_fit, number_fits, op_good, held_is}
@@ -113,14 +115,14 @@ abbrev pub KeepsKnown : Setting → List Fact → List Access → Option State �
 KeepsKnown setting fs xs None = Unit {0}
 KeepsKnown setting fs xs (Some t) = Known setting fs xs t
 
-pub form_known : (setting : Setting) → SpotsDiffer setting → (s : State) (fs : List Fact) (xs : List Access) (op : Op) → has_numbers op ≡ true → Known setting fs xs s →
-    KeepsKnown setting (after_known fs xs op (form fs xs op)) (accessed xs (form fs xs op)) (effect setting s op s)
-form_known setting differ s fs xs op n k = by (form_follows setting s fs xs op n k.good k.tell)
+pub form_known : (arrays : List Array) (setting : Setting) → StandApart arrays setting.spot → (s : State) (fs : List Fact) (xs : List Access) (op : Op) → has_numbers op ≡ true → Known setting fs xs s →
+    KeepsKnown setting (after_known fs xs op (form fs xs op)) (accessed arrays xs (form fs xs op)) (effect setting s op s)
+form_known arrays setting apart s fs xs op n k = by (form_follows setting s fs xs op n k.good k.tell)
   where
     op' : Op
     op' = form fs xs op
 
-    step : (o : Option State) → effect setting s op' s ≡ o → Keeps (after fs op') o → Keeps (after fs op) o → KeepsKnown setting (after_known fs xs op op') (accessed xs op') o
+    step : (o : Option State) → effect setting s op' s ≡ o → Keeps (after fs op') o → Keeps (after fs op) o → KeepsKnown setting (after_known fs xs op op') (accessed arrays xs op') o
     step None e q r = tt
     step (Some t) e q r = record {
       good = record {
@@ -129,14 +131,14 @@ form_known setting differ s fs xs op n k = by (form_follows setting s fs xs op n
             (append_holds t.values (said_unless (same_form op op') fs op) (after fs op') (said_holds t.values (same_form op op') fs op r.facts) q.facts));
         fits = q.fits;
       };
-      tell = accessed_tell setting differ s t op' xs k.tell e;
+      tell = accessed_tell arrays setting apart s t op' xs k.tell e;
     }
 
-    by : Follows setting s op op' → KeepsKnown setting (after_known fs xs op op') (accessed xs op') (effect setting s op s)
-    by (inl e) = subst (KeepsKnown setting (after_known fs xs op op') (accessed xs op')) (sym e) tt
+    by : Follows setting s op op' → KeepsKnown setting (after_known fs xs op op') (accessed arrays xs op') (effect setting s op s)
+    by (inl e) = subst (KeepsKnown setting (after_known fs xs op op') (accessed arrays xs op')) (sym e) tt
     by (inr e) =
         let old : Keeps (after fs op) (effect setting s op s) = op_good setting s fs op (numbers_fit s.values op k.good.fits.values n) k.good in
-        subst (KeepsKnown setting (after_known fs xs op op') (accessed xs op')) e.0
+        subst (KeepsKnown setting (after_known fs xs op op') (accessed arrays xs op')) e.0
         (step (effect setting s op' s) refl (op_good setting s fs op' e.1 k.good) (subst (Keeps (after fs op)) (sym e.0) old))
 
 -- what a claim says

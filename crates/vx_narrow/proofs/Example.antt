@@ -7,6 +7,7 @@ use Rattle.vx_base.specs.Arithmetic.{compare_of, sum_of, difference_of, product_
 use Rattle.vx_flow.specs.Effects.{computed}
 use Rattle.vx_flow.specs.declared.graph.Operand.{Operand}
 use Rattle.vx_flow.specs.declared.graph.Operand.TheVariants.{Held, Number}
+use Rattle.vx_flow.specs.declared.graph.Array.{Array}
 use Rattle.vx_flow.specs.declared.graph.Op.{Op}
 use Rattle.vx_flow.specs.declared.graph.Op.TheVariants.{Compute, Place, Load, Store}
 use Rattle.vx_flow.specs.declared.graph.Exit.TheVariants.{Goto, Split, Call}
@@ -52,19 +53,19 @@ at_start claims b = of_facts (claims b)
 abbrev nothing_given : ℕ → List Interval
 nothing_given f = []
 
-one : is_block_checked nothing_given (at_start claims) 0 begins ≡ true
+one : is_block_checked [] nothing_given (at_start claims) 0 begins ≡ true
 one = refl
 
-two : is_block_checked nothing_given (at_start claims) 1 tests ≡ true
+two : is_block_checked [] nothing_given (at_start claims) 1 tests ≡ true
 two = refl
 
-three : is_block_checked nothing_given (at_start claims) 2 checks ≡ true
+three : is_block_checked [] nothing_given (at_start claims) 2 checks ≡ true
 three = refl
 
-four : is_block_checked nothing_given (at_start claims) 4 steps ≡ true
+four : is_block_checked [] nothing_given (at_start claims) 4 steps ≡ true
 four = refl
 
-gone : decided (after_all (of_facts (claims 2)) checks.ops) 2 ≡ Some true
+gone : decided (after_all [] (of_facts (claims 2)) checks.ops) 2 ≡ Some true
 gone = refl
 
 -- what is not so
@@ -78,7 +79,7 @@ wide (suc (suc (suc (suc zero)))) = Between 0 (record { low = pos 0; high = pos 
 wide (suc (suc (suc (suc (suc zero))))) = []
 wide (suc (suc (suc (suc (suc (suc b)))))) = []
 
-five : is_block_checked nothing_given (at_start wide) 4 steps ≡ false
+five : is_block_checked [] nothing_given (at_start wide) 4 steps ≡ false
 five = refl
 
 -- a sum that may wrap
@@ -91,10 +92,10 @@ top (suc (suc (suc (suc zero)))) = Between 0 (record { low = pos 0; high = pos 2
 top (suc (suc (suc (suc (suc zero))))) = []
 top (suc (suc (suc (suc (suc (suc b)))))) = []
 
-six : is_block_checked nothing_given (at_start top) 4 steps ≡ false
+six : is_block_checked [] nothing_given (at_start top) 4 steps ≡ false
 six = refl
 
-unknown : decided (after_all nothing checks.ops) 2 ≡ None
+unknown : decided (after_all [] nothing checks.ops) 2 ≡ None
 unknown = refl
 
 -- the end of the last of 8 turns: the counter is 8, so no run goes back, and of the block on that way nothing is asked
@@ -112,14 +113,14 @@ turns i (suc (suc b)) = Between 0 (record { low = pos 8; high = pos 8 }) ∷ []
 abbrev at_seven : Interval
 at_seven = record { low = pos 7; high = pos 7 }
 
-ends_there : is_block_checked nothing_given (at_start (turns at_seven)) 0 last_turn ≡ true
+ends_there : is_block_checked [] nothing_given (at_start (turns at_seven)) 0 last_turn ≡ true
 ends_there = refl
 
-never_back : is_block_checked nothing_given (at_start (turns at_seven)) 1 goes_back ≡ true
+never_back : is_block_checked [] nothing_given (at_start (turns at_seven)) 1 goes_back ≡ true
 never_back = refl
 
 -- not where it may be 7
-may_go_back : is_block_checked nothing_given (at_start (turns (record { low = pos 6; high = pos 7 }))) 0 last_turn ≡ false
+may_go_back : is_block_checked [] nothing_given (at_start (turns (record { low = pos 6; high = pos 7 }))) 0 last_turn ≡ false
 may_go_back = refl
 
 -- i * 64 + j with i and j below 64, in the three operations of a product: inside an array of 4096 words
@@ -134,7 +135,7 @@ index = record {
 abbrev both_below : List Fact
 both_below = Between 0 (record { low = pos 0; high = pos 63 }) ∷ Between 1 (record { low = pos 0; high = pos 63 }) ∷ []
 
-matrix : decided (after_all (of_facts both_below) index.ops) 6 ≡ Some true
+matrix : decided (after_all [] (of_facts both_below) index.ops) 6 ≡ Some true
 unfolding int_wrap sum_of difference_of product_of
 matrix = refl
 
@@ -158,20 +159,20 @@ three_by n = Compute Mpylu 2 (Number n) (Held 0) ∷ Compute Mpyhs 3 (Number n) 
 abbrev and_then : ℤ → Op → List Op
 and_then n op = Compute Mpylu 2 (Number n) (Held 0) ∷ Compute Mpyhs 3 (Number n) (Held 0) ∷ op ∷ []
 
-small : improved_all nothing (three_by (pos 48)) ≡ and_then (pos 48) (Compute Mpylu 4 (Held 0) (Number (pos 48)))
+small : improved_all [] nothing (three_by (pos 48)) ≡ and_then (pos 48) (Compute Mpylu 4 (Held 0) (Number (pos 48)))
 unfolding shift_of shift_below shl_of int_wrap
 small = refl
 
-power : improved_all nothing (three_by (pos 64)) ≡ and_then (pos 64) (Compute Shl 4 (Held 0) (Number (pos 6)))
+power : improved_all [] nothing (three_by (pos 64)) ≡ and_then (pos 64) (Compute Shl 4 (Held 0) (Number (pos 6)))
 unfolding shift_of shift_below shl_of int_wrap
 power = refl
 
 -- what was moved is read where it came from, and the test still bounds both
-copied : decided (after_all (of_facts (Between 0 (record { low = pos 0; high = pos 9 }) ∷ Equals 0 Mov (Held 8) (Number (pos 0)) ∷ [])) (Compute (ToBranch Ltu) 2 (Held 0) (Number (pos 10)) ∷ [])) 2 ≡ Some true
+copied : decided (after_all [] (of_facts (Between 0 (record { low = pos 0; high = pos 9 }) ∷ Equals 0 Mov (Held 8) (Number (pos 0)) ∷ [])) (Compute (ToBranch Ltu) 2 (Held 0) (Number (pos 10)) ∷ [])) 2 ≡ Some true
 copied = refl
 
 -- a number of 17 bits stays
-large : improved_all nothing (three_by (pos 65537)) ≡ three_by (pos 65537)
+large : improved_all [] nothing (three_by (pos 65537)) ≡ three_by (pos 65537)
 unfolding shift_of shift_below shl_of int_wrap
 large = refl
 
@@ -181,9 +182,25 @@ accesses =
     Place 1 7 (Held 0) ∷ Load 2 7 (Held 1) false ∷ Place 3 7 (Held 0) ∷ Load 4 7 (Held 3) false ∷ Store 8 (Held 1) (Held 4) ∷ Load 5 7 (Held 1) false ∷ Store 7 (Held 6) (Held 0) ∷ Load 9 7 (Held 1) false
     ∷ Load 10 7 (Held 6) false ∷ Place 11 7 (Held 0) ∷ Load 12 7 (Held 11) false ∷ []
 
-words : improved_all nothing accesses ≡ Place 1 7 (Held 0) ∷ Load 2 7 (Held 1) false ∷ Place 3 7 (Held 0) ∷ Compute Mov 4 (Held 2) (Number (pos 0)) ∷ Store 8 (Held 1) (Held 2) ∷ Compute Mov 5 (Held 2) (Number (pos 0)) ∷ Store 7 (Held 6) (Held 0) ∷ Load 9 7 (Held 1) false
+words : improved_all [] nothing accesses ≡ Place 1 7 (Held 0) ∷ Load 2 7 (Held 1) false ∷ Place 3 7 (Held 0) ∷ Compute Mov 4 (Held 2) (Number (pos 0)) ∷ Store 8 (Held 1) (Held 2) ∷ Compute Mov 5 (Held 2) (Number (pos 0)) ∷ Store 7 (Held 6) (Held 0) ∷ Load 9 7 (Held 1) false
     ∷ Compute Mov 10 (Held 0) (Number (pos 0)) ∷ Place 11 7 (Held 0) ∷ Compute Mov 12 (Held 9) (Number (pos 0)) ∷ []
 words = refl
+
+-- two arrays that were handed over, and one of the function's own
+abbrev handed_over : List Array
+handed_over =
+    record { words = 0; global = false; named = 0; base = Some 20 } ∷ record { words = 0; global = false; named = 1; base = Some 21 } ∷ record { words = 4; global = false; named = 2; base = None } ∷ []
+
+abbrev loaded_over : ℕ → Op → List Op
+loaded_over a last = Load 2 0 (Held 1) false ∷ Store a (Held 3) (Held 4) ∷ last ∷ []
+
+-- a store to one of those that were handed over may change the words of the other
+may_be_one : improved_all handed_over nothing (loaded_over 1 (Load 5 0 (Held 1) false)) ≡ loaded_over 1 (Load 5 0 (Held 1) false)
+may_be_one = refl
+
+-- one to the own array does not
+is_no_other : improved_all handed_over nothing (loaded_over 2 (Load 5 0 (Held 1) false)) ≡ loaded_over 2 (Compute Mov 5 (Held 2) (Number (pos 0)))
+is_no_other = refl
 
 -- a parameter to which every call passes 0 to 7: a check against 8 is decided
 
@@ -201,7 +218,7 @@ at_entry = of_facts (Between 0 below_eight ∷ [])
 enters : is_entry_checked (given_of_one 1) (0 ∷ []) at_entry ≡ true
 enters = refl
 
-parameter : decided (after_all at_entry (Compute (ToBranch Ltu) 1 (Held 0) (Number (pos 8)) ∷ [])) 1 ≡ Some true
+parameter : decided (after_all [] at_entry (Compute (ToBranch Ltu) 1 (Held 0) (Number (pos 8)) ∷ [])) 1 ≡ Some true
 parameter = refl
 
 -- what the entry may not claim: less, or where nothing is given
@@ -221,14 +238,14 @@ twice = refl
 abbrev calls_one : Operand → Block
 calls_one x = record { ops = []; exit = Call 1 (x ∷ []) None 1 }
 
-seven : is_block_checked given_of_one (at_start (λ b. [])) 0 (calls_one (Number (pos 7))) ≡ true
+seven : is_block_checked [] given_of_one (at_start (λ b. [])) 0 (calls_one (Number (pos 7))) ≡ true
 seven = refl
 
-eight : is_block_checked given_of_one (at_start (λ b. [])) 0 (calls_one (Number (pos 8))) ≡ false
+eight : is_block_checked [] given_of_one (at_start (λ b. [])) 0 (calls_one (Number (pos 8))) ≡ false
 eight = refl
 
-any : is_block_checked given_of_one (at_start (λ b. [])) 0 (calls_one (Held 3)) ≡ false
+any : is_block_checked [] given_of_one (at_start (λ b. [])) 0 (calls_one (Held 3)) ≡ false
 any = refl
 
-bounded : is_block_checked given_of_one (at_start (λ b. Between 3 below_eight ∷ [])) 0 (calls_one (Held 3)) ≡ true
+bounded : is_block_checked [] given_of_one (at_start (λ b. Between 3 below_eight ∷ [])) 0 (calls_one (Held 3)) ≡ true
 bounded = refl

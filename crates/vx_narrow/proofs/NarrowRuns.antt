@@ -45,14 +45,14 @@ module _ (flow : Flow) (given : ℕ → List Interval) (claims : ℕ → ℕ →
       subst (λ o. Refines (hop old r) (body_hop old r (as_body o))) (sym (function_is r.function)) (by (slice_get flow.functions r.function) refl)
     where
       inner : (g : Graph) → slice_get flow.functions r.function ≡ Some g → (o : Option Block) → slice_get g.blocks r.block ≡ o →
-          Refines (hop_of (setting_with old r.passed r.base) r.block o r.state) (hop_of (setting_with old r.passed r.base) r.block (option_map (narrowed_block (claims r.function) r.block) o) r.state)
+          Refines (hop_of (setting_with old r.passed r.base) r.block o r.state) (hop_of (setting_with old r.passed r.base) r.block (option_map (narrowed_block g.arrays (claims r.function) r.block) o) r.state)
       inner g e None q = inl refl
       inner g e (Some block) q =
-          block_refines (claims r.function) (setting_with old r.passed r.base) a.sized.differ r.block block r.state a.known
-          (and_one (list_all has_numbers block.ops) (is_left_checked given (claims r.function) (after_all (claims r.function r.block) block.ops) (accessed_all (claims r.function r.block) block.ops) block.exit) (checked.blocks r.function r.block g block e q))
+          block_refines g.arrays (claims r.function) (setting_with old r.passed r.base) (a.sized.apart g e) r.block block r.state a.known
+          (and_one (list_all has_numbers block.ops) (is_left_checked given (claims r.function) (after_all g.arrays (claims r.function r.block) block.ops) (accessed_all g.arrays (claims r.function r.block) block.ops) block.exit) (checked.blocks r.function r.block g block e q))
 
-      block_is : (g : Graph) → slice_get (narrowed_from (claims r.function) 0 g.blocks) r.block ≡ option_map (narrowed_block (claims r.function) r.block) (slice_get g.blocks r.block)
-      block_is g = let e : 0 + r.block ≡ r.block = omega arith in get_block (claims r.function) 0 g.blocks r.block ∙ ap (λ m. option_map (narrowed_block (claims r.function) m) (slice_get g.blocks r.block)) e
+      block_is : (g : Graph) → slice_get (narrowed_from g.arrays (claims r.function) 0 g.blocks) r.block ≡ option_map (narrowed_block g.arrays (claims r.function) r.block) (slice_get g.blocks r.block)
+      block_is g = let e : 0 + r.block ≡ r.block = omega arith in get_block g.arrays (claims r.function) 0 g.blocks r.block ∙ ap (λ m. option_map (narrowed_block g.arrays (claims r.function) m) (slice_get g.blocks r.block)) e
 
       by : (o : Option Graph) → slice_get flow.functions r.function ≡ o → Refines (body_hop old r (as_body o)) (body_hop old r (as_body (option_map (narrowed_graph (claims r.function)) o)))
       by None e = inl refl
@@ -132,7 +132,7 @@ pub decided_goes : DecidedGoes
 decided_goes flow given claims checked input numbers n r l g block p c d answer e q x w =
     let a = reached_good flow given claims checked input numbers n r l in
     let setting = setting_with (program_of flow) r.passed r.base in
-    let fs = after_all (claims r.function r.block) block.ops in
-    let k = block_refines (claims r.function) setting a.sized.differ r.block block r.state a.known (and_one (list_all has_numbers block.ops) (is_left_checked given (claims r.function) fs (accessed_all (claims r.function r.block) block.ops) block.exit) (checked.blocks r.function r.block g block e q)) in
+    let fs = after_all g.arrays (claims r.function r.block) block.ops in
+    let k = block_refines g.arrays (claims r.function) setting (a.sized.apart g e) r.block block r.state a.known (and_one (list_all has_numbers block.ops) (is_left_checked given (claims r.function) fs (accessed_all g.arrays (claims r.function r.block) block.ops) block.exit) (checked.blocks r.function r.block g block e q)) in
     subst (GoesTo r.block (side_of answer c d)) (sym (hop_by flow given claims checked r g block e q))
-    (narrow_goes flow given claims checked fs setting r.block p c d answer block (improved_all (claims r.function r.block) block.ops) r.state (hop_of setting r.block (Some block) r.state) x w k)
+    (narrow_goes flow given claims checked fs setting r.block p c d answer block (improved_all g.arrays (claims r.function r.block) block.ops) r.state (hop_of setting r.block (Some block) r.state) x w k)

@@ -3,18 +3,20 @@ use Rattle.std.proofs.Common.{◌≡◌, ◌⊎◌, inl, inr, ℕ, zero, suc, �
 use Rattle.std.specs.List.{list_all}
 use Rattle.std.specs.Option.{option_map}
 use Rattle.vx_base.specs.Arithmetic.{one_if}
+use Rattle.vx_flow.specs.declared.graph.Array.{Array}
 use Rattle.vx_flow.specs.declared.graph.Op.{Op}
 use Rattle.vx_flow.specs.declared.graph.Exit.{Exit}
 use Rattle.vx_flow.specs.declared.graph.Exit.TheVariants.{Goto, Split, Call, Return, Ends}
 use Rattle.vx_flow.specs.declared.graph.Block.{Block}
 use Rattle.vx_flow.specs.declared.graph.Graph.{Graph}
+use Rattle.vx_flow.specs.Apart.{StandApart}
 use Rattle.vx_flow.specs.Effects.{Content, State, Setting, effect}
 use Rattle.vx_flow.specs.Meaning.{Hop, Arrives, Wrong, by_test, leave, and_then, block_hop, hop_of}
 use Rattle.vx_claims.specs.declared.claim.Claim.{Claim}
 use Rattle.vx_claims.specs.declared.fact.Fact.{Fact}
 use Rattle.vx_claims.specs.Facts.{decided}
 use Rattle.vx_claims.specs.declared.access.Access.{Access}
-use Rattle.vx_claims.specs.Accesses.{SpotsDiffer, accessed}
+use Rattle.vx_claims.specs.Accesses.{accessed}
 use Rattle.vx_claims.specs.Forming.{form, after_known, after_from}
 use Rattle.vx_narrow.specs.Checking.{has_numbers}
 use Rattle.vx_narrow.specs.Rewriting.{side_of, GoesTo}
@@ -64,29 +66,29 @@ improved_follows setting s fs xs op n k = by (form_follows setting s fs xs op n 
     by (inl e) = inl e
     by (inr e) = inr (shortened_same setting s fs k.good (form fs xs op) ∙ e.0)
 
-ops_refine : (setting : Setting) → SpotsDiffer setting → (b : ℕ) (ops : List Op) (exit : Exit) (fs : List Fact) (xs : List Access) (s : State) → Known setting fs xs s → list_all has_numbers ops ≡ true →
-    Refines (block_hop setting b ops exit s) (block_hop setting b (improved_from fs xs ops) (narrowed_exit (after_from fs xs ops) exit) s)
-ops_refine setting differ b [] exit fs xs s k n = exit_refines b exit s fs k.good
-ops_refine setting differ b (op ∷ ops) exit fs xs s k n =
+ops_refine : (arrays : List Array) (setting : Setting) → StandApart arrays setting.spot → (b : ℕ) (ops : List Op) (exit : Exit) (fs : List Fact) (xs : List Access) (s : State) → Known setting fs xs s → list_all has_numbers ops ≡ true →
+    Refines (block_hop setting b ops exit s) (block_hop setting b (improved_from arrays fs xs ops) (narrowed_exit (after_from arrays fs xs ops) exit) s)
+ops_refine arrays setting apart b [] exit fs xs s k n = exit_refines b exit s fs k.good
+ops_refine arrays setting apart b (op ∷ ops) exit fs xs s k n =
     let fs' = after_known fs xs op (form fs xs op) in
-    let xs' = accessed xs (form fs xs op) in
+    let xs' = accessed arrays xs (form fs xs op) in
     let one = and_one (has_numbers op) (list_all has_numbers ops) n in
-    then_refines setting fs' xs' (effect setting s op s) (effect setting s (improved fs xs op) s) (block_hop setting b ops exit) (block_hop setting b (improved_from fs' xs' ops) (narrowed_exit (after_from fs' xs' ops) exit))
-    (improved_follows setting s fs xs op one k) (form_known setting differ s fs xs op one k)
-    (λ t h. ops_refine setting differ b ops exit fs' xs' t h (and_two (has_numbers op) (list_all has_numbers ops) n))
+    then_refines setting fs' xs' (effect setting s op s) (effect setting s (improved fs xs op) s) (block_hop setting b ops exit) (block_hop setting b (improved_from arrays fs' xs' ops) (narrowed_exit (after_from arrays fs' xs' ops) exit))
+    (improved_follows setting s fs xs op one k) (form_known arrays setting apart s fs xs op one k)
+    (λ t h. ops_refine arrays setting apart b ops exit fs' xs' t h (and_two (has_numbers op) (list_all has_numbers ops) n))
 
-pub block_refines : (claims : ℕ → Claim) (setting : Setting) → SpotsDiffer setting → (b : ℕ) (block : Block) (s : State) → Claimed setting (claims b) s → list_all has_numbers block.ops ≡ true →
-    Refines (hop_of setting b (Some block) s) (hop_of setting b (Some (narrowed_block claims b block)) s)
-block_refines claims setting differ b block s k n = ops_refine setting differ b block.ops block.exit (claims b).facts (claims b).accesses s k n
+pub block_refines : (arrays : List Array) (claims : ℕ → Claim) (setting : Setting) → StandApart arrays setting.spot → (b : ℕ) (block : Block) (s : State) → Claimed setting (claims b) s → list_all has_numbers block.ops ≡ true →
+    Refines (hop_of setting b (Some block) s) (hop_of setting b (Some (narrowed_block arrays claims b block)) s)
+block_refines arrays claims setting apart b block s k n = ops_refine arrays setting apart b block.ops block.exit (claims b).facts (claims b).accesses s k n
 
 -- ---- by number
 
-pub get_block : (claims : ℕ → Claim) (n : ℕ) (ks : List Block) (i : ℕ) → slice_get (narrowed_from claims n ks) i ≡ option_map (narrowed_block claims (n + i)) (slice_get ks i)
-get_block claims n [] i = refl
-get_block claims n (k ∷ ks) zero = let e : n ≡ n + 0 = omega arith in ap (λ m. Some (narrowed_block claims m k)) e
-get_block claims n (k ∷ ks) (suc i) =
+pub get_block : (arrays : List Array) (claims : ℕ → Claim) (n : ℕ) (ks : List Block) (i : ℕ) → slice_get (narrowed_from arrays claims n ks) i ≡ option_map (narrowed_block arrays claims (n + i)) (slice_get ks i)
+get_block arrays claims n [] i = refl
+get_block arrays claims n (k ∷ ks) zero = let e : n ≡ n + 0 = omega arith in ap (λ m. Some (narrowed_block arrays claims m k)) e
+get_block arrays claims n (k ∷ ks) (suc i) =
     let e : n + 1 + i ≡ n + suc i = omega arith in
-    get_block claims (n + 1) ks i ∙ ap (λ m. option_map (narrowed_block claims m) (slice_get ks i)) e
+    get_block arrays claims (n + 1) ks i ∙ ap (λ m. option_map (narrowed_block arrays claims m) (slice_get ks i)) e
 
 pub get_function : (claims : ℕ → ℕ → Claim) (n : ℕ) (gs : List Graph) (i : ℕ) → slice_get (narrowed_functions claims n gs) i ≡ option_map (narrowed_graph (claims (n + i))) (slice_get gs i)
 get_function claims n [] i = refl

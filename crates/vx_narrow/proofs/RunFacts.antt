@@ -7,6 +7,7 @@ use Rattle.vx_base.specs.Arithmetic.{IsNumber}
 use Rattle.vx_base.specs.Outcome.{Step, On, Over}
 use Rattle.vx_flow.specs.declared.graph.Operand.{Operand}
 use Rattle.vx_flow.specs.declared.graph.Operand.TheVariants.{Held}
+use Rattle.vx_flow.specs.declared.graph.Array.{Array}
 use Rattle.vx_flow.specs.declared.graph.Op.{Op}
 use Rattle.vx_flow.specs.declared.graph.Exit.{Exit}
 use Rattle.vx_flow.specs.declared.graph.Exit.TheVariants.{Goto, Split, Call, Return, Ends}
@@ -14,6 +15,7 @@ use Rattle.vx_flow.specs.declared.graph.Block.{Block}
 use Rattle.vx_flow.specs.declared.graph.Graph.{Graph}
 use Rattle.vx_flow.specs.declared.graph.Global.{Global}
 use Rattle.vx_flow.specs.declared.graph.Flow.{Flow}
+use Rattle.vx_flow.specs.Apart.{StandApart}
 use Rattle.vx_flow.specs.Effects.{Content, State, Setting, IsIn, held, is_one, effect}
 use Rattle.vx_flow.specs.Meaning.{Hop, Arrives, Calls, Leaves, Stops, Wrong, known, with_front, by_test, calls, leaves, leave, and_then, block_hop, hop_of, Body, Frame, Active, deepest, undefined, at_entry, entered, enters, with_result, returned, waits, after_hop, body_hop, hop, next, body_of, program_of, setting_with, setting_of, words_at_start, globals_at_start, entered_or, start}
 use Rattle.vx_claims.specs.declared.claim.Claim.{Claim}
@@ -22,7 +24,7 @@ use Rattle.vx_claims.specs.declared.fact.Fact.{Fact}
 use Rattle.vx_claims.specs.declared.fact.Fact.TheVariants.{Between, Congruent, Equals, Never}
 use Rattle.vx_claims.specs.Facts.{full, Within, AllHold, range_of, residue_of, names, kept_if, without, without_written, is_full, between_unless, on_side, decided}
 use Rattle.vx_claims.specs.declared.access.Access.{Access}
-use Rattle.vx_claims.specs.Accesses.{SpotsDiffer, AllTell, tell, accessed}
+use Rattle.vx_claims.specs.Accesses.{AllTell, tell, accessed}
 use Rattle.vx_claims.specs.Forming.{form, after_known, after_from, accessed_from, after_all, accessed_all}
 use Rattle.vx_narrow.specs.Checking.{is_number, has_number, has_numbers, are_given, are_given_behind, is_against, are_given_on, are_passed, lie_in, is_entry_checked, parameters_of, is_exit_checked, is_left_checked, is_block_checked, Checked, Leads, FactsHold}
 use Rattle.vx_claims.specs.Claims.{is_inside, is_never, gives, give}
@@ -226,20 +228,20 @@ then_good : (given : ℕ → List Interval) (claims : ℕ → Claim) (setting : 
 then_good given claims setting fs xs None f k h = tt
 then_good given claims setting fs xs (Some t) f k h = h t k
 
-ops_good : (given : ℕ → List Interval) (claims : ℕ → Claim) (setting : Setting) → SpotsDiffer setting → (b : ℕ) (ops : List Op) (exit : Exit) (fs : List Fact) (xs : List Access) (s : State) → Known setting fs xs s → list_all has_numbers ops ≡ true →
-    is_left_checked given claims (after_from fs xs ops) (accessed_from fs xs ops) exit ≡ true → HopGood given claims setting (block_hop setting b ops exit s)
-ops_good given claims setting differ b [] exit fs xs s k n e = leave_good given claims setting b exit s fs xs k.good k.tell (second_of (is_never fs) (is_exit_checked given claims fs xs exit) (never_holds s.values fs k.good.facts) e)
-ops_good given claims setting differ b (op ∷ ops) exit fs xs s k n e =
+ops_good : (arrays : List Array) (given : ℕ → List Interval) (claims : ℕ → Claim) (setting : Setting) → StandApart arrays setting.spot → (b : ℕ) (ops : List Op) (exit : Exit) (fs : List Fact) (xs : List Access) (s : State) → Known setting fs xs s → list_all has_numbers ops ≡ true →
+    is_left_checked given claims (after_from arrays fs xs ops) (accessed_from arrays fs xs ops) exit ≡ true → HopGood given claims setting (block_hop setting b ops exit s)
+ops_good arrays given claims setting apart b [] exit fs xs s k n e = leave_good given claims setting b exit s fs xs k.good k.tell (second_of (is_never fs) (is_exit_checked given claims fs xs exit) (never_holds s.values fs k.good.facts) e)
+ops_good arrays given claims setting apart b (op ∷ ops) exit fs xs s k n e =
     let fs' = after_known fs xs op (form fs xs op) in
-    let xs' = accessed xs (form fs xs op) in
-    then_good given claims setting fs' xs' (effect setting s op s) (block_hop setting b ops exit) (form_known setting differ s fs xs op (and_one (has_numbers op) (list_all has_numbers ops) n) k)
-    (λ t h. ops_good given claims setting differ b ops exit fs' xs' t h (and_two (has_numbers op) (list_all has_numbers ops) n) e)
+    let xs' = accessed arrays xs (form fs xs op) in
+    then_good given claims setting fs' xs' (effect setting s op s) (block_hop setting b ops exit) (form_known arrays setting apart s fs xs op (and_one (has_numbers op) (list_all has_numbers ops) n) k)
+    (λ t h. ops_good arrays given claims setting apart b ops exit fs' xs' t h (and_two (has_numbers op) (list_all has_numbers ops) n) e)
 
-block_good : (given : ℕ → List Interval) (claims : ℕ → Claim) (setting : Setting) → SpotsDiffer setting → (b : ℕ) (block : Block) (s : State) → Claimed setting (claims b) s → is_block_checked given claims b block ≡ true → HopGood given claims setting (hop_of setting b (Some block) s)
-block_good given claims setting differ b block s k e =
+block_good : (arrays : List Array) (given : ℕ → List Interval) (claims : ℕ → Claim) (setting : Setting) → StandApart arrays setting.spot → (b : ℕ) (block : Block) (s : State) → Claimed setting (claims b) s → is_block_checked arrays given claims b block ≡ true → HopGood given claims setting (hop_of setting b (Some block) s)
+block_good arrays given claims setting apart b block s k e =
     let one = list_all has_numbers block.ops in
-    let two = is_left_checked given claims (after_all (claims b) block.ops) (accessed_all (claims b) block.ops) block.exit in
-    ops_good given claims setting differ b block.ops block.exit (claims b).facts (claims b).accesses s k (and_one one two e) (and_two one two e)
+    let two = is_left_checked given claims (after_all arrays (claims b) block.ops) (accessed_all arrays (claims b) block.ops) block.exit in
+    ops_good arrays given claims setting apart b block.ops block.exit (claims b).facts (claims b).accesses s k (and_one one two e) (and_two one two e)
 
 -- ---- programs
 
@@ -269,7 +271,7 @@ module _ (flow : Flow) (given : ℕ → List Interval) (claims : ℕ → ℕ →
     where
       inner : (g : Graph) → slice_get flow.functions r.function ≡ Some g → (o : Option Block) → slice_get g.blocks r.block ≡ o → HopGood given (claims r.function) (setting_with (program_of flow) r.passed r.base) (hop_of (setting_with (program_of flow) r.passed r.base) r.block o r.state)
       inner g e None q = tt
-      inner g e (Some block) q = block_good given (claims r.function) (setting_with (program_of flow) r.passed r.base) a.sized.differ r.block block r.state a.known (checked.blocks r.function r.block g block e q)
+      inner g e (Some block) q = block_good g.arrays given (claims r.function) (setting_with (program_of flow) r.passed r.base) (a.sized.apart g e) r.block block r.state a.known (checked.blocks r.function r.block g block e q)
 
       by : (o : Option Graph) → slice_get flow.functions r.function ≡ o → HopGood given (claims r.function) (setting_with (program_of flow) r.passed r.base) (body_hop (program_of flow) r (option_map (body_of (length flow.globals)) o))
       by None e = tt

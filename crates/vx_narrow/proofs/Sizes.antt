@@ -1,5 +1,5 @@
--- Where the arrays of the active functions stand: the globals first, then the own ones of each, so that different arrays of a
--- function stand at different places.
+-- Where the arrays of the active functions stand: the globals first, then the own ones of each, so that arrays of a function
+-- that are apart stand at different spots.
 use Rattle.std.proofs.Common.{◌≡◌, ℕ, zero, suc, ◌+◌, ◌≤◌, Bool, true, false, cond, nat_le, ℤ, List, [], ◌∷◌, ◌++◌, length, map, take, slice_set, slice_get, Option, Some, None, refl, sym, ap, subst, arith}
 use Rattle.std.proofs.lemmas.List.{length-map, length-append}
 use Rattle.std.specs.Option.{option_map}
@@ -11,10 +11,10 @@ use Rattle.vx_flow.specs.declared.graph.Exit.TheVariants.{Goto, Split, Call, Ret
 use Rattle.vx_flow.specs.declared.graph.Block.{Block}
 use Rattle.vx_flow.specs.declared.graph.Graph.{Graph}
 use Rattle.vx_flow.specs.declared.graph.Flow.{Flow}
+use Rattle.vx_flow.specs.Apart.{StandApart}
 use Rattle.vx_flow.specs.Effects.{Content, State, Setting, held, is_one, row_of, cell_of, loaded, stored, next_input, printed, effect}
 use Rattle.vx_flow.specs.Meaning.{Hop, Arrives, Calls, Leaves, Stops, Wrong, known, by_test, calls, leaves, leave, and_then, block_hop, hop_of, Body, Frame, Active, deepest, undefined, enters, returned, waits, after_hop, body_hop, hop, next, words_at_start, body_of, program_of, setting_with, globals_at_start, entered_or, start}
-use Rattle.vx_flow.proofs.Apart.{spots_differ}
-use Rattle.vx_claims.specs.Accesses.{SpotsDiffer}
+use Rattle.vx_flow.proofs.Apart.{spots_apart}
 use Rattle.vx_narrow.proofs.Cells.{set_length}
 
 -- ---- rows
@@ -105,16 +105,20 @@ module _ (flow : Flow) where
   abbrev Globals : ℕ
   Globals = length flow.globals
 
+  -- the arrays of a function that are apart stand at different spots
+  abbrev StandsApart : (function : ℕ) → List (Option ℕ) → (base : ℕ) → Type 0
+  StandsApart f passed base = (g : Graph) → slice_get flow.functions f ≡ Some g → StandApart g.arrays (setting_with (program_of flow) passed base).spot
+
   abbrev FramesSized : ℕ → List Frame → Type 0
   FramesSized base [] = Unit {0}
-  FramesSized base (f ∷ fs) = (Globals ≤ f.base) × (f.base ≤ base) × SpotsDiffer (setting_with (program_of flow) f.passed f.base) × FramesSized f.base fs
+  FramesSized base (f ∷ fs) = (Globals ≤ f.base) × (f.base ≤ base) × StandsApart f.function f.passed f.base × FramesSized f.base fs
 
   -- the own arrays of each active function begin behind the globals, and behind those of the one that called it, and
-  -- different arrays of it stand at different spots
+  -- those that are apart stand at different spots
   pub record Sized (r : Active) : Type 0 where
     pub low : Globals ≤ r.base
     pub high : r.base ≤ length r.state.arrays
-    pub differ : SpotsDiffer (setting_with (program_of flow) r.passed r.base)
+    pub apart : StandsApart r.function r.passed r.base
     pub frames : FramesSized r.base r.waiting
 
   abbrev StepSized : Step Active → Type 0
@@ -137,23 +141,23 @@ module _ (flow : Flow) where
 
   enters_sized : (g : ℕ) (o : Option Body) (ns : List ℤ) (s : State) (fs : List Frame) → Globals ≤ length s.arrays → FramesSized (length s.arrays) fs → StepSized (enters g o ns s fs)
   enters_sized g None ns s fs l f = tt
-  enters_sized g (Some body) ns s fs l f = record { low = l; high = longer s.arrays (map undefined body.own); differ = spots_differ Globals (length s.arrays) l; frames = f }
+  enters_sized g (Some body) ns s fs l f = record { low = l; high = longer s.arrays (map undefined body.own); apart = λ h e. spots_apart h.arrays Globals (length s.arrays) l; frames = f }
 
   returned_sized : (n : ℤ) (s : State) (base : ℕ) (fs : List Frame) → base ≤ length s.arrays → FramesSized base fs → StepSized (returned n s base fs)
   returned_sized n s base [] h f = tt
-  returned_sized n s base (g ∷ fs) h f = record { low = f.0; high = subst (λ k. g.base ≤ k) (sym (length_take base s.arrays h)) f.1; differ = f.2; frames = f.3 }
+  returned_sized n s base (g ∷ fs) h f = record { low = f.0; high = subst (λ k. g.base ≤ k) (sym (length_take base s.arrays h)) f.1; apart = f.2; frames = f.3 }
 
   cond_sized : (t : Bool) (a b : Step Active) → StepSized a → StepSized b → StepSized (cond t a b)
   cond_sized true a b h k = h
   cond_sized false a b h k = k
 
   after_sized : (r : Active) (h : Hop) → Sized r → HopSized r.base h → StepSized (after_hop (program_of flow) r h)
-  after_sized r (Arrives from to s) z k = record { low = z.low; high = k; differ = z.differ; frames = z.frames }
+  after_sized r (Arrives from to s) z k = record { low = z.low; high = k; apart = z.apart; frames = z.frames }
   after_sized r (Calls g ns result from to s) z k =
       let p = program_of flow in
       let low : Globals ≤ length s.arrays = (let a = z.low in omega arith) in
       cond_sized (nat_le deepest (length r.waiting + 1)) _ (enters g (p.body g) ns s (waits r result from to s ∷ r.waiting)) tt
-      (enters_sized g (p.body g) ns s (waits r result from to s ∷ r.waiting) low (z.low, k, z.differ, z.frames))
+      (enters_sized g (p.body g) ns s (waits r result from to s ∷ r.waiting) low (z.low, k, z.apart, z.frames))
   after_sized r (Leaves n s) z k = returned_sized n s r.base r.waiting k z.frames
   after_sized r (Stops t s) z k = tt
   after_sized r Wrong z k = tt
@@ -174,4 +178,4 @@ module _ (flow : Flow) where
       let s = globals_at_start flow input in
       let e : length s.arrays ≡ Globals = length-map flow.globals words_at_start in
       let low : Globals ≤ length s.arrays = omega arith in
-      record { low = low; high = start_by (p.body flow.main) s; differ = spots_differ Globals (length s.arrays) low; frames = tt }
+      record { low = low; high = start_by (p.body flow.main) s; apart = λ h e. spots_apart h.arrays Globals (length s.arrays) low; frames = tt }

@@ -1,5 +1,6 @@
 -- A flow of a program stays one where each of its graphs is narrowed by claims of its own.
 use Rattle.std.proofs.Common.{◌≡◌, ℕ, zero, suc, ◌+◌, ◌<◌, true, List, [], ◌∷◌, ◌++◌, length, take, get_or, slice_get, Option, Some, None, IfSome, refl, sym, ap, ◌∙◌, subst, arith}
+use Rattle.vx_flow.specs.declared.graph.Array.{Array}
 use Rattle.vx_flow.specs.declared.graph.Block.{Block}
 use Rattle.vx_flow.specs.declared.graph.Graph.{Graph}
 use Rattle.vx_flow.specs.declared.graph.Flow.{Flow}
@@ -20,25 +21,25 @@ use Rattle.vx_flow.specs.Meaning.{graph_run}
 
 -- ---- blocks
 
-checked_from : (given : ℕ → List Interval) (claims : ℕ → Claim) (n : ℕ) (blocks : List Block) → are_blocks_checked given claims n blocks ≡ true → (i : ℕ) (block : Block) → slice_get blocks i ≡ Some block → is_block_checked given claims (n + i) block ≡ true
-checked_from given claims n [] h i block e = absurd (cc)
-checked_from given claims n (k ∷ ks) h zero block e =
+checked_from : (arrays : List Array) (given : ℕ → List Interval) (claims : ℕ → Claim) (n : ℕ) (blocks : List Block) → are_blocks_checked arrays given claims n blocks ≡ true → (i : ℕ) (block : Block) → slice_get blocks i ≡ Some block → is_block_checked arrays given claims (n + i) block ≡ true
+checked_from arrays given claims n [] h i block e = absurd (cc)
+checked_from arrays given claims n (k ∷ ks) h zero block e =
     let q : k ≡ block = cc in
     let z : n ≡ n + 0 = omega arith in
-    subst (λ m. is_block_checked given claims m block ≡ true) z (subst (λ (x : Block). is_block_checked given claims n x ≡ true) q (and_one (is_block_checked given claims n k) (are_blocks_checked given claims (n + 1) ks) h))
-checked_from given claims n (k ∷ ks) h (suc i) block e =
+    subst (λ m. is_block_checked arrays given claims m block ≡ true) z (subst (λ (x : Block). is_block_checked arrays given claims n x ≡ true) q (and_one (is_block_checked arrays given claims n k) (are_blocks_checked arrays given claims (n + 1) ks) h))
+checked_from arrays given claims n (k ∷ ks) h (suc i) block e =
     let z : (n + 1) + i ≡ n + suc i = omega arith in
-    subst (λ m. is_block_checked given claims m block ≡ true) z (checked_from given claims (n + 1) ks (and_two (is_block_checked given claims n k) (are_blocks_checked given claims (n + 1) ks) h) i block e)
+    subst (λ m. is_block_checked arrays given claims m block ≡ true) z (checked_from arrays given claims (n + 1) ks (and_two (is_block_checked arrays given claims n k) (are_blocks_checked arrays given claims (n + 1) ks) h) i block e)
 
-pub checked_at : (given : ℕ → List Interval) (claims : ℕ → Claim) (blocks : List Block) → are_blocks_checked given claims 0 blocks ≡ true → (i : ℕ) (block : Block) → slice_get blocks i ≡ Some block → is_block_checked given claims i block ≡ true
-checked_at given claims blocks h i block e =
+pub checked_at : (arrays : List Array) (given : ℕ → List Interval) (claims : ℕ → Claim) (blocks : List Block) → are_blocks_checked arrays given claims 0 blocks ≡ true → (i : ℕ) (block : Block) → slice_get blocks i ≡ Some block → is_block_checked arrays given claims i block ≡ true
+checked_at arrays given claims blocks h i block e =
     let z : 0 + i ≡ i = omega arith in
-    subst (λ m. is_block_checked given claims m block ≡ true) z (checked_from given claims 0 blocks h i block e)
+    subst (λ m. is_block_checked arrays given claims m block ≡ true) z (checked_from arrays given claims 0 blocks h i block e)
 
-pub graph_by_table : (given : ℕ → List Interval) (f : ℕ) (table : List Claim) (g h : Graph) → is_entry_checked (given f) g.parameters (listed_claims table 0) ≡ true → are_blocks_checked given (listed_claims table) 0 g.blocks ≡ true → h ≡ narrowed_graph (listed_claims table) g → GraphNarrowed given f g h
-graph_by_table given f table g h e c n = record { claims = listed_claims table; entry = e; blocks = checked_at given (listed_claims table) g.blocks c; narrowed = n }
+pub graph_by_table : (given : ℕ → List Interval) (f : ℕ) (table : List Claim) (g h : Graph) → is_entry_checked (given f) g.parameters (listed_claims table 0) ≡ true → are_blocks_checked g.arrays given (listed_claims table) 0 g.blocks ≡ true → h ≡ narrowed_graph (listed_claims table) g → GraphNarrowed given f g h
+graph_by_table given f table g h e c n = record { claims = listed_claims table; entry = e; blocks = checked_at g.arrays given (listed_claims table) g.blocks c; narrowed = n }
 
-pub with_blocks_is : (claims : ℕ → Claim) (g h : Graph) (blocks : List Block) → blocks ≡ narrowed_from claims 0 g.blocks → h ≡ record g { blocks = blocks } → h ≡ narrowed_graph claims g
+pub with_blocks_is : (claims : ℕ → Claim) (g h : Graph) (blocks : List Block) → blocks ≡ narrowed_from g.arrays claims 0 g.blocks → h ≡ record g { blocks = blocks } → h ≡ narrowed_graph claims g
 with_blocks_is claims g h blocks e q = q ∙ ap (λ bs. record g { blocks = bs }) e
 
 -- ---- graphs
@@ -86,11 +87,13 @@ entries_by given f (g ∷ gs) (h ∷ hs) s (suc n) =
     let e : f + 1 + n ≡ f + suc n = omega arith in
     subst (λ k. is_entry_checked (given k) (parameters_of (slice_get gs n)) (claims_by given (f + 1) gs hs s.1 n 0) ≡ true) e (entries_by given (f + 1) gs hs s.1 n)
 
-blocks_by : (given : ℕ → List Interval) (f : ℕ) (gs hs : List Graph) (s : NarrowedWith given f gs hs) (n b : ℕ) (g : Graph) (block : Block) → slice_get gs n ≡ Some g → slice_get g.blocks b ≡ Some block → is_block_checked given (claims_by given f gs hs s n) b block ≡ true
+blocks_by : (given : ℕ → List Interval) (f : ℕ) (gs hs : List Graph) (s : NarrowedWith given f gs hs) (n b : ℕ) (g : Graph) (block : Block) → slice_get gs n ≡ Some g → slice_get g.blocks b ≡ Some block → is_block_checked g.arrays given (claims_by given f gs hs s n) b block ≡ true
 blocks_by given f [] [] s n b g block e q = absurd (cc)
 blocks_by given f [] (h ∷ hs) s n b g block e q = absurd s
 blocks_by given f (x ∷ gs) [] s n b g block e q = absurd s
-blocks_by given f (x ∷ gs) (h ∷ hs) s zero b g block e q = let i : g ≡ x = cc in s.0.blocks b block (subst (λ (y : Graph). slice_get y.blocks b ≡ Some block) i q)
+blocks_by given f (x ∷ gs) (h ∷ hs) s zero b g block e q =
+    let i : g ≡ x = cc in
+    subst (λ (y : Graph). is_block_checked y.arrays given s.0.claims b block ≡ true) (sym i) (s.0.blocks b block (subst (λ (y : Graph). slice_get y.blocks b ≡ Some block) i q))
 blocks_by given f (x ∷ gs) (h ∷ hs) s (suc n) b g block e q = blocks_by given (f + 1) gs hs s.1 n b g block e q
 
 shifted : (claims : ℕ → ℕ → Claim) (f : ℕ) (gs : List Graph) → narrowed_functions claims (f + 1) gs ≡ narrowed_functions (λ n. claims (suc n)) f gs

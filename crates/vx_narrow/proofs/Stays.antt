@@ -8,6 +8,7 @@ use Rattle.vx_ast.specs.Meaning.{source}
 use Rattle.vx_flow.specs.declared.graph.Op.{Op}
 use Rattle.vx_flow.specs.declared.graph.Exit.{Exit}
 use Rattle.vx_flow.specs.declared.graph.Exit.TheVariants.{Goto, Split, Call, Return, Ends}
+use Rattle.vx_flow.specs.declared.graph.Array.{Array}
 use Rattle.vx_flow.specs.declared.graph.Block.{Block}
 use Rattle.vx_flow.specs.declared.graph.Graph.{Graph}
 use Rattle.vx_flow.specs.Effects.{IsIn}
@@ -28,16 +29,16 @@ use Rattle.vx_narrow.specs.Staying.{StaysFlow}
 
 -- ---- lengths
 
-from_length : (fs : List Fact) (xs : List Access) (ops : List Op) → length (improved_from fs xs ops) ≡ length ops
-from_length fs xs [] = refl
-from_length fs xs (op ∷ ops) = ap suc (from_length (after_known fs xs op (form fs xs op)) (accessed xs (form fs xs op)) ops)
+from_length : (arrays : List Array) (fs : List Fact) (xs : List Access) (ops : List Op) → length (improved_from arrays fs xs ops) ≡ length ops
+from_length arrays fs xs [] = refl
+from_length arrays fs xs (op ∷ ops) = ap suc (from_length arrays (after_known fs xs op (form fs xs op)) (accessed arrays xs (form fs xs op)) ops)
 
-improved_length : (claim : Claim) (ops : List Op) → length (improved_all claim ops) ≡ length ops
-improved_length claim ops = from_length claim.facts claim.accesses ops
+improved_length : (arrays : List Array) (claim : Claim) (ops : List Op) → length (improved_all arrays claim ops) ≡ length ops
+improved_length arrays claim ops = from_length arrays claim.facts claim.accesses ops
 
-blocks_length : (k : ℕ → Claim) (n : ℕ) (bs : List Block) → length (narrowed_from k n bs) ≡ length bs
-blocks_length k n [] = refl
-blocks_length k n (b ∷ bs) = ap suc (blocks_length k (n + 1) bs)
+blocks_length : (arrays : List Array) (k : ℕ → Claim) (n : ℕ) (bs : List Block) → length (narrowed_from arrays k n bs) ≡ length bs
+blocks_length arrays k n [] = refl
+blocks_length arrays k n (b ∷ bs) = ap suc (blocks_length arrays k (n + 1) bs)
 
 functions_length : (k : ℕ → ℕ → Claim) (n : ℕ) (gs : List Graph) → length (narrowed_functions k n gs) ≡ length gs
 functions_length k n [] = refl
@@ -91,14 +92,14 @@ module _ (k : ℕ → Claim) (g : Graph) where
   record From (b : ℕ) (block : Block) : Type 0 where
     pub before : Block
     pub has : slice_get g.blocks b ≡ Some before
-    pub is : narrowed_block k b before ≡ block
+    pub is : narrowed_block g.arrays k b before ≡ block
 
-  from_by : (b : ℕ) (block : Block) (o : Option Block) → slice_get g.blocks b ≡ o → option_map (narrowed_block k b) o ≡ Some block → From b block
+  from_by : (b : ℕ) (block : Block) (o : Option Block) → slice_get g.blocks b ≡ o → option_map (narrowed_block g.arrays k b) o ≡ Some block → From b block
   from_by b block None e q = absurd (cc)
   from_by b block (Some old) e q = record { before = old; has = e; is = cc }
 
-  at_block : (b : ℕ) → slice_get thin.blocks b ≡ option_map (narrowed_block k b) (slice_get g.blocks b)
-  at_block b = let e : 0 + b ≡ b = omega arith in get_block k 0 g.blocks b ∙ ap (λ m. option_map (narrowed_block k m) (slice_get g.blocks b)) e
+  at_block : (b : ℕ) → slice_get thin.blocks b ≡ option_map (narrowed_block g.arrays k b) (slice_get g.blocks b)
+  at_block b = let e : 0 + b ≡ b = omega arith in get_block g.arrays k 0 g.blocks b ∙ ap (λ m. option_map (narrowed_block g.arrays k m) (slice_get g.blocks b)) e
 
   from : (b : ℕ) (block : Block) → slice_get thin.blocks b ≡ Some block → From b block
   from b block e = from_by b block (slice_get g.blocks b) refl (sym (at_block b) ∙ e)
@@ -106,22 +107,22 @@ module _ (k : ℕ → Claim) (g : Graph) where
   ends_before : (b : ℕ) (trap : Trap) → EndsBy thin b trap → EndsBy g b trap
   ends_before b trap e =
       let f = from b e.block e.has in
-      record { block = f.before; has = f.has; ends = exit_ends (after_all (k b) f.before.ops) f.before.exit trap (ap (λ (x : Block). x.exit) f.is ∙ e.ends) }
+      record { block = f.before; has = f.has; ends = exit_ends (after_all g.arrays (k b) f.before.ops) f.before.exit trap (ap (λ (x : Block). x.exit) f.is ∙ e.ends) }
 
   ends_after : (b : ℕ) (trap : Trap) → EndsBy g b trap → EndsBy thin b trap
   ends_after b trap e = record {
-    block = narrowed_block k b e.block;
-    has = at_block b ∙ ap (option_map (narrowed_block k b)) e.has;
-    ends = ap (narrowed_exit (after_all (k b) e.block.ops)) e.ends;
+    block = narrowed_block g.arrays k b e.block;
+    has = at_block b ∙ ap (option_map (narrowed_block g.arrays k b)) e.has;
+    ends = ap (narrowed_exit (after_all g.arrays (k b) e.block.ops)) e.ends;
   }
 
   edge_before : (b c : ℕ) → IsEdge thin b c → IsEdge g b c
   edge_before b c e =
       let f = from b e.block e.has in
-      record { block = f.before; has = f.has; leads = exit_leads (after_all (k b) f.before.ops) f.before.exit c (subst (λ (x : Block). IsIn c (targets_of x.exit)) (sym f.is) e.leads) }
+      record { block = f.before; has = f.has; leads = exit_leads (after_all g.arrays (k b) f.before.ops) f.before.exit c (subst (λ (x : Block). IsIn c (targets_of x.exit)) (sym f.is) e.leads) }
 
   no_ops : (b : ℕ) (block : Block) (f : From b block) → f.before.ops ≡ [] → block.ops ≡ []
-  no_ops b block f e = sym (ap (λ (x : Block). x.ops) f.is) ∙ ap (improved_all (k b)) e
+  no_ops b block f e = sym (ap (λ (x : Block). x.ops) f.is) ∙ ap (improved_all g.arrays (k b)) e
 
   graph_of : (p : Program) (function : Function) → GraphOf p function g → GraphOf p function thin
   unfolding from ends_before
@@ -130,9 +131,9 @@ module _ (k : ℕ → Claim) (g : Graph) where
     arrays = o.arrays;
     trap_empty = λ b trap e. no_ops b e.block (from b e.block e.has) (o.trap_empty b trap (ends_before b trap e));
     trap_alone = λ b c trap e f. o.trap_alone b c trap (ends_before b trap e) (ends_before c trap f);
-    traps_last = λ b c trap e l m. let w = o.traps_last b c trap (ends_before b trap e) l (subst (λ n. c < n) (blocks_length k 0 g.blocks) m) in (w.0, ends_after c w.0 w.1);
-    short = λ b block e. let f = from b block e in subst (λ n. n ≤ 512) (sym (improved_length (k b) f.before.ops) ∙ ap (λ (x : Block). length x.ops) f.is) (o.short b f.before f.has);
-    apart = λ b block test yes no e q. let f = from b block e in o.apart b f.before test yes no f.has (exit_splits (after_all (k b) f.before.ops) f.before.exit test yes no (ap (λ (x : Block). x.exit) f.is ∙ q));
+    traps_last = λ b c trap e l m. let w = o.traps_last b c trap (ends_before b trap e) l (subst (λ n. c < n) (blocks_length g.arrays k 0 g.blocks) m) in (w.0, ends_after c w.0 w.1);
+    short = λ b block e. let f = from b block e in subst (λ n. n ≤ 512) (sym (improved_length g.arrays (k b) f.before.ops) ∙ ap (λ (x : Block). length x.ops) f.is) (o.short b f.before f.has);
+    apart = λ b block test yes no e q. let f = from b block e in o.apart b f.before test yes no f.has (exit_splits (after_all g.arrays (k b) f.before.ops) f.before.exit test yes no (ap (λ (x : Block). x.exit) f.is ∙ q));
     uncritical = λ b c d e x y n z. o.uncritical b c d e (edge_before b c x) (edge_before b d y) n (edge_before e d z);
     entry = λ b e. o.entry b (edge_before b 0 e);
     general_values = o.general_values;

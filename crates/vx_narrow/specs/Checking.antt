@@ -7,6 +7,7 @@ use Rattle.vx_flow.specs.declared.graph.Operand.{Operand}
 use Rattle.vx_flow.specs.declared.graph.Operand.TheVariants.{Held, Number, Stack}
 use Rattle.vx_flow.specs.declared.graph.Op.{Op}
 use Rattle.vx_flow.specs.declared.graph.Op.TheVariants.{Compute, Select, Store}
+use Rattle.vx_flow.specs.declared.graph.Array.{Array}
 use Rattle.vx_flow.specs.declared.graph.Exit.{Exit}
 use Rattle.vx_flow.specs.declared.graph.Exit.TheVariants.{Goto, Split, Call, Return, Ends}
 use Rattle.vx_flow.specs.declared.graph.Block.{Block}
@@ -79,8 +80,9 @@ is_exit_checked given claims fs xs (Ends k) = true
 abbrev pub is_left_checked : (given : ℕ → List Interval) → (ℕ → Claim) → List Fact → List Access → Exit → Bool
 is_left_checked given claims fs xs exit = is_never fs || is_exit_checked given claims fs xs exit
 
-abbrev pub is_block_checked : (given : ℕ → List Interval) → (ℕ → Claim) → ℕ → Block → Bool
-is_block_checked given claims b block = list_all has_numbers block.ops && is_left_checked given claims (after_all (claims b) block.ops) (accessed_all (claims b) block.ops) block.exit
+-- of a block of a function with these arrays
+abbrev pub is_block_checked : List Array → (given : ℕ → List Interval) → (ℕ → Claim) → ℕ → Block → Bool
+is_block_checked arrays given claims b block = list_all has_numbers block.ops && is_left_checked given claims (after_all arrays (claims b) block.ops) (accessed_all arrays (claims b) block.ops) block.exit
 
 -- the check of an entry
 
@@ -108,7 +110,7 @@ listed_given table f = slice_index_or table f []
 
 pub record Checked (flow : Flow) (given : ℕ → List Interval) (claims : ℕ → ℕ → Claim) : Type 0 where
   pub entries : (f : ℕ) → is_entry_checked (given f) (parameters_of (slice_get flow.functions f)) (claims f 0) ≡ true
-  pub blocks : (f b : ℕ) (g : Graph) (block : Block) → slice_get flow.functions f ≡ Some g → slice_get g.blocks b ≡ Some block → is_block_checked given (claims f) b block ≡ true
+  pub blocks : (f b : ℕ) (g : Graph) (block : Block) → slice_get flow.functions f ≡ Some g → slice_get g.blocks b ≡ Some block → is_block_checked g.arrays given (claims f) b block ≡ true
   pub globals : list_all (λ (g : Global). is_number g.first) flow.globals ≡ true
 
 -- so many blocks lead from one active function to another

@@ -2,6 +2,7 @@
 -- parameters of all.
 use Rattle.std.specs.Prelude.{◌≡◌, ◌+◌, ℕ, ℤ, Bool, true, ◌&&◌, List, [], ◌∷◌, slice_get, Some}
 use Rattle.std.specs.List.{list_all}
+use Rattle.vx_flow.specs.declared.graph.Array.{Array}
 use Rattle.vx_flow.specs.declared.graph.Block.{Block}
 use Rattle.vx_flow.specs.declared.graph.Graph.{Graph}
 use Rattle.vx_flow.specs.declared.graph.Global.{Global}
@@ -17,16 +18,16 @@ use Rattle.vx_narrow.specs.Checking.{is_number, is_entry_checked, is_block_check
 use Rattle.vx_narrow.specs.Rewriting.{narrowed_graph}
 use Rattle.vx_shape.specs.Flows.{with_graphs, FlowStays}
 
--- whether the blocks from block b on pass
-abbrev pub are_blocks_checked : (given : ℕ → List Interval) → (ℕ → Claim) → ℕ → List Block → Bool
-are_blocks_checked given claims b [] = true
-are_blocks_checked given claims b (k ∷ ks) = is_block_checked given claims b k && are_blocks_checked given claims (b + 1) ks
+-- whether the blocks of a function with these arrays pass, from block b on
+abbrev pub are_blocks_checked : List Array → (given : ℕ → List Interval) → (ℕ → Claim) → ℕ → List Block → Bool
+are_blocks_checked arrays given claims b [] = true
+are_blocks_checked arrays given claims b (k ∷ ks) = is_block_checked arrays given claims b k && are_blocks_checked arrays given claims (b + 1) ks
 
 -- the new graph of function f is the old one narrowed by claims that pass, where so much is given of the parameters
 pub record GraphNarrowed (given : ℕ → List Interval) (f : ℕ) (old new : Graph) : Type 0 where
   pub claims : ℕ → Claim
   pub entry : is_entry_checked (given f) old.parameters (claims 0) ≡ true
-  pub blocks : (b : ℕ) (block : Block) → slice_get old.blocks b ≡ Some block → is_block_checked given claims b block ≡ true
+  pub blocks : (b : ℕ) (block : Block) → slice_get old.blocks b ≡ Some block → is_block_checked old.arrays given claims b block ≡ true
   pub narrowed : new ≡ narrowed_graph claims old
 
 -- the same of the graphs from function f on

@@ -3,6 +3,7 @@
 use Rattle.std.specs.Prelude.{◌≡◌, ◌+◌, ℕ, Bool, ℤ, Option, Some, None, List, [], ◌∷◌, ◌⊎◌, true, false, slice_get}
 use Rattle.vx_base.specs.Arithmetic.{IsNumber}
 use Rattle.vx_base.specs.Outcome.{NeverFails}
+use Rattle.vx_flow.specs.declared.graph.Array.{Array}
 use Rattle.vx_flow.specs.declared.graph.Exit.{Exit}
 use Rattle.vx_flow.specs.declared.graph.Exit.TheVariants.{Goto, Split}
 use Rattle.vx_flow.specs.declared.graph.Block.{Block}
@@ -30,7 +31,7 @@ abbrev pub DecidedGoes : Type 0
 DecidedGoes = (flow : Flow) (given : ℕ → List Interval) (claims : ℕ → ℕ → Claim) → Checked flow given claims → (input : List ℤ) → ((n : ℤ) → IsIn n input → IsNumber n) →
     (n : ℕ) (r : Active) → Leads flow n (start flow input) r →
     (g : Graph) (block : Block) (p c d : ℕ) (answer : Bool) → slice_get flow.functions r.function ≡ Some g → slice_get g.blocks r.block ≡ Some block →
-    block.exit ≡ Split p c d → decided (after_all (claims r.function r.block) block.ops) p ≡ Some answer →
+    block.exit ≡ Split p c d → decided (after_all g.arrays (claims r.function r.block) block.ops) p ≡ Some answer →
     GoesTo r.block (side_of answer c d) (hop (program_of flow) r)
 
 abbrev pub split_by : Option Bool → ℕ → ℕ → ℕ → Exit
@@ -41,16 +42,17 @@ abbrev pub narrowed_exit : List Fact → Exit → Exit
 narrowed_exit fs (Split p c d) = split_by (decided fs p) p c d
 narrowed_exit fs exit = exit
 
-abbrev pub narrowed_block : (ℕ → Claim) → ℕ → Block → Block
-narrowed_block claims b block = record { ops = improved_all (claims b) block.ops; exit = narrowed_exit (after_all (claims b) block.ops) block.exit }
+-- a block of a function with these arrays
+abbrev pub narrowed_block : List Array → (ℕ → Claim) → ℕ → Block → Block
+narrowed_block arrays claims b block = record { ops = improved_all arrays (claims b) block.ops; exit = narrowed_exit (after_all arrays (claims b) block.ops) block.exit }
 
 -- the blocks from block b on
-abbrev pub narrowed_from : (ℕ → Claim) → ℕ → List Block → List Block
-narrowed_from claims b [] = []
-narrowed_from claims b (k ∷ ks) = narrowed_block claims b k ∷ narrowed_from claims (b + 1) ks
+abbrev pub narrowed_from : List Array → (ℕ → Claim) → ℕ → List Block → List Block
+narrowed_from arrays claims b [] = []
+narrowed_from arrays claims b (k ∷ ks) = narrowed_block arrays claims b k ∷ narrowed_from arrays claims (b + 1) ks
 
 abbrev pub narrowed_graph : (ℕ → Claim) → Graph → Graph
-narrowed_graph claims g = record g { blocks = narrowed_from claims 0 g.blocks }
+narrowed_graph claims g = record g { blocks = narrowed_from g.arrays claims 0 g.blocks }
 
 -- the functions from function f on
 abbrev pub narrowed_functions : (ℕ → ℕ → Claim) → ℕ → List Graph → List Graph

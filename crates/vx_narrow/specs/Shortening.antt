@@ -7,6 +7,7 @@ use Rattle.vx_base.specs.declared.arithmetic.Code.{Code}
 use Rattle.vx_base.specs.declared.arithmetic.Code.TheVariants.{Add, Shl, Mpylu, Mpyhs}
 use Rattle.vx_flow.specs.declared.graph.Operand.{Operand}
 use Rattle.vx_flow.specs.declared.graph.Operand.TheVariants.{Held, Number, Stack}
+use Rattle.vx_flow.specs.declared.graph.Array.{Array}
 use Rattle.vx_flow.specs.declared.graph.Op.{Op}
 use Rattle.vx_flow.specs.declared.graph.Op.TheVariants.{Compute}
 use Rattle.vx_claims.specs.declared.fact.Fact.{Fact}
@@ -90,9 +91,10 @@ shortened fs op = op
 abbrev pub improved : List Fact → List Access → Op → Op
 improved fs xs op = shortened fs (form fs xs op)
 
-abbrev pub improved_from : List Fact → List Access → List Op → List Op
-improved_from fs xs [] = []
-improved_from fs xs (op ∷ ops) = improved fs xs op ∷ improved_from (after_known fs xs op (form fs xs op)) (accessed xs (form fs xs op)) ops
+-- those of a function with these arrays
+abbrev pub improved_from : List Array → List Fact → List Access → List Op → List Op
+improved_from arrays fs xs [] = []
+improved_from arrays fs xs (op ∷ ops) = improved fs xs op ∷ improved_from arrays (after_known fs xs op (form fs xs op)) (accessed arrays xs (form fs xs op)) ops
 
-abbrev pub improved_all : Claim → List Op → List Op
-improved_all claim ops = improved_from claim.facts claim.accesses ops
+abbrev pub improved_all : List Array → Claim → List Op → List Op
+improved_all arrays claim ops = improved_from arrays claim.facts claim.accesses ops

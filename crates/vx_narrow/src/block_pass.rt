@@ -21,7 +21,7 @@ use vx_claims::intervals::Interval;
 use vx_claims::known::decided;
 use vx_claims::update::learn;
 use vx_flow::copies::copied_exit;
-use vx_flow::graph::{Block, Exit, Op};
+use vx_flow::graph::{Array, Block, Exit, Op};
 
 /// What stands behind the operations of a block.
 #[derive(Drop)]
@@ -31,21 +31,22 @@ pub struct Passed {
     pub ops: Listed<Op>,
 }
 
-/// Goes over operations from what is known before them.
+/// Goes over operations of a function with these arrays from what is known before them.
 pub fn pass_ops(
     alloc: Global,
+    arrays: &[Array],
     claims: &[Fact],
     accesses: &[Access],
     ops: &[Op],
 ) -> Result<Passed, NoMemory>
-    ensures facts { IfOk result (λ passed. passed.facts ≡ after_from claims.now accesses.now ops.now) }
-    ensures accesses { IfOk result (λ passed. passed.accesses ≡ accessed_from claims.now accesses.now ops.now) }
-    ensures ops { IfOk result (λ passed. passed.ops ≡ improved_from claims.now accesses.now ops.now) }
+    ensures facts { IfOk result (λ passed. passed.facts ≡ after_from arrays.now claims.now accesses.now ops.now) }
+    ensures accesses { IfOk result (λ passed. passed.accesses ≡ accessed_from arrays.now claims.now accesses.now ops.now) }
+    ensures ops { IfOk result (λ passed. passed.ops ≡ improved_from arrays.now claims.now accesses.now ops.now) }
 {
     let mut facts = claims.to_vec(alloc)?;
     let mut known = copied_accesses(alloc, accesses)?;
     let mut made = Listed::new(alloc);
-    pass_each(alloc, &mut facts, &mut known, &mut made, ops)?;
+    pass_each(alloc, arrays, &mut facts, &mut known, &mut made, ops)?;
     Ok(Passed {
         facts: Listed::from_vec(facts)?,
         accesses: known,
@@ -56,20 +57,21 @@ pub fn pass_ops(
 /// Puts what is known behind operations in place of what is known before them, and puts their forms behind what is made.
 fn pass_each(
     alloc: Global,
+    arrays: &[Array],
     facts: &mut Vec<Fact>,
     known: &mut Listed<Access>,
     made: &mut Listed<Op>,
     ops: &[Op],
 ) -> Result<(), NoMemory>
-    ensures facts { IfOk result (λ _. facts.new.items ≡ after_from facts.old.items known.old ops.now) }
-    ensures known { IfOk result (λ _. known.new ≡ accessed_from facts.old.items known.old ops.now) }
-    ensures made { IfOk result (λ _. made.new ≡ made.old ++ improved_from facts.old.items known.old ops.now) }
+    ensures facts { IfOk result (λ _. facts.new.items ≡ after_from arrays.now facts.old.items known.old ops.now) }
+    ensures known { IfOk result (λ _. known.new ≡ accessed_from arrays.now facts.old.items known.old ops.now) }
+    ensures made { IfOk result (λ _. made.new ≡ made.old ++ improved_from arrays.now facts.old.items known.old ops.now) }
 {
     for op in ops {
         let form = form(facts.as_slice(), known.as_slice(), op);
         made.push(shortened(facts.as_slice(), form))?;
         learn(alloc, facts, known.as_slice(), op, &form)?;
-        *known = accessed(alloc, known.as_slice(), &form)?;
+        *known = accessed(alloc, arrays, known.as_slice(), &form)?;
     }
     Ok(())
 }
@@ -88,19 +90,21 @@ fn narrowed_exit(alloc: Global, facts: &[Fact], exit: &Exit) -> Result<Exit, NoM
     }
 }
 
-/// The block at a place narrowed, where it passes.
+/// The block at a place of a function with these arrays narrowed, where it passes.
 pub fn narrowed_block(
     alloc: Global,
+    arrays: &[Array],
     given: &[Listed<Interval>],
     table: &[Claim],
     place: usize,
     block: &Block,
 ) -> Result<Option<Block>, NoMemory>
-    ensures narrowed { IfOk result (λ found. IfSome found (λ made. made ≡ narrowed_block (listed_claims table.now) place block.now)) }
-    ensures checked { IfOk result (λ found. IfSome found (λ _. is_block_checked (listed_given given.now) (listed_claims table.now) place block.now ≡ true)) }
+    ensures narrowed { IfOk result (λ found. IfSome found (λ made. made ≡ narrowed_block arrays.now (listed_claims table.now) place block.now)) }
+    ensures checked { IfOk result (λ found. IfSome found (λ _. is_block_checked arrays.now (listed_given given.now) (listed_claims table.now) place block.now ≡ true)) }
 {
     let passed = pass_ops(
         alloc,
+        arrays,
         facts_in(table, place),
         accesses_in(table, place),
         block.ops.as_slice(),

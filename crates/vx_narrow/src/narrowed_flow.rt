@@ -22,7 +22,7 @@ use vx_base::outcome::NoMemory;
 use vx_claims::claim::Claim;
 use vx_claims::intervals::Interval;
 use vx_flow::copies::with_blocks;
-use vx_flow::graph::{Block, Flow, Global as Variable, Graph};
+use vx_flow::graph::{Array, Block, Flow, Global as Variable, Graph};
 use vx_search::{Kept, find_claims, find_given};
 use vx_shape::copies::with_graphs;
 use vx_sound::is_sound;
@@ -254,7 +254,13 @@ fn narrowed_by(
     if !is_entry_checked(alloc, given, function, graph, table)? {
         return Ok(None);
     }
-    match narrowed_blocks(alloc, given, table, graph.blocks.as_slice())? {
+    match narrowed_blocks(
+        alloc,
+        graph.arrays.as_slice(),
+        given,
+        table,
+        graph.blocks.as_slice(),
+    )? {
         Some(blocks) => {
             let narrowed = with_blocks(alloc, graph, blocks)?;
             Ok(Some(narrowed))
@@ -263,19 +269,20 @@ fn narrowed_by(
     }
 }
 
-/// The blocks narrowed, where all pass.
+/// The blocks of a function with these arrays narrowed, where all pass.
 fn narrowed_blocks(
     alloc: Global,
+    arrays: &[Array],
     given: &[Listed<Interval>],
     table: &[Claim],
     blocks: &[Block],
 ) -> Result<Option<Listed<Block>>, NoMemory>
-    ensures narrowed { IfOk result (λ found. IfSome found (λ made. made ≡ narrowed_from (listed_claims table.now) 0 blocks.now)) }
-    ensures checked { IfOk result (λ found. IfSome found (λ _. are_blocks_checked (listed_given given.now) (listed_claims table.now) 0 blocks.now ≡ true)) }
+    ensures narrowed { IfOk result (λ found. IfSome found (λ made. made ≡ narrowed_from arrays.now (listed_claims table.now) 0 blocks.now)) }
+    ensures checked { IfOk result (λ found. IfSome found (λ _. are_blocks_checked arrays.now (listed_given given.now) (listed_claims table.now) 0 blocks.now ≡ true)) }
 {
     let mut made = Listed::new(alloc);
     for (place, block) in blocks.iter().enumerate() {
-        match narrowed_block(alloc, given, table, place, block)? {
+        match narrowed_block(alloc, arrays, given, table, place, block)? {
             Some(narrowed) => made.push(narrowed)?,
             None => return Ok(None),
         }

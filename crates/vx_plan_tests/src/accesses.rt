@@ -40,18 +40,28 @@ fn listed_terms(alloc: Global, terms: &[(Symbol, i32)]) -> Result<Listed<Term>, 
     Ok(list)
 }
 
-fn form(alloc: Global, named: u32, constant: i32, terms: &[(Symbol, i32)]) -> Result<Form, NoMemory>
+/// A global array of this number.
+fn numbered(named: u32) -> Array {
+    Array {
+        words: 16,
+        global: true,
+        named,
+        base: None,
+    }
+}
+
+fn form(
+    alloc: Global,
+    array: Array,
+    constant: i32,
+    terms: &[(Symbol, i32)],
+) -> Result<Form, NoMemory>
     ensures { IfOk result (λ form. is_ordered form.terms ≡ true) }
 {
     let terms = listed_terms(alloc, terms)?;
     if !are_ordered(terms.as_slice()) {
         return Err(NoMemory);
     }
-    let array = Array {
-        words: 16,
-        global: true,
-        named,
-    };
     Ok(Form {
         array,
         constant,
@@ -120,8 +130,8 @@ const ROWS: [Row; 15] = [
 
 fn holds(alloc: Global, row: &Row) -> Result<bool, NoMemory> {
     let (constant, terms, array, other_constant, other_terms, answer) = row;
-    let left = form(alloc, 0, *constant, terms)?;
-    let right = form(alloc, *array, *other_constant, other_terms)?;
+    let left = form(alloc, numbered(0), *constant, terms)?;
+    let right = form(alloc, numbered(*array), *other_constant, other_terms)?;
     Ok(differs(&left, &right) == *answer && differs(&right, &left) == *answer)
 }
 
@@ -132,6 +142,72 @@ fn first_wrong(alloc: Global) -> Result<usize, NoMemory> {
         }
     }
     Ok(ROWS.len())
+}
+
+const FIRST_GIVEN: Array = Array {
+    words: 0,
+    global: false,
+    named: 1,
+    base: Some(10),
+};
+
+const SECOND_GIVEN: Array = Array {
+    words: 0,
+    global: false,
+    named: 2,
+    base: Some(11),
+};
+
+const OWN: Array = Array {
+    words: 16,
+    global: false,
+    named: 3,
+    base: None,
+};
+
+const WHOLE: Array = Array {
+    words: 16,
+    global: true,
+    named: 0,
+    base: None,
+};
+
+/// Two arrays, of one the index i and of the other i and a constant, and the answer.
+type ArrayRow = (Array, Array, i32, Answer);
+
+const ARRAY_ROWS: [ArrayRow; 7] = [
+    // two that were handed over may be one
+    (FIRST_GIVEN, SECOND_GIVEN, 0, Answer::Maybe),
+    (FIRST_GIVEN, SECOND_GIVEN, 1, Answer::Never),
+    (FIRST_GIVEN, FIRST_GIVEN, 0, Answer::Always),
+    // no caller hands over an own one
+    (FIRST_GIVEN, OWN, 0, Answer::Never),
+    // a global may have been handed over
+    (FIRST_GIVEN, WHOLE, 0, Answer::Maybe),
+    (FIRST_GIVEN, WHOLE, 1, Answer::Never),
+    (OWN, WHOLE, 0, Answer::Never),
+];
+
+fn array_holds(alloc: Global, row: &ArrayRow) -> Result<bool, NoMemory> {
+    let (array, other, constant, answer) = row;
+    let left = form(alloc, *array, 0, I)?;
+    let right = form(alloc, *other, *constant, I)?;
+    Ok(differs(&left, &right) == *answer && differs(&right, &left) == *answer)
+}
+
+fn first_wrong_array(alloc: Global) -> Result<usize, NoMemory> {
+    for (number, row) in ARRAY_ROWS.iter().enumerate() {
+        if !array_holds(alloc, row)? {
+            return Ok(number);
+        }
+    }
+    Ok(ARRAY_ROWS.len())
+}
+
+#[test]
+fn pairs_of_arrays(rt: HostRuntime) -> Result<(), Fail> {
+    assert_eq!(rt; first_wrong_array(rt.alloc())?, ARRAY_ROWS.len());
+    Ok(())
 }
 
 #[test]

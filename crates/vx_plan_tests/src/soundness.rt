@@ -26,11 +26,13 @@ const ARRAYS: [Array; 2] = [
         words: 2,
         global: true,
         named: 0,
+        base: None,
     },
     Array {
         words: 4,
         global: false,
         named: 1,
+        base: None,
     },
 ];
 
@@ -158,11 +160,13 @@ const SEEN: [Array; 2] = [
         words: 3,
         global: true,
         named: 0,
+        base: None,
     },
     Array {
         words: 5,
         global: false,
         named: 1,
+        base: None,
     },
 ];
 

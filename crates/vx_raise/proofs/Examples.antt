@@ -1,6 +1,6 @@
 -- A loop that sums up an array, and the same after five steps: the compare, the place and the load of the next turn are computed at
 -- the end of this one, and once before the loop.
-use Rattle.std.proofs.Common.{◌≡◌, ℕ, ◌==◌, pos, Bool, true, false, List, [], ◌∷◌, slice_index_or, refl}
+use Rattle.std.proofs.Common.{◌≡◌, ℕ, ◌==◌, pos, Bool, true, false, None, List, [], ◌∷◌, slice_index_or, refl}
 use Rattle.std.specs.List.{list_any}
 use Rattle.std.specs.Int.{int_wrap}
 use Rattle.vx_base.specs.Arithmetic.{sum_of, product_of}
@@ -25,7 +25,7 @@ use Rattle.vx_raise.specs.declared.known.Move.{Move}
 use Rattle.vx_raise.specs.Lifting.{all_lifted, can_lift_all}
 
 abbrev graph : List Block → Graph
-graph blocks = record { blocks = blocks; banks = General ∷ General ∷ Branch ∷ General ∷ General ∷ []; parameters = []; arrays = record { words = 4; global = true; named = 0 } ∷ [] }
+graph blocks = record { blocks = blocks; banks = General ∷ General ∷ Branch ∷ General ∷ General ∷ []; parameters = []; arrays = record { words = 4; global = true; named = 0; base = None } ∷ [] }
 
 abbrev flow : Graph → Flow
 flow g = record { functions = g ∷ []; globals = record { words = 4; first = pos 7 } ∷ []; texts = []; main = 0 }

@@ -5,7 +5,8 @@ use crate::value_sets::{NONE, at, put};
 use crate::webs::Webs;
 use std::alloc::Global;
 use vx_base::outcome::NoMemory;
-use vx_flow::graph::{ArrayId, Bank, Graph, Op};
+use vx_flow::arrays::is_local;
+use vx_flow::graph::{Bank, Graph, Op};
 
 /// The kind of a general value that is no place of an own array.
 pub const GENERAL: u32 = 0;
@@ -35,19 +36,12 @@ fn put_places(graph: &Graph, ops: &[Op], kinds: &mut Vec<u32>) {
     for op in ops {
         match op {
             Op::Place { to, array, .. } => {
-                if is_own(graph, *array) {
+                if is_local(graph.arrays.as_slice(), *array) {
                     put(kinds, *to, array.saturating_add(PLACE));
                 }
             }
             _ => {}
         }
-    }
-}
-
-fn is_own(graph: &Graph, array: ArrayId) -> bool {
-    match graph.arrays.as_slice().get(array as usize) {
-        Some(array) => !array.global,
-        None => false,
     }
 }
 

@@ -13,7 +13,7 @@ use vx_claims::claim::{Claim, accesses_in, facts_in};
 use vx_claims::effects::without;
 use vx_claims::fact::Fact;
 use vx_claims::known::{give, is_never};
-use vx_flow::graph::{Block, BlockId, Exit, Graph, Value};
+use vx_flow::graph::{Array, Block, BlockId, Exit, Graph, Value};
 use vx_loops::{Loops, entries_at, loops_of};
 
 /// How many of the facts and of what is known of arrays are looked at at most, the newest first.
@@ -35,14 +35,7 @@ pub(crate) fn inherit(
     ensures { IfOk result (λ _. length claims.new.items ≡ length claims.old.items) }
 {
     let mut loops = loops_of(alloc, graph)?;
-    let inherited = inherit_along(
-        alloc,
-        claims,
-        &mut loops,
-        order,
-        graph.blocks.as_slice(),
-        joins,
-    );
+    let inherited = inherit_along(alloc, claims, &mut loops, order, graph, joins);
     drop(loops);
     inherited
 }
@@ -53,14 +46,14 @@ fn inherit_along(
     claims: &mut Vec<Claim>,
     loops: &mut Loops,
     order: &[BlockId],
-    blocks: &[Block],
+    graph: &Graph,
     joins: bool,
 ) -> Result<(), NoMemory>
     ensures { IfOk result (λ _. length claims.new.items ≡ length claims.old.items) }
 {
-    let mut ends = nothing_everywhere(alloc, blocks.len())?;
+    let mut ends = nothing_everywhere(alloc, graph.blocks.len())?;
     for place in order {
-        inherit_at(alloc, claims, loops, &mut ends, blocks, *place, joins)?;
+        inherit_at(alloc, claims, loops, &mut ends, graph, *place, joins)?;
     }
     Ok(())
 }
@@ -71,16 +64,23 @@ fn inherit_at(
     claims: &mut Vec<Claim>,
     loops: &mut Loops,
     ends: &mut Vec<Claim>,
-    blocks: &[Block],
+    graph: &Graph,
     place: BlockId,
     joins: bool,
 ) -> Result<(), NoMemory>
     ensures { IfOk result (λ _. length claims.new.items ≡ length claims.old.items) }
 {
+    let blocks = graph.blocks.as_slice();
     match blocks.get(place as usize) {
         Some(block) => {
             take_if(alloc, claims, loops, ends.as_slice(), blocks, place, joins)?;
-            let end = end_of(alloc, claims.as_slice(), place, block)?;
+            let end = end_of(
+                alloc,
+                graph.arrays.as_slice(),
+                claims.as_slice(),
+                place,
+                block,
+            )?;
             put_end(ends, place, end);
             Ok(())
         }
@@ -134,6 +134,7 @@ fn put_end(ends: &mut Vec<Claim>, place: BlockId, end: Claim) {
 /// What is known at the end of a block, wherever it leads.
 fn end_of(
     alloc: Global,
+    arrays: &[Array],
     claims: &[Claim],
     place: BlockId,
     block: &Block,
@@ -145,20 +146,21 @@ fn end_of(
         Exit::Call {
             result: written,
             ..
-        } => end_of_call(alloc, claims, place, block, *written),
-        _ => passed_over(alloc, claims, place, block),
+        } => end_of_call(alloc, arrays, claims, place, block, *written),
+        _ => passed_over(alloc, arrays, claims, place, block),
     }
 }
 
 /// What is known behind a call that writes this value, if any: no more of arrays.
 fn end_of_call(
     alloc: Global,
+    arrays: &[Array],
     claims: &[Claim],
     place: BlockId,
     block: &Block,
     written: Option<Value>,
 ) -> Result<Claim, NoMemory> {
-    let mut end = passed_over(alloc, claims, place, block)?;
+    let mut end = passed_over(alloc, arrays, claims, place, block)?;
     end.accesses = Listed::new(alloc);
     if let Some(value) = written {
         end.facts = without(alloc, end.facts.as_slice(), value)?;
@@ -166,15 +168,17 @@ fn end_of_call(
     Ok(end)
 }
 
-/// Goes over the operations of a block from what is claimed at its start.
+/// Goes over the operations of a block of a function with these arrays from what is claimed at its start.
 pub(crate) fn passed_over(
     alloc: Global,
+    arrays: &[Array],
     claims: &[Claim],
     place: BlockId,
     block: &Block,
 ) -> Result<Claim, NoMemory> {
     known_behind(
         alloc,
+        arrays,
         facts_in(claims, place as usize),
         accesses_in(claims, place as usize),
         block.ops.as_slice(),

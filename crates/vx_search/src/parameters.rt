@@ -396,17 +396,17 @@ fn passing_on(
     rounds: u32,
 ) -> Result<Vec<Claim>, NoMemory> {
     let claims = find_claims(alloc, graph, row, rounds, true)?;
-    note_calls(alloc, calls, graph.blocks.as_slice(), claims.as_slice())?;
+    note_calls(alloc, calls, graph, claims.as_slice())?;
     Ok(claims)
 }
 
 fn note_calls(
     alloc: Global,
     calls: &mut Calls,
-    blocks: &[Block],
+    graph: &Graph,
     claims: &[Claim],
 ) -> Result<(), NoMemory> {
-    for (place, block) in blocks.iter().enumerate() {
+    for (place, block) in graph.blocks.as_slice().iter().enumerate() {
         match &block.exit {
             Exit::Call {
                 function,
@@ -416,7 +416,8 @@ fn note_calls(
                 let called = *function as usize;
                 let comes = !is_never(facts_in(claims, place));
                 if comes && is_bounded(calls, called, arguments.len()) {
-                    let passed = passed_over(alloc, claims, block_number(place), block)?;
+                    let arrays = graph.arrays.as_slice();
+                    let passed = passed_over(alloc, arrays, claims, block_number(place), block)?;
                     note_call(calls, called, arguments.as_slice(), passed.facts.as_slice());
                 }
             }

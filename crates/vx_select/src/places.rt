@@ -3,13 +3,13 @@
 ghost use Rattle.std.specs.Prelude.{◌≡◌, ℕ, IfOk};
 ghost use Rattle.std.specs.List.{list_any};
 ghost use Rattle.vx_flow.specs.declared.graph.Block.{Block};
-ghost use Rattle.vx_flow.specs.Sound.{is_local};
 ghost use Rattle.vx_select.specs.Known.{ArePlaced, Marks};
 ghost use Rattle.vx_select.specs.Selected.{is_place_of};
 
 use std::alloc::Global;
 use vx_base::outcome::NoMemory;
-use vx_flow::graph::{Array, ArrayId, Block, Graph, Op};
+use vx_flow::arrays::is_local;
+use vx_flow::graph::{Array, Block, Graph, Op};
 
 /// Which values of a graph are places of an array of its own.
 pub(crate) fn placed(alloc: Global, graph: &Graph) -> Result<Vec<bool>, NoMemory>
@@ -46,14 +46,5 @@ fn mark_op(marks: &mut Vec<bool>, arrays: &[Array], op: &Op)
             }
         }
         _ => {}
-    }
-}
-
-fn is_local(arrays: &[Array], array: ArrayId) -> bool
-    ensures { result ≡ is_local arrays.now array }
-{
-    match arrays.get(array as usize) {
-        Some(array) => !array.global,
-        None => false,
     }
 }

@@ -4,10 +4,10 @@
 
 ghost use Rattle.std.specs.Prelude.{◌≡◌, ◌==◌};
 ghost use Rattle.std.specs.List.{list_all};
-ghost use Rattle.vx_flow.specs.Sound.{is_branch, is_general, is_general_or_none, is_local, is_operand, is_place_in, is_right, is_right_value, is_sound_exit, is_sound_operation, is_written, is_zero, keeps_place};
+ghost use Rattle.vx_flow.specs.Sound.{is_branch, is_general, is_general_or_none, is_operand, is_place_in, is_right, is_right_value, is_sound_exit, is_sound_operation, is_written, is_zero, keeps_place};
 
 use vx_base::arithmetic::Code;
-use vx_flow::graph::{Array, ArrayId, Bank, Exit, Op, Operand, Value};
+use vx_flow::graph::{ArrayId, Bank, Exit, Op, Operand, Value};
 use vx_flow::operands::is_value;
 
 /// Whether these are general values that are there.
@@ -220,16 +220,6 @@ fn is_branch(banks: &[Bank], value: Value) -> bool
     match banks.get(value as usize) {
         Some(Bank::Branch) => true,
         Some(Bank::General) => false,
-        None => false,
-    }
-}
-
-/// Whether an array is there and is the function's own.
-pub fn is_local(arrays: &[Array], array: u32) -> bool
-    ensures { result ≡ is_local arrays.now array }
-{
-    match arrays.get(array as usize) {
-        Some(array) => !array.global,
         None => false,
     }
 }

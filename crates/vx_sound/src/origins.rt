@@ -3,9 +3,9 @@
 ghost use Rattle.std.specs.Prelude.{◌≡◌};
 ghost use Rattle.vx_sound.specs.Origins.{noted};
 
-use crate::named::is_local;
 use std::alloc::Global;
 use vx_base::outcome::NoMemory;
+use vx_flow::arrays::is_local;
 use vx_flow::graph::{Array, ArrayId, Graph, Op, Value};
 
 /// Which array a value is a place of, and where a place that writes it stands.

@@ -5,8 +5,9 @@ ghost use Rattle.std.specs.Prelude.{◌≡◌, slice_get};
 ghost use Rattle.std.specs.List.{list_all};
 ghost use Rattle.vx_sound.specs.Origins.{are_free_reads, is_array, is_found, is_free, is_free_operand, is_free_or_none, is_origin, is_place_at, is_place_of, is_place_or_free, is_shown, is_shown_block, is_shown_in, is_shown_place, keeps_origins, leaves_origins};
 
-use crate::named::{are_general, is_local, is_place_in, is_sound_exit, is_sound_operation};
+use crate::named::{are_general, is_place_in, is_sound_exit, is_sound_operation};
 use crate::origins::{Origin, noted};
+use vx_flow::arrays::is_local;
 use vx_flow::graph::{ArrayId, Block, Exit, Graph, Op, Operand, Value};
 use vx_flow::operands::{Reads, read_by, written_by};
 

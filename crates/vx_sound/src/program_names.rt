@@ -2,8 +2,9 @@
 
 ghost use Rattle.std.specs.Prelude.{◌≡◌, ◌==◌, not, slice_get};
 ghost use Rattle.std.specs.List.{list_all};
-ghost use Rattle.vx_flow.specs.Sound.{are_distinct, begins_with, has_parameters, is_block_there, is_call_there, is_global, is_text_there};
+ghost use Rattle.vx_flow.specs.Sound.{are_distinct, begins_with, has_parameters, is_block_there, is_call_there, is_global, is_own_array, is_text_there};
 
+use vx_flow::arrays::{has_base, is_own_array};
 use vx_flow::graph::{Array, Block, Exit, Flow, Global, Graph, Op, Value};
 
 /// Whether the function is there and has so many parameters.
@@ -114,14 +115,14 @@ pub fn begins_with(globals: &[Global], arrays: &[Array]) -> bool
 fn is_global(array: &Array, words: u32) -> bool
     ensures { result ≡ is_global words array.now }
 {
-    array.global && array.words == words
+    array.global && array.words == words && !has_base(array)
 }
 
 fn are_own(arrays: &[Array]) -> bool
-    ensures { result ≡ list_all (λ array. not array.global) arrays.now }
+    ensures { result ≡ list_all is_own_array arrays.now }
 {
     for array in arrays {
-        if array.global {
+        if !is_own_array(array) {
             return false;
         }
     }

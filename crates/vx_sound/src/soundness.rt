@@ -6,12 +6,11 @@ ghost use Rattle.std.specs.Prelude.{◌≡◌, ◌↔◌, ◌==◌, true, not};
 ghost use Rattle.std.specs.List.{list_all, list_any};
 ghost use Rattle.vx_flow.specs.Sound.{block_keeps, has_place_in, is_access_placed, is_kept, is_place_in, is_placed, is_result, is_sound, is_sound_block, is_sound_flow, is_sound_function, is_sound_in, is_value, keeps_place, leaves_alone, Sound, SoundFlow};
 
-use crate::named::{
-    are_general, is_local, is_place_in, is_sound_exit, is_sound_operation, keeps_place,
-};
+use crate::named::{are_general, is_place_in, is_sound_exit, is_sound_operation, keeps_place};
 use crate::program_names::{
     are_blocks_there, are_distinct, are_others, begins_with, has_parameters,
 };
+use vx_flow::arrays::is_local;
 use vx_flow::graph::{Block, Exit, Flow, Graph, Op, Operand, Value};
 use vx_flow::operands::is_value;
 
@@ -40,7 +39,7 @@ pub fn graph_is_sound(graph: &Graph) -> bool
 /// - `main`, every function that is called and every text that is named are there.
 /// - `main` has no parameter, and a call has one argument for each parameter of its function.
 /// - The arrays of every graph begin with the globals in their order, with their words, and no later array is
-///   global.
+///   global. No array has a base.
 ///
 /// It takes no memory.
 pub fn flow_is_sound(flow: &Flow) -> bool

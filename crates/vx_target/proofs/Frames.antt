@@ -1,5 +1,5 @@
 -- Where the words of frames are: within the memory, apart from each other and from the globals.
-use Rattle.std.proofs.Common.{◌≡◌, ◌<◌, ◌≤◌, ◌⊎◌, inl, inr, ◌+◌, ◌-◌, ◌*◌, ℕ, zero, suc, ℤ, Bool, true, false, not, ◌||◌, Option, Some, None, List, [], ◌∷◌, length, refl, sym, ap, ◌∙◌, subst, arith, ltb}
+use Rattle.std.proofs.Common.{◌≡◌, ◌<◌, ◌≤◌, ◌⊎◌, inl, inr, ◌+◌, ◌-◌, ◌*◌, ℕ, zero, suc, ℤ, Bool, true, false, not, ◌&&◌, ◌||◌, Option, Some, None, List, [], ◌∷◌, length, refl, sym, ap, ◌∙◌, subst, arith, ltb}
 use Rattle.std.specs.Prelude.{if◌then◌else◌, slice_get}
 use Rattle.std.specs.List.{list_any}
 use Rattle.std.proofs.lemmas.Bool.{ltb-true, ltb-false}
@@ -8,7 +8,7 @@ use Rattle.vx_flow.specs.declared.graph.Global.{Global}
 use Rattle.vx_flow.specs.declared.graph.Flow.{Flow}
 use Rattle.vx_flow.specs.Effects.{IsIn}
 use Rattle.vx_flow.specs.Meaning.{Frame, spot_of, deepest}
-use Rattle.vx_flow.specs.Sound.{is_own as is_own_array, SoundFlow}
+use Rattle.vx_flow.specs.Sound.{is_given, has_base, is_own as is_own_or_none, SoundFlow}
 use Rattle.vx_flow.specs.declared.graph.Operand.{Operand}
 use Rattle.vx_isa.specs.declared.operation.Register.TheVariants.{Link}
 use Rattle.vx_isa.specs.Machine.{State}
@@ -98,13 +98,12 @@ before_apart (g ∷ gs) zero (suc b) i j x y ea eb hi hj e = absurd (let q : g.w
 before_apart (g ∷ gs) (suc a) zero i j x y ea eb hi hj e = absurd (let q : g.words ≡ y.words = (let z : g ≡ y = cc in ap (λ y. y.words) z) in omega arith)
 before_apart (g ∷ gs) (suc a) (suc b) i j x y ea eb hi hj e = let k = before_apart gs a b i j x y ea eb hi hj (omega arith) in (ap suc k.0, k.1)
 
-not_false : (b : Bool) → b ≡ true → not b ≡ false
-not_false true e = refl
-not_false false e = absurd (cc)
+no_own : (global given : Bool) → global ≡ true → (not global && not given) ≡ false
+no_own true given e = refl
+no_own false given e = absurd (cc)
 
-not_true : (b : Bool) → b ≡ false → not b ≡ true
-not_true true e = absurd (cc)
-not_true false e = refl
+is_owned : (global : Bool) (base : Option ℕ) → global ≡ false → base ≡ None → (not global && not (is_given base)) ≡ true
+is_owned global base e f = ap (λ t. not t && not (is_given base)) e ∙ ap (λ o. not (is_given o)) f
 
 module _ (T : Target) (flow : Flow) (some_frame : 1 ≤ T.frame) (globals_are : T.globals ≡ words_before flow.globals (length flow.globals)) (sound : SoundFlow flow) where
   abbrev pub Globals : ℕ
@@ -152,7 +151,7 @@ module _ (T : Target) (flow : Flow) (some_frame : 1 ≤ T.frame) (globals_are : 
             let x = get_some flow.globals a lt in
             let g = sound.globals (T.graph f) a x.0 graph_in x.1 in
             let same : g.array ≡ array = (let z : Some g.array ≡ Some array = sym g.is ∙ has in cc) in
-            let own : is_own T f a ≡ false = ap is_own_array has ∙ not_false array.global (ap (λ y. y.global) (sym same) ∙ g.global) in
+            let own : is_own T f a ≡ false = ap is_own_or_none has ∙ no_own array.global (has_base array) (ap (λ y. y.global) (sym same) ∙ g.global) in
             inl (record {
               below = lt;
               item = x.0;
@@ -163,7 +162,8 @@ module _ (T : Target) (flow : Flow) (some_frame : 1 ≤ T.frame) (globals_are : 
             })
         by false e =
             let ge : Globals ≤ a = ltb-false a Globals e in
-            let own : is_own T f a ≡ true = ap is_own_array has ∙ not_true array.global (sound.own (T.graph f) a array graph_in has ge) in
+            let kept = sound.own (T.graph f) a array graph_in has ge in
+            let own : is_own T f a ≡ true = ap is_own_or_none has ∙ is_owned array.global array.base kept.0 kept.1 in
             inr (record {
               from = ge;
               begins = λ sp. ap (λ b. if b then sp + T.array_at f a else T.array_at f a) own;

@@ -36,7 +36,7 @@ abbrev pub join_at : ℕ → Join
 join_at place = record { place = place; block = 2; edges = record { from = 3; to = 2 } ∷ [] }
 
 abbrev pub words_16 : (named : ℕ) → Array
-words_16 named = record { words = 16; global = true; named = named }
+words_16 named = record { words = 16; global = true; named = named; base = None }
 
 abbrev pub trace_of : List Step → (places : List ℕ) → Trace
 trace_of steps places = record {

@@ -138,11 +138,13 @@ const ARRAYS: [Array; 2] = [
         words: 16,
         global: true,
         named: 0,
+        base: None,
     },
     Array {
         words: 16,
         global: true,
         named: 1,
+        base: None,
     },
 ];
 

@@ -1,4 +1,4 @@
-use Rattle.std.proofs.Common.{◌<◌, ◌≤◌, ◌∙◌, ◌++◌, List, false, length, drop, sym}
+use Rattle.std.proofs.Common.{◌<◌, ◌≤◌, ◌∙◌, ◌++◌, List, None, false, length, drop, sym}
 use Rattle.std.proofs.lemmas.List.{append-nil, at_drop_all}
 use Rattle.std.proofs.lemmas.Bool.{ltb-false, ltb-true}
 use Rattle.vx_flow.specs.declared.graph.Array.{Array}
@@ -17,7 +17,7 @@ loop-place-preserved c =
     let m = c.match-get.next in
     let h = c.loop-place.invariant in
     let l = c.loop-place-test.true in
-    let none : Array = record { words = 0; global = false; named = 0 } in
+    let none : Array = record { words = 0; global = false; named = 0; base = None } in
     let all = arrays_from c.args.from xs addresses in
     let end = arrays_end c.args.from xs addresses in
     elim c.match-get.branch [

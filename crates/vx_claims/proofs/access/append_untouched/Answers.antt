@@ -6,6 +6,6 @@ use Rattle.vx_claims.proofs.access.append_untouched.Goals.{then-not-touches+in_o
 
 pub loop-access-preserved : goal.loop-access-preserved
 loop-access-preserved c = elim c.if-not-touches.branch [
-  | then-not-touches+in_ok-push w ↦ kept_turn (untouched c.args.array) _ c.loop-access.list c.if-not-touches.list c.args.known.now c.loop-access.access-index _ c.loop-access-test.true c.loop-access.invariant (untouched_kept c.args.array _ _ (sym c.touches.ensures ∙ w.if-not-touches.true)) (w.list-is ∙ w.in_ok-push.ensures.ok)
-  | else-not-touches w ↦ passed_turn (untouched c.args.array) _ c.loop-access.list c.if-not-touches.list c.args.known.now c.loop-access.access-index _ c.loop-access-test.true c.loop-access.invariant (untouched_passed c.args.array _ _ (sym c.touches.ensures ∙ w.if-not-touches.false)) w.list-is
+  | then-not-touches+in_ok-push w ↦ kept_turn (untouched c.args.arrays.now c.args.array) _ c.loop-access.list c.if-not-touches.list c.args.known.now c.loop-access.access-index _ c.loop-access-test.true c.loop-access.invariant (untouched_kept c.args.arrays.now c.args.array _ _ (sym c.touches.ensures ∙ w.if-not-touches.true)) (w.list-is ∙ w.in_ok-push.ensures.ok)
+  | else-not-touches w ↦ passed_turn (untouched c.args.arrays.now c.args.array) _ c.loop-access.list c.if-not-touches.list c.args.known.now c.loop-access.access-index _ c.loop-access-test.true c.loop-access.invariant (untouched_passed c.args.arrays.now c.args.array _ _ (sym c.touches.ensures ∙ w.if-not-touches.false)) w.list-is
 ]

@@ -1,6 +1,7 @@
 use Rattle.std.proofs.Common.{◌≡◌, ◌+◌, ◌∷◌, List, drop, ap, sym, ◌∙◌}
 use Rattle.std.proofs.lemmas.List.{at_drop_more, at_drop_all}
 use Rattle.std.proofs.lemmas.Result.{IfOk-from_err}
+use Rattle.vx_flow.specs.declared.graph.Array.{Array}
 use Rattle.vx_flow.specs.declared.graph.Op.{Op}
 use Rattle.vx_claims.specs.declared.fact.Fact.{Fact}
 use Rattle.vx_claims.specs.declared.access.Access.{Access}
@@ -8,19 +9,19 @@ use Rattle.vx_claims.specs.Accesses.{accessed}
 use Rattle.vx_claims.specs.Forming.{accessed_from, after_from, after_known, form}
 use Rattle.vx_claims.proofs.behind.known_behind.Goals as goal
 
-facts_step : (fs gs new : List Fact) (xs ys zs us later : List Access) (op made : Op) (rest : List Op) → gs ≡ fs → ys ≡ xs → zs ≡ xs → us ≡ xs → made ≡ form gs ys op → new ≡ after_known fs zs op made → later ≡ accessed us made → after_from new later rest ≡ after_from fs xs (op ∷ rest)
-facts_step fs gs new xs ys zs us later op made rest g y z u m n l =
+facts_step : (arrays : List Array) (fs gs new : List Fact) (xs ys zs us later : List Access) (op made : Op) (rest : List Op) → gs ≡ fs → ys ≡ xs → zs ≡ xs → us ≡ xs → made ≡ form gs ys op → new ≡ after_known fs zs op made → later ≡ accessed arrays us made → after_from arrays new later rest ≡ after_from arrays fs xs (op ∷ rest)
+facts_step arrays fs gs new xs ys zs us later op made rest g y z u m n l =
     let k : made ≡ form fs xs op = m ∙ ap (λ (h : List Fact). form h ys op) g ∙ ap (λ (h : List Access). form fs h op) y in
-    ap (λ (h : List Fact). after_from h later rest) (n ∙ ap (λ (h : List Access). after_known fs h op made) z)
-    ∙ ap (λ (h : List Access). after_from (after_known fs xs op made) h rest) (l ∙ ap (λ (h : List Access). accessed h made) u)
-    ∙ ap (λ (h : Op). after_from (after_known fs xs op h) (accessed xs h) rest) k
+    ap (λ (h : List Fact). after_from arrays h later rest) (n ∙ ap (λ (h : List Access). after_known fs h op made) z)
+    ∙ ap (λ (h : List Access). after_from arrays (after_known fs xs op made) h rest) (l ∙ ap (λ (h : List Access). accessed arrays h made) u)
+    ∙ ap (λ (h : Op). after_from arrays (after_known fs xs op h) (accessed arrays xs h) rest) k
 
-accesses_step : (fs gs new : List Fact) (xs ys zs us later : List Access) (op made : Op) (rest : List Op) → gs ≡ fs → ys ≡ xs → zs ≡ xs → us ≡ xs → made ≡ form gs ys op → new ≡ after_known fs zs op made → later ≡ accessed us made → accessed_from new later rest ≡ accessed_from fs xs (op ∷ rest)
-accesses_step fs gs new xs ys zs us later op made rest g y z u m n l =
+accesses_step : (arrays : List Array) (fs gs new : List Fact) (xs ys zs us later : List Access) (op made : Op) (rest : List Op) → gs ≡ fs → ys ≡ xs → zs ≡ xs → us ≡ xs → made ≡ form gs ys op → new ≡ after_known fs zs op made → later ≡ accessed arrays us made → accessed_from arrays new later rest ≡ accessed_from arrays fs xs (op ∷ rest)
+accesses_step arrays fs gs new xs ys zs us later op made rest g y z u m n l =
     let k : made ≡ form fs xs op = m ∙ ap (λ (h : List Fact). form h ys op) g ∙ ap (λ (h : List Access). form fs h op) y in
-    ap (λ (h : List Fact). accessed_from h later rest) (n ∙ ap (λ (h : List Access). after_known fs h op made) z)
-    ∙ ap (λ (h : List Access). accessed_from (after_known fs xs op made) h rest) (l ∙ ap (λ (h : List Access). accessed h made) u)
-    ∙ ap (λ (h : Op). accessed_from (after_known fs xs op h) (accessed xs h) rest) k
+    ap (λ (h : List Fact). accessed_from arrays h later rest) (n ∙ ap (λ (h : List Access). after_known fs h op made) z)
+    ∙ ap (λ (h : List Access). accessed_from arrays (after_known fs xs op made) h rest) (l ∙ ap (λ (h : List Access). accessed arrays h made) u)
+    ∙ ap (λ (h : Op). accessed_from arrays (after_known fs xs op h) (accessed arrays xs h) rest) k
 
 pub loop-op-preserved : goal.loop-op-preserved
 loop-op-preserved c =
@@ -32,21 +33,21 @@ loop-op-preserved c =
     let s2 : c.as_slice-in-loop-op-2.result.now ≡ xs = c.as_slice-in-loop-op-2.ensures in
     let s3 : c.as_slice-in-loop-op-3.result.now ≡ xs = c.as_slice-in-loop-op-3.ensures in
     record {
-      facts = facts_step fs c.as_slice.result.now c.learn.new.facts.items xs c.as_slice-in-loop-op.result.now c.as_slice-in-loop-op-2.result.now c.as_slice-in-loop-op-3.result.now c.in_ok-known-2.known _ c.form-form.result (drop (i + 1) ops)
+      facts = facts_step c.args.arrays.now fs c.as_slice.result.now c.learn.new.facts.items xs c.as_slice-in-loop-op.result.now c.as_slice-in-loop-op-2.result.now c.as_slice-in-loop-op-3.result.now c.in_ok-known-2.known _ c.form-form.result (drop (i + 1) ops)
           c.as_slice.ensures.value s1 s2 s3 c.form-form.ensures c.in_ok-learn.ensures c.in_ok-known-2.ensures
-          ∙ sym (at_drop_more (λ (l : List Op). after_from fs xs l) ops i _ c.loop-op-test.true) ∙ c.loop-op.invariant.facts;
-      accesses = accesses_step fs c.as_slice.result.now c.learn.new.facts.items xs c.as_slice-in-loop-op.result.now c.as_slice-in-loop-op-2.result.now c.as_slice-in-loop-op-3.result.now c.in_ok-known-2.known _ c.form-form.result (drop (i + 1) ops)
+          ∙ sym (at_drop_more (λ (l : List Op). after_from c.args.arrays.now fs xs l) ops i _ c.loop-op-test.true) ∙ c.loop-op.invariant.facts;
+      accesses = accesses_step c.args.arrays.now fs c.as_slice.result.now c.learn.new.facts.items xs c.as_slice-in-loop-op.result.now c.as_slice-in-loop-op-2.result.now c.as_slice-in-loop-op-3.result.now c.in_ok-known-2.known _ c.form-form.result (drop (i + 1) ops)
           c.as_slice.ensures.value s1 s2 s3 c.form-form.ensures c.in_ok-learn.ensures c.in_ok-known-2.ensures
-          ∙ sym (at_drop_more (λ (l : List Op). accessed_from fs xs l) ops i _ c.loop-op-test.true) ∙ c.loop-op.invariant.accesses;
+          ∙ sym (at_drop_more (λ (l : List Op). accessed_from c.args.arrays.now fs xs l) ops i _ c.loop-op-test.true) ∙ c.loop-op.invariant.accesses;
     }
 
 pub returns-clause-facts : goal.returns-clause-facts
 returns-clause-facts c =
-    c.in_ok-from_vec.ensures ∙ sym (at_drop_all (λ (l : List Op). after_from c.loop-op.facts.items c.loop-op.known l) c.args.ops.now c.loop-op.op-index c.loop-op-test.false) ∙ c.loop-op.invariant.facts
+    c.in_ok-from_vec.ensures ∙ sym (at_drop_all (λ (l : List Op). after_from c.args.arrays.now c.loop-op.facts.items c.loop-op.known l) c.args.ops.now c.loop-op.op-index c.loop-op-test.false) ∙ c.loop-op.invariant.facts
 
 pub returns-clause-accesses : goal.returns-clause-accesses
 returns-clause-accesses c =
-    sym (at_drop_all (λ (l : List Op). accessed_from c.loop-op.facts.items c.loop-op.known l) c.args.ops.now c.loop-op.op-index c.loop-op-test.false) ∙ c.loop-op.invariant.accesses
+    sym (at_drop_all (λ (l : List Op). accessed_from c.args.arrays.now c.loop-op.facts.items c.loop-op.known l) c.args.ops.now c.loop-op.op-index c.loop-op-test.false) ∙ c.loop-op.invariant.accesses
 
 pub returns-in_err-facts-clause-facts : goal.returns-in_err-facts-clause-facts
 returns-in_err-facts-clause-facts c = IfOk-from_err _ _ c.from_residual.ensures.0

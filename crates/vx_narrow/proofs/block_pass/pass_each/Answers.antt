@@ -1,6 +1,7 @@
 use Rattle.std.proofs.Common.{◌≡◌, ◌+◌, ◌++◌, ◌∷◌, [], List, drop, ap, sym, ◌∙◌}
 use Rattle.std.proofs.lemmas.List.{append_assoc, append-nil, at_drop_more, at_drop_all}
 use Rattle.std.proofs.lemmas.Result.{IfOk-from_err}
+use Rattle.vx_flow.specs.declared.graph.Array.{Array}
 use Rattle.vx_flow.specs.declared.graph.Op.{Op}
 use Rattle.vx_claims.specs.declared.fact.Fact.{Fact}
 use Rattle.vx_claims.specs.declared.access.Access.{Access}
@@ -13,21 +14,21 @@ form_is : (fs gs : List Fact) (xs ys : List Access) (op made : Op) → gs ≡ fs
 form_is fs gs xs ys op made g y m = m ∙ ap (λ (h : List Fact). form h ys op) g ∙ ap (λ (h : List Access). form fs h op) y
 
 -- what is said of what is known behind an operation
-step : {T : Type 0} (F : List Fact → List Access → T) (fs new : List Fact) (xs zs us later : List Access) (op made : Op) → zs ≡ xs → us ≡ xs → made ≡ form fs xs op → new ≡ after_known fs zs op made → later ≡ accessed us made
-    → F new later ≡ F (after_known fs xs op (form fs xs op)) (accessed xs (form fs xs op))
-step F fs new xs zs us later op made z u k n l =
+step : {T : Type 0} (arrays : List Array) (F : List Fact → List Access → T) (fs new : List Fact) (xs zs us later : List Access) (op made : Op) → zs ≡ xs → us ≡ xs → made ≡ form fs xs op → new ≡ after_known fs zs op made → later ≡ accessed arrays us made
+    → F new later ≡ F (after_known fs xs op (form fs xs op)) (accessed arrays xs (form fs xs op))
+step arrays F fs new xs zs us later op made z u k n l =
     ap (λ (h : List Fact). F h later) (n ∙ ap (λ (h : List Access). after_known fs h op made) z)
-    ∙ ap (λ (h : List Access). F (after_known fs xs op made) h) (l ∙ ap (λ (h : List Access). accessed h made) u)
-    ∙ ap (λ (h : Op). F (after_known fs xs op h) (accessed xs h)) k
+    ∙ ap (λ (h : List Access). F (after_known fs xs op made) h) (l ∙ ap (λ (h : List Access). accessed arrays h made) u)
+    ∙ ap (λ (h : Op). F (after_known fs xs op h) (accessed arrays xs h)) k
 
-made_step : (fs hs new : List Fact) (xs zs us later : List Access) (op made short : Op) (rest done more : List Op) → hs ≡ fs → zs ≡ xs → us ≡ xs → made ≡ form fs xs op → short ≡ shortened hs made → more ≡ done ++ short ∷ []
-    → new ≡ after_known fs zs op made → later ≡ accessed us made → more ++ improved_from new later rest ≡ done ++ improved_from fs xs (op ∷ rest)
-made_step fs hs new xs zs us later op made short rest done more h z u k s d n l =
-    let r = step (λ a b. improved_from a b rest) fs new xs zs us later op made z u k n l in
+made_step : (arrays : List Array) (fs hs new : List Fact) (xs zs us later : List Access) (op made short : Op) (rest done more : List Op) → hs ≡ fs → zs ≡ xs → us ≡ xs → made ≡ form fs xs op → short ≡ shortened hs made → more ≡ done ++ short ∷ []
+    → new ≡ after_known fs zs op made → later ≡ accessed arrays us made → more ++ improved_from arrays new later rest ≡ done ++ improved_from arrays fs xs (op ∷ rest)
+made_step arrays fs hs new xs zs us later op made short rest done more h z u k s d n l =
+    let r = step arrays (λ a b. improved_from arrays a b rest) fs new xs zs us later op made z u k n l in
     let t : short ≡ shortened fs (form fs xs op) = s ∙ ap (λ (w : List Fact). shortened w made) h ∙ ap (λ (w : Op). shortened fs w) k in
-    ap (λ (w : List Op). w ++ improved_from new later rest) d
-    ∙ append_assoc done (short ∷ []) (improved_from new later rest)
-    ∙ ap (λ (w : Op). done ++ w ∷ improved_from new later rest) t
+    ap (λ (w : List Op). w ++ improved_from arrays new later rest) d
+    ∙ append_assoc done (short ∷ []) (improved_from arrays new later rest)
+    ∙ ap (λ (w : Op). done ++ w ∷ improved_from arrays new later rest) t
     ∙ ap (λ (w : List Op). done ++ shortened fs (form fs xs op) ∷ w) r
 
 pub loop-op-preserved : goal.loop-op-preserved
@@ -40,25 +41,25 @@ loop-op-preserved c =
     let u : c.as_slice-in-loop-op-4.result.now ≡ xs = c.as_slice-in-loop-op-4.ensures in
     let k = form_is fs c.as_slice.result.now xs c.as_slice-in-loop-op.result.now _ c.form-form.result c.as_slice.ensures.value c.as_slice-in-loop-op.ensures c.form-form.ensures in
     record {
-      facts = step (λ a b. after_from a b (drop (i + 1) ops)) fs c.learn.new.facts.items xs c.as_slice-in-loop-op-3.result.now c.as_slice-in-loop-op-4.result.now c.in_ok-known.field-0 _ c.form-form.result z u k c.in_ok-learn.ensures c.in_ok-known.ensures
-          ∙ sym (at_drop_more (λ (l : List Op). after_from fs xs l) ops i _ c.loop-op-test.true) ∙ c.loop-op.invariant.facts;
-      accesses = step (λ a b. accessed_from a b (drop (i + 1) ops)) fs c.learn.new.facts.items xs c.as_slice-in-loop-op-3.result.now c.as_slice-in-loop-op-4.result.now c.in_ok-known.field-0 _ c.form-form.result z u k c.in_ok-learn.ensures c.in_ok-known.ensures
-          ∙ sym (at_drop_more (λ (l : List Op). accessed_from fs xs l) ops i _ c.loop-op-test.true) ∙ c.loop-op.invariant.accesses;
-      made = made_step fs c.as_slice-in-loop-op-2.result.now c.learn.new.facts.items xs c.as_slice-in-loop-op-3.result.now c.as_slice-in-loop-op-4.result.now c.in_ok-known.field-0 _ c.form-form.result c.shortened.result (drop (i + 1) ops) c.loop-op.made c.push.new.self
+      facts = step c.args.arrays.now (λ a b. after_from c.args.arrays.now a b (drop (i + 1) ops)) fs c.learn.new.facts.items xs c.as_slice-in-loop-op-3.result.now c.as_slice-in-loop-op-4.result.now c.in_ok-known.field-0 _ c.form-form.result z u k c.in_ok-learn.ensures c.in_ok-known.ensures
+          ∙ sym (at_drop_more (λ (l : List Op). after_from c.args.arrays.now fs xs l) ops i _ c.loop-op-test.true) ∙ c.loop-op.invariant.facts;
+      accesses = step c.args.arrays.now (λ a b. accessed_from c.args.arrays.now a b (drop (i + 1) ops)) fs c.learn.new.facts.items xs c.as_slice-in-loop-op-3.result.now c.as_slice-in-loop-op-4.result.now c.in_ok-known.field-0 _ c.form-form.result z u k c.in_ok-learn.ensures c.in_ok-known.ensures
+          ∙ sym (at_drop_more (λ (l : List Op). accessed_from c.args.arrays.now fs xs l) ops i _ c.loop-op-test.true) ∙ c.loop-op.invariant.accesses;
+      made = made_step c.args.arrays.now fs c.as_slice-in-loop-op-2.result.now c.learn.new.facts.items xs c.as_slice-in-loop-op-3.result.now c.as_slice-in-loop-op-4.result.now c.in_ok-known.field-0 _ c.form-form.result c.shortened.result (drop (i + 1) ops) c.loop-op.made c.push.new.self
           c.as_slice-in-loop-op-2.ensures.value z u k c.shortened.ensures c.in_ok-push.ensures.ok c.in_ok-learn.ensures c.in_ok-known.ensures
-          ∙ sym (at_drop_more (λ (l : List Op). c.loop-op.made ++ improved_from fs xs l) ops i _ c.loop-op-test.true) ∙ c.loop-op.invariant.made;
+          ∙ sym (at_drop_more (λ (l : List Op). c.loop-op.made ++ improved_from c.args.arrays.now fs xs l) ops i _ c.loop-op-test.true) ∙ c.loop-op.invariant.made;
     }
 
 pub returns-clause-facts : goal.returns-clause-facts
-returns-clause-facts c = sym (at_drop_all (λ (l : List Op). after_from c.loop-op.facts.items c.loop-op.known l) c.args.ops.now c.loop-op.op-index c.loop-op-test.false) ∙ c.loop-op.invariant.facts
+returns-clause-facts c = sym (at_drop_all (λ (l : List Op). after_from c.args.arrays.now c.loop-op.facts.items c.loop-op.known l) c.args.ops.now c.loop-op.op-index c.loop-op-test.false) ∙ c.loop-op.invariant.facts
 
 pub returns-clause-known : goal.returns-clause-known
-returns-clause-known c = sym (at_drop_all (λ (l : List Op). accessed_from c.loop-op.facts.items c.loop-op.known l) c.args.ops.now c.loop-op.op-index c.loop-op-test.false) ∙ c.loop-op.invariant.accesses
+returns-clause-known c = sym (at_drop_all (λ (l : List Op). accessed_from c.args.arrays.now c.loop-op.facts.items c.loop-op.known l) c.args.ops.now c.loop-op.op-index c.loop-op-test.false) ∙ c.loop-op.invariant.accesses
 
 pub returns-clause-made : goal.returns-clause-made
 returns-clause-made c =
     sym (append-nil c.loop-op.made)
-    ∙ sym (at_drop_all (λ (l : List Op). c.loop-op.made ++ improved_from c.loop-op.facts.items c.loop-op.known l) c.args.ops.now c.loop-op.op-index c.loop-op-test.false) ∙ c.loop-op.invariant.made
+    ∙ sym (at_drop_all (λ (l : List Op). c.loop-op.made ++ improved_from c.args.arrays.now c.loop-op.facts.items c.loop-op.known l) c.args.ops.now c.loop-op.op-index c.loop-op-test.false) ∙ c.loop-op.invariant.made
 
 pub returns-in_err-push-clause-facts : goal.returns-in_err-push-clause-facts
 returns-in_err-push-clause-facts c = IfOk-from_err _ _ c.from_residual.ensures.0

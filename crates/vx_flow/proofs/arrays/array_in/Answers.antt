@@ -1,7 +1,7 @@
 use Rattle.std.proofs.Common.{◌≡◌, ◌∙◌, None, Some, slice_get, ap, sym, ltb-true, ltb-false}
 use Rattle.std.proofs.lemmas.Option.{slice_get-get_or, slice_get_past}
 use Rattle.vx_flow.specs.Apart.{array_of}
-use Rattle.vx_linear.proofs.trace_forms.array_in.Goals as goal
+use Rattle.vx_flow.proofs.arrays.array_in.Goals as goal
 
 pub returns-in-Some : goal.returns-in-Some
 returns-in-Some c =
