@@ -8,7 +8,7 @@ use Rattle.vx_base.specs.declared.arithmetic.Code.TheVariants.{Add, Sub}
 use Rattle.vx_base.proofs.ArithmeticLaws.{value_fits_law}
 use Rattle.vx_ast.specs.declared.tree.BinaryOperator.{BinaryOperator}
 use Rattle.vx_ast.specs.Tree.{Shape, One, Row, Tree, Literal, Local, Global, Element, Unary, Binary, Both, Either, Choice, Apply, ReadInt, MoreInput, Place, InLocal, InGlobal, InElement, Action, Evaluate, Assign, Compound, Increase, Decrease, Program as TreeProgram}
-use Rattle.vx_ast.specs.Meaning.{Store, Part, With, Trapped, Going, Leaves, Falls, Breaks, Continues, Returns, and_then, Calls, Result, value, combined, changes, acts, with_scalar, with_word, word_at, array_at, at_index, index_in, at_element, Piece, AByte, ANumber, printed, prints}
+use Rattle.vx_ast.specs.Meaning.{Store, Part, With, Trapped, Going, Leaves, Falls, Breaks, Continues, Returns, and_then, Calls, numbers_given, Result, value, combined, changes, acts, with_scalar, with_word, word_at, array_at, at_index, index_in, at_element, Piece, AByte, ANumber, printed, prints}
 use Rattle.vx_ast.specs.Accepted.{Scope, is_in, suits, suits_place, suits_whole, suits_action, row_length, can_call, is_scalar, names_array}
 use Rattle.vx_flow.specs.declared.graph.Operand.{Operand}
 use Rattle.vx_flow.specs.declared.graph.Operand.TheVariants.{Held, Number, Stack}
@@ -209,8 +209,8 @@ module _ (P : Program) (h : Here) (B : List Block) (has : HasBlocks P h B) (tree
         bind P h n p p s s (λ v σ1. Reaches sc p s q σ1) (Stays sc p s q) _ (comes_self P h p s) (value (setting_of P h.base).spot calls (Apply f row) σ)
         (bind P h n p p s s (Wanted sc p s lo Row (To os m)) (λ v σ1. Reaches sc p s q σ1) _ (comes_self P h p s) (value (setting_of P h.base).spot calls row σ) (value_runs sc x (and_two (can_call (λ gives. true) (row_length row) (slice_get tree.functions f)) (suits tree sc row) fit) above le σ s tied) (λ xs σ1 g1.
         let came = comes_on P h g1.comes (comes_goes P h B has (ends (Call f os None next)) m g1.to g) in
-        let count : length xs ≡ row_length row = sym (length-map xs Some) ∙ ap length (sym g1.holds) ∙ length-map os (held g1.to) ∙ row_count x in
-        shift P h n p (ends (Call f os None next)) s g1.to (Came_back P h B has tree kept shapes words n sc (ends (Call f os None next)) g1.to q None) (λ v σ2. Reaches sc p s q σ2) came (calls f xs σ1) (meets sc f os None next q xs σ1 g1.to (subst (λ j. can_call (λ gives. true) j (slice_get tree.functions f) ≡ true) (sym count) (and_one (can_call (λ gives. true) (row_length row) (slice_get tree.functions f)) (suits tree sc row) fit)) g1.tied (ap known g1.holds ∙ known_all xs) g1.number at) (λ v σ2 g2. record {
+        let count : length (numbers_given xs) ≡ row_length row = sym (length-map (numbers_given xs) Some) ∙ ap length (sym g1.holds) ∙ length-map os (held g1.to) ∙ row_count x in
+        shift P h n p (ends (Call f os None next)) s g1.to (Came_back P h B has tree kept shapes words n sc (ends (Call f os None next)) g1.to q None) (λ v σ2. Reaches sc p s q σ2) came (calls f xs σ1) (meets sc f os None next q xs σ1 g1.to (subst (λ j. can_call (λ gives. true) j (slice_get tree.functions f) ≡ true) (sym count) (and_one (can_call (λ gives. true) (row_length row) (slice_get tree.functions f)) (suits tree sc row) fit)) g1.tied (ap known g1.holds ∙ known_all (numbers_given xs)) g1.number at) (λ v σ2 g2. record {
           to = g2.to;
           comes = comes_on P h came g2.comes;
           tied = g2.tied;

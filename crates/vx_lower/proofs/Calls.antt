@@ -9,7 +9,7 @@ use Rattle.vx_base.specs.Arithmetic.{IsNumber}
 use Rattle.vx_base.specs.Outcome.{Outcome, Traps, Goes as Unfinished, Step, On, Over, step_then, run}
 use Rattle.vx_base.specs.declared.outcome.Trap.TheVariants.{Depth}
 use Rattle.vx_ast.specs.Tree.{Shape, One, Row, Function, Program as TreeProgram}
-use Rattle.vx_ast.specs.Meaning.{Store, Part, With, Trapped, Going, Leaves, Falls, Breaks, Continues, Returns, Calls, does, spot_of as place_of, back_in, result_of, entered as entered_source, activate, active, deepest as source_deepest}
+use Rattle.vx_ast.specs.Meaning.{Store, Part, With, Trapped, Going, Leaves, Falls, Breaks, Continues, Returns, Calls, Argument, numbers_given, arrays_given, does, spot_in as place_in, spot_of as place_of, back_in, result_of, entered as entered_source, activate, active, deepest as source_deepest}
 use Rattle.vx_ast.specs.Accepted.{Scope, is_in, scope_after, is_accepted, in_force_at_start, global_words, can_call}
 use Rattle.vx_flow.specs.declared.graph.Operand.{Operand}
 use Rattle.vx_flow.specs.declared.graph.Operand.TheVariants.{Held, Number}
@@ -25,7 +25,7 @@ use Rattle.vx_lower.specs.Lowered.{numbers_from, words_seen, global_of, Lowered,
 use Rattle.vx_lower.proofs.Base.{SameRow, is_below, and_two}
 use Rattle.vx_lower.proofs.Steps.{Here, Entry, HasBlocks, active_at, rest_run, Comes, comes_self, comes_on, comes_goes, Gives, shift, arrival}
 use Rattle.vx_lower.proofs.Ties.{InRange, InForce, Tied}
-use Rattle.vx_lower.proofs.Values.{Numbers, Above, Fitting, CallsMeet, Came_back, zero_fits}
+use Rattle.vx_lower.proofs.Values.{AllNumbers, Above, Fitting, CallsMeet, Came_back, zero_fits}
 use Rattle.vx_lower.proofs.ActionLaws.{Reaches}
 use Rattle.vx_lower.proofs.StatementLaws.{Comes_out, Left, stmt_runs}
 use Rattle.vx_lower.proofs.Alike.{alike_self, run_alike}
@@ -105,10 +105,10 @@ module _ (flow : Flow) (p : TreeProgram) (accepted : is_accepted p ≡ true) (al
     pub ranges : InRange σ
 
   -- the tie at a function's start
-  pub tied_start : (h : Here) (kept : ℕ → Type 0) (shapes : List ℕ) (f : Function) (g : Graph) → Lowered p flow.texts f g → (args : List ℤ) → length args ≡ f.parameters → Numbers Row args → (σ : Store) (s : State) → length p.globals ≤ length shapes → Rows kept shapes σ s →
-      Tied P.globals (setting_of P h.base).spot (in_force_at_start f) kept (shapes ++ f.arrays) (entered_source f args σ) (start_state g args s)
+  pub tied_start : (h : Here) (kept : ℕ → Type 0) (shapes : List ℕ) (f : Function) (g : Graph) → Lowered p flow.texts f g → (args : List Argument) → length (numbers_given args) ≡ f.parameters → AllNumbers (numbers_given args) → (σ : Store) (s : State) → length p.globals ≤ length shapes → Rows kept shapes σ s →
+      Tied P.globals (setting_of P h.base).spot (in_force_at_start f) kept (shapes ++ f.arrays) (entered_source f args σ) (start_state g (numbers_given args) s)
   tied_start h kept shapes f g x args count numbers σ s long rows = record {
-    scalars = λ y i. let l = in_below f.parameters y i in let z : y ≡ 0 + y = omega arith in ap (λ qs. at_entry qs args y) x.parameters ∙ ap (λ v. at_entry (numbers_from 0 f.parameters) args v) z ∙ entry_at 0 f.parameters y args count l;
+    scalars = λ y i. let l = in_below f.parameters y i in let z : y ≡ 0 + y = omega arith in ap (λ qs. at_entry qs (numbers_given args) y) x.parameters ∙ ap (λ v. at_entry (numbers_from 0 f.parameters) (numbers_given args) v) z ∙ entry_at 0 f.parameters y (numbers_given args) count l;
     own = owns;
     others = λ q i. let k = rows.kept_rows q i in row q k.0 k.1;
     shape = map_append (λ z. length z) s.arrays (map undefined (own_of (length flow.globals) g)) ∙ ap (λ z. z ++ map (λ r. length r) (map undefined (own_of (length flow.globals) g))) rows.shape ∙ ap (λ z. shapes ++ z) (ap (λ own. map (λ r. length r) (map undefined own)) (own_is f g x) ∙ lengths_replicate None f.arrays);
@@ -118,17 +118,17 @@ module _ (flow : Flow) (p : TreeProgram) (accepted : is_accepted p ≡ true) (al
     ranges = record { scalars = numbers; words = rows_append σ.arrays (map (λ size. replicate size (pos 0)) f.arrays) rows.ranges.words (rows_zero f.arrays); input = rows.ranges.input };
   }
     where
-      row : (q : ℕ) → q < length shapes → SameRow σ.arrays s.arrays q → SameRow (entered_source f args σ).arrays (start_state g args s).arrays q
+      row : (q : ℕ) → q < length shapes → SameRow σ.arrays s.arrays q → SameRow (entered_source f args σ).arrays (start_state g (numbers_given args) s).arrays q
       row q l e =
           let l1 = ap length rows.shape in let l2 = length-map s.arrays (λ z. length z) in
           let l3 = ap length rows.source_shape in let l4 = length-map σ.arrays (λ z. length z) in
           front_item [] s.arrays (map undefined (own_of (length flow.globals) g)) q (omega arith) ∙ e ∙ ap (map Some) (sym (front_item [] σ.arrays (map (λ size. replicate size (pos 0)) f.arrays) q (omega arith)))
 
-      owns : (a : ℕ) → InForce P.globals (in_force_at_start f) a → SameRow (entered_source f args σ).arrays (start_state g args s).arrays ((setting_of P h.base).spot a)
+      owns : (a : ℕ) → InForce P.globals (in_force_at_start f) a → SameRow (entered_source f args σ).arrays (start_state g (numbers_given args) s).arrays ((setting_of P h.base).spot a)
       owns a (inl l) =
           let c = count_globals in
           let l2 : a < length p.globals = omega arith in
-          subst (SameRow (entered_source f args σ).arrays (start_state g args s).arrays) (sym (spot_global (length flow.globals) h.base a l)) (row a (omega arith) (rows.global_rows a l2))
+          subst (SameRow (entered_source f args σ).arrays (start_state g (numbers_given args) s).arrays) (sym (spot_global (length flow.globals) h.base a l)) (row a (omega arith) (rows.global_rows a l2))
       owns a (inr i) = absurd (cc)
 
   fitting_at : (h : Here) (shapes : List ℕ) (i : ℕ) (f : Function) → slice_get p.functions i ≡ Some f → Fronts (map global_words p.globals) shapes → h.base ≡ length shapes → Fitting P h p (shapes ++ f.arrays) (words_seen p f)
@@ -282,9 +282,9 @@ module _ (flow : Flow) (p : TreeProgram) (accepted : is_accepted p ≡ true) (al
 
   -- with d more active functions the graph follows each call
   pub calls_meet : (d : ℕ) (h : Here) (B : List Block) (has : HasBlocks P h B) (kept : ℕ → Type 0) (shapes words : List ℕ) → length h.waiting + d ≡ deep.rest → Fronts (map global_words p.globals) shapes → CallsMeet P h B has p kept shapes words n (active p d n)
-  calls_meet zero h B has kept shapes words depth fronts sc f os result to q args σ s can tied vals numbers at = λ e. (0, full h e f to result os args s (no_room (length h.waiting) depth) vals ∙ ap (Traps Depth) tied.out)
+  calls_meet zero h B has kept shapes words depth fronts sc f os result to q args σ s can tied vals numbers at = λ e. (0, full h e f to result os (numbers_given args) s (no_room (length h.waiting) depth) vals ∙ ap (Traps Depth) tied.out)
   calls_meet (suc d) h B has kept shapes words depth fronts sc f os result to q args σ s can tied vals numbers at =
-      let fn = there f (length args) can in
+      let fn = there f (length (numbers_given args)) can in
       let g = graph_there f fn.0 fn.1 in
       let x = all.lowered f fn.0 g.0 fn.1 g.1 in
       let h1 = inner_here h f result to s in
@@ -292,17 +292,18 @@ module _ (flow : Flow) (p : TreeProgram) (accepted : is_accepted p ≡ true) (al
       let m2 : length σ.arrays ≡ length s.arrays = sym (length-map σ.arrays (λ z. length z)) ∙ ap length tied.source_shape ∙ sym m1 in
       let deeper : length h1.waiting + d ≡ deep.rest = omega arith in
       let kept1 = AlikeRows shapes σ s in
-      let s1 = start_state g.0 args s in
+      let s1 = start_state g.0 (numbers_given args) s in
       let c = count_globals in
       let long = fronts.long in
       let len = length-map p.globals global_words in
       let rows : Rows kept1 shapes σ s = record { kept_rows = λ q k. k; global_rows = globals_at h shapes σ s sc kept tied; shape = tied.shape; source_shape = tied.source_shape; input = tied.input; out = tied.out; ranges = tied.ranges } in
-      let start1 = tied_start h1 kept1 shapes fn.0 g.0 x args fn.2 numbers σ s (omega arith) rows in
+      let start1 = tied_start h1 kept1 shapes fn.0 g.0 x args fn.2 numbers.1 σ s (omega arith) rows in
       let body = body_ends h1 kept1 shapes f d fn.0 g.0 x fn.1 g.1 fronts m1 (calls_meet d h1 g.0.blocks (has_blocks flow h1 g.0 g.1) kept1 (shapes ++ fn.0.arrays) (words_seen p fn.0) deeper (fronts_on (map global_words p.globals) shapes fn.0.arrays fronts)) (entered_source fn.0 args σ) s1 start1 in
       subst (λ o. Gives P h n (ends (Call f os result to)) s (Came_back P h B has p kept shapes words n sc (ends (Call f os result to)) s q result) (activate (length p.globals) o (active p d n) n args σ)) (sym fn.1)
+      (subst (λ l. Gives P h n (ends (Call f os result to)) s (Came_back P h B has p kept shapes words n sc (ends (Call f os result to)) s q result) (result_of σ (does (place_in (length p.globals) l (length σ.arrays)) (active p d n) n fn.0.body (entered_source fn.0 args σ)))) (sym numbers.0)
       (subst (λ b. Gives P h n (ends (Call f os result to)) s (Came_back P h B has p kept shapes words n sc (ends (Call f os result to)) s q result) (result_of σ (does (place_of (length p.globals) b) (active p d n) n fn.0.body (entered_source fn.0 args σ)))) (sym m2)
       (subst (λ b. Gives P h n (ends (Call f os result to)) s (Came_back P h B has p kept shapes words n sc (ends (Call f os result to)) s q result) (result_of σ (does (place_of b (length s.arrays)) (active p d n) n fn.0.body (entered_source fn.0 args σ)))) c
-      (result_gives h B has kept shapes words fn.0.arrays sc f to result os args g.0 x.start q σ s tied (room_for (length h.waiting) d depth) vals g.1 x.at_start at (does (place_of (length flow.globals) (length s.arrays)) (active p d n) n fn.0.body (entered_source fn.0 args σ)) body)))
+      (result_gives h B has kept shapes words fn.0.arrays sc f to result os (numbers_given args) g.0 x.start q σ s tied (room_for (length h.waiting) d depth) vals g.1 x.at_start at (does (place_of (length flow.globals) (length s.arrays)) (active p d n) n fn.0.body (entered_source fn.0 args σ)) body))))
     where
       globals_at : (h : Here) (shapes : List ℕ) (σ : Store) (s : State) (sc : Scope) (kept : ℕ → Type 0) → Tied P.globals (setting_of P h.base).spot sc kept shapes σ s → (a : ℕ) → a < length p.globals → SameRow σ.arrays s.arrays a
       globals_at h shapes σ s sc kept tied a l =

@@ -10,7 +10,7 @@ use Rattle.vx_base.proofs.ArithmeticLaws.{value_fits_law}
 use Rattle.vx_ast.specs.declared.tree.Gives.{Gives as GivesBack}
 use Rattle.vx_ast.specs.declared.tree.UnaryOperator.TheVariants.{Not}
 use Rattle.vx_ast.specs.Tree.{Shape, One, Row, Tree, Literal, Local, Global, Element, Unary, Binary, Both, Either, Choice, Apply, ReadInt, MoreInput, NoMore, Then, Function, Program as TreeProgram}
-use Rattle.vx_ast.specs.Meaning.{Store, Part, With, Trapped, Going, and_then, Calls, Result, value, unless_zero, unary_value, binary_value, combined, next_input, is_left, word_at, array_at}
+use Rattle.vx_ast.specs.Meaning.{Store, Part, With, Trapped, Going, and_then, Calls, NumberArgument, numbers_given, Result, value, unless_zero, unary_value, binary_value, combined, next_input, is_left, word_at, array_at}
 use Rattle.vx_ast.specs.Accepted.{Scope, is_in, suits, row_length, can_call, gives_int, names_array, is_scalar}
 use Rattle.vx_flow.specs.declared.graph.Operand.{Operand}
 use Rattle.vx_flow.specs.declared.graph.Operand.TheVariants.{Held, Number}
@@ -23,7 +23,7 @@ use Rattle.vx_lower.specs.Holds.{Goes, IsBelow, Tests, Way, To, Into, Tested, La
 use Rattle.vx_lower.proofs.Base.{and_one, and_two, differs_is, differs_chooses, flag_chooses, four_times}
 use Rattle.vx_lower.proofs.Steps.{Here, HasBlocks, Comes, Passes, comes_self, comes_on, passes_on, comes_goes, comes_past, comes_tests, Gives, bind, shift, stops}
 use Rattle.vx_lower.proofs.Ties.{InRange, InForce, Tied, Keeps, held_kept, below_on, keeps_value, value_there, computes, known_all, tied_value, row_length as words_of_row, loads}
-use Rattle.vx_lower.proofs.Values.{nums, Numbers, head_of, literal_fits, zero_fits, one_fits, flag_fits, unary_effect, unary_fits, comparison_value, Above, above_on, Fitting, Ties, Gained, Landed, Chosen, Good, Came_back, CallsMeet, choose, land, moved, settle, tests_zero, tests_two, combines, checks}
+use Rattle.vx_lower.proofs.Values.{nums, AllNumbers, head_of, literal_fits, zero_fits, one_fits, flag_fits, unary_effect, unary_fits, comparison_value, Above, above_on, Fitting, Ties, Gained, Landed, Chosen, Good, Came_back, CallsMeet, choose, land, moved, settle, tests_zero, tests_two, combines, checks}
 
 abbrev pub operands : {k : Shape} → Way k → List Operand
 operands (To os q) = os
@@ -152,9 +152,9 @@ module _ (P : Program) (h : Here) (B : List Block) (has : HasBlocks P h B) (tree
   expr_runs sc (apply {f = f} {t = t} {next = next} {lo = lo} {row = row} {os = os} {p = p} {m = m} {q = q} {w = w} hr g at l) fit above σ s tied =
       bind P h n p p s s (Wanted sc p s lo Row (To os m)) (Wanted sc p s lo One w) _ (comes_self P h p s) (value (setting_of P h.base).spot calls row σ) (expr_runs sc hr (and_two (can_call gives_int (row_length row) (slice_get tree.functions f)) (suits tree sc row) fit) above σ s tied) (λ xs σ1 g1.
       let came = comes_on P h g1.comes (comes_goes P h B has (ends (Call f os (Some t) next)) m g1.to g) in
-      let count : length xs ≡ row_length row = sym (length-map xs Some) ∙ ap length (sym g1.holds) ∙ length-map os (held g1.to) ∙ row_count hr in
+      let count : length (numbers_given xs) ≡ row_length row = sym (length-map (numbers_given xs) Some) ∙ ap length (sym g1.holds) ∙ length-map os (held g1.to) ∙ row_count hr in
       let can = can_call_at_all gives_int (row_length row) (slice_get tree.functions f) (and_one (can_call gives_int (row_length row) (slice_get tree.functions f)) (suits tree sc row) fit) in
-      settled sc p s t q lo w above l (calls f xs σ1) (shift P h n p (ends (Call f os (Some t) next)) s g1.to (Came_back P h B has tree kept shapes words n sc (ends (Call f os (Some t) next)) g1.to q (Some t)) (InValue sc p s t q lo) came (calls f xs σ1) (meets sc f os (Some t) next q xs σ1 g1.to (subst (λ j. can_call (λ gives. true) j (slice_get tree.functions f) ≡ true) (sym count) can) g1.tied (ap known g1.holds ∙ known_all xs) g1.number at) (λ v σ2 g2. record {
+      settled sc p s t q lo w above l (calls f xs σ1) (shift P h n p (ends (Call f os (Some t) next)) s g1.to (Came_back P h B has tree kept shapes words n sc (ends (Call f os (Some t) next)) g1.to q (Some t)) (InValue sc p s t q lo) came (calls f xs σ1) (meets sc f os (Some t) next q xs σ1 g1.to (subst (λ j. can_call (λ gives. true) j (slice_get tree.functions f) ≡ true) (sym count) can) g1.tied (ap known g1.holds ∙ known_all (numbers_given xs)) g1.number at) (λ v σ2 g2. record {
         to = g2.to;
         comes = comes_on P h came g2.comes;
         tied = g2.tied;
@@ -226,7 +226,7 @@ module _ (P : Program) (h : Here) (B : List Block) (has : HasBlocks P h B) (tree
       (λ came. record { to = g1.to; comes = comes_on P h came (comes_goes P h B has one y g1.to gn); passes = g1.passes; tied = g1.tied; keeps = g1.keeps })
       (λ came. bind P h n p z s g1.to (Wanted sc z g1.to mid One (Tested yb nb)) (Wanted sc p s lo One (Tested one two)) _ came (value (setting_of P h.base).spot calls b σ1) (expr_runs sc hb (and_two (suits tree sc a) (suits tree sc b) fit) (above_on sc lo mid le above) σ1 g1.to g1.tied) (λ v σ2 g2.
       onward sc p z s g1.to yb nb one two lo mid v (unless_zero v (pos 1) (pos 0)) σ2 came g1.keeps le gy gz (λ x y. flagged v x y) g2)))
-  expr_runs sc (no_more {p = p}) fit above σ s tied = record { to = s; comes = comes_self P h p s; tied = tied; holds = refl; keeps = λ u l. refl; number = λ i. zero_fits }
+  expr_runs sc (no_more {p = p}) fit above σ s tied = record { to = s; comes = comes_self P h p s; tied = tied; holds = refl; keeps = λ u l. refl; number = (refl, λ i. zero_fits) }
   expr_runs sc (then {a = a} {rest = rest} {o = o} {os = os} {p = p} {m = m} {q = q} {lo = lo} {mid = mid} ha le ba hr) fit above σ s tied =
       bind P h n p p s s (Wanted sc p s lo One (To (o ∷ []) m)) (Wanted sc p s lo Row (To (o ∷ os) q)) _ (comes_self P h p s) (value (setting_of P h.base).spot calls a σ) (expr_runs sc ha (and_one (suits tree sc a) (suits tree sc rest) fit) above σ s tied) (λ x σ1 g1.
       bind P h n p m s g1.to (Wanted sc m g1.to mid Row (To os q)) (Wanted sc p s lo Row (To (o ∷ os) q)) _ g1.comes (value (setting_of P h.base).spot calls rest σ1) (expr_runs sc hr (and_two (suits tree sc a) (suits tree sc rest) fit) (above_on sc lo mid le above) σ1 g1.to g1.tied) (λ xs σ2 g2. record {
@@ -235,9 +235,9 @@ module _ (P : Program) (h : Here) (B : List Block) (has : HasBlocks P h B) (tree
         tied = g2.tied;
         holds = ap (λ r. r ∷ map (held g2.to) os) (held_kept mid g1.to g2.to o g2.keeps ba ∙ ap head_of g1.holds) ∙ ap (λ r. Some x ∷ r) g2.holds;
         keeps = λ u l. g2.keeps u (sooner u lo mid l le) ∙ g1.keeps u l;
-        number = in_row x xs g1.number g2.number;
+        number = (g2.number.0, one_number x (numbers_given xs) g1.number g2.number.1);
       }))
     where
-      in_row : (x : ℤ) (xs : List ℤ) → IsNumber x → Numbers Row xs → Numbers Row (x ∷ xs)
-      in_row x xs f g zero = f
-      in_row x xs f g (suc i) = g i
+      one_number : (x : ℤ) (xs : List ℤ) → IsNumber x → AllNumbers xs → AllNumbers (x ∷ xs)
+      one_number x xs f g zero = f
+      one_number x xs f g (suc i) = g i

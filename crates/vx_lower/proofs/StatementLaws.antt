@@ -8,7 +8,7 @@ use Rattle.vx_base.specs.declared.arithmetic.Code.TheVariants.{Mov}
 use Rattle.vx_ast.specs.declared.tree.Gives.{Gives as GivesBack}
 use Rattle.vx_ast.specs.declared.tree.Gives.TheVariants.{Int as GivesInt, Nothing as GivesNothing}
 use Rattle.vx_ast.specs.Tree.{One, Row, Tree, Code, Nothing, Seq, Empty, Block as Braces, Clear, Declare, ClearArray, Simply, Head, Print, If, IfElse, While, DoWhile, For, Break, Continue, Return, ReturnValue, Program as TreeProgram}
-use Rattle.vx_ast.specs.Meaning.{Store, Part, With, Trapped, Going, and_then, Leaves, Falls, Breaks, Continues, Returns, go_on, after_body, after_turn, tests, turns, turns_first, test_of, with_scalar, Calls, value, acts, does, unless_zero, pieces_of, printed, prints, cleared}
+use Rattle.vx_ast.specs.Meaning.{Store, Part, With, Trapped, Going, and_then, Leaves, Falls, Breaks, Continues, Returns, go_on, after_body, after_turn, tests, turns, turns_first, test_of, with_scalar, Calls, numbers_given, value, acts, does, unless_zero, pieces_of, printed, prints, cleared}
 use Rattle.vx_ast.specs.Accepted.{Scope, is_in, suits, suits_action, suits_test, suits_code, scope_after, is_format, numbers_of, row_length}
 use Rattle.vx_flow.specs.declared.graph.Operand.{Operand}
 use Rattle.vx_flow.specs.declared.graph.Operand.TheVariants.{Held, Number}
@@ -266,7 +266,7 @@ module _ (P : Program) (h : Here) (B : List Block) (has : HasBlocks P h B) (tree
         shift P h n p p s s (Stays P h B has tree kept shapes words vars n calls meets fitting sc p s q) (Left sc sc p s q out more) (comes_self P h p s) (acts (setting_of P h.base).spot calls a σ) (acts_run P h B has tree kept shapes words vars n calls meets fitting x sc fit above σ s tied) (stays_left sc sc p q out more s)
     stmt_runs (print {format = format} {row = row} {os = os} {p = p} {m = m} {q = q} {out = out} {more = more} {lo = lo} x le y) sc gives loops fit above σ s tied =
         bind P h n p p s s (Gained P h B has tree kept shapes words n sc p s m os lo Row) (Left sc sc p s q out more) _ (comes_self P h p s) (value (setting_of P h.base).spot calls row σ) (value_runs P h B has tree kept shapes words vars n calls meets fitting sc x (and_two (is_format format && nat_eq (numbers_of format) (row_length row)) (suits tree sc row) fit) above le σ s tied) (λ xs σ1 g1.
-        let r = shows_run P h B has tree kept shapes words vars sc y xs σ1 g1.to g1.holds g1.tied in
+        let r = shows_run P h B has tree kept shapes words vars sc y (numbers_given xs) σ1 g1.to g1.holds g1.tied in
         record { to = r.to; comes = comes_on P h g1.comes r.comes; tied = r.tied })
     stmt_runs (choose {e = e} {a = a} {p = p} {yes = yb} {no = nb} {m = m} {q = q} {out = out} {more = more} x le da ga gb) sc gives loops fit above σ s tied =
         chooses sc sc q out more x (and_one (suits tree sc e) (suits_code tree gives loops sc a) fit) above le σ s tied (does (setting_of P h.base).spot calls n a) (λ t. With Falls t)

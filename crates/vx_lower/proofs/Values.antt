@@ -16,7 +16,7 @@ use Rattle.vx_ast.specs.declared.tree.UnaryOperator.TheVariants.{Minus, Plus, No
 use Rattle.vx_ast.specs.declared.tree.BinaryOperator.{BinaryOperator}
 use Rattle.vx_ast.specs.declared.tree.BinaryOperator.TheVariants.{Multiply, Divide, Remainder, Add as Adds, Subtract, ShiftLeft, ShiftRight, Less, LessEqual, Greater, GreaterEqual, Equal, NotEqual, BitAnd, BitXor, BitOr}
 use Rattle.vx_ast.specs.Tree.{Shape, One, Row, Tree, Function, Program as TreeProgram}
-use Rattle.vx_ast.specs.Meaning.{Store, Part, With, Trapped, Going, Calls, Result, unless_zero, unary_value, binary_value, divides, combined, array_at, at_index, index_in}
+use Rattle.vx_ast.specs.Meaning.{Store, Part, With, Trapped, Going, Calls, Argument, numbers_given, arrays_given, Result, unless_zero, unary_value, binary_value, divides, combined, array_at, at_index, index_in}
 use Rattle.vx_ast.specs.Accepted.{Scope, is_in, is_word, is_scalar, names_array, can_call}
 use Rattle.vx_flow.specs.declared.graph.Operand.{Operand}
 use Rattle.vx_flow.specs.declared.graph.Operand.TheVariants.{Held, Number, Stack}
@@ -31,15 +31,18 @@ use Rattle.vx_lower.proofs.Base.{differs_chooses, flag_chooses, is_index, index_
 use Rattle.vx_lower.proofs.Steps.{Here, HasBlocks, Comes, Passes, Came_to, comes_self, comes_on, passes_on, comes_goes, comes_past, comes_tests, Gives, bind, shift, stops}
 use Rattle.vx_lower.proofs.Ties.{InRange, InForce, Tied, Keeps, held_kept, below_on, keeps_value, value_there, computes, tied_value, row_length, source_length, loads}
 
--- the numbers of a result, in range
+-- the numbers of a result, in range; no array is given in a row
 
 abbrev pub nums : (k : Shape) → Result k → List ℤ
 nums One v = v ∷ []
-nums Row vs = vs
+nums Row vs = numbers_given vs
+
+abbrev pub AllNumbers : List ℤ → Type 0
+AllNumbers zs = (i : ℕ) → IsNumber (slice_index_or zs i (pos 0))
 
 abbrev pub Numbers : (k : Shape) → Result k → Type 0
 Numbers One v = IsNumber v
-Numbers Row vs = (i : ℕ) → IsNumber (slice_index_or vs i (pos 0))
+Numbers Row vs = (arrays_given vs ≡ []) × AllNumbers (numbers_given vs)
 
 abbrev pub head_of : List Content → Content
 head_of [] = None
@@ -175,7 +178,7 @@ module _ (P : Program) (h : Here) (B : List Block) (has : HasBlocks P h B) (tree
 
   -- the graph follows each call
   abbrev pub CallsMeet : Calls → Type 0
-  CallsMeet calls = (sc : Scope) (f : ℕ) (os : List Operand) (result : Option ℕ) (next : ℕ) (q : Block) (args : List ℤ) (σ : Store) (s : State) → can_call (λ gives. true) (length args) (slice_get tree.functions f) ≡ true → Ties sc σ s → known (map (held s) os) ≡ Some args → Numbers Row args → slice_get B next ≡ Some q →
+  CallsMeet calls = (sc : Scope) (f : ℕ) (os : List Operand) (result : Option ℕ) (next : ℕ) (q : Block) (args : List Argument) (σ : Store) (s : State) → can_call (λ gives. true) (length (numbers_given args)) (slice_get tree.functions f) ≡ true → Ties sc σ s → known (map (held s) os) ≡ Some (numbers_given args) → Numbers Row args → slice_get B next ≡ Some q →
       Gives P h n (ends (Call f os result next)) s (Came_back sc (ends (Call f os result next)) s q result) (calls f args σ)
 
   -- where the source chooses by a number, and the graph came the same way
