@@ -5,11 +5,11 @@ use Rattle.std.specs.Int.{int_wrap}
 use Rattle.std.specs.Fmt.{digits}
 use Rattle.vx_base.specs.Outcome.{Ends, Traps}
 use Rattle.vx_base.specs.Arithmetic.{sum_of, difference_of}
-use Rattle.vx_base.specs.declared.outcome.Trap.TheVariants.{Depth as ByDepth}
+use Rattle.vx_base.specs.declared.outcome.Trap.TheVariants.{Index as ByIndex, Depth as ByDepth}
 use Rattle.vx_ast.specs.declared.tree.BinaryOperator.TheVariants.{Add, Subtract, LessEqual}
-use Rattle.vx_ast.specs.declared.tree.GlobalVariable.TheVariants.{Scalar as ScalarGlobal}
+use Rattle.vx_ast.specs.declared.tree.GlobalVariable.TheVariants.{Scalar as ScalarGlobal, Array as ArrayGlobal}
 use Rattle.vx_ast.specs.Tree.{Local, Global, Element, Binary, Apply, ReadInt, InGlobal, InElement, Evaluate, Assign, Compound, ClearArray, Simply, If, Return, ReturnValue, Program}
-use Rattle.vx_ast.specs.Meaning.{source, deepest}
+use Rattle.vx_ast.specs.Meaning.{ArrayArgument, spot_in, spot_of, active, at_start, outcome_of, source, deepest}
 use Rattle.vx_ast.proofs.Programs.{number, with_functions, int_function, void_function, main_of, row, shows, line, line_of_two, returns, sets}
 
 -- int f(int a, int b) { return a - b; } .. printf("%d\n", f(read_int(), read_int())); return 0;
@@ -53,3 +53,30 @@ deepest_calls = refl
 too_deep : source recursive (pos 512 ∷ []) 1 ≡ Traps ByDepth []
 unfolding sum_of difference_of int_wrap digits deepest
 too_deep = refl
+
+-- int g[2]; int h[2]; and a function to which two arrays are given, p and q: p[0] = 5; q[0] = 6; printf("%d\n", p[0]);
+abbrev given_arrays : Program
+given_arrays = with_functions (ArrayGlobal 2 ∷ ArrayGlobal 2 ∷ []) (main_of 0 [] []) (void_function 0 0 [] (Simply (Assign (InElement 2 (number 0)) (number 5)) ∷ Simply (Assign (InElement 3 (number 0)) (number 6)) ∷ line (Element 2 (number 0)) ∷ []) ∷ [])
+
+-- g for both of them, and then g and h
+given_one_array : outcome_of (active given_arrays 1 1 1 (ArrayArgument 0 ∷ ArrayArgument 0 ∷ []) (at_start given_arrays [])) ≡ Ends (pos 0) (codes "6\n")
+unfolding digits
+given_one_array = refl
+
+given_two_arrays : outcome_of (active given_arrays 1 1 1 (ArrayArgument 0 ∷ ArrayArgument 1 ∷ []) (at_start given_arrays [])) ≡ Ends (pos 0) (codes "5\n")
+unfolding digits
+given_two_arrays = refl
+
+-- an array has the size of the one that is given: p is h, where h has one word
+given_small_array : outcome_of (active (with_functions (ArrayGlobal 3 ∷ ArrayGlobal 1 ∷ []) (main_of 0 [] []) (void_function 0 0 [] (line (Element 2 (number 1)) ∷ []) ∷ [])) 1 1 1 (ArrayArgument 1 ∷ []) (at_start (with_functions (ArrayGlobal 3 ∷ ArrayGlobal 1 ∷ []) (main_of 0 [] []) (void_function 0 0 [] (line (Element 2 (number 1)) ∷ []) ∷ [])) [])) ≡ Traps ByIndex []
+given_small_array = refl
+
+-- one global, an array that was given, and two own ones behind it
+given_spot : spot_in 1 (3 ∷ []) 7 1 ≡ 3
+given_spot = refl
+
+own_behind : spot_in 1 (3 ∷ []) 7 3 ≡ 8
+own_behind = refl
+
+own_alone : spot_of 1 7 2 ≡ 8
+own_alone = refl

@@ -6,5 +6,6 @@ mod AcceptedRows
 pub mod PieceLaws
 pub mod TokenLaws
 mod TokenRows
+pub mod Arguments
 pub mod MoreTurns
 pub mod Ranges

@@ -9,7 +9,7 @@ use Rattle.vx_base.specs.declared.outcome.Trap.TheVariants.{Divide as ByDivide, 
 use Rattle.vx_base.proofs.Same.{begins_self, begins_on}
 use Rattle.vx_ast.specs.declared.tree.BinaryOperator.{BinaryOperator}
 use Rattle.vx_ast.specs.Tree.{Shape, One, Tree, Literal, Local, Global, Element, Unary, Binary, Both, Either, Choice, Apply, ReadInt, MoreInput, NoMore, Then, Place, InLocal, InGlobal, InElement, Action, Evaluate, Assign, Compound, Increase, Decrease, Code, Nothing, Seq, Empty, Block, Clear, Declare, ClearArray, Simply, Head, Print, If, IfElse, While, DoWhile, For, Break, Continue, Return, ReturnValue, Function, Program}
-use Rattle.vx_ast.specs.Meaning.{Store, Part, With, Trapped, Going, Leaves, Falls, Breaks, Continues, Returns, Calls, and_then, unless_zero, array_at, word_at, with_word, cleared, with_scalar, at_index, at_element, index_in, unary_value, binary_value, divides, combined, next_input, value, changes, acts, pieces_of, printed, prints, go_on, after_body, after_turn, tests, turns, turns_first, test_of, does, spot_of, back_in, result_of, entered, activate, active, deepest, at_start, outcome_of, source}
+use Rattle.vx_ast.specs.Meaning.{Store, Part, With, Trapped, Going, Leaves, Falls, Breaks, Continues, Returns, Calls, Argument, NumberArgument, numbers_given, arrays_given, and_then, unless_zero, array_at, word_at, with_word, cleared, with_scalar, at_index, at_element, index_in, unary_value, binary_value, divides, combined, next_input, value, changes, acts, pieces_of, printed, prints, go_on, after_body, after_turn, tests, turns, turns_first, test_of, does, spot_in, back_in, result_of, entered, activate, active, deepest, at_start, outcome_of, source}
 
 -- the output at the end of a part
 abbrev pub out_of : {A : Type 0} → Part A → List ℕ
@@ -97,7 +97,7 @@ leads_truth y s = leads_same (With (unless_zero y (pos 1) (pos 0)) s)
 
 -- the calls of one bound, and those of a larger one
 abbrev pub CallsLead : Calls → Calls → Type 0
-CallsLead calls more = (f : ℕ) (xs : List ℤ) (s : Store) → Leads s.out (calls f xs s) (more f xs s)
+CallsLead calls more = (f : ℕ) (xs : List Argument) (s : Store) → Leads s.out (calls f xs s) (more f xs s)
 
 module _ (spot : ℕ → ℕ) (calls more : Calls) (lead : CallsLead calls more) where
   pub leads_value : {k : Shape} (e : Tree k) (s : Store) → Leads s.out (value spot calls e s) (value spot more e s)
@@ -128,7 +128,7 @@ module _ (spot : ℕ → ℕ) (calls more : Calls) (lead : CallsLead calls more)
   leads_value NoMore s = leads_same (value spot calls NoMore s)
   leads_value (Then a rest) s =
       leads_then s.out (value spot calls a s) (value spot more a s) _ _ (leads_value a s)
-      (λ x t. leads_then t.out (value spot calls rest t) (value spot more rest t) (λ xs u. With (x ∷ xs) u) (λ xs u. With (x ∷ xs) u) (leads_value rest t) (λ xs u. leads_same (With (x ∷ xs) u)))
+      (λ x t. leads_then t.out (value spot calls rest t) (value spot more rest t) (λ xs u. With (NumberArgument x ∷ xs) u) (λ xs u. With (NumberArgument x ∷ xs) u) (leads_value rest t) (λ xs u. leads_same (With (NumberArgument x ∷ xs) u)))
 
   -- simple statements
 
@@ -285,7 +285,7 @@ module _ (spot : ℕ → ℕ) (calls more : Calls) (lead : CallsLead calls more)
   leads_does (Simply a) s = leads_acts spot calls more lead a s
   leads_does (Head a) s = leads_acts spot calls more lead a s
   leads_does (Print format row) s =
-      leads_then s.out (value spot calls row s) (value spot more row s) _ _ (leads_value spot calls more lead row s) (λ xs t. leads_self t.out (With Falls (prints (printed (pieces_of format) xs) t)) (record { rest = printed (pieces_of format) xs; is = refl }))
+      leads_then s.out (value spot calls row s) (value spot more row s) _ _ (leads_value spot calls more lead row s) (λ xs t. leads_self t.out (With Falls (prints (printed (pieces_of format) (numbers_given xs)) t)) (record { rest = printed (pieces_of format) (numbers_given xs); is = refl }))
   leads_does (If e a) s =
       leads_tests s.out (value spot calls e s) (value spot more e s) (does spot calls n a) (does spot more (n + k) a) (λ t. With Falls t) (λ t. With Falls t) (leads_value spot calls more lead e s) (leads_does a) (λ t. leads_same (With Falls t))
   leads_does (IfElse e a b) s =
@@ -327,11 +327,11 @@ back_leads caller (Returns r) t = leads_same (back_in caller r t)
 leads_result : (caller : Store) (out : List ℕ) (x y : Part Leaves) → Leads out x y → Leads out (result_of caller x) (result_of caller y)
 leads_result caller out x y h = rw (back_is caller x, back_is caller y) (leads_then out x y (back_leaving caller) (back_leaving caller) h (back_leads caller))
 
-leads_activate : (g : ℕ) (o : Option Function) (calls more : Calls) → CallsLead calls more → (n k : ℕ) (args : List ℤ) (s : Store) → Leads s.out (activate g o calls n args s) (activate g o more (n + k) args s)
+leads_activate : (g : ℕ) (o : Option Function) (calls more : Calls) → CallsLead calls more → (n k : ℕ) (args : List Argument) (s : Store) → Leads s.out (activate g o calls n args s) (activate g o more (n + k) args s)
 leads_activate g None calls more lead n k args s = let p : Part ℤ = Going s.out in leads_same p
 leads_activate g (Some f) calls more lead n k args s =
-    leads_result s s.out (does (spot_of g (length s.arrays)) calls n f.body (entered f args s)) (does (spot_of g (length s.arrays)) more (n + k) f.body (entered f args s))
-    (leads_does (spot_of g (length s.arrays)) calls more lead n k f.body (entered f args s))
+    leads_result s s.out (does (spot_in g (arrays_given args) (length s.arrays)) calls n f.body (entered f args s)) (does (spot_in g (arrays_given args) (length s.arrays)) more (n + k) f.body (entered f args s))
+    (leads_does (spot_in g (arrays_given args) (length s.arrays)) calls more lead n k f.body (entered f args s))
 
 pub leads_active : (p : Program) (depth n k : ℕ) → CallsLead (active p depth n) (active p depth (n + k))
 leads_active p zero n k f args s = let x : Part ℤ = Trapped ByDepth s.out in leads_same x

@@ -41,9 +41,25 @@ and_then (With a s) f = f a s
 and_then (Trapped k out) f = Trapped k out
 and_then (Going out) f = Going out
 
+-- what a call gives for a parameter: a number, or an array, by its spot in the list of the arrays that are there
+pub data Argument : Type 0 where
+  NumberArgument : ℤ → Argument
+  ArrayArgument : (spot : ℕ) → Argument
+
+-- the numbers among arguments, and the spots of the arrays among them
+abbrev pub numbers_given : List Argument → List ℤ
+numbers_given [] = []
+numbers_given (NumberArgument z ∷ rest) = z ∷ numbers_given rest
+numbers_given (ArrayArgument spot ∷ rest) = numbers_given rest
+
+abbrev pub arrays_given : List Argument → List ℕ
+arrays_given [] = []
+arrays_given (NumberArgument z ∷ rest) = arrays_given rest
+arrays_given (ArrayArgument spot ∷ rest) = spot ∷ arrays_given rest
+
 -- what a call does, by the number of the function and its arguments
 abbrev pub Calls : Type 0
-Calls = ℕ → List ℤ → Store → Part ℤ
+Calls = ℕ → List Argument → Store → Part ℤ
 
 -- a condition holds where its value is not 0
 abbrev pub unless_zero : {A : Type 0} → ℤ → A → A → A
@@ -128,9 +144,9 @@ is_left (x ∷ xs) = true
 
 abbrev pub Result : Shape → Type 0
 Result One = ℤ
-Result Row = List ℤ
+Result Row = List Argument
 
--- spot: where each array that the function sees stands in the list of arrays
+-- spot: the array that each number of an array names, by where it stands in the list of arrays
 abbrev pub value : {k : Shape} → (ℕ → ℕ) → Calls → Tree k → Store → Part (Result k)
 value spot calls (Literal z) s = With z s
 value spot calls (Local x) s = With (s.scalars x) s
@@ -147,7 +163,7 @@ value spot calls (Apply f row) s = and_then (value spot calls row s) (λ xs t. c
 value spot calls ReadInt s = next_input s.input s
 value spot calls MoreInput s = With (one_if (is_left s.input)) s
 value spot calls NoMore s = With [] s
-value spot calls (Then a rest) s = and_then (value spot calls a s) (λ x t. and_then (value spot calls rest t) (λ xs u. With (x ∷ xs) u))
+value spot calls (Then a rest) s = and_then (value spot calls a s) (λ x t. and_then (value spot calls rest t) (λ xs u. With (NumberArgument x ∷ xs) u))
 
 -- simple statements: the place of the target is found first, and read where the form needs it
 
@@ -245,7 +261,7 @@ does spot calls n (Declare x e) s = and_then (value spot calls e s) (λ v t. Wit
 does spot calls n (ClearArray a) s = With Falls (cleared s (spot a))
 does spot calls n (Simply a) s = acts spot calls a s
 does spot calls n (Head a) s = acts spot calls a s
-does spot calls n (Print format row) s = and_then (value spot calls row s) (λ xs t. With Falls (prints (printed (pieces_of format) xs) t))
+does spot calls n (Print format row) s = and_then (value spot calls row s) (λ xs t. With Falls (prints (printed (pieces_of format) (numbers_given xs)) t))
 does spot calls n (If e a) s = tests (value spot calls e s) (does spot calls n a) (λ t. With Falls t)
 does spot calls n (IfElse e a b) s = tests (value spot calls e s) (does spot calls n a) (does spot calls n b)
 does spot calls n (While e a) s = turns n (value spot calls e) (does spot calls n a) s
@@ -259,9 +275,20 @@ does spot calls n (ReturnValue e) s = and_then (value spot calls e s) (λ v t. W
 
 -- calls
 
--- array a of a function that sees g globals and whose own arrays begin at base
+-- where array k behind the globals stands: the first are those that were given to the function, whosever they are, and its own
+-- stand behind them from base on
+abbrev pub spot_behind : (given : List ℕ) → (base : ℕ) → ℕ → ℕ
+spot_behind [] base k = base + k
+spot_behind (spot ∷ rest) base zero = spot
+spot_behind (spot ∷ rest) base (suc k) = spot_behind rest base k
+
+-- where array a of a function stands that sees g globals
+abbrev pub spot_in : (g : ℕ) → (given : List ℕ) → (base : ℕ) → ℕ → ℕ
+spot_in g given base a = if nat_lt a g then a else spot_behind given base (a - g)
+
+-- the same where no array was given
 abbrev pub spot_of : (g base : ℕ) → ℕ → ℕ
-spot_of g base a = if nat_lt a g then a else base + (a - g)
+spot_of g base a = spot_in g [] base a
 
 abbrev pub back_in : Store → ℤ → Store → Part ℤ
 back_in caller r s = With r (record s { scalars = caller.scalars; arrays = take (length caller.arrays) s.arrays })
@@ -275,13 +302,14 @@ result_of caller (With (Returns r) s) = back_in caller r s
 result_of caller (Trapped k out) = Trapped k out
 result_of caller (Going out) = Going out
 
-abbrev pub entered : Function → List ℤ → Store → Store
-entered f args s = record s { scalars = λ x. slice_index_or args x (pos 0); arrays = s.arrays ++ map (λ size. replicate size (pos 0)) f.arrays }
+-- the numbers that are given are its first scalars, and its own arrays begin as 0
+abbrev pub entered : Function → List Argument → Store → Store
+entered f args s = record s { scalars = λ x. slice_index_or (numbers_given args) x (pos 0); arrays = s.arrays ++ map (λ size. replicate size (pos 0)) f.arrays }
 
 -- a function that is not there, which no accepted program calls, never ends
-abbrev pub activate : (g : ℕ) → Option Function → Calls → ℕ → List ℤ → Store → Part ℤ
+abbrev pub activate : (g : ℕ) → Option Function → Calls → ℕ → List Argument → Store → Part ℤ
 activate g None calls n args s = Going s.out
-activate g (Some f) calls n args s = result_of s (does (spot_of g (length s.arrays)) calls n f.body (entered f args s))
+activate g (Some f) calls n args s = result_of s (does (spot_in g (arrays_given args) (length s.arrays)) calls n f.body (entered f args s))
 
 -- at most so many functions active from here on
 abbrev pub active : Program → (depth : ℕ) → ℕ → Calls

@@ -4,7 +4,7 @@ use Rattle.std.specs.List.{All}
 use Rattle.vx_base.specs.Arithmetic.{IsNumber}
 use Rattle.vx_base.specs.Outcome.{Outcome, Ends, Traps, Goes, Stuck, Wrong}
 use Rattle.vx_ast.specs.Tree.{Shape, One, Row, Program}
-use Rattle.vx_ast.specs.Meaning.{Store, Part, With, Trapped, Going, Leaves, Falls, Breaks, Continues, Returns, Result, source}
+use Rattle.vx_ast.specs.Meaning.{Store, Part, With, Trapped, Going, Leaves, Falls, Breaks, Continues, Returns, Result, numbers_given, source}
 use Rattle.vx_ast.specs.Accepted.{is_accepted}
 
 -- every scalar, every word of an array and every number of the input
@@ -19,10 +19,10 @@ PartInRange Good (With a s) = Good a × InRange s
 PartInRange Good (Trapped k out) = Unit {0}
 PartInRange Good (Going out) = Unit {0}
 
--- of an expression its value, of a row of arguments each value
+-- of an expression its value, of a row of arguments each number
 abbrev pub ValueInRange : (k : Shape) → Result k → Type 0
 ValueInRange One z = IsNumber z
-ValueInRange Row zs = All IsNumber zs
+ValueInRange Row args = All IsNumber (numbers_given args)
 
 -- the value that a statement returns
 abbrev pub LeavesInRange : Leaves → Type 0

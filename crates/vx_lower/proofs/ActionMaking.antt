@@ -141,7 +141,7 @@ module _ (words : List ℕ) where
             let s2 = k.step (hi.below refl ii) B s3.start f2 s3.opens in
             let s1 = hi.code ii B s2.start (finishes_back B b1 b2 hi.grows.ready k.grows f2) s2.opens in
             let c = s2.holds in let lo = c.fresh in
-            record { start = s1.start; opens = s1.opens; holds = assign_element s1.holds le (record { place = c.place; no = c.no; c = c.c; goes = c.goes; tests = c.tests; stops = c.stops; free = c.free; above = c.above; fresh = omega arith }) lt (omega arith) s3.holds s4.holds };
+            record { start = s1.start; opens = s1.opens; holds = assign_element s1.holds le (record { place = c.place; no = c.no; c = c.c; goes = c.goes; tests = c.tests; stops = c.stops; free = c.free; sized = c.sized; above = c.above; fresh = omega arith }) lt (omega arith) s3.holds s4.holds };
       }
 
   pub changes_local : (x t : ℕ) (c : Change) (b0 b1 : Builder) → (Ready b0 → Alters words c (Held x) (Some x) t b0 b1) → Ready b0 → Acted words (action_of (InLocal x) c) b0 b1
@@ -192,5 +192,5 @@ module _ (words : List ℕ) where
             let s2 = k.step (hi.below refl ii) B s3.start f2 s3.opens in
             let s1 = hi.code ii B s2.start (finishes_back B b1 b2 hi.grows.ready k.grows f2) s2.opens in
             let d = s2.holds in let lo = d.fresh in
-            record { start = s1.start; opens = s1.opens; holds = change_element s1.holds le (record { place = d.place; no = d.no; c = d.c; goes = d.goes; tests = d.tests; stops = d.stops; free = d.free; above = d.above; fresh = omega arith }) s3.holds (omega arith) lu (omega arith) s4.holds (omega arith) (omega arith) s5.holds };
+            record { start = s1.start; opens = s1.opens; holds = change_element s1.holds le (record { place = d.place; no = d.no; c = d.c; goes = d.goes; tests = d.tests; stops = d.stops; free = d.free; sized = d.sized; above = d.above; fresh = omega arith }) s3.holds (omega arith) lu (omega arith) s4.holds (omega arith) (omega arith) s5.holds };
       }

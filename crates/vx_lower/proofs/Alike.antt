@@ -3,7 +3,7 @@ use Rattle.std.proofs.Common.{◌≡◌, ℕ, zero, suc, ◌+◌, ℤ, pos, Bool
 use Rattle.vx_base.specs.Outcome.{Outcome, Step, On, Over, step_then, run}
 use Rattle.vx_base.specs.declared.outcome.Trap.{Trap}
 use Rattle.vx_flow.specs.Effects.{State}
-use Rattle.vx_flow.specs.Meaning.{Hop, Arrives, Calls, Leaves, Stops, Wrong, Body, Program, Frame, Active, deepest, enters, returned, waits, after_hop, body_hop, hop, next, setting_of}
+use Rattle.vx_flow.specs.Meaning.{Hop, Arrives, Calls, Leaves, Stops, Wrong, Body, Program, Frame, Active, deepest, enters, returned, waits, after_hop, body_hop, hop, next}
 
 abbrev pub Alike : List Frame → List Frame → Type 0
 Alike [] [] = Unit {0}

@@ -9,7 +9,7 @@ use Rattle.vx_base.specs.Arithmetic.{IsNumber}
 use Rattle.vx_base.specs.Outcome.{Outcome, Traps, Goes as Unfinished, Step, On, Over, step_then, run}
 use Rattle.vx_base.specs.declared.outcome.Trap.TheVariants.{Depth}
 use Rattle.vx_ast.specs.Tree.{Shape, One, Row, Function, Program as TreeProgram}
-use Rattle.vx_ast.specs.Meaning.{Store, Part, With, Trapped, Going, Leaves, Falls, Breaks, Continues, Returns, Calls, does, spot_of as place_of, back_in, result_of, entered as entered_source, activate, active, deepest as source_deepest}
+use Rattle.vx_ast.specs.Meaning.{Store, Part, With, Trapped, Going, Leaves, Falls, Breaks, Continues, Returns, Calls, Argument, numbers_given, does, spot_in as place_in, spot_of as place_of, back_in, result_of, entered as entered_source, activate, active, deepest as source_deepest}
 use Rattle.vx_ast.specs.Accepted.{Scope, is_in, scope_after, is_accepted, in_force_at_start, global_words, can_call}
 use Rattle.vx_flow.specs.declared.graph.Operand.{Operand}
 use Rattle.vx_flow.specs.declared.graph.Operand.TheVariants.{Held, Number}
@@ -18,21 +18,21 @@ use Rattle.vx_flow.specs.declared.graph.Block.{Block}
 use Rattle.vx_flow.specs.declared.graph.Graph.{Graph}
 use Rattle.vx_flow.specs.declared.graph.Flow.{Flow}
 use Rattle.vx_flow.specs.Effects.{Content, State, held}
-use Rattle.vx_flow.specs.Meaning.{Hop, Body, Program, Frame, Active, known, calls, leaves, hop_of, block_hop, after_hop, body_hop, next, spot_of, setting_of, enters, returned, waits, with_result, at_entry, undefined, entered, own_of, body_of, program_of, deepest}
+use Rattle.vx_flow.specs.Meaning.{Hop, Body, Program, Frame, Active, known, calls, leaves, hop_of, block_hop, after_hop, body_hop, next, spot_behind, spot_in, spot_of, enters, returned, waits, with_result, at_entry, undefined, entered, own_of, body_of, program_of, deepest}
 use Rattle.vx_lower.specs.Holds.{Goes, ends}
 use Rattle.vx_lower.specs.Does.{Does}
 use Rattle.vx_lower.specs.Lowered.{numbers_from, words_seen, global_of, Lowered, AllLowered}
 use Rattle.vx_lower.proofs.Base.{SameRow, is_below, and_two}
-use Rattle.vx_lower.proofs.Steps.{Here, Entry, HasBlocks, active_at, rest_run, Comes, comes_self, comes_on, comes_goes, Gives, shift, arrival}
+use Rattle.vx_lower.proofs.Steps.{Here, setting_at, Entry, HasBlocks, active_at, rest_run, Comes, comes_self, comes_on, comes_goes, Gives, shift, arrival}
 use Rattle.vx_lower.proofs.Ties.{InRange, InForce, Tied}
-use Rattle.vx_lower.proofs.Values.{Numbers, Above, Fitting, CallsMeet, Came_back, zero_fits}
+use Rattle.vx_lower.proofs.Values.{AllNumbers, Above, Fitting, CallsMeet, Came_back, zero_fits}
 use Rattle.vx_lower.proofs.ActionLaws.{Reaches}
 use Rattle.vx_lower.proofs.StatementLaws.{Comes_out, Left, stmt_runs}
 use Rattle.vx_lower.proofs.Alike.{alike_self, run_alike}
 use Rattle.vx_lower.proofs.Facts.{body_suits, small_words, scalar_word, scalar_global, named_in_force, in_below, entry_at, take_past, take_within, front_item, back_item, map_append, take_all, drop_all, map_drop, map_take, rows_append, rows_take, rows_zero, lengths_replicate}
 
-spot_global : (g base a : ℕ) → a < g → spot_of g base a ≡ a
-spot_global g base a h = ap (λ b. cond b a (base + (a - g))) (is_below a g h)
+spot_global : (g : ℕ) (passed : List (Option ℕ)) (base a : ℕ) → a < g → spot_in g passed base a ≡ a
+spot_global g passed base a h = ap (λ b. cond b a (spot_behind passed base (a - g))) (is_below a g h)
 
 spot_own : (g base k : ℕ) → spot_of g base (g + k) ≡ base + k
 spot_own g base k =
@@ -50,7 +50,7 @@ fronts_on gs shapes own f = let l = f.long in let e = length-append shapes own i
 
 fitting_callee : (gs shapes own : List ℕ) → Fronts gs shapes → (a : ℕ) → slice_index_or (shapes ++ own) (spot_of (length gs) (length shapes) a) 0 ≡ slice_index_or (gs ++ own) a 0
 fitting_callee gs shapes own f a = elim (cases_lt a (length gs)) [
-  | inl h ↦ let l = f.long in ap (λ b. slice_index_or (shapes ++ own) b 0) (spot_global (length gs) (length shapes) a h) ∙ front_item 0 shapes own a (omega arith) ∙ f.same a h ∙ sym (front_item 0 gs own a h)
+  | inl h ↦ let l = f.long in ap (λ b. slice_index_or (shapes ++ own) b 0) (spot_global (length gs) [] (length shapes) a h) ∙ front_item 0 shapes own a (omega arith) ∙ f.same a h ∙ sym (front_item 0 gs own a h)
   | inr h ↦
       let k = a - length gs in
       let e : a ≡ length gs + k = omega arith in
@@ -73,7 +73,7 @@ deep = record { rest = 511; in_source = refl; in_graphs = refl }
 pub has_blocks : (flow : Flow) (h : Here) (g : Graph) → slice_get flow.functions h.function ≡ Some g → HasBlocks (program_of flow) h g.blocks
 has_blocks flow h g at b q s e =
     ap (λ o. body_hop (program_of flow) (active_at h (record { block = b; state = s })) (option_map (body_of (length flow.globals)) o)) at
-    ∙ ap (λ o. hop_of (setting_of (program_of flow) h.base) b o s) e
+    ∙ ap (λ o. hop_of (setting_at (program_of flow) h) b o s) e
 
 module _ (flow : Flow) (p : TreeProgram) (accepted : is_accepted p ≡ true) (all : AllLowered p flow) (n : ℕ) where
   abbrev P : Program
@@ -105,10 +105,10 @@ module _ (flow : Flow) (p : TreeProgram) (accepted : is_accepted p ≡ true) (al
     pub ranges : InRange σ
 
   -- the tie at a function's start
-  pub tied_start : (h : Here) (kept : ℕ → Type 0) (shapes : List ℕ) (f : Function) (g : Graph) → Lowered p flow.texts f g → (args : List ℤ) → length args ≡ f.parameters → Numbers Row args → (σ : Store) (s : State) → length p.globals ≤ length shapes → Rows kept shapes σ s →
-      Tied P.globals (setting_of P h.base).spot (in_force_at_start f) kept (shapes ++ f.arrays) (entered_source f args σ) (start_state g args s)
+  pub tied_start : (h : Here) (kept : ℕ → Type 0) (shapes : List ℕ) (f : Function) (g : Graph) → Lowered p flow.texts f g → (args : List Argument) → length (numbers_given args) ≡ f.parameters → AllNumbers (numbers_given args) → (σ : Store) (s : State) → length p.globals ≤ length shapes → Rows kept shapes σ s →
+      Tied P.globals (setting_at P h).spot (in_force_at_start f) kept (shapes ++ f.arrays) (entered_source f args σ) (start_state g (numbers_given args) s)
   tied_start h kept shapes f g x args count numbers σ s long rows = record {
-    scalars = λ y i. let l = in_below f.parameters y i in let z : y ≡ 0 + y = omega arith in ap (λ qs. at_entry qs args y) x.parameters ∙ ap (λ v. at_entry (numbers_from 0 f.parameters) args v) z ∙ entry_at 0 f.parameters y args count l;
+    scalars = λ y i. let l = in_below f.parameters y i in let z : y ≡ 0 + y = omega arith in ap (λ qs. at_entry qs (numbers_given args) y) x.parameters ∙ ap (λ v. at_entry (numbers_from 0 f.parameters) (numbers_given args) v) z ∙ entry_at 0 f.parameters y (numbers_given args) count l;
     own = owns;
     others = λ q i. let k = rows.kept_rows q i in row q k.0 k.1;
     shape = map_append (λ z. length z) s.arrays (map undefined (own_of (length flow.globals) g)) ∙ ap (λ z. z ++ map (λ r. length r) (map undefined (own_of (length flow.globals) g))) rows.shape ∙ ap (λ z. shapes ++ z) (ap (λ own. map (λ r. length r) (map undefined own)) (own_is f g x) ∙ lengths_replicate None f.arrays);
@@ -118,22 +118,22 @@ module _ (flow : Flow) (p : TreeProgram) (accepted : is_accepted p ≡ true) (al
     ranges = record { scalars = numbers; words = rows_append σ.arrays (map (λ size. replicate size (pos 0)) f.arrays) rows.ranges.words (rows_zero f.arrays); input = rows.ranges.input };
   }
     where
-      row : (q : ℕ) → q < length shapes → SameRow σ.arrays s.arrays q → SameRow (entered_source f args σ).arrays (start_state g args s).arrays q
+      row : (q : ℕ) → q < length shapes → SameRow σ.arrays s.arrays q → SameRow (entered_source f args σ).arrays (start_state g (numbers_given args) s).arrays q
       row q l e =
           let l1 = ap length rows.shape in let l2 = length-map s.arrays (λ z. length z) in
           let l3 = ap length rows.source_shape in let l4 = length-map σ.arrays (λ z. length z) in
           front_item [] s.arrays (map undefined (own_of (length flow.globals) g)) q (omega arith) ∙ e ∙ ap (map Some) (sym (front_item [] σ.arrays (map (λ size. replicate size (pos 0)) f.arrays) q (omega arith)))
 
-      owns : (a : ℕ) → InForce P.globals (in_force_at_start f) a → SameRow (entered_source f args σ).arrays (start_state g args s).arrays ((setting_of P h.base).spot a)
+      owns : (a : ℕ) → InForce P.globals (in_force_at_start f) a → SameRow (entered_source f args σ).arrays (start_state g (numbers_given args) s).arrays ((setting_at P h).spot a)
       owns a (inl l) =
           let c = count_globals in
           let l2 : a < length p.globals = omega arith in
-          subst (SameRow (entered_source f args σ).arrays (start_state g args s).arrays) (sym (spot_global (length flow.globals) h.base a l)) (row a (omega arith) (rows.global_rows a l2))
+          subst (SameRow (entered_source f args σ).arrays (start_state g (numbers_given args) s).arrays) (sym (spot_global (length flow.globals) h.passed h.base a l)) (row a (omega arith) (rows.global_rows a l2))
       owns a (inr i) = absurd (cc)
 
-  fitting_at : (h : Here) (shapes : List ℕ) (i : ℕ) (f : Function) → slice_get p.functions i ≡ Some f → Fronts (map global_words p.globals) shapes → h.base ≡ length shapes → Fitting P h p (shapes ++ f.arrays) (words_seen p f)
-  fitting_at h shapes i f at fronts base_is = record {
-    same = λ a. ap (λ z. slice_index_or (shapes ++ f.arrays) (spot_of z h.base a) 0) same_globals ∙ ap (λ z. slice_index_or (shapes ++ f.arrays) (spot_of (length (map global_words p.globals)) z a) 0) base_is ∙ fitting_callee (map global_words p.globals) shapes f.arrays fronts a;
+  fitting_at : (h : Here) (shapes : List ℕ) (i : ℕ) (f : Function) → slice_get p.functions i ≡ Some f → Fronts (map global_words p.globals) shapes → h.passed ≡ [] → h.base ≡ length shapes → Fitting P h p (shapes ++ f.arrays) (words_seen p f)
+  fitting_at h shapes i f at fronts none base_is = record {
+    same = λ a. ap (λ l. slice_index_or (shapes ++ f.arrays) (spot_in P.globals l h.base a) 0) none ∙ ap (λ z. slice_index_or (shapes ++ f.arrays) (spot_of z h.base a) 0) same_globals ∙ ap (λ z. slice_index_or (shapes ++ f.arrays) (spot_of (length (map global_words p.globals)) z a) 0) base_is ∙ fitting_callee (map global_words p.globals) shapes f.arrays fronts a;
     small = small_words p accepted i f at;
     one_word = scalar_word p f;
     is_global = λ a e. let l = scalar_global p f a e in let c = count_globals in omega arith;
@@ -169,17 +169,17 @@ module _ (flow : Flow) (p : TreeProgram) (accepted : is_accepted p ≡ true) (al
   ended_left h B has kept shapes words vars after sc start last out s g g2 Continues σ x = reached_end h B has kept shapes words vars sc start out s σ g2 x
   ended_left h B has kept shapes words vars after sc start last out s g g2 (Returns r) σ x = record { to = x.to; from = x.from; comes = x.comes; holds = x.holds; number = x.number; others = x.tied.others; shape = x.tied.shape; source_shape = x.tied.source_shape; input = x.tied.input; out = x.tied.out; ranges = x.tied.ranges }
 
-  pub body_ends : (h : Here) (kept : ℕ → Type 0) (shapes : List ℕ) (i d : ℕ) (f : Function) (g : Graph) (x : Lowered p flow.texts f g) → slice_get p.functions i ≡ Some f → (at : slice_get flow.functions h.function ≡ Some g) → Fronts (map global_words p.globals) shapes → h.base ≡ length shapes → CallsMeet P h g.blocks (has_blocks flow h g at) p kept (shapes ++ f.arrays) (words_seen p f) n (active p d n) → (σ : Store) (s : State) → Tied P.globals (setting_of P h.base).spot (in_force_at_start f) kept (shapes ++ f.arrays) σ s →
-      Gives P h n x.start s (Endings h x.start s kept (shapes ++ f.arrays)) (does (setting_of P h.base).spot (active p d n) n f.body σ)
-  body_ends h kept shapes i d f g x is at fronts base_is meets σ s tied =
+  pub body_ends : (h : Here) (kept : ℕ → Type 0) (shapes : List ℕ) (i d : ℕ) (f : Function) (g : Graph) (x : Lowered p flow.texts f g) → slice_get p.functions i ≡ Some f → (at : slice_get flow.functions h.function ≡ Some g) → Fronts (map global_words p.globals) shapes → h.passed ≡ [] → h.base ≡ length shapes → CallsMeet P h g.blocks (has_blocks flow h g at) p kept (shapes ++ f.arrays) (words_seen p f) n (active p d n) → (σ : Store) (s : State) → Tied P.globals (setting_at P h).spot (in_force_at_start f) kept (shapes ++ f.arrays) σ s →
+      Gives P h n x.start s (Endings h x.start s kept (shapes ++ f.arrays)) (does (setting_at P h).spot (active p d n) n f.body σ)
+  body_ends h kept shapes i d f g x is at fronts none base_is meets σ s tied =
       let enough = x.enough in
-      shift P h n x.start x.start s s (Left P h g.blocks (has_blocks flow h g at) p kept (shapes ++ f.arrays) (words_seen p f) x.vars (scope_after f.body (in_force_at_start f)) (in_force_at_start f) x.start s x.last x.out x.out) (Endings h x.start s kept (shapes ++ f.arrays)) (comes_self P h x.start s) (does (setting_of P h.base).spot (active p d n) n f.body σ)
-      (stmt_runs P h g.blocks (has_blocks flow h g at) p kept (shapes ++ f.arrays) (words_seen p f) x.vars n (active p d n) meets (fitting_at h shapes i f is fronts base_is) x.body (in_force_at_start f) f.gives false (body_suits p accepted i f is) (λ y j. let l = in_below f.parameters y j in omega arith) σ s tied)
+      shift P h n x.start x.start s s (Left P h g.blocks (has_blocks flow h g at) p kept (shapes ++ f.arrays) (words_seen p f) x.vars (scope_after f.body (in_force_at_start f)) (in_force_at_start f) x.start s x.last x.out x.out) (Endings h x.start s kept (shapes ++ f.arrays)) (comes_self P h x.start s) (does (setting_at P h).spot (active p d n) n f.body σ)
+      (stmt_runs P h g.blocks (has_blocks flow h g at) p kept (shapes ++ f.arrays) (words_seen p f) x.vars n (active p d n) meets (fitting_at h shapes i f is fronts none base_is) x.body (in_force_at_start f) f.gives false (body_suits p accepted i f is) (λ y j. let l = in_below f.parameters y j in omega arith) σ s tied)
       (ended_left h g.blocks (has_blocks flow h g at) kept (shapes ++ f.arrays) (words_seen p f) x.vars (scope_after f.body (in_force_at_start f)) (in_force_at_start f) x.start x.last x.out s x.falls x.out_falls)
 
   -- at a call: where the callee begins
   abbrev inner_here : Here → ℕ → Option ℕ → ℕ → State → Here
-  inner_here h f result to s = record { function = f; base = length s.arrays; waiting = record { function = h.function; from = 0; next = to; result = result; passed = []; base = h.base; values = s.values } ∷ h.waiting }
+  inner_here h f result to s = record { function = f; passed = []; base = length s.arrays; waiting = record { function = h.function; from = 0; next = to; result = result; passed = h.passed; base = h.base; values = s.values } ∷ h.waiting }
 
   pub body_there : (f : ℕ) (g : Graph) → slice_get flow.functions f ≡ Some g → P.body f ≡ Some (body_of (length flow.globals) g)
   body_there f g at = ap (option_map (body_of (length flow.globals))) at
@@ -189,7 +189,7 @@ module _ (flow : Flow) (p : TreeProgram) (accepted : is_accepted p ≡ true) (al
       ap (λ o. step_then (run (next P) (λ r. r.state.out) (suc k)) (after_hop P (active_at h e) (calls f o result e.block to s))) vals
       ∙ ap (λ b. step_then (run (next P) (λ r. r.state.out) (suc k)) (cond b (Over (Traps Depth s.out)) (enters f (P.body f) args s (waits (active_at h e) result e.block to s ∷ h.waiting)))) room
       ∙ ap (λ o. step_then (run (next P) (λ r. r.state.out) (suc k)) (enters f o args s (waits (active_at h e) result e.block to s ∷ h.waiting))) (body_there f g at)
-      ∙ run_alike P (suc k) (record { function = f; block = 0; passed = []; base = length s.arrays; state = start_state g args s; waiting = waits (active_at h e) result e.block to s ∷ h.waiting }) (record { function = h.function; from = 0; next = to; result = result; passed = []; base = h.base; values = s.values } ∷ h.waiting) (refl, alike_self h.waiting)
+      ∙ run_alike P (suc k) (record { function = f; block = 0; passed = []; base = length s.arrays; state = start_state g args s; waiting = waits (active_at h e) result e.block to s ∷ h.waiting }) (record { function = h.function; from = 0; next = to; result = result; passed = h.passed; base = h.base; values = s.values } ∷ h.waiting) (refl, alike_self h.waiting)
       ∙ arrival P (inner_here h f result to s) g.blocks (has_blocks flow (inner_here h f result to s) g at) e 0 k start (start_state g args s) at_start
 
   abbrev back_state : Option ℕ → ℤ → State → State → State
@@ -204,14 +204,14 @@ module _ (flow : Flow) (p : TreeProgram) (accepted : is_accepted p ≡ true) (al
   abbrev pub AlikeRows : List ℕ → Store → State → ℕ → Type 0
   AlikeRows shapes σ s q = (q < length shapes) × SameRow σ.arrays s.arrays q
 
-  came_back : (h : Here) (B : List Block) (has : HasBlocks P h B) (kept : ℕ → Type 0) (shapes words own : List ℕ) (sc : Scope) (f to : ℕ) (result : Option ℕ) (os : List Operand) (args : List ℤ) (g : Graph) (start q : Block) (σ : Store) (s : State) (r : ℤ) (σ1 : Store) → Tied P.globals (setting_of P h.base).spot sc kept shapes σ s → nat_le deepest (length h.waiting + 1) ≡ false → known (map (held s) os) ≡ Some args → slice_get flow.functions f ≡ Some g → slice_get g.blocks 0 ≡ Some start → slice_get B to ≡ Some q →
+  came_back : (h : Here) (B : List Block) (has : HasBlocks P h B) (kept : ℕ → Type 0) (shapes words own : List ℕ) (sc : Scope) (f to : ℕ) (result : Option ℕ) (os : List Operand) (args : List ℤ) (g : Graph) (start q : Block) (σ : Store) (s : State) (r : ℤ) (σ1 : Store) → Tied P.globals (setting_at P h).spot sc kept shapes σ s → nat_le deepest (length h.waiting + 1) ≡ false → known (map (held s) os) ≡ Some args → slice_get flow.functions f ≡ Some g → slice_get g.blocks 0 ≡ Some start → slice_get B to ≡ Some q →
       Ended (inner_here h f result to s) start (start_state g args s) (AlikeRows shapes σ s) (shapes ++ own) r σ1 → Came_back P h B has p kept shapes words n sc (ends (Call f os result to)) s q result r (record σ1 { scalars = σ.scalars; arrays = take (length σ.arrays) σ1.arrays })
   came_back h B has kept shapes words own sc f to result os args g start q σ s r σ1 tied room vals at at_start at_next x = record {
     to = record (x.to) { values = s.values; arrays = take (length s.arrays) x.to.arrays };
     comes = record { by = λ e. let c = x.comes.by (record { block = 0; state = start_state g args s }) in (record { block = to; state = back_state result r s x.to }, λ k. let y = c.1 (suc k) in let l = y.1 in (suc y.0, omega arith, entering h e f to result os args g start s y.0 room vals at at_start ∙ y.2 ∙ leaving h B has c.0 f to result q x.from r s x.to k at_next x.holds)) };
     tied = record {
       scalars = tied.scalars;
-      own = λ a i. row ((setting_of P h.base).spot a) (tied.own a i);
+      own = λ a i. row ((setting_at P h).spot a) (tied.own a i);
       others = λ q i. row q (tied.others q i);
       shape = map_take (λ z. length z) (length s.arrays) x.to.arrays ∙ ap (take (length s.arrays)) x.shape ∙ ap (λ z. take z (shapes ++ own)) m1 ∙ take_all shapes own;
       source_shape = map_take (λ z. length z) (length σ.arrays) σ1.arrays ∙ ap (take (length σ.arrays)) x.source_shape ∙ ap (λ z. take z (shapes ++ own)) m2 ∙ take_all shapes own;
@@ -236,7 +236,7 @@ module _ (flow : Flow) (p : TreeProgram) (accepted : is_accepted p ≡ true) (al
       ]
 
   -- the outcomes of a body and of its call
-  result_gives : (h : Here) (B : List Block) (has : HasBlocks P h B) (kept : ℕ → Type 0) (shapes words own : List ℕ) (sc : Scope) (f to : ℕ) (result : Option ℕ) (os : List Operand) (args : List ℤ) (g : Graph) (start q : Block) (σ : Store) (s : State) → Tied P.globals (setting_of P h.base).spot sc kept shapes σ s → nat_le deepest (length h.waiting + 1) ≡ false → known (map (held s) os) ≡ Some args → slice_get flow.functions f ≡ Some g → slice_get g.blocks 0 ≡ Some start → slice_get B to ≡ Some q → (o : Part Leaves) →
+  result_gives : (h : Here) (B : List Block) (has : HasBlocks P h B) (kept : ℕ → Type 0) (shapes words own : List ℕ) (sc : Scope) (f to : ℕ) (result : Option ℕ) (os : List Operand) (args : List ℤ) (g : Graph) (start q : Block) (σ : Store) (s : State) → Tied P.globals (setting_at P h).spot sc kept shapes σ s → nat_le deepest (length h.waiting + 1) ≡ false → known (map (held s) os) ≡ Some args → slice_get flow.functions f ≡ Some g → slice_get g.blocks 0 ≡ Some start → slice_get B to ≡ Some q → (o : Part Leaves) →
       Gives P (inner_here h f result to s) n start (start_state g args s) (Endings (inner_here h f result to s) start (start_state g args s) (AlikeRows shapes σ s) (shapes ++ own)) o → Gives P h n (ends (Call f os result to)) s (Came_back P h B has p kept shapes words n sc (ends (Call f os result to)) s q result) (result_of σ o)
   result_gives h B has kept shapes words own sc f to result os args g start q σ s tied room vals at at_start at_next (With Falls σ1) x = came_back h B has kept shapes words own sc f to result os args g start q σ s (pos 0) σ1 tied room vals at at_start at_next x
   result_gives h B has kept shapes words own sc f to result os args g start q σ s tied room vals at at_start at_next (With Breaks σ1) x = came_back h B has kept shapes words own sc f to result os args g start q σ s (pos 0) σ1 tied room vals at at_start at_next x
@@ -282,9 +282,9 @@ module _ (flow : Flow) (p : TreeProgram) (accepted : is_accepted p ≡ true) (al
 
   -- with d more active functions the graph follows each call
   pub calls_meet : (d : ℕ) (h : Here) (B : List Block) (has : HasBlocks P h B) (kept : ℕ → Type 0) (shapes words : List ℕ) → length h.waiting + d ≡ deep.rest → Fronts (map global_words p.globals) shapes → CallsMeet P h B has p kept shapes words n (active p d n)
-  calls_meet zero h B has kept shapes words depth fronts sc f os result to q args σ s can tied vals numbers at = λ e. (0, full h e f to result os args s (no_room (length h.waiting) depth) vals ∙ ap (Traps Depth) tied.out)
+  calls_meet zero h B has kept shapes words depth fronts sc f os result to q args σ s can tied vals numbers at = λ e. (0, full h e f to result os (numbers_given args) s (no_room (length h.waiting) depth) vals ∙ ap (Traps Depth) tied.out)
   calls_meet (suc d) h B has kept shapes words depth fronts sc f os result to q args σ s can tied vals numbers at =
-      let fn = there f (length args) can in
+      let fn = there f (length (numbers_given args)) can in
       let g = graph_there f fn.0 fn.1 in
       let x = all.lowered f fn.0 g.0 fn.1 g.1 in
       let h1 = inner_here h f result to s in
@@ -292,20 +292,21 @@ module _ (flow : Flow) (p : TreeProgram) (accepted : is_accepted p ≡ true) (al
       let m2 : length σ.arrays ≡ length s.arrays = sym (length-map σ.arrays (λ z. length z)) ∙ ap length tied.source_shape ∙ sym m1 in
       let deeper : length h1.waiting + d ≡ deep.rest = omega arith in
       let kept1 = AlikeRows shapes σ s in
-      let s1 = start_state g.0 args s in
+      let s1 = start_state g.0 (numbers_given args) s in
       let c = count_globals in
       let long = fronts.long in
       let len = length-map p.globals global_words in
       let rows : Rows kept1 shapes σ s = record { kept_rows = λ q k. k; global_rows = globals_at h shapes σ s sc kept tied; shape = tied.shape; source_shape = tied.source_shape; input = tied.input; out = tied.out; ranges = tied.ranges } in
-      let start1 = tied_start h1 kept1 shapes fn.0 g.0 x args fn.2 numbers σ s (omega arith) rows in
-      let body = body_ends h1 kept1 shapes f d fn.0 g.0 x fn.1 g.1 fronts m1 (calls_meet d h1 g.0.blocks (has_blocks flow h1 g.0 g.1) kept1 (shapes ++ fn.0.arrays) (words_seen p fn.0) deeper (fronts_on (map global_words p.globals) shapes fn.0.arrays fronts)) (entered_source fn.0 args σ) s1 start1 in
+      let start1 = tied_start h1 kept1 shapes fn.0 g.0 x args fn.2 numbers.1 σ s (omega arith) rows in
+      let body = body_ends h1 kept1 shapes f d fn.0 g.0 x fn.1 g.1 fronts refl m1 (calls_meet d h1 g.0.blocks (has_blocks flow h1 g.0 g.1) kept1 (shapes ++ fn.0.arrays) (words_seen p fn.0) deeper (fronts_on (map global_words p.globals) shapes fn.0.arrays fronts)) (entered_source fn.0 args σ) s1 start1 in
       subst (λ o. Gives P h n (ends (Call f os result to)) s (Came_back P h B has p kept shapes words n sc (ends (Call f os result to)) s q result) (activate (length p.globals) o (active p d n) n args σ)) (sym fn.1)
+      (subst (λ l. Gives P h n (ends (Call f os result to)) s (Came_back P h B has p kept shapes words n sc (ends (Call f os result to)) s q result) (result_of σ (does (place_in (length p.globals) l (length σ.arrays)) (active p d n) n fn.0.body (entered_source fn.0 args σ)))) (sym numbers.0)
       (subst (λ b. Gives P h n (ends (Call f os result to)) s (Came_back P h B has p kept shapes words n sc (ends (Call f os result to)) s q result) (result_of σ (does (place_of (length p.globals) b) (active p d n) n fn.0.body (entered_source fn.0 args σ)))) (sym m2)
       (subst (λ b. Gives P h n (ends (Call f os result to)) s (Came_back P h B has p kept shapes words n sc (ends (Call f os result to)) s q result) (result_of σ (does (place_of b (length s.arrays)) (active p d n) n fn.0.body (entered_source fn.0 args σ)))) c
-      (result_gives h B has kept shapes words fn.0.arrays sc f to result os args g.0 x.start q σ s tied (room_for (length h.waiting) d depth) vals g.1 x.at_start at (does (place_of (length flow.globals) (length s.arrays)) (active p d n) n fn.0.body (entered_source fn.0 args σ)) body)))
+      (result_gives h B has kept shapes words fn.0.arrays sc f to result os (numbers_given args) g.0 x.start q σ s tied (room_for (length h.waiting) d depth) vals g.1 x.at_start at (does (place_of (length flow.globals) (length s.arrays)) (active p d n) n fn.0.body (entered_source fn.0 args σ)) body))))
     where
-      globals_at : (h : Here) (shapes : List ℕ) (σ : Store) (s : State) (sc : Scope) (kept : ℕ → Type 0) → Tied P.globals (setting_of P h.base).spot sc kept shapes σ s → (a : ℕ) → a < length p.globals → SameRow σ.arrays s.arrays a
+      globals_at : (h : Here) (shapes : List ℕ) (σ : Store) (s : State) (sc : Scope) (kept : ℕ → Type 0) → Tied P.globals (setting_at P h).spot sc kept shapes σ s → (a : ℕ) → a < length p.globals → SameRow σ.arrays s.arrays a
       globals_at h shapes σ s sc kept tied a l =
           let c = count_globals in
           let l2 : a < length flow.globals = omega arith in
-          subst (SameRow σ.arrays s.arrays) (spot_global (length flow.globals) h.base a l2) (tied.own a (inl l2))
+          subst (SameRow σ.arrays s.arrays) (spot_global (length flow.globals) h.passed h.base a l2) (tied.own a (inl l2))

@@ -204,7 +204,7 @@ module _ (words : List ℕ) where
             let s1 = x.code is B s2.start (finishes_back B b1 b2 x.grows.ready k.grows f2) s2.opens in
             let c = s2.holds in
             let lo = c.fresh in
-            record { start = s1.start; opens = s1.opens; holds = element s1.holds (record { place = c.place; no = c.no; c = c.c; goes = c.goes; tests = c.tests; stops = c.stops; free = c.free; above = c.above; fresh = omega arith }) s3.holds (lands_on (length b0.banks) (length b2.banks) (way_of dest (Held t) q) t q (up_to (length b0.banks) (length b1.banks) (length b2.banks) v1 v2) (z.lands q)) };
+            record { start = s1.start; opens = s1.opens; holds = element s1.holds (record { place = c.place; no = c.no; c = c.c; goes = c.goes; tests = c.tests; stops = c.stops; free = c.free; sized = c.sized; above = c.above; fresh = omega arith }) s3.holds (lands_on (length b0.banks) (length b2.banks) (way_of dest (Held t) q) t q (up_to (length b0.banks) (length b1.banks) (length b2.banks) v1 v2) (z.lands q)) };
       }
 
   pub emits_unary : (operator : UnaryOperator) (t : ℕ) (dest : Option ℕ) (a : Tree One) (o : Operand) (b0 b1 b2 : Builder) → (Ready b0 → Emits words a None o b0 b1) → (Ready b1 → Lasts (unary_op operator t o) dest t b1 b2) → Ready b0 → Emits words (Unary operator a) dest (Held t) b0 b2

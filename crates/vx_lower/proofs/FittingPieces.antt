@@ -1,5 +1,5 @@
 -- The pieces of the code of expressions keep a graph well shaped.
-use Rattle.std.proofs.Common.{◌≡◌, ℕ, ℤ, pos, List, length, Option, Some, None, refl, arith}
+use Rattle.std.proofs.Common.{◌≡◌, ℕ, pos, List, length, Option, Some, None, refl, arith}
 use Rattle.vx_base.specs.declared.arithmetic.Code.{Code}
 use Rattle.vx_base.specs.declared.arithmetic.Code.TheVariants.{Add, Sub, And, Or, Xor, Shl, Shr, ToGeneral, ToBranch, Mpylu, Mpyhs, Div, Rem}
 use Rattle.vx_base.specs.declared.arithmetic.Compare.TheVariants.{Eq, Ne, Lt, Le, Gt, Ge, Ltu}
@@ -11,7 +11,7 @@ use Rattle.vx_flow.specs.declared.graph.Bank.TheVariants.{General, Branch}
 use Rattle.vx_flow.specs.declared.graph.Operand.{Operand}
 use Rattle.vx_flow.specs.declared.graph.Operand.TheVariants.{Held, Number}
 use Rattle.vx_flow.specs.declared.graph.Op.TheVariants.{Compute, Place}
-use Rattle.vx_lower.specs.Holds.{operation_of}
+use Rattle.vx_lower.specs.Holds.{size_at, operation_of}
 use Rattle.vx_lower.specs.Builds.{with_value}
 use Rattle.vx_lower.specs.Adds.{Added, Trapped, Last}
 use Rattle.vx_lower.specs.Fits.{Role, Scalar, PlaceOf, HasRole, OperandFits, RightFits, role_written, DestFits, ChecksWell, CombinesWell}
@@ -23,12 +23,16 @@ pub dest_on : (roles later : List Role) → Kept roles later → (dest : Option 
 dest_on roles later kept None h = h
 dest_on roles later kept (Some t) h = kept t Scalar h
 
-pub checks_well : (a : ℕ) (index : Operand) (t c : ℕ) (size : ℤ) (b0 b1 b2 b3 b4 : Builder) → (t ≡ length b0.banks) × (b1 ≡ with_value b0 General) → Added (Place t a index) b1 b2 → (c ≡ length b2.banks) × (b3 ≡ with_value b2 Branch) → Trapped (Compute (ToBranch Ltu) c index (Number size)) c ByIndex b3 b4 → ChecksWell a index t b0 b4
-checks_well a index t c size b0 b1 b2 b3 b4 et pt ec pc k texts roles s below fit =
+-- the size of an array is a number
+pub size_fits : (words : List ℕ) (a : ℕ) (size : Operand) → size ≡ size_at words a → (roles : List Role) → OperandFits roles size
+size_fits words a size e roles = subst (OperandFits roles) (sym e) tt
+
+pub checks_well : (a : ℕ) (index : Operand) (t c : ℕ) (size : Operand) (b0 b1 b2 b3 b4 : Builder) → ((roles : List Role) → OperandFits roles size) → (t ≡ length b0.banks) × (b1 ≡ with_value b0 General) → Added (Place t a index) b1 b2 → (c ≡ length b2.banks) × (b3 ≡ with_value b2 Branch) → Trapped (Compute (ToBranch Ltu) c index size) c ByIndex b3 b4 → ChecksWell a index t b0 b4
+checks_well a index t c size b0 b1 b2 b3 b4 sized et pt ec pc k texts roles s below fit =
     let x = taken_place et pt s below fit in
     let y = taken_test ec x.keeps.shaped in
     let inner = operand_on x.later y.later y.keeps.kept index (operand_on roles x.later x.keeps.kept index fit) in
-    let g = trapped pc y.keeps.shaped (y.has, inner, tt) y.has in
+    let g = trapped pc y.keeps.shaped (y.has, inner, sized y.later) y.has in
     record { later = y.later; keeps = keeps_on x.keeps (keeps_on y.keeps g); has = y.keeps.kept t (PlaceOf a) x.has }
 
 -- an operation of an operator is no move, and writes a scalar

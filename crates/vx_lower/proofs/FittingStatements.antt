@@ -1,5 +1,5 @@
 -- The code of statements keeps a graph well shaped.
-use Rattle.std.proofs.Common.{◌≡◌, ℕ, zero, suc, ◌+◌, ◌*◌, ◌<◌, ◌≤◌, ℤ, pos, List, [], ◌∷◌, ◌++◌, length, get_or, Option, Some, None, refl, sym, ap, ◌∙◌, subst, inl, inr, arith}
+use Rattle.std.proofs.Common.{◌≡◌, ℕ, zero, suc, ◌+◌, ◌*◌, ◌<◌, ◌≤◌, pos, List, [], ◌∷◌, ◌++◌, length, get_or, Option, Some, None, refl, sym, ap, ◌∙◌, subst, inl, inr, arith}
 use Rattle.std.proofs.lemmas.List.{length-append}
 use Rattle.vx_base.specs.declared.arithmetic.Code.TheVariants.{Add, Mov, ToBranch}
 use Rattle.vx_base.specs.declared.arithmetic.Compare.TheVariants.{Lt}
@@ -206,13 +206,13 @@ clears_word_well a i t u b0 b1 b2 b3 b4 et pt ps pu k texts roles s below h =
     let z = last pu y.shaped hi (λ later kept g. (g, kept i Scalar hi, tt)) in
     record { later = z.later; keeps = keeps_on x.keeps (keeps_on y z.keeps) }
 
-pub clears_array_well : (a i h c n : ℕ) (size : ℤ) (b0 b1 b2 b3 b4 b5 b6 : Builder) → Last (Compute Mov i (Number (pos 0)) (Number (pos 0))) None i b0 b1 → (h ≡ length b1.blocks) × (b2 ≡ closed (reserved b1) (Goto h) h) → (c ≡ length b2.banks) × (b3 ≡ with_value b2 Branch) → Forked (Compute (ToBranch Lt) c (Held i) (Number size)) c n b3 b4 → WordWell a i b4 b5 → b6 ≡ closed b5 (Goto h) n → PlainWell (ClearArray a) b0 b6
-clears_array_well a i h c n size b0 b1 b2 b3 b4 b5 b6 pi eh ec pc cw e6 k texts roles s is =
+pub clears_array_well : (a i h c n : ℕ) (size : Operand) (b0 b1 b2 b3 b4 b5 b6 : Builder) → ((roles : List Role) → OperandFits roles size) → Last (Compute Mov i (Number (pos 0)) (Number (pos 0))) None i b0 b1 → (h ≡ length b1.blocks) × (b2 ≡ closed (reserved b1) (Goto h) h) → (c ≡ length b2.banks) × (b3 ≡ with_value b2 Branch) → Forked (Compute (ToBranch Lt) c (Held i) size) c n b3 b4 → WordWell a i b4 b5 → b6 ≡ closed b5 (Goto h) n → PlainWell (ClearArray a) b0 b6
+clears_array_well a i h c n size b0 b1 b2 b3 b4 b5 b6 sized pi eh ec pc cw e6 k texts roles s is =
     let x = last pi s tt (λ later kept g. (g, tt, refl)) in
     let e = enters_well h b1 b2 eh x.keeps.shaped in
     let y = taken_test ec e.keeps.shaped in
     let hi = y.keeps.kept i Scalar x.has in
-    let f = forked pc y.keeps.shaped (y.has, hi, tt) y.has in
+    let f = forked pc y.keeps.shaped (y.has, hi, sized y.later) y.has in
     let w = cw k texts y.later f.keeps.shaped is hi in
     let before = keeps_on x.keeps (keeps_on e.keeps y.keeps) in
     let free = w.keeps.free h (f.keeps.free h (y.keeps.free h e.free)) in

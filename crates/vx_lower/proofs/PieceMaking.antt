@@ -19,7 +19,7 @@ use Rattle.vx_flow.specs.declared.graph.Op.{Op}
 use Rattle.vx_flow.specs.declared.graph.Op.TheVariants.{Compute, Place}
 use Rattle.vx_flow.specs.declared.graph.Exit.TheVariants.{Ends}
 use Rattle.vx_flow.specs.declared.graph.Block.{Block}
-use Rattle.vx_lower.specs.Holds.{IsBelow, Goes, same, Tests, Checks, Combines, single, product, quotient, operation_of, Way, To, Into, Tested, Lands, fresh, into, then_op, ends}
+use Rattle.vx_lower.specs.Holds.{size_at, IsBelow, Goes, same, Tests, Checks, Combines, single, product, quotient, operation_of, Way, To, Into, Tested, Lands, fresh, into, then_op, ends}
 use Rattle.vx_lower.specs.Builds.{Ready, Grows, Finishes, Opens, From, Puts, Branches, Guards, with_value}
 use Rattle.vx_lower.specs.Emits.{way_of, Aimed, Lasts, IsMoved, Delivers, Checked, Combined, Spare}
 use Rattle.vx_lower.specs.declared.builder.Builder.{Builder}
@@ -104,10 +104,10 @@ delivers_moved t o b b1 p r =
     let x = p r in
     record { grows = x.grows; kept = λ n. absurd (cc); step = λ B q f w. let s = x.step B q f w in record { start = s.start; opens = s.opens; holds = (refl, s.holds) } }
 
-pub checked_of : (words : List ℕ) (a : ℕ) (o : Operand) (t c : ℕ) (size : ℤ) (b0 b1 b2 b3 b4 : Builder) → size ≡ pos (slice_index_or words a 0) → (t ≡ length b0.banks) × (b1 ≡ with_value b0 General) → (Ready b1 → Puts (Place t a o) b1 b2) → (c ≡ length b2.banks) × (b3 ≡ with_value b2 Branch) → (Ready b3 → Guards (Compute (ToBranch Ltu) c o (Number size)) c ByIndex b3 b4) → Ready b0 → Checked words a o t b0 b4
+pub checked_of : (words : List ℕ) (a : ℕ) (o : Operand) (t c : ℕ) (size : Operand) (b0 b1 b2 b3 b4 : Builder) → size ≡ size_at words a → (t ≡ length b0.banks) × (b1 ≡ with_value b0 General) → (Ready b1 → Puts (Place t a o) b1 b2) → (c ≡ length b2.banks) × (b3 ≡ with_value b2 Branch) → (Ready b3 → Guards (Compute (ToBranch Ltu) c o size) c ByIndex b3 b4) → Ready b0 → Checked words a o t b0 b4
 checked_of words a o t c size b0 b1 b2 b3 b4 es et pt ec pc r =
     let s = sets_of b0 b1 b2 t General (Place t a o) et pt r in
-    let k = guarded_of b2 b3 b4 c ByIndex Branch (Compute (ToBranch Ltu) c o (Number (pos (slice_index_or words a 0)))) ec (subst (λ z. Ready b3 → Guards (Compute (ToBranch Ltu) c o (Number z)) c ByIndex b3 b4) es pc) s.grows.ready in
+    let k = guarded_of b2 b3 b4 c ByIndex Branch (Compute (ToBranch Ltu) c o (size_at words a)) ec (subst (λ z. Ready b3 → Guards (Compute (ToBranch Ltu) c o z) c ByIndex b3 b4) es pc) s.grows.ready in
     let f = s.fresh in let l = s.below in let fc = k.fresh in let v = k.grows.values in
     record {
       grows = grows_on b0 b2 b4 r s.grows k.grows;
@@ -115,7 +115,7 @@ checked_of words a o t c size b0 b1 b2 b3 b4 es et pt ec pc r =
       step = λ below B q fin w.
           let s2 = k.step B q fin w in
           let s1 = s.step B s2.start (finishes_back B b2 b4 s.grows.ready k.grows fin) s2.opens in
-          record { start = s1.start; opens = s1.opens; holds = record { place = s2.start; no = s2.holds.0; c = c; goes = s1.holds; tests = s2.holds.1; stops = s2.holds.2; free = below_on (length b0.banks) t o (omega arith) below; above = omega arith; fresh = omega arith } };
+          record { start = s1.start; opens = s1.opens; holds = record { place = s2.start; no = s2.holds.0; c = c; goes = s1.holds; tests = s2.holds.1; stops = s2.holds.2; free = below_on (length b0.banks) t o (omega arith) below; sized = tt; above = omega arith; fresh = omega arith } };
     }
 
 pub product_of : (a b : Operand) (dest : Option ℕ) (t u v : ℕ) (b0 b1 b2 b3 b4 b5 : Builder) → (u ≡ length b0.banks) × (b1 ≡ with_value b0 General) → (Ready b1 → Puts (Compute Mpylu u a b) b1 b2) → (v ≡ length b2.banks) × (b3 ≡ with_value b2 General) → (Ready b3 → Puts (Compute Mpyhs v a b) b3 b4) → (Ready b4 → Lasts (Compute Add t (Held u) (Held v)) dest t b4 b5) → Ready b0 → Combined Multiply a b dest t b0 b5

@@ -17,7 +17,7 @@ use Rattle.vx_flow.specs.declared.graph.Op.TheVariants.{Compute, Place, Store}
 use Rattle.vx_flow.specs.declared.graph.Exit.{Exit}
 use Rattle.vx_flow.specs.declared.graph.Exit.TheVariants.{Goto, Return as Returns}
 use Rattle.vx_flow.specs.declared.graph.Block.{Block}
-use Rattle.vx_lower.specs.Holds.{Goes, same, on, Way, To, Into, Tested, Lands, fresh, into, then_op, ends, jump}
+use Rattle.vx_lower.specs.Holds.{size_at, Goes, same, on, Way, To, Into, Tested, Lands, fresh, into, then_op, ends, jump}
 use Rattle.vx_lower.specs.Does.{Acts, Zeroes, Asks, asks, always, Shows, Does, nothing, seq, empty, braces, clear, declare, clear_array, simply, head, print, choose, choose_else, while, do_while, for, break, continue, return, return_value}
 use Rattle.vx_lower.specs.Builds.{reserved, closed, with_value, Ready, Grows, Stands, Finishes, Opens, From, Puts, Branches}
 use Rattle.vx_lower.specs.Emits.{way_of, Lasts, IsWithin, Emits, EmitsTest, EmitsRow, Spare}
@@ -232,15 +232,15 @@ module _ (words : List ℕ) where
       }
 
   -- the words of an array are set to 0
-  pub plain_zeroes : (a i h c n : ℕ) (size : ℤ) (b0 b1 b2 b3 b4 b5 b6 : Builder) → size ≡ pos (slice_index_or words a 0) → (Ready b0 → Lasts (Compute Mov i (Number (pos 0)) (Number (pos 0))) None i b0 b1) → (h ≡ length b1.blocks) × (b2 ≡ closed (reserved b1) (Goto h) h) → (c ≡ length b2.banks) × (b3 ≡ with_value b2 Branch) → (Ready b3 → Branches (Compute (ToBranch Lt) c (Held i) (Number size)) c n b3 b4) → (Ready b4 → ClearsWord a i b4 b5) → b6 ≡ closed b5 (Goto h) n → Ready b0 → MakesPlain words (ClearArray a) b0 b6
+  pub plain_zeroes : (a i h c n : ℕ) (size : Operand) (b0 b1 b2 b3 b4 b5 b6 : Builder) → size ≡ size_at words a → (Ready b0 → Lasts (Compute Mov i (Number (pos 0)) (Number (pos 0))) None i b0 b1) → (h ≡ length b1.blocks) × (b2 ≡ closed (reserved b1) (Goto h) h) → (c ≡ length b2.banks) × (b3 ≡ with_value b2 Branch) → (Ready b3 → Branches (Compute (ToBranch Lt) c (Held i) size) c n b3 b4) → (Ready b4 → ClearsWord a i b4 b5) → b6 ≡ closed b5 (Goto h) n → Ready b0 → MakesPlain words (ClearArray a) b0 b6
   plain_zeroes a i h c n size b0 b1 b2 b3 b4 b5 b6 es mv eh ec pb cl e6 r =
       let hh = length b1.blocks in
-      let op = Compute (ToBranch Lt) c (Held i) (Number (pos (slice_index_or words a 0))) in
+      let op = Compute (ToBranch Lt) c (Held i) (size_at words a) in
       let c2 : b2 ≡ closed (reserved b1) (Goto hh) hh = eh.1 ∙ ap (λ m. closed (reserved b1) (Goto m) m) eh.0 in
       let c6 : b6 ≡ closed b5 (Goto hh) n = e6 ∙ ap (λ m. closed b5 (Goto m) n) eh.0 in
       let m = mv r in
       let g12 = subst (Grows b1) (sym c2) (ended b1 b1 (Goto hh) m.grows.ready (grows_self b1 m.grows.ready)) in
-      let k = branched_of b2 b3 b4 c n Branch op ec (subst (λ z. Ready b3 → Branches (Compute (ToBranch Lt) c (Held i) (Number z)) c n b3 b4) es pb) g12.ready in
+      let k = branched_of b2 b3 b4 c n Branch op ec (subst (λ z. Ready b3 → Branches (Compute (ToBranch Lt) c (Held i) z) c n b3 b4) es pb) g12.ready in
       let w = cl k.grows.ready in
       let sn5 = spare_on b4 b5 n w.grows k.spare in
       let g02 = grows_on b0 b1 b2 r m.grows g12 in

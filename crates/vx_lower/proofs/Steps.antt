@@ -10,12 +10,14 @@ use Rattle.vx_flow.specs.declared.graph.Exit.TheVariants.{Goto, Split, Ends}
 use Rattle.vx_flow.specs.declared.graph.Block.{Block}
 use Rattle.vx_flow.specs.declared.graph.Flow.{Flow}
 use Rattle.vx_flow.specs.Effects.{State, Setting, effect}
-use Rattle.vx_flow.specs.Meaning.{Hop, Arrives, Program, Frame, Active, block_hop, and_then, by_test, after_hop, hop, next, setting_of, program_of}
+use Rattle.vx_flow.specs.Meaning.{Hop, Arrives, Program, Frame, Active, block_hop, and_then, by_test, after_hop, hop, next, setting_with, program_of}
 use Rattle.vx_lower.specs.Holds.{Goes, same, on, then_op, ends, jump, Tests}
 
--- what stays in a body: the function, where its own arrays begin, and those that wait
+-- what stays in a body: the function, the spots of the arrays that were passed to it, where its own arrays begin, and those
+-- that wait
 pub record Here : Type 0 where
   pub function : ℕ
+  pub passed : List (Option ℕ)
   pub base : ℕ
   pub waiting : List Frame
 
@@ -25,7 +27,11 @@ pub record Entry : Type 0 where
   pub state : State
 
 abbrev pub active_at : Here → Entry → Active
-active_at h e = record { function = h.function; block = e.block; passed = []; base = h.base; state = e.state; waiting = h.waiting }
+active_at h e = record { function = h.function; block = e.block; passed = h.passed; base = h.base; state = e.state; waiting = h.waiting }
+
+-- what the operations of the body depend on besides
+abbrev pub setting_at : Program → Here → Setting
+setting_at P h = setting_with P h.passed h.base
 
 module _ (P : Program) (h : Here) where
   abbrev pub output_at : Active → List ℕ
@@ -33,11 +39,11 @@ module _ (P : Program) (h : Here) where
 
   -- at most n more blocks, from the rest of a block on
   abbrev pub rest_run : ℕ → Entry → Block → State → Outcome
-  rest_run n e p s = step_then (run (next P) (λ r. r.state.out) n) (after_hop P (active_at h e) (block_hop (setting_of P h.base) e.block p.ops p.exit s))
+  rest_run n e p s = step_then (run (next P) (λ r. r.state.out) n) (after_hop P (active_at h e) (block_hop (setting_at P h) e.block p.ops p.exit s))
 
   -- the blocks of the function
   abbrev pub HasBlocks : List Block → Type 0
-  HasBlocks B = (b : ℕ) (q : Block) (s : State) → slice_get B b ≡ Some q → hop P (active_at h (record { block = b; state = s })) ≡ block_hop (setting_of P h.base) b q.ops q.exit s
+  HasBlocks B = (b : ℕ) (q : Block) (s : State) → slice_get B b ≡ Some q → hop P (active_at h (record { block = b; state = s })) ≡ block_hop (setting_at P h) b q.ops q.exit s
 
   -- whatever runs from q at t runs from p at s, and no sooner
   pub record Comes (p : Block) (s : State) (q : Block) (t : State) : Type 0 where
@@ -70,8 +76,8 @@ module _ (P : Program) (h : Here) where
   passes_on a b = record { by = λ e. let c = a.by e in let y = b.by c.0 in let x = c.1 y.0 in (x.0, x.2 ∙ y.1) }
 
   -- one operation
-  pub comes_op : (op : Op) (q : Block) (s t : State) → effect (setting_of P h.base) s op s ≡ Some t → Comes (then_op op q) s q t
-  comes_op op q s t e = record { by = λ f. (f, λ k. (k, omega arith, ap (λ o. step_then (run (next P) (λ r. r.state.out) k) (after_hop P (active_at h f) (and_then o (block_hop (setting_of P h.base) f.block q.ops q.exit)))) e)) }
+  pub comes_op : (op : Op) (q : Block) (s t : State) → effect (setting_at P h) s op s ≡ Some t → Comes (then_op op q) s q t
+  comes_op op q s t e = record { by = λ f. (f, λ k. (k, omega arith, ap (λ o. step_then (run (next P) (λ r. r.state.out) k) (after_hop P (active_at h f) (and_then o (block_hop (setting_at P h) f.block q.ops q.exit)))) e)) }
 
   -- what a part of the source says of the graph, from p at s on: a trap, or as far, or Good
   abbrev pub Gives : {A : Type 0} → ℕ → Block → State → (A → Store → Type 0) → Part A → Type 0
@@ -111,15 +117,15 @@ module _ (P : Program) (h : Here) where
     arrival e b k r t at = ap (λ x. step_then (run (next P) (λ q. q.state.out) k) (after_hop P (active_at h (record { block = b; state = t })) x)) (has b r t at)
 
     -- one block
-    pub later_arrives : (p r : Block) (b : ℕ) (s t : State) → ((e : Entry) → block_hop (setting_of P h.base) e.block p.ops p.exit s ≡ Arrives e.block b t) → slice_get B b ≡ Some r → Later p s r t
+    pub later_arrives : (p r : Block) (b : ℕ) (s t : State) → ((e : Entry) → block_hop (setting_at P h) e.block p.ops p.exit s ≡ Arrives e.block b t) → slice_get B b ≡ Some r → Later p s r t
     later_arrives p r b s t e at = record { by = λ f. (record { block = b; state = t }, λ k. (suc k, omega arith, ap (λ x. step_then (run (next P) (λ q. q.state.out) (suc k)) (after_hop P (active_at h f) x)) (e f) ∙ arrival f b k r t at)) }
 
-    pub passes_arrival : (p : Block) (b : ℕ) (s t : State) → ((e : Entry) → block_hop (setting_of P h.base) e.block p.ops p.exit s ≡ Arrives e.block b t) → Passes p s t.out
+    pub passes_arrival : (p : Block) (b : ℕ) (s t : State) → ((e : Entry) → block_hop (setting_at P h) e.block p.ops p.exit s ≡ Arrives e.block b t) → Passes p s t.out
     passes_arrival p b s t e = record { by = λ f. (0, ap (λ x. step_then (run (next P) (λ q. q.state.out) 0) (after_hop P (active_at h f) x)) (e f)) }
 
     pub comes_goes : (q p : Block) (s : State) → Goes B q p → Comes p s q s
     comes_goes q p s (same e) = subst (λ x. Comes p s x s) e (comes_self p s)
-    comes_goes q p s (on b r e at g) = comes_on (is_later (later_arrives p r b s s (λ f. ap (λ x. block_hop (setting_of P h.base) f.block x.ops x.exit s) e) at)) (comes_goes q r s g)
+    comes_goes q p s (on b r e at g) = comes_on (is_later (later_arrives p r b s s (λ f. ap (λ x. block_hop (setting_at P h) f.block x.ops x.exit s) e) at)) (comes_goes q r s g)
 
     -- a jump passes a block
     pub later_jump : (p r : Block) (b : ℕ) (s : State) → Goes B (jump b) p → slice_get B b ≡ Some r → Later p s r s
@@ -129,7 +135,7 @@ module _ (P : Program) (h : Here) where
     passes_jump p b s g = passes_on (comes_goes (jump b) p s g) (passes_arrival (jump b) b s s (λ f. refl))
 
     -- to an operation, and past it
-    pub comes_past : (op : Op) (p q : Block) (s t : State) → Goes B (then_op op q) p → effect (setting_of P h.base) s op s ≡ Some t → Comes p s q t
+    pub comes_past : (op : Op) (p q : Block) (s t : State) → Goes B (then_op op q) p → effect (setting_at P h) s op s ≡ Some t → Comes p s q t
     comes_past op p q s t g e = comes_on (comes_goes (then_op op q) p s g) (comes_op op q s t e)
 
     -- a test, and one of the ways on
@@ -137,7 +143,7 @@ module _ (P : Program) (h : Here) where
       pub comes : Comes p s q t
       pub passes : Passes p s t.out
 
-    pub comes_tests : (op : Op) (c : ℕ) (p one two : Block) (s t : State) (v : Bool) → Tests B op c p one two → effect (setting_of P h.base) s op s ≡ Some t → t.values c ≡ Some (one_if v) → Came_to p s (cond v one two) t
+    pub comes_tests : (op : Op) (c : ℕ) (p one two : Block) (s t : State) (v : Bool) → Tests B op c p one two → effect (setting_at P h) s op s ≡ Some t → t.values c ≡ Some (one_if v) → Came_to p s (cond v one two) t
     comes_tests op c p one two s t v x e at = way v at
       where
         before : Comes p s (ends (Split c x.y x.n)) t

@@ -21,7 +21,7 @@ use Rattle.vx_flow.specs.declared.graph.Graph.{Graph}
 use Rattle.vx_flow.specs.declared.graph.Global.{Global}
 use Rattle.vx_flow.specs.declared.graph.Flow.{Flow}
 use Rattle.vx_flow.specs.Effects.{Content, State, held}
-use Rattle.vx_flow.specs.Meaning.{Body, Program, Active, after_hop, leaves, next, setting_of, entered_or, program_of, words_at_start as graph_words, globals_at_start, graph_run}
+use Rattle.vx_flow.specs.Meaning.{Body, Program, Active, after_hop, leaves, next, entered_or, program_of, words_at_start as graph_words, globals_at_start, graph_run}
 use Rattle.vx_flow.proofs.RunLaws.{graph_run_steady}
 use Rattle.vx_lower.specs.FlowOf.{AreNumbers}
 use Rattle.vx_lower.specs.Holds.{ends}
@@ -80,7 +80,7 @@ module _ (p : TreeProgram) (flow : Flow) (accepted : is_accepted p ≡ true) (al
   state = globals_at_start flow input
 
   abbrev here : Here
-  here = record { function = flow.main; base = length (map graph_words flow.globals); waiting = [] }
+  here = record { function = flow.main; passed = []; base = length (map graph_words flow.globals); waiting = [] }
 
   abbrev none_kept : ℕ → Type 0
   none_kept q = ⊥
@@ -144,7 +144,7 @@ module _ (p : TreeProgram) (flow : Flow) (accepted : is_accepted p ≡ true) (al
       let depth : length here.waiting + deep.rest ≡ deep.rest = omega arith in
       let long : length p.globals ≤ length gs = omega arith in
       let start1 = tied_start flow p accepted all n here none_kept gs fn.0 g.0 x [] (sym fn.2) (λ i. zero_fits) store state long (rows_start n) in
-      let body = body_ends flow p accepted all n here none_kept gs p.main deep.rest fn.0 g.0 x fn.1 at fronts base_is (calls_meet flow p accepted all n deep.rest here g.0.blocks (has_blocks flow here g.0 at) none_kept (gs ++ fn.0.arrays) (words_seen p fn.0) depth (fronts_on gs gs fn.0.arrays fronts)) (entered_source fn.0 [] store) s1 start1 in
+      let body = body_ends flow p accepted all n here none_kept gs p.main deep.rest fn.0 g.0 x fn.1 at fronts refl base_is (calls_meet flow p accepted all n deep.rest here g.0.blocks (has_blocks flow here g.0 at) none_kept (gs ++ fn.0.arrays) (words_seen p fn.0) depth (fronts_on gs gs fn.0.arrays fronts)) (entered_source fn.0 [] store) s1 start1 in
       let followed = follow n g.0 x.start (gs ++ fn.0.arrays) at x.at_start (does (place_of (length flow.globals) (length (map graph_words flow.globals))) (active p deep.rest n) n fn.0.body (entered_source fn.0 [] store)) body in
       let bases : length (map graph_words flow.globals) ≡ length (map source_words p.globals) = base_is ∙ len ∙ sym (length-map p.globals source_words) in
       subst (λ d. FollowsAt (graph_run flow input) n (outcome_of (active p d n p.main [] store))) (sym deep.in_source)

@@ -13,11 +13,11 @@ use Rattle.vx_flow.specs.declared.graph.Operand.TheVariants.{Held, Number}
 use Rattle.vx_flow.specs.declared.graph.Op.TheVariants.{Compute, Place, Store as Keep}
 use Rattle.vx_flow.specs.declared.graph.Block.{Block}
 use Rattle.vx_flow.specs.Effects.{Content, State, with_value, with_cell, row_of, place_of}
-use Rattle.vx_flow.specs.Meaning.{Program, setting_of}
+use Rattle.vx_flow.specs.Meaning.{Program}
 use Rattle.vx_lower.specs.Holds.{Goes, jump}
 use Rattle.vx_lower.specs.Does.{Zeroes}
 use Rattle.vx_lower.proofs.Base.{SameRow, set_row, set_shape, length_of_row, is_below, one_up}
-use Rattle.vx_lower.proofs.Steps.{Here, HasBlocks, Comes, comes_on, comes_goes, comes_past, comes_tests, later_jump, is_later}
+use Rattle.vx_lower.proofs.Steps.{Here, setting_at, HasBlocks, Comes, comes_on, comes_goes, comes_past, comes_tests, later_jump, is_later}
 use Rattle.vx_lower.proofs.Ties.{InForce, Tied, Keeps, keeps_value, value_there, computes, stores, range_row, same_count, row_length, source_length, tied_row}
 use Rattle.vx_lower.proofs.Values.{zero_fits}
 
@@ -74,28 +74,28 @@ less_test k size = refl
 
 module _ (P : Program) (h : Here) (B : List Block) (has : HasBlocks P h B) (vars a size : ℕ) where
   abbrev place : ℕ
-  place = (setting_of P h.base).spot a
+  place = (setting_at P h).spot a
 
   pub record Wiped (p : Block) (s : State) (q : Block) (A : List (List Content)) : Type 0 where
     pub to : State
     pub comes : Comes P h p s q to
-    pub arrays : to.arrays ≡ slice_set A ((setting_of P h.base).spot a) (wiped size (slice_index_or A ((setting_of P h.base).spot a) []))
+    pub arrays : to.arrays ≡ slice_set A ((setting_at P h).spot a) (wiped size (slice_index_or A ((setting_at P h).spot a) []))
     pub keeps : Keeps vars s to
     pub input : to.input ≡ s.input
     pub out : to.out ≡ s.out
 
-  module _ (p q : Block) (x : Zeroes B size vars a p q) (A : List (List Content)) (size_is : length (slice_index_or A ((setting_of P h.base).spot a) []) ≡ size) (small : size < 2 ^ 29) where
+  module _ (p q : Block) (x : Zeroes B (Number (pos size)) vars a p q) (A : List (List Content)) (size_is : length (slice_index_or A ((setting_at P h).spot a) []) ≡ size) (small : size < 2 ^ 29) where
     abbrev After : ℕ → List (List Content)
-    After k = slice_set A ((setting_of P h.base).spot a) (wiped k (slice_index_or A ((setting_of P h.base).spot a) []))
+    After k = slice_set A ((setting_at P h).spot a) (wiped k (slice_index_or A ((setting_at P h).spot a) []))
 
-    row_is : (k : ℕ) (s : State) → s.arrays ≡ After k → row_of s ((setting_of P h.base).spot a) ≡ wiped k (slice_index_or A ((setting_of P h.base).spot a) [])
-    row_is k s e = ap (λ z. slice_index_or z ((setting_of P h.base).spot a) []) e ∙ wiped_there A ((setting_of P h.base).spot a) k
+    row_is : (k : ℕ) (s : State) → s.arrays ≡ After k → row_of s ((setting_at P h).spot a) ≡ wiped k (slice_index_or A ((setting_at P h).spot a) [])
+    row_is k s e = ap (λ z. slice_index_or z ((setting_at P h).spot a) []) e ∙ wiped_there A ((setting_at P h).spot a) k
 
-    size_of : (k : ℕ) (s : State) → s.arrays ≡ After k → length (row_of s ((setting_of P h.base).spot a)) ≡ size
-    size_of k s e = ap length (row_is k s e) ∙ length_wiped k (slice_index_or A ((setting_of P h.base).spot a) []) ∙ size_is
+    size_of : (k : ℕ) (s : State) → s.arrays ≡ After k → length (row_of s ((setting_at P h).spot a)) ≡ size
+    size_of k s e = ap length (row_is k s e) ∙ length_wiped k (slice_index_or A ((setting_at P h).spot a) []) ∙ size_is
 
     tested : (k : ℕ) (s : State) → s.values x.i ≡ Some (pos k) → Comes P h x.head s (cond (nat_lt k size) x.yes x.no) (with_value s x.c (Some (one_if (nat_lt k size))))
-    tested k s e = (comes_tests P h B has (Compute (ToBranch Lt) x.c (Held x.i) (Number (pos size))) x.c x.head x.yes x.no s (with_value s x.c (Some (one_if (nat_lt k size)))) (nat_lt k size) x.tests (computes (setting_of P h.base) (ToBranch Lt) x.c (Held x.i) (Number (pos size)) s (pos k) (pos size) e refl ∙ ap (λ b. Some (with_value s x.c (Some (one_if b)))) (less_test k size)) (value_there x.c s (Some (one_if (nat_lt k size))))).comes
+    tested k s e = (comes_tests P h B has (Compute (ToBranch Lt) x.c (Held x.i) (Number (pos size))) x.c x.head x.yes x.no s (with_value s x.c (Some (one_if (nat_lt k size)))) (nat_lt k size) x.tests (computes (setting_at P h) (ToBranch Lt) x.c (Held x.i) (Number (pos size)) s (pos k) (pos size) e refl ∙ ap (λ b. Some (with_value s x.c (Some (one_if b)))) (less_test k size)) (value_there x.c s (Some (one_if (nat_lt k size))))).comes
 
     wipes : (r k : ℕ) → k + r ≡ size → (s : State) → s.values x.i ≡ Some (pos k) → s.arrays ≡ After k → Wiped x.head s q A
     wipes zero k e s at arr =
@@ -117,19 +117,19 @@ module _ (P : Program) (h : Here) (B : List Block) (has : HasBlocks P h B) (vars
         let i1 : s1.values x.i ≡ Some (pos k) = keeps_value x.c x.c s (Some (one_if (nat_lt k size))) (omega arith) x.i ic ∙ at in
         let s2 : State = with_value s1 x.t (Some (product_of (pos 4) (pos k))) in
         let i2 : s2.values x.i ≡ Some (pos k) = keeps_value x.t x.t s1 (Some (product_of (pos 4) (pos k))) (omega arith) x.i it ∙ i1 in
-        let s3 : State = with_cell s2 ((setting_of P h.base).spot a) k (Some (pos 0)) in
+        let s3 : State = with_cell s2 ((setting_at P h).spot a) k (Some (pos 0)) in
         let s4 : State = with_value s3 x.i (Some (pos (k + 1))) in
         let c1 : Comes P h x.head s x.yes s1 = subst (λ v. Comes P h x.head s (cond v x.yes x.no) s1) (is_below k size lt) (tested k s at) in
         let c2 : Comes P h x.yes s1 x.store s2 = comes_past P h B has (Place x.t a (Held x.i)) x.yes x.store s1 s2 x.places (ap (λ v. Some (with_value s1 x.t (place_of v))) i1) in
-        let c3 : Comes P h x.store s2 x.step s3 = comes_past P h B has (Keep a (Held x.t) (Number (pos 0))) x.store x.step s2 s3 x.stores (stores (setting_of P h.base) a k size (Held x.t) (Number (pos 0)) (pos 0) s2 small lt (size_of k s2 arr) (value_there x.t s1 (Some (product_of (pos 4) (pos k)))) refl) in
-        let c4 : Comes P h x.step s3 x.last s4 = comes_past P h B has (Compute Add x.i (Held x.i) (Number (pos 1))) x.step x.last s3 s4 x.steps (computes (setting_of P h.base) Add x.i (Held x.i) (Number (pos 1)) s3 (pos k) (pos 1) i2 refl ∙ ap (λ v. Some (with_value s3 x.i (Some v))) (one_up k (omega arith))) in
+        let c3 : Comes P h x.store s2 x.step s3 = comes_past P h B has (Keep a (Held x.t) (Number (pos 0))) x.store x.step s2 s3 x.stores (stores (setting_at P h) a k size (Held x.t) (Number (pos 0)) (pos 0) s2 small lt (size_of k s2 arr) (value_there x.t s1 (Some (product_of (pos 4) (pos k)))) refl) in
+        let c4 : Comes P h x.step s3 x.last s4 = comes_past P h B has (Compute Add x.i (Held x.i) (Number (pos 1))) x.step x.last s3 s4 x.steps (computes (setting_at P h) Add x.i (Held x.i) (Number (pos 1)) s3 (pos k) (pos 1) i2 refl ∙ ap (λ v. Some (with_value s3 x.i (Some v))) (one_up k (omega arith))) in
         let c5 : Comes P h x.last s4 x.head s4 = is_later P h (later_jump P h B has x.last x.head x.h s4 x.again x.at_head) in
         let e2 : k + 1 + r ≡ size = omega arith in
         let sk : suc k ≡ k + 1 = omega arith in
         let a4 : s4.arrays ≡ After (k + 1) =
-        ap (λ z. slice_set s2.arrays ((setting_of P h.base).spot a) z) (ap (λ z. slice_set z k (Some (pos 0))) (row_is k s2 arr) ∙ one_wiped k (slice_index_or A ((setting_of P h.base).spot a) []))
-        ∙ ap (λ z. slice_set z ((setting_of P h.base).spot a) (wiped (suc k) (slice_index_or A ((setting_of P h.base).spot a) []))) arr
-        ∙ set_twice A ((setting_of P h.base).spot a) (wiped k (slice_index_or A ((setting_of P h.base).spot a) [])) (wiped (suc k) (slice_index_or A ((setting_of P h.base).spot a) []))
+        ap (λ z. slice_set s2.arrays ((setting_at P h).spot a) z) (ap (λ z. slice_set z k (Some (pos 0))) (row_is k s2 arr) ∙ one_wiped k (slice_index_or A ((setting_at P h).spot a) []))
+        ∙ ap (λ z. slice_set z ((setting_at P h).spot a) (wiped (suc k) (slice_index_or A ((setting_at P h).spot a) []))) arr
+        ∙ set_twice A ((setting_at P h).spot a) (wiped k (slice_index_or A ((setting_at P h).spot a) [])) (wiped (suc k) (slice_index_or A ((setting_at P h).spot a) []))
         ∙ ap (λ z. After z) sk in
         let w = wipes r (k + 1) e2 s4 (value_there x.i s3 (Some (pos (k + 1)))) a4 in
         record {
@@ -148,7 +148,7 @@ module _ (P : Program) (h : Here) (B : List Block) (has : HasBlocks P h B) (vars
         let c1 : Comes P h p s x.first s1 = comes_past P h B has (Compute Mov x.i (Number (pos 0)) (Number (pos 0))) p x.first s s1 x.starts refl in
         let c2 : Comes P h x.first s1 x.head s1 = is_later P h (later_jump P h B has x.first x.head x.h s1 x.enters x.at_head) in
         let z : 0 + size ≡ size = omega arith in
-        let w = wipes size 0 z s1 (value_there x.i s (Some (pos 0))) (e ∙ set_same A ((setting_of P h.base).spot a) []) in
+        let w = wipes size 0 z s1 (value_there x.i s (Some (pos 0))) (e ∙ set_same A ((setting_at P h).spot a) []) in
         record {
           to = w.to;
           comes = comes_on P h c1 (comes_on P h c2 w.comes);

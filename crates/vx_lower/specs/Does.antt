@@ -10,7 +10,7 @@ use Rattle.vx_flow.specs.declared.graph.Operand.TheVariants.{Held, Number}
 use Rattle.vx_flow.specs.declared.graph.Op.TheVariants.{Compute, Place as Places, Load, Store, Text, Decimal}
 use Rattle.vx_flow.specs.declared.graph.Exit.TheVariants.{Call, Return as Returns}
 use Rattle.vx_flow.specs.declared.graph.Block.{Block}
-use Rattle.vx_lower.specs.Holds.{Goes, IsBelow, Tests, Checks, Combines, To, Into, Tested, Holds, then_op, ends, jump}
+use Rattle.vx_lower.specs.Holds.{Goes, IsBelow, Tests, size_at, Checks, Combines, To, Into, Tested, Holds, then_op, ends, jump}
 
 -- how the new value of a target follows from the old one
 pub data Change : Type 0 where
@@ -46,7 +46,7 @@ pub data Acts (B : List Block) (words : List ℕ) (vars : ℕ) : Action → Bloc
   change_element : {a u t v lo next : ℕ} {i : Tree One} {c : Change} {oi : Operand} {p m y n z q : Block} → Holds B words One i p (To (oi ∷ []) m) lo → vars ≤ lo → Checks B words a vars t oi m y → Goes B (then_op (Load u a (Held t) false) n) y → t < u → u < next → vars ≤ next → Changes B words next (Held u) c n v z → t < v → vars ≤ v → Goes B (then_op (Store a (Held t) (Held v)) q) z → Acts B words vars (action_of (InElement a i) c) p q
 
 -- all words of an array are set to 0, one after the other
-pub record Zeroes (B : List Block) (size vars a : ℕ) (p q : Block) : Type 0 where
+pub record Zeroes (B : List Block) (size : Operand) (vars a : ℕ) (p q : Block) : Type 0 where
   pub i : ℕ
   pub t : ℕ
   pub c : ℕ
@@ -61,7 +61,7 @@ pub record Zeroes (B : List Block) (size vars a : ℕ) (p q : Block) : Type 0 wh
   pub starts : Goes B (then_op (Compute Mov i (Number (pos 0)) (Number (pos 0))) first) p
   pub enters : Goes B (jump h) first
   pub at_head : slice_get B h ≡ Some head
-  pub tests : Tests B (Compute (ToBranch Lt) c (Held i) (Number (pos size))) c head yes no
+  pub tests : Tests B (Compute (ToBranch Lt) c (Held i) size) c head yes no
   pub places : Goes B (then_op (Places t a (Held i)) store) yes
   pub stores : Goes B (then_op (Store a (Held t) (Number (pos 0))) step) store
   pub steps : Goes B (then_op (Compute Add i (Held i) (Number (pos 1))) last) step
@@ -90,7 +90,7 @@ pub data Does (B : List Block) (words : List ℕ) (texts : List (List ℕ)) (var
   braces : {a : Code} {p q out more : Block} → Does B words texts vars a p q out more → Does B words texts vars (Braces a) p q out more
   clear : {x : ℕ} {p q out more : Block} → x < vars → Goes B (then_op (Compute Mov x (Number (pos 0)) (Number (pos 0))) q) p → Does B words texts vars (Clear x) p q out more
   declare : {x lo : ℕ} {e : Tree One} {p q out more : Block} → Holds B words One e p (Into x q) lo → vars ≤ lo → x < vars → Does B words texts vars (Declare x e) p q out more
-  clear_array : {a : ℕ} {p q out more : Block} → Zeroes B (slice_index_or words a 0) vars a p q → Does B words texts vars (ClearArray a) p q out more
+  clear_array : {a : ℕ} {p q out more : Block} → Zeroes B (size_at words a) vars a p q → Does B words texts vars (ClearArray a) p q out more
   simply : {a : Action} {p q out more : Block} → Acts B words vars a p q → Does B words texts vars (Simply a) p q out more
   head : {a : Action} {p q out more : Block} → Acts B words vars a p q → Does B words texts vars (Head a) p q out more
   print : {format : List ℕ} {row : Tree Row} {os : List Operand} {p m q out more : Block} {lo : ℕ} → Holds B words Row row p (To os m) lo → vars ≤ lo → Shows B texts (pieces_of format) os m q → Does B words texts vars (Print format row) p q out more

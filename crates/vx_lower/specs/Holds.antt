@@ -51,15 +51,20 @@ pub record Tests (B : List Block) (op : Op) (c : ℕ) (p yes no : Block) : Type 
   pub at_yes : slice_get B y ≡ Some yes
   pub at_no : slice_get B n ≡ Some no
 
--- the index in o is tested against the words of array a, and its place is in t
+-- the size of array a, which is a number
+abbrev pub size_at : List ℕ → ℕ → Operand
+size_at words a = Number (pos (slice_index_or words a 0))
+
+-- the index in o is tested against the size of array a, and its place is in t
 pub record Checks (B : List Block) (words : List ℕ) (a lo t : ℕ) (o : Operand) (p q : Block) : Type 0 where
   pub place : Block
   pub no : Block
   pub c : ℕ
   pub goes : Goes B (then_op (Place t a o) place) p
-  pub tests : Tests B (Compute (ToBranch Ltu) c o (Number (pos (slice_index_or words a 0)))) c place q no
+  pub tests : Tests B (Compute (ToBranch Ltu) c o (size_at words a)) c place q no
   pub stops : Goes B (ends (Ends ByIndex)) no
   pub free : IsBelow t o
+  pub sized : IsBelow t (size_at words a)
   pub above : t < c
   pub fresh : lo ≤ t
 

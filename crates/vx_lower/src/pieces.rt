@@ -152,7 +152,7 @@ pub fn check(
             code: Code::ToBranch(Compare::Ltu),
             to: c,
             left: index,
-            right: Operand::Number(size),
+            right: size,
         },
         c,
         Trap::Index,

@@ -2,9 +2,10 @@
 
 ghost use Rattle.std.specs.Prelude.{◌≡◌, pos, true, slice_index_or};
 ghost use Rattle.vx_lower.specs.Emits.{are_small};
+ghost use Rattle.vx_lower.specs.Holds.{size_at};
 
 use std::marker::Model;
-use vx_flow::graph::ArrayId;
+use vx_flow::graph::{ArrayId, Operand};
 
 /// How many words each array has that a function sees, each fewer than 2^31.
 #[derive(Drop)]
@@ -32,8 +33,14 @@ impl Sizes {
         Sizes { words }
     }
 
-    /// The words of an array, as a number of the graph.
-    pub fn of(&self, array: ArrayId) -> i32
+    /// The size of an array, as an operand of the graph.
+    pub fn of(&self, array: ArrayId) -> Operand
+        ensures { result ≡ size_at self.now array }
+    {
+        Operand::Number(self.number(array))
+    }
+
+    fn number(&self, array: ArrayId) -> i32
         ensures { result ≡ pos (slice_index_or self.now array 0) }
     {
         match self.words.get(array as usize) {

@@ -110,7 +110,7 @@ fn clear_array(
             code: Code::ToBranch(Compare::Lt),
             to: c,
             left: Operand::Held(i),
-            right: Operand::Number(size),
+            right: size,
         },
         c,
     )?;

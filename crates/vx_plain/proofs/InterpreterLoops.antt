@@ -2,7 +2,7 @@
 use Rattle.std.proofs.Common.{◌≡◌, ◌<◌, ◌+◌, ◌-◌, ℕ, zero, suc, ℤ, List, [], ◌∷◌, ◌++◌, length, drop, get_or, Option, Some, None, Result, Ok, Err, refl, sym, ◌∙◌, ap, subst, arith, w32, of_z}
 use Rattle.std.specs.Prelude.{IsErrAnd}
 use Rattle.std.proofs.Math.Seq.{drop-cons}
-use Rattle.vx_ast.specs.Meaning.{Store, Part, With, Trapped, Going, Leaves, Falls, Calls, and_then, unless_zero, value, go_on, after_body, after_turn, tests, turns, turns_first}
+use Rattle.vx_ast.specs.Meaning.{Store, Part, With, Trapped, Going, Leaves, Falls, Calls, Argument, NumberArgument, and_then, unless_zero, value, go_on, after_body, after_turn, tests, turns, turns_first}
 use Rattle.vx_plain.specs.Kept.{Kept, store_of}
 use Rattle.vx_plain.specs.Interpreting.{IsAnswered, Comes, itself, falls, leaves_of, IsAfterTurn, IsAfterBody}
 use Rattle.vx_ast.specs.View.{tree_of, row_in}
@@ -14,23 +14,23 @@ use Rattle.vx_plain.proofs.InterpreterSteps.{stop_then, through, more_values}
 
 -- rows of arguments
 
-module _ (spot : ℕ → ℕ) (calls : Calls) (row : List Expression) (i : ℕ) (numbers : List ℤ) (start s : Store) (x : Expression)
+module _ (spot : ℕ → ℕ) (calls : Calls) (row : List Expression) (i : ℕ) (numbers : List Argument) (start s : Store) (x : Expression)
     (so_far : value spot calls (row_in row) start ≡ and_then (value spot calls (row_in (drop i row)) s) (λ xs t. With (numbers ++ xs) t)) (more : i < length row) (item : x ≡ get_or row i x) where
   cut : drop i row ≡ x ∷ drop (i + 1) row
   cut = let q : i + 1 ≡ suc i = omega arith in rw q (drop-cons row i x more ∙ ap (λ y. y ∷ drop (suc i) row) (sym item))
 
-  pub row_stop : {D : Type 0} (g : D → List ℤ) (r : Result D Stop) (e : Stop) (k : Kept) → IsErrAnd r (λ y. y ≡ e) → Comes itself (Err e) k (value spot calls (tree_of x) s) → Comes g r k (value spot calls (row_in row) start)
+  pub row_stop : {D : Type 0} (g : D → List Argument) (r : Result D Stop) (e : Stop) (k : Kept) → IsErrAnd r (λ y. y ≡ e) → Comes itself (Err e) k (value spot calls (tree_of x) s) → Comes g r k (value spot calls (row_in row) start)
   row_stop g r e k h c =
-      let rest : ℤ → Store → Part (List ℤ) = λ y t. and_then (value spot calls (row_in (drop (i + 1) row)) t) (λ xs u. With (y ∷ xs) u) in
-      let inner : Comes {A = List ℤ} {B = ℤ} (λ z. []) (Err e) k (and_then (value spot calls (tree_of x) s) rest) = stop_then itself (λ z. []) (Err e) e k (value spot calls (tree_of x) s) rest refl c in
+      let rest : ℤ → Store → Part (List Argument) = λ y t. and_then (value spot calls (row_in (drop (i + 1) row)) t) (λ xs u. With (NumberArgument y ∷ xs) u) in
+      let inner : Comes {A = List Argument} {B = ℤ} (λ z. []) (Err e) k (and_then (value spot calls (tree_of x) s) rest) = stop_then itself (λ z. []) (Err e) e k (value spot calls (tree_of x) s) rest refl c in
       subst (Comes g r k) (sym (so_far ∙ ap (λ l. and_then (value spot calls (row_in l) s) (λ xs t. With (numbers ++ xs) t)) cut))
       (stop_then (λ z. []) g r e k (and_then (value spot calls (tree_of x) s) rest) (λ xs t. With (numbers ++ xs) t) h inner)
 
-  pub row_more : (v : ℤ) (t : Store) → value spot calls (tree_of x) s ≡ With v t → value spot calls (row_in row) start ≡ and_then (value spot calls (row_in (drop (i + 1) row)) t) (λ xs u. With ((numbers ++ v ∷ []) ++ xs) u)
+  pub row_more : (v : ℤ) (t : Store) → value spot calls (tree_of x) s ≡ With v t → value spot calls (row_in row) start ≡ and_then (value spot calls (row_in (drop (i + 1) row)) t) (λ xs u. With ((numbers ++ NumberArgument v ∷ []) ++ xs) u)
   row_more v t e =
       so_far ∙ ap (λ l. and_then (value spot calls (row_in l) s) (λ xs t. With (numbers ++ xs) t)) cut
-      ∙ ap (λ p. and_then (and_then p (λ y t. and_then (value spot calls (row_in (drop (i + 1) row)) t) (λ xs u. With (y ∷ xs) u))) (λ xs t. With (numbers ++ xs) t)) e
-      ∙ more_values (value spot calls (row_in (drop (i + 1) row)) t) numbers v
+      ∙ ap (λ p. and_then (and_then p (λ y t. and_then (value spot calls (row_in (drop (i + 1) row)) t) (λ xs u. With (NumberArgument y ∷ xs) u))) (λ xs t. With (numbers ++ xs) t)) e
+      ∙ more_values (value spot calls (row_in (drop (i + 1) row)) t) numbers (NumberArgument v)
 
 -- a statement that falls
 

@@ -1,5 +1,5 @@
 -- Steps of the interpreter: what it answers for a part comes to what it answers for the whole.
-use Rattle.std.proofs.Common.{rules, Vec, Global, ◌≤◌, ◌-◌, ◌⊎◌, inl, inr, take, ◌≡◌, ℕ, zero, suc, ◌+◌, ◌<◌, ℤ, pos, negsuc, List, [], ◌∷◌, ◌++◌, length, drop, get_or, map, Option, Some, None, Result, Ok, Err, refl, sym, ◌∙◌, ap, subst, arith, append_assoc, append-nil, w32, of_z, to_z, FitsSigned, slice_get, slice_index_or}
+use Rattle.std.proofs.Common.{rules, Vec, Global, ◌≤◌, ◌-◌, ◌⊎◌, inl, inr, take, ◌≡◌, ℕ, zero, suc, ◌+◌, ◌<◌, ℤ, pos, negsuc, List, [], ◌∷◌, ◌++◌, length, drop, get_or, map, Option, Some, None, Result, Ok, Err, refl, sym, ◌∙◌, ap, subst, arith, append_assoc, append-nil, w32, of_z, to_z, FitsSigned, slice_get, slice_index_or, replicate}
 use Rattle.std.specs.Prelude.{IsErrAnd}
 use Rattle.std.specs.Option.{option_map}
 use Rattle.std.proofs.lemmas.Bool.{cases_lt}
@@ -11,7 +11,7 @@ use Rattle.vx_base.specs.declared.outcome.Trap.{Trap}
 use Rattle.vx_base.specs.declared.outcome.Trap.TheVariants.{Index as ByIndex}
 use Rattle.vx_ast.specs.Tree as tree
 use Rattle.vx_ast.specs.Tree.{One, Row, Tree, Apply, NoMore, Then, Code, Seq, Place, InLocal, InGlobal, InElement}
-use Rattle.vx_ast.specs.Meaning.{Store, Part, With, Trapped, Going, Leaves, Falls, Calls, and_then, unless_zero, at_index, at_element, index_in, array_at, word_at, with_word, with_scalar, value, changes, does, spot_of, active, activate, result_of, back_in, entered, outcome_of}
+use Rattle.vx_ast.specs.Meaning.{Store, Part, With, Trapped, Going, Leaves, Falls, Calls, Argument, NumberArgument, numbers_given, arrays_given, and_then, unless_zero, at_index, at_element, index_in, array_at, word_at, with_word, with_scalar, value, changes, does, spot_behind, spot_in, active, activate, result_of, back_in, entered, outcome_of}
 use Rattle.vx_plain.specs.Kept.{Kept, store_of}
 use Rattle.vx_plain.specs.Interpreting.{IsAnswered, Comes, itself, falls, leaves_of, given, held_at, put_at, located}
 use Rattle.vx_plain.specs.declared.interpreter.Stop.{Stop}
@@ -84,6 +84,18 @@ go_around g r k x p q f h c = subst (Comes g r k) (sym (around x p q f h)) c
 pub gives : (x z : ℤ) (k : Kept) (p : Part ℤ) → FitsSigned w32 x → x ≡ z → p ≡ With z (store_of k) → Comes itself (Ok (to_z w32 (of_z w32 x))) k p
 gives x z k p f e h = record { is = h ∙ ap (λ y. With y (store_of k)) (sym e ∙ sym (to_z-of_z w32 x f)) }
 
+-- where an array behind the globals stands
+
+pub is_given : (given : List ℕ) (base k d : ℕ) → k < length given → slice_index_or given k d ≡ spot_behind given base k
+is_given [] base k d h = absurd (omega arith)
+is_given (spot ∷ rest) base zero d h = refl
+is_given (spot ∷ rest) base (suc k) d h = is_given rest base k d (omega arith)
+
+pub is_own : (given : List ℕ) (base k : ℕ) → length given ≤ k → base + (k - length given) ≡ spot_behind given base k
+is_own [] base k h = let e : k - 0 ≡ k = omega arith in ap (λ z. base + z) e
+is_own (spot ∷ rest) base zero h = absurd (omega arith)
+is_own (spot ∷ rest) base (suc k) h = let e : suc k - suc (length rest) ≡ k - length rest = omega arith in ap (λ z. base + z) e ∙ is_own rest base k (omega arith)
+
 -- rows of arguments
 
 rows_are : (n : _) (k : Row_of-Expression n) → row_of k ≡ row_in (items-the_row-Expression n k)
@@ -105,7 +117,11 @@ view_Print format all = search (rules, statement_lemmas, rows_are)
 
 -- one more argument
 
-pub more_values : (p : Part (List ℤ)) (numbers : List ℤ) (x : ℤ) → and_then (and_then p (λ xs u. With (x ∷ xs) u)) (λ xs t. With (numbers ++ xs) t) ≡ and_then p (λ xs t. With ((numbers ++ x ∷ []) ++ xs) t)
+pub one_more : (zs : List ℤ) (z : ℤ) → map NumberArgument (zs ++ z ∷ []) ≡ map NumberArgument zs ++ NumberArgument z ∷ []
+one_more [] z = refl
+one_more (y ∷ ys) z = ap (λ l. NumberArgument y ∷ l) (one_more ys z)
+
+pub more_values : (p : Part (List Argument)) (numbers : List Argument) (x : Argument) → and_then (and_then p (λ xs u. With (x ∷ xs) u)) (λ xs t. With (numbers ++ xs) t) ≡ and_then p (λ xs t. With ((numbers ++ x ∷ []) ++ xs) t)
 more_values (With xs s) numbers x = ap (λ l. With l s) (sym (append_assoc numbers (x ∷ []) xs))
 more_values (Trapped k out) numbers x = refl
 more_values (Going out) numbers x = refl
@@ -150,15 +166,21 @@ not_none depth h = by (cases_lt 0 depth)
     by (inl l) = omega arith
     by (inr l) = let z : depth ≡ 0 = omega arith in absurd (h z)
 
-pub called : (P : Program) (depth base turns f : ℕ) (args : List ℤ) (s inner : Store) (F : Function) →
-    (depth ≡ 0 → ⊥) → slice_get P.functions.items f ≡ Some F → base ≡ length s.arrays → inner ≡ entered (function_of F) args s →
-    active (program_of P) depth turns f args s ≡ result_of s (does (spot_of (length P.globals) base) (active (program_of P) (depth - 1) turns) turns (all_in F.body.items) inner)
-called P depth base turns f args s inner F nz at b e =
+-- what is given to a function
+abbrev pub given_to : Function → List ℤ → Store → Store
+given_to F zs s = record s { scalars = λ x. slice_index_or zs x (pos 0); arrays = s.arrays ++ map (λ size. replicate size (pos 0)) (function_of F).arrays }
+
+pub called : (P : Program) (depth base turns f : ℕ) (given : List ℕ) (zs : List ℤ) (args : List Argument) (s inner : Store) (F : Function) → numbers_given args ≡ zs → arrays_given args ≡ given →
+    (depth ≡ 0 → ⊥) → slice_get P.functions.items f ≡ Some F → base ≡ length s.arrays → inner ≡ given_to F zs s →
+    active (program_of P) depth turns f args s ≡ result_of s (does (spot_in (length P.globals) given base) (active (program_of P) (depth - 1) turns) turns (all_in F.body.items) inner)
+called P depth base turns f given zs args s inner F ns gs nz at b e =
     let there : slice_get (map function_of P.functions.items) f ≡ Some (function_of F) = slice_get-map function_of P.functions.items f ∙ ap (option_map function_of) at in
     ap (λ d. active (program_of P) d turns f args s) (not_none depth nz)
     ∙ ap (λ o. activate (length P.globals) o (active (program_of P) (depth - 1) turns) turns args s) there
-    ∙ ap (λ n. result_of s (does (spot_of (length P.globals) n) (active (program_of P) (depth - 1) turns) turns (all_in F.body.items) (entered (function_of F) args s))) (sym b)
-    ∙ ap (λ t. result_of s (does (spot_of (length P.globals) base) (active (program_of P) (depth - 1) turns) turns (all_in F.body.items) t)) (sym e)
+    ∙ ap (λ n. result_of s (does (spot_in (length P.globals) (arrays_given args) n) (active (program_of P) (depth - 1) turns) turns (all_in F.body.items) (entered (function_of F) args s))) (sym b)
+    ∙ ap (λ l. result_of s (does (spot_in (length P.globals) l base) (active (program_of P) (depth - 1) turns) turns (all_in F.body.items) (entered (function_of F) args s))) gs
+    ∙ ap (λ l. result_of s (does (spot_in (length P.globals) given base) (active (program_of P) (depth - 1) turns) turns (all_in F.body.items) (given_to F l s))) ns
+    ∙ ap (λ t. result_of s (does (spot_in (length P.globals) given base) (active (program_of P) (depth - 1) turns) turns (all_in F.body.items) t)) (sym e)
 
 result_stop : {D : Type 0} (g : D → ℤ) (s : Store) (e : Stop) (k : Kept) (x : Part Leaves) → IsAnswered leaves_of (Err e) k x → IsAnswered g (Err e) k (result_of s x)
 result_stop g s (StopTrap t) k x e = ap (result_of s) e

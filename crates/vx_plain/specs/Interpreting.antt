@@ -2,7 +2,7 @@
 use Rattle.std.specs.Prelude.{◌≡◌, ℕ, ℤ, pos, List, length, Result, Ok, Err, Option, Some, None}
 use Rattle.vx_base.specs.Outcome.{Outcome, Ends, Traps, Goes}
 use Rattle.vx_ast.specs.Tree.{Place, InLocal, InGlobal, InElement}
-use Rattle.vx_ast.specs.Meaning.{Store, and_then, after_body, after_turn, at_element, value, word_at, with_scalar, with_word, Part, With, Trapped, Going, Leaves, Falls, Breaks, Continues, Returns, Calls, spot_of, active}
+use Rattle.vx_ast.specs.Meaning.{Store, and_then, after_body, after_turn, at_element, value, word_at, with_scalar, with_word, Part, With, Trapped, Going, Leaves, Falls, Breaks, Continues, Returns, Calls, spot_in, active}
 use Rattle.vx_plain.specs.Kept.{Kept, store_of}
 use Rattle.vx_ast.specs.View.{program_of}
 use Rattle.vx_ast.specs.declared.tree.Program.{Program}
@@ -34,7 +34,7 @@ leaves_of (LeaveReturns r) = Returns r
 
 -- where an array of the active function stands, and what the calls from it do
 abbrev pub spot_at : Program → Active → ℕ → ℕ
-spot_at p at = spot_of (length p.globals) at.base
+spot_at p at = spot_in (length p.globals) at.given.now at.base
 
 abbrev pub calls_at : Program → Active → Calls
 calls_at p at = active (program_of p) at.depth at.turns

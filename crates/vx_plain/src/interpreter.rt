@@ -1,11 +1,11 @@
 // A plain interpreter of sources: recursive over the tree, with a store of lists. Its clause says that it comes to what
 // specs/Meaning.antt of vx_ast says. It is for tests and teaching; the compiler does not use it.
 
-ghost use Rattle.std.specs.Prelude.{◌≡◌, ◌+◌, ℕ, pos, [], Some, None, length, IfOk, MatchResult};
+ghost use Rattle.std.specs.Prelude.{◌≡◌, ◌<◌, ◌+◌, ◌^◌, ℕ, pos, List, [], Some, None, length, map, IfOk, MatchResult};
 ghost use Rattle.std.specs.Option.{option_map};
 ghost use Rattle.vx_plain.specs.Interpreting.{Comes, IsAfterBody, IsAfterTurn, calls_at, falls, given, held_at, itself, leaves_of, located, outcome_at, outcome_in, put_at, spot_at};
 ghost use Rattle.vx_plain.specs.Kept.{store_of};
-ghost use Rattle.vx_ast.specs.Meaning.{Falls, With, active, acts, after_body, array_at, binary_value, combined, deepest, does, index_in, next_input, outcome_of, source, test_of, turns, turns_first, unary_value, unless_zero, value};
+ghost use Rattle.vx_ast.specs.Meaning.{Argument, Falls, NumberArgument, With, active, acts, after_body, array_at, arrays_given, binary_value, combined, deepest, does, index_in, next_input, numbers_given, outcome_of, source, spot_behind, test_of, turns, turns_first, unary_value, unless_zero, value};
 ghost use Rattle.vx_ast.specs.View.{action_of, all_in, code_of, first_of, item_of, items_of, place_of, program_of, row_in, step_of, tree_of};
 ghost use Rattle.vx_base.specs.declared.outcome.Trap.TheVariants.{Index as ByIndex};
 
@@ -102,9 +102,11 @@ enum Located {
 
 /// The active function.
 #[derive(Clone, Copy)]
-struct Active {
+struct Active<'a> {
     /// How many functions may become active in it.
     depth: u32,
+    /// Where the arrays stand that were given to it, in the order of its array parameters.
+    given: &'a [usize],
     /// How many arrays stand before its own.
     base: u32,
     /// How many turns each loop may take since it was entered.
@@ -122,15 +124,28 @@ fn deeper(room: u32) -> Result<u32, Stop>
 }
 
 /// Where an array of the active function stands.
-fn spot(program: &Program, at: Active, a: u32) -> usize
-    ensures { result ≡ spot_at program.now at a }
+fn spot(program: &Program, at: &Active, a: u32) -> usize
+    ensures { result ≡ spot_at program.now at.now a }
 {
     let a = a as usize;
     let globals = program.globals.len();
     if a < globals {
         a
     } else {
-        at.base as usize + (a - globals)
+        behind(at.given, at.base, a - globals)
+    }
+}
+
+/// Where an array behind the globals stands: those that were given at their places, the function's own behind them.
+#[tactic(auto, using(crate::proofs::InterpreterSteps::is_given, crate::proofs::InterpreterSteps::is_own))]
+fn behind(given: &[usize], base: u32, k: usize) -> usize
+    requires { k < 2 ^ 32 }
+    ensures { result ≡ spot_behind given.now base k }
+{
+    if k < given.len() {
+        given[k]
+    } else {
+        base as usize + (k - given.len())
     }
 }
 
@@ -285,12 +300,12 @@ fn base_of(arrays: usize) -> Result<u32, Stop>
 fn evaluate(
     alloc: Global,
     program: &Program,
-    at: Active,
+    at: &Active,
     room: u32,
     store: &mut Memory,
     e: &Expression,
 ) -> Result<i32, Stop>
-    ensures { Comes itself result store.new (value (spot_at program.now at) (calls_at program.now at) (tree_of e.now) (store_of store.old)) }
+    ensures { Comes itself result store.new (value (spot_at program.now at.now) (calls_at program.now at.now) (tree_of e.now) (store_of store.old)) }
 {
     let inner = deeper(room)?;
     match e {
@@ -338,7 +353,7 @@ fn evaluate(
         }
         Expression::Call(f, row) => {
             let arguments = evaluate_row(alloc, program, at, inner, store, row.as_slice())?;
-            call(alloc, program, at, inner, store, *f, arguments)
+            call(alloc, program, at, inner, store, *f, arguments, &[])
         }
         Expression::ReadInt => read(store),
         Expression::MoreInput => Ok(i32::from(store.has_more())),
@@ -350,12 +365,12 @@ fn evaluate(
 fn evaluate_row(
     alloc: Global,
     program: &Program,
-    at: Active,
+    at: &Active,
     room: u32,
     store: &mut Memory,
     row: &[Expression],
 ) -> Result<Vec<i32>, Stop>
-    ensures { Comes (λ numbers. numbers.items) result store.new (value (spot_at program.now at) (calls_at program.now at) (row_in row.now) (store_of store.old)) }
+    ensures { Comes (λ numbers. map NumberArgument numbers.items) result store.new (value (spot_at program.now at.now) (calls_at program.now at.now) (row_in row.now) (store_of store.old)) }
 {
     let inner = deeper(room)?;
     let mut numbers = Vec::new(alloc);
@@ -366,18 +381,19 @@ fn evaluate_row(
     Ok(numbers)
 }
 
-/// Calls a function with its arguments.
+/// Calls a function: the numbers that are given to it, and where the arrays stand that are given to it.
 #[cycle(running)]
 fn call(
     alloc: Global,
     program: &Program,
-    at: Active,
+    at: &Active,
     room: u32,
     store: &mut Memory,
     f: u32,
-    arguments: Vec<i32>,
+    numbers: Vec<i32>,
+    given: &[usize],
 ) -> Result<i32, Stop>
-    ensures { Comes itself result store.new (calls_at program.now at f arguments.items (store_of store.old)) }
+    ensures { (arguments : List Argument) → numbers_given arguments ≡ numbers.items → arrays_given arguments ≡ given.now → Comes itself result store.new (calls_at program.now at.now f arguments (store_of store.old)) }
 {
     let inner = deeper(room)?;
     if at.depth == 0 {
@@ -391,15 +407,16 @@ fn call(
     let base = base_of(arrays)?;
     let callee = Active {
         depth: at.depth - 1,
+        given,
         base,
         turns: at.turns,
     };
     let function = &program.functions[place];
-    let caller = store.enter(alloc, arguments, function.arrays.as_slice())?;
+    let caller = store.enter(alloc, numbers, function.arrays.as_slice())?;
     let left = execute_all(
         alloc,
         program,
-        callee,
+        &callee,
         inner,
         store,
         function.body.as_slice(),
@@ -413,12 +430,12 @@ fn call(
 fn locate(
     alloc: Global,
     program: &Program,
-    at: Active,
+    at: &Active,
     room: u32,
     store: &mut Memory,
     target: &Target,
 ) -> Result<Located, Stop>
-    ensures { Comes itself result store.new (located (spot_at program.now at) (calls_at program.now at) (place_of target.now) (store_of store.old)) }
+    ensures { Comes itself result store.new (located (spot_at program.now at.now) (calls_at program.now at.now) (place_of target.now) (store_of store.old)) }
 {
     let inner = deeper(room)?;
     match target {
@@ -438,12 +455,12 @@ fn locate(
 fn act(
     alloc: Global,
     program: &Program,
-    at: Active,
+    at: &Active,
     room: u32,
     store: &mut Memory,
     action: &Simple,
 ) -> Result<(), Stop>
-    ensures { Comes falls result store.new (acts (spot_at program.now at) (calls_at program.now at) (action_of action.now) (store_of store.old)) }
+    ensures { Comes falls result store.new (acts (spot_at program.now at.now) (calls_at program.now at.now) (action_of action.now) (store_of store.old)) }
 {
     let inner = deeper(room)?;
     match action {
@@ -481,12 +498,12 @@ fn act(
 fn declare(
     alloc: Global,
     program: &Program,
-    at: Active,
+    at: &Active,
     room: u32,
     store: &mut Memory,
     items: &[Item],
 ) -> Result<(), Stop>
-    ensures { Comes falls result store.new (does (spot_at program.now at) (calls_at program.now at) at.turns (items_of items.now) (store_of store.old)) }
+    ensures { Comes falls result store.new (does (spot_at program.now at.now) (calls_at program.now at.now) at.now.turns (items_of items.now) (store_of store.old)) }
 {
     let inner = deeper(room)?;
     for item in items {
@@ -500,12 +517,12 @@ fn declare(
 fn declare_one(
     alloc: Global,
     program: &Program,
-    at: Active,
+    at: &Active,
     room: u32,
     store: &mut Memory,
     item: &Item,
 ) -> Result<(), Stop>
-    ensures { Comes falls result store.new (does (spot_at program.now at) (calls_at program.now at) at.turns (item_of item.now) (store_of store.old)) }
+    ensures { Comes falls result store.new (does (spot_at program.now at.now) (calls_at program.now at.now) at.now.turns (item_of item.now) (store_of store.old)) }
 {
     let inner = deeper(room)?;
     match item {
@@ -526,12 +543,12 @@ fn declare_one(
 fn execute_all(
     alloc: Global,
     program: &Program,
-    at: Active,
+    at: &Active,
     room: u32,
     store: &mut Memory,
     all: &[Statement],
 ) -> Result<Leave, Stop>
-    ensures { Comes leaves_of result store.new (does (spot_at program.now at) (calls_at program.now at) at.turns (all_in all.now) (store_of store.old)) }
+    ensures { Comes leaves_of result store.new (does (spot_at program.now at.now) (calls_at program.now at.now) at.now.turns (all_in all.now) (store_of store.old)) }
 {
     let inner = deeper(room)?;
     for s in all {
@@ -550,12 +567,12 @@ fn execute_all(
 fn execute(
     alloc: Global,
     program: &Program,
-    at: Active,
+    at: &Active,
     room: u32,
     store: &mut Memory,
     s: &Statement,
 ) -> Result<Leave, Stop>
-    ensures { Comes leaves_of result store.new (does (spot_at program.now at) (calls_at program.now at) at.turns (code_of s.now) (store_of store.old)) }
+    ensures { Comes leaves_of result store.new (does (spot_at program.now at.now) (calls_at program.now at.now) at.now.turns (code_of s.now) (store_of store.old)) }
 {
     let inner = deeper(room)?;
     match s {
@@ -607,12 +624,12 @@ fn execute(
 fn begin(
     alloc: Global,
     program: &Program,
-    at: Active,
+    at: &Active,
     room: u32,
     store: &mut Memory,
     first: &First,
 ) -> Result<(), Stop>
-    ensures { Comes falls result store.new (does (spot_at program.now at) (calls_at program.now at) at.turns (first_of first.now) (store_of store.old)) }
+    ensures { Comes falls result store.new (does (spot_at program.now at.now) (calls_at program.now at.now) at.now.turns (first_of first.now) (store_of store.old)) }
 {
     let inner = deeper(room)?;
     match first {
@@ -627,13 +644,13 @@ fn begin(
 fn repeat_while(
     alloc: Global,
     program: &Program,
-    at: Active,
+    at: &Active,
     room: u32,
     store: &mut Memory,
     test: &Expression,
     body: &Statement,
 ) -> Result<Leave, Stop>
-    ensures { Comes leaves_of result store.new (turns at.turns (value (spot_at program.now at) (calls_at program.now at) (tree_of test.now)) (does (spot_at program.now at) (calls_at program.now at) at.turns (code_of body.now)) (store_of store.old)) }
+    ensures { Comes leaves_of result store.new (turns at.now.turns (value (spot_at program.now at.now) (calls_at program.now at.now) (tree_of test.now)) (does (spot_at program.now at.now) (calls_at program.now at.now) at.now.turns (code_of body.now)) (store_of store.old)) }
 {
     let inner = deeper(room)?;
     let mut left = at.turns;
@@ -658,13 +675,13 @@ fn repeat_while(
 fn repeat_do(
     alloc: Global,
     program: &Program,
-    at: Active,
+    at: &Active,
     room: u32,
     store: &mut Memory,
     body: &Statement,
     test: &Expression,
 ) -> Result<Leave, Stop>
-    ensures { Comes leaves_of result store.new (turns_first at.turns (value (spot_at program.now at) (calls_at program.now at) (tree_of test.now)) (does (spot_at program.now at) (calls_at program.now at) at.turns (code_of body.now)) (store_of store.old)) }
+    ensures { Comes leaves_of result store.new (turns_first at.now.turns (value (spot_at program.now at.now) (calls_at program.now at.now) (tree_of test.now)) (does (spot_at program.now at.now) (calls_at program.now at.now) at.now.turns (code_of body.now)) (store_of store.old)) }
 {
     let inner = deeper(room)?;
     let mut left = at.turns;
@@ -686,14 +703,14 @@ fn repeat_do(
 fn repeat_for(
     alloc: Global,
     program: &Program,
-    at: Active,
+    at: &Active,
     room: u32,
     store: &mut Memory,
     test: &Option<Expression>,
     step: &Option<Simple>,
     body: &Statement,
 ) -> Result<Leave, Stop>
-    ensures { Comes leaves_of result store.new (turns at.turns (test_of (spot_at program.now at) (calls_at program.now at) (option_map tree_of test.now)) (λ t. after_body (does (spot_at program.now at) (calls_at program.now at) at.turns (code_of body.now) t) (does (spot_at program.now at) (calls_at program.now at) at.turns (step_of step.now))) (store_of store.old)) }
+    ensures { Comes leaves_of result store.new (turns at.now.turns (test_of (spot_at program.now at.now) (calls_at program.now at.now) (option_map tree_of test.now)) (λ t. after_body (does (spot_at program.now at.now) (calls_at program.now at.now) at.now.turns (code_of body.now) t) (does (spot_at program.now at.now) (calls_at program.now at.now) at.now.turns (step_of step.now))) (store_of store.old)) }
 {
     let inner = deeper(room)?;
     let mut left = at.turns;
@@ -719,12 +736,12 @@ fn repeat_for(
 fn holds(
     alloc: Global,
     program: &Program,
-    at: Active,
+    at: &Active,
     room: u32,
     store: &mut Memory,
     test: &Option<Expression>,
 ) -> Result<i32, Stop>
-    ensures { Comes itself result store.new (test_of (spot_at program.now at) (calls_at program.now at) (option_map tree_of test.now) (store_of store.old)) }
+    ensures { Comes itself result store.new (test_of (spot_at program.now at.now) (calls_at program.now at.now) (option_map tree_of test.now) (store_of store.old)) }
 {
     let inner = deeper(room)?;
     match test {
@@ -738,12 +755,12 @@ fn holds(
 fn advance(
     alloc: Global,
     program: &Program,
-    at: Active,
+    at: &Active,
     room: u32,
     store: &mut Memory,
     step: &Option<Simple>,
 ) -> Result<(), Stop>
-    ensures { Comes falls result store.new (does (spot_at program.now at) (calls_at program.now at) at.turns (step_of step.now) (store_of store.old)) }
+    ensures { Comes falls result store.new (does (spot_at program.now at.now) (calls_at program.now at.now) at.now.turns (step_of step.now) (store_of store.old)) }
 {
     let inner = deeper(room)?;
     match step {
@@ -777,17 +794,19 @@ fn run(alloc: Global, program: &Program, turns: u64, store: &mut Memory) -> Resu
 {
     let at = Active {
         depth: DEEPEST,
+        given: &[],
         base: 0,
         turns,
     };
     match call(
         alloc,
         program,
-        at,
+        &at,
         ROOM,
         store,
         program.main,
         Vec::new(alloc),
+        &[],
     ) {
         Ok(result) => Ok(End::Result(result)),
         Err(Stop::Trap(trap)) => Ok(End::Trap(trap)),

@@ -91,22 +91,23 @@ start_is flow input f rows arrays base h r a b =
     ∙ ap (λ n. record { function = flow.main; block = 0; passed = []; base = n; state = record { values = λ v. None; arrays = s.arrays ++ undefined_all (own_in flow (slice_get flow.functions flow.main)); input = input; out = [] }; waiting = [] }) (b ∙ ap length r)
     ∙ ap (λ q. record { function = flow.main; block = 0; passed = []; base = length s.arrays; state = q; waiting = [] }) (start_by flow (slice_get flow.functions flow.main) s refl)
 
-pub begin_is : (flow : Flow) (input : List ℤ) (f : ℕ → Content) (rows arrays : List (List Content)) (base : ℕ) (left : List ℤ) (out : List ℕ) (ws : List Waiting) → ((v : ℕ) → f v ≡ None) → rows ≡ map words_at_start flow.globals →
+pub begin_is : (flow : Flow) (input : List ℤ) (f : ℕ → Content) (rows arrays : List (List Content)) (passed : List (Option ℕ)) (base : ℕ) (left : List ℤ) (out : List ℕ) (ws : List Waiting) → passed ≡ [] → ((v : ℕ) → f v ≡ None) → rows ≡ map words_at_start flow.globals →
     arrays ≡ rows ++ undefined_all (own_in flow (slice_get flow.functions flow.main)) → base ≡ length rows → left ≡ input → out ≡ [] → ws ≡ [] →
-    record { function = flow.main; block = 0; passed = []; base = base; state = record { values = f; arrays = arrays; input = left; out = out }; waiting = stacked [] ws } ≡ start flow input
-begin_is flow input f rows arrays base left out ws h r a b i o w =
-    ap (λ q. record { function = flow.main; block = 0; passed = []; base = base; state = record { values = f; arrays = arrays; input = q; out = out }; waiting = stacked [] ws }) i
+    record { function = flow.main; block = 0; passed = passed; base = base; state = record { values = f; arrays = arrays; input = left; out = out }; waiting = stacked [] ws } ≡ start flow input
+begin_is flow input f rows arrays passed base left out ws p h r a b i o w =
+    ap (λ q. record { function = flow.main; block = 0; passed = q; base = base; state = record { values = f; arrays = arrays; input = left; out = out }; waiting = stacked [] ws }) p
+    ∙ ap (λ q. record { function = flow.main; block = 0; passed = []; base = base; state = record { values = f; arrays = arrays; input = q; out = out }; waiting = stacked [] ws }) i
     ∙ ap (λ q. record { function = flow.main; block = 0; passed = []; base = base; state = record { values = f; arrays = arrays; input = input; out = q }; waiting = stacked [] ws }) o
     ∙ ap (λ q. record { function = flow.main; block = 0; passed = []; base = base; state = record { values = f; arrays = arrays; input = input; out = [] }; waiting = stacked [] q }) w
     ∙ start_is flow input f rows arrays base h r a b
 
 -- steps
 
-hop_by : (flow : Flow) (m : Machine) (o : Option Graph) → body_hop (program_of flow) (active_of m) (option_map (body_of (length flow.globals)) o) ≡ graph_hop flow o m.base m.block (state_of m.storage)
+hop_by : (flow : Flow) (m : Machine) (o : Option Graph) → body_hop (program_of flow) (active_of m) (option_map (body_of (length flow.globals)) o) ≡ graph_hop flow o m.passed.items m.base m.block (state_of m.storage)
 hop_by flow m None = refl
 hop_by flow m (Some g) = refl
 
-pub hop_is : (flow : Flow) (m : Machine) → hop (program_of flow) (active_of m) ≡ graph_hop flow (slice_get flow.functions m.function) m.base m.block (state_of m.storage)
+pub hop_is : (flow : Flow) (m : Machine) → hop (program_of flow) (active_of m) ≡ graph_hop flow (slice_get flow.functions m.function) m.passed.items m.base m.block (state_of m.storage)
 hop_is flow m = hop_by flow m (slice_get flow.functions m.function)
 
 wrong_ends : (ending : Option Ending) (out other : List ℕ) (m : Machine) → IsStep ending (Over (Outcome.Wrong out)) m → IsStep ending (Over (Outcome.Wrong other)) m
@@ -123,11 +124,12 @@ step_after ending p r t (Hop.Leaves n s) m k = k
 step_after ending p r t (Hop.Stops trap s) m k = k
 step_after ending p r t Hop.Wrong m k = wrong_ends ending t.out r.state.out m k
 
-pub entered_is : (a : Active) (g : ℕ) (values : ℕ → Content) (own : List Array) (result : Option ℕ) (to base : ℕ) (f : ℕ → Content) (arrays : List (List Content)) (ws : List Frame) → base ≡ length a.state.arrays → f ≡ values →
+pub entered_is : (a : Active) (g : ℕ) (values : ℕ → Content) (own : List Array) (result : Option ℕ) (to : ℕ) (passed : List (Option ℕ)) (base : ℕ) (f : ℕ → Content) (arrays : List (List Content)) (ws : List Frame) → passed ≡ [] → base ≡ length a.state.arrays → f ≡ values →
     arrays ≡ a.state.arrays ++ undefined_all own → ws ≡ waits a result a.block to a.state ∷ a.waiting →
-    record { function = g; block = 0; passed = []; base = base; state = record (a.state) { values = f; arrays = arrays }; waiting = ws } ≡ entered_by a g values own result to
-entered_is a g values own result to base f arrays ws b v r w =
-    ap (λ q. record { function = g; block = 0; passed = []; base = q; state = record (a.state) { values = f; arrays = arrays }; waiting = ws }) b
+    record { function = g; block = 0; passed = passed; base = base; state = record (a.state) { values = f; arrays = arrays }; waiting = ws } ≡ entered_by a g values own result to
+entered_is a g values own result to passed base f arrays ws p b v r w =
+    ap (λ q. record { function = g; block = 0; passed = q; base = base; state = record (a.state) { values = f; arrays = arrays }; waiting = ws }) p
+    ∙ ap (λ q. record { function = g; block = 0; passed = []; base = q; state = record (a.state) { values = f; arrays = arrays }; waiting = ws }) b
     ∙ ap (λ q. record { function = g; block = 0; passed = []; base = length a.state.arrays; state = record (a.state) { values = q; arrays = arrays }; waiting = ws }) v
     ∙ ap (λ q. record { function = g; block = 0; passed = []; base = length a.state.arrays; state = record (a.state) { values = values; arrays = q }; waiting = ws }) r
     ∙ ap (λ q. record { function = g; block = 0; passed = []; base = length a.state.arrays; state = record (a.state) { values = values; arrays = a.state.arrays ++ undefined_all own }; waiting = q }) w

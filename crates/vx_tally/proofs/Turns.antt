@@ -1,5 +1,5 @@
 -- One turn of a loop over a list, and its end.
-use Rattle.std.proofs.Common.{◌≡◌, ℕ, ◌+◌, ◌<◌, ◌≤◌, ℤ, pos, Bool, true, false, ltb, ltb-true, ltb-false, List, [], ◌∷◌, ◌++◌, length, map, drop, take, get_or, replicate, slice_get, slice_set, Option, Some, None, refl, sym, ap, ◌∙◌, append-nil, append_assoc}
+use Rattle.std.proofs.Common.{◌≡◌, ℕ, zero, suc, ◌+◌, ◌-◌, ◌<◌, ◌≤◌, ℤ, pos, Bool, true, false, ltb, ltb-true, ltb-false, List, [], ◌∷◌, ◌++◌, length, map, drop, take, get_or, replicate, slice_get, slice_set, Option, Some, None, refl, sym, ap, ◌∙◌, append-nil, append_assoc, arith}
 use Rattle.std.proofs.lemmas.List.{drop_all, drop_more, map_more}
 use Rattle.std.proofs.lemmas.Option.{slice_get-get_or, slice_get_past}
 use Rattle.vx_flow.specs.declared.graph.Array.{Array}
@@ -7,7 +7,7 @@ use Rattle.vx_flow.specs.declared.graph.Global.{Global}
 use Rattle.vx_flow.specs.declared.graph.Op.{Op}
 use Rattle.vx_flow.specs.declared.graph.Operand.{Operand}
 use Rattle.vx_flow.specs.Effects.{Content, State, Setting, effect, held}
-use Rattle.vx_flow.specs.Meaning.{known, undefined, with_front, words_at_start}
+use Rattle.vx_flow.specs.Meaning.{known, spot_behind, undefined, with_front, words_at_start}
 use Rattle.vx_tally.specs.Storage.{came, and_after, effects}
 use Rattle.vx_tally.specs.Machine.{undefined_all}
 use Rattle.vx_tally.proofs.Running.{with_all}
@@ -19,6 +19,16 @@ found_at xs ys i x e h k = ap (λ z. slice_get z i) (sym e) ∙ slice_get-get_or
 
 pub absent_at : {A : Type 0} (xs ys : List A) (i : ℕ) → xs ≡ ys → false ≡ ltb i (length xs) → slice_get ys i ≡ None
 absent_at xs ys i e h = ap (λ z. slice_get z i) (sym e) ∙ slice_get_past xs i (ltb-false _ _ (sym h))
+
+-- places behind the first one
+
+pub behind_passed : (spot : ℕ) (rest : List (Option ℕ)) (base place : ℕ) → (place ≡ 0 → ⊥) → spot_behind rest base (place - 1) ≡ spot_behind (Some spot ∷ rest) base place
+behind_passed spot rest base zero h = absurd (h refl)
+behind_passed spot rest base (suc k) h = let e : suc k - 1 ≡ k = omega arith in ap (spot_behind rest base) e
+
+pub behind_own : (rest : List (Option ℕ)) (base place : ℕ) → (place ≡ 0 → ⊥) → spot_behind rest (base + 1) (place - 1) ≡ spot_behind (None ∷ rest) base place
+behind_own rest base zero h = absurd (h refl)
+behind_own rest base (suc k) h = let e : suc k - 1 ≡ k = omega arith in ap (spot_behind rest (base + 1)) e
 
 -- numbers that operands are
 

@@ -35,12 +35,12 @@ taken_by f b waiting (Stops k) = []
 taken_by f b waiting Wrong = []
 
 -- what a block of a function does
-abbrev pub graph_hop : Flow → Option Graph → (base block : ℕ) → State → Hop
-graph_hop flow None base b s = Hop.Wrong
-graph_hop flow (Some g) base b s = hop_of (setting_in flow base) b (slice_get g.blocks b) s
+abbrev pub graph_hop : Flow → Option Graph → (passed : List (Option ℕ)) → (base block : ℕ) → State → Hop
+graph_hop flow None passed base b s = Hop.Wrong
+graph_hop flow (Some g) passed base b s = hop_of (setting_in flow passed base) b (slice_get g.blocks b) s
 
 abbrev pub frame_of : Waiting → Frame
-frame_of w = record { function = w.function; from = w.from; next = w.next; result = w.result; passed = []; base = w.base; values = value_at w.values.items }
+frame_of w = record { function = w.function; from = w.from; next = w.next; result = w.result; passed = w.passed.items; base = w.base; values = value_at w.values.items }
 
 -- the last that began to wait stands in front
 abbrev pub stacked : List Frame → List Waiting → List Frame
@@ -48,7 +48,7 @@ stacked below [] = below
 stacked below (w ∷ ws) = stacked (frame_of w ∷ below) ws
 
 abbrev pub active_of : Machine → Active
-active_of m = record { function = m.function; block = m.block; passed = []; base = m.base; state = state_of m.storage; waiting = stacked [] m.waiting.items }
+active_of m = record { function = m.function; block = m.block; passed = m.passed.items; base = m.base; state = state_of m.storage; waiting = stacked [] m.waiting.items }
 
 -- arrays that are undefined
 abbrev pub undefined_all : List Array → List (List Content)

@@ -2,7 +2,7 @@
 -- numbers were read.
 use Rattle.std.specs.Prelude.{ℕ, Bool, true, false, Option, Some, None, List, [], ◌∷◌, drop, slice_index_or}
 use Rattle.vx_flow.specs.Effects.{Content, State, Setting, effect}
-use Rattle.vx_flow.specs.Meaning.{setting_of, program_of}
+use Rattle.vx_flow.specs.Meaning.{setting_with, program_of}
 use Rattle.vx_flow.specs.declared.graph.Op.{Op}
 use Rattle.vx_flow.specs.declared.graph.Flow.{Flow}
 use Rattle.vx_tally.specs.declared.storage.Storage.{Storage}
@@ -14,8 +14,8 @@ value_at items v = slice_index_or items v None
 abbrev pub state_of : Storage → State
 state_of s = record { values = value_at s.values.items; arrays = s.arrays.items; input = drop s.read s.input.items; out = s.out.items }
 
-abbrev pub setting_in : Flow → (base : ℕ) → Setting
-setting_in flow base = setting_of (program_of flow) base
+abbrev pub setting_in : Flow → (passed : List (Option ℕ)) → (base : ℕ) → Setting
+setting_in flow passed base = setting_with (program_of flow) passed base
 
 -- the state that was come to, where there is one
 abbrev pub came : Bool → State → Option State

@@ -21,13 +21,14 @@ pub fn run_block(
     storage: &mut Storage,
     flow: &Flow,
     function: u32,
+    passed: &[Option<usize>],
     base: usize,
     number: BlockId,
 ) -> Result<Left, NoMemory>
-    ensures { IfOk result (λ left. graph_hop flow.now (slice_get flow.now.functions function) base number (state_of storage.old) ≡ hop_from number (state_of storage.new) left) }
+    ensures { IfOk result (λ left. graph_hop flow.now (slice_get flow.now.functions function) passed.now base number (state_of storage.old) ≡ hop_from number (state_of storage.new) left) }
 {
     match flow.functions.as_slice().get(function as usize) {
-        Some(graph) => run_block_of(alloc, storage, flow, graph, base, number),
+        Some(graph) => run_block_of(alloc, storage, flow, graph, passed, base, number),
         None => Ok(Left::Wrong),
     }
 }
@@ -37,13 +38,14 @@ fn run_block_of(
     storage: &mut Storage,
     flow: &Flow,
     graph: &Graph,
+    passed: &[Option<usize>],
     base: usize,
     number: BlockId,
 ) -> Result<Left, NoMemory>
-    ensures { IfOk result (λ left. hop_of (setting_in flow.now base) number (slice_get graph.now.blocks number) (state_of storage.old) ≡ hop_from number (state_of storage.new) left) }
+    ensures { IfOk result (λ left. hop_of (setting_in flow.now passed.now base) number (slice_get graph.now.blocks number) (state_of storage.old) ≡ hop_from number (state_of storage.new) left) }
 {
     match graph.blocks.as_slice().get(number as usize) {
-        Some(block) => run_through(alloc, storage, flow, block, base, number),
+        Some(block) => run_through(alloc, storage, flow, block, passed, base, number),
         None => Ok(Left::Wrong),
     }
 }
@@ -53,12 +55,13 @@ fn run_through(
     storage: &mut Storage,
     flow: &Flow,
     block: &Block,
+    passed: &[Option<usize>],
     base: usize,
     number: BlockId,
 ) -> Result<Left, NoMemory>
-    ensures { IfOk result (λ left. block_hop (setting_in flow.now base) number block.now.ops block.now.exit (state_of storage.old) ≡ hop_from number (state_of storage.new) left) }
+    ensures { IfOk result (λ left. block_hop (setting_in flow.now passed.now base) number block.now.ops block.now.exit (state_of storage.old) ≡ hop_from number (state_of storage.new) left) }
 {
-    let done = execute_all(storage, flow, base, block.ops.as_slice())?;
+    let done = execute_all(storage, flow, passed, base, block.ops.as_slice())?;
     if !done {
         return Ok(Left::Wrong);
     }

@@ -31,6 +31,8 @@ pub struct Waiting {
     pub next: BlockId,
     /// The value that gets the result.
     pub result: Option<Value>,
+    /// Where the arrays stand that were passed to it, by their places behind the globals.
+    pub passed: Vec<Option<usize>>,
     /// Where its own arrays begin in the list of arrays.
     pub base: usize,
     /// What its values hold.
@@ -44,6 +46,8 @@ pub struct Machine {
     pub function: u32,
     /// The block.
     pub block: BlockId,
+    /// Where the arrays stand that were passed to it, by their places behind the globals.
+    pub passed: Vec<Option<usize>>,
     /// Where its own arrays begin in the list of arrays.
     pub base: usize,
     /// What it holds.
@@ -68,6 +72,7 @@ pub fn step(
         &mut machine.storage,
         flow,
         machine.function,
+        machine.passed.as_slice(),
         machine.base,
         machine.block,
     )?;
@@ -266,7 +271,7 @@ fn add_arrays(alloc: Global, arrays: &mut Vec<Cells>, own: &[Array]) -> Result<(
     Ok(())
 }
 
-/// Makes the active function wait and another one active.
+/// Makes the active function wait and another one active, to which no array is passed.
 fn enter(
     alloc: Global,
     machine: &mut Machine,
@@ -281,11 +286,13 @@ fn enter(
     let base = machine.storage.arrays.len();
     add_arrays(alloc, &mut machine.storage.arrays, own)?;
     let values = replace(&mut machine.storage.values, values);
+    let passed = replace(&mut machine.passed, Vec::new(alloc));
     machine.waiting.push(Waiting {
         function: machine.function,
         from: machine.block,
         next,
         result: result_to,
+        passed,
         base: machine.base,
         values,
     })?;
@@ -317,6 +324,7 @@ fn resume(machine: &mut Machine, frame: Waiting, number: i32) -> Result<(), NoMe
     set_result(&mut machine.storage.values, frame.result, number)?;
     machine.function = frame.function;
     machine.block = frame.next;
+    machine.passed = frame.passed;
     machine.base = frame.base;
     Ok(())
 }
@@ -346,6 +354,7 @@ pub fn begin(alloc: Global, flow: &Flow, input: &[i32]) -> Result<Machine, NoMem
     Ok(Machine {
         function: flow.main,
         block: 0,
+        passed: Vec::new(alloc),
         base,
         storage: Storage {
             values: Vec::new(alloc),

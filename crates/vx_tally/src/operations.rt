@@ -6,7 +6,7 @@ ghost use Rattle.std.specs.Fmt.{signed_decimal};
 ghost use Rattle.vx_base.specs.Arithmetic.{one_if, value_of};
 ghost use Rattle.vx_flow.specs.declared.graph.Op.TheVariants.{Text};
 ghost use Rattle.vx_flow.specs.Effects.{both, cell_in, chosen, computed, effect, held, is_left, is_one, loaded, next_input, place_of, printed, row_of, stored, with_value};
-ghost use Rattle.vx_flow.specs.Meaning.{spot_of};
+ghost use Rattle.vx_flow.specs.Meaning.{spot_behind, spot_in};
 ghost use Rattle.vx_tally.specs.Storage.{came, effects, setting_in, state_of};
 
 use crate::storage::Storage;
@@ -20,13 +20,14 @@ use vx_flow::graph::{ArrayId, Flow, Op, Operand, Value};
 pub fn execute_all(
     storage: &mut Storage,
     flow: &Flow,
+    passed: &[Option<usize>],
     base: usize,
     ops: &[Op],
 ) -> Result<bool, NoMemory>
-    ensures { IfOk result (λ done. effects (setting_in flow.now base) (state_of storage.old) ops.now ≡ came done (state_of storage.new)) }
+    ensures { IfOk result (λ done. effects (setting_in flow.now passed.now base) (state_of storage.old) ops.now ≡ came done (state_of storage.new)) }
 {
     for op in ops {
-        if !execute(storage, flow, base, op)? {
+        if !execute(storage, flow, passed, base, op)? {
             return Ok(false);
         }
     }
@@ -34,8 +35,14 @@ pub fn execute_all(
 }
 
 /// What one operation does.
-pub fn execute(storage: &mut Storage, flow: &Flow, base: usize, op: &Op) -> Result<bool, NoMemory>
-    ensures { IfOk result (λ done. effect (setting_in flow.now base) (state_of storage.old) op.now (state_of storage.old) ≡ came done (state_of storage.new)) }
+pub fn execute(
+    storage: &mut Storage,
+    flow: &Flow,
+    passed: &[Option<usize>],
+    base: usize,
+    op: &Op,
+) -> Result<bool, NoMemory>
+    ensures { IfOk result (λ done. effect (setting_in flow.now passed.now base) (state_of storage.old) op.now (state_of storage.old) ≡ came done (state_of storage.new)) }
 {
     match op {
         Op::Compute {
@@ -57,11 +64,11 @@ pub fn execute(storage: &mut Storage, flow: &Flow, base: usize, op: &Op) -> Resu
             place,
             dismissible,
         } => {
-            let spot = spot_of(flow.globals.len(), base, *array)?;
+            let spot = spot_in(flow.globals.len(), passed, base, *array)?;
             load(storage, *to, spot, place, *dismissible)
         }
         Op::Store { array, place, from } => {
-            let spot = spot_of(flow.globals.len(), base, *array)?;
+            let spot = spot_in(flow.globals.len(), passed, base, *array)?;
             store(storage, spot, place, from)
         }
         Op::More { to } => more(storage, *to),
@@ -72,15 +79,58 @@ pub fn execute(storage: &mut Storage, flow: &Flow, base: usize, op: &Op) -> Resu
     }
 }
 
-/// Where an array of a function stands in the list of arrays, with so many globals and its own ones from the base on.
-fn spot_of(globals: usize, base: usize, array: ArrayId) -> Result<usize, NoMemory>
-    ensures { IfOk result (λ spot. spot ≡ spot_of globals base array) }
+/// Where an array of a function stands in the list of arrays, with so many globals, where these were passed to it and its own
+/// ones stand from the base on.
+fn spot_in(
+    globals: usize,
+    passed: &[Option<usize>],
+    base: usize,
+    array: ArrayId,
+) -> Result<usize, NoMemory>
+    ensures { IfOk result (λ spot. spot ≡ spot_in globals passed.now base array) }
 {
     let array = array as usize;
     if array < globals {
         return Ok(array);
     }
-    match base.checked_add(array - globals) {
+    spot_behind(passed, base, array - globals)
+}
+
+/// Where the array at a place behind the globals stands. It goes one call deeper for each place where one may be passed.
+#[tactic(auto, using(crate::proofs::Turns::behind_passed, crate::proofs::Turns::behind_own))]
+fn spot_behind(passed: &[Option<usize>], base: usize, place: usize) -> Result<usize, NoMemory>
+    ensures { IfOk result (λ spot. spot ≡ spot_behind passed.now base place) }
+{
+    match passed {
+        [first, later @ ..] => match first {
+            Some(spot) => {
+                if place == 0 {
+                    return Ok(*spot);
+                }
+                let spot = spot_behind(later, base, place - 1)?;
+                Ok(spot)
+            }
+            None => {
+                if place == 0 {
+                    return Ok(base);
+                }
+                let behind = far(base, 1)?;
+                let spot = spot_behind(later, behind, place - 1)?;
+                Ok(spot)
+            }
+        },
+        [] => {
+            let spot = far(base, place)?;
+            Ok(spot)
+        }
+    }
+}
+
+/// So far behind a place.
+fn far(place: usize, steps: usize) -> Result<usize, NoMemory>
+    ensures { IfOk result (λ spot. spot ≡ place + steps) }
+{
+    match place.checked_add(steps) {
         Some(spot) => Ok(spot),
         None => Err(NoMemory),
     }
@@ -268,7 +318,7 @@ fn with_next(input: &[i32], read: usize) -> usize
 }
 
 fn text(storage: &mut Storage, flow: &Flow, number: u32) -> Result<bool, NoMemory>
-    ensures { IfOk result (λ done. effect (setting_in flow.now 0) (state_of storage.old) (Text number) (state_of storage.old) ≡ came done (state_of storage.new)) }
+    ensures { IfOk result (λ done. effect (setting_in flow.now [] 0) (state_of storage.old) (Text number) (state_of storage.old) ≡ came done (state_of storage.new)) }
 {
     match flow.texts.as_slice().get(number as usize) {
         Some(bytes) => {

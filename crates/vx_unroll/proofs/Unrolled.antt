@@ -5,7 +5,7 @@ use Rattle.vx_base.specs.Outcome.{Outcome, output_of, IsOver, Begins, Within}
 use Rattle.vx_base.proofs.Same.{begins_self}
 use Rattle.vx_base.specs.declared.outcome.Trap.TheVariants.{Depth as ByDepth}
 use Rattle.vx_ast.specs.Tree.{One, Tree, Action, Code, Nothing, Seq, Block, Head, If, IfElse, While, DoWhile, For, Function, Program}
-use Rattle.vx_ast.specs.Meaning.{Store, Part, With, Trapped, Going, Leaves, Falls, Breaks, Continues, Returns, Calls, and_then, value, after_body, turns, test_of, does, spot_of, back_in, result_of, entered, activate, active, deepest, at_start, outcome_of, source}
+use Rattle.vx_ast.specs.Meaning.{Store, Part, With, Trapped, Going, Leaves, Falls, Breaks, Continues, Returns, Calls, Argument, arrays_given, and_then, value, after_body, turns, test_of, does, spot_in, back_in, result_of, entered, activate, active, deepest, at_start, outcome_of, source}
 use Rattle.vx_ast.proofs.MoreTurns.{out_of, Later, Leads, leads_self, leads_same, leads_then, CallsLead, leads_value, leads_tests, leads_on, leads_body, leads_turns, leads_turns_first, leads_does}
 use Rattle.vx_unroll.specs.declared.size.Size.{Size}
 use Rattle.vx_unroll.specs.Unrolling.{turns_of, while_body, for_body, has_loop, exchanged, keeps_limits, Decided, own_words, size_of, unrolled_in, unrolled_function}
@@ -140,18 +140,18 @@ one_of (AndMore f body fs gs u all) (suc i) = one_of all i
 going_leads : (s : Store) → Leads {A = ℤ} s.out (Going s.out) (Going s.out)
 going_leads s = let p : Part ℤ = Going s.out in leads_same p
 
-module _ (g : ℕ) (calls more : Calls) (lead : CallsLead calls more) (n j k : ℕ) (args : List ℤ) (s : Store) where
+module _ (g : ℕ) (calls more : Calls) (lead : CallsLead calls more) (n j k : ℕ) (args : List Argument) (s : Store) where
   activate_widens : {o r : Option Function} → OneUnrolls k o r → Leads s.out (activate g o calls n args s) (activate g r more (n + j) args s)
   activate_widens NoFunction = going_leads s
   activate_widens (AFunction f body u) =
-      leads_result s s.out (does (spot_of g (length s.arrays)) calls n f.body (entered f args s)) (does (spot_of g (length s.arrays)) more (n + j) body (entered f args s))
-      (does_widens (spot_of g (length s.arrays)) calls more lead n j k u (entered f args s))
+      leads_result s s.out (does (spot_in g (arrays_given args) (length s.arrays)) calls n f.body (entered f args s)) (does (spot_in g (arrays_given args) (length s.arrays)) more (n + j) body (entered f args s))
+      (does_widens (spot_in g (arrays_given args) (length s.arrays)) calls more lead n j k u (entered f args s))
 
   activate_narrows : extra k n ≤ j → {o r : Option Function} → OneUnrolls k o r → Leads s.out (activate g r calls n args s) (activate g o more (n + j) args s)
   activate_narrows far NoFunction = going_leads s
   activate_narrows far (AFunction f body u) =
-      leads_result s s.out (does (spot_of g (length s.arrays)) calls n body (entered f args s)) (does (spot_of g (length s.arrays)) more (n + j) f.body (entered f args s))
-      (does_narrows (spot_of g (length s.arrays)) calls more lead n j k far u (entered f args s))
+      leads_result s s.out (does (spot_in g (arrays_given args) (length s.arrays)) calls n body (entered f args s)) (does (spot_in g (arrays_given args) (length s.arrays)) more (n + j) f.body (entered f args s))
+      (does_narrows (spot_in g (arrays_given args) (length s.arrays)) calls more lead n j k far u (entered f args s))
 
 module _ (k : ℕ) (p : Program) (functions : List Function) (all : AllUnroll k p.functions functions) where
   abbrev after : Program

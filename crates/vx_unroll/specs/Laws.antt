@@ -3,7 +3,7 @@ use Rattle.std.specs.Prelude.{◌≡◌, ℕ, ◌≤◌, ℤ, true, List, [], �
 use Rattle.vx_base.specs.Outcome.{Same, Begins}
 use Rattle.vx_ast.specs.Tree.{One, Tree, Action, Code, Nothing, Seq, Block, Head, If, IfElse, While, DoWhile, For, Function, Program}
 use Rattle.vx_ast.specs.Accepted.{is_accepted}
-use Rattle.vx_ast.specs.Meaning.{Store, Part, With, Trapped, Going, Calls, does, source}
+use Rattle.vx_ast.specs.Meaning.{Store, Part, With, Trapped, Going, Calls, Argument, does, source}
 use Rattle.vx_unroll.specs.Unrolling.{turns_of, while_body, function_words, unrolled_function, unrolled_program, UnrolledBy}
 
 -- the step of a `for` as a part of its head
@@ -42,7 +42,7 @@ EndsSo (Going out) y = Begins out (printed_by y)
 -- a statement with loops unrolled, from every state: in as many turns it does no less, and the old one does as much in
 -- some number of turns. What is called takes no output back
 abbrev pub StatementsKeep : Type 0
-StatementsKeep = (more : ℕ) (c d : Code) → Unrolls more c d → (spot : ℕ → ℕ) (calls : Calls) → ((f : ℕ) (xs : List ℤ) (s : Store) → Begins s.out (printed_by (calls f xs s))) → (n : ℕ) (s : Store) → EndsSo (does spot calls n c s) (does spot calls n d s) × ((m : ℕ) × EndsSo (does spot calls n d s) (does spot calls m c s))
+StatementsKeep = (more : ℕ) (c d : Code) → Unrolls more c d → (spot : ℕ → ℕ) (calls : Calls) → ((f : ℕ) (xs : List Argument) (s : Store) → Begins s.out (printed_by (calls f xs s))) → (n : ℕ) (s : Store) → EndsSo (does spot calls n c s) (does spot calls n d s) × ((m : ℕ) × EndsSo (does spot calls n d s) (does spot calls m c s))
 
 -- whichever loops of a program are unrolled, it ends and prints alike
 abbrev pub UnrollingKeeps : Type 0

@@ -1,14 +1,12 @@
-use Rattle.std.proofs.Common.{rules, w32, to_z, of_z, FitsSigned, ◌∙◌}
-use Rattle.std.proofs.lemmas.Int.{to_z-of_z}
 use Rattle.vx_lower.proofs.StatementMaking.{plain_zeroes}
+use Rattle.vx_lower.proofs.FittingPieces.{size_fits}
 use Rattle.vx_lower.proofs.FittingStatements.{clears_array_well}
 use Rattle.vx_lower.proofs.statements.clear_array.Goals as goal
 
 pub returns-clause-code : goal.returns-clause-code
 returns-clause-code c =
-    let f : FitsSigned w32 c.of-size.result = search rules in
-    plain_zeroes c.args.words.now c.args.array c.in_ok-i.i c.in_ok-head.head c.in_ok-c.c c.in_ok-end.end (to_z w32 (of_z w32 c.of-size.result)) c.args.b.now c.clear.new.b c.enter.new.b c.fresh.new.self c.branch-b.new.self c.clear_word.new.b c.close.new.self (to_z-of_z w32 c.of-size.result f ∙ c.of-size.ensures) c.in_ok-i.ensures.code c.in_ok-head.ensures c.in_ok-c.ensures c.in_ok-end.ensures.code c.in_ok-clear_word.ensures.code c.close.ensures
+    plain_zeroes c.args.words.now c.args.array c.in_ok-i.i c.in_ok-head.head c.in_ok-c.c c.in_ok-end.end c.of-size.result c.args.b.now c.clear.new.b c.enter.new.b c.fresh.new.self c.branch-b.new.self c.clear_word.new.b c.close.new.self c.of-size.ensures c.in_ok-i.ensures.code c.in_ok-head.ensures c.in_ok-c.ensures c.in_ok-end.ensures.code c.in_ok-clear_word.ensures.code c.close.ensures
 
 pub returns-clause-fits : goal.returns-clause-fits
 returns-clause-fits c =
-    clears_array_well c.args.array c.in_ok-i.i c.in_ok-head.head c.in_ok-c.c c.in_ok-end.end (to_z w32 (of_z w32 c.of-size.result)) c.args.b.now c.clear.new.b c.enter.new.b c.fresh.new.self c.branch-b.new.self c.clear_word.new.b c.close.new.self c.in_ok-i.ensures.steps c.in_ok-head.ensures c.in_ok-c.ensures c.in_ok-end.ensures.steps c.in_ok-clear_word.ensures.fits c.close.ensures
+    clears_array_well c.args.array c.in_ok-i.i c.in_ok-head.head c.in_ok-c.c c.in_ok-end.end c.of-size.result c.args.b.now c.clear.new.b c.enter.new.b c.fresh.new.self c.branch-b.new.self c.clear_word.new.b c.close.new.self (size_fits c.args.words.now c.args.array c.of-size.result c.of-size.ensures) c.in_ok-i.ensures.steps c.in_ok-head.ensures c.in_ok-c.ensures c.in_ok-end.ensures.steps c.in_ok-clear_word.ensures.fits c.close.ensures

@@ -1,15 +1,16 @@
-use Rattle.std.proofs.Common.{◌≡◌, ◌∙◌, ap, sym, subst, refl, rules, arith, ℤ, pos, w32, to_z, of_z, FitsSigned, slice_get, Some, Err, length, drop, List, [], ◌∷◌, ◌++◌, ◌+◌, ◌<◌}
+use Rattle.std.proofs.Common.{◌≡◌, ◌∙◌, ap, sym, subst, refl, rules, arith, ℤ, pos, w32, to_z, of_z, FitsSigned, slice_get, Some, Err, length, drop, map, List, [], ◌∷◌, ◌++◌, ◌+◌, ◌<◌}
 use Rattle.std.proofs.lemmas.Int.{to_z-of_z}
 use Rattle.std.proofs.lemmas.Option.{slice_get_read}
 use Rattle.std.specs.Option.{option_map}
 use Rattle.vx_ast.specs.Tree as tree
 use Rattle.vx_ast.specs.Tree.{Apply}
 use Rattle.vx_base.specs.Arithmetic.{sum_of, difference_of}
-use Rattle.vx_ast.specs.Meaning.{With, Falls, does, test_of, value, and_then, combined, entered}
+use Rattle.vx_ast.specs.Meaning.{NumberArgument, With, Falls, does, test_of, value, and_then, combined}
+use Rattle.vx_ast.proofs.Arguments.{numbers_are, no_arrays}
 use Rattle.vx_plain.specs.Kept.{store_of}
 use Rattle.vx_ast.specs.View.{all_in, code_of, step_of, row_in, tree_of, place_of, function_of}
 use Rattle.vx_plain.specs.Interpreting.{Comes, itself, falls, calls_at, spot_at}
-use Rattle.vx_plain.proofs.InterpreterSteps.{stop_as, stop_then, on_then, stop_index, on_index, go_through, go_around, gives, view_Call, view_Block, view_Print, chain, from_located, stop_located, called, stop_result, on_result}
+use Rattle.vx_plain.proofs.InterpreterSteps.{stop_as, stop_then, on_then, stop_index, on_index, go_through, go_around, gives, view_Call, view_Block, view_Print, one_more, chain, from_located, stop_located, given_to, called, stop_result, on_result}
 use Rattle.vx_plain.proofs.InterpreterLoops.{row_stop, row_more, fall_on, while_more, do_out, do_on, do_more, for_stop, for_out, for_step_stop, for_more}
 use Rattle.vx_plain.proofs.interpreter.+running.Goals as goal
 
@@ -107,89 +108,90 @@ evaluate-returns-in_err-arguments-in-Call t c =
 pub evaluate-returns-in_ok-arguments-in-Call : goal.evaluate-returns-in_ok-arguments-in-Call
 evaluate-returns-in_ok-arguments-in-Call t c =
     let e : tree_of c.args.e.now ≡ Apply c.in-Call.f (row_in c.as_slice.result.now) = ap tree_of c.in-Call.is ∙ view_Call c.in-Call.f c.in-Call.row ∙ ap (λ l. Apply c.in-Call.f (row_in l)) (sym c.as_slice.ensures.value) in
-    rw e (on_then _ _ _ _ _ _ _ c.in_ok-arguments-in-Call.ensures.is c.call.ensures)
+    rw e (on_then _ _ _ _ _ _ _ c.in_ok-arguments-in-Call.ensures.is (c.call.ensures _ (numbers_are c.in_ok-arguments-in-Call.arguments.items) (no_arrays c.in_ok-arguments-in-Call.arguments.items)))
 
 pub act-returns-in_err-place-in-Assign : goal.act-returns-in_err-place-in-Assign
 act-returns-in_err-place-in-Assign t c =
-    rw c.in-Assign.is (stop_located (spot_at c.args.program.now c.args.at) (calls_at c.args.program.now c.args.at) (place_of c.in-Assign.target) (λ old u. value (spot_at c.args.program.now c.args.at) (calls_at c.args.program.now c.args.at) (tree_of c.in-Assign.e) u) (store_of c.args.store.now) _ _ c.in_err-place-in-Assign.field-0.0 _ c.from_residual-in_err-place-in-Assign.ensures.1 c.in_err-place-in-Assign.ensures)
+    rw c.in-Assign.is (stop_located (spot_at c.args.program.now c.args.at.now) (calls_at c.args.program.now c.args.at.now) (place_of c.in-Assign.target) (λ old u. value (spot_at c.args.program.now c.args.at.now) (calls_at c.args.program.now c.args.at.now) (tree_of c.in-Assign.e) u) (store_of c.args.store.now) _ _ c.in_err-place-in-Assign.field-0.0 _ c.from_residual-in_err-place-in-Assign.ensures.1 c.in_err-place-in-Assign.ensures)
 
 pub act-returns-in_err-place-in-Compound : goal.act-returns-in_err-place-in-Compound
 act-returns-in_err-place-in-Compound t c =
-    rw c.in-Compound.is (stop_located (spot_at c.args.program.now c.args.at) (calls_at c.args.program.now c.args.at) (place_of c.in-Compound.target) (λ old u. and_then (value (spot_at c.args.program.now c.args.at) (calls_at c.args.program.now c.args.at) (tree_of c.in-Compound.e) u) (λ v w. combined c.in-Compound.operator old v w)) (store_of c.args.store.now) _ _ c.in_err-place-in-Compound.field-0.0 _ c.from_residual-in_err-place-in-Compound.ensures.1 c.in_err-place-in-Compound.ensures)
+    rw c.in-Compound.is (stop_located (spot_at c.args.program.now c.args.at.now) (calls_at c.args.program.now c.args.at.now) (place_of c.in-Compound.target) (λ old u. and_then (value (spot_at c.args.program.now c.args.at.now) (calls_at c.args.program.now c.args.at.now) (tree_of c.in-Compound.e) u) (λ v w. combined c.in-Compound.operator old v w)) (store_of c.args.store.now) _ _ c.in_err-place-in-Compound.field-0.0 _ c.from_residual-in_err-place-in-Compound.ensures.1 c.in_err-place-in-Compound.ensures)
 
 pub act-returns-in_err-place-in-Increase : goal.act-returns-in_err-place-in-Increase
 act-returns-in_err-place-in-Increase t c =
-    rw c.in-Increase.is (stop_located (spot_at c.args.program.now c.args.at) (calls_at c.args.program.now c.args.at) (place_of c.in-Increase.target) (λ old u. With (sum_of old (pos 1)) u) (store_of c.args.store.now) _ _ c.in_err-place-in-Increase.field-0.0 _ c.from_residual-in_err-place-in-Increase.ensures.1 c.in_err-place-in-Increase.ensures)
+    rw c.in-Increase.is (stop_located (spot_at c.args.program.now c.args.at.now) (calls_at c.args.program.now c.args.at.now) (place_of c.in-Increase.target) (λ old u. With (sum_of old (pos 1)) u) (store_of c.args.store.now) _ _ c.in_err-place-in-Increase.field-0.0 _ c.from_residual-in_err-place-in-Increase.ensures.1 c.in_err-place-in-Increase.ensures)
 
 pub act-returns-in_err-place-in-Decrease : goal.act-returns-in_err-place-in-Decrease
 act-returns-in_err-place-in-Decrease t c =
-    rw c.in-Decrease.is (stop_located (spot_at c.args.program.now c.args.at) (calls_at c.args.program.now c.args.at) (place_of c.in-Decrease.target) (λ old u. With (difference_of old (pos 1)) u) (store_of c.args.store.now) _ _ c.in_err-place-in-Decrease.field-0.0 _ c.from_residual-in_err-place-in-Decrease.ensures.1 c.in_err-place-in-Decrease.ensures)
+    rw c.in-Decrease.is (stop_located (spot_at c.args.program.now c.args.at.now) (calls_at c.args.program.now c.args.at.now) (place_of c.in-Decrease.target) (λ old u. With (difference_of old (pos 1)) u) (store_of c.args.store.now) _ _ c.in_err-place-in-Decrease.field-0.0 _ c.from_residual-in_err-place-in-Decrease.ensures.1 c.in_err-place-in-Decrease.ensures)
 
 pub act-returns-in_err-v-in-Assign : goal.act-returns-in_err-v-in-Assign
 act-returns-in_err-v-in-Assign t c =
-    rw c.in-Assign.is (from_located (spot_at c.args.program.now c.args.at) (calls_at c.args.program.now c.args.at) (place_of c.in-Assign.target) (λ old u. value (spot_at c.args.program.now c.args.at) (calls_at c.args.program.now c.args.at) (tree_of c.in-Assign.e) u) (store_of c.args.store.now) _ _ _ _ _ c.in_ok-place-in-Assign.ensures.is (stop_then _ _ _ c.in_err-v-in-Assign.field-0.0 _ _ _ c.from_residual-in_err-v-in-Assign.ensures.1 c.in_err-v-in-Assign.ensures))
+    rw c.in-Assign.is (from_located (spot_at c.args.program.now c.args.at.now) (calls_at c.args.program.now c.args.at.now) (place_of c.in-Assign.target) (λ old u. value (spot_at c.args.program.now c.args.at.now) (calls_at c.args.program.now c.args.at.now) (tree_of c.in-Assign.e) u) (store_of c.args.store.now) _ _ _ _ _ c.in_ok-place-in-Assign.ensures.is (stop_then _ _ _ c.in_err-v-in-Assign.field-0.0 _ _ _ c.from_residual-in_err-v-in-Assign.ensures.1 c.in_err-v-in-Assign.ensures))
 
 pub act-returns-in_ok-v-in-Assign : goal.act-returns-in_ok-v-in-Assign
 act-returns-in_ok-v-in-Assign t c =
     let f : FitsSigned w32 c.in_ok-v-in-Assign.v = search rules in
-    rw c.in-Assign.is (from_located (spot_at c.args.program.now c.args.at) (calls_at c.args.program.now c.args.at) (place_of c.in-Assign.target) (λ old u. value (spot_at c.args.program.now c.args.at) (calls_at c.args.program.now c.args.at) (tree_of c.in-Assign.e) u) (store_of c.args.store.now) _ _ _ _ _ c.in_ok-place-in-Assign.ensures.is (on_then _ _ _ _ _ _ _ c.in_ok-v-in-Assign.ensures.is (rw (to_z-of_z w32 c.in_ok-v-in-Assign.v f) at c.put.ensures)))
+    rw c.in-Assign.is (from_located (spot_at c.args.program.now c.args.at.now) (calls_at c.args.program.now c.args.at.now) (place_of c.in-Assign.target) (λ old u. value (spot_at c.args.program.now c.args.at.now) (calls_at c.args.program.now c.args.at.now) (tree_of c.in-Assign.e) u) (store_of c.args.store.now) _ _ _ _ _ c.in_ok-place-in-Assign.ensures.is (on_then _ _ _ _ _ _ _ c.in_ok-v-in-Assign.ensures.is (rw (to_z-of_z w32 c.in_ok-v-in-Assign.v f) at c.put.ensures)))
 
 pub act-returns-in_err-v-in-Compound : goal.act-returns-in_err-v-in-Compound
 act-returns-in_err-v-in-Compound t c =
-    rw c.in-Compound.is (from_located (spot_at c.args.program.now c.args.at) (calls_at c.args.program.now c.args.at) (place_of c.in-Compound.target) (λ old u. and_then (value (spot_at c.args.program.now c.args.at) (calls_at c.args.program.now c.args.at) (tree_of c.in-Compound.e) u) (λ v w. combined c.in-Compound.operator old v w)) (store_of c.args.store.now) _ _ _ _ _ c.in_ok-place-in-Compound.ensures.is (stop_then (itself {A = ℤ}) _ _ c.in_err-v-in-Compound.field-0.0 _ _ _ c.from_residual-in_err-v-in-Compound.ensures.1 (stop_then _ itself (Err c.in_err-v-in-Compound.field-0.0) c.in_err-v-in-Compound.field-0.0 _ _ _ refl c.in_err-v-in-Compound.ensures)))
+    rw c.in-Compound.is (from_located (spot_at c.args.program.now c.args.at.now) (calls_at c.args.program.now c.args.at.now) (place_of c.in-Compound.target) (λ old u. and_then (value (spot_at c.args.program.now c.args.at.now) (calls_at c.args.program.now c.args.at.now) (tree_of c.in-Compound.e) u) (λ v w. combined c.in-Compound.operator old v w)) (store_of c.args.store.now) _ _ _ _ _ c.in_ok-place-in-Compound.ensures.is (stop_then (itself {A = ℤ}) _ _ c.in_err-v-in-Compound.field-0.0 _ _ _ c.from_residual-in_err-v-in-Compound.ensures.1 (stop_then _ itself (Err c.in_err-v-in-Compound.field-0.0) c.in_err-v-in-Compound.field-0.0 _ _ _ refl c.in_err-v-in-Compound.ensures)))
 
 pub act-returns-in_err-new-in-Compound : goal.act-returns-in_err-new-in-Compound
 act-returns-in_err-new-in-Compound t c =
     let f : FitsSigned w32 c.in_ok-v-in-Compound.v = search rules in
     let g : FitsSigned w32 c.held-old.result = search rules in
-    rw c.in-Compound.is (from_located (spot_at c.args.program.now c.args.at) (calls_at c.args.program.now c.args.at) (place_of c.in-Compound.target) (λ old u. and_then (value (spot_at c.args.program.now c.args.at) (calls_at c.args.program.now c.args.at) (tree_of c.in-Compound.e) u) (λ v w. combined c.in-Compound.operator old v w)) (store_of c.args.store.now) _ _ _ _ _ c.in_ok-place-in-Compound.ensures.is (stop_then (itself {A = ℤ}) _ _ c.in_err-new-in-Compound.field-0.0 _ _ _ c.from_residual-in_err-new-in-Compound.ensures.1 (on_then itself (Err c.in_err-new-in-Compound.field-0.0) _ _ _ _ _ c.in_ok-v-in-Compound.ensures.is (rw (to_z-of_z w32 c.held-old.result g, to_z-of_z w32 c.in_ok-v-in-Compound.v f, c.held-old.ensures) at c.in_err-new-in-Compound.ensures))))
+    rw c.in-Compound.is (from_located (spot_at c.args.program.now c.args.at.now) (calls_at c.args.program.now c.args.at.now) (place_of c.in-Compound.target) (λ old u. and_then (value (spot_at c.args.program.now c.args.at.now) (calls_at c.args.program.now c.args.at.now) (tree_of c.in-Compound.e) u) (λ v w. combined c.in-Compound.operator old v w)) (store_of c.args.store.now) _ _ _ _ _ c.in_ok-place-in-Compound.ensures.is (stop_then (itself {A = ℤ}) _ _ c.in_err-new-in-Compound.field-0.0 _ _ _ c.from_residual-in_err-new-in-Compound.ensures.1 (on_then itself (Err c.in_err-new-in-Compound.field-0.0) _ _ _ _ _ c.in_ok-v-in-Compound.ensures.is (rw (to_z-of_z w32 c.held-old.result g, to_z-of_z w32 c.in_ok-v-in-Compound.v f, c.held-old.ensures) at c.in_err-new-in-Compound.ensures))))
 
 pub act-returns-in_ok-new-in-Compound : goal.act-returns-in_ok-new-in-Compound
 act-returns-in_ok-new-in-Compound t c =
     let f : FitsSigned w32 c.in_ok-v-in-Compound.v = search rules in
     let g : FitsSigned w32 c.held-old.result = search rules in
     let h : FitsSigned w32 c.in_ok-new-in-Compound.new = search rules in
-    rw c.in-Compound.is (from_located (spot_at c.args.program.now c.args.at) (calls_at c.args.program.now c.args.at) (place_of c.in-Compound.target) (λ old u. and_then (value (spot_at c.args.program.now c.args.at) (calls_at c.args.program.now c.args.at) (tree_of c.in-Compound.e) u) (λ v w. combined c.in-Compound.operator old v w)) (store_of c.args.store.now) _ _ _ _ _ c.in_ok-place-in-Compound.ensures.is (on_then _ _ _ c.in_ok-new-in-Compound.new _ _ _ (chain _ _ _ _ _ _ c.in_ok-v-in-Compound.ensures.is (rw (to_z-of_z w32 c.held-old.result g, to_z-of_z w32 c.in_ok-v-in-Compound.v f, c.held-old.ensures) at c.in_ok-new-in-Compound.ensures.is)) (rw (to_z-of_z w32 c.in_ok-new-in-Compound.new h) at c.put-in-Compound.ensures)))
+    rw c.in-Compound.is (from_located (spot_at c.args.program.now c.args.at.now) (calls_at c.args.program.now c.args.at.now) (place_of c.in-Compound.target) (λ old u. and_then (value (spot_at c.args.program.now c.args.at.now) (calls_at c.args.program.now c.args.at.now) (tree_of c.in-Compound.e) u) (λ v w. combined c.in-Compound.operator old v w)) (store_of c.args.store.now) _ _ _ _ _ c.in_ok-place-in-Compound.ensures.is (on_then _ _ _ c.in_ok-new-in-Compound.new _ _ _ (chain _ _ _ _ _ _ c.in_ok-v-in-Compound.ensures.is (rw (to_z-of_z w32 c.held-old.result g, to_z-of_z w32 c.in_ok-v-in-Compound.v f, c.held-old.ensures) at c.in_ok-new-in-Compound.ensures.is)) (rw (to_z-of_z w32 c.in_ok-new-in-Compound.new h) at c.put-in-Compound.ensures)))
 
 pub act-returns-in_ok-place-in-Increase : goal.act-returns-in_ok-place-in-Increase
 act-returns-in_ok-place-in-Increase t c =
     let f : FitsSigned w32 c.add32.result = search rules in
     let g : FitsSigned w32 c.held-old-in-Increase.result = search rules in
-    rw c.in-Increase.is (from_located (spot_at c.args.program.now c.args.at) (calls_at c.args.program.now c.args.at) (place_of c.in-Increase.target) (λ old u. With (sum_of old (pos 1)) u) (store_of c.args.store.now) _ _ _ _ _ c.in_ok-place-in-Increase.ensures.is (rw (to_z-of_z w32 c.add32.result f, c.add32.ensures, to_z-of_z w32 c.held-old-in-Increase.result g, c.held-old-in-Increase.ensures) at c.put-in-Increase.ensures))
+    rw c.in-Increase.is (from_located (spot_at c.args.program.now c.args.at.now) (calls_at c.args.program.now c.args.at.now) (place_of c.in-Increase.target) (λ old u. With (sum_of old (pos 1)) u) (store_of c.args.store.now) _ _ _ _ _ c.in_ok-place-in-Increase.ensures.is (rw (to_z-of_z w32 c.add32.result f, c.add32.ensures, to_z-of_z w32 c.held-old-in-Increase.result g, c.held-old-in-Increase.ensures) at c.put-in-Increase.ensures))
 
 pub act-returns-in_ok-place-in-Decrease : goal.act-returns-in_ok-place-in-Decrease
 act-returns-in_ok-place-in-Decrease t c =
     let f : FitsSigned w32 c.sub32.result = search rules in
     let g : FitsSigned w32 c.held-old-in-Decrease.result = search rules in
-    rw c.in-Decrease.is (from_located (spot_at c.args.program.now c.args.at) (calls_at c.args.program.now c.args.at) (place_of c.in-Decrease.target) (λ old u. With (difference_of old (pos 1)) u) (store_of c.args.store.now) _ _ _ _ _ c.in_ok-place-in-Decrease.ensures.is (rw (to_z-of_z w32 c.sub32.result f, c.sub32.ensures, to_z-of_z w32 c.held-old-in-Decrease.result g, c.held-old-in-Decrease.ensures) at c.put-in-Decrease.ensures))
+    rw c.in-Decrease.is (from_located (spot_at c.args.program.now c.args.at.now) (calls_at c.args.program.now c.args.at.now) (place_of c.in-Decrease.target) (λ old u. With (difference_of old (pos 1)) u) (store_of c.args.store.now) _ _ _ _ _ c.in_ok-place-in-Decrease.ensures.is (rw (to_z-of_z w32 c.sub32.result f, c.sub32.ensures, to_z-of_z w32 c.held-old-in-Decrease.result g, c.held-old-in-Decrease.ensures) at c.put-in-Decrease.ensures))
 
 pub call-returns-in_err-left : goal.call-returns-in_err-left
-call-returns-in_err-left t c =
+call-returns-in_err-left t c = λ arguments ns gs.
     let there : slice_get c.args.program.now.functions.items c.args.f ≡ Some c.index-function.result.now = slice_get_read c.args.program.now.functions.items _ c.args.f c.index-function.result.now refl (search rules) c.index-function.ensures in
-    let inner : store_of c.enter.new.self ≡ entered (function_of c.index-function.result.now) c.args.arguments.items (store_of c.args.store.now) = rw c.as_slice.ensures at c.in_ok-caller.ensures.entered in
+    let inner : store_of c.enter.new.self ≡ given_to c.index-function.result.now c.args.numbers.items (store_of c.args.store.now) = rw c.as_slice.ensures at c.in_ok-caller.ensures.entered in
     let base : c.in_ok-base.base ≡ length c.args.store.now.arrays = c.in_ok-base.ensures ∙ c.arrays-arrays.ensures in
-    subst (Comes itself _ _) (sym (called c.args.program.now c.args.at.depth c.in_ok-base.base c.args.at.turns c.args.f c.args.arguments.items (store_of c.args.store.now) (store_of c.enter.new.self) c.index-function.result.now c.if-at-eq0.false there base inner)) (stop_result _ _ (store_of c.args.store.now) c.in_err-left.field-0.0 _ _ c.from_residual-in_err-left.ensures.1 (rw c.as_slice-2.ensures.value at c.in_err-left.ensures))
+    subst (Comes itself _ _) (sym (called c.args.program.now c.args.at.now.depth c.in_ok-base.base c.args.at.now.turns c.args.f c.args.given.now c.args.numbers.items arguments (store_of c.args.store.now) (store_of c.enter.new.self) c.index-function.result.now ns gs c.if-at-eq0.false there base inner)) (stop_result _ _ (store_of c.args.store.now) c.in_err-left.field-0.0 _ _ c.from_residual-in_err-left.ensures.1 (rw c.as_slice-2.ensures.value at c.in_err-left.ensures))
 
 pub call-returns : goal.call-returns
-call-returns t c =
+call-returns t c = λ arguments ns gs.
     let there : slice_get c.args.program.now.functions.items c.args.f ≡ Some c.index-function.result.now = slice_get_read c.args.program.now.functions.items _ c.args.f c.index-function.result.now refl (search rules) c.index-function.ensures in
-    let inner : store_of c.enter.new.self ≡ entered (function_of c.index-function.result.now) c.args.arguments.items (store_of c.args.store.now) = rw c.as_slice.ensures at c.in_ok-caller.ensures.entered in
+    let inner : store_of c.enter.new.self ≡ given_to c.index-function.result.now c.args.numbers.items (store_of c.args.store.now) = rw c.as_slice.ensures at c.in_ok-caller.ensures.entered in
     let base : c.in_ok-base.base ≡ length c.args.store.now.arrays = c.in_ok-base.ensures ∙ c.arrays-arrays.ensures in
     let f : FitsSigned w32 c.number_given.result = search rules in
-    subst (Comes itself _ _) (sym (called c.args.program.now c.args.at.depth c.in_ok-base.base c.args.at.turns c.args.f c.args.arguments.items (store_of c.args.store.now) (store_of c.enter.new.self) c.index-function.result.now c.if-at-eq0.false there base inner)) (on_result (store_of c.args.store.now) c.in_ok-left.left (store_of c.execute_all.new.store) _ _ c.number_given.result (rw c.as_slice-2.ensures.value at c.in_ok-left.ensures.is) (rw (c.in_ok-caller.ensures.caller, c.arrays-arrays.ensures) at c.leave.ensures) f c.number_given.ensures)
+    subst (Comes itself _ _) (sym (called c.args.program.now c.args.at.now.depth c.in_ok-base.base c.args.at.now.turns c.args.f c.args.given.now c.args.numbers.items arguments (store_of c.args.store.now) (store_of c.enter.new.self) c.index-function.result.now ns gs c.if-at-eq0.false there base inner)) (on_result (store_of c.args.store.now) c.in_ok-left.left (store_of c.execute_all.new.store) _ _ c.number_given.result (rw c.as_slice-2.ensures.value at c.in_ok-left.ensures.is) (rw (c.in_ok-caller.ensures.caller, c.arrays-arrays.ensures) at c.leave.ensures) f c.number_given.ensures)
 
 pub evaluate_row-returns-in_err-x : goal.evaluate_row-returns-in_err-x
 evaluate_row-returns-in_err-x t c =
     let h : c.loop-e.e-index < length c.args.row.now = omega arith in
-    row_stop (spot_at c.args.program.now c.args.at) (calls_at c.args.program.now c.args.at) c.args.row.now c.loop-e.e-index c.loop-e.numbers.items (store_of c.args.store.now) (store_of c.loop-e.store) c.e-item.result c.loop-e.invariant h c.e-item.is _ _ c.in_err-x.field-0.0 _ c.from_residual-in_err-x.ensures.1 c.in_err-x.ensures
+    row_stop (spot_at c.args.program.now c.args.at.now) (calls_at c.args.program.now c.args.at.now) c.args.row.now c.loop-e.e-index (map NumberArgument c.loop-e.numbers.items) (store_of c.args.store.now) (store_of c.loop-e.store) c.e-item.result c.loop-e.invariant h c.e-item.is _ _ c.in_err-x.field-0.0 _ c.from_residual-in_err-x.ensures.1 c.in_err-x.ensures
 
 pub evaluate_row-loop-e-preserved : goal.evaluate_row-loop-e-preserved
 evaluate_row-loop-e-preserved t c =
     let h : c.loop-e.e-index < length c.args.row.now = omega arith in
     let f : FitsSigned w32 c.in_ok-x.x = search rules in
     let pushed : c.push.new.self.items ≡ c.loop-e.numbers.items ++ c.in_ok-x.x ∷ [] = rw (to_z-of_z w32 c.in_ok-x.x f) at c.in_ok-push.ensures.items in
-    subst (λ l. value (spot_at c.args.program.now c.args.at) (calls_at c.args.program.now c.args.at) (row_in c.args.row.now) (store_of c.args.store.now) ≡ and_then (value (spot_at c.args.program.now c.args.at) (calls_at c.args.program.now c.args.at) (row_in (drop (c.loop-e.e-index + 1) c.args.row.now)) (store_of c.evaluate.new.store)) (λ xs u. With (l ++ xs) u)) (sym pushed)
-    (row_more (spot_at c.args.program.now c.args.at) (calls_at c.args.program.now c.args.at) c.args.row.now c.loop-e.e-index c.loop-e.numbers.items (store_of c.args.store.now) (store_of c.loop-e.store) c.e-item.result c.loop-e.invariant h c.e-item.is c.in_ok-x.x (store_of c.evaluate.new.store) c.in_ok-x.ensures.is)
+    subst (λ l. value (spot_at c.args.program.now c.args.at.now) (calls_at c.args.program.now c.args.at.now) (row_in c.args.row.now) (store_of c.args.store.now) ≡ and_then (value (spot_at c.args.program.now c.args.at.now) (calls_at c.args.program.now c.args.at.now) (row_in (drop (c.loop-e.e-index + 1) c.args.row.now)) (store_of c.evaluate.new.store)) (λ xs u. With (map NumberArgument l ++ xs) u)) (sym pushed)
+    (subst (λ l. value (spot_at c.args.program.now c.args.at.now) (calls_at c.args.program.now c.args.at.now) (row_in c.args.row.now) (store_of c.args.store.now) ≡ and_then (value (spot_at c.args.program.now c.args.at.now) (calls_at c.args.program.now c.args.at.now) (row_in (drop (c.loop-e.e-index + 1) c.args.row.now)) (store_of c.evaluate.new.store)) (λ xs u. With (l ++ xs) u)) (sym (one_more c.loop-e.numbers.items c.in_ok-x.x))
+    (row_more (spot_at c.args.program.now c.args.at.now) (calls_at c.args.program.now c.args.at.now) c.args.row.now c.loop-e.e-index (map NumberArgument c.loop-e.numbers.items) (store_of c.args.store.now) (store_of c.loop-e.store) c.e-item.result c.loop-e.invariant h c.e-item.is c.in_ok-x.x (store_of c.evaluate.new.store) c.in_ok-x.ensures.is))
 
 pub execute-returns-in_err-numbers-in-Print : goal.execute-returns-in_err-numbers-in-Print
 execute-returns-in_err-numbers-in-Print t c =
@@ -197,7 +199,7 @@ execute-returns-in_err-numbers-in-Print t c =
 
 pub execute-returns-in_ok-print-in-Print : goal.execute-returns-in_ok-print-in-Print
 execute-returns-in_ok-print-in-Print t c =
-    rw (c.in-Print.is, ← c.as_slice-in-Print.ensures.value) (on_then _ _ _ _ _ _ _ c.in_ok-numbers-in-Print.ensures.is (record { is = ap (With Falls) (sym (rw (c.as_slice-in-Print-2.ensures, c.as_slice-in-Print-3.ensures.value) at c.in_ok-print-in-Print.ensures)) }))
+    rw (c.in-Print.is, ← c.as_slice-in-Print.ensures.value) (on_then _ _ _ _ _ _ _ c.in_ok-numbers-in-Print.ensures.is (rw (numbers_are c.in_ok-numbers-in-Print.numbers.items) (record { is = ap (With Falls) (sym (rw (c.as_slice-in-Print-2.ensures, c.as_slice-in-Print-3.ensures.value) at c.in_ok-print-in-Print.ensures)) })))
 
 pub execute-returns-in-Block : goal.execute-returns-in-Block
 execute-returns-in-Block t c =
@@ -211,45 +213,45 @@ execute-returns-in_ok-begin-in-For t c =
 pub repeat_do-returns-in-Some : goal.repeat_do-returns-in-Some
 repeat_do-returns-in-Some t c =
     let h : 0 < c.loop-left.left = omega arith in
-    do_out (value (spot_at c.args.program.now c.args.at) (calls_at c.args.program.now c.args.at) (tree_of c.args.test.now)) (does (spot_at c.args.program.now c.args.at) (calls_at c.args.program.now c.args.at) c.args.at.turns (code_of c.args.body.now)) c.args.at.turns c.loop-left.left (store_of c.args.store.now) (store_of c.loop-left.store) h c.loop-left.invariant c.in_ok-how.how (store_of c.execute.new.store) c.in_ok-how.ensures.is c.in-Some.out c.execute.new.store refl c.in-Some.ensures
+    do_out (value (spot_at c.args.program.now c.args.at.now) (calls_at c.args.program.now c.args.at.now) (tree_of c.args.test.now)) (does (spot_at c.args.program.now c.args.at.now) (calls_at c.args.program.now c.args.at.now) c.args.at.now.turns (code_of c.args.body.now)) c.args.at.now.turns c.loop-left.left (store_of c.args.store.now) (store_of c.loop-left.store) h c.loop-left.invariant c.in_ok-how.how (store_of c.execute.new.store) c.in_ok-how.ensures.is c.in-Some.out c.execute.new.store refl c.in-Some.ensures
 
 pub repeat_do-returns-in_err-evaluate : goal.repeat_do-returns-in_err-evaluate
 repeat_do-returns-in_err-evaluate t c =
     let h : 0 < c.loop-left.left = omega arith in
-    subst (Comes _ _ _) (sym (do_on (value (spot_at c.args.program.now c.args.at) (calls_at c.args.program.now c.args.at) (tree_of c.args.test.now)) (does (spot_at c.args.program.now c.args.at) (calls_at c.args.program.now c.args.at) c.args.at.turns (code_of c.args.body.now)) c.args.at.turns c.loop-left.left (store_of c.args.store.now) (store_of c.loop-left.store) h c.loop-left.invariant c.in_ok-how.how (store_of c.execute.new.store) c.in_ok-how.ensures.is c.in_default.ensures)) (stop_then _ _ _ c.in_err-evaluate.field-0.0 _ _ _ c.from_residual-in_err-evaluate.ensures.1 c.in_err-evaluate.ensures)
+    subst (Comes _ _ _) (sym (do_on (value (spot_at c.args.program.now c.args.at.now) (calls_at c.args.program.now c.args.at.now) (tree_of c.args.test.now)) (does (spot_at c.args.program.now c.args.at.now) (calls_at c.args.program.now c.args.at.now) c.args.at.now.turns (code_of c.args.body.now)) c.args.at.now.turns c.loop-left.left (store_of c.args.store.now) (store_of c.loop-left.store) h c.loop-left.invariant c.in_ok-how.how (store_of c.execute.new.store) c.in_ok-how.ensures.is c.in_default.ensures)) (stop_then _ _ _ c.in_err-evaluate.field-0.0 _ _ _ c.from_residual-in_err-evaluate.ensures.1 c.in_err-evaluate.ensures)
 
 pub repeat_do-returns-then-branch-eq0 : goal.repeat_do-returns-then-branch-eq0
 repeat_do-returns-then-branch-eq0 t c =
     let h : 0 < c.loop-left.left = omega arith in
     let f : FitsSigned w32 c.in_ok-evaluate.field-0 = search rules in
-    subst (Comes _ _ _) (sym (do_on (value (spot_at c.args.program.now c.args.at) (calls_at c.args.program.now c.args.at) (tree_of c.args.test.now)) (does (spot_at c.args.program.now c.args.at) (calls_at c.args.program.now c.args.at) c.args.at.turns (code_of c.args.body.now)) c.args.at.turns c.loop-left.left (store_of c.args.store.now) (store_of c.loop-left.store) h c.loop-left.invariant c.in_ok-how.how (store_of c.execute.new.store) c.in_ok-how.ensures.is c.in_default.ensures)) (on_then _ _ _ _ _ _ _ c.in_ok-evaluate.ensures.is (go_around _ _ _ c.in_ok-evaluate.field-0 _ _ f c.if-branch-eq0.true (record { is = refl })))
+    subst (Comes _ _ _) (sym (do_on (value (spot_at c.args.program.now c.args.at.now) (calls_at c.args.program.now c.args.at.now) (tree_of c.args.test.now)) (does (spot_at c.args.program.now c.args.at.now) (calls_at c.args.program.now c.args.at.now) c.args.at.now.turns (code_of c.args.body.now)) c.args.at.now.turns c.loop-left.left (store_of c.args.store.now) (store_of c.loop-left.store) h c.loop-left.invariant c.in_ok-how.how (store_of c.execute.new.store) c.in_ok-how.ensures.is c.in_default.ensures)) (on_then _ _ _ _ _ _ _ c.in_ok-evaluate.ensures.is (go_around _ _ _ c.in_ok-evaluate.field-0 _ _ f c.if-branch-eq0.true (record { is = refl })))
 
 pub repeat_do-loop-left-preserved : goal.repeat_do-loop-left-preserved
 repeat_do-loop-left-preserved t c =
     let h : 0 < c.loop-left.left = omega arith in
-    do_more (value (spot_at c.args.program.now c.args.at) (calls_at c.args.program.now c.args.at) (tree_of c.args.test.now)) (does (spot_at c.args.program.now c.args.at) (calls_at c.args.program.now c.args.at) c.args.at.turns (code_of c.args.body.now)) c.args.at.turns c.loop-left.left (store_of c.args.store.now) (store_of c.loop-left.store) h c.loop-left.invariant c.in_ok-how.how (store_of c.execute.new.store) c.in_ok-how.ensures.is c.in_default.ensures c.in_ok-evaluate.field-0 (store_of c.evaluate.new.store) c.in_ok-evaluate.ensures.is c.if-branch-eq0.false
+    do_more (value (spot_at c.args.program.now c.args.at.now) (calls_at c.args.program.now c.args.at.now) (tree_of c.args.test.now)) (does (spot_at c.args.program.now c.args.at.now) (calls_at c.args.program.now c.args.at.now) c.args.at.now.turns (code_of c.args.body.now)) c.args.at.now.turns c.loop-left.left (store_of c.args.store.now) (store_of c.loop-left.store) h c.loop-left.invariant c.in_ok-how.how (store_of c.execute.new.store) c.in_ok-how.ensures.is c.in_default.ensures c.in_ok-evaluate.field-0 (store_of c.evaluate.new.store) c.in_ok-evaluate.ensures.is c.if-branch-eq0.false
 
 pub repeat_for-returns-in_err-how : goal.repeat_for-returns-in_err-how
 repeat_for-returns-in_err-how t c =
     let h : 0 < c.loop-left.left = omega arith in
-    for_stop (test_of (spot_at c.args.program.now c.args.at) (calls_at c.args.program.now c.args.at) (option_map tree_of c.args.test.now)) (does (spot_at c.args.program.now c.args.at) (calls_at c.args.program.now c.args.at) c.args.at.turns (code_of c.args.body.now)) (does (spot_at c.args.program.now c.args.at) (calls_at c.args.program.now c.args.at) c.args.at.turns (step_of c.args.step.now)) c.args.at.turns c.loop-left.left (store_of c.args.store.now) (store_of c.loop-left.store) h c.loop-left.invariant c.in_ok-holds.field-0 (store_of c.holds.new.store) c.in_ok-holds.ensures.is c.if-branch-eq0.false _ _ _ c.in_err-how.field-0.0 _ c.from_residual-in_err-how.ensures.1 c.in_err-how.ensures
+    for_stop (test_of (spot_at c.args.program.now c.args.at.now) (calls_at c.args.program.now c.args.at.now) (option_map tree_of c.args.test.now)) (does (spot_at c.args.program.now c.args.at.now) (calls_at c.args.program.now c.args.at.now) c.args.at.now.turns (code_of c.args.body.now)) (does (spot_at c.args.program.now c.args.at.now) (calls_at c.args.program.now c.args.at.now) c.args.at.now.turns (step_of c.args.step.now)) c.args.at.now.turns c.loop-left.left (store_of c.args.store.now) (store_of c.loop-left.store) h c.loop-left.invariant c.in_ok-holds.field-0 (store_of c.holds.new.store) c.in_ok-holds.ensures.is c.if-branch-eq0.false _ _ _ c.in_err-how.field-0.0 _ c.from_residual-in_err-how.ensures.1 c.in_err-how.ensures
 
 pub repeat_for-returns-in-Some : goal.repeat_for-returns-in-Some
 repeat_for-returns-in-Some t c =
     let h : 0 < c.loop-left.left = omega arith in
-    for_out (test_of (spot_at c.args.program.now c.args.at) (calls_at c.args.program.now c.args.at) (option_map tree_of c.args.test.now)) (does (spot_at c.args.program.now c.args.at) (calls_at c.args.program.now c.args.at) c.args.at.turns (code_of c.args.body.now)) (does (spot_at c.args.program.now c.args.at) (calls_at c.args.program.now c.args.at) c.args.at.turns (step_of c.args.step.now)) c.args.at.turns c.loop-left.left (store_of c.args.store.now) (store_of c.loop-left.store) h c.loop-left.invariant c.in_ok-holds.field-0 (store_of c.holds.new.store) c.in_ok-holds.ensures.is c.if-branch-eq0.false c.in_ok-how.how (store_of c.execute.new.store) c.in_ok-how.ensures.is c.in-Some.out c.execute.new.store refl c.in-Some.ensures
+    for_out (test_of (spot_at c.args.program.now c.args.at.now) (calls_at c.args.program.now c.args.at.now) (option_map tree_of c.args.test.now)) (does (spot_at c.args.program.now c.args.at.now) (calls_at c.args.program.now c.args.at.now) c.args.at.now.turns (code_of c.args.body.now)) (does (spot_at c.args.program.now c.args.at.now) (calls_at c.args.program.now c.args.at.now) c.args.at.now.turns (step_of c.args.step.now)) c.args.at.now.turns c.loop-left.left (store_of c.args.store.now) (store_of c.loop-left.store) h c.loop-left.invariant c.in_ok-holds.field-0 (store_of c.holds.new.store) c.in_ok-holds.ensures.is c.if-branch-eq0.false c.in_ok-how.how (store_of c.execute.new.store) c.in_ok-how.ensures.is c.in-Some.out c.execute.new.store refl c.in-Some.ensures
 
 pub repeat_for-returns-in_err-advance : goal.repeat_for-returns-in_err-advance
 repeat_for-returns-in_err-advance t c =
     let h : 0 < c.loop-left.left = omega arith in
-    for_step_stop (test_of (spot_at c.args.program.now c.args.at) (calls_at c.args.program.now c.args.at) (option_map tree_of c.args.test.now)) (does (spot_at c.args.program.now c.args.at) (calls_at c.args.program.now c.args.at) c.args.at.turns (code_of c.args.body.now)) (does (spot_at c.args.program.now c.args.at) (calls_at c.args.program.now c.args.at) c.args.at.turns (step_of c.args.step.now)) c.args.at.turns c.loop-left.left (store_of c.args.store.now) (store_of c.loop-left.store) h c.loop-left.invariant c.in_ok-holds.field-0 (store_of c.holds.new.store) c.in_ok-holds.ensures.is c.if-branch-eq0.false c.in_ok-how.how (store_of c.execute.new.store) c.in_ok-how.ensures.is _ _ _ c.in_err-advance.field-0.0 _ c.in_default.ensures c.from_residual-in_err-advance.ensures.1 c.in_err-advance.ensures
+    for_step_stop (test_of (spot_at c.args.program.now c.args.at.now) (calls_at c.args.program.now c.args.at.now) (option_map tree_of c.args.test.now)) (does (spot_at c.args.program.now c.args.at.now) (calls_at c.args.program.now c.args.at.now) c.args.at.now.turns (code_of c.args.body.now)) (does (spot_at c.args.program.now c.args.at.now) (calls_at c.args.program.now c.args.at.now) c.args.at.now.turns (step_of c.args.step.now)) c.args.at.now.turns c.loop-left.left (store_of c.args.store.now) (store_of c.loop-left.store) h c.loop-left.invariant c.in_ok-holds.field-0 (store_of c.holds.new.store) c.in_ok-holds.ensures.is c.if-branch-eq0.false c.in_ok-how.how (store_of c.execute.new.store) c.in_ok-how.ensures.is _ _ _ c.in_err-advance.field-0.0 _ c.in_default.ensures c.from_residual-in_err-advance.ensures.1 c.in_err-advance.ensures
 
 pub repeat_for-loop-left-preserved : goal.repeat_for-loop-left-preserved
 repeat_for-loop-left-preserved t c =
     let h : 0 < c.loop-left.left = omega arith in
-    for_more (test_of (spot_at c.args.program.now c.args.at) (calls_at c.args.program.now c.args.at) (option_map tree_of c.args.test.now)) (does (spot_at c.args.program.now c.args.at) (calls_at c.args.program.now c.args.at) c.args.at.turns (code_of c.args.body.now)) (does (spot_at c.args.program.now c.args.at) (calls_at c.args.program.now c.args.at) c.args.at.turns (step_of c.args.step.now)) c.args.at.turns c.loop-left.left (store_of c.args.store.now) (store_of c.loop-left.store) h c.loop-left.invariant c.in_ok-holds.field-0 (store_of c.holds.new.store) c.in_ok-holds.ensures.is c.if-branch-eq0.false c.in_ok-how.how (store_of c.execute.new.store) c.in_ok-how.ensures.is c.in_default.ensures (store_of c.advance.new.store) c.in_ok-advance.ensures.is
+    for_more (test_of (spot_at c.args.program.now c.args.at.now) (calls_at c.args.program.now c.args.at.now) (option_map tree_of c.args.test.now)) (does (spot_at c.args.program.now c.args.at.now) (calls_at c.args.program.now c.args.at.now) c.args.at.now.turns (code_of c.args.body.now)) (does (spot_at c.args.program.now c.args.at.now) (calls_at c.args.program.now c.args.at.now) c.args.at.now.turns (step_of c.args.step.now)) c.args.at.now.turns c.loop-left.left (store_of c.args.store.now) (store_of c.loop-left.store) h c.loop-left.invariant c.in_ok-holds.field-0 (store_of c.holds.new.store) c.in_ok-holds.ensures.is c.if-branch-eq0.false c.in_ok-how.how (store_of c.execute.new.store) c.in_ok-how.ensures.is c.in_default.ensures (store_of c.advance.new.store) c.in_ok-advance.ensures.is
 
 pub repeat_while-loop-left-preserved : goal.repeat_while-loop-left-preserved
 repeat_while-loop-left-preserved t c =
     let h : 0 < c.loop-left.left = omega arith in
-    while_more (value (spot_at c.args.program.now c.args.at) (calls_at c.args.program.now c.args.at) (tree_of c.args.test.now)) (does (spot_at c.args.program.now c.args.at) (calls_at c.args.program.now c.args.at) c.args.at.turns (code_of c.args.body.now)) c.args.at.turns c.loop-left.left (store_of c.args.store.now) (store_of c.loop-left.store) h c.loop-left.invariant c.in_ok-evaluate.field-0 (store_of c.evaluate.new.store) c.in_ok-evaluate.ensures.is c.if-branch-eq0.false c.in_ok-how.how (store_of c.execute.new.store) c.in_ok-how.ensures.is c.in_default.ensures
+    while_more (value (spot_at c.args.program.now c.args.at.now) (calls_at c.args.program.now c.args.at.now) (tree_of c.args.test.now)) (does (spot_at c.args.program.now c.args.at.now) (calls_at c.args.program.now c.args.at.now) c.args.at.now.turns (code_of c.args.body.now)) c.args.at.now.turns c.loop-left.left (store_of c.args.store.now) (store_of c.loop-left.store) h c.loop-left.invariant c.in_ok-evaluate.field-0 (store_of c.evaluate.new.store) c.in_ok-evaluate.ensures.is c.if-branch-eq0.false c.in_ok-how.how (store_of c.execute.new.store) c.in_ok-how.ensures.is c.in_default.ensures

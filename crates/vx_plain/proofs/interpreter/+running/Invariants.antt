@@ -1,8 +1,8 @@
 -- The room is the measure of the recursion, the turns left that of a loop. What a loop has done and what is still to do
 -- are the whole.
-use Rattle.std.proofs.Common.{◌≡◌, ◌++◌, drop}
+use Rattle.std.proofs.Common.{◌≡◌, ◌++◌, drop, map}
 use Rattle.std.specs.Option.{option_map}
-use Rattle.vx_ast.specs.Meaning.{With, value, and_then, does, turns, turns_first, test_of, after_body}
+use Rattle.vx_ast.specs.Meaning.{NumberArgument, With, value, and_then, does, turns, turns_first, test_of, after_body}
 use Rattle.vx_plain.specs.Interpreting.{calls_at, spot_at}
 use Rattle.vx_plain.specs.Kept.{store_of}
 use Rattle.vx_ast.specs.View.{tree_of, row_in, items_of, all_in, code_of, step_of}
@@ -57,7 +57,7 @@ decreases-advance l = l.room
 abbrev pub invariant-evaluate_row-loop-e : goal.invariant-evaluate_row-loop-e
 invariant-evaluate_row-loop-e l =
     value (spot_at l.program l.at) (calls_at l.program l.at) (row_in l.row) (store_of l.initial.store)
-    ≡ and_then (value (spot_at l.program l.at) (calls_at l.program l.at) (row_in (drop l.e-index l.row)) (store_of l.store)) (λ xs t. With (l.numbers.items ++ xs) t)
+    ≡ and_then (value (spot_at l.program l.at) (calls_at l.program l.at) (row_in (drop l.e-index l.row)) (store_of l.store)) (λ xs t. With (map NumberArgument l.numbers.items ++ xs) t)
 
 abbrev pub invariant-declare-loop-item : goal.invariant-declare-loop-item
 invariant-declare-loop-item l =
