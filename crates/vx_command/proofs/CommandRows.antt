@@ -4,7 +4,7 @@ use Rattle.clap.proofs.OnLiterals.{clap_on_literals}
 use Rattle.vx_command.specs.Command.{Compile, Rewriting, compile_app, compile_of, exec_app, exec_of, command_of}
 
 abbrev turns : Option ℕ → Rewriting
-turns unroll = record { unroll = unroll }
+turns unroll = record { unroll = unroll; inline = None; select = None }
 
 plain : command_of (codes "vexc" ∷ codes "compile" ∷ codes "a.c" ∷ codes "b" ∷ []) ≡ Some (Compile (record { source = codes "a.c"; out = codes "b"; profile = None; machine = None; growth = 4000; rewriting = turns None; report = None }))
 unfolding clap_on_literals compile_app compile_of

@@ -4,7 +4,7 @@ use Rattle.clap.proofs.OnLiterals.{clap_on_literals}
 use Rattle.vx_command.specs.Command.{Execute, Rewriting, exec_app, exec_of, command_of}
 
 abbrev turns : Option ℕ → Rewriting
-turns unroll = record { unroll = unroll }
+turns unroll = record { unroll = unroll; inline = None; select = None }
 
 plain : command_of (codes "vexc" ∷ codes "exec" ∷ codes "a.c" ∷ []) ≡
     Some (Execute (record { source = codes "a.c"; growth = 4000; rewriting = turns None; profile = None; machine = None; input = None; budget = 1000000000; timing = codes "late"; probe = None }))

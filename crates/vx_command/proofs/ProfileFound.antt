@@ -54,7 +54,7 @@ module _ (f : Found) where
 -- worked words
 
 abbrev turns : Option ℕ → Rewriting
-turns unroll = record { unroll = unroll }
+turns unroll = record { unroll = unroll; inline = None; select = None }
 
 plain : command_of (codes "vexc" ∷ codes "profile" ∷ codes "a.c" ∷ []) ≡ Some (Count (record { source = codes "a.c"; input = None; blocks = 1000000000; rewriting = turns None }))
 unfolding clap_on_literals profile_app profile_of
