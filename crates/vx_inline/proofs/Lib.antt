@@ -22,3 +22,10 @@ pub mod Frees
 pub mod Finds
 pub mod Fits
 pub mod Candidates
+pub mod Firsts
+pub mod Tables
+pub mod Placing
+pub mod Splicing
+pub mod Linking
+pub mod Stepping
+pub mod InlinedBlocks

@@ -14,8 +14,9 @@ use Rattle.vx_flow.specs.declared.graph.Graph.{Graph}
 use Rattle.vx_flow.specs.Effects.{IsIn, value_in}
 use Rattle.vx_flow.specs.Live.{IsLive, here, beyond, ReadsFirst}
 use Rattle.vx_flow.specs.Sound.{HasOperation, HasExit, Has, targets_of}
-use Rattle.vx_inline.specs.Inlined.{CallAt, CallsTo, Reaches, calls, through, OnCycle, IsFree, AreFree, Ascends, named, move}
-use Rattle.vx_inline.specs.Rows.{row_of_values, first_block, last_block, twice, before, the_site, RowIsInlined, RowIsNotPermitted, EdgesGetBlocks}
+use Rattle.vx_inline.specs.declared.site.Site.{Site}
+use Rattle.vx_inline.specs.Inlined.{IsPermitted, CallAt, CallsTo, Reaches, calls, through, OnCycle, IsFree, AreFree, Ascends, named, move}
+use Rattle.vx_inline.specs.Rows.{row_of_values, first_block, last_block, twice, before, the_site, RowIsInlined, RowIsNotPermitted, RowIsChosen, RowHasNone, EdgesGetBlocks}
 
 -- what holds of what is read first, and is handed on along edges, holds of what is live
 pub live_so : (g : Graph) (P : ℕ → ℕ → Type 0) → ((b v : ℕ) (block : Block) → slice_get g.blocks b ≡ Some block → ReadsFirst block.ops block.exit v → P b v) →
@@ -148,21 +149,53 @@ short_callee zero block x e r =
     subst (λ (z : Block). length z.ops + 1 ≤ 512) q (let l : 2 ≤ 512 = omega arith in l)
 short_callee (suc b) block x e r = absurd (cc)
 
+the_permitted : IsPermitted (before 4) the_site (the_call 4) the_free
+the_permitted = record {
+  alone = on_none 4 0;
+  apart = λ f o r. on_none 4 f o;
+  calls_none = twice_calls_none;
+  globals_alone = λ a e. absurd (false≢true e);
+  are_free = frees;
+  enough = enough_free;
+  caller_short = (let l : 2 ≤ 512 = omega arith in l);
+  callee_short = short_callee;
+}
+
 pub row_is_inlined : RowIsInlined
-row_is_inlined = record {
-  call = the_call 4;
-  free = the_free;
-  permitted = record {
-    alone = on_none 4 0;
-    apart = λ f o r. on_none 4 f o;
-    calls_none = twice_calls_none;
-    globals_alone = λ a e. absurd (false≢true e);
-    are_free = frees;
-    enough = enough_free;
-    caller_short = (let l : 2 ≤ 512 = omega arith in l);
-    callee_short = short_callee;
-  };
-  is = refl;
+row_is_inlined = record { call = the_call 4; free = the_free; permitted = the_permitted; is = refl }
+
+-- no other block calls
+one_calls : (n : ℕ) (site : Site) → CallAt (before n) site → site ≡ the_site
+one_calls n site c = by site.function site.block refl refl c.is_caller c.is_block
+  where
+    returns : (x : Operand) (block : Block) → block.exit ≡ Return x → block ≡ c.parts.block → ⊥
+    returns x block e q = let k : Return x ≡ Call c.parts.called c.parts.arguments c.parts.result c.parts.next = sym e ∙ ap (λ (z : Block). z.exit) q ∙ c.ends in cc
+
+    by : (f b : ℕ) → site.function ≡ f → site.block ≡ b → slice_get (before n).functions f ≡ Some c.parts.caller → slice_get c.parts.caller.blocks b ≡ Some c.parts.block → site ≡ the_site
+    by zero zero e h i j = λ k. record { function = e k; block = h k }
+    by zero (suc b) e h i j =
+        let same : row_of_values n (first_block ∷ last_block ∷ []) ≡ c.parts.caller = cc in
+        absurd (second b (subst (λ (g : Graph). slice_get g.blocks (suc b) ≡ Some c.parts.block) (sym same) j))
+      where
+        second : (b : ℕ) → slice_get (first_block ∷ last_block ∷ []) (suc b) ≡ Some c.parts.block → ⊥
+        second zero j = returns (Number (pos 0)) last_block refl (let q : last_block ≡ c.parts.block = cc in q)
+        second (suc b) j = cc
+    by (suc zero) b e h i j =
+        let same : twice ≡ c.parts.caller = cc in
+        absurd (only b (subst (λ (g : Graph). slice_get g.blocks b ≡ Some c.parts.block) (sym same) j))
+      where
+        doubling : Block
+        doubling = record { ops = Compute Code.Add 1 (Held 0) (Held 0) ∷ []; exit = Return (Held 1) }
+
+        only : (b : ℕ) → slice_get twice.blocks b ≡ Some c.parts.block → ⊥
+        only zero j = returns (Held 1) doubling refl (let q : doubling ≡ c.parts.block = cc in q)
+        only (suc b) j = cc
+    by (suc (suc f)) b e h i j = absurd (cc)
+
+pub row_is_chosen : RowIsChosen
+row_is_chosen counts most l = record {
+  candidate = record { call = the_call 4; free = the_free; permitted = the_permitted; few = l };
+  first = λ other k. inl (one_calls 4 other k.call);
 }
 
 -- ---- with three values
@@ -202,6 +235,12 @@ row_is_not_permitted c free permitted =
     let one : length (free General) ≤ 1 = at_most_one (free General) (permitted.are_free General).ascends all_two in
     let two : 2 ≤ length (free General) = subst (λ g. length (named g General) ≤ length (free General)) (sym callee_is) (permitted.enough General) in
     omega (arith, one, two)
+
+pub row_has_none : RowHasNone
+row_has_none counts most site k = by site (one_calls 3 site k.call) k.call k.free k.permitted
+  where
+    by : (site : Site) → site ≡ the_site → (c : CallAt (before 3) site) (free : Bank → List ℕ) → IsPermitted (before 3) site c free → ⊥
+    by site e = subst (λ s. (c : CallAt (before 3) s) (free : Bank → List ℕ) → IsPermitted (before 3) s c free → ⊥) (sym e) row_is_not_permitted
 
 pub edges_get_blocks : EdgesGetBlocks
 edges_get_blocks = refl

@@ -33,3 +33,7 @@ InlinedStays = (p : Program) (flow new : Flow) (site : Site) → is_accepted p �
 -- one flow comes of inlining the call of a site
 abbrev pub InlinedIsOne : Type 0
 InlinedIsOne = (flow one other : Flow) (site : Site) → Inlined flow site one → Inlined flow site other → other ≡ one
+
+-- a sound flow with a permitted call inlined is sound
+abbrev pub InlinedSound : Type 0
+InlinedSound = (flow new : Flow) (site : Site) → SoundFlow flow → Inlined flow site new → SoundFlow new

@@ -10,3 +10,8 @@ pub mod Fitting
 pub mod Values
 pub mod Permitting
 pub mod Choosing
+pub mod Taking
+pub mod Placing
+pub mod Splicing
+pub mod Linking
+pub mod Inlining

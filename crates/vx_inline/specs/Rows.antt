@@ -1,5 +1,5 @@
 -- A worked call: the flow of two functions, and what it is with the call inlined.
-use Rattle.std.specs.Prelude.{◌≡◌, ℕ, pos, Some, List, [], ◌∷◌, replicate}
+use Rattle.std.specs.Prelude.{◌≡◌, ◌≤◌, ℕ, pos, Some, None, List, [], ◌∷◌, replicate}
 use Rattle.vx_base.specs.declared.arithmetic.Code.TheVariants.{Add, ToBranch}
 use Rattle.vx_base.specs.declared.arithmetic.Compare.TheVariants.{Eq}
 use Rattle.vx_base.specs.declared.outcome.Trap.TheVariants.{Divide, Index}
@@ -13,6 +13,8 @@ use Rattle.vx_flow.specs.declared.graph.Block.{Block}
 use Rattle.vx_flow.specs.declared.graph.Graph.{Graph}
 use Rattle.vx_flow.specs.declared.graph.Flow.{Flow}
 use Rattle.vx_inline.specs.declared.site.Site.{Site}
+use Rattle.vx_profile.specs.declared.counts.Counts.{Counts}
+use Rattle.vx_inline.specs.Choosing.{Chosen}
 use Rattle.vx_inline.specs.Inlined.{TheCall, CallAt, IsPermitted, Inlined, inlined, move}
 
 abbrev pub row_of_values : (values : ℕ) → List Block → Graph
@@ -52,6 +54,14 @@ RowIsInlined = Inlined (before 4) the_site after
 -- with three it may not
 abbrev pub RowIsNotPermitted : Type 0
 RowIsNotPermitted = (c : CallAt (before 3) the_site) (free : Bank → List ℕ) → IsPermitted (before 3) the_site c free → ⊥
+
+-- with four values the call is chosen, where its callee's one operation is not too many
+abbrev pub RowIsChosen : Type 0
+RowIsChosen = (counts : Counts) (most : ℕ) → 1 ≤ most → Chosen (before 4) counts most (Some the_site)
+
+-- with three nothing is
+abbrev pub RowHasNone : Type 0
+RowHasNone = (counts : Counts) (most : ℕ) → Chosen (before 3) counts most None
 
 -- trap blocks of both become one for each kind, and two splits that now lead to one of them get blocks for their edges
 

@@ -5,21 +5,31 @@
 
 pub mod by_bank;
 mod called;
+pub mod choice;
+mod edge_blocks;
 mod fitting;
 pub mod found_call;
 mod free_values;
+mod inlined_flow;
+mod inlining;
 mod marks;
 mod names;
 mod permission;
+pub mod places;
 pub mod site;
+pub mod splice;
+mod takes;
 
 ghost use Rattle.vx_inline.specs.Counts.{NumbersStay, OneCallLess};
 ghost use Rattle.vx_inline.specs.Joined.{JoinedRuns};
-ghost use Rattle.vx_inline.specs.Laws.{InlinedIsOne, InlinedRuns, InlinedRunsAs, InlinedStays};
+ghost use Rattle.vx_inline.specs.Laws.{InlinedIsOne, InlinedRuns, InlinedRunsAs, InlinedSound, InlinedStays};
 ghost use Rattle.vx_inline.specs.Reaching.{NamesStay, ReachedWhereLive};
 ghost use Rattle.vx_inline.specs.Renaming.{EffectIsRenamed};
-ghost use Rattle.vx_inline.specs.Rows.{EdgesGetBlocks, RowIsInlined, RowIsNotPermitted};
+ghost use Rattle.vx_inline.specs.Rows.{EdgesGetBlocks, RowHasNone, RowIsChosen, RowIsInlined, RowIsNotPermitted};
 
+pub use choice::choose;
+pub use inlined_flow::inlined_all;
+pub use inlining::inline_one;
 pub use permission::permitted;
 
 /// An operation with other values in place of its own does the same.
@@ -58,10 +68,28 @@ pub fn row_is_not_permitted()
     ensures { RowIsNotPermitted }
 {}
 
+/// The worked call is chosen, whatever the counts are.
+#[tactic(auto, using(crate::proofs::Rows::row_is_chosen))]
+pub fn row_is_chosen()
+    ensures { RowIsChosen }
+{}
+
+/// With a value less nothing is chosen.
+#[tactic(auto, using(crate::proofs::Rows::row_has_none))]
+pub fn row_has_none()
+    ensures { RowHasNone }
+{}
+
 /// With a permitted call inlined a flow of an accepted program is a flow of the program still.
 #[tactic(auto, using(crate::proofs::Programs::inlined_stays))]
 pub fn inlined_stays()
     ensures { InlinedStays }
+{}
+
+/// With a permitted call inlined a sound flow is sound.
+#[tactic(auto, using(crate::proofs::FlowSound::inlined_sound))]
+pub fn inlined_sound()
+    ensures { InlinedSound }
 {}
 
 /// One flow comes of inlining the call of a site.

@@ -1,0 +1,51 @@
+-- A flow with a call inlined keeps what it is, and its banks.
+use Rattle.std.proofs.Common.{◌≡◌, ◌+◌, ◌<◌, ℕ, true, List, length, map, slice_get, slice_set, Option, Some, None, refl, sym, ap, ◌∙◌, subst, arith}
+use Rattle.vx_ast.specs.Accepted.{is_accepted}
+use Rattle.vx_ast.specs.Tree.{Program}
+use Rattle.vx_flow.specs.declared.graph.Bank.{Bank}
+use Rattle.vx_flow.specs.declared.graph.Flow.{Flow}
+use Rattle.vx_flow.specs.declared.graph.Graph.{Graph}
+use Rattle.vx_flow.specs.Sound.{SoundFlow}
+use Rattle.vx_lower.specs.FlowOf.{FlowOf}
+use Rattle.vx_inline.specs.declared.site.Site.{Site}
+use Rattle.vx_inline.specs.Inlined.{CallAt, IsPermitted, Permitted, Inlined, inlined, inlined_blocks}
+use Rattle.vx_inline.specs.Inlining.{IsInlinedGraph, with_graph, banks_of}
+use Rattle.vx_profile.specs.declared.counts.Counts.{Counts}
+use Rattle.vx_inline.specs.Choosing.{IsChosen}
+use Rattle.vx_inline.specs.Counts.{calls_of}
+use Rattle.vx_inline.proofs.Counts.{one_call_less}
+use Rattle.vx_inline.proofs.Programs.{inlined_stays}
+use Rattle.vx_inline.proofs.Reaching.{names_stay}
+
+-- what stays of a flow
+pub record Kept (flow new : Flow) : Type 0 where
+  pub stays : (p : Program) → is_accepted p ≡ true → FlowOf p flow → FlowOf p new
+  pub sound : SoundFlow new
+  pub banks : banks_of new ≡ banks_of flow
+
+pub kept_first : (flow : Flow) → SoundFlow flow → Kept flow flow
+kept_first flow sound = record { stays = λ p a o. o; sound = sound; banks = refl }
+
+pub kept_next : (flow now new : Flow) (site : Site) → Kept flow now → Inlined now site new → SoundFlow new → Kept flow new
+kept_next flow now new site k i sound = record {
+  stays = λ p a o. inlined_stays p now new site a (k.stays p a o) i;
+  sound = sound;
+  banks = (names_stay now new site i).0 ∙ k.banks;
+}
+
+-- the graph that is made gives the flow with the call inlined
+pub is_inlined : (flow new : Flow) (site : Site) (graph : Graph) → Permitted flow site → IsInlinedGraph flow site graph → new ≡ with_graph flow site.function graph → Inlined flow site new
+is_inlined flow new site graph p h e = record {
+  call = p.call;
+  free = p.free;
+  permitted = p.permitted;
+  is = e ∙ ap (with_graph flow site.function) (h p.call p.free p.permitted);
+}
+
+-- each step removes a call
+pub less_calls : (now new : Flow) (site : Site) → Inlined now site new → calls_of new.functions < calls_of now.functions
+less_calls now new site i = let e : calls_of new.functions + 1 ≡ calls_of now.functions = one_call_less now new site i in omega (arith, e)
+
+-- what is chosen is permitted
+pub chosen_permitted : (flow : Flow) (counts : Counts) (most : ℕ) (site : Site) → IsChosen flow counts most site → Permitted flow site
+chosen_permitted flow counts most site k = record { call = k.candidate.call; free = k.candidate.free; permitted = k.candidate.permitted }

@@ -1,0 +1,9 @@
+use Rattle.vx_inline.specs.Counts.{calls_of}
+use Rattle.vx_inline.proofs.Stepping.{Kept}
+use Rattle.vx_inline.proofs.inlined_flow.inlined_all.Given as goal
+
+abbrev pub invariant-sites : goal.invariant-sites
+invariant-sites l = Kept l.fn.flow l.now
+
+abbrev pub decreases-sites : goal.decreases-sites
+decreases-sites l = calls_of l.now.functions

@@ -1,0 +1,195 @@
+// The site whose call is inlined next.
+
+ghost use Rattle.std.specs.Prelude.{◌≡◌, ◌+◌, ◌<◌, ◌↔◌, ℕ, false, IfOk, IsTrue, Some, is_some, length, slice_get};
+ghost use Rattle.std.specs.Option.{option_map};
+ghost use Rattle.vx_flow.specs.Live.{IsLive};
+ghost use Rattle.vx_flow.specs.Rows.{lives};
+ghost use Rattle.vx_flow.specs.Sound.{SoundFlow};
+ghost use Rattle.vx_inline.specs.Choosing.{BestBefore, Chosen, IsWorthIt, NoneIsWorthIt, exceeds, site_of};
+ghost use Rattle.vx_inline.specs.Finding.{seen};
+ghost use Rattle.vx_inline.specs.Inlined.{Reaches};
+ghost use Rattle.vx_inline.specs.Permitting.{StandsApart};
+
+use crate::called::reached;
+use crate::fitting::{fits, has_few};
+use crate::found_call::{FoundCall, find};
+use crate::free_values::has_values;
+use crate::permission::is_apart;
+use crate::site::Site;
+use std::alloc::Global;
+use vx_base::outcome::NoMemory;
+use vx_base::sizes::number_of;
+use vx_flow::graph::{Flow, Graph};
+use vx_flow::live;
+use vx_flow::live_rows::Live;
+use vx_profile::counts::Counts;
+
+/// What is chosen by: the flow, the counts of its blocks, and the most operations of a callee.
+#[derive(Clone, Copy)]
+pub struct Asked<'a> {
+    pub flow: &'a Flow,
+    pub counts: &'a Counts,
+    pub most: u32,
+}
+
+/// Among the permitted sites whose callee has at most so many operations, the one whose block has the greatest count; on ties the
+/// one of the lowest function, and then the lowest block. None where there is no such site.
+#[tactic(auto, using(crate::proofs::Firsts::best_first, crate::proofs::Firsts::chosen_last))]
+pub fn choose(
+    alloc: Global,
+    flow: &Flow,
+    counts: &Counts,
+    most: u32,
+) -> Result<Option<Site>, NoMemory>
+    requires sound { SoundFlow flow.now }
+    ensures chosen { IfOk result (λ site. Chosen flow.now counts.now most site) }
+{
+    let functions = number_of(flow.functions.len())?;
+    let reached = reached(alloc, flow)?;
+    let asked = Asked { flow, counts, most };
+    let mut best = None;
+    for function in 0..functions {
+        best = best_with(alloc, &asked, &reached, function, best)?;
+    }
+    Ok(best)
+}
+
+/// The better of a site and those of one more function.
+#[tactic(auto, using(crate::proofs::Firsts::passed_none))]
+fn best_with(
+    alloc: Global,
+    asked: &Asked,
+    reached: &Live,
+    function: u32,
+    best: Option<Site>,
+) -> Result<Option<Site>, NoMemory>
+    requires reached { (f g : ℕ) → IsTrue (lives reached.now f g) ↔ Reaches asked.now.flow.now f g }
+    requires best { BestBefore asked.now.flow.now asked.now.counts.now asked.now.most function 0 best }
+    ensures { IfOk result (λ new. BestBefore asked.now.flow.now asked.now.counts.now asked.now.most (function + 1) 0 new) }
+{
+    match asked.flow.functions.as_slice().get(function as usize) {
+        Some(caller) => best_in(alloc, asked, reached, function, caller, best),
+        None => Ok(best),
+    }
+}
+
+#[tactic(auto, using(crate::proofs::Firsts::passed_unworthy, crate::proofs::Firsts::passed_entered, crate::proofs::Firsts::best_closed, crate::proofs::Candidates::apart_by))]
+fn best_in(
+    alloc: Global,
+    asked: &Asked,
+    reached: &Live,
+    function: u32,
+    caller: &Graph,
+    best: Option<Site>,
+) -> Result<Option<Site>, NoMemory>
+    requires reached { (f g : ℕ) → IsTrue (lives reached.now f g) ↔ Reaches asked.now.flow.now f g }
+    requires caller { slice_get asked.now.flow.now.functions function ≡ Some caller.now }
+    requires best { BestBefore asked.now.flow.now asked.now.counts.now asked.now.most function 0 best }
+    ensures { IfOk result (λ new. BestBefore asked.now.flow.now asked.now.counts.now asked.now.most (function + 1) 0 new) }
+{
+    let blocks = number_of(caller.blocks.len())?;
+    let functions = number_of(asked.flow.functions.len())?;
+    if !has_worthy(asked, function, blocks, best) {
+        return Ok(best);
+    }
+    if !is_apart(reached, functions, function) {
+        return Ok(best);
+    }
+    let live = live(alloc, caller)?;
+    best_of(alloc, asked, &live, function, caller, blocks, best)
+}
+
+/// Whether some block of a function may come before the best, by what costs little.
+fn has_worthy(asked: &Asked, function: u32, blocks: u32, best: Option<Site>) -> bool
+    ensures { result ≡ false → (b : ℕ) → b < blocks → NoneIsWorthIt asked.now.flow.now asked.now.counts.now asked.now.most best (site_of function b) }
+{
+    for block in 0..blocks {
+        if worth_it(asked, &Site { function, block }, best).is_some() {
+            return true;
+        }
+    }
+    false
+}
+
+/// The call of a site, where it is permitted as far as its values and other functions allow it, its callee has few operations, and
+/// its block has a greater count than the best.
+#[tactic(auto, using(crate::proofs::Candidates::worth_found, crate::proofs::Candidates::worth_less, crate::proofs::Candidates::worth_none, crate::proofs::Candidates::worth_unfit, crate::proofs::Candidates::worth_many))]
+fn worth_it<'a>(asked: &Asked<'a>, site: &Site, best: Option<Site>) -> Option<FoundCall<'a>>
+    ensures { IsWorthIt asked.now.flow.now asked.now.counts.now asked.now.most best site.now (option_map seen result) }
+{
+    if !exceeds(asked, site, best) {
+        return None;
+    }
+    match find(asked.flow, site) {
+        Some(found) => {
+            if fits(&found) && has_few(found.callee.blocks.as_slice(), asked.most) {
+                Some(found)
+            } else {
+                None
+            }
+        }
+        None => None,
+    }
+}
+
+fn exceeds(asked: &Asked, site: &Site, best: Option<Site>) -> bool
+    ensures { result ≡ exceeds asked.now.counts.now best site.now }
+{
+    match best {
+        Some(best) => {
+            let count = asked.counts.of_block(site.function, site.block);
+            asked.counts.of_block(best.function, best.block) < count
+        }
+        None => true,
+    }
+}
+
+/// The best of a site and those of a function that no cycle of calls reaches.
+fn best_of(
+    alloc: Global,
+    asked: &Asked,
+    live: &Live,
+    function: u32,
+    caller: &Graph,
+    blocks: u32,
+    best: Option<Site>,
+) -> Result<Option<Site>, NoMemory>
+    requires live { (b v : ℕ) → IsTrue (lives live.now b v) ↔ IsLive caller.now b v }
+    requires caller { slice_get asked.now.flow.now.functions function ≡ Some caller.now }
+    requires apart { StandsApart asked.now.flow.now function }
+    requires best { BestBefore asked.now.flow.now asked.now.counts.now asked.now.most function 0 best }
+    ensures { IfOk result (λ new. BestBefore asked.now.flow.now asked.now.counts.now asked.now.most function blocks new) }
+{
+    let mut best = best;
+    for block in 0..blocks {
+        best = best_at(alloc, asked, live, caller, Site { function, block }, best)?;
+    }
+    Ok(best)
+}
+
+#[tactic(auto, using(crate::proofs::Firsts::best_stays, crate::proofs::Firsts::best_taken, crate::proofs::Candidates::candidate_with, crate::proofs::Candidates::none_with))]
+fn best_at(
+    alloc: Global,
+    asked: &Asked,
+    live: &Live,
+    caller: &Graph,
+    site: Site,
+    best: Option<Site>,
+) -> Result<Option<Site>, NoMemory>
+    requires live { (b v : ℕ) → IsTrue (lives live.now b v) ↔ IsLive caller.now b v }
+    requires caller { slice_get asked.now.flow.now.functions site.function ≡ Some caller.now }
+    requires apart { StandsApart asked.now.flow.now site.function }
+    requires best { BestBefore asked.now.flow.now asked.now.counts.now asked.now.most site.function site.block best }
+    ensures { IfOk result (λ new. BestBefore asked.now.flow.now asked.now.counts.now asked.now.most site.function (site.block + 1) new) }
+{
+    match worth_it(asked, &site, best) {
+        Some(found) => {
+            if has_values(alloc, live, &found)? {
+                Ok(Some(site))
+            } else {
+                Ok(best)
+            }
+        }
+        None => Ok(best),
+    }
+}

@@ -1,0 +1,267 @@
+// The blocks of the caller and copies of those of the callee, one behind the other, before there are blocks for edges.
+
+ghost use Rattle.std.specs.Prelude.{◌≡◌, ◌++◌, ◌∷◌, [], ◌==◌, if◌then◌else◌, IfOk, map, slice_get};
+ghost use Rattle.std.specs.List.{filter};
+ghost use Rattle.vx_flow.specs.Operands.{with_values};
+ghost use Rattle.vx_inline.specs.Inlined.{is_plain, move, moved, moves_in, moves_out, stayed, stayed_all};
+ghost use Rattle.vx_inline.specs.Placing.{place_in};
+ghost use Rattle.vx_inline.specs.Splicing.{back_exit, back_moves, copied_by, enter_of, move_at, spliced_by, trap_block};
+ghost use Rattle.vx_inline.specs.Taking.{value_at};
+
+use crate::found_call::FoundCall;
+use crate::places::{Places, is_plain, place_of};
+use crate::takes::{renamed, renamed_operand, value_at};
+use std::alloc::Global;
+use vx_base::arithmetic::Code;
+use vx_base::listed::{Listed, copied};
+use vx_base::outcome::{NoMemory, Trap};
+use vx_flow::copies::copied_exit;
+use vx_flow::graph::{Block, BlockId, Exit, Op, Operand, Value};
+
+/// What blocks are spliced by: the call and its block, where blocks of the caller and of the callee stand, the kinds of trap
+/// blocks, and what each value of the callee takes.
+#[derive(Clone, Copy)]
+pub struct Splice<'a> {
+    pub call: &'a FoundCall<'a>,
+    pub site: BlockId,
+    pub at: &'a Places,
+    pub copy: &'a Places,
+    pub kinds: &'a [Trap],
+    pub to: &'a [Value],
+}
+
+/// The blocks of the caller, the copies of those of the callee, and a trap block for each kind.
+pub(crate) fn spliced(alloc: Global, splice: &Splice) -> Result<Listed<Block>, NoMemory>
+    ensures { IfOk result (λ blocks. blocks ≡ spliced_by splice.now) }
+{
+    let mut blocks = Listed::new(alloc);
+    push_stayed(alloc, &mut blocks, splice)?;
+    push_copied(alloc, &mut blocks, splice)?;
+    push_traps(alloc, &mut blocks, splice.kinds)?;
+    Ok(blocks)
+}
+
+/// Adds a block that is no trap block.
+fn push_plain(blocks: &mut Listed<Block>, block: Block) -> Result<(), NoMemory>
+    ensures { IfOk result (λ _. blocks.new ≡ blocks.old ++ filter is_plain (block ∷ [])) }
+{
+    if is_plain(&block) {
+        blocks.push(block)?;
+    }
+    Ok(())
+}
+
+#[tactic(auto, using(crate::proofs::Splicing::stayed_next))]
+fn push_stayed(alloc: Global, blocks: &mut Listed<Block>, splice: &Splice) -> Result<(), NoMemory>
+    ensures { IfOk result (λ _. blocks.new ≡ blocks.old ++ filter is_plain (stayed_all (place_in splice.now.at.now) (enter_of splice.now) splice.now.site 0 splice.now.call.now.caller.now.blocks)) }
+{
+    for (place, block) in splice.call.caller.blocks.as_slice().iter().enumerate() {
+        push_plain(blocks, stayed_or_entering(alloc, splice, place, block)?)?;
+    }
+    Ok(())
+}
+
+fn stayed_or_entering(
+    alloc: Global,
+    splice: &Splice,
+    place: usize,
+    block: &Block,
+) -> Result<Block, NoMemory>
+    ensures { IfOk result (λ new. new ≡ (if place == splice.now.site then enter_of splice.now else stayed (place_in splice.now.at.now) block.now)) }
+{
+    if place == splice.site as usize {
+        entering(alloc, splice)
+    } else {
+        stayed(alloc, splice.at, block)
+    }
+}
+
+/// A block of the caller.
+fn stayed(alloc: Global, at: &Places, block: &Block) -> Result<Block, NoMemory>
+    ensures { IfOk result (λ new. new ≡ stayed (place_in at.now) block.now) }
+{
+    let exit = copied_exit(alloc, &block.exit)?;
+    let ops = copied(alloc, block.ops.as_slice())?;
+    Ok(Block {
+        ops,
+        exit: moved(at, exit),
+    })
+}
+
+/// An exit with each target moved.
+fn moved(at: &Places, exit: Exit) -> Exit
+    ensures { result ≡ moved (place_in at.now) exit }
+{
+    match exit {
+        Exit::Goto(next) => Exit::Goto(place_of(at, next)),
+        Exit::Split { test, yes, no } => Exit::Split {
+            test,
+            yes: place_of(at, yes),
+            no: place_of(at, no),
+        },
+        Exit::Call {
+            function,
+            arguments,
+            result,
+            next,
+        } => Exit::Call {
+            function,
+            arguments,
+            result,
+            next: place_of(at, next),
+        },
+        Exit::Return(operand) => Exit::Return(operand),
+        Exit::Ends(trap) => Exit::Ends(trap),
+    }
+}
+
+/// The block that called: a move for each argument, and on to the copy of the callee's entry.
+fn entering(alloc: Global, splice: &Splice) -> Result<Block, NoMemory>
+    ensures { IfOk result (λ block. block ≡ enter_of splice.now) }
+{
+    let call = splice.call;
+    let mut ops = copied(alloc, call.block.ops.as_slice())?;
+    let parameters = call.callee.parameters.as_slice();
+    push_moves(&mut ops, splice.to, parameters, call.arguments.as_slice())?;
+    Ok(Block {
+        ops,
+        exit: Exit::Goto(place_of(splice.copy, 0)),
+    })
+}
+
+/// Adds a move of each argument to what its parameter takes.
+fn push_moves(
+    ops: &mut Listed<Op>,
+    to: &[Value],
+    parameters: &[Value],
+    arguments: &[Operand],
+) -> Result<(), NoMemory>
+    ensures { IfOk result (λ _. ops.new ≡ ops.old ++ moves_in (value_at to.now) parameters.now arguments.now) }
+{
+    for (place, parameter) in parameters.iter().enumerate() {
+        push_move_at(ops, value_at(to, *parameter), arguments, place)?;
+    }
+    Ok(())
+}
+
+fn push_move_at(
+    ops: &mut Listed<Op>,
+    to: Value,
+    arguments: &[Operand],
+    place: usize,
+) -> Result<(), NoMemory>
+    ensures { IfOk result (λ _. ops.new ≡ ops.old ++ move_at to (slice_get arguments.now place)) }
+{
+    match arguments.get(place) {
+        Some(argument) => Ok(ops.push(move_of(to, *argument))?),
+        None => Ok(()),
+    }
+}
+
+fn move_of(to: Value, from: Operand) -> Op
+    ensures { result ≡ move to from }
+{
+    Op::Compute {
+        code: Code::Mov,
+        to,
+        left: from,
+        right: Operand::Number(0),
+    }
+}
+
+#[tactic(auto, using(crate::proofs::Splicing::copied_next))]
+fn push_copied(alloc: Global, blocks: &mut Listed<Block>, splice: &Splice) -> Result<(), NoMemory>
+    ensures { IfOk result (λ _. blocks.new ≡ blocks.old ++ filter is_plain (map (copied_by splice.now) splice.now.call.now.callee.now.blocks)) }
+{
+    for block in splice.call.callee.blocks.as_slice() {
+        push_plain(blocks, copied_block(alloc, splice, block)?)?;
+    }
+    Ok(())
+}
+
+/// A copy of a block of the callee; one that returns moves the result and goes on behind the call.
+#[tactic(auto, using(crate::proofs::Splicing::copied_in_parts))]
+fn copied_block(alloc: Global, splice: &Splice, block: &Block) -> Result<Block, NoMemory>
+    ensures { IfOk result (λ new. new ≡ copied_by splice.now block.now) }
+{
+    let exit = copied_exit(alloc, &block.exit)?;
+    let mut ops = renamed_all(alloc, splice.to, block.ops.as_slice())?;
+    push_back(&mut ops, splice.to, splice.call.result, &block.exit)?;
+    Ok(Block {
+        ops,
+        exit: back_exit(splice, exit),
+    })
+}
+
+fn renamed_all(alloc: Global, to: &[Value], ops: &[Op]) -> Result<Listed<Op>, NoMemory>
+    ensures { IfOk result (λ new. new ≡ map (with_values (value_at to.now)) ops.now) }
+{
+    let mut new = Listed::new(alloc);
+    for op in ops {
+        new.push(renamed(to, op))?;
+    }
+    Ok(new)
+}
+
+/// Adds the move of a result to what takes it.
+fn push_back(
+    ops: &mut Listed<Op>,
+    to: &[Value],
+    taker: Option<Value>,
+    exit: &Exit,
+) -> Result<(), NoMemory>
+    ensures { IfOk result (λ _. ops.new ≡ ops.old ++ back_moves (value_at to.now) taker exit.now) }
+{
+    match exit {
+        Exit::Return(operand) => push_taken(ops, taker, renamed_operand(to, operand)),
+        Exit::Goto(_) | Exit::Split { .. } | Exit::Call { .. } | Exit::Ends(_) => Ok(()),
+    }
+}
+
+fn push_taken(ops: &mut Listed<Op>, taker: Option<Value>, from: Operand) -> Result<(), NoMemory>
+    ensures { IfOk result (λ _. ops.new ≡ ops.old ++ moves_out taker from) }
+{
+    match taker {
+        Some(taker) => Ok(ops.push(move_of(taker, from))?),
+        None => Ok(()),
+    }
+}
+
+/// The exit of a copy.
+fn back_exit(splice: &Splice, exit: Exit) -> Exit
+    ensures { result ≡ back_exit (place_in splice.now.copy.now) (value_at splice.now.to.now) (place_in splice.now.at.now splice.now.call.now.next) exit }
+{
+    match exit {
+        Exit::Goto(next) => Exit::Goto(place_of(splice.copy, next)),
+        Exit::Split { test, yes, no } => Exit::Split {
+            test: value_at(splice.to, test),
+            yes: place_of(splice.copy, yes),
+            no: place_of(splice.copy, no),
+        },
+        Exit::Call {
+            function,
+            arguments,
+            result,
+            next,
+        } => Exit::Call {
+            function,
+            arguments,
+            result,
+            next: place_of(splice.copy, next),
+        },
+        Exit::Return(_) => Exit::Goto(place_of(splice.at, splice.call.next)),
+        Exit::Ends(trap) => Exit::Ends(trap),
+    }
+}
+
+fn push_traps(alloc: Global, blocks: &mut Listed<Block>, kinds: &[Trap]) -> Result<(), NoMemory>
+    ensures { IfOk result (λ _. blocks.new ≡ blocks.old ++ map trap_block kinds.now) }
+{
+    for kind in kinds {
+        blocks.push(Block {
+            ops: Listed::new(alloc),
+            exit: Exit::Ends(*kind),
+        })?;
+    }
+    Ok(())
+}
