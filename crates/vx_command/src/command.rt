@@ -160,7 +160,9 @@ pub fn compile_asked<'a>(alloc: Global, words: &'a [&'a str]) -> Result<CompileW
         alloc,
         "compile",
         "Compiles a source, and replaces a file by its words",
-        &[SOURCE, OUT, PROFILE, MACHINE, GROWTH, UNROLL, SELECT, INLINE, REPORT],
+        &[
+            SOURCE, OUT, PROFILE, MACHINE, GROWTH, UNROLL, SELECT, INLINE, REPORT,
+        ],
         words,
     ) {
         Ok(found) => {
