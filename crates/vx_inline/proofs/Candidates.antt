@@ -1,19 +1,17 @@
 -- Which sites are permitted, and which are candidates, by what is found and tested.
-use Rattle.std.proofs.Common.{◌≡◌, ◌↔◌, ℕ, ◌+◌, Bool, true, false, ◌&&◌, ◌<◌, ◌≤◌, nat_lt, ltb-true, ltb-false, List, length, slice_get, Option, Some, None, refl, sym, ap, ◌∙◌, subst, arith, IsTrue}
+use Rattle.std.proofs.Common.{◌≡◌, ◌↔◌, ℕ, ◌+◌, Bool, true, false, ◌<◌, ◌≤◌, nat_lt, ltb-true, ltb-false, List, length, slice_get, Option, Some, None, refl, sym, ap, ◌∙◌, subst, arith, IsTrue}
 use Rattle.std.proofs.lemmas.Bool.{false≢true}
 use Rattle.std.proofs.lemmas.Option.{slice_get_within}
-use Rattle.vx_flow.specs.declared.graph.Bank.{Bank}
-use Rattle.vx_flow.specs.declared.graph.Block.{Block}
 use Rattle.vx_flow.specs.declared.graph.Graph.{Graph}
 use Rattle.vx_flow.specs.declared.graph.Flow.{Flow}
 use Rattle.vx_flow.specs.Live.{IsLive}
 use Rattle.vx_flow.specs.Rows.{lives}
 use Rattle.vx_profile.specs.declared.counts.Counts.{Counts}
 use Rattle.vx_inline.specs.declared.site.Site.{Site}
-use Rattle.vx_inline.specs.Choosing.{IsCandidate, exceeds, NoneIsWorthIt, MayBeBetter, operations}
+use Rattle.vx_inline.specs.Choosing.{IsCandidate, exceeds, NoneIsWorthIt, MayBeBetter}
 use Rattle.vx_inline.specs.Finding.{call_in}
 use Rattle.vx_inline.specs.Fitting.{fits, has_few}
-use Rattle.vx_inline.specs.Inlined.{TheCall, CallAt, CallsTo, Reaches, calls, through, OnCycle, IsPermitted, Permitted}
+use Rattle.vx_inline.specs.Inlined.{TheCall, CallAt, Reaches, calls, through, Permitted}
 use Rattle.vx_inline.specs.Permitting.{StandsApart, Entered, HasEnough, MayInline}
 use Rattle.vx_inline.specs.Values.{has_values}
 use Rattle.vx_inline.proofs.Finds.{call_there, call_found, CallFound}

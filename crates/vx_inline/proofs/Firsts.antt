@@ -1,6 +1,5 @@
 -- The first of the candidates, one block and one function more at a time.
 use Rattle.std.proofs.Common.{◌≡◌, ◌⊎◌, ◌↔◌, inl, inr, ℕ, zero, suc, ◌+◌, ◌<◌, ◌≤◌, nat_lt, Bool, true, false, List, length, slice_get, Option, Some, None, refl, sym, ap, ◌∙◌, subst, arith, ltb-true, ltb-false, IsTrue}
-use Rattle.std.proofs.lemmas.Bool.{false≢true}
 use Rattle.std.proofs.lemmas.Option.{slice_get_within}
 use Rattle.vx_flow.specs.declared.graph.Graph.{Graph}
 use Rattle.vx_flow.specs.declared.graph.Flow.{Flow}
@@ -10,7 +9,7 @@ use Rattle.vx_inline.specs.Inlined.{Reaches}
 use Rattle.vx_inline.specs.Permitting.{StandsApart, Entered}
 use Rattle.vx_inline.proofs.Candidates.{not_apart, apart_candidate}
 use Rattle.vx_inline.specs.declared.site.Site.{Site}
-use Rattle.vx_inline.specs.Choosing.{IsCandidate, count_of, Below, ComesBefore, IsChosen, Chosen, site_of, IsFirst, BestBefore, exceeds, NoneIsWorthIt}
+use Rattle.vx_inline.specs.Choosing.{IsCandidate, count_of, Below, ComesBefore, Chosen, site_of, BestBefore, exceeds, NoneIsWorthIt}
 
 module _ (flow : Flow) (counts : Counts) (most : ℕ) where
   site_same : (f b : ℕ) (site : Site) → site.function ≡ f → site.block ≡ b → site ≡ site_of f b

@@ -1,15 +1,17 @@
 -- What is asked of a call by itself, in words.
-use Rattle.std.proofs.Common.{◌≡◌, ◌⊎◌, inl, inr, ℕ, zero, suc, ◌+◌, ◌-◌, ◌<◌, ◌≤◌, Bool, true, false, cond, not, nat_le, nat_lt, ◌&&◌, List, [], ◌∷◌, length, slice_get, Option, Some, None, refl, sym, ap, ◌∙◌, subst, arith, leb-true, le-leb, ltb-true, ltb-false, lt-ltb}
+use Rattle.std.proofs.Common.{◌≡◌, ℕ, ◌+◌, ◌-◌, ◌<◌, ◌≤◌, Bool, true, false, cond, not, nat_lt, ◌&&◌, List, [], ◌∷◌, ◌++◌, length, slice_get, Option, Some, None, refl, sym, ap, ◌∙◌, arith, leb-true, le-leb, ltb-true, ltb-false}
 use Rattle.std.proofs.lemmas.Bool.{false≢true, and_parts}
 use Rattle.std.specs.Cmp.Derive.{both_true}
+use Rattle.std.specs.List.{flat_map}
 use Rattle.vx_flow.specs.declared.graph.Array.{Array}
 use Rattle.vx_flow.specs.declared.graph.Bank.{Bank}
 use Rattle.vx_flow.specs.declared.graph.Operand.{Operand}
+use Rattle.vx_flow.specs.declared.graph.Op.{Op}
+use Rattle.vx_flow.specs.declared.graph.Op.TheVariants.{Compute, Select, Place, Load, Store, More, Input, Text, Decimal, Across}
 use Rattle.vx_flow.specs.declared.graph.Exit.{Exit}
 use Rattle.vx_flow.specs.declared.graph.Exit.TheVariants.{Goto, Split, Call, Return, Ends}
 use Rattle.vx_flow.specs.declared.graph.Block.{Block}
 use Rattle.vx_flow.specs.declared.graph.Flow.{Flow}
-use Rattle.vx_flow.specs.Effects.{IsIn}
 use Rattle.vx_flow.specs.Operands.{value_list}
 use Rattle.vx_flow.specs.Sound.{HasExit, is_own, is_local}
 use Rattle.vx_flow.proofs.SoundLists.{all_in, all_of, all_at, all_of_at}
@@ -17,10 +19,9 @@ use Rattle.vx_inline.specs.declared.site.Site.{Site}
 use Rattle.vx_inline.specs.Choosing.{operations}
 use Rattle.vx_inline.specs.Counts.{is_call}
 use Rattle.vx_inline.specs.Fitting.{is_calling, calls_nothing, are_global, is_entered_short, is_short_with, is_left_short, are_left_short, fits, has_few}
-use Rattle.vx_inline.specs.Inlined.{TheCall, CallAt, IsPermitted, Permitted}
-use Rattle.vx_inline.specs.Permitting.{StandsApart, HasEnough, MayInline}
-use Rattle.vx_inline.proofs.Edges.{in_there}
-use Rattle.vx_inline.proofs.Depth.{get_in}
+use Rattle.vx_inline.specs.Inlined.{TheCall, CallAt, IsPermitted}
+use Rattle.vx_inline.specs.Permitting.{MayInline}
+use Rattle.vx_inline.specs.Values.{local_place, local_places}
 
 pub record FitsInWords (c : TheCall) : Type 0 where
   pub calls_none : (f next : ℕ) (arguments : List Operand) (result : Option ℕ) → HasExit c.callee (Call f arguments result next) → ⊥
@@ -38,6 +39,35 @@ own_not arrays a e l = by (slice_get arrays a) refl l
     by : (o : Option Array) → slice_get arrays a ≡ o → is_own o ≡ true → ⊥
     by None h q = false≢true q
     by (Some array) h q = not_call array.global q (all_at (λ (x : Array). x.global) arrays a array e h)
+
+-- where all arrays are globals no place of another is written
+
+not_own : (arrays : List Array) (a : ℕ) → are_global arrays ≡ true → is_local arrays a ≡ false
+not_own arrays a e = by (is_local arrays a) refl
+  where
+    by : (t : Bool) → is_local arrays a ≡ t → t ≡ false
+    by true l = absurd (own_not arrays a e l)
+    by false l = refl
+
+no_place : (arrays : List Array) → are_global arrays ≡ true → (op : Op) → local_place arrays op ≡ []
+no_place arrays e (Compute code v x y) = refl
+no_place arrays e (Select v p x y) = refl
+no_place arrays e (Place v a i) = ap (λ t. cond t (v ∷ []) []) (not_own arrays a e)
+no_place arrays e (Load v a p dismissible) = refl
+no_place arrays e (Store a p x) = refl
+no_place arrays e (More v) = refl
+no_place arrays e (Input v) = refl
+no_place arrays e (Text n) = refl
+no_place arrays e (Decimal x) = refl
+no_place arrays e (Across v u) = refl
+
+no_places_in : (arrays : List Array) → are_global arrays ≡ true → (ops : List Op) → flat_map (local_place arrays) ops ≡ []
+no_places_in arrays e [] = refl
+no_places_in arrays e (op ∷ ops) = ap (λ l. l ++ flat_map (local_place arrays) ops) (no_place arrays e op) ∙ no_places_in arrays e ops
+
+pub no_places : (arrays : List Array) → are_global arrays ≡ true → (blocks : List Block) → flat_map (local_places arrays) blocks ≡ []
+no_places arrays e [] = refl
+no_places arrays e (block ∷ blocks) = ap (λ l. l ++ flat_map (local_places arrays) blocks) (no_places_in arrays e block.ops) ∙ no_places arrays e blocks
 
 fits_parts : (c : TheCall) → calls_nothing c.callee.blocks ≡ true → are_global c.callee.arrays ≡ true → is_entered_short c ≡ true → are_left_short c.result c.callee.blocks ≡ true → FitsInWords c
 fits_parts c a b d e = record {

@@ -1,6 +1,5 @@
 -- The blocks and the graph that are made are those with the call inlined.
-use Rattle.std.proofs.Common.{◌≡◌, ◌↔◌, ℕ, List, length, slice_get, Option, Some, None, refl, sym, ap, ◌∙◌, subst, IsTrue}
-use Rattle.std.specs.List.{filter}
+use Rattle.std.proofs.Common.{◌≡◌, ◌↔◌, ℕ, List, Option, Some, sym, ap, ◌∙◌, subst, IsTrue}
 use Rattle.vx_base.specs.declared.outcome.Trap.{Trap}
 use Rattle.vx_flow.specs.declared.graph.Bank.{Bank}
 use Rattle.vx_flow.specs.declared.graph.Block.{Block}
@@ -13,7 +12,7 @@ use Rattle.vx_inline.specs.declared.by_bank.ByBank.{ByBank}
 use Rattle.vx_inline.specs.declared.places.Places.{Places}
 use Rattle.vx_inline.specs.declared.site.Site.{Site}
 use Rattle.vx_inline.specs.Finding.{call_in}
-use Rattle.vx_inline.specs.Inlined.{TheCall, CallAt, IsPermitted, AreFree, taken, placed, spliced, critical, with_edges, callers_plain, all_plain, all_kinds, inlined_blocks}
+use Rattle.vx_inline.specs.Inlined.{TheCall, AreFree, taken, placed, spliced, critical, with_edges, callers_plain, all_plain, all_kinds, inlined_blocks}
 use Rattle.vx_inline.specs.Inlining.{joined_by, linked_by, inlined_by, IsInlinedBlocks, IsInlinedGraph}
 use Rattle.vx_inline.specs.Placing.{place_in}
 use Rattle.vx_inline.specs.Values.{of_bank, free_of}

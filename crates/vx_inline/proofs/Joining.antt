@@ -1,16 +1,10 @@
 -- The flow with a permitted call inlined has the callee in place of the call.
-use Rattle.std.proofs.Common.{◌≡◌, ◌⊎◌, inl, inr, ℕ, ◌+◌, ◌<◌, ◌≤◌, Bool, true, false, cond, ◌==◌, nat_lt, not, ℤ, pos, List, [], ◌++◌, length, map, slice_get, slice_set, Option, Some, None, refl, sym, ap, ◌∙◌, subst, eq-eqb, eqb-true, ltb-true, ltb-false, lt-ltb, arith, append-nil}
-use Rattle.std.proofs.lemmas.Bool.{false≢true}
+use Rattle.std.proofs.Common.{◌≡◌, ℕ, ◌+◌, ◌<◌, ◌≤◌, Bool, true, false, cond, ◌==◌, nat_lt, not, ℤ, List, [], ◌++◌, length, map, slice_get, slice_set, Option, Some, None, refl, sym, ap, ◌∙◌, subst, eq-eqb, ltb-true, ltb-false, lt-ltb, arith, append-nil}
 use Rattle.std.proofs.lemmas.Option.{slice_get_within, slice_get-map}
-use Rattle.std.specs.List.{filter, flat_map}
+use Rattle.std.specs.List.{filter}
 use Rattle.std.specs.Option.{option_map}
 use Rattle.vx_base.specs.Outcome.{Same, NeverFails}
 use Rattle.vx_base.specs.declared.outcome.Trap.{Trap}
-use Rattle.vx_base.specs.declared.arithmetic.Code.TheVariants.{Mov}
-use Rattle.vx_flow.specs.declared.graph.Operand.{Operand}
-use Rattle.vx_flow.specs.declared.graph.Operand.TheVariants.{Held, Number, Stack}
-use Rattle.vx_flow.specs.declared.graph.Bank.TheVariants.{General, Branch}
-use Rattle.vx_flow.specs.declared.graph.Op.TheVariants.{Compute, Place, Across, Text}
 use Rattle.vx_flow.specs.declared.graph.Bank.{Bank}
 use Rattle.vx_flow.specs.declared.graph.Op.{Op}
 use Rattle.vx_flow.specs.declared.graph.Exit.{Exit}
@@ -20,25 +14,22 @@ use Rattle.vx_flow.specs.declared.graph.Block.{Block}
 use Rattle.vx_flow.specs.declared.graph.Graph.{Graph}
 use Rattle.vx_flow.specs.declared.graph.Flow.{Flow}
 use Rattle.vx_flow.specs.declared.graph.Edge.{Edge}
-use Rattle.vx_flow.specs.Effects.{IsIn, value_in, reads, writes}
+use Rattle.vx_flow.specs.Effects.{IsIn}
 use Rattle.vx_flow.specs.Meaning.{graph_run}
 use Rattle.vx_flow.specs.Operands.{with_value_in, with_values}
-use Rattle.vx_flow.specs.Sound.{HasOperation, HasExit, SoundFlow, Sound, Leads, Has, Callable, IsOperandOf, IsPlace, IsAccess, ReadAsPlace, is_own, is_local, targets_of, operands_of, tests_of, arrays_of, bank_written, operands_of_exit, results_of_exit, tests_of_exit}
-use Rattle.vx_flow.proofs.Members.{in_left, in_right, in_either}
+use Rattle.vx_flow.specs.Sound.{HasExit, SoundFlow, Sound, is_own}
+use Rattle.vx_flow.proofs.Members.{in_left, in_right}
 use Rattle.vx_lower.proofs.Places.{set_same, set_other}
 use Rattle.vx_inline.specs.declared.site.Site.{Site}
-use Rattle.vx_inline.specs.Inlined.{CallAt, IsPermitted, IsFree, names, named_by, taken, is_plain, kind_place, plain_before, placed_as, moved, move, moves_in, moves_out, stayed, entering, copied, copied_as, stayed_all, critical, behind, edge_block, relinked_exit, callers_plain, all_plain, all_kinds, caller_at, callee_at, joined, inlined_blocks, inlined}
+use Rattle.vx_inline.specs.Inlined.{CallAt, IsPermitted, taken, is_plain, kind_place, plain_before, placed_as, moved, moves_in, moves_out, stayed, entering, copied, copied_as, stayed_all, critical, behind, edge_block, relinked_exit, callers_plain, all_plain, all_kinds, caller_at, callee_at, joined, inlined_blocks, inlined}
 use Rattle.vx_inline.specs.Joined.{Follows, Copies, Stays, Stands, Enters, Joins}
 use Rattle.vx_inline.specs.Laws.{BeginsPlain, InlinedRuns}
-use Rattle.vx_shape.specs.Shape.{Shaped}
 use Rattle.vx_inline.proofs.Depth.{get_in}
-use Rattle.vx_inline.proofs.Edges.{Rowed, get_either, get_map, get_filter, in_there, map_from, Ready, Kept, AnEdge, ATrap, from_where, edges_shaped, edges_within}
 use Rattle.vx_inline.proofs.Inlines.{joined_runs}
 use Rattle.vx_inline.proofs.Renaming.{unequal}
 use Rattle.vx_inline.proofs.Numbering.{get_front, get_behind, there, AsPlain, count_same, filter_at, before_all, trap_at, IsTrap, trap_of, kind_at, stayed_get, stayed_is_plain, stayed_plain, copied_is_plain, map_plain, comes, plain_edged, trap_edged}
-use Rattle.vx_inline.proofs.Renamed.{reads_named, writes_named, exit_reads_named, operand_read, test_read, value_renamed, reads_renamed, writes_renamed, tests_renamed, bank_renamed, arrays_renamed, operands_renamed, place_renamed, across_renamed, text_renamed, MoveFrom, move_renamed, moves_from, out_from, access_array, SameValues, moved_same}
-use Rattle.vx_inline.proofs.Taking.{taken_one, taken_free, is_free}
-use Rattle.vx_inline.proofs.Rests.{longer, all_before, stayed_from, placed_one, kinds_one, moved_ends, copied_ends, not_both_trap, moves_few, copied_short, MovedSplit, moved_split, copied_split, moved_target, copied_target}
+use Rattle.vx_inline.proofs.Taking.{taken_one, is_free}
+use Rattle.vx_inline.proofs.Rests.{longer}
 
 pub block_is : (x y : Block) → Option.Some x ≡ Some y → x ≡ y
 block_is x y e = cc

@@ -1,5 +1,5 @@
 -- Edges that get blocks of their own, one exit at a time; and how many blocks lead to one.
-use Rattle.std.proofs.Common.{◌≡◌, ◌⊎◌, inl, inr, ℕ, zero, suc, ◌+◌, ◌-◌, ◌<◌, ◌≤◌, ◌^◌, nat_lt, Bool, true, false, cond, ◌==◌, List, [], ◌∷◌, ◌++◌, length, map, drop, get_or, drop-cons, append_assoc, slice_get, slice_index_or, Option, Some, None, refl, sym, ap, ◌∙◌, subst, arith, eq-eqb, eqb-true, ltb-true, ltb-false, lt-ltb}
+use Rattle.std.proofs.Common.{◌≡◌, inl, inr, ℕ, zero, suc, ◌+◌, ◌-◌, ◌<◌, ◌≤◌, ◌^◌, nat_lt, Bool, true, false, cond, ◌==◌, List, [], ◌∷◌, ◌++◌, length, map, drop, get_or, drop-cons, append_assoc, slice_get, slice_index_or, Some, refl, sym, ap, ◌∙◌, arith, eq-eqb, eqb-true, ltb-true, ltb-false}
 use Rattle.std.proofs.lemmas.Bool.{false≢true}
 use Rattle.std.proofs.lemmas.Option.{slice_get_within}
 use Rattle.std.specs.List.{filter}
@@ -7,11 +7,10 @@ use Rattle.vx_flow.specs.declared.graph.Op.{Op}
 use Rattle.vx_flow.specs.declared.graph.Exit.{Exit}
 use Rattle.vx_flow.specs.declared.graph.Block.{Block}
 use Rattle.vx_flow.specs.declared.graph.Edge.{Edge}
-use Rattle.vx_flow.specs.Effects.{IsIn}
 use Rattle.vx_flow.specs.Sound.{Leads, targets_of}
 use Rattle.vx_flow.specs.Walk.{ascending, edge}
 use Rattle.vx_flow.proofs.ClosingSteps.{any_in, in_any}
-use Rattle.vx_shape.specs.Origins.{AreOrigins, NoteIsTrue, LeadsBefore, HasTwo, IsNoted}
+use Rattle.vx_shape.specs.Origins.{AreOrigins, NoteIsTrue, HasTwo, IsNoted}
 use Rattle.vx_inline.specs.Inlined.{is_among, entries, critical, relinked, relinked_exit, sides}
 use Rattle.vx_inline.specs.Linking.{crossing, is_entered_twice, split_sides}
 use Rattle.vx_inline.proofs.Edges.{filter_one}

@@ -1,12 +1,11 @@
 -- The values that a graph names, as they are listed.
-use Rattle.std.proofs.Common.{◌≡◌, ◌⊎◌, inl, inr, ℕ, zero, suc, ◌+◌, ◌<◌, ◌≤◌, Bool, true, false, cond, not, nat_le, ◌&&◌, ◌==◌, List, [], ◌∷◌, ◌++◌, length, slice_get, Option, Some, refl, sym, ap, ◌∙◌, subst, arith, eq-eqb, eqb-true, append-nil}
-use Rattle.std.proofs.lemmas.Bool.{false≢true}
+use Rattle.std.proofs.Common.{◌≡◌, ℕ, zero, suc, ◌+◌, ◌<◌, ◌≤◌, Bool, true, false, cond, not, nat_le, ◌&&◌, List, [], ◌∷◌, ◌++◌, length, slice_get, Option, refl, sym, ap, ◌∙◌, arith, append-nil}
 use Rattle.std.specs.List.{filter}
 use Rattle.vx_flow.specs.declared.graph.Bank.{Bank}
 use Rattle.vx_flow.specs.declared.graph.Bank.TheVariants.{General, Branch}
 use Rattle.vx_flow.specs.declared.graph.Op.{Op}
 use Rattle.vx_flow.specs.declared.graph.Graph.{Graph}
-use Rattle.vx_flow.specs.Effects.{IsIn, writes}
+use Rattle.vx_flow.specs.Effects.{writes}
 use Rattle.vx_flow.specs.Operands.{value_list, written_by}
 use Rattle.vx_flow.specs.Rows.{is_marked}
 use Rattle.vx_flow.specs.Sound.{is_bank}

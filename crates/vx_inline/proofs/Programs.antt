@@ -1,7 +1,7 @@
 -- A flow of a program with a permitted call inlined runs as the program.
-use Rattle.std.proofs.Common.{◌≡◌, ◌⊎◌, inl, inr, ℕ, zero, suc, ◌<◌, ◌≤◌, Bool, true, false, cond, ◌==◌, ℤ, List, [], ◌∷◌, length, map, slice_get, Option, Some, None, refl, sym, ap, ◌∙◌, subst, arith, ltb-true, eq-eqb, eqb-true}
+use Rattle.std.proofs.Common.{◌≡◌, ◌⊎◌, inl, inr, ℕ, zero, suc, ◌<◌, ◌≤◌, Bool, true, false, cond, ℤ, List, [], ◌∷◌, length, map, slice_get, Option, Some, None, refl, sym, ap, ◌∙◌, subst, arith, ltb-true}
 use Rattle.std.specs.List.{sum, flat_map}
-use Rattle.std.proofs.lemmas.Bool.{and_parts, false≢true}
+use Rattle.std.proofs.lemmas.Bool.{and_parts}
 use Rattle.std.proofs.lemmas.Option.{slice_get_within}
 use Rattle.vx_base.specs.Outcome.{Same, NeverFails}
 use Rattle.vx_base.specs.declared.outcome.Trap.{Trap}
@@ -9,23 +9,18 @@ use Rattle.vx_base.proofs.Same.{same_on}
 use Rattle.vx_ast.specs.Meaning.{source}
 use Rattle.vx_ast.specs.Tree.{Function, Program}
 use Rattle.vx_ast.specs.Accepted.{Over, over, or_else, limit_of, is_none, at_most, is_accepted, is_suited, function_nodes, global_words, formats_of}
-use Rattle.vx_flow.specs.declared.graph.Operand.{Operand}
 use Rattle.vx_flow.specs.declared.graph.Bank.{Bank}
 use Rattle.vx_flow.specs.declared.graph.Exit.TheVariants.{Call, Ends}
 use Rattle.vx_flow.specs.declared.graph.Block.{Block}
 use Rattle.vx_flow.specs.declared.graph.Graph.{Graph}
 use Rattle.vx_flow.specs.declared.graph.Flow.{Flow}
-use Rattle.vx_flow.specs.declared.graph.Global.{Global}
-use Rattle.vx_flow.specs.declared.graph.Array.{Array}
-use Rattle.vx_flow.specs.declared.graph.Op.TheVariants.{Text}
 use Rattle.vx_flow.specs.Meaning.{graph_run}
-use Rattle.vx_flow.specs.Effects.{IsIn}
-use Rattle.vx_flow.specs.Sound.{HasOperation, HasExit, Sound, SoundFlow, Callable, HasGlobal}
+use Rattle.vx_flow.specs.Sound.{SoundFlow}
 use Rattle.vx_flow.proofs.SoundFlowLaw.{flow_of}
 use Rattle.vx_lower.specs.FlowOf.{AreNumbers, EndsBy, GraphOf, RunsAs, FlowOf}
 use Rattle.vx_lower.proofs.Facts.{none_is, or_one}
 use Rattle.vx_lower.proofs.FlowShaping.{in_words}
-use Rattle.vx_lower.proofs.Places.{set_same, set_other, set_length}
+use Rattle.vx_lower.proofs.Places.{set_length}
 use Rattle.vx_shape.specs.Shape.{Shaped}
 use Rattle.vx_shape.proofs.FlowsStay.{shape_kept}
 use Rattle.vx_inline.specs.declared.site.Site.{Site}
@@ -36,8 +31,6 @@ use Rattle.vx_inline.specs.Laws.{BeginsPlain, InlinedRunsAs, InlinedStays}
 use Rattle.vx_inline.proofs.Joining.{inlined_runs}
 use Rattle.vx_inline.proofs.JoinedShape.{graph_shaped, number_stays}
 use Rattle.vx_inline.proofs.FlowSound.{graph_from, new_sound}
-use Rattle.vx_inline.proofs.Edges.{in_there}
-use Rattle.vx_inline.proofs.Depth.{get_in}
 use Rattle.vx_inline.proofs.Numbering.{there, IsTrap, trap_of}
 
 -- ---- at most 256 functions

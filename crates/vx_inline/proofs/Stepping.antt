@@ -1,14 +1,13 @@
 -- A flow with a call inlined keeps what it is, and its banks.
-use Rattle.std.proofs.Common.{◌≡◌, ◌+◌, ◌<◌, ℕ, true, List, length, map, slice_get, slice_set, Option, Some, None, refl, sym, ap, ◌∙◌, subst, arith}
+use Rattle.std.proofs.Common.{◌≡◌, ◌+◌, ◌<◌, ℕ, true, refl, ap, ◌∙◌, arith}
 use Rattle.vx_ast.specs.Accepted.{is_accepted}
 use Rattle.vx_ast.specs.Tree.{Program}
-use Rattle.vx_flow.specs.declared.graph.Bank.{Bank}
 use Rattle.vx_flow.specs.declared.graph.Flow.{Flow}
 use Rattle.vx_flow.specs.declared.graph.Graph.{Graph}
 use Rattle.vx_flow.specs.Sound.{SoundFlow}
 use Rattle.vx_lower.specs.FlowOf.{FlowOf}
 use Rattle.vx_inline.specs.declared.site.Site.{Site}
-use Rattle.vx_inline.specs.Inlined.{CallAt, IsPermitted, Permitted, Inlined, inlined, inlined_blocks}
+use Rattle.vx_inline.specs.Inlined.{Permitted, Inlined}
 use Rattle.vx_inline.specs.Inlining.{IsInlinedGraph, with_graph, banks_of}
 use Rattle.vx_profile.specs.declared.counts.Counts.{Counts}
 use Rattle.vx_inline.specs.Choosing.{IsChosen}

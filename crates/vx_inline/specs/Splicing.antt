@@ -1,6 +1,5 @@
 -- The blocks before there are blocks for edges, by what they are made from.
-use Rattle.std.specs.Prelude.{◌++◌, ℕ, Option, Some, None, List, [], ◌∷◌, map}
-use Rattle.std.specs.List.{filter}
+use Rattle.std.specs.Prelude.{ℕ, Option, Some, None, List, [], ◌∷◌}
 use Rattle.vx_base.specs.declared.outcome.Trap.{Trap}
 use Rattle.vx_flow.specs.declared.graph.Operand.{Operand}
 use Rattle.vx_flow.specs.declared.graph.Op.{Op}

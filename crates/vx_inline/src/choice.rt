@@ -6,7 +6,7 @@ ghost use Rattle.vx_flow.specs.Live.{IsLive};
 ghost use Rattle.vx_flow.specs.Rows.{lives};
 ghost use Rattle.vx_flow.specs.Sound.{SoundFlow};
 ghost use Rattle.vx_inline.specs.Choosing.{BestBefore, Chosen, IsWorthIt, NoneIsWorthIt, exceeds, site_of};
-ghost use Rattle.vx_inline.specs.Finding.{seen};
+ghost use Rattle.vx_inline.specs.Finding.{call_in, seen};
 ghost use Rattle.vx_inline.specs.Inlined.{Reaches};
 ghost use Rattle.vx_inline.specs.Permitting.{StandsApart};
 
@@ -113,22 +113,33 @@ fn has_worthy(asked: &Asked, function: u32, blocks: u32, best: Option<Site>) -> 
 
 /// The call of a site, where it is permitted as far as its values and other functions allow it, its callee has few operations, and
 /// its block has a greater count than the best.
-#[tactic(auto, using(crate::proofs::Candidates::worth_found, crate::proofs::Candidates::worth_less, crate::proofs::Candidates::worth_none, crate::proofs::Candidates::worth_unfit, crate::proofs::Candidates::worth_many))]
+#[tactic(auto, using(crate::proofs::Candidates::worth_none))]
 fn worth_it<'a>(asked: &Asked<'a>, site: &Site, best: Option<Site>) -> Option<FoundCall<'a>>
+    ensures { IsWorthIt asked.now.flow.now asked.now.counts.now asked.now.most best site.now (option_map seen result) }
+{
+    match find(asked.flow, site) {
+        Some(found) => worth_of(asked, site, best, found),
+        None => None,
+    }
+}
+
+#[tactic(auto, using(crate::proofs::Candidates::worth_found, crate::proofs::Candidates::worth_less))]
+fn worth_of<'a>(
+    asked: &Asked<'a>,
+    site: &Site,
+    best: Option<Site>,
+    found: FoundCall<'a>,
+) -> Option<FoundCall<'a>>
+    requires { call_in asked.now.flow.now site.now ≡ Some (seen found) }
     ensures { IsWorthIt asked.now.flow.now asked.now.counts.now asked.now.most best site.now (option_map seen result) }
 {
     if !exceeds(asked, site, best) {
         return None;
     }
-    match find(asked.flow, site) {
-        Some(found) => {
-            if fits(&found) && has_few(found.callee.blocks.as_slice(), asked.most) {
-                Some(found)
-            } else {
-                None
-            }
-        }
-        None => None,
+    if fits(&found) && has_few(found.callee.blocks.as_slice(), asked.most) {
+        Some(found)
+    } else {
+        None
     }
 }
 

@@ -39,7 +39,8 @@ fn is_calling(block: &Block) -> bool
     }
 }
 
-fn are_global(arrays: &[Array]) -> bool
+/// Whether all arrays are globals.
+pub(crate) fn are_global(arrays: &[Array]) -> bool
     ensures { result ≡ are_global arrays.now }
 {
     for array in arrays {

@@ -8,6 +8,7 @@ ghost use Rattle.vx_inline.specs.Finding.{seen};
 ghost use Rattle.vx_inline.specs.Values.{free_of, has_values, kept, local_place, local_places, of_bank};
 
 use crate::by_bank::{ByBank, by_bank, named};
+use crate::fitting::are_global;
 use crate::found_call::FoundCall;
 use crate::marks::marks_of;
 use crate::names::push_operands;
@@ -56,7 +57,21 @@ fn kept(alloc: Global, live: &Live, found: &FoundCall) -> Result<Listed<Value>, 
     Ok(values)
 }
 
+/// Adds the places of arrays that are no globals; no operation is looked at where all are globals.
 fn push_places(
+    values: &mut Listed<Value>,
+    arrays: &[Array],
+    blocks: &[Block],
+) -> Result<(), NoMemory>
+    ensures { IfOk result (λ _. values.new ≡ values.old ++ flat_map (local_places arrays.now) blocks.now) }
+{
+    if are_global(arrays) {
+        return Ok(());
+    }
+    push_own_places(values, arrays, blocks)
+}
+
+fn push_own_places(
     values: &mut Listed<Value>,
     arrays: &[Array],
     blocks: &[Block],

@@ -1,4 +1,4 @@
-use Rattle.std.proofs.Common.{◌≡◌, ◌∙◌}
+use Rattle.std.proofs.Common.{◌∙◌}
 use Rattle.vx_inline.proofs.Candidates.{apart_by}
 use Rattle.vx_inline.proofs.choice.best_in.Goals as goal
 

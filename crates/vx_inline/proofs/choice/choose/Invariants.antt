@@ -1,4 +1,3 @@
-use Rattle.std.proofs.Common.{◌≡◌}
 use Rattle.vx_inline.specs.Choosing.{BestBefore}
 use Rattle.vx_inline.proofs.choice.choose.Given as goal
 

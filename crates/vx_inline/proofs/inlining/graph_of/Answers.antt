@@ -6,4 +6,4 @@ use Rattle.vx_inline.proofs.inlining.graph_of.Goals as goal
 
 pub returns-in_ok-blocks-in-Some : goal.returns-in_ok-blocks-in-Some
 returns-in_ok-blocks-in-Some c =
-    IfOk-weaker c.with_blocks.result _ _ (λ graph e. graph_is c.args.flow.now c.args.site.now (seen c.in-Some.found) c.in_ok-blocks-in-Some.blocks graph (sym c.in-Some.ensures) c.in_ok-blocks-in-Some.ensures e) c.with_blocks.ensures
+    IfOk-weaker c.with_blocks.result _ _ (λ graph e. graph_is c.args.flow.now c.args.site.now (seen c.in-Some.found) _ graph (sym c.in-Some.ensures) c.in_ok-blocks-in-Some.ensures e) c.with_blocks.ensures

@@ -1,4 +1,3 @@
-use Rattle.std.proofs.Common.{◌≡◌, sym}
 use Rattle.std.proofs.lemmas.Result.{IfOk-weaker}
 use Rattle.vx_inline.proofs.Programs.{inlined_stays}
 use Rattle.vx_inline.proofs.inlining.inline_one.Goals as goal

@@ -1,4 +1,4 @@
-use Rattle.std.proofs.Common.{◌≡◌, ◌∙◌, ◌++◌, List, sym}
+use Rattle.std.proofs.Common.{◌∙◌, ◌++◌, List, sym}
 use Rattle.std.proofs.lemmas.List.{append-nil, at_drop_all}
 use Rattle.vx_flow.specs.declared.graph.Block.{Block}
 use Rattle.vx_inline.specs.Placing.{place_behind, places_from}

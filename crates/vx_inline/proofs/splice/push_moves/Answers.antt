@@ -1,4 +1,4 @@
-use Rattle.std.proofs.Common.{◌≡◌, ◌∙◌, ◌++◌, slice_get, ap}
+use Rattle.std.proofs.Common.{◌∙◌, ◌++◌, slice_get, ap}
 use Rattle.vx_inline.specs.Inlined.{moves_in}
 use Rattle.vx_inline.specs.Splicing.{move_at}
 use Rattle.vx_inline.specs.Taking.{value_at}
