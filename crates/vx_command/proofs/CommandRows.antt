@@ -4,7 +4,7 @@ use Rattle.clap.proofs.OnLiterals.{clap_on_literals}
 use Rattle.vx_command.specs.Command.{Compile, Rewriting, compile_app, compile_of, exec_app, exec_of, command_of}
 
 abbrev turns : Option ℕ → Rewriting
-turns unroll = record { unroll = unroll }
+turns unroll = record { unroll = unroll; inline = None; select = None }
 
 plain : command_of (codes "vexc" ∷ codes "compile" ∷ codes "a.c" ∷ codes "b" ∷ []) ≡ Some (Compile (record { source = codes "a.c"; out = codes "b"; profile = None; machine = None; growth = 4000; rewriting = turns None; report = None }))
 unfolding clap_on_literals compile_app compile_of
@@ -105,6 +105,35 @@ turns_of_no_number = refl
 turns_twice : command_of (codes "vexc" ∷ codes "compile" ∷ codes "a.c" ∷ codes "b" ∷ codes "--unroll=4" ∷ codes "--unroll=4" ∷ []) ≡ None
 unfolding clap_on_literals compile_app compile_of
 turns_twice = refl
+
+abbrev asks : (unroll inline select : Option ℕ) → Rewriting
+asks unroll inline select = record { unroll = unroll; inline = inline; select = select }
+
+all_rewritings : command_of (codes "vexc" ∷ codes "compile" ∷ codes "--inline=200" ∷ codes "a.c" ∷ codes "--select" ∷ codes "8" ∷ codes "b" ∷ codes "--unroll=4" ∷ []) ≡
+    Some (Compile (record { source = codes "a.c"; out = codes "b"; profile = None; machine = None; growth = 4000; rewriting = asks (Some 4) (Some 200) (Some 8); report = None }))
+unfolding clap_on_literals compile_app compile_of
+all_rewritings = refl
+
+most_of_both : command_of (codes "vexc" ∷ codes "compile" ∷ codes "a.c" ∷ codes "b" ∷ codes "--inline=4000" ∷ codes "--select=16" ∷ []) ≡
+    Some (Compile (record { source = codes "a.c"; out = codes "b"; profile = None; machine = None; growth = 4000; rewriting = asks None (Some 4000) (Some 16); report = None }))
+unfolding clap_on_literals compile_app compile_of
+most_of_both = refl
+
+no_choice : command_of (codes "vexc" ∷ codes "compile" ∷ codes "a.c" ∷ codes "b" ∷ codes "--select=0" ∷ []) ≡ None
+unfolding clap_on_literals compile_app compile_of
+no_choice = refl
+
+too_many_choices : command_of (codes "vexc" ∷ codes "compile" ∷ codes "a.c" ∷ codes "b" ∷ codes "--select=17" ∷ []) ≡ None
+unfolding clap_on_literals compile_app compile_of
+too_many_choices = refl
+
+no_callee : command_of (codes "vexc" ∷ codes "compile" ∷ codes "a.c" ∷ codes "b" ∷ codes "--inline=0" ∷ []) ≡ None
+unfolding clap_on_literals compile_app compile_of
+no_callee = refl
+
+too_large_a_callee : command_of (codes "vexc" ∷ codes "compile" ∷ codes "a.c" ∷ codes "b" ∷ codes "--inline=4001" ∷ []) ≡ None
+unfolding clap_on_literals compile_app compile_of
+too_large_a_callee = refl
 
 another : command_of (codes "vexc" ∷ codes "run" ∷ codes "a.c" ∷ codes "b" ∷ []) ≡ None
 another = refl

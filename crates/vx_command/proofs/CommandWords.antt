@@ -11,7 +11,7 @@ use Rattle.clap.specs.Faults.{fault_of, is_simple_and_free}
 use Rattle.clap.specs.Kinds.{Kinds, IsAmong}
 use Rattle.clap.specs.declared.error.kind.ErrorKind.{ErrorKind}
 use Rattle.clap.specs.declared.parser.matches.Found.{Found}
-use Rattle.vx_command.specs.Command.{Command, Compile, Rewriting, compile_app, compile_found, compile_unless, compile_of, growth_of, number_or_none, rewriting_of}
+use Rattle.vx_command.specs.Command.{Command, Compile, Rewriting, compile_app, compile_found, compile_unless, compile_of, growth_of, number_or_none, rewriting_by, rewriting_of}
 
 -- the first value of an id, read from the entries or from their rows
 
@@ -77,8 +77,12 @@ module _ (make : ℕ → Rewriting → Command) where
   no_rewriting_found n number rewriting a b = ap (option_map (make n)) b ∙ ap (found_with rewriting) a
 
 -- what is rewritten
-pub rewriting_is : (f : Found) (unroll : Option (Option ℕ)) → unroll ≡ number_or_none 2 8 (first_value f (codes "unroll")) → option_map (λ turns. record { unroll = turns }) unroll ≡ rewriting_of (rows_of f)
-rewriting_is f unroll is = ap (option_map (λ turns. record { unroll = turns })) (is ∙ ap (number_or_none 2 8) (first_of_rows f (codes "unroll")))
+pub rewriting_is : (f : Found) (unroll inline select : Option (Option ℕ)) → unroll ≡ number_or_none 2 8 (first_value f (codes "unroll")) → inline ≡ number_or_none 1 4000 (first_value f (codes "inline")) →
+    select ≡ number_or_none 1 16 (first_value f (codes "select")) → rewriting_by unroll inline select ≡ rewriting_of (rows_of f)
+rewriting_is f unroll inline select u i s =
+    ap (λ o. rewriting_by o inline select) (u ∙ ap (number_or_none 2 8) (first_of_rows f (codes "unroll")))
+    ∙ ap (λ o. rewriting_by (number_or_none 2 8 (first_of (codes "unroll") (rows_of f))) o select) (i ∙ ap (number_or_none 1 4000) (first_of_rows f (codes "inline")))
+    ∙ ap (rewriting_by (number_or_none 2 8 (first_of (codes "unroll") (rows_of f))) (number_or_none 1 4000 (first_of (codes "inline") (rows_of f)))) (s ∙ ap (number_or_none 1 16) (first_of_rows f (codes "select")))
 
 module _ (f : Found) where
   pub found_is : (s o : List ℕ) (p m r : Option (List ℕ)) (growth : ℕ) (rewriting : Rewriting) → s ≡ unwrap_or (first_value f (codes "SRC")) [] → o ≡ unwrap_or (first_value f (codes "OUT")) [] →

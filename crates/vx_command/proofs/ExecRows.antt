@@ -4,7 +4,7 @@ use Rattle.clap.proofs.OnLiterals.{clap_on_literals}
 use Rattle.vx_command.specs.Command.{Execute, Rewriting, exec_app, exec_of, command_of}
 
 abbrev turns : Option ℕ → Rewriting
-turns unroll = record { unroll = unroll }
+turns unroll = record { unroll = unroll; inline = None; select = None }
 
 plain : command_of (codes "vexc" ∷ codes "exec" ∷ codes "a.c" ∷ []) ≡
     Some (Execute (record { source = codes "a.c"; growth = 4000; rewriting = turns None; profile = None; machine = None; input = None; budget = 1000000000; timing = codes "late"; probe = None }))
@@ -50,3 +50,8 @@ too_many_turns = refl
 turns_of_no_number : command_of (codes "vexc" ∷ codes "exec" ∷ codes "a.c" ∷ codes "--unroll" ∷ codes "x" ∷ []) ≡ None
 unfolding clap_on_literals exec_app exec_of
 turns_of_no_number = refl
+
+calls_inlined : command_of (codes "vexc" ∷ codes "exec" ∷ codes "a.c" ∷ codes "--inline" ∷ codes "200" ∷ []) ≡
+    Some (Execute (record { source = codes "a.c"; growth = 4000; rewriting = record { unroll = None; inline = Some 200; select = None }; profile = None; machine = None; input = None; budget = 1000000000; timing = codes "late"; probe = None }))
+unfolding clap_on_literals exec_app exec_of
+calls_inlined = refl

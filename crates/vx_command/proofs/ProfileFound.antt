@@ -54,7 +54,7 @@ module _ (f : Found) where
 -- worked words
 
 abbrev turns : Option ℕ → Rewriting
-turns unroll = record { unroll = unroll }
+turns unroll = record { unroll = unroll; inline = None; select = None }
 
 plain : command_of (codes "vexc" ∷ codes "profile" ∷ codes "a.c" ∷ []) ≡ Some (Count (record { source = codes "a.c"; input = None; blocks = 1000000000; rewriting = turns None }))
 unfolding clap_on_literals profile_app profile_of
@@ -91,3 +91,12 @@ too_few_turns = refl
 turns_twice : command_of (codes "vexc" ∷ codes "profile" ∷ codes "a.c" ∷ codes "--unroll=2" ∷ codes "--unroll=2" ∷ []) ≡ None
 unfolding clap_on_literals profile_app profile_of
 turns_twice = refl
+
+some_choices : command_of (codes "vexc" ∷ codes "profile" ∷ codes "a.c" ∷ codes "--select=4" ∷ codes "--unroll=2" ∷ []) ≡
+    Some (Count (record { source = codes "a.c"; input = None; blocks = 1000000000; rewriting = record { unroll = Some 2; inline = None; select = Some 4 } }))
+unfolding clap_on_literals profile_app profile_of
+some_choices = refl
+
+no_inlining : command_of (codes "vexc" ∷ codes "profile" ∷ codes "a.c" ∷ codes "--inline=4" ∷ []) ≡ None
+unfolding clap_on_literals profile_app profile_of
+no_inlining = refl

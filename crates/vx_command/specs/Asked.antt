@@ -10,7 +10,7 @@ use Rattle.vx_command.specs.declared.run_words.RunWords.{RunWords}
 use Rattle.vx_command.specs.declared.soak_request.SoakWords.{SoakWords}
 
 abbrev pub rewriting_asked : RewritingWords → Rewriting
-rewriting_asked asked = record { unroll = asked.unroll }
+rewriting_asked asked = record { unroll = asked.unroll; inline = asked.inline; select = asked.select }
 
 abbrev pub compilation_of : CompileWords → Compilation
 compilation_of asked = record {

@@ -28,6 +28,10 @@ pub record Simulation : Type 0 where
 pub record Rewriting : Type 0 where
   -- how many turns of its loops are taken together
   pub unroll : Option ℕ
+  -- how many operations a callee may have whose calls are inlined
+  pub inline : Option ℕ
+  -- how many operations the sides of a split may have that become choices
+  pub select : Option ℕ
 
 -- what an execution is asked for
 pub record Execution : Type 0 where
@@ -136,19 +140,33 @@ number_or_none low high (Some text) = option_map Some (number_in low high low (S
 abbrev pub unroll_word : Rule
 unroll_word = number_word (codes "unroll") 2 8
 
--- after the words of a command `[--unroll K]`
+-- `--select N`
+abbrev pub select_word : Rule
+select_word = number_word (codes "select") 1 16
+
+-- `--inline N`
+abbrev pub inline_word : Rule
+inline_word = number_word (codes "inline") 1 4000
+
+-- after the words of a command `[--unroll K] [--select N]`
 abbrev pub with_rewriting_options : App → App
-with_rewriting_options app = with_rule app unroll_word
+with_rewriting_options app = with_rule (with_rule app unroll_word) select_word
 
--- what is asked to be rewritten, by what was found
+-- what is asked to be rewritten, where no number is out of its range
+abbrev pub rewriting_by : (unroll inline select : Option (Option ℕ)) → Option Rewriting
+rewriting_by (Some unroll) (Some inline) (Some select) = Some (record { unroll = unroll; inline = inline; select = select })
+rewriting_by unroll inline select = None
+
+-- and by what was found; where a command does not have an option, nothing is found of it
 abbrev pub rewriting_of : List Row → Option Rewriting
-rewriting_of rows = option_map (λ turns. record { unroll = turns }) (number_or_none 2 8 (first_of (codes "unroll") rows))
+rewriting_of rows = rewriting_by (number_or_none 2 8 (first_of (codes "unroll") rows)) (number_or_none 1 4000 (first_of (codes "inline") rows)) (number_or_none 1 16 (first_of (codes "select") rows))
 
--- after the words of a command `[--profile P] [--machine M] [--growth G] [--unroll K]`
+-- after the words of a command `[--profile P] [--machine M] [--growth G] [--unroll K] [--select N] [--inline N]`
 abbrev pub with_compiling_options : App → App
-with_compiling_options app = with_rewriting_options (with_rule (with_rule (with_rule app (option_word (codes "profile"))) (option_word (codes "machine"))) growth_word)
+with_compiling_options app =
+    with_rule (with_rewriting_options (with_rule (with_rule (with_rule app (option_word (codes "profile"))) (option_word (codes "machine"))) growth_word)) inline_word
 
--- `compile SRC OUT [--profile P] [--machine M] [--growth G] [--unroll K] [--report R]`
+-- `compile SRC OUT [--profile P] [--machine M] [--growth G] [--unroll K] [--select N] [--inline N] [--report R]`
 unfoldable pub compile_app : App
 compile_app =
     with_rule (with_compiling_options (with_rule (with_rule (new_app (codes "compile")) (required_word (codes "SRC"))) (required_word (codes "OUT"))))
@@ -189,7 +207,7 @@ with_run_options app =
 unfoldable pub sim_app : App
 sim_app = with_run_options (with_rule (file_app (codes "sim") (codes "WORDS")) (option_word (codes "machine")))
 
--- `exec SRC [--profile P] [--machine M] [--growth G] [--unroll K]` with these options
+-- `exec SRC [--profile P] [--machine M] [--growth G] [--unroll K] [--select N] [--inline N]` with these options
 unfoldable pub exec_app : App
 exec_app = with_run_options (with_compiling_options (file_app (codes "exec") (codes "SRC")))
 
@@ -232,7 +250,7 @@ sim_of words = sim_unless (fault_of sim_app words) (matches_of sim_app words)
 unfoldable pub exec_of : List (List ℕ) → Option Command
 exec_of words = exec_unless (fault_of exec_app words) (matches_of exec_app words)
 
--- `profile SRC [--input I] [--blocks N] [--unroll K]`
+-- `profile SRC [--input I] [--blocks N] [--unroll K] [--select N]`
 unfoldable pub profile_app : App
 profile_app = with_rewriting_options (with_rule (with_rule (file_app (codes "profile") (codes "SRC")) (option_word (codes "input"))) (number_word (codes "blocks") 1 1000000000000))
 

@@ -10,7 +10,7 @@ ghost use Rattle.vx_command.specs.Words.{with_words};
 
 use crate::options::{GROWTH, Kind, MACHINE, PROFILE, SOURCE, Word, arg_of, growth_of};
 use crate::rewriting::Rewriting;
-use crate::rewriting_words::{UNROLL, rewriting_found};
+use crate::rewriting_words::{INLINE, SELECT, UNROLL, rewriting_found};
 use clap::error::ErrorKind;
 use clap::{ArgMatches, Command, Error};
 use std::alloc::Global;
@@ -150,8 +150,8 @@ fn compile_found<'a>(found: &ArgMatches<'a>) -> Result<CompileWords<'a>, Refused
     }
 }
 
-/// What the words of `compile SRC OUT [--profile P] [--machine M] [--growth G] [--unroll K] [--report R]` ask for, the program's name
-/// first, or their refusal.
+/// What the words of `compile SRC OUT [--profile P] [--machine M] [--growth G] [--unroll K] [--select N] [--inline N] [--report R]` ask
+/// for, the program's name first, or their refusal.
 pub fn compile_asked<'a>(alloc: Global, words: &'a [&'a str]) -> Result<CompileWords<'a>, Refused>
     ensures asked { IfOk result (λ asked. compile_of (map (λ w. w.now) words.now) ≡ Some (Compile (compilation_of asked))) }
     ensures refused { IfErr result (λ refused. (refused.status ≡ Status.NoMemory) ⊎ ((refused.status ≡ Status.Usage) × (compile_of (map (λ w. w.now) words.now) ≡ None))) }
@@ -160,7 +160,9 @@ pub fn compile_asked<'a>(alloc: Global, words: &'a [&'a str]) -> Result<CompileW
         alloc,
         "compile",
         "Compiles a source, and replaces a file by its words",
-        &[SOURCE, OUT, PROFILE, MACHINE, GROWTH, UNROLL, REPORT],
+        &[
+            SOURCE, OUT, PROFILE, MACHINE, GROWTH, UNROLL, SELECT, INLINE, REPORT,
+        ],
         words,
     ) {
         Ok(found) => {

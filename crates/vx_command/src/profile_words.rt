@@ -8,7 +8,7 @@ ghost use Rattle.vx_command.specs.Asked.{profiling_of, rewriting_asked};
 use crate::command::{Refused, found_or_refused, text_at, without_text};
 use crate::options::{INPUT, Kind, SOURCE, Word};
 use crate::rewriting::Rewriting;
-use crate::rewriting_words::{UNROLL, rewriting_found};
+use crate::rewriting_words::{SELECT, UNROLL, rewriting_found};
 use crate::run_words::{MOST_WORDS, budget_of};
 use clap::ArgMatches;
 use std::alloc::Global;
@@ -60,7 +60,7 @@ fn profile_found<'a>(found: &ArgMatches<'a>) -> Result<ProfileWords<'a>, Refused
     }
 }
 
-/// What the words of `profile SRC [--input I] [--blocks N] [--unroll K]` ask for, the program's name first, or their refusal.
+/// What the words of `profile SRC [--input I] [--blocks N] [--unroll K] [--select N]` ask for, the program's name first, or their refusal.
 pub fn profile_asked<'a>(alloc: Global, words: &'a [&'a str]) -> Result<ProfileWords<'a>, Refused>
     ensures asked { IfOk result (λ asked. profile_of (map (λ w. w.now) words.now) ≡ Some (Count (profiling_of asked))) }
     ensures refused { IfErr result (λ refused. (refused.status ≡ Status.NoMemory) ⊎ ((refused.status ≡ Status.Usage) × (profile_of (map (λ w. w.now) words.now) ≡ None))) }
@@ -69,7 +69,7 @@ pub fn profile_asked<'a>(alloc: Global, words: &'a [&'a str]) -> Result<ProfileW
         alloc,
         "profile",
         "Puts how often each block and edge of a source is passed",
-        &[SOURCE, INPUT, BLOCKS, UNROLL],
+        &[SOURCE, INPUT, BLOCKS, UNROLL, SELECT],
         words,
     ) {
         Ok(found) => {

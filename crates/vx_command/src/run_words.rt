@@ -8,7 +8,7 @@ ghost use Rattle.vx_command.specs.Asked.{asks, simulation_of, execution_of, rewr
 use crate::command::{Refused, found_or_refused, text_at, without_text};
 use crate::options::{GROWTH, INPUT, Kind, MACHINE, PROFILE, SOURCE, Word, growth_of};
 use crate::rewriting::Rewriting;
-use crate::rewriting_words::{UNROLL, rewriting_found};
+use crate::rewriting_words::{INLINE, SELECT, UNROLL, rewriting_found};
 use clap::ArgMatches;
 use std::alloc::Global;
 use vx_status::Status;
@@ -200,8 +200,8 @@ pub fn sim_asked<'a>(alloc: Global, words: &'a [&'a str]) -> Result<RunWords<'a>
     }
 }
 
-/// What the words of `exec SRC [--profile P] [--machine M] [--growth G] [--unroll K] [--input I] [--words N] [--timing T] [--probe B]` ask
-/// for, the program's name first, or their refusal.
+/// What the words of `exec SRC [--profile P] [--machine M] [--growth G] [--unroll K] [--select N] [--inline N] [--input I] [--words N]
+/// [--timing T] [--probe B]` ask for, the program's name first, or their refusal.
 pub fn exec_asked<'a>(alloc: Global, words: &'a [&'a str]) -> Result<ExecWords<'a>, Refused>
     ensures asked { IfOk result (λ asked. exec_of (map (λ w. w.now) words.now) ≡ Some (Execute (execution_of asked))) }
     ensures refused { IfErr result (λ refused. (refused.status ≡ Status.NoMemory) ⊎ ((refused.status ≡ Status.Usage) × (exec_of (map (λ w. w.now) words.now) ≡ None))) }
@@ -211,7 +211,7 @@ pub fn exec_asked<'a>(alloc: Global, words: &'a [&'a str]) -> Result<ExecWords<'
         "exec",
         "Compiles a source and runs its words",
         &[
-            SOURCE, PROFILE, MACHINE, GROWTH, UNROLL, INPUT, BUDGET, TIMING, PROBE,
+            SOURCE, PROFILE, MACHINE, GROWTH, UNROLL, SELECT, INLINE, INPUT, BUDGET, TIMING, PROBE,
         ],
         words,
     ) {

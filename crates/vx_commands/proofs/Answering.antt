@@ -112,25 +112,25 @@ some_named f None = refl
 some_named f (Some x) = refl
 
 -- the report's text is that of the plan, whether it was asked or not
-pub texts_made : (program : Program) (counts : Counts) (machine : Numbers) (growth : ℕ) (name : Option (List ℕ)) (out text report : List ℕ) (e : Effect) (status : Status) →
-    MakesTexts program counts machine growth (is_some name) text report → ReportAnswers out text name report e status → PutsTexts program counts machine growth out name e status
-texts_made program counts machine growth None out text report e status t a = record {
+pub texts_made : (program : Program) (counts : Counts) (machine : Numbers) (growth : ℕ) (inline select : Option ℕ) (name : Option (List ℕ)) (out text report : List ℕ) (e : Effect) (status : Status) →
+    MakesTexts program counts machine growth inline select (is_some name) text report → ReportAnswers out text name report e status → PutsTexts program counts machine growth inline select out name e status
+texts_made program counts machine growth inline select None out text report e status t a = record {
   text = text;
   report = report_text t.plan (names_of program);
-  texts = record { words = t.words; plan = t.plan; compiled = t.compiled; spells = t.spells; reports = refl };
+  texts = record { words = t.words; plan = t.plan; compiled = t.compiled.compiled; rewritten = t.compiled.rewritten; spells = t.spells; reports = refl };
   answers = a;
 }
-texts_made program counts machine growth (Some name) out text report e status t a = record {
+texts_made program counts machine growth inline select (Some name) out text report e status t a = record {
   text = text;
   report = report;
-  texts = record { words = t.words; plan = t.plan; compiled = t.compiled; spells = t.spells; reports = t.reports refl };
+  texts = record { words = t.words; plan = t.plan; compiled = t.compiled.compiled; rewritten = t.compiled.rewritten; spells = t.spells; reports = t.reports refl };
   answers = a;
 }
 
 -- what was read, of a depot that tells its files
 all_of : (asked : Compilation) (program unrolled : Program) (counts : Counts) (numbers : Numbers) (text report : List ℕ) (b : Option Files) → UnrolledBy asked.rewriting.unroll program unrolled →
     IfSome b (λ held. HoldsProgram held asked.source program) → IfSome b (λ held. AreCounts held asked.profile counts) → IfSome b (λ held. machine_found held asked.machine ≡ Is numbers) →
-    TextsOf unrolled counts numbers asked.growth text report → IfSome b (λ held. Compiles asked held text report)
+    TextsOf unrolled counts numbers asked.growth asked.rewriting.inline asked.rewriting.select text report → IfSome b (λ held. Compiles asked held text report)
 all_of asked program unrolled counts numbers text report None u h k m t = tt
 all_of asked program unrolled counts numbers text report (Some held) u h k m t = record {
   program = program;
@@ -266,7 +266,7 @@ report_since out text (Some name) report e f status s (inr a) = inr (write_since
 
 module _ (program : Program) (counts : Counts) (numbers : Numbers) (asked : Compilation) where
   abbrev Puts : Effect → Status → Type 0
-  Puts e status = ((status ≡ NoMemory) × SameFiles e) ⊎ PutsTexts program counts numbers asked.growth asked.out asked.report e status
+  Puts e status = ((status ≡ NoMemory) × SameFiles e) ⊎ PutsTexts program counts numbers asked.growth asked.rewriting.inline asked.rewriting.select asked.out asked.report e status
 
   puts_since : (e f : Effect) (status : Status) → Since e f → Puts e status → Puts f status
   puts_since e f status s (inl is) = inl (is.0, same_since e f s is.1)

@@ -57,7 +57,7 @@ module _ (asked : Execution) (boxes : Chosen) (e : Effect) (s : Streams) (held :
   goes_on : (out : List ℕ) (r : Runs asked boxes e s (Goes out)) → GoesOn asked held r.ready.source_program r.words.machine r.words.input boxes.times
   goes_on out r = record {
     words = r.words.program;
-    by = subst (λ b. CompiledBy b asked.profile asked.growth asked.rewriting.unroll r.ready.source_program r.words.machine r.words.program) is r.ready.by;
+    by = subst (λ b. CompiledBy b asked.profile asked.growth asked.rewriting.unroll asked.rewriting.inline asked.rewriting.select r.ready.source_program r.words.machine r.words.program) is r.ready.by;
     going = subst IsGoing (sym (ap (outcome_within r.words boxes.times) (sym (r.issues.all tt)) ∙ r.issues.comes)) tt;
   }
 

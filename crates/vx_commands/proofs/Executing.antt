@@ -305,11 +305,12 @@ all_held asked program m numbers None holds stands machine input = tt
 all_held asked program m numbers (Some held) holds stands machine input = record { program_is = holds; profiled = stands; machine_is = machine; input_is = input }
 
 pub prepared : (asked : Execution) (q : Program) (x : Loaded) (e f : Effect) → Since e f → ReadAs f.before asked.source asked.rewriting q →
-    LoadedProfile q asked.growth e.before asked.profile asked.machine asked.input x → Prepared asked f x
+    LoadedProfile q asked.growth asked.rewriting.inline asked.rewriting.select e.before asked.profile asked.machine asked.input x → Prepared asked f x
 prepared asked q x e f since r l = record {
   source_program = r.program;
   read = all_held asked r.program x.machine x.input f.before r.holds (told_since e f (λ held. ProfileStands held asked.profile) since l.profiled)
       (told_since e f (λ held. machine_found held asked.machine ≡ Is x.machine) since l.machine_is) (told_since e f (λ held. input_found held asked.input ≡ Ok x.input) since l.input_is);
   defaults = l.defaults;
-  by = compiled_back asked.rewriting.unroll r.program q r.turns f.before asked.profile asked.growth x.machine x.program (subst (λ b. CompiledBy b asked.profile asked.growth None q x.machine x.program) (sym since.before) l.by);
+  by = compiled_back asked.rewriting.unroll r.program q r.turns f.before asked.profile asked.growth asked.rewriting.inline asked.rewriting.select x.machine x.program
+      (subst (λ b. CompiledBy b asked.profile asked.growth None asked.rewriting.inline asked.rewriting.select q x.machine x.program) (sym since.before) l.by);
 }

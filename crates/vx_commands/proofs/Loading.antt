@@ -9,9 +9,9 @@ use Rattle.vx_files.proofs.ProfileFile.{stands}
 use Rattle.vx_runs.specs.Simulated.{Loaded}
 use Rattle.vx_commands.specs.Loading.{LoadedInput, LoadedMachine, LoadedProfile, LoadedWords}
 
-module _ (p : Program) (counts : Counts) (growth : ℕ) (x : Loaded) where
+module _ (p : Program) (counts : Counts) (growth : ℕ) (inline select : Option ℕ) (x : Loaded) where
   pub input_loaded : (machine : Numbers) (told : Option Files) (input : Option (List ℕ)) (numbers : List ℤ) → IfSome told (λ held. input_found held input ≡ Ok numbers) → EmptyUnless input numbers →
-      LoadedWords p counts growth machine numbers x → LoadedInput p counts growth machine told input x
+      LoadedWords p counts growth inline select machine numbers x → LoadedInput p counts growth inline select machine told input x
   input_loaded machine told input numbers found unnamed l = record {
     machine_is = l.machine_is;
     input_is = subst (λ zs. IfSome told (λ held. input_found held input ≡ Ok zs)) (sym l.input_is) found;
@@ -20,7 +20,7 @@ module _ (p : Program) (counts : Counts) (growth : ℕ) (x : Loaded) where
   }
 
   pub machine_loaded : (told later : Option Files) (machine input : Option (List ℕ)) (m : Numbers) → later ≡ told → IfSome told (λ held. machine_found held machine ≡ Is m) → DefaultUnless machine m →
-      LoadedInput p counts growth m later input x → LoadedMachine p counts growth told machine input x
+      LoadedInput p counts growth inline select m later input x → LoadedMachine p counts growth inline select told machine input x
   machine_loaded told later machine input m same found unnamed l = record {
     machine_is = subst (λ n. IfSome told (λ held. machine_found held machine ≡ Is n)) (sym l.machine_is) found;
     input_is = subst (λ b. IfSome b (λ held. input_found held input ≡ Ok x.input)) same l.input_is;
@@ -29,11 +29,11 @@ module _ (p : Program) (counts : Counts) (growth : ℕ) (x : Loaded) where
   }
 
   pub profile_loaded : (told later : Option Files) (profile machine input : Option (List ℕ)) → later ≡ told → IfSome told (λ held. AreCounts held profile counts) →
-      LoadedMachine p counts growth later machine input x → LoadedProfile p growth told profile machine input x
+      LoadedMachine p counts growth inline select later machine input x → LoadedProfile p growth inline select told profile machine input x
   profile_loaded told later profile machine input same counted l = record {
     profiled = stands profile told counts counted;
     machine_is = subst (λ b. IfSome b (λ held. machine_found held machine ≡ Is x.machine)) same l.machine_is;
     input_is = subst (λ b. IfSome b (λ held. input_found held input ≡ Ok x.input)) same l.input_is;
     defaults = l.defaults;
-    by = record { counts = counts; counted = counted; unrolled = p; turns = refl; plan = l.compiled.plan; compiled = l.compiled.compiled; faithful = l.compiled.compiled.faithful };
+    by = record { counts = counts; counted = counted; unrolled = p; turns = refl; plan = l.compiled.plan; compiled = l.compiled.compiled.compiled; rewritten = l.compiled.compiled.rewritten; faithful = l.compiled.compiled.compiled.faithful };
   }

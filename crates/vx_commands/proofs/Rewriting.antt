@@ -23,13 +23,15 @@ module _ (asked : Option ℕ) (p q : Program) (turns : UnrolledBy asked p q) whe
   pub names_back : names_of q ≡ names_of p
   names_back = names_stay_by asked p q turns
 
-  pub compiled_back : (told : Option Files) (profile : Option (List ℕ)) (growth : ℕ) (m : Numbers) (w : WordProgram) → CompiledBy told profile growth None q m w → CompiledBy told profile growth asked p m w
-  compiled_back told profile growth m w by = record {
+  pub compiled_back : (told : Option Files) (profile : Option (List ℕ)) (growth : ℕ) (inline select : Option ℕ) (m : Numbers) (w : WordProgram) → CompiledBy told profile growth None inline select q m w →
+      CompiledBy told profile growth asked inline select p m w
+  compiled_back told profile growth inline select m w by = record {
     counts = by.counts;
     counted = by.counted;
     unrolled = by.unrolled;
     turns = subst (UnrolledBy asked p) (sym by.turns) turns;
     plan = by.plan;
     compiled = by.compiled;
+    rewritten = by.rewritten;
     faithful = faithful_back m w by.faithful;
   }

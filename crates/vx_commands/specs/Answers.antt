@@ -22,17 +22,19 @@ use Rattle.vx_files.specs.Held.{HoldsProgram, Accepts, status_of, AreCounts, Pro
 use Rattle.vx_files.specs.Effects.{Effect, ReplacesRose, SameFiles, SourceAnswers, ProfileAnswers, MachineAnswers}
 use Rattle.vx_runs.specs.Writing.{ReportAnswers}
 use Rattle.vx_unroll.specs.Unrolling.{UnrolledBy}
+use Rattle.vx_rewrite.specs.Rewritten.{Rewritten}
 
 -- the texts of a compiled program: the one spells its words, the other is the report of their plan
-pub record TextsOf (program : Program) (counts : Counts) (machine : Numbers) (growth : ℕ) (text report : List ℕ) : Type 0 where
+pub record TextsOf (program : Program) (counts : Counts) (machine : Numbers) (growth : ℕ) (inline select : Option ℕ) (text report : List ℕ) : Type 0 where
   pub words : WordProgram
   pub plan : Plan
   pub compiled : Compiled program counts machine growth words plan
+  pub rewritten : Rewritten program inline select compiled.flow
   pub spells : Spells text words
   pub reports : report ≡ report_text plan (names_of program)
 
--- the texts of what the source's file reads as, with its loops unrolled as asked, compiled by the profile, for the machine and with
--- the growth of the command
+-- the texts of what the source's file reads as, with its loops unrolled, calls inlined and diamonds converted as asked, compiled by
+-- the profile, for the machine and with the growth of the command
 pub record Compiles (asked : Compilation) (held : Files) (text report : List ℕ) : Type 0 where
   pub program : Program
   pub holds : HoldsProgram held asked.source program
@@ -42,7 +44,7 @@ pub record Compiles (asked : Compilation) (held : Files) (text report : List ℕ
   pub machine_is : machine_found held asked.machine ≡ Is numbers
   pub unrolled : Program
   pub turns : UnrolledBy asked.rewriting.unroll program unrolled
-  pub texts : TextsOf unrolled counts numbers asked.growth text report
+  pub texts : TextsOf unrolled counts numbers asked.growth asked.rewriting.inline asked.rewriting.select text report
   -- the words do what the source does
   pub faithful : Faithful program numbers texts.words
   -- the report's functions have their names in the source
@@ -122,10 +124,10 @@ CompileAnswers asked e (NotStrict breach place) = ⊥
 CompileAnswers asked e NoMemory = SameFiles e ⊎ IsSomeAnd e.before (λ held. WritesWords asked held e.after)
 
 -- the texts of a program for a machine were to replace files
-pub record PutsTexts (program : Program) (counts : Counts) (machine : Numbers) (growth : ℕ) (out : List ℕ) (name : Option (List ℕ)) (e : Effect) (status : Status) : Type 0 where
+pub record PutsTexts (program : Program) (counts : Counts) (machine : Numbers) (growth : ℕ) (inline select : Option ℕ) (out : List ℕ) (name : Option (List ℕ)) (e : Effect) (status : Status) : Type 0 where
   pub text : List ℕ
   pub report : List ℕ
-  pub texts : TextsOf program counts machine growth text report
+  pub texts : TextsOf program counts machine growth inline select text report
   pub answers : ReportAnswers out text name report e status
 
 -- no machine stands, and the status says why
@@ -137,7 +139,7 @@ pub record NoMachine (machine : Option (List ℕ)) (e : Effect) (status : Status
 pub record ForMachine (program : Program) (counts : Counts) (asked : Compilation) (e : Effect) (status : Status) : Type 0 where
   pub numbers : Numbers
   pub machine_is : IfSome e.before (λ held. machine_found held asked.machine ≡ Is numbers)
-  pub answers : ((status ≡ NoMemory) × SameFiles e) ⊎ PutsTexts program counts numbers asked.growth asked.out asked.report e status
+  pub answers : ((status ≡ NoMemory) × SameFiles e) ⊎ PutsTexts program counts numbers asked.growth asked.rewriting.inline asked.rewriting.select asked.out asked.report e status
 
 -- what the writing of a program's texts says, by these counts
 abbrev pub MachineOrTexts : Program → Counts → Compilation → Effect → Status → Type 0

@@ -26,6 +26,7 @@ use Rattle.vx_commands.specs.Answers.{StopsAtProfile, StopsAtMachine}
 use Rattle.vx_runs.specs.Simulated.{Loaded, with_input, machine_as, outcome_within, events_within, reports_of, AreDefaults, Streams, Shows, OutRose, ErrRose, OutputCut, LinesCut, BoxAnswers}
 use Rattle.vx_runs.specs.Ending.{issued_line}
 use Rattle.vx_unroll.specs.Unrolling.{UnrolledBy}
+use Rattle.vx_rewrite.specs.Rewritten.{Rewritten}
 
 -- the run
 
@@ -61,15 +62,16 @@ pub record AllHeld (held : Files) (asked : Execution) (p : Program) (m : Numbers
   pub machine_is : machine_found held asked.machine ≡ Is m
   pub input_is : input_found held asked.input ≡ Ok numbers
 
--- words that are compiled from the program that was read, with its loops unrolled where that is asked, and by the profile that was
--- read, for the machine that was read and with the growth that is asked, by some plan; they do what the program does
-pub record CompiledBy (told : Option Files) (profile : Option (List ℕ)) (growth : ℕ) (unroll : Option ℕ) (p : Program) (m : Numbers) (w : WordProgram) : Type 0 where
+-- words that are compiled from the program that was read, with its loops unrolled, calls inlined and diamonds converted where that is
+-- asked, and by the profile that was read, for the machine that was read and with the growth that is asked, by some plan; they do what the program does
+pub record CompiledBy (told : Option Files) (profile : Option (List ℕ)) (growth : ℕ) (unroll inline select : Option ℕ) (p : Program) (m : Numbers) (w : WordProgram) : Type 0 where
   pub counts : Counts
   pub counted : IfSome told (λ held. AreCounts held profile counts)
   pub unrolled : Program
   pub turns : UnrolledBy unroll p unrolled
   pub plan : Plan
   pub compiled : Compiled unrolled counts m growth w plan
+  pub rewritten : Rewritten unrolled inline select compiled.flow
   pub faithful : Faithful p m w
 
 -- such words, with the machine and the input that were read
@@ -77,7 +79,7 @@ pub record Prepared (asked : Execution) (e : Effect) (x : Loaded) : Type 0 where
   pub source_program : Program
   pub read : IfSome e.before (λ held. AllHeld held asked source_program x.machine x.input)
   pub defaults : AreDefaults asked.machine asked.input x
-  pub by : CompiledBy e.before asked.profile asked.growth asked.rewriting.unroll source_program x.machine x.program
+  pub by : CompiledBy e.before asked.profile asked.growth asked.rewriting.unroll asked.rewriting.inline asked.rewriting.select source_program x.machine x.program
 
 -- the run of such words comes to this outcome within the budget of the command, and so does the source; its output is
 -- put, whole, and its lines, with the reports of the probes over the words that were issued
@@ -154,7 +156,7 @@ ExecAnswers asked boxes e s status = SameFiles e × BoxAnswers (ExecutionAnswers
 -- words of the program go on with the whole budget
 pub record GoesOn (asked : Execution) (held : Files) (p : Program) (m : Numbers) (input : List ℤ) (times : Times) : Type 0 where
   pub words : WordProgram
-  pub by : CompiledBy (Some held) asked.profile asked.growth asked.rewriting.unroll p m words
+  pub by : CompiledBy (Some held) asked.profile asked.growth asked.rewriting.unroll asked.rewriting.inline asked.rewriting.select p m words
   pub going : IsGoing (outcome_within (with_input words m input) times asked.budget)
 
 -- as the source ends, or as its words go on

@@ -21,6 +21,7 @@ use vx_io::depot::Depot;
 use vx_machine::Machine;
 use vx_profile::counts::Counts;
 use vx_report::{Plan, report};
+use vx_rewrite::FlowOptions;
 use vx_runs::rewritten::read_rewritten;
 use vx_runs::texts::write_texts;
 use vx_status::Status;
@@ -69,11 +70,12 @@ fn texts_of<C: WordCompiler>(
     counts: &Counts,
     machine: &Machine,
     growth: u32,
+    options: FlowOptions,
     reports: bool,
 ) -> Result<Texts, NoMemory>
-    ensures { IfOk result (λ texts. MakesTexts (view.program_of program.now.program) counts.now machine.now growth reports texts.words.items texts.report.items) }
+    ensures { IfOk result (λ texts. MakesTexts (view.program_of program.now.program) counts.now machine.now growth options.inline options.select reports texts.words.items texts.report.items) }
 {
-    let compiled = compiler.compile(alloc, program, counts, machine, growth)?;
+    let compiled = compiler.compile(alloc, program, counts, machine, growth, options)?;
     let texts = texts_in(alloc, program, &compiled, reports);
     drop(compiled);
     texts
@@ -89,10 +91,14 @@ fn compile_for<C: WordCompiler, D: Depot>(
     machine: &Machine,
     asked: &CompileWords,
 ) -> Status
-    ensures answers { ((result ≡ Status.NoMemory) × (D.files depot.new ≡ D.files depot.old)) ⊎ PutsTexts (view.program_of program.now.program) counts.now machine.now asked.now.growth asked.now.out.now (option_map (λ s. s.now) asked.now.report) (effect_of D.files D.failed_reads D.failed_replaces depot.old depot.new) result }
+    ensures answers { ((result ≡ Status.NoMemory) × (D.files depot.new ≡ D.files depot.old)) ⊎ PutsTexts (view.program_of program.now.program) counts.now machine.now asked.now.growth asked.now.rewriting.inline asked.now.rewriting.select asked.now.out.now (option_map (λ s. s.now) asked.now.report) (effect_of D.files D.failed_reads D.failed_replaces depot.old depot.new) result }
     ensures reads_never_fall { D.failed_reads depot.old ≤ D.failed_reads depot.new }
     ensures replaces_never_fall { D.failed_replaces depot.old ≤ D.failed_replaces depot.new }
 {
+    let options = FlowOptions {
+        inline: asked.rewriting.inline,
+        select: asked.rewriting.select,
+    };
     match texts_of(
         alloc,
         compiler,
@@ -100,6 +106,7 @@ fn compile_for<C: WordCompiler, D: Depot>(
         counts,
         machine,
         asked.growth,
+        options,
         asked.report.is_some(),
     ) {
         Ok(texts) => write_texts(

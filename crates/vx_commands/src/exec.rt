@@ -26,6 +26,7 @@ use vx_io::sink::Sink;
 use vx_machine::Machine;
 use vx_probe::{Probe, Timing};
 use vx_profile::counts::Counts;
+use vx_rewrite::FlowOptions;
 use vx_runs::rewritten::read_rewritten;
 use vx_runs::{LoadedFiles, no_box, no_probe, probes_of, run_loaded, timing_of};
 use vx_status::{Status, tell};
@@ -39,13 +40,14 @@ fn load_words<C: WordCompiler>(
     counts: &Counts,
     machine: Machine,
     growth: u32,
+    options: FlowOptions,
     input: Vec<i32>,
 ) -> Result<LoadedFiles, Status>
     requires { All IsNumber input.items }
-    ensures loaded { IfOk result (λ loaded. LoadedWords (view.program_of program.now.program) counts.now growth machine input.items (loaded_of loaded)) }
+    ensures loaded { IfOk result (λ loaded. LoadedWords (view.program_of program.now.program) counts.now growth options.inline options.select machine input.items (loaded_of loaded)) }
     ensures memory { IfErr result (λ status. status ≡ Status.NoMemory) }
 {
-    match compiler.compile(alloc, program, counts, &machine, growth) {
+    match compiler.compile(alloc, program, counts, &machine, growth, options) {
         Ok(compiled) => {
             let words = compiled.words;
             drop(compiled.plan);
@@ -68,14 +70,17 @@ fn load_input<C: WordCompiler, D: Depot>(
     counts: &Counts,
     machine: Machine,
     growth: u32,
+    options: FlowOptions,
     name: Option<&str>,
 ) -> Result<LoadedFiles, Status>
     ensures only_reads { OnlyReads (effect_of D.files D.failed_reads D.failed_replaces depot.old depot.new) }
-    ensures loaded { IfOk result (λ loaded. LoadedInput (view.program_of program.now.program) counts.now growth machine (D.files depot.old) (option_map (λ s. s.now) name.entry) (loaded_of loaded)) }
+    ensures loaded { IfOk result (λ loaded. LoadedInput (view.program_of program.now.program) counts.now growth options.inline options.select machine (D.files depot.old) (option_map (λ s. s.now) name.entry) (loaded_of loaded)) }
     ensures stops { IfErr result (λ status. (status ≡ Status.NoMemory) ⊎ ((is_some (option_map (λ s. s.now) name.entry) ≡ true) × InputAnswers (option_map (λ s. s.now) name.entry) (effect_of D.files D.failed_reads D.failed_replaces depot.old depot.new) status)) }
 {
     match input_for(alloc, depot, name) {
-        Ok(input) => load_words(alloc, compiler, program, counts, machine, growth, input),
+        Ok(input) => load_words(
+            alloc, compiler, program, counts, machine, growth, options, input,
+        ),
         Err(status) => Err(status),
     }
 }
@@ -89,15 +94,16 @@ fn load_machine<C: WordCompiler, D: Depot>(
     counts: &Counts,
     machine: Option<&str>,
     growth: u32,
+    options: FlowOptions,
     input: Option<&str>,
 ) -> Result<LoadedFiles, Status>
     ensures only_reads { OnlyReads (effect_of D.files D.failed_reads D.failed_replaces depot.old depot.new) }
-    ensures loaded { IfOk result (λ loaded. LoadedMachine (view.program_of program.now.program) counts.now growth (D.files depot.old) (option_map (λ s. s.now) machine.entry) (option_map (λ s. s.now) input.entry) (loaded_of loaded)) }
+    ensures loaded { IfOk result (λ loaded. LoadedMachine (view.program_of program.now.program) counts.now growth options.inline options.select (D.files depot.old) (option_map (λ s. s.now) machine.entry) (option_map (λ s. s.now) input.entry) (loaded_of loaded)) }
     ensures stops { IfErr result (LaterStops (option_map (λ s. s.now) machine.entry) (option_map (λ s. s.now) input.entry) (effect_of D.files D.failed_reads D.failed_replaces depot.old depot.new)) }
 {
     match machine_for(alloc, depot, machine) {
         Ok(machine) => load_input(
-            alloc, compiler, depot, program, counts, machine, growth, input,
+            alloc, compiler, depot, program, counts, machine, growth, options, input,
         ),
         Err(status) => Err(status),
     }
@@ -112,15 +118,16 @@ fn load_profile<C: WordCompiler, D: Depot>(
     profile: Option<&str>,
     machine: Option<&str>,
     growth: u32,
+    options: FlowOptions,
     input: Option<&str>,
 ) -> Result<LoadedFiles, Status>
     ensures only_reads { OnlyReads (effect_of D.files D.failed_reads D.failed_replaces depot.old depot.new) }
-    ensures loaded { IfOk result (λ loaded. LoadedProfile (view.program_of program.now.program) growth (D.files depot.old) (option_map (λ s. s.now) profile.entry) (option_map (λ s. s.now) machine.entry) (option_map (λ s. s.now) input.entry) (loaded_of loaded)) }
+    ensures loaded { IfOk result (λ loaded. LoadedProfile (view.program_of program.now.program) growth options.inline options.select (D.files depot.old) (option_map (λ s. s.now) profile.entry) (option_map (λ s. s.now) machine.entry) (option_map (λ s. s.now) input.entry) (loaded_of loaded)) }
     ensures stops { IfErr result (AfterSource (option_map (λ s. s.now) profile.entry) (option_map (λ s. s.now) machine.entry) (option_map (λ s. s.now) input.entry) (effect_of D.files D.failed_reads D.failed_replaces depot.old depot.new)) }
 {
     match counts_for(alloc, depot, profile) {
         Ok(counts) => load_machine(
-            alloc, compiler, depot, program, &counts, machine, growth, input,
+            alloc, compiler, depot, program, &counts, machine, growth, options, input,
         ),
         Err(status) => Err(status),
     }
@@ -140,6 +147,10 @@ fn load<C: WordCompiler, D: Depot>(
 {
     match read_rewritten(alloc, depot, asked.run.file, asked.rewriting) {
         Ok(program) => {
+            let options = FlowOptions {
+                inline: asked.rewriting.inline,
+                select: asked.rewriting.select,
+            };
             let loaded = load_profile(
                 alloc,
                 compiler,
@@ -148,6 +159,7 @@ fn load<C: WordCompiler, D: Depot>(
                 asked.profile,
                 asked.run.machine,
                 asked.growth,
+                options,
                 asked.run.input,
             );
             discard(program);

@@ -1,5 +1,5 @@
 -- From the source to its words, step by step: graphs, graphs of blocks and regions, layouts, words.
-use Rattle.std.proofs.Common.{◌≡◌, ◌≢◌, inl, inr, ℕ, zero, suc, ◌<◌, ℤ, true, List, [], ◌∷◌, ◌++◌, length, Some, None, refl, sym, ap, ◌∙◌, subst, arith, All, ◌+◌, ◌≤◌, get_or, take}
+use Rattle.std.proofs.Common.{◌≡◌, ◌≢◌, inl, inr, ℕ, zero, suc, ◌<◌, ℤ, true, List, [], ◌∷◌, ◌++◌, length, Option, Some, None, refl, sym, ap, ◌∙◌, subst, arith, All, ◌+◌, ◌≤◌, get_or, take}
 use Rattle.std.proofs.lemmas.List.{take_more}
 use Rattle.std.specs.Prelude.{slice_get}
 use Rattle.std.proofs.Math.Path.{fun_ext}
@@ -36,6 +36,9 @@ use Rattle.vx_isa.specs.Range.{is_in_range}
 use Rattle.vx_profile.specs.declared.counts.Counts.{Counts}
 use Rattle.vx_region.specs.declared.trace_plan.TracePlan.{TracePlan}
 use Rattle.vx_compiled.specs.Compiled.{AreMapsOf, Compiled, Planned, all_in_slots, layouts_of}
+use Rattle.vx_compiled.specs.CompiledWith.{CompiledFrom, CompiledWith}
+use Rattle.vx_report.specs.declared.plan.Plan.{Plan}
+use Rattle.vx_rewrite.specs.Rewritten.{Rewritten}
 use Rattle.vx_compiled.specs.declared.program.FlowSize.{FlowSize}
 use Rattle.vx_compile.specs.Stages.{IsInside, AreInside, IsLayoutOf, AreLayoutsFrom, AreLayoutsOf, StageLaws}
 use Rattle.vx_compiled.specs.Sized.{all_blocks, Sized}
@@ -209,16 +212,24 @@ module _ (laws : StageLaws) (p : Program) (flow : Flow) (machine : Numbers) (ls 
           in_range = in_range;
         }
 
-    -- its graphs are these, and of this size
-    pub compiled_sized : (counts : Counts) (growth : ℕ) (traces : List TracePlan) (spilled copies : ℕ) (planned : Planned machine counts growth flow.functions traces copies) → ls ≡ layouts_of planned.functions → AreMapsOf machine ls maps →
-        spilled ≡ all_in_slots maps → is_in_range w ≡ true → (size : FlowSize) → size.functions ≡ length flow.functions → size.blocks ≡ all_blocks flow.functions →
-        Sized p counts machine growth w (record { traces = traces; places = x.places; spilled = spilled; copies = copies }) size
+    -- its graphs are these
+    pub compiled_from : (counts : Counts) (growth : ℕ) (traces : List TracePlan) (spilled copies : ℕ) (planned : Planned machine counts growth flow.functions traces copies) → ls ≡ layouts_of planned.functions → AreMapsOf machine ls maps →
+        spilled ≡ all_in_slots maps → is_in_range w ≡ true → CompiledFrom p counts machine growth flow w (record { traces = traces; places = x.places; spilled = spilled; copies = copies })
     unfolding compiled
-    compiled_sized counts growth traces spilled copies planned are kept in_slots in_range size functions blocks = record {
-      compiled = compiled counts growth traces spilled copies planned are kept in_slots in_range;
-      functions_are = functions;
-      blocks_are = blocks;
-    }
+    compiled_from counts growth traces spilled copies planned are kept in_slots in_range = record { compiled = compiled counts growth traces spilled copies planned are kept in_slots in_range; flow_is = refl }
+
+-- compiled words with the size of their graphs, and with what their graphs come of
+
+module _ (p : Program) (counts : Counts) (machine : Numbers) (growth : ℕ) (flow : Flow) (w : WordProgram) (plan : Plan) (from : CompiledFrom p counts machine growth flow w plan) where
+  pub compiled_sized : (size : FlowSize) → size.functions ≡ length flow.functions → size.blocks ≡ all_blocks flow.functions → Sized p counts machine growth w plan size
+  compiled_sized size functions blocks = record {
+    compiled = from.compiled;
+    functions_are = functions ∙ ap (λ (f : Flow). length f.functions) (sym from.flow_is);
+    blocks_are = blocks ∙ ap (λ (f : Flow). all_blocks f.functions) (sym from.flow_is);
+  }
+
+  pub compiled_with : (inline select : Option ℕ) → Rewritten p inline select flow → CompiledWith p counts machine growth inline select w plan
+  compiled_with inline select rewritten = record { compiled = from.compiled; rewritten = subst (Rewritten p inline select) (sym from.flow_is) rewritten }
 
 -- what finishing asks for
 

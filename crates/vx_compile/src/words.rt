@@ -1,16 +1,18 @@
-// From an accepted program to its words and the plan of them: its graphs, the blocks of each turned into regions, these laid out as
-// words over values, the values kept in registers and slots, and all finished as one program. The clause of `compile` is the
-// promise of the compiler (specs/Compiled.antt of vx_compiled); what holds between its steps stands in specs/Stages.antt.
+// From an accepted program to its words and the plan of them: the blocks of each of its graphs turned into regions, these laid out as
+// words over values, the values kept in registers and slots, and all finished as one program. The clauses of `compile` and of
+// `compile_with` are the promise of the compiler (specs/Compiled.antt and CompiledWith.antt of vx_compiled); what holds between its
+// steps stands in specs/Stages.antt.
 
 ghost use Rattle.std.specs.Prelude.{◌≡◌, true, length, IfOk};
-ghost use Rattle.vx_ast.specs.Tree.{Program};
 ghost use Rattle.vx_ast.specs.View as view;
 ghost use Rattle.vx_flow.specs.Sound.{is_sound_flow};
 ghost use Rattle.vx_lower.specs.FlowOf.{FlowOf};
 ghost use Rattle.vx_compiled.specs.Compiled.{AreMapsOf, Compiled, all_in_slots, in_slots, slot_of};
+ghost use Rattle.vx_compiled.specs.CompiledWith.{CompiledFrom, CompiledWith};
 ghost use Rattle.vx_compile.specs.Stages.{AllBegin, AreFinished, AreInside, AreLayoutsOf, IsCompiledFlow, StageLaws};
 ghost use Rattle.vx_compiled.specs.Sized.{Sized, all_blocks};
 
+use crate::graphs::{planned_flow_of, planned_with};
 use crate::laws::frames_keep_to_the_machine;
 use crate::layouts::layouts_of;
 use crate::ranges::numbers_fit;
@@ -20,25 +22,20 @@ use vx_base::laws::same_is_transitive;
 use vx_base::listed::Listed;
 use vx_base::outcome::NoMemory;
 use vx_base::sizes::sum;
-use vx_clean::clean;
 use vx_compiled::{CompiledProgram, FlowSize, SizedProgram};
 use vx_flow::graph::{Flow, Graph};
 use vx_frame::finish;
-use vx_hoist::{Hoisted, hoist};
 use vx_isa::laws::{any_timing_law, path_strict_law};
 use vx_isa::program::WordProgram;
 use vx_layout::laws::{drains_stay_brief, layouts_keep_the_meaning};
-use vx_lower::lower;
 use vx_machine::Machine;
 use vx_mixed::layout::VWords;
 use vx_motion::laws::{blocks_mean_the_graph, replaced_programs_run_the_same};
-use vx_narrow::narrow;
 use vx_profile::counts::Counts;
-use vx_raise::{Units, raise};
 use vx_regs::map::{Kept, RegMap};
 use vx_regs::registers;
-use vx_rename::{Room, rename};
 use vx_report::Plan;
+use vx_rewrite::FlowOptions;
 use vx_target::finished::Finished;
 use vx_tie::laws::{finished_programs_carry_their_plan, layouts_are_spaced};
 
@@ -113,103 +110,6 @@ fn all_slots_in(maps: &[RegMap]) -> Result<u32, NoMemory>
     Ok(count)
 }
 
-/// The graphs of a program whose blocks a profile counts, and from which its words are made: lowered and cleaned, then narrowed
-/// by what is known of values, and cleaned once more; with operations put before the loops that do them in each turn, and where
-/// there are such narrowed and cleaned again.
-pub fn flow_of(alloc: Global, program: &Typed) -> Result<Flow, NoMemory>
-    ensures { IfOk result (λ flow. FlowOf (view.program_of program.now.program) flow) }
-{
-    let lowered = lower(alloc, program)?;
-    let cleaned = clean(alloc, lowered)?;
-    let narrowed = narrow(alloc, cleaned)?;
-    let once = clean(alloc, narrowed)?;
-    let hoisted = hoist(alloc, once)?;
-    narrowed_again(alloc, hoisted)
-}
-
-/// The graphs narrowed and cleaned again where operations were put before loops.
-fn narrowed_again(alloc: Global, hoisted: Hoisted) -> Result<Flow, NoMemory>
-    requires { is_sound_flow hoisted.flow ≡ true }
-    ensures { IfOk result (λ flow. (p : Program) → FlowOf p hoisted.flow → FlowOf p flow) }
-{
-    if !hoisted.has_more {
-        return Ok(hoisted.flow);
-    }
-    let narrowed = narrow(alloc, hoisted.flow)?;
-    clean(alloc, narrowed)
-}
-
-/// The numbers of a machine by which raising estimates turns. Of the registers those are left out that words need besides values.
-fn units_of(machine: &Machine) -> Units {
-    let issue = machine.issue();
-    let clusters = machine.clusters();
-    let kept = issue.saturating_mul(2).saturating_add(3);
-    Units {
-        slots: issue.saturating_mul(clusters),
-        first_slots: issue,
-        alus: machine.alus().saturating_mul(clusters),
-        multipliers: machine.multipliers().saturating_mul(clusters),
-        memory_units: machine.memory_units().saturating_mul(clusters),
-        registers: machine.registers().saturating_sub(kept),
-        branch_registers: machine.branch_registers().saturating_sub(issue),
-        latency_alu: machine.latency_alu(),
-        latency_compare: machine.latency_compare(),
-        latency_multiply: machine.latency_multiply(),
-        latency_load: machine.latency_load(),
-        latency_divide: machine.latency_divide(),
-    }
-}
-
-/// The fewest registers for values with which operations are raised. With fewer the values of a second turn of a loop would take the
-/// place of those of this one.
-const ENOUGH_TO_RAISE: u32 = 16;
-
-/// The graphs with operations raised over the bounds of blocks, where the machine has registers for more than one turn of a loop.
-pub fn raised_for(
-    alloc: Global,
-    flow: Flow,
-    counts: &Counts,
-    machine: &Machine,
-) -> Result<Flow, NoMemory>
-    requires { is_sound_flow flow ≡ true }
-    ensures sound { IfOk result (λ raised. is_sound_flow raised ≡ true) }
-    ensures flow { IfOk result (λ raised. (p : Program) → FlowOf p flow → FlowOf p raised) }
-{
-    let units = units_of(machine);
-    if units.registers < ENOUGH_TO_RAISE {
-        return Ok(flow);
-    }
-    raise(alloc, flow, counts, &units)
-}
-
-/// How many registers there are for the values of a graph: those of one cluster, and half of those of each other, since a value has
-/// copies there. What is kept of a file stands in `allocatable` (vx_regs, specs/Mapped.antt).
-fn room_of(machine: &Machine) -> Room {
-    let issue = machine.issue();
-    let general = machine
-        .registers()
-        .saturating_sub(issue.saturating_mul(2).saturating_add(3));
-    Room {
-        general: general.saturating_mul(machine.clusters().saturating_add(1)) / 2,
-        branch: machine.branch_registers().saturating_sub(issue),
-    }
-}
-
-/// The graphs that are planned: those of `flow_of`, block by block, with operations raised over the bounds of blocks, and under names
-/// that values share, so that there are no more of them than registers where no more values are live at once.
-pub fn planned_flow_of(
-    alloc: Global,
-    program: &Typed,
-    counts: &Counts,
-    machine: &Machine,
-) -> Result<Flow, NoMemory>
-    ensures { IfOk result (λ flow. FlowOf (view.program_of program.now.program) flow) }
-{
-    let flow = flow_of(alloc, program)?;
-    let raised = raised_for(alloc, flow, counts, machine)?;
-    rename(alloc, raised, room_of(machine))
-}
-
 /// How many blocks graphs have.
 #[tactic(auto, using(std::proofs::lemmas::List::Sums::sum_by_more))]
 fn blocks_in(graphs: &[Graph]) -> Result<u32, NoMemory>
@@ -279,6 +179,25 @@ fn compiled_of(
     })
 }
 
+/// The words of graphs of an accepted program that are planned, and how they were planned.
+pub fn compile_flow(
+    alloc: Global,
+    program: &Typed,
+    flow: &Flow,
+    counts: &Counts,
+    machine: &Machine,
+    growth: u32,
+) -> Result<CompiledProgram, NoMemory>
+    requires { FlowOf (view.program_of program.now.program) flow.now }
+    ensures { IfOk result (λ x. CompiledFrom (view.program_of program.now.program) counts.now machine.now growth flow.now x.words x.plan) }
+{
+    stages_do_the_same();
+    machine.keeps_ranges();
+    let _ = program;
+    let compiled = compiled_of(alloc, flow, counts, machine, growth)?;
+    Ok(compiled)
+}
+
 /// What `compile` answers, and how large the graphs are.
 pub fn compile_sized(
     alloc: Global,
@@ -289,11 +208,9 @@ pub fn compile_sized(
 ) -> Result<SizedProgram, NoMemory>
     ensures { IfOk result (λ x. Sized (view.program_of program.now.program) counts.now machine.now growth x.compiled.words x.compiled.plan x.size) }
 {
-    stages_do_the_same();
-    machine.keeps_ranges();
     let flow = planned_flow_of(alloc, program, counts, machine)?;
     let size = size_of(&flow)?;
-    let compiled = compiled_of(alloc, &flow, counts, machine, growth)?;
+    let compiled = compile_flow(alloc, program, &flow, counts, machine, growth)?;
     Ok(SizedProgram { compiled, size })
 }
 
@@ -311,4 +228,20 @@ pub fn compile(
 {
     let sized = compile_sized(alloc, program, counts, machine, growth)?;
     Ok(sized.compiled)
+}
+
+/// The same, with calls inlined and diamonds converted as it is asked.
+pub fn compile_with(
+    alloc: Global,
+    program: &Typed,
+    counts: &Counts,
+    machine: &Machine,
+    growth: u32,
+    options: FlowOptions,
+) -> Result<CompiledProgram, NoMemory>
+    ensures { IfOk result (λ x. CompiledWith (view.program_of program.now.program) counts.now machine.now growth options.inline options.select x.words x.plan) }
+{
+    let flow = planned_with(alloc, program, counts, machine, options)?;
+    let compiled = compile_flow(alloc, program, &flow, counts, machine, growth)?;
+    Ok(compiled)
 }

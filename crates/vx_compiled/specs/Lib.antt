@@ -1,3 +1,4 @@
 pub mod Faithful
 pub mod Compiled
+pub mod CompiledWith
 pub mod Sized

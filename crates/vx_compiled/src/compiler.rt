@@ -2,7 +2,7 @@
 
 ghost use Rattle.std.specs.Prelude.{IfOk};
 ghost use Rattle.vx_ast.specs.View as view;
-ghost use Rattle.vx_compiled.specs.Compiled.{Compiled};
+ghost use Rattle.vx_compiled.specs.CompiledWith.{CompiledWith};
 ghost use Rattle.vx_compiled.specs.Sized.{Sized};
 
 use crate::program::{CompiledProgram, SizedProgram};
@@ -11,11 +11,12 @@ use vx_ast::typed::Typed;
 use vx_base::outcome::NoMemory;
 use vx_machine::Machine;
 use vx_profile::counts::Counts;
+use vx_rewrite::FlowOptions;
 
 /// A compiler: from an accepted program to words for a machine. Its traces are picked by counts of blocks and edges, whatever these are;
 /// at most so many operations are copied onto the edges of splits and joins. `Err` comes only where memory runs out.
 pub trait WordCompiler {
-    /// The words of a program, and how they were planned.
+    /// The words of a program, and how they were planned, with calls inlined and diamonds converted as it is asked.
     fn compile(
         &self,
         alloc: Global,
@@ -23,10 +24,11 @@ pub trait WordCompiler {
         counts: &Counts,
         machine: &Machine,
         growth: u32,
+        options: FlowOptions,
     ) -> Result<CompiledProgram, NoMemory>
-        ensures { IfOk result (λ x. Compiled (view.program_of program.now.program) counts.now machine.now growth x.words x.plan) };
+        ensures { IfOk result (λ x. CompiledWith (view.program_of program.now.program) counts.now machine.now growth options.inline options.select x.words x.plan) };
 
-    /// What `compile` answers, and how large the graphs are.
+    /// What `compile` answers where nothing is asked, and how large the graphs are.
     fn compile_sized(
         &self,
         alloc: Global,

@@ -7,6 +7,7 @@ use vx_compiled::{CompiledProgram, SizedProgram, WordCompiler};
 use vx_flow::graph::Flow;
 use vx_machine::Machine;
 use vx_profile::counts::Counts;
+use vx_rewrite::FlowOptions;
 use vx_runs::compiler::Compiler;
 
 /// The passes of vx_compile.
@@ -14,8 +15,13 @@ use vx_runs::compiler::Compiler;
 pub(crate) struct Passes;
 
 impl Compiler for Passes {
-    fn flow_of(&self, alloc: Global, program: &Typed) -> Result<Flow, NoMemory> {
-        vx_compile::flow_of(alloc, program)
+    fn flow_of(
+        &self,
+        alloc: Global,
+        program: &Typed,
+        options: FlowOptions,
+    ) -> Result<Flow, NoMemory> {
+        vx_compile::counted_flow_of(alloc, program, options)
     }
 }
 
@@ -27,8 +33,9 @@ impl WordCompiler for Passes {
         counts: &Counts,
         machine: &Machine,
         growth: u32,
+        options: FlowOptions,
     ) -> Result<CompiledProgram, NoMemory> {
-        vx_compile::compile(alloc, program, counts, machine, growth)
+        vx_compile::compile_with(alloc, program, counts, machine, growth, options)
     }
 
     fn compile_sized(

@@ -27,7 +27,7 @@ read_in asked program input None h i = tt
 read_in asked program input (Some held) h i = record { program_is = h; input_is = i }
 
 pub counted_for : (asked : Profiling) (q : Program) (text : List ℕ) (complete : Bool) (e f : Effect) → Since e f → ReadAs f.before asked.source asked.rewriting q →
-    CountedOn q asked.input asked.blocks e text complete → CountedFor asked f text complete
+    CountedOn q asked.rewriting.select asked.input asked.blocks e text complete → CountedFor asked f text complete
 counted_for asked q text complete e f since r c = record {
   counted = record {
     program = r.program;

@@ -1,6 +1,6 @@
 -- What `profile` does: it runs graphs of the source, as it is rewritten, on the input of the command, for at most so many blocks,
 -- and puts how often each block and each edge was passed.
-use Rattle.std.specs.Prelude.{◌≡◌, ◌⊎◌, true, ℕ, ℤ, List, is_some, Some, None, IfSome, Ok, Err}
+use Rattle.std.specs.Prelude.{◌≡◌, ◌⊎◌, true, ℕ, ℤ, List, is_some, Option, Some, None, IfSome, Ok, Err}
 use Rattle.vx_base.specs.Outcome.{IsOver}
 use Rattle.vx_io.specs.Outside.{Files, PutsFront, with_bytes}
 use Rattle.vx_io.specs.declared.role.Role.{Role}
@@ -11,6 +11,7 @@ use Rattle.vx_ast.specs.declared.fault.SourceFault.{SourceFault}
 use Rattle.vx_flow.specs.declared.graph.Flow.{Flow}
 use Rattle.vx_flow.specs.Meaning.{graph_path, graph_run}
 use Rattle.vx_lower.specs.FlowOf.{FlowOf}
+use Rattle.vx_rewrite.specs.Rewritten.{Rewritten}
 use Rattle.vx_profile.specs.declared.counts.Counts.{Counts}
 use Rattle.vx_profile.specs.Counts.{CountsOf}
 use Rattle.vx_profile.specs.Text.{AreAscending, counts_text}
@@ -27,11 +28,12 @@ pub record CountsRead (held : Files) (asked : Profiling) (p : Program) (input : 
   pub program_is : HoldsProgram held asked.source p
   pub input_is : input_found held asked.input ≡ Ok input
 
--- graphs of a program run on an input for at most so many blocks, and the counts are those of the path of the run, each block and
+-- graphs of a program, with diamonds converted as asked, run on an input for at most so many blocks, and the counts are those of the path of the run, each block and
 -- each edge once, ascending
-pub record RunOfGraphs (p : Program) (input : List ℤ) (blocks : ℕ) : Type 0 where
+pub record RunOfGraphs (p : Program) (select : Option ℕ) (input : List ℤ) (blocks : ℕ) : Type 0 where
   pub flow : Flow
   pub flow_of : FlowOf p flow
+  pub rewritten : Rewritten p None select flow
   pub counts : Counts
   pub counts_of : CountsOf counts (graph_path flow input blocks)
   pub ascending : AreAscending counts
@@ -44,7 +46,7 @@ pub record CountedRun (asked : Profiling) (e : Effect) : Type 0 where
   pub unnamed : EmptyUnless asked.input input
   pub unrolled : Program
   pub turns : UnrolledBy asked.rewriting.unroll program unrolled
-  pub run : RunOfGraphs unrolled input asked.blocks
+  pub run : RunOfGraphs unrolled asked.rewriting.select input asked.blocks
 
 -- the text of the counts is put, whole
 pub record PutsCounts (asked : Profiling) (e : Effect) (s : Streams) : Type 0 where

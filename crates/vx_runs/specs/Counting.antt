@@ -14,17 +14,17 @@ use Rattle.vx_runs.specs.Simulated.{Streams, OutRose}
 use Rattle.vx_runs.specs.Counted.{RunOfGraphs, CountedRun, IsEnded, StopsAtCountsInput}
 
 -- the text of the counts of such a run, and whether it is over
-pub record IsCounted (p : Program) (input : List ℤ) (blocks : ℕ) (text : List ℕ) (complete : Bool) : Type 0 where
-  pub run : RunOfGraphs p input blocks
+pub record IsCounted (p : Program) (select : Option ℕ) (input : List ℤ) (blocks : ℕ) (text : List ℕ) (complete : Bool) : Type 0 where
+  pub run : RunOfGraphs p select input blocks
   pub text_is : text ≡ counts_text run.counts
   pub ended : (complete ≡ true) ↔ IsOver (graph_run run.flow input blocks)
 
 -- the same, on the input of the command
-pub record CountedOn (p : Program) (name : Option (List ℕ)) (blocks : ℕ) (e : Effect) (text : List ℕ) (complete : Bool) : Type 0 where
+pub record CountedOn (p : Program) (select : Option ℕ) (name : Option (List ℕ)) (blocks : ℕ) (e : Effect) (text : List ℕ) (complete : Bool) : Type 0 where
   pub input : List ℤ
   pub input_is : IfSome e.before (λ held. input_found held name ≡ Ok input)
   pub unnamed : EmptyUnless name input
-  pub is : IsCounted p input blocks text complete
+  pub is : IsCounted p select input blocks text complete
 
 -- the same, of the program of the command
 pub record CountedFor (asked : Profiling) (e : Effect) (text : List ℕ) (complete : Bool) : Type 0 where

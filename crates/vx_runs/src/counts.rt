@@ -1,7 +1,7 @@
 // The steps of `profile`: a source and an input are read, the graphs of the source as it is rewritten are run, and the text of how often
 // each block and each edge was passed is put.
 
-ghost use Rattle.std.specs.Prelude.{◌≡◌, ◌⊎◌, ◌≤◌, true, false, option_map, is_some, IfOk, IfErr};
+ghost use Rattle.std.specs.Prelude.{◌≡◌, ◌⊎◌, ◌≤◌, true, false, option_map, is_some, IfOk, IfErr, IfSome};
 ghost use Rattle.vx_ast.specs.View as view;
 ghost use Rattle.vx_files.specs.Effects.{effect_of, InputAnswers};
 ghost use Rattle.vx_command.specs.Asked.{profiling_of};
@@ -20,6 +20,7 @@ use vx_files::input_for;
 use vx_io::depot::Depot;
 use vx_io::sink::{Sink, put_all};
 use vx_profile::write_counts;
+use vx_rewrite::FlowOptions;
 use vx_status::{Status, tell};
 use vx_tally::count;
 use vx_types::discard;
@@ -33,17 +34,23 @@ pub struct CountsText {
     pub complete: bool,
 }
 
-/// Runs the graphs of a program on an input, for at most so many blocks, and counts.
+/// Runs the graphs of a program, with diamonds converted as it is asked, on an input, for at most so many blocks, and counts.
 fn counted<C: Compiler>(
     alloc: Global,
     compiler: &C,
     program: &Typed,
+    select: Option<u32>,
     input: &[i32],
     blocks: u64,
 ) -> Result<CountsText, NoMemory>
-    ensures { IfOk result (λ counted. IsCounted (view.program_of program.now.program) input.now blocks counted.text.items counted.complete) }
+    requires { IfSome select (λ most. (1 ≤ most) × (most ≤ 16)) }
+    ensures { IfOk result (λ counted. IsCounted (view.program_of program.now.program) select input.now blocks counted.text.items counted.complete) }
 {
-    let flow = compiler.flow_of(alloc, program)?;
+    let options = FlowOptions {
+        inline: None,
+        select,
+    };
+    let flow = compiler.flow_of(alloc, program, options)?;
     let counted = count(alloc, &flow, input, blocks);
     drop(flow);
     let counted = counted?;
@@ -59,13 +66,15 @@ fn counted_or<C: Compiler>(
     alloc: Global,
     compiler: &C,
     program: &Typed,
+    select: Option<u32>,
     input: &[i32],
     blocks: u64,
 ) -> Result<CountsText, Status>
-    ensures counted { IfOk result (λ counted. IsCounted (view.program_of program.now.program) input.now blocks counted.text.items counted.complete) }
+    requires { IfSome select (λ most. (1 ≤ most) × (most ≤ 16)) }
+    ensures counted { IfOk result (λ counted. IsCounted (view.program_of program.now.program) select input.now blocks counted.text.items counted.complete) }
     ensures memory { IfErr result (λ status. status ≡ Status.NoMemory) }
 {
-    match counted(alloc, compiler, program, input, blocks) {
+    match counted(alloc, compiler, program, select, input, blocks) {
         Ok(counted) => Ok(counted),
         Err(_) => Err(Status::NoMemory),
     }
@@ -77,15 +86,17 @@ fn count_on<C: Compiler, D: Depot>(
     compiler: &C,
     depot: &mut D,
     program: &Typed,
+    select: Option<u32>,
     name: Option<&str>,
     blocks: u64,
 ) -> Result<CountsText, Status>
+    requires { IfSome select (λ most. (1 ≤ most) × (most ≤ 16)) }
     ensures only_reads { OnlyReads (effect_of D.files D.failed_reads D.failed_replaces depot.old depot.new) }
-    ensures counted { IfOk result (λ counted. CountedOn (view.program_of program.now.program) (option_map (λ s. s.now) name.entry) blocks (effect_of D.files D.failed_reads D.failed_replaces depot.old depot.new) counted.text.items counted.complete) }
+    ensures counted { IfOk result (λ counted. CountedOn (view.program_of program.now.program) select (option_map (λ s. s.now) name.entry) blocks (effect_of D.files D.failed_reads D.failed_replaces depot.old depot.new) counted.text.items counted.complete) }
     ensures stops { IfErr result (λ status. (status ≡ Status.NoMemory) ⊎ ((is_some (option_map (λ s. s.now) name.entry) ≡ true) × InputAnswers (option_map (λ s. s.now) name.entry) (effect_of D.files D.failed_reads D.failed_replaces depot.old depot.new) status)) }
 {
     match input_for(alloc, depot, name) {
-        Ok(input) => counted_or(alloc, compiler, program, input.as_slice(), blocks),
+        Ok(input) => counted_or(alloc, compiler, program, select, input.as_slice(), blocks),
         Err(status) => Err(status),
     }
 }
@@ -103,7 +114,15 @@ pub fn count_read<C: Compiler, D: Depot>(
 {
     match read_rewritten(alloc, depot, asked.source, asked.rewriting) {
         Ok(program) => {
-            let counted = count_on(alloc, compiler, depot, &program, asked.input, asked.blocks);
+            let counted = count_on(
+                alloc,
+                compiler,
+                depot,
+                &program,
+                asked.rewriting.select,
+                asked.input,
+                asked.blocks,
+            );
             discard(program);
             counted
         }

@@ -4,7 +4,7 @@ use Rattle.vx_commands.proofs.Answering.{both_ok}
 use Rattle.vx_commands.proofs.compilation.texts_of.Goals as goal
 
 pub texts_in-texts-requires : goal.texts_in-texts-requires
-texts_in-texts-requires g c = c.in_ok-compiled.ensures.sound
+texts_in-texts-requires g c = c.in_ok-compiled.ensures.compiled.sound
 
 pub returns : goal.returns
 returns g c =

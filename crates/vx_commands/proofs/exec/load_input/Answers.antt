@@ -16,7 +16,7 @@ returns-in-Err-clause-only_reads g c = record { files = c.in-Err.ensures.same_fi
 pub returns-in-Ok-clause-loaded : goal.returns-in-Ok-clause-loaded
 returns-in-Ok-clause-loaded g c =
     IfOk-weaker c.load_words.result _ _
-    (λ loaded is. input_loaded (program_of c.args.program.now.program) c.args.counts.now c.args.growth (loaded_of loaded) c.args.machine (g.D.Depot.files c.args.depot.now) (option_map (λ s. s.now) c.args.name) c.in-Ok.input.items c.in-Ok.ensures.numbers c.in-Ok.ensures.unnamed is)
+    (λ loaded is. input_loaded (program_of c.args.program.now.program) c.args.counts.now c.args.growth c.args.options.inline c.args.options.select (loaded_of loaded) c.args.machine (g.D.Depot.files c.args.depot.now) (option_map (λ s. s.now) c.args.name) c.in-Ok.input.items c.in-Ok.ensures.numbers c.in-Ok.ensures.unnamed is)
     c.load_words.ensures.loaded
 
 pub returns-in-Ok-clause-stops : goal.returns-in-Ok-clause-stops

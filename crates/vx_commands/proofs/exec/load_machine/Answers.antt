@@ -20,7 +20,7 @@ returns-in-Err-clause-only_reads g c = record { files = c.in-Err.ensures.same_fi
 pub returns-in-Ok-clause-loaded : goal.returns-in-Ok-clause-loaded
 returns-in-Ok-clause-loaded g c =
     IfOk-weaker c.load_input.result _ _
-    (λ loaded is. machine_loaded (program_of c.args.program.now.program) c.args.counts.now c.args.growth (loaded_of loaded) (g.D.Depot.files c.args.depot.now) (g.D.Depot.files c.machine_for.new.depot)
+    (λ loaded is. machine_loaded (program_of c.args.program.now.program) c.args.counts.now c.args.growth c.args.options.inline c.args.options.select (loaded_of loaded) (g.D.Depot.files c.args.depot.now) (g.D.Depot.files c.machine_for.new.depot)
     (option_map (λ s. s.now) c.args.machine) (option_map (λ s. s.now) c.args.input) c.in-Ok.machine c.in-Ok.ensures.same_files c.in-Ok.ensures.machine c.in-Ok.ensures.default_machine is)
     c.load_input.ensures.loaded
 

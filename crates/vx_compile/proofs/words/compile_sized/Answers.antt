@@ -1,21 +1,9 @@
--- Each stage does what the one before it does, so the words do what the program does.
+-- The graphs that are compiled are those whose size is told.
 use Rattle.vx_ast.specs.View.{program_of}
-use Rattle.vx_compile.proofs.Beginning.{all_begin}
 use Rattle.vx_compile.proofs.Chain.{compiled_sized}
 use Rattle.vx_compile.proofs.words.compile_sized.Goals as goal
 
-pub compiled_of-requires-clause-begin : goal.compiled_of-requires-clause-begin
-compiled_of-requires-clause-begin c = all_begin (program_of c.args.program.now.program) c.in_ok-flow.flow c.args.program.now.accepted c.in_ok-flow.ensures
-
-pub compiled_of-requires-clause-sound : goal.compiled_of-requires-clause-sound
-compiled_of-requires-clause-sound c = c.in_ok-flow.ensures.sound
-
 pub returns : goal.returns
 returns c =
-    let flow = c.in_ok-flow.flow in
     let compiled = c.in_ok-compiled.compiled in
-    let plan = compiled.plan in
-    let is = c.in_ok-compiled.ensures in
-    compiled_sized c.stages_do_the_same.ensures (program_of c.args.program.now.program) flow c.args.machine.now is.layouts c.in_ok-flow.ensures is.laid.laid is.finished.maps
-    (record { program = compiled.words; places = plan.places }) c.keeps_ranges.ensures is.finished.finished c.args.counts.now c.args.growth plan.traces plan.spilled plan.copies is.laid.planned is.laid.layouts_are
-    is.finished.kept is.finished.spilled_is is.finished.in_range c.in_ok-size.size c.in_ok-size.ensures.functions c.in_ok-size.ensures.blocks
+    compiled_sized (program_of c.args.program.now.program) c.args.counts.now c.args.machine.now c.args.growth c.in_ok-flow.flow compiled.words compiled.plan c.in_ok-compiled.ensures c.in_ok-size.size c.in_ok-size.ensures.functions c.in_ok-size.ensures.blocks

@@ -51,3 +51,6 @@ returns-in-Ok-clause-stops g c =
 
 pub returns-in-Err-clause-stops : goal.returns-in-Err-clause-stops
 returns-in-Err-clause-stops g c = inr (inl c.in-Err.ensures.answers)
+
+pub count_on-counted-requires : goal.count_on-counted-requires
+count_on-counted-requires g c = c.args.asked.now.rewriting.sides
