@@ -13,7 +13,7 @@ use Rattle.vx_plain.specs.declared.interpreter.Stop.{Stop}
 use Rattle.vx_plain.specs.declared.interpreter.Stop.TheVariants.{Trap as StopTrap, Bound as StopBound, Memory as StopMemory}
 use Rattle.vx_plain.specs.declared.interpreter.Leave.{Leave}
 use Rattle.vx_plain.specs.declared.interpreter.Leave.TheVariants.{Falls as LeaveFalls, Breaks as LeaveBreaks, Continues as LeaveContinues, Returns as LeaveReturns}
-use Rattle.vx_plain.specs.declared.interpreter.Active.{Active}
+use Rattle.vx_plain.specs.declared.active.Active.{Active}
 use Rattle.vx_plain.specs.declared.interpreter.Located.{Located}
 use Rattle.vx_plain.specs.declared.interpreter.Located.TheVariants.{Scalar as AtScalar, Word as AtWord}
 

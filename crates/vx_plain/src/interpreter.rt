@@ -1,14 +1,15 @@
 // A plain interpreter of sources: recursive over the tree, with a store of lists. Its clause says that it comes to what
 // specs/Meaning.antt of vx_ast says. It is for tests and teaching; the compiler does not use it.
 
-ghost use Rattle.std.specs.Prelude.{◌≡◌, ◌<◌, ◌+◌, ◌^◌, ℕ, pos, List, [], Some, None, length, map, IfOk, MatchResult};
+ghost use Rattle.std.specs.Prelude.{◌≡◌, ◌+◌, ℕ, pos, List, [], Some, None, length, map, IfOk, MatchResult};
 ghost use Rattle.std.specs.Option.{option_map};
 ghost use Rattle.vx_plain.specs.Interpreting.{Comes, IsAfterBody, IsAfterTurn, calls_at, falls, given, held_at, itself, leaves_of, located, outcome_at, outcome_in, put_at, spot_at};
 ghost use Rattle.vx_plain.specs.Kept.{store_of};
-ghost use Rattle.vx_ast.specs.Meaning.{Argument, Falls, NumberArgument, With, active, acts, after_body, array_at, arrays_given, binary_value, combined, deepest, does, index_in, next_input, numbers_given, outcome_of, source, spot_behind, test_of, turns, turns_first, unary_value, unless_zero, value};
+ghost use Rattle.vx_ast.specs.Meaning.{Argument, Falls, NumberArgument, With, active, acts, after_body, array_at, arrays_given, binary_value, combined, deepest, does, index_in, next_input, numbers_given, outcome_of, source, test_of, turns, turns_first, unary_value, unless_zero, value};
 ghost use Rattle.vx_ast.specs.View.{action_of, all_in, code_of, first_of, item_of, items_of, place_of, program_of, row_in, step_of, tree_of};
 ghost use Rattle.vx_base.specs.declared.outcome.Trap.TheVariants.{Index as ByIndex};
 
+use crate::active::{Active, spot};
 use crate::store::Memory;
 use std::alloc::{AllocFailed, Global};
 use vx_arithmetic::{add32, cmp32, div32, mul32, rem32, shl32, shr32, sub32, value};
@@ -100,19 +101,6 @@ enum Located {
     Word(usize, usize),
 }
 
-/// The active function.
-#[derive(Clone, Copy)]
-struct Active<'a> {
-    /// How many functions may become active in it.
-    depth: u32,
-    /// Where the arrays stand that were given to it, in the order of its array parameters.
-    given: &'a [usize],
-    /// How many arrays stand before its own.
-    base: u32,
-    /// How many turns each loop may take since it was entered.
-    turns: u64,
-}
-
 /// The room inside a construct.
 fn deeper(room: u32) -> Result<u32, Stop>
     ensures { MatchResult result (λ inner. inner + 1 ≡ room) (λ e. e ≡ Stop.Memory) }
@@ -121,32 +109,6 @@ fn deeper(room: u32) -> Result<u32, Stop>
         return Err(Stop::Memory);
     }
     Ok(room - 1)
-}
-
-/// Where an array of the active function stands.
-fn spot(program: &Program, at: &Active, a: u32) -> usize
-    ensures { result ≡ spot_at program.now at.now a }
-{
-    let a = a as usize;
-    let globals = program.globals.len();
-    if a < globals {
-        a
-    } else {
-        behind(at.given, at.base, a - globals)
-    }
-}
-
-/// Where an array behind the globals stands: those that were given at their places, the function's own behind them.
-#[tactic(auto, using(crate::proofs::InterpreterSteps::is_given, crate::proofs::InterpreterSteps::is_own))]
-fn behind(given: &[usize], base: u32, k: usize) -> usize
-    requires { k < 2 ^ 32 }
-    ensures { result ≡ spot_behind given.now base k }
-{
-    if k < given.len() {
-        given[k]
-    } else {
-        base as usize + (k - given.len())
-    }
 }
 
 /// The place of an index in an array.

@@ -2,5 +2,6 @@
 // meaning of the source says; the compiler does not use it.
 #![tactic(auto)]
 
+mod active;
 pub mod interpreter;
 mod store;
