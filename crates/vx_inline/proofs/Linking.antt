@@ -1,17 +1,18 @@
 -- Edges that get blocks of their own, one exit at a time; and how many blocks lead to one.
-use Rattle.std.proofs.Common.{◌≡◌, inl, inr, ℕ, zero, suc, ◌+◌, ◌-◌, ◌<◌, ◌≤◌, ◌^◌, nat_lt, Bool, true, false, cond, ◌==◌, List, [], ◌∷◌, ◌++◌, length, map, drop, get_or, drop-cons, append_assoc, slice_get, slice_index_or, Some, refl, sym, ap, ◌∙◌, arith, eq-eqb, eqb-true, ltb-true, ltb-false}
+use Rattle.std.proofs.Common.{◌≡◌, inl, inr, ℕ, zero, suc, ◌+◌, ◌-◌, ◌<◌, ◌≤◌, ◌^◌, nat_lt, Bool, true, false, cond, ◌==◌, List, [], ◌∷◌, ◌++◌, length, map, take, drop, take-append-drop, get_or, drop-cons, append_assoc, slice_get, slice_index_or, Some, refl, sym, ap, ◌∙◌, arith, eq-eqb, eqb-true, ltb-true, ltb-false}
 use Rattle.std.proofs.lemmas.Bool.{false≢true}
 use Rattle.std.proofs.lemmas.Option.{slice_get_within}
 use Rattle.std.specs.List.{filter}
 use Rattle.vx_flow.specs.declared.graph.Op.{Op}
 use Rattle.vx_flow.specs.declared.graph.Exit.{Exit}
+use Rattle.vx_flow.specs.declared.graph.Exit.TheVariants.{Goto, Split, Call, Return, Ends}
 use Rattle.vx_flow.specs.declared.graph.Block.{Block}
 use Rattle.vx_flow.specs.declared.graph.Edge.{Edge}
 use Rattle.vx_flow.specs.Sound.{Leads, targets_of}
 use Rattle.vx_flow.specs.Walk.{ascending, edge}
 use Rattle.vx_flow.proofs.ClosingSteps.{any_in, in_any}
 use Rattle.vx_shape.specs.Origins.{AreOrigins, NoteIsTrue, HasTwo, IsNoted}
-use Rattle.vx_inline.specs.Inlined.{is_among, entries, critical, relinked, relinked_exit, sides}
+use Rattle.vx_inline.specs.Inlined.{is_among, entries, behind, critical, relinked, relinked_exit, sides, with_edges}
 use Rattle.vx_inline.specs.Linking.{crossing, is_entered_twice, split_sides}
 use Rattle.vx_inline.proofs.Edges.{filter_one}
 
@@ -132,3 +133,27 @@ relinked_next place es blocks i d exit ops now new target l e h x o n =
     ap (λ y. now ++ (record { ops = ops; exit = y } ∷ relinked place es (i + 1) (drop (i + 1) blocks))) x ∙
     ap (λ y. now ++ (record { ops = y; exit = relinked_exit place es i d.exit } ∷ relinked place es (i + 1) (drop (i + 1) blocks))) o ∙
     ap (λ k. now ++ (record d { exit = relinked_exit place es i d.exit } ∷ relinked place es k (drop (i + 1) blocks))) (sym a) ∙ ap (λ y. now ++ y) (sym (at_next (relinked place es i) blocks i d l e)) ∙ h
+
+-- ---- where no edge gets a block, blocks stay as they are
+
+behind_none : (place c : ℕ) → behind place 0 c ≡ c
+behind_none place c = by (nat_lt c place)
+  where
+    by : (t : Bool) → cond t c (c + 0) ≡ c
+    by true = refl
+    by false = omega arith
+
+exit_stays : (place b : ℕ) (exit : Exit) → relinked_exit place [] b exit ≡ exit
+exit_stays place b (Goto c) = ap Goto (behind_none place c)
+exit_stays place b (Split p c d) = ap (λ x. Split p x (behind place 0 d)) (behind_none place c) ∙ ap (λ x. Split p c x) (behind_none place d)
+exit_stays place b (Call f arguments result c) = ap (λ x. Call f arguments result x) (behind_none place c)
+exit_stays place b (Return x) = refl
+exit_stays place b (Ends k) = refl
+
+blocks_stay : (place b : ℕ) (blocks : List Block) → relinked place [] b blocks ≡ blocks
+blocks_stay place b [] = refl
+blocks_stay place b (block ∷ blocks) = ap (λ x. record block { exit = x } ∷ relinked place [] (suc b) blocks) (exit_stays place b block.exit) ∙ ap (λ l. block ∷ l) (blocks_stay place (suc b) blocks)
+
+pub no_edges : (place : ℕ) (es : List Edge) (blocks : List Block) → length es ≡ 0 → blocks ≡ with_edges place es blocks
+no_edges place [] blocks e = sym (ap (λ l. l ++ drop place blocks) (blocks_stay place 0 (take place blocks)) ∙ take-append-drop place blocks)
+no_edges place (x ∷ es) blocks e = absurd (omega (arith, e))

@@ -1,5 +1,5 @@
 -- The site whose call is inlined next.
-use Rattle.std.specs.Prelude.{◌≡◌, ◌<◌, ◌≤◌, ◌⊎◌, ◌+◌, ℕ, Bool, true, nat_lt, Option, Some, None, List, [], ◌∷◌, length}
+use Rattle.std.specs.Prelude.{◌≡◌, ◌<◌, ◌≤◌, ◌⊎◌, ◌+◌, ◌==◌, ◌&&◌, ◌||◌, ℕ, Bool, true, nat_lt, Option, Some, None, List, [], ◌∷◌, length}
 use Rattle.vx_flow.specs.declared.graph.Bank.{Bank}
 use Rattle.vx_flow.specs.declared.graph.Block.{Block}
 use Rattle.vx_flow.specs.declared.graph.Flow.{Flow}
@@ -48,21 +48,28 @@ abbrev pub site_of : ℕ → ℕ → Site
 site_of f b = record { function = f; block = b }
 
 pub record IsFirst (flow : Flow) (counts : Counts) (most f b : ℕ) (site : Site) : Type 0 where
-  pub below : Below site (site_of f b)
   pub candidate : IsCandidate flow most site
   pub first : (other : Site) → Below other (site_of f b) → IsCandidate flow most other → (other ≡ site) ⊎ ComesBefore counts site other
 
--- the first of the candidates below block b of function f
+-- none of the candidates below block b of function f comes before this one
 abbrev pub BestBefore : Flow → Counts → (most f b : ℕ) → Option Site → Type 0
 BestBefore flow counts most f b None = (site : Site) → Below site (site_of f b) → IsCandidate flow most site → ⊥
 BestBefore flow counts most f b (Some site) = IsFirst flow counts most f b site
 
--- the block of a site has a greater count than the best
+-- what it begins with is a candidate
+abbrev pub Seeds : Flow → (most : ℕ) → Option Site → Type 0
+Seeds flow most None = Unit {0}
+Seeds flow most (Some site) = IsCandidate flow most site
+
+abbrev pub is_below : (site other : Site) → Bool
+is_below site other = nat_lt site.function other.function || ((site.function == other.function) && nat_lt site.block other.block)
+
+-- a site comes before the best
 abbrev pub exceeds : Counts → Option Site → Site → Bool
 exceeds counts None site = true
-exceeds counts (Some best) site = nat_lt (count_of counts best) (count_of counts site)
+exceeds counts (Some best) site = nat_lt (count_of counts best) (count_of counts site) || ((count_of counts best == count_of counts site) && is_below site best)
 
--- the site is no candidate, or its block has no greater count than the best
+-- the site is no candidate, or does not come before the best
 abbrev pub NoneIsWorthIt : Flow → Counts → (most : ℕ) → Option Site → Site → Type 0
 NoneIsWorthIt flow counts most best site = IsCandidate flow most site → exceeds counts best site ≡ true → ⊥
 

@@ -5,7 +5,7 @@ ghost use Rattle.std.specs.Option.{option_map};
 ghost use Rattle.vx_flow.specs.Live.{IsLive};
 ghost use Rattle.vx_flow.specs.Rows.{lives};
 ghost use Rattle.vx_flow.specs.Sound.{SoundFlow};
-ghost use Rattle.vx_inline.specs.Choosing.{BestBefore, Chosen, IsWorthIt, NoneIsWorthIt, exceeds, site_of};
+ghost use Rattle.vx_inline.specs.Choosing.{BestBefore, Chosen, IsWorthIt, NoneIsWorthIt, Seeds, exceeds, is_below, site_of};
 ghost use Rattle.vx_inline.specs.Finding.{call_in, seen};
 ghost use Rattle.vx_inline.specs.Inlined.{Reaches};
 ghost use Rattle.vx_inline.specs.Permitting.{StandsApart};
@@ -14,7 +14,7 @@ use crate::called::reached;
 use crate::fitting::{fits, has_few};
 use crate::found_call::{FoundCall, find};
 use crate::free_values::has_values;
-use crate::permission::is_apart;
+use crate::permission::{has_enough, is_apart};
 use crate::site::Site;
 use std::alloc::Global;
 use vx_base::outcome::NoMemory;
@@ -33,7 +33,8 @@ pub struct Asked<'a> {
 }
 
 /// Among the permitted sites whose callee has at most so many operations, the one whose block has the greatest count; on ties the
-/// one of the lowest function, and then the lowest block. None where there is no such site.
+/// one of the lowest function, and then the lowest block. None where there is no such site. All are compared with a likely one, so
+/// that what is live is seldom looked for in other functions than its own.
 #[tactic(auto, using(crate::proofs::Firsts::best_first, crate::proofs::Firsts::chosen_last))]
 pub fn choose(
     alloc: Global,
@@ -47,11 +48,102 @@ pub fn choose(
     let functions = number_of(flow.functions.len())?;
     let reached = reached(alloc, flow)?;
     let asked = Asked { flow, counts, most };
-    let mut best = None;
+    let mut best = seed(alloc, &asked, &reached, functions)?;
     for function in 0..functions {
         best = best_with(alloc, &asked, &reached, function, best)?;
     }
     Ok(best)
+}
+
+/// The site that comes first by what costs little, if it is permitted.
+fn seed(
+    alloc: Global,
+    asked: &Asked,
+    reached: &Live,
+    functions: u32,
+) -> Result<Option<Site>, NoMemory>
+    requires reached { (f g : ℕ) → IsTrue (lives reached.now f g) ↔ Reaches asked.now.flow.now f g }
+    requires count { functions ≡ length asked.now.flow.now.functions }
+    ensures { IfOk result (λ site. Seeds asked.now.flow.now asked.now.most site) }
+{
+    match likely(asked, reached, functions) {
+        Some(site) => tested(alloc, asked, reached, functions, site),
+        None => Ok(None),
+    }
+}
+
+/// The site, if it is permitted and its callee has few operations.
+fn tested(
+    alloc: Global,
+    asked: &Asked,
+    reached: &Live,
+    functions: u32,
+    site: Site,
+) -> Result<Option<Site>, NoMemory>
+    requires reached { (f g : ℕ) → IsTrue (lives reached.now f g) ↔ Reaches asked.now.flow.now f g }
+    requires count { functions ≡ length asked.now.flow.now.functions }
+    ensures { IfOk result (λ site. Seeds asked.now.flow.now asked.now.most site) }
+{
+    if !is_apart(reached, functions, site.function) {
+        return Ok(None);
+    }
+    match worth_it(asked, &site, None) {
+        Some(found) => {
+            if has_enough(alloc, &found)? {
+                Ok(Some(site))
+            } else {
+                Ok(None)
+            }
+        }
+        None => Ok(None),
+    }
+}
+
+/// The site that comes first by what costs little.
+fn likely(asked: &Asked, reached: &Live, functions: u32) -> Option<Site> {
+    let mut best = None;
+    for function in 0..functions {
+        best = likely_with(asked, reached, functions, function, best);
+    }
+    best
+}
+
+fn likely_with(
+    asked: &Asked,
+    reached: &Live,
+    functions: u32,
+    function: u32,
+    best: Option<Site>,
+) -> Option<Site> {
+    match asked.flow.functions.as_slice().get(function as usize) {
+        Some(caller) => {
+            let new = likely_of(asked, function, caller.blocks.len() as u32, best);
+            if !is_of(new, function) || is_apart(reached, functions, function) {
+                new
+            } else {
+                best
+            }
+        }
+        None => best,
+    }
+}
+
+fn is_of(site: Option<Site>, function: u32) -> bool {
+    match site {
+        Some(site) => site.function == function,
+        None => false,
+    }
+}
+
+fn likely_of(asked: &Asked, function: u32, blocks: u32, best: Option<Site>) -> Option<Site> {
+    let mut best = best;
+    for block in 0..blocks {
+        let site = Site { function, block };
+        if worth_it(asked, &site, best).is_some() {
+            best = Some(site);
+        }
+    }
+    best
 }
 
 /// The better of a site and those of one more function.
@@ -112,7 +204,7 @@ fn has_worthy(asked: &Asked, function: u32, blocks: u32, best: Option<Site>) -> 
 }
 
 /// The call of a site, where it is permitted as far as its values and other functions allow it, its callee has few operations, and
-/// its block has a greater count than the best.
+/// it comes before the best.
 #[tactic(auto, using(crate::proofs::Candidates::worth_none))]
 fn worth_it<'a>(asked: &Asked<'a>, site: &Site, best: Option<Site>) -> Option<FoundCall<'a>>
     ensures { IsWorthIt asked.now.flow.now asked.now.counts.now asked.now.most best site.now (option_map seen result) }
@@ -143,16 +235,24 @@ fn worth_of<'a>(
     }
 }
 
+/// Whether a site comes before the best.
 fn exceeds(asked: &Asked, site: &Site, best: Option<Site>) -> bool
     ensures { result ≡ exceeds asked.now.counts.now best site.now }
 {
     match best {
         Some(best) => {
             let count = asked.counts.of_block(site.function, site.block);
-            asked.counts.of_block(best.function, best.block) < count
+            let known = asked.counts.of_block(best.function, best.block);
+            known < count || (known == count && is_below(site, &best))
         }
         None => true,
     }
+}
+
+fn is_below(site: &Site, other: &Site) -> bool
+    ensures { result ≡ is_below site.now other.now }
+{
+    site.function < other.function || (site.function == other.function && site.block < other.block)
 }
 
 /// The best of a site and those of a function that no cycle of calls reaches.

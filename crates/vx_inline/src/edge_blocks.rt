@@ -127,8 +127,22 @@ fn leads_to(exit: &Exit, to: BlockId) -> bool
     }
 }
 
-/// The blocks with a block for each of these edges at a place.
-pub(crate) fn with_edges(
+/// The blocks with a block for each of these edges at a place; as they are where there is none.
+pub(crate) fn linked(
+    alloc: Global,
+    place: u32,
+    edges: &Listed<Edge>,
+    blocks: Listed<Block>,
+) -> Result<Listed<Block>, NoMemory>
+    ensures { IfOk result (λ new. new ≡ with_edges place edges.now blocks) }
+{
+    if edges.is_empty() {
+        return Ok(blocks);
+    }
+    with_edges(alloc, place, edges, blocks.as_slice())
+}
+
+fn with_edges(
     alloc: Global,
     place: u32,
     edges: &Listed<Edge>,

@@ -12,7 +12,7 @@ ghost use Rattle.vx_inline.specs.Taking.{value_at};
 ghost use Rattle.vx_inline.specs.Values.{of_bank};
 
 use crate::by_bank::{ByBank, named};
-use crate::edge_blocks::{critical, with_edges};
+use crate::edge_blocks::{critical, linked};
 use crate::found_call::{FoundCall, find};
 use crate::free_values::free_values;
 use crate::places::{kinds, places_of, plain_count};
@@ -134,7 +134,7 @@ fn placed_with(
     let blocks = joined(alloc, found, site, to, callers, all)?;
     let _count = blocks.len();
     let edges = critical(alloc, blocks.as_slice())?;
-    with_edges(alloc, all, &edges, blocks.as_slice())
+    linked(alloc, all, &edges, blocks)
 }
 
 /// The blocks before there are blocks for edges.

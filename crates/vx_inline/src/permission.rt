@@ -77,7 +77,8 @@ pub(crate) fn is_apart(reached: &Live, count: u32, function: u32) -> bool
     true
 }
 
-fn has_enough(alloc: Global, found: &FoundCall) -> Result<bool, NoMemory>
+/// Whether of each bank as many values of the caller are free as the callee names.
+pub(crate) fn has_enough(alloc: Global, found: &FoundCall) -> Result<bool, NoMemory>
     ensures { IfOk result (λ has. IsTrue has ↔ HasEnough (seen found.now)) }
 {
     let live = live(alloc, found.caller)?;

@@ -1,4 +1,4 @@
-use Rattle.std.proofs.Common.{◌≡◌, ◌∙◌, ◌++◌, sym, ap, append-nil}
+use Rattle.std.proofs.Common.{◌∙◌, ◌++◌, sym, ap, append-nil}
 use Rattle.vx_inline.proofs.Fits.{no_places}
 use Rattle.vx_inline.proofs.free_values.push_places.Goals as goal
 
