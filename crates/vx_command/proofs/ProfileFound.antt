@@ -1,5 +1,5 @@
 -- What clap finds in the words of `profile`, as the definition of the command says it, and worked words.
-use Rattle.std.proofs.Common.{◌≡◌, ◌≢◌, ◌∙◌, ℕ, true, List, [], ◌∷◌, Option, Some, None, option_map, refl, subst, ap}
+use Rattle.std.proofs.Common.{◌≡◌, ◌≢◌, ◌∙◌, ℕ, true, List, [], ◌∷◌, Option, Some, None, refl, subst, ap}
 use Rattle.std.specs.Prelude.{codes, unwrap_or}
 use Rattle.clap.specs.Walk.{Row, rows_of}
 use Rattle.clap.specs.Matches.{first_value}

@@ -1,6 +1,6 @@
 -- The numbers that were found, or that one is none.
-use Rattle.std.proofs.Common.{◌∙◌, Some, None, ap, codes, refl}
-use Rattle.clap.specs.Words.{first_value, found_of}
+use Rattle.std.proofs.Common.{◌∙◌, Some, None, ap, refl}
+use Rattle.clap.specs.Words.{found_of}
 use Rattle.vx_command.specs.Command.{number_or_none}
 use Rattle.vx_command.proofs.CommandWords.{rewriting_is}
 use Rattle.vx_command.proofs.rewriting_words.rewriting_found.Goals as goal

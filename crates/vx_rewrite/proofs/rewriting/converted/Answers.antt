@@ -1,6 +1,4 @@
 -- The number is one that may be asked.
-use Rattle.std.proofs.Common.{subst}
-use Rattle.std.specs.Prelude.{IfSome, ◌≤◌}
 use Rattle.vx_rewrite.proofs.rewriting.converted.Goals as goal
 
 pub select-requires : goal.select-requires

@@ -1,5 +1,4 @@
 -- What is converted comes of graphs with room, in which nothing is left to inline.
-use Rattle.std.proofs.Common.{refl}
 use Rattle.std.proofs.lemmas.Result.{IfOk-weaker}
 use Rattle.vx_ast.specs.View.{program_of}
 use Rattle.vx_rewrite.proofs.Asked.{converted_stays, nothing_asked, rewritten_asked}
