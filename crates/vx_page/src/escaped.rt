@@ -2,7 +2,7 @@
 
 ghost use Rattle.std.specs.Prelude.{◌≡◌, ◌++◌, ◌∷◌, [], OnOk};
 ghost use Rattle.std.specs.List.{flat_map};
-ghost use Rattle.vx_page.specs.Escaped.{escaped};
+ghost use Rattle.vx_page.specs.Escaped.{StaysInside, escaped};
 
 use vx_base::outcome::NoMemory;
 
@@ -36,7 +36,7 @@ fn push_escaped_byte(out: &mut Vec<u8>, byte: u8) -> Result<(), NoMemory>
     }
 }
 
-/// Puts bytes of a source at the end of a page: each as it is, or by its name. None of what is put is `<`, `>` or a quote.
+/// Puts bytes of a source at the end of a page: each as it is, or by its name.
 pub fn push_escaped(out: &mut Vec<u8>, bytes: &[u8]) -> Result<(), NoMemory>
     ensures { OnOk result (out.new.items ≡ out.old.items ++ flat_map escaped bytes.now) }
 {
@@ -45,3 +45,9 @@ pub fn push_escaped(out: &mut Vec<u8>, bytes: &[u8]) -> Result<(), NoMemory>
     }
     Ok(())
 }
+
+/// Whatever stands in a source, none of the bytes that are put for it is `<`, `>` or a quote. It does nothing.
+#[tactic(auto, using(crate::proofs::Inside::stays_inside))]
+pub fn escaped_stays_inside()
+    ensures { StaysInside }
+{}

@@ -12,6 +12,29 @@ use vx_flow::trace::TraceOp;
 use vx_machine::Machine;
 use vx_machine::items::Item;
 
+/// What an operation passed: the first of it in the order of the trace, and how many.
+#[derive(Clone, Copy)]
+pub struct Passed {
+    /// The place of the first split, or the block of the first join.
+    pub first: u32,
+    /// How many, 1 at least.
+    pub count: u32,
+}
+
+/// One more passed.
+fn one_more(passed: Option<Passed>, at: u32) -> Option<Passed> {
+    match passed {
+        Some(before) => Some(Passed {
+            first: before.first,
+            count: before.count.saturating_add(1),
+        }),
+        None => Some(Passed {
+            first: at,
+            count: 1,
+        }),
+    }
+}
+
 /// An operation of a trace.
 #[derive(Clone, Copy)]
 pub struct OpFact {
@@ -31,12 +54,12 @@ pub struct OpFact {
     pub ready: u32,
     /// The operation by which it may not stand earlier.
     pub waits_for: Option<Earlier>,
-    /// The place of a split that it was moved above.
-    pub above_split: Option<u32>,
-    /// The place of a split that it was moved below.
-    pub below_split: Option<u32>,
-    /// The block of a join that it was moved above.
-    pub above_join: Option<BlockId>,
+    /// The splits that it was moved above.
+    pub above_split: Option<Passed>,
+    /// The splits that it was moved below.
+    pub below_split: Option<Passed>,
+    /// The joins that it was moved above.
+    pub above_join: Option<Passed>,
     /// Whether it brings a value to another cluster, and stands in no block.
     pub is_across: bool,
     /// Whether it is a load that may stand where its place is outside of the array.
@@ -162,12 +185,12 @@ fn wait_of(earlier: &[Earlier], facts: &[OpFact]) -> Wait {
     wait
 }
 
-/// The place of the last split above an operation that does not stand in an earlier word.
-fn passed_split(splits: &[EdgeCopies], words: &[u32], place: u32, word: u32) -> Option<u32> {
+/// The splits above an operation that do not stand in an earlier word.
+fn passed_splits(splits: &[EdgeCopies], words: &[u32], place: u32, word: u32) -> Option<Passed> {
     let mut found = None;
     for split in splits {
         if split.split < place && word <= word_at(words, split.split) {
-            found = Some(split.split);
+            found = one_more(found, split.split);
         }
     }
     found
@@ -188,7 +211,7 @@ fn fact_at(
     let words = trace.placed.words.as_slice();
     let word = word_at(words, number);
     let wait = wait_of(deps.earlier(number), facts);
-    let above_split = passed_split(trace.splits, words, number, word);
+    let above_split = passed_splits(trace.splits, words, number, word);
     OpFact {
         word,
         cluster: word_at(trace.placed.clustered.clusters.as_slice(), number),
@@ -248,7 +271,7 @@ fn push_facts(
 fn mark_below(facts: &mut Vec<OpFact>, places: &[u32], split: u32) {
     for place in places {
         if let Some(fact) = facts.get_mut(*place as usize) {
-            fact.below_split = Some(split);
+            fact.below_split = one_more(fact.below_split, split);
         }
     }
 }
@@ -256,7 +279,7 @@ fn mark_below(facts: &mut Vec<OpFact>, places: &[u32], split: u32) {
 fn mark_above(facts: &mut Vec<OpFact>, places: &[u32], block: BlockId) {
     for place in places {
         if let Some(fact) = facts.get_mut(*place as usize) {
-            fact.above_join = Some(block);
+            fact.above_join = one_more(fact.above_join, block);
         }
     }
 }

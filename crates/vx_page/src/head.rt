@@ -168,7 +168,7 @@ pub fn put_marks(page: &mut Page) {
         b"<h2 id=marks>Marks</h2><details><summary>how to read a trace</summary><ul><li>A row is a word, a column a cluster. Each operation has its number in the trace, its block, and the word in which its result has landed. Its colour is that of its block. A dashed box is an empty slot; units in use stand beside it, those all in use in red.",
     );
     page.put(
-        b"<li><b>&uarr;7</b> was moved above the branch 7, which stood before it. <b>&darr;7</b> was moved below the branch 7, and is copied onto its edge. <b>&uarr;block 7</b> was moved above the place where edges enter block 7, and is copied onto each. <b>copy</b> brings a value to another cluster. <b>dismissible</b> may load from outside of its array, where a branch above it would have left.",
+        b"<li><b>&uarr;7</b> was moved above the branch 7, which stood before it. <b>&darr;7</b> was moved below the branch 7, and is copied onto its edge. <b>&uarr;block 7</b> was moved above the place where edges enter block 7, and is copied onto each. <b>&times;3</b> says that it passed so many, this one first. <b>copy</b> brings a value to another cluster. <b>dismissible</b> may load from outside of its array, where a branch above it would have left.",
     );
     page.put(
         b"<li>A red edge is on a longest way through the trace. What an operation waits for stands in its line behind the table, and under the pointer.",

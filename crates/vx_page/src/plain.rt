@@ -1,6 +1,6 @@
 // Traces as a plain text: each with its words, and in these its operations.
 
-use crate::facts::{OpFact, facts_of};
+use crate::facts::{OpFact, Passed, facts_of};
 use crate::notes::BlockNote;
 use crate::operations::{put_function, put_trace_op};
 use crate::page::Page;
@@ -39,16 +39,19 @@ fn put_fact(page: &mut Page, fact: &OpFact) {
     page.field(b" height ", fact.height);
 }
 
-fn put_place(page: &mut Page, name: &[u8], place: Option<u32>) {
-    if let Some(place) = place {
-        page.field(name, place);
+fn put_passed(page: &mut Page, name: &[u8], passed: Option<Passed>) {
+    if let Some(passed) = passed {
+        page.field(name, passed.first);
+        if passed.count > 1 {
+            page.field(b" and more ", passed.count.saturating_sub(1));
+        }
     }
 }
 
 fn put_how(page: &mut Page, fact: &OpFact) {
-    put_place(page, b" above ", fact.above_split);
-    put_place(page, b" below ", fact.below_split);
-    put_place(page, b" above block ", fact.above_join);
+    put_passed(page, b" above ", fact.above_split);
+    put_passed(page, b" below ", fact.below_split);
+    put_passed(page, b" above block ", fact.above_join);
     if fact.is_dismissible {
         page.put(b" dismissible");
     }

@@ -2,7 +2,7 @@
 
 ghost use Rattle.std.specs.Prelude.{◌≤◌, length};
 
-use crate::facts::OpFact;
+use crate::facts::{OpFact, Passed};
 use crate::loads::{Load, copies_in, load_at};
 use crate::notes::{BlockNote, edges_of, note_of};
 use crate::operations::{put_exit, put_trace_op};
@@ -111,10 +111,13 @@ fn put_classes(page: &mut Page, shown: &Shown, fact: &OpFact) {
     }
 }
 
-fn put_mark(page: &mut Page, mark: &[u8], number: Option<u32>) {
-    if let Some(number) = number {
+fn put_mark(page: &mut Page, mark: &[u8], passed: Option<Passed>) {
+    if let Some(passed) = passed {
         page.put(b" <u>");
-        page.field(mark, number);
+        page.field(mark, passed.first);
+        if passed.count > 1 {
+            page.field(b" &times;", passed.count);
+        }
         page.put(b"</u>");
     }
 }
@@ -255,7 +258,6 @@ fn put_edge(page: &mut Page, edge: Edge) {
 
 fn put_places(page: &mut Page, places: &[u32]) {
     if places.is_empty() {
-        page.put(b", with no copies");
         return;
     }
     page.put(b", with copies of");
@@ -269,11 +271,10 @@ fn put_entry(page: &mut Page, shown: &Shown, rejoin: &Rejoin) {
     page.put(b"<tr class=j><th>&#8627;");
     put_span(page, shown);
     page.field(b"join of block ", rejoin.block);
-    page.put(b": the edges");
+    page.put(b": entered by");
     for edge in edges_of(joins, rejoin.block) {
         put_edge(page, *edge);
     }
-    page.put(b" come in here");
     put_places(page, rejoin.copies.as_slice());
 }
 
