@@ -119,8 +119,8 @@ copied_where_laid to chains g h e t =
     let c : Copied g laid_graph = record {
       at = places_from g.blocks 0 chains;
       cleaned = laid_cleaned (moves to) chains g first
-      (begun_if (moves to) g.blocks chains 0 (slice_get chains (moves to 0)) refl (ap (λ n. is_near_in g.blocks 0 (slice_get chains n)) first ∙ b.1))
-      (λ i chain q. linked_if (moves to) g.blocks chains chain (all_at (is_linked (moves to) g.blocks chains) chains i chain a.1 q));
+          (begun_if (moves to) g.blocks chains 0 (slice_get chains (moves to 0)) refl (ap (λ n. is_near_in g.blocks 0 (slice_get chains n)) first ∙ b.1))
+          (λ i chain q. linked_if (moves to) g.blocks chains chain (all_at (is_linked (moves to) g.blocks chains) chains i chain a.1 q));
       is = refl;
     } in
     subst (Copied g) (sym e) c

@@ -13,6 +13,6 @@ returns-then-branch c =
     let new : List Graph = c.in-Some.threaded in
     let copied : Each (OrSame Copied) old between = c.in_ok-between.ensures in
     let narrowed : GraphsNarrowed between new = subst (λ (o : Option (List Graph)). IfSome o (λ made. GraphsNarrowed between made)) c.in-Some.is
-          (subst (λ (gs : List Graph). IfSome c.in_ok-threaded.field-0 (λ made. GraphsNarrowed gs made)) c.as_slice.ensures c.in_ok-threaded.ensures) in
+    (subst (λ (gs : List Graph). IfSome c.in_ok-threaded.field-0 (λ made. GraphsNarrowed gs made)) c.as_slice.ensures c.in_ok-threaded.ensures) in
     let shaped : AreShaped new = subst AreShaped c.as_slice-in-Some.ensures (c.in_ok-are_shaped-in-Some.ensures c.if-branch.true) in
     threaded_by old between new copied narrowed shaped
