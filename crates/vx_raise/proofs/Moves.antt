@@ -11,7 +11,7 @@ use Rattle.vx_shape.proofs.Pairs.{each_related}
 use Rattle.vx_shape.proofs.FlowsStay.{KeepsShape, runs_stay}
 use Rattle.vx_lower.specs.FlowOf.{GraphOf, FlowOf}
 use Rattle.vx_raise.specs.Raising.{GraphRaised, RaisedRuns, RaisedStays}
-use Rattle.vx_raise.specs.Moving.{GraphStep, Steps, GraphMoved, MovedRuns, MovedPaths, MovedStays}
+use Rattle.vx_raise.specs.Moving.{GraphStep, Steps, GraphMoved, MovedRuns, MovedPaths, SamePaths, PathsStay, MovedStays}
 use Rattle.vx_raise.proofs.FlowsTied.{GraphTied, runs_tied, paths_tied}
 use Rattle.vx_raise.proofs.Raises.{front_of, tie, graph_tied}
 use Rattle.vx_raise.proofs.Exchanges.{all_tie, exchanged_tied, same_tied}
@@ -138,3 +138,15 @@ pub once_moved : (flow new : Flow) (graphs : List Graph) → Each (OrSame GraphM
 once_moved flow new graphs s e sound p o =
     let t : is_sound_flow (with_graphs flow graphs) ≡ true = subst (λ f. is_sound_flow f ≡ true) e sound in
     subst (FlowOf p) (sym e) (moved_stays flow graphs (each_related GraphMoved flow.functions graphs moved_itself s) t p o)
+
+pub once_paths : (flow new : Flow) (graphs : List Graph) → Each (OrSame GraphMoved) flow.functions graphs → new ≡ with_graphs flow graphs → SamePaths flow new
+once_paths flow new graphs s e input safe n =
+    subst (λ f. graph_path f input n ≡ graph_path flow input n) (sym e) (moved_paths flow graphs (each_related GraphMoved flow.functions graphs moved_itself s) input safe n)
+
+pub same_paths : (flow : Flow) → SamePaths flow flow
+same_paths flow input safe n = refl
+
+-- one way after the other
+pub paths_along : (flow between new : Flow) → FlowStays flow between → SamePaths flow between → SamePaths between new → PathsStay flow new
+paths_along flow between new stays one two p o input numbers n =
+    two input ((stays p o).runs.never_wrong input numbers) n ∙ one input (o.runs.never_wrong input numbers) n

@@ -1,12 +1,12 @@
 // The values that are kept from block to block, and whether there are registers for more of them.
 
-use crate::sketch::{Ground, Trial, as_number};
+use crate::sketch::{Ground, Sketch, Trial};
 use crate::steps::{Step, has};
 use std::alloc::Global;
 use vx_base::outcome::NoMemory;
-use vx_flow::graph::{Bank, Graph, Value};
+use vx_flow::graph::{Bank, BlockId, Graph, Value};
 
-/// The values that are live at the start of some block, and how many of each bank.
+/// The values that are live at the start of some block of a turn, and how many of each bank.
 #[derive(Drop)]
 pub(crate) struct Names {
     is_kept: Vec<bool>,
@@ -14,8 +14,10 @@ pub(crate) struct Names {
     branch: u32,
 }
 
-/// How many values pass in a turn at a time for each operation of a word, at most.
+/// How many values pass in a turn at a time for each operation of a word, at most, and how many tests.
 const AT_A_TIME: u32 = 4;
+
+const TESTS_AT_A_TIME: u32 = 2;
 
 /// How many values pass in a turn that are not kept, of each bank.
 #[derive(Clone, Copy)]
@@ -40,15 +42,21 @@ impl Passing {
     }
 }
 
-/// The values of a graph that are kept from block to block.
-pub(crate) fn names_of(alloc: Global, ground: &Ground) -> Result<Names, NoMemory> {
+/// The values that are kept from block to block in a turn.
+pub(crate) fn names_of(
+    alloc: Global,
+    ground: &Ground,
+    sketch: &Sketch,
+    path: &[BlockId],
+) -> Result<Names, NoMemory> {
     let mut names = Names {
         is_kept: vec![in alloc; false; ground.graph.banks.len()]?,
         general: 0,
         branch: 0,
     };
-    for block in 0..ground.graph.blocks.len() {
-        names.keep_all(ground.graph, ground.live.values_at(as_number(block)));
+    for block in path {
+        names.keep_all(ground.graph, ground.live.values_at(*block));
+        names.keep_raised(ground.graph, sketch.raised_since(0), *block);
     }
     Ok(names)
 }
@@ -57,6 +65,14 @@ impl Names {
     fn keep_all(&mut self, graph: &Graph, values: &[Value]) {
         for value in values {
             self.keep(graph, *value);
+        }
+    }
+
+    fn keep_raised(&mut self, graph: &Graph, trials: &[Trial], block: BlockId) {
+        for trial in trials {
+            if trial.block == block {
+                self.keep(graph, trial.value);
+            }
         }
     }
 
@@ -113,7 +129,7 @@ impl Names {
             ground.units.registers,
         ) && has_registers(
             branch,
-            self.branch.saturating_add(tests),
+            self.branch.saturating_add(tests.min(TESTS_AT_A_TIME)),
             ground.units.branch_registers,
         )
     }

@@ -38,21 +38,36 @@ pub(crate) struct Plan {
     pub cycles: u32,
 }
 
-/// The delays of each step behind those above it, row by row.
+/// By how many words a step has to stand behind one above it.
+#[derive(Clone, Copy)]
+struct Delay {
+    below: usize,
+    words: u32,
+}
+
+/// The delays behind each step, one step after the other, and where those of each begin.
 #[derive(Drop)]
 struct Delays {
-    count: usize,
-    cells: Vec<Option<u32>>,
+    all: Vec<Delay>,
+    starts: Vec<usize>,
 }
 
 impl Delays {
-    fn at(&self, above: usize, below: usize) -> Option<u32> {
-        match self
-            .cells
-            .get(above.saturating_mul(self.count).saturating_add(below))
-        {
-            Some(delay) => *delay,
-            None => None,
+    /// The delays behind a step.
+    fn behind(&self, above: usize) -> &[Delay] {
+        let start = self.start_of(above);
+        let end = self.start_of(above.saturating_add(1));
+        if start <= end && end <= self.all.len() {
+            &self.all[start..end]
+        } else {
+            &[]
+        }
+    }
+
+    fn start_of(&self, step: usize) -> usize {
+        match self.starts.get(step) {
+            Some(start) => *start,
+            None => self.all.len(),
         }
     }
 }
@@ -63,40 +78,52 @@ fn delays_of(
     sketch: &Sketch,
     steps: &[Step],
 ) -> Result<Delays, NoMemory> {
-    let mut cells = Vec::new(alloc);
+    let mut delays = Delays {
+        all: Vec::new(alloc),
+        starts: Vec::new(alloc),
+    };
     for (above, first) in steps.iter().enumerate() {
-        for (below, second) in steps.iter().enumerate() {
-            if above < below {
-                cells.push(delay_of(ground, sketch, first, second))?;
-            } else {
-                cells.push(None)?;
+        delays.starts.push(delays.all.len())?;
+        push_delays(ground, sketch, steps, above, first, &mut delays.all)?;
+    }
+    Ok(delays)
+}
+
+fn push_delays(
+    ground: &Ground,
+    sketch: &Sketch,
+    steps: &[Step],
+    above: usize,
+    first: &Step,
+    all: &mut Vec<Delay>,
+) -> Result<(), NoMemory> {
+    for (below, second) in steps.iter().enumerate() {
+        if above < below {
+            match delay_of(ground, sketch, first, second) {
+                Some(words) => all.push(Delay { below, words })?,
+                None => {}
             }
         }
     }
-    Ok(Delays {
-        count: steps.len(),
-        cells,
-    })
+    Ok(())
 }
 
 /// The greatest sum of a delay and the height of the later step, for each.
-fn heights_of(alloc: Global, delays: &Delays) -> Result<Vec<u32>, NoMemory> {
-    let mut heights = vec![in alloc; 0u32; delays.count]?;
-    for behind in 0..delays.count {
-        let above = delays.count - 1 - behind;
-        let height = height_at(delays, heights.as_slice(), above);
+fn heights_of(alloc: Global, delays: &Delays, count: usize) -> Result<Vec<u32>, NoMemory> {
+    let mut heights = vec![in alloc; 0u32; count]?;
+    for behind in 0..count {
+        let above = count - 1 - behind;
+        let height = height_by(delays.behind(above), heights.as_slice());
         set(&mut heights, above, height);
     }
     Ok(heights)
 }
 
-fn height_at(delays: &Delays, heights: &[u32], above: usize) -> u32 {
+fn height_by(delays: &[Delay], heights: &[u32]) -> u32 {
     let mut height = 0u32;
-    for (below, other) in heights.iter().enumerate() {
-        match delays.at(above, below) {
-            Some(delay) => height = height.max(delay.saturating_add(*other)),
-            None => {}
-        }
+    for delay in delays {
+        let other = number_at(heights, delay.below);
+        height = height.max(delay.words.saturating_add(other));
     }
     height
 }
@@ -134,7 +161,7 @@ fn words_by(
     steps: &[Step],
     delays: &Delays,
 ) -> Result<Vec<u32>, NoMemory> {
-    let heights = heights_of(alloc, delays)?;
+    let heights = heights_of(alloc, delays, steps.len())?;
     words_of(alloc, units, steps, delays, heights.as_slice())
 }
 
@@ -146,14 +173,16 @@ fn words_of(
     heights: &[u32],
 ) -> Result<Vec<u32>, NoMemory> {
     let mut words = vec![in alloc; NO_WORD; steps.len()]?;
+    let mut ready = vec![in alloc; 0u32; steps.len()]?;
     let mut used = Vec::new(alloc);
     for _ in 0..steps.len() {
         match next_step(words.as_slice(), heights) {
             Some(place) => match steps.get(place) {
                 Some(step) => {
-                    let ready = ready_at(delays, words.as_slice(), place);
-                    let word = put(units, &mut used, step, ready)?;
+                    let first = number_at(ready.as_slice(), place);
+                    let word = put(units, &mut used, step, first)?;
                     set(&mut words, place, word);
+                    delay_each(&mut ready, delays.behind(place), word);
                 }
                 None => {}
             },
@@ -176,19 +205,16 @@ fn next_step(words: &[u32], heights: &[u32]) -> Option<usize> {
     best
 }
 
-fn ready_at(delays: &Delays, words: &[u32], below: usize) -> u32 {
-    let mut ready = 0u32;
-    for (above, word) in words.iter().enumerate() {
-        match delays.at(above, below) {
-            Some(delay) => {
-                if *word != NO_WORD {
-                    ready = ready.max(word.saturating_add(delay));
-                }
-            }
-            None => {}
-        }
+/// Notes the first word that those behind a step in a word may have.
+fn delay_each(ready: &mut Vec<u32>, delays: &[Delay], word: u32) {
+    for delay in delays {
+        let first = number_at(ready.as_slice(), delay.below);
+        set(
+            ready,
+            delay.below,
+            first.max(word.saturating_add(delay.words)),
+        );
     }
-    ready
 }
 
 /// The most words of a plan.
@@ -272,9 +298,20 @@ fn cycles_of(steps: &[Step], words: &[u32]) -> u32 {
     cycles
 }
 
-/// The cycles until the row is left by a split that stands in a word.
+/// The cycles until the row is left by a split that stands in a word: the way on begins at once where all results have landed.
 pub(crate) fn cycles_to(steps: &[Step], words: &[u32], split: u32) -> u32 {
-    let mut cycles = split.saturating_add(2);
+    let next = split.saturating_add(1);
+    let landed = landed_behind(steps, words, split);
+    if landed <= next {
+        next
+    } else {
+        landed.max(next.saturating_add(1))
+    }
+}
+
+/// The cycles until the results of all words up to one have landed.
+fn landed_behind(steps: &[Step], words: &[u32], split: u32) -> u32 {
+    let mut cycles = 0u32;
     for (place, word) in words.iter().enumerate() {
         match steps.get(place) {
             Some(step) => {
@@ -294,7 +331,7 @@ fn tails_of(alloc: Global, steps: &[Step], delays: &Delays) -> Result<Vec<u32>, 
     for behind in 0..steps.len() {
         let above = steps.len() - 1 - behind;
         let own = steps[above].latency.max(2);
-        let tail = height_at(delays, tails.as_slice(), above);
+        let tail = height_by(delays.behind(above), tails.as_slice());
         set(&mut tails, above, tail.max(own));
     }
     Ok(tails)

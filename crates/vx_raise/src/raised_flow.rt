@@ -6,11 +6,11 @@ ghost use Rattle.vx_ast.specs.Tree.{Program};
 ghost use Rattle.vx_flow.specs.Sound.{is_sound_flow};
 ghost use Rattle.vx_lower.specs.FlowOf.{FlowOf};
 ghost use Rattle.vx_shape.specs.Flows.{FlowStays};
-ghost use Rattle.vx_raise.specs.Moving.{GraphMoved};
+ghost use Rattle.vx_raise.specs.Moving.{GraphMoved, PathsStay, SamePaths};
 
 use crate::known::Move;
 use crate::lifted_graph::raise_all;
-use crate::search::wanted_of;
+use crate::search::{Aim, wanted_of};
 use crate::units::Units;
 use std::alloc::Global;
 use vx_base::listed::Listed;
@@ -31,6 +31,7 @@ pub struct Wanted {
 pub fn raised_flow(alloc: Global, flow: &Flow, wanted: &[Wanted]) -> Result<Option<Flow>, NoMemory>
     ensures sound { IfOk result (λ answer. IfSome answer (λ raised. is_sound_flow raised ≡ true)) }
     ensures flow { IfOk result (λ answer. IfSome answer (λ raised. FlowStays flow.now raised)) }
+    ensures paths { IfOk result (λ answer. IfSome answer (λ raised. SamePaths flow.now raised)) }
 {
     let functions = each_made(alloc, &RaisePass { wanted }, flow.functions.as_slice())?;
     let raised = with_graphs(alloc, flow, functions)?;
@@ -79,14 +80,34 @@ fn raised_by(alloc: Global, graph: &Graph, wanted: &Wanted) -> Result<Option<Gra
     Ok(Some(raised))
 }
 
-/// The graphs of a program with operations of the likely turns of innermost loops begun in the turn before, where that makes them
-/// shorter; as they came where they would not be sound. Blocks keep their numbers and exits, so that counts of them stay true.
+/// The graphs of a program with operations raised where that makes the likely turns of loops shorter: from ways beside, and then those
+/// with which a turn begins, in the turn before; as they came where they would not be sound. Blocks keep their numbers and exits, so
+/// that counts of them stay true.
+#[tactic(auto, using(crate::proofs::Moves::paths_along))]
 pub fn raise(alloc: Global, flow: Flow, counts: &Counts, units: &Units) -> Result<Flow, NoMemory>
     requires { is_sound_flow flow ≡ true }
     ensures sound { IfOk result (λ raised. is_sound_flow raised ≡ true) }
     ensures flow { IfOk result (λ raised. (p : Program) → FlowOf p flow → FlowOf p raised) }
+    ensures paths { IfOk result (λ raised. PathsStay flow raised) }
 {
-    match raised_where_found(alloc, &flow, counts, units) {
+    let beside = raised_for(alloc, flow, counts, units, Aim::Beside)?;
+    raised_for(alloc, beside, counts, units, Aim::Turns)
+}
+
+#[tactic(auto, using(crate::proofs::Moves::same_paths))]
+fn raised_for(
+    alloc: Global,
+    flow: Flow,
+    counts: &Counts,
+    units: &Units,
+    aim: Aim,
+) -> Result<Flow, NoMemory>
+    requires { is_sound_flow flow ≡ true }
+    ensures sound { IfOk result (λ raised. is_sound_flow raised ≡ true) }
+    ensures flow { IfOk result (λ raised. FlowStays flow raised) }
+    ensures paths { IfOk result (λ raised. SamePaths flow raised) }
+{
+    match raised_where_found(alloc, &flow, counts, units, aim) {
         Ok(Some(raised)) => {
             drop(flow);
             Ok(raised)
@@ -104,11 +125,13 @@ fn raised_where_found(
     flow: &Flow,
     counts: &Counts,
     units: &Units,
+    aim: Aim,
 ) -> Result<Option<Flow>, NoMemory>
     ensures sound { IfOk result (λ answer. IfSome answer (λ raised. is_sound_flow raised ≡ true)) }
     ensures flow { IfOk result (λ answer. IfSome answer (λ raised. FlowStays flow.now raised)) }
+    ensures paths { IfOk result (λ answer. IfSome answer (λ raised. SamePaths flow.now raised)) }
 {
-    let wanted = wanted_of(alloc, flow, counts, units)?;
+    let wanted = wanted_of(alloc, flow, counts, units, aim)?;
     if !is_any_wanted(wanted.as_slice()) {
         return Ok(None);
     }

@@ -1,4 +1,4 @@
-// What is raised so that the turns of innermost loops get shorter: what stands in the first word of an estimated plan of the turn is
+// What is raised so that the turns of loops get shorter: what stands in the first word of an estimated plan of the turn is
 // put round the back edge, again and again, as long as that helps (rotation scheduling, Chao, LaPaugh and Sha, 1993). It owes nothing:
 // each move is tested when it is made.
 
@@ -25,6 +25,16 @@ const MOST_IDLE: usize = 3;
 
 /// The most operations that are raised in a graph.
 const MOST_MOVES: usize = 512;
+
+/// The most operations of a block beside the path, or where ways meet, that are raised.
+const MOST_BESIDE: usize = 16;
+
+/// What is looked for: what shortens the ways beside the turns of loops, or the turns too.
+#[derive(Clone, Copy, PartialEq, Eq)]
+pub(crate) enum Aim {
+    Beside,
+    Turns,
+}
 
 /// Which operations of the first word are put round.
 #[derive(Clone, Copy, PartialEq, Eq)]
@@ -55,10 +65,11 @@ pub(crate) fn wanted_of(
     flow: &Flow,
     counts: &Counts,
     units: &Units,
+    aim: Aim,
 ) -> Result<Vec<Wanted>, NoMemory> {
     let mut all = Vec::new(alloc);
     for (function, graph) in flow.functions.as_slice().iter().enumerate() {
-        let moves = moves_of(alloc, graph, counts, as_number(function), units)?;
+        let moves = moves_of(alloc, graph, counts, as_number(function), units, aim)?;
         all.push(Wanted { moves })?;
     }
     Ok(all)
@@ -71,11 +82,12 @@ fn moves_of(
     counts: &Counts,
     function: u32,
     units: &Units,
+    aim: Aim,
 ) -> Result<Listed<Move>, NoMemory> {
     let mut sketch = Sketch::of_graph(alloc, graph.blocks.as_slice())?;
     let mut walk = walk_of(alloc, graph, counts, function)?;
     if units.first_slots > 1 && has_loop(&walk, &sketch, graph.blocks.len()) {
-        raise_in(alloc, graph, units, &mut sketch, &mut walk)?;
+        raise_in(alloc, graph, units, &mut sketch, &mut walk, aim)?;
     }
     sketch.moves(alloc)
 }
@@ -95,6 +107,7 @@ fn raise_in(
     units: &Units,
     sketch: &mut Sketch,
     walk: &mut Walk,
+    aim: Aim,
 ) -> Result<(), NoMemory> {
     let live = live(alloc, graph)?;
     let ground = Ground {
@@ -102,7 +115,7 @@ fn raise_in(
         live: &live,
         units,
     };
-    raise_at_headers(alloc, &ground, sketch, walk)
+    raise_at_headers(alloc, &ground, sketch, walk, aim)
 }
 
 fn raise_at_headers(
@@ -110,10 +123,10 @@ fn raise_at_headers(
     ground: &Ground,
     sketch: &mut Sketch,
     walk: &mut Walk,
+    aim: Aim,
 ) -> Result<(), NoMemory> {
-    let mut names = names_of(alloc, ground)?;
     for header in 0..ground.graph.blocks.len() {
-        raise_at(alloc, ground, sketch, walk, &mut names, as_number(header))?;
+        raise_at(alloc, ground, sketch, walk, as_number(header), aim)?;
     }
     Ok(())
 }
@@ -123,14 +136,17 @@ fn raise_at(
     ground: &Ground,
     sketch: &mut Sketch,
     walk: &mut Walk,
-    names: &mut Names,
     header: BlockId,
+    aim: Aim,
 ) -> Result<(), NoMemory> {
     if !walk.is_header(sketch, header) || sketch.count() >= MOST_MOVES {
         return Ok(());
     }
     match turn_of(alloc, sketch, walk, header)? {
-        Some(turn) => shorten(alloc, ground, sketch, names, &turn),
+        Some(turn) => {
+            let mut names = names_of(alloc, ground, sketch, turn.path.as_slice())?;
+            shorten(alloc, ground, sketch, &mut names, &turn, aim)
+        }
         None => Ok(()),
     }
 }
@@ -142,13 +158,134 @@ fn shorten(
     sketch: &mut Sketch,
     names: &mut Names,
     turn: &Turn,
+    aim: Aim,
 ) -> Result<(), NoMemory> {
-    let before = cost_of(alloc, ground, sketch, turn)?;
+    if aim == Aim::Beside && !turn.has_beside() {
+        return Ok(());
+    }
+    let first = cost_of(alloc, ground, sketch, turn)?;
+    let before = raise_beside(alloc, ground, sketch, names, turn, first)?;
+    if aim == Aim::Beside {
+        return Ok(());
+    }
     let best = best_within(alloc, ground, sketch, names, turn, before)?;
     if best.cost.saturating_add(before / 64) < before {
         raise_each(ground, sketch, names, best.moves.as_slice())?;
+        let _cost = raise_beside(alloc, ground, sketch, names, turn, best.cost)?;
     }
     Ok(())
+}
+
+/// Raises what shortens the ways beside the path: from blocks where ways meet into all that lead there, and from the sides of splits to
+/// before those. Answers the cost.
+fn raise_beside(
+    alloc: Global,
+    ground: &Ground,
+    sketch: &mut Sketch,
+    names: &mut Names,
+    turn: &Turn,
+    before: u64,
+) -> Result<u64, NoMemory> {
+    let mut cost = before;
+    for stop in turn.stops.as_slice() {
+        if stop.row > 0 && has_beside(turn, stop.row) && sketch.count() < MOST_MOVES {
+            cost = raise_all_of(alloc, ground, sketch, names, turn, stop.block, cost)?;
+        }
+    }
+    for stop in turn.others.as_slice() {
+        if stop.row > 0 && sketch.count() < MOST_MOVES {
+            cost = raise_some_of(alloc, ground, sketch, names, turn, stop.block, cost)?;
+        }
+    }
+    for stop in turn.outs.as_slice() {
+        if sketch.count() < MOST_MOVES {
+            cost = raise_some_of(alloc, ground, sketch, names, turn, stop.block, cost)?;
+        }
+    }
+    Ok(cost)
+}
+
+/// Whether a block beside the path leads to the block of it at a place.
+fn has_beside(turn: &Turn, row: usize) -> bool {
+    for stop in turn.others.as_slice() {
+        if stop.row == row {
+            return true;
+        }
+    }
+    false
+}
+
+/// Raises all operations of a block that may be, if that is shorter in all. Answers the cost.
+fn raise_all_of(
+    alloc: Global,
+    ground: &Ground,
+    sketch: &mut Sketch,
+    names: &mut Names,
+    turn: &Turn,
+    block: BlockId,
+    before: u64,
+) -> Result<u64, NoMemory> {
+    let start = sketch.count();
+    let count = sketch.ops_at(block).len().min(MOST_BESIDE);
+    let mut place = 0usize;
+    for _ in 0..count {
+        if !sketch.raise(ground, block, place)? {
+            place = place.saturating_add(1);
+        }
+    }
+    keep_if_shorter(alloc, ground, sketch, names, turn, start, before)
+}
+
+/// Raises each operation of a block that may be and by which it is shorter in all. Answers the cost.
+fn raise_some_of(
+    alloc: Global,
+    ground: &Ground,
+    sketch: &mut Sketch,
+    names: &mut Names,
+    turn: &Turn,
+    block: BlockId,
+    before: u64,
+) -> Result<u64, NoMemory> {
+    let mut cost = before;
+    let mut place = 0usize;
+    for _ in 0..sketch.ops_at(block).len().min(MOST_BESIDE) {
+        let start = sketch.count();
+        if sketch.raise(ground, block, place)? {
+            cost = keep_if_shorter(alloc, ground, sketch, names, turn, start, cost)?;
+        }
+        if sketch.count() == start {
+            place = place.saturating_add(1);
+        }
+    }
+    Ok(cost)
+}
+
+/// Takes back what was raised since so many moves if there are no registers for it or it is not shorter in all. Answers the cost.
+fn keep_if_shorter(
+    alloc: Global,
+    ground: &Ground,
+    sketch: &mut Sketch,
+    names: &mut Names,
+    turn: &Turn,
+    start: usize,
+    before: u64,
+) -> Result<u64, NoMemory> {
+    if sketch.count() > start {
+        let passing = passing_of(alloc, ground, sketch, names, turn)?;
+        let cost = cost_of(alloc, ground, sketch, turn)?;
+        if cost < before && names.has_room(ground, passing, sketch.raised_since(start)) {
+            keep_since(ground, sketch, names, start);
+            return Ok(cost);
+        }
+    }
+    sketch.back_to(start)?;
+    Ok(before)
+}
+
+fn keep_since(ground: &Ground, sketch: &Sketch, names: &mut Names, start: usize) {
+    for trial in sketch.raised_since(start) {
+        names.keep(ground.graph, trial.value);
+    }
 }
 
 fn passing_of(
@@ -198,9 +335,7 @@ fn raise_each(
     for found in moves {
         let _is_raised = sketch.raise(ground, found.block, found.place as usize)?;
     }
-    for trial in sketch.raised_since(start) {
-        names.keep(ground.graph, trial.value);
-    }
+    keep_since(ground, sketch, names, start);
     Ok(())
 }
 

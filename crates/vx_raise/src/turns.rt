@@ -1,4 +1,4 @@
-// The innermost loops of a graph that may be turned: the blocks that a turn likely passes, by counts, and how often it does.
+// The loops of a graph that may be turned: the blocks that a turn likely passes, by counts, and how often it does.
 
 use crate::sketch::Sketch;
 use crate::steps::block_at;
@@ -9,7 +9,7 @@ use vx_loops::order_of;
 use vx_profile::counts::Counts;
 
 /// The most blocks of a turn, and the most operations.
-const MOST_BLOCKS: usize = 16;
+const MOST_BLOCKS: usize = 32;
 
 const MOST_OPERATIONS: usize = 72;
 
@@ -19,6 +19,9 @@ const OFTEN: u64 = 8;
 const HALF: u64 = 4;
 
 const ONCE: u64 = 1;
+
+/// A block beside a turn is not looked at where it is passed once in so many turns, or less often.
+const SELDOM: u64 = 16;
 
 /// A graph with the counts of its function, the order of its blocks, and the blocks of the loop that is looked at.
 #[derive(Drop)]
@@ -40,6 +43,8 @@ pub(crate) struct Stop {
     pub(crate) weight: u64,
     /// How often it is left to another block than the next one.
     pub(crate) leaves: u64,
+    /// The place in the turn of the block itself, or of the one to which it leads.
+    pub(crate) row: usize,
 }
 
 /// A loop that may be turned.
@@ -51,6 +56,20 @@ pub(crate) struct Turn {
     pub(crate) stops: Vec<Stop>,
     /// The blocks besides that lead to one of them.
     pub(crate) others: Vec<Stop>,
+    /// The blocks to which one of them leads besides, and which lead to none of them.
+    pub(crate) outs: Vec<Stop>,
+}
+
+impl Turn {
+    /// Whether there are ways beside the path that are looked at.
+    pub(crate) fn has_beside(&self) -> bool {
+        for stop in self.others.as_slice() {
+            if stop.row > 0 {
+                return true;
+            }
+        }
+        !self.outs.is_empty()
+    }
 }
 
 /// The order of the blocks of a graph, with no loop looked at.
@@ -107,7 +126,8 @@ impl<'a> Walk<'a> {
         false
     }
 
-    /// Marks the blocks of the loop of a header. Answers whether no other loop stands in it.
+    /// Marks the blocks of the loop of a header. Answers whether it may be turned: where another loop stands in it, only counts tell
+    /// that a turn likely passes by that.
     fn gather(
         &mut self,
         alloc: Global,
@@ -121,7 +141,7 @@ impl<'a> Walk<'a> {
             match waiting.pop() {
                 Some(block) => {
                     if self.mark(block) {
-                        if self.is_header(sketch, block) {
+                        if !self.is_counted() && self.is_header(sketch, block) {
                             return Ok(false);
                         }
                         waiting.extend_from_slice(sketch.leading_to(block))?;
@@ -227,6 +247,7 @@ impl<'a> Walk<'a> {
             Some(found) => match &found.exit {
                 Exit::Goto(next) => self.inside(*next),
                 Exit::Split { yes, no, .. } => self.heavier(block, *yes, *no),
+                Exit::Call { next, .. } => self.inside(*next),
                 _ => None,
             },
             None => None,
@@ -286,13 +307,34 @@ impl<'a> Walk<'a> {
 
     fn begins(&self, sketch: &Sketch, above: Option<BlockId>, block: BlockId) -> bool {
         match above {
-            Some(above) => !self.is_heaviest(sketch, above, block),
+            Some(above) => self.calls(above) || !self.is_heaviest(sketch, above, block),
             None => true,
+        }
+    }
+
+    /// Whether a block is passed at least in every sixteenth turn or so, by counts.
+    fn is_frequent(&self, turn: &Turn, block: BlockId) -> bool {
+        match turn.stops.as_slice().first() {
+            Some(header) => {
+                self.is_counted() && self.weight(block).saturating_mul(SELDOM) > header.weight
+            }
+            None => false,
+        }
+    }
+
+    /// Whether a block ends by a call.
+    fn calls(&self, block: BlockId) -> bool {
+        match self.graph.blocks.as_slice().get(block as usize) {
+            Some(found) => match &found.exit {
+                Exit::Call { .. } => true,
+                _ => false,
+            },
+            None => false,
         }
     }
 }
 
-/// The turn of an innermost loop that is passed again more often than it is entered, if it has one without a call.
+/// The turn of a loop that is passed again more often than it is entered, if it has one without another loop.
 pub(crate) fn turn_of(
     alloc: Global,
     sketch: &Sketch,
@@ -302,14 +344,19 @@ pub(crate) fn turn_of(
     if !walk.gather(alloc, sketch, header)? || !walk.is_passed_often(sketch, header) {
         return Ok(None);
     }
-    match path_of(alloc, walk, header)? {
+    match path_of(alloc, sketch, walk, header)? {
         Some(path) => turn_along(alloc, sketch, walk, path),
         None => Ok(None),
     }
 }
 
-/// The blocks that a turn likely passes, if it goes back to the header by them.
-fn path_of(alloc: Global, walk: &Walk, header: BlockId) -> Result<Option<Vec<BlockId>>, NoMemory> {
+/// The blocks that a turn likely passes, if it goes back to the header by them and passes no other header.
+fn path_of(
+    alloc: Global,
+    sketch: &Sketch,
+    walk: &Walk,
+    header: BlockId,
+) -> Result<Option<Vec<BlockId>>, NoMemory> {
     let mut path = Vec::new(alloc);
     let mut last = header;
     for _ in 0..MOST_BLOCKS {
@@ -318,6 +365,9 @@ fn path_of(alloc: Global, walk: &Walk, header: BlockId) -> Result<Option<Vec<Blo
             Some(next) => {
                 if next == header {
                     return Ok(path_if(walk.is_likely(last, header), path));
+                }
+                if walk.is_header(sketch, next) {
+                    return Ok(None);
                 }
                 last = next;
             }
@@ -352,9 +402,13 @@ fn turn_along(
         path,
         stops: Vec::new(alloc),
         others: Vec::new(alloc),
+        outs: Vec::new(alloc),
     };
     for index in 0..turn.path.len() {
         push_stop(&mut turn, sketch, walk, index)?;
+    }
+    for index in 0..turn.path.len() {
+        push_out(&mut turn, walk, index)?;
     }
     Ok(Some(turn))
 }
@@ -369,10 +423,42 @@ fn push_stop(turn: &mut Turn, sketch: &Sketch, walk: &Walk, index: usize) -> Res
                 begins: walk.begins(sketch, above, block),
                 weight: walk.weight(block),
                 leaves: walk.leaving(block, next),
+                row: index,
             })?;
-            push_others(turn, sketch, walk, block)
+            push_others(turn, sketch, walk, block, index)
         }
         None => Ok(()),
+    }
+}
+
+/// Notes the block to which a block of the path leads besides, if that is passed and leads to none of the path.
+fn push_out(turn: &mut Turn, walk: &Walk, index: usize) -> Result<(), NoMemory> {
+    match out_of(turn, walk, index) {
+        Some(block) => {
+            turn.outs.push(Stop {
+                block,
+                begins: true,
+                weight: walk.weight(block),
+                leaves: 0,
+                row: index,
+            })?;
+            Ok(())
+        }
+        None => Ok(()),
+    }
+}
+
+fn out_of(turn: &Turn, walk: &Walk, index: usize) -> Option<BlockId> {
+    let block = block_at(turn.path.as_slice(), index)?;
+    let next = block_at(turn.path.as_slice(), index.saturating_add(1))?;
+    let out = walk.other_way(block, next)?;
+    if walk.is_frequent(turn, out)
+        && !is_on_path(turn.path.as_slice(), out)
+        && !is_among(turn.others.as_slice(), out)
+    {
+        Some(out)
+    } else {
+        None
     }
 }
 
@@ -389,16 +475,19 @@ fn push_others(
     sketch: &Sketch,
     walk: &Walk,
     block: BlockId,
+    row: usize,
 ) -> Result<(), NoMemory> {
     for source in sketch.leading_to(block) {
         if !is_on_path(turn.path.as_slice(), *source)
             && !is_among(turn.others.as_slice(), *source)
+            && (row == 0 || walk.is_frequent(turn, *source))
         {
             turn.others.push(Stop {
                 block: *source,
                 begins: true,
                 weight: walk.weight(*source),
                 leaves: 0,
+                row,
             })?;
         }
     }

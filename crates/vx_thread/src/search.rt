@@ -282,19 +282,26 @@ fn decides(
             let place = source as usize;
             let before = known_behind(
                 alloc,
+                graph.arrays.as_slice(),
                 facts_in(claims, place),
                 accesses_in(claims, place),
                 from.ops.as_slice(),
             )?;
-            is_decided(alloc, &before, block)
+            is_decided(alloc, graph, &before, block)
         }
         _ => Ok(false),
     }
 }
 
-fn is_decided(alloc: Global, before: &Claim, head: &Block) -> Result<bool, NoMemory> {
+fn is_decided(
+    alloc: Global,
+    graph: &Graph,
+    before: &Claim,
+    head: &Block,
+) -> Result<bool, NoMemory> {
     let behind = known_behind(
         alloc,
+        graph.arrays.as_slice(),
         before.facts.as_slice(),
         before.accesses.as_slice(),
         head.ops.as_slice(),
