@@ -1,5 +1,5 @@
 -- Any number of steps: the runs stay the same, and a flow of a program stays one.
-use Rattle.std.proofs.Common.{◌≡◌, inl, inr, ℕ, zero, suc, true, ℤ, List, [], ◌∷◌, refl, sym, ap, ◌∙◌, subst}
+use Rattle.std.proofs.Common.{◌≡◌, inl, inr, ℕ, zero, suc, true, ℤ, List, [], ◌∷◌, Result, Ok, Err, IfOk, refl, sym, ap, ◌∙◌, subst}
 use Rattle.vx_base.specs.Outcome.{NeverFails}
 use Rattle.vx_flow.specs.declared.graph.Graph.{Graph}
 use Rattle.vx_flow.specs.declared.graph.Flow.{Flow}
@@ -150,3 +150,7 @@ same_paths flow input safe n = refl
 pub paths_along : (flow between new : Flow) → FlowStays flow between → SamePaths flow between → SamePaths between new → PathsStay flow new
 paths_along flow between new stays one two p o input numbers n =
     two input ((stays p o).runs.never_wrong input numbers) n ∙ one input (o.runs.never_wrong input numbers) n
+
+pub ends_along : {E : Type 0} (flow between : Flow) (result : Result Flow E) → FlowStays flow between → SamePaths flow between → IfOk result (λ new. SamePaths between new) → IfOk result (λ new. PathsStay flow new)
+ends_along flow between (Ok new) stays one two = paths_along flow between new stays one two
+ends_along flow between (Err e) stays one two = two

@@ -83,7 +83,6 @@ fn raised_by(alloc: Global, graph: &Graph, wanted: &Wanted) -> Result<Option<Gra
 /// The graphs of a program with operations raised where that makes the likely turns of loops shorter: from ways beside, and then those
 /// with which a turn begins, in the turn before; as they came where they would not be sound. Blocks keep their numbers and exits, so
 /// that counts of them stay true.
-#[tactic(auto, using(crate::proofs::Moves::paths_along))]
 pub fn raise(alloc: Global, flow: Flow, counts: &Counts, units: &Units) -> Result<Flow, NoMemory>
     requires { is_sound_flow flow ≡ true }
     ensures sound { IfOk result (λ raised. is_sound_flow raised ≡ true) }

@@ -162,24 +162,35 @@ fn growth_of(text: Option<&str>) -> u32 {
     }
 }
 
+/// Nothing rewritten.
+fn none_rewritten() -> Rewriting {
+    Rewriting {
+        unroll: None,
+        inline: None,
+        select: None,
+    }
+}
+
 /// What is rewritten by a number of turns.
 fn rewriting_by(turns: u32) -> Rewriting {
     if 2 <= turns && turns <= 8 {
         Rewriting {
             unroll: Some(turns),
+            inline: None,
+            select: None,
         }
     } else {
-        Rewriting { unroll: None }
+        none_rewritten()
     }
 }
 
 /// What is rewritten by a text.
 fn rewriting_of(text: Option<&str>) -> Rewriting {
     match text {
-        None => Rewriting { unroll: None },
+        None => none_rewritten(),
         Some(text) => match text.parse::<u32>() {
             Ok(turns) => rewriting_by(turns),
-            Err(_) => Rewriting { unroll: None },
+            Err(_) => none_rewritten(),
         },
     }
 }
