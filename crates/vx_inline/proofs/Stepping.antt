@@ -1,5 +1,5 @@
 -- A flow with a call inlined keeps what it is, and its banks.
-use Rattle.std.proofs.Common.{◌≡◌, ◌+◌, ◌<◌, ℕ, true, refl, ap, ◌∙◌, arith}
+use Rattle.std.proofs.Common.{◌≡◌, ◌+◌, ◌<◌, ℕ, true, Some, None, refl, ap, ◌∙◌, arith}
 use Rattle.vx_ast.specs.Accepted.{is_accepted}
 use Rattle.vx_ast.specs.Tree.{Program}
 use Rattle.vx_flow.specs.declared.graph.Flow.{Flow}
@@ -10,27 +10,39 @@ use Rattle.vx_inline.specs.declared.site.Site.{Site}
 use Rattle.vx_inline.specs.Inlined.{Permitted, Inlined}
 use Rattle.vx_inline.specs.Inlining.{IsInlinedGraph, with_graph, banks_of}
 use Rattle.vx_profile.specs.declared.counts.Counts.{Counts}
-use Rattle.vx_inline.specs.Choosing.{IsChosen}
+use Rattle.vx_inline.specs.Choosing.{Chosen, IsChosen}
+use Rattle.vx_inline.specs.Repeating.{InlinesAll}
+use Rattle.vx_inline.specs.Repeating.InlinesAll.{none_left, inlines}
 use Rattle.vx_inline.specs.Counts.{calls_of}
 use Rattle.vx_inline.proofs.Counts.{one_call_less}
 use Rattle.vx_inline.proofs.Programs.{inlined_stays}
 use Rattle.vx_inline.proofs.Reaching.{names_stay}
 
--- what stays of a flow
-pub record Kept (flow new : Flow) : Type 0 where
+-- what stays of a flow, and that what comes of the new one by inlining on comes of it
+pub record Kept (counts : Counts) (most : ℕ) (flow new : Flow) : Type 0 where
   pub stays : (p : Program) → is_accepted p ≡ true → FlowOf p flow → FlowOf p new
   pub sound : SoundFlow new
   pub banks : banks_of new ≡ banks_of flow
+  pub along : (last : Flow) → InlinesAll counts most new last → InlinesAll counts most flow last
 
-pub kept_first : (flow : Flow) → SoundFlow flow → Kept flow flow
-kept_first flow sound = record { stays = λ p a o. o; sound = sound; banks = refl }
+pub kept_first : (counts : Counts) (most : ℕ) (flow : Flow) → SoundFlow flow → Kept counts most flow flow
+kept_first counts most flow sound = record {
+  stays = λ p a o. o;
+  sound = sound;
+  banks = refl;
+  along = λ last h. h;
+}
 
-pub kept_next : (flow now new : Flow) (site : Site) → Kept flow now → Inlined now site new → SoundFlow new → Kept flow new
-kept_next flow now new site k i sound = record {
+pub kept_next : (counts : Counts) (most : ℕ) (flow now new : Flow) (site : Site) → Kept counts most flow now → Chosen now counts most (Some site) → Inlined now site new → SoundFlow new → Kept counts most flow new
+kept_next counts most flow now new site k c i sound = record {
   stays = λ p a o. inlined_stays p now new site a (k.stays p a o) i;
   sound = sound;
   banks = (names_stay now new site i).0 ∙ k.banks;
+  along = λ last h. k.along last (inlines site c i h);
 }
+
+pub kept_last : (counts : Counts) (most : ℕ) (flow now : Flow) → Kept counts most flow now → Chosen now counts most None → InlinesAll counts most flow now
+kept_last counts most flow now k c = k.along now (none_left c)
 
 -- the graph that is made gives the flow with the call inlined
 pub is_inlined : (flow new : Flow) (site : Site) (graph : Graph) → Permitted flow site → IsInlinedGraph flow site graph → new ≡ with_graph flow site.function graph → Inlined flow site new

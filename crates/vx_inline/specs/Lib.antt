@@ -15,3 +15,4 @@ pub mod Placing
 pub mod Splicing
 pub mod Linking
 pub mod Inlining
+pub mod Repeating

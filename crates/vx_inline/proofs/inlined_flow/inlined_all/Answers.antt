@@ -9,4 +9,6 @@ inline_one-requires-clause-permitted c =
     chosen_permitted c.sites.now c.args.counts.now c.args.most c.in-Some.site first
 
 pub sites-preserved : goal.sites-preserved
-sites-preserved c = kept_next c.args.flow c.sites.now c.in_ok-now-in-Some.now c.in-Some.site c.sites.invariant c.in_ok-now-in-Some.ensures.inlined c.in_ok-now-in-Some.ensures.sound
+sites-preserved c =
+    let first : IsChosen c.sites.now c.args.counts.now c.args.most c.in-Some.site = subst (Chosen c.sites.now c.args.counts.now c.args.most) c.in-Some.is c.in_ok-site.ensures.chosen in
+    kept_next c.args.counts.now c.args.most c.args.flow c.sites.now c.in_ok-now-in-Some.now c.in-Some.site c.sites.invariant first c.in_ok-now-in-Some.ensures.inlined c.in_ok-now-in-Some.ensures.sound

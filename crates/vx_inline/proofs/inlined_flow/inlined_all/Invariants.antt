@@ -3,7 +3,7 @@ use Rattle.vx_inline.proofs.Stepping.{Kept}
 use Rattle.vx_inline.proofs.inlined_flow.inlined_all.Given as goal
 
 abbrev pub invariant-sites : goal.invariant-sites
-invariant-sites l = Kept l.fn.flow l.now
+invariant-sites l = Kept l.fn.counts l.fn.most l.fn.flow l.now
 
 abbrev pub decreases-sites : goal.decreases-sites
 decreases-sites l = calls_of l.now.functions
