@@ -1,9 +1,10 @@
 -- The steps by which the words of calls are put together: an operation on one cluster more, and words behind words.
-use Rattle.std.proofs.Common.{◌≡◌, ℕ, zero, suc, ◌+◌, List, [], ◌∷◌, ◌++◌, map, refl, ap, ◌∙◌, arith, append_assoc}
+use Rattle.std.proofs.Common.{◌≡◌, ℕ, zero, suc, ◌+◌, List, [], ◌∷◌, ◌++◌, map, drop, length, refl, ap, ◌∙◌, arith, append_assoc}
+use Rattle.std.proofs.Math.Seq.{drop-append_seam}
 use Rattle.vx_flow.specs.Walk.{numbers}
 use Rattle.vx_isa.specs.declared.operation.Operation.{Operation}
 use Rattle.vx_isa.specs.declared.program.Word.{Word}
-use Rattle.vx_target.specs.Target.{on_clusters}
+use Rattle.vx_target.specs.Target.{on_clusters, pause}
 
 -- clusters
 
@@ -21,3 +22,11 @@ clusters_more op n = let s : n + 1 ≡ suc n = omega arith in let z : 0 + n ≡ 
 
 pub behind_both : (old more new xs ys : List Word) → more ≡ old ++ xs → new ≡ more ++ ys → new ≡ old ++ (xs ++ ys)
 behind_both old more new xs ys a b = b ∙ ap (λ z. z ++ ys) a ∙ append_assoc old xs ys
+
+-- and a pause as long as some function says of those that were added
+pub waits_behind : (cycles : List Word → ℕ) (n : ℕ) (old new xs : List Word) → n ≡ length old → new ≡ old ++ xs → new ++ pause (cycles (drop n new)) ≡ old ++ (xs ++ pause (cycles xs))
+waits_behind cycles n old new xs e a =
+    ap (λ z. z ++ pause (cycles (drop n z))) a
+    ∙ ap (λ k. (old ++ xs) ++ pause (cycles (drop k (old ++ xs)))) e
+    ∙ ap (λ z. (old ++ xs) ++ pause (cycles z)) (drop-append_seam old xs)
+    ∙ append_assoc old xs (pause (cycles xs))

@@ -1,4 +1,5 @@
 pub mod CallSteps
+pub mod Waits
 pub mod Globals
 pub mod Offsets
 pub mod FrameLists

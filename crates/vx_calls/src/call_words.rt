@@ -1,15 +1,16 @@
 // The words of calls, returns, entries and of a program's start.
 
-ghost use Rattle.std.specs.Prelude.{◌≡◌, ◌++◌, ◌∷◌, ◌+◌, [], neg_ℤ, pos, true, false, IfOk};
+ghost use Rattle.std.specs.Prelude.{◌≡◌, ◌≤◌, ◌++◌, ◌∷◌, ◌+◌, [], neg_ℤ, pos, true, false, drop, length, Some, IfOk};
 ghost use Rattle.vx_base.specs.declared.arithmetic.Code.TheVariants.{Add, ToBranch};
 ghost use Rattle.vx_base.specs.declared.arithmetic.Compare.TheVariants.{Ltu};
 ghost use Rattle.vx_isa.specs.declared.operation.Operation.TheVariants.{BranchOn, Compute, Load, Move, ToLink};
 ghost use Rattle.vx_isa.specs.declared.operation.Register.TheVariants.{Branch as InBranch, General as InGeneral};
 ghost use Rattle.vx_isa.specs.declared.operation.Source.TheVariants.{Held, Number};
-ghost use Rattle.vx_target.specs.Target.{bytes, general, one, together, settled, stack_on, on_clusters, parameters_of, first_frame, fetch_words, fetched, cluster_of_operand, argument_words, result_words, save_words, reload_words, move_stack, call_words, back_words, leave_words, return_words, follows, way, link_words, entry_words, set_stack, start_words, load_slots};
+ghost use Rattle.vx_target.specs.Target.{bytes, general, one, pause, together, settled, stack_on, on_clusters, parameters_of, first_frame, fetch_words, fetched, cluster_of_operand, argument_words, result_words, save_words, reload_words, move_stack, call_words, back_words, leave_words, return_words, way, link_words, begin_words, entry_words, wanted, set_stack, start_words, load_slots};
 ghost use Rattle.vx_slots.specs.Seen.{seen};
 
-use crate::lookups::{brought, entered_at, entry, is_caller, is_drain_at, parameters, saved};
+use crate::lookups::{brought, entered_at, entry, is_caller, parameters, saved};
+use crate::pauses::{follows, wanted};
 use std::alloc::Global;
 use vx_base::arithmetic::{Code, Compare};
 use vx_base::listed::Listed;
@@ -22,8 +23,8 @@ use vx_slots::numbers::{DEEPEST, bytes};
 use vx_slots::program::{Whole, slot, start};
 use vx_slots::registers::{general, general_of, home, is_slotted, stack_on};
 use vx_slots::transfers::{
-    answer, load_slot, load_slots, named_by, push_last, push_one, push_settled, push_settled_two,
-    push_settled_word, push_wait, store_slots,
+    answer, load_slot, load_slots, named_by, push_last, push_one, push_pause, push_settled,
+    push_settled_two, push_settled_word, push_wait, store_slots, words_from,
 };
 use vx_slots::ways::past;
 
@@ -85,22 +86,46 @@ fn save(
     store_slots(alloc, whole, function, values, values, words)
 }
 
-/// Brings values back from their slots to their own registers.
+/// Adds the pause that words from a place on ask for, which bring values to their registers, where the way from one place of the
+/// layout leads to another.
+fn push_wanted(
+    alloc: Global,
+    whole: &Whole,
+    function: u32,
+    next: Option<u32>,
+    to: u32,
+    values: &[Value],
+    begin: usize,
+    words: &mut Listed<Word>,
+) -> Result<(), NoMemory>
+    requires { begin ≤ length words.old }
+    ensures { IfOk result (λ _. words.new ≡ words.old ++ pause (wanted (seen whole.now) function next to values.now (drop begin words.old))) }
+{
+    let cycles = wanted(
+        whole,
+        function,
+        next,
+        to,
+        values,
+        words_from(words.as_slice(), begin),
+    )?;
+    push_pause(alloc, cycles, words)
+}
+
+/// Brings values back from their slots to their own registers, in front of a place.
 fn reload(
     alloc: Global,
     whole: &Whole,
     function: u32,
+    to: u32,
     values: &[Value],
     words: &mut Listed<Word>,
 ) -> Result<(), NoMemory>
-    ensures { IfOk result (λ _. words.new ≡ words.old ++ reload_words (seen whole.now) function values.now) }
+    ensures { IfOk result (λ _. words.new ≡ words.old ++ reload_words (seen whole.now) function to values.now) }
 {
-    if values.is_empty() {
-        return Ok(());
-    }
     let begin = words.len();
     load_slots(alloc, whole, function, values, values, words)?;
-    push_wait(alloc, whole, begin, words)
+    push_wanted(alloc, whole, function, None, to, values, begin, words)
 }
 
 /// Brings a value that is in a slot to a scratch register, from a frame so many words above the stack pointer.
@@ -322,7 +347,15 @@ pub fn push_back(
     let step = bytes(whole.sizes.frame)?;
     move_stack(alloc, whole, step, words)?;
     take_result(alloc, whole, function, taken, words)?;
-    reload(alloc, whole, function, saved(whole, function, place), words)
+    let next = sum(place, 1)?;
+    reload(
+        alloc,
+        whole,
+        function,
+        next,
+        saved(whole, function, place),
+        words,
+    )
 }
 
 /// The load of the link from its frame.
@@ -392,13 +425,6 @@ pub fn push_return(
     push_leave(alloc, whole, function, operand, words)
 }
 
-/// Whether a place of a layout can follow at once, where another one is next: it is that one, and no empty cycles stand there.
-pub fn follows(whole: &Whole, function: u32, next: u32, to: u32) -> bool
-    ensures { result ≡ follows (seen whole.now) function next to }
-{
-    next == to && !is_drain_at(whole, function, to)
-}
-
 /// The way to a place of a layout, where another one is next: no word where it is that one, but for empty cycles, which are not to
 /// stand behind a pause.
 pub fn push_way(
@@ -453,12 +479,26 @@ fn begin_function(
     values: &[Value],
     words: &mut Listed<Word>,
 ) -> Result<(), NoMemory>
-    ensures { IfOk result (λ _. words.new ≡ words.old ++ settled (seen whole.now) (load_slots (seen whole.now) function values.now values.now ++ link_words (seen whole.now) function)) }
+    ensures { IfOk result (λ _. words.new ≡ words.old ++ (load_slots (seen whole.now) function values.now values.now ++ link_words (seen whole.now) function)) }
+{
+    load_slots(alloc, whole, function, values, values, words)?;
+    keep_link(alloc, whole, function, words)
+}
+
+/// The same, with the pause that the words behind it ask for, which begin at a place of the layout.
+fn begin_and_wait(
+    alloc: Global,
+    whole: &Whole,
+    function: u32,
+    to: u32,
+    values: &[Value],
+    words: &mut Listed<Word>,
+) -> Result<(), NoMemory>
+    ensures { IfOk result (λ _. words.new ≡ words.old ++ ((load_slots (seen whole.now) function values.now values.now ++ link_words (seen whole.now) function) ++ pause (wanted (seen whole.now) function (Some 0) to values.now (load_slots (seen whole.now) function values.now values.now ++ link_words (seen whole.now) function)))) }
 {
     let begin = words.len();
-    load_slots(alloc, whole, function, values, values, words)?;
-    keep_link(alloc, whole, function, words)?;
-    push_wait(alloc, whole, begin, words)
+    begin_function(alloc, whole, function, values, words)?;
+    push_wanted(alloc, whole, function, Some(0), to, values, begin, words)
 }
 
 /// The words at the entry of a function: parameters come to their registers, and meanwhile the link is stored in its frame where it
@@ -471,15 +511,9 @@ pub fn push_entry(
 ) -> Result<(), NoMemory>
     ensures { IfOk result (λ _. words.new ≡ words.old ++ entry_words (seen whole.now) function) }
 {
-    begin_function(alloc, whole, function, brought(whole, function), words)?;
-    push_way(
-        alloc,
-        whole,
-        function,
-        0,
-        past(whole, function, entered_at(whole, function)),
-        words,
-    )
+    let to = past(whole, function, entered_at(whole, function));
+    begin_and_wait(alloc, whole, function, to, brought(whole, function), words)?;
+    push_way(alloc, whole, function, 0, to, words)
 }
 
 /// Where the frame of the function that is active first begins, in words.

@@ -1,11 +1,13 @@
 -- How many words carry a word does not depend on places.
-use Rattle.std.proofs.Common.{◌≡◌, ℕ, suc, ◌+◌, true, Option, Some, None, List, [], ◌∷◌, ◌++◌, length, refl, sym, ap, ◌∙◌, arith, length-append}
+use Rattle.std.proofs.Common.{◌≡◌, ℕ, zero, suc, ◌+◌, true, Option, Some, None, List, [], ◌∷◌, ◌++◌, length, refl, sym, ap, ◌∙◌, arith, length-append}
 use Rattle.vx_flow.specs.declared.graph.Operand.{Operand}
 use Rattle.vx_flow.specs.declared.graph.Operand.TheVariants.{Held as HeldValue, Number as AsNumber, Stack}
-use Rattle.std.specs.Prelude.{neg_ℤ, max, ◌-◌, Bool, false, if◌then◌else◌}
+use Rattle.std.specs.Prelude.{neg_ℤ, max, ◌-◌, Bool, false, if◌then◌else◌, slice_get}
+use Rattle.std.specs.List.{list_any}
 use Rattle.vx_base.specs.declared.arithmetic.Code.TheVariants.{ToBranch}
 use Rattle.vx_base.specs.declared.arithmetic.Compare.TheVariants.{Ltu}
 use Rattle.vx_isa.specs.declared.operation.Operation.TheVariants.{BranchOn, Call, Compute, Goto, Halt, Store}
+use Rattle.vx_isa.specs.declared.operation.Register.{Register}
 use Rattle.vx_isa.specs.declared.operation.Register.TheVariants.{Branch as InBranch}
 use Rattle.vx_isa.specs.declared.operation.Source.TheVariants.{Held, Number}
 use Rattle.vx_isa.specs.declared.program.Word.{Word}
@@ -16,7 +18,7 @@ use Rattle.vx_mixed.specs.declared.layout.Laid.TheVariants.{Plain, Split}
 use Rattle.vx_mixed.specs.declared.layout.VirtualWord.{VirtualWord}
 use Rattle.vx_mixed.specs.declared.layout.VirtualWord.TheVariants.{Planned, Drain, Transfer, Choice, Call as Calls, Return as Returns, Ends}
 use Rattle.vx_mixed.specs.LaidSettled.{laid_reads, laid_writes}
-use Rattle.vx_target.specs.Target.{Target, answer, bytes, one, set_stack, start_words, stack_on, move_stack, parameters_of, slotted, general_of, branch_of, load_slot, store_slot, load_slots, store_slots, if_some, once, pause, settled, if_any, slots_in_flight, before, behind, plan_word, plan_words, past, landing_words, fetch_words, fetched, cluster_of_operand, argument_words, result_words, save_words, reload_words, call_words, back_words, return_words, follows, way, link_words, entry_words, word_words}
+use Rattle.vx_target.specs.Target.{Target, answer, bytes, one, set_stack, start_words, stack_on, move_stack, parameters_of, slotted, general_of, branch_of, register_of, is_split, spares, by_way, spared_at, spared, most_spared, flight, time_to, wanted, begin_words, load_slot, store_slot, load_slots, store_slots, if_some, once, pause, settled, if_any, slots_in_flight, before, behind, plan_word, plan_words, past, landing_words, fetch_words, fetched, cluster_of_operand, argument_words, result_words, save_words, reload_words, call_words, back_words, return_words, follows, way, link_words, entry_words, word_words}
 use Rattle.vx_target.specs.Placed.{landing_of, item_landings, word_landings, words_of}
 use Rattle.vx_frame.specs.Placing.{Spots, at_spots}
 use Rattle.vx_frame.proofs.Emitting.{words_of_append}
@@ -76,12 +78,41 @@ return_same T s f (HeldValue v) = refl
 return_same T s f (AsNumber n) = refl
 return_same T s f Stack = refl
 
-reload_same : (T : Target) (s : Spots) (f : ℕ) (vs : List ℕ) → reload_words (at_spots T s) f vs ≡ reload_words T f vs
-reload_same T s f vs = ap (λ z. if_some vs (settled T z)) (load_slots_same T s f vs vs)
+-- nor does how long they are waited for
+
+spared_at_same : (T : Target) (s : Spots) (f : ℕ) (r : Register) (p : ℕ) (on more : ℕ → ℕ) (o : Option VirtualWord) → ((q : ℕ) → on q ≡ more q) → spared_at (at_spots T s) f r p on o ≡ spared_at T f r p more o
+spared_at_same T s f r p on more None h = refl
+spared_at_same T s f r p on more (Some (Planned rg w items)) h = ap (λ n. if spares T f r items then (if list_any is_split items then 1 else suc n) else 0) (h (p + 1))
+spared_at_same T s f r p on more (Some (Drain n)) h = refl
+spared_at_same T s f r p on more (Some (Transfer q)) h = ap (by_way T f (p + 1) (past T f q)) (h (past T f q))
+spared_at_same T s f r p on more (Some (Choice test q)) h = refl
+spared_at_same T s f r p on more (Some (Calls g arguments result)) h = refl
+spared_at_same T s f r p on more (Some (Returns x)) h = refl
+spared_at_same T s f r p on more (Some (Ends k)) h = refl
+
+spared_same : (T : Target) (s : Spots) (f : ℕ) (r : Register) (n p : ℕ) → spared (at_spots T s) f r n p ≡ spared T f r n p
+spared_same T s f r zero p = refl
+spared_same T s f r (suc n) p = spared_at_same T s f r p (spared (at_spots T s) f r n) (spared T f r n) (slice_get (T.layout f).words p) (spared_same T s f r n)
+
+time_same : (T : Target) (s : Spots) (f : ℕ) (next : Option ℕ) (q : ℕ) (r : Register) → time_to (at_spots T s) f next q r ≡ time_to T f next q r
+time_same T s f None q r = spared_same T s f r most_spared q
+time_same T s f (Some next) q r = ap (by_way T f next q) (spared_same T s f r most_spared q)
+
+wanted_same : (T : Target) (s : Spots) (f : ℕ) (next : Option ℕ) (q : ℕ) (vs : List ℕ) (ws : List Word) → wanted (at_spots T s) f next q vs ws ≡ wanted T f next q vs ws
+wanted_same T s f next q [] ws = refl
+wanted_same T s f next q (v ∷ vs) ws =
+    let r : Register = register_of T f (v ∷ []) v in
+    ap (λ n. max (flight T.machine r 0 ws - n) (wanted (at_spots T s) f next q vs ws)) (time_same T s f next q r)
+    ∙ ap (max (flight T.machine r 0 ws - time_to T f next q r)) (wanted_same T s f next q vs ws)
+
+reload_same : (T : Target) (s : Spots) (f q : ℕ) (vs : List ℕ) → reload_words (at_spots T s) f q vs ≡ reload_words T f q vs
+reload_same T s f q vs =
+    ap (λ z. z ++ pause (wanted (at_spots T s) f None q vs z)) (load_slots_same T s f vs vs)
+    ∙ ap (λ n. load_slots T f vs vs ++ pause n) (wanted_same T s f None q vs (load_slots T f vs vs))
 
 back_same : (T : Target) (s : Spots) (f p : ℕ) (result : Option ℕ) → length (back_words (at_spots T s) f p result) ≡ length (back_words T f p result)
 back_same T s f p result =
-    ap length (ap (λ z. move_stack T (bytes T.frame) ++ (z ++ reload_words (at_spots T s) f (T.saved f p))) (result_same T s f result) ∙ ap (λ z. move_stack T (bytes T.frame) ++ (result_words T f result ++ z)) (reload_same T s f (T.saved f p)))
+    ap length (ap (λ z. move_stack T (bytes T.frame) ++ (z ++ reload_words (at_spots T s) f (p + 1) (T.saved f p))) (result_same T s f result) ∙ ap (λ z. move_stack T (bytes T.frame) ++ (result_words T f result ++ z)) (reload_same T s f (p + 1) (T.saved f p)))
 
 -- words that do
 
@@ -114,8 +145,12 @@ way_length T s f next q = by (follows T f next q)
 
 pub entry_length : (T : Target) (s : Spots) (g : ℕ) → length (entry_words (at_spots T s) g) ≡ length (entry_words T g)
 entry_length T s g =
-    let begins : List Word → List Word = λ loads. settled T (loads ++ link_words T g) in
-    len_both (begins (load_slots (at_spots T s) g (T.brought g) (T.brought g))) (way (at_spots T s) g 0 (past T g (T.layout g).entry)) (begins (load_slots T g (T.brought g) (T.brought g))) (way T g 0 (past T g (T.layout g).entry)) (ap (λ z. length (begins z)) (load_slots_same T s g (T.brought g) (T.brought g))) (way_length T s g 0 (past T g (T.layout g).entry))
+    let q : ℕ = past T g (T.layout g).entry in
+    let begins : Target → List Word = λ U. begin_words U g ++ pause (wanted U g (Some 0) q (T.brought g) (begin_words U g)) in
+    let same : begins (at_spots T s) ≡ begins T =
+    ap (λ z. (z ++ link_words T g) ++ pause (wanted (at_spots T s) g (Some 0) q (T.brought g) (z ++ link_words T g))) (load_slots_same T s g (T.brought g) (T.brought g))
+    ∙ ap (λ n. begin_words T g ++ pause n) (wanted_same T s g (Some 0) q (T.brought g) (begin_words T g)) in
+    len_both (begins (at_spots T s)) (way (at_spots T s) g 0 q) (begins T) (way T g 0 q) (ap length same) (way_length T s g 0 q)
 
 pub start_length : (T : Target) (s : Spots) (main : ℕ) → length (start_words (at_spots T s) main) ≡ length (start_words T main)
 start_length T s main = len_behind (set_stack T) (one (Call (s.entry main)) ∷ one (Halt (Held answer)) ∷ []) (one (Call (T.entry main)) ∷ one (Halt (Held answer)) ∷ []) refl

@@ -14,9 +14,8 @@ use std::alloc::Global;
 use vx_base::listed::Listed;
 use vx_base::outcome::{NoMemory, Trap};
 use vx_base::sizes::sum;
-use vx_calls::call_words::{
-    follows, push_back, push_call, push_entry, push_return, push_start, push_way,
-};
+use vx_calls::call_words::{push_back, push_call, push_entry, push_return, push_start, push_way};
+use vx_calls::pauses::follows;
 use vx_carry::carried_word::{plan_of, push_choice, push_item_landings, push_plan};
 use vx_flow::graph::{Operand, Value};
 use vx_isa::operation::Operation;

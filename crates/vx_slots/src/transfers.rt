@@ -92,7 +92,7 @@ fn in_flight(machine: &Machine, before: u32, words: &[Word]) -> u32
 }
 
 /// The words from a place on.
-fn words_from(words: &[Word], begin: usize) -> &[Word]
+pub fn words_from(words: &[Word], begin: usize) -> &[Word]
     requires { begin ≤ length words.now }
     ensures { result.now ≡ drop begin words.now }
 {

@@ -1,20 +1,21 @@
 -- How long the writes of words are in flight: never as long as the greatest latency of a machine, which is 16 at most.
-use Rattle.std.proofs.Common.{◌≡◌, ◌≤◌, ⊎_elim, ◌+◌, ◌-◌, ℕ, zero, suc, true, List, [], ◌∷◌, ◌++◌, refl, subst, arith}
-use Rattle.std.specs.Prelude.{max}
+use Rattle.std.proofs.Common.{◌≡◌, ◌≤◌, ⊎_elim, ◌+◌, ◌-◌, ℕ, zero, suc, Bool, true, false, Option, List, [], ◌∷◌, ◌++◌, refl, subst, arith}
+use Rattle.std.specs.Prelude.{if◌then◌else◌, max}
 use Rattle.vx_flow.specs.declared.graph.Op.{Op}
 use Rattle.vx_flow.specs.Effects.{IsIn, writes}
+use Rattle.vx_isa.specs.declared.operation.Register.{Register}
 use Rattle.vx_isa.specs.declared.operation.Operation.{Operation}
 use Rattle.vx_isa.specs.declared.operation.Operation.TheVariants.{Compute, Move, Select, Load, Store, Input, More, OutText, OutDecimal, OutByte, Goto, BranchOn, Call, Return, FromLink, ToLink, EndByTrap, Halt}
 use Rattle.vx_isa.specs.declared.program.Word.{Word}
 use Rattle.vx_isa.specs.Numbers.{Numbers, IsMachine}
-use Rattle.vx_isa.specs.Operations.{comes_from, latency_of}
+use Rattle.vx_isa.specs.Operations.{comes_from, destination_of, latency_of}
 use Rattle.vx_isa.specs.Machine.{cycles_of}
 use Rattle.vx_machine.proofs.Latencies.{few_cycles}
 use Rattle.vx_isa.proofs.Ranges.{Ranges, ranges, code_range, move_range}
 use Rattle.vx_machine.specs.Items.{latency_of_op}
 use Rattle.vx_mixed.specs.declared.layout.Laid.{Laid}
 use Rattle.vx_mixed.specs.declared.layout.Laid.TheVariants.{Plain, Split}
-use Rattle.vx_target.specs.Target.{Target, kept, is_slotted, slotted, latest, in_flight, pause, if_any, slots_in_flight}
+use Rattle.vx_target.specs.Target.{Target, kept, is_slotted, slotted, register_of, latest, in_flight, pause, if_any, slots_in_flight, is_to, landing_of, flight, time_to, wanted}
 use Rattle.vx_target.proofs.Word.{slotted_in}
 
 -- words one behind the other
@@ -57,6 +58,37 @@ module _ (m : Numbers) (is_one : IsMachine m) where
   pub flight_few : (n : ℕ) (ws : List Word) → n ≤ 16 → in_flight m n ws ≤ 16
   flight_few n [] le = le
   flight_few n (w ∷ ws) le = flight_few (max n (latest m w.ops) - cycles_of w) ws (let a = latest_few w.ops in omega arith)
+
+-- nor is one register in flight for longer
+
+landing_latest : (m : Numbers) (r : Register) (ops : List Operation) → landing_of m r ops ≤ latest m ops
+landing_latest m r [] = omega arith
+landing_latest m r (op ∷ ops) = let a = landing_latest m r ops in let b = by (is_to r (destination_of op)) in omega arith
+  where
+    by : (t : Bool) → (if t then latency_of m op else 0) ≤ latency_of m op
+    by true = omega arith
+    by false = omega arith
+
+flight_within : (m : Numbers) (r : Register) (n k : ℕ) (ws : List Word) → n ≤ k → flight m r n ws ≤ in_flight m k ws
+flight_within m r n k [] le = le
+flight_within m r n k (w ∷ ws) le = flight_within m r (max n (landing_of m r w.ops) - cycles_of w) (max k (latest m w.ops) - cycles_of w) ws (let a = landing_latest m r w.ops in omega arith)
+
+wanted_within : (T : Target) (f : ℕ) (next : Option ℕ) (q : ℕ) (vs : List ℕ) (ws : List Word) → wanted T f next q vs ws ≤ in_flight T.machine 0 ws
+wanted_within T f next q [] ws = omega arith
+wanted_within T f next q (v ∷ vs) ws =
+    let r : Register = register_of T f (v ∷ []) v in
+    let a = flight_within T.machine r 0 0 ws (omega arith) in
+    let b = wanted_within T f next q vs ws in omega arith
+
+pub wanted_few : (T : Target) → IsMachine T.machine → (f : ℕ) (next : Option ℕ) (q : ℕ) (vs : List ℕ) (ws : List Word) → wanted T f next q vs ws ≤ 16
+wanted_few T is_one f next q vs ws = let a = wanted_within T f next q vs ws in let b = flight_few T.machine is_one 0 ws (omega arith) in omega arith
+
+-- what is loaded is waited for until it may be named
+pub wanted_covers : (T : Target) (f : ℕ) (next : Option ℕ) (q : ℕ) (vs : List ℕ) (ws : List Word) (v : ℕ) → IsIn v vs → flight T.machine (register_of T f (v ∷ []) v) 0 ws - time_to T f next q (register_of T f (v ∷ []) v) ≤ wanted T f next q vs ws
+wanted_covers T f next q [] ws v i = absurd i
+wanted_covers T f next q (u ∷ vs) ws v i = ⊎_elim
+    (λ e. subst (λ z. flight T.machine (register_of T f (v ∷ []) v) 0 ws - time_to T f next q (register_of T f (v ∷ []) v) ≤ wanted T f next q (z ∷ vs) ws) e (omega arith))
+    (λ j. let a = wanted_covers T f next q vs ws v j in omega arith) i
 
 -- results that go to slots
 

@@ -290,16 +290,19 @@ module _ (m : Numbers) (w : WordProgram) (fit : AllFit m w) (T : Target) (f sp :
     others = λ q h na. a.others q (λ v i. h v (forth v i)) na;
   }
 
-  -- values that are reloaded
-  pub before_case : (vs : List ℕ) (u : State) → u.flying ≡ [] → Stands w.words u.place (if_some vs (settled T (load_slots T f names vs))) → StackAt u → AllUsable vs → AllInside vs → NamedApart vs → Loaded u vs (length (if_some vs (settled T (load_slots T f names vs))))
-  before_case [] u calm st stack usable inside apart = load_list [] u calm tt stack usable inside apart
-  before_case (v ∷ vs) u calm st stack usable inside apart =
-      let loads : List Word = load_slots T f names (v ∷ vs) in
-      let n : ℕ = in_flight T.machine 0 loads in
-      let a = load_list (v ∷ vs) u calm (stands_left w.words u.place loads (pause n) st) stack usable inside apart in
+  -- with a pause behind them
+  pub paused_case : (n : ℕ) (vs : List ℕ) (u : State) → u.flying ≡ [] → Stands w.words u.place (load_slots T f names vs ++ pause n) → StackAt u → AllUsable vs → AllInside vs → NamedApart vs → Loaded u vs (length (load_slots T f names vs ++ pause n))
+  paused_case n vs u calm st stack usable inside apart =
+      let loads : List Word = load_slots T f names vs in
+      let a = load_list vs u calm (stands_left w.words u.place loads (pause n) st) stack usable inside apart in
       let last : Stands w.words (u.place + length loads) (pause n) = stands_right w.words u.place loads (pause n) st in
       let len : length (loads ++ pause n) ≡ length loads + length (pause n) = length-append loads (pause n) in
-      subst (Loaded u (v ∷ vs)) (sym len) (wait_after u (v ∷ vs) (length loads) n a (subst (λ q. Stands w.words q (pause n)) (sym a.place) last))
+      subst (Loaded u vs) (sym len) (wait_after u vs (length loads) n a (subst (λ q. Stands w.words q (pause n)) (sym a.place) last))
+
+  -- values that are reloaded
+  before_case : (vs : List ℕ) (u : State) → u.flying ≡ [] → Stands w.words u.place (if_some vs (settled T (load_slots T f names vs))) → StackAt u → AllUsable vs → AllInside vs → NamedApart vs → Loaded u vs (length (if_some vs (settled T (load_slots T f names vs))))
+  before_case [] u calm st stack usable inside apart = load_list [] u calm tt stack usable inside apart
+  before_case (v ∷ vs) u calm st stack usable inside apart = paused_case (in_flight T.machine 0 (load_slots T f names (v ∷ vs))) (v ∷ vs) u calm st stack usable inside apart
 
   -- the words before a planned word
   pub once_case : (vs : List ℕ) (u : State) → u.flying ≡ [] → Stands w.words u.place (if_some vs (settled T (load_slots T f names (once vs)))) → StackAt u → AllUsable vs → AllInside vs → NamedApart vs → Loaded u vs (length (if_some vs (settled T (load_slots T f names (once vs)))))

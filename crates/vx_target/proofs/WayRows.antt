@@ -2,16 +2,19 @@
 use Rattle.std.proofs.Common.{◌≡◌, ◌+◌, ℕ, suc, pos, Some, List, [], ◌∷◌, ◌++◌, refl}
 use Rattle.vx_base.specs.declared.outcome.Trap.TheVariants.{Index}
 use Rattle.vx_flow.specs.declared.graph.Bank.TheVariants.{General}
-use Rattle.vx_flow.specs.declared.graph.Operand.TheVariants.{Number}
+use Rattle.vx_base.specs.declared.arithmetic.Code.TheVariants.{Mov}
+use Rattle.vx_flow.specs.declared.graph.Op.TheVariants.{Compute}
+use Rattle.vx_flow.specs.declared.graph.Operand.TheVariants.{Held, Number}
 use Rattle.vx_isa.specs.declared.operation.Operation.TheVariants.{Goto, Move, Return as Leaves}
 use Rattle.vx_isa.specs.declared.operation.Source.TheVariants.{Number as Immediate}
 use Rattle.vx_isa.specs.declared.program.Word.{Word}
 use Rattle.vx_isa.specs.Machine.{cycles_of}
 use Rattle.vx_isa.specs.Numbers.{vex}
 use Rattle.vx_mixed.specs.declared.layout.VirtualWord.{VirtualWord}
-use Rattle.vx_mixed.specs.declared.layout.VirtualWord.TheVariants.{Drain, Transfer, Call, Return, Ends}
+use Rattle.vx_mixed.specs.declared.layout.Laid.TheVariants.{Plain}
+use Rattle.vx_mixed.specs.declared.layout.VirtualWord.TheVariants.{Planned, Drain, Transfer, Call, Return, Ends}
 use Rattle.vx_regs.specs.declared.map.Kept.TheVariants.{InRegister}
-use Rattle.vx_target.specs.Target.{Target, most_transfers, answer, past, one, waits, word_words, call_words, back_words, entry_words, return_words}
+use Rattle.vx_target.specs.Target.{Target, most_transfers, most_spared, answer, past, one, waits, word_words, call_words, back_words, entry_words, return_words}
 
 -- three values in registers, of which two are saved round a call, and the first is a parameter; the layout of every function has
 -- these words, and word p of function f begins at place 10 + p
@@ -121,17 +124,17 @@ abbrev leaf : Target
 leaf = laid (Return (Number (pos 0)) ∷ [])
 
 abbrev caller : Target
-caller = laid (Call 0 [] (Some 2) ∷ Transfer 1 ∷ [])
+caller = laid (Call 0 [] (Some 2) ∷ Return (Number (pos 0)) ∷ [])
 
 call_lasts : lasts (call_words caller 0 0 0 (Number (pos 7) ∷ [])) ≡ 7
 call_lasts = refl
 
 leaf_entry_lasts : lasts (entry_words leaf 0) ≡ 3
-unfolding most_transfers
+unfolding most_transfers most_spared
 leaf_entry_lasts = refl
 
 caller_entry_lasts : lasts (entry_words caller 0) ≡ 3
-unfolding most_transfers
+unfolding most_transfers most_spared
 caller_entry_lasts = refl
 
 leaf_return_lasts : lasts (return_words leaf 0 (Number (pos 0))) ≡ 1
@@ -145,13 +148,42 @@ caller_return_lasts : lasts (return_words caller 0 (Number (pos 0))) ≡ 5
 caller_return_lasts = refl
 
 back_lasts : lasts (back_words caller 0 0 (Some 2)) ≡ 6
+unfolding most_transfers most_spared
 back_lasts = refl
+
+-- what was reloaded is in flight until a word names it: of two the first one is in flight for one cycle more, the other one for two
+abbrev moved : ℕ → VirtualWord
+moved v = Planned 0 0 (Plain (Compute Mov 2 (Held v) (Number (pos 0))) 0 ∷ [])
+
+abbrev before_moved : ℕ → Target
+before_moved v = laid (Call 0 [] (Some 2) ∷ moved v ∷ Return (Number (pos 0)) ∷ [])
+
+another_is_named : lasts (back_words (before_moved 2) 0 0 (Some 2)) ≡ 5
+unfolding most_transfers most_spared
+another_is_named = refl
+
+first_is_named : lasts (back_words (before_moved 0) 0 0 (Some 2)) ≡ 5
+unfolding most_transfers most_spared
+first_is_named = refl
+
+second_is_named : lasts (back_words (before_moved 1) 0 0 (Some 2)) ≡ 6
+unfolding most_transfers most_spared
+second_is_named = refl
+
+-- and while a word goes there
+second_behind_goto : lasts (back_words (laid (Call 0 [] (Some 2) ∷ Transfer 3 ∷ Return (Number (pos 0)) ∷ moved 1 ∷ Return (Number (pos 0)) ∷ [])) 0 0 (Some 2)) ≡ 5
+unfolding most_transfers most_spared
+second_behind_goto = refl
+
+another_behind_goto : lasts (back_words (laid (Call 0 [] (Some 2) ∷ Transfer 3 ∷ Return (Number (pos 0)) ∷ moved 2 ∷ Return (Number (pos 0)) ∷ [])) 0 0 (Some 2)) ≡ 4
+unfolding most_transfers most_spared
+another_behind_goto = refl
 
 -- together
 leaf_called : lasts (call_words caller 0 0 0 (Number (pos 7) ∷ []) ++ (entry_words leaf 0 ++ (return_words leaf 0 (Number (pos 0)) ++ back_words caller 0 0 (Some 2)))) ≡ 17
-unfolding most_transfers
+unfolding most_transfers most_spared
 leaf_called = refl
 
 caller_called : lasts (call_words caller 0 0 0 (Number (pos 7) ∷ []) ++ (entry_words caller 0 ++ (return_words caller 0 (Number (pos 0)) ++ back_words caller 0 0 (Some 2)))) ≡ 21
-unfolding most_transfers
+unfolding most_transfers most_spared
 caller_called = refl

@@ -1,6 +1,6 @@
 -- Where the values, frames and words of a program are, and the words that carry a laid-out word.
-use Rattle.std.specs.Prelude.{not, ℕ, zero, suc, ◌+◌, ◌-◌, ◌*◌, ◌==◌, ◌&&◌, max, ℤ, pos, neg_ℤ, Bool, true, false, if◌then◌else◌, Option, Some, None, List, [], ◌∷◌, ◌++◌, length, map, slice_get}
-use Rattle.std.specs.List.{filter, list_any}
+use Rattle.std.specs.Prelude.{not, ℕ, zero, suc, ◌+◌, ◌-◌, ◌*◌, ◌==◌, ◌&&◌, max, ℤ, pos, neg_ℤ, Bool, true, false, nat_lt, if◌then◌else◌, Option, Some, None, List, [], ◌∷◌, ◌++◌, length, map, slice_get}
+use Rattle.std.specs.List.{filter, list_all, list_any}
 use Rattle.vx_base.specs.Arithmetic.{sum_of}
 use Rattle.vx_base.specs.declared.arithmetic.Code.{Code}
 use Rattle.vx_base.specs.declared.arithmetic.Code.TheVariants.{Add, Sh2add, Mov, ToBranch}
@@ -14,15 +14,17 @@ use Rattle.vx_flow.specs.declared.graph.Op.TheVariants.{Compute as Computes, Sel
 use Rattle.vx_flow.specs.declared.graph.Graph.{Graph}
 use Rattle.vx_flow.specs.Effects.{writes}
 use Rattle.vx_flow.specs.Meaning.{deepest}
+use Rattle.vx_flow.specs.declared.operands.Reads.{Reads}
+use Rattle.vx_flow.specs.Operands.{read_by, written_by}
 use Rattle.vx_flow.specs.Sound.{is_local}
 use Rattle.vx_flow.specs.Walk.{numbers}
 use Rattle.vx_isa.specs.Machine.{cycles_of}
 use Rattle.vx_isa.specs.Fits.{fits}
 use Rattle.vx_isa.specs.Numbers.{Numbers}
-use Rattle.vx_isa.specs.Operations.{latency_of}
+use Rattle.vx_isa.specs.Operations.{destination_of, latency_of, same}
 use Rattle.vx_isa.specs.declared.operation.GeneralRegister.{GeneralRegister}
 use Rattle.vx_isa.specs.declared.operation.Register.{Register}
-use Rattle.vx_isa.specs.declared.operation.Register.TheVariants.{General as InGeneral, Branch as InBranch}
+use Rattle.vx_isa.specs.declared.operation.Register.TheVariants.{General as InGeneral, Branch as InBranch, Link}
 use Rattle.vx_isa.specs.declared.operation.Source.{Source}
 use Rattle.vx_isa.specs.declared.operation.Source.TheVariants.{Held, Number}
 use Rattle.vx_isa.specs.declared.operation.Operation.{Operation}
@@ -325,12 +327,9 @@ on_clusters n op = map op (clusters n)
 abbrev pub move_stack : Target → ℤ → List Word
 move_stack T z = settled T (record { ops = on_clusters T.machine.clusters (λ k. Compute k Add (InGeneral (stack_on k)) (Held (stack_on k)) (Number z)); idle = 0 } ∷ [])
 
--- saved and reloaded by their own registers
+-- saved by their own registers
 abbrev pub save_words : Target → ℕ → List ℕ → List Word
 save_words T f vs = store_slots T f vs vs
-
-abbrev pub reload_words : Target → ℕ → List ℕ → List Word
-reload_words T f vs = if_some vs (settled T (load_slots T f vs vs))
 
 -- an operand of a call or return as a source: a value in a slot is brought to the first scratch register of its cluster, from a
 -- frame so many words above the stack pointer
@@ -371,10 +370,6 @@ call_words T f p g arguments =
     settled T (one (Compute 0 (ToBranch Ltu) (InBranch (record { cluster = 0; number = 0 })) (Held (stack_on 0)) (Number (bytes (T.globals + T.frame)))) ∷ save_words T f (T.saved f p))
     ++ one (BranchOn 0 true T.depth_trap)
     ∷ (move_stack T (neg_ℤ (bytes T.frame)) ++ (argument_words T f g (parameters_of T g) arguments ++ one (Call (T.entry g)) ∷ []))
-
--- the result is taken first, since a branch value comes back by way of the answer's register
-abbrev pub back_words : Target → (function place : ℕ) → Option ℕ → List Word
-back_words T f p result = move_stack T (bytes T.frame) ++ (result_words T f result ++ reload_words T f (T.saved f p))
 
 -- the word of a layout is a call
 abbrev pub is_call_word : VirtualWord → Bool
@@ -435,10 +430,102 @@ link_words T f =
     then settled T (one (FromLink (general 0 3)) ∷ []) ++ one (Store 0 (pos 0) (stack_on 0) (Held (general 0 3))) ∷ []
     else []
 
--- at the entry parameters are brought to their registers, and the link is stored while they are in flight; the first word of the
--- layout follows
+-- pauses that are only as long as the words behind them ask
+
+-- the value is in a register, and not in this one
+abbrev pub is_elsewhere : Target → (function : ℕ) → Register → (value : ℕ) → Bool
+is_elsewhere T f r v = not (is_slotted (kept T f v)) && not (same r (register_of T f (v ∷ []) v))
+
+abbrev pub all_elsewhere : Target → ℕ → Register → Option ℕ → Bool
+all_elsewhere T f r None = true
+all_elsewhere T f r (Some v) = is_elsewhere T f r v
+
+abbrev pub reads_elsewhere : Target → ℕ → Register → Reads → Bool
+reads_elsewhere T f r x = all_elsewhere T f r x.first && (all_elsewhere T f r x.second && all_elsewhere T f r x.third)
+
+abbrev pub item_elsewhere : Target → ℕ → Register → Laid → Bool
+item_elsewhere T f r (Plain op k) = all_elsewhere T f r (written_by op) && reads_elsewhere T f r (read_by op)
+item_elsewhere T f r (Split test y q) = is_elsewhere T f r test
+
+-- a register in which values are kept
+abbrev pub is_for_values : Register → Bool
+is_for_values (InGeneral r) = nat_lt 2 r.number
+is_for_values (InBranch r) = true
+is_for_values Link = false
+
+-- all values of a word are in registers, and none in this one
+abbrev pub spares : Target → ℕ → Register → List Laid → Bool
+spares T f r items = is_for_values r && list_all (item_elsewhere T f r) items
+
+abbrev pub is_split : Laid → Bool
+is_split (Plain op k) = false
+is_split (Split test y q) = true
+
+-- by a word of its own, if it needs one, to a place from which on there is so much time
+abbrev pub by_way : Target → (function following to cycles : ℕ) → ℕ
+by_way T f next q n = if follows T f next q then n else suc n
+
+-- the same at a word of a layout, by what there is from other places on
+abbrev pub spared_at : Target → (function : ℕ) → Register → (place : ℕ) → (ℕ → ℕ) → Option VirtualWord → ℕ
+spared_at T f r p on None = 0
+spared_at T f r p on (Some (Planned region w items)) = if spares T f r items then (if list_any is_split items then 1 else suc (on (p + 1))) else 0
+spared_at T f r p on (Some (Drain n)) = 0
+spared_at T f r p on (Some (Transfer q)) = by_way T f (p + 1) (past T f q) (on (past T f q))
+spared_at T f r p on (Some (Choice test q)) = 0
+spared_at T f r p on (Some (Calls g arguments result)) = 0
+spared_at T f r p on (Some (Returns x)) = 0
+spared_at T f r p on (Some (Ends k)) = 0
+
+-- for how many cycles a register may be in flight at a place of a layout: the words there name it as late, as far as so many of
+-- them are looked at, up to a split
+abbrev pub spared : Target → (function : ℕ) → Register → (words place : ℕ) → ℕ
+spared T f r zero p = 0
+spared T f r (suc n) p = spared_at T f r p (spared T f r n) (slice_get (T.layout f).words p)
+
+-- the most words that are looked at
+unfoldable pub most_spared : ℕ
+most_spared = 16
+
+-- the cycles until the last of what some operations write to a register has landed
+abbrev pub is_to : Register → Option Register → Bool
+is_to r None = false
+is_to r (Some q) = same r q
+
+abbrev pub landing_of : Numbers → Register → List Operation → ℕ
+landing_of m r [] = 0
+landing_of m r (op ∷ ops) = max (if is_to r (destination_of op) then latency_of m op else 0) (landing_of m r ops)
+
+-- how many cycles longer than some words last a register is in flight, where at their start it is so for n cycles
+abbrev pub flight : Numbers → Register → (n : ℕ) → List Word → ℕ
+flight m r n [] = n
+flight m r n (word ∷ words) = flight m r (max n (landing_of m r word.ops) - cycles_of word) words
+
+-- the time from some words to the first one that names a register, where a place of a layout follows, or the way to it from
+-- another place
+abbrev pub time_to : Target → (function : ℕ) → (following : Option ℕ) → (to : ℕ) → Register → ℕ
+time_to T f None q r = spared T f r most_spared q
+time_to T f (Some next) q r = by_way T f next q (spared T f r most_spared q)
+
+-- the cycles between words that bring some values to their registers and what follows, until it may name these
+abbrev pub wanted : Target → (function : ℕ) → (following : Option ℕ) → (to : ℕ) → List ℕ → List Word → ℕ
+wanted T f next q [] words = 0
+wanted T f next q (v ∷ vs) words = max (flight T.machine (register_of T f (v ∷ []) v) 0 words - time_to T f next q (register_of T f (v ∷ []) v)) (wanted T f next q vs words)
+
+-- values come back to their own registers, in front of a place
+abbrev pub reload_words : Target → (function to : ℕ) → List ℕ → List Word
+reload_words T f q vs = load_slots T f vs vs ++ pause (wanted T f None q vs (load_slots T f vs vs))
+
+-- the result is taken first, since a branch value comes back by way of the answer's register
+abbrev pub back_words : Target → (function place : ℕ) → Option ℕ → List Word
+back_words T f p result = move_stack T (bytes T.frame) ++ (result_words T f result ++ reload_words T f (p + 1) (T.saved f p))
+
+-- at the entry parameters are brought to their registers, and the link is stored while they are in flight
+abbrev pub begin_words : Target → ℕ → List Word
+begin_words T g = load_slots T g (T.brought g) (T.brought g) ++ link_words T g
+
+-- the first word of the layout follows
 abbrev pub entry_words : Target → ℕ → List Word
-entry_words T g = settled T (load_slots T g (T.brought g) (T.brought g) ++ link_words T g) ++ way T g 0 (past T g (T.layout g).entry)
+entry_words T g = (begin_words T g ++ pause (wanted T g (Some 0) (past T g (T.layout g).entry) (T.brought g) (begin_words T g))) ++ way T g 0 (past T g (T.layout g).entry)
 
 -- the word at a place goes to another one by a word of its own
 abbrev pub turns_word : Target → (function place : ℕ) → VirtualWord → Bool

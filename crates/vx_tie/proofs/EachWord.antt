@@ -27,7 +27,7 @@ use Rattle.vx_mixed.specs.declared.layout.VirtualWord.TheVariants.{Planned, Drai
 use Rattle.vx_mixed.specs.declared.layout.VWords.{VWords}
 use Rattle.vx_mixed.specs.LaidSettled.{laid_reads, laid_writes}
 use Rattle.vx_regs.specs.Intervals.{is_named, word_reads, word_writes}
-use Rattle.vx_target.specs.Target.{Target, answer, general, general_of, branch_of, stack_on, holds_branch, is_slotted, kept, slotted, once, parameters_of, one, together, pause, in_flight, settled, set_stack, slots_in_flight, load_slot, store_slot, load_slots, store_slots, if_some, before, behind, plan_word, plan_words, most_transfers, past, landing_words, on_clusters, move_stack, save_words, reload_words, fetch_words, fetched, cluster_of_operand, argument_words, result_words, call_words, back_words, is_caller, answer_words, last_beside, leave_words, return_words, follows, way, link_words, entry_words, turns, idle_words, word_words, start_words, waits, bytes, first_frame}
+use Rattle.vx_target.specs.Target.{Target, answer, general, general_of, branch_of, stack_on, holds_branch, is_slotted, kept, slotted, once, parameters_of, one, together, pause, in_flight, settled, set_stack, slots_in_flight, load_slot, store_slot, load_slots, store_slots, if_some, before, behind, plan_word, plan_words, most_transfers, past, landing_words, on_clusters, move_stack, save_words, reload_words, fetch_words, fetched, cluster_of_operand, argument_words, result_words, call_words, back_words, is_caller, answer_words, last_beside, leave_words, return_words, follows, way, link_words, begin_words, wanted, entry_words, turns, idle_words, word_words, start_words, waits, bytes, first_frame}
 use Rattle.vx_target.specs.Placed.{Depth, Labelled, PlacedAt, place_of, laid_pieces, landing_of, item_landings, word_landings, landing_pieces, function_pieces, functions_pieces, all_pieces, words_of}
 use Rattle.vx_target.specs.Carried.{Carries, IsFunctionOf, IsMapped, NeedsSlot, is_passed, is_spilled, is_saved}
 use Rattle.vx_target.specs.Places.{plan_place}
@@ -36,7 +36,7 @@ use Rattle.vx_target.proofs.FromPlace.{StandFrom, stand_here, stand_on, stand_fr
 use Rattle.vx_target.proofs.Enough.{in_all_of}
 use Rattle.vx_target.proofs.Frames.{get_below, get_in, past_keeps}
 use Rattle.vx_target.proofs.Once.{once_in}
-use Rattle.vx_target.proofs.Pauses.{flight_few, slots_few}
+use Rattle.vx_target.proofs.Pauses.{flight_few, slots_few, wanted_few}
 use Rattle.vx_target.proofs.Stands.{word_stands}
 use Rattle.vx_target.proofs.Steps.{Stands}
 use Rattle.vx_target.proofs.Word.{slotted_from}
@@ -217,8 +217,12 @@ module _ (T : Target) (flow : Flow) (ls : List VWords) (w : WordProgram) (sound 
         some_other T Count (slotted T f ws) (pause (slots_in_flight T f items) ++ store_slots T f ws (slotted T f ws))
         (append (pause (slots_in_flight T f items)) (store_slots T f ws (slotted T f ws)) (pause_other (slots_in_flight T f items) (slots_few T carries.machine f items)) (store_slots_other ws (slotted T f ws) (slotted_need ws h)))
 
-    reload_other : (vs : List ℕ) → AllNeed vs → Words (reload_words T f vs)
-    reload_other vs h = some_other T Count vs (settled T (load_slots T f vs vs)) (loads_other vs vs h)
+    -- some words, and a pause that they are waited for
+    wanted_other : (next : Option ℕ) (q : ℕ) (vs : List ℕ) (ws : List Word) → Words ws → Words (ws ++ pause (wanted T f next q vs ws))
+    wanted_other next q vs ws h = let n = wanted T f next q vs ws in append ws (pause n) h (pause_other n (wanted_few T carries.machine f next q vs ws))
+
+    reload_other : (q : ℕ) (vs : List ℕ) → AllNeed vs → Words (reload_words T f q vs)
+    reload_other q vs h = wanted_other None q vs (load_slots T f vs vs) (load_slots_other vs vs h)
 
     -- calls, returns and entries
 
@@ -260,8 +264,8 @@ module _ (T : Target) (flow : Flow) (ls : List VWords) (w : WordProgram) (sound 
 
     back_other : (p : ℕ) (result : Option ℕ) → AllNeed (T.saved f p) → ((v : ℕ) → result ≡ Some v → IfSlotted v) → Words (back_words T f p result)
     back_other p result saved n =
-        append (move_stack T (bytes T.frame)) (result_words T f result ++ reload_words T f (T.saved f p)) (move_stack_other (bytes T.frame) (inl refl))
-        (append (result_words T f result) (reload_words T f (T.saved f p)) (result_other result n) (reload_other (T.saved f p) saved))
+        append (move_stack T (bytes T.frame)) (result_words T f result ++ reload_words T f (p + 1) (T.saved f p)) (move_stack_other (bytes T.frame) (inl refl))
+        (append (result_words T f result) (reload_words T f (p + 1) (T.saved f p)) (result_other result n) (reload_other (p + 1) (T.saved f p) saved))
 
     answer_other : (x : Operand) → Words (answer_words T f x)
     answer_other x =
@@ -316,8 +320,8 @@ module _ (T : Target) (flow : Flow) (ls : List VWords) (w : WordProgram) (sound 
     entry_other =
         let next : List Word = way T f 0 (past T f (T.layout f).entry) in
         let loads : List Word = load_slots T f (T.brought f) (T.brought f) in
-        let begins : List Word = loads ++ link_words T f in
-        append (settled T begins) next (settled_other begins (append loads (link_words T f) (load_slots_other (T.brought f) (T.brought f) brought_need) link_other)) (way_other 0 (past T f (T.layout f).entry) (turned_past (T.layout f).entry (at_entry refl)))
+        let begins : List Word = begin_words T f in
+        append (begins ++ pause (wanted T f (Some 0) (past T f (T.layout f).entry) (T.brought f) begins)) next (wanted_other (Some 0) (past T f (T.layout f).entry) (T.brought f) begins (append loads (link_words T f) (load_slots_other (T.brought f) (T.brought f) brought_need) link_other)) (way_other 0 (past T f (T.layout f).entry) (turned_past (T.layout f).entry (at_entry refl)))
 
     -- words of a layout
 

@@ -22,7 +22,7 @@ use Rattle.vx_mixed.specs.LaidSettled.{bank_in}
 use Rattle.vx_regs.specs.Intervals.{IsLive, is_live}
 use Rattle.vx_regs.specs.declared.map.Kept.{Kept}
 use Rattle.vx_regs.specs.declared.map.Kept.TheVariants.{InRegister}
-use Rattle.vx_target.specs.Target.{Target, answer, general, stack_on, kept, is_slotted, parameters_of, holds_branch, register_of, one, pause, in_flight, settled, is_caller, load_slots, past, link_words, way, entry_words, memory_words}
+use Rattle.vx_target.specs.Target.{Target, answer, general, stack_on, kept, is_slotted, parameters_of, holds_branch, register_of, one, pause, in_flight, settled, is_caller, load_slots, past, link_words, way, wanted, entry_words, memory_words}
 use Rattle.vx_target.specs.Tied.{Tied, AtEntry, Below, Seated, Shows, stack_from, waiting_above, seat, Itself, holds, kind_of, word_at, link_in}
 use Rattle.vx_target.specs.Seats.{Seats, is_link}
 use Rattle.vx_target.specs.Carried.{Carries, IsFunctionOf, is_passed, Arrives}
@@ -127,7 +127,7 @@ module _ (T : Target) (flow : Flow) (ls : List VWords) (w : WordProgram) (sound 
   Links = link_words T F
 
   abbrev Wait : ℕ
-  Wait = in_flight T.machine 0 (Loads ++ Links)
+  Wait = wanted T F (Some 0) Inside Brought (Loads ++ Links)
 
   abbrev Begin : List Word
   Begin = (Loads ++ Links) ++ pause Wait

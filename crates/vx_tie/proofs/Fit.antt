@@ -44,7 +44,7 @@ use Rattle.vx_mixed.specs.declared.layout.VirtualWord.TheVariants.{Planned, Drai
 use Rattle.vx_mixed.specs.declared.layout.VWords.{VWords}
 use Rattle.vx_mixed.specs.LaidSettled.{bank_in, laid_reads, laid_writes, Plans}
 use Rattle.vx_regs.specs.Intervals.{IsBusy, is_live, is_named, word_reads, word_writes}
-use Rattle.vx_target.specs.Target.{Target, answer, general, general_of, branch_of, stack_on, home, holds_branch, is_branch, is_slotted, kept, slotted, parameters_of, one, together, waits, pause, in_flight, settled, on_clusters, set_stack, slots_in_flight, load_slot, store_slot, load_slots, store_slots, if_some, once, before, behind, plan_word, plan_words, past, landing_words, move_stack, save_words, reload_words, fetch_words, fetched, cluster_of_operand, argument_words, result_words, call_words, back_words, is_caller, answer_words, last_beside, leave_words, return_words, follows, way, link_words, entry_words, turns, idle_words, word_words, start_words, bytes, first_frame}
+use Rattle.vx_target.specs.Target.{Target, answer, general, general_of, branch_of, stack_on, home, holds_branch, is_branch, is_slotted, kept, slotted, parameters_of, one, together, waits, pause, in_flight, settled, on_clusters, set_stack, slots_in_flight, load_slot, store_slot, load_slots, store_slots, if_some, once, before, behind, plan_word, plan_words, past, landing_words, move_stack, save_words, reload_words, fetch_words, fetched, cluster_of_operand, argument_words, result_words, call_words, back_words, is_caller, answer_words, last_beside, leave_words, return_words, follows, way, link_words, begin_words, wanted, entry_words, turns, idle_words, word_words, start_words, bytes, first_frame}
 use Rattle.vx_target.specs.Placed.{Depth, Labelled, laid_pieces, landing_of, item_landings, word_landings, landing_pieces, function_pieces, functions_pieces, all_pieces, words_of}
 use Rattle.vx_target.specs.Carried.{Carries, IsFunctionOf, IsMapped, item_of_laid, WordsFit}
 use Rattle.vx_tie.specs.Fitted.{FitLaw}
@@ -252,8 +252,8 @@ module _ (T : Target) (flow : Flow) (ls : List VWords) (w : WordProgram) (sound 
     save_good : (vs : List ℕ) → ((v : ℕ) → IsIn v vs → Named f vs v) → Words (save_words T f vs)
     save_good vs h = store_slots_good f vs vs h
 
-    reload_good : (vs : List ℕ) → ((v : ℕ) → IsIn v vs → Named f vs v) → Words (reload_words T f vs)
-    reload_good vs h = some_good M vs (settled T (load_slots T f vs vs)) (settled_good (load_slots T f vs vs) (load_slots_good f vs vs h))
+    reload_good : (q : ℕ) (vs : List ℕ) → ((v : ℕ) → IsIn v vs → Named f vs v) → Words (reload_words T f q vs)
+    reload_good q vs h = let loads : List Word = load_slots T f vs vs in good_append M loads (pause (wanted T f None q vs loads)) (load_slots_good f vs vs h) (pause_good (wanted T f None q vs loads))
 
     -- operands of calls and returns
 
@@ -311,8 +311,8 @@ module _ (T : Target) (flow : Flow) (ls : List VWords) (w : WordProgram) (sound 
 
     back_good : (p : ℕ) (result : Option ℕ) → ((v : ℕ) → IsIn v (T.saved f p) → Named f (T.saved f p) v) → ((v : ℕ) → result ≡ Some v → Named f (v ∷ []) v × (holds_branch T f v ≡ false)) → Words (back_words T f p result)
     back_good p result saved h =
-        good_append M (move_stack T (bytes T.frame)) (result_words T f result ++ reload_words T f (T.saved f p)) (move_stack_good (bytes T.frame))
-        (good_append M (result_words T f result) (reload_words T f (T.saved f p)) (result_good result h) (reload_good (T.saved f p) saved))
+        good_append M (move_stack T (bytes T.frame)) (result_words T f result ++ reload_words T f (p + 1) (T.saved f p)) (move_stack_good (bytes T.frame))
+        (good_append M (result_words T f result) (reload_words T f (p + 1) (T.saved f p)) (result_good result h) (reload_good (p + 1) (T.saved f p) saved))
 
     together_good : (a b : Operation) → is_twice (destinations (a ∷ b ∷ [])) ≡ false → list_all keeps_to_cluster (a ∷ b ∷ []) ≡ true → Good M (a ∷ []) → Good M (b ∷ []) → Words (together M a b)
     together_good a b once keeps ga gb = by (fits M (a ∷ b ∷ [])) refl
@@ -369,8 +369,9 @@ module _ (T : Target) (flow : Flow) (ls : List VWords) (w : WordProgram) (sound 
     entry_good =
         let goes : List Word = way T f 0 (past T f (T.layout f).entry) in
         let loads : List Word = load_slots T f (T.brought f) (T.brought f) in
-        let begins : List Word = loads ++ link_words T f in
-        good_append M (settled T begins) goes (settled_good begins (good_append M loads (link_words T f) (load_slots_good f (T.brought f) (T.brought f) (kept_named (T.brought f) arrives)) link_good)) (way_good 0 (past T f (T.layout f).entry))
+        let begins : List Word = begin_words T f in
+        let waits_on : ℕ = wanted T f (Some 0) (past T f (T.layout f).entry) (T.brought f) begins in
+        good_append M (begins ++ pause waits_on) goes (good_append M begins (pause waits_on) (good_append M loads (link_words T f) (load_slots_good f (T.brought f) (T.brought f) (kept_named (T.brought f) arrives)) link_good) (pause_good waits_on)) (way_good 0 (past T f (T.layout f).entry))
       where
         arrives : (v : ℕ) → IsIn v (T.brought f) → (p : ℕ) × Busy p v × Banked v × (is_slotted (kept T f v) ≡ false)
         arrives v i = let a = of.saved.brought v i in ((T.layout f).entry, is_live a.live, live_bank T f mapped graph_sound (T.layout f).entry v a.live, ap is_slotted a.register)

@@ -1,9 +1,9 @@
 -- Every piece of a program that carries a flow fits: what may be in flight at a word of a layout is what is left there of writes
--- to the values that live in registers; elsewhere nothing is, but results in slots at a landing.
-use Rattle.std.proofs.Common.{◌≡◌, ◌<◌, ◌≤◌, ◌⊎◌, inl, inr, ⊎_elim, ◌+◌, ◌-◌, ℕ, zero, suc, Bool, true, false, cond, Option, Some, None, List, [], ◌∷◌, ◌++◌, length, map, refl, sym, ap, ◌∙◌, subst, arith}
+-- to the values that live in registers, and what its first words do not name; elsewhere nothing is, but results in slots at a landing.
+use Rattle.std.proofs.Common.{◌≡◌, ◌<◌, ◌≤◌, ◌⊎◌, inl, inr, ⊎_elim, ◌+◌, ◌-◌, ℕ, zero, suc, ◌==◌, Bool, true, false, cond, Option, Some, None, List, [], ◌∷◌, ◌++◌, length, map, refl, sym, ap, ◌∙◌, subst, arith}
 use Rattle.std.specs.Prelude.{if◌then◌else◌, not, slice_get, max}
 use Rattle.std.specs.List.{list_any}
-use Rattle.std.proofs.lemmas.Bool.{cases_lt}
+use Rattle.std.proofs.lemmas.Bool.{and_parts, cases_lt, eqb-true}
 use Rattle.vx_base.specs.declared.outcome.Trap.TheVariants.{Depth as ByDepth}
 use Rattle.vx_base.proofs.Pieces.{cold, fine_less, fine_end}
 use Rattle.vx_flow.specs.declared.graph.Flow.{Flow}
@@ -24,21 +24,22 @@ use Rattle.vx_mixed.specs.declared.layout.VirtualWord.TheVariants.{Planned, Drai
 use Rattle.vx_mixed.specs.declared.layout.VWords.{VWords}
 use Rattle.vx_mixed.specs.LaidSettled.{laid_reads, laid_writes, LeadsTo, LeavesCold}
 use Rattle.vx_regs.specs.Intervals.{word_writes}
-use Rattle.vx_target.specs.Target.{Target, slotted, register_of, most_transfers, past, leads, before, behind, plan_word, plan_words, landing_words, choice_words, return_words, follows, way, turns_there, turns, idle_words, entry_words, start_words, word_words, one, waits, pause, slots_in_flight}
+use Rattle.vx_target.specs.Target.{Target, slotted, register_of, most_transfers, past, leads, before, behind, plan_word, plan_words, landing_words, choice_words, return_words, follows, way, turns_there, turns, idle_words, entry_words, start_words, word_words, one, waits, pause, slots_in_flight, is_drain_there, spared_at, spared, most_spared}
 use Rattle.vx_target.specs.Placed.{Label, Start, Entry, At, Landing, Depth, Labelled, laid_pieces, landing_of, item_landings, word_landings, landing_pieces, function_pieces, functions_pieces, all_pieces}
 use Rattle.vx_target.specs.Carried.{Carries, IsMapped}
 use Rattle.vx_tie.specs.Fitted.{NeverEarlyLaw}
 use Rattle.vx_target.proofs.FromPlace.{StandFrom, stand_here, stand_on, stand_from_start}
 use Rattle.vx_target.proofs.Frames.{get_beyond, get_some, get_in, past_keeps, past_below}
 use Rattle.vx_target.proofs.Limits.{Limits, limits}
-use Rattle.vx_target.proofs.Stands.{piece_at, landing_at, in_laid, in_landings, of_function, word_next}
+use Rattle.vx_target.proofs.Stands.{entry_next, piece_at, landing_at, in_laid, in_landings, of_function, word_next}
 use Rattle.vx_tie.proofs.Early.{words_kind, words_cool}
 use Rattle.vx_tie.proofs.Heats.{lift, stop_fine}
 use Rattle.vx_tie.proofs.ColdPieces.{Fine, start_fine, return_fine, ends_fine}
 use Rattle.vx_tie.proofs.Pending.{pend, pend_free, pend_kept}
 use Rattle.vx_tie.proofs.EntryHeats.{entry_fine, call_fine}
 use Rattle.vx_tie.proofs.PlanHeats.{drain_fine, drain_short, choice_fine}
-use Rattle.vx_tie.proofs.WordHeats.{plan_fine, landing_fine}
+use Rattle.vx_tie.proofs.WordHeats.{plan_fine, beside_fine, landing_fine}
+use Rattle.vx_tie.proofs.Spared.{most_more, up_to_most}
 use Rattle.vx_tie.proofs.Built.{Fits, AllFit, fit_append, heat_at, heat_of, built_late}
 
 -- words that have a first one
@@ -148,7 +149,7 @@ module _ (T : Target) (flow : Flow) (ls : List VWords) (w : WordProgram) (sound 
   abbrev start : Label → Register → ℕ
   start Start = cold
   start (Entry f) = cold
-  start (At f p) = at_word f p (slice_get (T.layout f).words p) (Pend f p)
+  start (At f p) = λ r. max (at_word f p (slice_get (T.layout f).words p) (Pend f p) r) (spared T f r most_spared p)
   start (Landing f p q) = lift (late_by f (slice_get (T.layout f).words p)) (Pend f q) (left_by f (slice_get (T.layout f).words p))
   start Depth = cold
 
@@ -181,11 +182,11 @@ module _ (T : Target) (flow : Flow) (ls : List VWords) (w : WordProgram) (sound 
   in_function : (f : ℕ) (x : Labelled) → f < Count → IsIn x (function_pieces T f) → IsIn x (all_pieces T flow.main Count)
   in_function f x lt i = of_function T flow.main Count w.words carries.placed f x lt i
 
-  at_place : (f p : ℕ) (word : VirtualWord) → f < Count → WordAt f p word → HasFirst (word_words T f p word) → heat (T.starts f p) ≡ at_word f p (Some word) (Pend f p)
+  at_place : (f p : ℕ) (word : VirtualWord) → f < Count → WordAt f p word → HasFirst (word_words T f p word) → heat (T.starts f p) ≡ (λ r. max (at_word f p (Some word) (Pend f p) r) (spared T f r most_spared p))
   at_place f p word lt e s =
       let z : 0 + p ≡ p = omega arith in
       let i = in_function f (piece_at T f p word) lt (inr (in_left (piece_at T f p word) (laid_pieces T f 0 (T.layout f).words) (landing_pieces T f 0 (T.layout f).words) (subst (λ n. IsIn (piece_at T f n word) (laid_pieces T f 0 (T.layout f).words)) z (in_laid T f 0 p (T.layout f).words word e)))) in
-      heat_of T start flow.main Count w carries.placed (piece_at T f p word) s.0 s.1 i s.2 ∙ ap (λ o. at_word f p o (Pend f p)) e
+      heat_of T start flow.main Count w carries.placed (piece_at T f p word) s.0 s.1 i s.2 ∙ ap (λ o. (λ (r : Register). max (at_word f p o (Pend f p) r) (spared T f r most_spared p))) e
 
   at_landing : (f p q test rg wd : ℕ) (y : Bool) (items : List Laid) (v : ℕ) (vs : List ℕ) → f < Count → WordAt f p (Planned rg wd items) → slotted T f (laid_writes items) ≡ v ∷ vs → IsIn (Split test y q) items → heat (T.landing f p q) ≡ lift (slots_in_flight T f items) (Pend f q) (map (register_of T f (laid_writes items)) (slotted T f (laid_writes items)))
   at_landing f p q test rg wd y items v vs lt e s m =
@@ -214,11 +215,12 @@ module _ (T : Target) (flow : Flow) (ls : List VWords) (w : WordProgram) (sound 
     cold_here p word e leaves r = let a = pend_free T f M S p r (λ v n s z q. let c = M.settled.cold p v word e leaves in absurd (omega arith)) in omega arith
 
     -- one cycle may be left at a goto
-    goes_warm : (q : ℕ) → turns T f q ≡ true → (r : Register) → heat (T.starts f q) r ≡ 1
+    goes_warm : (q : ℕ) → turns T f q ≡ true → (r : Register) → 1 ≤ heat (T.starts f q) r
     goes_warm q h r =
         let t = turned T f q h in
         let goto : Word = one (Goto (T.starts f (past T f t.to))) in
-        ap (λ g. g r) (at_place f q (Transfer t.to) k.lt t.at (goto, [], ap (λ b. if b then [] else goto ∷ []) t.turns_off)) ∙ ap (λ b. (if b then cold else warm) r) t.turns_off
+        let a = ap (λ g. g r) (at_place f q (Transfer t.to) k.lt t.at (goto, [], ap (λ b. if b then [] else goto ∷ []) t.turns_off)) in
+        let b : at_word f q (Some (Transfer t.to)) (Pend f q) r ≡ 1 = ap (λ b. (if b then cold else warm) r) t.turns_off in omega arith
 
     behind_cold : (p : ℕ) → turns T f (p + 1) ≡ true → (r : Register) → H (suc p) r ≤ 0
     behind_cold p h r = let t = turned T f (p + 1) h in let z : p + 1 ≡ suc p = omega arith in cold_here (suc p) (Transfer t.to) (subst (λ n. WordAt f n (Transfer t.to)) z t.at) tt r
@@ -236,7 +238,8 @@ module _ (T : Target) (flow : Flow) (ls : List VWords) (w : WordProgram) (sound 
             let none : length (idle_words T f q n) ≡ 0 = ap length (ap (λ b. if b then pause (n - 1) else waits n ∷ []) h ∙ ap pause z) in
             let next = word_next T flow.main Count w.words carries.placed f q (Drain n) k.lt e in
             let same : T.starts f (q + 1) ≡ T.starts f q = (let y : q + 1 ≡ suc q = omega arith in let x : T.starts f (q + 1) ≡ T.starts f (suc q) = ap (T.starts f) y in omega arith) in
-            let warm_there : heat (T.starts f q) r ≡ 1 = ap (λ n. heat n r) (sym same) ∙ goes_warm (q + 1) h r in
+            let warm_there = goes_warm (q + 1) h r in
+            let moved = ap (λ n. heat n r) same in
             let kept_on = pend_kept T f M S q (suc q) r (Drain n) e refl in
             let calm = behind_cold q h r in omega arith
 
@@ -259,8 +262,8 @@ module _ (T : Target) (flow : Flow) (ls : List VWords) (w : WordProgram) (sound 
         let a = leads_there p (suc p) word e leads_to r in
         let b = ap (λ n. heat n r) (word_next T flow.main Count w.words carries.placed f p word k.lt e) in omega arith
 
-    begins : (p : ℕ) (word : VirtualWord) → WordAt f p word → (r : Register) → start (At f p) r ≤ at_word f p (Some word) (H p) r
-    begins p word e r = let a : start (At f p) r ≡ at_word f p (Some word) (H p) r = ap (λ o. at_word f p o (Pend f p) r) e ∙ at_same f p word (Pend f p) (H p) r (k.same p r) in omega arith
+    begins : (p : ℕ) (word : VirtualWord) → WordAt f p word → (r : Register) → start (At f p) r ≤ max (at_word f p (Some word) (H p) r) (spared T f r most_spared p)
+    begins p word e r = let a : at_word f p (slice_get (T.layout f).words p) (Pend f p) r ≡ at_word f p (Some word) (H p) r = ap (λ o. at_word f p o (Pend f p) r) e ∙ at_same f p word (Pend f p) (H p) r (k.same p r) in omega arith
 
     abbrev Behind : ℕ → VirtualWord → Register → ℕ
     Behind p word = heat (T.starts f p + length (word_words T f p word))
@@ -292,6 +295,49 @@ module _ (T : Target) (flow : Flow) (ls : List VWords) (w : WordProgram) (sound 
             let b = lift_same (slots_in_flight T f items) (Pend f to) (H to) (map (register_of T f (laid_writes items)) (slotted T f (laid_writes items))) r (k.same to r) in
             let c : lift (slots_in_flight T f items) (H to) (map (register_of T f (laid_writes items)) (slotted T f (laid_writes items))) r ≡ lift (slots_in_flight T f items) (H to) (map (register_of T f (laid_writes items)) (v ∷ vs)) r = ap (λ us. lift (slots_in_flight T f items) (H to) (map (register_of T f (laid_writes items)) us) r) s in omega arith
 
+    -- registers that the words there spare may be in flight besides
+
+    spared_at_start : (n more q : ℕ) (r : Register) (word : VirtualWord) → n + more ≡ most_spared → WordAt f q word → HasFirst (word_words T f q word) → spared T f r n q ≤ heat (T.starts f q) r
+    spared_at_start n more q r word e at s = let a = ap (λ h. h r) (at_place f q word k.lt at s) in let b = up_to_most T f r n more q e in omega arith
+
+    spared_there : (n more q : ℕ) (r : Register) → n + more ≡ most_spared → spared T f r n q ≤ heat (T.starts f q) r
+    spared_there zero more q r e = omega arith
+    spared_there (suc n) more q r e = by (slice_get (T.layout f).words q) refl (λ to. spared_there n (suc more) to r (omega arith))
+      where
+        less_by : (o : Option VirtualWord) → slice_get (T.layout f).words q ≡ o → spared T f r (suc n) q ≤ heat (T.starts f q) r → spared_at T f r q (spared T f r n) o ≤ heat (T.starts f q) r
+        less_by o z h = let a = ap (spared_at T f r q (spared T f r n)) z in omega arith
+
+        by_transfer : (to : ℕ) → WordAt f q (Transfer to) → ((d : ℕ) → spared T f r n d ≤ heat (T.starts f d) r) → (b : Bool) → follows T f (q + 1) (past T f to) ≡ b → spared_at T f r q (spared T f r n) (Some (Transfer to)) ≤ heat (T.starts f q) r
+        by_transfer to z on true h =
+            let none : length (word_words T f q (Transfer to)) ≡ 0 = ap (λ b. length (if b then [] else one (Goto (T.starts f (past T f to))) ∷ [])) h in
+            let next = word_next T flow.main Count w.words carries.placed f q (Transfer to) k.lt z in
+            let here : q + 1 ≡ past T f to = eqb-true (q + 1) (past T f to) (and_parts (q + 1 == past T f to) (not (is_drain_there (slice_get (T.layout f).words (past T f to)))) h).0 in
+            let y : suc q ≡ past T f to = omega arith in
+            let same : T.starts f (past T f to) ≡ T.starts f q = (let x = ap (T.starts f) y in omega arith) in
+            let a = on (past T f to) in
+            let b = ap (λ m. heat m r) same in
+            let c : spared_at T f r q (spared T f r n) (Some (Transfer to)) ≡ spared T f r n (past T f to) = ap (λ b. if b then spared T f r n (past T f to) else suc (spared T f r n (past T f to))) h in omega arith
+        by_transfer to z on false h =
+            let goto : Word = one (Goto (T.starts f (past T f to))) in
+            less_by (Some (Transfer to)) z (spared_at_start (suc n) more q r (Transfer to) e z (goto, [], ap (λ b. if b then [] else goto ∷ []) h))
+
+        by : (o : Option VirtualWord) → slice_get (T.layout f).words q ≡ o → ((d : ℕ) → spared T f r n d ≤ heat (T.starts f d) r) → spared_at T f r q (spared T f r n) o ≤ heat (T.starts f q) r
+        by None z on = omega arith
+        by (Some (Planned rg wd items)) z on = less_by (Some (Planned rg wd items)) z (spared_at_start (suc n) more q r (Planned rg wd items) e z (first_behind (before T f (laid_reads items)) (plan_word T f q items) (behind T f items)))
+        by (Some (Drain m)) z on = omega arith
+        by (Some (Transfer to)) z on = by_transfer to z on (follows T f (q + 1) (past T f to)) refl
+        by (Some (Choice test to)) z on = omega arith
+        by (Some (Calls g arguments result)) z on = omega arith
+        by (Some (Returns x)) z on = omega arith
+        by (Some (Ends j)) z on = omega arith
+
+    -- at the next place
+    spared_next : (n more p : ℕ) (word : VirtualWord) → WordAt f p word → n + more ≡ most_spared → (r : Register) → spared T f r n (p + 1) ≤ Behind p word r
+    spared_next n more p word e is r =
+        let y : p + 1 ≡ suc p = omega arith in
+        let a = spared_there n more (p + 1) r is in
+        let b = ap (λ m. heat m r) (ap (T.starts f) y ∙ word_next T flow.main Count w.words carries.placed f p word k.lt e) in omega arith
+
     way_fine : (p q : ℕ) (d : Register → ℕ) → FineFrom (at_word f p (Some (Transfer q)) (H p)) (way T f (p + 1) (past T f q)) d
     way_fine p q d = by (follows T f (p + 1) (past T f q))
       where
@@ -307,7 +353,7 @@ module _ (T : Target) (flow : Flow) (ls : List VWords) (w : WordProgram) (sound 
 
         by : (b : Bool) → turns T f (p + 1) ≡ b → T.starts f (suc p) ≡ T.starts f p + length (Words b) → FineFrom (H p) (Words b) (heat (T.starts f p + length (Words b)))
         by true h next = drain_short T heat f M S p n (n - 1) (heat (T.starts f p + length (pause (n - 1)))) e (omega arith) (behind_cold p h)
-            (λ r. (let y : p + 1 ≡ suc p = omega arith in let a : heat (T.starts f p + length (pause (n - 1))) r ≡ 1 = ap (λ m. heat m r) (sym next ∙ ap (T.starts f) (sym y)) ∙ goes_warm (p + 1) h r in omega arith))
+            (λ r. (let y : p + 1 ≡ suc p = omega arith in let a = ap (λ m. heat m r) (sym next ∙ ap (T.starts f) (sym y)) in let b = goes_warm (p + 1) h r in omega arith))
         by false h next = ends (H p) (H (suc p)) (heat (T.starts f p + 1)) (waits n ∷ []) (λ r. (let a = leads_there p (suc p) (Drain n) e refl r in let b = ap (λ m. heat m r) next in omega arith)) (drain_fine T heat f M S p n e)
 
     inner : (p : ℕ) (word : VirtualWord) → WordAt f p word → FineFrom (at_word f p (Some word) (H p)) (word_words T f p word) (Behind p word)
@@ -315,12 +361,47 @@ module _ (T : Target) (flow : Flow) (ls : List VWords) (w : WordProgram) (sound 
     inner p (Drain n) e = idle_fine p n e
     inner p (Transfer q) e = way_fine p q (Behind p (Transfer q))
     inner p (Choice test q) e = ends (H p) (H (suc p)) (Behind p (Choice test q)) (choice_words T f test q) (next_there p (Choice test q) e (inr refl)) (choice_fine T heat f M S l p test q e (leads_past p q (Choice test q) e (inl refl)))
-    inner p (Calls g arguments result) e = less (H p) cold (Behind p (Calls g arguments result)) (word_words T f p (Calls g arguments result)) (cold_here p (Calls g arguments result) e tt) (call_fine T heat f M S (carries.functions f k.lt).saved p g arguments result (Behind p (Calls g arguments result)) e l.issue)
+    inner p (Calls g arguments result) e = less (H p) cold (Behind p (Calls g arguments result)) (word_words T f p (Calls g arguments result)) (cold_here p (Calls g arguments result) e tt) (call_fine T heat f M S (carries.functions f k.lt).saved p g arguments result (Behind p (Calls g arguments result)) e l.issue (spared_next most_spared 0 p (Calls g arguments result) e (omega arith)))
     inner p (Returns x) e = less (H p) cold (Behind p (Returns x)) (return_words T f x) (cold_here p (Returns x) e tt) (return_fine T heat f x (Behind p (Returns x)))
     inner p (Ends j) e = stop_fine T.machine heat (H p) (EndByTrap j ∷ []) [] (Behind p (Ends j)) refl (λ q r i. absurd i) refl (λ r t. ⊎_elim (λ i. absurd i) (λ i. absurd i) t.0) (λ r. omega arith)
 
+    few_more : 15 + 1 ≡ most_spared
+    few_more = sym most_more
+
+    -- what a word spares, by what the words behind it do
+    spared_here : (p : ℕ) (word : VirtualWord) (r : Register) → WordAt f p word → spared T f r most_spared p ≡ spared_at T f r p (spared T f r 15) (Some word)
+    spared_here p word r e = ap (λ n. spared T f r n p) most_more ∙ ap (spared_at T f r p (spared T f r 15)) e
+
+    spares_none : (p : ℕ) (word : VirtualWord) → WordAt f p word → ((r : Register) → spared_at T f r p (spared T f r 15) (Some word) ≡ 0) → FineFrom (λ r. max (at_word f p (Some word) (H p) r) (spared T f r most_spared p)) (word_words T f p word) (Behind p word)
+    spares_none p word e none = less (λ r. max (at_word f p (Some word) (H p) r) (spared T f r most_spared p)) (at_word f p (Some word) (H p)) (Behind p word) (word_words T f p word) (λ r. (let a = spared_here p word r e in let b = none r in omega arith)) (inner p word e)
+
+    goes_fine : (p q : ℕ) → WordAt f p (Transfer q) → FineFrom (λ r. max (at_word f p (Some (Transfer q)) (H p) r) (spared T f r most_spared p)) (way T f (p + 1) (past T f q)) (Behind p (Transfer q))
+    goes_fine p q e = less (λ r. max (at_word f p (Some (Transfer q)) (H p) r) (spared T f r most_spared p)) (λ r. max (at_word f p (Some (Transfer q)) (H p) r) (spared_at T f r p (spared T f r 15) (Some (Transfer q)))) (Behind p (Transfer q)) (way T f (p + 1) (past T f q))
+        (λ r. (let a = spared_here p (Transfer q) r e in omega arith)) (by (follows T f (p + 1) (past T f q)) refl)
+      where
+        Next : Register → ℕ
+        Next r = spared T f r 15 (past T f q)
+
+        by : (b : Bool) → follows T f (p + 1) (past T f q) ≡ b → FineFrom (λ r. max ((if b then cold else warm) r) (if b then Next r else suc (Next r))) (if b then [] else one (Goto (T.starts f (past T f q))) ∷ []) (Behind p (Transfer q))
+        by true h = λ r. (
+            let here : p + 1 ≡ past T f q = eqb-true (p + 1) (past T f q) (and_parts (p + 1 == past T f q) (not (is_drain_there (slice_get (T.layout f).words (past T f q)))) h).0 in
+            let a = spared_next 15 1 p (Transfer q) e few_more r in
+            let b = ap (spared T f r 15) here in omega arith)
+        by false h = (λ r t. ⊎_elim (λ i. absurd i) (λ i. absurd i) t.0, (λ t r j. (let a = spared_there 15 1 (past T f q) r few_more in let b = ap (λ x. heat x r) j in omega arith)), λ r. omega arith)
+
+    outer : (p : ℕ) (word : VirtualWord) → WordAt f p word → FineFrom (λ r. max (at_word f p (Some word) (H p) r) (spared T f r most_spared p)) (word_words T f p word) (Behind p word)
+    outer p (Planned rg wd items) e = less (λ r. max (H p r) (spared T f r most_spared p)) (λ r. max (H p r) (spared_at T f r p (spared T f r 15) (Some (Planned rg wd items)))) (Behind p (Planned rg wd items)) (plan_words T f p items)
+        (λ r. (let a = spared_here p (Planned rg wd items) r e in omega arith))
+        (beside_fine T heat f M S l p rg wd items e (λ r. spared T f r 15 (p + 1)) (Behind p (Planned rg wd items)) (inner p (Planned rg wd items) e) (spared_next 15 1 p (Planned rg wd items) e few_more))
+    outer p (Drain n) e = spares_none p (Drain n) e (λ r. refl)
+    outer p (Transfer q) e = goes_fine p q e
+    outer p (Choice test q) e = spares_none p (Choice test q) e (λ r. refl)
+    outer p (Calls g arguments result) e = spares_none p (Calls g arguments result) e (λ r. refl)
+    outer p (Returns x) e = spares_none p (Returns x) e (λ r. refl)
+    outer p (Ends j) e = spares_none p (Ends j) e (λ r. refl)
+
     good_word : (p : ℕ) (word : VirtualWord) → WordAt f p word → Good (record { label = At f p; words = word_words T f p word })
-    good_word p word e = less (start (At f p)) (at_word f p (Some word) (H p)) (Behind p word) (word_words T f p word) (begins p word e) (inner p word e)
+    good_word p word e = less (start (At f p)) (λ r. max (at_word f p (Some word) (H p) r) (spared T f r most_spared p)) (Behind p word) (word_words T f p word) (begins p word e) (outer p word e)
 
     -- landings
 
@@ -362,7 +443,13 @@ module _ (T : Target) (flow : Flow) (ls : List VWords) (w : WordProgram) (sound 
     next_stands p word words h = record { each = stand_on (WordAt f) p word words h.each; whole = (let a = h.whole in omega arith) }
 
     laid_good : (p : ℕ) (words : List VirtualWord) → StandToEnd p words → AllGood (laid_pieces T f p words)
-    laid_good p [] h = ((λ r. (let a : start (At f p) r ≡ 0 = ap (λ o. at_word f p o (Pend f p) r) (get_beyond (T.layout f).words p (let b = h.whole in omega arith)) in omega arith)), tt)
+    laid_good p [] h = (
+      (λ r. (
+          let none = get_beyond (T.layout f).words p (let b = h.whole in omega arith) in
+          let a : at_word f p (slice_get (T.layout f).words p) (Pend f p) r ≡ 0 = ap (λ o. at_word f p o (Pend f p) r) none in
+          let b : spared T f r most_spared p ≡ 0 = ap (λ n. spared T f r n p) most_more ∙ ap (spared_at T f r p (spared T f r 15)) none in omega arith)),
+      tt,
+    )
     laid_good p (word ∷ words) h = (good_word p word (stand_here (WordAt f) p word words h.each), laid_good (suc p) words (next_stands p word words h))
 
     laid_landings : (p : ℕ) (words : List VirtualWord) → StandToEnd p words → AllGood (landing_pieces T f p words)
@@ -372,9 +459,19 @@ module _ (T : Target) (flow : Flow) (ls : List VWords) (w : WordProgram) (sound 
     all_stand : StandToEnd 0 (T.layout f).words
     all_stand = record { each = stand_from_start (WordAt f) (T.layout f).words (λ i word e. e); whole = omega arith }
 
+    abbrev First : ℕ
+    First = past T f (T.layout f).entry
+
+    -- where the layout is entered at once
+    entered : follows T f 0 First ≡ true → (r : Register) → spared T f r most_spared First ≤ heat (T.entry f + length (entry_words T f)) r
+    entered h r =
+        let first : 0 ≡ First = eqb-true 0 First (and_parts (0 == First) (not (is_drain_there (slice_get (T.layout f).words First))) h).0 in
+        let a = spared_there most_spared 0 First r (omega arith) in
+        let b = ap (λ m. heat m r) (ap (T.starts f) (sym first) ∙ entry_next T flow.main Count w.words carries.placed f k.lt) in omega arith
+
     function_good : AllGood (function_pieces T f)
     function_good = (
-      entry_fine T heat f M S (carries.functions f k.lt).saved (heat (T.entry f + length (entry_words T f))) l.issue,
+      entry_fine T heat f M S (carries.functions f k.lt).saved (heat (T.entry f + length (entry_words T f))) l.issue (λ r. spared_there most_spared 0 First r (omega arith)) entered,
       fit_append T start heat (laid_pieces T f 0 (T.layout f).words) (landing_pieces T f 0 (T.layout f).words) (laid_good 0 (T.layout f).words all_stand) (laid_landings 0 (T.layout f).words all_stand),
     )
 

@@ -25,7 +25,7 @@ use Rattle.vx_mixed.specs.declared.layout.VirtualWord.{VirtualWord}
 use Rattle.vx_mixed.specs.declared.layout.VirtualWord.TheVariants.{Planned, Drain, Transfer, Choice, Call as Calls, Return as Returns, Ends}
 use Rattle.vx_mixed.specs.declared.layout.VWords.{VWords}
 use Rattle.vx_mixed.specs.LaidSettled.{laid_reads, laid_writes}
-use Rattle.vx_target.specs.Target.{Target, answer, general, general_of, branch_of, home, stack_on, holds_branch, is_slotted, kept, slotted, once, parameters_of, one, together, pause, in_flight, settled, set_stack, slots_in_flight, load_slot, store_slot, load_slots, store_slots, if_some, before, behind, plan_word, plan_words, past, landing_words, on_clusters, move_stack, save_words, reload_words, fetch_words, fetched, cluster_of_operand, argument_words, result_words, call_words, back_words, is_caller, is_drain, is_drain_there, answer_words, last_beside, leave_words, return_words, follows, way, link_words, entry_words, turns, idle_words, word_words, start_words, waits, bytes, first_frame}
+use Rattle.vx_target.specs.Target.{Target, answer, general, general_of, branch_of, home, stack_on, holds_branch, is_slotted, kept, slotted, once, parameters_of, one, together, pause, in_flight, settled, set_stack, slots_in_flight, load_slot, store_slot, load_slots, store_slots, if_some, before, behind, plan_word, plan_words, past, landing_words, on_clusters, move_stack, save_words, reload_words, fetch_words, fetched, cluster_of_operand, argument_words, result_words, call_words, back_words, is_caller, is_drain, is_drain_there, answer_words, last_beside, leave_words, return_words, follows, way, link_words, begin_words, wanted, entry_words, turns, idle_words, word_words, start_words, waits, bytes, first_frame}
 use Rattle.vx_target.specs.Placed.{Depth, Labelled, PlacedAt, place_of, laid_pieces, landing_of, item_landings, word_landings, landing_pieces, function_pieces, functions_pieces, all_pieces, words_of}
 use Rattle.vx_target.specs.Carried.{Carries, IsMapped}
 use Rattle.vx_tie.specs.Plans.{AreSpaced, GoesOn, IsSpaced}
@@ -146,9 +146,13 @@ module _ (T : Target) where
         by [] = λ e. e
         by (v ∷ vs) = then_idles false true false (pause (slots_in_flight T f items)) (store_slots T f (laid_writes items) (v ∷ vs)) (pause_idles (slots_in_flight T f items)) (stores_idles (laid_writes items) v vs)
 
-    reload_idles : (vs : List ℕ) → Idles true (reload_words T f vs) true
-    reload_idles [] = λ e. e
-    reload_idles (v ∷ vs) = settled_idles true (load_slots T f (v ∷ vs) (v ∷ vs)) (loads_idles (v ∷ vs) v vs)
+    -- some words, and a pause
+    paused_idles : (n : ℕ) (ws : List Word) → Idles true ws false → Idles true (ws ++ pause n) true
+    paused_idles n ws h = then_idles true false true ws (pause n) h (pause_idles n)
+
+    reload_idles : (q : ℕ) (vs : List ℕ) → Idles true (reload_words T f q vs) true
+    reload_idles q [] = λ e. e
+    reload_idles q (v ∷ vs) = let loads : List Word = load_slots T f (v ∷ vs) (v ∷ vs) in paused_idles (wanted T f None q (v ∷ vs) loads) loads (loads_idles (v ∷ vs) v vs)
 
     -- calls, returns and entries
 
@@ -205,8 +209,8 @@ module _ (T : Target) where
     return_idles x = then_idles true true false (fetch_words T f 0 x) (leave_words T f x) (fetch_idles 0 x) (leave_idles x)
 
     -- parameters are brought, and the link is stored; without either there is no pause
-    begin_idles : (vs : List ℕ) → Idles true (settled T (load_slots T f vs vs ++ link_words T f)) true
-    begin_idles vs = by (is_caller T f) vs
+    begin_idles : (next : Option ℕ) (q : ℕ) (vs : List ℕ) → Idles true ((load_slots T f vs vs ++ link_words T f) ++ pause (wanted T f next q vs (load_slots T f vs vs ++ link_words T f))) true
+    begin_idles next q vs = by (is_caller T f) vs
       where
         keeps : List Word
         keeps = settled T (one (FromLink (general 0 3)) ∷ []) ++ one (Store 0 (pos 0) (stack_on 0) (Held (general 0 3))) ∷ []
@@ -214,11 +218,11 @@ module _ (T : Target) where
         kept_idles : Idles true keeps false
         kept_idles = two_idles (FromLink (general 0 3)) (Store 0 (pos 0) (stack_on 0) (Held (general 0 3)))
 
-        by : (b : Bool) (us : List ℕ) → Idles true (settled T (load_slots T f us us ++ (if b then keeps else []))) true
-        by true [] = settled_idles true keeps kept_idles
-        by true (v ∷ us) = settled_idles true (load_slots T f (v ∷ us) (v ∷ us) ++ keeps) (then_idles true false false (load_slots T f (v ∷ us) (v ∷ us)) keeps (loads_idles (v ∷ us) v us) (weak false false keeps kept_idles))
+        by : (b : Bool) (us : List ℕ) → Idles true ((load_slots T f us us ++ (if b then keeps else [])) ++ pause (wanted T f next q us (load_slots T f us us ++ (if b then keeps else [])))) true
+        by true [] = paused_idles 0 keeps kept_idles
+        by true (v ∷ us) = paused_idles (wanted T f next q (v ∷ us) (load_slots T f (v ∷ us) (v ∷ us) ++ keeps)) (load_slots T f (v ∷ us) (v ∷ us) ++ keeps) (then_idles true false false (load_slots T f (v ∷ us) (v ∷ us)) keeps (loads_idles (v ∷ us) v us) (weak false false keeps kept_idles))
         by false [] = λ e. e
-        by false (v ∷ us) = settled_idles true (load_slots T f (v ∷ us) (v ∷ us) ++ []) (then_idles true false false (load_slots T f (v ∷ us) (v ∷ us)) [] (loads_idles (v ∷ us) v us) (λ e. e))
+        by false (v ∷ us) = paused_idles (wanted T f next q (v ∷ us) (load_slots T f (v ∷ us) (v ∷ us) ++ [])) (load_slots T f (v ∷ us) (v ∷ us) ++ []) (then_idles true false false (load_slots T f (v ∷ us) (v ∷ us)) [] (loads_idles (v ∷ us) v us) (λ e. e))
 
     way_idles : (next q : ℕ) → Idles true (way T f next q) (follows T f next q)
     way_idles next q = by (follows T f next q)
@@ -231,7 +235,8 @@ module _ (T : Target) where
     entry_idles =
         let ahead : Bool = follows T f 0 (past T f (T.layout f).entry) in
         let next : List Word = way T f 0 (past T f (T.layout f).entry) in
-        then_idles true true ahead (settled T (load_slots T f (T.brought f) (T.brought f) ++ link_words T f)) next (begin_idles (T.brought f)) (way_idles 0 (past T f (T.layout f).entry))
+        let q : ℕ = past T f (T.layout f).entry in
+        then_idles true true ahead (begin_words T f ++ pause (wanted T f (Some 0) q (T.brought f) (begin_words T f))) next (begin_idles (Some 0) q (T.brought f)) (way_idles 0 (past T f (T.layout f).entry))
 
     module _ (some : 0 < T.machine.clusters) where
       move_stack_idles : (z : ℤ) → Idles true (move_stack T z) true
@@ -254,8 +259,8 @@ module _ (T : Target) where
 
       back_idles : (p : ℕ) (result : Option ℕ) → Idles true (back_words T f p result) true
       back_idles p result =
-          then_idles true true true (move_stack T (bytes T.frame)) (result_words T f result ++ reload_words T f (T.saved f p)) (move_stack_idles (bytes T.frame))
-          (then_idles true true true (result_words T f result) (reload_words T f (T.saved f p)) (result_idles result) (reload_idles (T.saved f p)))
+          then_idles true true true (move_stack T (bytes T.frame)) (result_words T f result ++ reload_words T f (p + 1) (T.saved f p)) (move_stack_idles (bytes T.frame))
+          (then_idles true true true (result_words T f result) (reload_words T f (p + 1) (T.saved f p)) (result_idles result) (reload_idles (p + 1) (T.saved f p)))
 
       called_idles : (p g : ℕ) (xs : List Operand) (result : Option ℕ) → Idles true (call_words T f p g xs ++ back_words T f p result) true
       called_idles p g xs result = then_idles true true true (call_words T f p g xs) (back_words T f p result) (strong true true (call_words T f p g xs) (call_idles p g xs)) (back_idles p result)

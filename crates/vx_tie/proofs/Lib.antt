@@ -14,6 +14,7 @@ pub mod Returning
 pub mod Whole
 pub mod EachWord
 pub mod Spaced
+pub mod Spared
 pub mod IdleWords
 pub mod WholePlan
 pub mod Limits

@@ -33,7 +33,7 @@ use Rattle.vx_layout.specs.Laid.{laid_program}
 use Rattle.vx_mixed.specs.LaidSettled.{bank_in}
 use Rattle.vx_layout.specs.Origins.{CallsAs}
 use Rattle.vx_regs.specs.Intervals.{IsLive, IsBusy, is_live, is_named, result_of}
-use Rattle.vx_target.specs.Target.{Target, answer, kept, is_slotted, is_branch, holds_branch, stack_on, register_of, one, bytes, move_stack, result_words, reload_words, call_words, back_words, set_stack, halt_place, memory_words}
+use Rattle.vx_target.specs.Target.{Target, answer, kept, is_slotted, is_branch, holds_branch, stack_on, register_of, one, bytes, move_stack, result_words, load_slots, wanted, reload_words, call_words, back_words, set_stack, halt_place, memory_words}
 use Rattle.vx_target.specs.Tied.{Tied, Shows, Stacked, IsStack, Seated, Waits, Below, Deep, IsResult, waiting_above, seat, Itself, IsShown, back_place, is_place, kind_by, kind_of, holds, word_at}
 use Rattle.vx_target.specs.Carried.{Carries, IsFunctionOf, NeedsSlot, is_spilled, is_saved, Survives}
 use Rattle.vx_tie.specs.Planned.{CarriesOn, EndsAlike}
@@ -52,7 +52,7 @@ use Rattle.vx_tie.proofs.Moves.{Moved, move_run, up}
 use Rattle.vx_target.proofs.Names.{in_register, apart_registers, not_zero, not_general}
 use Rattle.vx_target.proofs.Cells.{same_or_not}
 use Rattle.vx_tie.proofs.Resulted.{CanGet, Resulted, result_run}
-use Rattle.vx_target.proofs.Slots.{Usable, Loaded, before_case, as_read, stack_no_answer}
+use Rattle.vx_target.proofs.Slots.{Usable, Loaded, paused_case, as_read, stack_no_answer}
 use Rattle.vx_target.proofs.Stands.{word_stands, word_next, start_stands}
 use Rattle.vx_target.proofs.Steps.{Stands, stands_left, stands_right, Quiet, quiet_on, Forth, comes_on, forth_on, forth_comes}
 use Rattle.vx_target.proofs.Word.{own_name, read_shows}
@@ -161,7 +161,7 @@ module _ (T : Target) (flow : Flow) (ls : List VWords) (w : WordProgram) (sound 
   Gets = result_words T F fr.result
 
   abbrev Loads : List Word
-  Loads = reload_words T F Saved
+  Loads = reload_words T F (P + 1) Saved
 
   back_is : back_place T r.waiting ≡ T.back F P
   back_is = ap (back_place T) waiting ∙ ap (T.back F) (let e = waits.from in let q : fr.from - 1 ≡ P = omega arith in q)
@@ -286,7 +286,7 @@ module _ (T : Target) (flow : Flow) (ls : List VWords) (w : WordProgram) (sound 
     stands_b = subst (λ q. Stands w.words q Loads) (sym resulted.place) (stands_right w.words A.place Gets Loads stands_a)
 
     reloaded : Loaded T.machine w fit T F Sp carries.memory small some Saved B Saved (length Loads)
-    reloaded = before_case T.machine w fit T F Sp carries.memory small some Saved Saved B resulted.quiet.calm stands_b stack_b usable (λ v i. let a = of.framed.slot_to v (saved_needs v i) in let b = room in omega arith) saved_apart
+    reloaded = paused_case T.machine w fit T F Sp carries.memory small some Saved (wanted T F None (P + 1) Saved (load_slots T F Saved Saved)) Saved B resulted.quiet.calm stands_b stack_b usable (λ v i. let a = of.framed.slot_to v (saved_needs v i) in let b = room in omega arith) saved_apart
 
     abbrev C : State
     C = reloaded.to

@@ -39,7 +39,7 @@ use Rattle.vx_mixed.specs.declared.layout.VirtualWord.TheVariants.{Planned, Drai
 use Rattle.vx_mixed.specs.declared.layout.VWords.{VWords}
 use Rattle.vx_mixed.specs.LaidSettled.{laid_reads, laid_writes, LeadsTo, Plans}
 use Rattle.vx_layout.specs.Origins.{ComesFrom, graph_op}
-use Rattle.vx_target.specs.Target.{Target, answer, general, general_of, branch_of, register_of, stack_on, holds_branch, is_slotted, kept, slotted, once, parameters_of, one, together, pause, in_flight, settled, set_stack, slots_in_flight, load_slot, store_slot, load_slots, store_slots, if_some, before, behind, past, leads, carried, carried_items, plan_word, plan_words, landing_words, on_clusters, move_stack, save_words, reload_words, fetch_words, fetched, cluster_of_operand, argument_words, result_words, call_words, back_words, is_caller, answer_words, last_beside, leave_words, return_words, follows, way, link_words, entry_words, turns, idle_words, word_words, start_words, waits, bytes, first_frame, memory_words}
+use Rattle.vx_target.specs.Target.{Target, answer, general, general_of, branch_of, register_of, stack_on, holds_branch, is_slotted, kept, slotted, once, parameters_of, one, together, pause, in_flight, settled, set_stack, slots_in_flight, load_slot, store_slot, load_slots, store_slots, if_some, before, behind, past, leads, carried, carried_items, plan_word, plan_words, landing_words, on_clusters, move_stack, save_words, reload_words, fetch_words, fetched, cluster_of_operand, argument_words, result_words, call_words, back_words, is_caller, answer_words, last_beside, leave_words, return_words, follows, way, link_words, begin_words, wanted, entry_words, turns, idle_words, word_words, start_words, waits, bytes, first_frame, memory_words}
 use Rattle.vx_target.specs.Placed.{Depth, Labelled, laid_pieces, landing_of, item_landings, word_landings, landing_pieces, function_pieces, functions_pieces, all_pieces, words_of}
 use Rattle.vx_target.specs.Carried.{Carries, IsFunctionOf, IsMapped, item_of_laid}
 use Rattle.vx_tie.specs.Fitted.{SoundLaw}
@@ -51,7 +51,7 @@ use Rattle.vx_target.proofs.Forms.{to_branch}
 use Rattle.vx_target.proofs.Frames.{get_below, get_some, get_in, past_below}
 use Rattle.vx_target.proofs.FromGraph.{undismissed, op_proper}
 use Rattle.vx_target.proofs.Limits.{Limits, limits}
-use Rattle.vx_target.proofs.Pauses.{flight_few, slots_few}
+use Rattle.vx_target.proofs.Pauses.{flight_few, slots_few, wanted_few}
 use Rattle.vx_target.proofs.Proper.{ProperOp}
 use Rattle.vx_target.proofs.Stands.{word_stands, word_next, landing_stands, entry_stands, entry_next, depth_stands}
 use Rattle.vx_target.proofs.Steps.{Stands}
@@ -254,8 +254,12 @@ module _ (T : Target) (flow : Flow) (ls : List VWords) (w : WordProgram) (sound 
       some_right W N (slotted T f ws) (pause (slots_in_flight T f items) ++ store_slots T f ws (slotted T f ws))
       (right_append W N (pause (slots_in_flight T f items)) (store_slots T f ws (slotted T f ws)) (pause_right (slots_in_flight T f items) (slots_few T carries.machine f items)) (store_slots_right f ws (slotted T f ws)))
 
-  reload_right : (f : ℕ) (vs : List ℕ) → Words (reload_words T f vs)
-  reload_right f vs = some_right W N vs (settled T (load_slots T f vs vs)) (loads_right f vs vs)
+  -- some words, and a pause that they are waited for
+  wanted_right : (f : ℕ) (next : Option ℕ) (q : ℕ) (vs : List ℕ) (ws : List Word) → Words ws → Words (ws ++ pause (wanted T f next q vs ws))
+  wanted_right f next q vs ws h = let n = wanted T f next q vs ws in right_append W N ws (pause n) h (pause_right n (wanted_few T carries.machine f next q vs ws))
+
+  reload_right : (f q : ℕ) (vs : List ℕ) → Words (reload_words T f q vs)
+  reload_right f q vs = wanted_right f None q vs (load_slots T f vs vs) (load_slots_right f vs vs)
 
   -- an operation on each cluster
 
@@ -311,8 +315,8 @@ module _ (T : Target) (flow : Flow) (ls : List VWords) (w : WordProgram) (sound 
 
   back_right : (f p : ℕ) (result : Option ℕ) → Words (back_words T f p result)
   back_right f p result =
-      right_append W N (move_stack T (bytes T.frame)) (result_words T f result ++ reload_words T f (T.saved f p)) (move_stack_right (bytes T.frame))
-      (right_append W N (result_words T f result) (reload_words T f (T.saved f p)) (result_right f result) (reload_right f (T.saved f p)))
+      right_append W N (move_stack T (bytes T.frame)) (result_words T f result ++ reload_words T f (p + 1) (T.saved f p)) (move_stack_right (bytes T.frame))
+      (right_append W N (result_words T f result) (reload_words T f (p + 1) (T.saved f p)) (result_right f result) (reload_right f (p + 1) (T.saved f p)))
 
   together_right : (a b : Operation) → Is a → Is b → Words (together T.machine a b)
   together_right a b ga gb = by (fits T.machine (a ∷ b ∷ []))
@@ -387,8 +391,8 @@ module _ (T : Target) (flow : Flow) (ls : List VWords) (w : WordProgram) (sound 
     entry_right =
         let goes : List Word = way T f 0 (past T f (T.layout f).entry) in
         let loads : List Word = load_slots T f (T.brought f) (T.brought f) in
-        let begins : List Word = loads ++ link_words T f in
-        right_append W N (settled T begins) goes (settled_right begins (right_append W N loads (link_words T f) (load_slots_right f (T.brought f) (T.brought f)) (link_right f))) (way_right 0 (past T f (T.layout f).entry) (past_below T f mapped.settled.inside (T.layout f).entry mapped.settled.entry))
+        let begins : List Word = begin_words T f in
+        right_append W N (begins ++ pause (wanted T f (Some 0) (past T f (T.layout f).entry) (T.brought f) begins)) goes (wanted_right f (Some 0) (past T f (T.layout f).entry) (T.brought f) begins (right_append W N loads (link_words T f) (load_slots_right f (T.brought f) (T.brought f)) (link_right f))) (way_right 0 (past T f (T.layout f).entry) (past_below T f mapped.settled.inside (T.layout f).entry mapped.settled.entry))
 
     module _ (p rg wd : ℕ) (items : List Laid) (plan : HasWordAt p (Planned rg wd items)) where
       plans : Plans (T.layout f) p items

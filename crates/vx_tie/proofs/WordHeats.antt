@@ -1,8 +1,9 @@
 -- A planned word meets nothing in flight, and after it no more is in flight than the layout says, and what it left in scratch
 -- registers.
-use Rattle.std.proofs.Common.{◌≡◌, ◌≢◌, ◌<◌, ◌≤◌, ◌⊎◌, inl, inr, ⊎_elim, ◌+◌, ◌-◌, ℕ, suc, Bool, true, false, cond, Some, List, [], ◌∷◌, ◌++◌, length, map, refl, sym, ap, ◌∙◌, subst, arith}
-use Rattle.std.specs.Prelude.{slice_get}
-use Rattle.std.proofs.lemmas.Bool.{and_parts, ltb-true}
+use Rattle.std.proofs.Common.{◌≡◌, ◌≢◌, ◌<◌, ◌≤◌, ◌⊎◌, inl, inr, ⊎_elim, ◌+◌, ◌-◌, ℕ, suc, Bool, true, false, cond, Option, Some, None, List, [], ◌∷◌, ◌++◌, length, map, refl, sym, ap, ◌∙◌, subst, arith}
+use Rattle.std.specs.Prelude.{if◌then◌else◌, max, not, slice_get}
+use Rattle.std.specs.List.{flat_map, list_all, list_any}
+use Rattle.std.proofs.lemmas.Bool.{and_parts, false≢true, ltb-true}
 use Rattle.std.proofs.lemmas.List.{append-nil}
 use Rattle.vx_base.proofs.Pieces.{Hit, raised, cold, fine_less, fine_append}
 use Rattle.vx_flow.specs.declared.graph.Array.{Array}
@@ -10,7 +11,9 @@ use Rattle.vx_flow.specs.declared.graph.Op.{Op}
 use Rattle.vx_flow.specs.declared.graph.Op.TheVariants.{Compute, Select, Place, Load, Store, More, Input, Text, Decimal, Across}
 use Rattle.vx_flow.specs.Effects.{IsIn, reads, writes}
 use Rattle.vx_flow.specs.Sound.{Sound}
-use Rattle.vx_flow.proofs.Members.{in_left, in_right}
+use Rattle.vx_flow.specs.Operands.{read_by as reading, written_by, value_list}
+use Rattle.vx_flow.proofs.OperandLaws.{reads_are, writes_are}
+use Rattle.vx_flow.proofs.Members.{in_left, in_right, in_either}
 use Rattle.vx_flow.proofs.SoundLists.{all_in}
 use Rattle.vx_isa.specs.declared.operation.Register.{Register}
 use Rattle.vx_isa.specs.declared.operation.Operation.{Operation}
@@ -18,6 +21,7 @@ use Rattle.vx_isa.specs.declared.operation.Operation.TheVariants.{Goto}
 use Rattle.vx_isa.specs.declared.program.Word.{Word}
 use Rattle.vx_isa.specs.Operations.{same, is_zero, reads_of, list_of, destination_of, latency_of}
 use Rattle.vx_isa.specs.Paths.{Among}
+use Rattle.vx_isa.proofs.AnyTiming.{tells}
 use Rattle.vx_isa.proofs.FitsLaw.{six_parts}
 use Rattle.vx_machine.specs.Items.{latency_of_op}
 use Rattle.vx_machine.specs.Room.{stands_well}
@@ -27,7 +31,7 @@ use Rattle.vx_mixed.specs.Settled.{read_there}
 use Rattle.vx_mixed.specs.declared.layout.VirtualWord.TheVariants.{Planned}
 use Rattle.vx_mixed.specs.LaidSettled.{item_reads, item_writes, laid_reads, laid_writes, Plans, LeadsTo}
 use Rattle.vx_regs.specs.Intervals.{is_named}
-use Rattle.vx_target.specs.Target.{Target, home, is_branch, kept, is_slotted, slotted, register_of, past, leads, carried, carried_items, slots_in_flight, before, behind, plan_word, plan_words, landing_words, one}
+use Rattle.vx_target.specs.Target.{Target, home, is_branch, kept, is_slotted, slotted, register_of, past, leads, carried, carried_items, slots_in_flight, if_some, settled, once, load_slots, store_slots, pause, before, behind, plan_word, plan_words, landing_words, one, is_elsewhere, all_elsewhere, item_elsewhere, is_for_values, spares, is_split}
 use Rattle.vx_target.specs.Carried.{IsMapped, item_of_laid}
 use Rattle.vx_target.proofs.FromGraph.{op_proper, test_proper}
 use Rattle.vx_target.proofs.Frames.{get_some}
@@ -36,16 +40,17 @@ use Rattle.vx_target.proofs.Proper.{ProperOp, ProperItems}
 use Rattle.vx_target.proofs.Names.{Few, file_general}
 use Rattle.vx_target.proofs.Live.{reads_bank, writes_bank}
 use Rattle.vx_target.proofs.Enough.{few_reads, few_writes, in_all_of, in_map}
-use Rattle.vx_target.proofs.Word.{slotted_in, slotted_from}
+use Rattle.vx_target.proofs.Word.{slotted_in, slotted_from, own_name}
 use Rattle.vx_target.proofs.Limits.{Limits}
 use Rattle.vx_tie.proofs.Filed.{general_there}
-use Rattle.vx_tie.proofs.Early.{falls, hits, Touches, words_kind, words_cool}
+use Rattle.vx_tie.proofs.Early.{falls, hits, Jumps, Touches, words_kind, words_cool}
 use Rattle.vx_tie.proofs.Heats.{lift, lift_from, lift_at, raised_bound, stop_fine}
 use Rattle.vx_tie.proofs.ColdPieces.{Fine}
 use Rattle.vx_tie.proofs.Operations.{from_operation, from_hit, ReadBy, of_value, of_zero, of_pointer, OfItem, of_op, of_split, proper_op, branch_name, op_reads, op_writes, op_latency, items_fall, items_jump, of_item}
 use Rattle.vx_tie.proofs.Pending.{Banked, Busy, pend, pend_kept, pend_own, pend_name, pend_scratch, written_there, left_pends}
 use Rattle.vx_tie.proofs.PlanHeats.{Settles, before_fine}
 use Rattle.vx_tie.proofs.StoreHeats.{behind_fine}
+use Rattle.vx_tie.proofs.Spared.{fine_also}
 
 among_map : (g : ℕ → Register) (r : Register) (vs : List ℕ) → Among r (map g vs) → (v : ℕ) × IsIn v vs × (r ≡ g v)
 among_map g r [] i = absurd i
@@ -67,6 +72,45 @@ all_there (Input v) y i = i
 all_there (Text n) y i = i
 all_there (Decimal x) y i = i
 all_there (Across v u) y i = absurd i
+
+-- a value that is in a register other than r is named by another register
+
+not_true : (b : Bool) → not b ≡ true → b ≡ false
+not_true true e = absurd (false≢true e)
+not_true false e = refl
+
+not_named : (T : Target) (f : ℕ) (r : Register) (v : ℕ) (names : List ℕ) → is_elsewhere T f r v ≡ true → r ≡ register_of T f names v → ⊥
+not_named T f r v names h e =
+    let parts = and_parts (not (is_slotted (kept T f v))) (not (same r (register_of T f (v ∷ []) v))) h in
+    let is : r ≡ register_of T f (v ∷ []) v = e ∙ own_name T f v names (v ∷ []) (not_true (is_slotted (kept T f v)) parts.0) in
+    let yes : same r (register_of T f (v ∷ []) v) ≡ true = ap (same r) (sym is) ∙ tells.itself r in
+    let no_ : same r (register_of T f (v ∷ []) v) ≡ false = not_true (same r (register_of T f (v ∷ []) v)) parts.1 in
+    absurd (false≢true (sym no_ ∙ yes))
+
+one_elsewhere : (T : Target) (f : ℕ) (r : Register) (o : Option ℕ) (v : ℕ) → all_elsewhere T f r o ≡ true → IsIn v (value_list o) → is_elsewhere T f r v ≡ true
+one_elsewhere T f r None v h i = absurd i
+one_elsewhere T f r (Some u) v h i = ⊎_elim (λ e. ap (is_elsewhere T f r) e ∙ h) (λ z. absurd z) i
+
+item_values : (T : Target) (f : ℕ) (r : Register) (x : Laid) (v : ℕ) → item_elsewhere T f r x ≡ true → IsIn v (item_reads x) ⊎ IsIn v (item_writes x) → is_elsewhere T f r v ≡ true
+item_values T f r (Plain op k) v h i =
+    let both = and_parts _ _ h in
+    let first = and_parts _ _ both.1 in
+    let others = and_parts _ _ first.1 in
+    ⊎_elim
+    (λ j. ⊎_elim (one_elsewhere T f r (reading op).first v first.0)
+    (λ z. ⊎_elim (one_elsewhere T f r (reading op).second v others.0) (one_elsewhere T f r (reading op).third v others.1) (in_either v (value_list (reading op).second) (value_list (reading op).third) z))
+    (in_either v (value_list (reading op).first) (value_list (reading op).second ++ value_list (reading op).third) (subst (IsIn v) (sym (reads_are op)) j)))
+    (λ j. one_elsewhere T f r (written_by op) v both.0 (subst (IsIn v) (sym (writes_are op)) j)) i
+item_values T f r (Split test y q) v h i = ⊎_elim (λ j. ⊎_elim (λ e. ap (is_elsewhere T f r) e ∙ h) (λ z. absurd z) j) (λ j. absurd j) i
+
+from_all_of : (g : Laid → List ℕ) (v : ℕ) (xs : List Laid) → IsIn v (flat_map g xs) → (x : Laid) × IsIn x xs × IsIn v (g x)
+from_all_of g v [] i = absurd i
+from_all_of g v (x ∷ xs) i = ⊎_elim (λ j. (x, inl refl, j)) (λ j. let a = from_all_of g v xs j in (a.0, inr a.1, a.2)) (in_either v (g x) (flat_map g xs) i)
+
+some_split : (xs : List Laid) (test q : ℕ) (y : Bool) → IsIn (Split test y q) xs → list_any is_split xs ≡ true
+some_split [] test q y i = absurd i
+some_split (Plain op k ∷ xs) test q y i = ⊎_elim (λ e. absurd (let z : is_split (Split test y q) ≡ is_split (Plain op k) = ap is_split e in cc)) (λ j. some_split xs test q y j) i
+some_split (Split u w p ∷ xs) test q y i = refl
 
 module _ (T : Target) (heat : ℕ → Register → ℕ) (f : ℕ) (mapped : IsMapped T f) (sound : Sound (T.graph f)) (l : Limits T.machine) (p rg wd : ℕ) (items : List Laid) (at : slice_get (T.layout f).words p ≡ Some (Planned rg wd items)) where
   abbrev F : (Register → ℕ) → List Word → (Register → ℕ) → Type 0
@@ -242,6 +286,90 @@ module _ (T : Target) (heat : ℕ → Register → ℕ) (f : ℕ) (mapped : IsMa
             let q : cond (falls Ops) (λ s. raised same (hits T.machine Ops) (Heat p) s - 1) cold r ≡ raised same (hits T.machine Ops) (Heat p) r - 1 = ap (λ t. cond t (λ s. raised same (hits T.machine Ops) (Heat p) s - 1) cold r) (items_fall T f IsArray Rs Ws p items) in omega arith))
             (subst (λ ws. F (Lifted (suc p)) ws (Heat (suc p))) (append-nil (behind T f items)) (stored (suc p) [] (Heat (suc p)) (λ r. omega arith))),
       )
+
+  -- a register that it spares may be in flight besides
+
+  spared_value : (r : Register) (v : ℕ) → spares T f r items ≡ true → IsIn v Rs ⊎ IsIn v Ws → is_elsewhere T f r v ≡ true
+  spared_value r v h i =
+      let all : list_all (item_elsewhere T f r) items ≡ true = (and_parts _ _ h).1 in
+      ⊎_elim
+      (λ j. let x = from_all_of item_reads v items j in item_values T f r x.0 v (all_in (item_elsewhere T f r) items x.0 all x.1) (inl x.2))
+      (λ j. let x = from_all_of item_writes v items j in item_values T f r x.0 v (all_in (item_elsewhere T f r) items x.0 all x.1) (inr x.2)) i
+
+  not_read : (vs : List ℕ) (r : Register) → spares T f r items ≡ true → ((y : ℕ) → IsIn y vs → IsIn y Rs) → is_zero r ≡ false → ReadBy T f Rs vs r → ⊥
+  not_read vs r h sub nz (of_value y i e) = not_named T f r y Rs (spared_value r y h (inl (sub y i))) e
+  not_read vs r h sub nz (of_zero e) = absurd (let z : true ≡ false = sym e ∙ nz in cc)
+  not_read vs r h sub nz (of_pointer k e) = absurd (false≢true (sym (ap is_for_values e) ∙ (and_parts (is_for_values r) (list_all (item_elsewhere T f r) items) h).0))
+
+  untouched : (r : Register) → spares T f r items ≡ true → Touches Ops r → ⊥
+  untouched r h t = ⊎_elim
+      (λ a. let o = from_operation reads_of Ops r a in reads_off o.op (of_item T f IsArray Rs Ws p o.op items o.among) o.has)
+      (λ a. let o = from_operation (λ op. list_of (destination_of op)) Ops r a in writes_off o.op (of_item T f IsArray Rs Ws p o.op items o.among) o.has)
+      t.0
+    where
+      reads_off : (o : Operation) → OfItem T f p Rs Ws items o → Among r (reads_of o) → ⊥
+      reads_off o (of_op op k i e) a = not_read (reads op) r h (λ y j. in_all_of item_reads (Plain op k) y items i j) t.1 (op_reads T f IsArray Rs Ws op k (properly op k i) r (subst (λ z. Among r (reads_of z)) e a))
+      reads_off o (of_split test q y i e) a = ⊎_elim
+          (λ s. not_named T f r test Rs (spared_value r test h (inl (in_all_of item_reads (Split test y q) test items i (inl refl)))) (s ∙ branch_name T f IsArray Rs test (ap is_branch (mapped.settled.tests p test q y items plans i))))
+          (λ z. absurd z)
+          (subst (λ z. Among r (reads_of z)) e a)
+
+      writes_off : (o : Operation) → OfItem T f p Rs Ws items o → Among r (list_of (destination_of o)) → ⊥
+      writes_off o (of_op op k i e) a = let x = results o r op k i e a in not_named T f r x.value Ws (spared_value r x.value h (inr (in_all_of item_writes (Plain op k) x.value items i x.written))) x.is
+      writes_off o (of_split test q y i e) a = absurd (subst (λ z. Among r (list_of (destination_of z))) e a)
+
+  module _ (on : Register → ℕ) (e : Register → ℕ) where
+    abbrev pub Beside : Register → ℕ
+    Beside r = if spares T f r items then (if list_any is_split items then 1 else suc (on r)) else 0
+
+    beside_off : (v : ℕ) (r : Register) → IsIn v Rs ⊎ IsIn v Ws → is_slotted (kept T f v) ≡ true → Beside r ≡ 0
+    beside_off v r i s = by (spares T f r items) refl
+      where
+        by : (b : Bool) → spares T f r items ≡ b → (if b then (if list_any is_split items then 1 else suc (on r)) else 0) ≡ 0
+        by false h = refl
+        by true h = absurd (false≢true (sym (not_true (is_slotted (kept T f v)) (and_parts _ _ (spared_value r v h i)).0) ∙ s))
+
+    beside_touched : (r : Register) → Touches Ops r → Beside r ≡ 0
+    beside_touched r t = by (spares T f r items) refl
+      where
+        by : (b : Bool) → spares T f r items ≡ b → (if b then (if list_any is_split items then 1 else suc (on r)) else 0) ≡ 0
+        by false h = refl
+        by true h = absurd (untouched r h t)
+
+    beside_jumps : (q : ℕ) (r : Register) → Jumps Ops q → Beside r - 1 ≤ heat q r
+    beside_jumps q r j =
+        let k = items_jump T f IsArray Rs Ws p q items j in
+        let s = some_split items k.test k.to k.when k.split in by (spares T f r items) (list_any is_split items) s
+      where
+        by : (b c : Bool) → c ≡ true → (if b then (if c then 1 else suc (on r)) else 0) - 1 ≤ heat q r
+        by true true s = omega arith
+        by true false s = absurd (false≢true s)
+        by false c s = omega arith
+
+    beside_left : ((r : Register) → on r ≤ e r) → (r : Register) → Beside r - 1 ≤ e r
+    beside_left le r = by (spares T f r items) (list_any is_split items)
+      where
+        by : (b c : Bool) → (if b then (if c then 1 else suc (on r)) else 0) - 1 ≤ e r
+        by true true = omega arith
+        by true false = let a = le r in omega arith
+        by false c = omega arith
+
+    pub beside_fine : F (Heat p) (plan_words T f p items) e → ((r : Register) → on r ≤ e r) → F (λ r. max (Heat p r) (Beside r)) (plan_words T f p items) e
+    beside_fine fine le = by (slotted T f Rs) (slotted T f Ws) refl refl fine
+      where
+        Loads : List Word
+        Loads = settled T (load_slots T f Rs (once (slotted T f Rs)))
+
+        Stores : List Word
+        Stores = pause (slots_in_flight T f items) ++ store_slots T f Ws (slotted T f Ws)
+
+        none : (v : ℕ) (ws : List Word) → IsIn v Rs ⊎ IsIn v Ws → is_slotted (kept T f v) ≡ true → F (Heat p) ws e → F (λ r. max (Heat p r) (Beside r)) ws e
+        none v ws i s a = fine_less (words_kind T.machine) (words_cool T.machine) heat (λ r. max (Heat p r) (Beside r)) (Heat p) e ws (λ r. (let z = beside_off v r i s in omega arith)) a
+
+        by : (xs ys : List ℕ) → slotted T f Rs ≡ xs → slotted T f Ws ≡ ys → F (Heat p) (if_some xs Loads ++ plan_word T f p items ∷ if_some ys Stores) e → F (λ r. max (Heat p r) (Beside r)) (if_some xs Loads ++ plan_word T f p items ∷ if_some ys Stores) e
+        by [] [] s t a = fine_also T.machine heat (Heat p) Beside e Ops a beside_touched beside_jumps (beside_left le)
+        by (v ∷ vs) ys s t a = let x = slotted_from T f v Rs (subst (IsIn v) (sym s) (inl refl)) in none v (Loads ++ plan_word T f p items ∷ if_some ys Stores) (inl x.0) x.1 a
+        by [] (v ∷ vs) s t a = let x = slotted_from T f v Ws (subst (IsIn v) (sym t) (inl refl)) in none v (plan_word T f p items ∷ Stores) (inr x.0) x.1 a
 
   -- and of a landing of it
   pub landing_fine : (q : ℕ) (e : Register → ℕ) → ((r : Register) → Heat q r ≤ heat (T.starts f (past T f q)) r) → F (Lifted q) (landing_words T f items q) e
