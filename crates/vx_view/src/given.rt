@@ -1,5 +1,6 @@
 // What a page is made of, and the names of a program.
 
+use crate::planned::{Planned, Read};
 use std::alloc::Global;
 use vx_ast::typed::Typed;
 use vx_base::listed::{Bytes, copied};
@@ -13,6 +14,7 @@ use vx_page::page::small;
 use vx_page::view::{Names, TraceView};
 use vx_profile::counts::Counts;
 use vx_region::TracePlan;
+use vx_rewrite::FlowOptions;
 
 /// A program that was compiled for a machine.
 #[derive(Clone, Copy)]
@@ -29,12 +31,27 @@ pub(crate) struct Given<'a> {
     pub(crate) compiled: &'a CompiledProgram,
     /// What was asked.
     pub(crate) asked: Asked<'a>,
+    /// What was asked of the graphs.
+    pub(crate) options: FlowOptions,
 }
 
 impl<'a> Given<'a> {
     /// The traces.
     pub(crate) fn traces(&self) -> &'a [TracePlan] {
         self.compiled.plan.traces.as_slice()
+    }
+}
+
+/// What a page is made of, for a program and what was planned of it.
+pub(crate) fn given_of<'a>(read: &Read<'a>, planned: &'a Planned, asked: Asked<'a>) -> Given<'a> {
+    Given {
+        functions: read.functions,
+        flow: &planned.flow,
+        counts: read.counts,
+        machine: read.machine,
+        compiled: &planned.compiled,
+        asked,
+        options: read.options,
     }
 }
 

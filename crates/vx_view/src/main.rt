@@ -4,6 +4,7 @@
 mod beside;
 mod given;
 mod options;
+mod planned;
 mod shown;
 mod stages;
 mod whole_page;

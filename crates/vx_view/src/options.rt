@@ -1,5 +1,7 @@
 // The words of the command line, as clap reads them.
 
+ghost use Rattle.std.specs.Prelude.{◌≤◌, IfSome};
+
 use clap::builder::ValueParser;
 use clap::error::ErrorKind;
 use clap::{Arg, ArgAction, ArgMatches, Command, Error};
@@ -12,6 +14,21 @@ use vx_status::Status;
 const MOST_GROWTH: u32 = 1000000;
 
 const DEFAULT_GROWTH: u32 = 4000;
+
+/// The fewest and the most turns of a loop that are taken together.
+const LEAST_TURNS: u32 = 2;
+
+const MOST_TURNS: u32 = 8;
+
+/// The fewest and the most operations of a callee whose calls are inlined.
+const LEAST_CALLEE: u32 = 1;
+
+const MOST_CALLEE: u32 = 4000;
+
+/// The fewest and the most operations of the sides of a split that become choices.
+const LEAST_SIDES: u32 = 1;
+
+const MOST_SIDES: u32 = 16;
 
 /// Which text is asked for in place of a page.
 #[derive(Clone, Copy)]
@@ -103,7 +120,34 @@ fn with_files<'a>(alloc: Global, command: Command<'a>) -> Result<Command<'a>, St
     command.arg(against).map_err(|_| Status::NoMemory)
 }
 
-fn with_numbers<'a>(alloc: Global, command: Command<'a>) -> Result<Command<'a>, Status> {
+fn with_rewriting<'a>(alloc: Global, command: Command<'a>) -> Result<Command<'a>, Status> {
+    let unroll = number(
+        alloc,
+        "unroll",
+        "How many turns of a loop are taken together, from 2 to 8 [default: each by itself]",
+        LEAST_TURNS as u64,
+        MOST_TURNS as u64,
+    );
+    let select = number(
+        alloc,
+        "select",
+        "How many operations the two sides of a split have at most that become choices, from 1 to 16 [default: none do]",
+        LEAST_SIDES as u64,
+        MOST_SIDES as u64,
+    );
+    let inline = number(
+        alloc,
+        "inline",
+        "How many operations a function has at most whose calls are inlined, from 1 to 4000 [default: none is]",
+        LEAST_CALLEE as u64,
+        MOST_CALLEE as u64,
+    );
+    let command = command.arg(unroll).map_err(|_| Status::NoMemory)?;
+    let command = command.arg(select).map_err(|_| Status::NoMemory)?;
+    command.arg(inline).map_err(|_| Status::NoMemory)
+}
+
+fn with_answer<'a>(alloc: Global, command: Command<'a>) -> Result<Command<'a>, Status> {
     let growth = number(
         alloc,
         "growth",
@@ -111,20 +155,12 @@ fn with_numbers<'a>(alloc: Global, command: Command<'a>) -> Result<Command<'a>, 
         0,
         MOST_GROWTH as u64,
     );
-    let unroll = number(
-        alloc,
-        "unroll",
-        "How many turns of a loop are taken together, from 2 to 8 [default: each by itself]",
-        2,
-        8,
-    );
     let text = option(
         alloc,
         "text",
         "lowered, cleaned, raised, renamed or traces, as a plain text on the standard output",
     );
     let command = command.arg(growth).map_err(|_| Status::NoMemory)?;
-    let command = command.arg(unroll).map_err(|_| Status::NoMemory)?;
     command.arg(text).map_err(|_| Status::NoMemory)
 }
 
@@ -134,7 +170,8 @@ fn command_of<'a>(alloc: Global) -> Result<Command<'a>, Status> {
     );
     let command = with_places(alloc, command)?;
     let command = with_files(alloc, command)?;
-    with_numbers(alloc, command)
+    let command = with_rewriting(alloc, command)?;
+    with_answer(alloc, command)
 }
 
 fn without_text(status: Status) -> Refused {
@@ -162,36 +199,36 @@ fn growth_of(text: Option<&str>) -> u32 {
     }
 }
 
-/// Nothing rewritten.
-fn none_rewritten() -> Rewriting {
-    Rewriting {
-        unroll: None,
-        inline: None,
-        select: None,
-    }
-}
-
-/// What is rewritten by a number of turns.
-fn rewriting_by(turns: u32) -> Rewriting {
-    if 2 <= turns && turns <= 8 {
-        Rewriting {
-            unroll: Some(turns),
-            inline: None,
-            select: None,
-        }
+/// A number that is from the least to the most.
+fn ranged(number: u32, least: u32, most: u32) -> Option<u32>
+    ensures { IfSome result (λ n. (least ≤ n) × (n ≤ most)) }
+{
+    if least <= number && number <= most {
+        Some(number)
     } else {
-        none_rewritten()
+        None
     }
 }
 
-/// What is rewritten by a text.
-fn rewriting_of(text: Option<&str>) -> Rewriting {
+/// The number from the least to the most that a text is, where there is one.
+fn number_of(text: Option<&str>, least: u32, most: u32) -> Option<u32>
+    ensures { IfSome result (λ n. (least ≤ n) × (n ≤ most)) }
+{
     match text {
-        None => none_rewritten(),
+        None => None,
         Some(text) => match text.parse::<u32>() {
-            Ok(turns) => rewriting_by(turns),
-            Err(_) => none_rewritten(),
+            Ok(number) => ranged(number, least, most),
+            Err(_) => None,
         },
+    }
+}
+
+/// What is rewritten.
+fn rewriting_of(found: &ArgMatches) -> Rewriting {
+    Rewriting {
+        unroll: number_of(found.get_str("unroll"), LEAST_TURNS, MOST_TURNS),
+        inline: number_of(found.get_str("inline"), LEAST_CALLEE, MOST_CALLEE),
+        select: number_of(found.get_str("select"), LEAST_SIDES, MOST_SIDES),
     }
 }
 
@@ -227,7 +264,7 @@ fn request_in<'a>(found: &ArgMatches<'a>) -> Option<Request<'a>> {
         machine: found.get_str("machine"),
         against: found.get_str("against"),
         growth: growth_of(found.get_str("growth")),
-        rewriting: rewriting_of(found.get_str("unroll")),
+        rewriting: rewriting_of(found),
     })
 }
 

@@ -1,18 +1,15 @@
 // What is shown: files are read in the order in which `vexc compile` reads them, and only when all is made a page is written.
 
 use crate::beside::put_beside;
-use crate::given::{Given, names_of};
+use crate::given::{Given, given_of, names_of};
 use crate::options::{Answer, Request, Stage};
+use crate::planned::{Planned, Read, planned_of};
 use crate::stages::text_of;
 use crate::whole_page::{put_body, put_head};
 use std::alloc::Global;
 use vx_ast::typed::Typed;
-use vx_base::listed::Bytes;
 use vx_base::outcome::NoMemory;
-use vx_compile::{compile, planned_flow_of};
-use vx_compiled::CompiledProgram;
 use vx_files::{counts_for, machine_for};
-use vx_flow::graph::Flow;
 use vx_io::depot::{Depot, DepotFault};
 use vx_io::role::Role;
 use vx_io::sink::Sink;
@@ -21,22 +18,13 @@ use vx_machine::Machine;
 use vx_page::head::Asked;
 use vx_page::page::Page;
 use vx_profile::counts::Counts;
+use vx_rewrite::FlowOptions;
 use vx_runs::rewritten::read_rewritten;
 use vx_status::{Status, put};
 use vx_types::discard;
 
 /// The most bytes of a source.
 const MOST_SOURCE_BYTES: u64 = 1048576;
-
-/// A program that was read, and what it is compiled by.
-#[derive(Clone, Copy)]
-pub(crate) struct Read<'a> {
-    pub(crate) program: &'a Typed,
-    pub(crate) functions: &'a [Bytes],
-    pub(crate) counts: &'a Counts,
-    pub(crate) machine: &'a Machine,
-    pub(crate) growth: u32,
-}
 
 /// What stands on a page besides: what was asked, the bytes of the source, and a machine beside the first one.
 #[derive(Clone, Copy)]
@@ -78,29 +66,6 @@ fn asked_by<'a>(request: &Request<'a>) -> Asked<'a> {
     }
 }
 
-/// What a machine beside the first one makes of the program.
-fn put_other(
-    alloc: Global,
-    page: &mut Page,
-    read: &Read,
-    given: &Given,
-    flow: &Flow,
-) -> Result<(), NoMemory> {
-    let compiled = compile(alloc, read.program, read.counts, read.machine, read.growth)?;
-    let other = Given {
-        functions: read.functions,
-        flow,
-        counts: read.counts,
-        machine: read.machine,
-        compiled: &compiled,
-        asked: Asked {
-            machine: given.asked.against,
-            ..given.asked
-        },
-    };
-    put_beside(alloc, page, given, &other)
-}
-
 /// Puts what this machine makes of the program beside the first one.
 fn put_machine_beside(
     alloc: Global,
@@ -109,9 +74,15 @@ fn put_machine_beside(
     given: &Given,
     machine: &Machine,
 ) -> Result<(), NoMemory> {
-    let other = Read { machine, ..*read };
-    let flow = planned_flow_of(alloc, other.program, other.counts, other.machine)?;
-    put_other(alloc, page, &other, given, &flow)
+    let read = Read { machine, ..*read };
+    let asked = Asked {
+        machine: given.asked.against,
+        ..given.asked
+    };
+    let planned = planned_of(alloc, &read)?;
+    let put = put_beside(alloc, page, given, &given_of(&read, &planned, asked));
+    drop(planned);
+    put
 }
 
 fn put_parts(
@@ -133,17 +104,9 @@ fn page_with(
     alloc: Global,
     read: &Read,
     wanted: &Wanted,
-    flow: &Flow,
-    compiled: &CompiledProgram,
+    planned: &Planned,
 ) -> Result<Vec<u8>, NoMemory> {
-    let given = Given {
-        functions: read.functions,
-        flow,
-        counts: read.counts,
-        machine: read.machine,
-        compiled,
-        asked: wanted.asked,
-    };
+    let given = given_of(read, planned, wanted.asked);
     let mut page = Page::new(alloc);
     match put_parts(alloc, &mut page, read, &given, wanted) {
         Ok(()) => page.done(),
@@ -151,17 +114,10 @@ fn page_with(
     }
 }
 
-fn page_by(alloc: Global, read: &Read, wanted: &Wanted, flow: &Flow) -> Result<Vec<u8>, NoMemory> {
-    let compiled = compile(alloc, read.program, read.counts, read.machine, read.growth)?;
-    let page = page_with(alloc, read, wanted, flow, &compiled);
-    drop(compiled);
-    page
-}
-
 fn page_of(alloc: Global, read: &Read, wanted: &Wanted) -> Result<Vec<u8>, NoMemory> {
-    let flow = planned_flow_of(alloc, read.program, read.counts, read.machine)?;
-    let page = page_by(alloc, read, wanted, &flow);
-    drop(flow);
+    let planned = planned_of(alloc, read)?;
+    let page = page_with(alloc, read, wanted, &planned);
+    drop(planned);
     page
 }
 
@@ -245,6 +201,10 @@ fn show_for<D: Depot, K: Sink>(
     machine: &Machine,
     request: &Request,
 ) -> Status {
+    let options = FlowOptions {
+        inline: request.rewriting.inline,
+        select: request.rewriting.select,
+    };
     match names_of(alloc, program) {
         Ok(functions) => {
             let read = Read {
@@ -253,6 +213,7 @@ fn show_for<D: Depot, K: Sink>(
                 counts,
                 machine,
                 growth: request.growth,
+                options,
             };
             show_read(alloc, depot, out, &read, request)
         }

@@ -2,29 +2,45 @@
 
 use crate::given::{names_by, notes_for, view_of};
 use crate::options::Stage;
-use crate::shown::Read;
+use crate::planned::{Read, planned_of};
 use std::alloc::Global;
 use vx_base::outcome::NoMemory;
-use vx_compile::{compile, flow_of, planned_flow_of, raised_for};
+use vx_compile::{counted_flow_of, planned_with, raised_for};
 use vx_flow::graph::{Flow, Graph};
 use vx_lower::lower;
 use vx_page::graphs::put_graphs;
 use vx_page::page::{Page, small};
 use vx_page::plain::put_plain_trace;
 use vx_region::TracePlan;
+use vx_rewrite::FlowOptions;
+
+/// What is asked of the graphs that a profile counts: their calls stay.
+fn counted_options(options: FlowOptions) -> FlowOptions {
+    FlowOptions {
+        inline: None,
+        select: options.select,
+    }
+}
+
+/// The graphs with operations raised over the bounds of blocks.
+fn raised_of(alloc: Global, read: &Read) -> Result<Flow, NoMemory> {
+    let flow = counted_flow_of(alloc, read.program, read.options)?;
+    raised_for(alloc, flow, read.counts, read.machine)
+}
 
 /// The graphs of a stage; those that are planned for the traces.
 fn graphs_of(alloc: Global, read: &Read, stage: Stage) -> Result<Flow, NoMemory> {
     match stage {
         Stage::Lowered => lower(alloc, read.program),
-        Stage::Cleaned => flow_of(alloc, read.program),
-        Stage::Raised => {
-            let flow = flow_of(alloc, read.program)?;
-            raised_for(alloc, flow, read.counts, read.machine)
-        }
-        Stage::Renamed | Stage::Traces => {
-            planned_flow_of(alloc, read.program, read.counts, read.machine)
-        }
+        Stage::Cleaned => counted_flow_of(alloc, read.program, counted_options(read.options)),
+        Stage::Raised => raised_of(alloc, read),
+        Stage::Renamed | Stage::Traces => planned_with(
+            alloc,
+            read.program,
+            read.counts,
+            read.machine,
+            read.options,
+        ),
     }
 }
 
@@ -61,36 +77,32 @@ fn put_traces(
     Ok(())
 }
 
-fn put_planned(alloc: Global, page: &mut Page, read: &Read, flow: &Flow) -> Result<(), NoMemory> {
-    let compiled = compile(alloc, read.program, read.counts, read.machine, read.growth)?;
-    let put = put_traces(alloc, page, read, flow, compiled.plan.traces.as_slice());
-    drop(compiled);
+fn put_planned(alloc: Global, page: &mut Page, read: &Read) -> Result<(), NoMemory> {
+    let planned = planned_of(alloc, read)?;
+    let traces = planned.compiled.plan.traces.as_slice();
+    let put = put_traces(alloc, page, read, &planned.flow, traces);
+    drop(planned);
     put
 }
 
-fn put_stage(
-    alloc: Global,
-    page: &mut Page,
-    read: &Read,
-    stage: Stage,
-    flow: &Flow,
-) -> Result<(), NoMemory> {
+fn put_flow(alloc: Global, page: &mut Page, read: &Read, stage: Stage) -> Result<(), NoMemory> {
+    let flow = graphs_of(alloc, read, stage)?;
+    put_graphs(page, read.functions, read.counts, &flow);
+    drop(flow);
+    Ok(())
+}
+
+fn put_stage(alloc: Global, page: &mut Page, read: &Read, stage: Stage) -> Result<(), NoMemory> {
     match stage {
-        Stage::Traces => put_planned(alloc, page, read, flow),
-        _ => {
-            put_graphs(page, read.functions, read.counts, flow);
-            Ok(())
-        }
+        Stage::Traces => put_planned(alloc, page, read),
+        _ => put_flow(alloc, page, read, stage),
     }
 }
 
 /// The text of a stage.
 pub(crate) fn text_of(alloc: Global, read: &Read, stage: Stage) -> Result<Vec<u8>, NoMemory> {
-    let flow = graphs_of(alloc, read, stage)?;
     let mut page = Page::plain(alloc);
-    let put = put_stage(alloc, &mut page, read, stage, &flow);
-    drop(flow);
-    match put {
+    match put_stage(alloc, &mut page, read, stage) {
         Ok(()) => page.done(),
         Err(error) => Err(error),
     }

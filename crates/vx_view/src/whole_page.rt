@@ -11,6 +11,7 @@ use vx_page::head::{
 use vx_page::notes::BlockNote;
 use vx_page::page::{Page, small};
 use vx_page::traces::put_trace;
+use vx_rewrite::FlowOptions;
 
 fn put_function(
     alloc: Global,
@@ -80,10 +81,26 @@ fn put_traces(alloc: Global, page: &mut Page, given: &Given) -> Result<(), NoMem
     Ok(())
 }
 
+/// Puts what was asked of the graphs.
+fn put_options(page: &mut Page, options: FlowOptions) {
+    if let Some(most) = options.select {
+        page.field(b"<p>splits that became choices have at most <b>", most);
+        page.put(b"</b> operations</p>\n");
+    }
+    if let Some(most) = options.inline {
+        page.field(
+            b"<p>functions whose calls were inlined have at most <b>",
+            most,
+        );
+        page.put(b"</b> operations</p>\n");
+    }
+}
+
 /// Puts the front of a page, with the source.
 pub(crate) fn put_head(page: &mut Page, given: &Given, source: &[u8]) {
     put_front(page, &given.asked);
     put_asked(page, &given.asked);
+    put_options(page, given.options);
     put_totals(page, &totals_of(given.compiled));
     put_source(page, source);
     put_machine(page, given.machine);
