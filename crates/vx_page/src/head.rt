@@ -145,12 +145,12 @@ fn put_units(page: &mut Page, machine: &Machine) {
 fn put_times(page: &mut Page, machine: &Machine) {
     put_number(page, b"write_ports", machine.write_ports());
     put_number(page, b"copy_paths", machine.copy_paths());
-    put_number(page, b"latency alu", machine.latency_alu());
-    put_number(page, b"latency compare", machine.latency_compare());
-    put_number(page, b"latency multiply", machine.latency_multiply());
-    put_number(page, b"latency load", machine.latency_load());
-    put_number(page, b"latency divide", machine.latency_divide());
-    put_number(page, b"latency copy", machine.latency_copy());
+    put_number(page, b"latency_alu", machine.latency_alu());
+    put_number(page, b"latency_compare", machine.latency_compare());
+    put_number(page, b"latency_multiply", machine.latency_multiply());
+    put_number(page, b"latency_load", machine.latency_load());
+    put_number(page, b"latency_divide", machine.latency_divide());
+    put_number(page, b"latency_copy", machine.latency_copy());
 }
 
 /// Puts the numbers of a machine.

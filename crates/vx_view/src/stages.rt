@@ -11,6 +11,7 @@ use vx_lower::lower;
 use vx_page::graphs::put_graphs;
 use vx_page::page::{Page, small};
 use vx_page::plain::put_plain_trace;
+use vx_profile::counts::Counts;
 use vx_region::TracePlan;
 use vx_rewrite::FlowOptions;
 
@@ -85,9 +86,19 @@ fn put_planned(alloc: Global, page: &mut Page, read: &Read) -> Result<(), NoMemo
     put
 }
 
+/// Graphs without counts: a profile counts the blocks of cleaned graphs, which have other numbers.
+fn put_uncounted(alloc: Global, page: &mut Page, read: &Read, flow: &Flow) {
+    let none = Counts::new(alloc);
+    put_graphs(page, read.functions, &none, flow);
+    drop(none);
+}
+
 fn put_flow(alloc: Global, page: &mut Page, read: &Read, stage: Stage) -> Result<(), NoMemory> {
     let flow = graphs_of(alloc, read, stage)?;
-    put_graphs(page, read.functions, read.counts, &flow);
+    match stage {
+        Stage::Lowered => put_uncounted(alloc, page, read, &flow),
+        _ => put_graphs(page, read.functions, read.counts, &flow),
+    }
     drop(flow);
     Ok(())
 }
