@@ -3,6 +3,7 @@ pub mod RunLaws
 pub mod Members
 pub mod OperandLaws
 pub mod Apart
+pub mod Passed
 pub mod IndexSteps
 pub mod Touches
 pub mod LiveRoutes
