@@ -16,7 +16,7 @@ use vx_flow::graph::Flow;
 use vx_hoist::{Hoisted, hoist};
 use vx_lower::lower;
 use vx_machine::Machine;
-use vx_narrow::narrow;
+use vx_narrow::{narrow, narrow_inside};
 use vx_profile::counts::Counts;
 use vx_raise::{Units, raise};
 use vx_rename::{Room, rename};
@@ -75,7 +75,8 @@ fn units_of(machine: &Machine) -> Units {
 /// place of those of this one.
 const ENOUGH_TO_RAISE: u32 = 16;
 
-/// The graphs with operations raised over the bounds of blocks, where the machine has registers for more than one turn of a loop.
+/// The graphs with operations raised over the bounds of blocks, where the machine has registers for more than one turn of a loop. An
+/// operation that came to a block from two others is then made once there.
 pub fn raised_for(
     alloc: Global,
     flow: Flow,
@@ -90,7 +91,8 @@ pub fn raised_for(
     if units.registers < ENOUGH_TO_RAISE {
         return Ok(flow);
     }
-    raise(alloc, flow, counts, &units)
+    let raised = raise(alloc, flow, counts, &units)?;
+    narrow_inside(alloc, raised)
 }
 
 /// How many registers there are for the values of a graph: those of one cluster, and half of those of each other, since a value has

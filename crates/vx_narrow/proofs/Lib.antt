@@ -1,3 +1,4 @@
+mod Masks
 mod Products
 pub mod Congruences
 pub mod Residues

@@ -8,7 +8,7 @@ use Rattle.std.proofs.lemmas.Bool.{eqb-true}
 use Rattle.std.proofs.Math.IntN.{*ℤ_comm}
 use Rattle.vx_base.specs.Arithmetic.{wrap, unsigned, value_of, sum_of, product_of, shl_of, mpylu_of, mpyhs_of}
 use Rattle.vx_base.specs.declared.arithmetic.Code.{Code}
-use Rattle.vx_base.specs.declared.arithmetic.Code.TheVariants.{Add, Shl, Mpylu, Mpyhs}
+use Rattle.vx_base.specs.declared.arithmetic.Code.TheVariants.{Add, And, Shl, Mpylu, Mpyhs}
 use Rattle.vx_base.proofs.WrapLaws.{wrap-unsigned_product}
 use Rattle.vx_base.proofs.ArithmeticLaws.{equal-true}
 use Rattle.vx_flow.specs.declared.graph.Operand.{Operand}
@@ -24,6 +24,7 @@ use Rattle.vx_claims.specs.Facts.{Within, content, Holds, AllHold, range_of, is_
 use Rattle.vx_narrow.specs.Shortening.{shift_if, shift_below, shift_of, shift_in, shifted_or, low_or, names_number, product_or, is_low, factors_if, factors_of, product_if, sum_as, short_sum, shortened}
 use Rattle.vx_narrow.proofs.Ranges.{and_one, and_two, le_holds, range_of_holds, small_product, shifted_whole}
 use Rattle.vx_narrow.proofs.Equal.{has_holds}
+use Rattle.vx_narrow.proofs.Masks.{masked_same}
 use Rattle.vx_narrow.proofs.Operations.{Good, held_is}
 
 -- ---- numbers
@@ -163,4 +164,5 @@ module _ (setting : Setting) (s : State) (fs : List Fact) (g : Good fs s) where
 
   pub shortened_same : (op : Op) → effect setting s (shortened fs op) s ≡ effect setting s op s
   shortened_same (Compute Add v a b) = short_same v a b
+  shortened_same (Compute And v a b) = masked_same setting s fs g.facts v a b
   shortened_same op = refl

@@ -1,3 +1,4 @@
+pub mod Masking
 pub mod Shortening
 pub mod Rewriting
 pub mod Staying

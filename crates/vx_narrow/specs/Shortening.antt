@@ -4,7 +4,7 @@ use Rattle.std.specs.Prelude.{ℕ, zero, suc, ◌==◌, Bool, true, false, ◌&&
 use Rattle.std.specs.Ordering.{int_eq}
 use Rattle.vx_base.specs.Arithmetic.{value_of}
 use Rattle.vx_base.specs.declared.arithmetic.Code.{Code}
-use Rattle.vx_base.specs.declared.arithmetic.Code.TheVariants.{Add, Shl, Mpylu, Mpyhs}
+use Rattle.vx_base.specs.declared.arithmetic.Code.TheVariants.{Add, And, Shl, Mpylu, Mpyhs}
 use Rattle.vx_flow.specs.declared.graph.Operand.{Operand}
 use Rattle.vx_flow.specs.declared.graph.Operand.TheVariants.{Held, Number, Stack}
 use Rattle.vx_flow.specs.declared.graph.Array.{Array}
@@ -18,6 +18,7 @@ use Rattle.vx_claims.specs.Forming.{form, after_known}
 use Rattle.vx_claims.specs.declared.access.Access.{Access}
 use Rattle.vx_claims.specs.declared.claim.Claim.{Claim}
 use Rattle.vx_claims.specs.Accesses.{accessed}
+use Rattle.vx_narrow.specs.Masking.{far_mask}
 
 abbrev pub shift_if : Bool → ℕ → Option ℕ → Option ℕ
 shift_if true k otherwise = Some k
@@ -85,9 +86,10 @@ short_sum fs v a b = Compute Add v a b
 
 abbrev pub shortened : List Fact → Op → Op
 shortened fs (Compute Add v a b) = short_sum fs v a b
+shortened fs (Compute And v a b) = far_mask fs v a b
 shortened fs op = op
 
--- the operation in its other form, and as a product in one operation where it is the last of three
+-- the operation in its other form, and as a product in one operation where it is the last of three, and with the mask far behind
 abbrev pub improved : List Fact → List Access → Op → Op
 improved fs xs op = shortened fs (form fs xs op)
 

@@ -9,6 +9,7 @@ pub mod fact_laws;
 pub mod given;
 pub mod laws;
 pub mod narrowed_flow;
+pub mod one_mask;
 pub mod one_product;
 
-pub use crate::narrowed_flow::narrow;
+pub use crate::narrowed_flow::{narrow, narrow_inside};

@@ -51,6 +51,52 @@ pub fn narrow(alloc: Global, flow: Flow) -> Result<Flow, NoMemory>
     }
 }
 
+/// The same by what is known inside of each block alone, without a search: what passes that move operations between blocks leave twice
+/// in one is made once.
+pub fn narrow_inside(alloc: Global, flow: Flow) -> Result<Flow, NoMemory>
+    requires { is_sound_flow flow ≡ true }
+    ensures sound { IfOk result (λ narrowed. is_sound_flow narrowed ≡ true) }
+    ensures flow { IfOk result (λ narrowed. (p : Program) → FlowOf p flow → FlowOf p narrowed) }
+{
+    match narrowed_inside(alloc, &flow) {
+        Ok(Some(narrowed)) => {
+            drop(flow);
+            Ok(narrowed)
+        }
+        Ok(None) => Ok(flow),
+        Err(error) => {
+            drop(flow);
+            Err(error)
+        }
+    }
+}
+
+/// The flow with its graphs narrowed inside of blocks, where it is sound.
+fn narrowed_inside(alloc: Global, flow: &Flow) -> Result<Option<Flow>, NoMemory>
+    ensures sound { IfOk result (λ found. IfSome found (λ narrowed. is_sound_flow narrowed ≡ true)) }
+    ensures flow { IfOk result (λ found. IfSome found (λ narrowed. FlowStays flow.now narrowed)) }
+{
+    if !are_numbers(flow.globals.as_slice()) {
+        return Ok(None);
+    }
+    let kept = without_claims(alloc, flow.functions.len())?;
+    let narrowed = narrowed_with_given(alloc, flow, &[], kept.as_slice());
+    drop(kept);
+    narrowed
+}
+
+/// For so many functions, that nothing is claimed.
+fn without_claims(alloc: Global, functions: usize) -> Result<Listed<Kept>, NoMemory> {
+    let mut kept = Listed::new(alloc);
+    for _function in 0..functions {
+        kept.push(Kept {
+            claims: Vec::new(alloc),
+            is_kept: true,
+        })?;
+    }
+    Ok(kept)
+}
+
 /// The flow with its graphs narrowed, where it is sound.
 fn narrowed_flow(alloc: Global, flow: &Flow) -> Result<Option<Flow>, NoMemory>
     ensures sound { IfOk result (λ found. IfSome found (λ narrowed. is_sound_flow narrowed ≡ true)) }

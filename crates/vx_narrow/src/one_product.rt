@@ -4,6 +4,7 @@
 ghost use Rattle.std.specs.Prelude.{◌≡◌};
 ghost use Rattle.vx_narrow.specs.Shortening.{factors_of, is_low, low_or, names_number, product_if, product_or, shift_below, shift_in, shift_of, shifted_or, short_sum, shortened, sum_as};
 
+use crate::one_mask::far_mask;
 use vx_arithmetic::value;
 use vx_base::arithmetic::Code;
 use vx_claims::fact::Fact;
@@ -187,7 +188,7 @@ fn short_sum(facts: &[Fact], to: Value, left: Operand, right: Operand) -> Op
     }
 }
 
-/// The operation, or the whole product in one operation where it is the sum of two half products.
+/// The operation, or the whole product in one operation where it is the sum of two half products, or the mask of what stands behind.
 pub fn shortened(facts: &[Fact], op: Op) -> Op
     ensures { result ≡ shortened facts.now op }
 {
@@ -198,6 +199,12 @@ pub fn shortened(facts: &[Fact], op: Op) -> Op
             left,
             right,
         } => short_sum(facts, to, left, right),
+        Op::Compute {
+            code: Code::And,
+            to,
+            left,
+            right,
+        } => far_mask(facts, to, left, right),
         other => other,
     }
 }
