@@ -13,7 +13,7 @@ use vx_ast::typed::Typed;
 use vx_base::outcome::NoMemory;
 use vx_clean::clean;
 use vx_flow::graph::Flow;
-use vx_hoist::{Hoisted, hoist};
+use vx_hoist::{Hoisted, advance, hoist};
 use vx_lower::lower;
 use vx_machine::Machine;
 use vx_narrow::{narrow, narrow_inside};
@@ -75,8 +75,8 @@ fn units_of(machine: &Machine) -> Units {
 /// place of those of this one.
 const ENOUGH_TO_RAISE: u32 = 16;
 
-/// The graphs with operations raised over the bounds of blocks, where the machine has registers for more than one turn of a loop. An
-/// operation that came to a block from two others is then made once there.
+/// The graphs with operations raised over the bounds of blocks, where the machine has registers for more than one turn of a loop: counters
+/// are computed early first, and what came to a block from two others is made once there.
 pub fn raised_for(
     alloc: Global,
     flow: Flow,
@@ -91,8 +91,23 @@ pub fn raised_for(
     if units.registers < ENOUGH_TO_RAISE {
         return Ok(flow);
     }
-    let raised = raise(alloc, flow, counts, &units)?;
+    let advanced = advance(alloc, flow)?;
+    let narrowed = narrowed_where(alloc, advanced)?;
+    let raised = raise(alloc, narrowed, counts, &units)?;
     narrow_inside(alloc, raised)
+}
+
+/// The graphs narrowed where operations were put, so that they are read. Blocks keep their numbers.
+fn narrowed_where(alloc: Global, advanced: Hoisted) -> Result<Flow, NoMemory>
+    requires { is_sound_flow advanced.flow ≡ true }
+    ensures sound { IfOk result (λ flow. is_sound_flow flow ≡ true) }
+    ensures flow { IfOk result (λ flow. (p : Program) → FlowOf p advanced.flow → FlowOf p flow) }
+{
+    if advanced.has_more {
+        narrow(alloc, advanced.flow)
+    } else {
+        Ok(advanced.flow)
+    }
 }
 
 /// How many registers there are for the values of a graph: those of one cluster, and half of those of each other, since a value has

@@ -12,7 +12,7 @@ ghost use Rattle.vx_shape.specs.Flows.{Each, FlowStays};
 ghost use Rattle.vx_fold.specs.Thinning.{are_read, unread_of};
 ghost use Rattle.vx_hoist.specs.Growing.{block_reads, is_silent, is_total, BlockGrows, GraphGrows};
 
-use crate::search::{Addition, Found, find_all, has_additions, ops_at};
+use crate::search::{Addition, Aim, Found, find_all, has_additions, ops_at};
 use std::alloc::Global;
 use vx_base::listed::{Listed, copied};
 use vx_base::outcome::NoMemory;
@@ -43,7 +43,25 @@ pub fn hoist(alloc: Global, flow: Flow) -> Result<Hoisted, NoMemory>
     ensures sound { IfOk result (λ hoisted. is_sound_flow hoisted.flow ≡ true) }
     ensures flow { IfOk result (λ hoisted. (p : Program) → FlowOf p flow → FlowOf p hoisted.flow) }
 {
-    match grown_flow(alloc, &flow) {
+    grown_or_same(alloc, flow, Aim::Before)
+}
+
+/// The graphs of a program with the next values of counters of loops computed under other names before the first test of a turn whose
+/// both sides stay in the loop. Nothing reads them there either; the pass by what is known of values makes the counters moves of them.
+pub fn advance(alloc: Global, flow: Flow) -> Result<Hoisted, NoMemory>
+    requires { is_sound_flow flow ≡ true }
+    ensures sound { IfOk result (λ advanced. is_sound_flow advanced.flow ≡ true) }
+    ensures flow { IfOk result (λ advanced. (p : Program) → FlowOf p flow → FlowOf p advanced.flow) }
+{
+    grown_or_same(alloc, flow, Aim::Early)
+}
+
+fn grown_or_same(alloc: Global, flow: Flow, aim: Aim) -> Result<Hoisted, NoMemory>
+    requires { is_sound_flow flow ≡ true }
+    ensures sound { IfOk result (λ grown. is_sound_flow grown.flow ≡ true) }
+    ensures flow { IfOk result (λ grown. (p : Program) → FlowOf p flow → FlowOf p grown.flow) }
+{
+    match grown_flow(alloc, &flow, aim) {
         Ok(Some(grown)) => {
             drop(flow);
             Ok(Hoisted {
@@ -63,11 +81,11 @@ pub fn hoist(alloc: Global, flow: Flow) -> Result<Hoisted, NoMemory>
 }
 
 /// The flow with more operations, where there are such and it is sound.
-fn grown_flow(alloc: Global, flow: &Flow) -> Result<Option<Flow>, NoMemory>
+fn grown_flow(alloc: Global, flow: &Flow, aim: Aim) -> Result<Option<Flow>, NoMemory>
     ensures sound { IfOk result (λ found. IfSome found (λ grown. is_sound_flow grown ≡ true)) }
     ensures flow { IfOk result (λ found. IfSome found (λ grown. FlowStays flow.now grown)) }
 {
-    let found = find_all(alloc, flow.functions.as_slice())?;
+    let found = find_all(alloc, flow.functions.as_slice(), aim)?;
     if has_additions(found.as_slice()) {
         grown_where_sound(alloc, flow, found.as_slice())
     } else {

@@ -1,6 +1,7 @@
 // What may be computed before loops: for each loop the operations that each of its turns does and whose operands it does not
 // write. They are looked for and owe nothing, since what does not pass the test is not put.
 
+use crate::early::advance_all;
 use std::alloc::Global;
 use vx_base::arithmetic::Code;
 use vx_base::listed::Listed;
@@ -36,11 +37,20 @@ struct Copied {
     from: Value,
 }
 
+/// What is looked for.
+#[derive(Clone, Copy)]
+pub enum Aim {
+    /// What each turn of a loop computes anew, before the loop.
+    Before,
+    /// What the next turn of a loop begins with, before a test of this one.
+    Early,
+}
+
 /// What may be put in each of the graphs of a program.
-pub(crate) fn find_all(alloc: Global, graphs: &[Graph]) -> Result<Vec<Found>, NoMemory> {
+pub(crate) fn find_all(alloc: Global, graphs: &[Graph], aim: Aim) -> Result<Vec<Found>, NoMemory> {
     let mut all = Vec::new(alloc);
     for graph in graphs {
-        all.push(find_additions(alloc, graph)?)?;
+        all.push(find_additions(alloc, graph, aim)?)?;
     }
     Ok(all)
 }
@@ -56,12 +66,15 @@ pub(crate) fn has_additions(all: &[Found]) -> bool {
 }
 
 /// What may be put, in the order in which it stands.
-fn find_additions(alloc: Global, graph: &Graph) -> Result<Found, NoMemory> {
+fn find_additions(alloc: Global, graph: &Graph, aim: Aim) -> Result<Found, NoMemory> {
     let named = named_in(alloc, graph)?;
     let unnamed = unnamed_in(alloc, named.as_slice(), graph.banks.as_slice())?;
     let mut additions = Vec::new(alloc);
     if unnamed.len() > 0 {
-        hoist_all(alloc, graph, unnamed.as_slice(), &mut additions)?;
+        match aim {
+            Aim::Before => hoist_all(alloc, graph, unnamed.as_slice(), &mut additions)?,
+            Aim::Early => advance_all(alloc, graph, unnamed.as_slice(), &mut additions)?,
+        }
     }
     Ok(Found { named, additions })
 }
@@ -217,7 +230,7 @@ fn hoist_from(
     }
 }
 
-fn has_room(blocks: &[Block], before: usize) -> bool {
+pub(crate) fn has_room(blocks: &[Block], before: usize) -> bool {
     match blocks.get(before) {
         Some(block) => block.ops.len() <= MOST_BEFORE,
         None => false,
